@@ -1,0 +1,406 @@
+-- Tests that compute, and what they show.
+use Rattle.std.proofs.Common.{◌≡◌, ℕ, ◌+◌, ◌^◌, ◌<◌, ◌≤◌, zero, suc, ℤ, Bool, true, false, ◌&&◌, cond, not, eqb, ltb, leb, List, [], ◌∷◌, ◌++◌, length, Option, Some, None, refl, ap, sym, ◌∙◌, inl, inr, ◌⊎◌, arith, subst, take, drop}
+use Rattle.std.proofs.lemmas.Bool.{eqb-true, eq-eqb, leb-true, ltb-true}
+use Rattle.std.proofs.lemmas.Bool.Decides.{Decides-int_eq}
+use Rattle.std.proofs.lemmas.Option.{same_Some}
+use Rattle.std.specs.Ordering.{int_eq}
+use Rattle.std.specs.List.{AllByRecursion}
+use Rattle.nd_base.specs.declared.Order.{Order}
+use Rattle.nd_types.specs.declared.Class.{Class}
+use Rattle.nd_types.specs.declared.Class.TheVariants.{Ref, Unique, Full}
+use Rattle.nd_graph.specs.declared.Graph.{Graph}
+use Rattle.nd_base.specs.declared.TheConstants.{STREAM_LIMIT}
+use Rattle.nd_graph.specs.Setting.{Setting, Among, root_list}
+use Rattle.nd_grammar.specs.Stream.{Stream, representation, AllCut, past}
+use Rattle.nd_graph.specs.Deferral.{Due, due_root, due_referent, Step, root_stands, referent_stands, stands_already, Deferral, none_due, at_root, at_null, at_standing, at_referent, Pending, due_of, standing_root, standing_cell, IsStanding, IsStandingFull, AreFree, Standing_cells, root_cell, due_roots, before_pipes}
+use Rattle.nd_grammar.specs.Number.{unsigned, value_of_octets}
+use Rattle.nd_grammar.specs.Entry.{Kind, Entry, Align, Max, Offset, Actual, Chunk, Number, Num, Tag, Text, Context, Test, Unread, size_at, EntryAt, end_to_end, end_of, full_cells}
+use Rattle.nd_grammar.specs.Reading.{piece, Spells, IsNumber, IsRendered, id_octets, IsNumbering, Represents, Bad, Accepts, refusal}
+use Rattle.nd_grammar.specs.declared.Reason.{Reason}
+use Rattle.nd_graph.specs.Canon.{canonical_number, named_cells}
+use Rattle.nd_grammar.specs.Chosen.{Chosen, octets_from, pipe_cuts}
+use Rattle.nd_graph.specs.Conforms.{IsPartial, MayMeet, AllEarlier, is_partial_node, has_machine_values, all_nodes, all_pointers}
+use Rattle.std.specs.List.{list_all}
+
+abbrev is_full : Class → Bool
+is_full Full = true
+is_full _ = false
+
+full_is : (k : Class) → is_full k ≡ true → k ≡ Full
+full_is Full e = refl
+full_is Ref e = cc
+full_is Unique e = cc
+
+abbrev pub is_laid : Standing_cells → ℕ → Bool
+is_laid [] c = false
+is_laid (d ∷ ds) c = cond (eqb c d.1) true (is_laid ds c)
+
+abbrev pub is_laid_full : Standing_cells → ℕ → Bool
+is_laid_full [] c = false
+is_laid_full (d ∷ ds) c = cond (is_full d.0 && eqb c d.1) true (is_laid_full ds c)
+
+abbrev are_free : Standing_cells → Standing_cells → Bool
+are_free [] done = true
+are_free (d ∷ ds) done = not (is_laid done d.1) && are_free ds done
+
+abbrev with : Step → Option (List Step) → Option (List Step)
+with t None = None
+with t (Some ts) = Some (t ∷ ts)
+
+abbrev only_if : Bool → Option (List Step) → Option (List Step)
+only_if true o = o
+only_if false o = None
+
+-- the turns of what waits, in at most so many steps
+abbrev pub walk : ℕ → Setting → Graph → Standing_cells → List Due → Option (List Step)
+walk fuel w g done [] = Some []
+walk zero w g done (t ∷ ts) = None
+walk (suc fuel) w g done (due_root i ∷ ts) =
+    only_if (are_free (root_cell (standing_root w g i).home) done)
+    (with (root_stands i) (walk fuel w g (root_cell (standing_root w g i).home ++ done) (due_of w.table (standing_root w g i) ++ ts)))
+walk (suc fuel) w g done (due_referent p ∷ ts) =
+    elim p.cell [
+      | None ↦ walk fuel w g done ts
+      | Some c ↦ elim (is_full p.class && is_laid_full done c) [
+        | true ↦ with (stands_already p c) (walk fuel w g done ts)
+        | false ↦ only_if (not (is_laid done c)) (with (referent_stands p c) (walk fuel w g ((p.class, c) ∷ done) (due_of w.table (standing_cell g p c) ++ ts)))
+      ]
+    ]
+
+and_left : (a b : Bool) → (a && b) ≡ true → a ≡ true
+and_left true b e = refl
+and_left false b e = cc
+
+and_right : (a b : Bool) → (a && b) ≡ true → b ≡ true
+and_right true b e = e
+and_right false b e = cc
+
+not_is : (b : Bool) → not b ≡ true → b ≡ false
+not_is true e = cc
+not_is false e = refl
+
+laid_full_yes : (ds : Standing_cells) (c : ℕ) → is_laid_full ds c ≡ true → IsStandingFull ds c
+laid_full_yes [] c e = cc
+laid_full_yes (d ∷ ds) c e = go (is_full d.0 && eqb c d.1) refl e (laid_full_yes ds c)
+  where
+    go : (b : Bool) → (is_full d.0 && eqb c d.1) ≡ b → cond b true (is_laid_full ds c) ≡ true → (is_laid_full ds c ≡ true → IsStandingFull ds c) → IsStandingFull (d ∷ ds) c
+    go true q e' ih = inl (full_is d.0 (and_left (is_full d.0) (eqb c d.1) q), eqb-true c d.1 (and_right (is_full d.0) (eqb c d.1) q))
+    go false q e' ih = inr (ih e')
+
+laid_no : (ds : Standing_cells) (c : ℕ) → is_laid ds c ≡ false → ¬ IsStanding ds c
+laid_no [] c e h = h
+laid_no (d ∷ ds) c e h = go (eqb c d.1) refl e h (laid_no ds c)
+  where
+    go : (b : Bool) → eqb c d.1 ≡ b → cond b true (is_laid ds c) ≡ false → IsStanding (d ∷ ds) c → (is_laid ds c ≡ false → ¬ IsStanding ds c) → ⊥
+    go true q e' h' ih = cc
+    go false q e' (inl same) ih = let t : eqb c d.1 ≡ true = eq-eqb c d.1 same in cc (t, q)
+    go false q e' (inr rest) ih = ih e' rest
+
+free_yes : (ds done : Standing_cells) → are_free ds done ≡ true → AreFree ds done
+free_yes [] done e = tt
+free_yes (d ∷ ds) done e =
+    (laid_no done d.1 (not_is _ (and_left (not (is_laid done d.1)) (are_free ds done) e)), free_yes ds done (and_right (not (is_laid done d.1)) (are_free ds done) e))
+
+with_is : (t : Step) (o : Option (List Step)) (ts : List Step) → with t o ≡ Some ts → (us : List Step) × (o ≡ Some us) × (t ∷ us ≡ ts)
+with_is t None ts e = cc
+with_is t (Some us) ts e = (us, refl, same_Some _ _ e)
+
+only_is : (b : Bool) (o : Option (List Step)) (ts : List Step) → only_if b o ≡ Some ts → (b ≡ true) × (o ≡ Some ts)
+only_is true o ts e = (refl, e)
+only_is false o ts e = cc
+
+module _ (w : Setting) (g : Graph) (done : Standing_cells) (p : Pending) (due : List Due) (ts : List Step) (fuel : ℕ)
+    (ih : (done' : Standing_cells) (tasks' : List Due) (ts' : List Step) → walk fuel w g done' tasks' ≡ Some ts' → Deferral w g done' tasks' ts') where
+  abbrev step : ℕ → Bool → Option (List Step)
+  step c true = with (stands_already p c) (walk fuel w g done due)
+  step c false = only_if (not (is_laid done c)) (with (referent_stands p c) (walk fuel w g ((p.class, c) ∷ done) (due_of w.table (standing_cell g p c) ++ due)))
+
+  by_done : (c : ℕ) → p.cell ≡ Some c → (b : Bool) → (is_full p.class && is_laid_full done c) ≡ b → step c b ≡ Some ts → Deferral w g done (due_referent p ∷ due) ts
+  by_done c f true q e =
+      let (us, h, same) = with_is _ _ _ e in
+      subst (λ us'. Deferral w g done (due_referent p ∷ due) us') same
+      (at_standing c f (full_is p.class (and_left (is_full p.class) (is_laid_full done c) q)) (laid_full_yes done c (and_right (is_full p.class) (is_laid_full done c) q)) (ih _ _ us h))
+  by_done c f false q e =
+      let (free, e') = only_is _ _ _ e in
+      let (us, h, same) = with_is _ _ _ e' in
+      subst (λ us'. Deferral w g done (due_referent p ∷ due) us') same (at_referent c f (laid_no done c (not_is _ free)) (ih _ _ us h))
+
+  abbrev step_at : Option ℕ → Option (List Step)
+  step_at None = walk fuel w g done due
+  step_at (Some c) = step c (is_full p.class && is_laid_full done c)
+
+  pub by_cell : (o : Option ℕ) → p.cell ≡ o → step_at o ≡ Some ts → Deferral w g done (due_referent p ∷ due) ts
+  by_cell None f e = at_null f (ih _ _ ts e)
+  by_cell (Some c) f e = by_done c f (is_full p.class && is_laid_full done c) refl e
+
+-- what the walk finds are the turns
+pub walk_gives : (fuel : ℕ) (w : Setting) (g : Graph) (done : Standing_cells) (due : List Due) (ts : List Step)
+    → walk fuel w g done due ≡ Some ts → Deferral w g done due ts
+walk_gives zero w g done [] ts e = subst (λ us. Deferral w g done [] us) (same_Some _ _ e) none_due
+walk_gives (suc fuel) w g done [] ts e = subst (λ us. Deferral w g done [] us) (same_Some _ _ e) none_due
+walk_gives zero w g done (t ∷ due) ts e = cc
+walk_gives (suc fuel) w g done (due_root i ∷ due) ts e =
+    let (free, e') = only_is _ _ _ e in
+    let (us, f, same) = with_is _ _ _ e' in
+    subst (λ us'. Deferral w g done (due_root i ∷ due) us') same
+    (at_root (free_yes (root_cell (standing_root w g i).home) done free) (walk_gives fuel w g _ _ us f))
+walk_gives (suc fuel) w g done (due_referent p ∷ due) ts e =
+    by_cell w g done p due ts fuel (λ done' tasks' ts' e'. walk_gives fuel w g done' tasks' ts' e') p.cell refl e
+
+abbrev pub same_octets : List ℕ → List ℕ → Bool
+same_octets [] [] = true
+same_octets (x ∷ xs) (y ∷ ys) = eqb x y && same_octets xs ys
+same_octets _ _ = false
+
+same_octets_are : (xs ys : List ℕ) → same_octets xs ys ≡ true → xs ≡ ys
+same_octets_are [] [] e = refl
+same_octets_are [] (y ∷ ys) e = cc
+same_octets_are (x ∷ xs) [] e = cc
+same_octets_are (x ∷ xs) (y ∷ ys) e =
+    let h = eqb-true x y (and_left (eqb x y) (same_octets xs ys) e) in
+    let t = same_octets_are xs ys (and_right (eqb x y) (same_octets xs ys) e) in
+    cc
+
+abbrev is_number : (ℕ → ℕ) → Class → Option ℕ → ℕ → Bool
+is_number numbering class None v = eqb v 0
+is_number numbering Full (Some c) v = eqb v (numbering c)
+is_number numbering Unique (Some c) v = ltb 0 v
+is_number numbering Ref (Some c) v = true
+
+abbrev spells : Order → (ℕ → ℕ) → Kind → List ℕ → Bool
+spells order numbering (Align n) os = true
+spells order numbering (Max v) os = eqb (unsigned order os) v
+spells order numbering (Offset t v) os = eqb (unsigned order os) v
+spells order numbering (Actual t offset limit v) os = eqb (unsigned order os) v
+spells order numbering (Chunk v) os = eqb (unsigned order os) v
+spells order numbering (Number class to cell) os = is_number numbering class cell (unsigned order os)
+spells order numbering (Num p values z) os = int_eq (value_of_octets order p os) z
+spells order numbering (Tag p values arms default z) os = int_eq (value_of_octets order p os) z
+spells order numbering (Text octets) os = same_octets os (octets ++ 0 ∷ [])
+spells order numbering (Context attributes id) os =
+    eqb (unsigned order (take 4 os)) attributes && same_octets (drop 4 os) (id_octets order id)
+spells order numbering (Test attr wanted found) os = true
+spells order numbering Unread os = false
+
+is_number_is : (numbering : ℕ → ℕ) (class : Class) (cell : Option ℕ) (v : ℕ) → is_number numbering class cell v ≡ true → IsNumber numbering class cell v
+is_number_is numbering Full None v e = eqb-true _ _ e
+is_number_is numbering Unique None v e = eqb-true _ _ e
+is_number_is numbering Ref None v e = eqb-true _ _ e
+is_number_is numbering Full (Some c) v e = eqb-true _ _ e
+is_number_is numbering Unique (Some c) v e = ltb-true _ _ e
+is_number_is numbering Ref (Some c) v e = tt
+
+int_eq_is : (x y : ℤ) → int_eq x y ≡ true → x ≡ y
+int_eq_is x y e = (Decides-int_eq x y).0 e
+
+spells_is : (order : Order) (numbering : ℕ → ℕ) (x : Kind) (os : List ℕ) → spells order numbering x os ≡ true → Spells order numbering x os
+spells_is order numbering (Align n) os e = tt
+spells_is order numbering (Max v) os e = eqb-true _ _ e
+spells_is order numbering (Offset t v) os e = eqb-true _ _ e
+spells_is order numbering (Actual t offset limit v) os e = eqb-true _ _ e
+spells_is order numbering (Chunk v) os e = eqb-true _ _ e
+spells_is order numbering (Number class to cell) os e = is_number_is numbering class cell _ e
+spells_is order numbering (Num p values z) os e = int_eq_is _ _ e
+spells_is order numbering (Tag p values arms default z) os e = int_eq_is _ _ e
+spells_is order numbering (Text octets) os e = same_octets_are _ _ e
+spells_is order numbering (Context attributes id) os e = (
+  eqb-true _ _ (and_left (eqb (unsigned order (take 4 os)) attributes) (same_octets (drop 4 os) (id_octets order id)) e),
+  same_octets_are _ _ (and_right (eqb (unsigned order (take 4 os)) attributes) (same_octets (drop 4 os) (id_octets order id)) e),
+)
+spells_is order numbering (Test attr wanted found) os e = tt
+spells_is order numbering Unread os e = cc
+
+abbrev pub renders : Order → (ℕ → ℕ) → List ℕ → List EntryAt → Bool
+renders order numbering octets [] = true
+renders order numbering octets (x ∷ xs) =
+    (leb (x.at + size_at x.at x.entry.kind) (length octets) && spells order numbering x.entry.kind (piece octets x.at x.entry.kind))
+    && renders order numbering octets xs
+
+pub renders_gives : (order : Order) (numbering : ℕ → ℕ) (octets : List ℕ) (xs : List EntryAt) → renders order numbering octets xs ≡ true
+    → AllByRecursion (IsRendered order numbering octets) xs
+renders_gives order numbering octets [] e = tt
+renders_gives order numbering octets (x ∷ xs) e =
+    let a = leb (x.at + size_at x.at x.entry.kind) (length octets) in
+    let b = spells order numbering x.entry.kind (piece octets x.at x.entry.kind) in
+    let r = renders order numbering octets xs in
+    let h : (a && b) ≡ true = and_left (a && b) r e in (
+      (leb-true _ _ (and_left a b h), spells_is order numbering x.entry.kind _ (and_right a b h)),
+      renders_gives order numbering octets xs (and_right (a && b) r e),
+    )
+
+abbrev pub are_numbers : List ℕ → Bool
+are_numbers [] = true
+are_numbers (c ∷ cs) = (ltb 0 c && ltb c (2 ^ 32)) && are_numbers cs
+
+numbers_are : (cs : List ℕ) → are_numbers cs ≡ true → (c : ℕ) → Among cs c → (0 < c) × (c < 2 ^ 32)
+numbers_are [] e c h = absurd h
+numbers_are (d ∷ cs) e c (inl same) =
+    let h : (ltb 0 d && ltb d (2 ^ 32)) ≡ true = and_left (ltb 0 d && ltb d (2 ^ 32)) (are_numbers cs) e in
+    let low : 0 < d = ltb-true 0 d (and_left (ltb 0 d) (ltb d (2 ^ 32)) h) in
+    let high : d < 2 ^ 32 = ltb-true d (2 ^ 32) (and_right (ltb 0 d) (ltb d (2 ^ 32)) h) in
+    (rw same low, rw same high)
+numbers_are (d ∷ cs) e c (inr h) = numbers_are cs (and_right (ltb 0 d && ltb d (2 ^ 32)) (are_numbers cs) e) c h
+
+pub own_numbers : (cs : List ℕ) → are_numbers cs ≡ true → IsNumbering (λ c. c) cs
+own_numbers cs e = record { in_range = numbers_are cs e; one_to_one = λ c d h k same. same }
+
+-- octets represent a graph, by tests; each cell's number is its own
+pub represents : (w : Setting) (order : Order) (octets : List ℕ) (g : Graph) (steps : List Step) (cuts : List (List ℕ)) (fuel : ℕ)
+    → walk fuel w g [] (due_roots 0 (before_pipes (root_list w))) ≡ Some steps
+    → AllCut (past (before_pipes (root_list w)) g.roots) cuts
+    → are_numbers (full_cells (representation w g steps cuts)) ≡ true
+    → renders order (λ c. c) octets (end_to_end 0 (representation w g steps cuts)) ≡ true
+    → end_of 0 (representation w g steps cuts) ≡ length octets
+    → leb (length octets) STREAM_LIMIT ≡ true
+    → Represents w order octets g
+represents w order octets g steps cuts fuel walked cut numbered rendered whole within = record {
+  entries = representation w g steps cuts;
+  stream = record { steps = steps; cuts = cuts; deferral = walk_gives fuel w g [] _ steps walked; all_cut = cut; is_representation = refl };
+  numbering = λ c. c;
+  is_numbering = own_numbers _ numbered;
+  rendered = renders_gives order (λ c. c) octets (end_to_end 0 (representation w g steps cuts)) rendered;
+  whole = whole;
+  within = leb-true _ _ within;
+}
+
+abbrev found : Option (List Step) → List Step
+found None = []
+found (Some ts) = ts
+
+-- the turns of the roots, found in so many steps
+abbrev pub turns_of : ℕ → Setting → Graph → List Step
+turns_of fuel w g = found (walk fuel w g [] (due_roots 0 (before_pipes (root_list w))))
+
+abbrev is_some : Option (List Step) → Bool
+is_some None = false
+is_some (Some ts) = true
+
+some_found : (o : Option (List Step)) → is_some o ≡ true → o ≡ Some (found o)
+some_found None e = cc
+some_found (Some ts) e = refl
+
+-- the same with the turns that the walk finds
+pub represents_so : (w : Setting) (order : Order) (octets : List ℕ) (g : Graph) (cuts : List (List ℕ)) (fuel : ℕ)
+    → is_some (walk fuel w g [] (due_roots 0 (before_pipes (root_list w)))) ≡ true
+    → AllCut (past (before_pipes (root_list w)) g.roots) cuts
+    → are_numbers (full_cells (representation w g (turns_of fuel w g) cuts)) ≡ true
+    → renders order (λ c. c) octets (end_to_end 0 (representation w g (turns_of fuel w g) cuts)) ≡ true
+    → end_of 0 (representation w g (turns_of fuel w g) cuts) ≡ length octets
+    → leb (length octets) STREAM_LIMIT ≡ true
+    → Represents w order octets g
+represents_so w order octets g cuts fuel walked cut numbered rendered whole within =
+    represents w order octets g (turns_of fuel w g) cuts fuel (some_found _ walked) cut numbered rendered whole within
+
+abbrev is_no_refusal : Option (ℕ × Reason) → Bool
+is_no_refusal None = true
+is_no_refusal (Some r) = false
+
+abbrev pub accepts : Order → List ℕ → List EntryAt → List EntryAt → Bool
+accepts order octets earlier [] = true
+accepts order octets earlier (x ∷ xs) = is_no_refusal (refusal order octets earlier x) && accepts order octets (earlier ++ x ∷ []) xs
+
+no_refusal : (o : Option (ℕ × Reason)) → is_no_refusal o ≡ true → o ≡ None
+no_refusal None e = refl
+no_refusal (Some r) e = cc
+
+pub accepts_gives : (order : Order) (octets : List ℕ) (earlier xs : List EntryAt) → accepts order octets earlier xs ≡ true → Accepts order octets earlier xs
+accepts_gives order octets earlier [] e = tt
+accepts_gives order octets earlier (x ∷ xs) e = (
+  no_refusal _ (and_left (is_no_refusal (refusal order octets earlier x)) (accepts order octets (earlier ++ x ∷ []) xs) e),
+  accepts_gives order octets (earlier ++ x ∷ []) xs
+      (and_right (is_no_refusal (refusal order octets earlier x)) (accepts order octets (earlier ++ x ∷ []) xs) e),
+)
+
+abbrev pub upto : {X : Type 0} → ℕ → List X → List X
+upto zero xs = []
+upto (suc n) [] = []
+upto (suc n) (x ∷ xs) = x ∷ upto n xs
+
+abbrev pub from : {X : Type 0} → ℕ → List X → List X
+from zero xs = xs
+from (suc n) [] = []
+from (suc n) (x ∷ xs) = from n xs
+
+cut_at : (xs ys : List EntryAt) (x : EntryAt) (n : ℕ) → from n xs ≡ x ∷ ys → xs ≡ upto n xs ++ x ∷ ys
+cut_at xs ys x zero e = e
+cut_at [] ys x (suc n) e = cc
+cut_at (z ∷ xs) ys x (suc n) e = ap (λ zs. z ∷ zs) (cut_at xs ys x n e)
+
+-- Octets are refused at the n-th mark of a sketch, by tests.
+pub bad_so : (w : Setting) (order : Order) (octets : List ℕ) (place : ℕ) (why : Reason) (g : Graph) (cuts : List (List ℕ)) (fuel n : ℕ)
+    (here : EntryAt) (later : List EntryAt)
+    → IsPartial w g
+    → is_some (walk fuel w g [] (due_roots 0 (before_pipes (root_list w)))) ≡ true
+    → AllCut (past (before_pipes (root_list w)) g.roots) cuts
+    → are_numbers (full_cells (representation w g (turns_of fuel w g) cuts)) ≡ true
+    → from n (end_to_end 0 (representation w g (turns_of fuel w g) cuts)) ≡ here ∷ later
+    → renders order (λ c. c) octets (upto n (end_to_end 0 (representation w g (turns_of fuel w g) cuts))) ≡ true
+    → accepts order octets [] (upto n (end_to_end 0 (representation w g (turns_of fuel w g) cuts))) ≡ true
+    → refusal order octets (upto n (end_to_end 0 (representation w g (turns_of fuel w g) cuts))) here ≡ Some (place, why)
+    → Bad w order octets place why
+bad_so w order octets place why g cuts fuel n here later sketched walked cut numbered split rendered accepted refused = record {
+  partial = g;
+  is_partial = sketched;
+  entries = representation w g (turns_of fuel w g) cuts;
+  stream = record {
+    steps = turns_of fuel w g;
+    cuts = cuts;
+    deferral = walk_gives fuel w g [] _ _ (some_found _ walked);
+    all_cut = cut;
+    is_representation = refl;
+  };
+  earlier = upto n (end_to_end 0 (representation w g (turns_of fuel w g) cuts));
+  here = here;
+  later = later;
+  split = cut_at _ later here n split;
+  numbering = λ c. c;
+  is_numbering = own_numbers _ numbered;
+  rendered = renders_gives order (λ c. c) octets _ rendered;
+  accepted = accepts_gives order octets [] _ accepted;
+  refused = refused;
+}
+
+abbrev same_cell : Option ℕ → Option ℕ → Bool
+same_cell (Some c) (Some d) = eqb c d
+same_cell _ _ = false
+
+abbrev may_meet : Pending → Pending → Bool
+may_meet p q = cond (same_cell p.cell q.cell) (is_full p.class && is_full q.class) true
+
+abbrev all_meet : Pending → List Pending → Bool
+all_meet p [] = true
+all_meet p (q ∷ qs) = may_meet p q && all_meet p qs
+
+abbrev pub are_unshared : List Pending → Bool
+are_unshared [] = true
+are_unshared (p ∷ ps) = all_meet p ps && are_unshared ps
+
+meet_is : (p q : Pending) → may_meet p q ≡ true → MayMeet p q
+meet_is p q e c a b =
+    let s : same_cell p.cell q.cell ≡ true = rw (a, b) (eq-eqb c c refl) in
+    let f : (is_full p.class && is_full q.class) ≡ true = (rw s at e) in
+    (full_is _ (and_left (is_full p.class) (is_full q.class) f), full_is _ (and_right (is_full p.class) (is_full q.class) f))
+
+meets_are : (p : Pending) (qs : List Pending) → all_meet p qs ≡ true → AllByRecursion (MayMeet p) qs
+meets_are p [] e = tt
+meets_are p (q ∷ qs) e =
+    (meet_is p q (and_left (may_meet p q) (all_meet p qs) e), meets_are p qs (and_right (may_meet p q) (all_meet p qs) e))
+
+pub unshared_are : (ps : List Pending) → are_unshared ps ≡ true → AllEarlier MayMeet ps
+unshared_are [] e = tt
+unshared_are (p ∷ ps) e =
+    (meets_are p ps (and_left (all_meet p ps) (are_unshared ps) e), unshared_are ps (and_right (all_meet p ps) (are_unshared ps) e))
+
+-- a graph is a sketch, by tests
+pub sketch_so : (w : Setting) (g : Graph) → length g.roots ≡ length (root_list w)
+    → list_all (λ x. has_machine_values x.label) (all_nodes w g) ≡ true
+    → list_all (is_partial_node w.table g) (all_nodes w g) ≡ true → are_unshared (all_pointers w g) ≡ true → IsPartial w g
+sketch_so w g a v b c = record { all_roots = a; values = v; local = b; unshared = unshared_are _ c }
+
+-- the octets that are written, by a test
+pub chosen_so : (w : Setting) (order : Order) (chunk : ℕ) (g : Graph) (octets : List ℕ) (fuel : ℕ)
+    → is_some (walk fuel w g [] (due_roots 0 (before_pipes (root_list w)))) ≡ true
+    → octets ≡ octets_from order (canonical_number (named_cells w g (turns_of fuel w g))) 0 (representation w g (turns_of fuel w g) (pipe_cuts chunk (past (before_pipes (root_list w)) g.roots)))
+    → Chosen w order chunk g octets
+chosen_so w order chunk g octets fuel walked e =
+    record { steps = turns_of fuel w g; deferral = walk_gives fuel w g [] _ _ (some_found _ walked); written = e }

@@ -1,0 +1,87 @@
+-- The marks of a value in its place.
+use Rattle.std.specs.Prelude.{ℕ, ◌+◌, suc, zero, ℤ, Bool, true, false, List, [], ◌∷◌, ◌++◌, length, map, Option, Some, None}
+use Rattle.nd_types.specs.declared.TypeDef.{TypeDef}
+use Rattle.nd_types.specs.declared.Arm.{Arm}
+use Rattle.nd_types.specs.declared.TypeDef.TheVariants as def
+use Rattle.nd_types.specs.declared.Primitive.{Primitive}
+use Rattle.nd_types.specs.declared.Primitive.TheVariants.{Short}
+use Rattle.nd_types.specs.Table.{Table, type_at, width}
+use Rattle.nd_types.specs.Layout.{align_of, hoists}
+use Rattle.nd_graph.specs.declared.Home.{Home}
+use Rattle.nd_graph.specs.Tree as tree
+use Rattle.nd_graph.specs.Tree.{Tree, Trees, node, none, more, count, nodes, Label, is_pointer}
+use Rattle.nd_graph.specs.Agreement.{Agreement, found_in, actual, max_of}
+use Rattle.nd_graph.specs.Deferral.{child_types, child_agreements, first_agreements, rest_agreements}
+use Rattle.nd_grammar.specs.Entry.{Kind, Entry, Align, Max, Offset, Actual, Number, Num, Tag, Text, Context, Test, Unread}
+
+abbrev pub counts : Bool → ℕ → ℕ → ℕ → List Kind
+counts false max offset n = []
+counts true max offset n = Align 4 ∷ Offset false offset ∷ Actual false offset max n ∷ []
+
+abbrev pub tag_entries : Option TypeDef → List Arm → Option Arm → ℤ → List Kind
+tag_entries (Some (def.Prim p)) arms default v = Align (width p) ∷ Tag p None arms default v ∷ []
+tag_entries (Some (def.Enum values)) arms default v = Align 2 ∷ Tag Short (Some values) arms default v ∷ []
+tag_entries _ arms default v = Unread ∷ []
+
+-- what stands before the children of a node of a type. What has not its type's shape has no marks but a hole.
+abbrev pub before_children : Table → ℕ → Option TypeDef → Label → Trees → List Kind
+before_children table t (Some (def.Prim p)) (tree.Num z) ks = Align (width p) ∷ Num p None z ∷ []
+before_children table t (Some (def.Enum values)) (tree.Num z) ks = Align 2 ∷ Num Short (Some values) z ∷ []
+before_children table t (Some (def.Struct members)) tree.Rec ks = Align (align_of table t) ∷ []
+before_children table t (Some (def.Array elem bound varying)) (tree.Arr max offset) ks = counts varying max offset (count ks)
+before_children table t (Some (def.Text elem bound)) (tree.Text max octets) ks =
+    Align 4 ∷ Offset true 0 ∷ Actual true 0 max (length octets + 1) ∷ Text octets ∷ []
+before_children table t (Some (def.Union tag encapsulated arms default)) (tree.Union v) ks = tag_entries (type_at table tag.0) arms default v
+before_children table t (Some (def.Pointer class to)) (tree.Ptr c) ks = Align 4 ∷ Number class to.0 c ∷ []
+before_children table t (Some def.Context) (tree.Context attributes id) ks = Align 4 ∷ Context attributes id ∷ []
+before_children table t _ _ ks = Unread ∷ []
+
+abbrev pub entries : Home → ℕ → List Kind → List Entry
+entries h n [] = []
+entries h n (x ∷ xs) = record { home = h; node = n; kind = x } ∷ entries h n xs
+
+-- the tests of a subject
+abbrev pub tests : Home → ℕ → Tree → List Agreement → List Entry
+tests h n t [] = []
+tests h n t (a ∷ rest) = record { home = h; node = n; kind = Test a.attr a.wanted (found_in a.attr t) } ∷ tests h n t rest
+
+abbrev pub own_tests : Bool → Home → ℕ → Tree → List Agreement → List Entry
+own_tests true h n t agreements = []
+own_tests false h n t agreements = tests h n t agreements
+
+-- the tests of the children that are no pointers: those wait for their turns
+abbrev pub child_tests : Home → List (List Agreement) → ℕ → Trees → List Entry
+child_tests h agreements n none = []
+child_tests h agreements n (more (node l ks) ts) =
+    own_tests (is_pointer l) h n (node l ks) (first_agreements agreements) ++ child_tests h (rest_agreements agreements) (n + 1 + nodes ks) ts
+
+-- the marks of trees of these types, from node n on
+abbrev pub in_place : Table → Home → List ℕ → ℕ → Trees → List Entry
+in_place table h types n none = []
+in_place table h [] n (more t ts) = []
+in_place table h (t ∷ types) n (more (node l ks) ts) =
+    entries h n (before_children table t (type_at table t) l ks)
+    ++ (in_place table h (child_types (type_at table t) l ks) (n + 1) ks
+    ++ (child_tests h (child_agreements (type_at table t) ks) (n + 1) ks
+    ++ in_place table h types (n + 1 + nodes ks) ts))
+
+abbrev pub own_max : Label → ℕ → ℕ
+own_max (tree.Arr max offset) inner = max
+own_max (tree.Text max octets) inner = max
+own_max _ inner = inner
+
+-- the maximum count of the last of trees, or of its last child, and so on
+abbrev pub hoisted_max : ℕ → Trees → ℕ
+hoisted_max m none = m
+hoisted_max m (more (node l ks) ts) = hoisted_max (own_max l (hoisted_max 0 ks)) ts
+
+abbrev pub hoisted : Bool → Label → ℕ → List Kind
+hoisted true tree.Unread m = []
+hoisted true l m = Align 4 ∷ Max m ∷ []
+hoisted false l m = []
+
+-- the marks of a whole value: where its type hoists, its maximum count first
+abbrev pub whole_value : Table → Home → ℕ → Tree → List Entry
+whole_value table h t (node l ks) =
+    entries h 0 (hoisted (hoists table t) l (hoisted_max 0 (more (node l ks) none)))
+    ++ in_place table h (t ∷ []) 0 (more (node l ks) none)

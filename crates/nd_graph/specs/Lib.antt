@@ -1,0 +1,9 @@
+pub mod Seen
+pub mod SeenFalls
+pub mod Tree
+pub mod Setting
+pub mod Agreement
+pub mod Deferral
+pub mod Conforms
+pub mod Same
+pub mod Canon

@@ -1,0 +1,51 @@
+-- What a graph is read under, and the parts of a graph.
+use Rattle.std.specs.Prelude.{ℕ, ◌+◌, ◌-◌, suc, zero, ℤ, pos, List, [], ◌∷◌, Option, Some, None, ◌≡◌, ◌⊎◌}
+use Rattle.std.specs.List.{slice_get}
+use Rattle.nd_types.specs.declared.Operation.{Operation}
+use Rattle.nd_types.specs.declared.Side.{Side}
+use Rattle.nd_types.specs.Table.{Table}
+use Rattle.nd_types.specs.Roots.{Root, roots_of}
+use Rattle.nd_graph.specs.declared.Graph.{Graph}
+use Rattle.nd_graph.specs.declared.Home.{Home}
+use Rattle.nd_graph.specs.declared.Home.TheVariants as home
+use Rattle.nd_graph.specs.Tree.{Tree, Trees, node, none, more, Referent, Unread, Label}
+
+-- an operation's side under a table of types, beside a request or beside none
+pub record Setting : Type 0 where
+  pub table : Table
+  pub op : Operation
+  pub side : Side
+  pub given : Option Graph
+
+abbrev pub root_list : Setting → List Root
+root_list w = roots_of w.table w.side w.op
+
+abbrev pub unread : Tree
+unread = node Unread none
+
+abbrev pub or_unread : Option Tree → Tree
+or_unread (Some t) = t
+or_unread None = unread
+
+abbrev pub cell_tree : Option Referent → Tree
+cell_tree (Some c) = c.val
+cell_tree None = unread
+
+-- a cell by its number, from 1
+abbrev pub cell_of_number : Graph → ℕ → Option Referent
+cell_of_number g zero = None
+cell_of_number g (suc i) = slice_get g.cells i
+
+abbrev pub cell_at : Graph → ℕ → Tree
+cell_at g c = cell_tree (cell_of_number g c)
+
+abbrev pub root_at : Graph → ℕ → Tree
+root_at g i = or_unread (slice_get g.roots i)
+
+abbrev pub cell_home : ℕ → Home
+cell_home c = home.Cell (record { 0 = c })
+
+-- x is among them
+abbrev pub Among : {X : Type 0} → List X → X → Type 0
+Among [] x = ⊥
+Among (y ∷ ys) x = (x ≡ y) ⊎ Among ys x
