@@ -9,7 +9,8 @@ use Rattle.nd_grammar.specs.declared.Reason.{Reason}
 use Rattle.nd_grammar.specs.declared.Reason.TheVariants as reason
 use Rattle.nd_graph.specs.declared.Home.{Home}
 use Rattle.nd_grammar.specs.Entry.{Kind, Entry, Align, Max, Offset, Actual, Chunk, Number, Num, Tag, Text, Context, Test, Unread, size_at, EntryAt}
-use Rattle.nd_grammar.specs.Reading.{piece, refusal, kind_refusal, refused_if, is_long}
+use Rattle.nd_grammar.specs.Represents.{piece}
+use Rattle.nd_grammar.specs.Refusal.{refusal, kind_refusal, refused_if, is_long}
 use Rattle.nd_grammar.proofs.Next.{form}
 
 pub size_form : (at : ℕ) (x : Kind) → size_at at (form x) ≡ size_at at x

@@ -14,15 +14,15 @@ use Rattle.nd_types.specs.Table.{Table, type_at, width, selected}
 use Rattle.nd_graph.specs.declared.Home.{Home}
 use Rattle.nd_graph.specs.declared.Graph.{Graph}
 use Rattle.nd_graph.specs.Setting.{cell_of_number}
-use Rattle.nd_graph.specs.Conforms.{has_shape, has_counts}
+use Rattle.nd_graph.specs.Misfit.{has_shape, has_counts}
 use Rattle.nd_graph.specs.Tree.{Referent}
 use Rattle.nd_graph.specs.Tree as tree
 use Rattle.nd_graph.specs.Tree.{Tree, Trees, node, none, more, count, nodes, Label, is_pointer, cell_in}
-use Rattle.nd_graph.specs.Deferral.{child_types, child_agreements, first_agreements, rest_agreements}
+use Rattle.nd_graph.specs.Nodes.{child_types, child_agreements, first_agreements, rest_agreements}
 use Rattle.nd_grammar.specs.Number.{unsigned, value_of_octets}
 use Rattle.nd_grammar.specs.Entry.{Kind, Entry, Align, Max, Offset, Actual, Chunk, Number, Num, Tag, Text, Context, Test, Unread, size_at, EntryAt, end_to_end, end_of}
 use Rattle.nd_grammar.specs.InPlace.{before_children, entries, in_place, counts, tag_entries, tests, own_tests, child_tests}
-use Rattle.nd_grammar.specs.Reading.{piece, Spells, IsRendered, IsNumber, id_octets}
+use Rattle.nd_grammar.specs.Represents.{piece, Spells, IsRendered, IsNumber, id_octets}
 use Rattle.nd_types.specs.declared.Attr.{Attr}
 use Rattle.nd_types.specs.declared.Attr.TheVariants as attr
 use Rattle.nd_types.specs.declared.AttrVar.{AttrVar}

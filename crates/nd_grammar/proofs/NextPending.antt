@@ -14,7 +14,8 @@ use Rattle.nd_graph.specs.Tree as tree
 use Rattle.nd_graph.specs.Tree.{Tree, Trees, node, none, more, count, nodes, Label, Referent, is_pointer, cell_in}
 use Rattle.nd_graph.specs.Agreement.{Agreement}
 use Rattle.nd_graph.specs.Setting.{cell_of_number}
-use Rattle.nd_graph.specs.Deferral.{child_types, child_agreements, first_agreements, rest_agreements, nodes_of, TypedNode, Pending, pointer, pointer_by, Due, due_root, due_referent}
+use Rattle.nd_graph.specs.Nodes.{child_types, child_agreements, first_agreements, rest_agreements, nodes_of, TypedNode}
+use Rattle.nd_graph.specs.Deferral.{Pending, pointer, pointer_by, Due, due_root, due_referent}
 use Rattle.nd_grammar.proofs.Next.{bare, class_of, CellsMatch, Match, Matched, NodeKnown, PointeeKnown, Known, matched_nodes, matched_count, matched_number, child_wants_same, through, pointer_bare}
 
 module _ (nums nums' : ℕ → ℕ) (g g' : Graph) where

@@ -12,7 +12,7 @@ use Rattle.nd_graph.specs.Tree.{Tree, Trees, node, none, more, Referent}
 use Rattle.nd_graph.specs.Setting.{cell_of_number, root_list}
 use Rattle.nd_graph.specs.Deferral.{Step, Deferral, standing_root, due_roots, before_pipes}
 use Rattle.nd_grammar.specs.Entry.{Entry}
-use Rattle.nd_grammar.specs.Reading.{id_octets}
+use Rattle.nd_grammar.specs.Represents.{id_octets}
 use Rattle.nd_grammar.specs.Stream.{step_entries}
 use Rattle.nd_grammar.specs.Examples.{ring, ring_of_two}
 use Rattle.nd_grammar.proofs.Next.{Known, NodeKnown, Next, bare}

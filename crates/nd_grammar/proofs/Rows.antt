@@ -29,9 +29,11 @@ use Rattle.nd_grammar.specs.declared.Reason.TheVariants as reason
 use Rattle.nd_grammar.specs.Entry.{Entry, EntryAt, end_to_end, full_cells}
 use Rattle.nd_grammar.specs.Entry.{Number, Num, Test, Align}
 use Rattle.nd_grammar.specs.Stream.{Stream, representation}
-use Rattle.nd_grammar.specs.Reading.{Represents, IsNumbering, Bad}
+use Rattle.nd_grammar.specs.Represents.{Represents, IsNumbering}
+use Rattle.nd_grammar.specs.Bad.{Bad}
 use Rattle.nd_grammar.specs.Chosen.{Chosen}
-use Rattle.nd_graph.specs.Conforms.{Conforms, Reached, by_root, by_cell, all_pointers}
+use Rattle.nd_graph.specs.Conforms.{Conforms, Reached, by_root, by_cell}
+use Rattle.nd_graph.specs.Homes.{all_pointers}
 use Rattle.nd_graph.specs.declared.Home.TheVariants as home
 use Rattle.nd_graph.specs.Setting.{cell_home}
 use Rattle.nd_graph.specs.Deferral.{Pending}
@@ -517,13 +519,11 @@ pub ring_conforms : Conforms ring ring_2
 unfolding align_of hoists roots_of
 ring_conforms = record {
   all_roots = refl;
-  typed = refl;
-  values = refl;
+  machine_values = refl;
   local = (refl, (refl, (refl, (refl, (refl, (refl, (refl, tt)))))));
   unshared = unshared_are (all_pointers ring ring_2) refl;
   reached = ring_reached;
   agreed = ((tt, tt), ((tt, tt), ((tt, tt), ((tt, tt), ((tt, tt), ((tt, tt), ((tt, tt), tt)))))));
-  roots_agreed = ((tt, tt), tt);
   few_cells = lit< tt;
   few_nodes = (lit< tt, (lit< tt, (lit< tt, tt)));
 }
