@@ -1,0 +1,6 @@
+//! x
+#![tactic(auto)]
+
+mod words;
+
+pub use words::Words;
