@@ -26,16 +26,16 @@ use Rattle.nd_types.proofs.LayoutLaws.{hoists_prim}
 use Rattle.nd_grammar.specs.Represents.{IsRendered, Represents, IsNumbering}
 use Rattle.nd_grammar.specs.Plain.{ArePlain, number, plain_graph, numbers_at, with}
 
--- the marks of plain numbers, from the i-th root on
-abbrev pub plain_marks : ℕ → List Primitive → List ℤ → List Entry
-plain_marks i (p ∷ ps) (z ∷ zs) =
+-- the entries of plain numbers, from the i-th root on
+abbrev pub plain_entries : ℕ → List Primitive → List ℤ → List Entry
+plain_entries i (p ∷ ps) (z ∷ zs) =
     record { home = home.Root i; node = 0; kind = Align (width p) } ∷ record { home = home.Root i; node = 0; kind = Num p None z }
-    ∷ plain_marks (suc i) ps zs
-plain_marks i _ _ = []
+    ∷ plain_entries (suc i) ps zs
+plain_entries i _ _ = []
 
-abbrev lay_roots : ℕ → ℕ → List Step
-lay_roots i zero = []
-lay_roots i (suc n) = root_stands i ∷ lay_roots (suc i) n
+abbrev root_steps : ℕ → ℕ → List Step
+root_steps i zero = []
+root_steps i (suc n) = root_stands i ∷ root_steps (suc i) n
 
 -- one root of a primitive stands as its number, and names nothing
 module _ (w : Setting) (g : Graph) (i : ℕ) (r : Root) (z : ℤ) (p : Primitive)
@@ -49,18 +49,18 @@ module _ (w : Setting) (g : Graph) (i : ℕ) (r : Root) (z : ℤ) (p : Primitive
       standing_by g i (root_type o) (or_unread v) (direct (type_at w.table (root_type o)) (or_unread v)) in
       ap₂ F root val ∙ ap (λ d. standing_by g i r.of (number z) (direct d (number z))) prim
 
-  tasks_are : due_of w.table L ≡ []
-  tasks_are = ap (λ d. map due_referent (pointer_by d false None (home.Root i) 0 [] ++ [])) prim
+  due_are : due_of w.table L ≡ []
+  due_are = ap (λ d. map due_referent (pointer_by d false None (home.Root i) 0 [] ++ [])) prim
 
-  turn_is : (due : List Due) (steps : List Step) → Deferral w g [] due steps → Deferral w g [] (due_root i ∷ due) (root_stands i ∷ steps)
-  turn_is due steps d =
-      let d' : Deferral w g (root_cell L.home ++ []) (due_of w.table L ++ due) steps = subst (λ t. Deferral w g [] (t ++ due) steps) (sym tasks_are) d in
+  step_is : (due : List Due) (steps : List Step) → Deferral w g [] due steps → Deferral w g [] (due_root i ∷ due) (root_stands i ∷ steps)
+  step_is due steps d =
+      let d' : Deferral w g (root_cell L.home ++ []) (due_of w.table L ++ due) steps = subst (λ t. Deferral w g [] (t ++ due) steps) (sym due_are) d in
       at_root (subst (λ x. AreFree (root_cell x.home) []) (sym root_is) tt)
       (subst (λ x. Deferral w g (root_cell x.home ++ []) (due_of w.table x ++ due) steps) (sym root_is) d')
 
-  marks_are : step_entries w g (root_stands i)
+  entries_are : step_entries w g (root_stands i)
       ≡ record { home = home.Root i; node = 0; kind = Align (width p) } ∷ record { home = home.Root i; node = 0; kind = Num p None z } ∷ []
-  marks_are = ap (standing_entries w.table) root_is ∙ ap₂ (λ b d. entries (home.Root i) 0 (hoisted b (tree.Num z) 0) ++ (entries (home.Root i) 0 (before_children w.table r.of d (tree.Num z) none) ++ []))
+  entries_are = ap (standing_entries w.table) root_is ∙ ap₂ (λ b d. entries (home.Root i) 0 (hoisted b (tree.Num z) 0) ++ (entries (home.Root i) 0 (before_children w.table r.of d (tree.Num z) none) ++ []))
       (hoists_prim w.table r.of p prim) prim
 
 -- what stands in a list from the i-th on
@@ -77,22 +77,22 @@ suffix_whole : {X : Type 0} (whole : List X) → Suffix whole 0 whole
 suffix_whole whole k = let e : k + 0 ≡ k = omega arith in ap (slice_get whole) e
 
 module _ (w : Setting) (g : Graph) where
-  plain_turns : (ps : List Primitive) (zs : List ℤ) (rs : List Root) (i : ℕ) → ArePlain w.table rs ps → length zs ≡ length ps
+  plain_steps : (ps : List Primitive) (zs : List ℤ) (rs : List Root) (i : ℕ) → ArePlain w.table rs ps → length zs ≡ length ps
       → Suffix (root_list w) i rs → Suffix g.roots i (map number zs)
-      → Deferral w g [] (due_roots i (length ps)) (lay_roots i (length ps))
-      × (flat_map (step_entries w g) (lay_roots i (length ps)) ≡ plain_marks i ps zs)
-  plain_turns [] [] [] i a l s v = (none_due, refl)
-  plain_turns [] (z ∷ zs) rs i a l s v = cc
-  plain_turns [] [] (r ∷ rs) i a l s v = absurd a
-  plain_turns (p ∷ ps) [] rs i a l s v = cc
-  plain_turns (p ∷ ps) (z ∷ zs) [] i a l s v = absurd a
-  plain_turns (p ∷ ps) (z ∷ zs) (r ∷ rs) i a l s v =
+      → Deferral w g [] (due_roots i (length ps)) (root_steps i (length ps))
+      × (flat_map (step_entries w g) (root_steps i (length ps)) ≡ plain_entries i ps zs)
+  plain_steps [] [] [] i a l s v = (none_due, refl)
+  plain_steps [] (z ∷ zs) rs i a l s v = cc
+  plain_steps [] [] (r ∷ rs) i a l s v = absurd a
+  plain_steps (p ∷ ps) [] rs i a l s v = cc
+  plain_steps (p ∷ ps) (z ∷ zs) [] i a l s v = absurd a
+  plain_steps (p ∷ ps) (z ∷ zs) (r ∷ rs) i a l s v =
       let l' : length zs ≡ length ps = cc in
-      let ih = plain_turns ps zs rs (suc i) a.3 l' (suffix_next _ i r rs s) (suffix_next _ i (number z) (map number zs) v) in
+      let ih = plain_steps ps zs rs (suc i) a.3 l' (suffix_next _ i r rs s) (suffix_next _ i (number z) (map number zs) v) in
       let root = suffix_first _ i r rs s in
       let val = suffix_first _ i (number z) (map number zs) v in (
-        turn_is w g i r z p root val a.2 (due_roots (suc i) (length ps)) (lay_roots (suc i) (length ps)) ih.0,
-        ap₂ (λ x y. x ++ y) (marks_are w g i r z p root val a.2) ih.1,
+        step_is w g i r z p root val a.2 (due_roots (suc i) (length ps)) (root_steps (suc i) (length ps)) ih.0,
+        ap₂ (λ x y. x ++ y) (entries_are w g i r z p root val a.2) ih.1,
       )
 
   no_tests : (ps : List Primitive) (rs : List Root) (zs : List ℤ) (i : ℕ) → ArePlain w.table rs ps → root_tests w g i rs (map number zs) ≡ []
@@ -126,19 +126,19 @@ map_length (z ∷ zs) = ap suc (map_length zs)
 no_pipes : (table : Table) (i : ℕ) (rs : List Root) (vs : List Tree) → rs ≡ [] → pipes_entries table i rs vs [] ≡ []
 no_pipes table i rs vs e = ap (λ x. pipes_entries table i x vs []) e
 
--- plain numbers have their marks as a stream
+-- plain numbers have their entries as a stream
 pub plain_stream : (w : Setting) (ps : List Primitive) (zs : List ℤ) → ArePlain w.table (root_list w) ps → length zs ≡ length ps
-    → Stream w (plain_graph zs) (plain_marks 0 ps zs)
+    → Stream w (plain_graph zs) (plain_entries 0 ps zs)
 plain_stream w ps zs a l =
     let g : Graph = plain_graph zs in
     let n : before_pipes (root_list w) ≡ length ps = plain_all w.table ps (root_list w) a in
-    let t = plain_turns w g ps zs (root_list w) 0 a l (suffix_whole (root_list w)) (suffix_whole (map number zs)) in
+    let t = plain_steps w g ps zs (root_list w) 0 a l (suffix_whole (root_list w)) (suffix_whole (map number zs)) in
     let gone : drop (before_pipes (root_list w)) g.roots ≡ [] =
     ap (λ k. drop k g.roots) (n ∙ sym l ∙ sym (map_length zs)) ∙ past_all (map number zs) in
     record {
-      steps = lay_roots 0 (length ps);
+      steps = root_steps 0 (length ps);
       cuts = [];
-      deferral = subst (λ k. Deferral w g [] (due_roots 0 k) (lay_roots 0 (length ps))) (sym n) t.0;
+      deferral = subst (λ k. Deferral w g [] (due_roots 0 k) (root_steps 0 (length ps))) (sym n) t.0;
       all_cut = subst (λ x. AllCut x []) (sym gone) tt;
       is_representation = sym
           (ap₂ (λ x y. x ++ y)
@@ -156,8 +156,8 @@ with_inv z (Some us) zs e = (us, refl, same_Some _ _ e)
 module _ (order : Order) (nums : ℕ → ℕ) (octets : List ℕ) where
   abbrev Spelled : List Primitive → ℕ → ℕ → List ℤ → Type 0
   Spelled ps i at zs =
-      AllByRecursion (IsRendered order nums octets) (end_to_end at (plain_marks i ps zs))
-      × (end_of at (plain_marks i ps zs) ≤ length octets) × (length zs ≡ length ps)
+      AllByRecursion (IsRendered order nums octets) (end_to_end at (plain_entries i ps zs))
+      × (end_of at (plain_entries i ps zs) ≤ length octets) × (length zs ≡ length ps)
 
   abbrev here : Primitive → ℕ → ℕ
   here p at = at + gap at (width p)
@@ -181,19 +181,19 @@ module _ (order : Order) (nums : ℕ → ℕ) (octets : List ℕ) where
       one_spelled p ps i at zs _ refl e (λ us f h'. numbers_spelled ps (suc i) (here p at + width p) us f h')
 
 -- no pointers, no numbers of cells
-pub no_cells : (ps : List Primitive) (zs : List ℤ) (i : ℕ) → full_cells (plain_marks i ps zs) ≡ []
+pub no_cells : (ps : List Primitive) (zs : List ℤ) (i : ℕ) → full_cells (plain_entries i ps zs) ≡ []
 no_cells [] zs i = refl
 no_cells (p ∷ ps) [] i = refl
 no_cells (p ∷ ps) (z ∷ zs) i = no_cells ps zs (suc i)
 
 -- what is read of octets is what they represent, where they end with it
 pub plain_represents : (w : Setting) (order : Order) (ps : List Primitive) (octets : List ℕ) (zs : List ℤ) → ArePlain w.table (root_list w) ps
-    → numbers_at order ps 0 octets ≡ Some zs → end_of 0 (plain_marks 0 ps zs) ≡ length octets → length octets ≤ STREAM_LIMIT
+    → numbers_at order ps 0 octets ≡ Some zs → end_of 0 (plain_entries 0 ps zs) ≡ length octets → length octets ≤ STREAM_LIMIT
     → Represents w order octets (plain_graph zs)
 plain_represents w order ps octets zs a e whole within =
     let s = numbers_spelled order (λ c. c) octets ps 0 0 zs e (omega arith) in
     record {
-      entries = plain_marks 0 ps zs;
+      entries = plain_entries 0 ps zs;
       stream = plain_stream w ps zs a s.2;
       numbering = λ c. c;
       is_numbering = record {

@@ -36,7 +36,7 @@ use Rattle.nd_grammar.specs.Number.{value_of_octets}
 use Rattle.nd_grammar.specs.Plain.{ArePlain, number, plain_graph, numbers_at, with}
 use Rattle.nd_graph.specs.Setting.{Among}
 use Rattle.nd_grammar.proofs.Ranges.{AreOctets, piece_in_range}
-use Rattle.nd_grammar.proofs.Plain.{plain_marks, plain_stream, no_cells}
+use Rattle.nd_grammar.proofs.Plain.{plain_entries, plain_stream, no_cells}
 
 -- each number is in its primitive's range
 abbrev pub AreInRange : List Primitive → List ℤ → Type 0
@@ -85,9 +85,9 @@ plain_lengths table (p ∷ ps) (r ∷ rs) (z ∷ zs) a b =
     let l = plain_lengths table ps rs zs a.3 b.1 in
     (ap suc l.0, ap suc l.1)
 
--- numbers in their ranges are a sketch
-pub plain_sketch : (w : Setting) (ps : List Primitive) (zs : List ℤ) → ArePlain w.table (root_list w) ps → AreInRange ps zs → IsPartial w (plain_graph zs)
-plain_sketch w ps zs a b =
+-- numbers in their ranges are a partial graph
+pub plain_partial : (w : Setting) (ps : List Primitive) (zs : List ℤ) → ArePlain w.table (root_list w) ps → AreInRange ps zs → IsPartial w (plain_graph zs)
+plain_partial w ps zs a b =
     let g : Graph = plain_graph zs in
     record {
       all_roots = (plain_lengths w.table ps (root_list w) zs a b).0;
@@ -143,37 +143,37 @@ past_no a b h = grind (arith, nat_tests)
 
 module _ (order : Order) (nums : ℕ → ℕ) (os : List ℕ)
     (ranges : (p : Primitive) (a : ℕ) → a + width p ≤ length os → in_range p (value_of_octets order p (take (width p) (drop a os))) ≡ true) where
-  -- the marks of numbers come to one that is cut off
+  -- the entries of numbers come to one that is cut off
   record IsShort (ahead : List EntryAt) (i at : ℕ) (ps : List Primitive) (zs : List ℤ) : Type 0 where
     earlier : List EntryAt
     here : EntryAt
     later : List EntryAt
-    split : end_to_end at (plain_marks i ps zs) ≡ earlier ++ here ∷ later
+    split : end_to_end at (plain_entries i ps zs) ≡ earlier ++ here ∷ later
     rendered : AllByRecursion (IsRendered order nums os) earlier
     accepted : Accepts order os ahead earlier
     refused : refusal order os (ahead ++ earlier) here ≡ Some (length os, Truncated)
 
-  abbrev gap_mark : ℕ → ℕ → Primitive → EntryAt
-  gap_mark i at p = record { at = at; entry = record { home = home.Root i; node = 0; kind = Align (width p) } }
+  abbrev gap_entry : ℕ → ℕ → Primitive → EntryAt
+  gap_entry i at p = record { at = at; entry = record { home = home.Root i; node = 0; kind = Align (width p) } }
 
-  abbrev num_mark : ℕ → ℕ → Primitive → ℤ → EntryAt
-  num_mark i at p z = record { at = at + gap at (width p); entry = record { home = home.Root i; node = 0; kind = Num p None z } }
+  abbrev num_entry : ℕ → ℕ → Primitive → ℤ → EntryAt
+  num_entry i at p z = record { at = at + gap at (width p); entry = record { home = home.Root i; node = 0; kind = Num p None z } }
 
-  gap_fits : (ahead : List EntryAt) (i at : ℕ) (p : Primitive) → at + gap at (width p) ≤ length os → refusal order os ahead (gap_mark i at p) ≡ None
+  gap_fits : (ahead : List EntryAt) (i at : ℕ) (p : Primitive) → at + gap at (width p) ≤ length os → refusal order os ahead (gap_entry i at p) ≡ None
   gap_fits ahead i at p h = ap (λ b. refused_if b (length os, Truncated) None) (past_no (length os) (at + gap at (width p)) h)
 
   num_fits : (ahead : List EntryAt) (i at : ℕ) (p : Primitive) (z : ℤ) → at + gap at (width p) + width p ≤ length os → length os ≤ STREAM_LIMIT
-      → refusal order os ahead (num_mark i at p z) ≡ None
+      → refusal order os ahead (num_entry i at p z) ≡ None
   num_fits ahead i at p z h l =
       ap₂ (λ b c. refused_if b (STREAM_LIMIT, TooLong) (refused_if c (length os, Truncated) None))
       (past_no STREAM_LIMIT (at + gap at (width p) + width p) (omega arith)) (past_no (length os) (at + gap at (width p) + width p) h)
 
   gap_short : (ahead : List EntryAt) (i at : ℕ) (p : Primitive) → length os < at + gap at (width p)
-      → refusal order os ahead (gap_mark i at p) ≡ Some (length os, Truncated)
+      → refusal order os ahead (gap_entry i at p) ≡ Some (length os, Truncated)
   gap_short ahead i at p h = ap (λ b. refused_if b (length os, Truncated) None) (lt-ltb (length os) (at + gap at (width p)) h)
 
   num_short : (ahead : List EntryAt) (i at : ℕ) (p : Primitive) (z : ℤ) → length os < at + gap at (width p) + width p
-      → at + gap at (width p) + width p ≤ STREAM_LIMIT → refusal order os ahead (num_mark i at p z) ≡ Some (length os, Truncated)
+      → at + gap at (width p) + width p ≤ STREAM_LIMIT → refusal order os ahead (num_entry i at p z) ≡ Some (length os, Truncated)
   num_short ahead i at p z h l =
       ap₂ (λ b c. refused_if b (STREAM_LIMIT, TooLong) (refused_if c (length os, Truncated) None))
       (past_no STREAM_LIMIT (at + gap at (width p) + width p) l) (lt-ltb (length os) (at + gap at (width p) + width p) h)
@@ -181,30 +181,30 @@ module _ (order : Order) (nums : ℕ → ℕ) (os : List ℕ)
   two : (xs : List EntryAt) (a b : EntryAt) (ys : List EntryAt) → ((xs ++ a ∷ []) ++ b ∷ []) ++ ys ≡ xs ++ (a ∷ b ∷ ys)
   two xs a b ys = simp append_assoc
 
-  -- a mark that is whole, and what comes behind it
+  -- an entry that is whole, and what comes behind it
   whole_then : (ahead : List EntryAt) (i at : ℕ) (p : Primitive) (ps : List Primitive) (z : ℤ) (zs : List ℤ)
       → at + gap at (width p) + width p ≤ length os → length os ≤ STREAM_LIMIT → value_of_octets order p (take (width p) (drop (at + gap at (width p)) os)) ≡ z
-      → IsShort ((ahead ++ gap_mark i at p ∷ []) ++ num_mark i at p z ∷ []) (suc i) (at + gap at (width p) + width p) ps zs
+      → IsShort ((ahead ++ gap_entry i at p ∷ []) ++ num_entry i at p z ∷ []) (suc i) (at + gap at (width p) + width p) ps zs
       → IsShort ahead i at (p ∷ ps) (z ∷ zs)
   whole_then ahead i at p ps z zs h l e r = record {
-    earlier = gap_mark i at p ∷ num_mark i at p z ∷ r.earlier;
+    earlier = gap_entry i at p ∷ num_entry i at p z ∷ r.earlier;
     here = r.here;
     later = r.later;
-    split = ap (λ u. gap_mark i at p ∷ num_mark i at p z ∷ u) r.split;
+    split = ap (λ u. gap_entry i at p ∷ num_entry i at p z ∷ u) r.split;
     rendered = ((omega arith, tt), ((h, e), r.rendered));
     accepted = (
       gap_fits ahead i at p (omega arith),
-      (num_fits (ahead ++ gap_mark i at p ∷ []) i at p z h l, r.accepted),
+      (num_fits (ahead ++ gap_entry i at p ∷ []) i at p z h l, r.accepted),
     );
-    refused = ap (λ u. refusal order os u r.here) (sym (two ahead (gap_mark i at p) (num_mark i at p z) r.earlier)) ∙ r.refused;
+    refused = ap (λ u. refusal order os u r.here) (sym (two ahead (gap_entry i at p) (num_entry i at p z) r.earlier)) ∙ r.refused;
   }
 
   cut_gap : (ahead : List EntryAt) (i at : ℕ) (p : Primitive) (ps : List Primitive) (zs : List ℤ) → length os < at + gap at (width p)
       → IsShort ahead i at (p ∷ ps) (pos 0 ∷ zs)
   cut_gap ahead i at p ps zs h = record {
     earlier = [];
-    here = gap_mark i at p;
-    later = num_mark i at p (pos 0) ∷ end_to_end (at + gap at (width p) + width p) (plain_marks (suc i) ps zs);
+    here = gap_entry i at p;
+    later = num_entry i at p (pos 0) ∷ end_to_end (at + gap at (width p) + width p) (plain_entries (suc i) ps zs);
     split = refl;
     rendered = tt;
     accepted = tt;
@@ -214,13 +214,13 @@ module _ (order : Order) (nums : ℕ → ℕ) (os : List ℕ)
   cut_num : (ahead : List EntryAt) (i at : ℕ) (p : Primitive) (ps : List Primitive) (zs : List ℤ) → at + gap at (width p) ≤ length os
       → length os < at + gap at (width p) + width p → at + gap at (width p) + width p ≤ STREAM_LIMIT → IsShort ahead i at (p ∷ ps) (pos 0 ∷ zs)
   cut_num ahead i at p ps zs h k l = record {
-    earlier = gap_mark i at p ∷ [];
-    here = num_mark i at p (pos 0);
-    later = end_to_end (at + gap at (width p) + width p) (plain_marks (suc i) ps zs);
+    earlier = gap_entry i at p ∷ [];
+    here = num_entry i at p (pos 0);
+    later = end_to_end (at + gap at (width p) + width p) (plain_entries (suc i) ps zs);
     split = refl;
     rendered = ((h, tt), tt);
     accepted = (gap_fits ahead i at p h, tt);
-    refused = num_short (ahead ++ gap_mark i at p ∷ []) i at p (pos 0) k l;
+    refused = num_short (ahead ++ gap_entry i at p ∷ []) i at p (pos 0) k l;
   }
 
   abbrev Cut : List EntryAt → ℕ → ℕ → List Primitive → Type 0
@@ -236,7 +236,7 @@ module _ (order : Order) (nums : ℕ → ℕ) (os : List ℕ)
   one_short ahead i at p ps true q e l h ih =
       let fits : at + gap at (width p) + width p ≤ length os = leb-true _ _ q in
       let z : ℤ = value_of_octets order p (take (width p) (drop (at + gap at (width p)) os)) in
-      let (zs, r, s) = ih (with_none _ _ e) fits ((ahead ++ gap_mark i at p ∷ []) ++ num_mark i at p z ∷ []) in
+      let (zs, r, s) = ih (with_none _ _ e) fits ((ahead ++ gap_entry i at p ∷ []) ++ num_entry i at p z ∷ []) in
       (z ∷ zs, (ranges p (at + gap at (width p)) fits, r), whole_then ahead i at p ps z zs fits (omega arith) refl s)
   one_short ahead i at p ps false q e l h ih =
       let k : length os < at + gap at (width p) + width p = leb-false _ _ q in
@@ -264,8 +264,8 @@ module _ (order : Order) (nums : ℕ → ℕ) (os : List ℕ)
       let (zs, r, s) = short_at ps [] 0 0 e l (omega arith) in
       record {
         partial = plain_graph zs;
-        is_partial = plain_sketch w ps zs a r;
-        entries = plain_marks 0 ps zs;
+        is_partial = plain_partial w ps zs a r;
+        entries = plain_entries 0 ps zs;
         stream = plain_stream w ps zs a (plain_lengths w.table ps (root_list w) zs a r).1;
         earlier = s.earlier;
         here = s.here;
