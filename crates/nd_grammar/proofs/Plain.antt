@@ -19,7 +19,7 @@ use Rattle.nd_graph.specs.Setting.{Setting, root_list, root_at, Among, or_unread
 use Rattle.nd_graph.specs.Deferral.{Due, due_root, due_referent, Step, root_stands, Deferral, none_due, at_root, standing_root, Standing, due_of, due_roots, before_pipes, home_pointers, direct, standing_by, root_type, pointer_by, root_cell, AreFree}
 use Rattle.nd_graph.specs.Variables.{root_agreements}
 use Rattle.nd_grammar.specs.Entry.{Entry, Align, Num, end_to_end, end_of, gap, full_cells, size_at}
-use Rattle.nd_grammar.specs.Number.{value_of_octets}
+use Rattle.nd_types.specs.Number.{value_of_octets}
 use Rattle.nd_grammar.specs.Stream.{Stream, representation, step_entries, AllCut, root_tests, root_test, pipes_entries, standing_entries}
 use Rattle.nd_grammar.specs.InPlace.{before_children, in_place, whole_value, entries, hoisted}
 use Rattle.nd_types.proofs.LayoutLaws.{hoists_prim}

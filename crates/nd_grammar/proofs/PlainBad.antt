@@ -32,7 +32,7 @@ use Rattle.nd_grammar.specs.Entry.{Entry, Align, Num, EntryAt, end_to_end, gap, 
 use Rattle.nd_grammar.specs.Represents.{IsRendered}
 use Rattle.nd_grammar.specs.Refusal.{Accepts, refusal, refused_if}
 use Rattle.nd_grammar.specs.Bad.{Bad}
-use Rattle.nd_grammar.specs.Number.{value_of_octets}
+use Rattle.nd_types.specs.Number.{value_of_octets}
 use Rattle.nd_grammar.specs.Plain.{ArePlain, number, plain_graph, numbers_at, with}
 use Rattle.nd_graph.specs.Setting.{Among}
 use Rattle.nd_grammar.proofs.Ranges.{AreOctets, piece_in_range}

@@ -9,7 +9,7 @@ use Rattle.nd_base.specs.declared.octets.Order.TheVariants.{Big, Little}
 use Rattle.nd_types.specs.declared.types.Primitive.{Primitive}
 use Rattle.nd_types.specs.declared.types.Primitive.TheVariants.{Boolean, Char, Byte, Small, UnsignedSmall, Short, UnsignedShort, Long, UnsignedLong, Hyper, UnsignedHyper}
 use Rattle.nd_types.specs.Table.{width, in_range}
-use Rattle.nd_grammar.specs.Number.{unsigned, value_of_octets, as_signed, truth}
+use Rattle.nd_types.specs.Number.{unsigned, value_of_octets, as_signed, truth}
 
 -- octets are numbers from 0 to 255
 abbrev pub AreOctets : List ℕ → Type 0

@@ -9,7 +9,7 @@ use Rattle.nd_graph.specs.declared.value.Graph.{Graph}
 use Rattle.nd_graph.specs.Tree as tree
 use Rattle.nd_graph.specs.Tree.{Tree, node, none}
 use Rattle.nd_grammar.specs.Entry.{gap}
-use Rattle.nd_grammar.specs.Number.{value_of_octets}
+use Rattle.nd_types.specs.Number.{value_of_octets}
 
 -- the roots are of these primitives, and have no attributes
 abbrev pub ArePlain : Table → List Root → List Primitive → Type 0
