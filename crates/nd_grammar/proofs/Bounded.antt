@@ -1,15 +1,15 @@
 -- Where no array and no text is conformant, bounds fix the maximum counts.
 use Rattle.std.proofs.Common.{◌≡◌, ℕ, ◌+◌, zero, suc, ℤ, Bool, true, false, ◌&&◌, eqb, List, [], ◌∷◌, ◌++◌, length, Option, Some, None, refl, ap, sym, ◌∙◌, inl, inr, ◌⊎◌, subst}
 use Rattle.std.proofs.lemmas.Bool.{eqb-true}
-use Rattle.nd_types.specs.declared.TypeDef.{TypeDef}
-use Rattle.nd_types.specs.declared.TypeDef.TheVariants as def
+use Rattle.nd_types.specs.declared.types.TypeDef.{TypeDef}
+use Rattle.nd_types.specs.declared.types.TypeDef.TheVariants as def
 use Rattle.nd_types.specs.Table.{Table, type_at}
-use Rattle.nd_graph.specs.declared.Graph.{Graph}
+use Rattle.nd_graph.specs.declared.value.Graph.{Graph}
 use Rattle.nd_graph.specs.Tree as tree
 use Rattle.nd_graph.specs.Tree.{Tree, Trees, node, none, more, Label}
-use Rattle.nd_graph.specs.Deferral.{child_types}
+use Rattle.nd_graph.specs.Nodes.{child_types}
 use Rattle.nd_graph.specs.Agreement.{max_of}
-use Rattle.nd_graph.specs.Conforms.{has_shape, has_counts, is_bound}
+use Rattle.nd_graph.specs.Misfit.{has_shape, has_counts, is_bound}
 use Rattle.nd_grammar.proofs.Next.{Known, NodeKnown, Maxes, SameMax}
 
 abbrev pub is_conformant : Option TypeDef → Bool

@@ -5,21 +5,25 @@ use Rattle.std.proofs.lemmas.Bool.Decides.{Decides-int_eq}
 use Rattle.std.proofs.lemmas.Option.{same_Some}
 use Rattle.std.specs.Ordering.{int_eq}
 use Rattle.std.specs.List.{AllByRecursion}
-use Rattle.nd_base.specs.declared.Order.{Order}
-use Rattle.nd_types.specs.declared.Class.{Class}
-use Rattle.nd_types.specs.declared.Class.TheVariants.{Ref, Unique, Full}
-use Rattle.nd_graph.specs.declared.Graph.{Graph}
+use Rattle.nd_base.specs.declared.octets.Order.{Order}
+use Rattle.nd_types.specs.declared.types.Class.{Class}
+use Rattle.nd_types.specs.declared.types.Class.TheVariants.{Ref, Unique, Full}
+use Rattle.nd_graph.specs.declared.value.Graph.{Graph}
 use Rattle.nd_base.specs.declared.TheConstants.{STREAM_LIMIT}
 use Rattle.nd_graph.specs.Setting.{Setting, Among, root_list}
-use Rattle.nd_grammar.specs.Stream.{Stream, representation, AllCut, past}
+use Rattle.nd_grammar.specs.Stream.{Stream, representation, AllCut}
 use Rattle.nd_graph.specs.Deferral.{Due, due_root, due_referent, Step, root_stands, referent_stands, stands_already, Deferral, none_due, at_root, at_null, at_standing, at_referent, Pending, due_of, standing_root, standing_cell, IsStanding, IsStandingFull, AreFree, Standing_cells, root_cell, due_roots, before_pipes}
 use Rattle.nd_grammar.specs.Number.{unsigned, value_of_octets}
 use Rattle.nd_grammar.specs.Entry.{Kind, Entry, Align, Max, Offset, Actual, Chunk, Number, Num, Tag, Text, Context, Test, Unread, size_at, EntryAt, end_to_end, end_of, full_cells}
-use Rattle.nd_grammar.specs.Reading.{piece, Spells, IsNumber, IsRendered, id_octets, IsNumbering, Represents, Bad, Accepts, refusal}
-use Rattle.nd_grammar.specs.declared.Reason.{Reason}
+use Rattle.nd_grammar.specs.Represents.{piece, Spells, IsNumber, IsRendered, id_octets, IsNumbering, Represents}
+use Rattle.nd_grammar.specs.Bad.{Bad}
+use Rattle.nd_grammar.specs.Refusal.{Accepts, refusal}
+use Rattle.nd_grammar.specs.declared.reason.Reason.{Reason}
 use Rattle.nd_graph.specs.Canon.{canonical_number, named_cells}
 use Rattle.nd_grammar.specs.Chosen.{Chosen, octets_from, pipe_cuts}
-use Rattle.nd_graph.specs.Conforms.{IsPartial, MayMeet, AllEarlier, is_partial_node, has_machine_values, all_nodes, all_pointers}
+use Rattle.nd_graph.specs.Conforms.{IsPartial, MayMeet, AllEarlier}
+use Rattle.nd_graph.specs.Misfit.{is_partial_node, has_machine_values}
+use Rattle.nd_graph.specs.Homes.{all_nodes, all_pointers}
 use Rattle.std.specs.List.{list_all}
 
 abbrev is_full : Class → Bool
@@ -247,7 +251,7 @@ own_numbers cs e = record { in_range = numbers_are cs e; one_to_one = λ c d h k
 -- octets represent a graph, by tests; each cell's number is its own
 pub represents : (w : Setting) (order : Order) (octets : List ℕ) (g : Graph) (steps : List Step) (cuts : List (List ℕ)) (fuel : ℕ)
     → walk fuel w g [] (due_roots 0 (before_pipes (root_list w))) ≡ Some steps
-    → AllCut (past (before_pipes (root_list w)) g.roots) cuts
+    → AllCut (drop (before_pipes (root_list w)) g.roots) cuts
     → are_numbers (full_cells (representation w g steps cuts)) ≡ true
     → renders order (λ c. c) octets (end_to_end 0 (representation w g steps cuts)) ≡ true
     → end_of 0 (representation w g steps cuts) ≡ length octets
@@ -282,7 +286,7 @@ some_found (Some ts) e = refl
 -- the same with the turns that the walk finds
 pub represents_so : (w : Setting) (order : Order) (octets : List ℕ) (g : Graph) (cuts : List (List ℕ)) (fuel : ℕ)
     → is_some (walk fuel w g [] (due_roots 0 (before_pipes (root_list w)))) ≡ true
-    → AllCut (past (before_pipes (root_list w)) g.roots) cuts
+    → AllCut (drop (before_pipes (root_list w)) g.roots) cuts
     → are_numbers (full_cells (representation w g (turns_of fuel w g) cuts)) ≡ true
     → renders order (λ c. c) octets (end_to_end 0 (representation w g (turns_of fuel w g) cuts)) ≡ true
     → end_of 0 (representation w g (turns_of fuel w g) cuts) ≡ length octets
@@ -331,7 +335,7 @@ pub bad_so : (w : Setting) (order : Order) (octets : List ℕ) (place : ℕ) (wh
     (here : EntryAt) (later : List EntryAt)
     → IsPartial w g
     → is_some (walk fuel w g [] (due_roots 0 (before_pipes (root_list w)))) ≡ true
-    → AllCut (past (before_pipes (root_list w)) g.roots) cuts
+    → AllCut (drop (before_pipes (root_list w)) g.roots) cuts
     → are_numbers (full_cells (representation w g (turns_of fuel w g) cuts)) ≡ true
     → from n (end_to_end 0 (representation w g (turns_of fuel w g) cuts)) ≡ here ∷ later
     → renders order (λ c. c) octets (upto n (end_to_end 0 (representation w g (turns_of fuel w g) cuts))) ≡ true
@@ -393,14 +397,14 @@ unshared_are (p ∷ ps) e =
 
 -- a graph is a sketch, by tests
 pub sketch_so : (w : Setting) (g : Graph) → length g.roots ≡ length (root_list w)
-    → list_all (λ x. has_machine_values x.label) (all_nodes w g) ≡ true
-    → list_all (is_partial_node w.table g) (all_nodes w g) ≡ true → are_unshared (all_pointers w g) ≡ true → IsPartial w g
-sketch_so w g a v b c = record { all_roots = a; values = v; local = b; unshared = unshared_are _ c }
+    → list_all (λ x. has_machine_values x.typed.label) (all_nodes w g) ≡ true
+    → list_all (λ x. is_partial_node w.table g x.typed) (all_nodes w g) ≡ true → are_unshared (all_pointers w g) ≡ true → IsPartial w g
+sketch_so w g a v b c = record { all_roots = a; machine_values = v; local = b; unshared = unshared_are _ c }
 
 -- the octets that are written, by a test
 pub chosen_so : (w : Setting) (order : Order) (chunk : ℕ) (g : Graph) (octets : List ℕ) (fuel : ℕ)
     → is_some (walk fuel w g [] (due_roots 0 (before_pipes (root_list w)))) ≡ true
-    → octets ≡ octets_from order (canonical_number (named_cells w g (turns_of fuel w g))) 0 (representation w g (turns_of fuel w g) (pipe_cuts chunk (past (before_pipes (root_list w)) g.roots)))
+    → octets ≡ octets_from order (canonical_number (named_cells w g (turns_of fuel w g))) 0 (representation w g (turns_of fuel w g) (pipe_cuts chunk (drop (before_pipes (root_list w)) g.roots)))
     → Chosen w order chunk g octets
 chosen_so w order chunk g octets fuel walked e =
     record { steps = turns_of fuel w g; deferral = walk_gives fuel w g [] _ _ (some_found _ walked); written = e }

@@ -1,27 +1,28 @@
 -- The marks before a mark fix the next one, over whole values and turns.
 use Rattle.std.proofs.Common.{◌≡◌, ℕ, ◌+◌, ◌<◌, ◌≤◌, zero, suc, ℤ, Bool, true, false, List, [], ◌∷◌, ◌++◌, length, Option, Some, None, refl, ap, ap₂, sym, ◌∙◌, inl, inr, ◌⊎◌, arith, subst, replicate, append_assoc, take, drop}
 use Rattle.std.specs.Prelude.{pos, map, flat_map}
-use Rattle.nd_base.specs.declared.Order.{Order}
-use Rattle.nd_types.specs.declared.TypeDef.{TypeDef}
-use Rattle.nd_types.specs.declared.TypeId.{TypeId}
-use Rattle.nd_types.specs.declared.Attr.{Attr}
-use Rattle.nd_types.specs.declared.TypeDef.TheVariants as def
-use Rattle.nd_types.specs.declared.Class.{Class}
-use Rattle.nd_types.specs.declared.Class.TheVariants.{Ref, Unique, Full}
+use Rattle.nd_base.specs.declared.octets.Order.{Order}
+use Rattle.nd_types.specs.declared.types.TypeDef.{TypeDef}
+use Rattle.nd_types.specs.declared.types.TypeId.{TypeId}
+use Rattle.nd_types.specs.declared.types.Attr.{Attr}
+use Rattle.nd_types.specs.declared.types.TypeDef.TheVariants as def
+use Rattle.nd_types.specs.declared.types.Class.{Class}
+use Rattle.nd_types.specs.declared.types.Class.TheVariants.{Ref, Unique, Full}
 use Rattle.nd_types.specs.Table.{Table, type_at, width, selected}
 use Rattle.nd_types.specs.Layout.{hoists}
-use Rattle.nd_graph.specs.declared.Graph.{Graph}
-use Rattle.nd_graph.specs.declared.Home.{Home}
+use Rattle.nd_graph.specs.declared.value.Graph.{Graph}
+use Rattle.nd_graph.specs.declared.item.Home.{Home}
 use Rattle.nd_graph.specs.Tree as tree
 use Rattle.nd_graph.specs.Tree.{Tree, Trees, node, none, more, count, nodes, Label, Referent, is_pointer, cell_in}
 use Rattle.nd_graph.specs.Agreement.{Agreement, found_in}
 use Rattle.nd_graph.specs.Setting.{Setting, cell_home, cell_at, cell_of_number}
-use Rattle.nd_graph.specs.Deferral.{child_types, child_agreements, first_agreements, rest_agreements, nodes_of, TypedNode, Pending, pointer, home_nodes, home_pointers, Due, due_root, due_referent, Step, root_stands, referent_stands, stands_already, Deferral, none_due, at_root, at_null, at_standing, at_referent, due_of, standing_root, standing_cell, root_cell, Standing_cells, IsStanding, IsStandingFull}
+use Rattle.nd_graph.specs.Nodes.{child_types, child_agreements, first_agreements, rest_agreements, nodes_of, TypedNode, home_nodes}
+use Rattle.nd_graph.specs.Deferral.{Pending, pointer, home_pointers, Due, due_root, due_referent, Step, root_stands, referent_stands, stands_already, Deferral, none_due, at_root, at_null, at_standing, at_referent, due_of, standing_root, standing_cell, root_cell, Standing_cells, IsStanding, IsStandingFull}
 use Rattle.nd_graph.proofs.DeferralLaws.{full_laid}
 use Rattle.nd_grammar.specs.Entry.{Kind, Entry, Align, Max, Offset, Actual, Chunk, Number, Num, Tag, Text, Context, Test, Unread, size_at, EntryAt, end_to_end, end_of}
 use Rattle.nd_grammar.specs.InPlace.{before_children, entries, in_place, tests, child_tests, hoisted, hoisted_max, whole_value}
 use Rattle.nd_grammar.specs.Stream.{step_entries, standing_entries, step_tests}
-use Rattle.nd_grammar.specs.Reading.{IsRendered, id_octets}
+use Rattle.nd_grammar.specs.Represents.{IsRendered, id_octets}
 use Rattle.std.proofs.lemmas.Option.{same_Some}
 use Rattle.nd_graph.specs.Deferral.{Standing}
 use Rattle.nd_graph.specs.Setting.{cell_tree}

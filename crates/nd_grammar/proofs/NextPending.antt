@@ -3,18 +3,19 @@ use Rattle.std.proofs.Common.{◌≡◌, ℕ, ◌+◌, ◌<◌, ◌≤◌, zero,
 use Rattle.std.proofs.lemmas.Grind.{flat_map-append}
 use Rattle.std.proofs.lemmas.Option.{same_Some}
 use Rattle.std.specs.Prelude.{pos, map, flat_map}
-use Rattle.nd_types.specs.declared.TypeDef.{TypeDef}
-use Rattle.nd_types.specs.declared.TypeDef.TheVariants as def
-use Rattle.nd_types.specs.declared.Class.{Class}
-use Rattle.nd_types.specs.declared.Class.TheVariants.{Ref, Unique, Full}
+use Rattle.nd_types.specs.declared.types.TypeDef.{TypeDef}
+use Rattle.nd_types.specs.declared.types.TypeDef.TheVariants as def
+use Rattle.nd_types.specs.declared.types.Class.{Class}
+use Rattle.nd_types.specs.declared.types.Class.TheVariants.{Ref, Unique, Full}
 use Rattle.nd_types.specs.Table.{Table, type_at}
-use Rattle.nd_graph.specs.declared.Graph.{Graph}
-use Rattle.nd_graph.specs.declared.Home.{Home}
+use Rattle.nd_graph.specs.declared.value.Graph.{Graph}
+use Rattle.nd_graph.specs.declared.item.Home.{Home}
 use Rattle.nd_graph.specs.Tree as tree
 use Rattle.nd_graph.specs.Tree.{Tree, Trees, node, none, more, count, nodes, Label, Referent, is_pointer, cell_in}
 use Rattle.nd_graph.specs.Agreement.{Agreement}
 use Rattle.nd_graph.specs.Setting.{cell_of_number}
-use Rattle.nd_graph.specs.Deferral.{child_types, child_agreements, first_agreements, rest_agreements, nodes_of, TypedNode, Pending, pointer, pointer_by, Due, due_root, due_referent}
+use Rattle.nd_graph.specs.Nodes.{child_types, child_agreements, first_agreements, rest_agreements, nodes_of, TypedNode}
+use Rattle.nd_graph.specs.Deferral.{Pending, pointer, pointer_by, Due, due_root, due_referent}
 use Rattle.nd_grammar.proofs.Next.{bare, class_of, CellsMatch, Match, Matched, NodeKnown, PointeeKnown, Known, matched_nodes, matched_count, matched_number, child_wants_same, through, pointer_bare}
 
 module _ (nums nums' : ℕ → ℕ) (g g' : Graph) where

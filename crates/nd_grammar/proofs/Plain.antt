@@ -5,25 +5,25 @@ use Rattle.std.proofs.lemmas.Option.{same_Some}
 use Rattle.std.proofs.lemmas.List.{append-nil}
 use Rattle.std.specs.Prelude.{map, flat_map}
 use Rattle.std.specs.List.{slice_get, AllByRecursion}
-use Rattle.nd_base.specs.declared.Order.{Order}
+use Rattle.nd_base.specs.declared.octets.Order.{Order}
 use Rattle.nd_base.specs.declared.TheConstants.{STREAM_LIMIT}
-use Rattle.nd_types.specs.declared.Primitive.{Primitive}
-use Rattle.nd_types.specs.declared.TypeDef.TheVariants as def
+use Rattle.nd_types.specs.declared.types.Primitive.{Primitive}
+use Rattle.nd_types.specs.declared.types.TypeDef.TheVariants as def
 use Rattle.nd_types.specs.Table.{Table, type_at, width}
 use Rattle.nd_types.specs.Roots.{Root}
-use Rattle.nd_graph.specs.declared.Graph.{Graph}
-use Rattle.nd_graph.specs.declared.Home.TheVariants as home
+use Rattle.nd_graph.specs.declared.value.Graph.{Graph}
+use Rattle.nd_graph.specs.declared.item.Home.TheVariants as home
 use Rattle.nd_graph.specs.Tree as tree
 use Rattle.nd_graph.specs.Tree.{Tree, Trees, node, none, more}
 use Rattle.nd_graph.specs.Setting.{Setting, root_list, root_at, Among, or_unread}
 use Rattle.nd_graph.specs.Deferral.{Due, due_root, due_referent, Step, root_stands, Deferral, none_due, at_root, standing_root, Standing, due_of, due_roots, before_pipes, home_pointers, direct, standing_by, root_type, pointer_by, root_cell, AreFree}
-use Rattle.nd_graph.specs.Conforms.{root_agreements}
+use Rattle.nd_graph.specs.Variables.{root_agreements}
 use Rattle.nd_grammar.specs.Entry.{Entry, Align, Num, end_to_end, end_of, gap, full_cells, size_at}
 use Rattle.nd_grammar.specs.Number.{value_of_octets}
-use Rattle.nd_grammar.specs.Stream.{Stream, representation, step_entries, past, AllCut, root_tests, root_test, pipes_entries, standing_entries}
+use Rattle.nd_grammar.specs.Stream.{Stream, representation, step_entries, AllCut, root_tests, root_test, pipes_entries, standing_entries}
 use Rattle.nd_grammar.specs.InPlace.{before_children, in_place, whole_value, entries, hoisted}
 use Rattle.nd_types.proofs.LayoutLaws.{hoists_prim}
-use Rattle.nd_grammar.specs.Reading.{IsRendered, Represents, IsNumbering}
+use Rattle.nd_grammar.specs.Represents.{IsRendered, Represents, IsNumbering}
 use Rattle.nd_grammar.specs.Plain.{ArePlain, number, plain_graph, numbers_at, with}
 
 -- the marks of plain numbers, from the i-th root on
@@ -115,7 +115,7 @@ plain_length table [] (r ∷ rs) a = absurd a
 plain_length table (p ∷ ps) [] a = absurd a
 plain_length table (p ∷ ps) (r ∷ rs) a = ap suc (plain_length table ps rs a.3)
 
-past_all : {X : Type 0} (xs : List X) → past (length xs) xs ≡ []
+past_all : {X : Type 0} (xs : List X) → drop (length xs) xs ≡ []
 past_all [] = refl
 past_all (x ∷ xs) = past_all xs
 
@@ -133,8 +133,8 @@ plain_stream w ps zs a l =
     let g : Graph = plain_graph zs in
     let n : before_pipes (root_list w) ≡ length ps = plain_all w.table ps (root_list w) a in
     let t = plain_turns w g ps zs (root_list w) 0 a l (suffix_whole (root_list w)) (suffix_whole (map number zs)) in
-    let gone : past (before_pipes (root_list w)) g.roots ≡ [] =
-    ap (λ k. past k g.roots) (n ∙ sym l ∙ sym (map_length zs)) ∙ past_all (map number zs) in
+    let gone : drop (before_pipes (root_list w)) g.roots ≡ [] =
+    ap (λ k. drop k g.roots) (n ∙ sym l ∙ sym (map_length zs)) ∙ past_all (map number zs) in
     record {
       steps = lay_roots 0 (length ps);
       cuts = [];
@@ -143,8 +143,8 @@ plain_stream w ps zs a l =
       is_representation = sym
           (ap₂ (λ x y. x ++ y)
           (ap₂ (λ x y. x ++ y) t.1 (no_tests w g ps (root_list w) zs 0 a))
-          (no_pipes w.table (before_pipes (root_list w)) (past (before_pipes (root_list w)) (root_list w)) (past (before_pipes (root_list w)) g.roots)
-          (ap (λ k. past k (root_list w)) (n ∙ sym (plain_length w.table ps (root_list w) a)) ∙ past_all (root_list w)))
+          (no_pipes w.table (before_pipes (root_list w)) (drop (before_pipes (root_list w)) (root_list w)) (drop (before_pipes (root_list w)) g.roots)
+          (ap (λ k. drop k (root_list w)) (n ∙ sym (plain_length w.table ps (root_list w) a)) ∙ past_all (root_list w)))
           ∙ append-nil _ ∙ append-nil _);
     }
 

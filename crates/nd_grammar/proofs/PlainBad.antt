@@ -6,25 +6,32 @@ use Rattle.std.proofs.lemmas.Option.{same_Some}
 use Rattle.std.proofs.lemmas.List.{append-nil}
 use Rattle.std.specs.Prelude.{map, flat_map}
 use Rattle.std.specs.List.{slice_get, AllByRecursion, list_all}
-use Rattle.nd_base.specs.declared.Order.{Order}
+use Rattle.nd_base.specs.declared.octets.Order.{Order}
 use Rattle.nd_base.specs.declared.TheConstants.{STREAM_LIMIT}
-use Rattle.nd_types.specs.declared.Primitive.{Primitive}
-use Rattle.nd_types.specs.declared.TypeDef.{TypeDef}
-use Rattle.nd_types.specs.declared.TypeDef.TheVariants as def
+use Rattle.nd_types.specs.declared.types.Primitive.{Primitive}
+use Rattle.nd_types.specs.declared.types.TypeDef.{TypeDef}
+use Rattle.nd_types.specs.declared.types.TypeDef.TheVariants as def
 use Rattle.nd_types.specs.Table.{Table, type_at, width, in_range, fits_octets}
 use Rattle.nd_types.specs.Roots.{Root}
-use Rattle.nd_graph.specs.declared.Graph.{Graph}
-use Rattle.nd_graph.specs.declared.Home.TheVariants as home
+use Rattle.nd_graph.specs.declared.value.Graph.{Graph}
+use Rattle.nd_graph.specs.declared.item.Home.TheVariants as home
 use Rattle.nd_graph.specs.Tree as tree
 use Rattle.nd_graph.specs.Tree.{Tree, Trees, node, none, more}
 use Rattle.nd_graph.specs.Setting.{Setting, root_list}
-use Rattle.nd_graph.specs.Deferral.{TypedNode, home_nodes, pointer_by}
-use Rattle.nd_graph.specs.Conforms.{IsPartial, is_partial_node, has_machine_values, all_nodes, all_pointers, root_nodes, root_pointers, AllEarlier, MayMeet}
-use Rattle.nd_types.specs.declared.Primitive.TheVariants.{Boolean, Char, Byte, Small, UnsignedSmall, Short, UnsignedShort, Long, UnsignedLong, Hyper, UnsignedHyper}
+use Rattle.nd_graph.specs.Nodes.{TypedNode, home_nodes}
+use Rattle.nd_graph.specs.Deferral.{pointer_by}
+use Rattle.nd_graph.specs.Conforms.{IsPartial, AllEarlier, MayMeet}
+use Rattle.nd_graph.specs.Misfit.{is_partial_node, has_machine_values}
+use Rattle.nd_graph.specs.Agreement.{Agreement}
+use Rattle.nd_graph.specs.Variables.{root_agreements}
+use Rattle.nd_graph.specs.Homes.{HomeNode, all_nodes, all_pointers, root_nodes, root_pointers}
+use Rattle.nd_types.specs.declared.types.Primitive.TheVariants.{Boolean, Char, Byte, Small, UnsignedSmall, Short, UnsignedShort, Long, UnsignedLong, Hyper, UnsignedHyper}
 use Rattle.std.specs.Prelude.{pos}
-use Rattle.nd_grammar.specs.declared.Reason.TheVariants.{Truncated, TooLong}
+use Rattle.nd_grammar.specs.declared.reason.Reason.TheVariants.{Truncated, TooLong}
 use Rattle.nd_grammar.specs.Entry.{Entry, Align, Num, EntryAt, end_to_end, gap, full_cells}
-use Rattle.nd_grammar.specs.Reading.{IsRendered, Accepts, refusal, refused_if, Bad}
+use Rattle.nd_grammar.specs.Represents.{IsRendered}
+use Rattle.nd_grammar.specs.Refusal.{Accepts, refusal, refused_if}
+use Rattle.nd_grammar.specs.Bad.{Bad}
 use Rattle.nd_grammar.specs.Number.{value_of_octets}
 use Rattle.nd_grammar.specs.Plain.{ArePlain, number, plain_graph, numbers_at, with}
 use Rattle.nd_graph.specs.Setting.{Among}
@@ -38,25 +45,26 @@ AreInRange [] [] = Unit {0}
 AreInRange _ _ = ⊥
 
 module _ (w : Setting) (g : Graph) where
-  one_node : (r : Root) (p : Primitive) (z : ℤ) → type_at w.table r.of ≡ Some (def.Prim p) → in_range p z ≡ true
-      → is_partial_node w.table g (record { node = 0; of = r.of; agreements = []; label = tree.Num z; kids = none }) ≡ true
-  one_node r p z e h = rw (e, h) refl
+  one_node : (r : Root) (agreements : List Agreement) (p : Primitive) (z : ℤ) → type_at w.table r.of ≡ Some (def.Prim p) → in_range p z ≡ true
+      → is_partial_node w.table g (record { node = 0; of = r.of; agreements = agreements; label = tree.Num z; kids = none }) ≡ true
+  one_node r agreements p z e h = rw (e, h) refl
 
-  sketched : (ps : List Primitive) (rs : List Root) (zs : List ℤ) → ArePlain w.table rs ps → AreInRange ps zs
-      → list_all (is_partial_node w.table g) (root_nodes w.table rs (map number zs)) ≡ true
-  sketched [] [] [] a b = refl
-  sketched [] [] (z ∷ zs) a b = refl
-  sketched [] (r ∷ rs) zs a b = absurd a
-  sketched (p ∷ ps) [] zs a b = absurd a
-  sketched (p ∷ ps) (r ∷ rs) [] a b = absurd b
-  sketched (p ∷ ps) (r ∷ rs) (z ∷ zs) a b =
-      ap₂ (λ x y. x && y) (one_node r p z a.2 b.0) (sketched ps rs zs a.3 b.1)
+  well_formed : (ps : List Primitive) (rs : List Root) (zs : List ℤ) (i : ℕ) → ArePlain w.table rs ps → AreInRange ps zs
+      → list_all (λ (x : HomeNode). is_partial_node w.table g x.typed) (root_nodes w g i rs (map number zs)) ≡ true
+  well_formed [] [] [] i a b = refl
+  well_formed [] [] (z ∷ zs) i a b = refl
+  well_formed [] (r ∷ rs) zs i a b = absurd a
+  well_formed (p ∷ ps) [] zs i a b = absurd a
+  well_formed (p ∷ ps) (r ∷ rs) [] i a b = absurd b
+  well_formed (p ∷ ps) (r ∷ rs) (z ∷ zs) i a b =
+      ap₂ (λ x y. x && y) (one_node r (root_agreements w g r.vars) p z a.2 b.0) (well_formed ps rs zs (i + 1) a.3 b.1)
 
-  valued : (rs : List Root) (zs : List ℤ) → list_all (λ (x : TypedNode). has_machine_values x.label) (root_nodes w.table rs (map number zs)) ≡ true
-  valued [] [] = refl
-  valued [] (z ∷ zs) = refl
-  valued (r ∷ rs) [] = refl
-  valued (r ∷ rs) (z ∷ zs) = valued rs zs
+  valued : (rs : List Root) (zs : List ℤ) (i : ℕ)
+      → list_all (λ (x : HomeNode). has_machine_values x.typed.label) (root_nodes w g i rs (map number zs)) ≡ true
+  valued [] [] i = refl
+  valued [] (z ∷ zs) i = refl
+  valued (r ∷ rs) [] i = refl
+  valued (r ∷ rs) (z ∷ zs) i = valued rs zs (i + 1)
 
   unpointed : (ps : List Primitive) (rs : List Root) (zs : List ℤ) (i : ℕ) → ArePlain w.table rs ps → root_pointers w.table i rs (map number zs) ≡ []
   unpointed ps [] [] i a = refl
@@ -83,8 +91,12 @@ plain_sketch w ps zs a b =
     let g : Graph = plain_graph zs in
     record {
       all_roots = (plain_lengths w.table ps (root_list w) zs a b).0;
-      values = ap (λ xs. list_all (λ (x : TypedNode). has_machine_values x.label) xs) (append-nil (root_nodes w.table (root_list w) (map number zs))) ∙ valued w g (root_list w) zs;
-      local = ap (λ xs. list_all (is_partial_node w.table g) xs) (append-nil (root_nodes w.table (root_list w) (map number zs))) ∙ sketched w g ps (root_list w) zs a b;
+      machine_values =
+          ap (λ xs. list_all (λ (x : HomeNode). has_machine_values x.typed.label) xs) (append-nil (root_nodes w g 0 (root_list w) (map number zs)))
+          ∙ valued w g (root_list w) zs 0;
+      local =
+          ap (λ xs. list_all (λ (x : HomeNode). is_partial_node w.table g x.typed) xs) (append-nil (root_nodes w g 0 (root_list w) (map number zs)))
+          ∙ well_formed w g ps (root_list w) zs 0 a b;
       unshared = subst (λ xs. AllEarlier MayMeet xs) (sym (append-nil (root_pointers w.table 0 (root_list w) (map number zs)) ∙ unpointed w g ps (root_list w) zs 0 a)) tt;
     }
 

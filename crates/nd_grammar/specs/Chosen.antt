@@ -1,21 +1,21 @@
 -- The one stream that is written.
-use Rattle.std.specs.Prelude.{◌≡◌, ℕ, ◌+◌, ◌-◌, ◌<◌, ◌≤◌, suc, zero, Bool, true, false, cond, eqb, ltb, List, [], ◌∷◌, ◌++◌, length, replicate, Option, Some, None}
-use Rattle.nd_base.specs.declared.Order.{Order}
-use Rattle.nd_graph.specs.declared.Graph.{Graph}
+use Rattle.std.specs.Prelude.{drop, ◌≡◌, ℕ, ◌+◌, ◌-◌, ◌<◌, ◌≤◌, suc, zero, Bool, true, false, cond, eqb, ltb, List, [], ◌∷◌, ◌++◌, length, replicate, Option, Some, None}
+use Rattle.nd_base.specs.declared.octets.Order.{Order}
+use Rattle.nd_graph.specs.declared.value.Graph.{Graph}
 use Rattle.nd_graph.specs.Setting.{Setting, root_list}
 use Rattle.nd_graph.specs.Tree.{Tree, count}
 use Rattle.nd_graph.specs.Deferral.{Step, Deferral, due_roots, before_pipes}
 use Rattle.nd_graph.specs.Canon.{canonical_number, named_cells}
-use Rattle.nd_grammar.specs.Stream.{representation, past, kids_of}
+use Rattle.nd_grammar.specs.Stream.{representation, kids_of}
 use Rattle.nd_grammar.specs.Number.{spelling, written}
 use Rattle.nd_grammar.specs.Entry.{Kind, Entry, Align, Max, Offset, Actual, Chunk, Number, Num, Tag, Text, Context, Test, Unread, size_at, gap}
-use Rattle.nd_grammar.specs.Reading.{id_octets}
+use Rattle.nd_grammar.specs.Represents.{id_octets}
 
 abbrev number_of_cell : (ℕ → ℕ) → Option ℕ → ℕ
 number_of_cell numbering None = 0
 number_of_cell numbering (Some c) = numbering c
 
--- the octets that are written for a mark at a place
+-- the octets that are written for an entry at a place
 abbrev pub octets_of : Order → (ℕ → ℕ) → ℕ → Kind → List ℕ
 octets_of order numbering at (Align n) = replicate (gap at n) 0
 octets_of order numbering at (Max v) = spelling order 4 v
@@ -30,7 +30,7 @@ octets_of order numbering at (Context attributes id) = spelling order 4 attribut
 octets_of order numbering at (Test attr wanted found) = []
 octets_of order numbering at Unread = []
 
--- the octets of marks from a place on
+-- the octets of entries from a place on
 abbrev pub octets_from : Order → (ℕ → ℕ) → ℕ → List Entry → List ℕ
 octets_from order numbering at [] = []
 octets_from order numbering at (m ∷ ms) =
@@ -56,4 +56,4 @@ pub record Chosen (w : Setting) (order : Order) (chunk : ℕ) (g : Graph) (octet
   pub steps : List Step
   pub deferral : Deferral w g [] (due_roots 0 (before_pipes (root_list w))) steps
   pub written : octets
-      ≡ octets_from order (canonical_number (named_cells w g steps)) 0 (representation w g steps (pipe_cuts chunk (past (before_pipes (root_list w)) g.roots)))
+      ≡ octets_from order (canonical_number (named_cells w g steps)) 0 (representation w g steps (pipe_cuts chunk (drop (before_pipes (root_list w)) g.roots)))

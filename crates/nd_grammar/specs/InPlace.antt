@@ -1,29 +1,32 @@
--- The marks of a value in its place.
+-- The entries of a value in its place (C706 14.3.3 to 14.3.11), and of a value as a whole.
 use Rattle.std.specs.Prelude.{ℕ, ◌+◌, suc, zero, ℤ, Bool, true, false, List, [], ◌∷◌, ◌++◌, length, map, Option, Some, None}
-use Rattle.nd_types.specs.declared.TypeDef.{TypeDef}
-use Rattle.nd_types.specs.declared.Arm.{Arm}
-use Rattle.nd_types.specs.declared.TypeDef.TheVariants as def
-use Rattle.nd_types.specs.declared.Primitive.{Primitive}
-use Rattle.nd_types.specs.declared.Primitive.TheVariants.{Short}
+use Rattle.nd_types.specs.declared.types.TypeDef.{TypeDef}
+use Rattle.nd_types.specs.declared.types.Arm.{Arm}
+use Rattle.nd_types.specs.declared.types.TypeDef.TheVariants as def
+use Rattle.nd_types.specs.declared.types.Primitive.{Primitive}
+use Rattle.nd_types.specs.declared.types.Primitive.TheVariants.{Short}
 use Rattle.nd_types.specs.Table.{Table, type_at, width}
 use Rattle.nd_types.specs.Layout.{align_of, hoists}
-use Rattle.nd_graph.specs.declared.Home.{Home}
+use Rattle.nd_graph.specs.declared.item.Home.{Home}
 use Rattle.nd_graph.specs.Tree as tree
 use Rattle.nd_graph.specs.Tree.{Tree, Trees, node, none, more, count, nodes, Label, is_pointer}
 use Rattle.nd_graph.specs.Agreement.{Agreement, found_in, actual, max_of}
-use Rattle.nd_graph.specs.Deferral.{child_types, child_agreements, first_agreements, rest_agreements}
+use Rattle.nd_graph.specs.Nodes.{child_types, child_agreements, first_agreements, rest_agreements}
 use Rattle.nd_grammar.specs.Entry.{Kind, Entry, Align, Max, Offset, Actual, Number, Num, Tag, Text, Context, Test, Unread}
 
+-- a varying array begins with its offset and its actual count
 abbrev pub counts : Bool → ℕ → ℕ → ℕ → List Kind
 counts false max offset n = []
 counts true max offset n = Align 4 ∷ Offset false offset ∷ Actual false offset max n ∷ []
 
+-- a union begins with its tag, aligned as the tag's type
 abbrev pub tag_entries : Option TypeDef → List Arm → Option Arm → ℤ → List Kind
 tag_entries (Some (def.Prim p)) arms default v = Align (width p) ∷ Tag p None arms default v ∷ []
 tag_entries (Some (def.Enum values)) arms default v = Align 2 ∷ Tag Short (Some values) arms default v ∷ []
 tag_entries _ arms default v = Unread ∷ []
 
--- what stands before the children of a node of a type. What has not its type's shape has no marks but a hole.
+-- What stands of a node before its children, by its type: gaps, counts, numbers. A node that has not the form of its type stands
+-- as one that is not read.
 abbrev pub before_children : Table → ℕ → Option TypeDef → Label → Trees → List Kind
 before_children table t (Some (def.Prim p)) (tree.Num z) ks = Align (width p) ∷ Num p None z ∷ []
 before_children table t (Some (def.Enum values)) (tree.Num z) ks = Align 2 ∷ Num Short (Some values) z ∷ []
@@ -36,26 +39,29 @@ before_children table t (Some (def.Pointer class to)) (tree.Ptr c) ks = Align 4 
 before_children table t (Some def.Context) (tree.Context attributes id) ks = Align 4 ∷ Context attributes id ∷ []
 before_children table t _ _ ks = Unread ∷ []
 
+-- these kinds as entries of a node
 abbrev pub entries : Home → ℕ → List Kind → List Entry
 entries h n [] = []
 entries h n (x ∷ xs) = record { home = h; node = n; kind = x } ∷ entries h n xs
 
--- the tests of a subject
+-- the agreements of a subject
 abbrev pub tests : Home → ℕ → Tree → List Agreement → List Entry
 tests h n t [] = []
 tests h n t (a ∷ rest) = record { home = h; node = n; kind = Test a.attr a.wanted (found_in a.attr t) } ∷ tests h n t rest
 
+-- a pointer's agreements are tried where its referent stands, all others here
 abbrev pub own_tests : Bool → Home → ℕ → Tree → List Agreement → List Entry
 own_tests true h n t agreements = []
 own_tests false h n t agreements = tests h n t agreements
 
--- the tests of the children that are no pointers: those wait for their turns
+-- the agreements of the children that are no pointers, in their order
 abbrev pub child_tests : Home → List (List Agreement) → ℕ → Trees → List Entry
 child_tests h agreements n none = []
 child_tests h agreements n (more (node l ks) ts) =
     own_tests (is_pointer l) h n (node l ks) (first_agreements agreements) ++ child_tests h (rest_agreements agreements) (n + 1 + nodes ks) ts
 
--- the marks of trees of these types, from node n on
+-- Values of these types, from node n on: what stands before the children, the children, the agreements of the children, the next
+-- value.
 abbrev pub in_place : Table → Home → List ℕ → ℕ → Trees → List Entry
 in_place table h types n none = []
 in_place table h [] n (more t ts) = []
@@ -65,6 +71,7 @@ in_place table h (t ∷ types) n (more (node l ks) ts) =
     ++ (child_tests h (child_agreements (type_at table t) ks) (n + 1) ks
     ++ in_place table h types (n + 1 + nodes ks) ts))
 
+-- an array or text has a maximum count of its own; of others that of what ends them counts
 abbrev pub own_max : Label → ℕ → ℕ
 own_max (tree.Arr max offset) inner = max
 own_max (tree.Text max octets) inner = max
@@ -75,12 +82,13 @@ abbrev pub hoisted_max : ℕ → Trees → ℕ
 hoisted_max m none = m
 hoisted_max m (more (node l ks) ts) = hoisted_max (own_max l (hoisted_max 0 ks)) ts
 
+-- a maximum count stands before the whole value, aligned as itself
 abbrev pub hoisted : Bool → Label → ℕ → List Kind
 hoisted true tree.Unread m = []
 hoisted true l m = Align 4 ∷ Max m ∷ []
 hoisted false l m = []
 
--- the marks of a whole value: where its type hoists, its maximum count first
+-- a value as a whole: its hoisted maximum count where its type has one (before the outermost struct and its gap), then its entries
 abbrev pub whole_value : Table → Home → ℕ → Tree → List Entry
 whole_value table h t (node l ks) =
     entries h 0 (hoisted (hoists table t) l (hoisted_max 0 (more (node l ks) none)))

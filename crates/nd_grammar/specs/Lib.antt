@@ -2,7 +2,10 @@ pub mod Number
 pub mod Entry
 pub mod InPlace
 pub mod Stream
-pub mod Reading
+pub mod Represents
+pub mod Refusal
+pub mod Bad
+pub mod Items
 pub mod Chosen
-pub mod Examples
 pub mod Plain
+pub mod Examples

@@ -1,35 +1,37 @@
--- The streams of a graph.
-use Rattle.std.specs.Prelude.{◌≡◌, ℕ, ◌+◌, ◌<◌, suc, zero, Bool, true, false, List, [], ◌∷◌, ◌++◌, length, map, flat_map, replicate, sum, Option, Some, None}
+-- The streams of a graph: its roots, then its pipes (C706 14.3: the order of parameters and of deferral).
+use Rattle.std.specs.Prelude.{drop, ◌≡◌, ℕ, ◌+◌, ◌<◌, suc, zero, Bool, true, false, List, [], ◌∷◌, ◌++◌, length, map, flat_map, replicate, sum, Option, Some, None}
 use Rattle.std.specs.List.{slice_get, AllByRecursion}
-use Rattle.nd_types.specs.declared.TypeDef.{TypeDef}
-use Rattle.nd_types.specs.declared.TypeDef.TheVariants as def
+use Rattle.nd_types.specs.declared.types.TypeDef.{TypeDef}
+use Rattle.nd_types.specs.declared.types.TypeDef.TheVariants as def
 use Rattle.nd_types.specs.Table.{Table, type_at}
 use Rattle.nd_types.specs.Roots.{Root}
-use Rattle.nd_graph.specs.declared.Graph.{Graph}
-use Rattle.nd_graph.specs.declared.Home.{Home}
-use Rattle.nd_graph.specs.declared.Home.TheVariants as home
+use Rattle.nd_graph.specs.declared.value.Graph.{Graph}
+use Rattle.nd_graph.specs.declared.item.Home.{Home}
+use Rattle.nd_graph.specs.declared.item.Home.TheVariants as home
 use Rattle.nd_graph.specs.Tree as tree
 use Rattle.nd_graph.specs.Tree.{Tree, Trees, node, none, more, count, nodes, take_trees, drop_trees}
 use Rattle.nd_graph.specs.Agreement.{Agreement}
 use Rattle.nd_graph.specs.Setting.{Setting, root_list, root_at, cell_at, cell_home}
 use Rattle.nd_graph.specs.Deferral.{Due, due_root, Step, root_stands, referent_stands, stands_already, Deferral, Standing, standing_root, standing_cell, Pending, due_roots, before_pipes}
-use Rattle.nd_graph.specs.Conforms.{root_agreements}
+use Rattle.nd_graph.specs.Variables.{root_agreements}
 use Rattle.nd_grammar.specs.Entry.{Kind, Entry, Align, Chunk, Unread}
 use Rattle.nd_grammar.specs.InPlace.{entries, tests, in_place, whole_value}
 
+-- a value that stands as a whole
 abbrev pub standing_entries : Table → Standing → List Entry
 standing_entries table x = whole_value table x.home x.of x.val
 
--- the tests of a pointer's member, in the pointer's cell
+-- the agreements of a pointer's member, tried in the cell that it names
 abbrev pub step_tests : Graph → Pending → ℕ → List Entry
 step_tests g p c = tests (cell_home c) 0 (cell_at g c) p.agreements
 
+-- what a step of deferral adds: a root, a referent with its agreements, or the agreements alone
 abbrev pub step_entries : Setting → Graph → Step → List Entry
 step_entries w g (root_stands i) = standing_entries w.table (standing_root w g i)
 step_entries w g (referent_stands p c) = standing_entries w.table (standing_cell g p c) ++ step_tests g p c
 step_entries w g (stands_already p c) = step_tests g p c
 
--- the tests of the parameters: of a pointer's in its cell, and of a null pointer's none
+-- the agreements of a parameter: a pointer's in its cell, a null pointer has none
 abbrev pub root_test : Graph → ℕ → Tree → List Agreement → List Entry
 root_test g i (node (tree.Ptr None) ks) agreements = []
 root_test g i (node (tree.Ptr (Some c)) ks) agreements = tests (cell_home c) 0 (cell_at g c) agreements
@@ -39,18 +41,21 @@ abbrev pub root_tests : Setting → Graph → ℕ → List Root → List Tree �
 root_tests w g i (r ∷ rs) (v ∷ vs) = root_test g i v (root_agreements w g r.vars) ++ root_tests w g (i + 1) rs vs
 root_tests w g i _ _ = []
 
+-- one chunk of a pipe: its count, and that many elements from node n on
+abbrev pub chunk_entries : Table → Home → ℕ → ℕ → ℕ → Trees → List Entry
+chunk_entries table h t n k ts = entries h 0 (Align 4 ∷ Chunk k ∷ []) ++ in_place table h (replicate k t) n ts
+
 -- the elements of a pipe from node n on, in chunks of these counts, and the last count, 0
 abbrev pub chunks : Table → Home → ℕ → ℕ → List ℕ → Trees → List Entry
 chunks table h t n [] ts = entries h 0 (Align 4 ∷ Chunk 0 ∷ [])
 chunks table h t n (k ∷ cut) ts =
-    entries h 0 (Align 4 ∷ Chunk k ∷ [])
-    ++ in_place table h (replicate k t) n (take_trees k ts)
-    ++ chunks table h t (n + nodes (take_trees k ts)) cut (drop_trees k ts)
+    chunk_entries table h t n k (take_trees k ts) ++ chunks table h t (n + nodes (take_trees k ts)) cut (drop_trees k ts)
 
 -- counts of chunks, none of them empty, that take up n elements
 abbrev pub Cuts : ℕ → List ℕ → Type 0
 Cuts n cut = (sum cut ≡ n) × AllByRecursion (λ k. 0 < k) cut
 
+-- a pipe, cut into chunks
 abbrev pipe_entries : Table → Home → Option TypeDef → List ℕ → Tree → List Entry
 pipe_entries table h (Some (def.Pipe elem)) cut (node tree.Pipe ks) = chunks table h elem.0 1 cut ks
 pipe_entries table h _ cut t = entries h 0 (Unread ∷ [])
@@ -63,28 +68,26 @@ pipes_entries table i _ _ _ = []
 abbrev pub kids_of : Tree → Trees
 kids_of (node l ks) = ks
 
+-- each pipe is cut
 abbrev pub AllCut : List Tree → List (List ℕ) → Type 0
 AllCut [] [] = Unit {0}
 AllCut (v ∷ vs) (cut ∷ cuts) = Cuts (count (kids_of v)) cut × AllCut vs cuts
 AllCut _ _ = ⊥
 
-abbrev pub past : {X : Type 0} → ℕ → List X → List X
-past zero xs = xs
-past (suc n) [] = []
-past (suc n) (x ∷ xs) = past n xs
+-- what stands before the pipes, by these steps of deferral: the roots and referents, and the agreements of the parameters
+abbrev pub head_entries : Setting → Graph → List Step → List Entry
+head_entries w g steps = flat_map (step_entries w g) steps ++ root_tests w g 0 (root_list w) g.roots
 
--- the marks by these turns, with pipes cut so
+-- the whole representation, by these steps of deferral, with pipes cut so
 abbrev pub representation : Setting → Graph → List Step → List (List ℕ) → List Entry
 representation w g steps cuts =
     let n = before_pipes (root_list w) in
-    flat_map (step_entries w g) steps
-    ++ root_tests w g 0 (root_list w) g.roots
-    ++ pipes_entries w.table n (past n (root_list w)) (past n g.roots) cuts
+    head_entries w g steps ++ pipes_entries w.table n (drop n (root_list w)) (drop n g.roots) cuts
 
--- A stream of the graph: the marks of its roots and cells by turns, the tests of the parameters, the pipes.
+-- A stream of the graph: the roots and referents in the order of deferral, the agreements of the parameters, the pipes in chunks.
 pub record Stream (w : Setting) (g : Graph) (ms : List Entry) : Type 0 where
   pub steps : List Step
   pub cuts : List (List ℕ)
   pub deferral : Deferral w g [] (due_roots 0 (before_pipes (root_list w))) steps
-  pub all_cut : AllCut (past (before_pipes (root_list w)) g.roots) cuts
+  pub all_cut : AllCut (drop (before_pipes (root_list w)) g.roots) cuts
   pub is_representation : ms ≡ representation w g steps cuts

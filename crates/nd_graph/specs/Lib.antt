@@ -1,9 +1,14 @@
+pub mod Tree
 pub mod Seen
 pub mod SeenFalls
-pub mod Tree
 pub mod Setting
 pub mod Agreement
+pub mod Nodes
 pub mod Deferral
+pub mod Variables
+pub mod Homes
+pub mod Misfit
 pub mod Conforms
+pub mod FirstMisfit
 pub mod Same
 pub mod Canon

@@ -1,0 +1,123 @@
+-- Where octets refuse an entry of a stream, and why.
+use Rattle.std.specs.Prelude.{drop, ◌≡◌, ℕ, ◌+◌, ℤ, Bool, true, false, not, ◌&&◌, ◌||◌, cond, eqb, ltb, List, [], ◌∷◌, ◌++◌, length, Option, Some, None}
+use Rattle.std.specs.List.{list_any}
+use Rattle.std.specs.Ordering.{int_eq}
+use Rattle.nd_base.specs.declared.octets.Order.{Order}
+use Rattle.nd_base.specs.declared.TheConstants.{STREAM_LIMIT}
+use Rattle.nd_types.specs.declared.types.Arm.{Arm}
+use Rattle.nd_types.specs.declared.types.Attr.{Attr}
+use Rattle.nd_types.specs.declared.types.Attr.TheVariants as attr
+use Rattle.nd_types.specs.declared.types.Class.TheVariants.{Full}
+use Rattle.nd_types.specs.Table.{selected}
+use Rattle.nd_graph.specs.declared.item.Home.{Home}
+use Rattle.nd_graph.specs.declared.item.Home.TheVariants as home
+use Rattle.nd_grammar.specs.declared.reason.Reason.{Reason}
+use Rattle.nd_grammar.specs.declared.reason.Reason.TheVariants as reason
+use Rattle.nd_grammar.specs.Number.{unsigned, value_of_octets}
+use Rattle.nd_grammar.specs.Entry.{Kind, Entry, Align, Max, Offset, Actual, Chunk, Number, Num, Tag, Text, Context, Test, Unread, size_at, EntryAt}
+use Rattle.nd_grammar.specs.Represents.{piece}
+
+-- an entry would end drop the limit of a stream; a gap never does, since the limit is a multiple of every alignment
+abbrev pub is_long : ℕ → Kind → Bool
+is_long at (Align n) = false
+is_long at (Test attr wanted found) = false
+is_long at Unread = false
+is_long at x = ltb STREAM_LIMIT (at + size_at at x)
+
+-- the value of an enumerated type is one of its enumerators; others have no enumerators
+abbrev is_enumerator : Option (List ℤ) → ℤ → Bool
+is_enumerator None v = true
+is_enumerator (Some values) v = list_any (int_eq v) values
+
+abbrev is_selected : Option Arm → Bool
+is_selected None = false
+is_selected (Some a) = true
+
+-- a text's octets with its terminator: the first zero before the last, else a last octet that is not zero
+abbrev text_refusal : ℕ → List ℕ → Option (ℕ × Reason)
+text_refusal at [] = None
+text_refusal at (b ∷ []) = cond (eqb b 0) None (Some (at, reason.TextUnended))
+text_refusal at (b ∷ c ∷ bs) = cond (eqb b 0) (Some (at, reason.TextZero)) (text_refusal (at + 1) (c ∷ bs))
+
+-- the entry that an attribute speaks of: the maximum count, the offset, the actual count (for the last index too), the tag
+abbrev kind_agrees : Attr → Kind → Bool
+kind_agrees attr.Size (Max v) = true
+kind_agrees attr.Max (Max v) = true
+kind_agrees attr.First (Offset t v) = true
+kind_agrees attr.Length (Actual t offset limit v) = true
+kind_agrees attr.Last (Actual t offset limit v) = true
+kind_agrees attr.Switch (Tag p values arms default v) = true
+kind_agrees _ _ = false
+
+abbrev is_max : Kind → Bool
+is_max (Max v) = true
+is_max _ = false
+
+abbrev same_home : Home → Home → Bool
+same_home (home.Root i) (home.Root j) = eqb i j
+same_home (home.Cell c) (home.Cell d) = eqb c.0 d.0
+same_home _ _ = false
+
+-- The place of the count or tag that an attribute speaks of, among earlier entries. A home has at most one maximum count before
+-- it, which stands at node 0.
+abbrev pub tested_at : List EntryAt → Attr → Home → ℕ → Option ℕ
+tested_at [] a h n = None
+tested_at (x ∷ xs) a h n =
+    cond (kind_agrees a x.entry.kind && same_home x.entry.home h && (is_max x.entry.kind || eqb x.entry.node n))
+    (Some x.at) (tested_at xs a h n)
+
+-- a full pointer to another type of referent: types are compared by their numbers
+abbrev other_pointee : Kind → ℕ → Bool
+other_pointee (Number Full to cell) to' = not (eqb to to')
+other_pointee _ to' = false
+
+-- an earlier full pointer has this number and another type of referent
+abbrev pub is_other : Order → List ℕ → List EntryAt → ℕ → ℕ → Bool
+is_other order octets [] v to = false
+is_other order octets (x ∷ xs) v to =
+    other_pointee x.entry.kind to && eqb (unsigned order (piece octets x.at x.entry.kind)) v || is_other order octets xs v to
+
+-- a refusal where a test holds, else what comes later
+abbrev pub refused_if : Bool → ℕ × Reason → Option (ℕ × Reason) → Option (ℕ × Reason)
+refused_if true r o = Some r
+refused_if false r o = o
+
+-- an agreement that fails is refused at the count or tag that it speaks of
+abbrev pub disagrees_at : Option ℕ → Reason → Option (ℕ × Reason)
+disagrees_at None why = None
+disagrees_at (Some at) why = Some (at, why)
+
+-- Why an entry is refused, by its kind, where its octets are all there. An enumerated value or tag is an enumerator, else EnumValue.
+-- A tag selects an arm, else NoArm. A text's offset is 0, else TextOffset; its actual count is at least 1, else TextEmpty. Offset
+-- and actual count end within the maximum count or bound, else PastBound. A text ends at its first zero, else TextZero or
+-- TextUnended. A full pointer's number stands for one type of referent, else OtherType. An agreement holds, else Disagrees.
+abbrev pub kind_refusal : Order → List ℕ → List EntryAt → ℕ → Entry → Kind → List ℕ → Option (ℕ × Reason)
+kind_refusal order octets earlier at m (Num p values z) os =
+    refused_if (not (is_enumerator values (value_of_octets order p os))) (at, reason.EnumValue) None
+kind_refusal order octets earlier at m (Tag p values arms default z) os =
+    refused_if (not (is_enumerator values (value_of_octets order p os))) (at, reason.EnumValue)
+    (refused_if (not (is_selected (selected arms default (value_of_octets order p os)))) (at, reason.NoArm) None)
+kind_refusal order octets earlier at m (Offset true v) os =
+    refused_if (not (eqb (unsigned order os) 0)) (at, reason.TextOffset) None
+kind_refusal order octets earlier at m (Actual of_text offset limit v) os =
+    refused_if (of_text && eqb (unsigned order os) 0) (at, reason.TextEmpty)
+    (refused_if (ltb limit (offset + unsigned order os)) (at, reason.PastBound) None)
+kind_refusal order octets earlier at m (Text text) os = text_refusal at os
+kind_refusal order octets earlier at m (Number Full to cell) os =
+    refused_if (not (eqb (unsigned order os) 0) && is_other order octets earlier (unsigned order os) to) (at, reason.OtherType) None
+kind_refusal order octets earlier at m (Test a wanted found) os =
+    cond (int_eq wanted found) None (disagrees_at (tested_at earlier a m.home m.node) (reason.Disagrees wanted found))
+kind_refusal order octets earlier at m _ os = None
+
+-- The place and the reason for which octets refuse an entry that stands behind earlier ones, or none. First TooLong, at the limit;
+-- then Truncated, at the octets' end; then by its kind.
+abbrev pub refusal : Order → List ℕ → List EntryAt → EntryAt → Option (ℕ × Reason)
+refusal order octets earlier x =
+    refused_if (is_long x.at x.entry.kind) (STREAM_LIMIT, reason.TooLong)
+    (refused_if (ltb (length octets) (x.at + size_at x.at x.entry.kind)) (length octets, reason.Truncated)
+    (kind_refusal order octets earlier x.at x.entry x.entry.kind (piece octets x.at x.entry.kind)))
+
+-- none of these entries is refused, each behind the earlier ones
+abbrev pub Accepts : Order → List ℕ → List EntryAt → List EntryAt → Type 0
+Accepts order octets earlier [] = Unit {0}
+Accepts order octets earlier (x ∷ xs) = (refusal order octets earlier x ≡ None) × Accepts order octets (earlier ++ x ∷ []) xs

@@ -1,0 +1,96 @@
+-- The first place at which a graph does not conform, and why: four passes, each over the roots, then the cells, and in each home
+-- over its nodes. The first failing place of the first failing pass counts.
+use Rattle.std.specs.Prelude.{◌≡◌, ℕ, ◌+◌, ◌<◌, ◌≤◌, ℤ, Bool, true, false, not, ◌&&◌, ◌||◌, cond, eqb, ltb, List, [], ◌∷◌, length, Option, Some, None}
+use Rattle.std.specs.List.{list_any}
+use Rattle.std.specs.Ordering.{int_eq}
+use Rattle.nd_types.specs.declared.types.Class.{Class}
+use Rattle.nd_types.specs.declared.types.Class.TheVariants.{Full}
+use Rattle.nd_graph.specs.declared.value.Graph.{Graph}
+use Rattle.nd_graph.specs.declared.item.Home.{Home}
+use Rattle.nd_graph.specs.declared.item.Home.TheVariants as home
+use Rattle.nd_graph.specs.declared.misfit.MisfitReason.{MisfitReason}
+use Rattle.nd_graph.specs.declared.misfit.MisfitReason.TheVariants as misfit
+use Rattle.nd_graph.specs.Tree.{Tree}
+use Rattle.nd_graph.specs.Agreement.{Agreement, found_in}
+use Rattle.nd_graph.specs.Setting.{Setting, root_list, cell_home}
+use Rattle.nd_graph.specs.Nodes.{TypedNode}
+use Rattle.nd_graph.specs.Deferral.{Pending}
+use Rattle.nd_graph.specs.Homes.{HomeNode, root_nodes, cell_nodes, all_nodes, all_pointers}
+use Rattle.nd_graph.specs.Conforms.{Reached, subject}
+use Rattle.nd_graph.specs.Misfit.{misfit_of}
+
+-- a place in a graph, a home and a node of it, and the reason for which the graph does not conform there
+pub record Misplaced : Type 0 where
+  pub home : Home
+  pub node : ℕ
+  pub reason : MisfitReason
+
+abbrev or_later : Option Misplaced → Option Misplaced → Option Misplaced
+or_later (Some m) later = Some m
+or_later None later = later
+
+abbrev at_node : HomeNode → Option MisfitReason → Option Misplaced
+at_node x None = None
+at_node x (Some r) = Some (record { home = x.home; node = x.typed.node; reason = r })
+
+-- the first of these nodes for which a test has a reason
+abbrev first_node : (TypedNode → Option MisfitReason) → List HomeNode → Option Misplaced
+first_node test [] = None
+first_node test (x ∷ xs) = or_later (at_node x (test x.typed)) (first_node test xs)
+
+-- another number of roots than the side has: at the first that is missing or too many
+abbrev root_count : ℕ → ℕ → Option Misplaced
+root_count has due =
+    cond (eqb has due) None (Some (record { home = home.Root (cond (ltb has due) has due); node = 0; reason = misfit.Shape }))
+
+-- the first pass: a node that has a misfit by itself. A wrong number of roots comes behind the roots that are there.
+abbrev pub first_local : Setting → Graph → Option Misplaced
+first_local w g =
+    or_later (first_node (misfit_of w.table g) (root_nodes w g 0 (root_list w) g.roots))
+    (or_later (root_count (length g.roots) (length (root_list w))) (first_node (misfit_of w.table g) (cell_nodes w.table 1 g.cells)))
+
+abbrev is_full : Class → Bool
+is_full Full = true
+is_full _ = false
+
+abbrev same_cell : Option ℕ → Option ℕ → Bool
+same_cell (Some c) (Some d) = eqb c d
+same_cell _ _ = false
+
+-- two pointers name one cell and are not both full
+abbrev clashes : Pending → Pending → Bool
+clashes p q = same_cell p.cell q.cell && not (is_full p.class && is_full q.class)
+
+-- the second pass: the first pointer that clashes with an earlier one
+abbrev pub first_shared : List Pending → List Pending → Option Misplaced
+first_shared earlier [] = None
+first_shared earlier (p ∷ ps) =
+    cond (list_any (clashes p) earlier) (Some (record { home = p.home; node = p.node; reason = misfit.Shared })) (first_shared (p ∷ earlier) ps)
+
+-- the third pass: the first cell that is not reached
+pub record IsFirstUnreached (w : Setting) (g : Graph) (c : ℕ) : Type 0 where
+  pub is_cell : (0 < c) × (c ≤ length g.cells)
+  pub unreached : ¬ Reached w g c
+  pub earlier : (d : ℕ) → 0 < d → d < c → Reached w g d
+
+abbrev disagreement : Tree → List Agreement → Option MisfitReason
+disagreement t [] = None
+disagreement t (a ∷ rest) =
+    cond (int_eq a.wanted (found_in a.attr t)) (disagreement t rest) (Some (misfit.Disagrees a.wanted (found_in a.attr t)))
+
+abbrev disagreement_of : List Tree → List Agreement → Option MisfitReason
+disagreement_of [] agreements = None
+disagreement_of (t ∷ ts) agreements = disagreement t agreements
+
+-- the fourth pass: the first node whose agreements do not all hold, and the first of these
+abbrev pub first_disagreeing : Setting → Graph → Option Misplaced
+first_disagreeing w g = first_node (λ x. disagreement_of (subject g x) x.agreements) (all_nodes w g)
+
+-- the first place of the first failing pass
+pub data IsFirstMisfit (w : Setting) (g : Graph) : Misplaced → Type 0 where
+  is_local : (m : Misplaced) → first_local w g ≡ Some m → IsFirstMisfit w g m
+  is_shared : (m : Misplaced) → first_local w g ≡ None → first_shared [] (all_pointers w g) ≡ Some m → IsFirstMisfit w g m
+  is_unreached : (c : ℕ) → first_local w g ≡ None → first_shared [] (all_pointers w g) ≡ None → IsFirstUnreached w g c
+      → IsFirstMisfit w g (record { home = cell_home c; node = 0; reason = misfit.Unreached })
+  is_disagreeing : (m : Misplaced) → first_local w g ≡ None → first_shared [] (all_pointers w g) ≡ None
+      → ((c : ℕ) → 0 < c → c ≤ length g.cells → Reached w g c) → first_disagreeing w g ≡ Some m → IsFirstMisfit w g m
