@@ -8,6 +8,9 @@ pub mod NextPending
 pub mod NextDeferral
 pub mod Plain
 pub mod PlainBad
+pub mod PlainConforms
+pub mod PlainSteps
+pub mod PlainStreams
 pub mod Ranges
 pub mod RingNext
 pub mod Rows

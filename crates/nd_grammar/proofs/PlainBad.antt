@@ -32,11 +32,11 @@ use Rattle.nd_grammar.specs.Entry.{Entry, Align, Num, EntryAt, end_to_end, gap, 
 use Rattle.nd_grammar.specs.Represents.{IsRendered}
 use Rattle.nd_grammar.specs.Refusal.{Accepts, refusal, refused_if}
 use Rattle.nd_grammar.specs.Bad.{Bad}
-use Rattle.nd_types.specs.Number.{value_of_octets}
+use Rattle.nd_types.specs.Number.{AreOctets, value_of_octets}
 use Rattle.nd_grammar.specs.Plain.{ArePlain, number, plain_graph, numbers_at, with}
 use Rattle.nd_graph.specs.Setting.{Among}
-use Rattle.nd_grammar.proofs.Ranges.{AreOctets, piece_in_range}
-use Rattle.nd_grammar.proofs.Plain.{plain_entries, plain_stream, no_cells}
+use Rattle.nd_grammar.proofs.Ranges.{piece_in_range}
+use Rattle.nd_grammar.proofs.Plain.{plain_entries, numbers_stream, no_cells}
 
 -- each number is in its primitive's range
 abbrev pub AreInRange : List Primitive → List ℤ → Type 0
@@ -266,7 +266,7 @@ module _ (order : Order) (nums : ℕ → ℕ) (os : List ℕ)
         partial = plain_graph zs;
         is_partial = plain_partial w ps zs a r;
         entries = plain_entries 0 ps zs;
-        stream = plain_stream w ps zs a (plain_lengths w.table ps (root_list w) zs a r).1;
+        stream = numbers_stream w ps zs a (plain_lengths w.table ps (root_list w) zs a r).1;
         earlier = s.earlier;
         here = s.here;
         later = s.later;

@@ -6,5 +6,6 @@ pub mod Refusal
 pub mod Bad
 pub mod Items
 pub mod Chosen
+pub mod Prefix
 pub mod Plain
 pub mod Examples
