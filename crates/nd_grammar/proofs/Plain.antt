@@ -4,16 +4,16 @@ use Rattle.std.proofs.lemmas.Bool.{leb-true}
 use Rattle.std.proofs.lemmas.Option.{same_Some}
 use Rattle.std.specs.Prelude.{map}
 use Rattle.std.specs.List.{AllByRecursion}
-use Rattle.nd_base.specs.declared.Order.{Order}
+use Rattle.nd_base.specs.declared.octets.Order.{Order}
 use Rattle.nd_base.specs.declared.TheConstants.{STREAM_LIMIT}
-use Rattle.nd_types.specs.declared.Primitive.{Primitive}
+use Rattle.nd_types.specs.declared.types.Primitive.{Primitive}
 use Rattle.nd_types.specs.Table.{width}
-use Rattle.nd_graph.specs.declared.Graph.{Graph}
-use Rattle.nd_graph.specs.declared.Home.TheVariants as home
+use Rattle.nd_graph.specs.declared.value.Graph.{Graph}
+use Rattle.nd_graph.specs.declared.item.Home.TheVariants as home
 use Rattle.nd_graph.specs.Setting.{Setting, root_list, Among, or_unread}
 use Rattle.nd_grammar.specs.Entry.{Entry, Align, Num, end_to_end, end_of, gap, full_cells}
 use Rattle.nd_grammar.specs.InPlace.{entries}
-use Rattle.nd_grammar.specs.Number.{value_of_octets}
+use Rattle.nd_types.specs.Number.{value_of_octets}
 use Rattle.nd_grammar.specs.Stream.{Stream}
 use Rattle.nd_grammar.specs.Represents.{IsRendered, Represents, IsNumbering}
 use Rattle.nd_grammar.specs.Plain.{ArePlain, number, plain_graph, numbers_at, plain_end, with}

@@ -4,19 +4,19 @@ use Rattle.std.proofs.lemmas.List.{take-append-drop, length-take-le}
 use Rattle.std.proofs.lemmas.Bool.{leb-true}
 use Rattle.std.specs.Prelude.{map}
 use Rattle.std.specs.List.{AllByRecursion}
-use Rattle.nd_base.specs.declared.Order.{Order}
+use Rattle.nd_base.specs.declared.octets.Order.{Order}
 use Rattle.nd_base.specs.declared.TheConstants.{STREAM_LIMIT}
-use Rattle.nd_types.specs.declared.Primitive.{Primitive}
+use Rattle.nd_types.specs.declared.types.Primitive.{Primitive}
 use Rattle.nd_types.specs.Table.{width, in_range}
-use Rattle.nd_graph.specs.declared.Graph.{Graph}
-use Rattle.nd_graph.specs.declared.Home.TheVariants as home
+use Rattle.nd_graph.specs.declared.value.Graph.{Graph}
+use Rattle.nd_graph.specs.declared.item.Home.TheVariants as home
 use Rattle.nd_graph.specs.Tree as tree
 use Rattle.nd_graph.specs.Tree.{Label}
 use Rattle.nd_graph.specs.Setting.{Setting, root_list, root_at}
 use Rattle.nd_graph.specs.Conforms.{Conforms}
 use Rattle.nd_grammar.specs.Entry.{Entry, end_to_end, end_of}
 use Rattle.nd_grammar.specs.InPlace.{entries}
-use Rattle.nd_grammar.specs.Number.{AreOctets}
+use Rattle.nd_types.specs.Number.{AreOctets}
 use Rattle.nd_grammar.specs.Represents.{IsRendered, Represents}
 use Rattle.nd_grammar.specs.Prefix.{BeginsWith}
 use Rattle.nd_grammar.specs.Plain.{ArePlain, IsPlain, plain_graph, numbers_at, plain_end, with, AreNumbersOf}

@@ -4,17 +4,17 @@ use Rattle.std.proofs.lemmas.Bool.{ltb-true}
 use Rattle.std.proofs.lemmas.Bool.Decides.{nat_tests}
 use Rattle.std.proofs.lemmas.Option.{same_Some}
 use Rattle.std.specs.List.{AllByRecursion}
-use Rattle.nd_base.specs.declared.Order.{Order}
+use Rattle.nd_base.specs.declared.octets.Order.{Order}
 use Rattle.nd_base.specs.declared.TheConstants.{STREAM_LIMIT}
-use Rattle.nd_types.specs.declared.Primitive.{Primitive}
+use Rattle.nd_types.specs.declared.types.Primitive.{Primitive}
 use Rattle.nd_types.specs.Table.{width}
-use Rattle.nd_graph.specs.declared.Graph.{Graph}
-use Rattle.nd_graph.specs.declared.Home.TheVariants as home
+use Rattle.nd_graph.specs.declared.value.Graph.{Graph}
+use Rattle.nd_graph.specs.declared.item.Home.TheVariants as home
 use Rattle.nd_graph.specs.Tree as tree
 use Rattle.nd_graph.specs.Tree.{Label}
 use Rattle.nd_graph.specs.Setting.{Setting, root_list, root_at}
-use Rattle.nd_grammar.specs.declared.Reason.{Reason}
-use Rattle.nd_grammar.specs.declared.Reason.TheVariants.{Truncated, TooLong}
+use Rattle.nd_grammar.specs.declared.reason.Reason.{Reason}
+use Rattle.nd_grammar.specs.declared.reason.Reason.TheVariants.{Truncated, TooLong}
 use Rattle.nd_grammar.specs.Entry.{Kind, Entry, Align, Num, Unread, EntryAt, end_to_end}
 use Rattle.nd_grammar.specs.InPlace.{entries}
 use Rattle.nd_grammar.specs.Represents.{IsRendered}

@@ -1,13 +1,13 @@
 -- Octets of a plain side begin with a stream, or are refused: one of the two, and in one way.
 use Rattle.std.proofs.Common.{◌≡◌, ℕ, ◌<◌, ◌≤◌, ℤ, List, length, Option, Some, None, refl, ap, sym, ◌∙◌, inl, inr, ◌⊎◌}
 use Rattle.std.proofs.lemmas.Option.{same_Some}
-use Rattle.nd_base.specs.declared.Order.{Order}
-use Rattle.nd_types.specs.declared.Primitive.{Primitive}
-use Rattle.nd_graph.specs.declared.Graph.{Graph}
+use Rattle.nd_base.specs.declared.octets.Order.{Order}
+use Rattle.nd_types.specs.declared.types.Primitive.{Primitive}
+use Rattle.nd_graph.specs.declared.value.Graph.{Graph}
 use Rattle.nd_graph.specs.Setting.{Setting}
-use Rattle.nd_grammar.specs.declared.Reason.{Reason}
-use Rattle.nd_grammar.specs.declared.Reason.TheVariants.{Truncated}
-use Rattle.nd_grammar.specs.Number.{AreOctets}
+use Rattle.nd_grammar.specs.declared.reason.Reason.{Reason}
+use Rattle.nd_grammar.specs.declared.reason.Reason.TheVariants.{Truncated}
+use Rattle.nd_types.specs.Number.{AreOctets}
 use Rattle.nd_grammar.specs.Bad.{Bad}
 use Rattle.nd_grammar.specs.Prefix.{BeginsWith}
 use Rattle.nd_grammar.specs.Plain.{IsPlain, plain_graph, plain_end, numbers_at, AreNumbersOf}

@@ -1,13 +1,13 @@
 -- The one stream that is written.
 use Rattle.std.specs.Prelude.{drop, ◌≡◌, ℕ, ◌+◌, ◌-◌, ◌<◌, ◌≤◌, suc, zero, Bool, true, false, cond, eqb, ltb, List, [], ◌∷◌, ◌++◌, length, replicate, Option, Some, None}
-use Rattle.nd_base.specs.declared.Order.{Order}
-use Rattle.nd_graph.specs.declared.Graph.{Graph}
+use Rattle.nd_base.specs.declared.octets.Order.{Order}
+use Rattle.nd_graph.specs.declared.value.Graph.{Graph}
 use Rattle.nd_graph.specs.Setting.{Setting, root_list}
 use Rattle.nd_graph.specs.Tree.{Tree, count}
 use Rattle.nd_graph.specs.Deferral.{Step, Deferral, due_roots, before_pipes}
 use Rattle.nd_graph.specs.Canon.{canonical_number, named_cells}
 use Rattle.nd_grammar.specs.Stream.{representation, kids_of}
-use Rattle.nd_grammar.specs.Number.{spelling, written}
+use Rattle.nd_types.specs.Number.{spelling, written}
 use Rattle.nd_grammar.specs.Entry.{Kind, Entry, Align, Max, Offset, Actual, Chunk, Number, Num, Tag, Text, Context, Test, Unread, size_at, gap}
 use Rattle.nd_grammar.specs.Represents.{id_octets}
 

@@ -1,4 +1,3 @@
-pub mod Number
 pub mod Entry
 pub mod InPlace
 pub mod Stream

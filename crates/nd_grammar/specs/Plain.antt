@@ -1,19 +1,19 @@
 -- Operations whose roots are plain numbers: what octets hold for them, without a graph.
 use Rattle.std.specs.Prelude.{◌≡◌, ℕ, ◌+◌, ◌*◌, ◌≤◌, suc, zero, ℤ, Bool, true, false, cond, leb, List, [], ◌∷◌, length, map, take, drop, Option, Some, None}
-use Rattle.nd_base.specs.declared.Order.{Order}
+use Rattle.nd_base.specs.declared.octets.Order.{Order}
 use Rattle.nd_base.specs.declared.TheConstants.{STREAM_LIMIT}
-use Rattle.nd_types.specs.declared.Primitive.{Primitive}
-use Rattle.nd_types.specs.declared.TypeDef.TheVariants as def
+use Rattle.nd_types.specs.declared.types.Primitive.{Primitive}
+use Rattle.nd_types.specs.declared.types.TypeDef.TheVariants as def
 use Rattle.nd_types.specs.Table.{Table, type_at, width}
 use Rattle.nd_types.specs.Roots.{Root}
-use Rattle.nd_graph.specs.declared.Graph.{Graph}
+use Rattle.nd_graph.specs.declared.value.Graph.{Graph}
 use Rattle.nd_graph.specs.Tree as tree
 use Rattle.nd_graph.specs.Tree.{Tree, node, none}
 use Rattle.nd_graph.specs.Setting.{Setting, root_list}
-use Rattle.nd_grammar.specs.declared.Reason.{Reason}
-use Rattle.nd_grammar.specs.declared.Reason.TheVariants.{Truncated}
+use Rattle.nd_grammar.specs.declared.reason.Reason.{Reason}
+use Rattle.nd_grammar.specs.declared.reason.Reason.TheVariants.{Truncated}
 use Rattle.nd_grammar.specs.Entry.{gap}
-use Rattle.nd_grammar.specs.Number.{value_of_octets}
+use Rattle.nd_types.specs.Number.{value_of_octets}
 
 -- the roots are of these primitives, and have no attributes
 abbrev pub ArePlain : Table → List Root → List Primitive → Type 0

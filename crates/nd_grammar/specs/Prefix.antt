@@ -1,7 +1,7 @@
 -- Octets that begin with a stream.
 use Rattle.std.specs.Prelude.{ℕ, ◌≤◌, List, length, take}
-use Rattle.nd_base.specs.declared.Order.{Order}
-use Rattle.nd_graph.specs.declared.Graph.{Graph}
+use Rattle.nd_base.specs.declared.octets.Order.{Order}
+use Rattle.nd_graph.specs.declared.value.Graph.{Graph}
 use Rattle.nd_graph.specs.Setting.{Setting}
 use Rattle.nd_graph.specs.Conforms.{Conforms}
 use Rattle.nd_grammar.specs.Represents.{Represents}

@@ -2,13 +2,13 @@
 //! of primitives (`IsPlain`), and octets are numbers from 0 to 255.
 
 ghost use Rattle.std.specs.Prelude.{◌≡◌, ◌⊎◌, ℕ, ℤ, List, length, Some, None};
-ghost use Rattle.nd_base.specs.declared.Order.{Order};
-ghost use Rattle.nd_types.specs.declared.Primitive.{Primitive};
-ghost use Rattle.nd_graph.specs.declared.Graph.{Graph};
+ghost use Rattle.nd_base.specs.declared.octets.Order.{Order};
+ghost use Rattle.nd_types.specs.declared.types.Primitive.{Primitive};
+ghost use Rattle.nd_graph.specs.declared.value.Graph.{Graph};
 ghost use Rattle.nd_graph.specs.Setting.{Setting};
 ghost use Rattle.nd_graph.specs.Conforms.{Conforms};
-ghost use Rattle.nd_grammar.specs.declared.Reason.{Reason};
-ghost use Rattle.nd_grammar.specs.Number.{AreOctets};
+ghost use Rattle.nd_grammar.specs.declared.reason.Reason.{Reason};
+ghost use Rattle.nd_types.specs.Number.{AreOctets};
 ghost use Rattle.nd_grammar.specs.Represents.{Represents};
 ghost use Rattle.nd_grammar.specs.Prefix.{BeginsWith};
 ghost use Rattle.nd_grammar.specs.Bad.{Bad};

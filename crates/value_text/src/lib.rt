@@ -1,0 +1,2 @@
+//! The text of values: how graphs are printed.
+#![tactic(auto)]
