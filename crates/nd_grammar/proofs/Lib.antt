@@ -9,6 +9,9 @@ pub mod NextDeferral
 pub mod Plain
 pub mod PlainBad
 pub mod PlainConforms
+pub mod PlainNumbers
+pub mod PlainRefused
+pub mod PlainVerdict
 pub mod PlainSteps
 pub mod PlainStreams
 pub mod Ranges
