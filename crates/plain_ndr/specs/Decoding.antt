@@ -1,13 +1,11 @@
--- What decoding gives: the graph that the first octets represent, or the place and the reason for which they are refused.
-use Rattle.std.specs.Prelude.{◌≡◌, ℕ, ◌≤◌, List, length, take, ⊤}
+-- What decoding gives.
+use Rattle.std.specs.Prelude.{ℕ, List, ⊤}
 use Rattle.nd_base.specs.declared.octets.Order.{Order}
 use Rattle.nd_types.specs.declared.interface.Interface.{Interface}
 use Rattle.nd_types.specs.declared.types.Operation.{Operation}
 use Rattle.nd_types.specs.declared.types.Side.TheVariants as side
 use Rattle.nd_graph.specs.Setting.{Setting}
-use Rattle.nd_graph.specs.Fitting.{Fitting, setting_of}
-use Rattle.nd_graph.specs.Conforms.{Conforms}
-use Rattle.nd_grammar.specs.Represents.{Represents}
+use Rattle.nd_graph.specs.Fitting.{setting_of}
 use Rattle.nd_grammar.specs.Bad.{Bad}
 use Rattle.plain_ndr.specs.declared.decoding.DecodeFault.{DecodeFault}
 use Rattle.plain_ndr.specs.declared.decoding.DecodeFault.TheVariants as fault
@@ -15,12 +13,6 @@ use Rattle.plain_ndr.specs.declared.decoding.DecodeFault.TheVariants as fault
 -- the setting of an operation's [in] parameters
 abbrev pub inputs_of : Interface → Operation → Setting
 inputs_of i o = setting_of i o side.In
-
--- The first octets represent a graph that conforms to the [in] parameters of an operation.
-pub record IsDecoded (i : Interface) (o : Operation) (order : Order) (octets : List ℕ) (fit : Fitting) (taken : ℕ) : Type 0 where
-  pub within : taken ≤ length octets
-  pub conforms : Conforms (inputs_of i o) fit.graph
-  pub represents : Represents (inputs_of i o) order (take taken octets) fit.graph
 
 -- the octets are refused there; where memory was wanting no more is said
 abbrev pub IsFault : Setting → Order → List ℕ → DecodeFault → Type 0

@@ -4,11 +4,12 @@ ghost use Rattle.std.specs.List.{slice_get};
 ghost use Rattle.nd_types.specs.declared.types.Operation.{Operation};
 ghost use Rattle.nd_types.specs.declared.types.Side.TheVariants as side;
 ghost use Rattle.nd_types.specs.Plain.{IsPlainInterface};
-ghost use Rattle.plain_ndr.specs.Decoding.{IsDecoded, IsFault, inputs_of};
+ghost use Rattle.nd_grammar.specs.Prefix.{BeginsWith};
+ghost use Rattle.plain_ndr.specs.Decoding.{IsFault, inputs_of};
 
 use crate::numbers::{NumbersFault, read_numbers};
 use crate::primitives::primitives;
-use nd_base::{Memory, Order};
+use nd_base::Order;
 use nd_grammar::Reason;
 use nd_graph::{Cells, Fit, Graph};
 use nd_types::{Interface, Side};
@@ -33,12 +34,6 @@ pub enum DecodeFault {
     Bad { place: u32, reason: Reason },
 }
 
-impl From<Memory> for DecodeFault {
-    fn from(_: Memory) -> Self {
-        DecodeFault::Memory
-    }
-}
-
 /// Decodes the values of the [in] parameters of a plain operation from the front of octets. Each octet is looked at once. It takes
 /// memory for the values that were read, 32 octets each, and for a list of the parameters' types.
 pub fn decode(
@@ -52,7 +47,7 @@ pub fn decode(
     requires known { op < length interface.now.operations }
     requires short { length octets.now < 2 ^ 32 }
     ensures decoded { IfOk result (λ d. (o : Operation) → slice_get interface.now.operations op ≡ Some o
-        → IsDecoded interface.now o order octets.now d.fit d.taken) }
+        → BeginsWith (inputs_of interface.now o) order octets.now d.taken d.fit.graph) }
     ensures of { IfOk result (λ d. (d.fit.op ≡ op) × (d.fit.side ≡ side.In) × (d.fit.interface ≡ interface.now)) }
     ensures refused { IfErr result (λ e. (o : Operation) → slice_get interface.now.operations op ≡ Some o
         → IsFault (inputs_of interface.now o) order octets.now e) }
@@ -60,7 +55,10 @@ pub fn decode(
     let Some(operation) = interface.operations.get(op as usize) else {
         unreachable!()
     };
-    let prims = primitives(alloc, &interface.types, &operation.params)?;
+    let prims = match primitives(alloc, &interface.types, &operation.params) {
+        Ok(prims) => prims,
+        Err(_) => return Err(DecodeFault::Memory),
+    };
     match read_numbers(alloc, order, prims.as_slice(), octets) {
         Ok((roots, taken)) => {
             let cells = Cells::new(alloc);
