@@ -17,3 +17,4 @@ pub mod PlainStreams
 pub mod Ranges
 pub mod RingNext
 pub mod Rows
+pub mod PlainSides

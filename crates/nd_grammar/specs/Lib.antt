@@ -9,3 +9,4 @@ pub mod Chosen
 pub mod Prefix
 pub mod Plain
 pub mod Examples
+pub mod Primitives

@@ -3,7 +3,7 @@ ghost use Rattle.std.specs.Prelude.{◌≡◌, ◌+◌, ℕ, ◌<◌, map, Some,
 ghost use Rattle.nd_types.specs.Table.{type_at};
 ghost use Rattle.nd_types.specs.Plain.{IsPlainParam, is_plain_type};
 ghost use Rattle.nd_types.specs.Kinds.{basic_types};
-ghost use Rattle.plain_ndr.specs.Primitives.{param_primitive, primitive_of};
+ghost use Rattle.nd_grammar.specs.Primitives.{param_primitive, primitive_of};
 
 use nd_base::Memory;
 use nd_types::{Params, Prim, TypeDef, TypeId, Types};

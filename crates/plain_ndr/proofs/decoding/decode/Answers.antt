@@ -2,7 +2,7 @@ use Rattle.std.proofs.Common.{◌≡◌, ◌∙◌, sym, ap, subst, map, Some, E
 use Rattle.std.proofs.lemmas.Option.{same_Some}
 use Rattle.nd_grammar.specs.Prefix.{BeginsWith}
 use Rattle.plain_ndr.specs.Decoding.{inputs_of}
-use Rattle.plain_ndr.specs.Primitives.{param_primitive}
+use Rattle.nd_grammar.specs.Primitives.{param_primitive}
 use Rattle.plain_ndr.proofs.Sides.{decoded, cut_short, octets_by_index, fits_by}
 use Rattle.plain_ndr.proofs.decoding.decode.Goals as goal
 

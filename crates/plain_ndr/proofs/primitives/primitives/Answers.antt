@@ -1,4 +1,4 @@
-use Rattle.plain_ndr.specs.Primitives.{param_primitive}
+use Rattle.nd_grammar.specs.Primitives.{param_primitive}
 use Rattle.plain_ndr.proofs.Mapped.{next_mapped}
 use Rattle.std.proofs.Common.{◌∙◌, ap, ◌++◌, ◌∷◌, []}
 use Rattle.plain_ndr.proofs.primitives.primitives.Goals as goal

@@ -1,5 +1,5 @@
 use Rattle.std.proofs.Common.{◌≡◌, take, map}
-use Rattle.plain_ndr.specs.Primitives.{param_primitive}
+use Rattle.nd_grammar.specs.Primitives.{param_primitive}
 use Rattle.plain_ndr.proofs.primitives.primitives.Given as goal
 
 abbrev pub invariant-loop-at : goal.invariant-loop-at

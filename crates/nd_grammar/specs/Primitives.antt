@@ -1,4 +1,4 @@
--- The primitives of the parameters of a plain operation.
+-- The primitives that the parameters of plain operations are.
 use Rattle.std.specs.Prelude.{ℕ, List, map, Option, Some, None}
 use Rattle.nd_types.specs.declared.types.TypeDef.{TypeDef}
 use Rattle.nd_types.specs.declared.types.TypeDef.TheVariants as def
