@@ -13,6 +13,8 @@ mod outside;
 mod pieces;
 mod plain;
 mod real;
+#[cfg(test)]
+mod tests;
 
 pub use files::MemFiles;
 pub use ledger::{Counted, Ledger, Steps, Uncounted};
