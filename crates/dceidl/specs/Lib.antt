@@ -1,2 +1,4 @@
 pub mod Words
 pub mod Asked
+pub mod Outside
+pub mod Decode
