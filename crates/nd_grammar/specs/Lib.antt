@@ -9,3 +9,8 @@ pub mod Chosen
 pub mod Prefix
 pub mod Plain
 pub mod Examples
+pub mod ExampleParts
+pub mod ExamplesPlain
+pub mod ExamplesPointers
+pub mod ExamplesArrays
+pub mod ExamplesUnions
