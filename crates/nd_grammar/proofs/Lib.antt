@@ -21,5 +21,6 @@ pub mod WorkedLarge
 pub mod WorkedLayout
 pub mod WorkedPlain
 pub mod WorkedPointers
+pub mod WorkedReading
 pub mod WorkedResponses
 pub mod WorkedUnions
