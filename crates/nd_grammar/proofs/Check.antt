@@ -401,7 +401,33 @@ cut_at xs ys x zero e = e
 cut_at [] ys x (suc n) e = cc
 cut_at (z ∷ xs) ys x (suc n) e = ap (λ zs. z ∷ zs) (cut_at xs ys x n e)
 
--- Octets are refused at the n-th entry of a partial graph, by tests.
+-- Octets are refused at the n-th entry of a stream of a partial graph, by tests.
+pub bad_from : (w : Setting) (order : Order) (octets : List ℕ) (place : ℕ) (why : Reason) (g : Graph) (ms : List Entry) (n : ℕ) (here : EntryAt) (later : List EntryAt)
+    → IsPartial w g
+    → Stream w g ms
+    → IsNumbering (λ c. c) (full_cells ms)
+    → from n (end_to_end 0 ms) ≡ here ∷ later
+    → renders order (λ c. c) octets (upto n (end_to_end 0 ms)) ≡ true
+    → accepts order octets [] (upto n (end_to_end 0 ms)) ≡ true
+    → refusal order octets (upto n (end_to_end 0 ms)) here ≡ Some (place, why)
+    → Bad w order octets place why
+bad_from w order octets place why g ms n here later partial stream numbered split rendered accepted refused = record {
+  partial = g;
+  is_partial = partial;
+  entries = ms;
+  stream = stream;
+  earlier = upto n (end_to_end 0 ms);
+  here = here;
+  later = later;
+  split = cut_at _ later here n split;
+  numbering = λ c. c;
+  is_numbering = numbered;
+  rendered = renders_gives order (λ c. c) octets _ rendered;
+  accepted = accepts_gives order octets [] _ accepted;
+  refused = refused;
+}
+
+-- The same of the stream whose steps the walk finds.
 pub bad_so : (w : Setting) (order : Order) (octets : List ℕ) (place : ℕ) (why : Reason) (g : Graph) (cuts : List (List ℕ)) (fuel n : ℕ)
     (here : EntryAt) (later : List EntryAt)
     → IsPartial w g
@@ -413,27 +439,16 @@ pub bad_so : (w : Setting) (order : Order) (octets : List ℕ) (place : ℕ) (wh
     → accepts order octets [] (upto n (end_to_end 0 (representation w g (steps_of fuel w g) cuts))) ≡ true
     → refusal order octets (upto n (end_to_end 0 (representation w g (steps_of fuel w g) cuts))) here ≡ Some (place, why)
     → Bad w order octets place why
-bad_so w order octets place why g cuts fuel n here later partial walked cut numbered split rendered accepted refused = record {
-  partial = g;
-  is_partial = partial;
-  entries = representation w g (steps_of fuel w g) cuts;
-  stream = record {
-    steps = steps_of fuel w g;
-    cuts = cuts;
-    deferral = walk_gives fuel w g [] _ _ (some_found _ walked);
-    all_cut = cut;
-    is_representation = refl;
-  };
-  earlier = upto n (end_to_end 0 (representation w g (steps_of fuel w g) cuts));
-  here = here;
-  later = later;
-  split = cut_at _ later here n split;
-  numbering = λ c. c;
-  is_numbering = own_numbers _ numbered;
-  rendered = renders_gives order (λ c. c) octets _ rendered;
-  accepted = accepts_gives order octets [] _ accepted;
-  refused = refused;
-}
+bad_so w order octets place why g cuts fuel n here later partial walked cut numbered split rendered accepted refused =
+    bad_from w order octets place why g (representation w g (steps_of fuel w g) cuts) n here later partial
+    (record {
+      steps = steps_of fuel w g;
+      cuts = cuts;
+      deferral = walk_gives fuel w g [] _ _ (some_found _ walked);
+      all_cut = cut;
+      is_representation = refl;
+    })
+    (own_numbers _ numbered) split rendered accepted refused
 
 abbrev same_cell : Option ℕ → Option ℕ → Bool
 same_cell (Some c) (Some d) = eqb c d

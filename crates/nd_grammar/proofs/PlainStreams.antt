@@ -54,7 +54,7 @@ own_none : (b : Bool) (h : Home) (n : ℕ) (t : Tree) → own_tests b h n t [] �
 own_none true h n t = refl
 own_none false h n t = refl
 
-no_tests_below : (h : Home) (n : ℕ) (ks : Trees) → child_tests h [] n ks ≡ []
+pub no_tests_below : (h : Home) (n : ℕ) (ks : Trees) → child_tests h [] n ks ≡ []
 no_tests_below h n none = refl
 no_tests_below h n (more (node l ks) ts) =
     ap₂ (λ x y. x ++ y) (own_none (is_pointer l) h n (node l ks)) (no_tests_below h (n + 1 + nodes ks) ts)

@@ -104,10 +104,10 @@ offset_past_maximum =
     (partial_so sliced sliced_unread refl refl refl refl) refl tt refl refl refl refl refl
 
 -- void say(char *s), a string, by a reference pointer (13) to a conformant text (12)
-abbrev text : Setting
+abbrev pub text : Setting
 text = request (def.Text (id 1) None ∷ def.Pointer Ref (id 12) ∷ []) (param 13 ∷ [])
 
-abbrev text_graph : ℕ → List ℕ → Graph
+abbrev pub text_graph : ℕ → List ℕ → Graph
 text_graph max octets = record { roots = pointer_to 1 ∷ []; cells = cell 12 (node (tree.Text max octets) none) ∷ [] }
 
 abbrev text_octets : ℕ → ℕ → List ℕ → List ℕ
