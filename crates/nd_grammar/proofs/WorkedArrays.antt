@@ -1,5 +1,5 @@
 -- Worked examples with arrays and texts whose counts travel.
-use Rattle.std.proofs.Common.{◌≡◌, ℕ, ◌+◌, ◌*◌, ◌^◌, ◌<◌, ◌≤◌, zero, suc, ℤ, Bool, true, false, List, [], ◌∷◌, ◌++◌, length, Option, Some, None, refl, lit≤, lit<}
+use Rattle.std.proofs.Common.{ℕ, ℤ, true, List, [], ◌∷◌, ◌++◌, Some, None, refl}
 use Rattle.std.specs.Prelude.{pos, take, drop}
 use Rattle.nd_base.specs.declared.octets.Order.TheVariants.{Little}
 use Rattle.nd_types.specs.declared.types.TypeDef.TheVariants as def
@@ -17,7 +17,7 @@ use Rattle.nd_grammar.specs.declared.reason.Reason.TheVariants as reason
 use Rattle.nd_grammar.specs.Represents.{Represents}
 use Rattle.nd_grammar.specs.Bad.{Bad}
 use Rattle.nd_grammar.specs.Chosen.{Chosen}
-use Rattle.nd_grammar.specs.ExampleParts.{request, param, governed, field, attribute, id, num, pointer_to, one, two, struct_of, cell, four}
+use Rattle.nd_grammar.specs.ExampleParts.{request, param, governed, field, attribute, id, num, pointer_to, two, struct_of, cell, four}
 use Rattle.nd_grammar.specs.ExamplesArrays.{sized, sized_graph, sized_octets, nested, nested_graph, nested_octets}
 use Rattle.nd_grammar.proofs.Check.{represents_so, bad_so, partial_so, chosen_so}
 

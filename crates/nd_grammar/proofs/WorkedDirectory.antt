@@ -1,5 +1,5 @@
 -- A worked example of everything together: the entry of a directory, its parent and the next one.
-use Rattle.std.proofs.Common.{◌≡◌, ℕ, zero, suc, ℤ, Bool, true, false, List, [], ◌∷◌, ◌++◌, Option, Some, None, refl}
+use Rattle.std.proofs.Common.{ℕ, ℤ, false, List, [], ◌∷◌, Option, Some, None, refl}
 use Rattle.std.specs.Prelude.{pos}
 use Rattle.nd_base.specs.declared.octets.Order.TheVariants.{Little}
 use Rattle.nd_types.specs.declared.types.TypeDef.TheVariants as def

@@ -1,5 +1,5 @@
 -- Worked examples without pointers.
-use Rattle.std.proofs.Common.{◌≡◌, ℕ, zero, suc, ℤ, Bool, true, false, List, [], ◌∷◌, Option, Some, None, refl, lit≤, lit<}
+use Rattle.std.proofs.Common.{[], ◌∷◌, refl}
 use Rattle.std.specs.Prelude.{pos}
 use Rattle.nd_base.specs.declared.octets.Order.TheVariants.{Big, Little}
 use Rattle.nd_types.specs.Layout.{align_of, hoists}
@@ -7,7 +7,6 @@ use Rattle.nd_types.specs.Roots.{roots_of}
 use Rattle.nd_graph.specs.declared.value.Graph.{Graph}
 use Rattle.nd_graph.specs.declared.item.Home.TheVariants as home
 use Rattle.nd_graph.specs.declared.misfit.MisfitReason.TheVariants as misfit
-use Rattle.nd_graph.specs.Tree.{Tree}
 use Rattle.nd_graph.specs.Setting.{unread}
 use Rattle.nd_graph.specs.FirstMisfit.{IsFirstMisfit, is_local}
 use Rattle.nd_grammar.specs.declared.reason.Reason.TheVariants as reason

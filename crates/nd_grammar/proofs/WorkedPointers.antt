@@ -1,11 +1,11 @@
 -- Worked examples with pointers.
-use Rattle.std.proofs.Common.{◌≡◌, ℕ, ◌+◌, ◌<◌, ◌≤◌, zero, suc, ℤ, Bool, true, false, cond, eqb, List, [], ◌∷◌, length, Option, Some, None, refl, ap, sym, ◌∙◌, subst, inl, inr, ◌⊎◌, arith, lit≤, lit<}
+use Rattle.std.proofs.Common.{◌≡◌, ℕ, ◌<◌, zero, suc, ℤ, false, cond, eqb, List, [], ◌∷◌, Some, None, refl, sym, ◌∙◌, subst, inl, inr, ◌⊎◌, arith, lit<}
 use Rattle.std.proofs.lemmas.Option.{same_Some}
 use Rattle.std.specs.Prelude.{pos}
 use Rattle.nd_base.specs.declared.octets.Order.TheVariants.{Little}
 use Rattle.nd_types.specs.declared.types.TypeDef.TheVariants as def
 use Rattle.nd_types.specs.declared.types.Attr.TheVariants as attr
-use Rattle.nd_types.specs.declared.types.Class.TheVariants.{Ref, Unique, Full}
+use Rattle.nd_types.specs.declared.types.Class.TheVariants.{Full}
 use Rattle.nd_types.specs.Layout.{align_of, hoists}
 use Rattle.nd_types.specs.Roots.{roots_of}
 use Rattle.nd_graph.specs.declared.value.Graph.{Graph}
@@ -17,7 +17,7 @@ use Rattle.nd_graph.specs.Setting.{Setting, unread, cell_home, cell_of_number, A
 use Rattle.nd_graph.specs.Deferral.{Pending, home_pointers}
 use Rattle.nd_graph.specs.Homes.{all_pointers}
 use Rattle.nd_graph.specs.Conforms.{Conforms, Reached, by_root, by_cell}
-use Rattle.nd_graph.specs.FirstMisfit.{IsFirstMisfit, IsFirstUnreached, is_local, is_shared, is_unreached}
+use Rattle.nd_graph.specs.FirstMisfit.{IsFirstMisfit, is_local, is_shared, is_unreached}
 use Rattle.nd_grammar.specs.declared.reason.Reason.TheVariants as reason
 use Rattle.nd_grammar.specs.Represents.{Represents}
 use Rattle.nd_grammar.specs.Bad.{Bad}

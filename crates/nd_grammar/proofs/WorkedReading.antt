@@ -1,23 +1,21 @@
 -- The laws of plain sides at three integers: their premises can be met.
-use Rattle.std.proofs.Common.{◌≡◌, ℕ, ◌+◌, ◌<◌, ◌≤◌, zero, suc, ℤ, pos, Bool, true, false, List, [], ◌∷◌, length, Option, Some, None, refl, sym, ◌∙◌, subst, inl, inr, ◌⊎◌, arith, lit≤, lit<}
+use Rattle.std.proofs.Common.{◌≡◌, ℕ, ℤ, pos, List, [], ◌∷◌, Some, refl, ◌⊎◌, lit≤, lit<}
 use Rattle.nd_base.specs.declared.octets.Order.TheVariants.{Big, Little}
 use Rattle.nd_types.specs.declared.types.Primitive.{Primitive}
-use Rattle.nd_types.specs.declared.types.Primitive.TheVariants.{Boolean, Short, Long, Hyper}
+use Rattle.nd_types.specs.declared.types.Primitive.TheVariants.{Short, Long, Hyper}
 use Rattle.nd_types.specs.Number.{AreOctets}
 use Rattle.nd_types.specs.Roots.{roots_of}
 use Rattle.nd_graph.specs.declared.value.Graph.{Graph}
-use Rattle.nd_graph.specs.Conforms.{Conforms}
 use Rattle.nd_grammar.specs.declared.reason.Reason.{Reason}
 use Rattle.nd_grammar.specs.declared.reason.Reason.TheVariants.{Truncated}
-use Rattle.nd_grammar.specs.Represents.{Represents}
 use Rattle.nd_grammar.specs.Prefix.{BeginsWith}
 use Rattle.nd_grammar.specs.Bad.{Bad}
-use Rattle.nd_grammar.specs.Plain.{IsPlain, numbers_at, plain_end, plain_graph, AreNumbersOf, AreCutShort}
+use Rattle.nd_grammar.specs.Plain.{IsPlain, numbers_at, plain_end, AreNumbersOf, AreCutShort}
 use Rattle.nd_grammar.specs.ExamplesPlain.{integers, one_two_three, integers_little, integers_big, cut_in_hyper, cut_in_gap}
 use Rattle.nd_grammar.proofs.PlainBad.{short_is_bad}
-use Rattle.nd_grammar.proofs.PlainNumbers.{represented_numbers, begun_numbers, numbers_begin}
+use Rattle.nd_grammar.proofs.PlainNumbers.{represented_numbers, numbers_begin}
 use Rattle.nd_grammar.proofs.PlainRefused.{bad_is_short}
-use Rattle.nd_grammar.proofs.PlainSteps.{IsRead, number_first, number_next, number_missing, numbers_done}
+use Rattle.nd_grammar.proofs.PlainSteps.{IsRead, number_first, number_next, numbers_done}
 use Rattle.nd_grammar.proofs.PlainVerdict.{one_of_two, never_both, one_graph, one_refusal}
 use Rattle.nd_grammar.proofs.WorkedPlain.{three_integers, three_integers_big, cut_number, cut_gap}
 

@@ -1,5 +1,5 @@
 -- Worked examples with unions and pipes.
-use Rattle.std.proofs.Common.{◌≡◌, ℕ, ◌<◌, ◌≤◌, zero, suc, ℤ, Bool, true, false, List, [], ◌∷◌, length, Option, Some, None, refl, arith, lit≤, lit<}
+use Rattle.std.proofs.Common.{ℤ, false, [], ◌∷◌, Some, None, refl, arith, lit<}
 use Rattle.std.specs.Prelude.{pos}
 use Rattle.nd_base.specs.declared.octets.Order.TheVariants.{Little}
 use Rattle.nd_types.specs.declared.types.TypeDef.TheVariants as def
@@ -17,7 +17,7 @@ use Rattle.nd_grammar.specs.declared.reason.Reason.TheVariants as reason
 use Rattle.nd_grammar.specs.Represents.{Represents}
 use Rattle.nd_grammar.specs.Bad.{Bad}
 use Rattle.nd_grammar.specs.Chosen.{Chosen}
-use Rattle.nd_grammar.specs.ExampleParts.{request, param, governed, field, attribute, arm, empty_arm, id, num, null, pointer_to, one, two, three, struct_of, cell, four}
+use Rattle.nd_grammar.specs.ExampleParts.{request, param, governed, field, attribute, arm, empty_arm, id, num, null, one, two, three, struct_of, four}
 use Rattle.nd_grammar.specs.ExamplesUnions.{choice, choice_of_hyper, default_chosen, choice_octets, pipe_of_longs, three_piped, chunks_of_two, first_chunk}
 use Rattle.nd_grammar.proofs.Check.{represents_so, bad_so, partial_so, chosen_so}
 

@@ -1,5 +1,5 @@
 -- Parts of the examples. Each example's table begins with the basic types, so its own types are numbered from 12 on.
-use Rattle.std.specs.Prelude.{ℕ, false, ℤ, List, [], ◌∷◌, ◌++◌, Option, Some, None}
+use Rattle.std.specs.Prelude.{ℕ, false, ℤ, List, [], ◌∷◌, ◌++◌, Some, None}
 use Rattle.nd_types.specs.declared.types.TypeDef.{TypeDef}
 use Rattle.nd_types.specs.declared.types.TypeId.{TypeId}
 use Rattle.nd_types.specs.declared.types.Attr.{Attr}

@@ -1,5 +1,5 @@
 -- Examples with arrays whose counts travel.
-use Rattle.std.specs.Prelude.{ℕ, false, ℤ, pos, List, [], ◌∷◌, Some, None}
+use Rattle.std.specs.Prelude.{ℕ, false, ℤ, pos, List, [], ◌∷◌, None}
 use Rattle.nd_types.specs.declared.types.TypeDef.TheVariants as def
 use Rattle.nd_types.specs.declared.types.Attr.TheVariants as attr
 use Rattle.nd_types.specs.declared.types.Class.TheVariants.{Ref}

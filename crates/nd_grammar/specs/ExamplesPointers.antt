@@ -1,11 +1,8 @@
 -- Examples with pointers.
-use Rattle.std.specs.Prelude.{ℕ, pos, List, [], ◌∷◌, Option, Some, None}
-use Rattle.nd_types.specs.declared.types.TypeDef.{TypeDef}
+use Rattle.std.specs.Prelude.{ℕ, pos, List, [], ◌∷◌}
 use Rattle.nd_types.specs.declared.types.TypeDef.TheVariants as def
 use Rattle.nd_types.specs.declared.types.Class.TheVariants.{Ref, Unique, Full}
 use Rattle.nd_graph.specs.declared.value.Graph.{Graph}
-use Rattle.nd_graph.specs.Tree as tree
-use Rattle.nd_graph.specs.Tree.{Tree, Trees, node, none, more, Referent}
 use Rattle.nd_graph.specs.Setting.{Setting}
 use Rattle.nd_grammar.specs.ExampleParts.{request, param, field, id, num, pointer_to, null, one, two, struct_of, cell, four}
 
