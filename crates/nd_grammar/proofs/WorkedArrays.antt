@@ -1,5 +1,5 @@
 -- Worked examples with arrays and texts whose counts travel.
-use Rattle.std.proofs.Common.{ℕ, ℤ, true, List, [], ◌∷◌, ◌++◌, Some, None, refl}
+use Rattle.std.proofs.Common.{◌≡◌, ℕ, ℤ, true, List, [], ◌∷◌, ◌++◌, Some, None, refl}
 use Rattle.std.specs.Prelude.{pos, take, drop}
 use Rattle.nd_base.specs.declared.octets.Order.TheVariants.{Little}
 use Rattle.nd_types.specs.declared.types.TypeDef.TheVariants as def
@@ -8,18 +8,24 @@ use Rattle.nd_types.specs.declared.types.Class.TheVariants.{Ref}
 use Rattle.nd_types.specs.Layout.{align_of, hoists}
 use Rattle.nd_types.specs.Roots.{roots_of}
 use Rattle.nd_graph.specs.declared.value.Graph.{Graph}
+use Rattle.nd_graph.specs.declared.item.Item.{Item}
+use Rattle.nd_graph.specs.declared.item.ItemKind.{ItemKind}
+use Rattle.nd_graph.specs.declared.item.ItemKind.TheVariants as item
 use Rattle.nd_graph.specs.declared.misfit.MisfitReason.TheVariants as misfit
 use Rattle.nd_graph.specs.Tree as tree
 use Rattle.nd_graph.specs.Tree.{Tree, node, none, more}
 use Rattle.nd_graph.specs.Setting.{Setting, unread, cell_home}
 use Rattle.nd_graph.specs.FirstMisfit.{IsFirstMisfit, is_local}
 use Rattle.nd_grammar.specs.declared.reason.Reason.TheVariants as reason
+use Rattle.nd_grammar.specs.Entry.{Entry, end_to_end}
+use Rattle.nd_grammar.specs.Stream.{representation}
+use Rattle.nd_grammar.specs.Items.{items}
 use Rattle.nd_grammar.specs.Represents.{Represents}
 use Rattle.nd_grammar.specs.Bad.{Bad}
 use Rattle.nd_grammar.specs.Chosen.{Chosen}
 use Rattle.nd_grammar.specs.ExampleParts.{request, param, governed, field, attribute, id, num, pointer_to, two, struct_of, cell, four}
 use Rattle.nd_grammar.specs.ExamplesArrays.{sized, sized_graph, sized_octets, nested, nested_graph, nested_octets}
-use Rattle.nd_grammar.proofs.Check.{represents_so, bad_so, partial_so, chosen_so}
+use Rattle.nd_grammar.proofs.Check.{represents_so, bad_so, partial_so, chosen_so, steps_of}
 
 -- the maximum count stands before the struct
 pub count_in_front : Represents sized Little (sized_octets 2) (sized_graph (pos 2))
@@ -29,6 +35,19 @@ count_in_front = represents_so sized Little (sized_octets 2) (sized_graph (pos 2
 pub sized_written : Chosen sized Little 7 (sized_graph (pos 2)) (sized_octets 2)
 unfolding align_of hoists roots_of
 sized_written = chosen_so sized Little 7 (sized_graph (pos 2)) (sized_octets 2) 20 refl refl
+
+-- its items: what a reader meets, one by one
+abbrev sized_entries : List Entry
+sized_entries = representation sized (sized_graph (pos 2)) (steps_of 20 sized (sized_graph (pos 2))) []
+
+abbrev an_item : ℕ → ℕ → ItemKind → ℕ → ℤ → Item
+an_item at len kind n value = record { at = at; len = len; kind = kind; home = cell_home 1; node = n; value = value }
+
+pub sized_items : items Little (sized_octets 2) (end_to_end 0 sized_entries)
+    ≡ an_item 0 4 item.Max 0 (pos 2) ∷ an_item 4 4 item.Gap 0 (pos 0) ∷ an_item 8 2 item.Num 1 (pos 2)
+    ∷ an_item 10 6 item.Gap 0 (pos 0) ∷ an_item 16 8 item.Num 3 (pos 1) ∷ an_item 24 8 item.Num 4 (pos 2) ∷ []
+unfolding align_of hoists roots_of
+sized_items = refl
 
 -- the size that a member states is the maximum count, else the refusal stands at the count
 pub size_disagrees : Bad sized Little (sized_octets 3) 0 (reason.Disagrees (pos 3) (pos 2))

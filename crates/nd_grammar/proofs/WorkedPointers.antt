@@ -1,7 +1,8 @@
 -- Worked examples with pointers.
-use Rattle.std.proofs.Common.{◌≡◌, ℕ, ◌<◌, zero, suc, ℤ, false, cond, eqb, List, [], ◌∷◌, Some, None, refl, sym, ◌∙◌, subst, inl, inr, ◌⊎◌, arith, lit<}
+use Rattle.std.proofs.Common.{◌≤◌, ◌≡◌, ℕ, ◌<◌, zero, suc, ℤ, false, cond, eqb, List, [], ◌∷◌, Some, None, refl, sym, ◌∙◌, subst, inl, inr, ◌⊎◌, arith, lit≤, lit<}
 use Rattle.std.proofs.lemmas.Option.{same_Some}
 use Rattle.std.specs.Prelude.{pos}
+use Rattle.std.specs.List.{slice_get}
 use Rattle.nd_base.specs.declared.octets.Order.TheVariants.{Little}
 use Rattle.nd_types.specs.declared.types.TypeDef.TheVariants as def
 use Rattle.nd_types.specs.declared.types.Attr.TheVariants as attr
@@ -16,16 +17,18 @@ use Rattle.nd_graph.specs.Tree.{Tree, node, none, more, Referent}
 use Rattle.nd_graph.specs.Setting.{Setting, unread, cell_home, cell_of_number, Among}
 use Rattle.nd_graph.specs.Deferral.{Pending, home_pointers}
 use Rattle.nd_graph.specs.Homes.{all_pointers}
+use Rattle.nd_graph.specs.Same.{renumbered}
+use Rattle.nd_graph.specs.Canon.{IsCanon, canonical_number}
 use Rattle.nd_graph.specs.Conforms.{Conforms, Reached, by_root, by_cell}
 use Rattle.nd_graph.specs.FirstMisfit.{IsFirstMisfit, is_local, is_shared, is_unreached}
 use Rattle.nd_grammar.specs.declared.reason.Reason.TheVariants as reason
 use Rattle.nd_grammar.specs.Represents.{Represents}
 use Rattle.nd_grammar.specs.Bad.{Bad}
 use Rattle.nd_grammar.specs.Chosen.{Chosen}
-use Rattle.nd_grammar.specs.Examples.{ring, ring_node, ring_of_one, ring_of_two, ring_and_stray}
+use Rattle.nd_grammar.specs.Examples.{ring, ring_node, ring_of_one, ring_of_two, ring_swapped, ring_and_stray}
 use Rattle.nd_grammar.specs.ExampleParts.{request, param, field, attribute, id, num, pointer_to, null, one, two, struct_of, cell, four}
 use Rattle.nd_grammar.specs.ExamplesPointers.{pairs, shared_leaf, shared_leaf_octets, null_y, null_y_octets, null_pair, unique_longs, two_fives, shared_five, full_longs, long_and_short, one_five_one}
-use Rattle.nd_grammar.proofs.Check.{represents_so, represents_by, bad_so, unshared_are, partial_so, chosen_so}
+use Rattle.nd_grammar.proofs.Check.{walk_gives, steps_of, represents_so, represents_by, bad_so, unshared_are, partial_so, chosen_so}
 
 -- a node that names itself
 pub ring_to_itself : Represents ring Little (four 1 (four 7 (four 1 []))) ring_of_one
@@ -107,6 +110,60 @@ ring_conforms = record {
   agreed = ((tt, tt), ((tt, tt), ((tt, tt), ((tt, tt), ((tt, tt), ((tt, tt), ((tt, tt), tt)))))));
   few_cells = lit< tt;
   few_nodes = (lit< tt, (lit< tt, (lit< tt, tt)));
+}
+
+-- The ring with its cells swapped is the same; numbered by the first pointer to each cell it is the ring again.
+abbrev swapped : ℕ → ℕ
+swapped c = canonical_number (2 ∷ 1 ∷ 2 ∷ []) c
+
+swapped_within : (c : ℕ) → 0 < c → c ≤ 2 → (0 < swapped c) × (swapped c ≤ 2)
+swapped_within zero h k = absurd (omega arith)
+swapped_within (suc zero) h k = (lit< tt, lit≤ tt)
+swapped_within (suc (suc zero)) h k = (lit< tt, lit≤ tt)
+swapped_within (suc (suc (suc c))) h k = absurd (omega arith)
+
+swapped_apart : (c d : ℕ) → 0 < c → c ≤ 2 → 0 < d → d ≤ 2 → swapped c ≡ swapped d → c ≡ d
+swapped_apart zero d h k i j e = absurd (omega arith)
+swapped_apart (suc zero) zero h k i j e = absurd (omega arith)
+swapped_apart (suc zero) (suc zero) h k i j e = refl
+swapped_apart (suc zero) (suc (suc zero)) h k i j e = cc
+swapped_apart (suc zero) (suc (suc (suc d))) h k i j e = absurd (omega arith)
+swapped_apart (suc (suc zero)) zero h k i j e = absurd (omega arith)
+swapped_apart (suc (suc zero)) (suc zero) h k i j e = cc
+swapped_apart (suc (suc zero)) (suc (suc zero)) h k i j e = refl
+swapped_apart (suc (suc zero)) (suc (suc (suc d))) h k i j e = absurd (omega arith)
+swapped_apart (suc (suc (suc c))) d h k i j e = absurd (omega arith)
+
+swapped_cells : (c d : ℕ) (x y : Referent) → slice_get ring_swapped.cells c ≡ Some x → swapped (suc c) ≡ suc d → slice_get ring_of_two.cells d ≡ Some y
+    → (x.of ≡ y.of) × (renumbered swapped (more x.val none) ≡ more y.val none)
+swapped_cells zero d x y e s f =
+    let there : d ≡ 1 = omega (arith, s) in
+    let is : ring_node (pos 8) 2 ≡ x = same_Some _ _ e in
+    let goes : ring_node (pos 8) 1 ≡ y = same_Some _ _ (subst (λ k. slice_get ring_of_two.cells k ≡ Some y) there f) in
+    subst (λ u. (u.of ≡ y.of) × (renumbered swapped (more u.val none) ≡ more y.val none)) is
+    (subst (λ v. (1 ≡ v.of) × (renumbered swapped (more (ring_node (pos 8) 2).val none) ≡ more v.val none)) goes (refl, refl))
+swapped_cells (suc zero) d x y e s f =
+    let there : d ≡ 0 = omega (arith, s) in
+    let is : ring_node (pos 7) 1 ≡ x = same_Some _ _ e in
+    let goes : ring_node (pos 7) 2 ≡ y = same_Some _ _ (subst (λ k. slice_get ring_of_two.cells k ≡ Some y) there f) in
+    subst (λ u. (u.of ≡ y.of) × (renumbered swapped (more u.val none) ≡ more y.val none)) is
+    (subst (λ v. (1 ≡ v.of) × (renumbered swapped (more (ring_node (pos 7) 1).val none) ≡ more v.val none)) goes (refl, refl))
+swapped_cells (suc (suc c)) d x y e s f = cc
+
+pub ring_canonical : IsCanon ring ring_swapped ring_of_two
+unfolding roots_of
+ring_canonical = record {
+  steps = steps_of 10 ring ring_swapped;
+  deferral = walk_gives 10 ring ring_swapped [] _ _ refl;
+  same = record {
+    image = swapped;
+    as_many = refl;
+    within = swapped_within;
+    one_to_one = swapped_apart;
+    roots = refl;
+    cells = swapped_cells;
+  };
+  numbered = λ c. refl;
 }
 
 -- a cell that nothing names is not reached: every pointer names the first

@@ -8,11 +8,12 @@ ghost use Rattle.nd_graph.specs.declared.item.Home.TheVariants as home;
 ghost use Rattle.nd_graph.specs.declared.misfit.MisfitReason.TheVariants as misfit;
 ghost use Rattle.nd_graph.specs.Setting.{cell_home};
 ghost use Rattle.nd_graph.specs.Conforms.{Conforms};
+ghost use Rattle.nd_graph.specs.Canon.{IsCanon};
 ghost use Rattle.nd_graph.specs.FirstMisfit.{IsFirstMisfit};
 ghost use Rattle.nd_grammar.specs.Represents.{Represents};
 ghost use Rattle.nd_grammar.specs.Bad.{Bad};
 ghost use Rattle.nd_grammar.specs.Chosen.{Chosen};
-ghost use Rattle.nd_grammar.specs.Examples.{ring, ring_of_one, ring_of_two, ring_and_stray};
+ghost use Rattle.nd_grammar.specs.Examples.{ring, ring_of_one, ring_of_two, ring_swapped, ring_and_stray};
 ghost use Rattle.nd_grammar.specs.ExampleParts.{num, one, four};
 ghost use Rattle.nd_grammar.specs.ExamplesPlain.{integers, one_two_three, integers_little, integers_big, cut_in_hyper, cut_in_gap, flag, true_flag, handle, a_handle, handle_little, handle_big};
 ghost use Rattle.nd_grammar.specs.ExamplesPointers.{pairs, shared_leaf, shared_leaf_octets, null_pair, unique_longs, shared_five, full_longs, long_and_short, one_five_one};
@@ -56,6 +57,11 @@ pub fn ring_conforms()
     ensures { Conforms ring ring_of_two }
 {}
 
+/// With its cells swapped it is the same ring: numbered by the first pointer to each cell it is the ring again.
+pub fn ring_renumbered()
+    ensures { IsCanon ring ring_swapped ring_of_two }
+{}
+
 /// A referent that two full pointers share stands where deferral comes to it first, and not where it is named first in place.
 pub fn first_of_deferral()
     ensures stands { Represents pairs Little shared_leaf_octets shared_leaf }
@@ -95,7 +101,10 @@ pub fn pipe_in_chunks()
 /// Where graphs do not conform: at a cell that nothing names, at a null reference pointer, and at the second of two unique pointers
 /// to one cell.
 pub fn misfits()
-    ensures unreached { IsFirstMisfit ring ring_and_stray (record { home = cell_home 2; node = 0; reason = misfit.Unreached }) }
-    ensures null_reference { IsFirstMisfit pairs null_pair (record { home = home.Root 0; node = 0; reason = misfit.NullRef }) }
-    ensures shared { IsFirstMisfit unique_longs shared_five (record { home = home.Root 1; node = 0; reason = misfit.Shared }) }
+    ensures unreached { IsFirstMisfit ring ring_and_stray
+        (record { home = cell_home 2; node = 0; reason = misfit.Unreached }) }
+    ensures null_reference { IsFirstMisfit pairs null_pair
+        (record { home = home.Root 0; node = 0; reason = misfit.NullRef }) }
+    ensures shared { IsFirstMisfit unique_longs shared_five
+        (record { home = home.Root 1; node = 0; reason = misfit.Shared }) }
 {}
