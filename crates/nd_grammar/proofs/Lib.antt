@@ -10,6 +10,7 @@ pub mod PlainBad
 pub mod PlainConforms
 pub mod PlainNumbers
 pub mod PlainRefused
+pub mod PlainSides
 pub mod PlainSteps
 pub mod PlainStreams
 pub mod PlainVerdict

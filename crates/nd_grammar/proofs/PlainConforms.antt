@@ -130,11 +130,11 @@ abbrev pub AreNumbered : Graph → ℕ → List ℤ → Type 0
 AreNumbered g i [] = Unit {0}
 AreNumbered g i (z ∷ zs) = (label_of (root_at g i) ≡ tree.Num z) × AreNumbered g (suc i) zs
 
-all_left : {X : Type 0} (P : X → Type 0) (xs ys : List X) → AllByRecursion P (xs ++ ys) → AllByRecursion P xs
+pub all_left : {X : Type 0} (P : X → Type 0) (xs ys : List X) → AllByRecursion P (xs ++ ys) → AllByRecursion P xs
 all_left P [] ys h = tt
 all_left P (x ∷ xs) ys h = (h.0, all_left P xs ys h.1)
 
-all_right : {X : Type 0} (P : X → Type 0) (xs ys : List X) → AllByRecursion P (xs ++ ys) → AllByRecursion P ys
+pub all_right : {X : Type 0} (P : X → Type 0) (xs ys : List X) → AllByRecursion P (xs ++ ys) → AllByRecursion P ys
 all_right P [] ys h = h
 all_right P (x ∷ xs) ys h = all_right P xs ys h.1
 
@@ -170,7 +170,7 @@ module _ (w : Setting) (g : Graph) where
   no_reach ps a (by_root p m e) = subst (λ xs. Among xs p) (unpointed w g ps (root_list w) g.roots 0 a) m
   no_reach ps a (by_cell x p r q m e) = no_reach ps a r
 
-  no_cells : (ps : List Primitive) → ArePlain w.table (root_list w) ps → (cells : List Referent)
+  pub no_cells : (ps : List Primitive) → ArePlain w.table (root_list w) ps → (cells : List Referent)
       → ((c : ℕ) → 0 < c → c < length cells + 1 → Reached w g c) → cells ≡ []
   no_cells ps a [] h = refl
   no_cells ps a (x ∷ xs) h = absurd (no_reach ps a (h 1 (omega arith) (omega arith)))

@@ -14,3 +14,4 @@ pub mod ExamplesPlain
 pub mod ExamplesPointers
 pub mod ExamplesArrays
 pub mod ExamplesUnions
+pub mod Primitives

@@ -93,6 +93,10 @@ value_texts table [] (more t ts) = []
 value_texts table (t ∷ types) (more (node l kids) ts) =
     node_text (type_at table t) l (value_texts table (child_types (type_at table t) l kids) kids) ∷ value_texts table types ts
 
+abbrev first_text : List (List ℕ) → List ℕ
+first_text [] = []
+first_text (text ∷ texts) = text
+
 -- the text of one value
 abbrev pub value_text : Table → ℕ → Tree → List ℕ
-value_text table t v = joined (value_texts table (t ∷ []) (more v none))
+value_text table t v = first_text (value_texts table (t ∷ []) (more v none))

@@ -15,7 +15,7 @@ abbrev pub side_word : Side → List ℕ
 side_word side.In = codes "in"
 side_word side.Out = codes "out"
 
-abbrev parameter_name : Option Param → List ℕ
+abbrev pub parameter_name : Option Param → List ℕ
 parameter_name None = []
 parameter_name (Some p) = p.field.name
 
