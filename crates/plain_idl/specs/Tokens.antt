@@ -56,6 +56,30 @@ abbrev pub hex_number : ℕ → List ℕ → ℕ
 hex_number n [] = n
 hex_number n (c ∷ cs) = if c == 45 then hex_number n cs else hex_number (16 * n + hex_digit c) cs
 
+abbrev pub open_square : Token
+open_square = Mark 91
+
+abbrev pub close_square : Token
+close_square = Mark 93
+
+abbrev pub open_round : Token
+open_round = Mark 40
+
+abbrev pub close_round : Token
+close_round = Mark 41
+
+abbrev pub open_curly : Token
+open_curly = Mark 123
+
+abbrev pub close_curly : Token
+close_curly = Mark 125
+
+abbrev pub comma : Token
+comma = Mark 44
+
+abbrev pub semicolon : Token
+semicolon = Mark 59
+
 -- the octets spell the token
 abbrev pub IsSpelled : Token → List ℕ → Type 0
 IsSpelled (Word word) octets = (is_word octets ≡ true) × (word ≡ octets)

@@ -27,7 +27,7 @@ fn continues_word(octet: u8) -> bool
 }
 
 /// The text without the spaces and line feeds at its front.
-fn unspaced(text: &[u8]) -> &[u8]
+pub fn unspaced(text: &[u8]) -> &[u8]
     ensures { result.now ≡ skip text.now }
 {
     let mut rest = text;
@@ -54,7 +54,8 @@ pub fn mark(text: &[u8], wanted: u8) -> Result<&[u8], PlainFault>
 /// Reads a word, and gives it with what follows it.
 #[tactic(auto, unfolding(crate::specs::Reading::read_word))]
 pub fn word(text: &[u8]) -> Result<(&[u8], &[u8]), PlainFault>
-    ensures { Gives (λ x. (x.0.now, x.1.now)) result (read_word text.now) }
+    ensures gives { Gives (λ x. (x.0.now, x.1.now)) result (read_word text.now) }
+    ensures some { IfOk result (λ x. 1 ≤ length x.0.now) }
 {
     let text = unspaced(text);
     match text {
