@@ -1,2 +1,4 @@
 pub mod Forms
 pub mod Apart
+pub mod Gathered
+pub mod Steps

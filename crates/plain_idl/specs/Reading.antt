@@ -1,5 +1,5 @@
 -- What the functions of the reader give, on lists.
-use Rattle.std.specs.Prelude.{◌≡◌, ℕ, zero, suc, ◌+◌, ◌*◌, Bool, true, false, not, ◌==◌, ◌&&◌, ◌||◌, if◌then◌else◌, List, [], ◌∷◌, length, codes, Option, Some, None, is_some, Result, Ok, Err}
+use Rattle.std.specs.Prelude.{◌≡◌, ℕ, zero, suc, ◌+◌, ◌*◌, Bool, true, false, not, ◌==◌, ◌&&◌, ◌||◌, if◌then◌else◌, List, [], ◌∷◌, ◌++◌, length, codes, Option, Some, None, is_some, Result, Ok, Err}
 use Rattle.std.specs.Str.{bytes_eq}
 use Rattle.nd_types.specs.declared.types.TypeId.{TypeId}
 use Rattle.nd_types.specs.declared.types.Param.{Param}
@@ -33,7 +33,7 @@ abbrev pub skip : List ℕ → List ℕ
 skip [] = []
 skip (c ∷ cs) = if is_separator c then skip cs else c ∷ cs
 
-abbrev mark_at : ℕ → List ℕ → Option (List ℕ)
+abbrev pub mark_at : ℕ → List ℕ → Option (List ℕ)
 mark_at wanted [] = None
 mark_at wanted (c ∷ cs) = if c == wanted then Some cs else None
 
@@ -141,13 +141,14 @@ has_mark wanted text = is_some (read_mark wanted text)
 unfoldable pub read_more_params : List ℕ → Option (List Param × List ℕ)
 read_more_params text = read_many (has_mark 44) read_next_param (length text + 1) text
 
+-- the items of a reading, behind others
+abbrev pub behind : {A : Type 0} → List A → Option (List A × List ℕ) → Option (List A × List ℕ)
+behind before read = read >>= λ x. Some (before ++ x.0, x.1)
+
 unfoldable pub read_params : List ℕ → Option (List Param × List ℕ)
 read_params text =
     if has_mark 41 text then Some ([], text)
-    else (do
-      first ← read_param text
-      others ← read_more_params first.1
-      Some (first.0 ∷ others.0, others.1))
+    else (read_param text >>= λ first. behind (first.0 ∷ []) (read_more_params first.1))
 
 unfoldable pub read_operation : List ℕ → Option (Operation × List ℕ)
 read_operation text = do

@@ -4,10 +4,10 @@ ghost use Rattle.std.specs.List.{list_any};
 ghost use Rattle.std.specs.Str.{bytes_eq};
 ghost use Rattle.nd_types.specs.Kinds.{basic_types as the_basic_types};
 ghost use Rattle.plain_idl.specs.Plain.{is_ident as can_be_name, reserved_words, banned_words, IsPlainFile};
-ghost use Rattle.plain_idl.specs.Reading.{Gives, type_of as type_by_word, has_mark as has_mark_next, read_mark, read_word, read_keyword, read_name, read_type, read_param, read_next_param, read_more_params, read_params, read_operation, read_operations, read_header, read_body, read_file};
+ghost use Rattle.plain_idl.specs.Reading.{Gives, behind, type_of as type_by_word, read_mark, read_word, read_keyword, read_name, read_type, read_param, read_next_param, read_more_params, read_params, read_operation, read_operations, read_header, read_body, read_file};
 
 use crate::fault::PlainFault;
-use crate::tokens::{mark, unspaced, uuid, word};
+use crate::tokens::{has_mark, mark, unspaced, uuid, word};
 use nd_base::Name;
 use nd_types::{AttrVars, Field, Operation, Operations, Param, Params, Primitive, TypeId, Way};
 use std::alloc::Global;
@@ -76,4 +76,160 @@ fn type_of(word: &[u8]) -> Option<TypeId>
         b"hyper" => Some(TypeId(Primitive::Hyper as u32)),
         _ => None,
     }
+}
+
+/// Reads an integer type.
+#[tactic(auto, unfolding(crate::specs::Reading::read_type))]
+fn integer_type(text: &[u8]) -> Result<(TypeId, &[u8]), PlainFault>
+    ensures { Gives (λ x. (x.0, x.1.now)) result (read_type text.now) }
+{
+    let (word, rest) = word(text)?;
+    match type_of(word) {
+        Some(of) => Ok((of, rest)),
+        None => Err(PlainFault::NotBuilt),
+    }
+}
+
+/// Reads a parameter.
+#[tactic(auto, unfolding(crate::specs::Reading::read_param))]
+fn param(alloc: Global, text: &[u8]) -> Result<(Param, &[u8]), PlainFault>
+    ensures { Gives (λ x. (x.0, x.1.now)) result (read_param text.now) }
+{
+    let text = mark(text, b'[')?;
+    let text = keyword(text, b"in")?;
+    let text = mark(text, b']')?;
+    let (of, text) = integer_type(text)?;
+    let (name, text) = name(alloc, text)?;
+    let field = Field {
+        name,
+        of,
+        vars: AttrVars::new(alloc),
+    };
+    Ok((Param { field, way: Way::In }, text))
+}
+
+/// Reads a comma and a parameter.
+#[tactic(auto, unfolding(crate::specs::Reading::read_next_param))]
+fn next_param(alloc: Global, text: &[u8]) -> Result<(Param, &[u8]), PlainFault>
+    ensures { Gives (λ x. (x.0, x.1.now)) result (read_next_param text.now) }
+{
+    let text = mark(text, b',')?;
+    param(alloc, text)
+}
+
+/// Reads the parameters behind the first, behind those that were read before.
+fn more_params<'a>(
+    alloc: Global,
+    before: Params,
+    text: &'a [u8],
+) -> Result<(Params, &'a [u8]), PlainFault>
+    ensures { Gives (λ x. (x.0, x.1.now)) result (behind before (read_more_params text.now)) }
+{
+    let mut params = before;
+    let mut rest = text;
+    while has_mark(rest, b',') {
+        let (param, after) = next_param(alloc, rest)?;
+        params.push(param)?;
+        rest = after;
+    }
+    Ok((params, rest))
+}
+
+/// Reads the parameters of an operation, up to the closing bracket.
+#[tactic(auto, unfolding(crate::specs::Reading::read_params))]
+fn params(alloc: Global, text: &[u8]) -> Result<(Params, &[u8]), PlainFault>
+    ensures { Gives (λ x. (x.0, x.1.now)) result (read_params text.now) }
+{
+    let mut params = Params::new(alloc);
+    if has_mark(text, b')') {
+        return Ok((params, text));
+    }
+    let (first, text) = param(alloc, text)?;
+    params.push(first)?;
+    more_params(alloc, params, text)
+}
+
+/// Reads an operation.
+#[tactic(auto, unfolding(crate::specs::Reading::read_operation))]
+fn operation(alloc: Global, text: &[u8]) -> Result<(Operation, &[u8]), PlainFault>
+    ensures { Gives (λ x. (x.0, x.1.now)) result (read_operation text.now) }
+{
+    let text = keyword(text, b"void")?;
+    let (name, text) = name(alloc, text)?;
+    let text = mark(text, b'(')?;
+    let (params, text) = params(alloc, text)?;
+    let text = mark(text, b')')?;
+    let text = mark(text, b';')?;
+    let operation = Operation {
+        name,
+        params,
+        result: None,
+    };
+    Ok((operation, text))
+}
+
+/// Reads operations, up to a closing curly bracket.
+fn operations(alloc: Global, text: &[u8]) -> Result<(Operations, &[u8]), PlainFault>
+    ensures { Gives (λ x. (x.0, x.1.now)) result (read_operations text.now) }
+{
+    let mut operations = Operations::new(alloc);
+    let mut rest = text;
+    while !has_mark(rest, b'}') {
+        let (operation, after) = operation(alloc, rest)?;
+        operations.push(operation)?;
+        rest = after;
+    }
+    Ok((operations, rest))
+}
+
+/// Reads `[uuid(..)]`, and gives the UUID.
+#[tactic(auto, unfolding(crate::specs::Reading::read_header))]
+fn header(text: &[u8]) -> Result<(u128, &[u8]), PlainFault>
+    ensures { Gives (λ x. (x.0, x.1.now)) result (read_header text.now) }
+{
+    let text = mark(text, b'[')?;
+    let text = keyword(text, b"uuid")?;
+    let text = mark(text, b'(')?;
+    let (id, text) = uuid(text)?;
+    let text = mark(text, b')')?;
+    let text = mark(text, b']')?;
+    Ok((id, text))
+}
+
+/// Reads the operations between curly brackets, behind which nothing may stand.
+#[tactic(auto, unfolding(crate::specs::Reading::read_body))]
+fn body(alloc: Global, text: &[u8]) -> Result<Operations, PlainFault>
+    ensures { Gives (λ x. x) result (read_body text.now) }
+{
+    let text = mark(text, b'{')?;
+    let (operations, text) = operations(alloc, text)?;
+    let text = mark(text, b'}')?;
+    if !unspaced(text).is_empty() {
+        return Err(PlainFault::NotBuilt);
+    }
+    Ok(operations)
+}
+
+/// What a file says: the UUID, the name and the operations of its interface.
+#[derive(Drop)]
+struct Declared {
+    id: u128,
+    name: Name,
+    operations: Operations,
+}
+
+/// Reads a whole file.
+#[tactic(auto, unfolding(crate::specs::Reading::read_file))]
+fn file(alloc: Global, text: &[u8]) -> Result<Declared, PlainFault>
+    ensures { Gives (λ x. (x.id, x.name, x.operations)) result (read_file text.now) }
+{
+    let (id, text) = header(text)?;
+    let text = keyword(text, b"interface")?;
+    let (name, text) = name(alloc, text)?;
+    let operations = body(alloc, text)?;
+    Ok(Declared {
+        id,
+        name,
+        operations,
+    })
 }

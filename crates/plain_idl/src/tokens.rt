@@ -1,7 +1,7 @@
 // The tokens of a plain file, one at a time.
 ghost use Rattle.std.specs.Prelude.{◌≡◌, ◌≢◌, ◌+◌, ◌*◌, ◌<◌, ◌≤◌, ◌^◌, true, length, take, drop, IfSome, IfOk, if◌then◌else◌};
 ghost use Rattle.plain_idl.specs.Tokens.{is_separator, is_letter, is_word_octet, is_hex_digit, hex_digit};
-ghost use Rattle.plain_idl.specs.Reading.{Gives, skip, read_mark, read_word, read_uuid, word_run, after_run, place_at, digit_count, form_at};
+ghost use Rattle.plain_idl.specs.Reading.{Gives, skip, has_mark as has_mark_next, read_mark, read_word, read_uuid, word_run, after_run, place_at, digit_count, form_at};
 
 use crate::fault::PlainFault;
 
@@ -49,6 +49,14 @@ pub fn mark(text: &[u8], wanted: u8) -> Result<&[u8], PlainFault>
         [first, rest @ ..] if *first == wanted => Ok(rest),
         _ => Err(PlainFault::NotBuilt),
     }
+}
+
+/// Whether a mark comes next.
+#[tactic(auto, unfolding(crate::specs::Reading::has_mark, crate::specs::Reading::read_mark))]
+pub fn has_mark(text: &[u8], wanted: u8) -> bool
+    ensures { result ≡ has_mark_next wanted text.now }
+{
+    matches!(unspaced(text), [first, ..] if *first == wanted)
 }
 
 /// Reads a word, and gives it with what follows it.
