@@ -2,3 +2,5 @@ pub mod Forms
 pub mod Apart
 pub mod Gathered
 pub mod Steps
+pub mod Octets
+pub mod Cuts

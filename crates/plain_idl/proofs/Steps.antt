@@ -11,7 +11,7 @@ use Rattle.plain_idl.specs.Tokens.{is_separator, is_letter, is_word_octet}
 use Rattle.plain_idl.specs.Plain.{is_ident}
 use Rattle.plain_idl.specs.Reading.{◌>>=◌, skip, has_mark, mark_at, word_run, after_run, word_at, read_mark, read_word, read_keyword, read_name, read_type, type_of, read_param, read_next_param, behind, read_many, read_params, read_more_params, read_operation}
 
-some_same : {A : Type 0} {x y : A} → Some x ≡ Some y → x ≡ y
+pub some_same : {A : Type 0} {x y : A} → Some x ≡ Some y → x ≡ y
 some_same e = cc
 
 -- what a reading went through
