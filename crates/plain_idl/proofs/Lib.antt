@@ -4,3 +4,6 @@ pub mod Gathered
 pub mod Steps
 pub mod Octets
 pub mod Cuts
+pub mod Grammar
+pub mod Many
+pub mod File

@@ -1,0 +1,133 @@
+-- A text that is read is a plain file, and each plain file is read.
+use Rattle.std.proofs.Common.{◌≡◌, ◌≢◌, ℕ, zero, suc, ◌+◌, ◌<◌, ◌≤◌, Bool, true, false, not, ◌&&◌, List, [], ◌∷◌, ◌++◌, Option, Some, None, IsSome, All, AllPairs, length, cond, codes, flat_map, refl, sym, ap, subst, ◌∙◌, arith, append_assoc}
+use Rattle.std.specs.List.{AllByRecursion, list_all}
+use Rattle.std.proofs.lemmas.Bool.{cond-true, cond-false, both_ways, and_parts, and_from}
+use Rattle.nd_base.specs.declared.TheConstants.{FILE_LIMIT}
+use Rattle.nd_types.specs.declared.types.Param.{Param}
+use Rattle.nd_types.specs.declared.types.Operation.{Operation}
+use Rattle.nd_types.specs.declared.interface.Interface.{Interface}
+use Rattle.nd_types.specs.Kinds.{basic_types}
+use Rattle.nd_types.specs.Plain.{IsPlainParam, IsPlainOperation, IsPlainInterface}
+use Rattle.plain_idl.specs.Tokens.{Token, Word, Uuid, Mark, AreCut}
+use Rattle.plain_idl.specs.Plain.{is_ident, has_idents, uuid_tokens, operation_tokens, tokens_of, IsPlainFile}
+use Rattle.plain_idl.specs.Limits.{IsWithinLimits, AreWithinLimits}
+use Rattle.plain_idl.specs.Reading.{◌>>=◌, is_empty, skip, read_mark, read_keyword, read_name, read_uuid, read_operations, read_header, read_body, read_file}
+use Rattle.plain_idl.proofs.Steps.{bind_some, guard_some, some_same, name_steps}
+use Rattle.plain_idl.proofs.Many.{IsCutAs}
+use Rattle.plain_idl.proofs.Cuts.{skip_all, all_skipped, mark_cut, mark_read, keyword_cut, keyword_read, name_cut, name_read, uuid_cut, uuid_read}
+use Rattle.plain_idl.proofs.Grammar.{IsGoodParam, IsGoodOperation, operations_cut, operations_again}
+
+-- ## The parts of a file
+
+-- the header's tokens from the place after each of its first tokens on
+abbrev header_end : List Token → List Token
+header_end ts = Mark 41 ∷ Mark 93 ∷ ts
+
+abbrev header_id : ℕ → List Token → List Token
+header_id id ts = Uuid id ∷ header_end ts
+
+abbrev header_open : ℕ → List Token → List Token
+header_open id ts = Mark 40 ∷ header_id id ts
+
+abbrev header_word : ℕ → List Token → List Token
+header_word id ts = Word (codes "uuid") ∷ header_open id ts
+
+header_cut : (text : List ℕ) (id : ℕ) (rest : List ℕ) → read_header text ≡ Some (id, rest) → IsCutAs text (uuid_tokens (Some id)) rest
+unfolding read_header
+header_cut text id rest e ts cut =
+    let a = bind_some (read_mark 91 text) _ (id, rest) e in
+    let b = bind_some (read_keyword (codes "uuid") a.0) _ (id, rest) a.2 in
+    let c = bind_some (read_mark 40 b.0) _ (id, rest) b.2 in
+    let d = bind_some (read_uuid c.0) _ (id, rest) c.2 in
+    let f = bind_some (read_mark 41 d.0.1) _ (id, rest) d.2 in
+    let g = bind_some (read_mark 93 f.0) _ (id, rest) f.2 in
+    let same = some_same g.2 in
+    let n : d.0.0 ≡ id = ap (λ x. x.0) same in
+    let r : g.0 ≡ rest = ap (λ x. x.1) same in
+    subst (λ (n : ℕ). AreCut text (Mark 91 ∷ header_word n ts)) n
+      (mark_cut 91 text a.0 (header_word d.0.0 ts) refl a.1
+        (keyword_cut (codes "uuid") a.0 b.0 (header_open d.0.0 ts) b.1
+          (mark_cut 40 b.0 c.0 (header_id d.0.0 ts) refl c.1
+            (uuid_cut c.0 d.0.0 d.0.1 (header_end ts) d.1
+              (mark_cut 41 d.0.1 f.0 (Mark 93 ∷ ts) refl f.1
+                (mark_cut 93 f.0 g.0 ts refl g.1 (subst (λ (x : List ℕ). AreCut x ts) (sym r) cut)))))))
+
+header_again : (id : ℕ) (text : List ℕ) (ts : List Token) → AreCut text (uuid_tokens (Some id) ++ ts) → (rest : List ℕ) × (read_header text ≡ Some (id, rest)) × AreCut rest ts
+unfolding read_header
+header_again id text ts cut =
+    let a = mark_read 91 text (header_word id ts) cut in
+    let b = keyword_read (codes "uuid") a.0 (header_open id ts) a.2 in
+    let c = mark_read 40 b.0 (header_id id ts) b.2 in
+    let d = uuid_read id c.0 (header_end ts) c.2 in
+    let f = mark_read 41 d.0 (Mark 93 ∷ ts) d.2 in
+    let g = mark_read 93 f.0 ts f.2 in
+    (g.0, rw (a.1, b.1, c.1, d.1, f.1, g.1) refl, g.2)
+
+empty_is : (s : List ℕ) → is_empty s ≡ true → s ≡ []
+empty_is [] h = refl
+empty_is (c ∷ cs) h = absurd (both_ways false refl h)
+
+-- the tokens of a body
+abbrev body_tokens : List Operation → List Token
+body_tokens os = flat_map operation_tokens os ++ (Mark 125 ∷ [])
+
+body_cut : (text : List ℕ) (os : List Operation) → read_body text ≡ Some os → AllByRecursion IsGoodOperation os × AreCut text (Mark 123 ∷ body_tokens os)
+unfolding read_body
+body_cut text os e =
+    let a = bind_some (read_mark 123 text) _ os e in
+    let b = bind_some (read_operations a.0) _ os a.2 in
+    let c = bind_some (read_mark 125 b.0.1) _ os b.2 in
+    let g = guard_some (is_empty (skip c.0)) b.0.0 os c.2 in
+    let p = operations_cut a.0 b.0.0 b.0.1 b.1 in
+    subst (λ (l : List Operation). AllByRecursion IsGoodOperation l × AreCut text (Mark 123 ∷ body_tokens l)) g.1
+      (p.0, mark_cut 123 text a.0 (body_tokens b.0.0) refl a.1
+        (p.1 (Mark 125 ∷ []) (mark_cut 125 b.0.1 c.0 [] refl c.1 (all_skipped c.0 (empty_is (skip c.0) g.0)))))
+
+body_again : (os : List Operation) (text : List ℕ) → AllByRecursion IsGoodOperation os → AreCut text (Mark 123 ∷ body_tokens os) → read_body text ≡ Some os
+unfolding read_body
+body_again os text good cut =
+    let a = mark_read 123 text (body_tokens os) cut in
+    let b = operations_again os a.0 [] good a.2 in
+    let c = mark_read 125 b.0 [] b.2 in
+    let empty : is_empty (skip c.0) ≡ true = ap is_empty (skip_all c.0 c.2) in
+    rw (a.1, b.1, c.1) (cond-true (is_empty (skip c.0)) (Some os) None empty)
+
+-- ## The whole
+
+-- the tokens from the word `interface` on, and from the name on
+abbrev from_name : List ℕ → List Operation → List Token
+from_name name os = Word name ∷ Mark 123 ∷ body_tokens os
+
+abbrev from_interface : List ℕ → List Operation → List Token
+from_interface name os = Word (codes "interface") ∷ from_name name os
+
+-- what a file says: its tokens are these, and its parts are good
+pub record Says (text : List ℕ) (id : ℕ) (name : List ℕ) (os : List Operation) : Type 0 where
+  pub tokens : AreCut text (uuid_tokens (Some id) ++ from_interface name os)
+  pub ident : is_ident name ≡ true
+  pub good : AllByRecursion IsGoodOperation os
+
+pub file_says : (text : List ℕ) (id : ℕ) (name : List ℕ) (os : List Operation) → read_file text ≡ Some (id, name, os) → Says text id name os
+unfolding read_file
+file_says text id name os e =
+    let a = bind_some (read_header text) _ (id, name, os) e in
+    let b = bind_some (read_keyword (codes "interface") a.0.1) _ (id, name, os) a.2 in
+    let c = bind_some (read_name b.0) _ (id, name, os) b.2 in
+    let d = bind_some (read_body c.0.1) _ (id, name, os) c.2 in
+    let n = name_steps b.0 c.0.0 c.0.1 c.1 in
+    let p = body_cut c.0.1 d.0 d.1 in
+    subst (λ (p : ℕ × List ℕ × List Operation). Says text p.0 p.1 p.2) (some_same d.2)
+      (record {
+        tokens = header_cut text a.0.0 a.0.1 a.1 (from_interface c.0.0 d.0)
+          (keyword_cut (codes "interface") a.0.1 b.0 (from_name c.0.0 d.0) b.1 (name_cut b.0 c.0.0 c.0.1 (Mark 123 ∷ body_tokens d.0) c.1 p.1));
+        ident = n.1; good = p.0
+      })
+
+pub file_again : (text : List ℕ) (id : ℕ) (name : List ℕ) (os : List Operation) → Says text id name os → read_file text ≡ Some (id, name, os)
+unfolding read_file
+file_again text id name os s =
+    let a = header_again id text (from_interface name os) s.tokens in
+    let b = keyword_read (codes "interface") a.0 (from_name name os) a.2 in
+    let c = name_read name b.0 (Mark 123 ∷ body_tokens os) s.ident b.2 in
+    let d = body_again os c.0 s.good c.2 in
+    rw (a.1, b.1, c.1, d) refl
