@@ -2,16 +2,19 @@
 use Rattle.std.proofs.Common.{◌≡◌, ◌≢◌, ℕ, zero, suc, ◌+◌, ◌<◌, ◌≤◌, Bool, true, false, not, ◌&&◌, List, [], ◌∷◌, ◌++◌, Option, Some, None, IsSome, All, AllPairs, length, cond, codes, flat_map, refl, sym, ap, subst, ◌∙◌, arith, append_assoc}
 use Rattle.std.specs.List.{AllByRecursion, list_all}
 use Rattle.std.proofs.lemmas.Bool.{cond-true, cond-false, both_ways, and_parts, and_from}
+use Rattle.std.proofs.lemmas.List.Elements.{All-from_recursion, recursion_from_All}
 use Rattle.nd_base.specs.declared.TheConstants.{FILE_LIMIT}
 use Rattle.nd_types.specs.declared.types.Param.{Param}
 use Rattle.nd_types.specs.declared.types.Operation.{Operation}
 use Rattle.nd_types.specs.declared.interface.Interface.{Interface}
 use Rattle.nd_types.specs.Kinds.{basic_types}
 use Rattle.nd_types.specs.Plain.{IsPlainParam, IsPlainOperation, IsPlainInterface}
+use Rattle.plain_idl.specs.declared.fault.PlainFault.{PlainFault}
+use Rattle.plain_idl.specs.declared.fault.PlainFault.TheVariants as faults
 use Rattle.plain_idl.specs.Tokens.{Token, Word, Uuid, Mark, AreCut}
 use Rattle.plain_idl.specs.Plain.{is_ident, has_idents, uuid_tokens, operation_tokens, tokens_of, IsPlainFile}
 use Rattle.plain_idl.specs.Limits.{IsWithinLimits, AreWithinLimits}
-use Rattle.plain_idl.specs.Reading.{◌>>=◌, is_empty, skip, read_mark, read_keyword, read_name, read_uuid, read_operations, read_header, read_body, read_file}
+use Rattle.plain_idl.specs.Reading.{◌>>=◌, Fails, is_empty, skip, read_mark, read_keyword, read_name, read_uuid, read_operations, read_header, read_body, read_file}
 use Rattle.plain_idl.proofs.Steps.{bind_some, guard_some, some_same, name_steps}
 use Rattle.plain_idl.proofs.Many.{IsCutAs}
 use Rattle.plain_idl.proofs.Cuts.{skip_all, all_skipped, mark_cut, mark_read, keyword_cut, keyword_read, name_cut, name_read, uuid_cut, uuid_read}
@@ -131,3 +134,116 @@ file_again text id name os s =
     let c = name_read name b.0 (Mark 123 ∷ body_tokens os) s.ident b.2 in
     let d = body_again os c.0 s.good c.2 in
     rw (a.1, b.1, c.1, d) refl
+
+-- ## Plain files
+
+both : {X : Type 0} (P Q R : X → Type 0) → ((x : X) → P x → Q x → R x) → (xs : List X) → AllByRecursion P xs → AllByRecursion Q xs → AllByRecursion R xs
+both P Q R join [] p q = tt
+both P Q R join (x ∷ xs) p q = (join x p.0 q.0, both P Q R join xs p.1 q.1)
+
+weaker : {X : Type 0} (P Q : X → Type 0) → ((x : X) → P x → Q x) → (xs : List X) → AllByRecursion P xs → AllByRecursion Q xs
+weaker P Q turn [] p = tt
+weaker P Q turn (x ∷ xs) p = (turn x p.0, weaker P Q turn xs p.1)
+
+-- a test of each item
+all_pass : {X : Type 0} (test : X → Bool) (xs : List X) → AllByRecursion (λ x. test x ≡ true) xs → list_all test xs ≡ true
+all_pass test [] p = refl
+all_pass test (x ∷ xs) p = and_from (test x) (list_all test xs) p.0 (all_pass test xs p.1)
+
+pass_all : {X : Type 0} (test : X → Bool) (xs : List X) → list_all test xs ≡ true → AllByRecursion (λ x. test x ≡ true) xs
+pass_all test [] p = tt
+pass_all test (x ∷ xs) p = let q = and_parts (test x) (list_all test xs) p in (q.0, pass_all test xs q.1)
+
+good_names : (o : Operation) → IsGoodOperation o → has_idents o ≡ true
+good_names o g =
+    and_from (is_ident o.name) (list_all (λ p. is_ident p.field.name) o.params) g.name
+      (all_pass (λ p. is_ident p.field.name) o.params (weaker IsGoodParam (λ p. is_ident p.field.name ≡ true) (λ p g. g.1) o.params g.params))
+
+good_plain : (o : Operation) → IsGoodOperation o → IsWithinLimits o → IsPlainOperation o
+good_plain o g w = record {
+  params = All-from_recursion IsPlainParam o.params (weaker IsGoodParam IsPlainParam (λ p g. g.0) o.params g.params);
+  no_result = g.no_result; few = w.few; distinct = w.distinct
+}
+
+plain_good : (o : Operation) → IsPlainOperation o → has_idents o ≡ true → IsGoodOperation o
+plain_good o p h =
+    let n = and_parts (is_ident o.name) (list_all (λ p. is_ident p.field.name) o.params) h in
+    record {
+      params = both IsPlainParam (λ p. is_ident p.field.name ≡ true) IsGoodParam (λ x p q. (p, q)) o.params
+        (recursion_from_All IsPlainParam o.params p.params) (pass_all (λ p. is_ident p.field.name) o.params n.1);
+      no_result = p.no_result; name = n.0
+    }
+
+pub says_plain : (text : List ℕ) (id : ℕ) (name : List ℕ) (os : List Operation) → Says text id name os → AreWithinLimits os → IsPlainInterface basic_types os
+says_plain text id name os s w = record {
+  basic = refl; few = w.few; distinct = w.distinct;
+  plain = All-from_recursion IsPlainOperation os
+    (both IsGoodOperation IsWithinLimits IsPlainOperation good_plain os s.good (recursion_from_All IsWithinLimits os w.each))
+}
+
+pub says_names : (text : List ℕ) (id : ℕ) (name : List ℕ) (os : List Operation) → Says text id name os → (is_ident name && list_all has_idents os) ≡ true
+says_names text id name os s =
+    and_from (is_ident name) (list_all has_idents os) s.ident
+      (all_pass has_idents os (weaker IsGoodOperation (λ o. has_idents o ≡ true) good_names os s.good))
+
+some_id : (o : Option ℕ) → IsSome o → (id : ℕ) × (o ≡ Some id)
+some_id None h = absurd (both_ways false refl h)
+some_id (Some id) h = (id, refl)
+
+-- what a plain file says
+pub plain_says : (text : List ℕ) (i : Interface) → IsPlainFile text i → (id : ℕ) × (i.uuid ≡ Some id) × Says text id i.name i.operations × AreWithinLimits i.operations
+plain_says text i f =
+    let u = some_id i.uuid f.identified in
+    let n = and_parts (is_ident i.name) (list_all has_idents i.operations) f.names in
+    let plain = recursion_from_All IsPlainOperation i.operations f.plain.plain in
+    (u.0, u.1,
+      record {
+        tokens = subst (λ (o : Option ℕ). AreCut text (uuid_tokens o ++ from_interface i.name i.operations)) u.1 f.tokens;
+        ident = n.0;
+        good = both IsPlainOperation (λ o. has_idents o ≡ true) IsGoodOperation plain_good i.operations plain (pass_all has_idents i.operations n.1)
+      },
+      record {
+        few = f.plain.few; distinct = f.plain.distinct;
+        each = All-from_recursion IsWithinLimits i.operations (weaker IsPlainOperation IsWithinLimits (λ o p. record { few = p.few; distinct = p.distinct }) i.operations plain)
+      })
+
+-- what is read of a text that declares an interface
+pub plain_read : (text : List ℕ) (i : Interface) → IsPlainFile text i → (id : ℕ) × (i.uuid ≡ Some id) × (read_file text ≡ Some (id, i.name, i.operations))
+plain_read text i f = let s = plain_says text i f in (s.0, s.1, file_again text s.0 i.name i.operations s.2)
+
+-- a file that cannot be read declares nothing
+pub unread : (text : List ℕ) (i : Interface) → read_file text ≡ None → IsPlainFile text i → ⊥
+unread text i none f = let r = plain_read text i f in let e = sym none ∙ r.2 in let P : Option (ℕ × List ℕ × List Operation) → Type 0 = has_none in subst P e tt where
+  has_none : Option (ℕ × List ℕ × List Operation) → Type 0
+  has_none None = Unit {0}
+  has_none (Some x) = ⊥
+
+pub refused : (text : List ℕ) (i : Interface) (e : PlainFault) → Fails e (read_file text) → e ≡ faults.NotBuilt → IsPlainFile text i → ⊥
+refused text i e fails is f = unread text i (subst (λ (x : PlainFault). Fails x (read_file text)) is fails) f
+
+pub memory_is_none : faults.Memory ≡ faults.NotBuilt → ⊥
+memory_is_none e = let P : PlainFault → Type 0 = is_memory in subst P e tt where
+  is_memory : PlainFault → Type 0
+  is_memory faults.Memory = Unit {0}
+  is_memory faults.NotBuilt = ⊥
+
+-- nor does one whose operations are past the limits
+pub past_limits : (text : List ℕ) (i : Interface) (id : ℕ) (name : List ℕ) (os : List Operation) → read_file text ≡ Some (id, name, os) → (AreWithinLimits os → ⊥) → IsPlainFile text i → ⊥
+past_limits text i id name os e past f =
+    let s = plain_says text i f in
+    let r = some_same (sym e ∙ file_again text s.0 i.name i.operations s.2) in
+    past (subst AreWithinLimits (sym (ap (λ x. x.2) r)) s.3)
+
+-- ## One interface
+
+-- two interfaces with the same parts are one: that an interface is legal has one proof
+same_interface : (i j : Interface) → (p : (i.name ≡ j.name) × (i.uuid ≡ j.uuid) × (i.major ≡ j.major) × (i.minor ≡ j.minor) × (i.types ≡ j.types) × (i.operations ≡ j.operations)) → i ≡ j
+same_interface i j p = ?
+
+pub one_interface : (text : List ℕ) (i j : Interface) → IsPlainFile text i → IsPlainFile text j → i ≡ j
+one_interface text i j f g =
+    let a = plain_read text i f in
+    let b = plain_read text j g in
+    let r = some_same (sym a.2 ∙ b.2) in
+    same_interface i j
+      (ap (λ x. x.1) r, a.1 ∙ (ap (λ x. Some x.0) r ∙ sym b.1), f.major ∙ sym g.major, f.minor ∙ sym g.minor, f.plain.basic ∙ sym g.plain.basic, ap (λ x. x.2) r)

@@ -2,8 +2,7 @@
 ghost use Rattle.std.specs.Prelude.{◌≡◌, ◌≤◌, ◌++◌, Some, None, codes, length, map};
 ghost use Rattle.std.specs.List.{list_any};
 ghost use Rattle.std.specs.Str.{bytes_eq};
-ghost use Rattle.nd_types.specs.Kinds.{basic_types as the_basic_types};
-ghost use Rattle.plain_idl.specs.Plain.{is_ident as can_be_name, reserved_words, banned_words, IsPlainFile};
+ghost use Rattle.plain_idl.specs.Plain.{is_ident as can_be_name, reserved_words, banned_words};
 ghost use Rattle.plain_idl.specs.Reading.{Gives, behind, type_of as type_by_word, read_mark, read_word, read_keyword, read_name, read_type, read_param, read_next_param, read_more_params, read_params, read_operation, read_operations, read_header, read_body, read_file};
 
 use crate::fault::PlainFault;
@@ -212,15 +211,15 @@ fn body(alloc: Global, text: &[u8]) -> Result<Operations, PlainFault>
 
 /// What a file says: the UUID, the name and the operations of its interface.
 #[derive(Drop)]
-struct Declared {
-    id: u128,
-    name: Name,
-    operations: Operations,
+pub struct Declared {
+    pub id: u128,
+    pub name: Name,
+    pub operations: Operations,
 }
 
 /// Reads a whole file.
 #[tactic(auto, unfolding(crate::specs::Reading::read_file))]
-fn file(alloc: Global, text: &[u8]) -> Result<Declared, PlainFault>
+pub fn file(alloc: Global, text: &[u8]) -> Result<Declared, PlainFault>
     ensures { Gives (λ x. (x.id, x.name, x.operations)) result (read_file text.now) }
 {
     let (id, text) = header(text)?;
