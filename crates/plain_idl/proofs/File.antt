@@ -3,10 +3,13 @@ use Rattle.std.proofs.Common.{◌≡◌, ◌≢◌, ℕ, zero, suc, ◌+◌, ◌
 use Rattle.std.specs.List.{AllByRecursion, list_all}
 use Rattle.std.proofs.lemmas.Bool.{cond-true, cond-false, both_ways, and_parts, and_from}
 use Rattle.std.proofs.lemmas.List.Elements.{All-from_recursion, recursion_from_All}
+use Rattle.std.proofs.Props.{props}
 use Rattle.nd_base.specs.declared.TheConstants.{FILE_LIMIT}
 use Rattle.nd_types.specs.declared.types.Param.{Param}
 use Rattle.nd_types.specs.declared.types.Operation.{Operation}
 use Rattle.nd_types.specs.declared.interface.Interface.{Interface}
+use Rattle.nd_types.specs.Table.{Table}
+use Rattle.nd_types.specs.Legal.{IsLegal}
 use Rattle.nd_types.specs.Kinds.{basic_types}
 use Rattle.nd_types.specs.Plain.{IsPlainParam, IsPlainOperation, IsPlainInterface}
 use Rattle.plain_idl.specs.declared.fault.PlainFault.{PlainFault}
@@ -236,9 +239,25 @@ past_limits text i id name os e past f =
 
 -- ## One interface
 
--- two interfaces with the same parts are one: that an interface is legal has one proof
-same_interface : (i j : Interface) → (p : (i.name ≡ j.name) × (i.uuid ≡ j.uuid) × (i.major ≡ j.major) × (i.minor ≡ j.minor) × (i.types ≡ j.types) × (i.operations ≡ j.operations)) → i ≡ j
-same_interface i j p = ?
+legal_once : (types : Table) (operations : List Operation) → IsProp (IsLegal types operations)
+legal_once types operations = hlevel props
+
+-- an interface without the proof that it is legal
+abbrev Parts : Type 0
+Parts = List ℕ × Option ℕ × ℕ × ℕ × Table × List Operation
+
+abbrev parts : Interface → Parts
+parts i = (i.name, i.uuid, i.major, i.minor, i.types, i.operations)
+
+-- two interfaces with the same parts are one, since there is one proof that an interface is legal
+same_parts : (i j : Interface) → parts i ≡ parts j → i ≡ j
+same_parts i j e = subst (λ (p : Parts). (legal : IsLegal p.4 p.5) → i ≡ record { name = p.0; uuid = p.1; major = p.2; minor = p.3; types = p.4; operations = p.5; legal = legal }) e
+    (λ legal. ap (λ (l : IsLegal i.types i.operations). record { name = i.name; uuid = i.uuid; major = i.major; minor = i.minor; types = i.types; operations = i.operations; legal = l }) (legal_once i.types i.operations i.legal legal)) j.legal
+
+same_interface : (i j : Interface) → i.name ≡ j.name → i.uuid ≡ j.uuid → i.major ≡ j.major → i.minor ≡ j.minor → i.types ≡ j.types → i.operations ≡ j.operations → i ≡ j
+same_interface i j a b c d f g =
+    let e : parts i ≡ parts j = cc in
+    same_parts i j e
 
 pub one_interface : (text : List ℕ) (i j : Interface) → IsPlainFile text i → IsPlainFile text j → i ≡ j
 one_interface text i j f g =
@@ -246,4 +265,4 @@ one_interface text i j f g =
     let b = plain_read text j g in
     let r = some_same (sym a.2 ∙ b.2) in
     same_interface i j
-      (ap (λ x. x.1) r, a.1 ∙ (ap (λ x. Some x.0) r ∙ sym b.1), f.major ∙ sym g.major, f.minor ∙ sym g.minor, f.plain.basic ∙ sym g.plain.basic, ap (λ x. x.2) r)
+      (ap (λ x. x.1) r) (a.1 ∙ (ap (λ x. Some x.0) r ∙ sym b.1)) (f.major ∙ sym g.major) (f.minor ∙ sym g.minor) (f.plain.basic ∙ sym g.plain.basic) (ap (λ x. x.2) r)
