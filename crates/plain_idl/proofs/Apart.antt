@@ -21,12 +21,12 @@ none_more P xs i x e none not h =
     let size : length (take (i + 1) xs) ≡ i + 1 = length-take-le (i + 1) xs (omega arith) in
     let size_before : length (take i xs) ≡ i = length-take-le i xs (omega arith) in
     elim (cases_lt h.0 i) [
-      inl before ↦ none (h.0, h.1, omega arith, get_or-take i xs h.0 h.1 before ∙ (sym (get_or-take (i + 1) xs h.0 h.1 (omega arith)) ∙ h.3), h.4)
-    | inr after ↦
-        let here : h.0 ≡ i = omega arith in
-        let y : get_or xs i h.1 ≡ h.1 = ap (λ (k : ℕ). get_or xs k h.1) (sym here) ∙ (sym (get_or-take (i + 1) xs h.0 h.1 (omega arith)) ∙ h.3) in
-        let same : h.1 ≡ x = sym y ∙ get_or_from_slice_get xs i x h.1 e in
-        not (subst P same h.4)
+      | inl before ↦ none (h.0, h.1, omega arith, get_or-take i xs h.0 h.1 before ∙ (sym (get_or-take (i + 1) xs h.0 h.1 (omega arith)) ∙ h.3), h.4)
+      | inr after ↦
+          let here : h.0 ≡ i = omega arith in
+          let y : get_or xs i h.1 ≡ h.1 = ap (λ (k : ℕ). get_or xs k h.1) (sym here) ∙ (sym (get_or-take (i + 1) xs h.0 h.1 (omega arith)) ∙ h.3) in
+          let same : h.1 ≡ x = sym y ∙ get_or_from_slice_get xs i x h.1 e in
+          not (subst P same h.4)
     ]
 
 -- one item more, whose name those before it do not have
@@ -37,7 +37,7 @@ apart_more {X} name xs i x e apart none =
     let size : length (take i xs) ≡ i = length-take-le i xs (omega arith) in
     let more : take (i + 1) xs ≡ take i xs ++ x ∷ [] = take_more xs i x lt ∙ ap (λ (y : X). take i xs ++ y ∷ []) (get_or_from_slice_get xs i x x e) in
     subst (λ (l : List X). AllPairs (λ a b. name a ≢ name b) l) (sym more)
-      (all_pairs_push (λ a b. name a ≢ name b) (take i xs) x apart (λ k d inside same. none (k, get_or (take i xs) k d, inside, get_or_default (take i xs) k (get_or (take i xs) k d) d inside, same)))
+    (all_pairs_push (λ a b. name a ≢ name b) (take i xs) x apart (λ k d inside same. none (k, get_or (take i xs) k d, inside, get_or_default (take i xs) k (get_or (take i xs) k d) d inside, same)))
 
 -- an item's name that one before it has
 pub not_apart : {X : Type 0} (name : X → List ℕ) (xs : List X) (i : ℕ) (x : X) → slice_get xs i ≡ Some x → Any (λ a. name a ≡ name x) (take i xs)

@@ -31,8 +31,9 @@ skip_splits [] = record { gap = []; separated = refl; is = refl }
 skip_splits (c ∷ cs) = by_test (is_separator c) refl (skip_splits cs) where
   by_test : (b : Bool) → is_separator c ≡ b → Splits cs → Splits (c ∷ cs)
   by_test true h s = record {
-    gap = c ∷ s.gap; separated = and_from (is_separator c) (list_all is_separator s.gap) h s.separated;
-    is = ap (λ (l : List ℕ). c ∷ l) s.is ∙ ap (λ (l : List ℕ). c ∷ (s.gap ++ l)) (sym (cond-true (is_separator c) (skip cs) (c ∷ cs) h))
+    gap = c ∷ s.gap;
+    separated = and_from (is_separator c) (list_all is_separator s.gap) h s.separated;
+    is = ap (λ (l : List ℕ). c ∷ l) s.is ∙ ap (λ (l : List ℕ). c ∷ (s.gap ++ l)) (sym (cond-true (is_separator c) (skip cs) (c ∷ cs) h));
   }
   by_test false h s = record { gap = []; separated = refl; is = sym (cond-false (is_separator c) (skip cs) (c ∷ cs) h) }
 
@@ -73,7 +74,7 @@ at_first text t rest f =
     let b = begins t f.octets f.spelled in
     let e : f.octets ++ rest ≡ b.first ∷ (b.others ++ rest) = ap (λ (l : List ℕ). l ++ rest) b.is in
     ap skip f.stands ∙ (skip_gap f.gap (f.octets ++ rest) f.separated
-      ∙ (ap skip e ∙ (cond-false (is_separator b.first) (skip (b.others ++ rest)) (b.first ∷ (b.others ++ rest)) b.no_separator ∙ sym e)))
+    ∙ (ap skip e ∙ (cond-false (is_separator b.first) (skip (b.others ++ rest)) (b.first ∷ (b.others ++ rest)) b.no_separator ∙ sym e)))
 
 -- no token begins with a hyphen
 no_cut : (r : List ℕ) (ts : List Token) → AreCut (45 ∷ r) ts → ⊥
@@ -103,11 +104,18 @@ pub mark_cut : (m : ℕ) (text rest : List ℕ) (ts : List Token) → is_mark m 
 unfolding read_mark
 mark_cut m text rest ts mark e cut =
     let s = skip_splits text in
-    let here : skip text ≡ m ∷ rest = mark_is m (skip text) rest e in
-    (rest, record {
-      gap = s.gap; octets = m ∷ []; separated = s.separated; stands = s.is ∙ ap (λ (l : List ℕ). s.gap ++ l) here;
-      spelled = (mark, refl); longest = longest_mark m rest mark
-    }, cut)
+    let here : skip text ≡ m ∷ rest = mark_is m (skip text) rest e in (
+      rest,
+      record {
+        gap = s.gap;
+        octets = m ∷ [];
+        separated = s.separated;
+        stands = s.is ∙ ap (λ (l : List ℕ). s.gap ++ l) here;
+        spelled = (mark, refl);
+        longest = longest_mark m rest mark;
+      },
+      cut,
+    )
 
 pub mark_read : (m : ℕ) (text : List ℕ) (ts : List Token) → AreCut text (Mark m ∷ ts) → (rest : List ℕ) × (read_mark m text ≡ Some rest) × AreCut rest ts
 unfolding read_mark
@@ -213,22 +221,28 @@ unfolding read_word
 word_cut text word rest ts e cut =
     let s = skip_splits text in
     let r = run_is (skip text) word rest e in
-    let joined : r.first ∷ r.others ≡ word ++ rest = ap (λ (l : List ℕ). r.first ∷ l) (run_joins r.others) ∙ (ap (λ (w : List ℕ). w ++ after_run r.others) (sym r.word_is) ∙ ap (λ (l : List ℕ). word ++ l) (sym r.rest_is)) in
-    (rest, record {
-      gap = s.gap; octets = word; separated = s.separated;
-      stands = s.is ∙ ap (λ (l : List ℕ). s.gap ++ l) (r.begins ∙ joined);
-      spelled = (ap is_word r.word_is ∙ and_from (is_letter r.first) (list_all is_word_octet (word_run r.others)) r.letter (run_words r.others), refl);
-      longest = λ other more after sp e. subst (λ (w : List ℕ). length more ≤ length w) (sym r.word_is)
-        (longest_word r.first r.others ts r.letter (subst (λ (x : List ℕ). AreCut x ts) r.rest_is cut) other more after sp (joined ∙ e))
-    }, cut)
+    let joined : r.first ∷ r.others ≡ word ++ rest = ap (λ (l : List ℕ). r.first ∷ l) (run_joins r.others) ∙ (ap (λ (w : List ℕ). w ++ after_run r.others) (sym r.word_is) ∙ ap (λ (l : List ℕ). word ++ l) (sym r.rest_is)) in (
+      rest,
+      record {
+        gap = s.gap;
+        octets = word;
+        separated = s.separated;
+        stands = s.is ∙ ap (λ (l : List ℕ). s.gap ++ l) (r.begins ∙ joined);
+        spelled = (ap is_word r.word_is ∙ and_from (is_letter r.first) (list_all is_word_octet (word_run r.others)) r.letter (run_words r.others), refl);
+        longest = λ other more after sp e. subst (λ (w : List ℕ). length more ≤ length w) (sym r.word_is)
+            (longest_word r.first r.others ts r.letter (subst (λ (x : List ℕ). AreCut x ts) r.rest_is cut) other more after sp (joined ∙ e));
+      },
+      cut,
+    )
 
 run_append : (cs rest : List ℕ) → list_all is_word_octet cs ≡ true → (word_run (cs ++ rest) ≡ cs ++ word_run rest) × (after_run (cs ++ rest) ≡ after_run rest)
 run_append [] rest h = (refl, refl)
 run_append (c ∷ cs) rest h =
     let p = and_parts (is_word_octet c) (list_all is_word_octet cs) h in
-    let again = run_append cs rest p.1 in
-    (cond-true (is_word_octet c) (c ∷ word_run (cs ++ rest)) [] p.0 ∙ ap (λ (l : List ℕ). c ∷ l) again.0,
-      cond-true (is_word_octet c) (after_run (cs ++ rest)) (c ∷ (cs ++ rest)) p.0 ∙ again.1)
+    let again = run_append cs rest p.1 in (
+      cond-true (is_word_octet c) (c ∷ word_run (cs ++ rest)) [] p.0 ∙ ap (λ (l : List ℕ). c ∷ l) again.0,
+      cond-true (is_word_octet c) (after_run (cs ++ rest)) (c ∷ (cs ++ rest)) p.0 ∙ again.1,
+    )
 
 no_items : {A : Type 0} (xs : List A) → length xs ≤ 0 → xs ≡ []
 no_items [] h = refl
@@ -246,14 +260,14 @@ word_read word text ts cut = (cut.0, by_octets cut.1.octets cut.1.spelled.0 cut.
       let run = run_append cs cut.0 p.1 in
       let all : list_all is_word_octet (cs ++ word_run cut.0) ≡ true = list_all-append is_word_octet cs (word_run cut.0) ∙ and_from (list_all is_word_octet cs) (list_all is_word_octet (word_run cut.0)) p.1 (run_words cut.0) in
       let le : length (c ∷ (cs ++ word_run cut.0)) ≤ length (c ∷ cs) =
-        longest (Word (c ∷ (cs ++ word_run cut.0))) (c ∷ (cs ++ word_run cut.0)) (after_run cut.0)
-          (and_from (is_letter c) (list_all is_word_octet (cs ++ word_run cut.0)) p.0 all, refl)
-          (ap (λ (l : List ℕ). c ∷ l) (ap (λ (l : List ℕ). cs ++ l) (run_joins cut.0) ∙ sym (append_assoc cs (word_run cut.0) (after_run cut.0)))) in
+      longest (Word (c ∷ (cs ++ word_run cut.0))) (c ∷ (cs ++ word_run cut.0)) (after_run cut.0)
+      (and_from (is_letter c) (list_all is_word_octet (cs ++ word_run cut.0)) p.0 all, refl)
+      (ap (λ (l : List ℕ). c ∷ l) (ap (λ (l : List ℕ). cs ++ l) (run_joins cut.0) ∙ sym (append_assoc cs (word_run cut.0) (after_run cut.0)))) in
       let none : word_run cut.0 ≡ [] = no_items (word_run cut.0) (omega (arith, length-append cs (word_run cut.0))) in
       let word_is : c ∷ word_run (cs ++ cut.0) ≡ c ∷ cs = ap (λ (l : List ℕ). c ∷ l) (run.0 ∙ (ap (λ (l : List ℕ). cs ++ l) none ∙ append-nil cs)) in
       let rest_is : after_run (cs ++ cut.0) ≡ cut.0 = run.1 ∙ sym (run_joins cut.0 ∙ ap (λ (l : List ℕ). l ++ after_run cut.0) none) in
       ap word_at here ∙ (cond-true (is_letter c) (Some (c ∷ word_run (cs ++ cut.0), after_run (cs ++ cut.0))) None p.0
-        ∙ (ap (λ (w : List ℕ). Some (w, after_run (cs ++ cut.0))) word_is ∙ ap (λ (r : List ℕ). Some (c ∷ cs, r)) rest_is))
+      ∙ (ap (λ (w : List ℕ). Some (w, after_run (cs ++ cut.0))) word_is ∙ ap (λ (r : List ℕ). Some (c ∷ cs, r)) rest_is))
 
 pub keyword_cut : (wanted text rest : List ℕ) (ts : List Token) → read_keyword wanted text ≡ Some rest → AreCut rest ts → AreCut text (Word wanted ∷ ts)
 keyword_cut wanted text rest ts e cut = word_cut text wanted rest ts (keyword_steps wanted text rest e) cut
@@ -261,9 +275,12 @@ keyword_cut wanted text rest ts e cut = word_cut text wanted rest ts (keyword_st
 pub keyword_read : (wanted text : List ℕ) (ts : List Token) → AreCut text (Word wanted ∷ ts) → (rest : List ℕ) × (read_keyword wanted text ≡ Some rest) × AreCut rest ts
 unfolding read_keyword
 keyword_read wanted text ts cut =
-    let w = word_read wanted text ts cut in
-    (w.0, ap (λ (o : Option (List ℕ × List ℕ)). o >>= λ w. cond (bytes_eq w.0 wanted) (Some w.1) None) w.1
-      ∙ cond-true (bytes_eq wanted wanted) (Some w.0) None ((bytes_eq-Decides wanted wanted).1 refl), w.2)
+    let w = word_read wanted text ts cut in (
+      w.0,
+      ap (λ (o : Option (List ℕ × List ℕ)). o >>= λ w. cond (bytes_eq w.0 wanted) (Some w.1) None) w.1
+          ∙ cond-true (bytes_eq wanted wanted) (Some w.0) None ((bytes_eq-Decides wanted wanted).1 refl),
+      w.2,
+    )
 
 pub name_cut : (text name rest : List ℕ) (ts : List Token) → read_name text ≡ Some (name, rest) → AreCut rest ts → AreCut text (Word name ∷ ts)
 name_cut text name rest ts e cut = word_cut text name rest ts (name_steps text name rest e).0 cut
@@ -271,9 +288,12 @@ name_cut text name rest ts e cut = word_cut text name rest ts (name_steps text n
 pub name_read : (name text : List ℕ) (ts : List Token) → is_ident name ≡ true → AreCut text (Word name ∷ ts) → (rest : List ℕ) × (read_name text ≡ Some (name, rest)) × AreCut rest ts
 unfolding read_name
 name_read name text ts ident cut =
-    let w = word_read name text ts cut in
-    (w.0, ap (λ (o : Option (List ℕ × List ℕ)). o >>= λ w. cond (is_ident w.0) (Some w) None) w.1
-      ∙ cond-true (is_ident name) (Some (name, w.0)) None ident, w.2)
+    let w = word_read name text ts cut in (
+      w.0,
+      ap (λ (o : Option (List ℕ × List ℕ)). o >>= λ w. cond (is_ident w.0) (Some w) None) w.1
+          ∙ cond-true (is_ident name) (Some (name, w.0)) None ident,
+      w.2,
+    )
 
 -- ## UUIDs
 
@@ -346,7 +366,7 @@ formed (place ∷ form) n (c ∷ cs) value rest e = by_test (eqb place 45) refl 
         octets = c ∷ f.octets;
         has = and_from (cond (eqb place 45) (eqb c 45) (is_hex_digit c)) (has_form form f.octets) (cond-true (eqb place 45) (eqb c 45) (is_hex_digit c) place_is ∙ g.0) f.has;
         value_is = f.value_is ∙ sym (cond-true (eqb c 45) (hex_number n f.octets) (hex_number (16 * n + hex_digit c) f.octets) g.0);
-        is = ap (λ (l : List ℕ). c ∷ l) f.is
+        is = ap (λ (l : List ℕ). c ∷ l) f.is;
       }
   by_test false place_is e again =
       let a = bind_some (cond (is_hex_digit c) (Some (16 * n + hex_digit c, cs)) None) (λ x. form_at form x.0 x.1) (value, rest) e in
@@ -356,7 +376,7 @@ formed (place ∷ form) n (c ∷ cs) value rest e = by_test (eqb place 45) refl 
         octets = c ∷ f.octets;
         has = and_from (cond (eqb place 45) (eqb c 45) (is_hex_digit c)) (has_form form f.octets) (cond-false (eqb place 45) (eqb c 45) (is_hex_digit c) place_is ∙ g.0) f.has;
         value_is = f.value_is ∙ sym (cond-false (eqb c 45) (hex_number n f.octets) (hex_number (16 * n + hex_digit c) f.octets) (ne_eqb c 45 (hex_no_hyphen c g.0)));
-        is = ap (λ (l : List ℕ). c ∷ l) f.is
+        is = ap (λ (l : List ℕ). c ∷ l) f.is;
       }
 
 form_again : (form : List ℕ) (n : ℕ) (octets rest : List ℕ) → has_form form octets ≡ true → form_at form n (octets ++ rest) ≡ Some (hex_number n octets, rest)
@@ -370,22 +390,29 @@ form_again (place ∷ form) n (c ∷ cs) rest h = by_test (eqb place 45) h (λ m
   by_test true h again =
       let p = and_parts (eqb c 45) (has_form form cs) h in
       ap (then_form form) (cond-true (eqb c 45) (Some (n, cs ++ rest)) None p.0)
-        ∙ (again n p.1 ∙ ap (λ (v : ℕ). Some (v, rest)) (sym (cond-true (eqb c 45) (hex_number n cs) (hex_number (16 * n + hex_digit c) cs) p.0)))
+      ∙ (again n p.1 ∙ ap (λ (v : ℕ). Some (v, rest)) (sym (cond-true (eqb c 45) (hex_number n cs) (hex_number (16 * n + hex_digit c) cs) p.0)))
   by_test false h again =
       let p = and_parts (is_hex_digit c) (has_form form cs) h in
       ap (then_form form) (cond-true (is_hex_digit c) (Some (16 * n + hex_digit c, cs ++ rest)) None p.0)
-        ∙ (again (16 * n + hex_digit c) p.1
-          ∙ ap (λ (v : ℕ). Some (v, rest)) (sym (cond-false (eqb c 45) (hex_number n cs) (hex_number (16 * n + hex_digit c) cs) (ne_eqb c 45 (hex_no_hyphen c p.0)))))
+      ∙ (again (16 * n + hex_digit c) p.1
+      ∙ ap (λ (v : ℕ). Some (v, rest)) (sym (cond-false (eqb c 45) (hex_number n cs) (hex_number (16 * n + hex_digit c) cs) (ne_eqb c 45 (hex_no_hyphen c p.0)))))
 
 pub uuid_cut : (text : List ℕ) (value : ℕ) (rest : List ℕ) (ts : List Token) → read_uuid text ≡ Some (value, rest) → AreCut rest ts → AreCut text (Uuid value ∷ ts)
 unfolding read_uuid
 uuid_cut text value rest ts e cut =
     let s = skip_splits text in
-    let f = formed uuid_form 0 (skip text) value rest e in
-    (rest, record {
-      gap = s.gap; octets = f.octets; separated = s.separated; stands = s.is ∙ ap (λ (l : List ℕ). s.gap ++ l) f.is;
-      spelled = (f.has, f.value_is); longest = longest_uuid f.octets rest f.has
-    }, cut)
+    let f = formed uuid_form 0 (skip text) value rest e in (
+      rest,
+      record {
+        gap = s.gap;
+        octets = f.octets;
+        separated = s.separated;
+        stands = s.is ∙ ap (λ (l : List ℕ). s.gap ++ l) f.is;
+        spelled = (f.has, f.value_is);
+        longest = longest_uuid f.octets rest f.has;
+      },
+      cut,
+    )
 
 pub uuid_read : (value : ℕ) (text : List ℕ) (ts : List Token) → AreCut text (Uuid value ∷ ts) → (rest : List ℕ) × (read_uuid text ≡ Some (value, rest)) × AreCut rest ts
 unfolding read_uuid

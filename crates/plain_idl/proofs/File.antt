@@ -51,12 +51,12 @@ header_cut text id rest e ts cut =
     let n : d.0.0 ≡ id = ap (λ x. x.0) same in
     let r : g.0 ≡ rest = ap (λ x. x.1) same in
     subst (λ (n : ℕ). AreCut text (Mark 91 ∷ header_word n ts)) n
-      (mark_cut 91 text a.0 (header_word d.0.0 ts) refl a.1
-        (keyword_cut (codes "uuid") a.0 b.0 (header_open d.0.0 ts) b.1
-          (mark_cut 40 b.0 c.0 (header_id d.0.0 ts) refl c.1
-            (uuid_cut c.0 d.0.0 d.0.1 (header_end ts) d.1
-              (mark_cut 41 d.0.1 f.0 (Mark 93 ∷ ts) refl f.1
-                (mark_cut 93 f.0 g.0 ts refl g.1 (subst (λ (x : List ℕ). AreCut x ts) (sym r) cut)))))))
+    (mark_cut 91 text a.0 (header_word d.0.0 ts) refl a.1
+    (keyword_cut (codes "uuid") a.0 b.0 (header_open d.0.0 ts) b.1
+    (mark_cut 40 b.0 c.0 (header_id d.0.0 ts) refl c.1
+    (uuid_cut c.0 d.0.0 d.0.1 (header_end ts) d.1
+    (mark_cut 41 d.0.1 f.0 (Mark 93 ∷ ts) refl f.1
+    (mark_cut 93 f.0 g.0 ts refl g.1 (subst (λ (x : List ℕ). AreCut x ts) (sym r) cut)))))))
 
 header_again : (id : ℕ) (text : List ℕ) (ts : List Token) → AreCut text (uuid_tokens (Some id) ++ ts) → (rest : List ℕ) × (read_header text ≡ Some (id, rest)) × AreCut rest ts
 unfolding read_header
@@ -85,9 +85,11 @@ body_cut text os e =
     let c = bind_some (read_mark 125 b.0.1) _ os b.2 in
     let g = guard_some (is_empty (skip c.0)) b.0.0 os c.2 in
     let p = operations_cut a.0 b.0.0 b.0.1 b.1 in
-    subst (λ (l : List Operation). AllByRecursion IsGoodOperation l × AreCut text (Mark 123 ∷ body_tokens l)) g.1
-      (p.0, mark_cut 123 text a.0 (body_tokens b.0.0) refl a.1
-        (p.1 (Mark 125 ∷ []) (mark_cut 125 b.0.1 c.0 [] refl c.1 (all_skipped c.0 (empty_is (skip c.0) g.0)))))
+    subst (λ (l : List Operation). AllByRecursion IsGoodOperation l × AreCut text (Mark 123 ∷ body_tokens l)) g.1 (
+      p.0,
+      mark_cut 123 text a.0 (body_tokens b.0.0) refl a.1
+          (p.1 (Mark 125 ∷ []) (mark_cut 125 b.0.1 c.0 [] refl c.1 (all_skipped c.0 (empty_is (skip c.0) g.0)))),
+    )
 
 body_again : (os : List Operation) (text : List ℕ) → AllByRecursion IsGoodOperation os → AreCut text (Mark 123 ∷ body_tokens os) → read_body text ≡ Some os
 unfolding read_body
@@ -123,11 +125,12 @@ file_says text id name os e =
     let n = name_steps b.0 c.0.0 c.0.1 c.1 in
     let p = body_cut c.0.1 d.0 d.1 in
     subst (λ (p : ℕ × List ℕ × List Operation). Says text p.0 p.1 p.2) (some_same d.2)
-      (record {
-        tokens = header_cut text a.0.0 a.0.1 a.1 (from_interface c.0.0 d.0)
+    (record {
+      tokens = header_cut text a.0.0 a.0.1 a.1 (from_interface c.0.0 d.0)
           (keyword_cut (codes "interface") a.0.1 b.0 (from_name c.0.0 d.0) b.1 (name_cut b.0 c.0.0 c.0.1 (Mark 123 ∷ body_tokens d.0) c.1 p.1));
-        ident = n.1; good = p.0
-      })
+      ident = n.1;
+      good = p.0;
+    })
 
 pub file_again : (text : List ℕ) (id : ℕ) (name : List ℕ) (os : List Operation) → Says text id name os → read_file text ≡ Some (id, name, os)
 unfolding read_file
@@ -160,12 +163,14 @@ pass_all test (x ∷ xs) p = let q = and_parts (test x) (list_all test xs) p in 
 good_names : (o : Operation) → IsGoodOperation o → has_idents o ≡ true
 good_names o g =
     and_from (is_ident o.name) (list_all (λ p. is_ident p.field.name) o.params) g.name
-      (all_pass (λ p. is_ident p.field.name) o.params (weaker IsGoodParam (λ p. is_ident p.field.name ≡ true) (λ p g. g.1) o.params g.params))
+    (all_pass (λ p. is_ident p.field.name) o.params (weaker IsGoodParam (λ p. is_ident p.field.name ≡ true) (λ p g. g.1) o.params g.params))
 
 good_plain : (o : Operation) → IsGoodOperation o → IsWithinLimits o → IsPlainOperation o
 good_plain o g w = record {
   params = All-from_recursion IsPlainParam o.params (weaker IsGoodParam IsPlainParam (λ p g. g.0) o.params g.params);
-  no_result = g.no_result; few = w.few; distinct = w.distinct
+  no_result = g.no_result;
+  few = w.few;
+  distinct = w.distinct;
 }
 
 plain_good : (o : Operation) → IsPlainOperation o → has_idents o ≡ true → IsGoodOperation o
@@ -173,21 +178,24 @@ plain_good o p h =
     let n = and_parts (is_ident o.name) (list_all (λ p. is_ident p.field.name) o.params) h in
     record {
       params = both IsPlainParam (λ p. is_ident p.field.name ≡ true) IsGoodParam (λ x p q. (p, q)) o.params
-        (recursion_from_All IsPlainParam o.params p.params) (pass_all (λ p. is_ident p.field.name) o.params n.1);
-      no_result = p.no_result; name = n.0
+          (recursion_from_All IsPlainParam o.params p.params) (pass_all (λ p. is_ident p.field.name) o.params n.1);
+      no_result = p.no_result;
+      name = n.0;
     }
 
 pub says_plain : (text : List ℕ) (id : ℕ) (name : List ℕ) (os : List Operation) → Says text id name os → AreWithinLimits os → IsPlainInterface basic_types os
 says_plain text id name os s w = record {
-  basic = refl; few = w.few; distinct = w.distinct;
+  basic = refl;
+  few = w.few;
+  distinct = w.distinct;
   plain = All-from_recursion IsPlainOperation os
-    (both IsGoodOperation IsWithinLimits IsPlainOperation good_plain os s.good (recursion_from_All IsWithinLimits os w.each))
+      (both IsGoodOperation IsWithinLimits IsPlainOperation good_plain os s.good (recursion_from_All IsWithinLimits os w.each));
 }
 
 pub says_names : (text : List ℕ) (id : ℕ) (name : List ℕ) (os : List Operation) → Says text id name os → (is_ident name && list_all has_idents os) ≡ true
 says_names text id name os s =
     and_from (is_ident name) (list_all has_idents os) s.ident
-      (all_pass has_idents os (weaker IsGoodOperation (λ o. has_idents o ≡ true) good_names os s.good))
+    (all_pass has_idents os (weaker IsGoodOperation (λ o. has_idents o ≡ true) good_names os s.good))
 
 some_id : (o : Option ℕ) → IsSome o → (id : ℕ) × (o ≡ Some id)
 some_id None h = absurd (both_ways false refl h)
@@ -198,17 +206,20 @@ pub plain_says : (text : List ℕ) (i : Interface) → IsPlainFile text i → (i
 plain_says text i f =
     let u = some_id i.uuid f.identified in
     let n = and_parts (is_ident i.name) (list_all has_idents i.operations) f.names in
-    let plain = recursion_from_All IsPlainOperation i.operations f.plain.plain in
-    (u.0, u.1,
+    let plain = recursion_from_All IsPlainOperation i.operations f.plain.plain in (
+      u.0,
+      u.1,
       record {
         tokens = subst (λ (o : Option ℕ). AreCut text (uuid_tokens o ++ from_interface i.name i.operations)) u.1 f.tokens;
         ident = n.0;
-        good = both IsPlainOperation (λ o. has_idents o ≡ true) IsGoodOperation plain_good i.operations plain (pass_all has_idents i.operations n.1)
+        good = both IsPlainOperation (λ o. has_idents o ≡ true) IsGoodOperation plain_good i.operations plain (pass_all has_idents i.operations n.1);
       },
       record {
-        few = f.plain.few; distinct = f.plain.distinct;
-        each = All-from_recursion IsWithinLimits i.operations (weaker IsPlainOperation IsWithinLimits (λ o p. record { few = p.few; distinct = p.distinct }) i.operations plain)
-      })
+        few = f.plain.few;
+        distinct = f.plain.distinct;
+        each = All-from_recursion IsWithinLimits i.operations (weaker IsPlainOperation IsWithinLimits (λ o p. record { few = p.few; distinct = p.distinct }) i.operations plain);
+      },
+    )
 
 -- what is read of a text that declares an interface
 pub plain_read : (text : List ℕ) (i : Interface) → IsPlainFile text i → (id : ℕ) × (i.uuid ≡ Some id) × (read_file text ≡ Some (id, i.name, i.operations))
@@ -265,4 +276,4 @@ one_interface text i j f g =
     let b = plain_read text j g in
     let r = some_same (sym a.2 ∙ b.2) in
     same_interface i j
-      (ap (λ x. x.1) r) (a.1 ∙ (ap (λ x. Some x.0) r ∙ sym b.1)) (f.major ∙ sym g.major) (f.minor ∙ sym g.minor) (f.plain.basic ∙ sym g.plain.basic) (ap (λ x. x.2) r)
+    (ap (λ x. x.1) r) (a.1 ∙ (ap (λ x. Some x.0) r ∙ sym b.1)) (f.major ∙ sym g.major) (f.minor ∙ sym g.minor) (f.plain.basic ∙ sym g.plain.basic) (ap (λ x. x.2) r)

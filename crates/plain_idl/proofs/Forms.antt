@@ -48,7 +48,7 @@ has_room form i v bound lt h ne =
 pub keeps_room : (form : List ℕ) (i v w bound : ℕ) → i < length form → (get_or form i 0 ≡ 45 → w ≡ v) → w + 1 ≤ 16 * (v + 1)
     → (v + 1) * 16 ^ digit_count (drop i form) ≤ bound → (w + 1) * 16 ^ digit_count (drop (i + 1) form) ≤ bound
 keeps_room form i v w bound lt same le h = elim (cases_eq (get_or form i 0) 45) [
-    inl e ↦
+  | inl e ↦
       let n : digit_count (drop i form) ≡ digit_count (drop (i + 1) form) = count_at form i lt ∙ cond-true (eqb (get_or form i 0) 45) _ _ (eq-eqb _ _ e) in
       let k : (v + 1) * 16 ^ digit_count (drop (i + 1) form) ≤ bound = subst (λ (n : ℕ). (v + 1) * 16 ^ n ≤ bound) n h in
       subst (λ (x : ℕ). (x + 1) * 16 ^ digit_count (drop (i + 1) form) ≤ bound) (sym (same e)) k

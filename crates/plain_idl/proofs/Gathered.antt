@@ -28,14 +28,15 @@ module _ {A : Type 0} (goes_on : List ℕ → Bool) (item : List ℕ → Option 
 
   pub gathers : goes_on text ≡ true → (x : A) (after : List ℕ) → item text ≡ Some (x, after) → length after < length text → Gathered goes_on item total (before ++ x ∷ []) after
   gathers h x after e less =
-    let one = step h in
-    record {
-      fuel = one.0; enough = omega (arith, one.1);
-      is = sym (ap (rest_of one.0) e ∙ regrouped (read_many goes_on item one.0 after)) ∙ one.2
-    } where
-      regrouped : (r : Option (List A × List ℕ)) → behind before (r >>= λ others. Some (x ∷ others.0, others.1)) ≡ behind (before ++ x ∷ []) r
-      regrouped None = refl
-      regrouped (Some y) = ap (λ (l : List A). Some (l, y.1)) (sym (append_assoc before (x ∷ []) y.0))
+      let one = step h in
+      record {
+        fuel = one.0;
+        enough = omega (arith, one.1);
+        is = sym (ap (rest_of one.0) e ∙ regrouped (read_many goes_on item one.0 after)) ∙ one.2;
+      } where
+        regrouped : (r : Option (List A × List ℕ)) → behind before (r >>= λ others. Some (x ∷ others.0, others.1)) ≡ behind (before ++ x ∷ []) r
+        regrouped None = refl
+        regrouped (Some y) = ap (λ (l : List A). Some (l, y.1)) (sym (append_assoc before (x ∷ []) y.0))
 
   pub gathering_fails : goes_on text ≡ true → (e : PlainFault) → Fails e (item text) → Fails e total
   gathering_fails h faults.Memory f = tt

@@ -32,7 +32,7 @@ type_of_is word of e = small (bytes_eq word (codes "small")) refl e where
   is_word n text h w plain e =
       let same : n ≡ of.0 = ap (λ (t : TypeId). t.0) (some_same e) in
       subst (λ (k : ℕ). (word ≡ type_word (type_at basic_types k)) × (is_plain_type (type_at basic_types k) ≡ true)) same
-        ((bytes_eq-Decides word text).0 h ∙ w, plain)
+      ((bytes_eq-Decides word text).0 h ∙ w, plain)
 
   hyper : (b : Bool) → bytes_eq word (codes "hyper") ≡ b → cond b (Some (record { 0 = 9 })) None ≡ Some of
       → (word ≡ type_word (type_at basic_types of.0)) × (is_plain_type (type_at basic_types of.0) ≡ true)
@@ -94,22 +94,26 @@ param_cut text p rest e =
     let t = type_steps s.closed s.of s.typed s.has_type in
     let is = type_of_is t.0 s.of t.2 in
     let n = name_steps s.typed s.name rest s.has_name in
-    subst (λ (q : Param). IsGoodParam q × IsCutAs text (param_tokens q) rest) (sym s.is)
-      ((record { integer = is.1; way = refl; no_attributes = refl }, n.1),
-        λ ts cut.
+    subst (λ (q : Param). IsGoodParam q × IsCutAs text (param_tokens q) rest) (sym s.is) (
+      (record { integer = is.1; way = refl; no_attributes = refl }, n.1),
+      λ ts cut.
           mark_cut 91 text s.opened (from_in s.of s.name ts) refl s.opens
-            (keyword_cut (codes "in") s.opened s.in_word (from_close s.of s.name ts) s.is_in
-              (mark_cut 93 s.in_word s.closed (from_type s.of s.name ts) refl s.closes
-                (word_cut s.closed (type_word (type_at basic_types s.of.0)) s.typed (Word s.name ∷ ts) (t.1 ∙ ap (λ (w : List ℕ). Some (w, s.typed)) is.0)
-                  (name_cut s.typed s.name rest ts s.has_name cut)))))
+          (keyword_cut (codes "in") s.opened s.in_word (from_close s.of s.name ts) s.is_in
+          (mark_cut 93 s.in_word s.closed (from_type s.of s.name ts) refl s.closes
+          (word_cut s.closed (type_word (type_at basic_types s.of.0)) s.typed (Word s.name ∷ ts) (t.1 ∙ ap (λ (w : List ℕ). Some (w, s.typed)) is.0)
+          (name_cut s.typed s.name rest ts s.has_name cut)))),
+    )
 
 type_read : (of : TypeId) (text : List ℕ) (ts : List Token) → is_plain_type (type_at basic_types of.0) ≡ true → AreCut text (Word (type_word (type_at basic_types of.0)) ∷ ts)
     → (rest : List ℕ) × (read_type text ≡ Some (of, rest)) × AreCut rest ts
 unfolding read_type
 type_read of text ts plain cut =
-    let w = word_read (type_word (type_at basic_types of.0)) text ts cut in
-    (w.0, ap (λ (o : Option (List ℕ × List ℕ)). o >>= λ w. type_of w.0 >>= λ of. Some (of, w.1)) w.1
-      ∙ ap (λ (o : Option TypeId). o >>= λ of. Some (of, w.0)) (type_again of.0 plain), w.2)
+    let w = word_read (type_word (type_at basic_types of.0)) text ts cut in (
+      w.0,
+      ap (λ (o : Option (List ℕ × List ℕ)). o >>= λ w. type_of w.0 >>= λ of. Some (of, w.1)) w.1
+          ∙ ap (λ (o : Option TypeId). o >>= λ of. Some (of, w.0)) (type_again of.0 plain),
+      w.2,
+    )
 
 pub param_again : (p : Param) (text : List ℕ) (ts : List Token) → IsGoodParam p → AreCut text (param_tokens p ++ ts) → (rest : List ℕ) × (read_param text ≡ Some (p, rest)) × AreCut rest ts
 unfolding read_param
@@ -120,8 +124,8 @@ param_again p text ts good cut =
     let d = type_read p.field.of c.0 (Word p.field.name ∷ ts) good.0.integer c.2 in
     let n = name_read p.field.name d.0 ts good.1 d.2 in
     let whole : record { field = record { name = p.field.name; of = p.field.of; vars = [] }; way = way.In } ≡ p =
-      ap (λ (v : List AttrVar). record { field = record { name = p.field.name; of = p.field.of; vars = v }; way = way.In }) (sym good.0.no_attributes)
-      ∙ ap (λ (w : Way). record { field = p.field; way = w }) (sym good.0.way) in
+    ap (λ (v : List AttrVar). record { field = record { name = p.field.name; of = p.field.of; vars = v }; way = way.In }) (sym good.0.no_attributes)
+    ∙ ap (λ (w : Way). record { field = p.field; way = w }) (sym good.0.way) in
     (n.0, rw (a.1, b.1, c.1, d.1, n.1) (ap (λ (q : Param). Some (q, n.0)) whole), n.2)
 
 round_no_comma : ◌≢◌ {A = ℕ} 41 44
@@ -150,15 +154,17 @@ next_param_again p text ts good cut =
 params_cut : (text : List ℕ) (ps : List Param) (rest : List ℕ) → read_params text ≡ Some (ps, rest) → AllByRecursion IsGoodParam ps × IsCutAs text (params_tokens ps) rest
 unfolding read_more_params
 params_cut text ps rest e = elim (params_steps text ps rest e) [
-    none h is same ↦
+  | none h is same ↦
       subst (λ (l : List Param). AllByRecursion IsGoodParam l × IsCutAs text (params_tokens l) rest) (sym is)
-        (tt, λ ts cut. subst (λ (r : List ℕ). AreCut r ts) same cut)
+      (tt, λ ts cut. subst (λ (r : List ℕ). AreCut r ts) same cut)
   | some first after others h a b is ↦
       let c = param_cut text first after a in
       let m = many_cut (has_mark 44) read_next_param next_param_tokens IsGoodParam next_param_cut (length after + 1) after others rest b in
-      subst (λ (l : List Param). AllByRecursion IsGoodParam l × IsCutAs text (params_tokens l) rest) (sym is)
-        ((c.0, m.0), λ ts cut. subst (λ (l : List Token). AreCut text l) (sym (append_assoc (param_tokens first) (flat_map next_param_tokens others) ts))
-          (c.1 (flat_map next_param_tokens others ++ ts) (m.1 ts cut)))
+      subst (λ (l : List Param). AllByRecursion IsGoodParam l × IsCutAs text (params_tokens l) rest) (sym is) (
+        (c.0, m.0),
+        λ ts cut. subst (λ (l : List Token). AreCut text l) (sym (append_assoc (param_tokens first) (flat_map next_param_tokens others) ts))
+            (c.1 (flat_map next_param_tokens others ++ ts) (m.1 ts cut)),
+      )
 ]
 
 params_again : (ps : List Param) (text : List ℕ) (ts : List Token) → AllByRecursion IsGoodParam ps → AreCut text (params_tokens ps ++ (Mark 41 ∷ ts))
@@ -167,15 +173,17 @@ unfolding read_params read_more_params
 params_again [] text ts good cut = (text, cond-true (has_mark 41 text) _ _ (mark_comes 41 text ts cut), cut)
 params_again (p ∷ ps) text ts good cut =
     let here : AreCut text (param_tokens p ++ (flat_map next_param_tokens ps ++ (Mark 41 ∷ ts))) =
-      subst (λ (l : List Token). AreCut text l) (append_assoc (param_tokens p) (flat_map next_param_tokens ps) (Mark 41 ∷ ts)) cut in
+    subst (λ (l : List Token). AreCut text l) (append_assoc (param_tokens p) (flat_map next_param_tokens ps) (Mark 41 ∷ ts)) cut in
     let a = param_again p text (flat_map next_param_tokens ps ++ (Mark 41 ∷ ts)) good.0 here in
     let m = many_again (has_mark 44) read_next_param next_param_tokens IsGoodParam (Mark 41) next_param_again next_param_less
-      (λ x text ts cut. mark_comes 44 text (param_tokens x ++ ts) cut) (λ text ts cut. other_mark_comes 44 41 text ts round_no_comma cut)
-      (length a.0 + 1) a.0 ps ts good.1 (omega arith) a.2 in
-    (m.0,
+    (λ x text ts cut. mark_comes 44 text (param_tokens x ++ ts) cut) (λ text ts cut. other_mark_comes 44 41 text ts round_no_comma cut)
+    (length a.0 + 1) a.0 ps ts good.1 (omega arith) a.2 in (
+      m.0,
       cond-false (has_mark 41 text) _ _ (other_mark_comes 41 91 text (from_in p.field.of p.field.name (flat_map next_param_tokens ps ++ (Mark 41 ∷ ts))) square_no_round here)
-        ∙ (ap (λ (o : Option (Param × List ℕ)). o >>= λ first. behind (first.0 ∷ []) (read_more_params first.1)) a.1
-          ∙ ap (behind (p ∷ [])) m.1), m.2)
+          ∙ (ap (λ (o : Option (Param × List ℕ)). o >>= λ first. behind (first.0 ∷ []) (read_more_params first.1)) a.1
+          ∙ ap (behind (p ∷ [])) m.1),
+      m.2,
+    )
 
 -- ## Operations
 
@@ -204,15 +212,16 @@ operation_cut text o rest e =
     let s = operation_steps text o rest e in
     let n = name_steps s.after_void s.name s.named s.has_name in
     let p = params_cut s.opened s.params s.after_params s.has_params in
-    subst (λ (q : Operation). IsGoodOperation q × IsCutAs text (operation_tokens q) rest) (sym s.is)
-      (record { params = p.0; no_result = refl; name = n.1 },
-        λ ts cut. subst (λ (l : List Token). AreCut text l) (sym (operation_joined s.name s.params ts))
+    subst (λ (q : Operation). IsGoodOperation q × IsCutAs text (operation_tokens q) rest) (sym s.is) (
+      record { params = p.0; no_result = refl; name = n.1 },
+      λ ts cut. subst (λ (l : List Token). AreCut text l) (sym (operation_joined s.name s.params ts))
           (keyword_cut (codes "void") text s.after_void (from_name s.name s.params ts) s.is_void
-            (name_cut s.after_void s.name s.named (from_open s.params ts) s.has_name
-              (mark_cut 40 s.named s.opened (params_tokens s.params ++ from_end ts) refl s.opens
-                (p.1 (from_end ts)
-                  (mark_cut 41 s.after_params s.closed (Mark 59 ∷ ts) refl s.closes
-                    (mark_cut 59 s.closed rest ts refl s.ends cut)))))))
+          (name_cut s.after_void s.name s.named (from_open s.params ts) s.has_name
+          (mark_cut 40 s.named s.opened (params_tokens s.params ++ from_end ts) refl s.opens
+          (p.1 (from_end ts)
+          (mark_cut 41 s.after_params s.closed (Mark 59 ∷ ts) refl s.closes
+          (mark_cut 59 s.closed rest ts refl s.ends cut)))))),
+    )
 
 pub operation_again : (o : Operation) (text : List ℕ) (ts : List Token) → IsGoodOperation o → AreCut text (operation_tokens o ++ ts)
     → (rest : List ℕ) × (read_operation text ≡ Some (o, rest)) × AreCut rest ts
@@ -237,6 +246,6 @@ pub operations_again : (os : List Operation) (text : List ℕ) (ts : List Token)
 unfolding read_operations
 operations_again os text ts good cut =
     many_again (λ text. not (has_mark 125 text)) read_operation operation_tokens IsGoodOperation (Mark 125) operation_again operation_less
-      (λ x text ts cut. ap not (word_comes 125 (codes "void") text (from_name x.name x.params ts) refl (subst (λ (l : List Token). AreCut text l) (operation_joined x.name x.params ts) cut)))
-      (λ text ts cut. ap not (mark_comes 125 text ts cut))
-      (length text + 1) text os ts good (omega arith) cut
+    (λ x text ts cut. ap not (word_comes 125 (codes "void") text (from_name x.name x.params ts) refl (subst (λ (l : List Token). AreCut text l) (operation_joined x.name x.params ts) cut)))
+    (λ text ts cut. ap not (mark_comes 125 text ts cut))
+    (length text + 1) text os ts good (omega arith) cut

@@ -35,10 +35,11 @@ module _ {A : Type 0} (goes_on : List ℕ → Bool) (item : List ℕ → Option 
         let b = bind_some (read_many goes_on item n a.0.1) _ (xs, rest) a.2 in
         let first = item_cut text a.0.0 a.0.1 a.1 in
         let others = again a.0.1 b.0.0 b.0.1 b.1 in
-        subst (λ (p : List A × List ℕ). AreCutAs tokens Good text p) (some_same b.2)
-          ((first.0, others.0),
-            λ ts cut. subst (λ (l : List Token). AreCut text l) (sym (append_assoc (tokens a.0.0) (flat_map tokens b.0.0) ts))
-              (first.1 (flat_map tokens b.0.0 ++ ts) (others.1 ts cut)))
+        subst (λ (p : List A × List ℕ). AreCutAs tokens Good text p) (some_same b.2) (
+          (first.0, others.0),
+          λ ts cut. subst (λ (l : List Token). AreCut text l) (sym (append_assoc (tokens a.0.0) (flat_map tokens b.0.0) ts))
+              (first.1 (flat_map tokens b.0.0 ++ ts) (others.1 ts cut)),
+        )
     by_test false e again = none_cut text xs rest e
 
   pub many_again : (stop : Token)
@@ -54,11 +55,13 @@ module _ {A : Type 0} (goes_on : List ℕ → Bool) (item : List ℕ → Option 
       (text, cond-false (goes_on text) (one_and_more goes_on item n text) (Some ([], text)) (stops text ts cut), cut)
   many_again stop item_again less goes stops (suc n) text (x ∷ xs) ts good enough cut =
       let here : AreCut text (tokens x ++ (flat_map tokens xs ++ (stop ∷ ts))) =
-        subst (λ (l : List Token). AreCut text l) (append_assoc (tokens x) (flat_map tokens xs) (stop ∷ ts)) cut in
+      subst (λ (l : List Token). AreCut text l) (append_assoc (tokens x) (flat_map tokens xs) (stop ∷ ts)) cut in
       let i = item_again x text (flat_map tokens xs ++ (stop ∷ ts)) good.0 here in
       let shorter = less text x i.0 i.1 in
-      let r = many_again stop item_again less goes stops n i.0 xs ts good.1 (omega arith) i.2 in
-      (r.0,
+      let r = many_again stop item_again less goes stops n i.0 xs ts good.1 (omega arith) i.2 in (
+        r.0,
         cond-true (goes_on text) (one_and_more goes_on item n text) (Some ([], text)) (goes x text (flat_map tokens xs ++ (stop ∷ ts)) here)
-          ∙ (ap (λ (o : Option (A × List ℕ)). o >>= λ first. read_many goes_on item n first.1 >>= λ others. Some (first.0 ∷ others.0, others.1)) i.1
-            ∙ ap (λ (o : Option (List A × List ℕ)). o >>= λ others. Some (x ∷ others.0, others.1)) r.1), r.2)
+            ∙ (ap (λ (o : Option (A × List ℕ)). o >>= λ first. read_many goes_on item n first.1 >>= λ others. Some (first.0 ∷ others.0, others.1)) i.1
+            ∙ ap (λ (o : Option (List A × List ℕ)). o >>= λ others. Some (x ∷ others.0, others.1)) r.1),
+        r.2,
+      )

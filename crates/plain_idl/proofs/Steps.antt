@@ -122,18 +122,32 @@ param_steps text p rest e =
     let f = bind_some (read_name d.0.1) _ (p, rest) d.2 in
     let same = some_same f.2 in
     record {
-      opened = a.0; in_word = b.0; closed = c.0; of = d.0.0; typed = d.0.1; name = f.0.0;
-      opens = a.1; is_in = b.1; closes = c.1; has_type = d.1;
+      opened = a.0;
+      in_word = b.0;
+      closed = c.0;
+      of = d.0.0;
+      typed = d.0.1;
+      name = f.0.0;
+      opens = a.1;
+      is_in = b.1;
+      closes = c.1;
+      has_type = d.1;
       has_name = f.1 ∙ ap (λ (r : List ℕ). Some (f.0.0, r)) (ap (λ x. x.1) same);
-      is = sym (ap (λ x. x.0) same)
+      is = sym (ap (λ x. x.0) same);
     }
 
 pub param_less : (text : List ℕ) (p : Param) (rest : List ℕ) → read_param text ≡ Some (p, rest) → length rest < length text
 param_less text p rest e =
     let s = param_steps text p rest e in
     let t = type_steps s.closed s.of s.typed s.has_type in
-    omega (arith, mark_less 91 text s.opened s.opens, word_less s.opened (codes "in") s.in_word (keyword_steps (codes "in") s.opened s.in_word s.is_in),
-      mark_less 93 s.in_word s.closed s.closes, word_less s.closed t.0 s.typed t.1, word_less s.typed s.name rest (name_steps s.typed s.name rest s.has_name).0)
+    omega (
+      arith,
+      mark_less 91 text s.opened s.opens,
+      word_less s.opened (codes "in") s.in_word (keyword_steps (codes "in") s.opened s.in_word s.is_in),
+      mark_less 93 s.in_word s.closed s.closes,
+      word_less s.closed t.0 s.typed t.1,
+      word_less s.typed s.name rest (name_steps s.typed s.name rest s.has_name).0,
+    )
 
 pub next_param_steps : (text : List ℕ) (p : Param) (rest : List ℕ) → read_next_param text ≡ Some (p, rest) → (after : List ℕ) × (read_mark 44 text ≡ Some after) × (read_param after ≡ Some (p, rest))
 unfolding read_next_param
@@ -186,7 +200,7 @@ more_params_less text ps rest e = many_less (has_mark 44) read_next_param next_p
 
 params_less : (text : List ℕ) (ps : List Param) (rest : List ℕ) → read_params text ≡ Some (ps, rest) → length rest ≤ length text
 params_less text ps rest e = elim (params_steps text ps rest e) [
-    none h a b ↦ omega (arith, ap length b)
+  | none h a b ↦ omega (arith, ap length b)
   | some first after others h a b is ↦ omega (arith, param_less text first after a, more_params_less after others rest b)
 ]
 
@@ -217,15 +231,31 @@ operation_steps text o rest e =
     let g = bind_some (read_mark 59 f.0) _ (o, rest) f.2 in
     let same = some_same g.2 in
     record {
-      after_void = a.0; name = b.0.0; named = b.0.1; opened = c.0; params = d.0.0; after_params = d.0.1; closed = f.0;
-      is_void = a.1; has_name = b.1; opens = c.1; has_params = d.1; closes = f.1;
+      after_void = a.0;
+      name = b.0.0;
+      named = b.0.1;
+      opened = c.0;
+      params = d.0.0;
+      after_params = d.0.1;
+      closed = f.0;
+      is_void = a.1;
+      has_name = b.1;
+      opens = c.1;
+      has_params = d.1;
+      closes = f.1;
       ends = g.1 ∙ ap (λ (r : List ℕ). Some r) (ap (λ x. x.1) same);
-      is = sym (ap (λ x. x.0) same)
+      is = sym (ap (λ x. x.0) same);
     }
 
 pub operation_less : (text : List ℕ) (o : Operation) (rest : List ℕ) → read_operation text ≡ Some (o, rest) → length rest < length text
 operation_less text o rest e =
     let s = operation_steps text o rest e in
-    omega (arith, word_less text (codes "void") s.after_void (keyword_steps (codes "void") text s.after_void s.is_void),
-      word_less s.after_void s.name s.named (name_steps s.after_void s.name s.named s.has_name).0, mark_less 40 s.named s.opened s.opens,
-      params_less s.opened s.params s.after_params s.has_params, mark_less 41 s.after_params s.closed s.closes, mark_less 59 s.closed rest s.ends)
+    omega (
+      arith,
+      word_less text (codes "void") s.after_void (keyword_steps (codes "void") text s.after_void s.is_void),
+      word_less s.after_void s.name s.named (name_steps s.after_void s.name s.named s.has_name).0,
+      mark_less 40 s.named s.opened s.opens,
+      params_less s.opened s.params s.after_params s.has_params,
+      mark_less 41 s.after_params s.closed s.closes,
+      mark_less 59 s.closed rest s.ends,
+    )

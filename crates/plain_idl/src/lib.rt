@@ -10,10 +10,11 @@ mod fault;
 pub mod laws;
 mod limits;
 mod reader;
+#[cfg(test)]
+mod tests;
 mod tokens;
 
 pub use fault::PlainFault;
-
 use nd_base::FILE_LIMIT;
 use nd_types::laws::plain_is_legal;
 use nd_types::{Interface, Primitive, TypeDef, Types};

@@ -6,16 +6,44 @@ ghost use Rattle.plain_idl.specs.Plain.{is_ident as can_be_name, reserved_words,
 ghost use Rattle.plain_idl.specs.Reading.{Gives, behind, type_of as type_by_word, read_mark, read_word, read_keyword, read_name, read_type, read_param, read_next_param, read_more_params, read_params, read_operation, read_operations, read_header, read_body, read_file};
 
 use crate::fault::PlainFault;
-use crate::tokens::{has_mark, mark, unspaced, uuid, word};
+use crate::tokens::{has_mark, mark, trim_start, uuid, word};
 use nd_base::Name;
 use nd_types::{AttrVars, Field, Operation, Operations, Param, Params, Primitive, TypeId, Way};
 use std::alloc::Global;
 
-/// The words of the language that cannot be names.
-const KEPT_WORDS: [&[u8]; 31] = [
-    b"boolean", b"byte", b"case", b"char", b"const", b"default", b"double", b"enum", b"FALSE", b"float", b"handle_t",
-    b"hyper", b"import", b"int", b"interface", b"long", b"NULL", b"pipe", b"short", b"small", b"struct", b"switch",
-    b"TRUE", b"typedef", b"union", b"unsigned", b"void", b"wchar_t", b"ISO_LATIN_1", b"ISO_MULTI_LINGUAL", b"ISO_UCS",
+/// The words that cannot be names: the reserved ones, and those of the language that may stand nowhere here.
+const RESERVED_OR_BANNED: [&[u8]; 31] = [
+    b"boolean",
+    b"byte",
+    b"case",
+    b"char",
+    b"const",
+    b"default",
+    b"double",
+    b"enum",
+    b"FALSE",
+    b"float",
+    b"handle_t",
+    b"hyper",
+    b"import",
+    b"int",
+    b"interface",
+    b"long",
+    b"NULL",
+    b"pipe",
+    b"short",
+    b"small",
+    b"struct",
+    b"switch",
+    b"TRUE",
+    b"typedef",
+    b"union",
+    b"unsigned",
+    b"void",
+    b"wchar_t",
+    b"ISO_LATIN_1",
+    b"ISO_MULTI_LINGUAL",
+    b"ISO_UCS",
 ];
 
 /// Whether a word is one of several.
@@ -25,18 +53,18 @@ fn is_among(word: &[u8], words: &[&[u8]]) -> bool
     words.iter().any(|other| word == *other)
 }
 
-/// Whether a word is kept by the language.
-fn is_kept(word: &[u8]) -> bool
+/// Whether a word is reserved or banned.
+fn is_reserved_or_banned(word: &[u8]) -> bool
     ensures { result ≡ list_any (bytes_eq word.now) (reserved_words ++ banned_words) }
 {
-    is_among(word, &KEPT_WORDS)
+    is_among(word, &RESERVED_OR_BANNED)
 }
 
 /// Whether a word can be a name.
 fn is_ident(word: &[u8]) -> bool
     ensures { result ≡ can_be_name word.now }
 {
-    word.len() <= 31 && !is_kept(word)
+    word.len() <= 31 && !is_reserved_or_banned(word)
 }
 
 /// Reads a word of the language.
@@ -104,7 +132,13 @@ fn param(alloc: Global, text: &[u8]) -> Result<(Param, &[u8]), PlainFault>
         of,
         vars: AttrVars::new(alloc),
     };
-    Ok((Param { field, way: Way::In }, text))
+    Ok((
+        Param {
+            field,
+            way: Way::In,
+        },
+        text,
+    ))
 }
 
 /// Reads a comma and a parameter.
@@ -203,7 +237,7 @@ fn body(alloc: Global, text: &[u8]) -> Result<Operations, PlainFault>
     let text = mark(text, b'{')?;
     let (operations, text) = operations(alloc, text)?;
     let text = mark(text, b'}')?;
-    if !unspaced(text).is_empty() {
+    if !trim_start(text).is_empty() {
         return Err(PlainFault::NotBuilt);
     }
     Ok(operations)

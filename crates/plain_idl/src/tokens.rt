@@ -27,7 +27,7 @@ fn continues_word(octet: u8) -> bool
 }
 
 /// The text without the spaces and line feeds at its front.
-pub fn unspaced(text: &[u8]) -> &[u8]
+pub fn trim_start(text: &[u8]) -> &[u8]
     ensures { result.now ≡ skip text.now }
 {
     let mut rest = text;
@@ -45,7 +45,7 @@ pub fn unspaced(text: &[u8]) -> &[u8]
 pub fn mark(text: &[u8], wanted: u8) -> Result<&[u8], PlainFault>
     ensures { Gives (λ rest. rest.now) result (read_mark wanted text.now) }
 {
-    match unspaced(text) {
+    match trim_start(text) {
         [first, rest @ ..] if *first == wanted => Ok(rest),
         _ => Err(PlainFault::NotBuilt),
     }
@@ -56,7 +56,7 @@ pub fn mark(text: &[u8], wanted: u8) -> Result<&[u8], PlainFault>
 pub fn has_mark(text: &[u8], wanted: u8) -> bool
     ensures { result ≡ has_mark_next wanted text.now }
 {
-    matches!(unspaced(text), [first, ..] if *first == wanted)
+    matches!(trim_start(text), [first, ..] if *first == wanted)
 }
 
 /// Reads a word, and gives it with what follows it.
@@ -65,7 +65,7 @@ pub fn word(text: &[u8]) -> Result<(&[u8], &[u8]), PlainFault>
     ensures gives { Gives (λ x. (x.0.now, x.1.now)) result (read_word text.now) }
     ensures some { IfOk result (λ x. 1 ≤ length x.0.now) }
 {
-    let text = unspaced(text);
+    let text = trim_start(text);
     match text {
         [first, ..] if begins_word(*first) => {
             let end = run_end(text);
@@ -112,7 +112,11 @@ fn at_place(place: u8, value: u128, text: &[u8]) -> Result<(u128, &[u8]), PlainF
         return Err(PlainFault::NotBuilt);
     };
     if place == b'-' {
-        return if *octet == b'-' { Ok((value, rest)) } else { Err(PlainFault::NotBuilt) };
+        return if *octet == b'-' {
+            Ok((value, rest))
+        } else {
+            Err(PlainFault::NotBuilt)
+        };
     }
     match digit_value(*octet) {
         Some(digit) => Ok((16 * value + u128::from(digit), rest)),
@@ -121,7 +125,7 @@ fn at_place(place: u8, value: u128, text: &[u8]) -> Result<(u128, &[u8]), PlainF
 }
 
 /// Reads octets of a form, and gives the number that their digits write with what follows them.
-fn formed<'a>(form: &[u8], text: &'a [u8]) -> Result<(u128, &'a [u8]), PlainFault>
+fn number_in_form<'a>(form: &[u8], text: &'a [u8]) -> Result<(u128, &'a [u8]), PlainFault>
     requires { 16 ^ digit_count form.now ≤ 2 ^ 128 }
     ensures { Gives (λ x. (x.0, x.1.now)) result (form_at form.now 0 text.now) }
 {
@@ -140,5 +144,5 @@ fn formed<'a>(form: &[u8], text: &'a [u8]) -> Result<(u128, &'a [u8]), PlainFaul
 pub fn uuid(text: &[u8]) -> Result<(u128, &[u8]), PlainFault>
     ensures { Gives (λ x. (x.0, x.1.now)) result (read_uuid text.now) }
 {
-    formed(UUID_FORM, unspaced(text))
+    number_in_form(UUID_FORM, trim_start(text))
 }

@@ -13,7 +13,7 @@ invariant_of-result c =
     let plain = says_plain c.args.text.now d.id d.name d.operations says c.if-not-are_within_limits.ensures in
     record {
       legal = c.plain_is_legal.ensures c.in_ok-types.types d.operations
-        (subst (λ (t : Table). IsPlainInterface t d.operations) (sym c.in_ok-types.ensures.ok) plain)
+          (subst (λ (t : Table). IsPlainInterface t d.operations) (sym c.in_ok-types.ensures.ok) plain);
     }
 
 pub returns-in_err-declared-clause-not_built : goal.returns-in_err-declared-clause-not_built
@@ -46,5 +46,5 @@ returns-clause-ok c =
       names = says_names c.args.text.now d.id d.name d.operations says;
       major = refl;
       minor = refl;
-      plain = subst (λ (t : Table). IsPlainInterface t d.operations) (sym c.in_ok-types.ensures.ok) plain
+      plain = subst (λ (t : Table). IsPlainInterface t d.operations) (sym c.in_ok-types.ensures.ok) plain;
     }

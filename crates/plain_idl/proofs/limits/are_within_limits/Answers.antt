@@ -9,7 +9,7 @@ loop-i-preserved c =
 
 pub returns : goal.returns
 returns c = record {
-    few = omega arith;
-    distinct = c.if-not-are_operations_distinct.ensures;
-    each = whole_list (λ xs. All IsWithinLimits xs) c.args.operations.now c.loop-i.i (omega arith) c.loop-i.invariant
+  few = omega arith;
+  distinct = c.if-not-are_operations_distinct.ensures;
+  each = whole_list (λ xs. All IsWithinLimits xs) c.args.operations.now c.loop-i.i (omega arith) c.loop-i.invariant;
 }

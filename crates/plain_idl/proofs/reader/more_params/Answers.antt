@@ -20,8 +20,8 @@ loop-alloc-smaller c = next_param_less c.loop-alloc.rest.now c.in_ok-param.param
 pub loop-alloc-preserved : goal.loop-alloc-preserved
 loop-alloc-preserved c =
     rw c.in_ok-push.ensures.ok
-      (gathers (has_mark 44) read_next_param (behind c.args.before (read_more_params c.args.text.now)) c.loop-alloc.params c.loop-alloc.rest.now c.loop-alloc.invariant (sym c.has_mark.ensures ∙ c.loop-alloc-test.true) c.in_ok-param.param c.in_ok-param.after.now c.in_ok-param.ensures
-        (next_param_less c.loop-alloc.rest.now c.in_ok-param.param c.in_ok-param.after.now c.in_ok-param.ensures))
+    (gathers (has_mark 44) read_next_param (behind c.args.before (read_more_params c.args.text.now)) c.loop-alloc.params c.loop-alloc.rest.now c.loop-alloc.invariant (sym c.has_mark.ensures ∙ c.loop-alloc-test.true) c.in_ok-param.param c.in_ok-param.after.now c.in_ok-param.ensures
+    (next_param_less c.loop-alloc.rest.now c.in_ok-param.param c.in_ok-param.after.now c.in_ok-param.ensures))
 
 pub returns : goal.returns
 returns c = gathered (has_mark 44) read_next_param (behind c.args.before (read_more_params c.args.text.now)) c.loop-alloc.params c.loop-alloc.rest.now c.loop-alloc.invariant (sym c.has_mark.ensures ∙ c.loop-alloc-test.false)

@@ -20,8 +20,8 @@ loop-alloc-smaller c = operation_less c.loop-alloc.rest.now c.in_ok-operation.op
 pub loop-alloc-preserved : goal.loop-alloc-preserved
 loop-alloc-preserved c =
     rw c.in_ok-push.ensures.ok
-      (gathers (λ text. not (has_mark 125 text)) read_operation (read_operations c.args.text.now) c.loop-alloc.operations c.loop-alloc.rest.now c.loop-alloc.invariant (ap not (sym c.has_mark.ensures ∙ c.loop-alloc-test.true)) c.in_ok-operation.operation c.in_ok-operation.after.now c.in_ok-operation.ensures
-        (operation_less c.loop-alloc.rest.now c.in_ok-operation.operation c.in_ok-operation.after.now c.in_ok-operation.ensures))
+    (gathers (λ text. not (has_mark 125 text)) read_operation (read_operations c.args.text.now) c.loop-alloc.operations c.loop-alloc.rest.now c.loop-alloc.invariant (ap not (sym c.has_mark.ensures ∙ c.loop-alloc-test.true)) c.in_ok-operation.operation c.in_ok-operation.after.now c.in_ok-operation.ensures
+    (operation_less c.loop-alloc.rest.now c.in_ok-operation.operation c.in_ok-operation.after.now c.in_ok-operation.ensures))
 
 pub returns : goal.returns
 returns c = gathered (λ text. not (has_mark 125 text)) read_operation (read_operations c.args.text.now) c.loop-alloc.operations c.loop-alloc.rest.now c.loop-alloc.invariant (ap not (sym c.has_mark.ensures ∙ c.loop-alloc-test.false))

@@ -1,6 +1,6 @@
 use Rattle.std.proofs.Common.{◌≡◌, ◌≤◌, ◌+◌, ◌*◌, ◌^◌, drop}
 use Rattle.plain_idl.specs.Reading.{form_at, digit_count}
-use Rattle.plain_idl.proofs.tokens.formed.Given as goal
+use Rattle.plain_idl.proofs.tokens.number_in_form.Given as goal
 
 -- the places so far are read, and the value has room for the digits that are left
 abbrev pub invariant-loop-place : goal.invariant-loop-place

@@ -1,6 +1,6 @@
 use Rattle.std.proofs.Common.{◌≡◌, length}
 use Rattle.plain_idl.specs.Reading.{skip}
-use Rattle.plain_idl.proofs.tokens.unspaced.Given as goal
+use Rattle.plain_idl.proofs.tokens.trim_start.Given as goal
 
 -- the separators so far are skipped
 abbrev pub invariant-loop-rest : goal.invariant-loop-rest
