@@ -30,6 +30,7 @@ width UnsignedLong = 4
 width Hyper = 8
 width UnsignedHyper = 8
 
+-- small, short, long and hyper are signed
 abbrev pub is_signed : prims.Primitive → Bool
 is_signed Small = true
 is_signed Short = true
@@ -37,7 +38,7 @@ is_signed Long = true
 is_signed Hyper = true
 is_signed _ = false
 
--- the least and the greatest value
+-- the least and the greatest value, in two's complement where it is signed
 abbrev pub least : prims.Primitive → ℤ
 least Small = negsuc (2 ^ 7 - 1)
 least Short = negsuc (2 ^ 15 - 1)
@@ -58,6 +59,7 @@ greatest UnsignedLong = pos (2 ^ 32 - 1)
 greatest Hyper = pos (2 ^ 63 - 1)
 greatest UnsignedHyper = pos (2 ^ 64 - 1)
 
+-- whether a number is a value of a primitive
 abbrev pub in_range : prims.Primitive → ℤ → Bool
 in_range p z = int_le (least p) z && int_le z (greatest p)
 
@@ -73,7 +75,7 @@ is_value (Some (def.Prim p)) z = in_range p z
 is_value (Some (def.Enum vs)) z = list_any (int_eq z) vs
 is_value _ z = false
 
--- whether a number can stand in the octets of one
+-- whether the octets of a primitive or of an enumerated type can hold a number
 abbrev pub fits_octets : Option TypeDef → ℤ → Bool
 fits_octets (Some (def.Prim p)) z = in_range p z
 fits_octets (Some (def.Enum vs)) z = in_range Short z
@@ -84,10 +86,11 @@ abbrev pub labelled : List Arm → ℤ → Option Arm
 labelled [] tag = None
 labelled (a ∷ more) tag = elim (int_eq a.label tag) [ true ↦ Some a | false ↦ labelled more tag ]
 
+-- the first of two that is there
 abbrev or_else : Option Arm → Option Arm → Option Arm
 or_else (Some a) b = Some a
 or_else None b = b
 
--- the arm that a tag selects
+-- the arm that a tag selects: the one with that label, or the default, if any
 abbrev pub selected : List Arm → Option Arm → ℤ → Option Arm
 selected arms default tag = or_else (labelled arms tag) default
