@@ -39,7 +39,7 @@ is_signed Long = true
 is_signed Hyper = true
 is_signed _ = false
 
--- the least and the greatest value
+-- the least and the greatest value, in two's complement where it is signed
 abbrev pub least : prims.Primitive → ℤ
 least Small = negsuc (2 ^ 7 - 1)
 least Short = negsuc (2 ^ 15 - 1)
@@ -76,7 +76,7 @@ is_value (Some (def.Prim p)) z = in_range p z
 is_value (Some (def.Enum vs)) z = list_any (int_eq z) vs
 is_value _ z = false
 
--- whether a number can stand in the octets of one
+-- whether the octets of a primitive or of an enumerated type can hold a number
 abbrev pub fits_octets : Option TypeDef → ℤ → Bool
 fits_octets (Some (def.Prim p)) z = in_range p z
 fits_octets (Some (def.Enum vs)) z = in_range Short z
@@ -92,6 +92,6 @@ abbrev or_else : Option Arm → Option Arm → Option Arm
 or_else (Some a) b = Some a
 or_else None b = b
 
--- the arm that a tag selects
+-- the arm that a tag selects: the one with that label, or the default, if any
 abbrev pub selected : List Arm → Option Arm → ℤ → Option Arm
 selected arms default tag = or_else (labelled arms tag) default
