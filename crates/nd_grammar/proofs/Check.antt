@@ -13,7 +13,7 @@ use Rattle.nd_base.specs.declared.TheConstants.{STREAM_LIMIT}
 use Rattle.nd_graph.specs.Setting.{Setting, Among, root_list}
 use Rattle.nd_grammar.specs.Stream.{Stream, representation, AllCut}
 use Rattle.nd_graph.specs.Deferral.{Due, due_root, due_referent, Step, root_stands, referent_stands, stands_already, Deferral, none_due, at_root, at_null, at_standing, at_referent, Pending, due_of, standing_root, standing_cell, IsStanding, IsStandingFull, AreFree, Standing_cells, root_cell, due_roots, before_pipes}
-use Rattle.nd_grammar.specs.Number.{unsigned, value_of_octets}
+use Rattle.nd_types.specs.Number.{unsigned, value_of_octets}
 use Rattle.nd_grammar.specs.Entry.{Kind, Entry, Align, Max, Offset, Actual, Chunk, Number, Num, Tag, Text, Context, Test, Unread, size_at, EntryAt, end_to_end, end_of, full_cells}
 use Rattle.nd_grammar.specs.Represents.{piece, Spells, IsNumber, IsRendered, id_octets, IsNumbering, Represents}
 use Rattle.nd_grammar.specs.Bad.{Bad}
@@ -35,17 +35,17 @@ full_is Full e = refl
 full_is Ref e = cc
 full_is Unique e = cc
 
-abbrev pub is_laid : Standing_cells → ℕ → Bool
-is_laid [] c = false
-is_laid (d ∷ ds) c = cond (eqb c d.1) true (is_laid ds c)
+abbrev pub is_standing : Standing_cells → ℕ → Bool
+is_standing [] c = false
+is_standing (d ∷ ds) c = cond (eqb c d.1) true (is_standing ds c)
 
-abbrev pub is_laid_full : Standing_cells → ℕ → Bool
-is_laid_full [] c = false
-is_laid_full (d ∷ ds) c = cond (is_full d.0 && eqb c d.1) true (is_laid_full ds c)
+abbrev pub is_standing_full : Standing_cells → ℕ → Bool
+is_standing_full [] c = false
+is_standing_full (d ∷ ds) c = cond (is_full d.0 && eqb c d.1) true (is_standing_full ds c)
 
 abbrev are_free : Standing_cells → Standing_cells → Bool
 are_free [] done = true
-are_free (d ∷ ds) done = not (is_laid done d.1) && are_free ds done
+are_free (d ∷ ds) done = not (is_standing done d.1) && are_free ds done
 
 abbrev with : Step → Option (List Step) → Option (List Step)
 with t None = None
@@ -55,7 +55,7 @@ abbrev only_if : Bool → Option (List Step) → Option (List Step)
 only_if true o = o
 only_if false o = None
 
--- the turns of what waits, in at most so many steps
+-- the steps for what is due, at most so many
 abbrev pub walk : ℕ → Setting → Graph → Standing_cells → List Due → Option (List Step)
 walk fuel w g done [] = Some []
 walk zero w g done (t ∷ ts) = None
@@ -65,9 +65,9 @@ walk (suc fuel) w g done (due_root i ∷ ts) =
 walk (suc fuel) w g done (due_referent p ∷ ts) =
     elim p.cell [
       | None ↦ walk fuel w g done ts
-      | Some c ↦ elim (is_full p.class && is_laid_full done c) [
+      | Some c ↦ elim (is_full p.class && is_standing_full done c) [
         | true ↦ with (stands_already p c) (walk fuel w g done ts)
-        | false ↦ only_if (not (is_laid done c)) (with (referent_stands p c) (walk fuel w g ((p.class, c) ∷ done) (due_of w.table (standing_cell g p c) ++ ts)))
+        | false ↦ only_if (not (is_standing done c)) (with (referent_stands p c) (walk fuel w g ((p.class, c) ∷ done) (due_of w.table (standing_cell g p c) ++ ts)))
       ]
     ]
 
@@ -83,19 +83,19 @@ not_is : (b : Bool) → not b ≡ true → b ≡ false
 not_is true e = cc
 not_is false e = refl
 
-laid_full_yes : (ds : Standing_cells) (c : ℕ) → is_laid_full ds c ≡ true → IsStandingFull ds c
-laid_full_yes [] c e = cc
-laid_full_yes (d ∷ ds) c e = go (is_full d.0 && eqb c d.1) refl e (laid_full_yes ds c)
+standing_full_yes : (ds : Standing_cells) (c : ℕ) → is_standing_full ds c ≡ true → IsStandingFull ds c
+standing_full_yes [] c e = cc
+standing_full_yes (d ∷ ds) c e = go (is_full d.0 && eqb c d.1) refl e (standing_full_yes ds c)
   where
-    go : (b : Bool) → (is_full d.0 && eqb c d.1) ≡ b → cond b true (is_laid_full ds c) ≡ true → (is_laid_full ds c ≡ true → IsStandingFull ds c) → IsStandingFull (d ∷ ds) c
+    go : (b : Bool) → (is_full d.0 && eqb c d.1) ≡ b → cond b true (is_standing_full ds c) ≡ true → (is_standing_full ds c ≡ true → IsStandingFull ds c) → IsStandingFull (d ∷ ds) c
     go true q e' ih = inl (full_is d.0 (and_left (is_full d.0) (eqb c d.1) q), eqb-true c d.1 (and_right (is_full d.0) (eqb c d.1) q))
     go false q e' ih = inr (ih e')
 
-laid_no : (ds : Standing_cells) (c : ℕ) → is_laid ds c ≡ false → ¬ IsStanding ds c
-laid_no [] c e h = h
-laid_no (d ∷ ds) c e h = go (eqb c d.1) refl e h (laid_no ds c)
+standing_no : (ds : Standing_cells) (c : ℕ) → is_standing ds c ≡ false → ¬ IsStanding ds c
+standing_no [] c e h = h
+standing_no (d ∷ ds) c e h = go (eqb c d.1) refl e h (standing_no ds c)
   where
-    go : (b : Bool) → eqb c d.1 ≡ b → cond b true (is_laid ds c) ≡ false → IsStanding (d ∷ ds) c → (is_laid ds c ≡ false → ¬ IsStanding ds c) → ⊥
+    go : (b : Bool) → eqb c d.1 ≡ b → cond b true (is_standing ds c) ≡ false → IsStanding (d ∷ ds) c → (is_standing ds c ≡ false → ¬ IsStanding ds c) → ⊥
     go true q e' h' ih = cc
     go false q e' (inl same) ih = let t : eqb c d.1 ≡ true = eq-eqb c d.1 same in cc (t, q)
     go false q e' (inr rest) ih = ih e' rest
@@ -103,7 +103,7 @@ laid_no (d ∷ ds) c e h = go (eqb c d.1) refl e h (laid_no ds c)
 free_yes : (ds done : Standing_cells) → are_free ds done ≡ true → AreFree ds done
 free_yes [] done e = tt
 free_yes (d ∷ ds) done e =
-    (laid_no done d.1 (not_is _ (and_left (not (is_laid done d.1)) (are_free ds done) e)), free_yes ds done (and_right (not (is_laid done d.1)) (are_free ds done) e))
+    (standing_no done d.1 (not_is _ (and_left (not (is_standing done d.1)) (are_free ds done) e)), free_yes ds done (and_right (not (is_standing done d.1)) (are_free ds done) e))
 
 with_is : (t : Step) (o : Option (List Step)) (ts : List Step) → with t o ≡ Some ts → (us : List Step) × (o ≡ Some us) × (t ∷ us ≡ ts)
 with_is t None ts e = cc
@@ -114,30 +114,30 @@ only_is true o ts e = (refl, e)
 only_is false o ts e = cc
 
 module _ (w : Setting) (g : Graph) (done : Standing_cells) (p : Pending) (due : List Due) (ts : List Step) (fuel : ℕ)
-    (ih : (done' : Standing_cells) (tasks' : List Due) (ts' : List Step) → walk fuel w g done' tasks' ≡ Some ts' → Deferral w g done' tasks' ts') where
+    (ih : (done' : Standing_cells) (due' : List Due) (ts' : List Step) → walk fuel w g done' due' ≡ Some ts' → Deferral w g done' due' ts') where
   abbrev step : ℕ → Bool → Option (List Step)
   step c true = with (stands_already p c) (walk fuel w g done due)
-  step c false = only_if (not (is_laid done c)) (with (referent_stands p c) (walk fuel w g ((p.class, c) ∷ done) (due_of w.table (standing_cell g p c) ++ due)))
+  step c false = only_if (not (is_standing done c)) (with (referent_stands p c) (walk fuel w g ((p.class, c) ∷ done) (due_of w.table (standing_cell g p c) ++ due)))
 
-  by_done : (c : ℕ) → p.cell ≡ Some c → (b : Bool) → (is_full p.class && is_laid_full done c) ≡ b → step c b ≡ Some ts → Deferral w g done (due_referent p ∷ due) ts
+  by_done : (c : ℕ) → p.cell ≡ Some c → (b : Bool) → (is_full p.class && is_standing_full done c) ≡ b → step c b ≡ Some ts → Deferral w g done (due_referent p ∷ due) ts
   by_done c f true q e =
       let (us, h, same) = with_is _ _ _ e in
       subst (λ us'. Deferral w g done (due_referent p ∷ due) us') same
-      (at_standing c f (full_is p.class (and_left (is_full p.class) (is_laid_full done c) q)) (laid_full_yes done c (and_right (is_full p.class) (is_laid_full done c) q)) (ih _ _ us h))
+      (at_standing c f (full_is p.class (and_left (is_full p.class) (is_standing_full done c) q)) (standing_full_yes done c (and_right (is_full p.class) (is_standing_full done c) q)) (ih _ _ us h))
   by_done c f false q e =
       let (free, e') = only_is _ _ _ e in
       let (us, h, same) = with_is _ _ _ e' in
-      subst (λ us'. Deferral w g done (due_referent p ∷ due) us') same (at_referent c f (laid_no done c (not_is _ free)) (ih _ _ us h))
+      subst (λ us'. Deferral w g done (due_referent p ∷ due) us') same (at_referent c f (standing_no done c (not_is _ free)) (ih _ _ us h))
 
   abbrev step_at : Option ℕ → Option (List Step)
   step_at None = walk fuel w g done due
-  step_at (Some c) = step c (is_full p.class && is_laid_full done c)
+  step_at (Some c) = step c (is_full p.class && is_standing_full done c)
 
   pub by_cell : (o : Option ℕ) → p.cell ≡ o → step_at o ≡ Some ts → Deferral w g done (due_referent p ∷ due) ts
   by_cell None f e = at_null f (ih _ _ ts e)
-  by_cell (Some c) f e = by_done c f (is_full p.class && is_laid_full done c) refl e
+  by_cell (Some c) f e = by_done c f (is_full p.class && is_standing_full done c) refl e
 
--- what the walk finds are the turns
+-- what the walk finds are the steps of deferral
 pub walk_gives : (fuel : ℕ) (w : Setting) (g : Graph) (done : Standing_cells) (due : List Due) (ts : List Step)
     → walk fuel w g done due ≡ Some ts → Deferral w g done due ts
 walk_gives zero w g done [] ts e = subst (λ us. Deferral w g done [] us) (same_Some _ _ e) none_due
@@ -149,7 +149,7 @@ walk_gives (suc fuel) w g done (due_root i ∷ due) ts e =
     subst (λ us'. Deferral w g done (due_root i ∷ due) us') same
     (at_root (free_yes (root_cell (standing_root w g i).home) done free) (walk_gives fuel w g _ _ us f))
 walk_gives (suc fuel) w g done (due_referent p ∷ due) ts e =
-    by_cell w g done p due ts fuel (λ done' tasks' ts' e'. walk_gives fuel w g done' tasks' ts' e') p.cell refl e
+    by_cell w g done p due ts fuel (λ done' due' ts' e'. walk_gives fuel w g done' due' ts' e') p.cell refl e
 
 abbrev pub same_octets : List ℕ → List ℕ → Bool
 same_octets [] [] = true
@@ -271,9 +271,9 @@ abbrev found : Option (List Step) → List Step
 found None = []
 found (Some ts) = ts
 
--- the turns of the roots, found in so many steps
-abbrev pub turns_of : ℕ → Setting → Graph → List Step
-turns_of fuel w g = found (walk fuel w g [] (due_roots 0 (before_pipes (root_list w))))
+-- the steps for the roots, at most so many
+abbrev pub steps_of : ℕ → Setting → Graph → List Step
+steps_of fuel w g = found (walk fuel w g [] (due_roots 0 (before_pipes (root_list w))))
 
 abbrev is_some : Option (List Step) → Bool
 is_some None = false
@@ -283,17 +283,17 @@ some_found : (o : Option (List Step)) → is_some o ≡ true → o ≡ Some (fou
 some_found None e = cc
 some_found (Some ts) e = refl
 
--- the same with the turns that the walk finds
+-- the same with the steps that the walk finds
 pub represents_so : (w : Setting) (order : Order) (octets : List ℕ) (g : Graph) (cuts : List (List ℕ)) (fuel : ℕ)
     → is_some (walk fuel w g [] (due_roots 0 (before_pipes (root_list w)))) ≡ true
     → AllCut (drop (before_pipes (root_list w)) g.roots) cuts
-    → are_numbers (full_cells (representation w g (turns_of fuel w g) cuts)) ≡ true
-    → renders order (λ c. c) octets (end_to_end 0 (representation w g (turns_of fuel w g) cuts)) ≡ true
-    → end_of 0 (representation w g (turns_of fuel w g) cuts) ≡ length octets
+    → are_numbers (full_cells (representation w g (steps_of fuel w g) cuts)) ≡ true
+    → renders order (λ c. c) octets (end_to_end 0 (representation w g (steps_of fuel w g) cuts)) ≡ true
+    → end_of 0 (representation w g (steps_of fuel w g) cuts) ≡ length octets
     → leb (length octets) STREAM_LIMIT ≡ true
     → Represents w order octets g
 represents_so w order octets g cuts fuel walked cut numbered rendered whole within =
-    represents w order octets g (turns_of fuel w g) cuts fuel (some_found _ walked) cut numbered rendered whole within
+    represents w order octets g (steps_of fuel w g) cuts fuel (some_found _ walked) cut numbered rendered whole within
 
 abbrev is_no_refusal : Option (ℕ × Reason) → Bool
 is_no_refusal None = true
@@ -330,30 +330,30 @@ cut_at xs ys x zero e = e
 cut_at [] ys x (suc n) e = cc
 cut_at (z ∷ xs) ys x (suc n) e = ap (λ zs. z ∷ zs) (cut_at xs ys x n e)
 
--- Octets are refused at the n-th mark of a sketch, by tests.
+-- Octets are refused at the n-th entry of a partial graph, by tests.
 pub bad_so : (w : Setting) (order : Order) (octets : List ℕ) (place : ℕ) (why : Reason) (g : Graph) (cuts : List (List ℕ)) (fuel n : ℕ)
     (here : EntryAt) (later : List EntryAt)
     → IsPartial w g
     → is_some (walk fuel w g [] (due_roots 0 (before_pipes (root_list w)))) ≡ true
     → AllCut (drop (before_pipes (root_list w)) g.roots) cuts
-    → are_numbers (full_cells (representation w g (turns_of fuel w g) cuts)) ≡ true
-    → from n (end_to_end 0 (representation w g (turns_of fuel w g) cuts)) ≡ here ∷ later
-    → renders order (λ c. c) octets (upto n (end_to_end 0 (representation w g (turns_of fuel w g) cuts))) ≡ true
-    → accepts order octets [] (upto n (end_to_end 0 (representation w g (turns_of fuel w g) cuts))) ≡ true
-    → refusal order octets (upto n (end_to_end 0 (representation w g (turns_of fuel w g) cuts))) here ≡ Some (place, why)
+    → are_numbers (full_cells (representation w g (steps_of fuel w g) cuts)) ≡ true
+    → from n (end_to_end 0 (representation w g (steps_of fuel w g) cuts)) ≡ here ∷ later
+    → renders order (λ c. c) octets (upto n (end_to_end 0 (representation w g (steps_of fuel w g) cuts))) ≡ true
+    → accepts order octets [] (upto n (end_to_end 0 (representation w g (steps_of fuel w g) cuts))) ≡ true
+    → refusal order octets (upto n (end_to_end 0 (representation w g (steps_of fuel w g) cuts))) here ≡ Some (place, why)
     → Bad w order octets place why
-bad_so w order octets place why g cuts fuel n here later sketched walked cut numbered split rendered accepted refused = record {
+bad_so w order octets place why g cuts fuel n here later partial walked cut numbered split rendered accepted refused = record {
   partial = g;
-  is_partial = sketched;
-  entries = representation w g (turns_of fuel w g) cuts;
+  is_partial = partial;
+  entries = representation w g (steps_of fuel w g) cuts;
   stream = record {
-    steps = turns_of fuel w g;
+    steps = steps_of fuel w g;
     cuts = cuts;
     deferral = walk_gives fuel w g [] _ _ (some_found _ walked);
     all_cut = cut;
     is_representation = refl;
   };
-  earlier = upto n (end_to_end 0 (representation w g (turns_of fuel w g) cuts));
+  earlier = upto n (end_to_end 0 (representation w g (steps_of fuel w g) cuts));
   here = here;
   later = later;
   split = cut_at _ later here n split;
@@ -395,16 +395,16 @@ unshared_are [] e = tt
 unshared_are (p ∷ ps) e =
     (meets_are p ps (and_left (all_meet p ps) (are_unshared ps) e), unshared_are ps (and_right (all_meet p ps) (are_unshared ps) e))
 
--- a graph is a sketch, by tests
-pub sketch_so : (w : Setting) (g : Graph) → length g.roots ≡ length (root_list w)
+-- a graph is a partial graph of a side, by tests
+pub partial_so : (w : Setting) (g : Graph) → length g.roots ≡ length (root_list w)
     → list_all (λ x. has_machine_values x.typed.label) (all_nodes w g) ≡ true
     → list_all (λ x. is_partial_node w.table g x.typed) (all_nodes w g) ≡ true → are_unshared (all_pointers w g) ≡ true → IsPartial w g
-sketch_so w g a v b c = record { all_roots = a; machine_values = v; local = b; unshared = unshared_are _ c }
+partial_so w g a v b c = record { all_roots = a; machine_values = v; local = b; unshared = unshared_are _ c }
 
 -- the octets that are written, by a test
 pub chosen_so : (w : Setting) (order : Order) (chunk : ℕ) (g : Graph) (octets : List ℕ) (fuel : ℕ)
     → is_some (walk fuel w g [] (due_roots 0 (before_pipes (root_list w)))) ≡ true
-    → octets ≡ octets_from order (canonical_number (named_cells w g (turns_of fuel w g))) 0 (representation w g (turns_of fuel w g) (pipe_cuts chunk (drop (before_pipes (root_list w)) g.roots)))
+    → octets ≡ octets_from order (canonical_number (named_cells w g (steps_of fuel w g))) 0 (representation w g (steps_of fuel w g) (pipe_cuts chunk (drop (before_pipes (root_list w)) g.roots)))
     → Chosen w order chunk g octets
 chosen_so w order chunk g octets fuel walked e =
-    record { steps = turns_of fuel w g; deferral = walk_gives fuel w g [] _ _ (some_found _ walked); written = e }
+    record { steps = steps_of fuel w g; deferral = walk_gives fuel w g [] _ _ (some_found _ walked); written = e }

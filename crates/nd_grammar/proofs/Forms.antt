@@ -1,4 +1,4 @@
--- A mark's length, and whether it is refused, follow from its form.
+-- An entry's length, and whether it is refused, follow from its form.
 use Rattle.std.proofs.Common.{◌≡◌, ℕ, ◌+◌, ◌<◌, ◌≤◌, Bool, true, false, List, [], ◌∷◌, ◌++◌, length, Option, Some, None, refl, ap, ap₂, sym, ◌∙◌, replicate, take, drop}
 use Rattle.std.specs.Prelude.{ltb}
 use Rattle.std.proofs.lemmas.List.{length-replicate}
@@ -71,6 +71,6 @@ module _ (order : Order) (octets : List ℕ) (earlier : List EntryAt) (at : ℕ)
       ∙ ap (λ o. judged (is_long at x) (size_at at x) o)
       (ap (λ n. kind_refusal order octets earlier at m (form x) (take n (drop at octets))) (size_form at x) ∙ kind_form x (piece octets at x))
 
-  -- two marks of one form in one place are refused alike
+  -- two entries of one form in one place are refused alike
   pub refused_alike : (x y : Kind) → form x ≡ form y → with_form x ≡ with_form y
   refused_alike x y e = sym (form_judged x) ∙ ap with_form e ∙ form_judged y

@@ -8,6 +8,13 @@ pub mod NextPending
 pub mod NextDeferral
 pub mod Plain
 pub mod PlainBad
+pub mod PlainConforms
+pub mod PlainNumbers
+pub mod PlainRefused
+pub mod PlainVerdict
+pub mod PlainSteps
+pub mod PlainStreams
 pub mod Ranges
 pub mod RingNext
 pub mod Rows
+pub mod PlainSides

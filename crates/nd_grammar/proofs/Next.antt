@@ -1,4 +1,4 @@
--- The marks before a mark fix the next one.
+-- The entries of a stream before an entry fix the next one.
 use Rattle.std.proofs.Common.{◌≡◌, ℕ, ◌+◌, ◌<◌, ◌≤◌, zero, suc, ℤ, Bool, true, false, List, [], ◌∷◌, ◌++◌, length, Option, Some, None, refl, ap, ap₂, sym, ◌∙◌, inl, inr, ◌⊎◌, arith, subst, replicate, append_assoc, take, drop}
 use Rattle.std.specs.Prelude.{pos, map, ◌-ℤ◌}
 use Rattle.nd_base.specs.declared.octets.Order.{Order}
@@ -19,7 +19,7 @@ use Rattle.nd_graph.specs.Tree.{Referent}
 use Rattle.nd_graph.specs.Tree as tree
 use Rattle.nd_graph.specs.Tree.{Tree, Trees, node, none, more, count, nodes, Label, is_pointer, cell_in}
 use Rattle.nd_graph.specs.Nodes.{child_types, child_agreements, first_agreements, rest_agreements}
-use Rattle.nd_grammar.specs.Number.{unsigned, value_of_octets}
+use Rattle.nd_types.specs.Number.{unsigned, value_of_octets}
 use Rattle.nd_grammar.specs.Entry.{Kind, Entry, Align, Max, Offset, Actual, Chunk, Number, Num, Tag, Text, Context, Test, Unread, size_at, EntryAt, end_to_end, end_of}
 use Rattle.nd_grammar.specs.InPlace.{before_children, entries, in_place, counts, tag_entries, tests, own_tests, child_tests}
 use Rattle.nd_grammar.specs.Represents.{piece, Spells, IsRendered, IsNumber, id_octets}
@@ -28,7 +28,7 @@ use Rattle.nd_types.specs.declared.types.Attr.TheVariants as attr
 use Rattle.nd_types.specs.declared.types.AttrVar.{AttrVar}
 use Rattle.nd_graph.specs.Agreement.{Agreement, agreement, max_of, offset_of, tag_of, actual, found_in, number_of, number_in, member_agreements}
 
--- what the marks before a mark fix of it: all but its value
+-- what the entries before an entry fix of it: all but its value
 abbrev pub form : Kind → Kind
 form (Align n) = Align n
 form (Max v) = Max 0
@@ -46,11 +46,11 @@ form Unread = Unread
 abbrev pub IsUnread : Entry → Type 0
 IsUnread m = m.kind ≡ Unread
 
--- two marks of one form, at one node
+-- two entries of one form, at one node
 abbrev pub Alike : Entry → Entry → Type 0
 Alike m n = (m.node ≡ n.node) × (form m.kind ≡ form n.kind)
 
--- As far as the octets spell two lists of marks alike, their next marks are alike, up to a hole in one of them.
+-- As far as the octets spell two lists of entries alike, their next entries are alike, up to an unread value in one of them.
 abbrev pub Next : Order → List ℕ → (ℕ → ℕ) → (ℕ → ℕ) → ℕ → List Entry → List Entry → Type 0
 Next order octets nums nums' at [] [] = Unit {0}
 Next order octets nums nums' at [] (n ∷ ns) = IsUnread n
@@ -60,7 +60,7 @@ Next order octets nums nums' at (m ∷ ms) (n ∷ ns) =
     × (IsRendered order nums octets (record { at = at; entry = m }) → IsRendered order nums' octets (record { at = at; entry = n })
     → Next order octets nums nums' (at + size_at at m.kind) ms ns)))
 
--- what a type's node may say, or that it has no marks
+-- what a type's node may say, or that it stands as one that is not read
 pub data View (table : Table) (t : ℕ) : Option TypeDef → Label → Type 0 where
   v_prim : {p : Primitive} {z : ℤ} → View table t (Some (def.Prim p)) (tree.Num z)
   v_enum : {vs : List ℤ} {z : ℤ} → View table t (Some (def.Enum vs)) (tree.Num z)
@@ -70,7 +70,7 @@ pub data View (table : Table) (t : ℕ) : Option TypeDef → Label → Type 0 wh
   v_union : {tag : TypeId} {enc : Bool} {arms : List Arm} {d : Option Arm} {v : ℤ} → View table t (Some (def.Union tag enc arms d)) (tree.Union v)
   v_pointer : {k : Class} {to : TypeId} {c : Option ℕ} → View table t (Some (def.Pointer k to)) (tree.Ptr c)
   v_context : {a : ℕ} {i : List ℕ} → View table t (Some def.Context) (tree.Context a i)
-  v_hole : {d : Option TypeDef} {l : Label} → ((ks : Trees) → before_children table t d l ks ≡ Unread ∷ []) → View table t d l
+  v_unread : {d : Option TypeDef} {l : Label} → ((ks : Trees) → before_children table t d l ks ≡ Unread ∷ []) → View table t d l
 
 pub view : (table : Table) (t : ℕ) (d : Option TypeDef) (l : Label) → View table t d l
 view table t (Some (def.Prim p)) (tree.Num z) = v_prim
@@ -81,7 +81,7 @@ view table t (Some (def.Text e b)) (tree.Text m os) = v_text
 view table t (Some (def.Union tag enc arms d)) (tree.Union v) = v_union
 view table t (Some (def.Pointer k to)) (tree.Ptr c) = v_pointer
 view table t (Some def.Context) (tree.Context a i) = v_context
-view table t _ _ = v_hole (λ ks. refl)
+view table t _ _ = v_unread (λ ks. refl)
 
 -- a label without its cell, and its cell
 abbrev pub bare : Label → Label
@@ -103,7 +103,7 @@ pub record Match (nums nums' : ℕ → ℕ) (d : Option TypeDef) (l l' : Label) 
   pub same : bare l ≡ bare l'
   pub cells : CellsMatch nums nums' (class_of d) (cell_in l) (cell_in l')
 
--- what is known of a node of a sketch: the counts of an array that does not vary, and its pointer
+-- what is known of a node of a partial graph: the counts of an array that does not vary, and its pointer
 abbrev pub CountsKnown : Option TypeDef → Label → Trees → Type 0
 CountsKnown (Some (def.Array e b false)) (tree.Arr m o) ks = (o ≡ 0) × (count ks ≡ m)
 CountsKnown _ _ ks = Unit {0}
@@ -134,19 +134,19 @@ Matched nums nums' table (t ∷ types) (more (node l ks) ts) (more (node l' ks')
     × Matched nums nums' table types ts us
 Matched nums nums' table _ _ _ = ⊥
 
--- a pointer's cell is one of the graph, of the pointee's type
+-- a pointer's cell is one of the graph, of its referent's type
 abbrev pub PointeeKnown : Graph → Option TypeDef → Option ℕ → Type 0
 PointeeKnown g (Some (def.Pointer k to)) (Some c) = (x : Referent) × (cell_of_number g c ≡ Some x) × (x.of ≡ to.0)
 PointeeKnown g _ _ = Unit {0}
 
--- what is known of a node of a sketch: it is a hole, or has its type's shape and counts
+-- what is known of a node of a partial graph: it is unread, or has its type's shape and counts
 pub record NodeKnown (nums : ℕ → ℕ) (g : Graph) (d : Option TypeDef) (l : Label) (ks : Trees) : Type 0 where
   pub counts : CountsKnown d l ks
   pub number : CellKnown nums (class_of d) (cell_in l)
   pub pointee : PointeeKnown g d (cell_in l)
   pub shape : (l ≡ tree.Unread) ⊎ ((has_shape d l ks ≡ true) × (has_counts d l ks ≡ true))
 
--- what is known of each node of trees of types
+-- what is known of each node of trees of these types
 abbrev pub Known : (ℕ → ℕ) → Graph → Table → List ℕ → Trees → Type 0
 Known nums g table [] none = Unit {0}
 Known nums g table (t ∷ types) (more (node l ks) ts) =
@@ -155,7 +155,7 @@ Known nums g table (t ∷ types) (more (node l ks) ts) =
     × Known nums g table types ts
 Known nums g table _ _ = ⊥
 
--- two labels have one maximum count, where neither is a hole
+-- two labels have one maximum count, where neither is unread
 abbrev pub SameMax : Label → Label → Type 0
 SameMax l l' = (l ≡ tree.Unread) ⊎ ((l' ≡ tree.Unread) ⊎ (max_of l ≡ max_of l'))
 
@@ -244,18 +244,18 @@ module _ (nums nums' : ℕ → ℕ) (table : Table) where
   matched_number (t ∷ types) (more (node l ks) ts) (more (node l' ks') us) m zero = number_same l l' m.0.same ks ks'
   matched_number (t ∷ types) (more (node l ks) ts) (more (node l' ks') us) m (suc i) = matched_number types ts us m.2 i
 
-  wants_same : (ks ks' : Trees) → ((i : ℕ) → number_in ks i ≡ number_in ks' i) → (vars : List AttrVar) → member_agreements ks vars ≡ member_agreements ks' vars
-  wants_same ks ks' e [] = refl
-  wants_same ks ks' e (a ∷ rest) = ap₂ (λ u v. agreement a.attr u ++ v) (e a.var) (wants_same ks ks' e rest)
+  agreements_same : (ks ks' : Trees) → ((i : ℕ) → number_in ks i ≡ number_in ks' i) → (vars : List AttrVar) → member_agreements ks vars ≡ member_agreements ks' vars
+  agreements_same ks ks' e [] = refl
+  agreements_same ks ks' e (a ∷ rest) = ap₂ (λ u v. agreement a.attr u ++ v) (e a.var) (agreements_same ks ks' e rest)
 
   fields_same : (ks ks' : Trees) → ((i : ℕ) → number_in ks i ≡ number_in ks' i) → (fs : List Field)
       → map (λ f. member_agreements ks f.vars) fs ≡ map (λ f. member_agreements ks' f.vars) fs
   fields_same ks ks' e [] = refl
-  fields_same ks ks' e (f ∷ fs) = ap₂ (λ u v. u ∷ v) (wants_same ks ks' e f.vars) (fields_same ks ks' e fs)
+  fields_same ks ks' e (f ∷ fs) = ap₂ (λ u v. u ∷ v) (agreements_same ks ks' e f.vars) (fields_same ks ks' e fs)
 
-  pub child_wants_same : (d : Option TypeDef) (ks ks' : Trees) → ((i : ℕ) → number_in ks i ≡ number_in ks' i) → child_agreements d ks ≡ child_agreements d ks'
-  child_wants_same (Some (def.Struct fs)) ks ks' e = fields_same ks ks' e fs
-  child_wants_same _ ks ks' e = refl
+  pub child_agreements_same : (d : Option TypeDef) (ks ks' : Trees) → ((i : ℕ) → number_in ks i ≡ number_in ks' i) → child_agreements d ks ≡ child_agreements d ks'
+  child_agreements_same (Some (def.Struct fs)) ks ks' e = fields_same ks ks' e fs
+  child_agreements_same _ ks ks' e = refl
 
 four : {X : Type 0} (a b c d m : List X) → (a ++ (b ++ (c ++ d))) ++ m ≡ a ++ (b ++ (c ++ (d ++ m)))
 four a b c d m = simp append_assoc
@@ -271,13 +271,13 @@ text_max m os m' os' (inr (inl e)) = cc
 text_max m os m' os' (inr (inr e)) = e
 
 module _ (order : Order) (octets : List ℕ) (nums nums' : ℕ → ℕ) where
-  pub hole_left : (at : ℕ) (m : Entry) (ms ns : List Entry) → IsUnread m → Next order octets nums nums' at (m ∷ ms) ns
-  hole_left at m ms [] e = e
-  hole_left at m ms (n ∷ ns) e = inl e
+  pub unread_left : (at : ℕ) (m : Entry) (ms ns : List Entry) → IsUnread m → Next order octets nums nums' at (m ∷ ms) ns
+  unread_left at m ms [] e = e
+  unread_left at m ms (n ∷ ns) e = inl e
 
-  pub hole_right : (at : ℕ) (n : Entry) (ms ns : List Entry) → IsUnread n → Next order octets nums nums' at ms (n ∷ ns)
-  hole_right at n [] ns e = e
-  hole_right at n (m ∷ ms) ns e = inr (inl e)
+  pub unread_right : (at : ℕ) (n : Entry) (ms ns : List Entry) → IsUnread n → Next order octets nums nums' at ms (n ∷ ns)
+  unread_right at n [] ns e = e
+  unread_right at n (m ∷ ms) ns e = inr (inl e)
 
   cells_match : (k : Class) (c d : Option ℕ) (v : ℕ) → CellKnown nums k c → CellKnown nums' k d
       → IsNumber nums k c v → IsNumber nums' k d v → CellsMatch nums nums' k c d
@@ -295,7 +295,7 @@ module _ (order : Order) (octets : List ℕ) (nums nums' : ℕ → ℕ) where
   cells_match Ref (Some c) None v a b x y = absurd b
 
   module _ (ids : (i j : List ℕ) → id_octets order i ≡ id_octets order j → i ≡ j) (table : Table) (g g' : Graph) (h h' : Home) where
-    -- what follows the marks of a node, once its label is known to match
+    -- what follows the entries of a node, once its label is known to match
     abbrev Rest : Option TypeDef → Label → Label → Trees → Trees → List Entry → List Entry → Type 0
     Rest d l l' ks ks' ms ns =
         (p : ℕ) → Match nums nums' d l l' → child_types d l ks ≡ child_types d l' ks' → Next order octets nums nums' p ms ns
@@ -376,10 +376,10 @@ module _ (order : Order) (octets : List ℕ) (nums nums' : ℕ → ℕ) where
                 k _ (record { same = ap₂ tree.Context (sym x.1.0 ∙ y.1.0) (ids i j (sym x.1.1 ∙ y.1.1)); cells = tt }) refl,
           )),
         ))
-    before_next t n {d = dd} {l' = l'} ks ks' ms ns at (v_hole x) y a b c d e k =
-        rw (x ks) (hole_left at (record { home = h; node = n; kind = Unread }) ms (entries h' n (before_children table t dd l' ks') ++ ns) refl)
-    before_next t n {d = dd} {l = l} ks ks' ms ns at x (v_hole y) a b c d e k =
-        rw (y ks') (hole_right at (record { home = h'; node = n; kind = Unread }) (entries h n (before_children table t dd l ks) ++ ms) ns refl)
+    before_next t n {d = dd} {l' = l'} ks ks' ms ns at (v_unread x) y a b c d e k =
+        rw (x ks) (unread_left at (record { home = h; node = n; kind = Unread }) ms (entries h' n (before_children table t dd l' ks') ++ ns) refl)
+    before_next t n {d = dd} {l = l} ks ks' ms ns at x (v_unread y) a b c d e k =
+        rw (y ks') (unread_right at (record { home = h'; node = n; kind = Unread }) (entries h n (before_children table t dd l ks) ++ ms) ns refl)
 
     pub tests_next : (n : ℕ) (t t' : Tree) (ws : List Agreement) → ((a : Attr) → found_in a t ≡ found_in a t') → (ms ns : List Entry) (at : ℕ)
         → ((p : ℕ) → Next order octets nums nums' p ms ns)
@@ -416,7 +416,7 @@ module _ (order : Order) (octets : List ℕ) (nums nums' : ℕ → ℕ) where
         (child_tests h (rest_agreements agreements) (n + 1 + nodes ks) ts ++ ms) (child_tests h' (rest_agreements agreements) (n + 1 + nodes ks) us ++ ns) at
         (λ p. child_tests_next types (rest_agreements agreements) (n + 1 + nodes ks) ts us m.2 ms ns p k))))
 
-    -- Two lists of trees of the same types follow each other, up to a hole; where both are spelled whole, they match.
+    -- Two lists of trees of the same types follow each other, up to an unread value; where both are spelled whole, they match.
     pub in_place_next : (types : List ℕ) (n : ℕ) (ts us : Trees)
         → Known nums g table types ts → Known nums' g' table types us → Maxes table types ts us
         → (ms ns : List Entry) (at : ℕ)
@@ -445,7 +445,7 @@ module _ (order : Order) (octets : List ℕ) (nums nums' : ℕ → ℕ) where
         (in_place_next kinds (n + 1) ks ks' a.1 (subst (λ y. Known nums' g' table y ks') (sym e) b.1) (x.1 e)
         (C ++ (D ++ ms)) (C' (child_agreements d ks') ++ (D' (nodes ks') ++ ns)) p
         (λ p' mk.
-        let w : child_agreements d ks ≡ child_agreements d ks' = child_wants_same nums nums' table d ks ks' (matched_number nums nums' table kinds ks ks' mk) in
+        let w : child_agreements d ks ≡ child_agreements d ks' = child_agreements_same nums nums' table d ks ks' (matched_number nums nums' table kinds ks ks' mk) in
         let v : nodes ks ≡ nodes ks' = matched_nodes nums nums' table kinds ks ks' mk in
         subst (λ y. Next order octets nums nums' p' (C ++ (D ++ ms)) (C' y ++ (D' (nodes ks') ++ ns))) w
         (subst (λ y. Next order octets nums nums' p' (C ++ (D ++ ms)) (C' (child_agreements d ks) ++ (D' y ++ ns))) v

@@ -16,10 +16,10 @@ use Rattle.nd_graph.specs.Agreement.{Agreement}
 use Rattle.nd_graph.specs.Setting.{cell_of_number}
 use Rattle.nd_graph.specs.Nodes.{child_types, child_agreements, first_agreements, rest_agreements, nodes_of, TypedNode}
 use Rattle.nd_graph.specs.Deferral.{Pending, pointer, pointer_by, Due, due_root, due_referent}
-use Rattle.nd_grammar.proofs.Next.{bare, class_of, CellsMatch, Match, Matched, NodeKnown, PointeeKnown, Known, matched_nodes, matched_count, matched_number, child_wants_same, through, pointer_bare}
+use Rattle.nd_grammar.proofs.Next.{bare, class_of, CellsMatch, Match, Matched, NodeKnown, PointeeKnown, Known, matched_nodes, matched_count, matched_number, child_agreements_same, through, pointer_bare}
 
 module _ (nums nums' : ℕ → ℕ) (g g' : Graph) where
-  -- a pointer's cell is one of its pointee's type
+  -- a pointer's cell is one of its referent's type
   abbrev pub Typed : Graph → Pending → Type 0
   Typed k p = (c : ℕ) → p.cell ≡ Some c → (x : Referent) × (cell_of_number k c ≡ Some x) × (x.of ≡ p.to)
 
@@ -80,19 +80,19 @@ module _ (nums nums' : ℕ → ℕ) (g g' : Graph) where
   types_same : (d : Option TypeDef) (l l' : Label) (ks ks' : Trees) → bare l ≡ bare l' → count ks ≡ count ks' → child_types d l ks ≡ child_types d l' ks'
   types_same d l l' ks ks' e c = through l l' e (λ k. child_types d k ks) (bare_types d ks) ∙ count_types d l' ks ks' c
 
-  pub placed_match : (table : Table) (h h' : Home) (types : List ℕ) (agreements : List (List Agreement)) (n : ℕ) (ts us : Trees)
+  pub nodes_match : (table : Table) (h h' : Home) (types : List ℕ) (agreements : List (List Agreement)) (n : ℕ) (ts us : Trees)
       → Known nums g table types ts → Known nums' g' table types us → Matched nums nums' table types ts us
       → AllPointers (flat_map (pointer table h) (nodes_of table types agreements n ts)) (flat_map (pointer table h') (nodes_of table types agreements n us))
-  placed_match table h h' [] agreements n none none a b m = tt
-  placed_match table h h' [] agreements n none (more u us) a b m = absurd m
-  placed_match table h h' [] agreements n (more t ts) us a b m = absurd a
-  placed_match table h h' (t ∷ types) agreements n none us a b m = absurd a
-  placed_match table h h' (t ∷ types) agreements n (more (node l ks) ts) none a b m = absurd m
-  placed_match table h h' (t ∷ types) agreements n (more (node l ks) ts) (more (node l' ks') us) a b m =
+  nodes_match table h h' [] agreements n none none a b m = tt
+  nodes_match table h h' [] agreements n none (more u us) a b m = absurd m
+  nodes_match table h h' [] agreements n (more t ts) us a b m = absurd a
+  nodes_match table h h' (t ∷ types) agreements n none us a b m = absurd a
+  nodes_match table h h' (t ∷ types) agreements n (more (node l ks) ts) none a b m = absurd m
+  nodes_match table h h' (t ∷ types) agreements n (more (node l ks) ts) (more (node l' ks') us) a b m =
       let d : Option TypeDef = type_at table t in
       let c : count ks ≡ count ks' = matched_count nums nums' table _ ks ks' m.1 in
       let v : nodes ks ≡ nodes ks' = matched_nodes nums nums' table _ ks ks' m.1 in
-      let w : child_agreements d ks ≡ child_agreements d ks' = child_wants_same nums nums' table d ks ks' (matched_number nums nums' table _ ks ks' m.1) in
+      let w : child_agreements d ks ≡ child_agreements d ks' = child_agreements_same nums nums' table d ks ks' (matched_number nums nums' table _ ks ks' m.1) in
       let e : child_types d l ks ≡ child_types d l' ks' = types_same d l l' ks ks' m.0.same c in
       let i : is_pointer l ≡ is_pointer l' = through l l' m.0.same is_pointer pointer_bare in
       let A : List TypedNode = nodes_of table (child_types d l ks) (child_agreements d ks) (n + 1) ks in
@@ -102,8 +102,8 @@ module _ (nums nums' : ℕ → ℕ) (g g' : Graph) where
       let f : TypedNode → List Pending = pointer table h in
       let f' : TypedNode → List Pending = pointer table h' in
       let own = by_match d (is_pointer l) (cell_in l) (cell_in l') h h' n (first_agreements agreements) m.0.cells a.0.pointee b.0.pointee in
-      let kids = placed_match table h h' (child_types d l ks) (child_agreements d ks) (n + 1) ks ks' a.1 (subst (λ x. Known nums' g' table x ks') (sym e) b.1) m.1 in
-      let rest = placed_match table h h' types (rest_agreements agreements) (n + 1 + nodes ks) ts us a.2 b.2 m.2 in
+      let kids = nodes_match table h h' (child_types d l ks) (child_agreements d ks) (n + 1) ks ks' a.1 (subst (λ x. Known nums' g' table x ks') (sym e) b.1) m.1 in
+      let rest = nodes_match table h h' types (rest_agreements agreements) (n + 1 + nodes ks) ts us a.2 b.2 m.2 in
       let whole : AllPointers
       (pointer_by d (is_pointer l) (cell_in l) h n (first_agreements agreements) ++ (flat_map f A ++ flat_map f B))
       (pointer_by d (is_pointer l) (cell_in l') h' n (first_agreements agreements) ++ (flat_map f' (A' (child_types d l ks) (child_agreements d ks)) ++ flat_map f' (B' (nodes ks)))) =
@@ -119,19 +119,19 @@ module _ (nums nums' : ℕ → ℕ) (g g' : Graph) where
       (subst (λ z. T (is_pointer l) (child_types d l ks) z (nodes ks')) w
       (subst (λ u. T (is_pointer l) (child_types d l ks) (child_agreements d ks) u) v start)))
 
-  abbrev pub TasksMatch : Due → Due → Type 0
-  TasksMatch (due_root i) (due_root j) = i ≡ j
-  TasksMatch (due_referent p) (due_referent q) = PointersMatch p q
-  TasksMatch _ _ = ⊥
+  abbrev pub DueMatches : Due → Due → Type 0
+  DueMatches (due_root i) (due_root j) = i ≡ j
+  DueMatches (due_referent p) (due_referent q) = PointersMatch p q
+  DueMatches _ _ = ⊥
 
-  abbrev pub AllTasks : List Due → List Due → Type 0
-  AllTasks [] [] = Unit {0}
-  AllTasks (x ∷ xs) (y ∷ ys) = TasksMatch x y × AllTasks xs ys
-  AllTasks _ _ = ⊥
+  abbrev pub AllDueMatch : List Due → List Due → Type 0
+  AllDueMatch [] [] = Unit {0}
+  AllDueMatch (x ∷ xs) (y ∷ ys) = DueMatches x y × AllDueMatch xs ys
+  AllDueMatch _ _ = ⊥
 
-  pub then_tasks : (ps qs : List Pending) (xs ys : List Due) → AllPointers ps qs → AllTasks xs ys
-      → AllTasks (map due_referent ps ++ xs) (map due_referent qs ++ ys)
-  then_tasks [] [] xs ys a b = b
-  then_tasks [] (q ∷ qs) xs ys a b = absurd a
-  then_tasks (p ∷ ps) [] xs ys a b = absurd a
-  then_tasks (p ∷ ps) (q ∷ qs) xs ys a b = (a.0, then_tasks ps qs xs ys a.1 b)
+  pub then_due : (ps qs : List Pending) (xs ys : List Due) → AllPointers ps qs → AllDueMatch xs ys
+      → AllDueMatch (map due_referent ps ++ xs) (map due_referent qs ++ ys)
+  then_due [] [] xs ys a b = b
+  then_due [] (q ∷ qs) xs ys a b = absurd a
+  then_due (p ∷ ps) [] xs ys a b = absurd a
+  then_due (p ∷ ps) (q ∷ qs) xs ys a b = (a.0, then_due ps qs xs ys a.1 b)

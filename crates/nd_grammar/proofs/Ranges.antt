@@ -3,17 +3,12 @@ use Rattle.std.proofs.Common.{◌≡◌, ℕ, ◌+◌, ◌*◌, ◌-◌, ◌^◌
 use Rattle.std.proofs.lemmas.Bool.Decides.{nat_tests}
 use Rattle.std.proofs.lemmas.Int.{ints}
 use Rattle.std.specs.Prelude.{int_le}
-use Rattle.std.specs.List.{AllByRecursion}
 use Rattle.nd_base.specs.declared.octets.Order.{Order}
 use Rattle.nd_base.specs.declared.octets.Order.TheVariants.{Big, Little}
 use Rattle.nd_types.specs.declared.types.Primitive.{Primitive}
 use Rattle.nd_types.specs.declared.types.Primitive.TheVariants.{Boolean, Char, Byte, Small, UnsignedSmall, Short, UnsignedShort, Long, UnsignedLong, Hyper, UnsignedHyper}
 use Rattle.nd_types.specs.Table.{width, in_range}
-use Rattle.nd_grammar.specs.Number.{unsigned, value_of_octets, as_signed, truth}
-
--- octets are numbers from 0 to 255
-abbrev pub AreOctets : List ℕ → Type 0
-AreOctets os = AllByRecursion (λ b. b < 256) os
+use Rattle.nd_types.specs.Number.{AreOctets, unsigned, value_of_octets, as_signed, truth}
 
 below_1 : (order : Order) (os : List ℕ) → length os ≡ 1 → AreOctets os → unsigned order os < 2 ^ 8
 below_1 Big (a ∷ []) e h = omega arith
@@ -69,18 +64,18 @@ signed_4 v h = grind (arith, ints, nat_tests)
 signed_8 : (v : ℕ) → v < 2 ^ 64 → in_range Hyper (as_signed 8 v) ≡ true
 signed_8 v h = grind (arith, ints, nat_tests)
 
-pub held_in_range : (order : Order) (p : Primitive) (os : List ℕ) → length os ≡ width p → AreOctets os → in_range p (value_of_octets order p os) ≡ true
-held_in_range order Boolean os e h = truth_range (unsigned order os)
-held_in_range order Char os e h = let b = below_1 order os e h in plain 255 (unsigned order os) (omega arith)
-held_in_range order Byte os e h = let b = below_1 order os e h in plain 255 (unsigned order os) (omega arith)
-held_in_range order UnsignedSmall os e h = let b = below_1 order os e h in plain 255 (unsigned order os) (omega arith)
-held_in_range order Small os e h = signed_1 (unsigned order os) (below_1 order os e h)
-held_in_range order Short os e h = signed_2 (unsigned order os) (below_2 order os e h)
-held_in_range order UnsignedShort os e h = let b = below_2 order os e h in plain 65535 (unsigned order os) (omega arith)
-held_in_range order Long os e h = signed_4 (unsigned order os) (below_4 order os e h)
-held_in_range order UnsignedLong os e h = let b = below_4 order os e h in plain 4294967295 (unsigned order os) (omega arith)
-held_in_range order Hyper os e h = signed_8 (unsigned order os) (below_8 order os e h)
-held_in_range order UnsignedHyper os e h = let b = below_8 order os e h in plain 18446744073709551615 (unsigned order os) (omega arith)
+pub value_in_range : (order : Order) (p : Primitive) (os : List ℕ) → length os ≡ width p → AreOctets os → in_range p (value_of_octets order p os) ≡ true
+value_in_range order Boolean os e h = truth_range (unsigned order os)
+value_in_range order Char os e h = let b = below_1 order os e h in plain 255 (unsigned order os) (omega arith)
+value_in_range order Byte os e h = let b = below_1 order os e h in plain 255 (unsigned order os) (omega arith)
+value_in_range order UnsignedSmall os e h = let b = below_1 order os e h in plain 255 (unsigned order os) (omega arith)
+value_in_range order Small os e h = signed_1 (unsigned order os) (below_1 order os e h)
+value_in_range order Short os e h = signed_2 (unsigned order os) (below_2 order os e h)
+value_in_range order UnsignedShort os e h = let b = below_2 order os e h in plain 65535 (unsigned order os) (omega arith)
+value_in_range order Long os e h = signed_4 (unsigned order os) (below_4 order os e h)
+value_in_range order UnsignedLong os e h = let b = below_4 order os e h in plain 4294967295 (unsigned order os) (omega arith)
+value_in_range order Hyper os e h = signed_8 (unsigned order os) (below_8 order os e h)
+value_in_range order UnsignedHyper os e h = let b = below_8 order os e h in plain 18446744073709551615 (unsigned order os) (omega arith)
 
 drop_octets : (n : ℕ) (os : List ℕ) → AreOctets os → AreOctets (drop n os)
 drop_octets zero os h = h
@@ -97,4 +92,4 @@ pub piece_in_range : (order : Order) (os : List ℕ) → AreOctets os → (p : P
     → in_range p (value_of_octets order p (take (width p) (drop a os))) ≡ true
 piece_in_range order os h p a fits =
     let e : length (take (width p) (drop a os)) ≡ width p = simp (length-take, length-drop) (omega arith) in
-    held_in_range order p (take (width p) (drop a os)) e (take_octets (width p) (drop a os) (drop_octets a os h))
+    value_in_range order p (take (width p) (drop a os)) e (take_octets (width p) (drop a os) (drop_octets a os h))

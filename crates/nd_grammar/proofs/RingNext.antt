@@ -1,4 +1,4 @@
--- The law of the next mark, at the ring: its premises can be met.
+-- The law of the next entry, at the ring: its premises can be met.
 use Rattle.std.proofs.Common.{◌≡◌, ℕ, ◌+◌, ◌<◌, zero, suc, ℤ, Bool, true, false, List, [], ◌∷◌, ◌++◌, Option, Some, None, refl, ap, sym, ◌∙◌, inl, inr, ◌⊎◌, arith, subst}
 use Rattle.std.proofs.lemmas.Option.{same_Some}
 use Rattle.std.specs.Prelude.{pos, flat_map}
@@ -17,7 +17,7 @@ use Rattle.nd_grammar.specs.Stream.{step_entries}
 use Rattle.nd_grammar.specs.Examples.{ring, ring_of_two}
 use Rattle.nd_grammar.proofs.Next.{Known, NodeKnown, Next, bare}
 use Rattle.nd_grammar.proofs.Bounded.{is_conformant, maxes_bounded}
-use Rattle.nd_grammar.proofs.NextDeferral.{turns_next, RootsMatch, Pair}
+use Rattle.nd_grammar.proofs.NextDeferral.{deferral_next, RootsMatch, Pair}
 
 bounded : (t : ℕ) → is_conformant (type_at ring.table t) ≡ false
 bounded zero = refl
@@ -77,6 +77,6 @@ module _ (order : Order) (octets : List ℕ) (nums nums' : ℕ → ℕ) (low : (
   pub ring_follows : (us vs : List Step) → Deferral ring ring_of_two [] (due_roots 0 1) us → Deferral ring ring_of_two [] (due_roots 0 1) vs
       → Next order octets nums nums' 0 (flat_map (step_entries ring ring_of_two) us ++ []) (flat_map (step_entries ring ring_of_two) vs ++ [])
   ring_follows us vs a b =
-      turns_next order octets nums nums' ids one one' ring ring_of_two ring_of_two (known nums low) (known nums' low')
+      deferral_next order octets nums nums' ids one one' ring ring_of_two ring_of_two (known nums low) (known nums' low')
       (λ t v v' a' b' h. maxes_bounded nums nums' ring_of_two ring_of_two ring.table bounded (t ∷ []) (more v none) (more v' none) a' b')
       roots_match a b [] refl refl tt (refl, tt) [] [] 0 (λ p ys m. tt)

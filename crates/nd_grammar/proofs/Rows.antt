@@ -37,7 +37,7 @@ use Rattle.nd_graph.specs.Homes.{all_pointers}
 use Rattle.nd_graph.specs.declared.item.Home.TheVariants as home
 use Rattle.nd_graph.specs.Setting.{cell_home}
 use Rattle.nd_graph.specs.Deferral.{Pending}
-use Rattle.nd_grammar.proofs.Check.{represents, represents_so, bad_so, unshared_are, sketch_so, chosen_so, turns_of, upto, from}
+use Rattle.nd_grammar.proofs.Check.{represents, represents_so, bad_so, unshared_are, partial_so, chosen_so, steps_of, upto, from}
 
 abbrev pub id : ℕ → TypeId
 id n = record { 0 = n }
@@ -77,12 +77,12 @@ add_graph = record { roots = num (pos 1) ∷ num (pos 2) ∷ num (pos 3) ∷ [];
 abbrev add_octets : List ℕ
 add_octets = 1 ∷ 0 ∷ 0 ∷ 0 ∷ 2 ∷ 0 ∷ 0 ∷ 0 ∷ 3 ∷ 0 ∷ 0 ∷ 0 ∷ 0 ∷ 0 ∷ 0 ∷ 0 ∷ []
 
-abbrev add_turns : List Step
-add_turns = root_stands 0 ∷ root_stands 1 ∷ root_stands 2 ∷ []
+abbrev add_steps : List Step
+add_steps = root_stands 0 ∷ root_stands 1 ∷ root_stands 2 ∷ []
 
 pub row_1 : Represents add Little add_octets add_graph
 unfolding align_of hoists roots_of
-row_1 = represents add Little add_octets add_graph add_turns [] 10 refl tt refl refl refl refl
+row_1 = represents add Little add_octets add_graph add_steps [] 10 refl tt refl refl refl refl
 
 -- big endian, other gap octets
 abbrev big_octets : List ℕ
@@ -90,7 +90,7 @@ big_octets = 0 ∷ 0 ∷ 0 ∷ 1 ∷ 0 ∷ 2 ∷ 170 ∷ 170 ∷ 0 ∷ 0 ∷ 0 �
 
 pub row_2 : Represents add Big big_octets add_graph
 unfolding align_of hoists roots_of
-row_2 = represents add Big big_octets add_graph add_turns [] 10 refl tt refl refl refl refl
+row_2 = represents add Big big_octets add_graph add_steps [] 10 refl tt refl refl refl refl
 
 -- no parameters, no octets
 pub row_3 : Represents (setting [] []) Little [] (record { roots = []; cells = [] })
@@ -135,9 +135,9 @@ row_5 =
 abbrev little4 : ℕ → List ℕ → List ℕ
 little4 n more_octets = n ∷ 0 ∷ 0 ∷ 0 ∷ more_octets
 
--- First turn against first place: 12 leaf, 13 its full pointer, 14 x, 15 its full pointer, 16 pair, 17 a reference to it.
-abbrev turn_types : Table
-turn_types =
+-- First of deferral against first in place: 12 leaf, 13 its full pointer, 14 x, 15 its full pointer, 16 pair, 17 a reference to it.
+abbrev pair_types : Table
+pair_types =
     def.Struct (field 7 [] ∷ []) ∷ def.Pointer Full (id 12) ∷ def.Struct (field 13 [] ∷ field 13 [] ∷ [])
     ∷ def.Pointer Full (id 14) ∷ def.Struct (field 15 [] ∷ field 13 [] ∷ []) ∷ def.Pointer Ref (id 16) ∷ []
 
@@ -148,7 +148,7 @@ abbrev leaf : ℤ → Referent
 leaf v = record { of = 12; val = rec_of (more (num v) none) }
 
 abbrev h : Setting
-h = setting turn_types (param 17 ∷ [])
+h = setting pair_types (param 17 ∷ [])
 
 abbrev h_graph : Graph
 h_graph = record {
@@ -194,37 +194,37 @@ f = setting (def.Pointer Full (id 7) ∷ def.Pointer Full (id 5) ∷ []) (param 
 abbrev unread : Tree
 unread = node tree.Unread none
 
-abbrev f_sketch : Graph
-f_sketch = record { roots = ptr (Some 1) ∷ ptr (Some 2) ∷ []; cells = record { of = 7; val = num (pos 5) } ∷ record { of = 5; val = unread } ∷ [] }
+abbrev f_partial : Graph
+f_partial = record { roots = ptr (Some 1) ∷ ptr (Some 2) ∷ []; cells = record { of = 7; val = num (pos 5) } ∷ record { of = 5; val = unread } ∷ [] }
 
 abbrev f_octets : List ℕ
 f_octets = little4 1 (little4 5 (little4 1 []))
 
 pub row_9 : Bad f Little f_octets 8 reason.OtherType
 unfolding align_of hoists roots_of
-row_9 = bad_so f Little f_octets 8 reason.OtherType f_sketch [] 20 5 _ _ (sketch_so f f_sketch refl refl refl refl) refl tt refl refl refl refl refl
+row_9 = bad_so f Little f_octets 8 reason.OtherType f_partial [] 20 5 _ _ (partial_so f f_partial refl refl refl refl) refl tt refl refl refl refl refl
 
 pub row_12 : Bad sum Little (sum_octets 3) 0 (reason.Disagrees (pos 3) (pos 2))
 unfolding align_of hoists roots_of
 row_12 =
-    bad_so sum Little (sum_octets 3) 0 (reason.Disagrees (pos 3) (pos 2)) (sum_graph (pos 3)) [] 20 9 _ _ (sketch_so sum (sum_graph (pos 3)) refl refl refl refl) refl tt
+    bad_so sum Little (sum_octets 3) 0 (reason.Disagrees (pos 3) (pos 2)) (sum_graph (pos 3)) [] 20 9 _ _ (partial_so sum (sum_graph (pos 3)) refl refl refl refl) refl tt
     refl refl refl refl refl
 
 -- row 1's octets cut after 9, and after 7, inside the gap
-abbrev add_sketch : Tree → Tree → Graph
-add_sketch b c = record { roots = num (pos 1) ∷ b ∷ c ∷ []; cells = [] }
+abbrev add_partial : Tree → Tree → Graph
+add_partial b c = record { roots = num (pos 1) ∷ b ∷ c ∷ []; cells = [] }
 
 pub row_27_9 : Bad add Little (upto 9 add_octets) 9 reason.Truncated
 unfolding align_of hoists roots_of
 row_27_9 =
-    bad_so add Little (upto 9 add_octets) 9 reason.Truncated (add_sketch (num (pos 2)) (num (pos 0))) [] 20 5 _ _
-    (sketch_so add (add_sketch (num (pos 2)) (num (pos 0))) refl refl refl refl) refl tt refl refl refl refl refl
+    bad_so add Little (upto 9 add_octets) 9 reason.Truncated (add_partial (num (pos 2)) (num (pos 0))) [] 20 5 _ _
+    (partial_so add (add_partial (num (pos 2)) (num (pos 0))) refl refl refl refl) refl tt refl refl refl refl refl
 
 pub row_27_7 : Bad add Little (upto 7 add_octets) 7 reason.Truncated
 unfolding align_of hoists roots_of
 row_27_7 =
-    bad_so add Little (upto 7 add_octets) 7 reason.Truncated (add_sketch (num (pos 2)) (num (pos 0))) [] 20 4 _ _
-    (sketch_so add (add_sketch (num (pos 2)) (num (pos 0))) refl refl refl refl) refl tt refl refl refl refl refl
+    bad_so add Little (upto 7 add_octets) 7 reason.Truncated (add_partial (num (pos 2)) (num (pos 0))) [] 20 4 _ _
+    (partial_so add (add_partial (num (pos 2)) (num (pos 0))) refl refl refl refl) refl tt refl refl refl refl refl
 
 abbrev av : Attr → ℕ → AttrVar
 av a i = record { attr = a; var = i; star = false }
@@ -276,17 +276,17 @@ bad_say octets place n text = Unit {0}
 pub row_13_unended : Bad say Little (say_octets 0 2 (104 ∷ 105 ∷ [])) 13 reason.TextUnended
 unfolding align_of hoists roots_of
 row_13_unended =
-    bad_so say Little (say_octets 0 2 (104 ∷ 105 ∷ [])) 13 reason.TextUnended (say_graph (0 ∷ [])) [] 20 5 _ _ (sketch_so say (say_graph (0 ∷ [])) refl refl refl refl) refl tt refl refl refl refl refl
+    bad_so say Little (say_octets 0 2 (104 ∷ 105 ∷ [])) 13 reason.TextUnended (say_graph (0 ∷ [])) [] 20 5 _ _ (partial_so say (say_graph (0 ∷ [])) refl refl refl refl) refl tt refl refl refl refl refl
 
 pub row_13_empty : Bad say Little (say_octets 0 0 []) 8 reason.TextEmpty
 unfolding align_of hoists roots_of
 row_13_empty =
-    bad_so say Little (say_octets 0 0 []) 8 reason.TextEmpty (say_graph []) [] 20 4 _ _ (sketch_so say (say_graph []) refl refl refl refl) refl tt refl refl refl refl refl
+    bad_so say Little (say_octets 0 0 []) 8 reason.TextEmpty (say_graph []) [] 20 4 _ _ (partial_so say (say_graph []) refl refl refl refl) refl tt refl refl refl refl refl
 
 pub row_13_zero : Bad say Little (say_octets 0 3 (104 ∷ 0 ∷ 0 ∷ [])) 13 reason.TextZero
 unfolding align_of hoists roots_of
 row_13_zero =
-    bad_so say Little (say_octets 0 3 (104 ∷ 0 ∷ 0 ∷ [])) 13 reason.TextZero (say_graph (0 ∷ 0 ∷ [])) [] 20 5 _ _ (sketch_so say (say_graph (0 ∷ 0 ∷ [])) refl refl refl refl) refl tt refl refl refl refl refl
+    bad_so say Little (say_octets 0 3 (104 ∷ 0 ∷ 0 ∷ [])) 13 reason.TextZero (say_graph (0 ∷ 0 ∷ [])) [] 20 5 _ _ (partial_so say (say_graph (0 ∷ 0 ∷ [])) refl refl refl refl) refl tt refl refl refl refl refl
 
 -- a union: 12, and 13 a reference to it
 abbrev arm : ℤ → ℕ → Arm
@@ -308,7 +308,7 @@ row_14 = represents_so (pick (Some (arm (pos 0) 9))) Little pick_octets (pick_gr
 pub row_14_no_arm : Bad (pick None) Little (4 ∷ 0 ∷ []) 0 reason.NoArm
 unfolding align_of hoists roots_of
 row_14_no_arm =
-    bad_so (pick None) Little (4 ∷ 0 ∷ []) 0 reason.NoArm (pick_graph none) [] 20 1 _ _ (sketch_so (pick None) (pick_graph none) refl refl refl refl) refl tt refl refl refl refl refl
+    bad_so (pick None) Little (4 ∷ 0 ∷ []) 0 reason.NoArm (pick_graph none) [] 20 1 _ _ (partial_so (pick None) (pick_graph none) refl refl refl refl) refl tt refl refl refl refl refl
 
 -- a pipe of long: 12
 abbrev feed : Setting
@@ -371,12 +371,12 @@ row_va = represents_so va Little (va_octets 2 2) (va_graph (pos 2)) [] 20 refl t
 pub row_va_past : Bad va Little (va_octets 2 5) 8 reason.PastBound
 unfolding align_of hoists roots_of
 row_va_past =
-    bad_so va Little (va_octets 2 5) 8 reason.PastBound (va_graph (pos 2)) [] 20 5 _ _ (sketch_so va (va_graph (pos 2)) refl refl refl refl) refl tt refl refl refl refl refl
+    bad_so va Little (va_octets 2 5) 8 reason.PastBound (va_graph (pos 2)) [] 20 5 _ _ (partial_so va (va_graph (pos 2)) refl refl refl refl) refl tt refl refl refl refl refl
 
 pub row_va_disagrees : Bad va Little (va_octets 3 2) 8 (reason.Disagrees (pos 3) (pos 2))
 unfolding align_of hoists roots_of
 row_va_disagrees =
-    bad_so va Little (va_octets 3 2) 8 (reason.Disagrees (pos 3) (pos 2)) (va_graph (pos 3)) [] 20 10 _ _ (sketch_so va (va_graph (pos 3)) refl refl refl refl) refl tt refl refl refl refl refl
+    bad_so va Little (va_octets 3 2) 8 (reason.Disagrees (pos 3) (pos 2)) (va_graph (pos 3)) [] 20 10 _ _ (partial_so va (va_graph (pos 3)) refl refl refl refl) refl tt refl refl refl refl refl
 
 -- the directory interface
 abbrev dir_types : Table
@@ -444,7 +444,7 @@ pub row_given_3 : Bad (r (Some (r_request (pos 3)))) Little (little4 2 (171 ∷ 
 unfolding align_of hoists roots_of
 row_given_3 =
     bad_so (r (Some (r_request (pos 3)))) Little (little4 2 (171 ∷ 205 ∷ [])) 0 (reason.Disagrees (pos 3) (pos 2)) r_graph [] 20 6 _ _
-    (sketch_so (r (Some (r_request (pos 3)))) r_graph refl refl refl refl) refl tt refl refl refl refl refl
+    (partial_so (r (Some (r_request (pos 3)))) r_graph refl refl refl refl) refl tt refl refl refl refl refl
 
 -- What is written: row 6, row 10, row 15 with chunks of two, and the directory's directory_entry.
 pub chosen_6 : Chosen h Little 7 h_graph h_octets
@@ -467,35 +467,35 @@ pub chosen_18 : Chosen put Little 1 (put_graph (pos 2)) put_octets
 unfolding align_of hoists roots_of
 chosen_18 = chosen_so put Little 1 (put_graph (pos 2)) put_octets 30 refl refl
 
--- Sketches with holes: what is not read yet.
-abbrev cut_sketch : Graph
-cut_sketch = record { roots = num (pos 0) ∷ unread ∷ unread ∷ []; cells = [] }
+-- Partial graphs with unread values.
+abbrev cut_partial : Graph
+cut_partial = record { roots = num (pos 0) ∷ unread ∷ unread ∷ []; cells = [] }
 
 pub row_cut_3 : Bad add Little (upto 3 add_octets) 3 reason.Truncated
 unfolding align_of hoists roots_of
 row_cut_3 =
-    bad_so add Little (upto 3 add_octets) 3 reason.Truncated cut_sketch [] 20 1 _ _ (sketch_so add cut_sketch refl refl refl refl) refl tt refl refl refl refl refl
+    bad_so add Little (upto 3 add_octets) 3 reason.Truncated cut_partial [] 20 1 _ _ (partial_so add cut_partial refl refl refl refl) refl tt refl refl refl refl refl
 
-abbrev ring_sketch : Graph
-ring_sketch = record { roots = ptr (Some 1) ∷ []; cells = cell 12 (two (num (pos 0)) unread) ∷ [] }
+abbrev ring_partial : Graph
+ring_partial = record { roots = ptr (Some 1) ∷ []; cells = cell 12 (two (num (pos 0)) unread) ∷ [] }
 
 pub row_ring_6 : Bad ring Little (upto 6 ring_2_octets) 6 reason.Truncated
 unfolding align_of hoists roots_of
 row_ring_6 =
-    bad_so ring Little (upto 6 ring_2_octets) 6 reason.Truncated ring_sketch [] 20 4 _ _ (sketch_so ring ring_sketch refl refl refl refl) refl tt refl refl refl refl refl
+    bad_so ring Little (upto 6 ring_2_octets) 6 reason.Truncated ring_partial [] 20 4 _ _ (partial_so ring ring_partial refl refl refl refl) refl tt refl refl refl refl refl
 
--- the second node's number is read, and the node itself is a hole
-abbrev ring_sketch_12 : Graph
-ring_sketch_12 = record { roots = ptr (Some 1) ∷ []; cells = cell 12 (two (num (pos 7)) (ptr (Some 2))) ∷ cell 12 (two (num (pos 0)) unread) ∷ [] }
+-- the second node's number is read, and the node itself is unread
+abbrev ring_partial_12 : Graph
+ring_partial_12 = record { roots = ptr (Some 1) ∷ []; cells = cell 12 (two (num (pos 7)) (ptr (Some 2))) ∷ cell 12 (two (num (pos 0)) unread) ∷ [] }
 
 pub row_ring_12 : Bad ring Little (upto 12 ring_2_octets) 12 reason.Truncated
 unfolding align_of hoists roots_of
 row_ring_12 =
-    bad_so ring Little (upto 12 ring_2_octets) 12 reason.Truncated ring_sketch_12 [] 20 9 _ _ (sketch_so ring ring_sketch_12 refl refl refl refl) refl tt refl refl refl refl refl
+    bad_so ring Little (upto 12 ring_2_octets) 12 reason.Truncated ring_partial_12 [] 20 9 _ _ (partial_so ring ring_partial_12 refl refl refl refl) refl tt refl refl refl refl refl
 
--- row 10 with a maximum of 2^32 - 1 would have a sketch of as many holes: here of 5, cut after the first
-abbrev sum_sketch : Graph
-sum_sketch = record {
+-- a claimed maximum count of 5, cut after the first element: the others are unread
+abbrev sum_partial : Graph
+sum_partial = record {
   roots = ptr (Some 1) ∷ [];
   cells = cell 12 (two (num (pos 2)) (node (tree.Arr 5 0) (more (num (pos 1)) (more (num (pos 0)) (more unread (more unread (one unread))))))) ∷ [];
 }
@@ -503,7 +503,7 @@ sum_sketch = record {
 pub row_sum_cut : Bad sum Little (5 ∷ 0 ∷ 0 ∷ 0 ∷ from 4 (upto 24 (sum_octets 2))) 24 reason.Truncated
 unfolding align_of hoists roots_of
 row_sum_cut =
-    bad_so sum Little (5 ∷ 0 ∷ 0 ∷ 0 ∷ from 4 (upto 24 (sum_octets 2))) 24 reason.Truncated sum_sketch [] 20 8 _ _ (sketch_so sum sum_sketch refl refl refl refl) refl tt
+    bad_so sum Little (5 ∷ 0 ∷ 0 ∷ 0 ∷ from 4 (upto 24 (sum_octets 2))) 24 reason.Truncated sum_partial [] 20 8 _ _ (partial_so sum sum_partial refl refl refl refl) refl tt
     refl refl refl refl refl
 
 -- A ring conforms.

@@ -12,3 +12,4 @@ pub mod Conforms
 pub mod FirstMisfit
 pub mod Same
 pub mod Canon
+pub mod Fitting
