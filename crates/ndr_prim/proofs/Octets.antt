@@ -1,5 +1,5 @@
 -- Octets and the unsigned numbers that they spell.
-use Rattle.std.proofs.Common.{◌≡◌, ℕ, zero, suc, ◌+◌, ◌*◌, ◌/◌, ◌%◌, ◌^◌, ◌<◌, ◌≤◌, List, [], ◌∷◌, ◌++◌, length, reverse, drop, refl, sym, ap, ◌∙◌, arith, add-one}
+use Rattle.std.proofs.Common.{◌≡◌, ℕ, zero, suc, ◌+◌, ◌*◌, ◌/◌, ◌%◌, ◌^◌, ◌<◌, ◌≤◌, List, [], ◌∷◌, ◌++◌, length, reverse, drop, refl, sym, ap, subst, ◌∙◌, arith}
 use Rattle.std.proofs.Math.Nat.{div-div-eq-div-mul, div-one, pow-suc, pow-succ'}
 use Rattle.std.proofs.lemmas.List.{append-nil, drop_all, length-reverse, reverse-append, reverse-reverse}
 use Rattle.std.proofs.lemmas.Nat.{pow-add}
@@ -73,3 +73,41 @@ pow-256 (suc n) = pow-suc 256 n ∙ ap (λ (p : ℕ). p * 256) (pow-256 n) ∙ s
 pub over_whole : (n : ℕ) (new old octets : List ℕ) → n ≡ length old → new ≡ octets ++ drop n old → new ≡ octets
 over_whole n new old octets whole e =
     e ∙ ap (λ (r : List ℕ). octets ++ r) (drop_all n old (omega arith)) ∙ append-nil octets
+
+digits-little : (n : ℕ) (xs : List ℕ) → length xs ≡ n → AreOctets xs → digits n (little xs) ≡ xs
+digits-little zero [] e h = refl
+digits-little zero (x ∷ xs) e h = absurd (omega (arith, e))
+digits-little (suc n) [] e h = absurd (omega (arith, e))
+digits-little (suc n) (x ∷ xs) e h =
+    let below : x < 256 = h.0 in
+    let low : (x + 256 * little xs) % 256 ≡ x = omega arith in
+    let high : (x + 256 * little xs) / 256 ≡ little xs = omega arith in
+    let rest = digits-little n xs (omega (arith, e)) h.1 in
+    rw (low, high, rest) refl
+
+little-lt : (xs : List ℕ) → AreOctets xs → little xs < 256 ^ length xs
+little-lt [] h = omega arith
+little-lt (x ∷ xs) h =
+    let below : x < 256 = h.0 in
+    let rest = little-lt xs h.1 in
+    rw (pow-suc 256 (length xs)) (omega arith)
+
+octets-append : (xs ys : List ℕ) → AreOctets xs → AreOctets ys → AreOctets (xs ++ ys)
+octets-append [] ys h k = k
+octets-append (x ∷ xs) ys h k = (h.0, octets-append xs ys h.1 k)
+
+octets-reverse : (xs : List ℕ) → AreOctets xs → AreOctets (reverse xs)
+octets-reverse [] h = tt
+octets-reverse (x ∷ xs) h =
+    subst AreOctets (sym (reverse_onto xs x [])) (octets-append (reverse xs) (x ∷ []) (octets-reverse xs h.1) (h.0, tt))
+
+-- the octets of the number that octets spell are those octets
+pub spelling-unsigned : (order : Order) (n : ℕ) (xs : List ℕ) → length xs ≡ n → AreOctets xs → spelling order n (unsigned order xs) ≡ xs
+spelling-unsigned Little n xs e h = digits-little n xs e h
+spelling-unsigned Big n xs e h =
+    ap reverse (digits-little n (reverse xs) (length-reverse xs ∙ e) (octets-reverse xs h)) ∙ reverse-reverse xs
+
+-- n octets spell a number below this
+pub unsigned-lt : (order : Order) (xs : List ℕ) → AreOctets xs → unsigned order xs < 256 ^ length xs
+unsigned-lt Little xs h = little-lt xs h
+unsigned-lt Big xs h = subst (λ (n : ℕ). little (reverse xs) < 256 ^ n) (length-reverse xs) (little-lt (reverse xs) (octets-reverse xs h))
