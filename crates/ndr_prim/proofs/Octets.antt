@@ -2,7 +2,7 @@
 use Rattle.std.proofs.Common.{◌≡◌, ℕ, zero, suc, ◌+◌, ◌*◌, ◌/◌, ◌%◌, ◌^◌, ◌<◌, ◌≤◌, List, [], ◌∷◌, ◌++◌, length, reverse, drop, refl, sym, ap, subst, ◌∙◌, arith}
 use Rattle.std.proofs.Math.Nat.{div-div-eq-div-mul, div-one, pow-suc, pow-succ'}
 use Rattle.std.proofs.lemmas.List.{append-nil, drop_all, length-reverse, reverse-append, reverse-reverse}
-use Rattle.std.proofs.lemmas.Nat.{pow-add}
+use Rattle.std.proofs.lemmas.Nat.{div_below, pow-add}
 use Rattle.std.proofs.lemmas.Grind.{reverse_onto}
 use Rattle.std.specs.Int.{byte_at, bytes_high_first, bytes_low_first}
 use Rattle.byteorder.specs.Endian.{big_number, little_number, big_bytes, little_bytes}
@@ -111,3 +111,19 @@ spelling-unsigned Big n xs e h =
 pub unsigned-lt : (order : Order) (xs : List ℕ) → AreOctets xs → unsigned order xs < 256 ^ length xs
 unsigned-lt Little xs h = little-lt xs h
 unsigned-lt Big xs h = subst (λ (n : ℕ). little (reverse xs) < 256 ^ n) (length-reverse xs) (little-lt (reverse xs) (octets-reverse xs h))
+
+-- a list that is turned twice
+in_order-in_order : (order : Order) (xs : List ℕ) → in_order order (in_order order xs) ≡ xs
+in_order-in_order Big xs = reverse-reverse xs
+in_order-in_order Little xs = refl
+
+little-digits : (n v : ℕ) → v < 256 ^ n → little (digits n v) ≡ v
+little-digits zero v h = omega arith
+little-digits (suc n) v h =
+    let room : v < 256 ^ n * 256 = rw (pow-suc 256 n) at h in
+    let rest = little-digits n (v / 256) (div_below v 256 (256 ^ n) (omega arith) room) in
+    rw rest (omega arith)
+
+-- the octets of a number spell it
+pub unsigned-spelling : (order : Order) (n v : ℕ) → v < 256 ^ n → unsigned order (spelling order n v) ≡ v
+unsigned-spelling order n v h = ap little (in_order-in_order order (digits n v)) ∙ little-digits n v h

@@ -7,7 +7,7 @@ use Rattle.nd_types.specs.declared.types.Primitive.{Primitive}
 use Rattle.nd_types.specs.declared.types.Primitive.TheVariants.{Boolean, Char, Byte, Small, UnsignedSmall, Short, UnsignedShort, Long, UnsignedLong, Hyper, UnsignedHyper}
 use Rattle.nd_types.specs.Table.{width, in_range}
 use Rattle.nd_types.specs.Number.{AreOctets, unsigned, value_of_octets, as_signed, from_signed, truth, written}
-use Rattle.ndr_prim.proofs.Octets.{pow-256, spelling-unsigned, unsigned-lt}
+use Rattle.ndr_prim.proofs.Octets.{spelling-unsigned, unsigned-lt, unsigned-spelling}
 
 -- the octets of a signed primitive are two's complement
 pub value-signed : (order : Order) (p : Primitive) (os : List ℕ)
@@ -52,3 +52,17 @@ pub write_after_read : (order : Order) (p : Primitive) (os : List ℕ) → p ≢
 write_after_read order p os other e h =
     let below : unsigned order os < 256 ^ width p = subst (λ (n : ℕ). unsigned order os < 256 ^ n) e (unsigned-lt order os h) in
     rw (from_value order p os other below) (spelling-unsigned order (width p) os e h)
+
+-- a value's unsigned number fits the octets
+pub from_signed-lt : (p : Primitive) (z : ℤ) → IsTrue (in_range p z) → from_signed (width p) z < 256 ^ width p
+from_signed-lt p z h = grind (arith, ints, nat_tests)
+
+-- a value, through the unsigned number of its octets
+pub value_back : (order : Order) (p : Primitive) (z : ℤ) (os : List ℕ) → IsTrue (in_range p z) → unsigned order os ≡ from_signed (width p) z
+    → value_of_octets order p os ≡ z
+value_back order p z os h e = grind (arith, ints, nat_tests)
+
+-- reading what was written gives the value back
+pub read_after_write : (order : Order) (p : Primitive) (z : ℤ) → IsTrue (in_range p z) → value_of_octets order p (written order p z) ≡ z
+read_after_write order p z h =
+    value_back order p z (written order p z) h (unsigned-spelling order (width p) (from_signed (width p) z) (from_signed-lt p z h))

@@ -5,6 +5,8 @@
 mod label;
 pub mod laws;
 mod number;
+#[cfg(test)]
+mod tests;
 
 pub use label::{LabelFault, read_label};
 pub use number::{read_num, width_of, write_num};
