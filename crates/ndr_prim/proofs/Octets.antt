@@ -1,17 +1,17 @@
 -- Octets and the unsigned numbers that they spell.
-use Rattle.std.proofs.Common.{◌≡◌, ℕ, zero, suc, ◌+◌, ◌*◌, ◌/◌, ◌%◌, ◌^◌, ◌<◌, ◌≤◌, List, [], ◌∷◌, ◌++◌, length, reverse, drop, refl, sym, ap, subst, ◌∙◌, arith}
+use Rattle.std.proofs.Common.{◌≡◌, ℕ, zero, suc, ◌+◌, ◌*◌, ◌/◌, ◌%◌, ◌^◌, ◌<◌, List, [], ◌∷◌, ◌++◌, length, reverse, drop, refl, sym, ap, subst, ◌∙◌, arith}
 use Rattle.std.proofs.Math.Nat.{div-div-eq-div-mul, div-one, pow-suc, pow-succ'}
 use Rattle.std.proofs.lemmas.List.{append-nil, drop_all, length-reverse, reverse-append, reverse-reverse}
 use Rattle.std.proofs.lemmas.Nat.{div_below, pow-add}
 use Rattle.std.proofs.lemmas.Grind.{reverse_onto}
-use Rattle.std.specs.Int.{byte_at, bytes_high_first, bytes_low_first}
+use Rattle.std.specs.Int.{byte_at, bytes_low_first}
 use Rattle.byteorder.specs.Endian.{big_number, little_number, big_bytes, little_bytes}
 use Rattle.byteorder.specs.Numbers.{big_from-cons, little_from-cons}
 use Rattle.nd_base.specs.declared.octets.Order.{Order}
 use Rattle.nd_base.specs.declared.octets.Order.TheVariants.{Big, Little}
 use Rattle.nd_types.specs.Number.{AreOctets, little, in_order, unsigned, digits, spelling}
 
--- one more octet, the most significant
+-- the number of octets with one more, the most significant
 little-snoc : (xs : List ℕ) (a : ℕ) → little (xs ++ a ∷ []) ≡ little xs + a * 256 ^ length xs
 little-snoc [] a = omega arith
 little-snoc (x ∷ xs) a = rw (little-snoc xs a, pow-suc 256 (length xs)) (omega arith)
@@ -51,6 +51,7 @@ low_first-digits (suc n) j v =
 pub little_bytes-spelling : (n v : ℕ) → little_bytes n v ≡ spelling Little n v
 little_bytes-spelling n v = low_first-digits n 0 v ∙ ap (digits n) (div-one v)
 
+-- the digits of a number with one more, the most significant
 digits-snoc : (n v : ℕ) → digits (suc n) v ≡ digits n v ++ (v / 256 ^ n % 256 ∷ [])
 digits-snoc zero v = ap (λ (w : ℕ). w % 256 ∷ []) (sym (div-one v))
 digits-snoc (suc n) v =
@@ -64,7 +65,7 @@ big_bytes-spelling (suc n) v =
     ∙ ap (λ (w : ℕ). w ∷ reverse (digits n v)) (byte_at-is n v)
     ∙ sym (ap reverse (digits-snoc n v) ∙ reverse-append (digits n v) (v / 256 ^ n % 256 ∷ []))
 
--- n octets spell the numbers below this
+-- how many numbers n octets can spell
 pub pow-256 : (n : ℕ) → 256 ^ n ≡ 2 ^ (8 * n)
 pow-256 zero = refl
 pow-256 (suc n) = pow-suc 256 n ∙ ap (λ (p : ℕ). p * 256) (pow-256 n) ∙ sym (pow-add 2 (8 * n) 8) ∙ ap (λ (k : ℕ). 2 ^ k) (omega arith)
@@ -74,6 +75,7 @@ pub over_whole : (n : ℕ) (new old octets : List ℕ) → n ≡ length old → 
 over_whole n new old octets whole e =
     e ∙ ap (λ (r : List ℕ). octets ++ r) (drop_all n old (omega arith)) ∙ append-nil octets
 
+-- the digits of a number are the octets that it was read from
 digits-little : (n : ℕ) (xs : List ℕ) → length xs ≡ n → AreOctets xs → digits n (little xs) ≡ xs
 digits-little zero [] e h = refl
 digits-little zero (x ∷ xs) e h = absurd (omega (arith, e))
@@ -85,6 +87,7 @@ digits-little (suc n) (x ∷ xs) e h =
     let rest = digits-little n xs (omega (arith, e)) h.1 in
     rw (low, high, rest) refl
 
+-- octets, the least significant first, spell a number below this
 little-lt : (xs : List ℕ) → AreOctets xs → little xs < 256 ^ length xs
 little-lt [] h = omega arith
 little-lt (x ∷ xs) h =
@@ -92,6 +95,7 @@ little-lt (x ∷ xs) h =
     let rest = little-lt xs h.1 in
     rw (pow-suc 256 (length xs)) (omega arith)
 
+-- octets after octets, and octets in reverse
 octets-append : (xs ys : List ℕ) → AreOctets xs → AreOctets ys → AreOctets (xs ++ ys)
 octets-append [] ys h k = k
 octets-append (x ∷ xs) ys h k = (h.0, octets-append xs ys h.1 k)
@@ -107,16 +111,17 @@ spelling-unsigned Little n xs e h = digits-little n xs e h
 spelling-unsigned Big n xs e h =
     ap reverse (digits-little n (reverse xs) (length-reverse xs ∙ e) (octets-reverse xs h)) ∙ reverse-reverse xs
 
--- n octets spell a number below this
+-- octets spell a number below this
 pub unsigned-lt : (order : Order) (xs : List ℕ) → AreOctets xs → unsigned order xs < 256 ^ length xs
 unsigned-lt Little xs h = little-lt xs h
 unsigned-lt Big xs h = subst (λ (n : ℕ). little (reverse xs) < 256 ^ n) (length-reverse xs) (little-lt (reverse xs) (octets-reverse xs h))
 
--- a list that is turned twice
+-- octets that are put in order twice stand as before
 in_order-in_order : (order : Order) (xs : List ℕ) → in_order order (in_order order xs) ≡ xs
 in_order-in_order Big xs = reverse-reverse xs
 in_order-in_order Little xs = refl
 
+-- the digits of a number spell it
 little-digits : (n v : ℕ) → v < 256 ^ n → little (digits n v) ≡ v
 little-digits zero v h = omega arith
 little-digits (suc n) v h =

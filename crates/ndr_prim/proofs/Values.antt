@@ -1,12 +1,12 @@
 -- The values of primitives, and the unsigned numbers that their octets spell.
-use Rattle.std.proofs.Common.{◌≡◌, ◌≢◌, ℕ, zero, suc, ◌+◌, ◌*◌, ◌-◌, ◌^◌, ◌<◌, ◌≤◌, ℤ, pos, negsuc, Bool, true, false, List, length, ◌⊎◌, inl, inr, refl, sym, ap, ◌∙◌, arith, subst, IsTrue}
+use Rattle.std.proofs.Common.{◌≡◌, ◌≢◌, ℕ, ◌^◌, ◌<◌, ℤ, List, length, ◌⊎◌, refl, arith, subst, IsTrue}
 use Rattle.std.proofs.lemmas.Bool.Decides.{nat_tests}
 use Rattle.std.proofs.lemmas.Int.{ints}
 use Rattle.nd_base.specs.declared.octets.Order.{Order}
 use Rattle.nd_types.specs.declared.types.Primitive.{Primitive}
 use Rattle.nd_types.specs.declared.types.Primitive.TheVariants.{Boolean, Char, Byte, Small, UnsignedSmall, Short, UnsignedShort, Long, UnsignedLong, Hyper, UnsignedHyper}
 use Rattle.nd_types.specs.Table.{width, in_range}
-use Rattle.nd_types.specs.Number.{AreOctets, unsigned, value_of_octets, as_signed, from_signed, truth, written}
+use Rattle.nd_types.specs.Number.{AreOctets, unsigned, value_of_octets, as_signed, from_signed, written}
 use Rattle.ndr_prim.proofs.Octets.{spelling-unsigned, unsigned-lt, unsigned-spelling}
 
 -- the octets of a signed primitive are two's complement

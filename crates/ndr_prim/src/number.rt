@@ -7,7 +7,7 @@ use byteorder::{BigEndian, ByteOrder, LittleEndian};
 use nd_base::Order;
 use nd_types::Prim;
 
-/// How many octets a primitive has. Takes no memory.
+/// How many octets a primitive has (C706 section 14.2). Takes no memory.
 pub fn width_of(prim: Prim) -> usize
     ensures value { result ≡ width prim }
     ensures some { 1 ≤ result }
@@ -85,8 +85,8 @@ fn unsigned_of(prim: Prim, value: i128) -> u64
     }
 }
 
-/// The value that the octets of a primitive hold: a signed one in two's complement, and any octet but zero as the
-/// boolean 1. The octets must be as many as the primitive has. Takes no memory (C706 section 14.2).
+/// The value that the octets of a primitive hold (C706 section 14.2): a signed one in two's complement, and any octet
+/// but zero as the boolean 1. The octets must be as many as the primitive has. Takes no memory.
 pub fn read_num(order: Order, prim: Prim, from: &[u8]) -> i128
     requires { length from.now ≡ width prim }
     ensures { result ≡ value_of_octets order prim from.now }
@@ -104,12 +104,12 @@ pub fn read_num(order: Order, prim: Prim, from: &[u8]) -> i128
     }
 }
 
-/// Writes the octets of a primitive's value: a signed one in two's complement, and the boolean 1 as the octet 1.
-/// The octets must be as many as the primitive has, and the value one of the primitive's. Takes no memory (C706
-/// section 14.2).
+/// Writes the octets of a primitive's value (C706 section 14.2): a signed one in two's complement, and the boolean 1
+/// as the octet 1. The octets must be as many as the primitive has, and the value one of the primitive's. Takes no
+/// memory.
 pub fn write_num(order: Order, prim: Prim, value: i128, to: &mut [u8])
     requires wide { length to.old ≡ width prim }
-    requires ranges { IsTrue (in_range prim value) }
+    requires range { IsTrue (in_range prim value) }
     ensures { to.new ≡ written order prim value }
 {
     write_unsigned(order, unsigned_of(prim, value), to);

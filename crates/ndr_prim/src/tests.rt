@@ -10,7 +10,7 @@ use std::process::Abort;
 /// A value and its octets, the most significant first, both ways and in both orders.
 fn has_octets(rt: &impl Abort, prim: Prim, value: i128, octets: &[u8])
     requires wide { length octets.now ≡ width prim }
-    requires ranges { IsTrue (in_range prim value) }
+    requires range { IsTrue (in_range prim value) }
 {
     let wide = width_of(prim);
     let mut big = [0xaau8; 8];
@@ -29,9 +29,9 @@ fn has_octets(rt: &impl Abort, prim: Prim, value: i128, octets: &[u8])
         value,
         "{prim:?} {octets:?} little endian"
     );
-    let turned = &mut little[..wide];
-    turned.reverse();
-    assert_eq!(rt; &*turned, octets, "{prim:?} {value} little endian");
+    let reversed = &mut little[..wide];
+    reversed.reverse();
+    assert_eq!(rt; &*reversed, octets, "{prim:?} {value} little endian");
 }
 
 #[test]

@@ -1,4 +1,4 @@
-use Rattle.std.proofs.Common.{◌<◌, length, ap, refl, subst, sym, ◌∙◌}
+use Rattle.std.proofs.Common.{length, ap, refl, sym, ◌∙◌}
 use Rattle.nd_types.specs.Number.{spelling}
 use Rattle.ndr_prim.proofs.Octets.{big_bytes-spelling, little_bytes-spelling, over_whole, pow-256}
 use Rattle.ndr_prim.proofs.number.write_unsigned.Goals as goal
