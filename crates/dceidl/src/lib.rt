@@ -4,6 +4,8 @@
 mod decode;
 mod input;
 mod outcome;
+#[cfg(test)]
+mod tests;
 mod top;
 mod words;
 
