@@ -17,7 +17,6 @@ use Rattle.nd_grammar.specs.Prefix.{BeginsWith}
 use Rattle.plain_idl.specs.Plain.{IsPlainFile}
 use Rattle.plain_ndr.specs.Decoding.{inputs_of}
 use Rattle.value_text.specs.Printed.{IsText}
-use Rattle.dceidl.specs.declared.TheConstants.{INPUT_LIMIT}
 use Rattle.dceidl.specs.declared.decode.Ready.{Ready}
 use Rattle.dceidl.specs.declared.decode.Refusal.{Refusal}
 use Rattle.dceidl.specs.declared.decode.Refusal.TheVariants.{Memory, Absent, FileFailed, NotBuilt, NoOperation, ReadFault, BadOctets}

@@ -15,7 +15,6 @@ use Rattle.nd_grammar.specs.Represents.{Represents}
 use Rattle.nd_grammar.specs.Prefix.{BeginsWith}
 use Rattle.plain_idl.specs.Plain.{IsPlainFile}
 use Rattle.plain_ndr.specs.Decoding.{inputs_of}
-use Rattle.dceidl.specs.declared.TheConstants.{INPUT_LIMIT}
 use Rattle.dceidl.specs.declared.decode.Refusal.{Refusal}
 use Rattle.dceidl.specs.declared.decode.Refusal.TheVariants.{Memory, Absent, FileFailed, NotBuilt, NoOperation, ReadFault, BadOctets}
 use Rattle.dceidl.specs.declared.decode.OctetsFault.TheVariants as fault
@@ -26,7 +25,7 @@ use Rattle.dceidl.specs.Words.{Command, command, Decode}
 use Rattle.dceidl.specs.Decode.{IsReady, IsFileCause, IsInputCause, IsOctetsCause, IsCause, IsDecoded, IsDecoding, IsNoInterface, IsRead, IsRefusedAt, IsTrailing, IsNamed}
 use Rattle.dceidl.specs.Lines.{status_of, line_of}
 use Rattle.dceidl.specs.Run.{HasRun, IsOutcome, IsDelivered, IsDecodeOutcome, IsGiven, IsTold}
-use Rattle.dceidl.specs.Rows.{IsDone, IsRefused, IsSound, IsOnlyFile, IsAccepted, IsInput, Refuses}
+use Rattle.dceidl.specs.Rows.{IsDone, IsRefused}
 
 -- How a run of `decode` ends: done, refused, for want of memory, or with a fault of out or notes in place of its own status.
 pub data Ended (f : FilesSeen) (s : SourceSeen) (out notes : SinkSeen) (idl op : List ℕ) (order : Order) (status : ℕ) : Type 0 where

@@ -1,11 +1,11 @@
 -- The rows of a run: what each status says by itself, and what comes in each case where nothing fails.
-use Rattle.std.specs.Prelude.{◌≡◌, ◌⊎◌, ℕ, ◌≤◌, true, List, length, Option, None, Some, codes}
-use Rattle.nd_base.specs.Outside.{IsContent, IsMissing}
+use Rattle.std.specs.Prelude.{◌≡◌, ◌⊎◌, ℕ, ◌+◌, List, take, option_map, Option, None, Some, codes}
+use Rattle.nd_base.specs.Outside.{IsMissing, loaded}
 use Rattle.nd_base.specs.declared.octets.Order.{Order}
 use Rattle.nd_types.specs.declared.interface.Interface.{Interface}
 use Rattle.nd_types.specs.declared.types.Operation.{Operation}
 use Rattle.plain_idl.specs.Plain.{IsPlainFile}
-use Rattle.dceidl.specs.declared.TheConstants.{INPUT_LIMIT}
+use Rattle.nd_base.specs.declared.TheConstants.{STREAM_LIMIT}
 use Rattle.dceidl.specs.declared.decode.Refusal.{Refusal}
 use Rattle.dceidl.specs.Words.{Command, Decode}
 use Rattle.dceidl.specs.Outside.{FilesSeen, SourceSeen, SinkSeen, HasRisen, Got, IsAsBefore}
@@ -55,27 +55,29 @@ pub record IsRefused (f : FilesSeen) (s : SourceSeen) (out notes : SinkSeen) (id
   pub line : Got notes (line_of idl op refusal)
   pub nothing_given : IsAsBefore out
 
--- nothing outside failed, and no file was absent
+-- nothing outside failed
 pub record IsSound (f : FilesSeen) (s : SourceSeen) (out notes : SinkSeen) : Type 0 where
-  pub none_absent : HasRisen f.absences → ⊥
   pub loads : HasRisen f.faults → ⊥
   pub reads : HasRisen s.faults → ⊥
   pub writes : HasRisen out.faults → ⊥
   pub tells : HasRisen notes.faults → ⊥
 
--- the only file that can have been loaded under the name is this one
-abbrev pub IsOnlyFile : FilesSeen → List ℕ → List ℕ → Type 0
-IsOnlyFile f idl file = (other : List ℕ) → IsContent f.held idl other → other ≡ file
+-- the names are told, and under this name stands a file of this content, as far as a load gives it
+abbrev pub IsHeld : FilesSeen → List ℕ → List ℕ → Type 0
+IsHeld f name file = (held : List ℕ → Option (List ℕ)) × (f.held ≡ Some held) × (option_map loaded (held name) ≡ Some file)
 
--- the only file that can have been loaded is a plain file of this interface, which has the operation
+-- the file is held, and is a plain file of this interface, which has the operation
 pub record IsAccepted (f : FilesSeen) (idl op : List ℕ) (i : Interface) (n : ℕ) (o : Operation) : Type 0 where
-  pub plain : (file : List ℕ) → IsContent f.held idl file → IsPlainFile file i
+  pub file : List ℕ
+  pub held : IsHeld f idl file
+  pub plain : IsPlainFile file i
   pub named : IsNamed i op n o
 
--- the input has these octets, which are no more than a stream may have
+-- these are the octets of the input that count: all of them, or one more than a stream may have
 pub record IsInput (s : SourceSeen) (octets : List ℕ) : Type 0 where
-  pub left : s.left ≡ Some octets
-  pub few : length octets ≤ INPUT_LIMIT
+  pub all : List ℕ
+  pub left : s.left ≡ Some all
+  pub counted : octets ≡ take (STREAM_LIMIT + 1) all
 
 -- The run is refused in this way, or memory was wanting.
 abbrev pub Refuses : List ℕ → List ℕ → SinkSeen → ℕ → Refusal → Type 0

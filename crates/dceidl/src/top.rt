@@ -6,7 +6,7 @@ ghost use Rattle.dceidl.specs.Outside.{files_seen, source_seen, sink_seen};
 ghost use Rattle.dceidl.specs.Lines.{status_of, line_of, fault_text, reason_text, reason_name as name_of};
 ghost use Rattle.std.specs.Io.KnownBytes.{Appends};
 ghost use Rattle.nd_base.specs.Counts.{Rose};
-ghost use Rattle.dceidl.specs.Rows.{IsOneOf, ReadsInput, IsDueAndMissing, IsSomeDue, IsDone, IsRefused, IsSound, IsAccepted, IsInput, IsOnlyFile, Refuses};
+ghost use Rattle.dceidl.specs.Rows.{IsOneOf, ReadsInput, IsDueAndMissing, IsSomeDue, IsDone, IsRefused, IsSound, IsAccepted, IsInput, IsHeld, Refuses};
 ghost use Rattle.dceidl.specs.Decode.{IsTrailing};
 ghost use Rattle.nd_base.specs.declared.octets.Order.{Order};
 ghost use Rattle.nd_types.specs.declared.interface.Interface.{Interface};
@@ -105,7 +105,7 @@ pub fn run<F: Files, S: Source, K: Sink, N: Sink>(
         → IsSound (files_seen F.held F.absences F.faults files.old files.new)
         (source_seen S.left S.ended S.faults input.old input.new)
         (sink_seen K.written K.faults out.old out.new) (sink_seen N.written N.faults notes.old notes.new)
-        → IsOnlyFile (files_seen F.held F.absences F.faults files.old files.new) idl file
+        → IsHeld (files_seen F.held F.absences F.faults files.old files.new) idl file
         → ((i : Interface) → IsPlainFile file i → ⊥)
         → Refuses idl op (sink_seen N.written N.faults notes.old notes.new) result Refusal.NotBuilt }
     ensures no_operation { (idl op : List ℕ) (order : Order) (file : List ℕ) (i : Interface)
@@ -113,7 +113,7 @@ pub fn run<F: Files, S: Source, K: Sink, N: Sink>(
         → IsSound (files_seen F.held F.absences F.faults files.old files.new)
         (source_seen S.left S.ended S.faults input.old input.new)
         (sink_seen K.written K.faults out.old out.new) (sink_seen N.written N.faults notes.old notes.new)
-        → IsOnlyFile (files_seen F.held F.absences F.faults files.old files.new) idl file
+        → IsHeld (files_seen F.held F.absences F.faults files.old files.new) idl file
         → IsPlainFile file i → operation_named i.operations op ≡ None
         → Refuses idl op (sink_seen N.written N.faults notes.old notes.new) result Refusal.NoOperation }
 {
