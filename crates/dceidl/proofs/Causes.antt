@@ -55,7 +55,7 @@ pub file_refused : (f : FilesSeen) (idl op file : List ℕ) → IsContent f.held
 file_refused f idl op file content (Ok r) cause = tt
 file_refused f idl op file content (Err e) cause = no_interface f idl op file content e cause
 
-take_whole : (n : ℕ) (xs : List ℕ) → length xs ≤ n → take n xs ≡ xs
+pub take_whole : (n : ℕ) (xs : List ℕ) → length xs ≤ n → take n xs ≡ xs
 take_whole zero [] h = refl
 take_whole zero (x ∷ xs) h = absurd (omega (arith, h))
 take_whole (suc n) [] h = refl

@@ -77,12 +77,7 @@ struct Ready {
 }
 
 // Loads and reads the file, and finds the operation.
-fn make_ready<F: Files>(
-    alloc: Global,
-    idl: &str,
-    op: &str,
-    files: &mut F,
-) -> Result<Ready, Refusal>
+fn make_ready<F: Files>(alloc: Global, idl: &str, op: &str, files: &mut F) -> Result<Ready, Refusal>
     ensures ready { IfOk result (λ r. (o : Operation)
         × IsReady (files_seen F.held F.absences F.faults files.old files.new) idl.now op.now r.interface r.number o) }
     ensures plain { IfOk result (λ r. IsPlainInterface r.interface.types r.interface.operations) }

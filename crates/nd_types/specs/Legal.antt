@@ -1,4 +1,6 @@
 -- What makes an interface legal: facts about its table of types and its operations.
+-- `d` is a type, `t` a type's number, `f` a field, `p` a parameter or a field where it stands, `v` an attribute with its
+-- variable, `o` an operation, `a` an arm, `z` a whole number.
 use Rattle.std.specs.Prelude.{◌≡◌, ℕ, suc, zero, ◌+◌, ◌*◌, ◌≤◌, ℤ, pos, int_le, Bool, true, false, not, ◌==◌, ◌&&◌, ◌||◌, nat_lt, nat_le, List, [], ◌∷◌, ◌++◌, Option, Some, None, map, length, drop, sum_by}
 use Rattle.std.specs.Ordering.{int_eq}
 use Rattle.std.specs.List.{list_all, list_any, starts_with, enumerate_from}
