@@ -5,7 +5,8 @@ use Rattle.nd_types.specs.declared.interface.Interface.{Interface}
 use Rattle.nd_types.specs.declared.types.Operation.{Operation}
 use Rattle.dceidl.specs.Words.{Command, command, Decode, Help, Version}
 use Rattle.dceidl.specs.Outside.{FilesSeen, SourceSeen, SinkSeen, HasRisen, Got, GotPrefix, IsAsBefore}
-use Rattle.dceidl.specs.Decode.{IsCause, IsDecoded, IsReady, inputs_of}
+use Rattle.dceidl.specs.Decode.{IsCause, IsDecoded, IsReady}
+use Rattle.plain_ndr.specs.Decoding.{inputs_of}
 use Rattle.dceidl.specs.Lines.{line_of, status_of}
 use Rattle.dceidl.specs.declared.decode.Refusal.{Refusal}
 use Rattle.dceidl.specs.declared.outcome.Outcome.{Outcome}
@@ -15,7 +16,7 @@ use Rattle.dceidl.specs.declared.TheConstants.{HELP, VERSION}
 -- `decode` comes to this outcome
 abbrev pub IsDecodeOutcome : FilesSeen → SourceSeen → List ℕ → List ℕ → Order → Outcome → Type 0
 IsDecodeOutcome f s idl op order (Done text) =
-    (i : Interface) × (o : Operation) × IsReady f idl op i o × IsDecoded s (inputs_of i o) order text
+    (i : Interface) × (n : ℕ) × (o : Operation) × IsReady f idl op i n o × IsDecoded s (inputs_of i o) order text
 IsDecodeOutcome f s idl op order (Refused status line) =
     (refusal : Refusal) × IsCause f s idl op order refusal × (status ≡ status_of refusal) × (line ≡ line_of idl op refusal)
 IsDecodeOutcome f s idl op order Wanting = Unit {0}

@@ -1,5 +1,5 @@
 -- Tests that compute, and what they show.
-use Rattle.std.proofs.Common.{◌≡◌, ℕ, ◌+◌, ◌^◌, ◌<◌, ◌≤◌, zero, suc, ℤ, Bool, true, false, ◌&&◌, cond, not, eqb, ltb, leb, List, [], ◌∷◌, ◌++◌, length, Option, Some, None, refl, ap, sym, ◌∙◌, inl, inr, ◌⊎◌, arith, subst, take, drop}
+use Rattle.std.proofs.Common.{◌≡◌, ℕ, ◌+◌, ◌^◌, ◌<◌, zero, suc, ℤ, Bool, true, false, ◌&&◌, ◌||◌, cond, not, eqb, ltb, leb, List, [], ◌∷◌, ◌++◌, length, Option, Some, None, refl, ap, sym, inl, inr, subst, take, drop}
 use Rattle.std.proofs.lemmas.Bool.{eqb-true, eq-eqb, leb-true, ltb-true}
 use Rattle.std.proofs.lemmas.Bool.Decides.{Decides-int_eq}
 use Rattle.std.proofs.lemmas.Option.{same_Some}
@@ -248,6 +248,51 @@ numbers_are (d ∷ cs) e c (inr h) = numbers_are cs (and_right (ltb 0 d && ltb d
 pub own_numbers : (cs : List ℕ) → are_numbers cs ≡ true → IsNumbering (λ c. c) cs
 own_numbers cs e = record { in_range = numbers_are cs e; one_to_one = λ c d h k same. same }
 
+-- a numbering of the cells that full pointers name, by tests
+abbrev are_numbered : (ℕ → ℕ) → List ℕ → Bool
+are_numbered nums [] = true
+are_numbered nums (c ∷ cs) = (ltb 0 (nums c) && ltb (nums c) (2 ^ 32)) && are_numbered nums cs
+
+abbrev apart : (ℕ → ℕ) → ℕ → ℕ → Bool
+apart nums c d = not (eqb (nums c) (nums d)) || eqb c d
+
+abbrev apart_from : (ℕ → ℕ) → ℕ → List ℕ → Bool
+apart_from nums c [] = true
+apart_from nums c (d ∷ ds) = apart nums c d && apart_from nums c ds
+
+abbrev all_apart : (ℕ → ℕ) → List ℕ → List ℕ → Bool
+all_apart nums [] ds = true
+all_apart nums (c ∷ cs) ds = apart_from nums c ds && all_apart nums cs ds
+
+numbered_are : (nums : ℕ → ℕ) (cs : List ℕ) → are_numbered nums cs ≡ true → (c : ℕ) → Among cs c → (0 < nums c) × (nums c < 2 ^ 32)
+numbered_are nums [] e c h = absurd h
+numbered_are nums (d ∷ cs) e c (inl same) =
+    let h : (ltb 0 (nums d) && ltb (nums d) (2 ^ 32)) ≡ true = and_left (ltb 0 (nums d) && ltb (nums d) (2 ^ 32)) (are_numbered nums cs) e in
+    let low : 0 < nums d = ltb-true 0 (nums d) (and_left (ltb 0 (nums d)) (ltb (nums d) (2 ^ 32)) h) in
+    let high : nums d < 2 ^ 32 = ltb-true (nums d) (2 ^ 32) (and_right (ltb 0 (nums d)) (ltb (nums d) (2 ^ 32)) h) in
+    (rw same low, rw same high)
+numbered_are nums (d ∷ cs) e c (inr h) = numbered_are nums cs (and_right (ltb 0 (nums d) && ltb (nums d) (2 ^ 32)) (are_numbered nums cs) e) c h
+
+apart_is : (nums : ℕ → ℕ) (c d : ℕ) → apart nums c d ≡ true → nums c ≡ nums d → c ≡ d
+apart_is nums c d e same =
+    let s : eqb (nums c) (nums d) ≡ true = eq-eqb _ _ same in
+    let f : (not true || eqb c d) ≡ true = subst (λ b. (not b || eqb c d) ≡ true) s e in
+    eqb-true c d f
+
+apart_from_is : (nums : ℕ → ℕ) (c : ℕ) (ds : List ℕ) → apart_from nums c ds ≡ true → (d : ℕ) → Among ds d → nums c ≡ nums d → c ≡ d
+apart_from_is nums c [] e d h same = absurd h
+apart_from_is nums c (x ∷ ds) e d (inl here) same =
+    let a : apart nums c d ≡ true = subst (λ u. apart nums c u ≡ true) (sym here) (and_left (apart nums c x) (apart_from nums c ds) e) in
+    apart_is nums c d a same
+apart_from_is nums c (x ∷ ds) e d (inr h) same = apart_from_is nums c ds (and_right (apart nums c x) (apart_from nums c ds) e) d h same
+
+all_apart_are : (nums : ℕ → ℕ) (cs ds : List ℕ) → all_apart nums cs ds ≡ true → (c d : ℕ) → Among cs c → Among ds d → nums c ≡ nums d → c ≡ d
+all_apart_are nums [] ds e c d h k same = absurd h
+all_apart_are nums (x ∷ cs) ds e c d (inl here) k same =
+    let a : apart_from nums c ds ≡ true = subst (λ u. apart_from nums u ds ≡ true) (sym here) (and_left (apart_from nums x ds) (all_apart nums cs ds) e) in
+    apart_from_is nums c ds a d k same
+all_apart_are nums (x ∷ cs) ds e c d (inr h) k same = all_apart_are nums cs ds (and_right (apart_from nums x ds) (all_apart nums cs ds) e) c d h k same
+
 -- octets represent a graph, by tests; each cell's number is its own
 pub represents : (w : Setting) (order : Order) (octets : List ℕ) (g : Graph) (steps : List Step) (cuts : List (List ℕ)) (fuel : ℕ)
     → walk fuel w g [] (due_roots 0 (before_pipes (root_list w))) ≡ Some steps
@@ -295,6 +340,32 @@ pub represents_so : (w : Setting) (order : Order) (octets : List ℕ) (g : Graph
 represents_so w order octets g cuts fuel walked cut numbered rendered whole within =
     represents w order octets g (steps_of fuel w g) cuts fuel (some_found _ walked) cut numbered rendered whole within
 
+-- the same with other numbers for the cells
+pub represents_by : (nums : ℕ → ℕ) (w : Setting) (order : Order) (octets : List ℕ) (g : Graph) (cuts : List (List ℕ)) (fuel : ℕ)
+    → is_some (walk fuel w g [] (due_roots 0 (before_pipes (root_list w)))) ≡ true
+    → AllCut (drop (before_pipes (root_list w)) g.roots) cuts
+    → are_numbered nums (full_cells (representation w g (steps_of fuel w g) cuts)) ≡ true
+    → all_apart nums (full_cells (representation w g (steps_of fuel w g) cuts)) (full_cells (representation w g (steps_of fuel w g) cuts)) ≡ true
+    → renders order nums octets (end_to_end 0 (representation w g (steps_of fuel w g) cuts)) ≡ true
+    → end_of 0 (representation w g (steps_of fuel w g) cuts) ≡ length octets
+    → leb (length octets) STREAM_LIMIT ≡ true
+    → Represents w order octets g
+represents_by nums w order octets g cuts fuel walked cut numbered distinct rendered whole within = record {
+  entries = representation w g (steps_of fuel w g) cuts;
+  stream = record {
+    steps = steps_of fuel w g;
+    cuts = cuts;
+    deferral = walk_gives fuel w g [] _ _ (some_found _ walked);
+    all_cut = cut;
+    is_representation = refl;
+  };
+  numbering = nums;
+  is_numbering = record { in_range = numbered_are nums _ numbered; one_to_one = all_apart_are nums _ _ distinct };
+  rendered = renders_gives order nums octets (end_to_end 0 (representation w g (steps_of fuel w g) cuts)) rendered;
+  whole = whole;
+  within = leb-true _ _ within;
+}
+
 abbrev is_no_refusal : Option (ℕ × Reason) → Bool
 is_no_refusal None = true
 is_no_refusal (Some r) = false
@@ -330,7 +401,33 @@ cut_at xs ys x zero e = e
 cut_at [] ys x (suc n) e = cc
 cut_at (z ∷ xs) ys x (suc n) e = ap (λ zs. z ∷ zs) (cut_at xs ys x n e)
 
--- Octets are refused at the n-th entry of a partial graph, by tests.
+-- Octets are refused at the n-th entry of a stream of a partial graph, by tests.
+pub bad_from : (w : Setting) (order : Order) (octets : List ℕ) (place : ℕ) (why : Reason) (g : Graph) (ms : List Entry) (n : ℕ) (here : EntryAt) (later : List EntryAt)
+    → IsPartial w g
+    → Stream w g ms
+    → IsNumbering (λ c. c) (full_cells ms)
+    → from n (end_to_end 0 ms) ≡ here ∷ later
+    → renders order (λ c. c) octets (upto n (end_to_end 0 ms)) ≡ true
+    → accepts order octets [] (upto n (end_to_end 0 ms)) ≡ true
+    → refusal order octets (upto n (end_to_end 0 ms)) here ≡ Some (place, why)
+    → Bad w order octets place why
+bad_from w order octets place why g ms n here later partial stream numbered split rendered accepted refused = record {
+  partial = g;
+  is_partial = partial;
+  entries = ms;
+  stream = stream;
+  earlier = upto n (end_to_end 0 ms);
+  here = here;
+  later = later;
+  split = cut_at _ later here n split;
+  numbering = λ c. c;
+  is_numbering = numbered;
+  rendered = renders_gives order (λ c. c) octets _ rendered;
+  accepted = accepts_gives order octets [] _ accepted;
+  refused = refused;
+}
+
+-- The same of the stream whose steps the walk finds.
 pub bad_so : (w : Setting) (order : Order) (octets : List ℕ) (place : ℕ) (why : Reason) (g : Graph) (cuts : List (List ℕ)) (fuel n : ℕ)
     (here : EntryAt) (later : List EntryAt)
     → IsPartial w g
@@ -342,27 +439,16 @@ pub bad_so : (w : Setting) (order : Order) (octets : List ℕ) (place : ℕ) (wh
     → accepts order octets [] (upto n (end_to_end 0 (representation w g (steps_of fuel w g) cuts))) ≡ true
     → refusal order octets (upto n (end_to_end 0 (representation w g (steps_of fuel w g) cuts))) here ≡ Some (place, why)
     → Bad w order octets place why
-bad_so w order octets place why g cuts fuel n here later partial walked cut numbered split rendered accepted refused = record {
-  partial = g;
-  is_partial = partial;
-  entries = representation w g (steps_of fuel w g) cuts;
-  stream = record {
-    steps = steps_of fuel w g;
-    cuts = cuts;
-    deferral = walk_gives fuel w g [] _ _ (some_found _ walked);
-    all_cut = cut;
-    is_representation = refl;
-  };
-  earlier = upto n (end_to_end 0 (representation w g (steps_of fuel w g) cuts));
-  here = here;
-  later = later;
-  split = cut_at _ later here n split;
-  numbering = λ c. c;
-  is_numbering = own_numbers _ numbered;
-  rendered = renders_gives order (λ c. c) octets _ rendered;
-  accepted = accepts_gives order octets [] _ accepted;
-  refused = refused;
-}
+bad_so w order octets place why g cuts fuel n here later partial walked cut numbered split rendered accepted refused =
+    bad_from w order octets place why g (representation w g (steps_of fuel w g) cuts) n here later partial
+    (record {
+      steps = steps_of fuel w g;
+      cuts = cuts;
+      deferral = walk_gives fuel w g [] _ _ (some_found _ walked);
+      all_cut = cut;
+      is_representation = refl;
+    })
+    (own_numbers _ numbered) split rendered accepted refused
 
 abbrev same_cell : Option ℕ → Option ℕ → Bool
 same_cell (Some c) (Some d) = eqb c d

@@ -1,11 +1,9 @@
 -- Plain numbers in their ranges conform, and what conforms on a plain side is plain numbers.
-use Rattle.std.proofs.Common.{◌≡◌, ℕ, ◌+◌, ◌*◌, ◌^◌, ◌<◌, ◌≤◌, zero, suc, ℤ, Bool, true, false, ◌&&◌, List, [], ◌∷◌, ◌++◌, length, Option, Some, None, refl, ap, ap₂, sym, ◌∙◌, inl, inr, ◌⊎◌, arith, subst, lit<}
+use Rattle.std.proofs.Common.{◌≡◌, ℕ, ◌+◌, ◌^◌, ◌<◌, suc, ℤ, true, ◌&&◌, List, [], ◌∷◌, ◌++◌, length, Some, None, refl, ap, ap₂, sym, ◌∙◌, arith, subst, lit<}
 use Rattle.std.proofs.lemmas.List.{append-nil}
-use Rattle.std.proofs.lemmas.Option.{same_Some}
-use Rattle.std.specs.Prelude.{map, flat_map}
-use Rattle.std.specs.List.{slice_get, AllByRecursion, list_all}
+use Rattle.std.specs.Prelude.{map}
+use Rattle.std.specs.List.{AllByRecursion, list_all}
 use Rattle.nd_types.specs.declared.types.Primitive.{Primitive}
-use Rattle.nd_types.specs.declared.types.TypeDef.{TypeDef}
 use Rattle.nd_types.specs.declared.types.TypeDef.TheVariants as def
 use Rattle.nd_types.specs.Table.{Table, type_at, in_range}
 use Rattle.nd_types.specs.Roots.{Root}
@@ -15,7 +13,6 @@ use Rattle.nd_graph.specs.Tree as tree
 use Rattle.nd_graph.specs.Tree.{Tree, Trees, node, none, more, nodes, Label, Referent}
 use Rattle.nd_graph.specs.Setting.{Setting, root_list, root_at, Among, or_unread}
 use Rattle.nd_graph.specs.Nodes.{TypedNode, governed_nodes}
-use Rattle.nd_graph.specs.Deferral.{Pending}
 use Rattle.nd_graph.specs.Variables.{root_agreements}
 use Rattle.nd_graph.specs.Homes.{HomeNode, all_nodes, all_pointers, root_nodes, cell_nodes, root_pointers}
 use Rattle.nd_graph.specs.Misfit.{misfit_of, has_machine_values, is_partial_node}

@@ -1,5 +1,5 @@
 -- The streams of a plain side: for each root a gap and a number, or an unread value.
-use Rattle.std.proofs.Common.{◌≡◌, ℕ, ◌+◌, zero, suc, ℤ, Bool, true, false, List, [], ◌∷◌, ◌++◌, length, Option, Some, None, refl, ap, ap₂, sym, ◌∙◌, arith, subst, drop}
+use Rattle.std.proofs.Common.{◌≡◌, ℕ, ◌+◌, zero, suc, Bool, true, false, List, [], ◌∷◌, ◌++◌, length, Option, Some, None, refl, ap, ap₂, sym, ◌∙◌, arith, subst, drop}
 use Rattle.std.proofs.lemmas.List.{append-nil}
 use Rattle.std.specs.Prelude.{map, flat_map}
 use Rattle.std.specs.List.{slice_get}
@@ -16,11 +16,11 @@ use Rattle.nd_graph.specs.Tree as tree
 use Rattle.nd_graph.specs.Tree.{Tree, Trees, node, none, more, nodes, Label, is_pointer, cell_in}
 use Rattle.nd_graph.specs.Agreement.{Agreement}
 use Rattle.nd_graph.specs.Setting.{Setting, root_list, root_at}
-use Rattle.nd_graph.specs.Nodes.{TypedNode, nodes_of, child_types, child_agreements}
+use Rattle.nd_graph.specs.Nodes.{nodes_of, child_types, child_agreements}
 use Rattle.nd_graph.specs.Deferral.{Due, due_root, due_referent, Step, root_stands, Deferral, none_due, at_root, at_null, at_standing, at_referent, Standing, Standing_cells, standing_root, standing_by, direct, root_type, due_of, due_roots, before_pipes, home_pointers, pointer, pointer_by, root_cell, AreFree}
 use Rattle.nd_graph.specs.Variables.{root_agreements}
 use Rattle.nd_grammar.specs.Entry.{Kind, Entry, Align, Num, Unread}
-use Rattle.nd_grammar.specs.InPlace.{before_children, entries, in_place, tests, own_tests, child_tests, hoisted, hoisted_max, whole_value}
+use Rattle.nd_grammar.specs.InPlace.{before_children, entries, in_place, own_tests, child_tests, hoisted, hoisted_max, whole_value}
 use Rattle.nd_grammar.specs.Stream.{Stream, representation, step_entries, standing_entries, AllCut, root_tests, root_test, pipes_entries}
 use Rattle.nd_grammar.specs.Plain.{ArePlain}
 
@@ -54,7 +54,7 @@ own_none : (b : Bool) (h : Home) (n : ℕ) (t : Tree) → own_tests b h n t [] �
 own_none true h n t = refl
 own_none false h n t = refl
 
-no_tests_below : (h : Home) (n : ℕ) (ks : Trees) → child_tests h [] n ks ≡ []
+pub no_tests_below : (h : Home) (n : ℕ) (ks : Trees) → child_tests h [] n ks ≡ []
 no_tests_below h n none = refl
 no_tests_below h n (more (node l ks) ts) =
     ap₂ (λ x y. x ++ y) (own_none (is_pointer l) h n (node l ks)) (no_tests_below h (n + 1 + nodes ks) ts)

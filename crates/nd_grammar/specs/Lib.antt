@@ -9,4 +9,9 @@ pub mod Chosen
 pub mod Prefix
 pub mod Plain
 pub mod Examples
+pub mod ExampleParts
+pub mod ExamplesPlain
+pub mod ExamplesPointers
+pub mod ExamplesArrays
+pub mod ExamplesUnions
 pub mod Primitives

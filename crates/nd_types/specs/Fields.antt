@@ -1,4 +1,6 @@
 -- The members of structs and the parameters of operations with their attributes.
+-- `f` is a field, `p` a field where it stands or a parameter, `v` an attribute with its variable, `d` a type, `o` an
+-- operation.
 use Rattle.std.specs.Prelude.{ℕ, Bool, true, false, not, ◌==◌, ◌&&◌, ◌||◌, nat_lt, List, [], ◌∷◌, Option, Some, None, map, slice_get}
 use Rattle.std.specs.List.{list_all, list_any, enumerate_from}
 use Rattle.nd_types.specs.declared.types.TypeDef.{TypeDef}
@@ -22,10 +24,12 @@ pub record Placed : Type 0 where
 abbrev pub placed : Bool → List Field → List Placed
 placed is_param fields = map (λ e. record { siblings = fields; index = e.0; is_param = is_param; field = e.1 }) (enumerate_from 0 fields)
 
+-- the members of a struct; other types have none
 abbrev pub members_of : TypeDef → List Field
 members_of (Struct members) = members
 members_of _ = []
 
+-- the fields of an operation's parameters
 abbrev pub param_fields : Operation → List Field
 param_fields o = map (λ p. p.field) o.params
 
@@ -72,6 +76,7 @@ variable_by table is_param false (Some f) = type_at table f.of.0
 variable_by table true true (Some f) = referent_type table f.of.0
 variable_by table _ _ _ = None
 
+-- the type of the variable of a field's attribute
 abbrev pub variable_type : Table → Placed → AttrVar → Option TypeDef
 variable_type table p v = variable_by table p.is_param v.star (slice_get p.siblings v.var)
 

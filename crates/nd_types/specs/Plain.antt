@@ -1,4 +1,5 @@
 -- Plain interfaces: no types of their own, and operations that take signed integers alone and give nothing back.
+-- `p` is a primitive or a parameter, `o` an operation, `i` a parameter's index.
 use Rattle.std.specs.Prelude.{◌≡◌, ◌≢◌, ℕ, ◌+◌, ◌≤◌, Bool, true, false, List, [], ◌∷◌, Option, Some, None, length, All, AllPairs}
 use Rattle.nd_types.specs.declared.types.TypeDef.{TypeDef}
 use Rattle.nd_types.specs.declared.types.TypeDef.TheVariants.{Prim}
@@ -20,6 +21,7 @@ is_plain_prim Long = true
 is_plain_prim Hyper = true
 is_plain_prim _ = false
 
+-- a type that is one of these
 abbrev pub is_plain_type : Option TypeDef → Bool
 is_plain_type (Some (Prim p)) = is_plain_prim p
 is_plain_type _ = false
@@ -29,6 +31,10 @@ pub record IsPlainParam (p : Param) : Type 0 where
   pub integer : is_plain_type (type_at basic_types p.field.of.0) ≡ true
   pub way : p.way ≡ way.In
   pub no_attributes : p.field.vars ≡ []
+
+-- a parameter of this name and type, for a plain operation
+abbrev pub plain_param : List ℕ → ℕ → Param
+plain_param name t = record { field = record { name = name; of = record { 0 = t }; vars = [] }; way = way.In }
 
 -- an operation of such parameters, not too many and of different names, without a result
 pub record IsPlainOperation (o : Operation) : Type 0 where
