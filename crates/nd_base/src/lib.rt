@@ -1,20 +1,30 @@
-//! Octets, and the traits of what stands outside: sources, sinks and files.
+//! Octets and names, and the traits of what stands outside: sources, sinks and files. Each of these is known
+//! by what it tells of itself, and by counts of its faults. Want of memory is an answer of each call that takes
+//! memory, and has no cause that a contract could name.
 #![tactic(auto)]
 
+mod calls;
 mod files;
+mod ledger;
 mod memory;
+mod number;
 mod octets;
 mod outside;
+mod pieces;
+mod plain;
 mod real;
 
 pub use files::MemFiles;
+pub use ledger::{Counted, Ledger, Steps, Uncounted};
 pub use memory::{MemSink, MemSource};
 pub use octets::{Memory, Name, Octets, Order, Place};
-pub use real::{FolderFiles, InputSource, OutputSink};
 pub use outside::{FileFault, Files, ReadFailed, Sink, Source, WriteFailed};
+pub use plain::{PlainSink, PlainSource};
+pub use real::{FolderFiles, InputSource, OutputSink};
 
-/// The greatest number of octets of a file. A longer one is read only so far, and one octet more.
+/// The greatest number of octets of an interface file, an attribute file or a script. Of a longer one `load`
+/// gives this many octets and one more.
 pub const FILE_LIMIT: u32 = 1_048_576;
 
-/// The greatest number of octets of a stream of values.
+/// The greatest number of octets of a stream of values in the network representation (C706 chapter 14).
 pub const STREAM_LIMIT: u32 = 16_777_216;

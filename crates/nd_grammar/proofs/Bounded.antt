@@ -1,10 +1,10 @@
 -- Where no array and no text is conformant, bounds fix the maximum counts.
 use Rattle.std.proofs.Common.{◌≡◌, ℕ, ◌+◌, zero, suc, ℤ, Bool, true, false, ◌&&◌, eqb, List, [], ◌∷◌, ◌++◌, length, Option, Some, None, refl, ap, sym, ◌∙◌, inl, inr, ◌⊎◌, subst}
 use Rattle.std.proofs.lemmas.Bool.{eqb-true}
-use Rattle.nd_types.specs.declared.TypeDef.{TypeDef}
-use Rattle.nd_types.specs.declared.TypeDef.TheVariants as def
+use Rattle.nd_types.specs.declared.types.TypeDef.{TypeDef}
+use Rattle.nd_types.specs.declared.types.TypeDef.TheVariants as def
 use Rattle.nd_types.specs.Table.{Table, type_at}
-use Rattle.nd_graph.specs.declared.Graph.{Graph}
+use Rattle.nd_graph.specs.declared.value.Graph.{Graph}
 use Rattle.nd_graph.specs.Tree as tree
 use Rattle.nd_graph.specs.Tree.{Tree, Trees, node, none, more, Label}
 use Rattle.nd_graph.specs.Nodes.{child_types}

@@ -5,10 +5,10 @@ use Rattle.std.proofs.lemmas.Bool.Decides.{Decides-int_eq}
 use Rattle.std.proofs.lemmas.Option.{same_Some}
 use Rattle.std.specs.Ordering.{int_eq}
 use Rattle.std.specs.List.{AllByRecursion}
-use Rattle.nd_base.specs.declared.Order.{Order}
-use Rattle.nd_types.specs.declared.Class.{Class}
-use Rattle.nd_types.specs.declared.Class.TheVariants.{Ref, Unique, Full}
-use Rattle.nd_graph.specs.declared.Graph.{Graph}
+use Rattle.nd_base.specs.declared.octets.Order.{Order}
+use Rattle.nd_types.specs.declared.types.Class.{Class}
+use Rattle.nd_types.specs.declared.types.Class.TheVariants.{Ref, Unique, Full}
+use Rattle.nd_graph.specs.declared.value.Graph.{Graph}
 use Rattle.nd_base.specs.declared.TheConstants.{STREAM_LIMIT}
 use Rattle.nd_graph.specs.Setting.{Setting, Among, root_list}
 use Rattle.nd_grammar.specs.Stream.{Stream, representation, AllCut}
@@ -18,7 +18,7 @@ use Rattle.nd_grammar.specs.Entry.{Kind, Entry, Align, Max, Offset, Actual, Chun
 use Rattle.nd_grammar.specs.Represents.{piece, Spells, IsNumber, IsRendered, id_octets, IsNumbering, Represents}
 use Rattle.nd_grammar.specs.Bad.{Bad}
 use Rattle.nd_grammar.specs.Refusal.{Accepts, refusal}
-use Rattle.nd_grammar.specs.declared.Reason.{Reason}
+use Rattle.nd_grammar.specs.declared.reason.Reason.{Reason}
 use Rattle.nd_graph.specs.Canon.{canonical_number, named_cells}
 use Rattle.nd_grammar.specs.Chosen.{Chosen, octets_from, pipe_cuts}
 use Rattle.nd_graph.specs.Conforms.{IsPartial, MayMeet, AllEarlier}

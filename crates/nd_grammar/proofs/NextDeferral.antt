@@ -1,17 +1,17 @@
 -- The entries before an entry fix the next one, over whole values and steps of deferral.
 use Rattle.std.proofs.Common.{◌≡◌, ℕ, ◌+◌, ◌<◌, ◌≤◌, zero, suc, ℤ, Bool, true, false, List, [], ◌∷◌, ◌++◌, length, Option, Some, None, refl, ap, ap₂, sym, ◌∙◌, inl, inr, ◌⊎◌, arith, subst, replicate, append_assoc, take, drop}
 use Rattle.std.specs.Prelude.{pos, map, flat_map}
-use Rattle.nd_base.specs.declared.Order.{Order}
-use Rattle.nd_types.specs.declared.TypeDef.{TypeDef}
-use Rattle.nd_types.specs.declared.TypeId.{TypeId}
-use Rattle.nd_types.specs.declared.Attr.{Attr}
-use Rattle.nd_types.specs.declared.TypeDef.TheVariants as def
-use Rattle.nd_types.specs.declared.Class.{Class}
-use Rattle.nd_types.specs.declared.Class.TheVariants.{Ref, Unique, Full}
+use Rattle.nd_base.specs.declared.octets.Order.{Order}
+use Rattle.nd_types.specs.declared.types.TypeDef.{TypeDef}
+use Rattle.nd_types.specs.declared.types.TypeId.{TypeId}
+use Rattle.nd_types.specs.declared.types.Attr.{Attr}
+use Rattle.nd_types.specs.declared.types.TypeDef.TheVariants as def
+use Rattle.nd_types.specs.declared.types.Class.{Class}
+use Rattle.nd_types.specs.declared.types.Class.TheVariants.{Ref, Unique, Full}
 use Rattle.nd_types.specs.Table.{Table, type_at, width, selected}
 use Rattle.nd_types.specs.Layout.{hoists}
-use Rattle.nd_graph.specs.declared.Graph.{Graph}
-use Rattle.nd_graph.specs.declared.Home.{Home}
+use Rattle.nd_graph.specs.declared.value.Graph.{Graph}
+use Rattle.nd_graph.specs.declared.item.Home.{Home}
 use Rattle.nd_graph.specs.Tree as tree
 use Rattle.nd_graph.specs.Tree.{Tree, Trees, node, none, more, count, nodes, Label, Referent, is_pointer, cell_in}
 use Rattle.nd_graph.specs.Agreement.{Agreement, found_in}

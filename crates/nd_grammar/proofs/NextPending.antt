@@ -3,13 +3,13 @@ use Rattle.std.proofs.Common.{◌≡◌, ℕ, ◌+◌, ◌<◌, ◌≤◌, zero,
 use Rattle.std.proofs.lemmas.Grind.{flat_map-append}
 use Rattle.std.proofs.lemmas.Option.{same_Some}
 use Rattle.std.specs.Prelude.{pos, map, flat_map}
-use Rattle.nd_types.specs.declared.TypeDef.{TypeDef}
-use Rattle.nd_types.specs.declared.TypeDef.TheVariants as def
-use Rattle.nd_types.specs.declared.Class.{Class}
-use Rattle.nd_types.specs.declared.Class.TheVariants.{Ref, Unique, Full}
+use Rattle.nd_types.specs.declared.types.TypeDef.{TypeDef}
+use Rattle.nd_types.specs.declared.types.TypeDef.TheVariants as def
+use Rattle.nd_types.specs.declared.types.Class.{Class}
+use Rattle.nd_types.specs.declared.types.Class.TheVariants.{Ref, Unique, Full}
 use Rattle.nd_types.specs.Table.{Table, type_at}
-use Rattle.nd_graph.specs.declared.Graph.{Graph}
-use Rattle.nd_graph.specs.declared.Home.{Home}
+use Rattle.nd_graph.specs.declared.value.Graph.{Graph}
+use Rattle.nd_graph.specs.declared.item.Home.{Home}
 use Rattle.nd_graph.specs.Tree as tree
 use Rattle.nd_graph.specs.Tree.{Tree, Trees, node, none, more, count, nodes, Label, Referent, is_pointer, cell_in}
 use Rattle.nd_graph.specs.Agreement.{Agreement}

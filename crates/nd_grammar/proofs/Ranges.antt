@@ -4,10 +4,10 @@ use Rattle.std.proofs.lemmas.Bool.Decides.{nat_tests}
 use Rattle.std.proofs.lemmas.Int.{ints}
 use Rattle.std.specs.Prelude.{int_le}
 use Rattle.std.specs.List.{AllByRecursion}
-use Rattle.nd_base.specs.declared.Order.{Order}
-use Rattle.nd_base.specs.declared.Order.TheVariants.{Big, Little}
-use Rattle.nd_types.specs.declared.Primitive.{Primitive}
-use Rattle.nd_types.specs.declared.Primitive.TheVariants.{Boolean, Char, Byte, Small, UnsignedSmall, Short, UnsignedShort, Long, UnsignedLong, Hyper, UnsignedHyper}
+use Rattle.nd_base.specs.declared.octets.Order.{Order}
+use Rattle.nd_base.specs.declared.octets.Order.TheVariants.{Big, Little}
+use Rattle.nd_types.specs.declared.types.Primitive.{Primitive}
+use Rattle.nd_types.specs.declared.types.Primitive.TheVariants.{Boolean, Char, Byte, Small, UnsignedSmall, Short, UnsignedShort, Long, UnsignedLong, Hyper, UnsignedHyper}
 use Rattle.nd_types.specs.Table.{width, in_range}
 use Rattle.nd_grammar.specs.Number.{unsigned, value_of_octets, as_signed, truth}
 

@@ -2,30 +2,30 @@
 use Rattle.std.proofs.Common.{◌≡◌, ℕ, ◌+◌, ◌<◌, ◌≤◌, zero, suc, ℤ, Bool, true, false, List, [], ◌∷◌, ◌++◌, length, Option, Some, None, refl, inl, inr, ◌⊎◌, arith, lit≤, lit<}
 use Rattle.std.specs.Prelude.{pos, negsuc}
 use Rattle.std.specs.List.{AllByRecursion}
-use Rattle.nd_base.specs.declared.Order.TheVariants.{Big, Little}
-use Rattle.nd_types.specs.declared.TypeDef.{TypeDef}
-use Rattle.nd_types.specs.declared.TypeDef.TheVariants as def
-use Rattle.nd_types.specs.declared.Primitive.TheVariants as prim
-use Rattle.nd_types.specs.declared.TypeId.{TypeId}
-use Rattle.nd_types.specs.declared.Attr.{Attr}
-use Rattle.nd_types.specs.declared.Arm.{Arm}
-use Rattle.nd_types.specs.declared.Attr.TheVariants as attr
-use Rattle.nd_types.specs.declared.AttrVar.{AttrVar}
-use Rattle.nd_types.specs.declared.Field.{Field}
-use Rattle.nd_types.specs.declared.Param.{Param}
-use Rattle.nd_types.specs.declared.Operation.{Operation}
-use Rattle.nd_types.specs.declared.Class.TheVariants.{Ref, Unique, Full}
-use Rattle.nd_types.specs.declared.Side.TheVariants as side
-use Rattle.nd_types.specs.declared.Way.TheVariants as way
+use Rattle.nd_base.specs.declared.octets.Order.TheVariants.{Big, Little}
+use Rattle.nd_types.specs.declared.types.TypeDef.{TypeDef}
+use Rattle.nd_types.specs.declared.types.TypeDef.TheVariants as def
+use Rattle.nd_types.specs.declared.types.Primitive.TheVariants as prim
+use Rattle.nd_types.specs.declared.types.TypeId.{TypeId}
+use Rattle.nd_types.specs.declared.types.Attr.{Attr}
+use Rattle.nd_types.specs.declared.types.Arm.{Arm}
+use Rattle.nd_types.specs.declared.types.Attr.TheVariants as attr
+use Rattle.nd_types.specs.declared.types.AttrVar.{AttrVar}
+use Rattle.nd_types.specs.declared.types.Field.{Field}
+use Rattle.nd_types.specs.declared.types.Param.{Param}
+use Rattle.nd_types.specs.declared.types.Operation.{Operation}
+use Rattle.nd_types.specs.declared.types.Class.TheVariants.{Ref, Unique, Full}
+use Rattle.nd_types.specs.declared.types.Side.TheVariants as side
+use Rattle.nd_types.specs.declared.types.Way.TheVariants as way
 use Rattle.nd_types.specs.Table.{Table}
 use Rattle.nd_types.specs.Layout.{align_of, hoists}
 use Rattle.nd_types.specs.Roots.{roots_of}
-use Rattle.nd_graph.specs.declared.Graph.{Graph}
+use Rattle.nd_graph.specs.declared.value.Graph.{Graph}
 use Rattle.nd_graph.specs.Tree as tree
 use Rattle.nd_graph.specs.Tree.{Tree, Trees, node, none, more, Referent}
 use Rattle.nd_graph.specs.Setting.{Setting, root_list, Among}
 use Rattle.nd_graph.specs.Deferral.{Step, root_stands, referent_stands, stands_already}
-use Rattle.nd_grammar.specs.declared.Reason.TheVariants as reason
+use Rattle.nd_grammar.specs.declared.reason.Reason.TheVariants as reason
 use Rattle.nd_grammar.specs.Entry.{Entry, EntryAt, end_to_end, full_cells}
 use Rattle.nd_grammar.specs.Entry.{Number, Num, Test, Align}
 use Rattle.nd_grammar.specs.Stream.{Stream, representation}
@@ -34,7 +34,7 @@ use Rattle.nd_grammar.specs.Bad.{Bad}
 use Rattle.nd_grammar.specs.Chosen.{Chosen}
 use Rattle.nd_graph.specs.Conforms.{Conforms, Reached, by_root, by_cell}
 use Rattle.nd_graph.specs.Homes.{all_pointers}
-use Rattle.nd_graph.specs.declared.Home.TheVariants as home
+use Rattle.nd_graph.specs.declared.item.Home.TheVariants as home
 use Rattle.nd_graph.specs.Setting.{cell_home}
 use Rattle.nd_graph.specs.Deferral.{Pending}
 use Rattle.nd_grammar.proofs.Check.{represents, represents_so, bad_so, unshared_are, partial_so, chosen_so, steps_of, upto, from}

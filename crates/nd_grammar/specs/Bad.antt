@@ -1,11 +1,11 @@
 -- Where octets are refused: the first faulty place, and the reason.
 use Rattle.std.specs.Prelude.{◌≡◌, ℕ, List, [], ◌∷◌, ◌++◌, Option, Some}
 use Rattle.std.specs.List.{AllByRecursion}
-use Rattle.nd_base.specs.declared.Order.{Order}
-use Rattle.nd_graph.specs.declared.Graph.{Graph}
+use Rattle.nd_base.specs.declared.octets.Order.{Order}
+use Rattle.nd_graph.specs.declared.value.Graph.{Graph}
 use Rattle.nd_graph.specs.Setting.{Setting}
 use Rattle.nd_graph.specs.Conforms.{IsPartial}
-use Rattle.nd_grammar.specs.declared.Reason.{Reason}
+use Rattle.nd_grammar.specs.declared.reason.Reason.{Reason}
 use Rattle.nd_grammar.specs.Entry.{Entry, EntryAt, end_to_end, full_cells}
 use Rattle.nd_grammar.specs.Stream.{Stream}
 use Rattle.nd_grammar.specs.Represents.{IsRendered, IsNumbering}

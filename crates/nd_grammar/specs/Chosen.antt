@@ -1,7 +1,7 @@
 -- The one stream that is written.
 use Rattle.std.specs.Prelude.{drop, ◌≡◌, ℕ, ◌+◌, ◌-◌, ◌<◌, ◌≤◌, suc, zero, Bool, true, false, cond, eqb, ltb, List, [], ◌∷◌, ◌++◌, length, replicate, Option, Some, None}
-use Rattle.nd_base.specs.declared.Order.{Order}
-use Rattle.nd_graph.specs.declared.Graph.{Graph}
+use Rattle.nd_base.specs.declared.octets.Order.{Order}
+use Rattle.nd_graph.specs.declared.value.Graph.{Graph}
 use Rattle.nd_graph.specs.Setting.{Setting, root_list}
 use Rattle.nd_graph.specs.Tree.{Tree, count}
 use Rattle.nd_graph.specs.Deferral.{Step, Deferral, due_roots, before_pipes}

@@ -1,12 +1,12 @@
 -- The entries of a stream: what stands in it, entry by entry, and at which place.
 use Rattle.std.specs.Prelude.{◌≡◌, ℕ, ◌+◌, ◌-◌, ◌%◌, ℤ, Bool, List, [], ◌∷◌, ◌++◌, length, Option, Some, None}
-use Rattle.nd_types.specs.declared.Arm.{Arm}
-use Rattle.nd_types.specs.declared.Attr.{Attr}
-use Rattle.nd_types.specs.declared.Class.{Class}
-use Rattle.nd_types.specs.declared.Class.TheVariants.{Full}
-use Rattle.nd_types.specs.declared.Primitive.{Primitive}
+use Rattle.nd_types.specs.declared.types.Arm.{Arm}
+use Rattle.nd_types.specs.declared.types.Attr.{Attr}
+use Rattle.nd_types.specs.declared.types.Class.{Class}
+use Rattle.nd_types.specs.declared.types.Class.TheVariants.{Full}
+use Rattle.nd_types.specs.declared.types.Primitive.{Primitive}
 use Rattle.nd_types.specs.Table.{width}
-use Rattle.nd_graph.specs.declared.Home.{Home}
+use Rattle.nd_graph.specs.declared.item.Home.{Home}
 
 -- What an entry is, with all that is needed to judge its octets.
 pub data Kind : Type 0 where

@@ -1,10 +1,10 @@
 -- The items of a stream: each entry that has octets, with its place, its length and the value that the octets hold.
 use Rattle.std.specs.Prelude.{ℕ, ◌+◌, ℤ, pos, List, [], ◌∷◌, ◌++◌, length, Option, Some, None}
-use Rattle.nd_base.specs.declared.Order.{Order}
-use Rattle.nd_graph.specs.declared.Home.{Home}
-use Rattle.nd_graph.specs.declared.Item.{Item}
-use Rattle.nd_graph.specs.declared.ItemKind.{ItemKind}
-use Rattle.nd_graph.specs.declared.ItemKind.TheVariants as item
+use Rattle.nd_base.specs.declared.octets.Order.{Order}
+use Rattle.nd_graph.specs.declared.item.Home.{Home}
+use Rattle.nd_graph.specs.declared.item.Item.{Item}
+use Rattle.nd_graph.specs.declared.item.ItemKind.{ItemKind}
+use Rattle.nd_graph.specs.declared.item.ItemKind.TheVariants as item
 use Rattle.nd_grammar.specs.Number.{unsigned, value_of_octets}
 use Rattle.nd_grammar.specs.Entry.{Kind, Entry, Align, Max, Offset, Actual, Chunk, Number, Num, Tag, Text, Context, Test, Unread, size_at, EntryAt}
 use Rattle.nd_grammar.specs.Represents.{piece}

@@ -1,9 +1,9 @@
 -- The numbers that octets spell.
 use Rattle.std.specs.Prelude.{ℕ, ◌+◌, ◌-◌, ◌*◌, ◌^◌, ◌/◌, ◌%◌, zero, suc, ℤ, pos, negsuc, ◌-ℤ◌, Bool, true, false, cond, ltb, eqb, List, [], ◌∷◌, length, reverse, Option, Some, None}
-use Rattle.nd_base.specs.declared.Order.{Order}
-use Rattle.nd_base.specs.declared.Order.TheVariants.{Big, Little}
-use Rattle.nd_types.specs.declared.Primitive.{Primitive}
-use Rattle.nd_types.specs.declared.Primitive.TheVariants.{Boolean}
+use Rattle.nd_base.specs.declared.octets.Order.{Order}
+use Rattle.nd_base.specs.declared.octets.Order.TheVariants.{Big, Little}
+use Rattle.nd_types.specs.declared.types.Primitive.{Primitive}
+use Rattle.nd_types.specs.declared.types.Primitive.TheVariants.{Boolean}
 use Rattle.nd_types.specs.Table.{width, is_signed}
 
 -- the number of octets whose least significant stands first

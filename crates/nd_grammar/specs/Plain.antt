@@ -1,11 +1,11 @@
 -- Operations whose roots are plain numbers.
 use Rattle.std.specs.Prelude.{◌≡◌, ℕ, ◌+◌, suc, zero, ℤ, Bool, true, false, cond, leb, List, [], ◌∷◌, length, map, take, drop, Option, Some, None}
-use Rattle.nd_base.specs.declared.Order.{Order}
-use Rattle.nd_types.specs.declared.Primitive.{Primitive}
-use Rattle.nd_types.specs.declared.TypeDef.TheVariants as def
+use Rattle.nd_base.specs.declared.octets.Order.{Order}
+use Rattle.nd_types.specs.declared.types.Primitive.{Primitive}
+use Rattle.nd_types.specs.declared.types.TypeDef.TheVariants as def
 use Rattle.nd_types.specs.Table.{Table, type_at, width}
 use Rattle.nd_types.specs.Roots.{Root}
-use Rattle.nd_graph.specs.declared.Graph.{Graph}
+use Rattle.nd_graph.specs.declared.value.Graph.{Graph}
 use Rattle.nd_graph.specs.Tree as tree
 use Rattle.nd_graph.specs.Tree.{Tree, node, none}
 use Rattle.nd_grammar.specs.Entry.{gap}

@@ -2,17 +2,17 @@
 use Rattle.std.specs.Prelude.{drop, ◌≡◌, ℕ, ◌+◌, ℤ, Bool, true, false, not, ◌&&◌, ◌||◌, cond, eqb, ltb, List, [], ◌∷◌, ◌++◌, length, Option, Some, None}
 use Rattle.std.specs.List.{list_any}
 use Rattle.std.specs.Ordering.{int_eq}
-use Rattle.nd_base.specs.declared.Order.{Order}
+use Rattle.nd_base.specs.declared.octets.Order.{Order}
 use Rattle.nd_base.specs.declared.TheConstants.{STREAM_LIMIT}
-use Rattle.nd_types.specs.declared.Arm.{Arm}
-use Rattle.nd_types.specs.declared.Attr.{Attr}
-use Rattle.nd_types.specs.declared.Attr.TheVariants as attr
-use Rattle.nd_types.specs.declared.Class.TheVariants.{Full}
+use Rattle.nd_types.specs.declared.types.Arm.{Arm}
+use Rattle.nd_types.specs.declared.types.Attr.{Attr}
+use Rattle.nd_types.specs.declared.types.Attr.TheVariants as attr
+use Rattle.nd_types.specs.declared.types.Class.TheVariants.{Full}
 use Rattle.nd_types.specs.Table.{selected}
-use Rattle.nd_graph.specs.declared.Home.{Home}
-use Rattle.nd_graph.specs.declared.Home.TheVariants as home
-use Rattle.nd_grammar.specs.declared.Reason.{Reason}
-use Rattle.nd_grammar.specs.declared.Reason.TheVariants as reason
+use Rattle.nd_graph.specs.declared.item.Home.{Home}
+use Rattle.nd_graph.specs.declared.item.Home.TheVariants as home
+use Rattle.nd_grammar.specs.declared.reason.Reason.{Reason}
+use Rattle.nd_grammar.specs.declared.reason.Reason.TheVariants as reason
 use Rattle.nd_grammar.specs.Number.{unsigned, value_of_octets}
 use Rattle.nd_grammar.specs.Entry.{Kind, Entry, Align, Max, Offset, Actual, Chunk, Number, Num, Tag, Text, Context, Test, Unread, size_at, EntryAt}
 use Rattle.nd_grammar.specs.Represents.{piece}

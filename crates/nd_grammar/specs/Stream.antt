@@ -1,13 +1,13 @@
 -- The streams of a graph: its roots, then its pipes (C706 14.3: the order of parameters and of deferral).
 use Rattle.std.specs.Prelude.{drop, ◌≡◌, ℕ, ◌+◌, ◌<◌, suc, zero, Bool, true, false, List, [], ◌∷◌, ◌++◌, length, map, flat_map, replicate, sum, Option, Some, None}
 use Rattle.std.specs.List.{slice_get, AllByRecursion}
-use Rattle.nd_types.specs.declared.TypeDef.{TypeDef}
-use Rattle.nd_types.specs.declared.TypeDef.TheVariants as def
+use Rattle.nd_types.specs.declared.types.TypeDef.{TypeDef}
+use Rattle.nd_types.specs.declared.types.TypeDef.TheVariants as def
 use Rattle.nd_types.specs.Table.{Table, type_at}
 use Rattle.nd_types.specs.Roots.{Root}
-use Rattle.nd_graph.specs.declared.Graph.{Graph}
-use Rattle.nd_graph.specs.declared.Home.{Home}
-use Rattle.nd_graph.specs.declared.Home.TheVariants as home
+use Rattle.nd_graph.specs.declared.value.Graph.{Graph}
+use Rattle.nd_graph.specs.declared.item.Home.{Home}
+use Rattle.nd_graph.specs.declared.item.Home.TheVariants as home
 use Rattle.nd_graph.specs.Tree as tree
 use Rattle.nd_graph.specs.Tree.{Tree, Trees, node, none, more, count, nodes, take_trees, drop_trees}
 use Rattle.nd_graph.specs.Agreement.{Agreement}

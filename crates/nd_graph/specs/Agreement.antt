@@ -1,9 +1,9 @@
 -- Agreements: what an attribute of a field states of its subject, and what is found there (C706 4.2.18 to 4.2.20).
 use Rattle.std.specs.Prelude.{ℕ, ◌+◌, suc, zero, ℤ, pos, ◌+ℤ◌, ◌-ℤ◌, List, [], ◌∷◌, ◌++◌, length, Option, Some, None}
 use Rattle.std.specs.List.{slice_get}
-use Rattle.nd_types.specs.declared.Attr.{Attr}
-use Rattle.nd_types.specs.declared.Attr.TheVariants as attr
-use Rattle.nd_types.specs.declared.AttrVar.{AttrVar}
+use Rattle.nd_types.specs.declared.types.Attr.{Attr}
+use Rattle.nd_types.specs.declared.types.Attr.TheVariants as attr
+use Rattle.nd_types.specs.declared.types.AttrVar.{AttrVar}
 use Rattle.nd_graph.specs.Tree as tree
 use Rattle.nd_graph.specs.Tree.{Tree, Trees, node, none, more, count, Label}
 

@@ -1,9 +1,9 @@
 -- The order of a graph's cells: by the first pointer to them in the order of the stream.
 use Rattle.std.specs.Prelude.{◌≡◌, ℕ, ◌+◌, suc, zero, Bool, true, false, cond, eqb, List, [], ◌∷◌, ◌++◌, length, map, Option, Some, None, flat_map}
 use Rattle.nd_types.specs.Table.{Table}
-use Rattle.nd_graph.specs.declared.Graph.{Graph}
-use Rattle.nd_graph.specs.declared.Home.{Home}
-use Rattle.nd_graph.specs.declared.Home.TheVariants as home
+use Rattle.nd_graph.specs.declared.value.Graph.{Graph}
+use Rattle.nd_graph.specs.declared.item.Home.{Home}
+use Rattle.nd_graph.specs.declared.item.Home.TheVariants as home
 use Rattle.nd_graph.specs.Setting.{Setting, root_list}
 use Rattle.nd_graph.specs.Deferral.{Step, root_stands, referent_stands, stands_already, Deferral, Standing, standing_root, standing_cell, home_pointers, Pending, due_roots, before_pipes}
 use Rattle.nd_graph.specs.Same.{Same}

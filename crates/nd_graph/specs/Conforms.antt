@@ -1,8 +1,8 @@
 -- When a graph conforms to a side of an operation, and what a partial graph is.
 use Rattle.std.specs.Prelude.{◌≡◌, ℕ, ◌+◌, ◌^◌, ◌<◌, true, List, [], ◌∷◌, ◌++◌, length, Option, Some, None, map}
 use Rattle.std.specs.List.{list_all, AllByRecursion}
-use Rattle.nd_types.specs.declared.Class.TheVariants.{Full}
-use Rattle.nd_graph.specs.declared.Graph.{Graph}
+use Rattle.nd_types.specs.declared.types.Class.TheVariants.{Full}
+use Rattle.nd_graph.specs.declared.value.Graph.{Graph}
 use Rattle.nd_graph.specs.Tree as tree
 use Rattle.nd_graph.specs.Tree.{Tree, node, none, more, nodes, Label, Referent}
 use Rattle.nd_graph.specs.Agreement.{Agreement, found_in}

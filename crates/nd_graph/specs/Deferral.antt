@@ -1,15 +1,15 @@
 -- In which order the referents of a graph stand in a stream (C706 14.3.12: deferral of referents).
 use Rattle.std.specs.Prelude.{◌≡◌, ◌⊎◌, ℕ, ◌+◌, suc, zero, Bool, true, false, List, [], ◌∷◌, ◌++◌, Option, Some, None, map, flat_map}
 use Rattle.std.specs.List.{slice_get}
-use Rattle.nd_types.specs.declared.TypeDef.{TypeDef}
-use Rattle.nd_types.specs.declared.Class.{Class}
-use Rattle.nd_types.specs.declared.Class.TheVariants.{Ref, Unique, Full}
-use Rattle.nd_types.specs.declared.TypeDef.TheVariants as def
+use Rattle.nd_types.specs.declared.types.TypeDef.{TypeDef}
+use Rattle.nd_types.specs.declared.types.Class.{Class}
+use Rattle.nd_types.specs.declared.types.Class.TheVariants.{Ref, Unique, Full}
+use Rattle.nd_types.specs.declared.types.TypeDef.TheVariants as def
 use Rattle.nd_types.specs.Table.{Table, type_at}
 use Rattle.nd_types.specs.Roots.{Root}
-use Rattle.nd_graph.specs.declared.Graph.{Graph}
-use Rattle.nd_graph.specs.declared.Home.{Home}
-use Rattle.nd_graph.specs.declared.Home.TheVariants as home
+use Rattle.nd_graph.specs.declared.value.Graph.{Graph}
+use Rattle.nd_graph.specs.declared.item.Home.{Home}
+use Rattle.nd_graph.specs.declared.item.Home.TheVariants as home
 use Rattle.nd_graph.specs.Tree as tree
 use Rattle.nd_graph.specs.Tree.{Tree, Trees, node, none, more, Label, is_pointer, cell_in}
 use Rattle.nd_graph.specs.Agreement.{Agreement}

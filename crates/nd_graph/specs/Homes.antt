@@ -2,9 +2,9 @@
 use Rattle.std.specs.Prelude.{ℕ, ◌+◌, List, [], ◌∷◌, ◌++◌, map}
 use Rattle.nd_types.specs.Table.{Table}
 use Rattle.nd_types.specs.Roots.{Root}
-use Rattle.nd_graph.specs.declared.Graph.{Graph}
-use Rattle.nd_graph.specs.declared.Home.{Home}
-use Rattle.nd_graph.specs.declared.Home.TheVariants as home
+use Rattle.nd_graph.specs.declared.value.Graph.{Graph}
+use Rattle.nd_graph.specs.declared.item.Home.{Home}
+use Rattle.nd_graph.specs.declared.item.Home.TheVariants as home
 use Rattle.nd_graph.specs.Tree.{Tree, Referent}
 use Rattle.nd_graph.specs.Setting.{Setting, root_list, cell_home}
 use Rattle.nd_graph.specs.Nodes.{TypedNode, governed_nodes, home_nodes}

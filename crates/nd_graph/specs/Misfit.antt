@@ -1,15 +1,15 @@
 -- What a node of a graph has to keep to by itself: the tests of one node, and its first misfit.
 use Rattle.std.specs.Prelude.{ℕ, ◌+◌, ◌^◌, ℤ, Bool, true, false, not, ◌&&◌, ◌||◌, eqb, leb, ltb, List, [], ◌∷◌, length, Option, Some, None}
 use Rattle.std.specs.List.{list_all, list_any}
-use Rattle.nd_types.specs.declared.TypeDef.{TypeDef}
-use Rattle.nd_types.specs.declared.Arm.{Arm}
-use Rattle.nd_types.specs.declared.Class.TheVariants.{Ref}
-use Rattle.nd_types.specs.declared.TypeDef.TheVariants as def
+use Rattle.nd_types.specs.declared.types.TypeDef.{TypeDef}
+use Rattle.nd_types.specs.declared.types.Arm.{Arm}
+use Rattle.nd_types.specs.declared.types.Class.TheVariants.{Ref}
+use Rattle.nd_types.specs.declared.types.TypeDef.TheVariants as def
 use Rattle.nd_types.specs.Table.{Table, type_at, selected, is_value, fits_octets}
 use Rattle.nd_types.specs.Layout.{arm_type}
-use Rattle.nd_graph.specs.declared.Graph.{Graph}
-use Rattle.nd_graph.specs.declared.MisfitReason.{MisfitReason}
-use Rattle.nd_graph.specs.declared.MisfitReason.TheVariants as misfit
+use Rattle.nd_graph.specs.declared.value.Graph.{Graph}
+use Rattle.nd_graph.specs.declared.misfit.MisfitReason.{MisfitReason}
+use Rattle.nd_graph.specs.declared.misfit.MisfitReason.TheVariants as misfit
 use Rattle.nd_graph.specs.Tree as tree
 use Rattle.nd_graph.specs.Tree.{Trees, none, count, Label, Referent}
 use Rattle.nd_graph.specs.Setting.{cell_of_number}

@@ -1,13 +1,13 @@
 -- What a graph is read under, and the parts of a graph.
 use Rattle.std.specs.Prelude.{ℕ, ◌+◌, ◌-◌, suc, zero, ℤ, pos, List, [], ◌∷◌, Option, Some, None, ◌≡◌, ◌⊎◌}
 use Rattle.std.specs.List.{slice_get}
-use Rattle.nd_types.specs.declared.Operation.{Operation}
-use Rattle.nd_types.specs.declared.Side.{Side}
+use Rattle.nd_types.specs.declared.types.Operation.{Operation}
+use Rattle.nd_types.specs.declared.types.Side.{Side}
 use Rattle.nd_types.specs.Table.{Table}
 use Rattle.nd_types.specs.Roots.{Root, roots_of}
-use Rattle.nd_graph.specs.declared.Graph.{Graph}
-use Rattle.nd_graph.specs.declared.Home.{Home}
-use Rattle.nd_graph.specs.declared.Home.TheVariants as home
+use Rattle.nd_graph.specs.declared.value.Graph.{Graph}
+use Rattle.nd_graph.specs.declared.item.Home.{Home}
+use Rattle.nd_graph.specs.declared.item.Home.TheVariants as home
 use Rattle.nd_graph.specs.Tree.{Tree, Trees, node, none, more, Referent, Unread, Label}
 
 -- an operation's side under a table of types, beside a request or beside none

@@ -1,9 +1,9 @@
 -- The agreements of parameters: the values of the variables that their attributes name.
 use Rattle.std.specs.Prelude.{ℕ, ◌+◌, ℤ, Bool, true, false, eqb, List, [], ◌∷◌, ◌++◌, Option, Some, None}
-use Rattle.nd_types.specs.declared.AttrVar.{AttrVar}
-use Rattle.nd_types.specs.declared.Side.TheVariants as side
+use Rattle.nd_types.specs.declared.types.AttrVar.{AttrVar}
+use Rattle.nd_types.specs.declared.types.Side.TheVariants as side
 use Rattle.nd_types.specs.Roots.{Root, roots_of}
-use Rattle.nd_graph.specs.declared.Graph.{Graph}
+use Rattle.nd_graph.specs.declared.value.Graph.{Graph}
 use Rattle.nd_graph.specs.Tree as tree
 use Rattle.nd_graph.specs.Tree.{Tree, node}
 use Rattle.nd_graph.specs.Agreement.{Agreement, agreement, number_of}

@@ -1,0 +1,11 @@
+-- What a source that never fails holds.
+use Rattle.std.specs.Prelude.{ℕ, Bool, List, length, drop, nat_le}
+use Rattle.nd_base.specs.declared.plain.PlainSource.{PlainSource}
+
+-- the octets that are left
+abbrev pub plain_left : PlainSource → List ℕ
+plain_left s = drop s.at s.octets
+
+-- whether nothing is left
+abbrev pub plain_ended : PlainSource → Bool
+plain_ended s = nat_le (length (plain_left s)) 0

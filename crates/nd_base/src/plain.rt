@@ -1,0 +1,62 @@
+// A source and a sink that never fail.
+ghost use Rattle.std.specs.Prelude.{◌≡◌, ◌≤◌, length, Some, None};
+
+use crate::pieces::give;
+use crate::{Octets, ReadFailed, Sink, Source, WriteFailed};
+
+/// A list of octets as a source that never fails. Its count of faults is always 0.
+#[derive(Debug, Drop)]
+pub struct PlainSource {
+    octets: Octets,
+    at: usize,
+    ghost within: { at ≤ length octets },
+}
+
+impl PlainSource {
+    ghost use Rattle.nd_base.specs.Plain.{plain_left};
+
+    /// A source of these octets. Takes no memory.
+    pub fn new(octets: Octets) -> PlainSource
+        ensures { plain_left result ≡ octets }
+    {
+        PlainSource { octets, at: 0 }
+    }
+}
+
+impl Source for PlainSource {
+    ghost use Rattle.nd_base.specs.Plain.{plain_left, plain_ended};
+
+    ghost left = { λ s. Some (plain_left s) };
+
+    ghost ended = { plain_ended };
+
+    ghost faults = { λ _. 0 };
+
+    #[tactic(auto, using(crate::proofs::Lists::piece_left))]
+    fn fetch(&mut self, buf: &mut [u8]) -> Result<usize, ReadFailed> {
+        let count = give(&self.octets.as_slice()[self.at..], buf, usize::MAX);
+        self.at += count;
+        Ok(count)
+    }
+}
+
+/// A sink that keeps nothing, tells nothing and never fails. Its count of faults is always 0.
+#[derive(Clone, Copy, Debug)]
+pub struct PlainSink;
+
+impl PlainSink {
+    /// Takes no memory.
+    pub fn new() -> PlainSink {
+        PlainSink
+    }
+}
+
+impl Sink for PlainSink {
+    ghost written = { λ _. None };
+
+    ghost faults = { λ _. 0 };
+
+    fn put(&mut self, _piece: &[u8]) -> Result<(), WriteFailed> {
+        Ok(())
+    }
+}

@@ -1,0 +1,28 @@
+// Why a graph does not conform.
+
+/// Why a graph does not conform at a place.
+#[derive(Clone, Copy, Debug, PartialEq, Eq)]
+pub enum MisfitReason {
+    /// The value has not the form of its type, or there are too few or too many roots.
+    Shape,
+    /// A number or tag is no value of its type.
+    Range,
+    /// A reference pointer is null.
+    NullRef,
+    /// A pointer names a cell that is not there.
+    NoCell,
+    /// A pointer names a cell of another type than its referent's.
+    CellType,
+    /// Maximum count, offset or number of elements have not the form of the type, or end past the maximum count.
+    Bound,
+    /// A text holds a zero octet.
+    Zero,
+    /// A union's tag selects no arm.
+    NoArm,
+    /// A pointer names a cell that an earlier pointer names, and not both are full.
+    Shared,
+    /// No root and no cell that is reached names the cell.
+    Unreached,
+    /// An attribute states another number than is there.
+    Disagrees { wanted: i128, found: i128 },
+}
