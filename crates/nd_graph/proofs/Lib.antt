@@ -1,1 +1,5 @@
+pub mod Apart
+pub mod DeferralExists
 pub mod DeferralLaws
+pub mod Orderly
+pub mod Waiting

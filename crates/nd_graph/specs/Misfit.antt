@@ -49,7 +49,7 @@ abbrev pub names_cell : Graph → Label → Bool
 names_cell g (tree.Ptr (Some c)) = not (eqb c 0) && leb c (length g.cells)
 names_cell g _ = true
 
-abbrev has_type : Option Referent → ℕ → Bool
+abbrev pub has_type : Option Referent → ℕ → Bool
 has_type None t = true
 has_type (Some c) t = eqb c.of t
 
