@@ -16,7 +16,7 @@ use Rattle.nd_graph.specs.Setting.{cell_of_number}
 use Rattle.nd_graph.specs.Nodes.{child_types, TypedNode}
 
 -- a union's arm is there exactly where the selected arm has a type
-abbrev arm_fits : Option Arm → Trees → Bool
+abbrev pub arm_fits : Option Arm → Trees → Bool
 arm_fits None ks = true
 arm_fits (Some a) ks = eqb (count ks) (length (arm_type a))
 
@@ -72,27 +72,27 @@ has_counts (Some (def.Text elem bound)) (tree.Text max octets) ks = is_bound bou
 has_counts _ _ ks = true
 
 -- offset and actual count end within the maximum count; a text's actual count includes its terminator
-abbrev is_within : Label → Trees → Bool
+abbrev pub is_within : Label → Trees → Bool
 is_within (tree.Arr max offset) ks = leb (offset + count ks) max
 is_within (tree.Text max octets) ks = leb (length octets + 1) max
 is_within _ ks = true
 
 -- a text has no zero before its terminator
-abbrev has_no_zero : Label → Bool
+abbrev pub has_no_zero : Label → Bool
 has_no_zero (tree.Text max octets) = not (list_any (eqb 0) octets)
 has_no_zero _ = true
 
-abbrev selects : Option Arm → Bool
+abbrev pub selects : Option Arm → Bool
 selects None = false
 selects (Some a) = true
 
 -- a tag selects an arm
-abbrev has_arm : Option TypeDef → Label → Bool
+abbrev pub has_arm : Option TypeDef → Label → Bool
 has_arm (Some (def.Union tag encapsulated arms default)) (tree.Union v) = selects (selected arms default v)
 has_arm _ _ = true
 
 -- a reason where a test fails, else what comes later
-abbrev unless : Bool → MisfitReason → Option MisfitReason → Option MisfitReason
+abbrev pub unless : Bool → MisfitReason → Option MisfitReason → Option MisfitReason
 unless true r o = o
 unless false r o = Some r
 
@@ -109,7 +109,7 @@ misfit_of table g x =
     (unless (has_no_zero x.label) misfit.Zero
     (unless (has_arm d x.label) misfit.NoArm None)))))))
 
-abbrev is_unread : Label → Bool
+abbrev pub is_unread : Label → Bool
 is_unread tree.Unread = true
 is_unread _ = false
 
@@ -123,10 +123,10 @@ is_partial_node table g x =
     || has_shape d x.label x.kids && eqb (count x.kids) (length (child_types d x.label x.kids)) && has_range fits_octets table d x.label && is_no_null_ref d x.label
     && names_cell g x.label && names_pointee g d x.label && has_counts d x.label x.kids
 
-abbrev is_octet : ℕ → Bool
+abbrev pub is_octet : ℕ → Bool
 is_octet b = ltb b 256
 
-abbrev is_count : ℕ → Bool
+abbrev pub is_count : ℕ → Bool
 is_count n = ltb n (2 ^ 32)
 
 -- A node's counts and attributes fit in 32 bits, its octets in 8, and an identifier has 16 of them: so it is with every value of
