@@ -1,4 +1,5 @@
 pub mod Apart
+pub mod DeferralBridge
 pub mod DeferralExists
 pub mod DeferralLaws
 pub mod NodeFacts
