@@ -1,13 +1,11 @@
 pub mod Big
-pub mod Bounded
 pub mod Check
 pub mod Forms
 pub mod Identifiers
+pub mod Matching
 pub mod Next
-pub mod NextPending
-pub mod NextDeferral
+pub mod NextInPlace
 pub mod Plain
 pub mod PlainBad
 pub mod Ranges
-pub mod RingNext
 pub mod Rows
