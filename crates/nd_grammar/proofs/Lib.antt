@@ -1,10 +1,12 @@
 pub mod Big
+pub mod Carried
 pub mod Check
 pub mod Forms
 pub mod Identifiers
 pub mod Matching
 pub mod Next
 pub mod NextInPlace
+pub mod NextPending
 pub mod Plain
 pub mod PlainBad
 pub mod Ranges
