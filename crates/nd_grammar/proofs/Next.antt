@@ -52,9 +52,10 @@ IsUnread m = m.kind ≡ Unread
 abbrev pub Alike : Entry → Entry → Type 0
 Alike m n = (m.node ≡ n.node) × (form m.kind ≡ form n.kind)
 
--- a cell of each graph, and the class of the pointer for which both were placed
+-- a cell of each graph, their type, and the class of the pointers for which they were placed
 pub record Pair : Type 0 where
   pub class : Class
+  pub of : ℕ
   pub left : ℕ
   pub right : ℕ
 
