@@ -12,3 +12,4 @@ pub mod Plain
 pub mod PlainBad
 pub mod Ranges
 pub mod Rows
+pub mod Standings

@@ -47,7 +47,7 @@ before_unread table t None ks = refl
 before_unread table t (Some (def.Prim p)) ks = refl
 before_unread table t (Some _) ks = refl
 
-abbrev unread_entry : Home → Entry
+abbrev pub unread_entry : Home → Entry
 unread_entry h = record { home = h; node = 0; kind = Unread }
 
 abbrev UnreadFirst : Table → Home → ℕ → ℕ → Trees → Label → Type 0
