@@ -7,6 +7,7 @@ pub mod Matching
 pub mod Next
 pub mod NextInPlace
 pub mod NextPending
+pub mod NextSteps
 pub mod NextWhole
 pub mod Plain
 pub mod PlainBad

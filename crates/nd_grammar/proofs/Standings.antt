@@ -46,20 +46,20 @@ abbrev pub seconds : List Pair → Standing_cells
 seconds [] = []
 seconds (x ∷ xs) = (x.class, x.right) ∷ seconds xs
 
-firsts_append : (xs ys : List Pair) → firsts (xs ++ ys) ≡ firsts xs ++ firsts ys
+pub firsts_append : (xs ys : List Pair) → firsts (xs ++ ys) ≡ firsts xs ++ firsts ys
 firsts_append [] ys = refl
 firsts_append (x ∷ xs) ys = ap (λ u. (x.class, x.left) ∷ u) (firsts_append xs ys)
 
-seconds_append : (xs ys : List Pair) → seconds (xs ++ ys) ≡ seconds xs ++ seconds ys
+pub seconds_append : (xs ys : List Pair) → seconds (xs ++ ys) ≡ seconds xs ++ seconds ys
 seconds_append [] ys = refl
 seconds_append (x ∷ xs) ys = ap (λ u. (x.class, x.right) ∷ u) (seconds_append xs ys)
 
 -- a pair of cells that do not stand is apart from those that do
-free_apart : (z : Pair) (xs : List Pair) → ¬ IsStanding (firsts xs) z.left → ¬ IsStanding (seconds xs) z.right → AllByRecursion (IsApart z) xs
+pub free_apart : (z : Pair) (xs : List Pair) → ¬ IsStanding (firsts xs) z.left → ¬ IsStanding (seconds xs) z.right → AllByRecursion (IsApart z) xs
 free_apart z [] a b = tt
 free_apart z (x ∷ xs) a b = (((λ e. a (inl e)), (λ e. b (inl e))), free_apart z xs (λ h. a (inr h)) (λ h. b (inr h)))
 
-one_to_one : (ps xs : List Pair) → OneToOne ps → AreFree (firsts ps) (firsts xs) → AreFree (seconds ps) (seconds xs) → OneToOne xs → OneToOne (ps ++ xs)
+pub one_to_one : (ps xs : List Pair) → OneToOne ps → AreFree (firsts ps) (firsts xs) → AreFree (seconds ps) (seconds xs) → OneToOne xs → OneToOne (ps ++ xs)
 one_to_one [] xs o a b one = one
 one_to_one (z ∷ ps) xs o a b one = (all_append (IsApart z) ps xs o.0 (free_apart z xs a.0 b.0), one_to_one ps xs o.1 a.1 b.1 one)
 
@@ -122,7 +122,7 @@ module _ (two : Readings) (w : Setting) (g g' : Graph) where
     pub whole : (ys : List Pair) → ((z : Pair) → Among pairs z → Among ys z)
         → Matched (InMap ys) w.table (x.of ∷ []) (more x.val none) (more y.val none) → RootCarried ys i
 
-  abbrev IsUnreadTree : Tree → Type 0
+  abbrev pub IsUnreadTree : Tree → Type 0
   IsUnreadTree (node l ks) = l ≡ tree.Unread
 
   -- two roots stand alike, or one of them is not read
@@ -130,7 +130,7 @@ module _ (two : Readings) (w : Setting) (g g' : Graph) where
   RootsMeet i x y = IsUnreadTree x.val ⊎ (IsUnreadTree y.val ⊎ RootsAlike i x y)
 
   -- the partner of a cell that full pointers meet again
-  partner : (xs : List Pair) → AllByRecursion PairFits xs → (c : ℕ) → IsStandingFull (firsts xs) c
+  pub partner : (xs : List Pair) → AllByRecursion PairFits xs → (c : ℕ) → IsStandingFull (firsts xs) c
       → (z : Pair) × Among xs z × (z.left ≡ c) × (two.left c ≡ two.right z.right) × SameTop (cell_at g c) (cell_at g' z.right) × IsStandingFull (seconds xs) z.right
   partner [] m c h = absurd h
   partner (x ∷ xs) m c (inl e) = (
@@ -143,46 +143,46 @@ module _ (two : Readings) (w : Setting) (g g' : Graph) where
   )
   partner (x ∷ xs) m c (inr h) = let (z, a, l, e, s, i) = partner xs m.1 c h in (z, inr a, l, e, s, inr i)
 
-  partner' : (xs : List Pair) → AllByRecursion PairFits xs → (d : ℕ) → IsStandingFull (seconds xs) d
+  pub partner' : (xs : List Pair) → AllByRecursion PairFits xs → (d : ℕ) → IsStandingFull (seconds xs) d
       → (c : ℕ) × (two.left c ≡ two.right d) × IsStandingFull (firsts xs) c
   partner' [] m d h = absurd h
   partner' (x ∷ xs) m d (inl e) = (x.left, m.0.number e.0 ∙ ap two.right (sym e.1), inl (e.0, refl))
   partner' (x ∷ xs) m d (inr h) = let (c, e, i) = partner' xs m.1 d h in (c, e, inr i)
 
-  no_right : (k : Class) (c : ℕ) → Numbers k None (Some c) → ⊥
+  pub no_right : (k : Class) (c : ℕ) → Numbers k None (Some c) → ⊥
   no_right Full c m = m
   no_right Ref c m = m
   no_right Unique c m = m
 
-  no_left : (k : Class) (c : ℕ) → Numbers k (Some c) None → ⊥
+  pub no_left : (k : Class) (c : ℕ) → Numbers k (Some c) None → ⊥
   no_left Full c m = m
   no_left Ref c m = m
   no_left Unique c m = m
 
-  full_match : (k : Class) (c d : ℕ) → k ≡ Full → Numbers k (Some c) (Some d) → two.left c ≡ two.right d
+  pub full_match : (k : Class) (c d : ℕ) → k ≡ Full → Numbers k (Some c) (Some d) → two.left c ≡ two.right d
   full_match Full c d e m = m
   full_match Ref c d e m = cc
   full_match Unique c d e m = cc
 
-  cells_of : (p q : Pending) (o o' : Option ℕ) → PointersMatch Numbers g g' p q → p.cell ≡ o → q.cell ≡ o' → Numbers p.class o o'
+  pub cells_of : (p q : Pending) (o o' : Option ℕ) → PointersMatch Numbers g g' p q → p.cell ≡ o → q.cell ≡ o' → Numbers p.class o o'
   cells_of p q o o' m e f = subst (λ x. Numbers p.class x o') e (subst (λ x. Numbers p.class p.cell x) f m.cells)
 
-  in_map : (ys : List Pair) (p q : Pending) (o o' : Option ℕ) → p.cell ≡ o → q.cell ≡ o' → InMap ys p.class o o' → InMap ys p.class p.cell q.cell
+  pub in_map : (ys : List Pair) (p q : Pending) (o o' : Option ℕ) → p.cell ≡ o → q.cell ≡ o' → InMap ys p.class o o' → InMap ys p.class p.cell q.cell
   in_map ys p q o o' e f m = subst (λ x. InMap ys p.class x q.cell) (sym e) (subst (λ x. InMap ys p.class o x) (sym f) m)
 
   -- the pointers of a home are carried, and so is what was due behind them
-  carried_parts : (ys : List Pair) (ps qs : List Pending) (ts ts' : List Due) → AllPointers Numbers g g' ps qs
+  pub carried_parts : (ys : List Pair) (ps qs : List Pending) (ts ts' : List Due) → AllPointers Numbers g g' ps qs
       → AllCarried ys (map due_referent ps ++ ts) (map due_referent qs ++ ts') → AllInMap ys ps qs × AllCarried ys ts ts'
   carried_parts ys [] [] ts ts' a b = (tt, b)
   carried_parts ys [] (q ∷ qs) ts ts' a b = absurd a
   carried_parts ys (p ∷ ps) [] ts ts' a b = absurd a
   carried_parts ys (p ∷ ps) (q ∷ qs) ts ts' a b = let (x, y) = carried_parts ys ps qs ts ts' a.1 b.1 in ((b.0, x), y)
 
-  home_match : (h h' : Home) (t : ℕ) (v v' : Tree) → Known g w.table (t ∷ []) (more v none) → Known g' w.table (t ∷ []) (more v' none)
+  pub home_match : (h h' : Home) (t : ℕ) (v v' : Tree) → Known g w.table (t ∷ []) (more v none) → Known g' w.table (t ∷ []) (more v' none)
       → Matched Numbers w.table (t ∷ []) (more v none) (more v' none) → AllPointers Numbers g g' (home_pointers w.table h t v) (home_pointers w.table h' t v')
   home_match h h' t v v' a b m = nodes_match Numbers g g' w.table h h' (t ∷ []) [] 0 (more v none) (more v' none) a b m
 
-  home_carried : (ys : List Pair) (h h' : Home) (t : ℕ) (v v' : Tree) → Known g w.table (t ∷ []) (more v none)
+  pub home_carried : (ys : List Pair) (h h' : Home) (t : ℕ) (v v' : Tree) → Known g w.table (t ∷ []) (more v none)
       → Matched Numbers w.table (t ∷ []) (more v none) (more v' none) → AllInMap ys (home_pointers w.table h t v) (home_pointers w.table h' t v')
       → Matched (InMap ys) w.table (t ∷ []) (more v none) (more v' none)
   home_carried ys h h' t v v' a m p = carried Numbers g g' w.table h h' ys (t ∷ []) (more v none) (more v' none) a m [] [] 0 0 p
