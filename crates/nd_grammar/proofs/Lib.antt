@@ -5,6 +5,7 @@ pub mod Forms
 pub mod Identifiers
 pub mod Matching
 pub mod Next
+pub mod NextDeferral
 pub mod NextInPlace
 pub mod NextPending
 pub mod NextSteps

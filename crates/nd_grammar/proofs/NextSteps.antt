@@ -57,13 +57,13 @@ module _ (two : Readings) (X : List Pair → Type 0) (w : Setting) (g g' : Graph
     abbrev Due_match : List Due → List Due → Type 0
     Due_match xs ys = AllDueMatch Numbers g g' xs ys
 
-    known_cell : (p : Pending) (c : ℕ) → p.cell ≡ Some c → Pointee g p → Known g w.table (p.to ∷ []) (more (cell_at g c) none)
+    pub known_cell : (p : Pending) (c : ℕ) → p.cell ≡ Some c → Pointee g p → Known g w.table (p.to ∷ []) (more (cell_at g c) none)
     known_cell p c e f =
         let (x, q, t) = f c e in
         subst (λ v. Known g w.table (p.to ∷ []) (more v none)) (sym (ap cell_tree q))
         (subst (λ u. Known g w.table (u ∷ []) (more x.val none)) t (cells c x q))
 
-    known_cell' : (p : Pending) (c : ℕ) → p.cell ≡ Some c → Pointee g' p → Known g' w.table (p.to ∷ []) (more (cell_at g' c) none)
+    pub known_cell' : (p : Pending) (c : ℕ) → p.cell ≡ Some c → Pointee g' p → Known g' w.table (p.to ∷ []) (more (cell_at g' c) none)
     known_cell' p c e f =
         let (x, q, t) = f c e in
         subst (λ v. Known g' w.table (p.to ∷ []) (more v none)) (sym (ap cell_tree q))
@@ -80,7 +80,7 @@ module _ (two : Readings) (X : List Pair → Type 0) (w : Setting) (g g' : Graph
         subst (λ u. N xs at ms (u ++ ns)) (sym f) (unread_right two X xs at (unread_entry h) ms (rest ++ ns) refl)
 
     -- two roots stand, in their own places or as cells
-    root_next : (i : ℕ) (x y : Standing) → RootsMeet two w g g' i x y → (xs : List Pair) → OneToOne xs
+    pub root_next : (i : ℕ) (x y : Standing) → RootsMeet two w g g' i x y → (xs : List Pair) → OneToOne xs
         → AreFree (root_cell x.home) (firsts xs) → AreFree (root_cell y.home) (seconds xs)
         → (ms ns : List Entry) (at : ℕ)
         → ((o : RootsAlike two w g g' i x y) → OneToOne (o.pairs ++ xs) → Matched Numbers w.table (x.of ∷ []) (more x.val none) (more y.val none)
@@ -97,7 +97,7 @@ module _ (two : Readings) (X : List Pair → Type 0) (w : Setting) (g g' : Graph
         (maxes x.of x.val y.val o.known o.known') ms ns at (λ p m. k o one' m p)))
 
     -- a referent stands, with the agreements of its pointer
-    referent_next : (xs : List Pair) → OneToOne xs → (h h' : Home) → HomesMeet xs h h' → (t : ℕ) (v v' : Tree) (ws : List Agreement)
+    pub referent_next : (xs : List Pair) → OneToOne xs → (h h' : Home) → HomesMeet xs h h' → (t : ℕ) (v v' : Tree) (ws : List Agreement)
         → Known g w.table (t ∷ []) (more v none) → Known g' w.table (t ∷ []) (more v' none)
         → (ms ns : List Entry) (at : ℕ)
         → ((p : ℕ) → Matched Numbers w.table (t ∷ []) (more v none) (more v' none) → N xs p ms ns)
@@ -113,7 +113,7 @@ module _ (two : Readings) (X : List Pair → Type 0) (w : Setting) (g g' : Graph
     abbrev F' : List Step → List Entry
     F' us = flat_map (step_entries w g') us
 
-    next_due : (x y : Standing) → x.of ≡ y.of → Known g w.table (x.of ∷ []) (more x.val none) → Known g' w.table (x.of ∷ []) (more y.val none)
+    pub next_due : (x y : Standing) → x.of ≡ y.of → Known g w.table (x.of ∷ []) (more x.val none) → Known g' w.table (x.of ∷ []) (more y.val none)
         → Matched Numbers w.table (x.of ∷ []) (more x.val none) (more y.val none)
         → AllPointers Numbers g g' (home_pointers w.table x.home x.of x.val) (home_pointers w.table y.home y.of y.val)
     next_due x y e a b m =
@@ -129,7 +129,7 @@ module _ (two : Readings) (X : List Pair → Type 0) (w : Setting) (g g' : Graph
         home_carried two w g g' ys x.home y.home x.of x.val y.val a m
         (subst (λ t. AllInMap ys (home_pointers w.table x.home x.of x.val) (home_pointers w.table y.home t y.val)) (sym e) p)
 
-    after_root : (i : ℕ) (x y : Standing) (o : RootsAlike two w g g' i x y) (xs ys : List Pair) (ts ts' : List Due)
+    pub after_root : (i : ℕ) (x y : Standing) (o : RootsAlike two w g g' i x y) (xs ys : List Pair) (ts ts' : List Due)
         → Matched Numbers w.table (x.of ∷ []) (more x.val none) (more y.val none)
         → Stands two w g g' (o.pairs ++ xs) (due_of w.table x ++ ts) (due_of w.table y ++ ts') ys
         → Stands two w g g' xs (due_root i ∷ ts) (due_root i ∷ ts') ys
@@ -149,7 +149,7 @@ module _ (two : Readings) (X : List Pair → Type 0) (w : Setting) (g g' : Graph
           );
         }
 
-    after_null : (p q : Pending) → p.cell ≡ None → q.cell ≡ None → (xs ys : List Pair) (ts ts' : List Due) → Stands two w g g' xs ts ts' ys
+    pub after_null : (p q : Pending) → p.cell ≡ None → q.cell ≡ None → (xs ys : List Pair) (ts ts' : List Due) → Stands two w g g' xs ts ts' ys
         → Stands two w g g' xs (due_referent p ∷ ts) (due_referent q ∷ ts') ys
     after_null p q e f xs ys ts ts' s = record {
       new = s.new;
@@ -160,7 +160,7 @@ module _ (two : Readings) (X : List Pair → Type 0) (w : Setting) (g g' : Graph
       carried_due = (in_map two w g g' ys p q None None e f tt, s.carried_due);
     }
 
-    after_standing : (p q : Pending) (c c' : ℕ) → p.cell ≡ Some c → q.cell ≡ Some c' → (z : Pair) → z.left ≡ c → z.right ≡ c' → (xs ys : List Pair)
+    pub after_standing : (p q : Pending) (c c' : ℕ) → p.cell ≡ Some c → q.cell ≡ Some c' → (z : Pair) → z.left ≡ c → z.right ≡ c' → (xs ys : List Pair)
         → Among xs z → (ts ts' : List Due) → Stands two w g g' xs ts ts' ys → Stands two w g g' xs (due_referent p ∷ ts) (due_referent q ∷ ts') ys
     after_standing p q c c' e f z l r xs ys a ts ts' s = record {
       new = s.new;
@@ -174,7 +174,7 @@ module _ (two : Readings) (X : List Pair → Type 0) (w : Setting) (g g' : Graph
       );
     }
 
-    after_referent : (p q : Pending) (c c' : ℕ) → p.cell ≡ Some c → q.cell ≡ Some c' → p.to ≡ q.to → (z : Pair)
+    pub after_referent : (p q : Pending) (c c' : ℕ) → p.cell ≡ Some c → q.cell ≡ Some c' → p.to ≡ q.to → (z : Pair)
         → z ≡ record { class = p.class; of = p.to; left = c; right = c' } → (xs ys : List Pair) (ts ts' : List Due)
         → Known g w.table (p.to ∷ []) (more (cell_at g c) none) → Known g' w.table (p.to ∷ []) (more (cell_at g' c') none)
         → Matched Numbers w.table (p.to ∷ []) (more (cell_at g c) none) (more (cell_at g' c') none)
