@@ -165,7 +165,7 @@ module _ (C : Class → Option ℕ → Option ℕ → Type 0) (g g' : Graph) (ta
         let of_kids' : AllInMap map (flat_map f K) (R (child_types d l ks) (child_agreements d ks') (n' + 1) ks') =
         subst (λ u. AllInMap map (flat_map f K) (R u (child_agreements d ks') (n' + 1) ks')) (sym e) of_kids in
         (
-          record { same = m.0.same; cells = own_cell d l l' ks n n' (first_agreements ags) (first_agreements ags') m.0.same k.0 first },
-          carried (child_types d l ks) ks ks' k.1 m.1 (child_agreements d ks) (child_agreements d ks') (n + 1) (n' + 1) of_kids',
+          record { same = m.0.same; cells = own_cell d l l' ks n n' (first_agreements ags) (first_agreements ags') m.0.same k.0 first; read = m.0.read; read' = m.0.read' },
+          carried (child_types d l ks) ks ks' (k.1 m.0.read) m.1 (child_agreements d ks) (child_agreements d ks') (n + 1) (n' + 1) of_kids',
           carried types ts us k.2 m.2 (rest_agreements ags) (rest_agreements ags') (n + 1 + nodes ks) (n' + 1 + nodes ks') of_rest,
         )

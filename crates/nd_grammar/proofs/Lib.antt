@@ -3,6 +3,7 @@ pub mod Carried
 pub mod Check
 pub mod Forms
 pub mod Identifiers
+pub mod KnownNodes
 pub mod Matching
 pub mod Next
 pub mod NextDeferral

@@ -16,7 +16,7 @@ use Rattle.nd_graph.specs.declared.value.Graph.{Graph}
 use Rattle.std.specs.List.{AllByRecursion}
 use Rattle.nd_graph.specs.declared.item.Home.TheVariants as home
 use Rattle.nd_graph.specs.Setting.{cell_of_number, Among}
-use Rattle.nd_graph.specs.Misfit.{has_shape, has_counts, has_machine_values}
+use Rattle.nd_graph.specs.Misfit.{has_shape, has_counts, has_machine_values, is_no_null_ref}
 use Rattle.nd_graph.specs.Tree.{Referent}
 use Rattle.nd_graph.specs.Tree as tree
 use Rattle.nd_graph.specs.Tree.{Tree, Trees, node, none, more, count, nodes, Label, is_pointer, cell_in}
@@ -51,15 +51,13 @@ CellsMatch nums nums' k _ _ = ⊥
 pub record Match (C : Class → Option ℕ → Option ℕ → Type 0) (d : Option TypeDef) (l l' : Label) : Type 0 where
   pub same : bare l ≡ bare l'
   pub cells : C (class_of d) (cell_in l) (cell_in l')
+  pub read : l ≡ tree.Unread → ⊥
+  pub read' : l' ≡ tree.Unread → ⊥
 
 -- what is known of a node of a partial graph: the counts of an array that does not vary, and its pointer
 abbrev pub CountsKnown : Option TypeDef → Label → Trees → Type 0
 CountsKnown (Some (def.Array e b false)) (tree.Arr m o) ks = (o ≡ 0) × (count ks ≡ m)
 CountsKnown _ _ ks = Unit {0}
-
-abbrev pub NoNull : Class → Option ℕ → Type 0
-NoNull Ref None = ⊥
-NoNull _ _ = Unit {0}
 
 -- Trees of types that match, node by node.
 abbrev pub Matched : (Class → Option ℕ → Option ℕ → Type 0) → Table → List ℕ → Trees → Trees → Type 0
@@ -78,7 +76,7 @@ PointeeKnown g _ _ = Unit {0}
 -- what is known of a node of a partial graph: it is unread, or has its type's shape and counts
 pub record NodeKnown (g : Graph) (d : Option TypeDef) (l : Label) (ks : Trees) : Type 0 where
   pub counts : CountsKnown d l ks
-  pub no_null : NoNull (class_of d) (cell_in l)
+  pub no_null : is_no_null_ref d l ≡ true
   pub pointee : PointeeKnown g d (cell_in l)
   pub machine : has_machine_values l ≡ true
   pub shape : (l ≡ tree.Unread) ⊎ ((has_shape d l ks ≡ true) × (has_counts d l ks ≡ true))
@@ -88,7 +86,7 @@ abbrev pub Known : Graph → Table → List ℕ → Trees → Type 0
 Known g table [] none = Unit {0}
 Known g table (t ∷ types) (more (node l ks) ts) =
     NodeKnown g (type_at table t) l ks
-    × Known g table (child_types (type_at table t) l ks) ks
+    × ((l ≡ tree.Unread → ⊥) → Known g table (child_types (type_at table t) l ks) ks)
     × Known g table types ts
 Known g table _ _ = ⊥
 

@@ -19,8 +19,8 @@ use Rattle.nd_graph.specs.Setting.{cell_of_number, Among}
 use Rattle.std.proofs.lemmas.Bool.{and_parts, eqb-true}
 use Rattle.nd_grammar.proofs.Identifiers.{ids}
 use Rattle.nd_grammar.proofs.Next.{form, IsUnread, Alike, Pair, OneToOne, HomesMeet, Readings, Next, unread_left, unread_right}
-use Rattle.nd_grammar.proofs.Matching.{bare, class_of, CellsMatch, Match, Matched, NoNull, CountsKnown, NodeKnown, Known, SameMax, Maxes, matched_nodes, matched_count, matched_number, child_agreements_same, through, pointer_bare, found_same}
-use Rattle.nd_graph.specs.Misfit.{has_shape, has_counts, has_machine_values}
+use Rattle.nd_grammar.proofs.Matching.{bare, class_of, CellsMatch, Match, Matched, CountsKnown, NodeKnown, Known, SameMax, Maxes, matched_nodes, matched_count, matched_number, child_agreements_same, through, pointer_bare, found_same}
+use Rattle.nd_graph.specs.Misfit.{has_shape, has_counts, has_machine_values, is_no_null_ref}
 use Rattle.nd_graph.specs.Tree.{Referent}
 use Rattle.nd_graph.specs.Tree as tree
 use Rattle.nd_graph.specs.Tree.{Tree, Trees, node, none, more, count, nodes, Label, is_pointer, cell_in}
@@ -83,6 +83,18 @@ text_max m os m' os' (inl e) = cc
 text_max m os m' os' (inr (inl e)) = cc
 text_max m os m' os' (inr (inr e)) = e
 
+abbrev NoNull : Class → Option ℕ → Type 0
+NoNull Ref None = ⊥
+NoNull _ _ = Unit {0}
+
+no_null : (k : Class) (to : TypeId) (c : Option ℕ) → is_no_null_ref (Some (def.Pointer k to)) (tree.Ptr c) ≡ true → NoNull k c
+no_null Ref to None e = cc
+no_null Ref to (Some c) e = tt
+no_null Unique to None e = tt
+no_null Unique to (Some c) e = tt
+no_null Full to None e = tt
+no_null Full to (Some c) e = tt
+
 cells_match : (nums nums' : ℕ → ℕ) → ((c : ℕ) → 0 < nums c) → ((c : ℕ) → 0 < nums' c) → (k : Class) (c d : Option ℕ) (v : ℕ) → NoNull k c → NoNull k d
     → IsNumber nums k c v → IsNumber nums' k d v → CellsMatch nums nums' k c d
 cells_match nums nums' low low' Full None None v a b x y = tt
@@ -136,17 +148,17 @@ module _ (two : Readings) (X : List Pair → Type 0) (map : List Pair) (one : On
 
   before_next : (t n : ℕ) {d : Option TypeDef} {l l' : Label} (ks ks' : Trees) (ms ns : List Entry) (at : ℕ)
       → View table t d l → View table t d l'
-      → CountsKnown d l ks → CountsKnown d l' ks' → NoNull (class_of d) (cell_in l) → NoNull (class_of d) (cell_in l')
+      → CountsKnown d l ks → CountsKnown d l' ks' → is_no_null_ref d l ≡ true → is_no_null_ref d l' ≡ true
       → has_machine_values l ≡ true → has_machine_values l' ≡ true
       → SameMax l l'
       → Rest d l l' ks ks' ms ns
       → N at (entries h n (before_children table t d l ks) ++ ms) (entries h' n (before_children table t d l' ks') ++ ns)
   before_next t n ks ks' ms ns at v_prim v_prim a b c d i j e k =
-      inr (inr ([], one, meet, (refl, refl), λ _ _. inr (inr ([], one, meet, (refl, refl), λ x y. k _ (record { same = ap tree.Num (sym x.1 ∙ y.1); cells = tt }) refl))))
+      inr (inr ([], one, meet, (refl, refl), λ _ _. inr (inr ([], one, meet, (refl, refl), λ x y. k _ (record { same = ap tree.Num (sym x.1 ∙ y.1); cells = tt; read = λ e. cc; read' = λ e. cc }) refl))))
   before_next t n ks ks' ms ns at v_enum v_enum a b c d i j e k =
-      inr (inr ([], one, meet, (refl, refl), λ _ _. inr (inr ([], one, meet, (refl, refl), λ x y. k _ (record { same = ap tree.Num (sym x.1 ∙ y.1); cells = tt }) refl))))
+      inr (inr ([], one, meet, (refl, refl), λ _ _. inr (inr ([], one, meet, (refl, refl), λ x y. k _ (record { same = ap tree.Num (sym x.1 ∙ y.1); cells = tt; read = λ e. cc; read' = λ e. cc }) refl))))
   before_next t n ks ks' ms ns at v_struct v_struct a b c d i j e k =
-      inr (inr ([], one, meet, (refl, refl), λ _ _. k _ (record { same = refl; cells = tt }) refl))
+      inr (inr ([], one, meet, (refl, refl), λ _ _. k _ (record { same = refl; cells = tt; read = λ e. cc; read' = λ e. cc }) refl))
   before_next t n ks ks' ms ns at (v_array {e = elem} {v = true} {m = m} {o = o}) (v_array {m = m'} {o = o'}) a b c d i j e0 k =
       let e : m ≡ m' = arr_max m o m' o' e0 in
       inr (inr (
@@ -167,13 +179,13 @@ module _ (two : Readings) (X : List Pair → Type 0) (map : List Pair) (one : On
                 meet,
                 (refl, ap₂ (λ u v. Actual false u v 0) eo e),
                 λ x' y'.
-                    k _ (record { same = ap₂ tree.Arr e eo; cells = tt }) (ap (λ u. replicate u elem.0) (sym x'.1 ∙ y'.1)),
+                    k _ (record { same = ap₂ tree.Arr e eo; cells = tt; read = λ e. cc; read' = λ e. cc }) (ap (λ u. replicate u elem.0) (sym x'.1 ∙ y'.1)),
               )),
         )),
       ))
   before_next t n ks ks' ms ns at (v_array {e = elem} {v = false} {m = m} {o = o}) (v_array {m = m'} {o = o'}) a b c d i j e0 k =
       let e : m ≡ m' = arr_max m o m' o' e0 in
-      k at (record { same = ap₂ tree.Arr e (a.0 ∙ sym b.0); cells = tt }) (ap (λ u. replicate u elem.0) (a.1 ∙ e ∙ sym b.1))
+      k at (record { same = ap₂ tree.Arr e (a.0 ∙ sym b.0); cells = tt; read = λ e. cc; read' = λ e. cc }) (ap (λ u. replicate u elem.0) (a.1 ∙ e ∙ sym b.1))
   before_next t n ks ks' ms ns at (v_text {m = m} {os = os}) (v_text {m = m'} {os = os'}) a b c d i j e0 k =
       let e : m ≡ m' = text_max m os m' os' e0 in
       inr (inr (
@@ -200,16 +212,16 @@ module _ (two : Readings) (X : List Pair → Type 0) (map : List Pair) (one : On
                       meet,
                       (refl, ap (λ u. Text (replicate u 0)) el),
                       λ x' y'.
-                          k _ (record { same = ap₂ tree.Text e (same_text _ os os' el x'.1 y'.1); cells = tt }) refl,
+                          k _ (record { same = ap₂ tree.Text e (same_text _ os os' el x'.1 y'.1); cells = tt; read = λ e. cc; read' = λ e. cc }) refl,
                     )),
               )),
         )),
       ))
   before_next t n ks ks' ms ns at (v_union {tag = tag} {enc = enc} {arms = arms} {d = default} {v = v}) (v_union {v = v'}) a b c d i j e k =
       tag_next n (type_at table tag.0) arms default v v' ms ns at (λ p ev.
-      k p (record { same = ap tree.Union ev; cells = tt }) (ap (λ u. child_types (Some (def.Union tag enc arms default)) (tree.Union u) ks) ev))
-  before_next t n ks ks' ms ns at v_pointer v_pointer a b c d i j e k =
-      inr (inr ([], one, meet, (refl, refl), λ _ _. inr (inr ([], one, meet, (refl, refl), λ x y. k _ (record { same = refl; cells = cells_match two.left two.right two.left_low two.right_low _ _ _ _ c d x.1 y.1 }) refl))))
+      k p (record { same = ap tree.Union ev; cells = tt; read = λ e. cc; read' = λ e. cc }) (ap (λ u. child_types (Some (def.Union tag enc arms default)) (tree.Union u) ks) ev))
+  before_next t n ks ks' ms ns at (v_pointer {k = kl} {to = to} {c = p}) (v_pointer {c = q}) a b c d i j e k =
+      inr (inr ([], one, meet, (refl, refl), λ _ _. inr (inr ([], one, meet, (refl, refl), λ x y. k _ (record { same = refl; cells = cells_match two.left two.right two.left_low two.right_low kl p q _ (no_null kl to p c) (no_null kl to q d) x.1 y.1; read = λ e. cc; read' = λ e. cc }) refl))))
   before_next t n ks ks' ms ns at (v_context {i = id}) (v_context {i = id'}) a b c d i j e k =
       inr (inr (
         [],
@@ -222,7 +234,7 @@ module _ (two : Readings) (X : List Pair → Type 0) (map : List Pair) (one : On
           meet,
           (refl, refl),
           λ x y.
-              k _ (record { same = ap₂ tree.Context (sym x.1.0 ∙ y.1.0) (ids two.order id id' (sixteen _ _ id id' i j) (sym x.1.1 ∙ y.1.1)); cells = tt }) refl,
+              k _ (record { same = ap₂ tree.Context (sym x.1.0 ∙ y.1.0) (ids two.order id id' (sixteen _ _ id id' i j) (sym x.1.1 ∙ y.1.1)); cells = tt; read = λ e. cc; read' = λ e. cc }) refl,
         )),
       ))
   before_next t n {d = dd} {l' = l'} ks ks' ms ns at (v_unread x) y a b c d i j e k =
@@ -291,7 +303,7 @@ module _ (two : Readings) (X : List Pair → Type 0) (map : List Pair) (one : On
       let rest : (p : ℕ) → Match Cells d l l' → kinds ≡ kinds'
       → N p (B ++ (C ++ (D ++ ms))) (B' kinds' ++ (C' (child_agreements d ks') ++ (D' (nodes ks') ++ ns))) =
       λ p m e. subst (λ y. N p (B ++ (C ++ (D ++ ms))) (B' y ++ (C' (child_agreements d ks') ++ (D' (nodes ks') ++ ns)))) e
-      (in_place_next kinds (n + 1) ks ks' a.1 (subst (λ y. Known g' table y ks') (sym e) b.1) (x.1 e)
+      (in_place_next kinds (n + 1) ks ks' (a.1 m.read) (subst (λ y. Known g' table y ks') (sym e) (b.1 m.read')) (x.1 e)
       (C ++ (D ++ ms)) (C' (child_agreements d ks') ++ (D' (nodes ks') ++ ns)) p
       (λ p' mk.
       let w : child_agreements d ks ≡ child_agreements d ks' = child_agreements_same Cells table d ks ks' (matched_number Cells table kinds ks ks' mk) in

@@ -99,7 +99,7 @@ module _ (C : Class → Option ℕ → Option ℕ → Type 0) (g g' : Graph) whe
       let f : TypedNode → List Pending = pointer table h in
       let f' : TypedNode → List Pending = pointer table h' in
       let own = by_match d (is_pointer l) (cell_in l) (cell_in l') h h' n (first_agreements agreements) m.0.cells a.0.pointee b.0.pointee in
-      let kids = nodes_match table h h' (child_types d l ks) (child_agreements d ks) (n + 1) ks ks' a.1 (subst (λ x. Known g' table x ks') (sym e) b.1) m.1 in
+      let kids = nodes_match table h h' (child_types d l ks) (child_agreements d ks) (n + 1) ks ks' (a.1 m.0.read) (subst (λ x. Known g' table x ks') (sym e) (b.1 m.0.read')) m.1 in
       let rest = nodes_match table h h' types (rest_agreements agreements) (n + 1 + nodes ks) ts us a.2 b.2 m.2 in
       let whole : AllPointers
       (pointer_by d (is_pointer l) (cell_in l) h n (first_agreements agreements) ++ (flat_map f A ++ flat_map f B))
