@@ -2,6 +2,7 @@ pub mod Big
 pub mod Carried
 pub mod Check
 pub mod Forms
+pub mod HoistedMaxes
 pub mod Identifiers
 pub mod KnownNodes
 pub mod Matching
