@@ -15,5 +15,6 @@ pub mod NextWhole
 pub mod Plain
 pub mod PlainBad
 pub mod Ranges
+pub mod RootsMeeting
 pub mod Rows
 pub mod Standings
