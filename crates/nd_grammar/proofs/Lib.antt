@@ -10,6 +10,8 @@ pub mod Next
 pub mod NextDeferral
 pub mod NextInPlace
 pub mod NextPending
+pub mod NextPipes
+pub mod NextRootTests
 pub mod NextSteps
 pub mod NextWhole
 pub mod Plain
