@@ -13,6 +13,7 @@ pub mod NextPending
 pub mod NextPipes
 pub mod NextRootTests
 pub mod NextSteps
+pub mod NextStream
 pub mod NextWhole
 pub mod Plain
 pub mod PlainBad

@@ -55,6 +55,11 @@ module _ (C : Class → Option ℕ → Option ℕ → Type 0) (table : Table) (e
   matched_join (suc k) (more t ts) none h h' a b = absurd (omega arith)
   matched_join (suc k) (more (node l ks) ts) (more (node l' ks') us) h h' a b = (a.0, a.1, matched_join k ts us (omega arith) (omega arith) a.2 b)
 
+-- the pipes match
+abbrev pub PipesMatch : (Class → Option ℕ → Option ℕ → Type 0) → Table → List Root → List Tree → List Tree → Type 0
+PipesMatch C table (r ∷ rs) (v ∷ vs) (v' ∷ vs') = Matched C table (r.of ∷ []) (more v none) (more v' none) × PipesMatch C table rs vs vs'
+PipesMatch C table _ _ _ = Unit {0}
+
 shaped : (l : Label) (A : Type 0) → (l ≡ tree.Unread) ⊎ ((false ≡ true) × A) → (l ≡ tree.Unread) ⊎ (l ≡ tree.Pipe)
 shaped l A (inl e) = inl e
 shaped l A (inr s) = let e : false ≡ true = s.0 in cc
@@ -151,12 +156,6 @@ module _ (two : Readings) (X : List Pair → Type 0) (table : Table) (laid : Hoi
       × PipesKnown rs vs vs'
   PipesKnown _ _ _ = ⊥
 
-  -- the pipes match
-  abbrev pub PipesMatch : List Root → List Tree → List Tree → Type 0
-  PipesMatch (r ∷ rs) (v ∷ vs) (v' ∷ vs') = Matched (CellsMatch two.left two.right) table (r.of ∷ []) (more v none) (more v' none) × PipesMatch rs vs vs'
-  PipesMatch _ _ _ = Unit {0}
-
-
   module _ (i : ℕ) where
     abbrev H : Home
     H = home.Root i
@@ -210,7 +209,7 @@ module _ (two : Readings) (X : List Pair → Type 0) (table : Table) (laid : Hoi
             none_none k = tt
 
   pub pipes_next : (i : ℕ) (rs : List Root) (vs vs' : List Tree) (cuts cuts' : List (List ℕ)) → PipesKnown rs vs vs' → AllCut vs cuts → AllCut vs' cuts'
-      → (ms ns : List Entry) (at : ℕ) → ((p : ℕ) → PipesMatch rs vs vs' → N p ms ns)
+      → (ms ns : List Entry) (at : ℕ) → ((p : ℕ) → PipesMatch (CellsMatch two.left two.right) table rs vs vs' → N p ms ns)
       → N at (pipes_entries table i rs vs cuts ++ ms) (pipes_entries table i rs vs' cuts' ++ ns)
   pipes_next i [] [] [] cuts cuts' a c c' ms ns at next = next at tt
   pipes_next i [] [] (v' ∷ vs') cuts cuts' a c c' ms ns at next = absurd a
