@@ -17,7 +17,14 @@ pub mod NextStream
 pub mod NextWhole
 pub mod Plain
 pub mod PlainBad
+pub mod PlainConforms
+pub mod PlainNumbers
+pub mod PlainRefused
+pub mod PlainVerdict
+pub mod PlainSteps
+pub mod PlainStreams
 pub mod Ranges
 pub mod RootsMeeting
 pub mod Rows
 pub mod Standings
+pub mod PlainSides

@@ -3,17 +3,12 @@ use Rattle.std.proofs.Common.{◌≡◌, ℕ, ◌+◌, ◌*◌, ◌-◌, ◌^◌
 use Rattle.std.proofs.lemmas.Bool.Decides.{nat_tests}
 use Rattle.std.proofs.lemmas.Int.{ints}
 use Rattle.std.specs.Prelude.{int_le}
-use Rattle.std.specs.List.{AllByRecursion}
 use Rattle.nd_base.specs.declared.octets.Order.{Order}
 use Rattle.nd_base.specs.declared.octets.Order.TheVariants.{Big, Little}
 use Rattle.nd_types.specs.declared.types.Primitive.{Primitive}
 use Rattle.nd_types.specs.declared.types.Primitive.TheVariants.{Boolean, Char, Byte, Small, UnsignedSmall, Short, UnsignedShort, Long, UnsignedLong, Hyper, UnsignedHyper}
 use Rattle.nd_types.specs.Table.{width, in_range}
-use Rattle.nd_grammar.specs.Number.{unsigned, value_of_octets, as_signed, truth}
-
--- octets are numbers from 0 to 255
-abbrev pub AreOctets : List ℕ → Type 0
-AreOctets os = AllByRecursion (λ b. b < 256) os
+use Rattle.nd_types.specs.Number.{AreOctets, unsigned, value_of_octets, as_signed, truth}
 
 below_1 : (order : Order) (os : List ℕ) → length os ≡ 1 → AreOctets os → unsigned order os < 2 ^ 8
 below_1 Big (a ∷ []) e h = omega arith

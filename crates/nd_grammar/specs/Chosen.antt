@@ -7,7 +7,7 @@ use Rattle.nd_graph.specs.Tree.{Tree, count}
 use Rattle.nd_graph.specs.Deferral.{Step, Deferral, due_roots, before_pipes}
 use Rattle.nd_graph.specs.Canon.{canonical_number, named_cells}
 use Rattle.nd_grammar.specs.Stream.{representation, kids_of}
-use Rattle.nd_grammar.specs.Number.{spelling, written}
+use Rattle.nd_types.specs.Number.{spelling, written}
 use Rattle.nd_grammar.specs.Entry.{Kind, Entry, Align, Max, Offset, Actual, Chunk, Number, Num, Tag, Text, Context, Test, Unread, size_at, gap}
 use Rattle.nd_grammar.specs.Represents.{id_octets}
 

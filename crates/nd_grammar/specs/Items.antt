@@ -5,7 +5,7 @@ use Rattle.nd_graph.specs.declared.item.Home.{Home}
 use Rattle.nd_graph.specs.declared.item.Item.{Item}
 use Rattle.nd_graph.specs.declared.item.ItemKind.{ItemKind}
 use Rattle.nd_graph.specs.declared.item.ItemKind.TheVariants as item
-use Rattle.nd_grammar.specs.Number.{unsigned, value_of_octets}
+use Rattle.nd_types.specs.Number.{unsigned, value_of_octets}
 use Rattle.nd_grammar.specs.Entry.{Kind, Entry, Align, Max, Offset, Actual, Chunk, Number, Num, Tag, Text, Context, Test, Unread, size_at, EntryAt}
 use Rattle.nd_grammar.specs.Represents.{piece}
 

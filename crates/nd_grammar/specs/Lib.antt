@@ -1,4 +1,3 @@
-pub mod Number
 pub mod Entry
 pub mod InPlace
 pub mod Stream
@@ -7,5 +6,7 @@ pub mod Refusal
 pub mod Bad
 pub mod Items
 pub mod Chosen
+pub mod Prefix
 pub mod Plain
 pub mod Examples
+pub mod Primitives

@@ -1,6 +1,7 @@
--- Operations whose roots are plain numbers.
-use Rattle.std.specs.Prelude.{◌≡◌, ℕ, ◌+◌, suc, zero, ℤ, Bool, true, false, cond, leb, List, [], ◌∷◌, length, map, take, drop, Option, Some, None}
+-- Operations whose roots are plain numbers: what octets hold for them, without a graph.
+use Rattle.std.specs.Prelude.{◌≡◌, ℕ, ◌+◌, ◌*◌, ◌≤◌, suc, zero, ℤ, Bool, true, false, cond, leb, List, [], ◌∷◌, length, map, take, drop, Option, Some, None}
 use Rattle.nd_base.specs.declared.octets.Order.{Order}
+use Rattle.nd_base.specs.declared.TheConstants.{STREAM_LIMIT}
 use Rattle.nd_types.specs.declared.types.Primitive.{Primitive}
 use Rattle.nd_types.specs.declared.types.TypeDef.TheVariants as def
 use Rattle.nd_types.specs.Table.{Table, type_at, width}
@@ -8,8 +9,11 @@ use Rattle.nd_types.specs.Roots.{Root}
 use Rattle.nd_graph.specs.declared.value.Graph.{Graph}
 use Rattle.nd_graph.specs.Tree as tree
 use Rattle.nd_graph.specs.Tree.{Tree, node, none}
+use Rattle.nd_graph.specs.Setting.{Setting, root_list}
+use Rattle.nd_grammar.specs.declared.reason.Reason.{Reason}
+use Rattle.nd_grammar.specs.declared.reason.Reason.TheVariants.{Truncated}
 use Rattle.nd_grammar.specs.Entry.{gap}
-use Rattle.nd_grammar.specs.Number.{value_of_octets}
+use Rattle.nd_types.specs.Number.{value_of_octets}
 
 -- the roots are of these primitives, and have no attributes
 abbrev pub ArePlain : Table → List Root → List Primitive → Type 0
@@ -17,6 +21,12 @@ ArePlain table [] [] = Unit {0}
 ArePlain table (r ∷ rs) (p ∷ ps) =
     (r.is_pipe ≡ false) × (r.vars ≡ []) × (type_at table r.of ≡ Some (def.Prim p)) × ArePlain table rs ps
 ArePlain table _ _ = ⊥
+
+-- A plain side: its roots are of these primitives, and so few that they end within the limit of a stream. (A number takes fewer
+-- than 16 octets with the gap before it.)
+pub record IsPlain (w : Setting) (ps : List Primitive) : Type 0 where
+  pub plain : ArePlain w.table (root_list w) ps
+  pub few : 16 * length ps ≤ STREAM_LIMIT
 
 abbrev pub number : ℤ → Tree
 number z = node (tree.Num z) none
@@ -28,10 +38,28 @@ abbrev pub with : ℤ → Option (List ℤ) → Option (List ℤ)
 with z None = None
 with z (Some zs) = Some (z ∷ zs)
 
--- the numbers that octets hold from a place on, where they are long enough
+-- the numbers that octets hold from a place on, each at the next multiple of its width, where the octets are long enough
 abbrev pub numbers_at : Order → List Primitive → ℕ → List ℕ → Option (List ℤ)
 numbers_at order [] at octets = Some []
 numbers_at order (p ∷ ps) at octets =
     let a = at + gap at (width p) in
     cond (leb (a + width p) (length octets))
     (with (value_of_octets order p (take (width p) (drop a octets))) (numbers_at order ps (a + width p) octets)) None
+
+-- the place behind the last of them
+abbrev pub plain_end : List Primitive → ℕ → ℕ
+plain_end [] at = at
+plain_end (p ∷ ps) at = plain_end ps (at + gap at (width p) + width p)
+
+-- The octets hold a number for each primitive, the n-th octet is the end of the last, and the graph is these numbers.
+pub record AreNumbersOf (order : Order) (ps : List Primitive) (octets : List ℕ) (n : ℕ) (g : Graph) : Type 0 where
+  pub numbers : List ℤ
+  pub read : numbers_at order ps 0 octets ≡ Some numbers
+  pub ends : n ≡ plain_end ps 0
+  pub graph : g ≡ plain_graph numbers
+
+-- The octets are too short for the numbers, and that is the refusal: Truncated, at their end.
+pub record AreCutShort (order : Order) (ps : List Primitive) (octets : List ℕ) (place : ℕ) (why : Reason) : Type 0 where
+  pub short : numbers_at order ps 0 octets ≡ None
+  pub at_end : place ≡ length octets
+  pub truncated : why ≡ Truncated

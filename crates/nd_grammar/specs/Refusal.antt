@@ -13,11 +13,11 @@ use Rattle.nd_graph.specs.declared.item.Home.{Home}
 use Rattle.nd_graph.specs.declared.item.Home.TheVariants as home
 use Rattle.nd_grammar.specs.declared.reason.Reason.{Reason}
 use Rattle.nd_grammar.specs.declared.reason.Reason.TheVariants as reason
-use Rattle.nd_grammar.specs.Number.{unsigned, value_of_octets}
+use Rattle.nd_types.specs.Number.{unsigned, value_of_octets}
 use Rattle.nd_grammar.specs.Entry.{Kind, Entry, Align, Max, Offset, Actual, Chunk, Number, Num, Tag, Text, Context, Test, Unread, size_at, EntryAt}
 use Rattle.nd_grammar.specs.Represents.{piece}
 
--- an entry would end drop the limit of a stream; a gap never does, since the limit is a multiple of every alignment
+-- an entry would end past the limit of a stream; a gap never does, since the limit is a multiple of every alignment
 abbrev pub is_long : ℕ → Kind → Bool
 is_long at (Align n) = false
 is_long at (Test attr wanted found) = false

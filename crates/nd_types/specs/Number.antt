@@ -1,10 +1,15 @@
 -- The numbers that octets spell.
-use Rattle.std.specs.Prelude.{ℕ, ◌+◌, ◌-◌, ◌*◌, ◌^◌, ◌/◌, ◌%◌, zero, suc, ℤ, pos, negsuc, ◌-ℤ◌, Bool, true, false, cond, ltb, eqb, List, [], ◌∷◌, length, reverse, Option, Some, None}
+use Rattle.std.specs.Prelude.{ℕ, ◌+◌, ◌-◌, ◌*◌, ◌^◌, ◌<◌, ◌/◌, ◌%◌, zero, suc, ℤ, pos, negsuc, ◌-ℤ◌, Bool, true, false, cond, ltb, eqb, List, [], ◌∷◌, length, reverse, Option, Some, None}
+use Rattle.std.specs.List.{AllByRecursion}
 use Rattle.nd_base.specs.declared.octets.Order.{Order}
 use Rattle.nd_base.specs.declared.octets.Order.TheVariants.{Big, Little}
 use Rattle.nd_types.specs.declared.types.Primitive.{Primitive}
 use Rattle.nd_types.specs.declared.types.Primitive.TheVariants.{Boolean}
 use Rattle.nd_types.specs.Table.{width, is_signed}
+
+-- octets are numbers from 0 to 255
+abbrev pub AreOctets : List ℕ → Type 0
+AreOctets octets = AllByRecursion (λ b. b < 256) octets
 
 -- the number of octets whose least significant stands first
 abbrev pub little : List ℕ → ℕ

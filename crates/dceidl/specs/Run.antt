@@ -1,0 +1,56 @@
+-- What a run comes to, and how it is written.
+use Rattle.std.specs.Prelude.{◌≡◌, ◌⊎◌, ℕ, List, Option, None, Some, codes}
+use Rattle.nd_base.specs.declared.octets.Order.{Order}
+use Rattle.nd_types.specs.declared.interface.Interface.{Interface}
+use Rattle.nd_types.specs.declared.types.Operation.{Operation}
+use Rattle.dceidl.specs.Words.{Command, command, Decode, Help, Version}
+use Rattle.dceidl.specs.Outside.{FilesSeen, SourceSeen, SinkSeen, HasRisen, Got, GotPrefix, IsAsBefore}
+use Rattle.dceidl.specs.Decode.{IsCause, IsDecoded, IsReady, inputs_of}
+use Rattle.dceidl.specs.Lines.{line_of, status_of}
+use Rattle.dceidl.specs.declared.decode.Refusal.{Refusal}
+use Rattle.dceidl.specs.declared.outcome.Outcome.{Outcome}
+use Rattle.dceidl.specs.declared.outcome.Outcome.TheVariants.{Done, Refused, Wanting}
+use Rattle.dceidl.specs.declared.TheConstants.{HELP, VERSION}
+
+-- `decode` comes to this outcome
+abbrev pub IsDecodeOutcome : FilesSeen → SourceSeen → List ℕ → List ℕ → Order → Outcome → Type 0
+IsDecodeOutcome f s idl op order (Done text) =
+    (i : Interface) × (o : Operation) × IsReady f idl op i o × IsDecoded s (inputs_of i o) order text
+IsDecodeOutcome f s idl op order (Refused status line) =
+    (refusal : Refusal) × IsCause f s idl op order refusal × (status ≡ status_of refusal) × (line ≡ line_of idl op refusal)
+IsDecodeOutcome f s idl op order Wanting = Unit {0}
+
+-- What a command comes to; None is words that are no command. Memory may be wanting at any time.
+abbrev pub IsOutcome : FilesSeen → SourceSeen → Option Command → Outcome → Type 0
+IsOutcome f s None outcome = (outcome ≡ Refused 2 (codes "words refused\n")) ⊎ (outcome ≡ Wanting)
+IsOutcome f s (Some Help) outcome = (outcome ≡ Done HELP.now) ⊎ (outcome ≡ Wanting)
+IsOutcome f s (Some Version) outcome = (outcome ≡ Done VERSION.now) ⊎ (outcome ≡ Wanting)
+IsOutcome f s (Some (Decode idl op order)) outcome = IsDecodeOutcome f s idl op order outcome
+
+-- `write fault` stands on notes, or a prefix of it where notes failed too
+abbrev pub IsWarned : SinkSeen → Type 0
+IsWarned notes = Got notes (codes "write fault\n") ⊎ (HasRisen notes.faults × GotPrefix notes (codes "write fault\n"))
+
+-- The text is given whole and the status is 0, or out failed, it is cut short, and the status is 4.
+abbrev pub IsGiven : SinkSeen → SinkSeen → List ℕ → ℕ → Type 0
+IsGiven out notes text status =
+    ((status ≡ 0) × Got out text × IsAsBefore notes)
+    ⊎ ((status ≡ 4) × HasRisen out.faults × GotPrefix out text × IsWarned notes)
+
+-- The line is told whole under its status, or notes failed, it is cut short, and the status is 4.
+abbrev pub IsTold : SinkSeen → List ℕ → ℕ → ℕ → Type 0
+IsTold notes line own status =
+    ((status ≡ own) × Got notes line)
+    ⊎ ((status ≡ 4) × HasRisen notes.faults × GotPrefix notes line)
+
+-- How an outcome is written, and the status of the run. Status 4 takes the place of any other.
+abbrev pub IsDelivered : SinkSeen → SinkSeen → Outcome → ℕ → Type 0
+IsDelivered out notes (Done text) status = IsGiven out notes text status
+IsDelivered out notes (Refused own line) status = IsAsBefore out × IsTold notes line own status
+IsDelivered out notes Wanting status = IsAsBefore out × IsTold notes (codes "want of memory\n") 5 status
+
+-- the whole of a run: an outcome with its cause, and how it was written
+pub record HasRun (words : List (List ℕ)) (f : FilesSeen) (s : SourceSeen) (out notes : SinkSeen) (status : ℕ) : Type 0 where
+  pub outcome : Outcome
+  pub caused : IsOutcome f s (command words) outcome
+  pub delivered : IsDelivered out notes outcome status

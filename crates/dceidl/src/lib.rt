@@ -1,0 +1,35 @@
+//! The program `dceidl` as a library: what a command line asks for is done over sources, sinks and files that its caller makes.
+#![tactic(auto)]
+
+mod decode;
+mod input;
+mod outcome;
+mod run;
+mod words;
+
+pub use decode::{OctetsFault, Refusal};
+pub use outcome::Outcome;
+pub use run::{Status, run};
+pub use words::Words;
+
+/// How many octets of the input count. One more is read, and no octet past it changes an answer.
+pub const INPUT_LIMIT: u32 = 16_777_216;
+
+/// What `--help` prints.
+pub const HELP: &str = "\
+usage: dceidl decode IDL - OP in little
+       dceidl --help
+       dceidl --version
+
+decode  reads the octets of an operation's [in] parameters from standard input, in NDR
+        (C706, chapter 14), and writes their values to standard output as text.
+        IDL is the path of a file of IDL, `-` stands for no attribute file, OP is the name
+        of an operation, and `little` is the order of an integer's octets.
+
+Refusals go to standard error in one line. The status is 0 done, 1 octets refused,
+2 words refused, 3 input failed, 4 output failed, 5 memory wanting, 6 IDL refused,
+7 IDL absent, 9 IDL not read.
+";
+
+/// What `--version` prints.
+pub const VERSION: &str = "dceidl 0.1.0\n";

@@ -1,0 +1,45 @@
+// Ties to an interface.
+ghost use Rattle.std.specs.Prelude.{◌≡◌};
+
+use crate::Interface;
+use crate::seen::Seen;
+use std::marker::Model;
+
+/// A tie to an interface: a value without run-time content, which contracts see as that interface.
+#[derive(Drop)]
+pub struct Tie {
+    seen: Seen<Interface>,
+}
+
+impl Model for Tie {
+    ghost use Rattle.nd_types.specs.declared.interface.Interface.{Interface};
+    ghost use Rattle.nd_types.specs.contracts.interface.Interface as interface;
+
+    ghost Value = { Interface };
+
+    ghost coded = { interface.the_row.coded };
+
+    ghost view = { λ t. t.seen.value };
+}
+
+impl Interface {
+    /// The tie to this interface. It takes no memory.
+    pub fn tie(&self) -> Tie
+        ensures { result ≡ self.now }
+    {
+        Tie {
+            seen: Seen::of(self),
+        }
+    }
+}
+
+impl Tie {
+    /// An equal tie. It takes no memory.
+    pub fn again(&self) -> Tie
+        ensures { result ≡ self.now }
+    {
+        Tie {
+            seen: self.seen.again(),
+        }
+    }
+}

@@ -1,0 +1,62 @@
+-- A plain operation's [in] parameters are a plain side, and its octets are octets.
+use Rattle.std.proofs.Common.{◌≡◌, ℕ, zero, suc, ◌+◌, ◌*◌, ◌<◌, ◌≤◌, ◌^◌, Bool, true, false, List, [], ◌∷◌, ◌++◌, length, Option, Some, None, refl, ap, sym, ◌∙◌, subst, map, arith, get_or}
+use Rattle.std.specs.Prelude.{All}
+use Rattle.std.specs.List.{slice_get}
+use Rattle.std.proofs.lemmas.List.{length-map}
+use Rattle.std.proofs.lemmas.Option.{slice_get_within, get_or_from_slice_get}
+use Rattle.nd_types.specs.declared.types.TypeDef.{TypeDef}
+use Rattle.nd_types.specs.declared.types.TypeDef.TheVariants as def
+use Rattle.nd_types.specs.declared.types.Param.{Param}
+use Rattle.nd_types.specs.declared.types.Operation.{Operation}
+use Rattle.nd_types.specs.declared.interface.Interface.{Interface}
+use Rattle.nd_types.specs.declared.types.Side.TheVariants as side
+use Rattle.nd_types.specs.Table.{Table, type_at}
+use Rattle.nd_types.specs.Kinds.{basic_types}
+use Rattle.nd_types.specs.Roots.{roots_of}
+use Rattle.nd_types.specs.Plain.{IsPlainParam, IsPlainOperation, IsPlainInterface, plain_roots, is_plain_type}
+use Rattle.nd_grammar.proofs.PlainSides.{plain_side}
+use Rattle.nd_types.specs.Number.{AreOctets}
+use Rattle.nd_graph.specs.Setting.{Setting}
+use Rattle.nd_graph.specs.Fitting.{setting_of, IsFit}
+use Rattle.nd_grammar.specs.Plain.{ArePlain, IsPlain}
+use Rattle.nd_base.specs.declared.octets.Order.{Order}
+use Rattle.nd_types.specs.declared.types.Primitive.{Primitive}
+use Rattle.std.proofs.Common.{ℤ}
+use Rattle.nd_graph.specs.Tree.{Tree, Referent}
+use Rattle.nd_grammar.specs.declared.reason.Reason.TheVariants.{Truncated}
+use Rattle.nd_grammar.specs.Bad.{Bad}
+use Rattle.nd_grammar.specs.Prefix.{BeginsWith}
+use Rattle.nd_grammar.specs.Plain.{numbers_at, plain_end, plain_graph, number}
+use Rattle.nd_grammar.proofs.PlainNumbers.{numbers_begin}
+use Rattle.nd_grammar.proofs.PlainBad.{short_is_bad}
+use Rattle.plain_ndr.specs.Decoding.{inputs_of}
+use Rattle.nd_grammar.specs.Primitives.{param_primitive, primitive_of}
+
+pub octets_by_index : (os : List ℕ) → ((i : ℕ) → get_or os i 0 < 2 ^ 8) → AreOctets os
+octets_by_index [] h = tt
+octets_by_index (b ∷ os) h = (h 0, octets_by_index os (λ i. h (suc i)))
+
+module _ (i : Interface) (n : ℕ) (o : Operation) (order : Order) (os : List ℕ) (ps : List Primitive)
+    (plain : IsPlainInterface i.types i.operations) (there : slice_get i.operations n ≡ Some o) (octets : AreOctets os)
+    (of : ps ≡ map (param_primitive i.types) o.params) where
+  side_is : IsPlain (inputs_of i o) ps
+  side_is = subst (λ qs. IsPlain (inputs_of i o) qs) (sym of) (plain_side i.types i.operations n o plain there)
+
+  -- the numbers that octets hold are decoded
+  pub decoded : (roots : List Tree) (taken : ℕ) → (zs : List ℤ) × (numbers_at order ps 0 os ≡ Some zs) × (roots ≡ map number zs) → taken ≡ plain_end ps 0
+      → BeginsWith (inputs_of i o) order os taken (record { roots = roots; cells = [] })
+  decoded roots taken (zs, read, same) ends =
+      subst (λ rs. BeginsWith (inputs_of i o) order os taken (record { roots = rs; cells = [] })) (sym same)
+      (subst (λ k. BeginsWith (inputs_of i o) order os k (plain_graph zs)) (sym ends) (numbers_begin (inputs_of i o) order ps os zs side_is octets read))
+
+  -- octets that are too short are refused
+  pub cut_short : numbers_at order ps 0 os ≡ None → Bad (inputs_of i o) order os (length os) Truncated
+  cut_short e = short_is_bad (inputs_of i o) order ps os side_is octets e
+
+  -- the graph of the numbers fits the operation
+  pub fits_by : (tied : Interface) (roots : List Tree) (cells : List Referent) → (zs : List ℤ) × (numbers_at order ps 0 os ≡ Some zs) × (roots ≡ map number zs)
+      → cells ≡ [] → tied ≡ i → IsFit (record { graph = record { roots = roots; cells = cells }; op = n; side = side.In; interface = tied })
+  fits_by tied roots cells read none tie =
+      subst (λ t. IsFit (record { graph = record { roots = roots; cells = cells }; op = n; side = side.In; interface = t })) (sym tie)
+      (subst (λ cs. IsFit (record { graph = record { roots = roots; cells = cs }; op = n; side = side.In; interface = i })) (sym none)
+      (record { operation = o; is_there = there; conforms = (decoded roots (plain_end ps 0) read refl).conforms }))

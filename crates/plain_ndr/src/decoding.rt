@@ -1,0 +1,77 @@
+// Decoding of the [in] parameters of a plain operation.
+ghost use Rattle.std.specs.Prelude.{◌≡◌, ℕ, ◌<◌, ◌^◌, List, length, Some, IfOk, IfErr};
+ghost use Rattle.std.specs.List.{slice_get};
+ghost use Rattle.nd_types.specs.declared.types.Operation.{Operation};
+ghost use Rattle.nd_types.specs.declared.types.Side.TheVariants as side;
+ghost use Rattle.nd_types.specs.Plain.{IsPlainInterface};
+ghost use Rattle.nd_grammar.specs.Prefix.{BeginsWith};
+ghost use Rattle.plain_ndr.specs.Decoding.{IsFault, inputs_of};
+
+use crate::numbers::{NumbersFault, read_numbers};
+use crate::primitives::primitives;
+use nd_base::Order;
+use nd_grammar::Reason;
+use nd_graph::{Cells, Fit, Graph};
+use nd_types::{Interface, Side};
+use std::alloc::Global;
+use thiserror::Error;
+
+/// What octets were decoded to: the graph, and how many octets it took.
+#[derive(Drop)]
+pub struct Decoded {
+    pub fit: Fit,
+    pub taken: u32,
+}
+
+/// Why octets were not decoded.
+#[derive(Clone, Copy, Debug, PartialEq, Eq, Error)]
+pub enum DecodeFault {
+    /// An allocation failed.
+    #[error("out of memory")]
+    Memory,
+    /// The octets are no stream of the operation's values.
+    #[error("refused at {place}")]
+    Bad { place: u32, reason: Reason },
+}
+
+/// Decodes the values of the [in] parameters of a plain operation from the front of octets. Each octet is looked at once. It takes
+/// memory for the values that were read, 32 octets each, and for a list of the parameters' types.
+pub fn decode(
+    alloc: Global,
+    interface: &Interface,
+    op: u32,
+    order: Order,
+    octets: &[u8],
+) -> Result<Decoded, DecodeFault>
+    requires plain { IsPlainInterface interface.now.types interface.now.operations }
+    requires known { op < length interface.now.operations }
+    requires short { length octets.now < 2 ^ 32 }
+    ensures decoded { IfOk result (λ d. (o : Operation) → slice_get interface.now.operations op ≡ Some o
+        → BeginsWith (inputs_of interface.now o) order octets.now d.taken d.fit.graph) }
+    ensures of { IfOk result (λ d. (d.fit.op ≡ op) × (d.fit.side ≡ side.In) × (d.fit.interface ≡ interface.now)) }
+    ensures refused { IfErr result (λ e. (o : Operation) → slice_get interface.now.operations op ≡ Some o
+        → IsFault (inputs_of interface.now o) order octets.now e) }
+{
+    let Some(operation) = interface.operations.get(op as usize) else {
+        unreachable!()
+    };
+    let prims = match primitives(alloc, &interface.types, &operation.params) {
+        Ok(prims) => prims,
+        Err(_) => return Err(DecodeFault::Memory),
+    };
+    match read_numbers(alloc, order, prims.as_slice(), octets) {
+        Ok((roots, taken)) => {
+            let cells = Cells::new(alloc);
+            let fit = Fit::adopt(interface.tie(), Graph { roots, cells }, op, Side::In);
+            Ok(Decoded {
+                fit,
+                taken: taken as u32,
+            })
+        }
+        Err(NumbersFault::Memory) => Err(DecodeFault::Memory),
+        Err(NumbersFault::Short) => Err(DecodeFault::Bad {
+            place: octets.len() as u32,
+            reason: Reason::Truncated,
+        }),
+    }
+}

@@ -1,0 +1,8 @@
+//! Decoding of plain operations, whose parameters are signed integers alone.
+#![tactic(auto)]
+
+mod decoding;
+mod numbers;
+mod primitives;
+
+pub use decoding::{DecodeFault, Decoded, decode};

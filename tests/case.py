@@ -1,0 +1,120 @@
+"""What a file of cases is written with: a case, and short words for what it holds."""
+
+from __future__ import annotations
+
+import os
+from dataclasses import dataclass, field
+from enum import Enum
+from pathlib import Path
+from typing import Callable, Mapping, Sequence, Union
+
+ROOT = Path(__file__).resolve().parent.parent
+
+
+class Stream(Enum):
+    """A standard stream that is no pipe between the runner and the program. The value is the shell's redirection."""
+
+    CLOSED = "&-"
+    """The stream is closed before the program begins."""
+    FULL = "/dev/full"
+    """Of out and notes: a device on which each write fails."""
+    FOLDER = "."
+    """Of the input: a folder, of which each read fails."""
+    ENDLESS = "/dev/zero"
+    """Of the input: zero octets without an end."""
+    UNREAD = ""
+    """Of out and notes: a pipe that nobody reads any more. The runner makes it."""
+
+
+CLOSED, FULL, FOLDER, ENDLESS, UNREAD = Stream
+
+
+@dataclass(frozen=True)
+class OneAtATime:
+    """An input of which each octet is written only once the program has taken the one before."""
+
+    octets: bytes
+
+
+@dataclass(frozen=True)
+class Sparse:
+    """An input of so many zero octets, from a file that takes no room."""
+
+    length: int
+
+
+@dataclass(frozen=True)
+class Begins:
+    """What is wanted is this and at least one octet more."""
+
+    start: bytes
+
+
+class Folder:
+    """A folder in the place of a file."""
+
+
+class Unreadable:
+    """An empty file that its owner may not read. Root reads it all the same."""
+
+
+@dataclass(frozen=True)
+class LinkTo:
+    """A symbolic link in the place of a file."""
+
+    target: str
+
+
+Content = Union[bytes, Folder, Unreadable, LinkTo]
+Word = Union[str, bytes]
+
+
+@dataclass(frozen=True)
+class Case:
+    """One run of the real program in a fresh folder, and what has to come of it.
+
+    `words` are the words after the program's name. `files` are made in the folder that the program runs in; a file that
+    is not among them is missing. What is left out has its usual value: no input, nothing written, status 0.
+    """
+
+    name: str
+    words: Sequence[Word]
+    files: Mapping[str, Content] = field(default_factory=dict)
+    input: Union[bytes, OneAtATime, Sparse, Stream] = b""
+    out: Union[bytes, Begins, Stream] = b""
+    notes: Union[bytes, Stream] = b""
+    status: int = 0
+
+
+@dataclass(frozen=True)
+class Check:
+    """A case of another kind: `find` answers what is wrong, a line each. It may run bin/dceidl by itself."""
+
+    name: str
+    find: Callable[[], Sequence[str]]
+    runs_script: bool = False
+
+
+def octets(text: str) -> bytes:
+    """Octets from hexadecimal digits; spaces mean nothing."""
+    return bytes.fromhex(text)
+
+
+def lines(*texts: str) -> bytes:
+    """Lines of text, each with its line feed."""
+    return "".join(text + "\n" for text in texts).encode()
+
+
+def interface(*operations: str, name: str = "t") -> bytes:
+    """A plain interface file with these operations, a line each; the first stands on line 3."""
+    return lines("[uuid(11111111-2222-3333-4444-555555555555)]", f"interface {name} {{", *operations, "}")
+
+
+def example(name: str) -> bytes:
+    """The content of a file of examples/."""
+    return (ROOT / "examples" / name).read_bytes()
+
+
+def printable(word: Word) -> str:
+    """A word as a reader of a failure sees it."""
+    return ascii(os.fsdecode(word))

@@ -1,0 +1,18 @@
+"""Words that are refused until encoding and the big order are built: next_encode.py takes their place."""
+
+from case import Case, interface, lines, octets
+
+PLAIN = interface("void f([in] small x);")
+
+
+def refused(*words):
+    """Words of a command that is not built yet."""
+    name = "not built yet: " + " ".join(words)
+    return Case(name, words, {"t.idl": PLAIN}, octets("01"), notes=lines("words refused"), status=2)
+
+
+CASES = [
+    refused("decode", "t.idl", "-", "f", "in", "big"),
+    refused("encode", "t.idl", "-", "f", "in", "big", "1"),
+    refused("encode", "t.idl", "-", "f", "in", "little", "1"),
+]

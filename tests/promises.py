@@ -1,0 +1,276 @@
+#!/usr/bin/env python3
+"""Checks that docs/PROMISES.md speaks of what stands in the sources.
+
+    tests/promises.py      prints what is wrong, a line each; the status is 1 where something is
+
+Each row of its tables names functions with clauses, must-fail edits and a state; docs/PROMISES.md says in which form.
+Checked is that the crate is listed and there, that the function stands in its sources, that the clause stands in the
+function's signature (where a method of an `impl` has no clause, in its trait's), that each edit is a file, and that
+each must-fail edit of the repository is named by a row. Whether a clause says what the row says, only a reader can tell.
+"""
+
+from __future__ import annotations
+
+import re
+import sys
+from dataclasses import dataclass, field
+from pathlib import Path
+from typing import Dict, Iterator, List, Optional, Set, Tuple
+
+sys.dont_write_bytecode = True
+
+ROOT = Path(__file__).resolve().parent.parent
+HEADER = ["Promise", "Function and clause", "Must-fail edits", "State"]
+STATES = ("proved", "tested", "open")
+SPAN = re.compile(r"`([^`]+)`")
+PLACE = re.compile(r"(?P<crate>\w+): (?P<function>\w+(?:::\w+)?)(?:, (?P<clause>\w+))?")
+
+# ----------------------------------------------------------------------------------------------------------------------
+# The sources
+
+NO_CODE = re.compile(
+    r"//[^\n]*|/\*.*?\*/"  # comments
+    r'|b?r(?P<hashes>#*)".*?"(?P=hashes)|b?"(?:\\.|[^"\\])*"'  # strings
+    r"|b?'(?:\\x[0-9a-fA-F]{2}|\\u\{[0-9a-fA-F]+\}|\\.|[^\\'\n])'",  # characters, which lifetimes are not
+    re.DOTALL,
+)
+BLOCK = re.compile(r"\b(?P<kind>impl|trait|struct|enum)\b(?P<head>[^;{}()]*?(?:\([^;{}]*?\)[^;{}]*?)?)\{")
+FUNCTION = re.compile(r"\bfn\s+(?P<name>\w+)")
+CLAUSE = re.compile(r"\b(?P<kind>requires|ensures|ghost)\*?\s*(?P<name>\w*)\s*:?\s*$")
+GHOST = re.compile(r"\bghost\s+(?P<name>\w+)\s*[:=]")
+
+
+@dataclass
+class Function:
+    """A function: its clauses, and the type, trait or module that it stands in."""
+
+    name: str
+    clauses: Set[str]
+    owner: Optional[str]  # the type or trait of its block
+    trait: Optional[str]  # the trait that its block implements
+    module: str
+
+
+@dataclass
+class Crate:
+    """What the sources of a crate hold."""
+
+    functions: List[Function] = field(default_factory=list)
+    types: Set[str] = field(default_factory=set)
+    ghosts: Set[Tuple[str, str]] = field(default_factory=set)  # of a type: its ghost members and fields
+    edits: Set[str] = field(default_factory=set)
+
+
+def code_of(text: str) -> str:
+    """The text with comments, strings and characters blanked, each octet in its place."""
+    return NO_CODE.sub(lambda match: re.sub(r"[^\n]", " ", match.group()), text)
+
+
+def closing(code: str, at: int) -> int:
+    """Just behind the brace that closes the one at `at`."""
+    depth = 0
+    for place in range(at, len(code)):
+        depth += {"{": 1, "}": -1}.get(code[place], 0)
+        if depth == 0:
+            return place + 1
+    return len(code)
+
+
+def clauses_of(code: str, at: int) -> Set[str]:
+    """The clauses of the signature that begins at `at`, by name. One without a name is named by its word."""
+    found, depth, place, start = set(), 0, at, at
+    while place < len(code):
+        sign = code[place]
+        depth += {"(": 1, "[": 1, ")": -1, "]": -1}.get(sign, 0)
+        if sign == ";" and depth == 0:
+            break
+        if sign == "{" and depth == 0:
+            clause = CLAUSE.search(code, start, place)
+            if clause is None:
+                break
+            found.add(clause["name"] or clause["kind"])
+            place = start = closing(code, place)
+        else:
+            place += 1
+    return found
+
+
+def without_generics(head: str) -> str:
+    """The head of a block without what stands between < and >."""
+    kept, depth = "", 0
+    for before, sign in zip(" " + head, head):
+        depth += sign == "<"
+        kept += sign if depth == 0 else ""
+        depth -= sign == ">" and before not in "-="
+    return kept
+
+
+def last_name(path: str) -> Optional[str]:
+    """The last name of a path."""
+    names = re.findall(r"\w+", path)
+    return names[-1] if names else None
+
+
+def named(kind: str, head: str) -> Tuple[Optional[str], Optional[str]]:
+    """The type or trait of a block, and the trait that it implements."""
+    bare = re.split(r"\swhere\s", without_generics(head))[0]
+    if kind != "impl":
+        return last_name(bare.split(":")[0]), None
+    trait, _, of = bare.rpartition(" for ")
+    return last_name(of), last_name(trait)
+
+
+def blocks(code: str) -> Iterator[Tuple[Optional[str], Optional[str], int, int]]:
+    """The blocks of types, traits and impls: name, implemented trait, beginning and end."""
+    for match in BLOCK.finditer(code):
+        name, trait = named(match["kind"], match["head"])
+        yield name, trait, match.end() - 1, closing(code, match.end() - 1)
+
+
+def read_source(path: Path, crate: Crate) -> None:
+    """Adds what one file holds to its crate."""
+    code = code_of(path.read_text(encoding="utf-8"))
+    around = list(blocks(code))
+    crate.types.update(re.findall(r"\b(?:struct|enum|trait)\s+(\w+)", code))
+    for name, _, start, end in around:
+        crate.ghosts.update((name, ghost) for ghost in GHOST.findall(code[start:end]))
+    for match in FUNCTION.finditer(code):
+        inside = [block for block in around if block[2] < match.start() < block[3]]
+        owner, trait = inside[-1][:2] if inside else (None, None)
+        module = path.parent.name if path.stem == "mod" else path.stem
+        crate.functions.append(Function(match["name"], clauses_of(code, match.end()), owner, trait, module))
+
+
+def read_crates(root: Path) -> Dict[str, Crate]:
+    """The crates that crates.txt lists and that are there."""
+    listed = (line.split("#")[0].partition(":")[0].split() for line in (root / "crates.txt").read_text().splitlines())
+    crates = {words[0]: Crate() for words in listed if words and (root / "crates" / words[0] / "src").is_dir()}
+    for name, crate in crates.items():
+        for path in sorted((root / "crates" / name / "src").rglob("*.rt")):
+            read_source(path, crate)
+        crate.edits = {path.stem for path in (root / "crates" / name / "must-fail").glob("*.edit")}
+    return crates
+
+
+# ----------------------------------------------------------------------------------------------------------------------
+# The tables
+
+
+@dataclass
+class Row:
+    """A row of a table, and the line that it stands on."""
+
+    line: int
+    cells: List[str]
+
+
+def read_rows(text: str) -> Tuple[List[Row], List[str]]:
+    """The rows of all tables, and what is wrong with the tables' form."""
+    rows, wrong, inside = [], [], False
+    for number, line in enumerate(text.splitlines(), 1):
+        if not line.startswith("|"):
+            inside = False
+            continue
+        cells = [cell.strip() for cell in line.strip().strip("|").split("|")]
+        if not inside:
+            inside = True
+            if cells != HEADER:
+                wrong.append(f"line {number}: a table's head is not | {' | '.join(HEADER)} |")
+        elif len(cells) != len(HEADER):
+            wrong.append(f"line {number}: a row has {len(cells)} cells in place of {len(HEADER)}")
+        elif any(cell.strip("-:") for cell in cells):
+            rows.append(Row(number, cells))
+    return rows, wrong if rows or wrong else ["there is no row"]
+
+
+def spans(cell: str) -> Optional[List[str]]:
+    """The code spans of a cell; none for `-`, and None where the cell holds anything else."""
+    rest = SPAN.sub("", cell).replace("<br>", "").strip()
+    return SPAN.findall(cell) if rest == ("" if "`" in cell else "-") else None
+
+
+def clauses_at(crates: Dict[str, Crate], crate: Crate, path: str) -> Optional[Set[str]]:
+    """The clauses of a function or the ghost members of a type; None where it does not stand in the crate."""
+    owner, _, name = path.rpartition("::")
+    if not owner and name in crate.types:
+        return {ghost for of, ghost in crate.ghosts if of == name}
+    here = [f for f in crate.functions if f.name == name and (f.owner == owner if owner else f.owner is None)]
+    here = here or [f for f in crate.functions if f.name == name and f.owner is None and f.module == owner]
+    found = set()
+    for function in here:
+        found |= function.clauses or clauses_of_trait(crates, function)
+    return found if here else None
+
+
+def clauses_of_trait(crates: Dict[str, Crate], method: Function) -> Set[str]:
+    """The clauses that a method without any has from the trait that its block implements."""
+    declared = (f for crate in crates.values() for f in crate.functions)
+    return {
+        clause
+        for f in declared
+        if method.trait is not None and f.owner == method.trait and f.trait is None and f.name == method.name
+        for clause in f.clauses
+    }
+
+
+def faults_of_place(crates: Dict[str, Crate], span: str, state: str) -> List[str]:
+    """What is wrong with `CRATE: FUNCTION, CLAUSE`."""
+    place = PLACE.fullmatch(span)
+    if place is None:
+        return [f"`{span}` is not of the form `crate: function, clause`"]
+    crate = crates.get(place["crate"])
+    if crate is None:
+        return [f"`{span}`: there is no crate {place['crate']}"]
+    clauses = clauses_at(crates, crate, place["function"])
+    if clauses is None:
+        return [f"`{span}`: there is no {place['function']} in {place['crate']}"]
+    if place["clause"] is None:
+        return [f"`{span}`: a proved promise needs a clause"] if state == "proved" else []
+    if place["clause"] not in clauses:
+        return [f"`{span}`: there is no clause {place['clause']}, but {', '.join(sorted(clauses)) or 'none'}"]
+    return []
+
+
+def edits_of(row: Row) -> List[Tuple[str, str]]:
+    """The must-fail edits of a row, as crate and name. One without a crate is of the crate that the row names first."""
+    first = re.search(r"`(\w+): ", row.cells[1])
+    pairs = [span.rpartition("/") for span in spans(row.cells[2]) or []]
+    return [(crate or (first[1] if first else ""), name) for crate, _, name in pairs]
+
+
+def faults_of_row(crates: Dict[str, Crate], row: Row) -> List[str]:
+    """What is wrong with a row."""
+    promise, places, edits, state = row.cells
+    wrong = [] if promise else ["the promise is empty"]
+    wrong += [] if state in STATES else [f"the state {state!r} is none of {', '.join(STATES)}"]
+    wrong += [] if spans(places) else ["the second cell is no list of `crate: function, clause`"]
+    wrong += [] if spans(edits) is not None else ["the third cell is neither - nor a list of `edit`"]
+    for span in spans(places) or []:
+        wrong += faults_of_place(crates, span, state)
+    for crate, name in edits_of(row):
+        if crate not in crates or name not in crates[crate].edits:
+            wrong.append(f"there is no file crates/{crate}/must-fail/{name}.edit")
+    return [f"line {row.line}: {fault}" for fault in wrong]
+
+
+def faults(root: Path = ROOT) -> List[str]:
+    """What is wrong with docs/PROMISES.md, a line each."""
+    page = root / "docs" / "PROMISES.md"
+    if not page.is_file():
+        return ["there is no docs/PROMISES.md"]
+    crates = read_crates(root)
+    rows, wrong = read_rows(page.read_text(encoding="utf-8"))
+    for row in rows:
+        wrong += faults_of_row(crates, row)
+    named_edits = {edit for row in rows for edit in edits_of(row)}
+    for crate in crates:
+        for name in sorted(crates[crate].edits):
+            if (crate, name) not in named_edits:
+                wrong.append(f"no row names crates/{crate}/must-fail/{name}.edit")
+    return wrong
+
+
+if __name__ == "__main__":
+    found = faults()
+    print("\n".join(found) or "each row stands in the sources")
+    sys.exit(1 if found else 0)
