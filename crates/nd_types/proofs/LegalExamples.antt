@@ -19,7 +19,7 @@ use Rattle.nd_types.specs.declared.TheConstants.{HANDLE}
 use Rattle.nd_types.specs.Table.{Table}
 use Rattle.nd_types.specs.Layout.{hoists}
 use Rattle.nd_types.specs.Kinds.{basic_types}
-use Rattle.nd_types.specs.Legal.{IsLegal}
+use Rattle.nd_types.specs.Legal.{IsLegal, is_shallow, element_count, fits_pipes}
 
 abbrev id : ℕ → TypeId
 id t = record { 0 = t }
@@ -56,7 +56,7 @@ abbrev sums : Table
 sums = with (Struct (field 5 [] ∷ field 13 (by Size 0 ∷ []) ∷ []) ∷ Array (id 9) None false ∷ Pointer Ref (id 12) ∷ [])
 
 pub sums_are_legal : IsLegal sums (taking way.In 14 [])
-unfolding hoists
+unfolding hoists is_shallow element_count fits_pipes
 sums_are_legal = record {
   basic = refl;
   no_later_basic = refl;
@@ -116,7 +116,7 @@ directory_operations =
     ∷ operation (param way.In HANDLE.0 [] ∷ param way.In 17 [] ∷ param way.In 8 [] ∷ param way.In 21 (by Size 2 ∷ []) ∷ []) None ∷ []
 
 pub directory_is_legal : IsLegal directory directory_operations
-unfolding hoists
+unfolding hoists is_shallow element_count fits_pipes
 directory_is_legal = record {
   basic = refl;
   no_later_basic = refl;
@@ -177,7 +177,7 @@ others_operations =
     ∷ param way.InOut 21 (by_star Max 0 ∷ by_star Last 0 ∷ []) ∷ param way.Out 22 (by Last 1 ∷ []) ∷ []) (Some (id 7)) ∷ []
 
 pub others_are_legal : IsLegal others others_operations
-unfolding hoists
+unfolding hoists is_shallow element_count fits_pipes
 others_are_legal = record {
   basic = refl;
   no_later_basic = refl;
@@ -262,6 +262,7 @@ handle_result h = refused h.results_known refl
 
 -- a struct that holds itself
 pub holds_itself : IsLegal (with (Struct (field 12 [] ∷ []) ∷ [])) [] → ⊥
+unfolding is_shallow
 holds_itself h = refused h.nesting refl
 
 -- a struct without members
@@ -286,6 +287,7 @@ long_text h = refused h.bounds refl
 
 -- an array of 2 times 16,777,216 elements
 pub large_product : IsLegal (with (Array (id 7) (Some 16777216) false ∷ Array (id 12) (Some 2) false ∷ [])) [] → ⊥
+unfolding element_count
 large_product h = refused h.elements refl
 
 -- a conformant array of arrays
@@ -298,12 +300,12 @@ varying_of_fixed h = refused h.dimensions refl
 
 -- an array of texts
 pub array_of_texts : IsLegal (with (Text (id 1) (Some 4) ∷ Array (id 12) (Some 2) false ∷ [])) [] → ⊥
-unfolding hoists
+unfolding hoists is_shallow element_count fits_pipes
 array_of_texts h = refused h.array_elements refl
 
 -- an array of structs that hoist
 pub array_of_hoisting : IsLegal (with (Array (id 7) None false ∷ Struct (field 7 [] ∷ field 12 (by Size 0 ∷ []) ∷ []) ∷ Array (id 13) (Some 2) false ∷ [])) [] → ⊥
-unfolding hoists
+unfolding hoists is_shallow element_count fits_pipes
 array_of_hoisting h = refused h.array_elements refl
 
 -- a text of longs
@@ -312,25 +314,27 @@ text_of_longs h = refused h.text_elements refl
 
 -- a pipe of structs with a pointer
 pub pipe_of_pointers : IsLegal (with (Pointer Unique (id 7) ∷ Struct (field 12 [] ∷ []) ∷ Pipe (id 13) ∷ [])) [] → ⊥
+unfolding fits_pipes
 pipe_of_pointers h = refused h.pipe_elements refl
 
 -- a pipe of texts
 pub pipe_of_texts : IsLegal (with (Text (id 1) (Some 4) ∷ Pipe (id 12) ∷ [])) [] → ⊥
+unfolding fits_pipes
 pipe_of_texts h = refused h.pipe_elements refl
 
 -- a conformant array before another member
 pub early_conformant : IsLegal (with (Array (id 7) None false ∷ Struct (field 12 (by Size 1 ∷ []) ∷ field 7 [] ∷ []) ∷ [])) [] → ⊥
-unfolding hoists
+unfolding hoists is_shallow element_count fits_pipes
 early_conformant h = refused h.hoisting_members refl
 
 -- a conformant array as an arm
 pub conformant_arm : IsLegal (with (Array (id 7) None false ∷ Union (id 7) true (arm (pos 1) (Some (id 12)) ∷ []) None ∷ [])) [] → ⊥
-unfolding hoists
+unfolding hoists is_shallow element_count fits_pipes
 conformant_arm h = refused h.hoisting_arms refl
 
 -- a conformant array as a default
 pub conformant_default : IsLegal (with (Array (id 7) None false ∷ Union (id 7) true [] (Some (arm (pos 0) (Some (id 12)))) ∷ [])) [] → ⊥
-unfolding hoists
+unfolding hoists is_shallow element_count fits_pipes
 conformant_default h = refused h.hoisting_arms refl
 
 -- a pipe as a member

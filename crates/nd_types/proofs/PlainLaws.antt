@@ -19,7 +19,7 @@ use Rattle.nd_types.specs.Table.{Table, type_at}
 use Rattle.nd_types.specs.Kinds.{basic_types, is_nonencapsulated, pointee_by}
 use Rattle.nd_types.specs.Layout.{hoists}
 use Rattle.nd_types.specs.Fields.{Placed, placed, all_fields, param_fields}
-use Rattle.nd_types.specs.Legal.{IsLegal, is_handle, all_params, is_in_table, is_switched, result_passes, is_result_type}
+use Rattle.nd_types.specs.Legal.{is_shallow, element_count, fits_pipes, IsLegal, is_handle, all_params, is_in_table, is_switched, result_passes, is_result_type}
 use Rattle.nd_types.specs.Roots.{roots_of, params_from, pipe_of, pipe_by, root_of, root_by, travels}
 use Rattle.nd_types.specs.Plain.{IsPlainParam, IsPlainOperation, IsPlainInterface, plain_roots, is_plain_type}
 
@@ -97,7 +97,7 @@ module _ (p : Param) (h : IsPlainParam p) where
   not_switched = ap (λ d. is_nonencapsulated (type_at basic_types (pointee_by t d))) is_prim ∙ ap is_nonencapsulated is_prim
 
 basic_is_legal : (operations : List Operation) → IsPlainInterface basic_types operations → IsLegal basic_types operations
-unfolding hoists
+unfolding hoists is_shallow element_count fits_pipes
 basic_is_legal operations h = record {
   basic = refl;
   no_later_basic = refl;

@@ -62,6 +62,10 @@ abbrev pub has_small_values : TypeDef → Bool
 has_small_values (Enum values) = list_all (λ z. int_le (pos 0) z && int_le z (pos ENUMERATOR_LIMIT)) values
 has_small_values _ = true
 
+-- no path from a type down through members, elements and arms has more types than the limit
+unfoldable pub is_shallow : Table → ℕ → Bool
+is_shallow types t = nests NESTING_LIMIT types t
+
 -- the number of elements of a fixed array over all its dimensions
 abbrev count_by : (ℕ → ℕ) → Option TypeDef → ℕ
 count_by count (Some (Array elem (Some bound) varying)) = bound * count elem.0
@@ -70,6 +74,9 @@ count_by count _ = 1
 abbrev pub count_within : ℕ → Table → ℕ → ℕ
 count_within zero types t = 1
 count_within (suc n) types t = count_by (count_within n types) (type_at types t)
+
+unfoldable pub element_count : Table → ℕ → ℕ
+element_count types t = count_within NESTING_LIMIT types t
 
 abbrev is_dimension : Option ℕ → Bool
 is_dimension None = true
@@ -120,8 +127,12 @@ abbrev pub has_none_within : ℕ → (Option TypeDef → Bool) → Table → ℕ
 has_none_within zero is_barred types t = false
 has_none_within (suc n) is_barred types t = not (is_barred (type_at types t)) && list_all (has_none_within n is_barred types) (parts (type_at types t))
 
+-- a type holds nothing that may not stand in a pipe's element
+unfoldable pub fits_pipes : Table → ℕ → Bool
+fits_pipes types t = has_none_within NESTING_LIMIT is_barred_in_pipes types t
+
 abbrev pub has_pipe_element : Table → TypeDef → Bool
-has_pipe_element types (Pipe elem) = has_none_within NESTING_LIMIT is_barred_in_pipes types elem.0
+has_pipe_element types (Pipe elem) = fits_pipes types elem.0
 has_pipe_element types _ = true
 
 -- a text's element is a char or a byte
@@ -216,14 +227,14 @@ pub record IsLegal (types : Table) (operations : List Operation) : Type 0 where
   pub params_known : all_params (λ p. is_handle p || is_in_table types p.field.of.0) operations ≡ true
   pub results_known : list_all (λ o. result_passes (is_in_table types) o.result) operations ≡ true
   -- No path from a type down through members, elements and arms has more than 32 types. So no type contains itself in place.
-  pub nesting : list_all (nests NESTING_LIMIT types) (type_numbers types) ≡ true
+  pub nesting : list_all (is_shallow types) (type_numbers types) ≡ true
   -- A struct has a member.
   pub members : list_all has_member types ≡ true
   -- An enumerator's value is from 0 to 32,767.
   pub enumerators : list_all has_small_values types ≡ true
   -- A fixed dimension has 1 to 16,777,216 elements, and so have all dimensions of an array together.
   pub bounds : list_all has_small_bound types ≡ true
-  pub elements : list_all (λ t. nat_le (count_within NESTING_LIMIT types t) ELEMENT_LIMIT) (type_numbers types) ≡ true
+  pub elements : list_all (λ t. nat_le (element_count types t) ELEMENT_LIMIT) (type_numbers types) ≡ true
   -- An array of more than one dimension is fixed in each.
   pub dimensions : list_all (has_fixed_dimensions types) types ≡ true
   -- An array's element does not hoist, and is no varying array and no text.

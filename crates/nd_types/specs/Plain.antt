@@ -30,6 +30,10 @@ pub record IsPlainParam (p : Param) : Type 0 where
   pub way : p.way ≡ way.In
   pub no_attributes : p.field.vars ≡ []
 
+-- a parameter of this name and type, for a plain operation
+abbrev pub plain_param : List ℕ → ℕ → Param
+plain_param name t = record { field = record { name = name; of = record { 0 = t }; vars = [] }; way = way.In }
+
 -- an operation of such parameters, not too many and of different names, without a result
 pub record IsPlainOperation (o : Operation) : Type 0 where
   pub params : All IsPlainParam o.params

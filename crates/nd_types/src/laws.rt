@@ -1,11 +1,14 @@
 //! Laws over the definitions, each the contract of a function that does nothing.
-ghost use Rattle.std.specs.Prelude.{◌≡◌, List};
-ghost use Rattle.nd_types.specs.Table.{Table};
-ghost use Rattle.nd_types.specs.Kinds.{basic_types};
+ghost use Rattle.std.specs.Prelude.{◌≡◌, ℕ, List, Some};
+ghost use Rattle.nd_types.specs.Table.{Table, type_at};
+ghost use Rattle.nd_types.specs.Kinds.{basic_types, prim_number};
+ghost use Rattle.nd_types.specs.Layout.{align_of, align_by, hoists, hoists_by};
 ghost use Rattle.nd_types.specs.Legal.{IsLegal};
 ghost use Rattle.nd_types.specs.Roots.{roots_of};
 ghost use Rattle.nd_types.specs.Plain.{IsPlainOperation, IsPlainInterface, plain_roots};
 ghost use Rattle.nd_types.specs.declared.types.Operation.{Operation};
+ghost use Rattle.nd_types.specs.declared.types.Primitive.{Primitive};
+ghost use Rattle.nd_types.specs.declared.types.TypeDef.TheVariants.{Prim};
 ghost use Rattle.nd_types.specs.declared.types.Side.TheVariants as side;
 
 /// A plain interface is legal.
@@ -16,4 +19,22 @@ pub fn plain_is_legal()
 /// The roots of a plain operation's request are its parameters in order.
 pub fn plain_roots_in()
     ensures { (o : Operation) → IsPlainOperation o → roots_of basic_types side.In o ≡ plain_roots 0 o.params }
+{}
+
+/// The alignment of a type of a legal interface is that of its parts.
+pub fn align_of_legal()
+    ensures { (types : Table) (operations : List Operation) → IsLegal types operations →
+        (t : ℕ) → align_of types t ≡ align_by types (align_of types) (type_at types t) }
+{}
+
+/// Whether a type of a legal interface hoists a maximum count goes by its parts.
+pub fn hoists_legal()
+    ensures { (types : Table) (operations : List Operation) → IsLegal types operations →
+        (t : ℕ) → hoists types t ≡ hoists_by (hoists types) (type_at types t) }
+{}
+
+/// Each primitive type of a legal interface stands under its number.
+pub fn prim_at()
+    ensures { (types : Table) (operations : List Operation) → IsLegal types operations →
+        (p : Primitive) → type_at types (prim_number p) ≡ Some (Prim p) }
 {}

@@ -1,7 +1,7 @@
 // The lists that types and operations are made of. Contracts see each of them as a list.
-ghost use Rattle.std.specs.Prelude.{◌≡◌, ◌++◌, [], ◌∷◌, length, slice_get, OnOk, OnErr, IfErr, IfSome, IfNone};
+ghost use Rattle.std.specs.Prelude.{◌≡◌, ◌++◌, [], ◌∷◌, length, slice_get, OnOk, OnErr, IfOk, IfErr, IfSome, IfNone};
 
-use crate::{Arm, AttrVar, Field, Operation, Param, TypeDef};
+use crate::{Arm, AttrVar, Field, Operation, Param, Prim, TypeDef};
 use nd_base::Memory;
 use std::alloc::Global;
 use std::marker::Model;
@@ -254,6 +254,13 @@ impl Params {
         }
     }
 
+    // The items.
+    pub(crate) fn as_slice(&self) -> &[Param]
+        ensures { result.now ≡ self.now }
+    {
+        self.items.as_slice()
+    }
+
     /// The number of items.
     pub fn len(&self) -> usize
         ensures { result ≡ length self.now }
@@ -286,6 +293,32 @@ impl Model for Types {
 }
 
 impl Types {
+    ghost use Rattle.nd_types.specs.Kinds.{basic_types};
+
+    /// The types with which each table begins: the primitives in the order of `Primitive`, and the context handle.
+    pub fn basic(alloc: Global) -> Result<Types, Memory>
+        ensures { IfOk result (λ types. types ≡ basic_types) }
+    {
+        let types = [
+            TypeDef::Prim(Prim::Boolean),
+            TypeDef::Prim(Prim::Char),
+            TypeDef::Prim(Prim::Byte),
+            TypeDef::Prim(Prim::Small),
+            TypeDef::Prim(Prim::UnsignedSmall),
+            TypeDef::Prim(Prim::Short),
+            TypeDef::Prim(Prim::UnsignedShort),
+            TypeDef::Prim(Prim::Long),
+            TypeDef::Prim(Prim::UnsignedLong),
+            TypeDef::Prim(Prim::Hyper),
+            TypeDef::Prim(Prim::UnsignedHyper),
+            TypeDef::Context,
+        ];
+        match Vec::from_array(alloc, types) {
+            Ok(items) => Ok(Types { items }),
+            Err(_) => Err(Memory),
+        }
+    }
+
     /// An empty list. It allocates nothing.
     pub fn new(alloc: Global) -> Types
         ensures { result ≡ [] }
@@ -358,6 +391,13 @@ impl Operations {
             Ok(()) => Ok(()),
             Err(failed) => Err((Memory, failed.value)),
         }
+    }
+
+    // The items.
+    pub(crate) fn as_slice(&self) -> &[Operation]
+        ensures { result.now ≡ self.now }
+    {
+        self.items.as_slice()
     }
 
     /// The number of items.
