@@ -5,6 +5,7 @@ pub mod Forms
 pub mod HoistedMaxes
 pub mod Identifiers
 pub mod KnownNodes
+pub mod LegalSides
 pub mod Matching
 pub mod Next
 pub mod NextDeferral
@@ -20,11 +21,11 @@ pub mod PlainBad
 pub mod PlainConforms
 pub mod PlainNumbers
 pub mod PlainRefused
-pub mod PlainVerdict
+pub mod PlainSides
 pub mod PlainSteps
 pub mod PlainStreams
+pub mod PlainVerdict
 pub mod Ranges
 pub mod RootsMeeting
 pub mod Rows
 pub mod Standings
-pub mod PlainSides

@@ -21,7 +21,7 @@ use Rattle.nd_graph.specs.Tree.{Referent}
 use Rattle.nd_graph.specs.Tree as tree
 use Rattle.nd_graph.specs.Tree.{Tree, Trees, node, none, more, count, nodes, Label, is_pointer, cell_in}
 use Rattle.nd_graph.specs.Nodes.{child_types, child_agreements, first_agreements, rest_agreements}
-use Rattle.nd_grammar.specs.Number.{unsigned, value_of_octets}
+use Rattle.nd_types.specs.Number.{unsigned, value_of_octets}
 use Rattle.nd_grammar.specs.Entry.{Kind, Entry, Align, Max, Offset, Actual, Chunk, Number, Num, Tag, Text, Context, Test, Unread, size_at, EntryAt, end_to_end, end_of}
 use Rattle.nd_grammar.specs.InPlace.{before_children, entries, in_place, counts, tag_entries, tests, own_tests, child_tests}
 use Rattle.nd_grammar.specs.Represents.{piece, Spells, IsRendered, IsNumber, id_octets}

@@ -10,3 +10,4 @@ pub mod Prefix
 pub mod Plain
 pub mod Examples
 pub mod Primitives
+pub mod LegalSide

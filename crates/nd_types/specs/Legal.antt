@@ -100,7 +100,7 @@ has_plain_element types (Array elem bound varying) =
     not (hoists types elem.0) && (not (is_varying_array (type_at types elem.0)) && not (is_text (type_at types elem.0)))
 has_plain_element types _ = true
 
-abbrev only_last_hoists : Table → List Field → Bool
+abbrev pub only_last_hoists : Table → List Field → Bool
 only_last_hoists types [] = true
 only_last_hoists types (f ∷ []) = true
 only_last_hoists types (f ∷ g ∷ more) = not (hoists types f.of.0) && only_last_hoists types (g ∷ more)

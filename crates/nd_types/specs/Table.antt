@@ -84,7 +84,7 @@ abbrev pub labelled : List Arm → ℤ → Option Arm
 labelled [] tag = None
 labelled (a ∷ more) tag = elim (int_eq a.label tag) [ true ↦ Some a | false ↦ labelled more tag ]
 
-abbrev or_else : Option Arm → Option Arm → Option Arm
+abbrev pub or_else : Option Arm → Option Arm → Option Arm
 or_else (Some a) b = Some a
 or_else None b = b
 
