@@ -141,6 +141,8 @@ module _ (two : Readings) (X : List Pair → Type 0) (w : Setting) (g g' : Graph
         let W' : ℕ → List Agreement → List Entry = λ t v. whole_value w.table (cell_home c') t (cell_at g' c') ++ tests (cell_home c') 0 (cell_at g' c') v in
         let cm = cells_of two w g g' p q (Some c) (Some c') r.0 x x' in
         let z : Pair = record { class = p.class; of = p.to; left = c; right = c' } in
+        let (y, ey, ty) = r.0.typed' c' x' in
+        let right_cell : (k : Referent) × (cell_of_number g' c' ≡ Some k) × (k.of ≡ p.to) = (y, ey, ty ∙ sym r.0.to) in
         let apart : AllByRecursion (IsApart z) xs = free_apart z xs (subst (λ u. ¬ IsStanding u c) f n) (subst (λ u. ¬ IsStanding u c') f' n') in
         let one' : OneToOne (z ∷ xs) = (apart, one) in
         subst (λ t. N xs at ((W ++ F us) ++ ms) ((W' t q.agreements ++ F' vs) ++ ns)) r.0.to
@@ -150,6 +152,6 @@ module _ (two : Readings) (X : List Pair → Type 0) (w : Setting) (g g' : Graph
         (referent_next two X w g g' cells cells' maxes (z ∷ xs) one' (cell_home c) (cell_home c') (z, inl refl, refl, refl) p.to (cell_at g c) (cell_at g' c') p.agreements
         known known' (F us ++ ms) (F' vs ++ ns) at (λ p' m'.
         deferral_next a b (z ∷ xs) (ap (λ u. (p.class, c) ∷ u) f) (ap₂ (λ u v. (u, c') ∷ v) (sym r.0.class) f') one'
-        (record { number = λ e. full_match two w g g' p.class c c' e cm; known = known; known' = known'; matched = m' }, m)
+        (record { number = λ e. full_match two w g g' p.class c c' e cm; known = known; known' = known'; matched = m'; left_cell = r.0.typed c x; right_cell = right_cell }, m)
         (then_due Numbers g g' _ _ ts ts' (next_due two X w g g' cells cells' maxes (standing_cell g p c) (standing_cell g' q c') r.0.to known known' m') r.1) ms ns p'
         (λ p'' ys s. k p'' ys (after_referent two X w g g' cells cells' maxes p q c c' x x' r.0.to z refl xs ys ts ts' known known' m' s)))))))

@@ -133,7 +133,17 @@ module _ (two : Readings) (w : Setting) (g g' : Graph)
         lefts = refl;
         rights = refl;
         meet = λ xs. (z, inl refl, refl, refl);
-        fit = λ m. (record { number = λ f. cc; known = x; known' = y; matched = m }, tt);
+        fit = λ m. (
+          record {
+            number = λ f. cc;
+            known = x;
+            known' = y;
+            matched = m;
+            left_cell = subst (λ u. PointeeKnown g u (Some c)) ed a.0.pointee;
+            right_cell = subst (λ u. PointeeKnown g' u (Some c')) ed b.0.pointee;
+          },
+          tt,
+        );
         closed = λ ys m. (m, tt);
         whole = λ ys among m. record {
           carried_by =

@@ -82,6 +82,8 @@ module _ (two : Readings) (w : Setting) (g g' : Graph) where
     pub known : Known g w.table (x.of ∷ []) (more (cell_at g x.left) none)
     pub known' : Known g' w.table (x.of ∷ []) (more (cell_at g' x.right) none)
     pub matched : Matched (CellsMatch two.left two.right) w.table (x.of ∷ []) (more (cell_at g x.left) none) (more (cell_at g' x.right) none)
+    pub left_cell : (c : Referent) × (cell_of_number g x.left ≡ Some c) × (c.of ≡ x.of)
+    pub right_cell : (c : Referent) × (cell_of_number g' x.right ≡ Some c) × (c.of ≡ x.of)
 
   -- the two cells are carried by a map
   abbrev pub IsClosed : List Pair → Pair → Type 0
