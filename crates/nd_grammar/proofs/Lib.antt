@@ -28,4 +28,5 @@ pub mod PlainVerdict
 pub mod Ranges
 pub mod RootsMeeting
 pub mod Rows
+pub mod Spelt
 pub mod Standings

@@ -70,7 +70,7 @@ abbrev pub end_of : ℕ → List Entry → ℕ
 end_of at [] = at
 end_of at (m ∷ ms) = end_of (at + size_at at m.kind) ms
 
-abbrev full_cell : Kind → List ℕ
+abbrev pub full_cell : Kind → List ℕ
 full_cell (Number Full to (Some c)) = c ∷ []
 full_cell _ = []
 
