@@ -34,7 +34,7 @@ use Rattle.nd_graph.proofs.NodeFacts.{all_of_list}
 use Rattle.nd_graph.proofs.Apart.{all_append, all_left, all_right, all_weaker}
 use Rattle.nd_grammar.specs.LegalSide.{IsLegalSide}
 use Rattle.nd_grammar.proofs.HoistedMaxes.{OnlyLast, HoistsLast}
-use Rattle.nd_grammar.proofs.NextStream.{IsPipeRoot, IsLaidOut}
+use Rattle.nd_grammar.proofs.NextStream.{IsPipeRoot, IsLaidOut, FitsPipes}
 
 only_last : (table : Table) (ms : List Field) → only_last_hoists table ms ≡ true → OnlyLast (hoists table) (map (λ f. f.of.0) ms)
 only_last table [] h = tt
@@ -59,7 +59,7 @@ in_arms P (b ∷ arms) v a e h =
     go true e r = subst (λ u. AllByRecursion P (arm_type u)) (same_Some _ _ e) (all_left P (arm_type b) (arm_types arms) h)
     go false e r = r e
 
-in_selected : (P : ℕ → Type 0) (arms : List Arm) (default : Option Arm) (v : ℤ) → AllByRecursion P (arm_types arms ++ default_type default)
+pub in_selected : (P : ℕ → Type 0) (arms : List Arm) (default : Option Arm) (v : ℤ) → AllByRecursion P (arm_types arms ++ default_type default)
     → AllByRecursion P (selected_types (selected arms default v))
 in_selected P arms default v h = go (labelled arms v) refl default (all_right P (arm_types arms) (default_type default) h)
   where
@@ -96,6 +96,10 @@ none_hoists table (suc n) t h =
 limit_none : (table : Table) (t : ℕ) → fits_pipes table t ≡ true → hoists table t ≡ false
 unfolding hoists fits_pipes
 limit_none table t h = none_hoists table NESTING_LIMIT t h
+
+limit_fits : (table : Table) (t : ℕ) → fits_pipes table t ≡ true → FitsPipes table t
+unfolding fits_pipes
+limit_fits table t h = (NESTING_LIMIT, h)
 
 module _ (table : Table) (operations : List Operation) (legal : IsLegal table operations) where
   hoists_last : HoistsLast table
@@ -328,6 +332,7 @@ module _ (w : Setting) (side_of : IsLegalSide w) where
       let z : AllByRecursion (λ r. r.is_pipe ≡ false) first = all_append (λ r. r.is_pipe ≡ false) _ _ (no_pipes ps) (no_result_pipe w.side w.op.result) in
       record {
         hoisting = hoists_last w.table side_of.operations side_of.legal;
+        elements = λ t x e. limit_fits w.table x.0 (passes_at _ w.table t (def.Pipe x) side_of.legal.pipe_elements e);
         pipes =
             subst (λ u. AllByRecursion (IsPipeRoot w.table) (drop (before_pipes u) u)) (sym roots_parts)
             (subst (AllByRecursion (IsPipeRoot w.table)) (sym (pipes_behind first last z x)) y);

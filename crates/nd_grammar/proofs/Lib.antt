@@ -6,6 +6,7 @@ pub mod HoistedMaxes
 pub mod Identifiers
 pub mod KnownNodes
 pub mod LegalSides
+pub mod Mapped
 pub mod Matching
 pub mod Next
 pub mod NextDeferral

@@ -10,6 +10,7 @@ use Rattle.nd_types.specs.declared.types.TypeId.{TypeId}
 use Rattle.nd_types.specs.declared.types.TypeDef.TheVariants as def
 use Rattle.nd_types.specs.Table.{Table, type_at}
 use Rattle.nd_types.specs.Layout.{hoists}
+use Rattle.nd_types.specs.Legal.{has_none_within, is_barred_in_pipes}
 use Rattle.nd_types.specs.Roots.{Root}
 use Rattle.nd_graph.specs.declared.value.Graph.{Graph}
 use Rattle.nd_graph.specs.Tree as tree
@@ -38,9 +39,14 @@ pub record IsPipeRoot (table : Table) (r : Root) : Type 0 where
   pub type_is : type_at table r.of ≡ Some (def.Pipe elem)
   pub no_vars : r.vars ≡ []
 
--- What the laws need of a side: where maximum counts stand, and that pipes come last.
+-- a type holds nothing that may not stand in a pipe's element
+abbrev pub FitsPipes : Table → ℕ → Type 0
+FitsPipes table t = (depth : ℕ) × (has_none_within depth is_barred_in_pipes table t ≡ true)
+
+-- What the laws need of a side: where maximum counts stand, what stands in a pipe's element, and that pipes come last.
 pub record IsLaidOut (w : Setting) : Type 0 where
   pub hoisting : HoistsLast w.table
+  pub elements : (t : ℕ) (e : TypeId) → type_at w.table t ≡ Some (def.Pipe e) → FitsPipes w.table e.0
   pub pipes : AllByRecursion (IsPipeRoot w.table) (drop (before_pipes (root_list w)) (root_list w))
 
 pub drop_at : {X : Type 0} (n : ℕ) (xs : List X) (j : ℕ) → slice_get (drop n xs) j ≡ slice_get xs (n + j)
