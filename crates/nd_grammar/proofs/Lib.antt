@@ -1,6 +1,7 @@
 pub mod Big
 pub mod Carried
 pub mod Check
+pub mod Counting
 pub mod Forms
 pub mod HoistedMaxes
 pub mod Identifiers
@@ -29,5 +30,6 @@ pub mod PlainVerdict
 pub mod Ranges
 pub mod RootsMeeting
 pub mod Rows
+pub mod SameByMap
 pub mod Spelt
 pub mod Standings

@@ -33,7 +33,7 @@ module _ (C : Class → Option ℕ → Option ℕ → Type 0) (g g' : Graph) whe
   AllPointers (p ∷ ps) (q ∷ qs) = PointersMatch p q × AllPointers ps qs
   AllPointers _ _ = ⊥
 
-  both : (ps qs ps' qs' : List Pending) → AllPointers ps qs → AllPointers ps' qs' → AllPointers (ps ++ ps') (qs ++ qs')
+  pub both : (ps qs ps' qs' : List Pending) → AllPointers ps qs → AllPointers ps' qs' → AllPointers (ps ++ ps') (qs ++ qs')
   both [] [] ps' qs' a b = b
   both [] (q ∷ qs) ps' qs' a b = absurd a
   both (p ∷ ps) [] ps' qs' a b = absurd a

@@ -56,7 +56,7 @@ drop_at (suc n) (x ∷ xs) j =
     let e : suc (n + j) ≡ suc n + j = omega arith in
     drop_at n xs j ∙ ap (λ u. slice_get (x ∷ xs) u) e
 
-all_at : {X : Type 0} (P : X → Type 0) (xs : List X) (i : ℕ) (x : X) → AllByRecursion P xs → slice_get xs i ≡ Some x → P x
+pub all_at : {X : Type 0} (P : X → Type 0) (xs : List X) (i : ℕ) (x : X) → AllByRecursion P xs → slice_get xs i ≡ Some x → P x
 all_at P [] i x a e = cc
 all_at P (y ∷ ys) zero x a e = subst P (same_Some _ _ e) a.0
 all_at P (y ∷ ys) (suc i) x a e = all_at P ys i x a.1 e
@@ -76,7 +76,7 @@ module _ (two : Readings) (w : Setting) (g g' : Graph) where
         (drop (before_pipes (root_list w)) g'.roots)
 
   -- the roots that were due are carried
-  root_carried : (ys : List Pair) (i k : ℕ) → AllCarried two w g g' ys (due_roots i k) (due_roots i k) → (j : ℕ) → j < k → RootCarried two w g g' ys (i + j)
+  pub root_carried : (ys : List Pair) (i k : ℕ) → AllCarried two w g g' ys (due_roots i k) (due_roots i k) → (j : ℕ) → j < k → RootCarried two w g g' ys (i + j)
   root_carried ys i zero a j h = absurd (omega arith)
   root_carried ys i (suc k) a zero h = subst (RootCarried two w g g' ys) (omega arith) a.0
   root_carried ys i (suc k) a (suc j) h = subst (RootCarried two w g g' ys) (omega arith) (root_carried ys (suc i) k a.1 j (omega arith))
@@ -90,7 +90,7 @@ module _ (two : Readings) (w : Setting) (g g' : Graph) where
     X ys = AreMapped ys
 
     -- a root behind the first pipe
-    pipe_root : (i : ℕ) (r : Root) → slice_get (root_list w) i ≡ Some r → n ≤ i → IsPipeRoot w.table r
+    pub pipe_root : (i : ℕ) (r : Root) → slice_get (root_list w) i ≡ Some r → n ≤ i → IsPipeRoot w.table r
     pipe_root i r e h =
         let k : n + (i - n) ≡ i = omega arith in
         all_at (IsPipeRoot w.table) (drop n (root_list w)) (i - n) r laid.pipes (drop_at n (root_list w) (i - n) ∙ ap (slice_get (root_list w)) k ∙ e)
@@ -114,7 +114,7 @@ module _ (two : Readings) (w : Setting) (g g' : Graph) where
     no_unread_number : (k : Graph) (star : Bool) (i : ℕ) → slice_get k.roots i ≡ None → starred k star (root_at k i) ≡ None
     no_unread_number k star i e = ap (λ u. starred k star (or_unread u)) e ∙ no_number k star tree.Unread none (inl refl)
 
-    past : (rs : List Root) (vs : List Tree) (i : ℕ) → length vs ≡ length rs → slice_get rs i ≡ None → slice_get vs i ≡ None
+    pub past : (rs : List Root) (vs : List Tree) (i : ℕ) → length vs ≡ length rs → slice_get rs i ≡ None → slice_get vs i ≡ None
     past [] [] i h e = refl
     past [] (v ∷ vs) i h e = cc
     past (r ∷ rs) [] i h e = cc
