@@ -18,6 +18,7 @@ pub mod NextRootTests
 pub mod NextSteps
 pub mod NextStream
 pub mod NextWhole
+pub mod OneGraph
 pub mod Plain
 pub mod PlainBad
 pub mod PlainConforms
