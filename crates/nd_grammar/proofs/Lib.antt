@@ -29,6 +29,7 @@ pub mod PlainSteps
 pub mod PlainStreams
 pub mod PlainVerdict
 pub mod Ranges
+pub mod RefusedAlike
 pub mod RootsMeeting
 pub mod Rows
 pub mod SameByMap
