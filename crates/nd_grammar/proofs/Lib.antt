@@ -19,6 +19,7 @@ pub mod NextSteps
 pub mod NextStream
 pub mod NextWhole
 pub mod OneGraph
+pub mod OneRefusal
 pub mod Plain
 pub mod PlainBad
 pub mod PlainConforms
