@@ -12,6 +12,7 @@ pub mod Matching
 pub mod Next
 pub mod NextDeferral
 pub mod NextInPlace
+pub mod NextIndex
 pub mod NextPending
 pub mod NextPipes
 pub mod NextRootTests

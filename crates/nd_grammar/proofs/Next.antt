@@ -22,6 +22,7 @@ use Rattle.nd_graph.specs.Tree as tree
 use Rattle.nd_graph.specs.Tree.{Tree, Trees, node, none, more, count, nodes, Label, is_pointer, cell_in}
 use Rattle.nd_graph.specs.Nodes.{child_types, child_agreements, first_agreements, rest_agreements}
 use Rattle.nd_types.specs.Number.{unsigned, value_of_octets}
+use Rattle.nd_grammar.specs.NextEntry.{form}
 use Rattle.nd_grammar.specs.Entry.{Kind, Entry, Align, Max, Offset, Actual, Chunk, Number, Num, Tag, Text, Context, Test, Unread, size_at, EntryAt, end_to_end, end_of}
 use Rattle.nd_grammar.specs.InPlace.{before_children, entries, in_place, counts, tag_entries, tests, own_tests, child_tests}
 use Rattle.nd_grammar.specs.Represents.{piece, Spells, IsRendered, IsNumber, id_octets}
@@ -29,21 +30,6 @@ use Rattle.nd_types.specs.declared.types.Attr.{Attr}
 use Rattle.nd_types.specs.declared.types.Attr.TheVariants as attr
 use Rattle.nd_types.specs.declared.types.AttrVar.{AttrVar}
 use Rattle.nd_graph.specs.Agreement.{Agreement, agreement, max_of, offset_of, tag_of, actual, found_in, number_of, number_in, member_agreements}
-
--- what the entries before an entry fix of it: all but its value
-abbrev pub form : Kind → Kind
-form (Align n) = Align n
-form (Max v) = Max 0
-form (Offset t v) = Offset t 0
-form (Actual t offset limit v) = Actual t offset limit 0
-form (Chunk v) = Chunk 0
-form (Number class to cell) = Number class to None
-form (Num p values z) = Num p values (pos 0)
-form (Tag p values arms default z) = Tag p values arms default (pos 0)
-form (Text octets) = Text (replicate (length octets) 0)
-form (Context attributes id) = Context 0 []
-form (Test attr wanted found) = Test attr wanted found
-form Unread = Unread
 
 abbrev pub IsUnread : Entry → Type 0
 IsUnread m = m.kind ≡ Unread

@@ -18,7 +18,8 @@ use Rattle.nd_graph.specs.declared.item.Home.TheVariants as home
 use Rattle.nd_graph.specs.Setting.{cell_of_number, Among}
 use Rattle.std.proofs.lemmas.Bool.{and_parts, eqb-true}
 use Rattle.nd_grammar.proofs.Identifiers.{ids}
-use Rattle.nd_grammar.proofs.Next.{form, IsUnread, Alike, Pair, OneToOne, HomesMeet, Readings, Next, unread_left, unread_right}
+use Rattle.nd_grammar.specs.NextEntry.{form}
+use Rattle.nd_grammar.proofs.Next.{IsUnread, Alike, Pair, OneToOne, HomesMeet, Readings, Next, unread_left, unread_right}
 use Rattle.nd_grammar.proofs.Matching.{bare, class_of, CellsMatch, Match, Matched, CountsKnown, NodeKnown, Known, SameMax, Maxes, matched_nodes, matched_count, matched_number, child_agreements_same, through, pointer_bare, found_same}
 use Rattle.nd_graph.specs.Misfit.{has_shape, has_counts, has_machine_values, is_no_null_ref}
 use Rattle.nd_graph.specs.Tree.{Referent}

@@ -31,7 +31,8 @@ use Rattle.nd_graph.specs.Setting.{cell_tree}
 use Rattle.nd_grammar.proofs.NextPending.{PointersMatch, AllPointers, nodes_match, DueMatches, AllDueMatch, then_due}
 use Rattle.nd_graph.proofs.Orderly.{Pointee}
 use Rattle.nd_graph.proofs.Apart.{all_append, all_weaker, among_left, among_right}
-use Rattle.nd_grammar.proofs.Next.{form, IsUnread, Alike, Pair, IsApart, OneToOne, HomesMeet, Readings, Next, unread_left, unread_right, grown}
+use Rattle.nd_grammar.specs.NextEntry.{form}
+use Rattle.nd_grammar.proofs.Next.{IsUnread, Alike, Pair, IsApart, OneToOne, HomesMeet, Readings, Next, unread_left, unread_right, grown}
 use Rattle.nd_grammar.proofs.Matching.{bare, class_of, CellsMatch, Match, Matched, NodeKnown, Known, Maxes, matched_nodes, matched_count, matched_number, child_agreements_same, found_same}
 use Rattle.nd_grammar.proofs.NextInPlace.{Cells, in_place_next, tests_next}
 use Rattle.nd_grammar.proofs.NextWhole.{MaxesFrom, whole_value_next, unread_whole, unread_entry}

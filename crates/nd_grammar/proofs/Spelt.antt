@@ -11,7 +11,8 @@ use Rattle.nd_graph.specs.Setting.{Among}
 use Rattle.nd_graph.proofs.Apart.{among_left, among_right}
 use Rattle.nd_grammar.specs.Entry.{Kind, Entry, Align, Max, Offset, Actual, Chunk, Number, Num, Tag, Text, Context, Test, Unread, size_at, EntryAt, end_to_end, end_of, full_cell, full_cells}
 use Rattle.nd_grammar.specs.Represents.{piece, Spells, IsRendered, IsNumber, IsNumbering}
-use Rattle.nd_grammar.proofs.Next.{form, IsUnread, Pair, OneToOne, Readings, Next}
+use Rattle.nd_grammar.specs.NextEntry.{form}
+use Rattle.nd_grammar.proofs.Next.{IsUnread, Pair, OneToOne, Readings, Next}
 use Rattle.nd_grammar.proofs.Forms.{size_form}
 
 -- whether a cell is among these
@@ -92,7 +93,7 @@ spelt_carried order octets numbering cells x a r =
     (r.0, same_spelling order numbering (carried_on numbering cells) x.entry.kind (piece octets x.at x.entry.kind) (λ d h. sym (carried_same numbering cells d (a d h))) r.1)
 
 -- each entry's cells are among those of all
-abbrev CellsIn : List ℕ → EntryAt → Type 0
+abbrev pub CellsIn : List ℕ → EntryAt → Type 0
 CellsIn cells x = (d : ℕ) → Among (full_cell x.entry.kind) d → Among cells d
 
 pub cells_in : (at : ℕ) (ms : List Entry) (cells : List ℕ) → ((d : ℕ) → Among (full_cells ms) d → Among cells d)

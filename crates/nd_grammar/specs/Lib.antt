@@ -11,3 +11,4 @@ pub mod Plain
 pub mod Examples
 pub mod Primitives
 pub mod LegalSide
+pub mod NextEntry
