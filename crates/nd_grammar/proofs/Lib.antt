@@ -3,6 +3,8 @@ pub mod Carried
 pub mod Check
 pub mod Counting
 pub mod Forms
+pub mod GoodEntries
+pub mod GoodTrees
 pub mod HoistedMaxes
 pub mod Identifiers
 pub mod KnownNodes

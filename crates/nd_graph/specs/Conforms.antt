@@ -27,7 +27,7 @@ pub data Reached (w : Setting) (g : Graph) : ℕ → Type 0 where
   by_cell : {b c : ℕ} (x : Referent) (p : Pending) → Reached w g b → cell_of_number g b ≡ Some x
       → Among (home_pointers w.table (cell_home b) x.of x.val) p → p.cell ≡ Some c → Reached w g c
 
-abbrev subject_by : Graph → TypedNode → Label → List Tree
+abbrev pub subject_by : Graph → TypedNode → Label → List Tree
 subject_by g x (tree.Ptr None) = []
 subject_by g x (tree.Ptr (Some c)) = cell_at g c ∷ []
 subject_by g x l = node l x.kids ∷ []
