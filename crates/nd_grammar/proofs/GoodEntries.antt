@@ -105,7 +105,7 @@ good_before table g t (Some (def.Pipe x)) l ks a b c e f z0 m q = cc
 good_before table g t _ _ ks a b c e f z0 m q = cc
 
 -- the agreements of a value that hold are good tests
-good_tests : (g : Graph) (h : Home) (n : ℕ) (t : Tree) (ags : List Agreement) → AllByRecursion (IsAgreed t) ags → AllByRecursion (GoodEntry g) (tests h n t ags)
+pub good_tests : (g : Graph) (h : Home) (n : ℕ) (t : Tree) (ags : List Agreement) → AllByRecursion (IsAgreed t) ags → AllByRecursion (GoodEntry g) (tests h n t ags)
 good_tests g h n t [] a = tt
 good_tests g h n t (x ∷ ags) a = (sym a.0, good_tests g h n t ags a.1)
 

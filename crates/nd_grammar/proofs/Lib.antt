@@ -1,9 +1,11 @@
+pub mod Accepted
 pub mod Big
 pub mod Carried
 pub mod Check
 pub mod Counting
 pub mod Forms
 pub mod GoodEntries
+pub mod GoodStream
 pub mod GoodTrees
 pub mod HoistedMaxes
 pub mod Identifiers

@@ -28,10 +28,10 @@ fold_more : (a b : ℕ) (xs : List ℕ) → fold ◌+◌ (a + b) xs ≡ a + fold
 fold_more a b [] = refl
 fold_more a b (x ∷ xs) = ap (λ u. fold ◌+◌ u xs) (omega arith) ∙ fold_more a (b + x) xs
 
-sum_first : (k : ℕ) (xs : List ℕ) → sum (k ∷ xs) ≡ k + sum xs
+pub sum_first : (k : ℕ) (xs : List ℕ) → sum (k ∷ xs) ≡ k + sum xs
 sum_first k xs = ap (λ u. fold ◌+◌ u xs) (omega arith) ∙ fold_more k 0 xs
 
-count_drop : (k : ℕ) (ts : Trees) → k ≤ count ts → count (drop_trees k ts) + k ≡ count ts
+pub count_drop : (k : ℕ) (ts : Trees) → k ≤ count ts → count (drop_trees k ts) + k ≡ count ts
 count_drop zero ts h = omega arith
 count_drop (suc k) none h = absurd (omega arith)
 count_drop (suc k) (more t ts) h = let e = count_drop k ts (omega arith) in omega arith
