@@ -10,6 +10,7 @@ pub mod GoodTrees
 pub mod HoistedMaxes
 pub mod Identifiers
 pub mod KnownNodes
+pub mod LegalPipes
 pub mod LegalSides
 pub mod Mapped
 pub mod Matching

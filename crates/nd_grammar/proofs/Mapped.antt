@@ -128,7 +128,7 @@ all_replicate : (P : ℕ → Type 0) (n t : ℕ) → P t → AllByRecursion P (r
 all_replicate P zero t p = tt
 all_replicate P (suc n) t p = (p, all_replicate P n t p)
 
-in_parts : (P : ℕ → Type 0) (d : Option TypeDef) (l : Label) (ks : Trees) → AllByRecursion P (parts d) → AllByRecursion P (child_types d l ks)
+pub in_parts : (P : ℕ → Type 0) (d : Option TypeDef) (l : Label) (ks : Trees) → AllByRecursion P (parts d) → AllByRecursion P (child_types d l ks)
 in_parts P (Some (def.Struct ms)) tree.Rec ks a = a
 in_parts P (Some (def.Array e b v)) (tree.Arr m o) ks a = all_replicate P (count ks) e.0 a.0
 in_parts P (Some (def.Union tag enc arms default)) (tree.Union v) ks a = in_selected P arms default v a

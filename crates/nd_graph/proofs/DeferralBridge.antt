@@ -72,7 +72,7 @@ module _ (w : Setting) (g : Graph) where
       let t = one_repeated a b' in
       cc
 
-  some_before : (rs : List Root) → before_pipes rs ≤ length rs
+  pub some_before : (rs : List Root) → before_pipes rs ≤ length rs
   some_before [] = omega arith
   some_before (r ∷ rs) = go r.is_pipe (some_before rs)
     where

@@ -24,17 +24,17 @@ abbrev pub type_numbers : Table → List ℕ
 type_numbers types = map (λ e. e.0) (enumerate_from 0 types)
 
 -- the tag's type of a union
-abbrev tag_of : TypeDef → List ℕ
+abbrev pub tag_of : TypeDef → List ℕ
 tag_of (Union tag encapsulated arms default) = tag.0 ∷ []
 tag_of _ = []
 
 -- the pointee of a pointer
-abbrev pointee_of : TypeDef → List ℕ
+abbrev pub pointee_of : TypeDef → List ℕ
 pointee_of (Pointer class to) = to.0 ∷ []
 pointee_of _ = []
 
 -- the pointee of a unique or full pointer
-abbrev nullable_pointee_of : TypeDef → List ℕ
+abbrev pub nullable_pointee_of : TypeDef → List ℕ
 nullable_pointee_of (Pointer Ref to) = []
 nullable_pointee_of d = pointee_of d
 
