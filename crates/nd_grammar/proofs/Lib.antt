@@ -3,6 +3,7 @@ pub mod Big
 pub mod Carried
 pub mod Check
 pub mod Counting
+pub mod Excluded
 pub mod Forms
 pub mod GoodEntries
 pub mod GoodStream
