@@ -11,6 +11,7 @@ pub mod GoodTrees
 pub mod HoistedMaxes
 pub mod Identifiers
 pub mod KnownNodes
+pub mod LawExamples
 pub mod LegalPipes
 pub mod LegalSides
 pub mod Mapped

@@ -98,10 +98,10 @@ unfolding align_of hoists roots_of
 row_3 = represents (setting [] []) Little [] (record { roots = []; cells = [] }) [] [] 10 refl tt refl refl refl refl
 
 -- a ring of nodes: type 12 is struct { long v; [ptr] node *next }, type 13 the pointer
-abbrev ring : Setting
+abbrev pub ring : Setting
 ring = setting (def.Struct (field 7 [] ∷ field 13 [] ∷ []) ∷ def.Pointer Full (id 12) ∷ []) (param 13 ∷ [])
 
-abbrev ring_node : ℤ → ℕ → Referent
+abbrev pub ring_node : ℤ → ℕ → Referent
 ring_node v next = record { of = 12; val = rec_of (more (num v) (more (ptr (Some next)) none)) }
 
 abbrev ring_1 : Graph
@@ -110,20 +110,20 @@ ring_1 = record { roots = ptr (Some 1) ∷ []; cells = ring_node (pos 7) 1 ∷ [
 abbrev ring_1_octets : List ℕ
 ring_1_octets = 1 ∷ 0 ∷ 0 ∷ 0 ∷ 7 ∷ 0 ∷ 0 ∷ 0 ∷ 1 ∷ 0 ∷ 0 ∷ 0 ∷ []
 
-abbrev root_ptr : Pending
+abbrev pub root_ptr : Pending
 root_ptr = record { home = home.Root 0; node = 0; class = Full; to = 12; cell = Some 1; agreements = [] }
 
-abbrev next_ptr : ℕ → ℕ → Pending
+abbrev pub next_ptr : ℕ → ℕ → Pending
 next_ptr c next = record { home = cell_home c; node = 2; class = Full; to = 12; cell = Some next; agreements = [] }
 
 pub row_4 : Represents ring Little ring_1_octets ring_1
 unfolding align_of hoists roots_of
 row_4 = represents ring Little ring_1_octets ring_1 (root_stands 0 ∷ referent_stands root_ptr 1 ∷ stands_already (next_ptr 1 1) 1 ∷ []) [] 10 refl tt refl refl refl refl
 
-abbrev ring_2 : Graph
+abbrev pub ring_2 : Graph
 ring_2 = record { roots = ptr (Some 1) ∷ []; cells = ring_node (pos 7) 2 ∷ ring_node (pos 8) 1 ∷ [] }
 
-abbrev ring_2_octets : List ℕ
+abbrev pub ring_2_octets : List ℕ
 ring_2_octets = 1 ∷ 0 ∷ 0 ∷ 0 ∷ 7 ∷ 0 ∷ 0 ∷ 0 ∷ 2 ∷ 0 ∷ 0 ∷ 0 ∷ 8 ∷ 0 ∷ 0 ∷ 0 ∷ 1 ∷ 0 ∷ 0 ∷ 0 ∷ []
 
 pub row_5 : Represents ring Little ring_2_octets ring_2
@@ -476,7 +476,7 @@ unfolding align_of hoists roots_of
 row_cut_3 =
     bad_so add Little (upto 3 add_octets) 3 reason.Truncated cut_partial [] 20 1 _ _ (partial_so add cut_partial refl refl refl refl) refl tt refl refl refl refl refl
 
-abbrev ring_partial : Graph
+abbrev pub ring_partial : Graph
 ring_partial = record { roots = ptr (Some 1) ∷ []; cells = cell 12 (two (num (pos 0)) unread) ∷ [] }
 
 pub row_ring_6 : Bad ring Little (upto 6 ring_2_octets) 6 reason.Truncated
@@ -485,7 +485,7 @@ row_ring_6 =
     bad_so ring Little (upto 6 ring_2_octets) 6 reason.Truncated ring_partial [] 20 4 _ _ (partial_so ring ring_partial refl refl refl refl) refl tt refl refl refl refl refl
 
 -- the second node's number is read, and the node itself is unread
-abbrev ring_partial_12 : Graph
+abbrev pub ring_partial_12 : Graph
 ring_partial_12 = record { roots = ptr (Some 1) ∷ []; cells = cell 12 (two (num (pos 7)) (ptr (Some 2))) ∷ cell 12 (two (num (pos 0)) unread) ∷ [] }
 
 pub row_ring_12 : Bad ring Little (upto 12 ring_2_octets) 12 reason.Truncated
