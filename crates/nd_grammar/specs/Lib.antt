@@ -12,3 +12,4 @@ pub mod Examples
 pub mod Primitives
 pub mod LegalSide
 pub mod NextEntry
+pub mod Reader
