@@ -30,7 +30,7 @@ pub data Reached (w : Setting) (g : Graph) : ℕ → Type 0 where
       → Among (home_pointers w.table (cell_home b) x.of x.val) p → p.cell ≡ Some c → Reached w g c
 
 -- what a governed node's agreements speak of, by the node's label
-abbrev subject_by : Graph → TypedNode → Label → List Tree
+abbrev pub subject_by : Graph → TypedNode → Label → List Tree
 subject_by g x (tree.Ptr None) = []
 subject_by g x (tree.Ptr (Some c)) = cell_at g c ∷ []
 subject_by g x l = node l x.kids ∷ []
