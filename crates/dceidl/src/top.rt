@@ -31,9 +31,36 @@ use nd_grammar::Reason;
 use std::alloc::{AllocError, Global};
 
 /// The status that the program ends with.
+///
+/// | Status | What it says |
+/// |---|---|
+/// | 0 | what the words ask for is done |
+/// | 1 | the octets of the input are refused |
+/// | 2 | the words are no command |
+/// | 3 | the input failed |
+/// | 4 | standard output or standard error failed; it takes the place of any other status |
+/// | 5 | memory was wanting |
+/// | 6 | the interface file is of a form that is not built yet, or has no operation of the name |
+/// | 7 | the interface file is absent |
+/// | 9 | the interface file was not read |
+///
+/// No run ends with 8, which is kept.
 pub type Status = u8;
 
 /// Does what the words ask for, and answers the status.
+///
+/// `--help` and `--version` write their text to `out`. `decode` loads the interface file, reads the input to its
+/// end or to one octet past [`STREAM_LIMIT`](nd_base::STREAM_LIMIT), and writes the values of the operation's [in]
+/// parameters (C706, chapter 14) to `out` as text. Each is asked for only when it is due: no file where the words are
+/// not `decode`, and no input before the file is loaded and read and the operation is found. A file is loaded once.
+///
+/// Nothing is written before all else is past. A run that is done writes its text to `out` and nothing to `notes`. A run
+/// that is refused writes nothing to `out` and one line to `notes`; where several refusals are due it is the first in the
+/// order of work. Where `out` fails, a prefix of the text may stand there, `notes` is told of it in a line, and the status
+/// is 4; where `notes` fails the status is 4 too.
+///
+/// Memory is taken for the file and what it declares, for the input with a buffer of 65,536 octets while it is read, for
+/// the values, and for the text or the line. All of it is given back before the status is answered.
 pub fn run<F: Files, S: Source, K: Sink, N: Sink>(
     alloc: Global,
     words: &Words,
