@@ -54,8 +54,8 @@ module _ (w : Setting) (none_inside : HoldsNoPipe w.table) (g : Graph) where
   good_pointer t (Some (def.Pointer k to)) (tree.Ptr (Some b)) ks h n ags e f p a = (
     record {
       pointee = λ c s.
-      subst (λ u. (x : Referent) × (cell_of_number g u ≡ Some x) × (x.of ≡ to.0)) (same_Some _ _ s)
-      (pointee_of_cell g k to b f.cell (subst (λ u. names_pointee g u (tree.Ptr (Some b)) ≡ true) e f.pointee));
+          subst (λ u. (x : Referent) × (cell_of_number g u ≡ Some x) × (x.of ≡ to.0)) (same_Some _ _ s)
+          (pointee_of_cell g k to b f.cell (subst (λ u. names_pointee g u (tree.Ptr (Some b)) ≡ true) e f.pointee));
       no_pipe = none_inside.pointee t k to e p;
       agrees = λ c s. subst (λ u. AllByRecursion (IsAgreed (cell_at g u)) ags) (same_Some _ _ s) a.0;
     },
@@ -219,8 +219,7 @@ module _ (w : Setting) (none_inside : HoldsNoPipe w.table) (g : Graph) where
     roots_due : (i n : ℕ) → ((j : ℕ) → j < n → DueGood (due_root (i + j))) → AllByRecursion DueGood (due_roots i n)
     roots_due i zero f = tt
     roots_due i (suc n) f =
-        let e : i + 0 ≡ i = omega arith in
-        (
+        let e : i + 0 ≡ i = omega arith in (
           subst (λ u. DueGood (due_root u)) e (f 0 (omega arith)),
           roots_due (suc i) n (λ j h. (let q : i + suc j ≡ suc i + j = omega arith in subst (λ u. DueGood (due_root u)) q (f (suc j) (omega arith)))),
         )

@@ -107,14 +107,14 @@ module _ (table : Table) (operations : List Operation) (legal : IsLegal table op
     unfolds = hoists-legal table operations legal;
     members = λ t ms e. only_last table ms (passes_at _ table t (def.Struct ms) legal.hoisting_members e);
     element = λ t x b v e. (
-    let h = passes_at _ table t (def.Array x b v) legal.array_elements e in
-    let (a, c) = and_parts _ _ h in
-    not-true _ a);
+        let h = passes_at _ table t (def.Array x b v) legal.array_elements e in
+        let (a, c) = and_parts _ _ h in
+        not-true _ a);
     piped = λ t x e. limit_none table x.0 (passes_at _ table t (def.Pipe x) legal.pipe_elements e);
     arms = λ t tag enc arms default v e.
-    in_selected (λ u. hoists table u ≡ false) arms default v
-    (all_weaker _ _ (λ u h. not-true _ h) (arm_types arms ++ default_type default)
-    (all_of_list _ _ (passes_at _ table t (def.Union tag enc arms default) legal.hoisting_arms e)));
+        in_selected (λ u. hoists table u ≡ false) arms default v
+        (all_weaker _ _ (λ u h. not-true _ h) (arm_types arms ++ default_type default)
+        (all_of_list _ _ (passes_at _ table t (def.Union tag enc arms default) legal.hoisting_arms e)));
   }
 
   -- a test of fields passes at each parameter of each operation
@@ -214,8 +214,7 @@ module _ (table : Table) (operations : List Operation) (legal : IsLegal table op
       let (r, er, hr) = c.0 in
       let A = subst (λ u. (not (has_size u) || (is_conformant_array (subject_type table u) || is_conformant_text (subject_type table u))) ≡ true) ep hp in
       let B = subst (λ u. (not (has_range_attr u) || is_varying_array (subject_type table u)) ≡ true) eq hq in
-      let C = subst (λ u. (not (has_attr Switch u) || is_switched table u.of.0) ≡ true) er hr in
-      (
+      let C = subst (λ u. (not (has_attr Switch u) || is_switched table u.of.0) ≡ true) er hr in (
         (λ e s. no_attr f e s (sized_false f e s A) (ranged_false f e s B) (switched_false f e s C) f.vars refl),
         bare_fields fs a.1 b.1 c.1,
       )

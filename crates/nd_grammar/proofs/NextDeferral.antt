@@ -38,7 +38,6 @@ use Rattle.nd_grammar.proofs.NextInPlace.{Cells, in_place_next, tests_next}
 use Rattle.nd_grammar.proofs.NextWhole.{MaxesFrom, whole_value_next, unread_whole, unread_entry}
 use Rattle.nd_grammar.proofs.Carried.{InMap, AllInMap, carried}
 use Rattle.nd_grammar.proofs.Standings.{firsts, seconds, firsts_append, seconds_append, free_apart, one_to_one, SameTop, found_top, top_of, PairFits, IsClosed, RootCarried, AllCarried, Stands, RootsAlike, RootsMeet, IsUnreadTree, partner, partner', no_right, no_left, full_match, cells_of, in_map, carried_parts, home_match, home_carried}
-
 use Rattle.nd_grammar.proofs.NextSteps.{root_next, referent_next, known_cell, known_cell', after_root, after_null, after_standing, after_referent, next_due}
 
 module _ (two : Readings) (X : List Pair → Type 0) (w : Setting) (g g' : Graph)

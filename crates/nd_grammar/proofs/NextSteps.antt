@@ -39,7 +39,6 @@ use Rattle.nd_grammar.proofs.NextWhole.{MaxesFrom, whole_value_next, unread_whol
 use Rattle.nd_grammar.proofs.Carried.{InMap, AllInMap, carried}
 use Rattle.nd_grammar.proofs.Standings.{firsts, seconds, firsts_append, seconds_append, free_apart, one_to_one, SameTop, found_top, top_of, PairFits, IsClosed, RootCarried, AllCarried, Stands, RootsAlike, RootsMeet, IsUnreadTree, partner, partner', no_right, no_left, full_match, cells_of, in_map, carried_parts, home_match, home_carried}
 
-
 module _ (two : Readings) (X : List Pair → Type 0) (w : Setting) (g g' : Graph)
     (cells : (c : ℕ) (x : Referent) → cell_of_number g c ≡ Some x → Known g w.table (x.of ∷ []) (more x.val none))
     (cells' : (c : ℕ) (x : Referent) → cell_of_number g' c ≡ Some x → Known g' w.table (x.of ∷ []) (more x.val none))

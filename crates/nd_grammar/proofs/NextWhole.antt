@@ -37,7 +37,6 @@ use Rattle.nd_grammar.proofs.Matching.{bare, class_of, CellsMatch, Match, Matche
 use Rattle.nd_grammar.proofs.NextInPlace.{Cells, in_place_next, tests_next}
 use Rattle.nd_grammar.proofs.Carried.{InMap, AllInMap, carried}
 
-
 unread_or : (l : Label) → (l ≡ tree.Unread) ⊎ ((m : ℕ) → hoisted true l m ≡ Align 4 ∷ Max m ∷ [])
 unread_or tree.Unread = inl refl
 unread_or (tree.Num z) = inr (λ m. refl)

@@ -38,7 +38,6 @@ use Rattle.nd_grammar.proofs.NextInPlace.{Cells, in_place_next, tests_next}
 use Rattle.nd_grammar.proofs.NextWhole.{MaxesFrom, whole_value_next, unread_whole, unread_entry}
 use Rattle.nd_grammar.proofs.Carried.{InMap, AllInMap, carried}
 
-
 abbrev pub firsts : List Pair → Placed_cells
 firsts [] = []
 firsts (x ∷ xs) = (x.class, x.left) ∷ firsts xs

@@ -127,8 +127,7 @@ module _ (w : Setting) (g : Graph) (cells_fit : AllByRecursion (Fits g w.table) 
       let start : AllEarlier ShareOnlyIfFull (taken ++ ((ps ++ F) ++ (X ++ (B ++ us)))) =
       subst (AllEarlier ShareOnlyIfFull) (ap (λ u. taken ++ (ps ++ (u ++ us))) now ∙ five taken ps F X B us) a in
       let end : AllEarlier ShareOnlyIfFull (taken ++ ((X ++ ps) ++ ((F ++ B) ++ us))) =
-      subst (AllEarlier ShareOnlyIfFull) (five' taken ps F X B us) (moved ShareOnlyIfFull turned taken (ps ++ F) X (B ++ us) start) in
-      (
+      subst (AllEarlier ShareOnlyIfFull) (five' taken ps F X B us) (moved ShareOnlyIfFull turned taken (ps ++ F) X (B ++ us) start) in (
         subst (λ u. AllEarlier ShareOnlyIfFull (taken ++ ((X ++ ps) ++ (u ++ us)))) (sym then) end,
         ap (λ u. suc (length u)) b ∙ ap suc (length-append front back) ∙ omega arith ∙ sym (ap length f ∙ length-append front ((c, x) ∷ back)),
       )

@@ -43,7 +43,6 @@ pub record Orderly (w : Setting) (g : Graph) : Type 0 where
 abbrev pub Pointee : Graph → Pending → Type 0
 Pointee g p = (c : ℕ) → p.cell ≡ Some c → (x : Referent) × (cell_of_number g c ≡ Some x) × (x.of ≡ p.to)
 
-
 module _ (g : Graph) where
   cell_there : (c : ℕ) → names_cell g (tree.Ptr (Some c)) ≡ true → (x : Referent) × (cell_of_number g c ≡ Some x)
   cell_there zero e = absurd (eqb-false zero zero (not-true _ (and_parts (not (eqb 0 0)) (leb 0 (length g.cells)) e).0) refl)

@@ -67,8 +67,7 @@ module _ (done : Placed_cells) (k : Class) (c : ℕ) where
       let s : y ≡ x = same_Some _ _ e in
       let fc : n ≡ c = omega arith in
       let b : stands done n ≡ false = ap (stands done) fc ∙ h in
-      let b' : stands more_done n ≡ true = ap (λ u. u || stands done n) (eq-eqb n c fc) in
-      (
+      let b' : stands more_done n ≡ true = ap (λ u. u || stands done n) (eq-eqb n c fc) in (
         [],
         waiting done (n + 1) ys,
         ap (λ u. kept u (n, y) (waiting done (n + 1) ys)) b ∙ ap₂ (λ u v. (u, v) ∷ waiting done (n + 1) ys) fc s,
@@ -78,16 +77,14 @@ module _ (done : Placed_cells) (k : Class) (c : ℕ) where
     where
       go : (b : Bool) → stands done n ≡ b → Parted (n + 1) ys x → Parted n (y ∷ ys) x
       go true z r =
-          let (front, back, p, q) = r in
-          (
+          let (front, back, p, q) = r in (
             front,
             back,
             ap (λ u. kept u (n, y) (waiting done (n + 1) ys)) z ∙ p,
             ap (λ u. kept u (n, y) (waiting more_done (n + 1) ys)) (other n (λ u. omega arith) ∙ z) ∙ q,
           )
       go false z r =
-          let (front, back, p, q) = r in
-          (
+          let (front, back, p, q) = r in (
             (n, y) ∷ front,
             back,
             ap (λ u. kept u (n, y) (waiting done (n + 1) ys)) z ∙ ap (λ u. (n, y) ∷ u) p,
