@@ -17,7 +17,6 @@ use Rattle.nd_grammar.specs.Prefix.{BeginsWith}
 use Rattle.plain_idl.specs.Plain.{IsPlainFile}
 use Rattle.plain_ndr.specs.Decoding.{inputs_of}
 use Rattle.value_text.specs.Printed.{IsText}
-use Rattle.dceidl.specs.declared.TheConstants.{INPUT_LIMIT}
 use Rattle.dceidl.specs.declared.decode.Ready.{Ready}
 use Rattle.dceidl.specs.declared.decode.Refusal.{Refusal}
 use Rattle.dceidl.specs.declared.decode.Refusal.TheVariants.{Memory, Absent, FileFailed, NotBuilt, NoOperation, ReadFault, BadOctets}
@@ -55,7 +54,7 @@ pub file_refused : (f : FilesSeen) (idl op file : List ℕ) → IsContent f.held
 file_refused f idl op file content (Ok r) cause = tt
 file_refused f idl op file content (Err e) cause = no_interface f idl op file content e cause
 
-take_whole : (n : ℕ) (xs : List ℕ) → length xs ≤ n → take n xs ≡ xs
+pub take_whole : (n : ℕ) (xs : List ℕ) → length xs ≤ n → take n xs ≡ xs
 take_whole zero [] h = refl
 take_whole zero (x ∷ xs) h = absurd (omega (arith, h))
 take_whole (suc n) [] h = refl

@@ -1,5 +1,5 @@
 -- What the command `decode` answers, and for which causes it refuses: the files first, then the input.
-use Rattle.std.specs.Prelude.{◌≡◌, ◌⊎◌, ℕ, ◌+◌, ◌<◌, true, List, [], length, Option, None, Some, ⊤}
+use Rattle.std.specs.Prelude.{◌≡◌, ◌⊎◌, ℕ, ◌+◌, ◌<◌, ◌≤◌, true, List, [], length, Option, None, Some, ⊤}
 use Rattle.std.specs.List.{slice_get}
 use Rattle.std.specs.Io.KnownBytes.{Consumes, IsAtEnd}
 use Rattle.nd_base.specs.Outside.{IsContent, IsMissing}
@@ -16,8 +16,8 @@ use Rattle.nd_grammar.specs.Bad.{Bad}
 use Rattle.plain_idl.specs.Plain.{IsPlainFile}
 use Rattle.plain_ndr.specs.Decoding.{inputs_of}
 use Rattle.value_text.specs.Printed.{IsText}
-use Rattle.dceidl.specs.declared.TheConstants.{INPUT_LIMIT}
-use Rattle.dceidl.specs.Outside.{FilesSeen, SourceSeen, HasRisen}
+use Rattle.nd_base.specs.declared.TheConstants.{STREAM_LIMIT}
+use Rattle.dceidl.specs.Outside.{FilesSeen, SourceSeen, HasRisen, IsUntouched}
 use Rattle.dceidl.specs.declared.decode.Refusal.{Refusal}
 use Rattle.dceidl.specs.declared.decode.Refusal.TheVariants.{Memory, Absent, FileFailed, NotBuilt, NoOperation, ReadFault, BadOctets}
 use Rattle.dceidl.specs.declared.decode.OctetsFault.{OctetsFault}
@@ -52,8 +52,9 @@ IsFileCause f idl op refusal = (file : List ℕ) × IsContent f.held idl file ×
 -- These octets were read: the whole input, or its first octets to one past the limit of a stream.
 pub record IsRead (s : SourceSeen) (octets : List ℕ) : Type 0 where
   pub taken : Consumes s.left s.left_now octets
-  pub whole : length octets < INPUT_LIMIT + 1 → s.ended ≡ true
-  pub none_left : length octets < INPUT_LIMIT + 1 → IsAtEnd s.left_now
+  pub few : length octets ≤ STREAM_LIMIT + 1
+  pub whole : length octets < STREAM_LIMIT + 1 → s.ended ≡ true
+  pub none_left : length octets < STREAM_LIMIT + 1 → IsAtEnd s.left_now
 
 -- The octets before a place are a stream of a graph that conforms, and an octet follows.
 pub record IsTrailing (w : Setting) (order : Order) (octets : List ℕ) (place : ℕ) : Type 0 where
@@ -84,10 +85,10 @@ IsInputCause s w order ReadFault = HasRisen s.faults
 IsInputCause s w order Memory = ⊤
 IsInputCause s w order refusal = (octets : List ℕ) × IsRead s octets × IsOctetsCause w order octets refusal
 
--- why `decode` is refused: the files are, or they are ready and the input is
+-- Why `decode` is refused: the files are, and the input is not asked for; or they are ready, and the input is refused.
 abbrev pub IsCause : FilesSeen → SourceSeen → List ℕ → List ℕ → Order → Refusal → Type 0
 IsCause f s idl op order refusal =
-    IsFileCause f idl op refusal
+    (IsFileCause f idl op refusal × IsUntouched s)
     ⊎ ((i : Interface) × (n : ℕ) × (o : Operation) × IsReady f idl op i n o × IsInputCause s (inputs_of i o) order refusal)
 
 -- The octets are a stream of a graph that conforms, and the text is that graph's.

@@ -4,7 +4,7 @@ use Rattle.nd_base.specs.declared.octets.Order.{Order}
 use Rattle.nd_types.specs.declared.interface.Interface.{Interface}
 use Rattle.nd_types.specs.declared.types.Operation.{Operation}
 use Rattle.dceidl.specs.Words.{Command, command, Decode, Help, Version}
-use Rattle.dceidl.specs.Outside.{FilesSeen, SourceSeen, SinkSeen, HasRisen, Got, GotPrefix, IsAsBefore}
+use Rattle.dceidl.specs.Outside.{FilesSeen, SourceSeen, SinkSeen, HasRisen, Got, GotPrefix, IsAsBefore, IsUntouched, AreUntouched}
 use Rattle.dceidl.specs.Decode.{IsCause, IsDecoded, IsReady}
 use Rattle.plain_ndr.specs.Decoding.{inputs_of}
 use Rattle.dceidl.specs.Lines.{line_of, status_of}
@@ -21,11 +21,16 @@ IsDecodeOutcome f s idl op order (Refused status line) =
     (refusal : Refusal) × IsCause f s idl op order refusal × (status ≡ status_of refusal) × (line ≡ line_of idl op refusal)
 IsDecodeOutcome f s idl op order Wanting = Unit {0}
 
+-- Only `decode` asks for files and for the input.
+pub record AsksNothing (f : FilesSeen) (s : SourceSeen) : Type 0 where
+  pub files : AreUntouched f
+  pub source : IsUntouched s
+
 -- What a command comes to; None is words that are no command. Memory may be wanting at any time.
 abbrev pub IsOutcome : FilesSeen → SourceSeen → Option Command → Outcome → Type 0
-IsOutcome f s None outcome = (outcome ≡ Refused 2 (codes "words refused\n")) ⊎ (outcome ≡ Wanting)
-IsOutcome f s (Some Help) outcome = (outcome ≡ Done HELP.now) ⊎ (outcome ≡ Wanting)
-IsOutcome f s (Some Version) outcome = (outcome ≡ Done VERSION.now) ⊎ (outcome ≡ Wanting)
+IsOutcome f s None outcome = ((outcome ≡ Refused 2 (codes "words refused\n")) ⊎ (outcome ≡ Wanting)) × AsksNothing f s
+IsOutcome f s (Some Help) outcome = ((outcome ≡ Done HELP.now) ⊎ (outcome ≡ Wanting)) × AsksNothing f s
+IsOutcome f s (Some Version) outcome = ((outcome ≡ Done VERSION.now) ⊎ (outcome ≡ Wanting)) × AsksNothing f s
 IsOutcome f s (Some (Decode idl op order)) outcome = IsDecodeOutcome f s idl op order outcome
 
 -- `write fault` stands on notes, or a prefix of it where notes failed too

@@ -14,9 +14,6 @@ pub use outcome::Outcome;
 pub use top::{Status, run};
 pub use words::Words;
 
-/// How many octets of the input count. One more is read, and no octet past it changes an answer.
-pub const INPUT_LIMIT: u32 = 16_777_216;
-
 /// What `--help` prints.
 pub const HELP: &str = "\
 usage: dceidl decode IDL - OP in little

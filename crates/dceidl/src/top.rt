@@ -1,9 +1,24 @@
 // The top call: what the words ask for is done, and what it comes to is written.
 ghost use Rattle.value_text.specs.Text.{joined};
 ghost use Rattle.std.specs.Prelude.{[], ◌∷◌, ◌≡◌, ◌≢◌, ◌≤◌, ◌<◌, ◌⊎◌, length, codes, ℕ, List, Some, None, IfOk, string_bytes};
-ghost use Rattle.dceidl.specs.Words.{command};
+ghost use Rattle.dceidl.specs.Words.{command, Decode};
 ghost use Rattle.dceidl.specs.Outside.{files_seen, source_seen, sink_seen};
 ghost use Rattle.dceidl.specs.Lines.{status_of, line_of, fault_text, reason_text, reason_name as name_of};
+ghost use Rattle.std.specs.Io.KnownBytes.{Appends};
+ghost use Rattle.nd_base.specs.Counts.{Rose};
+ghost use Rattle.dceidl.specs.Rows.{IsOneOf, ReadsInput, IsDueAndMissing, IsSomeDue, IsDone, IsRefused, IsSound, IsAccepted, IsInput, IsHeld, Refuses};
+ghost use Rattle.dceidl.specs.Decode.{IsTrailing};
+ghost use Rattle.nd_base.specs.declared.octets.Order.{Order};
+ghost use Rattle.nd_types.specs.declared.interface.Interface.{Interface};
+ghost use Rattle.nd_types.specs.declared.types.Operation.{Operation};
+ghost use Rattle.nd_types.specs.Operations.{operation_named};
+ghost use Rattle.nd_graph.specs.declared.value.Graph.{Graph};
+ghost use Rattle.nd_graph.specs.Conforms.{Conforms};
+ghost use Rattle.nd_grammar.specs.declared.reason.Reason.{Reason as ReasonValue};
+ghost use Rattle.nd_grammar.specs.Represents.{Represents};
+ghost use Rattle.nd_grammar.specs.Bad.{Bad};
+ghost use Rattle.plain_idl.specs.Plain.{IsPlainFile};
+ghost use Rattle.plain_ndr.specs.Decoding.{inputs_of};
 ghost use Rattle.dceidl.specs.Run.{IsOutcome, IsDelivered, HasRun, IsTold};
 
 use crate::decode::{OctetsFault, Refusal, decode};
@@ -32,6 +47,75 @@ pub fn run<F: Files, S: Source, K: Sink, N: Sink>(
         (source_seen S.left S.ended S.faults input.old input.new)
         (sink_seen K.written K.faults out.old out.new)
         (sink_seen N.written N.faults notes.old notes.new) result }
+    // What each status says.
+    ensures statuses { (result ≤ 7) ⊎ (result ≡ 9) }
+    ensures words { result ≡ 2 → command words.now ≡ None }
+    ensures words_exactly { command words.now ≡ None → IsOneOf result 2 4 5 }
+    ensures words_line { result ≡ 2 → Appends (N.written notes.old) (N.written notes.new) (codes "words refused\n") }
+    ensures read { result ≡ 3 → Rose (S.faults input.old) (S.faults input.new) × ReadsInput (command words.now) }
+    ensures write { result ≡ 4 → Rose (K.faults out.old) (K.faults out.new) ⊎ Rose (N.faults notes.old) (N.faults notes.new) }
+    ensures absent { result ≡ 7 → Rose (F.absences files.old) (F.absences files.new)
+        × IsDueAndMissing (command words.now) (F.held files.old) }
+    ensures file { result ≡ 9 → Rose (F.faults files.old) (F.faults files.new) × IsSomeDue (command words.now) }
+    ensures quiet { result ≡ 0 → N.written notes.new ≡ N.written notes.old }
+    ensures nothing_given { result ≢ 0 → result ≢ 4 → K.written out.new ≡ K.written out.old }
+    // What `decode` comes to: it is done, or it is refused for a cause, under its status and with its line.
+    ensures done { (idl op : List ℕ) (order : Order) → command words.now ≡ Some (Decode idl op order) → result ≡ 0
+        → IsDone (files_seen F.held F.absences F.faults files.old files.new)
+        (source_seen S.left S.ended S.faults input.old input.new)
+        (sink_seen K.written K.faults out.old out.new)
+        (sink_seen N.written N.faults notes.old notes.new) idl op order }
+    ensures refused { (idl op : List ℕ) (order : Order) → command words.now ≡ Some (Decode idl op order)
+        → result ≢ 0 → result ≢ 4 → result ≢ 5
+        → IsRefused (files_seen F.held F.absences F.faults files.old files.new)
+        (source_seen S.left S.ended S.faults input.old input.new)
+        (sink_seen K.written K.faults out.old out.new)
+        (sink_seen N.written N.faults notes.old notes.new) idl op order result }
+    // What comes where nothing fails outside: status 0 where the octets represent a graph that conforms, else the refusal
+    // whose cause holds. Memory may be wanting in each of these cases.
+    ensures complete { (idl op : List ℕ) (order : Order) (i : Interface) (n : ℕ) (o : Operation) (octets : List ℕ) (g : Graph)
+        → command words.now ≡ Some (Decode idl op order)
+        → IsSound (files_seen F.held F.absences F.faults files.old files.new)
+        (source_seen S.left S.ended S.faults input.old input.new)
+        (sink_seen K.written K.faults out.old out.new) (sink_seen N.written N.faults notes.old notes.new)
+        → IsAccepted (files_seen F.held F.absences F.faults files.old files.new) idl op i n o
+        → IsInput (source_seen S.left S.ended S.faults input.old input.new) octets
+        → Represents (inputs_of i o) order octets g → Conforms (inputs_of i o) g
+        → (result ≡ 0) ⊎ (result ≡ 5) }
+    ensures bad { (idl op : List ℕ) (order : Order) (i : Interface) (n : ℕ) (o : Operation) (octets : List ℕ) (place : ℕ) (why : ReasonValue)
+        → command words.now ≡ Some (Decode idl op order)
+        → IsSound (files_seen F.held F.absences F.faults files.old files.new)
+        (source_seen S.left S.ended S.faults input.old input.new)
+        (sink_seen K.written K.faults out.old out.new) (sink_seen N.written N.faults notes.old notes.new)
+        → IsAccepted (files_seen F.held F.absences F.faults files.old files.new) idl op i n o
+        → IsInput (source_seen S.left S.ended S.faults input.old input.new) octets
+        → Bad (inputs_of i o) order octets place why
+        → Refuses idl op (sink_seen N.written N.faults notes.old notes.new) result (Refusal.BadOctets place (OctetsFault.Refused why)) }
+    ensures trailing { (idl op : List ℕ) (order : Order) (i : Interface) (n : ℕ) (o : Operation) (octets : List ℕ) (place : ℕ)
+        → command words.now ≡ Some (Decode idl op order)
+        → IsSound (files_seen F.held F.absences F.faults files.old files.new)
+        (source_seen S.left S.ended S.faults input.old input.new)
+        (sink_seen K.written K.faults out.old out.new) (sink_seen N.written N.faults notes.old notes.new)
+        → IsAccepted (files_seen F.held F.absences F.faults files.old files.new) idl op i n o
+        → IsInput (source_seen S.left S.ended S.faults input.old input.new) octets
+        → IsTrailing (inputs_of i o) order octets place
+        → Refuses idl op (sink_seen N.written N.faults notes.old notes.new) result (Refusal.BadOctets place OctetsFault.Trailing) }
+    ensures not_built { (idl op : List ℕ) (order : Order) (file : List ℕ)
+        → command words.now ≡ Some (Decode idl op order)
+        → IsSound (files_seen F.held F.absences F.faults files.old files.new)
+        (source_seen S.left S.ended S.faults input.old input.new)
+        (sink_seen K.written K.faults out.old out.new) (sink_seen N.written N.faults notes.old notes.new)
+        → IsHeld (files_seen F.held F.absences F.faults files.old files.new) idl file
+        → ((i : Interface) → IsPlainFile file i → ⊥)
+        → Refuses idl op (sink_seen N.written N.faults notes.old notes.new) result Refusal.NotBuilt }
+    ensures no_operation { (idl op : List ℕ) (order : Order) (file : List ℕ) (i : Interface)
+        → command words.now ≡ Some (Decode idl op order)
+        → IsSound (files_seen F.held F.absences F.faults files.old files.new)
+        (source_seen S.left S.ended S.faults input.old input.new)
+        (sink_seen K.written K.faults out.old out.new) (sink_seen N.written N.faults notes.old notes.new)
+        → IsHeld (files_seen F.held F.absences F.faults files.old files.new) idl file
+        → IsPlainFile file i → operation_named i.operations op ≡ None
+        → Refuses idl op (sink_seen N.written N.faults notes.old notes.new) result Refusal.NoOperation }
 {
     let outcome = answer(alloc, words, files, input);
     deliver(&outcome, out, notes)

@@ -1,4 +1,6 @@
 -- When a graph conforms to a side of an operation, and what a partial graph is.
+-- `w` is a setting, `g` a graph, `p` and `q` are pointers, `c` and `b` numbers of cells, `x` is a node or a cell, `t` a tree,
+-- `l` a label, `a` an agreement.
 use Rattle.std.specs.Prelude.{◌≡◌, ℕ, ◌+◌, ◌^◌, ◌<◌, true, List, [], ◌∷◌, ◌++◌, length, Option, Some, None, map}
 use Rattle.std.specs.List.{list_all, AllByRecursion}
 use Rattle.nd_types.specs.declared.types.Class.TheVariants.{Full}
@@ -27,6 +29,7 @@ pub data Reached (w : Setting) (g : Graph) : ℕ → Type 0 where
   by_cell : {b c : ℕ} (x : Referent) (p : Pending) → Reached w g b → cell_of_number g b ≡ Some x
       → Among (home_pointers w.table (cell_home b) x.of x.val) p → p.cell ≡ Some c → Reached w g c
 
+-- what a governed node's agreements speak of, by the node's label
 abbrev subject_by : Graph → TypedNode → Label → List Tree
 subject_by g x (tree.Ptr None) = []
 subject_by g x (tree.Ptr (Some c)) = cell_at g c ∷ []
@@ -40,6 +43,7 @@ subject g x = subject_by g x x.label
 abbrev pub IsAgreed : Tree → Agreement → Type 0
 IsAgreed t a = found_in a.attr t ≡ a.wanted
 
+-- all agreements of a node hold
 abbrev pub AgreesAt : Graph → TypedNode → Type 0
 AgreesAt g x = AllByRecursion (λ t. AllByRecursion (IsAgreed t) x.agreements) (subject g x)
 
@@ -47,7 +51,7 @@ AgreesAt g x = AllByRecursion (λ t. AllByRecursion (IsAgreed t) x.agreements) (
 pub record Conforms (w : Setting) (g : Graph) : Type 0 where
   -- there are as many roots as the side has
   pub all_roots : length g.roots ≡ length (root_list w)
-  -- counts, octets and identifiers are values of the program
+  -- counts, octets and identifiers are values of the program: so they are in every graph of the program
   pub machine_values : list_all (λ x. has_machine_values x.typed.label) (all_nodes w g) ≡ true
   -- no node has a misfit by itself
   pub local : AllByRecursion (λ x. misfit_of w.table g x.typed ≡ None) (all_nodes w g)
@@ -61,11 +65,12 @@ pub record Conforms (w : Setting) (g : Graph) : Type 0 where
   pub few_cells : length g.cells < 2 ^ 32
   pub few_nodes : AllByRecursion (λ t. nodes (more t none) < 2 ^ 32) (g.roots ++ map (λ c. c.val) g.cells)
 
--- A partial graph: what was read of one, the rest of its values being unread.
+-- A partial graph: one some of whose values, wherever they stand, may be unread. What octets hold before a faulty place is such
+-- a graph.
 pub record IsPartial (w : Setting) (g : Graph) : Type 0 where
   -- there are as many roots as the side has
   pub all_roots : length g.roots ≡ length (root_list w)
-  -- counts, octets and identifiers are values of the program
+  -- counts, octets and identifiers are values of the program: so they are in every graph of the program
   pub machine_values : list_all (λ x. has_machine_values x.typed.label) (all_nodes w g) ≡ true
   -- each node is unread, or has the form of its type
   pub local : list_all (λ x. is_partial_node w.table g x.typed) (all_nodes w g) ≡ true

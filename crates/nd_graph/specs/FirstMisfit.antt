@@ -1,5 +1,7 @@
--- The first place at which a graph does not conform, and why: four passes, each over the roots, then the cells, and in each home
--- over its nodes. The first failing place of the first failing pass counts.
+-- The first place at which a graph does not conform, and why: four passes, each over the roots, then the cells, and in each
+-- home over its nodes. The first failing place of the first failing pass counts.
+-- `w` is a setting, `g` a graph, `x` a node, `p` and `q` are pointers, `c` and `d` numbers of cells, `t` is a subject, `a` an
+-- agreement, `m` a misfit at its place, `r` its reason.
 use Rattle.std.specs.Prelude.{◌≡◌, ℕ, ◌+◌, ◌<◌, ◌≤◌, ℤ, Bool, true, false, not, ◌&&◌, ◌||◌, cond, eqb, ltb, List, [], ◌∷◌, length, Option, Some, None}
 use Rattle.std.specs.List.{list_any}
 use Rattle.std.specs.Ordering.{int_eq}
@@ -25,10 +27,12 @@ pub record Misplaced : Type 0 where
   pub node : ℕ
   pub reason : MisfitReason
 
+-- the first misfit, if there is one, else the later
 abbrev or_later : Option Misplaced → Option Misplaced → Option Misplaced
 or_later (Some m) later = Some m
 or_later None later = later
 
+-- a reason at the place of a node
 abbrev at_node : HomeNode → Option MisfitReason → Option Misplaced
 at_node x None = None
 at_node x (Some r) = Some (record { home = x.home; node = x.typed.node; reason = r })
@@ -49,10 +53,12 @@ first_local w g =
     or_later (first_node (misfit_of w.table g) (root_nodes w g 0 (root_list w) g.roots))
     (or_later (root_count (length g.roots) (length (root_list w))) (first_node (misfit_of w.table g) (cell_nodes w.table 1 g.cells)))
 
+-- the class of full pointers
 abbrev is_full : Class → Bool
 is_full Full = true
 is_full _ = false
 
+-- two pointers name one cell
 abbrev same_cell : Option ℕ → Option ℕ → Bool
 same_cell (Some c) (Some d) = eqb c d
 same_cell _ _ = false
@@ -73,11 +79,13 @@ pub record IsFirstUnreached (w : Setting) (g : Graph) (c : ℕ) : Type 0 where
   pub unreached : ¬ Reached w g c
   pub earlier : (d : ℕ) → 0 < d → d < c → Reached w g d
 
+-- the first agreement that does not hold of a subject
 abbrev disagreement : Tree → List Agreement → Option MisfitReason
 disagreement t [] = None
 disagreement t (a ∷ rest) =
     cond (int_eq a.wanted (found_in a.attr t)) (disagreement t rest) (Some (misfit.Disagrees a.wanted (found_in a.attr t)))
 
+-- the same of the subject, where there is one
 abbrev disagreement_of : List Tree → List Agreement → Option MisfitReason
 disagreement_of [] agreements = None
 disagreement_of (t ∷ ts) agreements = disagreement t agreements

@@ -1,16 +1,16 @@
 -- Each token that is read stands first in its text, and what stands first is read.
-use Rattle.std.proofs.Common.{◌≡◌, ◌≢◌, ℕ, zero, suc, ◌+◌, ◌*◌, ◌<◌, ◌≤◌, Bool, true, false, ◌&&◌, ◌||◌, List, [], ◌∷◌, ◌++◌, Option, Some, None, is_some, length, cond, eqb, refl, sym, ap, subst, ◌∙◌, arith, append_assoc, inl, inr}
+use Rattle.std.proofs.Common.{◌≡◌, ◌≢◌, ℕ, suc, ◌+◌, ◌*◌, ◌≤◌, Bool, true, false, ◌&&◌, ◌||◌, List, [], ◌∷◌, ◌++◌, Option, Some, None, is_some, length, cond, eqb, refl, sym, ap, subst, ◌∙◌, arith, append_assoc}
 use Rattle.std.specs.List.{list_all}
 use Rattle.std.specs.Str.{bytes_eq}
 use Rattle.std.proofs.lemmas.Slice.Eq.{bytes_eq-Decides}
 use Rattle.std.proofs.lemmas.List.{append-nil, length-append}
 use Rattle.std.proofs.lemmas.List.Folds.{list_all-append}
-use Rattle.std.proofs.lemmas.Bool.{cond-true, cond-false, eqb-true, eqb-false, eq-eqb, ne_eqb, and_parts, and_from, both_ways, cases_Bool}
+use Rattle.std.proofs.lemmas.Bool.{cond-true, cond-false, eqb-true, eq-eqb, ne_eqb, and_parts, and_from, both_ways}
 use Rattle.plain_idl.specs.Tokens.{Token, Word, Uuid, Mark, IsSpelled, IsFirst, AreCut, is_separator, is_letter, is_word, is_word_octet, is_mark, is_hex_digit, hex_digit, hex_number, has_form, uuid_form}
 use Rattle.plain_idl.specs.Plain.{is_ident}
-use Rattle.plain_idl.specs.Reading.{◌>>=◌, skip, has_mark, mark_at, word_run, after_run, word_at, place_at, form_at, read_mark, read_word, read_uuid, read_keyword, read_name}
+use Rattle.plain_idl.specs.Reading.{◌>>=◌, skip, has_mark, mark_at, word_run, after_run, word_at, form_at, read_mark, read_word, read_uuid, read_keyword, read_name}
 use Rattle.plain_idl.proofs.Octets.{letter_no_separator, hex_no_separator, mark_no_separator, letter_no_mark, hex_no_mark, letter_word, hex_word, letter_no_hyphen, hex_no_hyphen, mark_no_hyphen}
-use Rattle.plain_idl.proofs.Steps.{bind_some, guard_some, some_same, mark_is, IsRun, run_is, keyword_steps, name_steps}
+use Rattle.plain_idl.proofs.Steps.{bind_some, guard_some, some_same, mark_is, run_is, keyword_steps, name_steps}
 
 -- ## Separators
 

@@ -1,11 +1,9 @@
 -- A text that is read is a plain file, and each plain file is read.
-use Rattle.std.proofs.Common.{◌≡◌, ◌≢◌, ℕ, zero, suc, ◌+◌, ◌<◌, ◌≤◌, Bool, true, false, not, ◌&&◌, List, [], ◌∷◌, ◌++◌, Option, Some, None, IsSome, All, AllPairs, length, cond, codes, flat_map, refl, sym, ap, subst, ◌∙◌, arith, append_assoc}
+use Rattle.std.proofs.Common.{◌≡◌, ℕ, Bool, true, false, ◌&&◌, List, [], ◌∷◌, ◌++◌, Option, Some, None, IsSome, codes, flat_map, refl, sym, ap, subst, ◌∙◌}
 use Rattle.std.specs.List.{AllByRecursion, list_all}
-use Rattle.std.proofs.lemmas.Bool.{cond-true, cond-false, both_ways, and_parts, and_from}
+use Rattle.std.proofs.lemmas.Bool.{cond-true, both_ways, and_parts, and_from}
 use Rattle.std.proofs.lemmas.List.Elements.{All-from_recursion, recursion_from_All}
 use Rattle.std.proofs.Props.{props}
-use Rattle.nd_base.specs.declared.TheConstants.{FILE_LIMIT}
-use Rattle.nd_types.specs.declared.types.Param.{Param}
 use Rattle.nd_types.specs.declared.types.Operation.{Operation}
 use Rattle.nd_types.specs.declared.interface.Interface.{Interface}
 use Rattle.nd_types.specs.Table.{Table}
@@ -15,9 +13,9 @@ use Rattle.nd_types.specs.Plain.{IsPlainParam, IsPlainOperation, IsPlainInterfac
 use Rattle.plain_idl.specs.declared.fault.PlainFault.{PlainFault}
 use Rattle.plain_idl.specs.declared.fault.PlainFault.TheVariants as faults
 use Rattle.plain_idl.specs.Tokens.{Token, Word, Uuid, Mark, AreCut}
-use Rattle.plain_idl.specs.Plain.{is_ident, has_idents, uuid_tokens, operation_tokens, tokens_of, IsPlainFile}
+use Rattle.plain_idl.specs.Plain.{is_ident, has_idents, uuid_tokens, operation_tokens, IsPlainFile}
 use Rattle.plain_idl.specs.Limits.{IsWithinLimits, AreWithinLimits}
-use Rattle.plain_idl.specs.Reading.{◌>>=◌, Fails, is_empty, skip, read_mark, read_keyword, read_name, read_uuid, read_operations, read_header, read_body, read_file}
+use Rattle.plain_idl.specs.Reading.{Fails, is_empty, skip, read_mark, read_keyword, read_name, read_uuid, read_operations, read_header, read_body, read_file}
 use Rattle.plain_idl.proofs.Steps.{bind_some, guard_some, some_same, name_steps}
 use Rattle.plain_idl.proofs.Many.{IsCutAs}
 use Rattle.plain_idl.proofs.Cuts.{skip_all, all_skipped, mark_cut, mark_read, keyword_cut, keyword_read, name_cut, name_read, uuid_cut, uuid_read}

@@ -1,14 +1,11 @@
 -- What is read are the tokens of the parameters and operations that are given, and these are read from their tokens.
-use Rattle.std.proofs.Common.{◌≡◌, ◌≢◌, ℕ, zero, suc, ◌+◌, ◌<◌, ◌≤◌, Bool, true, false, not, ◌&&◌, List, [], ◌∷◌, ◌++◌, Option, Some, None, length, cond, eqb, codes, flat_map, refl, sym, ap, subst, ◌∙◌, arith, append_assoc, inl, inr}
-use Rattle.std.specs.List.{AllByRecursion, slice_get}
+use Rattle.std.proofs.Common.{◌≡◌, ◌≢◌, ℕ, zero, suc, ◌+◌, Bool, true, false, not, List, [], ◌∷◌, ◌++◌, Option, Some, None, length, cond, codes, flat_map, refl, sym, ap, subst, ◌∙◌, arith, append_assoc}
+use Rattle.std.specs.List.{AllByRecursion}
 use Rattle.std.specs.Str.{bytes_eq}
 use Rattle.std.proofs.lemmas.Slice.Eq.{bytes_eq-Decides}
-use Rattle.std.proofs.lemmas.Bool.{cond-true, cond-false, both_ways, cases_Bool}
-use Rattle.std.proofs.lemmas.Option.{slice_get_past}
+use Rattle.std.proofs.lemmas.Bool.{cond-true, cond-false, both_ways}
 use Rattle.nd_types.specs.declared.types.TypeId.{TypeId}
-use Rattle.nd_types.specs.declared.types.TypeDef.{TypeDef}
 use Rattle.nd_types.specs.declared.types.Param.{Param}
-use Rattle.nd_types.specs.declared.types.Field.{Field}
 use Rattle.nd_types.specs.declared.types.AttrVar.{AttrVar}
 use Rattle.nd_types.specs.declared.types.Way.{Way}
 use Rattle.nd_types.specs.declared.types.Way.TheVariants as way
@@ -16,11 +13,11 @@ use Rattle.nd_types.specs.declared.types.Operation.{Operation}
 use Rattle.nd_types.specs.Table.{type_at}
 use Rattle.nd_types.specs.Kinds.{basic_types}
 use Rattle.nd_types.specs.Plain.{is_plain_type, IsPlainParam}
-use Rattle.plain_idl.specs.Tokens.{Token, Word, Uuid, Mark, AreCut, comma}
+use Rattle.plain_idl.specs.Tokens.{Token, Word, Mark, AreCut, comma}
 use Rattle.plain_idl.specs.Plain.{is_ident, type_word, param_tokens, params_tokens, operation_tokens}
-use Rattle.plain_idl.specs.Reading.{◌>>=◌, has_mark, read_mark, read_word, read_keyword, read_name, read_type, type_of, read_param, read_next_param, behind, read_many, read_params, read_more_params, read_operation, read_operations}
-use Rattle.plain_idl.proofs.Steps.{bind_some, guard_some, some_same, type_steps, name_steps, ParamSteps, param_steps, next_param_steps, next_param_less, one_and_more, none, some, params_steps, OperationSteps, operation_steps, operation_less}
-use Rattle.plain_idl.proofs.Many.{IsCutAs, AreCutAs, many_cut, many_again}
+use Rattle.plain_idl.specs.Reading.{◌>>=◌, has_mark, read_type, type_of, read_param, read_next_param, behind, read_params, read_more_params, read_operation, read_operations}
+use Rattle.plain_idl.proofs.Steps.{some_same, type_steps, name_steps, param_steps, next_param_steps, next_param_less, none, some, params_steps, operation_steps, operation_less}
+use Rattle.plain_idl.proofs.Many.{IsCutAs, many_cut, many_again}
 use Rattle.plain_idl.proofs.Cuts.{mark_cut, mark_read, mark_comes, other_mark_comes, word_comes, word_cut, word_read, keyword_cut, keyword_read, name_cut, name_read}
 
 -- ## Types

@@ -1,7 +1,7 @@
 -- Which octets can begin what.
-use Rattle.std.proofs.Common.{◌≡◌, ◌≢◌, ℕ, ◌≤◌, Bool, true, false, ◌||◌, refl, sym, ap, ◌∙◌, arith, inl, inr}
+use Rattle.std.proofs.Common.{◌≡◌, ◌≢◌, ℕ, true, false, arith}
 use Rattle.std.proofs.lemmas.Bool.Decides.{nat_tests}
-use Rattle.std.proofs.lemmas.Bool.{or_left, both_ways, eqb-true}
+use Rattle.std.proofs.lemmas.Bool.{or_left}
 use Rattle.plain_idl.specs.Tokens.{is_separator, is_letter, is_digit, is_word_octet, is_mark, is_hex_digit}
 
 pub letter_no_separator : (c : ℕ) → is_letter c ≡ true → is_separator c ≡ false

@@ -1,7 +1,7 @@
-use Rattle.std.proofs.Common.{◌≡◌, ◌+◌, ◌++◌, ◌∷◌, [], length, not, true, false, sym, ap, ◌∙◌, refl, arith}
+use Rattle.std.proofs.Common.{◌+◌, length, sym, ◌∙◌, refl, arith}
 use Rattle.std.proofs.lemmas.Result.{err_from_is_err_and}
 use Rattle.plain_idl.specs.Reading.{behind, has_mark, read_next_param, read_more_params}
-use Rattle.plain_idl.proofs.Gathered.{Gathered, gathers, gathering_fails, gathered}
+use Rattle.plain_idl.proofs.Gathered.{gathers, gathering_fails, gathered}
 use Rattle.plain_idl.proofs.Steps.{next_param_less}
 use Rattle.plain_idl.proofs.reader.more_params.Goals as goal
 

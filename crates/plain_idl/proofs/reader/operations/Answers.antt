@@ -1,7 +1,7 @@
-use Rattle.std.proofs.Common.{◌≡◌, ◌+◌, ◌++◌, ◌∷◌, [], length, not, true, false, sym, ap, ◌∙◌, refl, arith}
+use Rattle.std.proofs.Common.{◌+◌, length, not, sym, ap, ◌∙◌, arith}
 use Rattle.std.proofs.lemmas.Result.{err_from_is_err_and}
 use Rattle.plain_idl.specs.Reading.{has_mark, read_operation, read_operations}
-use Rattle.plain_idl.proofs.Gathered.{behind_none, Gathered, gathers, gathering_fails, gathered}
+use Rattle.plain_idl.proofs.Gathered.{behind_none, gathers, gathering_fails, gathered}
 use Rattle.plain_idl.proofs.Steps.{operation_less}
 use Rattle.plain_idl.proofs.reader.operations.Goals as goal
 
