@@ -1,1 +1,2 @@
 pub mod DeferralLaws
+pub mod WorkedFit
