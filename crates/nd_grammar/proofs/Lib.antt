@@ -38,6 +38,8 @@ pub mod PlainSteps
 pub mod PlainStreams
 pub mod PlainVerdict
 pub mod Ranges
+pub mod ReaderNodes
+pub mod ReaderSteps
 pub mod RefusedAlike
 pub mod RootsMeeting
 pub mod Rows
