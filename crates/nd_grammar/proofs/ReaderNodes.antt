@@ -15,6 +15,7 @@ use Rattle.nd_types.specs.declared.types.Primitive.{Primitive}
 use Rattle.nd_types.specs.Table.{Table, width}
 use Rattle.nd_types.specs.Number.{unsigned, value_of_octets, in_order}
 use Rattle.nd_graph.specs.declared.item.Home.{Home}
+use Rattle.nd_graph.proofs.Apart.{all_right}
 use Rattle.nd_grammar.specs.declared.reason.Reason.{Reason}
 use Rattle.nd_grammar.specs.declared.reason.Reason.TheVariants as reason
 use Rattle.nd_grammar.specs.Entry.{Kind, Entry, Align, Max, Offset, Actual, Chunk, Number, Num, Tag, Text, Context, Test, Unread, size_at, EntryAt}
@@ -52,6 +53,12 @@ text_ends at (suc n) (b ∷ c ∷ xs) e h = go (eqb b 0) e (λ f. text_ends (at 
         → (text_refusal (at + 1) (c ∷ xs) ≡ None → (c ∷ xs) ≡ take n (c ∷ xs) ++ 0 ∷ []) → (b ∷ c ∷ xs) ≡ b ∷ (take n (c ∷ xs) ++ 0 ∷ [])
     go true e r = cc
     go false e r = ap (λ u. b ∷ u) (r e)
+
+-- the octets of the identifier that sixteen octets hold
+abbrev by_id : Order → List ℕ → List ℕ
+by_id o os =
+    let id : List ℕ = reverse (in_order o (take 4 os)) ++ (reverse (in_order o (take 2 (drop 4 os))) ++ (reverse (in_order o (take 2 (drop 6 os))) ++ drop 8 os)) in
+    id_octets o id
 
 module _ (order : Order) (octets : List ℕ) (h : Home) (n : ℕ) where
   abbrev E : Kind → Entry
@@ -179,10 +186,129 @@ module _ (order : Order) (octets : List ℕ) (h : Home) (n : ℕ) where
       subst (λ u. Follows order octets nums p (E (Align 4) ∷ E (Offset true 0) ∷ E (Actual true 0 max (u + 1)) ∷ E (Text text) ∷ []) (P (Text text) counted)) lt
       ((λ os e. tt), ((λ os e. offset_zero gap os e), ((λ os e. count_spelt max c behind ec os e), ((λ os e. text_spelt c text counted et os e), refl))))
 
-  -- an identifier's octets
-  turned : (os : List ℕ) → in_order order (reverse (reverse (in_order order os))) ≡ os
-  turned os = by_order order
+  -- an identifier's octets give it, and it gives them back
+  identifier_back : (os : List ℕ) → length os ≡ 16 → by_id order os ≡ os
+  identifier_back [] len = absurd (omega arith)
+  identifier_back (b0 ∷ []) len = absurd (omega arith)
+  identifier_back (b0 ∷ b1 ∷ []) len = absurd (omega arith)
+  identifier_back (b0 ∷ b1 ∷ b2 ∷ []) len = absurd (omega arith)
+  identifier_back (b0 ∷ b1 ∷ b2 ∷ b3 ∷ []) len = absurd (omega arith)
+  identifier_back (b0 ∷ b1 ∷ b2 ∷ b3 ∷ b4 ∷ []) len = absurd (omega arith)
+  identifier_back (b0 ∷ b1 ∷ b2 ∷ b3 ∷ b4 ∷ b5 ∷ []) len = absurd (omega arith)
+  identifier_back (b0 ∷ b1 ∷ b2 ∷ b3 ∷ b4 ∷ b5 ∷ b6 ∷ []) len = absurd (omega arith)
+  identifier_back (b0 ∷ b1 ∷ b2 ∷ b3 ∷ b4 ∷ b5 ∷ b6 ∷ b7 ∷ []) len = absurd (omega arith)
+  identifier_back (b0 ∷ b1 ∷ b2 ∷ b3 ∷ b4 ∷ b5 ∷ b6 ∷ b7 ∷ b8 ∷ []) len = absurd (omega arith)
+  identifier_back (b0 ∷ b1 ∷ b2 ∷ b3 ∷ b4 ∷ b5 ∷ b6 ∷ b7 ∷ b8 ∷ b9 ∷ []) len = absurd (omega arith)
+  identifier_back (b0 ∷ b1 ∷ b2 ∷ b3 ∷ b4 ∷ b5 ∷ b6 ∷ b7 ∷ b8 ∷ b9 ∷ b10 ∷ []) len = absurd (omega arith)
+  identifier_back (b0 ∷ b1 ∷ b2 ∷ b3 ∷ b4 ∷ b5 ∷ b6 ∷ b7 ∷ b8 ∷ b9 ∷ b10 ∷ b11 ∷ []) len = absurd (omega arith)
+  identifier_back (b0 ∷ b1 ∷ b2 ∷ b3 ∷ b4 ∷ b5 ∷ b6 ∷ b7 ∷ b8 ∷ b9 ∷ b10 ∷ b11 ∷ b12 ∷ []) len = absurd (omega arith)
+  identifier_back (b0 ∷ b1 ∷ b2 ∷ b3 ∷ b4 ∷ b5 ∷ b6 ∷ b7 ∷ b8 ∷ b9 ∷ b10 ∷ b11 ∷ b12 ∷ b13 ∷ []) len = absurd (omega arith)
+  identifier_back (b0 ∷ b1 ∷ b2 ∷ b3 ∷ b4 ∷ b5 ∷ b6 ∷ b7 ∷ b8 ∷ b9 ∷ b10 ∷ b11 ∷ b12 ∷ b13 ∷ b14 ∷ []) len = absurd (omega arith)
+  identifier_back (b0 ∷ b1 ∷ b2 ∷ b3 ∷ b4 ∷ b5 ∷ b6 ∷ b7 ∷ b8 ∷ b9 ∷ b10 ∷ b11 ∷ b12 ∷ b13 ∷ b14 ∷ b15 ∷ []) len = by_order order
     where
-      by_order : (o : Order) → in_order o (reverse (reverse (in_order o os))) ≡ os
-      by_order Little = reverse-reverse os
-      by_order Big = ap reverse (reverse-reverse (reverse os)) ∙ reverse-reverse os
+      by_order : (which : Order) → by_id which (b0 ∷ b1 ∷ b2 ∷ b3 ∷ b4 ∷ b5 ∷ b6 ∷ b7 ∷ b8 ∷ b9 ∷ b10 ∷ b11 ∷ b12 ∷ b13 ∷ b14 ∷ b15 ∷ []) ≡ (b0 ∷ b1 ∷ b2 ∷ b3 ∷ b4 ∷ b5 ∷ b6 ∷ b7 ∷ b8 ∷ b9 ∷ b10 ∷ b11 ∷ b12 ∷ b13 ∷ b14 ∷ b15 ∷ [])
+      by_order Little = refl
+      by_order Big = refl
+  identifier_back (b0 ∷ b1 ∷ b2 ∷ b3 ∷ b4 ∷ b5 ∷ b6 ∷ b7 ∷ b8 ∷ b9 ∷ b10 ∷ b11 ∷ b12 ∷ b13 ∷ b14 ∷ b15 ∷ b16 ∷ rest) len = absurd (omega arith)
+
+  context_spelt : (gap : Progress) (os : List ℕ)
+      → T (Context (attributes_in order octets (T (Context 0 []) gap)) (identifier_in order octets (T (Context 0 []) gap))) gap ≡ Some os
+      → (unsigned order (take 4 os) ≡ attributes_in order octets (T (Context 0 []) gap)) × (drop 4 os ≡ id_octets order (identifier_in order octets (T (Context 0 []) gap)))
+  context_spelt gap os e =
+      let a : ℕ = attributes_in order octets (T (Context 0 []) gap) in
+      let id : List ℕ = identifier_in order octets (T (Context 0 []) gap) in
+      let (x, y, l) = accepted_kind (Context a id) gap os e in
+      let l' : length os ≡ 20 = l in
+      let f : T (Context 0 []) gap ≡ Some os = sym (same_taken order octets gap h n (Context a id) (Context 0 []) refl) ∙ e in
+      let d : length (drop 4 os) ≡ 16 = length-drop 4 os ∙ omega arith in
+      (
+        ap (attributes_in order octets) (sym f),
+        sym (identifier_back (drop 4 os) d) ∙ ap (λ o. id_octets order (identifier_in order octets o)) (sym f),
+      )
+
+  pub follows_context : (nums : ℕ → ℕ) (p : Progress)
+      → Follows order octets nums p
+      (E (Align 4) ∷ E (Context (attributes_in order octets (T (Context 0 []) (P (Align 4) p))) (identifier_in order octets (T (Context 0 []) (P (Align 4) p)))) ∷ [])
+      (P (Context (attributes_in order octets (T (Context 0 []) (P (Align 4) p))) (identifier_in order octets (T (Context 0 []) (P (Align 4) p)))) (P (Align 4) p))
+  follows_context nums p = ((λ os e. tt), ((λ os e. context_spelt (P (Align 4) p) os e), refl))
+
+  numbered_agrees : (nums : ℕ → ℕ) (xs : List (ℕ × ℕ)) (v c : ℕ) → Agree nums xs → numbered xs v ≡ Some c → nums c ≡ v
+  numbered_agrees nums [] v c a e = cc
+  numbered_agrees nums (x ∷ xs) v c a e = go (eqb x.0 v) refl e (numbered_agrees nums xs v c a.1)
+    where
+      go : (t : Bool) → eqb x.0 v ≡ t → cond t (Some x.1) (numbered xs v) ≡ Some c → (numbered xs v ≡ Some c → nums c ≡ v) → nums c ≡ v
+      go true f e r = ap nums (sym (same_Some _ _ e)) ∙ a.0 ∙ eqb-true x.0 v f
+      go false f e r = r e
+
+  above : (v : ℕ) → eqb v 0 ≡ false → 0 < v
+  above zero e = absurd (eqb-false 0 0 e refl)
+  above (suc v) e = omega arith
+
+  -- the cell that is named has the number, under each numbering that agrees with the names
+  named_number : (nums : ℕ → ℕ) (k : Class) (to : ℕ) (os : List ℕ) (v : ℕ) (s : Names) → Agree nums (named k to (Some os) v s).names.numbers
+      → IsNumber nums k (named k to (Some os) v s).cell v
+  named_number nums Ref to os v s a = tt
+  named_number nums Unique to os v s a = go (eqb v 0) refl
+    where
+      go : (t : Bool) → eqb v 0 ≡ t → IsNumber nums Unique (cond t (record { cell = None; names = s }) (new_cell to s)).cell v
+      go true e = eqb-true v 0 e
+      go false e = above v e
+  named_number nums Full to os v s a = go (eqb v 0) refl a
+    where
+      by_table : (o : Option ℕ) → numbered s.numbers v ≡ o → Agree nums (full_by o v to s).names.numbers → IsNumber nums Full (full_by o v to s).cell v
+      by_table (Some c) e a = sym (numbered_agrees nums s.numbers v c a e)
+      by_table None e a = sym a.0
+
+      go : (t : Bool) → eqb v 0 ≡ t → Agree nums (cond t (record { cell = None; names = s }) (full_by (numbered s.numbers v) v to s)).names.numbers
+          → IsNumber nums Full (cond t (record { cell = None; names = s }) (full_by (numbered s.numbers v) v to s)).cell v
+      go true e a = eqb-true v 0 e
+      go false e a = by_table (numbered s.numbers v) refl a
+
+  pub follows_pointer : (nums : ℕ → ℕ) (k : Class) (to : ℕ) (p : Progress) (s : Names)
+      → Agree nums (named k to (T (Number k to None) (P (Align 4) p)) (number_in order octets (T (Number k to None) (P (Align 4) p))) s).names.numbers
+      → Follows order octets nums p
+      (E (Align 4) ∷ E (Number k to (named k to (T (Number k to None) (P (Align 4) p)) (number_in order octets (T (Number k to None) (P (Align 4) p))) s).cell) ∷ [])
+      (P (Number k to (named k to (T (Number k to None) (P (Align 4) p)) (number_in order octets (T (Number k to None) (P (Align 4) p))) s).cell) (P (Align 4) p))
+  follows_pointer nums k to p s a =
+      let gap : Progress = P (Align 4) p in
+      let o : Option (List ℕ) = T (Number k to None) gap in
+      let c : Option ℕ = (named k to o (number_in order octets o) s).cell in
+      (
+        (λ os e. tt),
+        (
+          (λ os e.
+              let f : o ≡ Some os = sym (same_taken order octets gap h n (Number k to c) (Number k to None) refl) ∙ e in
+              let a' : Agree nums (named k to (Some os) (unsigned order os) s).names.numbers = subst (λ u. Agree nums (named k to u (number_in order octets u) s).names.numbers) f a in
+              subst (λ u. IsNumber nums k (named k to u (number_in order octets u) s).cell (unsigned order os)) (sym f) (named_number nums k to os (unsigned order os) s a')),
+          refl,
+        ),
+      )
+
+-- the names of full pointers grow
+abbrev pub Grown : List (ℕ × ℕ) → List (ℕ × ℕ) → Type 0
+Grown before after = (new : List (ℕ × ℕ)) × (after ≡ new ++ before)
+
+pub named_grown : (k : Class) (to : ℕ) (o : Option (List ℕ)) (v : ℕ) (s : Names) → Grown s.numbers (named k to o v s).names.numbers
+named_grown Ref to o v s = ([], refl)
+named_grown Unique to None v s = ([], refl)
+named_grown Full to None v s = ([], refl)
+named_grown Unique to (Some os) v s = go (eqb v 0)
+  where
+    go : (t : Bool) → Grown s.numbers (cond t (record { cell = None; names = s }) (new_cell to s)).names.numbers
+    go true = ([], refl)
+    go false = ([], refl)
+named_grown Full to (Some os) v s = go (eqb v 0)
+  where
+    by_table : (o : Option ℕ) → Grown s.numbers (full_by o v to s).names.numbers
+    by_table (Some c) = ([], refl)
+    by_table None = ((v, fresh to s) ∷ [], refl)
+
+    go : (t : Bool) → Grown s.numbers (cond t (record { cell = None; names = s }) (full_by (numbered s.numbers v) v to s)).names.numbers
+    go true = ([], refl)
+    go false = by_table (numbered s.numbers v)
+
+pub grown_agree : (nums : ℕ → ℕ) (before after : List (ℕ × ℕ)) → Grown before after → Agree nums after → Agree nums before
+grown_agree nums before after (new, e) a = all_right _ new before (subst (Agree nums) e a)
+
+pub grown_twice : (a b c : List (ℕ × ℕ)) → Grown a b → Grown b c → Grown a c
+grown_twice a b c (x, e) (y, f) = (y ++ x, f ∙ ap (λ u. y ++ u) e ∙ sym (append_assoc y x a))
