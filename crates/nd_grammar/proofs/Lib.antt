@@ -38,6 +38,7 @@ pub mod PlainSteps
 pub mod PlainStreams
 pub mod PlainVerdict
 pub mod Ranges
+pub mod ReaderInPlace
 pub mod ReaderNodes
 pub mod ReaderSteps
 pub mod RefusedAlike
