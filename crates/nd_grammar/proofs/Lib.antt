@@ -40,6 +40,7 @@ pub mod PlainVerdict
 pub mod Ranges
 pub mod ReaderInPlace
 pub mod ReaderNodes
+pub mod ReaderRows
 pub mod ReaderSteps
 pub mod RefusedAlike
 pub mod RootsMeeting

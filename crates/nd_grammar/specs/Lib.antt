@@ -13,3 +13,4 @@ pub mod Primitives
 pub mod LegalSide
 pub mod NextEntry
 pub mod Reader
+pub mod StreamReader
