@@ -10,6 +10,7 @@ pub mod GoodStream
 pub mod GoodTrees
 pub mod HoistedMaxes
 pub mod Identifiers
+pub mod ItemSizes
 pub mod KnownNodes
 pub mod LawExamples
 pub mod LegalPipes

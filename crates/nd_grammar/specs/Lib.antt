@@ -14,3 +14,4 @@ pub mod LegalSide
 pub mod NextEntry
 pub mod Reader
 pub mod StreamReader
+pub mod FewItems
