@@ -29,6 +29,7 @@ pub mod NextStream
 pub mod NextWhole
 pub mod OneGraph
 pub mod OneRefusal
+pub mod Placed
 pub mod Plain
 pub mod PlainBad
 pub mod PlainConforms
