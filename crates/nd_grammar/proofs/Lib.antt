@@ -4,6 +4,7 @@ pub mod Carried
 pub mod Check
 pub mod Counting
 pub mod Excluded
+pub mod FewItemsLaw
 pub mod Forms
 pub mod GoodEntries
 pub mod GoodStream

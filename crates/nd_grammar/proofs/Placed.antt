@@ -23,11 +23,11 @@ use Rattle.nd_grammar.proofs.GoodEntries.{HoldsNoPipe, IsNoPipe}
 use Rattle.nd_grammar.proofs.GoodStream.{PendingGood, StandsGood, DueGood, standing_due, pending_cell, root_good, same_home_number}
 use Rattle.nd_grammar.proofs.ItemSizes.{numbers, numbers_append, whole_numbers}
 
-abbrev own : Home → List ℕ
+abbrev pub own : Home → List ℕ
 own (home.Root i) = []
 own (home.Cell c) = c.0 ∷ []
 
-among_split : {X : Type 0} (xs ys : List X) (x : X) → Among (xs ++ ys) x → Among xs x ⊎ Among ys x
+pub among_split : {X : Type 0} (xs ys : List X) (x : X) → Among (xs ++ ys) x → Among xs x ⊎ Among ys x
 among_split [] ys x a = inr a
 among_split (y ∷ xs) ys x (inl e) = inl (inl e)
 among_split (y ∷ xs) ys x (inr a) = go (among_split xs ys x a)
@@ -49,7 +49,7 @@ one_among k b (inr a) = absurd a
 
 module _ (w : Setting) (g : Graph) where
   -- the cells that a step places, and the pointers whose referents it makes due
-  abbrev placed : Step → List ℕ
+  abbrev pub placed : Step → List ℕ
   placed (root_stands i) = own (standing_root w g i).home
   placed (referent_stands p c) = c ∷ []
   placed (stands_already p c) = []
@@ -57,7 +57,7 @@ module _ (w : Setting) (g : Graph) where
   abbrev pub all_placed : List Step → List ℕ
   all_placed steps = flat_map placed steps
 
-  abbrev made : Step → List Pending
+  abbrev pub made : Step → List Pending
   made (root_stands i) = home_pointers w.table (standing_root w g i).home (standing_root w g i).of (standing_root w g i).val
   made (referent_stands p c) = home_pointers w.table (cell_home c) p.to (cell_at g c)
   made (stands_already p c) = []
@@ -107,13 +107,13 @@ module _ (w : Setting) (g : Graph) where
       omega arith
 
   -- a cell stands, or is placed
-  abbrev Covers : Standing_cells → List Step → ℕ → Type 0
+  abbrev pub Covers : Standing_cells → List Step → ℕ → Type 0
   Covers done steps c = IsStanding done c ⊎ Among (all_placed steps) c
 
   abbrev HomeCovered : Standing_cells → List Step → Home → ℕ → Tree → Type 0
   HomeCovered done steps h t v = (p : Pending) → Among (home_pointers w.table h t v) p → (c : ℕ) → p.cell ≡ Some c → Covers done steps c
 
-  abbrev DueCovered : Standing_cells → List Step → Due → Type 0
+  abbrev pub DueCovered : Standing_cells → List Step → Due → Type 0
   DueCovered done steps (due_root i) =
       HomeCovered done steps (standing_root w g i).home (standing_root w g i).of (standing_root w g i).val
       × ((c : ℕ) → Among (own (standing_root w g i).home) c → Covers done steps c)
