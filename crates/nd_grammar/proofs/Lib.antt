@@ -2,6 +2,7 @@ pub mod Accepted
 pub mod Big
 pub mod Carried
 pub mod Check
+pub mod ConformingPartial
 pub mod Counting
 pub mod Excluded
 pub mod FewItemsLaw
