@@ -1,45 +1,45 @@
 -- What the command `decode` answers, and for which causes it refuses: the files first, then the input.
-use Rattle.std.specs.Prelude.{◌≡◌, ◌⊎◌, ℕ, ◌+◌, ◌<◌, true, List, [], length, take, Option, None, Some, ⊤}
+use Rattle.std.specs.Prelude.{◌≡◌, ◌⊎◌, ℕ, ◌+◌, ◌<◌, ◌≤◌, true, List, [], length, Option, None, Some, ⊤}
 use Rattle.std.specs.List.{slice_get}
 use Rattle.std.specs.Io.KnownBytes.{Consumes, IsAtEnd}
 use Rattle.nd_base.specs.Outside.{IsContent, IsMissing}
 use Rattle.nd_base.specs.declared.octets.Order.{Order}
 use Rattle.nd_types.specs.declared.interface.Interface.{Interface}
 use Rattle.nd_types.specs.declared.types.Operation.{Operation}
-use Rattle.nd_types.specs.declared.types.Side.TheVariants as side
+use Rattle.nd_types.specs.Operations.{operation_named}
 use Rattle.nd_graph.specs.declared.value.Graph.{Graph}
 use Rattle.nd_graph.specs.Setting.{Setting}
-use Rattle.nd_graph.specs.Fitting.{setting_of}
 use Rattle.nd_graph.specs.Conforms.{Conforms}
-use Rattle.nd_graph.specs.Canon.{IsCanon}
 use Rattle.nd_grammar.specs.Represents.{Represents}
+use Rattle.nd_grammar.specs.Prefix.{BeginsWith}
 use Rattle.nd_grammar.specs.Bad.{Bad}
 use Rattle.plain_idl.specs.Plain.{IsPlainFile}
-use Rattle.value_text.specs.Whole.{graph_text}
-use Rattle.dceidl.specs.declared.TheConstants.{INPUT_LIMIT}
-use Rattle.dceidl.specs.Outside.{FilesSeen, SourceSeen, HasRisen}
+use Rattle.plain_ndr.specs.Decoding.{inputs_of}
+use Rattle.value_text.specs.Printed.{IsText}
+use Rattle.nd_base.specs.declared.TheConstants.{STREAM_LIMIT}
+use Rattle.dceidl.specs.Outside.{FilesSeen, SourceSeen, HasRisen, IsUntouched}
 use Rattle.dceidl.specs.declared.decode.Refusal.{Refusal}
 use Rattle.dceidl.specs.declared.decode.Refusal.TheVariants.{Memory, Absent, FileFailed, NotBuilt, NoOperation, ReadFault, BadOctets}
 use Rattle.dceidl.specs.declared.decode.OctetsFault.{OctetsFault}
 use Rattle.dceidl.specs.declared.decode.OctetsFault.TheVariants.{Refused, Trailing}
 
--- the first operation of a name
-pub record IsNamed (i : Interface) (name : List ℕ) (o : Operation) : Type 0 where
-  pub number : ℕ
-  pub is_there : slice_get i.operations number ≡ Some o
-  pub is_name : o.name ≡ name
+-- the operation of a name, by its number
+pub record IsNamed (i : Interface) (name : List ℕ) (n : ℕ) (o : Operation) : Type 0 where
+  pub found : operation_named i.operations name ≡ Some n
+  pub is_there : slice_get i.operations n ≡ Some o
 
--- the file was loaded and is a plain file of an interface that has the operation
-pub record IsReady (f : FilesSeen) (idl op : List ℕ) (i : Interface) (o : Operation) : Type 0 where
+-- The file was loaded and is a plain file of an interface that has the operation.
+pub record IsReady (f : FilesSeen) (idl op : List ℕ) (i : Interface) (n : ℕ) (o : Operation) : Type 0 where
   pub file : List ℕ
   pub loaded : IsContent f.held idl file
   pub plain : IsPlainFile file i
-  pub named : IsNamed i op o
+  pub named : IsNamed i op n o
 
 -- the file is no plain file, or its interface has no operation of the name
 abbrev pub IsNoInterface : List ℕ → List ℕ → Refusal → Type 0
-IsNoInterface file op NotBuilt = (i : Interface) → ¬ IsPlainFile file i
-IsNoInterface file op NoOperation = (i : Interface) × IsPlainFile file i × ((o : Operation) → ¬ IsNamed i op o)
+IsNoInterface file op Memory = ⊤
+IsNoInterface file op NotBuilt = (i : Interface) → IsPlainFile file i → ⊥
+IsNoInterface file op NoOperation = (i : Interface) × IsPlainFile file i × (operation_named i.operations op ≡ None)
 IsNoInterface file op _ = ⊥
 
 -- Why the files are refused: loading comes first. (Where memory was wanting no more is said.)
@@ -52,14 +52,14 @@ IsFileCause f idl op refusal = (file : List ℕ) × IsContent f.held idl file ×
 -- These octets were read: the whole input, or its first octets to one past the limit of a stream.
 pub record IsRead (s : SourceSeen) (octets : List ℕ) : Type 0 where
   pub taken : Consumes s.left s.left_now octets
-  pub whole : length octets < INPUT_LIMIT + 1 → s.ended ≡ true
-  pub none_left : length octets < INPUT_LIMIT + 1 → IsAtEnd s.left_now
+  pub few : length octets ≤ STREAM_LIMIT + 1
+  pub whole : length octets < STREAM_LIMIT + 1 → s.ended ≡ true
+  pub none_left : length octets < STREAM_LIMIT + 1 → IsAtEnd s.left_now
 
--- The octets before a place represent a graph that conforms, and one more follows.
+-- The octets before a place are a stream of a graph that conforms, and an octet follows.
 pub record IsTrailing (w : Setting) (order : Order) (octets : List ℕ) (place : ℕ) : Type 0 where
   pub graph : Graph
-  pub conforms : Conforms w graph
-  pub represents : Represents w order (take place octets) graph
+  pub begins : BeginsWith w order octets place graph
   pub follows : place < length octets
 
 -- why octets are refused at a place
@@ -67,34 +67,39 @@ abbrev pub IsRefusedAt : Setting → Order → List ℕ → ℕ → OctetsFault 
 IsRefusedAt w order octets place (Refused reason) = Bad w order octets place reason
 IsRefusedAt w order octets place Trailing = IsTrailing w order octets place
 
+-- why octets are refused; where memory was wanting no more is said
+abbrev pub IsOctetsCause : Setting → Order → List ℕ → Refusal → Type 0
+IsOctetsCause w order octets Memory = ⊤
+IsOctetsCause w order octets (BadOctets place why) = IsRefusedAt w order octets place why
+IsOctetsCause w order octets _ = ⊥
+
+-- so many octets were given, more than were taken
+abbrev pub IsLeftOver : ℕ → ℕ → Refusal → Type 0
+IsLeftOver given taken Memory = ⊤
+IsLeftOver given taken (BadOctets place Trailing) = (place ≡ taken) × (taken < given)
+IsLeftOver given taken _ = ⊥
+
 -- why the input is refused
 abbrev pub IsInputCause : SourceSeen → Setting → Order → Refusal → Type 0
 IsInputCause s w order ReadFault = HasRisen s.faults
 IsInputCause s w order Memory = ⊤
-IsInputCause s w order (BadOctets place why) = (octets : List ℕ) × IsRead s octets × IsRefusedAt w order octets place why
-IsInputCause s w order _ = ⊥
+IsInputCause s w order refusal = (octets : List ℕ) × IsRead s octets × IsOctetsCause w order octets refusal
 
--- the setting of an operation's [in] parameters
-abbrev pub inputs_of : Interface → Operation → Setting
-inputs_of i o = setting_of i o side.In
-
--- why `decode` is refused: the files are, or they are ready and the input is
+-- Why `decode` is refused: the files are, and the input is not asked for; or they are ready, and the input is refused.
 abbrev pub IsCause : FilesSeen → SourceSeen → List ℕ → List ℕ → Order → Refusal → Type 0
 IsCause f s idl op order refusal =
-    IsFileCause f idl op refusal
-    ⊎ ((i : Interface) × (o : Operation) × IsReady f idl op i o × IsInputCause s (inputs_of i o) order refusal)
+    (IsFileCause f idl op refusal × IsUntouched s)
+    ⊎ ((i : Interface) × (n : ℕ) × (o : Operation) × IsReady f idl op i n o × IsInputCause s (inputs_of i o) order refusal)
 
--- The text is that of a graph: its cells are numbered in the order in which the stream names them.
-pub record IsText (w : Setting) (g : Graph) (text : List ℕ) : Type 0 where
-  pub canonical : Graph
-  pub is_canonical : IsCanon w g canonical
-  pub printed : text ≡ graph_text w canonical
-
--- The input was decoded: it was read to its end, its octets represent a graph that conforms, and the text is that graph's.
-pub record IsDecoded (s : SourceSeen) (w : Setting) (order : Order) (text : List ℕ) : Type 0 where
-  pub octets : List ℕ
-  pub read : IsRead s octets
+-- The octets are a stream of a graph that conforms, and the text is that graph's.
+pub record IsDecoding (w : Setting) (order : Order) (octets text : List ℕ) : Type 0 where
   pub graph : Graph
   pub conforms : Conforms w graph
   pub represents : Represents w order octets graph
   pub is_text : IsText w graph text
+
+-- The input was read, and its octets decoded.
+pub record IsDecoded (s : SourceSeen) (w : Setting) (order : Order) (text : List ℕ) : Type 0 where
+  pub octets : List ℕ
+  pub read : IsRead s octets
+  pub decoding : IsDecoding w order octets text

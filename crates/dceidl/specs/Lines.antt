@@ -18,19 +18,24 @@ status_of NoOperation = 6
 status_of Absent = 7
 status_of FileFailed = 9
 
+abbrev pub reason_name : Reason → List ℕ
+reason_name reason.Truncated = codes "Truncated"
+reason_name reason.TooLong = codes "TooLong"
+reason_name reason.EnumValue = codes "EnumValue"
+reason_name reason.PastBound = codes "PastBound"
+reason_name reason.TextOffset = codes "TextOffset"
+reason_name reason.TextEmpty = codes "TextEmpty"
+reason_name reason.TextUnended = codes "TextUnended"
+reason_name reason.TextZero = codes "TextZero"
+reason_name reason.NoArm = codes "NoArm"
+reason_name reason.OtherType = codes "OtherType"
+reason_name (reason.Disagrees wanted found) = codes "Disagrees"
+
+-- a disagreement is told with its two numbers
 abbrev pub reason_text : Reason → List ℕ
-reason_text reason.Truncated = codes "Truncated"
-reason_text reason.TooLong = codes "TooLong"
-reason_text reason.EnumValue = codes "EnumValue"
-reason_text reason.PastBound = codes "PastBound"
-reason_text reason.TextOffset = codes "TextOffset"
-reason_text reason.TextEmpty = codes "TextEmpty"
-reason_text reason.TextUnended = codes "TextUnended"
-reason_text reason.TextZero = codes "TextZero"
-reason_text reason.NoArm = codes "NoArm"
-reason_text reason.OtherType = codes "OtherType"
 reason_text (reason.Disagrees wanted found) =
     joined (codes "Disagrees wanted " ∷ signed_decimal wanted ∷ codes " found " ∷ signed_decimal found ∷ [])
+reason_text reason = reason_name reason
 
 abbrev pub fault_text : OctetsFault → List ℕ
 fault_text (Refused reason) = reason_text reason

@@ -4,8 +4,9 @@ use Rattle.nd_base.specs.declared.octets.Order.{Order}
 use Rattle.nd_types.specs.declared.interface.Interface.{Interface}
 use Rattle.nd_types.specs.declared.types.Operation.{Operation}
 use Rattle.dceidl.specs.Words.{Command, command, Decode, Help, Version}
-use Rattle.dceidl.specs.Outside.{FilesSeen, SourceSeen, SinkSeen, HasRisen, Got, GotPrefix, IsAsBefore}
-use Rattle.dceidl.specs.Decode.{IsCause, IsDecoded, IsReady, inputs_of}
+use Rattle.dceidl.specs.Outside.{FilesSeen, SourceSeen, SinkSeen, HasRisen, Got, GotPrefix, IsAsBefore, IsUntouched, AreUntouched}
+use Rattle.dceidl.specs.Decode.{IsCause, IsDecoded, IsReady}
+use Rattle.plain_ndr.specs.Decoding.{inputs_of}
 use Rattle.dceidl.specs.Lines.{line_of, status_of}
 use Rattle.dceidl.specs.declared.decode.Refusal.{Refusal}
 use Rattle.dceidl.specs.declared.outcome.Outcome.{Outcome}
@@ -15,16 +16,21 @@ use Rattle.dceidl.specs.declared.TheConstants.{HELP, VERSION}
 -- `decode` comes to this outcome
 abbrev pub IsDecodeOutcome : FilesSeen → SourceSeen → List ℕ → List ℕ → Order → Outcome → Type 0
 IsDecodeOutcome f s idl op order (Done text) =
-    (i : Interface) × (o : Operation) × IsReady f idl op i o × IsDecoded s (inputs_of i o) order text
+    (i : Interface) × (n : ℕ) × (o : Operation) × IsReady f idl op i n o × IsDecoded s (inputs_of i o) order text
 IsDecodeOutcome f s idl op order (Refused status line) =
     (refusal : Refusal) × IsCause f s idl op order refusal × (status ≡ status_of refusal) × (line ≡ line_of idl op refusal)
 IsDecodeOutcome f s idl op order Wanting = Unit {0}
 
+-- Only `decode` asks for files and for the input.
+pub record AsksNothing (f : FilesSeen) (s : SourceSeen) : Type 0 where
+  pub files : AreUntouched f
+  pub source : IsUntouched s
+
 -- What a command comes to; None is words that are no command. Memory may be wanting at any time.
 abbrev pub IsOutcome : FilesSeen → SourceSeen → Option Command → Outcome → Type 0
-IsOutcome f s None outcome = (outcome ≡ Refused 2 (codes "words refused\n")) ⊎ (outcome ≡ Wanting)
-IsOutcome f s (Some Help) outcome = (outcome ≡ Done HELP.now) ⊎ (outcome ≡ Wanting)
-IsOutcome f s (Some Version) outcome = (outcome ≡ Done VERSION.now) ⊎ (outcome ≡ Wanting)
+IsOutcome f s None outcome = ((outcome ≡ Refused 2 (codes "words refused\n")) ⊎ (outcome ≡ Wanting)) × AsksNothing f s
+IsOutcome f s (Some Help) outcome = ((outcome ≡ Done HELP.now) ⊎ (outcome ≡ Wanting)) × AsksNothing f s
+IsOutcome f s (Some Version) outcome = ((outcome ≡ Done VERSION.now) ⊎ (outcome ≡ Wanting)) × AsksNothing f s
 IsOutcome f s (Some (Decode idl op order)) outcome = IsDecodeOutcome f s idl op order outcome
 
 -- `write fault` stands on notes, or a prefix of it where notes failed too

@@ -4,16 +4,15 @@
 mod decode;
 mod input;
 mod outcome;
-mod run;
+#[cfg(test)]
+mod tests;
+mod top;
 mod words;
 
 pub use decode::{OctetsFault, Refusal};
 pub use outcome::Outcome;
-pub use run::{Status, run};
+pub use top::{Status, run};
 pub use words::Words;
-
-/// How many octets of the input count. One more is read, and no octet past it changes an answer.
-pub const INPUT_LIMIT: u32 = 16_777_216;
 
 /// What `--help` prints.
 pub const HELP: &str = "\
@@ -26,7 +25,7 @@ decode  reads the octets of an operation's [in] parameters from standard input, 
         IDL is the path of a file of IDL, `-` stands for no attribute file, OP is the name
         of an operation, and `little` is the order of an integer's octets.
 
-Refusals go to standard error in one line. The status is 0 done, 1 octets refused,
+A refusal is one line on standard error. The status is 0 done, 1 octets refused,
 2 words refused, 3 input failed, 4 output failed, 5 memory wanting, 6 IDL refused,
 7 IDL absent, 9 IDL not read.
 ";

@@ -1,5 +1,5 @@
 -- The calls of an object in memory: which are to fail, and how many were made.
-use Rattle.std.specs.Prelude.{◌≡◌, ℕ, Bool, List, IsTrue, ◌==◌}
+use Rattle.std.specs.Prelude.{◌≡◌, ℕ, Bool, List, ◌==◌}
 use Rattle.std.specs.List.{list_any}
 use Rattle.nd_base.specs.declared.calls.Calls.{Calls}
 use Rattle.nd_base.specs.Counts.{next_count}

@@ -13,6 +13,8 @@ mod outside;
 mod pieces;
 mod plain;
 mod real;
+#[cfg(test)]
+mod tests;
 
 pub use files::MemFiles;
 pub use ledger::{Counted, Ledger, Steps, Uncounted};
@@ -22,8 +24,8 @@ pub use outside::{FileFault, Files, ReadFailed, Sink, Source, WriteFailed};
 pub use plain::{PlainSink, PlainSource};
 pub use real::{FolderFiles, InputSource, OutputSink};
 
-/// The greatest number of octets of an interface file, an attribute file or a script. Of a longer one `load`
-/// gives this many octets and one more.
+/// The greatest number of octets of a file that is loaded by its name. Of a longer one `load` gives this many
+/// octets and one more.
 pub const FILE_LIMIT: u32 = 1_048_576;
 
 /// The greatest number of octets of a stream of values in the network representation (C706 chapter 14).

@@ -45,8 +45,10 @@ impl Source for PlainSource {
 pub struct PlainSink;
 
 impl PlainSink {
-    /// Takes no memory.
-    pub fn new() -> PlainSink {
+    /// The sink. Takes no memory.
+    pub fn new() -> PlainSink
+        ensures { ⟦<PlainSink as Sink>⟧.faults result ≡ 0 }
+    {
         PlainSink
     }
 }

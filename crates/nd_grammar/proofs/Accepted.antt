@@ -151,10 +151,9 @@ module _ (order : Order) (octets : List ℕ) (g : Graph) (nums : ℕ → ℕ) (l
       → Accepts order octets seen (end_to_end at ms)
   accepted seen s at [] a b l = tt
   accepted seen s at (m ∷ ms) a b l =
-      let x : EntryAt = record { at = at; entry = m } in
-      (
+      let x : EntryAt = record { at = at; entry = m } in (
         not_refused (is_long at m.kind) (STREAM_LIMIT, reason.TooLong) _ (not_long at m.kind l.0)
-        (not_refused (ltb (length octets) (at + size_at at m.kind)) (length octets, reason.Truncated) _ (le-ltb (length octets) (at + size_at at m.kind) b.0.0)
-        (kind_accepted seen s at m m.kind (piece octets at m.kind) a.0 b.0.1)),
+            (not_refused (ltb (length octets) (at + size_at at m.kind)) (length octets, reason.Truncated) _ (le-ltb (length octets) (at + size_at at m.kind) b.0.0)
+            (kind_accepted seen s at m m.kind (piece octets at m.kind) a.0 b.0.1)),
         accepted (seen ++ x ∷ []) (all_append IsGoodAt seen (x ∷ []) s (record { good = a.0; spelt = b.0.1 }, tt)) (at + size_at at m.kind) ms a.1 b.1 l.1,
       )

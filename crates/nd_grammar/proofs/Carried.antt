@@ -19,7 +19,6 @@ use Rattle.nd_graph.specs.Nodes.{child_types, child_agreements, first_agreements
 use Rattle.nd_graph.specs.Deferral.{Pending, pointer, pointer_by, Due, due_root, due_referent}
 use Rattle.nd_graph.proofs.Orderly.{Pointee}
 use Rattle.nd_grammar.proofs.Matching.{bare, class_of, Match, Matched, NodeKnown, PointeeKnown, Known, matched_nodes, matched_count, matched_number, child_agreements_same, through, pointer_bare}
-
 use Rattle.nd_grammar.proofs.Next.{Pair}
 use Rattle.nd_grammar.proofs.NextPending.{types_same}
 
@@ -163,8 +162,7 @@ module _ (C : Class → Option ℕ → Option ℕ → Type 0) (g g' : Graph) (ta
         (as_many (child_types d l ks) ks ks' m.1 (child_agreements d ks) (child_agreements d ks') (n + 1) (n' + 1)) in
         let (of_kids, of_rest) = parted map (flat_map f K) (flat_map f' K') (flat_map f T) (flat_map f' T') kids_many others in
         let of_kids' : AllInMap map (flat_map f K) (R (child_types d l ks) (child_agreements d ks') (n' + 1) ks') =
-        subst (λ u. AllInMap map (flat_map f K) (R u (child_agreements d ks') (n' + 1) ks')) (sym e) of_kids in
-        (
+        subst (λ u. AllInMap map (flat_map f K) (R u (child_agreements d ks') (n' + 1) ks')) (sym e) of_kids in (
           record { same = m.0.same; cells = own_cell d l l' ks n n' (first_agreements ags) (first_agreements ags') m.0.same k.0 first; read = m.0.read; read' = m.0.read' },
           carried (child_types d l ks) ks ks' (k.1 m.0.read) m.1 (child_agreements d ks) (child_agreements d ks') (n + 1) (n' + 1) of_kids',
           carried types ts us k.2 m.2 (rest_agreements ags) (rest_agreements ags') (n + 1 + nodes ks) (n' + 1 + nodes ks') of_rest,

@@ -1,5 +1,5 @@
 -- Tests that compute, and what they show.
-use Rattle.std.proofs.Common.{◌≡◌, ℕ, ◌+◌, ◌^◌, ◌<◌, ◌≤◌, zero, suc, ℤ, Bool, true, false, ◌&&◌, cond, not, eqb, ltb, leb, List, [], ◌∷◌, ◌++◌, length, Option, Some, None, refl, ap, sym, ◌∙◌, inl, inr, ◌⊎◌, arith, subst, take, drop}
+use Rattle.std.proofs.Common.{◌≡◌, ℕ, ◌+◌, ◌^◌, ◌<◌, zero, suc, ℤ, Bool, true, false, ◌&&◌, ◌||◌, cond, not, eqb, ltb, leb, List, [], ◌∷◌, ◌++◌, length, Option, Some, None, refl, ap, sym, inl, inr, subst, take, drop}
 use Rattle.std.proofs.lemmas.Bool.{eqb-true, eq-eqb, leb-true, ltb-true}
 use Rattle.std.proofs.lemmas.Bool.Decides.{Decides-int_eq}
 use Rattle.std.proofs.lemmas.Option.{same_Some}
@@ -12,7 +12,7 @@ use Rattle.nd_graph.specs.declared.value.Graph.{Graph}
 use Rattle.nd_base.specs.declared.TheConstants.{STREAM_LIMIT}
 use Rattle.nd_graph.specs.Setting.{Setting, Among, root_list}
 use Rattle.nd_grammar.specs.Stream.{Stream, representation, AllCut}
-use Rattle.nd_graph.specs.Deferral.{Due, due_root, due_referent, Step, root_stands, referent_stands, stands_already, Deferral, none_due, at_root, at_null, at_standing, at_referent, Pending, due_of, standing_root, standing_cell, IsStanding, IsStandingFull, AreFree, Standing_cells, root_cell, due_roots, before_pipes}
+use Rattle.nd_graph.specs.Deferral.{Due, due_root, due_referent, Step, root_stands, referent_stands, stands_already, Deferral, none_due, at_root, at_null, at_standing, at_referent, Pending, due_of, standing_root, standing_cell, IsPlaced, IsPlacedFull, AreFree, Placed_cells, root_cell, due_roots, before_pipes}
 use Rattle.nd_types.specs.Number.{unsigned, value_of_octets}
 use Rattle.nd_grammar.specs.Entry.{Kind, Entry, Align, Max, Offset, Actual, Chunk, Number, Num, Tag, Text, Context, Test, Unread, size_at, EntryAt, end_to_end, end_of, full_cells}
 use Rattle.nd_grammar.specs.Represents.{piece, Spells, IsNumber, IsRendered, id_octets, IsNumbering, Represents}
@@ -21,7 +21,7 @@ use Rattle.nd_grammar.specs.Refusal.{Accepts, refusal}
 use Rattle.nd_grammar.specs.declared.reason.Reason.{Reason}
 use Rattle.nd_graph.specs.Canon.{canonical_number, named_cells}
 use Rattle.nd_grammar.specs.Chosen.{Chosen, octets_from, pipe_cuts}
-use Rattle.nd_graph.specs.Conforms.{IsPartial, MayMeet, AllEarlier}
+use Rattle.nd_graph.specs.Conforms.{IsPartial, ShareOnlyIfFull, AllEarlier}
 use Rattle.nd_graph.specs.Misfit.{is_partial_node, has_machine_values}
 use Rattle.nd_graph.specs.Homes.{all_nodes, all_pointers}
 use Rattle.std.specs.List.{list_all}
@@ -35,15 +35,15 @@ full_is Full e = refl
 full_is Ref e = cc
 full_is Unique e = cc
 
-abbrev pub is_standing : Standing_cells → ℕ → Bool
+abbrev pub is_standing : Placed_cells → ℕ → Bool
 is_standing [] c = false
 is_standing (d ∷ ds) c = cond (eqb c d.1) true (is_standing ds c)
 
-abbrev pub is_standing_full : Standing_cells → ℕ → Bool
+abbrev pub is_standing_full : Placed_cells → ℕ → Bool
 is_standing_full [] c = false
 is_standing_full (d ∷ ds) c = cond (is_full d.0 && eqb c d.1) true (is_standing_full ds c)
 
-abbrev are_free : Standing_cells → Standing_cells → Bool
+abbrev are_free : Placed_cells → Placed_cells → Bool
 are_free [] done = true
 are_free (d ∷ ds) done = not (is_standing done d.1) && are_free ds done
 
@@ -56,7 +56,7 @@ only_if true o = o
 only_if false o = None
 
 -- the steps for what is due, at most so many
-abbrev pub walk : ℕ → Setting → Graph → Standing_cells → List Due → Option (List Step)
+abbrev pub walk : ℕ → Setting → Graph → Placed_cells → List Due → Option (List Step)
 walk fuel w g done [] = Some []
 walk zero w g done (t ∷ ts) = None
 walk (suc fuel) w g done (due_root i ∷ ts) =
@@ -83,24 +83,24 @@ not_is : (b : Bool) → not b ≡ true → b ≡ false
 not_is true e = cc
 not_is false e = refl
 
-standing_full_yes : (ds : Standing_cells) (c : ℕ) → is_standing_full ds c ≡ true → IsStandingFull ds c
+standing_full_yes : (ds : Placed_cells) (c : ℕ) → is_standing_full ds c ≡ true → IsPlacedFull ds c
 standing_full_yes [] c e = cc
 standing_full_yes (d ∷ ds) c e = go (is_full d.0 && eqb c d.1) refl e (standing_full_yes ds c)
   where
-    go : (b : Bool) → (is_full d.0 && eqb c d.1) ≡ b → cond b true (is_standing_full ds c) ≡ true → (is_standing_full ds c ≡ true → IsStandingFull ds c) → IsStandingFull (d ∷ ds) c
+    go : (b : Bool) → (is_full d.0 && eqb c d.1) ≡ b → cond b true (is_standing_full ds c) ≡ true → (is_standing_full ds c ≡ true → IsPlacedFull ds c) → IsPlacedFull (d ∷ ds) c
     go true q e' ih = inl (full_is d.0 (and_left (is_full d.0) (eqb c d.1) q), eqb-true c d.1 (and_right (is_full d.0) (eqb c d.1) q))
     go false q e' ih = inr (ih e')
 
-standing_no : (ds : Standing_cells) (c : ℕ) → is_standing ds c ≡ false → ¬ IsStanding ds c
+standing_no : (ds : Placed_cells) (c : ℕ) → is_standing ds c ≡ false → ¬ IsPlaced ds c
 standing_no [] c e h = h
 standing_no (d ∷ ds) c e h = go (eqb c d.1) refl e h (standing_no ds c)
   where
-    go : (b : Bool) → eqb c d.1 ≡ b → cond b true (is_standing ds c) ≡ false → IsStanding (d ∷ ds) c → (is_standing ds c ≡ false → ¬ IsStanding ds c) → ⊥
+    go : (b : Bool) → eqb c d.1 ≡ b → cond b true (is_standing ds c) ≡ false → IsPlaced (d ∷ ds) c → (is_standing ds c ≡ false → ¬ IsPlaced ds c) → ⊥
     go true q e' h' ih = cc
     go false q e' (inl same) ih = let t : eqb c d.1 ≡ true = eq-eqb c d.1 same in cc (t, q)
     go false q e' (inr rest) ih = ih e' rest
 
-free_yes : (ds done : Standing_cells) → are_free ds done ≡ true → AreFree ds done
+free_yes : (ds done : Placed_cells) → are_free ds done ≡ true → AreFree ds done
 free_yes [] done e = tt
 free_yes (d ∷ ds) done e =
     (standing_no done d.1 (not_is _ (and_left (not (is_standing done d.1)) (are_free ds done) e)), free_yes ds done (and_right (not (is_standing done d.1)) (are_free ds done) e))
@@ -113,8 +113,8 @@ only_is : (b : Bool) (o : Option (List Step)) (ts : List Step) → only_if b o �
 only_is true o ts e = (refl, e)
 only_is false o ts e = cc
 
-module _ (w : Setting) (g : Graph) (done : Standing_cells) (p : Pending) (due : List Due) (ts : List Step) (fuel : ℕ)
-    (ih : (done' : Standing_cells) (due' : List Due) (ts' : List Step) → walk fuel w g done' due' ≡ Some ts' → Deferral w g done' due' ts') where
+module _ (w : Setting) (g : Graph) (done : Placed_cells) (p : Pending) (due : List Due) (ts : List Step) (fuel : ℕ)
+    (ih : (done' : Placed_cells) (due' : List Due) (ts' : List Step) → walk fuel w g done' due' ≡ Some ts' → Deferral w g done' due' ts') where
   abbrev step : ℕ → Bool → Option (List Step)
   step c true = with (stands_already p c) (walk fuel w g done due)
   step c false = only_if (not (is_standing done c)) (with (referent_stands p c) (walk fuel w g ((p.class, c) ∷ done) (due_of w.table (standing_cell g p c) ++ due)))
@@ -138,7 +138,7 @@ module _ (w : Setting) (g : Graph) (done : Standing_cells) (p : Pending) (due : 
   by_cell (Some c) f e = by_done c f (is_full p.class && is_standing_full done c) refl e
 
 -- what the walk finds are the steps of deferral
-pub walk_gives : (fuel : ℕ) (w : Setting) (g : Graph) (done : Standing_cells) (due : List Due) (ts : List Step)
+pub walk_gives : (fuel : ℕ) (w : Setting) (g : Graph) (done : Placed_cells) (due : List Due) (ts : List Step)
     → walk fuel w g done due ≡ Some ts → Deferral w g done due ts
 walk_gives zero w g done [] ts e = subst (λ us. Deferral w g done [] us) (same_Some _ _ e) none_due
 walk_gives (suc fuel) w g done [] ts e = subst (λ us. Deferral w g done [] us) (same_Some _ _ e) none_due
@@ -248,6 +248,51 @@ numbers_are (d ∷ cs) e c (inr h) = numbers_are cs (and_right (ltb 0 d && ltb d
 pub own_numbers : (cs : List ℕ) → are_numbers cs ≡ true → IsNumbering (λ c. c) cs
 own_numbers cs e = record { in_range = numbers_are cs e; one_to_one = λ c d h k same. same }
 
+-- a numbering of the cells that full pointers name, by tests
+abbrev are_numbered : (ℕ → ℕ) → List ℕ → Bool
+are_numbered nums [] = true
+are_numbered nums (c ∷ cs) = (ltb 0 (nums c) && ltb (nums c) (2 ^ 32)) && are_numbered nums cs
+
+abbrev apart : (ℕ → ℕ) → ℕ → ℕ → Bool
+apart nums c d = not (eqb (nums c) (nums d)) || eqb c d
+
+abbrev apart_from : (ℕ → ℕ) → ℕ → List ℕ → Bool
+apart_from nums c [] = true
+apart_from nums c (d ∷ ds) = apart nums c d && apart_from nums c ds
+
+abbrev all_apart : (ℕ → ℕ) → List ℕ → List ℕ → Bool
+all_apart nums [] ds = true
+all_apart nums (c ∷ cs) ds = apart_from nums c ds && all_apart nums cs ds
+
+numbered_are : (nums : ℕ → ℕ) (cs : List ℕ) → are_numbered nums cs ≡ true → (c : ℕ) → Among cs c → (0 < nums c) × (nums c < 2 ^ 32)
+numbered_are nums [] e c h = absurd h
+numbered_are nums (d ∷ cs) e c (inl same) =
+    let h : (ltb 0 (nums d) && ltb (nums d) (2 ^ 32)) ≡ true = and_left (ltb 0 (nums d) && ltb (nums d) (2 ^ 32)) (are_numbered nums cs) e in
+    let low : 0 < nums d = ltb-true 0 (nums d) (and_left (ltb 0 (nums d)) (ltb (nums d) (2 ^ 32)) h) in
+    let high : nums d < 2 ^ 32 = ltb-true (nums d) (2 ^ 32) (and_right (ltb 0 (nums d)) (ltb (nums d) (2 ^ 32)) h) in
+    (rw same low, rw same high)
+numbered_are nums (d ∷ cs) e c (inr h) = numbered_are nums cs (and_right (ltb 0 (nums d) && ltb (nums d) (2 ^ 32)) (are_numbered nums cs) e) c h
+
+apart_is : (nums : ℕ → ℕ) (c d : ℕ) → apart nums c d ≡ true → nums c ≡ nums d → c ≡ d
+apart_is nums c d e same =
+    let s : eqb (nums c) (nums d) ≡ true = eq-eqb _ _ same in
+    let f : (not true || eqb c d) ≡ true = subst (λ b. (not b || eqb c d) ≡ true) s e in
+    eqb-true c d f
+
+apart_from_is : (nums : ℕ → ℕ) (c : ℕ) (ds : List ℕ) → apart_from nums c ds ≡ true → (d : ℕ) → Among ds d → nums c ≡ nums d → c ≡ d
+apart_from_is nums c [] e d h same = absurd h
+apart_from_is nums c (x ∷ ds) e d (inl here) same =
+    let a : apart nums c d ≡ true = subst (λ u. apart nums c u ≡ true) (sym here) (and_left (apart nums c x) (apart_from nums c ds) e) in
+    apart_is nums c d a same
+apart_from_is nums c (x ∷ ds) e d (inr h) same = apart_from_is nums c ds (and_right (apart nums c x) (apart_from nums c ds) e) d h same
+
+all_apart_are : (nums : ℕ → ℕ) (cs ds : List ℕ) → all_apart nums cs ds ≡ true → (c d : ℕ) → Among cs c → Among ds d → nums c ≡ nums d → c ≡ d
+all_apart_are nums [] ds e c d h k same = absurd h
+all_apart_are nums (x ∷ cs) ds e c d (inl here) k same =
+    let a : apart_from nums c ds ≡ true = subst (λ u. apart_from nums u ds ≡ true) (sym here) (and_left (apart_from nums x ds) (all_apart nums cs ds) e) in
+    apart_from_is nums c ds a d k same
+all_apart_are nums (x ∷ cs) ds e c d (inr h) k same = all_apart_are nums cs ds (and_right (apart_from nums x ds) (all_apart nums cs ds) e) c d h k same
+
 -- octets represent a graph, by tests; each cell's number is its own
 pub represents : (w : Setting) (order : Order) (octets : List ℕ) (g : Graph) (steps : List Step) (cuts : List (List ℕ)) (fuel : ℕ)
     → walk fuel w g [] (due_roots 0 (before_pipes (root_list w))) ≡ Some steps
@@ -295,6 +340,32 @@ pub represents_so : (w : Setting) (order : Order) (octets : List ℕ) (g : Graph
 represents_so w order octets g cuts fuel walked cut numbered rendered whole within =
     represents w order octets g (steps_of fuel w g) cuts fuel (some_found _ walked) cut numbered rendered whole within
 
+-- the same with other numbers for the cells
+pub represents_by : (nums : ℕ → ℕ) (w : Setting) (order : Order) (octets : List ℕ) (g : Graph) (cuts : List (List ℕ)) (fuel : ℕ)
+    → is_some (walk fuel w g [] (due_roots 0 (before_pipes (root_list w)))) ≡ true
+    → AllCut (drop (before_pipes (root_list w)) g.roots) cuts
+    → are_numbered nums (full_cells (representation w g (steps_of fuel w g) cuts)) ≡ true
+    → all_apart nums (full_cells (representation w g (steps_of fuel w g) cuts)) (full_cells (representation w g (steps_of fuel w g) cuts)) ≡ true
+    → renders order nums octets (end_to_end 0 (representation w g (steps_of fuel w g) cuts)) ≡ true
+    → end_of 0 (representation w g (steps_of fuel w g) cuts) ≡ length octets
+    → leb (length octets) STREAM_LIMIT ≡ true
+    → Represents w order octets g
+represents_by nums w order octets g cuts fuel walked cut numbered distinct rendered whole within = record {
+  entries = representation w g (steps_of fuel w g) cuts;
+  stream = record {
+    steps = steps_of fuel w g;
+    cuts = cuts;
+    deferral = walk_gives fuel w g [] _ _ (some_found _ walked);
+    all_cut = cut;
+    is_representation = refl;
+  };
+  numbering = nums;
+  is_numbering = record { in_range = numbered_are nums _ numbered; one_to_one = all_apart_are nums _ _ distinct };
+  rendered = renders_gives order nums octets (end_to_end 0 (representation w g (steps_of fuel w g) cuts)) rendered;
+  whole = whole;
+  within = leb-true _ _ within;
+}
+
 abbrev is_no_refusal : Option (ℕ × Reason) → Bool
 is_no_refusal None = true
 is_no_refusal (Some r) = false
@@ -330,7 +401,33 @@ cut_at xs ys x zero e = e
 cut_at [] ys x (suc n) e = cc
 cut_at (z ∷ xs) ys x (suc n) e = ap (λ zs. z ∷ zs) (cut_at xs ys x n e)
 
--- Octets are refused at the n-th entry of a partial graph, by tests.
+-- Octets are refused at the n-th entry of a stream of a partial graph, by tests.
+pub bad_from : (w : Setting) (order : Order) (octets : List ℕ) (place : ℕ) (why : Reason) (g : Graph) (ms : List Entry) (n : ℕ) (here : EntryAt) (later : List EntryAt)
+    → IsPartial w g
+    → Stream w g ms
+    → IsNumbering (λ c. c) (full_cells ms)
+    → from n (end_to_end 0 ms) ≡ here ∷ later
+    → renders order (λ c. c) octets (upto n (end_to_end 0 ms)) ≡ true
+    → accepts order octets [] (upto n (end_to_end 0 ms)) ≡ true
+    → refusal order octets (upto n (end_to_end 0 ms)) here ≡ Some (place, why)
+    → Bad w order octets place why
+bad_from w order octets place why g ms n here later partial stream numbered split rendered accepted refused = record {
+  partial = g;
+  is_partial = partial;
+  entries = ms;
+  stream = stream;
+  earlier = upto n (end_to_end 0 ms);
+  here = here;
+  later = later;
+  split = cut_at _ later here n split;
+  numbering = λ c. c;
+  is_numbering = numbered;
+  rendered = renders_gives order (λ c. c) octets _ rendered;
+  accepted = accepts_gives order octets [] _ accepted;
+  refused = refused;
+}
+
+-- The same of the stream whose steps the walk finds.
 pub bad_so : (w : Setting) (order : Order) (octets : List ℕ) (place : ℕ) (why : Reason) (g : Graph) (cuts : List (List ℕ)) (fuel n : ℕ)
     (here : EntryAt) (later : List EntryAt)
     → IsPartial w g
@@ -342,27 +439,16 @@ pub bad_so : (w : Setting) (order : Order) (octets : List ℕ) (place : ℕ) (wh
     → accepts order octets [] (upto n (end_to_end 0 (representation w g (steps_of fuel w g) cuts))) ≡ true
     → refusal order octets (upto n (end_to_end 0 (representation w g (steps_of fuel w g) cuts))) here ≡ Some (place, why)
     → Bad w order octets place why
-bad_so w order octets place why g cuts fuel n here later partial walked cut numbered split rendered accepted refused = record {
-  partial = g;
-  is_partial = partial;
-  entries = representation w g (steps_of fuel w g) cuts;
-  stream = record {
-    steps = steps_of fuel w g;
-    cuts = cuts;
-    deferral = walk_gives fuel w g [] _ _ (some_found _ walked);
-    all_cut = cut;
-    is_representation = refl;
-  };
-  earlier = upto n (end_to_end 0 (representation w g (steps_of fuel w g) cuts));
-  here = here;
-  later = later;
-  split = cut_at _ later here n split;
-  numbering = λ c. c;
-  is_numbering = own_numbers _ numbered;
-  rendered = renders_gives order (λ c. c) octets _ rendered;
-  accepted = accepts_gives order octets [] _ accepted;
-  refused = refused;
-}
+bad_so w order octets place why g cuts fuel n here later partial walked cut numbered split rendered accepted refused =
+    bad_from w order octets place why g (representation w g (steps_of fuel w g) cuts) n here later partial
+    (record {
+      steps = steps_of fuel w g;
+      cuts = cuts;
+      deferral = walk_gives fuel w g [] _ _ (some_found _ walked);
+      all_cut = cut;
+      is_representation = refl;
+    })
+    (own_numbers _ numbered) split rendered accepted refused
 
 abbrev same_cell : Option ℕ → Option ℕ → Bool
 same_cell (Some c) (Some d) = eqb c d
@@ -379,18 +465,18 @@ abbrev pub are_unshared : List Pending → Bool
 are_unshared [] = true
 are_unshared (p ∷ ps) = all_meet p ps && are_unshared ps
 
-meet_is : (p q : Pending) → may_meet p q ≡ true → MayMeet p q
+meet_is : (p q : Pending) → may_meet p q ≡ true → ShareOnlyIfFull p q
 meet_is p q e c a b =
     let s : same_cell p.cell q.cell ≡ true = rw (a, b) (eq-eqb c c refl) in
     let f : (is_full p.class && is_full q.class) ≡ true = (rw s at e) in
     (full_is _ (and_left (is_full p.class) (is_full q.class) f), full_is _ (and_right (is_full p.class) (is_full q.class) f))
 
-meets_are : (p : Pending) (qs : List Pending) → all_meet p qs ≡ true → AllByRecursion (MayMeet p) qs
+meets_are : (p : Pending) (qs : List Pending) → all_meet p qs ≡ true → AllByRecursion (ShareOnlyIfFull p) qs
 meets_are p [] e = tt
 meets_are p (q ∷ qs) e =
     (meet_is p q (and_left (may_meet p q) (all_meet p qs) e), meets_are p qs (and_right (may_meet p q) (all_meet p qs) e))
 
-pub unshared_are : (ps : List Pending) → are_unshared ps ≡ true → AllEarlier MayMeet ps
+pub unshared_are : (ps : List Pending) → are_unshared ps ≡ true → AllEarlier ShareOnlyIfFull ps
 unshared_are [] e = tt
 unshared_are (p ∷ ps) e =
     (meets_are p ps (and_left (all_meet p ps) (are_unshared ps) e), unshared_are ps (and_right (all_meet p ps) (are_unshared ps) e))

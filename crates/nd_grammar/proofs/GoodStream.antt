@@ -18,7 +18,7 @@ use Rattle.nd_graph.specs.Tree.{Tree, Trees, node, none, more, Label, Referent, 
 use Rattle.nd_graph.specs.Agreement.{Agreement}
 use Rattle.nd_graph.specs.Setting.{Setting, root_list, root_at, or_unread, cell_at, cell_tree, cell_of_number, cell_home}
 use Rattle.nd_graph.specs.Nodes.{TypedNode, nodes_of, child_types, child_agreements, first_agreements, rest_agreements}
-use Rattle.nd_graph.specs.Deferral.{Pending, pointer, pointer_by, home_pointers, Due, due_root, due_referent, due_roots, before_pipes, Step, Deferral, none_due, at_root, at_null, at_standing, at_referent, Standing_cells, Standing, standing_root, standing_by, standing_cell, root_type, direct, due_of}
+use Rattle.nd_graph.specs.Deferral.{Pending, pointer, pointer_by, home_pointers, Due, due_root, due_referent, due_roots, before_pipes, Step, Deferral, none_due, at_root, at_null, at_standing, at_referent, Placed_cells, Standing, standing_root, standing_by, standing_cell, root_type, direct, due_of}
 use Rattle.nd_graph.specs.Variables.{root_agreements}
 use Rattle.nd_types.specs.declared.types.Class.TheVariants.{Ref}
 use Rattle.nd_graph.specs.Misfit.{names_cell, names_pointee, has_shape}
@@ -61,8 +61,8 @@ module _ (w : Setting) (none_inside : HoldsNoPipe w.table) (g : Graph) where
   good_pointer t (Some (def.Pointer k to)) (tree.Ptr (Some b)) ks h n ags e f p a = (
     record {
       pointee = λ c s.
-      subst (λ u. (x : Referent) × (cell_of_number g u ≡ Some x) × (x.of ≡ to.0)) (same_Some _ _ s)
-      (pointee_of_cell g k to b f.cell (subst (λ u. names_pointee g u (tree.Ptr (Some b)) ≡ true) e f.pointee));
+          subst (λ u. (x : Referent) × (cell_of_number g u ≡ Some x) × (x.of ≡ to.0)) (same_Some _ _ s)
+          (pointee_of_cell g k to b f.cell (subst (λ u. names_pointee g u (tree.Ptr (Some b)) ≡ true) e f.pointee));
       no_pipe = none_inside.pointee t k to e p;
       agrees = λ c s. subst (λ u. AllByRecursion (IsAgreed (cell_at g u)) ags) (same_Some _ _ s) a.0;
     },
@@ -158,7 +158,7 @@ module _ (w : Setting) (none_inside : HoldsNoPipe w.table) (g : Graph) where
         subst (λ t. StandsGood (standing_by g i t (root_at g i) (direct (type_at w.table t) (root_at g i)))) (sym (ap root_type e))
         (root_stands_tree i r.of (root_agreements w g r.vars ∷ []) (root_at g i) p (good_roots w g c i r e))
 
-    pub good_steps : {done : Standing_cells} {due : List Due} {steps : List Step} → Deferral w g done due steps → AllByRecursion DueGood due
+    pub good_steps : {done : Placed_cells} {due : List Due} {steps : List Step} → Deferral w g done due steps → AllByRecursion DueGood due
         → AllByRecursion Good (flat_map (step_entries w g) steps)
     good_steps none_due a = tt
     good_steps (at_root {i = i} {due = due} {steps = steps} f d) a =
@@ -236,8 +236,7 @@ module _ (w : Setting) (none_inside : HoldsNoPipe w.table) (g : Graph) where
     pub roots_due : (i n : ℕ) → ((j : ℕ) → j < n → DueGood (due_root (i + j))) → AllByRecursion DueGood (due_roots i n)
     roots_due i zero f = tt
     roots_due i (suc n) f =
-        let e : i + 0 ≡ i = omega arith in
-        (
+        let e : i + 0 ≡ i = omega arith in (
           subst (λ u. DueGood (due_root u)) e (f 0 (omega arith)),
           roots_due (suc i) n (λ j h. (let q : i + suc j ≡ suc i + j = omega arith in subst (λ u. DueGood (due_root u)) q (f (suc j) (omega arith)))),
         )

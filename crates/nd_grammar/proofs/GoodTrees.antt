@@ -55,8 +55,7 @@ module _ (table : Table) (g : Graph) where
       let d : Option TypeDef = type_at table t in
       let rest : List TypedNode = nodes_of table types (rest_agreements ags) (n + 1 + nodes ks) ts in
       let kids : List TypedNode = nodes_of table (child_types d l ks) (child_agreements d ks) (n + 1) ks in
-      let e' : count ts ≡ length types = omega arith in
-      (
+      let e' : count ts ≡ length types = omega arith in (
         a.0.fit,
         agrees_by g n t (first_agreements ags) l ks a.0.agrees,
         good_trees (child_types d l ks) (child_agreements d ks) (n + 1) ks (fit_children d l ks a.0.fit.shape a.0.fit.arm) (all_left (IsGoodNode table g) kids rest a.1),

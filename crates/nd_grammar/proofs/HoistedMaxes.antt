@@ -223,12 +223,11 @@ module _ (table : Table) (laid : HoistsLast table) where
     all_maxes (t ∷ types) (more (node l ks) ts) none o m a b = tt
     all_maxes (t ∷ types) (more (node l ks) ts) (more (node l' ks') us) o m a b =
         let d : Option TypeDef = type_at table t in
-        let own = own_of t types l l' ks ks' ts us o a.2 b.2 m in
-        (
+        let own = own_of t types l l' ks ks' ts us o a.2 b.2 m in (
           one_max t d refl l l' ks ks' a.0.shape b.0.shape own,
           (λ e. kids_or_none t l l' ks ks' (read_or_not d l ks a.0.shape) (read_or_not d l' ks' b.0.shape) e (λ n n'.
-          all_maxes (child_types d l ks) ks ks' (children t d l ks refl).0 (kids_last t l l' ks ks' b.0.shape n' own) (a.1 n)
-          (subst (λ u. Known g' table u ks') (sym e) (b.1 n')))),
+              all_maxes (child_types d l ks) ks ks' (children t d l ks refl).0 (kids_last t l l' ks ks' b.0.shape n' own) (a.1 n)
+              (subst (λ u. Known g' table u ks') (sym e) (b.1 n')))),
           all_maxes types ts us (no_more H t types o) (rest_of t types l l' ks ks' ts us a.2 b.2 m) a.2 b.2,
         )
 

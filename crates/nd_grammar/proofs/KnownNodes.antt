@@ -85,11 +85,10 @@ module _ (table : Table) (g : Graph) where
       let d : Option TypeDef = type_at table t in
       let rest : List TypedNode = nodes_of table types (rest_agreements ags) (n + 1 + nodes ks) ts in
       let kids : List TypedNode = nodes_of table (child_types d l ks) (child_agreements d ks) (n + 1) ks in
-      let e' : count ts ≡ length types = omega arith in
-      (
+      let e' : count ts ≡ length types = omega arith in (
         node_known table g t l ks a.0,
         (λ unread_not. known_nodes (child_types d l ks) (child_agreements d ks) (n + 1) ks (children_of table g t l ks a.0.read unread_not)
-        (all_left SoundNode kids rest a.1)),
+            (all_left SoundNode kids rest a.1)),
         known_nodes types (rest_agreements ags) (n + 1 + nodes ks) ts e' (all_right SoundNode kids rest a.1),
       )
 

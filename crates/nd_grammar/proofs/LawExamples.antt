@@ -17,7 +17,7 @@ use Rattle.nd_grammar.specs.Bad.{Bad}
 use Rattle.nd_grammar.specs.declared.reason.Reason.{Reason}
 use Rattle.nd_grammar.specs.declared.reason.Reason.TheVariants as reason
 use Rattle.nd_grammar.proofs.Check.{upto}
-use Rattle.nd_grammar.proofs.Rows.{ring, ring_2, ring_2_octets, ring_conforms, row_5, row_ring_6, row_ring_12}
+use Rattle.nd_grammar.proofs.LawRing.{ring, ring_2, ring_2_octets, ring_conforms, ring_represented, ring_cut}
 use Rattle.nd_grammar.proofs.OneGraph.{one_graph}
 use Rattle.nd_grammar.proofs.OneRefusal.{one_bad}
 use Rattle.nd_grammar.proofs.Excluded.{excluded}
@@ -79,14 +79,14 @@ ring_order = deferral_is ring ring_2 (sound_conforming ring ring_2 ring_conforms
 
 -- its octets represent it alone
 pub ring_alone : (g : Graph) → Conforms ring g → Represents ring Little ring_2_octets g → Same ring_2 g
-ring_alone g c r = (one_graph ring ring_side Little ring_2_octets [] ring_2 g ring_conforms c row_5 r).1
+ring_alone g c r = (one_graph ring ring_side Little ring_2_octets [] ring_2 g ring_conforms c ring_represented r).1
 
 pub ring_twice : Same ring_2 ring_2
-ring_twice = ring_alone ring_2 ring_conforms row_5
+ring_twice = ring_alone ring_2 ring_conforms ring_represented
 
 -- cut after 6 octets, they are refused there for this reason alone, and are no stream of any graph
 pub ring_cut_once : (place : ℕ) (why : Reason) → Bad ring Little (upto 6 ring_2_octets) place why → (place ≡ 6) × (why ≡ reason.Truncated)
-ring_cut_once place why b = one_bad ring ring_side Little (upto 6 ring_2_octets) place 6 why reason.Truncated b row_ring_6
+ring_cut_once place why b = one_bad ring ring_side Little (upto 6 ring_2_octets) place 6 why reason.Truncated b ring_cut
 
 pub ring_cut_excluded : (g : Graph) → Conforms ring g → Represents ring Little (upto 6 ring_2_octets) g → ⊥
-ring_cut_excluded g c r = excluded ring ring_side Little (upto 6 ring_2_octets) 6 reason.Truncated row_ring_6 (upto 6 ring_2_octets) [] refl g c r
+ring_cut_excluded g c r = excluded ring ring_side Little (upto 6 ring_2_octets) 6 reason.Truncated ring_cut (upto 6 ring_2_octets) [] refl g c r

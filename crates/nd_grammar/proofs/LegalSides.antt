@@ -22,7 +22,7 @@ use Rattle.std.specs.Ordering.{int_eq}
 use Rattle.nd_types.specs.Table.{Table, type_at, selected, labelled, or_else}
 use Rattle.nd_types.specs.Layout.{hoists, hoists_by, hoists_within, last_hoists, parts, arm_type, arm_types, default_type}
 use Rattle.nd_types.specs.Legal.{IsLegal, only_last_hoists, has_none_within, is_barred_in_pipes, fits_pipes, is_switched}
-use Rattle.nd_types.specs.Fields.{Placed, placed, attr_rank, all_fields, has_attr, has_size, has_range_attr, subject_type, param_fields}
+use Rattle.nd_types.specs.Fields.{FieldAt, fields_at, attr_rank, all_fields, has_attr, has_size, has_range_attr, subject_type, param_fields}
 use Rattle.nd_types.specs.Kinds.{pointee, pointee_by, is_conformant_array, is_conformant_text, is_varying_array, is_pointer, is_nonencapsulated}
 use Rattle.nd_types.specs.Roots.{Root, roots_of, params_from, root_of, root_by, pipe_of, pipe_by, result_root, travels, pipe_referent}
 use Rattle.nd_types.proofs.LayoutLaws.{hoists-legal}
@@ -107,35 +107,35 @@ module _ (table : Table) (operations : List Operation) (legal : IsLegal table op
     unfolds = hoists-legal table operations legal;
     members = λ t ms e. only_last table ms (passes_at _ table t (def.Struct ms) legal.hoisting_members e);
     element = λ t x b v e. (
-    let h = passes_at _ table t (def.Array x b v) legal.array_elements e in
-    let (a, c) = and_parts _ _ h in
-    not-true _ a);
+        let h = passes_at _ table t (def.Array x b v) legal.array_elements e in
+        let (a, c) = and_parts _ _ h in
+        not-true _ a);
     piped = λ t x e. limit_none table x.0 (passes_at _ table t (def.Pipe x) legal.pipe_elements e);
     arms = λ t tag enc arms default v e.
-    in_selected (λ u. hoists table u ≡ false) arms default v
-    (all_weaker _ _ (λ u h. not-true _ h) (arm_types arms ++ default_type default)
-    (all_of_list _ _ (passes_at _ table t (def.Union tag enc arms default) legal.hoisting_arms e)));
+        in_selected (λ u. hoists table u ≡ false) arms default v
+        (all_weaker _ _ (λ u h. not-true _ h) (arm_types arms ++ default_type default)
+        (all_of_list _ _ (passes_at _ table t (def.Union tag enc arms default) legal.hoisting_arms e)));
   }
 
   -- a test of fields passes at each parameter of each operation
-  test_in : (test : Placed → Bool) (siblings : List Field) (i : ℕ) (fs : List Field)
+  test_in : (test : FieldAt → Bool) (siblings : List Field) (i : ℕ) (fs : List Field)
       → list_all test (map (λ e. record { siblings = siblings; index = e.0; is_param = true; field = e.1 }) (enumerate_from i fs)) ≡ true
-      → AllByRecursion (λ f. (p : Placed) × (p.field ≡ f) × (test p ≡ true)) fs
+      → AllByRecursion (λ f. (p : FieldAt) × (p.field ≡ f) × (test p ≡ true)) fs
   test_in test siblings i [] h = tt
   test_in test siblings i (f ∷ fs) h =
       let (a, b) = and_parts _ _ h in
       ((record { siblings = siblings; index = i; is_param = true; field = f }, refl, a), test_in test siblings (i + 1) fs b)
 
-  test_at : (test : Placed → Bool) (os : List Operation) (o : Operation) → Among os o → list_all (λ o. list_all test (placed true (param_fields o))) os ≡ true
-      → AllByRecursion (λ f. (p : Placed) × (p.field ≡ f) × (test p ≡ true)) (param_fields o)
+  test_at : (test : FieldAt → Bool) (os : List Operation) (o : Operation) → Among os o → list_all (λ o. list_all test (fields_at true (param_fields o))) os ≡ true
+      → AllByRecursion (λ f. (p : FieldAt) × (p.field ≡ f) × (test p ≡ true)) (param_fields o)
   test_at test [] o a h = absurd a
   test_at test (q ∷ os) o (inl e) h =
       let (x, y) = and_parts _ _ h in
-      test_in test (param_fields o) 0 (param_fields o) (subst (λ u. list_all test (placed true (param_fields u)) ≡ true) (sym e) x)
+      test_in test (param_fields o) 0 (param_fields o) (subst (λ u. list_all test (fields_at true (param_fields u)) ≡ true) (sym e) x)
   test_at test (q ∷ os) o (inr a) h = let (x, y) = and_parts _ _ h in test_at test os o a y
 
-  test_all : (test : Placed → Bool) → all_fields test table operations ≡ true → (o : Operation) → Among operations o
-      → AllByRecursion (λ f. (p : Placed) × (p.field ≡ f) × (test p ≡ true)) (param_fields o)
+  test_all : (test : FieldAt → Bool) → all_fields test table operations ≡ true → (o : Operation) → Among operations o
+      → AllByRecursion (λ f. (p : FieldAt) × (p.field ≡ f) × (test p ≡ true)) (param_fields o)
   test_all test h o a = let (x, y) = and_parts _ _ h in test_at test operations o a y
 
   -- a field whose attributes would speak of a pipe has none
@@ -203,9 +203,9 @@ module _ (table : Table) (operations : List Operation) (legal : IsLegal table op
         go Switch h = both_ways (has_attr Switch f) c (has Switch h)
 
   bare_fields : (fs : List Field)
-      → AllByRecursion (λ f. (p : Placed) × (p.field ≡ f) × ((not (has_size p.field) || (is_conformant_array (subject_type table p.field) || is_conformant_text (subject_type table p.field))) ≡ true)) fs
-      → AllByRecursion (λ f. (p : Placed) × (p.field ≡ f) × ((not (has_range_attr p.field) || is_varying_array (subject_type table p.field)) ≡ true)) fs
-      → AllByRecursion (λ f. (p : Placed) × (p.field ≡ f) × ((not (has_attr Switch p.field) || is_switched table p.field.of.0) ≡ true)) fs
+      → AllByRecursion (λ f. (p : FieldAt) × (p.field ≡ f) × ((not (has_size p.field) || (is_conformant_array (subject_type table p.field) || is_conformant_text (subject_type table p.field))) ≡ true)) fs
+      → AllByRecursion (λ f. (p : FieldAt) × (p.field ≡ f) × ((not (has_range_attr p.field) || is_varying_array (subject_type table p.field)) ≡ true)) fs
+      → AllByRecursion (λ f. (p : FieldAt) × (p.field ≡ f) × ((not (has_attr Switch p.field) || is_switched table p.field.of.0) ≡ true)) fs
       → AllByRecursion IsBare fs
   bare_fields [] a b c = tt
   bare_fields (f ∷ fs) a b c =
@@ -214,8 +214,7 @@ module _ (table : Table) (operations : List Operation) (legal : IsLegal table op
       let (r, er, hr) = c.0 in
       let A = subst (λ u. (not (has_size u) || (is_conformant_array (subject_type table u) || is_conformant_text (subject_type table u))) ≡ true) ep hp in
       let B = subst (λ u. (not (has_range_attr u) || is_varying_array (subject_type table u)) ≡ true) eq hq in
-      let C = subst (λ u. (not (has_attr Switch u) || is_switched table u.of.0) ≡ true) er hr in
-      (
+      let C = subst (λ u. (not (has_attr Switch u) || is_switched table u.of.0) ≡ true) er hr in (
         (λ e s. no_attr f e s (sized_false f e s A) (ranged_false f e s B) (switched_false f e s C) f.vars refl),
         bare_fields fs a.1 b.1 c.1,
       )

@@ -30,7 +30,6 @@ use Rattle.nd_types.specs.declared.types.Attr.TheVariants as attr
 use Rattle.nd_types.specs.declared.types.AttrVar.{AttrVar}
 use Rattle.nd_graph.specs.Agreement.{Agreement, agreement, max_of, offset_of, tag_of, actual, found_in, number_of, number_in, member_agreements}
 
-
 -- a label without its cell, and its cell
 abbrev pub bare : Label → Label
 bare (tree.Ptr c) = tree.Ptr None
@@ -191,4 +190,3 @@ module _ (C : Class → Option ℕ → Option ℕ → Type 0) (table : Table) wh
   pub child_agreements_same : (d : Option TypeDef) (ks ks' : Trees) → ((i : ℕ) → number_in ks i ≡ number_in ks' i) → child_agreements d ks ≡ child_agreements d ks'
   child_agreements_same (Some (def.Struct fs)) ks ks' e = fields_same ks ks' e fs
   child_agreements_same _ ks ks' e = refl
-

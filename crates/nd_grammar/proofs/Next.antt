@@ -119,4 +119,3 @@ module _ (b : Readings) (X : List Pair → Type 0) where
         alike,
         λ x y. subst (λ u. Next u (at + size_at at m.kind) ms ns) e (k x y),
       ))
-

@@ -19,7 +19,7 @@ use Rattle.std.specs.List.{AllByRecursion, slice_get}
 use Rattle.nd_graph.specs.declared.item.Home.TheVariants as home
 use Rattle.nd_graph.specs.Setting.{Setting, Among, cell_home, cell_at, cell_of_number, root_at, root_list}
 use Rattle.nd_graph.specs.Nodes.{child_types, child_agreements, first_agreements, rest_agreements, nodes_of, TypedNode, home_nodes}
-use Rattle.nd_graph.specs.Deferral.{Pending, pointer, home_pointers, Due, due_root, due_referent, Step, root_stands, referent_stands, stands_already, Deferral, none_due, at_root, at_null, at_standing, at_referent, due_of, standing_root, standing_cell, root_cell, root_type, Standing_cells, IsStanding, IsStandingFull, AreFree}
+use Rattle.nd_graph.specs.Deferral.{Pending, pointer, home_pointers, Due, due_root, due_referent, Step, root_stands, referent_stands, stands_already, Deferral, none_due, at_root, at_null, at_standing, at_referent, due_of, standing_root, standing_cell, root_cell, root_type, Placed_cells, IsPlaced, IsPlacedFull, AreFree}
 use Rattle.nd_graph.proofs.DeferralLaws.{full_stands}
 use Rattle.nd_grammar.specs.Entry.{Kind, Entry, Align, Max, Offset, Actual, Chunk, Number, Num, Tag, Text, Context, Test, Unread, size_at, EntryAt, end_to_end, end_of}
 use Rattle.nd_grammar.specs.InPlace.{before_children, entries, in_place, tests, child_tests, hoisted, hoisted_max, whole_value}
@@ -38,7 +38,6 @@ use Rattle.nd_grammar.proofs.NextInPlace.{Cells, in_place_next, tests_next}
 use Rattle.nd_grammar.proofs.NextWhole.{MaxesFrom, whole_value_next, unread_whole, unread_entry}
 use Rattle.nd_grammar.proofs.Carried.{InMap, AllInMap, carried}
 use Rattle.nd_grammar.proofs.Standings.{firsts, seconds, firsts_append, seconds_append, free_apart, one_to_one, SameTop, found_top, top_of, PairFits, IsClosed, RootCarried, AllCarried, Stands, RootsAlike, RootsMeet, IsUnreadTree, partner, partner', no_right, no_left, full_match, cells_of, in_map, carried_parts, home_match, home_carried}
-
 use Rattle.nd_grammar.proofs.NextSteps.{root_next, referent_next, known_cell, known_cell', after_root, after_null, after_standing, after_referent, next_due}
 
 module _ (two : Readings) (X : List Pair → Type 0) (w : Setting) (g g' : Graph)
@@ -67,7 +66,7 @@ module _ (two : Readings) (X : List Pair → Type 0) (w : Setting) (g g' : Graph
     F' us = flat_map (step_entries w g') us
 
     -- Two streams' steps of deferral follow each other, up to an unread value. The cells that stand are a map that grows, pair by pair.
-    pub deferral_next : {done done' : Standing_cells} {due due' : List Due} {us vs : List Step} → Deferral w g done due us → Deferral w g' done' due' vs
+    pub deferral_next : {done done' : Placed_cells} {due due' : List Due} {us vs : List Step} → Deferral w g done due us → Deferral w g' done' due' vs
         → (xs : List Pair) → done ≡ firsts xs → done' ≡ seconds xs → OneToOne xs → Fit xs → Due_match due due'
         → (ms ns : List Entry) (at : ℕ) → ((p : ℕ) (ys : List Pair) → Stands two w g g' xs due due' ys → N ys p ms ns) → N xs at (F us ++ ms) (F' vs ++ ns)
     deferral_next none_due none_due xs f f' one m r ms ns at k =
@@ -118,7 +117,7 @@ module _ (two : Readings) (X : List Pair → Type 0) (w : Setting) (g g' : Graph
     deferral_next (at_referent {p = p} c y z a) (at_null {p = q} x b) xs f f' one m r ms ns at k =
         absurd (no_left two w g g' p.class c (cells_of two w g g' p q (Some c) None r.0 y x))
     deferral_next (at_standing {p = p} {due = ts} {steps = us} c x full y a) (at_standing {p = q} {due = ts'} {steps = vs} c' x' full' y' b) xs f f' one m r ms ns at k =
-        let (z, am, l, e, s, i) = partner two w g g' xs m c (subst (λ u. IsStandingFull u c) f y) in
+        let (z, am, l, e, s, i) = partner two w g g' xs m c (subst (λ u. IsPlacedFull u c) f y) in
         let same : z.right ≡ c' = two.right_one z.right c' (sym e ∙ full_match two w g g' p.class c c' full (cells_of two w g g' p q (Some c) (Some c') r.0 x x')) in
         let top : SameTop (cell_at g c) (cell_at g' c') = subst (λ u. SameTop (cell_at g c) (cell_at g' u)) same s in
         subst (λ v. N xs at ((tests (cell_home c) 0 (cell_at g c) p.agreements ++ F us) ++ ms) ((tests (cell_home c') 0 (cell_at g' c') v ++ F' vs) ++ ns)) r.0.agreements
@@ -127,13 +126,13 @@ module _ (two : Readings) (X : List Pair → Type 0) (w : Setting) (g g' : Graph
         (found_top _ _ top) (F us ++ ms) (F' vs ++ ns) at (λ p'.
         deferral_next a b xs f f' one m r.1 ms ns p' (λ p'' ys s'. k p'' ys (after_standing two X w g g' cells cells' maxes p q c c' x x' z l same xs ys am ts ts' s')))))
     deferral_next (at_standing {p = p} c x full y a) (at_referent {done = dd} {p = q} c' x' n b) xs f f' one m r ms ns at k =
-        let (z, am, l, e, s, i) = partner two w g g' xs m c (subst (λ u. IsStandingFull u c) f y) in
+        let (z, am, l, e, s, i) = partner two w g g' xs m c (subst (λ u. IsPlacedFull u c) f y) in
         let same : z.right ≡ c' = two.right_one z.right c' (sym e ∙ full_match two w g g' p.class c c' full (cells_of two w g g' p q (Some c) (Some c') r.0 x x')) in
-        absurd (n (full_stands dd c' (subst (λ u. IsStandingFull u c') (sym f') (subst (λ u. IsStandingFull (seconds xs) u) same i))))
+        absurd (n (full_stands dd c' (subst (λ u. IsPlacedFull u c') (sym f') (subst (λ u. IsPlacedFull (seconds xs) u) same i))))
     deferral_next (at_referent {done = dd} {p = p} c x n a) (at_standing {p = q} c' x' full y b) xs f f' one m r ms ns at k =
-        let (d, e, i) = partner' two w g g' xs m c' (subst (λ u. IsStandingFull u c') f' y) in
+        let (d, e, i) = partner' two w g g' xs m c' (subst (λ u. IsPlacedFull u c') f' y) in
         let same : d ≡ c = two.left_one d c (e ∙ sym (full_match two w g g' p.class c c' (r.0.class ∙ full) (cells_of two w g g' p q (Some c) (Some c') r.0 x x'))) in
-        absurd (n (full_stands dd c (subst (λ u. IsStandingFull u c) (sym f) (subst (λ u. IsStandingFull (firsts xs) u) same i))))
+        absurd (n (full_stands dd c (subst (λ u. IsPlacedFull u c) (sym f) (subst (λ u. IsPlacedFull (firsts xs) u) same i))))
     deferral_next (at_referent {done = dd} {p = p} {due = ts} {steps = us} c x n a) (at_referent {done = dd'} {p = q} {due = ts'} {steps = vs} c' x' n' b) xs f f' one m r ms ns at k =
         let known : Known g w.table (p.to ∷ []) (more (cell_at g c) none) = known_cell two X w g g' cells cells' maxes p c x r.0.typed in
         let known' : Known g' w.table (p.to ∷ []) (more (cell_at g' c') none) =
@@ -144,7 +143,7 @@ module _ (two : Readings) (X : List Pair → Type 0) (w : Setting) (g g' : Graph
         let z : Pair = record { class = p.class; of = p.to; left = c; right = c' } in
         let (y, ey, ty) = r.0.typed' c' x' in
         let right_cell : (k : Referent) × (cell_of_number g' c' ≡ Some k) × (k.of ≡ p.to) = (y, ey, ty ∙ sym r.0.to) in
-        let apart : AllByRecursion (IsApart z) xs = free_apart z xs (subst (λ u. ¬ IsStanding u c) f n) (subst (λ u. ¬ IsStanding u c') f' n') in
+        let apart : AllByRecursion (IsApart z) xs = free_apart z xs (subst (λ u. ¬ IsPlaced u c) f n) (subst (λ u. ¬ IsPlaced u c') f' n') in
         let one' : OneToOne (z ∷ xs) = (apart, one) in
         subst (λ t. N xs at ((W ++ F us) ++ ms) ((W' t q.agreements ++ F' vs) ++ ns)) r.0.to
         (subst (λ v. N xs at ((W ++ F us) ++ ms) ((W' p.to v ++ F' vs) ++ ns)) r.0.agreements

@@ -35,7 +35,6 @@ use Rattle.nd_types.specs.declared.types.Attr.TheVariants as attr
 use Rattle.nd_types.specs.declared.types.AttrVar.{AttrVar}
 use Rattle.nd_graph.specs.Agreement.{Agreement, agreement, max_of, offset_of, tag_of, actual, found_in, number_of, number_in, member_agreements}
 
-
 -- what a type's node may say, or that it stands as one that is not read
 pub data View (table : Table) (t : ℕ) : Option TypeDef → Label → Type 0 where
   v_prim : {p : Primitive} {z : ℤ} → View table t (Some (def.Prim p)) (tree.Num z)
@@ -110,7 +109,6 @@ cells_match nums nums' low low' Ref None (Some d) v a b x y = absurd a
 cells_match nums nums' low low' Full (Some c) None v a b x y = let l = low c in absurd (omega arith)
 cells_match nums nums' low low' Unique (Some c) None v a b x y = absurd (omega arith)
 cells_match nums nums' low low' Ref (Some c) None v a b x y = absurd b
-
 
 -- an identifier has 16 octets
 sixteen : (a a' : ℕ) (i j : List ℕ) → has_machine_values (tree.Context a i) ≡ true → has_machine_values (tree.Context a' j) ≡ true → length i ≡ length j

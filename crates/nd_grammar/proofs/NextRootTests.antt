@@ -142,7 +142,9 @@ module _ (two : Readings) (X : List Pair → Type 0) (w : Setting) (g g' : Graph
     root_tests_next i (r ∷ rs) [] vs' a ms ns at next = absurd a
     root_tests_next i (r ∷ rs) (v ∷ vs) [] a ms ns at next = absurd a
     root_tests_next i (r ∷ rs) (v ∷ vs) (v' ∷ vs') a ms ns at next =
-        rw (append_assoc (root_test g i v (root_agreements w g r.vars)) (root_tests w g (i + 1) rs vs) ms,
-        append_assoc (root_test g' i v' (root_agreements w g' r.vars)) (root_tests w g' (i + 1) rs vs') ns)
+        rw (
+          append_assoc (root_test g i v (root_agreements w g r.vars)) (root_tests w g (i + 1) rs vs) ms,
+          append_assoc (root_test g' i v' (root_agreements w g' r.vars)) (root_tests w g' (i + 1) rs vs') ns,
+        )
         (one_root_next i r v v' a.0 (root_tests w g (i + 1) rs vs ++ ms) (root_tests w g' (i + 1) rs vs' ++ ns) at (λ p.
         root_tests_next (i + 1) rs vs vs' a.1 ms ns p next))

@@ -19,7 +19,7 @@ use Rattle.std.specs.List.{AllByRecursion, slice_get}
 use Rattle.nd_graph.specs.declared.item.Home.TheVariants as home
 use Rattle.nd_graph.specs.Setting.{Setting, Among, cell_home, cell_at, cell_of_number, root_at, root_list}
 use Rattle.nd_graph.specs.Nodes.{child_types, child_agreements, first_agreements, rest_agreements, nodes_of, TypedNode, home_nodes}
-use Rattle.nd_graph.specs.Deferral.{Pending, pointer, home_pointers, Due, due_root, due_referent, Step, root_stands, referent_stands, stands_already, Deferral, none_due, at_root, at_null, at_standing, at_referent, due_of, standing_root, standing_cell, root_cell, root_type, Standing_cells, IsStanding, IsStandingFull, AreFree}
+use Rattle.nd_graph.specs.Deferral.{Pending, pointer, home_pointers, Due, due_root, due_referent, Step, root_stands, referent_stands, stands_already, Deferral, none_due, at_root, at_null, at_standing, at_referent, due_of, standing_root, standing_cell, root_cell, root_type, Placed_cells, IsPlaced, IsPlacedFull, AreFree}
 use Rattle.nd_graph.proofs.DeferralLaws.{full_stands}
 use Rattle.nd_grammar.specs.Entry.{Kind, Entry, Align, Max, Offset, Actual, Chunk, Number, Num, Tag, Text, Context, Test, Unread, size_at, EntryAt, end_to_end, end_of}
 use Rattle.nd_grammar.specs.InPlace.{before_children, entries, in_place, tests, child_tests, hoisted, hoisted_max, whole_value}
@@ -38,7 +38,6 @@ use Rattle.nd_grammar.proofs.NextInPlace.{Cells, in_place_next, tests_next}
 use Rattle.nd_grammar.proofs.NextWhole.{MaxesFrom, whole_value_next, unread_whole, unread_entry}
 use Rattle.nd_grammar.proofs.Carried.{InMap, AllInMap, carried}
 use Rattle.nd_grammar.proofs.Standings.{firsts, seconds, firsts_append, seconds_append, free_apart, one_to_one, SameTop, found_top, top_of, PairFits, IsClosed, RootCarried, AllCarried, Stands, RootsAlike, RootsMeet, IsUnreadTree, partner, partner', no_right, no_left, full_match, cells_of, in_map, carried_parts, home_match, home_carried}
-
 
 module _ (two : Readings) (X : List Pair → Type 0) (w : Setting) (g g' : Graph)
     (cells : (c : ℕ) (x : Referent) → cell_of_number g c ≡ Some x → Known g w.table (x.of ∷ []) (more x.val none))

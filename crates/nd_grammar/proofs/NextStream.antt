@@ -177,8 +177,7 @@ module _ (two : Readings) (w : Setting) (g g' : Graph) where
       pipes_from (r ∷ rs) [] vs' h h' a f = cc
       pipes_from (r ∷ rs) (v ∷ vs) [] h h' a f = cc
       pipes_from (r ∷ rs) (v ∷ vs) (v' ∷ vs') h h' a f =
-          let (x, y) = f 0 r refl in
-          (
+          let (x, y) = f 0 r refl in (
             (a.0.elem, a.0.type_is, laid.hoisting.piped r.of a.0.elem a.0.type_is),
             x,
             y,
@@ -191,8 +190,7 @@ module _ (two : Readings) (w : Setting) (g g' : Graph) where
       pipes_known : Pipes (drop n (root_list w)) (drop n g.roots) (drop n g'.roots)
       pipes_known =
           pipes_from (drop n (root_list w)) (drop n g.roots) (drop n g'.roots) (fewer g.roots s.all_roots) (fewer g'.roots s'.all_roots) laid.pipes (λ j r e.
-          let e' : slice_get (root_list w) (n + j) ≡ Some r = sym (drop_at n (root_list w) j) ∙ e in
-          (
+          let e' : slice_get (root_list w) (n + j) ≡ Some r = sym (drop_at n (root_list w) j) ∙ e in (
             subst (λ u. Known g w.table (r.of ∷ []) (more (or_unread u) none)) (sym (drop_at n g.roots j)) (known_roots w g s (n + j) r e'),
             subst (λ u. Known g' w.table (r.of ∷ []) (more (or_unread u) none)) (sym (drop_at n g'.roots j)) (known_roots w g' s' (n + j) r e'),
           ))

@@ -19,7 +19,7 @@ use Rattle.std.specs.List.{AllByRecursion}
 use Rattle.nd_graph.specs.declared.item.Home.TheVariants as home
 use Rattle.nd_graph.specs.Setting.{Setting, Among, cell_home, cell_at, cell_of_number, root_at}
 use Rattle.nd_graph.specs.Nodes.{child_types, child_agreements, first_agreements, rest_agreements, nodes_of, TypedNode, home_nodes}
-use Rattle.nd_graph.specs.Deferral.{Pending, pointer, home_pointers, Due, due_root, due_referent, Step, root_stands, referent_stands, stands_already, Deferral, none_due, at_root, at_null, at_standing, at_referent, due_of, standing_root, standing_cell, root_cell, Standing_cells, IsStanding, IsStandingFull, AreFree}
+use Rattle.nd_graph.specs.Deferral.{Pending, pointer, home_pointers, Due, due_root, due_referent, Step, root_stands, referent_stands, stands_already, Deferral, none_due, at_root, at_null, at_standing, at_referent, due_of, standing_root, standing_cell, root_cell, Placed_cells, IsPlaced, IsPlacedFull, AreFree}
 use Rattle.nd_graph.proofs.DeferralLaws.{full_stands}
 use Rattle.nd_grammar.specs.Entry.{Kind, Entry, Align, Max, Offset, Actual, Chunk, Number, Num, Tag, Text, Context, Test, Unread, size_at, EntryAt, end_to_end, end_of}
 use Rattle.nd_grammar.specs.InPlace.{before_children, entries, in_place, tests, child_tests, hoisted, hoisted_max, whole_value}
@@ -36,7 +36,6 @@ use Rattle.nd_grammar.proofs.Next.{IsUnread, Alike, Pair, IsApart, OneToOne, Hom
 use Rattle.nd_grammar.proofs.Matching.{bare, class_of, CellsMatch, Match, Matched, NodeKnown, Known, Maxes, matched_nodes, matched_count, matched_number, child_agreements_same, found_same}
 use Rattle.nd_grammar.proofs.NextInPlace.{Cells, in_place_next, tests_next}
 use Rattle.nd_grammar.proofs.Carried.{InMap, AllInMap, carried}
-
 
 unread_or : (l : Label) → (l ≡ tree.Unread) ⊎ ((m : ℕ) → hoisted true l m ≡ Align 4 ∷ Max m ∷ [])
 unread_or tree.Unread = inl refl

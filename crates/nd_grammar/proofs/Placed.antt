@@ -12,7 +12,7 @@ use Rattle.nd_graph.specs.declared.item.Home.{Home}
 use Rattle.nd_graph.specs.declared.item.Home.TheVariants as home
 use Rattle.nd_graph.specs.Tree.{Tree, Referent, node}
 use Rattle.nd_graph.specs.Setting.{Setting, Among, root_list, root_at, cell_at, cell_of_number, cell_home}
-use Rattle.nd_graph.specs.Deferral.{Pending, home_pointers, Due, due_root, due_referent, due_roots, before_pipes, Step, root_stands, referent_stands, stands_already, Deferral, none_due, at_root, at_null, at_standing, at_referent, IsStanding, Standing_cells, Standing, standing_root, standing_cell, due_of, root_cell}
+use Rattle.nd_graph.specs.Deferral.{Pending, home_pointers, Due, due_root, due_referent, due_roots, before_pipes, Step, root_stands, referent_stands, stands_already, Deferral, none_due, at_root, at_null, at_standing, at_referent, IsPlaced, Placed_cells, Standing, standing_root, standing_cell, due_of, root_cell}
 use Rattle.nd_graph.specs.Homes.{root_pointers}
 use Rattle.nd_graph.specs.Conforms.{Conforms, Reached, by_root, by_cell}
 use Rattle.nd_graph.proofs.DeferralLaws.{full_stands}
@@ -88,7 +88,7 @@ module _ (w : Setting) (g : Graph) where
   due_length (p ∷ ps) ds = ap suc (due_length ps ds) ∙ omega arith
 
   -- each cell that is placed was due
-  pub few_placed : {done : Standing_cells} {due : List Due} {steps : List Step} → Deferral w g done due steps
+  pub few_placed : {done : Placed_cells} {due : List Due} {steps : List Step} → Deferral w g done due steps
       → length (all_placed steps) ≤ length due + length (flat_map made steps)
   few_placed none_due = omega arith
   few_placed (at_root {i = i} {due = due} {steps = steps} f d) =
@@ -107,37 +107,37 @@ module _ (w : Setting) (g : Graph) where
       omega arith
 
   -- a cell stands, or is placed
-  abbrev pub Covers : Standing_cells → List Step → ℕ → Type 0
-  Covers done steps c = IsStanding done c ⊎ Among (all_placed steps) c
+  abbrev pub Covers : Placed_cells → List Step → ℕ → Type 0
+  Covers done steps c = IsPlaced done c ⊎ Among (all_placed steps) c
 
-  abbrev HomeCovered : Standing_cells → List Step → Home → ℕ → Tree → Type 0
+  abbrev HomeCovered : Placed_cells → List Step → Home → ℕ → Tree → Type 0
   HomeCovered done steps h t v = (p : Pending) → Among (home_pointers w.table h t v) p → (c : ℕ) → p.cell ≡ Some c → Covers done steps c
 
-  abbrev pub DueCovered : Standing_cells → List Step → Due → Type 0
+  abbrev pub DueCovered : Placed_cells → List Step → Due → Type 0
   DueCovered done steps (due_root i) =
       HomeCovered done steps (standing_root w g i).home (standing_root w g i).of (standing_root w g i).val
       × ((c : ℕ) → Among (own (standing_root w g i).home) c → Covers done steps c)
   DueCovered done steps (due_referent p) = (c : ℕ) → p.cell ≡ Some c → Covers done steps c
 
-  abbrev Closed : Standing_cells → List Step → Type 0
+  abbrev Closed : Placed_cells → List Step → Type 0
   Closed done steps =
       (b : ℕ) → Among (all_placed steps) b → (x : Referent) → cell_of_number g b ≡ Some x → HomeCovered done steps (cell_home b) x.of x.val
 
-  standing_split : (new done : Standing_cells) (c : ℕ) → IsStanding (new ++ done) c → IsStanding new c ⊎ IsStanding done c
+  standing_split : (new done : Placed_cells) (c : ℕ) → IsPlaced (new ++ done) c → IsPlaced new c ⊎ IsPlaced done c
   standing_split [] done c h = inr h
   standing_split (d ∷ new) done c (inl e) = inl (inl e)
   standing_split (d ∷ new) done c (inr h) = go (standing_split new done c h)
     where
-      go : IsStanding new c ⊎ IsStanding done c → IsStanding (d ∷ new) c ⊎ IsStanding done c
+      go : IsPlaced new c ⊎ IsPlaced done c → IsPlaced (d ∷ new) c ⊎ IsPlaced done c
       go (inl a) = inl (inr a)
       go (inr a) = inr a
 
-  module _ (new done : Standing_cells) (x : Step) (steps : List Step) (of_step : (c : ℕ) → IsStanding new c → Among (placed x) c) where
+  module _ (new done : Placed_cells) (x : Step) (steps : List Step) (of_step : (c : ℕ) → IsPlaced new c → Among (placed x) c) where
     before_step : (c : ℕ) → Covers (new ++ done) steps c → Covers done (x ∷ steps) c
     before_step c (inr a) = inr (among_right (placed x) (all_placed steps) c a)
     before_step c (inl h) = go (standing_split new done c h)
       where
-        go : IsStanding new c ⊎ IsStanding done c → Covers done (x ∷ steps) c
+        go : IsPlaced new c ⊎ IsPlaced done c → Covers done (x ∷ steps) c
         go (inl a) = inr (among_left (placed x) (all_placed steps) c (of_step c a))
         go (inr a) = inl a
 
@@ -152,17 +152,17 @@ module _ (w : Setting) (g : Graph) where
     home_before : (h : Home) (t : ℕ) (v : Tree) → HomeCovered (new ++ done) steps h t v → HomeCovered done (x ∷ steps) h t v
     home_before h t v a p m c e = before_step c (a p m c e)
 
-  home_of_due : (done : Standing_cells) (steps : List Step) (ps : List Pending) (ds : List Due) → AllByRecursion (DueCovered done steps) (map due_referent ps ++ ds)
+  home_of_due : (done : Placed_cells) (steps : List Step) (ps : List Pending) (ds : List Due) → AllByRecursion (DueCovered done steps) (map due_referent ps ++ ds)
       → (p : Pending) → Among ps p → (c : ℕ) → p.cell ≡ Some c → Covers done steps c
   home_of_due done steps [] ds a p m c e = absurd m
   home_of_due done steps (q ∷ ps) ds a p (inl f) c e = a.0 c (ap (λ u. u.cell) (sym f) ∙ e)
   home_of_due done steps (q ∷ ps) ds a p (inr m) c e = home_of_due done steps ps ds a.1 p m c e
 
-  rest_of_due : (done : Standing_cells) (steps : List Step) (ps : List Pending) (ds : List Due) → AllByRecursion (DueCovered done steps) (map due_referent ps ++ ds)
+  rest_of_due : (done : Placed_cells) (steps : List Step) (ps : List Pending) (ds : List Due) → AllByRecursion (DueCovered done steps) (map due_referent ps ++ ds)
       → AllByRecursion (DueCovered done steps) ds
   rest_of_due done steps ps ds a = all_right (DueCovered done steps) (map due_referent ps) ds a
 
-  of_root : (h : Home) (c : ℕ) → IsStanding (root_cell h) c → Among (own h) c
+  of_root : (h : Home) (c : ℕ) → IsPlaced (root_cell h) c → Among (own h) c
   of_root (home.Root i) c a = absurd a
   of_root (home.Cell b) c (inl e) = inl e
   of_root (home.Cell b) c (inr a) = absurd a
@@ -177,14 +177,14 @@ module _ (w : Setting) (g : Graph) where
     IsGoodDue = DueGood w none_inside g
 
     -- a home's pointers, by the type and the value of its cell
-    by_cell_of : (x : Standing) → StandsGood w none_inside g x → (done : Standing_cells) (steps : List Step) → HomeCovered done steps x.home x.of x.val
+    by_cell_of : (x : Standing) → StandsGood w none_inside g x → (done : Placed_cells) (steps : List Step) → HomeCovered done steps x.home x.of x.val
         → (b : ℕ) → x.home ≡ cell_home b → (y : Referent) → cell_of_number g b ≡ Some y → HomeCovered done steps (cell_home b) y.of y.val
     by_cell_of x s done steps a b h y e p m k f =
         let (et, ev) = s.its_cell b h y e in
         a p (subst (λ u. Among (home_pointers w.table u x.of x.val) p) (sym h)
         (subst (λ u. Among (home_pointers w.table (cell_home b) u x.val) p) et (subst (λ u. Among (home_pointers w.table (cell_home b) y.of u) p) ev m))) k f
 
-    pub covered : {done : Standing_cells} {due : List Due} {steps : List Step} → Deferral w g done due steps → AllByRecursion IsGoodDue due
+    pub covered : {done : Placed_cells} {due : List Due} {steps : List Step} → Deferral w g done due steps → AllByRecursion IsGoodDue due
         → AllByRecursion (DueCovered done steps) due × Closed done steps
     covered none_due a = (tt, λ b m. absurd m)
     covered (at_root {done = done} {i = i} {due = due} {steps = steps} f d) a =
@@ -192,7 +192,7 @@ module _ (w : Setting) (g : Graph) where
         let x : Standing = standing_root w g i in
         let s : StandsGood w none_inside g x = root_good w none_inside g c i r er pr in
         let ps : List Pending = home_pointers w.table x.home x.of x.val in
-        let new : Standing_cells = root_cell x.home in
+        let new : Placed_cells = root_cell x.home in
         let (all, closed) = covered d (all_append IsGoodDue (due_of w.table x) due (standing_due w none_inside g x s) a.1) in
         let own_home : HomeCovered (new ++ done) steps x.home x.of x.val = home_of_due (new ++ done) steps ps due all in
         let step : Step = root_stands i in
@@ -214,7 +214,7 @@ module _ (w : Setting) (g : Graph) where
         let (all, closed) = covered d a.1 in
         (
           (
-            (λ q f. inl (subst (λ u. IsStanding done u) (same_Some _ _ (sym e ∙ f)) (full_stands done k h))),
+            (λ q f. inl (subst (λ u. IsPlaced done u) (same_Some _ _ (sym e ∙ f)) (full_stands done k h))),
             all_before [] done (stands_already p k) steps (λ q m. absurd m) due all,
           ),
           (λ b m y f. home_before [] done (stands_already p k) steps (λ q m. absurd m) (cell_home b) y.of y.val (closed b m y f)),
@@ -223,10 +223,10 @@ module _ (w : Setting) (g : Graph) where
         let x : Standing = standing_cell g p k in
         let s : StandsGood w none_inside g x = pending_cell w none_inside g c p a.0 k e in
         let ps : List Pending = home_pointers w.table x.home x.of x.val in
-        let new : Standing_cells = (p.class, k) ∷ [] in
+        let new : Placed_cells = (p.class, k) ∷ [] in
         let step : Step = referent_stands p k in
         let (all, closed) = covered d (all_append IsGoodDue (due_of w.table x) due (standing_due w none_inside g x s) a.1) in
-        let of_step : (q : ℕ) → IsStanding new q → Among (placed step) q = λ q m. m in
+        let of_step : (q : ℕ) → IsPlaced new q → Among (placed step) q = λ q m. m in
         let own_home : HomeCovered (new ++ done) steps x.home x.of x.val = home_of_due (new ++ done) steps ps due all in
         let home : HomeCovered done (step ∷ steps) x.home x.of x.val = home_before new done step steps of_step x.home x.of x.val own_home in
         (

@@ -1,5 +1,5 @@
 -- The numbers that octets hold are a stream of the graph of these numbers.
-use Rattle.std.proofs.Common.{◌≡◌, ℕ, ◌+◌, ◌<◌, ◌≤◌, zero, suc, ℤ, Bool, true, false, cond, leb, List, [], ◌∷◌, ◌++◌, length, Option, Some, None, refl, ap, ap₂, sym, ◌∙◌, inl, inr, ◌⊎◌, arith, subst, take, drop}
+use Rattle.std.proofs.Common.{◌≡◌, ℕ, ◌+◌, ◌≤◌, suc, ℤ, Bool, true, false, cond, leb, List, [], ◌∷◌, ◌++◌, length, Option, Some, None, refl, ap, ap₂, sym, ◌∙◌, arith, subst, take, drop}
 use Rattle.std.proofs.lemmas.Bool.{leb-true}
 use Rattle.std.proofs.lemmas.Option.{same_Some}
 use Rattle.std.specs.Prelude.{map}
@@ -15,7 +15,7 @@ use Rattle.nd_grammar.specs.Entry.{Entry, Align, Num, end_to_end, end_of, gap, f
 use Rattle.nd_grammar.specs.InPlace.{entries}
 use Rattle.nd_types.specs.Number.{value_of_octets}
 use Rattle.nd_grammar.specs.Stream.{Stream}
-use Rattle.nd_grammar.specs.Represents.{IsRendered, Represents, IsNumbering}
+use Rattle.nd_grammar.specs.Represents.{IsRendered, Represents}
 use Rattle.nd_grammar.specs.Plain.{ArePlain, number, plain_graph, numbers_at, plain_end, with}
 use Rattle.nd_grammar.proofs.PlainStreams.{root_entries, plain_stream, number_kinds, label_of, Suffix, suffix_first, suffix_next, suffix_whole}
 

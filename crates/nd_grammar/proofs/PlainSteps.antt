@@ -5,14 +5,13 @@ use Rattle.std.proofs.lemmas.Bool.{le-leb, leb-true}
 use Rattle.std.proofs.lemmas.Bool.Decides.{nat_tests}
 use Rattle.std.proofs.lemmas.List.{take-append-le, drop-append-le, append-nil}
 use Rattle.std.proofs.Math.Seq.{drop-cons}
-use Rattle.std.specs.Prelude.{map}
 use Rattle.nd_base.specs.declared.octets.Order.{Order}
 use Rattle.nd_types.specs.declared.types.Primitive.{Primitive}
 use Rattle.nd_types.specs.declared.types.Primitive.TheVariants.{Boolean, Char, Byte, Small, UnsignedSmall, Short, UnsignedShort, Long, UnsignedLong, Hyper, UnsignedHyper}
 use Rattle.nd_types.specs.Table.{width}
 use Rattle.nd_grammar.specs.Entry.{gap}
 use Rattle.nd_types.specs.Number.{value_of_octets}
-use Rattle.nd_grammar.specs.Plain.{numbers_at, plain_end, number, with}
+use Rattle.nd_grammar.specs.Plain.{numbers_at, plain_end, with}
 
 -- the place where a number of a primitive begins, and the place behind it
 abbrev pub start_of : Primitive → ℕ → ℕ

@@ -1,5 +1,5 @@
 -- The streams of a plain side: for each root a gap and a number, or an unread value.
-use Rattle.std.proofs.Common.{◌≡◌, ℕ, ◌+◌, zero, suc, ℤ, Bool, true, false, List, [], ◌∷◌, ◌++◌, length, Option, Some, None, refl, ap, ap₂, sym, ◌∙◌, arith, subst, drop}
+use Rattle.std.proofs.Common.{◌≡◌, ℕ, ◌+◌, zero, suc, Bool, true, false, List, [], ◌∷◌, ◌++◌, length, Option, Some, None, refl, ap, ap₂, sym, ◌∙◌, arith, subst, drop}
 use Rattle.std.proofs.lemmas.List.{append-nil}
 use Rattle.std.specs.Prelude.{map, flat_map}
 use Rattle.std.specs.List.{slice_get}
@@ -16,11 +16,11 @@ use Rattle.nd_graph.specs.Tree as tree
 use Rattle.nd_graph.specs.Tree.{Tree, Trees, node, none, more, nodes, Label, is_pointer, cell_in}
 use Rattle.nd_graph.specs.Agreement.{Agreement}
 use Rattle.nd_graph.specs.Setting.{Setting, root_list, root_at}
-use Rattle.nd_graph.specs.Nodes.{TypedNode, nodes_of, child_types, child_agreements}
-use Rattle.nd_graph.specs.Deferral.{Due, due_root, due_referent, Step, root_stands, Deferral, none_due, at_root, at_null, at_standing, at_referent, Standing, Standing_cells, standing_root, standing_by, direct, root_type, due_of, due_roots, before_pipes, home_pointers, pointer, pointer_by, root_cell, AreFree}
+use Rattle.nd_graph.specs.Nodes.{nodes_of, child_types, child_agreements}
+use Rattle.nd_graph.specs.Deferral.{Due, due_root, due_referent, Step, root_stands, Deferral, none_due, at_root, at_null, at_standing, at_referent, Standing, Placed_cells, standing_root, standing_by, direct, root_type, due_of, due_roots, before_pipes, home_pointers, pointer, pointer_by, root_cell, AreFree}
 use Rattle.nd_graph.specs.Variables.{root_agreements}
 use Rattle.nd_grammar.specs.Entry.{Kind, Entry, Align, Num, Unread}
-use Rattle.nd_grammar.specs.InPlace.{before_children, entries, in_place, tests, own_tests, child_tests, hoisted, hoisted_max, whole_value}
+use Rattle.nd_grammar.specs.InPlace.{before_children, entries, in_place, own_tests, child_tests, hoisted, hoisted_max, whole_value}
 use Rattle.nd_grammar.specs.Stream.{Stream, representation, step_entries, standing_entries, AllCut, root_tests, root_test, pipes_entries}
 use Rattle.nd_grammar.specs.Plain.{ArePlain}
 
@@ -54,7 +54,7 @@ own_none : (b : Bool) (h : Home) (n : ℕ) (t : Tree) → own_tests b h n t [] �
 own_none true h n t = refl
 own_none false h n t = refl
 
-no_tests_below : (h : Home) (n : ℕ) (ks : Trees) → child_tests h [] n ks ≡ []
+pub no_tests_below : (h : Home) (n : ℕ) (ks : Trees) → child_tests h [] n ks ≡ []
 no_tests_below h n none = refl
 no_tests_below h n (more (node l ks) ts) =
     ap₂ (λ x y. x ++ y) (own_none (is_pointer l) h n (node l ks)) (no_tests_below h (n + 1 + nodes ks) ts)
@@ -135,9 +135,9 @@ module _ (w : Setting) (g : Graph) where
       (subst (λ y. Deferral w g (root_cell y.home ++ []) (due_of w.table y ++ rest) after) (sym (root_is i r p root a.2)) d)
 
   -- and in no other order
-  one_step : (i : ℕ) (rest : List Due) {done : Standing_cells} {due : List Due} {steps : List Step} → Deferral w g done due steps → due ≡ due_root i ∷ rest
+  one_step : (i : ℕ) (rest : List Due) {done : Placed_cells} {due : List Due} {steps : List Step} → Deferral w g done due steps → due ≡ due_root i ∷ rest
       → due_of w.table (standing_root w g i) ≡ []
-      → (done' : Standing_cells) × (later : List Step) × Deferral w g done' rest later × (steps ≡ root_stands i ∷ later)
+      → (done' : Placed_cells) × (later : List Step) × Deferral w g done' rest later × (steps ≡ root_stands i ∷ later)
   one_step i rest none_due e free_of = cc
   one_step i rest (at_null x a) e free_of = cc
   one_step i rest (at_standing c x y z a) e free_of = cc
@@ -153,10 +153,10 @@ module _ (w : Setting) (g : Graph) where
       )
 
   pub only_steps : (ps : List Primitive) (rs : List Root) (i : ℕ) → ArePlain w.table rs ps → Suffix (root_list w) i rs
-      → (done : Standing_cells) (steps : List Step) → Deferral w g done (due_roots i (length ps)) steps → steps ≡ root_steps i (length ps)
+      → (done : Placed_cells) (steps : List Step) → Deferral w g done (due_roots i (length ps)) steps → steps ≡ root_steps i (length ps)
   only_steps [] rs i a s done steps d = none_left d refl
     where
-      none_left : {done : Standing_cells} {due : List Due} {steps : List Step} → Deferral w g done due steps → due ≡ [] → steps ≡ []
+      none_left : {done : Placed_cells} {due : List Due} {steps : List Step} → Deferral w g done due steps → due ≡ [] → steps ≡ []
       none_left none_due e = refl
       none_left (at_root f b) e = cc
       none_left (at_null x b) e = cc

@@ -1,5 +1,5 @@
 -- Octets of a plain side begin with a stream, or are refused: one of the two, and in one way.
-use Rattle.std.proofs.Common.{◌≡◌, ℕ, ◌<◌, ◌≤◌, ℤ, List, length, Option, Some, None, refl, ap, sym, ◌∙◌, inl, inr, ◌⊎◌}
+use Rattle.std.proofs.Common.{◌≡◌, ℕ, ℤ, List, length, Option, Some, None, refl, ap, sym, ◌∙◌, inl, inr, ◌⊎◌}
 use Rattle.std.proofs.lemmas.Option.{same_Some}
 use Rattle.nd_base.specs.declared.octets.Order.{Order}
 use Rattle.nd_types.specs.declared.types.Primitive.{Primitive}
@@ -10,7 +10,7 @@ use Rattle.nd_grammar.specs.declared.reason.Reason.TheVariants.{Truncated}
 use Rattle.nd_types.specs.Number.{AreOctets}
 use Rattle.nd_grammar.specs.Bad.{Bad}
 use Rattle.nd_grammar.specs.Prefix.{BeginsWith}
-use Rattle.nd_grammar.specs.Plain.{IsPlain, plain_graph, plain_end, numbers_at, AreNumbersOf}
+use Rattle.nd_grammar.specs.Plain.{IsPlain, plain_graph, plain_end, numbers_at}
 use Rattle.nd_grammar.proofs.PlainBad.{short_is_bad}
 use Rattle.nd_grammar.proofs.PlainNumbers.{begun_numbers, numbers_begin}
 use Rattle.nd_grammar.proofs.PlainRefused.{bad_is_short}

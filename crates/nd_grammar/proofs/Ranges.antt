@@ -1,5 +1,5 @@
 -- What octets hold is in its primitive's range.
-use Rattle.std.proofs.Common.{◌≡◌, ℕ, ◌+◌, ◌*◌, ◌-◌, ◌^◌, ◌<◌, ◌≤◌, zero, suc, ℤ, pos, negsuc, Bool, true, false, ◌&&◌, cond, ltb, List, [], ◌∷◌, length, refl, ap, sym, ◌∙◌, arith, subst, ◌-ℤ◌, take, drop, length-take, length-drop}
+use Rattle.std.proofs.Common.{◌≡◌, ℕ, ◌+◌, ◌^◌, ◌<◌, ◌≤◌, zero, suc, pos, true, ◌&&◌, List, [], ◌∷◌, length, refl, arith, take, drop, length-take, length-drop}
 use Rattle.std.proofs.lemmas.Bool.Decides.{nat_tests}
 use Rattle.std.proofs.lemmas.Int.{ints}
 use Rattle.std.specs.Prelude.{int_le}

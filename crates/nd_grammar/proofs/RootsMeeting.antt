@@ -149,8 +149,7 @@ module _ (two : Readings) (w : Setting) (g g' : Graph)
           carried_by =
               subst (λ u. Matched (InMap ys) w.table (u ∷ []) (more (root_at g i) none) (more (root_at g' i) none)) (sym its_type)
               (subst (λ u. Matched (InMap ys) w.table (t ∷ []) (more u none) (more (root_at g' i) none)) (sym e)
-              (subst (λ u. Matched (InMap ys) w.table (t ∷ []) (more (node (tree.Ptr (Some c)) ks) none) (more u none)) (sym e')
-              (
+              (subst (λ u. Matched (InMap ys) w.table (t ∷ []) (more (node (tree.Ptr (Some c)) ks) none) (more u none)) (sym e') (
                 record { same = refl; cells = (z, among z (inl refl), refl, refl); read = λ f. cc; read' = λ f. cc },
                 subst (λ u. Matched (InMap ys) w.table u ks ks') (sym (types ks c)) (no_kids ys ks ks' n n'),
                 tt,
@@ -175,9 +174,9 @@ module _ (two : Readings) (w : Setting) (g g' : Graph)
       let A = subst (λ k. Known g w.table (t ∷ []) (more (node k ks) none)) x a in
       let B = subst (λ k. Known g' w.table (t ∷ []) (more (node k ks') none)) y b in
       inr (inr (
-        subst (λ o. RootsAlike two w g g' i (standing_by g i t (node l ks) o) (at_right (node l' ks'))) (sym D)
-        (subst (λ o. RootsAlike two w g g' i (standing_by g i t (node l ks) (Some (c, to.0))) (standing_by g' i t (node l' ks') o)) (sym D')
-        (as_cells to c c' ks ks' ed f f' A B))
+      subst (λ o. RootsAlike two w g g' i (standing_by g i t (node l ks) o) (at_right (node l' ks'))) (sym D)
+      (subst (λ o. RootsAlike two w g g' i (standing_by g i t (node l ks) (Some (c, to.0))) (standing_by g' i t (node l' ks') o)) (sym D')
+      (as_cells to c c' ks ks' ed f f' A B))
       ))
 
   pub roots_meet_as : (v v' : Tree) → root_at g i ≡ v → root_at g' i ≡ v' → Known g w.table (t ∷ []) (more v none) → Known g' w.table (t ∷ []) (more v' none)
@@ -189,9 +188,9 @@ module _ (two : Readings) (w : Setting) (g g' : Graph)
           by_labels l l' ks ks' e e' a b to ed (ref_label g to l ks (subst (λ u. NodeKnown g u l ks) ed a.0)) (ref_label g' to l' ks' (subst (λ u. NodeKnown g' u l' ks') ed b.0))
       go (inr n) =
           inr (inr (
-            subst (λ o. RootsAlike two w g g' i (standing_by g i t (node l ks) o) (at_right (node l' ks'))) (sym (n (node l ks)))
-            (subst (λ o. RootsAlike two w g g' i (standing_by g i t (node l ks) None) (standing_by g' i t (node l' ks') o)) (sym (n (node l' ks')))
-            (own_places (node l ks) (node l' ks') e e' a b))
+          subst (λ o. RootsAlike two w g g' i (standing_by g i t (node l ks) o) (at_right (node l' ks'))) (sym (n (node l ks)))
+          (subst (λ o. RootsAlike two w g g' i (standing_by g i t (node l ks) None) (standing_by g' i t (node l' ks') o)) (sym (n (node l' ks')))
+          (own_places (node l ks) (node l' ks') e e' a b))
           ))
 
 module _ (two : Readings) (w : Setting) (g g' : Graph) (s : IsSound w g) (s' : IsSound w g') where

@@ -281,12 +281,11 @@ module _ (two : Readings) (w : Setting) (g g' : Graph) (laid : IsLaidOut w) (s :
         let ux : u ≡ x = same_Some _ _ (sym eu ∙ ap (cell_of_number g) l ∙ e) in
         let vy : v ≡ y = same_Some _ _ (sym ev ∙ ap (cell_of_number g') r ∙ e') in
         let lx : cell_at g z.left ≡ x.val = ap cell_tree eu ∙ ap (λ q. q.val) ux in
-        let ry : cell_at g' z.right ≡ y.val = ap cell_tree ev ∙ ap (λ q. q.val) vy in
-        (
+        let ry : cell_at g' z.right ≡ y.val = ap cell_tree ev ∙ ap (λ q. q.val) vy in (
           ap (λ q. q.of) (sym ux) ∙ tu ∙ sym tv ∙ ap (λ q. q.of) vy,
           ap (λ q. renumbered (image ys) (more q none)) (sym lx)
-          ∙ renumber ys am.one w.table (z.of ∷ []) (more (cell_at g z.left) none) (more (cell_at g' z.right) none) m
-          ∙ ap (λ q. more q none) ry,
+              ∙ renumber ys am.one w.table (z.of ∷ []) (more (cell_at g z.left) none) (more (cell_at g' z.right) none) m
+              ∙ ap (λ q. more q none) ry,
         )
 
     pub same_by_map : Same g g'

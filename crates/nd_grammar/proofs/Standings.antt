@@ -19,7 +19,7 @@ use Rattle.std.specs.List.{AllByRecursion, slice_get}
 use Rattle.nd_graph.specs.declared.item.Home.TheVariants as home
 use Rattle.nd_graph.specs.Setting.{Setting, Among, cell_home, cell_at, cell_of_number, root_at, root_list}
 use Rattle.nd_graph.specs.Nodes.{child_types, child_agreements, first_agreements, rest_agreements, nodes_of, TypedNode, home_nodes}
-use Rattle.nd_graph.specs.Deferral.{Pending, pointer, home_pointers, Due, due_root, due_referent, Step, root_stands, referent_stands, stands_already, Deferral, none_due, at_root, at_null, at_standing, at_referent, due_of, standing_root, standing_cell, root_cell, root_type, Standing_cells, IsStanding, IsStandingFull, AreFree}
+use Rattle.nd_graph.specs.Deferral.{Pending, pointer, home_pointers, Due, due_root, due_referent, Step, root_stands, referent_stands, stands_already, Deferral, none_due, at_root, at_null, at_standing, at_referent, due_of, standing_root, standing_cell, root_cell, root_type, Placed_cells, IsPlaced, IsPlacedFull, AreFree}
 use Rattle.nd_graph.proofs.DeferralLaws.{full_stands}
 use Rattle.nd_grammar.specs.Entry.{Kind, Entry, Align, Max, Offset, Actual, Chunk, Number, Num, Tag, Text, Context, Test, Unread, size_at, EntryAt, end_to_end, end_of}
 use Rattle.nd_grammar.specs.InPlace.{before_children, entries, in_place, tests, child_tests, hoisted, hoisted_max, whole_value}
@@ -38,12 +38,11 @@ use Rattle.nd_grammar.proofs.NextInPlace.{Cells, in_place_next, tests_next}
 use Rattle.nd_grammar.proofs.NextWhole.{MaxesFrom, whole_value_next, unread_whole, unread_entry}
 use Rattle.nd_grammar.proofs.Carried.{InMap, AllInMap, carried}
 
-
-abbrev pub firsts : List Pair → Standing_cells
+abbrev pub firsts : List Pair → Placed_cells
 firsts [] = []
 firsts (x ∷ xs) = (x.class, x.left) ∷ firsts xs
 
-abbrev pub seconds : List Pair → Standing_cells
+abbrev pub seconds : List Pair → Placed_cells
 seconds [] = []
 seconds (x ∷ xs) = (x.class, x.right) ∷ seconds xs
 
@@ -56,7 +55,7 @@ seconds_append [] ys = refl
 seconds_append (x ∷ xs) ys = ap (λ u. (x.class, x.right) ∷ u) (seconds_append xs ys)
 
 -- a pair of cells that do not stand is apart from those that do
-pub free_apart : (z : Pair) (xs : List Pair) → ¬ IsStanding (firsts xs) z.left → ¬ IsStanding (seconds xs) z.right → AllByRecursion (IsApart z) xs
+pub free_apart : (z : Pair) (xs : List Pair) → ¬ IsPlaced (firsts xs) z.left → ¬ IsPlaced (seconds xs) z.right → AllByRecursion (IsApart z) xs
 free_apart z [] a b = tt
 free_apart z (x ∷ xs) a b = (((λ e. a (inl e)), (λ e. b (inl e))), free_apart z xs (λ h. a (inr h)) (λ h. b (inr h)))
 
@@ -133,8 +132,8 @@ module _ (two : Readings) (w : Setting) (g g' : Graph) where
   RootsMeet i x y = IsUnreadTree x.val ⊎ (IsUnreadTree y.val ⊎ RootsAlike i x y)
 
   -- the partner of a cell that full pointers meet again
-  pub partner : (xs : List Pair) → AllByRecursion PairFits xs → (c : ℕ) → IsStandingFull (firsts xs) c
-      → (z : Pair) × Among xs z × (z.left ≡ c) × (two.left c ≡ two.right z.right) × SameTop (cell_at g c) (cell_at g' z.right) × IsStandingFull (seconds xs) z.right
+  pub partner : (xs : List Pair) → AllByRecursion PairFits xs → (c : ℕ) → IsPlacedFull (firsts xs) c
+      → (z : Pair) × Among xs z × (z.left ≡ c) × (two.left c ≡ two.right z.right) × SameTop (cell_at g c) (cell_at g' z.right) × IsPlacedFull (seconds xs) z.right
   partner [] m c h = absurd h
   partner (x ∷ xs) m c (inl e) = (
     x,
@@ -146,8 +145,8 @@ module _ (two : Readings) (w : Setting) (g g' : Graph) where
   )
   partner (x ∷ xs) m c (inr h) = let (z, a, l, e, s, i) = partner xs m.1 c h in (z, inr a, l, e, s, inr i)
 
-  pub partner' : (xs : List Pair) → AllByRecursion PairFits xs → (d : ℕ) → IsStandingFull (seconds xs) d
-      → (c : ℕ) × (two.left c ≡ two.right d) × IsStandingFull (firsts xs) c
+  pub partner' : (xs : List Pair) → AllByRecursion PairFits xs → (d : ℕ) → IsPlacedFull (seconds xs) d
+      → (c : ℕ) × (two.left c ≡ two.right d) × IsPlacedFull (firsts xs) c
   partner' [] m d h = absurd h
   partner' (x ∷ xs) m d (inl e) = (x.left, m.0.number e.0 ∙ ap two.right (sym e.1), inl (e.0, refl))
   partner' (x ∷ xs) m d (inr h) = let (c, e, i) = partner' xs m.1 d h in (c, e, inr i)

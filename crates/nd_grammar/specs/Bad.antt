@@ -1,4 +1,5 @@
 -- Where octets are refused: the first faulty place, and the reason.
+-- `w` is a setting.
 use Rattle.std.specs.Prelude.{◌≡◌, ℕ, List, [], ◌∷◌, ◌++◌, Option, Some}
 use Rattle.std.specs.List.{AllByRecursion}
 use Rattle.nd_base.specs.declared.octets.Order.{Order}

@@ -1,4 +1,6 @@
 -- The one stream that is written.
+-- `w` is a setting, `g` a graph, `m` an entry, `at` its place, `v` a count, `p` a primitive, `z` its value, `c` the number of
+-- a cell, `k` the count of a chunk, `n` that of the elements.
 use Rattle.std.specs.Prelude.{drop, ◌≡◌, ℕ, ◌+◌, ◌-◌, ◌<◌, ◌≤◌, suc, zero, Bool, true, false, cond, eqb, ltb, List, [], ◌∷◌, ◌++◌, length, replicate, Option, Some, None}
 use Rattle.nd_base.specs.declared.octets.Order.{Order}
 use Rattle.nd_graph.specs.declared.value.Graph.{Graph}
@@ -11,6 +13,7 @@ use Rattle.nd_types.specs.Number.{spelling, written}
 use Rattle.nd_grammar.specs.Entry.{Kind, Entry, Align, Max, Offset, Actual, Chunk, Number, Num, Tag, Text, Context, Test, Unread, size_at, gap}
 use Rattle.nd_grammar.specs.Represents.{id_octets}
 
+-- the number that is written for a pointer: null is 0
 abbrev number_of_cell : (ℕ → ℕ) → Option ℕ → ℕ
 number_of_cell numbering None = 0
 number_of_cell numbering (Some c) = numbering c
@@ -36,22 +39,24 @@ octets_from order numbering at [] = []
 octets_from order numbering at (m ∷ ms) =
     octets_of order numbering at m.kind ++ octets_from order numbering (at + size_at at m.kind) ms
 
--- chunks of k elements, the last with fewer, for n elements: at most `fuel` of them
+-- the counts of chunks for n elements: each is k, but the last, which may be less; at most `fuel` of them
 abbrev cut_within : ℕ → ℕ → ℕ → List ℕ
 cut_within zero k n = []
 cut_within (suc fuel) k zero = []
 cut_within (suc fuel) k (suc n) =
     elim (ltb (suc n) k) [ true ↦ suc n ∷ [] | false ↦ k ∷ cut_within fuel k (suc n - k) ]
 
+-- the same, of as many chunks as it takes
 abbrev pub cut_of : ℕ → ℕ → List ℕ
 cut_of k n = cut_within n k n
 
--- the chunks of pipes: of this size, but the last
+-- the chunks of pipes: each of this count, but the last, which may have fewer elements
 abbrev pub pipe_cuts : ℕ → List Tree → List (List ℕ)
 pipe_cuts k [] = []
 pipe_cuts k (v ∷ vs) = cut_of k (count (kids_of v)) ∷ pipe_cuts k vs
 
--- The octets that are written: gaps of zeros, TRUE as 1, and for each pointer the number of its cell in the order of the stream.
+-- The octets that are written: gaps of zeros, TRUE as 1, for a null pointer 0, and for each other pointer, embedded reference
+-- pointers too, the number of its cell in the order of the stream.
 pub record Chosen (w : Setting) (order : Order) (chunk : ℕ) (g : Graph) (octets : List ℕ) : Type 0 where
   pub steps : List Step
   pub deferral : Deferral w g [] (due_roots 0 (before_pipes (root_list w))) steps

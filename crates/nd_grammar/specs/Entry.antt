@@ -1,4 +1,6 @@
 -- The entries of a stream: what stands in it, entry by entry, and at which place.
+-- `m` is an entry, `at` its place, `h` a home, `n` a number of octets, `v` a count, `t` whether a count is a text's, `p` a
+-- primitive, `z` its value, `c` the number of a cell.
 use Rattle.std.specs.Prelude.{◌≡◌, ℕ, ◌+◌, ◌-◌, ◌%◌, ℤ, Bool, List, [], ◌∷◌, ◌++◌, length, Option, Some, None}
 use Rattle.nd_types.specs.declared.types.Arm.{Arm}
 use Rattle.nd_types.specs.declared.types.Attr.{Attr}
@@ -12,7 +14,8 @@ use Rattle.nd_graph.specs.declared.item.Home.{Home}
 pub data Kind : Type 0 where
   -- a gap up to the next multiple, maybe empty
   Align : (to : ℕ) → Kind
-  -- counts, each an unsigned long: maximum count, offset, actual count, and the count of a pipe's chunk
+  -- counts, each an unsigned long: maximum count, offset, actual count, and the count of a pipe's chunk; an actual count's limit is
+  -- the bound of its type, or its maximum count where the type has none
   Max : (value : ℕ) → Kind
   Offset : (of_text : Bool) (value : ℕ) → Kind
   Actual : (of_text : Bool) (offset limit value : ℕ) → Kind
@@ -25,7 +28,7 @@ pub data Kind : Type 0 where
   -- the octets of a text, and its terminator
   Text : (octets : List ℕ) → Kind
   Context : (attributes : ℕ) (id : List ℕ) → Kind
-  -- an agreement that is tried here; it has no octets
+  -- an agreement that is tried here, as an entry of its subject's home and node; it has no octets
   Test : (attr : Attr) (wanted found : ℤ) → Kind
   -- a value that is not read: nothing stands here, nor behind it
   Unread : Kind
@@ -70,6 +73,7 @@ abbrev pub end_of : ℕ → List Entry → ℕ
 end_of at [] = at
 end_of at (m ∷ ms) = end_of (at + size_at at m.kind) ms
 
+-- the cell that a full pointer names
 abbrev pub full_cell : Kind → List ℕ
 full_cell (Number Full to (Some c)) = c ∷ []
 full_cell _ = []

@@ -1,4 +1,8 @@
--- The entries of a value in its place (C706 14.3.3 to 14.3.11), and of a value as a whole.
+-- The entries of a value in its place (C706 14.3.3 to 14.3.11), and of a value as a whole. Where C706 leaves it open the
+-- choice is this project's: a union has no gap of its own, since its tag and its arm are each aligned by their own types; and
+-- no gap stands for an array that has no elements.
+-- `t` is a type's number, `h` a home, `n` a node's number, `l` its label, `ks` are its children, `ts` the values behind it,
+-- `z` is a number, `v` a tag, `c` the number of a cell, `a` an agreement.
 use Rattle.std.specs.Prelude.{ℕ, ◌+◌, suc, zero, ℤ, Bool, true, false, List, [], ◌∷◌, ◌++◌, length, map, Option, Some, None}
 use Rattle.nd_types.specs.declared.types.TypeDef.{TypeDef}
 use Rattle.nd_types.specs.declared.types.Arm.{Arm}
@@ -77,7 +81,8 @@ own_max (tree.Arr max offset) inner = max
 own_max (tree.Text max octets) inner = max
 own_max _ inner = inner
 
--- the maximum count of the last of trees, or of its last child, and so on
+-- The maximum count of the last of trees, or of its last child, and so on. `m` is that of the trees which were passed already: 0 at
+-- the beginning, and what is left of it behind the last.
 abbrev pub hoisted_max : ℕ → Trees → ℕ
 hoisted_max m none = m
 hoisted_max m (more (node l ks) ts) = hoisted_max (own_max l (hoisted_max 0 ks)) ts

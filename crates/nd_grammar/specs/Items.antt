@@ -1,4 +1,5 @@
 -- The items of a stream: each entry that has octets, with its place, its length and the value that the octets hold.
+-- `x` is an entry at its place, `os` are its octets, `k` is the kind and the value of an item.
 use Rattle.std.specs.Prelude.{ℕ, ◌+◌, ℤ, pos, List, [], ◌∷◌, ◌++◌, length, Option, Some, None}
 use Rattle.nd_base.specs.declared.octets.Order.{Order}
 use Rattle.nd_graph.specs.declared.item.Home.{Home}
@@ -9,6 +10,7 @@ use Rattle.nd_types.specs.Number.{unsigned, value_of_octets}
 use Rattle.nd_grammar.specs.Entry.{Kind, Entry, Align, Max, Offset, Actual, Chunk, Number, Num, Tag, Text, Context, Test, Unread, size_at, EntryAt}
 use Rattle.nd_grammar.specs.Represents.{piece}
 
+-- the item of a count or of a pointer's number
 abbrev pub counted : Order → ItemKind → List ℕ → Option (ItemKind × ℤ)
 counted order kind os = Some (kind, pos (unsigned order os))
 
@@ -34,6 +36,7 @@ abbrev pub item_node : Kind → ℕ → ℕ
 item_node (Align n) node = 0
 item_node _ node = node
 
+-- the item of an entry, where it is one
 abbrev pub item_at : EntryAt → Option (ItemKind × ℤ) → List Item
 item_at x None = []
 item_at x (Some k) =

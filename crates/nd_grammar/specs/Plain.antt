@@ -1,5 +1,6 @@
 -- Operations whose roots are plain numbers: what octets hold for them, without a graph.
-use Rattle.std.specs.Prelude.{◌≡◌, ℕ, ◌+◌, ◌*◌, ◌≤◌, suc, zero, ℤ, Bool, true, false, cond, leb, List, [], ◌∷◌, length, map, take, drop, Option, Some, None}
+-- `w` is a setting, `r` a root, `p` its primitive, `z` its value, `at` a place, `g` a graph.
+use Rattle.std.specs.Prelude.{◌≡◌, ℕ, ◌+◌, ◌*◌, ◌≤◌, ℤ, false, cond, leb, List, [], ◌∷◌, length, map, take, drop, Option, Some, None}
 use Rattle.nd_base.specs.declared.octets.Order.{Order}
 use Rattle.nd_base.specs.declared.TheConstants.{STREAM_LIMIT}
 use Rattle.nd_types.specs.declared.types.Primitive.{Primitive}
@@ -28,12 +29,15 @@ pub record IsPlain (w : Setting) (ps : List Primitive) : Type 0 where
   pub plain : ArePlain w.table (root_list w) ps
   pub few : 16 * length ps ≤ STREAM_LIMIT
 
+-- a number as a value
 abbrev pub number : ℤ → Tree
 number z = node (tree.Num z) none
 
+-- a graph of these numbers
 abbrev pub plain_graph : List ℤ → Graph
 plain_graph zs = record { roots = map number zs; cells = [] }
 
+-- a number before others, where there are others
 abbrev pub with : ℤ → Option (List ℤ) → Option (List ℤ)
 with z None = None
 with z (Some zs) = Some (z ∷ zs)

@@ -1,4 +1,5 @@
 -- Octets that begin with a stream.
+-- `w` is a setting, `n` the length of the stream, `g` its graph.
 use Rattle.std.specs.Prelude.{ℕ, ◌≤◌, List, length, take}
 use Rattle.nd_base.specs.declared.octets.Order.{Order}
 use Rattle.nd_graph.specs.declared.value.Graph.{Graph}

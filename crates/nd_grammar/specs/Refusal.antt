@@ -1,4 +1,8 @@
--- Where octets refuse an entry of a stream, and why.
+-- Where octets refuse an entry of a stream, and why. How and where a stream is refused is this project's choice, and so are
+-- the rules that a string's offset is 0 and that its terminator is its only zero.
+-- `x` is an entry at its place, `m` an entry, `at` its place, `os` are its octets, `h` is a home, `n` a node's number, `a` an
+-- attribute or an arm, `v` what octets hold, `p` a primitive, `z` a value, `b` and `c` are octets, `o` is a later refusal, `r`
+-- a refusal.
 use Rattle.std.specs.Prelude.{drop, ◌≡◌, ℕ, ◌+◌, ℤ, Bool, true, false, not, ◌&&◌, ◌||◌, cond, eqb, ltb, List, [], ◌∷◌, ◌++◌, length, Option, Some, None}
 use Rattle.std.specs.List.{list_any}
 use Rattle.std.specs.Ordering.{int_eq}
@@ -29,6 +33,7 @@ abbrev pub is_enumerator : Option (List ℤ) → ℤ → Bool
 is_enumerator None v = true
 is_enumerator (Some values) v = list_any (int_eq v) values
 
+-- an arm is selected
 abbrev pub is_selected : Option Arm → Bool
 is_selected None = false
 is_selected (Some a) = true
@@ -49,10 +54,12 @@ kind_agrees attr.Last (Actual t offset limit v) = true
 kind_agrees attr.Switch (Tag p values arms default v) = true
 kind_agrees _ _ = false
 
+-- a maximum count
 abbrev pub is_max : Kind → Bool
 is_max (Max v) = true
 is_max _ = false
 
+-- two homes are one
 abbrev pub same_home : Home → Home → Bool
 same_home (home.Root i) (home.Root j) = eqb i j
 same_home (home.Cell c) (home.Cell d) = eqb c.0 d.0
@@ -82,7 +89,8 @@ abbrev pub refused_if : Bool → ℕ × Reason → Option (ℕ × Reason) → Op
 refused_if true r o = Some r
 refused_if false r o = o
 
--- an agreement that fails is refused at the count or tag that it speaks of
+-- An agreement that fails is refused at the count or tag that it speaks of. Under a legal table this always stands among the
+-- earlier entries, since an attribute stands only on a type that has what it speaks of.
 abbrev pub disagrees_at : Option ℕ → Reason → Option (ℕ × Reason)
 disagrees_at None why = None
 disagrees_at (Some at) why = Some (at, why)

@@ -1,4 +1,6 @@
 -- When octets are a stream of a graph (C706 14: the representation of a value).
+-- `x` is a kind or an entry at its place, `os` are the octets of one entry, `id` is an identifier, `c` and `d` are numbers of
+-- cells, `v` is a count or a pointer's number, `p` a primitive, `z` its value.
 use Rattle.std.specs.Prelude.{◌≡◌, ℕ, ◌+◌, ◌<◌, ◌≤◌, ◌^◌, List, [], ◌∷◌, ◌++◌, length, take, drop, reverse, Option, Some, None}
 use Rattle.std.specs.List.{AllByRecursion}
 use Rattle.nd_base.specs.declared.octets.Order.{Order}
@@ -21,8 +23,8 @@ id_octets order id =
     in_order order (reverse (take 4 id)) ++ in_order order (reverse (take 2 (drop 4 id)))
     ++ in_order order (reverse (take 2 (drop 6 id))) ++ drop 8 id
 
--- The numbers that a pointer may have (C706 14.3.10): null is 0; a full pointer has its cell's number; a unique pointer has any
--- number but 0; an embedded reference pointer has any number at all.
+-- The numbers that a pointer may have (C706 14.3.10 to 14.3.12): null is 0; a full pointer has its cell's number; a unique pointer
+-- has any number but 0; an embedded reference pointer has any number at all, 0 too (this project's choice).
 abbrev pub IsNumber : (ℕ → ℕ) → Class → Option ℕ → ℕ → Type 0
 IsNumber numbering class None v = v ≡ 0
 IsNumber numbering Full (Some c) v = v ≡ numbering c

@@ -1,4 +1,9 @@
--- The streams of a graph: its roots, then its pipes (C706 14.3: the order of parameters and of deferral).
+-- The streams of a graph: its roots and referents, the agreements of parameters, its pipes (C706 14.4: the order of
+-- parameters; 14.3.12: the order of deferral). That pipes stand last, and where agreements are tried, is this project's
+-- choice.
+-- `w` is a setting, `g` a graph, `x` a value that stands, `p` a pointer, `c` the number of a cell, `i` the index of a root,
+-- `r` a root, `v` its value, `h` a home, `t` a type's number, `n` a node's number or how many roots, `k` the count of a chunk,
+-- `cut` the counts of a pipe.
 use Rattle.std.specs.Prelude.{drop, ◌≡◌, ℕ, ◌+◌, ◌<◌, suc, zero, Bool, true, false, List, [], ◌∷◌, ◌++◌, length, map, flat_map, replicate, sum, Option, Some, None}
 use Rattle.std.specs.List.{slice_get, AllByRecursion}
 use Rattle.nd_types.specs.declared.types.TypeDef.{TypeDef}
@@ -37,6 +42,7 @@ root_test g i (node (tree.Ptr None) ks) agreements = []
 root_test g i (node (tree.Ptr (Some c)) ks) agreements = tests (cell_home c) 0 (cell_at g c) agreements
 root_test g i t agreements = tests (home.Root i) 0 t agreements
 
+-- the agreements of the parameters from the i-th root on
 abbrev pub root_tests : Setting → Graph → ℕ → List Root → List Tree → List Entry
 root_tests w g i (r ∷ rs) (v ∷ vs) = root_test g i v (root_agreements w g r.vars) ++ root_tests w g (i + 1) rs vs
 root_tests w g i _ _ = []
@@ -60,11 +66,13 @@ abbrev pub pipe_entries : Table → Home → Option TypeDef → List ℕ → Tre
 pipe_entries table h (Some (def.Pipe elem)) cut (node tree.Pipe ks) = chunks table h elem.0 1 cut ks
 pipe_entries table h _ cut t = entries h 0 (Unread ∷ [])
 
+-- the pipes from the i-th root on, each cut by its own counts
 abbrev pub pipes_entries : Table → ℕ → List Root → List Tree → List (List ℕ) → List Entry
 pipes_entries table i (r ∷ rs) (v ∷ vs) (cut ∷ cuts) =
     pipe_entries table (home.Root i) (type_at table r.of) cut v ++ pipes_entries table (i + 1) rs vs cuts
 pipes_entries table i _ _ _ = []
 
+-- the children of a tree: the elements of a pipe
 abbrev pub kids_of : Tree → Trees
 kids_of (node l ks) = ks
 

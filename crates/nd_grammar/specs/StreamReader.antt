@@ -14,7 +14,7 @@ use Rattle.nd_graph.specs.declared.item.Home.TheVariants as home
 use Rattle.nd_graph.specs.Tree as tree
 use Rattle.nd_graph.specs.Tree.{Tree, Trees, node, none, more, Referent, nodes, joined}
 use Rattle.nd_graph.specs.Setting.{Setting, root_list, unread, cell_at, cell_home}
-use Rattle.nd_graph.specs.Deferral.{Pending, Due, due_root, due_referent, due_roots, before_pipes, Standing, Standing_cells, due_of, root_type}
+use Rattle.nd_graph.specs.Deferral.{Pending, Due, due_root, due_referent, due_roots, before_pipes, Standing, Placed_cells, due_of, root_type}
 use Rattle.nd_grammar.specs.declared.reason.Reason.{Reason}
 use Rattle.nd_grammar.specs.Entry.{Kind, Entry, Align, Chunk}
 use Rattle.nd_grammar.specs.InPlace.{tests}
@@ -24,7 +24,7 @@ use Rattle.nd_grammar.specs.Reader.{Progress, Names, Read, ReadAll, is_stopped, 
 -- how far a stream is read: the roots so far, the cells that stand, what is due, and the progress in octets and names
 pub record Reading : Type 0 where
   pub roots : List Tree
-  pub done : Standing_cells
+  pub done : Placed_cells
   pub due : List Due
   pub progress : Progress
   pub names : Names
@@ -46,12 +46,12 @@ with_value c v s = record { cells = set_from c v s.cells; numbers = s.numbers }
 abbrev pub graph_of : List Tree → Names → Graph
 graph_of roots s = record { roots = roots; cells = s.cells }
 
-abbrev pub stands_among : Standing_cells → ℕ → Bool
+abbrev pub stands_among : Placed_cells → ℕ → Bool
 stands_among [] c = false
 stands_among (d ∷ ds) c = eqb c d.1 || stands_among ds c
 
 -- the referent of a full pointer stands once
-abbrev pub stood : Class → Standing_cells → ℕ → Bool
+abbrev pub stood : Class → Placed_cells → ℕ → Bool
 stood Full done c = stands_among done c
 stood _ done c = false
 

@@ -19,13 +19,16 @@ use crate::Reason;
 /// The streams of a plain side are the octets that hold its numbers: what represents a conforming graph holds the graph's numbers
 /// and ends with the last of them, and octets that hold a number for each parameter begin with a stream of these numbers.
 pub fn plain_streams()
-    ensures whole { (w : Setting) (order : Order) (ps : List Primitive) (octets : List ℕ) (g : Graph)
+    ensures whole { (w : Setting) (order : Order) (ps : List Primitive) (octets : List ℕ)
+        (g : Graph)
         → IsPlain w ps → Represents w order octets g → Conforms w g
         → AreNumbersOf order ps octets (length octets) g }
-    ensures front { (w : Setting) (order : Order) (ps : List Primitive) (octets : List ℕ) (n : ℕ) (g : Graph)
+    ensures front { (w : Setting) (order : Order) (ps : List Primitive) (octets : List ℕ)
+        (n : ℕ) (g : Graph)
         → IsPlain w ps → BeginsWith w order octets n g
         → AreNumbersOf order ps octets n g }
-    ensures numbers { (w : Setting) (order : Order) (ps : List Primitive) (octets : List ℕ) (zs : List ℤ)
+    ensures numbers { (w : Setting) (order : Order) (ps : List Primitive) (octets : List ℕ)
+        (zs : List ℤ)
         → IsPlain w ps → AreOctets octets → numbers_at order ps 0 octets ≡ Some zs
         → BeginsWith w order octets (plain_end ps 0) (plain_graph zs) }
 {}
@@ -35,7 +38,8 @@ pub fn plain_refusals()
     ensures short { (w : Setting) (order : Order) (ps : List Primitive) (octets : List ℕ)
         → IsPlain w ps → AreOctets octets → numbers_at order ps 0 octets ≡ None
         → Bad w order octets (length octets) Reason.Truncated }
-    ensures only_short { (w : Setting) (order : Order) (ps : List Primitive) (octets : List ℕ) (place : ℕ) (why : Reason)
+    ensures only_short { (w : Setting) (order : Order) (ps : List Primitive) (octets : List ℕ)
+        (place : ℕ) (why : Reason)
         → IsPlain w ps → Bad w order octets place why
         → AreCutShort order ps octets place why }
 {}
@@ -47,12 +51,15 @@ pub fn plain_verdict()
         → IsPlain w ps → AreOctets octets
         → ((g : Graph) × BeginsWith w order octets (plain_end ps 0) g)
         ⊎ Bad w order octets (length octets) Reason.Truncated }
-    ensures never_both { (w : Setting) (order : Order) (ps : List Primitive) (octets : List ℕ) (n : ℕ) (g : Graph) (place : ℕ) (why : Reason)
+    ensures never_both { (w : Setting) (order : Order) (ps : List Primitive) (octets : List ℕ)
+        (n : ℕ) (g : Graph) (place : ℕ) (why : Reason)
         → IsPlain w ps → BeginsWith w order octets n g → ¬ Bad w order octets place why }
-    ensures one_graph { (w : Setting) (order : Order) (ps : List Primitive) (octets : List ℕ) (n m : ℕ) (g h : Graph)
+    ensures one_graph { (w : Setting) (order : Order) (ps : List Primitive) (octets : List ℕ)
+        (n m : ℕ) (g h : Graph)
         → IsPlain w ps → BeginsWith w order octets n g → BeginsWith w order octets m h
         → (n ≡ m) × (g ≡ h) }
-    ensures one_refusal { (w : Setting) (order : Order) (ps : List Primitive) (octets : List ℕ) (place place' : ℕ) (why why' : Reason)
+    ensures one_refusal { (w : Setting) (order : Order) (ps : List Primitive) (octets : List ℕ)
+        (place place' : ℕ) (why why' : Reason)
         → IsPlain w ps → Bad w order octets place why → Bad w order octets place' why'
         → (place ≡ place') × (why ≡ why') }
 {}

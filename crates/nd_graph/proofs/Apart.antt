@@ -76,6 +76,6 @@ module _ {X : Type 0} (R : X → X → Type 0) where
     moved [] us xs vs a = to_front us xs vs a
     moved (t ∷ ts) us xs vs a = (
       all_append (R t) ts (xs ++ (us ++ vs)) (all_left (R t) ts (us ++ (xs ++ vs)) a.0)
-      (all_moved (R t) us xs vs (all_right (R t) ts (us ++ (xs ++ vs)) a.0)),
+          (all_moved (R t) us xs vs (all_right (R t) ts (us ++ (xs ++ vs)) a.0)),
       moved ts us xs vs a.1,
     )

@@ -8,18 +8,18 @@ use Rattle.nd_graph.specs.declared.value.Graph.{Graph}
 use Rattle.nd_graph.specs.declared.item.Home.{Home}
 use Rattle.nd_graph.specs.declared.item.Home.TheVariants as home
 use Rattle.nd_graph.specs.Setting.{Setting, Among, root_list}
-use Rattle.nd_graph.specs.Deferral.{Due, due_root, due_referent, due_roots, before_pipes, Step, root_stands, referent_stands, stands_already, Deferral, none_due, at_root, at_null, at_standing, at_referent, Pending, IsStanding, IsStandingFull, Standing_cells, root_cell, due_of, standing_root, standing_cell}
+use Rattle.nd_graph.specs.Deferral.{Due, due_root, due_referent, due_roots, before_pipes, Step, root_stands, referent_stands, stands_already, Deferral, none_due, at_root, at_null, at_standing, at_referent, Pending, IsPlaced, IsPlacedFull, Placed_cells, root_cell, due_of, standing_root, standing_cell}
 use Rattle.nd_graph.specs.RepeatedDeferral.{RepeatedDeferral, nothing, root, null, met_again, referent, full_one}
 use Rattle.nd_graph.proofs.DeferralLaws.{one_order}
 use Rattle.nd_graph.proofs.DeferralExists.{deferral_of}
 use Rattle.nd_graph.proofs.NodeFacts.{IsSound, orderly}
 
 -- the cells that stand for full pointers
-abbrev fulls : Standing_cells → List ℕ
+abbrev fulls : Placed_cells → List ℕ
 fulls [] = []
 fulls (d ∷ ds) = full_one d.0 d.1 ++ fulls ds
 
-full_among : (done : Standing_cells) (c : ℕ) → IsStandingFull done c → Among (fulls done) c
+full_among : (done : Placed_cells) (c : ℕ) → IsPlacedFull done c → Among (fulls done) c
 full_among [] c h = h
 full_among ((Full, d) ∷ ds) c (inl h) = inl h.1
 full_among ((Full, d) ∷ ds) c (inr h) = inr (full_among ds c h)
@@ -28,19 +28,19 @@ full_among ((Ref, d) ∷ ds) c (inr h) = full_among ds c h
 full_among ((Unique, d) ∷ ds) c (inl h) = let x : Unique ≡ Full = h.0 in absurd (cc)
 full_among ((Unique, d) ∷ ds) c (inr h) = full_among ds c h
 
-among_stands : (done : Standing_cells) (c : ℕ) → Among (fulls done) c → IsStanding done c
+among_stands : (done : Placed_cells) (c : ℕ) → Among (fulls done) c → IsPlaced done c
 among_stands [] c h = h
 among_stands ((Full, d) ∷ ds) c (inl e) = inl e
 among_stands ((Full, d) ∷ ds) c (inr h) = inr (among_stands ds c h)
 among_stands ((Ref, d) ∷ ds) c h = inr (among_stands ds c h)
 among_stands ((Unique, d) ∷ ds) c h = inr (among_stands ds c h)
 
-no_full_root : (h : Home) (done : Standing_cells) → fulls (root_cell h ++ done) ≡ fulls done
+no_full_root : (h : Home) (done : Placed_cells) → fulls (root_cell h ++ done) ≡ fulls done
 no_full_root (home.Root i) done = refl
 no_full_root (home.Cell c) done = refl
 
 module _ (w : Setting) (g : Graph) where
-  pub repeated : {done : Standing_cells} {due : List Due} {steps : List Step} → Deferral w g done due steps → RepeatedDeferral w g (fulls done) due steps
+  pub repeated : {done : Placed_cells} {due : List Due} {steps : List Step} → Deferral w g done due steps → RepeatedDeferral w g (fulls done) due steps
   repeated none_due = nothing
   repeated (at_root {done = done} {i = i} {due = due} {steps = steps} f a) =
       root (subst (λ u. RepeatedDeferral w g u (due_of w.table (standing_root w g i) ++ due) steps) (no_full_root (standing_root w g i).home done) (repeated a))

@@ -20,16 +20,16 @@ use Rattle.nd_graph.specs.Tree.{Tree, Trees, node, none, more, Label, Referent}
 use Rattle.nd_graph.specs.Agreement.{Agreement}
 use Rattle.nd_graph.specs.Setting.{Setting, Among, root_list, root_at, or_unread, cell_at, cell_tree, cell_of_number, cell_home}
 use Rattle.nd_graph.specs.Nodes.{nodes_of}
-use Rattle.nd_graph.specs.Deferral.{Pending, home_pointers, pointer, Due, due_root, due_referent, due_roots, Step, root_stands, referent_stands, stands_already, Deferral, none_due, at_root, at_null, at_standing, at_referent, IsStanding, IsStandingFull, Standing_cells, Standing, standing_root, standing_by, standing_cell, root_type, direct, due_of, root_cell, AreFree}
+use Rattle.nd_graph.specs.Deferral.{Pending, home_pointers, pointer, Due, due_root, due_referent, due_roots, Step, root_stands, referent_stands, stands_already, Deferral, none_due, at_root, at_null, at_standing, at_referent, IsPlaced, IsPlacedFull, Placed_cells, Standing, standing_root, standing_by, standing_cell, root_type, direct, due_of, root_cell, AreFree}
 use Rattle.nd_graph.specs.Variables.{root_agreements}
 use Rattle.nd_graph.specs.Homes.{root_nodes, root_pointers, cell_nodes, cell_pointers, all_nodes, all_pointers, in_home}
 use Rattle.nd_graph.specs.Misfit.{is_no_null_ref}
-use Rattle.nd_graph.specs.Conforms.{AllEarlier, MayMeet}
+use Rattle.nd_graph.specs.Conforms.{AllEarlier, ShareOnlyIfFull}
 use Rattle.nd_graph.proofs.Apart.{all_append, all_left, all_right, all_map, among_left, among_right, earlier_meets, moved}
 use Rattle.nd_graph.proofs.Orderly.{Orderly, PointerFits, Pointee, Fits, pointees, pointee_of_cell, cell_pointees}
 use Rattle.nd_graph.proofs.Waiting.{stands, stands-true, stands-false, waiting, parted}
 
-turned : (p q : Pending) → MayMeet p q → MayMeet q p
+turned : (p q : Pending) → ShareOnlyIfFull p q → ShareOnlyIfFull q p
 turned p q m c e f = let r = m c f e in (r.1, r.0)
 
 -- a top-level reference pointer
@@ -60,14 +60,14 @@ module _ (w : Setting) (g : Graph) (cells_fit : AllByRecursion (Fits g w.table) 
   of_cell r = home_pointers w.table (cell_home r.0) r.1.of r.1.val
 
   -- the pointers of the cells that do not stand
-  abbrev unmet : Standing_cells → List Pending
+  abbrev unmet : Placed_cells → List Pending
   unmet done = flat_map of_cell (waiting done 1 g.cells)
 
   -- each cell that stands was named by a pointer that was taken
-  abbrev Named : Standing_cells → List Pending → Type 0
-  Named done taken = (c : ℕ) → IsStanding done c → (q : Pending) × Among taken q × (q.cell ≡ Some c) × (q.class ≡ Full → IsStandingFull done c)
+  abbrev Named : Placed_cells → List Pending → Type 0
+  Named done taken = (c : ℕ) → IsPlaced done c → (q : Pending) × Among taken q × (q.cell ≡ Some c) × (q.class ≡ Full → IsPlacedFull done c)
 
-  abbrev Steps : Standing_cells → List Pending → ℕ → ℕ → Type 0
+  abbrev Steps : Placed_cells → List Pending → ℕ → ℕ → Type 0
   Steps done ps i n = (steps : List Step) × Deferral w g done (map due_referent ps ++ due_roots i n) steps
 
   abbrev AreRoots : ℕ → List Root → List Tree → Type 0
@@ -76,16 +76,16 @@ module _ (w : Setting) (g : Graph) (cells_fit : AllByRecursion (Fits g w.table) 
   -- there are steps for these pointers and the roots from i on, where fewer than k cells and roots are left
   abbrev Claim : ℕ → Type 0
   Claim k =
-      (done : Standing_cells) (taken ps : List Pending) (i n : ℕ) (rs : List Root) (vs : List Tree)
+      (done : Placed_cells) (taken ps : List Pending) (i n : ℕ) (rs : List Root) (vs : List Tree)
       → AllByRecursion (Pointee g) ps
-      → AllEarlier MayMeet (taken ++ (ps ++ (unmet done ++ root_pointers w.table i rs vs)))
+      → AllEarlier ShareOnlyIfFull (taken ++ (ps ++ (unmet done ++ root_pointers w.table i rs vs)))
       → Named done taken
       → n ≤ length rs → length vs ≡ length rs → AreRoots i rs vs
       → AllByRecursion (Fits g w.table) (root_nodes w g i rs vs)
       → length (waiting done 1 g.cells) + n < k
       → Steps done ps i n
 
-  module _ (done : Standing_cells) (taken : List Pending) (named : Named done taken) (p : Pending) where
+  module _ (done : Placed_cells) (taken : List Pending) (named : Named done taken) (p : Pending) where
     named_more : Named done (taken ++ p ∷ [])
     named_more c h = let (q, a, e, f) = named c h in (q, among_left taken (p ∷ []) q a, e, f)
 
@@ -94,15 +94,15 @@ module _ (w : Setting) (g : Graph) (cells_fit : AllByRecursion (Fits g w.table) 
     named_cell c e b (inr h) = let (q, a, e', f) = named b h in (q, among_left taken (p ∷ []) q a, e', λ k. inr (f k))
 
     -- a pointer to a cell that stands is full, and so was the one for which it stands
-    both_full : (c : ℕ) (rest : List Pending) → AllEarlier MayMeet (taken ++ p ∷ rest) → p.cell ≡ Some c → IsStanding done c
-        → (p.class ≡ Full) × IsStandingFull done c
+    both_full : (c : ℕ) (rest : List Pending) → AllEarlier ShareOnlyIfFull (taken ++ p ∷ rest) → p.cell ≡ Some c → IsPlaced done c
+        → (p.class ≡ Full) × IsPlacedFull done c
     both_full c rest apart e h =
         let (q, a, e', f) = named c h in
-        let m = earlier_meets MayMeet taken p rest q a apart c e' e in
+        let m = earlier_meets ShareOnlyIfFull taken p rest q a apart c e' e in
         (m.1, f m.0)
 
-  after : (taken : List Pending) (p : Pending) (rest : List Pending) → AllEarlier MayMeet (taken ++ p ∷ rest) → AllEarlier MayMeet ((taken ++ p ∷ []) ++ rest)
-  after taken p rest a = subst (AllEarlier MayMeet) (sym (append_assoc taken (p ∷ []) rest)) a
+  after : (taken : List Pending) (p : Pending) (rest : List Pending) → AllEarlier ShareOnlyIfFull (taken ++ p ∷ rest) → AllEarlier ShareOnlyIfFull ((taken ++ p ∷ []) ++ rest)
+  after taken p rest a = subst (AllEarlier ShareOnlyIfFull) (sym (append_assoc taken (p ∷ []) rest)) a
 
   five : (ts ps xs ys zs : List Pending) (us : List Pending) → ts ++ (ps ++ ((xs ++ (ys ++ zs)) ++ us)) ≡ ts ++ ((ps ++ xs) ++ (ys ++ (zs ++ us)))
   five ts ps xs ys zs us = simp append_assoc
@@ -111,9 +111,9 @@ module _ (w : Setting) (g : Graph) (cells_fit : AllByRecursion (Fits g w.table) 
   five' ts ps xs ys zs us = simp append_assoc
 
   -- a cell comes to stand: its pointers are due before the others, and it does not wait any more
-  opened : (done : Standing_cells) (k : Class) (c : ℕ) (x : Referent) (taken ps us : List Pending) → cell_of_number g c ≡ Some x → stands done c ≡ false
-      → AllEarlier MayMeet (taken ++ (ps ++ (unmet done ++ us)))
-      → AllEarlier MayMeet (taken ++ ((of_cell (c, x) ++ ps) ++ (unmet ((k, c) ∷ done) ++ us)))
+  opened : (done : Placed_cells) (k : Class) (c : ℕ) (x : Referent) (taken ps us : List Pending) → cell_of_number g c ≡ Some x → stands done c ≡ false
+      → AllEarlier ShareOnlyIfFull (taken ++ (ps ++ (unmet done ++ us)))
+      → AllEarlier ShareOnlyIfFull (taken ++ ((of_cell (c, x) ++ ps) ++ (unmet ((k, c) ∷ done) ++ us)))
       × (suc (length (waiting ((k, c) ∷ done) 1 g.cells)) ≡ length (waiting done 1 g.cells))
   opened done k zero x taken ps us e s a = cc
   opened done k (suc i) x taken ps us e s a =
@@ -124,12 +124,11 @@ module _ (w : Setting) (g : Graph) (cells_fit : AllByRecursion (Fits g w.table) 
       let X : List Pending = of_cell (c, x) in
       let now : unmet done ≡ F ++ (X ++ B) = ap (flat_map of_cell) f ∙ flat_map-append of_cell front ((c, x) ∷ back) in
       let then : unmet ((k, c) ∷ done) ≡ F ++ B = ap (flat_map of_cell) b ∙ flat_map-append of_cell front back in
-      let start : AllEarlier MayMeet (taken ++ ((ps ++ F) ++ (X ++ (B ++ us)))) =
-      subst (AllEarlier MayMeet) (ap (λ u. taken ++ (ps ++ (u ++ us))) now ∙ five taken ps F X B us) a in
-      let end : AllEarlier MayMeet (taken ++ ((X ++ ps) ++ ((F ++ B) ++ us))) =
-      subst (AllEarlier MayMeet) (five' taken ps F X B us) (moved MayMeet turned taken (ps ++ F) X (B ++ us) start) in
-      (
-        subst (λ u. AllEarlier MayMeet (taken ++ ((X ++ ps) ++ (u ++ us)))) (sym then) end,
+      let start : AllEarlier ShareOnlyIfFull (taken ++ ((ps ++ F) ++ (X ++ (B ++ us)))) =
+      subst (AllEarlier ShareOnlyIfFull) (ap (λ u. taken ++ (ps ++ (u ++ us))) now ∙ five taken ps F X B us) a in
+      let end : AllEarlier ShareOnlyIfFull (taken ++ ((X ++ ps) ++ ((F ++ B) ++ us))) =
+      subst (AllEarlier ShareOnlyIfFull) (five' taken ps F X B us) (moved ShareOnlyIfFull turned taken (ps ++ F) X (B ++ us) start) in (
+        subst (λ u. AllEarlier ShareOnlyIfFull (taken ++ ((X ++ ps) ++ (u ++ us)))) (sym then) end,
         ap (λ u. suc (length u)) b ∙ ap suc (length-append front back) ∙ omega arith ∙ sym (ap length f ∙ length-append front ((c, x) ∷ back)),
       )
 
@@ -155,9 +154,9 @@ module _ (w : Setting) (g : Graph) (cells_fit : AllByRecursion (Fits g w.table) 
     U = root_pointers w.table i rs vs
 
     -- the referent of a pointer stands: c is its cell
-    referent_step : (done : Standing_cells) (taken : List Pending) (p : Pending) (ps : List Pending)
+    referent_step : (done : Placed_cells) (taken : List Pending) (p : Pending) (ps : List Pending)
         → AllByRecursion (Pointee g) (p ∷ ps)
-        → AllEarlier MayMeet (taken ++ (p ∷ ps ++ (unmet done ++ U)))
+        → AllEarlier ShareOnlyIfFull (taken ++ (p ∷ ps ++ (unmet done ++ U)))
         → Named done taken
         → length (waiting done 1 g.cells) + n < suc k
         → (c : ℕ) → p.cell ≡ Some c → stands done c ≡ false → Steps done (p ∷ ps) i n
@@ -176,9 +175,9 @@ module _ (w : Setting) (g : Graph) (cells_fit : AllByRecursion (Fits g w.table) 
 
     abbrev Pending_claim : List Pending → Type 0
     Pending_claim ps =
-        (done : Standing_cells) (taken : List Pending)
+        (done : Placed_cells) (taken : List Pending)
         → AllByRecursion (Pointee g) ps
-        → AllEarlier MayMeet (taken ++ (ps ++ (unmet done ++ U)))
+        → AllEarlier ShareOnlyIfFull (taken ++ (ps ++ (unmet done ++ U)))
         → Named done taken
         → length (waiting done 1 g.cells) + n < suc k
         → Steps done ps i n
@@ -233,8 +232,8 @@ module _ (w : Setting) (g : Graph) (cells_fit : AllByRecursion (Fits g w.table) 
         let f : slice_get g.roots i ≡ Some v = ap (slice_get g.roots) (omega arith) ∙ are_roots.1 0 in
         ap₂ (λ t u. standing_by g i t u (direct (type_at w.table t) u)) (ap root_type e) (ap or_unread f)
 
-    module _ (done : Standing_cells) (taken : List Pending) (named : Named done taken)
-        (apart : AllEarlier MayMeet (taken ++ (own ++ (unmet done ++ others))))
+    module _ (done : Placed_cells) (taken : List Pending) (named : Named done taken)
+        (apart : AllEarlier ShareOnlyIfFull (taken ++ (own ++ (unmet done ++ others))))
         (fuel : length (waiting done 1 g.cells) + suc n < suc k) where
       started : (x : Standing) (steps : List Step) → standing_root w g i ≡ x → AreFree (root_cell x.home) done
           → Deferral w g (root_cell x.home ++ done) (due_of w.table x ++ due_roots (suc i) n) steps → Steps done [] i (suc n)
@@ -261,8 +260,8 @@ module _ (w : Setting) (g : Graph) (cells_fit : AllByRecursion (Fits g w.table) 
         direct_step : own ≡ its_pointer ∷ [] → Steps done [] i (suc n)
         direct_step eo = by_standing (stands done c) refl
           where
-            apart' : AllEarlier MayMeet (taken ++ its_pointer ∷ (unmet done ++ others))
-            apart' = subst (λ u. AllEarlier MayMeet (taken ++ (u ++ (unmet done ++ others)))) eo apart
+            apart' : AllEarlier ShareOnlyIfFull (taken ++ its_pointer ∷ (unmet done ++ others))
+            apart' = subst (λ u. AllEarlier ShareOnlyIfFull (taken ++ (u ++ (unmet done ++ others)))) eo apart
 
             by_standing : (b : Bool) → stands done c ≡ b → Steps done [] i (suc n)
             by_standing true s =
@@ -270,7 +269,7 @@ module _ (w : Setting) (g : Graph) (cells_fit : AllByRecursion (Fits g w.table) 
                 let x : Ref ≡ Full = m.0 in
                 absurd (cc)
             by_standing false s =
-                let free : ¬ IsStanding done c = stands-false done c s in
+                let free : ¬ IsPlaced done c = stands-false done c s in
                 let typed = subst (AllByRecursion (Pointee g)) eo own_pointees in
                 let (x, ex, ext) = typed.0 c refl in
                 let (apart'', count) = opened done Ref c x (taken ++ its_pointer ∷ []) [] others ex s (after taken its_pointer (unmet done ++ others) apart') in
@@ -294,19 +293,19 @@ module _ (w : Setting) (g : Graph) (cells_fit : AllByRecursion (Fits g w.table) 
       by_direct None e = plain_step e
       by_direct (Some q) e = direct_value v refl q.0 q.1 e
 
-    root_step : (done : Standing_cells) (taken : List Pending)
-        → AllEarlier MayMeet (taken ++ (unmet done ++ root_pointers w.table i (r ∷ rs) (v ∷ vs)))
+    root_step : (done : Placed_cells) (taken : List Pending)
+        → AllEarlier ShareOnlyIfFull (taken ++ (unmet done ++ root_pointers w.table i (r ∷ rs) (v ∷ vs)))
         → Named done taken
         → length (waiting done 1 g.cells) + suc n < suc k
         → Steps done [] i (suc n)
     root_step done taken apart named fuel =
-        let apart' : AllEarlier MayMeet (taken ++ (own ++ (unmet done ++ others))) = moved MayMeet turned taken (unmet done) own others
-        (subst (λ u. AllEarlier MayMeet (taken ++ (unmet done ++ (own ++ root_pointers w.table u rs vs)))) next_index apart) in
+        let apart' : AllEarlier ShareOnlyIfFull (taken ++ (own ++ (unmet done ++ others))) = moved ShareOnlyIfFull turned taken (unmet done) own others
+        (subst (λ u. AllEarlier ShareOnlyIfFull (taken ++ (unmet done ++ (own ++ root_pointers w.table u rs vs)))) next_index apart) in
         by_direct done taken named apart' fuel (direct (type_at w.table r.of) v) refl
 
   -- nothing is due but roots
-  roots_step : (k : ℕ) → Claim k → (done : Standing_cells) (taken : List Pending) (i n : ℕ) (rs : List Root) (vs : List Tree)
-      → AllEarlier MayMeet (taken ++ (unmet done ++ root_pointers w.table i rs vs))
+  roots_step : (k : ℕ) → Claim k → (done : Placed_cells) (taken : List Pending) (i n : ℕ) (rs : List Root) (vs : List Tree)
+      → AllEarlier ShareOnlyIfFull (taken ++ (unmet done ++ root_pointers w.table i rs vs))
       → Named done taken
       → n ≤ length rs → length vs ≡ length rs → AreRoots i rs vs
       → AllByRecursion (Fits g w.table) (root_nodes w g i rs vs)
@@ -341,8 +340,8 @@ deferral_of w g o n h =
     let roots_fit : AllByRecursion (Fits g w.table) (root_nodes w g 0 (root_list w) g.roots) = all_left _ _ (cell_nodes w.table 1 g.cells) o.fit in
     let P : List Pending = root_pointers w.table 0 (root_list w) g.roots in
     let W : List Pending = flat_map (λ r. home_pointers w.table (cell_home r.0) r.1.of r.1.val) (waiting [] 1 g.cells) in
-    let apart : AllEarlier MayMeet (W ++ (P ++ [])) = moved MayMeet turned [] P W []
-    (subst (AllEarlier MayMeet) (ap (λ u. P ++ u) (sym (all_waiting w g parts 1 g.cells) ∙ sym (append-nil W))) o.unshared) in
-    let apart' : AllEarlier MayMeet (W ++ P) = subst (λ u. AllEarlier MayMeet (W ++ u)) (append-nil P) apart in
+    let apart : AllEarlier ShareOnlyIfFull (W ++ (P ++ [])) = moved ShareOnlyIfFull turned [] P W []
+    (subst (AllEarlier ShareOnlyIfFull) (ap (λ u. P ++ u) (sym (all_waiting w g parts 1 g.cells) ∙ sym (append-nil W))) o.unshared) in
+    let apart' : AllEarlier ShareOnlyIfFull (W ++ P) = subst (λ u. AllEarlier ShareOnlyIfFull (W ++ u)) (append-nil P) apart in
     claims w g parts (suc (length (waiting [] 1 g.cells) + n)) [] [] [] 0 n (root_list w) g.roots tt apart' (λ c x. absurd x) h o.all_roots
     ((λ j. ap (slice_get (root_list w)) (omega arith)), (λ j. ap (slice_get g.roots) (omega arith))) roots_fit (omega arith)

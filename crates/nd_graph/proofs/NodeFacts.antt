@@ -18,7 +18,7 @@ use Rattle.nd_graph.specs.Setting.{Setting, root_list}
 use Rattle.nd_graph.specs.Nodes.{TypedNode, child_types, selected_types}
 use Rattle.nd_graph.specs.Homes.{HomeNode, all_nodes, all_pointers}
 use Rattle.nd_graph.specs.Misfit.{misfit_of, unless, is_partial_node, has_shape, has_range, is_no_null_ref, names_cell, names_pointee, has_counts, is_within, has_no_zero, has_arm, has_machine_values, selects, arm_fits}
-use Rattle.nd_graph.specs.Conforms.{Conforms, IsPartial, AllEarlier, MayMeet}
+use Rattle.nd_graph.specs.Conforms.{Conforms, IsPartial, AllEarlier, ShareOnlyIfFull}
 use Rattle.nd_graph.proofs.Apart.{all_weaker}
 use Rattle.nd_graph.proofs.Orderly.{Orderly, PointerFits}
 
@@ -150,7 +150,7 @@ pub record IsSound (w : Setting) (g : Graph) : Type 0 where
   pub all_roots : length g.roots ≡ length (root_list w)
   pub machine_values : AllByRecursion (λ x. has_machine_values x.typed.label ≡ true) (all_nodes w g)
   pub read : AllByRecursion (λ x. IsReadOrNot w.table g x.typed.of x.typed.label x.typed.kids) (all_nodes w g)
-  pub unshared : AllEarlier MayMeet (all_pointers w g)
+  pub unshared : AllEarlier ShareOnlyIfFull (all_pointers w g)
 
 pub sound_conforming : (w : Setting) (g : Graph) → Conforms w g → IsSound w g
 sound_conforming w g c = record {

@@ -25,7 +25,7 @@ use Rattle.nd_graph.specs.Deferral.{Pending, pointer, pointer_by, home_pointers}
 use Rattle.nd_graph.specs.Variables.{root_agreements}
 use Rattle.nd_graph.specs.Homes.{HomeNode, in_home, root_nodes, cell_nodes, all_nodes, all_pointers}
 use Rattle.nd_graph.specs.Misfit.{is_no_null_ref, names_cell, names_pointee, has_type}
-use Rattle.nd_graph.specs.Conforms.{AllEarlier, MayMeet}
+use Rattle.nd_graph.specs.Conforms.{AllEarlier, ShareOnlyIfFull}
 use Rattle.nd_graph.proofs.Apart.{all_append, all_left, all_right, all_map, all_flat}
 
 -- a node's pointer is no null reference, and names a cell of its referent's type
@@ -37,12 +37,11 @@ pub record PointerFits (table : Table) (g : Graph) (of : ℕ) (l : Label) : Type
 pub record Orderly (w : Setting) (g : Graph) : Type 0 where
   pub all_roots : length g.roots ≡ length (root_list w)
   pub fit : AllByRecursion (λ x. PointerFits w.table g x.typed.of x.typed.label) (all_nodes w g)
-  pub unshared : AllEarlier MayMeet (all_pointers w g)
+  pub unshared : AllEarlier ShareOnlyIfFull (all_pointers w g)
 
 -- a pointer's cell is one of the graph, of its referent's type
 abbrev pub Pointee : Graph → Pending → Type 0
 Pointee g p = (c : ℕ) → p.cell ≡ Some c → (x : Referent) × (cell_of_number g c ≡ Some x) × (x.of ≡ p.to)
-
 
 module _ (g : Graph) where
   cell_there : (c : ℕ) → names_cell g (tree.Ptr (Some c)) ≡ true → (x : Referent) × (cell_of_number g c ≡ Some x)

@@ -6,25 +6,25 @@ use Rattle.std.proofs.lemmas.Bool.{eqb-true, eq-eqb, eqb-false}
 use Rattle.std.proofs.lemmas.Option.{same_Some}
 use Rattle.nd_types.specs.declared.types.Class.{Class}
 use Rattle.nd_graph.specs.Tree.{Referent}
-use Rattle.nd_graph.specs.Deferral.{IsStanding, Standing_cells}
+use Rattle.nd_graph.specs.Deferral.{IsPlaced, Placed_cells}
 
-abbrev pub stands : Standing_cells → ℕ → Bool
+abbrev pub stands : Placed_cells → ℕ → Bool
 stands [] c = false
 stands (d ∷ ds) c = eqb c d.1 || stands ds c
 
-pub stands-true : (done : Standing_cells) (c : ℕ) → stands done c ≡ true → IsStanding done c
+pub stands-true : (done : Placed_cells) (c : ℕ) → stands done c ≡ true → IsPlaced done c
 stands-true [] c e = cc
 stands-true (d ∷ ds) c e = go (eqb c d.1) refl e (stands-true ds c)
   where
-    go : (b : Bool) → eqb c d.1 ≡ b → (b || stands ds c) ≡ true → (stands ds c ≡ true → IsStanding ds c) → IsStanding (d ∷ ds) c
+    go : (b : Bool) → eqb c d.1 ≡ b → (b || stands ds c) ≡ true → (stands ds c ≡ true → IsPlaced ds c) → IsPlaced (d ∷ ds) c
     go true f h r = inl (eqb-true c d.1 f)
     go false f h r = inr (r h)
 
-pub stands-false : (done : Standing_cells) (c : ℕ) → stands done c ≡ false → ¬ IsStanding done c
+pub stands-false : (done : Placed_cells) (c : ℕ) → stands done c ≡ false → ¬ IsPlaced done c
 stands-false [] c e h = h
 stands-false (d ∷ ds) c e h = go (eqb c d.1) refl e (stands-false ds c) h
   where
-    go : (b : Bool) → eqb c d.1 ≡ b → (b || stands ds c) ≡ false → (stands ds c ≡ false → ¬ IsStanding ds c) → IsStanding (d ∷ ds) c → ⊥
+    go : (b : Bool) → eqb c d.1 ≡ b → (b || stands ds c) ≡ false → (stands ds c ≡ false → ¬ IsPlaced ds c) → IsPlaced (d ∷ ds) c → ⊥
     go true f k r x = cc
     go false f k r (inl x) = eqb-false c d.1 f x
     go false f k r (inr x) = r k x
@@ -41,12 +41,12 @@ kept true r rs = rs
 kept false r rs = r ∷ rs
 
 -- the cells from number n on that do not stand, with their numbers
-abbrev pub waiting : Standing_cells → ℕ → List Referent → List (ℕ × Referent)
+abbrev pub waiting : Placed_cells → ℕ → List Referent → List (ℕ × Referent)
 waiting done n [] = []
 waiting done n (x ∷ xs) = kept (stands done n) (n, x) (waiting done (n + 1) xs)
 
-module _ (done : Standing_cells) (k : Class) (c : ℕ) where
-  abbrev more_done : Standing_cells
+module _ (done : Placed_cells) (k : Class) (c : ℕ) where
+  abbrev more_done : Placed_cells
   more_done = (k, c) ∷ done
 
   other : (n : ℕ) → (n ≡ c → ⊥) → stands more_done n ≡ stands done n
@@ -67,8 +67,7 @@ module _ (done : Standing_cells) (k : Class) (c : ℕ) where
       let s : y ≡ x = same_Some _ _ e in
       let fc : n ≡ c = omega arith in
       let b : stands done n ≡ false = ap (stands done) fc ∙ h in
-      let b' : stands more_done n ≡ true = ap (λ u. u || stands done n) (eq-eqb n c fc) in
-      (
+      let b' : stands more_done n ≡ true = ap (λ u. u || stands done n) (eq-eqb n c fc) in (
         [],
         waiting done (n + 1) ys,
         ap (λ u. kept u (n, y) (waiting done (n + 1) ys)) b ∙ ap₂ (λ u v. (u, v) ∷ waiting done (n + 1) ys) fc s,
@@ -78,16 +77,14 @@ module _ (done : Standing_cells) (k : Class) (c : ℕ) where
     where
       go : (b : Bool) → stands done n ≡ b → Parted (n + 1) ys x → Parted n (y ∷ ys) x
       go true z r =
-          let (front, back, p, q) = r in
-          (
+          let (front, back, p, q) = r in (
             front,
             back,
             ap (λ u. kept u (n, y) (waiting done (n + 1) ys)) z ∙ p,
             ap (λ u. kept u (n, y) (waiting more_done (n + 1) ys)) (other n (λ u. omega arith) ∙ z) ∙ q,
           )
       go false z r =
-          let (front, back, p, q) = r in
-          (
+          let (front, back, p, q) = r in (
             (n, y) ∷ front,
             back,
             ap (λ u. kept u (n, y) (waiting done (n + 1) ys)) z ∙ ap (λ u. (n, y) ∷ u) p,

@@ -1,4 +1,6 @@
 -- Agreements: what an attribute of a field states of its subject, and what is found there (C706 4.2.18 to 4.2.20).
+-- `a` is an attribute or an attribute with its variable, `v` the value of the variable, `z` a whole number, `i` an index, `t`
+-- a tree, `l` a label, `ks` its children.
 use Rattle.std.specs.Prelude.{ℕ, ◌+◌, suc, zero, ℤ, pos, ◌+ℤ◌, ◌-ℤ◌, List, [], ◌∷◌, ◌++◌, length, Option, Some, None}
 use Rattle.std.specs.List.{slice_get}
 use Rattle.nd_types.specs.declared.types.Attr.{Attr}
@@ -12,6 +14,7 @@ pub record Agreement : Type 0 where
   pub attr : Attr
   pub wanted : ℤ
 
+-- the number that a value is, where it is one
 abbrev pub number_of : Tree → Option ℤ
 number_of (node (tree.Num z) ks) = Some z
 number_of _ = None

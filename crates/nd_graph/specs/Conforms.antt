@@ -1,4 +1,6 @@
 -- When a graph conforms to a side of an operation, and what a partial graph is.
+-- `w` is a setting, `g` a graph, `p` and `q` are pointers, `c` and `b` numbers of cells, `x` is a node or a cell, `t` a tree,
+-- `l` a label, `a` an agreement.
 use Rattle.std.specs.Prelude.{◌≡◌, ℕ, ◌+◌, ◌^◌, ◌<◌, true, List, [], ◌∷◌, ◌++◌, length, Option, Some, None, map}
 use Rattle.std.specs.List.{list_all, AllByRecursion}
 use Rattle.nd_types.specs.declared.types.Class.TheVariants.{Full}
@@ -13,8 +15,8 @@ use Rattle.nd_graph.specs.Homes.{all_nodes, all_pointers, root_pointers}
 use Rattle.nd_graph.specs.Misfit.{misfit_of, is_partial_node, has_machine_values}
 
 -- two pointers that name one cell are both full
-abbrev pub MayMeet : Pending → Pending → Type 0
-MayMeet p q = (c : ℕ) → p.cell ≡ Some c → q.cell ≡ Some c → (p.class ≡ Full) × (q.class ≡ Full)
+abbrev pub ShareOnlyIfFull : Pending → Pending → Type 0
+ShareOnlyIfFull p q = (c : ℕ) → p.cell ≡ Some c → q.cell ≡ Some c → (p.class ≡ Full) × (q.class ≡ Full)
 
 -- each is related to every later one
 abbrev pub AllEarlier : {X : Type 0} → (X → X → Type 0) → List X → Type 0
@@ -27,6 +29,7 @@ pub data Reached (w : Setting) (g : Graph) : ℕ → Type 0 where
   by_cell : {b c : ℕ} (x : Referent) (p : Pending) → Reached w g b → cell_of_number g b ≡ Some x
       → Among (home_pointers w.table (cell_home b) x.of x.val) p → p.cell ≡ Some c → Reached w g c
 
+-- what a governed node's agreements speak of, by the node's label
 abbrev pub subject_by : Graph → TypedNode → Label → List Tree
 subject_by g x (tree.Ptr None) = []
 subject_by g x (tree.Ptr (Some c)) = cell_at g c ∷ []
@@ -40,6 +43,7 @@ subject g x = subject_by g x x.label
 abbrev pub IsAgreed : Tree → Agreement → Type 0
 IsAgreed t a = found_in a.attr t ≡ a.wanted
 
+-- all agreements of a node hold
 abbrev pub AgreesAt : Graph → TypedNode → Type 0
 AgreesAt g x = AllByRecursion (λ t. AllByRecursion (IsAgreed t) x.agreements) (subject g x)
 
@@ -47,12 +51,12 @@ AgreesAt g x = AllByRecursion (λ t. AllByRecursion (IsAgreed t) x.agreements) (
 pub record Conforms (w : Setting) (g : Graph) : Type 0 where
   -- there are as many roots as the side has
   pub all_roots : length g.roots ≡ length (root_list w)
-  -- counts, octets and identifiers are values of the program
+  -- counts, octets and identifiers are values of the program: so they are in every graph of the program
   pub machine_values : list_all (λ x. has_machine_values x.typed.label) (all_nodes w g) ≡ true
   -- no node has a misfit by itself
   pub local : AllByRecursion (λ x. misfit_of w.table g x.typed ≡ None) (all_nodes w g)
   -- a cell is shared by full pointers alone
-  pub unshared : AllEarlier MayMeet (all_pointers w g)
+  pub unshared : AllEarlier ShareOnlyIfFull (all_pointers w g)
   -- every cell is reached
   pub reached : (c : ℕ) → 0 < c → c < length g.cells + 1 → Reached w g c
   -- every agreement of a parameter or a member holds
@@ -61,13 +65,14 @@ pub record Conforms (w : Setting) (g : Graph) : Type 0 where
   pub few_cells : length g.cells < 2 ^ 32
   pub few_nodes : AllByRecursion (λ t. nodes (more t none) < 2 ^ 32) (g.roots ++ map (λ c. c.val) g.cells)
 
--- A partial graph: what was read of one, the rest of its values being unread.
+-- A partial graph: one some of whose values, wherever they stand, may be unread. What octets hold before a faulty place is such
+-- a graph.
 pub record IsPartial (w : Setting) (g : Graph) : Type 0 where
   -- there are as many roots as the side has
   pub all_roots : length g.roots ≡ length (root_list w)
-  -- counts, octets and identifiers are values of the program
+  -- counts, octets and identifiers are values of the program: so they are in every graph of the program
   pub machine_values : list_all (λ x. has_machine_values x.typed.label) (all_nodes w g) ≡ true
   -- each node is unread, or has the form of its type
   pub local : list_all (λ x. is_partial_node w.table g x.typed) (all_nodes w g) ≡ true
   -- a cell is shared by full pointers alone
-  pub unshared : AllEarlier MayMeet (all_pointers w g)
+  pub unshared : AllEarlier ShareOnlyIfFull (all_pointers w g)

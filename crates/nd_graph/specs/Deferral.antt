@@ -1,4 +1,9 @@
--- In which order the referents of a graph stand in a stream (C706 14.3.12: deferral of referents).
+-- In which order the referents of a graph stand in a stream (C706 14.3.12: deferral of referents). C706 has a referent stand
+-- behind the outermost array, struct or union that its pointer is embedded in, and a shared one stand once. The order is this
+-- project's choice: left to right and depth first, a referent followed at once by its own; and a referent that full pointers
+-- share stands at the first of its pointers in this order.
+-- `w` is a setting, `g` a graph, `h` a home, `n` a node's number, `p` a pointer, `c` a cell's number, `i` the index of a root,
+-- `t` a type's number, `x` a node or a value that stands, `v` a value, `d` a cell that stands, or a cell and its type.
 use Rattle.std.specs.Prelude.{◌≡◌, ◌⊎◌, ℕ, ◌+◌, suc, zero, Bool, true, false, List, [], ◌∷◌, ◌++◌, Option, Some, None, map, flat_map}
 use Rattle.std.specs.List.{slice_get}
 use Rattle.nd_types.specs.declared.types.TypeDef.{TypeDef}
@@ -26,6 +31,7 @@ pub record Pending : Type 0 where
   pub cell : Option ℕ
   pub agreements : List Agreement
 
+-- a node as a pointer, where its type is one and its label too
 abbrev pub pointer_by : Option TypeDef → Bool → Option ℕ → Home → ℕ → List Agreement → List Pending
 pointer_by (Some (def.Pointer class to)) true c h n agreements =
     record { home = h; node = n; class = class; to = to.0; cell = c; agreements = agreements } ∷ []
@@ -63,10 +69,12 @@ pub record Standing : Type 0 where
   pub of : ℕ
   pub val : Tree
 
+-- a root's own value, or the referent of a top-level reference pointer
 abbrev pub standing_by : Graph → ℕ → ℕ → Tree → Option (ℕ × ℕ) → Standing
 standing_by g i t v (Some d) = record { home = cell_home d.0; of = d.1; val = cell_at g d.0 }
 standing_by g i t v None = record { home = home.Root i; of = t; val = v }
 
+-- the type of a root
 abbrev pub root_type : Option Root → ℕ
 root_type (Some r) = r.of
 root_type None = 0
@@ -86,51 +94,53 @@ abbrev pub standing_cell : Graph → Pending → ℕ → Standing
 standing_cell g p c = record { home = cell_home c; of = p.to; val = cell_at g c }
 
 -- the cells that stand already, each with the class of the pointer for which it was placed
-abbrev pub Standing_cells : Type 0
-Standing_cells = List (Class × ℕ)
+abbrev pub Placed_cells : Type 0
+Placed_cells = List (Class × ℕ)
 
-abbrev pub IsStanding : Standing_cells → ℕ → Type 0
-IsStanding [] c = ⊥
-IsStanding (d ∷ ds) c = (c ≡ d.1) ⊎ IsStanding ds c
+-- the cell is among those that stand
+abbrev pub IsPlaced : Placed_cells → ℕ → Type 0
+IsPlaced [] c = ⊥
+IsPlaced (d ∷ ds) c = (c ≡ d.1) ⊎ IsPlaced ds c
 
-abbrev pub IsStandingFull : Standing_cells → ℕ → Type 0
-IsStandingFull [] c = ⊥
-IsStandingFull (d ∷ ds) c = ((d.0 ≡ Full) × (c ≡ d.1)) ⊎ IsStandingFull ds c
+-- the cell is among those that stand, placed for a full pointer
+abbrev pub IsPlacedFull : Placed_cells → ℕ → Type 0
+IsPlacedFull [] c = ⊥
+IsPlacedFull (d ∷ ds) c = ((d.0 ≡ Full) × (c ≡ d.1)) ⊎ IsPlacedFull ds c
 
 -- a top-level reference pointer's cell
-abbrev pub root_cell : Home → Standing_cells
+abbrev pub root_cell : Home → Placed_cells
 root_cell (home.Root i) = []
 root_cell (home.Cell c) = (Ref, c.0) ∷ []
 
 -- none of the first stands among the second
-abbrev pub AreFree : Standing_cells → Standing_cells → Type 0
+abbrev pub AreFree : Placed_cells → Placed_cells → Type 0
 AreFree [] done = Unit {0}
-AreFree (d ∷ ds) done = ¬ IsStanding done d.1 × AreFree ds done
+AreFree (d ∷ ds) done = ¬ IsPlaced done d.1 × AreFree ds done
 
 -- The steps for what is due, in order, where some cells stand already. A value that stands makes the referents of its pointers
 -- due at once, before whatever waited: so referents stand left to right and depth first, each followed by its own. The referent
 -- of a full pointer stands at the first of its pointers in this order, whichever stands first in place; at the later ones nothing
--- stands again. No cell stands twice: a cell that stands is met again by full pointers alone, which is so in every graph whose
--- cells are shared by full pointers alone.
-pub data Deferral (w : Setting) (g : Graph) : Standing_cells → List Due → List Step → Type 0 where
-  none_due : {done : Standing_cells} → Deferral w g done [] []
-  at_root : {done : Standing_cells} {i : ℕ} {due : List Due} {steps : List Step}
+-- stands again. (Both are this project's choice.) No cell stands twice: a cell that stands is met again by full pointers alone,
+-- which is so in every graph whose cells are shared by full pointers alone.
+pub data Deferral (w : Setting) (g : Graph) : Placed_cells → List Due → List Step → Type 0 where
+  none_due : {done : Placed_cells} → Deferral w g done [] []
+  at_root : {done : Placed_cells} {i : ℕ} {due : List Due} {steps : List Step}
       → AreFree (root_cell (standing_root w g i).home) done
       → Deferral w g (root_cell (standing_root w g i).home ++ done) (due_of w.table (standing_root w g i) ++ due) steps
       → Deferral w g done (due_root i ∷ due) (root_stands i ∷ steps)
-  at_null : {done : Standing_cells} {p : Pending} {due : List Due} {steps : List Step}
+  at_null : {done : Placed_cells} {p : Pending} {due : List Due} {steps : List Step}
       → p.cell ≡ None
       → Deferral w g done due steps
       → Deferral w g done (due_referent p ∷ due) steps
-  at_standing : {done : Standing_cells} {p : Pending} {due : List Due} {steps : List Step} (c : ℕ)
+  at_standing : {done : Placed_cells} {p : Pending} {due : List Due} {steps : List Step} (c : ℕ)
       → p.cell ≡ Some c
       → p.class ≡ Full
-      → IsStandingFull done c
+      → IsPlacedFull done c
       → Deferral w g done due steps
       → Deferral w g done (due_referent p ∷ due) (stands_already p c ∷ steps)
-  at_referent : {done : Standing_cells} {p : Pending} {due : List Due} {steps : List Step} (c : ℕ)
+  at_referent : {done : Placed_cells} {p : Pending} {due : List Due} {steps : List Step} (c : ℕ)
       → p.cell ≡ Some c
-      → ¬ IsStanding done c
+      → ¬ IsPlaced done c
       → Deferral w g ((p.class, c) ∷ done) (due_of w.table (standing_cell g p c) ++ due) steps
       → Deferral w g done (due_referent p ∷ due) (referent_stands p c ∷ steps)
 

@@ -1,4 +1,5 @@
 -- What a fit is seen as: a graph that conforms to an operation's side, under an interface.
+-- `f` is a fitting, `i` an interface, `o` an operation, `s` a side.
 use Rattle.std.specs.Prelude.{◌≡◌, ℕ, List, Option, Some, None, refl}
 use Rattle.std.specs.List.{slice_get}
 use Rattle.std.specs.Coded.{Coded, code_by, coded×, coded_list, coded_ℕ}

@@ -1,4 +1,6 @@
 -- All nodes and all pointers of a graph: the roots first, then the cells, each home depth first.
+-- `w` is a setting, `g` a graph, `r` a root, `i` its index, `v` its value, `x` a cell or a node, `c` a cell's number, `h` a
+-- home.
 use Rattle.std.specs.Prelude.{ℕ, ◌+◌, List, [], ◌∷◌, ◌++◌, map}
 use Rattle.nd_types.specs.Table.{Table}
 use Rattle.nd_types.specs.Roots.{Root}
@@ -16,6 +18,7 @@ pub record HomeNode : Type 0 where
   pub home : Home
   pub typed : TypedNode
 
+-- a node of a home
 abbrev pub in_home : Home → TypedNode → HomeNode
 in_home h x = record { home = h; typed = x }
 
@@ -30,6 +33,7 @@ abbrev pub cell_nodes : Table → ℕ → List Referent → List HomeNode
 cell_nodes table c [] = []
 cell_nodes table c (x ∷ xs) = map (in_home (cell_home c)) (home_nodes table x.of x.val) ++ cell_nodes table (c + 1) xs
 
+-- all nodes of a graph, with the homes that they stand in
 abbrev pub all_nodes : Setting → Graph → List HomeNode
 all_nodes w g = root_nodes w g 0 (root_list w) g.roots ++ cell_nodes w.table 1 g.cells
 
@@ -43,5 +47,6 @@ abbrev pub cell_pointers : Table → ℕ → List Referent → List Pending
 cell_pointers table c [] = []
 cell_pointers table c (x ∷ xs) = home_pointers table (cell_home c) x.of x.val ++ cell_pointers table (c + 1) xs
 
+-- all pointers of a graph, null pointers too
 abbrev pub all_pointers : Setting → Graph → List Pending
 all_pointers w g = root_pointers w.table 0 (root_list w) g.roots ++ cell_pointers w.table 1 g.cells

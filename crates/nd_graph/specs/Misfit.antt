@@ -1,4 +1,6 @@
 -- What a node of a graph has to keep to by itself: the tests of one node, and its first misfit.
+-- `d` is a node's type, `l` its label, `ks` are its children, `g` is a graph, `x` a node, `c` a cell or its number, `z` a
+-- number, `v` a tag, `a` an arm.
 use Rattle.std.specs.Prelude.{ℕ, ◌+◌, ◌^◌, ℤ, Bool, true, false, not, ◌&&◌, ◌||◌, eqb, leb, ltb, List, [], ◌∷◌, length, Option, Some, None}
 use Rattle.std.specs.List.{list_all, list_any}
 use Rattle.nd_types.specs.declared.types.TypeDef.{TypeDef}
@@ -15,7 +17,8 @@ use Rattle.nd_graph.specs.Tree.{Trees, none, count, Label, Referent}
 use Rattle.nd_graph.specs.Setting.{cell_of_number}
 use Rattle.nd_graph.specs.Nodes.{child_types, TypedNode}
 
--- a union's arm is there exactly where the selected arm has a type
+-- Where the tag selects an arm, the union's value is there exactly if that arm has a type. (Where the tag selects none, what is
+-- there is not asked.)
 abbrev pub arm_fits : Option Arm → Trees → Bool
 arm_fits None ks = true
 arm_fits (Some a) ks = eqb (count ks) (length (arm_type a))
@@ -49,6 +52,7 @@ abbrev pub names_cell : Graph → Label → Bool
 names_cell g (tree.Ptr (Some c)) = not (eqb c 0) && leb c (length g.cells)
 names_cell g _ = true
 
+-- a cell, where it is there, is of this type
 abbrev pub has_type : Option Referent → ℕ → Bool
 has_type None t = true
 has_type (Some c) t = eqb c.of t
@@ -82,6 +86,7 @@ abbrev pub has_no_zero : Label → Bool
 has_no_zero (tree.Text max octets) = not (list_any (eqb 0) octets)
 has_no_zero _ = true
 
+-- an arm is selected
 abbrev pub selects : Option Arm → Bool
 selects None = false
 selects (Some a) = true
@@ -109,13 +114,15 @@ misfit_of table g x =
     (unless (has_no_zero x.label) misfit.Zero
     (unless (has_arm d x.label) misfit.NoArm None)))))))
 
+-- the label of a value that is not read
 abbrev pub is_unread : Label → Bool
 is_unread tree.Unread = true
 is_unread _ = false
 
--- What a node of a partial graph keeps to. One that is not read yet keeps to nothing. Any other has the form and the counts of
--- its type (offset and actual count may end past the maximum count), its numbers are in the range of their octets, and its
--- pointer names a cell of its referent's type.
+-- What a node of a partial graph keeps to. One that is unread keeps to nothing. Any other has the form and the counts of its type,
+-- its numbers are in the range of their octets, it is no reference pointer that is null, and a pointer that is not null names a
+-- cell of its referent's type. Allowed are an enumerated value that is no enumerator, an offset and an actual count that end past
+-- the maximum count, zero octets in a text, and a tag that selects no arm: then no value is there.
 abbrev pub is_partial_node : Table → Graph → TypedNode → Bool
 is_partial_node table g x =
     let d = type_at table x.of in
@@ -123,9 +130,11 @@ is_partial_node table g x =
     || has_shape d x.label x.kids && eqb (count x.kids) (length (child_types d x.label x.kids)) && has_range fits_octets table d x.label && is_no_null_ref d x.label
     && names_cell g x.label && names_pointee g d x.label && has_counts d x.label x.kids
 
+-- a number of 8 bits
 abbrev pub is_octet : ℕ → Bool
 is_octet b = ltb b 256
 
+-- a number of 32 bits
 abbrev pub is_count : ℕ → Bool
 is_count n = ltb n (2 ^ 32)
 

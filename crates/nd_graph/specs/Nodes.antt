@@ -1,4 +1,6 @@
 -- The nodes of a value: each with its number, its type, and the agreements that govern it.
+-- `t` is a type's number or a tree, `n` a node's number, `l` a node's label, `ks` are its children, `v` is a tag or a home's
+-- own value.
 use Rattle.std.specs.Prelude.{ℕ, ◌+◌, Bool, List, [], ◌∷◌, ◌++◌, Option, Some, None, replicate, map}
 use Rattle.nd_types.specs.declared.types.TypeDef.{TypeDef}
 use Rattle.nd_types.specs.declared.types.Arm.{Arm}
@@ -27,10 +29,12 @@ abbrev pub child_agreements : Option TypeDef → Trees → List (List Agreement)
 child_agreements (Some (def.Struct members)) ks = map (λ f. member_agreements ks f.vars) members
 child_agreements _ ks = []
 
+-- the agreements of the first of values; none where no agreements are given
 abbrev pub first_agreements : List (List Agreement) → List Agreement
 first_agreements [] = []
 first_agreements (a ∷ rest) = a
 
+-- the agreements of the others
 abbrev pub rest_agreements : List (List Agreement) → List (List Agreement)
 rest_agreements [] = []
 rest_agreements (a ∷ rest) = rest

@@ -1,4 +1,6 @@
 -- Values as trees: what a node says itself, and its children.
+-- `l` is a node's label, `ks` are its children, `t` and `u` trees, `ts` and `us` lists of them, `f` is a node as it stands in
+-- a flat list.
 use Rattle.std.specs.Prelude.{◌≡◌, ℕ, ◌+◌, ℤ, Bool, true, false, List, [], ◌∷◌, ◌++◌, Option, None, refl, length}
 use Rattle.std.proofs.Common.{ap, ap₂, zero, suc, ◌∙◌, sym, append_assoc}
 use Rattle.std.proofs.lemmas.List.{append-nil}
@@ -37,10 +39,12 @@ abbrev pub nodes : Trees → ℕ
 nodes none = 0
 nodes (more (node l ks) ts) = suc (nodes ks + nodes ts)
 
+-- a list of trees as `Trees`
 abbrev pub trees : List Tree → Trees
 trees [] = none
 trees (t ∷ ts) = more t (trees ts)
 
+-- and back
 abbrev pub items : Trees → List Tree
 items none = []
 items (more t ts) = t ∷ items ts
@@ -70,6 +74,7 @@ abbrev pub unflat : List Flat → Trees
 unflat [] = none
 unflat (f ∷ fs) = more (node f.0 (take_trees f.1 (unflat fs))) (drop_trees f.1 (unflat fs))
 
+-- the trees of two lists, one list behind the other
 abbrev pub joined : Trees → Trees → Trees
 joined none us = us
 joined (more t ts) us = more t (joined ts us)
@@ -147,6 +152,7 @@ label_code =
     (coded⊎ coded_ℤ (coded⊎ coded_unit (coded⊎ (coded× coded_ℕ coded_ℕ) (coded⊎ (coded× coded_ℕ (coded_list coded_ℕ)) (coded⊎ coded_ℤ (coded⊎ (coded_option coded_ℕ) (coded⊎ (coded× coded_ℕ (coded_list coded_ℕ)) (coded⊎ coded_unit coded_unit))))))))
     split join join-split
 
+-- the first of trees
 abbrev head_tree : Trees → Tree
 head_tree none = node Unread none
 head_tree (more t ts) = t
@@ -156,6 +162,7 @@ tree_code =
     code_by (List Flat) (coded_list (coded× label_code coded_ℕ)) (λ t. flat (more t none)) (λ fs. head_tree (unflat fs))
     (λ t. ap head_tree (unflat-of (more t none)))
 
+-- how many nodes there are in a list of trees
 abbrev pub weight : List Tree → ℕ
 weight ts = nodes (trees ts)
 
@@ -167,10 +174,12 @@ pub record Referent : Type 0 where
 abbrev pub referent_code : Coded Referent
 referent_code = code_by (ℕ × Tree) (coded× coded_ℕ tree_code) (λ c. (c.of, c.val)) (λ p. record { of = p.0; val = p.1 }) (λ _. refl)
 
+-- the label of a pointer
 abbrev pub is_pointer : Label → Bool
 is_pointer (Ptr c) = true
 is_pointer l = false
 
+-- the cell that a pointer names; a null pointer names none
 abbrev pub cell_in : Label → Option ℕ
 cell_in (Ptr c) = c
 cell_in l = None

@@ -1,4 +1,6 @@
 -- The agreements of parameters: the values of the variables that their attributes name.
+-- `w` is a setting, `g` a graph, `q` the graph of a request, `r` a root, `i` its place among the roots, `j` and `k` are
+-- indices of parameters, `a` is an attribute with its variable.
 use Rattle.std.specs.Prelude.{ℕ, ◌+◌, ℤ, Bool, true, false, eqb, List, [], ◌∷◌, ◌++◌, Option, Some, None}
 use Rattle.nd_types.specs.declared.types.AttrVar.{AttrVar}
 use Rattle.nd_types.specs.declared.types.Side.TheVariants as side

@@ -98,14 +98,14 @@ impl ArmVal {
         ArmVal { val: None }
     }
 
-    /// The value of the arm. Takes no memory but the box's own.
+    /// The value of the arm. Takes no memory: the box is the caller's.
     pub fn of(val: Box<Val>) -> ArmVal
         ensures { result ≡ tree_of val.value ∷ [] }
     {
         ArmVal { val: Some(val) }
     }
 
-    /// The value, where the arm has a type.
+    /// The value, where the arm has a type. Takes no memory.
     pub fn get(&self) -> Option<&Val>
         ensures some { IfSome result (λ v. self.now ≡ tree_of v.now ∷ []) }
         ensures none { IfNone result (self.now ≡ []) }
@@ -127,7 +127,7 @@ impl Vals {
         }
     }
 
-    /// Appends a value. Where memory is wanting the value is handed back, and nothing has changed.
+    /// Appends a value, which may take memory. Where that is wanting the value is handed back, and nothing has changed.
     pub fn push(&mut self, val: Val) -> Result<(), (Memory, Val)>
         ensures ok { OnOk result (self.new ≡ self.old ++ tree_of val ∷ []) }
         ensures err { OnErr result (self.new ≡ self.old) }
@@ -139,14 +139,14 @@ impl Vals {
         }
     }
 
-    /// The number of values.
+    /// The number of values. Takes no memory.
     pub fn len(&self) -> usize
         ensures { result ≡ length self.now }
     {
         self.items.len()
     }
 
-    /// The value at a place, from 0, or None past the last.
+    /// The value at a place, from 0, or None past the last. Takes no memory.
     pub fn get(&self, at: usize) -> Option<&Val>
         ensures some { IfSome result (λ v. slice_get self.now at ≡ Some (tree_of v.now)) }
         ensures none { IfNone result (slice_get self.now at ≡ None) }
@@ -192,7 +192,7 @@ impl Cells {
         }
     }
 
-    /// Appends a cell. Where memory is wanting the cell is handed back, and nothing has changed.
+    /// Appends a cell, which may take memory. Where that is wanting the cell is handed back, and nothing has changed.
     pub fn push(&mut self, cell: Cell) -> Result<(), (Memory, Cell)>
         ensures ok { OnOk result (self.new ≡ self.old ++ cell_of cell ∷ []) }
         ensures err { OnErr result (self.new ≡ self.old) }
@@ -204,14 +204,15 @@ impl Cells {
         }
     }
 
-    /// The number of cells.
+    /// The number of cells. Takes no memory.
     pub fn len(&self) -> usize
         ensures { result ≡ length self.now }
     {
         self.items.len()
     }
 
-    /// The cell at a place, from 0, or None past the last. The cell of number `n` is at `n - 1`.
+    /// The cell at a place, from 0, or None past the last. The cell of number `n` is at `n - 1`. It takes
+    /// no memory.
     pub fn get(&self, at: usize) -> Option<&Cell>
         ensures some { IfSome result (λ c. slice_get self.now at ≡ Some (cell_of c.now)) }
         ensures none { IfNone result (slice_get self.now at ≡ None) }

@@ -21,38 +21,38 @@ use Rattle.nd_types.specs.Layout.{hoists}
 use Rattle.nd_types.specs.Kinds.{basic_types}
 use Rattle.nd_types.specs.Legal.{IsLegal, is_shallow, element_count, fits_pipes}
 
-abbrev id : ℕ → TypeId
+abbrev pub id : ℕ → TypeId
 id t = record { 0 = t }
 
 -- a field of this type, with these attributes
-abbrev field : ℕ → List AttrVar → Field
+abbrev pub field : ℕ → List AttrVar → Field
 field t vars = record { name = 97 ∷ []; of = id t; vars = vars }
 
 -- an attribute with the variable at this index, and one with a star
-abbrev by : Attr → ℕ → AttrVar
+abbrev pub by : Attr → ℕ → AttrVar
 by attr n = record { attr = attr; var = n; star = false }
 
-abbrev by_star : Attr → ℕ → AttrVar
+abbrev pub by_star : Attr → ℕ → AttrVar
 by_star attr n = record { attr = attr; var = n; star = true }
 
-abbrev param : Way → ℕ → List AttrVar → Param
+abbrev pub param : Way → ℕ → List AttrVar → Param
 param way t vars = record { field = field t vars; way = way }
 
-abbrev operation : List Param → Option TypeId → Operation
+abbrev pub operation : List Param → Option TypeId → Operation
 operation params result = record { name = 102 ∷ []; params = params; result = result }
 
 -- an operation of one parameter
-abbrev taking : Way → ℕ → List AttrVar → List Operation
+abbrev pub taking : Way → ℕ → List AttrVar → List Operation
 taking way t vars = operation (param way t vars ∷ []) None ∷ []
 
-abbrev arm : ℤ → Option TypeId → Arm
+abbrev pub arm : ℤ → Option TypeId → Arm
 arm label of = record { label = label; name = None; of = of }
 
-abbrev with : List TypeDef → Table
+abbrev pub with : List TypeDef → Table
 with types = basic_types ++ types
 
 -- A struct that ends with a conformant array, by a reference pointer.
-abbrev sums : Table
+abbrev pub sums : Table
 sums = with (Struct (field 5 [] ∷ field 13 (by Size 0 ∷ []) ∷ []) ∷ Array (id 9) None false ∷ Pointer Ref (id 12) ∷ [])
 
 pub sums_are_legal : IsLegal sums (taking way.In 14 [])
@@ -104,13 +104,13 @@ sums_are_legal = record {
 }
 
 -- A directory: an enumerated type, a union, texts and pointers.
-abbrev directory : Table
+abbrev pub directory : Table
 directory =
     with (Enum (pos 0 ∷ pos 4 ∷ []) ∷ Union (id 12) false (arm (pos 0) (Some (id 8)) ∷ arm (pos 4) None ∷ []) None
     ∷ Struct (field 12 [] ∷ field 13 (by Switch 0 ∷ []) ∷ field 15 [] ∷ field 16 [] ∷ field 17 [] ∷ []) ∷ Text (id 1) (Some 16)
     ∷ Pointer Full (id 14) ∷ Pointer Unique (id 14) ∷ Text (id 1) None ∷ Pointer Ref (id 18) ∷ Pointer Ref (id 14) ∷ Array (id 2) None false ∷ [])
 
-abbrev directory_operations : List Operation
+abbrev pub directory_operations : List Operation
 directory_operations =
     operation (param way.In 19 [] ∷ param way.Out 20 [] ∷ []) (Some (id 8))
     ∷ operation (param way.In HANDLE.0 [] ∷ param way.In 17 [] ∷ param way.In 8 [] ∷ param way.In 21 (by Size 2 ∷ []) ∷ []) None ∷ []
@@ -164,13 +164,13 @@ directory_is_legal = record {
 }
 
 -- Pipes, context handles, arrays of two dimensions, varying arrays, attributes with stars and an encapsulated union with a default.
-abbrev others : Table
+abbrev pub others : Table
 others =
     with (Pipe (id 13) ∷ Struct (field 14 [] ∷ field 16 [] ∷ []) ∷ Array (id 15) (Some 2) false ∷ Array (id 5) (Some 3) false
     ∷ Union (id 0) true (arm (pos 1) (Some (id 7)) ∷ []) (Some (arm (pos 0) None)) ∷ Pointer Ref (id 12) ∷ Pointer Ref (id 11)
     ∷ Pointer Ref (id 7) ∷ Array (id 7) None true ∷ Pointer Full (id 20) ∷ Array (id 7) (Some 9) true ∷ [])
 
-abbrev others_operations : List Operation
+abbrev pub others_operations : List Operation
 others_operations =
     operation (param way.In 12 [] ∷ param way.InOut 17 [] ∷ param way.In 11 [] ∷ param way.Out 18 [] ∷ []) None
     ∷ operation (param way.InOut 19 [] ∷ param way.In 7 [] ∷ param way.In 20 (by_star Size 0 ∷ by First 1 ∷ by Length 1 ∷ [])

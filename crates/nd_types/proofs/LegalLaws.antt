@@ -1,5 +1,5 @@
 -- What the facts of a legal interface say of one type, one operation and one basic type.
-use Rattle.std.proofs.Common.{arith, ◌≡◌, ℕ, zero, suc, ◌+◌, Bool, true, false, ◌&&◌, List, [], ◌∷◌, length, take, Option, Some, None, refl, ap, sym, ◌∙◌}
+use Rattle.std.proofs.Common.{arith, ◌≡◌, ℕ, zero, suc, Bool, true, List, [], ◌∷◌, length, take, Some, refl, ap, sym, ◌∙◌}
 use Rattle.std.specs.Prelude.{slice_get}
 use Rattle.std.specs.List.{list_all}
 use Rattle.std.proofs.lemmas.Option.{same_Some}
@@ -11,7 +11,7 @@ use Rattle.nd_types.specs.declared.types.TypeDef.{TypeDef}
 use Rattle.nd_types.specs.declared.types.TypeDef.TheVariants as def
 use Rattle.nd_types.specs.declared.types.Operation.{Operation}
 use Rattle.nd_types.specs.Table.{Table, type_at}
-use Rattle.nd_types.specs.Kinds.{prim_number, context_number, basic_types, basic_number, is_same_basic}
+use Rattle.nd_types.specs.Kinds.{prim_number, context_number, basic_types, is_same_basic}
 use Rattle.nd_types.specs.Legal.{IsLegal}
 use Rattle.nd_types.proofs.LayoutLaws.{left_true, right_true}
 

@@ -18,7 +18,7 @@ use Rattle.nd_types.specs.declared.types.Field.{Field}
 use Rattle.nd_types.specs.Table.{Table, type_at}
 use Rattle.nd_types.specs.Kinds.{basic_types, is_nonencapsulated, pointee_by}
 use Rattle.nd_types.specs.Layout.{hoists}
-use Rattle.nd_types.specs.Fields.{Placed, placed, all_fields, param_fields}
+use Rattle.nd_types.specs.Fields.{FieldAt, fields_at, all_fields, param_fields}
 use Rattle.nd_types.specs.Legal.{is_shallow, element_count, fits_pipes, IsLegal, is_handle, all_params, is_in_table, is_switched, result_passes, is_result_type}
 use Rattle.nd_types.specs.Roots.{roots_of, params_from, pipe_of, pipe_by, root_of, root_by, travels}
 use Rattle.nd_types.specs.Plain.{IsPlainParam, IsPlainOperation, IsPlainInterface, plain_roots, is_plain_type}
@@ -35,21 +35,21 @@ list_all_of P test passes [] h = refl
 list_all_of P test passes (x ∷ xs) h = both_true (passes x (all_head P x xs h)) (list_all_of P test passes xs (all_tail P x xs h))
 
 -- what passes at each plain parameter passes at all fields
-abbrev PassesPlain : (Placed → Bool) → Type 0
+abbrev PassesPlain : (FieldAt → Bool) → Type 0
 PassesPlain test =
     (siblings : List Field) (i : ℕ) (p : Param) → IsPlainParam p → test (record { siblings = siblings; index = i; is_param = true; field = p.field }) ≡ true
 
-placed_pass : (test : Placed → Bool) → PassesPlain test → (siblings : List Field) (i : ℕ) (ps : List Param) → All IsPlainParam ps
+fields_at_pass : (test : FieldAt → Bool) → PassesPlain test → (siblings : List Field) (i : ℕ) (ps : List Param) → All IsPlainParam ps
     → list_all test (map (λ e. record { siblings = siblings; index = e.0; is_param = true; field = e.1 }) (enumerate_from i (map (λ p. p.field) ps))) ≡ true
-placed_pass test passes siblings i [] h = refl
-placed_pass test passes siblings i (p ∷ ps) h =
-    both_true (passes siblings i p (all_head IsPlainParam p ps h)) (placed_pass test passes siblings (i + 1) ps (all_tail IsPlainParam p ps h))
+fields_at_pass test passes siblings i [] h = refl
+fields_at_pass test passes siblings i (p ∷ ps) h =
+    both_true (passes siblings i p (all_head IsPlainParam p ps h)) (fields_at_pass test passes siblings (i + 1) ps (all_tail IsPlainParam p ps h))
 
-fields_pass : (test : Placed → Bool) → PassesPlain test → (operations : List Operation) → All IsPlainOperation operations
+fields_pass : (test : FieldAt → Bool) → PassesPlain test → (operations : List Operation) → All IsPlainOperation operations
     → all_fields test basic_types operations ≡ true
 fields_pass test passes operations h =
-    list_all_of IsPlainOperation (λ o. list_all test (placed true (param_fields o)))
-    (λ o plain. placed_pass test passes (param_fields o) 0 o.params plain.params) operations h
+    list_all_of IsPlainOperation (λ o. list_all test (fields_at true (param_fields o)))
+    (λ o plain. fields_at_pass test passes (param_fields o) 0 o.params plain.params) operations h
 
 params_pass : (test : Param → Bool) → ((p : Param) → IsPlainParam p → test p ≡ true) → (operations : List Operation) → All IsPlainOperation operations
     → all_params test operations ≡ true

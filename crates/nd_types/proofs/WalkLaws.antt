@@ -1,6 +1,6 @@
 -- What is left of a walk over the roots of a side, one parameter further.
-use Rattle.std.proofs.Common.{◌≡◌, ℕ, zero, suc, ◌+◌, ◌<◌, ◌≤◌, Bool, true, false, not, ◌&&◌, List, [], ◌∷◌, ◌++◌, length, drop, get_or, Option, Some, None, refl, ap, sym, ◌∙◌, subst, arith, map, append_assoc, cond, if◌then◌else◌, add-one}
-use Rattle.std.specs.Prelude.{filter, slice_get, ◌==◌}
+use Rattle.std.proofs.Common.{◌≡◌, ℕ, suc, ◌+◌, ◌<◌, ◌≤◌, Bool, true, false, not, ◌&&◌, List, [], ◌∷◌, ◌++◌, length, drop, get_or, Option, Some, None, refl, ap, sym, ◌∙◌, map, append_assoc, cond, if◌then◌else◌, add-one}
+use Rattle.std.specs.Prelude.{filter, ◌==◌}
 use mathlib.Core.Bool.{beq}
 use Rattle.std.proofs.Math.Seq.{drop-cons}
 use Rattle.std.proofs.lemmas.Option.{slice_get-get_or}
@@ -10,7 +10,7 @@ use Rattle.nd_types.specs.declared.types.Operation.{Operation}
 use Rattle.nd_types.specs.declared.types.Side.{Side}
 use Rattle.nd_types.specs.declared.TheConstants.{HANDLE}
 use Rattle.nd_types.specs.Table.{Table}
-use Rattle.nd_types.specs.Roots.{Root, roots_of, root_of, root_by, pipe_of, params_from, result_root, travels}
+use Rattle.nd_types.specs.Roots.{Root, roots_of, root_of, root_by, pipe_of, params_from, travels}
 use Rattle.nd_types.specs.Walk.{NamedRoot, named_root, named_roots, with_name, root_name, param_name, param_root, is_kind, params_left, result_left}
 
 -- a root before others, where it is of this kind

@@ -1,4 +1,6 @@
 -- The members of structs and the parameters of operations with their attributes.
+-- `f` is a field, `p` a field where it stands or a parameter, `v` an attribute with its variable, `d` a type, `o` an
+-- operation.
 use Rattle.std.specs.Prelude.{ℕ, Bool, true, false, not, ◌==◌, ◌&&◌, ◌||◌, nat_lt, List, [], ◌∷◌, Option, Some, None, map, slice_get}
 use Rattle.std.specs.List.{list_all, list_any, enumerate_from}
 use Rattle.nd_types.specs.declared.types.TypeDef.{TypeDef}
@@ -12,28 +14,30 @@ use Rattle.nd_types.specs.Table.{Table, type_at}
 use Rattle.nd_types.specs.Kinds.{pointee, referent_type}
 
 -- a field where it stands: in which list, at which index, and whether the list is that of an operation's parameters
-pub record Placed : Type 0 where
+pub record FieldAt : Type 0 where
   pub siblings : List Field
   pub index : ℕ
   pub is_param : Bool
   pub field : Field
 
 -- the fields of a list
-abbrev pub placed : Bool → List Field → List Placed
-placed is_param fields = map (λ e. record { siblings = fields; index = e.0; is_param = is_param; field = e.1 }) (enumerate_from 0 fields)
+abbrev pub fields_at : Bool → List Field → List FieldAt
+fields_at is_param fields = map (λ e. record { siblings = fields; index = e.0; is_param = is_param; field = e.1 }) (enumerate_from 0 fields)
 
+-- the members of a struct; other types have none
 abbrev pub members_of : TypeDef → List Field
 members_of (Struct members) = members
 members_of _ = []
 
+-- the fields of an operation's parameters
 abbrev pub param_fields : Operation → List Field
 param_fields o = map (λ p. p.field) o.params
 
 -- each member of a struct and each parameter passes the test
-abbrev pub all_fields : (Placed → Bool) → Table → List Operation → Bool
+abbrev pub all_fields : (FieldAt → Bool) → Table → List Operation → Bool
 all_fields test types operations =
-    list_all (λ d. list_all test (placed false (members_of d))) types
-    && list_all (λ o. list_all test (placed true (param_fields o))) operations
+    list_all (λ d. list_all test (fields_at false (members_of d))) types
+    && list_all (λ o. list_all test (fields_at true (param_fields o))) operations
 
 -- the place of an attribute in the order of checks
 abbrev pub attr_rank : Attr → ℕ
@@ -72,9 +76,10 @@ variable_by table is_param false (Some f) = type_at table f.of.0
 variable_by table true true (Some f) = referent_type table f.of.0
 variable_by table _ _ _ = None
 
-abbrev pub variable_type : Table → Placed → AttrVar → Option TypeDef
+-- the type of the variable of a field's attribute
+abbrev pub variable_type : Table → FieldAt → AttrVar → Option TypeDef
 variable_type table p v = variable_by table p.is_param v.star (slice_get p.siblings v.var)
 
 -- each variable of the attributes at which the first test passes has a type at which the second does
-abbrev pub all_variables : (Attr → Bool) → (Option TypeDef → Bool) → Table → Placed → Bool
+abbrev pub all_variables : (Attr → Bool) → (Option TypeDef → Bool) → Table → FieldAt → Bool
 all_variables is_meant test table p = list_all (λ v. not (is_meant v.attr) || test (variable_type table p v)) p.field.vars

@@ -1,4 +1,5 @@
 -- Kinds of types: tests of what a type number stands for.
+-- `t` is a type's number, `c` and `d` are types, `p` is a primitive.
 use Rattle.std.specs.Prelude.{ℕ, Bool, true, false, not, ◌==◌, ◌&&◌, [], ◌∷◌, Option, Some, None, is_none}
 use Rattle.nd_types.specs.declared.types.TypeDef.{TypeDef}
 use Rattle.nd_types.specs.declared.types.Primitive.{Primitive}
@@ -37,9 +38,11 @@ basic_number (Prim p) = Some (prim_number p)
 basic_number Context = Some context_number
 basic_number _ = None
 
+-- a type that is one of these
 abbrev pub is_basic : TypeDef → Bool
 is_basic d = not (is_none (basic_number d))
 
+-- two numbers are there and equal
 abbrev same_number : Option ℕ → Option ℕ → Bool
 same_number (Some m) (Some n) = m == n
 same_number _ _ = false
@@ -123,6 +126,7 @@ abbrev pub pointee_by : ℕ → Option TypeDef → ℕ
 pointee_by t (Some (Pointer class to)) = to.0
 pointee_by t _ = t
 
+-- the pointee of a type by its number
 abbrev pub pointee : Table → ℕ → ℕ
 pointee table t = pointee_by t (type_at table t)
 
@@ -131,5 +135,6 @@ abbrev pub reference_by : Table → Option TypeDef → Option TypeDef
 reference_by table (Some (Pointer Ref to)) = type_at table to.0
 reference_by table _ = None
 
+-- the same by the number of the reference pointer
 abbrev pub referent_type : Table → ℕ → Option TypeDef
 referent_type table t = reference_by table (type_at table t)

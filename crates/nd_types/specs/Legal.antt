@@ -1,4 +1,6 @@
 -- What makes an interface legal: facts about its table of types and its operations.
+-- `d` is a type, `t` a type's number, `f` a field, `p` a parameter or a field where it stands, `v` an attribute with its
+-- variable, `o` an operation, `a` an arm, `z` a whole number.
 use Rattle.std.specs.Prelude.{◌≡◌, ℕ, suc, zero, ◌+◌, ◌*◌, ◌≤◌, ℤ, pos, int_le, Bool, true, false, not, ◌==◌, ◌&&◌, ◌||◌, nat_lt, nat_le, List, [], ◌∷◌, ◌++◌, Option, Some, None, map, length, drop, sum_by}
 use Rattle.std.specs.Ordering.{int_eq}
 use Rattle.std.specs.List.{list_all, list_any, starts_with, enumerate_from}
@@ -17,7 +19,7 @@ use Rattle.nd_types.specs.declared.TheConstants.{HANDLE, NESTING_LIMIT, ELEMENT_
 use Rattle.nd_types.specs.Table.{Table, type_at, is_value}
 use Rattle.nd_types.specs.Layout.{parts, nests, hoists}
 use Rattle.nd_types.specs.Kinds.{basic_types, is_basic, is_same_basic, is_integer, is_switch_type, is_array, is_text, is_pipe, is_context, is_pointer, is_reference, is_varying_array, is_conformant_array, is_conformant_text, is_fixed_array, is_nonencapsulated, pointee, referent_type}
-use Rattle.nd_types.specs.Fields.{Placed, members_of, all_fields, are_ordered, has_attr, has_size, has_range_attr, subject_type, all_variables}
+use Rattle.nd_types.specs.Fields.{FieldAt, members_of, all_fields, are_ordered, has_attr, has_size, has_range_attr, subject_type, all_variables}
 
 -- the numbers of the types of a table
 abbrev pub type_numbers : Table → List ℕ
@@ -188,7 +190,7 @@ part_count (Union tag encapsulated arms (Some a)) = length arms + 1
 part_count _ = 0
 
 -- an attribute's variable is another of the same list
-abbrev pub has_other_variables : Placed → Bool
+abbrev pub has_other_variables : FieldAt → Bool
 has_other_variables p = list_all (λ v. nat_lt v.var (length p.siblings) && not (v.var == p.index)) p.field.vars
 
 abbrev pub is_switch_attr : Attr → Bool

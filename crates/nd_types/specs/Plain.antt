@@ -1,4 +1,5 @@
 -- Plain interfaces: no types of their own, and operations that take signed integers alone and give nothing back.
+-- `p` is a primitive or a parameter, `o` an operation, `i` a parameter's index.
 use Rattle.std.specs.Prelude.{◌≡◌, ◌≢◌, ℕ, ◌+◌, ◌≤◌, Bool, true, false, List, [], ◌∷◌, Option, Some, None, length, All, AllPairs}
 use Rattle.nd_types.specs.declared.types.TypeDef.{TypeDef}
 use Rattle.nd_types.specs.declared.types.TypeDef.TheVariants.{Prim}
@@ -20,6 +21,7 @@ is_plain_prim Long = true
 is_plain_prim Hyper = true
 is_plain_prim _ = false
 
+-- a type that is one of these
 abbrev pub is_plain_type : Option TypeDef → Bool
 is_plain_type (Some (Prim p)) = is_plain_prim p
 is_plain_type _ = false

@@ -1,4 +1,5 @@
--- A table of types: what a type number stands for, and the values of primitives.
+-- A table of types: what a type number stands for, and the values of primitives (C706 14.2).
+-- `t` is a type's number, `p` a primitive, `z` a whole number, `vs` the values of an enumerated type, `a` an arm.
 use Rattle.std.specs.Prelude.{ℕ, ◌-◌, ◌^◌, ℤ, pos, Bool, true, false, ◌&&◌, List, [], ◌∷◌, Option, Some, None, int_le, negsuc}
 use Rattle.std.specs.Ordering.{int_eq}
 use Rattle.std.specs.List.{slice_get, list_any}
@@ -30,6 +31,7 @@ width UnsignedLong = 4
 width Hyper = 8
 width UnsignedHyper = 8
 
+-- whether a primitive has negative values
 abbrev pub is_signed : prims.Primitive → Bool
 is_signed Small = true
 is_signed Short = true
@@ -37,7 +39,7 @@ is_signed Long = true
 is_signed Hyper = true
 is_signed _ = false
 
--- the least and the greatest value
+-- the least and the greatest value, in two's complement where it is signed
 abbrev pub least : prims.Primitive → ℤ
 least Small = negsuc (2 ^ 7 - 1)
 least Short = negsuc (2 ^ 15 - 1)
@@ -58,6 +60,7 @@ greatest UnsignedLong = pos (2 ^ 32 - 1)
 greatest Hyper = pos (2 ^ 63 - 1)
 greatest UnsignedHyper = pos (2 ^ 64 - 1)
 
+-- a number is one that a primitive can hold
 abbrev pub in_range : prims.Primitive → ℤ → Bool
 in_range p z = int_le (least p) z && int_le z (greatest p)
 
@@ -73,7 +76,7 @@ is_value (Some (def.Prim p)) z = in_range p z
 is_value (Some (def.Enum vs)) z = list_any (int_eq z) vs
 is_value _ z = false
 
--- whether a number can stand in the octets of one
+-- whether the octets of a primitive or of an enumerated type can hold a number
 abbrev pub fits_octets : Option TypeDef → ℤ → Bool
 fits_octets (Some (def.Prim p)) z = in_range p z
 fits_octets (Some (def.Enum vs)) z = in_range Short z
@@ -84,10 +87,11 @@ abbrev pub labelled : List Arm → ℤ → Option Arm
 labelled [] tag = None
 labelled (a ∷ more) tag = elim (int_eq a.label tag) [ true ↦ Some a | false ↦ labelled more tag ]
 
+-- the first, if there is one, else the second
 abbrev pub or_else : Option Arm → Option Arm → Option Arm
 or_else (Some a) b = Some a
 or_else None b = b
 
--- the arm that a tag selects
+-- the arm that a tag selects: the one with that label, or the default, if any
 abbrev pub selected : List Arm → Option Arm → ℤ → Option Arm
 selected arms default tag = or_else (labelled arms tag) default

@@ -1,5 +1,6 @@
 -- The roots of an operation's side with their names, and what is left of a walk over them.
-use Rattle.std.specs.Prelude.{ℕ, ◌+◌, Bool, true, false, not, List, [], ◌∷◌, ◌++◌, Option, Some, None, map, filter, drop, codes, slice_get, ◌&&◌, ◌==◌, if◌then◌else◌}
+-- `o` is an operation, `p` a parameter, `i` its index, `r` a root, `d` a root as the program gives it.
+use Rattle.std.specs.Prelude.{ℕ, Bool, true, false, not, List, [], ◌++◌, Option, Some, None, map, filter, drop, codes, slice_get, ◌&&◌, ◌==◌, if◌then◌else◌}
 use Rattle.nd_types.specs.declared.TheConstants.{HANDLE}
 use Rattle.nd_types.specs.declared.types.Param.{Param}
 use Rattle.nd_types.specs.declared.types.Operation.{Operation}
@@ -17,17 +18,21 @@ pub record NamedRoot : Type 0 where
   pub param : Option ℕ
   pub is_pipe : Bool
 
+-- the name of a parameter, where it is there
 abbrev pub param_name : Option Param → List ℕ
 param_name (Some p) = p.field.name
 param_name None = []
 
+-- the name of the root that a parameter is; of the result `return`
 abbrev pub root_name : Operation → Option ℕ → List ℕ
 root_name o (Some i) = param_name (slice_get o.params i)
 root_name o None = codes "return"
 
+-- a root with this name
 abbrev pub with_name : List ℕ → Root → NamedRoot
 with_name name r = record { name = name; of = r.of; param = r.param; is_pipe = r.is_pipe }
 
+-- a root with its own name
 abbrev pub named_root : Operation → Root → NamedRoot
 named_root o r = with_name (root_name o r.param) r
 
@@ -53,6 +58,7 @@ param_root types side i p =
 abbrev pub params_left : Table → Side → Operation → Bool → ℕ → List NamedRoot
 params_left types side o pipes i = map (named_root o) (filter (is_kind pipes) (params_from types side i (drop i o.params)))
 
+-- the result, where it travels on this side
 abbrev pub result_left : Side → Operation → List NamedRoot
 result_left side o = map (named_root o) (result_root side o.result)
 

@@ -8,12 +8,17 @@ use nd_base::Name;
 /// keep every rule of the language that can be read off them.
 #[derive(Drop)]
 pub struct Interface {
+    /// The name that stands behind `interface`.
     pub name: Name,
+    /// The UUID, where one is written: the number whose most significant octet is written first.
     pub uuid: Option<u128>,
+    /// The major number of the version; 0 where no version is written.
     pub major: u16,
+    /// The minor number of the version; 0 where none is written.
     pub minor: u16,
     /// The types by number. The first twelve are the primitives, in the order of `Primitive`, and the context handle.
     pub types: Types,
+    /// The operations in the order of the file. An operation's number is its place here, from 0.
     pub operations: Operations,
     pub ghost legal: { IsLegal types operations },
 }

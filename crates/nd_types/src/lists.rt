@@ -30,7 +30,7 @@ impl Numbers {
         }
     }
 
-    /// Appends an item. Where memory is wanting the item is handed back, and nothing has changed.
+    /// Appends an item, which may take memory. Where that is wanting the item is handed back, and nothing has changed.
     pub fn push(&mut self, item: i128) -> Result<(), (Memory, i128)>
         ensures ok { OnOk result (self.new ≡ self.old ++ item ∷ []) }
         ensures err { OnErr result (self.new ≡ self.old) }
@@ -42,14 +42,14 @@ impl Numbers {
         }
     }
 
-    /// The number of items.
+    /// The number of items. Takes no memory.
     pub fn len(&self) -> usize
         ensures { result ≡ length self.now }
     {
         self.items.len()
     }
 
-    /// The item at a place, from 0, or None past the last.
+    /// The item at a place, from 0, or None past the last. Takes no memory.
     pub fn get(&self, at: usize) -> Option<&i128>
         ensures some { IfSome result (λ item. slice_get self.now at ≡ Some item.now) }
         ensures none { IfNone result (slice_get self.now at ≡ None) }
@@ -83,7 +83,7 @@ impl AttrVars {
         }
     }
 
-    /// Appends an item. Where memory is wanting the item is handed back, and nothing has changed.
+    /// Appends an item, which may take memory. Where that is wanting the item is handed back, and nothing has changed.
     pub fn push(&mut self, item: AttrVar) -> Result<(), (Memory, AttrVar)>
         ensures ok { OnOk result (self.new ≡ self.old ++ item ∷ []) }
         ensures err { OnErr result (self.new ≡ self.old) }
@@ -95,14 +95,14 @@ impl AttrVars {
         }
     }
 
-    /// The number of items.
+    /// The number of items. Takes no memory.
     pub fn len(&self) -> usize
         ensures { result ≡ length self.now }
     {
         self.items.len()
     }
 
-    /// The item at a place, from 0, or None past the last.
+    /// The item at a place, from 0, or None past the last. Takes no memory.
     pub fn get(&self, at: usize) -> Option<&AttrVar>
         ensures some { IfSome result (λ item. slice_get self.now at ≡ Some item.now) }
         ensures none { IfNone result (slice_get self.now at ≡ None) }
@@ -136,7 +136,7 @@ impl Fields {
         }
     }
 
-    /// Appends an item. Where memory is wanting the item is handed back, and nothing has changed.
+    /// Appends an item, which may take memory. Where that is wanting the item is handed back, and nothing has changed.
     pub fn push(&mut self, item: Field) -> Result<(), (Memory, Field)>
         ensures ok { OnOk result (self.new ≡ self.old ++ item ∷ []) }
         ensures err { OnErr result (self.new ≡ self.old) }
@@ -148,14 +148,14 @@ impl Fields {
         }
     }
 
-    /// The number of items.
+    /// The number of items. Takes no memory.
     pub fn len(&self) -> usize
         ensures { result ≡ length self.now }
     {
         self.items.len()
     }
 
-    /// The item at a place, from 0, or None past the last.
+    /// The item at a place, from 0, or None past the last. Takes no memory.
     pub fn get(&self, at: usize) -> Option<&Field>
         ensures some { IfSome result (λ item. slice_get self.now at ≡ Some item.now) }
         ensures none { IfNone result (slice_get self.now at ≡ None) }
@@ -189,7 +189,7 @@ impl Arms {
         }
     }
 
-    /// Appends an item. Where memory is wanting the item is handed back, and nothing has changed.
+    /// Appends an item, which may take memory. Where that is wanting the item is handed back, and nothing has changed.
     pub fn push(&mut self, item: Arm) -> Result<(), (Memory, Arm)>
         ensures ok { OnOk result (self.new ≡ self.old ++ item ∷ []) }
         ensures err { OnErr result (self.new ≡ self.old) }
@@ -201,14 +201,14 @@ impl Arms {
         }
     }
 
-    /// The number of items.
+    /// The number of items. Takes no memory.
     pub fn len(&self) -> usize
         ensures { result ≡ length self.now }
     {
         self.items.len()
     }
 
-    /// The item at a place, from 0, or None past the last.
+    /// The item at a place, from 0, or None past the last. Takes no memory.
     pub fn get(&self, at: usize) -> Option<&Arm>
         ensures some { IfSome result (λ item. slice_get self.now at ≡ Some item.now) }
         ensures none { IfNone result (slice_get self.now at ≡ None) }
@@ -242,7 +242,7 @@ impl Params {
         }
     }
 
-    /// Appends an item. Where memory is wanting the item is handed back, and nothing has changed.
+    /// Appends an item, which may take memory. Where that is wanting the item is handed back, and nothing has changed.
     pub fn push(&mut self, item: Param) -> Result<(), (Memory, Param)>
         ensures ok { OnOk result (self.new ≡ self.old ++ item ∷ []) }
         ensures err { OnErr result (self.new ≡ self.old) }
@@ -261,14 +261,14 @@ impl Params {
         self.items.as_slice()
     }
 
-    /// The number of items.
+    /// The number of items. Takes no memory.
     pub fn len(&self) -> usize
         ensures { result ≡ length self.now }
     {
         self.items.len()
     }
 
-    /// The item at a place, from 0, or None past the last.
+    /// The item at a place, from 0, or None past the last. Takes no memory.
     pub fn get(&self, at: usize) -> Option<&Param>
         ensures some { IfSome result (λ item. slice_get self.now at ≡ Some item.now) }
         ensures none { IfNone result (slice_get self.now at ≡ None) }
@@ -328,7 +328,7 @@ impl Types {
         }
     }
 
-    /// Appends an item. Where memory is wanting the item is handed back, and nothing has changed.
+    /// Appends an item, which may take memory. Where that is wanting the item is handed back, and nothing has changed.
     pub fn push(&mut self, item: TypeDef) -> Result<(), (Memory, TypeDef)>
         ensures ok { OnOk result (self.new ≡ self.old ++ item ∷ []) }
         ensures err { OnErr result (self.new ≡ self.old) }
@@ -340,14 +340,14 @@ impl Types {
         }
     }
 
-    /// The number of items.
+    /// The number of items. Takes no memory.
     pub fn len(&self) -> usize
         ensures { result ≡ length self.now }
     {
         self.items.len()
     }
 
-    /// The item at a place, from 0, or None past the last.
+    /// The item at a place, from 0, or None past the last. Takes no memory.
     pub fn get(&self, at: usize) -> Option<&TypeDef>
         ensures some { IfSome result (λ item. slice_get self.now at ≡ Some item.now) }
         ensures none { IfNone result (slice_get self.now at ≡ None) }
@@ -381,7 +381,7 @@ impl Operations {
         }
     }
 
-    /// Appends an item. Where memory is wanting the item is handed back, and nothing has changed.
+    /// Appends an item, which may take memory. Where that is wanting the item is handed back, and nothing has changed.
     pub fn push(&mut self, item: Operation) -> Result<(), (Memory, Operation)>
         ensures ok { OnOk result (self.new ≡ self.old ++ item ∷ []) }
         ensures err { OnErr result (self.new ≡ self.old) }
@@ -400,14 +400,14 @@ impl Operations {
         self.items.as_slice()
     }
 
-    /// The number of items.
+    /// The number of items. Takes no memory.
     pub fn len(&self) -> usize
         ensures { result ≡ length self.now }
     {
         self.items.len()
     }
 
-    /// The item at a place, from 0, or None past the last.
+    /// The item at a place, from 0, or None past the last. Takes no memory.
     pub fn get(&self, at: usize) -> Option<&Operation>
         ensures some { IfSome result (λ item. slice_get self.now at ≡ Some item.now) }
         ensures none { IfNone result (slice_get self.now at ≡ None) }

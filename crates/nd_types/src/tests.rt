@@ -65,6 +65,7 @@ fn two_operations(alloc: Global) -> Result<Operations, Memory>
     Ok(operations)
 }
 
+#[tactic(auto, unfolding(crate::specs::Legal::is_shallow, crate::specs::Legal::element_count))]
 fn two(alloc: Global) -> Result<Interface, Memory> {
     let types = Types::basic(alloc)?;
     let operations = two_operations(alloc)?;

@@ -98,11 +98,13 @@ pub struct Arm {
 /// What a type is. Types name each other by their numbers.
 #[derive(Drop)]
 pub enum TypeDef {
+    /// A primitive.
     Prim(Prim),
     /// An enumerated type, which travels as a signed short.
     Enum {
         values: Numbers,
     },
+    /// A structure: its members in their order (C706, 14.3.6).
     Struct {
         members: Fields,
     },
@@ -117,18 +119,22 @@ pub enum TypeDef {
         elem: TypeId,
         bound: Option<u32>,
     },
+    /// A union, with the type of its tag (C706, 14.3.8). The tag of an encapsulated one is its own; that of another is a
+    /// variable, which `switch_is` names.
     Union {
         tag: TypeId,
         encapsulated: bool,
         arms: Arms,
         default: Option<Arm>,
     },
+    /// A pointer of a class to its referent's type (C706, 4.2.20).
     Pointer {
         class: Class,
         to: TypeId,
     },
     /// A context handle.
     Context,
+    /// A pipe of elements of one type (C706, 14.3.9).
     Pipe {
         elem: TypeId,
     },
@@ -137,8 +143,11 @@ pub enum TypeDef {
 /// The directions of a parameter.
 #[derive(Clone, Copy, Debug, PartialEq, Eq)]
 pub enum Way {
+    /// [in]: it travels with the request.
     In,
+    /// [out]: it travels with the response.
     Out,
+    /// [in, out]: it travels with both.
     InOut,
 }
 

@@ -18,6 +18,7 @@ pub struct RootDef<'a> {
     pub of: TypeId,
     /// The parameter's place among the parameters of the operation, or None for the result.
     pub param: Option<u32>,
+    /// Whether the root is a pipe: the parameter is one, or a reference pointer to one.
     pub pipe: bool,
 }
 
@@ -157,7 +158,8 @@ impl<'a> Iterator for ParamWalk<'a> {
 }
 
 impl Interface {
-    /// A walk over the roots of an operation's side.
+    /// A walk over the roots of an operation's side. The operation is given by its number, which must be that of an
+    /// operation of the interface. Takes no memory.
     pub fn params(&self, op: u32, side: Side) -> ParamWalk<'_>
         requires { op < length self.now.operations }
         ensures { (o : OperationValue) → slice_get self.now.operations op ≡ Some o → result ≡ named_roots self.now.types side o }

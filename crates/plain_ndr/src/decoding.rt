@@ -16,10 +16,12 @@ use nd_types::{Interface, Side};
 use std::alloc::Global;
 use thiserror::Error;
 
-/// What octets were decoded to: the graph, and how many octets it took.
+/// What octets were decoded to.
 #[derive(Drop)]
 pub struct Decoded {
+    /// The graph of the values, which conforms to the [in] side of the operation.
     pub fit: Fit,
+    /// How many octets the values take up with the gaps between them, from the beginning of the stream.
     pub taken: u32,
 }
 
@@ -29,13 +31,18 @@ pub enum DecodeFault {
     /// An allocation failed.
     #[error("out of memory")]
     Memory,
-    /// The octets are no stream of the operation's values.
+    /// No stream of the operation's values begins the octets. `place` is the number of the first octet that is refused,
+    /// counted from 0 at the beginning of the stream.
     #[error("refused at {place}")]
     Bad { place: u32, reason: Reason },
 }
 
-/// Decodes the values of the [in] parameters of a plain operation from the front of octets. Each octet is looked at once. It takes
-/// memory for the values that were read, 32 octets each, and for a list of the parameters' types.
+/// Decodes the values of the [in] parameters of a plain operation from the front of octets, which begin at the beginning of
+/// the operation's stream (C706, 14.3 and 14.4): one integer for each parameter, each at the next multiple of its width.
+///
+/// The interface must be plain, `op` the number of one of its operations, and the octets fewer than 2^32. Octets behind the
+/// values are let stand. Each octet is looked at once. It takes memory for the values that were read, 32 octets each, and for
+/// a list of the parameters' types.
 pub fn decode(
     alloc: Global,
     interface: &Interface,

@@ -19,8 +19,10 @@ use nd_graph::{Fit, Val, Vals};
 use nd_types::{Interface, Params};
 use std::alloc::Global;
 
-/// The text of the values of a graph, version 1: `values 1`, then the operation with its side, then a line for each parameter. It
-/// takes memory for the text alone.
+/// The text of the values of a graph, version 1: `values 1`, then the operation with its side, then a line for each parameter.
+///
+/// The interface must be the one that the fit is tied to, and be plain: its operations take signed integers alone and give
+/// nothing back. The fit must be of the [in] side. It takes memory for the text alone; want of it is the only refusal.
 pub fn print(alloc: Global, interface: &Interface, fit: &Fit) -> Result<Octets, Memory>
     requires tied { fit.now.interface ≡ interface.now }
     requires inputs { fit.now.side ≡ side.In }

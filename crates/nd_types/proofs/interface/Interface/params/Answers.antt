@@ -1,4 +1,4 @@
-use Rattle.std.proofs.Common.{◌≡◌, ◌∙◌, ap, sym, get_or, ◌++◌, zero}
+use Rattle.std.proofs.Common.{◌≡◌, ◌∙◌, ap, get_or, ◌++◌}
 use Rattle.std.specs.Prelude.{true, false}
 use Rattle.std.proofs.lemmas.Option.{get_or_from_slice_get}
 use Rattle.nd_types.specs.Walk.{params_left, result_left}

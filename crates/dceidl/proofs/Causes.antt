@@ -1,0 +1,90 @@
+-- What `decode` answers, from what its steps answer.
+use Rattle.std.proofs.Common.{◌≡◌, ℕ, zero, suc, ◌+◌, ◌<◌, ◌≤◌, true, List, [], ◌∷◌, length, Option, Some, None, Result, Ok, Err, IfOk, IfErr, refl, sym, ◌∙◌, ap, subst, inl, inr, ◌⊎◌, take, arith}
+use Rattle.std.specs.Prelude.{⊤}
+use Rattle.std.specs.List.{slice_get}
+use Rattle.std.proofs.lemmas.Option.{same_Some}
+use Rattle.std.specs.Io.KnownBytes.{Consumes, IsAtEnd}
+use Rattle.nd_base.specs.Outside.{IsContent}
+use Rattle.nd_base.specs.declared.octets.Octets as octets_
+use Rattle.nd_base.specs.declared.octets.Order.{Order}
+use Rattle.nd_types.specs.declared.interface.Interface.{Interface}
+use Rattle.nd_types.specs.declared.types.Operation.{Operation}
+use Rattle.nd_types.specs.Operations.{operation_named}
+use Rattle.nd_graph.specs.declared.value.Graph.{Graph}
+use Rattle.nd_graph.specs.Setting.{Setting}
+use Rattle.nd_grammar.specs.Represents.{Represents}
+use Rattle.nd_grammar.specs.Prefix.{BeginsWith}
+use Rattle.plain_idl.specs.Plain.{IsPlainFile}
+use Rattle.plain_ndr.specs.Decoding.{inputs_of}
+use Rattle.value_text.specs.Printed.{IsText}
+use Rattle.dceidl.specs.declared.decode.Ready.{Ready}
+use Rattle.dceidl.specs.declared.decode.Refusal.{Refusal}
+use Rattle.dceidl.specs.declared.decode.Refusal.TheVariants.{Memory, Absent, FileFailed, NotBuilt, NoOperation, ReadFault, BadOctets}
+use Rattle.dceidl.specs.Outside.{FilesSeen, SourceSeen}
+use Rattle.dceidl.specs.Decode.{IsReady, IsFileCause, IsInputCause, IsOctetsCause, IsCause, IsDecoded, IsDecoding, IsNoInterface, IsRead}
+
+item_at : {X : Type 0} (xs : List X) (i : ℕ) → i < length xs → (x : X) × (slice_get xs i ≡ Some x)
+item_at [] i h = absurd (omega (arith, h))
+item_at (x ∷ xs) zero h = (x, refl)
+item_at (x ∷ xs) (suc i) h = item_at xs i (omega (arith, h))
+
+-- an interface that was read, and the number of an operation, are ready
+pub ready_is : (f : FilesSeen) (idl op file : List ℕ) → IsContent f.held idl file → (result : Result Ready Refusal)
+    → IfOk result (λ r. IsPlainFile file r.interface)
+    → IfOk result (λ r. operation_named r.interface.operations op ≡ Some r.number)
+    → IfOk result (λ r. r.number < length r.interface.operations)
+    → IfOk result (λ r. (o : Operation) × IsReady f idl op r.interface r.number o)
+ready_is f idl op file content (Ok r) plain named known =
+    let (o, there) = item_at r.interface.operations r.number known in
+    (o, record { file = file; loaded = content; plain = plain; named = record { found = named; is_there = there } })
+ready_is f idl op file content (Err e) plain named known = tt
+
+no_interface : (f : FilesSeen) (idl op file : List ℕ) → IsContent f.held idl file → (e : Refusal) → IsNoInterface file op e → IsFileCause f idl op e
+no_interface f idl op file content Memory cause = tt
+no_interface f idl op file content Absent cause = absurd cause
+no_interface f idl op file content FileFailed cause = absurd cause
+no_interface f idl op file content NotBuilt cause = (file, content, cause)
+no_interface f idl op file content NoOperation cause = (file, content, cause)
+no_interface f idl op file content ReadFault cause = absurd cause
+no_interface f idl op file content (BadOctets place why) cause = absurd cause
+
+-- a file that is refused is refused for its content
+pub file_refused : (f : FilesSeen) (idl op file : List ℕ) → IsContent f.held idl file → (result : Result Ready Refusal)
+    → IfErr result (IsNoInterface file op) → IfErr result (IsFileCause f idl op)
+file_refused f idl op file content (Ok r) cause = tt
+file_refused f idl op file content (Err e) cause = no_interface f idl op file content e cause
+
+pub take_whole : (n : ℕ) (xs : List ℕ) → length xs ≤ n → take n xs ≡ xs
+take_whole zero [] h = refl
+take_whole zero (x ∷ xs) h = absurd (omega (arith, h))
+take_whole (suc n) [] h = refl
+take_whole (suc n) (x ∷ xs) h = ap (λ u. x ∷ u) (take_whole n xs (omega (arith, h)))
+
+-- a graph that took all octets, and its text
+pub decoding_is : (w : Setting) (order : Order) (octets : List ℕ) (taken : ℕ) (g : Graph) → BeginsWith w order octets taken g → (result : Result (List ℕ) Refusal)
+    → IfOk result (IsText w g) → IfOk result (λ t. length octets ≤ taken) → IfOk result (IsDecoding w order octets)
+decoding_is w order octets taken g begins (Ok text) is_text whole = record {
+  graph = g;
+  conforms = begins.conforms;
+  represents = subst (λ os. Represents w order os g) (take_whole taken octets whole) begins.represented;
+  is_text = is_text;
+}
+decoding_is w order octets taken g begins (Err e) is_text whole = tt
+
+-- the input was read, and its octets decoded
+pub decoded_is : (s : SourceSeen) (w : Setting) (order : Order) (octets : List ℕ) → IsRead s octets → (result : Result (List ℕ) Refusal)
+    → IfOk result (IsDecoding w order octets) → IfOk result (IsDecoded s w order)
+decoded_is s w order octets read (Ok text) decoding = record { octets = octets; read = read; decoding = decoding }
+decoded_is s w order octets read (Err e) decoding = tt
+
+-- what is ready was decoded, or refused
+pub run_is : (f : FilesSeen) (s : SourceSeen) (idl op : List ℕ) (order : Order) (i : Interface) (n : ℕ) (o : Operation) → IsReady f idl op i n o
+    → (result : Result (List ℕ) Refusal) → IfOk result (IsDecoded s (inputs_of i o) order)
+    → IfOk result (λ text. (i' : Interface) × (n' : ℕ) × (o' : Operation) × IsReady f idl op i' n' o' × IsDecoded s (inputs_of i' o') order text)
+run_is f s idl op order i n o ready (Ok text) decoded = (i, n, o, ready, decoded)
+run_is f s idl op order i n o ready (Err e) decoded = tt
+
+pub run_refused : (f : FilesSeen) (s : SourceSeen) (idl op : List ℕ) (order : Order) (i : Interface) (n : ℕ) (o : Operation) → IsReady f idl op i n o
+    → (result : Result (List ℕ) Refusal) → IfErr result (IsInputCause s (inputs_of i o) order) → IfErr result (IsCause f s idl op order)
+run_refused f s idl op order i n o ready (Ok text) cause = tt
+run_refused f s idl op order i n o ready (Err e) cause = inr (i, n, o, ready, cause)

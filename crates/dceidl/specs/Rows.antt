@@ -1,0 +1,84 @@
+-- The rows of a run: what each status says by itself, and what comes in each case where nothing fails.
+use Rattle.std.specs.Prelude.{◌≡◌, ◌⊎◌, ℕ, ◌+◌, List, take, option_map, Option, None, Some, codes}
+use Rattle.nd_base.specs.Outside.{IsMissing, loaded}
+use Rattle.nd_base.specs.declared.octets.Order.{Order}
+use Rattle.nd_types.specs.declared.interface.Interface.{Interface}
+use Rattle.nd_types.specs.declared.types.Operation.{Operation}
+use Rattle.plain_idl.specs.Plain.{IsPlainFile}
+use Rattle.nd_base.specs.declared.TheConstants.{STREAM_LIMIT}
+use Rattle.dceidl.specs.declared.decode.Refusal.{Refusal}
+use Rattle.dceidl.specs.Words.{Command, Decode}
+use Rattle.dceidl.specs.Outside.{FilesSeen, SourceSeen, SinkSeen, HasRisen, Got, IsAsBefore}
+use Rattle.dceidl.specs.Decode.{IsCause, IsNamed, IsReady, IsDecoded}
+use Rattle.dceidl.specs.Lines.{status_of, line_of}
+use Rattle.plain_ndr.specs.Decoding.{inputs_of}
+
+-- one of three statuses
+abbrev pub IsOneOf : ℕ → ℕ → ℕ → ℕ → Type 0
+IsOneOf status a b c = (status ≡ a) ⊎ ((status ≡ b) ⊎ (status ≡ c))
+
+-- the file of this name is due
+abbrev pub IsDue : Option Command → List ℕ → Type 0
+IsDue (Some (Decode idl op order)) name = name ≡ idl
+IsDue _ name = ⊥
+
+-- some file is due and, where the names are told, not held
+abbrev pub IsDueAndMissing : Option Command → Option (List ℕ → Option (List ℕ)) → Type 0
+IsDueAndMissing command held = (name : List ℕ) × IsDue command name × IsMissing held name
+
+-- some file is due
+abbrev pub IsSomeDue : Option Command → Type 0
+IsSomeDue (Some (Decode idl op order)) = Unit {0}
+IsSomeDue _ = ⊥
+
+-- the words are a command that reads the input
+abbrev pub ReadsInput : Option Command → Type 0
+ReadsInput (Some (Decode idl op order)) = Unit {0}
+ReadsInput _ = ⊥
+
+-- `decode` was done: the file was ready, the input was decoded, out grew by its text, and notes stand as before.
+pub record IsDone (f : FilesSeen) (s : SourceSeen) (out notes : SinkSeen) (idl op : List ℕ) (order : Order) : Type 0 where
+  pub interface : Interface
+  pub number : ℕ
+  pub operation : Operation
+  pub ready : IsReady f idl op interface number operation
+  pub text : List ℕ
+  pub decoded : IsDecoded s (inputs_of interface operation) order text
+  pub given : Got out text
+  pub quiet : IsAsBefore notes
+
+-- `decode` was refused: for a cause, under its status and with its line on notes, and out stands as before.
+pub record IsRefused (f : FilesSeen) (s : SourceSeen) (out notes : SinkSeen) (idl op : List ℕ) (order : Order) (status : ℕ) : Type 0 where
+  pub refusal : Refusal
+  pub cause : IsCause f s idl op order refusal
+  pub own_status : status ≡ status_of refusal
+  pub line : Got notes (line_of idl op refusal)
+  pub nothing_given : IsAsBefore out
+
+-- nothing outside failed
+pub record IsSound (f : FilesSeen) (s : SourceSeen) (out notes : SinkSeen) : Type 0 where
+  pub loads : HasRisen f.faults → ⊥
+  pub reads : HasRisen s.faults → ⊥
+  pub writes : HasRisen out.faults → ⊥
+  pub tells : HasRisen notes.faults → ⊥
+
+-- the names are told, and under this name stands a file of this content, as far as a load gives it
+abbrev pub IsHeld : FilesSeen → List ℕ → List ℕ → Type 0
+IsHeld f name file = (held : List ℕ → Option (List ℕ)) × (f.held ≡ Some held) × (option_map loaded (held name) ≡ Some file)
+
+-- the file is held, and is a plain file of this interface, which has the operation
+pub record IsAccepted (f : FilesSeen) (idl op : List ℕ) (i : Interface) (n : ℕ) (o : Operation) : Type 0 where
+  pub file : List ℕ
+  pub held : IsHeld f idl file
+  pub plain : IsPlainFile file i
+  pub named : IsNamed i op n o
+
+-- these are the octets of the input that count: all of them, or one more than a stream may have
+pub record IsInput (s : SourceSeen) (octets : List ℕ) : Type 0 where
+  pub all : List ℕ
+  pub left : s.left ≡ Some all
+  pub counted : octets ≡ take (STREAM_LIMIT + 1) all
+
+-- The run is refused in this way, or memory was wanting.
+abbrev pub Refuses : List ℕ → List ℕ → SinkSeen → ℕ → Refusal → Type 0
+Refuses idl op notes status refusal = ((status ≡ status_of refusal) × Got notes (line_of idl op refusal)) ⊎ (status ≡ 5)

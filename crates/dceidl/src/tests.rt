@@ -1,0 +1,264 @@
+// Runs over files, an input and outputs in memory: what each answers and writes.
+use crate::{HELP, Status, VERSION, Words, run};
+use nd_base::{MemFiles, MemSink, MemSource, Memory};
+use std::alloc::Global;
+use std::process::Abort;
+
+// A run: what it is given, and what it is to answer and to write.
+#[derive(Clone, Copy)]
+struct Case {
+    words: &'static [&'static str],
+    octets: &'static [u8],
+    /// The most octets that one call gives.
+    piece: u32,
+    failing_loads: &'static [u32],
+    failing_fetches: &'static [u32],
+    failing_puts: &'static [u32],
+    failing_notes: &'static [u32],
+    /// How many octets each output holds.
+    room: u32,
+    status: Status,
+    out: &'static str,
+    notes: &'static str,
+}
+
+// What a run answers and writes.
+#[derive(Drop)]
+struct Ran {
+    status: Status,
+    out: MemSink,
+    notes: MemSink,
+}
+
+// The file `t.idl`.
+const FILE: &[u8] =
+    b"[uuid(11111111-2222-3333-4444-555555555555)] interface t { void add([in] long a, [in] short b, [in] hyper c); void ping(); }";
+
+// The file `u.idl`, which is no plain file.
+const OTHER_FILE: &[u8] =
+    b"[uuid(11111111-2222-3333-4444-555555555555)] interface t { void add([in] float a); }";
+
+// The values 1, 2 and 3 of `add`.
+const DECODED: Case = Case {
+    words: &["decode", "t.idl", "-", "add", "in", "little"],
+    octets: b"\x01\0\0\0\x02\0\0\0\x03\0\0\0\0\0\0\0",
+    piece: 4096,
+    failing_loads: &[],
+    failing_fetches: &[],
+    failing_puts: &[],
+    failing_notes: &[],
+    room: 1000,
+    status: 0,
+    out: "values 1\nop add in\na = 1\nb = 2\nc = 3\n",
+    notes: "",
+};
+
+// Without octets.
+const PINGED: Case = Case {
+    words: &["decode", "t.idl", "-", "ping", "in", "little"],
+    octets: b"",
+    out: "values 1\nop ping in\n",
+    ..DECODED
+};
+
+// Words that are no command.
+const NO_COMMAND: Case = Case {
+    words: &[],
+    status: 2,
+    out: "",
+    notes: "words refused\n",
+    ..DECODED
+};
+
+fn run_case(alloc: Global, case: &Case) -> Result<Ran, Memory> {
+    let mut words = Words::new(alloc);
+    for word in case.words {
+        words.push(word)?;
+    }
+    let mut files = MemFiles::new(alloc, case.failing_loads)?;
+    files.add("t.idl", FILE)?;
+    files.add("u.idl", OTHER_FILE)?;
+    let piece = case.piece.max(1);
+    let mut input = MemSource::new(alloc, case.octets, piece, case.failing_fetches)?;
+    let mut out = MemSink::new(alloc, case.room, case.failing_puts)?;
+    let mut notes = MemSink::new(alloc, case.room, case.failing_notes)?;
+    let status = run(alloc, &words, &mut files, &mut input, &mut out, &mut notes);
+    Ok(Ran { status, out, notes })
+}
+
+// Runs each case. A failure is told with the case's number, from 0.
+fn expect_all(rt: &impl Abort, alloc: Global, cases: &[Case]) {
+    let mut number = 0u32;
+    for case in cases {
+        match run_case(alloc, case) {
+            Ok(ran) => {
+                assert_eq!(rt; ran.status, case.status, "status of {number}");
+                assert_eq!(rt; ran.out.written(), case.out.as_bytes(), "out of {number}");
+                assert_eq!(rt;
+                    ran.notes.written(),
+                    case.notes.as_bytes(),
+                    "notes of {number}"
+                );
+            }
+            Err(_) => assert!(rt; false, "memory of {number}"),
+        }
+        number = number.wrapping_add(1);
+    }
+}
+
+#[test]
+fn values_are_decoded(rt: HostRuntime) {
+    let cases = [
+        DECODED,
+        // One octet at a time.
+        Case {
+            piece: 1,
+            ..DECODED
+        },
+        // What fills the gap does not matter.
+        Case {
+            octets: b"\x01\0\0\0\x02\0\xaa\xaa\x03\0\0\0\0\0\0\0",
+            ..DECODED
+        },
+        PINGED,
+    ];
+    expect_all(&rt, rt.alloc(), &cases);
+}
+
+#[test]
+fn octets_are_refused(rt: HostRuntime) {
+    let cases = [
+        Case {
+            octets: b"\x01\0\0\0\x02\0\0\0\x03",
+            status: 1,
+            out: "",
+            notes: "refused: octets at 9: Truncated\n",
+            ..DECODED
+        },
+        // Cut in the gap.
+        Case {
+            octets: b"\x01\0\0\0\x02\0\0",
+            status: 1,
+            out: "",
+            notes: "refused: octets at 7: Truncated\n",
+            ..DECODED
+        },
+        Case {
+            octets: b"\0",
+            status: 1,
+            out: "",
+            notes: "refused: octets at 0: Trailing\n",
+            ..PINGED
+        },
+    ];
+    expect_all(&rt, rt.alloc(), &cases);
+}
+
+#[test]
+fn words_and_files_are_refused(rt: HostRuntime) {
+    let cases = [
+        NO_COMMAND,
+        Case {
+            words: &["decode", "t.idl", "-", "add", "in", "middle"],
+            ..NO_COMMAND
+        },
+        Case {
+            words: &["decode", "s.idl", "-", "add", "in", "little"],
+            status: 7,
+            out: "",
+            notes: "absent: s.idl\n",
+            ..DECODED
+        },
+        Case {
+            failing_loads: &[1],
+            status: 9,
+            out: "",
+            notes: "file fault: t.idl\n",
+            ..DECODED
+        },
+        Case {
+            words: &["decode", "u.idl", "-", "add", "in", "little"],
+            status: 6,
+            out: "",
+            notes: "idl u.idl:1:1: NotBuilt\n",
+            ..DECODED
+        },
+        Case {
+            words: &["decode", "t.idl", "-", "sub", "in", "little"],
+            status: 6,
+            out: "",
+            notes: "idl t.idl: NoOperation sub\n",
+            ..DECODED
+        },
+    ];
+    expect_all(&rt, rt.alloc(), &cases);
+}
+
+#[test]
+fn streams_fail(rt: HostRuntime) {
+    let cases = [
+        Case {
+            failing_fetches: &[1],
+            status: 3,
+            out: "",
+            notes: "read fault\n",
+            ..DECODED
+        },
+        // The second piece is not had.
+        Case {
+            piece: 8,
+            failing_fetches: &[2],
+            status: 3,
+            out: "",
+            notes: "read fault\n",
+            ..DECODED
+        },
+        Case {
+            failing_puts: &[1],
+            status: 4,
+            out: "",
+            notes: "write fault\n",
+            ..DECODED
+        },
+        Case {
+            failing_puts: &[1],
+            failing_notes: &[1],
+            status: 4,
+            out: "",
+            notes: "",
+            ..DECODED
+        },
+        Case {
+            failing_notes: &[1],
+            status: 4,
+            notes: "",
+            ..NO_COMMAND
+        },
+        // The text is cut where the room ends.
+        Case {
+            room: 12,
+            status: 4,
+            out: "values 1\nop ",
+            notes: "write fault\n",
+            ..DECODED
+        },
+    ];
+    expect_all(&rt, rt.alloc(), &cases);
+}
+
+#[test]
+fn help_is_given(rt: HostRuntime) {
+    let cases = [
+        Case {
+            words: &["--help"],
+            out: HELP,
+            ..DECODED
+        },
+        Case {
+            words: &["--version"],
+            out: VERSION,
+            ..DECODED
+        },
+    ];
+    expect_all(&rt, rt.alloc(), &cases);
+}

@@ -1,0 +1,116 @@
+// Primitives in octets (C706 section 14.2).
+ghost use Rattle.std.specs.Prelude.{◌≡◌, ℕ, ◌*◌, ◌^◌, ◌<◌, ◌≤◌, pos, length, IsTrue};
+ghost use Rattle.nd_types.specs.Table.{width, in_range};
+ghost use Rattle.nd_types.specs.Number.{unsigned, value_of_octets, as_signed, from_signed, spelling, written};
+
+use byteorder::{BigEndian, ByteOrder, LittleEndian};
+use nd_base::Order;
+use nd_types::Prim;
+
+/// How many octets a primitive has (C706 section 14.2). Takes no memory.
+pub fn width_of(prim: Prim) -> usize
+    ensures value { result ≡ width prim }
+    ensures some { 1 ≤ result }
+    ensures most { result ≤ 8 }
+{
+    match prim {
+        Prim::Boolean | Prim::Char | Prim::Byte | Prim::Small | Prim::UnsignedSmall => 1,
+        Prim::Short | Prim::UnsignedShort => 2,
+        Prim::Long | Prim::UnsignedLong => 4,
+        Prim::Hyper | Prim::UnsignedHyper => 8,
+    }
+}
+
+/// How many numbers the octets of a primitive can spell.
+fn patterns_of(prim: Prim) -> i128
+    ensures { result ≡ pos (2 ^ (8 * width prim)) }
+{
+    match prim {
+        Prim::Boolean | Prim::Char | Prim::Byte | Prim::Small | Prim::UnsignedSmall => 1 << 8,
+        Prim::Short | Prim::UnsignedShort => 1 << 16,
+        Prim::Long | Prim::UnsignedLong => 1 << 32,
+        Prim::Hyper | Prim::UnsignedHyper => 1 << 64,
+    }
+}
+
+/// The unsigned number that octets spell.
+fn read_unsigned(order: Order, from: &[u8]) -> u64
+    requires some { 1 ≤ length from.now }
+    requires most { length from.now ≤ 8 }
+    ensures { result ≡ unsigned order from.now }
+{
+    match order {
+        Order::Big => BigEndian::read_uint(from, from.len()),
+        Order::Little => LittleEndian::read_uint(from, from.len()),
+    }
+}
+
+/// Writes octets that spell an unsigned number.
+fn write_unsigned(order: Order, number: u64, to: &mut [u8])
+    requires some { 1 ≤ length to.old }
+    requires most { length to.old ≤ 8 }
+    requires fits { number < 2 ^ (8 * length to.old) }
+    ensures { to.new ≡ spelling order (length to.old) number }
+{
+    let wide = to.len();
+    match order {
+        Order::Big => BigEndian::write_uint(to, number, wide),
+        Order::Little => LittleEndian::write_uint(to, number, wide),
+    }
+}
+
+/// The number that octets hold in two's complement, from the unsigned number that they spell.
+fn signed_of(prim: Prim, number: u64) -> i128
+    ensures { result ≡ as_signed (width prim) number }
+{
+    let patterns = patterns_of(prim);
+    let number = i128::from(number);
+    if number < patterns / 2 {
+        number
+    } else {
+        number - patterns
+    }
+}
+
+/// The unsigned number that a value's octets spell.
+fn unsigned_of(prim: Prim, value: i128) -> u64
+    requires { IsTrue (in_range prim value) }
+    ensures number { result ≡ from_signed (width prim) value }
+    ensures fits { result < 2 ^ (8 * width prim) }
+{
+    if value < 0 {
+        (value + patterns_of(prim)) as u64
+    } else {
+        value as u64
+    }
+}
+
+/// The value that the octets of a primitive hold (C706 section 14.2): a signed one in two's complement, and any octet
+/// but zero as the boolean 1. The octets must be as many as the primitive has. Takes no memory.
+pub fn read_num(order: Order, prim: Prim, from: &[u8]) -> i128
+    requires { length from.now ≡ width prim }
+    ensures { result ≡ value_of_octets order prim from.now }
+{
+    let number = read_unsigned(order, from);
+    match prim {
+        Prim::Boolean => i128::from(number != 0),
+        Prim::Small | Prim::Short | Prim::Long | Prim::Hyper => signed_of(prim, number),
+        Prim::Char
+        | Prim::Byte
+        | Prim::UnsignedSmall
+        | Prim::UnsignedShort
+        | Prim::UnsignedLong
+        | Prim::UnsignedHyper => i128::from(number),
+    }
+}
+
+/// Writes the octets of a primitive's value (C706 section 14.2): a signed one in two's complement, and the boolean 1
+/// as the octet 1. The octets must be as many as the primitive has, and the value one of the primitive's. Takes no
+/// memory.
+pub fn write_num(order: Order, prim: Prim, value: i128, to: &mut [u8])
+    requires wide { length to.old ≡ width prim }
+    requires range { IsTrue (in_range prim value) }
+    ensures { to.new ≡ written order prim value }
+{
+    write_unsigned(order, unsigned_of(prim, value), to);
+}

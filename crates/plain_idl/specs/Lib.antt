@@ -1,0 +1,4 @@
+pub mod Tokens
+pub mod Plain
+pub mod Reading
+pub mod Limits
