@@ -24,7 +24,7 @@ use Rattle.nd_grammar.proofs.Accepted.{accepted}
 use Rattle.nd_grammar.proofs.OneRefusal.{bad_excludes}
 
 module _ (w : Setting) (side : IsLegalSide w) (order : Order) where
-  good : (g : Graph) → Conforms w g → (octets : List ℕ) → (r : Represents w order octets g) → AllByRecursion (GoodEntry g) r.entries
+  pub good : (g : Graph) → Conforms w g → (octets : List ℕ) → (r : Represents w order octets g) → AllByRecursion (GoodEntry g) r.entries
   good g c octets r =
       let laid : IsLaidOut w = laid_out w side in
       good_stream w (holds_no_pipe w.table side.operations side.legal) g c (plain_before w side) (some_before w g (root_list w)) laid.pipes r.entries r.stream

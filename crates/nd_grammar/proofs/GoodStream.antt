@@ -35,6 +35,13 @@ use Rattle.nd_grammar.proofs.NextStream.{IsPipeRoot, drop_at}
 use Rattle.nd_grammar.proofs.GoodTrees.{Agrees, GoodTrees, good_take, good_drop, good_cells, good_roots}
 use Rattle.nd_grammar.proofs.GoodEntries.{GoodEntry, IsGood, IsNoPipe, HoldsNoPipe, good_tests, good_in_place, good_whole}
 
+abbrev home_number : Home → ℕ
+home_number (home.Root i) = 0
+home_number (home.Cell c) = c.0
+
+pub same_home_number : (k b : ℕ) → cell_home k ≡ cell_home b → k ≡ b
+same_home_number k b h = ap home_number h
+
 module _ (w : Setting) (none_inside : HoldsNoPipe w.table) (g : Graph) where
   abbrev Good : Entry → Type 0
   Good = GoodEntry g
@@ -90,6 +97,7 @@ module _ (w : Setting) (none_inside : HoldsNoPipe w.table) (g : Graph) where
   pub record StandsGood (x : Standing) : Type 0 where
     pub no_pipe : IsNoPipe w.table x.of
     pub trees : GoodTrees w.table g (x.of ∷ []) [] (more x.val none)
+    pub its_cell : (b : ℕ) → x.home ≡ cell_home b → (y : Referent) → cell_of_number g b ≡ Some y → (y.of ≡ x.of) × (y.val ≡ x.val)
 
   ungoverned : (t : ℕ) (ags : List (List Agreement)) (v : Tree) → GoodTrees w.table g (t ∷ []) ags (more v none) → GoodTrees w.table g (t ∷ []) [] (more v none)
   ungoverned t ags (node l ks) a = (a.0, none_agree l ks, a.2, tt)
@@ -99,11 +107,11 @@ module _ (w : Setting) (none_inside : HoldsNoPipe w.table) (g : Graph) where
   DueGood (due_root i) = (r : Root) × (slice_get (root_list w) i ≡ Some r) × IsNoPipe w.table r.of
   DueGood (due_referent p) = PendingGood p
 
-  due_good : (ps : List Pending) → AllByRecursion PendingGood ps → AllByRecursion DueGood (map due_referent ps)
+  pub due_good : (ps : List Pending) → AllByRecursion PendingGood ps → AllByRecursion DueGood (map due_referent ps)
   due_good [] a = tt
   due_good (p ∷ ps) a = (a.0, due_good ps a.1)
 
-  standing_due : (x : Standing) → StandsGood x → AllByRecursion DueGood (due_of w.table x)
+  pub standing_due : (x : Standing) → StandsGood x → AllByRecursion DueGood (due_of w.table x)
   standing_due x s = due_good (home_pointers w.table x.home x.of x.val) (good_pointers x.home (x.of ∷ []) [] 0 (more x.val none) (s.no_pipe, tt) s.trees)
 
   standing_good : (x : Standing) → StandsGood x → AllByRecursion Good (standing_entries w.table x)
@@ -115,12 +123,20 @@ module _ (w : Setting) (none_inside : HoldsNoPipe w.table) (g : Graph) where
         subst (λ u. GoodTrees w.table g (t ∷ []) [] (more u none)) (sym (ap cell_tree e))
         (subst (λ u. GoodTrees w.table g (u ∷ []) [] (more x.val none)) f (good_cells w g c k x e))
 
-    pending_cell : (p : Pending) → PendingGood p → (k : ℕ) → p.cell ≡ Some k → StandsGood (standing_cell g p k)
-    pending_cell p s k e = let (x, ex, et) = s.pointee k e in record { no_pipe = s.no_pipe; trees = cell_good p.to k x ex et }
+    -- a cell's home has its type and its value
+    same_cell : (k t : ℕ) (x : Referent) → cell_of_number g k ≡ Some x → x.of ≡ t → (b : ℕ) → cell_home k ≡ cell_home b → (y : Referent) → cell_of_number g b ≡ Some y
+        → (y.of ≡ t) × (y.val ≡ cell_at g k)
+    same_cell k t x e f b h y e' =
+        let kb : k ≡ b = same_home_number k b h in
+        let s : y ≡ x = same_Some _ _ (sym e' ∙ ap (cell_of_number g) (sym kb) ∙ e) in
+        (ap (λ u. u.of) s ∙ f, ap (λ u. u.val) s ∙ sym (ap cell_tree e))
+
+    pub pending_cell : (p : Pending) → PendingGood p → (k : ℕ) → p.cell ≡ Some k → StandsGood (standing_cell g p k)
+    pending_cell p s k e = let (x, ex, et) = s.pointee k e in record { no_pipe = s.no_pipe; trees = cell_good p.to k x ex et; its_cell = same_cell k p.to x ex et }
 
     root_stands_by : (i t : ℕ) (ags : List (List Agreement)) (l : Label) (ks : Trees) → IsNoPipe w.table t → GoodTrees w.table g (t ∷ []) ags (more (node l ks) none)
         → (o : Option (ℕ × ℕ)) → direct (type_at w.table t) (node l ks) ≡ o → StandsGood (standing_by g i t (node l ks) o)
-    root_stands_by i t ags l ks p a None e = record { no_pipe = p; trees = ungoverned t ags (node l ks) a }
+    root_stands_by i t ags l ks p a None e = record { no_pipe = p; trees = ungoverned t ags (node l ks) a; its_cell = λ b h. cc }
     root_stands_by i t ags l ks p a (Some (b, u)) e =
         let (to, ed, el, eu) = direct_is (type_at w.table t) l ks b u e a.0.no_null in
         let f1 = subst (λ q. names_cell g q ≡ true) el a.0.cell in
@@ -130,13 +146,14 @@ module _ (w : Setting) (none_inside : HoldsNoPipe w.table) (g : Graph) where
         record {
           no_pipe = subst (IsNoPipe w.table) (sym eu) (none_inside.pointee t Ref to ed p);
           trees = cell_good u b x ex (et ∙ sym eu);
+          its_cell = same_cell b u x ex (et ∙ sym eu);
         }
 
     root_stands_tree : (i t : ℕ) (ags : List (List Agreement)) (v : Tree) → IsNoPipe w.table t → GoodTrees w.table g (t ∷ []) ags (more v none)
         → StandsGood (standing_by g i t v (direct (type_at w.table t) v))
     root_stands_tree i t ags (node l ks) p a = root_stands_by i t ags l ks p a (direct (type_at w.table t) (node l ks)) refl
 
-    root_good : (i : ℕ) (r : Root) → slice_get (root_list w) i ≡ Some r → IsNoPipe w.table r.of → StandsGood (standing_root w g i)
+    pub root_good : (i : ℕ) (r : Root) → slice_get (root_list w) i ≡ Some r → IsNoPipe w.table r.of → StandsGood (standing_root w g i)
     root_good i r e p =
         subst (λ t. StandsGood (standing_by g i t (root_at g i) (direct (type_at w.table t) (root_at g i)))) (sym (ap root_type e))
         (root_stands_tree i r.of (root_agreements w g r.vars ∷ []) (root_at g i) p (good_roots w g c i r e))
@@ -216,7 +233,7 @@ module _ (w : Setting) (none_inside : HoldsNoPipe w.table) (g : Graph) where
         (good_pipe (home.Root i) r.of p.0.elem [] (type_at w.table r.of) refl p.0.type_is l ks cut k.0 a.0.shape a.2)
         (good_pipes (i + 1) rs vs cuts p.1 k.1 (λ j q e. f (suc j) q e))
 
-    roots_due : (i n : ℕ) → ((j : ℕ) → j < n → DueGood (due_root (i + j))) → AllByRecursion DueGood (due_roots i n)
+    pub roots_due : (i n : ℕ) → ((j : ℕ) → j < n → DueGood (due_root (i + j))) → AllByRecursion DueGood (due_roots i n)
     roots_due i zero f = tt
     roots_due i (suc n) f =
         let e : i + 0 ≡ i = omega arith in (

@@ -41,7 +41,7 @@ pub record HoistsLast (table : Table) : Type 0 where
   pub arms : (t : ℕ) (tag : TypeId) (enc : Bool) (arms : List Arm) (default : Option Arm) (v : ℤ) → type_at table t ≡ Some (def.Union tag enc arms default)
       → AllByRecursion (λ u. hoists table u ≡ false) (selected_types (selected arms default v))
 
-struct_last : (h : ℕ → Bool) (ms : List Field) → hoists_by h (Some (def.Struct ms)) ≡ last_of h (map (λ f. f.of.0) ms)
+pub struct_last : (h : ℕ → Bool) (ms : List Field) → hoists_by h (Some (def.Struct ms)) ≡ last_of h (map (λ f. f.of.0) ms)
 struct_last h [] = refl
 struct_last h (f ∷ []) = refl
 struct_last h (f ∷ g ∷ ms) = struct_last h (g ∷ ms)

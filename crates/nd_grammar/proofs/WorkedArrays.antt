@@ -37,10 +37,10 @@ unfolding align_of hoists roots_of
 sized_written = chosen_so sized Little 7 (sized_graph (pos 2)) (sized_octets 2) 20 refl refl
 
 -- its items: what a reader meets, one by one
-abbrev sized_entries : List Entry
+abbrev pub sized_entries : List Entry
 sized_entries = representation sized (sized_graph (pos 2)) (steps_of 20 sized (sized_graph (pos 2))) []
 
-abbrev an_item : ℕ → ℕ → ItemKind → ℕ → ℤ → Item
+abbrev pub an_item : ℕ → ℕ → ItemKind → ℕ → ℤ → Item
 an_item at len kind n value = record { at = at; len = len; kind = kind; home = cell_home 1; node = n; value = value }
 
 pub sized_items : items Little (sized_octets 2) (end_to_end 0 sized_entries)
@@ -57,7 +57,7 @@ size_disagrees =
     refl refl refl refl refl
 
 -- a maximum count of 5, and octets that end behind the first element: the others are unread
-abbrev five_claimed : Graph
+abbrev pub five_claimed : Graph
 five_claimed = record {
   roots = pointer_to 1 ∷ [];
   cells = cell 12 (struct_of (two (num (pos 2)) (node (tree.Arr 5 0) (more (num (pos 1)) (more (num (pos 0)) (more unread (two unread unread))))))) ∷ [];
@@ -76,19 +76,19 @@ count_through_structs = represents_so nested Little nested_octets nested_graph [
 
 -- struct { long n; [length_is(n)] short a[4]; } (12, its array 13) by a reference pointer (14): offset and actual count stand before
 -- the elements
-abbrev varying : Setting
+abbrev pub varying : Setting
 varying =
     request
     (def.Struct (field 7 [] ∷ field 13 (attribute attr.Length 0) ∷ []) ∷ def.Array (id 5) (Some 4) true ∷ def.Pointer Ref (id 12) ∷ [])
     (param 14 ∷ [])
 
-abbrev varying_graph : ℤ → Graph
+abbrev pub varying_graph : ℤ → Graph
 varying_graph n = record {
   roots = pointer_to 1 ∷ [];
   cells = cell 12 (struct_of (two (num n) (node (tree.Arr 4 0) (two (num (pos 5)) (num (pos 6)))))) ∷ [];
 }
 
-abbrev varying_octets : ℕ → ℕ → List ℕ
+abbrev pub varying_octets : ℕ → ℕ → List ℕ
 varying_octets n actual = four n (four 0 (four actual (5 ∷ 0 ∷ 6 ∷ 0 ∷ [])))
 
 pub actual_count : Represents varying Little (varying_octets 2 2) (varying_graph (pos 2))
@@ -108,12 +108,12 @@ length_disagrees =
     refl refl refl refl refl
 
 -- void v([size_is(n), length_is(m)] byte a[*], long n, long m): an offset of 2^32 - 1 in a maximum count of 5
-abbrev sliced : Setting
+abbrev pub sliced : Setting
 sliced =
     request (def.Array (id 2) None true ∷ [])
     (governed 12 (attribute attr.Size 1 ++ attribute attr.Length 2) ∷ param 7 ∷ param 7 ∷ [])
 
-abbrev sliced_unread : Graph
+abbrev pub sliced_unread : Graph
 sliced_unread = record { roots = node (tree.Arr 5 0xFFFF_FFFF) none ∷ unread ∷ unread ∷ []; cells = [] }
 
 pub offset_past_maximum : Bad sliced Little (four 5 (0xFF ∷ 0xFF ∷ 0xFF ∷ 0xFF ∷ four 1 [])) 8 reason.PastBound
@@ -129,7 +129,7 @@ text = request (def.Text (id 1) None ∷ def.Pointer Ref (id 12) ∷ []) (param 
 abbrev pub text_graph : ℕ → List ℕ → Graph
 text_graph max octets = record { roots = pointer_to 1 ∷ []; cells = cell 12 (node (tree.Text max octets) none) ∷ [] }
 
-abbrev text_octets : ℕ → ℕ → List ℕ → List ℕ
+abbrev pub text_octets : ℕ → ℕ → List ℕ → List ℕ
 text_octets offset n octets = four 3 (four offset (four n octets))
 
 -- "hi" and its terminator

@@ -20,7 +20,7 @@ use Rattle.nd_grammar.proofs.Check.{represents_so, chosen_so}
 -- 12: enum kind { FILE = 0, FOLDER = 4 }; 13: a union switched by it, case FILE: unsigned long size; case FOLDER: nothing;
 -- 14: struct entry { kind k; [switch_is(k)] u detail; [string] char name[16]; [ptr] entry *parent; [unique] entry *next; };
 -- 15 its text; 16 and 17 its pointers; 21: byte[*]
-abbrev directory_types : Table
+abbrev pub directory_types : Table
 directory_types =
     def.Enum (pos 0 ∷ pos 4 ∷ [])
     ∷ def.Union (id 12) false (arm (pos 0) 8 ∷ empty_arm (pos 4) ∷ []) None
@@ -29,16 +29,16 @@ directory_types =
     ∷ def.Pointer Ref (id 18) ∷ def.Pointer Ref (id 14) ∷ def.Array (id 2) None false ∷ []
 
 -- void put(handle_t h, [unique] entry *e, unsigned long n, [size_is(n)] byte data[*])
-abbrev put : Setting
+abbrev pub put : Setting
 put = request directory_types (param 4294967295 ∷ param 17 ∷ param 8 ∷ governed 21 (attribute attr.Size 2) ∷ [])
 
-abbrev entry : ℤ → Trees → List ℕ → ℕ → Option ℕ → Referent
+abbrev pub entry : ℤ → Trees → List ℕ → ℕ → Option ℕ → Referent
 entry kind detail name parent next =
     cell 14
     (struct_of (more (num kind) (more (node (tree.Union kind) detail) (three (node (tree.Text 16 name) none) (pointer_to parent) (node (tree.Ptr next) none)))))
 
 -- a folder "etc", its parent "/" (which is its own), and next a file "a" of 1,024 octets in "/"
-abbrev put_graph : Graph
+abbrev pub put_graph : Graph
 put_graph = record {
   roots = pointer_to 1 ∷ num (pos 2) ∷ node (tree.Arr 2 0) (two (num (pos 0xAB)) (num (pos 0xCD))) ∷ [];
   cells =
@@ -46,7 +46,7 @@ put_graph = record {
       ∷ entry (pos 0) (one (num (pos 1024))) (97 ∷ []) 2 None ∷ [];
 }
 
-abbrev put_octets : List ℕ
+abbrev pub put_octets : List ℕ
 put_octets =
     four 1
     (4 ∷ 0 ∷ 4 ∷ 0 ∷ four 0 (four 4 (101 ∷ 116 ∷ 99 ∷ 0 ∷ four 2 (four 3

@@ -30,7 +30,7 @@ unfolding align_of hoists roots_of
 three_integers_written = chosen_so integers Little 1 one_two_three integers_little 10 refl refl
 
 -- no parameters, no octets
-abbrev nothing : Graph
+abbrev pub nothing : Graph
 nothing = record { roots = []; cells = [] }
 
 pub no_parameters : Represents (request [] []) Little [] nothing
@@ -38,7 +38,7 @@ unfolding align_of hoists roots_of
 no_parameters = represents_so (request [] []) Little [] nothing [] 10 refl tt refl refl refl refl
 
 -- cut short: the third number is not whole, or the gap before it
-abbrev third_cut : Graph
+abbrev pub third_cut : Graph
 third_cut = record { roots = num (pos 1) ∷ num (pos 2) ∷ num (pos 0) ∷ []; cells = [] }
 
 pub cut_number : Bad integers Little cut_in_hyper 9 reason.Truncated
@@ -52,7 +52,7 @@ cut_gap =
     bad_so integers Little cut_in_gap 7 reason.Truncated third_cut [] 20 4 _ _ (partial_so integers third_cut refl refl refl refl) refl tt refl refl refl refl refl
 
 -- cut within the first number, the others being unread
-abbrev first_cut : Graph
+abbrev pub first_cut : Graph
 first_cut = record { roots = num (pos 0) ∷ unread ∷ unread ∷ []; cells = [] }
 
 pub cut_first : Bad integers Little (1 ∷ 0 ∷ 0 ∷ []) 3 reason.Truncated
@@ -61,7 +61,7 @@ cut_first =
     bad_so integers Little (1 ∷ 0 ∷ 0 ∷ []) 3 reason.Truncated first_cut [] 20 1 _ _ (partial_so integers first_cut refl refl refl refl) refl tt refl refl refl refl refl
 
 -- a short of 40000
-abbrev too_great : Graph
+abbrev pub too_great : Graph
 too_great = record { roots = num (pos 1) ∷ num (pos 40000) ∷ num (pos 3) ∷ []; cells = [] }
 
 pub out_of_range : IsFirstMisfit integers too_great (record { home = home.Root 1; node = 0; reason = misfit.Range })
@@ -69,7 +69,7 @@ unfolding align_of hoists roots_of
 out_of_range = is_local _ refl
 
 -- a missing root
-abbrev two_roots : Graph
+abbrev pub two_roots : Graph
 two_roots = record { roots = num (pos 1) ∷ num (pos 2) ∷ []; cells = [] }
 
 pub root_missing : IsFirstMisfit integers two_roots (record { home = home.Root 2; node = 0; reason = misfit.Shape })

@@ -47,10 +47,10 @@ unfolding align_of hoists roots_of
 ring_written = chosen_so ring Little 1 ring_of_two ring_octets 10 refl refl
 
 -- with other numbers for its two cells
-abbrev other_numbers : ℕ → ℕ
+abbrev pub other_numbers : ℕ → ℕ
 other_numbers c = cond (eqb c 1) 0xFFFF_FFFE 0x0002_0000
 
-abbrev other_octets : List ℕ
+abbrev pub other_octets : List ℕ
 other_octets = 0xFE ∷ 0xFF ∷ 0xFF ∷ 0xFF ∷ four 7 (0 ∷ 0 ∷ 2 ∷ 0 ∷ four 8 (0xFE ∷ 0xFF ∷ 0xFF ∷ 0xFF ∷ []))
 
 pub ring_by_other_numbers : Represents ring Little other_octets ring_of_two
@@ -58,7 +58,7 @@ unfolding align_of hoists roots_of
 ring_by_other_numbers = represents_by other_numbers ring Little other_octets ring_of_two [] 10 refl tt refl refl refl refl refl
 
 -- its last number null
-abbrev open_chain : Graph
+abbrev pub open_chain : Graph
 open_chain = record { roots = pointer_to 1 ∷ []; cells = ring_node (pos 7) 2 ∷ cell 1 (struct_of (two (num (pos 8)) null)) ∷ [] }
 
 pub chain_of_two : Represents ring Little (four 1 (four 7 (four 2 (four 8 (four 0 []))))) open_chain
@@ -66,7 +66,7 @@ unfolding align_of hoists roots_of
 chain_of_two = represents_so ring Little (four 1 (four 7 (four 2 (four 8 (four 0 []))))) open_chain [] 10 refl tt refl refl refl refl
 
 -- cut within the first node's number
-abbrev first_node_cut : Graph
+abbrev pub first_node_cut : Graph
 first_node_cut = record { roots = pointer_to 1 ∷ []; cells = cell 1 (struct_of (two (num (pos 0)) unread)) ∷ [] }
 
 pub ring_cut_6 : Bad ring Little (four 1 (7 ∷ 0 ∷ [])) 6 reason.Truncated
@@ -75,7 +75,7 @@ ring_cut_6 =
     bad_so ring Little (four 1 (7 ∷ 0 ∷ [])) 6 reason.Truncated first_node_cut [] 20 4 _ _ (partial_so ring first_node_cut refl refl refl refl) refl tt refl refl refl refl refl
 
 -- cut before the second node: its number was read, the node itself is not
-abbrev second_node_cut : Graph
+abbrev pub second_node_cut : Graph
 second_node_cut = record { roots = pointer_to 1 ∷ []; cells = ring_node (pos 7) 2 ∷ cell 1 (struct_of (two (num (pos 0)) unread)) ∷ [] }
 
 pub ring_cut_12 : Bad ring Little (four 1 (four 7 (four 2 []))) 12 reason.Truncated
@@ -84,10 +84,10 @@ ring_cut_12 =
     bad_so ring Little (four 1 (four 7 (four 2 []))) 12 reason.Truncated second_node_cut [] 20 9 _ _ (partial_so ring second_node_cut refl refl refl refl) refl tt refl refl refl refl refl
 
 -- the pointers of the ring
-abbrev root_pointer : Pending
+abbrev pub root_pointer : Pending
 root_pointer = record { home = home.Root 0; node = 0; class = Full; to = 1; cell = Some 1; agreements = [] }
 
-abbrev next_pointer : ℕ → ℕ → Pending
+abbrev pub next_pointer : ℕ → ℕ → Pending
 next_pointer c next = record { home = cell_home c; node = 2; class = Full; to = 1; cell = Some next; agreements = [] }
 
 two_reached : (c : ℕ) → 0 < c → c < 3 → Reached ring ring_of_two c
@@ -113,7 +113,7 @@ ring_conforms = record {
 }
 
 -- The ring with its cells swapped is the same; numbered by the first pointer to each cell it is the ring again.
-abbrev swapped : ℕ → ℕ
+abbrev pub swapped : ℕ → ℕ
 swapped c = canonical_number (2 ∷ 1 ∷ 2 ∷ []) c
 
 swapped_within : (c : ℕ) → 0 < c → c ≤ 2 → (0 < swapped c) × (swapped c ≤ 2)
@@ -204,7 +204,7 @@ stray_unreached = is_unreached 2 refl refl (record {
 })
 
 -- no cell of the number that a pointer names
-abbrev ring_without_cell : Graph
+abbrev pub ring_without_cell : Graph
 ring_without_cell = record { roots = pointer_to 1 ∷ []; cells = [] }
 
 pub cell_missing : IsFirstMisfit ring ring_without_cell (record { home = home.Root 0; node = 0; reason = misfit.NoCell })
@@ -246,7 +246,7 @@ unfolding align_of hoists roots_of
 full_shared = represents_so full_longs Little one_five_one shared_five [] 20 refl tt refl refl refl refl
 
 -- one number for referents of two types
-abbrev second_unread : Graph
+abbrev pub second_unread : Graph
 second_unread = record { roots = pointer_to 1 ∷ pointer_to 2 ∷ []; cells = cell 7 (num (pos 5)) ∷ cell 5 unread ∷ [] }
 
 pub other_referent_type : Bad long_and_short Little one_five_one 8 reason.OtherType
@@ -256,14 +256,14 @@ other_referent_type =
 
 -- struct { long n; [size_is(n)] long *a; long m; [size_is(m)] long *b; } (12) with full pointers (14) to conformant arrays (13):
 -- b names a's array, and m is another number
-abbrev sized_twice : Setting
+abbrev pub sized_twice : Setting
 sized_twice =
     request
     (def.Struct (field 7 [] ∷ field 14 (attribute attr.Size 0) ∷ field 7 [] ∷ field 14 (attribute attr.Size 2) ∷ [])
     ∷ def.Array (id 7) None false ∷ def.Pointer Full (id 13) ∷ [])
     (param 12 ∷ [])
 
-abbrev one_and_two : Graph
+abbrev pub one_and_two : Graph
 one_and_two = record {
   roots = struct_of (more (num (pos 1)) (more (pointer_to 1) (two (num (pos 2)) (pointer_to 1)))) ∷ [];
   cells = cell 13 (node (tree.Arr 1 0) (one (num (pos 5)))) ∷ [];

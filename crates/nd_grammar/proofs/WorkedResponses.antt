@@ -22,19 +22,19 @@ use Rattle.nd_grammar.specs.Bad.{Bad}
 use Rattle.nd_grammar.specs.ExampleParts.{param, field, attribute, id, num, pointer_to, one, two, cell, four}
 use Rattle.nd_grammar.proofs.Check.{represents_so, bad_so, partial_so}
 
-abbrev response : List TypeDef → List Param → Option Graph → Setting
+abbrev pub response : List TypeDef → List Param → Option Graph → Setting
 response types params given =
     record { table = basic_types ++ types; op = record { name = []; params = params; result = None }; side = side.Out; given = given }
 
 -- void r([in] unsigned long n, [out, size_is(n)] byte a[*]), its array 12: n does not travel back
-abbrev sized_back : Option Graph → Setting
+abbrev pub sized_back : Option Graph → Setting
 sized_back given =
     response (def.Array (id 2) None false ∷ []) (param 8 ∷ (record { field = field 12 (attribute attr.Size 0); way = way.Out }) ∷ []) given
 
-abbrev two_back : Graph
+abbrev pub two_back : Graph
 two_back = record { roots = node (tree.Arr 2 0) (two (num (pos 0xAB)) (num (pos 0xCD))) ∷ []; cells = [] }
 
-abbrev asked : ℤ → Graph
+abbrev pub asked : ℤ → Graph
 asked n = record { roots = num n ∷ []; cells = [] }
 
 -- without the request its size is free
@@ -55,17 +55,17 @@ size_not_given =
 
 -- void s2([in, out] unsigned long *n, [out, size_is( *n)] byte a[*]), its array 12 and its reference pointer 13: n travels back, so
 -- the response's own number counts, and the request's does not
-abbrev sized_by_own : Option Graph → Setting
+abbrev pub sized_by_own : Option Graph → Setting
 sized_by_own given =
     response (def.Array (id 2) None false ∷ def.Pointer Ref (id 8) ∷ [])
     ((record { field = field 13 []; way = way.InOut })
     ∷ (record { field = field 12 (record { attr = attr.Size; var = 0; star = true } ∷ []); way = way.Out }) ∷ [])
     given
 
-abbrev one_back : Graph
+abbrev pub one_back : Graph
 one_back = record { roots = pointer_to 1 ∷ node (tree.Arr 1 0) (one (num (pos 7))) ∷ []; cells = cell 8 (num (pos 1)) ∷ [] }
 
-abbrev asked_5 : Graph
+abbrev pub asked_5 : Graph
 asked_5 = record { roots = pointer_to 1 ∷ []; cells = cell 8 (num (pos 5)) ∷ [] }
 
 pub own_number_counts : Represents (sized_by_own (Some asked_5)) Little (four 1 (four 1 (7 ∷ []))) one_back

@@ -34,10 +34,10 @@ no_arm =
     refl refl refl refl refl
 
 -- void nn(short k, [switch_is(k)] nu u), nu a union switched by a short (12): case 1: long; default: nothing
-abbrev switched : Setting
+abbrev pub switched : Setting
 switched = request (def.Union (id 5) false (arm (pos 1) 7 ∷ []) (Some (empty_arm (pos 0))) ∷ []) (param 5 ∷ governed 12 (attribute attr.Switch 0) ∷ [])
 
-abbrev switched_graph : ℤ → Tree → Graph
+abbrev pub switched_graph : ℤ → Tree → Graph
 switched_graph k u = record { roots = num k ∷ u ∷ []; cells = [] }
 
 pub tag_agrees : Represents switched Little (1 ∷ 0 ∷ 1 ∷ 0 ∷ four 5 []) (switched_graph (pos 1) (node (tree.Union (pos 1)) (one (num (pos 5)))))
@@ -73,7 +73,7 @@ unfolding align_of hoists roots_of
 chunks_written = chosen_so pipe_of_longs Little 2 three_piped chunks_of_two 20 refl refl
 
 -- cut behind the second chunk's count
-abbrev third_cut : Graph
+abbrev pub third_cut : Graph
 third_cut = record { roots = node tree.Pipe (three (num (pos 1)) (num (pos 2)) (num (pos 0))) ∷ []; cells = [] }
 
 pub pipe_cut : Bad pipe_of_longs Little first_chunk 16 reason.Truncated
@@ -83,7 +83,7 @@ pipe_cut =
     ((refl, (lit< tt, (lit< tt, tt))), tt) refl refl refl refl refl
 
 -- cut behind the first count
-abbrev none_read : Graph
+abbrev pub none_read : Graph
 none_read = record { roots = node tree.Pipe (two (num (pos 0)) unread) ∷ []; cells = [] }
 
 pub pipe_cut_at_once : Bad pipe_of_longs Little (four 2 []) 4 reason.Truncated
@@ -93,7 +93,7 @@ pipe_cut_at_once =
     ((refl, (lit< tt, tt)), tt) refl refl refl refl refl
 
 -- a second chunk of five, of which one element is there
-abbrev four_missing : Graph
+abbrev pub four_missing : Graph
 four_missing = record {
   roots = node tree.Pipe (more (num (pos 1)) (more (num (pos 2)) (more (num (pos 3)) (more (num (pos 0)) (three unread unread unread))))) ∷ [];
   cells = [];
@@ -106,10 +106,10 @@ chunk_cut =
     (partial_so pipe_of_longs four_missing refl refl refl refl) refl ((refl, (lit< tt, (lit< tt, tt))), tt) refl refl refl refl refl
 
 -- a pipe (13) of enum { A, B = 4 } (12): each element is a value of its type
-abbrev pipe_of_colours : Setting
+abbrev pub pipe_of_colours : Setting
 pipe_of_colours = request (def.Enum (pos 0 ∷ pos 4 ∷ []) ∷ def.Pipe (id 12) ∷ []) (param 13 ∷ [])
 
-abbrev piped : Tree → Graph
+abbrev pub piped : Tree → Graph
 piped v = record { roots = node tree.Pipe (one v) ∷ []; cells = [] }
 
 pub no_colour : Bad pipe_of_colours Little (four 1 (1 ∷ 0 ∷ 0 ∷ 0 ∷ four 0 [])) 4 reason.EnumValue
@@ -127,14 +127,14 @@ unfolding align_of hoists roots_of
 element_of_no_shape = is_local _ refl
 
 -- a pipe (14) of struct { boolean q; [switch_is(q)] bu v; } (13), bu a union switched by a boolean (12): case 0: byte; case 1: nothing
-abbrev pipe_of_unions : Setting
+abbrev pub pipe_of_unions : Setting
 pipe_of_unions =
     request
     (def.Union (id 0) false (arm (pos 0) 2 ∷ empty_arm (pos 1) ∷ []) None
     ∷ def.Struct (field 0 [] ∷ field 12 (attribute attr.Switch 0) ∷ []) ∷ def.Pipe (id 13) ∷ [])
     (param 14 ∷ [])
 
-abbrev switched_element : ℤ → Graph
+abbrev pub switched_element : ℤ → Graph
 switched_element q = piped (struct_of (two (num q) (node (tree.Union (pos 0)) (one (num (pos 9))))))
 
 pub element_agrees : Represents pipe_of_unions Little (four 1 (0 ∷ 0 ∷ 9 ∷ 0 ∷ four 0 [])) (switched_element (pos 0))

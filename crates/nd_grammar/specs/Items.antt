@@ -11,12 +11,12 @@ use Rattle.nd_grammar.specs.Entry.{Kind, Entry, Align, Max, Offset, Actual, Chun
 use Rattle.nd_grammar.specs.Represents.{piece}
 
 -- the item of a count or of a pointer's number
-abbrev counted : Order → ItemKind → List ℕ → Option (ItemKind × ℤ)
+abbrev pub counted : Order → ItemKind → List ℕ → Option (ItemKind × ℤ)
 counted order kind os = Some (kind, pos (unsigned order os))
 
 -- The kind of an item and its value: of a count or a pointer's number as the octets hold it, of a text its actual count, of a gap
 -- and a context handle 0. An agreement has no octets and is no item, nor is an unread value.
-abbrev item_of : Order → Kind → List ℕ → Option (ItemKind × ℤ)
+abbrev pub item_of : Order → Kind → List ℕ → Option (ItemKind × ℤ)
 item_of order (Align n) [] = None
 item_of order (Align n) os = Some (item.Gap, pos 0)
 item_of order (Max v) os = counted order item.Max os
@@ -32,12 +32,12 @@ item_of order (Test attr wanted found) os = None
 item_of order Unread os = None
 
 -- a gap belongs to the home as a whole
-abbrev item_node : Kind → ℕ → ℕ
+abbrev pub item_node : Kind → ℕ → ℕ
 item_node (Align n) node = 0
 item_node _ node = node
 
 -- the item of an entry, where it is one
-abbrev item_at : EntryAt → Option (ItemKind × ℤ) → List Item
+abbrev pub item_at : EntryAt → Option (ItemKind × ℤ) → List Item
 item_at x None = []
 item_at x (Some k) =
     record {

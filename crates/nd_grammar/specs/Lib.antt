@@ -18,3 +18,5 @@ pub mod Primitives
 pub mod LegalSide
 pub mod NextEntry
 pub mod Reader
+pub mod StreamReader
+pub mod FewItems

@@ -1,6 +1,6 @@
 -- Reading octets: the plain program that finds the graph of which they are a stream, or the place and the reason for which they are none.
 -- It goes entry by entry. From the first entry that the octets refuse on, whatever is read is an unread value, and nothing changes any more.
-use Rattle.std.specs.Prelude.{ℕ, ◌+◌, ◌-◌, suc, zero, ℤ, pos, Bool, true, false, cond, eqb, leb, List, [], ◌∷◌, ◌++◌, length, map, take, drop, replicate, reverse, Option, Some, None}
+use Rattle.std.specs.Prelude.{ℕ, ◌+◌, ◌-◌, suc, zero, ℤ, pos, Bool, true, false, not, ◌&&◌, cond, eqb, leb, List, [], ◌∷◌, ◌++◌, length, map, take, drop, replicate, reverse, Option, Some, None}
 use Rattle.std.specs.List.{slice_get}
 use Rattle.nd_base.specs.declared.octets.Order.{Order}
 use Rattle.nd_types.specs.declared.types.TypeDef.{TypeDef}
@@ -145,11 +145,12 @@ read_if false read p s = read p s
 abbrev pub tree_nodes : Tree → ℕ
 tree_nodes t = node_count (more t none)
 
-abbrev pub read_list : (ℕ → ℕ → Progress → Names → Read) → List ℕ → ℕ → Progress → Names → ReadAll
-read_list read [] n p s = record { trees = none; progress = p; names = s }
-read_list read (t ∷ types) n p s =
-    let first : Read = read_if (is_stopped p.stop) (read t n) p s in
-    let others : ReadAll = read_list read types (n + tree_nodes first.tree) first.progress first.names in
+-- A value whose maximum count was read before it is not left unread, since the count is its own.
+abbrev pub read_list : Table → (ℕ → ℕ → Progress → Names → Read) → List ℕ → ℕ → Progress → Names → ReadAll
+read_list table read [] n p s = record { trees = none; progress = p; names = s }
+read_list table read (t ∷ types) n p s =
+    let first : Read = read_if (is_stopped p.stop && not (hoists table t)) (read t n) p s in
+    let others : ReadAll = read_list table read types (n + tree_nodes first.tree) first.progress first.names in
     record { trees = more first.tree others.trees; progress = others.progress; names = others.names }
 
 abbrev pub bound_or : Option ℕ → ℕ → ℕ
@@ -171,7 +172,7 @@ module _ (order : Order) (octets : List ℕ) (table : Table) (h : Home) where
   -- the children of a node that says this, and the agreements of those that are no pointers
   abbrev pub read_children : (ℕ → ℕ → Progress → Names → Read) → Option TypeDef → ℕ → Label → List ℕ → Progress → Names → Read
   read_children read d n l types p s =
-      let kids : ReadAll = read_list read types (n + 1) p s in
+      let kids : ReadAll = read_list table read types (n + 1) p s in
       record {
         tree = node l kids.trees;
         progress = pass_all order octets (child_tests h (child_agreements d kids.trees) (n + 1) kids.trees) kids.progress;
