@@ -19,33 +19,43 @@ use nd_types::Interface;
 use plain_idl::{PlainFault, read_plain};
 use plain_ndr::{DecodeFault, Decoded};
 use std::alloc::Global;
+use thiserror::Error;
 use value_text::print;
 
 /// Why octets of the input are refused.
-#[derive(Clone, Copy, Debug, PartialEq, Eq)]
+#[derive(Clone, Copy, Debug, PartialEq, Eq, Error)]
 pub enum OctetsFault {
     /// They represent no values of the operation.
+    #[error("the octets represent no values of the operation")]
     Refused(Reason),
     /// An octet follows the values.
+    #[error("an octet follows the values")]
     Trailing,
 }
 
 /// Why `decode` is refused.
-#[derive(Clone, Copy, Debug, PartialEq, Eq)]
+#[derive(Clone, Copy, Debug, PartialEq, Eq, Error)]
 pub enum Refusal {
     /// Memory was wanting.
+    #[error("out of memory")]
     Memory,
     /// There is no file of the name.
+    #[error("no such file")]
     Absent,
     /// The file was not read.
+    #[error("file failed")]
     FileFailed,
     /// The file is of a form that is not built yet.
+    #[error("not built yet")]
     NotBuilt,
     /// The interface has no operation of the name.
+    #[error("no such operation")]
     NoOperation,
     /// The input failed.
+    #[error("read failed")]
     ReadFault,
     /// The octets of the input are refused at a place.
+    #[error("octets refused at {place}")]
     BadOctets { place: u32, why: OctetsFault },
 }
 

@@ -20,7 +20,14 @@ fn start(rt: &HostRuntime) -> Status {
     let mut input = InputSource::new(rt.stdin());
     let mut out = OutputSink::new(rt.stdout());
     let mut notes = OutputSink::new(rt.stderr());
-    run(rt.alloc(), &words, &mut files, &mut input, &mut out, &mut notes)
+    run(
+        rt.alloc(),
+        &words,
+        &mut files,
+        &mut input,
+        &mut out,
+        &mut notes,
+    )
 }
 
 // The words of the command line. Where one of them is no text they are one empty word, which is no command.

@@ -12,7 +12,7 @@ use Rattle.nd_graph.specs.declared.value.Graph.{Graph}
 use Rattle.nd_base.specs.declared.TheConstants.{STREAM_LIMIT}
 use Rattle.nd_graph.specs.Setting.{Setting, Among, root_list}
 use Rattle.nd_grammar.specs.Stream.{Stream, representation, AllCut}
-use Rattle.nd_graph.specs.Deferral.{Due, due_root, due_referent, Step, root_stands, referent_stands, stands_already, Deferral, none_due, at_root, at_null, at_standing, at_referent, Pending, due_of, standing_root, standing_cell, IsStanding, IsStandingFull, AreFree, Standing_cells, root_cell, due_roots, before_pipes}
+use Rattle.nd_graph.specs.Deferral.{Due, due_root, due_referent, Step, root_stands, referent_stands, stands_already, Deferral, none_due, at_root, at_null, at_standing, at_referent, Pending, due_of, standing_root, standing_cell, IsPlaced, IsPlacedFull, AreFree, Placed_cells, root_cell, due_roots, before_pipes}
 use Rattle.nd_types.specs.Number.{unsigned, value_of_octets}
 use Rattle.nd_grammar.specs.Entry.{Kind, Entry, Align, Max, Offset, Actual, Chunk, Number, Num, Tag, Text, Context, Test, Unread, size_at, EntryAt, end_to_end, end_of, full_cells}
 use Rattle.nd_grammar.specs.Represents.{piece, Spells, IsNumber, IsRendered, id_octets, IsNumbering, Represents}
@@ -21,7 +21,7 @@ use Rattle.nd_grammar.specs.Refusal.{Accepts, refusal}
 use Rattle.nd_grammar.specs.declared.reason.Reason.{Reason}
 use Rattle.nd_graph.specs.Canon.{canonical_number, named_cells}
 use Rattle.nd_grammar.specs.Chosen.{Chosen, octets_from, pipe_cuts}
-use Rattle.nd_graph.specs.Conforms.{IsPartial, MayMeet, AllEarlier}
+use Rattle.nd_graph.specs.Conforms.{IsPartial, ShareOnlyIfFull, AllEarlier}
 use Rattle.nd_graph.specs.Misfit.{is_partial_node, has_machine_values}
 use Rattle.nd_graph.specs.Homes.{all_nodes, all_pointers}
 use Rattle.std.specs.List.{list_all}
@@ -35,15 +35,15 @@ full_is Full e = refl
 full_is Ref e = cc
 full_is Unique e = cc
 
-abbrev pub is_standing : Standing_cells → ℕ → Bool
+abbrev pub is_standing : Placed_cells → ℕ → Bool
 is_standing [] c = false
 is_standing (d ∷ ds) c = cond (eqb c d.1) true (is_standing ds c)
 
-abbrev pub is_standing_full : Standing_cells → ℕ → Bool
+abbrev pub is_standing_full : Placed_cells → ℕ → Bool
 is_standing_full [] c = false
 is_standing_full (d ∷ ds) c = cond (is_full d.0 && eqb c d.1) true (is_standing_full ds c)
 
-abbrev are_free : Standing_cells → Standing_cells → Bool
+abbrev are_free : Placed_cells → Placed_cells → Bool
 are_free [] done = true
 are_free (d ∷ ds) done = not (is_standing done d.1) && are_free ds done
 
@@ -56,7 +56,7 @@ only_if true o = o
 only_if false o = None
 
 -- the steps for what is due, at most so many
-abbrev pub walk : ℕ → Setting → Graph → Standing_cells → List Due → Option (List Step)
+abbrev pub walk : ℕ → Setting → Graph → Placed_cells → List Due → Option (List Step)
 walk fuel w g done [] = Some []
 walk zero w g done (t ∷ ts) = None
 walk (suc fuel) w g done (due_root i ∷ ts) =
@@ -83,24 +83,24 @@ not_is : (b : Bool) → not b ≡ true → b ≡ false
 not_is true e = cc
 not_is false e = refl
 
-standing_full_yes : (ds : Standing_cells) (c : ℕ) → is_standing_full ds c ≡ true → IsStandingFull ds c
+standing_full_yes : (ds : Placed_cells) (c : ℕ) → is_standing_full ds c ≡ true → IsPlacedFull ds c
 standing_full_yes [] c e = cc
 standing_full_yes (d ∷ ds) c e = go (is_full d.0 && eqb c d.1) refl e (standing_full_yes ds c)
   where
-    go : (b : Bool) → (is_full d.0 && eqb c d.1) ≡ b → cond b true (is_standing_full ds c) ≡ true → (is_standing_full ds c ≡ true → IsStandingFull ds c) → IsStandingFull (d ∷ ds) c
+    go : (b : Bool) → (is_full d.0 && eqb c d.1) ≡ b → cond b true (is_standing_full ds c) ≡ true → (is_standing_full ds c ≡ true → IsPlacedFull ds c) → IsPlacedFull (d ∷ ds) c
     go true q e' ih = inl (full_is d.0 (and_left (is_full d.0) (eqb c d.1) q), eqb-true c d.1 (and_right (is_full d.0) (eqb c d.1) q))
     go false q e' ih = inr (ih e')
 
-standing_no : (ds : Standing_cells) (c : ℕ) → is_standing ds c ≡ false → ¬ IsStanding ds c
+standing_no : (ds : Placed_cells) (c : ℕ) → is_standing ds c ≡ false → ¬ IsPlaced ds c
 standing_no [] c e h = h
 standing_no (d ∷ ds) c e h = go (eqb c d.1) refl e h (standing_no ds c)
   where
-    go : (b : Bool) → eqb c d.1 ≡ b → cond b true (is_standing ds c) ≡ false → IsStanding (d ∷ ds) c → (is_standing ds c ≡ false → ¬ IsStanding ds c) → ⊥
+    go : (b : Bool) → eqb c d.1 ≡ b → cond b true (is_standing ds c) ≡ false → IsPlaced (d ∷ ds) c → (is_standing ds c ≡ false → ¬ IsPlaced ds c) → ⊥
     go true q e' h' ih = cc
     go false q e' (inl same) ih = let t : eqb c d.1 ≡ true = eq-eqb c d.1 same in cc (t, q)
     go false q e' (inr rest) ih = ih e' rest
 
-free_yes : (ds done : Standing_cells) → are_free ds done ≡ true → AreFree ds done
+free_yes : (ds done : Placed_cells) → are_free ds done ≡ true → AreFree ds done
 free_yes [] done e = tt
 free_yes (d ∷ ds) done e =
     (standing_no done d.1 (not_is _ (and_left (not (is_standing done d.1)) (are_free ds done) e)), free_yes ds done (and_right (not (is_standing done d.1)) (are_free ds done) e))
@@ -113,8 +113,8 @@ only_is : (b : Bool) (o : Option (List Step)) (ts : List Step) → only_if b o �
 only_is true o ts e = (refl, e)
 only_is false o ts e = cc
 
-module _ (w : Setting) (g : Graph) (done : Standing_cells) (p : Pending) (due : List Due) (ts : List Step) (fuel : ℕ)
-    (ih : (done' : Standing_cells) (due' : List Due) (ts' : List Step) → walk fuel w g done' due' ≡ Some ts' → Deferral w g done' due' ts') where
+module _ (w : Setting) (g : Graph) (done : Placed_cells) (p : Pending) (due : List Due) (ts : List Step) (fuel : ℕ)
+    (ih : (done' : Placed_cells) (due' : List Due) (ts' : List Step) → walk fuel w g done' due' ≡ Some ts' → Deferral w g done' due' ts') where
   abbrev step : ℕ → Bool → Option (List Step)
   step c true = with (stands_already p c) (walk fuel w g done due)
   step c false = only_if (not (is_standing done c)) (with (referent_stands p c) (walk fuel w g ((p.class, c) ∷ done) (due_of w.table (standing_cell g p c) ++ due)))
@@ -138,7 +138,7 @@ module _ (w : Setting) (g : Graph) (done : Standing_cells) (p : Pending) (due : 
   by_cell (Some c) f e = by_done c f (is_full p.class && is_standing_full done c) refl e
 
 -- what the walk finds are the steps of deferral
-pub walk_gives : (fuel : ℕ) (w : Setting) (g : Graph) (done : Standing_cells) (due : List Due) (ts : List Step)
+pub walk_gives : (fuel : ℕ) (w : Setting) (g : Graph) (done : Placed_cells) (due : List Due) (ts : List Step)
     → walk fuel w g done due ≡ Some ts → Deferral w g done due ts
 walk_gives zero w g done [] ts e = subst (λ us. Deferral w g done [] us) (same_Some _ _ e) none_due
 walk_gives (suc fuel) w g done [] ts e = subst (λ us. Deferral w g done [] us) (same_Some _ _ e) none_due
@@ -465,18 +465,18 @@ abbrev pub are_unshared : List Pending → Bool
 are_unshared [] = true
 are_unshared (p ∷ ps) = all_meet p ps && are_unshared ps
 
-meet_is : (p q : Pending) → may_meet p q ≡ true → MayMeet p q
+meet_is : (p q : Pending) → may_meet p q ≡ true → ShareOnlyIfFull p q
 meet_is p q e c a b =
     let s : same_cell p.cell q.cell ≡ true = rw (a, b) (eq-eqb c c refl) in
     let f : (is_full p.class && is_full q.class) ≡ true = (rw s at e) in
     (full_is _ (and_left (is_full p.class) (is_full q.class) f), full_is _ (and_right (is_full p.class) (is_full q.class) f))
 
-meets_are : (p : Pending) (qs : List Pending) → all_meet p qs ≡ true → AllByRecursion (MayMeet p) qs
+meets_are : (p : Pending) (qs : List Pending) → all_meet p qs ≡ true → AllByRecursion (ShareOnlyIfFull p) qs
 meets_are p [] e = tt
 meets_are p (q ∷ qs) e =
     (meet_is p q (and_left (may_meet p q) (all_meet p qs) e), meets_are p qs (and_right (may_meet p q) (all_meet p qs) e))
 
-pub unshared_are : (ps : List Pending) → are_unshared ps ≡ true → AllEarlier MayMeet ps
+pub unshared_are : (ps : List Pending) → are_unshared ps ≡ true → AllEarlier ShareOnlyIfFull ps
 unshared_are [] e = tt
 unshared_are (p ∷ ps) e =
     (meets_are p ps (and_left (all_meet p ps) (are_unshared ps) e), unshared_are ps (and_right (all_meet p ps) (are_unshared ps) e))

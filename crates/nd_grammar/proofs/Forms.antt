@@ -11,7 +11,7 @@ use Rattle.nd_graph.specs.declared.item.Home.{Home}
 use Rattle.nd_grammar.specs.Entry.{Kind, Entry, Align, Max, Offset, Actual, Chunk, Number, Num, Tag, Text, Context, Test, Unread, size_at, EntryAt}
 use Rattle.nd_grammar.specs.Represents.{piece}
 use Rattle.nd_grammar.specs.Refusal.{refusal, kind_refusal, refused_if, is_long}
-use Rattle.nd_grammar.proofs.Next.{form}
+use Rattle.nd_grammar.specs.NextEntry.{form}
 
 pub size_form : (at : ℕ) (x : Kind) → size_at at (form x) ≡ size_at at x
 size_form at (Text octets) = ap (λ n. n + 1) (length-replicate (length octets) 0)

@@ -16,34 +16,31 @@ use Rattle.nd_graph.specs.Agreement.{Agreement}
 use Rattle.nd_graph.specs.Setting.{cell_of_number}
 use Rattle.nd_graph.specs.Nodes.{child_types, child_agreements, first_agreements, rest_agreements, nodes_of, TypedNode}
 use Rattle.nd_graph.specs.Deferral.{Pending, pointer, pointer_by, Due, due_root, due_referent}
-use Rattle.nd_grammar.proofs.Next.{bare, class_of, CellsMatch, Match, Matched, NodeKnown, PointeeKnown, Known, matched_nodes, matched_count, matched_number, child_agreements_same, through, pointer_bare}
+use Rattle.nd_graph.proofs.Orderly.{Pointee}
+use Rattle.nd_grammar.proofs.Matching.{bare, class_of, Match, Matched, NodeKnown, PointeeKnown, Known, matched_nodes, matched_count, matched_number, child_agreements_same, through, pointer_bare}
 
-module _ (nums nums' : ℕ → ℕ) (g g' : Graph) where
-  -- a pointer's cell is one of its referent's type
-  abbrev pub Typed : Graph → Pending → Type 0
-  Typed k p = (c : ℕ) → p.cell ≡ Some c → (x : Referent) × (cell_of_number k c ≡ Some x) × (x.of ≡ p.to)
-
+module _ (C : Class → Option ℕ → Option ℕ → Type 0) (g g' : Graph) where
   pub record PointersMatch (p q : Pending) : Type 0 where
     pub class : p.class ≡ q.class
     pub to : p.to ≡ q.to
     pub agreements : p.agreements ≡ q.agreements
-    pub cells : CellsMatch nums nums' p.class p.cell q.cell
-    pub typed : Typed g p
-    pub typed' : Typed g' q
+    pub cells : C p.class p.cell q.cell
+    pub typed : Pointee g p
+    pub typed' : Pointee g' q
 
   abbrev pub AllPointers : List Pending → List Pending → Type 0
   AllPointers [] [] = Unit {0}
   AllPointers (p ∷ ps) (q ∷ qs) = PointersMatch p q × AllPointers ps qs
   AllPointers _ _ = ⊥
 
-  both : (ps qs ps' qs' : List Pending) → AllPointers ps qs → AllPointers ps' qs' → AllPointers (ps ++ ps') (qs ++ qs')
+  pub both : (ps qs ps' qs' : List Pending) → AllPointers ps qs → AllPointers ps' qs' → AllPointers (ps ++ ps') (qs ++ qs')
   both [] [] ps' qs' a b = b
   both [] (q ∷ qs) ps' qs' a b = absurd a
   both (p ∷ ps) [] ps' qs' a b = absurd a
   both (p ∷ ps) (q ∷ qs) ps' qs' a b = (a.0, both ps qs ps' qs' a.1 b)
 
   by_match : (d : Option TypeDef) (b : Bool) (c c' : Option ℕ) (h h' : Home) (n : ℕ) (ws : List Agreement)
-      → CellsMatch nums nums' (class_of d) c c' → PointeeKnown g d c → PointeeKnown g' d c'
+      → C (class_of d) c c' → PointeeKnown g d c → PointeeKnown g' d c'
       → AllPointers (pointer_by d b c h n ws) (pointer_by d b c' h' n ws)
   by_match (Some (def.Pointer k to)) true c c' h h' n ws m a a' = (
     record {
@@ -77,11 +74,11 @@ module _ (nums nums' : ℕ → ℕ) (g g' : Graph) where
       go _ = refl
   bare_types d ks _ = refl
 
-  types_same : (d : Option TypeDef) (l l' : Label) (ks ks' : Trees) → bare l ≡ bare l' → count ks ≡ count ks' → child_types d l ks ≡ child_types d l' ks'
+  pub types_same : (d : Option TypeDef) (l l' : Label) (ks ks' : Trees) → bare l ≡ bare l' → count ks ≡ count ks' → child_types d l ks ≡ child_types d l' ks'
   types_same d l l' ks ks' e c = through l l' e (λ k. child_types d k ks) (bare_types d ks) ∙ count_types d l' ks ks' c
 
   pub nodes_match : (table : Table) (h h' : Home) (types : List ℕ) (agreements : List (List Agreement)) (n : ℕ) (ts us : Trees)
-      → Known nums g table types ts → Known nums' g' table types us → Matched nums nums' table types ts us
+      → Known g table types ts → Known g' table types us → Matched C table types ts us
       → AllPointers (flat_map (pointer table h) (nodes_of table types agreements n ts)) (flat_map (pointer table h') (nodes_of table types agreements n us))
   nodes_match table h h' [] agreements n none none a b m = tt
   nodes_match table h h' [] agreements n none (more u us) a b m = absurd m
@@ -90,9 +87,9 @@ module _ (nums nums' : ℕ → ℕ) (g g' : Graph) where
   nodes_match table h h' (t ∷ types) agreements n (more (node l ks) ts) none a b m = absurd m
   nodes_match table h h' (t ∷ types) agreements n (more (node l ks) ts) (more (node l' ks') us) a b m =
       let d : Option TypeDef = type_at table t in
-      let c : count ks ≡ count ks' = matched_count nums nums' table _ ks ks' m.1 in
-      let v : nodes ks ≡ nodes ks' = matched_nodes nums nums' table _ ks ks' m.1 in
-      let w : child_agreements d ks ≡ child_agreements d ks' = child_agreements_same nums nums' table d ks ks' (matched_number nums nums' table _ ks ks' m.1) in
+      let c : count ks ≡ count ks' = matched_count C table _ ks ks' m.1 in
+      let v : nodes ks ≡ nodes ks' = matched_nodes C table _ ks ks' m.1 in
+      let w : child_agreements d ks ≡ child_agreements d ks' = child_agreements_same C table d ks ks' (matched_number C table _ ks ks' m.1) in
       let e : child_types d l ks ≡ child_types d l' ks' = types_same d l l' ks ks' m.0.same c in
       let i : is_pointer l ≡ is_pointer l' = through l l' m.0.same is_pointer pointer_bare in
       let A : List TypedNode = nodes_of table (child_types d l ks) (child_agreements d ks) (n + 1) ks in
@@ -102,7 +99,7 @@ module _ (nums nums' : ℕ → ℕ) (g g' : Graph) where
       let f : TypedNode → List Pending = pointer table h in
       let f' : TypedNode → List Pending = pointer table h' in
       let own = by_match d (is_pointer l) (cell_in l) (cell_in l') h h' n (first_agreements agreements) m.0.cells a.0.pointee b.0.pointee in
-      let kids = nodes_match table h h' (child_types d l ks) (child_agreements d ks) (n + 1) ks ks' a.1 (subst (λ x. Known nums' g' table x ks') (sym e) b.1) m.1 in
+      let kids = nodes_match table h h' (child_types d l ks) (child_agreements d ks) (n + 1) ks ks' (a.1 m.0.read) (subst (λ x. Known g' table x ks') (sym e) (b.1 m.0.read')) m.1 in
       let rest = nodes_match table h h' types (rest_agreements agreements) (n + 1 + nodes ks) ts us a.2 b.2 m.2 in
       let whole : AllPointers
       (pointer_by d (is_pointer l) (cell_in l) h n (first_agreements agreements) ++ (flat_map f A ++ flat_map f B))

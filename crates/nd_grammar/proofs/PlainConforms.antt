@@ -16,7 +16,7 @@ use Rattle.nd_graph.specs.Nodes.{TypedNode, governed_nodes}
 use Rattle.nd_graph.specs.Variables.{root_agreements}
 use Rattle.nd_graph.specs.Homes.{HomeNode, all_nodes, all_pointers, root_nodes, cell_nodes, root_pointers}
 use Rattle.nd_graph.specs.Misfit.{misfit_of, has_machine_values, is_partial_node}
-use Rattle.nd_graph.specs.Conforms.{Conforms, IsPartial, AllEarlier, MayMeet, Reached, by_root, by_cell, AgreesAt}
+use Rattle.nd_graph.specs.Conforms.{Conforms, IsPartial, AllEarlier, ShareOnlyIfFull, Reached, by_root, by_cell, AgreesAt}
 use Rattle.nd_grammar.specs.Plain.{ArePlain, number, plain_graph}
 use Rattle.nd_grammar.proofs.PlainStreams.{label_of, no_pointers, plain_length, Suffix, suffix_first, suffix_next, suffix_whole}
 
@@ -106,7 +106,7 @@ module _ (w : Setting) (ps : List Primitive) (plain : ArePlain w.table (root_lis
         all_roots = (plain_lengths w.table ps (root_list w) zs plain b).0;
         machine_values = ap (λ xs. list_all (λ (x : HomeNode). has_machine_values x.typed.label) xs) all ∙ valued w g (root_list w) zs 0;
         local = ap (λ xs. list_all (λ (x : HomeNode). is_partial_node w.table g x.typed) xs) all ∙ partials w g ps (root_list w) zs 0 plain b;
-        unshared = subst (λ xs. AllEarlier MayMeet xs) (sym (no_cell_pointers zs)) tt;
+        unshared = subst (λ xs. AllEarlier ShareOnlyIfFull xs) (sym (no_cell_pointers zs)) tt;
       }
 
   -- and they conform
@@ -118,7 +118,7 @@ module _ (w : Setting) (ps : List Primitive) (plain : ArePlain w.table (root_lis
         all_roots = (plain_lengths w.table ps (root_list w) zs plain b).0;
         machine_values = ap (λ xs. list_all (λ (x : HomeNode). has_machine_values x.typed.label) xs) all ∙ valued w g (root_list w) zs 0;
         local = subst (λ xs. AllByRecursion (λ (x : HomeNode). misfit_of w.table g x.typed ≡ None) xs) (sym all) (fits w g ps (root_list w) zs 0 plain b);
-        unshared = subst (λ xs. AllEarlier MayMeet xs) (sym (no_cell_pointers zs)) tt;
+        unshared = subst (λ xs. AllEarlier ShareOnlyIfFull xs) (sym (no_cell_pointers zs)) tt;
         reached = λ c low high. absurd (omega (arith, low, high));
         agreed = subst (λ xs. AllByRecursion (λ (x : HomeNode). AgreesAt g x.typed) xs) (sym all) (agree w g ps (root_list w) zs 0 plain);
         few_cells = lit< tt;

@@ -17,7 +17,7 @@ use Rattle.nd_graph.specs.Tree.{Tree, Trees, node, none, more, nodes, Label, is_
 use Rattle.nd_graph.specs.Agreement.{Agreement}
 use Rattle.nd_graph.specs.Setting.{Setting, root_list, root_at}
 use Rattle.nd_graph.specs.Nodes.{nodes_of, child_types, child_agreements}
-use Rattle.nd_graph.specs.Deferral.{Due, due_root, due_referent, Step, root_stands, Deferral, none_due, at_root, at_null, at_standing, at_referent, Standing, Standing_cells, standing_root, standing_by, direct, root_type, due_of, due_roots, before_pipes, home_pointers, pointer, pointer_by, root_cell, AreFree}
+use Rattle.nd_graph.specs.Deferral.{Due, due_root, due_referent, Step, root_stands, Deferral, none_due, at_root, at_null, at_standing, at_referent, Standing, Placed_cells, standing_root, standing_by, direct, root_type, due_of, due_roots, before_pipes, home_pointers, pointer, pointer_by, root_cell, AreFree}
 use Rattle.nd_graph.specs.Variables.{root_agreements}
 use Rattle.nd_grammar.specs.Entry.{Kind, Entry, Align, Num, Unread}
 use Rattle.nd_grammar.specs.InPlace.{before_children, entries, in_place, own_tests, child_tests, hoisted, hoisted_max, whole_value}
@@ -135,9 +135,9 @@ module _ (w : Setting) (g : Graph) where
       (subst (λ y. Deferral w g (root_cell y.home ++ []) (due_of w.table y ++ rest) after) (sym (root_is i r p root a.2)) d)
 
   -- and in no other order
-  one_step : (i : ℕ) (rest : List Due) {done : Standing_cells} {due : List Due} {steps : List Step} → Deferral w g done due steps → due ≡ due_root i ∷ rest
+  one_step : (i : ℕ) (rest : List Due) {done : Placed_cells} {due : List Due} {steps : List Step} → Deferral w g done due steps → due ≡ due_root i ∷ rest
       → due_of w.table (standing_root w g i) ≡ []
-      → (done' : Standing_cells) × (later : List Step) × Deferral w g done' rest later × (steps ≡ root_stands i ∷ later)
+      → (done' : Placed_cells) × (later : List Step) × Deferral w g done' rest later × (steps ≡ root_stands i ∷ later)
   one_step i rest none_due e free_of = cc
   one_step i rest (at_null x a) e free_of = cc
   one_step i rest (at_standing c x y z a) e free_of = cc
@@ -153,10 +153,10 @@ module _ (w : Setting) (g : Graph) where
       )
 
   pub only_steps : (ps : List Primitive) (rs : List Root) (i : ℕ) → ArePlain w.table rs ps → Suffix (root_list w) i rs
-      → (done : Standing_cells) (steps : List Step) → Deferral w g done (due_roots i (length ps)) steps → steps ≡ root_steps i (length ps)
+      → (done : Placed_cells) (steps : List Step) → Deferral w g done (due_roots i (length ps)) steps → steps ≡ root_steps i (length ps)
   only_steps [] rs i a s done steps d = none_left d refl
     where
-      none_left : {done : Standing_cells} {due : List Due} {steps : List Step} → Deferral w g done due steps → due ≡ [] → steps ≡ []
+      none_left : {done : Placed_cells} {due : List Due} {steps : List Step} → Deferral w g done due steps → due ≡ [] → steps ≡ []
       none_left none_due e = refl
       none_left (at_root f b) e = cc
       none_left (at_null x b) e = cc

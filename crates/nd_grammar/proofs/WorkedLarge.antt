@@ -21,7 +21,7 @@ use Rattle.nd_graph.specs.Setting.{Setting, unread, cell_home}
 use Rattle.nd_graph.specs.Nodes.{TypedNode, nodes_of}
 use Rattle.nd_graph.specs.Homes.{HomeNode}
 use Rattle.nd_graph.specs.Deferral.{root_stands, Deferral, none_due, at_root, due_referent, pointer, Pending}
-use Rattle.nd_graph.specs.Conforms.{IsPartial, AllEarlier, MayMeet}
+use Rattle.nd_graph.specs.Conforms.{IsPartial, AllEarlier, ShareOnlyIfFull}
 use Rattle.nd_graph.specs.Misfit.{has_machine_values, is_partial_node}
 use Rattle.nd_grammar.specs.declared.reason.Reason.TheVariants as reason
 use Rattle.nd_grammar.specs.Entry.{Entry, EntryAt, Text, Test, end_to_end, full_cells, size_at}
@@ -118,7 +118,7 @@ claim_partial m small =
           ap (λ xs. eqb (suc (suc (suc (count (unreads m))))) (suc (suc (suc (length {A = ℕ} (replicate (count (unreads m)) 9))))) && true && true && true && true
           && eqb (suc (suc (suc (count (unreads m))))) (suc (suc (suc m))) && passed m P xs) (homed_is m)
           ∙ ap₂ (λ b c. b && true && true && true && true && c && passed m P (map (homed m) (unread_nodes m 6))) typed many ∙ all_pass P (λ k. refl) (cell_home 1) m 6;
-      unshared = subst (λ ps. AllEarlier MayMeet (root_pointer ∷ (ps ++ []))) (sym (pointless m)) (tt, tt);
+      unshared = subst (λ ps. AllEarlier ShareOnlyIfFull (root_pointer ∷ (ps ++ []))) (sym (pointless m)) (tt, tt);
     }
 
 claim_stream : (m : ℕ) → Stream sized (claiming m) (representation sized (claiming m) (root_stands 0 ∷ []) [])

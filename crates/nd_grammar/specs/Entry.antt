@@ -74,7 +74,7 @@ end_of at [] = at
 end_of at (m ∷ ms) = end_of (at + size_at at m.kind) ms
 
 -- the cell that a full pointer names
-abbrev full_cell : Kind → List ℕ
+abbrev pub full_cell : Kind → List ℕ
 full_cell (Number Full to (Some c)) = c ∷ []
 full_cell _ = []
 

@@ -15,3 +15,6 @@ pub mod ExamplesPointers
 pub mod ExamplesArrays
 pub mod ExamplesUnions
 pub mod Primitives
+pub mod LegalSide
+pub mod NextEntry
+pub mod Reader

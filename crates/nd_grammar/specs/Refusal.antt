@@ -29,23 +29,23 @@ is_long at Unread = false
 is_long at x = ltb STREAM_LIMIT (at + size_at at x)
 
 -- the value of an enumerated type is one of its enumerators; others have no enumerators
-abbrev is_enumerator : Option (List ℤ) → ℤ → Bool
+abbrev pub is_enumerator : Option (List ℤ) → ℤ → Bool
 is_enumerator None v = true
 is_enumerator (Some values) v = list_any (int_eq v) values
 
 -- an arm is selected
-abbrev is_selected : Option Arm → Bool
+abbrev pub is_selected : Option Arm → Bool
 is_selected None = false
 is_selected (Some a) = true
 
 -- a text's octets with its terminator: the first zero before the last, else a last octet that is not zero
-abbrev text_refusal : ℕ → List ℕ → Option (ℕ × Reason)
+abbrev pub text_refusal : ℕ → List ℕ → Option (ℕ × Reason)
 text_refusal at [] = None
 text_refusal at (b ∷ []) = cond (eqb b 0) None (Some (at, reason.TextUnended))
 text_refusal at (b ∷ c ∷ bs) = cond (eqb b 0) (Some (at, reason.TextZero)) (text_refusal (at + 1) (c ∷ bs))
 
 -- the entry that an attribute speaks of: the maximum count, the offset, the actual count (for the last index too), the tag
-abbrev kind_agrees : Attr → Kind → Bool
+abbrev pub kind_agrees : Attr → Kind → Bool
 kind_agrees attr.Size (Max v) = true
 kind_agrees attr.Max (Max v) = true
 kind_agrees attr.First (Offset t v) = true
@@ -55,12 +55,12 @@ kind_agrees attr.Switch (Tag p values arms default v) = true
 kind_agrees _ _ = false
 
 -- a maximum count
-abbrev is_max : Kind → Bool
+abbrev pub is_max : Kind → Bool
 is_max (Max v) = true
 is_max _ = false
 
 -- two homes are one
-abbrev same_home : Home → Home → Bool
+abbrev pub same_home : Home → Home → Bool
 same_home (home.Root i) (home.Root j) = eqb i j
 same_home (home.Cell c) (home.Cell d) = eqb c.0 d.0
 same_home _ _ = false
@@ -74,7 +74,7 @@ tested_at (x ∷ xs) a h n =
     (Some x.at) (tested_at xs a h n)
 
 -- a full pointer to another type of referent: types are compared by their numbers
-abbrev other_pointee : Kind → ℕ → Bool
+abbrev pub other_pointee : Kind → ℕ → Bool
 other_pointee (Number Full to cell) to' = not (eqb to to')
 other_pointee _ to' = false
 

@@ -62,7 +62,7 @@ abbrev pub Cuts : ℕ → List ℕ → Type 0
 Cuts n cut = (sum cut ≡ n) × AllByRecursion (λ k. 0 < k) cut
 
 -- a pipe, cut into chunks
-abbrev pipe_entries : Table → Home → Option TypeDef → List ℕ → Tree → List Entry
+abbrev pub pipe_entries : Table → Home → Option TypeDef → List ℕ → Tree → List Entry
 pipe_entries table h (Some (def.Pipe elem)) cut (node tree.Pipe ks) = chunks table h elem.0 1 cut ks
 pipe_entries table h _ cut t = entries h 0 (Unread ∷ [])
 

@@ -15,8 +15,8 @@ use Rattle.nd_graph.specs.Homes.{all_nodes, all_pointers, root_pointers}
 use Rattle.nd_graph.specs.Misfit.{misfit_of, is_partial_node, has_machine_values}
 
 -- two pointers that name one cell are both full
-abbrev pub MayMeet : Pending → Pending → Type 0
-MayMeet p q = (c : ℕ) → p.cell ≡ Some c → q.cell ≡ Some c → (p.class ≡ Full) × (q.class ≡ Full)
+abbrev pub ShareOnlyIfFull : Pending → Pending → Type 0
+ShareOnlyIfFull p q = (c : ℕ) → p.cell ≡ Some c → q.cell ≡ Some c → (p.class ≡ Full) × (q.class ≡ Full)
 
 -- each is related to every later one
 abbrev pub AllEarlier : {X : Type 0} → (X → X → Type 0) → List X → Type 0
@@ -30,7 +30,7 @@ pub data Reached (w : Setting) (g : Graph) : ℕ → Type 0 where
       → Among (home_pointers w.table (cell_home b) x.of x.val) p → p.cell ≡ Some c → Reached w g c
 
 -- what a governed node's agreements speak of, by the node's label
-abbrev subject_by : Graph → TypedNode → Label → List Tree
+abbrev pub subject_by : Graph → TypedNode → Label → List Tree
 subject_by g x (tree.Ptr None) = []
 subject_by g x (tree.Ptr (Some c)) = cell_at g c ∷ []
 subject_by g x l = node l x.kids ∷ []
@@ -56,7 +56,7 @@ pub record Conforms (w : Setting) (g : Graph) : Type 0 where
   -- no node has a misfit by itself
   pub local : AllByRecursion (λ x. misfit_of w.table g x.typed ≡ None) (all_nodes w g)
   -- a cell is shared by full pointers alone
-  pub unshared : AllEarlier MayMeet (all_pointers w g)
+  pub unshared : AllEarlier ShareOnlyIfFull (all_pointers w g)
   -- every cell is reached
   pub reached : (c : ℕ) → 0 < c → c < length g.cells + 1 → Reached w g c
   -- every agreement of a parameter or a member holds
@@ -75,4 +75,4 @@ pub record IsPartial (w : Setting) (g : Graph) : Type 0 where
   -- each node is unread, or has the form of its type
   pub local : list_all (λ x. is_partial_node w.table g x.typed) (all_nodes w g) ≡ true
   -- a cell is shared by full pointers alone
-  pub unshared : AllEarlier MayMeet (all_pointers w g)
+  pub unshared : AllEarlier ShareOnlyIfFull (all_pointers w g)

@@ -94,53 +94,53 @@ abbrev pub standing_cell : Graph → Pending → ℕ → Standing
 standing_cell g p c = record { home = cell_home c; of = p.to; val = cell_at g c }
 
 -- the cells that stand already, each with the class of the pointer for which it was placed
-abbrev pub Standing_cells : Type 0
-Standing_cells = List (Class × ℕ)
+abbrev pub Placed_cells : Type 0
+Placed_cells = List (Class × ℕ)
 
 -- the cell is among those that stand
-abbrev pub IsStanding : Standing_cells → ℕ → Type 0
-IsStanding [] c = ⊥
-IsStanding (d ∷ ds) c = (c ≡ d.1) ⊎ IsStanding ds c
+abbrev pub IsPlaced : Placed_cells → ℕ → Type 0
+IsPlaced [] c = ⊥
+IsPlaced (d ∷ ds) c = (c ≡ d.1) ⊎ IsPlaced ds c
 
 -- the cell is among those that stand, placed for a full pointer
-abbrev pub IsStandingFull : Standing_cells → ℕ → Type 0
-IsStandingFull [] c = ⊥
-IsStandingFull (d ∷ ds) c = ((d.0 ≡ Full) × (c ≡ d.1)) ⊎ IsStandingFull ds c
+abbrev pub IsPlacedFull : Placed_cells → ℕ → Type 0
+IsPlacedFull [] c = ⊥
+IsPlacedFull (d ∷ ds) c = ((d.0 ≡ Full) × (c ≡ d.1)) ⊎ IsPlacedFull ds c
 
 -- a top-level reference pointer's cell
-abbrev pub root_cell : Home → Standing_cells
+abbrev pub root_cell : Home → Placed_cells
 root_cell (home.Root i) = []
 root_cell (home.Cell c) = (Ref, c.0) ∷ []
 
 -- none of the first stands among the second
-abbrev pub AreFree : Standing_cells → Standing_cells → Type 0
+abbrev pub AreFree : Placed_cells → Placed_cells → Type 0
 AreFree [] done = Unit {0}
-AreFree (d ∷ ds) done = ¬ IsStanding done d.1 × AreFree ds done
+AreFree (d ∷ ds) done = ¬ IsPlaced done d.1 × AreFree ds done
 
 -- The steps for what is due, in order, where some cells stand already. A value that stands makes the referents of its pointers
 -- due at once, before whatever waited: so referents stand left to right and depth first, each followed by its own. The referent
 -- of a full pointer stands at the first of its pointers in this order, whichever stands first in place; at the later ones nothing
 -- stands again. (Both are this project's choice.) No cell stands twice: a cell that stands is met again by full pointers alone,
 -- which is so in every graph whose cells are shared by full pointers alone.
-pub data Deferral (w : Setting) (g : Graph) : Standing_cells → List Due → List Step → Type 0 where
-  none_due : {done : Standing_cells} → Deferral w g done [] []
-  at_root : {done : Standing_cells} {i : ℕ} {due : List Due} {steps : List Step}
+pub data Deferral (w : Setting) (g : Graph) : Placed_cells → List Due → List Step → Type 0 where
+  none_due : {done : Placed_cells} → Deferral w g done [] []
+  at_root : {done : Placed_cells} {i : ℕ} {due : List Due} {steps : List Step}
       → AreFree (root_cell (standing_root w g i).home) done
       → Deferral w g (root_cell (standing_root w g i).home ++ done) (due_of w.table (standing_root w g i) ++ due) steps
       → Deferral w g done (due_root i ∷ due) (root_stands i ∷ steps)
-  at_null : {done : Standing_cells} {p : Pending} {due : List Due} {steps : List Step}
+  at_null : {done : Placed_cells} {p : Pending} {due : List Due} {steps : List Step}
       → p.cell ≡ None
       → Deferral w g done due steps
       → Deferral w g done (due_referent p ∷ due) steps
-  at_standing : {done : Standing_cells} {p : Pending} {due : List Due} {steps : List Step} (c : ℕ)
+  at_standing : {done : Placed_cells} {p : Pending} {due : List Due} {steps : List Step} (c : ℕ)
       → p.cell ≡ Some c
       → p.class ≡ Full
-      → IsStandingFull done c
+      → IsPlacedFull done c
       → Deferral w g done due steps
       → Deferral w g done (due_referent p ∷ due) (stands_already p c ∷ steps)
-  at_referent : {done : Standing_cells} {p : Pending} {due : List Due} {steps : List Step} (c : ℕ)
+  at_referent : {done : Placed_cells} {p : Pending} {due : List Due} {steps : List Step} (c : ℕ)
       → p.cell ≡ Some c
-      → ¬ IsStanding done c
+      → ¬ IsPlaced done c
       → Deferral w g ((p.class, c) ∷ done) (due_of w.table (standing_cell g p c) ++ due) steps
       → Deferral w g done (due_referent p ∷ due) (referent_stands p c ∷ steps)
 

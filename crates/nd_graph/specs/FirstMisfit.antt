@@ -22,33 +22,33 @@ use Rattle.nd_graph.specs.Conforms.{Reached, subject}
 use Rattle.nd_graph.specs.Misfit.{misfit_of}
 
 -- a place in a graph, a home and a node of it, and the reason for which the graph does not conform there
-pub record Misplaced : Type 0 where
+pub record MisfitAt : Type 0 where
   pub home : Home
   pub node : ℕ
   pub reason : MisfitReason
 
 -- the first misfit, if there is one, else the later
-abbrev or_later : Option Misplaced → Option Misplaced → Option Misplaced
+abbrev or_later : Option MisfitAt → Option MisfitAt → Option MisfitAt
 or_later (Some m) later = Some m
 or_later None later = later
 
 -- a reason at the place of a node
-abbrev at_node : HomeNode → Option MisfitReason → Option Misplaced
+abbrev at_node : HomeNode → Option MisfitReason → Option MisfitAt
 at_node x None = None
 at_node x (Some r) = Some (record { home = x.home; node = x.typed.node; reason = r })
 
 -- the first of these nodes for which a test has a reason
-abbrev first_node : (TypedNode → Option MisfitReason) → List HomeNode → Option Misplaced
+abbrev first_node : (TypedNode → Option MisfitReason) → List HomeNode → Option MisfitAt
 first_node test [] = None
 first_node test (x ∷ xs) = or_later (at_node x (test x.typed)) (first_node test xs)
 
 -- another number of roots than the side has: at the first that is missing or too many
-abbrev root_count : ℕ → ℕ → Option Misplaced
+abbrev root_count : ℕ → ℕ → Option MisfitAt
 root_count has due =
     cond (eqb has due) None (Some (record { home = home.Root (cond (ltb has due) has due); node = 0; reason = misfit.Shape }))
 
 -- the first pass: a node that has a misfit by itself. A wrong number of roots comes behind the roots that are there.
-abbrev pub first_local : Setting → Graph → Option Misplaced
+abbrev pub first_local : Setting → Graph → Option MisfitAt
 first_local w g =
     or_later (first_node (misfit_of w.table g) (root_nodes w g 0 (root_list w) g.roots))
     (or_later (root_count (length g.roots) (length (root_list w))) (first_node (misfit_of w.table g) (cell_nodes w.table 1 g.cells)))
@@ -68,7 +68,7 @@ abbrev clashes : Pending → Pending → Bool
 clashes p q = same_cell p.cell q.cell && not (is_full p.class && is_full q.class)
 
 -- the second pass: the first pointer that clashes with an earlier one
-abbrev pub first_shared : List Pending → List Pending → Option Misplaced
+abbrev pub first_shared : List Pending → List Pending → Option MisfitAt
 first_shared earlier [] = None
 first_shared earlier (p ∷ ps) =
     cond (list_any (clashes p) earlier) (Some (record { home = p.home; node = p.node; reason = misfit.Shared })) (first_shared (p ∷ earlier) ps)
@@ -91,14 +91,14 @@ disagreement_of [] agreements = None
 disagreement_of (t ∷ ts) agreements = disagreement t agreements
 
 -- the fourth pass: the first node whose agreements do not all hold, and the first of these
-abbrev pub first_disagreeing : Setting → Graph → Option Misplaced
+abbrev pub first_disagreeing : Setting → Graph → Option MisfitAt
 first_disagreeing w g = first_node (λ x. disagreement_of (subject g x) x.agreements) (all_nodes w g)
 
 -- the first place of the first failing pass
-pub data IsFirstMisfit (w : Setting) (g : Graph) : Misplaced → Type 0 where
-  is_local : (m : Misplaced) → first_local w g ≡ Some m → IsFirstMisfit w g m
-  is_shared : (m : Misplaced) → first_local w g ≡ None → first_shared [] (all_pointers w g) ≡ Some m → IsFirstMisfit w g m
+pub data IsFirstMisfit (w : Setting) (g : Graph) : MisfitAt → Type 0 where
+  is_local : (m : MisfitAt) → first_local w g ≡ Some m → IsFirstMisfit w g m
+  is_shared : (m : MisfitAt) → first_local w g ≡ None → first_shared [] (all_pointers w g) ≡ Some m → IsFirstMisfit w g m
   is_unreached : (c : ℕ) → first_local w g ≡ None → first_shared [] (all_pointers w g) ≡ None → IsFirstUnreached w g c
       → IsFirstMisfit w g (record { home = cell_home c; node = 0; reason = misfit.Unreached })
-  is_disagreeing : (m : Misplaced) → first_local w g ≡ None → first_shared [] (all_pointers w g) ≡ None
+  is_disagreeing : (m : MisfitAt) → first_local w g ≡ None → first_shared [] (all_pointers w g) ≡ None
       → ((c : ℕ) → 0 < c → c ≤ length g.cells → Reached w g c) → first_disagreeing w g ≡ Some m → IsFirstMisfit w g m

@@ -5,6 +5,7 @@ pub mod Setting
 pub mod Agreement
 pub mod Nodes
 pub mod Deferral
+pub mod RepeatedDeferral
 pub mod Variables
 pub mod Homes
 pub mod Misfit

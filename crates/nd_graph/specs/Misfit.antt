@@ -19,7 +19,7 @@ use Rattle.nd_graph.specs.Nodes.{child_types, TypedNode}
 
 -- Where the tag selects an arm, the union's value is there exactly if that arm has a type. (Where the tag selects none, what is
 -- there is not asked.)
-abbrev arm_fits : Option Arm → Trees → Bool
+abbrev pub arm_fits : Option Arm → Trees → Bool
 arm_fits None ks = true
 arm_fits (Some a) ks = eqb (count ks) (length (arm_type a))
 
@@ -53,7 +53,7 @@ names_cell g (tree.Ptr (Some c)) = not (eqb c 0) && leb c (length g.cells)
 names_cell g _ = true
 
 -- a cell, where it is there, is of this type
-abbrev has_type : Option Referent → ℕ → Bool
+abbrev pub has_type : Option Referent → ℕ → Bool
 has_type None t = true
 has_type (Some c) t = eqb c.of t
 
@@ -76,28 +76,28 @@ has_counts (Some (def.Text elem bound)) (tree.Text max octets) ks = is_bound bou
 has_counts _ _ ks = true
 
 -- offset and actual count end within the maximum count; a text's actual count includes its terminator
-abbrev is_within : Label → Trees → Bool
+abbrev pub is_within : Label → Trees → Bool
 is_within (tree.Arr max offset) ks = leb (offset + count ks) max
 is_within (tree.Text max octets) ks = leb (length octets + 1) max
 is_within _ ks = true
 
 -- a text has no zero before its terminator
-abbrev has_no_zero : Label → Bool
+abbrev pub has_no_zero : Label → Bool
 has_no_zero (tree.Text max octets) = not (list_any (eqb 0) octets)
 has_no_zero _ = true
 
 -- an arm is selected
-abbrev selects : Option Arm → Bool
+abbrev pub selects : Option Arm → Bool
 selects None = false
 selects (Some a) = true
 
 -- a tag selects an arm
-abbrev has_arm : Option TypeDef → Label → Bool
+abbrev pub has_arm : Option TypeDef → Label → Bool
 has_arm (Some (def.Union tag encapsulated arms default)) (tree.Union v) = selects (selected arms default v)
 has_arm _ _ = true
 
 -- a reason where a test fails, else what comes later
-abbrev unless : Bool → MisfitReason → Option MisfitReason → Option MisfitReason
+abbrev pub unless : Bool → MisfitReason → Option MisfitReason → Option MisfitReason
 unless true r o = o
 unless false r o = Some r
 
@@ -115,7 +115,7 @@ misfit_of table g x =
     (unless (has_arm d x.label) misfit.NoArm None)))))))
 
 -- the label of a value that is not read
-abbrev is_unread : Label → Bool
+abbrev pub is_unread : Label → Bool
 is_unread tree.Unread = true
 is_unread _ = false
 
@@ -131,11 +131,11 @@ is_partial_node table g x =
     && names_cell g x.label && names_pointee g d x.label && has_counts d x.label x.kids
 
 -- a number of 8 bits
-abbrev is_octet : ℕ → Bool
+abbrev pub is_octet : ℕ → Bool
 is_octet b = ltb b 256
 
 -- a number of 32 bits
-abbrev is_count : ℕ → Bool
+abbrev pub is_count : ℕ → Bool
 is_count n = ltb n (2 ^ 32)
 
 -- A node's counts and attributes fit in 32 bits, its octets in 8, and an identifier has 16 of them: so it is with every value of

@@ -12,7 +12,7 @@ use Rattle.nd_graph.specs.Tree.{Tree, Trees, node, none, more, count, nodes, Lab
 use Rattle.nd_graph.specs.Agreement.{Agreement, member_agreements}
 
 -- the type of the arm that a tag selects, where it has one
-abbrev selected_types : Option Arm → List ℕ
+abbrev pub selected_types : Option Arm → List ℕ
 selected_types None = []
 selected_types (Some a) = arm_type a
 

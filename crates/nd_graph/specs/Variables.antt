@@ -12,18 +12,18 @@ use Rattle.nd_graph.specs.Agreement.{Agreement, agreement, number_of}
 use Rattle.nd_graph.specs.Setting.{Setting, root_list, root_at, cell_at}
 
 -- the place of a parameter among roots, where it is one of them
-abbrev root_index : List Root → ℕ → ℕ → Option ℕ
+abbrev pub root_index : List Root → ℕ → ℕ → Option ℕ
 root_index [] j i = None
 root_index (r ∷ rs) j i = elim r.param [ None ↦ root_index rs j (i + 1) | Some k ↦ elim (eqb k j) [ true ↦ Some i | false ↦ root_index rs j (i + 1) ] ]
 
 -- the number that a variable is, or with `*` the number in the cell that it names
-abbrev starred : Graph → Bool → Tree → Option ℤ
+abbrev pub starred : Graph → Bool → Tree → Option ℤ
 starred g true (node (tree.Ptr (Some c)) ks) = number_of (cell_at g c)
 starred g true _ = None
 starred g false t = number_of t
 
 -- the value of a variable in the request that is given beside the graph, if one is
-abbrev given_value : Setting → AttrVar → Option Graph → Option ℤ
+abbrev pub given_value : Setting → AttrVar → Option Graph → Option ℤ
 given_value w a None = None
 given_value w a (Some q) =
     elim (root_index (roots_of w.table side.In w.op) a.var 0) [ None ↦ None | Some i ↦ starred q a.star (root_at q i) ]

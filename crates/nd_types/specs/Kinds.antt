@@ -131,7 +131,7 @@ abbrev pub pointee : Table → ℕ → ℕ
 pointee table t = pointee_by t (type_at table t)
 
 -- the type that a reference pointer points to
-abbrev reference_by : Table → Option TypeDef → Option TypeDef
+abbrev pub reference_by : Table → Option TypeDef → Option TypeDef
 reference_by table (Some (Pointer Ref to)) = type_at table to.0
 reference_by table _ = None
 

@@ -26,17 +26,17 @@ abbrev pub type_numbers : Table → List ℕ
 type_numbers types = map (λ e. e.0) (enumerate_from 0 types)
 
 -- the tag's type of a union
-abbrev tag_of : TypeDef → List ℕ
+abbrev pub tag_of : TypeDef → List ℕ
 tag_of (Union tag encapsulated arms default) = tag.0 ∷ []
 tag_of _ = []
 
 -- the pointee of a pointer
-abbrev pointee_of : TypeDef → List ℕ
+abbrev pub pointee_of : TypeDef → List ℕ
 pointee_of (Pointer class to) = to.0 ∷ []
 pointee_of _ = []
 
 -- the pointee of a unique or full pointer
-abbrev nullable_pointee_of : TypeDef → List ℕ
+abbrev pub nullable_pointee_of : TypeDef → List ℕ
 nullable_pointee_of (Pointer Ref to) = []
 nullable_pointee_of d = pointee_of d
 
@@ -102,7 +102,7 @@ has_plain_element types (Array elem bound varying) =
     not (hoists types elem.0) && (not (is_varying_array (type_at types elem.0)) && not (is_text (type_at types elem.0)))
 has_plain_element types _ = true
 
-abbrev only_last_hoists : Table → List Field → Bool
+abbrev pub only_last_hoists : Table → List Field → Bool
 only_last_hoists types [] = true
 only_last_hoists types (f ∷ []) = true
 only_last_hoists types (f ∷ g ∷ more) = not (hoists types f.of.0) && only_last_hoists types (g ∷ more)

@@ -88,7 +88,7 @@ labelled [] tag = None
 labelled (a ∷ more) tag = elim (int_eq a.label tag) [ true ↦ Some a | false ↦ labelled more tag ]
 
 -- the first, if there is one, else the second
-abbrev or_else : Option Arm → Option Arm → Option Arm
+abbrev pub or_else : Option Arm → Option Arm → Option Arm
 or_else (Some a) b = Some a
 or_else None b = b
 

@@ -31,8 +31,7 @@ next_number order ps os i at vals new p wide space z z' h ep ew es fits ez ez' e
     let n : at + space + wide - (at + space) ≡ width p = omega (arith, ew) in
     let there : z ≡ number_there order p at os = ez ∙ ap₂ (λ u v. value_of_octets order p (take u (drop v os))) n begins in
     let fits' : end_of_number p at ≤ length os = subst (λ e. e ≤ length os) ends fits in
-    let one = number_next order ps os i at zs p h ep fits' r in
-    (
+    let one = number_next order ps os i at zs p h ep fits' r in (
       zs ++ number_there order p at os ∷ [],
       en ∙ ap₂ (λ u v. u ++ number v ∷ []) ev (ez' ∙ there) ∙ sym (map_snoc zs (number_there order p at os)),
       subst (λ e. IsRead order ps os (i + 1) e (zs ++ number_there order p at os ∷ [])) (sym ends) one,

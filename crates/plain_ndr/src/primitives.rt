@@ -10,11 +10,7 @@ use nd_types::{Params, Prim, TypeDef, TypeId, Types};
 use std::alloc::Global;
 
 // The primitive of each parameter.
-pub(crate) fn primitives(
-    alloc: Global,
-    types: &Types,
-    params: &Params,
-) -> Result<Vec<Prim>, Memory>
+pub(crate) fn primitives(alloc: Global, types: &Types, params: &Params) -> Result<Vec<Prim>, Memory>
     requires types { types.now ≡ basic_types }
     requires plain { All IsPlainParam params.now }
     ensures { IfOk result (λ prims. prims.items ≡ map (param_primitive types.now) params.now) }

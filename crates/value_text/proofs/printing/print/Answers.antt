@@ -30,7 +30,7 @@ returns c o there =
     let found = ap (slice_get c.args.interface.now.operations) (sym c.op.ensures) ∙ c.in-Some.ensures.some in
     let same = same_Some _ _ (sym found ∙ there) in
     fit_text c.args.interface.now.types c.args.interface.now.operations c.args.fit.now.op o c.requires.plain there c.args.fit.now.graph conforms c.append_roots.new.text
-        (λ zs e. c.in_ok-append_roots.ensures zs (ap (λ g. g.roots) c.graph-graph.ensures.graph ∙ e)
-        ∙ ap₂ (λ t p. t ++ number_lines p.params zs)
-        (c.in_ok-append_head.ensures ∙ ap₂ (λ t n. t ++ joined (codes "values 1\nop " ∷ n ∷ codes " in\n" ∷ [])) c.new-text.ensures
-        (c.as_slice.ensures.same ∙ ap (λ p. p.name) same)) same)
+    (λ zs e. c.in_ok-append_roots.ensures zs (ap (λ g. g.roots) c.graph-graph.ensures.graph ∙ e)
+    ∙ ap₂ (λ t p. t ++ number_lines p.params zs)
+    (c.in_ok-append_head.ensures ∙ ap₂ (λ t n. t ++ joined (codes "values 1\nop " ∷ n ∷ codes " in\n" ∷ [])) c.new-text.ensures
+    (c.as_slice.ensures.same ∙ ap (λ p. p.name) same)) same)

@@ -1,0 +1,68 @@
+-- What the entries before an entry fix of it.
+use Rattle.std.specs.Prelude.{◌≡◌, ◌⊎◌, ℕ, ◌≤◌, ℤ, pos, List, [], ◌∷◌, length, take, replicate, Option, Some, None}
+use Rattle.std.specs.List.{AllByRecursion}
+use Rattle.nd_base.specs.declared.octets.Order.{Order}
+use Rattle.nd_graph.specs.declared.item.Home.{Home}
+use Rattle.nd_graph.specs.declared.item.Home.TheVariants as home
+use Rattle.nd_graph.specs.Setting.{Among}
+use Rattle.nd_grammar.specs.Entry.{Kind, Entry, Align, Max, Offset, Actual, Chunk, Number, Num, Tag, Text, Context, Test, Unread, size_at, EntryAt, end_to_end, full_cells}
+use Rattle.nd_grammar.specs.Represents.{IsRendered, IsNumbering}
+use Rattle.nd_grammar.specs.Refusal.{Accepts}
+
+-- all of an entry's kind but its value: of a pointer's number its class and its referent's type, of a text its length, of an agreement
+-- its attribute and both numbers
+abbrev pub form : Kind → Kind
+form (Align n) = Align n
+form (Max v) = Max 0
+form (Offset t v) = Offset t 0
+form (Actual t offset limit v) = Actual t offset limit 0
+form (Chunk v) = Chunk 0
+form (Number class to cell) = Number class to None
+form (Num p values z) = Num p values (pos 0)
+form (Tag p values arms default z) = Tag p values arms default (pos 0)
+form (Text octets) = Text (replicate (length octets) 0)
+form (Context attributes id) = Context 0 []
+form (Test attr wanted found) = Test attr wanted found
+form Unread = Unread
+
+-- two entries agree in place, length, node and all of their kind but its value
+pub record AreAlike (x y : EntryAt) : Type 0 where
+  pub at : x.at ≡ y.at
+  pub size : size_at x.at x.entry.kind ≡ size_at y.at y.entry.kind
+  pub node : x.entry.node ≡ y.entry.node
+  pub kind : form x.entry.kind ≡ form y.entry.kind
+
+abbrev pub StandsUnread : EntryAt → Type 0
+StandsUnread x = x.entry.kind ≡ Unread
+
+-- Two next entries agree, or there is none in both; but behind an unread value nothing is known.
+abbrev pub NextAlike : Option EntryAt → Option EntryAt → Type 0
+NextAlike None None = Unit {0}
+NextAlike (Some x) None = StandsUnread x
+NextAlike None (Some y) = StandsUnread y
+NextAlike (Some x) (Some y) = StandsUnread x ⊎ (StandsUnread y ⊎ AreAlike x y)
+
+-- the pairs of cells are a one-to-one map
+abbrev pub IsOneToOne : List (ℕ × ℕ) → Type 0
+IsOneToOne [] = Unit {0}
+IsOneToOne (x ∷ xs) = AllByRecursion (λ y. (x.0 ≡ y.0 → ⊥) × (x.1 ≡ y.1 → ⊥)) xs × IsOneToOne xs
+
+-- two homes correspond under a map of cells: they are the same root, or a pair of cells
+abbrev pub HomesCorrespond : List (ℕ × ℕ) → Home → Home → Type 0
+HomesCorrespond cells (home.Root i) (home.Root j) = i ≡ j
+HomesCorrespond cells (home.Cell c) (home.Cell d) = Among cells (c.0, d.0)
+HomesCorrespond cells _ _ = ⊥
+
+-- two lists of entries correspond under a map of cells, home by home and node by node
+abbrev pub AllCorrespond : List (ℕ × ℕ) → List EntryAt → List EntryAt → Type 0
+AllCorrespond cells [] [] = Unit {0}
+AllCorrespond cells (x ∷ xs) (y ∷ ys) = HomesCorrespond cells x.entry.home y.entry.home × (x.entry.node ≡ y.entry.node) × AllCorrespond cells xs ys
+AllCorrespond cells _ _ = ⊥
+
+-- the first n entries of a stream are there, octets spell them, and none of them is refused
+pub record IsReadTo (order : Order) (octets : List ℕ) (entries : List Entry) (n : ℕ) : Type 0 where
+  pub there : n ≤ length entries
+  pub numbering : ℕ → ℕ
+  pub is_numbering : IsNumbering numbering (full_cells entries)
+  pub rendered : AllByRecursion (IsRendered order numbering octets) (take n (end_to_end 0 entries))
+  pub accepted : Accepts order octets [] (take n (end_to_end 0 entries))
