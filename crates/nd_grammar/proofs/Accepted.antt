@@ -1,5 +1,5 @@
 -- Good entries that octets spell are not refused.
-use Rattle.std.proofs.Common.{◌≡◌, ℕ, ◌+◌, ◌<◌, ◌≤◌, zero, suc, ℤ, Bool, true, false, ◌&&◌, List, [], ◌∷◌, ◌++◌, length, Option, Some, None, refl, ap, ap₂, sym, ◌∙◌, inl, inr, ◌⊎◌, arith, subst, take, drop}
+use Rattle.std.proofs.Common.{◌≡◌, ℕ, ◌+◌, ◌<◌, ◌≤◌, ℤ, Bool, true, false, ◌&&◌, List, [], ◌∷◌, ◌++◌, length, Option, Some, None, refl, ap, ap₂, sym, ◌∙◌, arith, subst}
 use Rattle.std.specs.Prelude.{eqb, ltb, cond, not, ◌||◌}
 use Rattle.std.specs.Ordering.{int_eq}
 use Rattle.std.specs.List.{AllByRecursion, list_any}
@@ -12,7 +12,6 @@ use Rattle.nd_types.specs.declared.types.Class.TheVariants.{Ref, Unique, Full}
 use Rattle.nd_types.specs.Number.{unsigned, value_of_octets}
 use Rattle.nd_types.specs.Table.{selected, width}
 use Rattle.nd_graph.specs.declared.value.Graph.{Graph}
-use Rattle.nd_graph.specs.declared.item.Home.{Home}
 use Rattle.nd_graph.specs.Tree.{Referent}
 use Rattle.nd_graph.specs.Setting.{cell_of_number}
 use Rattle.nd_graph.proofs.Apart.{all_append}
@@ -21,7 +20,7 @@ use Rattle.nd_grammar.specs.declared.reason.Reason.{Reason}
 use Rattle.nd_grammar.specs.declared.reason.Reason.TheVariants as reason
 use Rattle.nd_grammar.specs.Entry.{Kind, Entry, Align, Max, Offset, Actual, Chunk, Number, Num, Tag, Text, Context, Test, Unread, size_at, EntryAt, end_to_end}
 use Rattle.nd_grammar.specs.Represents.{piece, Spells, IsRendered}
-use Rattle.nd_grammar.specs.Refusal.{refusal, kind_refusal, refused_if, is_long, is_enumerator, is_selected, text_refusal, is_other, other_pointee, disagrees_at, tested_at, Accepts}
+use Rattle.nd_grammar.specs.Refusal.{kind_refusal, refused_if, is_long, is_enumerator, is_selected, text_refusal, is_other, other_pointee, disagrees_at, tested_at, Accepts}
 use Rattle.nd_grammar.proofs.GoodEntries.{IsGood, GoodEntry}
 
 not_refused : (b : Bool) (r : ℕ × Reason) (o : Option (ℕ × Reason)) → b ≡ false → o ≡ None → refused_if b r o ≡ None

@@ -1,6 +1,6 @@
 -- A conforming graph of a legal side is a partial graph in which nothing is unread.
-use Rattle.std.proofs.Common.{◌≡◌, ℕ, ◌+◌, zero, suc, ℤ, Bool, true, false, ◌&&◌, List, [], ◌∷◌, ◌++◌, length, Option, Some, None, refl, ap, ap₂, sym, ◌∙◌, inl, inr, ◌⊎◌, subst}
-use Rattle.std.specs.Prelude.{pos, negsuc, eqb, not, ◌||◌, int_le}
+use Rattle.std.proofs.Common.{◌≡◌, ℕ, ℤ, Bool, true, false, ◌&&◌, List, [], ◌∷◌, length, Option, Some, None, refl, sym, inl, inr, ◌⊎◌, subst}
+use Rattle.std.specs.Prelude.{pos, negsuc, ◌||◌, int_le}
 use Rattle.std.specs.Ordering.{int_eq}
 use Rattle.std.specs.List.{AllByRecursion, list_all, list_any}
 use Rattle.std.proofs.lemmas.Bool.{and_parts, and_from, or_cases, eq-eqb}
@@ -18,7 +18,7 @@ use Rattle.nd_graph.specs.Tree.{Trees, Label, count}
 use Rattle.nd_graph.specs.Setting.{Setting}
 use Rattle.nd_graph.specs.Nodes.{TypedNode, child_types}
 use Rattle.nd_graph.specs.Homes.{HomeNode, all_nodes}
-use Rattle.nd_graph.specs.Misfit.{misfit_of, is_partial_node, is_unread, has_shape, has_range, is_no_null_ref, names_cell, names_pointee, has_counts}
+use Rattle.nd_graph.specs.Misfit.{misfit_of, is_partial_node, is_unread, has_range}
 use Rattle.nd_graph.specs.Conforms.{Conforms, IsPartial}
 use Rattle.nd_graph.proofs.NodeFacts.{IsFit, IsRead, fit_node, fit_is_read}
 use Rattle.nd_grammar.specs.LegalSide.{IsLegalSide}

@@ -1,9 +1,9 @@
 -- As many numbers: lists without repetition that have the same members.
-use Rattle.std.proofs.Common.{◌≡◌, ℕ, ◌+◌, ◌<◌, ◌≤◌, zero, suc, List, [], ◌∷◌, ◌++◌, length, refl, ap, ap₂, sym, ◌∙◌, inl, inr, ◌⊎◌, arith, subst, length-append}
+use Rattle.std.proofs.Common.{◌≡◌, ℕ, ◌+◌, ◌<◌, ◌≤◌, zero, suc, List, [], ◌∷◌, ◌++◌, length, refl, ap, sym, ◌∙◌, inl, inr, ◌⊎◌, arith, subst, length-append}
 use Rattle.std.specs.List.{AllByRecursion}
 use Rattle.std.proofs.lemmas.Bool.{cases_lt}
 use Rattle.nd_graph.specs.Setting.{Among}
-use Rattle.nd_graph.proofs.Apart.{all_among, among_left, among_right}
+use Rattle.nd_graph.proofs.Apart.{all_among}
 
 abbrev pub Distinct : List ℕ → Type 0
 Distinct [] = Unit {0}

@@ -1,5 +1,5 @@
 -- Where octets are refused, no first part of them is a stream of a conforming graph.
-use Rattle.std.proofs.Common.{◌≡◌, ℕ, ◌+◌, ◌<◌, ◌≤◌, zero, suc, List, [], ◌∷◌, ◌++◌, length, refl, ap, sym, ◌∙◌, arith, subst}
+use Rattle.std.proofs.Common.{◌≡◌, ℕ, ◌+◌, ◌≤◌, List, [], ◌++◌, length, sym, arith, subst}
 use Rattle.std.specs.List.{AllByRecursion}
 use Rattle.nd_base.specs.declared.octets.Order.{Order}
 use Rattle.nd_base.specs.declared.TheConstants.{STREAM_LIMIT}
@@ -9,7 +9,7 @@ use Rattle.nd_graph.specs.Conforms.{Conforms}
 use Rattle.nd_graph.proofs.Apart.{all_weaker}
 use Rattle.nd_graph.proofs.DeferralBridge.{some_before}
 use Rattle.nd_grammar.specs.declared.reason.Reason.{Reason}
-use Rattle.nd_grammar.specs.Entry.{Entry, EntryAt, size_at, end_to_end, full_cells}
+use Rattle.nd_grammar.specs.Entry.{size_at, end_to_end, full_cells}
 use Rattle.nd_grammar.specs.LegalSide.{IsLegalSide}
 use Rattle.nd_grammar.specs.Represents.{Represents, IsRendered}
 use Rattle.nd_grammar.specs.Refusal.{Accepts}

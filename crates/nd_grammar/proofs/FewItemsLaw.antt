@@ -1,5 +1,5 @@
 -- The items of a conforming graph's stream but gaps, and its cells, are together no more than the octets and the roots.
-use Rattle.std.proofs.Common.{◌≡◌, ℕ, ◌+◌, ◌*◌, ◌-◌, ◌<◌, ◌≤◌, zero, suc, Bool, true, false, List, [], ◌∷◌, ◌++◌, length, Option, Some, None, refl, ap, ap₂, sym, ◌∙◌, inl, inr, ◌⊎◌, arith, subst, drop}
+use Rattle.std.proofs.Common.{◌≡◌, ℕ, ◌+◌, ◌*◌, ◌-◌, ◌<◌, ◌≤◌, zero, suc, false, List, [], ◌∷◌, ◌++◌, length, Option, Some, None, refl, ap, sym, ◌∙◌, inl, inr, ◌⊎◌, arith, subst, drop}
 use Rattle.std.specs.Prelude.{flat_map}
 use Rattle.std.specs.List.{AllByRecursion, slice_get}
 use Rattle.std.proofs.lemmas.Bool.{cases_lt}
@@ -9,12 +9,11 @@ use Rattle.nd_types.specs.declared.types.TypeId.{TypeId}
 use Rattle.nd_types.specs.Table.{Table, type_at}
 use Rattle.nd_types.specs.Roots.{Root}
 use Rattle.nd_graph.specs.declared.value.Graph.{Graph}
-use Rattle.nd_graph.specs.declared.item.Home.{Home}
 use Rattle.nd_graph.specs.declared.item.Home.TheVariants as home
 use Rattle.nd_graph.specs.Tree as tree
 use Rattle.nd_graph.specs.Tree.{Tree, Trees, Referent, node, none, more}
-use Rattle.nd_graph.specs.Setting.{Setting, Among, root_list, root_at, or_unread, cell_at, cell_of_number, cell_home}
-use Rattle.nd_graph.specs.Deferral.{Pending, home_pointers, Due, due_root, due_referent, due_roots, before_pipes, Step, Deferral, Standing, standing_root, standing_by, direct, root_type}
+use Rattle.nd_graph.specs.Setting.{Setting, Among, root_list, root_at, or_unread}
+use Rattle.nd_graph.specs.Deferral.{Pending, home_pointers, due_root, due_roots, before_pipes, Step, Deferral, standing_root, standing_by, direct, root_type}
 use Rattle.nd_graph.specs.Homes.{root_pointers}
 use Rattle.nd_types.specs.declared.types.Class.TheVariants.{Ref}
 use Rattle.nd_graph.specs.Agreement.{Agreement}
@@ -22,14 +21,13 @@ use Rattle.nd_graph.specs.Variables.{root_agreements}
 use Rattle.nd_graph.specs.Conforms.{Conforms, Reached, by_root, by_cell}
 use Rattle.nd_graph.proofs.DeferralBridge.{some_before}
 use Rattle.nd_graph.proofs.DeferralExists.{direct_is, direct_pointer}
-use Rattle.nd_graph.proofs.NodeFacts.{sound_conforming}
 use Rattle.nd_grammar.specs.Entry.{Entry, end_of}
 use Rattle.nd_grammar.specs.FewItems.{item_count}
 use Rattle.nd_grammar.specs.LegalSide.{IsLegalSide}
 use Rattle.nd_grammar.specs.Represents.{Represents}
-use Rattle.nd_grammar.specs.Stream.{Stream, step_entries, root_tests, pipes_entries, head_entries}
+use Rattle.nd_grammar.specs.Stream.{step_entries, root_tests, pipes_entries}
 use Rattle.nd_grammar.proofs.Counting.{no_longer, down, length_down, down_distinct}
-use Rattle.nd_grammar.proofs.GoodEntries.{HoldsNoPipe, IsNoPipe}
+use Rattle.nd_grammar.proofs.GoodEntries.{HoldsNoPipe}
 use Rattle.nd_grammar.proofs.GoodStream.{DueGood, roots_due}
 use Rattle.nd_grammar.proofs.GoodTrees.{GoodTrees, good_roots}
 use Rattle.nd_grammar.proofs.ItemSizes.{numbers, numbers_append, items_size}

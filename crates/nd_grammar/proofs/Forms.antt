@@ -1,5 +1,5 @@
 -- An entry's length, and whether it is refused, follow from its form.
-use Rattle.std.proofs.Common.{◌≡◌, ℕ, ◌+◌, ◌<◌, ◌≤◌, Bool, true, false, List, [], ◌∷◌, ◌++◌, length, Option, Some, None, refl, ap, ap₂, sym, ◌∙◌, replicate, take, drop}
+use Rattle.std.proofs.Common.{◌≡◌, ℕ, ◌+◌, Bool, true, false, List, length, Option, refl, ap, ap₂, sym, ◌∙◌, take, drop}
 use Rattle.std.specs.Prelude.{ltb}
 use Rattle.std.proofs.lemmas.List.{length-replicate}
 use Rattle.nd_base.specs.declared.octets.Order.{Order}
@@ -7,10 +7,9 @@ use Rattle.nd_base.specs.declared.TheConstants.{STREAM_LIMIT}
 use Rattle.nd_types.specs.declared.types.Class.TheVariants.{Ref, Unique, Full}
 use Rattle.nd_grammar.specs.declared.reason.Reason.{Reason}
 use Rattle.nd_grammar.specs.declared.reason.Reason.TheVariants as reason
-use Rattle.nd_graph.specs.declared.item.Home.{Home}
 use Rattle.nd_grammar.specs.Entry.{Kind, Entry, Align, Max, Offset, Actual, Chunk, Number, Num, Tag, Text, Context, Test, Unread, size_at, EntryAt}
 use Rattle.nd_grammar.specs.Represents.{piece}
-use Rattle.nd_grammar.specs.Refusal.{refusal, kind_refusal, refused_if, is_long}
+use Rattle.nd_grammar.specs.Refusal.{kind_refusal, refused_if, is_long}
 use Rattle.nd_grammar.specs.NextEntry.{form}
 
 pub size_form : (at : ℕ) (x : Kind) → size_at at (form x) ≡ size_at at x

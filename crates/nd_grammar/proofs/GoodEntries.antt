@@ -1,11 +1,10 @@
 -- The entries of a conforming graph's stream: none of them is refused where octets spell them.
-use Rattle.std.proofs.Common.{◌≡◌, ℕ, ◌+◌, ◌<◌, ◌≤◌, zero, suc, ℤ, Bool, true, false, ◌&&◌, List, [], ◌∷◌, ◌++◌, length, Option, Some, None, refl, ap, ap₂, sym, ◌∙◌, inl, inr, ◌⊎◌, arith, subst, replicate}
-use Rattle.std.specs.Prelude.{flat_map, map, not, eqb, leb}
-use Rattle.std.specs.List.{AllByRecursion, list_any, slice_get}
-use Rattle.std.proofs.lemmas.Bool.{and_parts, not-true, leb-true, eqb-true}
+use Rattle.std.proofs.Common.{◌≡◌, ℕ, ◌+◌, ◌<◌, ◌≤◌, ℤ, Bool, true, false, List, [], ◌∷◌, length, Option, Some, None, refl, sym, arith}
+use Rattle.std.specs.Prelude.{eqb}
+use Rattle.std.specs.List.{AllByRecursion, list_any}
+use Rattle.std.proofs.lemmas.Bool.{not-true, leb-true}
 use Rattle.nd_types.specs.declared.types.TypeDef.{TypeDef}
 use Rattle.nd_types.specs.declared.types.TypeDef.TheVariants as def
-use Rattle.nd_types.specs.declared.types.Primitive.{Primitive}
 use Rattle.nd_types.specs.declared.types.Class.{Class}
 use Rattle.nd_types.specs.declared.types.Class.TheVariants.{Ref, Unique, Full}
 use Rattle.nd_types.specs.declared.types.Arm.{Arm}
@@ -13,11 +12,10 @@ use Rattle.nd_types.specs.Table.{Table, type_at, selected, is_value}
 use Rattle.nd_types.specs.Layout.{hoists}
 use Rattle.nd_graph.specs.declared.value.Graph.{Graph}
 use Rattle.nd_graph.specs.declared.item.Home.{Home}
-use Rattle.nd_graph.specs.declared.item.Home.TheVariants as home
 use Rattle.nd_graph.specs.Tree as tree
 use Rattle.nd_graph.specs.Tree.{Tree, Trees, node, none, more, Label, Referent, count, node_count, is_pointer}
-use Rattle.nd_graph.specs.Agreement.{Agreement, found_in}
-use Rattle.nd_graph.specs.Setting.{cell_of_number, cell_at, cell_home}
+use Rattle.nd_graph.specs.Agreement.{Agreement}
+use Rattle.nd_graph.specs.Setting.{cell_of_number}
 use Rattle.nd_graph.specs.Nodes.{child_types, child_agreements, first_agreements, rest_agreements}
 use Rattle.nd_graph.specs.Conforms.{IsAgreed}
 use Rattle.nd_types.specs.declared.types.TypeId.{TypeId}
@@ -26,7 +24,7 @@ use Rattle.nd_graph.specs.Misfit.{selects, has_shape, has_range, names_cell, nam
 use Rattle.nd_graph.proofs.Apart.{all_append}
 use Rattle.nd_graph.proofs.Orderly.{pointee_of_cell}
 use Rattle.nd_graph.proofs.NodeFacts.{IsFit}
-use Rattle.nd_grammar.specs.Entry.{Kind, Entry, Align, Max, Offset, Actual, Chunk, Number, Num, Tag, Text, Context, Test, Unread}
+use Rattle.nd_grammar.specs.Entry.{Kind, Entry, Offset, Actual, Number, Num, Tag, Text, Test, Unread}
 use Rattle.nd_grammar.specs.InPlace.{before_children, entries, counts, tag_entries, in_place, tests, own_tests, child_tests, hoisted, hoisted_max, whole_value}
 use Rattle.nd_grammar.specs.Refusal.{is_enumerator, is_selected}
 use Rattle.nd_grammar.proofs.GoodTrees.{Agrees, GoodTrees}

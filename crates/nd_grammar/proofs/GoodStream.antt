@@ -1,5 +1,5 @@
 -- The entries of a conforming graph's stream are good ones.
-use Rattle.std.proofs.Common.{◌≡◌, ℕ, ◌+◌, ◌<◌, ◌≤◌, zero, suc, ℤ, Bool, true, false, List, [], ◌∷◌, ◌++◌, length, Option, Some, None, refl, ap, ap₂, sym, ◌∙◌, inl, inr, ◌⊎◌, arith, subst, replicate, drop}
+use Rattle.std.proofs.Common.{◌≡◌, ℕ, ◌+◌, ◌<◌, ◌≤◌, zero, suc, true, false, List, [], ◌∷◌, ◌++◌, length, Option, Some, None, refl, ap, sym, ◌∙◌, arith, subst, replicate, drop}
 use Rattle.std.specs.Prelude.{flat_map, map, sum}
 use Rattle.std.specs.List.{AllByRecursion, slice_get}
 use Rattle.std.proofs.lemmas.Grind.{flat_map-append}
@@ -7,8 +7,7 @@ use Rattle.std.proofs.lemmas.Option.{same_Some, slice_get-get_or}
 use Rattle.nd_types.specs.declared.types.TypeDef.{TypeDef}
 use Rattle.nd_types.specs.declared.types.TypeId.{TypeId}
 use Rattle.nd_types.specs.declared.types.TypeDef.TheVariants as def
-use Rattle.nd_types.specs.declared.types.Class.{Class}
-use Rattle.nd_types.specs.Table.{Table, type_at}
+use Rattle.nd_types.specs.Table.{type_at}
 use Rattle.nd_types.specs.Roots.{Root}
 use Rattle.nd_graph.specs.declared.value.Graph.{Graph}
 use Rattle.nd_graph.specs.declared.item.Home.{Home}
@@ -27,13 +26,12 @@ use Rattle.nd_graph.proofs.Apart.{all_append}
 use Rattle.nd_graph.proofs.Orderly.{Pointee, pointee_of_cell}
 use Rattle.nd_graph.proofs.NodeFacts.{IsFit}
 use Rattle.nd_graph.proofs.DeferralExists.{direct_is}
-use Rattle.nd_grammar.specs.Entry.{Entry, Align, Chunk}
-use Rattle.nd_grammar.specs.InPlace.{entries, in_place, tests, whole_value}
-use Rattle.nd_grammar.specs.Stream.{Stream, step_entries, standing_entries, step_tests, root_test, root_tests, chunk_entries, chunks, Cuts, pipe_entries, pipes_entries, AllCut, head_entries, representation}
+use Rattle.nd_grammar.specs.Entry.{Entry}
+use Rattle.nd_grammar.specs.Stream.{Stream, step_entries, standing_entries, step_tests, root_test, root_tests, chunk_entries, chunks, Cuts, pipe_entries, pipes_entries, AllCut, head_entries}
 use Rattle.nd_grammar.proofs.NextPipes.{sum_first, count_drop}
 use Rattle.nd_grammar.proofs.NextStream.{IsPipeRoot, drop_at}
 use Rattle.nd_grammar.proofs.GoodTrees.{Agrees, GoodTrees, good_take, good_drop, good_cells, good_roots}
-use Rattle.nd_grammar.proofs.GoodEntries.{GoodEntry, IsGood, IsNoPipe, HoldsNoPipe, good_tests, good_in_place, good_whole}
+use Rattle.nd_grammar.proofs.GoodEntries.{GoodEntry, IsNoPipe, HoldsNoPipe, good_tests, good_in_place, good_whole}
 
 abbrev home_number : Home → ℕ
 home_number (home.Root i) = 0

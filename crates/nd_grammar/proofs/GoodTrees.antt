@@ -1,12 +1,11 @@
 -- The nodes of a conforming graph, tree by tree.
-use Rattle.std.proofs.Common.{◌≡◌, ℕ, ◌+◌, ◌<◌, ◌≤◌, zero, suc, Bool, true, false, List, [], ◌∷◌, ◌++◌, length, Option, Some, None, refl, ap, sym, ◌∙◌, inl, inr, ◌⊎◌, arith, subst, replicate}
+use Rattle.std.proofs.Common.{◌≡◌, ℕ, ◌+◌, ◌≤◌, zero, suc, List, [], ◌∷◌, length, Option, Some, None, refl, arith, subst, replicate}
 use Rattle.std.specs.List.{AllByRecursion, slice_get}
 use Rattle.std.proofs.lemmas.Option.{same_Some}
 use Rattle.nd_types.specs.declared.types.TypeDef.{TypeDef}
 use Rattle.nd_types.specs.Table.{Table, type_at}
 use Rattle.nd_types.specs.Roots.{Root}
 use Rattle.nd_graph.specs.declared.value.Graph.{Graph}
-use Rattle.nd_graph.specs.declared.item.Home.{Home}
 use Rattle.nd_graph.specs.declared.item.Home.TheVariants as home
 use Rattle.nd_graph.specs.Tree as tree
 use Rattle.nd_graph.specs.Tree.{Tree, Trees, node, none, more, Label, Referent, count, node_count, take_trees, drop_trees}
@@ -16,7 +15,7 @@ use Rattle.nd_graph.specs.Nodes.{TypedNode, nodes_of, child_types, child_agreeme
 use Rattle.nd_graph.specs.Variables.{root_agreements}
 use Rattle.nd_graph.specs.Homes.{HomeNode, in_home, all_nodes, root_nodes, cell_nodes}
 use Rattle.nd_graph.specs.Misfit.{misfit_of}
-use Rattle.nd_graph.specs.Conforms.{Conforms, AgreesAt, IsAgreed, subject_by}
+use Rattle.nd_graph.specs.Conforms.{Conforms, AgreesAt}
 use Rattle.nd_graph.proofs.Apart.{all_left, all_right, all_map}
 use Rattle.nd_graph.proofs.NodeFacts.{IsFit, fit_node, fit_children}
 

@@ -1,8 +1,8 @@
 -- Where a struct's last member alone hoists a maximum count, the one before a value tells all maximum counts inside it.
-use Rattle.std.proofs.Common.{◌≡◌, ℕ, ◌+◌, zero, suc, ℤ, Bool, true, false, List, [], ◌∷◌, ◌++◌, length, Option, Some, None, refl, ap, sym, ◌∙◌, inl, inr, ◌⊎◌, subst, replicate}
-use Rattle.std.specs.Prelude.{map, ◌&&◌, eqb}
+use Rattle.std.proofs.Common.{◌≡◌, ℕ, zero, suc, ℤ, Bool, true, false, List, [], ◌∷◌, Option, Some, None, refl, ap, sym, ◌∙◌, inl, inr, ◌⊎◌, subst, replicate}
+use Rattle.std.specs.Prelude.{map, ◌&&◌}
 use Rattle.std.specs.List.{AllByRecursion}
-use Rattle.std.proofs.lemmas.Bool.{eqb-true, and_parts}
+use Rattle.std.proofs.lemmas.Bool.{eqb-true}
 use Rattle.nd_types.specs.declared.types.TypeDef.{TypeDef}
 use Rattle.nd_types.specs.declared.types.TypeId.{TypeId}
 use Rattle.nd_types.specs.declared.types.Field.{Field}
@@ -15,9 +15,9 @@ use Rattle.nd_graph.specs.Tree as tree
 use Rattle.nd_graph.specs.Tree.{Tree, Trees, node, none, more, Label, count}
 use Rattle.nd_graph.specs.Nodes.{child_types, selected_types}
 use Rattle.nd_graph.specs.Agreement.{max_of}
-use Rattle.nd_graph.specs.Misfit.{has_shape, has_counts, is_bound}
+use Rattle.nd_graph.specs.Misfit.{has_shape, has_counts}
 use Rattle.nd_grammar.specs.InPlace.{hoisted_max, own_max}
-use Rattle.nd_grammar.proofs.Matching.{Known, NodeKnown, Maxes, SameMax}
+use Rattle.nd_grammar.proofs.Matching.{Known, Maxes, SameMax}
 use Rattle.nd_grammar.proofs.NextWhole.{MaxesFrom}
 
 -- of these types the last alone hoists, if one does

@@ -1,11 +1,10 @@
 -- The laws at a ring of two nodes: their premises can be met.
-use Rattle.std.proofs.Common.{◌≡◌, ℕ, List, [], ◌∷◌, ◌++◌, Option, Some, None, refl, inl, inr, ◌⊎◌, lit≤, lit<}
+use Rattle.std.proofs.Common.{◌≡◌, ℕ, List, [], ◌∷◌, refl, inl, lit≤}
 use Rattle.nd_base.specs.declared.octets.Order.TheVariants.{Little}
-use Rattle.nd_types.specs.Layout.{align_of, hoists}
-use Rattle.nd_types.specs.Roots.{roots_of}
+use Rattle.nd_types.specs.Layout.{hoists}
 use Rattle.nd_types.specs.Legal.{IsLegal, is_shallow, element_count, fits_pipes}
 use Rattle.nd_graph.specs.declared.value.Graph.{Graph}
-use Rattle.nd_graph.specs.Setting.{Setting, root_list}
+use Rattle.nd_graph.specs.Setting.{root_list}
 use Rattle.nd_graph.specs.Conforms.{Conforms}
 use Rattle.nd_graph.specs.Deferral.{Deferral, Step, due_roots, before_pipes}
 use Rattle.nd_graph.specs.Same.{Same}

@@ -1,32 +1,23 @@
 -- A ring of two nodes under a legal table.
-use Rattle.std.proofs.Common.{◌≤◌, ◌≡◌, ℕ, ◌<◌, zero, suc, ℤ, false, cond, eqb, List, [], ◌∷◌, Some, None, refl, sym, ◌∙◌, subst, inl, inr, ◌⊎◌, arith, lit≤, lit<}
-use Rattle.std.proofs.lemmas.Option.{same_Some}
+use Rattle.std.proofs.Common.{ℕ, ◌<◌, zero, suc, ℤ, List, [], ◌∷◌, Some, refl, inl, arith, lit<}
 use Rattle.std.specs.Prelude.{pos}
-use Rattle.std.specs.List.{slice_get}
 use Rattle.nd_base.specs.declared.octets.Order.TheVariants.{Little}
 use Rattle.nd_types.specs.declared.types.TypeDef.TheVariants as def
-use Rattle.nd_types.specs.declared.types.Attr.TheVariants as attr
 use Rattle.nd_types.specs.declared.types.Class.TheVariants.{Full}
 use Rattle.nd_types.specs.Layout.{align_of, hoists}
 use Rattle.nd_types.specs.Roots.{roots_of}
 use Rattle.nd_graph.specs.declared.value.Graph.{Graph}
 use Rattle.nd_graph.specs.declared.item.Home.TheVariants as home
-use Rattle.nd_graph.specs.declared.misfit.MisfitReason.TheVariants as misfit
-use Rattle.nd_graph.specs.Tree as tree
-use Rattle.nd_graph.specs.Tree.{Tree, node, none, more, Referent}
-use Rattle.nd_graph.specs.Setting.{Setting, unread, cell_home, cell_of_number, Among}
-use Rattle.nd_graph.specs.Deferral.{Pending, home_pointers}
+use Rattle.nd_graph.specs.Tree.{Referent}
+use Rattle.nd_graph.specs.Setting.{Setting, unread, cell_home}
+use Rattle.nd_graph.specs.Deferral.{Pending}
 use Rattle.nd_graph.specs.Homes.{all_pointers}
-use Rattle.nd_graph.specs.Same.{renumbered}
-use Rattle.nd_graph.specs.Canon.{IsCanon, canonical_number}
 use Rattle.nd_graph.specs.Conforms.{Conforms, Reached, by_root, by_cell}
-use Rattle.nd_graph.specs.FirstMisfit.{IsFirstMisfit, is_local, is_shared, is_unreached}
 use Rattle.nd_grammar.specs.declared.reason.Reason.TheVariants as reason
 use Rattle.nd_grammar.specs.Represents.{Represents}
 use Rattle.nd_grammar.specs.Bad.{Bad}
-use Rattle.nd_grammar.specs.Chosen.{Chosen}
-use Rattle.nd_grammar.specs.ExampleParts.{request, param, field, attribute, id, num, pointer_to, null, one, two, struct_of, cell, four}
-use Rattle.nd_grammar.proofs.Check.{upto, walk_gives, steps_of, represents_so, represents_by, bad_so, unshared_are, partial_so, chosen_so}
+use Rattle.nd_grammar.specs.ExampleParts.{request, param, field, id, num, pointer_to, two, struct_of, cell, four}
+use Rattle.nd_grammar.proofs.Check.{upto, represents_so, bad_so, unshared_are, partial_so}
 
 -- A ring of two nodes under a legal table: the laws are tried at it. Type 12 is a node of a long and a full pointer to a node, type 13
 -- that pointer.

@@ -1,8 +1,8 @@
 -- The sides of legal interfaces are laid out as the laws need it.
-use Rattle.std.proofs.Common.{◌≡◌, ℕ, ◌+◌, zero, suc, ℤ, Bool, true, false, ◌&&◌, List, [], ◌∷◌, ◌++◌, Option, Some, None, refl, ap, ap₂, sym, ◌∙◌, inl, inr, ◌⊎◌, subst, drop, append_assoc}
+use Rattle.std.proofs.Common.{◌≡◌, ℕ, ◌+◌, zero, suc, ℤ, Bool, true, false, ◌&&◌, List, [], ◌∷◌, ◌++◌, Option, Some, None, refl, ap, sym, ◌∙◌, inl, inr, ◌⊎◌, subst, drop}
 use Rattle.std.specs.Prelude.{map, not, eqb, filter, cond, ◌==◌, ◌||◌}
-use Rattle.std.specs.List.{AllByRecursion, list_all, list_any, slice_get, enumerate_from}
-use Rattle.std.proofs.lemmas.Bool.{and_parts, or_cases, not-true, not-false, eq-eqb, both_ways}
+use Rattle.std.specs.List.{AllByRecursion, list_all, list_any, enumerate_from}
+use Rattle.std.proofs.lemmas.Bool.{and_parts, or_cases, not-true, eq-eqb, both_ways}
 use Rattle.std.proofs.lemmas.Option.{same_Some}
 use Rattle.nd_types.specs.declared.types.TypeDef.{TypeDef}
 use Rattle.nd_types.specs.declared.types.TypeId.{TypeId}
@@ -23,7 +23,7 @@ use Rattle.nd_types.specs.Table.{Table, type_at, selected, labelled, or_else}
 use Rattle.nd_types.specs.Layout.{hoists, hoists_by, hoists_within, last_hoists, parts, arm_type, arm_types, default_type}
 use Rattle.nd_types.specs.Legal.{IsLegal, only_last_hoists, has_none_within, is_barred_in_pipes, fits_pipes, is_switched}
 use Rattle.nd_types.specs.Fields.{FieldAt, fields_at, attr_rank, all_fields, has_attr, has_size, has_range_attr, subject_type, param_fields}
-use Rattle.nd_types.specs.Kinds.{pointee, pointee_by, is_conformant_array, is_conformant_text, is_varying_array, is_pointer, is_nonencapsulated}
+use Rattle.nd_types.specs.Kinds.{pointee, pointee_by, is_conformant_array, is_conformant_text, is_varying_array, is_nonencapsulated}
 use Rattle.nd_types.specs.Roots.{Root, roots_of, params_from, root_of, root_by, pipe_of, pipe_by, result_root, travels, pipe_referent}
 use Rattle.nd_types.proofs.LayoutLaws.{hoists-legal}
 use Rattle.nd_types.proofs.LegalLaws.{passes_at}

@@ -1,14 +1,14 @@
 -- What a map of cells that carries two graphs says of their values, and of their pointers.
-use Rattle.std.proofs.Common.{◌≡◌, ℕ, ◌+◌, zero, suc, Bool, true, false, ◌&&◌, List, [], ◌∷◌, ◌++◌, length, Option, Some, None, refl, ap, ap₂, sym, ◌∙◌, inl, inr, ◌⊎◌, subst, replicate}
-use Rattle.std.specs.Prelude.{map, flat_map, eqb, cond, not}
-use Rattle.std.specs.List.{AllByRecursion, list_all}
+use Rattle.std.proofs.Common.{◌≡◌, ℕ, ◌+◌, zero, suc, Bool, true, false, List, [], ◌∷◌, ◌++◌, Option, Some, None, refl, ap, ap₂, sym, ◌∙◌, inl, inr, subst, replicate}
+use Rattle.std.specs.Prelude.{flat_map, eqb, cond}
+use Rattle.std.specs.List.{AllByRecursion}
 use Rattle.std.proofs.lemmas.Bool.{and_parts, not-true, eq-eqb}
 use Rattle.std.proofs.lemmas.Grind.{flat_map-append}
 use Rattle.nd_types.specs.declared.types.TypeDef.{TypeDef}
 use Rattle.nd_types.specs.declared.types.TypeId.{TypeId}
 use Rattle.nd_types.specs.declared.types.TypeDef.TheVariants as def
 use Rattle.nd_types.specs.declared.types.Class.{Class}
-use Rattle.nd_types.specs.Table.{Table, type_at, selected}
+use Rattle.nd_types.specs.Table.{Table, type_at}
 use Rattle.nd_types.specs.Layout.{parts}
 use Rattle.nd_types.specs.Legal.{has_none_within, is_barred_in_pipes}
 use Rattle.nd_graph.specs.declared.value.Graph.{Graph}
@@ -23,10 +23,9 @@ use Rattle.nd_graph.specs.Same.{renumbered, renumbered_label}
 use Rattle.nd_graph.proofs.NodeFacts.{all_of_list}
 use Rattle.nd_graph.proofs.Apart.{all_among, all_weaker}
 use Rattle.nd_graph.proofs.Waiting.{not_equal}
-use Rattle.nd_graph.proofs.DeferralExists.{no_nodes}
 use Rattle.nd_grammar.proofs.Next.{Pair, IsApart, OneToOne}
 use Rattle.nd_grammar.proofs.Matching.{bare, class_of, Match, Matched, through, pointer_bare}
-use Rattle.nd_grammar.proofs.NextPending.{PointersMatch, AllPointers}
+use Rattle.nd_grammar.proofs.NextPending.{AllPointers}
 use Rattle.nd_grammar.proofs.Carried.{InMap}
 use Rattle.nd_grammar.proofs.NextStream.{FitsPipes}
 use Rattle.nd_grammar.proofs.LegalSides.{in_selected}

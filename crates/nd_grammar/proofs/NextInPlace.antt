@@ -1,7 +1,5 @@
 -- The entries before an entry fix the next one, over values in their places.
-use Rattle.std.proofs.Common.{◌≡◌, ℕ, ◌+◌, ◌<◌, ◌≤◌, zero, suc, ℤ, Bool, true, false, List, [], ◌∷◌, ◌++◌, length, Option, Some, None, refl, ap, ap₂, sym, ◌∙◌, inl, inr, ◌⊎◌, arith, subst, replicate, append_assoc, take, drop}
-use Rattle.std.specs.Prelude.{pos, map, ◌-ℤ◌}
-use Rattle.nd_base.specs.declared.octets.Order.{Order}
+use Rattle.std.proofs.Common.{◌≡◌, ℕ, ◌+◌, ◌<◌, ℤ, Bool, true, false, List, [], ◌∷◌, ◌++◌, length, Option, Some, None, refl, ap, ap₂, sym, ◌∙◌, inl, inr, arith, subst, replicate, append_assoc, take, drop}
 use Rattle.nd_types.specs.declared.types.TypeDef.{TypeDef}
 use Rattle.nd_types.specs.declared.types.TypeId.{TypeId}
 use Rattle.nd_types.specs.declared.types.Field.{Field}
@@ -10,30 +8,23 @@ use Rattle.nd_types.specs.declared.types.TypeDef.TheVariants as def
 use Rattle.nd_types.specs.declared.types.Class.{Class}
 use Rattle.nd_types.specs.declared.types.Class.TheVariants.{Ref, Unique, Full}
 use Rattle.nd_types.specs.declared.types.Primitive.{Primitive}
-use Rattle.nd_types.specs.Table.{Table, type_at, width, selected}
+use Rattle.nd_types.specs.Table.{Table, type_at}
 use Rattle.nd_graph.specs.declared.item.Home.{Home}
 use Rattle.nd_graph.specs.declared.value.Graph.{Graph}
-use Rattle.std.specs.List.{AllByRecursion}
-use Rattle.nd_graph.specs.declared.item.Home.TheVariants as home
-use Rattle.nd_graph.specs.Setting.{cell_of_number, Among}
 use Rattle.std.proofs.lemmas.Bool.{and_parts, eqb-true}
 use Rattle.nd_grammar.proofs.Identifiers.{ids}
-use Rattle.nd_grammar.specs.NextEntry.{form}
-use Rattle.nd_grammar.proofs.Next.{IsUnread, Alike, Pair, OneToOne, HomesMeet, Readings, Next, unread_left, unread_right}
-use Rattle.nd_grammar.proofs.Matching.{bare, class_of, CellsMatch, Match, Matched, CountsKnown, NodeKnown, Known, SameMax, Maxes, matched_nodes, matched_count, matched_number, child_agreements_same, through, pointer_bare, found_same}
-use Rattle.nd_graph.specs.Misfit.{has_shape, has_counts, has_machine_values, is_no_null_ref}
+use Rattle.nd_grammar.proofs.Next.{Pair, OneToOne, HomesMeet, Readings, Next, unread_left, unread_right}
+use Rattle.nd_grammar.proofs.Matching.{CellsMatch, Match, Matched, CountsKnown, Known, SameMax, Maxes, matched_nodes, matched_count, matched_number, child_agreements_same, through, pointer_bare, found_same}
+use Rattle.nd_graph.specs.Misfit.{has_machine_values, is_no_null_ref}
 use Rattle.nd_graph.specs.Tree.{Referent}
 use Rattle.nd_graph.specs.Tree as tree
 use Rattle.nd_graph.specs.Tree.{Tree, Trees, node, none, more, count, node_count, Label, is_pointer, cell_in}
 use Rattle.nd_graph.specs.Nodes.{child_types, child_agreements, first_agreements, rest_agreements}
-use Rattle.nd_types.specs.Number.{unsigned, value_of_octets}
-use Rattle.nd_grammar.specs.Entry.{Kind, Entry, Align, Max, Offset, Actual, Chunk, Number, Num, Tag, Text, Context, Test, Unread, size_at, EntryAt, end_to_end, end_of}
-use Rattle.nd_grammar.specs.InPlace.{before_children, entries, in_place, counts, tag_entries, tests, own_tests, child_tests}
-use Rattle.nd_grammar.specs.Represents.{piece, Spells, IsRendered, IsNumber, id_octets}
+use Rattle.nd_grammar.specs.Entry.{Entry, Actual, Text, Test, Unread}
+use Rattle.nd_grammar.specs.InPlace.{before_children, entries, in_place, tag_entries, tests, own_tests, child_tests}
+use Rattle.nd_grammar.specs.Represents.{piece, IsNumber}
 use Rattle.nd_types.specs.declared.types.Attr.{Attr}
-use Rattle.nd_types.specs.declared.types.Attr.TheVariants as attr
-use Rattle.nd_types.specs.declared.types.AttrVar.{AttrVar}
-use Rattle.nd_graph.specs.Agreement.{Agreement, agreement, max_of, offset_of, tag_of, actual, found_in, number_of, number_in, member_agreements}
+use Rattle.nd_graph.specs.Agreement.{Agreement, found_in}
 
 -- what a type's node may say, or that it stands as one that is not read
 pub data View (table : Table) (t : ℕ) : Option TypeDef → Label → Type 0 where

@@ -1,5 +1,5 @@
 -- The law of the next entry, index by index.
-use Rattle.std.proofs.Common.{◌≡◌, ℕ, ◌+◌, ◌<◌, ◌≤◌, zero, suc, List, [], ◌∷◌, ◌++◌, length, Option, Some, None, refl, ap, ap₂, sym, ◌∙◌, inl, inr, ◌⊎◌, arith, subst, take, append_assoc}
+use Rattle.std.proofs.Common.{◌≡◌, ℕ, ◌+◌, ◌≤◌, zero, suc, List, [], ◌∷◌, ◌++◌, length, refl, ap, ap₂, sym, inl, inr, arith, subst, take, append_assoc}
 use Rattle.std.specs.Prelude.{map}
 use Rattle.std.specs.List.{AllByRecursion, slice_get}
 use Rattle.nd_base.specs.declared.octets.Order.{Order}
@@ -11,11 +11,11 @@ use Rattle.nd_graph.proofs.Apart.{among_right}
 use Rattle.nd_graph.proofs.NodeFacts.{IsSound}
 use Rattle.nd_grammar.specs.Entry.{Entry, EntryAt, size_at, end_to_end, full_cells}
 use Rattle.nd_grammar.specs.LegalSide.{IsLegalSide}
-use Rattle.nd_grammar.specs.NextEntry.{form, AreAlike, StandsUnread, NextAlike, IsOneToOne, HomesCorrespond, AllCorrespond, IsReadTo}
+use Rattle.nd_grammar.specs.NextEntry.{NextAlike, IsOneToOne, HomesCorrespond, AllCorrespond, IsReadTo}
 use Rattle.nd_grammar.specs.Represents.{IsRendered}
 use Rattle.nd_grammar.specs.Stream.{Stream}
-use Rattle.nd_grammar.proofs.Next.{IsUnread, Pair, IsApart, OneToOne, HomesMeet, Readings, Next}
-use Rattle.nd_grammar.proofs.Spelt.{carried_on, CellsIn, cells_in, all_spelt_carried, not_spelt, same_size}
+use Rattle.nd_grammar.proofs.Next.{Pair, IsApart, OneToOne, HomesMeet, Readings, Next}
+use Rattle.nd_grammar.proofs.Spelt.{CellsIn, cells_in, all_spelt_carried, not_spelt, same_size}
 use Rattle.nd_grammar.proofs.NextStream.{AreMapped, streams_next}
 use Rattle.nd_grammar.proofs.LegalSides.{laid_out}
 use Rattle.nd_grammar.proofs.OneGraph.{readings}

@@ -1,23 +1,20 @@
 -- Values that match have pointers that match.
-use Rattle.std.proofs.Common.{◌≡◌, ℕ, ◌+◌, ◌<◌, ◌≤◌, zero, suc, ℤ, Bool, true, false, List, [], ◌∷◌, ◌++◌, length, Option, Some, None, refl, ap, ap₂, sym, ◌∙◌, inl, inr, ◌⊎◌, arith, subst, replicate}
+use Rattle.std.proofs.Common.{◌≡◌, ℕ, ◌+◌, Bool, true, false, List, [], ◌∷◌, ◌++◌, Option, Some, None, refl, ap, sym, ◌∙◌, subst, replicate}
 use Rattle.std.proofs.lemmas.Grind.{flat_map-append}
-use Rattle.std.proofs.lemmas.Option.{same_Some}
-use Rattle.std.specs.Prelude.{pos, map, flat_map}
+use Rattle.std.specs.Prelude.{map, flat_map}
 use Rattle.nd_types.specs.declared.types.TypeDef.{TypeDef}
 use Rattle.nd_types.specs.declared.types.TypeDef.TheVariants as def
 use Rattle.nd_types.specs.declared.types.Class.{Class}
-use Rattle.nd_types.specs.declared.types.Class.TheVariants.{Ref, Unique, Full}
 use Rattle.nd_types.specs.Table.{Table, type_at}
 use Rattle.nd_graph.specs.declared.value.Graph.{Graph}
 use Rattle.nd_graph.specs.declared.item.Home.{Home}
 use Rattle.nd_graph.specs.Tree as tree
 use Rattle.nd_graph.specs.Tree.{Tree, Trees, node, none, more, count, node_count, Label, Referent, is_pointer, cell_in}
 use Rattle.nd_graph.specs.Agreement.{Agreement}
-use Rattle.nd_graph.specs.Setting.{cell_of_number}
 use Rattle.nd_graph.specs.Nodes.{child_types, child_agreements, first_agreements, rest_agreements, nodes_of, TypedNode}
 use Rattle.nd_graph.specs.Deferral.{Pending, pointer, pointer_by, Due, due_root, due_referent}
 use Rattle.nd_graph.proofs.Orderly.{Pointee}
-use Rattle.nd_grammar.proofs.Matching.{bare, class_of, Match, Matched, NodeKnown, PointeeKnown, Known, matched_nodes, matched_count, matched_number, child_agreements_same, through, pointer_bare}
+use Rattle.nd_grammar.proofs.Matching.{bare, class_of, Matched, PointeeKnown, Known, matched_nodes, matched_count, matched_number, child_agreements_same, through, pointer_bare}
 
 module _ (C : Class → Option ℕ → Option ℕ → Type 0) (g g' : Graph) where
   pub record PointersMatch (p q : Pending) : Type 0 where

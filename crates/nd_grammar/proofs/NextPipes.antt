@@ -1,5 +1,5 @@
 -- The entries before an entry fix the next one, over pipes.
-use Rattle.std.proofs.Common.{◌≡◌, ℕ, ◌+◌, ◌<◌, ◌≤◌, zero, suc, Bool, true, false, List, [], ◌∷◌, ◌++◌, length, Option, Some, None, refl, ap, ap₂, sym, ◌∙◌, inl, inr, ◌⊎◌, arith, subst, replicate, append_assoc}
+use Rattle.std.proofs.Common.{◌≡◌, ℕ, ◌+◌, ◌<◌, ◌≤◌, zero, suc, true, false, List, [], ◌∷◌, ◌++◌, Option, Some, None, refl, ap, ap₂, sym, ◌∙◌, inl, inr, ◌⊎◌, arith, subst, replicate, append_assoc}
 use Rattle.std.specs.Prelude.{sum}
 use Rattle.std.specs.List.{AllByRecursion, fold}
 use Rattle.nd_types.specs.declared.types.TypeDef.{TypeDef}
@@ -18,7 +18,7 @@ use Rattle.nd_graph.specs.Misfit.{has_counts}
 use Rattle.nd_graph.specs.Nodes.{child_types}
 use Rattle.nd_grammar.specs.Entry.{Entry, Align, Chunk, Unread}
 use Rattle.nd_grammar.specs.InPlace.{entries, in_place}
-use Rattle.nd_grammar.specs.Stream.{chunk_entries, chunks, Cuts, pipe_entries, pipes_entries, AllCut, kids_of}
+use Rattle.nd_grammar.specs.Stream.{chunks, Cuts, pipe_entries, pipes_entries, AllCut}
 use Rattle.nd_grammar.proofs.Next.{Pair, OneToOne, HomesMeet, Readings, Next, unread_left, unread_right}
 use Rattle.nd_grammar.proofs.Matching.{bare, class_of, Matched, CellsMatch, Known, NodeKnown, matched_nodes}
 use Rattle.nd_grammar.proofs.NextInPlace.{in_place_next}

@@ -1,25 +1,23 @@
 -- The entries before an entry fix the next one, over the agreements of parameters.
-use Rattle.std.proofs.Common.{◌≡◌, ℕ, ◌+◌, ◌<◌, ◌≤◌, zero, suc, ℤ, Bool, true, false, List, [], ◌∷◌, ◌++◌, length, Option, Some, None, refl, ap, ap₂, sym, ◌∙◌, inl, inr, ◌⊎◌, arith, subst, append_assoc}
-use Rattle.std.specs.List.{AllByRecursion, slice_get}
+use Rattle.std.proofs.Common.{◌≡◌, ℕ, ◌+◌, ℤ, Bool, true, false, List, [], ◌∷◌, ◌++◌, Option, Some, None, refl, ap, ap₂, sym, ◌∙◌, inl, inr, ◌⊎◌, subst, append_assoc}
+use Rattle.std.specs.List.{AllByRecursion}
 use Rattle.nd_types.specs.declared.types.AttrVar.{AttrVar}
 use Rattle.nd_types.specs.declared.types.Class.{Class}
-use Rattle.nd_types.specs.declared.types.TypeDef.{TypeDef}
-use Rattle.nd_types.specs.Table.{Table, type_at}
+use Rattle.nd_types.specs.Table.{type_at}
 use Rattle.nd_types.specs.Roots.{Root}
 use Rattle.nd_graph.specs.declared.value.Graph.{Graph}
-use Rattle.nd_graph.specs.declared.item.Home.{Home}
 use Rattle.nd_graph.specs.declared.item.Home.TheVariants as home
 use Rattle.nd_graph.specs.Tree as tree
 use Rattle.nd_graph.specs.Tree.{Tree, Trees, node, none, more, Label, is_pointer, cell_in}
 use Rattle.nd_graph.specs.Agreement.{Agreement, agreement, number_of}
-use Rattle.nd_graph.specs.Setting.{Setting, Among, root_list, root_at, cell_at, cell_home}
+use Rattle.nd_graph.specs.Setting.{Setting, root_list, root_at, cell_at, cell_home}
 use Rattle.nd_graph.specs.Variables.{variable, starred, root_index, given_value, root_agreements}
 use Rattle.nd_graph.proofs.Apart.{all_among}
 use Rattle.nd_grammar.specs.Entry.{Entry}
 use Rattle.nd_grammar.specs.InPlace.{tests}
 use Rattle.nd_grammar.specs.Stream.{root_test, root_tests}
-use Rattle.nd_grammar.proofs.Next.{Pair, OneToOne, HomesMeet, Readings, Next}
-use Rattle.nd_grammar.proofs.Matching.{bare, class_of, Matched, CellsMatch, matched_number, through, pointer_bare}
+use Rattle.nd_grammar.proofs.Next.{Pair, OneToOne, Readings, Next}
+use Rattle.nd_grammar.proofs.Matching.{class_of, Matched, CellsMatch, matched_number, through, pointer_bare}
 use Rattle.nd_grammar.proofs.NextInPlace.{tests_next}
 use Rattle.nd_grammar.proofs.Carried.{InMap}
 use Rattle.nd_grammar.proofs.Standings.{PairFits, SameTop, found_top, top_of}

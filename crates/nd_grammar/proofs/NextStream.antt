@@ -1,26 +1,24 @@
 -- Two streams of one side follow each other, up to an unread value.
-use Rattle.std.proofs.Common.{◌≡◌, ℕ, ◌+◌, ◌<◌, ◌≤◌, ◌-◌, zero, suc, ℤ, Bool, true, false, List, [], ◌∷◌, ◌++◌, length, Option, Some, None, refl, ap, ap₂, sym, ◌∙◌, inl, inr, ◌⊎◌, arith, subst, drop, append_assoc, length-drop}
+use Rattle.std.proofs.Common.{◌≡◌, ℕ, ◌+◌, ◌<◌, ◌≤◌, ◌-◌, zero, suc, Bool, true, false, List, [], ◌∷◌, ◌++◌, length, Option, Some, None, refl, ap, sym, ◌∙◌, inl, inr, ◌⊎◌, arith, subst, drop, append_assoc, length-drop}
 use Rattle.std.specs.Prelude.{flat_map}
 use Rattle.std.specs.List.{AllByRecursion, slice_get}
 use Rattle.std.proofs.lemmas.List.{append-nil}
 use Rattle.std.proofs.lemmas.Bool.{cases_lt}
-use Rattle.std.proofs.lemmas.Option.{same_Some, slice_get_past, slice_get_within}
-use Rattle.nd_types.specs.declared.types.TypeDef.{TypeDef}
+use Rattle.std.proofs.lemmas.Option.{same_Some}
 use Rattle.nd_types.specs.declared.types.TypeId.{TypeId}
 use Rattle.nd_types.specs.declared.types.TypeDef.TheVariants as def
 use Rattle.nd_types.specs.Table.{Table, type_at}
-use Rattle.nd_types.specs.Layout.{hoists}
 use Rattle.nd_types.specs.Legal.{has_none_within, is_barred_in_pipes}
 use Rattle.nd_types.specs.Roots.{Root}
 use Rattle.nd_graph.specs.declared.value.Graph.{Graph}
 use Rattle.nd_graph.specs.Tree as tree
 use Rattle.nd_graph.specs.Tree.{Tree, Trees, node, none, more, Label}
-use Rattle.nd_graph.specs.Setting.{Setting, root_list, root_at, or_unread, unread}
+use Rattle.nd_graph.specs.Setting.{Setting, root_list, root_at, or_unread}
 use Rattle.nd_graph.specs.Variables.{starred}
-use Rattle.nd_graph.specs.Deferral.{Due, due_roots, before_pipes, root_type, Step}
+use Rattle.nd_graph.specs.Deferral.{due_roots, before_pipes, root_type}
 use Rattle.nd_graph.proofs.NodeFacts.{IsSound}
 use Rattle.nd_grammar.specs.Entry.{Entry}
-use Rattle.nd_grammar.specs.Stream.{Stream, step_entries, root_tests, pipes_entries, head_entries, representation}
+use Rattle.nd_grammar.specs.Stream.{Stream, step_entries, root_tests, pipes_entries}
 use Rattle.nd_grammar.proofs.Next.{Pair, OneToOne, Readings, Next}
 use Rattle.nd_grammar.proofs.Matching.{Known, NodeKnown, Matched, CellsMatch}
 use Rattle.nd_grammar.proofs.NextPending.{AllDueMatch}

@@ -1,41 +1,19 @@
 -- The entries before an entry fix the next one, over whole values.
-use Rattle.std.proofs.Common.{◌≡◌, ℕ, ◌+◌, ◌<◌, ◌≤◌, zero, suc, ℤ, Bool, true, false, List, [], ◌∷◌, ◌++◌, length, Option, Some, None, refl, ap, ap₂, sym, ◌∙◌, inl, inr, ◌⊎◌, arith, subst, replicate, append_assoc, take, drop}
-use Rattle.std.specs.Prelude.{pos, map, flat_map}
-use Rattle.nd_base.specs.declared.octets.Order.{Order}
+use Rattle.std.proofs.Common.{◌≡◌, ℕ, Bool, true, false, List, [], ◌∷◌, ◌++◌, Option, Some, None, refl, ap, sym, ◌∙◌, inl, inr, ◌⊎◌, subst}
 use Rattle.nd_types.specs.declared.types.TypeDef.{TypeDef}
-use Rattle.nd_types.specs.declared.types.TypeId.{TypeId}
-use Rattle.nd_types.specs.declared.types.Attr.{Attr}
 use Rattle.nd_types.specs.declared.types.TypeDef.TheVariants as def
-use Rattle.nd_types.specs.declared.types.Class.{Class}
-use Rattle.nd_types.specs.declared.types.Class.TheVariants.{Ref, Unique, Full}
-use Rattle.nd_types.specs.Table.{Table, type_at, width, selected}
+use Rattle.nd_types.specs.Table.{Table, type_at}
 use Rattle.nd_types.specs.Layout.{hoists}
 use Rattle.nd_graph.specs.declared.value.Graph.{Graph}
 use Rattle.nd_graph.specs.declared.item.Home.{Home}
 use Rattle.nd_graph.specs.Tree as tree
 use Rattle.nd_graph.specs.Tree.{Tree, Trees, node, none, more, count, node_count, Label, Referent, is_pointer, cell_in}
-use Rattle.nd_graph.specs.Agreement.{Agreement, found_in}
-use Rattle.std.specs.List.{AllByRecursion}
-use Rattle.nd_graph.specs.declared.item.Home.TheVariants as home
-use Rattle.nd_graph.specs.Setting.{Setting, Among, cell_home, cell_at, cell_of_number, root_at}
-use Rattle.nd_graph.specs.Nodes.{child_types, child_agreements, first_agreements, rest_agreements, nodes_of, TypedNode, home_nodes}
-use Rattle.nd_graph.specs.Deferral.{Pending, pointer, home_pointers, Due, due_root, due_referent, Step, root_stands, referent_stands, stands_already, Deferral, none_due, at_root, at_null, at_standing, at_referent, due_of, standing_root, standing_cell, root_cell, Placed_cells, IsPlaced, IsPlacedFull, AreFree}
-use Rattle.nd_graph.proofs.DeferralLaws.{full_stands}
-use Rattle.nd_grammar.specs.Entry.{Kind, Entry, Align, Max, Offset, Actual, Chunk, Number, Num, Tag, Text, Context, Test, Unread, size_at, EntryAt, end_to_end, end_of}
-use Rattle.nd_grammar.specs.InPlace.{before_children, entries, in_place, tests, child_tests, hoisted, hoisted_max, whole_value}
-use Rattle.nd_grammar.specs.Stream.{step_entries, standing_entries, step_tests}
-use Rattle.nd_grammar.specs.Represents.{IsRendered, id_octets}
-use Rattle.std.proofs.lemmas.Option.{same_Some}
-use Rattle.nd_graph.specs.Deferral.{Standing}
-use Rattle.nd_graph.specs.Setting.{cell_tree}
-use Rattle.nd_grammar.proofs.NextPending.{PointersMatch, AllPointers, nodes_match, DueMatches, AllDueMatch, then_due}
-use Rattle.nd_graph.proofs.Orderly.{Pointee}
-use Rattle.nd_graph.proofs.Apart.{all_append, all_weaker, among_left, among_right}
-use Rattle.nd_grammar.specs.NextEntry.{form}
-use Rattle.nd_grammar.proofs.Next.{IsUnread, Alike, Pair, IsApart, OneToOne, HomesMeet, Readings, Next, unread_left, unread_right, grown}
-use Rattle.nd_grammar.proofs.Matching.{bare, class_of, CellsMatch, Match, Matched, NodeKnown, Known, Maxes, matched_nodes, matched_count, matched_number, child_agreements_same, found_same}
-use Rattle.nd_grammar.proofs.NextInPlace.{Cells, in_place_next, tests_next}
-use Rattle.nd_grammar.proofs.Carried.{InMap, AllInMap, carried}
+use Rattle.nd_graph.specs.Nodes.{child_types, child_agreements}
+use Rattle.nd_grammar.specs.Entry.{Entry, Align, Max, Unread}
+use Rattle.nd_grammar.specs.InPlace.{before_children, entries, in_place, child_tests, hoisted, hoisted_max, whole_value}
+use Rattle.nd_grammar.proofs.Next.{Pair, OneToOne, HomesMeet, Readings, Next, unread_left, unread_right}
+use Rattle.nd_grammar.proofs.Matching.{CellsMatch, Matched, Known, Maxes}
+use Rattle.nd_grammar.proofs.NextInPlace.{in_place_next}
 
 unread_or : (l : Label) → (l ≡ tree.Unread) ⊎ ((m : ℕ) → hoisted true l m ≡ Align 4 ∷ Max m ∷ [])
 unread_or tree.Unread = inl refl

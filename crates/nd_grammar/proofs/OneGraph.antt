@@ -1,5 +1,5 @@
 -- Octets represent one conforming graph alone, up to the numbers of its cells.
-use Rattle.std.proofs.Common.{◌≡◌, ℕ, ◌+◌, ◌<◌, ◌≤◌, zero, suc, List, [], ◌∷◌, ◌++◌, length, refl, ap, sym, ◌∙◌, arith, subst, length-append}
+use Rattle.std.proofs.Common.{◌≡◌, ℕ, ◌<◌, ◌≤◌, List, [], ◌∷◌, ◌++◌, length, refl, sym, ◌∙◌, arith, length-append}
 use Rattle.std.specs.List.{AllByRecursion}
 use Rattle.nd_base.specs.declared.octets.Order.{Order}
 use Rattle.nd_graph.specs.declared.value.Graph.{Graph}
@@ -7,7 +7,7 @@ use Rattle.nd_graph.specs.Setting.{Setting}
 use Rattle.nd_graph.specs.Conforms.{Conforms, Reached}
 use Rattle.nd_graph.specs.Same.{Same}
 use Rattle.nd_graph.proofs.NodeFacts.{IsSound, sound_conforming}
-use Rattle.nd_grammar.specs.Entry.{Entry, end_to_end, full_cells}
+use Rattle.nd_grammar.specs.Entry.{end_to_end, full_cells}
 use Rattle.nd_grammar.specs.LegalSide.{IsLegalSide}
 use Rattle.nd_grammar.specs.Represents.{Represents, IsRendered, IsNumbering}
 use Rattle.nd_grammar.proofs.Next.{Readings}

@@ -1,5 +1,5 @@
 -- Octets are refused at one place for one reason, and where they are refused none of their first parts is a stream.
-use Rattle.std.proofs.Common.{◌≡◌, ℕ, ◌+◌, ◌<◌, ◌≤◌, zero, suc, Bool, true, false, List, [], ◌∷◌, ◌++◌, length, Option, Some, None, refl, ap, ap₂, sym, ◌∙◌, inl, inr, ◌⊎◌, arith, subst, append_assoc}
+use Rattle.std.proofs.Common.{◌≡◌, ℕ, ◌+◌, ◌≤◌, false, List, [], ◌∷◌, ◌++◌, length, Option, Some, None, refl, ap, sym, ◌∙◌, inl, inr, ◌⊎◌, arith, subst, append_assoc}
 use Rattle.std.specs.Prelude.{ltb}
 use Rattle.std.specs.List.{AllByRecursion}
 use Rattle.std.proofs.lemmas.Bool.{le-ltb}
@@ -11,18 +11,18 @@ use Rattle.nd_graph.proofs.Apart.{all_left}
 use Rattle.nd_grammar.specs.declared.reason.Reason.TheVariants as reason
 use Rattle.nd_graph.specs.declared.value.Graph.{Graph}
 use Rattle.nd_graph.specs.Setting.{Setting}
-use Rattle.nd_graph.specs.Conforms.{Conforms, IsPartial}
+use Rattle.nd_graph.specs.Conforms.{Conforms}
 use Rattle.nd_graph.proofs.NodeFacts.{IsSound, sound_conforming, sound_partial}
 use Rattle.nd_grammar.specs.declared.reason.Reason.{Reason}
-use Rattle.nd_grammar.specs.Entry.{Kind, Entry, Unread, size_at, EntryAt, end_to_end, full_cells, full_cell}
-use Rattle.nd_grammar.specs.Represents.{IsRendered, IsNumbering, Represents, piece}
+use Rattle.nd_grammar.specs.Entry.{Kind, Entry, size_at, EntryAt, end_to_end, full_cells}
+use Rattle.nd_grammar.specs.Represents.{IsRendered, Represents, piece}
 use Rattle.nd_grammar.specs.Refusal.{refusal, kind_refusal, refused_if, is_long, Accepts}
 use Rattle.nd_grammar.specs.Bad.{Bad}
 use Rattle.nd_grammar.specs.LegalSide.{IsLegalSide}
-use Rattle.nd_grammar.proofs.Next.{IsUnread, Pair, OneToOne, HomesMeet, Readings, Next, Alike}
+use Rattle.nd_grammar.proofs.Next.{IsUnread, Pair, Readings, Next}
 use Rattle.nd_grammar.proofs.Spelt.{carried_on, cells_in, all_spelt_carried, not_spelt, same_size, spelt_in_more}
-use Rattle.nd_grammar.proofs.RefusedAlike.{AllSeenAlike, SeenAlike, seen_grown, seen_more, refusals_alike}
-use Rattle.nd_grammar.proofs.NextStream.{AreMapped, streams_next, IsLaidOut}
+use Rattle.nd_grammar.proofs.RefusedAlike.{AllSeenAlike, seen_grown, seen_more, refusals_alike}
+use Rattle.nd_grammar.proofs.NextStream.{AreMapped, streams_next}
 use Rattle.nd_grammar.proofs.LegalSides.{laid_out}
 use Rattle.nd_grammar.proofs.OneGraph.{readings}
 

@@ -1,26 +1,20 @@
 -- A conforming graph's stream has no more items but gaps, with its cells, than octets and roots.
-use Rattle.std.proofs.Common.{◌≡◌, ℕ, ◌+◌, ◌*◌, ◌-◌, ◌<◌, ◌≤◌, zero, suc, Bool, true, false, List, [], ◌∷◌, ◌++◌, length, Option, Some, None, refl, ap, ap₂, sym, ◌∙◌, inl, inr, ◌⊎◌, arith, subst, length-append, drop}
+use Rattle.std.proofs.Common.{◌≡◌, ℕ, ◌+◌, ◌≤◌, suc, List, [], ◌∷◌, ◌++◌, length, Option, Some, None, ap, sym, ◌∙◌, inl, inr, ◌⊎◌, arith, subst, length-append}
 use Rattle.std.specs.Prelude.{map, flat_map}
-use Rattle.std.specs.List.{AllByRecursion, slice_get}
-use Rattle.std.proofs.lemmas.Bool.{cases_lt}
-use Rattle.std.proofs.lemmas.Option.{same_Some, slice_get-get_or}
-use Rattle.nd_base.specs.declared.octets.Order.{Order}
-use Rattle.nd_types.specs.Table.{Table, type_at}
-use Rattle.nd_types.specs.Roots.{Root}
+use Rattle.std.specs.List.{AllByRecursion}
+use Rattle.std.proofs.lemmas.Option.{same_Some}
 use Rattle.nd_graph.specs.declared.value.Graph.{Graph}
 use Rattle.nd_graph.specs.declared.item.Home.{Home}
 use Rattle.nd_graph.specs.declared.item.Home.TheVariants as home
-use Rattle.nd_graph.specs.Tree.{Tree, Referent, node}
-use Rattle.nd_graph.specs.Setting.{Setting, Among, root_list, root_at, cell_at, cell_of_number, cell_home}
-use Rattle.nd_graph.specs.Deferral.{Pending, home_pointers, Due, due_root, due_referent, due_roots, before_pipes, Step, root_stands, referent_stands, stands_already, Deferral, none_due, at_root, at_null, at_standing, at_referent, IsPlaced, Placed_cells, Standing, standing_root, standing_cell, due_of, root_cell}
-use Rattle.nd_graph.specs.Homes.{root_pointers}
-use Rattle.nd_graph.specs.Conforms.{Conforms, Reached, by_root, by_cell}
+use Rattle.nd_graph.specs.Tree.{Tree, Referent}
+use Rattle.nd_graph.specs.Setting.{Setting, Among, cell_at, cell_of_number, cell_home}
+use Rattle.nd_graph.specs.Deferral.{Pending, home_pointers, Due, due_root, due_referent, Step, root_stands, referent_stands, stands_already, Deferral, none_due, at_root, at_null, at_standing, at_referent, IsPlaced, Placed_cells, Standing, standing_root, standing_cell, due_of, root_cell}
+use Rattle.nd_graph.specs.Conforms.{Conforms}
 use Rattle.nd_graph.proofs.DeferralLaws.{full_stands}
-use Rattle.nd_graph.proofs.Apart.{all_append, all_left, all_right, among_left, among_right}
-use Rattle.nd_grammar.specs.Entry.{Entry}
+use Rattle.nd_graph.proofs.Apart.{all_append, all_right, among_left, among_right}
 use Rattle.nd_grammar.specs.Stream.{step_entries, standing_entries, step_tests}
-use Rattle.nd_grammar.proofs.GoodEntries.{HoldsNoPipe, IsNoPipe}
-use Rattle.nd_grammar.proofs.GoodStream.{PendingGood, StandsGood, DueGood, standing_due, pending_cell, root_good, same_home_number}
+use Rattle.nd_grammar.proofs.GoodEntries.{HoldsNoPipe}
+use Rattle.nd_grammar.proofs.GoodStream.{StandsGood, DueGood, standing_due, pending_cell, root_good}
 use Rattle.nd_grammar.proofs.ItemSizes.{numbers, numbers_append, whole_numbers}
 
 abbrev pub own : Home → List ℕ

@@ -1,29 +1,11 @@
 -- The worked examples of arrays by the reader: it finds the graph of each stream, and the place and reason of each refusal.
-use Rattle.std.proofs.Common.{◌≡◌, ℕ, ℤ, true, List, [], ◌∷◌, ◌++◌, Some, None, refl}
+use Rattle.std.proofs.Common.{ℕ, [], ◌∷◌, refl}
 use Rattle.std.specs.Prelude.{pos, take, drop}
 use Rattle.nd_base.specs.declared.octets.Order.TheVariants.{Little}
-use Rattle.nd_types.specs.declared.types.TypeDef.TheVariants as def
-use Rattle.nd_types.specs.declared.types.Attr.TheVariants as attr
-use Rattle.nd_types.specs.declared.types.Class.TheVariants.{Ref}
 use Rattle.nd_types.specs.Layout.{align_of, hoists}
 use Rattle.nd_types.specs.Roots.{roots_of}
-use Rattle.nd_graph.specs.declared.value.Graph.{Graph}
-use Rattle.nd_graph.specs.declared.item.Item.{Item}
-use Rattle.nd_graph.specs.declared.item.ItemKind.{ItemKind}
-use Rattle.nd_graph.specs.declared.item.ItemKind.TheVariants as item
-use Rattle.nd_graph.specs.declared.misfit.MisfitReason.TheVariants as misfit
-use Rattle.nd_graph.specs.Tree as tree
-use Rattle.nd_graph.specs.Tree.{Tree, node, none, more}
-use Rattle.nd_graph.specs.Setting.{Setting, unread, cell_home}
-use Rattle.nd_graph.specs.FirstMisfit.{IsFirstMisfit, is_local}
 use Rattle.nd_grammar.specs.declared.reason.Reason.TheVariants as reason
-use Rattle.nd_grammar.specs.Entry.{Entry, end_to_end}
-use Rattle.nd_grammar.specs.Stream.{representation}
-use Rattle.nd_grammar.specs.Items.{items}
-use Rattle.nd_grammar.specs.Represents.{Represents}
-use Rattle.nd_grammar.specs.Bad.{Bad}
-use Rattle.nd_grammar.specs.Chosen.{Chosen}
-use Rattle.nd_grammar.specs.ExampleParts.{request, param, governed, field, attribute, id, num, pointer_to, two, struct_of, cell, four}
+use Rattle.nd_grammar.specs.ExampleParts.{four}
 use Rattle.nd_grammar.specs.ExamplesArrays.{sized, sized_graph, sized_octets, nested, nested_graph, nested_octets}
 use Rattle.std.specs.Prelude.{length}
 use Rattle.nd_grammar.specs.StreamReader.{read_stream}

@@ -1,9 +1,8 @@
 -- What the reader takes of values in their places is spelt: it goes over the entries of the values that it reads.
-use Rattle.std.proofs.Common.{◌≡◌, ℕ, ◌+◌, ◌-◌, zero, suc, ℤ, Bool, true, false, List, [], ◌∷◌, ◌++◌, length, Option, Some, None, refl, ap, ap₂, sym, ◌∙◌, inl, inr, ◌⊎◌, arith, subst, replicate, append_assoc}
+use Rattle.std.proofs.Common.{◌≡◌, ℕ, ◌+◌, zero, suc, ℤ, Bool, true, false, List, [], ◌∷◌, ◌++◌, length, Option, Some, None, refl, ap, sym, ◌∙◌, arith, subst, replicate, append_assoc}
 use Rattle.std.specs.Prelude.{pos, map, not, ◌&&◌}
 use Rattle.std.specs.List.{AllByRecursion}
 use Rattle.std.proofs.lemmas.List.{length-replicate, append-nil}
-use Rattle.std.proofs.lemmas.Option.{same_Some}
 use Rattle.nd_base.specs.declared.octets.Order.{Order}
 use Rattle.nd_types.specs.declared.types.TypeDef.{TypeDef}
 use Rattle.nd_types.specs.declared.types.TypeId.{TypeId}
@@ -16,12 +15,11 @@ use Rattle.nd_types.specs.Layout.{parts, hoists, hoists_by, align_of}
 use Rattle.nd_graph.specs.declared.item.Home.{Home}
 use Rattle.nd_graph.specs.Tree as tree
 use Rattle.nd_graph.specs.Tree.{Tree, Trees, node, none, more, Label, count, node_count}
-use Rattle.nd_graph.specs.Setting.{unread}
 use Rattle.nd_graph.specs.Nodes.{child_types, child_agreements}
 use Rattle.nd_grammar.specs.declared.reason.Reason.{Reason}
-use Rattle.nd_grammar.specs.Entry.{Kind, Entry, Align, Max, Offset, Actual, Number, Num, Tag, Text, Context}
+use Rattle.nd_grammar.specs.Entry.{Kind, Entry, Align, Max, Offset, Actual, Tag}
 use Rattle.nd_grammar.specs.InPlace.{before_children, entries, tag_entries, in_place, child_tests, hoisted, hoisted_max, own_max, whole_value}
-use Rattle.nd_grammar.specs.Reader.{Progress, Names, Read, ReadAll, is_stopped, pass, pass_all, taken, number_in, value_in, text_in, read_if, read_list, tree_nodes, read_children, read_array, read_text, read_union, read_tagged, read_pointer, read_context, read_number, read_by, read_in_place, read_hoisted, read_whole, bound_or}
+use Rattle.nd_grammar.specs.Reader.{Progress, Names, Read, ReadAll, is_stopped, pass, pass_all, taken, number_in, value_in, read_if, read_list, tree_nodes, read_children, read_array, read_tagged, read_by, read_in_place, read_hoisted, read_whole, bound_or}
 use Rattle.nd_grammar.proofs.HoistedMaxes.{HoistsLast, last_of, struct_last}
 use Rattle.nd_grammar.proofs.Mapped.{in_parts}
 use Rattle.nd_grammar.proofs.ReaderSteps.{Follows, follows_append, follows_stopped, follows_child_tests}

@@ -1,9 +1,9 @@
 -- What the reader takes of a node before its children is spelt.
-use Rattle.std.proofs.Common.{◌≡◌, ℕ, ◌+◌, ◌-◌, ◌<◌, ◌≤◌, zero, suc, ℤ, Bool, true, false, ◌&&◌, List, [], ◌∷◌, ◌++◌, length, Option, Some, None, refl, ap, ap₂, sym, ◌∙◌, inl, inr, ◌⊎◌, arith, subst, replicate, take, drop, min, length-take, length-drop, append_assoc}
+use Rattle.std.proofs.Common.{◌≡◌, ℕ, ◌+◌, ◌-◌, ◌<◌, ◌≤◌, zero, suc, ℤ, Bool, true, false, ◌&&◌, List, [], ◌∷◌, ◌++◌, length, Option, Some, None, refl, ap, sym, ◌∙◌, arith, subst, replicate, take, drop, min, length-take, length-drop, append_assoc}
 use Rattle.std.specs.Prelude.{pos, eqb, ltb, not, cond, reverse}
 use Rattle.std.specs.List.{AllByRecursion}
 use Rattle.std.proofs.lemmas.Option.{same_Some}
-use Rattle.std.proofs.lemmas.List.{length-replicate, reverse-reverse, length-append, length-reverse}
+use Rattle.std.proofs.lemmas.List.{length-replicate}
 use Rattle.std.proofs.lemmas.Bool.{eqb-true, eqb-false, ltb-false, not-false}
 use Rattle.nd_base.specs.declared.octets.Order.{Order}
 use Rattle.nd_base.specs.declared.octets.Order.TheVariants.{Big, Little}
@@ -12,16 +12,16 @@ use Rattle.nd_types.specs.declared.types.Arm.{Arm}
 use Rattle.nd_types.specs.declared.types.Class.{Class}
 use Rattle.nd_types.specs.declared.types.Class.TheVariants.{Ref, Unique, Full}
 use Rattle.nd_types.specs.declared.types.Primitive.{Primitive}
-use Rattle.nd_types.specs.Table.{Table, width}
-use Rattle.nd_types.specs.Number.{unsigned, value_of_octets, in_order}
+use Rattle.nd_types.specs.Table.{width}
+use Rattle.nd_types.specs.Number.{unsigned, in_order}
 use Rattle.nd_graph.specs.declared.item.Home.{Home}
 use Rattle.nd_graph.proofs.Apart.{all_right}
 use Rattle.nd_grammar.specs.declared.reason.Reason.{Reason}
 use Rattle.nd_grammar.specs.declared.reason.Reason.TheVariants as reason
-use Rattle.nd_grammar.specs.Entry.{Kind, Entry, Align, Max, Offset, Actual, Chunk, Number, Num, Tag, Text, Context, Test, Unread, size_at, EntryAt}
-use Rattle.nd_grammar.specs.Represents.{piece, Spells, IsNumber, id_octets}
+use Rattle.nd_grammar.specs.Entry.{Kind, Entry, Align, Max, Offset, Actual, Number, Num, Tag, Text, Context, size_at}
+use Rattle.nd_grammar.specs.Represents.{piece, IsNumber, id_octets}
 use Rattle.nd_grammar.specs.Refusal.{refusal, kind_refusal, refused_if, is_long, text_refusal}
-use Rattle.nd_grammar.specs.Reader.{Progress, Names, Named, here, pass, taken, taken_by, number_in, value_in, text_in, attributes_in, identifier, identifier_in, named, numbered, full_by, new_cell, fresh}
+use Rattle.nd_grammar.specs.Reader.{Progress, Names, here, pass, taken, taken_by, number_in, value_in, text_in, attributes_in, identifier_in, named, numbered, full_by, new_cell, fresh}
 use Rattle.nd_grammar.proofs.ReaderSteps.{Follows, same_taken}
 
 -- numbers of full pointers are those of their cells

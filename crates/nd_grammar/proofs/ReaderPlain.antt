@@ -1,20 +1,11 @@
 -- The worked examples of plain by the reader: it finds the graph of each stream, and the place and reason of each refusal.
 use Rattle.std.proofs.Common.{ℕ}
 use Rattle.std.proofs.Common.{[], ◌∷◌, refl}
-use Rattle.std.specs.Prelude.{pos}
 use Rattle.nd_base.specs.declared.octets.Order.TheVariants.{Big, Little}
 use Rattle.nd_types.specs.Layout.{align_of, hoists}
 use Rattle.nd_types.specs.Roots.{roots_of}
-use Rattle.nd_graph.specs.declared.value.Graph.{Graph}
-use Rattle.nd_graph.specs.declared.item.Home.TheVariants as home
-use Rattle.nd_graph.specs.declared.misfit.MisfitReason.TheVariants as misfit
-use Rattle.nd_graph.specs.Setting.{unread}
-use Rattle.nd_graph.specs.FirstMisfit.{IsFirstMisfit, is_local}
 use Rattle.nd_grammar.specs.declared.reason.Reason.TheVariants as reason
-use Rattle.nd_grammar.specs.Represents.{Represents}
-use Rattle.nd_grammar.specs.Bad.{Bad}
-use Rattle.nd_grammar.specs.Chosen.{Chosen}
-use Rattle.nd_grammar.specs.ExampleParts.{request, num}
+use Rattle.nd_grammar.specs.ExampleParts.{request}
 use Rattle.nd_grammar.specs.ExamplesPlain.{integers, one_two_three, integers_little, integers_big, cut_in_hyper, cut_in_gap, flag, true_flag, colour, colour_4, handle, a_handle, handle_little, handle_big}
 use Rattle.std.specs.Prelude.{length}
 use Rattle.nd_grammar.specs.StreamReader.{read_stream}

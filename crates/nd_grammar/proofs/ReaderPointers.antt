@@ -1,33 +1,13 @@
 -- The worked examples of pointers by the reader: it finds the graph of each stream, and the place and reason of each refusal.
-use Rattle.std.proofs.Common.{◌≤◌, ◌≡◌, ℕ, ◌<◌, zero, suc, ℤ, false, cond, eqb, List, [], ◌∷◌, Some, None, refl, sym, ◌∙◌, subst, inl, inr, ◌⊎◌, arith, lit≤, lit<}
-use Rattle.std.proofs.lemmas.Option.{same_Some}
+use Rattle.std.proofs.Common.{ℕ, [], ◌∷◌, refl}
 use Rattle.std.specs.Prelude.{pos}
-use Rattle.std.specs.List.{slice_get}
 use Rattle.nd_base.specs.declared.octets.Order.TheVariants.{Little}
-use Rattle.nd_types.specs.declared.types.TypeDef.TheVariants as def
-use Rattle.nd_types.specs.declared.types.Attr.TheVariants as attr
-use Rattle.nd_types.specs.declared.types.Class.TheVariants.{Full}
 use Rattle.nd_types.specs.Layout.{align_of, hoists}
 use Rattle.nd_types.specs.Roots.{roots_of}
-use Rattle.nd_graph.specs.declared.value.Graph.{Graph}
-use Rattle.nd_graph.specs.declared.item.Home.TheVariants as home
-use Rattle.nd_graph.specs.declared.misfit.MisfitReason.TheVariants as misfit
-use Rattle.nd_graph.specs.Tree as tree
-use Rattle.nd_graph.specs.Tree.{Tree, node, none, more, Referent}
-use Rattle.nd_graph.specs.Setting.{Setting, unread, cell_home, cell_of_number, Among}
-use Rattle.nd_graph.specs.Deferral.{Pending, home_pointers}
-use Rattle.nd_graph.specs.Homes.{all_pointers}
-use Rattle.nd_graph.specs.Same.{renumbered}
-use Rattle.nd_graph.specs.Canon.{IsCanon, canonical_number}
-use Rattle.nd_graph.specs.Conforms.{Conforms, Reached, by_root, by_cell}
-use Rattle.nd_graph.specs.FirstMisfit.{IsFirstMisfit, is_local, is_shared, is_unreached}
 use Rattle.nd_grammar.specs.declared.reason.Reason.TheVariants as reason
-use Rattle.nd_grammar.specs.Represents.{Represents}
-use Rattle.nd_grammar.specs.Bad.{Bad}
-use Rattle.nd_grammar.specs.Chosen.{Chosen}
-use Rattle.nd_grammar.specs.Examples.{ring, ring_node, ring_of_one, ring_of_two, ring_swapped, ring_and_stray}
-use Rattle.nd_grammar.specs.ExampleParts.{request, param, field, attribute, id, num, pointer_to, null, one, two, struct_of, cell, four}
-use Rattle.nd_grammar.specs.ExamplesPointers.{pairs, shared_leaf, shared_leaf_octets, null_y, null_y_octets, null_pair, unique_longs, two_fives, shared_five, full_longs, long_and_short, one_five_one}
+use Rattle.nd_grammar.specs.Examples.{ring, ring_of_one, ring_of_two}
+use Rattle.nd_grammar.specs.ExampleParts.{four}
+use Rattle.nd_grammar.specs.ExamplesPointers.{pairs, shared_leaf, shared_leaf_octets, null_y, null_y_octets, unique_longs, two_fives, shared_five, full_longs, long_and_short, one_five_one}
 use Rattle.std.specs.Prelude.{length}
 use Rattle.nd_grammar.specs.StreamReader.{read_stream}
 use Rattle.nd_grammar.proofs.ReaderFinds.{IsFound, IsStopped}

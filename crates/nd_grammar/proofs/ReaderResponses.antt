@@ -1,26 +1,12 @@
 -- The worked examples of responses by the reader: it finds the graph of each stream, and the place and reason of each refusal.
 use Rattle.std.proofs.Common.{ℕ}
-use Rattle.std.proofs.Common.{ℤ, true, false, List, [], ◌∷◌, ◌++◌, Option, Some, None, refl}
+use Rattle.std.proofs.Common.{[], ◌∷◌, Some, None, refl}
 use Rattle.std.specs.Prelude.{pos}
 use Rattle.nd_base.specs.declared.octets.Order.TheVariants.{Little}
-use Rattle.nd_types.specs.declared.types.TypeDef.TheVariants as def
-use Rattle.nd_types.specs.declared.types.Attr.TheVariants as attr
-use Rattle.nd_types.specs.declared.types.Class.TheVariants.{Ref}
-use Rattle.nd_types.specs.declared.types.Side.TheVariants as side
-use Rattle.nd_types.specs.declared.types.Way.TheVariants as way
-use Rattle.nd_types.specs.declared.types.TypeDef.{TypeDef}
-use Rattle.nd_types.specs.declared.types.Param.{Param}
-use Rattle.nd_types.specs.Kinds.{basic_types}
 use Rattle.nd_types.specs.Layout.{align_of, hoists}
 use Rattle.nd_types.specs.Roots.{roots_of}
-use Rattle.nd_graph.specs.declared.value.Graph.{Graph}
-use Rattle.nd_graph.specs.Tree as tree
-use Rattle.nd_graph.specs.Tree.{Tree, node, none, more}
-use Rattle.nd_graph.specs.Setting.{Setting}
 use Rattle.nd_grammar.specs.declared.reason.Reason.TheVariants as reason
-use Rattle.nd_grammar.specs.Represents.{Represents}
-use Rattle.nd_grammar.specs.Bad.{Bad}
-use Rattle.nd_grammar.specs.ExampleParts.{param, field, attribute, id, num, pointer_to, one, two, cell, four}
+use Rattle.nd_grammar.specs.ExampleParts.{four}
 use Rattle.std.specs.Prelude.{length}
 use Rattle.nd_grammar.specs.StreamReader.{read_stream}
 use Rattle.nd_grammar.proofs.ReaderFinds.{IsFound, IsStopped}

@@ -1,8 +1,5 @@
 -- The steps of the reader: entries that are passed, and what octets spell of them.
-use Rattle.std.proofs.Common.{◌≡◌, ℕ, ◌+◌, ◌-◌, ◌<◌, ◌≤◌, zero, suc, ℤ, Bool, true, false, List, [], ◌∷◌, ◌++◌, length, Option, Some, None, refl, ap, ap₂, sym, ◌∙◌, inl, inr, ◌⊎◌, arith, subst, replicate, take, drop, append_assoc}
-use Rattle.std.specs.Prelude.{pos}
-use Rattle.std.specs.List.{AllByRecursion}
-use Rattle.std.proofs.lemmas.Option.{same_Some}
+use Rattle.std.proofs.Common.{◌≡◌, ℕ, ◌+◌, Bool, true, false, List, [], ◌∷◌, ◌++◌, length, Option, Some, None, refl, ap, ap₂, sym, ◌∙◌, subst, take, drop}
 use Rattle.nd_base.specs.declared.octets.Order.{Order}
 use Rattle.nd_graph.specs.declared.item.Home.{Home}
 use Rattle.nd_graph.specs.Tree.{Tree, Trees, node, none, more, node_count, is_pointer}
@@ -18,7 +15,7 @@ use Rattle.nd_grammar.specs.InPlace.{tests, own_tests, child_tests}
 use Rattle.nd_grammar.specs.NextEntry.{form}
 use Rattle.nd_grammar.specs.Represents.{piece, Spells}
 use Rattle.nd_grammar.specs.Refusal.{refusal, kind_refusal, refused_if, is_long}
-use Rattle.nd_grammar.specs.Reader.{Progress, here, advanced, taken_by, pass, pass_all, taken, is_stopped}
+use Rattle.nd_grammar.specs.Reader.{Progress, here, advanced, taken_by, pass, pass_all, taken}
 use Rattle.nd_grammar.proofs.Forms.{refused_alike}
 use Rattle.nd_grammar.proofs.Spelt.{same_size}
 

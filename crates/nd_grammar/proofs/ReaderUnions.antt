@@ -1,24 +1,14 @@
 -- The worked examples of unions by the reader: it finds the graph of each stream, and the place and reason of each refusal.
 use Rattle.std.proofs.Common.{ℕ}
-use Rattle.std.proofs.Common.{ℤ, false, [], ◌∷◌, Some, None, refl, arith, lit<}
+use Rattle.std.proofs.Common.{[], ◌∷◌, None, refl}
 use Rattle.std.specs.Prelude.{pos}
 use Rattle.nd_base.specs.declared.octets.Order.TheVariants.{Little}
-use Rattle.nd_types.specs.declared.types.TypeDef.TheVariants as def
-use Rattle.nd_types.specs.declared.types.Attr.TheVariants as attr
 use Rattle.nd_types.specs.Layout.{align_of, hoists}
 use Rattle.nd_types.specs.Roots.{roots_of}
-use Rattle.nd_graph.specs.declared.value.Graph.{Graph}
-use Rattle.nd_graph.specs.declared.item.Home.TheVariants as home
-use Rattle.nd_graph.specs.declared.misfit.MisfitReason.TheVariants as misfit
 use Rattle.nd_graph.specs.Tree as tree
 use Rattle.nd_graph.specs.Tree.{Tree, Trees, node, none, more}
-use Rattle.nd_graph.specs.Setting.{Setting, unread}
-use Rattle.nd_graph.specs.FirstMisfit.{IsFirstMisfit, is_local, is_disagreeing}
 use Rattle.nd_grammar.specs.declared.reason.Reason.TheVariants as reason
-use Rattle.nd_grammar.specs.Represents.{Represents}
-use Rattle.nd_grammar.specs.Bad.{Bad}
-use Rattle.nd_grammar.specs.Chosen.{Chosen}
-use Rattle.nd_grammar.specs.ExampleParts.{request, param, governed, field, attribute, arm, empty_arm, id, num, null, one, two, three, struct_of, four}
+use Rattle.nd_grammar.specs.ExampleParts.{num, one, four}
 use Rattle.nd_grammar.specs.ExamplesUnions.{choice, choice_of_hyper, default_chosen, choice_octets, pipe_of_longs, three_piped, chunks_of_two, first_chunk}
 use Rattle.std.specs.Prelude.{length}
 use Rattle.nd_grammar.specs.StreamReader.{read_stream}

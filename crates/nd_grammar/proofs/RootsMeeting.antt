@@ -1,28 +1,26 @@
 -- The roots of two graphs of one side stand alike.
-use Rattle.std.proofs.Common.{◌≡◌, ℕ, ◌+◌, ◌<◌, ◌≤◌, zero, suc, Bool, true, false, List, [], ◌∷◌, ◌++◌, length, Option, Some, None, refl, ap, ap₂, sym, ◌∙◌, inl, inr, ◌⊎◌, arith, subst}
-use Rattle.std.specs.List.{AllByRecursion, slice_get}
+use Rattle.std.proofs.Common.{◌≡◌, ℕ, ◌<◌, ◌≤◌, true, false, List, [], ◌∷◌, length, Option, Some, None, refl, ap, ap₂, sym, ◌∙◌, inl, inr, ◌⊎◌, arith, subst}
+use Rattle.std.specs.List.{slice_get}
 use Rattle.std.proofs.lemmas.Option.{slice_get_past, slice_get-get_or}
 use Rattle.std.proofs.lemmas.Bool.{cases_lt}
 use Rattle.nd_types.specs.declared.types.TypeDef.{TypeDef}
 use Rattle.nd_types.specs.declared.types.TypeId.{TypeId}
 use Rattle.nd_types.specs.declared.types.TypeDef.TheVariants as def
 use Rattle.nd_types.specs.declared.types.Class.TheVariants.{Ref, Unique, Full}
-use Rattle.nd_types.specs.Table.{Table, type_at}
+use Rattle.nd_types.specs.Table.{type_at}
 use Rattle.nd_types.specs.Roots.{Root}
 use Rattle.nd_graph.specs.declared.value.Graph.{Graph}
-use Rattle.nd_graph.specs.declared.item.Home.{Home}
-use Rattle.nd_graph.specs.declared.item.Home.TheVariants as home
 use Rattle.nd_graph.specs.Tree as tree
 use Rattle.nd_graph.specs.Tree.{Tree, Trees, node, none, more, Label, Referent, cell_in}
-use Rattle.nd_graph.specs.Setting.{Setting, Among, root_list, root_at, or_unread, unread, cell_at, cell_tree, cell_of_number, cell_home}
+use Rattle.nd_graph.specs.Setting.{Setting, root_list, root_at, or_unread, unread, cell_at, cell_tree, cell_of_number}
 use Rattle.nd_graph.specs.Nodes.{child_types}
 use Rattle.nd_graph.specs.Misfit.{has_counts}
 use Rattle.nd_graph.specs.Deferral.{direct, Standing, standing_by, standing_root, root_type}
 use Rattle.nd_graph.proofs.NodeFacts.{IsSound}
 use Rattle.nd_grammar.proofs.Next.{Pair, Readings}
-use Rattle.nd_grammar.proofs.Matching.{Known, NodeKnown, Matched, PointeeKnown, CellsMatch}
+use Rattle.nd_grammar.proofs.Matching.{Known, NodeKnown, Matched, PointeeKnown}
 use Rattle.nd_grammar.proofs.Carried.{InMap}
-use Rattle.nd_grammar.proofs.Standings.{RootsMeet, RootsAlike, RootCarried, PairFits, IsUnreadTree}
+use Rattle.nd_grammar.proofs.Standings.{RootsMeet, RootsAlike, IsUnreadTree}
 use Rattle.nd_grammar.proofs.KnownNodes.{known_cells, known_roots}
 
 past : (rs : List Root) (i : ℕ) → slice_get rs i ≡ None → (n : ℕ) → n ≡ length rs → n ≤ i

@@ -1,13 +1,11 @@
 -- Two conforming graphs that a map of cells carries are the same up to the numbers of their cells.
-use Rattle.std.proofs.Common.{◌≡◌, ℕ, ◌+◌, ◌<◌, ◌≤◌, ◌-◌, zero, suc, Bool, true, false, List, [], ◌∷◌, ◌++◌, length, Option, Some, None, refl, ap, ap₂, sym, ◌∙◌, inl, inr, ◌⊎◌, arith, subst, drop}
+use Rattle.std.proofs.Common.{◌≡◌, ℕ, ◌+◌, ◌<◌, ◌≤◌, ◌-◌, zero, suc, List, [], ◌∷◌, length, Option, Some, refl, ap, ap₂, sym, ◌∙◌, inl, inr, ◌⊎◌, arith, subst, drop}
 use Rattle.std.specs.Prelude.{map}
 use Rattle.std.specs.List.{AllByRecursion, slice_get}
 use Rattle.std.proofs.lemmas.Bool.{cases_lt}
-use Rattle.std.proofs.lemmas.Option.{same_Some, slice_get_within, slice_get-get_or}
-use Rattle.std.proofs.Common.{get_or}
-use Rattle.nd_types.specs.declared.types.TypeDef.{TypeDef}
+use Rattle.std.proofs.lemmas.Option.{same_Some, slice_get_within}
 use Rattle.nd_types.specs.declared.types.Class.{Class}
-use Rattle.nd_types.specs.Table.{Table, type_at}
+use Rattle.nd_types.specs.Table.{Table}
 use Rattle.nd_types.specs.Roots.{Root}
 use Rattle.nd_graph.specs.declared.value.Graph.{Graph}
 use Rattle.nd_graph.specs.declared.item.Home.{Home}
@@ -15,20 +13,20 @@ use Rattle.nd_graph.specs.declared.item.Home.TheVariants as home
 use Rattle.nd_graph.specs.Tree as tree
 use Rattle.nd_graph.specs.Tree.{Tree, Trees, node, none, more, Label, Referent, trees}
 use Rattle.nd_graph.specs.Setting.{Setting, Among, root_list, root_at, or_unread, cell_at, cell_tree, cell_of_number, cell_home}
-use Rattle.nd_graph.specs.Deferral.{Pending, home_pointers, due_roots, before_pipes, root_type}
+use Rattle.nd_graph.specs.Deferral.{home_pointers, before_pipes, root_type}
 use Rattle.nd_graph.specs.Homes.{root_pointers}
-use Rattle.nd_graph.specs.Conforms.{Conforms, Reached, by_root, by_cell}
+use Rattle.nd_graph.specs.Conforms.{Reached, by_root, by_cell}
 use Rattle.nd_graph.specs.Same.{Same, renumbered}
 use Rattle.nd_graph.proofs.Apart.{all_among}
-use Rattle.nd_graph.proofs.NodeFacts.{IsSound, sound_conforming}
+use Rattle.nd_graph.proofs.NodeFacts.{IsSound}
 use Rattle.nd_grammar.proofs.Next.{Pair, IsApart, OneToOne, Readings}
 use Rattle.nd_grammar.proofs.Matching.{Known, Matched, CellsMatch}
 use Rattle.nd_grammar.proofs.NextPending.{AllPointers, nodes_match, both}
 use Rattle.nd_grammar.proofs.NextPipes.{PipesMatch}
 use Rattle.nd_grammar.proofs.Carried.{InMap, AllInMap, carried}
-use Rattle.nd_grammar.proofs.Standings.{PairFits, IsClosed, AllCarried, RootCarried}
-use Rattle.nd_grammar.proofs.NextStream.{AreMapped, IsLaidOut, IsPipeRoot, pipe_root, root_carried, drop_at, past}
-use Rattle.nd_grammar.proofs.KnownNodes.{known_cells, known_roots}
+use Rattle.nd_grammar.proofs.Standings.{PairFits, IsClosed, RootCarried}
+use Rattle.nd_grammar.proofs.NextStream.{AreMapped, IsLaidOut, IsPipeRoot, pipe_root, root_carried, drop_at}
+use Rattle.nd_grammar.proofs.KnownNodes.{known_roots}
 use Rattle.nd_grammar.proofs.Mapped.{image, image_at, one_left, renumber, left_in, right_in, pipe_pointers}
 use Rattle.nd_grammar.proofs.Counting.{Distinct, no_longer, down, length_down, among_down, down_distinct}
 

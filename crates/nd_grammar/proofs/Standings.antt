@@ -1,41 +1,23 @@
 -- Two graphs in the order of deferral: the cells of both that stand, pair by pair.
-use Rattle.std.proofs.Common.{◌≡◌, ℕ, ◌+◌, ◌<◌, ◌≤◌, zero, suc, ℤ, Bool, true, false, List, [], ◌∷◌, ◌++◌, length, Option, Some, None, refl, ap, ap₂, sym, ◌∙◌, inl, inr, ◌⊎◌, arith, subst, replicate, append_assoc, take, drop}
-use Rattle.std.specs.Prelude.{pos, map, flat_map}
-use Rattle.nd_base.specs.declared.octets.Order.{Order}
-use Rattle.nd_types.specs.declared.types.TypeDef.{TypeDef}
-use Rattle.nd_types.specs.declared.types.TypeId.{TypeId}
+use Rattle.std.proofs.Common.{◌≡◌, ℕ, List, [], ◌∷◌, ◌++◌, Option, Some, None, refl, ap, sym, ◌∙◌, inl, inr, ◌⊎◌, subst}
+use Rattle.std.specs.Prelude.{map}
 use Rattle.nd_types.specs.declared.types.Attr.{Attr}
-use Rattle.nd_types.specs.declared.types.TypeDef.TheVariants as def
 use Rattle.nd_types.specs.declared.types.Class.{Class}
 use Rattle.nd_types.specs.declared.types.Class.TheVariants.{Ref, Unique, Full}
-use Rattle.nd_types.specs.Table.{Table, type_at, width, selected}
-use Rattle.nd_types.specs.Layout.{hoists}
+use Rattle.nd_types.specs.Table.{Table}
 use Rattle.nd_graph.specs.declared.value.Graph.{Graph}
 use Rattle.nd_graph.specs.declared.item.Home.{Home}
 use Rattle.nd_graph.specs.Tree as tree
 use Rattle.nd_graph.specs.Tree.{Tree, Trees, node, none, more, count, node_count, Label, Referent, is_pointer, cell_in}
-use Rattle.nd_graph.specs.Agreement.{Agreement, found_in}
+use Rattle.nd_graph.specs.Agreement.{found_in}
 use Rattle.std.specs.List.{AllByRecursion, slice_get}
-use Rattle.nd_graph.specs.declared.item.Home.TheVariants as home
-use Rattle.nd_graph.specs.Setting.{Setting, Among, cell_home, cell_at, cell_of_number, root_at, root_list}
-use Rattle.nd_graph.specs.Nodes.{child_types, child_agreements, first_agreements, rest_agreements, nodes_of, TypedNode, home_nodes}
-use Rattle.nd_graph.specs.Deferral.{Pending, pointer, home_pointers, Due, due_root, due_referent, Step, root_stands, referent_stands, stands_already, Deferral, none_due, at_root, at_null, at_standing, at_referent, due_of, standing_root, standing_cell, root_cell, root_type, Placed_cells, IsPlaced, IsPlacedFull, AreFree}
-use Rattle.nd_graph.proofs.DeferralLaws.{full_stands}
-use Rattle.nd_grammar.specs.Entry.{Kind, Entry, Align, Max, Offset, Actual, Chunk, Number, Num, Tag, Text, Context, Test, Unread, size_at, EntryAt, end_to_end, end_of}
-use Rattle.nd_grammar.specs.InPlace.{before_children, entries, in_place, tests, child_tests, hoisted, hoisted_max, whole_value}
-use Rattle.nd_grammar.specs.Stream.{step_entries, standing_entries, step_tests}
-use Rattle.nd_grammar.specs.Represents.{IsRendered, id_octets}
-use Rattle.std.proofs.lemmas.Option.{same_Some}
+use Rattle.nd_graph.specs.Setting.{Setting, Among, cell_at, cell_of_number, root_at, root_list}
+use Rattle.nd_graph.specs.Deferral.{Pending, home_pointers, Due, due_root, due_referent, root_cell, root_type, Placed_cells, IsPlaced, IsPlacedFull, AreFree}
 use Rattle.nd_graph.specs.Deferral.{Standing}
-use Rattle.nd_graph.specs.Setting.{cell_tree}
-use Rattle.nd_grammar.proofs.NextPending.{PointersMatch, AllPointers, nodes_match, DueMatches, AllDueMatch, then_due}
-use Rattle.nd_graph.proofs.Orderly.{Pointee}
-use Rattle.nd_graph.proofs.Apart.{all_append, all_weaker, among_left, among_right}
-use Rattle.nd_grammar.specs.NextEntry.{form}
-use Rattle.nd_grammar.proofs.Next.{IsUnread, Alike, Pair, IsApart, OneToOne, HomesMeet, Readings, Next, unread_left, unread_right, grown}
-use Rattle.nd_grammar.proofs.Matching.{bare, class_of, CellsMatch, Match, Matched, NodeKnown, Known, Maxes, matched_nodes, matched_count, matched_number, child_agreements_same, found_same}
-use Rattle.nd_grammar.proofs.NextInPlace.{Cells, in_place_next, tests_next}
-use Rattle.nd_grammar.proofs.NextWhole.{MaxesFrom, whole_value_next, unread_whole, unread_entry}
+use Rattle.nd_grammar.proofs.NextPending.{PointersMatch, AllPointers, nodes_match}
+use Rattle.nd_graph.proofs.Apart.{all_append}
+use Rattle.nd_grammar.proofs.Next.{Pair, IsApart, OneToOne, HomesMeet, Readings}
+use Rattle.nd_grammar.proofs.Matching.{bare, CellsMatch, Matched, Known, matched_count, found_same}
 use Rattle.nd_grammar.proofs.Carried.{InMap, AllInMap, carried}
 
 abbrev pub firsts : List Pair → Placed_cells

@@ -1,7 +1,7 @@
 -- The one stream that is written.
 -- `w` is a setting, `g` a graph, `m` an entry, `at` its place, `v` a count, `p` a primitive, `z` its value, `c` the number of
 -- a cell, `k` the count of a chunk, `n` that of the elements.
-use Rattle.std.specs.Prelude.{drop, ◌≡◌, ℕ, ◌+◌, ◌-◌, ◌<◌, ◌≤◌, suc, zero, Bool, true, false, cond, eqb, ltb, List, [], ◌∷◌, ◌++◌, length, replicate, Option, Some, None}
+use Rattle.std.specs.Prelude.{drop, ◌≡◌, ℕ, ◌+◌, ◌-◌, suc, zero, true, false, ltb, List, [], ◌∷◌, ◌++◌, replicate, Option, Some, None}
 use Rattle.nd_base.specs.declared.octets.Order.{Order}
 use Rattle.nd_graph.specs.declared.value.Graph.{Graph}
 use Rattle.nd_graph.specs.Setting.{Setting, root_list}

@@ -1,7 +1,7 @@
 -- The entries of a stream: what stands in it, entry by entry, and at which place.
 -- `m` is an entry, `at` its place, `h` a home, `n` a number of octets, `v` a count, `t` whether a count is a text's, `p` a
 -- primitive, `z` its value, `c` the number of a cell.
-use Rattle.std.specs.Prelude.{◌≡◌, ℕ, ◌+◌, ◌-◌, ◌%◌, ℤ, Bool, List, [], ◌∷◌, ◌++◌, length, Option, Some, None}
+use Rattle.std.specs.Prelude.{ℕ, ◌+◌, ◌-◌, ◌%◌, ℤ, Bool, List, [], ◌∷◌, ◌++◌, length, Option, Some}
 use Rattle.nd_types.specs.declared.types.Arm.{Arm}
 use Rattle.nd_types.specs.declared.types.Attr.{Attr}
 use Rattle.nd_types.specs.declared.types.Class.{Class}

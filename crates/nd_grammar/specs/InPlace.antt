@@ -3,18 +3,17 @@
 -- no gap stands for an array that has no elements.
 -- `t` is a type's number, `h` a home, `n` a node's number, `l` its label, `ks` are its children, `ts` the values behind it,
 -- `z` is a number, `v` a tag, `c` the number of a cell, `a` an agreement.
-use Rattle.std.specs.Prelude.{ℕ, ◌+◌, suc, zero, ℤ, Bool, true, false, List, [], ◌∷◌, ◌++◌, length, map, Option, Some, None}
+use Rattle.std.specs.Prelude.{ℕ, ◌+◌, ℤ, Bool, true, false, List, [], ◌∷◌, ◌++◌, length, Option, Some, None}
 use Rattle.nd_types.specs.declared.types.TypeDef.{TypeDef}
 use Rattle.nd_types.specs.declared.types.Arm.{Arm}
 use Rattle.nd_types.specs.declared.types.TypeDef.TheVariants as def
-use Rattle.nd_types.specs.declared.types.Primitive.{Primitive}
 use Rattle.nd_types.specs.declared.types.Primitive.TheVariants.{Short}
 use Rattle.nd_types.specs.Table.{Table, type_at, width}
 use Rattle.nd_types.specs.Layout.{align_of, hoists}
 use Rattle.nd_graph.specs.declared.item.Home.{Home}
 use Rattle.nd_graph.specs.Tree as tree
 use Rattle.nd_graph.specs.Tree.{Tree, Trees, node, none, more, count, node_count, Label, is_pointer}
-use Rattle.nd_graph.specs.Agreement.{Agreement, found_in, actual, max_of}
+use Rattle.nd_graph.specs.Agreement.{Agreement, found_in}
 use Rattle.nd_graph.specs.Nodes.{child_types, child_agreements, first_agreements, rest_agreements}
 use Rattle.nd_grammar.specs.Entry.{Kind, Entry, Align, Max, Offset, Actual, Number, Num, Tag, Text, Context, Test, Unread}
 

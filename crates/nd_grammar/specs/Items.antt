@@ -1,13 +1,12 @@
 -- The items of a stream: each entry that has octets, with its place, its length and the value that the octets hold.
 -- `x` is an entry at its place, `os` are its octets, `k` is the kind and the value of an item.
-use Rattle.std.specs.Prelude.{ℕ, ◌+◌, ℤ, pos, List, [], ◌∷◌, ◌++◌, length, Option, Some, None}
+use Rattle.std.specs.Prelude.{ℕ, ℤ, pos, List, [], ◌∷◌, ◌++◌, length, Option, Some, None}
 use Rattle.nd_base.specs.declared.octets.Order.{Order}
-use Rattle.nd_graph.specs.declared.item.Home.{Home}
 use Rattle.nd_graph.specs.declared.item.Item.{Item}
 use Rattle.nd_graph.specs.declared.item.ItemKind.{ItemKind}
 use Rattle.nd_graph.specs.declared.item.ItemKind.TheVariants as item
 use Rattle.nd_types.specs.Number.{unsigned, value_of_octets}
-use Rattle.nd_grammar.specs.Entry.{Kind, Entry, Align, Max, Offset, Actual, Chunk, Number, Num, Tag, Text, Context, Test, Unread, size_at, EntryAt}
+use Rattle.nd_grammar.specs.Entry.{Kind, Align, Max, Offset, Actual, Chunk, Number, Num, Tag, Text, Context, Test, Unread, size_at, EntryAt}
 use Rattle.nd_grammar.specs.Represents.{piece}
 
 -- the item of a count or of a pointer's number

@@ -3,7 +3,7 @@
 -- `x` is an entry at its place, `m` an entry, `at` its place, `os` are its octets, `h` is a home, `n` a node's number, `a` an
 -- attribute or an arm, `v` what octets hold, `p` a primitive, `z` a value, `b` and `c` are octets, `o` is a later refusal, `r`
 -- a refusal.
-use Rattle.std.specs.Prelude.{drop, ◌≡◌, ℕ, ◌+◌, ℤ, Bool, true, false, not, ◌&&◌, ◌||◌, cond, eqb, ltb, List, [], ◌∷◌, ◌++◌, length, Option, Some, None}
+use Rattle.std.specs.Prelude.{◌≡◌, ℕ, ◌+◌, ℤ, Bool, true, false, not, ◌&&◌, ◌||◌, cond, eqb, ltb, List, [], ◌∷◌, ◌++◌, length, Option, Some, None}
 use Rattle.std.specs.List.{list_any}
 use Rattle.std.specs.Ordering.{int_eq}
 use Rattle.nd_base.specs.declared.octets.Order.{Order}
@@ -18,7 +18,7 @@ use Rattle.nd_graph.specs.declared.item.Home.TheVariants as home
 use Rattle.nd_grammar.specs.declared.reason.Reason.{Reason}
 use Rattle.nd_grammar.specs.declared.reason.Reason.TheVariants as reason
 use Rattle.nd_types.specs.Number.{unsigned, value_of_octets}
-use Rattle.nd_grammar.specs.Entry.{Kind, Entry, Align, Max, Offset, Actual, Chunk, Number, Num, Tag, Text, Context, Test, Unread, size_at, EntryAt}
+use Rattle.nd_grammar.specs.Entry.{Kind, Entry, Align, Max, Offset, Actual, Number, Num, Tag, Text, Test, Unread, size_at, EntryAt}
 use Rattle.nd_grammar.specs.Represents.{piece}
 
 -- an entry would end past the limit of a stream; a gap never does, since the limit is a multiple of every alignment

@@ -4,8 +4,8 @@
 -- `w` is a setting, `g` a graph, `x` a value that stands, `p` a pointer, `c` the number of a cell, `i` the index of a root,
 -- `r` a root, `v` its value, `h` a home, `t` a type's number, `n` a node's number or how many roots, `k` the count of a chunk,
 -- `cut` the counts of a pipe.
-use Rattle.std.specs.Prelude.{drop, ◌≡◌, ℕ, ◌+◌, ◌<◌, suc, zero, Bool, true, false, List, [], ◌∷◌, ◌++◌, length, map, flat_map, replicate, sum, Option, Some, None}
-use Rattle.std.specs.List.{slice_get, AllByRecursion}
+use Rattle.std.specs.Prelude.{drop, ◌≡◌, ℕ, ◌+◌, ◌<◌, List, [], ◌∷◌, ◌++◌, flat_map, replicate, sum, Option, Some, None}
+use Rattle.std.specs.List.{AllByRecursion}
 use Rattle.nd_types.specs.declared.types.TypeDef.{TypeDef}
 use Rattle.nd_types.specs.declared.types.TypeDef.TheVariants as def
 use Rattle.nd_types.specs.Table.{Table, type_at}
@@ -16,10 +16,10 @@ use Rattle.nd_graph.specs.declared.item.Home.TheVariants as home
 use Rattle.nd_graph.specs.Tree as tree
 use Rattle.nd_graph.specs.Tree.{Tree, Trees, node, none, more, count, node_count, take_trees, drop_trees}
 use Rattle.nd_graph.specs.Agreement.{Agreement}
-use Rattle.nd_graph.specs.Setting.{Setting, root_list, root_at, cell_at, cell_home}
-use Rattle.nd_graph.specs.Deferral.{Due, due_root, Step, root_stands, referent_stands, stands_already, Deferral, Standing, standing_root, standing_cell, Pending, due_roots, before_pipes}
+use Rattle.nd_graph.specs.Setting.{Setting, root_list, cell_at, cell_home}
+use Rattle.nd_graph.specs.Deferral.{Step, root_stands, referent_stands, stands_already, Deferral, Standing, standing_root, standing_cell, Pending, due_roots, before_pipes}
 use Rattle.nd_graph.specs.Variables.{root_agreements}
-use Rattle.nd_grammar.specs.Entry.{Kind, Entry, Align, Chunk, Unread}
+use Rattle.nd_grammar.specs.Entry.{Entry, Align, Chunk, Unread}
 use Rattle.nd_grammar.specs.InPlace.{entries, tests, in_place, whole_value}
 
 -- a value that stands as a whole

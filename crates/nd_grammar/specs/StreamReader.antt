@@ -1,12 +1,12 @@
 -- Reading a whole stream: the roots and the referents that they make due, the agreements of the parameters, the pipes.
-use Rattle.std.specs.Prelude.{ℕ, ◌+◌, suc, zero, Bool, true, false, cond, eqb, ◌||◌, List, [], ◌∷◌, ◌++◌, length, map, take, drop, replicate, Option, Some, None}
+use Rattle.std.specs.Prelude.{ℕ, ◌+◌, suc, zero, Bool, true, false, eqb, ◌||◌, List, [], ◌∷◌, ◌++◌, length, drop, replicate, Option, Some, None}
 use Rattle.std.specs.List.{slice_get}
 use Rattle.nd_base.specs.declared.octets.Order.{Order}
 use Rattle.nd_types.specs.declared.types.TypeDef.{TypeDef}
 use Rattle.nd_types.specs.declared.types.TypeDef.TheVariants as def
 use Rattle.nd_types.specs.declared.types.Class.{Class}
-use Rattle.nd_types.specs.declared.types.Class.TheVariants.{Ref, Unique, Full}
-use Rattle.nd_types.specs.Table.{Table, type_at}
+use Rattle.nd_types.specs.declared.types.Class.TheVariants.{Ref, Full}
+use Rattle.nd_types.specs.Table.{type_at}
 use Rattle.nd_types.specs.Roots.{Root}
 use Rattle.nd_graph.specs.declared.value.Graph.{Graph}
 use Rattle.nd_graph.specs.declared.item.Home.{Home}
@@ -14,8 +14,7 @@ use Rattle.nd_graph.specs.declared.item.Home.TheVariants as home
 use Rattle.nd_graph.specs.Tree as tree
 use Rattle.nd_graph.specs.Tree.{Tree, Trees, node, none, more, Referent, node_count, joined}
 use Rattle.nd_graph.specs.Setting.{Setting, root_list, unread, cell_at, cell_home}
-use Rattle.nd_graph.specs.Deferral.{Pending, Due, due_root, due_referent, due_roots, before_pipes, Standing, Placed_cells, due_of, root_type}
-use Rattle.nd_grammar.specs.declared.reason.Reason.{Reason}
+use Rattle.nd_graph.specs.Deferral.{Pending, Due, due_root, due_referent, due_roots, before_pipes, Placed_cells, due_of, root_type}
 use Rattle.nd_grammar.specs.Entry.{Kind, Entry, Align, Chunk}
 use Rattle.nd_grammar.specs.InPlace.{tests}
 use Rattle.nd_grammar.specs.Stream.{root_tests}
