@@ -25,7 +25,7 @@ abbrev pub cell_in : List Referent → ℕ → Option Referent
 cell_in cells zero = None
 cell_in cells (suc i) = slice_get cells i
 
-get_left : {X : Type 0} (xs ys : List X) (i : ℕ) (x : X) → slice_get xs i ≡ Some x → slice_get (xs ++ ys) i ≡ Some x
+pub get_left : {X : Type 0} (xs ys : List X) (i : ℕ) (x : X) → slice_get xs i ≡ Some x → slice_get (xs ++ ys) i ≡ Some x
 get_left [] ys i x e = cc
 get_left (y ∷ xs) ys zero x e = e
 get_left (y ∷ xs) ys (suc i) x e = get_left xs ys i x e
@@ -58,7 +58,7 @@ pub record Extends (s s' : Names) : Type 0 where
 pub extends_itself : (s : Names) → Extends s s
 extends_itself s = record { new = []; cells = sym (append-nil s.cells); blank = tt; more_numbers = []; numbers = refl; of_new = tt }
 
-longer : (s s' : Names) → Extends s s' → length s.cells ≤ length s'.cells
+pub longer : (s s' : Names) → Extends s s' → length s.cells ≤ length s'.cells
 longer s s' e = omega (arith, ap length e.cells, length-append s.cells e.new)
 
 pub extends_twice : (a b c : Names) → Extends a b → Extends b c → Extends a c
@@ -85,7 +85,7 @@ module _ (order : Order) (octets : List ℕ) where
   pub record Linked (p : Progress) (s : Names) : Type 0 where
     pub all : AllByRecursion (LinkedOne p.seen s.cells) s.numbers
 
-  either_false : (x y : Bool) → (x || y) ≡ false → (x ≡ false) × (y ≡ false)
+  pub either_false : (x y : Bool) → (x || y) ≡ false → (x ≡ false) × (y ≡ false)
   either_false true y h = cc
   either_false false y h = (refl, h)
 
@@ -99,7 +99,7 @@ module _ (order : Order) (octets : List ℕ) where
   other_right [] ys v to e = e
   other_right (x ∷ xs) ys v to e = other_right xs ys v to (either_false _ _ e).1
 
-  seen_more : (seen later : List EntryAt) (cells new : List Referent) (xs : List (ℕ × ℕ)) → AllByRecursion (LinkedOne seen cells) xs
+  pub seen_more : (seen later : List EntryAt) (cells new : List Referent) (xs : List (ℕ × ℕ)) → AllByRecursion (LinkedOne seen cells) xs
       → AllByRecursion (LinkedOne (seen ++ later) (cells ++ new)) xs
   seen_more seen later cells new [] a = tt
   seen_more seen later cells new (x ∷ xs) a =
@@ -146,7 +146,7 @@ among_numbers (x ∷ xs) ys c (inr a) = go (among_numbers xs ys c a)
     go (inl b) = inl (inr b)
     go (inr b) = inr b
 
-numbers_among : (xs ys : List (ℕ × ℕ)) (c : ℕ) → Among (numbered_cells ys) c → Among (numbered_cells (xs ++ ys)) c
+pub numbers_among : (xs ys : List (ℕ × ℕ)) (c : ℕ) → Among (numbered_cells ys) c → Among (numbered_cells (xs ++ ys)) c
 numbers_among [] ys c a = a
 numbers_among (x ∷ xs) ys c a = inr (numbers_among xs ys c a)
 
