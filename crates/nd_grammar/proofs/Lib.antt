@@ -46,6 +46,7 @@ pub mod ReaderArrays
 pub mod ReaderDirectory
 pub mod ReaderFinds
 pub mod ReaderInPlace
+pub mod ReaderLeaves
 pub mod ReaderNamed
 pub mod ReaderNames
 pub mod ReaderNodes
