@@ -16,6 +16,7 @@ pub mod KnownNodes
 pub mod LawExamples
 pub mod LawRing
 pub mod LegalPipes
+pub mod LegalReadable
 pub mod LegalSides
 pub mod Mapped
 pub mod Matching
