@@ -56,6 +56,8 @@ pub mod ReaderPointers
 pub mod ReaderResponses
 pub mod ReaderSteps
 pub mod ReaderUnions
+pub mod ReaderVerdict
+pub mod ReaderWhole
 pub mod RefusedAlike
 pub mod RootsMeeting
 pub mod SameByMap

@@ -74,7 +74,7 @@ module _ (order : Order) (octets : List ℕ) (table : Table) (h : Home) where
   abbrev pub Leave : (ℕ → ℕ → Progress → Names → Read) → ℕ → Type 0
   Leave read t = (n : ℕ) (p : Progress) (s : Names) → Leaves (type_at table t) p s (read t n p s)
 
-  unread_leaves : (d : Option TypeDef) (p : Progress) (s : Names) → Leaves d p s (record { tree = unread; progress = p; names = s })
+  pub unread_leaves : (d : Option TypeDef) (p : Progress) (s : Names) → Leaves d p s (record { tree = unread; progress = p; names = s })
   unread_leaves d p s = record {
     extends = extends_itself s;
     linked = λ l. l;
@@ -122,7 +122,7 @@ module _ (order : Order) (octets : List ℕ) (table : Table) (h : Home) where
         (a.pointers (before x) (k + 1) (child_agreements d kids.trees)));
       }
 
-  passes : (p : Progress) (s : Names) (m m' : Entry) → L p s → L (pass order octets m' (pass order octets m p)) s
+  pub passes : (p : Progress) (s : Names) (m m' : Entry) → L p s → L (pass order octets m' (pass order octets m p)) s
   passes p s m m' l = linked_pass order octets (pass order octets m p) s m' (linked_pass order octets p s m l)
 
   array_leaves : (read : ℕ → ℕ → Progress → Names → Read) (elem : TypeId) (bound : Option ℕ) (varying : Bool) (max n : ℕ) (p : Progress) (s : Names)
