@@ -64,10 +64,14 @@ module _ (table : Table) (operations : List Operation) (legal : IsLegal table op
   readable : (n t : ℕ) → Known table t → nests n table t ≡ true → IsNoPipe table t → Readable table n t
   readable zero t k h p = cc
   readable (suc n) t (d, e) h p =
-      let s : list_all (nests n table) (parts (Some d)) ≡ true = subst (λ u. list_all (nests n table) (parts u) ≡ true) e h in
-      (d, e, fine t d e p, each (parts (Some d))
-      (all_left (Known table) (parts (Some d)) (tag_of d) (all_left (Known table) (parts (Some d) ++ tag_of d) (pointee_of d) (named_known t d e)))
-      (all_of_list (nests n table) (parts (Some d)) s) (parts_alone table operations legal t (Some d) e) (readable n))
+      let s : list_all (nests n table) (parts (Some d)) ≡ true = subst (λ u. list_all (nests n table) (parts u) ≡ true) e h in (
+        d,
+        e,
+        fine t d e p,
+        each (parts (Some d))
+            (all_left (Known table) (parts (Some d)) (tag_of d) (all_left (Known table) (parts (Some d) ++ tag_of d) (pointee_of d) (named_known t d e)))
+            (all_of_list (nests n table) (parts (Some d)) s) (parts_alone table operations legal t (Some d) e) (readable n),
+      )
     where
       each : (ts : List ℕ) → AllByRecursion (Known table) ts → AllByRecursion (λ u. nests n table u ≡ true) ts → AllByRecursion (IsNoPipe table) ts
           → ((t : ℕ) → Known table t → nests n table t ≡ true → IsNoPipe table t → Readable table n t) → AllByRecursion (Readable table n) ts

@@ -196,23 +196,21 @@ module _ (w : Setting) (g : Graph) where
         let (all, closed) = covered d (all_append IsGoodDue (due_of w.table x) due (standing_due w none_inside g x s) a.1) in
         let own_home : HomeCovered (new ++ done) steps x.home x.of x.val = home_of_due (new ++ done) steps ps due all in
         let step : Step = root_stands i in
-        let home : HomeCovered done (step ∷ steps) x.home x.of x.val = home_before new done step steps (of_root x.home) x.home x.of x.val own_home in
-        (
+        let home : HomeCovered done (step ∷ steps) x.home x.of x.val = home_before new done step steps (of_root x.home) x.home x.of x.val own_home in (
           (
             (home, (λ b m. inr (among_left (own x.home) (all_placed steps) b m))),
             all_before new done step steps (of_root x.home) due (rest_of_due (new ++ done) steps ps due all),
           ),
           (λ b m y e. (
-          closed_at (among_split (own x.home) (all_placed steps) b m)
-          (λ k. by_cell_of x s done (step ∷ steps) home b (home_is x.home b k) y e)
-          (λ k. home_before new done step steps (of_root x.home) (cell_home b) y.of y.val (closed b k y e)))),
+              closed_at (among_split (own x.home) (all_placed steps) b m)
+              (λ k. by_cell_of x s done (step ∷ steps) home b (home_is x.home b k) y e)
+              (λ k. home_before new done step steps (of_root x.home) (cell_home b) y.of y.val (closed b k y e)))),
         )
     covered (at_null {p = p} e d) a =
         let (all, closed) = covered d a.1 in
         (((λ k f. none_some p.cell k e f), all), closed)
     covered (at_standing {done = done} {p = p} {due = due} {steps = steps} k e full h d) a =
-        let (all, closed) = covered d a.1 in
-        (
+        let (all, closed) = covered d a.1 in (
           (
             (λ q f. inl (subst (λ u. IsPlaced done u) (same_Some _ _ (sym e ∙ f)) (full_stands done k h))),
             all_before [] done (stands_already p k) steps (λ q m. absurd m) due all,
@@ -228,14 +226,13 @@ module _ (w : Setting) (g : Graph) where
         let (all, closed) = covered d (all_append IsGoodDue (due_of w.table x) due (standing_due w none_inside g x s) a.1) in
         let of_step : (q : ℕ) → IsPlaced new q → Among (placed step) q = λ q m. m in
         let own_home : HomeCovered (new ++ done) steps x.home x.of x.val = home_of_due (new ++ done) steps ps due all in
-        let home : HomeCovered done (step ∷ steps) x.home x.of x.val = home_before new done step steps of_step x.home x.of x.val own_home in
-        (
+        let home : HomeCovered done (step ∷ steps) x.home x.of x.val = home_before new done step steps of_step x.home x.of x.val own_home in (
           (
             (λ q f. inr (inl (same_Some q k (sym f ∙ e)))),
             all_before new done step steps of_step due (rest_of_due (new ++ done) steps ps due all),
           ),
           (λ b m y f. (
-          closed_at (among_split (k ∷ []) (all_placed steps) b m)
-          (λ z. by_cell_of x s done (step ∷ steps) home b (ap cell_home (one_among k b z)) y f)
-          (λ z. home_before new done step steps of_step (cell_home b) y.of y.val (closed b z y f)))),
+              closed_at (among_split (k ∷ []) (all_placed steps) b m)
+              (λ z. by_cell_of x s done (step ∷ steps) home b (ap cell_home (one_among k b z)) y f)
+              (λ z. home_before new done step steps of_step (cell_home b) y.of y.val (closed b z y f)))),
         )

@@ -85,4 +85,3 @@ read_text_zero = refl
 pub read_text_past_bound : IsStopped (read_stream text Little (four 1 (four 0 (0xFF ∷ 0xFF ∷ 0xFF ∷ 0xFF ∷ [])))) 8 reason.PastBound
 unfolding align_of hoists roots_of
 read_text_past_bound = refl
-

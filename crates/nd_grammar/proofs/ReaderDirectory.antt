@@ -23,4 +23,3 @@ use Rattle.nd_grammar.proofs.WorkedDirectory.{put, put_graph, put_octets}
 pub read_directory_entry : IsFound (read_stream put Little put_octets) put_graph (length put_octets)
 unfolding align_of hoists roots_of
 read_directory_entry = (refl, (refl, refl))
-

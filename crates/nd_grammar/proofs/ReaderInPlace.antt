@@ -89,9 +89,9 @@ module _ (order : Order) (octets : List ℕ) (table : Table) (h : Home) where
       record {
         grown = grown_twice s.numbers first.names.numbers others.names.numbers a.grown b.grown;
         follows = λ nums g.
-        subst (λ u. Follows order octets nums p u others.progress) (sym (value_then_others table h t types n first.tree others.trees))
-        (follows_append order octets nums (node_entries table h t (type_at table t) n first.tree) (in_place table h types (n + tree_nodes first.tree) others.trees) p first.progress others.progress
-        (a.follows nums (grown_agree nums first.names.numbers others.names.numbers b.grown g)) (b.follows nums g));
+            subst (λ u. Follows order octets nums p u others.progress) (sym (value_then_others table h t types n first.tree others.trees))
+            (follows_append order octets nums (node_entries table h t (type_at table t) n first.tree) (in_place table h types (n + tree_nodes first.tree) others.trees) p first.progress others.progress
+            (a.follows nums (grown_agree nums first.names.numbers others.names.numbers b.grown g)) (b.follows nums g));
         as_many = ap suc b.as_many;
       }
 
@@ -108,11 +108,11 @@ module _ (order : Order) (octets : List ℕ) (table : Table) (h : Home) where
       record {
         grown = k.grown;
         follows = λ nums a.
-        follows_append order octets nums (entries h n (before_children table t d l kids.trees)) (in_place table h (child_types d l kids.trees) (n + 1) kids.trees ++ C)
-        p0 p (pass_all order octets C kids.progress) (before nums)
-        (follows_append order octets nums (in_place table h (child_types d l kids.trees) (n + 1) kids.trees) C p kids.progress (pass_all order octets C kids.progress)
-        (subst (λ u. Follows order octets nums p (in_place table h u (n + 1) kids.trees) kids.progress) (sym same) (k.follows nums a))
-        (follows_child_tests order octets nums h (child_agreements d kids.trees) (n + 1) kids.trees kids.progress));
+            follows_append order octets nums (entries h n (before_children table t d l kids.trees)) (in_place table h (child_types d l kids.trees) (n + 1) kids.trees ++ C)
+            p0 p (pass_all order octets C kids.progress) (before nums)
+            (follows_append order octets nums (in_place table h (child_types d l kids.trees) (n + 1) kids.trees) C p kids.progress (pass_all order octets C kids.progress)
+            (subst (λ u. Follows order octets nums p (in_place table h u (n + 1) kids.trees) kids.progress) (sym same) (k.follows nums a))
+            (follows_child_tests order octets nums h (child_agreements d kids.trees) (n + 1) kids.trees kids.progress));
       }
 
   many : (P : ℕ → Type 0) (t n : ℕ) → P t → AllByRecursion P (replicate n t)
@@ -319,9 +319,9 @@ module _ (order : Order) (octets : List ℕ) (table : Table) (h : Home) where
         record {
           grown = law.grown;
           follows = λ nums a.
-          plain_whole t (read_in_place order octets table h 32 0 t 0 p s).tree p _ nums e
-          (subst (λ u. Follows order octets nums p u (read_in_place order octets table h 32 0 t 0 p s).progress) (sym (in_place_one t 0 (read_in_place order octets table h 32 0 t 0 p s).tree))
-          (law.follows nums a));
+              plain_whole t (read_in_place order octets table h 32 0 t 0 p s).tree p _ nums e
+              (subst (λ u. Follows order octets nums p u (read_in_place order octets table h 32 0 t 0 p s).progress) (sym (in_place_one t 0 (read_in_place order octets table h 32 0 t 0 p s).tree))
+              (law.follows nums a));
         }
     hoisted_read t r true e p s =
         let gap : Progress = pass order octets (E 0 (Align 4)) p in
@@ -332,9 +332,9 @@ module _ (order : Order) (octets : List ℕ) (table : Table) (h : Home) where
         record {
           grown = law.grown;
           follows = λ nums a.
-          counted_whole t m v p q (read_in_place order octets table h 32 m t 0 q s).progress nums e (hoisting_label 32 m t r e 0 q s) (in_place_hoisted 32 m t r e 0 q s)
-          (follows_max order octets h 0 nums p)
-          (subst (λ u. Follows order octets nums q u (read_in_place order octets table h 32 m t 0 q s).progress) (sym (in_place_one t 0 v)) (law.follows nums a));
+              counted_whole t m v p q (read_in_place order octets table h 32 m t 0 q s).progress nums e (hoisting_label 32 m t r e 0 q s) (in_place_hoisted 32 m t r e 0 q s)
+              (follows_max order octets h 0 nums p)
+              (subst (λ u. Follows order octets nums q u (read_in_place order octets table h 32 m t 0 q s).progress) (sym (in_place_one t 0 v)) (law.follows nums a));
         }
 
     pub whole_read : (t : ℕ) → Readable table 32 t → (p : Progress) (s : Names) → IsWhole t p s (read_whole order octets table h t p s)

@@ -98,10 +98,10 @@ module _ (order : Order) (octets : List ℕ) (table : Table) (h : Home) where
         extends = extends_twice s first.names others.names a.extends b.extends;
         linked = λ l. b.linked (a.linked l);
         pointers = λ l k ags.
-        subst (PointersOk s others.names) (sym (first_value table h t types ags k first.tree others.trees))
-        (pointers_joined s first.names others.names (value_pointers table h (type_at table t) k (first_agreements ags) first.tree)
-        (flat_map (pointer table h) (nodes_of table types (rest_agreements ags) (after_value first.tree k) others.trees)) a.extends b.extends
-        (a.pointers l k (first_agreements ags)) (b.pointers (a.linked l) (after_value first.tree k) (rest_agreements ags)));
+            subst (PointersOk s others.names) (sym (first_value table h t types ags k first.tree others.trees))
+            (pointers_joined s first.names others.names (value_pointers table h (type_at table t) k (first_agreements ags) first.tree)
+            (flat_map (pointer table h) (nodes_of table types (rest_agreements ags) (after_value first.tree k) others.trees)) a.extends b.extends
+            (a.pointers l k (first_agreements ags)) (b.pointers (a.linked l) (after_value first.tree k) (rest_agreements ags)));
       }
 
   children_leave : (read : ℕ → ℕ → Progress → Names → Read) (d : Option TypeDef) (n : ℕ) (l : Label) (types : List ℕ) (p0 p : Progress) (s : Names)
@@ -117,9 +117,9 @@ module _ (order : Order) (octets : List ℕ) (table : Table) (h : Home) where
         extends = a.extends;
         linked = λ x. linked_all order octets kids.progress kids.names (child_tests h (child_agreements d kids.trees) (n + 1) kids.trees) (a.linked (before x));
         pointers = λ x k ags.
-        subst (λ u. PointersOk s kids.names (u ++ flat_map (pointer table h) (nodes_of table (child_types d l kids.trees) (child_agreements d kids.trees) (k + 1) kids.trees))) (sym (none_own k ags))
-        (subst (λ u. PointersOk s kids.names (flat_map (pointer table h) (nodes_of table u (child_agreements d kids.trees) (k + 1) kids.trees))) (sym same)
-        (a.pointers (before x) (k + 1) (child_agreements d kids.trees)));
+            subst (λ u. PointersOk s kids.names (u ++ flat_map (pointer table h) (nodes_of table (child_types d l kids.trees) (child_agreements d kids.trees) (k + 1) kids.trees))) (sym (none_own k ags))
+            (subst (λ u. PointersOk s kids.names (flat_map (pointer table h) (nodes_of table u (child_agreements d kids.trees) (k + 1) kids.trees))) (sym same)
+            (a.pointers (before x) (k + 1) (child_agreements d kids.trees)));
       }
 
   pub passes : (p : Progress) (s : Names) (m m' : Entry) → L p s → L (pass order octets m' (pass order octets m p)) s

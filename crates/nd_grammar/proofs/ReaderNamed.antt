@@ -89,7 +89,7 @@ module _ (order : Order) (octets : List ℕ) where
     linked_cell : (p : Progress) (s : Names) → Linked order octets p s → Linked order octets p (with_cell to s)
     linked_cell p s l = record {
       all = subst (λ u. AllByRecursion (LinkedOne order octets u (s.cells ++ record { of = to; val = unread } ∷ [])) s.numbers) (append-nil p.seen)
-      (seen_more order octets p.seen [] s.cells (record { of = to; val = unread } ∷ []) s.numbers l.all);
+          (seen_more order octets p.seen [] s.cells (record { of = to; val = unread } ∷ []) s.numbers l.all);
     }
 
     -- a cell of its own, for a pointer that is not full
@@ -189,8 +189,7 @@ module _ (order : Order) (octets : List ℕ) where
 
       new_linked : Linked order octets p s → Linked order octets (pass order octets (E Full (Some (fresh to s))) p) numbered_names
       new_linked l = record {
-        all = subst (λ u. AllByRecursion (LinkedOne order octets u (s.cells ++ record { of = to; val = unread } ∷ [])) ((v, fresh to s) ∷ s.numbers)) (sym seen_then)
-        (
+        all = subst (λ u. AllByRecursion (LinkedOne order octets u (s.cells ++ record { of = to; val = unread } ∷ [])) ((v, fresh to s) ∷ s.numbers)) (sym seen_then) (
           (record { of = to; val = unread }, last_cell s.cells (record { of = to; val = unread }), (λ to' e. only_type to' e)),
           seen_more order octets p.seen (here p (E Full (Some (fresh to s))) ∷ []) s.cells (record { of = to; val = unread } ∷ []) s.numbers l.all,
         );

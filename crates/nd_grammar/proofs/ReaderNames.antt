@@ -72,8 +72,8 @@ extends_twice a b c x y =
       more_numbers = y.more_numbers ++ x.more_numbers;
       numbers = y.numbers ∙ ap (λ u. y.more_numbers ++ u) x.numbers ∙ sym (append_assoc y.more_numbers x.more_numbers a.numbers);
       of_new = all_append _ y.more_numbers x.more_numbers
-      (all_weaker (λ z. (length b.cells < z.1) × (z.1 ≤ length c.cells)) (λ z. (length a.cells < z.1) × (z.1 ≤ length c.cells)) (λ z h. (omega arith, h.1)) y.more_numbers y.of_new)
-      (all_weaker (λ z. (length a.cells < z.1) × (z.1 ≤ length b.cells)) (λ z. (length a.cells < z.1) × (z.1 ≤ length c.cells)) (λ z h. (h.0, omega arith)) x.more_numbers x.of_new);
+          (all_weaker (λ z. (length b.cells < z.1) × (z.1 ≤ length c.cells)) (λ z. (length a.cells < z.1) × (z.1 ≤ length c.cells)) (λ z h. (omega arith, h.1)) y.more_numbers y.of_new)
+          (all_weaker (λ z. (length a.cells < z.1) × (z.1 ≤ length b.cells)) (λ z. (length a.cells < z.1) × (z.1 ≤ length c.cells)) (λ z h. (h.0, omega arith)) x.more_numbers x.of_new);
     }
 
 module _ (order : Order) (octets : List ℕ) where
@@ -118,7 +118,7 @@ module _ (order : Order) (octets : List ℕ) where
       let a : AllByRecursion (LinkedOne (p.seen ++ later) (s.cells ++ [])) s.numbers = seen_more p.seen later s.cells [] s.numbers l.all in
       record {
         all = subst (λ u. AllByRecursion (LinkedOne u s.cells) s.numbers) (sym e)
-        (subst (λ u. AllByRecursion (LinkedOne (p.seen ++ later) u) s.numbers) (append-nil s.cells) a);
+            (subst (λ u. AllByRecursion (LinkedOne (p.seen ++ later) u) s.numbers) (append-nil s.cells) a);
       }
 
   pub linked_all : (p : Progress) (s : Names) (ms : List Entry) → Linked p s → Linked (pass_all order octets ms p) s

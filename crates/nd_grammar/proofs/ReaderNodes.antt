@@ -100,8 +100,7 @@ module _ (order : Order) (octets : List ℕ) (h : Home) (n : ℕ) where
       (P (Tag prim values arms default (value_in order octets prim (T (Tag prim values arms default (pos 0)) (P (Align (width prim)) p)))) (P (Align (width prim)) p))
   follows_tag nums prim values arms default p =
       let gap : Progress = P (Align (width prim)) p in
-      let z : ℤ = value_in order octets prim (T (Tag prim values arms default (pos 0)) gap) in
-      (
+      let z : ℤ = value_in order octets prim (T (Tag prim values arms default (pos 0)) gap) in (
         (λ os e. tt),
         ((λ os e. ap (value_in order octets prim) (sym e ∙ same_taken order octets gap h n (Tag prim values arms default z) (Tag prim values arms default (pos 0)) refl)), refl),
       )
@@ -113,8 +112,7 @@ module _ (order : Order) (octets : List ℕ) (h : Home) (n : ℕ) where
       → Follows order octets nums p (E (Align 4) ∷ E (Offset false o) ∷ E (Actual false o max c) ∷ []) (P (Actual false o max c) (P (Offset false o) (P (Align 4) p)))
   follows_counts nums max o c p eo ec =
       let gap : Progress = P (Align 4) p in
-      let behind : Progress = P (Offset false o) gap in
-      (
+      let behind : Progress = P (Offset false o) gap in (
         (λ os e. tt),
         (
           (λ os e. ap (number_in order octets) (sym e ∙ same_taken order octets gap h n (Offset false o) (Offset false 0) refl) ∙ sym eo),
@@ -220,8 +218,7 @@ module _ (order : Order) (octets : List ℕ) (h : Home) (n : ℕ) where
       let (x, y, l) = accepted_kind (Context a id) gap os e in
       let l' : length os ≡ 20 = l in
       let f : T (Context 0 []) gap ≡ Some os = sym (same_taken order octets gap h n (Context a id) (Context 0 []) refl) ∙ e in
-      let d : length (drop 4 os) ≡ 16 = length-drop 4 os ∙ omega arith in
-      (
+      let d : length (drop 4 os) ≡ 16 = length-drop 4 os ∙ omega arith in (
         ap (attributes_in order octets) (sym f),
         sym (identifier_back (drop 4 os) d) ∙ ap (λ o. id_octets order (identifier_in order octets o)) (sym f),
       )
@@ -272,8 +269,7 @@ module _ (order : Order) (octets : List ℕ) (h : Home) (n : ℕ) where
   follows_pointer nums k to p s a =
       let gap : Progress = P (Align 4) p in
       let o : Option (List ℕ) = T (Number k to None) gap in
-      let c : Option ℕ = (named k to o (number_in order octets o) s).cell in
-      (
+      let c : Option ℕ = (named k to o (number_in order octets o) s).cell in (
         (λ os e. tt),
         (
           (λ os e.

@@ -64,4 +64,3 @@ read_handle_in_little = (refl, (refl, refl))
 pub read_handle_in_big : IsFound (read_stream handle Big handle_big) a_handle (length handle_big)
 unfolding align_of hoists roots_of
 read_handle_in_big = (refl, (refl, refl))
-

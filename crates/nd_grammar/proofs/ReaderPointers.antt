@@ -80,4 +80,3 @@ read_other_referent_type = refl
 pub read_later_disagrees : IsStopped (read_stream sized_twice Little (four 1 (four 1 (four 2 (four 1 (four 1 (four 5 []))))))) 16 (reason.Disagrees (pos 2) (pos 1))
 unfolding align_of hoists roots_of
 read_later_disagrees = refl
-

@@ -41,4 +41,3 @@ read_size_not_given = refl
 pub read_own_number_counts : IsFound (read_stream (sized_by_own (Some asked_5)) Little (four 1 (four 1 (7 ∷ [])))) one_back (length {A = ℕ} (four 1 (four 1 (7 ∷ []))))
 unfolding align_of hoists roots_of
 read_own_number_counts = (refl, (refl, refl))
-

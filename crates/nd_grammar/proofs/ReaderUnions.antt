@@ -72,4 +72,3 @@ read_element_agrees = (refl, (refl, refl))
 pub read_element_disagrees : IsStopped (read_stream pipe_of_unions Little (four 1 (1 ∷ 0 ∷ 9 ∷ 0 ∷ four 0 []))) 5 (reason.Disagrees (pos 1) (pos 0))
 unfolding align_of hoists roots_of
 read_element_disagrees = refl
-

@@ -155,8 +155,9 @@ module _ (w : Setting) (order : Order) (octets : List ℕ) where
       let kids : ReadAll = read_list w.table (read_in_place order octets w.table h 32 0) (replicate k elem) n q s in
       let others : ReadPipe = read_chunks more_chunks h elem (n + nodes kids.trees) kids.progress kids.names in
       elim (eqb k 0) [
-      true ↦ record { trees = none; cut = []; progress = q; names = s }
-      | false ↦ record { trees = joined kids.trees others.trees; cut = k ∷ others.cut; progress = others.progress; names = others.names } ]
+        | true ↦ record { trees = none; cut = []; progress = q; names = s }
+        | false ↦ record { trees = joined kids.trees others.trees; cut = k ∷ others.cut; progress = others.progress; names = others.names }
+      ]
 
   abbrev pub read_pipe : Option TypeDef → Bool → ℕ → Progress → Names → ReadPipe
   read_pipe (Some (def.Pipe elem)) false i p s = read_chunks (length octets + 1) (home.Root i) elem.0 1 p s
