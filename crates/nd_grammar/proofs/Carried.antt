@@ -11,7 +11,7 @@ use Rattle.nd_types.specs.Table.{Table, type_at}
 use Rattle.nd_graph.specs.declared.value.Graph.{Graph}
 use Rattle.nd_graph.specs.declared.item.Home.{Home}
 use Rattle.nd_graph.specs.Tree as tree
-use Rattle.nd_graph.specs.Tree.{Tree, Trees, node, none, more, count, nodes, Label, Referent, is_pointer, cell_in}
+use Rattle.nd_graph.specs.Tree.{Tree, Trees, node, none, more, count, node_count, Label, Referent, is_pointer, cell_in}
 use Rattle.nd_graph.specs.Agreement.{Agreement}
 use Rattle.nd_graph.specs.Setting.{cell_of_number, Among}
 use Rattle.nd_graph.specs.Misfit.{has_shape, has_counts}
@@ -96,12 +96,12 @@ module _ (C : Class → Option ℕ → Option ℕ → Type 0) (g g' : Graph) (ta
       let kids : length (L (child_types d l ks) (child_agreements d ks) (n + 1) ks) ≡ length (R (child_types d l' ks') (child_agreements d ks') (n' + 1) ks') =
       subst (λ u. length (L (child_types d l ks) (child_agreements d ks) (n + 1) ks) ≡ length (R u (child_agreements d ks') (n' + 1) ks')) e
       (as_many (child_types d l ks) ks ks' m.1 (child_agreements d ks) (child_agreements d ks') (n + 1) (n' + 1)) in
-      let rest = as_many types ts us m.2 (rest_agreements ags) (rest_agreements ags') (n + 1 + nodes ks) (n' + 1 + nodes ks') in
+      let rest = as_many types ts us m.2 (rest_agreements ags) (rest_agreements ags') (n + 1 + node_count ks) (n' + 1 + node_count ks') in
       length_split f (pointer_by d (is_pointer l) (cell_in l) h n (first_agreements ags))
-      (nodes_of table (child_types d l ks) (child_agreements d ks) (n + 1) ks) (nodes_of table types (rest_agreements ags) (n + 1 + nodes ks) ts)
+      (nodes_of table (child_types d l ks) (child_agreements d ks) (n + 1) ks) (nodes_of table types (rest_agreements ags) (n + 1 + node_count ks) ts)
       ∙ ap₂ (λ u v. u + v) own (ap₂ (λ u v. u + v) kids rest)
       ∙ sym (length_split f' (pointer_by d (is_pointer l') (cell_in l') h' n' (first_agreements ags'))
-      (nodes_of table (child_types d l' ks') (child_agreements d ks') (n' + 1) ks') (nodes_of table types (rest_agreements ags') (n' + 1 + nodes ks') us))
+      (nodes_of table (child_types d l' ks') (child_agreements d ks') (n' + 1) ks') (nodes_of table types (rest_agreements ags') (n' + 1 + node_count ks') us))
 
   module _ (map : List Pair) where
     its_cell : (d : Option TypeDef) (c c' : Option ℕ) (ks : Trees) (n n' : ℕ) (ags ags' : List Agreement) → has_shape d (tree.Ptr c) ks ≡ true
@@ -149,8 +149,8 @@ module _ (C : Class → Option ℕ → Option ℕ → Type 0) (g g' : Graph) (ta
         let own' : List Pending = pointer_by d (is_pointer l') (cell_in l') h' n' (first_agreements ags') in
         let K : List TypedNode = nodes_of table (child_types d l ks) (child_agreements d ks) (n + 1) ks in
         let K' : List TypedNode = nodes_of table (child_types d l' ks') (child_agreements d ks') (n' + 1) ks' in
-        let T : List TypedNode = nodes_of table types (rest_agreements ags) (n + 1 + nodes ks) ts in
-        let T' : List TypedNode = nodes_of table types (rest_agreements ags') (n' + 1 + nodes ks') us in
+        let T : List TypedNode = nodes_of table types (rest_agreements ags) (n + 1 + node_count ks) ts in
+        let T' : List TypedNode = nodes_of table types (rest_agreements ags') (n' + 1 + node_count ks') us in
         let whole : AllInMap map (own ++ (flat_map f K ++ flat_map f T)) (own' ++ (flat_map f' K' ++ flat_map f' T')) =
         subst (λ u. AllInMap map (own ++ u) (own' ++ (flat_map f' K' ++ flat_map f' T'))) (flat_map-append f K T)
         (subst (λ u. AllInMap map (own ++ flat_map f (K ++ T)) (own' ++ u)) (flat_map-append f' K' T') a) in
@@ -165,5 +165,5 @@ module _ (C : Class → Option ℕ → Option ℕ → Type 0) (g g' : Graph) (ta
         subst (λ u. AllInMap map (flat_map f K) (R u (child_agreements d ks') (n' + 1) ks')) (sym e) of_kids in (
           record { same = m.0.same; cells = own_cell d l l' ks n n' (first_agreements ags) (first_agreements ags') m.0.same k.0 first; read = m.0.read; read' = m.0.read' },
           carried (child_types d l ks) ks ks' (k.1 m.0.read) m.1 (child_agreements d ks) (child_agreements d ks') (n + 1) (n' + 1) of_kids',
-          carried types ts us k.2 m.2 (rest_agreements ags) (rest_agreements ags') (n + 1 + nodes ks) (n' + 1 + nodes ks') of_rest,
+          carried types ts us k.2 m.2 (rest_agreements ags) (rest_agreements ags') (n + 1 + node_count ks) (n' + 1 + node_count ks') of_rest,
         )

@@ -15,7 +15,7 @@ use Rattle.nd_graph.specs.declared.value.Graph.{Graph}
 use Rattle.nd_graph.specs.declared.item.Home.{Home}
 use Rattle.nd_graph.specs.declared.item.Home.TheVariants as home
 use Rattle.nd_graph.specs.Tree as tree
-use Rattle.nd_graph.specs.Tree.{Tree, Trees, node, none, more, Label, Referent, count, nodes, is_pointer}
+use Rattle.nd_graph.specs.Tree.{Tree, Trees, node, none, more, Label, Referent, count, node_count, is_pointer}
 use Rattle.nd_graph.specs.Agreement.{Agreement, found_in}
 use Rattle.nd_graph.specs.Setting.{cell_of_number, cell_at, cell_home}
 use Rattle.nd_graph.specs.Nodes.{child_types, child_agreements, first_agreements, rest_agreements}
@@ -128,8 +128,8 @@ module _ (table : Table) (none_inside : HoldsNoPipe table) (g : Graph) (h : Home
   good_child_tests [] ags n (more t ts) a = absurd a
   good_child_tests (t ∷ types) ags n none a = absurd a
   good_child_tests (t ∷ types) ags n (more (node l ks) ts) a =
-      all_append (GoodEntry g) (own_tests (is_pointer l) h n (node l ks) (first_agreements ags)) (child_tests h (rest_agreements ags) (n + 1 + nodes ks) ts)
-      (good_own g h n l ks (first_agreements ags) a.1) (good_child_tests types (rest_agreements ags) (n + 1 + nodes ks) ts a.3)
+      all_append (GoodEntry g) (own_tests (is_pointer l) h n (node l ks) (first_agreements ags)) (child_tests h (rest_agreements ags) (n + 1 + node_count ks) ts)
+      (good_own g h n l ks (first_agreements ags) a.1) (good_child_tests types (rest_agreements ags) (n + 1 + node_count ks) ts a.3)
 
   -- values in their places
   pub good_in_place : (types : List ℕ) (ags : List (List Agreement)) (n : ℕ) (ts : Trees) → AllByRecursion (IsNoPipe table) types → GoodTrees table g types ags ts
@@ -144,9 +144,9 @@ module _ (table : Table) (none_inside : HoldsNoPipe table) (g : Graph) (h : Home
       (good_entries g h n (before_children table t d l ks) (good_before table g t d l ks f.shape f.range f.cell f.pointee f.within f.no_zero f.arm p.0.itself))
       (all_append (GoodEntry g) (in_place table h (child_types d l ks) (n + 1) ks) _
       (good_in_place (child_types d l ks) (child_agreements d ks) (n + 1) ks (none_inside.children t l ks p.0) a.2)
-      (all_append (GoodEntry g) (child_tests h (child_agreements d ks) (n + 1) ks) (in_place table h types (n + 1 + nodes ks) ts)
+      (all_append (GoodEntry g) (child_tests h (child_agreements d ks) (n + 1) ks) (in_place table h types (n + 1 + node_count ks) ts)
       (good_child_tests (child_types d l ks) (child_agreements d ks) (n + 1) ks a.2)
-      (good_in_place types (rest_agreements ags) (n + 1 + nodes ks) ts p.1 a.3)))
+      (good_in_place types (rest_agreements ags) (n + 1 + node_count ks) ts p.1 a.3)))
 
   good_hoisted : (b : Bool) (l : Label) (m : ℕ) → AllByRecursion (IsGood g) (hoisted b l m)
   good_hoisted false l m = tt

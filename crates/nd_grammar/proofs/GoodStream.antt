@@ -14,7 +14,7 @@ use Rattle.nd_graph.specs.declared.value.Graph.{Graph}
 use Rattle.nd_graph.specs.declared.item.Home.{Home}
 use Rattle.nd_graph.specs.declared.item.Home.TheVariants as home
 use Rattle.nd_graph.specs.Tree as tree
-use Rattle.nd_graph.specs.Tree.{Tree, Trees, node, none, more, Label, Referent, count, nodes, is_pointer, cell_in, take_trees, drop_trees}
+use Rattle.nd_graph.specs.Tree.{Tree, Trees, node, none, more, Label, Referent, count, node_count, is_pointer, cell_in, take_trees, drop_trees}
 use Rattle.nd_graph.specs.Agreement.{Agreement}
 use Rattle.nd_graph.specs.Setting.{Setting, root_list, root_at, or_unread, cell_at, cell_tree, cell_of_number, cell_home}
 use Rattle.nd_graph.specs.Nodes.{TypedNode, nodes_of, child_types, child_agreements, first_agreements, rest_agreements}
@@ -79,13 +79,13 @@ module _ (w : Setting) (none_inside : HoldsNoPipe w.table) (g : Graph) where
   good_pointers h (t ∷ types) ags n (more (node l ks) ts) p a =
       let d : Option TypeDef = type_at w.table t in
       let kids : List TypedNode = nodes_of w.table (child_types d l ks) (child_agreements d ks) (n + 1) ks in
-      let rest : List TypedNode = nodes_of w.table types (rest_agreements ags) (n + 1 + nodes ks) ts in
+      let rest : List TypedNode = nodes_of w.table types (rest_agreements ags) (n + 1 + node_count ks) ts in
       all_append PendingGood (pointer_by d (is_pointer l) (cell_in l) h n (first_agreements ags)) _
       (good_pointer t d l ks h n (first_agreements ags) refl a.0 p.0 a.1)
       (subst (AllByRecursion PendingGood) (sym (flat_map-append (pointer w.table h) kids rest))
       (all_append PendingGood (flat_map (pointer w.table h) kids) (flat_map (pointer w.table h) rest)
       (good_pointers h (child_types d l ks) (child_agreements d ks) (n + 1) ks (none_inside.children t l ks p.0) a.2)
-      (good_pointers h types (rest_agreements ags) (n + 1 + nodes ks) ts p.1 a.3)))
+      (good_pointers h types (rest_agreements ags) (n + 1 + node_count ks) ts p.1 a.3)))
 
   none_agree : (l : Label) (ks : Trees) → Agrees g l ks []
   none_agree (tree.Ptr None) ks = tt
@@ -205,9 +205,9 @@ module _ (w : Setting) (none_inside : HoldsNoPipe w.table) (g : Graph) where
         let total : k + sum cut ≡ count ts = sym (sum_first k cut) ∙ s in
         let low : k ≤ count ts = omega arith in
         let left : sum cut ≡ count (drop_trees k ts) = omega (arith, count_drop k ts low) in
-        all_append Good (chunk_entries w.table h e n k (take_trees k ts)) (chunks w.table h e (n + nodes (take_trees k ts)) cut (drop_trees k ts))
+        all_append Good (chunk_entries w.table h e n k (take_trees k ts)) (chunks w.table h e (n + node_count (take_trees k ts)) cut (drop_trees k ts))
         (tt, (tt, good_in_place w.table none_inside g h (replicate k e) [] n (take_trees k ts) (many k p) (good_take w.table g e k ts low a)))
-        (good_chunks h e p (n + nodes (take_trees k ts)) cut (drop_trees k ts) left (good_drop w.table g e k ts a))
+        (good_chunks h e p (n + node_count (take_trees k ts)) cut (drop_trees k ts) left (good_drop w.table g e k ts a))
       where
         many : (k : ℕ) → IsNoPipe w.table e → AllByRecursion (IsNoPipe w.table) (replicate k e)
         many zero p = tt

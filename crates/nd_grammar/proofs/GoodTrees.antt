@@ -9,7 +9,7 @@ use Rattle.nd_graph.specs.declared.value.Graph.{Graph}
 use Rattle.nd_graph.specs.declared.item.Home.{Home}
 use Rattle.nd_graph.specs.declared.item.Home.TheVariants as home
 use Rattle.nd_graph.specs.Tree as tree
-use Rattle.nd_graph.specs.Tree.{Tree, Trees, node, none, more, Label, Referent, count, nodes, take_trees, drop_trees}
+use Rattle.nd_graph.specs.Tree.{Tree, Trees, node, none, more, Label, Referent, count, node_count, take_trees, drop_trees}
 use Rattle.nd_graph.specs.Agreement.{Agreement}
 use Rattle.nd_graph.specs.Setting.{Setting, root_list, root_at, or_unread, cell_of_number, cell_home}
 use Rattle.nd_graph.specs.Nodes.{TypedNode, nodes_of, child_types, child_agreements, first_agreements, rest_agreements}
@@ -53,13 +53,13 @@ module _ (table : Table) (g : Graph) where
   good_trees (t ∷ types) ags n none e a = cc
   good_trees (t ∷ types) ags n (more (node l ks) ts) e a =
       let d : Option TypeDef = type_at table t in
-      let rest : List TypedNode = nodes_of table types (rest_agreements ags) (n + 1 + nodes ks) ts in
+      let rest : List TypedNode = nodes_of table types (rest_agreements ags) (n + 1 + node_count ks) ts in
       let kids : List TypedNode = nodes_of table (child_types d l ks) (child_agreements d ks) (n + 1) ks in
       let e' : count ts ≡ length types = omega arith in (
         a.0.fit,
         agrees_by g n t (first_agreements ags) l ks a.0.agrees,
         good_trees (child_types d l ks) (child_agreements d ks) (n + 1) ks (fit_children d l ks a.0.fit.shape a.0.fit.arm) (all_left (IsGoodNode table g) kids rest a.1),
-        good_trees types (rest_agreements ags) (n + 1 + nodes ks) ts e' (all_right (IsGoodNode table g) kids rest a.1),
+        good_trees types (rest_agreements ags) (n + 1 + node_count ks) ts e' (all_right (IsGoodNode table g) kids rest a.1),
       )
 
   abbrev pub GoodHomeNode : HomeNode → Type 0

@@ -13,7 +13,7 @@ use Rattle.nd_graph.specs.declared.item.Home.{Home}
 use Rattle.nd_graph.specs.declared.item.Item.{Item}
 use Rattle.nd_graph.specs.declared.item.ItemKind.{ItemKind}
 use Rattle.nd_graph.specs.Tree as tree
-use Rattle.nd_graph.specs.Tree.{Tree, Trees, node, none, more, Label, nodes, is_pointer, cell_in}
+use Rattle.nd_graph.specs.Tree.{Tree, Trees, node, none, more, Label, node_count, is_pointer, cell_in}
 use Rattle.nd_graph.specs.Agreement.{Agreement}
 use Rattle.nd_graph.specs.Nodes.{TypedNode, nodes_of, child_types, child_agreements, first_agreements, rest_agreements}
 use Rattle.nd_graph.specs.Deferral.{Pending, pointer, pointer_by, home_pointers}
@@ -108,12 +108,12 @@ pointer_numbers table h [] ags n (more t ts) = omega arith
 pointer_numbers table h (t ∷ types) ags n (more (node l ks) ts) =
     let d : Option TypeDef = type_at table t in
     let K : List TypedNode = nodes_of table (child_types d l ks) (child_agreements d ks) (n + 1) ks in
-    let R : List TypedNode = nodes_of table types (rest_agreements ags) (n + 1 + nodes ks) ts in
+    let R : List TypedNode = nodes_of table types (rest_agreements ags) (n + 1 + node_count ks) ts in
     let own : List Pending = pointer_by d (is_pointer l) (cell_in l) h n (first_agreements ags) in
     let B : List Entry = entries h n (before_children table t d l ks) in
     let I : List Entry = in_place table h (child_types d l ks) (n + 1) ks in
     let C : List Entry = child_tests h (child_agreements d ks) (n + 1) ks in
-    let D : List Entry = in_place table h types (n + 1 + nodes ks) ts in
+    let D : List Entry = in_place table h types (n + 1 + node_count ks) ts in
     let e1 : length (own ++ flat_map (pointer table h) (K ++ R)) ≡ length own + (length (flat_map (pointer table h) K) + length (flat_map (pointer table h) R)) =
     length-append own (flat_map (pointer table h) (K ++ R))
     ∙ ap (λ u. length own + u) (ap length (flat_map-append (pointer table h) K R) ∙ length-append (flat_map (pointer table h) K) (flat_map (pointer table h) R)) in
@@ -121,7 +121,7 @@ pointer_numbers table h (t ∷ types) ags n (more (node l ks) ts) =
     numbers_append B (I ++ (C ++ D)) ∙ ap (λ u. numbers B + u) (numbers_append I (C ++ D) ∙ ap (λ u. numbers I + u) (numbers_append C D)) in
     let a : length own ≤ numbers B = own_number table h t d l ks n (first_agreements ags) in
     let b : length (flat_map (pointer table h) K) ≤ numbers I = pointer_numbers table h (child_types d l ks) (child_agreements d ks) (n + 1) ks in
-    let c : length (flat_map (pointer table h) R) ≤ numbers D = pointer_numbers table h types (rest_agreements ags) (n + 1 + nodes ks) ts in
+    let c : length (flat_map (pointer table h) R) ≤ numbers D = pointer_numbers table h types (rest_agreements ags) (n + 1 + node_count ks) ts in
     omega arith
 
 pub whole_numbers : (table : Table) (h : Home) (t : ℕ) (v : Tree) → length (home_pointers table h t v) ≤ numbers (whole_value table h t v)

@@ -12,7 +12,7 @@ use Rattle.nd_graph.specs.declared.value.Graph.{Graph}
 use Rattle.nd_graph.specs.declared.item.Home.{Home}
 use Rattle.nd_graph.specs.declared.item.Home.TheVariants as home
 use Rattle.nd_graph.specs.Tree as tree
-use Rattle.nd_graph.specs.Tree.{Tree, Trees, node, none, more, Label, Referent, count, nodes, cell_in}
+use Rattle.nd_graph.specs.Tree.{Tree, Trees, node, none, more, Label, Referent, count, node_count, cell_in}
 use Rattle.nd_graph.specs.Agreement.{Agreement}
 use Rattle.nd_graph.specs.Setting.{Setting, root_list, root_at, or_unread, unread, cell_of_number, cell_home}
 use Rattle.nd_graph.specs.Nodes.{TypedNode, nodes_of, child_types, child_agreements, rest_agreements}
@@ -83,13 +83,13 @@ module _ (table : Table) (g : Graph) where
   known_nodes (t ∷ types) ags n none e a = cc
   known_nodes (t ∷ types) ags n (more (node l ks) ts) e a =
       let d : Option TypeDef = type_at table t in
-      let rest : List TypedNode = nodes_of table types (rest_agreements ags) (n + 1 + nodes ks) ts in
+      let rest : List TypedNode = nodes_of table types (rest_agreements ags) (n + 1 + node_count ks) ts in
       let kids : List TypedNode = nodes_of table (child_types d l ks) (child_agreements d ks) (n + 1) ks in
       let e' : count ts ≡ length types = omega arith in (
         node_known table g t l ks a.0,
         (λ unread_not. known_nodes (child_types d l ks) (child_agreements d ks) (n + 1) ks (children_of table g t l ks a.0.read unread_not)
             (all_left SoundNode kids rest a.1)),
-        known_nodes types (rest_agreements ags) (n + 1 + nodes ks) ts e' (all_right SoundNode kids rest a.1),
+        known_nodes types (rest_agreements ags) (n + 1 + node_count ks) ts e' (all_right SoundNode kids rest a.1),
       )
 
   abbrev pub SoundHomeNode : HomeNode → Type 0

@@ -14,7 +14,7 @@ use Rattle.nd_types.specs.Legal.{has_none_within, is_barred_in_pipes}
 use Rattle.nd_graph.specs.declared.value.Graph.{Graph}
 use Rattle.nd_graph.specs.declared.item.Home.{Home}
 use Rattle.nd_graph.specs.Tree as tree
-use Rattle.nd_graph.specs.Tree.{Tree, Trees, node, none, more, Label, is_pointer, cell_in, count, nodes}
+use Rattle.nd_graph.specs.Tree.{Tree, Trees, node, none, more, Label, is_pointer, cell_in, count, node_count}
 use Rattle.nd_graph.specs.Agreement.{Agreement}
 use Rattle.nd_graph.specs.Setting.{Among}
 use Rattle.nd_graph.specs.Nodes.{TypedNode, nodes_of, child_types, child_agreements, first_agreements, rest_agreements}
@@ -157,11 +157,11 @@ module _ (table : Table) (h : Home) where
       let (depth, f) = a.0 in
       let (b, c) = deeper depth t f in
       let kids : List TypedNode = nodes_of table (child_types d l ks) (child_agreements d ks) (n + 1) ks in
-      let rest : List TypedNode = nodes_of table types (rest_agreements ags) (n + 1 + nodes ks) ts in
+      let rest : List TypedNode = nodes_of table types (rest_agreements ags) (n + 1 + node_count ks) ts in
       ap₂ (λ u v. u ++ v) (no_pointer d (is_pointer l) (cell_in l) h n (first_agreements ags) b)
       (flat_map-append (pointer table h) kids rest
       ∙ ap₂ (λ u v. u ++ v) (no_pointers (child_types d l ks) (child_agreements d ks) (n + 1) ks (in_parts (FitsPipes table) d l ks c))
-      (no_pointers types (rest_agreements ags) (n + 1 + nodes ks) ts a.1))
+      (no_pointers types (rest_agreements ags) (n + 1 + node_count ks) ts a.1))
 
   pipe_children : (e : TypeId) (l : Label) (ks : Trees) → FitsPipes table e.0 → AllByRecursion (FitsPipes table) (child_types (Some (def.Pipe e)) l ks)
   pipe_children e l ks f = in_parts (FitsPipes table) (Some (def.Pipe e)) l ks (f, tt)

@@ -19,7 +19,7 @@ use Rattle.nd_graph.specs.Setting.{cell_of_number, Among}
 use Rattle.nd_graph.specs.Misfit.{has_shape, has_counts, has_machine_values, is_no_null_ref}
 use Rattle.nd_graph.specs.Tree.{Referent}
 use Rattle.nd_graph.specs.Tree as tree
-use Rattle.nd_graph.specs.Tree.{Tree, Trees, node, none, more, count, nodes, Label, is_pointer, cell_in}
+use Rattle.nd_graph.specs.Tree.{Tree, Trees, node, none, more, count, node_count, Label, is_pointer, cell_in}
 use Rattle.nd_graph.specs.Nodes.{child_types, child_agreements, first_agreements, rest_agreements}
 use Rattle.nd_types.specs.Number.{unsigned, value_of_octets}
 use Rattle.nd_grammar.specs.Entry.{Kind, Entry, Align, Max, Offset, Actual, Chunk, Number, Num, Tag, Text, Context, Test, Unread, size_at, EntryAt, end_to_end, end_of}
@@ -149,7 +149,7 @@ module _ (l l' : Label) (e : bare l ≡ bare l') where
   number_same ks ks' = number_bare l ks ∙ ap (λ k. number_of (node k none)) e ∙ sym (number_bare l' ks')
 
 module _ (C : Class → Option ℕ → Option ℕ → Type 0) (table : Table) where
-  pub matched_nodes : (types : List ℕ) (ts us : Trees) → Matched C table types ts us → nodes ts ≡ nodes us
+  pub matched_nodes : (types : List ℕ) (ts us : Trees) → Matched C table types ts us → node_count ts ≡ node_count us
   matched_nodes types none none m = refl
   matched_nodes [] none (more u us) m = absurd m
   matched_nodes [] (more t ts) none m = absurd m

@@ -19,7 +19,7 @@ use Rattle.nd_graph.specs.Setting.{cell_of_number, Among}
 use Rattle.nd_graph.specs.Misfit.{has_shape, has_counts}
 use Rattle.nd_graph.specs.Tree.{Referent}
 use Rattle.nd_graph.specs.Tree as tree
-use Rattle.nd_graph.specs.Tree.{Tree, Trees, node, none, more, count, nodes, Label, is_pointer, cell_in}
+use Rattle.nd_graph.specs.Tree.{Tree, Trees, node, none, more, count, node_count, Label, is_pointer, cell_in}
 use Rattle.nd_graph.specs.Nodes.{child_types, child_agreements, first_agreements, rest_agreements}
 use Rattle.nd_types.specs.Number.{unsigned, value_of_octets}
 use Rattle.nd_grammar.specs.NextEntry.{form}

@@ -24,7 +24,7 @@ use Rattle.nd_grammar.proofs.Matching.{bare, class_of, CellsMatch, Match, Matche
 use Rattle.nd_graph.specs.Misfit.{has_shape, has_counts, has_machine_values, is_no_null_ref}
 use Rattle.nd_graph.specs.Tree.{Referent}
 use Rattle.nd_graph.specs.Tree as tree
-use Rattle.nd_graph.specs.Tree.{Tree, Trees, node, none, more, count, nodes, Label, is_pointer, cell_in}
+use Rattle.nd_graph.specs.Tree.{Tree, Trees, node, none, more, count, node_count, Label, is_pointer, cell_in}
 use Rattle.nd_graph.specs.Nodes.{child_types, child_agreements, first_agreements, rest_agreements}
 use Rattle.nd_types.specs.Number.{unsigned, value_of_octets}
 use Rattle.nd_grammar.specs.Entry.{Kind, Entry, Align, Max, Offset, Actual, Chunk, Number, Num, Tag, Text, Context, Test, Unread, size_at, EntryAt, end_to_end, end_of}
@@ -265,16 +265,16 @@ module _ (two : Readings) (X : List Pair → Type 0) (map : List Pair) (one : On
   child_tests_next [] agreements n (more t ts) (more u us) m ms ns at k = absurd m
   child_tests_next (t ∷ types) agreements n (more (node l ks) ts) (more (node l' ks') us) m ms ns at k =
       let c : count ks ≡ count ks' = matched_count Cells table _ ks ks' m.1 in
-      let c' : nodes ks ≡ nodes ks' = matched_nodes Cells table _ ks ks' m.1 in
+      let c' : node_count ks ≡ node_count ks' = matched_nodes Cells table _ ks ks' m.1 in
       let p' : is_pointer l ≡ is_pointer l' = through l l' m.0.same is_pointer pointer_bare in
       let X : Bool → ℕ → Type 0 = λ b v. N at
-      ((own_tests (is_pointer l) h n (node l ks) (first_agreements agreements) ++ child_tests h (rest_agreements agreements) (n + 1 + nodes ks) ts) ++ ms)
+      ((own_tests (is_pointer l) h n (node l ks) (first_agreements agreements) ++ child_tests h (rest_agreements agreements) (n + 1 + node_count ks) ts) ++ ms)
       ((own_tests b h' n (node l' ks') (first_agreements agreements) ++ child_tests h' (rest_agreements agreements) (n + 1 + v) us) ++ ns) in
-      subst (λ b. X b (nodes ks')) p' (subst (λ v. X (is_pointer l) v) c'
+      subst (λ b. X b (node_count ks')) p' (subst (λ v. X (is_pointer l) v) c'
       (rw (append_assoc, append_assoc)
       (own_next (is_pointer l) n (node l ks) (node l' ks') (first_agreements agreements) (λ a. found_same l l' m.0.same a ks ks' c)
-      (child_tests h (rest_agreements agreements) (n + 1 + nodes ks) ts ++ ms) (child_tests h' (rest_agreements agreements) (n + 1 + nodes ks) us ++ ns) at
-      (λ p. child_tests_next types (rest_agreements agreements) (n + 1 + nodes ks) ts us m.2 ms ns p k))))
+      (child_tests h (rest_agreements agreements) (n + 1 + node_count ks) ts ++ ms) (child_tests h' (rest_agreements agreements) (n + 1 + node_count ks) us ++ ns) at
+      (λ p. child_tests_next types (rest_agreements agreements) (n + 1 + node_count ks) ts us m.2 ms ns p k))))
 
   -- Two lists of trees of the same types follow each other, up to an unread value; where both are spelled whole, they match.
   pub in_place_next : (types : List ℕ) (n : ℕ) (ts us : Trees)
@@ -293,24 +293,24 @@ module _ (two : Readings) (X : List Pair → Type 0) (map : List Pair) (one : On
       let A : List Entry = entries h n (before_children table t d l ks) in
       let B : List Entry = in_place table h kinds (n + 1) ks in
       let C : List Entry = child_tests h (child_agreements d ks) (n + 1) ks in
-      let D : List Entry = in_place table h types (n + 1 + nodes ks) ts in
+      let D : List Entry = in_place table h types (n + 1 + node_count ks) ts in
       let A' : List Entry = entries h' n (before_children table t d l' ks') in
       let B' : List ℕ → List Entry = λ y. in_place table h' y (n + 1) ks' in
       let C' : List (List Agreement) → List Entry = λ y. child_tests h' y (n + 1) ks' in
       let D' : ℕ → List Entry = λ y. in_place table h' types (n + 1 + y) us in
       let kinds' : List ℕ = child_types d l' ks' in
       let rest : (p : ℕ) → Match Cells d l l' → kinds ≡ kinds'
-      → N p (B ++ (C ++ (D ++ ms))) (B' kinds' ++ (C' (child_agreements d ks') ++ (D' (nodes ks') ++ ns))) =
-      λ p m e. subst (λ y. N p (B ++ (C ++ (D ++ ms))) (B' y ++ (C' (child_agreements d ks') ++ (D' (nodes ks') ++ ns)))) e
+      → N p (B ++ (C ++ (D ++ ms))) (B' kinds' ++ (C' (child_agreements d ks') ++ (D' (node_count ks') ++ ns))) =
+      λ p m e. subst (λ y. N p (B ++ (C ++ (D ++ ms))) (B' y ++ (C' (child_agreements d ks') ++ (D' (node_count ks') ++ ns)))) e
       (in_place_next kinds (n + 1) ks ks' (a.1 m.read) (subst (λ y. Known g' table y ks') (sym e) (b.1 m.read')) (x.1 e)
-      (C ++ (D ++ ms)) (C' (child_agreements d ks') ++ (D' (nodes ks') ++ ns)) p
+      (C ++ (D ++ ms)) (C' (child_agreements d ks') ++ (D' (node_count ks') ++ ns)) p
       (λ p' mk.
       let w : child_agreements d ks ≡ child_agreements d ks' = child_agreements_same Cells table d ks ks' (matched_number Cells table kinds ks ks' mk) in
-      let v : nodes ks ≡ nodes ks' = matched_nodes Cells table kinds ks ks' mk in
-      subst (λ y. N p' (C ++ (D ++ ms)) (C' y ++ (D' (nodes ks') ++ ns))) w
+      let v : node_count ks ≡ node_count ks' = matched_nodes Cells table kinds ks ks' mk in
+      subst (λ y. N p' (C ++ (D ++ ms)) (C' y ++ (D' (node_count ks') ++ ns))) w
       (subst (λ y. N p' (C ++ (D ++ ms)) (C' (child_agreements d ks) ++ (D' y ++ ns))) v
-      (child_tests_next kinds (child_agreements d ks) (n + 1) ks ks' mk (D ++ ms) (D' (nodes ks) ++ ns) p'
-      (λ p''. in_place_next types (n + 1 + nodes ks) ts us a.2 b.2 x.2 ms ns p'' (λ q mr. k q (m, mk, mr))))))) in
-      rw (four A B C D ms, four A' (B' kinds') (C' (child_agreements d ks')) (D' (nodes ks')) ns)
-      (before_next t n ks ks' (B ++ (C ++ (D ++ ms))) (B' kinds' ++ (C' (child_agreements d ks') ++ (D' (nodes ks') ++ ns))) at
+      (child_tests_next kinds (child_agreements d ks) (n + 1) ks ks' mk (D ++ ms) (D' (node_count ks) ++ ns) p'
+      (λ p''. in_place_next types (n + 1 + node_count ks) ts us a.2 b.2 x.2 ms ns p'' (λ q mr. k q (m, mk, mr))))))) in
+      rw (four A B C D ms, four A' (B' kinds') (C' (child_agreements d ks')) (D' (node_count ks')) ns)
+      (before_next t n ks ks' (B ++ (C ++ (D ++ ms))) (B' kinds' ++ (C' (child_agreements d ks') ++ (D' (node_count ks') ++ ns))) at
       (view table t d l) (view table t d l') a.0.counts b.0.counts a.0.no_null b.0.no_null a.0.machine b.0.machine x.0 rest)

@@ -11,7 +11,7 @@ use Rattle.nd_types.specs.Table.{Table, type_at}
 use Rattle.nd_graph.specs.declared.value.Graph.{Graph}
 use Rattle.nd_graph.specs.declared.item.Home.{Home}
 use Rattle.nd_graph.specs.Tree as tree
-use Rattle.nd_graph.specs.Tree.{Tree, Trees, node, none, more, count, nodes, Label, Referent, is_pointer, cell_in}
+use Rattle.nd_graph.specs.Tree.{Tree, Trees, node, none, more, count, node_count, Label, Referent, is_pointer, cell_in}
 use Rattle.nd_graph.specs.Agreement.{Agreement}
 use Rattle.nd_graph.specs.Setting.{cell_of_number}
 use Rattle.nd_graph.specs.Nodes.{child_types, child_agreements, first_agreements, rest_agreements, nodes_of, TypedNode}
@@ -88,32 +88,32 @@ module _ (C : Class → Option ℕ → Option ℕ → Type 0) (g g' : Graph) whe
   nodes_match table h h' (t ∷ types) agreements n (more (node l ks) ts) (more (node l' ks') us) a b m =
       let d : Option TypeDef = type_at table t in
       let c : count ks ≡ count ks' = matched_count C table _ ks ks' m.1 in
-      let v : nodes ks ≡ nodes ks' = matched_nodes C table _ ks ks' m.1 in
+      let v : node_count ks ≡ node_count ks' = matched_nodes C table _ ks ks' m.1 in
       let w : child_agreements d ks ≡ child_agreements d ks' = child_agreements_same C table d ks ks' (matched_number C table _ ks ks' m.1) in
       let e : child_types d l ks ≡ child_types d l' ks' = types_same d l l' ks ks' m.0.same c in
       let i : is_pointer l ≡ is_pointer l' = through l l' m.0.same is_pointer pointer_bare in
       let A : List TypedNode = nodes_of table (child_types d l ks) (child_agreements d ks) (n + 1) ks in
-      let B : List TypedNode = nodes_of table types (rest_agreements agreements) (n + 1 + nodes ks) ts in
+      let B : List TypedNode = nodes_of table types (rest_agreements agreements) (n + 1 + node_count ks) ts in
       let A' : List ℕ → List (List Agreement) → List TypedNode = λ x y. nodes_of table x y (n + 1) ks' in
       let B' : ℕ → List TypedNode = λ x. nodes_of table types (rest_agreements agreements) (n + 1 + x) us in
       let f : TypedNode → List Pending = pointer table h in
       let f' : TypedNode → List Pending = pointer table h' in
       let own = by_match d (is_pointer l) (cell_in l) (cell_in l') h h' n (first_agreements agreements) m.0.cells a.0.pointee b.0.pointee in
       let kids = nodes_match table h h' (child_types d l ks) (child_agreements d ks) (n + 1) ks ks' (a.1 m.0.read) (subst (λ x. Known g' table x ks') (sym e) (b.1 m.0.read')) m.1 in
-      let rest = nodes_match table h h' types (rest_agreements agreements) (n + 1 + nodes ks) ts us a.2 b.2 m.2 in
+      let rest = nodes_match table h h' types (rest_agreements agreements) (n + 1 + node_count ks) ts us a.2 b.2 m.2 in
       let whole : AllPointers
       (pointer_by d (is_pointer l) (cell_in l) h n (first_agreements agreements) ++ (flat_map f A ++ flat_map f B))
-      (pointer_by d (is_pointer l) (cell_in l') h' n (first_agreements agreements) ++ (flat_map f' (A' (child_types d l ks) (child_agreements d ks)) ++ flat_map f' (B' (nodes ks)))) =
+      (pointer_by d (is_pointer l) (cell_in l') h' n (first_agreements agreements) ++ (flat_map f' (A' (child_types d l ks) (child_agreements d ks)) ++ flat_map f' (B' (node_count ks)))) =
       both _ _ _ _ own (both _ _ _ _ kids rest) in
       let T : Bool → List ℕ → List (List Agreement) → ℕ → Type 0 = λ x y z u.
       AllPointers
       (pointer_by d (is_pointer l) (cell_in l) h n (first_agreements agreements) ++ flat_map f (A ++ B))
       (pointer_by d x (cell_in l') h' n (first_agreements agreements) ++ flat_map f' (A' y z ++ B' u)) in
-      let start : T (is_pointer l) (child_types d l ks) (child_agreements d ks) (nodes ks) =
-      rw (flat_map-append f A B, flat_map-append f' (A' (child_types d l ks) (child_agreements d ks)) (B' (nodes ks))) whole in
-      subst (λ x. T x (child_types d l' ks') (child_agreements d ks') (nodes ks')) i
-      (subst (λ y. T (is_pointer l) y (child_agreements d ks') (nodes ks')) e
-      (subst (λ z. T (is_pointer l) (child_types d l ks) z (nodes ks')) w
+      let start : T (is_pointer l) (child_types d l ks) (child_agreements d ks) (node_count ks) =
+      rw (flat_map-append f A B, flat_map-append f' (A' (child_types d l ks) (child_agreements d ks)) (B' (node_count ks))) whole in
+      subst (λ x. T x (child_types d l' ks') (child_agreements d ks') (node_count ks')) i
+      (subst (λ y. T (is_pointer l) y (child_agreements d ks') (node_count ks')) e
+      (subst (λ z. T (is_pointer l) (child_types d l ks) z (node_count ks')) w
       (subst (λ u. T (is_pointer l) (child_types d l ks) (child_agreements d ks) u) v start)))
 
   abbrev pub DueMatches : Due → Due → Type 0

@@ -13,7 +13,7 @@ use Rattle.nd_graph.specs.declared.value.Graph.{Graph}
 use Rattle.nd_graph.specs.declared.item.Home.{Home}
 use Rattle.nd_graph.specs.declared.item.Home.TheVariants as home
 use Rattle.nd_graph.specs.Tree as tree
-use Rattle.nd_graph.specs.Tree.{Tree, Trees, node, none, more, Label, count, nodes, take_trees, drop_trees, cell_in}
+use Rattle.nd_graph.specs.Tree.{Tree, Trees, node, none, more, Label, count, node_count, take_trees, drop_trees, cell_in}
 use Rattle.nd_graph.specs.Misfit.{has_counts}
 use Rattle.nd_graph.specs.Nodes.{child_types}
 use Rattle.nd_grammar.specs.Entry.{Entry, Align, Chunk, Unread}
@@ -120,31 +120,31 @@ module _ (two : Readings) (X : List Pair → Type 0) (table : Table) (laid : Hoi
     chunks_next n [] [] ts us s s' c c' a b ms ns at next = chunk_head 0 0 ms ns at (λ p _. next p (empty ts us s s'))
     chunks_next n [] (k' ∷ cut') ts us s s' c c' a b ms ns at next =
         let I' : List Entry = in_place table h' (replicate k' e) n (take_trees k' us) in
-        let R' : List Entry = chunks table h' e (n + nodes (take_trees k' us)) cut' (drop_trees k' us) in
+        let R' : List Entry = chunks table h' e (n + node_count (take_trees k' us)) cut' (drop_trees k' us) in
         let low : 0 < k' = c'.0 in
         chunk_head 0 k' ms ((I' ++ R') ++ ns) at (λ p f. absurd (omega arith))
     chunks_next n (k ∷ cut) [] ts us s s' c c' a b ms ns at next =
         let I : List Entry = in_place table h (replicate k e) n (take_trees k ts) in
-        let R : List Entry = chunks table h e (n + nodes (take_trees k ts)) cut (drop_trees k ts) in
+        let R : List Entry = chunks table h e (n + node_count (take_trees k ts)) cut (drop_trees k ts) in
         let low : 0 < k = c.0 in
         chunk_head k 0 ((I ++ R) ++ ms) ns at (λ p f. absurd (omega arith))
     chunks_next n (k ∷ cut) (k' ∷ cut') ts us s s' c c' a b ms ns at next =
         let I : List Entry = in_place table h (replicate k e) n (take_trees k ts) in
-        let R : List Entry = chunks table h e (n + nodes (take_trees k ts)) cut (drop_trees k ts) in
+        let R : List Entry = chunks table h e (n + node_count (take_trees k ts)) cut (drop_trees k ts) in
         let I' : ℕ → List Entry = λ q. in_place table h' (replicate q e) n (take_trees q us) in
         let R' : ℕ → ℕ → List Entry = λ q m. chunks table h' e (n + m) cut' (drop_trees q us) in
         let total : k + sum cut ≡ count ts = sym (sum_first k cut) ∙ s in
         let total' : k' + sum cut' ≡ count us = sym (sum_first k' cut') ∙ s' in
         let low : k ≤ count ts = omega arith in
-        chunk_head k k' ((I ++ R) ++ ms) ((I' k' ++ R' k' (nodes (take_trees k' us))) ++ ns) at (λ p f.
+        chunk_head k k' ((I ++ R) ++ ms) ((I' k' ++ R' k' (node_count (take_trees k' us))) ++ ns) at (λ p f.
         let low' : k ≤ count us = omega arith in
         let left : sum cut ≡ count (drop_trees k ts) = omega (arith, count_drop k ts low) in
         let right : sum cut' ≡ count (drop_trees k us) = omega (arith, count_drop k us low') in
-        subst (λ q. N p ((I ++ R) ++ ms) ((I' q ++ R' q (nodes (take_trees q us))) ++ ns)) f
-        (rw (append_assoc I R ms, append_assoc (I' k) (R' k (nodes (take_trees k us))) ns)
-        (chunk_next n k ts us low low' a b (R ++ ms) (R' k (nodes (take_trees k us)) ++ ns) p (λ p' m.
+        subst (λ q. N p ((I ++ R) ++ ms) ((I' q ++ R' q (node_count (take_trees q us))) ++ ns)) f
+        (rw (append_assoc I R ms, append_assoc (I' k) (R' k (node_count (take_trees k us))) ns)
+        (chunk_next n k ts us low low' a b (R ++ ms) (R' k (node_count (take_trees k us)) ++ ns) p (λ p' m.
         subst (λ q. N p' (R ++ ms) (R' k q ++ ns)) (matched_nodes Numbers table (replicate k e) (take_trees k ts) (take_trees k us) m)
-        (chunks_next (n + nodes (take_trees k ts)) cut cut' (drop_trees k ts) (drop_trees k us) left right c.1 c'.1
+        (chunks_next (n + node_count (take_trees k ts)) cut cut' (drop_trees k ts) (drop_trees k us) left right c.1 c'.1
         (known_drop g table e k ts a) (known_drop g' table e k us b) ms ns p' (λ p'' m'. next p'' (matched_join Numbers table e k ts us low low' m m')))))))
 
   -- what is known of pipes: their types, and their values

@@ -10,7 +10,7 @@ use Rattle.nd_types.specs.Roots.{Root}
 use Rattle.nd_graph.specs.declared.value.Graph.{Graph}
 use Rattle.nd_graph.specs.declared.item.Home.TheVariants as home
 use Rattle.nd_graph.specs.Tree as tree
-use Rattle.nd_graph.specs.Tree.{Tree, Trees, node, none, more, nodes, Label, Referent}
+use Rattle.nd_graph.specs.Tree.{Tree, Trees, node, none, more, node_count, Label, Referent}
 use Rattle.nd_graph.specs.Setting.{Setting, root_list, root_at, Among, or_unread}
 use Rattle.nd_graph.specs.Nodes.{TypedNode, governed_nodes}
 use Rattle.nd_graph.specs.Variables.{root_agreements}
@@ -89,7 +89,7 @@ plain_lengths table (p ∷ ps) (r ∷ rs) (z ∷ zs) a b =
     let l = plain_lengths table ps rs zs a.3 b.1 in
     (ap suc l.0, ap suc l.1)
 
-few_nodes : (zs : List ℤ) → AllByRecursion (λ t. nodes (more t none) < 2 ^ 32) (map number zs ++ [])
+few_nodes : (zs : List ℤ) → AllByRecursion (λ t. node_count (more t none) < 2 ^ 32) (map number zs ++ [])
 few_nodes [] = tt
 few_nodes (z ∷ zs) = (lit< tt, few_nodes zs)
 

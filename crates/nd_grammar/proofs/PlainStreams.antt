@@ -13,7 +13,7 @@ use Rattle.nd_graph.specs.declared.value.Graph.{Graph}
 use Rattle.nd_graph.specs.declared.item.Home.{Home}
 use Rattle.nd_graph.specs.declared.item.Home.TheVariants as home
 use Rattle.nd_graph.specs.Tree as tree
-use Rattle.nd_graph.specs.Tree.{Tree, Trees, node, none, more, nodes, Label, is_pointer, cell_in}
+use Rattle.nd_graph.specs.Tree.{Tree, Trees, node, none, more, node_count, Label, is_pointer, cell_in}
 use Rattle.nd_graph.specs.Agreement.{Agreement}
 use Rattle.nd_graph.specs.Setting.{Setting, root_list, root_at}
 use Rattle.nd_graph.specs.Nodes.{nodes_of, child_types, child_agreements}
@@ -57,7 +57,7 @@ own_none false h n t = refl
 pub no_tests_below : (h : Home) (n : ℕ) (ks : Trees) → child_tests h [] n ks ≡ []
 no_tests_below h n none = refl
 no_tests_below h n (more (node l ks) ts) =
-    ap₂ (λ x y. x ++ y) (own_none (is_pointer l) h n (node l ks)) (no_tests_below h (n + 1 + nodes ks) ts)
+    ap₂ (λ x y. x ++ y) (own_none (is_pointer l) h n (node l ks)) (no_tests_below h (n + 1 + node_count ks) ts)
 
 no_nodes : (table : Table) (agreements : List (List Agreement)) (n : ℕ) (ks : Trees) → nodes_of table [] agreements n ks ≡ []
 no_nodes table agreements n none = refl

@@ -15,7 +15,7 @@ use Rattle.nd_types.specs.Table.{Table, type_at, width, carrier}
 use Rattle.nd_types.specs.Layout.{parts, hoists, hoists_by, align_of}
 use Rattle.nd_graph.specs.declared.item.Home.{Home}
 use Rattle.nd_graph.specs.Tree as tree
-use Rattle.nd_graph.specs.Tree.{Tree, Trees, node, none, more, Label, count, nodes}
+use Rattle.nd_graph.specs.Tree.{Tree, Trees, node, none, more, Label, count, node_count}
 use Rattle.nd_graph.specs.Setting.{unread}
 use Rattle.nd_graph.specs.Nodes.{child_types, child_agreements}
 use Rattle.nd_grammar.specs.declared.reason.Reason.{Reason}
@@ -50,9 +50,9 @@ value_then_others : (table : Table) (h : Home) (t : ℕ) (types : List ℕ) (n :
     → in_place table h (t ∷ types) n (more v ts) ≡ node_entries table h t (type_at table t) n v ++ in_place table h types (n + tree_nodes v) ts
 value_then_others table h t types n (node l ks) ts =
     let d : Option TypeDef = type_at table t in
-    let e : n + 1 + nodes ks ≡ n + tree_nodes (node l ks) = omega arith in
+    let e : n + 1 + node_count ks ≡ n + tree_nodes (node l ks) = omega arith in
     four (entries h n (before_children table t d l ks)) (in_place table h (child_types d l ks) (n + 1) ks) (child_tests h (child_agreements d ks) (n + 1) ks)
-    (in_place table h types (n + 1 + nodes ks) ts)
+    (in_place table h types (n + 1 + node_count ks) ts)
     ∙ ap (λ k. node_entries table h t d n (node l ks) ++ in_place table h types k ts) e
 
 module _ (order : Order) (octets : List ℕ) (table : Table) (h : Home) where

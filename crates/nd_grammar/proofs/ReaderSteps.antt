@@ -5,7 +5,7 @@ use Rattle.std.specs.List.{AllByRecursion}
 use Rattle.std.proofs.lemmas.Option.{same_Some}
 use Rattle.nd_base.specs.declared.octets.Order.{Order}
 use Rattle.nd_graph.specs.declared.item.Home.{Home}
-use Rattle.nd_graph.specs.Tree.{Tree, Trees, node, none, more, nodes, is_pointer}
+use Rattle.nd_graph.specs.Tree.{Tree, Trees, node, none, more, node_count, is_pointer}
 use Rattle.nd_graph.specs.Agreement.{Agreement, found_in}
 use Rattle.nd_graph.specs.Nodes.{first_agreements, rest_agreements}
 use Rattle.nd_types.specs.declared.types.Class.TheVariants.{Ref, Unique, Full}
@@ -74,11 +74,11 @@ module _ (order : Order) (octets : List ℕ) where
   follows_child_tests nums h ags n none p = refl
   follows_child_tests nums h ags n (more (node l ks) ts) p =
       let A : List Entry = own_tests (is_pointer l) h n (node l ks) (first_agreements ags) in
-      let B : List Entry = child_tests h (rest_agreements ags) (n + 1 + nodes ks) ts in
+      let B : List Entry = child_tests h (rest_agreements ags) (n + 1 + node_count ks) ts in
       subst (λ u. Follows nums p (A ++ B) u) (sym (passed_append A B p))
       (follows_append nums A B p (pass_all order octets A p) (pass_all order octets B (pass_all order octets A p))
       (follows_own nums (is_pointer l) h n (node l ks) (first_agreements ags) p)
-      (follows_child_tests nums h (rest_agreements ags) (n + 1 + nodes ks) ts (pass_all order octets A p)))
+      (follows_child_tests nums h (rest_agreements ags) (n + 1 + node_count ks) ts (pass_all order octets A p)))
 
   -- an entry's kind is judged by itself, whatever kind the entry beside it has
   by_itself : (seen : List EntryAt) (at : ℕ) (h : Home) (n : ℕ) (x y k : Kind) (os : List ℕ)

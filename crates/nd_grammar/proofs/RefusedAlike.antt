@@ -145,12 +145,12 @@ module _ (order : Order) (octets : List ℕ) (map : List Pair) (one : OneToOne m
       ap₂ (λ p o. cond p (Some x.at) o) t (tests_alike xs ys s.1 a h h' m n n' e)
       ∙ ap (λ u. cond (kind_agrees a y.entry.kind && same_home y.entry.home h' && (is_max y.entry.kind || eqb y.entry.node n')) (Some u) (tested_at ys a h' n')) s.0.at
 
-  module _ (xs ys : List EntryAt) (seen : AllSeenAlike map xs ys) (at : ℕ) (m n : Entry) (nodes : m.node ≡ n.node) (homes : HomesMeet map m.home n.home) where
+  module _ (xs ys : List EntryAt) (seen : AllSeenAlike map xs ys) (at : ℕ) (m n : Entry) (node_count : m.node ≡ n.node) (homes : HomesMeet map m.home n.home) where
     kind_alike : (k : Kind) (os : List ℕ) → kind_refusal order octets xs at m k os ≡ kind_refusal order octets ys at n k os
     kind_alike (Number Full to c) os =
         ap (λ b. refused_if (not (eqb (unsigned order os) 0) && b) (at, reason.OtherType) None) (others_alike xs ys seen (unsigned order os) to)
     kind_alike (Test a wanted found) os =
-        ap (λ o. cond (int_eq wanted found) None (disagrees_at o (reason.Disagrees wanted found))) (tests_alike xs ys seen a m.home n.home homes m.node n.node nodes)
+        ap (λ o. cond (int_eq wanted found) None (disagrees_at o (reason.Disagrees wanted found))) (tests_alike xs ys seen a m.home n.home homes m.node n.node node_count)
     kind_alike (Number Ref to c) os = refl
     kind_alike (Number Unique to c) os = refl
     kind_alike (Offset true v) os = refl

@@ -13,7 +13,7 @@ use Rattle.nd_types.specs.Layout.{hoists}
 use Rattle.nd_graph.specs.declared.value.Graph.{Graph}
 use Rattle.nd_graph.specs.declared.item.Home.{Home}
 use Rattle.nd_graph.specs.Tree as tree
-use Rattle.nd_graph.specs.Tree.{Tree, Trees, node, none, more, count, nodes, Label, Referent, is_pointer, cell_in}
+use Rattle.nd_graph.specs.Tree.{Tree, Trees, node, none, more, count, node_count, Label, Referent, is_pointer, cell_in}
 use Rattle.nd_graph.specs.Agreement.{Agreement, found_in}
 use Rattle.std.specs.List.{AllByRecursion, slice_get}
 use Rattle.nd_graph.specs.declared.item.Home.TheVariants as home

@@ -13,7 +13,7 @@ use Rattle.nd_types.specs.Table.{Table, type_at, width}
 use Rattle.nd_types.specs.Layout.{align_of, hoists}
 use Rattle.nd_graph.specs.declared.item.Home.{Home}
 use Rattle.nd_graph.specs.Tree as tree
-use Rattle.nd_graph.specs.Tree.{Tree, Trees, node, none, more, count, nodes, Label, is_pointer}
+use Rattle.nd_graph.specs.Tree.{Tree, Trees, node, none, more, count, node_count, Label, is_pointer}
 use Rattle.nd_graph.specs.Agreement.{Agreement, found_in, actual, max_of}
 use Rattle.nd_graph.specs.Nodes.{child_types, child_agreements, first_agreements, rest_agreements}
 use Rattle.nd_grammar.specs.Entry.{Kind, Entry, Align, Max, Offset, Actual, Number, Num, Tag, Text, Context, Test, Unread}
@@ -62,7 +62,7 @@ own_tests false h n t agreements = tests h n t agreements
 abbrev pub child_tests : Home → List (List Agreement) → ℕ → Trees → List Entry
 child_tests h agreements n none = []
 child_tests h agreements n (more (node l ks) ts) =
-    own_tests (is_pointer l) h n (node l ks) (first_agreements agreements) ++ child_tests h (rest_agreements agreements) (n + 1 + nodes ks) ts
+    own_tests (is_pointer l) h n (node l ks) (first_agreements agreements) ++ child_tests h (rest_agreements agreements) (n + 1 + node_count ks) ts
 
 -- Values of these types, from node n on: what stands before the children, the children, the agreements of the children, the next
 -- value.
@@ -73,7 +73,7 @@ in_place table h (t ∷ types) n (more (node l ks) ts) =
     entries h n (before_children table t (type_at table t) l ks)
     ++ (in_place table h (child_types (type_at table t) l ks) (n + 1) ks
     ++ (child_tests h (child_agreements (type_at table t) ks) (n + 1) ks
-    ++ in_place table h types (n + 1 + nodes ks) ts))
+    ++ in_place table h types (n + 1 + node_count ks) ts))
 
 -- an array or text has a maximum count of its own; of others that of what ends them counts
 abbrev pub own_max : Label → ℕ → ℕ

@@ -15,7 +15,7 @@ use Rattle.nd_types.specs.Layout.{align_of, hoists}
 use Rattle.nd_types.specs.Number.{unsigned, value_of_octets, in_order}
 use Rattle.nd_graph.specs.declared.item.Home.{Home}
 use Rattle.nd_graph.specs.Tree as tree
-use Rattle.nd_graph.specs.Tree.{Tree, Trees, node, none, more, Label, Referent, count, nodes}
+use Rattle.nd_graph.specs.Tree.{Tree, Trees, node, none, more, Label, Referent, count, node_count}
 use Rattle.nd_graph.specs.Setting.{unread}
 use Rattle.nd_graph.specs.Nodes.{child_types, child_agreements}
 use Rattle.nd_grammar.specs.declared.reason.Reason.{Reason}
@@ -143,7 +143,7 @@ read_if true read p s = record { tree = unread; progress = p; names = s }
 read_if false read p s = read p s
 
 abbrev pub tree_nodes : Tree → ℕ
-tree_nodes t = nodes (more t none)
+tree_nodes t = node_count (more t none)
 
 -- A value whose maximum count was read before it is not left unread, since the count is its own.
 abbrev pub read_list : Table → (ℕ → ℕ → Progress → Names → Read) → List ℕ → ℕ → Progress → Names → ReadAll

@@ -14,7 +14,7 @@ use Rattle.nd_graph.specs.declared.value.Graph.{Graph}
 use Rattle.nd_graph.specs.declared.item.Home.{Home}
 use Rattle.nd_graph.specs.declared.item.Home.TheVariants as home
 use Rattle.nd_graph.specs.Tree as tree
-use Rattle.nd_graph.specs.Tree.{Tree, Trees, node, none, more, count, nodes, take_trees, drop_trees}
+use Rattle.nd_graph.specs.Tree.{Tree, Trees, node, none, more, count, node_count, take_trees, drop_trees}
 use Rattle.nd_graph.specs.Agreement.{Agreement}
 use Rattle.nd_graph.specs.Setting.{Setting, root_list, root_at, cell_at, cell_home}
 use Rattle.nd_graph.specs.Deferral.{Due, due_root, Step, root_stands, referent_stands, stands_already, Deferral, Standing, standing_root, standing_cell, Pending, due_roots, before_pipes}
@@ -55,7 +55,7 @@ chunk_entries table h t n k ts = entries h 0 (Align 4 ∷ Chunk k ∷ []) ++ in_
 abbrev pub chunks : Table → Home → ℕ → ℕ → List ℕ → Trees → List Entry
 chunks table h t n [] ts = entries h 0 (Align 4 ∷ Chunk 0 ∷ [])
 chunks table h t n (k ∷ cut) ts =
-    chunk_entries table h t n k (take_trees k ts) ++ chunks table h t (n + nodes (take_trees k ts)) cut (drop_trees k ts)
+    chunk_entries table h t n k (take_trees k ts) ++ chunks table h t (n + node_count (take_trees k ts)) cut (drop_trees k ts)
 
 -- counts of chunks, none of them empty, that take up n elements
 abbrev pub Cuts : ℕ → List ℕ → Type 0

@@ -12,7 +12,7 @@ use Rattle.nd_graph.specs.declared.value.Graph.{Graph}
 use Rattle.nd_graph.specs.declared.item.Home.{Home}
 use Rattle.nd_graph.specs.declared.item.Home.TheVariants as home
 use Rattle.nd_graph.specs.Tree as tree
-use Rattle.nd_graph.specs.Tree.{Tree, Trees, node, none, more, Referent, nodes, joined}
+use Rattle.nd_graph.specs.Tree.{Tree, Trees, node, none, more, Referent, node_count, joined}
 use Rattle.nd_graph.specs.Setting.{Setting, root_list, unread, cell_at, cell_home}
 use Rattle.nd_graph.specs.Deferral.{Pending, Due, due_root, due_referent, due_roots, before_pipes, Standing, Placed_cells, due_of, root_type}
 use Rattle.nd_grammar.specs.declared.reason.Reason.{Reason}
@@ -153,7 +153,7 @@ module _ (w : Setting) (order : Order) (octets : List ℕ) where
       let k : ℕ = number_in order octets (taken order octets (entry (Chunk 0)) gap) in
       let q : Progress = pass order octets (entry (Chunk k)) gap in
       let kids : ReadAll = read_list w.table (read_in_place order octets w.table h 32 0) (replicate k elem) n q s in
-      let others : ReadPipe = read_chunks more_chunks h elem (n + nodes kids.trees) kids.progress kids.names in
+      let others : ReadPipe = read_chunks more_chunks h elem (n + node_count kids.trees) kids.progress kids.names in
       elim (eqb k 0) [
         | true ↦ record { trees = none; cut = []; progress = q; names = s }
         | false ↦ record { trees = joined kids.trees others.trees; cut = k ∷ others.cut; progress = others.progress; names = others.names }

@@ -5,3 +5,4 @@ pub mod DeferralLaws
 pub mod NodeFacts
 pub mod Orderly
 pub mod Waiting
+pub mod WorkedFit

@@ -17,7 +17,7 @@ use Rattle.nd_graph.specs.declared.value.Graph.{Graph}
 use Rattle.nd_graph.specs.declared.item.Home.{Home}
 use Rattle.nd_graph.specs.declared.item.Home.TheVariants as home
 use Rattle.nd_graph.specs.Tree as tree
-use Rattle.nd_graph.specs.Tree.{Tree, Trees, node, none, more, Label, Referent, is_pointer, cell_in, nodes}
+use Rattle.nd_graph.specs.Tree.{Tree, Trees, node, none, more, Label, Referent, is_pointer, cell_in, node_count}
 use Rattle.nd_graph.specs.Agreement.{Agreement}
 use Rattle.nd_graph.specs.Setting.{Setting, root_list, cell_of_number, cell_home}
 use Rattle.nd_graph.specs.Nodes.{TypedNode, nodes_of, child_types, child_agreements, first_agreements, rest_agreements, governed_nodes, home_nodes}
@@ -81,13 +81,13 @@ module _ (g : Graph) where
   pointees table h (t ∷ types) ags ags' n (more (node l ks) ts) a =
       let d : Option TypeDef = type_at table t in
       let kids : List TypedNode = nodes_of table (child_types d l ks) (child_agreements d ks) (n + 1) ks in
-      let rest : List TypedNode = nodes_of table types (rest_agreements ags) (n + 1 + nodes ks) ts in
-      let rest' : List TypedNode = nodes_of table types (rest_agreements ags') (n + 1 + nodes ks) ts in
+      let rest : List TypedNode = nodes_of table types (rest_agreements ags) (n + 1 + node_count ks) ts in
+      let rest' : List TypedNode = nodes_of table types (rest_agreements ags') (n + 1 + node_count ks) ts in
       all_append (Pointee g) _ _ (pointee_at d l h n (first_agreements ags') a.0.cell a.0.pointee)
       (subst (AllByRecursion (Pointee g)) (sym (flat_map-append (pointer table h) kids rest'))
       (all_append (Pointee g) (flat_map (pointer table h) kids) (flat_map (pointer table h) rest')
       (pointees table h (child_types d l ks) (child_agreements d ks) (child_agreements d ks) (n + 1) ks (all_left _ kids rest a.1))
-      (pointees table h types (rest_agreements ags) (rest_agreements ags') (n + 1 + nodes ks) ts (all_right _ kids rest a.1))))
+      (pointees table h types (rest_agreements ags) (rest_agreements ags') (n + 1 + node_count ks) ts (all_right _ kids rest a.1))))
 
   abbrev pub Fits : Table → HomeNode → Type 0
   Fits table x = PointerFits table g x.typed.of x.typed.label

@@ -6,7 +6,7 @@ use Rattle.std.specs.List.{list_all, AllByRecursion}
 use Rattle.nd_types.specs.declared.types.Class.TheVariants.{Full}
 use Rattle.nd_graph.specs.declared.value.Graph.{Graph}
 use Rattle.nd_graph.specs.Tree as tree
-use Rattle.nd_graph.specs.Tree.{Tree, node, none, more, nodes, Label, Referent}
+use Rattle.nd_graph.specs.Tree.{Tree, node, none, more, node_count, Label, Referent}
 use Rattle.nd_graph.specs.Agreement.{Agreement, found_in}
 use Rattle.nd_graph.specs.Setting.{Among, cell_of_number, Setting, root_list, cell_at, cell_home}
 use Rattle.nd_graph.specs.Nodes.{TypedNode}
@@ -63,7 +63,7 @@ pub record Conforms (w : Setting) (g : Graph) : Type 0 where
   pub agreed : AllByRecursion (λ x. AgreesAt g x.typed) (all_nodes w g)
   -- cells, and the nodes of each home, are numbered in 32 bits
   pub few_cells : length g.cells < 2 ^ 32
-  pub few_nodes : AllByRecursion (λ t. nodes (more t none) < 2 ^ 32) (g.roots ++ map (λ c. c.val) g.cells)
+  pub few_nodes : AllByRecursion (λ t. node_count (more t none) < 2 ^ 32) (g.roots ++ map (λ c. c.val) g.cells)
 
 -- A partial graph: one some of whose values, wherever they stand, may be unread. What octets hold before a faulty place is such
 -- a graph.

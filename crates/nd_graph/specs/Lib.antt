@@ -14,3 +14,4 @@ pub mod FirstMisfit
 pub mod Same
 pub mod Canon
 pub mod Fitting
+pub mod WorkedFit

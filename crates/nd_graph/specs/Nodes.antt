@@ -8,7 +8,7 @@ use Rattle.nd_types.specs.declared.types.TypeDef.TheVariants as def
 use Rattle.nd_types.specs.Table.{Table, type_at, selected}
 use Rattle.nd_types.specs.Layout.{arm_type}
 use Rattle.nd_graph.specs.Tree as tree
-use Rattle.nd_graph.specs.Tree.{Tree, Trees, node, none, more, count, nodes, Label}
+use Rattle.nd_graph.specs.Tree.{Tree, Trees, node, none, more, count, node_count, Label}
 use Rattle.nd_graph.specs.Agreement.{Agreement, member_agreements}
 
 -- the type of the arm that a tag selects, where it has one
@@ -55,7 +55,7 @@ nodes_of table [] agreements n (more t ts) = []
 nodes_of table (t ∷ types) agreements n (more (node l ks) ts) =
     record { node = n; of = t; agreements = first_agreements agreements; label = l; kids = ks }
     ∷ (nodes_of table (child_types (type_at table t) l ks) (child_agreements (type_at table t) ks) (n + 1) ks
-    ++ nodes_of table types (rest_agreements agreements) (n + 1 + nodes ks) ts)
+    ++ nodes_of table types (rest_agreements agreements) (n + 1 + node_count ks) ts)
 
 -- the nodes of a home whose own value is governed by some agreements
 abbrev pub governed_nodes : Table → ℕ → List Agreement → Tree → List TypedNode

@@ -35,9 +35,9 @@ count none = 0
 count (more t ts) = suc (count ts)
 
 -- how many nodes
-abbrev pub nodes : Trees → ℕ
-nodes none = 0
-nodes (more (node l ks) ts) = suc (nodes ks + nodes ts)
+abbrev pub node_count : Trees → ℕ
+node_count none = 0
+node_count (more (node l ks) ts) = suc (node_count ks + node_count ts)
 
 -- a list of trees as `Trees`
 abbrev pub trees : List Tree → Trees
@@ -164,7 +164,7 @@ tree_code =
 
 -- how many nodes there are in a list of trees
 abbrev pub weight : List Tree → ℕ
-weight ts = nodes (trees ts)
+weight ts = node_count (trees ts)
 
 -- a cell: its type's number, and its value
 pub record Referent : Type 0 where

@@ -21,6 +21,10 @@ use Rattle.nd_types.specs.Layout.{parts, nests, hoists}
 use Rattle.nd_types.specs.Kinds.{basic_types, is_basic, is_same_basic, is_integer, is_switch_type, is_array, is_text, is_pipe, is_context, is_pointer, is_reference, is_varying_array, is_conformant_array, is_conformant_text, is_fixed_array, is_nonencapsulated, pointee, referent_type}
 use Rattle.nd_types.specs.Fields.{FieldAt, members_of, all_fields, are_ordered, has_attr, has_size, has_range_attr, subject_type, all_variables}
 
+-- where the first holds, so does the second
+abbrev pub implies : Bool → Bool → Bool
+implies a b = not a || b
+
 -- the numbers of the types of a table
 abbrev pub type_numbers : Table → List ℕ
 type_numbers types = map (λ e. e.0) (enumerate_from 0 types)
@@ -68,17 +72,19 @@ has_small_values _ = true
 unfoldable pub is_shallow : Table → ℕ → Bool
 is_shallow types t = nests NESTING_LIMIT types t
 
+-- the number of elements of a fixed array, from that of its element; 1 of all else
+abbrev elements_by : (ℕ → ℕ) → Option TypeDef → ℕ
+elements_by elements (Some (Array elem (Some bound) varying)) = bound * elements elem.0
+elements_by elements _ = 1
+
+-- the same down to so many dimensions
+abbrev pub elements_within : ℕ → Table → ℕ → ℕ
+elements_within zero types t = 1
+elements_within (suc n) types t = elements_by (elements_within n types) (type_at types t)
+
 -- the number of elements of a fixed array over all its dimensions
-abbrev count_by : (ℕ → ℕ) → Option TypeDef → ℕ
-count_by count (Some (Array elem (Some bound) varying)) = bound * count elem.0
-count_by count _ = 1
-
-abbrev pub count_within : ℕ → Table → ℕ → ℕ
-count_within zero types t = 1
-count_within (suc n) types t = count_by (count_within n types) (type_at types t)
-
 unfoldable pub element_count : Table → ℕ → ℕ
-element_count types t = count_within NESTING_LIMIT types t
+element_count types t = elements_within NESTING_LIMIT types t
 
 abbrev is_dimension : Option ℕ → Bool
 is_dimension None = true
@@ -93,14 +99,14 @@ has_small_bound _ = true
 -- an array whose element is an array is fixed, and so is its element
 abbrev pub has_fixed_dimensions : Table → TypeDef → Bool
 has_fixed_dimensions types (Array elem bound varying) =
-    not (is_array (type_at types elem.0)) || (is_fixed_array (Some (Array elem bound varying)) && is_fixed_array (type_at types elem.0))
+    implies (is_array (type_at types elem.0)) (is_fixed_array (Some (Array elem bound varying)) && is_fixed_array (type_at types elem.0))
 has_fixed_dimensions types _ = true
 
 -- an array's element does not hoist, and is no varying array and no text
-abbrev pub has_plain_element : Table → TypeDef → Bool
-has_plain_element types (Array elem bound varying) =
+abbrev pub has_simple_element : Table → TypeDef → Bool
+has_simple_element types (Array elem bound varying) =
     not (hoists types elem.0) && (not (is_varying_array (type_at types elem.0)) && not (is_text (type_at types elem.0)))
-has_plain_element types _ = true
+has_simple_element types _ = true
 
 abbrev pub only_last_hoists : Table → List Field → Bool
 only_last_hoists types [] = true
@@ -240,7 +246,7 @@ pub record IsLegal (types : Table) (operations : List Operation) : Type 0 where
   -- An array of more than one dimension is fixed in each.
   pub dimensions : list_all (has_fixed_dimensions types) types ≡ true
   -- An array's element does not hoist, and is no varying array and no text.
-  pub array_elements : list_all (has_plain_element types) types ≡ true
+  pub array_elements : list_all (has_simple_element types) types ≡ true
   -- A text's element is a char or a byte.
   pub text_elements : list_all has_text_element types ≡ true
   -- A pipe's element holds no pointer, no conformant or varying array, no text, no context handle and no pipe.
@@ -264,25 +270,25 @@ pub record IsLegal (types : Table) (operations : List Operation) : Type 0 where
   -- An attribute's variable is another member of the same struct, or another parameter of the same operation.
   pub variables : all_fields has_other_variables types operations ≡ true
   -- size_is and max_is stand only on a conformant array or text or a pointer to one, and not both.
-  pub sized : all_fields (λ p. not (has_size p.field) || (is_conformant_array (subject_type types p.field) || is_conformant_text (subject_type types p.field))) types operations ≡ true
+  pub sized : all_fields (λ p. implies (has_size p.field) (is_conformant_array (subject_type types p.field) || is_conformant_text (subject_type types p.field))) types operations ≡ true
   pub one_size : all_fields (λ p. not (has_attr Size p.field && has_attr Max p.field)) types operations ≡ true
   -- A field that is itself a conformant array has one of them.
-  pub conformant_sized : all_fields (λ p. not (is_conformant_array (type_at types p.field.of.0)) || has_size p.field) types operations ≡ true
+  pub conformant_sized : all_fields (λ p. implies (is_conformant_array (type_at types p.field.of.0)) (has_size p.field)) types operations ≡ true
   -- first_is, length_is and last_is stand only on a varying array, or on a pointer to one that has size_is or max_is; length_is and last_is not both.
-  pub varying : all_fields (λ p. not (has_range_attr p.field) || is_varying_array (subject_type types p.field)) types operations ≡ true
-  pub varying_sized : all_fields (λ p. not (has_range_attr p.field) || (is_array (type_at types p.field.of.0) || has_size p.field)) types operations ≡ true
+  pub varying : all_fields (λ p. implies (has_range_attr p.field) (is_varying_array (subject_type types p.field))) types operations ≡ true
+  pub varying_sized : all_fields (λ p. implies (has_range_attr p.field) (is_array (type_at types p.field.of.0) || has_size p.field)) types operations ≡ true
   pub one_length : all_fields (λ p. not (has_attr Length p.field && has_attr Last p.field)) types operations ≡ true
   -- The variable of any of these five is an integer, or with a star a parameter that is a reference pointer to one.
   pub count_variables : all_fields (all_variables (λ a. not (is_switch_attr a)) is_integer types) types operations ≡ true
   -- switch_is stands on each field that is a non-encapsulated union or a pointer to one, and on no other.
-  pub switched : all_fields (λ p. not (is_switched types p.field.of.0) || has_attr Switch p.field) types operations ≡ true
-  pub switches : all_fields (λ p. not (has_attr Switch p.field) || is_switched types p.field.of.0) types operations ≡ true
+  pub switched : all_fields (λ p. implies (is_switched types p.field.of.0) (has_attr Switch p.field)) types operations ≡ true
+  pub switches : all_fields (λ p. implies (has_attr Switch p.field) (is_switched types p.field.of.0)) types operations ≡ true
   -- Its variable is of a type that a tag may have, or with a star a parameter that is a reference pointer to one.
   pub switch_variables : all_fields (all_variables is_switch_attr is_switch_type types) types operations ≡ true
   -- A parameter of type handle_t is an [in] parameter.
-  pub handles : all_params (λ p. not (is_handle p) || is_in p.way) operations ≡ true
+  pub handles : all_params (λ p. implies (is_handle p) (is_in p.way)) operations ≡ true
   -- A pointer that is an [out] parameter alone is a reference pointer.
-  pub out_pointers : all_params (λ p. not (is_out_only p.way && is_pointer (type_at types p.field.of.0)) || is_reference (type_at types p.field.of.0)) operations ≡ true
+  pub out_pointers : all_params (λ p. implies (is_out_only p.way && is_pointer (type_at types p.field.of.0)) (is_reference (type_at types p.field.of.0))) operations ≡ true
   -- An [out] or [in, out] parameter is an array, a text, a pipe or a pointer.
   pub out_types : all_params (λ p. is_in p.way || is_out_type (type_at types p.field.of.0)) operations ≡ true
   -- A result is a primitive or of an enumerated type.

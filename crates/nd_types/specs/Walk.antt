@@ -7,7 +7,7 @@ use Rattle.nd_types.specs.declared.types.Operation.{Operation}
 use Rattle.nd_types.specs.declared.types.Side.{Side}
 use Rattle.nd_types.specs.declared.walk.RootDef.{RootDef}
 use Rattle.nd_types.specs.declared.walk.Stage.{Stage}
-use Rattle.nd_types.specs.declared.walk.Stage.TheVariants.{Plain, Result, Pipes}
+use Rattle.nd_types.specs.declared.walk.Stage.TheVariants.{Parameters, Result, Pipes}
 use Rattle.nd_types.specs.Table.{Table}
 use Rattle.nd_types.specs.Roots.{Root, roots_of, params_from, result_root, root_of, travels}
 
@@ -64,6 +64,6 @@ result_left side o = map (named_root o) (result_root side o.result)
 
 -- the roots that are left in a stage of the walk
 abbrev pub left : Table → Side → Operation → Stage → List NamedRoot
-left types side o (Plain i) = params_left types side o false i ++ (result_left side o ++ params_left types side o true 0)
+left types side o (Parameters i) = params_left types side o false i ++ (result_left side o ++ params_left types side o true 0)
 left types side o Result = result_left side o ++ params_left types side o true 0
 left types side o (Pipes i) = params_left types side o true i

@@ -25,7 +25,7 @@ pub struct RootDef<'a> {
 // Which roots come next: the parameters that are no pipes, from one on, the result, or the pipes, from a parameter on.
 #[derive(Clone, Copy, Debug)]
 enum Stage {
-    Plain(usize),
+    Parameters(usize),
     Result,
     Pipes(usize),
 }
@@ -95,8 +95,8 @@ impl<'a> SideRoots<'a> {
             MatchOption result (rest stage ≡ []) (λ r. rest stage ≡ root_value r.0 ∷ rest r.1) }
     {
         match stage {
-            Stage::Plain(from) => match self.next_param(false, from) {
-                Some((root, at)) => Some((root, Stage::Plain(at))),
+            Stage::Parameters(from) => match self.next_param(false, from) {
+                Some((root, at)) => Some((root, Stage::Parameters(at))),
                 None => self.next_behind_params(),
             },
             Stage::Result => self.next_behind_params(),
@@ -170,7 +170,7 @@ impl Interface {
                 operation: &self.operations.as_slice()[op as usize],
                 side,
             },
-            stage: Stage::Plain(0),
+            stage: Stage::Parameters(0),
         }
     }
 }

@@ -4,5 +4,7 @@
 mod decoding;
 mod numbers;
 mod primitives;
+#[cfg(test)]
+mod tests;
 
 pub use decoding::{DecodeFault, Decoded, decode};

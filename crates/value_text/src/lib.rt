@@ -2,5 +2,7 @@
 #![tactic(auto)]
 
 mod printing;
+#[cfg(test)]
+mod tests;
 
 pub use printing::print;

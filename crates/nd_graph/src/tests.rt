@@ -1,0 +1,155 @@
+// Each call once with ample memory.
+ghost use Rattle.std.specs.Prelude.{◌≡◌, ◌≤◌, [], ◌∷◌, length, codes, IfOk};
+ghost use Rattle.nd_types.specs.Kinds.{basic_types};
+ghost use Rattle.nd_types.specs.Plain.{plain_param};
+ghost use Rattle.nd_graph.specs.WorkedFit.{add_params, add, one_two_three};
+
+use crate::{ArmVal, Cell, CellId, Cells, Fit, Graph, Val, Vals};
+use nd_base::{Memory, Name};
+use nd_types::{
+    AttrVars, Field, Interface, Operation, Operations, Param, Params, Side, TypeId, Types, Way,
+};
+use std::alloc::Global;
+use std::test::Fail;
+
+fn param(alloc: Global, name: &[u8], of: u32) -> Result<Param, Memory>
+    requires some { 1 ≤ length name.now }
+    requires few { length name.now ≤ 31 }
+    ensures { IfOk result (λ p. p ≡ plain_param name.now of) }
+{
+    Ok(Param {
+        field: Field {
+            name: Name::copy(alloc, name)?,
+            of: TypeId(of),
+            vars: AttrVars::new(alloc),
+        },
+        way: Way::In,
+    })
+}
+
+fn params(alloc: Global) -> Result<Params, Memory>
+    ensures { IfOk result (λ ps. ps ≡ add_params) }
+{
+    let a = param(alloc, b"a", 7)?;
+    let b = param(alloc, b"b", 5)?;
+    let c = param(alloc, b"c", 9)?;
+    let mut params = Params::new(alloc);
+    if params.push(a).is_err() || params.push(b).is_err() || params.push(c).is_err() {
+        return Err(Memory);
+    }
+    Ok(params)
+}
+
+fn operations(alloc: Global) -> Result<Operations, Memory>
+    ensures { IfOk result (λ os. os ≡ add ∷ []) }
+{
+    let operation = Operation {
+        name: Name::copy(alloc, b"add")?,
+        params: params(alloc)?,
+        result: None,
+    };
+    let mut operations = Operations::new(alloc);
+    if operations.push(operation).is_err() {
+        return Err(Memory);
+    }
+    Ok(operations)
+}
+
+// interface t { void add([in] long a, [in] short b, [in] hyper c); }
+#[tactic(auto, using(crate::proofs::WorkedFit::legal))]
+fn interface(alloc: Global) -> Result<Interface, Memory>
+    ensures types { IfOk result (λ i. i.types ≡ basic_types) }
+    ensures operations { IfOk result (λ i. i.operations ≡ add ∷ []) }
+{
+    let types = Types::basic(alloc)?;
+    let operations = operations(alloc)?;
+    Ok(Interface {
+        name: Name::copy(alloc, b"t")?,
+        uuid: None,
+        major: 0,
+        minor: 0,
+        types,
+        operations,
+    })
+}
+
+fn numbers(alloc: Global) -> Result<Vals, Memory>
+    ensures { IfOk result (λ vs. vs ≡ one_two_three) }
+{
+    let mut vals = Vals::new(alloc);
+    if vals.push(Val::Num(1)).is_err()
+        || vals.push(Val::Num(2)).is_err()
+        || vals.push(Val::Num(3)).is_err()
+    {
+        return Err(Memory);
+    }
+    Ok(vals)
+}
+
+#[tactic(auto, using(crate::proofs::WorkedFit::fits))]
+fn fit(alloc: Global, interface: &Interface) -> Result<Fit, Memory>
+    requires types { interface.now.types ≡ basic_types }
+    requires operations { interface.now.operations ≡ add ∷ [] }
+{
+    let graph = Graph {
+        roots: numbers(alloc)?,
+        cells: Cells::new(alloc),
+    };
+    Ok(Fit::adopt(interface.tie(), graph, 0, Side::In))
+}
+
+fn is_number(val: Option<&Val>, number: i128) -> bool {
+    matches!(val, Some(Val::Num(value)) if *value == number)
+}
+
+#[test]
+fn fits_are_adopted(rt: HostRuntime) -> Result<(), Fail> {
+    let interface = interface(rt.alloc())?;
+    let fit = fit(rt.alloc(), &interface)?;
+    assert_eq!(rt; fit.op(), 0);
+    assert_eq!(rt; fit.side(), Side::In);
+    let graph = fit.graph();
+    assert_eq!(rt; graph.cells.len(), 0);
+    assert_eq!(rt; graph.roots.len(), 3);
+    assert!(rt; is_number(graph.roots.get(0), 1));
+    assert!(rt; is_number(graph.roots.get(1), 2));
+    assert!(rt; is_number(graph.roots.get(2), 3));
+    assert!(rt; graph.roots.get(3).is_none());
+    Ok(())
+}
+
+// p = @1, @1 = {v = 7, next = @1}: a node that points to itself.
+#[test]
+fn cells_are_kept(rt: HostRuntime) -> Result<(), Fail> {
+    let alloc = rt.alloc();
+    let mut members = Vals::new(alloc);
+    assert!(rt; members.push(Val::Num(7)).is_ok());
+    assert!(rt; members.push(Val::Ptr(Some(CellId(1)))).is_ok());
+    let mut cells = Cells::new(alloc);
+    let node = Cell {
+        of: TypeId(12),
+        val: Val::Rec(members),
+    };
+    assert!(rt; cells.push(node).is_ok());
+    assert_eq!(rt; cells.len(), 1);
+    assert!(rt; cells.get(1).is_none());
+    let node = cells.get(0).ok_or("node")?;
+    assert_eq!(rt; node.of, TypeId(12));
+    match &node.val {
+        Val::Rec(members) => {
+            assert!(rt; is_number(members.get(0), 7));
+            assert!(rt; matches!(members.get(1), Some(Val::Ptr(Some(CellId(1))))));
+        }
+        _ => assert!(rt; false),
+    }
+    Ok(())
+}
+
+// 9:1 and 9:void, unions whose tag is 9.
+#[test]
+fn arms_are_kept(rt: HostRuntime) -> Result<(), Fail> {
+    let arm = ArmVal::of(Box::new(rt.alloc(), Val::Num(1))?);
+    assert!(rt; is_number(arm.get(), 1));
+    assert!(rt; ArmVal::none().get().is_none());
+    Ok(())
+}

@@ -1,0 +1,121 @@
+// The call once with ample memory, in both orders, and its refusal.
+ghost use Rattle.std.specs.Prelude.{◌≡◌, ◌≤◌, ◌<◌, ◌^◌, [], ◌∷◌, length, codes, IfOk};
+ghost use Rattle.nd_types.specs.Kinds.{basic_types};
+ghost use Rattle.nd_types.specs.Plain.{IsPlainInterface, plain_param};
+ghost use Rattle.nd_graph.specs.WorkedFit.{add_params, add};
+
+use crate::{DecodeFault, decode};
+use nd_base::{Memory, Name, Order};
+use nd_grammar::Reason;
+use nd_graph::Val;
+use nd_types::{
+    AttrVars, Field, Interface, Operation, Operations, Param, Params, TypeId, Types, Way,
+};
+use std::alloc::Global;
+use std::process::Abort;
+use std::test::Fail;
+
+fn param(alloc: Global, name: &[u8], of: u32) -> Result<Param, Memory>
+    requires some { 1 ≤ length name.now }
+    requires few { length name.now ≤ 31 }
+    ensures { IfOk result (λ p. p ≡ plain_param name.now of) }
+{
+    Ok(Param {
+        field: Field {
+            name: Name::copy(alloc, name)?,
+            of: TypeId(of),
+            vars: AttrVars::new(alloc),
+        },
+        way: Way::In,
+    })
+}
+
+fn params(alloc: Global) -> Result<Params, Memory>
+    ensures { IfOk result (λ ps. ps ≡ add_params) }
+{
+    let a = param(alloc, b"a", 7)?;
+    let b = param(alloc, b"b", 5)?;
+    let c = param(alloc, b"c", 9)?;
+    let mut params = Params::new(alloc);
+    if params.push(a).is_err() || params.push(b).is_err() || params.push(c).is_err() {
+        return Err(Memory);
+    }
+    Ok(params)
+}
+
+fn operations(alloc: Global) -> Result<Operations, Memory>
+    ensures { IfOk result (λ os. os ≡ add ∷ []) }
+{
+    let operation = Operation {
+        name: Name::copy(alloc, b"add")?,
+        params: params(alloc)?,
+        result: None,
+    };
+    let mut operations = Operations::new(alloc);
+    if operations.push(operation).is_err() {
+        return Err(Memory);
+    }
+    Ok(operations)
+}
+
+// interface t { void add([in] long a, [in] short b, [in] hyper c); }
+#[tactic(auto, using(nd_graph::proofs::WorkedFit::legal, nd_graph::proofs::WorkedFit::plain))]
+fn interface(alloc: Global) -> Result<Interface, Memory>
+    ensures plain { IfOk result (λ i. IsPlainInterface i.types i.operations) }
+    ensures types { IfOk result (λ i. i.types ≡ basic_types) }
+    ensures operations { IfOk result (λ i. i.operations ≡ add ∷ []) }
+{
+    let types = Types::basic(alloc)?;
+    let operations = operations(alloc)?;
+    Ok(Interface {
+        name: Name::copy(alloc, b"t")?,
+        uuid: None,
+        major: 0,
+        minor: 0,
+        types,
+        operations,
+    })
+}
+
+fn is_number(val: Option<&Val>, number: i128) -> bool {
+    matches!(val, Some(Val::Num(value)) if *value == number)
+}
+
+// Asserts that 16 of the octets hold the numbers 1, 2 and 3.
+fn expect_numbers(rt: &impl Abort, alloc: Global, order: Order, octets: &[u8]) -> Result<(), Fail>
+    requires { length octets.now < 2 ^ 32 }
+{
+    let interface = interface(alloc)?;
+    let decoded = decode(alloc, &interface, 0, order, octets)?;
+    assert_eq!(rt; decoded.taken, 16);
+    assert_eq!(rt; decoded.fit.op(), 0);
+    let roots = &decoded.fit.graph().roots;
+    assert_eq!(rt; roots.len(), 3);
+    assert!(rt; is_number(roots.get(0), 1));
+    assert!(rt; is_number(roots.get(1), 2));
+    assert!(rt; is_number(roots.get(2), 3));
+    Ok(())
+}
+
+// Any octets stand in the gap before the hyper, and any behind the values.
+#[test]
+fn numbers_are_decoded(rt: HostRuntime) -> Result<(), Fail> {
+    let little = b"\x01\0\0\0\x02\0\0\0\x03\0\0\0\0\0\0\0";
+    expect_numbers(&rt, rt.alloc(), Order::Little, little)?;
+    let big = b"\0\0\0\x01\0\x02\xaa\xaa\0\0\0\0\0\0\0\x03\x04";
+    expect_numbers(&rt, rt.alloc(), Order::Big, big)
+}
+
+// The octets end in the hyper, and in the gap before it.
+#[test]
+fn short_octets_are_refused(rt: HostRuntime) -> Result<(), Fail> {
+    let interface = interface(rt.alloc())?;
+    let whole = b"\x01\0\0\0\x02\0\0\0\x03";
+    for place in [9u32, 7] {
+        let octets = &whole[..place as usize];
+        let fault = decode(rt.alloc(), &interface, 0, Order::Little, octets).err();
+        let reason = Reason::Truncated;
+        assert_eq!(rt; fault, Some(DecodeFault::Bad { place, reason }));
+    }
+    Ok(())
+}

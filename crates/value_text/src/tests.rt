@@ -1,0 +1,116 @@
+// The call once with ample memory.
+ghost use Rattle.std.specs.Prelude.{◌≡◌, ◌≤◌, [], ◌∷◌, length, codes, IfOk};
+ghost use Rattle.nd_types.specs.declared.types.Side.TheVariants as side;
+ghost use Rattle.nd_types.specs.Kinds.{basic_types};
+ghost use Rattle.nd_types.specs.Plain.{IsPlainInterface, plain_param};
+ghost use Rattle.nd_graph.specs.WorkedFit.{add_params, add, one_two_three};
+
+use crate::print;
+use nd_base::{Memory, Name};
+use nd_graph::{Cells, Fit, Graph, Val, Vals};
+use nd_types::{
+    AttrVars, Field, Interface, Operation, Operations, Param, Params, Side, TypeId, Types, Way,
+};
+use std::alloc::Global;
+use std::test::Fail;
+
+fn param(alloc: Global, name: &[u8], of: u32) -> Result<Param, Memory>
+    requires some { 1 ≤ length name.now }
+    requires few { length name.now ≤ 31 }
+    ensures { IfOk result (λ p. p ≡ plain_param name.now of) }
+{
+    Ok(Param {
+        field: Field {
+            name: Name::copy(alloc, name)?,
+            of: TypeId(of),
+            vars: AttrVars::new(alloc),
+        },
+        way: Way::In,
+    })
+}
+
+fn params(alloc: Global) -> Result<Params, Memory>
+    ensures { IfOk result (λ ps. ps ≡ add_params) }
+{
+    let a = param(alloc, b"a", 7)?;
+    let b = param(alloc, b"b", 5)?;
+    let c = param(alloc, b"c", 9)?;
+    let mut params = Params::new(alloc);
+    if params.push(a).is_err() || params.push(b).is_err() || params.push(c).is_err() {
+        return Err(Memory);
+    }
+    Ok(params)
+}
+
+fn operations(alloc: Global) -> Result<Operations, Memory>
+    ensures { IfOk result (λ os. os ≡ add ∷ []) }
+{
+    let operation = Operation {
+        name: Name::copy(alloc, b"add")?,
+        params: params(alloc)?,
+        result: None,
+    };
+    let mut operations = Operations::new(alloc);
+    if operations.push(operation).is_err() {
+        return Err(Memory);
+    }
+    Ok(operations)
+}
+
+// interface t { void add([in] long a, [in] short b, [in] hyper c); }
+#[tactic(auto, using(nd_graph::proofs::WorkedFit::legal, nd_graph::proofs::WorkedFit::plain))]
+fn interface(alloc: Global) -> Result<Interface, Memory>
+    ensures plain { IfOk result (λ i. IsPlainInterface i.types i.operations) }
+    ensures types { IfOk result (λ i. i.types ≡ basic_types) }
+    ensures operations { IfOk result (λ i. i.operations ≡ add ∷ []) }
+{
+    let types = Types::basic(alloc)?;
+    let operations = operations(alloc)?;
+    Ok(Interface {
+        name: Name::copy(alloc, b"t")?,
+        uuid: None,
+        major: 0,
+        minor: 0,
+        types,
+        operations,
+    })
+}
+
+fn numbers(alloc: Global) -> Result<Vals, Memory>
+    ensures { IfOk result (λ vs. vs ≡ one_two_three) }
+{
+    let mut vals = Vals::new(alloc);
+    if vals.push(Val::Num(1)).is_err()
+        || vals.push(Val::Num(2)).is_err()
+        || vals.push(Val::Num(3)).is_err()
+    {
+        return Err(Memory);
+    }
+    Ok(vals)
+}
+
+#[tactic(auto, using(nd_graph::proofs::WorkedFit::fits))]
+fn fit(alloc: Global, interface: &Interface) -> Result<Fit, Memory>
+    requires types { interface.now.types ≡ basic_types }
+    requires operations { interface.now.operations ≡ add ∷ [] }
+    ensures tied { IfOk result (λ f. f.interface ≡ interface.now) }
+    ensures inputs { IfOk result (λ f. f.side ≡ side.In) }
+{
+    let graph = Graph {
+        roots: numbers(alloc)?,
+        cells: Cells::new(alloc),
+    };
+    Ok(Fit::adopt(interface.tie(), graph, 0, Side::In))
+}
+
+#[test]
+fn numbers_are_printed(rt: HostRuntime) -> Result<(), Fail> {
+    let interface = interface(rt.alloc())?;
+    let fit = fit(rt.alloc(), &interface)?;
+    let text = print(rt.alloc(), &interface, &fit)?;
+    assert_eq!(rt;
+        text.as_slice(),
+        b"values 1\nop add in\na = 1\nb = 2\nc = 3\n".as_slice()
+    );
+    Ok(())
+}
