@@ -15,7 +15,7 @@ use Rattle.nd_types.specs.Table.{Table, type_at, width, carrier}
 use Rattle.nd_types.specs.Layout.{parts, hoists, align_of}
 use Rattle.nd_graph.specs.declared.item.Home.{Home}
 use Rattle.nd_graph.specs.Tree as tree
-use Rattle.nd_graph.specs.Tree.{Tree, Trees, node, none, more, Label, count, nodes, is_pointer, cell_in}
+use Rattle.nd_graph.specs.Tree.{Tree, Trees, node, none, more, Label, count, node_count, is_pointer, cell_in}
 use Rattle.nd_graph.specs.Agreement.{Agreement}
 use Rattle.nd_graph.specs.Setting.{unread}
 use Rattle.nd_graph.specs.Nodes.{TypedNode, nodes_of, child_types, child_agreements, first_agreements, rest_agreements}
@@ -35,7 +35,7 @@ value_pointers table h d k ags (node l ks) =
     pointer_by d (is_pointer l) (cell_in l) h k ags ++ flat_map (pointer table h) (nodes_of table (child_types d l ks) (child_agreements d ks) (k + 1) ks)
 
 after_value : Tree → ℕ → ℕ
-after_value (node l ks) k = k + 1 + nodes ks
+after_value (node l ks) k = k + 1 + node_count ks
 
 first_value : (table : Table) (h : Home) (t : ℕ) (types : List ℕ) (ags : List (List Agreement)) (k : ℕ) (v : Tree) (ts : Trees)
     → flat_map (pointer table h) (nodes_of table (t ∷ types) ags k (more v ts))
@@ -45,7 +45,7 @@ first_value table h t types ags k (node l ks) ts =
     let d : Option TypeDef = type_at table t in
     let own : List Pending = pointer_by d (is_pointer l) (cell_in l) h k (first_agreements ags) in
     let K : List TypedNode = nodes_of table (child_types d l ks) (child_agreements d ks) (k + 1) ks in
-    let R : List TypedNode = nodes_of table types (rest_agreements ags) (k + 1 + nodes ks) ts in
+    let R : List TypedNode = nodes_of table types (rest_agreements ags) (k + 1 + node_count ks) ts in
     ap (λ u. own ++ u) (flat_map-append (pointer table h) K R) ∙ sym (append_assoc own (flat_map (pointer table h) K) (flat_map (pointer table h) R))
 
 no_pointer_unread : (d : Option TypeDef) (h : Home) (k : ℕ) (ags : List Agreement) → pointer_by d false None h k ags ≡ []
