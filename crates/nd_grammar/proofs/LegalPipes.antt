@@ -57,7 +57,7 @@ module _ (table : Table) (operations : List Operation) (legal : IsLegal table op
       passes_at (stands_alone is_pipe table) table t d legal.pipes e in
       all_weaker _ NoPipe (λ u k. alone table u k) ((parts (Some d) ++ tag_of d) ++ nullable_pointee_of d) (all_of_list _ _ h)
 
-  parts_alone : (t : ℕ) (d : Option TypeDef) → type_at table t ≡ d → AllByRecursion NoPipe (parts d)
+  pub parts_alone : (t : ℕ) (d : Option TypeDef) → type_at table t ≡ d → AllByRecursion NoPipe (parts d)
   parts_alone t None e = tt
   parts_alone t (Some d) e = all_left NoPipe (parts (Some d)) (tag_of d) (all_left NoPipe (parts (Some d) ++ tag_of d) (nullable_pointee_of d) (all_alone t d e))
 

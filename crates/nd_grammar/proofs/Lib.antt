@@ -16,6 +16,7 @@ pub mod KnownNodes
 pub mod LawExamples
 pub mod LawRing
 pub mod LegalPipes
+pub mod LegalReadable
 pub mod LegalSides
 pub mod Mapped
 pub mod Matching
@@ -46,12 +47,17 @@ pub mod ReaderArrays
 pub mod ReaderDirectory
 pub mod ReaderFinds
 pub mod ReaderInPlace
+pub mod ReaderLeaves
+pub mod ReaderNamed
+pub mod ReaderNames
 pub mod ReaderNodes
 pub mod ReaderPlain
 pub mod ReaderPointers
 pub mod ReaderResponses
 pub mod ReaderSteps
 pub mod ReaderUnions
+pub mod ReaderVerdict
+pub mod ReaderWhole
 pub mod RefusedAlike
 pub mod RootsMeeting
 pub mod SameByMap

@@ -28,11 +28,11 @@ use Rattle.nd_grammar.proofs.ReaderSteps.{Follows, same_taken}
 abbrev pub Agree : (ℕ → ℕ) → List (ℕ × ℕ) → Type 0
 Agree nums xs = AllByRecursion (λ x. nums x.1 ≡ x.0) xs
 
-if_not : (b : Bool) (r : ℕ × Reason) (o : Option (ℕ × Reason)) → refused_if b r o ≡ None → (b ≡ false) × (o ≡ None)
+pub if_not : (b : Bool) (r : ℕ × Reason) (o : Option (ℕ × Reason)) → refused_if b r o ≡ None → (b ≡ false) × (o ≡ None)
 if_not true r o e = cc
 if_not false r o e = (refl, e)
 
-accepted_by : (s o : Option (ℕ × Reason)) (octets os : List ℕ) → taken_by s o octets ≡ Some os → (o ≡ None) × (octets ≡ os)
+pub accepted_by : (s o : Option (ℕ × Reason)) (octets os : List ℕ) → taken_by s o octets ≡ Some os → (o ≡ None) × (octets ≡ os)
 accepted_by (Some r) o octets os e = cc
 accepted_by None (Some r) octets os e = cc
 accepted_by None None octets os e = (refl, same_Some _ _ e)
@@ -71,7 +71,7 @@ module _ (order : Order) (octets : List ℕ) (h : Home) (n : ℕ) where
   T k p = taken order octets (E k) p
 
   -- what is taken is not refused, lies within the octets, and has its length
-  accepted_kind : (k : Kind) (p : Progress) (os : List ℕ) → T k p ≡ Some os
+  pub accepted_kind : (k : Kind) (p : Progress) (os : List ℕ) → T k p ≡ Some os
       → (kind_refusal order octets p.seen p.at (E k) k os ≡ None) × (p.at + size_at p.at k ≤ length octets) × (length os ≡ size_at p.at k)
   accepted_kind k p os e =
       let (a, b) = accepted_by p.stop (refusal order octets p.seen (here p (E k))) (piece octets p.at k) os e in
