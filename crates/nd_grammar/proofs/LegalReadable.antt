@@ -1,8 +1,7 @@
 -- In a legal interface each type that holds no pipe can be read in its place, and so can what its pointers point to.
-use Rattle.std.proofs.Common.{◌≡◌, ℕ, ◌+◌, ◌<◌, zero, suc, Bool, true, false, ◌&&◌, List, [], ◌∷◌, ◌++◌, length, Option, Some, None, refl, ap, sym, ◌∙◌, arith, subst}
+use Rattle.std.proofs.Common.{◌≡◌, ℕ, ◌<◌, zero, suc, true, false, List, [], ◌∷◌, ◌++◌, length, Option, Some, None, refl, ap, arith, subst}
 use Rattle.std.specs.List.{AllByRecursion, list_all, slice_get}
 use Rattle.std.proofs.lemmas.Bool.{and_parts, ltb-true}
-use Rattle.std.proofs.lemmas.Option.{same_Some}
 use Rattle.nd_types.specs.declared.types.TypeDef.{TypeDef}
 use Rattle.nd_types.specs.declared.types.TypeId.{TypeId}
 use Rattle.nd_types.specs.declared.types.TypeDef.TheVariants as def
@@ -18,8 +17,8 @@ use Rattle.nd_types.specs.Legal.{IsLegal, named_types, is_in_table, has_switch_t
 use Rattle.nd_types.proofs.LegalLaws.{passes_at}
 use Rattle.nd_types.proofs.LayoutLaws.{shallow_all}
 use Rattle.nd_graph.proofs.NodeFacts.{all_of_list}
-use Rattle.nd_graph.proofs.Apart.{all_left, all_right, all_weaker}
-use Rattle.nd_grammar.proofs.GoodEntries.{IsNoPipe, HoldsNoPipe}
+use Rattle.nd_graph.proofs.Apart.{all_left, all_weaker}
+use Rattle.nd_grammar.proofs.GoodEntries.{IsNoPipe}
 use Rattle.nd_grammar.proofs.LegalPipes.{parts_alone, holds_no_pipe}
 use Rattle.nd_grammar.proofs.ReaderInPlace.{Fine, Readable}
 

@@ -1,8 +1,8 @@
 -- The pointers of values that are read: each names a cell that is there, and they share cells only if they are full.
-use Rattle.std.proofs.Common.{◌≡◌, ℕ, ◌+◌, ◌-◌, zero, suc, ℤ, Bool, true, false, List, [], ◌∷◌, ◌++◌, length, Option, Some, None, refl, ap, ap₂, sym, ◌∙◌, inl, inr, ◌⊎◌, arith, subst, replicate, append_assoc}
+use Rattle.std.proofs.Common.{◌≡◌, ℕ, ◌+◌, ◌-◌, zero, suc, ℤ, Bool, true, false, List, [], ◌∷◌, ◌++◌, Option, Some, None, refl, ap, sym, ◌∙◌, subst, replicate, append_assoc}
 use Rattle.std.specs.Prelude.{pos, map, flat_map, not, ◌&&◌}
 use Rattle.std.specs.List.{AllByRecursion}
-use Rattle.std.proofs.lemmas.List.{length-replicate, append-nil}
+use Rattle.std.proofs.lemmas.List.{length-replicate}
 use Rattle.std.proofs.lemmas.Grind.{flat_map-append}
 use Rattle.nd_base.specs.declared.octets.Order.{Order}
 use Rattle.nd_types.specs.declared.types.TypeDef.{TypeDef}
@@ -11,7 +11,7 @@ use Rattle.nd_types.specs.declared.types.Arm.{Arm}
 use Rattle.nd_types.specs.declared.types.TypeDef.TheVariants as def
 use Rattle.nd_types.specs.declared.types.Primitive.{Primitive}
 use Rattle.nd_types.specs.declared.types.Primitive.TheVariants.{Short}
-use Rattle.nd_types.specs.Table.{Table, type_at, width, carrier}
+use Rattle.nd_types.specs.Table.{Table, type_at, width}
 use Rattle.nd_types.specs.Layout.{parts, hoists, align_of}
 use Rattle.nd_graph.specs.declared.item.Home.{Home}
 use Rattle.nd_graph.specs.Tree as tree
@@ -19,15 +19,14 @@ use Rattle.nd_graph.specs.Tree.{Tree, Trees, node, none, more, Label, count, nod
 use Rattle.nd_graph.specs.Agreement.{Agreement}
 use Rattle.nd_graph.specs.Setting.{unread}
 use Rattle.nd_graph.specs.Nodes.{TypedNode, nodes_of, child_types, child_agreements, first_agreements, rest_agreements}
-use Rattle.nd_graph.specs.Deferral.{Pending, pointer, pointer_by, home_pointers}
-use Rattle.nd_grammar.specs.declared.reason.Reason.{Reason}
-use Rattle.nd_grammar.specs.Entry.{Kind, Entry, Align, Max, Offset, Actual, Number, Num, Tag, Text, Context}
+use Rattle.nd_graph.specs.Deferral.{Pending, pointer, pointer_by}
+use Rattle.nd_grammar.specs.Entry.{Kind, Entry, Align, Offset, Actual, Number, Num, Tag, Text, Context}
 use Rattle.nd_grammar.specs.InPlace.{child_tests}
-use Rattle.nd_grammar.specs.Reader.{Progress, Names, Read, ReadAll, is_stopped, pass, pass_all, taken, number_in, value_in, text_in, attributes_in, identifier_in, read_if, read_list, tree_nodes, read_children, read_array, read_text, read_union, read_tagged, read_pointer, read_context, read_number, read_by, read_in_place, read_hoisted, read_whole, bound_or}
+use Rattle.nd_grammar.specs.Reader.{Progress, Names, Read, ReadAll, is_stopped, pass, taken, number_in, value_in, text_in, attributes_in, identifier_in, read_if, read_list, tree_nodes, read_children, read_array, read_text, read_tagged, read_context, read_number, read_by, read_in_place, bound_or}
 use Rattle.nd_grammar.proofs.Mapped.{in_parts}
-use Rattle.nd_grammar.proofs.ReaderInPlace.{Fine, Readable, AreRead, list_read, Reads, in_place_read}
+use Rattle.nd_grammar.proofs.ReaderInPlace.{Readable, list_read, Reads, in_place_read}
 use Rattle.nd_grammar.proofs.ReaderNames.{Extends, extends_itself, extends_twice, Linked, linked_pass, linked_all, PointersOk, no_pointers_ok, pointers_joined}
-use Rattle.nd_grammar.proofs.ReaderNamed.{NamedOk, named_ok}
+use Rattle.nd_grammar.proofs.ReaderNamed.{named_ok}
 
 -- the pointers of one value, from node k on
 abbrev pub value_pointers : Table → Home → Option TypeDef → ℕ → List Agreement → Tree → List Pending

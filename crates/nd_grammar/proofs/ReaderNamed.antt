@@ -1,8 +1,8 @@
 -- The cell that a pointer's number names, and the names with it.
-use Rattle.std.proofs.Common.{◌≡◌, ℕ, ◌+◌, ◌<◌, ◌≤◌, zero, suc, Bool, true, false, ◌&&◌, List, [], ◌∷◌, ◌++◌, length, Option, Some, None, refl, ap, ap₂, sym, ◌∙◌, inl, inr, ◌⊎◌, arith, subst, append_assoc, length-append}
-use Rattle.std.specs.Prelude.{eqb, not, ◌||◌, map, cond}
-use Rattle.std.specs.List.{AllByRecursion, slice_get}
-use Rattle.std.proofs.lemmas.Bool.{eqb-true, eq-eqb, eqb-false, not-false}
+use Rattle.std.proofs.Common.{◌≡◌, ℕ, ◌+◌, ◌<◌, ◌≤◌, zero, suc, Bool, true, false, ◌&&◌, List, [], ◌∷◌, ◌++◌, length, Option, Some, None, refl, ap, sym, ◌∙◌, inl, inr, arith, subst, length-append}
+use Rattle.std.specs.Prelude.{eqb, not, cond}
+use Rattle.std.specs.List.{AllByRecursion}
+use Rattle.std.proofs.lemmas.Bool.{eqb-true, eq-eqb, not-false}
 use Rattle.std.proofs.lemmas.List.{append-nil}
 use Rattle.std.proofs.lemmas.Option.{same_Some, slice_get_within}
 use Rattle.nd_base.specs.declared.octets.Order.{Order}
@@ -16,13 +16,13 @@ use Rattle.nd_graph.specs.Setting.{Among, unread}
 use Rattle.nd_graph.specs.Deferral.{Pending}
 use Rattle.nd_grammar.specs.declared.reason.Reason.{Reason}
 use Rattle.nd_grammar.specs.declared.reason.Reason.TheVariants as reason
-use Rattle.nd_grammar.specs.Entry.{Kind, Entry, Align, Number, EntryAt, size_at}
+use Rattle.nd_grammar.specs.Entry.{Entry, Number, EntryAt}
 use Rattle.nd_grammar.specs.Represents.{piece}
 use Rattle.nd_grammar.specs.Refusal.{refusal, is_other, other_pointee}
 use Rattle.nd_grammar.specs.Reader.{Progress, Names, Named, here, pass, taken, taken_by, advanced, number_in, named, numbered, full_by, new_cell, fresh, with_cell}
 use Rattle.nd_grammar.proofs.ReaderSteps.{same_taken}
 use Rattle.nd_grammar.proofs.ReaderNodes.{accepted_kind, accepted_by, if_not}
-use Rattle.nd_grammar.proofs.ReaderNames.{cell_in, cell_kept, last_cell, numbered_cells, Extends, extends_itself, Linked, LinkedOne, seen_more, linked_pass, other_right, either_false, PointerAt, PointerOk, PointersOk}
+use Rattle.nd_grammar.proofs.ReaderNames.{cell_in, last_cell, numbered_cells, Extends, extends_itself, Linked, LinkedOne, seen_more, linked_pass, other_right, either_false, PointerAt, PointersOk}
 
 cell_within : (cells : List Referent) (c : ℕ) (x : Referent) → cell_in cells c ≡ Some x → c ≤ length cells
 cell_within cells zero x e = cc

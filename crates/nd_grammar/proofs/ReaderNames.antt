@@ -1,23 +1,19 @@
 -- The names that reading leaves: cells and numbers only grow, and a number that is met again has one type of referent.
-use Rattle.std.proofs.Common.{◌≡◌, ℕ, ◌+◌, ◌<◌, ◌≤◌, zero, suc, Bool, true, false, ◌&&◌, List, [], ◌∷◌, ◌++◌, length, Option, Some, None, refl, ap, ap₂, sym, ◌∙◌, inl, inr, ◌⊎◌, arith, subst, append_assoc, length-append}
-use Rattle.std.specs.Prelude.{eqb, not, ◌||◌, map, cond}
+use Rattle.std.proofs.Common.{◌≡◌, ℕ, ◌+◌, ◌<◌, ◌≤◌, zero, suc, Bool, true, false, List, [], ◌∷◌, ◌++◌, length, Option, Some, None, refl, ap, ap₂, sym, ◌∙◌, inl, inr, ◌⊎◌, arith, subst, append_assoc, length-append}
+use Rattle.std.specs.Prelude.{◌||◌, map}
 use Rattle.std.specs.List.{AllByRecursion, slice_get}
-use Rattle.std.proofs.lemmas.Bool.{eqb-true, eq-eqb, eqb-false, not-false}
 use Rattle.std.proofs.lemmas.List.{append-nil}
-use Rattle.std.proofs.lemmas.Option.{same_Some}
 use Rattle.nd_base.specs.declared.octets.Order.{Order}
 use Rattle.nd_types.specs.declared.types.Class.{Class}
 use Rattle.nd_types.specs.declared.types.Class.TheVariants.{Ref, Unique, Full}
-use Rattle.nd_types.specs.Number.{unsigned}
 use Rattle.nd_graph.specs.Tree.{Referent}
 use Rattle.nd_graph.specs.Setting.{Among, unread}
 use Rattle.nd_graph.specs.Deferral.{Pending}
 use Rattle.nd_graph.specs.Conforms.{AllEarlier, ShareOnlyIfFull}
-use Rattle.nd_graph.proofs.Apart.{all_append, all_left, all_right, all_weaker, all_among, among_left, among_right}
+use Rattle.nd_graph.proofs.Apart.{all_append, all_weaker}
 use Rattle.nd_grammar.specs.declared.reason.Reason.{Reason}
-use Rattle.nd_grammar.specs.Entry.{Kind, Entry, Number, EntryAt, size_at}
-use Rattle.nd_grammar.specs.Represents.{piece}
-use Rattle.nd_grammar.specs.Refusal.{refusal, is_other, other_pointee}
+use Rattle.nd_grammar.specs.Entry.{Entry, EntryAt}
+use Rattle.nd_grammar.specs.Refusal.{refusal, is_other}
 use Rattle.nd_grammar.specs.Reader.{Progress, Names, here, pass, pass_all, advanced}
 
 -- a cell by its number, from 1

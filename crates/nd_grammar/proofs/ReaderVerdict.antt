@@ -1,10 +1,9 @@
 -- What reading over entries comes to: either octets spell them all and refuse none, or they refuse one, and spell those before it.
-use Rattle.std.proofs.Common.{◌≡◌, ℕ, ◌+◌, ◌<◌, ◌≤◌, zero, suc, Bool, true, false, List, [], ◌∷◌, ◌++◌, length, Option, Some, None, refl, ap, ap₂, sym, ◌∙◌, arith, subst, append_assoc}
+use Rattle.std.proofs.Common.{◌≡◌, ℕ, ◌+◌, ◌≤◌, List, [], ◌∷◌, ◌++◌, length, Option, Some, None, refl, ap, ap₂, sym, ◌∙◌, subst, append_assoc}
 use Rattle.std.specs.Prelude.{ltb}
 use Rattle.std.specs.List.{AllByRecursion}
 use Rattle.std.proofs.lemmas.Bool.{ltb-false}
 use Rattle.std.proofs.lemmas.List.{append-nil}
-use Rattle.std.proofs.lemmas.Option.{same_Some}
 use Rattle.nd_base.specs.declared.octets.Order.{Order}
 use Rattle.nd_base.specs.declared.TheConstants.{STREAM_LIMIT}
 use Rattle.nd_graph.specs.declared.value.Graph.{Graph}
@@ -12,9 +11,9 @@ use Rattle.nd_graph.specs.Setting.{Setting}
 use Rattle.nd_graph.specs.Conforms.{IsPartial}
 use Rattle.nd_grammar.specs.declared.reason.Reason.{Reason}
 use Rattle.nd_grammar.specs.declared.reason.Reason.TheVariants as reason
-use Rattle.nd_grammar.specs.Entry.{Kind, Entry, size_at, EntryAt, end_to_end, end_of, full_cells}
+use Rattle.nd_grammar.specs.Entry.{Entry, size_at, EntryAt, end_to_end, end_of, full_cells}
 use Rattle.nd_grammar.specs.Represents.{piece, Spells, IsRendered, IsNumbering, Represents}
-use Rattle.nd_grammar.specs.Refusal.{refusal, kind_refusal, refused_if, is_long, Accepts}
+use Rattle.nd_grammar.specs.Refusal.{refusal, is_long, Accepts}
 use Rattle.nd_grammar.specs.Stream.{Stream}
 use Rattle.nd_grammar.specs.Bad.{Bad}
 use Rattle.nd_grammar.specs.Reader.{Progress, here, advanced, taken_by, pass, taken}

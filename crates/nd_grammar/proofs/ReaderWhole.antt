@@ -1,11 +1,11 @@
 -- The pointers of a whole value that is read.
-use Rattle.std.proofs.Common.{◌≡◌, ℕ, Bool, true, false, List, [], ◌++◌, Option, Some, None, refl, subst}
+use Rattle.std.proofs.Common.{ℕ, Bool, true, false, List}
 use Rattle.nd_base.specs.declared.octets.Order.{Order}
 use Rattle.nd_types.specs.Table.{Table, type_at}
 use Rattle.nd_types.specs.Layout.{hoists}
 use Rattle.nd_graph.specs.declared.item.Home.{Home}
 use Rattle.nd_grammar.specs.Entry.{Align, Max}
-use Rattle.nd_grammar.specs.Reader.{Progress, Names, Read, is_stopped, pass, taken, number_in, read_if, read_in_place, read_hoisted, read_whole}
+use Rattle.nd_grammar.specs.Reader.{Progress, Names, is_stopped, pass, taken, number_in, read_if, read_in_place, read_hoisted, read_whole}
 use Rattle.nd_grammar.proofs.ReaderInPlace.{Readable}
 use Rattle.nd_grammar.proofs.ReaderNames.{Linked}
 use Rattle.nd_grammar.proofs.ReaderLeaves.{Leaves, passes, in_place_leaves, unread_leaves}
