@@ -14,6 +14,7 @@ pub mod Identifiers
 pub mod ItemSizes
 pub mod KnownNodes
 pub mod LawExamples
+pub mod LawNext
 pub mod LawRing
 pub mod LegalPipes
 pub mod LegalReadable
