@@ -1,4 +1,4 @@
-"""Not built yet: encoding, the big order, and the value text of plain operations.
+"""Not built yet: encoding, and the value text of plain operations.
 
 When they are built this file loses its `next_`, and until_encode.py goes away.
 """
@@ -20,21 +20,13 @@ def encode(name, file, operation, text, order="little", chunk="1", **wanted):
     return Case(f"encode: {name}", words, {"t.idl": file}, text, **wanted)
 
 
-def decode(name, file, operation, input, order, **wanted):
-    """A case that decodes an operation of the file."""
-    words = ["decode", "t.idl", "-", operation, "in", order]
-    return Case(f"decode, both orders: {name}", words, {"t.idl": file}, input, **wanted)
-
-
 def both(type, name, value, big):
-    """One value in both orders, encoded and decoded; `big` is its octets in big order."""
+    """One value, encoded in both orders; `big` is its octets in big order."""
     file, text = interface(f"void f([in] {type} x);"), lines("values 1", "op f in", f"x = {value}")
     big, little = octets(big), octets(big)[::-1]
     return [
         encode(f"{type}, {name}, big", file, "f", text, "big", out=big),
         encode(f"{type}, {name}, little", file, "f", text, "little", out=little),
-        decode(f"{type}, {name}, big", file, "f", big, "big", out=text),
-        decode(f"{type}, {name}, little", file, "f", little, "little", out=text),
     ]
 
 
@@ -73,9 +65,6 @@ def chunk(word):
 VALUES = [
     encode("three integers, little", ADD, "add", ADD_TEXT, out=ADD_LITTLE),
     encode("three integers, big", ADD, "add", ADD_TEXT, "big", out=ADD_BIG),
-    decode("three integers, little", ADD, "add", ADD_LITTLE, "little", out=ADD_TEXT),
-    decode("three integers, big", ADD, "add", ADD_BIG, "big", out=ADD_TEXT),
-    decode("gap octets have any values, big", ADD, "add", octets("00000001 0002 AAAA 0000000000000003"), "big", out=ADD_TEXT),
     Case("encode: the example of decoding", ["encode", "add.idl", "-", "add", "in", "little", "1"],
          {"add.idl": example("add.idl")}, ADD_TEXT, example("add-1-2-3.octets")),
     encode("no parameters", PING, "ping", PING_TEXT),
@@ -99,14 +88,6 @@ VALUES = [
     *both("hyper", "least", -9223372036854775808, "8000000000000000"),
     *both("hyper", "greatest", 9223372036854775807, "7FFFFFFFFFFFFFFF"),
     *both("hyper", "different octets", 72623859790382856, "0102030405060708"),
-]
-
-OCTETS = [
-    decode("cut after 9, big", ADD, "add", ADD_BIG[:9], "big", notes=lines("refused: octets at 9: Truncated"), status=1),
-    decode("cut inside the gap, big", ADD, "add", ADD_BIG[:7], "big", notes=lines("refused: octets at 7: Truncated"), status=1),
-    decode("an octet too many, big", ADD, "add", ADD_BIG + b"\0", "big", notes=lines("refused: octets at 16: Trailing"), status=1),
-    decode("each octet by itself, big", ADD, "add", OneAtATime(ADD_BIG), "big", out=ADD_TEXT),
-    decode("closed input, big", ADD, "add", CLOSED, "big", notes=lines("read fault"), status=3),
 ]
 
 RANGES = [
@@ -295,5 +276,5 @@ WORDS = [
         "", "0", "01", "+1", "-1", " 1", "1 ", "1.0", "1x", "0x1", "1_000", "16777217", "18446744073709551617", "one", "١")),
 ]
 
-CASES = (VALUES + OCTETS + RANGES + TEXTS + HEADS + ROOTS + NUMBERS + OTHER_VALUES + TOKENS + CELLS + LENGTHS + OUTSIDE
+CASES = (VALUES + RANGES + TEXTS + HEADS + ROOTS + NUMBERS + OTHER_VALUES + TOKENS + CELLS + LENGTHS + OUTSIDE
          + WORDS)

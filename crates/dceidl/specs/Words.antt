@@ -2,7 +2,7 @@
 use Rattle.std.specs.Prelude.{ℕ, Bool, ◌&&◌, List, [], ◌∷◌, Option, None, Some, if◌then◌else◌, nat_eq, codes}
 use Rattle.std.specs.Cmp.Lexicographic.{pointwise}
 use Rattle.nd_base.specs.declared.octets.Order.{Order}
-use Rattle.nd_base.specs.declared.octets.Order.TheVariants.{Little}
+use Rattle.nd_base.specs.declared.octets.Order.TheVariants.{Little, Big}
 
 pub data Command : Type 0 where
   -- decode the input as the values of an operation's [in] parameters
@@ -16,7 +16,9 @@ is_word word text = pointwise nat_eq word text
 
 -- the order of octets that a word names
 abbrev pub order_of : List ℕ → Option Order
-order_of word = if is_word word (codes "little") then Some Little else None
+order_of word =
+    if is_word word (codes "little") then Some Little
+    else if is_word word (codes "big") then Some Big else None
 
 abbrev pub decode_with : List ℕ → List ℕ → Option Order → Option Command
 decode_with idl op None = None

@@ -16,14 +16,14 @@ pub use words::Words;
 
 /// What `--help` prints.
 pub const HELP: &str = "\
-usage: dceidl decode IDL - OP in little
+usage: dceidl decode IDL - OP in ORDER
        dceidl --help
        dceidl --version
 
 decode  reads the octets of an operation's [in] parameters from standard input, in NDR
         (C706, chapter 14), and writes their values to standard output as text.
         IDL is the path of a file of IDL, `-` stands for no attribute file, OP is the name
-        of an operation, and `little` is the order of an integer's octets.
+        of an operation, and ORDER, `little` or `big`, is the order of a number's octets.
 
 A refusal is one line on standard error. The status is 0 done, 1 octets refused,
 2 words refused, 3 input failed, 4 output failed, 5 memory wanting, 6 IDL refused,

@@ -120,6 +120,11 @@ fn values_are_decoded(rt: HostRuntime) {
             octets: b"\x01\0\0\0\x02\0\xaa\xaa\x03\0\0\0\0\0\0\0",
             ..DECODED
         },
+        Case {
+            words: &["decode", "t.idl", "-", "add", "in", "big"],
+            octets: b"\0\0\0\x01\0\x02\xaa\xaa\0\0\0\0\0\0\0\x03",
+            ..DECODED
+        },
         PINGED,
     ];
     expect_all(&rt, rt.alloc(), &cases);

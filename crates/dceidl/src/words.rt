@@ -1,6 +1,6 @@
 // The words of a command line, and the command that they are.
 ghost use Rattle.std.specs.Prelude.{◌≡◌, ℕ, List, [], ◌∷◌, ◌++◌, OnOk, OnErr, option_map};
-ghost use Rattle.dceidl.specs.Words.{command};
+ghost use Rattle.dceidl.specs.Words.{command, order_of};
 ghost use Rattle.dceidl.specs.Asked.{asked, asked_order};
 
 use nd_base::{Memory, Order};
@@ -90,13 +90,19 @@ fn short_command(word: &str) -> Option<Command<'_>>
 fn decode_command<'a>(idl: &'a str, op: &'a str, order: &str) -> Option<Command<'a>>
     ensures { option_map asked result ≡ asked_order idl.now op.now order.now }
 {
-    if order == "little" {
-        Some(Command::Decode {
-            idl,
-            op,
-            order: Order::Little,
-        })
-    } else {
-        None
+    match order_named(order) {
+        Some(order) => Some(Command::Decode { idl, op, order }),
+        None => None,
+    }
+}
+
+// The order of octets that a word names.
+fn order_named(word: &str) -> Option<Order>
+    ensures { result ≡ order_of word.now }
+{
+    match word {
+        "little" => Some(Order::Little),
+        "big" => Some(Order::Big),
+        _ => None,
     }
 }
