@@ -1,7 +1,7 @@
 -- The first place at which a graph does not conform, and why: four passes, each over the roots, then the cells, and in each
 -- home over its nodes. The first failing place of the first failing pass counts.
 -- `w` is a setting, `g` a graph, `x` a node, `p` and `q` are pointers, `c` and `d` numbers of cells, `t` is a subject, `a` an
--- agreement, `m` a misfit at its place, `r` its reason.
+-- agreement, `m` a misfit at its place, `h` its home, `n` its node, `r` its reason.
 use Rattle.std.specs.Prelude.{◌≡◌, ℕ, ◌+◌, ◌<◌, ◌≤◌, ℤ, Bool, true, false, not, ◌&&◌, ◌||◌, cond, eqb, ltb, List, [], ◌∷◌, length, Option, Some, None}
 use Rattle.std.specs.List.{list_any}
 use Rattle.std.specs.Ordering.{int_eq}
@@ -12,13 +12,15 @@ use Rattle.nd_graph.specs.declared.item.Home.{Home}
 use Rattle.nd_graph.specs.declared.item.Home.TheVariants as home
 use Rattle.nd_graph.specs.declared.misfit.MisfitReason.{MisfitReason}
 use Rattle.nd_graph.specs.declared.misfit.MisfitReason.TheVariants as misfit
+use Rattle.nd_graph.specs.declared.misfit.Misfit.{Misfit}
+use Rattle.nd_graph.specs.declared.misfit.Misfit.TheVariants as answer
 use Rattle.nd_graph.specs.Tree.{Tree}
 use Rattle.nd_graph.specs.Agreement.{Agreement, found_in}
 use Rattle.nd_graph.specs.Setting.{Setting, root_list, cell_home}
 use Rattle.nd_graph.specs.Nodes.{TypedNode}
 use Rattle.nd_graph.specs.Deferral.{Pending}
 use Rattle.nd_graph.specs.Homes.{HomeNode, root_nodes, cell_nodes, all_nodes, all_pointers}
-use Rattle.nd_graph.specs.Conforms.{Reached, subject}
+use Rattle.nd_graph.specs.Conforms.{Reached, subject, Conforms}
 use Rattle.nd_graph.specs.Misfit.{misfit_of}
 
 -- a place in a graph, a home and a node of it, and the reason for which the graph does not conform there
@@ -102,3 +104,13 @@ pub data IsFirstMisfit (w : Setting) (g : Graph) : MisfitAt → Type 0 where
       → IsFirstMisfit w g (record { home = cell_home c; node = 0; reason = misfit.Unreached })
   is_disagreeing : (m : MisfitAt) → first_local w g ≡ None → first_shared [] (all_pointers w g) ≡ None
       → ((c : ℕ) → 0 < c → c ≤ length g.cells → Reached w g c) → first_disagreeing w g ≡ Some m → IsFirstMisfit w g m
+
+-- what is answered of a graph is its first misfit; of want of memory nothing is said
+abbrev pub IsMisfit : Setting → Graph → Misfit → Type 0
+IsMisfit w g answer.Memory = Unit {0}
+IsMisfit w g (answer.At h n r) = IsFirstMisfit w g (record { home = h; node = n; reason = r })
+
+-- a place is answered only of a graph that does not conform
+abbrev pub IsOfNoFit : Setting → Graph → Misfit → Type 0
+IsOfNoFit w g answer.Memory = Unit {0}
+IsOfNoFit w g (answer.At h n r) = ¬ Conforms w g
