@@ -30,22 +30,22 @@ pub record MisfitAt : Type 0 where
   pub reason : MisfitReason
 
 -- the first misfit, if there is one, else the later
-abbrev or_later : Option MisfitAt → Option MisfitAt → Option MisfitAt
+abbrev pub or_later : Option MisfitAt → Option MisfitAt → Option MisfitAt
 or_later (Some m) later = Some m
 or_later None later = later
 
 -- a reason at the place of a node
-abbrev at_node : HomeNode → Option MisfitReason → Option MisfitAt
+abbrev pub at_node : HomeNode → Option MisfitReason → Option MisfitAt
 at_node x None = None
 at_node x (Some r) = Some (record { home = x.home; node = x.typed.node; reason = r })
 
 -- the first of these nodes for which a test has a reason
-abbrev first_node : (TypedNode → Option MisfitReason) → List HomeNode → Option MisfitAt
+abbrev pub first_node : (TypedNode → Option MisfitReason) → List HomeNode → Option MisfitAt
 first_node test [] = None
 first_node test (x ∷ xs) = or_later (at_node x (test x.typed)) (first_node test xs)
 
 -- another number of roots than the side has: at the first that is missing or too many
-abbrev root_count : ℕ → ℕ → Option MisfitAt
+abbrev pub root_count : ℕ → ℕ → Option MisfitAt
 root_count has due =
     cond (eqb has due) None (Some (record { home = home.Root (cond (ltb has due) has due); node = 0; reason = misfit.Shape }))
 
@@ -56,17 +56,17 @@ first_local w g =
     (or_later (root_count (length g.roots) (length (root_list w))) (first_node (misfit_of w.table g) (cell_nodes w.table 1 g.cells)))
 
 -- the class of full pointers
-abbrev is_full : Class → Bool
+abbrev pub is_full : Class → Bool
 is_full Full = true
 is_full _ = false
 
 -- two pointers name one cell
-abbrev same_cell : Option ℕ → Option ℕ → Bool
+abbrev pub same_cell : Option ℕ → Option ℕ → Bool
 same_cell (Some c) (Some d) = eqb c d
 same_cell _ _ = false
 
 -- two pointers name one cell and are not both full
-abbrev clashes : Pending → Pending → Bool
+abbrev pub clashes : Pending → Pending → Bool
 clashes p q = same_cell p.cell q.cell && not (is_full p.class && is_full q.class)
 
 -- the second pass: the first pointer that clashes with an earlier one
@@ -82,13 +82,13 @@ pub record IsFirstUnreached (w : Setting) (g : Graph) (c : ℕ) : Type 0 where
   pub earlier : (d : ℕ) → 0 < d → d < c → Reached w g d
 
 -- the first agreement that does not hold of a subject
-abbrev disagreement : Tree → List Agreement → Option MisfitReason
+abbrev pub disagreement : Tree → List Agreement → Option MisfitReason
 disagreement t [] = None
 disagreement t (a ∷ rest) =
     cond (int_eq a.wanted (found_in a.attr t)) (disagreement t rest) (Some (misfit.Disagrees a.wanted (found_in a.attr t)))
 
 -- the same of the subject, where there is one
-abbrev disagreement_of : List Tree → List Agreement → Option MisfitReason
+abbrev pub disagreement_of : List Tree → List Agreement → Option MisfitReason
 disagreement_of [] agreements = None
 disagreement_of (t ∷ ts) agreements = disagreement t agreements
 
