@@ -1,9 +1,9 @@
 -- The local pass, as it goes over a graph, finds the first local misfit.
-use Rattle.std.proofs.Common.{◌≡◌, ℕ, ◌+◌, ◌<◌, ◌≤◌, zero, suc, Bool, true, false, eqb, ltb, List, [], ◌∷◌, ◌++◌, length, drop, Option, Some, None, refl, ap, ap₂, sym, ◌∙◌, inl, inr, ◌⊎◌, arith, subst, cond, map}
+use Rattle.std.proofs.Common.{◌≡◌, ℕ, ◌+◌, ◌<◌, ◌≤◌, zero, suc, Bool, true, false, eqb, ltb, List, [], ◌∷◌, ◌++◌, length, drop, get_or, Option, Some, None, refl, ap, ap₂, sym, ◌∙◌, inl, inr, ◌⊎◌, arith, subst, cond, map}
 use Rattle.std.specs.List.{slice_get}
 use Rattle.std.proofs.lemmas.Bool.{ne_eqb, eq-eqb, lt-ltb, le-ltb, cond-true, cond-false}
 use Rattle.std.proofs.lemmas.List.{map-append}
-use Rattle.std.proofs.lemmas.Option.{same_Some}
+use Rattle.std.proofs.lemmas.Option.{same_Some, slice_get-get_or}
 use Rattle.nd_types.specs.declared.types.Operation.{Operation}
 use Rattle.nd_types.specs.Table.{Table, type_at}
 use Rattle.nd_types.specs.Roots.{Root}
@@ -13,6 +13,8 @@ use Rattle.nd_graph.specs.declared.item.Home.{Home}
 use Rattle.nd_graph.specs.declared.item.Home.TheVariants as home
 use Rattle.nd_graph.specs.declared.misfit.MisfitReason.{MisfitReason}
 use Rattle.nd_graph.specs.declared.misfit.MisfitReason.TheVariants as misfit
+use Rattle.nd_graph.specs.declared.misfit.Misfit.{Misfit}
+use Rattle.nd_graph.specs.declared.misfit.Misfit.TheVariants as answer
 use Rattle.nd_graph.specs.declared.local.NodeMisfit.{NodeMisfit}
 use Rattle.nd_graph.specs.Tree.{Tree, Trees, node, none, more, node_count, Referent}
 use Rattle.nd_graph.specs.Agreement.{Agreement}
@@ -22,7 +24,7 @@ use Rattle.nd_graph.specs.Variables.{root_agreements}
 use Rattle.nd_graph.specs.Homes.{HomeNode, in_home, root_nodes, cell_nodes}
 use Rattle.nd_graph.specs.Misfit.{misfit_of}
 use Rattle.nd_graph.specs.FirstMisfit.{MisfitAt, or_later, at_node, first_node, root_count, first_local}
-use Rattle.nd_graph.specs.Passes.{lone_node, or_next, at_number, first_in, at_home, first_in_home, first_in_roots, first_in_cells}
+use Rattle.nd_graph.specs.Passes.{Tells, lone_node, or_next, at_number, first_in, at_home, first_in_home, first_in_roots, first_in_cells}
 
 or_later-assoc : (a b c : Option MisfitAt) → or_later (or_later a b) c ≡ or_later a (or_later b c)
 or_later-assoc None b c = refl
@@ -114,14 +116,16 @@ module _ (w : Setting) (g : Graph) where
       sym (or_later-assoc a b c)
       ∙ ap₂ or_later (ap (or_later a) (ap₂ root_count m n) ∙ roots_first 0 (root_list w) g.roots) (cells_first w.table g 1 g.cells)
 
+drop-found : {X : Type 0} (xs : List X) (i : ℕ) (x : X) → slice_get xs i ≡ Some x → drop i xs ≡ x ∷ drop (suc i) xs
+drop-found [] i x e = cc
+drop-found (y ∷ ys) zero x e = ap (λ z. z ∷ ys) (same_Some y x e)
+drop-found (y ∷ ys) (suc i) x e = drop-found ys i x e
+
 -- a list from one of its places on
 pub drop-get : {X : Type 0} (xs : List X) (i : ℕ) (x : X) → slice_get xs i ≡ Some x → drop i xs ≡ x ∷ drop (i + 1) xs
-drop-get xs i x e = drop-found xs i x e ∙ ap (λ j. x ∷ drop j xs) (omega arith)
-  where
-    drop-found : {X : Type 0} (xs : List X) (i : ℕ) (x : X) → slice_get xs i ≡ Some x → drop i xs ≡ x ∷ drop (suc i) xs
-    drop-found [] i x e = cc
-    drop-found (y ∷ ys) zero x e = ap (λ z. z ∷ ys) (same_Some y x e)
-    drop-found (y ∷ ys) (suc i) x e = drop-found ys i x e
+drop-get xs i x e =
+    let s : suc i ≡ i + 1 = omega arith in
+    drop-found xs i x e ∙ ap (λ j. x ∷ drop j xs) s
 
 pub drop-past : {X : Type 0} (xs : List X) (i : ℕ) → length xs ≤ i → drop i xs ≡ []
 drop-past [] zero h = refl
@@ -156,3 +160,20 @@ module _ (table : Table) (g : Graph) where
       → first_in_cells table g (i + 1) (drop i xs)
       ≡ or_later (first_in_home table g (cell_home (i + 1)) x.of x.val) (first_in_cells table g (i + 1 + 1) (drop (i + 1) xs))
   cell_next xs i x e = ap (first_in_cells table g (i + 1)) (drop-get xs i x e)
+
+-- what is told of the first is told of both
+pub tells_first : (o a b : Option MisfitAt) (e : Misfit) → o ≡ or_later a b → Tells a e → Tells o e
+tells_first o a b answer.Memory s h = tt
+tells_first o a b (answer.At k n r) s h = s ∙ ap (λ x. or_later x b) h
+
+-- a wrong root is told
+pub told_shape : (o : Option MisfitAt) (i : ℕ) (e : Misfit) → e ≡ answer.At (home.Root i) 0 misfit.Shape → o ≡ shape_at i → Tells o e
+told_shape o i e s h = subst (Tells o) (sym s) h
+
+-- where the first has none, both have what the later has
+pub later_left : (o a b : Option MisfitAt) → o ≡ or_later a b → a ≡ None → o ≡ b
+later_left o a b s h = s ∙ ap (λ x. or_later x b) h
+
+-- a root that a walk gives is the next of the walk
+pub given_root : (rs : List NamedRoot) (i n : ℕ) (r : NamedRoot) → i ≡ n → (n < length rs) × (r ≡ get_or rs n r) → slice_get rs i ≡ Some r
+given_root rs i n r e h = ap (slice_get rs) e ∙ slice_get-get_or rs n r h.0 ∙ ap Some (sym h.1)

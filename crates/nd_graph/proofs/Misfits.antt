@@ -1,5 +1,5 @@
 -- A graph conforms exactly if no pass finds a misfit, and a first misfit is the only one.
-use Rattle.std.proofs.Common.{◌≡◌, ℕ, ◌+◌, ◌<◌, ◌≤◌, zero, suc, ℤ, Bool, true, false, not, ◌&&◌, ◌||◌, eqb, ltb, List, [], ◌∷◌, ◌++◌, length, Option, Some, None, refl, ap, ap₂, sym, ◌∙◌, inl, inr, ◌⊎◌, arith, subst, cond}
+use Rattle.std.proofs.Common.{◌≡◌, ℕ, ◌+◌, ◌^◌, ◌<◌, ◌≤◌, zero, suc, ℤ, Bool, true, false, not, ◌&&◌, ◌||◌, eqb, ltb, List, [], ◌∷◌, ◌++◌, length, Option, Some, None, refl, ap, ap₂, sym, ◌∙◌, inl, inr, ◌⊎◌, arith, subst, cond}
 use Rattle.std.specs.List.{AllByRecursion, list_all, list_any}
 use Rattle.std.specs.Ordering.{int_eq}
 use Rattle.std.proofs.lemmas.Bool.{eqb-true, eq-eqb, cases_order, and_parts, and_right, or_parts, cond-true, cond-false}
@@ -8,6 +8,7 @@ use Rattle.std.proofs.lemmas.Option.{same_Some}
 use Rattle.nd_types.specs.declared.types.Class.{Class}
 use Rattle.nd_types.specs.declared.types.Class.TheVariants.{Ref, Unique, Full}
 use Rattle.nd_graph.specs.declared.value.Graph.{Graph}
+use Rattle.nd_graph.specs.declared.item.Home.TheVariants as home
 use Rattle.nd_graph.specs.declared.misfit.MisfitReason.{MisfitReason}
 use Rattle.nd_graph.specs.declared.misfit.MisfitReason.TheVariants as misfit
 use Rattle.nd_graph.specs.Tree as tree
@@ -66,7 +67,8 @@ count-none has due e = cond-true (eqb has due) None _ (eq-eqb has due e)
 pub none-count : (has due : ℕ) → root_count has due ≡ None → has ≡ due
 none-count has due e = go (eqb has due) refl e
   where
-    go : (b : Bool) → eqb has due ≡ b → cond b None (Some (record { home = _; node = 0; reason = misfit.Shape })) ≡ None → has ≡ due
+    go : (b : Bool) → eqb has due ≡ b
+        → cond b None (Some (record { home = home.Root (cond (ltb has due) has due); node = 0; reason = misfit.Shape })) ≡ None → has ≡ due
     go true f h = eqb-true has due f
     go false f h = cc
 
@@ -255,20 +257,20 @@ module _ (w : Setting) (g : Graph) where
       go (inr (inr gt)) = absurd (v.unreached (u.earlier d v.is_cell.0 gt))
 
   pub one_first_misfit : (m n : MisfitAt) → IsFirstMisfit w g m → IsFirstMisfit w g n → m ≡ n
-  one_first_misfit m n (is_local m e) (is_local n f) = same_Some m n (sym e ∙ f)
-  one_first_misfit m n (is_local m e) (is_shared n a f) = absurd (none_some (sym a ∙ e))
-  one_first_misfit m n (is_local m e) (is_unreached d a b v) = absurd (none_some (sym a ∙ e))
-  one_first_misfit m n (is_local m e) (is_disagreeing n a b r f) = absurd (none_some (sym a ∙ e))
-  one_first_misfit m n (is_shared m a e) (is_local n f) = absurd (none_some (sym a ∙ f))
-  one_first_misfit m n (is_shared m a e) (is_shared n b f) = same_Some m n (sym e ∙ f)
-  one_first_misfit m n (is_shared m a e) (is_unreached d b k v) = absurd (none_some (sym k ∙ e))
-  one_first_misfit m n (is_shared m a e) (is_disagreeing n b k r f) = absurd (none_some (sym k ∙ e))
-  one_first_misfit m n (is_unreached c a b u) (is_local n f) = absurd (none_some (sym a ∙ f))
-  one_first_misfit m n (is_unreached c a b u) (is_shared n k f) = absurd (none_some (sym b ∙ f))
+  one_first_misfit m n (is_local x e) (is_local y f) = same_Some _ _ (sym e ∙ f)
+  one_first_misfit m n (is_local x e) (is_shared y a f) = absurd (none_some (sym a ∙ e))
+  one_first_misfit m n (is_local x e) (is_unreached d a b v) = absurd (none_some (sym a ∙ e))
+  one_first_misfit m n (is_local x e) (is_disagreeing y a b r f) = absurd (none_some (sym a ∙ e))
+  one_first_misfit m n (is_shared x a e) (is_local y f) = absurd (none_some (sym a ∙ f))
+  one_first_misfit m n (is_shared x a e) (is_shared y b f) = same_Some _ _ (sym e ∙ f)
+  one_first_misfit m n (is_shared x a e) (is_unreached d b k v) = absurd (none_some (sym k ∙ e))
+  one_first_misfit m n (is_shared x a e) (is_disagreeing y b k r f) = absurd (none_some (sym k ∙ e))
+  one_first_misfit m n (is_unreached c a b u) (is_local y f) = absurd (none_some (sym a ∙ f))
+  one_first_misfit m n (is_unreached c a b u) (is_shared y k f) = absurd (none_some (sym b ∙ f))
   one_first_misfit m n (is_unreached c a b u) (is_unreached d k l v) =
       ap (λ i. record { home = cell_home i; node = 0; reason = misfit.Unreached }) (one_unreached c d u v)
-  one_first_misfit m n (is_unreached c a b u) (is_disagreeing n k l r f) = absurd (u.unreached (r c u.is_cell.0 u.is_cell.1))
-  one_first_misfit m n (is_disagreeing m a b r e) (is_local n f) = absurd (none_some (sym a ∙ f))
-  one_first_misfit m n (is_disagreeing m a b r e) (is_shared n k f) = absurd (none_some (sym b ∙ f))
-  one_first_misfit m n (is_disagreeing m a b r e) (is_unreached d k l v) = absurd (v.unreached (r d v.is_cell.0 v.is_cell.1))
-  one_first_misfit m n (is_disagreeing m a b r e) (is_disagreeing n k l s f) = same_Some m n (sym e ∙ f)
+  one_first_misfit m n (is_unreached c a b u) (is_disagreeing y k l r f) = absurd (u.unreached (r c u.is_cell.0 u.is_cell.1))
+  one_first_misfit m n (is_disagreeing x a b r e) (is_local y f) = absurd (none_some (sym a ∙ f))
+  one_first_misfit m n (is_disagreeing x a b r e) (is_shared y k f) = absurd (none_some (sym b ∙ f))
+  one_first_misfit m n (is_disagreeing x a b r e) (is_unreached d k l v) = absurd (v.unreached (r d v.is_cell.0 v.is_cell.1))
+  one_first_misfit m n (is_disagreeing x a b r e) (is_disagreeing y k l s f) = same_Some _ _ (sym e ∙ f)
