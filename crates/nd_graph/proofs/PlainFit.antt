@@ -113,8 +113,8 @@ module _ (table : Table) (simple : IsSimple table) where
   ungoverned (t ∷ types) ags n (more (node l ks) ts) h = (
     free_first ags h,
     subst (λ xs. AllByRecursion (λ (x : TypedNode). x.agreements ≡ []) (xs ++ nodes_of table types (rest_agreements ags) (n + 1 + node_count ks) ts))
-    (sym (no_kids t (n + 1) l ks (child_agreements (type_at table t) ks)))
-    (ungoverned types (rest_agreements ags) (n + 1 + node_count ks) ts (free_rest ags h)),
+        (sym (no_kids t (n + 1) l ks (child_agreements (type_at table t) ks)))
+        (ungoverned types (rest_agreements ags) (n + 1 + node_count ks) ts (free_rest ags h)),
   )
 
 -- a root of a plain operation
@@ -192,9 +192,10 @@ module _ (w : Setting) (g : Graph) (simple : IsSimple w.table) (plain : AllByRec
       let rest : List HomeNode = root_nodes w g (i + 1) rs vs in
       let alone : map (in_home (home.Root i)) (kids ++ []) ≡ [] =
       ap (λ xs. map (in_home (home.Root i)) (xs ++ [])) (no_kids w.table simple r.of 1 l ks (child_agreements (type_at w.table r.of) ks)) in
-      let later : AllByRecursion IsFine rest = subst (λ xs. AllByRecursion IsFine (xs ++ rest)) alone a.1 in
-      (value_of_type (type_at w.table r.of) h.0.0 l ks (fit_node w.table g (record { node = 0; of = r.of; agreements = ags; label = l; kids = ks }) a.0).shape,
-       subst (λ xs. AllByRecursion HasValue (xs ++ rest)) (sym alone) (root_values (i + 1) rs vs h.1 later))
+      let later : AllByRecursion IsFine rest = subst (λ xs. AllByRecursion IsFine (xs ++ rest)) alone a.1 in (
+        value_of_type (type_at w.table r.of) h.0.0 l ks (fit_node w.table g (record { node = 0; of = r.of; agreements = ags; label = l; kids = ks }) a.0).shape,
+        subst (λ xs. AllByRecursion HasValue (xs ++ rest)) (sym alone) (root_values (i + 1) rs vs h.1 later),
+      )
 
   -- the numbers of roots are values of the program
   pub plain_values : length g.cells ≡ 0 → first_local w g ≡ None

@@ -47,9 +47,13 @@ IsAgreed t a = found_in a.attr t ≡ a.wanted
 abbrev pub AgreesAt : Graph → TypedNode → Type 0
 AgreesAt g x = AllByRecursion (λ t. AllByRecursion (IsAgreed t) x.agreements) (subject g x)
 
+-- the nodes of each value are numbered in 32 bits
+abbrev pub FewNodes : List Tree → Type 0
+FewNodes ts = AllByRecursion (λ t. node_count (more t none) < 2 ^ 32) ts
+
 -- the nodes of each home are numbered in 32 bits
 abbrev pub HasFewNodes : Graph → Type 0
-HasFewNodes g = AllByRecursion (λ t. node_count (more t none) < 2 ^ 32) (g.roots ++ map (λ c. c.val) g.cells)
+HasFewNodes g = FewNodes (g.roots ++ map (λ c. c.val) g.cells)
 
 -- The graph conforms to its operation's side.
 pub record Conforms (w : Setting) (g : Graph) : Type 0 where

@@ -99,14 +99,14 @@ fn unreached(
     ensures first { IfErr result (λ e. (o : Operation) → slice_get interface.now.operations op ≡ Some o
         → TellsUnreached (setting_of interface.now o side) graph.now e) }
 {
-    if graph.cells.len() > 0 {
-        return Err(Misfit::At {
+    match graph.cells.get(0) {
+        None => Ok(()),
+        Some(_) => Err(Misfit::At {
             home: Home::Cell(CellId(1)),
             node: 0,
             reason: MisfitReason::Unreached,
-        });
+        }),
     }
-    Ok(())
 }
 
 // The fourth pass: the first node whose attributes state other numbers than are there. A plain interface has no attributes.
