@@ -2,7 +2,12 @@ pub mod Apart
 pub mod DeferralBridge
 pub mod DeferralExists
 pub mod DeferralLaws
+pub mod FewRoots
+pub mod LocalPass
+pub mod Misfits
 pub mod NodeFacts
 pub mod Orderly
+pub mod PlainFit
+pub mod Told
 pub mod Waiting
 pub mod WorkedFit
