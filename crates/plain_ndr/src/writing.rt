@@ -1,0 +1,59 @@
+// Numbers written one behind the other, each at a multiple of its width, with zeros in the gaps.
+ghost use Rattle.std.specs.Prelude.{◌≡◌, ℕ, ◌*◌, ◌≤◌, ℤ, List, length, map, replicate, IfOk};
+ghost use Rattle.nd_base.specs.declared.TheConstants.{STREAM_LIMIT};
+ghost use Rattle.nd_grammar.specs.Plain.{number, AreInRange, numbers_written, plain_end};
+
+use crate::numbers::gap_before;
+use nd_base::{Memory, Octets, Order};
+use nd_graph::{Val, Vals};
+use nd_types::Prim;
+use ndr_prim::{width_of, write_num};
+use std::alloc::Global;
+
+// The octets of numbers of these primitives.
+pub(crate) fn write_numbers(
+    alloc: Global,
+    order: Order,
+    prims: &[Prim],
+    roots: &Vals,
+) -> Result<Octets, Memory>
+    requires few { 16 * length prims.now ≤ STREAM_LIMIT }
+    requires numbers { (zs : List ℤ) × (roots.now ≡ map number zs) × AreInRange prims.now zs }
+    ensures { IfOk result (λ octets. (zs : List ℤ) → roots.now ≡ map number zs → octets ≡ numbers_written order prims.now 0 zs) }
+{
+    let mut octets = vec![in alloc; 0u8; end_of(prims)]?;
+    fill(order, prims, roots, &mut octets);
+    Ok(Octets::adopt(octets))
+}
+
+// Writes the numbers over zeros.
+fn fill(order: Order, prims: &[Prim], roots: &Vals, octets: &mut [u8])
+    requires zeros { octets.old ≡ replicate (plain_end prims.now 0) 0 }
+    requires numbers { (zs : List ℤ) × (roots.now ≡ map number zs) × AreInRange prims.now zs }
+    ensures { (zs : List ℤ) → roots.now ≡ map number zs → octets.new ≡ numbers_written order prims.now 0 zs }
+{
+    let mut at = 0;
+    for index in 0..prims.len() {
+        let Some(Val::Num(value)) = roots.get(index) else {
+            unreachable!()
+        };
+        let prim = prims[index];
+        let wide = width_of(prim);
+        let start = at + gap_before(at, wide);
+        at = start + wide;
+        write_num(order, prim, *value, &mut octets[start..at]);
+    }
+}
+
+// The place behind the last number.
+fn end_of(prims: &[Prim]) -> usize
+    requires few { 16 * length prims.now ≤ STREAM_LIMIT }
+    ensures { result ≡ plain_end prims.now 0 }
+{
+    let mut at = 0;
+    for prim in prims {
+        let wide = width_of(*prim);
+        at = at + gap_before(at, wide) + wide;
+    }
+    at
+}
