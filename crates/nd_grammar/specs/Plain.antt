@@ -64,7 +64,7 @@ plain_end (p ∷ ps) at = plain_end ps (at + gap at (width p) + width p)
 -- the octets that are written for numbers from a place on, each at the next multiple of its width, with zeros in the gaps
 abbrev pub numbers_written : Order → List Primitive → ℕ → List ℤ → List ℕ
 numbers_written order (p ∷ ps) at (z ∷ zs) =
-    replicate (gap at (width p)) 0 ++ written order p z ++ numbers_written order ps (at + gap at (width p) + width p) zs
+    replicate (gap at (width p)) 0 ++ (written order p z ++ numbers_written order ps (at + gap at (width p) + width p) zs)
 numbers_written order _ at _ = []
 
 -- The octets hold a number for each primitive, the n-th octet is the end of the last, and the graph is these numbers.
