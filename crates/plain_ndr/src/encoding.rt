@@ -36,9 +36,10 @@ pub fn encode(
         → Chosen (inputs_of interface.now o) order chunk fit.now.graph octets) }
     ensures within { IfOk result (λ octets. length octets ≤ STREAM_LIMIT) }
 {
+    let graph = fit.graph();
     let Some(operation) = interface.operations.get(fit.op() as usize) else {
         unreachable!()
     };
     let prims = primitives(alloc, &interface.types, &operation.params)?;
-    write_numbers(alloc, order, prims.as_slice(), &fit.graph().roots)
+    write_numbers(alloc, order, prims.as_slice(), &graph.roots)
 }
