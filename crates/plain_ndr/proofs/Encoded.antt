@@ -1,5 +1,5 @@
 -- The octets of the numbers of a fit are those that are written for its graph.
-use Rattle.std.proofs.Common.{◌≡◌, ℕ, ◌*◌, ◌≤◌, ℤ, List, [], length, Some, None, refl, ap, ap₂, sym, ◌∙◌, subst, map}
+use Rattle.std.proofs.Common.{◌≡◌, ℕ, ◌*◌, ◌≤◌, List, length, Some, None, ap, ap₂, sym, ◌∙◌, subst, map}
 use Rattle.std.specs.List.{slice_get}
 use Rattle.std.proofs.lemmas.Option.{same_Some}
 use Rattle.nd_base.specs.declared.octets.Order.{Order}
@@ -11,7 +11,6 @@ use Rattle.nd_types.specs.declared.types.Side.TheVariants as side
 use Rattle.nd_types.specs.Plain.{IsPlainInterface}
 use Rattle.nd_graph.specs.declared.value.Graph.{Graph}
 use Rattle.nd_graph.specs.Tree.{Tree, Referent}
-use Rattle.nd_graph.specs.Setting.{Setting}
 use Rattle.nd_graph.specs.Fitting.{Fitting, IsFit, setting_of}
 use Rattle.nd_graph.specs.Conforms.{Conforms}
 use Rattle.nd_grammar.specs.Chosen.{Chosen}

@@ -1,5 +1,5 @@
 -- One turn of the loops over numbers: the one that writes them over zeros, and the one that counts their octets.
-use Rattle.std.proofs.Common.{◌≡◌, ℕ, ◌+◌, ◌-◌, ◌*◌, ◌<◌, ◌≤◌, zero, suc, ℤ, pos, true, List, [], ◌∷◌, ◌++◌, length, Option, Some, None, refl, ap, ap₂, sym, ◌∙◌, subst, take, drop, get_or, map, arith, append_assoc, append-nil, add-one, length-drop}
+use Rattle.std.proofs.Common.{◌≡◌, ℕ, ◌+◌, ◌-◌, ◌*◌, ◌<◌, ◌≤◌, zero, suc, ℤ, pos, true, List, [], ◌∷◌, ◌++◌, length, Some, refl, ap, ap₂, sym, ◌∙◌, subst, take, drop, get_or, map, arith, append_assoc, append-nil, add-one, length-drop}
 use Rattle.std.specs.Prelude.{replicate}
 use Rattle.std.specs.List.{slice_get}
 use Rattle.std.proofs.Math.Seq.{drop-cons, take-add}
@@ -18,7 +18,6 @@ use Rattle.nd_graph.specs.Tree.{Tree}
 use Rattle.nd_grammar.specs.Entry.{gap}
 use Rattle.nd_grammar.specs.Plain.{AreInRange, number, numbers_written, plain_end}
 use Rattle.nd_grammar.proofs.PlainSteps.{start_of, end_of_number, end_small}
-use Rattle.nd_grammar.proofs.PlainWritten.{range_length}
 
 -- the number of the i-th primitive is there, and in its range
 pub number_there : (zs : List ℤ) (i : ℕ) → i < length zs → slice_get (map number zs) i ≡ Some (number (get_or zs i (pos 0)))

@@ -1,4 +1,4 @@
-use Rattle.std.proofs.Common.{◌≡◌, ◌+◌, ◌<◌, ◌≤◌, ℤ, pos, length, get_or, refl, ap, sym, ◌∙◌, subst, arith, rules}
+use Rattle.std.proofs.Common.{◌<◌, pos, length, get_or, refl, ap, ◌∙◌, arith, rules}
 use Rattle.std.proofs.lemmas.Int.{to_z-of_z}
 use mir.Val.{SFits}
 use mir.Syntax.{w128}
@@ -48,9 +48,11 @@ loop-index-preserved c =
     let long = range_length _ _ of.range in
     let h : c.loop-index.index < length of.numbers = omega (arith, c.loop-index-test.true, long) in
     let same = same_number _ of.numbers c.loop-index.index _ of.same h c.number_at-value.ensures in
-    let is = c.write_num.ensures ∙ ap (written c.args.order (get_or c.args.prims.now c.loop-index.index _)) (to_z-of_z w128 _ fits) in
-    (of, turn _ _ of.numbers c.loop-index.octets c.loop-index.index c.loop-index.at _ _ _ c.number_at-value.result _ _ long c.loop-index-test.true refl c.width_of-wide.ensures.value
-    c.gap_before.ensures same is refl f)
+    let is = c.write_num.ensures ∙ ap (written c.args.order (get_or c.args.prims.now c.loop-index.index _)) (to_z-of_z w128 _ fits) in (
+      of,
+      turn _ _ of.numbers c.loop-index.octets c.loop-index.index c.loop-index.at _ _ _ c.number_at-value.result _ _ long c.loop-index-test.true refl c.width_of-wide.ensures.value
+          c.gap_before.ensures same is refl f,
+    )
 
 pub returns : goal.returns
 returns c =
