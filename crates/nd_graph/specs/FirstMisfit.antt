@@ -110,7 +110,8 @@ abbrev pub IsMisfit : Setting → Graph → Misfit → Type 0
 IsMisfit w g answer.Memory = Unit {0}
 IsMisfit w g (answer.At h n r) = IsFirstMisfit w g (record { home = h; node = n; reason = r })
 
--- a place is answered only of a graph that does not conform
+-- a place is answered only of a graph that does not conform: with the other clauses, `fit` is Ok exactly where the graph conforms,
+-- but for want of memory
 abbrev pub IsOfNoFit : Setting → Graph → Misfit → Type 0
 IsOfNoFit w g answer.Memory = Unit {0}
 IsOfNoFit w g (answer.At h n r) = ¬ Conforms w g
