@@ -1,7 +1,7 @@
 -- When a graph conforms to a side of an operation, and what a partial graph is.
 -- `w` is a setting, `g` a graph, `p` and `q` are pointers, `c` and `b` numbers of cells, `x` is a node or a cell, `t` a tree,
 -- `l` a label, `a` an agreement.
-use Rattle.std.specs.Prelude.{◌≡◌, ℕ, ◌+◌, ◌^◌, ◌<◌, true, List, [], ◌∷◌, ◌++◌, length, Option, Some, None, map}
+use Rattle.std.specs.Prelude.{◌≡◌, ℕ, ◌+◌, ◌^◌, ◌<◌, true, List, [], ◌∷◌, ◌++◌, length, Some, None, map}
 use Rattle.std.specs.List.{list_all, AllByRecursion}
 use Rattle.nd_types.specs.declared.types.Class.TheVariants.{Full}
 use Rattle.nd_graph.specs.declared.value.Graph.{Graph}

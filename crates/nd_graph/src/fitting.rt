@@ -19,7 +19,8 @@ use std::alloc::Global;
 /// each home fewer than 2^32 nodes. Four passes go over the graph in this order, each over the roots and then the cells, and in
 /// each home over its nodes in order: nodes that have a misfit by themselves, cells that are shared, cells that are not reached,
 /// attributes that disagree (C706, 4.2.18 to 4.2.20). The first failing place of the first failing pass is answered. A wrong number
-/// of roots is a Shape at the first that is missing or too many, behind the misfits of the roots that are there. It takes no memory.
+/// of roots is a Shape at the first that is missing or too many, behind the misfits of the roots that are there. For a plain interface
+/// it takes no memory.
 pub fn fit(
     alloc: Global,
     interface: &Interface,

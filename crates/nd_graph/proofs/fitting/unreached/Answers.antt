@@ -1,4 +1,4 @@
-use Rattle.std.proofs.Common.{refl, arith}
+use Rattle.std.proofs.Common.{refl}
 use Rattle.std.proofs.lemmas.Option.{slice_get_within}
 use Rattle.nd_graph.specs.Fitting.{setting_of}
 use Rattle.nd_graph.proofs.PlainFit.{plain_side, first_unreached}
