@@ -19,6 +19,7 @@ pub mod LawRing
 pub mod LegalPipes
 pub mod LegalReadable
 pub mod LegalSides
+pub mod MadeTrees
 pub mod Mapped
 pub mod Matching
 pub mod Next
@@ -49,6 +50,7 @@ pub mod ReaderDirectory
 pub mod ReaderFinds
 pub mod ReaderInPlace
 pub mod ReaderLeaves
+pub mod ReaderMoves
 pub mod ReaderNamed
 pub mod ReaderNames
 pub mod ReaderNodes
