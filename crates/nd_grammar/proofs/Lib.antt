@@ -50,6 +50,8 @@ pub mod ReaderDirectory
 pub mod ReaderFinds
 pub mod ReaderInPlace
 pub mod ReaderLeaves
+pub mod ReaderOctets
+pub mod ReaderMakes
 pub mod ReaderMoves
 pub mod ReaderNamed
 pub mod ReaderNames
