@@ -19,6 +19,7 @@ pub mod LawRing
 pub mod LegalPipes
 pub mod LegalReadable
 pub mod LegalSides
+pub mod LegalUsable
 pub mod MadeTrees
 pub mod Mapped
 pub mod Matching
@@ -51,6 +52,7 @@ pub mod ReaderFinds
 pub mod ReaderInPlace
 pub mod ReaderLeaves
 pub mod ReaderOctets
+pub mod ReaderCells
 pub mod ReaderMakes
 pub mod ReaderMoves
 pub mod ReaderNamed
