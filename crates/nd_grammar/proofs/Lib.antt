@@ -61,6 +61,7 @@ pub mod ReaderNodes
 pub mod ReaderPlain
 pub mod ReaderPointers
 pub mod ReaderResponses
+pub mod ReaderStates
 pub mod ReaderSteps
 pub mod ReaderUnions
 pub mod ReaderVerdict
