@@ -108,7 +108,7 @@ fresh_covers to s n e c a b = ap Some (omega arith)
 more_cells : (m n : ℕ) → m ≤ n → (xs : List (ℕ × ℕ)) → AllByRecursion (NumberOk m) xs → AllByRecursion (NumberOk n) xs
 more_cells m n h xs a = all_weaker (NumberOk m) (NumberOk n) (λ x k. (k.0, k.1, omega (arith, k.2))) xs a
 
-new_makes : (to : ℕ) (s : Names) → NamedMakes s (new_cell to s)
+pub new_makes : (to : ℕ) (s : Names) → NamedMakes s (new_cell to s)
 new_makes to s = record {
   cells = omega (arith, one_more to s);
   covered = fresh_covers to s (length (with_cell to s).cells) (one_more to s);

@@ -135,10 +135,10 @@ module _ (w : Setting) (side : IsLegalSide w) (order : Order) (octets : List ℕ
     abbrev after : Reading
     after = read_referent w order octets false p c due s
 
-    read_so : WholeRead (cell_home c) p.to s.progress s.names referent
+    pub read_so : WholeRead (cell_home c) p.to s.progress s.names referent
     read_so = read_wholly (cell_home c) p.to state.usable.0 s.progress s.names
 
-    at_cell : PointerAt no_names s.names p c
+    pub at_cell : PointerAt no_names s.names p c
     at_cell = at_first taken state.apart.each
       where
         at_first : (taken : List Pending) → AllByRecursion (PointerOk no_names s.names) (taken ++ p ∷ ps) → PointerAt no_names s.names p c
@@ -151,7 +151,7 @@ module _ (w : Setting) (side : IsLegalSide w) (order : Order) (octets : List ℕ
     blank_then : the_cell.val ≡ unread
     blank_then = state.blank c the_cell at_cell.there.1 free
 
-    cell_then : cell_in referent.names.cells c ≡ Some the_cell
+    pub cell_then : cell_in referent.names.cells c ≡ Some the_cell
     cell_then = subst (λ u. cell_in u c ≡ Some the_cell) (sym read_so.extends.cells) (kept s.names.cells read_so.extends.new c at_cell.there.1)
       where
         kept : (cells new : List Referent) (k : ℕ) → cell_in cells k ≡ Some the_cell → cell_in (cells ++ new) k ≡ Some the_cell
