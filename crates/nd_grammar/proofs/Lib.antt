@@ -62,6 +62,7 @@ pub mod ReaderPlain
 pub mod ReaderPointers
 pub mod ReaderResponses
 pub mod ReaderStates
+pub mod ReaderRoots
 pub mod ReaderTurns
 pub mod ReaderSteps
 pub mod ReaderUnions

@@ -64,16 +64,16 @@ pub joined_due : (xs ps : List Pending) (ds : List Due) → map due_referent xs 
 joined_due [] ps ds = refl
 joined_due (x ∷ xs) ps ds = ap (λ u. due_referent x ∷ u) (joined_due xs ps ds)
 
-one_longer : (vs : List Tree) (v : Tree) → length (vs ++ v ∷ []) ≡ suc (length vs)
+pub one_longer : (vs : List Tree) (v : Tree) → length (vs ++ v ∷ []) ≡ suc (length vs)
 one_longer [] v = refl
 one_longer (u ∷ vs) v = ap suc (one_longer vs v)
 
-at_end : (vs : List Tree) (v : Tree) (later : List Tree) → slice_get ((vs ++ v ∷ []) ++ later) (length vs) ≡ Some v
+pub at_end : (vs : List Tree) (v : Tree) (later : List Tree) → slice_get ((vs ++ v ∷ []) ++ later) (length vs) ≡ Some v
 at_end [] v later = refl
 at_end (u ∷ vs) v later = at_end vs v later
 
 -- what stands for a root, where it is known
-root_turn : (w : Setting) (g : Graph) (i : ℕ) (x : Standing) (done : Placed_cells) (due : List Due) (steps : List Step) → standing_root w g i ≡ x
+pub root_turn : (w : Setting) (g : Graph) (i : ℕ) (x : Standing) (done : Placed_cells) (due : List Due) (steps : List Step) → standing_root w g i ≡ x
     → AreFree (root_cell x.home) done → Deferral w g (root_cell x.home ++ done) (due_of w.table x ++ due) steps
     → Deferral w g done (due_root i ∷ due) (root_stands i ∷ steps)
 root_turn w g i x done due steps e f d =
@@ -138,7 +138,7 @@ module _ (w : Setting) (side : IsLegalSide w) (order : Order) (octets : List ℕ
     pub paid_for : 4 * (length ps' + n') + 4 + paid s.progress ≤ 4 * (length ps + n) + paid s'.progress
 
   -- cells that stand are there
-  placed_there : (s : Reading) (taken ps : List Pending) (n : ℕ) → S s taken ps n → (c : ℕ) → IsPlaced s.done c
+  pub placed_there : (s : Reading) (taken ps : List Pending) (n : ℕ) → S s taken ps n → (c : ℕ) → IsPlaced s.done c
       → (x : Referent) × (cell_in s.names.cells c ≡ Some x) × (c ≤ length s.names.cells)
   placed_there s taken ps n st c h =
       let (q, m, e, f) = st.named c h in
@@ -235,10 +235,10 @@ module _ (w : Setting) (side : IsLegalSide w) (order : Order) (octets : List ℕ
       abbrev behind : Reading
       behind = read_referent w order octets false p c due s
 
-      R_so : WholeRead w side order octets all (cell_home c) p.to s.progress s.names R
+      pub R_so : WholeRead w side order octets all (cell_home c) p.to s.progress s.names R
       R_so = read_so w side order octets all s taken p ps n c due state is_cell free
 
-      settled_before : (g : Graph) → ((k : ℕ) → IsPlaced s.done k → cell_at g k ≡ cell_tree (cell_in (set c R.tree R.names.cells) k)) → (k : ℕ) → IsPlaced s.done k
+      pub settled_before : (g : Graph) → ((k : ℕ) → IsPlaced s.done k → cell_at g k ≡ cell_tree (cell_in (set c R.tree R.names.cells) k)) → (k : ℕ) → IsPlaced s.done k
           → cell_at g k ≡ cell_tree (cell_in s.names.cells k)
       settled_before g h k pl =
           let (x, i, j) = placed_there s taken (p ∷ ps) n state k pl in
@@ -246,10 +246,10 @@ module _ (w : Setting) (side : IsLegalSide w) (order : Order) (octets : List ℕ
           let e2 : cell_in R.names.cells k ≡ Some x = ap (λ u. cell_in u k) R_so.extends.cells ∙ cell_kept s.names.cells R_so.extends.new k x i in
           h k pl ∙ ap cell_tree (e1 ∙ e2 ∙ sym i)
 
-      value_settled : (g : Graph) → cell_at g c ≡ cell_tree (cell_in (set c R.tree R.names.cells) c) → cell_at g c ≡ R.tree
+      pub value_settled : (g : Graph) → cell_at g c ≡ cell_tree (cell_in (set c R.tree R.names.cells) c) → cell_at g c ≡ R.tree
       value_settled g h = h ∙ ap cell_tree (set_same c R.tree R.names.cells _ (cell_then w side order octets all s taken p ps n c due state is_cell free))
 
-      its_entries : (g : Graph) → cell_at g c ≡ R.tree → (nums : ℕ → ℕ) → Agree nums R.names.numbers
+      pub its_entries : (g : Graph) → cell_at g c ≡ R.tree → (nums : ℕ → ℕ) → Agree nums R.names.numbers
           → Follows order octets nums s.progress (standing_entries w.table (standing_cell g p c) ++ step_tests g p c) behind.progress
       its_entries g v nums a =
           subst (λ u. Follows order octets nums s.progress (whole_value w.table (cell_home c) p.to u ++ tests (cell_home c) 0 u p.agreements) behind.progress) (sym v)
