@@ -3,6 +3,7 @@ pub mod Carried
 pub mod Check
 pub mod ConformingPartial
 pub mod Counting
+pub mod EntriesFine
 pub mod Excluded
 pub mod FewItemsLaw
 pub mod Forms
