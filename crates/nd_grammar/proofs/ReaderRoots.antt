@@ -34,7 +34,8 @@ use Rattle.nd_grammar.proofs.ReaderNames.{cell_in, cell_kept, Extends, PointerOk
 use Rattle.nd_grammar.proofs.ReaderNamed.{NamedOk, own_cell, linked_cell}
 use Rattle.nd_grammar.proofs.ReaderMoves.{stopped, paid, Moves, NumbersOk, new_makes}
 use Rattle.nd_grammar.proofs.ReaderCells.{CellMade, no_names, more_pointers, root_more, put_between, blank_made, old_or_blank}
-use Rattle.nd_grammar.proofs.ReaderStates.{RootsMade, roots_made_more, Named, State, WholeRead, read_wholly, referent_state, referent_paid}
+use Rattle.nd_grammar.proofs.EntriesFine.{Fine}
+use Rattle.nd_grammar.proofs.ReaderStates.{Numbered, RootsMade, roots_made_more, Named, State, WholeRead, read_wholly, referent_state, referent_paid}
 use Rattle.nd_grammar.proofs.ReaderTurns.{Settled, More, Goes, goes_nowhere, goes_twice, Turn, joined_due, one_longer, at_end, root_turn, placed_there, pending_turn, settled_before, value_settled, its_entries, R_so}
 use Rattle.nd_grammar.proofs.MadeTrees.{MadeTree, MadeTrees, one_made, FitsAlone}
 use Rattle.nd_grammar.proofs.LegalUsable.{Usable, UsablePointer, pointee_usable, root_usable}
@@ -130,6 +131,8 @@ module _ (w : Setting) (side : IsLegalSide w) (order : Order) (octets : List ℕ
                     deferral = root_turn w g i x s.done due steps e tt d;
                     follows = λ nums q a f. subst (λ u. Follows order octets nums s.progress (standing_entries w.table u ++ flat_map (step_entries w g) steps) q) (sym e)
                         (follows_append order octets nums (whole_value w.table (home.Root i) r.of R.tree) (flat_map (step_entries w g) steps) s.progress R.progress q (R_reads.follows nums a) f);
+                    fine = λ xs k a. subst (λ u. AllByRecursion (Fine (Numbered xs)) (standing_entries w.table u ++ flat_map (step_entries w g) steps)) (sym e)
+                        (all_append (Fine (Numbered xs)) (whole_value w.table (home.Root i) r.of R.tree) (flat_map (step_entries w g) steps) (R_reads.fine state.linked xs k) a);
                   });
             };
             paid_for = omega (arith, z, R_reads.cost);
@@ -237,6 +240,8 @@ module _ (w : Setting) (side : IsLegalSide w) (order : Order) (octets : List ℕ
                     deferral = root_turn w g i x s.done due steps e (free, tt) d;
                     follows = λ nums q' a f. subst (λ u. Follows order octets nums s.progress (standing_entries w.table u ++ flat_map (step_entries w g) steps) q') (sym e)
                         (follows_append order octets nums (whole_value w.table (cell_home c) to.0 D.tree) (flat_map (step_entries w g) steps) s.progress D.progress q' (D_so.follows nums a) f);
+                    fine = λ xs k a. subst (λ u. AllByRecursion (Fine (Numbered xs)) (standing_entries w.table u ++ flat_map (step_entries w g) steps)) (sym e)
+                        (all_append (Fine (Numbered xs)) (whole_value w.table (cell_home c) to.0 D.tree) (flat_map (step_entries w g) steps) (D_so.fine first_state.linked xs k) a);
                   });
             };
             paid_for = omega (arith, z, D_so.cost);

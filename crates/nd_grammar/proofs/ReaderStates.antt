@@ -31,7 +31,8 @@ use Rattle.nd_grammar.proofs.LegalSides.{laid_out}
 use Rattle.nd_grammar.proofs.ReaderSteps.{Follows}
 use Rattle.nd_grammar.proofs.ReaderNodes.{Agree, Grown}
 use Rattle.nd_grammar.proofs.ReaderInPlace.{Readable, whole_read}
-use Rattle.nd_grammar.proofs.ReaderNames.{cell_in, last_cell, Extends, longer, Linked, linked_all, PointerAt, PointerOk, PointersOk}
+use Rattle.nd_grammar.proofs.EntriesFine.{Fine, FullOk, fine_whole}
+use Rattle.nd_grammar.proofs.ReaderNames.{cell_in, last_cell, numbered_cells, numbers_among, Extends, longer, Linked, linked_all, PointerAt, PointerOk, PointersOk}
 use Rattle.nd_grammar.proofs.ReaderNamed.{own_cell, linked_cell}
 use Rattle.nd_grammar.proofs.ReaderLeaves.{value_pointers}
 use Rattle.nd_grammar.proofs.ReaderWhole.{whole_leaves}
@@ -53,6 +54,17 @@ roots_made_more table [] [] r v e a m = cc
 roots_made_more table (q ∷ rs) [] r v e a m = (subst (λ u. MadeTrees table (u.of ∷ []) (more v none)) (sym (same_Some _ _ e)) m, tt)
 roots_made_more table [] (u ∷ vs) r v e a m = absurd a
 roots_made_more table (q ∷ rs) (u ∷ vs) r v e a m = (a.0, roots_made_more table rs vs r v e a.1 m)
+
+-- a cell that has one of these numbers
+abbrev pub Numbered : List (ℕ × ℕ) → ℕ → Type 0
+Numbered xs c = Among (numbered_cells xs) c
+
+full_ok : (s s' : Names) (xs : List (ℕ × ℕ)) → Grown s'.numbers xs → (ps : List Pending) → AllByRecursion (PointerOk s s') ps → AllByRecursion (FullOk (Numbered xs)) ps
+full_ok s s' xs g [] a = tt
+full_ok s s' xs g (p ∷ ps) a = (
+  (λ c f e. subst (λ u. Among (numbered_cells u) c) (sym g.1) (numbers_among g.0 s'.numbers c ((a.0 c e).full f))),
+  full_ok s s' xs g ps a.1,
+)
 
 module _ (w : Setting) (side : IsLegalSide w) (order : Order) (octets : List ℕ) (all : AreOctets octets) where
   -- each cell that stands was named by a pointer that was taken
@@ -88,6 +100,7 @@ module _ (w : Setting) (side : IsLegalSide w) (order : Order) (octets : List ℕ
     pub cells : length r.names.cells ≤ length s.cells + length (home_pointers w.table h t r.tree)
     pub covered : (c : ℕ) → length s.cells < c → c ≤ length r.names.cells → (x : Pending) × Among (home_pointers w.table h t r.tree) x × (x.cell ≡ Some c)
     pub usable : AllByRecursion (UsablePointer w.table) (home_pointers w.table h t r.tree)
+    pub fine : Linked order octets p s → (xs : List (ℕ × ℕ)) → Grown r.names.numbers xs → AllByRecursion (Fine (Numbered xs)) (whole_value w.table h t r.tree)
 
   abbrev table : Table
   table = w.table
@@ -118,6 +131,7 @@ module _ (w : Setting) (side : IsLegalSide w) (order : Order) (octets : List ℕ
         cells = k.cells;
         covered = k.covered;
         usable = pointers_usable w.table side.operations side.legal h t r.tree u;
+        fine = λ l xs g. fine_whole (Numbered xs) w.table h t r.tree (full_ok s r.names xs g (home_pointers w.table h t r.tree) (subst (PointersOk s r.names) (sym e) (b.pointers l 0 [])).each);
       }
 
   named_cell : (done : Placed_cells) (taken : List Pending) (p : Pending) (c : ℕ) → Named done taken → p.cell ≡ Some c → Named ((p.class, c) ∷ done) (taken ++ p ∷ [])

@@ -39,7 +39,8 @@ use Rattle.nd_grammar.proofs.ReaderNames.{cell_in, cell_kept, Extends, longer, L
 use Rattle.nd_grammar.proofs.ReaderNamed.{own_cell, linked_cell}
 use Rattle.nd_grammar.proofs.ReaderMoves.{paid, Moves, stays_there, all_moves, moves_twice, NumbersOk, NumberOk, new_makes}
 use Rattle.nd_grammar.proofs.ReaderCells.{CellMade, no_names, more_pointers, root_more, put_between, set, set_same, set_other, blank_made, old_or_blank}
-use Rattle.nd_grammar.proofs.ReaderStates.{RootsMade, roots_made_more, Named, State, WholeRead, read_wholly, referent_state, referent_paid, read_so, at_cell, cell_then}
+use Rattle.nd_grammar.proofs.EntriesFine.{Fine, fine_tests}
+use Rattle.nd_grammar.proofs.ReaderStates.{Numbered, RootsMade, roots_made_more, Named, State, WholeRead, read_wholly, referent_state, referent_paid, read_so, at_cell, cell_then}
 use Rattle.nd_grammar.proofs.MadeTrees.{MadeTree, MadeTrees, one_made}
 use Rattle.nd_grammar.proofs.LegalUsable.{Usable, UsablePointer, pointee_usable, root_usable}
 
@@ -95,6 +96,8 @@ module _ (w : Setting) (order : Order) (octets : List ℕ) where
     pub deferral : Deferral w g s.done due steps_now
     pub follows : (nums : ℕ → ℕ) (q : Progress) → Agree nums s'.names.numbers → Follows order octets nums s'.progress (flat_map (step_entries w g) steps) q
         → Follows order octets nums s.progress (flat_map (step_entries w g) steps_now) q
+    pub fine : (xs : List (ℕ × ℕ)) → Grown s'.names.numbers xs → AllByRecursion (Fine (Numbered xs)) (flat_map (step_entries w g) steps)
+        → AllByRecursion (Fine (Numbered xs)) (flat_map (step_entries w g) steps_now)
 
   -- from one state to a later one, over what is due
   pub record Goes (due : List Due) (s s' : Reading) : Type 0 where
@@ -106,7 +109,7 @@ module _ (w : Setting) (order : Order) (octets : List ℕ) where
   goes_nowhere s = record {
     settled = λ g h. h;
     grown = ([], refl);
-    adds = λ g h steps d. record { steps_now = steps; deferral = d; follows = λ nums q a f. f };
+    adds = λ g h steps d. record { steps_now = steps; deferral = d; follows = λ nums q a f. f; fine = λ xs k a. a };
   }
 
   pub goes_twice : (due : List Due) (s s' s'' : Reading) → Goes due s s' → Goes s'.due s' s'' → Goes due s s''
@@ -120,6 +123,7 @@ module _ (w : Setting) (order : Order) (octets : List ℕ) where
           steps_now = k.steps_now;
           deferral = k.deferral;
           follows = λ nums q e f. k.follows nums q (grown_agree nums s'.names.numbers s''.names.numbers b.grown e) (m.follows nums q e f);
+          fine = λ xs e f. k.fine xs (grown_twice s'.names.numbers s''.names.numbers xs b.grown e) (m.fine xs e f);
         });
   }
 
@@ -181,7 +185,7 @@ module _ (w : Setting) (side : IsLegalSide w) (order : Order) (octets : List ℕ
       goes = record {
         settled = still_settled s.progress;
         grown = ([], refl);
-        adds = λ g h steps d. record { steps_now = steps; deferral = at_null e d; follows = λ nums q a f. f };
+        adds = λ g h steps d. record { steps_now = steps; deferral = at_null e d; follows = λ nums q a f. f; fine = λ xs k a. a };
       };
       paid_for = omega arith;
     }
@@ -222,6 +226,7 @@ module _ (w : Setting) (side : IsLegalSide w) (order : Order) (octets : List ℕ
                   let v : cell_at g c ≡ cell_at (graph_of s.roots s.names) c = z.cells c h ∙ same_cell g c in
                   subst (λ u. Follows order octets nums s.progress (tests (cell_home c) 0 u p.agreements ++ flat_map (step_entries w g) steps) q) (sym v)
                   (follows_append order octets nums T (flat_map (step_entries w g) steps) s.progress (tested c) q (follows_tests order octets nums (cell_home c) 0 (cell_at (graph_of s.roots s.names) c) p.agreements s.progress) f));
+              fine = λ xs u a. all_append (Fine (Numbered xs)) (tests (cell_home c) 0 (cell_at g c) p.agreements) (flat_map (step_entries w g) steps) (fine_tests (Numbered xs) (cell_home c) 0 (cell_at g c) p.agreements) a;
             };
           };
           paid_for = omega (arith, m.paid_more);
@@ -256,6 +261,9 @@ module _ (w : Setting) (side : IsLegalSide w) (order : Order) (octets : List ℕ
           (follows_append order octets nums (whole_value w.table (cell_home c) p.to R.tree) (tests (cell_home c) 0 R.tree p.agreements) s.progress R.progress behind.progress
           (R_so.follows nums a) (follows_tests order octets nums (cell_home c) 0 R.tree p.agreements R.progress))
 
+      pub entries_fine : (g : Graph) → cell_at g c ≡ R.tree → (xs : List (ℕ × ℕ)) → Grown R.names.numbers xs → AllByRecursion (Fine (Numbered xs)) (standing_entries w.table (standing_cell g p c))
+      entries_fine g v xs k = subst (λ u. AllByRecursion (Fine (Numbered xs)) (whole_value w.table (cell_home c) p.to u)) (sym v) (R_so.fine state.linked xs k)
+
       referent_turn : due ≡ map due_referent ps ++ due_roots (length s.roots) n → Turn (due_referent p ∷ due) s (p ∷ ps) n behind
       referent_turn is =
           let new : List Pending = home_pointers w.table (cell_home c) p.to R.tree in
@@ -279,6 +287,10 @@ module _ (w : Setting) (side : IsLegalSide w) (order : Order) (octets : List ℕ
                     follows = λ nums q a f.
                         follows_append order octets nums (standing_entries w.table (standing_cell g p c) ++ step_tests g p c) (flat_map (step_entries w g) steps) s.progress behind.progress q
                         (its_entries g v nums a) f;
+                    fine = λ xs k a.
+                        all_append (Fine (Numbered xs)) (standing_entries w.table (standing_cell g p c) ++ step_tests g p c) (flat_map (step_entries w g) steps)
+                        (all_append (Fine (Numbered xs)) (standing_entries w.table (standing_cell g p c)) (step_tests g p c) (entries_fine g v xs k)
+                        (fine_tests (Numbered xs) (cell_home c) 0 (cell_at g c) p.agreements)) a;
                   });
             };
             paid_for = omega (arith, z, referent_paid w side order octets all s taken p ps n c due state is_cell free);
