@@ -55,6 +55,7 @@ pub mod ReaderLeaves
 pub mod ReaderOctets
 pub mod ReaderCells
 pub mod ReaderMakes
+pub mod ReaderPipes
 pub mod ReaderMoves
 pub mod ReaderNamed
 pub mod ReaderNames

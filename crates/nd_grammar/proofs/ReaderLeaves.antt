@@ -85,7 +85,7 @@ module _ (order : Order) (octets : List ℕ) (table : Table) (h : Home) where
   if_leaves read t n p s law false = law
   if_leaves read t n p s law true = unread_leaves (type_at table t) p s
 
-  list_leaves : (read : ℕ → ℕ → Progress → Names → Read) (types : List ℕ) → AllByRecursion (Leave read) types
+  pub list_leaves : (read : ℕ → ℕ → Progress → Names → Read) (types : List ℕ) → AllByRecursion (Leave read) types
       → (n : ℕ) (p : Progress) (s : Names) → AllLeave types p s (read_list table read types n p s)
   list_leaves read [] laws n p s = record { extends = extends_itself s; linked = λ l. l; pointers = λ l k ags. no_pointers_ok s s }
   list_leaves read (t ∷ types) laws n p s =

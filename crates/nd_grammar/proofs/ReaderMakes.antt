@@ -155,7 +155,7 @@ module _ (order : Order) (octets : List ℕ) (all : AreOctets octets) (table : T
       may (Some r) f true g e = inr (sym (laid.unfolds t) ∙ g)
       may (Some r) f false g e = cc
 
-  list_makes : (read : ℕ → ℕ → Progress → Names → Read) (types : List ℕ) → AllByRecursion (Make read) types
+  pub list_makes : (read : ℕ → ℕ → Progress → Names → Read) (types : List ℕ) → AllByRecursion (Make read) types
       → (n : ℕ) (p : Progress) (s : Names) → AllMake types p s (read_list table read types n p s)
   list_makes read [] laws n p s = record { made = tt; moves = stays_there order octets p; numbers = λ k. k; costs = λ k ags. costs_nothing p p s (stays_there order octets p) }
   list_makes read (t ∷ types) laws n p s =
