@@ -55,6 +55,8 @@ pub mod ReaderLeaves
 pub mod ReaderOctets
 pub mod ReaderCells
 pub mod ReaderMakes
+pub mod ReaderTests
+pub mod ReaderNumbering
 pub mod ReaderPipes
 pub mod ReaderMoves
 pub mod ReaderNamed
@@ -66,6 +68,7 @@ pub mod ReaderResponses
 pub mod ReaderStates
 pub mod ReaderRoots
 pub mod ReaderTurns
+pub mod ReaderStream
 pub mod ReaderSteps
 pub mod ReaderUnions
 pub mod ReaderVerdict

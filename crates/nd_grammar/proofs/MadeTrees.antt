@@ -156,16 +156,16 @@ module _ (g : Graph) where
     pub local : is_partial_node table g x ≡ true
     pub machine : has_machine_values x.label ≡ true
 
-  made_node : (table : Table) (n t : ℕ) (ags : List Agreement) (l : Label) (ks : Trees) (h : Home) → MadeNode table (type_at table t) l ks
+  made_node : (table : Table) (n t : ℕ) (ags ags' : List Agreement) (l : Label) (ks : Trees) (h : Home) → MadeNode table (type_at table t) l ks
       → count ks ≡ length (child_types (type_at table t) l ks)
-      → AllByRecursion (CellFits g.cells) (pointer_by (type_at table t) (is_pointer l) (cell_in l) h n ags)
+      → AllByRecursion (CellFits g.cells) (pointer_by (type_at table t) (is_pointer l) (cell_in l) h n ags')
       → IsPartialNode table (record { node = n; of = t; agreements = ags; label = l; kids = ks })
-  made_node table n t ags l ks h (inl e) c a = record {
+  made_node table n t ags ags' l ks h (inl e) c a = record {
     local = or_left (is_unread l) _ (ap is_unread e);
     machine = ap has_machine_values e;
   }
-  made_node table n t ags l ks h (inr f) c a =
-      let k : CellKnown g (type_at table t) l = label_known (type_at table t) l ks h n ags f.shape a in
+  made_node table n t ags ags' l ks h (inr f) c a =
+      let k : CellKnown g (type_at table t) l = label_known (type_at table t) l ks h n ags' f.shape a in
       record {
         local = or_right (is_unread l) _
             (and_from _ _ (and_from _ _ (and_from _ _ (and_from _ _ (and_from _ _ (and_from _ _ f.shape (eq-eqb (count ks) (length (child_types (type_at table t) l ks)) c))
@@ -180,20 +180,21 @@ module _ (g : Graph) where
       let (b, c) = all_flat_left f xs ys (all_right (CellFits g.cells) (f x) (flat_map f (xs ++ ys)) a) in
       (all_append (CellFits g.cells) (f x) (flat_map f xs) (all_left (CellFits g.cells) (f x) (flat_map f (xs ++ ys)) a) b, c)
 
-  -- the nodes of trees that are made, where their pointers' cells are there
-  pub made_nodes : (table : Table) (h : Home) (types : List ℕ) (ags : List (List Agreement)) (n : ℕ) (ts : Trees) → MadeTrees table types ts
-      → AllByRecursion (CellFits g.cells) (flat_map (pointer table h) (nodes_of table types ags n ts))
+  -- the nodes of trees that are made, where their pointers' cells are there, whatever agreements govern them
+  pub made_nodes : (table : Table) (h : Home) (types : List ℕ) (ags ags' : List (List Agreement)) (n : ℕ) (ts : Trees) → MadeTrees table types ts
+      → AllByRecursion (CellFits g.cells) (flat_map (pointer table h) (nodes_of table types ags' n ts))
       → AllByRecursion (IsPartialNode table) (nodes_of table types ags n ts)
-  made_nodes table h [] ags n none m a = tt
-  made_nodes table h [] ags n (more t ts) m a = absurd m
-  made_nodes table h (t ∷ types) ags n none m a = absurd m
-  made_nodes table h (t ∷ types) ags n (more (node l ks) ts) m a =
+  made_nodes table h [] ags ags' n none m a = tt
+  made_nodes table h [] ags ags' n (more t ts) m a = absurd m
+  made_nodes table h (t ∷ types) ags ags' n none m a = absurd m
+  made_nodes table h (t ∷ types) ags ags' n (more (node l ks) ts) m a =
       let d : Option TypeDef = type_at table t in
-      let own : List Pending = pointer_by d (is_pointer l) (cell_in l) h n (first_agreements ags) in
+      let own : List Pending = pointer_by d (is_pointer l) (cell_in l) h n (first_agreements ags') in
       let K : List TypedNode = nodes_of table (child_types d l ks) (child_agreements d ks) (n + 1) ks in
       let R : List TypedNode = nodes_of table types (rest_agreements ags) (n + 1 + node_count ks) ts in
-      let (b, c) = all_flat_left (pointer table h) K R (all_right (CellFits g.cells) own (flat_map (pointer table h) (K ++ R)) a) in (
-        made_node table n t (first_agreements ags) l ks h m.0 (made_count table (child_types d l ks) ks m.1) (all_left (CellFits g.cells) own (flat_map (pointer table h) (K ++ R)) a),
-        all_append (IsPartialNode table) K R (made_nodes table h (child_types d l ks) (child_agreements d ks) (n + 1) ks m.1 b)
-            (made_nodes table h types (rest_agreements ags) (n + 1 + node_count ks) ts m.2 c),
+      let R' : List TypedNode = nodes_of table types (rest_agreements ags') (n + 1 + node_count ks) ts in
+      let (b, c) = all_flat_left (pointer table h) K R' (all_right (CellFits g.cells) own (flat_map (pointer table h) (K ++ R')) a) in (
+        made_node table n t (first_agreements ags) (first_agreements ags') l ks h m.0 (made_count table (child_types d l ks) ks m.1) (all_left (CellFits g.cells) own (flat_map (pointer table h) (K ++ R')) a),
+        all_append (IsPartialNode table) K R (made_nodes table h (child_types d l ks) (child_agreements d ks) (child_agreements d ks) (n + 1) ks m.1 b)
+            (made_nodes table h types (rest_agreements ags) (rest_agreements ags') (n + 1 + node_count ks) ts m.2 c),
       )

@@ -122,7 +122,7 @@ set_pointers table n (suc i) v (y ∷ cells) x e b =
       is = ap (λ u. H ++ u) r.is ∙ sym (append_assoc H r.before _) ∙ ap (λ k. (H ++ r.before) ++ (home_pointers table (cell_home k) x.of v ++ r.behind)) z;
     }
 
-no_roots : (table : Table) (n : ℕ) (rs : List Root) → root_pointers table n rs [] ≡ []
+pub no_roots : (table : Table) (n : ℕ) (rs : List Root) → root_pointers table n rs [] ≡ []
 no_roots table n [] = refl
 no_roots table n (r ∷ rs) = refl
 

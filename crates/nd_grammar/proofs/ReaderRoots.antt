@@ -266,7 +266,7 @@ module _ (w : Setting) (side : IsLegalSide w) (order : Order) (octets : List ℕ
         subst (λ t. Turn w side order octets all (due_root i ∷ due) s ps (suc n) (read_root w order octets (type_at w.table t) (is_stopped s.progress.stop) i t due s)) (sym (ap root_type there))
         (root_by_type (type_at w.table r.of) refl (is_stopped s.progress.stop) refl)
 
-  few_before : (rs : List Root) → before_pipes rs ≤ length rs
+  pub few_before : (rs : List Root) → before_pipes rs ≤ length rs
   few_before [] = omega arith
   few_before (r ∷ rs) = go r.is_pipe (few_before rs)
     where
@@ -294,7 +294,7 @@ module _ (w : Setting) (side : IsLegalSide w) (order : Order) (octets : List ℕ
       inr (subst (λ u. Turn w side order octets all u s (p ∷ ps) n (read_next w order octets u s)) (sym e)
       (pending_turn w side order octets all s taken p ps n st (map due_referent ps ++ due_roots (length s.roots) n) refl p.cell refl))
 
-  stopped_few : (o : Option (ℕ × Reason)) → stopped o ≤ 1
+  pub stopped_few : (o : Option (ℕ × Reason)) → stopped o ≤ 1
   stopped_few None = omega arith
   stopped_few (Some r) = omega arith
 
