@@ -51,6 +51,7 @@ pub mod ReaderArrays
 pub mod ReaderDirectory
 pub mod ReaderFinds
 pub mod ReaderInPlace
+pub mod ReaderLaws
 pub mod ReaderLeaves
 pub mod ReaderOctets
 pub mod ReaderCells
