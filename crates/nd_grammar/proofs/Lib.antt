@@ -36,6 +36,8 @@ pub mod NextStream
 pub mod NextWhole
 pub mod OneGraph
 pub mod OneRefusal
+pub mod Passed
+pub mod PassedTrees
 pub mod Placed
 pub mod Plain
 pub mod PlainBad
@@ -56,6 +58,7 @@ pub mod ReaderLeaves
 pub mod ReaderOctets
 pub mod ReaderCells
 pub mod ReaderMakes
+pub mod ReaderReached
 pub mod ReaderTests
 pub mod ReaderNumbering
 pub mod ReaderPipes

@@ -139,7 +139,7 @@ module _ (g : Graph) where
   pointer_known (Some (def.Prim q)) p ks h n ags s a = cc
   pointer_known (Some _) p ks h n ags s a = cc
 
-  label_known : (d : Option TypeDef) (l : Label) (ks : Trees) (h : Home) (n : ℕ) (ags : List Agreement) → has_shape d l ks ≡ true
+  pub label_known : (d : Option TypeDef) (l : Label) (ks : Trees) (h : Home) (n : ℕ) (ags : List Agreement) → has_shape d l ks ≡ true
       → AllByRecursion (CellFits g.cells) (pointer_by d (is_pointer l) (cell_in l) h n ags) → CellKnown g d l
   label_known d (tree.Ptr p) ks h n ags s a = pointer_known d p ks h n ags s a
   label_known d (tree.Num z) ks h n ags s a = no_cell d (tree.Num z) refl
@@ -173,7 +173,7 @@ module _ (g : Graph) where
         machine = k.small f.machine;
       }
 
-  all_flat_left : (f : TypedNode → List Pending) (xs ys : List TypedNode) → AllByRecursion (CellFits g.cells) (flat_map f (xs ++ ys))
+  pub all_flat_left : (f : TypedNode → List Pending) (xs ys : List TypedNode) → AllByRecursion (CellFits g.cells) (flat_map f (xs ++ ys))
       → AllByRecursion (CellFits g.cells) (flat_map f xs) × AllByRecursion (CellFits g.cells) (flat_map f ys)
   all_flat_left f [] ys a = (tt, a)
   all_flat_left f (x ∷ xs) ys a =
