@@ -147,7 +147,7 @@ no_names = record { cells = []; numbers = [] }
 turned : (p q : Pending) → ShareOnlyIfFull p q → ShareOnlyIfFull q p
 turned p q m c e f = let r = m c f e in (r.1, r.0)
 
-cell_positive : (cells : List Referent) (c : ℕ) (x : Referent) → cell_in cells c ≡ Some x → 0 < c
+pub cell_positive : (cells : List Referent) (c : ℕ) (x : Referent) → cell_in cells c ≡ Some x → 0 < c
 cell_positive cells zero x e = cc
 cell_positive cells (suc i) x e = omega arith
 

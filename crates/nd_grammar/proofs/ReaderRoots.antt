@@ -35,6 +35,7 @@ use Rattle.nd_grammar.proofs.ReaderNamed.{NamedOk, own_cell, linked_cell}
 use Rattle.nd_grammar.proofs.ReaderMoves.{stopped, paid, Moves, NumbersOk, new_makes}
 use Rattle.nd_grammar.proofs.ReaderCells.{CellMade, no_names, more_pointers, root_more, put_between, blank_made, old_or_blank}
 use Rattle.nd_grammar.proofs.EntriesFine.{Fine}
+use Rattle.nd_grammar.proofs.ReaderReached.{reached_root}
 use Rattle.nd_grammar.proofs.ReaderStates.{Numbered, RootsMade, roots_made_more, Named, State, WholeRead, read_wholly, referent_state, referent_paid}
 use Rattle.nd_grammar.proofs.ReaderTurns.{Settled, More, Goes, goes_nowhere, goes_twice, Turn, joined_due, one_longer, at_end, root_turn, placed_there, pending_turn, settled_before, value_settled, its_entries, R_so}
 use Rattle.nd_grammar.proofs.MadeTrees.{MadeTree, MadeTrees, one_made, FitsAlone}
@@ -93,6 +94,7 @@ module _ (w : Setting) (side : IsLegalSide w) (order : Order) (octets : List ℕ
                 (all_append (CellMade w.table) s.names.cells R_reads.extends.new state.cells_made (blank_made w.table R_reads.extends.new R_reads.extends.blank));
             within = R_reads.moves.within state.within;
             few = omega (arith, l, state.few, R_reads.cells, R_reads.cost);
+            reached = reached_root w s.roots s.names R.names R_reads.extends.new R_reads.extends.cells R.tree new e1 R_reads.covered state.reached;
           }
         where
           blank_then : (c : ℕ) (x : Referent) → ¬ IsPlaced s.done c → (cell_in s.names.cells c ≡ Some x) ⊎ (x.val ≡ unread) → x.val ≡ unread
@@ -185,6 +187,7 @@ module _ (w : Setting) (side : IsLegalSide w) (order : Order) (octets : List ℕ
             cells_made = all_append (CellMade w.table) s.names.cells (one ∷ []) state.cells_made (blank_made w.table (one ∷ []) (refl, tt));
             within = state.within;
             few = omega (arith, l, state.few, m.cells);
+            reached = reached_root w s.roots s.names (with_cell to.0 s.names) (one ∷ []) refl its_tree (q ∷ []) e1 (λ k a b. (q, inl refl, m.covered k a b)) state.reached;
           }
         where
           blank_then : (k : ℕ) (x : Referent) → ¬ IsPlaced s.done k → (cell_in s.names.cells k ≡ Some x) ⊎ (x.val ≡ unread) → x.val ≡ unread

@@ -38,7 +38,8 @@ use Rattle.nd_grammar.proofs.ReaderLeaves.{value_pointers}
 use Rattle.nd_grammar.proofs.ReaderWhole.{whole_leaves}
 use Rattle.nd_grammar.proofs.ReaderMoves.{paid, Moves, all_moves, moves_twice, NumbersOk}
 use Rattle.nd_grammar.proofs.ReaderMakes.{Costs, whole_makes}
-use Rattle.nd_grammar.proofs.ReaderCells.{CellMade, Inserted, no_names, value_is, more_pointers, root_more, put_between, pointers_kept, numbers_kept, linked_kept, value_length, set, set_same, set_other, set_made, set_pointers, blank_made, old_or_blank}
+use Rattle.nd_grammar.proofs.ReaderReached.{AllReached, reached_set}
+use Rattle.nd_grammar.proofs.ReaderCells.{cell_positive, CellMade, Inserted, no_names, value_is, more_pointers, root_more, put_between, pointers_kept, numbers_kept, linked_kept, value_length, set, set_same, set_other, set_made, set_pointers, blank_made, old_or_blank}
 use Rattle.nd_grammar.proofs.MadeTrees.{MadeTrees, one_made}
 use Rattle.nd_grammar.proofs.LegalUsable.{Usable, UsablePointer, small_bounds, usable_readable, pointers_usable}
 
@@ -85,6 +86,7 @@ module _ (w : Setting) (side : IsLegalSide w) (order : Order) (octets : List ℕ
     pub cells_made : AllByRecursion (CellMade w.table) s.names.cells
     pub within : s.progress.at ≤ length octets
     pub few : 4 * length s.names.cells ≤ paid s.progress + 4 * length s.roots
+    pub reached : AllReached w s.roots s.names
 
   -- what a whole value that is read says
   pub record WholeRead (h : Home) (t : ℕ) (p : Progress) (s : Names) (r : Read) : Type 0 where
@@ -234,6 +236,8 @@ module _ (w : Setting) (side : IsLegalSide w) (order : Order) (octets : List ℕ
       cells_made = cells_then;
       within = moves_then.within (read_so.moves.within state.within);
       few = omega (arith, state.few, read_so.cells, read_so.cost, moves_then.paid_more, value_length c referent.tree referent.names);
+      reached = reached_set w s.roots s.names referent.names read_so.extends.new read_so.extends.cells c the_cell (cell_positive s.names.cells c the_cell at_cell.there.1) at_cell.within at_cell.there.1
+          blank_then p.to at_cell.there.2 referent.tree read_so.covered state.reached;
     }
 
     -- what was paid for the new pointers

@@ -45,6 +45,7 @@ use Rattle.nd_grammar.proofs.ReaderNodes.{Agree, Grown}
 use Rattle.nd_grammar.proofs.ReaderNames.{cell_in, numbered_cells, PointerAt, PointerOk, PointersOk, no_pointers_ok}
 use Rattle.nd_grammar.proofs.ReaderMoves.{stopped, paid, Moves, all_moves, NumbersOk}
 use Rattle.nd_grammar.proofs.ReaderCells.{CellMade, no_names, no_roots}
+use Rattle.nd_grammar.proofs.ReaderReached.{AllReached, reached_more}
 use Rattle.nd_grammar.proofs.ReaderStates.{RootsMade, Numbered, State}
 use Rattle.nd_grammar.proofs.ReaderTurns.{Settled, More, Goes}
 use Rattle.nd_grammar.proofs.ReaderRoots.{Done, due_done, few_before, stopped_few}
@@ -201,6 +202,7 @@ module _ (w : Setting) (side_of : IsLegalSide w) (order : Order) (octets : List 
     cells_made = tt;
     within = omega arith;
     few = omega arith;
+    reached = λ c a b. absurd (omega arith);
   }
     where
       no_cell : (c : ℕ) (x : Referent) → cell_in [] c ≡ Some x → x.val ≡ unread
@@ -278,14 +280,19 @@ module _ (w : Setting) (side_of : IsLegalSide w) (order : Order) (octets : List 
   pub few_cells : length H.names.cells < 2 ^ 32
   few_cells = omega (arith, within_limit, head.state.few, stopped_few w side_of order octets all H.progress.stop, as_many_roots, few_roots, roots_few w side_of)
 
-  -- the pointers of all
-  pub all_ok : PointersOk no_names H.names (all_pointers w G)
-  all_ok =
-      let e1 : root_pointers w.table 0 rl (H.roots ++ Pipes.roots) ≡ root_pointers w.table 0 rl H.roots =
+  root_parts_are : root_pointers w.table 0 rl (H.roots ++ Pipes.roots) ≡ root_pointers w.table 0 rl H.roots
+  root_parts_are =
       root_parts w.table 0 rl H.roots Pipes.roots
       ∙ ap₂ (λ k m. root_pointers w.table 0 rl H.roots ++ root_pointers w.table k (drop m rl) Pipes.roots) (ap (λ u. 0 + u) as_many_roots ∙ omega arith) as_many_roots
-      ∙ ap (λ u. root_pointers w.table 0 rl H.roots ++ u) piped.bare ∙ append-nil (root_pointers w.table 0 rl H.roots) in
-      subst (λ u. PointersOk no_names H.names (u ++ cell_pointers w.table 1 H.names.cells)) (sym e1) head.state.pointers
+      ∙ ap (λ u. root_pointers w.table 0 rl H.roots ++ u) piped.bare ∙ append-nil (root_pointers w.table 0 rl H.roots)
+
+  -- every cell is reached
+  pub all_reached : AllReached w (H.roots ++ Pipes.roots) H.names
+  all_reached = reached_more w H.roots Pipes.roots H.names root_parts_are head.state.reached
+
+  -- the pointers of all
+  pub all_ok : PointersOk no_names H.names (all_pointers w G)
+  all_ok = subst (λ u. PointersOk no_names H.names (u ++ cell_pointers w.table 1 H.names.cells)) (sym root_parts_are) head.state.pointers
 
   cell_of : (p : Pending) → PointerOk no_names H.names p → CellFits H.names.cells p
   cell_of p ok c e = let a : PointerAt no_names H.names p c = ok c e in by_number c a.there.1 a.within

@@ -169,6 +169,7 @@ module _ (w : Setting) (side : IsLegalSide w) (order : Order) (octets : List ℕ
       cells_made = state.cells_made;
       within = m.within state.within;
       few = omega (arith, state.few, m.paid_more);
+      reached = state.reached;
     }
 
     still_settled : (q : Progress) (g : Graph) → Settled g (left q) → Settled g s
