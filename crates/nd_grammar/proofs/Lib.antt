@@ -82,6 +82,7 @@ pub mod RootsMeeting
 pub mod SameByMap
 pub mod Spelt
 pub mod Standings
+pub mod StreamMet
 pub mod WorkedArrays
 pub mod WorkedDirectory
 pub mod WorkedLarge
