@@ -122,7 +122,7 @@ module _ (order : Order) (octets : List ℕ) (g : Graph) (nums : ℕ → ℕ) (l
   kind_accepted seen s at m (Number Ref to c) os a b = refl
   kind_accepted seen s at m (Number Unique to c) os a b = refl
   kind_accepted seen s at m (Test q wanted found) os a b =
-      ap (λ t. cond t None (disagrees_at (tested_at seen q m.home m.node) (reason.Disagrees wanted found))) (int_same wanted found a)
+      ap (λ t. cond t None (disagrees_at at (tested_at seen q m.home m.node) (reason.Disagrees wanted found))) (int_same wanted found a)
   kind_accepted seen s at m (Align n) os a b = refl
   kind_accepted seen s at m (Max v) os a b = refl
   kind_accepted seen s at m (Chunk v) os a b = refl

@@ -163,7 +163,7 @@ before_is_plain (q ∷ rs) i r e h = go q.is_pipe refl i e h (before_is_plain rs
     go false f zero e h k = ap (λ u. u.is_pipe) (sym (same_Some _ _ e)) ∙ f
     go false f (suc i) e h k = k i r e (omega arith)
 
-all_at : {X : Type 0} (P : X → Type 0) (xs : List X) (i : ℕ) (x : X) → AllByRecursion P xs → slice_get xs i ≡ Some x → P x
+pub all_at : {X : Type 0} (P : X → Type 0) (xs : List X) (i : ℕ) (x : X) → AllByRecursion P xs → slice_get xs i ≡ Some x → P x
 all_at P [] i x a e = cc
 all_at P (y ∷ ys) zero x a e = subst P (same_Some _ _ e) a.0
 all_at P (y ∷ ys) (suc i) x a e = all_at P ys i x a.1 e

@@ -38,7 +38,7 @@ carried None h = cc
 carried (Some _) h = cc
 
 module _ (table : Table) (operations : List Operation) (legal : IsLegal table operations) where
-  named_known : (t : ℕ) (d : TypeDef) → type_at table t ≡ Some d → AllByRecursion (Known table) ((parts (Some d) ++ tag_of d) ++ pointee_of d)
+  pub named_known : (t : ℕ) (d : TypeDef) → type_at table t ≡ Some d → AllByRecursion (Known table) ((parts (Some d) ++ tag_of d) ++ pointee_of d)
   named_known t d e =
       let h : list_all (is_in_table table) ((parts (Some d) ++ tag_of d) ++ pointee_of d) ≡ true = passes_at (λ u. list_all (is_in_table table) (named_types u)) table t d legal.types_known e in
       all_weaker _ (Known table) (λ u k. in_table table u (ltb-true u (length table) k)) ((parts (Some d) ++ tag_of d) ++ pointee_of d) (all_of_list _ _ h)

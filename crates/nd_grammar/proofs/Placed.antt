@@ -30,14 +30,14 @@ among_split (y ∷ xs) ys x (inr a) = go (among_split xs ys x a)
     go (inl b) = inl (inr b)
     go (inr b) = inr b
 
-closed_at : {A B C : Type 0} → A ⊎ B → (A → C) → (B → C) → C
+pub closed_at : {A B C : Type 0} → A ⊎ B → (A → C) → (B → C) → C
 closed_at (inl a) f g = f a
 closed_at (inr b) f g = g b
 
-none_some : {X : Type 0} (o : Option ℕ) (k : ℕ) → o ≡ None → o ≡ Some k → X
+pub none_some : {X : Type 0} (o : Option ℕ) (k : ℕ) → o ≡ None → o ≡ Some k → X
 none_some o k e f = absurd (cc)
 
-one_among : (k b : ℕ) → Among (k ∷ []) b → k ≡ b
+pub one_among : (k b : ℕ) → Among (k ∷ []) b → k ≡ b
 one_among k b (inl e) = sym e
 one_among k b (inr a) = absurd a
 
@@ -127,7 +127,7 @@ module _ (w : Setting) (g : Graph) where
       go (inr a) = inr a
 
   module _ (new done : Placed_cells) (x : Step) (steps : List Step) (of_step : (c : ℕ) → IsPlaced new c → Among (placed x) c) where
-    before_step : (c : ℕ) → Covers (new ++ done) steps c → Covers done (x ∷ steps) c
+    pub before_step : (c : ℕ) → Covers (new ++ done) steps c → Covers done (x ∷ steps) c
     before_step c (inr a) = inr (among_right (placed x) (all_placed steps) c a)
     before_step c (inl h) = go (standing_split new done c h)
       where
@@ -156,12 +156,12 @@ module _ (w : Setting) (g : Graph) where
       → AllByRecursion (DueCovered done steps) ds
   rest_of_due done steps ps ds a = all_right (DueCovered done steps) (map due_referent ps) ds a
 
-  of_root : (h : Home) (c : ℕ) → IsPlaced (root_cell h) c → Among (own h) c
+  pub of_root : (h : Home) (c : ℕ) → IsPlaced (root_cell h) c → Among (own h) c
   of_root (home.Root i) c a = absurd a
   of_root (home.Cell b) c (inl e) = inl e
   of_root (home.Cell b) c (inr a) = absurd a
 
-  home_is : (h : Home) (b : ℕ) → Among (own h) b → h ≡ cell_home b
+  pub home_is : (h : Home) (b : ℕ) → Among (own h) b → h ≡ cell_home b
   home_is (home.Root i) b a = absurd a
   home_is (home.Cell c) b (inl e) = ap (λ u. home.Cell (record { 0 = u })) (sym e)
   home_is (home.Cell c) b (inr a) = absurd a

@@ -23,7 +23,7 @@ below_2 order [] e h = cc
 below_2 order (a ∷ []) e h = cc
 below_2 order (a ∷ b ∷ c ∷ r) e h = cc
 
-below_4 : (order : Order) (os : List ℕ) → length os ≡ 4 → AreOctets os → unsigned order os < 2 ^ 32
+pub below_4 : (order : Order) (os : List ℕ) → length os ≡ 4 → AreOctets os → unsigned order os < 2 ^ 32
 below_4 Big (a ∷ b ∷ c ∷ d ∷ []) e h = omega arith
 below_4 Little (a ∷ b ∷ c ∷ d ∷ []) e h = omega arith
 below_4 order [] e h = cc
@@ -77,12 +77,12 @@ value_in_range order UnsignedLong os e h = let b = below_4 order os e h in plain
 value_in_range order Hyper os e h = signed_8 (unsigned order os) (below_8 order os e h)
 value_in_range order UnsignedHyper os e h = let b = below_8 order os e h in plain 18446744073709551615 (unsigned order os) (omega arith)
 
-drop_octets : (n : ℕ) (os : List ℕ) → AreOctets os → AreOctets (drop n os)
+pub drop_octets : (n : ℕ) (os : List ℕ) → AreOctets os → AreOctets (drop n os)
 drop_octets zero os h = h
 drop_octets (suc n) [] h = tt
 drop_octets (suc n) (b ∷ os) h = drop_octets n os h.1
 
-take_octets : (n : ℕ) (os : List ℕ) → AreOctets os → AreOctets (take n os)
+pub take_octets : (n : ℕ) (os : List ℕ) → AreOctets os → AreOctets (take n os)
 take_octets zero os h = tt
 take_octets (suc n) [] h = tt
 take_octets (suc n) (b ∷ os) h = (h.0, take_octets n os h.1)

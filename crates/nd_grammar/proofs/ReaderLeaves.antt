@@ -33,10 +33,10 @@ abbrev pub value_pointers : Table → Home → Option TypeDef → ℕ → List A
 value_pointers table h d k ags (node l ks) =
     pointer_by d (is_pointer l) (cell_in l) h k ags ++ flat_map (pointer table h) (nodes_of table (child_types d l ks) (child_agreements d ks) (k + 1) ks)
 
-after_value : Tree → ℕ → ℕ
+pub after_value : Tree → ℕ → ℕ
 after_value (node l ks) k = k + 1 + node_count ks
 
-first_value : (table : Table) (h : Home) (t : ℕ) (types : List ℕ) (ags : List (List Agreement)) (k : ℕ) (v : Tree) (ts : Trees)
+pub first_value : (table : Table) (h : Home) (t : ℕ) (types : List ℕ) (ags : List (List Agreement)) (k : ℕ) (v : Tree) (ts : Trees)
     → flat_map (pointer table h) (nodes_of table (t ∷ types) ags k (more v ts))
     ≡ value_pointers table h (type_at table t) k (first_agreements ags) v ++ flat_map (pointer table h) (nodes_of table types (rest_agreements ags) (after_value v k) ts)
 unfolding after_value
@@ -47,7 +47,7 @@ first_value table h t types ags k (node l ks) ts =
     let R : List TypedNode = nodes_of table types (rest_agreements ags) (k + 1 + node_count ks) ts in
     ap (λ u. own ++ u) (flat_map-append (pointer table h) K R) ∙ sym (append_assoc own (flat_map (pointer table h) K) (flat_map (pointer table h) R))
 
-no_pointer_unread : (d : Option TypeDef) (h : Home) (k : ℕ) (ags : List Agreement) → pointer_by d false None h k ags ≡ []
+pub no_pointer_unread : (d : Option TypeDef) (h : Home) (k : ℕ) (ags : List Agreement) → pointer_by d false None h k ags ≡ []
 no_pointer_unread (Some (def.Pointer c to)) h k ags = refl
 no_pointer_unread None h k ags = refl
 no_pointer_unread (Some _) h k ags = refl
@@ -85,7 +85,7 @@ module _ (order : Order) (octets : List ℕ) (table : Table) (h : Home) where
   if_leaves read t n p s law false = law
   if_leaves read t n p s law true = unread_leaves (type_at table t) p s
 
-  list_leaves : (read : ℕ → ℕ → Progress → Names → Read) (types : List ℕ) → AllByRecursion (Leave read) types
+  pub list_leaves : (read : ℕ → ℕ → Progress → Names → Read) (types : List ℕ) → AllByRecursion (Leave read) types
       → (n : ℕ) (p : Progress) (s : Names) → AllLeave types p s (read_list table read types n p s)
   list_leaves read [] laws n p s = record { extends = extends_itself s; linked = λ l. l; pointers = λ l k ags. no_pointers_ok s s }
   list_leaves read (t ∷ types) laws n p s =

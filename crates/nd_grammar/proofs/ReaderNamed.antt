@@ -86,7 +86,7 @@ module _ (order : Order) (octets : List ℕ) where
     one_more : (s : Names) → length (s.cells ++ record { of = to; val = unread } ∷ []) ≡ length s.cells + 1
     one_more s = length-append s.cells (record { of = to; val = unread } ∷ []) ∙ omega arith
 
-    linked_cell : (p : Progress) (s : Names) → Linked order octets p s → Linked order octets p (with_cell to s)
+    pub linked_cell : (p : Progress) (s : Names) → Linked order octets p s → Linked order octets p (with_cell to s)
     linked_cell p s l = record {
       all = subst (λ u. AllByRecursion (LinkedOne order octets u (s.cells ++ record { of = to; val = unread } ∷ [])) s.numbers) (append-nil p.seen)
           (seen_more order octets p.seen [] s.cells (record { of = to; val = unread } ∷ []) s.numbers l.all);
@@ -105,7 +105,7 @@ module _ (order : Order) (octets : List ℕ) where
             not_full = λ f m. (let b = numbered_within p.seen s.cells s.numbers l.all (fresh to s) m in absurd (omega arith));
           })
 
-      own_cell : NamedOk k p s (new_cell to s)
+      pub own_cell : NamedOk k p s (new_cell to s)
       own_cell = record {
         extends = grown_extends s [] tt;
         linked = λ l. linked_pass order octets p (with_cell to s) (E k (Some (fresh to s))) (linked_cell p s l);

@@ -209,7 +209,7 @@ cross : (a b c : Names) (p : Pending) (qs : List Pending) → PointerOk a b p �
 cross a b c p [] x ys = tt
 cross a b c p (q ∷ qs) x ys = (share_later a b c p q x ys.0, cross a b c p qs x ys.1)
 
-joined_apart : (a b c : Names) (ps qs : List Pending) → AllByRecursion (PointerOk a b) ps → AllByRecursion (PointerOk b c) qs
+pub joined_apart : (a b c : Names) (ps qs : List Pending) → AllByRecursion (PointerOk a b) ps → AllByRecursion (PointerOk b c) qs
     → AllEarlier ShareOnlyIfFull ps → AllEarlier ShareOnlyIfFull qs → AllEarlier ShareOnlyIfFull (ps ++ qs)
 joined_apart a b c [] qs x y u v = v
 joined_apart a b c (p ∷ ps) qs x y u v =

@@ -148,7 +148,7 @@ module _ (order : Order) (octets : List ℕ) (map : List Pair) (one : OneToOne m
     kind_alike (Number Full to c) os =
         ap (λ b. refused_if (not (eqb (unsigned order os) 0) && b) (at, reason.OtherType) None) (others_alike xs ys seen (unsigned order os) to)
     kind_alike (Test a wanted found) os =
-        ap (λ o. cond (int_eq wanted found) None (disagrees_at o (reason.Disagrees wanted found))) (tests_alike xs ys seen a m.home n.home homes m.node n.node node_count)
+        ap (λ o. cond (int_eq wanted found) None (disagrees_at at o (reason.Disagrees wanted found))) (tests_alike xs ys seen a m.home n.home homes m.node n.node node_count)
     kind_alike (Number Ref to c) os = refl
     kind_alike (Number Unique to c) os = refl
     kind_alike (Offset true v) os = refl

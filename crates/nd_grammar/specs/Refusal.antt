@@ -90,10 +90,10 @@ refused_if true r o = Some r
 refused_if false r o = o
 
 -- An agreement that fails is refused at the count or tag that it speaks of. Under a legal table this always stands among the
--- earlier entries, since an attribute stands only on a type that has what it speaks of.
-abbrev pub disagrees_at : Option ℕ → Reason → Option (ℕ × Reason)
-disagrees_at None why = None
-disagrees_at (Some at) why = Some (at, why)
+-- earlier entries, since an attribute stands only on a type that has what it speaks of; else it is refused where it is tried.
+abbrev pub disagrees_at : ℕ → Option ℕ → Reason → Option (ℕ × Reason)
+disagrees_at at None why = Some (at, why)
+disagrees_at at (Some place) why = Some (place, why)
 
 -- Why an entry is refused, by its kind, where its octets are all there. An enumerated value or tag is an enumerator, else EnumValue.
 -- A tag selects an arm, else NoArm. A text's offset is 0, else TextOffset; its actual count is at least 1, else TextEmpty. Offset
@@ -114,7 +114,7 @@ kind_refusal order octets earlier at m (Text text) os = text_refusal at os
 kind_refusal order octets earlier at m (Number Full to cell) os =
     refused_if (not (eqb (unsigned order os) 0) && is_other order octets earlier (unsigned order os) to) (at, reason.OtherType) None
 kind_refusal order octets earlier at m (Test a wanted found) os =
-    cond (int_eq wanted found) None (disagrees_at (tested_at earlier a m.home m.node) (reason.Disagrees wanted found))
+    cond (int_eq wanted found) None (disagrees_at at (tested_at earlier a m.home m.node) (reason.Disagrees wanted found))
 kind_refusal order octets earlier at m _ os = None
 
 -- The place and the reason for which octets refuse an entry that stands behind earlier ones, or none. First TooLong, at the limit;
