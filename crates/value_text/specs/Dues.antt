@@ -56,6 +56,11 @@ pub record IsMismatch (d : Due) (text : List ℕ) (left : ℕ) (why : TextReason
   pub other : (t : Token) → next ≡ Cut t → Fits d t → ⊥
   pub reason : IsOther d next why
 
+-- what comes next is not what is due, if not memory was wanting
+abbrev pub MismatchUnless : Due → List ℕ → Stop → Type 0
+MismatchUnless d text stop.Memory = Unit {0}
+MismatchUnless d text (stop.At left why) = IsMismatch d text left why
+
 -- why the text goes on where the graph of a plain side is whole
 abbrev pub IsSurplus : Lexeme → TextReason → Type 0
 IsSurplus next reason.BadToken = next ≡ Bad

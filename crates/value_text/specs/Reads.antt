@@ -1,6 +1,6 @@
 -- Which graph a text is read as, and where and why a text is that of no graph.
 -- `w` is a setting, `g` a graph, `t` a token, `ts` are tokens.
-use Rattle.std.specs.Prelude.{◌≡◌, ◌≢◌, ℕ, ◌+◌, ◌-◌, ◌<◌, ◌≤◌, Bool, ◌==◌, if◌then◌else◌, List, [], ◌∷◌, ◌++◌, length, take, map, reverse}
+use Rattle.std.specs.Prelude.{◌≡◌, ◌≢◌, ℕ, ◌+◌, ◌-◌, ◌<◌, ◌≤◌, Bool, ◌==◌, if◌then◌else◌, List, [], ◌∷◌, ◌++◌, length, take, map}
 use Rattle.nd_graph.specs.declared.value.Graph.{Graph}
 use Rattle.nd_graph.specs.Setting.{Setting}
 use Rattle.value_text.specs.declared.fault.TextReason.{TextReason}
@@ -8,7 +8,7 @@ use Rattle.value_text.specs.declared.fault.TextReason.TheVariants as reason
 use Rattle.value_text.specs.declared.fault.TextFault.{TextFault}
 use Rattle.value_text.specs.declared.fault.TextFault.TheVariants as fault
 use Rattle.value_text.specs.declared.TheConstants.{TEXT_LIMIT}
-use Rattle.value_text.specs.Tokens.{Token, Word, Cell, skip, uuid_due, IsCut, Begins}
+use Rattle.value_text.specs.Tokens.{Token, Word, Cell, skip, uuid_due, behind, IsCut, Begins}
 use Rattle.value_text.specs.Written.{Piece, Name, token_of, graph_pieces, graph_tokens}
 use Rattle.value_text.specs.Readable.{IsReadable}
 
@@ -88,7 +88,7 @@ pub record IsFirstFault (w : Setting) (text : List ℕ) (place : ℕ) (why : Tex
   pub at : place ≡ length text - length (skip rest)
   pub begun : CanGoOn w tokens
   pub next : Lexeme
-  pub is_next : IsNext (uuid_due (reverse tokens)) rest next
+  pub is_next : IsNext (uuid_due (behind [] tokens)) rest next
   pub stuck : GoesOn w tokens next → ⊥
   pub reason : IsReason w tokens next why
 

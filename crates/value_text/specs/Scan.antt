@@ -3,6 +3,10 @@ use Rattle.std.specs.Prelude.{◌≡◌, ◌≢◌, ℕ, ◌+◌, ◌-◌, ◌*�
 use Rattle.std.specs.List.{list_all}
 use Rattle.value_text.specs.declared.lexeme.Lexeme as shown
 use Rattle.value_text.specs.declared.lexeme.Lexeme.TheVariants as lexeme
+use Rattle.value_text.specs.declared.fault.TextReason.{TextReason}
+use Rattle.value_text.specs.declared.fault.TextReason.TheVariants as reason
+use Rattle.std.specs.Ordering.{int_eq}
+use Rattle.std.specs.Str.{bytes_eq}
 use Rattle.value_text.specs.Tokens.{Token, Word, Number, Cell, Str, Mark, is_word_octet, is_letter, is_mark, is_digit, ends_run, character, IsString, Spells, is_uuid}
 
 -- the letters, digits and `_` at the front, and the rest
@@ -65,3 +69,42 @@ begins test (c ∷ cs) = test c
 -- neither a letter, nor a mark, nor what begins a string, a cell's mark or a negative number
 abbrev pub other : ℕ → Bool
 other c = not (is_letter c) && (not (is_mark c) && not (c == 34 || (c == 64 || c == 45)))
+
+-- ## Lexemes of the reader
+
+-- words, numbers and marks, which what is due is compared with
+abbrev pub is_fixed : shown.Lexeme → Bool
+is_fixed (lexeme.Word word) = true
+is_fixed (lexeme.Number z) = true
+is_fixed (lexeme.Mark c) = true
+is_fixed l = false
+
+-- the token that such a lexeme is; not asked of others
+abbrev pub shown_token : shown.Lexeme → Token
+shown_token (lexeme.Word word) = Word word.now
+shown_token (lexeme.Number z) = Number z
+shown_token (lexeme.Mark c) = Mark c
+shown_token l = Mark 0
+
+abbrev pub are_same : shown.Lexeme → shown.Lexeme → Bool
+are_same (lexeme.Word word) (lexeme.Word other) = bytes_eq word.now other.now
+are_same (lexeme.Number z) (lexeme.Number y) = int_eq z y
+are_same (lexeme.Mark c) (lexeme.Mark d) = c == d
+are_same l m = false
+
+-- why a lexeme is another than a due token that is no name
+abbrev pub other_reason : shown.Lexeme → TextReason
+other_reason lexeme.Bad = reason.BadToken
+other_reason l = reason.Expected
+
+-- why a lexeme is another than a due name
+abbrev pub name_reason : shown.Lexeme → TextReason
+name_reason (lexeme.Word word) = reason.OtherName
+name_reason lexeme.Bad = reason.BadToken
+name_reason l = reason.Expected
+
+-- why a lexeme cannot stand behind a whole graph without cells
+abbrev pub surplus_reason : shown.Lexeme → TextReason
+surplus_reason lexeme.Bad = reason.BadToken
+surplus_reason (lexeme.Cell c) = if c == 1 then reason.Unnamed else reason.OutOfOrder
+surplus_reason l = reason.Expected

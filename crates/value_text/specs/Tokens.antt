@@ -1,7 +1,6 @@
 -- The tokens of a value text, and which of them stands first in a text.
 -- `c` is an octet, `b` the value of an octet, `z` a whole number, `t` a token.
-use Rattle.std.specs.Prelude.{◌≡◌, ℕ, ◌+◌, ◌-◌, ◌*◌, ◌^◌, ◌<◌, ℤ, Bool, true, false, ◌==◌, not, ◌&&◌, ◌||◌, nat_le, if◌then◌else◌, List, [], ◌∷◌, ◌++◌, take, Option, None, Some, codes, decimal, filter}
-use Rattle.std.specs.Int.{unsigned_abs}
+use Rattle.std.specs.Prelude.{◌≡◌, ℕ, ◌+◌, ◌-◌, ◌*◌, ◌^◌, ◌<◌, ℤ, Bool, true, false, ◌==◌, not, ◌&&◌, ◌||◌, nat_le, if◌then◌else◌, List, [], ◌∷◌, ◌++◌, take, Option, None, Some, codes, decimal, filter, unsigned_abs}
 use Rattle.std.specs.List.{list_all, list_any}
 use Rattle.std.specs.Fmt.{signed_decimal}
 use Rattle.std.specs.Str.{bytes_eq}
@@ -99,7 +98,7 @@ has_form (place ∷ form) (c ∷ cs) = (if place == 45 then c == 45 else is_hex_
 
 -- the octets that pairs of hexadecimal digits write
 abbrev pub hex_octets : List ℕ → List ℕ
-hex_octets (high ∷ low ∷ cs) = 16 * hex_value high + hex_value low ∷ hex_octets cs
+hex_octets (high ∷ low ∷ cs) = (16 * hex_value high + hex_value low) ∷ hex_octets cs
 hex_octets _ = []
 
 -- the 16 octets of a UUID
@@ -132,6 +131,11 @@ pub record IsCut (due : Bool) (text : List ℕ) (t : Token) (rest : List ℕ) : 
 abbrev pub uuid_due : List Token → Bool
 uuid_due (Mark comma ∷ Number z ∷ Mark parenthesis ∷ Word word ∷ before) = comma == 44 && (parenthesis == 40 && bytes_eq word (codes "ctx"))
 uuid_due _ = false
+
+-- tokens behind others, the last first
+abbrev pub behind : List Token → List Token → List Token
+behind before [] = before
+behind before (t ∷ ts) = behind (t ∷ before) ts
 
 -- The text begins with these tokens, one behind the other, and the rest follows them. Those before come last first.
 abbrev pub Begins : List Token → List ℕ → List Token → List ℕ → Type 0

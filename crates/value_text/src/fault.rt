@@ -1,9 +1,6 @@
 // Why a value text cannot be read.
 use thiserror::Error;
 
-/// The greatest number of octets of a value text.
-pub const TEXT_LIMIT: u32 = 268_435_456;
-
 /// Why a text is that of no graph.
 #[derive(Clone, Copy, Debug, PartialEq, Eq)]
 pub enum TextReason {

@@ -17,6 +17,9 @@ mod strings;
 #[cfg(test)]
 mod tests;
 
-pub use fault::{TEXT_LIMIT, TextFault, TextReason};
+pub use fault::{TextFault, TextReason};
 pub use printing::print;
 pub use reading::read_text;
+
+/// The greatest number of octets of a value text.
+pub const TEXT_LIMIT: u32 = 268_435_456;

@@ -1,8 +1,8 @@
 // Numbers of a value text.
-ghost use Rattle.std.specs.Prelude.{◌≡◌, ◌<◌, ◌^◌, ℕ, List, MatchOption};
-ghost use Rattle.std.specs.Char.{is_ascii_digit};
+ghost use Rattle.std.specs.Prelude.{◌≡◌, ◌≤◌, true, ℕ, List, length, MatchOption};
 ghost use Rattle.std.specs.List.{list_all};
-ghost use Rattle.value_text.specs.Scan.{value_from, IsNatural};
+ghost use Rattle.value_text.specs.Scan.{value_from, number_of as number_by, IsNatural};
+ghost use Rattle.value_text.specs.Tokens.{is_digit};
 
 use crate::octets::run_end;
 
@@ -24,7 +24,7 @@ fn value_of(digits: &[u8]) -> u128
 
 /// The number that a run writes: 1 to 20 digits, without a leading zero but for 0 itself.
 fn number_of(run: &[u8]) -> Option<u128>
-    ensures { result ≡ number_of run.now }
+    ensures { result ≡ number_by run.now }
 {
     match run {
         [] => None,

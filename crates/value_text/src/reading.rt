@@ -2,7 +2,7 @@
 ghost use Rattle.std.specs.Prelude.{◌≡◌, ◌++◌, ◌∷◌, [], ℕ, ℤ, ◌<◌, ◌≤◌, ◌^◌, List, length, map, Some, IfOk, IfErr};
 ghost use Rattle.std.specs.List.{slice_get, AllByRecursion};
 ghost use Rattle.nd_types.specs.declared.types.Operation.{Operation};
-ghost use Rattle.nd_types.specs.declared.types.Side.TheVariants as side;
+ghost use Rattle.nd_types.specs.declared.types.Side.TheVariants as sides;
 ghost use Rattle.nd_types.specs.Plain.{IsPlainInterface};
 ghost use Rattle.nd_graph.specs.Tree.{more, none, node_count};
 ghost use Rattle.nd_graph.specs.Fitting.{setting_of};
@@ -12,9 +12,11 @@ ghost use Rattle.value_text.specs.Tokens.{skip};
 ghost use Rattle.value_text.specs.Reads.{ReadsAs, IsFault};
 ghost use Rattle.value_text.specs.Dues.{Due, head_dues, param_dues, Follows, Stops};
 
-use crate::fault::{TEXT_LIMIT, TextFault, TextReason};
+use crate::TEXT_LIMIT;
+use crate::fault::{TextFault, TextReason};
+use crate::lexeme::Lexeme;
 use crate::position::position_behind;
-use crate::steps::{end, keyword, mark, name, number, version};
+use crate::steps::{end, name, number, token};
 use crate::stop::Stop;
 use nd_graph::{Cells, Graph, Val, Vals};
 use nd_types::{Interface, Operation, Param, Params, Side};
@@ -25,9 +27,9 @@ fn head<'a>(text: &'a [u8], operation: &Operation) -> Result<&'a [u8], Stop>
     ensures ok { IfOk result (λ rest. Follows (head_dues operation.now) text.now [] rest.now) }
     ensures err { IfErr result (λ e. (ds : List Due) → Stops (head_dues operation.now ++ ds) text.now e) }
 {
-    let rest = keyword(text, b"values")?;
-    let rest = version(rest)?;
-    let rest = keyword(rest, b"op")?;
+    let rest = token(text, Lexeme::Word(b"values"))?;
+    let rest = token(rest, Lexeme::Number(1))?;
+    let rest = token(rest, Lexeme::Word(b"op"))?;
     let rest = name(rest, operation.name.as_slice())?;
     name(rest, b"in")
 }
@@ -38,7 +40,7 @@ fn root<'a>(text: &'a [u8], param: &Param) -> Result<(i128, &'a [u8]), Stop>
     ensures err { IfErr result (λ e. (ds : List Due) → Stops (param_dues (param.now ∷ []) ++ ds) text.now e) }
 {
     let rest = name(text, param.field.name.as_slice())?;
-    let rest = mark(rest, b'=')?;
+    let rest = token(rest, Lexeme::Mark(b'='))?;
     number(rest)
 }
 
@@ -112,7 +114,7 @@ pub fn read_text(
 ) -> Result<Graph, TextFault>
     requires plain { IsPlainInterface interface.now.types interface.now.operations }
     requires known { op < length interface.now.operations }
-    requires inputs { side ≡ side.In }
+    requires inputs { side ≡ sides.In }
     ensures read { IfOk result (λ g. (o : Operation) → slice_get interface.now.operations op ≡ Some o
         → ReadsAs (setting_of interface.now o side) text.now g) }
     ensures refused { IfErr result (λ e. (o : Operation) → slice_get interface.now.operations op ≡ Some o

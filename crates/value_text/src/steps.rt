@@ -1,92 +1,108 @@
 // One token of what is due at a time.
-ghost use Rattle.std.specs.Prelude.{◌≡◌, ◌<◌, [], ◌∷◌, ◌++◌, ℤ, List, IfOk, IfErr, codes, pos};
-ghost use Rattle.value_text.specs.Written.{Name, Other, word as word_piece, count_piece};
-ghost use Rattle.value_text.specs.Tokens.{Mark};
-ghost use Rattle.value_text.specs.Dues.{Due, Exactly, AnyNumber, Follows, Stops};
+ghost use Rattle.std.specs.Prelude.{◌≡◌, [], ◌∷◌, true, false, IfOk, IfErr};
+ghost use Rattle.value_text.specs.declared.stop.Stop.TheVariants as stop;
+ghost use Rattle.value_text.specs.Tokens.{Number, Word, skip, IsCut};
+ghost use Rattle.value_text.specs.Written.{Name, Other};
+ghost use Rattle.value_text.specs.Scan.{shown_token, are_same, is_fixed, other_reason, name_reason, surplus_reason};
+ghost use Rattle.value_text.specs.Dues.{Due, Exactly, AnyNumber, MismatchUnless, Stops};
 
 use crate::fault::TextReason;
 use crate::lexeme::{Lexeme, first};
 use crate::octets::skip_blanks;
 use crate::stop::Stop;
 
-/// Another token than the due one, so many octets before the end.
-fn unexpected(lexeme: Lexeme, left: usize) -> Stop {
-    let reason = match lexeme {
+/// Whether two words, numbers or marks are the same; not asked of others.
+fn is_same(lexeme: Lexeme, wanted: Lexeme) -> bool
+    ensures { result ≡ are_same lexeme.entry wanted.entry }
+{
+    match (lexeme, wanted) {
+        (Lexeme::Word(word), Lexeme::Word(other)) => word == other,
+        (Lexeme::Number(value), Lexeme::Number(other)) => value == other,
+        (Lexeme::Mark(octet), Lexeme::Mark(other)) => octet == other,
+        _ => false,
+    }
+}
+
+/// Why a lexeme is another than a token that is due, which is no name.
+fn why_other(lexeme: Lexeme) -> TextReason
+    ensures { result ≡ other_reason lexeme.entry }
+{
+    match lexeme {
         Lexeme::Bad => TextReason::BadToken,
         _ => TextReason::Expected,
-    };
-    Stop::At { left, reason }
+    }
 }
 
-/// Another token than a due name.
-fn other_name(lexeme: Lexeme, left: usize) -> Stop {
+/// Why a lexeme is another than a name that is due.
+fn why_no_name(lexeme: Lexeme) -> TextReason
+    ensures { result ≡ name_reason lexeme.entry }
+{
     match lexeme {
-        Lexeme::Word(_) => Stop::At {
-            left,
-            reason: TextReason::OtherName,
-        },
-        _ => unexpected(lexeme, left),
+        Lexeme::Word(_) => TextReason::OtherName,
+        Lexeme::Bad => TextReason::BadToken,
+        _ => TextReason::Expected,
     }
 }
 
-/// A word of the grammar.
-pub(crate) fn keyword<'a>(text: &'a [u8], wanted: &[u8]) -> Result<&'a [u8], Stop>
-    ensures ok { IfOk result (λ rest. Follows (Exactly (word_piece wanted.now) ∷ []) text.now [] rest.now) }
-    ensures err { IfErr result (λ e. (ds : List Due) → Stops (Exactly (word_piece wanted.now) ∷ ds) text.now e) }
+/// Why a lexeme cannot stand behind a whole graph without cells; not asked of the end.
+fn why_surplus(lexeme: Lexeme) -> TextReason
+    ensures { result ≡ surplus_reason lexeme.entry }
 {
-    let text = skip_blanks(text);
-    match first(text) {
-        (Lexeme::Word(word), rest) if word == wanted => Ok(rest),
-        (lexeme, _) => Err(unexpected(lexeme, text.len())),
+    match lexeme {
+        Lexeme::Bad => TextReason::BadToken,
+        Lexeme::Cell(1) => TextReason::Unnamed,
+        Lexeme::Cell(_) => TextReason::OutOfOrder,
+        _ => TextReason::Expected,
     }
 }
 
-/// The version, which is 1.
-pub(crate) fn version(text: &[u8]) -> Result<&[u8], Stop>
-    ensures ok { IfOk result (λ rest. Follows (Exactly (count_piece 1) ∷ []) text.now [] rest.now) }
-    ensures err { IfErr result (λ e. (ds : List Due) → Stops (Exactly (count_piece 1) ∷ ds) text.now e) }
+/// A word of the grammar, a number or a mark.
+pub(crate) fn token<'a>(text: &'a [u8], wanted: Lexeme) -> Result<&'a [u8], Stop>
+    requires { is_fixed wanted ≡ true }
+    ensures ok { IfOk result (λ rest. IsCut false text.now (shown_token wanted.entry) rest.now) }
+    ensures err { IfErr result (λ e. MismatchUnless (Exactly (Other (shown_token wanted.entry))) text.now e) }
 {
     let text = skip_blanks(text);
-    match first(text) {
-        (Lexeme::Number(1), rest) => Ok(rest),
-        (lexeme, _) => Err(unexpected(lexeme, text.len())),
+    let (lexeme, rest) = first(text);
+    if is_same(lexeme, wanted) {
+        return Ok(rest);
     }
+    Err(Stop::At {
+        left: text.len(),
+        reason: why_other(lexeme),
+    })
 }
 
 /// The name of an operation, a side or a root.
 pub(crate) fn name<'a>(text: &'a [u8], wanted: &[u8]) -> Result<&'a [u8], Stop>
-    ensures ok { IfOk result (λ rest. Follows (Exactly (Name wanted.now) ∷ []) text.now [] rest.now) }
-    ensures err { IfErr result (λ e. (ds : List Due) → Stops (Exactly (Name wanted.now) ∷ ds) text.now e) }
+    ensures ok { IfOk result (λ rest. IsCut false text.now (Word wanted.now) rest.now) }
+    ensures err { IfErr result (λ e. MismatchUnless (Exactly (Name wanted.now)) text.now e) }
 {
     let text = skip_blanks(text);
-    match first(text) {
-        (Lexeme::Word(word), rest) if word == wanted => Ok(rest),
-        (lexeme, _) => Err(other_name(lexeme, text.len())),
+    let (lexeme, rest) = first(text);
+    if is_same(lexeme, Lexeme::Word(wanted)) {
+        return Ok(rest);
     }
-}
-
-/// A mark.
-pub(crate) fn mark(text: &[u8], wanted: u8) -> Result<&[u8], Stop>
-    ensures ok { IfOk result (λ rest. Follows (Exactly (Other (Mark wanted)) ∷ []) text.now [] rest.now) }
-    ensures err { IfErr result (λ e. (ds : List Due) → Stops (Exactly (Other (Mark wanted)) ∷ ds) text.now e) }
-{
-    let text = skip_blanks(text);
-    match first(text) {
-        (Lexeme::Mark(octet), rest) if octet == wanted => Ok(rest),
-        (lexeme, _) => Err(unexpected(lexeme, text.len())),
-    }
+    Err(Stop::At {
+        left: text.len(),
+        reason: why_no_name(lexeme),
+    })
 }
 
 /// A number.
 pub(crate) fn number(text: &[u8]) -> Result<(i128, &[u8]), Stop>
-    ensures ok { IfOk result (λ x. Follows (AnyNumber ∷ []) text.now (x.0 ∷ []) x.1.now) }
-    ensures err { IfErr result (λ e. (ds : List Due) → Stops (AnyNumber ∷ ds) text.now e) }
+    ensures ok { IfOk result (λ x. IsCut false text.now (Number x.0) x.1.now) }
+    ensures err { IfErr result (λ e. MismatchUnless AnyNumber text.now e) }
 {
     let text = skip_blanks(text);
-    match first(text) {
-        (Lexeme::Number(value), rest) => Ok((value, rest)),
-        (lexeme, _) => Err(unexpected(lexeme, text.len())),
+    let (lexeme, rest) = first(text);
+    if let Lexeme::Number(value) = lexeme {
+        return Ok((value, rest));
     }
+    Err(Stop::At {
+        left: text.len(),
+        reason: why_other(lexeme),
+    })
 }
 
 /// The end of the text, where a whole graph stands before it that has no cells.
@@ -95,15 +111,11 @@ pub(crate) fn end(text: &[u8]) -> Result<(), Stop>
     ensures err { IfErr result (λ e. Stops [] text.now e) }
 {
     let text = skip_blanks(text);
-    let reason = match first(text).0 {
-        Lexeme::End => return Ok(()),
-        Lexeme::Bad => TextReason::BadToken,
-        Lexeme::Cell(1) => TextReason::Unnamed,
-        Lexeme::Cell(_) => TextReason::OutOfOrder,
-        _ => TextReason::Expected,
-    };
+    if text.is_empty() {
+        return Ok(());
+    }
     Err(Stop::At {
         left: text.len(),
-        reason,
+        reason: why_surplus(first(text).0),
     })
 }
