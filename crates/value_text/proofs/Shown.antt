@@ -261,3 +261,27 @@ module _ (s rest : List ℕ) where
         is_next = c.is_next;
         surplus = why_surplus l c.next c.is_that (λ e. some (subst (IsNext false s) e c.is_next));
       }
+
+-- ## The same of a text whose blanks were skipped before
+
+module _ (s u rest : List ℕ) (skipped : u ≡ skip s) (why : TextReason) (l : shown.Lexeme) (h : Shows u l rest) where
+  shows : Shows (skip s) l rest
+  shows = subst (λ (x : List ℕ). Shows x l rest) skipped h
+
+  mismatch_by : (d : Due) (r : TextReason) → why ≡ r → IsMismatch d s (length (skip s)) r → IsMismatch d s (length u) why
+  mismatch_by d r w m = subst (λ (x : List ℕ). IsMismatch d s (length x) why) (sym skipped) (subst (IsMismatch d s (length (skip s))) (sym w) m)
+
+  pub token_stops : (wanted : shown.Lexeme) → is_fixed wanted ≡ true → are_same l wanted ≡ false → why ≡ other_reason l → IsMismatch (Exactly (Other (shown_token wanted))) s (length u) why
+  token_stops wanted f e w = mismatch_by (Exactly (Other (shown_token wanted))) (other_reason l) w (token_mismatch s rest l wanted f e shows)
+
+  pub name_stops : (wanted : shown.Lexeme) (w : List ℕ) → shown_token wanted ≡ Word w → is_fixed wanted ≡ true → are_same l wanted ≡ false → why ≡ name_reason l
+      → IsMismatch (Exactly (Name w)) s (length u) why
+  name_stops wanted w is f e r = mismatch_by (Exactly (Name w)) (name_reason l) r (name_mismatch s rest l wanted w is f e shows)
+
+  pub number_stops : shown_number l ≡ None → why ≡ other_reason l → IsMismatch AnyNumber s (length u) why
+  number_stops e w = mismatch_by AnyNumber (other_reason l) w (number_mismatch s rest l e shows)
+
+  pub end_stops : (length u ≡ 0 → ⊥) → why ≡ surplus_reason l → GoesOnBehind s (length u) why
+  end_stops some w =
+      subst (λ (x : List ℕ). GoesOnBehind s (length x) why) (sym skipped)
+      (subst (GoesOnBehind s (length (skip s))) (sym w) (surplus s rest l (λ e. some (ap length (skipped ∙ e))) shows))
