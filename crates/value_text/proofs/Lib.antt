@@ -10,3 +10,4 @@ pub mod PlainGraphs
 pub mod PlainTexts
 pub mod Scanned
 pub mod Shown
+pub mod PlainSteps
