@@ -11,3 +11,4 @@ pub mod PlainTexts
 pub mod Scanned
 pub mod Shown
 pub mod PlainSteps
+pub mod PlainReading
