@@ -12,3 +12,4 @@ pub mod Scanned
 pub mod Shown
 pub mod PlainSteps
 pub mod PlainReading
+pub mod WorkedPing

@@ -8,3 +8,4 @@ pub mod Readable
 pub mod Reads
 pub mod Scan
 pub mod Dues
+pub mod WorkedPing

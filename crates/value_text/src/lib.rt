@@ -11,6 +11,8 @@ mod octets;
 mod position;
 mod printing;
 mod reading;
+#[cfg(test)]
+mod reading_tests;
 mod steps;
 mod stop;
 mod strings;
