@@ -6,6 +6,7 @@ pub mod Counting
 pub mod EntriesFine
 pub mod Excluded
 pub mod FewItemsLaw
+pub mod FewNodes
 pub mod Forms
 pub mod GoodEntries
 pub mod GoodStream
