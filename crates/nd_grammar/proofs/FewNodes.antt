@@ -99,7 +99,7 @@ module _ (table : Table) (h : Home) (laid : HoistsLast table) (members : (t : �
       let f = no_ones ts a.1 in
       omega arith
 
-  many_ones : (t k : ℕ) → hoists table t ≡ false → ones (replicate k t) ≡ 0
+  pub many_ones : (t k : ℕ) → hoists table t ≡ false → ones (replicate k t) ≡ 0
   many_ones t zero e = refl
   many_ones t (suc k) e =
       let f : one (hoists table t) ≡ 0 = ap one e in

@@ -83,6 +83,7 @@ pub mod RootsMeeting
 pub mod SameByMap
 pub mod Spelt
 pub mod Standings
+pub mod StreamConforms
 pub mod StreamMet
 pub mod WorkedArrays
 pub mod WorkedDirectory

@@ -93,7 +93,7 @@ module _ (table : Table) where
   node_rest t _ _ ks f a s = cc
 
 module _ (table : Table) (g : Graph) where
-  misfit_none : (n t : ℕ) (ags : List Agreement) (l : Label) (ks : Trees) → FitsAlone table (type_at table t) l ks → CellKnown g (type_at table t) l → Rest table (type_at table t) l ks
+  pub misfit_none : (n t : ℕ) (ags : List Agreement) (l : Label) (ks : Trees) → FitsAlone table (type_at table t) l ks → CellKnown g (type_at table t) l → Rest table (type_at table t) l ks
       → misfit_of table g (record { node = n; of = t; agreements = ags; label = l; kids = ks }) ≡ None
   misfit_none n t ags l ks f k r =
       unless_from _ _ _ f.shape (unless_from _ _ _ r.range (unless_from _ _ _ f.no_null (unless_from _ _ _ k.cell (unless_from _ _ _ k.pointee
