@@ -84,6 +84,7 @@ pub mod SameByMap
 pub mod Spelt
 pub mod Standings
 pub mod StreamConforms
+pub mod StreamConforming
 pub mod StreamMet
 pub mod WorkedArrays
 pub mod WorkedDirectory

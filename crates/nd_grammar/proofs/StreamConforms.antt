@@ -46,11 +46,11 @@ use Rattle.nd_grammar.proofs.ReaderCells.{CellMade}
 use Rattle.nd_grammar.proofs.ReaderStates.{RootsMade}
 use Rattle.nd_grammar.proofs.LegalUsable.{Usable, UsablePointer, usable_readable, root_usable, element_usable, pointers_usable}
 
-one_few : (b : Bool) → one b ≤ 1
+pub one_few : (b : Bool) → one b ≤ 1
 one_few true = omega arith
 one_few false = omega arith
 
-le_or : (a b : ℕ) → (a < b) ⊎ (b ≤ a)
+pub le_or : (a b : ℕ) → (a < b) ⊎ (b ≤ a)
 le_or zero zero = inr (omega arith)
 le_or zero (suc b) = inl (omega arith)
 le_or (suc a) zero = inr (omega arith)
@@ -60,7 +60,7 @@ le_or (suc a) (suc b) = go (le_or a b)
     go (inl x) = inl (omega arith)
     go (inr x) = inr (omega arith)
 
-due_all : (P : Due → Type 0) (i n : ℕ) → ((j : ℕ) → j < n → P (due_root (i + j))) → AllByRecursion P (due_roots i n)
+pub due_all : (P : Due → Type 0) (i n : ℕ) → ((j : ℕ) → j < n → P (due_root (i + j))) → AllByRecursion P (due_roots i n)
 due_all P i zero f = tt
 due_all P i (suc n) f =
     let e : i + 0 ≡ i = omega arith in (
@@ -68,17 +68,17 @@ due_all P i (suc n) f =
       due_all P (suc i) n (λ j h. (let q : i + suc j ≡ suc i + j = omega arith in subst (λ u. P (due_root u)) q (f (suc j) (omega arith)))),
     )
 
-due_at : (P : Due → Type 0) (i n : ℕ) → AllByRecursion P (due_roots i n) → (j : ℕ) → j < n → P (due_root (i + j))
+pub due_at : (P : Due → Type 0) (i n : ℕ) → AllByRecursion P (due_roots i n) → (j : ℕ) → j < n → P (due_root (i + j))
 due_at P i zero a j h = absurd (omega arith)
 due_at P i (suc n) a zero h = let e : i ≡ i + 0 = omega arith in subst (λ u. P (due_root u)) e a.0
 due_at P i (suc n) a (suc j) h = let e : suc i + j ≡ i + suc j = omega arith in subst (λ u. P (due_root u)) e (due_at P (suc i) n a.1 j (omega arith))
 
-all_of : {X : Type 0} (P : X → Type 0) (xs : List X) → ((x : X) → Among xs x → P x) → AllByRecursion P xs
+pub all_of : {X : Type 0} (P : X → Type 0) (xs : List X) → ((x : X) → Among xs x → P x) → AllByRecursion P xs
 all_of P [] f = tt
 all_of P (x ∷ xs) f = (f x (inl refl), all_of P xs (λ y m. f y (inr m)))
 
 -- a pointer of the roots is one of a root
-root_pointer : (table : Table) (n : ℕ) (rs : List Root) (vs : List Tree) (p : Pending) → Among (root_pointers table n rs vs) p
+pub root_pointer : (table : Table) (n : ℕ) (rs : List Root) (vs : List Tree) (p : Pending) → Among (root_pointers table n rs vs) p
     → (j : ℕ) × (r : Root) × (v : Tree) × (slice_get rs j ≡ Some r) × (slice_get vs j ≡ Some v) × Among (home_pointers table (home.Root (n + j)) r.of v) p
 root_pointer table n [] vs p m = absurd m
 root_pointer table n (r ∷ rs) [] p m = absurd m
@@ -107,12 +107,12 @@ own_none : (b : Bool) (h : Home) (n : ℕ) (t : Tree) → AllByRecursion Passed 
 own_none true h n t = tt
 own_none false h n t = tt
 
-no_child_tests : (h : Home) (n : ℕ) (ts : Trees) → AllByRecursion Passed (child_tests h [] n ts)
+pub no_child_tests : (h : Home) (n : ℕ) (ts : Trees) → AllByRecursion Passed (child_tests h [] n ts)
 no_child_tests h n none = tt
 no_child_tests h n (more (node l ks) ts) =
     all_append Passed (own_tests (is_pointer l) h n (node l ks) []) (child_tests h [] (n + 1 + node_count ks) ts) (own_none (is_pointer l) h n (node l ks)) (no_child_tests h (n + 1 + node_count ks) ts)
 
-whole_all : (table : Table) (h : Home) (t : ℕ) (v : Tree) → PassedAll (whole_value table h t v) → PassedAll (in_place table h (t ∷ []) 0 (more v none))
+pub whole_all : (table : Table) (h : Home) (t : ℕ) (v : Tree) → PassedAll (whole_value table h t v) → PassedAll (in_place table h (t ∷ []) 0 (more v none))
 whole_all table h t (node l ks) p =
     right_passed (entries h 0 (hoisted (hoists table t) l (hoisted_max 0 (more (node l ks) none)))) (in_place table h (t ∷ []) 0 (more (node l ks) none)) p
 
@@ -135,7 +135,7 @@ elements_parted table h e (suc k) n (more (node l ks) ts) b =
 
 module _ (table : Table) (h : Home) (e : ℕ) where
   -- the elements of a pipe, out of its chunks
-  least_chunks : (n : ℕ) (cut : List ℕ) (ts : Trees) → sum cut ≡ count ts → least (in_place table h (replicate (count ts) e) n ts) ≤ least (chunks table h e n cut ts)
+  pub least_chunks : (n : ℕ) (cut : List ℕ) (ts : Trees) → sum cut ≡ count ts → least (in_place table h (replicate (count ts) e) n ts) ≤ least (chunks table h e n cut ts)
   least_chunks n [] none s = omega arith
   least_chunks n [] (more t ts) s = let z : 0 ≡ suc (count ts) = s in absurd (omega arith)
   least_chunks n (k ∷ cut) ts s =
@@ -152,7 +152,7 @@ module _ (table : Table) (h : Home) (e : ℕ) where
       let f : least C ≡ 4 + least T = omega arith in
       omega arith
 
-  passed_chunks : (n : ℕ) (cut : List ℕ) (ts : Trees) → sum cut ≡ count ts → AllByRecursion Passed (chunks table h e n cut ts) → AllByRecursion Passed (in_place table h (replicate (count ts) e) n ts)
+  pub passed_chunks : (n : ℕ) (cut : List ℕ) (ts : Trees) → sum cut ≡ count ts → AllByRecursion Passed (chunks table h e n cut ts) → AllByRecursion Passed (in_place table h (replicate (count ts) e) n ts)
   passed_chunks n [] none s p = tt
   passed_chunks n [] (more t ts) s p = let z : 0 ≡ suc (count ts) = s in absurd (omega arith)
   passed_chunks n (k ∷ cut) ts s p =
