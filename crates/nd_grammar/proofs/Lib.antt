@@ -17,6 +17,7 @@ pub mod ItemSizes
 pub mod KnownNodes
 pub mod LawExamples
 pub mod LawNext
+pub mod LawReader
 pub mod LawRing
 pub mod LegalPipes
 pub mod LegalReadable

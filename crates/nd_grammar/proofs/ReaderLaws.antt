@@ -1,7 +1,7 @@
 -- The laws of the reader of streams.
-use Rattle.std.proofs.Common.{◌≡◌, ℕ, ◌+◌, ◌<◌, ◌≤◌, zero, suc, List, [], ◌∷◌, length, Option, Some, None, refl, ap, ap₂, sym, ◌∙◌, inl, inr, ◌⊎◌, arith, subst, take, drop, min, length-take}
+use Rattle.std.proofs.Common.{◌≡◌, ℕ, ◌+◌, ◌<◌, ◌≤◌, zero, suc, List, [], ◌∷◌, ◌++◌, length, Option, Some, None, refl, ap, ap₂, sym, ◌∙◌, inl, inr, ◌⊎◌, arith, subst, take, drop, min, length-take}
 use Rattle.std.specs.List.{AllByRecursion}
-use Rattle.std.proofs.lemmas.List.{take-append-drop}
+use Rattle.std.proofs.lemmas.List.{take-append-drop, append-nil}
 use Rattle.nd_base.specs.declared.octets.Order.{Order}
 use Rattle.nd_base.specs.declared.TheConstants.{STREAM_LIMIT}
 use Rattle.nd_types.specs.Number.{AreOctets}
@@ -23,6 +23,9 @@ use Rattle.nd_grammar.proofs.ReaderVerdict.{start, AllTaken, all_taken, stopped_
 use Rattle.nd_grammar.proofs.Passed.{PassedAll, all_passed, least, least_end}
 use Rattle.nd_grammar.proofs.StreamConforming.{NodeGood, all_good, few_nodes}
 use Rattle.nd_grammar.proofs.ReaderStream.{Pipes, G, ms, numbering, steps, is_partial, is_stream, numbered, goes_over, ends_within, ends_in_octets, graph_is, head, steps_then, cells_fit, roots_all_made, all_roots, all_reached, all_ok, few_cells}
+use Rattle.nd_graph.specs.Same.{Same}
+use Rattle.nd_grammar.proofs.StreamConforms.{le_or}
+use Rattle.nd_grammar.proofs.OneGraph.{one_graph}
 use Rattle.nd_grammar.proofs.Excluded.{excluded}
 
 -- Where reading stops, the octets are refused.
@@ -150,3 +153,29 @@ pub never_both : (w : Setting) → IsLegalSide w → (order : Order) (octets : L
     → BeginsWith w order octets n g → Bad w order octets place why → ⊥
 never_both w side order octets n g place why b bad =
     excluded w side order octets place why bad (take n octets) (drop n octets) (sym (take-append-drop n octets)) g b.conforms b.represented
+
+-- a first part of a first part
+part_of_part : (n m : ℕ) (xs : List ℕ) → n ≤ m → take m xs ≡ take n xs ++ drop n (take m xs)
+part_of_part n m xs h = sym (take-append-drop n (take m xs)) ∙ ap (λ u. u ++ drop n (take m xs)) (first_octets m n xs h)
+
+same_end : (w : Setting) → IsLegalSide w → (order : Order) (octets : List ℕ) (n m : ℕ) (g h : Graph) → n ≤ m → BeginsWith w order octets n g → BeginsWith w order octets m h → n ≡ m
+same_end w side order octets n m g h k a b =
+    let e : take m octets ≡ take n octets ++ drop n (take m octets) = part_of_part n m octets k in
+    let r = one_graph w side order (take n octets) (drop n (take m octets)) h g b.conforms a.conforms (subst (λ u. Represents w order u h) e b.represented) a.represented in
+    let l : length (take m octets) ≡ length (take n octets) = ap length (e ∙ ap (λ u. take n octets ++ u) r.0 ∙ append-nil (take n octets)) in
+    omega (arith, l, length-take m octets, length-take n octets, a.within, b.within)
+
+-- Octets begin with one stream alone, and it is of one graph up to the numbers of its cells.
+pub one_beginning : (w : Setting) → IsLegalSide w → (order : Order) (octets : List ℕ) (n m : ℕ) (g h : Graph)
+    → BeginsWith w order octets n g → BeginsWith w order octets m h → (n ≡ m) × Same g h
+one_beginning w side order octets n m g h a b = go (le_or n m)
+  where
+    same_graph : n ≡ m → Same g h
+    same_graph e =
+        let r : Represents w order (take n octets) h = subst (λ u. Represents w order (take u octets) h) (sym e) b.represented in
+        let s : Represents w order (take n octets ++ []) g = subst (λ u. Represents w order u g) (sym (append-nil (take n octets))) a.represented in
+        (one_graph w side order (take n octets) [] g h a.conforms b.conforms s r).1
+
+    go : (n < m) ⊎ (m ≤ n) → (n ≡ m) × Same g h
+    go (inl k) = let e : n ≡ m = same_end w side order octets n m g h (omega arith) a b in (e, same_graph e)
+    go (inr k) = let e : n ≡ m = sym (same_end w side order octets m n h g k b a) in (e, same_graph e)
