@@ -6,6 +6,7 @@ pub mod Counting
 pub mod EntriesFine
 pub mod Excluded
 pub mod FewItemsLaw
+pub mod FewNodes
 pub mod Forms
 pub mod GoodEntries
 pub mod GoodStream
@@ -16,6 +17,7 @@ pub mod ItemSizes
 pub mod KnownNodes
 pub mod LawExamples
 pub mod LawNext
+pub mod LawReader
 pub mod LawRing
 pub mod LegalPipes
 pub mod LegalReadable
@@ -85,6 +87,8 @@ pub mod RootsMeeting
 pub mod SameByMap
 pub mod Spelt
 pub mod Standings
+pub mod StreamConforms
+pub mod StreamConforming
 pub mod StreamMet
 pub mod WorkedArrays
 pub mod WorkedDirectory

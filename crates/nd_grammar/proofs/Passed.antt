@@ -9,11 +9,12 @@ use Rattle.nd_base.specs.declared.octets.Order.{Order}
 use Rattle.nd_base.specs.declared.TheConstants.{STREAM_LIMIT}
 use Rattle.nd_types.specs.declared.types.Attr.{Attr}
 use Rattle.nd_types.specs.Number.{unsigned, value_of_octets}
-use Rattle.nd_types.specs.Table.{selected}
+use Rattle.nd_types.specs.Table.{selected, width}
+use Rattle.nd_graph.proofs.Apart.{all_left, all_right}
 use Rattle.nd_graph.proofs.Waiting.{not_equal}
 use Rattle.nd_grammar.specs.declared.reason.Reason.{Reason}
 use Rattle.nd_grammar.specs.declared.reason.Reason.TheVariants as reason
-use Rattle.nd_grammar.specs.Entry.{Kind, Entry, Align, Max, Offset, Actual, Chunk, Number, Num, Tag, Text, Context, Test, Unread, size_at, EntryAt, end_to_end}
+use Rattle.nd_grammar.specs.Entry.{Kind, Entry, Align, Max, Offset, Actual, Chunk, Number, Num, Tag, Text, Context, Test, Unread, size_at, EntryAt, end_to_end, end_of}
 use Rattle.nd_grammar.specs.Represents.{piece, Spells, IsRendered}
 use Rattle.nd_grammar.specs.Refusal.{refusal, kind_refusal, refused_if, is_long, is_enumerator, is_selected, text_refusal, disagrees_at, tested_at, Accepts}
 use Rattle.nd_grammar.proofs.ReaderNodes.{if_not}
@@ -92,3 +93,55 @@ module _ (order : Order) (octets : List ℕ) (nums : ℕ → ℕ) where
         kind_passed seen at m m.kind (piece octets at m.kind) u r.0.1,
         all_passed (seen ++ record { at = at; entry = m } ∷ []) (at + size_at at m.kind) ms r.1 a.1,
       )
+
+-- at least so many octets, wherever an entry stands
+abbrev pub least_size : Kind → ℕ
+least_size (Align n) = 0
+least_size (Test a x y) = 0
+least_size Unread = 0
+least_size (Max v) = 4
+least_size (Offset t v) = 4
+least_size (Actual t o l v) = 4
+least_size (Chunk v) = 4
+least_size (Number k to c) = 4
+least_size (Num p vs z) = width p
+least_size (Tag p vs arms default z) = width p
+least_size (Text os) = length os + 1
+least_size (Context a i) = 20
+
+abbrev pub least : List Entry → ℕ
+least [] = 0
+least (m ∷ ms) = least_size m.kind + least ms
+
+pub least_append : (ms ns : List Entry) → least (ms ++ ns) ≡ least ms + least ns
+least_append [] ns = omega arith
+least_append (m ∷ ms) ns = let e = least_append ms ns in omega arith
+
+least_at : (at : ℕ) (k : Kind) → least_size k ≤ size_at at k
+least_at at (Align n) = omega arith
+least_at at (Test a x y) = omega arith
+least_at at Unread = omega arith
+least_at at (Max v) = omega arith
+least_at at (Offset t v) = omega arith
+least_at at (Actual t o l v) = omega arith
+least_at at (Chunk v) = omega arith
+least_at at (Number k to c) = omega arith
+least_at at (Num p vs z) = omega arith
+least_at at (Tag p vs arms default z) = omega arith
+least_at at (Text os) = omega arith
+least_at at (Context a i) = omega arith
+
+pub least_end : (at : ℕ) (ms : List Entry) → at + least ms ≤ end_of at ms
+least_end at [] = omega arith
+least_end at (m ∷ ms) = omega (arith, least_at at m.kind, least_end (at + size_at at m.kind) ms)
+
+-- entries that passed, no more than a stream has
+pub record PassedAll (ms : List Entry) : Type 0 where
+  pub passed : AllByRecursion Passed ms
+  pub light : least ms ≤ STREAM_LIMIT
+
+pub left_passed : (ms ns : List Entry) → PassedAll (ms ++ ns) → PassedAll ms
+left_passed ms ns p = record { passed = all_left Passed ms ns p.passed; light = omega (arith, p.light, least_append ms ns) }
+
+pub right_passed : (ms ns : List Entry) → PassedAll (ms ++ ns) → PassedAll ns
+right_passed ms ns p = record { passed = all_right Passed ms ns p.passed; light = omega (arith, p.light, least_append ms ns) }

@@ -28,11 +28,11 @@ use Rattle.nd_grammar.specs.Refusal.{is_selected}
 use Rattle.nd_grammar.proofs.MadeTrees.{FitsAlone, MadeNode, MadeTrees, CellFits, CellKnown, label_known, all_flat_left}
 use Rattle.nd_grammar.proofs.Passed.{HasPassed, Passed}
 
-passed_kinds : (h : Home) (n : ℕ) (xs : List Kind) → AllByRecursion Passed (entries h n xs) → AllByRecursion HasPassed xs
+pub passed_kinds : (h : Home) (n : ℕ) (xs : List Kind) → AllByRecursion Passed (entries h n xs) → AllByRecursion HasPassed xs
 passed_kinds h n [] a = tt
 passed_kinds h n (x ∷ xs) a = (a.0, passed_kinds h n xs a.1)
 
-unread_entry : (table : Table) (t : ℕ) (d : Option TypeDef) (ks : Trees) → AllByRecursion HasPassed (before_children table t d tree.Unread ks) → ⊥
+pub unread_entry : (table : Table) (t : ℕ) (d : Option TypeDef) (ks : Trees) → AllByRecursion HasPassed (before_children table t d tree.Unread ks) → ⊥
 unread_entry table t (Some (def.Prim p)) ks a = a.0
 unread_entry table t (Some (def.Enum vs)) ks a = a.0
 unread_entry table t (Some (def.Struct ms)) ks a = a.0
@@ -93,7 +93,7 @@ module _ (table : Table) where
   node_rest t _ _ ks f a s = cc
 
 module _ (table : Table) (g : Graph) where
-  misfit_none : (n t : ℕ) (ags : List Agreement) (l : Label) (ks : Trees) → FitsAlone table (type_at table t) l ks → CellKnown g (type_at table t) l → Rest table (type_at table t) l ks
+  pub misfit_none : (n t : ℕ) (ags : List Agreement) (l : Label) (ks : Trees) → FitsAlone table (type_at table t) l ks → CellKnown g (type_at table t) l → Rest table (type_at table t) l ks
       → misfit_of table g (record { node = n; of = t; agreements = ags; label = l; kids = ks }) ≡ None
   misfit_none n t ags l ks f k r =
       unless_from _ _ _ f.shape (unless_from _ _ _ r.range (unless_from _ _ _ f.no_null (unless_from _ _ _ k.cell (unless_from _ _ _ k.pointee

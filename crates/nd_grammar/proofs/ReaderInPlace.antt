@@ -44,7 +44,7 @@ node_entries table h t d n (node l ks) =
 four : {X : Type 0} (a b c d : List X) → a ++ (b ++ (c ++ d)) ≡ (a ++ (b ++ c)) ++ d
 four a b c d = simp append_assoc
 
-value_then_others : (table : Table) (h : Home) (t : ℕ) (types : List ℕ) (n : ℕ) (v : Tree) (ts : Trees)
+pub value_then_others : (table : Table) (h : Home) (t : ℕ) (types : List ℕ) (n : ℕ) (v : Tree) (ts : Trees)
     → in_place table h (t ∷ types) n (more v ts) ≡ node_entries table h t (type_at table t) n v ++ in_place table h types (n + tree_nodes v) ts
 value_then_others table h t types n (node l ks) ts =
     let d : Option TypeDef = type_at table t in

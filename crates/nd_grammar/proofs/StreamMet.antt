@@ -27,7 +27,7 @@ use Rattle.nd_grammar.specs.InPlace.{whole_value}
 use Rattle.nd_grammar.specs.Stream.{step_entries, standing_entries, step_tests}
 use Rattle.nd_grammar.proofs.GoodStream.{same_home_number}
 use Rattle.nd_grammar.proofs.MadeTrees.{MadeNode, MadeTrees, CellOf, CellFits}
-use Rattle.nd_grammar.proofs.Passed.{Passed}
+use Rattle.nd_grammar.proofs.Passed.{PassedAll, left_passed, right_passed}
 use Rattle.nd_grammar.proofs.PassedTrees.{tests_agree}
 use Rattle.nd_grammar.proofs.Placed.{own, among_split, one_among, none_some, closed_at, placed, all_placed, Covers, before_step, of_root, home_is}
 use Rattle.nd_grammar.proofs.ReaderStates.{RootsMade}
@@ -149,7 +149,7 @@ module _ (w : Setting) (g : Graph) (typed : AllByRecursion (CellFits g.cells) (a
 
   -- a home is met: its value passed, and its pointers are met
   pub record HomeMet (done : Placed_cells) (steps : List Step) (h : Home) (t : ℕ) (v : Tree) : Type 0 where
-    pub passed : AllByRecursion Passed (whole_value w.table h t v)
+    pub passed : PassedAll (whole_value w.table h t v)
     pub pointers : (p : Pending) → Among (home_pointers w.table h t v) p → PointerMet done steps p
 
   abbrev pub DueMet : Placed_cells → List Step → Due → Type 0
@@ -190,7 +190,7 @@ module _ (w : Setting) (g : Graph) (typed : AllByRecursion (CellFits g.cells) (a
       subst (λ u. HomeMet done steps (cell_home b) y.of u) (sym ev) (subst (λ t. HomeMet done steps (cell_home b) t x.val) (sym et) (subst (λ k. HomeMet done steps k x.of x.val) h a))
 
   pub met : {done : Placed_cells} {due : List Due} {steps : List Step} → Deferral w g done due steps → AllByRecursion DueOk due
-      → AllByRecursion Passed (flat_map (step_entries w g) steps) → AllByRecursion (DueMet done steps) due × Closed done steps
+      → PassedAll (flat_map (step_entries w g) steps) → AllByRecursion (DueMet done steps) due × Closed done steps
   met none_due a p = (tt, λ b m. absurd m)
   met (at_root {done = done} {i = i} {due = due} {steps = steps} f d) a p =
       let (r, e) = a.0 in
@@ -200,9 +200,9 @@ module _ (w : Setting) (g : Graph) (typed : AllByRecursion (CellFits g.cells) (a
       let new : Placed_cells = root_cell x.home in
       let step : Step = root_stands i in
       let rest : List Entry = flat_map (step_entries w g) steps in
-      let (all, closed) = met d (all_append DueOk (due_of w.table x) due (due_ok ps s.fits) a.1) (all_right Passed (standing_entries w.table x) rest p) in
+      let (all, closed) = met d (all_append DueOk (due_of w.table x) due (due_ok ps s.fits) a.1) (right_passed (standing_entries w.table x) rest p) in
       let its : HomeMet (new ++ done) steps x.home x.of x.val =
-      record { passed = all_left Passed (standing_entries w.table x) rest p; pointers = λ q m. of_due (new ++ done) steps ps due all q m } in
+      record { passed = left_passed (standing_entries w.table x) rest p; pointers = λ q m. of_due (new ++ done) steps ps due all q m } in
       let home : HomeMet done (step ∷ steps) x.home x.of x.val = home_before new done step steps (of_root w g x.home) x.home x.of x.val its in (
         (
           (home, (λ b m. inr (among_left (own x.home) (all_placed w g steps) b m))),
@@ -217,8 +217,8 @@ module _ (w : Setting) (g : Graph) (typed : AllByRecursion (CellFits g.cells) (a
       (((λ k f. none_some p.cell k e f), all), closed)
   met (at_standing {done = done} {p = p} {due = due} {steps = steps} k e full h d) a q =
       let rest : List Entry = flat_map (step_entries w g) steps in
-      let (all, closed) = met d a.1 (all_right Passed (step_tests g p k) rest q) in
-      let agreed : AllByRecursion (IsAgreed (cell_at g k)) p.agreements = tests_agree w.table g (cell_home k) 0 (cell_at g k) p.agreements (all_left Passed (step_tests g p k) rest q) in (
+      let (all, closed) = met d a.1 (right_passed (step_tests g p k) rest q) in
+      let agreed : AllByRecursion (IsAgreed (cell_at g k)) p.agreements = tests_agree w.table g (cell_home k) 0 (cell_at g k) p.agreements (left_passed (step_tests g p k) rest q).passed in (
         (
           (λ c f. (
               let z : k ≡ c = same_Some _ _ (sym e ∙ f) in
@@ -234,13 +234,13 @@ module _ (w : Setting) (g : Graph) (typed : AllByRecursion (CellFits g.cells) (a
       let new : Placed_cells = (p.class, k) ∷ [] in
       let step : Step = referent_stands p k in
       let rest : List Entry = flat_map (step_entries w g) steps in
-      let own_entries : AllByRecursion Passed (standing_entries w.table x ++ step_tests g p k) = all_left Passed (standing_entries w.table x ++ step_tests g p k) rest q in
-      let (all, closed) = met d (all_append DueOk (due_of w.table x) due (due_ok ps s.fits) a.1) (all_right Passed (standing_entries w.table x ++ step_tests g p k) rest q) in
+      let own_entries : PassedAll (standing_entries w.table x ++ step_tests g p k) = left_passed (standing_entries w.table x ++ step_tests g p k) rest q in
+      let (all, closed) = met d (all_append DueOk (due_of w.table x) due (due_ok ps s.fits) a.1) (right_passed (standing_entries w.table x ++ step_tests g p k) rest q) in
       let of_step : (c : ℕ) → IsPlaced new c → Among (placed w g step) c = λ c m. m in
       let agreed : AllByRecursion (IsAgreed (cell_at g k)) p.agreements =
-      tests_agree w.table g (cell_home k) 0 (cell_at g k) p.agreements (all_right Passed (standing_entries w.table x) (step_tests g p k) own_entries) in
+      tests_agree w.table g (cell_home k) 0 (cell_at g k) p.agreements (right_passed (standing_entries w.table x) (step_tests g p k) own_entries).passed in
       let its : HomeMet (new ++ done) steps x.home x.of x.val =
-      record { passed = all_left Passed (standing_entries w.table x) (step_tests g p k) own_entries; pointers = λ z m. of_due (new ++ done) steps ps due all z m } in
+      record { passed = left_passed (standing_entries w.table x) (step_tests g p k) own_entries; pointers = λ z m. of_due (new ++ done) steps ps due all z m } in
       let home : HomeMet done (step ∷ steps) x.home x.of x.val = home_before new done step steps of_step x.home x.of x.val its in (
         (
           (λ c f. (
