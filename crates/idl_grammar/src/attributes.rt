@@ -60,13 +60,13 @@ pub enum AttributeKind {
     /// `out`
     Out,
     /// `string`
-    Text,
+    String,
     /// `context_handle`
     ContextHandle,
     /// `size_is`, `max_is`, `length_is`, `first_is`, `last_is` or `switch_is`, and its variable.
     Of(VariableWord, Variable),
     /// `switch_type` and its type.
-    SwitchType(SwitchType),
+    SwitchTypeIs(SwitchType),
     /// `case` and its values.
     Case(Vec<Expr>),
     /// `default`

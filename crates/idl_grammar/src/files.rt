@@ -49,7 +49,7 @@ pub enum Export {
     /// A constant.
     Const { at: u32, of: SimpleType, star: bool, name: Spelling, value: Init },
     /// A type alone.
-    Type { at: u32, attributes: Option<Attributes>, of: TypeSpec },
+    Tagged { at: u32, attributes: Option<Attributes>, of: TypeSpec },
     /// An operation.
     Operation {
         at: u32,

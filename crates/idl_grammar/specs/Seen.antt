@@ -1,0 +1,71 @@
+-- The tree of the program as the grammar's tree: the same parts, without where they lie in memory.
+use Rattle.std.specs.Prelude.{ℕ, List, [], ◌∷◌, map, Option, Some, None, option_map}
+use Rattle.idl_grammar.specs.declared.expressions.Expr as program
+use Rattle.idl_grammar.specs.declared.expressions.Expr.TheVariants as exprs
+use Rattle.idl_grammar.specs.declared.attributes.AttributeKind as kinds
+use Rattle.idl_grammar.specs.declared.attributes.AttributeKind.TheVariants as kind
+use Rattle.idl_grammar.specs.declared.attributes.Attribute as attribute
+use Rattle.idl_grammar.specs.declared.attributes.Attributes as attributes
+use Rattle.idl_grammar.specs.declared.declarators.Bound as bounds
+use Rattle.idl_grammar.specs.declared.declarators.Bound.TheVariants as bound
+use Rattle.idl_grammar.specs.declared.declarators.Declarator as declarator
+use Rattle.idl_grammar.specs.declared.declarators.Init as inits
+use Rattle.idl_grammar.specs.declared.declarators.Init.TheVariants as init
+use Rattle.idl_grammar.specs.declared.types.Enumerator as enumerator
+use Rattle.idl_grammar.specs.declared.types.Label as labels
+use Rattle.idl_grammar.specs.declared.types.Label.TheVariants as label
+use Rattle.idl_grammar.specs.Tree as tree
+
+-- an expression
+abbrev pub seen_expr : program.Expr → tree.Expr
+seen_expr (exprs.Leaf a) = tree.Leaf a
+seen_expr (exprs.Round' at p e) = tree.Round at (seen_expr e)
+seen_expr (exprs.Unary' at s p e) = tree.Unary at s (seen_expr e)
+seen_expr (exprs.Binary' p l at s q r) = tree.Binary (seen_expr l) at s (seen_expr r)
+seen_expr (exprs.Conditional' p c at q a o b) = tree.Conditional (seen_expr c) at (seen_expr a) (seen_expr b)
+
+abbrev pub seen_kind : kinds.AttributeKind → tree.AttributeKind
+seen_kind (kind.Uuid u) = tree.Uuid u
+seen_kind (kind.Version major minor) = tree.Version major minor
+seen_kind (kind.Endpoint list) = tree.Endpoint list.items
+seen_kind kind.Local = tree.Local
+seen_kind (kind.PointerDefault c) = tree.PointerDefault c
+seen_kind (kind.Class c) = tree.Class c
+seen_kind kind.In = tree.In
+seen_kind kind.Out = tree.Out
+seen_kind kind.String = tree.String
+seen_kind kind.ContextHandle = tree.ContextHandle
+seen_kind (kind.Of word v) = tree.Of word v
+seen_kind (kind.SwitchTypeIs s) = tree.SwitchTypeIs s
+seen_kind (kind.Case values) = tree.Case (map seen_expr values.items)
+seen_kind kind.Default = tree.Default
+seen_kind kind.Idempotent = tree.Idempotent
+seen_kind kind.Broadcast = tree.Broadcast
+seen_kind kind.Maybe = tree.Maybe
+
+abbrev pub seen_attribute : attribute.Attribute → tree.Attribute
+seen_attribute a = record { at = a.at; kind = seen_kind a.kind }
+
+abbrev pub seen_attributes : attributes.Attributes → tree.Attributes
+seen_attributes a = record { at = a.at; list = map seen_attribute a.list.items }
+
+abbrev pub seen_bound : bounds.Bound → tree.Bound
+seen_bound bound.Star = tree.Star
+seen_bound (bound.Count e) = tree.Count (seen_expr e)
+seen_bound (bound.From e) = tree.From (seen_expr e)
+seen_bound (bound.Between e f) = tree.Between (seen_expr e) (seen_expr f)
+
+abbrev pub seen_declarator : declarator.Declarator → tree.Declarator
+seen_declarator d = record { stars = d.stars.items; name = d.name; dimensions = map (option_map seen_bound) d.dimensions.items }
+
+abbrev pub seen_init : inits.Init → tree.Init
+seen_init (init.Text s) = tree.Text s
+seen_init (init.Null at) = tree.Null at
+seen_init (init.Value e) = tree.Value (seen_expr e)
+
+abbrev pub seen_enumerator : enumerator.Enumerator → tree.Enumerator
+seen_enumerator e = record { name = e.name; value = option_map seen_expr e.value }
+
+abbrev pub seen_label : labels.Label → tree.Label
+seen_label (label.Value at e) = tree.Value at (seen_expr e)
+seen_label (label.Default at) = tree.Default at
