@@ -79,15 +79,19 @@ mutual
     EncapsulatedUnion : (at : ℕ) (tag : Option Spelling) (discriminant : Discriminant) (name : Option Spelling) (cases : Cases) → TypeSpec
     NonEncapsulatedUnion : (at : ℕ) (tag : Option Spelling) (arms : Arms) → TypeSpec
     Enum : (at : ℕ) (tag : Option Spelling) (enumerators : List Enumerator) → TypeSpec
+
   pub data Members : Type 0 where
     no_members : Members
     next_member : (at : ℕ) (attributes : Option Attributes) (type : TypeSpec) (declarators : List Declarator) (others : Members) → Members
+
   pub data Cases : Type 0 where
     no_cases : Cases
     next_case : (labels : List Label) (arm : Arm) (others : Cases) → Cases
+
   pub data Arms : Type 0 where
     no_arms : Arms
     next_arm : (arm : Arm) (others : Arms) → Arms
+
   pub data Arm : Type 0 where
     Empty : (at : ℕ) (attributes : Option Attributes) → Arm
     Typed : (at : ℕ) (attributes : Option Attributes) (type : TypeSpec) (declarator : Declarator) → Arm

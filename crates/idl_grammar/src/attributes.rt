@@ -46,7 +46,10 @@ pub enum AttributeKind {
     /// `uuid` and the UUID.
     Uuid(Spelling),
     /// `version`, the major number, and the minor one where it stands.
-    Version { major: Spelling, minor: Option<Spelling> },
+    Version {
+        major: Spelling,
+        minor: Option<Spelling>,
+    },
     /// `endpoint` and its strings.
     Endpoint(Vec<Spelling>),
     /// `local`

@@ -76,11 +76,28 @@ pub enum Expr {
     /// One token.
     Leaf(Operand),
     /// An expression in round brackets.
-    Round { at: u32, inner: Box<Expr> },
+    Round {
+        at: u32,
+        inner: Box<Expr>,
+    },
     /// A unary operator and its operand.
-    Unary { at: u32, operator: UnaryOperator, operand: Box<Expr> },
+    Unary {
+        at: u32,
+        operator: UnaryOperator,
+        operand: Box<Expr>,
+    },
     /// A binary operator between its operands.
-    Binary { left: Box<Expr>, at: u32, operator: BinaryOperator, right: Box<Expr> },
+    Binary {
+        left: Box<Expr>,
+        at: u32,
+        operator: BinaryOperator,
+        right: Box<Expr>,
+    },
     /// `?:`, and the octet of the `?`.
-    Conditional { condition: Box<Expr>, at: u32, then: Box<Expr>, otherwise: Box<Expr> },
+    Conditional {
+        condition: Box<Expr>,
+        at: u32,
+        then: Box<Expr>,
+        otherwise: Box<Expr>,
+    },
 }

@@ -47,9 +47,19 @@ pub enum Export {
         declarators: Vec<Declarator>,
     },
     /// A constant.
-    Const { at: u32, of: SimpleType, star: bool, name: Spelling, value: Init },
+    Const {
+        at: u32,
+        of: SimpleType,
+        star: bool,
+        name: Spelling,
+        value: Init,
+    },
     /// A type alone.
-    Tagged { at: u32, attributes: Option<Attributes>, of: TypeSpec },
+    Tagged {
+        at: u32,
+        attributes: Option<Attributes>,
+        of: TypeSpec,
+    },
     /// An operation.
     Operation {
         at: u32,

@@ -17,7 +17,7 @@ pub use declarators::{Bound, Declarator, Init};
 pub use expressions::{BinaryOperator, Expr, Operand, UnaryOperator};
 pub use files::{Export, Import, Parameter, Parameters, Tree};
 pub use types::{
-    Arm, Case, Discriminant, Enumerator, IntegerType, Label, Member, SimpleType, SwitchType, TagKind,
-    TypeSpec, Width,
+    Arm, Case, Discriminant, Enumerator, IntegerType, Label, Member, SimpleType, SwitchType,
+    TagKind, TypeSpec, Width,
 };
 pub use words::Spelling;

@@ -21,9 +21,16 @@ pub enum Width {
 #[derive(Clone, Copy, Debug, PartialEq, Eq)]
 pub enum IntegerType {
     /// The width, then `unsigned` and `int` where they stand.
-    WidthFirst { width: Width, unsigned: bool, int: bool },
+    WidthFirst {
+        width: Width,
+        unsigned: bool,
+        int: bool,
+    },
     /// `unsigned`, the width, then `int` where it stands.
-    UnsignedFirst { width: Width, int: bool },
+    UnsignedFirst {
+        width: Width,
+        int: bool,
+    },
 }
 
 /// A type without parts.
@@ -99,9 +106,17 @@ pub enum TypeSpec {
     /// The name of a type.
     Name(Spelling),
     /// A tag alone.
-    Tag { at: u32, kind: TagKind, tag: Spelling },
+    Tag {
+        at: u32,
+        kind: TagKind,
+        tag: Spelling,
+    },
     /// A struct with its members.
-    Struct { at: u32, tag: Option<Spelling>, members: Vec<Member> },
+    Struct {
+        at: u32,
+        tag: Option<Spelling>,
+        members: Vec<Member>,
+    },
     /// A union that has its discriminant with it (C706, section 4.2.11.1), and the name of its union part where it has one.
     EncapsulatedUnion {
         at: u32,
@@ -111,9 +126,17 @@ pub enum TypeSpec {
         cases: Vec<Case>,
     },
     /// A union whose discriminant stands elsewhere (C706, section 4.2.11.2).
-    NonEncapsulatedUnion { at: u32, tag: Option<Spelling>, arms: Vec<Arm> },
+    NonEncapsulatedUnion {
+        at: u32,
+        tag: Option<Spelling>,
+        arms: Vec<Arm>,
+    },
     /// An enumeration with its names.
-    Enum { at: u32, tag: Option<Spelling>, enumerators: Vec<Enumerator> },
+    Enum {
+        at: u32,
+        tag: Option<Spelling>,
+        enumerators: Vec<Enumerator>,
+    },
 }
 
 /// Members of a struct that have one type.
@@ -145,7 +168,15 @@ pub struct Case {
 #[derive(Debug, Drop)]
 pub enum Arm {
     /// Nothing.
-    Empty { at: u32, attributes: Option<Attributes> },
+    Empty {
+        at: u32,
+        attributes: Option<Attributes>,
+    },
     /// A member.
-    Typed { at: u32, attributes: Option<Attributes>, of: TypeSpec, declarator: Declarator },
+    Typed {
+        at: u32,
+        attributes: Option<Attributes>,
+        of: TypeSpec,
+        declarator: Declarator,
+    },
 }
