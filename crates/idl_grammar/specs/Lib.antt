@@ -6,3 +6,4 @@ pub mod Expressions
 pub mod Grammar
 pub mod Seen
 pub mod ReadExpressions
+pub mod Reading
