@@ -1,0 +1,4 @@
+mod Levels
+mod Combine
+mod ExpressionParts
+mod ExpressionsExact
