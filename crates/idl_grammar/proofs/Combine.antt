@@ -46,6 +46,25 @@ stopped_exact P StopP Stop t i less (Err e) f = record {
   never = λ lifted r x agrees b j ph stop. f.never lifted r x agrees b j ph (less x j stop);
 }
 
+-- the same for a relation that is the same where the reading begins
+pub here_exact : {A : Type 0} (P Q : Rel A) (Stop : Stops) (t : Text) (i : ℕ)
+    → ((lifted : Lifted) (x : Text) (j : ℕ) (a : A) → P a lifted x i j → Q a lifted x i j) → ((lifted : Lifted) (x : Text) (j : ℕ) (a : A) → Q a lifted x i j → P a lifted x i j)
+    → (r : Read A) → Exact P Stop t i r → Exact Q Stop t i r
+here_exact P Q Stop t i forth back (Ok x) f = record {
+  after = f.after;
+  within = f.within;
+  phrase = λ lifted y agrees. forth lifted y x.1 x.0 (f.phrase lifted y agrees);
+  only = λ lifted y agrees b j ph stop. f.only lifted y agrees b j (back lifted y j b ph) stop;
+}
+here_exact P Q Stop t i forth back (Err e) f = record {
+  after = f.after;
+  within = f.within;
+  never = λ lifted r y agrees b j ph stop. f.never lifted r y agrees b j (back lifted y j b ph) stop;
+  viable = λ lifted is lifts z.
+      let c = f.viable lifted is lifts z in
+      record { text = c.text; agrees = c.agrees; value = c.value; end = c.end; phrase = forth lifted c.text c.end c.value c.phrase; late = c.late; rest = c.rest };
+}
+
 -- ## Branches
 
 branch_case : {A B C : Type 0} (f : A ⊎ B → C) (b : Bool) (r : Read A) (s : Read B)

@@ -2,3 +2,4 @@ mod Levels
 mod Combine
 mod ExpressionParts
 mod ExpressionsExact
+mod OuterExact
