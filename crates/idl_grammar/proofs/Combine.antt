@@ -6,7 +6,7 @@ use Rattle.phrases.specs.Text.{Lexeme, Text, lexeme_at, symbol_at, is, is_in, Li
 use Rattle.phrases.specs.Reading.{Syntax, Read, then, join, turned, token_read, mark_read, choice_read}
 use Rattle.phrases.proofs.Exact.{Stops, Found, Failed, Exact, HasPhrase, Meets, Part, turned_exact}
 use Rattle.phrases.proofs.Parts.{clash, token_exact, token_has, of_symbol, mark_exact, marked, optional_exact, optional_has, turned_has}
-use Rattle.phrases.proofs.Sequences.{stops, Begins, BeginsOr, disjoint, subset, apart, smaller, choice_exact, choice_begins}
+use Rattle.phrases.proofs.Sequences.{stops, Begins, BeginsOr, disjoint, subset, apart, smaller, in_more, choice_exact, choice_begins}
 use Rattle.idl_grammar.specs.Symbols as symbol
 use Rattle.idl_grammar.specs.Limits.{Meant, symbols_of, value_of, names}
 use Rattle.idl_grammar.specs.Expressions.{spelling, spelled, placed, ident}
@@ -232,3 +232,51 @@ module _ {A : Type 0} (P : Rel A) (firsts : List ℕ) (begins : Begins P firsts)
 -- the closing mark is what stands before it
 pub before_meets : (s : ℕ) → Meets (Unit {0}) (λ x j. is (symbol_at x j) s ≡ true) (marked s) (stops [])
 before_meets s lifted x m j u ph stop = eq-eqb (symbol_at x m) s ph.0
+
+-- ## One of a list of words
+
+-- what holds of each word and its value
+abbrev pub EachMeant : {A : Type 0} → (A → ℕ → Type 0) → List (Meant A) → Type 0
+EachMeant Q [] = Unit {0}
+EachMeant Q (m ∷ others) = Q m.value m.symbol × EachMeant Q others
+
+pub each_meant : {A : Type 0} (Q : A → ℕ → Type 0) (otherwise : A) (list : List (Meant A)) → EachMeant Q list → (s : ℕ) → is_in (symbols_of list) s ≡ true → Q (value_of otherwise list s) s
+each_meant Q otherwise [] all s h = clash false h refl
+each_meant {A = A} Q otherwise (m ∷ others) all s h = by_case (each_meant Q otherwise others all.1 s) (eqb s m.symbol) refl h where
+  by_case : (is_in (symbols_of others) s ≡ true → Q (value_of otherwise others s) s)
+      → (b : Bool) → eqb s m.symbol ≡ b → (b || is_in (symbols_of others) s) ≡ true → Q (cond b m.value (value_of otherwise others s)) s
+  by_case rest true e g = subst (λ (v : ℕ). Q m.value v) (sym (eqb-true s m.symbol e)) all.0
+  by_case rest false e g = rest g
+
+-- a word of the list, and its value
+pub one_word : {A : Type 0} (otherwise : A) (list : List (Meant A)) (s : ℕ) (v : A) → is_in (symbols_of list) s ≡ true → v ≡ value_of otherwise list s
+    → (lifted : Lifted) (x : Text) (i j : ℕ) → mark s lifted x i j → one_of otherwise list v lifted x i j
+one_word otherwise list s v h e lifted x i j ph =
+    (ap (λ (c : ℕ). is_in (symbols_of list) c) ph.0 ∙ h, e ∙ sym (ap (λ (c : ℕ). value_of otherwise list c) ph.0), ph.1)
+
+-- ## One relation or another over the same trees
+
+abbrev pub either : {A : Type 0} → Rel A → Rel A → Rel A
+either P Q c lifted x i j = P c lifted x i j ⊎ Q c lifted x i j
+
+module _ {A : Type 0} (P Q : Rel A) (firsts others : List ℕ) (begins : Begins P firsts) (else_begins : Begins Q others) (apart_is : disjoint others firsts ≡ true) where
+  module _ (Stop : Stops) (t : Text) (i : ℕ) where
+    first_only : is_in firsts (symbol_at t i) ≡ true → (lifted : Lifted) (x : Text) → lexeme_at x i ≡ lexeme_at t i → (c : A) (j : ℕ) → either P Q c lifted x i j → Stop x j → P c lifted x i j
+    first_only h lifted x e c j (inl ph) stop = ph
+    first_only h lifted x e c j (inr ph) stop =
+        clash (is_in firsts (symbol_at x i)) (ap (λ (l : Lexeme). is_in firsts l.symbol) e ∙ h) (apart others firsts (symbol_at x i) apart_is (else_begins lifted x i j c ph))
+
+    second_only : is_in firsts (symbol_at t i) ≡ false → (lifted : Lifted) (x : Text) → lexeme_at x i ≡ lexeme_at t i → (c : A) (j : ℕ) → either P Q c lifted x i j → Stop x j → Q c lifted x i j
+    second_only h lifted x e c j (inl ph) stop = clash (is_in firsts (symbol_at x i)) (begins lifted x i j c ph) (ap (λ (l : Lexeme). is_in firsts l.symbol) e ∙ h)
+    second_only h lifted x e c j (inr ph) stop = ph
+
+    either_case : (r s : Read A) → (is_in firsts (symbol_at t i) ≡ true → Exact P Stop t i r) → Exact Q Stop t i s → (b : Bool) → is_in firsts (symbol_at t i) ≡ b → Exact (either P Q) Stop t i (cond b r s)
+    either_case r s x y true h = changed_exact P (either P Q) (λ lifted x i j a ph. inl ph) Stop t i (first_only h) r (x h)
+    either_case r s x y false h = changed_exact Q (either P Q) (λ lifted x i j a ph. inr ph) Stop t i (second_only h) s y
+
+    pub either_exact : (r s : Read A) → (is_in firsts (symbol_at t i) ≡ true → Exact P Stop t i r) → Exact Q Stop t i s → Exact (either P Q) Stop t i (branch_read firsts t i r s)
+    either_exact r s x y = either_case r s x y (is_in firsts (symbol_at t i)) refl
+
+  pub either_begins : (all : List ℕ) → subset firsts all ≡ true → subset others all ≡ true → Begins (either P Q) all
+  either_begins all p q lifted x i j c (inl ph) = in_more firsts all (symbol_at x i) p (begins lifted x i j c ph)
+  either_begins all p q lifted x i j c (inr ph) = in_more others all (symbol_at x i) q (else_begins lifted x i j c ph)

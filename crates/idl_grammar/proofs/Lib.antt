@@ -3,3 +3,5 @@ mod Combine
 mod ExpressionParts
 mod ExpressionsExact
 mod OuterExact
+mod SimpleExact
+mod AttributesExact
