@@ -53,32 +53,32 @@ pub pointer_class_exact : (ends : List ℕ) (t : Text) (i : ℕ) → i ≤ lengt
 unfolding pointer_class pointer_class_read
 pointer_class_exact ends t i in_text = one_of_exact class.Reference class_words symbol.Ref refl refl (stops ends) t i in_text
 
-pointer_class_has : HasPhrase pointer_class
+pub pointer_class_has : HasPhrase pointer_class
 unfolding pointer_class
 pointer_class_has = one_of_has class.Reference class_words symbol.Ref refl refl
 
-pointer_class_begins : Begins pointer_class class_symbols
+pub pointer_class_begins : Begins pointer_class class_symbols
 unfolding pointer_class
 pointer_class_begins lifted x i j c ph = ph.0
 
-variable_word_exact : (ends : List ℕ) (t : Text) (i : ℕ) → i ≤ length t → Exact variable_word (stops ends) t i (variable_word_read t i)
+pub variable_word_exact : (ends : List ℕ) (t : Text) (i : ℕ) → i ≤ length t → Exact variable_word (stops ends) t i (variable_word_read t i)
 unfolding variable_word variable_word_read
 variable_word_exact ends t i in_text = one_of_exact variable.SizeIs variable_words symbol.SizeIs refl refl (stops ends) t i in_text
 
-variable_word_begins : Begins variable_word variable_symbols
+pub variable_word_begins : Begins variable_word variable_symbols
 unfolding variable_word
 variable_word_begins lifted x i j c ph = ph.0
 
-variable_word_has : HasPhrase variable_word
+pub variable_word_has : HasPhrase variable_word
 unfolding variable_word
 variable_word_has = one_of_has variable.SizeIs variable_words symbol.SizeIs refl refl
 
-star_not_name : (inside : Bool) → disjoint (names inside) (symbol.Star ∷ []) ≡ true
+pub star_not_name : (inside : Bool) → disjoint (names inside) (symbol.Star ∷ []) ≡ true
 unfolding names
 star_not_name true = refl
 star_not_name false = refl
 
-variable_name_exact : (t : Text) (i : ℕ) → i ≤ length t → Exact variable_name (stops []) t i (variable_name_read t i)
+pub variable_name_exact : (t : Text) (i : ℕ) → i ≤ length t → Exact variable_name (stops []) t i (variable_name_read t i)
 unfolding variable_name variable_name_read
 variable_name_exact t i in_text =
     turned_exact (flag symbol.Star ⊗ ident true) variable_name variable_of (λ lifted x i j a ph. ph) (stops []) t i
@@ -89,25 +89,25 @@ variable_name_exact t i in_text =
     (flag_exact symbol.Star refl (symbol.Star ∷ []) refl t i in_text)
     (λ s m found. ident_exact true (stops []) t m found.within))
 
-variable_name_has : HasPhrase variable_name
+pub variable_name_has : HasPhrase variable_name
 unfolding variable_name
 variable_name_has = turned_has (flag symbol.Star ⊗ ident true) variable_name variable_of (λ lifted x i j a ph. ph) (pair_has _ _ (flag_has symbol.Star refl) (ident_has true))
 
 -- ## each attribute with brackets
 
-uuid_exact : (depth : ℕ) (t : Text) (i : ℕ) → i ≤ length t → Exact (symbol.Uuid ⊳ in_round depth (spelled symbol.UuidValue)) (stops []) t i (uuid_read t depth i)
+pub uuid_exact : (depth : ℕ) (t : Text) (i : ℕ) → i ≤ length t → Exact (symbol.Uuid ⊳ in_round depth (spelled symbol.UuidValue)) (stops []) t i (uuid_read t depth i)
 unfolding uuid_read
 uuid_exact depth t i in_text =
     word_round_exact depth (spelled symbol.UuidValue) [] (spelled_has symbol.UuidValue refl) refl symbol.Uuid refl t i in_text (spelled_read symbol.UuidValue t)
     (λ room m after in_m. spelled_exact symbol.UuidValue refl (stops []) t m in_m)
 
-abbrev version_numbers : Rel (Spelling × Option Spelling)
+abbrev pub version_numbers : Rel (Spelling × Option Spelling)
 version_numbers = spelled symbol.Number ⊗ optional (symbol.Dot ⊳ spelled symbol.Number)
 
-version_numbers_has : HasPhrase version_numbers
+pub version_numbers_has : HasPhrase version_numbers
 version_numbers_has = pair_has _ _ (spelled_has symbol.Number refl) (optional_has (symbol.Dot ⊳ spelled symbol.Number))
 
-version_numbers_exact : (t : Text) (i : ℕ) → i ≤ length t → Exact version_numbers (stops (symbol.Dot ∷ [])) t i (version_numbers_read t i)
+pub version_numbers_exact : (t : Text) (i : ℕ) → i ≤ length t → Exact version_numbers (stops (symbol.Dot ∷ [])) t i (version_numbers_read t i)
 unfolding version_numbers_read
 version_numbers_exact t i in_text =
     pair_exact (spelled symbol.Number) (optional (symbol.Dot ⊳ spelled symbol.Number)) (stops []) (stops (symbol.Dot ∷ [])) (λ lifted x m j b ph stop. refl) (optional_has (symbol.Dot ⊳ spelled symbol.Number)) t i
@@ -117,13 +117,13 @@ version_numbers_exact t i in_text =
     (behind_read symbol.Dot t (spelled_read symbol.Number t))
     (skip_exact symbol.Dot (spelled symbol.Number) (stops []) t m refl found.within (spelled_has symbol.Number refl) (spelled_read symbol.Number t) (λ o after in_o. spelled_exact symbol.Number refl (stops []) t o in_o)))
 
-version_exact : (depth : ℕ) (t : Text) (i : ℕ) → i ≤ length t → Exact (symbol.Version ⊳ in_round depth version_numbers) (stops []) t i (version_read t depth i)
+pub version_exact : (depth : ℕ) (t : Text) (i : ℕ) → i ≤ length t → Exact (symbol.Version ⊳ in_round depth version_numbers) (stops []) t i (version_read t depth i)
 unfolding version_read
 version_exact depth t i in_text =
     word_round_exact depth version_numbers (symbol.Dot ∷ []) version_numbers_has refl symbol.Version refl t i in_text (version_numbers_read t)
     (λ room m after in_m. version_numbers_exact t m in_m)
 
-endpoint_exact : (depth : ℕ) (t : Text) (i : ℕ) → i ≤ length t → Exact (symbol.Endpoint ⊳ in_round depth (commas (spelled symbol.Quoted))) (stops []) t i (endpoint_read t depth i)
+pub endpoint_exact : (depth : ℕ) (t : Text) (i : ℕ) → i ≤ length t → Exact (symbol.Endpoint ⊳ in_round depth (commas (spelled symbol.Quoted))) (stops []) t i (endpoint_read t depth i)
 unfolding endpoint_read
 endpoint_exact depth t i in_text =
     word_round_exact depth (commas (spelled symbol.Quoted)) (symbol.Comma ∷ []) (separated_has symbol.Comma (spelled symbol.Quoted) (spelled_has symbol.Quoted refl)) refl symbol.Endpoint refl t i in_text
@@ -132,19 +132,19 @@ endpoint_exact depth t i in_text =
     separated_exact symbol.Comma (spelled symbol.Quoted) [] (symbol.Comma ∷ []) (spelled_has symbol.Quoted refl) refl refl refl refl t m (spelled_read symbol.Quoted t)
     (λ o based in_o. spelled_exact symbol.Quoted refl (stops []) t o in_o) m (omega arith) in_m)
 
-pointer_default_exact : (depth : ℕ) (t : Text) (i : ℕ) → i ≤ length t → Exact (symbol.PointerDefault ⊳ in_round depth pointer_class) (stops []) t i (pointer_default_read t depth i)
+pub pointer_default_exact : (depth : ℕ) (t : Text) (i : ℕ) → i ≤ length t → Exact (symbol.PointerDefault ⊳ in_round depth pointer_class) (stops []) t i (pointer_default_read t depth i)
 unfolding pointer_default_read
 pointer_default_exact depth t i in_text =
     word_round_exact depth pointer_class [] pointer_class_has refl symbol.PointerDefault refl t i in_text (pointer_class_read t) (λ room m after in_m. pointer_class_exact [] t m in_m)
 
-variable_exact : (depth : ℕ) (t : Text) (i : ℕ) → i ≤ length t → Exact (variable_word ⊗ in_round depth variable_name) (stops []) t i (variable_read t depth i)
+pub variable_exact : (depth : ℕ) (t : Text) (i : ℕ) → i ≤ length t → Exact (variable_word ⊗ in_round depth variable_name) (stops []) t i (variable_read t depth i)
 unfolding variable_read
 variable_exact depth t i in_text =
     pair_exact variable_word (in_round depth variable_name) (stops []) (stops []) (λ lifted x m j b ph stop. refl) (round_has depth variable_name [] variable_name_has refl) t i
     (variable_word_read t i) _ (variable_word_exact [] t i in_text)
     (λ w m found. round_exact depth variable_name [] variable_name_has refl t m found.within (variable_name_read t) (λ room o after in_o. variable_name_exact t o in_o))
 
-switch_attribute_exact : (depth : ℕ) (t : Text) (i : ℕ) → i ≤ length t → Exact (symbol.SwitchType ⊳ in_round depth (switch_type true)) (stops []) t i (switch_attribute_read t depth i)
+pub switch_attribute_exact : (depth : ℕ) (t : Text) (i : ℕ) → i ≤ length t → Exact (symbol.SwitchType ⊳ in_round depth (switch_type true)) (stops []) t i (switch_attribute_read t depth i)
 unfolding switch_attribute_read
 switch_attribute_exact depth t i in_text =
     word_round_exact depth (switch_type true) simple_ends (switch_type_has true) refl symbol.SwitchType refl t i in_text (switch_type_read true t) (λ room m after in_m. switch_type_exact true t m in_m)
@@ -153,23 +153,23 @@ switch_attribute_exact depth t i in_text =
 unfoldable pub values_ends : List ℕ
 values_ends = symbol.Comma ∷ expr_ends
 
-values_close : is_in values_ends symbol.CloseRound ≡ false
+pub values_close : is_in values_ends symbol.CloseRound ≡ false
 unfolding values_ends expr_ends
 values_close = refl
 
-values_comma : subset (symbol.Comma ∷ []) values_ends ≡ true
+pub values_comma : subset (symbol.Comma ∷ []) values_ends ≡ true
 unfolding values_ends
 values_comma = refl
 
-values_more : subset expr_ends values_ends ≡ true
+pub values_more : subset expr_ends values_ends ≡ true
 unfolding values_ends expr_ends
 values_more = refl
 
-comma_apart : disjoint (symbol.Comma ∷ []) expr_ends ≡ true
+pub comma_apart : disjoint (symbol.Comma ∷ []) expr_ends ≡ true
 unfolding expr_ends
 comma_apart = refl
 
-case_attribute_exact : (nesting depth : ℕ) → 129 ≤ nesting → (t : Text) (i : ℕ) → i ≤ length t
+pub case_attribute_exact : (nesting depth : ℕ) → 129 ≤ nesting → (t : Text) (i : ℕ) → i ≤ length t
     → Exact (symbol.Case ⊳ in_round depth (commas (outer true (depth + 1)))) (stops []) t i (case_attribute_read nesting t depth i)
 unfolding case_attribute_read
 case_attribute_exact nesting depth enough t i in_text =

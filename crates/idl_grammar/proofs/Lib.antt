@@ -5,3 +5,4 @@ mod ExpressionsExact
 mod OuterExact
 mod SimpleExact
 mod AttributesExact
+mod AttributeLists
