@@ -6,3 +6,4 @@ mod OuterExact
 mod SimpleExact
 mod AttributesExact
 mod AttributeLists
+mod DeclaratorsExact
