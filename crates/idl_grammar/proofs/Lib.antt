@@ -7,3 +7,4 @@ mod SimpleExact
 mod AttributesExact
 mod AttributeLists
 mod DeclaratorsExact
+mod BodiesExact
