@@ -8,3 +8,5 @@ mod AttributesExact
 mod AttributeLists
 mod DeclaratorsExact
 mod BodiesExact
+mod TypeParts
+mod TypeLists
