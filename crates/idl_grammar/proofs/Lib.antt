@@ -10,3 +10,4 @@ mod DeclaratorsExact
 mod BodiesExact
 mod TypeParts
 mod TypeLists
+mod Tagged
