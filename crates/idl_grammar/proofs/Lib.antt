@@ -11,3 +11,4 @@ mod BodiesExact
 mod TypeParts
 mod TypeLists
 mod Tagged
+mod TypesExact
