@@ -11,4 +11,5 @@ mod BodiesExact
 mod TypeParts
 mod TypeLists
 mod Tagged
+mod TypeAlternatives
 mod TypesExact
