@@ -13,3 +13,4 @@ mod TypeLists
 mod Tagged
 mod TypeAlternatives
 mod TypesExact
+mod ParametersExact
