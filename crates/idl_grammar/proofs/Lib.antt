@@ -13,4 +13,5 @@ mod TypeLists
 mod Tagged
 mod TypeAlternatives
 mod TypesExact
+mod ParameterExact
 mod ParametersExact

@@ -1,4 +1,4 @@
--- Parameters are read exactly.
+-- What stands between the brackets of an operation is read exactly.
 use Rattle.std.proofs.Common.{◌≡◌, ℕ, ◌+◌, ◌<◌, ◌≤◌, Bool, true, false, List, [], ◌∷◌, cond, length, refl, sym, ap, subst, arith, ◌∙◌, ◌⊎◌, inl, inr, Option, Some, None, Ok, Err, ◌||◌, eq-eqb}
 use Rattle.std.proofs.lemmas.Bool.{eqb-true}
 use Rattle.phrases.specs.Text.{Lexeme, Text, lexeme_at, symbol_at, is, is_in, Lifted, Rel, nothing, mark, many, optional, located, separated, made, ◌▹◌, ◌⊗◌, ◌⊳◌}
@@ -26,103 +26,111 @@ use Rattle.idl_grammar.proofs.TypeParts.{type_ends, declarators_end_types, types
 use Rattle.idl_grammar.proofs.TypeAlternatives.{type_begins, type_has}
 use Rattle.idl_grammar.proofs.TypesExact.{type_exact}
 
--- ## one parameter
+use Rattle.phrases.proofs.Exact.{turned_exact}
+use Rattle.idl_grammar.specs.Reading.{unless_read}
+use Rattle.idl_grammar.proofs.Combine.{turned_same, before, unless_exact}
+use Rattle.idl_grammar.proofs.ParameterExact.{members_no_close, parameter_begins, parameter_has, parameter_exact, more_exact, list_of_exact, void_type}
 
-members_real : is_in member_firsts 0 ≡ false
+-- ## readings
+
+unless_case : {A C : Type 0} (make : Option A → C) (b : Bool) (r : Read A) (i : ℕ) → turned make (cond b (Ok (None, i)) (turned Some r)) ≡ cond (b || false) (Ok (make None, i)) (turned (λ (a : A). make (Some a)) r)
+unless_case make true r i = refl
+unless_case make false r i = turned_twice Some make r
+
+pub unless_is : {A C : Type 0} (make : Option A → C) (s : ℕ) (t : Text) (item : ℕ → Read A) (i : ℕ)
+    → turned make (unless_read s t item i) ≡ branch_read (s ∷ []) t i (Ok (make None, i)) (turned (λ (a : A). make (Some a)) (item i))
+unless_is make s t item i = unless_case make (is (symbol_at t i) s) (item i) i
+
+void_listed : is_in member_firsts symbol.Void ≡ true
 unfolding member_firsts type_firsts names
-members_real = refl
+void_listed = refl
 
-types_member : subset type_firsts member_firsts ≡ true
-unfolding member_firsts type_firsts names
-types_member = refl
+declarators_no_close : is_in declarator_firsts symbol.CloseRound ≡ false
+unfolding declarator_firsts names
+declarators_no_close = refl
 
-square_member : subset (symbol.OpenSquare ∷ []) member_firsts ≡ true
-unfolding member_firsts
-square_member = refl
+-- the bracket is next
+abbrev pub closing : Stops
+closing x j = is (symbol_at x j) symbol.CloseRound ≡ true
 
-members_no_close : is_in member_firsts symbol.CloseRound ≡ false
-unfolding member_firsts type_firsts names
-members_no_close = refl
+closing_ends : (x : Text) (j : ℕ) → closing x j → stops declarators_ends x j
+closing_ends x j stop = ap (λ (s : ℕ). is_in declarators_ends s) (eqb-true (symbol_at x j) symbol.CloseRound stop)
 
 module _ (depth : ℕ) where
-  abbrev parameter_tail : Rel (Option Attributes × (TypeSpec × Declarator))
-  parameter_tail = optional (attributes depth) ⊗ (type_spec depth ⊗ declarator depth)
+  -- `void` alone, or a list
+  abbrev some_parameters : Rel Parameters
+  some_parameters tree.Absent = Rattle.phrases.specs.Text.never
+  some_parameters tree.Void = mark symbol.Void
+  some_parameters (tree.Listed ps) = commas (parameter depth) ps
 
-  abbrev field : Rel (TypeSpec × Declarator)
-  field = type_spec depth ⊗ declarator depth
+  abbrev behind_first : Rel (Declarator × List Parameter)
+  behind_first = declarator depth ⊗ many (symbol.Comma ⊳ parameter depth)
 
-  field_begins : Begins field type_firsts
-  field_begins = pair_begins (type_spec depth) (declarator depth) type_firsts (type_begins depth)
+  abbrev void_parts : Rel (ℕ × Option (Declarator × List Parameter))
+  void_parts = placed symbol.Void ⊗ optional behind_first
 
-  parameter_tail_begins : Begins parameter_tail member_firsts
-  parameter_tail_begins = or_pair_begins (optional (attributes depth)) field (symbol.OpenSquare ∷ []) type_firsts member_firsts (maybe_attributes_begin depth) field_begins square_member types_member
+  abbrev void_made : ℕ → Option (Declarator × List Parameter) → Parameters
+  void_made at None = tree.Void
+  void_made at (Some q) = tree.Listed (parameter_of (at, (None, (tree.Simple types.Void, q.0))) ∷ q.1)
 
-  pub parameter_begins : Begins (parameter depth) member_firsts
+  abbrev void_of : ℕ × Option (Declarator × List Parameter) → Parameters
+  void_of p = void_made p.0 p.1
+
+  behind_first_begins : Begins behind_first declarator_firsts
+  behind_first_begins = pair_begins (declarator depth) (many (symbol.Comma ⊳ parameter depth)) declarator_firsts (declarator_begins depth)
+
+  void_forth : (lifted : Lifted) (x : Text) (i j : ℕ) (p : ℕ × Option (Declarator × List Parameter)) → void_parts p lifted x i j → some_parameters (void_of p) lifted x i j
+  unfolding parameter simple
+  void_forth lifted x i j (at, None) ph = (eqb-true (symbol_at x i) symbol.Void ph.1.0, ph.2 ∙ ph.1.2)
+  void_forth lifted x i j (at, Some q) ph =
+      (ph.2.0, (ph.1.1, (i, refl, (ph.0, (eqb-true (symbol_at x i) symbol.Void ph.1.0, ph.1.2), ph.2.1))), ph.2.2)
+
+  abbrev Void_part : (lifted : Lifted) (x : Text) (i j : ℕ) (c : Parameters) → Type 0
+  Void_part lifted x i j c = Part void_parts some_parameters void_of lifted x i j c
+
+  void_list_back : (lifted : Lifted) (x : Text) (i j m : ℕ) → symbol_at x i ≡ symbol.Void → (at : ℕ) (a : Option Attributes) (type : TypeSpec) (d : Declarator) (ps : List Parameter)
+      → parameter depth (parameter_of (at, (a, (type, d)))) lifted x i m → many (symbol.Comma ⊳ parameter depth) ps lifted x m j
+      → Void_part lifted x i j (tree.Listed (parameter_of (at, (a, (type, d))) ∷ ps))
   unfolding parameter
-  parameter_begins lifted x i j c ph = parameter_tail_begins lifted x i j (c.attributes, (c.type, c.declarator)) ph.1
+  void_list_back lifted x i j m e at (Some b) type d ps ph others =
+      clash (is_in (symbol.OpenSquare ∷ []) (symbol_at x i)) (attributes_begin depth lifted x i ph.1.0 b ph.1.1) (ap (λ (s : ℕ). is_in (symbol.OpenSquare ∷ []) s) e)
+  void_list_back lifted x i j m e at None type d ps ph others =
+      let here : symbol_at x ph.1.0 ≡ symbol.Void = ap (λ (k : ℕ). symbol_at x k) ph.1.1 ∙ e in
+      let v = void_type depth type lifted x ph.1.0 ph.1.2.0 here ph.1.2.1 in
+      let past : ph.1.2.0 ≡ i + 1 = v.1 ∙ ap (λ (k : ℕ). k + 1) ph.1.1 in
+      record {
+        part = (at, Some (d, ps));
+        is = ap (λ (c : TypeSpec). tree.Listed (parameter_of (at, (None, (c, d))) ∷ ps)) v.0;
+        phrase = (ph.1.2.0, (eq-eqb (symbol_at x i) symbol.Void e, ph.0, past), (m, ph.1.2.2, others));
+      }
 
-  pub parameter_has : HasPhrase (parameter depth)
-  unfolding parameter
-  parameter_has =
-      turned_has (located parameter_tail) (parameter depth) parameter_of (λ lifted x i j a ph. ph)
-      (located_has parameter_tail (pair_has _ _ (optional_has (attributes depth)) (pair_has _ _ (type_has depth) (declarator_has depth))))
+  void_back : (t : Text) (i : ℕ) → is_in (symbol.Void ∷ []) (symbol_at t i) ≡ true → (lifted : Lifted) (x : Text) → lexeme_at x i ≡ lexeme_at t i → (c : Parameters) (j : ℕ) → some_parameters c lifted x i j → closing x j
+      → Void_part lifted x i j c
+  void_back t i h lifted x e c j ph stop = by_case c ph where
+    one : (b : Bool) → (b || false) ≡ true → b ≡ true
+    one true h = refl
+    one false h = h
 
-  module _ (fuel nesting : ℕ) (enough : 129 ≤ nesting) (shallow : depth ≤ 64) (fueled : 65 ≤ fuel + depth) (t : Text) where
-    pub parameter_exact : (i : ℕ) → i ≤ length t → Exact (parameter depth) (stops declarator_ends) t i (parameter_read fuel nesting t depth i)
-    unfolding parameter parameter_read
-    parameter_exact i in_text =
-        turned_exact (located parameter_tail) (parameter depth) parameter_of (λ lifted x i j a ph. ph) (stops declarator_ends) t i
-        (λ lifted x e c j ph stop. record { part = (c.at, (c.attributes, (c.type, c.declarator))); is = refl; phrase = ph }) _
-        (located_exact parameter_tail member_firsts (stops declarator_ends) t i parameter_tail_begins members_real _
-        (pair_exact (optional (attributes depth)) field (stops (symbol.OpenSquare ∷ [])) (stops declarator_ends) (meets_first field type_firsts (symbol.OpenSquare ∷ []) (stops declarator_ends) field_begins types_no_square)
-        (pair_has _ _ (type_has depth) (declarator_has depth)) t i (maybe_attributes_read nesting t depth i) _ (maybe_attributes_exact nesting enough t depth i in_text)
-        (λ a m found.
-        pair_exact (type_spec depth) (declarator depth) (stops type_ends) (stops declarator_ends) (meets_first (declarator depth) declarator_firsts type_ends (stops declarator_ends) (declarator_begins depth) declarators_end_types)
-        (declarator_has depth) t m (type_read fuel nesting t depth m) (λ c o. declarator_read nesting t depth o) (type_exact nesting enough t fuel depth m shallow fueled found.within)
-        (λ c o found_c. declarator_exact nesting enough t depth o found_c.within))))
+    void_here : symbol_at x i ≡ symbol.Void
+    void_here = ap (λ (l : Lexeme). l.symbol) e ∙ eqb-true (symbol_at t i) symbol.Void (one (is (symbol_at t i) symbol.Void) h)
 
-    -- the parameters behind the first one
-    more_exact : (i : ℕ) → i ≤ length t → Exact (many (symbol.Comma ⊳ parameter depth)) (stops declarators_ends) t i (more_parameters_read fuel nesting t depth i)
-    unfolding more_parameters_read
-    more_exact i in_text =
-        list_exact (symbol.Comma ⊳ parameter depth) (symbol.Comma ∷ []) declarator_ends declarators_ends (skip_begins symbol.Comma (parameter depth)) refl refl refl refl t i
-        (behind_read symbol.Comma t (parameter_read fuel nesting t depth))
-        (λ m based in_m. skip_exact symbol.Comma (parameter depth) (stops declarator_ends) t m refl in_m parameter_has (parameter_read fuel nesting t depth) (λ o after in_o. parameter_exact o in_o)) i (omega arith) in_text
+    by_case : (c : Parameters) → some_parameters c lifted x i j → Void_part lifted x i j c
+    by_case tree.Absent ph = absurd ph
+    by_case tree.Void ph = record { part = ((lexeme_at x i).at, None); is = refl; phrase = (i + 1, (eq-eqb (symbol_at x i) symbol.Void ph.0, refl, refl), ph.1) }
+    by_case (tree.Listed []) ph = absurd ph
+    by_case (tree.Listed (p ∷ ps)) ph = void_list_back lifted x i j ph.0 void_here p.at p.attributes p.type p.declarator ps ph.1 ph.2
 
-    list_of_exact : (i : ℕ) → i ≤ length t → Exact (commas (parameter depth)) (stops declarators_ends) t i (commas_read t (parameter_read fuel nesting t depth) i)
-    list_of_exact i in_text =
-        separated_exact symbol.Comma (parameter depth) declarator_ends declarators_ends parameter_has refl refl refl refl t i (parameter_read fuel nesting t depth)
-        (λ m based in_m. parameter_exact m in_m) i (omega arith) in_text
+  list_back : (t : Text) (i : ℕ) → is_in (symbol.Void ∷ []) (symbol_at t i) ≡ false → (lifted : Lifted) (x : Text) → lexeme_at x i ≡ lexeme_at t i → (c : Parameters) (j : ℕ) → some_parameters c lifted x i j → closing x j
+      → Part (commas (parameter depth)) some_parameters tree.Listed lifted x i j c
+  list_back t i h lifted x e tree.Absent j ph stop = absurd ph
+  list_back t i h lifted x e tree.Void j ph stop =
+      clash (is_in (symbol.Void ∷ []) (symbol_at t i)) (ap (λ (l : Lexeme). is_in (symbol.Void ∷ []) l.symbol) (sym e) ∙ ap (λ (s : ℕ). is_in (symbol.Void ∷ []) s) ph.0) h
+  list_back t i h lifted x e (tree.Listed ps) j ph stop = record { part = ps; is = refl; phrase = ph }
 
-  -- ## a first parameter that begins with `void`
+  some_begins : Begins some_parameters member_firsts
+  some_begins lifted x i j tree.Absent ph = absurd ph
+  some_begins lifted x i j tree.Void ph = ap (λ (s : ℕ). is_in member_firsts s) ph.0 ∙ void_listed
+  some_begins lifted x i j (tree.Listed ps) ph = separated_begins symbol.Comma (parameter depth) member_firsts (parameter_begins depth) lifted x i j ps ph
 
-  -- what begins with `void` is that type
-  pub void_simple : (c : SimpleType) (lifted : Lifted) (x : Text) (i j : ℕ) → symbol_at x i ≡ symbol.Void → simple c lifted x i j → (c ≡ types.Void) × (j ≡ i + 1)
-  unfolding simple integer width
-  void_simple types.Void lifted x i j e ph = (refl, ph.1)
-  void_simple types.Boolean lifted x i j e ph = absurd (let d : symbol.Void ≡ symbol.Boolean = sym e ∙ ph.0 in omega arith)
-  void_simple types.Byte lifted x i j e ph = absurd (let d : symbol.Void ≡ symbol.Byte = sym e ∙ ph.0 in omega arith)
-  void_simple types.Handle lifted x i j e ph = absurd (let d : symbol.Void ≡ symbol.HandleT = sym e ∙ ph.0 in omega arith)
-  void_simple (types.Char true) lifted x i j e ph = absurd (let d : symbol.Void ≡ symbol.Unsigned = sym e ∙ ph.1.0 in omega arith)
-  void_simple (types.Char false) lifted x i j e ph =
-      absurd (let here : symbol_at x i ≡ symbol.Char = subst (λ (k : ℕ). symbol_at x k ≡ symbol.Char) ph.1 ph.2.0 in let d : symbol.Void ≡ symbol.Char = sym e ∙ here in omega arith)
-  void_simple (types.Integer (integers.WidthFirst w u int)) lifted x i j e ph = clash _ ph.1.0 (ap (λ (s : ℕ). is_in (symbol.Small ∷ symbol.Short ∷ symbol.Long ∷ symbol.Hyper ∷ []) s) e)
-  void_simple (types.Integer (integers.UnsignedFirst w int)) lifted x i j e ph = absurd (let d : symbol.Void ≡ symbol.Unsigned = sym e ∙ ph.1.0 in omega arith)
-
-  void_no_name : is_in (names false) symbol.Void ≡ false
-  unfolding names
-  void_no_name = refl
-
-  void_no_word : (s : ℕ) → is symbol.Void s ≡ false → (x : Text) (i : ℕ) → symbol_at x i ≡ symbol.Void → is (symbol_at x i) s ≡ true → {A : Type 0} → A
-  void_no_word s differs x i e h = clash (is (symbol_at x i) s) h (ap (λ (v : ℕ). is v s) e ∙ differs)
-
-  pub void_type : (c : TypeSpec) (lifted : Lifted) (x : Text) (i j : ℕ) → symbol_at x i ≡ symbol.Void → type_spec depth c lifted x i j → (c ≡ tree.Simple types.Void) × (j ≡ i + 1)
-  void_type (tree.Simple s) lifted x i j e ph = let v = void_simple s lifted x i j e ph in (ap (λ (s : SimpleType). tree.Simple s) v.0, v.1)
-  void_type (tree.Name n) lifted x i j e ph = clash (is_in (names false) (symbol_at x i)) ph.0 (ap (λ (s : ℕ). is_in (names false) s) e ∙ void_no_name)
-  void_type (tree.Tag at tags.Struct tag) lifted x i j e ph = void_no_word symbol.Struct refl x i e ph.1.0
-  void_type (tree.Tag at tags.Union tag) lifted x i j e ph = void_no_word symbol.Union refl x i e ph.1.0
-  void_type (tree.Tag at tags.Enum tag) lifted x i j e ph = void_no_word symbol.Enum refl x i e ph.1.0
-  void_type (tree.Struct at tag ms) lifted x i j e ph = void_no_word symbol.Struct refl x i e ph.1.0
-  void_type (tree.EncapsulatedUnion at tag d name cs) lifted x i j e ph = void_no_word symbol.Union refl x i e ph.1.0
-  void_type (tree.NonEncapsulatedUnion at tag a) lifted x i j e ph = void_no_word symbol.Union refl x i e ph.1.0
-  void_type (tree.Enum at tag es) lifted x i j e ph = void_no_word symbol.Enum refl x i e ph.1.0
+  parameters_forth : (lifted : Lifted) (x : Text) (i j : ℕ) (a : Option Parameters) → optional some_parameters a lifted x i j → Part (optional some_parameters) (parameters depth) (λ (o : Option Parameters). elim o [ None ↦ tree.Absent | Some p ↦ p ]) lifted x i j (elim a [ None ↦ tree.Absent | Some p ↦ p ])
+  parameters_forth lifted x i j a ph = record { part = a; is = refl; phrase = ph }
