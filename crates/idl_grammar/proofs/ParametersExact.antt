@@ -132,5 +132,77 @@ module _ (depth : ℕ) where
   some_begins lifted x i j tree.Void ph = ap (λ (s : ℕ). is_in member_firsts s) ph.0 ∙ void_listed
   some_begins lifted x i j (tree.Listed ps) ph = separated_begins symbol.Comma (parameter depth) member_firsts (parameter_begins depth) lifted x i j ps ph
 
-  parameters_forth : (lifted : Lifted) (x : Text) (i j : ℕ) (a : Option Parameters) → optional some_parameters a lifted x i j → Part (optional some_parameters) (parameters depth) (λ (o : Option Parameters). elim o [ None ↦ tree.Absent | Some p ↦ p ]) lifted x i j (elim a [ None ↦ tree.Absent | Some p ↦ p ])
-  parameters_forth lifted x i j a ph = record { part = a; is = refl; phrase = ph }
+  abbrev parameters_of : Option Parameters → Parameters
+  parameters_of None = tree.Absent
+  parameters_of (Some p) = p
+
+  parameters_forth : (lifted : Lifted) (x : Text) (i j : ℕ) (a : Option Parameters) → optional some_parameters a lifted x i j → parameters depth (parameters_of a) lifted x i j
+  unfolding parameters
+  parameters_forth lifted x i j None ph = ph
+  parameters_forth lifted x i j (Some tree.Absent) ph = absurd ph
+  parameters_forth lifted x i j (Some tree.Void) ph = ph
+  parameters_forth lifted x i j (Some (tree.Listed ps)) ph = ph
+
+  parameters_back : (lifted : Lifted) (x : Text) (i j : ℕ) (c : Parameters) → parameters depth c lifted x i j → Part (optional some_parameters) (parameters depth) parameters_of lifted x i j c
+  unfolding parameters
+  parameters_back lifted x i j tree.Absent ph = record { part = None; is = refl; phrase = ph }
+  parameters_back lifted x i j tree.Void ph = record { part = Some tree.Void; is = refl; phrase = ph }
+  parameters_back lifted x i j (tree.Listed ps) ph = record { part = Some (tree.Listed ps); is = refl; phrase = ph }
+
+  pub parameters_has : HasPhrase (parameters depth)
+  parameters_has = turned_has (optional some_parameters) (parameters depth) parameters_of parameters_forth (optional_has some_parameters)
+
+  module _ (fuel nesting : ℕ) (enough : 129 ≤ nesting) (shallow : depth ≤ 64) (fueled : 65 ≤ fuel + depth) (t : Text) where
+    abbrev behind_first_read : ℕ → Read (Declarator × List Parameter)
+    behind_first_read i = then (declarator_read nesting t depth i) (λ d m. more_parameters_read fuel nesting t depth m)
+
+    behind_first_exact : (i : ℕ) → i ≤ length t → Exact behind_first (stops declarators_ends) t i (behind_first_read i)
+    behind_first_exact i in_text =
+        pair_exact (declarator depth) (many (symbol.Comma ⊳ parameter depth)) (stops declarator_ends) (stops declarators_ends)
+        (meets_or (many (symbol.Comma ⊳ parameter depth)) (symbol.Comma ∷ []) declarator_ends declarators_ends (list_begins (symbol.Comma ⊳ parameter depth) (symbol.Comma ∷ []) (skip_begins symbol.Comma (parameter depth))) refl refl)
+        (many_has (symbol.Comma ⊳ parameter depth)) t i (declarator_read nesting t depth i) (λ d m. more_parameters_read fuel nesting t depth m) (declarator_exact nesting enough t depth i in_text)
+        (λ d m found. more_exact depth fuel nesting enough shallow fueled t m found.within)
+
+    void_parts_exact : (i : ℕ) → i ≤ length t → Exact void_parts closing t i (then (placed_read symbol.Void t i) (λ at m. unless_read symbol.CloseRound t behind_first_read m))
+    void_parts_exact i in_text =
+        pair_exact (placed symbol.Void) (optional behind_first) (stops []) closing (λ lifted x m j b ph stop. refl) (optional_has behind_first) t i (placed_read symbol.Void t i) (λ at m. unless_read symbol.CloseRound t behind_first_read m)
+        (placed_exact symbol.Void refl (stops []) t i in_text)
+        (λ at m found.
+        unless_exact behind_first declarator_firsts behind_first_begins symbol.CloseRound declarators_no_close (stops declarators_ends) closing_ends t m found.within behind_first_read (behind_first_exact m found.within))
+
+    void_is : (i : ℕ) → turned void_of (then (placed_read symbol.Void t i) (λ at m. unless_read symbol.CloseRound t behind_first_read m))
+        ≡ bind_read (placed_read symbol.Void t i) (λ at m. branch_read (symbol.CloseRound ∷ []) t m (Ok (tree.Void, m)) (void_parameters_read fuel nesting t depth at m))
+    unfolding void_parameters_read
+    void_is i =
+        bind_is void_made (placed_read symbol.Void t i) (λ at m. unless_read symbol.CloseRound t behind_first_read m)
+        ∙ bind_alike (placed_read symbol.Void t i) _ _ (λ at m. unless_is (void_made at) symbol.CloseRound t behind_first_read m)
+
+    abbrev void_read : ℕ → Read Parameters
+    void_read i = bind_read (placed_read symbol.Void t i) (λ at m. branch_read (symbol.CloseRound ∷ []) t m (Ok (tree.Void, m)) (void_parameters_read fuel nesting t depth at m))
+
+    abbrev list_read_of : ℕ → Read Parameters
+    list_read_of i = turned tree.Listed (commas_read t (parameter_read fuel nesting t depth) i)
+
+    some_case : (i : ℕ) → i ≤ length t → (b : Bool) → is_in (symbol.Void ∷ []) (symbol_at t i) ≡ b → Exact some_parameters closing t i (cond b (void_read i) (list_read_of i))
+    some_case i in_text true h =
+        subst (λ (r : Read Parameters). Exact some_parameters closing t i r) (void_is i)
+        (turned_exact void_parts some_parameters void_of (λ lifted x i j a ph. void_forth lifted x i j a ph) closing t i (λ lifted x e c j ph stop. void_back t i h lifted x e c j ph stop) _ (void_parts_exact i in_text))
+    some_case i in_text false h =
+        turned_exact (commas (parameter depth)) some_parameters tree.Listed (λ lifted x i j a ph. ph) closing t i (λ lifted x e c j ph stop. list_back t i h lifted x e c j ph stop) _
+        (stopped_exact (commas (parameter depth)) (stops declarators_ends) closing t i closing_ends _ (list_of_exact depth fuel nesting enough shallow fueled t i in_text))
+
+    abbrev some_parameters_read : ℕ → Read Parameters
+    some_parameters_read i = branch_read (symbol.Void ∷ []) t i (void_read i) (list_read_of i)
+
+    parameters_is : (i : ℕ) → turned parameters_of (unless_read symbol.CloseRound t some_parameters_read i) ≡ parameters_read fuel nesting t depth i
+    unfolding parameters_read
+    parameters_is i =
+        unless_is parameters_of symbol.CloseRound t some_parameters_read i
+        ∙ ap (λ (r : Read Parameters). branch_read (symbol.CloseRound ∷ []) t i (Ok (tree.Absent, i)) r) (turned_same (some_parameters_read i))
+
+    pub parameters_exact : (i : ℕ) → i ≤ length t → Exact (parameters depth) closing t i (parameters_read fuel nesting t depth i)
+    parameters_exact i in_text =
+        subst (λ (r : Read Parameters). Exact (parameters depth) closing t i r) (parameters_is i)
+        (turned_exact (optional some_parameters) (parameters depth) parameters_of parameters_forth closing t i (λ lifted x e c j ph stop. parameters_back lifted x i j c ph) _
+        (unless_exact some_parameters member_firsts some_begins symbol.CloseRound members_no_close closing (λ x j stop. stop) t i in_text some_parameters_read
+        (some_case i in_text (is_in (symbol.Void ∷ []) (symbol_at t i)) refl)))
