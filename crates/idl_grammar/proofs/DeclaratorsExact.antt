@@ -174,11 +174,11 @@ declarator_has depth =
 unfoldable pub declarator_firsts : List ℕ
 declarator_firsts = symbol.Star ∷ names false
 
-star_declares : subset (symbol.Star ∷ []) declarator_firsts ≡ true
+pub star_declares : subset (symbol.Star ∷ []) declarator_firsts ≡ true
 unfolding declarator_firsts
 star_declares = refl
 
-name_declares : subset (names false) declarator_firsts ≡ true
+pub name_declares : subset (names false) declarator_firsts ≡ true
 unfolding declarator_firsts names
 name_declares = refl
 

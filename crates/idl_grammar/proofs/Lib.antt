@@ -15,3 +15,5 @@ mod TypeAlternatives
 mod TypesExact
 mod ParameterExact
 mod ParametersExact
+mod ExportsExact
+mod FileExact
