@@ -17,3 +17,4 @@ mod ParameterExact
 mod ParametersExact
 mod ExportsExact
 mod FileExact
+pub mod FileLaws

@@ -7,3 +7,4 @@ pub mod Grammar
 pub mod Seen
 pub mod ReadExpressions
 pub mod Reading
+pub mod Answers

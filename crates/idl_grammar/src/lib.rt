@@ -9,6 +9,7 @@ mod attributes;
 mod declarators;
 mod expressions;
 mod files;
+pub mod laws;
 mod types;
 mod words;
 
