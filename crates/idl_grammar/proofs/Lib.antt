@@ -1,0 +1,20 @@
+mod Levels
+mod Combine
+mod ExpressionParts
+mod ExpressionsExact
+mod OuterExact
+mod SimpleExact
+mod AttributesExact
+mod AttributeLists
+mod DeclaratorsExact
+mod BodiesExact
+mod TypeParts
+mod TypeLists
+mod Tagged
+mod TypeAlternatives
+mod TypesExact
+mod ParameterExact
+mod ParametersExact
+mod ExportsExact
+mod FileExact
+pub mod FileLaws

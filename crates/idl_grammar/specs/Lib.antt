@@ -1,0 +1,10 @@
+pub mod Symbols
+pub mod Lexemes
+pub mod Limits
+pub mod Tree
+pub mod Expressions
+pub mod Grammar
+pub mod Seen
+pub mod ReadExpressions
+pub mod Reading
+pub mod Answers

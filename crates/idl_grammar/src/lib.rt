@@ -1,0 +1,24 @@
+//! The tree of an IDL file, and the grammar of IDL (C706, sections 4.2.2 to 4.2.14).
+//!
+//! `Tree` is what a parser gives: enums where the grammar has alternatives, structs where it has sequences, lists
+//! where it repeats. It owns its names, and keeps the octet where each part begins. The grammar itself is a relation
+//! of texts of tokens and trees (specs/Grammar, specs/Expressions), told apart from any parser.
+#![tactic(auto)]
+
+mod attributes;
+mod declarators;
+mod expressions;
+mod files;
+pub mod laws;
+mod types;
+mod words;
+
+pub use attributes::{Attribute, AttributeKind, Attributes, PointerClass, Variable, VariableWord};
+pub use declarators::{Bound, Declarator, Init};
+pub use expressions::{BinaryOperator, Expr, Operand, UnaryOperator};
+pub use files::{Export, Import, Parameter, Parameters, Tree};
+pub use types::{
+    Arm, Case, Discriminant, Enumerator, IntegerType, Label, Member, SimpleType, SwitchType,
+    TagKind, TypeSpec, Width,
+};
+pub use words::Spelling;

@@ -1,0 +1,182 @@
+// Types (C706, sections 4.2.8 to 4.2.11).
+use crate::attributes::Attributes;
+use crate::declarators::Declarator;
+use crate::expressions::Expr;
+use crate::words::Spelling;
+
+/// The width of an integer.
+#[derive(Clone, Copy, Debug, PartialEq, Eq)]
+pub enum Width {
+    /// `small`: 8 bits.
+    Small,
+    /// `short`: 16 bits.
+    Short,
+    /// `long`: 32 bits.
+    Long,
+    /// `hyper`: 64 bits.
+    Hyper,
+}
+
+/// An integer type, in one of its two orders of words.
+#[derive(Clone, Copy, Debug, PartialEq, Eq)]
+pub enum IntegerType {
+    /// The width, then `unsigned` and `int` where they stand.
+    WidthFirst {
+        width: Width,
+        unsigned: bool,
+        int: bool,
+    },
+    /// `unsigned`, the width, then `int` where it stands.
+    UnsignedFirst {
+        width: Width,
+        int: bool,
+    },
+}
+
+/// A type without parts.
+#[derive(Clone, Copy, Debug, PartialEq, Eq)]
+pub enum SimpleType {
+    /// An integer.
+    Integer(IntegerType),
+    /// `char`, perhaps behind `unsigned`.
+    Char { unsigned: bool },
+    /// `boolean`
+    Boolean,
+    /// `byte`
+    Byte,
+    /// `void`
+    Void,
+    /// `handle_t`
+    Handle,
+}
+
+/// The type of what tells the arms of a union apart.
+#[derive(Debug, Drop)]
+pub enum SwitchType {
+    /// A type without parts.
+    Simple(SimpleType),
+    /// The name of a type.
+    Name(Spelling),
+}
+
+/// What a tag names.
+#[derive(Clone, Copy, Debug, PartialEq, Eq)]
+pub enum TagKind {
+    /// `struct`
+    Struct,
+    /// `union`
+    Union,
+    /// `enum`
+    Enum,
+}
+
+/// The discriminant of an encapsulated union.
+#[derive(Debug, Drop)]
+pub struct Discriminant {
+    /// Its type.
+    pub of: SwitchType,
+    /// Its name.
+    pub name: Spelling,
+}
+
+/// A name of an enumeration, and its value where one stands.
+#[derive(Debug, Drop)]
+pub struct Enumerator {
+    /// The name.
+    pub name: Spelling,
+    /// The value.
+    pub value: Option<Expr>,
+}
+
+/// A label of a case of an encapsulated union, and the octet where it begins.
+#[derive(Debug, Drop)]
+pub enum Label {
+    /// `case` and its value.
+    Value { at: u32, value: Expr },
+    /// `default`
+    Default { at: u32 },
+}
+
+/// A type. The octet `at` is the one where `struct`, `union` or `enum` begins.
+#[cycle(tree)]
+#[derive(Debug, Drop)]
+pub enum TypeSpec {
+    /// A type without parts.
+    Simple(SimpleType),
+    /// The name of a type.
+    Name(Spelling),
+    /// A tag alone.
+    Tag {
+        at: u32,
+        kind: TagKind,
+        tag: Spelling,
+    },
+    /// A struct with its members.
+    Struct {
+        at: u32,
+        tag: Option<Spelling>,
+        members: Vec<Member>,
+    },
+    /// A union that has its discriminant with it (C706, section 4.2.11.1), and the name of its union part where it has one.
+    EncapsulatedUnion {
+        at: u32,
+        tag: Option<Spelling>,
+        discriminant: Discriminant,
+        name: Option<Spelling>,
+        cases: Vec<Case>,
+    },
+    /// A union whose discriminant stands elsewhere (C706, section 4.2.11.2).
+    NonEncapsulatedUnion {
+        at: u32,
+        tag: Option<Spelling>,
+        arms: Vec<Arm>,
+    },
+    /// An enumeration with its names.
+    Enum {
+        at: u32,
+        tag: Option<Spelling>,
+        enumerators: Vec<Enumerator>,
+    },
+}
+
+/// Members of a struct that have one type.
+#[cycle(tree)]
+#[derive(Debug, Drop)]
+pub struct Member {
+    /// The octet where they begin.
+    pub at: u32,
+    /// Their attributes.
+    pub attributes: Option<Attributes>,
+    /// Their type.
+    pub of: TypeSpec,
+    /// At least one name.
+    pub declarators: Vec<Declarator>,
+}
+
+/// A case of an encapsulated union.
+#[cycle(tree)]
+#[derive(Debug, Drop)]
+pub struct Case {
+    /// At least one label.
+    pub labels: Vec<Label>,
+    /// What stands there.
+    pub arm: Arm,
+}
+
+/// An arm of a union, and the octet where it begins.
+#[cycle(tree)]
+#[derive(Debug, Drop)]
+pub enum Arm {
+    /// Nothing.
+    Empty {
+        at: u32,
+        attributes: Option<Attributes>,
+    },
+    /// A member.
+    Typed {
+        at: u32,
+        attributes: Option<Attributes>,
+        of: TypeSpec,
+        declarator: Declarator,
+    },
+}
