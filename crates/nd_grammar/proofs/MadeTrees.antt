@@ -1,8 +1,8 @@
 -- Trees whose nodes have the form of their types, as far as a node says it by itself: what the reader makes.
-use Rattle.std.proofs.Common.{◌≡◌, ℕ, ◌+◌, ◌^◌, ◌<◌, ◌≤◌, zero, suc, true, false, List, [], ◌∷◌, ◌++◌, length, Option, Some, None, refl, ap, sym, ◌∙◌, inl, inr, ◌⊎◌, arith, subst, replicate}
+use Rattle.std.proofs.Common.{◌≡◌, ℕ, ◌+◌, ◌^◌, ◌<◌, zero, suc, true, false, List, [], ◌∷◌, ◌++◌, length, Option, Some, None, refl, ap, sym, ◌∙◌, inl, inr, ◌⊎◌, arith, subst}
 use Rattle.std.specs.Prelude.{Bool, eqb, leb, not, ◌&&◌, ◌||◌, flat_map}
 use Rattle.std.specs.List.{AllByRecursion, slice_get}
-use Rattle.std.proofs.lemmas.Bool.{and_from, and_parts, eq-eqb, le-leb, lt-ltb}
+use Rattle.std.proofs.lemmas.Bool.{and_from, eq-eqb, le-leb, lt-ltb}
 use Rattle.std.proofs.lemmas.Option.{slice_get_within}
 use Rattle.nd_types.specs.declared.types.TypeDef.{TypeDef}
 use Rattle.nd_types.specs.declared.types.TypeDef.TheVariants as def
@@ -12,7 +12,6 @@ use Rattle.nd_graph.specs.declared.item.Home.{Home}
 use Rattle.nd_graph.specs.Tree as tree
 use Rattle.nd_graph.specs.Tree.{Tree, Trees, node, none, more, Label, Referent, count, node_count, is_pointer, cell_in}
 use Rattle.nd_graph.specs.Agreement.{Agreement}
-use Rattle.nd_graph.specs.Setting.{cell_of_number}
 use Rattle.nd_graph.specs.Nodes.{TypedNode, nodes_of, child_types, child_agreements, first_agreements, rest_agreements}
 use Rattle.nd_graph.specs.Deferral.{Pending, pointer, pointer_by}
 use Rattle.nd_graph.specs.Misfit.{has_shape, has_range, is_no_null_ref, has_counts, has_machine_values, names_cell, names_pointee, has_type, is_partial_node, is_unread}
