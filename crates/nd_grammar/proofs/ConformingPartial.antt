@@ -83,7 +83,7 @@ module _ (table : Table) (operations : List Operation) (legal : IsLegal table op
       let f : IsFit table g x.of x.label x.kids = fit_node table g x e in
       let r : IsRead table g x.of x.label x.kids = fit_is_read table g x.of x.label x.kids f in
       let d : Option TypeDef = type_at table x.of in
-      or_right (is_unread x.label) _
+      or_right (is_unread x.label x.kids) _
       (and_from _ _ (and_from _ _ (and_from _ _ (and_from _ _ (and_from _ _ (and_from _ _ r.shape (eq-eqb (count x.kids) (length (child_types d x.label x.kids)) r.children))
       (range_fits x.of d refl x.label f.range)) r.no_null) r.cell) r.pointee) r.counts)
 

@@ -1,21 +1,20 @@
 -- Entries whose gaps lead to multiples of 1, 2, 4 or 8, and whose full pointers name cells that are numbered. Over such entries reading
 -- stays within the limit of a stream.
-use Rattle.std.proofs.Common.{◌≡◌, ℕ, ◌+◌, ◌-◌, ◌%◌, ◌<◌, ◌≤◌, zero, suc, ℤ, Bool, true, false, List, [], ◌∷◌, ◌++◌, length, Option, Some, None, refl, ap, ap₂, sym, ◌∙◌, inl, inr, ◌⊎◌, arith, subst, replicate}
-use Rattle.std.specs.Prelude.{max, map, flat_map, ltb}
+use Rattle.std.proofs.Common.{◌≡◌, ℕ, ◌+◌, ◌-◌, ◌%◌, ◌≤◌, zero, suc, ℤ, Bool, true, false, List, [], ◌∷◌, ◌++◌, length, Option, Some, None, refl, sym, inl, inr, ◌⊎◌, arith, subst}
+use Rattle.std.specs.Prelude.{max, map, flat_map}
 use Rattle.std.specs.List.{AllByRecursion}
 use Rattle.std.proofs.lemmas.Grind.{flat_map-append}
 use Rattle.std.proofs.lemmas.Bool.{ltb-false}
 use Rattle.nd_base.specs.declared.octets.Order.{Order}
 use Rattle.nd_base.specs.declared.TheConstants.{STREAM_LIMIT}
 use Rattle.nd_types.specs.declared.types.TypeDef.{TypeDef}
-use Rattle.nd_types.specs.declared.types.TypeId.{TypeId}
 use Rattle.nd_types.specs.declared.types.Arm.{Arm}
 use Rattle.nd_types.specs.declared.types.TypeDef.TheVariants as def
 use Rattle.nd_types.specs.declared.types.Class.{Class}
 use Rattle.nd_types.specs.declared.types.Class.TheVariants.{Ref, Unique, Full}
 use Rattle.nd_types.specs.declared.types.Primitive.{Primitive}
 use Rattle.nd_types.specs.declared.types.Primitive.TheVariants.{Boolean, Char, Byte, Small, UnsignedSmall, Short, UnsignedShort, Long, UnsignedLong, Hyper, UnsignedHyper}
-use Rattle.nd_types.specs.Table.{Table, type_at, width, carrier}
+use Rattle.nd_types.specs.Table.{Table, type_at, width}
 use Rattle.nd_types.specs.Layout.{hoists, align_of, align_within, align_by, largest, at_least_4, tag_width, arm_types, default_type}
 use Rattle.nd_graph.specs.declared.item.Home.{Home}
 use Rattle.nd_graph.specs.Tree as tree

@@ -1,8 +1,8 @@
 -- The nodes of a value are few: at most 32 for each octet.
-use Rattle.std.proofs.Common.{◌≡◌, ℕ, ◌+◌, ◌*◌, ◌<◌, ◌≤◌, zero, suc, ℤ, Bool, true, false, List, [], ◌∷◌, ◌++◌, length, Option, Some, None, refl, ap, ap₂, sym, ◌∙◌, inl, inr, ◌⊎◌, arith, subst, replicate}
+use Rattle.std.proofs.Common.{◌≡◌, ℕ, ◌+◌, ◌*◌, ◌≤◌, zero, suc, ℤ, Bool, true, false, List, [], ◌∷◌, ◌++◌, length, Option, Some, None, refl, ap, sym, ◌∙◌, inl, inr, arith, subst, replicate}
 use Rattle.std.specs.Prelude.{map}
 use Rattle.std.specs.List.{AllByRecursion}
-use Rattle.std.proofs.lemmas.List.{append-nil, length-replicate}
+use Rattle.std.proofs.lemmas.List.{length-replicate}
 use Rattle.std.proofs.lemmas.Bool.{and_parts, eqb-true, leb-true}
 use Rattle.nd_types.specs.declared.types.TypeDef.{TypeDef}
 use Rattle.nd_types.specs.declared.types.TypeId.{TypeId}
@@ -22,12 +22,12 @@ use Rattle.nd_graph.specs.Tree.{Tree, Trees, node, none, more, Label, count, nod
 use Rattle.nd_graph.specs.Nodes.{child_types, child_agreements, selected_types}
 use Rattle.nd_graph.specs.Misfit.{has_shape, has_counts}
 use Rattle.nd_graph.proofs.Apart.{all_left, all_right}
-use Rattle.nd_grammar.specs.Entry.{Kind, Entry}
+use Rattle.nd_grammar.specs.Entry.{Entry}
 use Rattle.nd_grammar.specs.InPlace.{before_children, entries, tag_entries, in_place, child_tests}
 use Rattle.nd_grammar.specs.Reader.{tree_nodes}
 use Rattle.nd_grammar.proofs.HoistedMaxes.{HoistsLast, OnlyLast, last_of, struct_last}
 use Rattle.nd_grammar.proofs.Mapped.{in_parts}
-use Rattle.nd_grammar.proofs.MadeTrees.{FitsAlone, MadeNode, MadeTrees, MadeTree, made_count}
+use Rattle.nd_grammar.proofs.MadeTrees.{MadeNode, MadeTrees, MadeTree}
 use Rattle.nd_grammar.proofs.Passed.{HasPassed, Passed, least, least_append}
 use Rattle.nd_grammar.proofs.PassedTrees.{passed_kinds, unread_entry}
 use Rattle.nd_grammar.proofs.ReaderInPlace.{Readable, node_entries, value_then_others}

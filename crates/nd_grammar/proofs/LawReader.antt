@@ -1,5 +1,5 @@
 -- The reader's two laws, and the one verdict, at a ring of two nodes: their premises can be met.
-use Rattle.std.proofs.Common.{ℕ, List, [], ◌∷◌, length, refl, arith}
+use Rattle.std.proofs.Common.{ℕ, refl, arith}
 use Rattle.std.specs.Prelude.{◌≡◌}
 use Rattle.nd_base.specs.declared.octets.Order.TheVariants.{Little}
 use Rattle.nd_types.specs.Layout.{align_of, hoists}
@@ -14,7 +14,6 @@ use Rattle.nd_grammar.proofs.Check.{upto}
 use Rattle.nd_grammar.proofs.LawRing.{ring, ring_2, ring_2_octets}
 use Rattle.nd_grammar.proofs.LawExamples.{ring_side}
 use Rattle.nd_grammar.proofs.ReaderLaws.{reader_accepts, reader_refuses, one_beginning}
-
 
 ring_are_octets : AreOctets ring_2_octets
 ring_are_octets = grind arith

@@ -1,9 +1,9 @@
 -- In a legal interface the roots before the pipes, and what pointers point to, are of the table and hold no pipe; bounds are of 32 bits.
-use Rattle.std.proofs.Common.{◌≡◌, ℕ, ◌+◌, ◌^◌, ◌<◌, ◌≤◌, zero, suc, Bool, true, false, List, [], ◌∷◌, ◌++◌, length, Option, Some, None, refl, ap, sym, ◌∙◌, inl, inr, ◌⊎◌, arith, subst, replicate}
-use Rattle.std.specs.Prelude.{flat_map, map, not, eqb, filter, cond, ◌||◌, ◌&&◌, nat_le, nat_lt, ◌==◌}
+use Rattle.std.proofs.Common.{◌≡◌, ℕ, ◌+◌, ◌<◌, ◌≤◌, zero, suc, Bool, true, false, List, [], ◌∷◌, ◌++◌, length, Option, Some, None, refl, ap, sym, ◌∙◌, inl, inr, ◌⊎◌, arith, subst}
+use Rattle.std.specs.Prelude.{flat_map, not, eqb, filter, cond, ◌||◌, ◌&&◌, nat_le}
 use Rattle.std.specs.List.{AllByRecursion, slice_get, list_all}
 use Rattle.std.proofs.lemmas.Grind.{flat_map-append}
-use Rattle.std.proofs.lemmas.Bool.{and_parts, leb-true, ltb-true, or_cases, not-true}
+use Rattle.std.proofs.lemmas.Bool.{and_parts, leb-true, ltb-true, or_cases}
 use Rattle.nd_types.specs.declared.types.TypeDef.{TypeDef}
 use Rattle.nd_types.specs.declared.types.TypeId.{TypeId}
 use Rattle.nd_types.specs.declared.types.TypeDef.TheVariants as def
@@ -20,16 +20,15 @@ use Rattle.nd_types.specs.Legal.{IsLegal, has_small_bound, pointee_of, tag_of, i
 use Rattle.nd_types.specs.Roots.{Root, roots_of, params_from, root_of, root_by, pipe_of, pipe_by, pipe_referent, result_root, travels}
 use Rattle.nd_types.proofs.LegalLaws.{passes_at}
 use Rattle.nd_graph.specs.declared.item.Home.{Home}
-use Rattle.nd_graph.specs.Tree as tree
 use Rattle.nd_graph.specs.Tree.{Tree, Trees, node, none, more, Label, node_count, is_pointer, cell_in}
 use Rattle.nd_graph.specs.Agreement.{Agreement}
 use Rattle.nd_graph.specs.Setting.{Setting, Among, root_list}
 use Rattle.nd_graph.specs.Nodes.{TypedNode, nodes_of, child_types, child_agreements, first_agreements, rest_agreements}
 use Rattle.nd_graph.specs.Deferral.{Pending, pointer, pointer_by, home_pointers, before_pipes}
-use Rattle.nd_graph.proofs.Apart.{all_append, all_left, all_right}
+use Rattle.nd_graph.proofs.Apart.{all_append, all_left}
 use Rattle.nd_grammar.specs.LegalSide.{IsLegalSide}
 use Rattle.nd_grammar.proofs.Mapped.{in_parts}
-use Rattle.nd_grammar.proofs.GoodEntries.{IsNoPipe, HoldsNoPipe}
+use Rattle.nd_grammar.proofs.GoodEntries.{IsNoPipe}
 use Rattle.nd_grammar.proofs.LegalPipes.{parts_alone, holds_no_pipe, plain_before, all_at}
 use Rattle.nd_grammar.proofs.LegalReadable.{Known, named_known, legal_readable}
 use Rattle.nd_grammar.proofs.ReaderInPlace.{Readable}

@@ -1,8 +1,8 @@
 -- Trees whose nodes have the form of their types, as far as a node says it by itself: what the reader makes.
-use Rattle.std.proofs.Common.{◌≡◌, ℕ, ◌+◌, ◌^◌, ◌<◌, ◌≤◌, zero, suc, true, false, List, [], ◌∷◌, ◌++◌, length, Option, Some, None, refl, ap, sym, ◌∙◌, inl, inr, ◌⊎◌, arith, subst, replicate}
+use Rattle.std.proofs.Common.{◌≡◌, ℕ, ◌+◌, ◌^◌, ◌<◌, zero, suc, true, false, List, [], ◌∷◌, ◌++◌, length, Option, Some, None, refl, ap, sym, ◌∙◌, inl, inr, ◌⊎◌, arith, subst}
 use Rattle.std.specs.Prelude.{Bool, eqb, leb, not, ◌&&◌, ◌||◌, flat_map}
 use Rattle.std.specs.List.{AllByRecursion, slice_get}
-use Rattle.std.proofs.lemmas.Bool.{and_from, and_parts, eq-eqb, le-leb, lt-ltb}
+use Rattle.std.proofs.lemmas.Bool.{and_from, eq-eqb, le-leb, lt-ltb}
 use Rattle.std.proofs.lemmas.Option.{slice_get_within}
 use Rattle.nd_types.specs.declared.types.TypeDef.{TypeDef}
 use Rattle.nd_types.specs.declared.types.TypeDef.TheVariants as def
@@ -12,7 +12,6 @@ use Rattle.nd_graph.specs.declared.item.Home.{Home}
 use Rattle.nd_graph.specs.Tree as tree
 use Rattle.nd_graph.specs.Tree.{Tree, Trees, node, none, more, Label, Referent, count, node_count, is_pointer, cell_in}
 use Rattle.nd_graph.specs.Agreement.{Agreement}
-use Rattle.nd_graph.specs.Setting.{cell_of_number}
 use Rattle.nd_graph.specs.Nodes.{TypedNode, nodes_of, child_types, child_agreements, first_agreements, rest_agreements}
 use Rattle.nd_graph.specs.Deferral.{Pending, pointer, pointer_by}
 use Rattle.nd_graph.specs.Misfit.{has_shape, has_range, is_no_null_ref, has_counts, has_machine_values, names_cell, names_pointee, has_type, is_partial_node, is_unread}
@@ -156,18 +155,22 @@ module _ (g : Graph) where
     pub local : is_partial_node table g x ≡ true
     pub machine : has_machine_values x.label ≡ true
 
+  unread_alone : (l : Label) (ks : Trees) → l ≡ tree.Unread → count ks ≡ 0 → is_unread l ks ≡ true
+  unread_alone l none e c = ap (λ u. is_unread u none) e
+  unread_alone l (more t ts) e c = absurd (omega arith)
+
   made_node : (table : Table) (n t : ℕ) (ags ags' : List Agreement) (l : Label) (ks : Trees) (h : Home) → MadeNode table (type_at table t) l ks
       → count ks ≡ length (child_types (type_at table t) l ks)
       → AllByRecursion (CellFits g.cells) (pointer_by (type_at table t) (is_pointer l) (cell_in l) h n ags')
       → IsPartialNode table (record { node = n; of = t; agreements = ags; label = l; kids = ks })
   made_node table n t ags ags' l ks h (inl e) c a = record {
-    local = or_left (is_unread l) _ (ap is_unread e);
+    local = or_left (is_unread l ks) _ (unread_alone l ks e (c ∙ ap (λ u. length (child_types (type_at table t) u ks)) e ∙ ap length (unread_types (type_at table t) ks)));
     machine = ap has_machine_values e;
   }
   made_node table n t ags ags' l ks h (inr f) c a =
       let k : CellKnown g (type_at table t) l = label_known (type_at table t) l ks h n ags' f.shape a in
       record {
-        local = or_right (is_unread l) _
+        local = or_right (is_unread l ks) _
             (and_from _ _ (and_from _ _ (and_from _ _ (and_from _ _ (and_from _ _ (and_from _ _ f.shape (eq-eqb (count ks) (length (child_types (type_at table t) l ks)) c))
             f.range) f.no_null) k.cell) k.pointee) f.counts);
         machine = k.small f.machine;

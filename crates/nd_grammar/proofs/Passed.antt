@@ -1,5 +1,5 @@
 -- What entries that are spelt and not refused say: enumerators, arms, counts within, texts without zeros, agreements that hold.
-use Rattle.std.proofs.Common.{◌≡◌, ℕ, ◌+◌, ◌<◌, ◌≤◌, ℤ, Bool, true, false, ◌&&◌, List, [], ◌∷◌, ◌++◌, length, Option, Some, None, refl, ap, ap₂, sym, ◌∙◌, arith, subst}
+use Rattle.std.proofs.Common.{◌≡◌, ℕ, ◌+◌, ◌≤◌, ℤ, Bool, true, false, ◌&&◌, List, [], ◌∷◌, ◌++◌, length, Option, Some, None, refl, ap, sym, ◌∙◌, arith, subst}
 use Rattle.std.specs.Prelude.{eqb, ltb, cond, not, ◌||◌}
 use Rattle.std.specs.Ordering.{int_eq}
 use Rattle.std.specs.List.{AllByRecursion, list_any}
@@ -7,7 +7,6 @@ use Rattle.std.proofs.lemmas.Bool.{ltb-false, eqb-false, not-false}
 use Rattle.std.proofs.lemmas.Bool.Decides.{Decides-int_eq}
 use Rattle.nd_base.specs.declared.octets.Order.{Order}
 use Rattle.nd_base.specs.declared.TheConstants.{STREAM_LIMIT}
-use Rattle.nd_types.specs.declared.types.Attr.{Attr}
 use Rattle.nd_types.specs.Number.{unsigned, value_of_octets}
 use Rattle.nd_types.specs.Table.{selected, width}
 use Rattle.nd_graph.proofs.Apart.{all_left, all_right}
@@ -16,7 +15,7 @@ use Rattle.nd_grammar.specs.declared.reason.Reason.{Reason}
 use Rattle.nd_grammar.specs.declared.reason.Reason.TheVariants as reason
 use Rattle.nd_grammar.specs.Entry.{Kind, Entry, Align, Max, Offset, Actual, Chunk, Number, Num, Tag, Text, Context, Test, Unread, size_at, EntryAt, end_to_end, end_of}
 use Rattle.nd_grammar.specs.Represents.{piece, Spells, IsRendered}
-use Rattle.nd_grammar.specs.Refusal.{refusal, kind_refusal, refused_if, is_long, is_enumerator, is_selected, text_refusal, disagrees_at, tested_at, Accepts}
+use Rattle.nd_grammar.specs.Refusal.{kind_refusal, is_long, is_enumerator, is_selected, text_refusal, disagrees_at, tested_at, Accepts}
 use Rattle.nd_grammar.proofs.ReaderNodes.{if_not}
 
 abbrev pub HasPassed : Kind → Type 0

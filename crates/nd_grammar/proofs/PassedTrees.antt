@@ -1,6 +1,6 @@
 -- Values whose entries are spelt and not refused: their nodes fit, and their agreements hold.
-use Rattle.std.proofs.Common.{◌≡◌, ℕ, ◌+◌, ◌<◌, ◌≤◌, zero, suc, ℤ, Bool, true, false, List, [], ◌∷◌, ◌++◌, length, Option, Some, None, refl, ap, ap₂, sym, ◌∙◌, inl, inr, ◌⊎◌, arith, subst}
-use Rattle.std.specs.Prelude.{flat_map, eqb, leb, not, ◌&&◌}
+use Rattle.std.proofs.Common.{◌≡◌, ℕ, ◌+◌, ℤ, Bool, true, false, List, [], ◌∷◌, ◌++◌, length, Option, Some, None, refl, ap, inl, inr, arith, subst}
+use Rattle.std.specs.Prelude.{flat_map, leb, not}
 use Rattle.std.specs.List.{AllByRecursion}
 use Rattle.std.proofs.lemmas.Grind.{flat_map-append}
 use Rattle.std.proofs.lemmas.Bool.{and_from, and_parts, eqb-true, le-leb}
@@ -15,14 +15,14 @@ use Rattle.nd_graph.specs.declared.item.Home.{Home}
 use Rattle.nd_graph.specs.declared.misfit.MisfitReason.{MisfitReason}
 use Rattle.nd_graph.specs.Tree as tree
 use Rattle.nd_graph.specs.Tree.{Tree, Trees, node, none, more, Label, count, node_count, is_pointer, cell_in}
-use Rattle.nd_graph.specs.Agreement.{Agreement, found_in}
+use Rattle.nd_graph.specs.Agreement.{Agreement}
 use Rattle.nd_graph.specs.Setting.{cell_at}
 use Rattle.nd_graph.specs.Nodes.{TypedNode, nodes_of, child_types, child_agreements, first_agreements, rest_agreements}
-use Rattle.nd_graph.specs.Deferral.{Pending, pointer, pointer_by, home_pointers}
+use Rattle.nd_graph.specs.Deferral.{Pending, pointer, pointer_by}
 use Rattle.nd_graph.specs.Misfit.{misfit_of, unless, has_shape, has_range, has_counts, is_within, has_no_zero, has_arm, selects}
 use Rattle.nd_graph.specs.Conforms.{IsAgreed, AgreesAt}
 use Rattle.nd_graph.proofs.Apart.{all_append, all_left, all_right}
-use Rattle.nd_grammar.specs.Entry.{Kind, Entry, Unread}
+use Rattle.nd_grammar.specs.Entry.{Kind, Entry}
 use Rattle.nd_grammar.specs.InPlace.{before_children, entries, tag_entries, in_place, tests, own_tests, child_tests, hoisted, hoisted_max, whole_value}
 use Rattle.nd_grammar.specs.Refusal.{is_selected}
 use Rattle.nd_grammar.proofs.MadeTrees.{FitsAlone, MadeNode, MadeTrees, CellFits, CellKnown, label_known, all_flat_left}

@@ -1,6 +1,5 @@
 -- The cells that reading leaves: a value that is set, cells that are added, and the pointers of all.
-use Rattle.std.proofs.Common.{◌≡◌, ℕ, ◌+◌, ◌<◌, ◌≤◌, zero, suc, false, List, [], ◌∷◌, ◌++◌, length, Option, Some, None, refl, ap, ap₂, sym, ◌∙◌, inl, inr, ◌⊎◌, arith, subst, append_assoc, length-append}
-use Rattle.std.specs.Prelude.{map, flat_map}
+use Rattle.std.proofs.Common.{◌≡◌, ℕ, ◌+◌, ◌<◌, ◌≤◌, zero, suc, List, [], ◌∷◌, ◌++◌, length, Some, refl, ap, ap₂, sym, ◌∙◌, inl, inr, ◌⊎◌, arith, subst, append_assoc}
 use Rattle.std.specs.List.{AllByRecursion, slice_get}
 use Rattle.std.proofs.lemmas.List.{append-nil}
 use Rattle.std.proofs.lemmas.Option.{same_Some}
@@ -9,20 +8,19 @@ use Rattle.nd_types.specs.Table.{Table, type_at}
 use Rattle.nd_types.specs.Roots.{Root}
 use Rattle.nd_graph.specs.declared.item.Home.{Home}
 use Rattle.nd_graph.specs.declared.item.Home.TheVariants as home
-use Rattle.nd_graph.specs.Tree.{Tree, Trees, node, none, more, Referent}
-use Rattle.nd_graph.specs.Setting.{Among, unread, cell_home}
-use Rattle.nd_graph.specs.Nodes.{nodes_of, child_types}
-use Rattle.nd_graph.specs.Deferral.{Pending, home_pointers, pointer}
+use Rattle.nd_graph.specs.Tree.{Tree, none, more, Referent}
+use Rattle.nd_graph.specs.Setting.{unread, cell_home}
+use Rattle.nd_graph.specs.Deferral.{Pending, home_pointers}
 use Rattle.nd_graph.specs.Homes.{root_pointers, cell_pointers}
 use Rattle.nd_graph.specs.Conforms.{AllEarlier, ShareOnlyIfFull}
 use Rattle.nd_graph.proofs.Apart.{all_append, all_left, all_right, all_weaker, moved}
 use Rattle.nd_grammar.specs.Entry.{EntryAt}
 use Rattle.nd_grammar.specs.Reader.{Progress, Names}
 use Rattle.nd_grammar.specs.StreamReader.{with_value}
-use Rattle.nd_grammar.proofs.ReaderNames.{cell_in, cell_kept, numbered_cells, Extends, Linked, LinkedOne, PointerAt, PointerOk, PointersOk, pointer_later, joined_apart, longer}
+use Rattle.nd_grammar.proofs.ReaderNames.{cell_in, Extends, Linked, LinkedOne, PointerAt, PointerOk, PointersOk, pointer_later, joined_apart}
 use Rattle.nd_grammar.proofs.ReaderLeaves.{value_pointers, first_value, no_pointer_unread}
 use Rattle.nd_grammar.proofs.ReaderMoves.{NumberOk, NumbersOk}
-use Rattle.nd_grammar.proofs.MadeTrees.{MadeTrees, MadeTree, one_made, unread_made}
+use Rattle.nd_grammar.proofs.MadeTrees.{MadeTrees, one_made, unread_made}
 
 -- the cells with the value of one
 abbrev pub set : ℕ → Tree → List Referent → List Referent

@@ -1,9 +1,8 @@
 -- The laws of the reader of streams.
-use Rattle.std.proofs.Common.{◌≡◌, ℕ, ◌+◌, ◌<◌, ◌≤◌, zero, suc, List, [], ◌∷◌, ◌++◌, length, Option, Some, None, refl, ap, ap₂, sym, ◌∙◌, inl, inr, ◌⊎◌, arith, subst, take, drop, min, length-take}
+use Rattle.std.proofs.Common.{◌≡◌, ℕ, ◌+◌, ◌<◌, ◌≤◌, zero, suc, List, [], ◌∷◌, ◌++◌, length, Option, Some, None, refl, ap, sym, ◌∙◌, inl, inr, ◌⊎◌, arith, subst, take, drop, length-take}
 use Rattle.std.specs.List.{AllByRecursion}
 use Rattle.std.proofs.lemmas.List.{take-append-drop, append-nil}
 use Rattle.nd_base.specs.declared.octets.Order.{Order}
-use Rattle.nd_base.specs.declared.TheConstants.{STREAM_LIMIT}
 use Rattle.nd_types.specs.Number.{AreOctets}
 use Rattle.nd_graph.specs.declared.value.Graph.{Graph}
 use Rattle.nd_graph.specs.Setting.{Setting}
@@ -13,16 +12,16 @@ use Rattle.nd_graph.specs.Conforms.{Conforms, AgreesAt, Reached}
 use Rattle.nd_graph.proofs.Apart.{all_weaker}
 use Rattle.nd_grammar.specs.LegalSide.{IsLegalSide}
 use Rattle.nd_grammar.specs.declared.reason.Reason.{Reason}
-use Rattle.nd_grammar.specs.Entry.{Kind, Entry, size_at, EntryAt, end_to_end, end_of}
-use Rattle.nd_grammar.specs.Represents.{piece, Spells, IsRendered, Represents}
+use Rattle.nd_grammar.specs.Entry.{Entry, size_at, end_to_end, end_of}
+use Rattle.nd_grammar.specs.Represents.{Spells, IsRendered, Represents}
 use Rattle.nd_grammar.specs.Stream.{Stream, representation}
 use Rattle.nd_grammar.specs.Bad.{Bad}
 use Rattle.nd_grammar.specs.Prefix.{BeginsWith}
 use Rattle.nd_grammar.specs.StreamReader.{read_stream}
 use Rattle.nd_grammar.proofs.ReaderVerdict.{start, AllTaken, all_taken, stopped_is_bad}
-use Rattle.nd_grammar.proofs.Passed.{PassedAll, all_passed, least, least_end}
+use Rattle.nd_grammar.proofs.Passed.{PassedAll, all_passed, least_end}
 use Rattle.nd_grammar.proofs.StreamConforming.{NodeGood, all_good, few_nodes}
-use Rattle.nd_grammar.proofs.ReaderStream.{Pipes, G, ms, numbering, steps, is_partial, is_stream, numbered, goes_over, ends_within, ends_in_octets, graph_is, head, steps_then, cells_fit, roots_all_made, all_roots, all_reached, all_ok, few_cells}
+use Rattle.nd_grammar.proofs.ReaderStream.{Pipes, G, ms, numbering, is_partial, is_stream, numbered, goes_over, ends_within, ends_in_octets, graph_is, head, cells_fit, roots_all_made, all_roots, all_reached, few_cells}
 use Rattle.nd_graph.specs.Same.{Same}
 use Rattle.nd_grammar.proofs.StreamConforms.{le_or}
 use Rattle.nd_grammar.proofs.OneGraph.{one_graph}

@@ -1,7 +1,7 @@
 -- What reading a value makes: nodes of the form of their types, distinct numbers, cells that its pointers name, each paid by octets.
 use Rattle.std.proofs.Common.{◌≡◌, ℕ, ◌+◌, ◌-◌, ◌*◌, ◌^◌, ◌<◌, ◌≤◌, zero, suc, ℤ, Bool, true, false, ◌&&◌, List, [], ◌∷◌, ◌++◌, length, Option, Some, None, refl, ap, sym, ◌∙◌, inl, inr, ◌⊎◌, arith, subst, replicate, length-append}
-use Rattle.std.specs.Prelude.{pos, map, flat_map, not, leb, eqb}
-use Rattle.std.specs.List.{AllByRecursion, list_all}
+use Rattle.std.specs.Prelude.{pos, map, flat_map, not, eqb}
+use Rattle.std.specs.List.{AllByRecursion}
 use Rattle.std.proofs.lemmas.List.{length-replicate}
 use Rattle.std.proofs.lemmas.Bool.{and_from, lt-ltb, eq-eqb}
 use Rattle.nd_base.specs.declared.octets.Order.{Order}
@@ -21,9 +21,9 @@ use Rattle.nd_graph.specs.Tree as tree
 use Rattle.nd_graph.specs.Tree.{Tree, Trees, node, none, more, Label, count, node_count, is_pointer, cell_in}
 use Rattle.nd_graph.specs.Agreement.{Agreement}
 use Rattle.nd_graph.specs.Setting.{Among, unread}
-use Rattle.nd_graph.specs.Nodes.{TypedNode, nodes_of, child_types, child_agreements, first_agreements, rest_agreements, selected_types}
+use Rattle.nd_graph.specs.Nodes.{nodes_of, child_types, child_agreements, first_agreements, rest_agreements, selected_types}
 use Rattle.nd_graph.specs.Deferral.{Pending, pointer, pointer_by}
-use Rattle.nd_graph.specs.Misfit.{has_shape, has_range, is_no_null_ref, has_counts, is_bound, is_count, is_octet, arm_fits}
+use Rattle.nd_graph.specs.Misfit.{is_no_null_ref, is_bound, arm_fits}
 use Rattle.nd_graph.proofs.Apart.{among_left, among_right}
 use Rattle.nd_grammar.specs.declared.reason.Reason.{Reason}
 use Rattle.nd_grammar.specs.Entry.{Kind, Entry, Align, Max, Offset, Actual, Number, Num, Tag, Text, Context}
@@ -33,9 +33,9 @@ use Rattle.nd_grammar.proofs.HoistedMaxes.{HoistsLast}
 use Rattle.nd_grammar.proofs.Mapped.{in_parts}
 use Rattle.nd_grammar.proofs.ReaderInPlace.{Readable}
 use Rattle.nd_grammar.proofs.ReaderLeaves.{value_pointers, first_value, after_value, no_pointer_unread}
-use Rattle.nd_grammar.proofs.ReaderOctets.{Took, took, number_small, value_ranged, text_octets, attributes_small, identified}
-use Rattle.nd_grammar.proofs.ReaderMoves.{stopped, paid, Moves, stays_there, moves_twice, pass_moves, all_moves, pointer_paid, NumbersOk, NamedMakes, named_makes}
-use Rattle.nd_grammar.proofs.MadeTrees.{FitsAlone, MadeNode, MadeTrees, MadeTree, one_made, made_more, made_count, unread_made}
+use Rattle.nd_grammar.proofs.ReaderOctets.{took, number_small, value_ranged, text_octets, attributes_small, identified}
+use Rattle.nd_grammar.proofs.ReaderMoves.{paid, Moves, stays_there, moves_twice, pass_moves, all_moves, pointer_paid, NumbersOk, NamedMakes, named_makes}
+use Rattle.nd_grammar.proofs.MadeTrees.{FitsAlone, MadeTrees, MadeTree, made_more, made_count, unread_made}
 
 -- a fixed bound is a number of 32 bits
 abbrev pub IsSmall : Option ℕ → Type 0

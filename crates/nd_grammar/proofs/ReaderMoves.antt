@@ -1,8 +1,8 @@
 -- How far reading goes: places only grow, and stay within the octets; and what a pointer costs.
-use Rattle.std.proofs.Common.{◌≡◌, ℕ, ◌+◌, ◌*◌, ◌^◌, ◌<◌, ◌≤◌, zero, suc, Bool, true, false, List, [], ◌∷◌, ◌++◌, length, Option, Some, None, refl, ap, ap₂, sym, ◌∙◌, arith, subst}
+use Rattle.std.proofs.Common.{◌≡◌, ℕ, ◌+◌, ◌*◌, ◌^◌, ◌<◌, ◌≤◌, zero, suc, Bool, true, false, List, [], ◌∷◌, length, Option, Some, None, refl, ap, sym, ◌∙◌, arith}
 use Rattle.std.specs.Prelude.{eqb, ltb, cond}
 use Rattle.std.specs.List.{AllByRecursion}
-use Rattle.std.proofs.lemmas.Bool.{ltb-false, eqb-false, eqb-true}
+use Rattle.std.proofs.lemmas.Bool.{ltb-false, eqb-false}
 use Rattle.nd_base.specs.declared.octets.Order.{Order}
 use Rattle.nd_base.specs.declared.TheConstants.{STREAM_LIMIT}
 use Rattle.nd_types.specs.declared.types.Class.{Class}
@@ -11,7 +11,7 @@ use Rattle.nd_graph.specs.Conforms.{AllEarlier}
 use Rattle.nd_graph.proofs.Apart.{all_weaker}
 use Rattle.nd_grammar.specs.declared.reason.Reason.{Reason}
 use Rattle.nd_grammar.specs.declared.reason.Reason.TheVariants as reason
-use Rattle.nd_grammar.specs.Entry.{Kind, Entry, Align, size_at}
+use Rattle.nd_grammar.specs.Entry.{Entry, size_at}
 use Rattle.nd_grammar.specs.Refusal.{refusal, is_long}
 use Rattle.nd_grammar.specs.Reader.{Progress, Names, Named, here, advanced, pass, pass_all, named, numbered, new_cell, full_by, fresh, with_cell}
 use Rattle.nd_grammar.proofs.ReaderNodes.{if_not}

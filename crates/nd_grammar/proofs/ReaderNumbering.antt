@@ -1,11 +1,11 @@
 -- The numbers that full pointers have had are a numbering of their cells.
-use Rattle.std.proofs.Common.{◌≡◌, ℕ, ◌^◌, ◌<◌, ◌≤◌, Bool, true, false, List, [], ◌∷◌, ◌++◌, length, refl, ap, sym, ◌∙◌, inl, inr, ◌⊎◌, subst}
+use Rattle.std.proofs.Common.{◌≡◌, ℕ, ◌^◌, ◌<◌, List, [], ◌∷◌, length, refl, ap, sym, ◌∙◌, inl, inr, subst}
 use Rattle.std.specs.Prelude.{eqb, cond}
 use Rattle.std.specs.List.{AllByRecursion}
 use Rattle.std.proofs.lemmas.Bool.{eq-eqb}
 use Rattle.nd_graph.specs.Setting.{Among}
 use Rattle.nd_graph.specs.Conforms.{AllEarlier}
-use Rattle.nd_graph.proofs.Apart.{all_among, all_weaker}
+use Rattle.nd_graph.proofs.Apart.{all_among}
 use Rattle.nd_graph.proofs.Waiting.{not_equal}
 use Rattle.nd_grammar.specs.Represents.{IsNumbering}
 use Rattle.nd_grammar.specs.Reader.{Names}

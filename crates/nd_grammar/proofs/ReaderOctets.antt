@@ -1,20 +1,20 @@
 -- What octets below 256 give: counts of 32 bits, values in their ranges, octets and identifiers of the program.
-use Rattle.std.proofs.Common.{◌≡◌, ℕ, ◌+◌, ◌-◌, ◌^◌, ◌<◌, ◌≤◌, zero, suc, ℤ, Bool, true, false, ◌&&◌, List, [], ◌∷◌, ◌++◌, length, Option, Some, None, refl, ap, sym, ◌∙◌, arith, subst, replicate, take, drop, length-drop}
-use Rattle.std.specs.Prelude.{pos, eqb, ltb, reverse}
-use Rattle.std.specs.List.{AllByRecursion, list_all}
-use Rattle.std.proofs.lemmas.Bool.{and_from, lt-ltb, eq-eqb}
+use Rattle.std.proofs.Common.{◌≡◌, ℕ, ◌+◌, ◌^◌, ◌<◌, zero, suc, true, List, [], ◌∷◌, length, Option, Some, None, refl, ap, ◌∙◌, arith, subst, replicate, take, drop, length-drop}
+use Rattle.std.specs.Prelude.{pos, eqb}
+use Rattle.std.specs.List.{list_all}
+use Rattle.std.proofs.lemmas.Bool.{and_from, lt-ltb}
 use Rattle.nd_base.specs.declared.octets.Order.{Order}
 use Rattle.nd_base.specs.declared.octets.Order.TheVariants.{Big, Little}
 use Rattle.nd_types.specs.declared.types.Primitive.{Primitive}
 use Rattle.nd_types.specs.declared.types.Primitive.TheVariants.{Boolean}
 use Rattle.nd_types.specs.Table.{width, in_range}
-use Rattle.nd_types.specs.Number.{AreOctets, unsigned, in_order}
+use Rattle.nd_types.specs.Number.{AreOctets}
 use Rattle.nd_graph.specs.declared.item.Home.{Home}
-use Rattle.nd_graph.specs.Misfit.{is_octet, is_count}
-use Rattle.nd_grammar.specs.Entry.{Kind, Entry, size_at}
+use Rattle.nd_graph.specs.Misfit.{is_octet}
+use Rattle.nd_grammar.specs.Entry.{Kind, size_at}
 use Rattle.nd_grammar.specs.Represents.{piece}
 use Rattle.nd_grammar.specs.Refusal.{refusal}
-use Rattle.nd_grammar.specs.Reader.{Progress, here, taken, taken_by, number_in, value_in, text_in, attributes_in, identifier, identifier_in}
+use Rattle.nd_grammar.specs.Reader.{Progress, here, taken, number_in, value_in, text_in, attributes_in, identifier, identifier_in}
 use Rattle.nd_grammar.proofs.Ranges.{value_in_range, below_4, drop_octets, take_octets}
 use Rattle.nd_grammar.proofs.ReaderNodes.{accepted_kind, accepted_by}
 

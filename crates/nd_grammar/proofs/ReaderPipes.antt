@@ -1,6 +1,6 @@
 -- Reading pipes: their elements in chunks, each paid by the octets of its count.
 use Rattle.std.proofs.Common.{◌≡◌, ℕ, ◌+◌, ◌*◌, ◌<◌, ◌≤◌, zero, suc, Bool, true, false, List, [], ◌∷◌, ◌++◌, length, Option, Some, None, refl, ap, ap₂, sym, ◌∙◌, inl, inr, ◌⊎◌, arith, subst, replicate, length-append}
-use Rattle.std.specs.Prelude.{flat_map, eqb, sum}
+use Rattle.std.specs.Prelude.{flat_map, eqb}
 use Rattle.std.specs.List.{AllByRecursion}
 use Rattle.std.proofs.lemmas.List.{append-nil, length-replicate}
 use Rattle.std.proofs.lemmas.Bool.{eqb-true, eqb-false}
@@ -15,15 +15,15 @@ use Rattle.nd_graph.specs.declared.item.Home.{Home}
 use Rattle.nd_graph.specs.declared.item.Home.TheVariants as home
 use Rattle.nd_graph.specs.Tree as tree
 use Rattle.nd_graph.specs.Tree.{Tree, Trees, node, none, more, Label, Referent, count, node_count, take_trees, drop_trees, joined}
-use Rattle.nd_graph.specs.Setting.{Setting, unread, root_list}
-use Rattle.nd_graph.specs.Nodes.{nodes_of, child_types}
-use Rattle.nd_graph.specs.Deferral.{Pending, pointer, home_pointers}
+use Rattle.nd_graph.specs.Setting.{Setting, unread}
+use Rattle.nd_graph.specs.Nodes.{nodes_of}
+use Rattle.nd_graph.specs.Deferral.{pointer}
 use Rattle.nd_graph.specs.Homes.{root_pointers}
 use Rattle.nd_graph.proofs.Apart.{all_append}
 use Rattle.nd_grammar.specs.LegalSide.{IsLegalSide}
 use Rattle.nd_grammar.specs.declared.reason.Reason.{Reason}
-use Rattle.nd_grammar.specs.Entry.{Kind, Entry, Align, Chunk, Unread, size_at}
-use Rattle.nd_grammar.specs.InPlace.{entries, in_place}
+use Rattle.nd_grammar.specs.Entry.{Kind, Entry, Align, Chunk, size_at}
+use Rattle.nd_grammar.specs.InPlace.{in_place}
 use Rattle.nd_grammar.specs.Represents.{piece}
 use Rattle.nd_grammar.specs.Refusal.{refusal}
 use Rattle.nd_grammar.specs.Stream.{chunk_entries, chunks, Cuts, pipe_entries, pipes_entries, AllCut, kids_of}
@@ -34,14 +34,14 @@ use Rattle.nd_grammar.proofs.NextPipes.{sum_first}
 use Rattle.nd_grammar.proofs.NextStream.{IsPipeRoot, IsLaidOut, FitsPipes}
 use Rattle.nd_grammar.proofs.LegalSides.{laid_out}
 use Rattle.nd_grammar.proofs.ReaderSteps.{Follows, follows_append, follows_stopped, same_taken}
-use Rattle.nd_grammar.proofs.ReaderNodes.{Agree, Grown}
+use Rattle.nd_grammar.proofs.ReaderNodes.{Agree}
 use Rattle.nd_grammar.proofs.ReaderInPlace.{Readable, Reads, AreRead, in_place_read, list_read}
 use Rattle.nd_grammar.proofs.ReaderLeaves.{Leave, AllLeave, in_place_leaves, list_leaves}
-use Rattle.nd_grammar.proofs.ReaderNames.{Extends, Linked}
+use Rattle.nd_grammar.proofs.ReaderNames.{Extends}
 use Rattle.nd_grammar.proofs.ReaderMoves.{Moves, stays_there, moves_twice, pass_moves}
 use Rattle.nd_grammar.proofs.ReaderMakes.{Make, AllMake, in_place_makes, list_makes}
-use Rattle.nd_grammar.proofs.MadeTrees.{MadeTrees, MadeTree, one_made, unread_made, made_count, FitsAlone}
-use Rattle.nd_grammar.proofs.EntriesFine.{Fine, FullOk, fine_entries, fine_in_place}
+use Rattle.nd_grammar.proofs.MadeTrees.{MadeTrees, MadeTree, one_made, unread_made, made_count}
+use Rattle.nd_grammar.proofs.EntriesFine.{Fine, FullOk, fine_in_place}
 use Rattle.nd_grammar.proofs.LegalUsable.{small_bounds, usable_readable, element_usable}
 use Rattle.nd_grammar.proofs.ReaderStates.{RootsMade, Numbered}
 
@@ -216,8 +216,10 @@ module _ (w : Setting) (side : IsLegalSide w) (order : Order) (octets : List ℕ
     by_test : (n k : ℕ) (p q : Progress) (s : Names) (kids : ReadAll) (others : ReadPipe) → Moves order octets p q
         → ((nums : ℕ → ℕ) → Follows order octets nums p (E (Align 4) ∷ E (Chunk k) ∷ []) q) → ChunkRead h e k n q s kids
         → ((k ≡ 0 → ⊥) → PipeRead (n + node_count kids.trees) kids.progress kids.names others) → (b : Bool) → eqb k 0 ≡ b
-        → PipeRead n p s (elim b [ true ↦ record { trees = none; cut = []; progress = q; names = s }
-            | false ↦ record { trees = joined kids.trees others.trees; cut = k ∷ others.cut; progress = others.progress; names = others.names } ])
+        → PipeRead n p s (elim b [
+          | true ↦ record { trees = none; cut = []; progress = q; names = s }
+          | false ↦ record { trees = joined kids.trees others.trees; cut = k ∷ others.cut; progress = others.progress; names = others.names }
+        ])
     by_test n k p q s kids others before count_follows c rest true z = last_chunk n k p q s (eqb-true k 0 z) before count_follows
     by_test n k p q s kids others before count_follows c rest false z =
         more_chunks n k p q s kids others (eqb-false k 0 z) before count_follows c (rest (eqb-false k 0 z))
@@ -285,13 +287,13 @@ module _ (w : Setting) (side : IsLegalSide w) (order : Order) (octets : List ℕ
 
   read_one : (i : ℕ) (r : Root) → IsPipeRoot w.table r → (p : Progress) (s : Names) → p.at ≤ length octets → (o : Option (ℕ × Reason)) → p.stop ≡ o
       → OnePipe i r p s (read_pipe w order octets (type_at w.table r.of) (is_stopped o) i p s)
-          (pipe_tree w order octets (is_stopped o) (read_pipe w order octets (type_at w.table r.of) (is_stopped o) i p s).trees)
+      (pipe_tree w order octets (is_stopped o) (read_pipe w order octets (type_at w.table r.of) (is_stopped o) i p s).trees)
   read_one i r pr p s b (Some x) e =
       subst (λ d. OnePipe i r p s (read_pipe w order octets d true i p s) unread) (sym pr.type_is) (unread_pipe i r p s x e (type_at w.table r.of) refl)
   read_one i r pr p s b None e =
       let x : TypeId = pr.elem in
       let a : PipeRead (home.Root i) x.0 (usable_readable w.table side.operations side.legal x.0 (element_usable w.table side.operations side.legal r.of x pr.type_is)) (laid.elements r.of x pr.type_is) 1 p s
-          (read_chunks w order octets (length octets + 1) (home.Root i) x.0 1 p s) =
+      (read_chunks w order octets (length octets + 1) (home.Root i) x.0 1 p s) =
       chunks_read (home.Root i) x.0 (usable_readable w.table side.operations side.legal x.0 (element_usable w.table side.operations side.legal r.of x pr.type_is)) (laid.elements r.of x pr.type_is)
       (length octets + 1) 1 p s b (omega arith) in
       let c : ReadPipe = read_chunks w order octets (length octets + 1) (home.Root i) x.0 1 p s in

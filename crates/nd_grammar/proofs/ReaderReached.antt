@@ -1,11 +1,7 @@
 -- Every cell that the reader makes is reached from a root.
-use Rattle.std.proofs.Common.{◌≡◌, ℕ, ◌+◌, ◌<◌, ◌≤◌, zero, suc, List, [], ◌∷◌, ◌++◌, length, Option, Some, None, refl, ap, ap₂, sym, ◌∙◌, inl, inr, ◌⊎◌, arith, subst, length-append}
-use Rattle.std.specs.List.{AllByRecursion, slice_get}
+use Rattle.std.proofs.Common.{◌≡◌, ℕ, ◌<◌, ◌≤◌, zero, suc, List, [], ◌∷◌, ◌++◌, length, Some, refl, ap, sym, ◌∙◌, inl, inr, ◌⊎◌, arith, subst}
 use Rattle.std.proofs.lemmas.Option.{same_Some}
-use Rattle.nd_types.specs.Table.{Table}
-use Rattle.nd_types.specs.Roots.{Root}
 use Rattle.nd_graph.specs.declared.value.Graph.{Graph}
-use Rattle.nd_graph.specs.declared.item.Home.TheVariants as home
 use Rattle.nd_graph.specs.Tree.{Tree, Referent}
 use Rattle.nd_graph.specs.Setting.{Setting, Among, root_list, unread, cell_home, cell_of_number}
 use Rattle.nd_graph.specs.Deferral.{Pending, home_pointers}
@@ -15,7 +11,7 @@ use Rattle.nd_graph.proofs.Apart.{among_left, among_right}
 use Rattle.nd_grammar.specs.Reader.{Names}
 use Rattle.nd_grammar.specs.StreamReader.{graph_of, with_value}
 use Rattle.nd_grammar.proofs.ReaderNames.{cell_in, cell_kept}
-use Rattle.nd_grammar.proofs.ReaderCells.{set, set_same, set_other, set_length, unread_pointers}
+use Rattle.nd_grammar.proofs.ReaderCells.{set_same, set_other, set_length, unread_pointers}
 
 -- a cell by its number, in a graph of names
 pub number_in : (roots : List Tree) (s : Names) (c : ℕ) → cell_of_number (graph_of roots s) c ≡ cell_in s.cells c

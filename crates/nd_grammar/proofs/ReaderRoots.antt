@@ -2,14 +2,13 @@
 use Rattle.std.proofs.Common.{◌≡◌, ℕ, ◌+◌, ◌*◌, ◌<◌, ◌≤◌, zero, suc, Bool, true, false, List, [], ◌∷◌, ◌++◌, length, Option, Some, None, refl, ap, ap₂, sym, ◌∙◌, inl, inr, ◌⊎◌, arith, subst, append_assoc, length-append}
 use Rattle.std.specs.Prelude.{map, flat_map}
 use Rattle.std.specs.List.{AllByRecursion, slice_get}
-use Rattle.std.proofs.lemmas.List.{append-nil}
-use Rattle.std.proofs.lemmas.Option.{same_Some, slice_get-get_or}
+use Rattle.std.proofs.lemmas.Option.{slice_get-get_or}
 use Rattle.nd_base.specs.declared.octets.Order.{Order}
 use Rattle.nd_types.specs.declared.types.TypeDef.{TypeDef}
 use Rattle.nd_types.specs.declared.types.TypeId.{TypeId}
 use Rattle.nd_types.specs.declared.types.TypeDef.TheVariants as def
 use Rattle.nd_types.specs.declared.types.Class.TheVariants.{Ref, Unique, Full}
-use Rattle.nd_types.specs.Table.{Table, type_at}
+use Rattle.nd_types.specs.Table.{type_at}
 use Rattle.nd_types.specs.Roots.{Root}
 use Rattle.nd_types.specs.Layout.{hoists}
 use Rattle.nd_types.specs.Number.{AreOctets}
@@ -17,28 +16,27 @@ use Rattle.nd_graph.specs.declared.value.Graph.{Graph}
 use Rattle.nd_graph.specs.declared.item.Home.TheVariants as home
 use Rattle.nd_graph.specs.Tree as tree
 use Rattle.nd_graph.specs.Tree.{Tree, Trees, node, none, more, Referent}
-use Rattle.nd_graph.specs.Setting.{Setting, Among, root_list, root_at, or_unread, unread, cell_home, cell_at, cell_tree}
-use Rattle.nd_graph.specs.Deferral.{Pending, Due, due_root, due_referent, due_roots, due_of, before_pipes, home_pointers, IsPlaced, Placed_cells, Step, root_stands, Deferral, Standing, standing_root, standing_by, direct, root_type}
-use Rattle.nd_graph.specs.Homes.{root_pointers, cell_pointers, all_pointers}
-use Rattle.nd_graph.proofs.Apart.{all_append, among_left}
+use Rattle.nd_graph.specs.Setting.{Setting, root_list, root_at, or_unread, unread, cell_home, cell_at, cell_tree}
+use Rattle.nd_graph.specs.Deferral.{Pending, Due, due_root, due_referent, due_roots, before_pipes, home_pointers, IsPlaced, root_stands, Standing, standing_root, standing_by, direct, root_type}
+use Rattle.nd_graph.specs.Homes.{root_pointers, cell_pointers}
+use Rattle.nd_graph.proofs.Apart.{all_append}
 use Rattle.nd_graph.proofs.DeferralExists.{direct_pointer}
 use Rattle.nd_grammar.specs.LegalSide.{IsLegalSide}
 use Rattle.nd_grammar.specs.declared.reason.Reason.{Reason}
 use Rattle.nd_grammar.specs.InPlace.{whole_value}
 use Rattle.nd_grammar.specs.Stream.{step_entries, standing_entries}
-use Rattle.nd_grammar.specs.Reader.{Progress, Names, Read, is_stopped, fresh, with_cell, new_cell, read_hoisted, read_if, read_whole}
-use Rattle.nd_grammar.specs.StreamReader.{Reading, graph_of, read_direct, read_placed, read_root, read_referent, read_first, read_next, read_due}
+use Rattle.nd_grammar.specs.Reader.{Read, is_stopped, fresh, with_cell, new_cell, read_hoisted, read_if, read_whole}
+use Rattle.nd_grammar.specs.StreamReader.{Reading, read_direct, read_placed, read_root, read_first, read_next, read_due}
 use Rattle.nd_grammar.proofs.ReaderSteps.{Follows, follows_append}
-use Rattle.nd_grammar.proofs.ReaderNodes.{Agree}
-use Rattle.nd_grammar.proofs.ReaderNames.{cell_in, cell_kept, Extends, PointerOk, PointersOk}
+use Rattle.nd_grammar.proofs.ReaderNames.{cell_in, cell_kept, PointersOk}
 use Rattle.nd_grammar.proofs.ReaderNamed.{NamedOk, own_cell, linked_cell}
-use Rattle.nd_grammar.proofs.ReaderMoves.{stopped, paid, Moves, NumbersOk, new_makes}
+use Rattle.nd_grammar.proofs.ReaderMoves.{stopped, paid, new_makes}
 use Rattle.nd_grammar.proofs.ReaderCells.{CellMade, no_names, more_pointers, root_more, put_between, blank_made, old_or_blank}
 use Rattle.nd_grammar.proofs.EntriesFine.{Fine}
 use Rattle.nd_grammar.proofs.ReaderReached.{reached_root}
-use Rattle.nd_grammar.proofs.ReaderStates.{Numbered, RootsMade, roots_made_more, Named, State, WholeRead, read_wholly, referent_state, referent_paid}
-use Rattle.nd_grammar.proofs.ReaderTurns.{Settled, More, Goes, goes_nowhere, goes_twice, Turn, joined_due, one_longer, at_end, root_turn, placed_there, pending_turn, settled_before, value_settled, its_entries, R_so}
-use Rattle.nd_grammar.proofs.MadeTrees.{MadeTree, MadeTrees, one_made, FitsAlone}
+use Rattle.nd_grammar.proofs.ReaderStates.{Numbered, roots_made_more, State, WholeRead, read_wholly, referent_state}
+use Rattle.nd_grammar.proofs.ReaderTurns.{Settled, Goes, goes_nowhere, goes_twice, Turn, joined_due, one_longer, at_end, root_turn, placed_there, pending_turn, settled_before, value_settled, R_so}
+use Rattle.nd_grammar.proofs.MadeTrees.{MadeTree, MadeTrees, one_made}
 use Rattle.nd_grammar.proofs.LegalUsable.{Usable, UsablePointer, pointee_usable, root_usable}
 
 module _ (w : Setting) (side : IsLegalSide w) (order : Order) (octets : List ℕ) (all : AreOctets octets) where

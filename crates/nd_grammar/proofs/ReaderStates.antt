@@ -1,30 +1,21 @@
 -- The state of reading a stream: what holds of the roots, cells and names so far, and of the pointers that are due.
-use Rattle.std.proofs.Common.{◌≡◌, ℕ, ◌+◌, ◌*◌, ◌<◌, ◌≤◌, zero, suc, Bool, true, false, List, [], ◌∷◌, ◌++◌, length, Option, Some, None, refl, ap, ap₂, sym, ◌∙◌, inl, inr, ◌⊎◌, arith, subst, append_assoc, length-append}
-use Rattle.std.specs.Prelude.{map, eqb}
+use Rattle.std.proofs.Common.{◌≡◌, ℕ, ◌+◌, ◌*◌, ◌<◌, ◌≤◌, zero, suc, false, List, [], ◌∷◌, ◌++◌, length, Some, refl, ap, sym, ◌∙◌, inl, inr, ◌⊎◌, arith, subst, append_assoc}
 use Rattle.std.specs.List.{AllByRecursion, slice_get}
-use Rattle.std.proofs.lemmas.List.{append-nil}
 use Rattle.std.proofs.lemmas.Option.{same_Some}
 use Rattle.nd_base.specs.declared.octets.Order.{Order}
-use Rattle.nd_types.specs.declared.types.TypeDef.{TypeDef}
-use Rattle.nd_types.specs.declared.types.Class.{Class}
-use Rattle.nd_types.specs.declared.types.Class.TheVariants.{Ref, Full}
+use Rattle.nd_types.specs.declared.types.Class.TheVariants.{Full}
 use Rattle.nd_types.specs.Table.{Table, type_at}
 use Rattle.nd_types.specs.Roots.{Root}
 use Rattle.nd_types.specs.Number.{AreOctets}
-use Rattle.nd_graph.specs.declared.value.Graph.{Graph}
 use Rattle.nd_graph.specs.declared.item.Home.{Home}
-use Rattle.nd_graph.specs.declared.item.Home.TheVariants as home
-use Rattle.nd_graph.specs.Tree as tree
-use Rattle.nd_graph.specs.Tree.{Tree, Trees, node, none, more, Referent}
+use Rattle.nd_graph.specs.Tree.{Tree, none, more, Referent}
 use Rattle.nd_graph.specs.Setting.{Setting, Among, root_list, unread, cell_home}
-use Rattle.nd_graph.specs.Deferral.{Pending, Due, due_root, due_referent, due_roots, before_pipes, home_pointers, IsPlaced, IsPlacedFull, Placed_cells}
+use Rattle.nd_graph.specs.Deferral.{Pending, Due, before_pipes, home_pointers, IsPlaced, IsPlacedFull, Placed_cells}
 use Rattle.nd_graph.specs.Homes.{root_pointers, cell_pointers, all_pointers}
-use Rattle.nd_graph.specs.Conforms.{ShareOnlyIfFull}
-use Rattle.nd_graph.proofs.Apart.{all_append, among_left, among_right, earlier_meets, all_weaker}
+use Rattle.nd_graph.proofs.Apart.{all_append, among_left, among_right}
 use Rattle.nd_grammar.specs.LegalSide.{IsLegalSide}
-use Rattle.nd_grammar.specs.Entry.{Entry}
 use Rattle.nd_grammar.specs.InPlace.{tests, whole_value}
-use Rattle.nd_grammar.specs.Reader.{Progress, Names, Read, pass_all, fresh, with_cell, read_whole}
+use Rattle.nd_grammar.specs.Reader.{Progress, Names, Read, read_whole}
 use Rattle.nd_grammar.specs.StreamReader.{Reading, graph_of, with_value, read_referent}
 use Rattle.nd_grammar.proofs.HoistedMaxes.{HoistsLast}
 use Rattle.nd_grammar.proofs.LegalSides.{laid_out}
@@ -32,14 +23,13 @@ use Rattle.nd_grammar.proofs.ReaderSteps.{Follows}
 use Rattle.nd_grammar.proofs.ReaderNodes.{Agree, Grown}
 use Rattle.nd_grammar.proofs.ReaderInPlace.{Readable, whole_read}
 use Rattle.nd_grammar.proofs.EntriesFine.{Fine, FullOk, fine_whole}
-use Rattle.nd_grammar.proofs.ReaderNames.{cell_in, last_cell, numbered_cells, numbers_among, Extends, longer, Linked, linked_all, PointerAt, PointerOk, PointersOk}
-use Rattle.nd_grammar.proofs.ReaderNamed.{own_cell, linked_cell}
+use Rattle.nd_grammar.proofs.ReaderNames.{cell_in, numbered_cells, numbers_among, Extends, Linked, linked_all, PointerAt, PointerOk, PointersOk}
 use Rattle.nd_grammar.proofs.ReaderLeaves.{value_pointers}
 use Rattle.nd_grammar.proofs.ReaderWhole.{whole_leaves}
-use Rattle.nd_grammar.proofs.ReaderMoves.{paid, Moves, all_moves, moves_twice, NumbersOk}
+use Rattle.nd_grammar.proofs.ReaderMoves.{paid, Moves, all_moves, NumbersOk}
 use Rattle.nd_grammar.proofs.ReaderMakes.{Costs, whole_makes}
 use Rattle.nd_grammar.proofs.ReaderReached.{AllReached, reached_set}
-use Rattle.nd_grammar.proofs.ReaderCells.{cell_positive, CellMade, Inserted, no_names, value_is, more_pointers, root_more, put_between, pointers_kept, numbers_kept, linked_kept, value_length, set, set_same, set_other, set_made, set_pointers, blank_made, old_or_blank}
+use Rattle.nd_grammar.proofs.ReaderCells.{cell_positive, CellMade, Inserted, no_names, value_is, more_pointers, put_between, pointers_kept, numbers_kept, linked_kept, value_length, set, set_other, set_made, set_pointers, blank_made, old_or_blank}
 use Rattle.nd_grammar.proofs.MadeTrees.{MadeTrees, one_made}
 use Rattle.nd_grammar.proofs.LegalUsable.{Usable, UsablePointer, small_bounds, usable_readable, pointers_usable}
 

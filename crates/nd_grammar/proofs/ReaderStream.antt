@@ -1,8 +1,8 @@
 -- What a whole stream that is read says: its graph is a partial one, its entries are a stream of it, and reading goes over them.
-use Rattle.std.proofs.Common.{◌≡◌, ℕ, ◌+◌, ◌*◌, ◌^◌, ◌<◌, ◌≤◌, zero, suc, Bool, true, false, List, [], ◌∷◌, ◌++◌, length, Option, Some, None, refl, ap, ap₂, sym, ◌∙◌, inl, inr, ◌⊎◌, arith, subst, replicate, drop, append_assoc, length-append}
+use Rattle.std.proofs.Common.{◌≡◌, ℕ, ◌+◌, ◌^◌, ◌<◌, ◌≤◌, zero, suc, Bool, true, false, List, [], ◌∷◌, ◌++◌, length, Option, Some, None, refl, ap, ap₂, sym, ◌∙◌, inl, inr, arith, subst, replicate, drop, append_assoc, length-append}
 use Rattle.std.specs.Prelude.{map, flat_map, filter, cond, not, ◌&&◌, nat_le, eqb}
 use Rattle.std.specs.List.{AllByRecursion, slice_get, list_all}
-use Rattle.std.proofs.lemmas.List.{append-nil, length-drop, length-replicate}
+use Rattle.std.proofs.lemmas.List.{append-nil, length-replicate}
 use Rattle.std.proofs.lemmas.Bool.{and_from, and_parts, leb-true}
 use Rattle.nd_base.specs.declared.octets.Order.{Order}
 use Rattle.nd_base.specs.declared.TheConstants.{STREAM_LIMIT}
@@ -12,44 +12,42 @@ use Rattle.nd_types.specs.declared.types.Side.{Side}
 use Rattle.nd_types.specs.declared.types.Side.TheVariants as side
 use Rattle.nd_types.specs.declared.types.Operation.{Operation}
 use Rattle.nd_types.specs.declared.TheConstants.{PARAM_LIMIT, HANDLE}
-use Rattle.nd_types.specs.Table.{Table, type_at}
+use Rattle.nd_types.specs.Table.{Table}
 use Rattle.nd_types.specs.Roots.{Root, roots_of, params_from, root_of, result_root, travels}
 use Rattle.nd_types.specs.Number.{AreOctets}
 use Rattle.nd_graph.specs.declared.value.Graph.{Graph}
 use Rattle.nd_graph.specs.declared.item.Home.{Home}
 use Rattle.nd_graph.specs.declared.item.Home.TheVariants as home
-use Rattle.nd_graph.specs.Tree as tree
-use Rattle.nd_graph.specs.Tree.{Tree, Trees, node, none, more, Referent}
-use Rattle.nd_graph.specs.Setting.{Setting, Among, root_list, root_at, or_unread, unread, cell_home, cell_at, cell_tree}
+use Rattle.nd_graph.specs.Tree.{Tree, none, more, Referent}
+use Rattle.nd_graph.specs.Setting.{Setting, Among, root_list, or_unread, unread, cell_home, cell_at, cell_tree}
 use Rattle.nd_graph.specs.Nodes.{TypedNode, governed_nodes, home_nodes}
-use Rattle.nd_graph.specs.Deferral.{Pending, Due, due_roots, before_pipes, home_pointers, IsPlaced, Step, Deferral, none_due}
+use Rattle.nd_graph.specs.Deferral.{Pending, due_roots, before_pipes, home_pointers, Step, Deferral, none_due}
 use Rattle.nd_graph.specs.Variables.{root_agreements}
 use Rattle.nd_graph.specs.Homes.{HomeNode, in_home, root_nodes, cell_nodes, all_nodes, root_pointers, cell_pointers, all_pointers}
 use Rattle.nd_graph.specs.Misfit.{is_partial_node, has_machine_values}
 use Rattle.nd_graph.specs.Conforms.{IsPartial}
 use Rattle.nd_graph.proofs.Apart.{all_append, all_left, all_right, all_weaker}
 use Rattle.nd_grammar.specs.LegalSide.{IsLegalSide}
-use Rattle.nd_grammar.specs.declared.reason.Reason.{Reason}
 use Rattle.nd_grammar.specs.Entry.{Entry, full_cells}
 use Rattle.nd_grammar.specs.Represents.{IsNumbering}
-use Rattle.nd_grammar.specs.Stream.{Stream, step_entries, root_tests, pipes_entries, AllCut, head_entries, representation}
-use Rattle.nd_grammar.specs.Reader.{Progress, Names, pass_all}
-use Rattle.nd_grammar.specs.StreamReader.{Reading, ReadPipes, Found, graph_of, read_due, read_pipes, read_start, read_stream}
+use Rattle.nd_grammar.specs.Stream.{Stream, step_entries, root_tests, pipes_entries, AllCut, representation}
+use Rattle.nd_grammar.specs.Reader.{Progress, pass_all}
+use Rattle.nd_grammar.specs.StreamReader.{Reading, ReadPipes, graph_of, read_due, read_pipes, read_start, read_stream}
 use Rattle.nd_grammar.proofs.LegalSides.{laid_out}
 use Rattle.nd_grammar.proofs.NextStream.{IsPipeRoot, IsLaidOut}
 use Rattle.nd_grammar.proofs.EntriesFine.{Fine, full_fine, follows_within}
-use Rattle.nd_grammar.proofs.MadeTrees.{MadeTrees, CellOf, CellFits, IsPartialNode, made_nodes}
+use Rattle.nd_grammar.proofs.MadeTrees.{CellOf, CellFits, IsPartialNode, made_nodes}
 use Rattle.nd_grammar.proofs.ReaderVerdict.{start}
 use Rattle.nd_grammar.proofs.ReaderSteps.{Follows, follows_append}
-use Rattle.nd_grammar.proofs.ReaderNodes.{Agree, Grown}
-use Rattle.nd_grammar.proofs.ReaderNames.{cell_in, numbered_cells, PointerAt, PointerOk, PointersOk, no_pointers_ok}
-use Rattle.nd_grammar.proofs.ReaderMoves.{stopped, paid, Moves, all_moves, NumbersOk}
+use Rattle.nd_grammar.proofs.ReaderNodes.{Agree}
+use Rattle.nd_grammar.proofs.ReaderNames.{cell_in, PointerAt, PointerOk, PointersOk, no_pointers_ok}
+use Rattle.nd_grammar.proofs.ReaderMoves.{all_moves}
 use Rattle.nd_grammar.proofs.ReaderCells.{CellMade, no_names, no_roots}
 use Rattle.nd_grammar.proofs.ReaderReached.{AllReached, reached_more}
 use Rattle.nd_grammar.proofs.ReaderStates.{RootsMade, Numbered, State}
-use Rattle.nd_grammar.proofs.ReaderTurns.{Settled, More, Goes}
+use Rattle.nd_grammar.proofs.ReaderTurns.{Settled, More}
 use Rattle.nd_grammar.proofs.ReaderRoots.{Done, due_done, few_before, stopped_few}
-use Rattle.nd_grammar.proofs.ReaderPipes.{PipesRead, PipeTop, pipes_read}
+use Rattle.nd_grammar.proofs.ReaderPipes.{PipesRead, pipes_read}
 use Rattle.nd_grammar.proofs.ReaderTests.{Top, SameTop, root_tests_are, tests_follow, tests_fine, tests_same}
 use Rattle.nd_grammar.proofs.ReaderNumbering.{number_of_cell, numbers_agree, is_numbering}
 

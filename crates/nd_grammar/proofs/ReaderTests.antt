@@ -1,5 +1,5 @@
 -- The agreements of parameters, as the reader tries them before the pipes are read.
-use Rattle.std.proofs.Common.{◌≡◌, ℕ, ◌+◌, zero, suc, ℤ, Bool, true, false, List, [], ◌∷◌, ◌++◌, length, Option, Some, None, refl, ap, ap₂, sym, ◌∙◌, inl, inr, ◌⊎◌, subst, drop}
+use Rattle.std.proofs.Common.{◌≡◌, ℕ, ◌+◌, ℤ, Bool, true, false, List, [], ◌∷◌, ◌++◌, length, Option, Some, None, refl, ap, ap₂, sym, ◌∙◌, inl, inr, ◌⊎◌, subst, drop}
 use Rattle.std.specs.List.{AllByRecursion}
 use Rattle.nd_base.specs.declared.octets.Order.{Order}
 use Rattle.nd_types.specs.declared.types.Attr.{Attr}
@@ -18,7 +18,7 @@ use Rattle.nd_grammar.specs.Entry.{Entry, Test}
 use Rattle.nd_grammar.specs.InPlace.{tests}
 use Rattle.nd_grammar.specs.Represents.{Spells}
 use Rattle.nd_grammar.specs.Stream.{root_test, root_tests}
-use Rattle.nd_grammar.specs.Reader.{Progress, pass, pass_all, taken}
+use Rattle.nd_grammar.specs.Reader.{Progress, pass, pass_all}
 use Rattle.nd_grammar.proofs.ReaderSteps.{Follows}
 use Rattle.nd_grammar.proofs.EntriesFine.{IsFine, Fine}
 

@@ -1,48 +1,31 @@
 -- One step of the reader over what is due: the state behind it, and the step of deferral that it is.
-use Rattle.std.proofs.Common.{◌≡◌, ℕ, ◌+◌, ◌*◌, ◌<◌, ◌≤◌, zero, suc, Bool, true, false, List, [], ◌∷◌, ◌++◌, length, Option, Some, None, refl, ap, ap₂, sym, ◌∙◌, inl, inr, ◌⊎◌, arith, subst, append_assoc, length-append}
+use Rattle.std.proofs.Common.{◌≡◌, ℕ, ◌+◌, ◌*◌, ◌≤◌, zero, suc, Bool, true, false, List, [], ◌∷◌, ◌++◌, length, Option, Some, None, refl, ap, sym, ◌∙◌, inl, inr, arith, subst, append_assoc, length-append}
 use Rattle.std.specs.Prelude.{map, flat_map, eqb, ◌||◌}
 use Rattle.std.specs.List.{AllByRecursion, slice_get}
-use Rattle.std.proofs.lemmas.List.{append-nil}
-use Rattle.std.proofs.lemmas.Option.{same_Some, slice_get-get_or}
 use Rattle.std.proofs.lemmas.Bool.{eqb-true, eqb-false}
 use Rattle.nd_base.specs.declared.octets.Order.{Order}
-use Rattle.nd_types.specs.declared.types.TypeDef.{TypeDef}
-use Rattle.nd_types.specs.declared.types.TypeId.{TypeId}
-use Rattle.nd_types.specs.declared.types.TypeDef.TheVariants as def
 use Rattle.nd_types.specs.declared.types.Class.{Class}
 use Rattle.nd_types.specs.declared.types.Class.TheVariants.{Ref, Unique, Full}
-use Rattle.nd_types.specs.Table.{Table, type_at}
-use Rattle.nd_types.specs.Roots.{Root}
 use Rattle.nd_types.specs.Number.{AreOctets}
 use Rattle.nd_graph.specs.declared.value.Graph.{Graph}
-use Rattle.nd_graph.specs.declared.item.Home.{Home}
-use Rattle.nd_graph.specs.declared.item.Home.TheVariants as home
-use Rattle.nd_graph.specs.Tree as tree
-use Rattle.nd_graph.specs.Tree.{Tree, Trees, node, none, more, Referent}
-use Rattle.nd_graph.specs.Setting.{Setting, Among, root_list, root_at, or_unread, unread, cell_home, cell_at, cell_tree, cell_of_number}
-use Rattle.nd_graph.specs.Deferral.{Pending, Due, due_root, due_referent, due_roots, due_of, before_pipes, home_pointers, IsPlaced, IsPlacedFull, Placed_cells, Step, root_stands, referent_stands, stands_already, Deferral, none_due, at_root, at_null, at_standing, at_referent, Standing, standing_root, standing_cell, standing_by, direct, root_type, root_cell, AreFree}
-use Rattle.nd_graph.specs.Homes.{root_pointers, cell_pointers, all_pointers}
-use Rattle.nd_graph.specs.Conforms.{AllEarlier, ShareOnlyIfFull}
-use Rattle.nd_graph.proofs.Apart.{all_append, all_left, all_among, among_left, among_right, earlier_meets}
-use Rattle.nd_graph.proofs.DeferralExists.{direct_pointer}
-use Rattle.nd_graph.proofs.DeferralLaws.{full_stands}
+use Rattle.nd_graph.specs.Tree.{Tree, Referent}
+use Rattle.nd_graph.specs.Setting.{Setting, cell_home, cell_at, cell_tree}
+use Rattle.nd_graph.specs.Deferral.{Pending, Due, due_root, due_referent, due_roots, due_of, home_pointers, IsPlaced, IsPlacedFull, Placed_cells, Step, root_stands, referent_stands, stands_already, Deferral, at_root, at_null, at_standing, at_referent, Standing, standing_root, standing_cell, root_cell, AreFree}
+use Rattle.nd_graph.specs.Conforms.{ShareOnlyIfFull}
+use Rattle.nd_graph.proofs.Apart.{all_append, all_left, all_among, among_left, earlier_meets}
 use Rattle.nd_grammar.specs.LegalSide.{IsLegalSide}
-use Rattle.nd_grammar.specs.declared.reason.Reason.{Reason}
 use Rattle.nd_grammar.specs.Entry.{Entry}
 use Rattle.nd_grammar.specs.InPlace.{tests, whole_value}
 use Rattle.nd_grammar.specs.Stream.{step_entries, standing_entries, step_tests}
-use Rattle.nd_grammar.specs.Reader.{Progress, Names, Read, is_stopped, pass_all, fresh, with_cell, read_if, read_hoisted, read_whole}
-use Rattle.nd_grammar.specs.StreamReader.{Reading, graph_of, with_value, stands_among, stood, read_direct, read_placed, read_root, read_referent, read_pending, read_first}
+use Rattle.nd_grammar.specs.Reader.{Progress, Read, pass_all, read_whole}
+use Rattle.nd_grammar.specs.StreamReader.{Reading, graph_of, stands_among, stood, read_referent, read_pending}
 use Rattle.nd_grammar.proofs.ReaderSteps.{Follows, follows_append, follows_tests}
 use Rattle.nd_grammar.proofs.ReaderNodes.{Agree, Grown, grown_agree, grown_twice}
-use Rattle.nd_grammar.proofs.ReaderNames.{cell_in, cell_kept, Extends, longer, Linked, linked_all, PointerAt, PointerOk, PointersOk}
-use Rattle.nd_grammar.proofs.ReaderNamed.{own_cell, linked_cell}
-use Rattle.nd_grammar.proofs.ReaderMoves.{paid, Moves, stays_there, all_moves, moves_twice, NumbersOk, NumberOk, new_makes}
-use Rattle.nd_grammar.proofs.ReaderCells.{CellMade, no_names, more_pointers, root_more, put_between, set, set_same, set_other, blank_made, old_or_blank}
+use Rattle.nd_grammar.proofs.ReaderNames.{cell_in, cell_kept, Linked, linked_all, PointerAt, PointerOk, PointersOk}
+use Rattle.nd_grammar.proofs.ReaderMoves.{paid, Moves, stays_there, all_moves}
+use Rattle.nd_grammar.proofs.ReaderCells.{no_names, set, set_same, set_other}
 use Rattle.nd_grammar.proofs.EntriesFine.{Fine, fine_tests}
-use Rattle.nd_grammar.proofs.ReaderStates.{Numbered, RootsMade, roots_made_more, Named, State, WholeRead, read_wholly, referent_state, referent_paid, read_so, at_cell, cell_then}
-use Rattle.nd_grammar.proofs.MadeTrees.{MadeTree, MadeTrees, one_made}
-use Rattle.nd_grammar.proofs.LegalUsable.{Usable, UsablePointer, pointee_usable, root_usable}
+use Rattle.nd_grammar.proofs.ReaderStates.{Numbered, State, WholeRead, referent_state, referent_paid, read_so, cell_then}
 
 stands_true : (done : Placed_cells) (c : ℕ) → stands_among done c ≡ true → IsPlaced done c
 stands_true [] c e = cc

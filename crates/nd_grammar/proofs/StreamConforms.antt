@@ -1,50 +1,24 @@
 -- A partial graph whose stream is accepted whole: each node fits, each agreement holds, and its nodes are few.
-use Rattle.std.proofs.Common.{◌≡◌, ℕ, ◌+◌, ◌-◌, ◌*◌, ◌^◌, ◌<◌, ◌≤◌, zero, suc, Bool, true, false, List, [], ◌∷◌, ◌++◌, length, Option, Some, None, refl, ap, ap₂, sym, ◌∙◌, inl, inr, ◌⊎◌, arith, subst, replicate, drop, append_assoc}
-use Rattle.std.specs.Prelude.{map, flat_map, sum}
+use Rattle.std.proofs.Common.{◌≡◌, ℕ, ◌+◌, ◌<◌, ◌≤◌, zero, suc, Bool, true, false, List, [], ◌∷◌, ◌++◌, Some, refl, ap, ap₂, sym, ◌∙◌, inl, inr, ◌⊎◌, arith, subst, replicate, append_assoc}
+use Rattle.std.specs.Prelude.{sum}
 use Rattle.std.specs.List.{AllByRecursion, slice_get}
-use Rattle.std.proofs.lemmas.List.{append-nil}
-use Rattle.std.proofs.lemmas.Grind.{flat_map-append}
-use Rattle.std.proofs.lemmas.Option.{same_Some, slice_get-get_or, slice_get_within}
-use Rattle.nd_types.specs.declared.types.TypeDef.{TypeDef}
-use Rattle.nd_types.specs.declared.types.TypeId.{TypeId}
-use Rattle.nd_types.specs.declared.types.TypeDef.TheVariants as def
-use Rattle.nd_types.specs.declared.types.Class.TheVariants.{Ref}
 use Rattle.nd_types.specs.Table.{Table, type_at}
 use Rattle.nd_types.specs.Layout.{hoists}
 use Rattle.nd_types.specs.Roots.{Root}
-use Rattle.nd_graph.specs.declared.value.Graph.{Graph}
 use Rattle.nd_graph.specs.declared.item.Home.{Home}
 use Rattle.nd_graph.specs.declared.item.Home.TheVariants as home
-use Rattle.nd_graph.specs.Tree as tree
-use Rattle.nd_graph.specs.Tree.{Tree, Trees, node, none, more, Label, Referent, count, node_count, is_pointer, cell_in, take_trees, drop_trees}
-use Rattle.nd_graph.specs.Agreement.{Agreement}
-use Rattle.nd_graph.specs.Setting.{Setting, Among, root_list, root_at, or_unread, cell_home, cell_at, cell_tree, cell_of_number}
-use Rattle.nd_graph.specs.Nodes.{TypedNode, nodes_of, child_types, child_agreements, first_agreements, rest_agreements, governed_nodes, home_nodes}
-use Rattle.nd_graph.specs.Deferral.{Pending, pointer, pointer_by, home_pointers, Due, due_root, due_roots, before_pipes, Step, Deferral, Standing, standing_root, standing_by, direct, root_type}
-use Rattle.nd_graph.specs.Variables.{root_agreements}
-use Rattle.nd_graph.specs.Homes.{HomeNode, in_home, root_nodes, cell_nodes, all_nodes, root_pointers, cell_pointers, all_pointers}
-use Rattle.nd_graph.specs.Misfit.{misfit_of}
-use Rattle.nd_graph.specs.Conforms.{Reached, by_root, by_cell, AgreesAt, IsAgreed}
-use Rattle.nd_graph.proofs.Apart.{all_append, all_left, all_right, all_among}
-use Rattle.nd_graph.proofs.DeferralExists.{direct_is, direct_pointer}
-use Rattle.nd_grammar.specs.LegalSide.{IsLegalSide}
+use Rattle.nd_graph.specs.Tree.{Tree, Trees, node, none, more, count, node_count, is_pointer, take_trees, drop_trees}
+use Rattle.nd_graph.specs.Setting.{Among}
+use Rattle.nd_graph.specs.Deferral.{Pending, home_pointers, Due, due_root, due_roots}
+use Rattle.nd_graph.specs.Homes.{root_pointers}
+use Rattle.nd_graph.proofs.Apart.{all_append, all_left, all_right}
 use Rattle.nd_grammar.specs.Entry.{Entry}
-use Rattle.nd_grammar.specs.InPlace.{entries, in_place, tests, own_tests, child_tests, hoisted, hoisted_max, whole_value}
-use Rattle.nd_grammar.specs.Stream.{step_entries, root_test, root_tests, chunk_entries, chunks, Cuts, pipe_entries, pipes_entries, AllCut, kids_of, head_entries, representation}
-use Rattle.nd_grammar.proofs.LegalSides.{laid_out}
+use Rattle.nd_grammar.specs.InPlace.{entries, in_place, own_tests, child_tests, hoisted, hoisted_max, whole_value}
+use Rattle.nd_grammar.specs.Stream.{chunk_entries, chunks}
 use Rattle.nd_grammar.proofs.NextPipes.{sum_first, count_drop}
-use Rattle.nd_grammar.proofs.NextStream.{IsPipeRoot, IsLaidOut, drop_at, all_at}
-use Rattle.nd_grammar.proofs.Mapped.{no_pointers, pipe_pointers}
-use Rattle.nd_grammar.proofs.ReaderInPlace.{Readable, node_entries, value_then_others}
-use Rattle.nd_grammar.proofs.MadeTrees.{FitsAlone, MadeNode, MadeTrees, CellOf, CellFits, label_known}
-use Rattle.nd_grammar.proofs.Passed.{Passed, PassedAll, left_passed, right_passed, least, least_append}
-use Rattle.nd_grammar.proofs.PassedTrees.{PendingAgrees, in_place_fits, in_place_agrees, misfit_none, tests_agree, unread_entry}
-use Rattle.nd_grammar.proofs.Placed.{own, all_placed, Covers}
-use Rattle.nd_grammar.proofs.StreamMet.{made_no_null, root_made, cell_pointers_fit, root_pointers_fit, DueOk, DueMet, HomeMet, PointerMet, Closed, met}
-use Rattle.nd_grammar.proofs.FewNodes.{one, Bound, AllFew, list_few, value_few, some_members, some_bound, many_ones}
-use Rattle.nd_grammar.proofs.ReaderCells.{CellMade}
-use Rattle.nd_grammar.proofs.ReaderStates.{RootsMade}
-use Rattle.nd_grammar.proofs.LegalUsable.{Usable, UsablePointer, usable_readable, root_usable, element_usable, pointers_usable}
+use Rattle.nd_grammar.proofs.ReaderInPlace.{node_entries, value_then_others}
+use Rattle.nd_grammar.proofs.Passed.{Passed, PassedAll, right_passed, least, least_append}
+use Rattle.nd_grammar.proofs.FewNodes.{one}
 
 pub one_few : (b : Bool) → one b ≤ 1
 one_few true = omega arith

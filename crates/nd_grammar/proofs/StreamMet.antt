@@ -1,10 +1,9 @@
 -- In a stream that is accepted whole, all that was due is met: each value that stands passed, and the agreements of its pointers hold.
-use Rattle.std.proofs.Common.{◌≡◌, ℕ, ◌+◌, ◌<◌, ◌≤◌, zero, suc, true, false, List, [], ◌∷◌, ◌++◌, length, Option, Some, None, refl, ap, ap₂, sym, ◌∙◌, inl, inr, ◌⊎◌, arith, subst}
+use Rattle.std.proofs.Common.{◌≡◌, ℕ, ◌+◌, zero, suc, true, List, [], ◌∷◌, ◌++◌, Option, Some, None, refl, ap, sym, ◌∙◌, inl, inr, arith, subst}
 use Rattle.std.specs.Prelude.{map, flat_map}
 use Rattle.std.specs.List.{AllByRecursion, slice_get}
 use Rattle.std.proofs.lemmas.Option.{same_Some}
 use Rattle.nd_types.specs.declared.types.TypeDef.{TypeDef}
-use Rattle.nd_types.specs.declared.types.TypeId.{TypeId}
 use Rattle.nd_types.specs.declared.types.TypeDef.TheVariants as def
 use Rattle.nd_types.specs.declared.types.Class.TheVariants.{Ref, Unique, Full}
 use Rattle.nd_types.specs.Table.{Table, type_at}
@@ -19,7 +18,7 @@ use Rattle.nd_graph.specs.Deferral.{Pending, home_pointers, Due, due_root, due_r
 use Rattle.nd_graph.specs.Homes.{root_pointers, cell_pointers, all_pointers}
 use Rattle.nd_graph.specs.Misfit.{is_no_null_ref}
 use Rattle.nd_graph.specs.Conforms.{IsAgreed}
-use Rattle.nd_graph.proofs.Apart.{all_append, all_left, all_right, all_among, among_left, among_right}
+use Rattle.nd_graph.proofs.Apart.{all_append, all_left, all_right, among_left}
 use Rattle.nd_graph.proofs.DeferralExists.{direct_is, direct_pointer}
 use Rattle.nd_graph.proofs.DeferralLaws.{full_stands}
 use Rattle.nd_grammar.specs.Entry.{Entry}

@@ -114,19 +114,19 @@ misfit_of table g x =
     (unless (has_no_zero x.label) misfit.Zero
     (unless (has_arm d x.label) misfit.NoArm None)))))))
 
--- the label of a value that is not read
-abbrev pub is_unread : Label → Bool
-is_unread tree.Unread = true
-is_unread _ = false
+-- a value that is not read: it has no children
+abbrev pub is_unread : Label → Trees → Bool
+is_unread tree.Unread none = true
+is_unread _ _ = false
 
--- What a node of a partial graph keeps to. One that is unread keeps to nothing. Any other has the form and the counts of its type,
+-- What a node of a partial graph keeps to. One that is unread has no children. Any other has the form and the counts of its type,
 -- its numbers are in the range of their octets, it is no reference pointer that is null, and a pointer that is not null names a
 -- cell of its referent's type. Allowed are an enumerated value that is no enumerator, an offset and an actual count that end past
 -- the maximum count, zero octets in a text, and a tag that selects no arm: then no value is there.
 abbrev pub is_partial_node : Table → Graph → TypedNode → Bool
 is_partial_node table g x =
     let d = type_at table x.of in
-    is_unread x.label
+    is_unread x.label x.kids
     || has_shape d x.label x.kids && eqb (count x.kids) (length (child_types d x.label x.kids)) && has_range fits_octets table d x.label && is_no_null_ref d x.label
     && names_cell g x.label && names_pointee g d x.label && has_counts d x.label x.kids
 
