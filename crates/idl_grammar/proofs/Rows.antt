@@ -1,5 +1,5 @@
 -- The vectors inside types are seen as what is read of their items.
-use Rattle.std.proofs.Common.{◌≡◌, ℕ, List, [], ◌∷◌, map, refl, ap, ◌∙◌, Option, option_map, Global}
+use Rattle.std.proofs.Common.{◌≡◌, ℕ, List, map, refl, ap, ◌∙◌, Option, option_map, Global}
 use Rattle.std.specs.declared.vec.Vec.{Vec}
 use Rattle.idl_grammar.specs.declared.words.Spelling.{Spelling}
 use Rattle.idl_grammar.specs.declared.types.Discriminant.{Discriminant}

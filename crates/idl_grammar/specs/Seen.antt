@@ -1,5 +1,5 @@
 -- The tree of the program as the grammar's tree: the same parts, without where they lie in memory.
-use Rattle.std.specs.Prelude.{ℕ, List, [], ◌∷◌, map, Option, Some, None, option_map}
+use Rattle.std.specs.Prelude.{List, map, option_map}
 use Rattle.idl_grammar.specs.declared.expressions.Expr as program
 use Rattle.idl_grammar.specs.declared.expressions.Expr.TheVariants as exprs
 use Rattle.idl_grammar.specs.declared.attributes.AttributeKind as kinds
