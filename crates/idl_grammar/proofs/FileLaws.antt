@@ -1,8 +1,8 @@
 -- What is answered on a file is right, and nothing else is.
-use Rattle.std.proofs.Common.{◌≡◌, ℕ, ◌≤◌, Bool, true, false, cond, [], refl, sym, ap, subst, arith, ◌∙◌, ◌⊎◌, inl, inr, Result, Ok, Err}
+use Rattle.std.proofs.Common.{◌≡◌, ℕ, ◌≤◌, Bool, true, false, cond, [], refl, sym, ap, arith, ◌∙◌, ◌⊎◌, inl, inr, Result, Ok, Err}
 use Rattle.phrases.specs.Text.{Text, Rel, Depth, Ban}
-use Rattle.phrases.specs.Reading.{Fault, Syntax, Passes, Read}
-use Rattle.phrases.specs.Verdict.{IsTree, IsSyntax, IsRefused, Judges, whole_read}
+use Rattle.phrases.specs.Reading.{Fault, Syntax, Passes}
+use Rattle.phrases.specs.Verdict.{IsSyntax, IsRefused, Judges, whole_read}
 use Rattle.phrases.specs.Gives.{IsText}
 use Rattle.phrases.proofs.Exact.{Exact}
 use Rattle.phrases.proofs.Judged.{whole_judged, one_verdict}
@@ -10,7 +10,7 @@ use Rattle.phrases.proofs.Sequences.{stops}
 use Rattle.idl_grammar.specs.Tree.{Tree}
 use Rattle.idl_grammar.specs.Grammar.{file}
 use Rattle.idl_grammar.specs.Reading.{file_read}
-use Rattle.idl_grammar.specs.Answers.{is_banned, IsBanned, Answers, named_fault, named, file_answer}
+use Rattle.idl_grammar.specs.Answers.{is_banned, Answers, named, file_answer}
 use Rattle.idl_grammar.proofs.FileExact.{file_exact}
 
 module _ {A : Type 0} (p : Rel A) (t : Text) where

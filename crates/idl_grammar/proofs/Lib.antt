@@ -18,3 +18,4 @@ mod ParametersExact
 mod ExportsExact
 mod FileExact
 pub mod FileLaws
+pub mod Rows
