@@ -2,6 +2,9 @@ pub mod Apart
 pub mod DeferralBridge
 pub mod DeferralExists
 pub mod DeferralLaws
+pub mod FewRoots
+pub mod LocalPass
+pub mod Misfits
 pub mod NodeFacts
 pub mod Orderly
 pub mod Waiting

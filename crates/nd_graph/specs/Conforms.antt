@@ -47,6 +47,10 @@ IsAgreed t a = found_in a.attr t ≡ a.wanted
 abbrev pub AgreesAt : Graph → TypedNode → Type 0
 AgreesAt g x = AllByRecursion (λ t. AllByRecursion (IsAgreed t) x.agreements) (subject g x)
 
+-- the nodes of each home are numbered in 32 bits
+abbrev pub HasFewNodes : Graph → Type 0
+HasFewNodes g = AllByRecursion (λ t. node_count (more t none) < 2 ^ 32) (g.roots ++ map (λ c. c.val) g.cells)
+
 -- The graph conforms to its operation's side.
 pub record Conforms (w : Setting) (g : Graph) : Type 0 where
   -- there are as many roots as the side has
@@ -63,7 +67,7 @@ pub record Conforms (w : Setting) (g : Graph) : Type 0 where
   pub agreed : AllByRecursion (λ x. AgreesAt g x.typed) (all_nodes w g)
   -- cells, and the nodes of each home, are numbered in 32 bits
   pub few_cells : length g.cells < 2 ^ 32
-  pub few_nodes : AllByRecursion (λ t. node_count (more t none) < 2 ^ 32) (g.roots ++ map (λ c. c.val) g.cells)
+  pub few_nodes : HasFewNodes g
 
 -- A partial graph: one some of whose values, wherever they stand, may be unread. What octets hold before a faulty place is such
 -- a graph.

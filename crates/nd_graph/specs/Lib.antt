@@ -11,6 +11,7 @@ pub mod Homes
 pub mod Misfit
 pub mod Conforms
 pub mod FirstMisfit
+pub mod Passes
 pub mod Same
 pub mod Canon
 pub mod Fitting

@@ -1,4 +1,6 @@
 // Why a graph does not conform.
+use crate::Home;
+use thiserror::Error;
 
 /// Why a graph does not conform at a place.
 #[derive(Clone, Copy, Debug, PartialEq, Eq)]
@@ -25,4 +27,19 @@ pub enum MisfitReason {
     Unreached,
     /// An attribute states another number than is there.
     Disagrees { wanted: i128, found: i128 },
+}
+
+/// Why a graph is no fit.
+#[derive(Clone, Copy, Debug, PartialEq, Eq, Error)]
+pub enum Misfit {
+    /// Memory was wanting.
+    #[error("out of memory")]
+    Memory,
+    /// The graph does not conform, and this is its first misfit: the home and its node, counted depth first from 0, and why.
+    #[error("{reason:?} at node {node} of {home:?}")]
+    At {
+        home: Home,
+        node: u32,
+        reason: MisfitReason,
+    },
 }
