@@ -36,13 +36,16 @@ pub mod OneRefusal
 pub mod Placed
 pub mod Plain
 pub mod PlainBad
+pub mod PlainChosen
 pub mod PlainConforms
+pub mod PlainGraphs
 pub mod PlainNumbers
 pub mod PlainRefused
 pub mod PlainSides
 pub mod PlainSteps
 pub mod PlainStreams
 pub mod PlainVerdict
+pub mod PlainWritten
 pub mod Ranges
 pub mod ReaderArrays
 pub mod ReaderDirectory

@@ -26,7 +26,8 @@ plain_entries i (p ∷ ps) (z ∷ zs) =
     ∷ plain_entries (suc i) ps zs
 plain_entries i _ _ = []
 
-numbers_stand : (g : Graph) (ps : List Primitive) (zs : List ℤ) (i : ℕ) → length zs ≡ length ps → Suffix g.roots i (map number zs)
+-- they are the entries of the roots
+pub numbers_stand : (g : Graph) (ps : List Primitive) (zs : List ℤ) (i : ℕ) → length zs ≡ length ps → Suffix g.roots i (map number zs)
     → root_entries g i ps ≡ plain_entries i ps zs
 numbers_stand g [] [] i l s = refl
 numbers_stand g [] (z ∷ zs) i l s = cc
@@ -37,7 +38,7 @@ numbers_stand g (p ∷ ps) (z ∷ zs) i l s =
     (suffix_first g.roots i (number z) (map number zs) s)
     (numbers_stand g ps zs (suc i) l' (suffix_next g.roots i (number z) (map number zs) s))
 
-map_length : (zs : List ℤ) → length (map number zs) ≡ length zs
+pub map_length : (zs : List ℤ) → length (map number zs) ≡ length zs
 map_length [] = refl
 map_length (z ∷ zs) = ap suc (map_length zs)
 

@@ -16,10 +16,10 @@ use Rattle.nd_types.specs.Number.{AreOctets, value_of_octets}
 use Rattle.nd_grammar.specs.Represents.{IsRendered}
 use Rattle.nd_grammar.specs.Refusal.{Accepts, refusal, refused_if}
 use Rattle.nd_grammar.specs.Bad.{Bad}
-use Rattle.nd_grammar.specs.Plain.{IsPlain, plain_graph, numbers_at, with}
+use Rattle.nd_grammar.specs.Plain.{AreInRange, IsPlain, plain_graph, numbers_at, with}
 use Rattle.nd_grammar.proofs.Ranges.{piece_in_range}
 use Rattle.nd_grammar.proofs.Plain.{plain_entries, numbers_stream, no_cells}
-use Rattle.nd_grammar.proofs.PlainConforms.{AreInRange, plain_partial, plain_lengths}
+use Rattle.nd_grammar.proofs.PlainConforms.{plain_partial, plain_lengths}
 use Rattle.nd_grammar.proofs.PlainSteps.{number_small}
 
 abbrev zeros : List Primitive → List ℤ

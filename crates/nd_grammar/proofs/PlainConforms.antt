@@ -17,14 +17,8 @@ use Rattle.nd_graph.specs.Variables.{root_agreements}
 use Rattle.nd_graph.specs.Homes.{HomeNode, all_nodes, all_pointers, root_nodes, cell_nodes, root_pointers}
 use Rattle.nd_graph.specs.Misfit.{misfit_of, has_machine_values, is_partial_node}
 use Rattle.nd_graph.specs.Conforms.{Conforms, IsPartial, AllEarlier, ShareOnlyIfFull, Reached, by_root, by_cell, AgreesAt}
-use Rattle.nd_grammar.specs.Plain.{ArePlain, number, plain_graph}
+use Rattle.nd_grammar.specs.Plain.{ArePlain, AreInRange, number, plain_graph}
 use Rattle.nd_grammar.proofs.PlainStreams.{label_of, no_pointers, plain_length, Suffix, suffix_first, suffix_next, suffix_whole}
-
--- each number is in its primitive's range
-abbrev pub AreInRange : List Primitive → List ℤ → Type 0
-AreInRange (p ∷ ps) (z ∷ zs) = (in_range p z ≡ true) × AreInRange ps zs
-AreInRange [] [] = Unit {0}
-AreInRange _ _ = ⊥
 
 module _ (w : Setting) (g : Graph) where
   one_partial : (r : Root) (p : Primitive) (z : ℤ) → type_at w.table r.of ≡ Some (def.Prim p) → in_range p z ≡ true

@@ -205,7 +205,7 @@ module _ (w : Setting) (ps : List Primitive) (plain : ArePlain w.table (root_lis
   before_all = plain_all w.table ps (root_list w) plain
 
   -- by the steps of the roots, the representation is the roots' entries
-  plain_representation : (g : Graph) (cuts : List (List ℕ)) → representation w g (root_steps 0 (length ps)) cuts ≡ root_entries g 0 ps
+  pub plain_representation : (g : Graph) (cuts : List (List ℕ)) → representation w g (root_steps 0 (length ps)) cuts ≡ root_entries g 0 ps
   plain_representation g cuts =
       ap₂ (λ x y. x ++ y)
       (ap₂ (λ x y. x ++ y) (all_entries w g ps (root_list w) 0 plain (suffix_whole (root_list w))) (no_tests w g ps (root_list w) g.roots 0 plain))
@@ -213,18 +213,24 @@ module _ (w : Setting) (ps : List Primitive) (plain : ArePlain w.table (root_lis
       (ap (λ k. drop k (root_list w)) (before_all ∙ sym (plain_length w.table ps (root_list w) plain)) ∙ drop_all (root_list w)))
       ∙ append-nil _ ∙ append-nil _
 
+  -- these steps are the order of deferral
+  pub plain_order : (g : Graph) → Deferral w g [] (due_roots 0 (before_pipes (root_list w))) (root_steps 0 (length ps))
+  plain_order g =
+      subst (λ k. Deferral w g [] (due_roots 0 k) (root_steps 0 (length ps))) (sym before_all) (plain_deferral w g ps (root_list w) 0 plain (suffix_whole (root_list w)))
+
+  -- no root is a pipe
+  pub all_before : (g : Graph) → length g.roots ≡ length ps → drop (before_pipes (root_list w)) g.roots ≡ []
+  all_before g l = ap (λ k. drop k g.roots) (before_all ∙ sym l) ∙ drop_all g.roots
+
   -- the entries of as many roots are a stream
   pub plain_stream : (g : Graph) → length g.roots ≡ length ps → Stream w g (root_entries g 0 ps)
-  plain_stream g l =
-      let gone : drop (before_pipes (root_list w)) g.roots ≡ [] =
-      ap (λ k. drop k g.roots) (before_all ∙ sym l) ∙ drop_all g.roots in
-      record {
-        steps = root_steps 0 (length ps);
-        cuts = [];
-        deferral = subst (λ k. Deferral w g [] (due_roots 0 k) (root_steps 0 (length ps))) (sym before_all) (plain_deferral w g ps (root_list w) 0 plain (suffix_whole (root_list w)));
-        all_cut = subst (λ x. AllCut x []) (sym gone) tt;
-        is_representation = sym (plain_representation g []);
-      }
+  plain_stream g l = record {
+    steps = root_steps 0 (length ps);
+    cuts = [];
+    deferral = plain_order g;
+    all_cut = subst (λ x. AllCut x []) (sym (all_before g l)) tt;
+    is_representation = sym (plain_representation g []);
+  }
 
   -- a plain side has no other stream
   pub plain_entries_are : (g : Graph) (ms : List Entry) → Stream w g ms → ms ≡ root_entries g 0 ps

@@ -1,11 +1,11 @@
 -- Operations whose roots are plain numbers: what octets hold for them, without a graph.
 -- `w` is a setting, `r` a root, `p` its primitive, `z` its value, `at` a place, `g` a graph.
-use Rattle.std.specs.Prelude.{◌≡◌, ℕ, ◌+◌, ◌*◌, ◌≤◌, ℤ, false, cond, leb, List, [], ◌∷◌, length, map, take, drop, Option, Some, None}
+use Rattle.std.specs.Prelude.{◌≡◌, ℕ, ◌+◌, ◌*◌, ◌≤◌, ℤ, true, false, cond, leb, List, [], ◌∷◌, ◌++◌, length, map, take, drop, replicate, Option, Some, None}
 use Rattle.nd_base.specs.declared.octets.Order.{Order}
 use Rattle.nd_base.specs.declared.TheConstants.{STREAM_LIMIT}
 use Rattle.nd_types.specs.declared.types.Primitive.{Primitive}
 use Rattle.nd_types.specs.declared.types.TypeDef.TheVariants as def
-use Rattle.nd_types.specs.Table.{Table, type_at, width}
+use Rattle.nd_types.specs.Table.{Table, type_at, width, in_range}
 use Rattle.nd_types.specs.Roots.{Root}
 use Rattle.nd_graph.specs.declared.value.Graph.{Graph}
 use Rattle.nd_graph.specs.Tree as tree
@@ -14,7 +14,7 @@ use Rattle.nd_graph.specs.Setting.{Setting, root_list}
 use Rattle.nd_grammar.specs.declared.reason.Reason.{Reason}
 use Rattle.nd_grammar.specs.declared.reason.Reason.TheVariants.{Truncated}
 use Rattle.nd_grammar.specs.Entry.{gap}
-use Rattle.nd_types.specs.Number.{value_of_octets}
+use Rattle.nd_types.specs.Number.{value_of_octets, written}
 
 -- the roots are of these primitives, and have no attributes
 abbrev pub ArePlain : Table → List Root → List Primitive → Type 0
@@ -37,6 +37,12 @@ number z = node (tree.Num z) none
 abbrev pub plain_graph : List ℤ → Graph
 plain_graph zs = record { roots = map number zs; cells = [] }
 
+-- each number is in its primitive's range
+abbrev pub AreInRange : List Primitive → List ℤ → Type 0
+AreInRange (p ∷ ps) (z ∷ zs) = (in_range p z ≡ true) × AreInRange ps zs
+AreInRange [] [] = Unit {0}
+AreInRange _ _ = ⊥
+
 -- a number before others, where there are others
 abbrev pub with : ℤ → Option (List ℤ) → Option (List ℤ)
 with z None = None
@@ -54,6 +60,12 @@ numbers_at order (p ∷ ps) at octets =
 abbrev pub plain_end : List Primitive → ℕ → ℕ
 plain_end [] at = at
 plain_end (p ∷ ps) at = plain_end ps (at + gap at (width p) + width p)
+
+-- the octets that are written for numbers from a place on, each at the next multiple of its width, with zeros in the gaps
+abbrev pub numbers_written : Order → List Primitive → ℕ → List ℤ → List ℕ
+numbers_written order (p ∷ ps) at (z ∷ zs) =
+    replicate (gap at (width p)) 0 ++ (written order p z ++ numbers_written order ps (at + gap at (width p) + width p) zs)
+numbers_written order _ at _ = []
 
 -- The octets hold a number for each primitive, the n-th octet is the end of the last, and the graph is these numbers.
 pub record AreNumbersOf (order : Order) (ps : List Primitive) (octets : List ℕ) (n : ℕ) (g : Graph) : Type 0 where

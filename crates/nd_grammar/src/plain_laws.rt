@@ -12,6 +12,7 @@ ghost use Rattle.nd_types.specs.Number.{AreOctets};
 ghost use Rattle.nd_grammar.specs.Represents.{Represents};
 ghost use Rattle.nd_grammar.specs.Prefix.{BeginsWith};
 ghost use Rattle.nd_grammar.specs.Bad.{Bad};
+ghost use Rattle.nd_grammar.specs.Chosen.{Chosen};
 ghost use Rattle.nd_grammar.specs.Plain.{IsPlain, numbers_at, plain_end, plain_graph, AreNumbersOf, AreCutShort};
 
 use crate::Reason;
@@ -62,4 +63,40 @@ pub fn plain_verdict()
         (place place' : ℕ) (why why' : Reason)
         → IsPlain w ps → Bad w order octets place why → Bad w order octets place' why'
         → (place ≡ place') × (why ≡ why') }
+{}
+
+/// The octets that are written for a conforming graph of a plain side represent it. There is one list of them alone, the same for
+/// every count of a pipe's chunks.
+pub fn plain_written()
+    ensures exists { (w : Setting) (order : Order) (ps : List Primitive) (chunk : ℕ) (g : Graph)
+        → IsPlain w ps → Conforms w g
+        → (octets : List ℕ) × Chosen w order chunk g octets }
+    ensures alone { (w : Setting) (order : Order) (ps : List Primitive) (chunk chunk' : ℕ) (g : Graph)
+        (octets octets' : List ℕ)
+        → IsPlain w ps → Conforms w g
+        → Chosen w order chunk g octets → Chosen w order chunk' g octets'
+        → octets ≡ octets' }
+    ensures represents { (w : Setting) (order : Order) (ps : List Primitive) (chunk : ℕ) (g : Graph)
+        (octets : List ℕ)
+        → IsPlain w ps → Conforms w g → Chosen w order chunk g octets
+        → Represents w order octets g }
+    ensures octets { (w : Setting) (order : Order) (ps : List Primitive) (chunk : ℕ) (g : Graph)
+        (octets : List ℕ)
+        → IsPlain w ps → Conforms w g → Chosen w order chunk g octets
+        → AreOctets octets }
+{}
+
+/// What is decoded from the octets that are written for a graph of a plain side is that graph, and takes all of them. So the same
+/// octets are written for the same graph alone.
+pub fn plain_round_trip()
+    ensures back { (w : Setting) (order : Order) (ps : List Primitive) (chunk : ℕ) (g h : Graph)
+        (octets : List ℕ) (n : ℕ)
+        → IsPlain w ps → Conforms w g → Chosen w order chunk g octets
+        → BeginsWith w order octets n h
+        → (n ≡ length octets) × (h ≡ g) }
+    ensures apart { (w : Setting) (order : Order) (ps : List Primitive) (chunk chunk' : ℕ) (g h : Graph)
+        (octets : List ℕ)
+        → IsPlain w ps → Conforms w g → Conforms w h
+        → Chosen w order chunk g octets → Chosen w order chunk' h octets
+        → g ≡ h }
 {}

@@ -49,7 +49,7 @@ pub(crate) fn read_numbers(
 }
 
 // The length of the gap before a primitive.
-fn gap_before(at: usize, width: usize) -> usize
+pub(crate) fn gap_before(at: usize, width: usize) -> usize
     requires some { 0 < width }
     requires few { width ≤ 8 }
     ensures { result ≡ gap at width }
