@@ -1,2 +1,10 @@
 pub mod Lines
 pub mod Printed
+pub mod Classes
+pub mod Runs
+pub mod Numerals
+pub mod StringEnds
+pub mod Firsts
+pub mod OneText
+pub mod PlainGraphs
+pub mod PlainTexts

@@ -2,3 +2,9 @@ pub mod Text
 pub mod Whole
 pub mod Printed
 pub mod Numbers
+pub mod Tokens
+pub mod Written
+pub mod Readable
+pub mod Reads
+pub mod Scan
+pub mod Dues

@@ -1,0 +1,46 @@
+// Numbers of a value text.
+ghost use Rattle.std.specs.Prelude.{◌≡◌, ◌≤◌, true, ℕ, List, length, MatchOption};
+ghost use Rattle.std.specs.List.{list_all};
+ghost use Rattle.value_text.specs.Scan.{value_from, number_of as number_by, IsNatural};
+ghost use Rattle.value_text.specs.Tokens.{is_digit};
+
+use crate::octets::run_end;
+
+/// The greatest number of digits.
+const DIGIT_LIMIT: usize = 20;
+
+/// The value of at most 20 digits.
+fn value_of(digits: &[u8]) -> u128
+    requires few { length digits.now ≤ 20 }
+    requires digits { list_all is_digit digits.now ≡ true }
+    ensures { result ≡ value_from 0 digits.now }
+{
+    let mut value = 0_u128;
+    for digit in digits {
+        value = value * 10 + u128::from(*digit - b'0');
+    }
+    value
+}
+
+/// The number that a run writes: 1 to 20 digits, without a leading zero but for 0 itself.
+fn number_of(run: &[u8]) -> Option<u128>
+    ensures { result ≡ number_by run.now }
+{
+    match run {
+        [] => None,
+        [b'0', _, ..] => None,
+        _ => (run.len() <= DIGIT_LIMIT && run.iter().all(|octet| octet.is_ascii_digit()))
+            .then(|| value_of(run)),
+    }
+}
+
+/// The number at the front of a text, and what follows it.
+pub(crate) fn natural(text: &[u8]) -> Option<(u128, &[u8])>
+    ensures { MatchOption result ((n : ℕ) (rest : List ℕ) → IsNatural text.now n rest → ⊥) (λ x. IsNatural text.now x.0 x.1.now) }
+{
+    let end = run_end(text);
+    match number_of(&text[..end]) {
+        Some(value) => Some((value, &text[end..])),
+        None => None,
+    }
+}

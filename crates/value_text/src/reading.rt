@@ -1,0 +1,139 @@
+// Reading of value texts. Numbers are the only values that are read yet.
+ghost use Rattle.std.specs.Prelude.{◌≡◌, ◌++◌, ◌∷◌, [], ℕ, ℤ, ◌<◌, ◌≤◌, ◌^◌, List, length, map, Some, IfOk, IfErr};
+ghost use Rattle.std.specs.List.{slice_get, AllByRecursion};
+ghost use Rattle.nd_types.specs.declared.types.Operation.{Operation};
+ghost use Rattle.nd_types.specs.declared.types.Side.TheVariants as sides;
+ghost use Rattle.nd_types.specs.Plain.{IsPlainInterface};
+ghost use Rattle.nd_graph.specs.Tree.{more, none, node_count};
+ghost use Rattle.nd_graph.specs.Fitting.{setting_of};
+ghost use Rattle.nd_grammar.specs.Plain.{number as number_tree, plain_graph};
+ghost use Rattle.value_text.specs.declared.TheConstants.{TEXT_LIMIT};
+ghost use Rattle.value_text.specs.Tokens.{skip};
+ghost use Rattle.value_text.specs.Reads.{ReadsAs, IsFault};
+ghost use Rattle.value_text.specs.Dues.{Due, head_dues, param_dues, Follows, Stops};
+
+use crate::TEXT_LIMIT;
+use crate::fault::{TextFault, TextReason};
+use crate::lexeme::Lexeme;
+use crate::position::position_behind;
+use crate::steps::{end, name, number, token};
+use crate::stop::Stop;
+use nd_graph::{Cells, Graph, Val, Vals};
+use nd_types::{Interface, Operation, Param, Params, Side};
+use std::alloc::Global;
+
+/// `values 1`, and the operation with its side.
+fn head<'a>(text: &'a [u8], operation: &Operation) -> Result<&'a [u8], Stop>
+    ensures ok { IfOk result (λ rest. Follows (head_dues operation.now) text.now [] rest.now) }
+    ensures err { IfErr result (λ e. (ds : List Due) → Stops (head_dues operation.now ++ ds) text.now e) }
+{
+    let rest = token(text, Lexeme::Word(b"values"))?;
+    let rest = token(rest, Lexeme::Number(1))?;
+    let rest = token(rest, Lexeme::Word(b"op"))?;
+    let rest = name(rest, operation.name.as_slice())?;
+    name(rest, b"in")
+}
+
+/// The line of a parameter.
+fn root<'a>(text: &'a [u8], param: &Param) -> Result<(i128, &'a [u8]), Stop>
+    ensures ok { IfOk result (λ x. Follows (param_dues (param.now ∷ [])) text.now (x.0 ∷ []) x.1.now) }
+    ensures err { IfErr result (λ e. (ds : List Due) → Stops (param_dues (param.now ∷ []) ++ ds) text.now e) }
+{
+    let rest = name(text, param.field.name.as_slice())?;
+    let rest = token(rest, Lexeme::Mark(b'='))?;
+    number(rest)
+}
+
+/// The lines of the parameters, which are numbers.
+fn roots<'a>(alloc: Global, text: &'a [u8], params: &Params) -> Result<(Vals, &'a [u8]), Stop>
+    ensures ok { IfOk result (λ x. (zs : List ℤ) × (x.0 ≡ map number_tree zs) × Follows (param_dues params.now) text.now zs x.1.now) }
+    ensures err { IfErr result (λ e. Stops (param_dues params.now) text.now e) }
+{
+    let mut vals = Vals::new(alloc);
+    let mut rest = text;
+    for at in 0..params.len() {
+        let Some(param) = params.get(at) else {
+            unreachable!()
+        };
+        let (value, after) = root(rest, param)?;
+        if let Err((memory, _)) = vals.push(Val::Num(value)) {
+            return Err(Stop::from(memory));
+        }
+        rest = after;
+    }
+    Ok((vals, rest))
+}
+
+/// The graph of a text of the [in] side of a plain operation.
+fn plain_text(alloc: Global, text: &[u8], operation: &Operation) -> Result<Graph, Stop>
+    ensures ok { IfOk result (λ g. (zs : List ℤ) × (rest : List ℕ) × (g ≡ plain_graph zs)
+        × Follows (head_dues operation.now ++ param_dues operation.now.params) text.now zs rest × (skip rest ≡ [])) }
+    ensures err { IfErr result (λ e. Stops (head_dues operation.now ++ param_dues operation.now.params) text.now e) }
+{
+    let rest = head(text, operation)?;
+    let (roots, rest) = roots(alloc, rest, &operation.params)?;
+    end(rest)?;
+    Ok(Graph {
+        roots,
+        cells: Cells::new(alloc),
+    })
+}
+
+/// Where a text within its limit was not read on, as a line and a column.
+fn fault_of(text: &[u8], stop: Stop) -> TextFault {
+    match stop {
+        Stop::Memory => TextFault::Memory,
+        Stop::At { left, reason } => {
+            let (line, column) = position_behind(&text[..text.len() - left]);
+            TextFault::At {
+                line,
+                column,
+                reason,
+            }
+        }
+    }
+}
+
+/// Reads a text of the values of an operation's side, version 1: `values 1`, the operation with its side, a line for each
+/// parameter, and a line for each cell. Blanks may stand between all tokens.
+///
+/// The interface must be plain: its operations take signed integers alone and give nothing back. `op` is the number of an
+/// operation, and the side is [in]. Numbers have at most 20 digits: whether they are values of their types is asked of the graph.
+///
+/// # Errors
+/// TooLong for a text of more than 268,435,456 octets. Otherwise the first token, or the end, with which the text begins that of
+/// no graph: `TextReason` has the reasons. Memory where memory was wanting.
+///
+/// Takes memory for the graph alone, and looks at each octet a bounded number of times.
+pub fn read_text(
+    alloc: Global,
+    interface: &Interface,
+    op: u32,
+    side: Side,
+    text: &[u8],
+) -> Result<Graph, TextFault>
+    requires plain { IsPlainInterface interface.now.types interface.now.operations }
+    requires known { op < length interface.now.operations }
+    requires inputs { side ≡ sides.In }
+    ensures read { IfOk result (λ g. (o : Operation) → slice_get interface.now.operations op ≡ Some o
+        → ReadsAs (setting_of interface.now o side) text.now g) }
+    ensures refused { IfErr result (λ e. (o : Operation) → slice_get interface.now.operations op ≡ Some o
+        → IsFault (setting_of interface.now o side) text.now e) }
+    ensures few_cells { IfOk result (λ g. length g.cells < 2 ^ 32) }
+    ensures few_nodes { IfOk result (λ g. AllByRecursion (λ t. node_count (more t none) < 2 ^ 32) (g.roots ++ map (λ c. c.val) g.cells)) }
+{
+    if text.len() > TEXT_LIMIT as usize {
+        return Err(TextFault::At {
+            line: 1,
+            column: 1,
+            reason: TextReason::TooLong,
+        });
+    }
+    let Some(operation) = interface.operations.get(op as usize) else {
+        unreachable!()
+    };
+    match plain_text(alloc, text, operation) {
+        Ok(graph) => Ok(graph),
+        Err(stop) => Err(fault_of(text, stop)),
+    }
+}
