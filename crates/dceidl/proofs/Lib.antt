@@ -1,3 +1,7 @@
 pub mod Causes
+pub mod Chunks
+pub mod Encodings
 pub mod Rows
 pub mod Sound
+pub mod SoundDecode
+pub mod SoundEncode
