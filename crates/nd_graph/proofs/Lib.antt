@@ -7,5 +7,7 @@ pub mod LocalPass
 pub mod Misfits
 pub mod NodeFacts
 pub mod Orderly
+pub mod PlainFit
+pub mod Told
 pub mod Waiting
 pub mod WorkedFit

@@ -166,6 +166,11 @@ pub tells_first : (o a b : Option MisfitAt) (e : Misfit) → o ≡ or_later a b 
 tells_first o a b answer.Memory s h = tt
 tells_first o a b (answer.At k n r) s h = s ∙ ap (λ x. or_later x b) h
 
+-- what is told of the later is told of both, where the first has none
+pub tells_later : (o a b : Option MisfitAt) (e : Misfit) → o ≡ or_later a b → a ≡ None → Tells b e → Tells o e
+tells_later o a b answer.Memory s n h = tt
+tells_later o a b (answer.At k i r) s n h = s ∙ ap (λ x. or_later x b) n ∙ h
+
 -- a wrong root is told
 pub told_shape : (o : Option MisfitAt) (i : ℕ) (e : Misfit) → e ≡ answer.At (home.Root i) 0 misfit.Shape → o ≡ shape_at i → Tells o e
 told_shape o i e s h = subst (Tells o) (sym s) h

@@ -68,7 +68,8 @@ pub none-count : (has due : ℕ) → root_count has due ≡ None → has ≡ due
 none-count has due e = go (eqb has due) refl e
   where
     go : (b : Bool) → eqb has due ≡ b
-        → cond b None (Some (record { home = home.Root (cond (ltb has due) has due); node = 0; reason = misfit.Shape })) ≡ None → has ≡ due
+        → cond {A = Option MisfitAt} b None (Some (record { home = home.Root (cond (ltb has due) has due); node = 0; reason = misfit.Shape })) ≡ None
+        → has ≡ due
     go true f h = eqb-true has due f
     go false f h = cc
 
