@@ -28,7 +28,7 @@ own : IsNumeralModel (AllDigits 10) (digits_value 10)
 own = record { to = λ ds p. p; from = λ ds p. p; same = λ ds p. refl }
 
 -- a number is a count whose digits are the word
-is_count : List ℕ → ℕ → Bool
+abbrev is_count : List ℕ → ℕ → Bool
 is_count word n = is_word word (decimal n) && leb 1 n && leb n CHUNK_LIMIT
 
 word_is : (word : List ℕ) (n : ℕ) → is_count word n ≡ true → word ≡ decimal n
@@ -39,6 +39,12 @@ within word n h = leb-true n CHUNK_LIMIT (right (is_word word (decimal n) && leb
 
 as_count : (word : List ℕ) (n : ℕ) (t : Bool) → is_count word n ≡ t → chunk_by word n ≡ (if t then Some n else None)
 as_count word n t e = ap (λ b. if b then Some n else None) e
+
+same_Ok : {E : Type 0} (r : Result ℕ E) (a b : ℕ) → r ≡ Ok a → r ≡ Ok b → a ≡ b
+same_Ok r a b e f = let same = sym e ∙ f in cc
+
+never_Ok : {E : Type 0} (r : Result ℕ E) (e : E) (a : ℕ) → r ≡ Err e → r ≡ Ok a → ⊥
+never_Ok r e a is f = let never = sym is ∙ f in cc
 
 module _ {E : Type 0} (word : List ℕ) (r : Result ℕ E) (parsed : ParsesUnsigned 32 10 word r) where
   own_value : (n : ℕ) → is_count word n ≡ true → digits_value 10 word ≡ n
@@ -54,11 +60,7 @@ module _ {E : Type 0} (word : List ℕ) (r : Result ℕ E) (parsed : ParsesUnsig
   by_tests : (n : ℕ) → r ≡ Ok n → (t u : Bool) → is_count word (digits_value 10 word) ≡ t → is_count word n ≡ u → chunk_by word n ≡ chunk_of word
   by_tests n e true u is_t is_u =
       let other = parsed_as (digits_value 10 word) is_t in
-      let same : n ≡ digits_value 10 word = same_Ok n (digits_value 10 word) (sym e ∙ other) in
-      ap (chunk_by word) same
-    where
-      same_Ok : (a b : ℕ) → Ok {E = E} a ≡ Ok b → a ≡ b
-      same_Ok a b h = cc
+      ap (chunk_by word) (same_Ok r n (digits_value 10 word) e other)
   by_tests n e false true is_t is_u =
       let value = own_value n is_u in
       let again : is_count word (digits_value 10 word) ≡ true = ap (is_count word) value ∙ is_u in
@@ -73,8 +75,7 @@ module _ {E : Type 0} (word : List ℕ) (r : Result ℕ E) (parsed : ParsesUnsig
   by_test : (e : E) → r ≡ Err e → (t : Bool) → is_count word (digits_value 10 word) ≡ t → None ≡ chunk_of word
   by_test e is true is_t =
       let other = parsed_as (digits_value 10 word) is_t in
-      let never : Err {T = ℕ} e ≡ Ok (digits_value 10 word) = sym is ∙ other in
-      cc
+      absurd (never_Ok r e (digits_value 10 word) is other)
   by_test e is false is_t = sym (as_count word (digits_value 10 word) false is_t)
 
   -- a word that was not parsed names none

@@ -1,18 +1,24 @@
 -- What encoding answers, from what its steps answer.
 use Rattle.std.proofs.Common.{◌≡◌, ℕ, List, Option, Some, Result, Ok, Err, IfOk, IfErr, refl, sym, ◌∙◌, ap, ap₂, subst, inl, inr, ◌⊎◌}
 use Rattle.std.specs.Prelude.{⊤}
+use Rattle.std.specs.List.{slice_get}
 use Rattle.nd_base.specs.declared.octets.Order.{Order}
-use Rattle.nd_graph.specs.declared.item.Home.{Home}
-use Rattle.nd_graph.specs.declared.misfit.MisfitReason.{MisfitReason}
+use Rattle.nd_types.specs.declared.interface.Interface.{Interface}
+use Rattle.nd_types.specs.declared.types.Operation.{Operation}
+use Rattle.nd_types.specs.declared.types.Side.{Side}
+use Rattle.nd_graph.specs.declared.misfit.Misfit.{Misfit}
+use Rattle.nd_graph.specs.declared.misfit.Misfit.TheVariants as misfit
 use Rattle.nd_graph.specs.declared.value.Graph.{Graph}
 use Rattle.nd_graph.specs.Setting.{Setting}
 use Rattle.nd_graph.specs.Conforms.{Conforms}
-use Rattle.nd_graph.specs.FirstMisfit.{IsFirstMisfit}
+use Rattle.nd_graph.specs.FirstMisfit.{IsMisfit}
+use Rattle.nd_graph.specs.Fitting.{Fitting}
 use Rattle.nd_grammar.specs.Chosen.{Chosen}
+use Rattle.plain_ndr.specs.Decoding.{inputs_of}
 use Rattle.value_text.specs.Reads.{ReadsAs}
 use Rattle.dceidl.specs.declared.refusal.Refusal.{Refusal}
 use Rattle.dceidl.specs.declared.refusal.Refusal.TheVariants.{Memory, Absent, FileFailed, NotBuilt, NoOperation, ReadFault, BadOctets, BadText, BadValue}
-use Rattle.dceidl.specs.Encode.{IsEncoding, IsTextCause, IsValueCause, IsAtHome, home_path}
+use Rattle.dceidl.specs.Encode.{IsEncoding, IsTextCause, IsValueCause, IsToldAsValue}
 
 -- a graph that the text reads as was encoded
 pub encoding_is : (w : Setting) (order : Order) (chunk : ℕ) (text : List ℕ) (g : Graph) → ReadsAs w text g → (result : Result (List ℕ) Refusal)
@@ -37,9 +43,17 @@ pub text_refused : (w : Setting) (text : List ℕ) (g : Graph) → ReadsAs w tex
 text_refused w text g reads (Ok octets) cause = tt
 text_refused w text g reads (Err e) cause = text_cause w text g reads e cause
 
--- a first misfit that is told at its home is the cause
-pub value_cause : (w : Setting) (g : Graph) (home : Home) (node : ℕ) (reason : MisfitReason)
-    → IsFirstMisfit w g (record { home = home; node = node; reason = reason }) → (e : Refusal) → IsAtHome (home_path w home) reason e → IsValueCause w g e
-value_cause w g home node reason first e (inl is) =
-    subst (IsValueCause w g) (sym is) (record { home = home; node = node; first = first; path_is = refl })
-value_cause w g home node reason first e (inr is) = subst (IsValueCause w g) (sym is) tt
+-- a misfit that is told is the cause
+pub value_cause : (w : Setting) (g : Graph) (m : Misfit) → IsMisfit w g m → (e : Refusal) → IsToldAsValue w m e → IsValueCause w g e
+value_cause w g misfit.Memory first e told = subst (IsValueCause w g) (sym told) tt
+value_cause w g (misfit.At h n reason) first e (inl told) =
+    subst (IsValueCause w g) (sym told) (record { home = h; node = n; first = first; path_is = refl })
+value_cause w g (misfit.At h n reason) first e (inr told) = subst (IsValueCause w g) (sym told) tt
+
+-- what was encoded of a fit was encoded of its graph
+pub chosen_of : (f : Fitting) (i : Interface) (o : Operation) (n : ℕ) (s : Side) (g : Graph) (order : Order) (chunk : ℕ) (result : Result (List ℕ) Refusal)
+    → f ≡ record { graph = g; op = n; side = s; interface = i }
+    → (slice_get i.operations f.op ≡ Some o → IfOk result (Chosen (inputs_of i o) order chunk f.graph))
+    → slice_get i.operations n ≡ Some o → IfOk result (Chosen (inputs_of i o) order chunk g)
+chosen_of f i o n s g order chunk result fits chosen there =
+    subst (λ x. slice_get i.operations x.op ≡ Some o → IfOk result (Chosen (inputs_of i o) order chunk x.graph)) fits chosen there

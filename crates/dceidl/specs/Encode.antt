@@ -5,6 +5,8 @@ use Rattle.nd_base.specs.declared.octets.Order.{Order}
 use Rattle.nd_types.specs.Walk.{NamedRoot, named_roots}
 use Rattle.nd_graph.specs.declared.item.Home.{Home}
 use Rattle.nd_graph.specs.declared.item.Home.TheVariants as home
+use Rattle.nd_graph.specs.declared.misfit.Misfit.{Misfit}
+use Rattle.nd_graph.specs.declared.misfit.Misfit.TheVariants as misfit
 use Rattle.nd_graph.specs.declared.misfit.MisfitReason.{MisfitReason}
 use Rattle.nd_graph.specs.declared.value.Graph.{Graph}
 use Rattle.nd_graph.specs.Setting.{Setting}
@@ -39,9 +41,10 @@ IsValueCause w g Memory = ⊤
 IsValueCause w g (BadValue path reason) = IsMisfitAt w g path reason
 IsValueCause w g _ = ⊥
 
--- it is told at this path, unless memory was wanting
-abbrev pub IsAtHome : List ℕ → MisfitReason → Refusal → Type 0
-IsAtHome path reason refusal = (refusal ≡ BadValue path reason) ⊎ (refusal ≡ Memory)
+-- a misfit is told at the path of its home, unless memory was wanting
+abbrev pub IsToldAsValue : Setting → Misfit → Refusal → Type 0
+IsToldAsValue w misfit.Memory refusal = refusal ≡ Memory
+IsToldAsValue w (misfit.At h n reason) refusal = (refusal ≡ BadValue (home_path w h) reason) ⊎ (refusal ≡ Memory)
 
 -- The text reads as a graph that does not conform.
 pub record IsBadValue (w : Setting) (text path : List ℕ) (reason : MisfitReason) : Type 0 where

@@ -9,14 +9,14 @@ ghost use Rattle.nd_graph.specs.Conforms.{Conforms, HasFewNodes};
 ghost use Rattle.nd_grammar.specs.Chosen.{Chosen};
 ghost use Rattle.plain_ndr.specs.Decoding.{inputs_of};
 ghost use Rattle.value_text.specs.Text.{joined};
-ghost use Rattle.dceidl.specs.Encode.{IsEncoding, IsTextCause, IsValueCause, IsAtHome, home_path, root_path as name_of};
+ghost use Rattle.dceidl.specs.Encode.{IsEncoding, IsTextCause, IsValueCause, IsToldAsValue, home_path, root_path as name_of};
 
 use crate::join::join;
 use crate::ready::Ready;
 use crate::refusal::Refusal;
 use itoa::Buffer;
 use nd_base::{Memory, Octets, Order};
-use nd_graph::{CellId, Fit, Graph, Home, Misfit, MisfitReason, fit};
+use nd_graph::{CellId, Fit, Graph, Home, Misfit, fit};
 use nd_types::Side;
 use std::alloc::Global;
 use value_text::{TextFault, read_text};
@@ -74,8 +74,7 @@ fn encode_graph(
 {
     match fit(alloc, &ready.interface, ready.number, Side::In, graph) {
         Ok(fit) => encode_fit(alloc, ready, order, chunk, &fit),
-        Err((Misfit::Memory, _)) => Err(Refusal::Memory),
-        Err((Misfit::At { home, reason, .. }, _)) => Err(misfit_at(alloc, ready, home, reason)),
+        Err((misfit, _)) => Err(value_refused(alloc, ready, misfit)),
     }
 }
 
@@ -97,6 +96,8 @@ fn encode_fit(
         → IfOk result (Chosen (inputs_of ready.now.interface o) order chunk fit.now.graph) }
     ensures refused { IfErr result (λ e. e ≡ Refusal.Memory) }
 {
+    // A fit's graph conforms.
+    let _conforming = fit.graph();
     match plain_ndr::encode(alloc, &ready.interface, fit, order, chunk) {
         Ok(octets) => Ok(octets),
         Err(_) => Err(Refusal::Memory),
@@ -104,14 +105,17 @@ fn encode_fit(
 }
 
 // A misfit with the path of its home.
-fn misfit_at(alloc: Global, ready: &Ready, home: Home, reason: MisfitReason) -> Refusal
+fn value_refused(alloc: Global, ready: &Ready, misfit: Misfit) -> Refusal
     requires known { ready.now.number < length ready.now.interface.operations }
     ensures { (o : Operation) → slice_get ready.now.interface.operations ready.now.number ≡ Some o
-        → IsAtHome (home_path (inputs_of ready.now.interface o) home) reason result }
+        → IsToldAsValue (inputs_of ready.now.interface o) misfit result }
 {
-    match path_of(alloc, ready, home) {
-        Ok(path) => Refusal::BadValue { path, reason },
-        Err(_) => Refusal::Memory,
+    match misfit {
+        Misfit::Memory => Refusal::Memory,
+        Misfit::At { home, reason, .. } => match path_of(alloc, ready, home) {
+            Ok(path) => Refusal::BadValue { path, reason },
+            Err(_) => Refusal::Memory,
+        },
     }
 }
 

@@ -1,5 +1,5 @@
 // The status and the line of each refusal.
-ghost use Rattle.std.specs.Prelude.{◌≡◌, IfOk};
+ghost use Rattle.std.specs.Prelude.{◌≡◌, [], IfOk};
 ghost use Rattle.dceidl.specs.Lines.{status_of, line_of, fault_text, reason_text, misfit_text, disagreement as disagreement_text, reason_name as name_of_reason, misfit_name as name_of_misfit, text_reason_name as name_of_text_reason};
 
 use crate::join::join;

@@ -9,6 +9,7 @@ pub returns-in-Ok-clause-done : goal.returns-in-Ok-clause-done
 returns-in-Ok-clause-done g c o there =
     made_of_input (source_seen g.S.Source.left g.S.Source.ended g.S.Source.faults c.args.input.now c.read_input.new.input) (inputs_of c.args.ready.now.interface o)
     c.args.task c.as_slice.result.now
-    (subst (IsRead (source_seen g.S.Source.left g.S.Source.ended g.S.Source.faults c.args.input.now c.read_input.new.input) (limit_of c.args.task)) (sym c.as_slice.ensures)
-    (record { taken = c.in-Ok.ensures.octets; few = c.in-Ok.ensures.few; whole = c.in-Ok.ensures.whole; none_left = c.in-Ok.ensures.none_left }))
+    (subst (λ n. IsRead (source_seen g.S.Source.left g.S.Source.ended g.S.Source.faults c.args.input.now c.read_input.new.input) n c.as_slice.result.now) c.limit.ensures
+    (subst (IsRead (source_seen g.S.Source.left g.S.Source.ended g.S.Source.faults c.args.input.now c.read_input.new.input) c.limit.result) (sym c.as_slice.ensures)
+    (record { taken = c.in-Ok.ensures.octets; few = c.in-Ok.ensures.few; whole = c.in-Ok.ensures.whole; none_left = c.in-Ok.ensures.none_left })))
     c.convert.result (c.convert.ensures.done o there)

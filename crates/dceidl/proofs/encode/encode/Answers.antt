@@ -1,0 +1,13 @@
+use Rattle.plain_ndr.specs.Decoding.{inputs_of}
+use Rattle.dceidl.proofs.Encodings.{encoding_is, text_refused}
+use Rattle.dceidl.proofs.encode.encode.Goals as goal
+
+pub returns-in-Ok-clause-done : goal.returns-in-Ok-clause-done
+returns-in-Ok-clause-done c o there =
+    encoding_is (inputs_of c.args.ready.now.interface o) c.args.order c.args.chunk c.args.text.now c.in-Ok.graph (c.in-Ok.ensures.read o there)
+    c.encode_graph.result (c.encode_graph.ensures.conforms o there) (c.encode_graph.ensures.chosen o there)
+
+pub returns-in-Ok-clause-refused : goal.returns-in-Ok-clause-refused
+returns-in-Ok-clause-refused c o there =
+    text_refused (inputs_of c.args.ready.now.interface o) c.args.text.now c.in-Ok.graph (c.in-Ok.ensures.read o there)
+    c.encode_graph.result (c.encode_graph.ensures.refused o there)
