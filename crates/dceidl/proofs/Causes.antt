@@ -19,12 +19,13 @@ use Rattle.plain_ndr.specs.Decoding.{inputs_of}
 use Rattle.value_text.specs.Printed.{IsText}
 use Rattle.dceidl.specs.declared.ready.Ready.{Ready}
 use Rattle.dceidl.specs.declared.task.Task.{Task}
+use Rattle.dceidl.specs.declared.task.Task.TheVariants.{Decode, Encode}
 use Rattle.dceidl.specs.declared.refusal.Refusal.{Refusal}
 use Rattle.dceidl.specs.declared.refusal.Refusal.TheVariants.{Memory, Absent, FileFailed, NotBuilt, NoOperation, ReadFault, BadOctets, BadText, BadValue}
 use Rattle.dceidl.specs.Outside.{FilesSeen, SourceSeen}
 use Rattle.dceidl.specs.Ready.{IsReady, IsFileCause, IsNoInterface}
 use Rattle.dceidl.specs.Decode.{IsDecoding}
-use Rattle.dceidl.specs.Task.{limit_of, IsRead, IsMade, IsInputCause, IsCause, IsMadeOfInput}
+use Rattle.dceidl.specs.Task.{limit_of, IsRead, IsMade, IsContentCause, IsInputCause, IsCause, IsMadeOfInput}
 
 item_at : {X : Type 0} (xs : List X) (i : ℕ) → i < length xs → (x : X) × (slice_get xs i ≡ Some x)
 item_at [] i h = absurd (omega (arith, h))
@@ -81,6 +82,25 @@ pub made_of_input : (s : SourceSeen) (w : Setting) (task : Task) (octets : List 
     → IfOk result (IsMade task w octets) → IfOk result (IsMadeOfInput s task w)
 made_of_input s w task octets read (Ok made) is_made = record { octets = octets; read = read; is_made = is_made }
 made_of_input s w task octets read (Err e) is_made = tt
+
+content_cause : (s : SourceSeen) (w : Setting) (task : Task) (octets : List ℕ) → IsRead s (limit_of task) octets → (e : Refusal)
+    → IsContentCause task w octets e → IsInputCause s task w e
+content_cause s w task octets read Memory cause = tt
+content_cause s w (Decode order) octets read ReadFault cause = absurd cause
+content_cause s w (Encode order chunk) octets read ReadFault cause = absurd cause
+content_cause s w task octets read Absent cause = (octets, read, cause)
+content_cause s w task octets read FileFailed cause = (octets, read, cause)
+content_cause s w task octets read NotBuilt cause = (octets, read, cause)
+content_cause s w task octets read NoOperation cause = (octets, read, cause)
+content_cause s w task octets read (BadOctets place why) cause = (octets, read, cause)
+content_cause s w task octets read (BadText line column reason) cause = (octets, read, cause)
+content_cause s w task octets read (BadValue path reason) cause = (octets, read, cause)
+
+-- octets of the input that are refused are an input that is refused
+pub input_refused : (s : SourceSeen) (w : Setting) (task : Task) (octets : List ℕ) → IsRead s (limit_of task) octets → (result : Result (List ℕ) Refusal)
+    → IfErr result (IsContentCause task w octets) → IfErr result (IsInputCause s task w)
+input_refused s w task octets read (Ok made) cause = tt
+input_refused s w task octets read (Err e) cause = content_cause s w task octets read e cause
 
 -- where the file is ready, the task was done or refused by the input
 pub task_done : (f : FilesSeen) (s : SourceSeen) (task : Task) (idl op : List ℕ) (i : Interface) (n : ℕ) (o : Operation) → IsReady f idl op i n o

@@ -15,7 +15,8 @@ use Rattle.nd_graph.specs.FirstMisfit.{IsMisfit}
 use Rattle.nd_graph.specs.Fitting.{Fitting}
 use Rattle.nd_grammar.specs.Chosen.{Chosen}
 use Rattle.plain_ndr.specs.Decoding.{inputs_of}
-use Rattle.value_text.specs.Reads.{ReadsAs}
+use Rattle.value_text.specs.declared.fault.TextReason.{TextReason}
+use Rattle.value_text.specs.Reads.{ReadsAs, IsTextFault}
 use Rattle.dceidl.specs.declared.refusal.Refusal.{Refusal}
 use Rattle.dceidl.specs.declared.refusal.Refusal.TheVariants.{Memory, Absent, FileFailed, NotBuilt, NoOperation, ReadFault, BadOctets, BadText, BadValue}
 use Rattle.dceidl.specs.Encode.{IsEncoding, IsTextCause, IsValueCause, IsToldAsValue}
@@ -57,3 +58,10 @@ pub chosen_of : (f : Fitting) (i : Interface) (o : Operation) (n : ℕ) (s : Sid
     → slice_get i.operations n ≡ Some o → IfOk result (Chosen (inputs_of i o) order chunk g)
 chosen_of f i o n s g order chunk result fits chosen there =
     subst (λ x. slice_get i.operations x.op ≡ Some o → IfOk result (Chosen (inputs_of i o) order chunk x.graph)) fits chosen there
+
+-- a fault by other names for its line, column and reason
+pub same_fault : (w : Setting) (text : List ℕ) (line at column octet : ℕ) (reason why : TextReason) → line ≡ at → column ≡ octet → reason ≡ why
+    → IsTextFault w text at octet why → IsTextFault w text line column reason
+same_fault w text line at column octet reason why a b c fault =
+    subst (λ l. IsTextFault w text l column reason) (sym a)
+    (subst (λ k. IsTextFault w text at k reason) (sym b) (subst (IsTextFault w text at octet) (sym c) fault))

@@ -1,5 +1,7 @@
+use Rattle.std.proofs.Common.{subst}
 use Rattle.plain_ndr.specs.Decoding.{inputs_of}
-use Rattle.dceidl.proofs.Encodings.{encoding_is, text_refused}
+use Rattle.value_text.specs.Reads.{IsFault}
+use Rattle.dceidl.proofs.Encodings.{encoding_is, text_refused, same_fault}
 use Rattle.dceidl.proofs.encode.encode.Goals as goal
 
 pub returns-in-Ok-clause-done : goal.returns-in-Ok-clause-done
@@ -11,3 +13,8 @@ pub returns-in-Ok-clause-refused : goal.returns-in-Ok-clause-refused
 returns-in-Ok-clause-refused c o there =
     text_refused (inputs_of c.args.ready.now.interface o) c.args.text.now c.in-Ok.graph (c.in-Ok.ensures.read o there)
     c.encode_graph.result (c.encode_graph.ensures.refused o there)
+
+pub returns-in-Err-At-clause-refused : goal.returns-in-Err-At-clause-refused
+returns-in-Err-At-clause-refused c o there =
+    same_fault (inputs_of c.args.ready.now.interface o) c.args.text.now _ _ _ _ _ _ c.in-Err-At.line-is c.in-Err-At.column-is c.in-Err-At.reason-is
+    (subst (IsFault (inputs_of c.args.ready.now.interface o) c.args.text.now) c.in-Err-At.field-0-is (c.in-Err-At.ensures.refused o there))

@@ -2,10 +2,23 @@
 use Rattle.plain_ndr.specs.Decoding.{inputs_of}
 use Rattle.dceidl.specs.declared.task.Task.TheVariants.{Decode, Encode}
 use Rattle.dceidl.proofs.Rows as rows
+use Rattle.dceidl.proofs.Statuses as statuses
 use Rattle.dceidl.proofs.Sound as sound
 use Rattle.dceidl.proofs.SoundDecode as decoding
 use Rattle.dceidl.proofs.SoundEncode as encoding
 use Rattle.dceidl.proofs.top.run.Goals as goal
+
+pub returns-clause-read : goal.returns-clause-read
+returns-clause-read g c =
+    statuses.read _ _ _ _ _ c.args.words.now (record { outcome = c.answer-outcome.result; caused = c.answer-outcome.ensures; delivered = c.deliver.ensures })
+
+pub returns-clause-absent : goal.returns-clause-absent
+returns-clause-absent g c =
+    statuses.absent _ _ _ _ _ c.args.words.now (record { outcome = c.answer-outcome.result; caused = c.answer-outcome.ensures; delivered = c.deliver.ensures })
+
+pub returns-clause-file : goal.returns-clause-file
+returns-clause-file g c =
+    statuses.file _ _ _ _ _ c.args.words.now (record { outcome = c.answer-outcome.result; caused = c.answer-outcome.ensures; delivered = c.deliver.ensures })
 
 pub returns-clause-done : goal.returns-clause-done
 returns-clause-done g c task idl op is zero =
