@@ -5,4 +5,5 @@ pub mod Rows
 pub mod Statuses
 pub mod Sound
 pub mod SoundDecode
+pub mod PlainTexts
 pub mod SoundEncode

@@ -27,7 +27,7 @@ no_file_fault (Decode order) w octets cause = cause
 no_file_fault (Encode order chunk) w octets cause = cause
 
 -- the status of an outcome, where nothing fails while it is written
-own : Outcome → ℕ
+abbrev own : Outcome → ℕ
 own (Done made) = 0
 own (Refused status line) = status
 own Wanting = 5

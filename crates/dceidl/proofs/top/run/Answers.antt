@@ -62,3 +62,27 @@ returns-clause-trailing g c order idl op i n o octets place is nothing_failed ac
     (sound.settled _ _ _ _ (Decode order) idl op _ nothing_failed (rows.ended _ _ _ _ (Decode order) idl op _ c.args.words.now is
     (record { outcome = c.answer-outcome.result; caused = c.answer-outcome.ensures; delivered = c.deliver.ensures }))
     i n o octets accepted input) place goes_on
+
+pub returns-clause-encoded : goal.returns-clause-encoded
+returns-clause-encoded g c order chunk idl op i n o text graph is nothing_failed accepted input reads conforms =
+    encoding.encoded _ order chunk idl op (inputs_of i o) text _
+    (sound.settled _ _ _ _ (Encode order chunk) idl op _ nothing_failed (rows.ended _ _ _ _ (Encode order chunk) idl op _ c.args.words.now is
+    (record { outcome = c.answer-outcome.result; caused = c.answer-outcome.ensures; delivered = c.deliver.ensures }))
+    i n o text accepted input)
+    (encoding.one_graph_of _ idl op i n o accepted text) (encoding.one_fault_of _ idl op i n o accepted text) graph reads conforms
+
+pub returns-clause-bad_text : goal.returns-clause-bad_text
+returns-clause-bad_text g c order chunk idl op i n o text line column why is nothing_failed accepted input fault =
+    encoding.bad_text _ order chunk idl op (inputs_of i o) text _
+    (sound.settled _ _ _ _ (Encode order chunk) idl op _ nothing_failed (rows.ended _ _ _ _ (Encode order chunk) idl op _ c.args.words.now is
+    (record { outcome = c.answer-outcome.result; caused = c.answer-outcome.ensures; delivered = c.deliver.ensures }))
+    i n o text accepted input)
+    (encoding.one_graph_of _ idl op i n o accepted text) (encoding.one_fault_of _ idl op i n o accepted text) line column why fault
+
+pub returns-clause-bad_value : goal.returns-clause-bad_value
+returns-clause-bad_value g c order chunk idl op i n o text graph home node why is nothing_failed accepted input reads first =
+    encoding.bad_value _ order chunk idl op (inputs_of i o) text _
+    (sound.settled _ _ _ _ (Encode order chunk) idl op _ nothing_failed (rows.ended _ _ _ _ (Encode order chunk) idl op _ c.args.words.now is
+    (record { outcome = c.answer-outcome.result; caused = c.answer-outcome.ensures; delivered = c.deliver.ensures }))
+    i n o text accepted input)
+    (encoding.one_graph_of _ idl op i n o accepted text) (encoding.one_fault_of _ idl op i n o accepted text) graph home node why reads first
