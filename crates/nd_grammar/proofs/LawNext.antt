@@ -1,16 +1,16 @@
 -- The law of the next entry, and that of few items, at a ring of two nodes: their premises can be met.
-use Rattle.std.proofs.Common.{◌≡◌, ℕ, ◌+◌, ◌≤◌, zero, suc, List, [], ◌∷◌, ◌++◌, length, take, refl, ap, sym, ◌∙◌, arith, subst, length-append}
+use Rattle.std.proofs.Common.{◌≡◌, ℕ, ◌+◌, ◌≤◌, suc, List, [], ◌∷◌, ◌++◌, length, take, refl, ap, sym, ◌∙◌, arith, subst, length-append}
 use Rattle.std.specs.List.{AllByRecursion, slice_get}
 use Rattle.nd_base.specs.declared.octets.Order.{Order}
 use Rattle.nd_base.specs.declared.octets.Order.TheVariants.{Little}
 use Rattle.nd_graph.specs.Setting.{Setting}
 use Rattle.nd_graph.proofs.NodeFacts.{sound_partial}
 use Rattle.nd_grammar.specs.Bad.{Bad}
-use Rattle.nd_grammar.specs.Entry.{Entry, EntryAt, size_at, end_to_end}
+use Rattle.nd_grammar.specs.Entry.{Entry, size_at, end_to_end}
 use Rattle.nd_grammar.specs.Represents.{IsRendered}
 use Rattle.nd_grammar.specs.Refusal.{Accepts}
 use Rattle.nd_grammar.specs.FewItems.{item_count}
-use Rattle.nd_grammar.specs.NextEntry.{NextAlike, IsOneToOne, AllCorrespond, IsReadTo}
+use Rattle.nd_grammar.specs.NextEntry.{NextAlike, IsReadTo}
 use Rattle.nd_grammar.specs.declared.reason.Reason.{Reason}
 use Rattle.nd_grammar.specs.declared.reason.Reason.TheVariants as reason
 use Rattle.nd_grammar.proofs.Check.{upto}

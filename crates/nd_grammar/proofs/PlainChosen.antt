@@ -1,5 +1,5 @@
 -- The octets that are written for a graph of a plain side: one list alone, from which the graph is read.
-use Rattle.std.proofs.Common.{◌≡◌, ℕ, ◌≤◌, ℤ, List, length, refl, ap, sym, ◌∙◌, subst, take, arith}
+use Rattle.std.proofs.Common.{◌≡◌, ℕ, ℤ, List, length, sym, ◌∙◌, subst, arith}
 use Rattle.std.proofs.lemmas.List.{take_all}
 use Rattle.nd_base.specs.declared.octets.Order.{Order}
 use Rattle.nd_types.specs.declared.types.Primitive.{Primitive}
@@ -45,7 +45,7 @@ module _ (w : Setting) (order : Order) (ps : List Primitive) (plain : IsPlain w 
         let (zs, e, range, is) = chosen_due chunk octets d in
         subst AreOctets (sym is) (numbers_octets order ps 0 zs)
 
-    -- there are no others, whatever the count of chunks
+    -- there are no others, whatever the size of chunks
     pub chosen_alone : (chunk chunk' : ℕ) (octets octets' : List ℕ) → Chosen w order chunk g octets → Chosen w order chunk' g octets'
         → octets ≡ octets'
     chosen_alone chunk chunk' octets octets' d d' =
@@ -67,7 +67,7 @@ module _ (w : Setting) (order : Order) (ps : List Primitive) (plain : IsPlain w 
     chosen_read chunk octets n h d b =
         one_graph w order ps octets n (length octets) h g plain b (chosen_begins chunk octets d)
 
-  -- the same octets are written for the same graph alone
+  -- graphs for which the same octets are written are the same
   pub chosen_apart : (chunk chunk' : ℕ) (g h : Graph) (octets : List ℕ) → Conforms w g → Conforms w h
       → Chosen w order chunk g octets → Chosen w order chunk' h octets → g ≡ h
   chosen_apart chunk chunk' g h octets c d a b =

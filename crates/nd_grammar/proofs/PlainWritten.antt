@@ -1,5 +1,5 @@
 -- The octets that are written for plain numbers: they hold these numbers, and are a stream of their graph.
-use Rattle.std.proofs.Common.{◌≡◌, ℕ, ◌+◌, ◌*◌, ◌<◌, ◌≤◌, zero, suc, ℤ, Bool, true, false, cond, leb, IsTrue, List, [], ◌∷◌, ◌++◌, length, Option, Some, None, refl, ap, ap₂, sym, ◌∙◌, arith, subst, take, drop, append_assoc, length-append}
+use Rattle.std.proofs.Common.{◌≡◌, ℕ, ◌+◌, ◌≤◌, zero, suc, ℤ, true, List, [], ◌∷◌, ◌++◌, length, Some, refl, ap, ap₂, sym, ◌∙◌, arith, subst, take, drop, append_assoc, length-append}
 use Rattle.std.specs.Prelude.{map, replicate}
 use Rattle.std.proofs.lemmas.List.{length-replicate}
 use Rattle.nd_base.specs.declared.octets.Order.{Order}
@@ -16,7 +16,7 @@ use Rattle.nd_grammar.specs.Entry.{Entry, gap}
 use Rattle.nd_grammar.specs.Stream.{Stream, representation, AllCut}
 use Rattle.nd_grammar.specs.Chosen.{Chosen, octets_from, pipe_cuts}
 use Rattle.nd_grammar.specs.Represents.{Represents}
-use Rattle.nd_grammar.specs.Plain.{ArePlain, AreInRange, IsPlain, number, plain_graph, numbers_at, numbers_written, plain_end, with}
+use Rattle.nd_grammar.specs.Plain.{AreInRange, IsPlain, number, plain_graph, numbers_at, numbers_written, plain_end, with}
 use Rattle.nd_grammar.proofs.Plain.{plain_entries, numbers_stand, map_length, plain_represents}
 use Rattle.nd_grammar.proofs.PlainSteps.{start_of, end_of_number, number_there, numbers_step, end_small}
 use Rattle.nd_grammar.proofs.PlainStreams.{root_entries, root_steps, plain_representation, plain_entries_are, plain_order, all_before, suffix_whole}

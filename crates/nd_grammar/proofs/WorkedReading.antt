@@ -8,16 +8,20 @@ use Rattle.nd_types.specs.Roots.{roots_of}
 use Rattle.nd_graph.specs.declared.value.Graph.{Graph}
 use Rattle.nd_grammar.specs.declared.reason.Reason.{Reason}
 use Rattle.nd_grammar.specs.declared.reason.Reason.TheVariants.{Truncated}
+use Rattle.nd_graph.specs.Conforms.{Conforms}
+use Rattle.nd_grammar.specs.Chosen.{Chosen}
+use Rattle.nd_grammar.specs.Represents.{Represents}
 use Rattle.nd_grammar.specs.Prefix.{BeginsWith}
 use Rattle.nd_grammar.specs.Bad.{Bad}
 use Rattle.nd_grammar.specs.Plain.{IsPlain, numbers_at, plain_end, AreNumbersOf, AreCutShort}
 use Rattle.nd_grammar.specs.ExamplesPlain.{integers, one_two_three, integers_little, integers_big, cut_in_hyper, cut_in_gap}
 use Rattle.nd_grammar.proofs.PlainBad.{short_is_bad}
+use Rattle.nd_grammar.proofs.PlainChosen.{chosen_alone, chosen_apart, chosen_read, chosen_represents}
 use Rattle.nd_grammar.proofs.PlainNumbers.{represented_numbers, numbers_begin}
 use Rattle.nd_grammar.proofs.PlainRefused.{bad_is_short}
 use Rattle.nd_grammar.proofs.PlainSteps.{IsRead, number_first, number_next, numbers_done}
 use Rattle.nd_grammar.proofs.PlainVerdict.{one_of_two, never_both, one_graph, one_refusal}
-use Rattle.nd_grammar.proofs.WorkedPlain.{three_integers, three_integers_big, cut_number, cut_gap}
+use Rattle.nd_grammar.proofs.WorkedPlain.{three_integers, three_integers_big, three_integers_written, cut_number, cut_gap}
 
 abbrev primitives : List Primitive
 primitives = Long ∷ Short ∷ Hyper ∷ []
@@ -109,3 +113,20 @@ third_read = number_next Little primitives integers_little 2 6 (pos 1 ∷ pos 2 
 
 all_read : (numbers_at Little primitives 0 integers_little ≡ Some values) × (plain_end primitives 0 ≡ 16)
 all_read = numbers_done Little primitives integers_little 3 16 values (lit≤ tt) third_read
+
+-- what is written for the graph represents it, and nothing else is written, whatever the size of chunks
+integers_written : Represents integers Little integers_little one_two_three
+integers_written = chosen_represents integers Little primitives are_plain one_two_three integers_begin.conforms 1 integers_little three_integers_written
+
+written_alone : (chunk : ℕ) (octets : List ℕ) → Chosen integers Little chunk one_two_three octets → octets ≡ integers_little
+written_alone chunk octets c =
+    chosen_alone integers Little primitives are_plain one_two_three integers_begin.conforms chunk 1 octets integers_little c three_integers_written
+
+-- it is read as this graph, and written for this graph alone
+written_read_back : (n : ℕ) (g : Graph) → BeginsWith integers Little integers_little n g → (n ≡ 16) × (g ≡ one_two_three)
+written_read_back n g b =
+    chosen_read integers Little primitives are_plain one_two_three integers_begin.conforms 1 integers_little n g three_integers_written b
+
+written_apart : (chunk : ℕ) (g : Graph) → Conforms integers g → Chosen integers Little chunk g integers_little → g ≡ one_two_three
+written_apart chunk g conforms c =
+    chosen_apart integers Little primitives are_plain chunk 1 g one_two_three integers_little conforms integers_begin.conforms c three_integers_written

@@ -66,7 +66,7 @@ pub fn plain_verdict()
 {}
 
 /// The octets that are written for a conforming graph of a plain side represent it. There is one list of them alone, the same for
-/// every count of a pipe's chunks.
+/// every size of a pipe's chunks.
 pub fn plain_written()
     ensures exists { (w : Setting) (order : Order) (ps : List Primitive) (chunk : ℕ) (g : Graph)
         → IsPlain w ps → Conforms w g
@@ -86,8 +86,8 @@ pub fn plain_written()
         → AreOctets octets }
 {}
 
-/// What is decoded from the octets that are written for a graph of a plain side is that graph, and takes all of them. So the same
-/// octets are written for the same graph alone.
+/// What is decoded from the octets that are written for a graph of a plain side is that graph, and takes all of them. So graphs
+/// for which the same octets are written are the same.
 pub fn plain_round_trip()
     ensures back { (w : Setting) (order : Order) (ps : List Primitive) (chunk : ℕ) (g h : Graph)
         (octets : List ℕ) (n : ℕ)

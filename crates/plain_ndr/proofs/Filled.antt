@@ -1,5 +1,5 @@
--- One turn of the loop that writes numbers over zeros.
-use Rattle.std.proofs.Common.{◌≡◌, ℕ, ◌+◌, ◌-◌, ◌<◌, ◌≤◌, zero, suc, ℤ, pos, true, List, [], ◌∷◌, ◌++◌, length, Option, Some, None, refl, ap, ap₂, sym, ◌∙◌, subst, take, drop, get_or, map, arith, append_assoc, append-nil, add-one, length-drop}
+-- One turn of the loops over numbers: the one that writes them over zeros, and the one that counts their octets.
+use Rattle.std.proofs.Common.{◌≡◌, ℕ, ◌+◌, ◌-◌, ◌*◌, ◌<◌, ◌≤◌, zero, suc, ℤ, pos, true, List, [], ◌∷◌, ◌++◌, length, Some, refl, ap, ap₂, sym, ◌∙◌, subst, take, drop, get_or, map, arith, append_assoc, append-nil, add-one, length-drop}
 use Rattle.std.specs.Prelude.{replicate}
 use Rattle.std.specs.List.{slice_get}
 use Rattle.std.proofs.Math.Seq.{drop-cons, take-add}
@@ -8,6 +8,7 @@ use Rattle.std.proofs.lemmas.Option.{same_Some}
 use Rattle.std.proofs.lemmas.Slice.{take-put_mid, drop-put_mid}
 use borrow.Rule.Slice.PartMut.{put_mid, same_len_mid}
 use Rattle.nd_base.specs.declared.octets.Order.{Order}
+use Rattle.nd_base.specs.declared.TheConstants.{STREAM_LIMIT}
 use Rattle.nd_types.specs.declared.types.Primitive.{Primitive}
 use Rattle.nd_types.specs.declared.types.Primitive.TheVariants.{Boolean}
 use Rattle.nd_types.specs.Table.{width, in_range}
@@ -17,7 +18,6 @@ use Rattle.nd_graph.specs.Tree.{Tree}
 use Rattle.nd_grammar.specs.Entry.{gap}
 use Rattle.nd_grammar.specs.Plain.{AreInRange, number, numbers_written, plain_end}
 use Rattle.nd_grammar.proofs.PlainSteps.{start_of, end_of_number, end_small}
-use Rattle.nd_grammar.proofs.PlainWritten.{range_length}
 
 -- the number of the i-th primitive is there, and in its range
 pub number_there : (zs : List ℤ) (i : ℕ) → i < length zs → slice_get (map number zs) i ≡ Some (number (get_or zs i (pos 0)))
@@ -38,6 +38,32 @@ pub same_number : (values : List Tree) (zs : List ℤ) (i : ℕ) (z : ℤ) → v
 same_number values zs i z same h given =
     let e : number z ≡ number (get_or zs i (pos 0)) = same_Some _ _ (sym given ∙ ap (λ l. slice_get l i) same ∙ number_there zs i h) in cc
 
+-- the next number ends at most where the last one does
+next_ends : (ps : List Primitive) (i at n : ℕ) (p : Primitive) → i < length ps → p ≡ get_or ps i Boolean → plain_end (drop i ps) at ≡ n
+    → (drop i ps ≡ p ∷ drop (i + 1) ps) × (plain_end (drop (i + 1) ps) (end_of_number p at) ≡ n) × (end_of_number p at ≤ n)
+next_ends ps i at n p h ep e =
+    let next : drop i ps ≡ p ∷ drop (i + 1) ps = drop-cons ps i Boolean h ∙ ap₂ (λ u v. u ∷ drop v ps) (sym ep) (sym (add-one i)) in
+    let ends : plain_end (drop (i + 1) ps) (end_of_number p at) ≡ n = sym (ap (λ q. plain_end q at) next) ∙ e in
+    let small = end_small (drop (i + 1) ps) (end_of_number p at) in
+    (next, ends, omega (arith, small.0, ends))
+
+-- the same in the words of a loop
+pub turn_ends : (ps : List Primitive) (i at n : ℕ) (p : Primitive) (wide room : ℕ) → i < length ps → p ≡ get_or ps i Boolean → wide ≡ width p
+    → room ≡ gap at wide → plain_end (drop i ps) at ≡ n → (plain_end (drop (i + 1) ps) (at + room + wide) ≡ n) × (at + room + wide ≤ n)
+turn_ends ps i at n p wide room h ep ew er e =
+    let begins : at + room ≡ start_of p at = ap (λ v. at + v) (er ∙ ap (gap at) ew) in
+    let here : at + room + wide ≡ end_of_number p at = ap₂ (λ s v. s + v) begins ew in
+    let (next, ends, within) = next_ends ps i at n p h ep e in
+    (ap (plain_end (drop (i + 1) ps)) here ∙ ends, omega (arith, here, within))
+
+-- no number is left
+pub all_ended : (ps : List Primitive) (i at n : ℕ) → length ps ≤ i → plain_end (drop i ps) at ≡ n → at ≡ n
+all_ended ps i at n h e = ap (λ q. plain_end q at) (sym (drop_all i ps h)) ∙ e
+
+-- they end within the limit of a stream
+pub within_limit : (ps : List Primitive) → 16 * length ps ≤ STREAM_LIMIT → plain_end ps 0 ≤ STREAM_LIMIT
+within_limit ps few = omega (arith, few, (end_small ps 0).1)
+
 -- The first i numbers are written, up to a place, and zeros stand behind it.
 pub record IsFilled (order : Order) (ps : List Primitive) (zs : List ℤ) (os : List ℕ) (i at : ℕ) : Type 0 where
   pub long : length os ≡ plain_end ps 0
@@ -57,16 +83,7 @@ module _ (order : Order) (ps : List Primitive) (zs : List ℤ) where
         rest = refl;
       }
 
-  -- the next number ends within the octets
-  pub next_fits : (os : List ℕ) (i at : ℕ) (p : Primitive) → i < length ps → p ≡ get_or ps i Boolean → IsFilled order ps zs os i at
-      → (drop i ps ≡ p ∷ drop (i + 1) ps) × (plain_end (drop (i + 1) ps) (end_of_number p at) ≡ plain_end ps 0) × (end_of_number p at ≤ length os)
-  next_fits os i at p h ep f =
-      let next : drop i ps ≡ p ∷ drop (i + 1) ps = drop-cons ps i Boolean h ∙ ap₂ (λ u v. u ∷ drop v ps) (sym ep) (sym (add-one i)) in
-      let ends : plain_end (drop (i + 1) ps) (end_of_number p at) ≡ plain_end ps 0 = sym (ap (λ q. plain_end q at) next) ∙ f.ends in
-      let small = end_small (drop (i + 1) ps) (end_of_number p at) in
-      (next, ends, omega (arith, small.0, ends, f.long))
-
-  -- and is written there
+  -- the next number is written
   pub next_filled : (os : List ℕ) (i at : ℕ) (p : Primitive) (z : ℤ) (ys new : List ℕ) → length zs ≡ length ps → i < length ps
       → p ≡ get_or ps i Boolean → z ≡ get_or zs i (pos 0) → ys ≡ written order p z → new ≡ put_mid (start_of p at) (width p) os ys
       → IsFilled order ps zs os i at → IsFilled order ps zs new (i + 1) (end_of_number p at)
@@ -77,7 +94,8 @@ module _ (order : Order) (ps : List Primitive) (zs : List ℤ) where
       let room : ℕ = gap at (width p) in
       let space : List ℕ = replicate room 0 in
       let hz : i < length zs = omega (arith, l, h) in
-      let (next, ends, fits) = next_fits os i at p h ep f in
+      let (next, ends, low) = next_ends ps i at n p h ep f.ends in
+      let fits : end ≤ length os = omega (arith, low, f.long) in
       let next_z : drop i zs ≡ z ∷ drop (i + 1) zs = drop-cons zs i (pos 0) hz ∙ ap₂ (λ u v. u ∷ drop v zs) (sym ez) (sym (add-one i)) in
       let within : start ≤ length os = omega (arith, fits) in
       let wide : length ys ≡ width p = ap length ey ∙ written-length order p z in
@@ -104,13 +122,6 @@ module _ (order : Order) (ps : List Primitive) (zs : List ℤ) where
       }
 
   -- the same in the words of the loop
-  pub turn_fits : (os : List ℕ) (i at : ℕ) (p : Primitive) (wide room : ℕ) → i < length ps → p ≡ get_or ps i Boolean → wide ≡ width p
-      → room ≡ gap at wide → IsFilled order ps zs os i at → at + room + wide ≤ length os
-  turn_fits os i at p wide room h ep ew er f =
-      let fits = (next_fits os i at p h ep f).2 in
-      let same : room ≡ gap at (width p) = er ∙ ap (gap at) ew in
-      omega (arith, fits, same, ew)
-
   pub turn : (os : List ℕ) (i at : ℕ) (p : Primitive) (wide room : ℕ) (z : ℤ) (ys new : List ℕ) → length zs ≡ length ps → i < length ps
       → p ≡ get_or ps i Boolean → wide ≡ width p → room ≡ gap at wide → z ≡ get_or zs i (pos 0) → ys ≡ written order p z
       → new ≡ put_mid (at + room) (at + room + wide - (at + room)) os ys
@@ -126,6 +137,6 @@ module _ (order : Order) (ps : List Primitive) (zs : List ℤ) where
   pub all_filled : (os : List ℕ) (i at : ℕ) → length ps ≤ i → IsFilled order ps zs os i at → os ≡ numbers_written order ps 0 zs
   all_filled os i at h f =
       let none : drop i ps ≡ [] = drop_all i ps h in
-      let ends : at ≡ plain_end ps 0 = ap (λ q. plain_end q at) (sym none) ∙ f.ends in
+      let ends : at ≡ plain_end ps 0 = all_ended ps i at (plain_end ps 0) h f.ends in
       sym (take_all at os (omega (arith, f.long, ends))) ∙ sym (append-nil (take at os))
       ∙ ap (λ q. take at os ++ numbers_written order q at (drop i zs)) (sym none) ∙ f.rest

@@ -1,3 +1,4 @@
+pub mod Encoded
 pub mod Filled
 pub mod Mapped
 pub mod Sides

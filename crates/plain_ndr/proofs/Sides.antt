@@ -1,24 +1,14 @@
 -- A plain operation's [in] parameters are a plain side, and its octets are octets.
-use Rattle.std.proofs.Common.{◌≡◌, ℕ, zero, suc, ◌+◌, ◌*◌, ◌<◌, ◌≤◌, ◌^◌, Bool, true, false, List, [], ◌∷◌, ◌++◌, length, Option, Some, None, refl, ap, sym, ◌∙◌, subst, map, arith, get_or}
-use Rattle.std.specs.Prelude.{All}
+use Rattle.std.proofs.Common.{◌≡◌, ℕ, suc, ◌<◌, ◌^◌, List, [], ◌∷◌, length, Some, None, refl, sym, subst, map, get_or}
 use Rattle.std.specs.List.{slice_get}
-use Rattle.std.proofs.lemmas.List.{length-map}
-use Rattle.std.proofs.lemmas.Option.{slice_get_within, get_or_from_slice_get}
-use Rattle.nd_types.specs.declared.types.TypeDef.{TypeDef}
-use Rattle.nd_types.specs.declared.types.TypeDef.TheVariants as def
-use Rattle.nd_types.specs.declared.types.Param.{Param}
 use Rattle.nd_types.specs.declared.types.Operation.{Operation}
 use Rattle.nd_types.specs.declared.interface.Interface.{Interface}
 use Rattle.nd_types.specs.declared.types.Side.TheVariants as side
-use Rattle.nd_types.specs.Table.{Table, type_at}
-use Rattle.nd_types.specs.Kinds.{basic_types}
-use Rattle.nd_types.specs.Roots.{roots_of}
-use Rattle.nd_types.specs.Plain.{IsPlainParam, IsPlainOperation, IsPlainInterface, plain_roots, is_plain_type}
+use Rattle.nd_types.specs.Plain.{IsPlainInterface}
 use Rattle.nd_grammar.proofs.PlainSides.{plain_side}
 use Rattle.nd_types.specs.Number.{AreOctets}
-use Rattle.nd_graph.specs.Setting.{Setting}
-use Rattle.nd_graph.specs.Fitting.{setting_of, IsFit}
-use Rattle.nd_grammar.specs.Plain.{ArePlain, IsPlain}
+use Rattle.nd_graph.specs.Fitting.{IsFit}
+use Rattle.nd_grammar.specs.Plain.{IsPlain}
 use Rattle.nd_base.specs.declared.octets.Order.{Order}
 use Rattle.nd_types.specs.declared.types.Primitive.{Primitive}
 use Rattle.std.proofs.Common.{ℤ}
@@ -30,7 +20,7 @@ use Rattle.nd_grammar.specs.Plain.{numbers_at, plain_end, plain_graph, number}
 use Rattle.nd_grammar.proofs.PlainNumbers.{numbers_begin}
 use Rattle.nd_grammar.proofs.PlainBad.{short_is_bad}
 use Rattle.plain_ndr.specs.Decoding.{inputs_of}
-use Rattle.nd_grammar.specs.Primitives.{param_primitive, primitive_of}
+use Rattle.nd_grammar.specs.Primitives.{param_primitive}
 
 pub octets_by_index : (os : List ℕ) → ((i : ℕ) → get_or os i 0 < 2 ^ 8) → AreOctets os
 octets_by_index [] h = tt

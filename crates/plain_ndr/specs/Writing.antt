@@ -11,7 +11,7 @@ pub record AreNumbers (ps : List Primitive) (values : List Tree) : Type 0 where
   pub same : values ≡ map number numbers
   pub range : AreInRange ps numbers
 
--- and the octets are those that are written for them
+-- the values are numbers in the ranges of these primitives, and the octets are those that are written for them
 pub record AreWritten (order : Order) (ps : List Primitive) (values : List Tree) (octets : List ℕ) : Type 0 where
   pub of : AreNumbers ps values
   pub octets_are : octets ≡ numbers_written order ps 0 of.numbers

@@ -38,7 +38,7 @@ pub enum DecodeFault {
 }
 
 /// Decodes the values of the [in] parameters of a plain operation from the front of octets, which begin at the beginning of
-/// the operation's stream (C706, 14.3 and 14.4): one integer for each parameter, each at the next multiple of its width.
+/// the operation's stream (C706, 14.2 and 14.4): one integer for each parameter, each at the next multiple of its width.
 ///
 /// The interface must be plain, `op` the number of one of its operations, and the octets fewer than 2^32. Octets behind the
 /// values are let stand. Each octet is looked at once. It takes memory for the values that were read, 32 octets each, and for

@@ -15,9 +15,9 @@ use nd_graph::Fit;
 use nd_types::Interface;
 use std::alloc::Global;
 
-/// Encodes the values of the [in] parameters of a plain operation as a stream (C706, 14.3 and 14.4): one integer for each
-/// parameter, each at the next multiple of its width, and zeros in the gaps. `chunk` is the count of a pipe's chunks, and plain
-/// operations have no pipes: the octets are the same for all.
+/// Encodes the values of the [in] parameters of a plain operation as a stream (C706, 14.2 and 14.4): one integer for each
+/// parameter, each at the next multiple of its width, and zeros in the gaps. `chunk` is how many elements each chunk of a pipe
+/// has, and plain operations have no pipes: the octets are the same for each.
 ///
 /// The fit must be of the [in] side of an operation of the interface, which must be plain. Each value is looked at once. It takes
 /// memory for exactly the octets, at one time, and for a list of the parameters' types; want of memory is the only refusal.
@@ -36,9 +36,10 @@ pub fn encode(
         → Chosen (inputs_of interface.now o) order chunk fit.now.graph octets) }
     ensures within { IfOk result (λ octets. length octets ≤ STREAM_LIMIT) }
 {
+    let graph = fit.graph();
     let Some(operation) = interface.operations.get(fit.op() as usize) else {
         unreachable!()
     };
     let prims = primitives(alloc, &interface.types, &operation.params)?;
-    write_numbers(alloc, order, prims.as_slice(), &fit.graph().roots)
+    write_numbers(alloc, order, prims.as_slice(), &graph.roots)
 }

@@ -1,10 +1,10 @@
-// The call once with ample memory, in both orders, and its refusal.
+// Each call with ample memory, in both orders, and the refusal of octets.
 ghost use Rattle.std.specs.Prelude.{◌≡◌, ◌≤◌, ◌<◌, ◌^◌, [], ◌∷◌, length, codes, IfOk};
 ghost use Rattle.nd_types.specs.Kinds.{basic_types};
 ghost use Rattle.nd_types.specs.Plain.{IsPlainInterface, plain_param};
 ghost use Rattle.nd_graph.specs.WorkedFit.{add_params, add};
 
-use crate::{DecodeFault, decode};
+use crate::{DecodeFault, decode, encode};
 use nd_base::{Memory, Name, Order};
 use nd_grammar::Reason;
 use nd_graph::Val;
@@ -118,4 +118,32 @@ fn short_octets_are_refused(rt: HostRuntime) -> Result<(), Fail> {
         assert_eq!(rt; fault, Some(DecodeFault::Bad { place, reason }));
     }
     Ok(())
+}
+
+// Asserts that these are the octets written for the numbers 1, 2 and 3, which are decoded from big endian octets with a gap that
+// is not zero.
+fn expect_written(
+    rt: &impl Abort,
+    alloc: Global,
+    order: Order,
+    chunk: u32,
+    octets: &[u8],
+) -> Result<(), Fail>
+    requires { 1 ≤ chunk }
+{
+    let interface = interface(alloc)?;
+    let big = b"\0\0\0\x01\0\x02\xaa\xaa\0\0\0\0\0\0\0\x03";
+    let decoded = decode(alloc, &interface, 0, Order::Big, big)?;
+    let written = encode(alloc, &interface, &decoded.fit, order, chunk)?;
+    assert_eq!(rt; written.as_slice(), octets);
+    Ok(())
+}
+
+// The gap before the hyper is written as zeros, and the count of chunks changes nothing.
+#[test]
+fn numbers_are_encoded(rt: HostRuntime) -> Result<(), Fail> {
+    let little = b"\x01\0\0\0\x02\0\0\0\x03\0\0\0\0\0\0\0";
+    expect_written(&rt, rt.alloc(), Order::Little, 1, little)?;
+    let big = b"\0\0\0\x01\0\x02\0\0\0\0\0\0\0\0\0\x03";
+    expect_written(&rt, rt.alloc(), Order::Big, 16_777_216, big)
 }

@@ -1,4 +1,4 @@
-use Rattle.std.proofs.Common.{◌≡◌, ◌∙◌, sym, ap, subst, map, Some, Err, arith}
+use Rattle.std.proofs.Common.{◌∙◌, sym, ap, subst, map, Err, arith}
 use Rattle.std.proofs.lemmas.Option.{same_Some}
 use Rattle.nd_grammar.specs.Prefix.{BeginsWith}
 use Rattle.plain_ndr.specs.Decoding.{inputs_of}

@@ -1,0 +1,322 @@
+#!/usr/bin/env python3
+"""Measures the speed and the memory of the real program, as ratios that mean the same on every machine.
+
+    bench/run.py [--program PATH] [--megabytes N] [--runs N]
+
+`--program` measures another program than bin/dceidl, which is built first where it has to be. `--megabytes` is the size of
+the large text, 1 to 256 (100 if not said), and `--runs` how often a small run is repeated (400 if not said; runs over large
+files a fortieth as often).
+
+The status is 1 where ten times the input takes more than twelve times the time, or where a run comes to something else than
+it should; else it is 0. bench/README.md says what each line means.
+"""
+
+from __future__ import annotations
+
+import argparse
+import os
+import random
+import shutil
+import struct
+import subprocess
+import sys
+import tempfile
+from dataclasses import dataclass
+from pathlib import Path
+from typing import List, Optional, Sequence
+
+ROOT = Path(__file__).resolve().parent.parent
+MEGABYTE = 1_000_000
+PARAMETERS = 256
+STREAM_LIMIT = 16_777_216
+FILE_LIMIT = 1_048_576
+MOST_TIMES = 12.0  # the time that ten times the input may take
+NOISE = 0.001  # seconds; a difference below them is not told from none
+TIME = shutil.which("time")  # the program `time`, which tells the peak memory of what it runs
+
+
+@dataclass(frozen=True)
+class Run:
+    """A command with its input, the status that it should end with, and what it should write, where that is known."""
+
+    what: str
+    command: Sequence[str]
+    given: Path
+    status: int = 0
+    out: Optional[bytes] = None
+
+
+@dataclass(frozen=True)
+class Measured:
+    """The least processor time of some runs in seconds, and the peak memory of one in octets, where it is known."""
+
+    what: str
+    seconds: float
+    peak: Optional[int]
+    size: int
+
+
+class Bench:
+    """The program, a folder of files to run it on, and what has failed."""
+
+    def __init__(self, program: Path, folder: Path, runs: int) -> None:
+        self.program = str(program)
+        self.folder = folder
+        self.runs = runs
+        self.failures: List[str] = []
+
+    def fail(self, why: str) -> None:
+        print(f"FAILED: {why}")
+        self.failures.append(why)
+
+    def write(self, name: str, octets: bytes) -> Path:
+        path = self.folder / name
+        path.write_bytes(octets)
+        return path
+
+    def seconds(self, run: Run) -> float:
+        """The processor time of one run, in the program and in the system. Other work on the machine is not in it."""
+        with open(run.given, "rb") as stdin, open(self.folder / "out", "wb") as stdout:
+            child = subprocess.Popen(run.command, stdin=stdin, stdout=stdout, stderr=subprocess.DEVNULL)
+            _, status, usage = os.wait4(child.pid, 0)
+        child.returncode = os.waitstatus_to_exitcode(status)
+        if child.returncode != run.status:
+            self.fail(f"{run.what}: status {child.returncode}, and not {run.status}")
+        return usage.ru_utime + usage.ru_stime
+
+    def peak(self, run: Run) -> Optional[int]:
+        """The peak memory of a run of its own. (What Python itself is told of a child is never less than its own memory.)"""
+        if TIME is None:
+            return None
+        kilobytes = self.folder / "peak"
+        self.seconds(Run(run.what, [TIME, "-f", "%M", "-o", str(kilobytes), *run.command], run.given, run.status))
+        return int(kilobytes.read_text().split()[-1]) * 1024
+
+    def measure(self, runs: Sequence[Run], times: int) -> List[Measured]:
+        """Measures runs in turns, so that what disturbs one disturbs the others too, and looks at what each writes."""
+        peaks = [self.peak(run) for run in runs]
+        for run in runs:
+            self.seconds(run)
+            if run.out is not None and (self.folder / "out").read_bytes() != run.out:
+                self.fail(f"{run.what}: another output than it should be")
+        seconds = [min(turns) for turns in zip(*([self.seconds(run) for run in runs] for _ in range(times)))]
+        return [Measured(run.what, *rest, run.given.stat().st_size) for run, *rest in zip(runs, seconds, peaks)]
+
+    def small(self, runs: Sequence[Run]) -> List[Measured]:
+        return self.measure(runs, self.runs)
+
+    def large(self, runs: Sequence[Run]) -> List[Measured]:
+        return self.measure(runs, max(3, self.runs // 40))
+
+    def decode(self, idl: Path, operation: str, order: str) -> List[str]:
+        return [self.program, "decode", str(idl), "-", operation, "in", order]
+
+    def encode(self, idl: Path, operation: str, order: str) -> List[str]:
+        return [self.program, "encode", str(idl), "-", operation, "in", order, "1"]
+
+
+# ----------------------------------------------------------------------------------------------------------------------
+# What the program is run on
+
+
+def names(count: int) -> List[str]:
+    return [f"p{number}" for number in range(count)]
+
+
+def operation(name: str, params: Sequence[str]) -> str:
+    return f"  void {name}({', '.join(f'[in] hyper {param}' for param in params)});\n"
+
+
+def interface(operations: Sequence[str]) -> bytes:
+    head = "[uuid(11111111-2222-3333-4444-555555555555)]\ninterface t {\n"
+    return (head + "".join(operations) + "}\n").encode()
+
+
+def large_interface(size: int) -> bytes:
+    """An interface of operations with as many parameters as they may have, of about this many octets, and one without."""
+    operations = [operation("none", [])]
+    length = 0
+    while length < size - 10_000:
+        operations.append(operation(f"f{len(operations)}", names(PARAMETERS)))
+        length += len(operations[-1])
+    return interface(operations)
+
+
+def numbers(seed: int) -> List[int]:
+    chance = random.Random(seed)
+    return [chance.randrange(-(2**63), 2**63) for _ in range(PARAMETERS)]
+
+
+def octets_of(values: Sequence[int], order: str) -> bytes:
+    return struct.pack(f"{'<' if order == 'little' else '>'}{len(values)}q", *values)
+
+
+def text_of(values: Sequence[int]) -> bytes:
+    lines = ["values 1", "op many in"] + [f"{name} = {value}" for name, value in zip(names(len(values)), values)]
+    return "".join(f"{line}\n" for line in lines).encode()
+
+
+def large_text_of(values: Sequence[int], size: int) -> bytes:
+    """The same text with so many blanks behind each token that it has about this many octets."""
+    tokens = text_of(values).split()
+    room = max(1, (size - sum(len(token) for token in tokens)) // len(tokens))
+    chance = random.Random(size)
+    blanks = bytes(chance.choice(b"    \t\r\n") for _ in range(4_096))
+    return b"".join(token + (blanks * (room // len(blanks) + 1))[:room] for token in tokens)
+
+
+# ----------------------------------------------------------------------------------------------------------------------
+# What is told
+
+
+def tell(measured: Measured, base: Optional[Measured] = None, speed: bool = False) -> float:
+    """A line on a run: its time, what it takes beyond another run, its speed, its peak memory. Gives the time beyond."""
+    net = measured.seconds - (base.seconds if base is not None else 0)
+    line = f"{measured.what:<44}{measured.seconds * 1000:9.3f} ms"
+    line += f"  net {net * 1000:9.3f} ms" if base is not None else " " * 18
+    line += f"  {measured.size / MEGABYTE / measured.seconds:8.1f} MB/s" if speed else " " * 15
+    line += f"  peak {measured.peak / MEGABYTE:6.1f} MB" if measured.peak is not None else ""
+    print(line.rstrip())
+    return net
+
+
+def tell_ratio(what: str, over: float, under: float) -> None:
+    """A line on a ratio, with its inverse."""
+    if min(over, under) <= 0:
+        print(f"    {what:<40}   not told from the noise")
+    else:
+        print(f"    {what:<40}{over / under:9.2f}  (1 : {under / over:.2f})")
+
+
+def check_tenfold(bench: Bench, what: str, small: float, large: float) -> None:
+    """Ten times the input may take twelve times the time, start-up apart."""
+    told = f"ten times the input (at most {MOST_TIMES:.0f})"
+    if small < NOISE:
+        print(f"    {told:<40}   not told: a tenth takes less than {NOISE * 1000:.0f} ms")
+        return
+    tell_ratio(told, large, small)
+    if large > MOST_TIMES * small:
+        bench.fail(f"{what}: ten times the input takes {large / small:.1f} times the time")
+
+
+# ----------------------------------------------------------------------------------------------------------------------
+# What is measured
+
+
+def measure_calls(bench: Bench, idl: Path, nothing: Path, encodes: bool) -> Measured:
+    """An operation of 256 hypers, beyond the start-up and the reading of the interface file. Gives the start-up."""
+    values = numbers(1)
+    text = bench.write("values", text_of(values))
+    runs = [
+        Run("start-up (--version)", [bench.program, "--version"], nothing),
+        Run("decode, no parameters, same file", bench.decode(idl, "none", "little"), nothing, 0, b"values 1\nop none in\n"),
+    ]
+    for order in ("little", "big"):
+        octets = bench.write(f"octets.{order}", octets_of(values, order))
+        what = f"{PARAMETERS} hypers, {order}"
+        runs.append(Run(f"decode, {what}", bench.decode(idl, "many", order), octets, 0, text.read_bytes()))
+        if encodes:
+            runs.append(Run(f"encode, {what}", bench.encode(idl, "many", order), text, 0, octets.read_bytes()))
+    start, base, *calls = bench.small(runs)
+    tell(start)
+    tell(base, start)
+    nets = [tell(call, base) for call in calls]
+    if encodes:
+        tell_ratio("encode beside decode, net, little", nets[1], nets[0])
+        tell_ratio("encode beside decode, net, big", nets[3], nets[2])
+    return start
+
+
+def measure_text(bench: Bench, idl: Path, start: Measured, size: int) -> None:
+    """A large text, of blanks for the most part, beside two programs that only read it."""
+    values = numbers(2)
+    small = bench.write("small", large_text_of(values, size // 10))
+    large = bench.write("large", large_text_of(values, size))
+    command = bench.encode(idl, "many", "little")
+    octets = octets_of(values, "little")
+    of_small, of_large, *others = bench.large(
+        [
+            Run("encode, a tenth of the large text", command, small, 0, octets),
+            Run("encode, the large text", command, large, 0, octets),
+            Run("wc -w, the large text", ["wc", "-w"], large),
+            Run("cat, the large text", ["cat"], large),
+        ]
+    )
+    nets = [tell(of_small, start, True), tell(of_large, start, True)]
+    check_tenfold(bench, "encode", *nets)
+    for other in others:
+        tell(other, None, True)
+        tell_ratio(f"encode beside {other.what.split(',')[0]}", of_large.seconds, other.seconds)
+
+
+def measure_octets(bench: Bench, idl: Path, start: Measured) -> None:
+    """Octets up to the limit of a stream, which are read to their end and then refused behind the values."""
+    command = bench.decode(idl, "many", "little")
+    small = bench.write("octets.small", bytes(STREAM_LIMIT // 10))
+    large = bench.write("octets.large", bytes(STREAM_LIMIT))
+    measured = bench.large(
+        [
+            Run("decode, a tenth of the most octets", command, small, 1, b""),
+            Run("decode, the most octets (refused)", command, large, 1, b""),
+        ]
+    )
+    check_tenfold(bench, "decode", *[tell(one, start, True) for one in measured])
+
+
+def measure_files(bench: Bench, nothing: Path, start: Measured) -> None:
+    """Large interface files, and an operation that takes nothing."""
+    small = bench.write("small.idl", large_interface(FILE_LIMIT // 10))
+    large = bench.write("large.idl", large_interface(FILE_LIMIT))
+    out = b"values 1\nop none in\n"
+    of_small, of_large = bench.large(
+        [
+            Run("decode, a tenth of the largest file", bench.decode(small, "none", "little"), nothing, 0, out),
+            Run("decode, the largest interface file", bench.decode(large, "none", "little"), nothing, 0, out),
+        ]
+    )
+    nets = [tell(of_small, start), tell(of_large, start)]
+    check_tenfold(bench, "an interface file", *nets)
+
+
+def has_encode(bench: Bench, idl: Path, nothing: Path) -> bool:
+    """Whether the program has the command: where it has not, it ends with status 2 before all else."""
+    with open(nothing, "rb") as stdin:
+        command = bench.encode(idl, "many", "little")
+        return subprocess.run(command, stdin=stdin, capture_output=True, check=False).returncode != 2
+
+
+def measure(bench: Bench, size: int) -> None:
+    nothing = bench.write("nothing", b"")
+    idl = bench.write("hypers.idl", interface([operation("many", names(PARAMETERS)), operation("none", [])]))
+    encodes = has_encode(bench, idl, nothing)
+    if not encodes:
+        print("The program has no command `encode`: it and large texts are not measured.")
+    start = measure_calls(bench, idl, nothing, encodes)
+    if encodes:
+        measure_text(bench, idl, start, size)
+    measure_octets(bench, idl, start)
+    measure_files(bench, nothing, start)
+
+
+def built() -> Path:
+    """The program itself: the script that builds it is no part of what is measured."""
+    subprocess.run([ROOT / "bin" / "dceidl", "--version"], check=True, stdout=subprocess.DEVNULL)
+    return ROOT / "crates" / "dceidl_program" / "out" / "dceidl_program"
+
+
+def main() -> int:
+    parser = argparse.ArgumentParser(description="Measures the speed and the memory of the program.")
+    parser.add_argument("--program", type=Path)
+    parser.add_argument("--megabytes", type=int, default=100)
+    parser.add_argument("--runs", type=int, default=400)
+    words = parser.parse_args()
+    if not 1 <= words.megabytes <= 256 or words.runs < 1:
+        parser.error("1 to 256 megabytes, and at least one run")
+    with tempfile.TemporaryDirectory() as folder:
+        bench = Bench(words.program.resolve() if words.program else built(), Path(folder), words.runs)
+        measure(bench, words.megabytes * MEGABYTE)
+    return 1 if bench.failures else 0
+
+
+if __name__ == "__main__":
+    sys.exit(main())
