@@ -1,10 +1,11 @@
 -- What a token begins with, and that one token stands first in a text.
-use Rattle.std.proofs.Common.{◌≡◌, ◌≢◌, ℕ, zero, suc, ◌+◌, ◌<◌, ◌^◌, ℤ, pos, negsuc, Bool, true, false, not, ◌&&◌, ◌||◌, cond, eqb, List, [], ◌∷◌, ◌++◌, length, refl, sym, ap, ap₂, subst, ◌∙◌, arith, unsigned_abs}
+use Rattle.std.proofs.Common.{◌≡◌, ◌≢◌, ℕ, zero, suc, ◌+◌, ◌<◌, ◌^◌, ℤ, pos, negsuc, Bool, true, false, not, ◌&&◌, ◌||◌, cond, eqb, List, [], ◌∷◌, ◌++◌, length, refl, sym, ap, ap₂, subst, ◌∙◌, arith, unsigned_abs, length-append, ◌*◌, ◌≤◌, Option, Some, None}
+use Rattle.std.proofs.lemmas.Option.{same_Some}
 use Rattle.std.specs.List.{list_all}
 use Rattle.std.specs.Fmt.{decimal, signed_decimal}
 use Rattle.std.proofs.lemmas.Bool.{cond-true, cond-false, and_parts, and_from, both_ways, or_left, or_right, eqb-true, eq-eqb}
 use Rattle.std.proofs.lemmas.Bool.Decides.{nat_tests}
-use Rattle.value_text.specs.Tokens.{Token, Word, Number, Cell, Str, Uuid, Mark, Spells, is_uuid, is_word, is_word_octet, is_letter, is_digit, is_mark, ends_run, IsString}
+use Rattle.value_text.specs.Tokens.{Token, Word, Number, Cell, Str, Uuid, Mark, Spells, is_uuid, is_word, is_word_octet, is_letter, is_digit, is_mark, ends_run, IsString, character, escape, hex_pair, hex_value, is_hex_digit, is_plain}
 use Rattle.value_text.proofs.Classes.{letter_no_digit, letter_no_mark, digit_no_mark, letter_word}
 use Rattle.value_text.proofs.Runs.{one_run}
 use Rattle.value_text.proofs.Numerals.{Written, written, decimal_digits, digits_are_words, one_decimal}
@@ -57,7 +58,7 @@ begins_as (Number (pos n)) text rest u s =
 begins_as (Number (negsuc n)) text rest u s = record { first = 45; others = decimal (suc n) ++ rest; is = s.0; of_kind = refl }
 begins_as (Cell c) text rest u s = record { first = 64; others = decimal c ++ rest; is = s.0; of_kind = refl }
 begins_as (Str octets) text rest u s = record { first = 34; others = s.0; is = s.1; of_kind = refl }
-begins_as (Uuid id) text rest u s = absurd (both_ways true refl u)
+begins_as (Uuid id) text rest u s = absurd (both_ways true u refl)
 begins_as (Mark m) text rest u s = record { first = m; others = rest; is = s.0; of_kind = mark_kind m s.1 }
 
 same_kind : (t u : Token) (text : List ℕ) → BeginsAs t text → BeginsAs u text → kind t ≡ kind u
@@ -70,20 +71,20 @@ word_octets (c ∷ cs) h =
     and_from (is_word_octet c) (list_all is_word_octet cs) (letter_word c p.0) p.1
 
 -- digits end where the run ends
-one_natural : (m n : ℕ) (rest after : List ℕ) → m < 10 ^ 64 → n < 10 ^ 64 → ends_run rest ≡ true → ends_run after ≡ true → decimal m ++ rest ≡ decimal n ++ after
+pub one_natural : (m n : ℕ) (rest after : List ℕ) → m < 10 ^ 64 → n < 10 ^ 64 → ends_run rest ≡ true → ends_run after ≡ true → decimal m ++ rest ≡ decimal n ++ after
     → (m ≡ n) × (rest ≡ after)
 one_natural m n rest after p q a b e =
     let r = one_run (decimal m) (decimal n) rest after (digits_are_words (decimal m) (decimal_digits m p)) (digits_are_words (decimal n) (decimal_digits n q)) a b e in
     (one_decimal m n p q r.0, r.1)
 
 -- a number that begins with a digit does not begin with a minus
-no_minus : (n : ℕ) (rest after : List ℕ) → n < 10 ^ 64 → decimal n ++ rest ≡ 45 ∷ after → ⊥
+pub no_minus : (n : ℕ) (rest after : List ℕ) → n < 10 ^ 64 → decimal n ++ rest ≡ 45 ∷ after → ⊥
 no_minus n rest after h e =
     let w = written n h in
     let d = and_parts (is_digit w.first) (list_all is_digit w.others) (subst (λ (l : List ℕ). list_all is_digit l ≡ true) w.is w.digits) in
     let e' : w.first ∷ (w.others ++ rest) ≡ 45 ∷ after = ap (λ (l : List ℕ). l ++ rest) (sym w.is) ∙ e in
     let f : w.first ≡ 45 = cc in
-    both_ways (is_digit 45) (ap is_digit (sym f) ∙ d.0) refl
+    both_ways (is_digit 45) refl (ap is_digit (sym f) ∙ d.0)
 
 one_number : (y z : ℤ) (rest after : List ℕ) → unsigned_abs y < 10 ^ 20 → unsigned_abs z < 10 ^ 20 → ends_run rest ≡ true → ends_run after ≡ true → signed_decimal y ++ rest ≡ signed_decimal z ++ after
     → (y ≡ z) × (rest ≡ after)
@@ -120,7 +121,7 @@ one_first t u text rest after a b s r = by t u a b s r (same_kind t u text (begi
       let e : m ∷ rest ≡ n ∷ after = sym s.0 ∙ r.0 in
       let f : m ≡ n = cc in
       (ap (λ (x : ℕ). Mark x) f, cc)
-  by (Uuid v) u a b s r k = absurd (both_ways true refl a)
+  by (Uuid v) u a b s r k = absurd (both_ways true a refl)
   by (Word v) (Number w) a b s r k = cc
   by (Word v) (Cell w) a b s r k = cc
   by (Word v) (Str w) a b s r k = cc
@@ -146,3 +147,41 @@ one_first t u text rest after a b s r = by t u a b s r (same_kind t u text (begi
   by (Mark v) (Cell w) a b s r k = cc
   by (Mark v) (Str w) a b s r k = cc
   by (Mark v) (Uuid w) a b s r k = cc
+
+-- ## What follows is no longer
+
+character_less : (text : List ℕ) (b : ℕ) (after : List ℕ) → character text ≡ Some (b, after) → length after ≤ length text
+character_less [] b after e = cc
+character_less (c ∷ cs) b after e = by (eqb c 92) refl e where
+  pair : (cs : List ℕ) → hex_pair cs ≡ Some (b, after) → length after ≤ length cs
+  pair [] e = cc
+  pair (h ∷ []) e = cc
+  pair (h ∷ l ∷ cs) e = by_pair (is_hex_digit h && is_hex_digit l) e where
+    by_pair : (t : Bool) → cond {A = Option (ℕ × List ℕ)} t (Some (16 * hex_value h + hex_value l, cs)) None ≡ Some (b, after) → length after ≤ length (h ∷ l ∷ cs)
+    by_pair true e = let f : cs ≡ after = ap (λ x. x.1) (same_Some _ _ e) in omega (arith, ap length f)
+    by_pair false e = cc
+  escaped : (cs : List ℕ) → escape cs ≡ Some (b, after) → length after ≤ length cs
+  escaped [] e = cc
+  escaped (d ∷ ds) e = by_mark (eqb d 34 || eqb d 92) (eqb d 120) e where
+    by_mark : (t u : Bool) → cond {A = Option (ℕ × List ℕ)} t (Some (d, ds)) (cond u (hex_pair ds) None) ≡ Some (b, after) → length after ≤ length (d ∷ ds)
+    by_mark true u e = let f : ds ≡ after = ap (λ x. x.1) (same_Some _ _ e) in omega (arith, ap length f)
+    by_mark false true e = omega (arith, pair ds e)
+    by_mark false false e = cc
+  plain : (t : Bool) → cond {A = Option (ℕ × List ℕ)} t (Some (c, cs)) None ≡ Some (b, after) → length after ≤ length (c ∷ cs)
+  plain true e = let f : cs ≡ after = ap (λ x. x.1) (same_Some _ _ e) in omega (arith, ap length f)
+  plain false e = cc
+  by : (t : Bool) → eqb c 92 ≡ t → cond {A = Option (ℕ × List ℕ)} t (escape cs) (cond (is_plain c) (Some (c, cs)) None) ≡ Some (b, after) → length after ≤ length (c ∷ cs)
+  by true h e = omega (arith, escaped cs e)
+  by false h e = plain (is_plain c) e
+
+string_less : (octets body rest : List ℕ) → IsString body octets rest → length rest ≤ length body
+string_less [] body rest s = omega (arith, ap length s)
+string_less (b ∷ bs) body rest s = omega (arith, character_less body b s.0 s.1, string_less bs s.0 rest s.2)
+
+pub spells_less : (t : Token) (text rest : List ℕ) → Spells text t rest → length rest ≤ length text
+spells_less (Word w) text rest s = omega (arith, ap length s.0, length-append w rest)
+spells_less (Number z) text rest s = omega (arith, ap length s.0, length-append (signed_decimal z) rest)
+spells_less (Cell c) text rest s = omega (arith, ap length s.0, length-append (decimal c) rest)
+spells_less (Str octets) text rest s = omega (arith, ap length s.1, string_less octets s.0 rest s.2)
+spells_less (Uuid id) text rest s = omega (arith, ap length s.1, length-append s.0 rest)
+spells_less (Mark m) text rest s = omega (arith, ap length s.0)

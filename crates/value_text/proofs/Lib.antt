@@ -8,3 +8,7 @@ pub mod Firsts
 pub mod OneText
 pub mod PlainGraphs
 pub mod PlainTexts
+pub mod Scanned
+pub mod Shown
+pub mod PlainSteps
+pub mod PlainReading

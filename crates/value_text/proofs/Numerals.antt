@@ -7,7 +7,7 @@ use Rattle.std.proofs.lemmas.List.Folds.{list_all-append}
 use Rattle.std.proofs.lemmas.Bool.{cond-true, cond-false, and_parts, and_from, both_ways, cases_lt, ne_eqb, eqb-true, eq-eqb, le-leb, leb-true}
 use Rattle.std.proofs.lemmas.Option.{same_Some}
 use Rattle.value_text.specs.Tokens.{is_digit, is_word_octet}
-use Rattle.value_text.specs.Scan.{value_from, number_of}
+use Rattle.value_text.specs.Scan.{value_from, is_number, number_of}
 use Rattle.value_text.proofs.Classes.{digit_word, digit_range, range_digit}
 
 -- ## What `decimal` writes
@@ -68,21 +68,22 @@ one_decimal m n p q e = sym (decimal_value m p) ∙ ap (value_from 0) e ∙ deci
 pub number_again : (n : ℕ) → n < 10 ^ 20 → number_of (decimal n) ≡ Some n
 number_again n small =
     let wide : n < 10 ^ 64 = omega (arith, small) in
-    by_list (decimal n) refl (written n wide) (length-decimal-le_wide 20 n small wide (omega arith))
+    by_list (decimal n) refl (written n wide) (length-decimal-le_wide 20 n (omega arith) (omega (arith, small)) (omega (arith, small)))
   where
     by_list : (ds : List ℕ) → decimal n ≡ ds → Written n ds → length ds ≤ 20 → number_of ds ≡ Some n
     by_list [] e w few = let no = w.is in cc
     by_list (c ∷ []) e w few =
         let p = and_parts (is_digit c) true w.digits in
         let value : c - 48 ≡ n = omega (arith, w.value) in
-        cond-true (is_digit c) (Some (c - 48)) None p.0 ∙ ap Some value
+        cond-true (is_number (c ∷ [])) (Some (value_from 0 (c ∷ []))) None (and_from (is_digit c) true p.0 refl) ∙ ap Some w.value
     by_list (c ∷ d ∷ ds) e w few =
         let first : c ≡ w.first = let i = w.is in cc in
         let some : 0 < n = positive (eqb n 0) refl w in
         let other : c ≢ 48 = λ k. w.leading some (sym first ∙ k) in
-        cond-false (eqb c 48) None (cond (nat_le (length (c ∷ d ∷ ds)) 20 && list_all is_digit (c ∷ d ∷ ds)) (Some (value_from 0 (c ∷ d ∷ ds))) None) (ne_eqb c 48 other)
-        ∙ cond-true (nat_le (length (c ∷ d ∷ ds)) 20 && list_all is_digit (c ∷ d ∷ ds)) (Some (value_from 0 (c ∷ d ∷ ds))) None
-        (and_from (nat_le (length (c ∷ d ∷ ds)) 20) (list_all is_digit (c ∷ d ∷ ds)) (le-leb (length (c ∷ d ∷ ds)) 20 few) w.digits)
+        let leading : not (eqb c 48) ≡ true = ap not (ne_eqb c 48 other) in
+        cond-true (is_number (c ∷ d ∷ ds)) (Some (value_from 0 (c ∷ d ∷ ds))) None
+        (and_from (not (eqb c 48)) (nat_le (length (c ∷ d ∷ ds)) 20 && list_all is_digit (c ∷ d ∷ ds)) leading
+        (and_from (nat_le (length (c ∷ d ∷ ds)) 20) (list_all is_digit (c ∷ d ∷ ds)) (le-leb (length (c ∷ d ∷ ds)) 20 few) w.digits))
         ∙ ap Some w.value
       where
         positive : (b : Bool) → eqb n 0 ≡ b → Written n (c ∷ d ∷ ds) → 0 < n
@@ -90,7 +91,7 @@ number_again n small =
             let none : w.others ≡ [] = w.one (omega (arith, eqb-true n 0 z)) in
             let i = w.is in
             cc
-        positive false z w = elim (cases_lt 0 n) [ inl some ↦ some | inr none ↦ absurd (both_ways (eqb n 0) (eq-eqb n 0 (omega (arith, none))) z) ]
+        positive false z w = elim (cases_lt 0 n) [ inl some ↦ some | inr none ↦ absurd (both_ways (eqb n 0) z (eq-eqb n 0 (omega (arith, none)))) ]
 
 -- ## What is read
 
@@ -125,36 +126,36 @@ value_below k n (c ∷ cs) d small =
     let e : k + length (c ∷ cs) ≡ suc k + length cs = omega arith in
     subst (λ x. value_from (n * 10 + (c - 48)) cs + 1 ≤ 10 ^ x) (sym e) h
 
--- what is read as a number is what `decimal` writes of it
-pub number_is : (ds : List ℕ) (n : ℕ) → number_of ds ≡ Some n → (ds ≡ decimal n) × (n < 10 ^ 20)
-number_is [] n e = cc
-number_is (c ∷ []) n e = by_test (is_digit c) refl e where
-  by_test : (b : Bool) → is_digit c ≡ b → cond b (Some (c - 48)) None ≡ Some n → (c ∷ [] ≡ decimal n) × (n < 10 ^ 20)
-  by_test true t e =
-      let range = digit_range c t in
-      let is : c - 48 ≡ n = same_Some _ _ e in
+fits : (k : ℕ) → k ≤ 20 → 10 ^ (0 + k) ≤ 10 ^ 20
+fits k few = let e : (20 - k) + (0 + k) ≡ 20 = omega (arith, few) in subst (λ x. 10 ^ (0 + k) ≤ 10 ^ x) e (power_grows (20 - k) (0 + k))
+
+-- a run that is a number
+module _ (n : ℕ) where
+  pub is_written : (ds : List ℕ) → is_number ds ≡ true → value_from 0 ds ≡ n → (ds ≡ decimal n) × (n < 10 ^ 20)
+  is_written [] h e = cc
+  is_written (c ∷ []) h e =
+      let p = and_parts (is_digit c) true h in
+      let range = digit_range c p.0 in
+      let is : c - 48 ≡ n = omega (arith, e) in
       let low : n < 10 = omega (arith, is, range.1) in
       (ap (λ (x : ℕ). x ∷ []) (omega (arith, is, range.0)) ∙ sym (decimal_digit n low), omega (arith, low))
-  by_test false t e = cc
-number_is (c ∷ d ∷ ds) n e = by_first (eqb c 48) refl e where
-  all : List ℕ
-  all = c ∷ d ∷ ds
-  fits : (k : ℕ) → k ≤ 20 → 10 ^ (0 + k) ≤ 10 ^ 20
-  fits k few = let e : (20 - k) + (0 + k) ≡ 20 = omega (arith, few) in subst (λ x. 10 ^ (0 + k) ≤ 10 ^ x) e (power_grows (20 - k) (0 + k))
-  by_rest : (b : Bool) → (nat_le (length all) 20 && list_all is_digit all) ≡ b → eqb c 48 ≡ false → cond b (Some (value_from 0 all)) None ≡ Some n → (all ≡ decimal n) × (n < 10 ^ 20)
-  by_rest true t z e =
-      let p = and_parts (nat_le (length all) 20) (list_all is_digit all) t in
-      let q = and_parts (is_digit c) (list_all is_digit (d ∷ ds)) p.1 in
+  is_written (c ∷ d ∷ ds) h e =
+      let all : List ℕ = c ∷ d ∷ ds in
+      let p = and_parts (not (eqb c 48)) (nat_le (length all) 20 && list_all is_digit all) h in
+      let r = and_parts (nat_le (length all) 20) (list_all is_digit all) p.1 in
+      let q = and_parts (is_digit c) (list_all is_digit (d ∷ ds)) r.1 in
       let range = digit_range c q.0 in
-      let is : value_from 0 all ≡ n = same_Some _ _ e in
-      let few : length all ≤ 20 = leb-true (length all) 20 p.0 in
-      let below : value_from 0 all + 1 ≤ 10 ^ (0 + length all) = value_below 0 0 all p.1 (omega arith) in
+      let few : length all ≤ 20 = leb-true (length all) 20 r.0 in
+      let below : value_from 0 all + 1 ≤ 10 ^ (0 + length all) = value_below 0 0 all r.1 (omega arith) in
       let low : value_from 0 all < 10 ^ 20 = omega (arith, below, fits (length all) few) in
-      let some : 0 < c - 48 = elim (cases_lt 0 (c - 48)) [ inl s ↦ s | inr none ↦ absurd (both_ways (eqb c 48) (eq-eqb c 48 (omega (arith, none, range.0))) z) ] in
-      let digit : decimal (c - 48) ≡ c ∷ [] = decimal_digit (c - 48) (omega (arith, range.1)) ∙ ap (λ (x : ℕ). x ∷ []) (omega (arith, range.0)) in
-      let back : decimal (value_from (c - 48) (d ∷ ds)) ≡ decimal (c - 48) ++ (d ∷ ds) = value_after (c - 48) (d ∷ ds) some q.1 (omega (arith, low)) in
-      (sym (ap decimal (sym is) ∙ back ∙ ap (λ (l : List ℕ). l ++ (d ∷ ds)) digit), omega (arith, is, low))
-  by_rest false t z e = cc
-  by_first : (b : Bool) → eqb c 48 ≡ b → cond b None (cond (nat_le (length all) 20 && list_all is_digit all) (Some (value_from 0 all)) None) ≡ Some n → (all ≡ decimal n) × (n < 10 ^ 20)
-  by_first true z e = cc
-  by_first false z e = by_rest (nat_le (length all) 20 && list_all is_digit all) refl z e
+      let some : 0 < c - 48 = elim (cases_lt 0 (c - 48)) [ inl s ↦ s | inr none ↦ let z : eqb c 48 ≡ true = eq-eqb c 48 (omega (arith, none, range.0)) in absurd (both_ways false refl (sym (ap not z) ∙ p.0)) ] in
+      let digit : decimal (0 * 10 + (c - 48)) ≡ c ∷ [] = decimal_digit (0 * 10 + (c - 48)) (omega (arith, range.1)) ∙ ap (λ (x : ℕ). x ∷ []) (omega (arith, range.0)) in
+      let back : decimal (value_from 0 all) ≡ decimal (0 * 10 + (c - 48)) ++ (d ∷ ds) = value_after (0 * 10 + (c - 48)) (d ∷ ds) (omega (arith, some)) q.1 (omega (arith, low)) in
+      (sym (ap decimal (sym e) ∙ back ∙ ap (λ (l : List ℕ). l ++ (d ∷ ds)) digit), omega (arith, e, low))
+
+-- what is read as a number is what `decimal` writes of it
+pub number_is : (ds : List ℕ) (n : ℕ) → number_of ds ≡ Some n → (ds ≡ decimal n) × (n < 10 ^ 20)
+number_is ds n e = by (is_number ds) refl e where
+  by : (b : Bool) → is_number ds ≡ b → cond b (Some (value_from 0 ds)) None ≡ Some n → (ds ≡ decimal n) × (n < 10 ^ 20)
+  by true h e = is_written n ds h (same_Some _ _ e)
+  by false h e = cc

@@ -44,8 +44,8 @@ one_cut due text t u rest after a b = by t u a.spelled b.spelled (is_uuid t) (is
   by : (t u : Token) → Spells (skip text) t rest → Spells (skip text) u after → (x y : Bool) → is_uuid t ≡ x → is_uuid u ≡ y → is_uuid t ≡ is_uuid u → (t ≡ u) × (rest ≡ after)
   by (Uuid v) (Uuid w) s r x y p q e = one_uuid v w (skip text) rest after s r
   by t u s r false false p q e = one_first t u (skip text) rest after p q s r
-  by t u s r true false p q e = absurd (both_ways (is_uuid t) p (e ∙ q))
-  by t u s r false true p q e = absurd (both_ways (is_uuid t) (e ∙ q) p)
+  by t u s r true false p q e = absurd (both_ways (is_uuid t) (e ∙ q) p)
+  by t u s r false true p q e = absurd (both_ways (is_uuid t) p (e ∙ q))
   by (Uuid v) u s r true true p q e = by_other u r q where
     by_other : (u : Token) → Spells (skip text) u after → is_uuid u ≡ true → (Uuid v ≡ u) × (rest ≡ after)
     by_other (Uuid w) r q = one_uuid v w (skip text) rest after s r

@@ -1,8 +1,9 @@
 -- Strings: where one that begins at a place ends.
-use Rattle.std.proofs.Common.{◌≡◌, ◌≢◌, ℕ, ◌+◌, ◌*◌, ◌<◌, Bool, true, false, cond, eqb, List, [], ◌∷◌, length, Option, Some, None, option_map, refl, sym, ap, ap₂, subst, ◌∙◌, arith}
+use Rattle.std.proofs.Common.{◌≡◌, ◌≢◌, ℕ, ◌+◌, ◌*◌, ◌<◌, Bool, true, false, cond, eqb, List, [], ◌∷◌, length, Option, Some, None, option_map, MatchOption, refl, sym, ap, ap₂, subst, ◌∙◌, arith}
 use Rattle.std.proofs.lemmas.Option.{same_Some}
+use Rattle.std.proofs.lemmas.Bool.{eqb-true}
 use Rattle.value_text.specs.Tokens.{character, IsString}
-use Rattle.value_text.specs.Scan.{behind_character, HasString}
+use Rattle.value_text.specs.Scan.{behind_character, behind_quote, HasString}
 
 -- the scan of a string has come so far: a string there is a string from the start on, and the other way round
 pub record Reaches (body rest : List ℕ) : Type 0 where
@@ -68,3 +69,21 @@ one_string (b ∷ bs) (c ∷ cs) body after end s t =
     let behind : s.0 ≡ t.0 = ap (λ x. x.1) same in
     let h = one_string bs cs t.0 after end (subst (λ l. IsString l bs after) behind s.2) t.2 in
     (ap₂ (λ x (l : List ℕ). x ∷ l) first h.0, h.1)
+
+pub quote_closes : (body rest after : List ℕ) → Reaches body rest → behind_quote rest ≡ Some after → HasString body after
+quote_closes body [] after r e = cc
+quote_closes body (c ∷ cs) after r e = by (eqb c 34) refl e where
+  by : (b : Bool) → eqb c 34 ≡ b → cond b (Some cs) None ≡ Some after → HasString body after
+  by true h e =
+      let is : c ∷ cs ≡ 34 ∷ after = ap₂ (λ x (l : List ℕ). x ∷ l) (eqb-true c 34 h) (same_Some _ _ e) in
+      closed body after (subst (Reaches body) is r)
+  by false h e = cc
+
+pub no_quote : (rest : List ℕ) → behind_quote rest ≡ None → (after : List ℕ) → rest ≡ 34 ∷ after → ⊥
+no_quote rest e after is = let h : Some after ≡ None = sym (ap behind_quote is) ∙ e in cc
+
+-- what an answer says by its view
+pub match_option : {X Y : Type 0} (view : X → Y) (r : Option X) (P : Type 0) (Q : Y → Type 0) → (option_map view r ≡ None → P) → ((y : Y) → option_map view r ≡ Some y → Q y)
+    → MatchOption r P (λ x. Q (view x))
+match_option view None P Q p q = p refl
+match_option view (Some x) P Q p q = q (view x) refl

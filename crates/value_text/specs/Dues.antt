@@ -1,15 +1,17 @@
 -- What is due in the text of a plain side: one token after another, each fixed but for the numbers.
 -- `d` is what is due, `t` a token, `p` a piece, `z` a number, `n` a name.
-use Rattle.std.specs.Prelude.{◌≡◌, ◌≢◌, ◌⊎◌, ℕ, ◌+◌, ℤ, false, List, [], ◌∷◌, ◌++◌, length, map, codes}
+use Rattle.std.specs.Prelude.{◌≡◌, ◌≢◌, ◌⊎◌, ℕ, ◌+◌, ◌-◌, ℤ, false, List, [], ◌∷◌, ◌++◌, length, map, codes}
 use Rattle.nd_types.specs.declared.types.Operation.{Operation}
 use Rattle.nd_types.specs.declared.types.Param.{Param}
 use Rattle.value_text.specs.declared.fault.TextReason.{TextReason}
 use Rattle.value_text.specs.declared.fault.TextReason.TheVariants as reason
+use Rattle.value_text.specs.declared.fault.TextFault.{TextFault}
+use Rattle.value_text.specs.declared.fault.TextFault.TheVariants as fault
 use Rattle.value_text.specs.declared.stop.Stop.{Stop}
 use Rattle.value_text.specs.declared.stop.Stop.TheVariants as stop
 use Rattle.value_text.specs.Tokens.{Token, Word, Number, Cell, skip, IsCut}
 use Rattle.value_text.specs.Written.{Piece, Name, Other, token_of, word, count_piece, equals}
-use Rattle.value_text.specs.Reads.{Lexeme, Cut, End, Bad, IsNext}
+use Rattle.value_text.specs.Reads.{Lexeme, Cut, End, Bad, IsNext, position_of}
 
 -- this piece, or any number
 pub data Due : Type 0 where
@@ -86,3 +88,16 @@ StopsAt (d ∷ ds) text left why =
 abbrev pub Stops : List Due → List ℕ → Stop → Type 0
 Stops ds text stop.Memory = Unit {0}
 Stops ds text (stop.At left why) = StopsAt ds text left why
+
+-- how many octets are left where reading stopped
+abbrev pub left_by : Stop → ℕ
+left_by stop.Memory = 0
+left_by (stop.At left why) = left
+
+abbrev at_position : ℕ × ℕ → TextReason → TextFault
+at_position p why = fault.At p.0 p.1 why
+
+-- the fault of a text that was not read on there
+abbrev pub fault_by : List ℕ → Stop → TextFault
+fault_by text stop.Memory = fault.Memory
+fault_by text (stop.At left why) = at_position (position_of text (length text - left)) why

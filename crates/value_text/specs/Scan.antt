@@ -28,6 +28,11 @@ behind_character text = option_map (λ x. x.1) (character text)
 abbrev pub HasString : List ℕ → List ℕ → Type 0
 HasString body rest = (octets : List ℕ) × IsString body octets rest
 
+-- what follows a closing quote
+abbrev pub behind_quote : List ℕ → Option (List ℕ)
+behind_quote [] = None
+behind_quote (c ∷ cs) = if c == 34 then Some cs else None
+
 -- ## Numbers
 
 -- the value of digits, behind others that have a value
@@ -35,13 +40,22 @@ abbrev pub value_from : ℕ → List ℕ → ℕ
 value_from n [] = n
 value_from n (c ∷ cs) = value_from (n * 10 + (c - 48)) cs
 
+abbrev is_empty : List ℕ → Bool
+is_empty [] = true
+is_empty (c ∷ cs) = false
+
+-- 0 with more behind it
+abbrev pub leading_zero : List ℕ → Bool
+leading_zero (c ∷ d ∷ ds) = c == 48
+leading_zero run = false
+
+-- 1 to 20 digits, without a leading zero but for 0 itself
+abbrev pub is_number : List ℕ → Bool
+is_number run = not (is_empty run) && (not (leading_zero run) && (nat_le (length run) 20 && list_all is_digit run))
+
 -- the number that a run writes
 abbrev pub number_of : List ℕ → Option ℕ
-number_of [] = None
-number_of (c ∷ []) = if is_digit c then Some (c - 48) else None
-number_of (c ∷ d ∷ ds) =
-    if c == 48 then None
-    else (if nat_le (length (c ∷ d ∷ ds)) 20 && list_all is_digit (c ∷ d ∷ ds) then Some (value_from 0 (c ∷ d ∷ ds)) else None)
+number_of run = if is_number run then Some (value_from 0 run) else None
 
 -- a number of at most 20 digits stands first, and the rest follows it
 pub record IsNatural (text : List ℕ) (n : ℕ) (rest : List ℕ) : Type 0 where
@@ -91,6 +105,11 @@ are_same (lexeme.Word word) (lexeme.Word other) = bytes_eq word.now other.now
 are_same (lexeme.Number z) (lexeme.Number y) = int_eq z y
 are_same (lexeme.Mark c) (lexeme.Mark d) = c == d
 are_same l m = false
+
+-- the number that a lexeme is, if it is one
+abbrev pub shown_number : shown.Lexeme → Option ℤ
+shown_number (lexeme.Number z) = Some z
+shown_number l = None
 
 -- why a lexeme is another than a due token that is no name
 abbrev pub other_reason : shown.Lexeme → TextReason

@@ -42,12 +42,13 @@ fn cell<'a>(text: &'a [u8], digits: &'a [u8]) -> (Lexeme<'a>, &'a [u8])
     requires { text.now ≡ 64 ∷ digits.now }
     ensures { Shows text.now result.0 result.1.now }
 {
-    match natural(digits) {
-        Some((value, rest)) if 0 < value && value <= u128::from(u32::MAX) => {
-            (Lexeme::Cell(value as u32), rest)
-        }
-        _ => (Lexeme::Bad, text),
+    let Some((value, rest)) = natural(digits) else {
+        return (Lexeme::Bad, text);
+    };
+    if value == 0 || value > u128::from(u32::MAX) {
+        return (Lexeme::Bad, text);
     }
+    (Lexeme::Cell(value as u32), rest)
 }
 
 /// A negative number, where `-` stands first and the digits follow.
@@ -55,10 +56,13 @@ fn negative<'a>(text: &'a [u8], digits: &'a [u8]) -> (Lexeme<'a>, &'a [u8])
     requires { text.now ≡ 45 ∷ digits.now }
     ensures { Shows text.now result.0 result.1.now }
 {
-    match natural(digits) {
-        Some((value, rest)) if 0 < value => (Lexeme::Number(-(value as i128)), rest),
-        _ => (Lexeme::Bad, text),
+    let Some((value, rest)) = natural(digits) else {
+        return (Lexeme::Bad, text);
+    };
+    if value == 0 {
+        return (Lexeme::Bad, text);
     }
+    (Lexeme::Number(-(value as i128)), rest)
 }
 
 /// A number without a sign, or what is no token: nothing else begins with this octet.

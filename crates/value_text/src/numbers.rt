@@ -1,7 +1,7 @@
 // Numbers of a value text.
 ghost use Rattle.std.specs.Prelude.{◌≡◌, ◌≤◌, true, ℕ, List, length, MatchOption};
 ghost use Rattle.std.specs.List.{list_all};
-ghost use Rattle.value_text.specs.Scan.{value_from, number_of as number_by, IsNatural};
+ghost use Rattle.value_text.specs.Scan.{value_from, leading_zero, is_number as number_stands, number_of as number_by, IsNatural};
 ghost use Rattle.value_text.specs.Tokens.{is_digit};
 
 use crate::octets::run_end;
@@ -22,15 +22,37 @@ fn value_of(digits: &[u8]) -> u128
     value
 }
 
-/// The number that a run writes: 1 to 20 digits, without a leading zero but for 0 itself.
+/// `0` with more behind it.
+fn has_leading_zero(run: &[u8]) -> bool
+    ensures { result ≡ leading_zero run.now }
+{
+    matches!(run, [b'0', _, ..])
+}
+
+fn all_digits(octets: &[u8]) -> bool
+    ensures { result ≡ list_all is_digit octets.now }
+{
+    octets.iter().all(|octet| octet.is_ascii_digit())
+}
+
+/// 1 to 20 digits, without a leading zero but for 0 itself.
+fn is_number(run: &[u8]) -> bool
+    ensures { result ≡ number_stands run.now }
+{
+    !run.is_empty()
+        && !has_leading_zero(run)
+        && run.len() <= DIGIT_LIMIT
+        && all_digits(run)
+}
+
+/// The number that a run writes, if it writes one.
 fn number_of(run: &[u8]) -> Option<u128>
     ensures { result ≡ number_by run.now }
 {
-    match run {
-        [] => None,
-        [b'0', _, ..] => None,
-        _ => (run.len() <= DIGIT_LIMIT && run.iter().all(|octet| octet.is_ascii_digit()))
-            .then(|| value_of(run)),
+    if is_number(run) {
+        Some(value_of(run))
+    } else {
+        None
     }
 }
 

@@ -10,7 +10,7 @@ ghost use Rattle.nd_grammar.specs.Plain.{number as number_tree, plain_graph};
 ghost use Rattle.value_text.specs.declared.TheConstants.{TEXT_LIMIT};
 ghost use Rattle.value_text.specs.Tokens.{skip};
 ghost use Rattle.value_text.specs.Reads.{ReadsAs, IsFault};
-ghost use Rattle.value_text.specs.Dues.{Due, head_dues, param_dues, Follows, Stops};
+ghost use Rattle.value_text.specs.Dues.{Due, head_dues, param_dues, Follows, Stops, left_by, fault_by};
 
 use crate::TEXT_LIMIT;
 use crate::fault::{TextFault, TextReason};
@@ -80,7 +80,11 @@ fn plain_text(alloc: Global, text: &[u8], operation: &Operation) -> Result<Graph
 }
 
 /// Where a text within its limit was not read on, as a line and a column.
-fn fault_of(text: &[u8], stop: Stop) -> TextFault {
+fn fault_of(text: &[u8], stop: Stop) -> TextFault
+    requires short { length text.now ≤ TEXT_LIMIT }
+    requires within { left_by stop ≤ length text.now }
+    ensures { result ≡ fault_by text.now stop }
+{
     match stop {
         Stop::Memory => TextFault::Memory,
         Stop::At { left, reason } => {

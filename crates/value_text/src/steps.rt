@@ -3,7 +3,7 @@ ghost use Rattle.std.specs.Prelude.{◌≡◌, [], ◌∷◌, true, false, IfOk,
 ghost use Rattle.value_text.specs.declared.stop.Stop.TheVariants as stop;
 ghost use Rattle.value_text.specs.Tokens.{Number, Word, skip, IsCut};
 ghost use Rattle.value_text.specs.Written.{Name, Other};
-ghost use Rattle.value_text.specs.Scan.{shown_token, are_same, is_fixed, other_reason, name_reason, surplus_reason};
+ghost use Rattle.value_text.specs.Scan.{shown_token, shown_number, are_same, is_fixed, other_reason, name_reason, surplus_reason};
 ghost use Rattle.value_text.specs.Dues.{Due, Exactly, AnyNumber, MismatchUnless, Stops};
 
 use crate::fault::TextReason;
@@ -20,6 +20,16 @@ fn is_same(lexeme: Lexeme, wanted: Lexeme) -> bool
         (Lexeme::Number(value), Lexeme::Number(other)) => value == other,
         (Lexeme::Mark(octet), Lexeme::Mark(other)) => octet == other,
         _ => false,
+    }
+}
+
+/// The number that a lexeme is, if it is one.
+fn number_in(lexeme: Lexeme) -> Option<i128>
+    ensures { result ≡ shown_number lexeme.entry }
+{
+    match lexeme {
+        Lexeme::Number(value) => Some(value),
+        _ => None,
     }
 }
 
@@ -96,13 +106,13 @@ pub(crate) fn number(text: &[u8]) -> Result<(i128, &[u8]), Stop>
 {
     let text = skip_blanks(text);
     let (lexeme, rest) = first(text);
-    if let Lexeme::Number(value) = lexeme {
-        return Ok((value, rest));
+    match number_in(lexeme) {
+        Some(value) => Ok((value, rest)),
+        None => Err(Stop::At {
+            left: text.len(),
+            reason: why_other(lexeme),
+        }),
     }
-    Err(Stop::At {
-        left: text.len(),
-        reason: why_other(lexeme),
-    })
 }
 
 /// The end of the text, where a whole graph stands before it that has no cells.

@@ -2,7 +2,7 @@
 ghost use Rattle.std.specs.Prelude.{◌≡◌, ◌<◌, List, ℕ, length, IfSome, MatchOption, Option, Some, None, option_map};
 ghost use Rattle.value_text.specs.Tokens as tokens;
 ghost use Rattle.value_text.specs.Tokens.{IsString};
-ghost use Rattle.value_text.specs.Scan.{behind_character, HasString};
+ghost use Rattle.value_text.specs.Scan.{behind_character, behind_quote as after_quote, HasString};
 
 fn is_hex_digit(octet: u8) -> bool
     ensures { result ≡ tokens.is_hex_digit octet }
@@ -32,6 +32,16 @@ fn behind_character(text: &[u8]) -> Option<&[u8]>
     }
 }
 
+/// What follows a closing quote.
+fn behind_quote(text: &[u8]) -> Option<&[u8]>
+    ensures { option_map (λ rest. rest.now) result ≡ after_quote text.now }
+{
+    match text {
+        [b'"', rest @ ..] => Some(rest),
+        _ => None,
+    }
+}
+
 /// What follows a string, behind its opening quote; none where it is not ended as a string is.
 pub(crate) fn behind_string(body: &[u8]) -> Option<&[u8]>
     ensures { MatchOption result ((octets rest : List ℕ) → IsString body.now octets rest → ⊥) (λ rest. HasString body.now rest.now) }
@@ -40,8 +50,5 @@ pub(crate) fn behind_string(body: &[u8]) -> Option<&[u8]>
     while let Some(after) = behind_character(rest) {
         rest = after;
     }
-    match rest {
-        [b'"', after @ ..] => Some(after),
-        _ => None,
-    }
+    behind_quote(rest)
 }

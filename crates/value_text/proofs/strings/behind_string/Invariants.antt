@@ -2,8 +2,8 @@ use Rattle.std.proofs.Common.{length}
 use Rattle.value_text.proofs.StringEnds.{Reaches}
 use Rattle.value_text.proofs.strings.behind_string.Given as goal
 
-abbrev pub invariant-loop-rest : goal.invariant-loop-rest
-invariant-loop-rest l = Reaches l.body l.rest
+abbrev pub invariant-loop-after : goal.invariant-loop-after
+invariant-loop-after l = Reaches l.body l.rest
 
-abbrev pub decreases-loop-rest : goal.decreases-loop-rest
-decreases-loop-rest l = length l.rest
+abbrev pub decreases-loop-after : goal.decreases-loop-after
+decreases-loop-after l = length l.rest
