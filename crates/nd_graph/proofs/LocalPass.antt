@@ -1,10 +1,9 @@
 -- The local pass, as it goes over a graph, finds the first local misfit.
-use Rattle.std.proofs.Common.{◌≡◌, ℕ, ◌+◌, ◌<◌, ◌≤◌, zero, suc, Bool, true, false, eqb, ltb, List, [], ◌∷◌, ◌++◌, length, drop, get_or, Option, Some, None, refl, ap, ap₂, sym, ◌∙◌, inl, inr, ◌⊎◌, arith, subst, cond, map}
+use Rattle.std.proofs.Common.{◌≡◌, ℕ, ◌+◌, ◌<◌, ◌≤◌, zero, suc, eqb, List, [], ◌∷◌, ◌++◌, length, drop, get_or, Option, Some, None, refl, ap, ap₂, sym, ◌∙◌, arith, subst, cond, map}
 use Rattle.std.specs.List.{slice_get}
 use Rattle.std.proofs.lemmas.Bool.{ne_eqb, eq-eqb, lt-ltb, le-ltb, cond-true, cond-false}
 use Rattle.std.proofs.lemmas.List.{map-append}
 use Rattle.std.proofs.lemmas.Option.{same_Some, slice_get-get_or}
-use Rattle.nd_types.specs.declared.types.Operation.{Operation}
 use Rattle.nd_types.specs.Table.{Table, type_at}
 use Rattle.nd_types.specs.Roots.{Root}
 use Rattle.nd_types.specs.Walk.{NamedRoot, named_root}
@@ -24,7 +23,7 @@ use Rattle.nd_graph.specs.Variables.{root_agreements}
 use Rattle.nd_graph.specs.Homes.{HomeNode, in_home, root_nodes, cell_nodes}
 use Rattle.nd_graph.specs.Misfit.{misfit_of}
 use Rattle.nd_graph.specs.FirstMisfit.{MisfitAt, or_later, at_node, first_node, root_count, first_local}
-use Rattle.nd_graph.specs.Passes.{Tells, lone_node, or_next, at_number, first_in, at_home, first_in_home, first_in_roots, first_in_cells}
+use Rattle.nd_graph.specs.Passes.{Tells, or_next, at_number, first_in, at_home, first_in_home, first_in_roots, first_in_cells}
 
 or_later-assoc : (a b c : Option MisfitAt) → or_later (or_later a b) c ≡ or_later a (or_later b c)
 or_later-assoc None b c = refl

@@ -1,5 +1,5 @@
 -- What the passes over a graph of a plain operation find: no pointers, no attributes, no cell that is reached.
-use Rattle.std.proofs.Common.{◌≡◌, ℕ, ◌+◌, ◌^◌, ◌<◌, ◌≤◌, zero, suc, Bool, true, false, not, ◌&&◌, List, [], ◌∷◌, ◌++◌, length, Option, Some, None, refl, ap, ap₂, sym, ◌∙◌, inl, inr, ◌⊎◌, arith, subst, map}
+use Rattle.std.proofs.Common.{◌≡◌, ℕ, ◌+◌, ◌^◌, ◌<◌, ◌≤◌, zero, suc, Bool, true, List, [], ◌∷◌, ◌++◌, length, Option, Some, None, refl, ap, ap₂, sym, ◌∙◌, arith, subst, map}
 use Rattle.std.specs.Prelude.{All, flat_map}
 use Rattle.std.specs.List.{AllByRecursion, list_all, slice_get}
 use Rattle.std.proofs.lemmas.Bool.{and_parts, and_from}
@@ -12,25 +12,24 @@ use Rattle.nd_types.specs.declared.types.Side.{Side}
 use Rattle.nd_types.specs.declared.types.Side.TheVariants as side
 use Rattle.nd_types.specs.Table.{Table, type_at}
 use Rattle.nd_types.specs.Kinds.{basic_types, is_basic}
-use Rattle.nd_types.specs.Roots.{Root, roots_of, params_from, travels}
+use Rattle.nd_types.specs.Roots.{Root, roots_of, params_from}
 use Rattle.nd_types.specs.Plain.{is_plain_type, IsPlainParam, IsPlainOperation, IsPlainInterface, plain_roots}
 use Rattle.nd_types.proofs.PlainLaws.{all_head, all_tail, plain_roots_in}
 use Rattle.nd_graph.specs.declared.value.Graph.{Graph}
 use Rattle.nd_graph.specs.declared.item.Home.{Home}
 use Rattle.nd_graph.specs.declared.item.Home.TheVariants as home
 use Rattle.nd_graph.specs.declared.misfit.MisfitReason.{MisfitReason}
-use Rattle.nd_graph.specs.declared.misfit.MisfitReason.TheVariants as misfit
 use Rattle.nd_graph.specs.Tree as tree
 use Rattle.nd_graph.specs.Tree.{Tree, Trees, node, none, more, node_count, Label, Referent}
 use Rattle.nd_graph.specs.Agreement.{Agreement}
 use Rattle.nd_graph.specs.Setting.{Setting, root_list, cell_home, Among}
 use Rattle.nd_graph.specs.Nodes.{TypedNode, child_types, child_agreements, first_agreements, rest_agreements, nodes_of, governed_nodes, home_nodes}
-use Rattle.nd_graph.specs.Deferral.{Pending, pointer_by, pointer, home_pointers}
+use Rattle.nd_graph.specs.Deferral.{pointer_by, pointer, home_pointers}
 use Rattle.nd_graph.specs.Variables.{root_agreements}
 use Rattle.nd_graph.specs.Homes.{HomeNode, in_home, root_nodes, cell_nodes, all_nodes, all_pointers, root_pointers, cell_pointers}
 use Rattle.nd_graph.specs.Misfit.{misfit_of, has_shape, has_machine_values}
 use Rattle.nd_graph.specs.Conforms.{Conforms, HasFewNodes, Reached, by_root, by_cell, subject}
-use Rattle.nd_graph.specs.FirstMisfit.{MisfitAt, first_node, first_local, first_shared, IsFirstUnreached, disagreement_of, first_disagreeing, IsFirstMisfit, is_local, is_shared, is_unreached, is_disagreeing}
+use Rattle.nd_graph.specs.FirstMisfit.{MisfitAt, first_local, first_shared, IsFirstUnreached, disagreement_of, first_disagreeing, IsFirstMisfit, is_local, is_unreached}
 use Rattle.nd_graph.specs.Fitting.{setting_of}
 use Rattle.nd_graph.proofs.NodeFacts.{fit_node}
 use Rattle.nd_graph.proofs.Misfits.{all_left, all_both, all_weaker, Without, first-none, none-local, passed_conforms}
@@ -113,8 +112,8 @@ module _ (table : Table) (simple : IsSimple table) where
   ungoverned (t ∷ types) ags n (more (node l ks) ts) h = (
     free_first ags h,
     subst (λ xs. AllByRecursion (λ (x : TypedNode). x.agreements ≡ []) (xs ++ nodes_of table types (rest_agreements ags) (n + 1 + node_count ks) ts))
-    (sym (no_kids t (n + 1) l ks (child_agreements (type_at table t) ks)))
-    (ungoverned types (rest_agreements ags) (n + 1 + node_count ks) ts (free_rest ags h)),
+        (sym (no_kids t (n + 1) l ks (child_agreements (type_at table t) ks)))
+        (ungoverned types (rest_agreements ags) (n + 1 + node_count ks) ts (free_rest ags h)),
   )
 
 -- a root of a plain operation
@@ -192,9 +191,10 @@ module _ (w : Setting) (g : Graph) (simple : IsSimple w.table) (plain : AllByRec
       let rest : List HomeNode = root_nodes w g (i + 1) rs vs in
       let alone : map (in_home (home.Root i)) (kids ++ []) ≡ [] =
       ap (λ xs. map (in_home (home.Root i)) (xs ++ [])) (no_kids w.table simple r.of 1 l ks (child_agreements (type_at w.table r.of) ks)) in
-      let later : AllByRecursion IsFine rest = subst (λ xs. AllByRecursion IsFine (xs ++ rest)) alone a.1 in
-      (value_of_type (type_at w.table r.of) h.0.0 l ks (fit_node w.table g (record { node = 0; of = r.of; agreements = ags; label = l; kids = ks }) a.0).shape,
-       subst (λ xs. AllByRecursion HasValue (xs ++ rest)) (sym alone) (root_values (i + 1) rs vs h.1 later))
+      let later : AllByRecursion IsFine rest = subst (λ xs. AllByRecursion IsFine (xs ++ rest)) alone a.1 in (
+        value_of_type (type_at w.table r.of) h.0.0 l ks (fit_node w.table g (record { node = 0; of = r.of; agreements = ags; label = l; kids = ks }) a.0).shape,
+        subst (λ xs. AllByRecursion HasValue (xs ++ rest)) (sym alone) (root_values (i + 1) rs vs h.1 later),
+      )
 
   -- the numbers of roots are values of the program
   pub plain_values : length g.cells ≡ 0 → first_local w g ≡ None

@@ -1,14 +1,12 @@
 -- What the passes tell is the first misfit.
-use Rattle.std.proofs.Common.{◌≡◌, ℕ, ◌<◌, ◌≤◌, List, [], length, Option, Some, None, ap, ap₂, sym, ◌∙◌, subst}
+use Rattle.std.proofs.Common.{◌≡◌, ℕ, [], None, ap, sym, ◌∙◌, subst}
 use Rattle.nd_graph.specs.declared.value.Graph.{Graph}
 use Rattle.nd_graph.specs.declared.item.Home.{Home}
 use Rattle.nd_graph.specs.declared.misfit.MisfitReason.{MisfitReason}
-use Rattle.nd_graph.specs.declared.misfit.MisfitReason.TheVariants as misfit
 use Rattle.nd_graph.specs.declared.misfit.Misfit.{Misfit}
 use Rattle.nd_graph.specs.declared.misfit.Misfit.TheVariants as answer
 use Rattle.nd_graph.specs.Setting.{Setting, cell_home}
 use Rattle.nd_graph.specs.Homes.{all_pointers}
-use Rattle.nd_graph.specs.Conforms.{Reached}
 use Rattle.nd_graph.specs.FirstMisfit.{MisfitAt, first_local, first_shared, first_disagreeing, IsFirstMisfit, is_local, is_shared, is_unreached, is_disagreeing, IsMisfit, IsOfNoFit}
 use Rattle.nd_graph.specs.Passes.{Tells, TellsUnreached, AreReached}
 use Rattle.nd_graph.proofs.Misfits.{misfit_is_no_fit}

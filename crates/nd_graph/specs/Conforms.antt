@@ -1,7 +1,7 @@
 -- When a graph conforms to a side of an operation, and what a partial graph is.
 -- `w` is a setting, `g` a graph, `p` and `q` are pointers, `c` and `b` numbers of cells, `x` is a node or a cell, `t` a tree,
 -- `l` a label, `a` an agreement.
-use Rattle.std.specs.Prelude.{◌≡◌, ℕ, ◌+◌, ◌^◌, ◌<◌, true, List, [], ◌∷◌, ◌++◌, length, Option, Some, None, map}
+use Rattle.std.specs.Prelude.{◌≡◌, ℕ, ◌+◌, ◌^◌, ◌<◌, true, List, [], ◌∷◌, ◌++◌, length, Some, None, map}
 use Rattle.std.specs.List.{list_all, AllByRecursion}
 use Rattle.nd_types.specs.declared.types.Class.TheVariants.{Full}
 use Rattle.nd_graph.specs.declared.value.Graph.{Graph}
@@ -47,9 +47,13 @@ IsAgreed t a = found_in a.attr t ≡ a.wanted
 abbrev pub AgreesAt : Graph → TypedNode → Type 0
 AgreesAt g x = AllByRecursion (λ t. AllByRecursion (IsAgreed t) x.agreements) (subject g x)
 
+-- the nodes of each value are numbered in 32 bits
+abbrev pub FewNodes : List Tree → Type 0
+FewNodes ts = AllByRecursion (λ t. node_count (more t none) < 2 ^ 32) ts
+
 -- the nodes of each home are numbered in 32 bits
 abbrev pub HasFewNodes : Graph → Type 0
-HasFewNodes g = AllByRecursion (λ t. node_count (more t none) < 2 ^ 32) (g.roots ++ map (λ c. c.val) g.cells)
+HasFewNodes g = FewNodes (g.roots ++ map (λ c. c.val) g.cells)
 
 -- The graph conforms to its operation's side.
 pub record Conforms (w : Setting) (g : Graph) : Type 0 where

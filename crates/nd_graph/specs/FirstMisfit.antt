@@ -2,7 +2,7 @@
 -- home over its nodes. The first failing place of the first failing pass counts.
 -- `w` is a setting, `g` a graph, `x` a node, `p` and `q` are pointers, `c` and `d` numbers of cells, `t` is a subject, `a` an
 -- agreement, `m` a misfit at its place, `h` its home, `n` its node, `r` its reason.
-use Rattle.std.specs.Prelude.{◌≡◌, ℕ, ◌+◌, ◌<◌, ◌≤◌, ℤ, Bool, true, false, not, ◌&&◌, ◌||◌, cond, eqb, ltb, List, [], ◌∷◌, length, Option, Some, None}
+use Rattle.std.specs.Prelude.{◌≡◌, ℕ, ◌<◌, ◌≤◌, Bool, true, false, not, ◌&&◌, cond, eqb, ltb, List, [], ◌∷◌, length, Option, Some, None}
 use Rattle.std.specs.List.{list_any}
 use Rattle.std.specs.Ordering.{int_eq}
 use Rattle.nd_types.specs.declared.types.Class.{Class}
@@ -110,7 +110,8 @@ abbrev pub IsMisfit : Setting → Graph → Misfit → Type 0
 IsMisfit w g answer.Memory = Unit {0}
 IsMisfit w g (answer.At h n r) = IsFirstMisfit w g (record { home = h; node = n; reason = r })
 
--- a place is answered only of a graph that does not conform
+-- a place is answered only of a graph that does not conform: with the other clauses, `fit` is Ok exactly where the graph conforms,
+-- but for want of memory
 abbrev pub IsOfNoFit : Setting → Graph → Misfit → Type 0
 IsOfNoFit w g answer.Memory = Unit {0}
 IsOfNoFit w g (answer.At h n r) = ¬ Conforms w g

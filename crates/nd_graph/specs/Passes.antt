@@ -20,12 +20,12 @@ use Rattle.nd_graph.specs.Misfit.{misfit_of}
 use Rattle.nd_graph.specs.Conforms.{Reached}
 use Rattle.nd_graph.specs.FirstMisfit.{MisfitAt, or_later, IsFirstUnreached}
 
--- what a pass looked for is what is answered; of want of memory nothing is said
+-- an answer tells what a pass has found, with its place and reason; of want of memory nothing is said
 abbrev pub Tells : Option MisfitAt → Misfit → Type 0
 Tells o answer.Memory = Unit {0}
 Tells o (answer.At h n r) = o ≡ Some (record { home = h; node = n; reason = r })
 
--- the same of the third pass: the first cell that is not reached
+-- the same of the third pass: an answer tells the first cell that is not reached
 abbrev pub TellsUnreached : Setting → Graph → Misfit → Type 0
 TellsUnreached w g answer.Memory = Unit {0}
 TellsUnreached w g (answer.At h n r) = (c : ℕ) × IsFirstUnreached w g c × (h ≡ cell_home c) × (n ≡ 0) × (r ≡ misfit.Unreached)

@@ -19,7 +19,8 @@ use std::alloc::Global;
 /// each home fewer than 2^32 nodes. Four passes go over the graph in this order, each over the roots and then the cells, and in
 /// each home over its nodes in order: nodes that have a misfit by themselves, cells that are shared, cells that are not reached,
 /// attributes that disagree (C706, 4.2.18 to 4.2.20). The first failing place of the first failing pass is answered. A wrong number
-/// of roots is a Shape at the first that is missing or too many, behind the misfits of the roots that are there. It takes no memory.
+/// of roots is a Shape at the first that is missing or too many, behind the misfits of the roots that are there. For a plain interface
+/// it takes no memory.
 pub fn fit(
     alloc: Global,
     interface: &Interface,
@@ -99,14 +100,14 @@ fn unreached(
     ensures first { IfErr result (λ e. (o : Operation) → slice_get interface.now.operations op ≡ Some o
         → TellsUnreached (setting_of interface.now o side) graph.now e) }
 {
-    if graph.cells.len() > 0 {
-        return Err(Misfit::At {
+    match graph.cells.get(0) {
+        None => Ok(()),
+        Some(_) => Err(Misfit::At {
             home: Home::Cell(CellId(1)),
             node: 0,
             reason: MisfitReason::Unreached,
-        });
+        }),
     }
-    Ok(())
 }
 
 // The fourth pass: the first node whose attributes state other numbers than are there. A plain interface has no attributes.

@@ -5,7 +5,8 @@ use thiserror::Error;
 /// Why a graph does not conform at a place.
 #[derive(Clone, Copy, Debug, PartialEq, Eq)]
 pub enum MisfitReason {
-    /// The value has not the form of its type, or there are too few or too many roots.
+    /// The value has not the form of its type (the variant, a struct's number of members, whether a union's arm is there), its
+    /// cell's type is none of the interface, or there are too few or too many roots.
     Shape,
     /// A number or tag is no value of its type.
     Range,

@@ -1,4 +1,4 @@
-use Rattle.std.proofs.Common.{◌≡◌, ◌∙◌, sym}
+use Rattle.std.proofs.Common.{◌∙◌}
 use Rattle.std.proofs.lemmas.Result.{err_from_is_err_and, IfErr-weaker, on_ok_weaker}
 use Rattle.nd_graph.specs.Fitting.{setting_of}
 use Rattle.nd_graph.proofs.LocalPass.{local_first, tells_first, tells_later, later_left}

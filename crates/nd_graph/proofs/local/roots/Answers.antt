@@ -1,4 +1,4 @@
-use Rattle.std.proofs.Common.{◌≡◌, ◌+◌, ◌∙◌, ◌≤◌, length, refl, ap, drop, sym, arith}
+use Rattle.std.proofs.Common.{◌∙◌, ◌≤◌, length, refl, arith}
 use Rattle.std.proofs.lemmas.List.{length_push}
 use Rattle.std.proofs.lemmas.Result.{err_from_is_err_and}
 use Rattle.std.proofs.lemmas.Iterator.Consumers.{YieldsList-from_first, YieldsList-turn, YieldsList-end}
@@ -53,16 +53,16 @@ pub loop-root-preserved : goal.loop-root-preserved
 loop-root-preserved c = record {
   counted = let n = length_push c.loop-root.yielded c.in-Some.root in omega (arith, n, c.loop-root.invariant.counted);
   left = λ o there.
-    let i = c.args.interface.now in
-    let g = c.args.graph.now in
-    let all = named_roots i.types c.args.side o in
-    let walk = YieldsList-from_first root_value (λ w. w) all (c.into_iter-root-iterator.ensures.into_iter_gives ∙ c.params-root-items.ensures o there) in
-    let turn = YieldsList-turn walk c.loop-root.yielded _ c.loop-root.yielded_by _ _ c.in-Some.root c.in-Some.is c.next.ensures.steps in
-    let root = given_root _ c.loop-root.at _ (root_value c.in-Some.root) c.loop-root.invariant.counted turn in
-    later_left _ _ _
-    (c.loop-root.invariant.left o there
-    ∙ root_next i.types g all g.roots c.loop-root.at (root_value c.in-Some.root) (tree_of c.in-Some-get.val.now) root c.in-Some-get.ensures.some)
-    c.in_ok-home.ensures.none;
+      let i = c.args.interface.now in
+      let g = c.args.graph.now in
+      let all = named_roots i.types c.args.side o in
+      let walk = YieldsList-from_first root_value (λ w. w) all (c.into_iter-root-iterator.ensures.into_iter_gives ∙ c.params-root-items.ensures o there) in
+      let turn = YieldsList-turn walk c.loop-root.yielded _ c.loop-root.yielded_by _ _ c.in-Some.root c.in-Some.is c.next.ensures.steps in
+      let root = given_root _ c.loop-root.at _ (root_value c.in-Some.root) c.loop-root.invariant.counted turn in
+      later_left _ _ _
+      (c.loop-root.invariant.left o there
+      ∙ root_next i.types g all g.roots c.loop-root.at (root_value c.in-Some.root) (tree_of c.in-Some-get.val.now) root c.in-Some-get.ensures.some)
+      c.in_ok-home.ensures.none;
 }
 
 pub returns-then-len-at-clause-first : goal.returns-then-len-at-clause-first
