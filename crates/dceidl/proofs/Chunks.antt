@@ -1,4 +1,4 @@
--- The count of a chunk that a word names, from what parsing the word gives.
+-- How many elements of a chunk a word asks for, from what parsing the word gives.
 use Rattle.std.proofs.Common.{◌≡◌, ℕ, ◌<◌, ◌≤◌, ◌^◌, true, false, Bool, List, [], ◌∷◌, Option, Some, None, Result, Ok, Err, refl, sym, ◌∙◌, ap, ap₂, arith, decimal}
 use Rattle.std.specs.Prelude.{◌&&◌, leb, nat_eq, if◌then◌else◌}
 use Rattle.std.specs.Cmp.Lexicographic.{pointwise}
@@ -27,7 +27,7 @@ same_word (x ∷ xs) (y ∷ ys) h =
 own : IsNumeralModel (AllDigits 10) (digits_value 10)
 own = record { to = λ ds p. p; from = λ ds p. p; same = λ ds p. refl }
 
--- a number is a count whose digits are the word
+-- a number is within the limit, and the word is its digits
 abbrev is_count : List ℕ → ℕ → Bool
 is_count word n = is_word word (decimal n) && leb 1 n && leb n CHUNK_LIMIT
 

@@ -6,4 +6,6 @@ pub mod Statuses
 pub mod Sound
 pub mod SoundDecode
 pub mod PlainTexts
+pub mod WholeMisfits
 pub mod SoundEncode
+pub mod RoundTrip

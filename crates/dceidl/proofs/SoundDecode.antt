@@ -29,7 +29,7 @@ use Rattle.dceidl.specs.Rows.{IsAccepted, Refuses}
 use Rattle.dceidl.proofs.Causes.{take_whole}
 use Rattle.dceidl.proofs.Sound.{Settled, settled_done, settled_refused, settled_wanting, told_as}
 
-whole_begins : (w : Setting) (order : Order) (octets : List ℕ) (g : Graph) → Represents w order octets g → Conforms w g
+pub whole_begins : (w : Setting) (order : Order) (octets : List ℕ) (g : Graph) → Represents w order octets g → Conforms w g
     → BeginsWith w order octets (length octets) g
 whole_begins w order octets g r c = record {
   within = omega arith;

@@ -6,17 +6,18 @@ use Rattle.dceidl.specs.declared.task.Task.TheVariants.{Decode, Encode}
 use Rattle.dceidl.specs.declared.words.Command.{Command}
 use Rattle.dceidl.specs.declared.words.Command.TheVariants.{Work, Help, Version}
 
+-- the command that one of the code stands for
 abbrev pub asked : Command → words.Command
 asked (Work task idl op) = words.Work task idl.now op.now
 asked Help = words.Help
 asked Version = words.Version
 
--- a chunk has an element at least
+-- a chunk of a pipe is to have an element at least
 abbrev pub HasChunk : Task → Type 0
 HasChunk (Decode order) = ⊤
 HasChunk (Encode order chunk) = 1 ≤ chunk
 
--- so have the chunks of a command
+-- the same of a command
 abbrev pub AsksChunk : Command → Type 0
 AsksChunk (Work task idl op) = HasChunk task
 AsksChunk _ = ⊤

@@ -51,6 +51,8 @@ pub record IsBadValue (w : Setting) (text path : List ℕ) (reason : MisfitReaso
   pub graph : Graph
   pub reads : ReadsAs w text graph
   pub misfit : IsMisfitAt w graph path reason
+  -- so far each value is a number, which is its home's only node
+  pub whole : misfit.node ≡ 0
 
 -- why a text is refused; where memory was wanting no more is said
 abbrev pub IsTextCause : Setting → List ℕ → Refusal → Type 0

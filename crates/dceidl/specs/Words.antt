@@ -8,6 +8,7 @@ use Rattle.dceidl.specs.declared.TheConstants.{CHUNK_LIMIT}
 use Rattle.dceidl.specs.declared.task.Task.{Task}
 use Rattle.dceidl.specs.declared.task.Task.TheVariants.{Decode, Encode}
 
+-- what the words of a command line ask for
 pub data Command : Type 0 where
   -- a task on the [in] parameters of an operation of an interface file
   Work : (task : Task) (idl op : List ℕ) → Command
@@ -24,18 +25,20 @@ order_of word =
     if is_word word (codes "little") then Some Little
     else if is_word word (codes "big") then Some Big else None
 
--- a number within the limit of a chunk whose digits are this word
+-- the number of elements of a chunk whose digits are this word, where it is within its limit
 abbrev pub chunk_by : List ℕ → ℕ → Option ℕ
 chunk_by word n = if is_word word (decimal n) && leb 1 n && leb n CHUNK_LIMIT then Some n else None
 
--- the count of a chunk that a word names, in decimal digits without a sign or a leading zero
+-- the number of elements of a chunk that a word names, in decimal digits without a sign or a leading zero
 abbrev pub chunk_of : List ℕ → Option ℕ
 chunk_of word = chunk_by word (digits_value 10 word)
 
+-- the task of decoding, where a word names an order
 abbrev pub decoding : Option Order → Option Task
 decoding None = None
 decoding (Some order) = Some (Decode order)
 
+-- the task of encoding, where words name an order and the number of elements of a chunk
 abbrev pub encoding : Option Order → Option ℕ → Option Task
 encoding (Some order) (Some chunk) = Some (Encode order chunk)
 encoding _ _ = None

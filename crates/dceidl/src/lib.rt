@@ -5,6 +5,7 @@ mod decode;
 mod encode;
 mod input;
 mod join;
+pub mod laws;
 mod lines;
 mod outcome;
 mod ready;
@@ -21,7 +22,7 @@ pub use task::Task;
 pub use top::{Status, run};
 pub use words::Words;
 
-/// The greatest count of a pipe's chunk.
+/// The most elements that a chunk of a pipe may be asked to have.
 pub const CHUNK_LIMIT: u32 = 16_777_216;
 
 /// What `--help` prints.

@@ -24,7 +24,7 @@ use value_text::TEXT_LIMIT;
 pub enum Task {
     /// The octets of the input are decoded, and their values written as text.
     Decode { order: Order },
-    /// The text of the input is read, and its values encoded. `chunk` is the count of a pipe's chunks.
+    /// The text of the input is read, and its values encoded. `chunk` is how many elements each chunk of a pipe has.
     Encode { order: Order, chunk: u32 },
 }
 

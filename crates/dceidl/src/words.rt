@@ -148,7 +148,7 @@ fn order_named(word: &str) -> Option<Order>
     }
 }
 
-// The count of a chunk that a word names.
+// How many elements of a chunk a word asks for.
 fn chunk_named(word: &str) -> Option<u32>
     ensures number { result ≡ chunk_of word.now }
     ensures some { IfSome result (λ n. 1 ≤ n) }
@@ -159,7 +159,7 @@ fn chunk_named(word: &str) -> Option<u32>
     }
 }
 
-// A number, where its digits are the word and it is the count of a chunk.
+// A number, where its digits are the word and a chunk may have so many elements.
 fn chunk_of_digits(word: &str, number: u32) -> Option<u32>
     ensures number { result ≡ chunk_by word.now number }
     ensures some { IfSome result (λ n. 1 ≤ n) }

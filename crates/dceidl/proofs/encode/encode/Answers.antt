@@ -11,7 +11,7 @@ returns-in-Ok-clause-done c o there =
 
 pub returns-in-Ok-clause-refused : goal.returns-in-Ok-clause-refused
 returns-in-Ok-clause-refused c o there =
-    text_refused (inputs_of c.args.ready.now.interface o) c.args.text.now c.in-Ok.graph (c.in-Ok.ensures.read o there)
+    text_refused c.args.ready.now.interface c.args.ready.now.number o c.requires.plain there c.args.text.now c.in-Ok.graph (c.in-Ok.ensures.read o there)
     c.encode_graph.result (c.encode_graph.ensures.refused o there)
 
 pub returns-in-Err-At-clause-refused : goal.returns-in-Err-At-clause-refused
