@@ -1,4 +1,4 @@
--- What `decode` answers, from what its steps answer.
+-- What a task answers, from what its steps answer.
 use Rattle.std.proofs.Common.{◌≡◌, ℕ, zero, suc, ◌+◌, ◌<◌, ◌≤◌, true, List, [], ◌∷◌, length, Option, Some, None, Result, Ok, Err, IfOk, IfErr, refl, sym, ◌∙◌, ap, subst, inl, inr, ◌⊎◌, take, arith}
 use Rattle.std.specs.Prelude.{⊤}
 use Rattle.std.specs.List.{slice_get}
@@ -17,11 +17,15 @@ use Rattle.nd_grammar.specs.Prefix.{BeginsWith}
 use Rattle.plain_idl.specs.Plain.{IsPlainFile}
 use Rattle.plain_ndr.specs.Decoding.{inputs_of}
 use Rattle.value_text.specs.Printed.{IsText}
-use Rattle.dceidl.specs.declared.decode.Ready.{Ready}
-use Rattle.dceidl.specs.declared.decode.Refusal.{Refusal}
-use Rattle.dceidl.specs.declared.decode.Refusal.TheVariants.{Memory, Absent, FileFailed, NotBuilt, NoOperation, ReadFault, BadOctets}
+use Rattle.dceidl.specs.declared.ready.Ready.{Ready}
+use Rattle.dceidl.specs.declared.task.Task.{Task}
+use Rattle.dceidl.specs.declared.task.Task.TheVariants.{Decode, Encode}
+use Rattle.dceidl.specs.declared.refusal.Refusal.{Refusal}
+use Rattle.dceidl.specs.declared.refusal.Refusal.TheVariants.{Memory, Absent, FileFailed, NotBuilt, NoOperation, ReadFault, BadOctets, BadText, BadValue}
 use Rattle.dceidl.specs.Outside.{FilesSeen, SourceSeen}
-use Rattle.dceidl.specs.Decode.{IsReady, IsFileCause, IsInputCause, IsOctetsCause, IsCause, IsDecoded, IsDecoding, IsNoInterface, IsRead}
+use Rattle.dceidl.specs.Ready.{IsReady, IsFileCause, IsNoInterface}
+use Rattle.dceidl.specs.Decode.{IsDecoding}
+use Rattle.dceidl.specs.Task.{limit_of, IsRead, IsMade, IsContentCause, IsInputCause, IsCause, IsMadeOfInput}
 
 item_at : {X : Type 0} (xs : List X) (i : ℕ) → i < length xs → (x : X) × (slice_get xs i ≡ Some x)
 item_at [] i h = absurd (omega (arith, h))
@@ -47,6 +51,8 @@ no_interface f idl op file content NotBuilt cause = (file, content, cause)
 no_interface f idl op file content NoOperation cause = (file, content, cause)
 no_interface f idl op file content ReadFault cause = absurd cause
 no_interface f idl op file content (BadOctets place why) cause = absurd cause
+no_interface f idl op file content (BadText line column reason) cause = absurd cause
+no_interface f idl op file content (BadValue path reason) cause = absurd cause
 
 -- a file that is refused is refused for its content
 pub file_refused : (f : FilesSeen) (idl op file : List ℕ) → IsContent f.held idl file → (result : Result Ready Refusal)
@@ -71,20 +77,39 @@ decoding_is w order octets taken g begins (Ok text) is_text whole = record {
 }
 decoding_is w order octets taken g begins (Err e) is_text whole = tt
 
--- the input was read, and its octets decoded
-pub decoded_is : (s : SourceSeen) (w : Setting) (order : Order) (octets : List ℕ) → IsRead s octets → (result : Result (List ℕ) Refusal)
-    → IfOk result (IsDecoding w order octets) → IfOk result (IsDecoded s w order)
-decoded_is s w order octets read (Ok text) decoding = record { octets = octets; read = read; decoding = decoding }
-decoded_is s w order octets read (Err e) decoding = tt
+-- the input was read, and something made of it
+pub made_of_input : (s : SourceSeen) (w : Setting) (task : Task) (octets : List ℕ) → IsRead s (limit_of task) octets → (result : Result (List ℕ) Refusal)
+    → IfOk result (IsMade task w octets) → IfOk result (IsMadeOfInput s task w)
+made_of_input s w task octets read (Ok made) is_made = record { octets = octets; read = read; is_made = is_made }
+made_of_input s w task octets read (Err e) is_made = tt
 
--- what is ready was decoded, or refused
-pub run_is : (f : FilesSeen) (s : SourceSeen) (idl op : List ℕ) (order : Order) (i : Interface) (n : ℕ) (o : Operation) → IsReady f idl op i n o
-    → (result : Result (List ℕ) Refusal) → IfOk result (IsDecoded s (inputs_of i o) order)
-    → IfOk result (λ text. (i' : Interface) × (n' : ℕ) × (o' : Operation) × IsReady f idl op i' n' o' × IsDecoded s (inputs_of i' o') order text)
-run_is f s idl op order i n o ready (Ok text) decoded = (i, n, o, ready, decoded)
-run_is f s idl op order i n o ready (Err e) decoded = tt
+content_cause : (s : SourceSeen) (w : Setting) (task : Task) (octets : List ℕ) → IsRead s (limit_of task) octets → (e : Refusal)
+    → IsContentCause task w octets e → IsInputCause s task w e
+content_cause s w task octets read Memory cause = tt
+content_cause s w (Decode order) octets read ReadFault cause = absurd cause
+content_cause s w (Encode order chunk) octets read ReadFault cause = absurd cause
+content_cause s w task octets read Absent cause = (octets, read, cause)
+content_cause s w task octets read FileFailed cause = (octets, read, cause)
+content_cause s w task octets read NotBuilt cause = (octets, read, cause)
+content_cause s w task octets read NoOperation cause = (octets, read, cause)
+content_cause s w task octets read (BadOctets place why) cause = (octets, read, cause)
+content_cause s w task octets read (BadText line column reason) cause = (octets, read, cause)
+content_cause s w task octets read (BadValue path reason) cause = (octets, read, cause)
 
-pub run_refused : (f : FilesSeen) (s : SourceSeen) (idl op : List ℕ) (order : Order) (i : Interface) (n : ℕ) (o : Operation) → IsReady f idl op i n o
-    → (result : Result (List ℕ) Refusal) → IfErr result (IsInputCause s (inputs_of i o) order) → IfErr result (IsCause f s idl op order)
-run_refused f s idl op order i n o ready (Ok text) cause = tt
-run_refused f s idl op order i n o ready (Err e) cause = inr (i, n, o, ready, cause)
+-- octets of the input that are refused are an input that is refused
+pub input_refused : (s : SourceSeen) (w : Setting) (task : Task) (octets : List ℕ) → IsRead s (limit_of task) octets → (result : Result (List ℕ) Refusal)
+    → IfErr result (IsContentCause task w octets) → IfErr result (IsInputCause s task w)
+input_refused s w task octets read (Ok made) cause = tt
+input_refused s w task octets read (Err e) cause = content_cause s w task octets read e cause
+
+-- where the file is ready, the task was done or refused by the input
+pub task_done : (f : FilesSeen) (s : SourceSeen) (task : Task) (idl op : List ℕ) (i : Interface) (n : ℕ) (o : Operation) → IsReady f idl op i n o
+    → (result : Result (List ℕ) Refusal) → IfOk result (IsMadeOfInput s task (inputs_of i o))
+    → IfOk result (λ made. (i' : Interface) × (n' : ℕ) × (o' : Operation) × IsReady f idl op i' n' o' × IsMadeOfInput s task (inputs_of i' o') made)
+task_done f s task idl op i n o ready (Ok made) of_input = (i, n, o, ready, of_input)
+task_done f s task idl op i n o ready (Err e) of_input = tt
+
+pub task_refused : (f : FilesSeen) (s : SourceSeen) (task : Task) (idl op : List ℕ) (i : Interface) (n : ℕ) (o : Operation) → IsReady f idl op i n o
+    → (result : Result (List ℕ) Refusal) → IfErr result (IsInputCause s task (inputs_of i o)) → IfErr result (IsCause f s task idl op)
+task_refused f s task idl op i n o ready (Ok made) cause = tt
+task_refused f s task idl op i n o ready (Err e) cause = inr (i, n, o, ready, cause)

@@ -1,3 +1,11 @@
 pub mod Causes
+pub mod Chunks
+pub mod Encodings
 pub mod Rows
+pub mod Statuses
 pub mod Sound
+pub mod SoundDecode
+pub mod PlainTexts
+pub mod WholeMisfits
+pub mod SoundEncode
+pub mod RoundTrip

@@ -1,11 +1,10 @@
--- What a run of `decode` says by itself, from the whole of a run.
+-- What a run of a task says by itself, from the whole of a run.
 use Rattle.std.proofs.Common.{◌≡◌, ℕ, zero, suc, ◌+◌, ◌<◌, ◌≤◌, ◌-◌, true, List, [], ◌∷◌, ◌++◌, length, Option, Some, None, refl, sym, ◌∙◌, ap, subst, inl, inr, ◌⊎◌, take, drop, arith, codes, length-append, lit≤, lit<}
 use Rattle.std.specs.Prelude.{⊤, ◌≢◌}
 use Rattle.std.specs.List.{slice_get}
 use Rattle.std.proofs.lemmas.Option.{same_Some}
 use Rattle.std.specs.Io.KnownBytes.{Consumes, IsAtEnd, Appends}
 use Rattle.nd_base.specs.Outside.{IsContent, IsMissing}
-use Rattle.nd_base.specs.declared.octets.Order.{Order}
 use Rattle.nd_types.specs.declared.interface.Interface.{Interface}
 use Rattle.nd_types.specs.declared.types.Operation.{Operation}
 use Rattle.nd_types.specs.Operations.{operation_named}
@@ -15,45 +14,44 @@ use Rattle.nd_grammar.specs.Represents.{Represents}
 use Rattle.nd_grammar.specs.Prefix.{BeginsWith}
 use Rattle.plain_idl.specs.Plain.{IsPlainFile}
 use Rattle.plain_ndr.specs.Decoding.{inputs_of}
-use Rattle.dceidl.specs.declared.decode.Refusal.{Refusal}
-use Rattle.dceidl.specs.declared.decode.Refusal.TheVariants.{Memory, Absent, FileFailed, NotBuilt, NoOperation, ReadFault, BadOctets}
-use Rattle.dceidl.specs.declared.decode.OctetsFault.TheVariants as fault
+use Rattle.dceidl.specs.declared.task.Task.{Task}
+use Rattle.dceidl.specs.declared.refusal.Refusal.{Refusal}
+use Rattle.dceidl.specs.declared.refusal.Refusal.TheVariants.{Memory, Absent, FileFailed, NotBuilt, NoOperation, ReadFault, BadOctets, BadText, BadValue}
 use Rattle.dceidl.specs.declared.outcome.Outcome.{Outcome}
 use Rattle.dceidl.specs.declared.outcome.Outcome.TheVariants.{Done, Refused, Wanting}
 use Rattle.dceidl.specs.Outside.{FilesSeen, SourceSeen, SinkSeen, HasRisen, Got, IsAsBefore}
-use Rattle.dceidl.specs.Words.{Command, command, Decode}
-use Rattle.dceidl.specs.Decode.{IsReady, IsFileCause, IsInputCause, IsOctetsCause, IsCause, IsDecoded, IsDecoding, IsNoInterface, IsRead, IsRefusedAt, IsTrailing, IsNamed}
+use Rattle.dceidl.specs.Words.{Command, command, Work}
 use Rattle.dceidl.specs.Lines.{status_of, line_of}
-use Rattle.dceidl.specs.Run.{HasRun, IsOutcome, IsDelivered, IsDecodeOutcome, IsGiven, IsTold}
+use Rattle.dceidl.specs.Run.{HasRun, IsOutcome, IsDelivered, IsTaskOutcome, IsGiven, IsTold}
 use Rattle.dceidl.specs.Rows.{IsDone, IsRefused}
 
--- How a run of `decode` ends: done, refused, for want of memory, or with a fault of out or notes in place of its own status.
-pub data Ended (f : FilesSeen) (s : SourceSeen) (out notes : SinkSeen) (idl op : List ℕ) (order : Order) (status : ℕ) : Type 0 where
-  ended_done : status ≡ 0 → IsDone f s out notes idl op order → Ended f s out notes idl op order status
-  ended_refused : IsRefused f s out notes idl op order status → Ended f s out notes idl op order status
-  ended_wanting : status ≡ 5 → Ended f s out notes idl op order status
-  ended_unwritten : status ≡ 4 → HasRisen out.faults → Ended f s out notes idl op order status
-  ended_untold : status ≡ 4 → HasRisen notes.faults → Ended f s out notes idl op order status
+-- How a run of a task ends: done, refused, for want of memory, or with a fault of out or notes in place of its own status.
+pub data Ended (f : FilesSeen) (s : SourceSeen) (out notes : SinkSeen) (task : Task) (idl op : List ℕ) (status : ℕ) : Type 0 where
+  ended_done : status ≡ 0 → IsDone f s out notes task idl op → Ended f s out notes task idl op status
+  ended_refused : IsRefused f s out notes task idl op status → Ended f s out notes task idl op status
+  ended_wanting : status ≡ 5 → Ended f s out notes task idl op status
+  ended_unwritten : status ≡ 4 → HasRisen out.faults → Ended f s out notes task idl op status
+  ended_untold : status ≡ 4 → HasRisen notes.faults → Ended f s out notes task idl op status
 
-module _ (f : FilesSeen) (s : SourceSeen) (out notes : SinkSeen) (idl op : List ℕ) (order : Order) (status : ℕ) where
+module _ (f : FilesSeen) (s : SourceSeen) (out notes : SinkSeen) (task : Task) (idl op : List ℕ) (status : ℕ) where
   abbrev End : Type 0
-  End = Ended f s out notes idl op order status
+  End = Ended f s out notes task idl op status
 
-  by_outcome : (outcome : Outcome) → IsDecodeOutcome f s idl op order outcome → IsDelivered out notes outcome status → End
-  by_outcome (Done text) (i, n, o, ready, decoded) (inl (is, given, quiet)) =
-      ended_done is (record { interface = i; number = n; operation = o; ready = ready; text = text; decoded = decoded; given = given; quiet = quiet })
-  by_outcome (Done text) caused (inr (is, rose, some, warned)) = ended_unwritten is rose
+  by_outcome : (outcome : Outcome) → IsTaskOutcome f s task idl op outcome → IsDelivered out notes outcome status → End
+  by_outcome (Done made) (i, n, o, ready, of_input) (inl (is, given, quiet)) =
+      ended_done is (record { interface = i; number = n; operation = o; ready = ready; made = made; of_input = of_input; given = given; quiet = quiet })
+  by_outcome (Done made) caused (inr (is, rose, some, warned)) = ended_unwritten is rose
   by_outcome (Refused own line) (r, cause, is_own, is_line) (before, inl (is, told)) =
       ended_refused (record { refusal = r; cause = cause; own_status = is ∙ is_own; line = subst (Got notes) is_line told; nothing_given = before })
   by_outcome (Refused own line) caused (before, inr (is, rose, some)) = ended_untold is rose
   by_outcome Wanting caused (before, inl (is, told)) = ended_wanting is
   by_outcome Wanting caused (before, inr (is, rose, some)) = ended_untold is rose
 
-  pub ended : (words : List (List ℕ)) → command words ≡ Some (Decode idl op order) → HasRun words f s out notes status → End
+  pub ended : (words : List (List ℕ)) → command words ≡ Some (Work task idl op) → HasRun words f s out notes status → End
   ended words is run = by_outcome run.outcome (subst (λ c. IsOutcome f s c run.outcome) is run.caused) run.delivered
 
-  -- status 0 is a decoding
-  pub done_is : End → status ≡ 0 → IsDone f s out notes idl op order
+  -- status 0 is a task that was done
+  pub done_is : End → status ≡ 0 → IsDone f s out notes task idl op
   done_is (ended_done is d) e = d
   done_is (ended_refused r) e = absurd (own r.refusal (sym r.own_status ∙ e))
     where
@@ -65,6 +63,8 @@ module _ (f : FilesSeen) (s : SourceSeen) (out notes : SinkSeen) (idl op : List 
       own NoOperation e' = cc
       own ReadFault e' = cc
       own (BadOctets place why) e' = cc
+      own (BadText line column reason) e' = cc
+      own (BadValue path reason) e' = cc
   done_is (ended_wanting is) e = absurd (five is e)
     where
       five : status ≡ 5 → status ≡ 0 → ⊥
@@ -79,7 +79,7 @@ module _ (f : FilesSeen) (s : SourceSeen) (out notes : SinkSeen) (idl op : List 
       four a b = cc
 
   -- any other status than 0, 4 and 5 is a refusal
-  pub refused_is : End → status ≢ 0 → status ≢ 4 → status ≢ 5 → IsRefused f s out notes idl op order status
+  pub refused_is : End → status ≢ 0 → status ≢ 4 → status ≢ 5 → IsRefused f s out notes task idl op status
   refused_is (ended_done is d) a b c = absurd (a is)
   refused_is (ended_refused r) a b c = r
   refused_is (ended_wanting is) a b c = absurd (c is)

@@ -1,13 +1,23 @@
 -- A command of the code as the command that it stands for.
-use Rattle.std.specs.Prelude.{ℕ, List, Option}
+use Rattle.std.specs.Prelude.{ℕ, ◌≤◌, Option, None, Some, ⊤}
 use Rattle.dceidl.specs.Words as words
+use Rattle.dceidl.specs.declared.task.Task.{Task}
+use Rattle.dceidl.specs.declared.task.Task.TheVariants.{Decode, Encode}
 use Rattle.dceidl.specs.declared.words.Command.{Command}
-use Rattle.dceidl.specs.declared.words.Command.TheVariants.{Decode, Help, Version}
+use Rattle.dceidl.specs.declared.words.Command.TheVariants.{Work, Help, Version}
 
+-- the command that one of the code stands for
 abbrev pub asked : Command → words.Command
-asked (Decode idl op order) = words.Decode idl.now op.now order
+asked (Work task idl op) = words.Work task idl.now op.now
 asked Help = words.Help
 asked Version = words.Version
 
-abbrev pub asked_order : List ℕ → List ℕ → List ℕ → Option words.Command
-asked_order idl op order = words.decode_with idl op (words.order_of order)
+-- a chunk of a pipe is to have an element at least
+abbrev pub HasChunk : Task → Type 0
+HasChunk (Decode order) = ⊤
+HasChunk (Encode order chunk) = 1 ≤ chunk
+
+-- the same of a command
+abbrev pub AsksChunk : Command → Type 0
+AsksChunk (Work task idl op) = HasChunk task
+AsksChunk _ = ⊤

@@ -1,16 +1,22 @@
 -- The status of each refusal, and its line on notes.
-use Rattle.std.specs.Prelude.{ℕ, List, [], ◌∷◌, ◌++◌, codes, decimal}
+use Rattle.std.specs.Prelude.{ℕ, ℤ, List, [], ◌∷◌, codes, decimal}
 use Rattle.std.specs.Fmt.{signed_decimal}
+use Rattle.nd_graph.specs.declared.misfit.MisfitReason.{MisfitReason}
+use Rattle.nd_graph.specs.declared.misfit.MisfitReason.TheVariants as misfit
 use Rattle.nd_grammar.specs.declared.reason.Reason.{Reason}
 use Rattle.nd_grammar.specs.declared.reason.Reason.TheVariants as reason
+use Rattle.value_text.specs.declared.fault.TextReason.{TextReason}
+use Rattle.value_text.specs.declared.fault.TextReason.TheVariants as text
 use Rattle.value_text.specs.Text.{joined}
-use Rattle.dceidl.specs.declared.decode.Refusal.{Refusal}
-use Rattle.dceidl.specs.declared.decode.Refusal.TheVariants.{Memory, Absent, FileFailed, NotBuilt, NoOperation, ReadFault, BadOctets}
-use Rattle.dceidl.specs.declared.decode.OctetsFault.{OctetsFault}
-use Rattle.dceidl.specs.declared.decode.OctetsFault.TheVariants.{Refused, Trailing}
+use Rattle.dceidl.specs.declared.refusal.Refusal.{Refusal}
+use Rattle.dceidl.specs.declared.refusal.Refusal.TheVariants.{Memory, Absent, FileFailed, NotBuilt, NoOperation, ReadFault, BadOctets, BadText, BadValue}
+use Rattle.dceidl.specs.declared.refusal.OctetsFault.{OctetsFault}
+use Rattle.dceidl.specs.declared.refusal.OctetsFault.TheVariants.{Refused, Trailing}
 
 abbrev pub status_of : Refusal → ℕ
 status_of (BadOctets place why) = 1
+status_of (BadText line column reason) = 1
+status_of (BadValue path reason) = 1
 status_of ReadFault = 3
 status_of Memory = 5
 status_of NotBuilt = 6
@@ -31,19 +37,49 @@ reason_name reason.NoArm = codes "NoArm"
 reason_name reason.OtherType = codes "OtherType"
 reason_name (reason.Disagrees wanted found) = codes "Disagrees"
 
+abbrev pub text_reason_name : TextReason → List ℕ
+text_reason_name text.TooLong = codes "TooLong"
+text_reason_name text.BadToken = codes "BadToken"
+text_reason_name text.Expected = codes "Expected"
+text_reason_name text.OtherName = codes "OtherName"
+text_reason_name text.OutOfOrder = codes "OutOfOrder"
+text_reason_name text.Unnamed = codes "Unnamed"
+
+abbrev pub misfit_name : MisfitReason → List ℕ
+misfit_name misfit.Shape = codes "Shape"
+misfit_name misfit.Range = codes "Range"
+misfit_name misfit.NullRef = codes "NullRef"
+misfit_name misfit.NoCell = codes "NoCell"
+misfit_name misfit.CellType = codes "CellType"
+misfit_name misfit.Bound = codes "Bound"
+misfit_name misfit.Zero = codes "Zero"
+misfit_name misfit.NoArm = codes "NoArm"
+misfit_name misfit.Shared = codes "Shared"
+misfit_name misfit.Unreached = codes "Unreached"
+misfit_name (misfit.Disagrees wanted found) = codes "Disagrees"
+
 -- a disagreement is told with its two numbers
+abbrev pub disagreement : ℤ → ℤ → List ℕ
+disagreement wanted found = joined (codes "Disagrees wanted " ∷ signed_decimal wanted ∷ codes " found " ∷ signed_decimal found ∷ [])
+
 abbrev pub reason_text : Reason → List ℕ
-reason_text (reason.Disagrees wanted found) =
-    joined (codes "Disagrees wanted " ∷ signed_decimal wanted ∷ codes " found " ∷ signed_decimal found ∷ [])
+reason_text (reason.Disagrees wanted found) = disagreement wanted found
 reason_text reason = reason_name reason
+
+abbrev pub misfit_text : MisfitReason → List ℕ
+misfit_text (misfit.Disagrees wanted found) = disagreement wanted found
+misfit_text reason = misfit_name reason
 
 abbrev pub fault_text : OctetsFault → List ℕ
 fault_text (Refused reason) = reason_text reason
 fault_text Trailing = codes "Trailing"
 
--- the line of a refusal of `decode`
+-- the line of a refusal
 abbrev pub line_of : List ℕ → List ℕ → Refusal → List ℕ
 line_of idl op (BadOctets place why) = joined (codes "refused: octets at " ∷ decimal place ∷ codes ": " ∷ fault_text why ∷ codes "\n" ∷ [])
+line_of idl op (BadText line column reason) =
+    joined (codes "refused: text " ∷ decimal line ∷ codes ":" ∷ decimal column ∷ codes ": " ∷ text_reason_name reason ∷ codes "\n" ∷ [])
+line_of idl op (BadValue path reason) = joined (codes "refused: value at " ∷ path ∷ codes ": " ∷ misfit_text reason ∷ codes "\n" ∷ [])
 line_of idl op ReadFault = codes "read fault\n"
 line_of idl op Memory = codes "want of memory\n"
 line_of idl op NotBuilt = joined (codes "idl " ∷ idl ∷ codes ":1:1: NotBuilt\n" ∷ [])

@@ -1,15 +1,15 @@
 -- The rows of a run: what each status says by itself, and what comes in each case where nothing fails.
 use Rattle.std.specs.Prelude.{◌≡◌, ◌⊎◌, ℕ, ◌+◌, List, take, option_map, Option, None, Some, codes}
 use Rattle.nd_base.specs.Outside.{IsMissing, loaded}
-use Rattle.nd_base.specs.declared.octets.Order.{Order}
 use Rattle.nd_types.specs.declared.interface.Interface.{Interface}
 use Rattle.nd_types.specs.declared.types.Operation.{Operation}
 use Rattle.plain_idl.specs.Plain.{IsPlainFile}
-use Rattle.nd_base.specs.declared.TheConstants.{STREAM_LIMIT}
-use Rattle.dceidl.specs.declared.decode.Refusal.{Refusal}
-use Rattle.dceidl.specs.Words.{Command, Decode}
+use Rattle.dceidl.specs.declared.refusal.Refusal.{Refusal}
+use Rattle.dceidl.specs.declared.task.Task.{Task}
+use Rattle.dceidl.specs.Words.{Command, Work}
 use Rattle.dceidl.specs.Outside.{FilesSeen, SourceSeen, SinkSeen, HasRisen, Got, IsAsBefore}
-use Rattle.dceidl.specs.Decode.{IsCause, IsNamed, IsReady, IsDecoded}
+use Rattle.dceidl.specs.Ready.{IsNamed, IsReady}
+use Rattle.dceidl.specs.Task.{IsCause, IsMadeOfInput, limit_of}
 use Rattle.dceidl.specs.Lines.{status_of, line_of}
 use Rattle.plain_ndr.specs.Decoding.{inputs_of}
 
@@ -19,7 +19,7 @@ IsOneOf status a b c = (status ≡ a) ⊎ ((status ≡ b) ⊎ (status ≡ c))
 
 -- the file of this name is due
 abbrev pub IsDue : Option Command → List ℕ → Type 0
-IsDue (Some (Decode idl op order)) name = name ≡ idl
+IsDue (Some (Work task idl op)) name = name ≡ idl
 IsDue _ name = ⊥
 
 -- some file is due and, where the names are told, not held
@@ -28,29 +28,29 @@ IsDueAndMissing command held = (name : List ℕ) × IsDue command name × IsMiss
 
 -- some file is due
 abbrev pub IsSomeDue : Option Command → Type 0
-IsSomeDue (Some (Decode idl op order)) = Unit {0}
+IsSomeDue (Some (Work task idl op)) = Unit {0}
 IsSomeDue _ = ⊥
 
 -- the words are a command that reads the input
 abbrev pub ReadsInput : Option Command → Type 0
-ReadsInput (Some (Decode idl op order)) = Unit {0}
+ReadsInput (Some (Work task idl op)) = Unit {0}
 ReadsInput _ = ⊥
 
--- `decode` was done: the file was ready, the input was decoded, out grew by its text, and notes stand as before.
-pub record IsDone (f : FilesSeen) (s : SourceSeen) (out notes : SinkSeen) (idl op : List ℕ) (order : Order) : Type 0 where
+-- A task was done: the file was ready, something was made of the input, out grew by it, and notes stand as before.
+pub record IsDone (f : FilesSeen) (s : SourceSeen) (out notes : SinkSeen) (task : Task) (idl op : List ℕ) : Type 0 where
   pub interface : Interface
   pub number : ℕ
   pub operation : Operation
   pub ready : IsReady f idl op interface number operation
-  pub text : List ℕ
-  pub decoded : IsDecoded s (inputs_of interface operation) order text
-  pub given : Got out text
+  pub made : List ℕ
+  pub of_input : IsMadeOfInput s task (inputs_of interface operation) made
+  pub given : Got out made
   pub quiet : IsAsBefore notes
 
--- `decode` was refused: for a cause, under its status and with its line on notes, and out stands as before.
-pub record IsRefused (f : FilesSeen) (s : SourceSeen) (out notes : SinkSeen) (idl op : List ℕ) (order : Order) (status : ℕ) : Type 0 where
+-- A task was refused: for a cause, under its status and with its line on notes, and out stands as before.
+pub record IsRefused (f : FilesSeen) (s : SourceSeen) (out notes : SinkSeen) (task : Task) (idl op : List ℕ) (status : ℕ) : Type 0 where
   pub refusal : Refusal
-  pub cause : IsCause f s idl op order refusal
+  pub cause : IsCause f s task idl op refusal
   pub own_status : status ≡ status_of refusal
   pub line : Got notes (line_of idl op refusal)
   pub nothing_given : IsAsBefore out
@@ -73,11 +73,11 @@ pub record IsAccepted (f : FilesSeen) (idl op : List ℕ) (i : Interface) (n : �
   pub plain : IsPlainFile file i
   pub named : IsNamed i op n o
 
--- these are the octets of the input that count: all of them, or one more than a stream may have
-pub record IsInput (s : SourceSeen) (octets : List ℕ) : Type 0 where
+-- these are the octets of the input that count for a task: all of them, or one more than it takes
+pub record IsInput (s : SourceSeen) (task : Task) (octets : List ℕ) : Type 0 where
   pub all : List ℕ
   pub left : s.left ≡ Some all
-  pub counted : octets ≡ take (STREAM_LIMIT + 1) all
+  pub counted : octets ≡ take (limit_of task + 1) all
 
 -- The run is refused in this way, or memory was wanting.
 abbrev pub Refuses : List ℕ → List ℕ → SinkSeen → ℕ → Refusal → Type 0

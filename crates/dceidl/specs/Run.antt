@@ -1,27 +1,28 @@
 -- What a run comes to, and how it is written.
 use Rattle.std.specs.Prelude.{◌≡◌, ◌⊎◌, ℕ, List, Option, None, Some, codes}
-use Rattle.nd_base.specs.declared.octets.Order.{Order}
 use Rattle.nd_types.specs.declared.interface.Interface.{Interface}
 use Rattle.nd_types.specs.declared.types.Operation.{Operation}
-use Rattle.dceidl.specs.Words.{Command, command, Decode, Help, Version}
+use Rattle.dceidl.specs.Words.{Command, command, Work, Help, Version}
 use Rattle.dceidl.specs.Outside.{FilesSeen, SourceSeen, SinkSeen, HasRisen, Got, GotPrefix, IsAsBefore, IsUntouched, AreUntouched}
-use Rattle.dceidl.specs.Decode.{IsCause, IsDecoded, IsReady}
+use Rattle.dceidl.specs.Ready.{IsReady}
+use Rattle.dceidl.specs.Task.{IsCause, IsMadeOfInput}
 use Rattle.plain_ndr.specs.Decoding.{inputs_of}
 use Rattle.dceidl.specs.Lines.{line_of, status_of}
-use Rattle.dceidl.specs.declared.decode.Refusal.{Refusal}
+use Rattle.dceidl.specs.declared.refusal.Refusal.{Refusal}
+use Rattle.dceidl.specs.declared.task.Task.{Task}
 use Rattle.dceidl.specs.declared.outcome.Outcome.{Outcome}
 use Rattle.dceidl.specs.declared.outcome.Outcome.TheVariants.{Done, Refused, Wanting}
 use Rattle.dceidl.specs.declared.TheConstants.{HELP, VERSION}
 
--- `decode` comes to this outcome
-abbrev pub IsDecodeOutcome : FilesSeen → SourceSeen → List ℕ → List ℕ → Order → Outcome → Type 0
-IsDecodeOutcome f s idl op order (Done text) =
-    (i : Interface) × (n : ℕ) × (o : Operation) × IsReady f idl op i n o × IsDecoded s (inputs_of i o) order text
-IsDecodeOutcome f s idl op order (Refused status line) =
-    (refusal : Refusal) × IsCause f s idl op order refusal × (status ≡ status_of refusal) × (line ≡ line_of idl op refusal)
-IsDecodeOutcome f s idl op order Wanting = Unit {0}
+-- a task comes to this outcome
+abbrev pub IsTaskOutcome : FilesSeen → SourceSeen → Task → List ℕ → List ℕ → Outcome → Type 0
+IsTaskOutcome f s task idl op (Done made) =
+    (i : Interface) × (n : ℕ) × (o : Operation) × IsReady f idl op i n o × IsMadeOfInput s task (inputs_of i o) made
+IsTaskOutcome f s task idl op (Refused status line) =
+    (refusal : Refusal) × IsCause f s task idl op refusal × (status ≡ status_of refusal) × (line ≡ line_of idl op refusal)
+IsTaskOutcome f s task idl op Wanting = Unit {0}
 
--- Only `decode` asks for files and for the input.
+-- Only a task asks for files and for the input.
 pub record AsksNothing (f : FilesSeen) (s : SourceSeen) : Type 0 where
   pub files : AreUntouched f
   pub source : IsUntouched s
@@ -31,13 +32,13 @@ abbrev pub IsOutcome : FilesSeen → SourceSeen → Option Command → Outcome �
 IsOutcome f s None outcome = ((outcome ≡ Refused 2 (codes "words refused\n")) ⊎ (outcome ≡ Wanting)) × AsksNothing f s
 IsOutcome f s (Some Help) outcome = ((outcome ≡ Done HELP.now) ⊎ (outcome ≡ Wanting)) × AsksNothing f s
 IsOutcome f s (Some Version) outcome = ((outcome ≡ Done VERSION.now) ⊎ (outcome ≡ Wanting)) × AsksNothing f s
-IsOutcome f s (Some (Decode idl op order)) outcome = IsDecodeOutcome f s idl op order outcome
+IsOutcome f s (Some (Work task idl op)) outcome = IsTaskOutcome f s task idl op outcome
 
 -- `write fault` stands on notes, or a prefix of it where notes failed too
 abbrev pub IsWarned : SinkSeen → Type 0
 IsWarned notes = Got notes (codes "write fault\n") ⊎ (HasRisen notes.faults × GotPrefix notes (codes "write fault\n"))
 
--- The text is given whole and the status is 0, or out failed, it is cut short, and the status is 4.
+-- What was made is given whole and the status is 0, or out failed, it is cut short, and the status is 4.
 abbrev pub IsGiven : SinkSeen → SinkSeen → List ℕ → ℕ → Type 0
 IsGiven out notes text status =
     ((status ≡ 0) × Got out text × IsAsBefore notes)

@@ -1,12 +1,17 @@
 -- The commands that the words of a command line are.
-use Rattle.std.specs.Prelude.{ℕ, Bool, ◌&&◌, List, [], ◌∷◌, Option, None, Some, if◌then◌else◌, nat_eq, codes}
+use Rattle.std.specs.Prelude.{ℕ, Bool, ◌&&◌, leb, List, [], ◌∷◌, Option, None, Some, if◌then◌else◌, nat_eq, codes, decimal}
 use Rattle.std.specs.Cmp.Lexicographic.{pointwise}
+use Rattle.std.specs.Str.Parse.{digits_value}
 use Rattle.nd_base.specs.declared.octets.Order.{Order}
 use Rattle.nd_base.specs.declared.octets.Order.TheVariants.{Little, Big}
+use Rattle.dceidl.specs.declared.TheConstants.{CHUNK_LIMIT}
+use Rattle.dceidl.specs.declared.task.Task.{Task}
+use Rattle.dceidl.specs.declared.task.Task.TheVariants.{Decode, Encode}
 
+-- what the words of a command line ask for
 pub data Command : Type 0 where
-  -- decode the input as the values of an operation's [in] parameters
-  Decode : (idl op : List ℕ) (order : Order) → Command
+  -- a task on the [in] parameters of an operation of an interface file
+  Work : (task : Task) (idl op : List ℕ) → Command
   Help : Command
   Version : Command
 
@@ -20,16 +25,39 @@ order_of word =
     if is_word word (codes "little") then Some Little
     else if is_word word (codes "big") then Some Big else None
 
-abbrev pub decode_with : List ℕ → List ℕ → Option Order → Option Command
-decode_with idl op None = None
-decode_with idl op (Some order) = Some (Decode idl op order)
+-- the number of elements of a chunk whose digits are this word, where it is within its limit
+abbrev pub chunk_by : List ℕ → ℕ → Option ℕ
+chunk_by word n = if is_word word (decimal n) && leb 1 n && leb n CHUNK_LIMIT then Some n else None
 
--- the command that words are, if they are one: `decode IDL - OP in ORDER`, `--help` or `--version`
+-- the number of elements of a chunk that a word names, in decimal digits without a sign or a leading zero
+abbrev pub chunk_of : List ℕ → Option ℕ
+chunk_of word = chunk_by word (digits_value 10 word)
+
+-- the task of decoding, where a word names an order
+abbrev pub decoding : Option Order → Option Task
+decoding None = None
+decoding (Some order) = Some (Decode order)
+
+-- the task of encoding, where words name an order and the number of elements of a chunk
+abbrev pub encoding : Option Order → Option ℕ → Option Task
+encoding (Some order) (Some chunk) = Some (Encode order chunk)
+encoding _ _ = None
+
+-- the command of a task, if it is one
+abbrev pub work : Option Task → List ℕ → List ℕ → Option Command
+work None idl op = None
+work (Some task) idl op = Some (Work task idl op)
+
+-- The command that words are, if they are one: `decode IDL - OP in ORDER`, `encode IDL - OP in ORDER CHUNK`, `--help` or
+-- `--version`.
 abbrev pub command : List (List ℕ) → Option Command
 command (word ∷ []) =
     if is_word word (codes "--help") then Some Help
     else if is_word word (codes "--version") then Some Version else None
 command (verb ∷ idl ∷ acf ∷ op ∷ side ∷ order ∷ []) =
     if is_word verb (codes "decode") && is_word acf (codes "-") && is_word side (codes "in")
-    then decode_with idl op (order_of order) else None
+    then work (decoding (order_of order)) idl op else None
+command (verb ∷ idl ∷ acf ∷ op ∷ side ∷ order ∷ chunk ∷ []) =
+    if is_word verb (codes "encode") && is_word acf (codes "-") && is_word side (codes "in")
+    then work (encoding (order_of order) (chunk_of chunk)) idl op else None
 command _ = None

@@ -2,31 +2,46 @@
 #![tactic(auto)]
 
 mod decode;
+mod encode;
 mod input;
+mod join;
+pub mod laws;
+mod lines;
 mod outcome;
+mod ready;
+mod refusal;
+mod task;
 #[cfg(test)]
 mod tests;
 mod top;
 mod words;
 
-pub use decode::{OctetsFault, Refusal};
 pub use outcome::Outcome;
+pub use refusal::{OctetsFault, Refusal};
+pub use task::Task;
 pub use top::{Status, run};
 pub use words::Words;
+
+/// The most elements that a chunk of a pipe may be asked to have.
+pub const CHUNK_LIMIT: u32 = 16_777_216;
 
 /// What `--help` prints.
 pub const HELP: &str = "\
 usage: dceidl decode IDL - OP in ORDER
+       dceidl encode IDL - OP in ORDER CHUNK
        dceidl --help
        dceidl --version
 
 decode  reads the octets of an operation's [in] parameters from standard input, in NDR
         (C706, chapter 14), and writes their values to standard output as text.
-        IDL is the path of a file of IDL, `-` stands for no attribute file, OP is the name
-        of an operation, and ORDER, `little` or `big`, is the order of a number's octets.
+encode  reads such a text from standard input, and writes the octets of its values to
+        standard output. CHUNK is the number of elements in a chunk of a pipe, 1 to 16777216.
 
-A refusal is one line on standard error. The status is 0 done, 1 octets refused,
-2 words refused, 3 input failed, 4 output failed, 5 memory wanting, 6 IDL refused,
+IDL is the path of a file of IDL, `-` stands for no attribute file, OP is the name of an
+operation, and ORDER, `little` or `big`, is the order of a number's octets.
+
+A refusal is one line on standard error. The status is 0 done, 1 octets, text or value
+refused, 2 words refused, 3 input failed, 4 output failed, 5 memory wanting, 6 IDL refused,
 7 IDL absent, 9 IDL not read.
 ";
 

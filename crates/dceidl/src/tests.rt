@@ -8,7 +8,7 @@ use std::process::Abort;
 #[derive(Clone, Copy)]
 struct Case {
     words: &'static [&'static str],
-    octets: &'static [u8],
+    input: &'static [u8],
     /// The most octets that one call gives.
     piece: u32,
     failing_loads: &'static [u32],
@@ -18,7 +18,7 @@ struct Case {
     /// How many octets each output holds.
     room: u32,
     status: Status,
-    out: &'static str,
+    out: &'static [u8],
     notes: &'static str,
 }
 
@@ -41,7 +41,7 @@ const OTHER_FILE: &[u8] =
 // The values 1, 2 and 3 of `add`.
 const DECODED: Case = Case {
     words: &["decode", "t.idl", "-", "add", "in", "little"],
-    octets: b"\x01\0\0\0\x02\0\0\0\x03\0\0\0\0\0\0\0",
+    input: b"\x01\0\0\0\x02\0\0\0\x03\0\0\0\0\0\0\0",
     piece: 4096,
     failing_loads: &[],
     failing_fetches: &[],
@@ -49,15 +49,30 @@ const DECODED: Case = Case {
     failing_notes: &[],
     room: 1000,
     status: 0,
-    out: "values 1\nop add in\na = 1\nb = 2\nc = 3\n",
+    out: b"values 1\nop add in\na = 1\nb = 2\nc = 3\n",
     notes: "",
+};
+
+// The octets of the same values.
+const ENCODED: Case = Case {
+    words: &["encode", "t.idl", "-", "add", "in", "little", "1"],
+    input: b"values 1\nop add in\na = 1\nb = 2\nc = 3\n",
+    out: b"\x01\0\0\0\x02\0\0\0\x03\0\0\0\0\0\0\0",
+    ..DECODED
+};
+
+// An encoding that is refused.
+const NOT_ENCODED: Case = Case {
+    status: 1,
+    out: b"",
+    ..ENCODED
 };
 
 // Without octets.
 const PINGED: Case = Case {
     words: &["decode", "t.idl", "-", "ping", "in", "little"],
-    octets: b"",
-    out: "values 1\nop ping in\n",
+    input: b"",
+    out: b"values 1\nop ping in\n",
     ..DECODED
 };
 
@@ -65,7 +80,7 @@ const PINGED: Case = Case {
 const NO_COMMAND: Case = Case {
     words: &[],
     status: 2,
-    out: "",
+    out: b"",
     notes: "words refused\n",
     ..DECODED
 };
@@ -79,7 +94,7 @@ fn run_case(alloc: Global, case: &Case) -> Result<Ran, Memory> {
     files.add("t.idl", FILE)?;
     files.add("u.idl", OTHER_FILE)?;
     let piece = case.piece.max(1);
-    let mut input = MemSource::new(alloc, case.octets, piece, case.failing_fetches)?;
+    let mut input = MemSource::new(alloc, case.input, piece, case.failing_fetches)?;
     let mut out = MemSink::new(alloc, case.room, case.failing_puts)?;
     let mut notes = MemSink::new(alloc, case.room, case.failing_notes)?;
     let status = run(alloc, &words, &mut files, &mut input, &mut out, &mut notes);
@@ -93,7 +108,7 @@ fn expect_all(rt: &impl Abort, alloc: Global, cases: &[Case]) {
         match run_case(alloc, case) {
             Ok(ran) => {
                 assert_eq!(rt; ran.status, case.status, "status of {number}");
-                assert_eq!(rt; ran.out.written(), case.out.as_bytes(), "out of {number}");
+                assert_eq!(rt; ran.out.written(), case.out, "out of {number}");
                 assert_eq!(rt;
                     ran.notes.written(),
                     case.notes.as_bytes(),
@@ -117,12 +132,12 @@ fn values_are_decoded(rt: HostRuntime) {
         },
         // What fills the gap does not matter.
         Case {
-            octets: b"\x01\0\0\0\x02\0\xaa\xaa\x03\0\0\0\0\0\0\0",
+            input: b"\x01\0\0\0\x02\0\xaa\xaa\x03\0\0\0\0\0\0\0",
             ..DECODED
         },
         Case {
             words: &["decode", "t.idl", "-", "add", "in", "big"],
-            octets: b"\0\0\0\x01\0\x02\xaa\xaa\0\0\0\0\0\0\0\x03",
+            input: b"\0\0\0\x01\0\x02\xaa\xaa\0\0\0\0\0\0\0\x03",
             ..DECODED
         },
         PINGED,
@@ -131,27 +146,109 @@ fn values_are_decoded(rt: HostRuntime) {
 }
 
 #[test]
+fn values_are_encoded(rt: HostRuntime) {
+    let cases = [
+        ENCODED,
+        Case {
+            words: &["encode", "t.idl", "-", "add", "in", "big", "16777216"],
+            out: b"\0\0\0\x01\0\x02\0\0\0\0\0\0\0\0\0\x03",
+            ..ENCODED
+        },
+        // One octet at a time.
+        Case {
+            piece: 1,
+            ..ENCODED
+        },
+        // Blanks where they may stand, and negative numbers.
+        Case {
+            input: b"\tvalues 1 op add in a=-1\r\nb = -2 c\n=\n-3",
+            out: b"\xff\xff\xff\xff\xfe\xff\0\0\xfd\xff\xff\xff\xff\xff\xff\xff",
+            ..ENCODED
+        },
+        Case {
+            words: &["encode", "t.idl", "-", "ping", "in", "little", "1"],
+            input: b"values 1\nop ping in\n",
+            out: b"",
+            ..ENCODED
+        },
+    ];
+    expect_all(&rt, rt.alloc(), &cases);
+}
+
+#[test]
+fn texts_are_refused(rt: HostRuntime) {
+    let cases = [
+        Case {
+            input: b"values 1\nop add in\na = 1\nb = 02\nc = 3\n",
+            notes: "refused: text 4:5: BadToken\n",
+            ..NOT_ENCODED
+        },
+        Case {
+            input: b"values 1\nop add in\na = 1\nb = 2\n",
+            notes: "refused: text 5:1: Expected\n",
+            ..NOT_ENCODED
+        },
+        Case {
+            input: b"values 1\nop add in\na = 1\nc = 2\n",
+            notes: "refused: text 4:1: OtherName\n",
+            ..NOT_ENCODED
+        },
+        Case {
+            words: &["encode", "t.idl", "-", "ping", "in", "little", "1"],
+            input: b"values 1\nop ping in\n@2 = 5\n",
+            notes: "refused: text 3:1: OutOfOrder\n",
+            ..NOT_ENCODED
+        },
+        Case {
+            words: &["encode", "t.idl", "-", "ping", "in", "little", "1"],
+            input: b"values 1\nop ping in\n@1 = 5\n",
+            notes: "refused: text 3:1: Unnamed\n",
+            ..NOT_ENCODED
+        },
+    ];
+    expect_all(&rt, rt.alloc(), &cases);
+}
+
+#[test]
+fn values_are_refused(rt: HostRuntime) {
+    let cases = [
+        Case {
+            input: b"values 1\nop add in\na = 1\nb = 40000\nc = 3\n",
+            notes: "refused: value at b: Range\n",
+            ..NOT_ENCODED
+        },
+        // The first of two.
+        Case {
+            input: b"values 1\nop add in\na = 1\nb = -32769\nc = 9223372036854775808\n",
+            notes: "refused: value at b: Range\n",
+            ..NOT_ENCODED
+        },
+    ];
+    expect_all(&rt, rt.alloc(), &cases);
+}
+
+#[test]
 fn octets_are_refused(rt: HostRuntime) {
     let cases = [
         Case {
-            octets: b"\x01\0\0\0\x02\0\0\0\x03",
+            input: b"\x01\0\0\0\x02\0\0\0\x03",
             status: 1,
-            out: "",
+            out: b"",
             notes: "refused: octets at 9: Truncated\n",
             ..DECODED
         },
         // Cut in the gap.
         Case {
-            octets: b"\x01\0\0\0\x02\0\0",
+            input: b"\x01\0\0\0\x02\0\0",
             status: 1,
-            out: "",
+            out: b"",
             notes: "refused: octets at 7: Truncated\n",
             ..DECODED
         },
         Case {
-            octets: b"\0",
+            input: b"\0",
             status: 1,
-            out: "",
+            out: b"",
             notes: "refused: octets at 0: Trailing\n",
             ..PINGED
         },
@@ -168,30 +265,42 @@ fn words_and_files_are_refused(rt: HostRuntime) {
             ..NO_COMMAND
         },
         Case {
+            words: &["encode", "t.idl", "-", "add", "in", "little", "0"],
+            ..NO_COMMAND
+        },
+        Case {
+            words: &["encode", "t.idl", "-", "add", "in", "little", "01"],
+            ..NO_COMMAND
+        },
+        Case {
+            words: &["encode", "t.idl", "-", "add", "in", "little", "16777217"],
+            ..NO_COMMAND
+        },
+        Case {
             words: &["decode", "s.idl", "-", "add", "in", "little"],
             status: 7,
-            out: "",
+            out: b"",
             notes: "absent: s.idl\n",
             ..DECODED
         },
         Case {
             failing_loads: &[1],
             status: 9,
-            out: "",
+            out: b"",
             notes: "file fault: t.idl\n",
             ..DECODED
         },
         Case {
             words: &["decode", "u.idl", "-", "add", "in", "little"],
             status: 6,
-            out: "",
+            out: b"",
             notes: "idl u.idl:1:1: NotBuilt\n",
             ..DECODED
         },
         Case {
             words: &["decode", "t.idl", "-", "sub", "in", "little"],
             status: 6,
-            out: "",
+            out: b"",
             notes: "idl t.idl: NoOperation sub\n",
             ..DECODED
         },
@@ -205,23 +314,32 @@ fn streams_fail(rt: HostRuntime) {
         Case {
             failing_fetches: &[1],
             status: 3,
-            out: "",
+            out: b"",
             notes: "read fault\n",
             ..DECODED
+        },
+        // The text before the fault is refused already.
+        Case {
+            input: b"value 1\nop",
+            piece: 8,
+            failing_fetches: &[2],
+            status: 3,
+            notes: "read fault\n",
+            ..NOT_ENCODED
         },
         // The second piece is not had.
         Case {
             piece: 8,
             failing_fetches: &[2],
             status: 3,
-            out: "",
+            out: b"",
             notes: "read fault\n",
             ..DECODED
         },
         Case {
             failing_puts: &[1],
             status: 4,
-            out: "",
+            out: b"",
             notes: "write fault\n",
             ..DECODED
         },
@@ -229,7 +347,7 @@ fn streams_fail(rt: HostRuntime) {
             failing_puts: &[1],
             failing_notes: &[1],
             status: 4,
-            out: "",
+            out: b"",
             notes: "",
             ..DECODED
         },
@@ -243,7 +361,7 @@ fn streams_fail(rt: HostRuntime) {
         Case {
             room: 12,
             status: 4,
-            out: "values 1\nop ",
+            out: b"values 1\nop ",
             notes: "write fault\n",
             ..DECODED
         },
@@ -256,12 +374,12 @@ fn help_is_given(rt: HostRuntime) {
     let cases = [
         Case {
             words: &["--help"],
-            out: HELP,
+            out: HELP.as_bytes(),
             ..DECODED
         },
         Case {
             words: &["--version"],
-            out: VERSION,
+            out: VERSION.as_bytes(),
             ..DECODED
         },
     ];

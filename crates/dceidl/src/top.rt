@@ -1,41 +1,47 @@
 // The top call: what the words ask for is done, and what it comes to is written.
-ghost use Rattle.value_text.specs.Text.{joined};
-ghost use Rattle.std.specs.Prelude.{[], ◌∷◌, ◌≡◌, ◌≢◌, ◌≤◌, ◌<◌, ◌⊎◌, length, codes, ℕ, List, Some, None, IfOk, string_bytes};
-ghost use Rattle.dceidl.specs.Words.{command, Decode};
-ghost use Rattle.dceidl.specs.Outside.{files_seen, source_seen, sink_seen};
-ghost use Rattle.dceidl.specs.Lines.{status_of, line_of, fault_text, reason_text, reason_name as name_of};
+ghost use Rattle.std.specs.Prelude.{◌≡◌, ◌≢◌, ◌≤◌, ◌⊎◌, codes, ℕ, List, Some, None};
 ghost use Rattle.std.specs.Io.KnownBytes.{Appends};
 ghost use Rattle.nd_base.specs.Counts.{Rose};
-ghost use Rattle.dceidl.specs.Rows.{IsOneOf, ReadsInput, IsDueAndMissing, IsSomeDue, IsDone, IsRefused, IsSound, IsAccepted, IsInput, IsHeld, Refuses};
-ghost use Rattle.dceidl.specs.Decode.{IsTrailing};
 ghost use Rattle.nd_base.specs.declared.octets.Order.{Order};
 ghost use Rattle.nd_types.specs.declared.interface.Interface.{Interface};
 ghost use Rattle.nd_types.specs.declared.types.Operation.{Operation};
 ghost use Rattle.nd_types.specs.Operations.{operation_named};
+ghost use Rattle.nd_graph.specs.declared.item.Home.{Home};
+ghost use Rattle.nd_graph.specs.declared.misfit.MisfitReason.{MisfitReason};
 ghost use Rattle.nd_graph.specs.declared.value.Graph.{Graph};
 ghost use Rattle.nd_graph.specs.Conforms.{Conforms};
-ghost use Rattle.nd_grammar.specs.declared.reason.Reason.{Reason as ReasonValue};
+ghost use Rattle.nd_graph.specs.FirstMisfit.{IsFirstMisfit};
+ghost use Rattle.nd_grammar.specs.declared.reason.Reason.{Reason};
 ghost use Rattle.nd_grammar.specs.Represents.{Represents};
 ghost use Rattle.nd_grammar.specs.Bad.{Bad};
+ghost use Rattle.value_text.specs.declared.fault.TextReason.{TextReason};
+ghost use Rattle.value_text.specs.Reads.{ReadsAs, IsTextFault};
 ghost use Rattle.plain_idl.specs.Plain.{IsPlainFile};
 ghost use Rattle.plain_ndr.specs.Decoding.{inputs_of};
-ghost use Rattle.dceidl.specs.Run.{IsOutcome, IsDelivered, HasRun, IsTold};
+ghost use Rattle.dceidl.specs.Words.{command, Work};
+ghost use Rattle.dceidl.specs.Asked.{HasChunk};
+ghost use Rattle.dceidl.specs.Outside.{files_seen, source_seen, sink_seen};
+ghost use Rattle.dceidl.specs.Decode.{IsTrailing};
+ghost use Rattle.dceidl.specs.Encode.{home_path};
+ghost use Rattle.dceidl.specs.Lines.{status_of, line_of};
+ghost use Rattle.dceidl.specs.Run.{IsOutcome, IsTaskOutcome, IsDelivered, HasRun, IsTold};
+ghost use Rattle.dceidl.specs.Rows.{IsOneOf, ReadsInput, IsDueAndMissing, IsSomeDue, IsDone, IsRefused, IsSound, IsAccepted, IsInput, IsHeld, Refuses};
 
-use crate::decode::{OctetsFault, Refusal, decode};
+use crate::lines::{line, status};
 use crate::outcome::Outcome;
+use crate::refusal::{OctetsFault, Refusal};
+use crate::task::{Task, perform};
 use crate::words::{Command, Words};
 use crate::{HELP, VERSION};
-use itoa::Buffer;
 use nd_base::{Files, Octets, Sink, Source};
-use nd_grammar::Reason;
-use std::alloc::{AllocError, Global};
+use std::alloc::Global;
 
 /// The status that the program ends with.
 ///
 /// | Status | What it says |
 /// |---|---|
 /// | 0 | what the words ask for is done |
-/// | 1 | the octets of the input are refused |
+/// | 1 | the octets, the text or the values of the input are refused |
 /// | 2 | the words are no command |
 /// | 3 | the input failed |
 /// | 4 | standard output or standard error failed; it takes the place of any other status |
@@ -49,10 +55,12 @@ pub type Status = u8;
 
 /// Does what the words ask for, and answers the status.
 ///
-/// `--help` and `--version` write their text to `out`. `decode` loads the interface file, reads the input to its
-/// end or to one octet past [`STREAM_LIMIT`](nd_base::STREAM_LIMIT), and writes the values of the operation's [in]
-/// parameters (C706, chapter 14) to `out` as text. Each is asked for only when it is due: no file where the words are
-/// not `decode`, and no input before the file is loaded and read and the operation is found. A file is loaded once.
+/// `--help` and `--version` write their text to `out`. `decode` and `encode` load the interface file, and then read the input
+/// to its end or to one octet past what they take: [`STREAM_LIMIT`](nd_base::STREAM_LIMIT) octets of a stream,
+/// [`TEXT_LIMIT`](value_text::TEXT_LIMIT) octets of a text. `decode` writes the values of the operation's [in] parameters
+/// (C706, chapter 14) to `out` as text, and `encode` reads such a text and writes the octets of its values. Each is asked for only
+/// when it is due: no file where the words are neither, and no input before the file is loaded and read and the operation is
+/// found. A file is loaded once.
 ///
 /// Nothing is written before all else is past. A run that is done writes its text to `out` and nothing to `notes`. A run
 /// that is refused writes nothing to `out` and one line to `notes`; where several refusals are due it is the first in the
@@ -86,63 +94,94 @@ pub fn run<F: Files, S: Source, K: Sink, N: Sink>(
     ensures file { result ≡ 9 → Rose (F.faults files.old) (F.faults files.new) × IsSomeDue (command words.now) }
     ensures quiet { result ≡ 0 → N.written notes.new ≡ N.written notes.old }
     ensures nothing_given { result ≢ 0 → result ≢ 4 → K.written out.new ≡ K.written out.old }
-    // What `decode` comes to: it is done, or it is refused for a cause, under its status and with its line.
-    ensures done { (idl op : List ℕ) (order : Order) → command words.now ≡ Some (Decode idl op order) → result ≡ 0
+    // What a task comes to: it is done, or it is refused for a cause, under its status and with its line.
+    ensures done { (task : Task) (idl op : List ℕ) → command words.now ≡ Some (Work task idl op) → result ≡ 0
         → IsDone (files_seen F.held F.absences F.faults files.old files.new)
         (source_seen S.left S.ended S.faults input.old input.new)
         (sink_seen K.written K.faults out.old out.new)
-        (sink_seen N.written N.faults notes.old notes.new) idl op order }
-    ensures refused { (idl op : List ℕ) (order : Order) → command words.now ≡ Some (Decode idl op order)
+        (sink_seen N.written N.faults notes.old notes.new) task idl op }
+    ensures refused { (task : Task) (idl op : List ℕ) → command words.now ≡ Some (Work task idl op)
         → result ≢ 0 → result ≢ 4 → result ≢ 5
         → IsRefused (files_seen F.held F.absences F.faults files.old files.new)
         (source_seen S.left S.ended S.faults input.old input.new)
         (sink_seen K.written K.faults out.old out.new)
-        (sink_seen N.written N.faults notes.old notes.new) idl op order result }
-    // What comes where nothing fails outside: status 0 where the octets represent a graph that conforms, else the refusal
-    // whose cause holds. Memory may be wanting in each of these cases.
-    ensures complete { (idl op : List ℕ) (order : Order) (i : Interface) (n : ℕ) (o : Operation) (octets : List ℕ) (g : Graph)
-        → command words.now ≡ Some (Decode idl op order)
-        → IsSound (files_seen F.held F.absences F.faults files.old files.new)
-        (source_seen S.left S.ended S.faults input.old input.new)
-        (sink_seen K.written K.faults out.old out.new) (sink_seen N.written N.faults notes.old notes.new)
-        → IsAccepted (files_seen F.held F.absences F.faults files.old files.new) idl op i n o
-        → IsInput (source_seen S.left S.ended S.faults input.old input.new) octets
-        → Represents (inputs_of i o) order octets g → Conforms (inputs_of i o) g
-        → (result ≡ 0) ⊎ (result ≡ 5) }
-    ensures bad { (idl op : List ℕ) (order : Order) (i : Interface) (n : ℕ) (o : Operation) (octets : List ℕ) (place : ℕ) (why : ReasonValue)
-        → command words.now ≡ Some (Decode idl op order)
-        → IsSound (files_seen F.held F.absences F.faults files.old files.new)
-        (source_seen S.left S.ended S.faults input.old input.new)
-        (sink_seen K.written K.faults out.old out.new) (sink_seen N.written N.faults notes.old notes.new)
-        → IsAccepted (files_seen F.held F.absences F.faults files.old files.new) idl op i n o
-        → IsInput (source_seen S.left S.ended S.faults input.old input.new) octets
-        → Bad (inputs_of i o) order octets place why
-        → Refuses idl op (sink_seen N.written N.faults notes.old notes.new) result (Refusal.BadOctets place (OctetsFault.Refused why)) }
-    ensures trailing { (idl op : List ℕ) (order : Order) (i : Interface) (n : ℕ) (o : Operation) (octets : List ℕ) (place : ℕ)
-        → command words.now ≡ Some (Decode idl op order)
-        → IsSound (files_seen F.held F.absences F.faults files.old files.new)
-        (source_seen S.left S.ended S.faults input.old input.new)
-        (sink_seen K.written K.faults out.old out.new) (sink_seen N.written N.faults notes.old notes.new)
-        → IsAccepted (files_seen F.held F.absences F.faults files.old files.new) idl op i n o
-        → IsInput (source_seen S.left S.ended S.faults input.old input.new) octets
-        → IsTrailing (inputs_of i o) order octets place
-        → Refuses idl op (sink_seen N.written N.faults notes.old notes.new) result (Refusal.BadOctets place OctetsFault.Trailing) }
-    ensures not_built { (idl op : List ℕ) (order : Order) (file : List ℕ)
-        → command words.now ≡ Some (Decode idl op order)
+        (sink_seen N.written N.faults notes.old notes.new) task idl op result }
+    // What comes where nothing fails outside: the refusal of the file whose cause holds.
+    ensures not_built { (task : Task) (idl op file : List ℕ)
+        → command words.now ≡ Some (Work task idl op)
         → IsSound (files_seen F.held F.absences F.faults files.old files.new)
         (source_seen S.left S.ended S.faults input.old input.new)
         (sink_seen K.written K.faults out.old out.new) (sink_seen N.written N.faults notes.old notes.new)
         → IsHeld (files_seen F.held F.absences F.faults files.old files.new) idl file
         → ((i : Interface) → IsPlainFile file i → ⊥)
         → Refuses idl op (sink_seen N.written N.faults notes.old notes.new) result Refusal.NotBuilt }
-    ensures no_operation { (idl op : List ℕ) (order : Order) (file : List ℕ) (i : Interface)
-        → command words.now ≡ Some (Decode idl op order)
+    ensures no_operation { (task : Task) (idl op file : List ℕ) (i : Interface)
+        → command words.now ≡ Some (Work task idl op)
         → IsSound (files_seen F.held F.absences F.faults files.old files.new)
         (source_seen S.left S.ended S.faults input.old input.new)
         (sink_seen K.written K.faults out.old out.new) (sink_seen N.written N.faults notes.old notes.new)
         → IsHeld (files_seen F.held F.absences F.faults files.old files.new) idl file
         → IsPlainFile file i → operation_named i.operations op ≡ None
         → Refuses idl op (sink_seen N.written N.faults notes.old notes.new) result Refusal.NoOperation }
+    // Of `decode`, in the same case: status 0 where the octets represent a graph that conforms, else the refusal whose cause
+    // holds. Memory may be wanting in each of these cases.
+    ensures complete { (order : Order) (idl op : List ℕ) (i : Interface) (n : ℕ) (o : Operation) (octets : List ℕ) (g : Graph)
+        → command words.now ≡ Some (Work (Task.Decode order) idl op)
+        → IsSound (files_seen F.held F.absences F.faults files.old files.new)
+        (source_seen S.left S.ended S.faults input.old input.new)
+        (sink_seen K.written K.faults out.old out.new) (sink_seen N.written N.faults notes.old notes.new)
+        → IsAccepted (files_seen F.held F.absences F.faults files.old files.new) idl op i n o
+        → IsInput (source_seen S.left S.ended S.faults input.old input.new) (Task.Decode order) octets
+        → Represents (inputs_of i o) order octets g → Conforms (inputs_of i o) g
+        → (result ≡ 0) ⊎ (result ≡ 5) }
+    ensures bad { (order : Order) (idl op : List ℕ) (i : Interface) (n : ℕ) (o : Operation) (octets : List ℕ) (place : ℕ) (why : Reason)
+        → command words.now ≡ Some (Work (Task.Decode order) idl op)
+        → IsSound (files_seen F.held F.absences F.faults files.old files.new)
+        (source_seen S.left S.ended S.faults input.old input.new)
+        (sink_seen K.written K.faults out.old out.new) (sink_seen N.written N.faults notes.old notes.new)
+        → IsAccepted (files_seen F.held F.absences F.faults files.old files.new) idl op i n o
+        → IsInput (source_seen S.left S.ended S.faults input.old input.new) (Task.Decode order) octets
+        → Bad (inputs_of i o) order octets place why
+        → Refuses idl op (sink_seen N.written N.faults notes.old notes.new) result (Refusal.BadOctets place (OctetsFault.Refused why)) }
+    ensures trailing { (order : Order) (idl op : List ℕ) (i : Interface) (n : ℕ) (o : Operation) (octets : List ℕ) (place : ℕ)
+        → command words.now ≡ Some (Work (Task.Decode order) idl op)
+        → IsSound (files_seen F.held F.absences F.faults files.old files.new)
+        (source_seen S.left S.ended S.faults input.old input.new)
+        (sink_seen K.written K.faults out.old out.new) (sink_seen N.written N.faults notes.old notes.new)
+        → IsAccepted (files_seen F.held F.absences F.faults files.old files.new) idl op i n o
+        → IsInput (source_seen S.left S.ended S.faults input.old input.new) (Task.Decode order) octets
+        → IsTrailing (inputs_of i o) order octets place
+        → Refuses idl op (sink_seen N.written N.faults notes.old notes.new) result (Refusal.BadOctets place OctetsFault.Trailing) }
+    // Of `encode`, in the same case: status 0 where the text reads as a graph that conforms, else the refusal whose cause holds.
+    ensures encoded { (order : Order) (chunk : ℕ) (idl op : List ℕ) (i : Interface) (n : ℕ) (o : Operation) (text : List ℕ) (g : Graph)
+        → command words.now ≡ Some (Work (Task.Encode order chunk) idl op)
+        → IsSound (files_seen F.held F.absences F.faults files.old files.new)
+        (source_seen S.left S.ended S.faults input.old input.new)
+        (sink_seen K.written K.faults out.old out.new) (sink_seen N.written N.faults notes.old notes.new)
+        → IsAccepted (files_seen F.held F.absences F.faults files.old files.new) idl op i n o
+        → IsInput (source_seen S.left S.ended S.faults input.old input.new) (Task.Encode order chunk) text
+        → ReadsAs (inputs_of i o) text g → Conforms (inputs_of i o) g
+        → (result ≡ 0) ⊎ (result ≡ 5) }
+    ensures bad_text { (order : Order) (chunk : ℕ) (idl op : List ℕ) (i : Interface) (n : ℕ) (o : Operation) (text : List ℕ)
+        → (line column : ℕ) (why : TextReason)
+        → command words.now ≡ Some (Work (Task.Encode order chunk) idl op)
+        → IsSound (files_seen F.held F.absences F.faults files.old files.new)
+        (source_seen S.left S.ended S.faults input.old input.new)
+        (sink_seen K.written K.faults out.old out.new) (sink_seen N.written N.faults notes.old notes.new)
+        → IsAccepted (files_seen F.held F.absences F.faults files.old files.new) idl op i n o
+        → IsInput (source_seen S.left S.ended S.faults input.old input.new) (Task.Encode order chunk) text
+        → IsTextFault (inputs_of i o) text line column why
+        → Refuses idl op (sink_seen N.written N.faults notes.old notes.new) result (Refusal.BadText line column why) }
+    ensures bad_value { (order : Order) (chunk : ℕ) (idl op : List ℕ) (i : Interface) (n : ℕ) (o : Operation) (text : List ℕ) (g : Graph)
+        → (home : Home) (node : ℕ) (why : MisfitReason)
+        → command words.now ≡ Some (Work (Task.Encode order chunk) idl op)
+        → IsSound (files_seen F.held F.absences F.faults files.old files.new)
+        (source_seen S.left S.ended S.faults input.old input.new)
+        (sink_seen K.written K.faults out.old out.new) (sink_seen N.written N.faults notes.old notes.new)
+        → IsAccepted (files_seen F.held F.absences F.faults files.old files.new) idl op i n o
+        → IsInput (source_seen S.left S.ended S.faults input.old input.new) (Task.Encode order chunk) text
+        → ReadsAs (inputs_of i o) text g → IsFirstMisfit (inputs_of i o) g (record { home = home; node = node; reason = why })
+        → Refuses idl op (sink_seen N.written N.faults notes.old notes.new) result (Refusal.BadValue (home_path (inputs_of i o) home) why) }
 {
     let outcome = answer(alloc, words, files, input);
     deliver(&outcome, out, notes)
@@ -163,10 +202,10 @@ fn answer<F: Files, S: Source>(
         None => refused(alloc, 2, b"words refused\n"),
         Some(Command::Help) => done(alloc, HELP.as_bytes()),
         Some(Command::Version) => done(alloc, VERSION.as_bytes()),
-        Some(Command::Decode { idl, op, order }) => {
-            match decode(alloc, idl, op, order, files, input) {
-                Ok(text) => Outcome::Done(text),
-                Err(refusal) => refused_decode(alloc, idl, op, refusal),
+        Some(Command::Work { task, idl, op }) => {
+            match perform(alloc, task, idl, op, files, input) {
+                Ok(made) => Outcome::Done(made),
+                Err(refusal) => refused_task(alloc, idl, op, &refusal),
             }
         }
     }
@@ -190,96 +229,16 @@ fn refused(alloc: Global, status: Status, line: &[u8]) -> Outcome
     }
 }
 
-// A refusal of `decode` with its status and line.
-fn refused_decode(alloc: Global, idl: &str, op: &str, refusal: Refusal) -> Outcome
-    ensures { (result ≡ Outcome.Refused (status_of refusal) (line_of idl.now op.now refusal)) ⊎ (result ≡ Outcome.Wanting) }
+// A refusal of a task with its status and line.
+fn refused_task(alloc: Global, idl: &str, op: &str, refusal: &Refusal) -> Outcome
+    ensures { (result ≡ Outcome.Refused (status_of refusal.now) (line_of idl.now op.now refusal.now)) ⊎ (result ≡ Outcome.Wanting) }
 {
     match line(alloc, idl, op, refusal) {
-        Ok(line) => refused(alloc, status(refusal), line.as_bytes()),
+        Ok(line) => Outcome::Refused {
+            status: status(refusal),
+            line,
+        },
         Err(_) => Outcome::Wanting,
-    }
-}
-
-// The line of a refusal.
-fn line(alloc: Global, idl: &str, op: &str, refusal: Refusal) -> Result<String, AllocError>
-    ensures { IfOk result (λ line. string_bytes line ≡ line_of idl.now op.now refusal) }
-{
-    match refusal {
-        Refusal::Memory => format!(in alloc; "want of memory\n"),
-        Refusal::Absent => format!(in alloc; "absent: {idl}\n"),
-        Refusal::FileFailed => format!(in alloc; "file fault: {idl}\n"),
-        Refusal::NotBuilt => format!(in alloc; "idl {idl}:1:1: NotBuilt\n"),
-        Refusal::NoOperation => format!(in alloc; "idl {idl}: NoOperation {op}\n"),
-        Refusal::ReadFault => format!(in alloc; "read fault\n"),
-        Refusal::BadOctets { place, why } => {
-            let why = why_refused(alloc, why)?;
-            let why = why.as_str();
-            format!(in alloc; "refused: octets at {place}: {why}\n")
-        }
-    }
-}
-
-// Why octets are refused, as a line tells it.
-fn why_refused(alloc: Global, why: OctetsFault) -> Result<String, AllocError>
-    ensures { IfOk result (λ text. string_bytes text ≡ fault_text why) }
-{
-    match why {
-        OctetsFault::Trailing => format!(in alloc; "Trailing"),
-        OctetsFault::Refused(Reason::Disagrees { wanted, found }) => {
-            disagreement(alloc, wanted, found)
-        }
-        OctetsFault::Refused(reason) => String::from_str(alloc, reason_name(reason)),
-    }
-}
-
-// An agreement that fails, with its two numbers.
-fn disagreement(alloc: Global, wanted: i128, found: i128) -> Result<String, AllocError>
-    ensures { IfOk result (λ text. string_bytes text ≡ reason_text (Reason.Disagrees wanted found)) }
-{
-    let mut wanted_digits = Buffer::new();
-    let wanted = wanted_digits.format(wanted);
-    let mut found_digits = Buffer::new();
-    let found = found_digits.format(found);
-    four_pieces(alloc, "Disagrees wanted ", wanted, " found ", found)
-}
-
-// Four pieces of text, one behind the other.
-fn four_pieces(alloc: Global, a: &str, b: &str, c: &str, d: &str) -> Result<String, AllocError>
-    ensures { IfOk result (λ text. string_bytes text ≡ joined (a.now ∷ b.now ∷ c.now ∷ d.now ∷ [])) }
-{
-    format!(in alloc; "{a}{b}{c}{d}")
-}
-
-// The name of a reason; a disagreement has its numbers beside it.
-fn reason_name(reason: Reason) -> &'static str
-    ensures { result.now ≡ name_of reason }
-{
-    match reason {
-        Reason::Truncated => "Truncated",
-        Reason::TooLong => "TooLong",
-        Reason::EnumValue => "EnumValue",
-        Reason::PastBound => "PastBound",
-        Reason::TextOffset => "TextOffset",
-        Reason::TextEmpty => "TextEmpty",
-        Reason::TextUnended => "TextUnended",
-        Reason::TextZero => "TextZero",
-        Reason::NoArm => "NoArm",
-        Reason::OtherType => "OtherType",
-        Reason::Disagrees { .. } => "Disagrees",
-    }
-}
-
-// The status of a refusal.
-fn status(refusal: Refusal) -> Status
-    ensures { result ≡ status_of refusal }
-{
-    match refusal {
-        Refusal::Memory => 5,
-        Refusal::Absent => 7,
-        Refusal::FileFailed => 9,
-        Refusal::NotBuilt | Refusal::NoOperation => 6,
-        Refusal::ReadFault => 3,
-        Refusal::BadOctets { .. } => 1,
     }
 }
 

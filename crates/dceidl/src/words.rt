@@ -1,8 +1,11 @@
 // The words of a command line, and the command that they are.
-ghost use Rattle.std.specs.Prelude.{◌≡◌, ℕ, List, [], ◌∷◌, ◌++◌, OnOk, OnErr, option_map};
-ghost use Rattle.dceidl.specs.Words.{command, order_of};
-ghost use Rattle.dceidl.specs.Asked.{asked, asked_order};
+ghost use Rattle.std.specs.Prelude.{◌≡◌, ◌≤◌, [], ◌∷◌, ◌++◌, OnOk, OnErr, IfSome, option_map};
+ghost use Rattle.dceidl.specs.Words.{command, order_of, chunk_of, chunk_by, work as work_of, decoding as decoding_of, encoding as encoding_of};
+ghost use Rattle.dceidl.specs.Asked.{asked, HasChunk, AsksChunk};
 
+use crate::CHUNK_LIMIT;
+use crate::task::Task;
+use itoa::Buffer;
 use nd_base::{Memory, Order};
 use std::alloc::Global;
 use std::marker::Model;
@@ -47,13 +50,25 @@ impl Words {
 
     // The command that the words are, if they are one.
     pub(crate) fn command(&self) -> Option<Command<'_>>
-        ensures { option_map asked result ≡ command self.now }
+        ensures command { option_map asked result ≡ command self.now }
+        ensures chunk { IfSome result AsksChunk }
     {
         match self.items.as_slice() {
             [word] => short_command(word.as_str()),
             [verb, idl, acf, op, side, order] => {
                 if verb.as_str() == "decode" && acf.as_str() == "-" && side.as_str() == "in" {
-                    decode_command(idl.as_str(), op.as_str(), order.as_str())
+                    work(decoding(order.as_str()), idl.as_str(), op.as_str())
+                } else {
+                    None
+                }
+            }
+            [verb, idl, acf, op, side, order, chunk] => {
+                if verb.as_str() == "encode" && acf.as_str() == "-" && side.as_str() == "in" {
+                    work(
+                        encoding(order.as_str(), chunk.as_str()),
+                        idl.as_str(),
+                        op.as_str(),
+                    )
                 } else {
                     None
                 }
@@ -66,17 +81,18 @@ impl Words {
 // What a command line asks for.
 #[derive(Clone, Copy)]
 pub(crate) enum Command<'a> {
-    Decode {
+    Work {
+        task: Task,
         idl: &'a str,
         op: &'a str,
-        order: Order,
     },
     Help,
     Version,
 }
 
 fn short_command(word: &str) -> Option<Command<'_>>
-    ensures { option_map asked result ≡ command (word.now ∷ []) }
+    ensures command { option_map asked result ≡ command (word.now ∷ []) }
+    ensures chunk { IfSome result AsksChunk }
 {
     if word == "--help" {
         Some(Command::Help)
@@ -87,12 +103,37 @@ fn short_command(word: &str) -> Option<Command<'_>>
     }
 }
 
-fn decode_command<'a>(idl: &'a str, op: &'a str, order: &str) -> Option<Command<'a>>
-    ensures { option_map asked result ≡ asked_order idl.now op.now order.now }
+// The command of a task, where there is one.
+fn work<'a>(task: Option<Task>, idl: &'a str, op: &'a str) -> Option<Command<'a>>
+    requires chunk { IfSome task HasChunk }
+    ensures command { option_map asked result ≡ work_of task idl.now op.now }
+    ensures chunk { IfSome result AsksChunk }
+{
+    match task {
+        Some(task) => Some(Command::Work { task, idl, op }),
+        None => None,
+    }
+}
+
+// The decoding that a word asks for.
+fn decoding(order: &str) -> Option<Task>
+    ensures task { result ≡ decoding_of (order_of order.now) }
+    ensures chunk { IfSome result HasChunk }
 {
     match order_named(order) {
-        Some(order) => Some(Command::Decode { idl, op, order }),
+        Some(order) => Some(Task::Decode { order }),
         None => None,
+    }
+}
+
+// The encoding that two words ask for.
+fn encoding(order: &str, chunk: &str) -> Option<Task>
+    ensures task { result ≡ encoding_of (order_of order.now) (chunk_of chunk.now) }
+    ensures chunk { IfSome result HasChunk }
+{
+    match (order_named(order), chunk_named(chunk)) {
+        (Some(order), Some(chunk)) => Some(Task::Encode { order, chunk }),
+        _ => None,
     }
 }
 
@@ -104,5 +145,29 @@ fn order_named(word: &str) -> Option<Order>
         "little" => Some(Order::Little),
         "big" => Some(Order::Big),
         _ => None,
+    }
+}
+
+// How many elements of a chunk a word asks for.
+fn chunk_named(word: &str) -> Option<u32>
+    ensures number { result ≡ chunk_of word.now }
+    ensures some { IfSome result (λ n. 1 ≤ n) }
+{
+    match word.parse::<u32>() {
+        Ok(number) => chunk_of_digits(word, number),
+        Err(_) => None,
+    }
+}
+
+// A number, where its digits are the word and a chunk may have so many elements.
+fn chunk_of_digits(word: &str, number: u32) -> Option<u32>
+    ensures number { result ≡ chunk_by word.now number }
+    ensures some { IfSome result (λ n. 1 ≤ n) }
+{
+    let mut digits = Buffer::new();
+    if digits.format(number) == word && 1 <= number && number <= CHUNK_LIMIT {
+        Some(number)
+    } else {
+        None
     }
 }

@@ -1,17 +1,11 @@
-use Rattle.dceidl.specs.Outside.{files_seen, source_seen}
-use Rattle.dceidl.proofs.Causes.{run_is, run_refused}
+use Rattle.std.proofs.Common.{sym, ap, ◌∙◌}
+use Rattle.std.specs.List.{slice_get}
+use Rattle.plain_ndr.specs.Decoding.{inputs_of}
+use Rattle.dceidl.proofs.Causes.{decoding_is}
 use Rattle.dceidl.proofs.decode.decode.Goals as goal
 
-pub returns-clause-done : goal.returns-clause-done
-returns-clause-done g c =
-    let (o, ready) = c.in_ok-ready.ensures.ready in
-    run_is (files_seen g.F.Files.held g.F.Files.absences g.F.Files.faults c.args.files.now c.make_ready.new.files)
-    (source_seen g.S.Source.left g.S.Source.ended g.S.Source.faults c.args.input.now c.decode_input.new.input) c.args.idl.now c.args.op.now c.args.order
-    c.in_ok-ready.ready.interface c.in_ok-ready.ready.number o ready c.decode_input.result (c.decode_input.ensures.done o ready.named.is_there)
-
-pub returns-clause-refused : goal.returns-clause-refused
-returns-clause-refused g c =
-    let (o, ready) = c.in_ok-ready.ensures.ready in
-    run_refused (files_seen g.F.Files.held g.F.Files.absences g.F.Files.faults c.args.files.now c.make_ready.new.files)
-    (source_seen g.S.Source.left g.S.Source.ended g.S.Source.faults c.args.input.now c.decode_input.new.input) c.args.idl.now c.args.op.now c.args.order
-    c.in_ok-ready.ready.interface c.in_ok-ready.ready.number o ready c.decode_input.result (c.decode_input.ensures.refused o ready.named.is_there)
+pub returns-in-Ok-clause-done : goal.returns-in-Ok-clause-done
+returns-in-Ok-clause-done c o there =
+    decoding_is (inputs_of c.args.ready.now.interface o) c.args.order c.args.octets.now c.in-Ok.decoded.taken c.in-Ok.decoded.fit.graph
+    (c.in-Ok.ensures.decoded o there) c.print_whole.result
+    (c.print_whole.ensures.text o (ap (slice_get c.args.ready.now.interface.operations) c.in-Ok.ensures.of.0 ∙ there)) c.print_whole.ensures.whole

@@ -1,38 +1,88 @@
 -- The whole of a run is an outcome and how it was written; each row follows from it.
+use Rattle.plain_ndr.specs.Decoding.{inputs_of}
+use Rattle.dceidl.specs.declared.task.Task.TheVariants.{Decode, Encode}
 use Rattle.dceidl.proofs.Rows as rows
+use Rattle.dceidl.proofs.Statuses as statuses
 use Rattle.dceidl.proofs.Sound as sound
+use Rattle.dceidl.proofs.SoundDecode as decoding
+use Rattle.dceidl.proofs.SoundEncode as encoding
 use Rattle.dceidl.proofs.top.run.Goals as goal
 
+pub returns-clause-read : goal.returns-clause-read
+returns-clause-read g c =
+    statuses.read _ _ _ _ _ c.args.words.now (record { outcome = c.answer-outcome.result; caused = c.answer-outcome.ensures; delivered = c.deliver.ensures })
+
+pub returns-clause-absent : goal.returns-clause-absent
+returns-clause-absent g c =
+    statuses.absent _ _ _ _ _ c.args.words.now (record { outcome = c.answer-outcome.result; caused = c.answer-outcome.ensures; delivered = c.deliver.ensures })
+
+pub returns-clause-file : goal.returns-clause-file
+returns-clause-file g c =
+    statuses.file _ _ _ _ _ c.args.words.now (record { outcome = c.answer-outcome.result; caused = c.answer-outcome.ensures; delivered = c.deliver.ensures })
+
 pub returns-clause-done : goal.returns-clause-done
-returns-clause-done g c idl op order is zero =
-    rows.done_is _ _ _ _ idl op order _ (rows.ended _ _ _ _ idl op order _ c.args.words.now is
+returns-clause-done g c task idl op is zero =
+    rows.done_is _ _ _ _ task idl op _ (rows.ended _ _ _ _ task idl op _ c.args.words.now is
     (record { outcome = c.answer-outcome.result; caused = c.answer-outcome.ensures; delivered = c.deliver.ensures })) zero
 
 pub returns-clause-refused : goal.returns-clause-refused
-returns-clause-refused g c idl op order is zero four five =
-    rows.refused_is _ _ _ _ idl op order _ (rows.ended _ _ _ _ idl op order _ c.args.words.now is
+returns-clause-refused g c task idl op is zero four five =
+    rows.refused_is _ _ _ _ task idl op _ (rows.ended _ _ _ _ task idl op _ c.args.words.now is
     (record { outcome = c.answer-outcome.result; caused = c.answer-outcome.ensures; delivered = c.deliver.ensures })) zero four five
 
-pub returns-clause-complete : goal.returns-clause-complete
-returns-clause-complete g c idl op order i n o octets graph is nothing_failed accepted input represents conforms =
-    sound.complete _ _ _ _ idl op order _ nothing_failed (rows.ended _ _ _ _ idl op order _ c.args.words.now is
+pub returns-clause-not_built : goal.returns-clause-not_built
+returns-clause-not_built g c task idl op file is nothing_failed held none =
+    sound.not_built _ _ _ _ task idl op _ nothing_failed (rows.ended _ _ _ _ task idl op _ c.args.words.now is
     (record { outcome = c.answer-outcome.result; caused = c.answer-outcome.ensures; delivered = c.deliver.ensures }))
-    i n o octets accepted input graph represents conforms
-
-pub returns-clause-bad : goal.returns-clause-bad
-returns-clause-bad g c idl op order i n o octets place why is nothing_failed accepted input bad =
-    sound.bad _ _ _ _ idl op order _ nothing_failed (rows.ended _ _ _ _ idl op order _ c.args.words.now is
-    (record { outcome = c.answer-outcome.result; caused = c.answer-outcome.ensures; delivered = c.deliver.ensures }))
-    i n o octets accepted input place why bad
-
-pub returns-clause-trailing : goal.returns-clause-trailing
-returns-clause-trailing g c idl op order i n o octets place is nothing_failed accepted input trailing =
-    sound.trailing _ _ _ _ idl op order _ nothing_failed (rows.ended _ _ _ _ idl op order _ c.args.words.now is
-    (record { outcome = c.answer-outcome.result; caused = c.answer-outcome.ensures; delivered = c.deliver.ensures }))
-    i n o octets accepted input place trailing
+    file held none
 
 pub returns-clause-no_operation : goal.returns-clause-no_operation
-returns-clause-no_operation g c idl op order file i is nothing_failed only plain gone =
-    sound.no_operation _ _ _ _ idl op order _ nothing_failed (rows.ended _ _ _ _ idl op order _ c.args.words.now is
+returns-clause-no_operation g c task idl op file i is nothing_failed held plain gone =
+    sound.no_operation _ _ _ _ task idl op _ nothing_failed (rows.ended _ _ _ _ task idl op _ c.args.words.now is
     (record { outcome = c.answer-outcome.result; caused = c.answer-outcome.ensures; delivered = c.deliver.ensures }))
-    file i only plain gone
+    file i held plain gone
+
+pub returns-clause-complete : goal.returns-clause-complete
+returns-clause-complete g c order idl op i n o octets graph is nothing_failed accepted input represents conforms =
+    decoding.complete _ order idl op (inputs_of i o) _ (decoding.side_of _ idl op i n o accepted) octets _
+    (sound.settled _ _ _ _ (Decode order) idl op _ nothing_failed (rows.ended _ _ _ _ (Decode order) idl op _ c.args.words.now is
+    (record { outcome = c.answer-outcome.result; caused = c.answer-outcome.ensures; delivered = c.deliver.ensures }))
+    i n o octets accepted input) graph represents conforms
+
+pub returns-clause-bad : goal.returns-clause-bad
+returns-clause-bad g c order idl op i n o octets place why is nothing_failed accepted input bad =
+    decoding.bad _ order idl op (inputs_of i o) _ (decoding.side_of _ idl op i n o accepted) octets _
+    (sound.settled _ _ _ _ (Decode order) idl op _ nothing_failed (rows.ended _ _ _ _ (Decode order) idl op _ c.args.words.now is
+    (record { outcome = c.answer-outcome.result; caused = c.answer-outcome.ensures; delivered = c.deliver.ensures }))
+    i n o octets accepted input) place why bad
+
+pub returns-clause-trailing : goal.returns-clause-trailing
+returns-clause-trailing g c order idl op i n o octets place is nothing_failed accepted input goes_on =
+    decoding.trailing _ order idl op (inputs_of i o) _ (decoding.side_of _ idl op i n o accepted) octets _
+    (sound.settled _ _ _ _ (Decode order) idl op _ nothing_failed (rows.ended _ _ _ _ (Decode order) idl op _ c.args.words.now is
+    (record { outcome = c.answer-outcome.result; caused = c.answer-outcome.ensures; delivered = c.deliver.ensures }))
+    i n o octets accepted input) place goes_on
+
+pub returns-clause-encoded : goal.returns-clause-encoded
+returns-clause-encoded g c order chunk idl op i n o text graph is nothing_failed accepted input reads conforms =
+    encoding.encoded _ order chunk idl op (inputs_of i o) text _
+    (sound.settled _ _ _ _ (Encode order chunk) idl op _ nothing_failed (rows.ended _ _ _ _ (Encode order chunk) idl op _ c.args.words.now is
+    (record { outcome = c.answer-outcome.result; caused = c.answer-outcome.ensures; delivered = c.deliver.ensures }))
+    i n o text accepted input)
+    (encoding.one_graph_of _ idl op i n o accepted text) (encoding.one_fault_of _ idl op i n o accepted text) graph reads conforms
+
+pub returns-clause-bad_text : goal.returns-clause-bad_text
+returns-clause-bad_text g c order chunk idl op i n o text line column why is nothing_failed accepted input fault =
+    encoding.bad_text _ order chunk idl op (inputs_of i o) text _
+    (sound.settled _ _ _ _ (Encode order chunk) idl op _ nothing_failed (rows.ended _ _ _ _ (Encode order chunk) idl op _ c.args.words.now is
+    (record { outcome = c.answer-outcome.result; caused = c.answer-outcome.ensures; delivered = c.deliver.ensures }))
+    i n o text accepted input)
+    (encoding.one_graph_of _ idl op i n o accepted text) (encoding.one_fault_of _ idl op i n o accepted text) line column why fault
+
+pub returns-clause-bad_value : goal.returns-clause-bad_value
+returns-clause-bad_value g c order chunk idl op i n o text graph home node why is nothing_failed accepted input reads first =
+    encoding.bad_value _ order chunk idl op (inputs_of i o) text _
+    (sound.settled _ _ _ _ (Encode order chunk) idl op _ nothing_failed (rows.ended _ _ _ _ (Encode order chunk) idl op _ c.args.words.now is
+    (record { outcome = c.answer-outcome.result; caused = c.answer-outcome.ensures; delivered = c.deliver.ensures }))
+    i n o text accepted input)
+    (encoding.one_graph_of _ idl op i n o accepted text) (encoding.one_fault_of _ idl op i n o accepted text) graph home node why reads first

@@ -2,7 +2,7 @@ use Rattle.std.proofs.Common.{sym, subst}
 use Rattle.nd_base.specs.Outside.{IsContent}
 use Rattle.dceidl.specs.Outside.{files_seen}
 use Rattle.dceidl.proofs.Causes.{ready_is, file_refused}
-use Rattle.dceidl.proofs.decode.make_ready.Goals as goal
+use Rattle.dceidl.proofs.ready.make_ready.Goals as goal
 
 pub returns-in-Ok-clause-ready : goal.returns-in-Ok-clause-ready
 returns-in-Ok-clause-ready g c =

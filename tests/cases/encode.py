@@ -1,7 +1,4 @@
-"""Not built yet: encoding, and the value text of plain operations.
-
-When they are built this file loses its `next_`, and until_encode.py goes away.
-"""
+"""Encoding of plain integers in either order, and the value text of plain operations: what is read, and what is refused."""
 
 from case import CLOSED, FOLDER, FULL, Case, OneAtATime, Sparse, example, interface, lines, octets
 

@@ -1,0 +1,158 @@
+-- What the statuses of faults say, from the whole of a run.
+use Rattle.std.proofs.Common.{◌≡◌, ℕ, List, Option, Some, None, refl, sym, ◌∙◌, ap, subst, inl, inr, ◌⊎◌, codes}
+use Rattle.nd_base.specs.Outside.{IsMissing}
+use Rattle.nd_graph.specs.Setting.{Setting}
+use Rattle.plain_ndr.specs.Decoding.{inputs_of}
+use Rattle.dceidl.specs.declared.task.Task.{Task}
+use Rattle.dceidl.specs.declared.task.Task.TheVariants.{Decode, Encode}
+use Rattle.dceidl.specs.declared.refusal.Refusal.{Refusal}
+use Rattle.dceidl.specs.declared.refusal.Refusal.TheVariants.{Memory, Absent, FileFailed, NotBuilt, NoOperation, ReadFault, BadOctets, BadText, BadValue}
+use Rattle.dceidl.specs.declared.outcome.Outcome.{Outcome}
+use Rattle.dceidl.specs.declared.outcome.Outcome.TheVariants.{Done, Refused, Wanting}
+use Rattle.dceidl.specs.Outside.{FilesSeen, SourceSeen, SinkSeen, HasRisen}
+use Rattle.dceidl.specs.Words.{Command, command, Work, Help, Version}
+use Rattle.dceidl.specs.Task.{IsCause, IsContentCause}
+use Rattle.dceidl.specs.Lines.{status_of}
+use Rattle.dceidl.specs.Run.{HasRun, IsOutcome, IsDelivered}
+use Rattle.dceidl.specs.Rows.{IsDueAndMissing, IsSomeDue, ReadsInput}
+use Rattle.dceidl.proofs.Rows.{Ended, ended_done, ended_refused, ended_wanting, ended_unwritten, ended_untold, ended}
+
+-- the octets of the input are not refused as a file is
+no_absence : (task : Task) (w : Setting) (octets : List ℕ) → IsContentCause task w octets Absent → ⊥
+no_absence (Decode order) w octets cause = cause
+no_absence (Encode order chunk) w octets cause = cause
+
+no_file_fault : (task : Task) (w : Setting) (octets : List ℕ) → IsContentCause task w octets FileFailed → ⊥
+no_file_fault (Decode order) w octets cause = cause
+no_file_fault (Encode order chunk) w octets cause = cause
+
+-- the status of an outcome, where nothing fails while it is written
+abbrev own : Outcome → ℕ
+own (Done made) = 0
+own (Refused status line) = status
+own Wanting = 5
+
+module _ (f : FilesSeen) (s : SourceSeen) (out notes : SinkSeen) (status : ℕ) where
+  module _ (task : Task) (idl op : List ℕ) where
+    rose_3 : (r : Refusal) → IsCause f s task idl op r → status_of r ≡ 3 → HasRisen s.faults
+    rose_3 ReadFault (inl ((file, content, never), untouched)) e = absurd never
+    rose_3 ReadFault (inr (i, n, o, ready, rose)) e = rose
+    rose_3 Memory cause e = cc
+    rose_3 Absent cause e = cc
+    rose_3 FileFailed cause e = cc
+    rose_3 NotBuilt cause e = cc
+    rose_3 NoOperation cause e = cc
+    rose_3 (BadOctets place why) cause e = cc
+    rose_3 (BadText line column reason) cause e = cc
+    rose_3 (BadValue path reason) cause e = cc
+
+    rose_7 : (r : Refusal) → IsCause f s task idl op r → status_of r ≡ 7 → HasRisen f.absences × IsMissing f.held idl
+    rose_7 Absent (inl ((rose, missing), untouched)) e = (rose, missing)
+    rose_7 Absent (inr (i, n, o, ready, (octets, read, cause))) e = absurd (no_absence task (inputs_of i o) octets cause)
+    rose_7 ReadFault cause e = cc
+    rose_7 Memory cause e = cc
+    rose_7 FileFailed cause e = cc
+    rose_7 NotBuilt cause e = cc
+    rose_7 NoOperation cause e = cc
+    rose_7 (BadOctets place why) cause e = cc
+    rose_7 (BadText line column reason) cause e = cc
+    rose_7 (BadValue path reason) cause e = cc
+
+    rose_9 : (r : Refusal) → IsCause f s task idl op r → status_of r ≡ 9 → HasRisen f.faults
+    rose_9 FileFailed (inl (rose, untouched)) e = rose
+    rose_9 FileFailed (inr (i, n, o, ready, (octets, read, cause))) e = absurd (no_file_fault task (inputs_of i o) octets cause)
+    rose_9 ReadFault cause e = cc
+    rose_9 Memory cause e = cc
+    rose_9 Absent cause e = cc
+    rose_9 NotBuilt cause e = cc
+    rose_9 NoOperation cause e = cc
+    rose_9 (BadOctets place why) cause e = cc
+    rose_9 (BadText line column reason) cause e = cc
+    rose_9 (BadValue path reason) cause e = cc
+
+    -- a status other than 0, 4 and 5 is that of a refusal
+    refusal_of : Ended f s out notes task idl op status → (n : ℕ) → status ≡ n → (n ≡ 0 → ⊥) → (n ≡ 4 → ⊥) → (n ≡ 5 → ⊥)
+        → (r : Refusal) × IsCause f s task idl op r × (status_of r ≡ n)
+    refusal_of (ended_done is d) n e zero four five = absurd (zero (sym e ∙ is))
+    refusal_of (ended_refused r) n e zero four five = (r.refusal, r.cause, sym r.own_status ∙ e)
+    refusal_of (ended_wanting is) n e zero four five = absurd (five (sym e ∙ is))
+    refusal_of (ended_unwritten is rose) n e zero four five = absurd (four (sym e ∙ is))
+    refusal_of (ended_untold is rose) n e zero four five = absurd (four (sym e ∙ is))
+
+  own_or_four : (outcome : Outcome) → IsDelivered out notes outcome status → (status ≡ own outcome) ⊎ (status ≡ 4)
+  own_or_four (Done made) (inl (is, given, quiet)) = inl is
+  own_or_four (Done made) (inr (is, rose, some, warned)) = inr is
+  own_or_four (Refused at line) (before, inl (is, told)) = inl is
+  own_or_four (Refused at line) (before, inr (is, rose, some)) = inr is
+  own_or_four Wanting (before, inl (is, told)) = inl is
+  own_or_four Wanting (before, inr (is, rose, some)) = inr is
+
+  -- a command without a task comes to 0, 2, 4 or 5
+  abbrev Idle : Type 0
+  Idle = ((status ≡ 0) ⊎ (status ≡ 2)) ⊎ ((status ≡ 4) ⊎ (status ≡ 5))
+
+  by_own : (outcome : Outcome) → IsDelivered out notes outcome status → (own outcome ≡ 0) ⊎ ((own outcome ≡ 2) ⊎ (own outcome ≡ 5)) → Idle
+  by_own outcome delivered is = by (own_or_four outcome delivered) is
+    where
+      by : (status ≡ own outcome) ⊎ (status ≡ 4) → (own outcome ≡ 0) ⊎ ((own outcome ≡ 2) ⊎ (own outcome ≡ 5)) → Idle
+      by (inr four) is = inr (inl four)
+      by (inl e) (inl a) = inl (inl (e ∙ a))
+      by (inl e) (inr (inl a)) = inl (inr (e ∙ a))
+      by (inl e) (inr (inr a)) = inr (inr (e ∙ a))
+
+  idle_none : (outcome : Outcome) → IsOutcome f s None outcome → IsDelivered out notes outcome status → Idle
+  idle_none outcome (inl is, asks) delivered = by_own outcome delivered (inr (inl (ap own is)))
+  idle_none outcome (inr is, asks) delivered = by_own outcome delivered (inr (inr (ap own is)))
+
+  idle_help : (outcome : Outcome) → IsOutcome f s (Some Help) outcome → IsDelivered out notes outcome status → Idle
+  idle_help outcome (inl is, asks) delivered = by_own outcome delivered (inl (ap own is))
+  idle_help outcome (inr is, asks) delivered = by_own outcome delivered (inr (inr (ap own is)))
+
+  idle_version : (outcome : Outcome) → IsOutcome f s (Some Version) outcome → IsDelivered out notes outcome status → Idle
+  idle_version outcome (inl is, asks) delivered = by_own outcome delivered (inl (ap own is))
+  idle_version outcome (inr is, asks) delivered = by_own outcome delivered (inr (inr (ap own is)))
+
+  not_idle : (n : ℕ) → status ≡ n → (n ≡ 0 → ⊥) → (n ≡ 2 → ⊥) → (n ≡ 4 → ⊥) → (n ≡ 5 → ⊥) → Idle → ⊥
+  not_idle n e zero two four five (inl (inl is)) = zero (sym e ∙ is)
+  not_idle n e zero two four five (inl (inr is)) = two (sym e ∙ is)
+  not_idle n e zero two four five (inr (inl is)) = four (sym e ∙ is)
+  not_idle n e zero two four five (inr (inr is)) = five (sym e ∙ is)
+
+  -- a run with such a status is one of a task
+  pub data OfTask (words : List (List ℕ)) : Type 0 where
+    of_task : (task : Task) (idl op : List ℕ) → command words ≡ Some (Work task idl op) → Ended f s out notes task idl op status → OfTask words
+
+  task_of : (words : List (List ℕ)) → HasRun words f s out notes status → (n : ℕ) → status ≡ n
+      → (n ≡ 0 → ⊥) → (n ≡ 2 → ⊥) → (n ≡ 4 → ⊥) → (n ≡ 5 → ⊥) → OfTask words
+  task_of words run n e zero two four five = by (command words) refl
+    where
+      by : (c : Option Command) → command words ≡ c → OfTask words
+      by (Some (Work task idl op)) is = of_task task idl op is (ended f s out notes task idl op status words is run)
+      by None is = absurd (not_idle n e zero two four five (idle_none run.outcome (subst (λ c. IsOutcome f s c run.outcome) is run.caused) run.delivered))
+      by (Some Help) is = absurd (not_idle n e zero two four five (idle_help run.outcome (subst (λ c. IsOutcome f s c run.outcome) is run.caused) run.delivered))
+      by (Some Version) is = absurd (not_idle n e zero two four five (idle_version run.outcome (subst (λ c. IsOutcome f s c run.outcome) is run.caused) run.delivered))
+
+  pub read : (words : List (List ℕ)) → HasRun words f s out notes status → status ≡ 3 → HasRisen s.faults × ReadsInput (command words)
+  read words run e = by (task_of words run 3 e (λ x. cc) (λ x. cc) (λ x. cc) (λ x. cc))
+    where
+      by : OfTask words → HasRisen s.faults × ReadsInput (command words)
+      by (of_task task idl op is end) =
+          let (r, cause, three) = refusal_of task idl op end 3 e (λ x. cc) (λ x. cc) (λ x. cc) in
+          (rose_3 task idl op r cause three, subst ReadsInput (sym is) tt)
+
+  pub absent : (words : List (List ℕ)) → HasRun words f s out notes status → status ≡ 7 → HasRisen f.absences × IsDueAndMissing (command words) f.held
+  absent words run e = by (task_of words run 7 e (λ x. cc) (λ x. cc) (λ x. cc) (λ x. cc))
+    where
+      by : OfTask words → HasRisen f.absences × IsDueAndMissing (command words) f.held
+      by (of_task task idl op is end) =
+          let (r, cause, seven) = refusal_of task idl op end 7 e (λ x. cc) (λ x. cc) (λ x. cc) in
+          let (rose, missing) = rose_7 task idl op r cause seven in
+          (rose, subst (λ c. IsDueAndMissing c f.held) (sym is) (idl, refl, missing))
+
+  pub file : (words : List (List ℕ)) → HasRun words f s out notes status → status ≡ 9 → HasRisen f.faults × IsSomeDue (command words)
+  file words run e = by (task_of words run 9 e (λ x. cc) (λ x. cc) (λ x. cc) (λ x. cc))
+    where
+      by : OfTask words → HasRisen f.faults × IsSomeDue (command words)
+      by (of_task task idl op is end) =
+          let (r, cause, nine) = refusal_of task idl op end 9 e (λ x. cc) (λ x. cc) (λ x. cc) in
+          (rose_9 task idl op r cause nine, subst IsSomeDue (sym is) tt)

@@ -1,0 +1,37 @@
+-- When the file and the operation that a command speaks of are ready, and for which causes they are refused.
+use Rattle.std.specs.Prelude.{◌≡◌, ℕ, List, Option, None, Some, ⊤}
+use Rattle.std.specs.List.{slice_get}
+use Rattle.nd_base.specs.Outside.{IsContent, IsMissing}
+use Rattle.nd_types.specs.declared.interface.Interface.{Interface}
+use Rattle.nd_types.specs.declared.types.Operation.{Operation}
+use Rattle.nd_types.specs.Operations.{operation_named}
+use Rattle.plain_idl.specs.Plain.{IsPlainFile}
+use Rattle.dceidl.specs.Outside.{FilesSeen, HasRisen}
+use Rattle.dceidl.specs.declared.refusal.Refusal.{Refusal}
+use Rattle.dceidl.specs.declared.refusal.Refusal.TheVariants.{Memory, Absent, FileFailed, NotBuilt, NoOperation}
+
+-- the operation of a name, by its number
+pub record IsNamed (i : Interface) (name : List ℕ) (n : ℕ) (o : Operation) : Type 0 where
+  pub found : operation_named i.operations name ≡ Some n
+  pub is_there : slice_get i.operations n ≡ Some o
+
+-- The file was loaded and is a plain file of an interface that has the operation.
+pub record IsReady (f : FilesSeen) (idl op : List ℕ) (i : Interface) (n : ℕ) (o : Operation) : Type 0 where
+  pub file : List ℕ
+  pub loaded : IsContent f.held idl file
+  pub plain : IsPlainFile file i
+  pub named : IsNamed i op n o
+
+-- the file is no plain file, or its interface has no operation of the name
+abbrev pub IsNoInterface : List ℕ → List ℕ → Refusal → Type 0
+IsNoInterface file op Memory = ⊤
+IsNoInterface file op NotBuilt = (i : Interface) → IsPlainFile file i → ⊥
+IsNoInterface file op NoOperation = (i : Interface) × IsPlainFile file i × (operation_named i.operations op ≡ None)
+IsNoInterface file op _ = ⊥
+
+-- Why the files are refused: loading comes first. (Where memory was wanting no more is said.)
+abbrev pub IsFileCause : FilesSeen → List ℕ → List ℕ → Refusal → Type 0
+IsFileCause f idl op Absent = HasRisen f.absences × IsMissing f.held idl
+IsFileCause f idl op FileFailed = HasRisen f.faults
+IsFileCause f idl op Memory = ⊤
+IsFileCause f idl op refusal = (file : List ℕ) × IsContent f.held idl file × IsNoInterface file op refusal

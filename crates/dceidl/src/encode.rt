@@ -1,0 +1,152 @@
+// Encoding: the text of the input is read, its values are fitted to the operation, and encoded.
+ghost use Rattle.std.specs.Prelude.{◌≡◌, ◌<◌, ◌≤◌, ◌^◌, [], ◌∷◌, length, Some, IfOk, IfErr, codes, decimal};
+ghost use Rattle.std.specs.List.{slice_get};
+ghost use Rattle.nd_types.specs.declared.types.Operation.{Operation};
+ghost use Rattle.nd_types.specs.declared.types.Side.TheVariants as side;
+ghost use Rattle.nd_types.specs.Plain.{IsPlainInterface};
+ghost use Rattle.nd_types.specs.Walk.{named_roots};
+ghost use Rattle.nd_graph.specs.Conforms.{Conforms, HasFewNodes};
+ghost use Rattle.nd_grammar.specs.Chosen.{Chosen};
+ghost use Rattle.plain_ndr.specs.Decoding.{inputs_of};
+ghost use Rattle.value_text.specs.Text.{joined};
+ghost use Rattle.dceidl.specs.Encode.{IsEncoding, IsTextCause, IsValueCause, IsToldAsValue, home_path, root_path as name_of};
+
+use crate::join::join;
+use crate::ready::Ready;
+use crate::refusal::Refusal;
+use itoa::Buffer;
+use nd_base::{Memory, Octets, Order};
+use nd_graph::{CellId, Fit, Graph, Home, Misfit, fit};
+use nd_types::Side;
+use std::alloc::Global;
+use value_text::{TextFault, read_text};
+
+// The octets of the values that a text states.
+pub(crate) fn encode(
+    alloc: Global,
+    ready: &Ready,
+    order: Order,
+    chunk: u32,
+    text: &[u8],
+) -> Result<Octets, Refusal>
+    requires plain { IsPlainInterface ready.now.interface.types ready.now.interface.operations }
+    requires known { ready.now.number < length ready.now.interface.operations }
+    requires chunk { 1 ≤ chunk }
+    ensures done { (o : Operation) → slice_get ready.now.interface.operations ready.now.number ≡ Some o
+        → IfOk result (IsEncoding (inputs_of ready.now.interface o) order chunk text.now) }
+    ensures refused { (o : Operation) → slice_get ready.now.interface.operations ready.now.number ≡ Some o
+        → IfErr result (IsTextCause (inputs_of ready.now.interface o) text.now) }
+{
+    match read_text(alloc, &ready.interface, ready.number, Side::In, text) {
+        Ok(graph) => encode_graph(alloc, ready, order, chunk, graph),
+        Err(TextFault::Memory) => Err(Refusal::Memory),
+        Err(TextFault::At {
+            line,
+            column,
+            reason,
+        }) => Err(Refusal::BadText {
+            line,
+            column,
+            reason,
+        }),
+    }
+}
+
+// The octets of a graph, where it conforms.
+fn encode_graph(
+    alloc: Global,
+    ready: &Ready,
+    order: Order,
+    chunk: u32,
+    graph: Graph,
+) -> Result<Octets, Refusal>
+    requires plain { IsPlainInterface ready.now.interface.types ready.now.interface.operations }
+    requires known { ready.now.number < length ready.now.interface.operations }
+    requires few_cells { length graph.cells < 2 ^ 32 }
+    requires few_nodes { HasFewNodes graph }
+    requires chunk { 1 ≤ chunk }
+    ensures conforms { (o : Operation) → slice_get ready.now.interface.operations ready.now.number ≡ Some o
+        → IfOk result (λ _. Conforms (inputs_of ready.now.interface o) graph) }
+    ensures chosen { (o : Operation) → slice_get ready.now.interface.operations ready.now.number ≡ Some o
+        → IfOk result (Chosen (inputs_of ready.now.interface o) order chunk graph) }
+    ensures refused { (o : Operation) → slice_get ready.now.interface.operations ready.now.number ≡ Some o
+        → IfErr result (IsValueCause (inputs_of ready.now.interface o) graph) }
+{
+    match fit(alloc, &ready.interface, ready.number, Side::In, graph) {
+        Ok(fit) => encode_fit(alloc, ready, order, chunk, &fit),
+        Err((misfit, _)) => Err(value_refused(alloc, ready, misfit)),
+    }
+}
+
+// The octets of a graph that conforms.
+fn encode_fit(
+    alloc: Global,
+    ready: &Ready,
+    order: Order,
+    chunk: u32,
+    fit: &Fit,
+) -> Result<Octets, Refusal>
+    requires plain { IsPlainInterface ready.now.interface.types ready.now.interface.operations }
+    requires tied { fit.now.interface ≡ ready.now.interface }
+    requires inputs { fit.now.side ≡ side.In }
+    requires chunk { 1 ≤ chunk }
+    ensures conforms { (o : Operation) → slice_get ready.now.interface.operations fit.now.op ≡ Some o
+        → IfOk result (λ _. Conforms (inputs_of ready.now.interface o) fit.now.graph) }
+    ensures chosen { (o : Operation) → slice_get ready.now.interface.operations fit.now.op ≡ Some o
+        → IfOk result (Chosen (inputs_of ready.now.interface o) order chunk fit.now.graph) }
+    ensures refused { IfErr result (λ e. e ≡ Refusal.Memory) }
+{
+    // A fit's graph conforms.
+    let _conforming = fit.graph();
+    match plain_ndr::encode(alloc, &ready.interface, fit, order, chunk) {
+        Ok(octets) => Ok(octets),
+        Err(_) => Err(Refusal::Memory),
+    }
+}
+
+// A misfit with the path of its home.
+fn value_refused(alloc: Global, ready: &Ready, misfit: Misfit) -> Refusal
+    requires known { ready.now.number < length ready.now.interface.operations }
+    ensures { (o : Operation) → slice_get ready.now.interface.operations ready.now.number ≡ Some o
+        → IsToldAsValue (inputs_of ready.now.interface o) misfit result }
+{
+    match misfit {
+        Misfit::Memory => Refusal::Memory,
+        Misfit::At { home, reason, .. } => match path_of(alloc, ready, home) {
+            Ok(path) => Refusal::BadValue { path, reason },
+            Err(_) => Refusal::Memory,
+        },
+    }
+}
+
+// The path of a root or a cell.
+fn path_of(alloc: Global, ready: &Ready, home: Home) -> Result<Octets, Memory>
+    requires known { ready.now.number < length ready.now.interface.operations }
+    ensures { (o : Operation) → slice_get ready.now.interface.operations ready.now.number ≡ Some o
+        → IfOk result (λ path. path ≡ home_path (inputs_of ready.now.interface o) home) }
+{
+    match home {
+        Home::Root(at) => root_path(alloc, ready, at as usize),
+        Home::Cell(cell) => cell_path(alloc, cell),
+    }
+}
+
+// The name of a root.
+fn root_path(alloc: Global, ready: &Ready, at: usize) -> Result<Octets, Memory>
+    requires known { ready.now.number < length ready.now.interface.operations }
+    ensures { (o : Operation) → slice_get ready.now.interface.operations ready.now.number ≡ Some o
+        → IfOk result (λ path. path ≡ name_of (slice_get (named_roots ready.now.interface.types side.In o) at)) }
+{
+    match ready.interface.params(ready.number, Side::In).nth(at) {
+        Some(root) => Octets::copy(alloc, root.name),
+        None => Ok(Octets::new(alloc)),
+    }
+}
+
+// `@` and the number of a cell.
+fn cell_path(alloc: Global, cell: CellId) -> Result<Octets, Memory>
+    ensures { IfOk result (λ path. path ≡ joined (codes "@" ∷ decimal cell.0 ∷ [])) }
+{
+    let mut buffer = Buffer::new();
+    join(alloc, &[b"@", buffer.format(cell.0).as_bytes()])
+}

@@ -1,0 +1,29 @@
+//! Laws of what commands answer, each the contract of a function that does nothing.
+ghost use Rattle.std.specs.Prelude.{◌≡◌, ℕ, List, Some};
+ghost use Rattle.std.specs.List.{slice_get};
+ghost use Rattle.nd_base.specs.declared.octets.Order.{Order};
+ghost use Rattle.nd_types.specs.declared.interface.Interface.{Interface};
+ghost use Rattle.nd_types.specs.declared.types.Operation.{Operation};
+ghost use Rattle.nd_types.specs.Plain.{IsPlainInterface};
+ghost use Rattle.nd_grammar.specs.Represents.{Represents};
+ghost use Rattle.plain_ndr.specs.Decoding.{inputs_of};
+ghost use Rattle.value_text.specs.Printed.{IsText};
+ghost use Rattle.dceidl.specs.Decode.{IsDecoding};
+ghost use Rattle.dceidl.specs.Encode.{IsEncoding};
+
+/// `decode` undoes `encode` on plain operations: the octets that `encode` writes of a text represent the graph that the text reads
+/// as, and what `decode` of the same order writes of them is the text of that graph. A text that was printed comes back.
+pub fn decode_undoes_encode()
+    ensures represents { (i : Interface) (n : ℕ) (o : Operation) (order : Order) (chunk : ℕ) (text octets : List ℕ)
+        → IsPlainInterface i.types i.operations → slice_get i.operations n ≡ Some o
+        → (e : IsEncoding (inputs_of i o) order chunk text octets)
+        → Represents (inputs_of i o) order octets e.graph }
+    ensures back { (i : Interface) (n : ℕ) (o : Operation) (order : Order) (chunk : ℕ) (text octets made : List ℕ)
+        → IsPlainInterface i.types i.operations → slice_get i.operations n ≡ Some o
+        → (e : IsEncoding (inputs_of i o) order chunk text octets) → IsDecoding (inputs_of i o) order octets made
+        → IsText (inputs_of i o) e.graph made }
+    ensures printed { (i : Interface) (n : ℕ) (o : Operation) (order : Order) (chunk : ℕ) (text octets made : List ℕ)
+        → IsPlainInterface i.types i.operations → slice_get i.operations n ≡ Some o
+        → (e : IsEncoding (inputs_of i o) order chunk text octets) → IsDecoding (inputs_of i o) order octets made
+        → IsText (inputs_of i o) e.graph text → made ≡ text }
+{}

@@ -1,0 +1,187 @@
+// The status and the line of each refusal.
+ghost use Rattle.std.specs.Prelude.{◌≡◌, [], IfOk};
+ghost use Rattle.dceidl.specs.Lines.{status_of, line_of, fault_text, reason_text, misfit_text, disagreement as disagreement_text, reason_name as name_of_reason, misfit_name as name_of_misfit, text_reason_name as name_of_text_reason};
+
+use crate::join::join;
+use crate::refusal::{OctetsFault, Refusal};
+use crate::top::Status;
+use itoa::Buffer;
+use nd_base::{Memory, Octets};
+use nd_grammar::Reason;
+use nd_graph::MisfitReason;
+use std::alloc::Global;
+use value_text::TextReason;
+
+// The status of a refusal.
+pub(crate) fn status(refusal: &Refusal) -> Status
+    ensures { result ≡ status_of refusal.now }
+{
+    match refusal {
+        Refusal::Memory => 5,
+        Refusal::Absent => 7,
+        Refusal::FileFailed => 9,
+        Refusal::NotBuilt | Refusal::NoOperation => 6,
+        Refusal::ReadFault => 3,
+        Refusal::BadOctets { .. } | Refusal::BadText { .. } | Refusal::BadValue { .. } => 1,
+    }
+}
+
+// The line of a refusal.
+pub(crate) fn line(
+    alloc: Global,
+    idl: &str,
+    op: &str,
+    refusal: &Refusal,
+) -> Result<Octets, Memory>
+    ensures { IfOk result (λ line. line ≡ line_of idl.now op.now refusal.now) }
+{
+    let idl = idl.as_bytes();
+    match refusal {
+        Refusal::Memory => Octets::copy(alloc, b"want of memory\n"),
+        Refusal::Absent => join(alloc, &[b"absent: ", idl, b"\n"]),
+        Refusal::FileFailed => join(alloc, &[b"file fault: ", idl, b"\n"]),
+        Refusal::NotBuilt => join(alloc, &[b"idl ", idl, b":1:1: NotBuilt\n"]),
+        Refusal::NoOperation => join(
+            alloc,
+            &[b"idl ", idl, b": NoOperation ", op.as_bytes(), b"\n"],
+        ),
+        Refusal::ReadFault => Octets::copy(alloc, b"read fault\n"),
+        Refusal::BadOctets { place, why } => octets_line(alloc, *place, *why),
+        Refusal::BadText {
+            line,
+            column,
+            reason,
+        } => text_line(alloc, *line, *column, *reason),
+        Refusal::BadValue { path, reason } => value_line(alloc, path.as_slice(), *reason),
+    }
+}
+
+// Octets that are refused at a place.
+fn octets_line(alloc: Global, place: u32, why: OctetsFault) -> Result<Octets, Memory>
+    ensures { IfOk result (λ line. line ≡ line_of [] [] (Refusal.BadOctets place why)) }
+{
+    let why = why_refused(alloc, why)?;
+    let mut digits = Buffer::new();
+    let place = digits.format(place).as_bytes();
+    join(
+        alloc,
+        &[b"refused: octets at ", place, b": ", why.as_slice(), b"\n"],
+    )
+}
+
+// A text that is refused at a line and column.
+fn text_line(
+    alloc: Global,
+    line: u32,
+    column: u32,
+    reason: TextReason,
+) -> Result<Octets, Memory>
+    ensures { IfOk result (λ told. told ≡ line_of [] [] (Refusal.BadText line column reason)) }
+{
+    let mut line_digits = Buffer::new();
+    let line = line_digits.format(line).as_bytes();
+    let mut column_digits = Buffer::new();
+    let column = column_digits.format(column).as_bytes();
+    let reason = text_reason_name(reason).as_bytes();
+    join(
+        alloc,
+        &[b"refused: text ", line, b":", column, b": ", reason, b"\n"],
+    )
+}
+
+// A value that is refused at a path.
+fn value_line(alloc: Global, path: &[u8], reason: MisfitReason) -> Result<Octets, Memory>
+    ensures { IfOk result (λ line. line ≡ line_of [] [] (Refusal.BadValue path.now reason)) }
+{
+    let reason = why_misfit(alloc, reason)?;
+    join(
+        alloc,
+        &[b"refused: value at ", path, b": ", reason.as_slice(), b"\n"],
+    )
+}
+
+// Why octets are refused, as a line tells it.
+fn why_refused(alloc: Global, why: OctetsFault) -> Result<Octets, Memory>
+    ensures { IfOk result (λ text. text ≡ fault_text why) }
+{
+    match why {
+        OctetsFault::Trailing => Octets::copy(alloc, b"Trailing"),
+        OctetsFault::Refused(Reason::Disagrees { wanted, found }) => {
+            disagreement(alloc, wanted, found)
+        }
+        OctetsFault::Refused(reason) => Octets::copy(alloc, reason_name(reason).as_bytes()),
+    }
+}
+
+// Why a value is refused, as a line tells it.
+fn why_misfit(alloc: Global, reason: MisfitReason) -> Result<Octets, Memory>
+    ensures { IfOk result (λ text. text ≡ misfit_text reason) }
+{
+    match reason {
+        MisfitReason::Disagrees { wanted, found } => disagreement(alloc, wanted, found),
+        _ => Octets::copy(alloc, misfit_name(reason).as_bytes()),
+    }
+}
+
+// An agreement that fails, with its two numbers.
+fn disagreement(alloc: Global, wanted: i128, found: i128) -> Result<Octets, Memory>
+    ensures { IfOk result (λ text. text ≡ disagreement_text wanted found) }
+{
+    let mut wanted_digits = Buffer::new();
+    let wanted = wanted_digits.format(wanted).as_bytes();
+    let mut found_digits = Buffer::new();
+    let found = found_digits.format(found).as_bytes();
+    join(alloc, &[b"Disagrees wanted ", wanted, b" found ", found])
+}
+
+// The name of a reason; a disagreement has its numbers beside it.
+fn reason_name(reason: Reason) -> &'static str
+    ensures { result.now ≡ name_of_reason reason }
+{
+    match reason {
+        Reason::Truncated => "Truncated",
+        Reason::TooLong => "TooLong",
+        Reason::EnumValue => "EnumValue",
+        Reason::PastBound => "PastBound",
+        Reason::TextOffset => "TextOffset",
+        Reason::TextEmpty => "TextEmpty",
+        Reason::TextUnended => "TextUnended",
+        Reason::TextZero => "TextZero",
+        Reason::NoArm => "NoArm",
+        Reason::OtherType => "OtherType",
+        Reason::Disagrees { .. } => "Disagrees",
+    }
+}
+
+// The name of a reason why a text is refused.
+fn text_reason_name(reason: TextReason) -> &'static str
+    ensures { result.now ≡ name_of_text_reason reason }
+{
+    match reason {
+        TextReason::TooLong => "TooLong",
+        TextReason::BadToken => "BadToken",
+        TextReason::Expected => "Expected",
+        TextReason::OtherName => "OtherName",
+        TextReason::OutOfOrder => "OutOfOrder",
+        TextReason::Unnamed => "Unnamed",
+    }
+}
+
+// The name of a reason why a value is refused; a disagreement has its numbers beside it.
+fn misfit_name(reason: MisfitReason) -> &'static str
+    ensures { result.now ≡ name_of_misfit reason }
+{
+    match reason {
+        MisfitReason::Shape => "Shape",
+        MisfitReason::Range => "Range",
+        MisfitReason::NullRef => "NullRef",
+        MisfitReason::NoCell => "NoCell",
+        MisfitReason::CellType => "CellType",
+        MisfitReason::Bound => "Bound",
+        MisfitReason::Zero => "Zero",
+        MisfitReason::NoArm => "NoArm",
+        MisfitReason::Shared => "Shared",
+        MisfitReason::Unreached => "Unreached",
+        MisfitReason::Disagrees { .. } => "Disagrees",
+    }
+}

@@ -1,0 +1,104 @@
+// A task: what is done with the values of an operation's [in] parameters.
+ghost use Rattle.std.specs.Prelude.{◌≡◌, ℕ, ◌+◌, ◌<◌, ◌≤◌, List, length, Some, IfOk, IfErr};
+ghost use Rattle.std.specs.List.{slice_get};
+ghost use Rattle.nd_types.specs.declared.interface.Interface.{Interface as InterfaceValue};
+ghost use Rattle.nd_types.specs.declared.types.Operation.{Operation};
+ghost use Rattle.nd_types.specs.Plain.{IsPlainInterface};
+ghost use Rattle.plain_ndr.specs.Decoding.{inputs_of};
+ghost use Rattle.dceidl.specs.Asked.{HasChunk};
+ghost use Rattle.dceidl.specs.Outside.{files_seen, source_seen};
+ghost use Rattle.dceidl.specs.Ready.{IsReady};
+ghost use Rattle.dceidl.specs.Task.{limit_of, IsMade, IsContentCause, IsInputCause, IsCause, IsMadeOfInput};
+
+use crate::decode::decode;
+use crate::encode::encode;
+use crate::input::{InputFault, read_input};
+use crate::ready::{Ready, make_ready};
+use crate::refusal::Refusal;
+use nd_base::{Files, Octets, Order, STREAM_LIMIT, Source};
+use std::alloc::Global;
+use value_text::TEXT_LIMIT;
+
+/// What is done with the values of an operation's [in] parameters.
+#[derive(Clone, Copy, Debug, PartialEq, Eq)]
+pub enum Task {
+    /// The octets of the input are decoded, and their values written as text.
+    Decode { order: Order },
+    /// The text of the input is read, and its values encoded. `chunk` is how many elements each chunk of a pipe has.
+    Encode { order: Order, chunk: u32 },
+}
+
+// Does a task: what it speaks of is made ready, and then the input is read.
+pub(crate) fn perform<F: Files, S: Source>(
+    alloc: Global,
+    task: Task,
+    idl: &str,
+    op: &str,
+    files: &mut F,
+    input: &mut S,
+) -> Result<Octets, Refusal>
+    requires chunk { HasChunk task }
+    ensures done { IfOk result (λ made. (i : InterfaceValue) × (n : ℕ) × (o : Operation)
+        × IsReady (files_seen F.held F.absences F.faults files.old files.new) idl.now op.now i n o
+        × IsMadeOfInput (source_seen S.left S.ended S.faults input.old input.new) task (inputs_of i o) made) }
+    ensures refused { IfErr result (IsCause
+        (files_seen F.held F.absences F.faults files.old files.new)
+        (source_seen S.left S.ended S.faults input.old input.new) task idl.now op.now) }
+{
+    let ready = make_ready(alloc, idl, op, files)?;
+    convert_input(alloc, &ready, task, input)
+}
+
+// Reads the input and converts it.
+fn convert_input<S: Source>(
+    alloc: Global,
+    ready: &Ready,
+    task: Task,
+    input: &mut S,
+) -> Result<Octets, Refusal>
+    requires plain { IsPlainInterface ready.now.interface.types ready.now.interface.operations }
+    requires known { ready.now.number < length ready.now.interface.operations }
+    requires chunk { HasChunk task }
+    ensures done { (o : Operation) → slice_get ready.now.interface.operations ready.now.number ≡ Some o
+        → IfOk result (IsMadeOfInput (source_seen S.left S.ended S.faults input.old input.new) task (inputs_of ready.now.interface o)) }
+    ensures refused { (o : Operation) → slice_get ready.now.interface.operations ready.now.number ≡ Some o
+        → IfErr result (IsInputCause (source_seen S.left S.ended S.faults input.old input.new) task (inputs_of ready.now.interface o)) }
+{
+    match read_input(alloc, input, limit(task)) {
+        Ok(octets) => convert(alloc, ready, task, octets.as_slice()),
+        Err(InputFault::Memory) => Err(Refusal::Memory),
+        Err(InputFault::Read) => Err(Refusal::ReadFault),
+    }
+}
+
+// The most octets of the input that a task takes.
+fn limit(task: Task) -> u32
+    ensures { result ≡ limit_of task }
+{
+    match task {
+        Task::Decode { .. } => STREAM_LIMIT,
+        Task::Encode { .. } => TEXT_LIMIT,
+    }
+}
+
+// Decodes or encodes the octets of the input.
+fn convert(
+    alloc: Global,
+    ready: &Ready,
+    task: Task,
+    octets: &[u8],
+) -> Result<Octets, Refusal>
+    requires plain { IsPlainInterface ready.now.interface.types ready.now.interface.operations }
+    requires known { ready.now.number < length ready.now.interface.operations }
+    requires chunk { HasChunk task }
+    requires few { length octets.now ≤ limit_of task + 1 }
+    ensures done { (o : Operation) → slice_get ready.now.interface.operations ready.now.number ≡ Some o
+        → IfOk result (IsMade task (inputs_of ready.now.interface o) octets.now) }
+    ensures refused { (o : Operation) → slice_get ready.now.interface.operations ready.now.number ≡ Some o
+        → IfErr result (IsContentCause task (inputs_of ready.now.interface o) octets.now) }
+{
+    match task {
+        Task::Decode { order } => decode(alloc, ready, order, octets),
+        Task::Encode { order, chunk } => encode(alloc, ready, order, chunk, octets),
+    }
+}
