@@ -1,20 +1,18 @@
 -- A text of a plain side reads as one graph, or has one fault.
-use Rattle.std.proofs.Common.{◌≡◌, ◌≢◌, ℕ, ◌+◌, ◌<◌, ◌≤◌, ℤ, List, [], ◌∷◌, ◌++◌, length, map, Option, Some, refl, sym, ◌∙◌, ap, ap₂, subst, inl, inr, ◌⊎◌, arith}
-use Rattle.std.specs.List.{slice_get}
+use Rattle.std.proofs.Common.{◌≡◌, ◌≢◌, ℕ, ◌+◌, ◌<◌, ℤ, List, [], ◌∷◌, length, map, refl, sym, ◌∙◌, ap, ap₂, inl, inr, ◌⊎◌, arith}
 use Rattle.nd_types.specs.declared.types.Param.{Param}
 use Rattle.nd_types.specs.declared.types.Operation.{Operation}
 use Rattle.nd_types.specs.Plain.{IsPlainOperation}
 use Rattle.nd_graph.specs.declared.value.Graph.{Graph}
-use Rattle.nd_graph.specs.Setting.{Setting}
 use Rattle.nd_grammar.specs.Plain.{plain_graph}
 use Rattle.value_text.specs.declared.TheConstants.{TEXT_LIMIT}
 use Rattle.value_text.specs.declared.fault.TextReason.{TextReason}
 use Rattle.value_text.specs.declared.fault.TextReason.TheVariants as reason
-use Rattle.value_text.specs.Tokens.{Token, Word, Cell}
+use Rattle.value_text.specs.Tokens.{Token, Cell}
 use Rattle.value_text.specs.Written.{token_of, graph_tokens}
-use Rattle.value_text.specs.Dues.{Due, head_dues, param_dues}
+use Rattle.value_text.specs.Dues.{param_dues}
 use Rattle.value_text.specs.Readable.{IsReadable}
-use Rattle.value_text.specs.Reads.{ReadsAs, Lexeme, Cut, End, Bad, IsReason, IsFirstFault, IsTextFault, position_of}
+use Rattle.value_text.specs.Reads.{ReadsAs, Lexeme, Cut, IsReason, IsFirstFault, IsTextFault, position_of}
 use Rattle.value_text.proofs.PlainGraphs.{side_of, dues_of, filled, plain_pieces, readable_plain}
 use Rattle.value_text.proofs.OneText.{compare, Compared, as_far, shorter, longer, some_octets, one_fault}
 
@@ -120,7 +118,7 @@ module _ (o : Operation) (h : IsPlainOperation o) where
       ⊎ ((place : ℕ) × IsFirstFault (side_of o) text place why × (position_of text place ≡ (line, column)))
 
   either : (text : List ℕ) (line column : ℕ) (why : TextReason) → IsTextFault (side_of o) text line column why → IsEither text line column why
-  either text line column reason.TooLong a = inl (refl, a)
+  either text line column reason.TooLong a = inl (refl, a.0, a.1, a.2)
   either text line column reason.BadToken a = inr a
   either text line column reason.Expected a = inr a
   either text line column reason.OtherName a = inr a

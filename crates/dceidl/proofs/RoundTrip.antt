@@ -5,9 +5,7 @@ use Rattle.nd_types.specs.declared.types.Primitive.{Primitive}
 use Rattle.nd_graph.specs.declared.value.Graph.{Graph}
 use Rattle.nd_graph.specs.Tree.{Tree, Referent, more, trees}
 use Rattle.nd_graph.specs.Setting.{Setting}
-use Rattle.nd_graph.specs.Conforms.{Conforms}
 use Rattle.nd_graph.specs.Same.{Same, renumbered}
-use Rattle.nd_grammar.specs.Chosen.{Chosen}
 use Rattle.nd_grammar.specs.Represents.{Represents}
 use Rattle.nd_grammar.specs.Plain.{IsPlain, number, plain_graph}
 use Rattle.nd_grammar.proofs.PlainChosen.{chosen_read, chosen_represents}

@@ -1,28 +1,15 @@
 -- What a run of a task says by itself, from the whole of a run.
-use Rattle.std.proofs.Common.{◌≡◌, ℕ, zero, suc, ◌+◌, ◌<◌, ◌≤◌, ◌-◌, true, List, [], ◌∷◌, ◌++◌, length, Option, Some, None, refl, sym, ◌∙◌, ap, subst, inl, inr, ◌⊎◌, take, drop, arith, codes, length-append, lit≤, lit<}
-use Rattle.std.specs.Prelude.{⊤, ◌≢◌}
-use Rattle.std.specs.List.{slice_get}
-use Rattle.std.proofs.lemmas.Option.{same_Some}
-use Rattle.std.specs.Io.KnownBytes.{Consumes, IsAtEnd, Appends}
-use Rattle.nd_base.specs.Outside.{IsContent, IsMissing}
-use Rattle.nd_types.specs.declared.interface.Interface.{Interface}
-use Rattle.nd_types.specs.declared.types.Operation.{Operation}
-use Rattle.nd_types.specs.Operations.{operation_named}
-use Rattle.nd_graph.specs.declared.value.Graph.{Graph}
-use Rattle.nd_graph.specs.Setting.{Setting}
-use Rattle.nd_grammar.specs.Represents.{Represents}
-use Rattle.nd_grammar.specs.Prefix.{BeginsWith}
-use Rattle.plain_idl.specs.Plain.{IsPlainFile}
-use Rattle.plain_ndr.specs.Decoding.{inputs_of}
+use Rattle.std.proofs.Common.{◌≡◌, ℕ, List, Some, sym, ◌∙◌, subst, inl, inr}
+use Rattle.std.specs.Prelude.{◌≢◌}
 use Rattle.dceidl.specs.declared.task.Task.{Task}
 use Rattle.dceidl.specs.declared.refusal.Refusal.{Refusal}
 use Rattle.dceidl.specs.declared.refusal.Refusal.TheVariants.{Memory, Absent, FileFailed, NotBuilt, NoOperation, ReadFault, BadOctets, BadText, BadValue}
 use Rattle.dceidl.specs.declared.outcome.Outcome.{Outcome}
 use Rattle.dceidl.specs.declared.outcome.Outcome.TheVariants.{Done, Refused, Wanting}
-use Rattle.dceidl.specs.Outside.{FilesSeen, SourceSeen, SinkSeen, HasRisen, Got, IsAsBefore}
-use Rattle.dceidl.specs.Words.{Command, command, Work}
-use Rattle.dceidl.specs.Lines.{status_of, line_of}
-use Rattle.dceidl.specs.Run.{HasRun, IsOutcome, IsDelivered, IsTaskOutcome, IsGiven, IsTold}
+use Rattle.dceidl.specs.Outside.{FilesSeen, SourceSeen, SinkSeen, HasRisen, Got}
+use Rattle.dceidl.specs.Words.{command, Work}
+use Rattle.dceidl.specs.Lines.{status_of}
+use Rattle.dceidl.specs.Run.{HasRun, IsOutcome, IsDelivered, IsTaskOutcome}
 use Rattle.dceidl.specs.Rows.{IsDone, IsRefused}
 
 -- How a run of a task ends: done, refused, for want of memory, or with a fault of out or notes in place of its own status.

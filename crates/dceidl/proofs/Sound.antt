@@ -1,5 +1,5 @@
 -- What a run of a task comes to where nothing outside fails: the cause that holds is the one that is told.
-use Rattle.std.proofs.Common.{◌≡◌, ℕ, zero, suc, ◌+◌, ◌<◌, ◌≤◌, true, List, [], ◌∷◌, ◌++◌, length, Option, Some, None, refl, sym, ◌∙◌, ap, ap₂, subst, inl, inr, ◌⊎◌, take, arith}
+use Rattle.std.proofs.Common.{◌≡◌, ℕ, ◌+◌, ◌<◌, ◌≤◌, true, List, [], ◌++◌, length, Option, Some, None, refl, sym, ◌∙◌, ap, ap₂, subst, inl, inr, take, arith}
 use Rattle.std.specs.List.{slice_get}
 use Rattle.std.proofs.lemmas.Option.{same_Some}
 use Rattle.std.proofs.lemmas.List.{append-nil}
@@ -18,11 +18,11 @@ use Rattle.plain_ndr.specs.Decoding.{inputs_of}
 use Rattle.dceidl.specs.declared.task.Task.{Task}
 use Rattle.dceidl.specs.declared.refusal.Refusal.{Refusal}
 use Rattle.dceidl.specs.declared.refusal.Refusal.TheVariants.{Memory, Absent, FileFailed, NotBuilt, NoOperation, ReadFault, BadOctets, BadText, BadValue}
-use Rattle.dceidl.specs.Outside.{FilesSeen, SourceSeen, SinkSeen, HasRisen, Got}
-use Rattle.dceidl.specs.Ready.{IsReady, IsFileCause, IsNamed}
+use Rattle.dceidl.specs.Outside.{FilesSeen, SourceSeen, SinkSeen, Got}
+use Rattle.dceidl.specs.Ready.{IsReady, IsFileCause}
 use Rattle.dceidl.specs.Task.{limit_of, IsRead, IsMade, IsContentCause, IsInputCause, IsCause}
 use Rattle.dceidl.specs.Lines.{status_of, line_of}
-use Rattle.dceidl.specs.Rows.{IsDone, IsRefused, IsSound, IsHeld, IsAccepted, IsInput, Refuses}
+use Rattle.dceidl.specs.Rows.{IsRefused, IsSound, IsHeld, IsAccepted, IsInput, Refuses}
 use Rattle.dceidl.proofs.Causes.{take_whole}
 use Rattle.dceidl.proofs.Rows.{Ended, ended_done, ended_refused, ended_wanting, ended_unwritten, ended_untold}
 
@@ -127,7 +127,7 @@ module _ (f : FilesSeen) (s : SourceSeen) (out notes : SinkSeen) (task : Task) (
           let here = same_octets s task octets d.of_input.octets input d.of_input.read in
           settled_done d.made is
           (subst (λ v. IsMade task v octets d.made) same
-              (subst (λ xs. IsMade task (inputs_of d.interface d.operation) xs d.made) here d.of_input.is_made))
+          (subst (λ xs. IsMade task (inputs_of d.interface d.operation) xs d.made) here d.of_input.is_made))
       by_end (ended_refused r) = by_cause r.refusal r.cause r.own_status r.line
       by_end (ended_wanting is) = settled_wanting is
       by_end (ended_unwritten is rose) = absurd (sound.writes rose)

@@ -1,7 +1,6 @@
 -- What `decode` comes to, from how the octets of the input settle it.
-use Rattle.std.proofs.Common.{◌≡◌, ℕ, ◌<◌, ◌≤◌, List, length, Option, Some, refl, sym, ◌∙◌, ap, ap₂, subst, inl, inr, ◌⊎◌, take, arith}
+use Rattle.std.proofs.Common.{◌≡◌, ℕ, List, length, sym, ap, ap₂, subst, inl, inr, ◌⊎◌, arith}
 use Rattle.std.specs.Prelude.{map}
-use Rattle.std.specs.List.{slice_get}
 use Rattle.nd_base.specs.declared.octets.Order.{Order}
 use Rattle.nd_types.specs.declared.interface.Interface.{Interface}
 use Rattle.nd_types.specs.declared.types.Operation.{Operation}

@@ -1,5 +1,5 @@
 -- What `encode` comes to, from how the text of the input settles it.
-use Rattle.std.proofs.Common.{◌≡◌, ℕ, List, Option, Some, None, refl, sym, ◌∙◌, ap, ap₂, subst, inl, inr, ◌⊎◌}
+use Rattle.std.proofs.Common.{◌≡◌, ℕ, List, None, ◌∙◌, ap, ap₂, subst, inl, inr, ◌⊎◌}
 use Rattle.nd_base.specs.declared.octets.Order.{Order}
 use Rattle.nd_types.specs.declared.interface.Interface.{Interface}
 use Rattle.nd_types.specs.declared.types.Operation.{Operation}
@@ -10,7 +10,7 @@ use Rattle.nd_graph.specs.declared.misfit.MisfitReason.{MisfitReason}
 use Rattle.nd_graph.specs.declared.value.Graph.{Graph}
 use Rattle.nd_graph.specs.Setting.{Setting}
 use Rattle.nd_graph.specs.Conforms.{Conforms}
-use Rattle.nd_graph.specs.FirstMisfit.{MisfitAt, IsFirstMisfit}
+use Rattle.nd_graph.specs.FirstMisfit.{IsFirstMisfit}
 use Rattle.nd_graph.proofs.Misfits.{misfit_is_no_fit, one_first_misfit}
 use Rattle.nd_grammar.proofs.PlainSides.{plain_operation}
 use Rattle.plain_ndr.specs.Decoding.{inputs_of}
@@ -22,7 +22,7 @@ use Rattle.dceidl.specs.declared.task.Task.TheVariants.{Encode}
 use Rattle.dceidl.specs.declared.refusal.Refusal.{Refusal}
 use Rattle.dceidl.specs.declared.refusal.Refusal.TheVariants.{Memory, Absent, FileFailed, NotBuilt, NoOperation, ReadFault, BadOctets, BadText, BadValue}
 use Rattle.dceidl.specs.Outside.{FilesSeen, SinkSeen, Got}
-use Rattle.dceidl.specs.Encode.{IsEncoding, IsTextCause, IsMisfitAt, IsBadValue, home_path}
+use Rattle.dceidl.specs.Encode.{IsTextCause, IsMisfitAt, home_path}
 use Rattle.dceidl.specs.Lines.{status_of, line_of}
 use Rattle.dceidl.specs.Rows.{IsAccepted, Refuses}
 use Rattle.dceidl.proofs.PlainTexts.{one_graph_read, one_text_fault}
@@ -50,7 +50,7 @@ module _ (notes : SinkSeen) (order : Order) (chunk : ℕ) (idl op : List ℕ) (w
     (settled : Settled notes (Encode order chunk) idl op w text status)
     (one_graph : (g h : Graph) → ReadsAs w text g → ReadsAs w text h → g ≡ h)
     (one_fault : (line line' column column' : ℕ) (why why' : TextReason) → IsTextFault w text line column why → IsTextFault w text line' column' why'
-      → (line ≡ line') × (column ≡ column') × (why ≡ why')) where
+    → (line ≡ line') × (column ≡ column') × (why ≡ why')) where
   -- a text that reads as a graph that conforms is encoded
   pub encoded : (g : Graph) → ReadsAs w text g → Conforms w g → (status ≡ 0) ⊎ (status ≡ 5)
   encoded g reads conforms = by settled
@@ -58,7 +58,7 @@ module _ (notes : SinkSeen) (order : Order) (chunk : ℕ) (idl op : List ℕ) (w
       by_cause : (r : Refusal) → IsTextCause w text r → status ≡ status_of r → (status ≡ 0) ⊎ (status ≡ 5)
       by_cause Memory cause is = inr is
       by_cause (BadText line column why) fault is = absurd (never_both w text g line column why reads fault)
-      by_cause (BadValue path reason) bad is = 
+      by_cause (BadValue path reason) bad is =
           absurd (misfit_is_no_fit w bad.graph _ bad.misfit.first (subst (Conforms w) (one_graph g bad.graph reads bad.reads) conforms))
       by_cause Absent cause is = absurd cause
       by_cause FileFailed cause is = absurd cause

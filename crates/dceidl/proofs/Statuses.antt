@@ -1,5 +1,5 @@
 -- What the statuses of faults say, from the whole of a run.
-use Rattle.std.proofs.Common.{◌≡◌, ℕ, List, Option, Some, None, refl, sym, ◌∙◌, ap, subst, inl, inr, ◌⊎◌, codes}
+use Rattle.std.proofs.Common.{◌≡◌, ℕ, List, Option, Some, None, refl, sym, ◌∙◌, ap, subst, inl, inr, ◌⊎◌}
 use Rattle.nd_base.specs.Outside.{IsMissing}
 use Rattle.nd_graph.specs.Setting.{Setting}
 use Rattle.plain_ndr.specs.Decoding.{inputs_of}

@@ -1,5 +1,5 @@
 -- The first misfit of a graph that stands in the text of a plain side is that of a whole value: its node is 0.
-use Rattle.std.proofs.Common.{◌≡◌, ℕ, ◌+◌, ◌<◌, ◌≤◌, ℤ, Bool, true, false, List, [], ◌∷◌, ◌++◌, length, map, Option, Some, None, refl, sym, ◌∙◌, ap, ap₂, subst, append-nil, arith}
+use Rattle.std.proofs.Common.{◌≡◌, ℕ, ◌+◌, ℤ, Bool, true, false, List, [], ◌∷◌, ◌++◌, length, map, Option, Some, None, refl, sym, ◌∙◌, ap, ap₂, subst, append-nil}
 use Rattle.std.specs.Prelude.{cond, eqb}
 use Rattle.std.specs.List.{AllByRecursion}
 use Rattle.std.proofs.lemmas.Option.{same_Some}
@@ -14,7 +14,7 @@ use Rattle.nd_graph.specs.declared.misfit.MisfitReason.{MisfitReason}
 use Rattle.nd_graph.specs.Nodes.{TypedNode}
 use Rattle.nd_graph.specs.Setting.{root_list}
 use Rattle.nd_graph.specs.Deferral.{Pending, home_pointers}
-use Rattle.nd_graph.specs.Homes.{HomeNode, root_nodes, all_nodes, root_pointers}
+use Rattle.nd_graph.specs.Homes.{HomeNode, root_nodes, root_pointers}
 use Rattle.nd_graph.specs.FirstMisfit.{MisfitAt, IsFirstMisfit, is_local, is_shared, is_unreached, is_disagreeing, or_later, at_node, first_node, root_count, first_shared}
 use Rattle.nd_graph.specs.Misfit.{misfit_of}
 use Rattle.nd_grammar.specs.Plain.{ArePlain, number, plain_graph}
@@ -80,4 +80,4 @@ module _ (o : Operation) (h : IsPlainOperation o) where
   whole_misfit zs m (is_disagreeing x a b r e) =
       first_is _ _ m
       (subst AreFirst (sym (append-nil (root_nodes (side_of o) (plain_graph zs) 0 (root_list (side_of o)) (map number zs))))
-          (are_first (plain_graph zs) (root_list (side_of o)) 0 zs)) e
+      (are_first (plain_graph zs) (root_list (side_of o)) 0 zs)) e

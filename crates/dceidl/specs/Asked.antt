@@ -1,5 +1,5 @@
 -- A command of the code as the command that it stands for.
-use Rattle.std.specs.Prelude.{ℕ, ◌≤◌, Option, None, Some, ⊤}
+use Rattle.std.specs.Prelude.{◌≤◌, ⊤}
 use Rattle.dceidl.specs.Words as words
 use Rattle.dceidl.specs.declared.task.Task.{Task}
 use Rattle.dceidl.specs.declared.task.Task.TheVariants.{Decode, Encode}

@@ -1,5 +1,5 @@
 -- The rows of a run: what each status says by itself, and what comes in each case where nothing fails.
-use Rattle.std.specs.Prelude.{◌≡◌, ◌⊎◌, ℕ, ◌+◌, List, take, option_map, Option, None, Some, codes}
+use Rattle.std.specs.Prelude.{◌≡◌, ◌⊎◌, ℕ, ◌+◌, List, take, option_map, Option, Some}
 use Rattle.nd_base.specs.Outside.{IsMissing, loaded}
 use Rattle.nd_types.specs.declared.interface.Interface.{Interface}
 use Rattle.nd_types.specs.declared.types.Operation.{Operation}

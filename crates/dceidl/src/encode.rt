@@ -40,11 +40,13 @@ pub(crate) fn encode(
     match read_text(alloc, &ready.interface, ready.number, Side::In, text) {
         Ok(graph) => encode_graph(alloc, ready, order, chunk, graph),
         Err(TextFault::Memory) => Err(Refusal::Memory),
-        Err(TextFault::At {
-            line,
-            column,
-            reason,
-        }) => Err(Refusal::BadText {
+        Err(
+            TextFault::At {
+                line,
+                column,
+                reason,
+            },
+        ) => Err(Refusal::BadText {
             line,
             column,
             reason,

@@ -27,12 +27,7 @@ pub(crate) fn status(refusal: &Refusal) -> Status
 }
 
 // The line of a refusal.
-pub(crate) fn line(
-    alloc: Global,
-    idl: &str,
-    op: &str,
-    refusal: &Refusal,
-) -> Result<Octets, Memory>
+pub(crate) fn line(alloc: Global, idl: &str, op: &str, refusal: &Refusal) -> Result<Octets, Memory>
     ensures { IfOk result (λ line. line ≡ line_of idl.now op.now refusal.now) }
 {
     let idl = idl.as_bytes();
@@ -70,12 +65,7 @@ fn octets_line(alloc: Global, place: u32, why: OctetsFault) -> Result<Octets, Me
 }
 
 // A text that is refused at a line and column.
-fn text_line(
-    alloc: Global,
-    line: u32,
-    column: u32,
-    reason: TextReason,
-) -> Result<Octets, Memory>
+fn text_line(alloc: Global, line: u32, column: u32, reason: TextReason) -> Result<Octets, Memory>
     ensures { IfOk result (λ told. told ≡ line_of [] [] (Refusal.BadText line column reason)) }
 {
     let mut line_digits = Buffer::new();

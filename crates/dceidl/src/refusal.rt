@@ -39,7 +39,10 @@ pub enum Refusal {
     ReadFault,
     /// The octets of the input are refused at a place.
     #[error("octets refused at {place}")]
-    BadOctets { place: u32, why: OctetsFault },
+    BadOctets {
+        place: u32,
+        why: OctetsFault,
+    },
     /// The text of the input is refused at a line and column, from 1, in octets.
     #[error("text refused at {line}:{column}")]
     BadText {
@@ -49,5 +52,8 @@ pub enum Refusal {
     },
     /// The values of the text do not conform to the operation. The first misfit is at a path: a root's name or `@k`, in octets.
     #[error("value refused")]
-    BadValue { path: Octets, reason: MisfitReason },
+    BadValue {
+        path: Octets,
+        reason: MisfitReason,
+    },
 }

@@ -82,12 +82,7 @@ fn limit(task: Task) -> u32
 }
 
 // Decodes or encodes the octets of the input.
-fn convert(
-    alloc: Global,
-    ready: &Ready,
-    task: Task,
-    octets: &[u8],
-) -> Result<Octets, Refusal>
+fn convert(alloc: Global, ready: &Ready, task: Task, octets: &[u8]) -> Result<Octets, Refusal>
     requires plain { IsPlainInterface ready.now.interface.types ready.now.interface.operations }
     requires known { ready.now.number < length ready.now.interface.operations }
     requires chunk { HasChunk task }

@@ -1,4 +1,4 @@
-use Rattle.std.proofs.Common.{sym, ap, ◌∙◌}
+use Rattle.std.proofs.Common.{ap, ◌∙◌}
 use Rattle.std.specs.List.{slice_get}
 use Rattle.plain_ndr.specs.Decoding.{inputs_of}
 use Rattle.dceidl.proofs.Causes.{decoding_is}

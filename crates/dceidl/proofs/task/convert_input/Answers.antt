@@ -1,7 +1,7 @@
 use Rattle.std.proofs.Common.{sym, subst}
 use Rattle.plain_ndr.specs.Decoding.{inputs_of}
 use Rattle.dceidl.specs.Outside.{source_seen}
-use Rattle.dceidl.specs.Task.{IsRead, limit_of}
+use Rattle.dceidl.specs.Task.{IsRead}
 use Rattle.dceidl.proofs.Causes.{made_of_input, input_refused}
 use Rattle.dceidl.proofs.task.convert_input.Goals as goal
 
