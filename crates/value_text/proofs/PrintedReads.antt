@@ -206,7 +206,7 @@ module _ (o : Operation) (plain : IsPlainOperation o) (g h : Graph) (c : Conform
         graph = is;
         canonical = ap₂ F roots cells;
         short_ones = are_short (side_of o) g primitives (root_list (side_of o)) 0 zs side_plain.plain many
-          (subst (λ vs. AllByRecursion (λ (x : HomeNode). misfit_of basic_types g x.typed ≡ None) (root_nodes (side_of o) g 0 (root_list (side_of o)) vs)) e local);
+            (subst (λ vs. AllByRecursion (λ (x : HomeNode). misfit_of basic_types g x.typed ≡ None) (root_nodes (side_of o) g 0 (root_list (side_of o)) vs)) e local);
       }
 
   printed_plain : (text : List ℕ) → text ≡ graph_text (side_of o) h → is_word o.name ≡ true → list_all (λ p. is_word p.field.name) o.params ≡ true → length text ≤ TEXT_LIMIT → ReadsAs (side_of o) text h
