@@ -13,3 +13,5 @@ pub mod Shown
 pub mod PlainSteps
 pub mod PlainReading
 pub mod WorkedPing
+pub mod OneFault
+pub mod PrintedReads

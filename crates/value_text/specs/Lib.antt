@@ -9,3 +9,4 @@ pub mod Reads
 pub mod Scan
 pub mod Dues
 pub mod WorkedPing
+pub mod PlainSide

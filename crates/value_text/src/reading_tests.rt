@@ -38,21 +38,76 @@ const FAULTS: [Case; 36] = [
     (b"values 1\nop add in\na = -0", 3, 5, TextReason::BadToken),
     (b"values 1\nop add in\na = 01", 3, 5, TextReason::BadToken),
     (b"values 1\nop add in\na = 1x", 3, 5, TextReason::BadToken),
-    (b"values 1\nop add in\na = 100000000000000000000", 3, 5, TextReason::BadToken),
+    (
+        b"values 1\nop add in\na = 100000000000000000000",
+        3,
+        5,
+        TextReason::BadToken,
+    ),
     (b"values 1\nop add in\na = one", 3, 5, TextReason::Expected),
     (b"values 1\nop add in\na = @1", 3, 5, TextReason::Expected),
     (b"values 1\nop add in\na = @0", 3, 5, TextReason::BadToken),
-    (b"values 1\nop add in\na = @4294967296", 3, 5, TextReason::BadToken),
-    (b"values 1\nop add in\na = \"x\\x4F\\\"\"", 3, 5, TextReason::Expected),
+    (
+        b"values 1\nop add in\na = @4294967296",
+        3,
+        5,
+        TextReason::BadToken,
+    ),
+    (
+        b"values 1\nop add in\na = \"x\\x4F\\\"\"",
+        3,
+        5,
+        TextReason::Expected,
+    ),
     (b"values 1\nop add in\na = \"x", 3, 5, TextReason::BadToken),
-    (b"values 1\nop add in\na = \"\\X41\"", 3, 5, TextReason::BadToken),
-    (b"values 1\nop add in\na = 1\nb = 2", 4, 6, TextReason::Expected),
-    (b"values 1\nop add in\na = 1\n\n\tb = 2 b = 2", 5, 8, TextReason::OtherName),
-    (b"values 1\nop add in\na = 1\nb = 2\nc = 3\nd = 4", 6, 1, TextReason::Expected),
-    (b"values 1\nop add in\na = 1\nb = 2\nc = 3\n@1 = 5", 6, 1, TextReason::Unnamed),
-    (b"values 1\nop add in\na = 1\nb = 2\nc = 3 @2", 5, 7, TextReason::OutOfOrder),
-    (b"values 1\nop add in\na = 1\nb = 2\nc = 3\n#", 6, 1, TextReason::BadToken),
-    (b"values 1\nop add in\na = 1\nb = 2\nc = 3\x0c", 5, 6, TextReason::BadToken),
+    (
+        b"values 1\nop add in\na = \"\\X41\"",
+        3,
+        5,
+        TextReason::BadToken,
+    ),
+    (
+        b"values 1\nop add in\na = 1\nb = 2",
+        4,
+        6,
+        TextReason::Expected,
+    ),
+    (
+        b"values 1\nop add in\na = 1\n\n\tb = 2 b = 2",
+        5,
+        8,
+        TextReason::OtherName,
+    ),
+    (
+        b"values 1\nop add in\na = 1\nb = 2\nc = 3\nd = 4",
+        6,
+        1,
+        TextReason::Expected,
+    ),
+    (
+        b"values 1\nop add in\na = 1\nb = 2\nc = 3\n@1 = 5",
+        6,
+        1,
+        TextReason::Unnamed,
+    ),
+    (
+        b"values 1\nop add in\na = 1\nb = 2\nc = 3 @2",
+        5,
+        7,
+        TextReason::OutOfOrder,
+    ),
+    (
+        b"values 1\nop add in\na = 1\nb = 2\nc = 3\n#",
+        6,
+        1,
+        TextReason::BadToken,
+    ),
+    (
+        b"values 1\nop add in\na = 1\nb = 2\nc = 3\x0c",
+        5,
+        6,
+        TextReason::BadToken,
+    ),
 ];
 
 /// The fault of a text of the [in] side of an interface's first operation.
@@ -61,11 +116,13 @@ fn fault_of(alloc: Global, interface: &Interface, text: &[u8]) -> Option<(u32, u
     requires some { 0 < length interface.now.operations }
 {
     match read_text(alloc, interface, 0, Side::In, text) {
-        Err(TextFault::At {
-            line,
-            column,
-            reason,
-        }) => Some((line, column, reason)),
+        Err(
+            TextFault::At {
+                line,
+                column,
+                reason,
+            },
+        ) => Some((line, column, reason)),
         _ => None,
     }
 }
@@ -81,11 +138,8 @@ fn three_numbers(graph: &Graph) -> Option<[i128; 3]> {
     }
 }
 
-/// interface t { void ping(); }
-#[tactic(auto, using(crate::proofs::WorkedPing::plain))]
-fn ping_interface(alloc: Global) -> Result<Interface, Memory>
-    ensures plain { IfOk result (λ i. IsPlainInterface i.types i.operations) }
-    ensures operations { IfOk result (λ i. i.operations ≡ ping ∷ []) }
+fn ping_operations(alloc: Global) -> Result<Operations, Memory>
+    ensures { IfOk result (λ os. os ≡ ping ∷ []) }
 {
     let operation = Operation {
         name: Name::copy(alloc, b"ping")?,
@@ -96,12 +150,24 @@ fn ping_interface(alloc: Global) -> Result<Interface, Memory>
     if operations.push(operation).is_err() {
         return Err(Memory);
     }
+    Ok(operations)
+}
+
+/// interface t { void ping(); }
+#[tactic(auto, using(crate::proofs::WorkedPing::legal, crate::proofs::WorkedPing::plain))]
+fn ping_interface(alloc: Global) -> Result<Interface, Memory>
+    ensures plain { IfOk result (λ i. IsPlainInterface i.types i.operations) }
+    ensures types { IfOk result (λ i. i.types ≡ basic_types) }
+    ensures operations { IfOk result (λ i. i.operations ≡ ping ∷ []) }
+{
+    let types = Types::basic(alloc)?;
+    let operations = ping_operations(alloc)?;
     Ok(Interface {
         name: Name::copy(alloc, b"t")?,
         uuid: None,
         major: 0,
         minor: 0,
-        types: Types::basic(alloc)?,
+        types,
         operations,
     })
 }
@@ -124,11 +190,16 @@ fn numbers_are_read(rt: HostRuntime) -> Result<(), Fail> {
 #[test]
 fn numbers_out_of_range_are_read(rt: HostRuntime) -> Result<(), Fail> {
     let interface = interface(rt.alloc())?;
-    let text = b"values 1\nop add in\na = -99999999999999999999\nb = 40000\nc = 99999999999999999999\n";
+    let text =
+        b"values 1\nop add in\na = -99999999999999999999\nb = 40000\nc = 99999999999999999999\n";
     let graph = read_text(rt.alloc(), &interface, 0, Side::In, text)?;
     assert_eq!(rt;
         three_numbers(&graph),
-        Some([-99_999_999_999_999_999_999, 40_000, 99_999_999_999_999_999_999])
+        Some([
+            -99_999_999_999_999_999_999,
+            40_000,
+            99_999_999_999_999_999_999
+        ])
     );
     Ok(())
 }
@@ -137,7 +208,10 @@ fn numbers_out_of_range_are_read(rt: HostRuntime) -> Result<(), Fail> {
 fn faults_are_told(rt: HostRuntime) -> Result<(), Fail> {
     let interface = interface(rt.alloc())?;
     for (text, line, column, reason) in FAULTS {
-        assert_eq!(rt; fault_of(rt.alloc(), &interface, text), Some((line, column, reason)));
+        assert_eq!(rt;
+            fault_of(rt.alloc(), &interface, text),
+            Some((line, column, reason))
+        );
     }
     Ok(())
 }
@@ -145,7 +219,13 @@ fn faults_are_told(rt: HostRuntime) -> Result<(), Fail> {
 #[test]
 fn cell_that_nothing_names(rt: HostRuntime) -> Result<(), Fail> {
     let interface = ping_interface(rt.alloc())?;
-    let graph = read_text(rt.alloc(), &interface, 0, Side::In, b"values 1\nop ping in\n")?;
+    let graph = read_text(
+        rt.alloc(),
+        &interface,
+        0,
+        Side::In,
+        b"values 1\nop ping in\n",
+    )?;
     assert_eq!(rt; graph.roots.len(), 0);
     assert_eq!(rt;
         fault_of(rt.alloc(), &interface, b"values 1\nop ping in\n@1 = 5\n"),
