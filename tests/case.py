@@ -38,9 +38,10 @@ class OneAtATime:
 
 @dataclass(frozen=True)
 class Sparse:
-    """An input of so many zero octets, from a file that takes no room."""
+    """An input of so many equal octets, from a file. Zero octets take no room."""
 
     length: int
+    octet: bytes = b"\0"
 
 
 @dataclass(frozen=True)

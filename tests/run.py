@@ -25,7 +25,7 @@ import time
 from array import array
 from dataclasses import dataclass
 from pathlib import Path
-from typing import List, Optional, Sequence, Union
+from typing import BinaryIO, List, Optional, Sequence, Union
 
 sys.dont_write_bytecode = True
 
@@ -119,11 +119,21 @@ def feed(pipe: int, octets: bytes, child: subprocess.Popen) -> None:
         os.close(pipe)
 
 
+def write_equal(file: BinaryIO, input: Sparse) -> None:
+    """Writes an input of equal octets."""
+    if input.octet == b"\0":
+        file.truncate(input.length)
+        return
+    piece = input.octet * min(input.length, 1 << 20)
+    for at in range(0, input.length, len(piece)):
+        file.write(piece[: input.length - at])
+
+
 def input_of(case: Case, spare: str) -> int:
     """What the shell gets as standard input. A stream that is no pipe it opens by itself."""
     if isinstance(case.input, Sparse):
         with open(spare, "wb") as file:
-            file.truncate(case.input.length)
+            write_equal(file, case.input)
         return os.open(spare, os.O_RDONLY)
     return subprocess.DEVNULL if isinstance(case.input, Stream) else subprocess.PIPE
 

@@ -244,6 +244,9 @@ LENGTHS = [
     encode("text: of the greatest length, of zero octets", ADD, "add", Sparse(TEXT_LIMIT),
            notes=lines("refused: text 1:1: BadToken"), status=1),
     encode("text: one octet too long", ADD, "add", Sparse(TEXT_LIMIT + 1), notes=lines("refused: text 1:1: TooLong"), status=1),
+    encode("text: of the greatest length, of spaces", ADD, "add", Sparse(TEXT_LIMIT, b" "),
+           notes=lines(f"refused: text 1:{TEXT_LIMIT + 1}: Expected"), status=1),
+    encode("text: one space too long", ADD, "add", Sparse(TEXT_LIMIT + 1, b" "), notes=lines("refused: text 1:1: TooLong"), status=1),
 ]
 
 OUTSIDE = [
