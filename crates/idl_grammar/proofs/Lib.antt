@@ -19,3 +19,4 @@ mod ExportsExact
 mod FileExact
 pub mod FileLaws
 pub mod Rows
+pub mod FileExamples

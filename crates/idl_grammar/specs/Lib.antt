@@ -8,3 +8,4 @@ pub mod Seen
 pub mod ReadExpressions
 pub mod Reading
 pub mod Answers
+pub mod Examples
