@@ -20,3 +20,4 @@ mod FileExact
 pub mod FileLaws
 pub mod Rows
 pub mod FileExamples
+pub mod RealTokens
