@@ -9,3 +9,4 @@ pub mod ReadExpressions
 pub mod Reading
 pub mod Answers
 pub mod Examples
+pub mod Integers
