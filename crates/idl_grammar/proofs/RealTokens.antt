@@ -1,8 +1,8 @@
 -- No token of a text is the end.
-use Rattle.std.proofs.Common.{◌≡◌, ◌≢◌, ℕ, zero, suc, ◌+◌, ◌<◌, Bool, true, false, cond, eqb, not, List, [], ◌∷◌, map, length, refl, sym, ap, arith, ◌∙◌, ◌&&◌}
+use Rattle.std.proofs.Common.{◌≡◌, ℕ, zero, suc, Bool, true, false, cond, eqb, not, List, [], ◌∷◌, map, refl, ap, arith}
 use Rattle.std.specs.List.{list_all}
 use Rattle.std.specs.Str.{bytes_eq}
-use Rattle.phrases.specs.Text.{Lexeme, Text, lexeme_at, the_end}
+use Rattle.phrases.specs.Text.{Lexeme}
 use Rattle.phrases.specs.Gives.{IsText}
 use Rattle.phrases.proofs.Parts.{clash}
 use Rattle.phrases.proofs.Sequences.{both}

@@ -1,5 +1,5 @@
 -- Texts and what is answered on their tokens.
-use Rattle.std.specs.Prelude.{ℕ, Bool, true, false, List, [], ◌∷◌, Option, Some, None, codes}
+use Rattle.std.specs.Prelude.{ℕ, true, false, List, [], ◌∷◌, Some, None, codes}
 use Rattle.idl_lexer.specs.declared.tokens.TokenKind.{TokenKind}
 use Rattle.idl_lexer.specs.declared.tokens.TokenKind.TheVariants as token
 use Rattle.idl_lexer.specs.declared.tokens.Token.{Token}
