@@ -19,3 +19,5 @@ mod ExportsExact
 mod FileExact
 pub mod FileLaws
 pub mod Rows
+pub mod FileExamples
+pub mod RealTokens

@@ -8,3 +8,5 @@ pub mod Seen
 pub mod ReadExpressions
 pub mod Reading
 pub mod Answers
+pub mod Examples
+pub mod Integers

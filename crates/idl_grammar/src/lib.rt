@@ -10,6 +10,8 @@ mod declarators;
 mod expressions;
 mod files;
 pub mod laws;
+#[cfg(test)]
+mod tests;
 mod types;
 mod words;
 
