@@ -1,8 +1,8 @@
 -- No phrase holds a word that is banned anywhere.
-use Rattle.std.proofs.Common.{◌≡◌, ℕ, ◌+◌, ◌<◌, ◌≤◌, Bool, true, false, List, [], ◌∷◌, refl, sym, ap, subst, arith, ◌∙◌, eqb, Option, Some, None, eq-eqb}
+use Rattle.std.proofs.Common.{◌≡◌, ℕ, ◌+◌, ◌<◌, ◌≤◌, Bool, true, false, List, [], ◌∷◌, refl, ap, arith, ◌∙◌, Option, Some, None, eq-eqb}
 use Rattle.std.proofs.Math.Decide.{dec_lt}
 use Rattle.std.proofs.lemmas.Bool.{eqb-true}
-use Rattle.phrases.specs.Text.{Lexeme, Text, Phrase, Rel, Rule, lexeme_at, symbol_at, is, is_in, nothing, never, mark, token, unless, only_if, optional, many, some_of, separated, located, bracketed, ◌▹◌}
+use Rattle.phrases.specs.Text.{Lexeme, Text, Phrase, Rel, Rule, symbol_at, is, nothing, never, mark, token, unless, only_if, optional, many, some_of, separated, located, bracketed, ◌▹◌}
 use Rattle.phrases.proofs.Parts.{clash}
 use Rattle.idl_grammar.specs.Symbols as symbol
 use Rattle.idl_grammar.specs.Grammar.{flag, begins_at}

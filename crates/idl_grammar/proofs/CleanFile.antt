@@ -1,6 +1,6 @@
 -- No file of the language holds a word that is banned anywhere.
-use Rattle.std.proofs.Common.{◌≡◌, ℕ, ◌+◌, ◌<◌, ◌≤◌, Bool, true, false, List, [], ◌∷◌, length, refl, arith, eqb, leb, Option, Some, None}
-use Rattle.phrases.specs.Text.{Lexeme, Text, Phrase, Rel, Lifted, symbol_at, is, is_in, Ban, mark, token, optional, many, ◌▹◌}
+use Rattle.std.proofs.Common.{◌≡◌, ℕ, ◌+◌, ◌<◌, Bool, true, false, List, [], ◌∷◌, length, refl, arith, leb, Option}
+use Rattle.phrases.specs.Text.{Text, Phrase, Rel, Lifted, is, is_in, mark, optional, ◌▹◌}
 use Rattle.phrases.specs.Reading.{to_unit}
 use Rattle.phrases.specs.Verdict.{derives}
 use Rattle.idl_grammar.specs.declared.words.Spelling.{Spelling}
@@ -27,7 +27,7 @@ use Rattle.idl_grammar.specs.Limits.{Meant, symbols_of, value_of, names, symbol_
 use Rattle.idl_grammar.specs.Tree as tree
 use Rattle.idl_grammar.specs.Tree.{Expr, AttributeKind, Attribute, Attributes, Bound, Declarator, Init, Enumerator, Label, TypeSpec, Members, Cases, Arms, Arm, Import, Parameter, Parameters, Export, Tree}
 use Rattle.idl_grammar.specs.Expressions.{spelling, spelled, placed, ident, leaf, expr, outer}
-use Rattle.idl_grammar.specs.Grammar.{one_of, in_round, width_words, class_words, variable_words, width, integer, simple, switch_type, pointer_class, variable_word, variable_name, local, attribute_kind, attribute, attributes, bound, dimension, declarator, declarators, enumerator, enumerators, label, labels, discriminant, union_switch, tag_symbol, in_curly, member, type_spec, some_members, members, some_cases, cases, some_arms, arms, arm, parameter, parameters, init, export, import, file}
+use Rattle.idl_grammar.specs.Grammar.{one_of, in_round, width_words, class_words, variable_words, width, integer, simple, switch_type, pointer_class, variable_word, variable_name, attribute_kind, attribute, attributes, bound, dimension, declarator, declarators, enumerator, enumerators, label, labels, discriminant, union_switch, tag_symbol, in_curly, member, type_spec, some_members, members, some_cases, cases, some_arms, arms, arm, parameter, parameters, init, export, import, file}
 use Rattle.idl_grammar.specs.Answers.{is_banned}
 use Rattle.idl_grammar.proofs.Clean.{Clean, token_clean, mark_clean, nothing_clean, never_clean, then_clean, unless_clean, only_clean, at_clean, flag_clean, optional_clean, many_clean, some_clean, separated_clean, bracketed_clean, located_clean}
 

@@ -23,3 +23,4 @@ pub mod FileExamples
 pub mod RealTokens
 mod Clean
 mod CleanFile
+mod BannedWords
