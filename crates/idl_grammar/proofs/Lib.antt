@@ -21,3 +21,6 @@ pub mod FileLaws
 pub mod Rows
 pub mod FileExamples
 pub mod RealTokens
+mod Clean
+mod CleanFile
+mod BannedWords

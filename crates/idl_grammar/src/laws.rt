@@ -1,9 +1,9 @@
 //! Laws over the definitions.
 
-ghost use Rattle.std.specs.Prelude.{◌≡◌, ℕ, ◌≤◌, Result, Ok, Err};
-ghost use Rattle.phrases.specs.Text.{Text, Depth, Ban};
+ghost use Rattle.std.specs.Prelude.{◌≡◌, ℕ, ◌≤◌, ◌<◌, length, true, false, Result, Ok, Err};
+ghost use Rattle.phrases.specs.Text.{Text, Depth, Ban, Lifted};
 ghost use Rattle.phrases.specs.Reading.{Fault, Syntax, Passes};
-ghost use Rattle.phrases.specs.Verdict.{Judges, whole_read};
+ghost use Rattle.phrases.specs.Verdict.{Judges, whole_read, begins, derives, limits_before};
 ghost use Rattle.phrases.specs.Gives.{IsText};
 ghost use Rattle.idl_lexer.specs.Lexed.{Lexed};
 ghost use Rattle.idl_grammar.specs.Lexemes.{lexemes};
@@ -11,7 +11,7 @@ ghost use Rattle.idl_grammar.specs.Examples.{small_file, small_tree, unended, ba
 ghost use Rattle.idl_grammar.specs.Tree.{Tree};
 ghost use Rattle.idl_grammar.specs.Grammar.{file};
 ghost use Rattle.idl_grammar.specs.Reading.{file_read};
-ghost use Rattle.idl_grammar.specs.Answers.{Answers, file_answer};
+ghost use Rattle.idl_grammar.specs.Answers.{Answers, file_answer, is_banned};
 
 /// What is read of the tokens of a file is its one tree, or the first token at which no file of the language goes on, or the first one that a
 /// limit of depth or a ban refuses. Nothing else is right of these tokens. The numbers of levels are any that are large enough.
@@ -46,4 +46,12 @@ pub fn refused_texts_are_refused()
     ensures banned_word { Answers file (lexemes banned_word) (Err (Passes Ban 6)) }
     ensures attribute_name { Answers file (lexemes attribute_name) (Err (Syntax 12)) }
     ensures deep { Answers file (lexemes deep) (Err (Passes Depth 73)) }
+{}
+
+/// No file of the language holds a word that is banned anywhere, whatever limits and bans are lifted. So where the tokens before such a word
+/// begin a file, the word is answered as banned.
+pub fn no_file_holds_a_banned_word()
+    ensures holds_none { (lifted : Lifted) (f : Tree) (x : Text) → derives file lifted f x → (k : ℕ) → k < length x → is_banned x k ≡ false }
+    ensures answered { (t : Text) (k : ℕ) (x : Text) (f : Tree) → begins t k x → derives file (limits_before k) f x → is_banned t k ≡ true
+        → Answers file t (Err (Passes Ban k)) }
 {}
