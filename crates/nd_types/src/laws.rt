@@ -1,6 +1,8 @@
 //! Laws over the definitions, each the contract of a function that does nothing.
-ghost use Rattle.std.specs.Prelude.{◌≡◌, ℕ, List, Some};
-ghost use Rattle.nd_types.specs.Table.{Table, type_at};
+ghost use Rattle.std.specs.Prelude.{◌≡◌, ℕ, ℤ, List, length, Some, IsTrue};
+ghost use Rattle.nd_base.specs.declared.octets.Order.{Order};
+ghost use Rattle.nd_types.specs.Table.{Table, type_at, width, in_range};
+ghost use Rattle.nd_types.specs.Number.{AreOctets, value_of_octets, written};
 ghost use Rattle.nd_types.specs.Kinds.{basic_types, prim_number};
 ghost use Rattle.nd_types.specs.Layout.{align_of, align_by, hoists, hoists_by};
 ghost use Rattle.nd_types.specs.Legal.{IsLegal};
@@ -37,4 +39,16 @@ pub fn hoists_legal()
 pub fn prim_at()
     ensures { (types : Table) (operations : List Operation) → IsLegal types operations →
         (p : Primitive) → type_at types (prim_number p) ≡ Some (Prim p) }
+{}
+
+/// Reading the octets that are written for a value of a primitive gives the value back.
+pub fn read_after_write()
+    ensures { (order : Order) (p : Primitive) (z : ℤ) → IsTrue (in_range p z)
+        → value_of_octets order p (written order p z) ≡ z }
+{}
+
+/// What is written for a number is as many octets as the primitive has, each from 0 to 255.
+pub fn written_octets()
+    ensures wide { (order : Order) (p : Primitive) (z : ℤ) → length (written order p z) ≡ width p }
+    ensures octets { (order : Order) (p : Primitive) (z : ℤ) → AreOctets (written order p z) }
 {}

@@ -1,15 +1,15 @@
 -- Octets and the unsigned numbers that they spell.
-use Rattle.std.proofs.Common.{◌≡◌, ℕ, zero, suc, ◌+◌, ◌*◌, ◌/◌, ◌%◌, ◌^◌, ◌<◌, List, [], ◌∷◌, ◌++◌, length, reverse, drop, refl, sym, ap, subst, ◌∙◌, arith}
+use Rattle.std.proofs.Common.{◌≡◌, ℕ, zero, suc, ◌+◌, ◌*◌, ◌/◌, ◌%◌, ◌^◌, List, [], ◌∷◌, ◌++◌, length, reverse, drop, refl, sym, ap, ◌∙◌, arith}
 use Rattle.std.proofs.Math.Nat.{div-div-eq-div-mul, div-one, pow-suc, pow-succ'}
-use Rattle.std.proofs.lemmas.List.{append-nil, drop_all, length-reverse, reverse-append, reverse-reverse}
-use Rattle.std.proofs.lemmas.Nat.{div_below, pow-add}
+use Rattle.std.proofs.lemmas.List.{append-nil, drop_all, length-reverse, reverse-append}
+use Rattle.std.proofs.lemmas.Nat.{pow-add}
 use Rattle.std.proofs.lemmas.Grind.{reverse_onto}
 use Rattle.std.specs.Int.{byte_at, bytes_low_first}
 use Rattle.byteorder.specs.Endian.{big_number, little_number, big_bytes, little_bytes}
 use Rattle.byteorder.specs.Numbers.{big_from-cons, little_from-cons}
 use Rattle.nd_base.specs.declared.octets.Order.{Order}
 use Rattle.nd_base.specs.declared.octets.Order.TheVariants.{Big, Little}
-use Rattle.nd_types.specs.Number.{AreOctets, little, in_order, unsigned, digits, spelling}
+use Rattle.nd_types.specs.Number.{little, unsigned, digits, spelling}
 
 -- the number of octets with one more, the most significant
 little-snoc : (xs : List ℕ) (a : ℕ) → little (xs ++ a ∷ []) ≡ little xs + a * 256 ^ length xs
@@ -74,61 +74,3 @@ pow-256 (suc n) = pow-suc 256 n ∙ ap (λ (p : ℕ). p * 256) (pow-256 n) ∙ s
 pub over_whole : (n : ℕ) (new old octets : List ℕ) → n ≡ length old → new ≡ octets ++ drop n old → new ≡ octets
 over_whole n new old octets whole e =
     e ∙ ap (λ (r : List ℕ). octets ++ r) (drop_all n old (omega arith)) ∙ append-nil octets
-
--- the digits of a number are the octets that it was read from
-digits-little : (n : ℕ) (xs : List ℕ) → length xs ≡ n → AreOctets xs → digits n (little xs) ≡ xs
-digits-little zero [] e h = refl
-digits-little zero (x ∷ xs) e h = absurd (omega (arith, e))
-digits-little (suc n) [] e h = absurd (omega (arith, e))
-digits-little (suc n) (x ∷ xs) e h =
-    let below : x < 256 = h.0 in
-    let low : (x + 256 * little xs) % 256 ≡ x = omega arith in
-    let high : (x + 256 * little xs) / 256 ≡ little xs = omega arith in
-    let rest = digits-little n xs (omega (arith, e)) h.1 in
-    rw (low, high, rest) refl
-
--- octets, the least significant first, spell a number below this
-little-lt : (xs : List ℕ) → AreOctets xs → little xs < 256 ^ length xs
-little-lt [] h = omega arith
-little-lt (x ∷ xs) h =
-    let below : x < 256 = h.0 in
-    let rest = little-lt xs h.1 in
-    rw (pow-suc 256 (length xs)) (omega arith)
-
--- octets after octets, and octets in reverse
-octets-append : (xs ys : List ℕ) → AreOctets xs → AreOctets ys → AreOctets (xs ++ ys)
-octets-append [] ys h k = k
-octets-append (x ∷ xs) ys h k = (h.0, octets-append xs ys h.1 k)
-
-octets-reverse : (xs : List ℕ) → AreOctets xs → AreOctets (reverse xs)
-octets-reverse [] h = tt
-octets-reverse (x ∷ xs) h =
-    subst AreOctets (sym (reverse_onto xs x [])) (octets-append (reverse xs) (x ∷ []) (octets-reverse xs h.1) (h.0, tt))
-
--- the octets of the number that octets spell are those octets
-pub spelling-unsigned : (order : Order) (n : ℕ) (xs : List ℕ) → length xs ≡ n → AreOctets xs → spelling order n (unsigned order xs) ≡ xs
-spelling-unsigned Little n xs e h = digits-little n xs e h
-spelling-unsigned Big n xs e h =
-    ap reverse (digits-little n (reverse xs) (length-reverse xs ∙ e) (octets-reverse xs h)) ∙ reverse-reverse xs
-
--- octets spell a number below this
-pub unsigned-lt : (order : Order) (xs : List ℕ) → AreOctets xs → unsigned order xs < 256 ^ length xs
-unsigned-lt Little xs h = little-lt xs h
-unsigned-lt Big xs h = subst (λ (n : ℕ). little (reverse xs) < 256 ^ n) (length-reverse xs) (little-lt (reverse xs) (octets-reverse xs h))
-
--- octets that are put in order twice stand as before
-in_order-in_order : (order : Order) (xs : List ℕ) → in_order order (in_order order xs) ≡ xs
-in_order-in_order Big xs = reverse-reverse xs
-in_order-in_order Little xs = refl
-
--- the digits of a number spell it
-little-digits : (n v : ℕ) → v < 256 ^ n → little (digits n v) ≡ v
-little-digits zero v h = omega arith
-little-digits (suc n) v h =
-    let room : v < 256 ^ n * 256 = rw (pow-suc 256 n) at h in
-    let rest = little-digits n (v / 256) (div_below v 256 (256 ^ n) (omega arith) room) in
-    rw rest (omega arith)
-
--- the octets of a number spell it
-pub unsigned-spelling : (order : Order) (n v : ℕ) → v < 256 ^ n → unsigned order (spelling order n v) ≡ v
-unsigned-spelling order n v h = ap little (in_order-in_order order (digits n v)) ∙ little-digits n v h

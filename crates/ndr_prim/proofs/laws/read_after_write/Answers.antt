@@ -1,5 +1,5 @@
-use Rattle.ndr_prim.proofs.Values as values
+use Rattle.nd_types.proofs.NumberLaws as numbers
 use Rattle.ndr_prim.proofs.laws.read_after_write.Goals as goal
 
 pub returns : goal.returns
-returns c = values.read_after_write
+returns c = numbers.read_after_write

@@ -1,5 +1,5 @@
-use Rattle.ndr_prim.proofs.Values as values
+use Rattle.nd_types.proofs.NumberLaws as numbers
 use Rattle.ndr_prim.proofs.laws.write_after_read.Goals as goal
 
 pub returns : goal.returns
-returns c = values.write_after_read
+returns c = numbers.write_after_read
