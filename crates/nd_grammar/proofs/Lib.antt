@@ -96,3 +96,5 @@ pub mod WorkedPointers
 pub mod WorkedReading
 pub mod WorkedResponses
 pub mod WorkedUnions
+pub mod WrittenEntries
+pub mod WritableTrees
