@@ -98,3 +98,5 @@ pub mod WorkedResponses
 pub mod WorkedUnions
 pub mod WrittenEntries
 pub mod WritableTrees
+pub mod CanonNumbers
+pub mod ChosenRepresents

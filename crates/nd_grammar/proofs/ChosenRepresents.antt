@@ -1,0 +1,244 @@
+-- The octets that are written for a conforming graph represent it.
+use Rattle.std.proofs.Common.{◌≡◌, ℕ, ◌+◌, ◌-◌, ◌^◌, ◌<◌, ◌≤◌, zero, suc, Bool, true, false, List, [], ◌∷◌, ◌++◌, length, Option, Some, None, refl, ap, ap₂, sym, ◌∙◌, inl, inr, ◌⊎◌, arith, subst, replicate, drop}
+use Rattle.std.specs.Prelude.{map, flat_map, sum, ltb}
+use Rattle.std.specs.List.{AllByRecursion, slice_get}
+use Rattle.std.proofs.lemmas.Option.{same_Some, slice_get-get_or, slice_get_within}
+use Rattle.std.proofs.lemmas.Bool.{ltb-false, ltb-true}
+use Rattle.nd_base.specs.declared.octets.Order.{Order}
+use Rattle.nd_base.specs.declared.TheConstants.{STREAM_LIMIT}
+use Rattle.nd_types.specs.declared.types.TypeDef.{TypeDef}
+use Rattle.nd_types.specs.declared.types.TypeId.{TypeId}
+use Rattle.nd_types.specs.declared.types.TypeDef.TheVariants as def
+use Rattle.nd_types.specs.declared.types.Class.TheVariants.{Ref}
+use Rattle.nd_types.specs.Table.{Table, type_at}
+use Rattle.nd_types.specs.Roots.{Root}
+use Rattle.nd_graph.specs.declared.value.Graph.{Graph}
+use Rattle.nd_graph.specs.declared.item.Home.{Home}
+use Rattle.nd_graph.specs.declared.item.Home.TheVariants as home
+use Rattle.nd_graph.specs.Tree as tree
+use Rattle.nd_graph.specs.Tree.{Tree, Trees, node, none, more, Label, Referent, count, node_count, take_trees, drop_trees}
+use Rattle.nd_graph.specs.Agreement.{Agreement}
+use Rattle.nd_graph.specs.Setting.{Setting, Among, root_list, root_at, or_unread, cell_home, cell_at, cell_tree, cell_of_number}
+use Rattle.nd_graph.specs.Nodes.{TypedNode, nodes_of, child_types}
+use Rattle.nd_graph.specs.Deferral.{Pending, pointer, home_pointers, Due, due_root, due_referent, due_roots, before_pipes, Step, root_stands, referent_stands, stands_already, Deferral, none_due, at_root, at_null, at_standing, at_referent, Placed_cells, Standing, standing_root, standing_by, standing_cell, direct, root_type, due_of}
+use Rattle.nd_graph.specs.Variables.{root_agreements}
+use Rattle.nd_graph.specs.Homes.{HomeNode, in_home, root_nodes, cell_nodes, all_nodes}
+use Rattle.nd_graph.specs.Misfit.{misfit_of, names_cell, names_pointee, has_machine_values}
+use Rattle.nd_graph.specs.Canon.{named, target, own_cell, step_names, named_cells, canonical_number}
+use Rattle.nd_graph.specs.Conforms.{Conforms}
+use Rattle.nd_graph.proofs.Apart.{all_append, all_left, all_right, all_map, among_left, among_right}
+use Rattle.nd_graph.proofs.Orderly.{Pointee, pointee_of_cell}
+use Rattle.nd_graph.proofs.NodeFacts.{IsFit, fit_node, all_of_list}
+use Rattle.nd_graph.proofs.DeferralExists.{direct_is}
+use Rattle.nd_grammar.specs.LegalSide.{IsLegalSide}
+use Rattle.nd_grammar.specs.Entry.{Entry, Align, Chunk, full_cells}
+use Rattle.nd_grammar.specs.InPlace.{tests, in_place}
+use Rattle.nd_grammar.specs.Stream.{Stream, step_entries, standing_entries, step_tests, root_tests, chunk_entries, chunks, Cuts, pipe_entries, pipes_entries, AllCut, kids_of, head_entries, representation}
+use Rattle.nd_grammar.specs.Represents.{Represents, IsNumbering, IsRendered}
+use Rattle.nd_grammar.specs.Chosen.{Chosen, octets_from, pipe_cuts, cut_of, cut_within}
+use Rattle.nd_grammar.proofs.GoodEntries.{IsNoPipe, HoldsNoPipe}
+use Rattle.nd_grammar.proofs.GoodStream.{PendingGood, StandsGood, DueGood, standing_due, pending_cell, root_good, roots_due}
+use Rattle.nd_grammar.proofs.LegalPipes.{holds_no_pipe, plain_before}
+use Rattle.nd_grammar.proofs.LegalSides.{laid_out}
+use Rattle.nd_grammar.proofs.Mapped.{no_pointers}
+use Rattle.nd_grammar.proofs.NextPipes.{sum_first, count_drop}
+use Rattle.nd_grammar.proofs.NextStream.{IsPipeRoot, IsLaidOut, drop_at}
+use Rattle.nd_grammar.proofs.EntriesFine.{Fine, FullOk, fine_entries, fine_tests, fine_whole, fine_in_place, full_fine}
+use Rattle.nd_grammar.proofs.ReaderTests.{IsTest, root_tests_are, tests_fine}
+use Rattle.nd_grammar.proofs.CanonNumbers.{canon_range, canon_apart}
+use Rattle.nd_grammar.proofs.WrittenEntries.{Counted, CanWrite, Writable, AreWritten, entries_written}
+use Rattle.nd_grammar.proofs.WritableTrees.{IsWritable, WritableTrees, writable_trees, PointerCounted, writable_tests, in_place_writable, whole_writable}
+
+-- the counts of chunks that are written
+cut_sum : (fuel k n : ℕ) → 0 < k → n ≤ fuel → sum (cut_within fuel k n) ≡ n
+cut_sum zero k n p h = omega arith
+cut_sum (suc fuel) k zero p h = refl
+cut_sum (suc fuel) k (suc n) p h = go (ltb (suc n) k) refl (cut_sum fuel k (suc n - k) p (omega arith))
+  where
+    go : (b : Bool) → ltb (suc n) k ≡ b → sum (cut_within fuel k (suc n - k)) ≡ suc n - k → sum (elim b [ true ↦ suc n ∷ [] | false ↦ k ∷ cut_within fuel k (suc n - k) ]) ≡ suc n
+    go true e r = omega arith
+    go false e r = let l : k ≤ suc n = ltb-false (suc n) k e in sum_first k (cut_within fuel k (suc n - k)) ∙ ap (λ u. k + u) r ∙ omega arith
+
+cut_positive : (fuel k n : ℕ) → 0 < k → AllByRecursion (λ k. 0 < k) (cut_within fuel k n)
+cut_positive zero k n p = tt
+cut_positive (suc fuel) k zero p = tt
+cut_positive (suc fuel) k (suc n) p = go (ltb (suc n) k) (cut_positive fuel k (suc n - k) p)
+  where
+    go : (b : Bool) → AllByRecursion (λ k. 0 < k) (cut_within fuel k (suc n - k)) → AllByRecursion (λ k. 0 < k) (elim b [ true ↦ suc n ∷ [] | false ↦ k ∷ cut_within fuel k (suc n - k) ])
+    go true r = (omega arith, tt)
+    go false r = (p, r)
+
+pipes_cut : (k : ℕ) → 0 < k → (vs : List Tree) → AllCut vs (pipe_cuts k vs)
+pipes_cut k p [] = tt
+pipes_cut k p (v ∷ vs) =
+    ((cut_sum (count (kids_of v)) k (count (kids_of v)) p (omega arith), cut_positive (count (kids_of v)) k (count (kids_of v)) p), pipes_cut k p vs)
+
+-- a pointer's cell is one that its home names
+of_named : (ps : List Pending) → (c : ℕ) → (p : Pending) → Among ps p → p.cell ≡ Some c → Among (flat_map (λ p. target p.cell) ps) c
+of_named [] c p m e = absurd m
+of_named (q ∷ ps) c p (inl f) e =
+    among_left (target q.cell) (flat_map (λ p. target p.cell) ps) c (subst (λ o. Among (target o) c) (sym (ap (λ u. u.cell) (sym f) ∙ e)) (inl refl))
+of_named (q ∷ ps) c p (inr m) e = among_right (target q.cell) (flat_map (λ p. target p.cell) ps) c (of_named ps c p m e)
+
+all_members : {X : Type 0} (P : X → Type 0) (xs : List X) → ((x : X) → Among xs x → P x) → AllByRecursion P xs
+all_members P [] f = tt
+all_members P (x ∷ xs) f = (f x (inl refl), all_members P xs (λ y m. f y (inr m)))
+
+module _ (w : Setting) (g : Graph) (P : ℕ → Type 0) where
+  -- entries of steps are fine where the cells that they name are such ones
+  standing_fine : (x : Standing) → ((c : ℕ) → Among (named w.table x) c → P c) → AllByRecursion (Fine P) (standing_entries w.table x)
+  standing_fine x f =
+      fine_whole P w.table x.home x.of x.val
+      (all_members (FullOk P) (home_pointers w.table x.home x.of x.val) (λ p m c k e. f c (of_named (home_pointers w.table x.home x.of x.val) c p m e)))
+
+  step_fine : (x : Step) → ((c : ℕ) → Among (step_names w g x) c → P c) → AllByRecursion (Fine P) (step_entries w g x)
+  step_fine (root_stands i) f = standing_fine (standing_root w g i) (λ c m. f c (among_right (own_cell (standing_root w g i).home) (named w.table (standing_root w g i)) c m))
+  step_fine (referent_stands p k) f =
+      all_append (Fine P) (standing_entries w.table (standing_cell g p k)) (step_tests g p k) (standing_fine (standing_cell g p k) f) (fine_tests P (cell_home k) 0 (cell_at g k) p.agreements)
+  step_fine (stands_already p k) f = fine_tests P (cell_home k) 0 (cell_at g k) p.agreements
+
+  steps_fine : (steps : List Step) → ((c : ℕ) → Among (named_cells w g steps) c → P c) → AllByRecursion (Fine P) (flat_map (step_entries w g) steps)
+  steps_fine [] f = tt
+  steps_fine (x ∷ steps) f =
+      all_append (Fine P) (step_entries w g x) (flat_map (step_entries w g) steps) (step_fine x (λ c m. f c (among_left (step_names w g x) (named_cells w g steps) c m)))
+      (steps_fine steps (λ c m. f c (among_right (step_names w g x) (named_cells w g steps) c m)))
+
+module _ (w : Setting) (side : IsLegalSide w) (g : Graph) (c : Conforms w g) where
+  abbrev Node : HomeNode → Type 0
+  Node x = IsWritable w.table g x.typed.of x.typed.label x.typed.kids
+
+  both : (xs : List HomeNode) → AllByRecursion (λ x. misfit_of w.table g x.typed ≡ None) xs → AllByRecursion (λ x. has_machine_values x.typed.label ≡ true) xs → AllByRecursion Node xs
+  both [] a b = tt
+  both (x ∷ xs) a b = (record { fit = fit_node w.table g x.typed a.0; machine = b.0 }, both xs a.1 b.1)
+
+  nodes : AllByRecursion Node (all_nodes w g)
+  nodes = both (all_nodes w g) c.local (all_of_list (λ x. has_machine_values x.typed.label) (all_nodes w g) c.machine_values)
+
+  by_cell : (n : ℕ) (xs : List Referent) → AllByRecursion Node (cell_nodes w.table n xs) → (i : ℕ) (x : Referent) → slice_get xs i ≡ Some x → WritableTrees w.table g (x.of ∷ []) (more x.val none)
+  by_cell n [] a i x e = cc
+  by_cell n (y ∷ ys) a zero x e =
+      subst (λ u. WritableTrees w.table g (u.of ∷ []) (more u.val none)) (same_Some _ _ e)
+      (writable_trees w.table g (y.of ∷ []) [] 0 (more y.val none) refl (all_map Node (in_home (cell_home n)) _ (all_left Node _ (cell_nodes w.table (n + 1) ys) a)))
+  by_cell n (y ∷ ys) a (suc i) x e = by_cell (n + 1) ys (all_right Node _ (cell_nodes w.table (n + 1) ys) a) i x e
+
+  by_root : (n : ℕ) (rs : List Root) (vs : List Tree) → length vs ≡ length rs → AllByRecursion Node (root_nodes w g n rs vs) → (i : ℕ) (r : Root) → slice_get rs i ≡ Some r
+      → WritableTrees w.table g (r.of ∷ []) (more (or_unread (slice_get vs i)) none)
+  by_root n [] vs e a i r f = cc
+  by_root n (q ∷ rs) [] e a i r f = absurd (omega arith)
+  by_root n (q ∷ rs) (v ∷ vs) e a zero r f =
+      subst (λ u. WritableTrees w.table g (u.of ∷ []) (more v none)) (same_Some _ _ f)
+      (writable_trees w.table g (q.of ∷ []) (root_agreements w g q.vars ∷ []) 0 (more v none) refl (all_map Node (in_home (home.Root n)) _ (all_left Node _ (root_nodes w g (n + 1) rs vs) a)))
+  by_root n (q ∷ rs) (v ∷ vs) e a (suc i) r f = by_root (n + 1) rs vs (omega arith) (all_right Node _ (root_nodes w g (n + 1) rs vs) a) i r f
+
+  w_cells : (k : ℕ) (x : Referent) → cell_of_number g k ≡ Some x → WritableTrees w.table g (x.of ∷ []) (more x.val none)
+  w_cells zero x e = cc
+  w_cells (suc i) x e = by_cell 1 g.cells (all_right Node (root_nodes w g 0 (root_list w) g.roots) (cell_nodes w.table 1 g.cells) nodes) i x e
+
+  w_roots : (i : ℕ) (r : Root) → slice_get (root_list w) i ≡ Some r → WritableTrees w.table g (r.of ∷ []) (more (root_at g i) none)
+  w_roots i r e = by_root 0 (root_list w) g.roots c.all_roots (all_left Node (root_nodes w g 0 (root_list w) g.roots) (cell_nodes w.table 1 g.cells) nodes) i r e
+
+  cell_typed : (t k : ℕ) (x : Referent) → cell_of_number g k ≡ Some x → x.of ≡ t → WritableTrees w.table g (t ∷ []) (more (cell_at g k) none)
+  cell_typed t k x e f =
+      subst (λ u. WritableTrees w.table g (t ∷ []) (more u none)) (sym (ap cell_tree e)) (subst (λ u. WritableTrees w.table g (u ∷ []) (more x.val none)) f (w_cells k x e))
+
+  none_inside : HoldsNoPipe w.table
+  none_inside = holds_no_pipe w.table side.operations side.legal
+
+  pending_w : (p : Pending) → PendingGood w none_inside g p → (k : ℕ) → p.cell ≡ Some k → WritableTrees w.table g (p.to ∷ []) (more (cell_at g k) none)
+  pending_w p s k e = let (x, ex, et) = s.pointee k e in cell_typed p.to k x ex et
+
+  root_by : (i t : ℕ) (l : Label) (ks : Trees) → WritableTrees w.table g (t ∷ []) (more (node l ks) none) → (o : Option (ℕ × ℕ)) → direct (type_at w.table t) (node l ks) ≡ o
+      → WritableTrees w.table g ((standing_by g i t (node l ks) o).of ∷ []) (more (standing_by g i t (node l ks) o).val none)
+  root_by i t l ks a None e = a
+  root_by i t l ks a (Some (b, u)) e =
+      let f : IsFit w.table g t l ks = a.0.fit in
+      let (to, ed, el, eu) = direct_is (type_at w.table t) l ks b u e f.no_null in
+      let f1 : names_cell g (tree.Ptr (Some b)) ≡ true = subst (λ q. names_cell g q ≡ true) el f.cell in
+      let f2 : names_pointee g (Some (def.Pointer Ref to)) (tree.Ptr (Some b)) ≡ true = subst (λ q. names_pointee g q (tree.Ptr (Some b)) ≡ true) ed
+      (subst (λ q. names_pointee g (type_at w.table t) q ≡ true) el f.pointee) in
+      let (x, ex, et) = pointee_of_cell g Ref to b f1 f2 in
+      cell_typed u b x ex (et ∙ sym eu)
+
+  root_tree : (i t : ℕ) (v : Tree) → WritableTrees w.table g (t ∷ []) (more v none)
+      → WritableTrees w.table g ((standing_by g i t v (direct (type_at w.table t) v)).of ∷ []) (more (standing_by g i t v (direct (type_at w.table t) v)).val none)
+  root_tree i t (node l ks) a = root_by i t l ks a (direct (type_at w.table t) (node l ks)) refl
+
+  root_w : (i : ℕ) (r : Root) → slice_get (root_list w) i ≡ Some r → WritableTrees w.table g ((standing_root w g i).of ∷ []) (more (standing_root w g i).val none)
+  root_w i r e =
+      subst (λ t. WritableTrees w.table g ((standing_by g i t (root_at g i) (direct (type_at w.table t) (root_at g i))).of ∷ []) (more (standing_by g i t (root_at g i) (direct (type_at w.table t) (root_at g i))).val none))
+      (sym (ap root_type e)) (root_tree i r.of (root_at g i) (w_roots i r e))
+
+  module _ (nums : ℕ → ℕ) where
+    abbrev Can : Entry → Type 0
+    Can = Writable nums
+
+    standing_can : (x : Standing) → IsNoPipe w.table x.of → WritableTrees w.table g (x.of ∷ []) (more x.val none) → ((k : ℕ) → Among (named w.table x) k → Counted nums k)
+        → AllByRecursion (Writable nums) (standing_entries w.table x)
+    standing_can x p t f =
+        whole_writable w.table side.operations side.legal none_inside g nums x.home x.of x.val p t
+        (all_members (PointerCounted w.table side.operations side.legal none_inside g nums) (home_pointers w.table x.home x.of x.val) (λ q m k e. f k (of_named (home_pointers w.table x.home x.of x.val) k q m e)))
+
+    tests_can : (h : Home) (n : ℕ) (t : Tree) (ags : List Agreement) → AllByRecursion (Writable nums) (tests h n t ags)
+    tests_can h n t ags = writable_tests w.table side.operations side.legal none_inside g nums h n t ags
+
+    steps_can : {done : Placed_cells} {due : List Due} {steps : List Step} → Deferral w g done due steps → AllByRecursion (DueGood w none_inside g) due
+        → ((k : ℕ) → Among (named_cells w g steps) k → Counted nums k) → AllByRecursion (Writable nums) (flat_map (step_entries w g) steps)
+    steps_can none_due a f = tt
+    steps_can (at_root {i = i} {due = due} {steps = steps} fr d) a f =
+        let (r, e, p) = a.0 in
+        let x : Standing = standing_root w g i in
+        let s : StandsGood w none_inside g x = root_good w none_inside g c i r e p in
+        let own : List ℕ = own_cell x.home ++ named w.table x in
+        all_append Can (standing_entries w.table x) (flat_map (step_entries w g) steps)
+        (standing_can x s.no_pipe (root_w i r e) (λ k m. f k (among_left own (named_cells w g steps) k (among_right (own_cell x.home) (named w.table x) k m))))
+        (steps_can d (all_append (DueGood w none_inside g) (due_of w.table x) due (standing_due w none_inside g x s) a.1) (λ k m. f k (among_right own (named_cells w g steps) k m)))
+    steps_can (at_null e d) a f = steps_can d a.1 f
+    steps_can (at_standing {p = p} {steps = steps} k e full h d) a f =
+        all_append Can (step_tests g p k) (flat_map (step_entries w g) steps) (tests_can (cell_home k) 0 (cell_at g k) p.agreements) (steps_can d a.1 f)
+    steps_can (at_referent {p = p} {due = due} {steps = steps} k e n d) a f =
+        let x : Standing = standing_cell g p k in
+        let s : StandsGood w none_inside g x = pending_cell w none_inside g c p a.0 k e in
+        let own : List ℕ = named w.table x in
+        all_append Can (standing_entries w.table x ++ step_tests g p k) (flat_map (step_entries w g) steps)
+        (all_append Can (standing_entries w.table x) (step_tests g p k) (standing_can x s.no_pipe (pending_w p a.0 k e) (λ q m. f q (among_left own (named_cells w g steps) q m)))
+        (tests_can (cell_home k) 0 (cell_at g k) p.agreements))
+        (steps_can d (all_append (DueGood w none_inside g) (due_of w.table x) due (standing_due w none_inside g x s) a.1) (λ q m. f q (among_right own (named_cells w g steps) q m)))
+
+    tests_writable : (ms : List Entry) → AllByRecursion IsTest ms → AllByRecursion (Writable nums) ms
+    tests_writable [] a = tt
+    tests_writable (m ∷ ms) a = let (q, x, y, e) = a.0 in (subst (CanWrite nums) (sym e) tt, tests_writable ms a.1)
+
+    -- the chunks of a pipe
+    many_of : (P : ℕ → Type 0) (t k : ℕ) → P t → AllByRecursion P (replicate k t)
+    many_of P t zero a = tt
+    many_of P t (suc k) a = (a, many_of P t k a)
+
+    take_w : (e k : ℕ) (ts : Trees) → k ≤ count ts → WritableTrees w.table g (replicate (count ts) e) ts → WritableTrees w.table g (replicate k e) (take_trees k ts)
+    take_w e zero ts h a = tt
+    take_w e (suc k) none h a = absurd (omega arith)
+    take_w e (suc k) (more (node l ks) ts) h a = (a.0, a.1, take_w e k ts (omega arith) a.2)
+
+    drop_w : (e k : ℕ) (ts : Trees) → WritableTrees w.table g (replicate (count ts) e) ts → WritableTrees w.table g (replicate (count (drop_trees k ts)) e) (drop_trees k ts)
+    drop_w e zero ts a = a
+    drop_w e (suc k) none a = tt
+    drop_w e (suc k) (more (node l ks) ts) a = drop_w e k ts a.2
+
+    chunks_can : (h : Home) (t : ℕ) (e : TypeId) → type_at w.table t ≡ Some (def.Pipe e) → (n : ℕ) (cut : List ℕ) (ts : Trees) → sum cut ≡ count ts → count ts < 2 ^ 32
+        → WritableTrees w.table g (replicate (count ts) e.0) ts → AllByRecursion (Writable nums) (chunks w.table h e.0 n cut ts)
+    chunks_can h t e et n [] ts s b a = (tt, (omega arith, tt))
+    chunks_can h t e et n (k ∷ cut) ts s b a =
+        let total : k + sum cut ≡ count ts = sym (sum_first k cut) ∙ s in
+        let low : k ≤ count ts = omega arith in
+        let cd : count (drop_trees k ts) + k ≡ count ts = count_drop k ts low in
+        let T : Trees = take_trees k ts in
+        let no_p : flat_map (pointer w.table h) (nodes_of w.table (replicate k e.0) [] n T) ≡ [] = no_pointers w.table h (replicate k e.0) [] n T (many_of _ e.0 k ((laid_out w side).elements t e et)) in
+        all_append Can (chunk_entries w.table h e.0 n k T) (chunks w.table h e.0 (n + node_count T) cut (drop_trees k ts))
+        (tt, (omega arith, in_place_writable w.table side.operations side.legal none_inside g nums h (replicate k e.0) [] n T (many_of (IsNoPipe w.table) e.0 k (none_inside.element t e et)) (take_w e.0 k ts low a)
+        (subst (AllByRecursion (PointerCounted w.table side.operations side.legal none_inside g nums)) (sym no_p) tt)))
+        (chunks_can h t e et (n + node_count T) cut (drop_trees k ts) (omega arith) (omega arith) (drop_w e.0 k ts a))
+
+    pipe_can : (h : Home) (t : ℕ) (e : TypeId) (l : Label) (ks : Trees) (cut : List ℕ) → type_at w.table t ≡ Some (def.Pipe e) → (d : Option TypeDef) → d ≡ Some (def.Pipe e) → l ≡ tree.Pipe
+        → Cuts (count ks) cut → count ks < 2 ^ 32 → WritableTrees w.table g (replicate (count ks) e.0) ks → AllByRecursion (Writable nums) (pipe_entries w.table h d cut (node l ks))
+    pipe_can h t e l ks cut et d ed el cuts b a =
+        subst (λ u. AllByRecursion (Writable nums) (pipe_entries w.table h u cut (node l ks))) (sym ed)
+        (subst (λ u. AllByRecursion (Writable nums) (pipe_entries w.table h (Some (def.Pipe e)) cut (node u ks))) (sym el) (chunks_can h t e et 1 cut ks cuts.0 b a))
