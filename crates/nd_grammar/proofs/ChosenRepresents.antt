@@ -23,7 +23,7 @@ use Rattle.nd_graph.specs.Nodes.{TypedNode, nodes_of, child_types}
 use Rattle.nd_graph.specs.Deferral.{Pending, pointer, home_pointers, Due, due_root, due_referent, due_roots, before_pipes, Step, root_stands, referent_stands, stands_already, Deferral, none_due, at_root, at_null, at_standing, at_referent, Placed_cells, Standing, standing_root, standing_by, standing_cell, direct, root_type, due_of}
 use Rattle.nd_graph.specs.Variables.{root_agreements}
 use Rattle.nd_graph.specs.Homes.{HomeNode, in_home, root_nodes, cell_nodes, all_nodes}
-use Rattle.nd_graph.specs.Misfit.{misfit_of, names_cell, names_pointee, has_machine_values}
+use Rattle.nd_graph.specs.Misfit.{has_shape, misfit_of, names_cell, names_pointee, has_machine_values}
 use Rattle.nd_graph.specs.Canon.{named, target, own_cell, step_names, named_cells, canonical_number}
 use Rattle.nd_graph.specs.Conforms.{Conforms}
 use Rattle.nd_graph.proofs.Apart.{all_append, all_left, all_right, all_map, among_left, among_right}
@@ -42,7 +42,8 @@ use Rattle.nd_grammar.proofs.LegalPipes.{holds_no_pipe, plain_before}
 use Rattle.nd_grammar.proofs.LegalSides.{laid_out}
 use Rattle.nd_grammar.proofs.Mapped.{no_pointers}
 use Rattle.nd_grammar.proofs.NextPipes.{sum_first, count_drop}
-use Rattle.nd_grammar.proofs.NextStream.{IsPipeRoot, IsLaidOut, drop_at}
+use Rattle.nd_grammar.proofs.NextStream.{IsPipeRoot, IsLaidOut, FitsPipes, drop_at}
+use Rattle.nd_grammar.proofs.StreamConforming.{pipe_label as label_is}
 use Rattle.nd_grammar.proofs.EntriesFine.{Fine, FullOk, fine_entries, fine_tests, fine_whole, fine_in_place, full_fine}
 use Rattle.nd_grammar.proofs.ReaderTests.{IsTest, root_tests_are, tests_fine}
 use Rattle.nd_grammar.proofs.CanonNumbers.{canon_range, canon_apart}
@@ -242,3 +243,228 @@ module _ (w : Setting) (side : IsLegalSide w) (g : Graph) (c : Conforms w g) whe
     pipe_can h t e l ks cut et d ed el cuts b a =
         subst (λ u. AllByRecursion (Writable nums) (pipe_entries w.table h u cut (node l ks))) (sym ed)
         (subst (λ u. AllByRecursion (Writable nums) (pipe_entries w.table h (Some (def.Pipe e)) cut (node u ks))) (sym el) (chunks_can h t e et 1 cut ks cuts.0 b a))
+
+    count_few : (ks : Trees) → count ks ≤ node_count ks
+    count_few none = omega arith
+    count_few (more (node l kids) ts) = let a = count_few ts in omega arith
+
+    -- the pipes
+    one_pipe : (h : Home) (r : Root) (l : Label) (ks : Trees) (cut : List ℕ) → IsPipeRoot w.table r → WritableTrees w.table g (r.of ∷ []) (more (node l ks) none) → Cuts (count ks) cut
+        → node_count (more (node l ks) none) < 2 ^ 32 → AllByRecursion (Writable nums) (pipe_entries w.table h (type_at w.table r.of) cut (node l ks))
+    one_pipe h r l ks cut q a cuts b =
+        let e : l ≡ tree.Pipe = label_is q.elem l ks (subst (λ d. has_shape d l ks ≡ true) q.type_is a.0.fit.shape) in
+        let k : count ks ≤ node_count ks = count_few ks in
+        let m : WritableTrees w.table g (replicate (count ks) q.elem.0) ks =
+        subst (λ d. WritableTrees w.table g (child_types d tree.Pipe ks) ks) q.type_is (subst (λ u. WritableTrees w.table g (child_types (type_at w.table r.of) u ks) ks) e a.1) in
+        pipe_can h r.of q.elem l ks cut q.type_is (type_at w.table r.of) q.type_is e cuts (omega arith) m
+
+    pipes_can : (i : ℕ) (rs : List Root) (vs : List Tree) (cuts : List (List ℕ)) → AllByRecursion (IsPipeRoot w.table) rs → AllCut vs cuts
+        → ((j : ℕ) (r : Root) → slice_get rs j ≡ Some r → WritableTrees w.table g (r.of ∷ []) (more (or_unread (slice_get vs j)) none))
+        → AllByRecursion (λ t. node_count (more t none) < 2 ^ 32) vs → AllByRecursion (Writable nums) (pipes_entries w.table i rs vs cuts)
+    pipes_can i [] vs cuts p k f b = tt
+    pipes_can i (r ∷ rs) [] cuts p k f b = tt
+    pipes_can i (r ∷ rs) (v ∷ vs) [] p k f b = tt
+    pipes_can i (r ∷ rs) (node l ks ∷ vs) (cut ∷ cuts) p k f b =
+        all_append Can (pipe_entries w.table (home.Root i) (type_at w.table r.of) cut (node l ks)) (pipes_entries w.table (i + 1) rs vs cuts)
+        (one_pipe (home.Root i) r l ks cut p.0 (f 0 r refl) k.0 b.0) (pipes_can (i + 1) rs vs cuts p.1 k.1 (λ j q e. f (suc j) q e) b.1)
+
+  -- pipes name no cells
+  module _ (P : ℕ → Type 0) where
+    chunks_fine : (h : Home) (t : ℕ) (e : TypeId) → type_at w.table t ≡ Some (def.Pipe e) → (n : ℕ) (cut : List ℕ) (ts : Trees) → AllByRecursion (Fine P) (chunks w.table h e.0 n cut ts)
+    chunks_fine h t e et n [] ts = (inr (inr (inl refl)), (tt, tt))
+    chunks_fine h t e et n (k ∷ cut) ts =
+        let T : Trees = take_trees k ts in
+        let no_p : flat_map (pointer w.table h) (nodes_of w.table (replicate k e.0) [] n T) ≡ [] = no_pointers w.table h (replicate k e.0) [] n T (fits k) in
+        all_append (Fine P) (chunk_entries w.table h e.0 n k T) (chunks w.table h e.0 (n + node_count T) cut (drop_trees k ts))
+        (inr (inr (inl refl)), (tt, fine_in_place P w.table h (replicate k e.0) [] n T (subst (AllByRecursion (FullOk P)) (sym no_p) tt)))
+        (chunks_fine h t e et (n + node_count T) cut (drop_trees k ts))
+      where
+        fits : (k : ℕ) → AllByRecursion (FitsPipes w.table) (replicate k e.0)
+        fits zero = tt
+        fits (suc k) = ((laid_out w side).elements t e et, fits k)
+
+    pipe_fine : (h : Home) (r : Root) (l : Label) (ks : Trees) (cut : List ℕ) → IsPipeRoot w.table r → AllByRecursion (Fine P) (pipe_entries w.table h (type_at w.table r.of) cut (node l ks))
+    pipe_fine h r l ks cut q = subst (λ d. AllByRecursion (Fine P) (pipe_entries w.table h d cut (node l ks))) (sym q.type_is) (by_label l)
+      where
+        by_label : (l : Label) → AllByRecursion (Fine P) (pipe_entries w.table h (Some (def.Pipe q.elem)) cut (node l ks))
+        by_label tree.Pipe = chunks_fine h r.of q.elem q.type_is 1 cut ks
+        by_label (tree.Num z) = (tt, tt)
+        by_label tree.Rec = (tt, tt)
+        by_label (tree.Arr a b) = (tt, tt)
+        by_label (tree.Text a b) = (tt, tt)
+        by_label (tree.Union a) = (tt, tt)
+        by_label (tree.Ptr a) = (tt, tt)
+        by_label (tree.Context a b) = (tt, tt)
+        by_label tree.Unread = (tt, tt)
+
+    pipes_fine : (i : ℕ) (rs : List Root) (vs : List Tree) (cuts : List (List ℕ)) → AllByRecursion (IsPipeRoot w.table) rs → AllByRecursion (Fine P) (pipes_entries w.table i rs vs cuts)
+    pipes_fine i [] vs cuts p = tt
+    pipes_fine i (r ∷ rs) [] cuts p = tt
+    pipes_fine i (r ∷ rs) (v ∷ vs) [] p = tt
+    pipes_fine i (r ∷ rs) (node l ks ∷ vs) (cut ∷ cuts) p =
+        all_append (Fine P) (pipe_entries w.table (home.Root i) (type_at w.table r.of) cut (node l ks)) (pipes_entries w.table (i + 1) rs vs cuts)
+        (pipe_fine (home.Root i) r l ks cut p.0) (pipes_fine (i + 1) rs vs cuts p.1)
+
+  -- the cells that are named are cells of the graph
+  abbrev Within : ℕ → Type 0
+  Within k = (0 < k) × (k ≤ length g.cells)
+
+  cell_within : (k : ℕ) (x : Referent) → cell_of_number g k ≡ Some x → Within k
+  cell_within zero x e = cc
+  cell_within (suc i) x e = let b = slice_get_within g.cells i x e in (omega arith, omega arith)
+
+  target_within : (o : Option ℕ) → ((k : ℕ) → o ≡ Some k → Within k) → (k : ℕ) → Among (target o) k → Within k
+  target_within None f k m = absurd m
+  target_within (Some b) f k (inl e) = f k (ap Some (sym e))
+  target_within (Some b) f k (inr m) = absurd m
+
+  split_among : (xs ys : List ℕ) (k : ℕ) → Among (xs ++ ys) k → Among xs k ⊎ Among ys k
+  split_among [] ys k m = inr m
+  split_among (x ∷ xs) ys k (inl e) = inl (inl e)
+  split_among (x ∷ xs) ys k (inr m) = go (split_among xs ys k m)
+    where
+      go : Among xs k ⊎ Among ys k → Among (x ∷ xs) k ⊎ Among ys k
+      go (inl a) = inl (inr a)
+      go (inr a) = inr a
+
+  either_within : (k : ℕ) {A B : Type 0} → A ⊎ B → (A → Within k) → (B → Within k) → Within k
+  either_within k (inl a) f h = f a
+  either_within k (inr b) f h = h b
+
+  named_within : (ps : List Pending) → AllByRecursion (DueGood w none_inside g) (map due_referent ps) → (k : ℕ) → Among (flat_map (λ p. target p.cell) ps) k → Within k
+  named_within [] a k m = absurd m
+  named_within (p ∷ ps) a k m =
+      either_within k (split_among (target p.cell) (flat_map (λ p. target p.cell) ps) k m)
+      (λ b. target_within p.cell (λ j e. (let (x, ex, et) = a.0.pointee j e in cell_within j x ex)) k b) (λ b. named_within ps a.1 k b)
+
+  own_by : (i t : ℕ) (l : Label) (ks : Trees) → WritableTrees w.table g (t ∷ []) (more (node l ks) none) → (o : Option (ℕ × ℕ)) → direct (type_at w.table t) (node l ks) ≡ o
+      → (k : ℕ) → Among (own_cell (standing_by g i t (node l ks) o).home) k → Within k
+  own_by i t l ks a None e k m = absurd m
+  own_by i t l ks a (Some (b, u)) e k (inr m) = absurd m
+  own_by i t l ks a (Some (b, u)) e k (inl h) =
+      let f : IsFit w.table g t l ks = a.0.fit in
+      let (to, ed, el, eu) = direct_is (type_at w.table t) l ks b u e f.no_null in
+      let f1 : names_cell g (tree.Ptr (Some b)) ≡ true = subst (λ q. names_cell g q ≡ true) el f.cell in
+      let f2 : names_pointee g (Some (def.Pointer Ref to)) (tree.Ptr (Some b)) ≡ true = subst (λ q. names_pointee g q (tree.Ptr (Some b)) ≡ true) ed
+      (subst (λ q. names_pointee g (type_at w.table t) q ≡ true) el f.pointee) in
+      let (x, ex, et) = pointee_of_cell g Ref to b f1 f2 in
+      subst (λ j. (0 < j) × (j ≤ length g.cells)) (sym h) (cell_within b x ex)
+
+  own_tree : (i t : ℕ) (v : Tree) → WritableTrees w.table g (t ∷ []) (more v none) → (k : ℕ) → Among (own_cell (standing_by g i t v (direct (type_at w.table t) v)).home) k → Within k
+  own_tree i t (node l ks) a k m = own_by i t l ks a (direct (type_at w.table t) (node l ks)) refl k m
+
+  own_within : (i : ℕ) (r : Root) → slice_get (root_list w) i ≡ Some r → (k : ℕ) → Among (own_cell (standing_root w g i).home) k → Within k
+  own_within i r e k m =
+      own_tree i r.of (root_at g i) (w_roots i r e) k
+      (subst (λ t. Among (own_cell (standing_by g i t (root_at g i) (direct (type_at w.table t) (root_at g i))).home) k) (ap root_type e) m)
+
+  steps_within : {done : Placed_cells} {due : List Due} {steps : List Step} → Deferral w g done due steps → AllByRecursion (DueGood w none_inside g) due
+      → (k : ℕ) → Among (named_cells w g steps) k → Within k
+  steps_within none_due a k m = absurd m
+  steps_within (at_root {i = i} {due = due} {steps = steps} fr d) a k m =
+      let (r, e, p) = a.0 in
+      let x : Standing = standing_root w g i in
+      let s : StandsGood w none_inside g x = root_good w none_inside g c i r e p in
+      let sd : AllByRecursion (DueGood w none_inside g) (due_of w.table x) = standing_due w none_inside g x s in
+      either_within k (split_among (own_cell x.home ++ named w.table x) (named_cells w g steps) k m)
+      (λ b. either_within k (split_among (own_cell x.home) (named w.table x) k b) (λ q. own_within i r e k q) (λ q. named_within (home_pointers w.table x.home x.of x.val) sd k q))
+      (λ b. steps_within d (all_append (DueGood w none_inside g) (due_of w.table x) due sd a.1) k b)
+  steps_within (at_null e d) a k m = steps_within d a.1 k m
+  steps_within (at_standing b e full h d) a k m = steps_within d a.1 k m
+  steps_within (at_referent {p = p} {due = due} {steps = steps} b e n d) a k m =
+      let x : Standing = standing_cell g p b in
+      let s : StandsGood w none_inside g x = pending_cell w none_inside g c p a.0 b e in
+      let sd : AllByRecursion (DueGood w none_inside g) (due_of w.table x) = standing_due w none_inside g x s in
+      either_within k (split_among (named w.table x) (named_cells w g steps) k m) (λ q. named_within (home_pointers w.table x.home x.of x.val) sd k q)
+      (λ q. steps_within d (all_append (DueGood w none_inside g) (due_of w.table x) due sd a.1) k q)
+
+  some_before : (rs : List Root) → before_pipes rs ≤ length rs
+  some_before [] = omega arith
+  some_before (r ∷ rs) = go r.is_pipe (some_before rs)
+    where
+      go : (b : Bool) → before_pipes rs ≤ length rs → elim b [ true ↦ 0 | false ↦ suc (before_pipes rs) ] ≤ suc (length rs)
+      go true h = omega arith
+      go false h = omega arith
+
+  abbrev n : ℕ
+  n = before_pipes (root_list w)
+
+  dues : AllByRecursion (DueGood w none_inside g) (due_roots 0 n)
+  dues = roots_due w none_inside g c 0 n (λ j h. (
+      let k : 0 + j < length (root_list w) = omega (arith, h, some_before (root_list w)) in
+      let z : 0 + j < n = omega arith in
+      let e = slice_get-get_or (root_list w) (0 + j) (record { of = 0; param = None; vars = []; is_pipe = false }) k in
+      (_, e, plain_before w side (0 + j) _ e z)))
+
+  dropped : {X : Type 0} (P : X → Type 0) (k : ℕ) (xs : List X) → AllByRecursion P xs → AllByRecursion P (drop k xs)
+  dropped P zero xs a = a
+  dropped P (suc k) [] a = tt
+  dropped P (suc k) (x ∷ xs) a = dropped P k xs a.1
+
+  module _ (order : Order) (chunk : ℕ) (positive : 0 < chunk) (octets : List ℕ) (o : Chosen w order chunk g octets) (fits : length octets ≤ STREAM_LIMIT) where
+    abbrev ds : List ℕ
+    ds = named_cells w g o.steps
+
+    abbrev nums : ℕ → ℕ
+    nums = canonical_number ds
+
+    abbrev cuts : List (List ℕ)
+    cuts = pipe_cuts chunk (drop n g.roots)
+
+    abbrev ms : List Entry
+    ms = representation w g o.steps cuts
+
+    abbrev F : List Entry
+    F = flat_map (step_entries w g) o.steps
+
+    abbrev T : List Entry
+    T = root_tests w g 0 (root_list w) g.roots
+
+    abbrev Q : List Entry
+    Q = pipes_entries w.table n (drop n (root_list w)) (drop n g.roots) cuts
+
+    counted : (k : ℕ) → Among ds k → Counted nums k
+    counted k m =
+        let (a, b) = canon_range (length g.cells) ds (λ d h. steps_within o.deferral dues d h) k m in
+        (a, omega (arith, b, c.few_cells))
+
+    pipe_roots : AllByRecursion (IsPipeRoot w.table) (drop n (root_list w))
+    pipe_roots = (laid_out w side).pipes
+
+    all_cut : AllCut (drop n g.roots) cuts
+    all_cut = pipes_cut chunk positive (drop n g.roots)
+
+    can_all : AllByRecursion (Writable nums) ms
+    can_all =
+        all_append (Writable nums) (F ++ T) Q
+        (all_append (Writable nums) F T (steps_can nums o.deferral dues counted) (tests_writable nums T (root_tests_are w g 0 (root_list w) g.roots)))
+        (pipes_can nums n (drop n (root_list w)) (drop n g.roots) cuts pipe_roots all_cut
+        (λ j r e. subst (λ u. WritableTrees w.table g (r.of ∷ []) (more (or_unread u) none)) (sym (drop_at n g.roots j)) (w_roots (n + j) r (sym (drop_at n (root_list w) j) ∙ e)))
+        (dropped (λ t. node_count (more t none) < 2 ^ 32) n g.roots (all_left (λ t. node_count (more t none) < 2 ^ 32) g.roots (map (λ c. c.val) g.cells) c.few_nodes)))
+
+    fine_all : AllByRecursion (Fine (Among ds)) ms
+    fine_all =
+        all_append (Fine (Among ds)) (F ++ T) Q
+        (all_append (Fine (Among ds)) F T (steps_fine w g (Among ds) o.steps (λ k m. m)) (tests_fine (Among ds) T (root_tests_are w g 0 (root_list w) g.roots)))
+        (pipes_fine (Among ds) n (drop n (root_list w)) (drop n g.roots) cuts pipe_roots)
+
+    full_named : (k : ℕ) → Among (full_cells ms) k → Among ds k
+    full_named k m = full_fine (Among ds) ms fine_all k m
+
+    written : AreWritten order nums octets 0 ms
+    written = subst (λ u. AreWritten order nums u 0 ms) (sym o.written) (entries_written order nums 0 ms [] refl can_all)
+
+    -- The octets that are written for a graph represent it.
+    pub chosen_represents : Represents w order octets g
+    chosen_represents = record {
+      entries = ms;
+      stream = record { steps = o.steps; cuts = cuts; deferral = o.deferral; all_cut = all_cut; is_representation = refl };
+      numbering = nums;
+      is_numbering = record {
+        in_range = λ k m. counted k (full_named k m);
+        one_to_one = λ a b m k e. canon_apart ds a b (full_named a m) (full_named b k) e;
+      };
+      rendered = written.rendered;
+      whole = sym written.ends;
+      within = fits;
+    }
