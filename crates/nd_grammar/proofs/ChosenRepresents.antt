@@ -36,6 +36,9 @@ use Rattle.nd_grammar.specs.InPlace.{tests, in_place}
 use Rattle.nd_grammar.specs.Stream.{Stream, step_entries, standing_entries, step_tests, root_tests, chunk_entries, chunks, Cuts, pipe_entries, pipes_entries, AllCut, kids_of, head_entries, representation}
 use Rattle.nd_grammar.specs.Represents.{Represents, IsNumbering, IsRendered}
 use Rattle.nd_grammar.specs.Chosen.{Chosen, octets_from, pipe_cuts, cut_of, cut_within}
+use Rattle.nd_graph.specs.Same.{Same}
+use Rattle.nd_grammar.proofs.OneGraph.{one_graph}
+use Rattle.std.proofs.lemmas.List.{append-nil}
 use Rattle.nd_grammar.proofs.GoodEntries.{IsNoPipe, HoldsNoPipe}
 use Rattle.nd_grammar.proofs.GoodStream.{PendingGood, StandsGood, DueGood, standing_due, pending_cell, root_good, roots_due}
 use Rattle.nd_grammar.proofs.LegalPipes.{holds_no_pipe, plain_before}
@@ -468,3 +471,10 @@ module _ (w : Setting) (side : IsLegalSide w) (g : Graph) (c : Conforms w g) whe
       whole = sym written.ends;
       within = fits;
     }
+
+-- Graphs for which the same octets are written are the same.
+pub chosen_apart : (w : Setting) → IsLegalSide w → (order : Order) (chunk other : ℕ) (octets : List ℕ) (g h : Graph) → 0 < chunk → 0 < other → Conforms w g → Conforms w h
+    → Chosen w order chunk g octets → Chosen w order other h octets → length octets ≤ STREAM_LIMIT → Same g h
+chosen_apart w side order chunk other octets g h p q c k o u l =
+    (one_graph w side order octets [] g h c k (subst (λ x. Represents w order x g) (sym (append-nil octets)) (chosen_represents w side g c order chunk p octets o l))
+    (chosen_represents w side h k order other q octets u l)).1
