@@ -100,3 +100,4 @@ pub mod WrittenEntries
 pub mod WritableTrees
 pub mod CanonNumbers
 pub mod ChosenRepresents
+pub mod RenumberedEntries
