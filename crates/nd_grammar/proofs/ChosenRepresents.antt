@@ -78,13 +78,13 @@ pipes_cut k p (v ∷ vs) =
     ((cut_sum (count (kids_of v)) k (count (kids_of v)) p (omega arith), cut_positive (count (kids_of v)) k (count (kids_of v)) p), pipes_cut k p vs)
 
 -- a pointer's cell is one that its home names
-of_named : (ps : List Pending) → (c : ℕ) → (p : Pending) → Among ps p → p.cell ≡ Some c → Among (flat_map (λ p. target p.cell) ps) c
+pub of_named : (ps : List Pending) → (c : ℕ) → (p : Pending) → Among ps p → p.cell ≡ Some c → Among (flat_map (λ p. target p.cell) ps) c
 of_named [] c p m e = absurd m
 of_named (q ∷ ps) c p (inl f) e =
     among_left (target q.cell) (flat_map (λ p. target p.cell) ps) c (subst (λ o. Among (target o) c) (sym (ap (λ u. u.cell) (sym f) ∙ e)) (inl refl))
 of_named (q ∷ ps) c p (inr m) e = among_right (target q.cell) (flat_map (λ p. target p.cell) ps) c (of_named ps c p m e)
 
-all_members : {X : Type 0} (P : X → Type 0) (xs : List X) → ((x : X) → Among xs x → P x) → AllByRecursion P xs
+pub all_members : {X : Type 0} (P : X → Type 0) (xs : List X) → ((x : X) → Among xs x → P x) → AllByRecursion P xs
 all_members P [] f = tt
 all_members P (x ∷ xs) f = (f x (inl refl), all_members P xs (λ y m. f y (inr m)))
 
@@ -138,14 +138,14 @@ module _ (w : Setting) (side : IsLegalSide w) (g : Graph) (c : Conforms w g) whe
   w_cells zero x e = cc
   w_cells (suc i) x e = by_cell 1 g.cells (all_right Node (root_nodes w g 0 (root_list w) g.roots) (cell_nodes w.table 1 g.cells) nodes) i x e
 
-  w_roots : (i : ℕ) (r : Root) → slice_get (root_list w) i ≡ Some r → WritableTrees w.table g (r.of ∷ []) (more (root_at g i) none)
+  pub w_roots : (i : ℕ) (r : Root) → slice_get (root_list w) i ≡ Some r → WritableTrees w.table g (r.of ∷ []) (more (root_at g i) none)
   w_roots i r e = by_root 0 (root_list w) g.roots c.all_roots (all_left Node (root_nodes w g 0 (root_list w) g.roots) (cell_nodes w.table 1 g.cells) nodes) i r e
 
   cell_typed : (t k : ℕ) (x : Referent) → cell_of_number g k ≡ Some x → x.of ≡ t → WritableTrees w.table g (t ∷ []) (more (cell_at g k) none)
   cell_typed t k x e f =
       subst (λ u. WritableTrees w.table g (t ∷ []) (more u none)) (sym (ap cell_tree e)) (subst (λ u. WritableTrees w.table g (u ∷ []) (more x.val none)) f (w_cells k x e))
 
-  none_inside : HoldsNoPipe w.table
+  pub none_inside : HoldsNoPipe w.table
   none_inside = holds_no_pipe w.table side.operations side.legal
 
   pending_w : (p : Pending) → PendingGood w none_inside g p → (k : ℕ) → p.cell ≡ Some k → WritableTrees w.table g (p.to ∷ []) (more (cell_at g k) none)
@@ -309,10 +309,10 @@ module _ (w : Setting) (side : IsLegalSide w) (g : Graph) (c : Conforms w g) whe
         (pipe_fine (home.Root i) r l ks cut p.0) (pipes_fine (i + 1) rs vs cuts p.1)
 
   -- the cells that are named are cells of the graph
-  abbrev Within : ℕ → Type 0
+  abbrev pub Within : ℕ → Type 0
   Within k = (0 < k) × (k ≤ length g.cells)
 
-  cell_within : (k : ℕ) (x : Referent) → cell_of_number g k ≡ Some x → Within k
+  pub cell_within : (k : ℕ) (x : Referent) → cell_of_number g k ≡ Some x → Within k
   cell_within zero x e = cc
   cell_within (suc i) x e = let b = slice_get_within g.cells i x e in (omega arith, omega arith)
 
@@ -321,7 +321,7 @@ module _ (w : Setting) (side : IsLegalSide w) (g : Graph) (c : Conforms w g) whe
   target_within (Some b) f k (inl e) = f k (ap Some (sym e))
   target_within (Some b) f k (inr m) = absurd m
 
-  split_among : (xs ys : List ℕ) (k : ℕ) → Among (xs ++ ys) k → Among xs k ⊎ Among ys k
+  pub split_among : (xs ys : List ℕ) (k : ℕ) → Among (xs ++ ys) k → Among xs k ⊎ Among ys k
   split_among [] ys k m = inr m
   split_among (x ∷ xs) ys k (inl e) = inl (inl e)
   split_among (x ∷ xs) ys k (inr m) = go (split_among xs ys k m)
@@ -340,7 +340,7 @@ module _ (w : Setting) (side : IsLegalSide w) (g : Graph) (c : Conforms w g) whe
       either_within k (split_among (target p.cell) (flat_map (λ p. target p.cell) ps) k m)
       (λ b. target_within p.cell (λ j e. (let (x, ex, et) = a.0.pointee j e in cell_within j x ex)) k b) (λ b. named_within ps a.1 k b)
 
-  own_by : (i t : ℕ) (l : Label) (ks : Trees) → WritableTrees w.table g (t ∷ []) (more (node l ks) none) → (o : Option (ℕ × ℕ)) → direct (type_at w.table t) (node l ks) ≡ o
+  pub own_by : (i t : ℕ) (l : Label) (ks : Trees) → WritableTrees w.table g (t ∷ []) (more (node l ks) none) → (o : Option (ℕ × ℕ)) → direct (type_at w.table t) (node l ks) ≡ o
       → (k : ℕ) → Among (own_cell (standing_by g i t (node l ks) o).home) k → Within k
   own_by i t l ks a None e k m = absurd m
   own_by i t l ks a (Some (b, u)) e k (inr m) = absurd m
@@ -356,12 +356,12 @@ module _ (w : Setting) (side : IsLegalSide w) (g : Graph) (c : Conforms w g) whe
   own_tree : (i t : ℕ) (v : Tree) → WritableTrees w.table g (t ∷ []) (more v none) → (k : ℕ) → Among (own_cell (standing_by g i t v (direct (type_at w.table t) v)).home) k → Within k
   own_tree i t (node l ks) a k m = own_by i t l ks a (direct (type_at w.table t) (node l ks)) refl k m
 
-  own_within : (i : ℕ) (r : Root) → slice_get (root_list w) i ≡ Some r → (k : ℕ) → Among (own_cell (standing_root w g i).home) k → Within k
+  pub own_within : (i : ℕ) (r : Root) → slice_get (root_list w) i ≡ Some r → (k : ℕ) → Among (own_cell (standing_root w g i).home) k → Within k
   own_within i r e k m =
       own_tree i r.of (root_at g i) (w_roots i r e) k
       (subst (λ t. Among (own_cell (standing_by g i t (root_at g i) (direct (type_at w.table t) (root_at g i))).home) k) (ap root_type e) m)
 
-  steps_within : {done : Placed_cells} {due : List Due} {steps : List Step} → Deferral w g done due steps → AllByRecursion (DueGood w none_inside g) due
+  pub steps_within : {done : Placed_cells} {due : List Due} {steps : List Step} → Deferral w g done due steps → AllByRecursion (DueGood w none_inside g) due
       → (k : ℕ) → Among (named_cells w g steps) k → Within k
   steps_within none_due a k m = absurd m
   steps_within (at_root {i = i} {due = due} {steps = steps} fr d) a k m =
@@ -381,7 +381,7 @@ module _ (w : Setting) (side : IsLegalSide w) (g : Graph) (c : Conforms w g) whe
       either_within k (split_among (named w.table x) (named_cells w g steps) k m) (λ q. named_within (home_pointers w.table x.home x.of x.val) sd k q)
       (λ q. steps_within d (all_append (DueGood w none_inside g) (due_of w.table x) due sd a.1) k q)
 
-  some_before : (rs : List Root) → before_pipes rs ≤ length rs
+  pub some_before : (rs : List Root) → before_pipes rs ≤ length rs
   some_before [] = omega arith
   some_before (r ∷ rs) = go r.is_pipe (some_before rs)
     where
@@ -389,10 +389,10 @@ module _ (w : Setting) (side : IsLegalSide w) (g : Graph) (c : Conforms w g) whe
       go true h = omega arith
       go false h = omega arith
 
-  abbrev n : ℕ
+  abbrev pub n : ℕ
   n = before_pipes (root_list w)
 
-  dues : AllByRecursion (DueGood w none_inside g) (due_roots 0 n)
+  pub dues : AllByRecursion (DueGood w none_inside g) (due_roots 0 n)
   dues = roots_due w none_inside g c 0 n (λ j h. (
       let k : 0 + j < length (root_list w) = omega (arith, h, some_before (root_list w)) in
       let z : 0 + j < n = omega arith in

@@ -101,3 +101,4 @@ pub mod WritableTrees
 pub mod CanonNumbers
 pub mod ChosenRepresents
 pub mod RenumberedEntries
+pub mod SameForms
