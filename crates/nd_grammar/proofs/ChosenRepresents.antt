@@ -28,7 +28,9 @@ use Rattle.nd_graph.specs.Canon.{named, target, own_cell, step_names, named_cell
 use Rattle.nd_graph.specs.Conforms.{Conforms}
 use Rattle.nd_graph.proofs.Apart.{all_append, all_left, all_right, all_map, among_left, among_right}
 use Rattle.nd_graph.proofs.Orderly.{Pointee, pointee_of_cell}
-use Rattle.nd_graph.proofs.NodeFacts.{IsFit, fit_node, all_of_list}
+use Rattle.nd_graph.proofs.NodeFacts.{IsFit, fit_node, all_of_list, sound_conforming}
+use Rattle.nd_graph.proofs.DeferralBridge.{deferral_is}
+use Rattle.nd_graph.proofs.DeferralLaws.{one_order}
 use Rattle.nd_graph.proofs.DeferralExists.{direct_is}
 use Rattle.nd_grammar.specs.LegalSide.{IsLegalSide}
 use Rattle.nd_grammar.specs.Entry.{Entry, Align, Chunk, full_cells}
@@ -478,3 +480,16 @@ pub chosen_apart : (w : Setting) → IsLegalSide w → (order : Order) (chunk ot
 chosen_apart w side order chunk other octets g h p q c k o u l =
     (one_graph w side order octets [] g h c k (subst (λ x. Represents w order x g) (sym (append-nil octets)) (chosen_represents w side g c order chunk p octets o l))
     (chosen_represents w side h k order other q octets u l)).1
+
+-- Some octets are written for each conforming graph.
+pub chosen_exists : (w : Setting) (order : Order) (chunk : ℕ) (g : Graph) → Conforms w g → (octets : List ℕ) × Chosen w order chunk g octets
+chosen_exists w order chunk g c =
+    let (steps, d) = deferral_is w g (sound_conforming w g c) in
+    (_, record { steps = steps; deferral = d; written = refl })
+
+-- There are no others.
+pub chosen_alone : (w : Setting) (order : Order) (chunk : ℕ) (g : Graph) (octets other : List ℕ) → Chosen w order chunk g octets → Chosen w order chunk g other → octets ≡ other
+chosen_alone w order chunk g octets other o u =
+    o.written
+    ∙ ap (λ s. octets_from order (canonical_number (named_cells w g s)) 0 (representation w g s (pipe_cuts chunk (drop (before_pipes (root_list w)) g.roots)))) (one_order w g o.deferral u.deferral)
+    ∙ sym u.written
