@@ -1,16 +1,16 @@
 -- The octets that are written for a conforming graph represent it.
-use Rattle.std.proofs.Common.{◌≡◌, ℕ, ◌+◌, ◌-◌, ◌^◌, ◌<◌, ◌≤◌, zero, suc, Bool, true, false, List, [], ◌∷◌, ◌++◌, length, Option, Some, None, refl, ap, ap₂, sym, ◌∙◌, inl, inr, ◌⊎◌, arith, subst, replicate, drop}
+use Rattle.std.proofs.Common.{◌≡◌, ℕ, ◌+◌, ◌-◌, ◌^◌, ◌<◌, ◌≤◌, zero, suc, Bool, true, false, List, [], ◌∷◌, ◌++◌, length, Option, Some, None, refl, ap, sym, ◌∙◌, inl, inr, ◌⊎◌, arith, subst, replicate, drop}
 use Rattle.std.specs.Prelude.{map, flat_map, sum, ltb}
 use Rattle.std.specs.List.{AllByRecursion, slice_get}
 use Rattle.std.proofs.lemmas.Option.{same_Some, slice_get-get_or, slice_get_within}
-use Rattle.std.proofs.lemmas.Bool.{ltb-false, ltb-true}
+use Rattle.std.proofs.lemmas.Bool.{ltb-false}
 use Rattle.nd_base.specs.declared.octets.Order.{Order}
 use Rattle.nd_base.specs.declared.TheConstants.{STREAM_LIMIT}
 use Rattle.nd_types.specs.declared.types.TypeDef.{TypeDef}
 use Rattle.nd_types.specs.declared.types.TypeId.{TypeId}
 use Rattle.nd_types.specs.declared.types.TypeDef.TheVariants as def
 use Rattle.nd_types.specs.declared.types.Class.TheVariants.{Ref}
-use Rattle.nd_types.specs.Table.{Table, type_at}
+use Rattle.nd_types.specs.Table.{type_at}
 use Rattle.nd_types.specs.Roots.{Root}
 use Rattle.nd_graph.specs.declared.value.Graph.{Graph}
 use Rattle.nd_graph.specs.declared.item.Home.{Home}
@@ -19,25 +19,25 @@ use Rattle.nd_graph.specs.Tree as tree
 use Rattle.nd_graph.specs.Tree.{Tree, Trees, node, none, more, Label, Referent, count, node_count, take_trees, drop_trees}
 use Rattle.nd_graph.specs.Agreement.{Agreement}
 use Rattle.nd_graph.specs.Setting.{Setting, Among, root_list, root_at, or_unread, cell_home, cell_at, cell_tree, cell_of_number}
-use Rattle.nd_graph.specs.Nodes.{TypedNode, nodes_of, child_types}
-use Rattle.nd_graph.specs.Deferral.{Pending, pointer, home_pointers, Due, due_root, due_referent, due_roots, before_pipes, Step, root_stands, referent_stands, stands_already, Deferral, none_due, at_root, at_null, at_standing, at_referent, Placed_cells, Standing, standing_root, standing_by, standing_cell, direct, root_type, due_of}
+use Rattle.nd_graph.specs.Nodes.{nodes_of, child_types}
+use Rattle.nd_graph.specs.Deferral.{Pending, pointer, home_pointers, Due, due_referent, due_roots, before_pipes, Step, root_stands, referent_stands, stands_already, Deferral, none_due, at_root, at_null, at_standing, at_referent, Placed_cells, Standing, standing_root, standing_by, standing_cell, direct, root_type, due_of}
 use Rattle.nd_graph.specs.Variables.{root_agreements}
 use Rattle.nd_graph.specs.Homes.{HomeNode, in_home, root_nodes, cell_nodes, all_nodes}
 use Rattle.nd_graph.specs.Misfit.{has_shape, misfit_of, names_cell, names_pointee, has_machine_values}
 use Rattle.nd_graph.specs.Canon.{named, target, own_cell, step_names, named_cells, canonical_number}
 use Rattle.nd_graph.specs.Conforms.{Conforms}
 use Rattle.nd_graph.proofs.Apart.{all_append, all_left, all_right, all_map, among_left, among_right}
-use Rattle.nd_graph.proofs.Orderly.{Pointee, pointee_of_cell}
+use Rattle.nd_graph.proofs.Orderly.{pointee_of_cell}
 use Rattle.nd_graph.proofs.NodeFacts.{IsFit, fit_node, all_of_list, sound_conforming}
 use Rattle.nd_graph.proofs.DeferralBridge.{deferral_is}
 use Rattle.nd_graph.proofs.DeferralLaws.{one_order}
 use Rattle.nd_graph.proofs.DeferralExists.{direct_is}
 use Rattle.nd_grammar.specs.LegalSide.{IsLegalSide}
-use Rattle.nd_grammar.specs.Entry.{Entry, Align, Chunk, full_cells}
-use Rattle.nd_grammar.specs.InPlace.{tests, in_place}
-use Rattle.nd_grammar.specs.Stream.{Stream, step_entries, standing_entries, step_tests, root_tests, chunk_entries, chunks, Cuts, pipe_entries, pipes_entries, AllCut, kids_of, head_entries, representation}
-use Rattle.nd_grammar.specs.Represents.{Represents, IsNumbering, IsRendered}
-use Rattle.nd_grammar.specs.Chosen.{Chosen, octets_from, pipe_cuts, cut_of, cut_within}
+use Rattle.nd_grammar.specs.Entry.{Entry, full_cells}
+use Rattle.nd_grammar.specs.InPlace.{tests}
+use Rattle.nd_grammar.specs.Stream.{step_entries, standing_entries, step_tests, root_tests, chunk_entries, chunks, Cuts, pipe_entries, pipes_entries, AllCut, kids_of, representation}
+use Rattle.nd_grammar.specs.Represents.{Represents}
+use Rattle.nd_grammar.specs.Chosen.{Chosen, octets_from, pipe_cuts, cut_within}
 use Rattle.nd_graph.specs.Same.{Same}
 use Rattle.nd_grammar.proofs.OneGraph.{one_graph}
 use Rattle.std.proofs.lemmas.List.{append-nil}
@@ -47,9 +47,9 @@ use Rattle.nd_grammar.proofs.LegalPipes.{holds_no_pipe, plain_before}
 use Rattle.nd_grammar.proofs.LegalSides.{laid_out}
 use Rattle.nd_grammar.proofs.Mapped.{no_pointers}
 use Rattle.nd_grammar.proofs.NextPipes.{sum_first, count_drop}
-use Rattle.nd_grammar.proofs.NextStream.{IsPipeRoot, IsLaidOut, FitsPipes, drop_at}
+use Rattle.nd_grammar.proofs.NextStream.{IsPipeRoot, FitsPipes, drop_at}
 use Rattle.nd_grammar.proofs.StreamConforming.{pipe_label as label_is}
-use Rattle.nd_grammar.proofs.EntriesFine.{Fine, FullOk, fine_entries, fine_tests, fine_whole, fine_in_place, full_fine}
+use Rattle.nd_grammar.proofs.EntriesFine.{Fine, FullOk, fine_tests, fine_whole, fine_in_place, full_fine}
 use Rattle.nd_grammar.proofs.ReaderTests.{IsTest, root_tests_are, tests_fine}
 use Rattle.nd_grammar.proofs.CanonNumbers.{canon_range, canon_apart}
 use Rattle.nd_grammar.proofs.WrittenEntries.{Counted, CanWrite, Writable, AreWritten, entries_written}
@@ -238,9 +238,14 @@ module _ (w : Setting) (side : IsLegalSide w) (g : Graph) (c : Conforms w g) whe
         let cd : count (drop_trees k ts) + k ≡ count ts = count_drop k ts low in
         let T : Trees = take_trees k ts in
         let no_p : flat_map (pointer w.table h) (nodes_of w.table (replicate k e.0) [] n T) ≡ [] = no_pointers w.table h (replicate k e.0) [] n T (many_of _ e.0 k ((laid_out w side).elements t e et)) in
-        all_append Can (chunk_entries w.table h e.0 n k T) (chunks w.table h e.0 (n + node_count T) cut (drop_trees k ts))
-        (tt, (omega arith, in_place_writable w.table side.operations side.legal none_inside g nums h (replicate k e.0) [] n T (many_of (IsNoPipe w.table) e.0 k (none_inside.element t e et)) (take_w e.0 k ts low a)
-        (subst (AllByRecursion (PointerCounted w.table side.operations side.legal none_inside g nums)) (sym no_p) tt)))
+        all_append Can (chunk_entries w.table h e.0 n k T) (chunks w.table h e.0 (n + node_count T) cut (drop_trees k ts)) (
+          tt,
+          (
+            omega arith,
+            in_place_writable w.table side.operations side.legal none_inside g nums h (replicate k e.0) [] n T (many_of (IsNoPipe w.table) e.0 k (none_inside.element t e et)) (take_w e.0 k ts low a)
+                (subst (AllByRecursion (PointerCounted w.table side.operations side.legal none_inside g nums)) (sym no_p) tt),
+          ),
+        )
         (chunks_can h t e et (n + node_count T) cut (drop_trees k ts) (omega arith) (omega arith) (drop_w e.0 k ts a))
 
     pipe_can : (h : Home) (t : ℕ) (e : TypeId) (l : Label) (ks : Trees) (cut : List ℕ) → type_at w.table t ≡ Some (def.Pipe e) → (d : Option TypeDef) → d ≡ Some (def.Pipe e) → l ≡ tree.Pipe

@@ -1,5 +1,5 @@
 -- Trees whose cells are renumbered: the same octets are written for them, where the cells' numbers are the same.
-use Rattle.std.proofs.Common.{◌≡◌, ℕ, ◌+◌, zero, suc, ℤ, Bool, true, false, List, [], ◌∷◌, ◌++◌, length, Option, Some, None, refl, ap, ap₂, sym, ◌∙◌, inl, inr, ◌⊎◌, arith, subst, replicate}
+use Rattle.std.proofs.Common.{◌≡◌, ℕ, ◌+◌, zero, suc, ℤ, Bool, true, false, List, [], ◌∷◌, ◌++◌, Option, Some, None, refl, ap, ap₂, sym, ◌∙◌, subst}
 use Rattle.std.specs.Prelude.{map, flat_map}
 use Rattle.std.specs.List.{AllByRecursion}
 use Rattle.std.proofs.lemmas.Grind.{flat_map-append}
@@ -15,13 +15,12 @@ use Rattle.nd_graph.specs.declared.item.Home.{Home}
 use Rattle.nd_graph.specs.Tree as tree
 use Rattle.nd_graph.specs.Tree.{Tree, Trees, node, none, more, Label, count, node_count, is_pointer, cell_in, take_trees, drop_trees}
 use Rattle.nd_graph.specs.Agreement.{Agreement, number_in}
-use Rattle.nd_graph.specs.Setting.{Among}
 use Rattle.nd_graph.specs.Nodes.{TypedNode, nodes_of, child_types, child_agreements, first_agreements, rest_agreements}
 use Rattle.nd_graph.specs.Deferral.{Pending, pointer, pointer_by, home_pointers}
 use Rattle.nd_graph.specs.Canon.{target}
 use Rattle.nd_graph.specs.Same.{renumbered, renumbered_label}
 use Rattle.nd_graph.proofs.Apart.{all_left, all_right}
-use Rattle.nd_grammar.specs.Entry.{Kind, Entry, Align, Number, Test, size_at}
+use Rattle.nd_grammar.specs.Entry.{Kind, Entry, size_at}
 use Rattle.nd_grammar.specs.InPlace.{before_children, entries, counts, tag_entries, in_place, tests, own_tests, child_tests, hoisted, hoisted_max, own_max, whole_value}
 use Rattle.nd_grammar.specs.Chosen.{octets_of, octets_from}
 use Rattle.nd_grammar.proofs.Matching.{bare, number_same, child_agreements_same, pointer_bare, through}

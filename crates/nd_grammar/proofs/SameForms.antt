@@ -1,9 +1,9 @@
 -- For graphs that are the same up to the numbers of their cells, the same octets are written.
-use Rattle.std.proofs.Common.{◌≡◌, ℕ, ◌+◌, ◌<◌, ◌≤◌, zero, suc, Bool, true, false, List, [], ◌∷◌, ◌++◌, length, Option, Some, None, refl, ap, ap₂, sym, ◌∙◌, inl, inr, ◌⊎◌, arith, subst, replicate, drop, append_assoc}
+use Rattle.std.proofs.Common.{◌≡◌, ℕ, ◌+◌, ◌<◌, ◌≤◌, zero, suc, Bool, true, false, List, [], ◌∷◌, ◌++◌, length, Option, Some, None, refl, ap, ap₂, sym, ◌∙◌, inl, inr, ◌⊎◌, arith, subst, replicate, drop}
 use Rattle.std.specs.Prelude.{map, flat_map, eqb, cond}
 use Rattle.std.specs.List.{AllByRecursion, slice_get}
 use Rattle.std.proofs.lemmas.Bool.{eqb-true, eqb-false, eq-eqb}
-use Rattle.std.proofs.lemmas.Option.{same_Some, slice_get-get_or, slice_get_within}
+use Rattle.std.proofs.lemmas.Option.{same_Some, slice_get-get_or}
 use Rattle.nd_base.specs.declared.octets.Order.{Order}
 use Rattle.nd_types.specs.declared.types.TypeDef.{TypeDef}
 use Rattle.nd_types.specs.declared.types.TypeId.{TypeId}
@@ -17,10 +17,10 @@ use Rattle.nd_graph.specs.declared.item.Home.{Home}
 use Rattle.nd_graph.specs.declared.item.Home.TheVariants as home
 use Rattle.nd_graph.specs.Tree as tree
 use Rattle.nd_graph.specs.Tree.{Tree, Trees, node, none, more, Label, Referent, trees, count, node_count, take_trees, drop_trees}
-use Rattle.nd_graph.specs.Setting.{Setting, Among, root_list, root_at, or_unread, cell_home, cell_at, cell_tree, cell_of_number}
+use Rattle.nd_graph.specs.Setting.{Setting, Among, root_list, root_at, or_unread, cell_home, cell_at, cell_tree}
 use Rattle.nd_graph.specs.Nodes.{nodes_of}
-use Rattle.nd_graph.specs.Deferral.{Pending, pointer, home_pointers, Due, due_root, due_referent, due_roots, before_pipes, Step, root_stands, referent_stands, stands_already, Deferral, none_due, at_root, at_null, at_standing, at_referent, IsPlaced, IsPlacedFull, Placed_cells, Standing, standing_root, standing_by, standing_cell, direct, root_type, due_of, root_cell}
-use Rattle.nd_graph.specs.Canon.{named, target, own_cell, step_names, named_cells, has, number_from, canonical_number}
+use Rattle.nd_graph.specs.Deferral.{Pending, pointer, home_pointers, Due, due_root, due_referent, due_roots, before_pipes, Step, Deferral, none_due, at_root, at_null, at_standing, at_referent, IsPlaced, Placed_cells, Standing, standing_root, standing_by, standing_cell, direct, root_type, due_of, root_cell}
+use Rattle.nd_graph.specs.Canon.{named, own_cell, named_cells, has, number_from, canonical_number}
 use Rattle.nd_graph.specs.Conforms.{Conforms}
 use Rattle.nd_graph.specs.Misfit.{is_no_null_ref}
 use Rattle.nd_graph.specs.Same.{Same, renumbered, renumbered_label}
@@ -28,18 +28,18 @@ use Rattle.nd_graph.proofs.Apart.{all_append, among_left, among_right}
 use Rattle.nd_graph.proofs.DeferralLaws.{full_stands}
 use Rattle.nd_graph.proofs.Waiting.{not_equal}
 use Rattle.nd_grammar.specs.LegalSide.{IsLegalSide}
-use Rattle.nd_grammar.specs.Entry.{Entry, Align, Chunk, Unread, size_at}
+use Rattle.nd_grammar.specs.Entry.{Entry, size_at}
 use Rattle.nd_grammar.specs.InPlace.{tests, in_place}
-use Rattle.nd_grammar.specs.Stream.{step_entries, standing_entries, step_tests, root_tests, chunk_entries, chunks, pipe_entries, pipes_entries, kids_of, representation}
+use Rattle.nd_grammar.specs.Stream.{step_entries, standing_entries, step_tests, root_tests, chunk_entries, chunks, pipe_entries, pipes_entries, kids_of}
 use Rattle.nd_grammar.specs.Chosen.{Chosen, octets_of, octets_from, pipe_cuts, cut_of}
 use Rattle.nd_grammar.proofs.GoodStream.{PendingGood, StandsGood, DueGood, standing_due, pending_cell, root_good}
 use Rattle.nd_grammar.proofs.LegalSides.{laid_out}
 use Rattle.nd_grammar.proofs.Mapped.{no_pointers}
-use Rattle.nd_grammar.proofs.NextStream.{IsPipeRoot, FitsPipes, drop_at}
+use Rattle.nd_grammar.proofs.NextStream.{IsPipeRoot, FitsPipes}
 use Rattle.nd_grammar.proofs.ReaderTests.{IsTest, root_tests_are}
-use Rattle.nd_grammar.proofs.ChosenRepresents.{w_roots, own_by, own_within, Within, cell_within, none_inside, dues, steps_within, of_named, all_members}
+use Rattle.nd_grammar.proofs.ChosenRepresents.{w_roots, own_by, own_within, cell_within, none_inside, dues, steps_within, of_named, all_members}
 use Rattle.nd_grammar.proofs.WritableTrees.{WritableTrees}
-use Rattle.nd_grammar.proofs.RenumberedEntries.{count_same, take_same, drop_same, carried, PendLike, AllPend, pointers_alike, named_same, AllSame, SameKind, same_append, same_octets, OneNumber, in_place_alike, whole_alike}
+use Rattle.nd_grammar.proofs.RenumberedEntries.{count_same, take_same, drop_same, carried, PendLike, AllPend, pointers_alike, named_same, AllSame, same_append, same_octets, OneNumber, in_place_alike, whole_alike}
 
 -- tests are not written
 skip_tests : (order : Order) (nums : ℕ → ℕ) (ts qs : List Entry) → AllByRecursion IsTest ts → (at : ℕ) → octets_from order nums at (ts ++ qs) ≡ octets_from order nums at qs

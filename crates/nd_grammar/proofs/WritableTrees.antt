@@ -1,12 +1,10 @@
 -- The entries of a conforming graph's stream can be written so that they are read back.
-use Rattle.std.proofs.Common.{◌≡◌, ℕ, ◌+◌, ◌^◌, ◌<◌, ◌≤◌, zero, suc, ℤ, Bool, true, false, List, [], ◌∷◌, ◌++◌, length, Option, Some, None, refl, ap, ap₂, sym, ◌∙◌, inl, inr, ◌⊎◌, arith, subst, replicate}
-use Rattle.std.specs.Prelude.{flat_map, eqb, leb, ltb, ◌&&◌}
-use Rattle.std.specs.List.{AllByRecursion, slice_get}
+use Rattle.std.proofs.Common.{◌≡◌, ℕ, ◌+◌, ◌^◌, ◌<◌, ◌≤◌, ℤ, Bool, true, false, List, [], ◌∷◌, ◌++◌, length, Option, Some, None, refl, arith, subst}
+use Rattle.std.specs.Prelude.{flat_map}
+use Rattle.std.specs.List.{AllByRecursion}
 use Rattle.std.proofs.lemmas.Grind.{flat_map-append}
-use Rattle.std.proofs.lemmas.Option.{same_Some}
 use Rattle.std.proofs.lemmas.Bool.{and_parts, eqb-true, leb-true, ltb-true}
 use Rattle.nd_types.specs.declared.types.TypeDef.{TypeDef}
-use Rattle.nd_types.specs.declared.types.TypeId.{TypeId}
 use Rattle.nd_types.specs.declared.types.Arm.{Arm}
 use Rattle.nd_types.specs.declared.types.TypeDef.TheVariants as def
 use Rattle.nd_types.specs.declared.types.Operation.{Operation}
@@ -24,7 +22,7 @@ use Rattle.nd_graph.specs.Deferral.{Pending, pointer, pointer_by, home_pointers}
 use Rattle.nd_graph.specs.Misfit.{has_shape, has_range, has_machine_values, is_within, is_count}
 use Rattle.nd_graph.proofs.Apart.{all_append, all_left, all_right}
 use Rattle.nd_graph.proofs.NodeFacts.{IsFit, fit_children}
-use Rattle.nd_grammar.specs.Entry.{Kind, Entry}
+use Rattle.nd_grammar.specs.Entry.{Kind}
 use Rattle.nd_grammar.specs.InPlace.{before_children, entries, counts, tag_entries, in_place, tests, own_tests, child_tests, hoisted, hoisted_max, own_max, whole_value}
 use Rattle.nd_grammar.proofs.ConformingPartial.{range_fits}
 use Rattle.nd_grammar.proofs.GoodEntries.{IsNoPipe, HoldsNoPipe}

@@ -1,5 +1,5 @@
 -- The octets that are written for entries spell them.
-use Rattle.std.proofs.Common.{◌≡◌, ℕ, ◌+◌, ◌-◌, ◌^◌, ◌<◌, ◌≤◌, zero, suc, ℤ, true, List, [], ◌∷◌, ◌++◌, length, Option, Some, None, refl, ap, ap₂, sym, ◌∙◌, arith, subst, replicate, take, drop, min, append_assoc, length-append, length-take, length-drop}
+use Rattle.std.proofs.Common.{◌≡◌, ℕ, ◌+◌, ◌^◌, ◌<◌, zero, suc, true, List, [], ◌∷◌, ◌++◌, length, Option, Some, None, refl, ap, ap₂, sym, ◌∙◌, arith, subst, take, drop, min, append_assoc, length-append, length-take, length-drop}
 use Rattle.std.specs.Prelude.{reverse}
 use Rattle.std.specs.List.{AllByRecursion}
 use Rattle.std.proofs.lemmas.List.{length-replicate, length-reverse}
@@ -7,13 +7,13 @@ use Rattle.nd_base.specs.declared.octets.Order.{Order}
 use Rattle.nd_base.specs.declared.octets.Order.TheVariants.{Big, Little}
 use Rattle.nd_types.specs.declared.types.Class.{Class}
 use Rattle.nd_types.specs.declared.types.Class.TheVariants.{Ref, Unique, Full}
-use Rattle.nd_types.specs.Table.{width, in_range}
-use Rattle.nd_types.specs.Number.{unsigned, spelling, written, in_order, value_of_octets}
+use Rattle.nd_types.specs.Table.{in_range}
+use Rattle.nd_types.specs.Number.{unsigned, spelling, in_order}
 use Rattle.nd_types.proofs.NumberLaws.{unsigned-spelling, spelling-length, written-length, read_after_write}
-use Rattle.nd_grammar.specs.Entry.{Kind, Entry, Align, Max, Offset, Actual, Chunk, Number, Num, Tag, Text, Context, Test, Unread, size_at, gap, EntryAt, end_to_end, end_of}
+use Rattle.nd_grammar.specs.Entry.{Kind, Entry, Align, Max, Offset, Actual, Chunk, Number, Num, Tag, Text, Context, Test, Unread, size_at, gap, end_to_end, end_of}
 use Rattle.nd_grammar.specs.Represents.{piece, Spells, IsNumber, IsRendered, id_octets}
 use Rattle.nd_grammar.specs.Chosen.{octets_of, octets_from, number_of_cell}
-use Rattle.nd_grammar.proofs.Passed.{least, least_end}
+use Rattle.nd_grammar.proofs.Passed.{least_end}
 
 -- a cell has a number of 32 bits, and not 0
 abbrev pub Counted : (ℕ → ℕ) → ℕ → Type 0
