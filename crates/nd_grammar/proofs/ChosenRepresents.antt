@@ -39,7 +39,7 @@ use Rattle.nd_grammar.specs.Stream.{step_entries, standing_entries, step_tests, 
 use Rattle.nd_grammar.specs.Represents.{Represents}
 use Rattle.nd_grammar.specs.Chosen.{Chosen, octets_from, pipe_cuts, cut_within}
 use Rattle.nd_graph.specs.Same.{Same}
-use Rattle.nd_grammar.proofs.OneGraph.{one_graph}
+use Rattle.nd_grammar.proofs.OneGraph.{IsSpelled, one_spelled}
 use Rattle.std.proofs.lemmas.List.{append-nil}
 use Rattle.nd_grammar.proofs.GoodEntries.{IsNoPipe, HoldsNoPipe}
 use Rattle.nd_grammar.proofs.GoodStream.{PendingGood, StandsGood, DueGood, standing_due, pending_cell, root_good, roots_due}
@@ -411,7 +411,7 @@ module _ (w : Setting) (side : IsLegalSide w) (g : Graph) (c : Conforms w g) whe
   dropped P (suc k) [] a = tt
   dropped P (suc k) (x ∷ xs) a = dropped P k xs a.1
 
-  module _ (order : Order) (chunk : ℕ) (positive : 0 < chunk) (octets : List ℕ) (o : Chosen w order chunk g octets) (fits : length octets ≤ STREAM_LIMIT) where
+  module _ (order : Order) (chunk : ℕ) (positive : 0 < chunk) (octets : List ℕ) (o : Chosen w order chunk g octets) where
     abbrev ds : List ℕ
     ds = named_cells w g o.steps
 
@@ -464,9 +464,9 @@ module _ (w : Setting) (side : IsLegalSide w) (g : Graph) (c : Conforms w g) whe
     written : AreWritten order nums octets 0 ms
     written = subst (λ u. AreWritten order nums u 0 ms) (sym o.written) (entries_written order nums 0 ms [] refl can_all)
 
-    -- The octets that are written for a graph represent it.
-    pub chosen_represents : Represents w order octets g
-    chosen_represents = record {
+    -- The octets that are written for a graph are a stream of it.
+    pub chosen_spelled : IsSpelled w order octets g
+    chosen_spelled = record {
       entries = ms;
       stream = record { steps = o.steps; cuts = cuts; deferral = o.deferral; all_cut = all_cut; is_representation = refl };
       numbering = nums;
@@ -476,15 +476,20 @@ module _ (w : Setting) (side : IsLegalSide w) (g : Graph) (c : Conforms w g) whe
       };
       rendered = written.rendered;
       whole = sym written.ends;
-      within = fits;
     }
+
+    -- Within the limit they represent it.
+    pub chosen_represents : length octets ≤ STREAM_LIMIT → Represents w order octets g
+    chosen_represents fits =
+        let r : IsSpelled w order octets g = chosen_spelled in
+        record { entries = r.entries; stream = r.stream; numbering = r.numbering; is_numbering = r.is_numbering; rendered = r.rendered; whole = r.whole; within = fits }
 
 -- Graphs for which the same octets are written are the same.
 pub chosen_apart : (w : Setting) → IsLegalSide w → (order : Order) (chunk other : ℕ) (octets : List ℕ) (g h : Graph) → 0 < chunk → 0 < other → Conforms w g → Conforms w h
-    → Chosen w order chunk g octets → Chosen w order other h octets → length octets ≤ STREAM_LIMIT → Same g h
-chosen_apart w side order chunk other octets g h p q c k o u l =
-    (one_graph w side order octets [] g h c k (subst (λ x. Represents w order x g) (sym (append-nil octets)) (chosen_represents w side g c order chunk p octets o l))
-    (chosen_represents w side h k order other q octets u l)).1
+    → Chosen w order chunk g octets → Chosen w order other h octets → Same g h
+chosen_apart w side order chunk other octets g h p q c k o u =
+    (one_spelled w side order octets [] g h c k (subst (λ x. IsSpelled w order x g) (sym (append-nil octets)) (chosen_spelled w side g c order chunk p octets o))
+    (chosen_spelled w side h k order other q octets u)).1
 
 -- Some octets are written for each conforming graph.
 pub chosen_exists : (w : Setting) (order : Order) (chunk : ℕ) (g : Graph) → Conforms w g → (octets : List ℕ) × Chosen w order chunk g octets

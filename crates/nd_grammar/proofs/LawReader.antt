@@ -53,4 +53,4 @@ pub ring_turned : (h : Graph) (octets : List ℕ) → Same ring_2 h → Chosen r
 ring_turned h octets s o = same_written ring ring_side ring_2 h ring_conforms s Little 1 ring_2_octets octets ring_written o
 
 pub ring_only : (h : Graph) → Conforms ring h → Chosen ring Little 1 h ring_2_octets → Same ring_2 h
-ring_only h c o = chosen_apart ring ring_side Little 1 1 ring_2_octets ring_2 h (omega arith) (omega arith) ring_conforms c ring_written o (lit≤ tt)
+ring_only h c o = chosen_apart ring ring_side Little 1 1 ring_2_octets ring_2 h (omega arith) (omega arith) ring_conforms c ring_written o
