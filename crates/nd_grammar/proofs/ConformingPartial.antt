@@ -67,7 +67,7 @@ module _ (table : Table) (operations : List Operation) (legal : IsLegal table op
   other_fits (Some (def.Union tag enc arms default)) _ a b = refl
   other_fits d _ a b = refl
 
-  range_fits : (t : ℕ) (d : Option TypeDef) → type_at table t ≡ d → (l : Label) → has_range is_value table d l ≡ true → has_range fits_octets table d l ≡ true
+  pub range_fits : (t : ℕ) (d : Option TypeDef) → type_at table t ≡ d → (l : Label) → has_range is_value table d l ≡ true → has_range fits_octets table d l ≡ true
   range_fits t d e (tree.Num z) h = num_fits t d e z h
   range_fits t d e (tree.Union v) h = tag_fits d v h
   range_fits t d e tree.Rec h = other_fits d tree.Rec (λ v f. cc) (λ z f. cc)

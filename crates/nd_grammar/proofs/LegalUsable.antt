@@ -8,7 +8,7 @@ use Rattle.nd_types.specs.declared.types.TypeDef.{TypeDef}
 use Rattle.nd_types.specs.declared.types.TypeId.{TypeId}
 use Rattle.nd_types.specs.declared.types.TypeDef.TheVariants as def
 use Rattle.nd_types.specs.declared.types.Class.{Class}
-use Rattle.nd_types.specs.declared.types.Class.TheVariants.{Ref}
+use Rattle.nd_types.specs.declared.types.Class.TheVariants.{Ref, Unique, Full}
 use Rattle.nd_types.specs.declared.types.Param.{Param}
 use Rattle.nd_types.specs.declared.types.Operation.{Operation}
 use Rattle.nd_types.specs.declared.types.Side.{Side}
@@ -148,17 +148,8 @@ module _ (table : Table) (operations : List Operation) (legal : IsLegal table op
       go (Some (def.Prim p)) i j = cc
       go (Some _) i j = cc
   pipe_known t None h k o f u g = cc
-  pipe_known t (Some (def.Pointer k' to)) h k o f u g = no_pointer k' to (f ∙ g)
-    where
-      no_pointer : (k' : Class) (to : TypeId) → pipe_by table t (Some (def.Pointer k' to)) ≡ Some u → Known table u
-      no_pointer Ref to e = go (type_at table to.0) refl e
-        where
-          go : (d : Option TypeDef) → type_at table to.0 ≡ d → pipe_referent to.0 d ≡ Some u → Known table u
-          go (Some (def.Pipe e)) i j = let s : to.0 ≡ u = cc in subst (Known table) s (def.Pipe e, i)
-          go None i j = cc
-          go (Some (def.Prim p)) i j = cc
-          go (Some _) i j = cc
-      no_pointer _ to e = cc
+  pipe_known t (Some (def.Pointer Unique to)) h k o f u g = cc
+  pipe_known t (Some (def.Pointer Full to)) h k o f u g = cc
   pipe_known t (Some _) h k o f u g = cc
 
   param_known : (i : ℕ) (p : Param) → Known table p.field.of.0 → (o : Option ℕ) → pipe_of table p.field.of.0 ≡ o → RootKnown (root_by i p o)

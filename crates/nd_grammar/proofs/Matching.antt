@@ -134,7 +134,7 @@ module _ (l l' : Label) (e : bare l ≡ bare l') where
   found_same attr.Last ks ks' c = ap₂ (λ u v. pos (u + v) -ℤ pos 1) (through offset_of offset_bare) (actual_same ks ks' c)
   found_same attr.Switch ks ks' c = through tag_of tag_bare
 
-  number_same : (ks ks' : Trees) → number_of (node l ks) ≡ number_of (node l' ks')
+  pub number_same : (ks ks' : Trees) → number_of (node l ks) ≡ number_of (node l' ks')
   number_same ks ks' = number_bare l ks ∙ ap (λ k. number_of (node k none)) e ∙ sym (number_bare l' ks')
 
 module _ (C : Class → Option ℕ → Option ℕ → Type 0) (table : Table) where

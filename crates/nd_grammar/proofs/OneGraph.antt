@@ -7,7 +7,8 @@ use Rattle.nd_graph.specs.Setting.{Setting}
 use Rattle.nd_graph.specs.Conforms.{Conforms, Reached}
 use Rattle.nd_graph.specs.Same.{Same}
 use Rattle.nd_graph.proofs.NodeFacts.{IsSound, sound_conforming}
-use Rattle.nd_grammar.specs.Entry.{end_to_end, full_cells}
+use Rattle.nd_grammar.specs.Entry.{Entry, end_to_end, end_of, full_cells}
+use Rattle.nd_grammar.specs.Stream.{Stream}
 use Rattle.nd_grammar.specs.LegalSide.{IsLegalSide}
 use Rattle.nd_grammar.specs.Represents.{Represents, IsRendered, IsNumbering}
 use Rattle.nd_grammar.proofs.Next.{Readings}
@@ -36,11 +37,24 @@ none_longer (x ∷ xs) e = cc
 reached_cell : (w : Setting) (g : Graph) → Conforms w g → (c : ℕ) → 0 < c → c ≤ length g.cells → Reached w g c
 reached_cell w g k c a b = k.reached c a (omega arith)
 
--- Where octets represent a conforming graph and a first part of them represents another, the part is the whole, and the two graphs
+-- octets are a stream of a graph, within the limit of a stream or past it
+pub record IsSpelled (w : Setting) (order : Order) (octets : List ℕ) (g : Graph) : Type 0 where
+  pub entries : List Entry
+  pub stream : Stream w g entries
+  pub numbering : ℕ → ℕ
+  pub is_numbering : IsNumbering numbering (full_cells entries)
+  pub rendered : AllByRecursion (IsRendered order numbering octets) (end_to_end 0 entries)
+  pub whole : end_of 0 entries ≡ length octets
+
+spelled : (w : Setting) (order : Order) (octets : List ℕ) (g : Graph) → Represents w order octets g → IsSpelled w order octets g
+spelled w order octets g r =
+    record { entries = r.entries; stream = r.stream; numbering = r.numbering; is_numbering = r.is_numbering; rendered = r.rendered; whole = r.whole }
+
+-- Where octets are a stream of a conforming graph and a first part of them is one of another, the part is the whole, and the two graphs
 -- are the same.
-pub one_graph : (w : Setting) → IsLegalSide w → (order : Order) (octets rest : List ℕ) (g h : Graph) → Conforms w g → Conforms w h
-    → Represents w order (octets ++ rest) g → Represents w order octets h → (rest ≡ []) × Same g h
-one_graph w side order octets rest g h c c' r r' =
+pub one_spelled : (w : Setting) → IsLegalSide w → (order : Order) (octets rest : List ℕ) (g h : Graph) → Conforms w g → Conforms w h
+    → IsSpelled w order (octets ++ rest) g → IsSpelled w order octets h → (rest ≡ []) × Same g h
+one_spelled w side order octets rest g h c c' r r' =
     let laid : IsLaidOut w = laid_out w side in
     let s : IsSound w g = sound_conforming w g c in
     let s' : IsSound w h = sound_conforming w h c' in
@@ -57,3 +71,7 @@ one_graph w side order octets rest g h c c' r r' =
     let l : length (octets ++ rest) ≡ length octets = sym r.whole ∙ e ∙ r'.whole in
     let z : length rest ≡ 0 = omega (arith, length-append octets rest) in
     (none_longer rest z, same_by_map two w g h laid s s' ys mapped (reached_cell w g c) (reached_cell w h c'))
+
+pub one_graph : (w : Setting) → IsLegalSide w → (order : Order) (octets rest : List ℕ) (g h : Graph) → Conforms w g → Conforms w h
+    → Represents w order (octets ++ rest) g → Represents w order octets h → (rest ≡ []) × Same g h
+one_graph w side order octets rest g h c c' r r' = one_spelled w side order octets rest g h c c' (spelled w order (octets ++ rest) g r) (spelled w order octets h r')

@@ -94,9 +94,6 @@ module _ (w : Setting) (side : IsLegalSide w) (order : Order) (octets : List ℕ
     pub usable : AllByRecursion (UsablePointer w.table) (home_pointers w.table h t r.tree)
     pub fine : Linked order octets p s → (xs : List (ℕ × ℕ)) → Grown r.names.numbers xs → AllByRecursion (Fine (Numbered xs)) (whole_value w.table h t r.tree)
 
-  abbrev table : Table
-  table = w.table
-
   hoisting : HoistsLast w.table
   hoisting = (laid_out w side).hoisting
 

@@ -59,7 +59,7 @@ some_before (r ∷ rs) = go r.is_pipe (some_before rs)
     go true h = omega arith
     go false h = omega arith
 
-pipe_label : (e : TypeId) (l : Label) (ks : Trees) → has_shape (Some (def.Pipe e)) l ks ≡ true → l ≡ tree.Pipe
+pub pipe_label : (e : TypeId) (l : Label) (ks : Trees) → has_shape (Some (def.Pipe e)) l ks ≡ true → l ≡ tree.Pipe
 pipe_label e tree.Pipe ks h = refl
 pipe_label e (tree.Num z) ks h = cc
 pipe_label e tree.Rec ks h = cc

@@ -14,7 +14,7 @@ use Rattle.nd_grammar.specs.Entry.{Kind, Entry, Align, Max, Offset, Actual, Chun
 use Rattle.nd_grammar.specs.Represents.{id_octets}
 
 -- the number that is written for a pointer: null is 0
-abbrev number_of_cell : (ℕ → ℕ) → Option ℕ → ℕ
+abbrev pub number_of_cell : (ℕ → ℕ) → Option ℕ → ℕ
 number_of_cell numbering None = 0
 number_of_cell numbering (Some c) = numbering c
 
@@ -40,7 +40,7 @@ octets_from order numbering at (m ∷ ms) =
     octets_of order numbering at m.kind ++ octets_from order numbering (at + size_at at m.kind) ms
 
 -- the counts of chunks for n elements: each is k, but the last, which may be less; at most `fuel` of them
-abbrev cut_within : ℕ → ℕ → ℕ → List ℕ
+abbrev pub cut_within : ℕ → ℕ → ℕ → List ℕ
 cut_within zero k n = []
 cut_within (suc fuel) k zero = []
 cut_within (suc fuel) k (suc n) =

@@ -11,21 +11,21 @@ use Rattle.nd_graph.specs.Deferral.{Step, root_stands, referent_stands, stands_a
 use Rattle.nd_graph.specs.Same.{Same}
 
 -- the cell that a pointer names, as a list
-abbrev target : Option ℕ → List ℕ
+abbrev pub target : Option ℕ → List ℕ
 target None = []
 target (Some c) = c ∷ []
 
 -- the cells that the pointers of a value name, as they stand
-abbrev named : Table → Standing → List ℕ
+abbrev pub named : Table → Standing → List ℕ
 named table x = flat_map (λ p. target p.cell) (home_pointers table x.home x.of x.val)
 
 -- the cell that a value is the referent of: a top-level reference pointer names it where the referent begins
-abbrev own_cell : Home → List ℕ
+abbrev pub own_cell : Home → List ℕ
 own_cell (home.Root i) = []
 own_cell (home.Cell c) = c.0 ∷ []
 
 -- the cells that a step of deferral names
-abbrev step_names : Setting → Graph → Step → List ℕ
+abbrev pub step_names : Setting → Graph → Step → List ℕ
 step_names w g (root_stands i) = own_cell (standing_root w g i).home ++ named w.table (standing_root w g i)
 step_names w g (referent_stands p c) = named w.table (standing_cell g p c)
 step_names w g (stands_already p c) = []
@@ -35,13 +35,13 @@ abbrev pub named_cells : Setting → Graph → List Step → List ℕ
 named_cells w g steps = flat_map (step_names w g) steps
 
 -- a cell is among them
-abbrev has : List ℕ → ℕ → Bool
+abbrev pub has : List ℕ → ℕ → Bool
 has [] c = false
 has (d ∷ ds) c = cond (eqb c d) true (has ds c)
 
 -- The number of a cell, counting the named cells from n on, each once; those of `seen` were counted before. (By `elim`, since
 -- `cond` computes both of its branches.)
-abbrev number_from : ℕ → List ℕ → List ℕ → ℕ → ℕ
+abbrev pub number_from : ℕ → List ℕ → List ℕ → ℕ → ℕ
 number_from n seen [] c = 0
 number_from n seen (d ∷ ds) c =
     elim (has seen d) [
