@@ -24,6 +24,10 @@ use Rattle.value_text.specs.Reads.{ReadsAs, IsFault, position_of}
 use Rattle.value_text.specs.Dues.{Due, head_dues, param_dues, Follows, Stops, fault_by}
 use Rattle.value_text.proofs.PlainGraphs.{side_of, dues_of}
 use Rattle.value_text.proofs.PlainTexts.{reads, fault_at, follows_both}
+use Rattle.value_text.specs.declared.fault.TextFault.{TextFault}
+use Rattle.value_text.specs.declared.fault.TextFault.TheVariants as fault
+use Rattle.value_text.proofs.OneText.{never_both}
+use Rattle.value_text.proofs.OneFault.{one_graph}
 use Rattle.value_text.proofs.PlainSteps.{stops_after}
 
 -- numbers that follow what is due, up to the end
@@ -65,6 +69,16 @@ module _ (types : Table) (operations : List Operation) (n : ℕ) (o p : Operatio
       subst (λ t. IsFault (under t s) text (fault_by text (stop.At left why))) (sym h.basic)
       (subst (λ x. IsFault (under basic_types x) text (fault_by text (stop.At left why))) (sym inputs)
       (fault_at o plain text short left why p.0 p.1 f' refl))
+
+  pub only_graph : (s : Side) → s ≡ side.In → (g h : Graph) → ReadsAs (record { table = types; op = o; side = s; given = None }) text g
+      → ReadsAs (record { table = types; op = o; side = s; given = None }) text h → g ≡ h
+  only_graph s inputs g h' a b =
+      one_graph (record { table = types; op = o; side = s; given = None }) text g h' (record { basic = h.basic; plain = plain; inputs = inputs; alone = refl }) a b
+
+-- of a text that is read as a graph there is no fault
+pub only_memory : (w : Setting) (text : List ℕ) (g : Graph) (e : TextFault) → ReadsAs w text g → IsFault w text e → e ≡ fault.Memory
+only_memory w text g fault.Memory r f = refl
+only_memory w text g (fault.At line column why) r f = absurd (never_both w text g line column why r f)
 
 -- a graph of numbers has one node in each home
 pub few_nodes_of : (zs : List ℤ) → AllByRecursion (λ t. node_count (more t none) < 2 ^ 32) (map number zs ++ [])

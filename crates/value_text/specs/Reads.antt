@@ -1,6 +1,6 @@
 -- Which graph a text is read as, and where and why a text is that of no graph.
 -- `w` is a setting, `g` a graph, `t` a token, `ts` are tokens.
-use Rattle.std.specs.Prelude.{◌≡◌, ◌≢◌, ℕ, ◌+◌, ◌-◌, ◌<◌, ◌≤◌, Bool, ◌==◌, if◌then◌else◌, List, [], ◌∷◌, ◌++◌, length, take, map}
+use Rattle.std.specs.Prelude.{◌≡◌, ◌≢◌, ℕ, ◌+◌, ◌-◌, ◌<◌, ◌≤◌, Bool, ◌==◌, if◌then◌else◌, List, [], ◌∷◌, ◌++◌, length, take, map, Result, Ok, Err}
 use Rattle.nd_graph.specs.declared.value.Graph.{Graph}
 use Rattle.nd_graph.specs.Setting.{Setting}
 use Rattle.value_text.specs.declared.fault.TextReason.{TextReason}
@@ -110,3 +110,8 @@ IsTextFault w text line column why = (place : ℕ) × IsFirstFault w text place 
 abbrev pub IsFault : Setting → List ℕ → TextFault → Type 0
 IsFault w text fault.Memory = Unit {0}
 IsFault w text (fault.At line column why) = IsTextFault w text line column why
+
+-- what `read_text` answers of a text that is read as a graph: the graph, unless memory was wanting
+abbrev pub IsRead : Result Graph TextFault → Graph → Type 0
+IsRead (Ok h) g = h ≡ g
+IsRead (Err e) g = e ≡ fault.Memory

@@ -4,12 +4,13 @@ ghost use Rattle.std.specs.List.{slice_get, AllByRecursion};
 ghost use Rattle.nd_types.specs.declared.types.Operation.{Operation};
 ghost use Rattle.nd_types.specs.declared.types.Side.TheVariants as sides;
 ghost use Rattle.nd_types.specs.Plain.{IsPlainInterface};
+ghost use Rattle.nd_graph.specs.declared.value.Graph.{Graph};
 ghost use Rattle.nd_graph.specs.Tree.{more, none, node_count};
 ghost use Rattle.nd_graph.specs.Fitting.{setting_of};
 ghost use Rattle.nd_grammar.specs.Plain.{number as number_tree, plain_graph};
 ghost use Rattle.value_text.specs.declared.TheConstants.{TEXT_LIMIT};
 ghost use Rattle.value_text.specs.Tokens.{skip};
-ghost use Rattle.value_text.specs.Reads.{ReadsAs, IsFault};
+ghost use Rattle.value_text.specs.Reads.{ReadsAs, IsFault, IsRead};
 ghost use Rattle.value_text.specs.Dues.{Due, head_dues, param_dues, Follows, Stops, left_by, fault_by};
 
 use crate::TEXT_LIMIT;
@@ -123,6 +124,8 @@ pub fn read_text(
         → ReadsAs (setting_of interface.now o side) text.now g) }
     ensures refused { IfErr result (λ e. (o : Operation) → slice_get interface.now.operations op ≡ Some o
         → IsFault (setting_of interface.now o side) text.now e) }
+    ensures only { (o : Operation) (g : Graph) → slice_get interface.now.operations op ≡ Some o
+        → ReadsAs (setting_of interface.now o side) text.now g → IsRead result g }
     ensures few_cells { IfOk result (λ g. length g.cells < 2 ^ 32) }
     ensures few_nodes { IfOk result (λ g. AllByRecursion (λ t. node_count (more t none) < 2 ^ 32) (g.roots ++ map (λ c. c.val) g.cells)) }
 {
