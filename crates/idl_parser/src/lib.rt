@@ -1,0 +1,13 @@
+//! The parser of IDL (C706, section 4.2).
+#![tactic(auto)]
+
+mod attributes;
+mod declarators;
+mod enums;
+mod expression;
+mod lexemes;
+mod operators;
+mod parser;
+mod simple;
+mod symbol;
+mod words;
