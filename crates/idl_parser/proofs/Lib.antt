@@ -2,6 +2,9 @@ pub mod Basics
 pub mod Signs
 pub mod Unfolds
 pub mod Plain
-mod Lists
+pub mod Lists
+pub mod Firsts
+pub mod TypeReading
+pub mod Rows
 mod Tables
 mod Taken

@@ -40,3 +40,24 @@ list_begins {A = A} firsts t item i h = record {
   front_is : (r : Read (List A)) → r ≡ turned (λ l. [] ++ l) r
   front_is (Ok x) = refl
   front_is (Err f) = refl
+
+-- a first item that was read before, and a loop for the others
+pub rest_begins : {A : Type 0} (firsts : List ℕ) (t : Text) (item : ℕ → Read A) (first : A) (i : ℕ) → i ≤ length t
+    → Gathered (λ a. is_in firsts a.symbol) item t (turned (λ l. first ∷ l) (list_read firsts t item i)) (first ∷ []) i
+rest_begins {A = A} firsts t item first i h = record {
+  fuel = suc (length t);
+  enough = omega arith;
+  within = h;
+  is = front_is (many_read (λ a. is_in firsts a.symbol) item t (suc (length t)) i);
+} where
+  front_is : (r : Read (List A)) → turned (λ l. first ∷ l) r ≡ turned (λ l. (first ∷ []) ++ l) r
+  front_is (Ok x) = refl
+  front_is (Err f) = refl
+
+pub first_and_others : {A : Type 0} (s : ℕ) (t : Text) (item : ℕ → Read A) (i : ℕ) (first : A) (m : ℕ) → item i ≡ Ok (first, m)
+    → separated_read s t item i ≡ turned (λ l. first ∷ l) (list_read (s ∷ []) t (behind_read s t item) m)
+first_and_others {A = A} s t item i first m e =
+    ap (λ (r : Read A). turned (λ p. p.0 ∷ p.1) (then r (λ a m. list_read (s ∷ []) t (behind_read s t item) m))) e ∙ joined (list_read (s ∷ []) t (behind_read s t item) m) where
+      joined : (r : Read (List A)) → turned (λ p. p.0 ∷ p.1) (join first r) ≡ turned (λ l. first ∷ l) r
+      joined (Ok x) = refl
+      joined (Err f) = refl

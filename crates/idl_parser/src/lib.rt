@@ -10,4 +10,5 @@ mod operators;
 mod parser;
 mod simple;
 mod symbol;
+mod types;
 mod words;

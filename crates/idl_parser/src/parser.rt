@@ -7,6 +7,7 @@ ghost use Rattle.phrases.specs.Gives.{Gives, GivesPlace};
 ghost use Rattle.idl_grammar.specs.Expressions.{spelling as spelling_of};
 ghost use Rattle.idl_grammar.specs.Limits.{names};
 ghost use Rattle.idl_grammar.specs.ReadExpressions.{spelled_read, placed_read, ident_read, opening_read};
+ghost use Rattle.idl_parser.specs.Lexemes.{text_of};
 
 use crate::lexemes::Lexeme;
 use crate::symbol;
@@ -21,6 +22,7 @@ const DEPTH_LIMIT: usize = 64;
 
 /// What the functions of the parser read. Each goes from a place, the number of a token, to what stands there and
 /// the place past it.
+#[derive(Drop)]
 pub(crate) struct Parser<'a> {
     alloc: Global,
     lexemes: &'a [Lexeme<'a>],
@@ -85,7 +87,23 @@ pub(crate) fn is_name_symbol(inside: bool, symbol: u8) -> bool
     }
 }
 
+impl<'a> Parser<'a> {
+    /// A parser of these tokens.
+    pub(crate) fn new(alloc: Global, lexemes: &'a [Lexeme<'a>]) -> Parser<'a>
+        ensures { result ≡ text_of lexemes.now }
+    {
+        Parser { alloc, lexemes }
+    }
+}
+
 impl Parser<'_> {
+    /// How many tokens there are.
+    pub(crate) fn count(&self) -> usize
+        ensures { result ≡ length self.now }
+    {
+        self.lexemes.len()
+    }
+
     /// The allocator of what is read.
     pub(crate) fn alloc(&self) -> Global {
         self.alloc
