@@ -1,30 +1,20 @@
 -- Attributes are read exactly: the kinds of attributes, and lists of them.
-use Rattle.std.proofs.Common.{◌≡◌, ℕ, ◌+◌, ◌<◌, ◌≤◌, Bool, true, false, List, [], ◌∷◌, length, refl, sym, ap, subst, arith, ◌∙◌, ◌⊎◌, inl, inr, Option, Some, None, eq-eqb}
-use Rattle.std.proofs.lemmas.Bool.{eqb-true}
-use Rattle.phrases.specs.Text.{Lexeme, Text, lexeme_at, symbol_at, is, is_in, Ban, Lifted, Rel, mark, token, unless, optional, many_brackets, bracketed, located, separated, ◌▹◌, ◌⊗◌, ◌⊳◌, ◌⊲◌, ◌∣◌}
-use Rattle.phrases.specs.Reading.{Read, then, turned, mark_read, to_unit, option_read, behind_read, separated_read, bracketed_read, located_read}
-use Rattle.phrases.proofs.Exact.{Agrees, Stops, Exact, HasPhrase, Meets, Part, pair_exact, turned_exact}
-use Rattle.phrases.proofs.Parts.{clash, marked, mark_exact, mark_has, pair_has, turned_has, optional_has, ruled_exact, of_symbol}
-use Rattle.phrases.proofs.Sequences.{stops, Begins, BeginsOr, subset, disjoint, in_more, meets_or, meets_first, ends_at, fewer_stops, skip_exact, skip_has, skip_begins, pair_begins, option_exact, option_begins, separated_exact, separated_has, separated_begins, bracketed_exact, bracketed_has, bracketed_begins, located_exact, located_has, located_begins}
+use Rattle.std.proofs.Common.{◌≡◌, ℕ, ◌+◌, ◌≤◌, true, List, [], ◌∷◌, length, refl, sym, ap, subst, arith, inl, inr, Option}
+use Rattle.phrases.specs.Text.{Lexeme, Text, symbol_at, is, is_in, Ban, Lifted, Rel, optional, bracketed, located, ◌⊗◌, ◌⊳◌}
+use Rattle.phrases.specs.Reading.{to_unit}
+use Rattle.phrases.proofs.Exact.{Agrees, Exact, HasPhrase, turned_exact}
+use Rattle.phrases.proofs.Parts.{marked, mark_has, turned_has, ruled_exact, of_symbol}
+use Rattle.phrases.proofs.Sequences.{stops, Begins, BeginsOr, ends_at, skip_begins, pair_begins, option_exact, option_begins, separated_exact, separated_has, bracketed_exact, bracketed_has, bracketed_begins, located_exact, located_has}
 use Rattle.idl_grammar.specs.declared.words.Spelling.{Spelling}
-use Rattle.idl_grammar.specs.declared.attributes.PointerClass.{PointerClass}
-use Rattle.idl_grammar.specs.declared.attributes.PointerClass.TheVariants as class
 use Rattle.idl_grammar.specs.declared.attributes.VariableWord.{VariableWord}
-use Rattle.idl_grammar.specs.declared.attributes.VariableWord.TheVariants as variable
 use Rattle.idl_grammar.specs.declared.attributes.Variable.{Variable}
-use Rattle.idl_grammar.specs.declared.types.SwitchType.{SwitchType}
 use Rattle.idl_grammar.specs.Symbols as symbol
-use Rattle.idl_grammar.specs.Limits.{names, symbols_of, value_of}
 use Rattle.idl_grammar.specs.Tree as tree
 use Rattle.idl_grammar.specs.Tree.{Expr, AttributeKind, Attribute, Attributes}
-use Rattle.idl_grammar.specs.Expressions.{spelled, ident, outer}
-use Rattle.idl_grammar.specs.ReadExpressions.{spelled_read, ident_read, outer_read}
-use Rattle.idl_grammar.specs.Grammar.{flag, one_of, in_round, commas, switch_type, class_words, pointer_class, variable_words, variable_word, variable_name, is_banned_attribute, local, attribute_kind, attribute, attributes}
-use Rattle.idl_grammar.specs.Reading.{branch_read, flag_read, one_of_read, in_round_read, commas_read, switch_type_read, pointer_class_read, variable_word_read, variable_of, variable_name_read, plain_words, plain_symbols, class_symbols, variable_symbols, local_symbols, local_read, uuid_read, version_numbers_read, version_read, endpoint_read, pointer_default_read, variable_read, switch_attribute_read, case_attribute_read, bracket_attribute_read, attribute_kind_read, attribute_of, attribute_read, attributes_of, attributes_read, maybe_attributes_read}
-use Rattle.idl_grammar.proofs.Combine.{changed_exact, stopped_exact, branch_exact, branch_is, flag_exact, flag_has, flag_begins, mark_begins, spelled_exact, spelled_has, spelled_begins, one_of_exact, one_of_has, one_of_begins, one_word, EachMeant, each_meant, either, either_exact, either_begins, ident_exact, ident_has, ident_begins}
-use Rattle.idl_grammar.proofs.OuterExact.{expr_ends, outer_exact, outer_has, outer_begins}
-use Rattle.idl_grammar.proofs.SimpleExact.{simple_ends, switch_type_exact, switch_type_has}
-
+use Rattle.idl_grammar.specs.Expressions.{spelled, outer}
+use Rattle.idl_grammar.specs.Grammar.{one_of, in_round, commas, switch_type, pointer_class, variable_word, variable_name, is_banned_attribute, local, attribute_kind, attribute, attributes}
+use Rattle.idl_grammar.specs.Reading.{commas_read, pointer_class_read, plain_words, plain_symbols, class_symbols, variable_symbols, local_symbols, local_read, uuid_read, version_read, endpoint_read, pointer_default_read, variable_read, switch_attribute_read, case_attribute_read, bracket_attribute_read, attribute_kind_read, attribute_of, attribute_read, attributes_of, attributes_read, maybe_attributes_read}
+use Rattle.idl_grammar.proofs.Combine.{changed_exact, one_of_exact, one_word, each_meant, either, either_exact, either_begins}
 use Rattle.phrases.specs.Text.{made}
 use Rattle.phrases.proofs.Sequences.{made_exact, made_begins}
 use Rattle.idl_grammar.proofs.AttributesExact.{pointer_class_exact, pointer_class_begins, variable_word_begins, uuid_exact, version_numbers, version_exact, endpoint_exact, pointer_default_exact, variable_exact, switch_attribute_exact, case_attribute_exact}

@@ -1,10 +1,10 @@
 -- What stands in the bodies of types, but for types: enumerators, labels and discriminants are read exactly.
-use Rattle.std.proofs.Common.{◌≡◌, ℕ, ◌+◌, ◌<◌, ◌≤◌, Bool, true, false, List, [], ◌∷◌, length, refl, sym, ap, subst, arith, ◌∙◌, ◌⊎◌, inl, inr, Option, Some, None}
-use Rattle.phrases.specs.Text.{Text, lexeme_at, symbol_at, is, is_in, Lifted, Rel, mark, optional, bracketed, some_of, separated, ◌▹◌, ◌⊗◌, ◌⊳◌, ◌⊲◌, ◌∣◌}
-use Rattle.phrases.specs.Reading.{Read, then, turned, mark_read, end_with, option_read, some_read, behind_read, separated_read, bracketed_read}
-use Rattle.phrases.proofs.Exact.{Stops, Exact, HasPhrase, Meets, Part, pair_exact, turned_exact}
-use Rattle.phrases.proofs.Parts.{marked, mark_has, pair_has, turned_has, optional_has}
-use Rattle.phrases.proofs.Sequences.{stops, Begins, BeginsOr, subset, disjoint, in_more, meets_or, meets_first, ends_at, skip_exact, skip_has, skip_begins, end_exact, end_has, end_begins, pair_begins, option_exact, option_begins, some_exact, some_has, some_begins, separated_exact, separated_has, separated_begins, bracketed_exact, bracketed_has, bracketed_begins}
+use Rattle.std.proofs.Common.{◌≡◌, ℕ, ◌+◌, ◌≤◌, true, false, List, [], ◌∷◌, length, refl, arith, ◌⊎◌, inl, inr, Option}
+use Rattle.phrases.specs.Text.{Text, is_in, Lifted, Rel, optional, ◌⊗◌, ◌⊳◌, ◌⊲◌, ◌∣◌}
+use Rattle.phrases.specs.Reading.{mark_read, end_with, option_read, behind_read}
+use Rattle.phrases.proofs.Exact.{Exact, HasPhrase, Part, pair_exact, turned_exact}
+use Rattle.phrases.proofs.Parts.{pair_has, turned_has, optional_has}
+use Rattle.phrases.proofs.Sequences.{stops, Begins, subset, disjoint, meets_first, ends_at, skip_exact, skip_has, skip_begins, end_exact, end_has, end_begins, pair_begins, option_exact, some_exact, some_has, some_begins, separated_exact, separated_has, bracketed_exact, bracketed_has, bracketed_begins}
 use Rattle.idl_grammar.specs.declared.words.Spelling.{Spelling}
 use Rattle.idl_grammar.specs.declared.types.SwitchType.{SwitchType}
 use Rattle.idl_grammar.specs.declared.types.Discriminant.{Discriminant}
@@ -15,9 +15,9 @@ use Rattle.idl_grammar.specs.Tree.{Expr, Enumerator, Label}
 use Rattle.idl_grammar.specs.Expressions.{placed, ident, outer}
 use Rattle.idl_grammar.specs.ReadExpressions.{placed_read, ident_read, outer_read}
 use Rattle.idl_grammar.specs.Grammar.{in_round, commas, switch_type, enumerator, enumerators, label, labels, discriminant, union_switch}
-use Rattle.idl_grammar.specs.Reading.{branch_read, in_round_read, in_curly_read, commas_read, switch_type_read, enumerator_of, enumerator_read, enumerators_read, label_read, label_firsts, labels_read, discriminant_of, discriminant_read, maybe_name_read, union_switch_read}
-use Rattle.idl_grammar.proofs.Combine.{branch_exact, branch_begins, placed_exact, placed_has, placed_begins, ident_exact, ident_has, ident_begins, name_real}
-use Rattle.idl_grammar.proofs.OuterExact.{expr_ends, outer_exact, outer_has, outer_begins}
+use Rattle.idl_grammar.specs.Reading.{in_round_read, commas_read, switch_type_read, enumerator_of, enumerator_read, enumerators_read, label_read, label_firsts, labels_read, discriminant_of, discriminant_read, maybe_name_read, union_switch_read}
+use Rattle.idl_grammar.proofs.Combine.{branch_exact, branch_begins, placed_exact, placed_has, placed_begins, ident_exact, ident_has, ident_begins}
+use Rattle.idl_grammar.proofs.OuterExact.{expr_ends, outer_exact, outer_has}
 use Rattle.idl_grammar.proofs.SimpleExact.{simple_ends, switch_type_exact, switch_type_has}
 use Rattle.idl_grammar.proofs.AttributesExact.{round_exact, round_has}
 

@@ -1,11 +1,11 @@
 -- Declarators are read exactly.
-use Rattle.std.proofs.Common.{◌≡◌, ℕ, ◌+◌, ◌<◌, ◌≤◌, Bool, true, false, List, [], ◌∷◌, length, refl, sym, ap, subst, arith, ◌∙◌, ◌⊎◌, inl, inr, Option, Some, None}
+use Rattle.std.proofs.Common.{◌≡◌, ℕ, ◌+◌, ◌≤◌, true, false, List, [], ◌∷◌, length, refl, sym, ap, subst, arith, ◌∙◌, ◌⊎◌, inl, inr, Option, Some, None}
 use Rattle.std.proofs.lemmas.Bool.{eqb-true}
-use Rattle.phrases.specs.Text.{Text, lexeme_at, symbol_at, is, is_in, Lifted, Rel, never, mark, many, optional, bracketed, made, separated, ◌▹◌, ◌⊗◌, ◌⊳◌, ◌∣◌}
-use Rattle.phrases.specs.Reading.{Read, then, turned, mark_read, option_read, list_read, behind_read, separated_read, bracketed_read}
-use Rattle.phrases.proofs.Exact.{Stops, Exact, HasPhrase, Meets, Part, pair_exact, turned_exact}
+use Rattle.phrases.specs.Text.{Text, symbol_at, is_in, Lifted, Rel, mark, many, optional, made, ◌⊗◌, ◌⊳◌, ◌∣◌}
+use Rattle.phrases.specs.Reading.{mark_read, list_read, behind_read}
+use Rattle.phrases.proofs.Exact.{Exact, HasPhrase, Part, pair_exact, turned_exact}
 use Rattle.phrases.proofs.Parts.{marked, mark_exact, mark_has, pair_has, turned_has, optional_has, many_has}
-use Rattle.phrases.proofs.Sequences.{stops, Begins, BeginsOr, subset, disjoint, in_more, meets_or, meets_first, skip_exact, skip_has, skip_begins, pair_begins, or_pair_begins, option_exact, option_begins, list_exact, list_begins, separated_exact, separated_has, separated_begins, bracketed_exact, bracketed_has, bracketed_begins, made_exact, made_begins}
+use Rattle.phrases.proofs.Sequences.{stops, Begins, subset, disjoint, meets_or, meets_first, skip_exact, skip_begins, pair_begins, or_pair_begins, option_exact, option_begins, list_exact, list_begins, separated_exact, separated_has, separated_begins, bracketed_exact, bracketed_begins, made_exact, made_begins}
 use Rattle.idl_grammar.specs.declared.words.Spelling.{Spelling}
 use Rattle.idl_grammar.specs.Symbols as symbol
 use Rattle.idl_grammar.specs.Limits.{names}
@@ -13,10 +13,10 @@ use Rattle.idl_grammar.specs.Tree as tree
 use Rattle.idl_grammar.specs.Tree.{Expr, Bound, Declarator}
 use Rattle.idl_grammar.specs.Expressions.{placed, ident, outer}
 use Rattle.idl_grammar.specs.ReadExpressions.{placed_read, ident_read, outer_read}
-use Rattle.idl_grammar.specs.Grammar.{commas, bound, dimension, declarator, declarators}
-use Rattle.idl_grammar.specs.Reading.{branch_read, unless_read, in_square_read, commas_read, upper_read, range_of, range_read, bound_read, dimension_read, declarator_of, declarator_read, declarators_read}
+use Rattle.idl_grammar.specs.Grammar.{bound, dimension, declarator, declarators}
+use Rattle.idl_grammar.specs.Reading.{unless_read, upper_read, range_of, range_read, bound_read, dimension_read, declarator_of, declarator_read, declarators_read}
 use Rattle.idl_grammar.proofs.Combine.{changed_exact, branch_exact, mark_begins, placed_exact, placed_begins, either, either_exact, either_begins, ident_exact, ident_has, ident_begins, before, unless_exact, before_meets}
-use Rattle.idl_grammar.proofs.OuterExact.{expr_firsts, expr_ends, outer_exact, outer_has, outer_begins}
+use Rattle.idl_grammar.proofs.OuterExact.{expr_firsts, expr_ends, outer_exact, outer_begins}
 use Rattle.idl_grammar.proofs.AttributesExact.{star_not_name}
 
 -- ## bounds

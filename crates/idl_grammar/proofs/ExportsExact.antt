@@ -1,10 +1,10 @@
 -- Declarations are read exactly.
-use Rattle.std.proofs.Common.{◌≡◌, ℕ, ◌+◌, ◌<◌, ◌≤◌, Bool, true, false, List, [], ◌∷◌, length, refl, sym, ap, subst, arith, ◌∙◌, ◌⊎◌, inl, inr, Option, Some, None}
-use Rattle.phrases.specs.Text.{Text, lexeme_at, symbol_at, is, is_in, Lifted, Rel, mark, optional, located, made, ◌▹◌, ◌⊗◌, ◌⊳◌, ◌⊲◌, ◌∣◌}
-use Rattle.phrases.specs.Reading.{Read, then, turned, mark_read, behind_read, located_read, bracketed_read}
-use Rattle.phrases.proofs.Exact.{Stops, Exact, HasPhrase, Meets, Part, pair_exact, turned_exact}
+use Rattle.std.proofs.Common.{◌≡◌, ℕ, ◌+◌, ◌≤◌, Bool, true, false, List, [], ◌∷◌, length, refl, sym, subst, arith, ◌⊎◌, inl, inr, Option, Some, None}
+use Rattle.phrases.specs.Text.{Text, lexeme_at, is_in, Lifted, Rel, mark, optional, located, made, ◌⊗◌, ◌⊳◌, ◌⊲◌, ◌∣◌}
+use Rattle.phrases.specs.Reading.{Read, then, turned, mark_read, located_read}
+use Rattle.phrases.proofs.Exact.{Exact, HasPhrase, Part, pair_exact}
 use Rattle.phrases.proofs.Parts.{marked, mark_exact, mark_has, pair_has, turned_has, optional_has}
-use Rattle.phrases.proofs.Sequences.{stops, Begins, BeginsOr, subset, disjoint, in_more, meets_or, meets_first, skip_exact, skip_has, skip_begins, end_exact, end_has, end_begins, pair_begins, or_pair_begins, located_exact, located_has, located_begins, bracketed_exact, bracketed_has, made_exact, made_begins}
+use Rattle.phrases.proofs.Sequences.{stops, Begins, subset, disjoint, meets_first, skip_exact, skip_has, skip_begins, end_exact, end_has, end_begins, pair_begins, or_pair_begins, located_exact, bracketed_exact, bracketed_has, made_exact, made_begins}
 use Rattle.idl_grammar.specs.declared.words.Spelling.{Spelling}
 use Rattle.idl_grammar.specs.declared.types.SimpleType.{SimpleType}
 use Rattle.idl_grammar.specs.Symbols as symbol
@@ -13,11 +13,11 @@ use Rattle.idl_grammar.specs.Tree as tree
 use Rattle.idl_grammar.specs.Tree.{Expr, Attributes, Declarator, Init, TypeSpec, Parameters, Export}
 use Rattle.idl_grammar.specs.Expressions.{spelled, placed, ident, outer}
 use Rattle.idl_grammar.specs.ReadExpressions.{spelled_read, placed_read, ident_read, outer_read}
-use Rattle.idl_grammar.specs.Grammar.{flag, in_round, simple, attributes, declarators, type_spec, parameters, init, export}
-use Rattle.idl_grammar.specs.Reading.{branch_read, flag_read, in_round_read, line_read, simple_firsts, simple_read, maybe_attributes_read, declarators_read, type_firsts, member_firsts, type_read, parameters_read, init_read, typedef_read, const_read, signature_read, declared_of, declared_read, export_read, export_firsts}
+use Rattle.idl_grammar.specs.Grammar.{flag, in_round, simple, attributes, declarators, type_spec, parameters, init}
+use Rattle.idl_grammar.specs.Reading.{flag_read, line_read, simple_read, maybe_attributes_read, declarators_read, type_firsts, member_firsts, type_read, parameters_read, init_read, typedef_read, const_read, signature_read, declared_of, declared_read}
 use Rattle.idl_grammar.proofs.Combine.{changed_exact, turned_twice, branch_exact, branch_begins, flag_exact, flag_has, flag_begins, mark_begins, spelled_exact, spelled_begins, placed_exact, placed_begins, ident_exact, ident_has, ident_begins, either, either_exact, either_begins, before_meets}
 use Rattle.idl_grammar.proofs.OuterExact.{expr_firsts, expr_ends, outer_exact, outer_has, outer_begins}
-use Rattle.idl_grammar.proofs.SimpleExact.{simple_ends, simple_exact, simple_has, simple_begins}
+use Rattle.idl_grammar.proofs.SimpleExact.{simple_ends, simple_exact, simple_has}
 use Rattle.idl_grammar.proofs.AttributesExact.{star_not_name}
 use Rattle.idl_grammar.proofs.AttributeLists.{maybe_attributes_exact, maybe_attributes_begin}
 use Rattle.idl_grammar.proofs.DeclaratorsExact.{declarator_firsts, declarators_ends, declarators_exact, declarators_has, declarators_begin, star_declares, name_declares}

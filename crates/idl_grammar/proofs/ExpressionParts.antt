@@ -1,26 +1,21 @@
 -- Operands and operators: what exact readings of expressions are made of.
-use Rattle.std.proofs.Common.{◌≡◌, ℕ, zero, suc, ◌+◌, ◌-◌, ◌<◌, ◌≤◌, Bool, true, false, List, [], ◌∷◌, ◌++◌, length, refl, sym, ap, subst, arith, ◌∙◌, leb, eqb, ◌⊎◌, inl, inr, cond, Option, Some, None, min, ◌&&◌, ◌||◌, add-one, Result, Ok, Err, eq-eqb}
-use Rattle.std.proofs.lemmas.Bool.{leb-true, le-leb, eqb-true, leb-false, lt-leb}
-use Rattle.std.proofs.lemmas.Bool.Decides.{eqb_tells, leb_tells}
-use Rattle.std.specs.Prelude.{◌≢◌}
-use Rattle.phrases.specs.Text.{Lexeme, Text, lexeme_at, symbol_at, is, is_in, Lifted, Rel, Depth, many_brackets, mark, ◌▹◌, many, token, unless, optional, ◌⊳◌, ◌⊲◌}
-use Rattle.phrases.specs.Reading.{Read, then, turned, token_read, ruled_read, mark_read, optional_read, many_read, end_with, behind_read}
-use Rattle.phrases.proofs.Exact.{place, front, Agrees, Stops, Found, Exact, HasPhrase, pair, Meets, pair_exact, Part, turned_exact, less}
-use Rattle.phrases.proofs.Parts.{clash, token_exact, token_has, ruled_exact, ruled_has, optional_exact, optional_has, many_exact, many_has, mark_exact, mark_has, marked, of_symbol, pair_has, turned_has}
-use Rattle.phrases.proofs.Sequences.{stops, Begins, disjoint, subset, apart, smaller, in_more, skip_exact, skip_has, end_meets_exact, end_has}
+use Rattle.std.proofs.Common.{◌≡◌, ℕ, zero, suc, ◌+◌, ◌<◌, ◌≤◌, Bool, true, false, List, [], ◌∷◌, length, refl, sym, ap, subst, arith, ◌∙◌, leb, eqb, inl, inr, cond, ◌&&◌, ◌||◌, add-one}
+use Rattle.std.proofs.lemmas.Bool.{le-leb, eqb-true, leb-false}
+use Rattle.std.proofs.lemmas.Bool.Decides.{leb_tells}
+use Rattle.phrases.specs.Text.{Lexeme, Text, lexeme_at, symbol_at, is, is_in, Lifted, Rel, token}
+use Rattle.phrases.proofs.Exact.{Agrees, Stops, Exact, less}
+use Rattle.phrases.proofs.Parts.{clash, token_exact, of_symbol}
+use Rattle.phrases.proofs.Sequences.{disjoint, apart}
 use Rattle.idl_grammar.specs.declared.words.Spelling.{Spelling}
 use Rattle.idl_grammar.specs.declared.expressions.BinaryOperator.{BinaryOperator}
 use Rattle.idl_grammar.specs.declared.expressions.BinaryOperator.TheVariants as binary
-use Rattle.idl_grammar.specs.declared.expressions.UnaryOperator.{UnaryOperator}
 use Rattle.idl_grammar.specs.declared.expressions.Operand.{Operand}
 use Rattle.idl_grammar.specs.declared.expressions.Operand.TheVariants as operand
 use Rattle.idl_grammar.specs.Symbols as symbol
-use Rattle.idl_grammar.specs.Limits.{names, level, symbol_level, is_unary, is_operator, operators, many_operators, binary_of, unary_of, symbols_of, binary_operators, unary_operators}
-use Rattle.idl_grammar.specs.Tree.{Expr, Leaf, Round, Unary, Binary, Conditional}
-use Rattle.idl_grammar.specs.Expressions.{spelling, spelled, placed, ident, leaf, opening, counted, unary_sign, binary_sign, expr, outer}
-use Rattle.idl_grammar.specs.ReadExpressions.{is_operand, operand_of, leaf_read, opening_read, unary_sign_read, binary_sign_read, question_read, fold, operation_read, level_read, conditional_of, choice_of_two_read, conditional_read, round_read, unary_read, expr_read, outer_read}
-use Rattle.idl_grammar.proofs.Levels.{Sign, level_of_sign, at_level, item, Chain, split, whole}
-use Rattle.idl_grammar.proofs.Combine.{changed_exact, not_one, spelled_has, name_is, name_real}
+use Rattle.idl_grammar.specs.Limits.{names, level, symbol_level, is_unary, is_operator, operators, many_operators, symbols_of, binary_operators, unary_operators}
+use Rattle.idl_grammar.specs.Expressions.{spelling, leaf}
+use Rattle.idl_grammar.specs.ReadExpressions.{is_operand, operand_of, leaf_read}
+use Rattle.idl_grammar.proofs.Combine.{changed_exact}
 
 -- ## counts
 
@@ -199,14 +194,14 @@ module _ (inside : Bool) where
   leaf_forth lifted x i j a ph =
       subst (λ (v : Operand). leaf inside v lifted x i j) (sym (ph.1 ∙ is_by_symbol (lexeme_at x i)))
       (by_tests (is (lexeme_at x i).symbol symbol.Number) (is (lexeme_at x i).symbol symbol.Character) (is (lexeme_at x i).symbol symbol.True) (is (lexeme_at x i).symbol symbol.False) refl refl refl refl (is_in_list (symbol_at x i) ph.0)) where
-    by_tests : (n c t f : Bool) → is (lexeme_at x i).symbol symbol.Number ≡ n → is (lexeme_at x i).symbol symbol.Character ≡ c → is (lexeme_at x i).symbol symbol.True ≡ t → is (lexeme_at x i).symbol symbol.False ≡ f
-        → (n || (c || (t || (f || is_in (names inside) (lexeme_at x i).symbol)))) ≡ true
-        → leaf inside (cond n (operand.Number (spelling (lexeme_at x i))) (cond c (operand.Character (spelling (lexeme_at x i))) (cond t (operand.True (lexeme_at x i).at) (cond f (operand.False (lexeme_at x i).at) (operand.Name (spelling (lexeme_at x i))))))) lifted x i j
-    by_tests true c t f e d g k h = (e, refl, ph.2)
-    by_tests false true t f e d g k h = (d, refl, ph.2)
-    by_tests false false true f e d g k h = (g, refl, ph.2)
-    by_tests false false false true e d g k h = (k, refl, ph.2)
-    by_tests false false false false e d g k h = (h, refl, ph.2)
+        by_tests : (n c t f : Bool) → is (lexeme_at x i).symbol symbol.Number ≡ n → is (lexeme_at x i).symbol symbol.Character ≡ c → is (lexeme_at x i).symbol symbol.True ≡ t → is (lexeme_at x i).symbol symbol.False ≡ f
+            → (n || (c || (t || (f || is_in (names inside) (lexeme_at x i).symbol)))) ≡ true
+            → leaf inside (cond n (operand.Number (spelling (lexeme_at x i))) (cond c (operand.Character (spelling (lexeme_at x i))) (cond t (operand.True (lexeme_at x i).at) (cond f (operand.False (lexeme_at x i).at) (operand.Name (spelling (lexeme_at x i))))))) lifted x i j
+        by_tests true c t f e d g k h = (e, refl, ph.2)
+        by_tests false true t f e d g k h = (d, refl, ph.2)
+        by_tests false false true f e d g k h = (g, refl, ph.2)
+        by_tests false false false true e d g k h = (k, refl, ph.2)
+        by_tests false false false false e d g k h = (h, refl, ph.2)
 
   pub leaf_exact : (Stop : Stops) (t : Text) (i : ℕ) → i ≤ length t → Exact (leaf inside) Stop t i (leaf_read inside t i)
   leaf_exact Stop t i in_text =

@@ -1,24 +1,23 @@
 -- Expressions are read exactly.
-use Rattle.std.proofs.Common.{◌≡◌, ℕ, zero, suc, ◌+◌, ◌-◌, ◌<◌, ◌≤◌, Bool, true, false, List, [], ◌∷◌, length, refl, sym, ap, subst, arith, ◌∙◌, leb, eqb, ◌⊎◌, inl, inr, cond, Option, Some, None, min, Ok, Err, eq-eqb}
+use Rattle.std.proofs.Common.{◌≡◌, ℕ, zero, suc, ◌+◌, ◌-◌, ◌<◌, ◌≤◌, Bool, true, false, List, [], ◌∷◌, length, refl, sym, ap, subst, arith, ◌∙◌, leb, eqb, inl, inr, cond, Option, Some, None, min}
 use Rattle.std.proofs.lemmas.Bool.{le-leb, eqb-true, leb-false, lt-leb}
 use Rattle.std.proofs.lemmas.Bool.Decides.{eqb_tells}
-use Rattle.phrases.specs.Text.{Lexeme, Text, lexeme_at, symbol_at, is, Lifted, Rel, Depth, many_brackets, mark, ◌▹◌, many, token, unless, optional, ◌⊳◌, ◌⊲◌}
-use Rattle.phrases.specs.Reading.{Read, then, turned, ruled_read, mark_read, optional_read, many_read, end_with, behind_read}
+use Rattle.phrases.specs.Text.{Lexeme, Text, lexeme_at, symbol_at, is, Lifted, Rel, Depth, many_brackets, many, optional, ◌⊳◌, ◌⊲◌}
+use Rattle.phrases.specs.Reading.{Read, then, turned, many_read, behind_read}
 use Rattle.phrases.proofs.Exact.{Stops, Found, Exact, HasPhrase, pair, Meets, pair_exact, Part, turned_exact}
-use Rattle.phrases.proofs.Parts.{clash, token_has, ruled_exact, ruled_has, optional_exact, optional_has, many_exact, many_has, mark_has, marked, of_symbol, pair_has, turned_has}
+use Rattle.phrases.proofs.Parts.{clash, ruled_exact, optional_exact, optional_has, many_exact, many_has, marked, of_symbol, pair_has, turned_has}
 use Rattle.phrases.proofs.Sequences.{skip_exact, skip_has, end_meets_exact, end_has}
-use Rattle.idl_grammar.specs.declared.expressions.BinaryOperator.{BinaryOperator}
 use Rattle.idl_grammar.specs.declared.expressions.UnaryOperator.{UnaryOperator}
 use Rattle.idl_grammar.specs.declared.expressions.Operand.{Operand}
 use Rattle.idl_grammar.specs.declared.expressions.Operand.TheVariants as operand
 use Rattle.idl_grammar.specs.Symbols as symbol
 use Rattle.idl_grammar.specs.Limits.{level, symbol_level, is_unary, is_operator, operators, many_operators, binary_of, unary_of, binary_operators}
 use Rattle.idl_grammar.specs.Tree.{Expr, Leaf, Round, Unary, Binary, Conditional}
-use Rattle.idl_grammar.specs.Expressions.{spelled, placed, leaf, opening, counted, unary_sign, binary_sign, expr}
+use Rattle.idl_grammar.specs.Expressions.{spelled, placed, leaf, opening, counted, unary_sign, expr}
 use Rattle.idl_grammar.specs.ReadExpressions.{leaf_read, opening_read, unary_sign_read, binary_sign_read, question_read, fold, operation_read, level_read, conditional_of, choice_of_two_read, conditional_read, round_read, unary_read, expr_read}
 use Rattle.idl_grammar.proofs.Levels.{Sign, level_of_sign, at_level, item, split, whole}
 use Rattle.idl_grammar.proofs.Combine.{spelled_has}
-use Rattle.idl_grammar.proofs.ExpressionParts.{many_operators_depends, few_operators, operators_rise, operators_step, low_level, operand_not_unary, operand_not_round, unary_not_round, unary_real, unary_minus, colon_level, question_level, close_level, end_level, operator_of_unary, operator_of_question, operand_token, leaf_back, leaf_exact}
+use Rattle.idl_grammar.proofs.ExpressionParts.{many_operators_depends, few_operators, operators_rise, operators_step, low_level, operand_not_unary, operand_not_round, unary_not_round, unary_real, unary_minus, colon_level, question_level, close_level, end_level, operator_of_unary, operator_of_question, leaf_back, leaf_exact}
 
 -- ## forward
 
@@ -137,7 +136,7 @@ module _ (inside : Bool) (start : ℕ) where
 
       ops_exact : (i : ℕ) → base ≤ i → i ≤ length t
           → Exact (many (item inside depth start (10 - k))) (stop_at (suc k)) t i
-            (many_read (λ a. eqb (symbol_level a.symbol) (10 - k)) (operation_read (10 - k) start t (level_read start t unary k)) t (suc (length t)) i)
+          (many_read (λ a. eqb (symbol_level a.symbol) (10 - k)) (operation_read (10 - k) start t (level_read start t unary k)) t (suc (length t)) i)
       ops_exact i based in_text =
           many_exact (item inside depth start (10 - k)) (λ a. eqb (symbol_level a.symbol) (10 - k)) (stop_at k) (stop_at (suc k))
           (λ lifted x i j a ph. ph.1.1.0) (no_operator k) (stop_tighter k h) (stop_operator k h)
@@ -302,8 +301,8 @@ module _ (inside : Bool) (start : ℕ) where
 
     unary_case : (i : ℕ) → base ≤ i → i ≤ length t → (b c : Bool) → is_unary (symbol_at t i) ≡ b → is (symbol_at t i) symbol.OpenRound ≡ c
         → Exact (expr inside depth start 11) (stop_at 0) t i
-          (cond b (turned (λ p. Unary p.0.0 p.0.1 p.1) (then (unary_sign_read start t i) (λ s m. unary depth m)))
-          (cond c (turned (λ p. Round p.0 p.1) (round_read depth t whole_of i)) (turned Leaf (leaf_read inside t i))))
+        (cond b (turned (λ p. Unary p.0.0 p.0.1 p.1) (then (unary_sign_read start t i) (λ s m. unary depth m)))
+        (cond c (turned (λ p. Round p.0 p.1) (round_read depth t whole_of i)) (turned Leaf (leaf_read inside t i))))
     unary_case i based in_text true c h g =
         turned_exact (pair sign (expr inside depth start 11)) (expr inside depth start 11) unary_of_parts (λ lifted x i j a ph. ph) (stop_at 0) t i
         (λ lifted x e c j ph stop. unary_back i h lifted x e c j ph) _
@@ -370,14 +369,13 @@ module _ (inside : Bool) (start : ℕ) where
         (λ p based in_t h room more_of. (again (depth + 1) (p + 1) (omega arith) (omega arith) more_of (deeper p based)).1)
 
     expr_step : i ≤ length t → Both t (suc f) depth i
-    expr_step in_text =
-        (
-          unary_all i (omega arith) in_text,
-          cond_exact depth t i (level_read start t (unary_read inside start depth t (expr_read f inside start t false) (expr_read f inside start t true)) 10) (expr_read f inside start t true depth)
+    expr_step in_text = (
+      unary_all i (omega arith) in_text,
+      cond_exact depth t i (level_read start t (unary_read inside start depth t (expr_read f inside start t false) (expr_read f inside start t true)) 10) (expr_read f inside start t true depth)
           (level_exact t depth i (unary_read inside start depth t (expr_read f inside start t false) (expr_read f inside start t true)) unary_all 10 (omega arith))
           (λ p based in_t h not_full m after in_m. (again depth m shallow (omega arith) in_m (later p m based after (operator_of_question (symbol_at t p) h) not_full)).1)
           i (omega arith) in_text,
-        )
+    )
 
   pub expr_exact : (t : Text) (f depth i : ℕ) → depth ≤ 64 → start ≤ i → i ≤ length t → Enough t f depth i → Both t f depth i
   expr_exact t zero depth i shallow started in_text enough = absurd (omega arith)

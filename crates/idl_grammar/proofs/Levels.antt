@@ -1,9 +1,9 @@
 -- An expression of a level is one of the next level with operators of this level behind it.
-use Rattle.std.proofs.Common.{◌≡◌, ℕ, ◌+◌, ◌<◌, ◌≤◌, Bool, true, false, List, [], ◌∷◌, ◌++◌, refl, sym, ap, subst, arith, ◌∙◌, leb, eqb, cond, ◌⊎◌, inl, inr, eq-eqb}
+use Rattle.std.proofs.Common.{◌≡◌, ℕ, ◌+◌, ◌≤◌, Bool, true, false, List, [], ◌∷◌, ◌++◌, refl, sym, ap, subst, arith, ◌∙◌, leb, eqb, cond, ◌⊎◌, inl, inr, eq-eqb}
 use Rattle.std.proofs.lemmas.Bool.{leb-true, le-leb, eqb-true}
 use Rattle.std.proofs.lemmas.Bool.Decides.{eqb_tells}
 use Rattle.std.specs.Prelude.{◌≢◌}
-use Rattle.phrases.specs.Text.{Lexeme, Text, symbol_at, Lifted, Rel, Depth, many, token, unless, ◌▹◌}
+use Rattle.phrases.specs.Text.{Text, symbol_at, Lifted, Rel, Depth, many, token, unless}
 use Rattle.phrases.proofs.Exact.{pair}
 use Rattle.phrases.proofs.Parts.{clash}
 use Rattle.idl_grammar.specs.declared.expressions.BinaryOperator.{BinaryOperator}
@@ -100,8 +100,7 @@ module _ (inside : Bool) (depth start n : ℕ) (low : 1 ≤ n) (lifted : Lifted)
       let it = others.1 in
       let op = operator_out o.0 m it.0 it.1 in
       let here : level o.0.1 ≡ n = op.0 in
-      grow ops (Binary e o.0.0 o.0.1 o.1) i others.0 j
-      (
+      grow ops (Binary e o.0.0 o.0.1 o.1) i others.0 j (
         le-leb n (level o.0.1) (omega arith),
         (
           m,

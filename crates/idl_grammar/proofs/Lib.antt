@@ -17,3 +17,7 @@ mod ParameterExact
 mod ParametersExact
 mod ExportsExact
 mod FileExact
+pub mod FileLaws
+pub mod Rows
+pub mod FileExamples
+pub mod RealTokens

@@ -1,16 +1,15 @@
 -- Outermost expressions are read exactly.
-use Rattle.std.proofs.Common.{◌≡◌, ℕ, suc, ◌+◌, ◌<◌, ◌≤◌, Bool, true, false, List, [], ◌∷◌, length, refl, sym, ap, subst, arith, ◌∙◌, leb, cond, min, ◌||◌, inl, inr}
-use Rattle.std.proofs.lemmas.Bool.{eqb-true}
-use Rattle.phrases.specs.Text.{Text, lexeme_at, symbol_at, is, is_in, Lifted}
+use Rattle.std.proofs.Common.{◌≡◌, ℕ, ◌≤◌, Bool, true, false, List, [], ◌∷◌, length, refl, arith, leb, cond, ◌||◌}
+use Rattle.phrases.specs.Text.{Text, symbol_at, is, is_in, Lifted}
 use Rattle.phrases.proofs.Exact.{Exact, HasPhrase}
 use Rattle.phrases.proofs.Parts.{clash, turned_has}
-use Rattle.phrases.proofs.Sequences.{stops, Begins, subset, disjoint, smaller, in_more}
+use Rattle.phrases.proofs.Sequences.{stops, Begins, subset, smaller, in_more}
 use Rattle.idl_grammar.specs.declared.expressions.Operand.TheVariants as operand
 use Rattle.idl_grammar.specs.Symbols as symbol
 use Rattle.idl_grammar.specs.Limits.{names, symbol_level, is_unary, symbols_of, binary_operators, unary_operators, level, binary_of}
 use Rattle.idl_grammar.specs.Tree.{Expr, Leaf, Round, Unary, Binary, Conditional}
 use Rattle.idl_grammar.specs.Expressions.{spelled, expr, outer}
-use Rattle.idl_grammar.specs.ReadExpressions.{is_operand, expr_read, outer_read}
+use Rattle.idl_grammar.specs.ReadExpressions.{outer_read}
 use Rattle.idl_grammar.proofs.Combine.{alone_in, here_exact, stopped_exact, spelled_has}
 use Rattle.idl_grammar.proofs.ExpressionParts.{operand_symbols, is_in_list, leaf_back}
 use Rattle.idl_grammar.proofs.ExpressionsExact.{stop_whole, expr_exact}
@@ -44,11 +43,10 @@ first_of_or true h = h
 
 whole_stops : (x : Text) (j : ℕ) → stops expr_ends x j → stop_whole x j
 unfolding symbol_level
-whole_stops x j stop =
-    (
-      no_level (is_in (symbols_of binary_operators) (symbol_at x j)) (level (binary_of (symbol_at x j))) (smaller (symbols_of binary_operators) expr_ends (symbol_at x j) operators_end stop),
-      first_of_or (is (symbol_at x j) symbol.Question) (smaller (symbol.Question ∷ []) expr_ends (symbol_at x j) question_ends stop),
-    )
+whole_stops x j stop = (
+  no_level (is_in (symbols_of binary_operators) (symbol_at x j)) (level (binary_of (symbol_at x j))) (smaller (symbols_of binary_operators) expr_ends (symbol_at x j) operators_end stop),
+  first_of_or (is (symbol_at x j) symbol.Question) (smaller (symbol.Question ∷ []) expr_ends (symbol_at x j) question_ends stop),
+)
 
 operands_first : (inside : Bool) → subset (operand_symbols inside) (expr_firsts inside) ≡ true
 unfolding expr_firsts names

@@ -1,11 +1,10 @@
 -- One parameter, and a list of them, are read exactly.
-use Rattle.std.proofs.Common.{◌≡◌, ℕ, ◌+◌, ◌<◌, ◌≤◌, Bool, true, false, List, [], ◌∷◌, cond, length, refl, sym, ap, subst, arith, ◌∙◌, ◌⊎◌, inl, inr, Option, Some, None, Ok, Err, ◌||◌, eq-eqb}
-use Rattle.std.proofs.lemmas.Bool.{eqb-true}
-use Rattle.phrases.specs.Text.{Lexeme, Text, lexeme_at, symbol_at, is, is_in, Lifted, Rel, nothing, mark, many, optional, located, separated, made, ◌▹◌, ◌⊗◌, ◌⊳◌}
-use Rattle.phrases.specs.Reading.{Read, then, turned, mark_read, located_read, list_read, behind_read, separated_read}
-use Rattle.phrases.proofs.Exact.{Stops, Found, Exact, HasPhrase, Meets, Part, pair_exact, turned_exact}
-use Rattle.phrases.proofs.Parts.{clash, marked, mark_has, pair_has, turned_has, optional_has, many_has}
-use Rattle.phrases.proofs.Sequences.{stops, Begins, BeginsOr, subset, disjoint, apart, in_more, meets_or, meets_first, pair_begins, or_pair_begins, located_exact, located_has, located_begins, list_exact, list_begins, separated_exact, separated_has, separated_begins, skip_exact, skip_begins, fewer_stops, made_exact}
+use Rattle.std.proofs.Common.{◌≡◌, ℕ, ◌+◌, ◌≤◌, true, false, [], ◌∷◌, length, refl, sym, ap, subst, arith, ◌∙◌, Option}
+use Rattle.phrases.specs.Text.{Text, symbol_at, is, is_in, Lifted, Rel, many, optional, located, ◌⊗◌, ◌⊳◌}
+use Rattle.phrases.specs.Reading.{behind_read}
+use Rattle.phrases.proofs.Exact.{Exact, HasPhrase, pair_exact, turned_exact}
+use Rattle.phrases.proofs.Parts.{clash, pair_has, turned_has, optional_has}
+use Rattle.phrases.proofs.Sequences.{stops, Begins, subset, meets_first, pair_begins, or_pair_begins, located_exact, located_has, list_exact, separated_exact, skip_exact, skip_begins}
 use Rattle.idl_grammar.specs.declared.types.SimpleType.{SimpleType}
 use Rattle.idl_grammar.specs.declared.types.SimpleType.TheVariants as types
 use Rattle.idl_grammar.specs.declared.types.IntegerType.TheVariants as integers
@@ -14,13 +13,9 @@ use Rattle.idl_grammar.specs.Symbols as symbol
 use Rattle.idl_grammar.specs.Limits.{names}
 use Rattle.idl_grammar.specs.Tree as tree
 use Rattle.idl_grammar.specs.Tree.{Attributes, Declarator, TypeSpec, Parameter, Parameters}
-use Rattle.idl_grammar.specs.Expressions.{placed}
-use Rattle.idl_grammar.specs.ReadExpressions.{placed_read}
-use Rattle.idl_grammar.specs.Grammar.{commas, width, integer, simple, attributes, declarator, type_spec, parameter, parameters}
-use Rattle.idl_grammar.specs.Reading.{branch_read, bind_read, commas_read, maybe_attributes_read, declarator_read, type_firsts, member_firsts, type_read, parameter_of, parameter_read, more_parameters_read, void_parameters_read, parameters_read}
-use Rattle.idl_grammar.proofs.Combine.{changed_exact, stopped_exact, bind_is, bind_alike, turned_twice, placed_exact, placed_has, alone_in, not_one}
-use Rattle.idl_grammar.proofs.SimpleExact.{simple_begins}
-use Rattle.idl_grammar.proofs.AttributeLists.{attributes_begin, maybe_attributes_exact, maybe_attributes_begin}
+use Rattle.idl_grammar.specs.Grammar.{commas, width, integer, simple, attributes, declarator, type_spec, parameter}
+use Rattle.idl_grammar.specs.Reading.{commas_read, maybe_attributes_read, declarator_read, type_firsts, member_firsts, type_read, parameter_of, parameter_read, more_parameters_read}
+use Rattle.idl_grammar.proofs.AttributeLists.{maybe_attributes_exact, maybe_attributes_begin}
 use Rattle.idl_grammar.proofs.DeclaratorsExact.{declarator_firsts, declarator_ends, declarators_ends, declarator_exact, declarator_has, declarator_begins}
 use Rattle.idl_grammar.proofs.TypeParts.{type_ends, declarators_end_types, types_no_square}
 use Rattle.idl_grammar.proofs.TypeAlternatives.{type_begins, type_has}

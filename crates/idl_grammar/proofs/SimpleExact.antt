@@ -1,10 +1,10 @@
 -- Types without parts are read exactly.
-use Rattle.std.proofs.Common.{◌≡◌, ℕ, ◌+◌, ◌≤◌, Bool, true, false, List, [], ◌∷◌, length, refl, sym, ap, subst, ◌∙◌, ◌⊎◌, inl, inr}
-use Rattle.phrases.specs.Text.{Text, symbol_at, is, is_in, Lifted, Rel, never, mark, ◌▹◌, ◌⊗◌, ◌⊳◌, ◌∣◌}
-use Rattle.phrases.specs.Reading.{Read, then, turned, mark_read, behind_read}
+use Rattle.std.proofs.Common.{◌≡◌, ℕ, ◌≤◌, Bool, true, false, List, [], ◌∷◌, length, refl, sym, subst, ◌⊎◌, inl, inr}
+use Rattle.phrases.specs.Text.{Text, symbol_at, Lifted, Rel, never, mark, ◌▹◌, ◌⊗◌, ◌⊳◌, ◌∣◌}
+use Rattle.phrases.specs.Reading.{then, mark_read, behind_read}
 use Rattle.phrases.proofs.Exact.{Exact, HasPhrase, Part, pair_exact}
 use Rattle.phrases.proofs.Parts.{marked, mark_exact, mark_has, pair_has, turned_has}
-use Rattle.phrases.proofs.Sequences.{stops, Begins, subset, disjoint, smaller, in_more, meets_or, meets_first, fewer_stops, skip_exact, skip_has, skip_begins, pair_begins}
+use Rattle.phrases.proofs.Sequences.{stops, Begins, disjoint, meets_or, skip_exact, skip_begins, pair_begins}
 use Rattle.idl_grammar.specs.declared.words.Spelling.{Spelling}
 use Rattle.idl_grammar.specs.declared.types.Width.{Width}
 use Rattle.idl_grammar.specs.declared.types.Width.TheVariants as widths
@@ -14,12 +14,12 @@ use Rattle.idl_grammar.specs.declared.types.SimpleType.TheVariants as types
 use Rattle.idl_grammar.specs.declared.types.SwitchType.{SwitchType}
 use Rattle.idl_grammar.specs.declared.types.SwitchType.TheVariants as switches
 use Rattle.idl_grammar.specs.Symbols as symbol
-use Rattle.idl_grammar.specs.Limits.{names, symbols_of, value_of}
+use Rattle.idl_grammar.specs.Limits.{names, symbols_of}
 use Rattle.idl_grammar.specs.Expressions.{ident}
 use Rattle.idl_grammar.specs.Grammar.{flag, one_of, width_words, width, integer, simple, switch_type}
 use Rattle.idl_grammar.specs.ReadExpressions.{ident_read}
-use Rattle.idl_grammar.specs.Reading.{branch_read, flag_read, width_symbols, simple_words, simple_firsts, width_read, unsigned_read, integer_read, simple_read, switch_type_read}
-use Rattle.idl_grammar.proofs.Combine.{changed_exact, branch_exact, branch_begins, flag_exact, flag_has, flag_begins, mark_begins, one_of_exact, one_of_has, one_of_begins, one_word, EachMeant, each_meant, either, either_exact, either_begins, ident_exact, ident_begins}
+use Rattle.idl_grammar.specs.Reading.{flag_read, width_symbols, simple_words, simple_firsts, width_read, unsigned_read, integer_read, simple_read, switch_type_read}
+use Rattle.idl_grammar.proofs.Combine.{changed_exact, branch_exact, flag_exact, flag_has, flag_begins, mark_begins, one_of_exact, one_of_has, one_word, each_meant, either, either_exact, either_begins, ident_exact, ident_begins}
 
 -- what goes on with a type without parts
 abbrev pub simple_ends : List ℕ

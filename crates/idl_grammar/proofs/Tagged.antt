@@ -1,18 +1,17 @@
 -- A word, and a tag with a body or without one, or a body alone.
-use Rattle.std.proofs.Common.{◌≡◌, ℕ, ◌+◌, ◌<◌, ◌≤◌, Bool, true, false, List, [], ◌∷◌, cond, length, refl, sym, ap, subst, arith, ◌∙◌, ◌⊎◌, inl, inr, Option, Some, None, Ok, Err}
-use Rattle.phrases.specs.Text.{Text, symbol_at, is, is_in, Lifted, Rel, optional, ◌⊗◌, ◌∣◌}
+use Rattle.std.proofs.Common.{◌≡◌, ℕ, ◌≤◌, Bool, true, false, List, [], ◌∷◌, cond, length, refl, ap, ◌∙◌, ◌⊎◌, inl, inr, Option, Some, None, Ok}
+use Rattle.phrases.specs.Text.{Text, symbol_at, is, is_in, Rel, optional, ◌⊗◌, ◌∣◌}
 use Rattle.phrases.specs.Reading.{Read, then, turned, choice_read, option_read}
-use Rattle.phrases.proofs.Exact.{Stops, Exact, HasPhrase, pair_exact}
-use Rattle.phrases.proofs.Parts.{pair_has, turned_has, optional_has}
-use Rattle.phrases.proofs.Sequences.{stops, Begins, disjoint, subset, pair_begins, option_exact, choice_exact, choice_begins, choice_has, fewer_stops}
+use Rattle.phrases.proofs.Exact.{Exact, HasPhrase, pair_exact}
+use Rattle.phrases.proofs.Parts.{pair_has, optional_has}
+use Rattle.phrases.proofs.Sequences.{stops, Begins, disjoint, subset, pair_begins, option_exact, choice_exact, choice_has, fewer_stops}
 use Rattle.idl_grammar.specs.declared.words.Spelling.{Spelling}
-use Rattle.idl_grammar.specs.Symbols as symbol
 use Rattle.idl_grammar.specs.Limits.{names}
 use Rattle.idl_grammar.specs.Tree.{TypeSpec}
 use Rattle.idl_grammar.specs.Expressions.{placed, ident}
 use Rattle.idl_grammar.specs.ReadExpressions.{placed_read, ident_read}
 use Rattle.idl_grammar.specs.Reading.{branch_read, bind_read, tagged_read}
-use Rattle.idl_grammar.proofs.Combine.{branch_is, bind_is, bind_alike, turned_twice, placed_exact, placed_has, placed_begins, ident_exact, ident_has, ident_begins}
+use Rattle.idl_grammar.proofs.Combine.{branch_is, bind_is, bind_alike, turned_twice, placed_exact, placed_begins, ident_exact, ident_has, ident_begins}
 use Rattle.idl_grammar.proofs.TypeParts.{type_ends}
 
 abbrev pub Tagging : Type 0 → Type 0
@@ -44,8 +43,8 @@ module _ {B : Type 0} (alone : ℕ → Spelling → TypeSpec) (full : ℕ → Op
     tagging_is at m =
         branch_is (tagging_of at) (names false) t m (then (ident_read false t m) (λ tag o. option_read firsts t body o)) (body m)
         ∙ ap (λ (r : Read TypeSpec). branch_read (names false) t m r (turned (full at None) (body m)))
-          (bind_is (with_tag at) (ident_read false t m) (λ tag o. option_read firsts t body o)
-          ∙ bind_alike (ident_read false t m) _ _ (λ tag o. option_case at tag (is_in firsts (symbol_at t o)) (body o) o))
+        (bind_is (with_tag at) (ident_read false t m) (λ tag o. option_read firsts t body o)
+        ∙ bind_alike (ident_read false t m) _ _ (λ tag o. option_case at tag (is_in firsts (symbol_at t o)) (body o) o))
 
     pub tagged_is : (s i : ℕ) → turned tagged_of (then (placed_read s t i) (λ at m. tagging_read m))
         ≡ bind_read (placed_read s t i) (λ at m. tagged_read firsts t (alone at) (λ tag o. turned (full at tag) (body o)) m)

@@ -1,29 +1,24 @@
 -- The alternatives of a type as the grammar has them, and as they are read.
-use Rattle.std.proofs.Common.{◌≡◌, ℕ, zero, suc, ◌+◌, ◌<◌, ◌≤◌, Bool, true, false, List, [], ◌∷◌, length, refl, sym, ap, subst, arith, ◌∙◌, ◌⊎◌, inl, inr, Option, Some, None, Ok, eq-eqb}
-use Rattle.phrases.specs.Text.{Text, lexeme_at, symbol_at, is, is_in, Lifted, Rel, mark, optional, made, ◌▹◌}
-use Rattle.phrases.specs.Reading.{Read, then, turned}
-use Rattle.phrases.proofs.Exact.{Stops, Exact, HasPhrase}
+use Rattle.std.proofs.Common.{◌≡◌, ℕ, ◌+◌, true, false, List, [], ◌∷◌, refl, sym, ap, subst, ◌⊎◌, inl, inr, Option, Some, None}
+use Rattle.phrases.specs.Text.{Text, symbol_at, is, is_in, Lifted, Rel, made}
+use Rattle.phrases.proofs.Exact.{HasPhrase}
 use Rattle.phrases.proofs.Parts.{turned_has}
-use Rattle.phrases.proofs.Sequences.{stops, Begins, disjoint, subset, in_more, fewer_stops, made_exact, made_begins}
+use Rattle.phrases.proofs.Sequences.{Begins, disjoint, subset, in_more, made_begins}
 use Rattle.idl_grammar.specs.declared.words.Spelling.{Spelling}
-use Rattle.idl_grammar.specs.declared.types.SimpleType.{SimpleType}
-use Rattle.idl_grammar.specs.declared.types.SimpleType.TheVariants as types
 use Rattle.idl_grammar.specs.declared.types.TagKind.{TagKind}
 use Rattle.idl_grammar.specs.declared.types.TagKind.TheVariants as tags
 use Rattle.idl_grammar.specs.Symbols as symbol
 use Rattle.idl_grammar.specs.Limits.{names}
 use Rattle.idl_grammar.specs.Tree as tree
 use Rattle.idl_grammar.specs.Tree.{Enumerator, Label, TypeSpec, Members, Cases, Arms, Arm}
-use Rattle.idl_grammar.specs.Expressions.{placed, ident}
-use Rattle.idl_grammar.specs.ReadExpressions.{placed_read, ident_read}
-use Rattle.idl_grammar.specs.Grammar.{simple, enumerators, union_switch, tag_symbol, in_curly, type_spec, some_members, some_cases, some_arms}
-use Rattle.idl_grammar.specs.Reading.{branch_read, bind_read, simple_firsts, simple_read, enumerators_read, type_firsts, MemberParts, members_of, cases_of, arms_of, struct_body_read, struct_read, union_body_read, union_read, enum_read, tagged_read, type_read}
-use Rattle.idl_grammar.proofs.Combine.{changed_exact, either, either_exact, either_begins, branch_is, bind_alike, alone_in, ident_exact, ident_begins}
-use Rattle.idl_grammar.proofs.SimpleExact.{simple_ends, simple_exact, simple_has, simple_begins}
-use Rattle.idl_grammar.proofs.BodiesExact.{enumerators_exact, enumerators_has, enumerators_begin}
-use Rattle.idl_grammar.proofs.TypeParts.{type_ends, struct_body, cases_body, arms_body, Cased, union_body, struct_body_has, struct_body_begins, union_body_begins, union_body_has, struct_body_exact, union_parts_read, union_body_exact}
+use Rattle.idl_grammar.specs.Expressions.{ident}
+use Rattle.idl_grammar.specs.Grammar.{simple, tag_symbol, in_curly, type_spec, some_members, some_cases, some_arms}
+use Rattle.idl_grammar.specs.Reading.{simple_firsts, type_firsts, MemberParts, members_of, cases_of, arms_of}
+use Rattle.idl_grammar.proofs.Combine.{alone_in}
+use Rattle.idl_grammar.proofs.SimpleExact.{simple_has, simple_begins}
+use Rattle.idl_grammar.proofs.TypeParts.{struct_body, cases_body, arms_body, Cased, union_body, struct_body_has, struct_body_begins, union_body_begins, union_body_has}
 use Rattle.idl_grammar.proofs.TypeLists.{Listed, members_forth, members_back, cases_forth, cases_back, arms_forth, arms_back}
-use Rattle.idl_grammar.proofs.Tagged.{Tagging, tagged_of, tagging_read, tagged_is, tagged, tagged_begins, tagged_exact}
+use Rattle.idl_grammar.proofs.Tagged.{Tagging, tagged_of, tagged, tagged_begins}
 
 -- ## what a type begins with
 

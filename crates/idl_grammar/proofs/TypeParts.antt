@@ -1,10 +1,10 @@
 -- The bodies of types are read exactly, over any phrases of types inside them.
-use Rattle.std.proofs.Common.{◌≡◌, ℕ, ◌+◌, ◌<◌, ◌≤◌, Bool, true, false, List, [], ◌∷◌, length, refl, sym, ap, subst, arith, ◌∙◌, ◌⊎◌, inl, inr, Option, Some, None}
-use Rattle.phrases.specs.Text.{Text, lexeme_at, symbol_at, is, is_in, Lifted, Rel, mark, optional, bracketed, some_of, located, made, ◌▹◌, ◌⊗◌, ◌⊳◌, ◌⊲◌, ◌∣◌}
-use Rattle.phrases.specs.Reading.{Read, then, turned, mark_read, end_with, choice_read, located_read, some_read, bracketed_read}
-use Rattle.phrases.proofs.Exact.{Stops, Exact, HasPhrase, Meets, Part, pair_exact, turned_exact}
+use Rattle.std.proofs.Common.{◌≡◌, ℕ, ◌+◌, ◌<◌, ◌≤◌, true, false, List, [], ◌∷◌, length, refl, arith, ◌⊎◌, inl, inr, Option, Some, None}
+use Rattle.phrases.specs.Text.{Text, is_in, Lifted, Rel, mark, optional, bracketed, some_of, located, made, ◌⊗◌, ◌⊲◌, ◌∣◌}
+use Rattle.phrases.specs.Reading.{Read, then, mark_read, choice_read}
+use Rattle.phrases.proofs.Exact.{Exact, HasPhrase, Part, pair_exact}
 use Rattle.phrases.proofs.Parts.{marked, mark_exact, mark_has, pair_has, turned_has, optional_has}
-use Rattle.phrases.proofs.Sequences.{stops, Begins, BeginsOr, subset, disjoint, in_more, meets_first, ends_at, end_exact, end_has, end_begins, pair_begins, or_pair_begins, located_exact, located_has, located_begins, some_exact, some_has, some_begins, bracketed_exact, bracketed_has, bracketed_begins, choice_exact, choice_begins, made_exact, made_begins, made_has}
+use Rattle.phrases.proofs.Sequences.{stops, Begins, subset, disjoint, meets_first, ends_at, end_exact, end_has, end_begins, pair_begins, or_pair_begins, located_exact, located_has, located_begins, some_exact, some_has, bracketed_exact, bracketed_has, bracketed_begins, choice_exact, choice_begins, made_exact, made_begins, made_has}
 use Rattle.idl_grammar.specs.declared.words.Spelling.{Spelling}
 use Rattle.idl_grammar.specs.declared.types.Discriminant.{Discriminant}
 use Rattle.idl_grammar.specs.Symbols as symbol
@@ -12,11 +12,11 @@ use Rattle.idl_grammar.specs.Limits.{names}
 use Rattle.idl_grammar.specs.Tree as tree
 use Rattle.idl_grammar.specs.Tree.{Attributes, Declarator, Label, TypeSpec, Arm}
 use Rattle.idl_grammar.specs.Grammar.{attributes, declarator, declarators, labels, union_switch}
-use Rattle.idl_grammar.specs.Reading.{branch_read, in_curly_read, line_read, maybe_attributes_read, declarator_read, declarators_read, labels_read, label_firsts, union_switch_read, type_firsts, member_firsts, arm_firsts, MemberParts, member_read, members_read, struct_body_read, arm_field_read, arm_read, case_read, cases_read, cases_body_read, arms_read, arms_body_read}
+use Rattle.idl_grammar.specs.Reading.{line_read, maybe_attributes_read, declarator_read, declarators_read, labels_read, label_firsts, union_switch_read, type_firsts, member_firsts, arm_firsts, MemberParts, member_read, members_read, struct_body_read, arm_field_read, arm_read, case_read, cases_read, cases_body_read, arms_read, arms_body_read}
 use Rattle.idl_grammar.proofs.Combine.{branch_exact, branch_begins, mark_begins}
-use Rattle.idl_grammar.proofs.AttributeLists.{attributes_has, attributes_begin, maybe_attributes_exact, maybe_attributes_begin}
+use Rattle.idl_grammar.proofs.AttributeLists.{maybe_attributes_exact, maybe_attributes_begin}
 use Rattle.idl_grammar.proofs.DeclaratorsExact.{declarator_firsts, declarator_ends, declarators_ends, declarator_exact, declarator_has, declarator_begins, declarators_exact, declarators_has, declarators_begin}
-use Rattle.idl_grammar.proofs.BodiesExact.{labels_exact, labels_has, labels_begin, union_switch_exact, union_switch_has, union_switch_begins}
+use Rattle.idl_grammar.proofs.BodiesExact.{labels_exact, labels_has, labels_begin, union_switch_exact, union_switch_begins}
 
 -- what goes on with a type
 abbrev pub type_ends : List ℕ

@@ -1,13 +1,10 @@
 -- Types are read exactly.
-use Rattle.std.proofs.Common.{◌≡◌, ℕ, zero, suc, ◌+◌, ◌<◌, ◌≤◌, Bool, true, false, List, [], ◌∷◌, length, refl, sym, ap, subst, arith, ◌∙◌, ◌⊎◌, inl, inr, Option, Some, None, Ok, eq-eqb}
-use Rattle.phrases.specs.Text.{Text, lexeme_at, symbol_at, is, is_in, Lifted, Rel, mark, optional, made, ◌▹◌}
+use Rattle.std.proofs.Common.{◌≡◌, ℕ, zero, suc, ◌+◌, ◌<◌, ◌≤◌, true, false, List, [], ◌∷◌, length, refl, sym, ap, subst, arith, ◌∙◌, inl, inr, Option, Some, None, Ok}
+use Rattle.phrases.specs.Text.{Text, Lifted, Rel, made}
 use Rattle.phrases.specs.Reading.{Read, then, turned}
-use Rattle.phrases.proofs.Exact.{Stops, Exact, HasPhrase}
-use Rattle.phrases.proofs.Parts.{turned_has}
-use Rattle.phrases.proofs.Sequences.{stops, Begins, disjoint, subset, in_more, fewer_stops, made_exact, made_begins}
+use Rattle.phrases.proofs.Exact.{Exact}
+use Rattle.phrases.proofs.Sequences.{stops, Begins, disjoint, subset, fewer_stops, made_exact, made_begins}
 use Rattle.idl_grammar.specs.declared.words.Spelling.{Spelling}
-use Rattle.idl_grammar.specs.declared.types.SimpleType.{SimpleType}
-use Rattle.idl_grammar.specs.declared.types.SimpleType.TheVariants as types
 use Rattle.idl_grammar.specs.declared.types.TagKind.{TagKind}
 use Rattle.idl_grammar.specs.declared.types.Discriminant.{Discriminant}
 use Rattle.idl_grammar.specs.declared.types.TagKind.TheVariants as tags
@@ -15,19 +12,17 @@ use Rattle.idl_grammar.specs.Symbols as symbol
 use Rattle.idl_grammar.specs.Limits.{names}
 use Rattle.idl_grammar.specs.Tree as tree
 use Rattle.idl_grammar.specs.Tree.{Enumerator, Label, TypeSpec, Members, Cases, Arms, Arm}
-use Rattle.idl_grammar.specs.Expressions.{placed, ident}
+use Rattle.idl_grammar.specs.Expressions.{ident}
 use Rattle.idl_grammar.specs.ReadExpressions.{ident_read}
-use Rattle.idl_grammar.specs.Grammar.{simple, enumerators, union_switch, tag_symbol, in_curly, type_spec, some_members, some_cases, some_arms}
-use Rattle.idl_grammar.specs.Reading.{branch_read, bind_read, simple_firsts, simple_read, enumerators_read, type_firsts, MemberParts, members_of, cases_of, arms_of, struct_body_read, struct_read, union_body_read, union_read, enum_read, tagged_read, type_read}
-use Rattle.idl_grammar.proofs.Combine.{changed_exact, either, either_exact, either_begins, branch_is, bind_alike, alone_in, ident_exact, ident_begins}
-use Rattle.idl_grammar.proofs.SimpleExact.{simple_ends, simple_exact, simple_has, simple_begins}
+use Rattle.idl_grammar.specs.Grammar.{simple, enumerators, type_spec}
+use Rattle.idl_grammar.specs.Reading.{branch_read, bind_read, simple_firsts, simple_read, enumerators_read, struct_body_read, struct_read, union_body_read, union_read, enum_read, tagged_read, type_read}
+use Rattle.idl_grammar.proofs.Combine.{changed_exact, either, either_exact, either_begins, branch_is, bind_alike, ident_exact, ident_begins}
+use Rattle.idl_grammar.proofs.SimpleExact.{simple_ends, simple_exact, simple_begins}
 use Rattle.idl_grammar.proofs.BodiesExact.{enumerators_exact, enumerators_has, enumerators_begin}
-use Rattle.idl_grammar.proofs.TypeParts.{type_ends, struct_body, cases_body, arms_body, Cased, union_body, struct_body_has, struct_body_begins, union_body_begins, union_body_has, struct_body_exact, union_parts_read, union_body_exact}
-use Rattle.idl_grammar.proofs.TypeLists.{Listed, members_forth, members_back, cases_forth, cases_back, arms_forth, arms_back}
+use Rattle.idl_grammar.proofs.TypeParts.{type_ends, struct_body, union_body, struct_body_has, struct_body_begins, union_body_begins, union_body_has, struct_body_exact, union_parts_read, union_body_exact}
 use Rattle.idl_grammar.proofs.Tagged.{Tagging, tagged_of, tagging_read, tagged_is, tagged, tagged_begins, tagged_exact}
-
 use Rattle.idl_grammar.specs.ReadExpressions.{placed_read}
-use Rattle.idl_grammar.proofs.TypeAlternatives.{simple_type, name_type, type_begins, type_has, curly_no_name, switch_no_name, inner, inner_has, inner_begins, struct_alone, struct_full, struct_of, struct_parts, structs, structs_begin, struct_forth, struct_back, union_alone, union_full, Union_body, union_of, union_parts, unions, unions_begin, union_forth, cases_out, arms_out}
+use Rattle.idl_grammar.proofs.TypeAlternatives.{curly_no_name, switch_no_name, inner, inner_has, inner_begins, struct_alone, struct_full, struct_of, struct_parts, structs, structs_begin, struct_forth, struct_back, union_alone, union_full, Union_body, union_of, union_parts, unions, unions_begin, union_forth, cases_out, arms_out}
 
 module _ (depth : ℕ) where
   abbrev body_of_union : Rel (Union_body depth)
@@ -37,16 +32,14 @@ module _ (depth : ℕ) where
       → type_spec depth (tree.EncapsulatedUnion at tag d name list) lifted x i j → unions depth (tree.EncapsulatedUnion at tag d name list) lifted x i j
   cased_back at None d name list lifted x i j ph =
       let rest = ph.2.2 in
-      let l = cases_out depth list lifted x rest.0 j rest.2 in
-      (
+      let l = cases_out depth list lifted x rest.0 j rest.2 in (
         (at, inr (inl ((d, name), l.items))),
         ap (λ (r : Cases). tree.EncapsulatedUnion at None d name r) l.is,
         (ph.0, ph.1, subst (λ (k : ℕ). body_of_union (inl ((d, name), l.items)) lifted x k j) ph.2.1 (rest.0, rest.1, l.phrase)),
       )
   cased_back at (Some tag) d name list lifted x i j ph =
       let rest = ph.2.2 in
-      let l = cases_out depth list lifted x rest.0 j rest.2 in
-      (
+      let l = cases_out depth list lifted x rest.0 j rest.2 in (
         (at, inl (tag, Some (inl ((d, name), l.items)))),
         ap (λ (r : Cases). tree.EncapsulatedUnion at (Some tag) d name r) l.is,
         (ph.0, ph.1, (ph.2.0, ph.2.1, (rest.0, rest.1, l.phrase))),
@@ -55,8 +48,7 @@ module _ (depth : ℕ) where
   armed_back : (at : ℕ) (tag : Option Spelling) (list : Arms) (lifted : Lifted) (x : Text) (i j : ℕ)
       → type_spec depth (tree.NonEncapsulatedUnion at tag list) lifted x i j → unions depth (tree.NonEncapsulatedUnion at tag list) lifted x i j
   armed_back at None list lifted x i j ph =
-      let l = arms_out depth list lifted x ph.2.0 j ph.2.2 in
-      (
+      let l = arms_out depth list lifted x ph.2.0 j ph.2.2 in (
         (at, inr (inr l.items)),
         ap (λ (r : Arms). tree.NonEncapsulatedUnion at None r) l.is,
         (ph.0, ph.1, subst (λ (k : ℕ). body_of_union (inr l.items) lifted x k j) ph.2.1 l.phrase),
@@ -221,7 +213,7 @@ module _ (depth : ℕ) where
         → tagged_read firsts t alone f m ≡ tagged_read firsts t alone g m
     tagged_alike alone f g same firsts m =
         ap (λ (r : Read TypeSpec). branch_read (names false) t m r (f None m))
-          (bind_alike (ident_read false t m) _ _ (λ tag o. ap (λ (r : Read TypeSpec). branch_read firsts t o r (Ok (alone tag, o))) (same (Some tag) o)))
+        (bind_alike (ident_read false t m) _ _ (λ tag o. ap (λ (r : Read TypeSpec). branch_read firsts t o r (Ok (alone tag, o))) (same (Some tag) o)))
         ∙ ap (λ (r : Read TypeSpec). branch_read (names false) t m (bind_read (ident_read false t m) (λ tag o. branch_read firsts t o (g (Some tag) o) (Ok (alone tag, o)))) r) (same None m)
 
     abbrev union_firsts : List ℕ

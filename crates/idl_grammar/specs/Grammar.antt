@@ -1,8 +1,8 @@
 -- The grammar of IDL (C706, sections 4.2.3 to 4.2.14), from small to large. A phrase is a relation of a text, the place
 -- where it begins and the place past it; each line is one alternative. depth is the number of brackets that are open where
 -- a phrase begins, round, square and curly ones together.
-use Rattle.std.specs.Prelude.{◌≡◌, ℕ, ◌+◌, Bool, true, false, List, [], ◌∷◌, Option, Some, None}
-use Rattle.phrases.specs.Text.{Lexeme, Text, Phrase, Rel, Ban, Depth, many_brackets, nothing, never, mark, token, optional, unless, many, separated, some_of, bracketed, located, lexeme_at, symbol_at, is, is_in, ◌▹◌, ◌⊗◌, ◌⊳◌, ◌⊲◌}
+use Rattle.std.specs.Prelude.{◌≡◌, ℕ, ◌+◌, Bool, true, false, List, [], ◌∷◌, Option}
+use Rattle.phrases.specs.Text.{Text, Phrase, Rel, Ban, Depth, many_brackets, nothing, never, mark, token, optional, unless, many, separated, some_of, bracketed, located, lexeme_at, symbol_at, is, is_in, ◌▹◌, ◌⊗◌, ◌⊳◌, ◌⊲◌}
 use Rattle.phrases.specs.Reading.{to_unit}
 use Rattle.idl_grammar.specs.declared.words.Spelling.{Spelling}
 use Rattle.idl_grammar.specs.declared.attributes.PointerClass.{PointerClass}

@@ -7,3 +7,6 @@ pub mod Grammar
 pub mod Seen
 pub mod ReadExpressions
 pub mod Reading
+pub mod Answers
+pub mod Examples
+pub mod Integers

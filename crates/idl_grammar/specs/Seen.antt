@@ -1,5 +1,5 @@
 -- The tree of the program as the grammar's tree: the same parts, without where they lie in memory.
-use Rattle.std.specs.Prelude.{ℕ, List, [], ◌∷◌, map, Option, Some, None, option_map}
+use Rattle.std.specs.Prelude.{List, map, option_map}
 use Rattle.idl_grammar.specs.declared.expressions.Expr as program
 use Rattle.idl_grammar.specs.declared.expressions.Expr.TheVariants as exprs
 use Rattle.idl_grammar.specs.declared.attributes.AttributeKind as kinds
@@ -18,6 +18,8 @@ use Rattle.idl_grammar.specs.declared.types.TypeSpec as types
 use Rattle.idl_grammar.specs.declared.types.TypeSpec.TheVariants as type
 use Rattle.idl_grammar.specs.declared.types.Arm as arms
 use Rattle.idl_grammar.specs.declared.types.Arm.TheVariants as arm
+use Rattle.idl_grammar.specs.declared.types.Member as member
+use Rattle.idl_grammar.specs.declared.types.Case as case
 use Rattle.idl_grammar.specs.declared.files.Import as import
 use Rattle.idl_grammar.specs.declared.files.Parameter as parameter
 use Rattle.idl_grammar.specs.declared.files.Parameters as lists
@@ -26,6 +28,7 @@ use Rattle.idl_grammar.specs.declared.files.Export as exports
 use Rattle.idl_grammar.specs.declared.files.Export.TheVariants as export
 use Rattle.idl_grammar.specs.declared.files.Tree as trees
 use Rattle.idl_grammar.specs.Tree as tree
+use Rattle.idl_grammar.specs.Reading.{MemberParts}
 
 -- an expression
 abbrev pub seen_expr : program.Expr → tree.Expr
@@ -135,3 +138,13 @@ seen_tree t = record {
   imports = map seen_import t.imports.items;
   exports = map seen_export t.exports.items;
 }
+
+-- ## Items of lists inside types, as they are read
+
+-- a member of a struct
+abbrev pub seen_member : member.Member → MemberParts
+seen_member m = (m.at, (option_map seen_attributes m.attributes, (seen_type m.of, map seen_declarator m.declarators.items)))
+
+-- a case of a union
+abbrev pub seen_case : case.Case → List tree.Label × tree.Arm
+seen_case c = (map seen_label c.labels.items, seen_arm c.arm)

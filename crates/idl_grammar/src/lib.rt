@@ -9,6 +9,9 @@ mod attributes;
 mod declarators;
 mod expressions;
 mod files;
+pub mod laws;
+#[cfg(test)]
+mod tests;
 mod types;
 mod words;
 

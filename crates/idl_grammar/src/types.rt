@@ -33,6 +33,31 @@ pub enum IntegerType {
     },
 }
 
+impl IntegerType {
+    ghost use Rattle.std.specs.Prelude.{◌≡◌};
+    ghost use Rattle.idl_grammar.specs.Integers.{width_of, is_without_sign};
+
+    /// The width, whichever word stands first. Takes no memory.
+    pub fn width(self) -> Width
+        ensures { result ≡ width_of self }
+    {
+        match self {
+            IntegerType::WidthFirst { width, .. } => width,
+            IntegerType::UnsignedFirst { width, .. } => width,
+        }
+    }
+
+    /// Whether the type has no sign. Takes no memory.
+    pub fn is_unsigned(self) -> bool
+        ensures { result ≡ is_without_sign self }
+    {
+        match self {
+            IntegerType::WidthFirst { unsigned, .. } => unsigned,
+            IntegerType::UnsignedFirst { .. } => true,
+        }
+    }
+}
+
 /// A type without parts.
 #[derive(Clone, Copy, Debug, PartialEq, Eq)]
 pub enum SimpleType {

@@ -8,3 +8,5 @@ pub mod TypeReading
 pub mod Rows
 mod Tables
 mod Taken
+mod Answered
+mod Real

@@ -5,10 +5,19 @@ mod attributes;
 mod declarators;
 mod enums;
 mod expression;
+mod fault;
+mod file;
 mod lexemes;
 mod operators;
+mod parameters;
+mod parse;
 mod parser;
 mod simple;
 mod symbol;
+#[cfg(test)]
+mod tests;
 mod types;
 mod words;
+
+pub use fault::SyntaxFault;
+pub use parse::parse;

@@ -1,0 +1,49 @@
+//! Laws over the definitions.
+
+ghost use Rattle.std.specs.Prelude.{◌≡◌, ℕ, ◌≤◌, Result, Ok, Err};
+ghost use Rattle.phrases.specs.Text.{Text, Depth, Ban};
+ghost use Rattle.phrases.specs.Reading.{Fault, Syntax, Passes};
+ghost use Rattle.phrases.specs.Verdict.{Judges, whole_read};
+ghost use Rattle.phrases.specs.Gives.{IsText};
+ghost use Rattle.idl_lexer.specs.Lexed.{Lexed};
+ghost use Rattle.idl_grammar.specs.Lexemes.{lexemes};
+ghost use Rattle.idl_grammar.specs.Examples.{small_file, small_tree, unended, banned_attribute, banned_word, attribute_name, deep};
+ghost use Rattle.idl_grammar.specs.Tree.{Tree};
+ghost use Rattle.idl_grammar.specs.Grammar.{file};
+ghost use Rattle.idl_grammar.specs.Reading.{file_read};
+ghost use Rattle.idl_grammar.specs.Answers.{Answers, file_answer};
+
+/// What is read of the tokens of a file is its one tree, or the first token at which no file of the language goes on, or the first one that a
+/// limit of depth or a ban refuses. Nothing else is right of these tokens. The numbers of levels are any that are large enough.
+pub fn file_is_judged()
+    ensures judged { (fuel nesting : ℕ) → 129 ≤ nesting → 64 ≤ fuel → (t : Text) → IsText t → Judges file t (whole_read (file_read fuel nesting t 0) t) }
+    ensures alone { (fuel nesting : ℕ) → 129 ≤ nesting → 64 ≤ fuel → (t : Text) → IsText t → (v : Result Tree Fault) → Judges file t v
+        → v ≡ whole_read (file_read fuel nesting t 0) t }
+{}
+
+/// What is answered on the tokens of a file is right, also where it names a word that is banned anywhere, and no other answer is.
+pub fn file_is_answered()
+    ensures answered { (fuel nesting : ℕ) → 129 ≤ nesting → 64 ≤ fuel → (t : Text) → IsText t → Answers file t (file_answer fuel nesting t) }
+    ensures alone { (fuel nesting : ℕ) → 129 ≤ nesting → 64 ≤ fuel → (t : Text) → IsText t → (v : Result Tree Fault) → Answers file t v
+        → v ≡ file_answer fuel nesting t }
+{}
+
+/// No token of a text that was lexed is the end of the text, so the laws above hold of every such text.
+pub fn tokens_are_no_end()
+    ensures { (lexed : Lexed) → IsText (lexemes lexed) }
+{}
+
+/// A small file with a declaration or two of each form, and its one tree.
+pub fn small_file_has_its_tree()
+    ensures { Answers file (lexemes small_file) (Ok small_tree) }
+{}
+
+/// Texts that are refused, each at its token: an operation without its semicolon, a banned attribute, a word that is banned anywhere, a
+/// word with which an attribute begins where a name should stand in attribute brackets, and a 64th round bracket inside the interface's own.
+pub fn refused_texts_are_refused()
+    ensures unended { Answers file (lexemes unended) (Err (Syntax 11)) }
+    ensures banned_attribute { Answers file (lexemes banned_attribute) (Err (Passes Ban 1)) }
+    ensures banned_word { Answers file (lexemes banned_word) (Err (Passes Ban 6)) }
+    ensures attribute_name { Answers file (lexemes attribute_name) (Err (Syntax 12)) }
+    ensures deep { Answers file (lexemes deep) (Err (Passes Depth 73)) }
+{}
