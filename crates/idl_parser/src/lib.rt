@@ -10,7 +10,7 @@ mod file;
 mod lexemes;
 mod operators;
 mod parameters;
-mod parse;
+mod parsing;
 mod parser;
 mod simple;
 mod symbol;
@@ -20,4 +20,4 @@ mod types;
 mod words;
 
 pub use fault::SyntaxFault;
-pub use parse::parse;
+pub use parsing::parse;
