@@ -17,11 +17,11 @@ use Rattle.idl_grammar.specs.Lexemes.{symbol_among, words, symbol_of, lexeme_of,
 abbrev is_real : ℕ → Bool
 is_real s = not (eqb s 0)
 
-among_real : (list : List Spelled) (otherwise : ℕ) (octets : List ℕ) → list_all (λ s. is_real s.symbol) list ≡ true → is_real otherwise ≡ true → is_real (symbol_among list otherwise octets) ≡ true
+among_real : (list : List Spelled) (otherwise : ℕ) (octets : List ℕ) → list_all (λ (s : Spelled). is_real s.symbol) list ≡ true → is_real otherwise ≡ true → is_real (symbol_among list otherwise octets) ≡ true
 among_real [] otherwise octets all h = h
-among_real (s ∷ others) otherwise octets all h = by_case (bytes_eq octets s.octets) (among_real others otherwise octets (both (is_real s.symbol) (list_all (λ s. is_real s.symbol) others) all).1 h) where
+among_real (s ∷ others) otherwise octets all h = by_case (bytes_eq octets s.octets) (among_real others otherwise octets (both (is_real s.symbol) (list_all (λ (s : Spelled). is_real s.symbol) others) all).1 h) where
   by_case : (b : Bool) → is_real (symbol_among others otherwise octets) ≡ true → is_real (cond b s.symbol (symbol_among others otherwise octets)) ≡ true
-  by_case true again = (both (is_real s.symbol) (list_all (λ s. is_real s.symbol) others) all).0
+  by_case true again = (both (is_real s.symbol) (list_all (λ (s : Spelled). is_real s.symbol) others) all).0
   by_case false again = again
 
 words_real : list_all (λ (s : Spelled). is_real s.symbol) words ≡ true
