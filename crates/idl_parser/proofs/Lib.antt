@@ -8,5 +8,6 @@ pub mod TypeReading
 pub mod Rows
 mod Tables
 mod Taken
+mod Bodies
 mod Answered
 mod Real
