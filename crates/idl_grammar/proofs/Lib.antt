@@ -16,7 +16,7 @@ mod TypesExact
 mod ParameterExact
 mod ParametersExact
 mod ExportsExact
-mod FileExact
+pub mod FileExact
 pub mod FileLaws
 pub mod Rows
 pub mod FileExamples

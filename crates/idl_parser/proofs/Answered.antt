@@ -1,0 +1,77 @@
+-- From what is read of a whole text to what is answered.
+use Rattle.std.proofs.Common.{◌≡◌, ℕ, ◌+◌, ◌≤◌, Bool, true, false, cond, eqb, [], length, refl, sym, ap, subst, arith, ◌∙◌, Result, Ok, Err}
+use Rattle.phrases.specs.declared.Refusal.{Refusal}
+use Rattle.phrases.specs.declared.Refusal.TheVariants as refusal
+use Rattle.phrases.specs.Text.{Text, Rule, Depth, Ban}
+use Rattle.phrases.specs.Reading.{Fault, Syntax, Passes, Read}
+use Rattle.phrases.specs.Gives.{Fails, GivesWhole}
+use Rattle.phrases.specs.Verdict.{whole_read}
+use Rattle.phrases.proofs.Exact.{Exact, front}
+use Rattle.phrases.proofs.Sequences.{stops}
+use Rattle.idl_grammar.specs.declared.files.Tree.{Tree}
+use Rattle.idl_grammar.specs.Tree as tree
+use Rattle.idl_grammar.specs.Grammar.{file}
+use Rattle.idl_grammar.specs.Reading.{file_read}
+use Rattle.idl_grammar.specs.Seen.{seen_tree}
+use Rattle.idl_grammar.specs.Answers.{is_banned, named_fault, named, file_answer}
+use Rattle.idl_grammar.proofs.FileExact.{file_exact}
+use Rattle.idl_parser.specs.declared.fault.SyntaxFault.{SyntaxFault}
+use Rattle.idl_parser.specs.declared.fault.SyntaxFault.TheVariants as errors
+use Rattle.idl_parser.specs.Answered.{Told, IsWithin, IsNamed}
+
+-- ## a refusal stands within the text
+
+fault_within : (f : Fault) (n : ℕ) → front f ≤ n → (e : Refusal) → Fails {Y = tree.Tree} e (Err f) → IsWithin e n
+fault_within f n h refusal.Memory x = tt
+fault_within (Syntax j) n h (refusal.Syntax k) x = let e : j ≡ k = cc in subst (λ (m : ℕ). m ≤ n) e h
+fault_within (Passes rule j) n h (refusal.Syntax k) x = absurd (cc)
+fault_within (Syntax j) n h (refusal.Deep k) x = absurd (cc)
+fault_within (Passes rule j) n h (refusal.Deep k) x = let e : j ≡ k = cc in omega (arith, h, e)
+fault_within (Syntax j) n h (refusal.Banned k) x = absurd (cc)
+fault_within (Passes rule j) n h (refusal.Banned k) x = let e : j ≡ k = cc in omega (arith, h, e)
+
+no_fault : (a : tree.Tree) (n : ℕ) (e : Refusal) → Fails e (Ok a) → IsWithin e n
+no_fault a n refusal.Memory x = tt
+no_fault a n (refusal.Syntax k) x = absurd (cc)
+no_fault a n (refusal.Deep k) x = absurd (cc)
+no_fault a n (refusal.Banned k) x = absurd (cc)
+
+read_within : (t : Text) (r : Read tree.Tree) → Exact file (stops []) t 0 r → (e : Refusal) → Fails e (whole_read r t) → IsWithin e (length t)
+read_within t (Err f) x e h = fault_within f (length t) x.within e h
+read_within t (Ok a) x e h = by_case (eqb a.1 (length t)) h where
+  by_case : (b : Bool) → Fails e (cond b (Ok a.0) (Err (Syntax a.1))) → IsWithin e (length t)
+  by_case true g = no_fault a.0 (length t) e g
+  by_case false g = fault_within (Syntax a.1) (length t) x.within e g
+
+pub refused_within : (fuel nesting : ℕ) (t : Text) (e : Refusal) → 129 ≤ nesting → 64 ≤ fuel → Fails e (whole_read (file_read fuel nesting t 0) t) → IsWithin e (length t)
+refused_within fuel nesting t e enough fueled h =
+    read_within t (file_read fuel nesting t 0) (file_exact fuel nesting enough fueled t 0 (omega arith)) e h
+
+-- ## what is answered
+
+module _ (P : Result tree.Tree Fault → Type 0) where
+  pub told_tree : (fuel nesting : ℕ) (t : Text) (x : Tree) → whole_read (file_read fuel nesting t 0) t ≡ Ok (seen_tree x) → P (file_answer fuel nesting t) → Told P (Ok x)
+  unfolding file_answer
+  told_tree fuel nesting t x h p = subst (λ (v : Result tree.Tree Fault). P (named t v)) h p
+
+  named_syntax : (t : Text) (k : ℕ) (f : SyntaxFault) (b : Bool) → f ≡ cond b (errors.Banned k) (errors.Syntax k) → P (Err (cond b (Passes Ban k) (Syntax k))) → Told P (Err f)
+  named_syntax t k f true e p = subst (λ (g : SyntaxFault). Told P (Err g)) (sym e) p
+  named_syntax t k f false e p = subst (λ (g : SyntaxFault). Told P (Err g)) (sym e) p
+
+  told_named : (t : Text) (r : Result tree.Tree Fault) (e : Refusal) (f : SyntaxFault) → Fails e r → IsNamed t e f → P (named t r) → Told P (Err f)
+  told_named t r refusal.Memory f h is p = subst (λ (g : SyntaxFault). Told P (Err g)) (sym is) tt
+  told_named t r (refusal.Syntax k) f h is p = named_syntax t k f (is_banned t k) is (subst (λ (v : Result tree.Tree Fault). P (named t v)) h p)
+  told_named t r (refusal.Deep k) f h is p = subst (λ (g : SyntaxFault). Told P (Err g)) (sym is) (subst (λ (v : Result tree.Tree Fault). P (named t v)) h p)
+  told_named t r (refusal.Banned k) f h is p = subst (λ (g : SyntaxFault). Told P (Err g)) (sym is) (subst (λ (v : Result tree.Tree Fault). P (named t v)) h p)
+
+  pub told_fault : (fuel nesting : ℕ) (t : Text) (e : Refusal) (f : SyntaxFault) → Fails e (whole_read (file_read fuel nesting t 0) t) → IsNamed t e f → P (file_answer fuel nesting t) → Told P (Err f)
+  unfolding file_answer
+  told_fault fuel nesting t e f h is p = told_named t (whole_read (file_read fuel nesting t 0) t) e f h is p
+
+-- one fact of the answer for another
+pub told_for : (P Q : Result tree.Tree Fault → Type 0) → ((v : Result tree.Tree Fault) → P v → Q v) → (r : Result Tree SyntaxFault) → Told P r → Told Q r
+told_for P Q f (Ok x) h = f _ h
+told_for P Q f (Err errors.Memory) h = tt
+told_for P Q f (Err (errors.Syntax k)) h = f _ h
+told_for P Q f (Err (errors.Deep k)) h = f _ h
+told_for P Q f (Err (errors.Banned k)) h = f _ h

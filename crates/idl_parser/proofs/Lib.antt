@@ -1,0 +1,13 @@
+pub mod Basics
+pub mod Signs
+pub mod Unfolds
+pub mod Plain
+pub mod Lists
+pub mod Firsts
+pub mod TypeReading
+pub mod Rows
+mod Tables
+mod Taken
+mod Bodies
+mod Answered
+mod Real

@@ -1,0 +1,4 @@
+pub mod Lexemes
+pub mod Found
+pub mod Views
+pub mod Answered

@@ -1,0 +1,23 @@
+//! The parser of IDL (C706, section 4.2).
+#![tactic(auto)]
+
+mod attributes;
+mod declarators;
+mod enums;
+mod expression;
+mod fault;
+mod file;
+mod lexemes;
+mod operators;
+mod parameters;
+mod parsing;
+mod parser;
+mod simple;
+mod symbol;
+#[cfg(test)]
+mod tests;
+mod types;
+mod words;
+
+pub use fault::SyntaxFault;
+pub use parsing::parse;
