@@ -160,6 +160,7 @@ character_less (c ∷ cs) b after e = by (eqb c 92) refl e where
     by_pair : (t : Bool) → cond {A = Option (ℕ × List ℕ)} t (Some (16 * hex_value h + hex_value l, cs)) None ≡ Some (b, after) → length after ≤ length (h ∷ l ∷ cs)
     by_pair true e = let f : cs ≡ after = ap (λ x. x.1) (same_Some _ _ e) in omega (arith, ap length f)
     by_pair false e = cc
+
   escaped : (cs : List ℕ) → escape cs ≡ Some (b, after) → length after ≤ length cs
   escaped [] e = cc
   escaped (d ∷ ds) e = by_mark (eqb d 34 || eqb d 92) (eqb d 120) e where
@@ -167,9 +168,11 @@ character_less (c ∷ cs) b after e = by (eqb c 92) refl e where
     by_mark true u e = let f : ds ≡ after = ap (λ x. x.1) (same_Some _ _ e) in omega (arith, ap length f)
     by_mark false true e = omega (arith, pair ds e)
     by_mark false false e = cc
+
   plain : (t : Bool) → cond {A = Option (ℕ × List ℕ)} t (Some (c, cs)) None ≡ Some (b, after) → length after ≤ length (c ∷ cs)
   plain true e = let f : cs ≡ after = ap (λ x. x.1) (same_Some _ _ e) in omega (arith, ap length f)
   plain false e = cc
+
   by : (t : Bool) → eqb c 92 ≡ t → cond {A = Option (ℕ × List ℕ)} t (escape cs) (cond (is_plain c) (Some (c, cs)) None) ≡ Some (b, after) → length after ≤ length (c ∷ cs)
   by true h e = omega (arith, escaped cs e)
   by false h e = plain (is_plain c) e

@@ -45,8 +45,8 @@ written = decimal_by_steps_wide Written
     })
     (λ m ds large h. record {
       digits = list_all-append is_digit ds ((48 + m % 10) ∷ [])
-        ∙ and_from (list_all is_digit ds) (list_all is_digit ((48 + m % 10) ∷ [])) h.digits
-        (and_from (is_digit (48 + m % 10)) true (range_digit (48 + m % 10) (omega arith) (omega arith)) refl);
+          ∙ and_from (list_all is_digit ds) (list_all is_digit ((48 + m % 10) ∷ [])) h.digits
+          (and_from (is_digit (48 + m % 10)) true (range_digit (48 + m % 10) (omega arith) (omega arith)) refl);
       value = value_behind 0 (48 + m % 10) ds ∙ omega (arith, h.value);
       first = h.first;
       others = h.others ++ (48 + m % 10) ∷ [];

@@ -126,7 +126,7 @@ module _ (o : Operation) (h : IsPlainOperation o) where
   plain_readable zs l = record {
     all_roots = length-map zs number ∙ l ∙ sym as_many;
     forms = ap (list_all has_form) (append-nil (root_nodes (side_of o) (plain_graph zs) 0 (root_list (side_of o)) (map number zs)))
-      ∙ forms_are (plain_graph zs) primitives (root_list (side_of o)) 0 zs are_plain;
+        ∙ forms_are (plain_graph zs) primitives (root_list (side_of o)) 0 zs are_plain;
     named = tt;
   }
 

@@ -48,7 +48,6 @@ stop_within = left_within
 -- ## The head
 
 module _ (o : Operation) (text r1 r2 r3 r4 : List ℕ) (e : Stop) (ds : List Due) where
-
   pub stops_third : IsCut false text (Word (codes "values")) r1 → IsCut false r1 (Number (pos 1)) r2 → MismatchUnless (Exactly (word (codes "op"))) r2 e → Stops (head_dues o ++ ds) text e
   stops_third a b m =
       later_stops (Exactly (word (codes "values"))) (Word (codes "values")) (Exactly (count_piece 1) ∷ Exactly (word (codes "op")) ∷ Exactly (Name o.name) ∷ Exactly (Name (codes "in")) ∷ ds) text r1 e refl a
@@ -103,7 +102,7 @@ one_line ps i p text rest after vals new z l there f n = record {
   numbers = l.numbers ++ z ∷ [];
   are = n ∙ ap (λ (v : List Tree). v ++ number z ∷ []) l.are ∙ sym (map-append number l.numbers (z ∷ []));
   follows = subst (λ ds. Follows ds text (l.numbers ++ z ∷ []) after) (sym (ap param_dues (take_next ps i p there) ∙ dues_split (take i ps) (p ∷ [])))
-    (follows_both (param_dues (take i ps)) (param_dues (p ∷ [])) text rest l.numbers (z ∷ []) after l.follows f);
+      (follows_both (param_dues (take i ps)) (param_dues (p ∷ [])) text rest l.numbers (z ∷ []) after l.follows f);
 }
 
 pub lines_stop : (ps : List Param) (i : ℕ) (p : Param) (text rest : List ℕ) (vals : List Tree) (e : Stop) → LinesCame ps i text vals rest → slice_get ps i ≡ Some p

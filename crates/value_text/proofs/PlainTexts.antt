@@ -142,7 +142,7 @@ module _ (o : Operation) (h : IsPlainOperation o) where
         readable = plain_readable o h zs many;
         rest = rest;
         tokens = subst (λ (l : List Token). Begins [] text l rest) (ap (map token_of) (sym (plain_pieces o h zs many)))
-          (follows_begins [] (dues_of o) text zs rest refl (no_commas o) f).0;
+            (follows_begins [] (dues_of o) text zs rest refl (no_commas o) f).0;
         ended = ended;
       }
 

@@ -124,7 +124,7 @@ head_lines n lines =
     ap (λ u. codes "values 1\nop " ++ u) (append_assoc n (codes " in\n") lines ∙ ap (λ u. n ++ (codes " in\n" ++ u)) (sym (append-nil lines)))
 
 -- the text of numbers
-text_is : (o : Operation) (zs : List ℤ) → IsPlainOperation o
+pub text_is : (o : Operation) (zs : List ℤ) → IsPlainOperation o
     → joined (codes "values 1\nop " ∷ o.name ∷ codes " in\n" ∷ []) ++ number_lines o.params zs
     ≡ graph_text (record { table = basic_types; op = o; side = side.In; given = None }) (plain_graph zs)
 text_is o zs h =

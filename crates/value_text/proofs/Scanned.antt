@@ -129,6 +129,7 @@ no_number [] h none = cc
 no_number (c ∷ cs) h none = (λ e. cc, λ t after u s. by t after u s) where
   o : (is_letter c ≡ false) × (is_mark c ≡ false) × (c ≢ 34) × (c ≢ 64) × (c ≢ 45)
   o = other_octet c h
+
   by : (t : Token) (after : List ℕ) → is_uuid t ≡ false → Spells (c ∷ cs) t after → ⊥
   by (Word []) after u s = cc
   by (Word (d ∷ ds)) after u s =

@@ -5,12 +5,15 @@
 #![tactic(auto)]
 
 mod fault;
+pub mod laws;
 mod lexeme;
 mod numbers;
 mod octets;
 mod position;
 mod printing;
 mod reading;
+#[cfg(test)]
+mod reading_tests;
 mod steps;
 mod stop;
 mod strings;

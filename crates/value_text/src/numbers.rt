@@ -39,10 +39,7 @@ fn all_digits(octets: &[u8]) -> bool
 fn is_number(run: &[u8]) -> bool
     ensures { result ≡ number_stands run.now }
 {
-    !run.is_empty()
-        && !has_leading_zero(run)
-        && run.len() <= DIGIT_LIMIT
-        && all_digits(run)
+    !run.is_empty() && !has_leading_zero(run) && run.len() <= DIGIT_LIMIT && all_digits(run)
 }
 
 /// The number that a run writes, if it writes one.

@@ -88,13 +88,13 @@ pub(crate) fn name<'a>(text: &'a [u8], wanted: &[u8]) -> Result<&'a [u8], Stop>
     ensures ok { IfOk result (λ rest. IsCut false text.now (Word wanted.now) rest.now) }
     ensures err { IfErr result (λ e. MismatchUnless (Exactly (Name wanted.now)) text.now e) }
 {
-    let text = skip_blanks(text);
-    let (lexeme, rest) = first(text);
+    let here = skip_blanks(text);
+    let (lexeme, rest) = first(here);
     if is_same(lexeme, Lexeme::Word(wanted)) {
         return Ok(rest);
     }
     Err(Stop::At {
-        left: text.len(),
+        left: here.len(),
         reason: why_no_name(lexeme),
     })
 }

@@ -59,7 +59,7 @@ fn operations(alloc: Global) -> Result<Operations, Memory>
 
 // interface t { void add([in] long a, [in] short b, [in] hyper c); }
 #[tactic(auto, using(nd_graph::proofs::WorkedFit::legal, nd_graph::proofs::WorkedFit::plain))]
-fn interface(alloc: Global) -> Result<Interface, Memory>
+pub(crate) fn interface(alloc: Global) -> Result<Interface, Memory>
     ensures plain { IfOk result (λ i. IsPlainInterface i.types i.operations) }
     ensures types { IfOk result (λ i. i.types ≡ basic_types) }
     ensures operations { IfOk result (λ i. i.operations ≡ add ∷ []) }

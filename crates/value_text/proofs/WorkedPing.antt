@@ -1,0 +1,26 @@
+-- The worked example without parameters is plain.
+use Rattle.std.proofs.Common.{◌≡◌, suc, zero, [], ◌∷◌, refl, arith, lit≤}
+use Rattle.std.specs.Prelude.{All}
+use Rattle.nd_types.specs.Kinds.{basic_types}
+use Rattle.nd_types.specs.Legal.{IsLegal}
+use Rattle.nd_types.specs.Plain.{IsPlainOperation, IsPlainInterface}
+use Rattle.nd_types.proofs.PlainLaws.{plain_is_legal}
+use Rattle.value_text.specs.WorkedPing.{ping}
+
+ping_is_plain : IsPlainOperation ping
+ping_is_plain = record {
+  params = λ k d lt. absurd (omega (arith, lt));
+  no_result = refl;
+  few = lit≤ tt;
+  distinct = λ i j d low high e. absurd (omega (arith, low, high));
+}
+
+all_plain : All IsPlainOperation (ping ∷ [])
+all_plain zero d lt = ping_is_plain
+all_plain (suc k) d lt = absurd (omega (arith, lt))
+
+pub plain : IsPlainInterface basic_types (ping ∷ [])
+plain = record { basic = refl; plain = all_plain; few = lit≤ tt; distinct = λ i j d low high e. absurd (omega (arith, low, high)) }
+
+pub legal : IsLegal basic_types (ping ∷ [])
+legal = plain_is_legal basic_types (ping ∷ []) plain
