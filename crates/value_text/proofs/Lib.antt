@@ -15,3 +15,5 @@ pub mod PlainReading
 pub mod WorkedPing
 pub mod OneFault
 pub mod PrintedReads
+pub mod Tested
+pub mod WorkedTexts

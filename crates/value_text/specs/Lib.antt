@@ -10,3 +10,4 @@ pub mod Scan
 pub mod Dues
 pub mod WorkedPing
 pub mod PlainSide
+pub mod Examples

@@ -4,6 +4,7 @@
 //! line and column.
 #![tactic(auto)]
 
+pub mod examples;
 mod fault;
 pub mod laws;
 mod lexeme;
