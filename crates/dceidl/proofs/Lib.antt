@@ -5,7 +5,6 @@ pub mod Rows
 pub mod Statuses
 pub mod Sound
 pub mod SoundDecode
-pub mod PlainTexts
 pub mod WholeMisfits
 pub mod SoundEncode
 pub mod RoundTrip

@@ -1,5 +1,5 @@
 -- What decoding gives back of what encoding wrote.
-use Rattle.std.proofs.Common.{◌≡◌, ℕ, ℤ, List, [], ◌∷◌, length, map, refl, sym, ◌∙◌, ap, ap₂, subst}
+use Rattle.std.proofs.Common.{◌≡◌, ℕ, ℤ, List, [], ◌∷◌, ◌≤◌, length, map, refl, sym, ◌∙◌, ap, ap₂, subst}
 use Rattle.nd_base.specs.declared.octets.Order.{Order}
 use Rattle.nd_types.specs.declared.types.Primitive.{Primitive}
 use Rattle.nd_graph.specs.declared.value.Graph.{Graph}
@@ -10,8 +10,13 @@ use Rattle.nd_grammar.specs.Represents.{Represents}
 use Rattle.nd_grammar.specs.Plain.{IsPlain, number, plain_graph}
 use Rattle.nd_grammar.proofs.PlainChosen.{chosen_read, chosen_represents}
 use Rattle.nd_grammar.proofs.PlainGraphs.{conforming_numbers}
+use Rattle.value_text.specs.declared.TheConstants.{TEXT_LIMIT}
+use Rattle.value_text.specs.PlainSide.{IsPlainSide, HasWordNames}
+use Rattle.value_text.specs.Reads.{ReadsAs}
 use Rattle.value_text.specs.Printed.{IsText}
 use Rattle.value_text.specs.Whole.{graph_text}
+use Rattle.value_text.proofs.OneFault.{one_graph}
+use Rattle.value_text.proofs.PrintedReads.{printed_reads}
 use Rattle.dceidl.specs.Decode.{IsDecoding}
 use Rattle.dceidl.specs.Encode.{IsEncoding}
 use Rattle.dceidl.proofs.SoundDecode.{whole_begins}
@@ -61,3 +66,19 @@ module _ (w : Setting) (order : Order) (ps : List Primitive) (plain : IsPlain w 
   same_text made d printed =
       let (zs, numbers, range, many) = conforming_numbers w e.graph ps plain.plain e.conforms in
       text_of_numbers w zs made text (subst (λ g. IsText w g made) numbers (given_back made d)) (subst (λ g. IsText w g text) numbers printed)
+
+-- what is encoded of a text that decoding gave represents the graph that was decoded, in any order
+module _ (w : Setting) (order : Order) (ps : List Primitive) (plain : IsPlain w ps) (side : IsPlainSide w) (words : HasWordNames w)
+    (octets text : List ℕ) (d : IsDecoding w order octets text) where
+  canonical_is : d.is_text.canonical ≡ d.graph
+  canonical_is =
+      let (zs, numbers, range, many) = conforming_numbers w d.graph ps plain.plain d.conforms in
+      same_numbers zs d.is_text.canonical (subst (λ g. Same g d.is_text.canonical) numbers d.is_text.is_canonical.same) ∙ sym numbers
+
+  pub reads_back : length text ≤ TEXT_LIMIT → ReadsAs w text d.graph
+  reads_back short = subst (ReadsAs w text) canonical_is (printed_reads w d.graph text d.is_text side words d.conforms short)
+
+  pub represented_again : (other : Order) (chunk : ℕ) (made : List ℕ) → IsEncoding w other chunk text made → Represents w other made d.graph
+  represented_again other chunk made e =
+      subst (Represents w other made) (one_graph w text e.graph d.graph side e.reads (reads_back e.reads.short))
+      (represented w other ps plain chunk text made e)

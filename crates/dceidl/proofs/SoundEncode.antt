@@ -1,10 +1,10 @@
 -- What `encode` comes to, from how the text of the input settles it.
-use Rattle.std.proofs.Common.{◌≡◌, ℕ, List, None, ◌∙◌, ap, ap₂, subst, inl, inr, ◌⊎◌}
+use Rattle.std.specs.List.{slice_get}
+use Rattle.std.proofs.Common.{◌≡◌, ℕ, List, Some, refl, ◌∙◌, ap, ap₂, subst, inl, inr, ◌⊎◌}
 use Rattle.nd_base.specs.declared.octets.Order.{Order}
 use Rattle.nd_types.specs.declared.interface.Interface.{Interface}
 use Rattle.nd_types.specs.declared.types.Operation.{Operation}
-use Rattle.nd_types.specs.declared.types.Side.TheVariants as side
-use Rattle.nd_types.specs.Plain.{IsPlainOperation}
+use Rattle.nd_types.specs.Plain.{IsPlainInterface}
 use Rattle.nd_graph.specs.declared.item.Home.{Home}
 use Rattle.nd_graph.specs.declared.misfit.MisfitReason.{MisfitReason}
 use Rattle.nd_graph.specs.declared.value.Graph.{Graph}
@@ -15,9 +15,10 @@ use Rattle.nd_graph.proofs.Misfits.{misfit_is_no_fit, one_first_misfit}
 use Rattle.nd_grammar.proofs.PlainSides.{plain_operation}
 use Rattle.plain_ndr.specs.Decoding.{inputs_of}
 use Rattle.value_text.specs.declared.fault.TextReason.{TextReason}
+use Rattle.value_text.specs.PlainSide.{IsPlainSide}
 use Rattle.value_text.specs.Reads.{ReadsAs, IsTextFault}
 use Rattle.value_text.proofs.OneText.{never_both}
-use Rattle.value_text.proofs.PlainGraphs.{side_of}
+use Rattle.value_text.proofs.OneFault.{one_graph, one_place, one_reason}
 use Rattle.dceidl.specs.declared.task.Task.TheVariants.{Encode}
 use Rattle.dceidl.specs.declared.refusal.Refusal.{Refusal}
 use Rattle.dceidl.specs.declared.refusal.Refusal.TheVariants.{Memory, Absent, FileFailed, NotBuilt, NoOperation, ReadFault, BadOctets, BadText, BadValue}
@@ -25,32 +26,19 @@ use Rattle.dceidl.specs.Outside.{FilesSeen, SinkSeen, Got}
 use Rattle.dceidl.specs.Encode.{IsTextCause, IsMisfitAt, home_path}
 use Rattle.dceidl.specs.Lines.{status_of, line_of}
 use Rattle.dceidl.specs.Rows.{IsAccepted, Refuses}
-use Rattle.dceidl.proofs.PlainTexts.{one_graph_read, one_text_fault}
 use Rattle.dceidl.proofs.Sound.{Settled, settled_done, settled_refused, settled_wanting, told_as}
 
--- of an operation that is accepted, a text reads as one graph or has one fault
-module _ (f : FilesSeen) (idl op : List ℕ) (i : Interface) (n : ℕ) (o : Operation) (accepted : IsAccepted f idl op i n o) where
-  plain : IsPlainOperation o
-  plain = plain_operation i.types i.operations n o accepted.plain.plain accepted.named.is_there
+-- the [in] side of an operation of a plain interface is plain
+pub plain_side_of : (i : Interface) (n : ℕ) (o : Operation) → IsPlainInterface i.types i.operations → slice_get i.operations n ≡ Some o → IsPlainSide (inputs_of i o)
+plain_side_of i n o plain there =
+    record { basic = plain.basic; plain = plain_operation i.types i.operations n o plain there; inputs = refl; alone = refl }
 
-  side_is : inputs_of i o ≡ side_of o
-  side_is = ap (λ t. record { table = t; op = o; side = side.In; given = None }) accepted.plain.plain.basic
-
-  pub one_graph_of : (text : List ℕ) (g h : Graph) → ReadsAs (inputs_of i o) text g → ReadsAs (inputs_of i o) text h → g ≡ h
-  one_graph_of text g h r s = one_graph_read o plain text g h (subst (λ w. ReadsAs w text g) side_is r) (subst (λ w. ReadsAs w text h) side_is s)
-
-  pub one_fault_of : (text : List ℕ) (line line' column column' : ℕ) (why why' : TextReason)
-      → IsTextFault (inputs_of i o) text line column why → IsTextFault (inputs_of i o) text line' column' why'
-      → (line ≡ line') × (column ≡ column') × (why ≡ why')
-  one_fault_of text line line' column column' why why' a b =
-      one_text_fault o plain text line line' column column' why why'
-      (subst (λ w. IsTextFault w text line column why) side_is a) (subst (λ w. IsTextFault w text line' column' why') side_is b)
+pub side_of : (f : FilesSeen) (idl op : List ℕ) (i : Interface) (n : ℕ) (o : Operation) → IsAccepted f idl op i n o → IsPlainSide (inputs_of i o)
+side_of f idl op i n o accepted = plain_side_of i n o accepted.plain.plain accepted.named.is_there
 
 module _ (notes : SinkSeen) (order : Order) (chunk : ℕ) (idl op : List ℕ) (w : Setting) (text : List ℕ) (status : ℕ)
     (settled : Settled notes (Encode order chunk) idl op w text status)
-    (one_graph : (g h : Graph) → ReadsAs w text g → ReadsAs w text h → g ≡ h)
-    (one_fault : (line line' column column' : ℕ) (why why' : TextReason) → IsTextFault w text line column why → IsTextFault w text line' column' why'
-    → (line ≡ line') × (column ≡ column') × (why ≡ why')) where
+    (side : IsPlainSide w) where
   -- a text that reads as a graph that conforms is encoded
   pub encoded : (g : Graph) → ReadsAs w text g → Conforms w g → (status ≡ 0) ⊎ (status ≡ 5)
   encoded g reads conforms = by settled
@@ -59,7 +47,7 @@ module _ (notes : SinkSeen) (order : Order) (chunk : ℕ) (idl op : List ℕ) (w
       by_cause Memory cause is = inr is
       by_cause (BadText line column why) fault is = absurd (never_both w text g line column why reads fault)
       by_cause (BadValue path reason) bad is =
-          absurd (misfit_is_no_fit w bad.graph _ bad.misfit.first (subst (Conforms w) (one_graph g bad.graph reads bad.reads) conforms))
+          absurd (misfit_is_no_fit w bad.graph _ bad.misfit.first (subst (Conforms w) (one_graph w text g bad.graph side reads bad.reads) conforms))
       by_cause Absent cause is = absurd cause
       by_cause FileFailed cause is = absurd cause
       by_cause NotBuilt cause is = absurd cause
@@ -80,9 +68,10 @@ module _ (notes : SinkSeen) (order : Order) (chunk : ℕ) (idl op : List ℕ) (w
           → Refuses idl op notes status (BadText line column why)
       by_cause Memory cause is told = inr is
       by_cause (BadText line' column' why') other is told =
-          let same = one_fault line' line column' column why' why other fault in
+          let place = one_place w text line' line column' column why' why other fault in
+          let reason = one_reason w text line' line column' column why' why side other fault in
           told_as notes idl op status _ _ is told
-          (ap (λ l. BadText l column' why') same.0 ∙ ap₂ (λ c y. BadText line c y) same.1 same.2)
+          (ap (λ l. BadText l column' why') place.0 ∙ ap₂ (λ c y. BadText line c y) place.1 reason)
       by_cause (BadValue path reason) bad is told = absurd (never_both w text bad.graph line column why bad.reads fault)
       by_cause Absent cause is told = absurd cause
       by_cause FileFailed cause is told = absurd cause
@@ -113,7 +102,7 @@ module _ (notes : SinkSeen) (order : Order) (chunk : ℕ) (idl op : List ℕ) (w
       by_cause (BadText line column other) fault is told = absurd (never_both w text g line column other reads fault)
       by_cause (BadValue path reason) bad is told =
           told_as notes idl op status _ _ is told
-          (by_misfit path reason (subst (λ h. IsMisfitAt w h path reason) (one_graph bad.graph g bad.reads reads) bad.misfit))
+          (by_misfit path reason (subst (λ h. IsMisfitAt w h path reason) (one_graph w text bad.graph g side bad.reads reads) bad.misfit))
       by_cause Absent cause is told = absurd cause
       by_cause FileFailed cause is told = absurd cause
       by_cause NotBuilt cause is told = absurd cause
@@ -122,6 +111,6 @@ module _ (notes : SinkSeen) (order : Order) (chunk : ℕ) (idl op : List ℕ) (w
       by_cause (BadOctets place reason) cause is told = absurd cause
 
       by : Settled notes (Encode order chunk) idl op w text status → Refuses idl op notes status (BadValue (home_path w home) why)
-      by (settled_done made is e) = absurd (misfit_is_no_fit w g _ first (subst (Conforms w) (one_graph e.graph g e.reads reads) e.conforms))
+      by (settled_done made is e) = absurd (misfit_is_no_fit w g _ first (subst (Conforms w) (one_graph w text e.graph g side e.reads reads) e.conforms))
       by (settled_refused r cause is told) = by_cause r cause is told
       by (settled_wanting is) = inr is

@@ -13,6 +13,7 @@ use Rattle.dceidl.specs.declared.refusal.Refusal.TheVariants.{Memory, Absent, Fi
 use Rattle.dceidl.specs.declared.refusal.OctetsFault.{OctetsFault}
 use Rattle.dceidl.specs.declared.refusal.OctetsFault.TheVariants.{Refused, Trailing}
 
+-- the status of a refusal
 abbrev pub status_of : Refusal → ℕ
 status_of (BadOctets place why) = 1
 status_of (BadText line column reason) = 1
@@ -24,6 +25,7 @@ status_of NoOperation = 6
 status_of Absent = 7
 status_of FileFailed = 9
 
+-- the name of a reason why octets are refused
 abbrev pub reason_name : Reason → List ℕ
 reason_name reason.Truncated = codes "Truncated"
 reason_name reason.TooLong = codes "TooLong"
@@ -37,6 +39,7 @@ reason_name reason.NoArm = codes "NoArm"
 reason_name reason.OtherType = codes "OtherType"
 reason_name (reason.Disagrees wanted found) = codes "Disagrees"
 
+-- the name of a reason why a text is refused
 abbrev pub text_reason_name : TextReason → List ℕ
 text_reason_name text.TooLong = codes "TooLong"
 text_reason_name text.BadToken = codes "BadToken"
@@ -45,6 +48,7 @@ text_reason_name text.OtherName = codes "OtherName"
 text_reason_name text.OutOfOrder = codes "OutOfOrder"
 text_reason_name text.Unnamed = codes "Unnamed"
 
+-- the name of a reason why a value is refused
 abbrev pub misfit_name : MisfitReason → List ℕ
 misfit_name misfit.Shape = codes "Shape"
 misfit_name misfit.Range = codes "Range"
@@ -62,14 +66,17 @@ misfit_name (misfit.Disagrees wanted found) = codes "Disagrees"
 abbrev pub disagreement : ℤ → ℤ → List ℕ
 disagreement wanted found = joined (codes "Disagrees wanted " ∷ signed_decimal wanted ∷ codes " found " ∷ signed_decimal found ∷ [])
 
+-- a reason why octets are refused, as a line tells it
 abbrev pub reason_text : Reason → List ℕ
 reason_text (reason.Disagrees wanted found) = disagreement wanted found
 reason_text reason = reason_name reason
 
+-- a reason why a value is refused, as a line tells it
 abbrev pub misfit_text : MisfitReason → List ℕ
 misfit_text (misfit.Disagrees wanted found) = disagreement wanted found
 misfit_text reason = misfit_name reason
 
+-- why octets are refused, as a line tells it
 abbrev pub fault_text : OctetsFault → List ℕ
 fault_text (Refused reason) = reason_text reason
 fault_text Trailing = codes "Trailing"

@@ -69,7 +69,7 @@ returns-clause-encoded g c order chunk idl op i n o text graph is nothing_failed
     (sound.settled _ _ _ _ (Encode order chunk) idl op _ nothing_failed (rows.ended _ _ _ _ (Encode order chunk) idl op _ c.args.words.now is
     (record { outcome = c.answer-outcome.result; caused = c.answer-outcome.ensures; delivered = c.deliver.ensures }))
     i n o text accepted input)
-    (encoding.one_graph_of _ idl op i n o accepted text) (encoding.one_fault_of _ idl op i n o accepted text) graph reads conforms
+    (encoding.side_of _ idl op i n o accepted) graph reads conforms
 
 pub returns-clause-bad_text : goal.returns-clause-bad_text
 returns-clause-bad_text g c order chunk idl op i n o text line column why is nothing_failed accepted input fault =
@@ -77,7 +77,7 @@ returns-clause-bad_text g c order chunk idl op i n o text line column why is not
     (sound.settled _ _ _ _ (Encode order chunk) idl op _ nothing_failed (rows.ended _ _ _ _ (Encode order chunk) idl op _ c.args.words.now is
     (record { outcome = c.answer-outcome.result; caused = c.answer-outcome.ensures; delivered = c.deliver.ensures }))
     i n o text accepted input)
-    (encoding.one_graph_of _ idl op i n o accepted text) (encoding.one_fault_of _ idl op i n o accepted text) line column why fault
+    (encoding.side_of _ idl op i n o accepted) line column why fault
 
 pub returns-clause-bad_value : goal.returns-clause-bad_value
 returns-clause-bad_value g c order chunk idl op i n o text graph home node why is nothing_failed accepted input reads first =
@@ -85,4 +85,4 @@ returns-clause-bad_value g c order chunk idl op i n o text graph home node why i
     (sound.settled _ _ _ _ (Encode order chunk) idl op _ nothing_failed (rows.ended _ _ _ _ (Encode order chunk) idl op _ c.args.words.now is
     (record { outcome = c.answer-outcome.result; caused = c.answer-outcome.ensures; delivered = c.deliver.ensures }))
     i n o text accepted input)
-    (encoding.one_graph_of _ idl op i n o accepted text) (encoding.one_fault_of _ idl op i n o accepted text) graph home node why reads first
+    (encoding.side_of _ idl op i n o accepted) graph home node why reads first
