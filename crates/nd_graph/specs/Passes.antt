@@ -3,6 +3,7 @@
 -- `w` is a setting, `g` a graph, `h` a home, `n` a node's number, `r` a reason or a root, `m` a misfit in a home, `t` a type's
 -- number, `l` a label, `ks` are children, `i` is a root's index, `c` a cell's number, `v` a value, `x` a cell.
 use Rattle.std.specs.Prelude.{◌≡◌, ℕ, ◌+◌, ◌<◌, ◌≤◌, length, List, [], ◌∷◌, Option, Some, None}
+use Rattle.nd_types.specs.declared.types.TypeDef.{TypeDef}
 use Rattle.nd_types.specs.Table.{Table, type_at}
 use Rattle.nd_types.specs.Walk.{NamedRoot}
 use Rattle.nd_graph.specs.declared.value.Graph.{Graph}
@@ -13,10 +14,10 @@ use Rattle.nd_graph.specs.declared.misfit.MisfitReason.TheVariants as misfit
 use Rattle.nd_graph.specs.declared.misfit.Misfit.{Misfit}
 use Rattle.nd_graph.specs.declared.misfit.Misfit.TheVariants as answer
 use Rattle.nd_graph.specs.declared.local.NodeMisfit.{NodeMisfit}
-use Rattle.nd_graph.specs.Tree.{Tree, Trees, node, none, more, node_count, Referent}
+use Rattle.nd_graph.specs.Tree.{Tree, Trees, Label, node, none, more, node_count, Referent}
 use Rattle.nd_graph.specs.Setting.{Setting, cell_home}
 use Rattle.nd_graph.specs.Nodes.{TypedNode, child_types}
-use Rattle.nd_graph.specs.Misfit.{misfit_of}
+use Rattle.nd_graph.specs.Misfit.{misfit_by, misfit_of}
 use Rattle.nd_graph.specs.Conforms.{Reached}
 use Rattle.nd_graph.specs.FirstMisfit.{MisfitAt, or_later, IsFirstUnreached}
 
@@ -37,6 +38,14 @@ AreReached w g = (c : ℕ) → 0 < c → c ≤ length g.cells → Reached w g c
 -- a node of a type that no agreements govern
 abbrev pub lone_node : ℕ → ℕ → Tree → TypedNode
 lone_node n t (node l ks) = record { node = n; of = t; agreements = []; label = l; kids = ks }
+
+-- why a value cannot stand as a node of a type, or none
+abbrev pub misfit_in : Table → Graph → Option TypeDef → Tree → Option MisfitReason
+misfit_in table g d (node l ks) = misfit_by table g d l ks
+
+-- what a value says beside its children
+abbrev pub label_in : Tree → Label
+label_in (node l ks) = l
 
 -- the first misfit, if there is one, else the later
 abbrev pub or_next : Option NodeMisfit → Option NodeMisfit → Option NodeMisfit

@@ -14,8 +14,9 @@ ghost use Rattle.nd_graph.specs.Fitting.{setting_of};
 ghost use Rattle.nd_graph.specs.FirstMisfit.{first_local};
 ghost use Rattle.nd_graph.specs.Passes.{Tells, lone_node, first_in, first_in_home, first_in_roots, first_in_cells};
 
+use crate::node::single;
 use crate::{CellId, Graph, Home, Misfit, MisfitReason, Val};
-use nd_types::{Interface, Prim, Side, TypeDef, TypeId, Types};
+use nd_types::{Interface, Side, TypeId, Types};
 
 // A misfit in a home: the number of its node, and why.
 #[derive(Clone, Copy, Debug, PartialEq, Eq)]
@@ -109,83 +110,5 @@ fn value(types: &Types, graph: &Graph, of: TypeId, val: &Val) -> Option<NodeMisf
     match single(types, graph, of, val) {
         Some(reason) => Some(NodeMisfit { node: 0, reason }),
         None => None,
-    }
-}
-
-// Why a node has a misfit by itself, if it has one.
-fn single(types: &Types, graph: &Graph, of: TypeId, val: &Val) -> Option<MisfitReason>
-    requires basic { types.now ≡ basic_types }
-    ensures { result ≡ misfit_of types.now graph.now (lone_node 0 of.0 (tree_of val.now)) }
-{
-    match types.get(of.0 as usize) {
-        Some(TypeDef::Prim(prim)) => primitive(*prim, val),
-        Some(TypeDef::Context) => context(val),
-        _ => Some(MisfitReason::Shape),
-    }
-}
-
-// The same of a node that is to be a primitive.
-fn primitive(prim: Prim, val: &Val) -> Option<MisfitReason>
-    ensures { (table : Table) (g : GraphValue) (t : ℕ) → type_at table t ≡ Some (def.Prim prim)
-        → result ≡ misfit_of table g (lone_node 0 t (tree_of val.now)) }
-{
-    match val {
-        Val::Num(number) if is_in_range(prim, *number) => None,
-        Val::Num(_) => Some(MisfitReason::Range),
-        _ => Some(MisfitReason::Shape),
-    }
-}
-
-// The same of a node that is to be a context handle.
-fn context(val: &Val) -> Option<MisfitReason>
-    ensures { (table : Table) (g : GraphValue) (t : ℕ) → type_at table t ≡ Some def.Context
-        → result ≡ misfit_of table g (lone_node 0 t (tree_of val.now)) }
-{
-    match val {
-        Val::Context { .. } => None,
-        _ => Some(MisfitReason::Shape),
-    }
-}
-
-// Whether a primitive can hold a number.
-fn is_in_range(prim: Prim, number: i128) -> bool
-    ensures { result ≡ in_range prim number }
-{
-    least(prim) <= number && number <= greatest(prim)
-}
-
-// The least value of a primitive.
-fn least(prim: Prim) -> i128
-    ensures { result ≡ least prim }
-{
-    match prim {
-        Prim::Small => -0x80,
-        Prim::Short => -0x8000,
-        Prim::Long => -0x8000_0000,
-        Prim::Hyper => -0x8000_0000_0000_0000,
-        Prim::Boolean
-        | Prim::Char
-        | Prim::Byte
-        | Prim::UnsignedSmall
-        | Prim::UnsignedShort
-        | Prim::UnsignedLong
-        | Prim::UnsignedHyper => 0,
-    }
-}
-
-// The greatest value of a primitive.
-fn greatest(prim: Prim) -> i128
-    ensures { result ≡ greatest prim }
-{
-    match prim {
-        Prim::Boolean => 1,
-        Prim::Char | Prim::Byte | Prim::UnsignedSmall => 0xff,
-        Prim::Small => 0x7f,
-        Prim::Short => 0x7fff,
-        Prim::UnsignedShort => 0xffff,
-        Prim::Long => 0x7fff_ffff,
-        Prim::UnsignedLong => 0xffff_ffff,
-        Prim::Hyper => 0x7fff_ffff_ffff_ffff,
-        Prim::UnsignedHyper => 0xffff_ffff_ffff_ffff,
     }
 }
