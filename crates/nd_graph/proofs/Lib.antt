@@ -7,6 +7,7 @@ pub mod LocalPass
 pub mod Misfits
 pub mod NodeFacts
 pub mod NodeTests
+pub mod NodeWalk
 pub mod Orderly
 pub mod PlainFit
 pub mod Told

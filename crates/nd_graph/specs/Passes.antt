@@ -2,7 +2,7 @@
 -- make no misfit of a node by itself.
 -- `w` is a setting, `g` a graph, `h` a home, `n` a node's number, `r` a reason or a root, `m` a misfit in a home, `t` a type's
 -- number, `l` a label, `ks` are children, `i` is a root's index, `c` a cell's number, `v` a value, `x` a cell.
-use Rattle.std.specs.Prelude.{◌≡◌, ℕ, ◌+◌, ◌<◌, ◌≤◌, length, List, [], ◌∷◌, Option, Some, None}
+use Rattle.std.specs.Prelude.{◌≡◌, ℕ, ◌+◌, ◌<◌, ◌≤◌, length, List, [], ◌∷◌, Option, Some, None, Result, Ok, Err}
 use Rattle.nd_types.specs.declared.types.TypeDef.{TypeDef}
 use Rattle.nd_types.specs.Table.{Table, type_at}
 use Rattle.nd_types.specs.Walk.{NamedRoot}
@@ -13,7 +13,7 @@ use Rattle.nd_graph.specs.declared.misfit.MisfitReason.{MisfitReason}
 use Rattle.nd_graph.specs.declared.misfit.MisfitReason.TheVariants as misfit
 use Rattle.nd_graph.specs.declared.misfit.Misfit.{Misfit}
 use Rattle.nd_graph.specs.declared.misfit.Misfit.TheVariants as answer
-use Rattle.nd_graph.specs.declared.local.NodeMisfit.{NodeMisfit}
+use Rattle.nd_graph.specs.declared.nodes.NodeMisfit.{NodeMisfit}
 use Rattle.nd_graph.specs.Tree.{Tree, Trees, Label, node, none, more, node_count, Referent}
 use Rattle.nd_graph.specs.Setting.{Setting, cell_home}
 use Rattle.nd_graph.specs.Nodes.{TypedNode, child_types}
@@ -47,6 +47,10 @@ misfit_in table g d (node l ks) = misfit_by table g d l ks
 abbrev pub label_in : Tree → Label
 label_in (node l ks) = l
 
+-- the children of a value
+abbrev pub kids_in : Tree → Trees
+kids_in (node l ks) = ks
+
 -- the first misfit, if there is one, else the later
 abbrev pub or_next : Option NodeMisfit → Option NodeMisfit → Option NodeMisfit
 or_next (Some m) later = Some m
@@ -64,6 +68,12 @@ first_in table g [] n (more v vs) = None
 first_in table g (t ∷ types) n (more (node l ks) vs) =
     or_next (at_number n (misfit_of table g (lone_node n t (node l ks))))
     (or_next (first_in table g (child_types (type_at table t) l ks) (n + 1) ks) (first_in table g types (n + 1 + node_count ks) vs))
+
+-- what a search through values of these types gives: the number behind their nodes, where none has a misfit by itself, else the
+-- first that has one
+abbrev pub Searched : Table → Graph → List ℕ → ℕ → Trees → Result ℕ NodeMisfit → Type 0
+Searched table g types n vs (Ok m) = (first_in table g types n vs ≡ None) × (m ≡ n + node_count vs)
+Searched table g types n vs (Err e) = first_in table g types n vs ≡ Some e
 
 -- a misfit in this home
 abbrev pub at_home : Home → Option NodeMisfit → Option MisfitAt

@@ -236,7 +236,7 @@ fn pipe(val: &Val) -> Option<MisfitReason>
 }
 
 // The arm that a tag selects: the one with that label, or the default, if any.
-fn selected<'a>(arms: &'a Arms, default: &'a Option<Arm>, tag: i128) -> Option<&'a Arm>
+pub(crate) fn selected<'a>(arms: &'a Arms, default: &'a Option<Arm>, tag: i128) -> Option<&'a Arm>
     ensures { option_copied result ≡ selected arms.now default.now tag }
 {
     for at in 0..arms.len() {
