@@ -56,9 +56,24 @@ not_binary_end = refl
 
 level_low : (o : BinaryOperator) → leb 1 (level o) ≡ true
 level_low o = elim o as (λ o. leb 1 (level o) ≡ true) [
-  | binary.LogicalOr ↦ refl | binary.LogicalAnd ↦ refl | binary.Or ↦ refl | binary.ExclusiveOr ↦ refl | binary.And ↦ refl | binary.Equal ↦ refl
-  | binary.NotEqual ↦ refl | binary.Less ↦ refl | binary.Greater ↦ refl | binary.LessEqual ↦ refl | binary.GreaterEqual ↦ refl | binary.ShiftLeft ↦ refl
-  | binary.ShiftRight ↦ refl | binary.Add ↦ refl | binary.Subtract ↦ refl | binary.Multiply ↦ refl | binary.Divide ↦ refl | binary.Remainder ↦ refl
+  | binary.LogicalOr ↦ refl
+  | binary.LogicalAnd ↦ refl
+  | binary.Or ↦ refl
+  | binary.ExclusiveOr ↦ refl
+  | binary.And ↦ refl
+  | binary.Equal ↦ refl
+  | binary.NotEqual ↦ refl
+  | binary.Less ↦ refl
+  | binary.Greater ↦ refl
+  | binary.LessEqual ↦ refl
+  | binary.GreaterEqual ↦ refl
+  | binary.ShiftLeft ↦ refl
+  | binary.ShiftRight ↦ refl
+  | binary.Add ↦ refl
+  | binary.Subtract ↦ refl
+  | binary.Multiply ↦ refl
+  | binary.Divide ↦ refl
+  | binary.Remainder ↦ refl
 ]
 
 pub binary_within : (t : Text) (i : ℕ) (o : BinaryOperator) → found binary_operators (symbol_at t i) ≡ Some o → i < length t
@@ -84,19 +99,19 @@ module _ (start : ℕ) (t : Text) (i : ℕ) where
       ap (λ (b : Bool). cond b (cond (many_operators start t i) (Err (Passes Depth i)) (Ok (((lexeme_at t i).at, unary_of (symbol_at t i)), i + 1))) (Err (Syntax i))) (unary_none (symbol_at t i) h)
 
 not_equal : (m n : ℕ) → m ≢ n → eqb m n ≡ false
-not_equal m n h = elim (eqb_tells m n) as (λ _. eqb m n ≡ false) [ | inl e ↦ absurd (h e.1) | inr e ↦ e.0 ]
+not_equal m n h = elim (eqb_tells m n) as (λ _. eqb m n ≡ false) [ inl e ↦ absurd (h e.1) | inr e ↦ e.0 ]
 
 module _ (n start : ℕ) (t : Text) (i : ℕ) where
   pub binary_sign_none : found binary_operators (symbol_at t i) ≡ None → 1 ≤ n → binary_sign_read n start t i ≡ Err (Syntax i)
   binary_sign_none h low =
       ap (λ (b : Bool). cond b (cond (many_operators start t i) (Err (Passes Depth i)) (Ok (((lexeme_at t i).at, binary_of (symbol_at t i)), i + 1))) (Err (Syntax i)))
-        (ap (λ (m : ℕ). eqb m n) (level_none (symbol_at t i) h) ∙ not_equal 0 n (λ e. omega (arith, e, low)))
+      (ap (λ (m : ℕ). eqb m n) (level_none (symbol_at t i) h) ∙ not_equal 0 n (λ e. omega (arith, e, low)))
 
   module _ (o : BinaryOperator) (h : found binary_operators (symbol_at t i) ≡ Some o) where
     pub binary_sign_other : level o ≢ n → binary_sign_read n start t i ≡ Err (Syntax i)
     binary_sign_other other =
         ap (λ (b : Bool). cond b (cond (many_operators start t i) (Err (Passes Depth i)) (Ok (((lexeme_at t i).at, binary_of (symbol_at t i)), i + 1))) (Err (Syntax i)))
-          (ap (λ (m : ℕ). eqb m n) (sym (level_found (symbol_at t i) o h)) ∙ not_equal (level o) n other)
+        (ap (λ (m : ℕ). eqb m n) (sym (level_found (symbol_at t i) o h)) ∙ not_equal (level o) n other)
 
     same_level : level o ≡ n → eqb (symbol_level (symbol_at t i)) n ≡ true
     same_level e = eq-eqb (symbol_level (symbol_at t i)) n (sym (level_found (symbol_at t i) o h) ∙ e)

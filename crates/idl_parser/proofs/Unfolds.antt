@@ -87,7 +87,7 @@ module _ (start : ℕ) (t : Text) (unary : ℕ → Read Expr) (k i : ℕ) (e : E
   pub stops : symbol_level (symbol_at t m) ≢ 11 - k → level_read start t unary k i ≡ Ok (e, m)
   stops h = by_fuel b.fuel b.is where
     not_one : eqb (symbol_level (symbol_at t m)) (11 - k) ≡ false
-    not_one = elim (eqb_tells (symbol_level (symbol_at t m)) (11 - k)) as (λ _. eqb (symbol_level (symbol_at t m)) (11 - k) ≡ false) [ | inl eq ↦ absurd (h eq.1) | inr ne ↦ ne.0 ]
+    not_one = elim (eqb_tells (symbol_level (symbol_at t m)) (11 - k)) as (λ _. eqb (symbol_level (symbol_at t m)) (11 - k) ≡ false) [ inl eq ↦ absurd (h eq.1) | inr ne ↦ ne.0 ]
 
     by_fuel : (n : ℕ) → level_read start t unary k i ≡ behind start t unary k e n m → level_read start t unary k i ≡ Ok (e, m)
     by_fuel zero is = is

@@ -205,10 +205,7 @@ impl Parser<'_> {
     }
 
     /// A string behind a comma.
-    fn next_string(
-        &self,
-        at: usize,
-    ) -> Result<(Spelling, usize), Refusal>
+    fn next_string(&self, at: usize) -> Result<(Spelling, usize), Refusal>
         requires within { at ≤ length self.now }
         ensures gives { Gives (λ x. x) result (behind_read symbols.Comma self.now (spelled_read symbols.Quoted self.now) at) }
         ensures within { IfOk result (λ x. (at < x.1) × (x.1 ≤ length self.now)) }
@@ -219,10 +216,7 @@ impl Parser<'_> {
     }
 
     /// Strings with commas between.
-    pub(crate) fn strings(
-        &self,
-        at: usize,
-    ) -> Result<(Vec<Spelling>, usize), Refusal>
+    pub(crate) fn strings(&self, at: usize) -> Result<(Vec<Spelling>, usize), Refusal>
         requires within { at ≤ length self.now }
         ensures gives { Gives (λ v. v.items) result (commas_read self.now (spelled_read symbols.Quoted self.now) at) }
         ensures within { IfOk result (λ x. (at < x.1) × (x.1 ≤ length self.now)) }
@@ -299,12 +293,7 @@ impl Parser<'_> {
     }
 
     /// An expression behind a comma, inside attribute brackets.
-    fn next_value(
-        &self,
-        nesting: usize,
-        depth: usize,
-        at: usize,
-    ) -> Result<(Expr, usize), Refusal>
+    fn next_value(&self, nesting: usize, depth: usize, at: usize) -> Result<(Expr, usize), Refusal>
         requires within { at ≤ length self.now }
         requires shallow { depth ≤ 64 }
         ensures gives { Gives (seen_expr) result (behind_read symbols.Comma self.now (outer_read nesting true self.now depth) at) }

@@ -36,12 +36,7 @@ impl Parser<'_> {
 
     /// A bound that begins with an expression.
     #[tactic(auto, unfolding(idl_grammar::specs::Reading::range_read))]
-    fn range(
-        &self,
-        nesting: usize,
-        depth: usize,
-        at: usize,
-    ) -> Result<(Bound, usize), Refusal>
+    fn range(&self, nesting: usize, depth: usize, at: usize) -> Result<(Bound, usize), Refusal>
         requires within { at ≤ length self.now }
         requires shallow { depth ≤ 64 }
         ensures gives { Gives (seen_bound) result (range_read nesting self.now depth at) }
@@ -61,12 +56,7 @@ impl Parser<'_> {
 
     /// The bound of a dimension.
     #[tactic(auto, unfolding(idl_grammar::specs::Reading::bound_read))]
-    fn bound(
-        &self,
-        nesting: usize,
-        depth: usize,
-        at: usize,
-    ) -> Result<(Bound, usize), Refusal>
+    fn bound(&self, nesting: usize, depth: usize, at: usize) -> Result<(Bound, usize), Refusal>
         requires within { at ≤ length self.now }
         requires shallow { depth ≤ 64 }
         ensures gives { Gives (seen_bound) result (bound_read nesting self.now depth at) }
@@ -118,10 +108,7 @@ impl Parser<'_> {
     }
 
     /// The octets of the stars.
-    fn stars(
-        &self,
-        at: usize,
-    ) -> Result<(Vec<u32>, usize), Refusal>
+    fn stars(&self, at: usize) -> Result<(Vec<u32>, usize), Refusal>
         requires within { at ≤ length self.now }
         ensures gives { Gives (λ v. v.items) result (list_read (symbols.Star ∷ []) self.now (placed_read symbols.Star self.now) at) }
         ensures within { IfOk result (λ x. (at ≤ x.1) × (x.1 ≤ length self.now)) }

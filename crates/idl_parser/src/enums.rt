@@ -157,12 +157,7 @@ impl Parser<'_> {
 
     /// A label of a case.
     #[tactic(auto, unfolding(idl_grammar::specs::Reading::label_read))]
-    fn label(
-        &self,
-        nesting: usize,
-        depth: usize,
-        at: usize,
-    ) -> Result<(Label, usize), Refusal>
+    fn label(&self, nesting: usize, depth: usize, at: usize) -> Result<(Label, usize), Refusal>
         requires within { at ≤ length self.now }
         requires shallow { depth ≤ 64 }
         ensures gives { Gives (seen_label) result (label_read nesting self.now depth at) }
@@ -205,10 +200,7 @@ impl Parser<'_> {
 
     /// The discriminant of an encapsulated union.
     #[tactic(auto, unfolding(idl_grammar::specs::Reading::discriminant_read))]
-    fn discriminant(
-        &self,
-        at: usize,
-    ) -> Result<(Discriminant, usize), Refusal>
+    fn discriminant(&self, at: usize) -> Result<(Discriminant, usize), Refusal>
         requires within { at ≤ length self.now }
         ensures gives { Gives (λ x. x) result (discriminant_read self.now at) }
         ensures within { IfOk result (λ x. (at < x.1) × (x.1 ≤ length self.now)) }
@@ -220,10 +212,7 @@ impl Parser<'_> {
 
     /// A name, where one stands.
     #[tactic(auto, unfolding(idl_grammar::specs::Reading::maybe_name_read))]
-    fn maybe_name(
-        &self,
-        at: usize,
-    ) -> Result<(Option<Spelling>, usize), Refusal>
+    fn maybe_name(&self, at: usize) -> Result<(Option<Spelling>, usize), Refusal>
         requires within { at ≤ length self.now }
         ensures gives { Gives (λ x. x) result (maybe_name_read self.now at) }
         ensures within { IfOk result (λ x. (at ≤ x.1) × (x.1 ≤ length self.now)) }

@@ -176,10 +176,7 @@ impl Parser<'_> {
 
     /// The files of one `import`.
     #[tactic(auto, unfolding(idl_grammar::specs::Reading::import_read))]
-    fn import(
-        &self,
-        at: usize,
-    ) -> Result<(Import, usize), Refusal>
+    fn import(&self, at: usize) -> Result<(Import, usize), Refusal>
         requires within { at ≤ length self.now }
         ensures gives { Gives (seen_import) result (import_read self.now at) }
         ensures within { IfOk result (λ x. (at < x.1) × (x.1 ≤ length self.now)) }
@@ -192,10 +189,7 @@ impl Parser<'_> {
 
     /// The imports.
     #[tactic(auto, unfolding(idl_grammar::specs::Reading::imports_read))]
-    fn imports(
-        &self,
-        at: usize,
-    ) -> Result<(Vec<Import>, usize), Refusal>
+    fn imports(&self, at: usize) -> Result<(Vec<Import>, usize), Refusal>
         requires within { at ≤ length self.now }
         ensures gives { Gives (λ v. map seen_import v.items) result (imports_read self.now at) }
         ensures within { IfOk result (λ x. (at ≤ x.1) × (x.1 ≤ length self.now)) }

@@ -10,8 +10,8 @@ mod file;
 mod lexemes;
 mod operators;
 mod parameters;
-mod parsing;
 mod parser;
+mod parsing;
 mod simple;
 mod symbol;
 #[cfg(test)]

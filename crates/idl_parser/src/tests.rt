@@ -107,13 +107,25 @@ fn groups_operators(rt: HostRuntime) -> Result<(), Fail> {
         if let Export::Const { name, value, .. } = export {
             match (name.octets.as_slice(), value) {
                 (b"A", Init::Value(Expr::Binary { left, right, .. })) => {
-                    found[0] = matches!(**left, Expr::Binary { .. }) && matches!(**right, Expr::Leaf(_));
+                    found[0] = matches!(**left, Expr::Binary { .. })
+                        && matches!(**right, Expr::Leaf(_));
                 }
-                (b"B", Init::Value(Expr::Conditional { then, otherwise, .. })) => {
-                    found[1] = matches!(**then, Expr::Leaf(_)) && matches!(**otherwise, Expr::Conditional { .. });
+                (
+                    b"B",
+                    Init::Value(
+                        Expr::Conditional {
+                            then,
+                            otherwise,
+                            ..
+                        },
+                    ),
+                ) => {
+                    found[1] = matches!(**then, Expr::Leaf(_))
+                        && matches!(**otherwise, Expr::Conditional { .. });
                 }
                 (b"C", Init::Value(Expr::Binary { left, right, .. })) => {
-                    found[2] = matches!(**left, Expr::Leaf(_)) && matches!(**right, Expr::Binary { .. });
+                    found[2] = matches!(**left, Expr::Leaf(_))
+                        && matches!(**right, Expr::Binary { .. });
                 }
                 _ => {}
             }
@@ -134,11 +146,17 @@ fn refuses_the_first_token(rt: HostRuntime) -> Result<(), Fail> {
         (b"[local] interface t { } }", 7),
         (b"[local] interface in { } long", 7),
         (b"[local] interface t { const long A = 1 +; }", 12),
-        (b"[local] interface t { typedef [size_is(in)] long a[]; }", 10),
+        (
+            b"[local] interface t { typedef [size_is(in)] long a[]; }",
+            10,
+        ),
         (b"[local] interface t { typedef [case(ref)] long a; }", 10),
         (b"[local] interface t { void f(void, void); }", 10),
         (b"[local] interface t { struct { }; }", 8),
-        (b"[local] interface t { import \"a\"; long; import \"b\"; }", 11),
+        (
+            b"[local] interface t { import \"a\"; long; import \"b\"; }",
+            11,
+        ),
     ];
     for (text, token) in cases {
         assert_fault(&rt, alloc, text, SyntaxFault::Syntax { token })?;
@@ -174,20 +192,41 @@ fn counts_open_brackets(rt: HostRuntime) -> Result<(), Fail> {
     let text = repeated(alloc, b"const long A = ", b"(", b"1", b")", 64)?;
     assert_fault(&rt, alloc, text.as_slice(), SyntaxFault::Deep { token: 73 })?;
     let text = repeated(alloc, b"typedef ", b"struct { ", b"long", b" a; }", 63)?;
-    assert_fault(&rt, alloc, text.as_slice(), SyntaxFault::Syntax { token: 323 })?;
+    assert_fault(
+        &rt,
+        alloc,
+        text.as_slice(),
+        SyntaxFault::Syntax { token: 323 },
+    )?;
     let text = repeated(alloc, b"typedef ", b"struct { ", b"long", b" a; }", 64)?;
-    assert_fault(&rt, alloc, text.as_slice(), SyntaxFault::Deep { token: 134 })
+    assert_fault(
+        &rt,
+        alloc,
+        text.as_slice(),
+        SyntaxFault::Deep { token: 134 },
+    )
 }
 
 #[test]
 fn counts_brackets_of_all_kinds(rt: HostRuntime) -> Result<(), Fail> {
     let alloc = rt.alloc();
-    let front = b"typedef union switch (long k) { case (((1))): struct { [size_is(n), case(1, (2))] long a";
+    let front =
+        b"typedef union switch (long k) { case (((1))): struct { [size_is(n), case(1, (2))] long a";
     let text = repeated(alloc, front, b"[", b"((1))", b"]", 1)?;
-    assert_fault(&rt, alloc, text.as_slice(), SyntaxFault::Syntax { token: 51 })?;
+    assert_fault(
+        &rt,
+        alloc,
+        text.as_slice(),
+        SyntaxFault::Syntax { token: 51 },
+    )?;
     let front = b"void f([size_is(a), case(1, ";
     let text = repeated(alloc, front, b"(", b"1", b")", 60)?;
-    assert_fault(&rt, alloc, text.as_slice(), SyntaxFault::Syntax { token: 140 })?;
+    assert_fault(
+        &rt,
+        alloc,
+        text.as_slice(),
+        SyntaxFault::Syntax { token: 140 },
+    )?;
     let text = repeated(alloc, front, b"(", b"1", b")", 61)?;
     assert_fault(&rt, alloc, text.as_slice(), SyntaxFault::Deep { token: 79 })
 }
@@ -198,7 +237,12 @@ fn counts_operators(rt: HostRuntime) -> Result<(), Fail> {
     let text = repeated(alloc, b"const long A = 1", b" + 1", b"", b"", 64)?;
     assert_parses(alloc, text.as_slice())?;
     let text = repeated(alloc, b"const long A = 1", b" + 1", b"", b"", 65)?;
-    assert_fault(&rt, alloc, text.as_slice(), SyntaxFault::Deep { token: 139 })?;
+    assert_fault(
+        &rt,
+        alloc,
+        text.as_slice(),
+        SyntaxFault::Deep { token: 139 },
+    )?;
     let text = repeated(alloc, b"const long A = ", b"-", b"1", b"", 64)?;
     assert_parses(alloc, text.as_slice())?;
     let text = repeated(alloc, b"const long A = ", b"-", b"1", b"", 65)?;
@@ -206,7 +250,12 @@ fn counts_operators(rt: HostRuntime) -> Result<(), Fail> {
     let text = repeated(alloc, b"const long A = ", b"(1 + ", b"1", b" ? 1 : 2)", 32)?;
     assert_parses(alloc, text.as_slice())?;
     let text = repeated(alloc, b"const long A = ", b"(1 + ", b"1", b" ? 1 : 2)", 33)?;
-    assert_fault(&rt, alloc, text.as_slice(), SyntaxFault::Deep { token: 265 })?;
+    assert_fault(
+        &rt,
+        alloc,
+        text.as_slice(),
+        SyntaxFault::Deep { token: 265 },
+    )?;
     let text = repeated(alloc, b"typedef long a", b"[1 + 1 .. 2 * 3]", b"", b"", 100)?;
     assert_parses(alloc, text.as_slice())
 }

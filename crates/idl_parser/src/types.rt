@@ -57,7 +57,8 @@ impl Parser<'_> {
     fn begins_arm(&self, at: usize) -> bool
         ensures { result ≡ is_in arm_firsts (symbol_at self.now at) }
     {
-        self.stands(symbol::SEMICOLON, at) || (self.stands(symbol::OPEN_SQUARE, at) || self.begins_type(at))
+        self.stands(symbol::SEMICOLON, at)
+            || (self.stands(symbol::OPEN_SQUARE, at) || self.begins_type(at))
     }
 
     /// A type.
