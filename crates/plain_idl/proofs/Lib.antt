@@ -1,2 +1,5 @@
 pub mod Items
 pub mod Exact
+pub mod PlainFiles
+pub mod Judged
+pub mod OneVerdict
