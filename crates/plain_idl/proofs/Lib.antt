@@ -3,3 +3,4 @@ pub mod Exact
 pub mod PlainFiles
 pub mod Judged
 pub mod OneVerdict
+pub mod Named
