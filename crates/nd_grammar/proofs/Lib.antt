@@ -16,6 +16,7 @@ pub mod GoodTrees
 pub mod HoistedMaxes
 pub mod Identifiers
 pub mod ItemSizes
+pub mod KeptNumbers
 pub mod KnownNodes
 pub mod LawExamples
 pub mod LawNext
@@ -28,6 +29,7 @@ pub mod LegalUsable
 pub mod MadeTrees
 pub mod Mapped
 pub mod Matching
+pub mod NamedAlike
 pub mod Next
 pub mod NextDeferral
 pub mod NextInPlace
@@ -55,6 +57,7 @@ pub mod PlainSteps
 pub mod PlainStreams
 pub mod PlainVerdict
 pub mod PlainWritten
+pub mod PointerPlaces
 pub mod Ranges
 pub mod ReaderArrays
 pub mod ReaderCells
