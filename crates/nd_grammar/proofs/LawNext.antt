@@ -1,5 +1,5 @@
 -- The law of the next entry, and that of few items, at a ring of two nodes: their premises can be met.
-use Rattle.std.proofs.Common.{◌≡◌, ℕ, ◌+◌, ◌-◌, ◌≤◌, zero, suc, List, [], ◌∷◌, ◌++◌, length, take, refl, ap, sym, ◌∙◌, arith, subst, lit≤, length-append}
+use Rattle.std.proofs.Common.{◌≡◌, ℕ, ◌+◌, ◌-◌, ◌≤◌, suc, List, [], ◌∷◌, ◌++◌, length, take, refl, ap, sym, ◌∙◌, arith, subst, length-append}
 use Rattle.std.specs.Prelude.{pos}
 use Rattle.std.specs.List.{AllByRecursion, slice_get}
 use Rattle.nd_base.specs.declared.octets.Order.{Order}
@@ -11,15 +11,16 @@ use Rattle.nd_graph.specs.Conforms.{IsPartial}
 use Rattle.nd_graph.specs.Setting.{Setting, Among}
 use Rattle.nd_graph.proofs.NodeFacts.{sound_partial}
 use Rattle.nd_grammar.specs.Bad.{Bad}
-use Rattle.nd_grammar.specs.Entry.{Entry, EntryAt, size_at, end_to_end}
-use Rattle.nd_grammar.specs.Represents.{IsRendered, Represents}
+use Rattle.nd_grammar.specs.Entry.{Entry, size_at, end_to_end}
+use Rattle.nd_grammar.specs.Represents.{IsRendered}
 use Rattle.nd_grammar.specs.Refusal.{Accepts}
+use Rattle.nd_grammar.specs.Stream.{Stream, representation}
 use Rattle.nd_grammar.specs.FewItems.{item_count}
 use Rattle.nd_grammar.specs.NextEntry.{NextAlike, IsOneToOne, IsReadTo}
 use Rattle.nd_grammar.specs.declared.reason.Reason.{Reason}
 use Rattle.nd_grammar.specs.declared.reason.Reason.TheVariants as reason
 use Rattle.nd_grammar.specs.ExampleParts.{pointer_to}
-use Rattle.nd_grammar.proofs.Check.{upto, represents_by, partial_so, accepts_gives}
+use Rattle.nd_grammar.proofs.Check.{upto, steps_of, partial_so, stream_so, read_so}
 use Rattle.nd_grammar.proofs.LawRing.{ring, ring_node, ring_2, ring_2_octets, ring_conforms, ring_represented, ring_cut}
 use Rattle.nd_grammar.proofs.LawExamples.{ring_side}
 use Rattle.nd_grammar.proofs.NextIndex.{next_entry}
@@ -71,40 +72,35 @@ turned_partial : IsPartial ring turned_ring
 unfolding align_of hoists roots_of
 turned_partial = partial_so ring turned_ring refl refl refl refl
 
-turned_represented : Represents ring Little ring_2_octets turned_ring
+abbrev ring_entries : List Entry
+ring_entries = representation ring ring_2 (steps_of 10 ring ring_2) []
+
+abbrev turned_entries : List Entry
+turned_entries = representation ring turned_ring (steps_of 10 ring turned_ring) []
+
+ring_stream : Stream ring ring_2 ring_entries
 unfolding align_of hoists roots_of
-turned_represented = represents_by (λ c. 3 - c) ring Little ring_2_octets turned_ring [] 10 refl tt refl refl refl refl refl
+ring_stream = stream_so ring ring_2 [] 10 refl tt
 
-accepts_take : (order : Order) (octets : List ℕ) (seen : List EntryAt) (n : ℕ) (xs : List EntryAt) → Accepts order octets seen xs → Accepts order octets seen (take n xs)
-accepts_take order octets seen zero xs a = tt
-accepts_take order octets seen (suc n) [] a = tt
-accepts_take order octets seen (suc n) (x ∷ xs) a = (a.0, accepts_take order octets (seen ++ x ∷ []) n xs a.1)
+turned_stream : Stream ring turned_ring turned_entries
+unfolding align_of hoists roots_of
+turned_stream = stream_so ring turned_ring [] 10 refl tt
 
-spelt_take : (order : Order) (octets : List ℕ) (numbering : ℕ → ℕ) (n : ℕ) (xs : List EntryAt) → AllByRecursion (IsRendered order numbering octets) xs
-    → AllByRecursion (IsRendered order numbering octets) (take n xs)
-spelt_take order octets numbering zero xs a = tt
-spelt_take order octets numbering (suc n) [] a = tt
-spelt_take order octets numbering (suc n) (x ∷ xs) a = (a.0, spelt_take order octets numbering n xs a.1)
+-- the entries up to the number by which the first node names the second one
+ring_read : IsReadTo Little ring_2_octets ring_entries 7
+unfolding align_of hoists roots_of
+ring_read = read_so (λ c. c) Little ring_2_octets ring_entries 7 refl refl refl refl refl
 
--- where octets represent a graph and refuse no entry, they are read to each entry
-represented_read : (w : Setting) (order : Order) (octets : List ℕ) (g : Graph) (r : Represents w order octets g) (n : ℕ) → n ≤ length r.entries
-    → Accepts order octets [] (end_to_end 0 r.entries) → IsReadTo order octets r.entries n
-represented_read w order octets g r n h a = record {
-  there = h;
-  numbering = r.numbering;
-  is_numbering = r.is_numbering;
-  rendered = spelt_take order octets r.numbering n (end_to_end 0 r.entries) r.rendered;
-  accepted = accepts_take order octets [] n (end_to_end 0 r.entries) a;
-}
+turned_read : IsReadTo Little ring_2_octets turned_entries 7
+unfolding align_of hoists roots_of
+turned_read = read_so (λ c. 3 - c) Little ring_2_octets turned_entries 7 refl refl refl refl refl
 
--- Read up to the second node, which the first one names already: one map carries each node to the other number that it has.
+-- Read up to there, the second node is named, and does not stand yet: one map carries each node to the other number that it has.
 pub ring_map : (cells : List (ℕ × ℕ)) × IsOneToOne cells × Among cells (1, 2) × Among cells (2, 1)
 unfolding align_of hoists roots_of
 ring_map =
-    let left = represented_read ring Little ring_2_octets ring_2 ring_represented 7 (lit≤ tt) (accepts_gives Little ring_2_octets [] _ refl) in
-    let right = represented_read ring Little ring_2_octets turned_ring turned_represented 7 (lit≤ tt) (accepts_gives Little ring_2_octets [] _ refl) in
     let (cells, one, homes, names) = (next_entry ring ring_side Little ring_2_octets ring_2 turned_ring (sound_partial ring ring_2 ring_partial)
-    (sound_partial ring turned_ring turned_partial) ring_represented.entries turned_represented.entries ring_represented.stream turned_represented.stream 7 left right).1 in
+    (sound_partial ring turned_ring turned_partial) ring_entries turned_entries ring_stream turned_stream 7 ring_read turned_read).1 in
     (cells, one, names.1.0, names.1.1.1.1.1.1.0)
 
 -- the ring has few items
