@@ -16,7 +16,6 @@ pub mod GoodTrees
 pub mod HoistedMaxes
 pub mod Identifiers
 pub mod ItemSizes
-pub mod KeptNumbers
 pub mod KnownNodes
 pub mod LawExamples
 pub mod LawNext
@@ -97,6 +96,7 @@ pub mod Standings
 pub mod StreamConforming
 pub mod StreamConforms
 pub mod StreamMet
+pub mod StreamPointers
 pub mod WorkedArrays
 pub mod WorkedDirectory
 pub mod WorkedLarge

@@ -4,9 +4,7 @@ use Rattle.std.specs.Prelude.{map, eqb}
 use Rattle.std.specs.List.{AllByRecursion}
 use Rattle.std.proofs.lemmas.Bool.{eqb-true, eqb-false}
 use Rattle.std.proofs.lemmas.Option.{same_Some}
-use Rattle.nd_base.specs.declared.octets.Order.{Order}
 use Rattle.nd_types.specs.declared.types.Class.{Class}
-use Rattle.nd_types.specs.declared.types.Class.TheVariants.{Full}
 use Rattle.nd_types.specs.Number.{unsigned}
 use Rattle.nd_graph.specs.declared.value.Graph.{Graph}
 use Rattle.nd_graph.specs.declared.item.Home.{Home}
@@ -17,12 +15,12 @@ use Rattle.nd_graph.specs.Homes.{all_pointers}
 use Rattle.nd_graph.specs.Conforms.{ShareOnlyIfFull}
 use Rattle.nd_graph.proofs.Apart.{all_append, all_among, among_left, among_right}
 use Rattle.nd_graph.proofs.NodeFacts.{IsSound}
-use Rattle.nd_grammar.specs.Entry.{Kind, Entry, EntryAt, Number, size_at}
+use Rattle.nd_grammar.specs.Entry.{Kind, EntryAt, Number}
 use Rattle.nd_grammar.specs.Represents.{IsRendered, Spells, piece}
 use Rattle.nd_grammar.specs.NextEntry.{form, IsOneToOne, HomesCorrespond, AllCorrespond, named_cell, CellsCorrespond, AllNameAlike}
-use Rattle.nd_grammar.proofs.KeptNumbers.{NumberOf, IsKindOf, IsKept, is_good}
+use Rattle.nd_grammar.proofs.StreamPointers.{NumberOf, KindHasPointer, HasPointer, is_good}
 use Rattle.nd_grammar.proofs.Matching.{CellsMatch}
-use Rattle.nd_grammar.proofs.Next.{Pair, OneToOne, HomesMeet, Readings}
+use Rattle.nd_grammar.proofs.Next.{Pair, HomesMeet, Readings}
 use Rattle.nd_grammar.proofs.NextInPlace.{NoNull, cells_match}
 use Rattle.nd_grammar.proofs.PointerPlaces.{among_two, one_at_node}
 use Rattle.nd_grammar.proofs.RefusedAlike.{SeenAlike, AllSeenAlike, one_home, one_home_back, piece_alike}
@@ -165,7 +163,7 @@ module _ (two : Readings) (w : Setting) (g h : Graph) (s : IsSound w g) (s' : Is
     not_null' k c p = subst (λ u. NoNull u c) p.class (subst (λ u. NoNull p.its.class u) p.cell (is_good w h s' p.its p.among).no_null)
 
     by_numbers : (k k' : Class) (to to' : ℕ) (c d : Option ℕ) → form (Number k to c) ≡ form (Number k' to' d)
-        → IsKindOf (all_pointers w g) x n (Number k to c) → IsKindOf (all_pointers w h) y n' (Number k' to' d)
+        → KindHasPointer (all_pointers w g) x n (Number k to c) → KindHasPointer (all_pointers w h) y n' (Number k' to' d)
         → (os : List ℕ) → Spells two.order two.left (Number k to c) os → Spells two.order two.right (Number k' to' d) os → NameAlike c d
     by_numbers k k' to to' c d e p q os a b =
         let same : k ≡ k' = cc in
@@ -173,7 +171,7 @@ module _ (two : Readings) (w : Setting) (g h : Graph) (s : IsSound w g) (s' : Is
         let b' : Spells two.order two.right (Number k to d) os = subst (λ u. Spells two.order two.right (Number u to d) os) (sym same) b in
         by_cells k c d p q' (cells_match two.left two.right two.left_low two.right_low k c d (unsigned two.order os) (not_null k c p) (not_null' k d q') a b')
 
-    by_kinds : (kx ky : Kind) → form kx ≡ form ky → IsKindOf (all_pointers w g) x n kx → IsKindOf (all_pointers w h) y n' ky
+    by_kinds : (kx ky : Kind) → form kx ≡ form ky → KindHasPointer (all_pointers w g) x n kx → KindHasPointer (all_pointers w h) y n' ky
         → (os : List ℕ) → Spells two.order two.left kx os → Spells two.order two.right ky os → NumberView kx → NumberView ky → NameAlike (named_cell kx) (named_cell ky)
     by_kinds kx ky e p q os a b (inr u) (inr v) =
         subst (λ o. NameAlike o (named_cell ky)) (sym u.1) (subst (λ o. NameAlike None o) (sym v.1) tt)
@@ -184,16 +182,16 @@ module _ (two : Readings) (w : Setting) (g h : Graph) (s : IsSound w g) (s' : Is
     by_kinds kx ky e p q os a b (inl (k, to, c, u)) (inl (k', to', d, v)) =
         subst (λ o. NameAlike (named_cell o) (named_cell ky)) (sym u) (subst (λ o. NameAlike c (named_cell o)) (sym v)
         (by_numbers k k' to to' c d (sym (ap form u) ∙ e ∙ ap form v)
-        (subst (IsKindOf (all_pointers w g) x n) u p) (subst (IsKindOf (all_pointers w h) y n') v q) os
+        (subst (KindHasPointer (all_pointers w g) x n) u p) (subst (KindHasPointer (all_pointers w h) y n') v q) os
         (subst (λ o. Spells two.order two.left o os) u a) (subst (λ o. Spells two.order two.right o os) v b)))
 
-  abbrev KeptLeft : EntryAt → Type 0
-  KeptLeft x = IsKept (all_pointers w g) x.entry
+  abbrev LeftHas : EntryAt → Type 0
+  LeftHas x = HasPointer (all_pointers w g) x.entry
 
-  abbrev KeptRight : EntryAt → Type 0
-  KeptRight x = IsKept (all_pointers w h) x.entry
+  abbrev RightHas : EntryAt → Type 0
+  RightHas x = HasPointer (all_pointers w h) x.entry
 
-  entry_named : (x y : EntryAt) → SeenAlike zs x y → Left x → Right y → KeptLeft x → KeptRight y → NameAlike (named_cell x.entry.kind) (named_cell y.entry.kind)
+  entry_named : (x y : EntryAt) → SeenAlike zs x y → Left x → Right y → LeftHas x → RightHas y → NameAlike (named_cell x.entry.kind) (named_cell y.entry.kind)
   entry_named x y a l r p q =
       by_kinds x.entry.home y.entry.home x.entry.node y.entry.node a.homes a.alike.0 x.entry.kind y.entry.kind a.alike.1 p q
       (piece two.octets x.at x.entry.kind) l.1
@@ -226,7 +224,7 @@ module _ (two : Readings) (w : Setting) (g h : Graph) (s : IsSound w g) (s' : Is
   AllNamed [] [] = Unit {0}
   AllNamed _ _ = ⊥
 
-  all_named : (xs ys : List EntryAt) → AllSeenAlike zs xs ys → AllByRecursion Left xs → AllByRecursion Right ys → AllByRecursion KeptLeft xs → AllByRecursion KeptRight ys
+  all_named : (xs ys : List EntryAt) → AllSeenAlike zs xs ys → AllByRecursion Left xs → AllByRecursion Right ys → AllByRecursion LeftHas xs → AllByRecursion RightHas ys
       → AllNamed xs ys
   all_named [] [] a l r p q = tt
   all_named [] (y ∷ ys) a l r p q = absurd a
@@ -269,7 +267,7 @@ module _ (two : Readings) (w : Setting) (g h : Graph) (s : IsSound w g) (s' : Is
 
   -- one map carries the homes of the entries and the cells that their numbers name
   pub one_map_of_all : (xs ys : List EntryAt) → AllSeenAlike zs xs ys → AllByRecursion Left xs → AllByRecursion Right ys
-      → AllByRecursion (λ x. IsKept (all_pointers w g) x.entry) xs → AllByRecursion (λ y. IsKept (all_pointers w h) y.entry) ys
+      → AllByRecursion (λ x. HasPointer (all_pointers w g) x.entry) xs → AllByRecursion (λ y. HasPointer (all_pointers w h) y.entry) ys
       → (cells : List (ℕ × ℕ)) × IsOneToOne cells × AllCorrespond cells xs ys × AllNameAlike cells xs ys
   one_map_of_all xs ys a l r p q =
       let names : AllNamed xs ys = all_named xs ys a l r p q in

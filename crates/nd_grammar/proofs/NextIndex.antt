@@ -13,7 +13,7 @@ use Rattle.nd_grammar.specs.Represents.{IsRendered}
 use Rattle.nd_grammar.specs.Stream.{Stream}
 use Rattle.nd_grammar.proofs.Next.{Pair, HomesMeet, homes_grown, Readings, Next}
 use Rattle.nd_grammar.proofs.Spelt.{CellsIn, cells_in, all_spelt_carried, not_spelt, same_size}
-use Rattle.nd_grammar.proofs.KeptNumbers.{IsKept, kept_stream}
+use Rattle.nd_grammar.proofs.StreamPointers.{HasPointer, have_stream}
 use Rattle.nd_grammar.proofs.NamedAlike.{one_map_of_all}
 use Rattle.nd_grammar.proofs.NextStream.{IsLaidOut, AreMapped, streams_next}
 use Rattle.nd_grammar.proofs.RefusedAlike.{SeenAlike, AllSeenAlike}
@@ -98,6 +98,6 @@ next_entry w side order octets g h s s' ms ns a b i r r' =
     (streams_next two w g h s s' laid ms ns a b) left right in (
       next,
       one_map_of_all two w g h s s' (new ++ []) one (take i (end_to_end 0 ms)) (take i (end_to_end 0 ns)) all left right
-          (all_take (λ x. IsKept (all_pointers w g) x.entry) i (end_to_end 0 ms) (all_at (IsKept (all_pointers w g)) 0 ms (kept_stream w g s laid ms a)))
-          (all_take (λ x. IsKept (all_pointers w h) x.entry) i (end_to_end 0 ns) (all_at (IsKept (all_pointers w h)) 0 ns (kept_stream w h s' laid ns b))),
+          (all_take (λ x. HasPointer (all_pointers w g) x.entry) i (end_to_end 0 ms) (all_at (HasPointer (all_pointers w g)) 0 ms (have_stream w g s laid ms a)))
+          (all_take (λ x. HasPointer (all_pointers w h) x.entry) i (end_to_end 0 ns) (all_at (HasPointer (all_pointers w h)) 0 ns (have_stream w h s' laid ns b))),
     )

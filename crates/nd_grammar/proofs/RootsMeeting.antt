@@ -71,8 +71,7 @@ module _ (two : Readings) (w : Setting) (g g' : Graph)
     (cells' : (c : ℕ) (x : Referent) → cell_of_number g' c ≡ Some x → Known g' w.table (x.of ∷ []) (more x.val none))
     (i t : ℕ) (its_type : root_type (slice_get (root_list w) i) ≡ t)
     (inside : (p : Pending) → Among (home_pointers w.table (home.Root i) t (root_at g i)) p → Among (all_pointers w g) p)
-    (inside' : (p : Pending) → Among (home_pointers w.table (home.Root i) t (root_at g' i)) p → Among (all_pointers w g') p)
-  where
+    (inside' : (p : Pending) → Among (home_pointers w.table (home.Root i) t (root_at g' i)) p → Among (all_pointers w g') p) where
   abbrev d : Option TypeDef
   d = type_at w.table t
 

@@ -70,8 +70,7 @@ CellsCorrespond cells None None = Unit {0}
 CellsCorrespond cells (Some c) (Some d) = Among cells (c, d)
 CellsCorrespond cells _ _ = ⊥
 
--- The numbers of pointers in two lists of entries correspond under a map of cells, entry by entry: null to null, and the cell that one
--- names to the cell that the other names.
+-- The pointers' numbers in two lists of entries name cells that correspond under a map of cells, entry by entry.
 abbrev pub AllNameAlike : List (ℕ × ℕ) → List EntryAt → List EntryAt → Type 0
 AllNameAlike cells [] [] = Unit {0}
 AllNameAlike cells (x ∷ xs) (y ∷ ys) = CellsCorrespond cells (named_cell x.entry.kind) (named_cell y.entry.kind) × AllNameAlike cells xs ys

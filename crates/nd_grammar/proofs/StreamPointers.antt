@@ -1,5 +1,5 @@
 -- The numbers of pointers in a stream are those of pointers of the graph.
-use Rattle.std.proofs.Common.{◌≡◌, ℕ, ◌+◌, ◌<◌, ◌≤◌, zero, suc, ℤ, Bool, true, false, List, [], ◌∷◌, ◌++◌, length, Option, Some, None, refl, sym, inl, arith, subst, replicate, drop}
+use Rattle.std.proofs.Common.{◌≡◌, ℕ, ◌+◌, ◌≤◌, zero, suc, ℤ, Bool, true, false, List, [], ◌∷◌, ◌++◌, length, Option, Some, None, refl, sym, inl, arith, subst, replicate, drop}
 use Rattle.std.specs.Prelude.{map, flat_map}
 use Rattle.std.specs.List.{AllByRecursion, slice_get}
 use Rattle.std.proofs.lemmas.Grind.{flat_map-append}
@@ -45,71 +45,71 @@ pub record NumberOf (ps : List Pending) (h : Home) (n : ℕ) (k : Class) (c : Op
   pub class : its.class ≡ k
   pub cell : its.cell ≡ c
 
-abbrev pub IsKindOf : List Pending → Home → ℕ → Kind → Type 0
-IsKindOf ps h n (Number k to c) = NumberOf ps h n k c
-IsKindOf ps h n _ = Unit {0}
+abbrev pub KindHasPointer : List Pending → Home → ℕ → Kind → Type 0
+KindHasPointer ps h n (Number k to c) = NumberOf ps h n k c
+KindHasPointer ps h n _ = Unit {0}
 
 -- an entry is no number, or that of a pointer among these
-abbrev pub IsKept : List Pending → Entry → Type 0
-IsKept ps m = IsKindOf ps m.home m.node m.kind
+abbrev pub HasPointer : List Pending → Entry → Type 0
+HasPointer ps m = KindHasPointer ps m.home m.node m.kind
 
 module _ (ps : List Pending) (h : Home) where
-  kept_entries : (n : ℕ) (xs : List Kind) → AllByRecursion (IsKindOf ps h n) xs → AllByRecursion (IsKept ps) (entries h n xs)
-  kept_entries n [] a = tt
-  kept_entries n (x ∷ xs) a = (a.0, kept_entries n xs a.1)
+  have_entries : (n : ℕ) (xs : List Kind) → AllByRecursion (KindHasPointer ps h n) xs → AllByRecursion (HasPointer ps) (entries h n xs)
+  have_entries n [] a = tt
+  have_entries n (x ∷ xs) a = (a.0, have_entries n xs a.1)
 
-  kept_counts : (n : ℕ) (varying : Bool) (m o k : ℕ) → AllByRecursion (IsKindOf ps h n) (counts varying m o k)
-  kept_counts n false m o k = tt
-  kept_counts n true m o k = (tt, (tt, (tt, tt)))
+  have_counts : (n : ℕ) (varying : Bool) (m o k : ℕ) → AllByRecursion (KindHasPointer ps h n) (counts varying m o k)
+  have_counts n false m o k = tt
+  have_counts n true m o k = (tt, (tt, (tt, tt)))
 
-  kept_tag : (n : ℕ) (d : Option TypeDef) (arms : List Arm) (default : Option Arm) (v : ℤ) → AllByRecursion (IsKindOf ps h n) (tag_entries d arms default v)
-  kept_tag n (Some (def.Prim p)) arms default v = (tt, (tt, tt))
-  kept_tag n (Some (def.Enum vs)) arms default v = (tt, (tt, tt))
-  kept_tag n _ arms default v = (tt, tt)
+  have_tag : (n : ℕ) (d : Option TypeDef) (arms : List Arm) (default : Option Arm) (v : ℤ) → AllByRecursion (KindHasPointer ps h n) (tag_entries d arms default v)
+  have_tag n (Some (def.Prim p)) arms default v = (tt, (tt, tt))
+  have_tag n (Some (def.Enum vs)) arms default v = (tt, (tt, tt))
+  have_tag n _ arms default v = (tt, tt)
 
-  kept_before : (table : Table) (t n : ℕ) (d : Option TypeDef) (l : Label) (ks : Trees) (ags : List Agreement)
+  have_before : (table : Table) (t n : ℕ) (d : Option TypeDef) (l : Label) (ks : Trees) (ags : List Agreement)
       → ((p : Pending) → Among (pointer_by d (is_pointer l) (cell_in l) h n ags) p → Among ps p)
-      → AllByRecursion (IsKindOf ps h n) (before_children table t d l ks)
-  kept_before table t n (Some (def.Prim p)) (tree.Num z) ks ags f = (tt, (tt, tt))
-  kept_before table t n (Some (def.Enum vs)) (tree.Num z) ks ags f = (tt, (tt, tt))
-  kept_before table t n (Some (def.Struct ms)) tree.Rec ks ags f = (tt, tt)
-  kept_before table t n (Some (def.Array e b v)) (tree.Arr m o) ks ags f = kept_counts n v m o _
-  kept_before table t n (Some (def.Text e b)) (tree.Text m os) ks ags f = (tt, (tt, (tt, (tt, tt))))
-  kept_before table t n (Some (def.Union tag enc arms default)) (tree.Union v) ks ags f = kept_tag n (type_at table tag.0) arms default v
-  kept_before table t n (Some (def.Pointer k to)) (tree.Ptr c) ks ags f =
+      → AllByRecursion (KindHasPointer ps h n) (before_children table t d l ks)
+  have_before table t n (Some (def.Prim p)) (tree.Num z) ks ags f = (tt, (tt, tt))
+  have_before table t n (Some (def.Enum vs)) (tree.Num z) ks ags f = (tt, (tt, tt))
+  have_before table t n (Some (def.Struct ms)) tree.Rec ks ags f = (tt, tt)
+  have_before table t n (Some (def.Array e b v)) (tree.Arr m o) ks ags f = have_counts n v m o _
+  have_before table t n (Some (def.Text e b)) (tree.Text m os) ks ags f = (tt, (tt, (tt, (tt, tt))))
+  have_before table t n (Some (def.Union tag enc arms default)) (tree.Union v) ks ags f = have_tag n (type_at table tag.0) arms default v
+  have_before table t n (Some (def.Pointer k to)) (tree.Ptr c) ks ags f =
       let p : Pending = record { home = h; node = n; class = k; to = to.0; cell = c; agreements = ags } in
       (tt, (record { its = p; among = f p (inl refl); home = refl; node = refl; class = refl; cell = refl }, tt))
-  kept_before table t n (Some def.Context) (tree.Context a i) ks ags f = (tt, (tt, tt))
-  kept_before table t n _ _ ks ags f = (tt, tt)
+  have_before table t n (Some def.Context) (tree.Context a i) ks ags f = (tt, (tt, tt))
+  have_before table t n _ _ ks ags f = (tt, tt)
 
-  kept_tests : (n : ℕ) (v : Tree) (ags : List Agreement) → AllByRecursion (IsKept ps) (tests h n v ags)
-  kept_tests n v [] = tt
-  kept_tests n v (a ∷ ags) = (tt, kept_tests n v ags)
+  have_tests : (n : ℕ) (v : Tree) (ags : List Agreement) → AllByRecursion (HasPointer ps) (tests h n v ags)
+  have_tests n v [] = tt
+  have_tests n v (a ∷ ags) = (tt, have_tests n v ags)
 
-  kept_own : (b : Bool) (n : ℕ) (v : Tree) (ags : List Agreement) → AllByRecursion (IsKept ps) (own_tests b h n v ags)
-  kept_own true n v ags = tt
-  kept_own false n v ags = kept_tests n v ags
+  have_own : (b : Bool) (n : ℕ) (v : Tree) (ags : List Agreement) → AllByRecursion (HasPointer ps) (own_tests b h n v ags)
+  have_own true n v ags = tt
+  have_own false n v ags = have_tests n v ags
 
-  kept_child_tests : (ags : List (List Agreement)) (n : ℕ) (ts : Trees) → AllByRecursion (IsKept ps) (child_tests h ags n ts)
-  kept_child_tests ags n none = tt
-  kept_child_tests ags n (more (node l ks) ts) =
-      all_append (IsKept ps) (own_tests (is_pointer l) h n (node l ks) (first_agreements ags)) (child_tests h (rest_agreements ags) (n + 1 + node_count ks) ts)
-      (kept_own (is_pointer l) n (node l ks) (first_agreements ags)) (kept_child_tests (rest_agreements ags) (n + 1 + node_count ks) ts)
+  have_child_tests : (ags : List (List Agreement)) (n : ℕ) (ts : Trees) → AllByRecursion (HasPointer ps) (child_tests h ags n ts)
+  have_child_tests ags n none = tt
+  have_child_tests ags n (more (node l ks) ts) =
+      all_append (HasPointer ps) (own_tests (is_pointer l) h n (node l ks) (first_agreements ags)) (child_tests h (rest_agreements ags) (n + 1 + node_count ks) ts)
+      (have_own (is_pointer l) n (node l ks) (first_agreements ags)) (have_child_tests (rest_agreements ags) (n + 1 + node_count ks) ts)
 
-  kept_hoisted : (n : ℕ) (b : Bool) (l : Label) (m : ℕ) → AllByRecursion (IsKindOf ps h n) (hoisted b l m)
-  kept_hoisted n false l m = tt
-  kept_hoisted n true tree.Unread m = tt
-  kept_hoisted n true (tree.Num z) m = (tt, (tt, tt))
-  kept_hoisted n true _ m = (tt, (tt, tt))
+  have_hoisted : (n : ℕ) (b : Bool) (l : Label) (m : ℕ) → AllByRecursion (KindHasPointer ps h n) (hoisted b l m)
+  have_hoisted n false l m = tt
+  have_hoisted n true tree.Unread m = tt
+  have_hoisted n true (tree.Num z) m = (tt, (tt, tt))
+  have_hoisted n true _ m = (tt, (tt, tt))
 
   module _ (table : Table) where
     -- values in their places, whose pointers are among these
-    kept_in_place : (types : List ℕ) (ags : List (List Agreement)) (n : ℕ) (ts : Trees)
+    have_in_place : (types : List ℕ) (ags : List (List Agreement)) (n : ℕ) (ts : Trees)
         → ((p : Pending) → Among (flat_map (pointer table h) (nodes_of table types ags n ts)) p → Among ps p)
-        → AllByRecursion (IsKept ps) (in_place table h types n ts)
-    kept_in_place types ags n none f = tt
-    kept_in_place [] ags n (more t ts) f = tt
-    kept_in_place (t ∷ types) ags n (more (node l ks) ts) f =
+        → AllByRecursion (HasPointer ps) (in_place table h types n ts)
+    have_in_place types ags n none f = tt
+    have_in_place [] ags n (more t ts) f = tt
+    have_in_place (t ∷ types) ags n (more (node l ks) ts) f =
         let d : Option TypeDef = type_at table t in
         let own : List Pending = pointer_by d (is_pointer l) (cell_in l) h n (first_agreements ags) in
         let kids : List TypedNode = nodes_of table (child_types d l ks) (child_agreements d ks) (n + 1) ks in
@@ -118,40 +118,40 @@ module _ (ps : List Pending) (h : Home) where
         let B : List Pending = flat_map (pointer table h) rest in
         let behind : (p : Pending) → Among (A ++ B) p → Among ps p =
         λ p a. f p (among_right own (flat_map (pointer table h) (kids ++ rest)) p (subst (λ u. Among u p) (sym (flat_map-append (pointer table h) kids rest)) a)) in
-        all_append (IsKept ps) (entries h n (before_children table t d l ks)) _
-        (kept_entries n (before_children table t d l ks)
-        (kept_before table t n d l ks (first_agreements ags) (λ p a. f p (among_left own (flat_map (pointer table h) (kids ++ rest)) p a))))
-        (all_append (IsKept ps) (in_place table h (child_types d l ks) (n + 1) ks) _
-        (kept_in_place (child_types d l ks) (child_agreements d ks) (n + 1) ks (λ p a. behind p (among_left A B p a)))
-        (all_append (IsKept ps) (child_tests h (child_agreements d ks) (n + 1) ks) (in_place table h types (n + 1 + node_count ks) ts)
-        (kept_child_tests (child_agreements d ks) (n + 1) ks)
-        (kept_in_place types (rest_agreements ags) (n + 1 + node_count ks) ts (λ p a. behind p (among_right A B p a)))))
+        all_append (HasPointer ps) (entries h n (before_children table t d l ks)) _
+        (have_entries n (before_children table t d l ks)
+        (have_before table t n d l ks (first_agreements ags) (λ p a. f p (among_left own (flat_map (pointer table h) (kids ++ rest)) p a))))
+        (all_append (HasPointer ps) (in_place table h (child_types d l ks) (n + 1) ks) _
+        (have_in_place (child_types d l ks) (child_agreements d ks) (n + 1) ks (λ p a. behind p (among_left A B p a)))
+        (all_append (HasPointer ps) (child_tests h (child_agreements d ks) (n + 1) ks) (in_place table h types (n + 1 + node_count ks) ts)
+        (have_child_tests (child_agreements d ks) (n + 1) ks)
+        (have_in_place types (rest_agreements ags) (n + 1 + node_count ks) ts (λ p a. behind p (among_right A B p a)))))
 
-    kept_whole : (t : ℕ) (v : Tree) → ((p : Pending) → Among (home_pointers table h t v) p → Among ps p) → AllByRecursion (IsKept ps) (whole_value table h t v)
-    kept_whole t (node l ks) f =
-        all_append (IsKept ps) (entries h 0 (hoisted (hoists table t) l (hoisted_max 0 (more (node l ks) none)))) (in_place table h (t ∷ []) 0 (more (node l ks) none))
-        (kept_entries 0 _ (kept_hoisted 0 (hoists table t) l (hoisted_max 0 (more (node l ks) none))))
-        (kept_in_place (t ∷ []) [] 0 (more (node l ks) none) f)
+    have_whole : (t : ℕ) (v : Tree) → ((p : Pending) → Among (home_pointers table h t v) p → Among ps p) → AllByRecursion (HasPointer ps) (whole_value table h t v)
+    have_whole t (node l ks) f =
+        all_append (HasPointer ps) (entries h 0 (hoisted (hoists table t) l (hoisted_max 0 (more (node l ks) none)))) (in_place table h (t ∷ []) 0 (more (node l ks) none))
+        (have_entries 0 _ (have_hoisted 0 (hoists table t) l (hoisted_max 0 (more (node l ks) none))))
+        (have_in_place (t ∷ []) [] 0 (more (node l ks) none) f)
 
     many : (k e : ℕ) → FitsPipes table e → AllByRecursion (FitsPipes table) (replicate k e)
     many zero e f = tt
     many (suc k) e f = (f, many k e f)
 
     -- a pipe's elements have no pointers
-    kept_chunks : (e : ℕ) → FitsPipes table e → (n : ℕ) (cut : List ℕ) (ts : Trees) → AllByRecursion (IsKept ps) (chunks table h e n cut ts)
-    kept_chunks e f n [] ts = (tt, (tt, tt))
-    kept_chunks e f n (k ∷ cut) ts =
-        all_append (IsKept ps) (chunk_entries table h e n k (take_trees k ts)) (chunks table h e (n + node_count (take_trees k ts)) cut (drop_trees k ts))
-        (tt, (tt, kept_in_place (replicate k e) [] n (take_trees k ts) (λ p a. absurd (subst (λ u. Among u p) (no_pointers table h (replicate k e) [] n (take_trees k ts) (many k e f)) a))))
-        (kept_chunks e f (n + node_count (take_trees k ts)) cut (drop_trees k ts))
+    have_chunks : (e : ℕ) → FitsPipes table e → (n : ℕ) (cut : List ℕ) (ts : Trees) → AllByRecursion (HasPointer ps) (chunks table h e n cut ts)
+    have_chunks e f n [] ts = (tt, (tt, tt))
+    have_chunks e f n (k ∷ cut) ts =
+        all_append (HasPointer ps) (chunk_entries table h e n k (take_trees k ts)) (chunks table h e (n + node_count (take_trees k ts)) cut (drop_trees k ts))
+        (tt, (tt, have_in_place (replicate k e) [] n (take_trees k ts) (λ p a. absurd (subst (λ u. Among u p) (no_pointers table h (replicate k e) [] n (take_trees k ts) (many k e f)) a))))
+        (have_chunks e f (n + node_count (take_trees k ts)) cut (drop_trees k ts))
 
-    kept_pipe_value : (e : TypeId) → FitsPipes table e.0 → (cut : List ℕ) (v : Tree) → AllByRecursion (IsKept ps) (pipe_entries table h (Some (def.Pipe e)) cut v)
-    kept_pipe_value e f cut (node tree.Pipe ks) = kept_chunks e.0 f 1 cut ks
-    kept_pipe_value e f cut (node _ ks) = (tt, tt)
+    have_pipe_value : (e : TypeId) → FitsPipes table e.0 → (cut : List ℕ) (v : Tree) → AllByRecursion (HasPointer ps) (pipe_entries table h (Some (def.Pipe e)) cut v)
+    have_pipe_value e f cut (node tree.Pipe ks) = have_chunks e.0 f 1 cut ks
+    have_pipe_value e f cut (node _ ks) = (tt, tt)
 
-    kept_pipe : (d : Option TypeDef) (e : TypeId) → d ≡ Some (def.Pipe e) → FitsPipes table e.0 → (cut : List ℕ) (v : Tree)
-        → AllByRecursion (IsKept ps) (pipe_entries table h d cut v)
-    kept_pipe d e ed f cut v = subst (λ u. AllByRecursion (IsKept ps) (pipe_entries table h u cut v)) (sym ed) (kept_pipe_value e f cut v)
+    have_pipe : (d : Option TypeDef) (e : TypeId) → d ≡ Some (def.Pipe e) → FitsPipes table e.0 → (cut : List ℕ) (v : Tree)
+        → AllByRecursion (HasPointer ps) (pipe_entries table h d cut v)
+    have_pipe d e ed f cut v = subst (λ u. AllByRecursion (HasPointer ps) (pipe_entries table h u cut v)) (sym ed) (have_pipe_value e f cut v)
 
 -- a pointer names a cell of its referent's type, and is no null reference
 pub record IsGoodPointer (g : Graph) (p : Pending) : Type 0 where
@@ -236,68 +236,68 @@ module _ (w : Setting) (g : Graph) (s : IsSound w g) where
   are_due (p ∷ ps) f = (f p (inl refl), are_due ps (λ q a. f q (among_right (p ∷ []) ps q a)))
 
   abbrev K : Entry → Type 0
-  K = IsKept (all_pointers w g)
+  K = HasPointer (all_pointers w g)
 
-  kept_steps : {done : Placed_cells} {due : List Due} {steps : List Step} → Deferral w g done due steps → AllByRecursion IsDue due
-      → AllByRecursion (IsKept (all_pointers w g)) (flat_map (step_entries w g) steps)
-  kept_steps none_due a = tt
-  kept_steps (at_root {i = i} {due = due} {steps = steps} free d) a =
+  have_steps : {done : Placed_cells} {due : List Due} {steps : List Step} → Deferral w g done due steps → AllByRecursion IsDue due
+      → AllByRecursion (HasPointer (all_pointers w g)) (flat_map (step_entries w g) steps)
+  have_steps none_due a = tt
+  have_steps (at_root {i = i} {due = due} {steps = steps} free d) a =
       let x : Standing = standing_root w g i in
       let inside = in_standing w g s i a.0.0 a.0.1 in
-      all_append K (standing_entries w.table x) (flat_map (step_entries w g) steps) (kept_whole all x.home w.table x.of x.val inside)
-      (kept_steps d (all_append IsDue (due_of w.table x) due (are_due (home_pointers w.table x.home x.of x.val) inside) a.1))
-  kept_steps (at_null e d) a = kept_steps d a.1
-  kept_steps (at_standing {p = p} {steps = steps} c e full h d) a =
-      all_append K (step_tests g p c) (flat_map (step_entries w g) steps) (kept_tests all (cell_home c) 0 (cell_at g c) p.agreements) (kept_steps d a.1)
-  kept_steps (at_referent {p = p} {due = due} {steps = steps} c e n d) a =
+      all_append K (standing_entries w.table x) (flat_map (step_entries w g) steps) (have_whole all x.home w.table x.of x.val inside)
+      (have_steps d (all_append IsDue (due_of w.table x) due (are_due (home_pointers w.table x.home x.of x.val) inside) a.1))
+  have_steps (at_null e d) a = have_steps d a.1
+  have_steps (at_standing {p = p} {steps = steps} c e full h d) a =
+      all_append K (step_tests g p c) (flat_map (step_entries w g) steps) (have_tests all (cell_home c) 0 (cell_at g c) p.agreements) (have_steps d a.1)
+  have_steps (at_referent {p = p} {due = due} {steps = steps} c e n d) a =
       let x : Standing = standing_cell g p c in
       let inside = in_cell w g c p.to ((is_good p a.0).typed c e) in
       all_append K (standing_entries w.table x ++ step_tests g p c) (flat_map (step_entries w g) steps)
-      (all_append K (standing_entries w.table x) (step_tests g p c) (kept_whole all x.home w.table x.of x.val inside)
-      (kept_tests all (cell_home c) 0 (cell_at g c) p.agreements))
-      (kept_steps d (all_append IsDue (due_of w.table x) due (are_due (home_pointers w.table x.home x.of x.val) inside) a.1))
+      (all_append K (standing_entries w.table x) (step_tests g p c) (have_whole all x.home w.table x.of x.val inside)
+      (have_tests all (cell_home c) 0 (cell_at g c) p.agreements))
+      (have_steps d (all_append IsDue (due_of w.table x) due (are_due (home_pointers w.table x.home x.of x.val) inside) a.1))
 
-  kept_root_test : (i : ℕ) (l : Label) (ks : Trees) (ags : List Agreement) → AllByRecursion (IsKept (all_pointers w g)) (root_test g i (node l ks) ags)
-  kept_root_test i (tree.Ptr None) ks ags = tt
-  kept_root_test i (tree.Ptr (Some c)) ks ags = kept_tests all (cell_home c) 0 (cell_at g c) ags
-  kept_root_test i (tree.Num z) ks ags = kept_tests all (home.Root i) 0 (node (tree.Num z) ks) ags
-  kept_root_test i tree.Rec ks ags = kept_tests all (home.Root i) 0 (node tree.Rec ks) ags
-  kept_root_test i (tree.Arr m o) ks ags = kept_tests all (home.Root i) 0 (node (tree.Arr m o) ks) ags
-  kept_root_test i (tree.Text m os) ks ags = kept_tests all (home.Root i) 0 (node (tree.Text m os) ks) ags
-  kept_root_test i (tree.Union v) ks ags = kept_tests all (home.Root i) 0 (node (tree.Union v) ks) ags
-  kept_root_test i (tree.Context a q) ks ags = kept_tests all (home.Root i) 0 (node (tree.Context a q) ks) ags
-  kept_root_test i tree.Pipe ks ags = kept_tests all (home.Root i) 0 (node tree.Pipe ks) ags
-  kept_root_test i tree.Unread ks ags = kept_tests all (home.Root i) 0 (node tree.Unread ks) ags
+  have_root_test : (i : ℕ) (l : Label) (ks : Trees) (ags : List Agreement) → AllByRecursion (HasPointer (all_pointers w g)) (root_test g i (node l ks) ags)
+  have_root_test i (tree.Ptr None) ks ags = tt
+  have_root_test i (tree.Ptr (Some c)) ks ags = have_tests all (cell_home c) 0 (cell_at g c) ags
+  have_root_test i (tree.Num z) ks ags = have_tests all (home.Root i) 0 (node (tree.Num z) ks) ags
+  have_root_test i tree.Rec ks ags = have_tests all (home.Root i) 0 (node tree.Rec ks) ags
+  have_root_test i (tree.Arr m o) ks ags = have_tests all (home.Root i) 0 (node (tree.Arr m o) ks) ags
+  have_root_test i (tree.Text m os) ks ags = have_tests all (home.Root i) 0 (node (tree.Text m os) ks) ags
+  have_root_test i (tree.Union v) ks ags = have_tests all (home.Root i) 0 (node (tree.Union v) ks) ags
+  have_root_test i (tree.Context a q) ks ags = have_tests all (home.Root i) 0 (node (tree.Context a q) ks) ags
+  have_root_test i tree.Pipe ks ags = have_tests all (home.Root i) 0 (node tree.Pipe ks) ags
+  have_root_test i tree.Unread ks ags = have_tests all (home.Root i) 0 (node tree.Unread ks) ags
 
-  kept_root_tests : (i : ℕ) (rs : List Root) (vs : List Tree) → AllByRecursion (IsKept (all_pointers w g)) (root_tests w g i rs vs)
-  kept_root_tests i [] vs = tt
-  kept_root_tests i (r ∷ rs) [] = tt
-  kept_root_tests i (r ∷ rs) (node l ks ∷ vs) =
+  have_root_tests : (i : ℕ) (rs : List Root) (vs : List Tree) → AllByRecursion (HasPointer (all_pointers w g)) (root_tests w g i rs vs)
+  have_root_tests i [] vs = tt
+  have_root_tests i (r ∷ rs) [] = tt
+  have_root_tests i (r ∷ rs) (node l ks ∷ vs) =
       all_append K (root_test g i (node l ks) (root_agreements w g r.vars)) (root_tests w g (i + 1) rs vs)
-      (kept_root_test i l ks (root_agreements w g r.vars)) (kept_root_tests (i + 1) rs vs)
+      (have_root_test i l ks (root_agreements w g r.vars)) (have_root_tests (i + 1) rs vs)
 
   module _ (laid : IsLaidOut w) where
-    kept_pipes : (i : ℕ) (rs : List Root) (vs : List Tree) (cuts : List (List ℕ)) → AllByRecursion (IsPipeRoot w.table) rs
-        → AllByRecursion (IsKept (all_pointers w g)) (pipes_entries w.table i rs vs cuts)
-    kept_pipes i [] vs cuts a = tt
-    kept_pipes i (r ∷ rs) [] cuts a = tt
-    kept_pipes i (r ∷ rs) (v ∷ vs) [] a = tt
-    kept_pipes i (r ∷ rs) (v ∷ vs) (cut ∷ cuts) a =
+    have_pipes : (i : ℕ) (rs : List Root) (vs : List Tree) (cuts : List (List ℕ)) → AllByRecursion (IsPipeRoot w.table) rs
+        → AllByRecursion (HasPointer (all_pointers w g)) (pipes_entries w.table i rs vs cuts)
+    have_pipes i [] vs cuts a = tt
+    have_pipes i (r ∷ rs) [] cuts a = tt
+    have_pipes i (r ∷ rs) (v ∷ vs) [] a = tt
+    have_pipes i (r ∷ rs) (v ∷ vs) (cut ∷ cuts) a =
         all_append K (pipe_entries w.table (home.Root i) (type_at w.table r.of) cut v) (pipes_entries w.table (i + 1) rs vs cuts)
-        (kept_pipe all (home.Root i) w.table (type_at w.table r.of) a.0.elem a.0.type_is (laid.elements r.of a.0.elem a.0.type_is) cut v)
-        (kept_pipes (i + 1) rs vs cuts a.1)
+        (have_pipe all (home.Root i) w.table (type_at w.table r.of) a.0.elem a.0.type_is (laid.elements r.of a.0.elem a.0.type_is) cut v)
+        (have_pipes (i + 1) rs vs cuts a.1)
 
     roots_due : (i k : ℕ) → i + k ≤ length (root_list w) → AllByRecursion IsDue (due_roots i k)
     roots_due i zero h = tt
     roots_due i (suc k) h = (root_there w i (omega arith), roots_due (suc i) k (omega arith))
 
     -- the numbers in a stream of the graph are those of its pointers
-    pub kept_stream : (ms : List Entry) → Stream w g ms → AllByRecursion (IsKept (all_pointers w g)) ms
-    kept_stream ms a =
+    pub have_stream : (ms : List Entry) → Stream w g ms → AllByRecursion (HasPointer (all_pointers w g)) ms
+    have_stream ms a =
         let n : ℕ = before_pipes (root_list w) in
         let few : n ≤ length (root_list w) = some_before w g (root_list w) in
         subst (AllByRecursion K) (sym a.is_representation)
         (all_append K (head_entries w g a.steps) (pipes_entries w.table n (drop n (root_list w)) (drop n g.roots) a.cuts)
-        (all_append K (flat_map (step_entries w g) a.steps) (root_tests w g 0 (root_list w) g.roots) (kept_steps a.deferral (roots_due 0 n (omega arith)))
-        (kept_root_tests 0 (root_list w) g.roots))
-        (kept_pipes n (drop n (root_list w)) (drop n g.roots) a.cuts laid.pipes))
+        (all_append K (flat_map (step_entries w g) a.steps) (root_tests w g 0 (root_list w) g.roots) (have_steps a.deferral (roots_due 0 n (omega arith)))
+        (have_root_tests 0 (root_list w) g.roots))
+        (have_pipes n (drop n (root_list w)) (drop n g.roots) a.cuts laid.pipes))
