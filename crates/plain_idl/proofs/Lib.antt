@@ -1,9 +1,0 @@
-pub mod Forms
-pub mod Apart
-pub mod Gathered
-pub mod Steps
-pub mod Octets
-pub mod Cuts
-pub mod Grammar
-pub mod Many
-pub mod File

@@ -15,6 +15,8 @@ use Rattle.nd_types.specs.Kinds.{basic_types}
 use Rattle.plain_idl.specs.Plain.{PlainFile, file}
 use Rattle.plain_idl.specs.declared.fault.IdlReason.{IdlReason}
 use Rattle.plain_idl.specs.declared.fault.IdlReason.TheVariants as reason
+use Rattle.plain_idl.specs.declared.fault.IdlFault.{IdlFault}
+use Rattle.plain_idl.specs.declared.fault.IdlFault.TheVariants as errors
 
 -- the text is cut into tokens
 pub record IsLexed (text : List ℕ) (lexed : Lexed) : Type 0 where
@@ -82,3 +84,8 @@ IsIdlFault text at reason.Syntax = (k : ℕ) × IsUnparsed text at (Syntax k) k
 IsIdlFault text at reason.Deep = (k : ℕ) × IsUnparsed text at (Passes Depth k) k
 IsIdlFault text at (reason.Banned word) = IsBannedWord text at word
 IsIdlFault text at reason.NotBuilt = IsNotBuilt text at
+
+-- a refusal of `read_idl`: the first fault, unless memory was wanting
+abbrev pub IsFault : List ℕ → IdlFault → Type 0
+IsFault text errors.Memory = Unit {0}
+IsFault text (errors.At at reason) = IsIdlFault text at reason

@@ -5,7 +5,7 @@
 --   file      = "[" "uuid" "(" Uuid ")" "]" "interface" Ident "{" { operation } "}"
 --   operation = "void" Ident "(" [ parameter { "," parameter } ] ")" ";"
 --   parameter = "[" "in" "]" ( "small" | "short" | "long" | "hyper" ) Ident
-use Rattle.std.specs.Prelude.{ℕ, Bool, ◌&&◌, List, [], ◌∷◌, None, length, leb}
+use Rattle.std.specs.Prelude.{ℕ, Bool, false, List, [], ◌∷◌, None, length, leb}
 use Rattle.std.specs.List.{list_any}
 use Rattle.std.specs.Str.{bytes_eq}
 use Rattle.phrases.specs.Text.{Text, Lexeme, Phrase, Rel, Depth, mark, nothing, token, unless, made, lexeme_at, is, is_in, ◌▹◌, ◌⊗◌, ◌⊳◌}
