@@ -11,16 +11,14 @@ PRINTABLE = "".join(map(chr, range(0x20, 0x7F)))
 LIMIT = 1_048_576
 
 NUMBERS = [
-    *parsed("0", "1", "10", "18446744073709551615", "-18446744073709551615",
-            "0x0", "0X0", "0x00", "0xFFFFFFFFFFFFFFFF", "0Xffffffffffffffff", "0xaBcDeF", f"0x{'0' * 39}1"),
-    *value("BadNumber",
-           "§18446744073709551616", "§18446744073709551620", "§20000000000000000000", "§100000000000000000000",
-           "§1111111111111111111111111111111111111111", "-§18446744073709551616",
-           "§0x10000000000000000", "§0xFFFFFFFFFFFFFFFF0", "§0x00000000000000010000000000000000",
-           "§00", "§01", "§010", "§012", "§08", "§09", "-§01", "§000000000000000000000000000000001",
-           "§0x", "§0X", "§0xg", "§0x1g", "§0x_", "§0xx1", "§0b1", "§0o7",
-           "§1L", "§1l", "§1u", "§0x1u", "§1x", "§1_", "§1_000", "§1e3", "§1nnnnnnnnnnnnnnnnnnnnnnnnnnnnnnnn",
-           "1 + §2x", "A + §1A", "§1x + 2y"),
+    *parsed("0", "1", "10", "18446744073709551615", "-18446744073709551615", "0x0", "0X0", "0x00", "0xFFFFFFFFFFFFFFFF",
+            "0Xffffffffffffffff", "0xaBcDeF", f"0x{'0' * 39}1"),
+    *value("BadNumber", "§18446744073709551616", "§18446744073709551620", "§20000000000000000000", "§100000000000000000000",
+           "§1111111111111111111111111111111111111111", "-§18446744073709551616", "§0x10000000000000000",
+           "§0xFFFFFFFFFFFFFFFF0", "§0x00000000000000010000000000000000", "§00", "§01", "§010", "§012", "§08", "§09", "-§01",
+           "§000000000000000000000000000000001", "§0x", "§0X", "§0xg", "§0x1g", "§0x_", "§0xx1", "§0b1", "§0o7", "§1L", "§1l",
+           "§1u", "§0x1u", "§1x", "§1_", "§1_000", "§1e3", "§1nnnnnnnnnnnnnnnnnnnnnnnnnnnnnnnn", "1 + §2x", "A + §1A",
+           "§1x + 2y"),
     *value("Syntax", "1§.5", "1§.", "§.5", "1§..5", "1 §2", "1 §0x2"),
 ]
 
@@ -38,25 +36,23 @@ WORDS = [
 ]
 
 IDENTIFIERS = [
-    *header("BadNumber",
-            "[uuid(§11111111222233334444555555555555)]",
-            "[uuid(§1111111g-2222-3333-4444-555555555555)]",
-            "[uuid(11111111-§2222g-3333-4444-555555555555)]",
-            "[uuid(11111111-2222-3333-4444-§55555555555g)]",
-            "[uuid(§11111111_2222_3333_4444_555555555555)]",
-            "[uuid(§01111111-2222-3333-4444-55555555555)]",
+    *header("BadNumber", "[uuid(§11111111222233334444555555555555)]", "[uuid(§1111111g-2222-3333-4444-555555555555)]",
+            "[uuid(11111111-§2222g-3333-4444-555555555555)]", "[uuid(11111111-2222-3333-4444-§55555555555g)]",
+            "[uuid(§11111111_2222_3333_4444_555555555555)]", "[uuid(§01111111-2222-3333-4444-55555555555)]",
             "[uuid(§01111111 -2222-3333-4444-555555555555)]"),
-    # What lacks little to an identifier is words or numbers, with strokes between.
-    *parsed("aaaaaaaa-bbbb-cccc-dddd-eeeeeeeeeee", "aaaaaaaa-bbbb-cccc-dddd-eeeeeeeeeeeg", "aaaaaaa-bbbb-cccc-dddd-eeeeeeeeeeee",
-            "aaaaaaaaa-bbbb-cccc-dddd-eeeeeeeeeeee", "aaaaaaaa-bbbb-cccc-dddd -eeeeeeeeeeee", "aaaaaaaa-bbbb-cccc/**/-dddd-eeeeeeeeeeee",
+    # Where no identifier can be cut, words and numbers are, with minus signs between.
+    *parsed("aaaaaaaa-bbbb-cccc-dddd-eeeeeeeeeee", "aaaaaaaa-bbbb-cccc-dddd-eeeeeeeeeeeg",
+            "aaaaaaa-bbbb-cccc-dddd-eeeeeeeeeeee", "aaaaaaaaa-bbbb-cccc-dddd-eeeeeeeeeeee",
+            "aaaaaaaa-bbbb-cccc-dddd -eeeeeeeeeeee", "aaaaaaaa-bbbb-cccc/**/-dddd-eeeeeeeeeeee",
             "11111111-2222-3333-4444-55555555555", "11111111-2222-3333-44445555-55555555"),
     *value("Syntax", "§aaaaaaaa-bbbb-cccc-dddd-eeeeeeeeeeee", "§01111111-2222-3333-4444-555555555555",
            "1-§11111111-2222-3333-4444-555555555555", "aaaa-§aaaaaaaa-bbbb-cccc-dddd-eeeeeeeeeeee"),
 ]
 
 MARKS = [
-    *parsed("1||2", "1&&2", "1|2", "1^2", "1&2", "1==2", "1!=2", "1<2", "1>2", "1<=2", "1>=2", "1<<2", "1>>2", "1+2", "1-2", "1*2",
-            "1/2", "1%2", "1?2:3", "+1", "-1", "~1", "!1", "(1)", "1+++1", "1---1", "1!=!1", "1==-1", "1<~1", "1&&!1", "~~!!1"),
+    *parsed("1||2", "1&&2", "1|2", "1^2", "1&2", "1==2", "1!=2", "1<2", "1>2", "1<=2", "1>=2", "1<<2", "1>>2", "1+2", "1-2",
+            "1*2", "1/2", "1%2", "1?2:3", "+1", "-1", "~1", "!1", "(1)", "1+++1", "1---1", "1!=!1", "1==-1", "1<~1", "1&&!1",
+            "~~!!1"),
     # The longest token is cut.
     *value("Syntax", "1||§|2", "1&&§&2", "1==§=2", "1!=§=2", "1<<§<2", "1<<§=2", "1>>§>2", "1>>§=2", "1<=§=2"),
     # No token holds a space.
@@ -67,8 +63,7 @@ MARKS = [
 
 CHARACTERS = [
     *parsed("'a'", "' '", "'~'", "'\"'", "'/'", "'0' + '1'", *(f"'\\{letter}'" for letter in ESCAPES)),
-    *value("BadOctet",
-           "'§'", "'§''", "'a§b'", "'a§ '", "'a§", "'§\t'", "'§\r'", "'§\x1f'", "'§\x7f'", "'§ö'", "'a§\t'",
+    *value("BadOctet", "'§'", "'§''", "'a§b'", "'a§ '", "'a§", "'§\t'", "'§\r'", "'§\x1f'", "'§\x7f'", "'§ö'", "'a§\t'",
            *(f"'\\§{letter}'" for letter in PRINTABLE if letter not in ESCAPES), "'\\§\t'", "'\\§\r\n'", "'\\§ö'",
            "'\\n§n'", "'\\\\§\\'", "'\\'§;'", "'a§b\n'"),
     *value("OpenText", "§'\n'", "§'a\n'", "§'\\\n'", "§'\\n\n'", "1 + §'a\n'", "'a' + §'\nb'"),
@@ -80,20 +75,19 @@ STRINGS = [
     *parsed('""', '"a"', '"\'"', '"/* a */"', '"// a"', '"010 # $ @ `"', *(f'"\\{letter}"' for letter in ESCAPES),
             '"' + "".join(f"\\{letter}" for letter in ESCAPES) + '"',
             '"' + "".join(letter for letter in PRINTABLE if letter not in '"\\') + '"', f'"{"a" * 100_000}"'),
-    *value("BadOctet",
-           '"§\t"', '"§\r"', '"a§\r\n"', '"§\f"', '"§\0"', '"§\x1f"', '"§\x7f"', '"gr§öße"', '"\\§e"', '"\\§ "', '"\\§x41"', '"\\§0"', '"\\§\r\n"',
-           '"a§\t\n'),
+    *value("BadOctet", '"§\t"', '"§\r"', '"a§\r\n"', '"§\f"', '"§\0"', '"§\x1f"', '"§\x7f"', '"gr§öße"', '"\\§e"', '"\\§ "',
+           '"\\§x41"', '"\\§0"', '"\\§\r\n"', '"a§\t\n'),
     *value("OpenText", '§"', '§"\n"', '§"a\n"', '§"a\\\n"', '§"a\\"', '§"\'\n"', '"a" §"\n"'),
     *whole("OpenText", f'{START}§"', f'{START}§"a', f'{START}§"a\\', f'{START}§"a\\"', '§"'),
     *value("Syntax", '"a" §"b"', '"a"§"b"', '1 + §"a"', '(§"a")'),
 ]
 
 COMMENTS = [
-    *parsed("/**/1", "/***/1", "/****/1", "/*/ */1", "/* / * */1", "/* /* */1", "/* // */1", "/* ' */1", '/* " */1', "1/*2*/", "/* ö */1",
-            "/*\n\n*/1"),
+    *parsed("/**/1", "/***/1", "/****/1", "/*/ */1", "/* / * */1", "/* /* */1", "/* // */1", "/* ' */1", '/* " */1', "1/*2*/",
+            "/* ö */1", "/*\n\n*/1"),
     *value("OpenComment", "§/*", "§/*/", "§/* *", "§/** /", "1 + §/* \"*\\/\"", "/**/§/*", "1/* */ §/*", "§/* '"),
     fault("OpenComment", HERE + b"/* " + PLAIN, "a whole file in an open comment"),
-    *(fault("OpenComment", PLAIN + f"{MARK}{text}".encode(), f"{text} behind the file") for text in ("/*", "/*/", "/* *", "/*\n\n")),
+    *(fault("OpenComment", PLAIN + HERE + text, f"{text} behind the file") for text in (b"/*", b"/*/", b"/* *", b"/*\n\n")),
     # A comment ends at its first */, whatever stands in it.
     *value("Syntax", "/* /* */§*/", "1 /* /* */ *§/", "1 *§/", "1 / §*", "1 /§/ 2", "/**/§/ 1"),
     *value("BadOctet", "/* */§#", "/* /* */ 1 §# */", "1 /* \" */ + §#"),
@@ -110,7 +104,8 @@ OCTETS = [
     fault("BadOctet", HERE + b"#define x y\n" + PLAIN, "a line of the preprocessor"),
     fault("BadOctet", PLAIN.replace(b"void f", "void f§#".encode()).replace(b"small", b"#small"), "the first of two octets"),
     fault("BadOctet", HERE + bytes(LIMIT), "1,048,576 zero octets"),
-    *parameters("BadOctet", "[in] small gr§öße", "[in] small §öl", "[in] small n§$", "[in] small §$n", "§@[in] small y", "[in] small y §\\"),
+    *parameters("BadOctet", "[in] small gr§öße", "[in] small §öl", "[in] small n§$", "[in] small §$n", "§@[in] small y",
+                "[in] small y §\\"),
     *value("BadOctet", "1 §# 2", "§`1`", "§\\n", "1 §\\", "n§\\n"),
 ]
 
@@ -134,7 +129,8 @@ ORDER = [
     *whole("OpenText", "§'a\n #", "§\" /*", "interface §\"t"),
     *whole("OpenComment", "§/* #", "§/* '", "interface §/* t"),
     *whole("LongName", f"§{'n' * 32} #", f"interface t §{'n' * 32}"),
-    fault("BadOctet", interface("void f([in] small x);", "void f();", "§#"), "an octet of no token behind a name that is repeated"),
+    fault("BadOctet", interface("void f([in] small x);", "void f();", "§#"),
+          "an octet of no token behind a name that is repeated"),
 ]
 
 CASES = NUMBERS + WORDS + IDENTIFIERS + MARKS + CHARACTERS + STRINGS + COMMENTS + OCTETS + LENGTHS + ORDER

@@ -75,7 +75,7 @@ NAMES = [
     identified("an identifier in capitals", "ABCDEF01-2345-6789-ABCD-EF0123456789"),
     identified("an identifier that begins as a number with a leading zero", "01234567-89ab-cdef-0123-456789abcdef"),
     identified("an identifier that begins as a number with letters", "1a2b3c4d-0000-0000-0000-000000000000"),
-    identified("an identifier that begins as a hexadecimal number", "0e000000-0e00-0e00-0e00-0e0000000000"),
+    identified("an identifier that begins as a number with an exponent", "0e000000-0e00-0e00-0e00-0e0000000000"),
     identified("an identifier in comments", "/* a */00000000-0000-0000-0000-000000000000/* b */"),
     identified("an identifier with spaces around", " 00000000-0000-0000-0000-000000000000 "),
     named("names of 31 octets", "n" * 31),
