@@ -32,8 +32,8 @@ def readable(text: Text) -> str:
 def fault(what: str, text: Text, name: Optional[str] = None, operation: str = "f", file: str = "t.idl") -> Case:
     """A decoding by a file that is refused with `what` at the mark. Without a name the text is the name."""
     content, place = marked(text)
-    return Case(f"idl, {what}: {readable(name or text)}", ["decode", file, "-", operation, "in", "little"], {file: content}, octets("01"),
-                notes=lines(f"idl {file}:{place}: {what}"), status=6)
+    return Case(f"idl, {what}: {readable(name or text)}", ["decode", file, "-", operation, "in", "little"], {file: content},
+                octets("01"), notes=lines(f"idl {file}:{place}: {what}"), status=6)
 
 
 def whole(what: str, *texts: str) -> List[Case]:

@@ -255,8 +255,8 @@ OPERATORS = [
 
 # Places without a mark.
 NUMBERED = [
-    Case(f"idl, {what}: {line} at {place}", ["decode", "t.idl", "-", "f", "in", "little"], {"t.idl": interface(line)}, octets("01"),
-         notes=lines(f"idl t.idl:{place}: {what}"), status=6)
+    Case(f"idl, {what}: {line} at {place}", ["decode", "t.idl", "-", "f", "in", "little"], {"t.idl": interface(line)},
+         octets("01"), notes=lines(f"idl t.idl:{place}: {what}"), status=6)
     for line, place, what in (
         ("void f([in] long);", "3:17", "Syntax"), ("void f([in] float x);", "3:13", "Banned float"),
         ("const long A = 012;", "3:16", "BadNumber"), ("void f([in] long x)", "4:1", "Syntax"),

@@ -91,8 +91,10 @@ NAMES = [
         # others
         "class", "values", "op", "Small", "null", "true", "Float", "wchar", "include", "int64", "error_status_t", "v1_enum")),
     accepted("names that differ in case", interface("void f([in] small x);", "void F([in] hyper X, [in] hyper x);")),
-    accepted("names of which one begins another", interface("void f([in] small x);", "void ff([in] hyper xx, [in] hyper x);", "void f_();")),
-    accepted("names of 31 octets that differ in the last", interface(f"void {'n' * 30}a();", f"void {'n' * 30}b();", "void f([in] small x);")),
+    accepted("names of which one begins another",
+             interface("void f([in] small x);", "void ff([in] hyper xx, [in] hyper x);", "void f_();")),
+    accepted("names of 31 octets that differ in the last",
+             interface(f"void {'n' * 30}a();", f"void {'n' * 30}b();", "void f([in] small x);")),
     accepted("one name for parameters of two operations", interface("void g([in] hyper x);", "void f([in] small x);")),
     accepted("a parameter named as an operation", interface("void x();", "void f([in] small x);")),
 ]
