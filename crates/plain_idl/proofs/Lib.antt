@@ -10,3 +10,4 @@ pub mod Forms
 pub mod Within
 pub mod Told
 pub mod Named
+pub mod Words

@@ -41,7 +41,7 @@ marks_are_no_names : list_all (λ s. not (is_name s.symbol)) marks ≡ true
 unfolding names
 marks_are_no_names = refl
 
-kind_of_name : (kind : TokenKind) (octets : List ℕ) → is_name (symbol_of kind octets) ≡ true → kind ≡ token.Word
+pub kind_of_name : (kind : TokenKind) (octets : List ℕ) → is_name (symbol_of kind octets) ≡ true → kind ≡ token.Word
 unfolding symbol_of names
 kind_of_name token.Word octets h = refl
 kind_of_name token.Uuid octets h = clash false h refl
@@ -50,7 +50,7 @@ kind_of_name token.Char octets h = clash false h refl
 kind_of_name token.Str octets h = clash false h refl
 kind_of_name token.Mark octets h = clash (is_name (symbol_among marks symbol.Unknown octets)) h (no_name_among marks symbol.Unknown octets marks_are_no_names refl)
 
-end_is_no_name : is_name 0 ≡ false
+pub end_is_no_name : is_name 0 ≡ false
 unfolding names
 end_is_no_name = refl
 

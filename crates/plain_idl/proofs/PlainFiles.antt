@@ -115,7 +115,7 @@ next_param x before p i j ph =
       good = subst (λ (q : Param). IsPlainParam q) (sym typed.1) (made_plain typed.0.1 typed.0.0 (symbol_at x ph.2.2.0) typed.2.1.1);
     }
 
-abbrev next_parameter : List (List ℕ) → Rel Param
+abbrev pub next_parameter : List (List ℕ) → Rel Param
 next_parameter before = Rattle.phrases.specs.Text.◌⊳◌ Rattle.idl_grammar.specs.Symbols.Comma (parameter before)
 
 next_behind : (x : Text) (before : List (List ℕ)) (p : Param) (i j : ℕ) → next_parameter before p strict x i j → IsNext param_name PARAM_LIMIT IsPlainParam before p
