@@ -1,21 +1,21 @@
 -- Each part of a plain file is read exactly.
-use Rattle.std.proofs.Common.{◌≡◌, ℕ, ◌+◌, ◌<◌, ◌≤◌, Bool, true, false, ◌||◌, cond, List, [], ◌∷◌, length, refl, sym, ap, subst, arith, ◌∙◌, eqb, eq-eqb, Ok, Err, inl}
+use Rattle.std.proofs.Common.{◌≡◌, ℕ, ◌≤◌, Bool, true, false, ◌||◌, cond, List, [], ◌∷◌, length, refl, ap, subst, arith, ◌∙◌, eq-eqb, Ok, Err, inl}
 use Rattle.std.specs.List.{list_any}
 use Rattle.std.specs.Str.{bytes_eq}
 use Rattle.std.proofs.lemmas.Bool.{eqb-true}
-use Rattle.phrases.specs.Text.{Text, Lexeme, lexeme_at, symbol_at, is, is_in, Depth, Lifted, Rel, mark, token, unless, made, ◌▹◌, ◌⊗◌, ◌⊳◌, ◌⊲◌}
-use Rattle.phrases.specs.Reading.{Read, join, then, turned, mark_read, to_unit, skip, end_with, behind_read}
-use Rattle.phrases.proofs.Exact.{Stops, Found, Exact, HasPhrase, Part, turned_exact, pair_exact}
+use Rattle.phrases.specs.Text.{Text, Lexeme, lexeme_at, symbol_at, is, is_in, Depth, Lifted, Rel, mark, token, unless, ◌▹◌, ◌⊗◌, ◌⊳◌, ◌⊲◌}
+use Rattle.phrases.specs.Reading.{Read, join, then, turned, to_unit, skip, behind_read}
+use Rattle.phrases.proofs.Exact.{Stops, Exact, HasPhrase, Part, turned_exact, pair_exact}
 use Rattle.phrases.proofs.Parts.{clash, token_exact, token_has, ruled_exact, ruled_has, of_symbol, pair_has, turned_has}
-use Rattle.phrases.proofs.Sequences.{stops, Begins, skip_exact, skip_has, skip_begins, end_exact, end_has, made_exact, made_has, made_begins, fewer_stops}
+use Rattle.phrases.proofs.Sequences.{stops, Begins, skip_exact, skip_has, skip_begins, end_exact, end_has, made_exact, made_has, fewer_stops}
 use Rattle.idl_grammar.specs.Symbols as symbol
 use Rattle.idl_grammar.specs.Limits.{names, symbols_of, value_of}
 use Rattle.nd_types.specs.declared.types.Param.{Param}
 use Rattle.nd_types.specs.declared.types.Operation.{Operation}
 use Rattle.nd_types.specs.declared.TheConstants.{OPERATION_LIMIT, PARAM_LIMIT}
 use Rattle.nd_types.specs.Plain.{plain_param}
-use Rattle.plain_idl.specs.Uuid.{is_uuid, uuid_value, uuid_form}
-use Rattle.plain_idl.specs.Plain.{name, is_known, is_surplus, new_name, named_items, integer_words, integer, typed_name, parameter, parameters, plain_operation, signature, operation, PlainFile, file}
+use Rattle.plain_idl.specs.Uuid.{is_uuid, uuid_value}
+use Rattle.plain_idl.specs.Plain.{name, is_known, is_surplus, new_name, named_items, integer_words, integer, typed_name, parameter, parameters, plain_operation, signature, operation, file}
 use Rattle.plain_idl.specs.Reading.{counted_read, name_read, new_name_read, integer_read, typed_name_read, parameter_read, param_name, next_parameter_read, more_parameters_read, parameters_read, signature_read, operation_read, operation_name, operations_read, uuid_read, body_read, identified_read, file_of, file_read}
 use Rattle.plain_idl.proofs.Items.{first_of, first_exact, items_has, consed, alone_is, named_exact}
 

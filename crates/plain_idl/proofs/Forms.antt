@@ -1,10 +1,11 @@
 -- Reading the places of a form one after the other, as a loop does.
-use Rattle.std.proofs.Common.{◌≡◌, ◌≢◌, ℕ, zero, suc, ◌+◌, ◌*◌, ◌^◌, ◌-◌, ◌<◌, ◌≤◌, Bool, true, false, ◌==◌, ◌&&◌, List, [], ◌∷◌, length, drop, get_or, Option, Some, None, cond, eqb, refl, sym, ap, subst, ◌∙◌, arith, add-one, inl, inr, if◌then◌else◌}
-use Rattle.std.proofs.lemmas.List.{at_drop_more, at_drop_all, drop_more}
-use Rattle.std.proofs.lemmas.Bool.{cond-true, cond-false, eq-eqb, ne_eqb, cases_eq, eqb-true}
+use Rattle.std.proofs.Common.{◌≡◌, ◌≢◌, ℕ, suc, ◌+◌, ◌*◌, ◌^◌, ◌<◌, ◌≤◌, Bool, true, false, ◌==◌, ◌&&◌, List, [], ◌∷◌, length, drop, get_or, Option, Some, None, cond, eqb, refl, sym, ap, subst, ◌∙◌, arith, add-one, inl, inr, if◌then◌else◌}
+use Rattle.std.proofs.lemmas.List.{at_drop_more, at_drop_all}
+use Rattle.std.proofs.lemmas.Bool.{cond-true, cond-false, eq-eqb, ne_eqb, cases_eq}
 use Rattle.std.proofs.Math.Nat.{pow-succ', one-le-pow, mul-le-mul_left, mul-le-mul_right}
 use Rattle.phrases.proofs.Parts.{clash}
-use Rattle.plain_idl.specs.Uuid.{is_hex_digit, hex_digit, has_form, hex_number, place_at, value_in_form, digit_count}
+use Rattle.plain_idl.specs.Uuid.{is_hex_digit, hex_digit, has_form, hex_number}
+use Rattle.plain_idl.specs.Reading.{place_at, value_in_form, digit_count}
 
 -- ## one place
 

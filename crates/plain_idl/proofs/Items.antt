@@ -1,5 +1,5 @@
 -- Items one after the other, each read exactly beside the names of all before it.
-use Rattle.std.proofs.Common.{◌≡◌, ℕ, zero, suc, ◌+◌, ◌<◌, ◌≤◌, Bool, true, false, ◌||◌, cond, List, [], ◌∷◌, length, refl, ap, subst, arith, ◌∙◌, eq-eqb, Ok, Err}
+use Rattle.std.proofs.Common.{◌≡◌, ℕ, zero, suc, ◌+◌, ◌<◌, ◌≤◌, Bool, true, false, ◌||◌, cond, List, [], ◌∷◌, length, refl, ap, subst, arith, ◌∙◌, Ok, Err}
 use Rattle.phrases.specs.Text.{Text, Lexeme, lexeme_at, symbol_at, is, is_in, Lifted, Rel, ◌▹◌}
 use Rattle.phrases.specs.Reading.{Fault, Read, join, then, turned}
 use Rattle.phrases.proofs.Exact.{place, front, front_late, Agrees, Stops, Found, Failed, Exact, HasPhrase, Part, turned_exact, less}

@@ -1,5 +1,5 @@
 -- What is read of a plain file is the one right answer.
-use Rattle.std.proofs.Common.{◌≡◌, ℕ, ◌≤◌, [], length, refl, arith, Result}
+use Rattle.std.proofs.Common.{◌≡◌, [], refl, arith, Result}
 use Rattle.phrases.specs.Text.{Text}
 use Rattle.phrases.specs.Reading.{Fault}
 use Rattle.phrases.specs.Verdict.{Judges, whole_read}

@@ -1,5 +1,5 @@
 -- How the loops begin that gather parameters and operations.
-use Rattle.std.proofs.Common.{◌≡◌, ℕ, suc, ◌≤◌, Bool, true, List, [], ◌∷◌, ◌++◌, length, refl, sym, ap, subst, arith, ◌∙◌, cond, Ok, Err}
+use Rattle.std.proofs.Common.{◌≡◌, ℕ, ◌≤◌, Bool, true, List, [], ◌∷◌, ◌++◌, length, refl, sym, ap, subst, ◌∙◌, cond, Ok, Err}
 use Rattle.phrases.specs.Text.{Text, symbol_at, is}
 use Rattle.phrases.specs.Reading.{Read, join, then, turned}
 use Rattle.idl_grammar.specs.Symbols as symbol

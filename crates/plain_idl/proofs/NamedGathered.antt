@@ -1,7 +1,7 @@
 -- A loop that gathers items, each beside the names of all before it.
 use Rattle.std.proofs.Common.{◌≡◌, ℕ, zero, suc, ◌+◌, ◌<◌, ◌≤◌, Bool, true, false, List, [], ◌∷◌, ◌++◌, length, refl, sym, ap, arith, ◌∙◌, cond, Ok, Err, append_assoc, append-nil}
 use Rattle.phrases.specs.declared.Refusal.{Refusal}
-use Rattle.phrases.specs.Text.{Text, Lexeme, lexeme_at, symbol_at, is}
+use Rattle.phrases.specs.Text.{Text, symbol_at, is}
 use Rattle.phrases.specs.Reading.{Read, then, join, turned}
 use Rattle.phrases.specs.Gives.{Fails}
 use Rattle.phrases.proofs.Fails.{fails_equal, fails_is}

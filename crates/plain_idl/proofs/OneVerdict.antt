@@ -1,8 +1,8 @@
 -- A text declares one interface at most, or is refused at one octet for one reason, and never both.
-use Rattle.std.proofs.Common.{◌≡◌, ℕ, true, false, List, Option, Some, None, refl, sym, ap, subst, arith, ◌∙◌, ◌⊎◌, inl, inr, ◌≤◌, length, Result, Ok, Err}
+use Rattle.std.proofs.Common.{◌≡◌, ℕ, List, Option, Some, None, refl, sym, ap, subst, arith, ◌∙◌, ◌⊎◌, inl, inr, ◌≤◌, length, Result, Ok, Err}
 use Rattle.std.proofs.Props.{props}
 use Rattle.std.proofs.lemmas.Option.{same_Some}
-use Rattle.phrases.specs.Text.{Text, Rule, Depth, Ban, lexeme_at}
+use Rattle.phrases.specs.Text.{Text, Depth, Ban, lexeme_at}
 use Rattle.phrases.specs.Reading.{Fault, Syntax, Passes}
 use Rattle.phrases.specs.Verdict.{IsTree, IsSyntax, IsRefused, whole_read}
 use Rattle.phrases.specs.Gives.{IsText}
@@ -116,7 +116,7 @@ module _ (fuel nesting : ℕ) (enough : 129 ≤ nesting) (fueled : 64 ≤ fuel) 
   }
 
   unplain_fault : (t : Text) (k : ℕ) → IsText t → IsFirstUnplain t k → (f : Fault) × (whole_read (file_read t 0) t ≡ Err f) × (place f ≡ k)
-  unplain_fault t k real u = by_place u.place where
+  unplain_fault t k real u = by_place u where
     by_place : IsSyntax file t k ⊎ IsRefused file t Depth k → (f : Fault) × (whole_read (file_read t 0) t ≡ Err f) × (place f ≡ k)
     by_place (inl s) = (Syntax k, sym (plain_alone t real (Err (Syntax k)) s), refl)
     by_place (inr r) = (Passes Depth k, sym (plain_alone t real (Err (Passes Depth k)) r), refl)

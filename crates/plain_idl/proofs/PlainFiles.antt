@@ -1,5 +1,5 @@
 -- What a plain file declares is a plain interface; and no ban refuses anything of a plain file.
-use Rattle.std.proofs.Common.{◌≡◌, ◌≢◌, ℕ, suc, ◌+◌, ◌<◌, ◌≤◌, Bool, true, false, ◌||◌, cond, List, [], ◌∷◌, length, refl, sym, ap, subst, arith, ◌∙◌, leb, ◌⊎◌, inl, inr, All, AllPairs}
+use Rattle.std.proofs.Common.{◌≡◌, ◌≢◌, ℕ, ◌+◌, ◌<◌, ◌≤◌, Bool, true, false, ◌||◌, cond, List, [], ◌∷◌, length, refl, sym, ap, subst, arith, ◌∙◌, ◌⊎◌, inl, inr, All, AllPairs}
 use Rattle.std.specs.List.{list_any}
 use Rattle.std.specs.Str.{bytes_eq}
 use Rattle.std.proofs.lemmas.Bool.{leb-false}
@@ -7,7 +7,7 @@ use Rattle.std.proofs.lemmas.Slice.Eq.{bytes_eq-Decides}
 use Rattle.std.proofs.lemmas.List.Elements.{All-cons}
 use Rattle.std.proofs.lemmas.List.Kept.{AllPairs-cons}
 use Rattle.phrases.specs.Text.{Text, Lexeme, lexeme_at, symbol_at, Lifted, Rule, Depth, Ban, Rel, ◌⊗◌}
-use Rattle.phrases.specs.Verdict.{strict, IsRefused, derives, limits_before_but, all_but}
+use Rattle.phrases.specs.Verdict.{strict, IsRefused, limits_before_but, all_but}
 use Rattle.phrases.proofs.Parts.{clash}
 use Rattle.idl_grammar.specs.Limits.{value_of}
 use Rattle.nd_types.specs.declared.types.Param.{Param}
@@ -16,7 +16,7 @@ use Rattle.nd_types.specs.declared.TheConstants.{OPERATION_LIMIT, PARAM_LIMIT}
 use Rattle.nd_types.specs.Table.{type_at}
 use Rattle.nd_types.specs.Kinds.{basic_types}
 use Rattle.nd_types.specs.Plain.{is_plain_type, IsPlainParam, plain_param, IsPlainOperation, IsPlainInterface}
-use Rattle.plain_idl.specs.Plain.{name, is_known, is_surplus, new_name, named_items, integer_words, integer, typed_name, parameter, parameters, plain_operation, signature, operation, PlainFile, file}
+use Rattle.plain_idl.specs.Plain.{is_known, is_surplus, new_name, named_items, integer_words, parameter, parameters, plain_operation, operation, PlainFile, file}
 use Rattle.plain_idl.specs.Reading.{param_name, operation_name}
 
 -- ## names that differ

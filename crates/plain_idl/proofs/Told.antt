@@ -1,14 +1,14 @@
 -- What is told is right.
-use Rattle.std.proofs.Common.{◌≡◌, ℕ, List, length, refl, sym, ap, subst, arith, ◌∙◌, ◌⊎◌, inl, inr, Result, Ok, Err, IfOk, IfErr}
+use Rattle.std.proofs.Common.{◌≡◌, ℕ, List, refl, sym, subst, inl, inr, Result, Ok, Err, IfOk, IfErr}
 use Rattle.phrases.specs.declared.Refusal.{Refusal}
 use Rattle.phrases.specs.declared.Refusal.TheVariants as refusal
-use Rattle.phrases.specs.Text.{Text, Depth, Ban}
+use Rattle.phrases.specs.Text.{Depth, Ban}
 use Rattle.phrases.specs.Reading.{Fault, Syntax, Passes}
 use Rattle.phrases.specs.Gives.{Fails}
 use Rattle.phrases.specs.Verdict.{IsTree, Judges, whole_read}
 use Rattle.idl_lexer.specs.declared.tokens.LexFault.{LexFault}
 use Rattle.idl_lexer.specs.declared.tokens.LexFault.TheVariants as lexical
-use Rattle.idl_lexer.specs.Lexed.{Lexed, place_of}
+use Rattle.idl_lexer.specs.Lexed.{Lexed}
 use Rattle.idl_lexer.specs.Verdict as lexer
 use Rattle.idl_grammar.specs.Lexemes.{lexemes}
 use Rattle.idl_grammar.specs.Tree.{Tree}
@@ -21,11 +21,10 @@ use Rattle.idl_parser.specs.Answered.{Told}
 use Rattle.nd_types.specs.declared.interface.Interface.{Interface}
 use Rattle.plain_idl.specs.declared.fault.IdlFault.{IdlFault}
 use Rattle.plain_idl.specs.declared.fault.IdlFault.TheVariants as errors
-use Rattle.plain_idl.specs.declared.fault.IdlReason.{IdlReason}
 use Rattle.plain_idl.specs.declared.fault.IdlReason.TheVariants as reason
 use Rattle.plain_idl.specs.Plain.{PlainFile, file}
 use Rattle.plain_idl.specs.Reading.{file_read}
-use Rattle.plain_idl.specs.Answers.{IsLexed, IsParsed, IsDeclared, IsPlainFile, IsIdlFault, IsFault}
+use Rattle.plain_idl.specs.Answers.{IsLexed, IsParsed, IsDeclared, IsPlainFile, IsFault}
 use Rattle.plain_idl.specs.Seen.{IsToldPlain, IsToldUnlexed, IsToldUnparsed, IsToldUnplain}
 use Rattle.plain_idl.proofs.Judged.{plain_judged}
 use Rattle.plain_idl.proofs.PlainFiles.{no_ban}
@@ -49,9 +48,9 @@ module _ (l : Lexed) where
   pub told_unplain : (x : Refusal) (f : IdlFault) → Fails x read → IsToldUnplain l x f → IsToldPlain l (Err f)
   told_unplain refusal.Memory f h e = subst (λ (g : IdlFault). IsToldPlain l (Err g)) (sym e) tt
   told_unplain (refusal.Syntax k) f h e =
-      subst (λ (g : IdlFault). IsToldPlain l (Err g)) (sym e) (k, record { place = inl (judged (Err (Syntax k)) h) }, refl)
+      subst (λ (g : IdlFault). IsToldPlain l (Err g)) (sym e) (k, inl (judged (Err (Syntax k)) h), refl)
   told_unplain (refusal.Deep k) f h e =
-      subst (λ (g : IdlFault). IsToldPlain l (Err g)) (sym e) (k, record { place = inr (judged (Err (Passes Depth k)) h) }, refl)
+      subst (λ (g : IdlFault). IsToldPlain l (Err g)) (sym e) (k, inr (judged (Err (Passes Depth k)) h), refl)
   told_unplain (refusal.Banned k) f h e = absurd (no_ban (lexemes l) k (judged (Err (Passes Ban k)) h))
 
 -- ## texts

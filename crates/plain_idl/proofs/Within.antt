@@ -1,9 +1,9 @@
 -- The token of a fault is one of the text, or its end.
-use Rattle.std.proofs.Common.{◌≡◌, ℕ, ◌+◌, ◌<◌, ◌≤◌, Bool, true, false, cond, eqb, [], length, map, refl, sym, ap, subst, arith, ◌∙◌, Result, Ok, Err}
+use Rattle.std.proofs.Common.{◌≡◌, ℕ, ◌+◌, ◌<◌, ◌≤◌, Bool, true, false, cond, eqb, [], length, refl, sym, subst, arith, Result, Ok, Err}
 use Rattle.std.proofs.lemmas.List.{length-map}
 use Rattle.phrases.specs.declared.Refusal.{Refusal}
 use Rattle.phrases.specs.declared.Refusal.TheVariants as refusal
-use Rattle.phrases.specs.Text.{Text, Rel, Depth, Ban, symbol_at, is}
+use Rattle.phrases.specs.Text.{Text, Rel, Depth, Ban}
 use Rattle.phrases.specs.Reading.{Fault, Syntax, Passes, Read}
 use Rattle.phrases.specs.Gives.{Fails}
 use Rattle.phrases.specs.Verdict.{whole_read}
@@ -23,7 +23,7 @@ use Rattle.idl_grammar.proofs.RealTokens.{lexemes_real}
 use Rattle.idl_parser.specs.declared.fault.SyntaxFault.{SyntaxFault}
 use Rattle.idl_parser.specs.declared.fault.SyntaxFault.TheVariants as syntax
 use Rattle.idl_parser.specs.Answered.{Told}
-use Rattle.plain_idl.specs.Plain.{PlainFile, file}
+use Rattle.plain_idl.specs.Plain.{file}
 use Rattle.plain_idl.specs.Reading.{file_read}
 use Rattle.plain_idl.specs.Seen.{IsOfText, IsRefusalOf}
 use Rattle.plain_idl.proofs.Exact.{file_exact}

@@ -1,23 +1,21 @@
 -- The names that a plain file declares are words.
-use Rattle.std.proofs.Common.{◌≡◌, ℕ, zero, suc, ◌+◌, ◌<◌, ◌≤◌, Bool, true, false, ◌&&◌, cond, List, [], ◌∷◌, length, map, slice_range, slice_index, slice_get, Some, refl, sym, ap, subst, arith, ◌∙◌}
-use Rattle.std.specs.List.{AllByRecursion, list_all}
+use Rattle.std.proofs.Common.{◌≡◌, ℕ, zero, suc, ◌<◌, Bool, true, false, ◌&&◌, List, [], ◌∷◌, length, map, slice_range, slice_index, slice_get, Some, refl, sym, ap, subst, arith, ◌∙◌}
+use Rattle.std.specs.List.{list_all}
 use Rattle.phrases.specs.Text.{Text, lexeme_at, symbol_at, is_in, Lifted}
 use Rattle.phrases.specs.Verdict.{strict}
 use Rattle.phrases.proofs.Parts.{clash}
-use Rattle.idl_lexer.specs.declared.tokens.TokenKind.TheVariants as token
 use Rattle.idl_lexer.specs.declared.tokens.Token.{Token}
-use Rattle.idl_lexer.specs.Lexed.{Lexed}
 use Rattle.idl_lexer.specs.Classes.{is_letter, is_word_octet}
 use Rattle.idl_lexer.specs.Pieces.{IsRun}
 use Rattle.idl_lexer.specs.Verdict.{AreTokens}
 use Rattle.idl_lexer.proofs.Words.{AreFit, tokens_fit}
-use Rattle.idl_grammar.specs.Lexemes.{symbol_of, lexeme_of, lexemes}
+use Rattle.idl_grammar.specs.Lexemes.{lexeme_of, lexemes}
 use Rattle.idl_grammar.specs.Limits.{names}
 use Rattle.nd_types.specs.declared.types.Param.{Param}
 use Rattle.nd_types.specs.declared.types.Operation.{Operation}
 use Rattle.nd_types.specs.declared.interface.Interface.{Interface}
 use Rattle.plain_idl.specs.Names.{is_word, HasWords}
-use Rattle.plain_idl.specs.Plain.{new_name, named_items, parameter, parameters, operation, PlainFile, file}
+use Rattle.plain_idl.specs.Plain.{new_name, named_items, parameter, parameters, operation}
 use Rattle.plain_idl.specs.Reading.{param_name, operation_name}
 use Rattle.plain_idl.specs.Answers.{IsPlainFile}
 use Rattle.plain_idl.proofs.Named.{kind_of_name, end_is_no_name}

@@ -5,7 +5,6 @@ use Rattle.phrases.specs.Reading.{Fault, Syntax, Passes}
 use Rattle.phrases.specs.Verdict.{IsTree, IsSyntax, IsRefused}
 use Rattle.idl_lexer.specs.Lexed.{Lexed, place_of}
 use Rattle.idl_lexer.specs.Verdict.{AreTokens, IsVerdict, Refused}
-use Rattle.idl_lexer.specs.declared.tokens.Token.{Token}
 use Rattle.idl_grammar.specs.Lexemes.{lexemes}
 use Rattle.idl_grammar.specs.Tree.{Tree}
 use Rattle.idl_grammar.specs.Grammar as grammar
@@ -27,11 +26,12 @@ pub record IsLexed (text : List ℕ) (lexed : Lexed) : Type 0 where
 abbrev pub IsParsed : Lexed → Result Tree Fault → Type 0
 IsParsed lexed answer = grammar_answers.Answers grammar.file (lexemes lexed) answer
 
--- Token k is the first such that the tokens up to it begin no plain file, or it repeats a name or is one too many.
-pub record IsFirstUnplain (t : Text) (k : ℕ) : Type 0 where
-  pub place : IsSyntax file t k ⊎ IsRefused file t Depth k
+-- The tokens before token k begin a plain file. With k they begin none, or k is a name that stands before it in its list, or the first
+-- token of an operation or a parameter too many. (`Depth` is the rule for both limits of plain files.)
+abbrev pub IsFirstUnplain : Text → ℕ → Type 0
+IsFirstUnplain t k = IsSyntax file t k ⊎ IsRefused file t Depth k
 
--- the interface that a plain file declares; where no version is written it is 0.0
+-- the interface that a plain file declares; a plain file has no version, which is 0.0
 pub record IsDeclared (f : PlainFile) (i : Interface) : Type 0 where
   pub name : i.name ≡ f.name
   pub uuid : i.uuid ≡ Some f.id
@@ -50,7 +50,8 @@ pub record IsPlainFile (text : List ℕ) (i : Interface) : Type 0 where
   pub plain : IsTree file (lexemes lexed) declares
   pub declared : IsDeclared declares i
 
--- The text is cut into tokens, of which the k-th begins at an octet, and is no file of the language for this fault.
+-- The text is cut into tokens, and is no file of the language for this fault. Token k begins at this octet, which is the text's length
+-- where k is the count of tokens.
 pub record IsUnparsed (text : List ℕ) (at : ℕ) (fault : Fault) (k : ℕ) : Type 0 where
   pub lexed : Lexed
   pub is_lexed : IsLexed text lexed
@@ -66,7 +67,8 @@ pub record IsBannedWord (text : List ℕ) (at : ℕ) (word : List ℕ) : Type 0 
   pub octet : at ≡ place_of lexed token
   pub is_word : word ≡ (lexeme_at (lexemes lexed) token).octets
 
--- The text is a file of the language, and no plain one from a token on, which begins at this octet.
+-- The text is a file of the language, and no plain one from a token on, which begins at this octet. The octet is the text's length where
+-- the token is the end.
 pub record IsNotBuilt (text : List ℕ) (at : ℕ) : Type 0 where
   pub lexed : Lexed
   pub is_lexed : IsLexed text lexed
@@ -76,8 +78,8 @@ pub record IsNotBuilt (text : List ℕ) (at : ℕ) : Type 0 where
   pub unplain : IsFirstUnplain (lexemes lexed) token
   pub octet : at ≡ place_of lexed token
 
--- The text is refused at this octet for this reason: nothing can be cut there, or no file of the language goes on there, or a limit
--- or a ban refuses what stands there, or it is no plain file from there on.
+-- The text is refused at this octet for this reason: it cannot be cut into tokens, or is too long; or no file of the language goes on
+-- there, or a limit or a ban refuses what stands there; or it is no plain file from there on.
 abbrev pub IsIdlFault : List ℕ → ℕ → IdlReason → Type 0
 IsIdlFault text at (reason.Lexical kind) = IsVerdict text (Refused at kind)
 IsIdlFault text at reason.Syntax = (k : ℕ) × IsUnparsed text at (Syntax k) k

@@ -1,6 +1,7 @@
 -- Plain files: interfaces whose operations take signed integers and give nothing back (C706, sections 4.2.3 to 4.2.13, cut down to
 -- these). It is a grammar over the tokens of the whole language, as `idl_grammar` has it. Beside it stand two limits: of how many
--- operations and parameters there are, and that a name does not repeat one before it in its list.
+-- operations and parameters there are, and that a name does not repeat one before it in its list. The rule `Depth` of the phrases
+-- stands for both limits here; a plain file has no other depth.
 --
 --   file      = "[" "uuid" "(" Uuid ")" "]" "interface" Ident "{" { operation } "}"
 --   operation = "void" Ident "(" [ parameter { "," parameter } ] ")" ";"
@@ -8,7 +9,7 @@
 use Rattle.std.specs.Prelude.{ℕ, Bool, false, List, [], ◌∷◌, None, length, leb}
 use Rattle.std.specs.List.{list_any}
 use Rattle.std.specs.Str.{bytes_eq}
-use Rattle.phrases.specs.Text.{Text, Lexeme, Phrase, Rel, Depth, mark, nothing, token, unless, made, lexeme_at, is, is_in, ◌▹◌, ◌⊗◌, ◌⊳◌}
+use Rattle.phrases.specs.Text.{Text, Rel, Depth, mark, nothing, token, unless, made, lexeme_at, is_in, ◌▹◌, ◌⊗◌, ◌⊳◌}
 use Rattle.idl_grammar.specs.Symbols as symbol
 use Rattle.idl_grammar.specs.Limits.{Meant, meant, names}
 use Rattle.idl_grammar.specs.Grammar.{one_of}
@@ -46,6 +47,7 @@ named_items name_of item before (a ∷ others) = item before a ▹ named_items n
 abbrev pub integer_words : List (Meant ℕ)
 integer_words = meant symbol.Small 3 ∷ meant symbol.Short 5 ∷ meant symbol.Long 7 ∷ meant symbol.Hyper 9 ∷ []
 
+-- (the 3 would be the number of a word that is none of these, which is no integer)
 abbrev pub integer : Rel ℕ
 integer = one_of 3 integer_words
 

@@ -1,5 +1,5 @@
 -- What the functions that read a plain file give, on lists: one reading for each, in the shape of its calls.
-use Rattle.std.specs.Prelude.{ℕ, zero, suc, ◌+◌, Bool, false, List, [], ◌∷◌, cond, length, Ok, Err}
+use Rattle.std.specs.Prelude.{ℕ, zero, suc, ◌+◌, ◌*◌, Bool, false, ◌==◌, List, [], ◌∷◌, cond, length, Option, Some, None, Ok}
 use Rattle.phrases.specs.Text.{Text, Lexeme, lexeme_at, symbol_at, is, is_in, Depth}
 use Rattle.phrases.specs.Reading.{Read, then, turned, token_read, ruled_read, mark_read, to_unit, skip, end_with, behind_read}
 use Rattle.idl_grammar.specs.Symbols as symbol
@@ -9,7 +9,7 @@ use Rattle.nd_types.specs.declared.types.Param.{Param}
 use Rattle.nd_types.specs.declared.types.Operation.{Operation}
 use Rattle.nd_types.specs.declared.TheConstants.{OPERATION_LIMIT, PARAM_LIMIT}
 use Rattle.nd_types.specs.Plain.{plain_param}
-use Rattle.plain_idl.specs.Uuid.{is_uuid, uuid_value}
+use Rattle.plain_idl.specs.Uuid.{is_hex_digit, hex_digit, has_form, hex_number, is_uuid, uuid_value}
 use Rattle.plain_idl.specs.Plain.{is_known, is_surplus, integer_words, plain_operation, PlainFile}
 
 -- ## Items one after the other, each beside the names of all before it
@@ -63,6 +63,22 @@ more_parameters_read before t i = named_read symbol.Comma param_name (λ before 
 unfoldable pub parameters_read : Text → ℕ → Read (List Param)
 parameters_read t i =
     cond (is (symbol_at t i) symbol.OpenSquare) (turned (λ p. p.0 ∷ p.1) (then (parameter_read [] t i) (λ p m. more_parameters_read (param_name p ∷ []) t m))) (Ok ([], i))
+
+-- ## UUIDs, place by place
+
+-- the value with what stands at a place of a form, where it fits
+abbrev pub place_at : ℕ → ℕ → ℕ → Option ℕ
+place_at place value c =
+    cond (place == 45) (cond (c == 45) (Some value) None) (cond (is_hex_digit c) (Some (16 * value + hex_digit c)) None)
+
+-- the number that octets of a form write, behind the digits of a value
+abbrev pub value_in_form : List ℕ → ℕ → List ℕ → Option ℕ
+value_in_form form value octets = cond (has_form form octets) (Some (hex_number value octets)) None
+
+-- how many digits a form has
+abbrev pub digit_count : List ℕ → ℕ
+digit_count [] = 0
+digit_count (place ∷ form) = cond (place == 45) (digit_count form) (digit_count form + 1)
 
 -- ## Operations and files
 

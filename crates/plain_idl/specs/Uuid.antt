@@ -1,5 +1,5 @@
 -- A UUID as a token (C706, appendix A.1): 8, 4, 4, 4 and 12 hexadecimal digits joined by `-`.
-use Rattle.std.specs.Prelude.{ℕ, ◌+◌, ◌-◌, ◌*◌, Bool, true, false, ◌==◌, ◌&&◌, ◌||◌, nat_le, if◌then◌else◌, List, [], ◌∷◌, Option, Some, None, codes}
+use Rattle.std.specs.Prelude.{ℕ, ◌+◌, ◌-◌, ◌*◌, Bool, true, false, ◌==◌, ◌&&◌, ◌||◌, nat_le, if◌then◌else◌, List, [], ◌∷◌, codes}
 use Rattle.phrases.specs.Text.{Lexeme, is}
 use Rattle.idl_grammar.specs.Symbols as symbol
 
@@ -38,19 +38,3 @@ is_uuid a = is a.symbol symbol.UuidValue && has_form uuid_form a.octets
 -- its value: the most significant octet is written first
 abbrev pub uuid_value : Lexeme → ℕ
 uuid_value a = hex_number 0 a.octets
-
--- ## Place by place
-
--- the value with what stands at a place of a form, where it fits
-abbrev pub place_at : ℕ → ℕ → ℕ → Option ℕ
-place_at place value c =
-    if place == 45 then (if c == 45 then Some value else None) else (if is_hex_digit c then Some (16 * value + hex_digit c) else None)
-
--- the number that octets of a form write, behind the digits of a value
-abbrev pub value_in_form : List ℕ → ℕ → List ℕ → Option ℕ
-value_in_form form value octets = if has_form form octets then Some (hex_number value octets) else None
-
--- how many digits a form has
-abbrev pub digit_count : List ℕ → ℕ
-digit_count [] = 0
-digit_count (place ∷ form) = if place == 45 then digit_count form else digit_count form + 1

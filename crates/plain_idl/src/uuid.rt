@@ -1,6 +1,7 @@
 // The value of a UUID (C706, appendix A.1).
 ghost use Rattle.std.specs.Prelude.{◌≡◌, ◌≢◌, ◌+◌, ◌*◌, ◌≤◌, ◌<◌, ◌^◌, Some, None, length, IfSome, if◌then◌else◌};
-ghost use Rattle.plain_idl.specs.Uuid.{is_hex_digit, hex_digit, uuid_form, place_at, value_in_form, digit_count};
+ghost use Rattle.plain_idl.specs.Uuid.{is_hex_digit, hex_digit, uuid_form};
+ghost use Rattle.plain_idl.specs.Reading.{place_at, value_in_form, digit_count};
 
 /// The form of a UUID: each `d` stands for a hexadecimal digit, and a hyphen for itself.
 const UUID_FORM: &[u8; 36] = b"dddddddd-dddd-dddd-dddd-dddddddddddd";

@@ -1,4 +1,4 @@
-use Rattle.std.proofs.Common.{◌≡◌, ◌<◌, ◌≤◌, true, [], ◌∷◌, ◌++◌, length, arith}
+use Rattle.std.proofs.Common.{◌≡◌, true, [], ◌∷◌, ◌++◌, arith}
 use Rattle.phrases.specs.Text.{symbol_at, is}
 use Rattle.idl_grammar.specs.Symbols as symbol
 use Rattle.plain_idl.specs.Reading.{operation_name, operation_read, operations_read}

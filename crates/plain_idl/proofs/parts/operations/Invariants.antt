@@ -1,4 +1,4 @@
-use Rattle.std.proofs.Common.{◌≡◌, ◌-◌, ◌≤◌, List, [], length}
+use Rattle.std.proofs.Common.{◌-◌, ◌≤◌, length}
 use Rattle.idl_grammar.specs.Symbols as symbol
 use Rattle.plain_idl.specs.Reading.{operation_name, operation_read, operations_read}
 use Rattle.plain_idl.proofs.NamedGathered.{NamedGathered}

@@ -1,7 +1,7 @@
-use Rattle.std.proofs.Common.{◌≡◌, ◌<◌, ◌≤◌, true, [], ◌∷◌, ◌++◌, length, arith}
+use Rattle.std.proofs.Common.{◌≡◌, true, [], ◌∷◌, ◌++◌, arith}
 use Rattle.phrases.specs.Text.{symbol_at, is}
 use Rattle.idl_grammar.specs.Symbols as symbol
-use Rattle.plain_idl.specs.Reading.{param_name, parameter_read, next_parameter_read, parameters_read}
+use Rattle.plain_idl.specs.Reading.{param_name, next_parameter_read, parameters_read}
 use Rattle.plain_idl.proofs.Loops.{parameters_begin}
 use Rattle.plain_idl.proofs.NamedGathered.{gathers}
 use Rattle.plain_idl.proofs.parts.parameters.Goals as goal

@@ -1,4 +1,4 @@
-use Rattle.std.proofs.Common.{◌≡◌, ◌-◌, ◌≤◌, List, [], length}
+use Rattle.std.proofs.Common.{◌-◌, ◌≤◌, length}
 use Rattle.idl_grammar.specs.Symbols as symbol
 use Rattle.plain_idl.specs.Reading.{param_name, next_parameter_read, parameters_read}
 use Rattle.plain_idl.proofs.NamedGathered.{NamedGathered}

@@ -1,11 +1,10 @@
-use Rattle.std.proofs.Common.{◌≡◌, List, Ok, Result, sym, ap, subst, ◌∙◌, length}
+use Rattle.std.proofs.Common.{◌≡◌, Ok, ap, subst, ◌∙◌, length}
 use Rattle.phrases.specs.Text.{Text}
-use Rattle.phrases.specs.Reading.{Fault}
 use Rattle.phrases.specs.Gives.{Fails}
 use Rattle.phrases.specs.Verdict.{whole_read}
 use Rattle.idl_grammar.specs.Lexemes.{lexemes}
 use Rattle.idl_parser.specs.Lexemes.{text_of}
-use Rattle.plain_idl.specs.Plain.{PlainFile, file}
+use Rattle.plain_idl.specs.Plain.{PlainFile}
 use Rattle.plain_idl.specs.Reading.{file_read}
 use Rattle.plain_idl.specs.Seen.{seen_file}
 use Rattle.plain_idl.proofs.PlainFiles.{declares_plain}

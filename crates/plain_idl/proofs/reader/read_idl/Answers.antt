@@ -1,4 +1,4 @@
-use Rattle.std.proofs.Common.{◌≡◌, List, ℕ, sym, subst}
+use Rattle.std.proofs.Common.{List, ℕ, sym, subst}
 use Rattle.idl_lexer.specs.Verdict.{AreTokens}
 use Rattle.plain_idl.proofs.Named.{has_names}
 use Rattle.plain_idl.proofs.Within.{fault_within}

@@ -1,5 +1,5 @@
-use Rattle.std.proofs.Common.{◌≡◌, ◌≢◌, ℕ, ◌<◌, ◌^◌, length, get_or, Some, sym, arith}
-use Rattle.plain_idl.specs.Uuid.{place_at, value_in_form}
+use Rattle.std.proofs.Common.{◌≡◌, ◌<◌, ◌^◌, length, sym}
+use Rattle.plain_idl.specs.Reading.{value_in_form}
 use Rattle.plain_idl.proofs.Forms.{place_read, other_length, has_room, keeps_room}
 use Rattle.plain_idl.proofs.uuid.number_in_form.Goals as goal
 

@@ -1,5 +1,5 @@
 use Rattle.std.proofs.Common.{◌≡◌, ◌≤◌, ◌+◌, ◌*◌, ◌^◌, drop}
-use Rattle.plain_idl.specs.Uuid.{value_in_form, digit_count}
+use Rattle.plain_idl.specs.Reading.{value_in_form, digit_count}
 use Rattle.plain_idl.proofs.uuid.number_in_form.Given as goal
 
 -- the places so far fit, and the value has room for the digits that are left
