@@ -3,4 +3,7 @@ pub mod Exact
 pub mod PlainFiles
 pub mod Judged
 pub mod OneVerdict
-pub mod Named
+pub mod Behind
+pub mod NamedGathered
+pub mod Loops
+pub mod Forms
