@@ -7,3 +7,6 @@ pub mod Behind
 pub mod NamedGathered
 pub mod Loops
 pub mod Forms
+pub mod Within
+pub mod Told
+pub mod Named
