@@ -10,10 +10,10 @@ use std::alloc::{AllocError, Global};
 
 /// A token: its symbol, the octet where it begins, and its octets.
 #[derive(Clone, Copy)]
-pub(crate) struct Lexeme<'a> {
-    pub(crate) symbol: u8,
-    pub(crate) at: u32,
-    pub(crate) octets: &'a [u8],
+pub struct Lexeme<'a> {
+    pub symbol: u8,
+    pub at: u32,
+    pub octets: &'a [u8],
 }
 
 /// The symbol that is spelled so, or another where the table has none.
@@ -44,7 +44,7 @@ fn symbol_of(kind: TokenKind, octets: &[u8]) -> u8
 }
 
 /// The tokens of a text as the grammar sees them, in one pass.
-pub(crate) fn lexemes(alloc: Global, tokens: &Tokens) -> Result<Vec<Lexeme<'_>>, AllocError>
+pub fn lexemes(alloc: Global, tokens: &Tokens) -> Result<Vec<Lexeme<'_>>, AllocError>
     ensures { IfOk result (λ v. text_of v.items ≡ grammar_lexemes tokens.now) }
 {
     let mut list = Vec::with_capacity(alloc, tokens.count() as usize)?;

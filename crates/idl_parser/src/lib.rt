@@ -7,13 +7,13 @@ mod enums;
 mod expression;
 mod fault;
 mod file;
-mod lexemes;
+pub mod lexemes;
 mod operators;
 mod parameters;
-mod parser;
+pub mod parser;
 mod parsing;
 mod simple;
-mod symbol;
+pub mod symbol;
 #[cfg(test)]
 mod tests;
 mod types;

@@ -23,7 +23,7 @@ const DEPTH_LIMIT: usize = 64;
 /// What the functions of the parser read. Each goes from a place, the number of a token, to what stands there and
 /// the place past it.
 #[derive(Drop)]
-pub(crate) struct Parser<'a> {
+pub struct Parser<'a> {
     alloc: Global,
     lexemes: &'a [Lexeme<'a>],
 }
@@ -89,7 +89,7 @@ pub(crate) fn is_name_symbol(inside: bool, symbol: u8) -> bool
 
 impl<'a> Parser<'a> {
     /// A parser of these tokens.
-    pub(crate) fn new(alloc: Global, lexemes: &'a [Lexeme<'a>]) -> Parser<'a>
+    pub fn new(alloc: Global, lexemes: &'a [Lexeme<'a>]) -> Parser<'a>
         ensures { result ≡ text_of lexemes.now }
     {
         Parser { alloc, lexemes }
@@ -98,19 +98,19 @@ impl<'a> Parser<'a> {
 
 impl Parser<'_> {
     /// How many tokens there are.
-    pub(crate) fn count(&self) -> usize
+    pub fn count(&self) -> usize
         ensures { result ≡ length self.now }
     {
         self.lexemes.len()
     }
 
     /// The allocator of what is read.
-    pub(crate) fn alloc(&self) -> Global {
+    pub fn alloc(&self) -> Global {
         self.alloc
     }
 
     /// The symbol at a place, that of the end past the last token.
-    pub(crate) fn symbol(&self, at: usize) -> u8
+    pub fn symbol(&self, at: usize) -> u8
         ensures { result ≡ symbol_at self.now at }
     {
         match self.lexemes.get(at) {
@@ -120,21 +120,21 @@ impl Parser<'_> {
     }
 
     /// Whether a symbol stands at a place.
-    pub(crate) fn stands(&self, wanted: u8, at: usize) -> bool
+    pub fn stands(&self, wanted: u8, at: usize) -> bool
         ensures { result ≡ is (symbol_at self.now at) wanted }
     {
         self.symbol(at) == wanted
     }
 
     /// Whether one of these symbols stands at a place.
-    pub(crate) fn begins(&self, symbols: &[u8], at: usize) -> bool
+    pub fn begins(&self, symbols: &[u8], at: usize) -> bool
         ensures { result ≡ is_in symbols.now (symbol_at self.now at) }
     {
         is_among(symbols, self.symbol(at))
     }
 
     /// The octet where a token begins, 0 past the last token.
-    pub(crate) fn octet(&self, at: usize) -> u32
+    pub fn octet(&self, at: usize) -> u32
         ensures { result ≡ (lexeme_at self.now at).at }
     {
         match self.lexemes.get(at) {
@@ -144,7 +144,7 @@ impl Parser<'_> {
     }
 
     /// The place past a token.
-    pub(crate) fn past(&self, at: usize) -> usize
+    pub fn past(&self, at: usize) -> usize
         requires { at < length self.now }
         ensures { result ≡ at + 1 }
     {
@@ -153,7 +153,7 @@ impl Parser<'_> {
     }
 
     /// A token as it is spelled.
-    pub(crate) fn copied(&self, at: usize) -> Result<Spelling, Refusal>
+    pub fn copied(&self, at: usize) -> Result<Spelling, Refusal>
         requires { at < length self.now }
         ensures spelling { IfOk result (λ s. s ≡ spelling_of (lexeme_at self.now at)) }
         ensures refusal { IfErr result (λ e. e ≡ refusal.Memory) }
@@ -172,7 +172,7 @@ impl Parser<'_> {
 
     /// A mark or a word.
     #[tactic(auto, using(phrases::proofs::Within::mark_within))]
-    pub(crate) fn mark(&self, wanted: u8, at: usize) -> Result<usize, Refusal>
+    pub fn mark(&self, wanted: u8, at: usize) -> Result<usize, Refusal>
         requires real { is 0 wanted ≡ false }
         requires within { at ≤ length self.now }
         ensures gives { GivesPlace result (mark_read wanted self.now at) }
@@ -186,7 +186,7 @@ impl Parser<'_> {
 
     /// The octet of a mark or a word.
     #[tactic(auto, using(phrases::proofs::Within::mark_within))]
-    pub(crate) fn placed(&self, wanted: u8, at: usize) -> Result<(u32, usize), Refusal>
+    pub fn placed(&self, wanted: u8, at: usize) -> Result<(u32, usize), Refusal>
         requires real { is 0 wanted ≡ false }
         requires within { at ≤ length self.now }
         ensures gives { Gives (λ x. x) result (placed_read wanted self.now at) }
@@ -200,7 +200,7 @@ impl Parser<'_> {
 
     /// The octet of a bracket that opens, with so many others open.
     #[tactic(auto, using(phrases::proofs::Within::mark_within))]
-    pub(crate) fn opening(
+    pub fn opening(
         &self,
         depth: usize,
         wanted: u8,
@@ -222,7 +222,7 @@ impl Parser<'_> {
 
     /// A bracket that opens, with so many others open.
     #[tactic(auto, using(phrases::proofs::Within::mark_within))]
-    pub(crate) fn open(&self, depth: usize, wanted: u8, at: usize) -> Result<usize, Refusal>
+    pub fn open(&self, depth: usize, wanted: u8, at: usize) -> Result<usize, Refusal>
         requires real { is 0 wanted ≡ false }
         requires within { at ≤ length self.now }
         ensures gives { GivesPlace result (open_read depth wanted self.now at) }
@@ -239,7 +239,7 @@ impl Parser<'_> {
 
     /// A token of a symbol, as it is spelled.
     #[tactic(auto, using(phrases::proofs::Within::mark_within))]
-    pub(crate) fn spelled(&self, wanted: u8, at: usize) -> Result<(Spelling, usize), Refusal>
+    pub fn spelled(&self, wanted: u8, at: usize) -> Result<(Spelling, usize), Refusal>
         requires real { is 0 wanted ≡ false }
         requires within { at ≤ length self.now }
         ensures gives { Gives (λ x. x) result (spelled_read wanted self.now at) }
@@ -252,7 +252,7 @@ impl Parser<'_> {
     }
 
     /// Whether a name stands at a place, inside attribute brackets or outside.
-    pub(crate) fn is_name(&self, inside: bool, at: usize) -> bool
+    pub fn is_name(&self, inside: bool, at: usize) -> bool
         ensures { result ≡ is_in (names inside) (symbol_at self.now at) }
     {
         is_name_symbol(inside, self.symbol(at))
@@ -260,7 +260,7 @@ impl Parser<'_> {
 
     /// A name, inside attribute brackets or outside.
     #[tactic(auto, using(crate::proofs::Basics::name_within))]
-    pub(crate) fn ident(&self, inside: bool, at: usize) -> Result<(Spelling, usize), Refusal>
+    pub fn ident(&self, inside: bool, at: usize) -> Result<(Spelling, usize), Refusal>
         requires within { at ≤ length self.now }
         ensures gives { Gives (λ x. x) result (ident_read inside self.now at) }
         ensures within { IfOk result (λ x. (at < x.1) × (x.1 ≤ length self.now)) }

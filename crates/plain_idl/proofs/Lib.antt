@@ -1,9 +1,6 @@
-pub mod Forms
-pub mod Apart
-pub mod Gathered
-pub mod Steps
-pub mod Octets
-pub mod Cuts
-pub mod Grammar
-pub mod Many
-pub mod File
+pub mod Items
+pub mod Exact
+pub mod PlainFiles
+pub mod Judged
+pub mod OneVerdict
+pub mod Named

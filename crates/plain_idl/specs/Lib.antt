@@ -1,4 +1,5 @@
-pub mod Tokens
+pub mod Uuid
 pub mod Plain
+pub mod Names
 pub mod Reading
-pub mod Limits
+pub mod Answers

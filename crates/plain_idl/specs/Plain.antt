@@ -1,82 +1,88 @@
--- Plain files: which interface a text declares, where its operations take signed integers alone.
+-- Plain files: interfaces whose operations take signed integers and give nothing back (C706, sections 4.2.3 to 4.2.13, cut down to
+-- these). It is a grammar over the tokens of the whole language, as `idl_grammar` has it. Beside it stand two limits: of how many
+-- operations and parameters there are, and that a name does not repeat one before it in its list.
 --
 --   file      = "[" "uuid" "(" Uuid ")" "]" "interface" Ident "{" { operation } "}"
 --   operation = "void" Ident "(" [ parameter { "," parameter } ] ")" ";"
 --   parameter = "[" "in" "]" ( "small" | "short" | "long" | "hyper" ) Ident
-use Rattle.std.specs.Prelude.{◌≡◌, ℕ, ◌≤◌, Bool, true, not, ◌&&◌, nat_le, List, [], ◌∷◌, ◌++◌, Option, Some, None, IsSome, length, codes, flat_map}
-use Rattle.std.specs.List.{list_all, list_any}
+use Rattle.std.specs.Prelude.{ℕ, Bool, false, List, [], ◌∷◌, None, length, leb}
+use Rattle.std.specs.List.{list_any}
 use Rattle.std.specs.Str.{bytes_eq}
-use Rattle.nd_base.specs.declared.TheConstants.{FILE_LIMIT}
-use Rattle.nd_types.specs.declared.types.TypeDef.{TypeDef}
-use Rattle.nd_types.specs.declared.types.TypeDef.TheVariants.{Prim}
-use Rattle.nd_types.specs.declared.types.Primitive.TheVariants.{Small, Short, Long, Hyper}
+use Rattle.phrases.specs.Text.{Text, Lexeme, Phrase, Rel, Depth, mark, nothing, token, unless, made, lexeme_at, is, is_in, ◌▹◌, ◌⊗◌, ◌⊳◌}
+use Rattle.idl_grammar.specs.Symbols as symbol
+use Rattle.idl_grammar.specs.Limits.{Meant, meant, names}
+use Rattle.idl_grammar.specs.Grammar.{one_of}
 use Rattle.nd_types.specs.declared.types.Param.{Param}
 use Rattle.nd_types.specs.declared.types.Operation.{Operation}
-use Rattle.nd_types.specs.declared.interface.Interface.{Interface}
-use Rattle.nd_types.specs.Table.{type_at}
-use Rattle.nd_types.specs.Kinds.{basic_types}
-use Rattle.nd_types.specs.Plain.{IsPlainInterface}
-use Rattle.plain_idl.specs.Tokens.{Token, Word, Uuid, AreCut, open_square, close_square, open_round, close_round, open_curly, close_curly, comma, semicolon}
+use Rattle.nd_types.specs.declared.TheConstants.{OPERATION_LIMIT, PARAM_LIMIT}
+use Rattle.nd_types.specs.Plain.{plain_param}
+use Rattle.plain_idl.specs.Uuid.{is_uuid, uuid_value}
 
-abbrev pub reserved_words : List (List ℕ)
-reserved_words =
-    codes "boolean" ∷ codes "byte" ∷ codes "case" ∷ codes "char" ∷ codes "const" ∷ codes "default" ∷ codes "double"
-    ∷ codes "enum" ∷ codes "FALSE" ∷ codes "float" ∷ codes "handle_t" ∷ codes "hyper" ∷ codes "import" ∷ codes "int"
-    ∷ codes "interface" ∷ codes "long" ∷ codes "NULL" ∷ codes "pipe" ∷ codes "short" ∷ codes "small" ∷ codes "struct"
-    ∷ codes "switch" ∷ codes "TRUE" ∷ codes "typedef" ∷ codes "union" ∷ codes "unsigned" ∷ codes "void" ∷ []
+-- ## Names, and the limits
 
--- words of the language that may stand nowhere here (float and double, which may not either, are reserved)
-abbrev pub banned_words : List (List ℕ)
-banned_words = codes "wchar_t" ∷ codes "ISO_LATIN_1" ∷ codes "ISO_MULTI_LINGUAL" ∷ codes "ISO_UCS" ∷ []
+abbrev pub name : Rel (List ℕ)
+name = token (λ a. is_in (names false) a.symbol) (λ a. a.octets)
 
--- a word that can be a name: at most 31 octets, neither reserved nor banned
-abbrev pub is_ident : List ℕ → Bool
-is_ident word = nat_le (length word) 31 && not (list_any (bytes_eq word) (reserved_words ++ banned_words))
+-- whether the token is spelled as one of these
+abbrev pub is_known : List (List ℕ) → Text → ℕ → Bool
+is_known before x i = list_any (bytes_eq (lexeme_at x i).octets) before
 
--- the word for an integer type
-abbrev pub type_word : Option TypeDef → List ℕ
-type_word (Some (Prim Small)) = codes "small"
-type_word (Some (Prim Short)) = codes "short"
-type_word (Some (Prim Long)) = codes "long"
-type_word (Some (Prim Hyper)) = codes "hyper"
-type_word _ = []
+-- whether one more would be too many
+abbrev pub is_surplus : ℕ → List (List ℕ) → Text → ℕ → Bool
+is_surplus limit before x i = leb limit (length before)
 
--- ## The tokens of an interface, line by line as in the grammar
+-- a name that is none of those before it
+abbrev pub new_name : List (List ℕ) → Rel (List ℕ)
+new_name before n = unless Depth (is_known before) (name n)
 
-abbrev pub param_tokens : Param → List Token
-param_tokens p =
-    open_square ∷ Word (codes "in") ∷ close_square ∷ Word (type_word (type_at basic_types p.field.of.0)) ∷ Word p.field.name ∷ []
+-- items one after the other, each beside the names of all before it, the last of them first
+abbrev pub named_items : {A : Type 0} → (A → List ℕ) → (List (List ℕ) → Rel A) → List (List ℕ) → Rel (List A)
+named_items name_of item before [] = nothing
+named_items name_of item before (a ∷ others) = item before a ▹ named_items name_of item (name_of a ∷ before) others
 
-abbrev pub params_tokens : List Param → List Token
-params_tokens [] = []
-params_tokens (p ∷ ps) = param_tokens p ++ flat_map (λ q. comma ∷ param_tokens q) ps
+-- ## Parameters
 
-abbrev pub operation_tokens : Operation → List Token
-operation_tokens o = Word (codes "void") ∷ Word o.name ∷ open_round ∷ (params_tokens o.params ++ (close_round ∷ semicolon ∷ []))
+-- the words for the signed integers, and the numbers of their types
+abbrev pub integer_words : List (Meant ℕ)
+integer_words = meant symbol.Small 3 ∷ meant symbol.Short 5 ∷ meant symbol.Long 7 ∷ meant symbol.Hyper 9 ∷ []
 
-abbrev pub uuid_tokens : Option ℕ → List Token
-uuid_tokens None = []
-uuid_tokens (Some id) = open_square ∷ Word (codes "uuid") ∷ open_round ∷ Uuid id ∷ close_round ∷ close_square ∷ []
+abbrev pub integer : Rel ℕ
+integer = one_of 3 integer_words
 
-abbrev pub tokens_of : Interface → List Token
-tokens_of i =
-    uuid_tokens i.uuid
-    ++ (Word (codes "interface") ∷ Word i.name ∷ open_curly ∷ (flat_map operation_tokens i.operations ++ (close_curly ∷ [])))
+abbrev pub typed_name : List (List ℕ) → Rel Param
+typed_name before = made (λ c. plain_param c.1 c.0) (integer ⊗ new_name before)
 
--- ## Plain files
+abbrev pub parameter : List (List ℕ) → Rel Param
+parameter before p =
+    unless Depth (is_surplus PARAM_LIMIT before) (mark symbol.OpenSquare) ▹ mark symbol.In ▹ mark symbol.CloseSquare ▹ typed_name before p
 
--- the names of an operation and of its parameters can be names
-abbrev pub has_idents : Operation → Bool
-has_idents o = is_ident o.name && list_all (λ p. is_ident p.field.name) o.params
+-- nothing, or parameters with commas between
+abbrev pub parameters : Rel (List Param)
+parameters [] = nothing
+parameters (p ∷ others) =
+    parameter [] p ▹ named_items (λ q. q.field.name) (λ before. symbol.Comma ⊳ parameter before) (p.field.name ∷ []) others
 
--- The text is a plain file, and declares this interface.
-pub record IsPlainFile (text : List ℕ) (i : Interface) : Type 0 where
-  pub size : length text ≤ FILE_LIMIT
-  pub tokens : AreCut text (tokens_of i)
-  pub identified : IsSome i.uuid
-  pub names : (is_ident i.name && list_all has_idents i.operations) ≡ true
-  -- where no version is written it is 0.0
-  pub major : i.major ≡ 0
-  pub minor : i.minor ≡ 0
-  -- signed integers alone, not too many operations and parameters, and different names
-  pub plain : IsPlainInterface i.types i.operations
+-- ## Operations and files
+
+abbrev pub plain_operation : List ℕ → List Param → Operation
+plain_operation n params = record { name = n; params = params; result = None }
+
+-- a name with parameters
+abbrev pub signature : List (List ℕ) → Rel Operation
+signature before =
+    made (λ c. plain_operation c.0 c.1) (new_name before ⊗ (λ ps. mark symbol.OpenRound ▹ parameters ps ▹ mark symbol.CloseRound))
+
+abbrev pub operation : List (List ℕ) → Rel Operation
+operation before o = unless Depth (is_surplus OPERATION_LIMIT before) (mark symbol.Void) ▹ signature before o ▹ mark symbol.Semicolon
+
+-- what a plain file declares
+pub record PlainFile : Type 0 where
+  pub id : ℕ
+  pub name : List ℕ
+  pub operations : List Operation
+
+abbrev pub file : Rel PlainFile
+file f =
+    mark symbol.OpenSquare ▹ mark symbol.Uuid ▹ mark symbol.OpenRound ▹ token is_uuid uuid_value f.id ▹ mark symbol.CloseRound ▹ mark symbol.CloseSquare
+    ▹ mark symbol.Interface ▹ name f.name
+    ▹ mark symbol.OpenCurly ▹ named_items (λ o. o.name) operation [] f.operations ▹ mark symbol.CloseCurly

@@ -1,195 +1,104 @@
--- What the functions of the reader give, on lists.
-use Rattle.std.specs.Prelude.{◌≡◌, ℕ, zero, suc, ◌+◌, ◌*◌, Bool, true, false, not, ◌==◌, if◌then◌else◌, List, [], ◌∷◌, ◌++◌, length, codes, Option, Some, None, is_some, Result, Ok, Err}
-use Rattle.std.specs.Str.{bytes_eq}
-use Rattle.nd_types.specs.declared.types.TypeId.{TypeId}
+-- What the functions that read a plain file give, on lists: one reading for each, in the shape of its calls.
+use Rattle.std.specs.Prelude.{ℕ, zero, suc, ◌+◌, Bool, false, List, [], ◌∷◌, cond, length, Ok, Err}
+use Rattle.phrases.specs.Text.{Text, Lexeme, lexeme_at, symbol_at, is, is_in, Depth}
+use Rattle.phrases.specs.Reading.{Read, then, turned, token_read, ruled_read, mark_read, to_unit, skip, end_with, behind_read}
+use Rattle.idl_grammar.specs.Symbols as symbol
+use Rattle.idl_grammar.specs.Limits.{names}
+use Rattle.idl_grammar.specs.Reading.{one_of_read}
 use Rattle.nd_types.specs.declared.types.Param.{Param}
-use Rattle.nd_types.specs.declared.types.Way.TheVariants as way
 use Rattle.nd_types.specs.declared.types.Operation.{Operation}
-use Rattle.plain_idl.specs.declared.fault.PlainFault.{PlainFault}
-use Rattle.plain_idl.specs.declared.fault.PlainFault.TheVariants as faults
-use Rattle.plain_idl.specs.Tokens.{uuid_form, is_separator, is_letter, is_word_octet, is_hex_digit, hex_digit}
-use Rattle.plain_idl.specs.Plain.{is_ident}
+use Rattle.nd_types.specs.declared.TheConstants.{OPERATION_LIMIT, PARAM_LIMIT}
+use Rattle.nd_types.specs.Plain.{plain_param}
+use Rattle.plain_idl.specs.Uuid.{is_uuid, uuid_value}
+use Rattle.plain_idl.specs.Plain.{is_known, is_surplus, integer_words, plain_operation, PlainFile}
 
-infixl 10 ◌>>=◌
-abbrev pub ◌>>=◌ : {A B : Type 0} → Option A → (A → Option B) → Option B
-(Some x) >>= f = f x
-None >>= f = None
+-- ## Items one after the other, each beside the names of all before it
 
-abbrev pub Fails : {Y : Type 0} → PlainFault → Option Y → Type 0
-Fails faults.Memory read = Unit {0}
-Fails faults.NotBuilt read = read ≡ None
+-- the names of items behind others, the last of them first
+abbrev pub names_behind : {A : Type 0} → (A → List ℕ) → List (List ℕ) → List A → List (List ℕ)
+names_behind name_of before [] = before
+names_behind name_of before (a ∷ others) = names_behind name_of (name_of a ∷ before) others
 
--- what a function answered, seen by view, is what the reading gives, unless memory was wanting
-abbrev pub Gives : {X Y : Type 0} → (X → Y) → Result X PlainFault → Option Y → Type 0
-Gives view (Ok x) read = read ≡ Some (view x)
-Gives view (Err e) read = Fails e read
+abbrev pub items_read : {A : Type 0} → (Lexeme → Bool) → (A → List ℕ) → (List (List ℕ) → ℕ → Read A) → Text → ℕ → List (List ℕ) → ℕ → Read (List A)
+items_read go name_of item t zero before i = Ok ([], i)
+items_read go name_of item t (suc n) before i =
+    cond (go (lexeme_at t i)) (turned (λ p. p.0 ∷ p.1) (then (item before i) (λ a m. items_read go name_of item t n (name_of a ∷ before) m))) (Ok ([], i))
 
-abbrev pub is_empty : List ℕ → Bool
-is_empty [] = true
-is_empty (c ∷ cs) = false
+-- items while the next symbol is this one
+abbrev pub named_read : {A : Type 0} → ℕ → (A → List ℕ) → (List (List ℕ) → ℕ → Read A) → Text → List (List ℕ) → ℕ → Read (List A)
+named_read s name_of item t before i = items_read (λ a. is a.symbol s) name_of item t (suc (length t)) before i
 
--- the text without the separators at its front
-abbrev pub skip : List ℕ → List ℕ
-skip [] = []
-skip (c ∷ cs) = if is_separator c then skip cs else c ∷ cs
+-- a mark before an item, which may be one too many
+abbrev pub counted_read : ℕ → List (List ℕ) → ℕ → Text → ℕ → Read (Unit {0})
+counted_read limit before s t i = ruled_read Depth (is_surplus limit before) (λ a. is a.symbol s) to_unit t i
 
-abbrev pub mark_at : ℕ → List ℕ → Option (List ℕ)
-mark_at wanted [] = None
-mark_at wanted (c ∷ cs) = if c == wanted then Some cs else None
+-- ## Names and parameters
 
--- what follows a mark
-unfoldable pub read_mark : ℕ → List ℕ → Option (List ℕ)
-read_mark wanted text = mark_at wanted (skip text)
+abbrev pub name_read : Text → ℕ → Read (List ℕ)
+name_read t i = token_read (λ a. is_in (names false) a.symbol) (λ a. a.octets) t i
 
--- the letters, digits and `_` at the front, and the rest
-abbrev pub word_run : List ℕ → List ℕ
-word_run [] = []
-word_run (c ∷ cs) = if is_word_octet c then c ∷ word_run cs else []
+abbrev pub new_name_read : List (List ℕ) → Text → ℕ → Read (List ℕ)
+new_name_read before t i = ruled_read Depth (is_known before) (λ a. is_in (names false) a.symbol) (λ a. a.octets) t i
 
-abbrev pub after_run : List ℕ → List ℕ
-after_run [] = []
-after_run (c ∷ cs) = if is_word_octet c then after_run cs else c ∷ cs
+abbrev pub integer_read : Text → ℕ → Read ℕ
+integer_read t i = one_of_read 3 integer_words t i
 
-abbrev pub word_at : List ℕ → Option (List ℕ × List ℕ)
-word_at [] = None
-word_at (c ∷ cs) = if is_letter c then Some (c ∷ word_run cs, after_run cs) else None
+unfoldable pub typed_name_read : List (List ℕ) → Text → ℕ → Read Param
+typed_name_read before t i = turned (λ c. plain_param c.1 c.0) (then (integer_read t i) (λ k m. new_name_read before t m))
 
--- a word and what follows it
-unfoldable pub read_word : List ℕ → Option (List ℕ × List ℕ)
-read_word text = word_at (skip text)
+unfoldable pub parameter_read : List (List ℕ) → Text → ℕ → Read Param
+parameter_read before t i =
+    skip (counted_read PARAM_LIMIT before symbol.OpenSquare t i) (behind_read symbol.In t (behind_read symbol.CloseSquare t (typed_name_read before t)))
 
--- what stands at a place of a form: the value so far with it, and what follows
-abbrev pub place_at : ℕ → ℕ → List ℕ → Option (ℕ × List ℕ)
-place_at place value [] = None
-place_at place value (c ∷ cs) =
-    if place == 45 then (if c == 45 then Some (value, cs) else None)
-    else (if is_hex_digit c then Some (16 * value + hex_digit c, cs) else None)
+abbrev pub param_name : Param → List ℕ
+param_name p = p.field.name
 
--- what stands at the places of a form
-abbrev pub form_at : List ℕ → ℕ → List ℕ → Option (ℕ × List ℕ)
-form_at [] value text = Some (value, text)
-form_at (place ∷ form) value text = place_at place value text >>= λ x. form_at form x.0 x.1
+unfoldable pub next_parameter_read : List (List ℕ) → Text → ℕ → Read Param
+next_parameter_read before t i = behind_read symbol.Comma t (parameter_read before t) i
 
--- a UUID's value and what follows it
-unfoldable pub read_uuid : List ℕ → Option (ℕ × List ℕ)
-read_uuid text = form_at uuid_form 0 (skip text)
+-- the parameters behind others
+unfoldable pub more_parameters_read : List (List ℕ) → Text → ℕ → Read (List Param)
+more_parameters_read before t i = named_read symbol.Comma param_name (λ before m. next_parameter_read before t m) t before i
 
--- how many digits a form has
-abbrev pub digit_count : List ℕ → ℕ
-digit_count [] = 0
-digit_count (place ∷ form) = if place == 45 then digit_count form else digit_count form + 1
+unfoldable pub parameters_read : Text → ℕ → Read (List Param)
+parameters_read t i =
+    cond (is (symbol_at t i) symbol.OpenSquare) (turned (λ p. p.0 ∷ p.1) (then (parameter_read [] t i) (λ p m. more_parameters_read (param_name p ∷ []) t m))) (Ok ([], i))
 
--- ## Names and types
+-- ## Operations and files
 
--- what follows a word of the language
-unfoldable pub read_keyword : List ℕ → List ℕ → Option (List ℕ)
-read_keyword wanted text = do
-  word ← read_word text
-  if bytes_eq word.0 wanted then Some word.1 else None
+unfoldable pub signature_read : List (List ℕ) → Text → ℕ → Read Operation
+signature_read before t i =
+    turned (λ c. plain_operation c.0 c.1)
+    (then (new_name_read before t i) (λ n m. behind_read symbol.OpenRound t (λ o. end_with (parameters_read t o) (λ q. mark_read symbol.CloseRound t q)) m))
 
--- a name and what follows it
-unfoldable pub read_name : List ℕ → Option (List ℕ × List ℕ)
-read_name text = do
-  word ← read_word text
-  if is_ident word.0 then Some word else None
+unfoldable pub operation_read : List (List ℕ) → Text → ℕ → Read Operation
+operation_read before t i =
+    skip (counted_read OPERATION_LIMIT before symbol.Void t i) (λ m. end_with (signature_read before t m) (λ n. mark_read symbol.Semicolon t n))
 
--- the type that a word stands for
-abbrev pub type_of : List ℕ → Option TypeId
-type_of word =
-    if bytes_eq word (codes "small") then Some (record { 0 = 3 })
-    else (if bytes_eq word (codes "short") then Some (record { 0 = 5 })
-    else (if bytes_eq word (codes "long") then Some (record { 0 = 7 })
-    else (if bytes_eq word (codes "hyper") then Some (record { 0 = 9 }) else None)))
+abbrev pub operation_name : Operation → List ℕ
+operation_name o = o.name
 
--- an integer type and what follows it
-unfoldable pub read_type : List ℕ → Option (TypeId × List ℕ)
-read_type text = do
-  word ← read_word text
-  of ← type_of word.0
-  Some (of, word.1)
+unfoldable pub operations_read : Text → ℕ → Read (List Operation)
+operations_read t i = named_read symbol.Void operation_name (λ before m. operation_read before t m) t [] i
 
--- ## Parameters and operations
+-- a UUID in brackets, behind `[uuid`
+unfoldable pub uuid_read : Text → ℕ → Read ℕ
+uuid_read t i = token_read is_uuid uuid_value t i
 
--- items as long as the text goes on with one
-unfoldable pub read_many : {A : Type 0} → (List ℕ → Bool) → (List ℕ → Option (A × List ℕ)) → ℕ → List ℕ → Option (List A × List ℕ)
-read_many goes_on item zero text = Some ([], text)
-read_many goes_on item (suc n) text =
-    if goes_on text
-    then (item text >>= λ first. read_many goes_on item n first.1 >>= λ others. Some (first.0 ∷ others.0, others.1))
-    else Some ([], text)
+-- a name, and operations in curly brackets
+unfoldable pub body_read : Text → ℕ → Read (List ℕ × List Operation)
+body_read t i =
+    then (name_read t i) (λ n m. behind_read symbol.OpenCurly t (λ o. end_with (operations_read t o) (λ q. mark_read symbol.CloseCurly t q)) m)
 
-unfoldable pub read_param : List ℕ → Option (Param × List ℕ)
-read_param text = do
-  text ← read_mark 91 text
-  text ← read_keyword (codes "in") text
-  text ← read_mark 93 text
-  of ← read_type text
-  name ← read_name of.1
-  Some (record { field = record { name = name.0; of = of.0; vars = [] }; way = way.In }, name.1)
+-- a UUID, what closes its brackets, and the interface
+unfoldable pub identified_read : Text → ℕ → Read (ℕ × (List ℕ × List Operation))
+identified_read t i =
+    then (uuid_read t i)
+    (λ id m. behind_read symbol.CloseRound t (behind_read symbol.CloseSquare t (behind_read symbol.Interface t (body_read t))) m)
 
--- a comma and a parameter
-unfoldable pub read_next_param : List ℕ → Option (Param × List ℕ)
-read_next_param text = do
-  text ← read_mark 44 text
-  read_param text
+abbrev pub file_of : ℕ × (List ℕ × List Operation) → PlainFile
+file_of c = record { id = c.0; name = c.1.0; operations = c.1.1 }
 
--- whether a mark comes next
-unfoldable pub has_mark : ℕ → List ℕ → Bool
-has_mark wanted text = is_some (read_mark wanted text)
-
--- the parameters behind the first
-unfoldable pub read_more_params : List ℕ → Option (List Param × List ℕ)
-read_more_params text = read_many (has_mark 44) read_next_param (length text + 1) text
-
--- the items of a reading, behind others
-abbrev pub behind : {A : Type 0} → List A → Option (List A × List ℕ) → Option (List A × List ℕ)
-behind before read = read >>= λ x. Some (before ++ x.0, x.1)
-
-unfoldable pub read_params : List ℕ → Option (List Param × List ℕ)
-read_params text =
-    if has_mark 41 text then Some ([], text)
-    else (read_param text >>= λ first. behind (first.0 ∷ []) (read_more_params first.1))
-
-unfoldable pub read_operation : List ℕ → Option (Operation × List ℕ)
-read_operation text = do
-  text ← read_keyword (codes "void") text
-  name ← read_name text
-  text ← read_mark 40 name.1
-  params ← read_params text
-  text ← read_mark 41 params.1
-  text ← read_mark 59 text
-  Some (record { name = name.0; params = params.0; result = None }, text)
-
--- operations up to a closing curly bracket, which stays
-unfoldable pub read_operations : List ℕ → Option (List Operation × List ℕ)
-read_operations text = read_many (λ text. not (has_mark 125 text)) read_operation (length text + 1) text
-
--- ## The file
-
--- `[uuid(..)]`: the UUID
-unfoldable pub read_header : List ℕ → Option (ℕ × List ℕ)
-read_header text = do
-  text ← read_mark 91 text
-  text ← read_keyword (codes "uuid") text
-  text ← read_mark 40 text
-  id ← read_uuid text
-  text ← read_mark 41 id.1
-  text ← read_mark 93 text
-  Some (id.0, text)
-
--- the operations between curly brackets, behind which nothing stands
-unfoldable pub read_body : List ℕ → Option (List Operation)
-read_body text = do
-  text ← read_mark 123 text
-  operations ← read_operations text
-  text ← read_mark 125 operations.1
-  if is_empty (skip text) then Some operations.0 else None
-
--- the UUID, the name and the operations
-unfoldable pub read_file : List ℕ → Option (ℕ × List ℕ × List Operation)
-read_file text = do
-  id ← read_header text
-  text ← read_keyword (codes "interface") id.1
-  name ← read_name text
-  operations ← read_body name.1
-  Some (id.0, name.0, operations)
+unfoldable pub file_read : Text → ℕ → Read PlainFile
+file_read t i =
+    turned file_of (behind_read symbol.OpenSquare t (behind_read symbol.Uuid t (behind_read symbol.OpenRound t (identified_read t))) i)

@@ -1,36 +1,35 @@
-// Why a file is not read.
-use nd_base::Memory;
+// Why a text of IDL is refused.
+use idl_lexer::LexKind;
+use nd_base::{Memory, Octets};
 use thiserror::Error;
 
-/// Why a plain file is not read.
-#[derive(Clone, Copy, Debug, PartialEq, Eq, Error)]
-pub enum PlainFault {
-    /// Memory was wanting.
-    #[error("memory was wanting")]
-    Memory,
-    /// The text is no plain file.
-    #[error("the file is not plain")]
+/// Why a text of IDL is refused at a place.
+#[derive(Debug, Drop, Error)]
+pub enum IdlReason {
+    /// Nothing can be cut there.
+    #[error("no token: {0:?}")]
+    Lexical(LexKind),
+    /// No file of the language goes on there.
+    #[error("no file goes on so")]
+    Syntax,
+    /// A bracket with 64 open, or an operator with 64 before it in its outermost expression.
+    #[error("nested too deep")]
+    Deep,
+    /// A word of the language that this compiler leaves out.
+    #[error("a word that is left out")]
+    Banned { word: Octets },
+    /// The file is one of the language, and of a form that is not built yet from there on.
+    #[error("not built yet")]
     NotBuilt,
 }
 
-impl From<Memory> for PlainFault {
-    ghost use Rattle.std.specs.Prelude.{◌≡◌};
-    ghost use Rattle.plain_idl.specs.declared.fault.PlainFault.TheVariants as faults;
-
-    ghost from_gives = { λ _ e. e ≡ faults.Memory };
-
-    fn from(_: Memory) -> PlainFault {
-        PlainFault::Memory
-    }
-}
-
-impl<T: Drop> From<(Memory, T)> for PlainFault {
-    ghost use Rattle.std.specs.Prelude.{◌≡◌};
-    ghost use Rattle.plain_idl.specs.declared.fault.PlainFault.TheVariants as faults;
-
-    ghost from_gives = { λ _ e. e ≡ faults.Memory };
-
-    fn from(_: (Memory, T)) -> PlainFault {
-        PlainFault::Memory
-    }
+/// Why a text of IDL is not read.
+#[derive(Debug, Drop, Error)]
+pub enum IdlFault {
+    /// Memory was wanting.
+    #[error("out of memory")]
+    Memory,
+    /// It is refused at this octet, which is the text's length where the text ends too early.
+    #[error("{reason} at octet {at}")]
+    At { at: u32, reason: IdlReason },
 }
