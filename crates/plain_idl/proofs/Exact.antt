@@ -191,7 +191,7 @@ none_only t i h lifted x e (p ∷ others) j ph =
 
 parameters_case : (t : Text) (i : ℕ) → i ≤ length t → (b : Bool) → is (symbol_at t i) symbol.OpenSquare ≡ b
     → Exact parameters (stops parameter_marks) t i
-      (cond b (turned consed (then (parameter_read [] t i) (λ p m. more_parameters_read (param_name p ∷ []) t m))) (Ok ([], i)))
+    (cond b (turned consed (then (parameter_read [] t i) (λ p m. more_parameters_read (param_name p ∷ []) t m))) (Ok ([], i)))
 parameters_case t i in_text true h =
     turned_exact first_parameters parameters consed (λ lifted x i j a ph. ph) (stops parameter_marks) t i (first_back t i h) _
     (first_exact (parameter []) (λ p. more_parameters (param_name p ∷ [])) [] (λ a lifted x i. refl) (stops parameter_marks) t i (parameter_read [] t i)

@@ -23,21 +23,21 @@ opened : (p : ℕ) (form : List ℕ) (v c : ℕ) (octets : List ℕ) → value_i
 opened p form v c octets = by_place (p == 45) refl where
   by_digit : (b : Bool) → is_hex_digit c ≡ b
       → (if b && has_form form octets then Some (if c == 45 then hex_number v octets else hex_number (16 * v + hex_digit c) octets) else None)
-        ≡ go_on form octets (if b then Some (16 * v + hex_digit c) else None)
+      ≡ go_on form octets (if b then Some (16 * v + hex_digit c) else None)
   by_digit true e =
       ap (λ (d : Bool). if has_form form octets then Some (if d then hex_number v octets else hex_number (16 * v + hex_digit c) octets) else None) (dash_is_no_digit c e)
   by_digit false e = refl
 
   by_dash : (b : Bool)
       → (if b && has_form form octets then Some (if b then hex_number v octets else hex_number (16 * v + hex_digit c) octets) else None)
-        ≡ go_on form octets (if b then Some v else None)
+      ≡ go_on form octets (if b then Some v else None)
   by_dash true = refl
   by_dash false = refl
 
   by_place : (b : Bool) → (p == 45) ≡ b
       → (if (if b then c == 45 else is_hex_digit c) && has_form form octets
-         then Some (if c == 45 then hex_number v octets else hex_number (16 * v + hex_digit c) octets) else None)
-        ≡ go_on form octets (if b then (if c == 45 then Some v else None) else (if is_hex_digit c then Some (16 * v + hex_digit c) else None))
+      then Some (if c == 45 then hex_number v octets else hex_number (16 * v + hex_digit c) octets) else None)
+      ≡ go_on form octets (if b then (if c == 45 then Some v else None) else (if is_hex_digit c then Some (16 * v + hex_digit c) else None))
   by_place true e = by_dash (c == 45)
   by_place false e = by_digit (is_hex_digit c) refl
 

@@ -134,7 +134,7 @@ module _ {A : Type 0} (name_of : A → List ℕ) (item : List (List ℕ) → Rel
       → ((next : List (List ℕ)) (m : ℕ) → m ≤ length t → i < m → Exact (items next) (stops (s ∷ [])) t m (items_read go name_of read t n next m))
       → (b : Bool) → go (lexeme_at t i) ≡ b
       → Exact (items before) (stops (s ∷ [])) t i
-        (cond b (turned consed (then (read before i) (λ a m. items_read go name_of read t n (name_of a ∷ before) m))) (Ok ([], i)))
+      (cond b (turned consed (then (read before i) (λ a m. items_read go name_of read t n (name_of a ∷ before) m))) (Ok ([], i)))
   items_case n i before in_text rest true h =
       turned_exact (first_of (item before) (others before)) (items before) consed (λ lifted x i j a ph. ph) (stops (s ∷ [])) t i (cons_back before i h) _
       (first_exact (item before) (others before) [] (λ a lifted x i. refl) (stops (s ∷ [])) t i (read before i)

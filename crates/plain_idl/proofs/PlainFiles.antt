@@ -191,9 +191,11 @@ module _ (lifted other : Lifted) (x : Text) (more : (i : ℕ) → lifted Depth i
       let b = ph.2 in
       let c = b.2 in
       let typed = c.2 in
-      let d = typed.2 in
-      (ph.0, (lifts i (is_surplus PARAM_LIMIT before x i) ph.1.0, ph.1.1),
-      (b.0, b.1, (c.0, c.1, (typed.0, typed.1, (d.0, d.1, name_lifted before typed.0.1 d.0 j d.2)))))
+      let d = typed.2 in (
+        ph.0,
+        (lifts i (is_surplus PARAM_LIMIT before x i) ph.1.0, ph.1.1),
+        (b.0, b.1, (c.0, c.1, (typed.0, typed.1, (d.0, d.1, name_lifted before typed.0.1 d.0 j d.2)))),
+      )
 
   next_lifted : (before : List (List ℕ)) (p : Param) (i j : ℕ) → next_parameter before p lifted x i j → next_parameter before p other x i j
   next_lifted before p i j ph = (ph.0, ph.1, parameter_lifted before p ph.0 j ph.2)
@@ -209,9 +211,11 @@ module _ (lifted other : Lifted) (x : Text) (more : (i : ℕ) → lifted Depth i
       let signed = b.1 in
       let named = signed.2 in
       let c = named.2 in
-      let d = c.2 in
-      (ph.0, (lifts i (is_surplus OPERATION_LIMIT before x i) ph.1.0, ph.1.1),
-      (b.0, (signed.0, signed.1, (named.0, name_lifted before signed.0.0 ph.0 named.0 named.1, (c.0, c.1, (d.0, parameters_lifted signed.0.1 c.0 d.0 d.1, d.2)))), b.2))
+      let d = c.2 in (
+        ph.0,
+        (lifts i (is_surplus OPERATION_LIMIT before x i) ph.1.0, ph.1.1),
+        (b.0, (signed.0, signed.1, (named.0, name_lifted before signed.0.0 ph.0 named.0 named.1, (c.0, c.1, (d.0, parameters_lifted signed.0.1 c.0 d.0 d.1, d.2)))), b.2),
+      )
 
   file_lifted : (f : PlainFile) (i j : ℕ) → file f lifted x i j → file f other x i j
   file_lifted f i j a =
@@ -223,9 +227,43 @@ module _ (lifted other : Lifted) (x : Text) (more : (i : ℕ) → lifted Depth i
       let h = g.2 in
       let k = h.2 in
       let l = k.2 in
-      let m = l.2 in
-      (a.0, a.1, (b.0, b.1, (c.0, c.1, (d.0, d.1, (e.0, e.1, (g.0, g.1, (h.0, h.1, (k.0, k.1, (l.0, l.1,
-      (m.0, items_lifted operation_name operation operation_lifted [] f.operations l.0 m.0 m.1, m.2))))))))))
+      let m = l.2 in (
+        a.0,
+        a.1,
+        (
+          b.0,
+          b.1,
+          (
+            c.0,
+            c.1,
+            (
+              d.0,
+              d.1,
+              (
+                e.0,
+                e.1,
+                (
+                  g.0,
+                  g.1,
+                  (
+                    h.0,
+                    h.1,
+                    (
+                      k.0,
+                      k.1,
+                      (
+                        l.0,
+                        l.1,
+                        (m.0, items_lifted operation_name operation operation_lifted [] f.operations l.0 m.0 m.1, m.2),
+                      ),
+                    ),
+                  ),
+                ),
+              ),
+            ),
+          ),
+        ),
+      )
 
 pub no_ban : (t : Text) (k : ℕ) → IsRefused file t Ban k → ⊥
 no_ban t k r =

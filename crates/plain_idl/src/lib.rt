@@ -6,6 +6,8 @@ pub mod laws;
 mod names;
 mod parts;
 mod reader;
+#[cfg(test)]
+mod tests;
 mod uuid;
 
 pub use fault::{IdlFault, IdlReason};

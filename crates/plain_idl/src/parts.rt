@@ -10,7 +10,9 @@ ghost use Rattle.plain_idl.specs.Plain.{integer_words};
 ghost use Rattle.plain_idl.specs.Reading.{names_behind, param_name, operation_name, integer_read, typed_name_read, parameter_read, next_parameter_read, parameters_read, signature_read, operation_read, operations_read, uuid_read, body_read, file_read};
 ghost use Rattle.plain_idl.specs.Seen.{seen_file};
 
-use crate::names::{is_full_of_operations, is_full_of_params, name, new_operation_name, new_param_name};
+use crate::names::{
+    is_full_of_operations, is_full_of_params, name, new_operation_name, new_param_name,
+};
 use crate::uuid::uuid_of;
 use idl_parser::parser::Parser;
 use idl_parser::symbol;
@@ -28,12 +30,7 @@ pub struct Declared {
 
 /// A mark or a word before an item, which may be one too many.
 #[tactic(auto, using(phrases::proofs::Within::mark_within))]
-fn counted(
-    parser: &Parser<'_>,
-    full: bool,
-    wanted: u8,
-    at: usize,
-) -> Result<usize, Refusal>
+fn counted(parser: &Parser<'_>, full: bool, wanted: u8, at: usize) -> Result<usize, Refusal>
     requires real { is 0 wanted ≡ false }
     requires within { at ≤ length parser.now }
     ensures gives { GivesPlace result (ruled_read Depth (λ t i. full) (λ a. is a.symbol wanted) to_unit parser.now at) }
@@ -76,11 +73,7 @@ fn integer(parser: &Parser<'_>, at: usize) -> Result<(TypeId, usize), Refusal>
 
 /// A type and a name that none of the parameters before it has.
 #[tactic(auto, unfolding(crate::specs::Reading::typed_name_read))]
-fn typed_name(
-    parser: &Parser<'_>,
-    before: &Params,
-    at: usize,
-) -> Result<(Param, usize), Refusal>
+fn typed_name(parser: &Parser<'_>, before: &Params, at: usize) -> Result<(Param, usize), Refusal>
     requires named { HasNames parser.now }
     requires within { at ≤ length parser.now }
     ensures gives { Gives (λ x. x) result (typed_name_read (names_behind param_name [] before.now) parser.now at) }
@@ -104,11 +97,7 @@ fn typed_name(
 
 /// A parameter behind others.
 #[tactic(auto, unfolding(crate::specs::Reading::parameter_read))]
-fn parameter(
-    parser: &Parser<'_>,
-    before: &Params,
-    at: usize,
-) -> Result<(Param, usize), Refusal>
+fn parameter(parser: &Parser<'_>, before: &Params, at: usize) -> Result<(Param, usize), Refusal>
     requires named { HasNames parser.now }
     requires within { at ≤ length parser.now }
     ensures gives { Gives (λ x. x) result (parameter_read (names_behind param_name [] before.now) parser.now at) }

@@ -14,7 +14,8 @@ loop-list-preserved c =
     let t = c.args.parser.now in
     let h : is (symbol_at t c.loop-list.here) symbol.Void ≡ true = cc in
     let e : c.push_operation.new.list ≡ c.loop-list.list ++ c.in_ok-next.next ∷ [] = c.in_ok-push_operation.ensures.ok in
-    rw e
-    (gathers symbol.Void operation_name (λ before m. operation_read before t m) t (operations_read t c.args.at) c.loop-list.list c.loop-list.here c.loop-list.invariant.0 h
-    c.in_ok-next.next c.in_ok-next.past c.in_ok-next.ensures.gives c.in_ok-next.ensures.within.0 c.in_ok-next.ensures.within.1,
-    omega (arith, c.in_ok-next.ensures.within, c.loop-list.invariant.1))
+    rw e (
+      gathers symbol.Void operation_name (λ before m. operation_read before t m) t (operations_read t c.args.at) c.loop-list.list c.loop-list.here c.loop-list.invariant.0 h
+          c.in_ok-next.next c.in_ok-next.past c.in_ok-next.ensures.gives c.in_ok-next.ensures.within.0 c.in_ok-next.ensures.within.1,
+      omega (arith, c.in_ok-next.ensures.within, c.loop-list.invariant.1),
+    )

@@ -18,7 +18,7 @@ interface-requires c =
     let l = c.args.tokens.now in
     let e : c.new-parser.result ≡ lexemes l = c.new-parser.ensures ∙ (ap text_of c.deref.ensures.value ∙ c.in-Ok.ensures) in
     let read : whole_read (file_read (lexemes l) 0) (lexemes l) ≡ Ok (seen_file c.in-Ok-whole.declared) =
-        subst (λ (t : Text). whole_read (file_read t 0) t ≡ Ok (seen_file c.in-Ok-whole.declared)) e c.in-Ok-whole.ensures in
+    subst (λ (t : Text). whole_read (file_read t 0) t ≡ Ok (seen_file c.in-Ok-whole.declared)) e c.in-Ok-whole.ensures in
     declares_plain (seen_file c.in-Ok-whole.declared) (lexemes l) 0 (length (lexemes l)) (told_tree l (seen_file c.in-Ok-whole.declared) read).derived
 
 pub returns-in-Ok-whole : goal.returns-in-Ok-whole
@@ -26,7 +26,7 @@ returns-in-Ok-whole c =
     let l = c.args.tokens.now in
     let e : c.new-parser.result ≡ lexemes l = c.new-parser.ensures ∙ (ap text_of c.deref.ensures.value ∙ c.in-Ok.ensures) in
     let read : whole_read (file_read (lexemes l) 0) (lexemes l) ≡ Ok (seen_file c.in-Ok-whole.declared) =
-        subst (λ (t : Text). whole_read (file_read t 0) t ≡ Ok (seen_file c.in-Ok-whole.declared)) e c.in-Ok-whole.ensures in
+    subst (λ (t : Text). whole_read (file_read t 0) t ≡ Ok (seen_file c.in-Ok-whole.declared)) e c.in-Ok-whole.ensures in
     told_interface l (seen_file c.in-Ok-whole.declared) c.interface.result read c.interface.ensures.ok c.interface.ensures.err
 
 pub unplain-requires : goal.unplain-requires
