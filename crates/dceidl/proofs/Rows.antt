@@ -1,6 +1,8 @@
 -- What a run of a task says by itself, from the whole of a run.
 use Rattle.std.proofs.Common.{◌≡◌, ℕ, List, Some, sym, ◌∙◌, subst, inl, inr}
 use Rattle.std.specs.Prelude.{◌≢◌}
+use Rattle.nd_types.specs.declared.interface.Interface.{Interface}
+use Rattle.nd_types.specs.declared.types.Operation.{Operation}
 use Rattle.dceidl.specs.declared.task.Task.{Task}
 use Rattle.dceidl.specs.declared.refusal.Refusal.{Refusal}
 use Rattle.dceidl.specs.declared.refusal.Refusal.TheVariants.{Memory, Absent, FileFailed, BadIdl, NoOperation, ReadFault, BadOctets, BadText, BadValue}
@@ -8,6 +10,7 @@ use Rattle.dceidl.specs.declared.outcome.Outcome.{Outcome}
 use Rattle.dceidl.specs.declared.outcome.Outcome.TheVariants.{Done, Refused, Wanting}
 use Rattle.dceidl.specs.Outside.{FilesSeen, SourceSeen, SinkSeen, HasRisen, Got}
 use Rattle.dceidl.specs.Words.{command, Work}
+use Rattle.dceidl.specs.Ready.{IsReady}
 use Rattle.dceidl.specs.Lines.{status_of}
 use Rattle.dceidl.specs.Run.{HasRun, IsOutcome, IsDelivered, IsTaskOutcome}
 use Rattle.dceidl.specs.Rows.{IsDone, IsRefused}
@@ -17,7 +20,7 @@ pub data Ended (f : FilesSeen) (s : SourceSeen) (out notes : SinkSeen) (task : T
   ended_done : status ≡ 0 → IsDone f s out notes task idl op → Ended f s out notes task idl op status
   ended_refused : IsRefused f s out notes task idl op status → Ended f s out notes task idl op status
   ended_wanting : status ≡ 5 → Ended f s out notes task idl op status
-  ended_unwritten : status ≡ 4 → HasRisen out.faults → Ended f s out notes task idl op status
+  ended_unwritten : status ≡ 4 → HasRisen out.faults → (i : Interface) (n : ℕ) (o : Operation) → IsReady f idl op i n o → Ended f s out notes task idl op status
   ended_untold : status ≡ 4 → HasRisen notes.faults → Ended f s out notes task idl op status
 
 module _ (f : FilesSeen) (s : SourceSeen) (out notes : SinkSeen) (task : Task) (idl op : List ℕ) (status : ℕ) where
@@ -27,7 +30,7 @@ module _ (f : FilesSeen) (s : SourceSeen) (out notes : SinkSeen) (task : Task) (
   by_outcome : (outcome : Outcome) → IsTaskOutcome f s task idl op outcome → IsDelivered out notes outcome status → End
   by_outcome (Done made) (i, n, o, ready, of_input) (inl (is, given, quiet)) =
       ended_done is (record { interface = i; number = n; operation = o; ready = ready; made = made; of_input = of_input; given = given; quiet = quiet })
-  by_outcome (Done made) caused (inr (is, rose, some, warned)) = ended_unwritten is rose
+  by_outcome (Done made) (i, n, o, ready, of_input) (inr (is, rose, some, warned)) = ended_unwritten is rose i n o ready
   by_outcome (Refused own line) (r, cause, is_own, is_line) (before, inl (is, told)) =
       ended_refused (record { refusal = r; cause = cause; own_status = is ∙ is_own; line = subst (Got notes) is_line told; nothing_given = before })
   by_outcome (Refused own line) caused (before, inr (is, rose, some)) = ended_untold is rose
@@ -56,7 +59,7 @@ module _ (f : FilesSeen) (s : SourceSeen) (out notes : SinkSeen) (task : Task) (
     where
       five : status ≡ 5 → status ≡ 0 → ⊥
       five a b = cc
-  done_is (ended_unwritten is rose) e = absurd (four is e)
+  done_is (ended_unwritten is rose i n o ready) e = absurd (four is e)
     where
       four : status ≡ 4 → status ≡ 0 → ⊥
       four a b = cc
@@ -70,5 +73,5 @@ module _ (f : FilesSeen) (s : SourceSeen) (out notes : SinkSeen) (task : Task) (
   refused_is (ended_done is d) a b c = absurd (a is)
   refused_is (ended_refused r) a b c = r
   refused_is (ended_wanting is) a b c = absurd (c is)
-  refused_is (ended_unwritten is rose) a b c = absurd (b is)
+  refused_is (ended_unwritten is rose i n o ready) a b c = absurd (b is)
   refused_is (ended_untold is rose) a b c = absurd (b is)

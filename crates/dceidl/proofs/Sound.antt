@@ -24,7 +24,7 @@ use Rattle.dceidl.specs.Outside.{FilesSeen, SourceSeen, SinkSeen, Got}
 use Rattle.dceidl.specs.Ready.{IsReady, IsFileCause, IsRefusedFile}
 use Rattle.dceidl.specs.Task.{limit_of, IsRead, IsMade, IsContentCause, IsInputCause, IsCause}
 use Rattle.dceidl.specs.Lines.{status_of, line_of}
-use Rattle.dceidl.specs.Rows.{IsRefused, IsSound, IsHeld, IsAccepted, IsInput, Refuses}
+use Rattle.dceidl.specs.Rows.{IsRefused, IsSound, IsSoundForFiles, IsHeld, IsAccepted, IsInput, Refuses}
 use Rattle.dceidl.proofs.Causes.{take_whole}
 use Rattle.dceidl.proofs.Rows.{Ended, ended_done, ended_refused, ended_wanting, ended_unwritten, ended_untold}
 
@@ -133,9 +133,11 @@ module _ (f : FilesSeen) (s : SourceSeen) (out notes : SinkSeen) (task : Task) (
           (subst (λ xs. IsMade task (inputs_of d.interface d.operation) xs d.made) here d.of_input.is_made))
       by_end (ended_refused r) = by_cause r.refusal r.cause r.own_status r.line
       by_end (ended_wanting is) = settled_wanting is
-      by_end (ended_unwritten is rose) = absurd (sound.writes rose)
+      by_end (ended_unwritten is rose i n o ready) = absurd (sound.writes rose)
       by_end (ended_untold is rose) = absurd (sound.tells rose)
 
+module _ (f : FilesSeen) (s : SourceSeen) (out notes : SinkSeen) (task : Task) (idl op : List ℕ) (status : ℕ) (sound : IsSoundForFiles f notes)
+    (end : Ended f s out notes task idl op status) where
   told_of : (r : IsRefused f s out notes task idl op status) (refusal : Refusal) → r.refusal ≡ refusal → Refuses idl op notes status refusal
   told_of r refusal e = inl (r.own_status ∙ ap status_of e, subst (λ x. Got notes (line_of idl op x)) e r.line)
 
@@ -178,7 +180,7 @@ module _ (f : FilesSeen) (s : SourceSeen) (out notes : SinkSeen) (task : Task) (
       by_end (ended_done is d) = absurd (unready d.ready)
       by_end (ended_refused r) = by_cause r r.refusal refl r.cause
       by_end (ended_wanting is) = inr is
-      by_end (ended_unwritten is rose) = absurd (sound.writes rose)
+      by_end (ended_unwritten is rose j n o ready) = absurd (unready ready)
       by_end (ended_untold is rose) = absurd (sound.tells rose)
 
   -- a plain file without the operation is refused as that
@@ -212,7 +214,7 @@ module _ (f : FilesSeen) (s : SourceSeen) (out notes : SinkSeen) (task : Task) (
       by_end (ended_done is d) = absurd (unready d.ready)
       by_end (ended_refused r) = by_cause r r.refusal refl r.cause
       by_end (ended_wanting is) = inr is
-      by_end (ended_unwritten is rose) = absurd (sound.writes rose)
+      by_end (ended_unwritten is rose j n o ready) = absurd (unready ready)
       by_end (ended_untold is rose) = absurd (sound.tells rose)
 
 -- a refusal that is this one is told as this one

@@ -62,6 +62,11 @@ pub record IsSound (f : FilesSeen) (s : SourceSeen) (out notes : SinkSeen) : Typ
   pub writes : HasRisen out.faults → ⊥
   pub tells : HasRisen notes.faults → ⊥
 
+-- no load failed, and nothing failed on notes
+pub record IsSoundForFiles (f : FilesSeen) (notes : SinkSeen) : Type 0 where
+  pub loads : HasRisen f.faults → ⊥
+  pub tells : HasRisen notes.faults → ⊥
+
 -- the names are told, and under this name stands a file of this content, as far as a load gives it
 abbrev pub IsHeld : FilesSeen → List ℕ → List ℕ → Type 0
 IsHeld f name file = (held : List ℕ → Option (List ℕ)) × (f.held ≡ Some held) × (option_map loaded (held name) ≡ Some file)

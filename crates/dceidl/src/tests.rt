@@ -34,9 +34,21 @@ struct Ran {
 const FILE: &[u8] =
     b"[uuid(11111111-2222-3333-4444-555555555555)] interface t { void add([in] long a, [in] short b, [in] hyper c); void ping(); }";
 
-// The file `u.idl`, which is no plain file.
-const OTHER_FILE: &[u8] =
-    b"[uuid(11111111-2222-3333-4444-555555555555)] interface t { void add([in] float a); }";
+// The file `u.idl`, which has a word that is left out.
+const BANNED_FILE: &[u8] =
+    b"[uuid(11111111-2222-3333-4444-555555555555)]\ninterface t {\nvoid f([in] float x);\n}\n";
+
+// The file `v.idl`, in which a parameter has no name.
+const WRONG_FILE: &[u8] =
+    b"[uuid(11111111-2222-3333-4444-555555555555)]\ninterface t {\nvoid f([in] long);\n}\n";
+
+// The file `w.idl`, with a number that is none.
+const UNCUT_FILE: &[u8] =
+    b"[uuid(11111111-2222-3333-4444-555555555555)]\ninterface t {\nconst long A = 012;\n}\n";
+
+// The file `x.idl`, which is no plain file: a name stands twice.
+const TWICE_FILE: &[u8] =
+    b"[uuid(11111111-2222-3333-4444-555555555555)]\ninterface t {\nvoid f(); /* once\n more: */ void f();\n}\n";
 
 // The values 1, 2 and 3 of `add`.
 const DECODED: Case = Case {
@@ -92,7 +104,10 @@ fn run_case(alloc: Global, case: &Case) -> Result<Ran, Memory> {
     }
     let mut files = MemFiles::new(alloc, case.failing_loads)?;
     files.add("t.idl", FILE)?;
-    files.add("u.idl", OTHER_FILE)?;
+    files.add("u.idl", BANNED_FILE)?;
+    files.add("v.idl", WRONG_FILE)?;
+    files.add("w.idl", UNCUT_FILE)?;
+    files.add("x.idl", TWICE_FILE)?;
     let piece = case.piece.max(1);
     let mut input = MemSource::new(alloc, case.input, piece, case.failing_fetches)?;
     let mut out = MemSink::new(alloc, case.room, case.failing_puts)?;
@@ -291,10 +306,31 @@ fn words_and_files_are_refused(rt: HostRuntime) {
             ..DECODED
         },
         Case {
-            words: &["decode", "u.idl", "-", "add", "in", "little"],
+            words: &["decode", "u.idl", "-", "f", "in", "little"],
             status: 6,
             out: b"",
-            notes: "idl u.idl:1:1: NotBuilt\n",
+            notes: "idl u.idl:3:13: Banned float\n",
+            ..DECODED
+        },
+        Case {
+            words: &["decode", "v.idl", "-", "f", "in", "little"],
+            status: 6,
+            out: b"",
+            notes: "idl v.idl:3:17: Syntax\n",
+            ..DECODED
+        },
+        Case {
+            words: &["decode", "w.idl", "-", "f", "in", "little"],
+            status: 6,
+            out: b"",
+            notes: "idl w.idl:3:16: BadNumber\n",
+            ..DECODED
+        },
+        Case {
+            words: &["decode", "x.idl", "-", "f", "in", "little"],
+            status: 6,
+            out: b"",
+            notes: "idl x.idl:4:16: NotBuilt\n",
             ..DECODED
         },
         Case {

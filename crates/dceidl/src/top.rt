@@ -27,7 +27,7 @@ ghost use Rattle.dceidl.specs.Decode.{IsTrailing};
 ghost use Rattle.dceidl.specs.Encode.{home_path};
 ghost use Rattle.dceidl.specs.Lines.{status_of, line_of};
 ghost use Rattle.dceidl.specs.Run.{IsOutcome, IsTaskOutcome, IsDelivered, HasRun, IsTold};
-ghost use Rattle.dceidl.specs.Rows.{IsOneOf, ReadsInput, IsDueAndMissing, IsSomeDue, IsDone, IsRefused, IsSound, IsAccepted, IsInput, IsHeld, Refuses};
+ghost use Rattle.dceidl.specs.Rows.{IsOneOf, ReadsInput, IsDueAndMissing, IsSomeDue, IsDone, IsRefused, IsSound, IsSoundForFiles, IsAccepted, IsInput, IsHeld, Refuses};
 
 use crate::lines::{line, status};
 use crate::outcome::Outcome;
@@ -48,7 +48,7 @@ use std::alloc::Global;
 /// | 3 | the input failed |
 /// | 4 | standard output or standard error failed; it takes the place of any other status |
 /// | 5 | memory was wanting |
-/// | 6 | the interface file is of a form that is not built yet, or has no operation of the name |
+/// | 6 | the interface file is refused at a line and column, or it has no operation of the name |
 /// | 7 | the interface file is absent |
 /// | 9 | the interface file was not read |
 ///
@@ -108,24 +108,20 @@ pub fn run<F: Files, S: Source, K: Sink, N: Sink>(
         (source_seen S.left S.ended S.faults input.old input.new)
         (sink_seen K.written K.faults out.old out.new)
         (sink_seen N.written N.faults notes.old notes.new) task idl op result }
-    // What comes where nothing fails outside: the refusal of the file whose cause holds.
+    // What comes where no load fails and notes do not either: the refusal of the file whose cause holds.
     ensures bad_idl { (task : Task) (idl op file : List ℕ) (line column : ℕ) (why : IdlReason)
         → command words.now ≡ Some (Work task idl op)
-        → IsSound (files_seen F.held F.absences F.faults files.old files.new)
-        (source_seen S.left S.ended S.faults input.old input.new)
-        (sink_seen K.written K.faults out.old out.new) (sink_seen N.written N.faults notes.old notes.new)
+        → IsSoundForFiles (files_seen F.held F.absences F.faults files.old files.new) (sink_seen N.written N.faults notes.old notes.new)
         → IsHeld (files_seen F.held F.absences F.faults files.old files.new) idl file
         → IsRefusedFile file line column why
         → Refuses idl op (sink_seen N.written N.faults notes.old notes.new) result (Refusal.BadIdl line column why) }
     ensures no_operation { (task : Task) (idl op file : List ℕ) (i : Interface)
         → command words.now ≡ Some (Work task idl op)
-        → IsSound (files_seen F.held F.absences F.faults files.old files.new)
-        (source_seen S.left S.ended S.faults input.old input.new)
-        (sink_seen K.written K.faults out.old out.new) (sink_seen N.written N.faults notes.old notes.new)
+        → IsSoundForFiles (files_seen F.held F.absences F.faults files.old files.new) (sink_seen N.written N.faults notes.old notes.new)
         → IsHeld (files_seen F.held F.absences F.faults files.old files.new) idl file
         → IsPlainFile file i → operation_named i.operations op ≡ None
         → Refuses idl op (sink_seen N.written N.faults notes.old notes.new) result Refusal.NoOperation }
-    // Of `decode`, in the same case: status 0 where the octets represent a graph that conforms, else the refusal whose cause
+    // Of `decode`, where nothing fails outside: status 0 where the octets represent a graph that conforms, else the refusal whose cause
     // holds. Memory may be wanting in each of these cases.
     ensures complete { (order : Order) (idl op : List ℕ) (i : Interface) (n : ℕ) (o : Operation) (octets : List ℕ) (g : Graph)
         → command words.now ≡ Some (Work (Task.Decode order) idl op)

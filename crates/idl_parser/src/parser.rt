@@ -200,12 +200,7 @@ impl Parser<'_> {
 
     /// The octet of a bracket that opens, with so many others open.
     #[tactic(auto, using(phrases::proofs::Within::mark_within))]
-    pub fn opening(
-        &self,
-        depth: usize,
-        wanted: u8,
-        at: usize,
-    ) -> Result<(u32, usize), Refusal>
+    pub fn opening(&self, depth: usize, wanted: u8, at: usize) -> Result<(u32, usize), Refusal>
         requires real { is 0 wanted ≡ false }
         requires within { at ≤ length self.now }
         ensures gives { Gives (λ x. x) result (opening_read depth wanted self.now at) }
