@@ -1,5 +1,6 @@
 pub mod Causes
 pub mod Chunks
+pub mod FileWords
 pub mod Encodings
 pub mod Rows
 pub mod Statuses

@@ -16,6 +16,7 @@ use Rattle.nd_grammar.specs.Plain.{IsPlain}
 use Rattle.nd_grammar.specs.Primitives.{param_primitive}
 use Rattle.nd_grammar.proofs.PlainSides.{plain_side}
 use Rattle.nd_grammar.proofs.PlainVerdict.{never_both, one_graph, one_refusal}
+use Rattle.plain_idl.proofs.OneVerdict.{plain_interface}
 use Rattle.plain_ndr.specs.Decoding.{inputs_of}
 use Rattle.dceidl.specs.declared.task.Task.TheVariants.{Decode}
 use Rattle.dceidl.specs.declared.refusal.Refusal.{Refusal}
@@ -39,7 +40,7 @@ whole_begins w order octets g r c = record {
 -- the side of an operation that is accepted is plain
 pub side_of : (f : FilesSeen) (idl op : List ℕ) (i : Interface) (n : ℕ) (o : Operation) → IsAccepted f idl op i n o
     → IsPlain (inputs_of i o) (map (param_primitive i.types) o.params)
-side_of f idl op i n o accepted = plain_side i.types i.operations n o accepted.plain.plain accepted.named.is_there
+side_of f idl op i n o accepted = plain_side i.types i.operations n o (plain_interface accepted.file i accepted.plain) accepted.named.is_there
 
 module _ (notes : SinkSeen) (order : Order) (idl op : List ℕ) (w : Setting) (ps : List Primitive) (side : IsPlain w ps) (octets : List ℕ) (status : ℕ)
     (settled : Settled notes (Decode order) idl op w octets status) where
@@ -87,7 +88,7 @@ module _ (notes : SinkSeen) (order : Order) (idl op : List ℕ) (w : Setting) (p
           absurd (never_both w order ps octets place' trailing.graph place why side trailing.begins is_bad)
       by_cause Absent cause is line = absurd cause
       by_cause FileFailed cause is line = absurd cause
-      by_cause (BadIdl line column reason) cause is line = absurd cause
+      by_cause (BadIdl row column reason) cause is line = absurd cause
       by_cause NoOperation cause is line = absurd cause
       by_cause ReadFault cause is line = absurd cause
       by_cause (BadText at column reason) cause is line = absurd cause
@@ -114,7 +115,7 @@ module _ (notes : SinkSeen) (order : Order) (idl op : List ℕ) (w : Setting) (p
           told_as notes idl op status _ _ is line (ap (λ p. BadOctets p fault.Trailing) same.0)
       by_cause Absent cause is line = absurd cause
       by_cause FileFailed cause is line = absurd cause
-      by_cause (BadIdl line column reason) cause is line = absurd cause
+      by_cause (BadIdl row column reason) cause is line = absurd cause
       by_cause NoOperation cause is line = absurd cause
       by_cause ReadFault cause is line = absurd cause
       by_cause (BadText at column reason) cause is line = absurd cause

@@ -13,6 +13,7 @@ use Rattle.nd_graph.specs.Conforms.{Conforms}
 use Rattle.nd_graph.specs.FirstMisfit.{IsFirstMisfit}
 use Rattle.nd_graph.proofs.Misfits.{misfit_is_no_fit, one_first_misfit}
 use Rattle.nd_grammar.proofs.PlainSides.{plain_operation}
+use Rattle.plain_idl.proofs.OneVerdict.{plain_interface}
 use Rattle.plain_ndr.specs.Decoding.{inputs_of}
 use Rattle.value_text.specs.declared.fault.TextReason.{TextReason}
 use Rattle.value_text.specs.PlainSide.{IsPlainSide}
@@ -34,7 +35,7 @@ plain_side_of i n o plain there =
     record { basic = plain.basic; plain = plain_operation i.types i.operations n o plain there; inputs = refl; alone = refl }
 
 pub side_of : (f : FilesSeen) (idl op : List ℕ) (i : Interface) (n : ℕ) (o : Operation) → IsAccepted f idl op i n o → IsPlainSide (inputs_of i o)
-side_of f idl op i n o accepted = plain_side_of i n o accepted.plain.plain accepted.named.is_there
+side_of f idl op i n o accepted = plain_side_of i n o (plain_interface accepted.file i accepted.plain) accepted.named.is_there
 
 module _ (notes : SinkSeen) (order : Order) (chunk : ℕ) (idl op : List ℕ) (w : Setting) (text : List ℕ) (status : ℕ)
     (settled : Settled notes (Encode order chunk) idl op w text status)

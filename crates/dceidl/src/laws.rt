@@ -6,9 +6,9 @@ ghost use Rattle.nd_types.specs.declared.interface.Interface.{Interface};
 ghost use Rattle.nd_types.specs.declared.types.Operation.{Operation};
 ghost use Rattle.nd_types.specs.Plain.{IsPlainInterface};
 ghost use Rattle.nd_grammar.specs.Represents.{Represents};
+ghost use Rattle.plain_idl.specs.Answers.{IsPlainFile};
 ghost use Rattle.plain_ndr.specs.Decoding.{inputs_of};
 ghost use Rattle.value_text.specs.declared.TheConstants.{TEXT_LIMIT};
-ghost use Rattle.value_text.specs.PlainSide.{HasWordNames};
 ghost use Rattle.value_text.specs.Reads.{ReadsAs};
 ghost use Rattle.value_text.specs.Printed.{IsText};
 ghost use Rattle.dceidl.specs.Decode.{IsDecoding};
@@ -31,15 +31,15 @@ pub fn decode_undoes_encode()
         → IsText (inputs_of i o) e.graph text → made ≡ text }
 {}
 
-/// `encode` undoes `decode` on plain operations whose names are words, as those of a file are: a text that `decode` writes, where it
-/// is within its limit, reads as the graph that the octets represent, and what `encode` writes of it in any order represents that graph.
+/// `encode` undoes `decode` on the operations of a plain file: a text that `decode` writes, where it is within its limit, reads as the
+/// graph that the octets represent, and what `encode` writes of it in any order represents that graph.
 pub fn encode_undoes_decode()
-    ensures reads { (i : Interface) (n : ℕ) (o : Operation) (order : Order) (octets text : List ℕ)
-        → IsPlainInterface i.types i.operations → slice_get i.operations n ≡ Some o → HasWordNames (inputs_of i o)
+    ensures reads { (file : List ℕ) (i : Interface) (n : ℕ) (o : Operation) (order : Order) (octets text : List ℕ)
+        → IsPlainFile file i → slice_get i.operations n ≡ Some o
         → (d : IsDecoding (inputs_of i o) order octets text) → length text ≤ TEXT_LIMIT
         → ReadsAs (inputs_of i o) text d.graph }
-    ensures represents { (i : Interface) (n : ℕ) (o : Operation) (order other : Order) (chunk : ℕ) (octets text made : List ℕ)
-        → IsPlainInterface i.types i.operations → slice_get i.operations n ≡ Some o → HasWordNames (inputs_of i o)
+    ensures represents { (file : List ℕ) (i : Interface) (n : ℕ) (o : Operation) (order other : Order) (chunk : ℕ) (octets text made : List ℕ)
+        → IsPlainFile file i → slice_get i.operations n ≡ Some o
         → (d : IsDecoding (inputs_of i o) order octets text) → IsEncoding (inputs_of i o) other chunk text made
         → Represents (inputs_of i o) other made d.graph }
 {}
