@@ -76,7 +76,7 @@ module _ (f : FilesSeen) (s : SourceSeen) (out notes : SinkSeen) (status : ℕ) 
     refusal_of (ended_done is d) n e zero four five = absurd (zero (sym e ∙ is))
     refusal_of (ended_refused r) n e zero four five = (r.refusal, r.cause, sym r.own_status ∙ e)
     refusal_of (ended_wanting is) n e zero four five = absurd (five (sym e ∙ is))
-    refusal_of (ended_unwritten is rose i n o ready) n e zero four five = absurd (four (sym e ∙ is))
+    refusal_of (ended_unwritten is rose i m o ready) n e zero four five = absurd (four (sym e ∙ is))
     refusal_of (ended_untold is rose) n e zero four five = absurd (four (sym e ∙ is))
 
   own_or_four : (outcome : Outcome) → IsDelivered out notes outcome status → (status ≡ own outcome) ⊎ (status ≡ 4)
