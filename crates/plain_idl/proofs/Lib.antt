@@ -11,3 +11,4 @@ pub mod Within
 pub mod Told
 pub mod Named
 pub mod Words
+pub mod Answered

@@ -1,14 +1,15 @@
 //! Laws over the definitions, each the contract of a function that does nothing.
-ghost use Rattle.std.specs.Prelude.{◌≡◌, List, ℕ, Some, Result, slice_get};
+ghost use Rattle.std.specs.Prelude.{◌≡◌, ◌⊎◌, List, ℕ, Some, Result, slice_get};
 ghost use Rattle.phrases.specs.Text.{Text};
 ghost use Rattle.phrases.specs.Reading.{Fault};
 ghost use Rattle.phrases.specs.Verdict.{Judges, whole_read};
 ghost use Rattle.phrases.specs.Gives.{IsText};
+ghost use Rattle.idl_lexer.specs.Lexed.{Lexed};
 ghost use Rattle.nd_types.specs.declared.interface.Interface.{Interface};
 ghost use Rattle.nd_types.specs.declared.types.Operation.{Operation};
 ghost use Rattle.nd_types.specs.Plain.{IsPlainInterface};
 ghost use Rattle.plain_idl.specs.declared.fault.IdlReason.{IdlReason};
-ghost use Rattle.plain_idl.specs.Answers.{IsPlainFile, IsIdlFault};
+ghost use Rattle.plain_idl.specs.Answers.{IsLexed, IsPlainFile, IsIdlFault};
 ghost use Rattle.plain_idl.specs.Names.{HasWords};
 ghost use Rattle.plain_idl.specs.Plain.{PlainFile, file};
 ghost use Rattle.plain_idl.specs.Reading.{file_read};
@@ -19,6 +20,12 @@ pub fn one_idl_verdict()
     ensures one_fault { (text : List ℕ) (at other : ℕ) (reason because : IdlReason) → IsIdlFault text at reason → IsIdlFault text other because
         → (at ≡ other) × (reason ≡ because) }
     ensures never_both { (text : List ℕ) (i : Interface) (at : ℕ) (reason : IdlReason) → IsPlainFile text i → IsIdlFault text at reason → ⊥ }
+{}
+
+/// A text that is cut into tokens declares an interface or is refused: no such text falls between the definitions.
+pub fn cut_text_is_answered()
+    ensures { (text : List ℕ) (lexed : Lexed) → IsLexed text lexed
+        → ((i : Interface) × IsPlainFile text i) ⊎ ((at : ℕ) × (reason : IdlReason) × IsIdlFault text at reason) }
 {}
 
 /// What a plain file declares is a plain interface.

@@ -107,30 +107,30 @@ fn reads_words_of_attributes_as_names(rt: HostRuntime) -> Result<(), Fail> {
 
 #[test]
 fn refuses_other_operations(rt: HostRuntime) -> Result<(), Fail> {
-    // Each file behind the header, and where it is refused, from the header's end on.
+    // What stands behind the header's 69 octets, and where the file is refused.
     for (rest, at) in [
-        ("import \"x.idl\"; }", 0),
-        ("typedef long T; }", 0),
-        ("const long N = 1; }", 0),
-        ("[idempotent] void f(); }", 0),
-        ("long f(); }", 0),
-        ("void f([out] long a); }", 8),
-        ("void f([in, out] long a); }", 10),
-        ("void f([in] long int a); }", 17),
-        ("void f([in] unsigned long a); }", 12),
-        ("void f([in] long unsigned a); }", 17),
-        ("void f([in] char a); }", 12),
-        ("void f(long a); }", 7),
-        ("void f([in] long a, long b); }", 20),
-        ("void f(void); }", 7),
-        ("void f([in] long *a); }", 17),
-        ("void f([in] long a[3]); }", 18),
-        ("void f(); void g(); void f([in] long a); }", 25),
-        ("void f(); void f(void); }", 15),
-        ("void f([in] long a, [in] small b, [in] short a); }", 45),
+        ("import \"x.idl\"; }", 69),
+        ("typedef long T; }", 69),
+        ("const long N = 1; }", 69),
+        ("[idempotent] void f(); }", 69),
+        ("long f(); }", 69),
+        ("void f([out] long a); }", 77),
+        ("void f([in, out] long a); }", 79),
+        ("void f([in] long int a); }", 86),
+        ("void f([in] unsigned long a); }", 81),
+        ("void f([in] long unsigned a); }", 86),
+        ("void f([in] char a); }", 81),
+        ("void f(long a); }", 76),
+        ("void f([in] long a, long b); }", 89),
+        ("void f(void); }", 76),
+        ("void f([in] long *a); }", 86),
+        ("void f([in] long a[3]); }", 87),
+        ("void f(); void g(); void f([in] long a); }", 94),
+        ("void f(); void f(void); }", 84),
+        ("void f([in] long a, [in] small b, [in] short a); }", 114),
     ] {
         let text = behind_header(rt.alloc(), rest.as_bytes())?;
-        assert_refused(&rt, rt.alloc(), text.as_slice(), 69 + at, "NotBuilt", b"")?;
+        assert_refused(&rt, rt.alloc(), text.as_slice(), at, "NotBuilt", b"")?;
     }
     Ok(())
 }
@@ -157,36 +157,29 @@ fn refuses_other_headers(rt: HostRuntime) -> Result<(), Fail> {
 fn refuses_what_is_no_file_of_the_language(rt: HostRuntime) -> Result<(), Fail> {
     // What is cut badly comes first, then what is no file of the language, wherever it stands, and last what is no plain file.
     for (rest, at, name, word) in [
-        ("void f(void); /* no end", 14, "OpenComment", ""),
-        ("void f(long a; # }", 15, "BadOctet", ""),
-        ("const long N = 012; }", 15, "BadNumber", ""),
+        ("void f(void); /* no end", 83, "OpenComment", ""),
+        ("void f(long a; # }", 84, "BadOctet", ""),
+        ("const long N = 012; }", 84, "BadNumber", ""),
         (
             "void abcdefghijklmnopqrstuvwxyz_01234(); }",
-            5,
+            74,
             "LongName",
             "",
         ),
-        ("long f(void) }", 13, "Syntax", ""),
-        ("void f([in] long a,); }", 19, "Syntax", ""),
-        ("void f(); } }", 12, "Syntax", ""),
-        ("void f();", 9, "Syntax", ""),
-        ("long f([in] float a); }", 12, "Banned", "float"),
+        ("long f(void) }", 82, "Syntax", ""),
+        ("void f([in] long a,); }", 88, "Syntax", ""),
+        ("void f(); } }", 81, "Syntax", ""),
+        ("void f();", 78, "Syntax", ""),
+        ("long f([in] float a); }", 81, "Banned", "float"),
         (
             "void f([transmit_as(t)] long a); }",
-            8,
+            77,
             "Banned",
             "transmit_as",
         ),
     ] {
         let text = behind_header(rt.alloc(), rest.as_bytes())?;
-        assert_refused(
-            &rt,
-            rt.alloc(),
-            text.as_slice(),
-            69 + at,
-            name,
-            word.as_bytes(),
-        )?;
+        assert_refused(&rt, rt.alloc(), text.as_slice(), at, name, word.as_bytes())?;
     }
     assert_refused(&rt, rt.alloc(), b"", 0, "Syntax", b"")
 }
@@ -220,8 +213,8 @@ fn refuses_the_bracket_that_is_one_too_many(rt: HostRuntime) -> Result<(), Fail>
         text.append(b")")?;
     }
     text.append(b"; }")?;
-    // One curly bracket is open already.
-    assert_refused(&rt, rt.alloc(), text.as_slice(), 69 + 15 + 63, "Deep", b"")
+    // One curly bracket is open already, so it is the 64th of these, 63 octets behind the first.
+    assert_refused(&rt, rt.alloc(), text.as_slice(), 147, "Deep", b"")
 }
 
 #[test]
@@ -230,7 +223,7 @@ fn refuses_the_parameter_that_is_one_too_many(rt: HostRuntime) -> Result<(), Fai
     let many = numbered(rt.alloc(), front, ", [in] long a", 255, "", "); }")?;
     let interface = read_idl(rt.alloc(), many.as_slice())?;
     assert_eq!(rt; interface.operations.get(0).ok_or("f")?.params.len(), 256);
-    // Its bracket is refused, whatever follows, and not the comma before it.
+    // Its bracket is refused, whatever follows, and not the comma before it: 18 octets, 255 times 13 with 655 digits, and 2.
     let more = numbered(
         rt.alloc(),
         front,
@@ -239,8 +232,7 @@ fn refuses_the_parameter_that_is_one_too_many(rt: HostRuntime) -> Result<(), Fai
         "",
         ", [out] long *b); }",
     )?;
-    let at = more.as_slice().len() - "[out] long *b); }".len();
-    assert_refused(&rt, rt.alloc(), more.as_slice(), at as u32, "NotBuilt", b"")
+    assert_refused(&rt, rt.alloc(), more.as_slice(), 4059, "NotBuilt", b"")
 }
 
 #[test]
@@ -248,7 +240,7 @@ fn refuses_the_operation_that_is_one_too_many(rt: HostRuntime) -> Result<(), Fai
     let many = numbered(rt.alloc(), "", "void f", 1024, "();", "}")?;
     let interface = read_idl(rt.alloc(), many.as_slice())?;
     assert_eq!(rt; interface.operations.len(), 1024);
+    // Behind the header stand 1,024 times 9 octets, with 2,986 digits.
     let more = numbered(rt.alloc(), "", "void f", 1025, "();", "}")?;
-    let at = more.as_slice().len() - "void f1024();}".len();
-    assert_refused(&rt, rt.alloc(), more.as_slice(), at as u32, "NotBuilt", b"")
+    assert_refused(&rt, rt.alloc(), more.as_slice(), 12271, "NotBuilt", b"")
 }
