@@ -32,12 +32,15 @@ fit_piece text p c others fit = by_kind p.kind refl where
       → AreFit text (elim k [ piece.Space ↦ [] | piece.Comment ↦ [] | piece.Token kind ↦ (record { kind = kind; from = p.from; to = p.to }) ∷ [] ] ++ others)
   by_kind piece.Space e = fit
   by_kind piece.Comment e = fit
-  by_kind (piece.Token kind) e = (record {
-    some = c.stands.forward;
-    within = c.stands.within;
-    short = λ w. c.short (e ∙ word_piece kind w);
-    run = λ w. subst (λ (k : PieceKind). IsOf k (slice_range text p.from p.to)) (e ∙ word_piece kind w) c.stands.is;
-  }, fit)
+  by_kind (piece.Token kind) e = (
+    record {
+      some = c.stands.forward;
+      within = c.stands.within;
+      short = λ w. c.short (e ∙ word_piece kind w);
+      run = λ w. subst (λ (k : PieceKind). IsOf k (slice_range text p.from p.to)) (e ∙ word_piece kind w) c.stands.is;
+    },
+    fit,
+  )
 
 fit_pieces : (text : List ℕ) (from : ℕ) (ps : List Piece) (to : ℕ) → AreCut text from ps to → AreFit text (flat_map token_of ps)
 fit_pieces text from [] to cut = tt
