@@ -1,6 +1,8 @@
 // The lists that types and operations are made of. Contracts see each of them as a list.
 ghost use Rattle.std.specs.Prelude.{◌≡◌, ◌++◌, [], ◌∷◌, length, slice_get, OnOk, OnErr, IfOk, IfErr, IfSome, IfNone};
 
+mod copies;
+
 use crate::{Arm, AttrVar, Field, Operation, Param, Prim, TypeDef};
 use nd_base::Memory;
 use std::alloc::Global;
