@@ -6,6 +6,8 @@ pub mod FewRoots
 pub mod LocalPass
 pub mod Misfits
 pub mod NodeFacts
+pub mod NodeTests
+pub mod NodeWalk
 pub mod Orderly
 pub mod PlainFit
 pub mod Told
