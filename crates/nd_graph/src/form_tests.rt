@@ -1,5 +1,5 @@
 // The misfits of nodes, for each form of types.
-ghost use Rattle.std.specs.Prelude.{◌≡◌, ◌≤◌, ◌<◌, ◌^◌, length, IfOk};
+ghost use Rattle.std.specs.Prelude.{◌≡◌, ◌≤◌, ◌<◌, ◌+◌, ◌^◌, length, IfOk, OnOk};
 ghost use Rattle.nd_graph.specs.Seen.{tree_of};
 ghost use Rattle.nd_graph.specs.Tree.{node_count, more, none, trees};
 
@@ -68,14 +68,22 @@ fn types(alloc: Global, def: TypeDef) -> Result<Types, Memory> {
     Ok(types)
 }
 
+// Appends a number.
+fn add(vals: &mut Vals, number: i128) -> Result<(), Memory>
+    ensures { OnOk result (node_count (trees vals.new) ≡ node_count (trees vals.old) + 1) }
+{
+    if let Err((memory, _)) = vals.push(Val::Num(number)) {
+        return Err(memory);
+    }
+    Ok(())
+}
+
 fn vals(alloc: Global, numbers: &[i128]) -> Result<Vals, Memory>
     ensures { IfOk result (λ vs. node_count (trees vs) ≡ length numbers.now) }
 {
     let mut vals = Vals::new(alloc);
     for number in numbers {
-        if vals.push(Val::Num(*number)).is_err() {
-            return Err(Memory);
-        }
+        add(&mut vals, *number)?;
     }
     Ok(vals)
 }
