@@ -14,8 +14,11 @@ use Rattle.idl_names.specs.Whole.{is_in_range, is_zero, truth, are_equal, comple
 abbrev pub Outcome : Type 0
 Outcome = Result ℤ ValueFault
 
+abbrev pub fault_at : ConstFault → ℕ → ValueFault
+fault_at fault at = record { at = at; fault = fault }
+
 abbrev pub fails : ConstFault → ℕ → Outcome
-fails fault at = Err (record { at = at; fault = fault })
+fails fault at = Err (fault_at fault at)
 
 -- goes on with a value; a fault stays
 abbrev pub with_value : Outcome → (ℤ → Outcome) → Outcome

@@ -12,7 +12,9 @@ use idl_grammar::{BinaryOperator, UnaryOperator};
 /// The greatest number of places of a shift.
 const SHIFT_LIMIT: i128 = 63;
 
-fn out_of_range(at: u32) -> ValueFault {
+fn out_of_range(at: u32) -> ValueFault
+    ensures { result ≡ operators.fault_at ConstFault.OutOfRange at }
+{
     ValueFault {
         at,
         fault: ConstFault::OutOfRange,

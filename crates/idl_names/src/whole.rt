@@ -40,6 +40,7 @@ pub(crate) fn complement(value: i128) -> i128
 }
 
 /// The bits that stand in both numbers.
+#[tactic(auto, using(crate::proofs::Bits::both_is))]
 pub(crate) fn bits_in_both(left: i128, right: i128) -> i128
     ensures { result ≡ whole.bits_in_both left right }
 {
@@ -47,6 +48,7 @@ pub(crate) fn bits_in_both(left: i128, right: i128) -> i128
 }
 
 /// The bits that stand in one of the numbers, or in both.
+#[tactic(auto, using(crate::proofs::Bits::either_is))]
 pub(crate) fn bits_in_either(left: i128, right: i128) -> i128
     ensures { result ≡ whole.bits_in_either left right }
 {
@@ -54,6 +56,7 @@ pub(crate) fn bits_in_either(left: i128, right: i128) -> i128
 }
 
 /// The bits that stand in one of the numbers alone.
+#[tactic(auto, using(crate::proofs::Bits::one_is))]
 pub(crate) fn bits_in_one(left: i128, right: i128) -> i128
     ensures { result ≡ whole.bits_in_one left right }
 {
