@@ -34,18 +34,22 @@ abbrev pub complement : ℤ → ℤ
 complement (pos n) = negsuc n
 complement (negsuc n) = pos n
 
+-- the bits of a that b has not
+abbrev pub without : ℕ → ℕ → ℕ
+without a b = bit_xor a (bit_and a b)
+
 -- the bits that stand in both
 abbrev pub bits_in_both : ℤ → ℤ → ℤ
 bits_in_both (pos a) (pos b) = pos (bit_and a b)
-bits_in_both (pos a) (negsuc b) = pos (a - bit_and a b)
-bits_in_both (negsuc a) (pos b) = pos (b - bit_and a b)
+bits_in_both (pos a) (negsuc b) = pos (without a b)
+bits_in_both (negsuc a) (pos b) = pos (without b a)
 bits_in_both (negsuc a) (negsuc b) = negsuc (bit_or a b)
 
 -- the bits that stand in one or in both
 abbrev pub bits_in_either : ℤ → ℤ → ℤ
 bits_in_either (pos a) (pos b) = pos (bit_or a b)
-bits_in_either (pos a) (negsuc b) = negsuc (b - bit_and a b)
-bits_in_either (negsuc a) (pos b) = negsuc (a - bit_and a b)
+bits_in_either (pos a) (negsuc b) = negsuc (without b a)
+bits_in_either (negsuc a) (pos b) = negsuc (without a b)
 bits_in_either (negsuc a) (negsuc b) = negsuc (bit_and a b)
 
 -- the bits that stand in one alone

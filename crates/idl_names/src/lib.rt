@@ -3,9 +3,12 @@
 
 mod fault;
 mod operators;
+#[cfg(test)]
+mod tests;
 mod whole;
 
 mod expression;
+pub mod laws;
 
 pub use fault::{ConstFault, ExpressionFault, ValueFault};
 pub use expression::{Names, evaluate, value};
