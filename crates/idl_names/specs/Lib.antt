@@ -2,4 +2,3 @@ pub mod Whole
 pub mod Operators
 pub mod Value
 pub mod Checked
-pub mod Example
