@@ -1,0 +1,4 @@
+pub mod Whole
+pub mod Operators
+pub mod Value
+pub mod Checked
