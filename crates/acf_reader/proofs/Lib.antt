@@ -1,0 +1,5 @@
+pub mod NamesExact
+pub mod AttributesExact
+pub mod BodyExact
+pub mod AcfExact
+pub mod AcfLaws
