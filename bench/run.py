@@ -7,8 +7,8 @@
 the large text, 1 to 256 (100 if not said), and `--runs` how often a small run is repeated (400 if not said; runs over large
 files a fortieth as often).
 
-The status is 1 where ten times the input takes more than twelve times the time, or where a run comes to something else than
-it should; else it is 0. bench/README.md says what each line means.
+The status is 1 where the time or the memory grows more than it may, or where a run comes to something else than it should; else
+it is 0. bench/README.md says what each line means.
 """
 
 from __future__ import annotations
@@ -31,6 +31,8 @@ PARAMETERS = 256
 STREAM_LIMIT = 16_777_216
 FILE_LIMIT = 1_048_576
 MOST_TIMES = 12.0  # the time that ten times the input may take
+MOST_TIMES_OF_FOUR = 4.6  # the time that four times an interface file may take
+MOST_OCTETS = 100  # the memory for each octet of an interface file
 NOISE = 0.001  # seconds; a difference below them is not told from none
 TIME = shutil.which("time")  # the program `time`, which tells the peak memory of what it runs
 
@@ -142,6 +144,77 @@ def large_interface(size: int) -> bytes:
     return interface(operations)
 
 
+@dataclass(frozen=True)
+class Language:
+    """How the parts of a large file are written in a language."""
+
+    types: Sequence[str]
+    constant: str  # of a name and an expression
+    struct: str  # of a name and members
+    union: str  # of a name and arms
+    arm: str  # of a number, a type and a name
+    parameter: str  # of a type and a name
+
+
+IDL = Language(
+    types=["small", "unsigned short", "long", "unsigned hyper", "char", "boolean", "byte"],
+    constant="const hyper {} = {};\n",
+    struct="typedef struct {0} {{\n{1}[ptr] struct {0} *next;\n}} {0}_t;\n",
+    union="typedef union switch (long tag) {{\n{1}default: ;\n}} {0};\n",
+    arm="case {}: {} {};\n",
+    parameter="[in] {} {}",
+)
+C = Language(
+    types=["signed char", "unsigned short", "int", "unsigned long long", "char", "_Bool", "unsigned char"],
+    constant="enum {{ {} = {} }};\n",
+    struct="typedef struct {0} {{\n{1}struct {0} *next;\n}} {0}_t;\n",
+    union="typedef struct {{ int tag; union {{\n{1}}} of; }} {0};\n",
+    arm="/* {} */ {} {};\n",
+    parameter="{} {}",
+)
+
+
+def deep_expression(number: int) -> str:
+    """62 operators in 60 brackets."""
+    text = str(number)
+    for level in range(60):
+        text = f"({text} {'+-|^'[level % 4]} {level})"
+    return f"{text} ? {number} : -{number}"
+
+
+def part(language: Language, number: int) -> str:
+    """Constants, an enumeration, a struct, a union and an operation, all of them large."""
+    fields = [(language.types[place % len(language.types)], place) for place in range(PARAMETERS)]
+    constants = [language.constant.format(f"C{number}_{place}", deep_expression(place)) for place in range(8)]
+    enumerators = [f"E{number}_{place} = {place} * 2 + 1" for place in range(64)]
+    members = [f"{type} member_{place};\n" for type, place in fields]
+    arms = [language.arm.format(place, type, f"arm_{place}") for type, place in fields[:64]]
+    parameters = [language.parameter.format(type, f"parameter_{place}") for type, place in fields]
+    return "".join(
+        [
+            *constants,
+            f"typedef enum {{ {', '.join(enumerators)} }} E{number};\n",
+            language.struct.format(f"S{number}", "".join(members)),
+            language.union.format(f"U{number}", "".join(arms)),
+            f"{language.types[2]} f{number}({', '.join(parameters)});\n",
+        ]
+    )
+
+
+def large_file(language: Language, size: int, head: str = "", end: str = "") -> bytes:
+    """As many parts as there is room for, and blanks at the end."""
+    parts = [head]
+    room = size - len(head) - len(end)
+    while len(next_part := part(language, len(parts))) <= room:
+        parts.append(next_part)
+        room -= len(next_part)
+    return "".join([*parts, end]).ljust(size).encode()
+
+
+def large_idl(size: int) -> bytes:
+    return large_file(IDL, size, "[uuid(11111111-2222-3333-4444-555555555555), version(1.0)]\ninterface t {\n", "}\n")
+
+
 def numbers(seed: int) -> List[int]:
     chance = random.Random(seed)
     return [chance.randrange(-(2**63), 2**63) for _ in range(PARAMETERS)]
@@ -188,15 +261,26 @@ def tell_ratio(what: str, over: float, under: float) -> None:
         print(f"    {what:<40}{over / under:9.2f}  (1 : {under / over:.2f})")
 
 
-def check_tenfold(bench: Bench, what: str, small: float, large: float) -> None:
-    """Ten times the input may take twelve times the time, start-up apart."""
-    told = f"ten times the input (at most {MOST_TIMES:.0f})"
+def check_growth(bench: Bench, what: str, small: float, large: float, times: str = "ten times", most: float = MOST_TIMES) -> None:
+    """So many times the input may take so many times the time, start-up apart."""
+    told = f"{times} the input (at most {most:g})"
     if small < NOISE:
-        print(f"    {told:<40}   not told: a tenth takes less than {NOISE * 1000:.0f} ms")
+        print(f"    {told:<40}   not told: the small one takes less than {NOISE * 1000:.0f} ms")
         return
     tell_ratio(told, large, small)
-    if large > MOST_TIMES * small:
-        bench.fail(f"{what}: ten times the input takes {large / small:.1f} times the time")
+    if large > most * small:
+        bench.fail(f"{what}: {times} the input takes {large / small:.1f} times the time")
+
+
+def check_memory(bench: Bench, measured: Measured) -> None:
+    """The peak memory of a run for each octet of its file."""
+    if measured.peak is None:
+        return
+    octets = measured.peak / measured.size
+    told = f"memory for an octet (at most {MOST_OCTETS})"
+    print(f"    {told:<40}{octets:9.1f} octets")
+    if octets > MOST_OCTETS:
+        bench.fail(f"{measured.what}: {octets:.0f} octets of memory for each octet of the file")
 
 
 # ----------------------------------------------------------------------------------------------------------------------
@@ -243,7 +327,7 @@ def measure_text(bench: Bench, idl: Path, start: Measured, size: int) -> None:
         ]
     )
     nets = [tell(of_small, start, True), tell(of_large, start, True)]
-    check_tenfold(bench, "encode", *nets)
+    check_growth(bench, "encode", *nets)
     for other in others:
         tell(other, None, True)
         tell_ratio(f"encode beside {other.what.split(',')[0]}", of_large.seconds, other.seconds)
@@ -260,7 +344,7 @@ def measure_octets(bench: Bench, idl: Path, start: Measured) -> None:
             Run("decode, the most octets (refused)", command, large, 1, b""),
         ]
     )
-    check_tenfold(bench, "decode", *[tell(one, start, True) for one in measured])
+    check_growth(bench, "decode", *[tell(one, start, True) for one in measured])
 
 
 def measure_files(bench: Bench, nothing: Path, start: Measured) -> None:
@@ -275,7 +359,37 @@ def measure_files(bench: Bench, nothing: Path, start: Measured) -> None:
         ]
     )
     nets = [tell(of_small, start), tell(of_large, start)]
-    check_tenfold(bench, "an interface file", *nets)
+    check_growth(bench, "an interface file", *nets)
+
+
+def refusal(command: Sequence[str]) -> str:
+    """What the program tells of a file that it refuses, without the place."""
+    told = subprocess.run(command, stdin=subprocess.DEVNULL, capture_output=True, check=False).stderr.decode()
+    return told.strip().rpartition(": ")[2]
+
+
+def measure_language(bench: Bench, start: Measured) -> None:
+    """Files of the whole language, which are lexed and parsed to their end before they are refused, beside a compiler of C."""
+    files = [bench.write(f"whole.{size}.idl", large_idl(size)) for size in (FILE_LIMIT // 4, FILE_LIMIT)]
+    commands = [bench.decode(file, "none", "little") for file in files]
+    for command in commands:
+        if refusal(command) not in ("NotBuilt", "NoOperation none"):
+            bench.fail(f"a file of the whole language: it is refused as {refusal(command)}")
+    runs = [
+        Run("decode, a quarter of the whole language", commands[0], files[0], 6, b""),
+        Run("decode, the whole language (refused)", commands[1], files[1], 6, b""),
+    ]
+    compiler = shutil.which("cc")
+    if compiler is not None:
+        declarations = bench.write("whole.c", large_file(C, FILE_LIMIT))
+        runs.append(Run("cc -fsyntax-only, as much C", [compiler, "-fsyntax-only", str(declarations)], declarations))
+    of_small, of_large, *others = bench.large(runs)
+    nets = [tell(of_small, start, True), tell(of_large, start, True)]
+    check_growth(bench, "a file of the whole language", *nets, times="four times", most=MOST_TIMES_OF_FOUR)
+    check_memory(bench, of_large)
+    for other in others:
+        tell(other, None, True)
+        tell_ratio("decode beside cc", of_large.seconds, other.seconds)
 
 
 def has_encode(bench: Bench, idl: Path, nothing: Path) -> bool:
@@ -296,6 +410,7 @@ def measure(bench: Bench, size: int) -> None:
         measure_text(bench, idl, start, size)
     measure_octets(bench, idl, start)
     measure_files(bench, nothing, start)
+    measure_language(bench, start)
 
 
 def built() -> Path:

@@ -27,32 +27,74 @@ def identified(name, uuid):
     return accepted(name, f"[uuid({uuid})] interface t {{ void f([in] small x); }}\n".encode())
 
 
+def between(separator):
+    """A plain file with this before, between and behind all tokens."""
+    tokens = "[ uuid ( 11111111-2222-3333-4444-555555555555 ) ] interface t { void f ( [ in ] small x ) ; }".split()
+    return separator.join(["", *tokens, ""]).encode()
+
+
 PLAIN = interface("void f([in] small x);")
 
 LAYOUT = [
     accepted("on four lines", PLAIN),
     accepted("no separator but those between words", f"{HEADER}interface t{{void f([in]small x);}}".encode()),
     accepted("a line a token", PLAIN.replace(b" ", b"\n").replace(b"(", b"\n(\n").replace(b"[", b"\n[\n")),
-    accepted("separators before, between and behind all tokens", " ".join(
-        [" \n ", "[", "uuid", "(", "11111111-2222-3333-4444-555555555555", ")", "]", "interface", "t", "{", "void", "f",
-         "(", "[", "in", "]", "small", "x", ")", ";", "}", "\n\n "]).replace(" ", " \n ").encode()),
+    accepted("spaces and line feeds before, between and behind all tokens", between(" \n ")),
+    accepted("a tab between words", PLAIN.replace(b"void f", b"void\tf")),
+    accepted("a tab on a line of its own", PLAIN.replace(b"\n}", b"\n\t\n}")),
+    accepted("carriage returns and line feeds", PLAIN.replace(b"\n", b"\r\n")),
+    accepted("carriage returns in the place of line feeds", PLAIN.replace(b"\n", b"\r")),
+    accepted("a carriage return at the end", PLAIN + b"\r"),
+    accepted("form feeds in the place of spaces", PLAIN.replace(b" ", b"\f")),
+    accepted("each separator before, between and behind all tokens", between(" \t\r\n\f")),
     accepted("1,048,576 octets", PLAIN.ljust(1_048_576)),
     accepted("1,048,576 octets, most of them in the middle", PLAIN.replace(b"\n}", b"\n" * (1_048_576 - len(PLAIN) + 1) + b"}")),
     accepted("1,024 operations", interface(*(f"void g{n}();" for n in range(1023)), "void f([in] small x);")),
 ]
 
+COMMENTS = [
+    accepted("a comment before", b"/* about t */ " + PLAIN),
+    accepted("a comment inside", PLAIN.replace(b"small x", b"small /* first */ x")),
+    accepted("a comment behind", PLAIN + b"/* done */"),
+    accepted("a comment and no separator", PLAIN.replace(b"void f", b"void/**/f")),
+    accepted("a comment before, between and behind all tokens", between("/* */")),
+    accepted("comments of a star, between all tokens", between("/***/")),
+    accepted("comments of several lines, between all tokens", between("/*\n one\r\n *\n * /\n **/")),
+    accepted("comments one after the other", PLAIN + b"/**//*/ */ /***/ /****/\n/* */"),
+    accepted("a comment does not nest", PLAIN.replace(b"void f", b"void /* /* /* */ f")),
+    accepted("tokens in a comment", PLAIN.replace(b"void f", b"void /* ' \" # 010 float // void g(); } */ f")),
+    accepted("an operation in a comment", PLAIN.replace(b"\n}", b"\n/* void f([in] small x); */ }")),
+    accepted("any octets in a comment", PLAIN + b"/*" + bytes(range(256)) + b"*/"),
+    accepted("letters past ASCII in a comment", PLAIN + "/* größe */".encode()),
+    accepted("a word of 32 octets in a comment", PLAIN + b"/* " + b"n" * 32 + b" */"),
+    accepted("1,048,576 octets, most of them in a comment", PLAIN + b"/*".ljust(1_048_574 - len(PLAIN)) + b"*/"),
+]
+
 NAMES = [
     identified("an identifier of letters", "aaaaaaaa-bbbb-cccc-dddd-eeeeeeeeeeee"),
     identified("an identifier in capitals", "ABCDEF01-2345-6789-ABCD-EF0123456789"),
+    identified("an identifier that begins as a number with a leading zero", "01234567-89ab-cdef-0123-456789abcdef"),
+    identified("an identifier that begins as a number with letters", "1a2b3c4d-0000-0000-0000-000000000000"),
+    identified("an identifier that begins as a number with an exponent", "0e000000-0e00-0e00-0e00-0e0000000000"),
+    identified("an identifier in comments", "/* a */00000000-0000-0000-0000-000000000000/* b */"),
     identified("an identifier with spaces around", " 00000000-0000-0000-0000-000000000000 "),
     named("names of 31 octets", "n" * 31),
     named("names of one octet", "_"),
     named("names with digits and _", "_9_a_0"),
     named("names in capitals", "VOID"),
     *(named(f"{word} as a name", word) for word in (
-        "in", "out", "uuid", "version", "local", "ref", "unique", "ptr", "string", "class", "size_is", "switch_is",
-        "idempotent", "context_handle", "transmit_as", "handle", "values", "op", "Small", "null", "true")),
+        # words with which an attribute begins
+        "in", "out", "uuid", "version", "endpoint", "local", "pointer_default", "ref", "unique", "ptr", "string", "context_handle",
+        "size_is", "max_is", "length_is", "first_is", "last_is", "switch_is", "switch_type", "idempotent", "broadcast", "maybe",
+        # words that are banned where an attribute begins
+        "transmit_as", "represent_as", "ignore", "handle", "reflect_deletions", "min_is", "encode", "decode",
+        # others
+        "class", "values", "op", "Small", "null", "true", "Float", "wchar", "include", "int64", "error_status_t", "v1_enum")),
     accepted("names that differ in case", interface("void f([in] small x);", "void F([in] hyper X, [in] hyper x);")),
+    accepted("names of which one begins another",
+             interface("void f([in] small x);", "void ff([in] hyper xx, [in] hyper x);", "void f_();")),
+    accepted("names of 31 octets that differ in the last",
+             interface(f"void {'n' * 30}a();", f"void {'n' * 30}b();", "void f([in] small x);")),
     accepted("one name for parameters of two operations", interface("void g([in] hyper x);", "void f([in] small x);")),
     accepted("a parameter named as an operation", interface("void x();", "void f([in] small x);")),
 ]
@@ -70,4 +112,4 @@ UNKNOWN = [
     unknown("an interface without operations", interface(), "f"),
 ]
 
-CASES = LAYOUT + NAMES + UNKNOWN
+CASES = LAYOUT + COMMENTS + NAMES + UNKNOWN

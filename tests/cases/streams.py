@@ -15,8 +15,12 @@ INPUT = [
     Case("streams: a folder as input", DECODE, PLAIN, FOLDER, notes=lines("read fault"), status=3),
     Case("streams: closed input, unknown operation", UNKNOWN, PLAIN, CLOSED,
          notes=lines("idl t.idl: NoOperation g"), status=6),
-    Case("streams: closed input, a file that is not plain", DECODE, {"t.idl": b""}, CLOSED,
-         notes=lines("idl t.idl:1:1: NotBuilt"), status=6),
+    Case("streams: closed input, an empty file", DECODE, {"t.idl": b""}, CLOSED,
+         notes=lines("idl t.idl:1:1: Syntax"), status=6),
+    Case("streams: closed input, a file with an octet of no token", DECODE, {"t.idl": b" #"}, CLOSED,
+         notes=lines("idl t.idl:1:2: BadOctet"), status=6),
+    Case("streams: closed input, a file that is not plain", DECODE, {"t.idl": interface("long f();")}, CLOSED,
+         notes=lines("idl t.idl:3:1: NotBuilt"), status=6),
 ]
 
 OUT = [
@@ -42,6 +46,8 @@ NOTES = [
     Case("streams: full notes, refused words", ["decode"], notes=FULL, status=4),
     Case("streams: closed notes, refused words", ["decode"], notes=CLOSED, status=4),
     Case("streams: full notes, missing file", DECODE, {}, ONE, notes=FULL, status=4),
+    Case("streams: full notes, empty file", DECODE, {"t.idl": b""}, ONE, notes=FULL, status=4),
+    Case("streams: full notes, a file that is not plain", DECODE, {"t.idl": interface("long f();")}, ONE, notes=FULL, status=4),
     Case("streams: full notes, closed input", DECODE, PLAIN, CLOSED, notes=FULL, status=4),
     Case("streams: full notes, unknown operation", UNKNOWN, PLAIN, ONE, notes=FULL, status=4),
     Case("streams: all closed", DECODE, PLAIN, CLOSED, out=CLOSED, notes=CLOSED, status=4),

@@ -10,14 +10,14 @@ use Rattle.nd_graph.specs.declared.value.Graph.{Graph}
 use Rattle.nd_graph.specs.Setting.{Setting}
 use Rattle.nd_grammar.specs.Represents.{Represents}
 use Rattle.nd_grammar.specs.Prefix.{BeginsWith}
-use Rattle.plain_idl.specs.Plain.{IsPlainFile}
+use Rattle.plain_idl.specs.Answers.{IsPlainFile}
 use Rattle.plain_ndr.specs.Decoding.{inputs_of}
 use Rattle.value_text.specs.Printed.{IsText}
 use Rattle.dceidl.specs.declared.ready.Ready.{Ready}
 use Rattle.dceidl.specs.declared.task.Task.{Task}
 use Rattle.dceidl.specs.declared.task.Task.TheVariants.{Decode, Encode}
 use Rattle.dceidl.specs.declared.refusal.Refusal.{Refusal}
-use Rattle.dceidl.specs.declared.refusal.Refusal.TheVariants.{Memory, Absent, FileFailed, NotBuilt, NoOperation, ReadFault, BadOctets, BadText, BadValue}
+use Rattle.dceidl.specs.declared.refusal.Refusal.TheVariants.{Memory, Absent, FileFailed, BadIdl, NoOperation, ReadFault, BadOctets, BadText, BadValue}
 use Rattle.dceidl.specs.Outside.{FilesSeen, SourceSeen}
 use Rattle.dceidl.specs.Ready.{IsReady, IsFileCause, IsNoInterface}
 use Rattle.dceidl.specs.Decode.{IsDecoding}
@@ -43,7 +43,7 @@ no_interface : (f : FilesSeen) (idl op file : List ℕ) → IsContent f.held idl
 no_interface f idl op file content Memory cause = tt
 no_interface f idl op file content Absent cause = absurd cause
 no_interface f idl op file content FileFailed cause = absurd cause
-no_interface f idl op file content NotBuilt cause = (file, content, cause)
+no_interface f idl op file content (BadIdl line column reason) cause = (file, content, cause)
 no_interface f idl op file content NoOperation cause = (file, content, cause)
 no_interface f idl op file content ReadFault cause = absurd cause
 no_interface f idl op file content (BadOctets place why) cause = absurd cause
@@ -86,7 +86,7 @@ content_cause s w (Decode order) octets read ReadFault cause = absurd cause
 content_cause s w (Encode order chunk) octets read ReadFault cause = absurd cause
 content_cause s w task octets read Absent cause = (octets, read, cause)
 content_cause s w task octets read FileFailed cause = (octets, read, cause)
-content_cause s w task octets read NotBuilt cause = (octets, read, cause)
+content_cause s w task octets read (BadIdl line column reason) cause = (octets, read, cause)
 content_cause s w task octets read NoOperation cause = (octets, read, cause)
 content_cause s w task octets read (BadOctets place why) cause = (octets, read, cause)
 content_cause s w task octets read (BadText line column reason) cause = (octets, read, cause)

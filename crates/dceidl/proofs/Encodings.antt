@@ -22,7 +22,7 @@ use Rattle.value_text.specs.Reads.{ReadsAs, IsTextFault}
 use Rattle.nd_grammar.proofs.PlainSides.{plain_operation}
 use Rattle.value_text.proofs.PlainGraphs.{side_of, readable_plain}
 use Rattle.dceidl.specs.declared.refusal.Refusal.{Refusal}
-use Rattle.dceidl.specs.declared.refusal.Refusal.TheVariants.{Memory, Absent, FileFailed, NotBuilt, NoOperation, ReadFault, BadOctets, BadText, BadValue}
+use Rattle.dceidl.specs.declared.refusal.Refusal.TheVariants.{Memory, Absent, FileFailed, BadIdl, NoOperation, ReadFault, BadOctets, BadText, BadValue}
 use Rattle.dceidl.specs.Encode.{IsEncoding, IsTextCause, IsValueCause, IsMisfitAt, IsToldAsValue}
 use Rattle.dceidl.proofs.WholeMisfits.{whole_misfit}
 
@@ -55,7 +55,7 @@ module _ (i : Interface) (n : ℕ) (o : Operation) (plain : IsPlainInterface i.t
   text_cause (BadOctets place why) cause = absurd cause
   text_cause Absent cause = absurd cause
   text_cause FileFailed cause = absurd cause
-  text_cause NotBuilt cause = absurd cause
+  text_cause (BadIdl line column reason) cause = absurd cause
   text_cause NoOperation cause = absurd cause
   text_cause ReadFault cause = absurd cause
 

@@ -3,7 +3,7 @@ use Rattle.std.proofs.Common.{◌≡◌, ℕ, List, Some, sym, ◌∙◌, subst,
 use Rattle.std.specs.Prelude.{◌≢◌}
 use Rattle.dceidl.specs.declared.task.Task.{Task}
 use Rattle.dceidl.specs.declared.refusal.Refusal.{Refusal}
-use Rattle.dceidl.specs.declared.refusal.Refusal.TheVariants.{Memory, Absent, FileFailed, NotBuilt, NoOperation, ReadFault, BadOctets, BadText, BadValue}
+use Rattle.dceidl.specs.declared.refusal.Refusal.TheVariants.{Memory, Absent, FileFailed, BadIdl, NoOperation, ReadFault, BadOctets, BadText, BadValue}
 use Rattle.dceidl.specs.declared.outcome.Outcome.{Outcome}
 use Rattle.dceidl.specs.declared.outcome.Outcome.TheVariants.{Done, Refused, Wanting}
 use Rattle.dceidl.specs.Outside.{FilesSeen, SourceSeen, SinkSeen, HasRisen, Got}
@@ -46,7 +46,7 @@ module _ (f : FilesSeen) (s : SourceSeen) (out notes : SinkSeen) (task : Task) (
       own Memory e' = cc
       own Absent e' = cc
       own FileFailed e' = cc
-      own NotBuilt e' = cc
+      own (BadIdl line column reason) e' = cc
       own NoOperation e' = cc
       own ReadFault e' = cc
       own (BadOctets place why) e' = cc

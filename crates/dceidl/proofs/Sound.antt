@@ -12,14 +12,16 @@ use Rattle.nd_types.specs.declared.interface.Interface.{Interface}
 use Rattle.nd_types.specs.declared.types.Operation.{Operation}
 use Rattle.nd_types.specs.Operations.{operation_named}
 use Rattle.nd_graph.specs.Setting.{Setting}
-use Rattle.plain_idl.specs.Plain.{IsPlainFile}
-use Rattle.plain_idl.proofs.File.{one_interface}
+use Rattle.plain_idl.specs.Answers.{IsPlainFile}
+use Rattle.plain_idl.proofs.OneVerdict.{one_interface, one_fault, never_both}
+use Rattle.plain_idl.specs.declared.fault.IdlReason.{IdlReason}
+use Rattle.value_text.specs.Reads.{position_of}
 use Rattle.plain_ndr.specs.Decoding.{inputs_of}
 use Rattle.dceidl.specs.declared.task.Task.{Task}
 use Rattle.dceidl.specs.declared.refusal.Refusal.{Refusal}
-use Rattle.dceidl.specs.declared.refusal.Refusal.TheVariants.{Memory, Absent, FileFailed, NotBuilt, NoOperation, ReadFault, BadOctets, BadText, BadValue}
+use Rattle.dceidl.specs.declared.refusal.Refusal.TheVariants.{Memory, Absent, FileFailed, BadIdl, NoOperation, ReadFault, BadOctets, BadText, BadValue}
 use Rattle.dceidl.specs.Outside.{FilesSeen, SourceSeen, SinkSeen, Got}
-use Rattle.dceidl.specs.Ready.{IsReady, IsFileCause}
+use Rattle.dceidl.specs.Ready.{IsReady, IsFileCause, IsRefusedFile}
 use Rattle.dceidl.specs.Task.{limit_of, IsRead, IsMade, IsContentCause, IsInputCause, IsCause}
 use Rattle.dceidl.specs.Lines.{status_of, line_of}
 use Rattle.dceidl.specs.Rows.{IsRefused, IsSound, IsHeld, IsAccepted, IsInput, Refuses}
@@ -105,8 +107,9 @@ module _ (f : FilesSeen) (s : SourceSeen) (out notes : SinkSeen) (task : Task) (
       by_file Memory cause is = settled_wanting is
       by_file Absent (rose, missing) is = absurd (held_there f idl accepted.file accepted.held missing)
       by_file FileFailed rose is = absurd (sound.loads rose)
-      by_file NotBuilt (file', content, none) is =
-          absurd (none i (subst (λ x. IsPlainFile x i) (sym (held_only f idl accepted.file file' accepted.held content)) accepted.plain))
+      by_file (BadIdl line column reason) (file', content, bad) is =
+          absurd (never_both file' i bad.at reason
+          (subst (λ x. IsPlainFile x i) (sym (held_only f idl accepted.file file' accepted.held content)) accepted.plain) bad.fault)
       by_file NoOperation (file', content, (i', plain', none)) is =
           let file : file' ≡ accepted.file = held_only f idl accepted.file file' accepted.held content in
           let one : i' ≡ i = one_interface accepted.file i' i (subst (λ x. IsPlainFile x i') file plain') accepted.plain in
@@ -136,16 +139,31 @@ module _ (f : FilesSeen) (s : SourceSeen) (out notes : SinkSeen) (task : Task) (
   told_of : (r : IsRefused f s out notes task idl op status) (refusal : Refusal) → r.refusal ≡ refusal → Refuses idl op notes status refusal
   told_of r refusal e = inl (r.own_status ∙ ap status_of e, subst (λ x. Got notes (line_of idl op x)) e r.line)
 
-  -- a file that is no plain file is refused as that
-  pub not_built : (file : List ℕ) → IsHeld f idl file → ((i : Interface) → IsPlainFile file i → ⊥) → Refuses idl op notes status NotBuilt
-  not_built file held none = by_end end
+  -- a file that is refused is refused at its line and column
+  pub bad_idl : (file : List ℕ) (line column : ℕ) (why : IdlReason) → IsHeld f idl file → IsRefusedFile file line column why
+      → Refuses idl op notes status (BadIdl line column why)
+  bad_idl file line column why held refused = by_end end
     where
+      none : (i : Interface) → IsPlainFile file i → ⊥
+      none i plain = never_both file i refused.at why plain refused.fault
+
       unready : {i : Interface} {n : ℕ} {o : Operation} → IsReady f idl op i n o → ⊥
       unready {i = i} ready = none i (subst (λ x. IsPlainFile x i) (held_only f idl file ready.file held ready.loaded) ready.plain)
 
-      by_cause : (r : IsRefused f s out notes task idl op status) (q : Refusal) → r.refusal ≡ q → IsCause f s task idl op q → Refuses idl op notes status NotBuilt
+      same : (l c : ℕ) (w : IdlReason) → IsRefusedFile file l c w → BadIdl l c w ≡ BadIdl line column why
+      same l c w other =
+          let one = one_fault file other.at refused.at w why other.fault refused.fault in
+          let places : (l, c) ≡ (line, column) = sym other.position ∙ ap (position_of file) one.0 ∙ refused.position in
+          let lines : l ≡ line = ap (λ (p : ℕ × ℕ). p.0) places in
+          let columns : c ≡ column = ap (λ (p : ℕ × ℕ). p.1) places in
+          let reasons = one.1 in
+          cc
+
+      by_cause : (r : IsRefused f s out notes task idl op status) (q : Refusal) → r.refusal ≡ q → IsCause f s task idl op q
+          → Refuses idl op notes status (BadIdl line column why)
       by_cause r Memory e cause = inr (r.own_status ∙ ap status_of e)
-      by_cause r NotBuilt e cause = told_of r NotBuilt e
+      by_cause r (BadIdl l c w) e (inl ((file', content, bad), untouched)) =
+          told_of r (BadIdl line column why) (e ∙ same l c w (subst (λ x. IsRefusedFile x l c w) (held_only f idl file file' held content) bad))
       by_cause r Absent e (inl ((rose, missing), untouched)) = absurd (held_there f idl file held missing)
       by_cause r FileFailed e (inl (rose, untouched)) = absurd (sound.loads rose)
       by_cause r NoOperation e (inl ((file', content, (i, plain, gone)), untouched)) =
@@ -156,7 +174,7 @@ module _ (f : FilesSeen) (s : SourceSeen) (out notes : SinkSeen) (task : Task) (
       by_cause r (BadValue path reason) e (inl ((file', content, never), untouched)) = absurd never
       by_cause r q e (inr (i, n, o, ready, cause)) = absurd (unready ready)
 
-      by_end : Ended f s out notes task idl op status → Refuses idl op notes status NotBuilt
+      by_end : Ended f s out notes task idl op status → Refuses idl op notes status (BadIdl line column why)
       by_end (ended_done is d) = absurd (unready d.ready)
       by_end (ended_refused r) = by_cause r r.refusal refl r.cause
       by_end (ended_wanting is) = inr is
@@ -182,8 +200,8 @@ module _ (f : FilesSeen) (s : SourceSeen) (out notes : SinkSeen) (task : Task) (
       by_cause r NoOperation e cause = told_of r NoOperation e
       by_cause r Absent e (inl ((rose, missing), untouched)) = absurd (held_there f idl file held missing)
       by_cause r FileFailed e (inl (rose, untouched)) = absurd (sound.loads rose)
-      by_cause r NotBuilt e (inl ((file', content, none), untouched)) =
-          absurd (none i (subst (λ x. IsPlainFile x i) (sym (held_only f idl file file' held content)) plain))
+      by_cause r (BadIdl line column why) e (inl ((file', content, bad), untouched)) =
+          absurd (never_both file' i bad.at why (subst (λ x. IsPlainFile x i) (sym (held_only f idl file file' held content)) plain) bad.fault)
       by_cause r ReadFault e (inl ((file', content, never), untouched)) = absurd never
       by_cause r (BadOctets place why) e (inl ((file', content, never), untouched)) = absurd never
       by_cause r (BadText line column reason) e (inl ((file', content, never), untouched)) = absurd never

@@ -19,7 +19,7 @@ use Rattle.nd_grammar.proofs.PlainVerdict.{never_both, one_graph, one_refusal}
 use Rattle.plain_ndr.specs.Decoding.{inputs_of}
 use Rattle.dceidl.specs.declared.task.Task.TheVariants.{Decode}
 use Rattle.dceidl.specs.declared.refusal.Refusal.{Refusal}
-use Rattle.dceidl.specs.declared.refusal.Refusal.TheVariants.{Memory, Absent, FileFailed, NotBuilt, NoOperation, ReadFault, BadOctets, BadText, BadValue}
+use Rattle.dceidl.specs.declared.refusal.Refusal.TheVariants.{Memory, Absent, FileFailed, BadIdl, NoOperation, ReadFault, BadOctets, BadText, BadValue}
 use Rattle.dceidl.specs.declared.refusal.OctetsFault.TheVariants as fault
 use Rattle.dceidl.specs.Outside.{FilesSeen, SinkSeen, Got}
 use Rattle.dceidl.specs.Decode.{IsDecoding, IsTrailing, IsOctetsCause}
@@ -62,7 +62,7 @@ module _ (notes : SinkSeen) (order : Order) (idl op : List ℕ) (w : Setting) (p
           absurd (omega (arith, same, trailing.follows))
       by_cause Absent cause is = absurd cause
       by_cause FileFailed cause is = absurd cause
-      by_cause NotBuilt cause is = absurd cause
+      by_cause (BadIdl line column reason) cause is = absurd cause
       by_cause NoOperation cause is = absurd cause
       by_cause ReadFault cause is = absurd cause
       by_cause (BadText line column reason) cause is = absurd cause
@@ -87,7 +87,7 @@ module _ (notes : SinkSeen) (order : Order) (idl op : List ℕ) (w : Setting) (p
           absurd (never_both w order ps octets place' trailing.graph place why side trailing.begins is_bad)
       by_cause Absent cause is line = absurd cause
       by_cause FileFailed cause is line = absurd cause
-      by_cause NotBuilt cause is line = absurd cause
+      by_cause (BadIdl line column reason) cause is line = absurd cause
       by_cause NoOperation cause is line = absurd cause
       by_cause ReadFault cause is line = absurd cause
       by_cause (BadText at column reason) cause is line = absurd cause
@@ -114,7 +114,7 @@ module _ (notes : SinkSeen) (order : Order) (idl op : List ℕ) (w : Setting) (p
           told_as notes idl op status _ _ is line (ap (λ p. BadOctets p fault.Trailing) same.0)
       by_cause Absent cause is line = absurd cause
       by_cause FileFailed cause is line = absurd cause
-      by_cause NotBuilt cause is line = absurd cause
+      by_cause (BadIdl line column reason) cause is line = absurd cause
       by_cause NoOperation cause is line = absurd cause
       by_cause ReadFault cause is line = absurd cause
       by_cause (BadText at column reason) cause is line = absurd cause

@@ -21,7 +21,7 @@ use Rattle.value_text.proofs.OneText.{never_both}
 use Rattle.value_text.proofs.OneFault.{one_graph, one_place, one_reason}
 use Rattle.dceidl.specs.declared.task.Task.TheVariants.{Encode}
 use Rattle.dceidl.specs.declared.refusal.Refusal.{Refusal}
-use Rattle.dceidl.specs.declared.refusal.Refusal.TheVariants.{Memory, Absent, FileFailed, NotBuilt, NoOperation, ReadFault, BadOctets, BadText, BadValue}
+use Rattle.dceidl.specs.declared.refusal.Refusal.TheVariants.{Memory, Absent, FileFailed, BadIdl, NoOperation, ReadFault, BadOctets, BadText, BadValue}
 use Rattle.dceidl.specs.Outside.{FilesSeen, SinkSeen, Got}
 use Rattle.dceidl.specs.Encode.{IsTextCause, IsMisfitAt, home_path}
 use Rattle.dceidl.specs.Lines.{status_of, line_of}
@@ -50,7 +50,7 @@ module _ (notes : SinkSeen) (order : Order) (chunk : ℕ) (idl op : List ℕ) (w
           absurd (misfit_is_no_fit w bad.graph _ bad.misfit.first (subst (Conforms w) (one_graph w text g bad.graph side reads bad.reads) conforms))
       by_cause Absent cause is = absurd cause
       by_cause FileFailed cause is = absurd cause
-      by_cause NotBuilt cause is = absurd cause
+      by_cause (BadIdl line column reason) cause is = absurd cause
       by_cause NoOperation cause is = absurd cause
       by_cause ReadFault cause is = absurd cause
       by_cause (BadOctets place why) cause is = absurd cause
@@ -75,7 +75,7 @@ module _ (notes : SinkSeen) (order : Order) (chunk : ℕ) (idl op : List ℕ) (w
       by_cause (BadValue path reason) bad is told = absurd (never_both w text bad.graph line column why bad.reads fault)
       by_cause Absent cause is told = absurd cause
       by_cause FileFailed cause is told = absurd cause
-      by_cause NotBuilt cause is told = absurd cause
+      by_cause (BadIdl line column reason) cause is told = absurd cause
       by_cause NoOperation cause is told = absurd cause
       by_cause ReadFault cause is told = absurd cause
       by_cause (BadOctets place reason) cause is told = absurd cause
@@ -105,7 +105,7 @@ module _ (notes : SinkSeen) (order : Order) (chunk : ℕ) (idl op : List ℕ) (w
           (by_misfit path reason (subst (λ h. IsMisfitAt w h path reason) (one_graph w text bad.graph g side bad.reads reads) bad.misfit))
       by_cause Absent cause is told = absurd cause
       by_cause FileFailed cause is told = absurd cause
-      by_cause NotBuilt cause is told = absurd cause
+      by_cause (BadIdl line column reason) cause is told = absurd cause
       by_cause NoOperation cause is told = absurd cause
       by_cause ReadFault cause is told = absurd cause
       by_cause (BadOctets place reason) cause is told = absurd cause

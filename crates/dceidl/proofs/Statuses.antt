@@ -6,7 +6,7 @@ use Rattle.plain_ndr.specs.Decoding.{inputs_of}
 use Rattle.dceidl.specs.declared.task.Task.{Task}
 use Rattle.dceidl.specs.declared.task.Task.TheVariants.{Decode, Encode}
 use Rattle.dceidl.specs.declared.refusal.Refusal.{Refusal}
-use Rattle.dceidl.specs.declared.refusal.Refusal.TheVariants.{Memory, Absent, FileFailed, NotBuilt, NoOperation, ReadFault, BadOctets, BadText, BadValue}
+use Rattle.dceidl.specs.declared.refusal.Refusal.TheVariants.{Memory, Absent, FileFailed, BadIdl, NoOperation, ReadFault, BadOctets, BadText, BadValue}
 use Rattle.dceidl.specs.declared.outcome.Outcome.{Outcome}
 use Rattle.dceidl.specs.declared.outcome.Outcome.TheVariants.{Done, Refused, Wanting}
 use Rattle.dceidl.specs.Outside.{FilesSeen, SourceSeen, SinkSeen, HasRisen}
@@ -40,7 +40,7 @@ module _ (f : FilesSeen) (s : SourceSeen) (out notes : SinkSeen) (status : ℕ) 
     rose_3 Memory cause e = cc
     rose_3 Absent cause e = cc
     rose_3 FileFailed cause e = cc
-    rose_3 NotBuilt cause e = cc
+    rose_3 (BadIdl line column reason) cause e = cc
     rose_3 NoOperation cause e = cc
     rose_3 (BadOctets place why) cause e = cc
     rose_3 (BadText line column reason) cause e = cc
@@ -52,7 +52,7 @@ module _ (f : FilesSeen) (s : SourceSeen) (out notes : SinkSeen) (status : ℕ) 
     rose_7 ReadFault cause e = cc
     rose_7 Memory cause e = cc
     rose_7 FileFailed cause e = cc
-    rose_7 NotBuilt cause e = cc
+    rose_7 (BadIdl line column reason) cause e = cc
     rose_7 NoOperation cause e = cc
     rose_7 (BadOctets place why) cause e = cc
     rose_7 (BadText line column reason) cause e = cc
@@ -64,7 +64,7 @@ module _ (f : FilesSeen) (s : SourceSeen) (out notes : SinkSeen) (status : ℕ) 
     rose_9 ReadFault cause e = cc
     rose_9 Memory cause e = cc
     rose_9 Absent cause e = cc
-    rose_9 NotBuilt cause e = cc
+    rose_9 (BadIdl line column reason) cause e = cc
     rose_9 NoOperation cause e = cc
     rose_9 (BadOctets place why) cause e = cc
     rose_9 (BadText line column reason) cause e = cc

@@ -5,10 +5,12 @@ use Rattle.nd_base.specs.Outside.{IsContent, IsMissing}
 use Rattle.nd_types.specs.declared.interface.Interface.{Interface}
 use Rattle.nd_types.specs.declared.types.Operation.{Operation}
 use Rattle.nd_types.specs.Operations.{operation_named}
-use Rattle.plain_idl.specs.Plain.{IsPlainFile}
+use Rattle.plain_idl.specs.Answers.{IsPlainFile, IsIdlFault}
+use Rattle.plain_idl.specs.declared.fault.IdlReason.{IdlReason}
+use Rattle.value_text.specs.Reads.{position_of}
 use Rattle.dceidl.specs.Outside.{FilesSeen, HasRisen}
 use Rattle.dceidl.specs.declared.refusal.Refusal.{Refusal}
-use Rattle.dceidl.specs.declared.refusal.Refusal.TheVariants.{Memory, Absent, FileFailed, NotBuilt, NoOperation}
+use Rattle.dceidl.specs.declared.refusal.Refusal.TheVariants.{Memory, Absent, FileFailed, BadIdl, NoOperation}
 
 -- the operation of a name, by its number
 pub record IsNamed (i : Interface) (name : List ℕ) (n : ℕ) (o : Operation) : Type 0 where
@@ -22,10 +24,16 @@ pub record IsReady (f : FilesSeen) (idl op : List ℕ) (i : Interface) (n : ℕ)
   pub plain : IsPlainFile file i
   pub named : IsNamed i op n o
 
--- the file is no plain file, or its interface has no operation of the name
+-- The file is refused at a line and a column, both from 1: those of the octet of its fault. A line feed ends a line.
+pub record IsRefusedFile (file : List ℕ) (line column : ℕ) (reason : IdlReason) : Type 0 where
+  pub at : ℕ
+  pub fault : IsIdlFault file at reason
+  pub position : position_of file at ≡ (line, column)
+
+-- the file is refused, or its interface has no operation of the name
 abbrev pub IsNoInterface : List ℕ → List ℕ → Refusal → Type 0
 IsNoInterface file op Memory = ⊤
-IsNoInterface file op NotBuilt = (i : Interface) → IsPlainFile file i → ⊥
+IsNoInterface file op (BadIdl line column reason) = IsRefusedFile file line column reason
 IsNoInterface file op NoOperation = (i : Interface) × IsPlainFile file i × (operation_named i.operations op ≡ None)
 IsNoInterface file op _ = ⊥
 

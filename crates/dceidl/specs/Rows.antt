@@ -3,7 +3,7 @@ use Rattle.std.specs.Prelude.{◌≡◌, ◌⊎◌, ℕ, ◌+◌, List, take, op
 use Rattle.nd_base.specs.Outside.{IsMissing, loaded}
 use Rattle.nd_types.specs.declared.interface.Interface.{Interface}
 use Rattle.nd_types.specs.declared.types.Operation.{Operation}
-use Rattle.plain_idl.specs.Plain.{IsPlainFile}
+use Rattle.plain_idl.specs.Answers.{IsPlainFile}
 use Rattle.dceidl.specs.declared.refusal.Refusal.{Refusal}
 use Rattle.dceidl.specs.declared.task.Task.{Task}
 use Rattle.dceidl.specs.Words.{Command, Work}

@@ -8,6 +8,7 @@ mod join;
 pub mod laws;
 mod lines;
 mod outcome;
+mod position;
 mod ready;
 mod refusal;
 mod task;

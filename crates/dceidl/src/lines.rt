@@ -1,14 +1,16 @@
 // The status and the line of each refusal.
 ghost use Rattle.std.specs.Prelude.{◌≡◌, [], IfOk};
-ghost use Rattle.dceidl.specs.Lines.{status_of, line_of, fault_text, reason_text, misfit_text, disagreement as disagreement_text, reason_name as name_of_reason, misfit_name as name_of_misfit, text_reason_name as name_of_text_reason};
+ghost use Rattle.dceidl.specs.Lines.{status_of, line_of, idl_reason_text, lex_kind_name as name_of_lex_kind, fault_text, reason_text, misfit_text, disagreement as disagreement_text, reason_name as name_of_reason, misfit_name as name_of_misfit, text_reason_name as name_of_text_reason};
 
 use crate::join::join;
 use crate::refusal::{OctetsFault, Refusal};
 use crate::top::Status;
+use idl_lexer::LexKind;
 use itoa::Buffer;
 use nd_base::{Memory, Octets};
 use nd_grammar::Reason;
 use nd_graph::MisfitReason;
+use plain_idl::IdlReason;
 use std::alloc::Global;
 use value_text::TextReason;
 
@@ -20,7 +22,7 @@ pub(crate) fn status(refusal: &Refusal) -> Status
         Refusal::Memory => 5,
         Refusal::Absent => 7,
         Refusal::FileFailed => 9,
-        Refusal::NotBuilt | Refusal::NoOperation => 6,
+        Refusal::BadIdl { .. } | Refusal::NoOperation => 6,
         Refusal::ReadFault => 3,
         Refusal::BadOctets { .. } | Refusal::BadText { .. } | Refusal::BadValue { .. } => 1,
     }
@@ -35,7 +37,11 @@ pub(crate) fn line(alloc: Global, idl: &str, op: &str, refusal: &Refusal) -> Res
         Refusal::Memory => Octets::copy(alloc, b"want of memory\n"),
         Refusal::Absent => join(alloc, &[b"absent: ", idl, b"\n"]),
         Refusal::FileFailed => join(alloc, &[b"file fault: ", idl, b"\n"]),
-        Refusal::NotBuilt => join(alloc, &[b"idl ", idl, b":1:1: NotBuilt\n"]),
+        Refusal::BadIdl {
+            line,
+            column,
+            reason,
+        } => idl_line(alloc, idl, *line, *column, reason),
         Refusal::NoOperation => join(
             alloc,
             &[b"idl ", idl, b": NoOperation ", op.as_bytes(), b"\n"],
@@ -48,6 +54,64 @@ pub(crate) fn line(alloc: Global, idl: &str, op: &str, refusal: &Refusal) -> Res
             reason,
         } => text_line(alloc, *line, *column, *reason),
         Refusal::BadValue { path, reason } => value_line(alloc, path.as_slice(), *reason),
+    }
+}
+
+// A file that is refused at a line and column.
+fn idl_line(
+    alloc: Global,
+    idl: &[u8],
+    line: u64,
+    column: u64,
+    reason: &IdlReason,
+) -> Result<Octets, Memory>
+    ensures { IfOk result (λ told. told ≡ line_of idl.now [] (Refusal.BadIdl line column reason.now)) }
+{
+    let mut line_digits = Buffer::new();
+    let line = line_digits.format(line).as_bytes();
+    let mut column_digits = Buffer::new();
+    let column = column_digits.format(column).as_bytes();
+    let reason = why_not_idl(alloc, reason)?;
+    join(
+        alloc,
+        &[
+            b"idl ",
+            idl,
+            b":",
+            line,
+            b":",
+            column,
+            b": ",
+            reason.as_slice(),
+            b"\n",
+        ],
+    )
+}
+
+// Why a file is refused, as a line tells it.
+fn why_not_idl(alloc: Global, reason: &IdlReason) -> Result<Octets, Memory>
+    ensures { IfOk result (λ text. text ≡ idl_reason_text reason.now) }
+{
+    match reason {
+        IdlReason::Lexical(kind) => Octets::copy(alloc, lex_kind_name(*kind).as_bytes()),
+        IdlReason::Syntax => Octets::copy(alloc, b"Syntax"),
+        IdlReason::Deep => Octets::copy(alloc, b"Deep"),
+        IdlReason::Banned { word } => join(alloc, &[b"Banned ", word.as_slice()]),
+        IdlReason::NotBuilt => Octets::copy(alloc, b"NotBuilt"),
+    }
+}
+
+// The name of a reason why a text of IDL cannot be cut into tokens.
+fn lex_kind_name(kind: LexKind) -> &'static str
+    ensures { result.now ≡ name_of_lex_kind kind }
+{
+    match kind {
+        LexKind::BadOctet => "BadOctet",
+        LexKind::OpenComment => "OpenComment",
+        LexKind::OpenText => "OpenText",
+        LexKind::LongName => "LongName",
+        LexKind::BadNumber => "BadNumber",
+        LexKind::TooLong => "TooLong",
     }
 }
 

@@ -2,6 +2,7 @@
 use nd_base::Octets;
 use nd_grammar::Reason;
 use nd_graph::MisfitReason;
+use plain_idl::IdlReason;
 use thiserror::Error;
 use value_text::TextReason;
 
@@ -28,9 +29,13 @@ pub enum Refusal {
     /// The file was not read.
     #[error("file failed")]
     FileFailed,
-    /// The file is of a form that is not built yet.
-    #[error("not built yet")]
-    NotBuilt,
+    /// The file is refused at a line and column, from 1, in octets.
+    #[error("file refused at {line}:{column}: {reason}")]
+    BadIdl {
+        line: u64,
+        column: u64,
+        reason: IdlReason,
+    },
     /// The interface has no operation of the name.
     #[error("no such operation")]
     NoOperation,

@@ -16,7 +16,9 @@ ghost use Rattle.nd_grammar.specs.Represents.{Represents};
 ghost use Rattle.nd_grammar.specs.Bad.{Bad};
 ghost use Rattle.value_text.specs.declared.fault.TextReason.{TextReason};
 ghost use Rattle.value_text.specs.Reads.{ReadsAs, IsTextFault};
-ghost use Rattle.plain_idl.specs.Plain.{IsPlainFile};
+ghost use Rattle.plain_idl.specs.Answers.{IsPlainFile};
+ghost use Rattle.plain_idl.specs.declared.fault.IdlReason.{IdlReason};
+ghost use Rattle.dceidl.specs.Ready.{IsRefusedFile};
 ghost use Rattle.plain_ndr.specs.Decoding.{inputs_of};
 ghost use Rattle.dceidl.specs.Words.{command, Work};
 ghost use Rattle.dceidl.specs.Asked.{HasChunk};
@@ -107,14 +109,14 @@ pub fn run<F: Files, S: Source, K: Sink, N: Sink>(
         (sink_seen K.written K.faults out.old out.new)
         (sink_seen N.written N.faults notes.old notes.new) task idl op result }
     // What comes where nothing fails outside: the refusal of the file whose cause holds.
-    ensures not_built { (task : Task) (idl op file : List ℕ)
+    ensures bad_idl { (task : Task) (idl op file : List ℕ) (line column : ℕ) (why : IdlReason)
         → command words.now ≡ Some (Work task idl op)
         → IsSound (files_seen F.held F.absences F.faults files.old files.new)
         (source_seen S.left S.ended S.faults input.old input.new)
         (sink_seen K.written K.faults out.old out.new) (sink_seen N.written N.faults notes.old notes.new)
         → IsHeld (files_seen F.held F.absences F.faults files.old files.new) idl file
-        → ((i : Interface) → IsPlainFile file i → ⊥)
-        → Refuses idl op (sink_seen N.written N.faults notes.old notes.new) result Refusal.NotBuilt }
+        → IsRefusedFile file line column why
+        → Refuses idl op (sink_seen N.written N.faults notes.old notes.new) result (Refusal.BadIdl line column why) }
     ensures no_operation { (task : Task) (idl op file : List ℕ) (i : Interface)
         → command words.now ≡ Some (Work task idl op)
         → IsSound (files_seen F.held F.absences F.faults files.old files.new)

@@ -6,3 +6,4 @@ pub mod Comments
 pub mod LiteralEnds
 pub mod Passes
 pub mod OneVerdict
+pub mod Words

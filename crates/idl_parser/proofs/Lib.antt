@@ -5,9 +5,7 @@ pub mod Plain
 pub mod Lists
 pub mod Firsts
 pub mod TypeReading
-pub mod Rows
 mod Tables
 mod Taken
 mod Bodies
 mod Answered
-mod Real

@@ -6,8 +6,7 @@ ghost use Rattle.phrases.specs.Reading.{turned};
 ghost use Rattle.phrases.specs.Gives.{Gives};
 ghost use Rattle.idl_grammar.specs.Tree as tree;
 ghost use Rattle.idl_grammar.specs.Reading.{type_firsts, member_firsts, arm_firsts, member_read, members_read, struct_body_read, members_of, struct_read, case_read, cases_read, cases_body_read, arm_read, arms_read, arms_body_read, union_body_read, union_read, type_read};
-ghost use Rattle.idl_grammar.specs.Seen.{seen_type, seen_arm};
-ghost use Rattle.idl_parser.specs.Views.{seen_member, seen_case};
+ghost use Rattle.idl_grammar.specs.Seen.{seen_type, seen_arm, seen_member, seen_case};
 
 use crate::enums::LABEL_FIRSTS;
 use crate::parser::Parser;
@@ -135,7 +134,7 @@ impl Parser<'_> {
 
     /// The members of a struct in curly brackets, behind its tag where it has one.
     #[cycle(types)]
-    #[tactic(auto, using(crate::proofs::Rows::struct_is), unfolding(idl_grammar::specs::Reading::struct_body_read))]
+    #[tactic(auto, using(idl_grammar::proofs::Rows::struct_is), unfolding(idl_grammar::specs::Reading::struct_body_read))]
     fn struct_body(
         &self,
         fuel: usize,
@@ -256,7 +255,7 @@ impl Parser<'_> {
 
     /// The body of a union, behind its tag where it has one.
     #[cycle(types)]
-    #[tactic(auto, using(crate::proofs::Rows::cases_are, crate::proofs::Rows::arms_are), unfolding(idl_grammar::specs::Reading::union_body_read))]
+    #[tactic(auto, using(idl_grammar::proofs::Rows::cases_are, idl_grammar::proofs::Rows::arms_are), unfolding(idl_grammar::specs::Reading::union_body_read))]
     fn union_body(
         &self,
         fuel: usize,

@@ -18,6 +18,7 @@ use Rattle.nd_grammar.specs.Entry.{Kind, Entry, Align, Max, Offset, Actual, Chun
 use Rattle.nd_grammar.specs.Represents.{piece, Spells, IsNumber, IsRendered, id_octets, IsNumbering, Represents}
 use Rattle.nd_grammar.specs.Bad.{Bad}
 use Rattle.nd_grammar.specs.Refusal.{Accepts, refusal}
+use Rattle.nd_grammar.specs.NextEntry.{IsReadTo}
 use Rattle.nd_grammar.specs.declared.reason.Reason.{Reason}
 use Rattle.nd_graph.specs.Canon.{canonical_number, named_cells}
 use Rattle.nd_grammar.specs.Chosen.{Chosen, octets_from, pipe_cuts}
@@ -449,6 +450,30 @@ bad_so w order octets place why g cuts fuel n here later partial walked cut numb
       is_representation = refl;
     })
     (own_numbers _ numbered) split rendered accepted refused
+
+-- a stream of a graph, by the steps that the walk finds
+pub stream_so : (w : Setting) (g : Graph) (cuts : List (List ℕ)) (fuel : ℕ)
+    → is_some (walk fuel w g [] (due_roots 0 (before_pipes (root_list w)))) ≡ true
+    → AllCut (drop (before_pipes (root_list w)) g.roots) cuts
+    → Stream w g (representation w g (steps_of fuel w g) cuts)
+stream_so w g cuts fuel walked cut =
+    record { steps = steps_of fuel w g; cuts = cuts; deferral = walk_gives fuel w g [] _ _ (some_found _ walked); all_cut = cut; is_representation = refl }
+
+-- octets are read to the n-th entry, by tests
+pub read_so : (nums : ℕ → ℕ) (order : Order) (octets : List ℕ) (ms : List Entry) (n : ℕ)
+    → leb n (length ms) ≡ true
+    → are_numbered nums (full_cells ms) ≡ true
+    → all_apart nums (full_cells ms) (full_cells ms) ≡ true
+    → renders order nums octets (take n (end_to_end 0 ms)) ≡ true
+    → accepts order octets [] (take n (end_to_end 0 ms)) ≡ true
+    → IsReadTo order octets ms n
+read_so nums order octets ms n there numbered distinct rendered accepted = record {
+  there = leb-true _ _ there;
+  numbering = nums;
+  is_numbering = record { in_range = numbered_are nums _ numbered; one_to_one = all_apart_are nums _ _ distinct };
+  rendered = renders_gives order nums octets _ rendered;
+  accepted = accepts_gives order octets [] _ accepted;
+}
 
 abbrev same_cell : Option ℕ → Option ℕ → Bool
 same_cell (Some c) (Some d) = eqb c d

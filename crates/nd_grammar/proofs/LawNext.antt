@@ -1,20 +1,27 @@
 -- The law of the next entry, and that of few items, at a ring of two nodes: their premises can be met.
-use Rattle.std.proofs.Common.{◌≡◌, ℕ, ◌+◌, ◌≤◌, suc, List, [], ◌∷◌, ◌++◌, length, take, refl, ap, sym, ◌∙◌, arith, subst, length-append}
+use Rattle.std.proofs.Common.{◌≡◌, ℕ, ◌+◌, ◌-◌, ◌≤◌, suc, List, [], ◌∷◌, ◌++◌, length, take, refl, ap, sym, ◌∙◌, arith, subst, length-append}
+use Rattle.std.specs.Prelude.{pos}
 use Rattle.std.specs.List.{AllByRecursion, slice_get}
 use Rattle.nd_base.specs.declared.octets.Order.{Order}
 use Rattle.nd_base.specs.declared.octets.Order.TheVariants.{Little}
-use Rattle.nd_graph.specs.Setting.{Setting}
+use Rattle.nd_types.specs.Layout.{align_of, hoists}
+use Rattle.nd_types.specs.Roots.{roots_of}
+use Rattle.nd_graph.specs.declared.value.Graph.{Graph}
+use Rattle.nd_graph.specs.Conforms.{IsPartial}
+use Rattle.nd_graph.specs.Setting.{Setting, Among}
 use Rattle.nd_graph.proofs.NodeFacts.{sound_partial}
 use Rattle.nd_grammar.specs.Bad.{Bad}
 use Rattle.nd_grammar.specs.Entry.{Entry, size_at, end_to_end}
 use Rattle.nd_grammar.specs.Represents.{IsRendered}
 use Rattle.nd_grammar.specs.Refusal.{Accepts}
+use Rattle.nd_grammar.specs.Stream.{Stream, representation}
 use Rattle.nd_grammar.specs.FewItems.{item_count}
-use Rattle.nd_grammar.specs.NextEntry.{NextAlike, IsReadTo}
+use Rattle.nd_grammar.specs.NextEntry.{NextAlike, IsOneToOne, IsReadTo}
 use Rattle.nd_grammar.specs.declared.reason.Reason.{Reason}
 use Rattle.nd_grammar.specs.declared.reason.Reason.TheVariants as reason
-use Rattle.nd_grammar.proofs.Check.{upto}
-use Rattle.nd_grammar.proofs.LawRing.{ring, ring_2, ring_2_octets, ring_conforms, ring_represented, ring_cut}
+use Rattle.nd_grammar.specs.ExampleParts.{pointer_to}
+use Rattle.nd_grammar.proofs.Check.{upto, steps_of, partial_so, stream_so, read_so}
+use Rattle.nd_grammar.proofs.LawRing.{ring, ring_node, ring_2, ring_2_octets, ring_conforms, ring_represented, ring_cut}
 use Rattle.nd_grammar.proofs.LawExamples.{ring_side}
 use Rattle.nd_grammar.proofs.NextIndex.{next_entry}
 use Rattle.nd_grammar.proofs.FewItemsLaw.{few_items}
@@ -52,6 +59,49 @@ ring_next other e =
 
 pub ring_next_itself : NextAlike (slice_get (end_to_end 0 ring_cut.entries) (length ring_cut.earlier)) (slice_get (end_to_end 0 ring_cut.entries) (length ring_cut.earlier))
 ring_next_itself = ring_next ring_cut refl
+
+-- The ring with its cells the other way round: the first node is cell 2. Its stream has the same octets.
+abbrev turned_ring : Graph
+turned_ring = record { roots = pointer_to 2 ∷ []; cells = ring_node (pos 8) 2 ∷ ring_node (pos 7) 1 ∷ [] }
+
+ring_partial : IsPartial ring ring_2
+unfolding align_of hoists roots_of
+ring_partial = partial_so ring ring_2 refl refl refl refl
+
+turned_partial : IsPartial ring turned_ring
+unfolding align_of hoists roots_of
+turned_partial = partial_so ring turned_ring refl refl refl refl
+
+abbrev ring_entries : List Entry
+ring_entries = representation ring ring_2 (steps_of 10 ring ring_2) []
+
+abbrev turned_entries : List Entry
+turned_entries = representation ring turned_ring (steps_of 10 ring turned_ring) []
+
+ring_stream : Stream ring ring_2 ring_entries
+unfolding align_of hoists roots_of
+ring_stream = stream_so ring ring_2 [] 10 refl tt
+
+turned_stream : Stream ring turned_ring turned_entries
+unfolding align_of hoists roots_of
+turned_stream = stream_so ring turned_ring [] 10 refl tt
+
+-- the entries up to the number by which the first node names the second one
+ring_read : IsReadTo Little ring_2_octets ring_entries 7
+unfolding align_of hoists roots_of
+ring_read = read_so (λ c. c) Little ring_2_octets ring_entries 7 refl refl refl refl refl
+
+turned_read : IsReadTo Little ring_2_octets turned_entries 7
+unfolding align_of hoists roots_of
+turned_read = read_so (λ c. 3 - c) Little ring_2_octets turned_entries 7 refl refl refl refl refl
+
+-- Read up to there, the second node is named, and does not stand yet: one map carries each node to the other number that it has.
+pub ring_map : (cells : List (ℕ × ℕ)) × IsOneToOne cells × Among cells (1, 2) × Among cells (2, 1)
+unfolding align_of hoists roots_of
+ring_map =
+    let (cells, one, homes, names) = (next_entry ring ring_side Little ring_2_octets ring_2 turned_ring (sound_partial ring ring_2 ring_partial)
+    (sound_partial ring turned_ring turned_partial) ring_entries turned_entries ring_stream turned_stream 7 ring_read turned_read).1 in
+    (cells, one, names.1.0, names.1.1.1.1.1.1.0)
 
 -- the ring has few items
 pub ring_few : item_count Little ring_2_octets ring_represented.entries + length ring_2.cells ≤ length ring_2_octets + length ring_2.roots

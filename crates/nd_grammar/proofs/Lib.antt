@@ -28,6 +28,7 @@ pub mod LegalUsable
 pub mod MadeTrees
 pub mod Mapped
 pub mod Matching
+pub mod NamedAlike
 pub mod Next
 pub mod NextDeferral
 pub mod NextInPlace
@@ -55,6 +56,7 @@ pub mod PlainSteps
 pub mod PlainStreams
 pub mod PlainVerdict
 pub mod PlainWritten
+pub mod PointerPlaces
 pub mod Ranges
 pub mod ReaderArrays
 pub mod ReaderCells
@@ -94,6 +96,7 @@ pub mod Standings
 pub mod StreamConforming
 pub mod StreamConforms
 pub mod StreamMet
+pub mod StreamPointers
 pub mod WorkedArrays
 pub mod WorkedDirectory
 pub mod WorkedLarge

@@ -7,6 +7,7 @@ use Rattle.nd_graph.specs.declared.item.Home.{Home}
 use Rattle.std.specs.List.{AllByRecursion}
 use Rattle.nd_graph.specs.declared.item.Home.TheVariants as home
 use Rattle.nd_graph.specs.Setting.{Among}
+use Rattle.nd_graph.proofs.Apart.{among_right}
 use Rattle.nd_grammar.specs.NextEntry.{form}
 use Rattle.nd_grammar.specs.Entry.{Entry, Unread, size_at}
 use Rattle.nd_grammar.specs.Represents.{IsRendered}
@@ -40,6 +41,13 @@ HomesMeet xs (home.Root i) (home.Root j) = i ≡ j
 HomesMeet xs (home.Cell c) (home.Cell d) = (x : Pair) × Among xs x × (x.left ≡ c.0) × (x.right ≡ d.0)
 HomesMeet xs _ _ = ⊥
 
+-- homes that correspond do so by a map that has grown
+pub homes_grown : (new xs : List Pair) (h h' : Home) → HomesMeet xs h h' → HomesMeet (new ++ xs) h h'
+homes_grown new xs (home.Root i) (home.Root j) e = e
+homes_grown new xs (home.Cell c) (home.Cell d) (x, a, l, r) = (x, among_right new xs x a, l, r)
+homes_grown new xs (home.Root i) (home.Cell d) e = absurd e
+homes_grown new xs (home.Cell c) (home.Root j) e = absurd e
+
 -- The same octets in an order, read as streams of two graphs, each with a numbering of its cells.
 pub record Readings : Type 0 where
   pub order : Order
@@ -51,21 +59,21 @@ pub record Readings : Type 0 where
   pub left_one : (c d : ℕ) → left c ≡ left d → c ≡ d
   pub right_one : (c d : ℕ) → right c ≡ right d → c ≡ d
 
-module _ (b : Readings) (X : List Pair → Type 0) where
+module _ (b : Readings) (W X : List Pair → Type 0) where
   abbrev pub SpeltLeft : ℕ → Entry → Type 0
   SpeltLeft at m = IsRendered b.order b.left b.octets (record { at = at; entry = m })
 
   abbrev pub SpeltRight : ℕ → Entry → Type 0
   SpeltRight at n = IsRendered b.order b.right b.octets (record { at = at; entry = n })
 
-  -- As far as the octets spell two lists of entries, their next entries are alike and their homes correspond by a one-to-one map of
-  -- cells that grows, up to an unread value in one of the lists. Where both are spelt whole, X holds of the map.
+  -- As far as the octets spell two lists of entries, their next entries are alike and their homes correspond by a map of cells that
+  -- grows and of which W holds, up to an unread value in one of the lists. Where both are spelt whole, X holds of the map.
   abbrev pub Next : List Pair → ℕ → List Entry → List Entry → Type 0
-  Next map at [] [] = (new : List Pair) × OneToOne (new ++ map) × X (new ++ map)
+  Next map at [] [] = (new : List Pair) × W (new ++ map) × X (new ++ map)
   Next map at [] (n ∷ ns) = IsUnread n
   Next map at (m ∷ ms) [] = IsUnread m
   Next map at (m ∷ ms) (n ∷ ns) =
-      IsUnread m ⊎ (IsUnread n ⊎ ((new : List Pair) × OneToOne (new ++ map) × HomesMeet (new ++ map) m.home n.home × Alike m n
+      IsUnread m ⊎ (IsUnread n ⊎ ((new : List Pair) × W (new ++ map) × HomesMeet (new ++ map) m.home n.home × Alike m n
       × (SpeltLeft at m → SpeltRight at n → Next (new ++ map) (at + size_at at m.kind) ms ns)))
 
   pub unread_left : (map : List Pair) (at : ℕ) (m : Entry) (ms ns : List Entry) → IsUnread m → Next map at (m ∷ ms) ns
@@ -77,7 +85,7 @@ module _ (b : Readings) (X : List Pair → Type 0) where
   unread_right map at n (m ∷ ms) ns e = inr (inl e)
 
   -- one entry more, the map as it is
-  pub one_more : (map : List Pair) → OneToOne map → (at : ℕ) (m n : Entry) (ms ns : List Entry) → HomesMeet map m.home n.home → Alike m n
+  pub one_more : (map : List Pair) → W map → (at : ℕ) (m n : Entry) (ms ns : List Entry) → HomesMeet map m.home n.home → Alike m n
       → (SpeltLeft at m → SpeltRight at n → Next map (at + size_at at m.kind) ms ns) → Next map at (m ∷ ms) (n ∷ ns)
   one_more map one at m n ms ns meet alike k = inr (inr ([], one, meet, alike, k))
 
@@ -85,7 +93,7 @@ module _ (b : Readings) (X : List Pair → Type 0) where
   pub grown : (more_pairs map : List Pair) → (at : ℕ) (ms ns : List Entry) → Next (more_pairs ++ map) at ms ns → Next map at ms ns
   grown ps map at [] [] (new, one, x) =
       let e : new ++ (ps ++ map) ≡ (new ++ ps) ++ map = sym (append_assoc new ps map) in
-      (new ++ ps, subst OneToOne e one, subst X e x)
+      (new ++ ps, subst W e one, subst X e x)
   grown ps map at [] (n ∷ ns) u = u
   grown ps map at (m ∷ ms) [] u = u
   grown ps map at (m ∷ ms) (n ∷ ns) (inl u) = inl u
@@ -94,7 +102,7 @@ module _ (b : Readings) (X : List Pair → Type 0) where
       let e : new ++ (ps ++ map) ≡ (new ++ ps) ++ map = sym (append_assoc new ps map) in
       inr (inr (
         new ++ ps,
-        subst OneToOne e one,
+        subst W e one,
         subst (λ u. HomesMeet u m.home n.home) e meet,
         alike,
         λ x y. subst (λ u. Next u (at + size_at at m.kind) ms ns) e (k x y),

@@ -13,7 +13,7 @@ use Rattle.nd_graph.specs.declared.item.Home.{Home}
 use Rattle.nd_graph.specs.declared.value.Graph.{Graph}
 use Rattle.std.proofs.lemmas.Bool.{and_parts, eqb-true}
 use Rattle.nd_grammar.proofs.Identifiers.{ids}
-use Rattle.nd_grammar.proofs.Next.{Pair, OneToOne, HomesMeet, Readings, Next, unread_left, unread_right}
+use Rattle.nd_grammar.proofs.Next.{Pair, HomesMeet, Readings, Next, unread_left, unread_right}
 use Rattle.nd_grammar.proofs.Matching.{CellsMatch, Match, Matched, CountsKnown, Known, SameMax, Maxes, matched_nodes, matched_count, matched_number, child_agreements_same, through, pointer_bare, found_same}
 use Rattle.nd_graph.specs.Misfit.{has_machine_values, is_no_null_ref}
 use Rattle.nd_graph.specs.Tree.{Referent}
@@ -74,11 +74,12 @@ text_max m os m' os' (inl e) = cc
 text_max m os m' os' (inr (inl e)) = cc
 text_max m os m' os' (inr (inr e)) = e
 
-abbrev NoNull : Class → Option ℕ → Type 0
+-- a reference pointer is not null
+abbrev pub NoNull : Class → Option ℕ → Type 0
 NoNull Ref None = ⊥
 NoNull _ _ = Unit {0}
 
-no_null : (k : Class) (to : TypeId) (c : Option ℕ) → is_no_null_ref (Some (def.Pointer k to)) (tree.Ptr c) ≡ true → NoNull k c
+pub no_null : (k : Class) (to : TypeId) (c : Option ℕ) → is_no_null_ref (Some (def.Pointer k to)) (tree.Ptr c) ≡ true → NoNull k c
 no_null Ref to None e = cc
 no_null Ref to (Some c) e = tt
 no_null Unique to None e = tt
@@ -86,7 +87,7 @@ no_null Unique to (Some c) e = tt
 no_null Full to None e = tt
 no_null Full to (Some c) e = tt
 
-cells_match : (nums nums' : ℕ → ℕ) → ((c : ℕ) → 0 < nums c) → ((c : ℕ) → 0 < nums' c) → (k : Class) (c d : Option ℕ) (v : ℕ) → NoNull k c → NoNull k d
+pub cells_match : (nums nums' : ℕ → ℕ) → ((c : ℕ) → 0 < nums c) → ((c : ℕ) → 0 < nums' c) → (k : Class) (c d : Option ℕ) (v : ℕ) → NoNull k c → NoNull k d
     → IsNumber nums k c v → IsNumber nums' k d v → CellsMatch nums nums' k c d
 cells_match nums nums' low low' Full None None v a b x y = tt
 cells_match nums nums' low low' Unique None None v a b x y = tt
@@ -110,10 +111,10 @@ sixteen a a' i j e f =
     let (f3, f4) = and_parts _ _ f1 in
     eqb-true (length i) 16 e4 ∙ sym (eqb-true (length j) 16 f4)
 
-module _ (two : Readings) (X : List Pair → Type 0) (map : List Pair) (one : OneToOne map) (table : Table) (g g' : Graph) (h h' : Home)
+module _ (two : Readings) (W X : List Pair → Type 0) (map : List Pair) (one : W map) (table : Table) (g g' : Graph) (h h' : Home)
     (meet : HomesMeet map h h') where
   abbrev pub N : ℕ → List Entry → List Entry → Type 0
-  N at ms ns = Next two X map at ms ns
+  N at ms ns = Next two W X map at ms ns
 
   abbrev pub Cells : Class → Option ℕ → Option ℕ → Type 0
   Cells = CellsMatch two.left two.right
@@ -228,9 +229,9 @@ module _ (two : Readings) (X : List Pair → Type 0) (map : List Pair) (one : On
         )),
       ))
   before_next t n {d = dd} {l' = l'} ks ks' ms ns at (v_unread x) y a b c d i j e k =
-      rw (x ks) (unread_left two X map at (record { home = h; node = n; kind = Unread }) ms (entries h' n (before_children table t dd l' ks') ++ ns) refl)
+      rw (x ks) (unread_left two W X map at (record { home = h; node = n; kind = Unread }) ms (entries h' n (before_children table t dd l' ks') ++ ns) refl)
   before_next t n {d = dd} {l = l} ks ks' ms ns at x (v_unread y) a b c d i j e k =
-      rw (y ks') (unread_right two X map at (record { home = h'; node = n; kind = Unread }) (entries h n (before_children table t dd l ks) ++ ms) ns refl)
+      rw (y ks') (unread_right two W X map at (record { home = h'; node = n; kind = Unread }) (entries h n (before_children table t dd l ks) ++ ms) ns refl)
 
   pub tests_next : (n : ℕ) (t t' : Tree) (ws : List Agreement) → ((a : Attr) → found_in a t ≡ found_in a t') → (ms ns : List Entry) (at : ℕ)
       → ((p : ℕ) → N p ms ns)

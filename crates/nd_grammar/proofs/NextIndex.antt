@@ -1,67 +1,40 @@
 -- The law of the next entry, index by index.
-use Rattle.std.proofs.Common.{◌≡◌, ℕ, ◌+◌, ◌≤◌, zero, suc, List, [], ◌∷◌, ◌++◌, length, refl, ap, ap₂, sym, inl, inr, arith, subst, take, append_assoc}
-use Rattle.std.specs.Prelude.{map}
+use Rattle.std.proofs.Common.{◌≡◌, ℕ, ◌+◌, ◌≤◌, zero, suc, List, [], ◌∷◌, ◌++◌, length, refl, ap, sym, inl, inr, arith, subst, take, append_assoc}
 use Rattle.std.specs.List.{AllByRecursion, slice_get}
 use Rattle.nd_base.specs.declared.octets.Order.{Order}
 use Rattle.nd_graph.specs.declared.value.Graph.{Graph}
-use Rattle.nd_graph.specs.declared.item.Home.{Home}
-use Rattle.nd_graph.specs.declared.item.Home.TheVariants as home
-use Rattle.nd_graph.specs.Setting.{Setting, Among}
-use Rattle.nd_graph.proofs.Apart.{among_right}
+use Rattle.nd_graph.specs.Setting.{Setting}
+use Rattle.nd_graph.specs.Homes.{all_pointers}
 use Rattle.nd_graph.proofs.NodeFacts.{IsSound}
 use Rattle.nd_grammar.specs.Entry.{Entry, EntryAt, size_at, end_to_end, full_cells}
 use Rattle.nd_grammar.specs.LegalSide.{IsLegalSide}
-use Rattle.nd_grammar.specs.NextEntry.{NextAlike, IsOneToOne, HomesCorrespond, AllCorrespond, IsReadTo}
+use Rattle.nd_grammar.specs.NextEntry.{NextAlike, IsOneToOne, AllCorrespond, AllNameAlike, IsReadTo}
 use Rattle.nd_grammar.specs.Represents.{IsRendered}
 use Rattle.nd_grammar.specs.Stream.{Stream}
-use Rattle.nd_grammar.proofs.Next.{Pair, IsApart, OneToOne, HomesMeet, Readings, Next}
+use Rattle.nd_grammar.proofs.Next.{Pair, HomesMeet, homes_grown, Readings, Next}
 use Rattle.nd_grammar.proofs.Spelt.{CellsIn, cells_in, all_spelt_carried, not_spelt, same_size}
-use Rattle.nd_grammar.proofs.NextStream.{AreMapped, streams_next}
+use Rattle.nd_grammar.proofs.StreamPointers.{HasPointer, have_stream}
+use Rattle.nd_grammar.proofs.NamedAlike.{one_map_of_all}
+use Rattle.nd_grammar.proofs.NextStream.{IsLaidOut, AreMapped, streams_next}
+use Rattle.nd_grammar.proofs.RefusedAlike.{SeenAlike, AllSeenAlike}
+use Rattle.nd_grammar.proofs.Standings.{IsMap, no_pairs}
 use Rattle.nd_grammar.proofs.LegalSides.{laid_out}
 use Rattle.nd_grammar.proofs.OneGraph.{readings}
 
-abbrev cells_of : List Pair → List (ℕ × ℕ)
-cells_of xs = map (λ z. (z.left, z.right)) xs
-
-all_apart : (z : Pair) (xs : List Pair) → AllByRecursion (IsApart z) xs → AllByRecursion (λ y. (z.left ≡ y.0 → ⊥) × (z.right ≡ y.1 → ⊥)) (cells_of xs)
-all_apart z [] a = tt
-all_apart z (x ∷ xs) a = (a.0, all_apart z xs a.1)
-
-one_to_one : (xs : List Pair) → OneToOne xs → IsOneToOne (cells_of xs)
-one_to_one [] o = tt
-one_to_one (x ∷ xs) o = (all_apart x xs o.0, one_to_one xs o.1)
-
-among_cells : (xs : List Pair) (z : Pair) → Among xs z → Among (cells_of xs) (z.left, z.right)
-among_cells [] z a = absurd a
-among_cells (x ∷ xs) z (inl e) = inl (ap (λ u. (u.left, u.right)) e)
-among_cells (x ∷ xs) z (inr a) = inr (among_cells xs z a)
-
-correspond : (xs : List Pair) (h h' : Home) → HomesMeet xs h h' → HomesCorrespond (cells_of xs) h h'
-correspond xs (home.Root i) (home.Root j) e = e
-correspond xs (home.Cell c) (home.Cell d) (z, a, l, r) = subst (λ u. Among (cells_of xs) u) (ap₂ (λ p q. (p, q)) l r) (among_cells xs z a)
-correspond xs (home.Root i) (home.Cell d) e = absurd e
-correspond xs (home.Cell c) (home.Root j) e = absurd e
-
-homes_in_more : (new xs : List Pair) (h h' : Home) → HomesMeet xs h h' → HomesMeet (new ++ xs) h h'
-homes_in_more new xs (home.Root i) (home.Root j) e = e
-homes_in_more new xs (home.Cell c) (home.Cell d) (x, a, l, r) = (x, among_right new xs x a, l, r)
-homes_in_more new xs (home.Root i) (home.Cell d) e = absurd e
-homes_in_more new xs (home.Cell c) (home.Root j) e = absurd e
-
-module _ (two : Readings) (X : List Pair → Type 0) where
+module _ (two : Readings) (W X : List Pair → Type 0) where
   abbrev Left : EntryAt → Type 0
   Left = IsRendered two.order two.left two.octets
 
   abbrev Right : EntryAt → Type 0
   Right = IsRendered two.order two.right two.octets
 
-  -- what follows, whatever the map grew by
+  -- what is known of the first i entries, whatever the map grew by, and of the next ones
   abbrev Follows : List Pair → ℕ → List Entry → List Entry → ℕ → Type 0
   Follows xs at ms ns i =
-      (new : List Pair) × OneToOne (new ++ xs) × AllCorrespond (cells_of (new ++ xs)) (take i (end_to_end at ms)) (take i (end_to_end at ns))
+      (new : List Pair) × W (new ++ xs) × AllSeenAlike (new ++ xs) (take i (end_to_end at ms)) (take i (end_to_end at ns))
       × NextAlike (slice_get (end_to_end at ms) i) (slice_get (end_to_end at ns) i)
 
-  pub follows : (xs : List Pair) → OneToOne xs → (at : ℕ) (ms ns : List Entry) (i : ℕ) → i ≤ length ms → i ≤ length ns → Next two X xs at ms ns
+  pub follows : (xs : List Pair) → W xs → (at : ℕ) (ms ns : List Entry) (i : ℕ) → i ≤ length ms → i ≤ length ns → Next two W X xs at ms ns
       → AllByRecursion Left (take i (end_to_end at ms)) → AllByRecursion Right (take i (end_to_end at ns)) → Follows xs at ms ns i
   follows xs o at [] [] zero h h' k a b = ([], o, tt, tt)
   follows xs o at [] (n ∷ ns) zero h h' u a b = ([], o, tt, u)
@@ -84,16 +57,15 @@ module _ (two : Readings) (X : List Pair → Type 0) where
       let (new', one', all, next) = follows (new ++ xs) one (at + size_at at m.kind) ms ns i (omega arith) (omega arith) (k a.0 b.0) a.1 b' in
       let e : new' ++ (new ++ xs) ≡ (new' ++ new) ++ xs = sym (append_assoc new' new xs) in
       let F : ℕ → Type 0 = λ u.
-      OneToOne ((new' ++ new) ++ xs)
-      × (HomesCorrespond (cells_of ((new' ++ new) ++ xs)) m.home n.home × (m.node ≡ n.node)
-      × AllCorrespond (cells_of ((new' ++ new) ++ xs)) (take i (end_to_end (at + size_at at m.kind) ms)) (take i (end_to_end u ns)))
+      W ((new' ++ new) ++ xs)
+      × (SeenAlike ((new' ++ new) ++ xs) (record { at = at; entry = m }) (record { at = at; entry = n })
+      × AllSeenAlike ((new' ++ new) ++ xs) (take i (end_to_end (at + size_at at m.kind) ms)) (take i (end_to_end u ns)))
       × NextAlike (slice_get (end_to_end (at + size_at at m.kind) ms) i) (slice_get (end_to_end u ns) i) in
       let f : F (at + size_at at n.kind) = subst F z (
-        subst OneToOne e one',
+        subst W e one',
         (
-          subst (λ u. HomesCorrespond (cells_of u) m.home n.home) e (correspond (new' ++ (new ++ xs)) m.home n.home (homes_in_more new' (new ++ xs) m.home n.home meet)),
-          alike.0,
-          subst (λ u. AllCorrespond (cells_of u) (take i (end_to_end (at + size_at at m.kind) ms)) (take i (end_to_end (at + size_at at m.kind) ns))) e all,
+          record { at = refl; alike = alike; homes = subst (λ u. HomesMeet u m.home n.home) e (homes_grown new' (new ++ xs) m.home n.home meet) },
+          subst (λ u. AllSeenAlike u (take i (end_to_end (at + size_at at m.kind) ms)) (take i (end_to_end (at + size_at at m.kind) ns))) e all,
         ),
         next,
       ) in
@@ -104,17 +76,28 @@ all_take P zero xs a = tt
 all_take P (suc n) [] a = tt
 all_take P (suc n) (x ∷ xs) a = (a.0, all_take P n xs a.1)
 
+all_at : (P : Entry → Type 0) (at : ℕ) (ms : List Entry) → AllByRecursion P ms → AllByRecursion (λ x. P x.entry) (end_to_end at ms)
+all_at P at [] a = tt
+all_at P at (m ∷ ms) a = (a.0, all_at P (at + size_at at m.kind) ms a.1)
+
 -- Two streams of sound graphs of a legal side, each spelt by the same octets for i entries: their next entries agree, and a one-to-one
--- map of cells carries the homes of the i entries of one to those of the other.
+-- map of cells carries the homes of the i entries of one, and the cells that their numbers name, to those of the other.
 pub next_entry : (w : Setting) → IsLegalSide w → (order : Order) (octets : List ℕ) (g h : Graph) → IsSound w g → IsSound w h
     → (ms ns : List Entry) → Stream w g ms → Stream w h ns → (i : ℕ) → IsReadTo order octets ms i → IsReadTo order octets ns i
     → NextAlike (slice_get (end_to_end 0 ms) i) (slice_get (end_to_end 0 ns) i)
-    × ((cells : List (ℕ × ℕ)) × IsOneToOne cells × AllCorrespond cells (take i (end_to_end 0 ms)) (take i (end_to_end 0 ns)))
+    × ((cells : List (ℕ × ℕ)) × IsOneToOne cells × AllCorrespond cells (take i (end_to_end 0 ms)) (take i (end_to_end 0 ns))
+    × AllNameAlike cells (take i (end_to_end 0 ms)) (take i (end_to_end 0 ns)))
 next_entry w side order octets g h s s' ms ns a b i r r' =
+    let laid : IsLaidOut w = laid_out w side in
     let two : Readings = readings order octets r.numbering (full_cells ms) r.is_numbering r'.numbering (full_cells ns) r'.is_numbering in
     let left = all_spelt_carried order octets r.numbering (full_cells ms) (take i (end_to_end 0 ms))
     (all_take (CellsIn (full_cells ms)) i (end_to_end 0 ms) (cells_in 0 ms (full_cells ms) (λ d m. m))) r.rendered in
     let right = all_spelt_carried order octets r'.numbering (full_cells ns) (take i (end_to_end 0 ns))
     (all_take (CellsIn (full_cells ns)) i (end_to_end 0 ns) (cells_in 0 ns (full_cells ns) (λ d m. m))) r'.rendered in
-    let (new, one, all, next) = follows two (AreMapped two w g h) [] tt 0 ms ns i r.there r'.there (streams_next two w g h s s' (laid_out w side) ms ns a b) left right in
-    (next, (cells_of (new ++ []), one_to_one (new ++ []) one, all))
+    let (new, one, all, next) = follows two (IsMap two w g h) (AreMapped two w g h) [] (no_pairs two w g h) 0 ms ns i r.there r'.there
+    (streams_next two w g h s s' laid ms ns a b) left right in (
+      next,
+      one_map_of_all two w g h s s' (new ++ []) one (take i (end_to_end 0 ms)) (take i (end_to_end 0 ns)) all left right
+          (all_take (λ x. HasPointer (all_pointers w g) x.entry) i (end_to_end 0 ms) (all_at (HasPointer (all_pointers w g)) 0 ms (have_stream w g s laid ms a)))
+          (all_take (λ x. HasPointer (all_pointers w h) x.entry) i (end_to_end 0 ns) (all_at (HasPointer (all_pointers w h)) 0 ns (have_stream w h s' laid ns b))),
+    )

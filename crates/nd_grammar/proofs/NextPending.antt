@@ -20,6 +20,7 @@ module _ (C : Class → Option ℕ → Option ℕ → Type 0) (g g' : Graph) whe
   pub record PointersMatch (p q : Pending) : Type 0 where
     pub class : p.class ≡ q.class
     pub to : p.to ≡ q.to
+    pub node : p.node ≡ q.node
     pub agreements : p.agreements ≡ q.agreements
     pub cells : C p.class p.cell q.cell
     pub typed : Pointee g p
@@ -43,6 +44,7 @@ module _ (C : Class → Option ℕ → Option ℕ → Type 0) (g g' : Graph) whe
     record {
       class = refl;
       to = refl;
+      node = refl;
       agreements = refl;
       cells = m;
       typed = λ e same. subst (λ o. PointeeKnown g (Some (def.Pointer k to)) o) same a;

@@ -19,7 +19,7 @@ use Rattle.nd_graph.specs.Nodes.{child_types}
 use Rattle.nd_grammar.specs.Entry.{Entry, Align, Chunk, Unread}
 use Rattle.nd_grammar.specs.InPlace.{entries, in_place}
 use Rattle.nd_grammar.specs.Stream.{chunks, Cuts, pipe_entries, pipes_entries, AllCut}
-use Rattle.nd_grammar.proofs.Next.{Pair, OneToOne, HomesMeet, Readings, Next, unread_left, unread_right}
+use Rattle.nd_grammar.proofs.Next.{Pair, HomesMeet, Readings, Next, unread_left, unread_right}
 use Rattle.nd_grammar.proofs.Matching.{bare, class_of, Matched, CellsMatch, Known, NodeKnown, matched_nodes}
 use Rattle.nd_grammar.proofs.NextInPlace.{in_place_next}
 use Rattle.nd_grammar.proofs.HoistedMaxes.{HoistsLast, maxes_of_many}
@@ -82,9 +82,9 @@ unread_pipe table h (Some (def.Pipe e)) cut ks = refl
 unread_pipe table h None cut ks = refl
 unread_pipe table h (Some _) cut ks = refl
 
-module _ (two : Readings) (X : List Pair → Type 0) (table : Table) (laid : HoistsLast table) (g g' : Graph) (ys : List Pair) (one : OneToOne ys) where
+module _ (two : Readings) (W X : List Pair → Type 0) (table : Table) (laid : HoistsLast table) (g g' : Graph) (ys : List Pair) (one : W ys) where
   abbrev N : ℕ → List Entry → List Entry → Type 0
-  N at ms ns = Next two X ys at ms ns
+  N at ms ns = Next two W X ys at ms ns
 
   abbrev Numbers : Class → Option ℕ → Option ℕ → Type 0
   Numbers = CellsMatch two.left two.right
@@ -103,7 +103,7 @@ module _ (two : Readings) (X : List Pair → Type 0) (table : Table) (laid : Hoi
     chunk_next n k ts us f f' a b ms ns at next =
         let a' = known_take g table e k ts f a in
         let b' = known_take g' table e k us f' b in
-        in_place_next two X ys one table g g' h h' meet (replicate k e) n (take_trees k ts) (take_trees k us) a' b'
+        in_place_next two W X ys one table g g' h h' meet (replicate k e) n (take_trees k ts) (take_trees k us) a' b'
         (maxes_of_many table laid g g' e k (take_trees k ts) (take_trees k us) plain a' b') ms ns at next
 
     empty : (ts us : Trees) → 0 ≡ count ts → 0 ≡ count us → Matched Numbers table (replicate (count ts) e) ts us
@@ -174,11 +174,11 @@ module _ (two : Readings) (X : List Pair → Type 0) (table : Table) (laid : Hoi
     pipe_next t e et plain l l' ks ks' (inl u) y a b cut cut' c c' ms ns at next =
         let f = ap (λ k. pipe_entries table H (type_at table t) cut (node k ks)) u ∙ unread_pipe table H (type_at table t) cut ks in
         subst (λ k. N at (k ++ ms) (pipe_entries table H (type_at table t) cut' (node l' ks') ++ ns)) (sym f)
-        (unread_left two X ys at unread_entry ms (pipe_entries table H (type_at table t) cut' (node l' ks') ++ ns) refl)
+        (unread_left two W X ys at unread_entry ms (pipe_entries table H (type_at table t) cut' (node l' ks') ++ ns) refl)
     pipe_next t e et plain l l' ks ks' (inr x) (inl u) a b cut cut' c c' ms ns at next =
         let f = ap (λ k. pipe_entries table H (type_at table t) cut' (node k ks')) u ∙ unread_pipe table H (type_at table t) cut' ks' in
         subst (λ k. N at (pipe_entries table H (type_at table t) cut (node l ks) ++ ms) (k ++ ns)) (sym f)
-        (unread_right two X ys at unread_entry (pipe_entries table H (type_at table t) cut (node l ks) ++ ms) ns refl)
+        (unread_right two W X ys at unread_entry (pipe_entries table H (type_at table t) cut (node l ks) ++ ms) ns refl)
     pipe_next t e et plain l l' ks ks' (inr x) (inr y) a b cut cut' c c' ms ns at next =
         let E : pipe_entries table H (type_at table t) cut (node l ks) ≡ chunks table H e.0 1 cut ks =
         ap₂ (λ d k. pipe_entries table H d cut (node k ks)) et x in

@@ -16,7 +16,7 @@ use Rattle.nd_graph.proofs.Apart.{all_among}
 use Rattle.nd_grammar.specs.Entry.{Entry}
 use Rattle.nd_grammar.specs.InPlace.{tests}
 use Rattle.nd_grammar.specs.Stream.{root_test, root_tests}
-use Rattle.nd_grammar.proofs.Next.{Pair, OneToOne, Readings, Next}
+use Rattle.nd_grammar.proofs.Next.{Pair, Readings, Next}
 use Rattle.nd_grammar.proofs.Matching.{class_of, Matched, CellsMatch, matched_number, through, pointer_bare}
 use Rattle.nd_grammar.proofs.NextInPlace.{tests_next}
 use Rattle.nd_grammar.proofs.Carried.{InMap}
@@ -53,10 +53,10 @@ no_tests g i t false o = refl
 no_root_test : (g : Graph) (i : ℕ) (t : Tree) → root_test g i t [] ≡ []
 no_root_test g i (node l ks) = test_by g i l ks [] ∙ no_tests g i (node l ks) (is_pointer l) (cell_in l)
 
-module _ (two : Readings) (X : List Pair → Type 0) (w : Setting) (g g' : Graph) (ys : List Pair) (one : OneToOne ys)
+module _ (two : Readings) (W X : List Pair → Type 0) (w : Setting) (g g' : Graph) (ys : List Pair) (one : W ys)
     (fit : AllByRecursion (PairFits two w g g') ys) where
   abbrev N : ℕ → List Entry → List Entry → Type 0
-  N at ms ns = Next two X ys at ms ns
+  N at ms ns = Next two W X ys at ms ns
 
   star_same : (k : Class) (o o' : Option ℕ) → InMap ys k o o' → star_of g o ≡ star_of g' o'
   star_same k None None m = refl
@@ -86,9 +86,9 @@ module _ (two : Readings) (X : List Pair → Type 0) (w : Setting) (g g' : Graph
       let top : SameTop (cell_at g c) (cell_at g' d) = subst (λ u. SameTop (cell_at g u) (cell_at g' d)) l
       (subst (λ u. SameTop (cell_at g z.left) (cell_at g' u)) r
       (top_of (CellsMatch two.left two.right) w.table z.of (cell_at g z.left) (cell_at g' z.right) f.matched)) in
-      tests_next two X ys one w.table g g' (cell_home c) (cell_home d) (z, a, l, r) 0 (cell_at g c) (cell_at g' d) ags (found_top _ _ top) ms ns at next
+      tests_next two W X ys one w.table g g' (cell_home c) (cell_home d) (z, a, l, r) 0 (cell_at g c) (cell_at g' d) ags (found_top _ _ top) ms ns at next
   root_test_by i t v v' m ags k false o o' c ms ns at next =
-      tests_next two X ys one w.table g g' (home.Root i) (home.Root i) refl 0 v v' ags (found_top v v' (top_of (InMap ys) w.table t v v' m)) ms ns at next
+      tests_next two W X ys one w.table g g' (home.Root i) (home.Root i) refl 0 v v' ags (found_top v v' (top_of (InMap ys) w.table t v v' m)) ms ns at next
 
   root_test_next : (i : ℕ) (t : ℕ) (v v' : Tree) → Carried t v v' → (ags : List Agreement)
       → (ms ns : List Entry) (at : ℕ) → ((p : ℕ) → N p ms ns) → N at (root_test g i v ags ++ ms) (root_test g' i v' ags ++ ns)

@@ -17,12 +17,12 @@ use Rattle.nd_graph.specs.Setting.{cell_tree}
 use Rattle.nd_grammar.proofs.NextPending.{AllPointers, AllDueMatch}
 use Rattle.nd_graph.proofs.Orderly.{Pointee}
 use Rattle.nd_graph.proofs.Apart.{all_append, among_left, among_right}
-use Rattle.nd_grammar.proofs.Next.{Pair, OneToOne, HomesMeet, Readings, Next, unread_left, unread_right, grown}
+use Rattle.nd_grammar.proofs.Next.{Pair, HomesMeet, Readings, Next, unread_left, unread_right, grown}
 use Rattle.nd_grammar.proofs.Matching.{CellsMatch, Matched, Known}
 use Rattle.nd_grammar.proofs.NextInPlace.{tests_next}
 use Rattle.nd_grammar.proofs.NextWhole.{MaxesFrom, whole_value_next, unread_whole, unread_entry}
 use Rattle.nd_grammar.proofs.Carried.{InMap, AllInMap}
-use Rattle.nd_grammar.proofs.Standings.{firsts, seconds, one_to_one, found_top, top_of, PairFits, IsClosed, Stands, RootsAlike, RootsMeet, IsUnreadTree, in_map, carried_parts, home_match, home_carried}
+use Rattle.nd_grammar.proofs.Standings.{firsts, seconds, one_to_one, IsMap, map_grown, found_top, top_of, PairFits, IsClosed, Stands, RootsAlike, RootsMeet, IsUnreadTree, in_map, carried_parts, home_match, home_carried}
 
 module _ (two : Readings) (X : List Pair → Type 0) (w : Setting) (g g' : Graph)
     (cells : (c : ℕ) (x : Referent) → cell_of_number g c ≡ Some x → Known g w.table (x.of ∷ []) (more x.val none))
@@ -33,8 +33,11 @@ module _ (two : Readings) (X : List Pair → Type 0) (w : Setting) (g g' : Graph
     abbrev Numbers : Class → Option ℕ → Option ℕ → Type 0
     Numbers = CellsMatch two.left two.right
 
+    abbrev W : List Pair → Type 0
+    W = IsMap two w g g'
+
     abbrev N : List Pair → ℕ → List Entry → List Entry → Type 0
-    N xs at ms ns = Next two X xs at ms ns
+    N xs at ms ns = Next two W X xs at ms ns
 
     abbrev Fit : List Pair → Type 0
     Fit xs = AllByRecursion (PairFits two w g g') xs
@@ -57,40 +60,40 @@ module _ (two : Readings) (X : List Pair → Type 0) (w : Setting) (g g' : Graph
     left_unread : (xs : List Pair) (at : ℕ) (h : Home) (t : ℕ) (v : Tree) (ms ns : List Entry) → IsUnreadTree two w g g' v → N xs at (whole_value w.table h t v ++ ms) ns
     left_unread xs at h t (node l ks) ms ns e =
         let (rest, f) = unread_whole w.table h t l ks e in
-        subst (λ u. N xs at (u ++ ms) ns) (sym f) (unread_left two X xs at (unread_entry h) (rest ++ ms) ns refl)
+        subst (λ u. N xs at (u ++ ms) ns) (sym f) (unread_left two W X xs at (unread_entry h) (rest ++ ms) ns refl)
 
     right_unread : (xs : List Pair) (at : ℕ) (h : Home) (t : ℕ) (v : Tree) (ms ns : List Entry) → IsUnreadTree two w g g' v → N xs at ms (whole_value w.table h t v ++ ns)
     right_unread xs at h t (node l ks) ms ns e =
         let (rest, f) = unread_whole w.table h t l ks e in
-        subst (λ u. N xs at ms (u ++ ns)) (sym f) (unread_right two X xs at (unread_entry h) ms (rest ++ ns) refl)
+        subst (λ u. N xs at ms (u ++ ns)) (sym f) (unread_right two W X xs at (unread_entry h) ms (rest ++ ns) refl)
 
     -- two roots stand, in their own places or as cells
-    pub root_next : (i : ℕ) (x y : Standing) → RootsMeet two w g g' i x y → (xs : List Pair) → OneToOne xs
+    pub root_next : (i : ℕ) (x y : Standing) → RootsMeet two w g g' i x y → (xs : List Pair) → IsMap two w g g' xs
         → AreFree (root_cell x.home) (firsts xs) → AreFree (root_cell y.home) (seconds xs)
         → (ms ns : List Entry) (at : ℕ)
-        → ((o : RootsAlike two w g g' i x y) → OneToOne (o.pairs ++ xs) → Matched Numbers w.table (x.of ∷ []) (more x.val none) (more y.val none)
+        → ((o : RootsAlike two w g g' i x y) → IsMap two w g g' (o.pairs ++ xs) → Matched Numbers w.table (x.of ∷ []) (more x.val none) (more y.val none)
         → (p : ℕ) → N (o.pairs ++ xs) p ms ns)
         → N xs at (standing_entries w.table x ++ ms) (standing_entries w.table y ++ ns)
     root_next i x y (inl u) xs one free free' ms ns at k = left_unread xs at x.home x.of x.val ms (standing_entries w.table y ++ ns) u
     root_next i x y (inr (inl u)) xs one free free' ms ns at k = right_unread xs at y.home y.of y.val (standing_entries w.table x ++ ms) ns u
     root_next i x y (inr (inr o)) xs one free free' ms ns at k =
-        let one' : OneToOne (o.pairs ++ xs) = one_to_one o.pairs xs o.one (subst (λ u. AreFree u (firsts xs)) o.lefts free)
-        (subst (λ u. AreFree u (seconds xs)) o.rights free') one in
+        let one' : IsMap two w g g' (o.pairs ++ xs) = map_grown two w g g' o.pairs xs (one_to_one o.pairs xs o.one (subst (λ u. AreFree u (firsts xs)) o.lefts free)
+        (subst (λ u. AreFree u (seconds xs)) o.rights free') one.one) (o.named (o.pairs ++ xs)) one in
         subst (λ t. N xs at (standing_entries w.table x ++ ms) (whole_value w.table y.home t y.val ++ ns)) o.of
-        (grown two X o.pairs xs at (whole_value w.table x.home x.of x.val ++ ms) (whole_value w.table y.home x.of y.val ++ ns)
-        (whole_value_next two X (o.pairs ++ xs) one' w.table g g' x.home y.home (o.meet xs) x.of x.val y.val o.known o.known'
+        (grown two W X o.pairs xs at (whole_value w.table x.home x.of x.val ++ ms) (whole_value w.table y.home x.of y.val ++ ns)
+        (whole_value_next two W X (o.pairs ++ xs) one' w.table g g' x.home y.home (o.meet xs) x.of x.val y.val o.known o.known'
         (maxes x.of x.val y.val o.known o.known') ms ns at (λ p m. k o one' m p)))
 
     -- a referent stands, with the agreements of its pointer
-    pub referent_next : (xs : List Pair) → OneToOne xs → (h h' : Home) → HomesMeet xs h h' → (t : ℕ) (v v' : Tree) (ws : List Agreement)
+    pub referent_next : (xs : List Pair) → IsMap two w g g' xs → (h h' : Home) → HomesMeet xs h h' → (t : ℕ) (v v' : Tree) (ws : List Agreement)
         → Known g w.table (t ∷ []) (more v none) → Known g' w.table (t ∷ []) (more v' none)
         → (ms ns : List Entry) (at : ℕ)
         → ((p : ℕ) → Matched Numbers w.table (t ∷ []) (more v none) (more v' none) → N xs p ms ns)
         → N xs at ((whole_value w.table h t v ++ tests h 0 v ws) ++ ms) ((whole_value w.table h' t v' ++ tests h' 0 v' ws) ++ ns)
     referent_next xs one h h' meet t v v' ws a b ms ns at k =
         rw (append_assoc (whole_value w.table h t v) (tests h 0 v ws) ms, append_assoc (whole_value w.table h' t v') (tests h' 0 v' ws) ns)
-        (whole_value_next two X xs one w.table g g' h h' meet t v v' a b (maxes t v v' a b) (tests h 0 v ws ++ ms) (tests h' 0 v' ws ++ ns) at (λ p m.
-        tests_next two X xs one w.table g g' h h' meet 0 v v' ws (found_top v v' (top_of Numbers w.table t v v' m)) ms ns p (λ q. k q m)))
+        (whole_value_next two W X xs one w.table g g' h h' meet t v v' a b (maxes t v v' a b) (tests h 0 v ws ++ ms) (tests h' 0 v' ws ++ ns) at (λ p m.
+        tests_next two W X xs one w.table g g' h h' meet 0 v v' ws (found_top v v' (top_of Numbers w.table t v v' m)) ms ns p (λ q. k q m)))
 
     abbrev F : List Step → List Entry
     F us = flat_map (step_entries w g) us

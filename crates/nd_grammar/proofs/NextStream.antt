@@ -16,14 +16,16 @@ use Rattle.nd_graph.specs.Tree.{Tree, Trees, node, none, more, Label}
 use Rattle.nd_graph.specs.Setting.{Setting, root_list, root_at, or_unread}
 use Rattle.nd_graph.specs.Variables.{starred}
 use Rattle.nd_graph.specs.Deferral.{due_roots, before_pipes, root_type}
+use Rattle.nd_graph.proofs.DeferralBridge.{some_before}
 use Rattle.nd_graph.proofs.NodeFacts.{IsSound}
+use Rattle.nd_grammar.proofs.PointerPlaces.{root_there}
 use Rattle.nd_grammar.specs.Entry.{Entry}
 use Rattle.nd_grammar.specs.Stream.{Stream, step_entries, root_tests, pipes_entries}
 use Rattle.nd_grammar.proofs.Next.{Pair, OneToOne, Readings, Next}
 use Rattle.nd_grammar.proofs.Matching.{Known, NodeKnown, Matched, CellsMatch}
 use Rattle.nd_grammar.proofs.NextPending.{AllDueMatch}
 use Rattle.nd_grammar.proofs.Carried.{InMap}
-use Rattle.nd_grammar.proofs.Standings.{PairFits, IsClosed, AllCarried, RootCarried, Stands}
+use Rattle.nd_grammar.proofs.Standings.{IsMap, no_pairs, AreDue, PairFits, IsClosed, AllCarried, RootCarried, Stands}
 use Rattle.nd_grammar.proofs.NextDeferral.{deferral_next}
 use Rattle.nd_grammar.proofs.NextRootTests.{starred_same, RootsReady, root_tests_next}
 use Rattle.nd_grammar.proofs.NextPipes.{PipesKnown, PipesMatch, pipes_next, pipe_label}
@@ -83,9 +85,16 @@ module _ (two : Readings) (w : Setting) (g g' : Graph) where
   due_match C i zero = tt
   due_match C i (suc k) = (refl, due_match C (suc i) k)
 
+  roots_due : (i k : ℕ) → i + k ≤ length (root_list w) → AreDue two w g g' [] (due_roots i k) (due_roots i k)
+  roots_due i zero h = tt
+  roots_due i (suc k) h = (root_there w i (omega arith), roots_due (suc i) k (omega arith))
+
   module _ (s : IsSound w g) (s' : IsSound w g') (laid : IsLaidOut w) where
     abbrev X : List Pair → Type 0
     X ys = AreMapped ys
+
+    abbrev W : List Pair → Type 0
+    W = IsMap two w g g'
 
     -- a root behind the first pipe
     pub pipe_root : (i : ℕ) (r : Root) → slice_get (root_list w) i ≡ Some r → n ≤ i → IsPipeRoot w.table r
@@ -136,11 +145,11 @@ module _ (two : Readings) (w : Setting) (g g' : Graph) where
               ∙ sym (no_pipe_number g' star r.of p.elem (root_at g' i) p.type_is (known_roots w g' s' i r e))
 
           go : (i < n) ⊎ (n ≤ i) → starred g star (root_at g i) ≡ starred g' star (root_at g' i)
-          go (inl h) = starred_same two X w g g' ys st.one st.fit (root_type (slice_get (root_list w) i)) star (root_at g i) (root_at g' i) (its_root i h).carried_by
+          go (inl h) = starred_same two W X w g g' ys st.one st.fit (root_type (slice_get (root_list w) i)) star (root_at g i) (root_at g' i) (its_root i h).carried_by
           go (inr h) = by_root h (slice_get (root_list w) i) refl
 
       abbrev Ready : List Root → List Tree → List Tree → Type 0
-      Ready rs vs vs' = RootsReady two X w g g' ys st.one st.fit vars_same rs vs vs'
+      Ready rs vs vs' = RootsReady two W X w g g' ys st.one st.fit vars_same rs vs vs'
 
       abbrev IsReady : Root → Tree → Tree → Type 0
       IsReady r v v' = (r.vars ≡ []) ⊎ Matched (InMap ys) w.table (r.of ∷ []) (more v none) (more v' none)
@@ -163,7 +172,7 @@ module _ (two : Readings) (w : Setting) (g g' : Graph) where
               inr (subst (λ t. Matched (InMap ys) w.table (t ∷ []) (more (root_at g i) none) (more (root_at g' i) none)) (ap root_type e) (its_root i h).carried_by)
 
       abbrev Pipes : List Root → List Tree → List Tree → Type 0
-      Pipes rs vs vs' = PipesKnown two X w.table laid.hoisting g g' ys st.one rs vs vs'
+      Pipes rs vs vs' = PipesKnown two W X w.table laid.hoisting g g' ys st.one rs vs vs'
 
       pipes_from : (rs : List Root) (vs vs' : List Tree) → length vs ≡ length rs → length vs' ≡ length rs → AllByRecursion (IsPipeRoot w.table) rs
           → ((j : ℕ) (r : Root) → slice_get rs j ≡ Some r
@@ -197,7 +206,7 @@ module _ (two : Readings) (w : Setting) (g g' : Graph) where
       all_closed = subst (λ u. AllByRecursion (IsClosed two w g g' ys) u) (sym (append-nil st.new) ∙ sym st.all) st.closed
 
     -- Two streams of sound graphs of one side follow each other, up to an unread value; where both are spelt whole, the graphs are mapped.
-    pub streams_next : (ms ns : List Entry) → Stream w g ms → Stream w g' ns → Next two X [] 0 ms ns
+    pub streams_next : (ms ns : List Entry) → Stream w g ms → Stream w g' ns → Next two (IsMap two w g g') X [] 0 ms ns
     streams_next ms ns a b =
         let F : List Entry = flat_map (step_entries w g) a.steps in
         let F' : List Entry = flat_map (step_entries w g') b.steps in
@@ -207,10 +216,10 @@ module _ (two : Readings) (w : Setting) (g g' : Graph) where
         let P' : List Entry = pipes_entries w.table n (drop n (root_list w)) (drop n g'.roots) b.cuts in
         let e : ms ≡ F ++ (T ++ (P ++ [])) = a.is_representation ∙ append_assoc F T P ∙ ap (λ u. F ++ (T ++ u)) (sym (append-nil P)) in
         let e' : ns ≡ F' ++ (T' ++ (P' ++ [])) = b.is_representation ∙ append_assoc F' T' P' ∙ ap (λ u. F' ++ (T' ++ u)) (sym (append-nil P')) in
-        subst (λ u. Next two X [] 0 u ns) (sym e) (subst (λ u. Next two X [] 0 (F ++ (T ++ (P ++ []))) u) (sym e')
+        subst (λ u. Next two W X [] 0 u ns) (sym e) (subst (λ u. Next two W X [] 0 (F ++ (T ++ (P ++ []))) u) (sym e')
         (deferral_next two X w g g' (known_cells w g s) (known_cells w g' s') (λ t v v'. maxes_hoisted w.table laid.hoisting g g' t v v') (roots_meet two w g g' s s')
-        a.deferral b.deferral [] refl refl tt tt (due_match tt 0 n) (T ++ (P ++ [])) (T' ++ (P' ++ [])) 0 (λ p ys st.
-        root_tests_next two X w g g' ys st.one st.fit (vars_same ys st) 0 (root_list w) g.roots g'.roots (ready ys st) (P ++ []) (P' ++ []) p (λ q.
-        pipes_next two X w.table laid.hoisting g g' ys st.one n (drop n (root_list w)) (drop n g.roots) (drop n g'.roots) a.cuts b.cuts (pipes_known ys st)
+        s s' a.deferral b.deferral [] refl refl (no_pairs two w g g') tt (due_match tt 0 n) (roots_due 0 n (omega (arith, some_before w g (root_list w)))) (T ++ (P ++ [])) (T' ++ (P' ++ [])) 0 (λ p ys st.
+        root_tests_next two W X w g g' ys st.one st.fit (vars_same ys st) 0 (root_list w) g.roots g'.roots (ready ys st) (P ++ []) (P' ++ []) p (λ q.
+        pipes_next two W X w.table laid.hoisting g g' ys st.one n (drop n (root_list w)) (drop n g.roots) (drop n g'.roots) a.cuts b.cuts (pipes_known ys st)
         a.all_cut b.all_cut [] [] q (λ r m.
-        ([], st.one, record { one = st.one; fit = st.fit; closed = all_closed ys st; roots = st.carried_due; pipes = m }))))))
+        ([], st.one, record { one = st.one.one; fit = st.fit; closed = all_closed ys st; roots = st.carried_due; pipes = m }))))))

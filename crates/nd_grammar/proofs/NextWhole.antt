@@ -11,7 +11,7 @@ use Rattle.nd_graph.specs.Tree.{Tree, Trees, node, none, more, count, node_count
 use Rattle.nd_graph.specs.Nodes.{child_types, child_agreements}
 use Rattle.nd_grammar.specs.Entry.{Entry, Align, Max, Unread}
 use Rattle.nd_grammar.specs.InPlace.{before_children, entries, in_place, child_tests, hoisted, hoisted_max, whole_value}
-use Rattle.nd_grammar.proofs.Next.{Pair, OneToOne, HomesMeet, Readings, Next, unread_left, unread_right}
+use Rattle.nd_grammar.proofs.Next.{Pair, HomesMeet, Readings, Next, unread_left, unread_right}
 use Rattle.nd_grammar.proofs.Matching.{CellsMatch, Matched, Known, Maxes}
 use Rattle.nd_grammar.proofs.NextInPlace.{in_place_next}
 
@@ -60,10 +60,10 @@ unread_whole table h t l ks e = by_hoists (hoists table t)
 abbrev pub MaxesFrom : Table → ℕ → Trees → Trees → Type 0
 MaxesFrom table t v v' = (hoists table t ≡ true → hoisted_max 0 v ≡ hoisted_max 0 v') → Maxes table (t ∷ []) v v'
 
-module _ (two : Readings) (X : List Pair → Type 0) (pairs : List Pair) (one : OneToOne pairs) (table : Table) (g g' : Graph) (h h' : Home)
+module _ (two : Readings) (W X : List Pair → Type 0) (pairs : List Pair) (one : W pairs) (table : Table) (g g' : Graph) (h h' : Home)
     (meet : HomesMeet pairs h h') where
   abbrev N : ℕ → List Entry → List Entry → Type 0
-  N at ms ns = Next two X pairs at ms ns
+  N at ms ns = Next two W X pairs at ms ns
 
   module _ (t : ℕ) (l l' : Label) (ks ks' : Trees) (ms ns : List Entry) where
     abbrev V : Trees
@@ -85,8 +85,8 @@ module _ (two : Readings) (X : List Pair → Type 0) (pairs : List Pair) (one : 
             → N at
             ((entries h 0 (hoisted true l (hoisted_max 0 V)) ++ in_place table h (t ∷ []) 0 V) ++ ms)
             ((entries h' 0 (hoisted true l' (hoisted_max 0 V')) ++ in_place table h' (t ∷ []) 0 V') ++ ns)
-        go (inl e) y = let (r, f) = unread_first table h t (hoisted_max 0 V) ks l e in rw f (unread_left two X pairs at (unread_entry h) (r ++ ms) _ refl)
-        go (inr e) (inl f) = let (r, q) = unread_first table h' t (hoisted_max 0 V') ks' l' f in rw q (unread_right two X pairs at (unread_entry h') _ (r ++ ns) refl)
+        go (inl e) y = let (r, f) = unread_first table h t (hoisted_max 0 V) ks l e in rw f (unread_left two W X pairs at (unread_entry h) (r ++ ms) _ refl)
+        go (inr e) (inl f) = let (r, q) = unread_first table h' t (hoisted_max 0 V') ks' l' f in rw q (unread_right two W X pairs at (unread_entry h') _ (r ++ ns) refl)
         go (inr e) (inr f) =
             rw (e (hoisted_max 0 V), f (hoisted_max 0 V'))
             (inr (inr ([], one, meet, (refl, refl), λ _ _. inr (inr ([], one, meet, (refl, refl), λ x y. k _ (λ _. sym x.1 ∙ y.1))))))
@@ -99,7 +99,7 @@ module _ (two : Readings) (X : List Pair → Type 0) (pairs : List Pair) (one : 
       → N at (whole_value table h t (node l ks) ++ ms) (whole_value table h' t (node l' ks') ++ ns)
   whole_node_next t l l' ks ks' a b x ms ns at k =
       hoist_next t l l' ks ks' ms ns (hoists table t) at (λ p m.
-      in_place_next two X pairs one table g g' h h' meet (t ∷ []) 0 (more (node l ks) none) (more (node l' ks') none) a b (x m) ms ns p k)
+      in_place_next two W X pairs one table g g' h h' meet (t ∷ []) 0 (more (node l ks) none) (more (node l' ks') none) a b (x m) ms ns p k)
 
   pub whole_value_next : (t : ℕ) (v v' : Tree)
       → Known g table (t ∷ []) (more v none) → Known g' table (t ∷ []) (more v' none) → MaxesFrom table t (more v none) (more v' none)

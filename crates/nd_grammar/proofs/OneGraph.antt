@@ -12,6 +12,7 @@ use Rattle.nd_grammar.specs.Stream.{Stream}
 use Rattle.nd_grammar.specs.LegalSide.{IsLegalSide}
 use Rattle.nd_grammar.specs.Represents.{Represents, IsRendered, IsNumbering}
 use Rattle.nd_grammar.proofs.Next.{Readings}
+use Rattle.nd_grammar.proofs.Standings.{IsMap}
 use Rattle.nd_grammar.proofs.NextStream.{IsLaidOut, AreMapped, streams_next}
 use Rattle.nd_grammar.proofs.LegalSides.{laid_out}
 use Rattle.nd_grammar.proofs.Spelt.{carried_on, carried_low, carried_one, cells_in, all_spelt_carried, spelt_whole, spelt_in_more}
@@ -66,7 +67,7 @@ one_spelled w side order octets rest g h c c' r r' =
     let b : AllByRecursion (IsRendered order (carried_on r'.numbering cells') (octets ++ rest)) (end_to_end 0 r'.entries) =
     all_spelt_carried order (octets ++ rest) r'.numbering cells' (end_to_end 0 r'.entries) (cells_in 0 r'.entries cells' (λ d m. m))
     (spelt_in_more order r'.numbering octets rest (end_to_end 0 r'.entries) r'.rendered) in
-    let (ys, one, mapped, e) = spelt_whole two (AreMapped two w g h) [] 0 r.entries r'.entries
+    let (ys, one, mapped, e) = spelt_whole two (IsMap two w g h) (AreMapped two w g h) [] 0 r.entries r'.entries
     (streams_next two w g h s s' laid r.entries r'.entries r.stream r'.stream) a b in
     let l : length (octets ++ rest) ≡ length octets = sym r.whole ∙ e ∙ r'.whole in
     let z : length rest ≡ 0 = omega (arith, length-append octets rest) in

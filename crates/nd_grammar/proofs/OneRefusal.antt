@@ -19,9 +19,10 @@ use Rattle.nd_grammar.specs.Represents.{IsRendered, Represents, piece}
 use Rattle.nd_grammar.specs.Refusal.{refusal, kind_refusal, refused_if, is_long, Accepts}
 use Rattle.nd_grammar.specs.Bad.{Bad}
 use Rattle.nd_grammar.specs.LegalSide.{IsLegalSide}
-use Rattle.nd_grammar.proofs.Next.{IsUnread, Pair, Readings, Next}
+use Rattle.nd_grammar.proofs.Next.{IsUnread, Pair, OneToOne, Readings, Next}
 use Rattle.nd_grammar.proofs.Spelt.{carried_on, cells_in, all_spelt_carried, not_spelt, same_size, spelt_in_more}
 use Rattle.nd_grammar.proofs.RefusedAlike.{AllSeenAlike, seen_grown, seen_more, refusals_alike}
+use Rattle.nd_grammar.proofs.Standings.{IsMap}
 use Rattle.nd_grammar.proofs.NextStream.{AreMapped, streams_next}
 use Rattle.nd_grammar.proofs.LegalSides.{laid_out}
 use Rattle.nd_grammar.proofs.OneGraph.{readings}
@@ -85,7 +86,7 @@ module _ (order : Order) (octets : List ℕ) where
   spelt_end : (nums : ℕ → ℕ) (at : ℕ) (m : Entry) → IsRendered order nums octets (record { at = at; entry = m }) → at + size_at at m.kind ≤ length octets
   spelt_end nums at m r = r.0
 
-module _ (two : Readings) (X : List Pair → Type 0) where
+module _ (two : Readings) (W X : List Pair → Type 0) (one_to_one : (ys : List Pair) → W ys → OneToOne ys) where
   abbrev O : Order
   O = two.order
 
@@ -98,7 +99,7 @@ module _ (two : Readings) (X : List Pair → Type 0) where
   no_unread_refusal nums seen at m ms r h u (inr (a, b, c)) = not_spelt O nums S at m u a
 
   -- two refusals are one
-  pub one_refusal : (map : List Pair) (at : ℕ) (ms ns : List Entry) → at ≤ length S → Next two X map at ms ns
+  pub one_refusal : (map : List Pair) (at : ℕ) (ms ns : List Entry) → at ≤ length S → Next two W X map at ms ns
       → (seen seen' : List EntryAt) → AllSeenAlike map seen seen' → (r r' : ℕ × Reason)
       → IsRefused O S two.left seen at ms r → IsRefused O S two.right seen' at ns r' → r ≡ r'
   one_refusal map at [] ns h k seen seen' s r r' a b = absurd a
@@ -108,7 +109,7 @@ module _ (two : Readings) (X : List Pair → Type 0) where
   one_refusal map at (m ∷ ms) (n ∷ ns) h (inr (inr (new, one, meet, alike, k))) seen seen' s r r' a b =
       let s' : AllSeenAlike (new ++ map) seen seen' = seen_grown new map seen seen' s in
       let e : refusal O S seen (record { at = at; entry = m }) ≡ refusal O S seen' (record { at = at; entry = n }) =
-      refusals_alike O S (new ++ map) one seen seen' s' at m n alike meet in
+      refusals_alike O S (new ++ map) (one_to_one (new ++ map) one) seen seen' s' at m n alike meet in
       let z : at + size_at at m.kind ≡ at + size_at at n.kind = ap (λ u. at + u) (same_size at m.kind n.kind alike.1) in
       go a b e (λ x y p q.
       one_refusal (new ++ map) (at + size_at at m.kind) ms ns x.0 (k x y) (seen ++ record { at = at; entry = m } ∷ []) (seen' ++ record { at = at; entry = n } ∷ [])
@@ -126,7 +127,7 @@ module _ (two : Readings) (X : List Pair → Type 0) where
       go (inr (a, b, c)) (inr (a', b', c')) e f = f a a' c c'
 
   -- where a stream is refused, no other is accepted whole
-  pub not_both : (map : List Pair) (at : ℕ) (ms ns : List Entry) → at ≤ length S → Next two X map at ms ns
+  pub not_both : (map : List Pair) (at : ℕ) (ms ns : List Entry) → at ≤ length S → Next two W X map at ms ns
       → (seen seen' : List EntryAt) → AllSeenAlike map seen seen' → (r : ℕ × Reason)
       → IsRefused O S two.left seen at ms r → AreAccepted O S two.right seen' at ns → ⊥
   not_both map at [] ns h k seen seen' s r a b = a
@@ -136,7 +137,7 @@ module _ (two : Readings) (X : List Pair → Type 0) where
   not_both map at (m ∷ ms) (n ∷ ns) h (inr (inr (new, one, meet, alike, k))) seen seen' s r a b =
       let s' : AllSeenAlike (new ++ map) seen seen' = seen_grown new map seen seen' s in
       let e : refusal O S seen (record { at = at; entry = m }) ≡ refusal O S seen' (record { at = at; entry = n }) =
-      refusals_alike O S (new ++ map) one seen seen' s' at m n alike meet in
+      refusals_alike O S (new ++ map) (one_to_one (new ++ map) one) seen seen' s' at m n alike meet in
       let z : at + size_at at m.kind ≡ at + size_at at n.kind = ap (λ u. at + u) (same_size at m.kind n.kind alike.1) in
       go a e (λ x p.
       not_both (new ++ map) (at + size_at at m.kind) ms ns x.0 (k x b.0) (seen ++ record { at = at; entry = m } ∷ []) (seen' ++ record { at = at; entry = n } ∷ [])
@@ -166,7 +167,7 @@ module _ (w : Setting) (side : IsLegalSide w) (order : Order) (octets : List ℕ
       let s' : IsSound w b'.partial = sound_partial w b'.partial b'.is_partial in
       let two : Readings = readings order octets b.numbering (full_cells b.entries) b.is_numbering b'.numbering (full_cells b'.entries) b'.is_numbering in
       let e : (place, why) ≡ (place', why') =
-      one_refusal two (AreMapped two w b.partial b'.partial) [] 0 b.entries b'.entries (omega arith)
+      one_refusal two (IsMap two w b.partial b'.partial) (AreMapped two w b.partial b'.partial) (λ ys m. m.one) [] 0 b.entries b'.entries (omega arith)
       (streams_next two w b.partial b'.partial s s' (laid_out w side) b.entries b'.entries b.stream b'.stream) [] [] tt (place, why) (place', why')
       (carried_refusal place why b) (carried_refusal place' why' b') in
       (ap (λ u. u.0) e, ap (λ u. u.1) e)
@@ -183,6 +184,6 @@ module _ (w : Setting) (side : IsLegalSide w) (order : Order) (octets : List ℕ
       all_spelt_carried order octets r.numbering cells (end_to_end 0 r.entries) (cells_in 0 r.entries cells (λ d m. m))
       (subst (λ u. AllByRecursion (IsRendered order r.numbering u) (end_to_end 0 r.entries)) (sym eo)
       (spelt_in_more order r.numbering part rest (end_to_end 0 r.entries) r.rendered)) in
-      not_both two (AreMapped two w b.partial g) [] 0 b.entries r.entries (omega arith)
+      not_both two (IsMap two w b.partial g) (AreMapped two w b.partial g) (λ ys m. m.one) [] 0 b.entries r.entries (omega arith)
       (streams_next two w b.partial g s s' (laid_out w side) b.entries r.entries b.stream r.stream) [] [] tt (place, why)
       (carried_refusal place why b) (are_accepted order octets (carried_on r.numbering cells) [] 0 r.entries spelt acc)

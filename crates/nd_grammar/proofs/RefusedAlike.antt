@@ -10,22 +10,23 @@ use Rattle.nd_types.specs.declared.types.Attr.TheVariants as attr
 use Rattle.nd_types.specs.declared.types.Class.TheVariants.{Ref, Unique, Full}
 use Rattle.nd_types.specs.Number.{unsigned}
 use Rattle.nd_graph.specs.declared.item.Home.{Home}
+use Rattle.nd_graph.specs.declared.value.CellId.{CellId}
 use Rattle.nd_graph.specs.declared.item.Home.TheVariants as home
 use Rattle.nd_graph.specs.Setting.{Among}
-use Rattle.nd_graph.proofs.Apart.{all_among, among_right}
+use Rattle.nd_graph.proofs.Apart.{all_among}
 use Rattle.nd_graph.proofs.Waiting.{not_equal}
 use Rattle.nd_grammar.specs.declared.reason.Reason.TheVariants as reason
 use Rattle.nd_grammar.specs.Entry.{Kind, Entry, Align, Max, Offset, Actual, Chunk, Number, Num, Tag, Text, Context, Test, Unread, size_at, EntryAt}
 use Rattle.nd_grammar.specs.Represents.{piece}
 use Rattle.nd_grammar.specs.Refusal.{refusal, kind_refusal, refused_if, is_long, disagrees_at, tested_at, is_other, kind_agrees, is_max, same_home, other_pointee}
 use Rattle.nd_grammar.specs.NextEntry.{form}
-use Rattle.nd_grammar.proofs.Next.{Pair, IsApart, OneToOne, HomesMeet, Alike}
+use Rattle.nd_grammar.proofs.Next.{Pair, IsApart, OneToOne, HomesMeet, homes_grown, Alike}
 use Rattle.nd_grammar.proofs.Forms.{refused_alike}
 use Rattle.nd_grammar.proofs.Spelt.{same_size}
 use Rattle.nd_grammar.proofs.Mapped.{one_left}
 
 -- pairs with one left cell have one right cell
-one_right : (ys : List Pair) → OneToOne ys → (y z : Pair) → Among ys y → Among ys z → y.left ≡ z.left → y.right ≡ z.right
+pub one_right : (ys : List Pair) → OneToOne ys → (y z : Pair) → Among ys y → Among ys z → y.left ≡ z.left → y.right ≡ z.right
 one_right [] one y z a b e = absurd a
 one_right (x ∷ xs) one y z (inl f) (inl k) e = ap (λ u. u.right) (f ∙ sym k)
 one_right (x ∷ xs) one y z (inl f) (inr b) e = absurd ((all_among (IsApart x) xs z b one.0).0 (ap (λ u. u.left) (sym f) ∙ e))
@@ -38,6 +39,26 @@ eqb_alike a b c d f g = go (eqb a b) refl
     go : (x : Bool) → eqb a b ≡ x → eqb a b ≡ eqb c d
     go true e = e ∙ sym (eq-eqb c d (f (eqb-true a b e)))
     go false e = e ∙ sym (not_equal c d (λ h. eqb-false a b e (g h)))
+
+same_cell : (c d : CellId) → c.0 ≡ d.0 → home.Cell c ≡ home.Cell d
+same_cell c d e = ap (λ u. home.Cell (record { 0 = u })) e
+
+-- a home corresponds to one home
+pub one_home : (map : List Pair) → OneToOne map → (h i i' : Home) → HomesMeet map h i → HomesMeet map h i' → i ≡ i'
+one_home map one (home.Root a) (home.Root b) (home.Root c) e f = ap (λ u. home.Root u) (sym e ∙ f)
+one_home map one (home.Cell c) (home.Cell a) (home.Cell b) (x, m, l, r) (y, n, k, s) = same_cell a b (sym r ∙ one_right map one x y m n (l ∙ sym k) ∙ s)
+one_home map one (home.Root a) (home.Cell c) i' e f = absurd e
+one_home map one (home.Cell c) (home.Root a) i' e f = absurd e
+one_home map one (home.Root a) (home.Root b) (home.Cell c) e f = absurd f
+one_home map one (home.Cell c) (home.Cell a) (home.Root b) e f = absurd f
+
+pub one_home_back : (map : List Pair) → OneToOne map → (h h' i : Home) → HomesMeet map h i → HomesMeet map h' i → h ≡ h'
+one_home_back map one (home.Root a) (home.Root b) (home.Root c) e f = ap (λ u. home.Root u) (e ∙ sym f)
+one_home_back map one (home.Cell a) (home.Cell b) (home.Cell c) (x, m, l, r) (y, n, k, s) = same_cell a b (sym l ∙ one_left map one x y m n (r ∙ sym s) ∙ k)
+one_home_back map one (home.Root a) h' (home.Cell c) e f = absurd e
+one_home_back map one (home.Cell a) h' (home.Root c) e f = absurd e
+one_home_back map one (home.Root a) (home.Cell b) (home.Root c) e f = absurd f
+one_home_back map one (home.Cell a) (home.Root b) (home.Cell c) e f = absurd f
 
 -- homes that correspond are the same ones
 home_alike : (map : List Pair) → OneToOne map → (h i h' i' : Home) → HomesMeet map h h' → HomesMeet map i i' → same_home h i ≡ same_home h' i'
@@ -94,12 +115,6 @@ AllSeenAlike map [] [] = Unit {0}
 AllSeenAlike map (x ∷ xs) (y ∷ ys) = SeenAlike map x y × AllSeenAlike map xs ys
 AllSeenAlike map _ _ = ⊥
 
-homes_grown : (new map : List Pair) (h h' : Home) → HomesMeet map h h' → HomesMeet (new ++ map) h h'
-homes_grown new map (home.Root i) (home.Root j) e = e
-homes_grown new map (home.Cell c) (home.Cell d) (x, a, l, r) = (x, among_right new map x a, l, r)
-homes_grown new map (home.Root i) (home.Cell d) e = absurd e
-homes_grown new map (home.Cell c) (home.Root j) e = absurd e
-
 pub seen_grown : (new map : List Pair) (xs ys : List EntryAt) → AllSeenAlike map xs ys → AllSeenAlike (new ++ map) xs ys
 seen_grown new map [] [] a = tt
 seen_grown new map [] (y ∷ ys) a = absurd a
@@ -114,7 +129,7 @@ seen_more map (p ∷ xs) [] x y a s = absurd a
 seen_more map (p ∷ xs) (q ∷ ys) x y a s = (a.0, seen_more map xs ys x y a.1 s)
 
 module _ (order : Order) (octets : List ℕ) (map : List Pair) (one : OneToOne map) where
-  piece_alike : (x y : EntryAt) → SeenAlike map x y → piece octets x.at x.entry.kind ≡ piece octets y.at y.entry.kind
+  pub piece_alike : (x y : EntryAt) → SeenAlike map x y → piece octets x.at x.entry.kind ≡ piece octets y.at y.entry.kind
   piece_alike x y s =
       ap₂ (λ n a. take n (drop a octets)) (ap (λ a. size_at a x.entry.kind) s.at ∙ same_size y.at x.entry.kind y.entry.kind s.alike.1) s.at
 

@@ -12,11 +12,15 @@ use Rattle.nd_types.specs.Roots.{Root}
 use Rattle.nd_graph.specs.declared.value.Graph.{Graph}
 use Rattle.nd_graph.specs.Tree as tree
 use Rattle.nd_graph.specs.Tree.{Tree, Trees, node, none, more, Label, Referent, cell_in}
-use Rattle.nd_graph.specs.Setting.{Setting, root_list, root_at, or_unread, unread, cell_at, cell_tree, cell_of_number}
+use Rattle.nd_graph.specs.declared.item.Home.TheVariants as home
+use Rattle.nd_graph.specs.Setting.{Setting, Among, root_list, root_at, or_unread, unread, cell_at, cell_tree, cell_of_number}
 use Rattle.nd_graph.specs.Nodes.{child_types}
 use Rattle.nd_graph.specs.Misfit.{has_counts}
-use Rattle.nd_graph.specs.Deferral.{direct, Standing, standing_by, standing_root, root_type}
+use Rattle.nd_graph.specs.Homes.{all_pointers}
+use Rattle.nd_graph.specs.Deferral.{Pending, home_pointers, direct, Standing, standing_by, standing_root, root_type}
+use Rattle.nd_graph.proofs.DeferralExists.{direct_pointer}
 use Rattle.nd_graph.proofs.NodeFacts.{IsSound}
+use Rattle.nd_grammar.proofs.PointerPlaces.{in_root}
 use Rattle.nd_grammar.proofs.Next.{Pair, Readings}
 use Rattle.nd_grammar.proofs.Matching.{Known, NodeKnown, Matched, PointeeKnown}
 use Rattle.nd_grammar.proofs.Carried.{InMap}
@@ -65,7 +69,9 @@ ref_or_not (Some _) = inr (λ v. refl)
 module _ (two : Readings) (w : Setting) (g g' : Graph)
     (cells : (c : ℕ) (x : Referent) → cell_of_number g c ≡ Some x → Known g w.table (x.of ∷ []) (more x.val none))
     (cells' : (c : ℕ) (x : Referent) → cell_of_number g' c ≡ Some x → Known g' w.table (x.of ∷ []) (more x.val none))
-    (i t : ℕ) (its_type : root_type (slice_get (root_list w) i) ≡ t) where
+    (i t : ℕ) (its_type : root_type (slice_get (root_list w) i) ≡ t)
+    (inside : (p : Pending) → Among (home_pointers w.table (home.Root i) t (root_at g i)) p → Among (all_pointers w g) p)
+    (inside' : (p : Pending) → Among (home_pointers w.table (home.Root i) t (root_at g' i)) p → Among (all_pointers w g') p) where
   abbrev d : Option TypeDef
   d = type_at w.table t
 
@@ -87,6 +93,7 @@ module _ (two : Readings) (w : Setting) (g g' : Graph)
     lefts = refl;
     rights = refl;
     meet = λ xs. refl;
+    named = λ xs. tt;
     fit = λ m. tt;
     closed = λ ys m. tt;
     whole = λ ys among m. record {
@@ -110,6 +117,15 @@ module _ (two : Readings) (w : Setting) (g g' : Graph)
   known_pointee' to c (x, q, e) =
       subst (λ v. Known g' w.table (to.0 ∷ []) (more v none)) (sym (ap cell_tree q)) (subst (λ u. Known g' w.table (u ∷ []) (more x.val none)) e (cells' c x q))
 
+  -- the pointer of a top-level reference pointer
+  abbrev its_pointer : TypeId → ℕ → Pending
+  its_pointer to c = record { home = home.Root i; node = 0; class = Ref; to = to.0; cell = Some c; agreements = [] }
+
+  its_own : (k : Graph) (c : ℕ) (to : TypeId) (ks : Trees) → d ≡ Some (def.Pointer Ref to) → root_at k i ≡ node (tree.Ptr (Some c)) ks
+      → Among (home_pointers w.table (home.Root i) t (root_at k i)) (its_pointer to c)
+  its_own k c to ks ed e =
+      subst (λ u. Among u (its_pointer to c)) (sym (ap (home_pointers w.table (home.Root i) t) e ∙ direct_pointer w.table (home.Root i) t c to ks ed)) (inl refl)
+
   -- as a pair of cells
   as_cells : (to : TypeId) (c c' : ℕ) (ks ks' : Trees) → d ≡ Some (def.Pointer Ref to)
       → root_at g i ≡ node (tree.Ptr (Some c)) ks → root_at g' i ≡ node (tree.Ptr (Some c')) ks'
@@ -131,6 +147,21 @@ module _ (two : Readings) (w : Setting) (g g' : Graph)
         lefts = refl;
         rights = refl;
         meet = λ xs. (z, inl refl, refl, refl);
+        named = λ xs. (
+          record {
+            left = its_pointer to c;
+            right = its_pointer to c';
+            in_left = inside (its_pointer to c) (its_own g c to ks ed e);
+            in_right = inside' (its_pointer to c') (its_own g' c' to ks' ed e');
+            left_cell = refl;
+            right_cell = refl;
+            class = refl;
+            node = refl;
+            homes = refl;
+            number = λ f. cc;
+          },
+          tt,
+        );
         fit = λ m. (
           record {
             number = λ f. cc;
@@ -206,5 +237,5 @@ module _ (two : Readings) (w : Setting) (g g' : Graph) (s : IsSound w g) (s' : I
       by_root (Some r) e =
           subst (λ t. RootsMeet two w g g' i (standing_by g i t (root_at g i) (direct (type_at w.table t) (root_at g i)))
           (standing_by g' i t (root_at g' i) (direct (type_at w.table t) (root_at g' i)))) (sym (ap root_type e))
-          (roots_meet_as two w g g' (known_cells w g s) (known_cells w g' s') i r.of (ap root_type e) (root_at g i) (root_at g' i) refl refl
+          (roots_meet_as two w g g' (known_cells w g s) (known_cells w g' s') i r.of (ap root_type e) (in_root w g s.all_roots i r e) (in_root w g' s'.all_roots i r e) (root_at g i) (root_at g' i) refl refl
           (known_roots w g s i r e) (known_roots w g' s' i r e))

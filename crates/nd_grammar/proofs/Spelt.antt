@@ -12,7 +12,7 @@ use Rattle.nd_graph.proofs.Apart.{among_left, among_right}
 use Rattle.nd_grammar.specs.Entry.{Kind, Entry, Align, Max, Offset, Actual, Chunk, Number, Num, Tag, Text, Context, Test, Unread, size_at, EntryAt, end_to_end, end_of, full_cell, full_cells}
 use Rattle.nd_grammar.specs.Represents.{piece, Spells, IsRendered, IsNumber, IsNumbering}
 use Rattle.nd_grammar.specs.NextEntry.{form}
-use Rattle.nd_grammar.proofs.Next.{IsUnread, Pair, OneToOne, Readings, Next}
+use Rattle.nd_grammar.proofs.Next.{IsUnread, Pair, Readings, Next}
 use Rattle.nd_grammar.proofs.Forms.{size_form}
 
 -- whether a cell is among these
@@ -117,7 +117,7 @@ not_spelt order nums octets at m u r = subst (λ k. Spells order nums k (piece o
 pub same_size : (at : ℕ) (x y : Kind) → form x ≡ form y → size_at at x ≡ size_at at y
 same_size at x y e = sym (size_form at x) ∙ ap (size_at at) e ∙ size_form at y
 
-module _ (two : Readings) (X : List Pair → Type 0) where
+module _ (two : Readings) (W X : List Pair → Type 0) where
   abbrev Left : EntryAt → Type 0
   Left = IsRendered two.order two.left two.octets
 
@@ -125,9 +125,9 @@ module _ (two : Readings) (X : List Pair → Type 0) where
   Right = IsRendered two.order two.right two.octets
 
   -- two lists of entries that are both spelt whole end at one place, and X holds of the map
-  pub spelt_whole : (map : List Pair) (at : ℕ) (ms ns : List Entry) → Next two X map at ms ns
+  pub spelt_whole : (map : List Pair) (at : ℕ) (ms ns : List Entry) → Next two W X map at ms ns
       → AllByRecursion Left (end_to_end at ms) → AllByRecursion Right (end_to_end at ns)
-      → (ys : List Pair) × OneToOne ys × X ys × (end_of at ms ≡ end_of at ns)
+      → (ys : List Pair) × W ys × X ys × (end_of at ms ≡ end_of at ns)
   spelt_whole map at [] [] (new, one, x) a b = (new ++ map, one, x, refl)
   spelt_whole map at [] (n ∷ ns) u a b = absurd (not_spelt two.order two.right two.octets at n u b.0)
   spelt_whole map at (m ∷ ms) [] u a b = absurd (not_spelt two.order two.left two.octets at m u a.0)

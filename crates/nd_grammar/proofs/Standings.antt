@@ -15,8 +15,10 @@ use Rattle.nd_graph.specs.Setting.{Setting, Among, cell_at, cell_of_number, root
 use Rattle.nd_graph.specs.Deferral.{Pending, home_pointers, Due, due_root, due_referent, root_cell, root_type, Placed_cells, IsPlaced, IsPlacedFull, AreFree}
 use Rattle.nd_graph.specs.Deferral.{Standing}
 use Rattle.nd_grammar.proofs.NextPending.{PointersMatch, AllPointers, nodes_match}
-use Rattle.nd_graph.proofs.Apart.{all_append}
-use Rattle.nd_grammar.proofs.Next.{Pair, IsApart, OneToOne, HomesMeet, Readings}
+use Rattle.nd_types.specs.Roots.{Root}
+use Rattle.nd_graph.specs.Homes.{all_pointers}
+use Rattle.nd_graph.proofs.Apart.{all_append, all_weaker}
+use Rattle.nd_grammar.proofs.Next.{Pair, IsApart, OneToOne, HomesMeet, homes_grown, Readings}
 use Rattle.nd_grammar.proofs.Matching.{bare, CellsMatch, Matched, Known, matched_count, found_same}
 use Rattle.nd_grammar.proofs.Carried.{InMap, AllInMap, carried}
 
@@ -67,6 +69,93 @@ module _ (two : Readings) (w : Setting) (g g' : Graph) where
     pub left_cell : (c : Referent) × (cell_of_number g x.left ≡ Some c) × (c.of ≡ x.of)
     pub right_cell : (c : Referent) × (cell_of_number g' x.right ≡ Some c) × (c.of ≡ x.of)
 
+  -- Two cells are named alike: by pointers of one class, at one node of homes that correspond; and full pointers have one number.
+  pub record AreNamed (xs : List Pair) (c d : ℕ) : Type 0 where
+    pub left : Pending
+    pub right : Pending
+    pub in_left : Among (all_pointers w g) left
+    pub in_right : Among (all_pointers w g') right
+    pub left_cell : left.cell ≡ Some c
+    pub right_cell : right.cell ≡ Some d
+    pub class : left.class ≡ right.class
+    pub node : left.node ≡ right.node
+    pub homes : HomesMeet xs left.home right.home
+    pub number : left.class ≡ Full → two.left c ≡ two.right d
+
+  pub named_grown : (new xs : List Pair) (c d : ℕ) → AreNamed xs c d → AreNamed (new ++ xs) c d
+  named_grown new xs c d a = record {
+    left = a.left;
+    right = a.right;
+    in_left = a.in_left;
+    in_right = a.in_right;
+    left_cell = a.left_cell;
+    right_cell = a.right_cell;
+    class = a.class;
+    node = a.node;
+    homes = homes_grown new xs a.left.home a.right.home a.homes;
+    number = a.number;
+  }
+
+  abbrev pub IsNamedPair : List Pair → Pair → Type 0
+  IsNamedPair xs z = AreNamed xs z.left z.right
+
+  -- The pairs are a one-to-one map of cells, and the cells of each are named alike.
+  pub record IsMap (xs : List Pair) : Type 0 where
+    pub one : OneToOne xs
+    pub named : AllByRecursion (λ z. AreNamed xs z.left z.right) xs
+
+  pub no_pairs : IsMap []
+  no_pairs = record { one = tt; named = tt }
+
+  -- more pairs are put to a map
+  pub map_grown : (new xs : List Pair) → OneToOne (new ++ xs) → AllByRecursion (λ z. AreNamed (new ++ xs) z.left z.right) new → IsMap xs → IsMap (new ++ xs)
+  map_grown new xs one named m = record {
+    one = one;
+    named =
+        all_append (IsNamedPair (new ++ xs)) new xs named
+        (all_weaker (IsNamedPair xs) (IsNamedPair (new ++ xs)) (λ z a. named_grown new xs z.left z.right a) xs m.named);
+  }
+
+  -- what is due of both graphs: pointers of theirs, in homes that correspond
+  pub record ArePointers (xs : List Pair) (p q : Pending) : Type 0 where
+    pub in_left : Among (all_pointers w g) p
+    pub in_right : Among (all_pointers w g') q
+    pub homes : HomesMeet xs p.home q.home
+
+  abbrev pub AreDue : List Pair → List Due → List Due → Type 0
+  AreDue xs (due_root i ∷ ts) (due_root j ∷ ts') = ((r : Root) × (slice_get (root_list w) i ≡ Some r)) × AreDue xs ts ts'
+  AreDue xs (due_referent p ∷ ts) (due_referent q ∷ ts') = ArePointers xs p q × AreDue xs ts ts'
+  AreDue xs [] [] = Unit {0}
+  AreDue xs _ _ = ⊥
+
+  pub due_grown : (new xs : List Pair) (ts ts' : List Due) → AreDue xs ts ts' → AreDue (new ++ xs) ts ts'
+  due_grown new xs [] [] a = tt
+  due_grown new xs [] (t' ∷ ts') a = absurd a
+  due_grown new xs (due_root i ∷ ts) [] a = absurd a
+  due_grown new xs (due_referent p ∷ ts) [] a = absurd a
+  due_grown new xs (due_root i ∷ ts) (due_referent q ∷ ts') a = absurd a
+  due_grown new xs (due_referent p ∷ ts) (due_root j ∷ ts') a = absurd a
+  due_grown new xs (due_root i ∷ ts) (due_root j ∷ ts') a = (a.0, due_grown new xs ts ts' a.1)
+  due_grown new xs (due_referent p ∷ ts) (due_referent q ∷ ts') a =
+      (record { in_left = a.0.in_left; in_right = a.0.in_right; homes = homes_grown new xs p.home q.home a.0.homes }, due_grown new xs ts ts' a.1)
+
+  -- the pointers of two homes that correspond are due before what waited
+  pub home_due : (xs : List Pair) (h h' : Home) → HomesMeet xs h h' → (ps qs : List Pending) (ts ts' : List Due) → AllPointers Numbers g g' ps qs
+      → AllByRecursion (λ p. p.home ≡ h) ps → AllByRecursion (λ q. q.home ≡ h') qs
+      → ((p : Pending) → Among ps p → Among (all_pointers w g) p) → ((q : Pending) → Among qs q → Among (all_pointers w g') q)
+      → AreDue xs ts ts' → AreDue xs (map due_referent ps ++ ts) (map due_referent qs ++ ts')
+  home_due xs h h' meet [] [] ts ts' a b b' c c' d = d
+  home_due xs h h' meet [] (q ∷ qs) ts ts' a b b' c c' d = absurd a
+  home_due xs h h' meet (p ∷ ps) [] ts ts' a b b' c c' d = absurd a
+  home_due xs h h' meet (p ∷ ps) (q ∷ qs) ts ts' a b b' c c' d = (
+    record {
+      in_left = c p (inl refl);
+      in_right = c' q (inl refl);
+      homes = subst (λ u. HomesMeet xs u q.home) (sym b.0) (subst (λ u. HomesMeet xs h u) (sym b'.0) meet);
+    },
+    home_due xs h h' meet ps qs ts ts' a.1 b.1 b'.1 (λ u m. c u (inr m)) (λ u m. c' u (inr m)) d,
+  )
+
   -- the two cells are carried by a map
   abbrev pub IsClosed : List Pair → Pair → Type 0
   IsClosed ys x = Matched (InMap ys) w.table (x.of ∷ []) (more (cell_at g x.left) none) (more (cell_at g' x.right) none)
@@ -82,11 +171,11 @@ module _ (two : Readings) (w : Setting) (g g' : Graph) where
   AllCarried ys (due_referent p ∷ ts) (due_referent q ∷ ts') = InMap ys p.class p.cell q.cell × AllCarried ys ts ts'
   AllCarried ys _ _ = ⊥
 
-  -- What is known once all that was due stands: the map has grown, it is one-to-one, its cells match and are carried by it.
+  -- What is known once all that was due stands: the map has grown, it is a map of cells that are named alike, its cells match and are carried by it.
   pub record Stands (xs : List Pair) (due due' : List Due) (ys : List Pair) : Type 0 where
     pub new : List Pair
     pub all : ys ≡ new ++ xs
-    pub one : OneToOne ys
+    pub one : IsMap ys
     pub fit : AllByRecursion PairFits ys
     pub closed : AllByRecursion (IsClosed ys) new
     pub carried_due : AllCarried ys due due'
@@ -101,6 +190,7 @@ module _ (two : Readings) (w : Setting) (g g' : Graph) where
     pub lefts : root_cell x.home ≡ firsts pairs
     pub rights : root_cell y.home ≡ seconds pairs
     pub meet : (xs : List Pair) → HomesMeet (pairs ++ xs) x.home y.home
+    pub named : (xs : List Pair) → AllByRecursion (λ z. AreNamed xs z.left z.right) pairs
     pub fit : Matched (CellsMatch two.left two.right) w.table (x.of ∷ []) (more x.val none) (more y.val none) → AllByRecursion PairFits pairs
     pub closed : (ys : List Pair) → Matched (InMap ys) w.table (x.of ∷ []) (more x.val none) (more y.val none) → AllByRecursion (IsClosed ys) pairs
     pub whole : (ys : List Pair) → ((z : Pair) → Among pairs z → Among ys z)

@@ -59,6 +59,23 @@ AllCorrespond cells [] [] = Unit {0}
 AllCorrespond cells (x ∷ xs) (y ∷ ys) = HomesCorrespond cells x.entry.home y.entry.home × (x.entry.node ≡ y.entry.node) × AllCorrespond cells xs ys
 AllCorrespond cells _ _ = ⊥
 
+-- the cell that a pointer's number names: none where the pointer is null, and none of an entry that is no pointer's number
+abbrev pub named_cell : Kind → Option ℕ
+named_cell (Number class to cell) = cell
+named_cell _ = None
+
+-- two named cells correspond under a map of cells: they are a pair of it, or there is none in both
+abbrev pub CellsCorrespond : List (ℕ × ℕ) → Option ℕ → Option ℕ → Type 0
+CellsCorrespond cells None None = Unit {0}
+CellsCorrespond cells (Some c) (Some d) = Among cells (c, d)
+CellsCorrespond cells _ _ = ⊥
+
+-- The pointers' numbers in two lists of entries name cells that correspond under a map of cells, entry by entry.
+abbrev pub AllNameAlike : List (ℕ × ℕ) → List EntryAt → List EntryAt → Type 0
+AllNameAlike cells [] [] = Unit {0}
+AllNameAlike cells (x ∷ xs) (y ∷ ys) = CellsCorrespond cells (named_cell x.entry.kind) (named_cell y.entry.kind) × AllNameAlike cells xs ys
+AllNameAlike cells _ _ = ⊥
+
 -- the first n entries of a stream are there, octets spell them, and none of them is refused
 pub record IsReadTo (order : Order) (octets : List ℕ) (entries : List Entry) (n : ℕ) : Type 0 where
   pub there : n ≤ length entries

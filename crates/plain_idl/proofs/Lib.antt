@@ -1,0 +1,12 @@
+pub mod Items
+pub mod Exact
+pub mod PlainFiles
+pub mod Judged
+pub mod OneVerdict
+pub mod Behind
+pub mod NamedGathered
+pub mod Loops
+pub mod Forms
+pub mod Within
+pub mod Told
+pub mod Named

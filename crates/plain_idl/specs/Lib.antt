@@ -3,3 +3,4 @@ pub mod Plain
 pub mod Names
 pub mod Reading
 pub mod Answers
+pub mod Seen

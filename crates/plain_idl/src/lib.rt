@@ -3,7 +3,10 @@
 
 mod fault;
 pub mod laws;
+mod names;
+mod parts;
 mod reader;
+mod uuid;
 
 pub use fault::{IdlFault, IdlReason};
 pub use reader::read_idl;

@@ -30,11 +30,11 @@ returns-clause-refused g c task idl op is zero four five =
     rows.refused_is _ _ _ _ task idl op _ (rows.ended _ _ _ _ task idl op _ c.args.words.now is
     (record { outcome = c.answer-outcome.result; caused = c.answer-outcome.ensures; delivered = c.deliver.ensures })) zero four five
 
-pub returns-clause-not_built : goal.returns-clause-not_built
-returns-clause-not_built g c task idl op file is nothing_failed held none =
-    sound.not_built _ _ _ _ task idl op _ nothing_failed (rows.ended _ _ _ _ task idl op _ c.args.words.now is
+pub returns-clause-bad_idl : goal.returns-clause-bad_idl
+returns-clause-bad_idl g c task idl op file line column why is nothing_failed held refused =
+    sound.bad_idl _ _ _ _ task idl op _ nothing_failed (rows.ended _ _ _ _ task idl op _ c.args.words.now is
     (record { outcome = c.answer-outcome.result; caused = c.answer-outcome.ensures; delivered = c.deliver.ensures }))
-    file held none
+    file line column why held refused
 
 pub returns-clause-no_operation : goal.returns-clause-no_operation
 returns-clause-no_operation g c task idl op file i is nothing_failed held plain gone =

@@ -8,16 +8,15 @@ use Rattle.idl_grammar.specs.Symbols as symbol
 use Rattle.std.proofs.lemmas.Result.{err_from_is_err_and}
 use Rattle.std.proofs.lemmas.List.{map_push}
 use Rattle.idl_grammar.specs.Reading.{member_firsts, label_firsts, arm_firsts, member_read, members_read, case_read, cases_read, arm_read, arms_read, type_read, MemberParts, members_of, cases_of, arms_of, labels_read, struct_body_read, struct_read, union_switch_read, union_body_read, cases_body_read, arms_body_read}
-use Rattle.idl_grammar.specs.Seen.{seen_arm, seen_label, seen_type}
+use Rattle.idl_grammar.specs.Seen.{seen_arm, seen_label, seen_type, seen_member, seen_case}
 use Rattle.idl_grammar.specs.declared.words.Spelling.{Spelling}
 use Rattle.idl_grammar.specs.declared.types.Discriminant.{Discriminant}
 use Rattle.idl_grammar.specs.declared.types.TagKind.TheVariants as tags
 use Rattle.idl_grammar.specs.Limits.{names}
 use Rattle.idl_grammar.specs.Tree as tree
-use Rattle.idl_parser.specs.Views.{seen_member, seen_case}
 use Rattle.idl_parser.proofs.Bodies.{then_reads, then_fails, bracketed_reads, branch_first, branch_second, tagged_body}
 use Rattle.idl_parser.proofs.Lists.{alone, some_begins}
-use Rattle.idl_parser.proofs.Rows.{struct_is, cases_are, arms_are}
+use Rattle.idl_grammar.proofs.Rows.{struct_is, cases_are, arms_are}
 use Rattle.idl_parser.proofs.parser.Parser.+types.Goals as goal
 
 pub members-loop-list-init : goal.members-loop-list-init

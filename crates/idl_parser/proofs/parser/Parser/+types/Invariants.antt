@@ -4,8 +4,7 @@ use Rattle.phrases.specs.Reading.{behind_read, separated_read, some_read, list_r
 use Rattle.phrases.proofs.Gathered.{Gathered}
 use Rattle.idl_grammar.specs.Symbols as symbol
 use Rattle.idl_grammar.specs.Reading.{member_firsts, label_firsts, arm_firsts, member_read, members_read, case_read, cases_read, arm_read, arms_read, type_read}
-use Rattle.idl_grammar.specs.Seen.{seen_arm}
-use Rattle.idl_parser.specs.Views.{seen_member, seen_case}
+use Rattle.idl_grammar.specs.Seen.{seen_arm, seen_member, seen_case}
 use Rattle.idl_parser.proofs.parser.Parser.+types.Given as goal
 
 abbrev pub decreases-type_spec : goal.decreases-type_spec

@@ -1,0 +1,10 @@
+use Rattle.std.proofs.Common.{◌≡◌, drop}
+use Rattle.std.specs.List.{list_any}
+use Rattle.std.specs.Str.{bytes_eq}
+use Rattle.plain_idl.specs.Reading.{operation_name}
+use Rattle.plain_idl.proofs.names.has_operation.Given as goal
+
+-- none so far has the name
+abbrev pub invariant-loop-i : goal.invariant-loop-i
+invariant-loop-i l =
+    list_any (λ a. bytes_eq l.name (operation_name a)) l.operations ≡ list_any (λ a. bytes_eq l.name (operation_name a)) (drop l.i l.operations)
