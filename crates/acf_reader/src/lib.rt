@@ -5,6 +5,12 @@
 //! the grammar of IDL.
 #![tactic(auto)]
 
+mod attributes;
+mod body;
+mod lexemes;
+mod reading;
 mod tree;
+mod words;
 
+pub use reading::read_acf;
 pub use tree::{Acf, Attribute, AttributeKind, Attributes, BodyElement, HandleType, Parameter};
