@@ -9,8 +9,8 @@ use Rattle.idl_grammar.specs.declared.words.Spelling.{Spelling}
 use Rattle.idl_grammar.specs.Symbols as symbol
 use Rattle.idl_grammar.specs.Grammar.{one_of, in_round, commas, is_banned_attribute}
 use Rattle.idl_grammar.specs.Reading.{commas_read}
-use Rattle.idl_grammar.proofs.Combine.{changed_exact, one_of_exact, one_word, each_meant, either, either_exact, either_begins, mark_begins}
-use Rattle.idl_grammar.proofs.AttributesExact.{word_round_exact}
+use Rattle.acf_reader.proofs.Combine.{changed_exact, one_of_exact, one_word, each_meant, either, either_exact, either_begins, mark_begins}
+use Rattle.acf_reader.proofs.Combine.{word_round_exact}
 use Rattle.acf_reader.specs.declared.tree.HandleType.{HandleType}
 use Rattle.acf_reader.specs.declared.tree.HandleType.TheVariants as handle
 use Rattle.acf_reader.specs.declared.tree.AttributeKind.{AttributeKind}
@@ -20,7 +20,7 @@ use Rattle.acf_reader.specs.Symbols as word
 use Rattle.acf_reader.specs.Symbols.{names}
 use Rattle.acf_reader.specs.Tree.{Attributes}
 use Rattle.acf_reader.specs.Grammar.{ident, handle_type, code, attribute_kind, attribute, attributes}
-use Rattle.acf_reader.specs.Reading.{ident_read, handle_type_read, variable_read, implicit_handle_read, plain_words, plain_symbols, code_symbols, code_read, attribute_kind_read, attribute_of, attribute_read, attributes_of, attributes_read, maybe_attributes_read}
+use Rattle.acf_reader.specs.Reading.{ident_read, handle_type_read, variable_read, implicit_handle_read, one_word_attributes, one_word_symbols, code_symbols, code_read, attribute_kind_read, attribute_of, attribute_read, attributes_of, attributes_read, maybe_attributes_read}
 use Rattle.acf_reader.proofs.NamesExact.{ident_exact, ident_has, ident_begins}
 
 -- ## the variable of `implicit_handle`
@@ -91,11 +91,11 @@ module _ (depth : ℕ) where
   implicit_exact t i in_text =
       word_round_exact depth variable [] variable_has refl word.ImplicitHandle refl t i in_text (variable_read t) (λ room m after in_m. variable_exact t m in_m)
 
-  abbrev plain : Rel AttributeKind
-  plain = one_of kind.Heap plain_words
+  abbrev one_words : Rel AttributeKind
+  one_words = one_of kind.Heap one_word_attributes
 
-  plain_begins : Begins plain plain_symbols
-  plain_begins lifted x i j c ph = ph.0
+  one_words_begin : Begins one_words one_word_symbols
+  one_words_begin lifted x i j c ph = ph.0
 
   abbrev codes : Rel AttributeKind
   codes = made (λ (u : Unit {0}). kind.Code) code
@@ -121,13 +121,13 @@ module _ (depth : ℕ) where
   from_code_begins = either_begins codes implicits code_symbols (word.ImplicitHandle ∷ []) codes_begin implicits_begin refl code_on refl refl
 
   abbrev kinds : Rel AttributeKind
-  kinds = either plain from_code
+  kinds = either one_words from_code
 
   kinds_forth : (lifted : Lifted) (x : Text) (i j : ℕ) (c : AttributeKind) → kinds c lifted x i j → attribute_kind depth c lifted x i j
   unfolding attribute_kind
   kinds_forth lifted x i j c (inl ph) =
       subst (λ (v : AttributeKind). attribute_kind depth v lifted x i j) (sym ph.1)
-      (each_meant (λ v s. symbol_at x i ≡ s → attribute_kind depth v lifted x i j) kind.Heap plain_words
+      (each_meant (λ v s. symbol_at x i ≡ s → attribute_kind depth v lifted x i j) kind.Heap one_word_attributes
       (λ e. (e, ph.2), (λ e. (e, ph.2), (λ e. (e, ph.2), (λ e. (e, ph.2), (λ e. (e, ph.2), (λ e. (e, ph.2), (λ e. (e, ph.2), (λ e. (e, ph.2), (λ e. (e, ph.2), tt)))))))))
       (symbol_at x i) ph.0 refl)
   kinds_forth lifted x i j c (inr (inl ph)) = subst (λ (v : AttributeKind). attribute_kind depth v lifted x i j) (sym ph.1) ph.2
@@ -135,15 +135,15 @@ module _ (depth : ℕ) where
 
   kinds_back : (lifted : Lifted) (x : Text) (i j : ℕ) (c : AttributeKind) → attribute_kind depth c lifted x i j → kinds c lifted x i j
   unfolding attribute_kind
-  kinds_back lifted x i j kind.AutoHandle ph = inl (one_word kind.Heap plain_words word.AutoHandle kind.AutoHandle refl refl lifted x i j ph)
-  kinds_back lifted x i j kind.ExplicitHandle ph = inl (one_word kind.Heap plain_words word.ExplicitHandle kind.ExplicitHandle refl refl lifted x i j ph)
-  kinds_back lifted x i j kind.NoCode ph = inl (one_word kind.Heap plain_words word.NoCode kind.NoCode refl refl lifted x i j ph)
-  kinds_back lifted x i j kind.InLine ph = inl (one_word kind.Heap plain_words word.InLine kind.InLine refl refl lifted x i j ph)
-  kinds_back lifted x i j kind.OutOfLine ph = inl (one_word kind.Heap plain_words word.OutOfLine kind.OutOfLine refl refl lifted x i j ph)
-  kinds_back lifted x i j kind.EnableAllocate ph = inl (one_word kind.Heap plain_words word.EnableAllocate kind.EnableAllocate refl refl lifted x i j ph)
-  kinds_back lifted x i j kind.Heap ph = inl (one_word kind.Heap plain_words word.Heap kind.Heap refl refl lifted x i j ph)
-  kinds_back lifted x i j kind.CommStatus ph = inl (one_word kind.Heap plain_words word.CommStatus kind.CommStatus refl refl lifted x i j ph)
-  kinds_back lifted x i j kind.FaultStatus ph = inl (one_word kind.Heap plain_words word.FaultStatus kind.FaultStatus refl refl lifted x i j ph)
+  kinds_back lifted x i j kind.AutoHandle ph = inl (one_word kind.Heap one_word_attributes word.AutoHandle kind.AutoHandle refl refl lifted x i j ph)
+  kinds_back lifted x i j kind.ExplicitHandle ph = inl (one_word kind.Heap one_word_attributes word.ExplicitHandle kind.ExplicitHandle refl refl lifted x i j ph)
+  kinds_back lifted x i j kind.NoCode ph = inl (one_word kind.Heap one_word_attributes word.NoCode kind.NoCode refl refl lifted x i j ph)
+  kinds_back lifted x i j kind.InLine ph = inl (one_word kind.Heap one_word_attributes word.InLine kind.InLine refl refl lifted x i j ph)
+  kinds_back lifted x i j kind.OutOfLine ph = inl (one_word kind.Heap one_word_attributes word.OutOfLine kind.OutOfLine refl refl lifted x i j ph)
+  kinds_back lifted x i j kind.EnableAllocate ph = inl (one_word kind.Heap one_word_attributes word.EnableAllocate kind.EnableAllocate refl refl lifted x i j ph)
+  kinds_back lifted x i j kind.Heap ph = inl (one_word kind.Heap one_word_attributes word.Heap kind.Heap refl refl lifted x i j ph)
+  kinds_back lifted x i j kind.CommStatus ph = inl (one_word kind.Heap one_word_attributes word.CommStatus kind.CommStatus refl refl lifted x i j ph)
+  kinds_back lifted x i j kind.FaultStatus ph = inl (one_word kind.Heap one_word_attributes word.FaultStatus kind.FaultStatus refl refl lifted x i j ph)
   kinds_back lifted x i j kind.Code ph = inr (inl (tt, refl, ph))
   kinds_back lifted x i j (kind.ImplicitHandle of name) ph = inr (inr ((of, name), refl, ph))
 
@@ -151,8 +151,8 @@ module _ (depth : ℕ) where
   unfolding attribute_kind_read
   attribute_kind_exact t i in_text =
       changed_exact kinds (attribute_kind depth) kinds_forth (stops []) t i (λ lifted x e c j ph stop. kinds_back lifted x i j c ph) _
-      (either_exact plain from_code plain_symbols code_on plain_begins from_code_begins refl (stops []) t i _ _
-      (λ h. one_of_exact kind.Heap plain_words word.Heap refl refl (stops []) t i in_text)
+      (either_exact one_words from_code one_word_symbols code_on one_words_begin from_code_begins refl (stops []) t i _ _
+      (λ h. one_of_exact kind.Heap one_word_attributes word.Heap refl refl (stops []) t i in_text)
       (either_exact codes implicits code_symbols (word.ImplicitHandle ∷ []) codes_begin implicits_begin refl (stops []) t i _ _
       (λ h. made_exact (λ (u : Unit {0}). kind.Code) code (stops []) t i (code_read t i) (code_exact t i in_text))
       (made_exact implicit_of (word.ImplicitHandle ⊳ in_round depth variable) (stops []) t i (implicit_handle_read t depth i) (implicit_exact t i in_text))))
@@ -164,7 +164,7 @@ attribute_firsts =
 
 kind_begins : (depth : ℕ) → Begins (attribute_kind depth) attribute_firsts
 kind_begins depth lifted x i j c ph =
-    either_begins (plain depth) (from_code depth) plain_symbols (code_on depth) (plain_begins depth) (from_code_begins depth) refl attribute_firsts refl refl lifted x i j c (kinds_back depth lifted x i j c ph)
+    either_begins (one_words depth) (from_code depth) one_word_symbols (code_on depth) (one_words_begin depth) (from_code_begins depth) refl attribute_firsts refl refl lifted x i j c (kinds_back depth lifted x i j c ph)
 
 kind_has : (depth : ℕ) → HasPhrase (attribute_kind depth)
 unfolding attribute_kind

@@ -1,5 +1,8 @@
+pub mod Combine
 pub mod NamesExact
 pub mod AttributesExact
 pub mod BodyExact
 pub mod AcfExact
 pub mod AcfLaws
+pub mod RealTokens
+pub mod Within

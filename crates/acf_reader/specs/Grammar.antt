@@ -1,6 +1,6 @@
 -- The grammar of attribute configuration files (C706, section 4.3), from small to large. A phrase is a relation of a text, the
 -- place where it begins and the place past it; each line is one alternative. depth is the number of brackets that are open
--- where a phrase begins; it is 3 at most, so the limit of 64 refuses nothing.
+-- where a phrase begins; it is 4 at most, so the limit of 64 refuses nothing.
 use Rattle.std.specs.Prelude.{ℕ, ◌+◌, Bool, true, false, List, [], ◌∷◌}
 use Rattle.phrases.specs.Text.{Rel, Ban, nothing, mark, token, optional, unless, many, bracketed, located, is_in, ◌▹◌, ◌⊗◌, ◌⊳◌}
 use Rattle.phrases.specs.Reading.{to_unit}
@@ -27,7 +27,7 @@ unfoldable pub handle_type : Rel HandleType
 handle_type handle.Handle = mark symbol.HandleT
 handle_type (handle.Name n) = ident true n
 
--- "code". A banned word stands for it, but for the ban.
+-- "code". Where the ban is lifted a banned word is taken for it, so that it is the ban that refuses it, and not the grammar.
 abbrev pub code : Rel (Unit {0})
 code u = unless Ban is_banned_attribute (token (λ a. is_in (word.Code ∷ symbol.BannedAttribute ∷ []) a.symbol) to_unit u)
 

@@ -37,14 +37,14 @@ unfoldable pub implicit_handle_read : Text → ℕ → ℕ → Read (HandleType 
 implicit_handle_read t depth i = behind_read word.ImplicitHandle t (in_round_read depth t (variable_read t)) i
 
 -- attributes of one word
-abbrev pub plain_words : List (Meant AttributeKind)
-plain_words =
+abbrev pub one_word_attributes : List (Meant AttributeKind)
+one_word_attributes =
     meant word.AutoHandle kind.AutoHandle ∷ meant word.ExplicitHandle kind.ExplicitHandle ∷ meant word.NoCode kind.NoCode ∷ meant word.InLine kind.InLine
     ∷ meant word.OutOfLine kind.OutOfLine ∷ meant word.EnableAllocate kind.EnableAllocate ∷ meant word.Heap kind.Heap ∷ meant word.CommStatus kind.CommStatus
     ∷ meant word.FaultStatus kind.FaultStatus ∷ []
 
-abbrev pub plain_symbols : List ℕ
-plain_symbols =
+abbrev pub one_word_symbols : List ℕ
+one_word_symbols =
     word.AutoHandle ∷ word.ExplicitHandle ∷ word.NoCode ∷ word.InLine ∷ word.OutOfLine ∷ word.EnableAllocate ∷ word.Heap ∷ word.CommStatus ∷ word.FaultStatus ∷ []
 
 abbrev pub code_symbols : List ℕ
@@ -56,7 +56,7 @@ code_read t i = ruled_read Ban is_banned_attribute (λ a. is_in code_symbols a.s
 
 unfoldable pub attribute_kind_read : Text → ℕ → ℕ → Read AttributeKind
 attribute_kind_read t depth i =
-    branch_read plain_symbols t i (one_of_read kind.Heap plain_words t i)
+    branch_read one_word_symbols t i (one_of_read kind.Heap one_word_attributes t i)
     (branch_read code_symbols t i (turned (λ u. kind.Code) (code_read t i))
     (turned (λ p. kind.ImplicitHandle p.0 p.1) (implicit_handle_read t depth i)))
 

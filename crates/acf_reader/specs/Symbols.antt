@@ -38,7 +38,7 @@ CommStatus = 119
 abbrev pub FaultStatus : ℕ
 FaultStatus = 120
 
--- ## A word that begins an element of the body where a string follows, and is a name everywhere
+-- ## A word that begins an element of the body where a string follows, and is a name elsewhere
 
 abbrev pub Include : ℕ
 Include = 121

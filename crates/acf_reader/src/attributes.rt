@@ -9,7 +9,7 @@ ghost use Rattle.idl_parser.specs.Found.{found};
 ghost use Rattle.acf_reader.specs.declared.tree.AttributeKind.TheVariants as kinds;
 ghost use Rattle.acf_reader.specs.Symbols.{names};
 ghost use Rattle.acf_reader.specs.Seen.{seen_attributes};
-ghost use Rattle.acf_reader.specs.Reading.{ident_read, handle_type_read, variable_read, implicit_handle_read, plain_words, code_read, attribute_kind_read, attribute_read, attributes_read, maybe_attributes_read};
+ghost use Rattle.acf_reader.specs.Reading.{ident_read, handle_type_read, variable_read, implicit_handle_read, one_word_attributes, code_read, attribute_kind_read, attribute_read, attributes_read, maybe_attributes_read};
 
 use crate::tree::{Attribute, AttributeKind, Attributes, HandleType};
 use crate::words;
@@ -40,7 +40,7 @@ static NAMES_OUTSIDE: [u8; 14] = [
 ];
 
 /// The symbols of the attributes of one word, but for `code`.
-static PLAIN_WORDS: [u8; 9] = [
+static ONE_WORD_ATTRIBUTES: [u8; 9] = [
     words::AUTO_HANDLE,
     words::EXPLICIT_HANDLE,
     words::NOCODE,
@@ -56,8 +56,8 @@ static PLAIN_WORDS: [u8; 9] = [
 static CODE_WORDS: [u8; 2] = [words::CODE, symbol::BANNED_ATTRIBUTE];
 
 /// The attribute of one word that a word stands for.
-fn plain_of(symbol: u8) -> Option<AttributeKind>
-    ensures { result ≡ found plain_words symbol }
+fn one_word_of(symbol: u8) -> Option<AttributeKind>
+    ensures { result ≡ found one_word_attributes symbol }
 {
     match symbol {
         words::AUTO_HANDLE => Some(AttributeKind::AutoHandle),
@@ -149,12 +149,12 @@ fn implicit_handle(
 
 /// An attribute of one word.
 #[tactic(auto, using(idl_parser::proofs::Basics::one_of_found, idl_parser::proofs::Basics::one_of_none, idl_parser::proofs::Basics::found_within))]
-fn plain_attribute(parser: &Parser<'_>, at: usize) -> Result<(AttributeKind, usize), Refusal>
+fn one_word_attribute(parser: &Parser<'_>, at: usize) -> Result<(AttributeKind, usize), Refusal>
     requires { at ≤ length parser.now }
-    ensures gives { Gives (λ x. x) result (one_of_read kinds.Heap plain_words parser.now at) }
+    ensures gives { Gives (λ x. x) result (one_of_read kinds.Heap one_word_attributes parser.now at) }
     ensures within { IfOk result (λ x. (at < x.1) × (x.1 ≤ length parser.now)) }
 {
-    match plain_of(parser.symbol(at)) {
+    match one_word_of(parser.symbol(at)) {
         Some(kind) => Ok((kind, parser.past(at))),
         None => Err(Refusal::Syntax(at)),
     }
@@ -184,8 +184,8 @@ fn attribute_kind(
     ensures gives { Gives (λ x. x) result (attribute_kind_read parser.now depth at) }
     ensures within { IfOk result (λ x. (at < x.1) × (x.1 ≤ length parser.now)) }
 {
-    if parser.begins(&PLAIN_WORDS, at) {
-        return plain_attribute(parser, at);
+    if parser.begins(&ONE_WORD_ATTRIBUTES, at) {
+        return one_word_attribute(parser, at);
     }
     if parser.begins(&CODE_WORDS, at) {
         let next = code(parser, at)?;

@@ -3,17 +3,17 @@ ghost use Rattle.std.specs.Prelude.{◌≡◌, map, IfOk};
 ghost use Rattle.phrases.specs.Text.{is_in};
 ghost use Rattle.idl_grammar.specs.Lexemes.{symbol_among};
 ghost use Rattle.idl_parser.specs.Lexemes.{text_of};
-ghost use Rattle.acf_reader.specs.FromIdl.{plain_words_of_idl, symbol_from, seen_entry};
+ghost use Rattle.acf_reader.specs.FromIdl.{names_of_idl, symbol_from, seen_word};
 ghost use Rattle.acf_reader.specs.Lexemes.{lexemes as grammar_lexemes};
 
-use crate::words::{Entry, OWN_WORDS};
+use crate::words::{OwnWord, OWN_WORDS};
 use idl_lexer::Tokens;
 use idl_parser::lexemes::{lexemes as idl_lexemes, Lexeme};
 use idl_parser::symbol;
 use std::alloc::{AllocError, Global};
 
 /// The symbols of names of IDL, and of words with which its attributes begin: all of them are names here, but for the file's own words.
-static PLAIN_WORDS_OF_IDL: [u8; 23] = [
+static NAMES_OF_IDL: [u8; 23] = [
     symbol::NAME,
     symbol::UUID,
     symbol::VERSION,
@@ -40,16 +40,16 @@ static PLAIN_WORDS_OF_IDL: [u8; 23] = [
 ];
 
 /// Whether a word of this symbol in IDL is a mere name here, if it is none of the file's own.
-#[tactic(auto, unfolding(crate::specs::FromIdl::plain_words_of_idl))]
-fn is_plain_word(symbol: u8) -> bool
-    ensures { result ≡ is_in plain_words_of_idl symbol }
+#[tactic(auto, unfolding(crate::specs::FromIdl::names_of_idl))]
+fn is_name_of_idl(symbol: u8) -> bool
+    ensures { result ≡ is_in names_of_idl symbol }
 {
-    PLAIN_WORDS_OF_IDL.iter().any(|other| symbol == *other)
+    NAMES_OF_IDL.iter().any(|other| symbol == *other)
 }
 
 /// The symbol that is spelled so, or another where the table has none.
-fn among(table: &[Entry], otherwise: u8, octets: &[u8]) -> u8
-    ensures { result ≡ symbol_among (map seen_entry table.now) otherwise octets.now }
+fn among(table: &[OwnWord], otherwise: u8, octets: &[u8]) -> u8
+    ensures { result ≡ symbol_among (map seen_word table.now) otherwise octets.now }
 {
     for entry in table {
         if octets == entry.octets {
@@ -64,7 +64,7 @@ fn among(table: &[Entry], otherwise: u8, octets: &[u8]) -> u8
 fn own_symbol(symbol: u8, octets: &[u8]) -> u8
     ensures { result ≡ symbol_from symbol octets.now }
 {
-    if !is_plain_word(symbol) {
+    if !is_name_of_idl(symbol) {
         return symbol;
     }
     among(&OWN_WORDS, symbol::NAME, octets)

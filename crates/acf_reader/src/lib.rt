@@ -1,4 +1,4 @@
-//! The reader of attribute configuration files (C706, section 4.3).
+//! The reader of attribute configuration files, or attribute configuration sources (C706, section 4.3).
 //!
 //! `Acf` is what it gives: the tree of a file, with the octet where each part begins. The grammar itself is a relation of
 //! texts of tokens and trees (specs/Grammar), told apart from the reader; it shares its tokens and its small parts with
@@ -7,6 +7,7 @@
 
 mod attributes;
 mod body;
+pub mod laws;
 mod lexemes;
 mod reading;
 mod tree;

@@ -3,10 +3,9 @@ ghost use Rattle.std.specs.Prelude.{◌≡◌, ◌≤◌, ◌<◌, length, Resul
 ghost use Rattle.phrases.specs.Reading.{Fault};
 ghost use Rattle.phrases.specs.Gives.{GivesWhole};
 ghost use Rattle.phrases.specs.Verdict.{whole_read};
-ghost use Rattle.idl_grammar.specs.Answers.{is_banned, Answers};
+ghost use Rattle.idl_grammar.specs.Answers.{is_banned};
 ghost use Rattle.idl_parser.specs.Answered.{IsWithin, IsNamed};
-ghost use Rattle.acf_reader.specs.Answers.{acf_answer};
-ghost use Rattle.acf_reader.specs.Grammar.{acf as grammar_acf};
+ghost use Rattle.acf_reader.specs.Answers.{IsAnswer, acf_answer};
 ghost use Rattle.acf_reader.specs.Lexemes.{lexemes as grammar_lexemes};
 ghost use Rattle.acf_reader.specs.Reading.{acf_read};
 ghost use Rattle.acf_reader.specs.Seen.{seen_acf};
@@ -77,13 +76,13 @@ fn answer(parser: &Parser<'_>) -> Result<Acf, SyntaxFault>
 ///
 /// # Errors
 /// The first token with which no file goes on: Banned for a word of the language that this compiler leaves out, otherwise
-/// Syntax, with the count of tokens where the text ends too early. Deep never comes, as three brackets at most are open.
+/// Syntax, with the count of tokens where the text ends too early. Deep never comes, as four brackets at most are open.
 /// Memory where memory was wanting.
 ///
 /// Takes memory for the tree and, while it runs, for two entries a token. Looks at each token a bounded number of times.
 pub fn read_acf(alloc: Global, tokens: &Tokens) -> Result<Acf, SyntaxFault>
-    ensures answer { Told (λ a. Answers grammar_acf (grammar_lexemes tokens.now) a) result }
-    ensures only { (v : Result tree.Acf Fault) → Answers grammar_acf (grammar_lexemes tokens.now) v → Told (λ a. v ≡ a) result }
+    ensures answer { Told (λ a. IsAnswer (grammar_lexemes tokens.now) a) result }
+    ensures only { (v : Result tree.Acf Fault) → IsAnswer (grammar_lexemes tokens.now) v → Told (λ a. v ≡ a) result }
 {
     let _count = tokens.count();
     let list = lexemes(alloc, tokens)?;

@@ -27,58 +27,58 @@ pub(crate) const INCLUDE: u8 = 121;
 
 /// What a word is spelled as, and its symbol.
 #[derive(Clone, Copy)]
-pub(crate) struct Entry {
+pub(crate) struct OwnWord {
     pub(crate) octets: &'static [u8],
     pub(crate) symbol: u8,
 }
 
 /// The words.
-pub(crate) static OWN_WORDS: [Entry; 12] = [
-    Entry {
+pub(crate) static OWN_WORDS: [OwnWord; 12] = [
+    OwnWord {
         octets: b"auto_handle",
         symbol: AUTO_HANDLE,
     },
-    Entry {
+    OwnWord {
         octets: b"explicit_handle",
         symbol: EXPLICIT_HANDLE,
     },
-    Entry {
+    OwnWord {
         octets: b"implicit_handle",
         symbol: IMPLICIT_HANDLE,
     },
-    Entry {
+    OwnWord {
         octets: b"code",
         symbol: CODE,
     },
-    Entry {
+    OwnWord {
         octets: b"nocode",
         symbol: NOCODE,
     },
-    Entry {
+    OwnWord {
         octets: b"in_line",
         symbol: IN_LINE,
     },
-    Entry {
+    OwnWord {
         octets: b"out_of_line",
         symbol: OUT_OF_LINE,
     },
-    Entry {
+    OwnWord {
         octets: b"enable_allocate",
         symbol: ENABLE_ALLOCATE,
     },
-    Entry {
+    OwnWord {
         octets: b"heap",
         symbol: HEAP,
     },
-    Entry {
+    OwnWord {
         octets: b"comm_status",
         symbol: COMM_STATUS,
     },
-    Entry {
+    OwnWord {
         octets: b"fault_status",
         symbol: FAULT_STATUS,
     },
-    Entry {
+    OwnWord {
         octets: b"include",
         symbol: INCLUDE,
     },
