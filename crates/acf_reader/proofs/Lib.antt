@@ -6,3 +6,6 @@ pub mod AcfExact
 pub mod AcfLaws
 pub mod RealTokens
 pub mod Within
+mod Tables
+mod FromIdl
+mod Answered

@@ -13,7 +13,7 @@ use Rattle.acf_reader.specs.Symbols.{own_words}
 
 -- all words that are no mere names
 unfoldable pub words : List Spelled
-words = reserved_words ++ own_words ++ banned_words ++ banned_attributes
+words = reserved_words ++ banned_words ++ banned_attributes ++ own_words
 
 -- the symbol of a token
 unfoldable pub symbol_of : TokenKind → List ℕ → ℕ
