@@ -161,13 +161,17 @@ lexemes_from lexed = all_from lexed.text lexed.tokens
 -- ## the loop over the tokens
 
 module _ (all : List program.Lexeme) (i : ℕ) (d : program.Lexeme) (h : i < length all) where
-  pub one_more : (front : Text) (new : Lexeme) → new ≡ lexeme_from (seen_lexeme (slice_index_or all i d)) → map lexeme_from (text_of all) ≡ front ++ map lexeme_from (text_of (drop i all))
-      → map lexeme_from (text_of all) ≡ (front ++ new ∷ []) ++ map lexeme_from (text_of (drop (i + 1) all))
-  one_more front new is e =
+  abbrev here : Lexeme
+  here = seen_lexeme (slice_index_or all i d)
+
+  pub one_more : (front : Text) (symbol : ℕ) → symbol ≡ symbol_from here.symbol here.octets → map lexeme_from (text_of all) ≡ front ++ map lexeme_from (text_of (drop i all))
+      → map lexeme_from (text_of all) ≡ (front ++ (record { symbol = symbol; at = here.at; octets = here.octets }) ∷ []) ++ map lexeme_from (text_of (drop (i + 1) all))
+  one_more front symbol is e =
       rw add-one
       (e
       ∙ (ap (λ (ls : List program.Lexeme). front ++ map lexeme_from (text_of ls)) (drop_here all i d h)
-      ∙ (ap (λ (l : Lexeme). front ++ l ∷ map lexeme_from (text_of (drop (suc i) all))) (sym is) ∙ sym (append_assoc front (new ∷ []) (map lexeme_from (text_of (drop (suc i) all)))))))
+      ∙ (ap (λ (s : ℕ). front ++ (record { symbol = s; at = here.at; octets = here.octets }) ∷ map lexeme_from (text_of (drop (suc i) all))) (sym is)
+      ∙ sym (append_assoc front ((record { symbol = symbol; at = here.at; octets = here.octets }) ∷ []) (map lexeme_from (text_of (drop (suc i) all)))))))
 
 pub none_left : (all : List program.Lexeme) (i : ℕ) (front : Text) → length all ≤ i → map lexeme_from (text_of all) ≡ front ++ map lexeme_from (text_of (drop i all)) → map lexeme_from (text_of all) ≡ front
 none_left all i front h e = e ∙ (ap (λ (ls : List program.Lexeme). front ++ map lexeme_from (text_of ls)) (drop_of_length-le all h) ∙ append-nil front)
