@@ -6,6 +6,8 @@ pub mod AcfExact
 pub mod AcfLaws
 pub mod RealTokens
 pub mod Within
+pub mod AcfExamples
+pub mod Harmless
 mod Tables
 mod FromIdl
 mod Answered

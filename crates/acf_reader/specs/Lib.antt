@@ -6,4 +6,5 @@ pub mod Grammar
 pub mod Seen
 pub mod Reading
 pub mod Answers
+pub mod Examples
 pub mod Told

@@ -10,6 +10,8 @@ mod body;
 pub mod laws;
 mod lexemes;
 mod reading;
+#[cfg(test)]
+mod tests;
 mod tree;
 mod words;
 
