@@ -61,7 +61,7 @@ fn keeps_names_and_octets(rt: HostRuntime) -> Result<(), Fail> {
         b" [explicit_handle] interface dir { put([heap] e); include \"x\"; }",
     )?;
     assert_eq!(rt; (file.at, file.name.at), (1, 29));
-    assert_eq!(rt; file.name.octets.as_slice(), b"dir");
+    assert_eq!(rt; file.name.octets.as_slice(), b"dir".as_slice());
     let Some(BodyElement::Operation {
         at,
         attributes,
@@ -87,7 +87,7 @@ fn keeps_names_and_octets(rt: HostRuntime) -> Result<(), Fail> {
         panic!(rt; "another tree");
     };
     assert_eq!(rt; (*at, string.at), (50, 58));
-    assert_eq!(rt; string.octets.as_slice(), b"\"x\"");
+    assert_eq!(rt; string.octets.as_slice(), b"\"x\"".as_slice());
     Ok(())
 }
 
