@@ -1,12 +1,12 @@
 -- Whole files are read exactly.
-use Rattle.std.proofs.Common.{◌≡◌, ℕ, ◌≤◌, true, false, List, [], ◌∷◌, length, refl, Option}
-use Rattle.phrases.specs.Text.{Text, is_in, Rel, many, optional, located, bracketed, ◌⊗◌, ◌⊳◌}
+use Rattle.std.proofs.Common.{ℕ, ◌≤◌, false, List, [], ◌∷◌, length, refl, Option}
+use Rattle.phrases.specs.Text.{Text, Rel, many, optional, located, bracketed, ◌⊗◌, ◌⊳◌}
 use Rattle.phrases.proofs.Exact.{Exact, HasPhrase, pair_exact, turned_exact}
 use Rattle.phrases.proofs.Parts.{pair_has, many_has}
 use Rattle.phrases.proofs.Sequences.{stops, Begins, meets_first, ends_at, skip_exact, skip_has, skip_begins, or_pair_begins, located_exact, bracketed_exact, bracketed_has}
 use Rattle.idl_grammar.specs.declared.words.Spelling.{Spelling}
 use Rattle.idl_grammar.specs.Symbols as symbol
-use Rattle.acf_reader.specs.Tree.{Attributes, BodyElement, Acf}
+use Rattle.acf_reader.specs.Tree.{Attributes, BodyElement}
 use Rattle.acf_reader.specs.Grammar.{ident, attributes, body_element, acf}
 use Rattle.acf_reader.specs.Reading.{ident_read, maybe_attributes_read, element_firsts, body_read, acf_of, acf_read}
 use Rattle.acf_reader.proofs.NamesExact.{ident_exact, ident_has}

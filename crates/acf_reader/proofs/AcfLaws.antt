@@ -1,5 +1,5 @@
 -- What is answered on a file is right, and nothing else is.
-use Rattle.std.proofs.Common.{◌≡◌, ◌≤◌, [], refl, arith, Result}
+use Rattle.std.proofs.Common.{◌≡◌, [], refl, arith, Result}
 use Rattle.phrases.specs.Text.{Text}
 use Rattle.phrases.specs.Reading.{Fault}
 use Rattle.phrases.specs.Verdict.{Judges, whole_read}

@@ -2,7 +2,7 @@
 use Rattle.std.proofs.Common.{◌≡◌, ℕ, ◌≤◌, Bool, true, false, cond, eqb, [], length, sym, subst, arith, Result, Ok, Err}
 use Rattle.phrases.specs.declared.Refusal.{Refusal}
 use Rattle.phrases.specs.declared.Refusal.TheVariants as refusal
-use Rattle.phrases.specs.Text.{Text, Rule, Depth, Ban}
+use Rattle.phrases.specs.Text.{Text, Ban}
 use Rattle.phrases.specs.Reading.{Fault, Syntax, Passes, Read}
 use Rattle.phrases.specs.Gives.{Fails}
 use Rattle.phrases.specs.Verdict.{whole_read}

@@ -3,7 +3,7 @@ use Rattle.std.proofs.Common.{◌≡◌, ℕ, ◌+◌, ◌≤◌, Bool, true, fa
 use Rattle.std.proofs.lemmas.Bool.{eqb-true}
 use Rattle.phrases.specs.Text.{Lexeme, Text, lexeme_at, symbol_at, is, is_in, Lifted, Rel, many, optional, located, made, ◌⊗◌, ◌⊳◌, ◌⊲◌, ◌∣◌}
 use Rattle.phrases.specs.Reading.{Read, then, turned}
-use Rattle.phrases.proofs.Exact.{Stops, Exact, HasPhrase, Part, pair_exact, turned_exact}
+use Rattle.phrases.proofs.Exact.{Exact, HasPhrase, Part, pair_exact, turned_exact}
 use Rattle.phrases.proofs.Parts.{clash, pair_has, turned_has, optional_has}
 use Rattle.phrases.proofs.Sequences.{stops, Begins, subset, disjoint, meets_first, skip_exact, skip_has, skip_begins, end_exact, end_has, end_begins, pair_begins, or_pair_begins, located_exact, located_has, located_begins, bracketed_exact, bracketed_has, bracketed_begins, separated_exact, separated_has, separated_begins, list_exact, choice_exact}
 use Rattle.idl_grammar.specs.declared.words.Spelling.{Spelling}
@@ -11,7 +11,7 @@ use Rattle.idl_grammar.specs.Symbols as symbol
 use Rattle.idl_grammar.specs.Expressions.{spelled}
 use Rattle.idl_grammar.specs.ReadExpressions.{spelled_read}
 use Rattle.idl_grammar.specs.Grammar.{commas, in_round}
-use Rattle.idl_grammar.specs.Reading.{branch_read, bind_read, commas_read, line_read, unless_read}
+use Rattle.idl_grammar.specs.Reading.{branch_read, commas_read, line_read, unless_read}
 use Rattle.acf_reader.proofs.Combine.{changed_exact, turned_same, spelled_exact, spelled_has, spelled_begins, branch_is, bind_is, bind_alike, unless_exact, before_meets}
 use Rattle.acf_reader.proofs.Combine.{at_exact}
 use Rattle.acf_reader.proofs.Combine.{closing, unless_is}
@@ -21,7 +21,7 @@ use Rattle.acf_reader.specs.Tree as tree
 use Rattle.acf_reader.specs.Tree.{Attributes, Parameter, BodyElement}
 use Rattle.acf_reader.specs.Grammar.{ident, attributes, parameter, parameters, body_element}
 use Rattle.acf_reader.specs.Reading.{ident_read, attributes_read, maybe_attributes_read, parameter_of, parameter_read, parameters_read, signature_read, types_read, include_read, operation_read, element_read, element_firsts, body_read}
-use Rattle.acf_reader.proofs.NamesExact.{name_real, ident_exact, ident_has, ident_begins}
+use Rattle.acf_reader.proofs.NamesExact.{ident_exact, ident_has, ident_begins}
 use Rattle.acf_reader.proofs.AttributesExact.{attributes_exact, attributes_has, attributes_begin, maybe_attributes_exact, maybe_attributes_begin}
 
 -- ## what stands where

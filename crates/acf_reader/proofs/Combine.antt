@@ -1,11 +1,11 @@
 -- Ways to put exact readings together: those of idl_grammar that this grammar needs.
-use Rattle.std.proofs.Common.{◌<◌, arith, ◌≡◌, ℕ, ◌+◌, ◌≤◌, Bool, true, false, cond, List, [], ◌∷◌, length, refl, sym, ap, subst, ◌∙◌, eqb, eq-eqb, Option, Some, None, Ok, Err, ◌⊎◌, inl, inr, ◌||◌, not}
+use Rattle.std.proofs.Common.{◌<◌, arith, ◌≡◌, ℕ, ◌≤◌, Bool, true, false, cond, List, [], ◌∷◌, length, refl, sym, ap, subst, ◌∙◌, eqb, eq-eqb, Option, Some, None, Ok, Err, ◌⊎◌, inl, inr, ◌||◌, not}
 use Rattle.std.proofs.lemmas.Bool.{eqb-true}
 use Rattle.std.proofs.lemmas.Bool.Decides.{eqb_tells}
-use Rattle.phrases.specs.Text.{Lexeme, Text, lexeme_at, symbol_at, is, is_in, Lifted, Rel, mark, optional, located, made, ◌∣◌, ◌⊳◌}
+use Rattle.phrases.specs.Text.{Lexeme, Text, lexeme_at, symbol_at, is, is_in, Lifted, Rel, mark, optional, located, made, ◌⊳◌}
 use Rattle.phrases.specs.Reading.{Read, then, join, turned, choice_read, located_read, behind_read}
-use Rattle.phrases.proofs.Exact.{Stops, Exact, HasPhrase, Meets, Part, turned_exact}
-use Rattle.phrases.proofs.Parts.{clash, token_exact, token_has, of_symbol, mark_exact, marked, optional_exact, optional_has, turned_has}
+use Rattle.phrases.proofs.Exact.{Stops, Exact, HasPhrase, Meets, turned_exact}
+use Rattle.phrases.proofs.Parts.{clash, token_exact, token_has, of_symbol, marked, optional_exact}
 use Rattle.phrases.proofs.Sequences.{stops, Begins, disjoint, subset, apart, in_more, ends_at, skip_exact, located_exact, bracketed_exact, bracketed_has, made_exact}
 use Rattle.idl_grammar.specs.Symbols as symbol
 use Rattle.idl_grammar.specs.Limits.{Meant, symbols_of, value_of}

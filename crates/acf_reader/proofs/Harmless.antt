@@ -2,9 +2,9 @@
 use Rattle.std.proofs.Common.{◌≡◌, ℕ, ◌+◌, ◌<◌, ◌≤◌, Bool, true, false, leb, List, [], ◌∷◌, length, refl, ap, arith, ◌∙◌, eq-eqb, inl, inr, Option, Some, None, Err}
 use Rattle.std.proofs.Math.Decide.{dec_lt}
 use Rattle.std.proofs.lemmas.Bool.{eqb-true}
-use Rattle.phrases.specs.Text.{Lexeme, Text, Phrase, Rel, Lifted, Depth, Ban, symbol_at, is, is_in, nothing, never, mark, token, unless, optional, many, separated, located, bracketed, many_brackets, ◌▹◌, ◌⊗◌}
+use Rattle.phrases.specs.Text.{Lexeme, Text, Phrase, Rel, Lifted, Depth, Ban, symbol_at, is, is_in, nothing, never, mark, token, unless, optional, many, located, bracketed, many_brackets, ◌▹◌, ◌⊗◌}
 use Rattle.phrases.specs.Reading.{Passes, to_unit}
-use Rattle.phrases.specs.Verdict.{derives, limits_before_but, all_but, IsRefused}
+use Rattle.phrases.specs.Verdict.{derives, limits_before_but, all_but}
 use Rattle.phrases.proofs.Parts.{clash}
 use Rattle.idl_grammar.specs.declared.words.Spelling.{Spelling}
 use Rattle.idl_grammar.specs.Symbols as symbol
@@ -20,7 +20,7 @@ use Rattle.acf_reader.specs.Symbols as word
 use Rattle.acf_reader.specs.Symbols.{names}
 use Rattle.acf_reader.specs.Tree as tree
 use Rattle.acf_reader.specs.Tree.{Attributes, Parameter, BodyElement, Acf}
-use Rattle.acf_reader.specs.Grammar.{ident, handle_type, code, attribute_kind, attribute, attributes, parameter, parameters, body_element, acf}
+use Rattle.acf_reader.specs.Grammar.{ident, handle_type, attribute_kind, attribute, attributes, parameter, parameters, body_element, acf}
 use Rattle.acf_reader.specs.Answers.{IsAnswer}
 
 pub record Harmless (p : Phrase) : Type 0 where

@@ -197,11 +197,7 @@ fn attribute_kind(
 
 /// An attribute.
 #[tactic(auto, unfolding(crate::specs::Reading::attribute_read))]
-fn attribute(
-    parser: &Parser<'_>,
-    depth: usize,
-    at: usize,
-) -> Result<(Attribute, usize), Refusal>
+fn attribute(parser: &Parser<'_>, depth: usize, at: usize) -> Result<(Attribute, usize), Refusal>
     requires { at ≤ length parser.now }
     ensures gives { Gives (λ x. x) result (attribute_read parser.now depth at) }
     ensures within { IfOk result (λ x. (at < x.1) × (x.1 ≤ length parser.now)) }

@@ -19,11 +19,7 @@ use phrases::Refusal;
 
 /// A parameter.
 #[tactic(auto, unfolding(crate::specs::Reading::parameter_read))]
-fn parameter(
-    parser: &Parser<'_>,
-    depth: usize,
-    at: usize,
-) -> Result<(Parameter, usize), Refusal>
+fn parameter(parser: &Parser<'_>, depth: usize, at: usize) -> Result<(Parameter, usize), Refusal>
     requires { at ≤ length parser.now }
     ensures gives { Gives seen_parameter result (parameter_read parser.now depth at) }
     ensures within { IfOk result (λ x. (at < x.1) × (x.1 ≤ length parser.now)) }
@@ -252,11 +248,7 @@ fn operation(
 
 /// An element of the body.
 #[tactic(auto, unfolding(crate::specs::Reading::element_read))]
-fn element(
-    parser: &Parser<'_>,
-    depth: usize,
-    at: usize,
-) -> Result<(BodyElement, usize), Refusal>
+fn element(parser: &Parser<'_>, depth: usize, at: usize) -> Result<(BodyElement, usize), Refusal>
     requires { at ≤ length parser.now }
     ensures gives { Gives seen_element result (element_read parser.now depth at) }
     ensures within { IfOk result (λ x. (at < x.1) × (x.1 ≤ length parser.now)) }
@@ -282,11 +274,7 @@ fn begins_element(parser: &Parser<'_>, at: usize) -> bool
 
 /// The elements of the body.
 #[tactic(auto, unfolding(crate::specs::Reading::body_read))]
-fn body(
-    parser: &Parser<'_>,
-    depth: usize,
-    at: usize,
-) -> Result<(Vec<BodyElement>, usize), Refusal>
+fn body(parser: &Parser<'_>, depth: usize, at: usize) -> Result<(Vec<BodyElement>, usize), Refusal>
     requires within { at ≤ length parser.now }
     ensures gives { Gives (λ v. map seen_element v.items) result (body_read parser.now depth at) }
     ensures within { IfOk result (λ x. (at ≤ x.1) × (x.1 ≤ length parser.now)) }

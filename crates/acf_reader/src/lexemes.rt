@@ -6,9 +6,9 @@ ghost use Rattle.idl_parser.specs.Lexemes.{text_of};
 ghost use Rattle.acf_reader.specs.FromIdl.{names_of_idl, symbol_from, seen_word};
 ghost use Rattle.acf_reader.specs.Lexemes.{lexemes as grammar_lexemes};
 
-use crate::words::{OwnWord, OWN_WORDS};
+use crate::words::{OWN_WORDS, OwnWord};
 use idl_lexer::Tokens;
-use idl_parser::lexemes::{lexemes as idl_lexemes, Lexeme};
+use idl_parser::lexemes::{Lexeme, lexemes as idl_lexemes};
 use idl_parser::symbol;
 use std::alloc::{AllocError, Global};
 

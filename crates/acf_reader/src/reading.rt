@@ -17,7 +17,7 @@ use crate::lexemes::lexemes;
 use crate::tree::Acf;
 use idl_lexer::Tokens;
 use idl_parser::parser::Parser;
-use idl_parser::{symbol, SyntaxFault};
+use idl_parser::{SyntaxFault, symbol};
 use phrases::Refusal;
 use std::alloc::Global;
 

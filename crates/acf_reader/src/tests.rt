@@ -62,12 +62,14 @@ fn keeps_names_and_octets(rt: HostRuntime) -> Result<(), Fail> {
     )?;
     assert_eq!(rt; (file.at, file.name.at), (1, 29));
     assert_eq!(rt; file.name.octets.as_slice(), b"dir".as_slice());
-    let Some(BodyElement::Operation {
-        at,
-        attributes,
-        name,
-        parameters,
-    }) = file.body.get(0)
+    let Some(
+        BodyElement::Operation {
+            at,
+            attributes,
+            name,
+            parameters,
+        },
+    ) = file.body.get(0)
     else {
         panic!(rt; "another tree");
     };
@@ -79,7 +81,10 @@ fn keeps_names_and_octets(rt: HostRuntime) -> Result<(), Fail> {
     let Some(list) = &parameter.attributes else {
         panic!(rt; "another tree");
     };
-    assert_eq!(rt; (list.at, list.list.iter().all(|a| is_heap_at(a, 40))), (39, true));
+    assert_eq!(rt;
+        (list.at, list.list.iter().all(|a| is_heap_at(a, 40))),
+        (39, true)
+    );
     let Some(BodyElement::Include { at, files }) = file.body.get(1) else {
         panic!(rt; "another tree");
     };

@@ -70,7 +70,10 @@ pub struct Parameter {
 #[derive(Debug, Drop)]
 pub enum BodyElement {
     /// `include`, and at least one string with its quotes. The files are not opened.
-    Include { at: u32, files: Vec<Spelling> },
+    Include {
+        at: u32,
+        files: Vec<Spelling>,
+    },
     /// Attributes of types, of which there is at least one.
     Types {
         at: u32,

@@ -1,6 +1,6 @@
-use Rattle.std.proofs.Common.{◌≡◌, ◌≢◌, ℕ, suc, ◌+◌, ◌-◌, ◌<◌, ◌≤◌, List, [], ◌∷◌, ◌++◌, map, option_map, length, arith, sym, ap, true, false}
-use Rattle.phrases.specs.Text.{symbol_at, is, is_in}
-use Rattle.phrases.specs.Reading.{behind_read, separated_read, some_read, list_read}
+use Rattle.std.proofs.Common.{◌-◌, ◌<◌, [], ◌∷◌, length}
+use Rattle.phrases.specs.Text.{is_in}
+use Rattle.phrases.specs.Reading.{behind_read, separated_read}
 use Rattle.phrases.proofs.Gathered.{Gathered}
 use Rattle.idl_grammar.specs.Symbols as symbol
 use Rattle.acf_reader.specs.Reading.{attribute_read}

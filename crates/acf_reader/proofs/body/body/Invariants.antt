@@ -1,9 +1,8 @@
-use Rattle.std.proofs.Common.{◌≡◌, ◌≢◌, ℕ, suc, ◌+◌, ◌-◌, ◌<◌, ◌≤◌, List, [], ◌∷◌, ◌++◌, map, option_map, length, arith, sym, ap, true, false}
-use Rattle.phrases.specs.Text.{symbol_at, is, is_in}
-use Rattle.phrases.specs.Reading.{behind_read, separated_read, some_read, list_read}
+use Rattle.std.proofs.Common.{◌-◌, ◌≤◌, map, length}
+use Rattle.phrases.specs.Text.{is_in}
+use Rattle.phrases.specs.Reading.{list_read}
 use Rattle.phrases.proofs.Gathered.{Gathered}
-use Rattle.idl_grammar.specs.Symbols as symbol
-use Rattle.acf_reader.specs.Reading.{element_read, body_read, element_firsts}
+use Rattle.acf_reader.specs.Reading.{element_read, element_firsts}
 use Rattle.acf_reader.specs.Seen.{seen_element}
 use Rattle.acf_reader.proofs.body.body.Given as goal
 

@@ -1,13 +1,13 @@
-use Rattle.std.proofs.Common.{◌≡◌, ◌≢◌, ℕ, suc, ◌+◌, ◌-◌, ◌<◌, ◌≤◌, List, [], ◌∷◌, ◌++◌, map, option_map, length, arith, sym, ap, true, false}
+use Rattle.std.proofs.Common.{◌≡◌, [], ◌∷◌, ◌++◌, map, arith, true, false}
 use Rattle.phrases.specs.Text.{symbol_at, is, is_in}
-use Rattle.phrases.specs.Reading.{behind_read, separated_read, some_read, list_read}
-use Rattle.phrases.proofs.Gathered.{Gathered, gathers, gathering_fails, gathered}
+use Rattle.phrases.specs.Reading.{behind_read, separated_read}
+use Rattle.phrases.proofs.Gathered.{gathers, gathering_fails, gathered}
 use Rattle.idl_grammar.specs.Symbols as symbol
 use Rattle.std.proofs.lemmas.Result.{err_from_is_err_and}
 use Rattle.std.proofs.lemmas.List.{map_push}
 use Rattle.acf_reader.specs.Reading.{parameter_read}
 use Rattle.acf_reader.specs.Seen.{seen_parameter}
-use Rattle.idl_parser.proofs.Lists.{alone, separated_begins, some_begins, list_begins}
+use Rattle.idl_parser.proofs.Lists.{alone, separated_begins}
 use Rattle.acf_reader.proofs.body.parameter_list.Goals as goal
 
 pub loop-list-init : goal.loop-list-init

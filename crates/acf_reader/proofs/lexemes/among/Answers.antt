@@ -1,4 +1,4 @@
-use Rattle.std.proofs.Common.{◌≡◌, ◌∙◌, sym, refl}
+use Rattle.std.proofs.Common.{◌∙◌, sym, refl}
 use Rattle.acf_reader.proofs.Tables.{first_is, first_is_not, none_left}
 use Rattle.acf_reader.proofs.lexemes.among.Goals as goal
 

@@ -1,4 +1,4 @@
-use Rattle.std.proofs.Common.{◌≡◌, refl, sym, ap, ◌∙◌, map, List}
+use Rattle.std.proofs.Common.{refl, sym, ap, ◌∙◌, map, List}
 use Rattle.std.proofs.lemmas.List.{map_push}
 use Rattle.idl_parser.specs.declared.lexemes.Lexeme.{Lexeme}
 use Rattle.idl_parser.specs.Lexemes.{text_of, seen_lexeme}

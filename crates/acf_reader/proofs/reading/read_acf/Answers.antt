@@ -1,4 +1,4 @@
-use Rattle.std.proofs.Common.{◌≡◌, ◌<◌, length, refl, sym, ap, subst, arith, ◌∙◌, Result}
+use Rattle.std.proofs.Common.{◌≡◌, length, sym, ap, subst, arith, ◌∙◌, Result}
 use Rattle.std.proofs.lemmas.List.{length-map}
 use Rattle.phrases.specs.Text.{Text}
 use Rattle.phrases.specs.Reading.{Fault}
