@@ -1,0 +1,52 @@
+-- No token of a text is the end.
+use Rattle.std.proofs.Common.{◌≡◌, ℕ, zero, suc, Bool, true, false, cond, eqb, not, List, [], ◌∷◌, map, refl, ap, arith}
+use Rattle.std.specs.List.{list_all}
+use Rattle.std.specs.Str.{bytes_eq}
+use Rattle.phrases.specs.Text.{Lexeme}
+use Rattle.phrases.specs.Gives.{IsText}
+use Rattle.phrases.proofs.Parts.{clash}
+use Rattle.phrases.proofs.Sequences.{both}
+use Rattle.idl_lexer.specs.declared.tokens.TokenKind.{TokenKind}
+use Rattle.idl_lexer.specs.declared.tokens.TokenKind.TheVariants as token
+use Rattle.idl_lexer.specs.declared.tokens.Token.{Token}
+use Rattle.idl_lexer.specs.Lexed.{Lexed}
+use Rattle.idl_grammar.specs.Symbols.{Spelled, marks}
+use Rattle.idl_grammar.specs.Symbols as symbol
+use Rattle.idl_grammar.specs.Lexemes.{symbol_among}
+use Rattle.acf_reader.specs.Lexemes.{words, symbol_of, lexeme_of, lexemes}
+
+-- no word of a list has the number of the end
+abbrev are_real : List Spelled → Bool
+are_real list = list_all (λ s. not (eqb s.symbol 0)) list
+
+not_zero : (b : Bool) → not b ≡ true → b ≡ false
+not_zero false h = refl
+not_zero true h = clash false h refl
+
+cond_real : (b : Bool) (m n : ℕ) → eqb m 0 ≡ false → eqb n 0 ≡ false → eqb (cond b m n) 0 ≡ false
+cond_real true m n p q = p
+cond_real false m n p q = q
+
+among_real : (list : List Spelled) (otherwise : ℕ) (octets : List ℕ) → are_real list ≡ true → eqb otherwise 0 ≡ false → eqb (symbol_among list otherwise octets) 0 ≡ false
+among_real [] otherwise octets h o = o
+among_real (s ∷ others) otherwise octets h o =
+    let parts = both (not (eqb s.symbol 0)) (are_real others) h in
+    cond_real (bytes_eq octets s.octets) s.symbol (symbol_among others otherwise octets) (not_zero (eqb s.symbol 0) parts.0) (among_real others otherwise octets parts.1 o)
+
+symbol_real : (kind : TokenKind) (octets : List ℕ) → eqb (symbol_of kind octets) 0 ≡ false
+unfolding symbol_of words
+symbol_real token.Word octets = among_real words symbol.Name octets refl refl
+symbol_real token.Uuid octets = refl
+symbol_real token.Number octets = refl
+symbol_real token.Char octets = refl
+symbol_real token.Str octets = refl
+symbol_real token.Mark octets = among_real marks symbol.Unknown octets refl refl
+
+all_real : (text : List ℕ) (tokens : List Token) → IsText (map (lexeme_of text) tokens)
+all_real text [] i lt e = absurd (omega arith)
+all_real text (t ∷ ts) zero lt e =
+    clash (eqb (lexeme_of text t).symbol 0) (ap (λ (l : Lexeme). eqb l.symbol 0) e) (symbol_real t.kind _)
+all_real text (t ∷ ts) (suc i) lt e = all_real text ts i (omega arith) e
+
+pub lexemes_real : (lexed : Lexed) → IsText (lexemes lexed)
+lexemes_real lexed = all_real lexed.text lexed.tokens

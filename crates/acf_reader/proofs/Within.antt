@@ -1,0 +1,29 @@
+-- A name stands in the text; `code`, or a banned word in its place.
+use Rattle.std.proofs.Common.{◌≡◌, ℕ, ◌+◌, ◌<◌, Bool, true, false, ◌||◌, cond, length, refl, ap, Ok, Err}
+use Rattle.phrases.specs.Text.{Text, symbol_at, is, is_in, Ban}
+use Rattle.phrases.specs.Reading.{Read, Syntax, Passes, mark_read}
+use Rattle.phrases.proofs.Within.{test_within}
+use Rattle.idl_grammar.specs.Symbols as symbol
+use Rattle.acf_reader.specs.Symbols as word
+use Rattle.acf_reader.specs.Symbols.{names}
+use Rattle.acf_reader.specs.Reading.{code_read}
+use Rattle.acf_reader.proofs.NamesExact.{name_real}
+
+pub name_within : (t : Text) (i : ℕ) (inside : Bool) → is_in (names inside) (symbol_at t i) ≡ true → i < length t
+name_within t i inside h = test_within t i (λ s. is_in (names inside) s) (name_real inside) h
+
+pub banned_here : (t : Text) (i : ℕ) → is (symbol_at t i) symbol.BannedAttribute ≡ true → code_read t i ≡ Err (Passes Ban i)
+banned_here t i h = rw h (by_case (is (symbol_at t i) word.Code)) where
+  by_case : (b : Bool) → cond {A = Read (Unit {0})} (b || true) (Err (Passes Ban i)) (Err (Syntax i)) ≡ Err (Passes Ban i)
+  by_case true = refl
+  by_case false = refl
+
+abbrev here : ℕ → Bool → Read (Unit {0})
+here i b = cond b (Ok (tt, i + 1)) (Err (Syntax i))
+
+or_false : (b : Bool) → (b || false) ≡ b
+or_false true = refl
+or_false false = refl
+
+pub not_banned : (t : Text) (i : ℕ) → is (symbol_at t i) symbol.BannedAttribute ≡ false → code_read t i ≡ mark_read word.Code t i
+not_banned t i h = rw h (ap (here i) (or_false (is (symbol_at t i) word.Code)))

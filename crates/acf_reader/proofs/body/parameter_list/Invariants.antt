@@ -1,0 +1,15 @@
+use Rattle.std.proofs.Common.{◌-◌, ◌<◌, [], ◌∷◌, map, length}
+use Rattle.phrases.specs.Text.{is_in}
+use Rattle.phrases.specs.Reading.{behind_read, separated_read}
+use Rattle.phrases.proofs.Gathered.{Gathered}
+use Rattle.idl_grammar.specs.Symbols as symbol
+use Rattle.acf_reader.specs.Reading.{parameter_read}
+use Rattle.acf_reader.specs.Seen.{seen_parameter}
+use Rattle.acf_reader.proofs.body.parameter_list.Given as goal
+
+-- what is gathered so far
+abbrev pub invariant-loop-list : goal.invariant-loop-list
+invariant-loop-list l = Gathered (λ a. is_in (symbol.Comma ∷ []) a.symbol) (behind_read symbol.Comma l.parser (parameter_read l.parser l.depth)) l.parser (separated_read symbol.Comma l.parser (parameter_read l.parser l.depth) l.at) (map seen_parameter l.list.items) l.here × (l.at < l.here)
+
+abbrev pub decreases-loop-list : goal.decreases-loop-list
+decreases-loop-list l = length l.parser - l.here

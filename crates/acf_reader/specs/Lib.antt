@@ -1,0 +1,10 @@
+pub mod Symbols
+pub mod Lexemes
+pub mod FromIdl
+pub mod Tree
+pub mod Grammar
+pub mod Seen
+pub mod Reading
+pub mod Answers
+pub mod Examples
+pub mod Told

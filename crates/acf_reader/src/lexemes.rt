@@ -1,0 +1,87 @@
+// Tokens as the grammar sees them.
+ghost use Rattle.std.specs.Prelude.{◌≡◌, map, IfOk};
+ghost use Rattle.phrases.specs.Text.{is_in};
+ghost use Rattle.idl_grammar.specs.Lexemes.{symbol_among};
+ghost use Rattle.idl_parser.specs.Lexemes.{text_of};
+ghost use Rattle.acf_reader.specs.FromIdl.{names_of_idl, symbol_from, seen_word};
+ghost use Rattle.acf_reader.specs.Lexemes.{lexemes as grammar_lexemes};
+
+use crate::words::{OWN_WORDS, OwnWord};
+use idl_lexer::Tokens;
+use idl_parser::lexemes::{Lexeme, lexemes as idl_lexemes};
+use idl_parser::symbol;
+use std::alloc::{AllocError, Global};
+
+/// The symbols of names of IDL, and of words with which its attributes begin: all of them are names here, but for the file's own words.
+static NAMES_OF_IDL: [u8; 23] = [
+    symbol::NAME,
+    symbol::UUID,
+    symbol::VERSION,
+    symbol::ENDPOINT,
+    symbol::LOCAL,
+    symbol::POINTER_DEFAULT,
+    symbol::REF,
+    symbol::UNIQUE,
+    symbol::PTR,
+    symbol::IN,
+    symbol::OUT,
+    symbol::STRING,
+    symbol::CONTEXT_HANDLE,
+    symbol::SIZE_IS,
+    symbol::MAX_IS,
+    symbol::LENGTH_IS,
+    symbol::FIRST_IS,
+    symbol::LAST_IS,
+    symbol::SWITCH_IS,
+    symbol::SWITCH_TYPE,
+    symbol::IDEMPOTENT,
+    symbol::BROADCAST,
+    symbol::MAYBE,
+];
+
+/// Whether a word of this symbol in IDL is a mere name here, if it is none of the file's own.
+#[tactic(auto, unfolding(crate::specs::FromIdl::names_of_idl))]
+fn is_name_of_idl(symbol: u8) -> bool
+    ensures { result ≡ is_in names_of_idl symbol }
+{
+    NAMES_OF_IDL.iter().any(|other| symbol == *other)
+}
+
+/// The symbol that is spelled so, or another where the table has none.
+fn among(table: &[OwnWord], otherwise: u8, octets: &[u8]) -> u8
+    ensures { result ≡ symbol_among (map seen_word table.now) otherwise octets.now }
+{
+    for entry in table {
+        if octets == entry.octets {
+            return entry.symbol;
+        }
+    }
+    otherwise
+}
+
+/// The symbol of a token, from the one that it has in IDL.
+#[tactic(auto, unfolding(crate::specs::FromIdl::symbol_from))]
+fn own_symbol(symbol: u8, octets: &[u8]) -> u8
+    ensures { result ≡ symbol_from symbol octets.now }
+{
+    if !is_name_of_idl(symbol) {
+        return symbol;
+    }
+    among(&OWN_WORDS, symbol::NAME, octets)
+}
+
+/// The tokens of a text as the grammar sees them.
+pub(crate) fn lexemes(alloc: Global, tokens: &Tokens) -> Result<Vec<Lexeme<'_>>, AllocError>
+    ensures { IfOk result (λ v. text_of v.items ≡ grammar_lexemes tokens.now) }
+{
+    let in_idl = idl_lexemes(alloc, tokens)?;
+    let mut list = Vec::with_capacity(alloc, in_idl.len())?;
+    for lexeme in &in_idl {
+        list.push(Lexeme {
+            symbol: own_symbol(lexeme.symbol, lexeme.octets),
+            at: lexeme.at,
+            octets: lexeme.octets,
+        })?;
+    }
+    Ok(list)
+}

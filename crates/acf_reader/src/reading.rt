@@ -1,0 +1,91 @@
+// Whole texts.
+ghost use Rattle.std.specs.Prelude.{◌≡◌, ◌≤◌, ◌<◌, length, Result};
+ghost use Rattle.phrases.specs.Reading.{Fault};
+ghost use Rattle.phrases.specs.Gives.{GivesWhole};
+ghost use Rattle.phrases.specs.Verdict.{whole_read};
+ghost use Rattle.idl_grammar.specs.Answers.{is_banned};
+ghost use Rattle.idl_parser.specs.Answered.{IsWithin, IsNamed};
+ghost use Rattle.acf_reader.specs.Answers.{IsAnswer, acf_answer};
+ghost use Rattle.acf_reader.specs.Lexemes.{lexemes as grammar_lexemes};
+ghost use Rattle.acf_reader.specs.Reading.{acf_read};
+ghost use Rattle.acf_reader.specs.Seen.{seen_acf};
+ghost use Rattle.acf_reader.specs.Told.{Told};
+ghost use Rattle.acf_reader.specs.Tree as tree;
+
+use crate::body::acf;
+use crate::lexemes::lexemes;
+use crate::tree::Acf;
+use idl_lexer::Tokens;
+use idl_parser::parser::Parser;
+use idl_parser::{SyntaxFault, symbol};
+use phrases::Refusal;
+use std::alloc::Global;
+
+/// A file as the whole text.
+fn whole(parser: &Parser<'_>) -> Result<Acf, Refusal>
+    ensures { GivesWhole seen_acf result (whole_read (acf_read parser.now 0) parser.now) }
+{
+    let (tree, at) = acf(parser, 0)?;
+    if at != parser.count() {
+        return Err(Refusal::Syntax(at));
+    }
+    Ok(tree)
+}
+
+/// Whether a word stands at a place that is banned anywhere.
+#[tactic(auto, unfolding(idl_grammar::specs::Answers::is_banned))]
+fn stands_banned(parser: &Parser<'_>, at: usize) -> bool
+    ensures { result ≡ is_banned parser.now at }
+{
+    parser.stands(symbol::BANNED, at)
+}
+
+/// The fault of a refusal: a word that is banned anywhere is named as such.
+fn fault_of(parser: &Parser<'_>, refusal: Refusal) -> SyntaxFault
+    requires few { length parser.now < 4294967296 }
+    requires within { IsWithin refusal (length parser.now) }
+    ensures { IsNamed parser.now refusal result }
+{
+    match refusal {
+        Refusal::Memory => SyntaxFault::Memory,
+        Refusal::Syntax(at) => {
+            let token = at as u32;
+            if stands_banned(parser, at) {
+                SyntaxFault::Banned { token }
+            } else {
+                SyntaxFault::Syntax { token }
+            }
+        }
+        Refusal::Deep(at) => SyntaxFault::Deep { token: at as u32 },
+        Refusal::Banned(at) => SyntaxFault::Banned { token: at as u32 },
+    }
+}
+
+/// The tree of a file, or its first fault.
+fn answer(parser: &Parser<'_>) -> Result<Acf, SyntaxFault>
+    requires few { length parser.now < 4294967296 }
+    ensures { Told (λ a. acf_answer parser.now ≡ a) result }
+{
+    match whole(parser) {
+        Ok(tree) => Ok(tree),
+        Err(refusal) => Err(fault_of(parser, refusal)),
+    }
+}
+
+/// The tree of an attribute configuration file (C706, section 4.3). The files of `include` are not opened.
+///
+/// # Errors
+/// The first token with which no file goes on: Banned for a word of the language that this compiler leaves out, otherwise
+/// Syntax, with the count of tokens where the text ends too early. Deep never comes, as four brackets at most are open.
+/// Memory where memory was wanting.
+///
+/// Takes memory for the tree and, while it runs, for two entries a token. Looks at each token a bounded number of times.
+pub fn read_acf(alloc: Global, tokens: &Tokens) -> Result<Acf, SyntaxFault>
+    ensures answer { Told (λ a. IsAnswer (grammar_lexemes tokens.now) a) result }
+    ensures only { (v : Result tree.Acf Fault) → IsAnswer (grammar_lexemes tokens.now) v → Told (λ a. v ≡ a) result }
+{
+    let _count = tokens.count();
+    let list = lexemes(alloc, tokens)?;
+    let parser = Parser::new(alloc, &list);
+    answer(&parser)
+}
