@@ -1,0 +1,14 @@
+pub mod Whole
+pub mod Operators
+pub mod Value
+pub mod Checked
+pub mod Example
+pub mod Steps
+pub mod Known
+pub mod Tables
+pub mod Sources
+pub mod Files
+pub mod Ended
+pub mod Walk
+pub mod Seen
+pub mod Causes

@@ -1,0 +1,181 @@
+// The value of a constant expression (C706, section 4.2.7).
+ghost use Rattle.std.specs.Prelude.{◌≡◌, ℕ, ℤ, List, Bool, Option};
+ghost use Rattle.idl_grammar.specs.Seen.{seen_expr};
+ghost use Rattle.idl_lexer.specs.Numbers.{number_of as number_of_octets};
+ghost use Rattle.idl_names.specs.Value as values;
+
+use crate::operators::{binary_value, in_range, is_decided, unary_value};
+use crate::whole::{is_zero, truth};
+use crate::{ConstFault, ExpressionFault, ValueFault};
+use idl_grammar::{BinaryOperator, Expr, Operand, Spelling};
+use idl_lexer::number_of;
+
+/// What is known of names.
+pub trait Names {
+    /// Which names are known.
+    ghost known: { Self → List ℕ → Bool };
+
+    /// The values of those that stand for numbers.
+    ghost numbers: { Self → List ℕ → Option ℤ };
+
+    /// Whether a name is known.
+    fn is_known(&self, name: &[u8]) -> bool
+        ensures { result ≡ known self.now name.now };
+
+    /// The value of a name, where it stands for a number.
+    fn number(&self, name: &[u8]) -> Option<i128>
+        ensures { result ≡ numbers self.now name.now };
+}
+
+/// What an escape stands for.
+fn escaped(octet: u8) -> u8
+    ensures { result ≡ values.escaped octet }
+{
+    match octet {
+        b'a' => 7,
+        b'b' => 8,
+        b'f' => 12,
+        b'n' => 10,
+        b'r' => 13,
+        b't' => 9,
+        b'v' => 11,
+        _ => octet,
+    }
+}
+
+/// The value of a character between its quotes.
+fn character_value(octets: &[u8]) -> u8
+    ensures { result ≡ values.character_value octets.now }
+{
+    match octets {
+        [_, b'\\', escape, ..] => escaped(*escape),
+        [_, octet, _, ..] => *octet,
+        _ => 0,
+    }
+}
+
+fn number_value(spelling: &Spelling) -> Result<i128, ValueFault>
+    ensures { result ≡ values.some_number spelling.now.at (number_of_octets spelling.now.octets) }
+{
+    match number_of(spelling.octets.as_slice()) {
+        Some(number) => Ok(i128::from(number)),
+        None => Err(ValueFault {
+            at: spelling.at,
+            fault: ConstFault::OutOfRange,
+        }),
+    }
+}
+
+fn name_value<N: Names>(names: &N, name: &Spelling) -> Result<i128, ValueFault>
+    ensures { result ≡ values.some_constant name.now.at (N.numbers names.now name.now.octets) }
+{
+    match names.number(name.octets.as_slice()) {
+        Some(number) => Ok(number),
+        None => Err(ValueFault {
+            at: name.at,
+            fault: ConstFault::NotConst,
+        }),
+    }
+}
+
+fn operand_value<N: Names>(names: &N, operand: &Operand) -> Result<i128, ValueFault>
+    ensures { result ≡ values.operand_value (N.numbers names.now) operand.now }
+{
+    match operand {
+        Operand::Number(spelling) => number_value(spelling),
+        Operand::Character(spelling) => {
+            Ok(i128::from(character_value(spelling.octets.as_slice())))
+        }
+        Operand::Name(spelling) => name_value(names, spelling),
+        Operand::True(_) => Ok(1),
+        Operand::False(_) => Ok(0),
+    }
+}
+
+/// The value of an expression, or its first fault, operands from left to right. `&&`, `||` and `?:` leave the
+/// operand that C leaves unevaluated. Takes no memory.
+pub fn value<N: Names>(names: &N, expression: &Expr) -> Result<i128, ValueFault>
+    ensures { result ≡ values.value (N.numbers names.now) (seen_expr expression.now) }
+{
+    match expression {
+        Expr::Leaf(operand) => operand_value(names, operand),
+        Expr::Round { inner, .. } => value(names, inner),
+        Expr::Unary {
+            at,
+            operator,
+            operand,
+        } => unary_value(*at, *operator, value(names, operand)?),
+        Expr::Binary {
+            left,
+            at,
+            operator,
+            right,
+        } => {
+            let first = value(names, left)?;
+            if is_decided(*operator, first) {
+                return Ok(truth(!is_zero(first)));
+            }
+            binary_value(*at, *operator, first, value(names, right)?)
+        }
+        Expr::Conditional {
+            condition,
+            at,
+            then,
+            otherwise,
+        } => {
+            let chosen = if is_zero(value(names, condition)?) {
+                otherwise
+            } else {
+                then
+            };
+            in_range(*at, Some(value(names, chosen)?))
+        }
+    }
+}
+
+/// The octet of a name that is not known.
+fn unknown_operand<N: Names>(names: &N, operand: &Operand) -> Option<u32>
+    ensures { result ≡ values.unknown_operand (N.known names.now) operand.now }
+{
+    match operand {
+        Operand::Name(name) if !names.is_known(name.octets.as_slice()) => Some(name.at),
+        _ => None,
+    }
+}
+
+/// The octet of the first name of an expression that is not known, evaluated or not.
+fn first_unknown<N: Names>(names: &N, expression: &Expr) -> Option<u32>
+    ensures { result ≡ values.first_unknown (N.known names.now) (seen_expr expression.now) }
+{
+    match expression {
+        Expr::Leaf(operand) => unknown_operand(names, operand),
+        Expr::Round { inner, .. } => first_unknown(names, inner),
+        Expr::Unary { operand, .. } => first_unknown(names, operand),
+        Expr::Binary { left, right, .. } => {
+            let first = first_unknown(names, left);
+            first.or(first_unknown(names, right))
+        }
+        Expr::Conditional {
+            condition,
+            then,
+            otherwise,
+            ..
+        } => {
+            let first = first_unknown(names, condition).or(first_unknown(names, then));
+            first.or(first_unknown(names, otherwise))
+        }
+    }
+}
+
+/// The value of an expression all of whose names are known; else the fault that stands first in the text: a name
+/// that is not known, evaluated or not, or the fault of the value. Takes no memory.
+pub fn evaluate<N: Names>(names: &N, expression: &Expr) -> Result<i128, ExpressionFault>
+    ensures { result ≡ values.evaluated (N.known names.now) (N.numbers names.now) (seen_expr expression.now) }
+{
+    match (first_unknown(names, expression), value(names, expression)) {
+        (None, Ok(value)) => Ok(value),
+        (None, Err(fault)) => Err(ExpressionFault::Const(fault)),
+        (Some(at), Err(fault)) if fault.at < at => Err(ExpressionFault::Const(fault)),
+        (Some(at), _) => Err(ExpressionFault::Unknown { at }),
+    }
+}
