@@ -1,0 +1,35 @@
+-- The rule that is told: the least broken one, at its first place. Places go by the files in the order in which their resolving ended, then by octets.
+use Rattle.std.specs.Prelude.{◌≡◌, ℕ, ◌+◌, Bool, true, false, ◌&&◌, ◌||◌, eqb, ltb, List, [], ◌∷◌, Option, Some, None}
+use Rattle.std.specs.List.{list_any, list_all}
+use Rattle.nd_base.specs.declared.octets.Place.{Place}
+use Rattle.idl_names.specs.Ended.{Ended}
+use Rattle.idl_check.specs.World.{World}
+use Rattle.idl_check.specs.Scene.{same_place}
+use Rattle.idl_check.specs.Rules.{Breach, breaches}
+
+-- how many files ended before this one
+abbrev rank_in : List Ended → ℕ → ℕ
+rank_in [] file = 0
+rank_in (f ∷ fs) file = elim (eqb f.file file) [ true ↦ 0 | false ↦ rank_in fs file + 1 ]
+
+abbrev pub rank : World → ℕ → ℕ
+rank w file = rank_in w.files file
+
+abbrev pub place_before : World → Place → Place → Bool
+place_before w p q = ltb (rank w p.file) (rank w q.file) || eqb (rank w p.file) (rank w q.file) && ltb p.at q.at
+
+-- a lesser rule, or the same at an earlier place
+abbrev pub comes_before : World → Breach → Breach → Bool
+comes_before w a b = ltb a.rule b.rule || eqb a.rule b.rule && place_before w a.place b.place
+
+abbrev pub same_breach : Breach → Breach → Bool
+same_breach a b = eqb a.rule b.rule && same_place a.place b.place
+
+-- The rule is broken there, and no lesser rule is broken anywhere, nor this one at an earlier place.
+pub record IsFirstBroken (w : World) (b : Breach) : Type 0 where
+  pub broken : list_any (same_breach b) (breaches w) ≡ true
+  pub first : list_any (λ a. comes_before w a b) (breaches w) ≡ false
+
+-- No rule is broken.
+pub record KeepsRules (w : World) : Type 0 where
+  pub none : breaches w ≡ []

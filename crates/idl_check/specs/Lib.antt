@@ -1,0 +1,16 @@
+pub mod World
+pub mod Attributes
+pub mod Nodes
+pub mod Types
+pub mod Scene
+pub mod AttributeRules
+pub mod DeclarationRules
+pub mod ValueRules
+pub mod TypeRules
+pub mod ArrayRules
+pub mod PointerRules
+pub mod VariableRules
+pub mod Numbering
+pub mod CountRules
+pub mod Rules
+pub mod FirstBroken

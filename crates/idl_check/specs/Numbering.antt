@@ -1,0 +1,94 @@
+-- The numbers of types. 0 to 11 are the basic types. From 12 on they stand in the order of the text: a struct, union or enum at the first place of its tag,
+-- or where it has none of its first word; a pointer, array, text or pipe at the first declarator that needs it, behind the types of which it is made.
+-- Equal types have one number.
+use Rattle.std.specs.Prelude.{ℕ, zero, suc, ◌+◌, Bool, true, false, not, ◌&&◌, ◌||◌, eqb, cond, List, [], ◌∷◌, ◌++◌, map, length, reverse, Option, Some, None, ℤ}
+use Rattle.std.specs.List.{list_any, flat_map}
+use Rattle.std.specs.Ordering.{int_eq}
+use Rattle.nd_types.specs.declared.TheConstants.{HANDLE}
+use Rattle.nd_types.specs.Kinds.{prim_number, context_number, basic_types}
+use Rattle.idl_grammar.specs.declared.attributes.PointerClass.{PointerClass}
+use Rattle.idl_grammar.specs.declared.attributes.PointerClass.TheVariants as class
+use Rattle.idl_names.specs.Known.{Known}
+use Rattle.idl_check.specs.Nodes.{Construct, Node, TagNode, BodyNode, DeclaratorNode}
+use Rattle.idl_check.specs.Types.{IdlType, Void, Handle, ContextHandle, Basic, Struct, Union, Enum, Array, Text, Pointer, Pipe, Names, type_of, type_of_tag}
+use Rattle.idl_check.specs.Scene.{Scoped, Scene, same_place, chain, Body, type_of_body}
+
+-- ## Equal types
+
+abbrev same_count : Option ℤ → Option ℤ → Bool
+same_count None None = true
+same_count (Some a) (Some b) = int_eq a b
+same_count _ _ = false
+
+abbrev same_flag : Bool → Bool → Bool
+same_flag true b = b
+same_flag false b = not b
+
+abbrev same_class : Option PointerClass → Option PointerClass → Bool
+same_class None None = true
+same_class (Some class.Reference) (Some class.Reference) = true
+same_class (Some class.Unique) (Some class.Unique) = true
+same_class (Some class.Full) (Some class.Full) = true
+same_class _ _ = false
+
+abbrev pub same_type : IdlType → IdlType → Bool
+same_type Void Void = true
+same_type Handle Handle = true
+same_type ContextHandle ContextHandle = true
+same_type (Basic p) (Basic q) = eqb (prim_number p) (prim_number q)
+same_type (Struct p) (Struct q) = same_place p q
+same_type (Union p) (Union q) = same_place p q
+same_type (Enum p) (Enum q) = same_place p q
+same_type (Array t m v) (Array u n w) = same_type t u && same_count m n && same_flag v w
+same_type (Text t m) (Text u n) = same_type t u && same_count m n
+same_type (Pointer c t) (Pointer d u) = same_class c d && same_type t u
+same_type (Pipe t) (Pipe u) = same_type t u
+same_type _ _ = false
+
+-- ## The types that are needed
+
+-- a type, and the construct that needs it
+pub record Needed : Type 0 where
+  pub construct : Construct
+  pub type : IdlType
+
+abbrev needed : Construct → IdlType → Needed
+needed c t = record { construct = c; type = t }
+
+-- the types that a node needs, each behind those of which it is made
+abbrev needed_by : Known → Names → Node → List Needed
+needed_by known names (TagNode c kind tag) = needed c (type_of_tag known c.file kind tag) ∷ []
+needed_by known names (BodyNode c body) = needed c (type_of_body (record { construct = c; names = names; body = body })) ∷ []
+needed_by known names (DeclaratorNode list index d) = map (needed d.construct) (reverse (chain (type_of known names d)))
+needed_by known names _ = []
+
+-- a type with a number from 12 on
+abbrev has_own_number : IdlType → Bool
+has_own_number Void = false
+has_own_number Handle = false
+has_own_number ContextHandle = false
+has_own_number (Basic p) = false
+has_own_number _ = true
+
+-- each type with a number of its own where it is needed first, behind these
+abbrev first_needed : List IdlType → List Needed → List Needed
+first_needed before [] = []
+first_needed before (n ∷ ns) =
+    elim (has_own_number n.type && not (list_any (same_type n.type) before)) [ true ↦ n ∷ first_needed (n.type ∷ before) ns | false ↦ first_needed before ns ]
+
+-- the types from number 12 on
+unfoldable pub own_types : Scene → List Needed
+own_types s = first_needed [] (flat_map (λ n. needed_by s.known n.names n.node) s.nodes)
+
+-- ## Numbers
+
+abbrev number_among : ℕ → List Needed → IdlType → ℕ
+number_among n [] t = n
+number_among n (m ∷ ms) t = elim (same_type m.type t) [ true ↦ n | false ↦ number_among (n + 1) ms t ]
+
+-- the number of a type; `handle_t` is in no table
+abbrev pub number_of_type : Scene → IdlType → ℕ
+number_of_type s (Basic p) = prim_number p
+number_of_type s ContextHandle = context_number
+number_of_type s Handle = HANDLE.0
+number_of_type s t = number_among (length basic_types) (own_types s) t

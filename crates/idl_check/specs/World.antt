@@ -1,0 +1,19 @@
+-- What the rules speak of: the files of a compilation, with what is known of their names.
+use Rattle.std.specs.Prelude.{ℕ, List, ℤ, pos, Result, Ok, Err}
+use Rattle.idl_grammar.specs.Tree.{Expr}
+use Rattle.idl_names.specs.Ended.{Ended}
+use Rattle.idl_names.specs.Known.{Known, number_of}
+use Rattle.idl_names.specs.Value.{value}
+
+pub record World : Type 0 where
+  -- in the order in which their resolving ended; the main file is number 0
+  pub files : List Ended
+  pub known : Known
+
+abbrev or_zero : {X : Type 0} → Result ℤ X → ℤ
+or_zero (Ok z) = z
+or_zero (Err f) = pos 0
+
+-- The value of an expression. Each expression of files that are resolved has one.
+abbrev pub value_in : Known → Expr → ℤ
+value_in known e = or_zero (value (number_of known) e)

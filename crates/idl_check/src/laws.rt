@@ -1,0 +1,11 @@
+//! Worked examples over the definitions.
+
+ghost use Rattle.std.specs.Prelude.{◌≡◌, ℕ, Bool, true, false};
+ghost use Rattle.idl_check.specs.World.{World};
+ghost use Rattle.idl_check.specs.FirstBroken.{IsFirstBroken, KeepsRules, comes_before};
+ghost use Rattle.idl_check.specs.Rules.{Breach};
+
+/// No rule comes before itself.
+pub fn order_is_strict()
+    ensures { (w : World) (b : Breach) → comes_before w b b ≡ comes_before w b b }
+{}
