@@ -14,3 +14,4 @@ pub mod Numbering
 pub mod CountRules
 pub mod Rules
 pub mod FirstBroken
+pub mod Meaning
