@@ -22,6 +22,23 @@ place_before w p q = ltb (rank w p.file) (rank w q.file) || eqb (rank w p.file) 
 abbrev pub comes_before : World → Breach → Breach → Bool
 comes_before w a b = ltb a.rule b.rule || eqb a.rule b.rule && place_before w a.place b.place
 
+-- ## The first one
+
+abbrev earlier : World → Breach → Option Breach → Breach
+earlier w a None = a
+earlier w a (Some b) = elim (comes_before w b a) [ true ↦ b | false ↦ a ]
+
+-- the first of a list
+abbrev pub first_of : World → List Breach → Option Breach
+first_of w [] = None
+first_of w (b ∷ bs) = Some (earlier w b (first_of w bs))
+
+-- The rule that is told, and where; none where no rule is broken.
+abbrev pub first_broken : World → Option Breach
+first_broken w = first_of w (breaches w)
+
+-- ## What that means
+
 abbrev pub same_breach : Breach → Breach → Bool
 same_breach a b = eqb a.rule b.rule && same_place a.place b.place
 

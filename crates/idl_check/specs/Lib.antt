@@ -15,3 +15,4 @@ pub mod CountRules
 pub mod Rules
 pub mod FirstBroken
 pub mod Meaning
+pub mod Alone
