@@ -16,3 +16,5 @@ pub mod Rules
 pub mod FirstBroken
 pub mod Meaning
 pub mod Alone
+pub mod Texts
+pub mod SmallTexts
