@@ -24,7 +24,7 @@ comes_before w a b = ltb a.rule b.rule || eqb a.rule b.rule && place_before w a.
 
 -- ## The first one
 
-abbrev earlier : World → Breach → Option Breach → Breach
+abbrev pub earlier : World → Breach → Option Breach → Breach
 earlier w a None = a
 earlier w a (Some b) = elim (comes_before w b a) [ true ↦ b | false ↦ a ]
 
@@ -42,11 +42,20 @@ first_broken w = first_of w (breaches w)
 abbrev pub same_breach : Breach → Breach → Bool
 same_breach a b = eqb a.rule b.rule && same_place a.place b.place
 
+-- one stands in a list, and none in it comes before it
+pub record IsFirstOf (w : World) (bs : List Breach) (b : Breach) : Type 0 where
+  pub broken : list_any (same_breach b) bs ≡ true
+  pub first : list_any (λ a. comes_before w a b) bs ≡ false
+
+-- the first of a list, or none of an empty one
+abbrev pub IsLeast : World → List Breach → Option Breach → Type 0
+IsLeast w bs None = bs ≡ []
+IsLeast w bs (Some b) = IsFirstOf w bs b
+
 -- The rule is broken there, and no lesser rule is broken anywhere, nor this one at an earlier place.
-pub record IsFirstBroken (w : World) (b : Breach) : Type 0 where
-  pub broken : list_any (same_breach b) (breaches w) ≡ true
-  pub first : list_any (λ a. comes_before w a b) (breaches w) ≡ false
+abbrev pub IsFirstBroken : World → Breach → Type 0
+IsFirstBroken w b = IsFirstOf w (breaches w) b
 
 -- No rule is broken.
-pub record KeepsRules (w : World) : Type 0 where
-  pub none : breaches w ≡ []
+abbrev pub KeepsRules : World → Type 0
+KeepsRules w = breaches w ≡ []
