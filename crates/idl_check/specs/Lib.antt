@@ -15,6 +15,7 @@ pub mod CountRules
 pub mod Rules
 pub mod FirstBroken
 pub mod Meaning
+pub mod Answers
 pub mod Alone
 pub mod Texts
 pub mod SmallTexts

@@ -136,23 +136,28 @@ abbrev or_handle : Option IdlType → IdlType
 or_handle (Some t) = t
 or_handle None = Handle
 
+-- A struct of these members. By the grammar it has one.
+abbrev struct_of : List Field → TypeDef
+struct_of [] = def.Enum []
+struct_of (f ∷ fs) = def.Struct (f ∷ fs)
+
 -- a struct, union or enum, by its body
 abbrev defined : Scene → Body → TypeDef
 defined s b = elim b.body [
-  | tree.Struct at tag _ ↦ def.Struct (map (field s b.names (parts_declared b.construct b.body)) (parts_declared b.construct b.body))
+  | tree.Struct at tag _ ↦ struct_of (map (field s b.names (parts_declared b.construct b.body)) (parts_declared b.construct b.body))
   | tree.EncapsulatedUnion at tag d name cases ↦
       def.Union (number s (or_handle (tag_type b.construct b.names b.body))) true (labelled_arms s b) (default_arm s b)
   | tree.NonEncapsulatedUnion at tag arms ↦
       def.Union (number s (or_handle (tag_type b.construct b.names b.body))) false (labelled_arms s b) (default_arm s b)
   | tree.Enum at tag es ↦ def.Enum (map (λ e. or_zero (known_names.number_of s.known e.name.octets)) es)
-  | tree.Simple t ↦ def.Struct []
-  | tree.Name n ↦ def.Struct []
-  | tree.Tag at kind tag ↦ def.Struct []
+  | tree.Simple t ↦ def.Enum []
+  | tree.Name n ↦ def.Enum []
+  | tree.Tag at kind tag ↦ def.Enum []
 ]
 
--- Each tag has its body.
+-- Each tag has its body in files that are resolved. Without one it has no values, so that the table is legal whatever the files are.
 abbrev defined_at : Scene → Option Body → TypeDef
-defined_at s None = def.Struct []
+defined_at s None = def.Enum []
 defined_at s (Some b) = defined s b
 
 -- what a type is in the table
@@ -239,5 +244,5 @@ main_among [] = []
 main_among (f ∷ fs) = elim (eqb f.file 0) [ true ↦ f.tree ∷ [] | false ↦ main_among fs ]
 
 -- The interface that the main file declares, beside the files that it imports.
-abbrev pub meaning : World → List Meant
+unfoldable pub meaning : World → List Meant
 meaning w = map (header_meant (scene_of w)) (main_among w.files)

@@ -256,5 +256,5 @@ file_nodes f =
     HeaderNode (header_of f) f.tree.attributes.at ∷ attribute_nodes (header_of f) ++ flat_map (export_nodes (eqb f.file 0) (header_of f)) f.tree.exports
 
 -- The files stand in the order in which their resolving ended.
-abbrev pub nodes : World → List Node
+unfoldable pub nodes : World → List Node
 nodes w = flat_map file_nodes w.files

@@ -105,5 +105,5 @@ breaches_at s names (OperationNode c name parameters result) = []
 abbrev pub breaches_in : Scene → List Breach
 breaches_in s = flat_map (λ n. breaches_at s n.names n.node) s.nodes ++ map (λ c. breach 39 (place_in c c.at)) (too_many s)
 
-abbrev pub breaches : World → List Breach
+unfoldable pub breaches : World → List Breach
 breaches w = breaches_in (scene_of w)

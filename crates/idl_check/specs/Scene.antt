@@ -36,7 +36,7 @@ abbrev pub scoped_from : Known → Names → List Node → List Scoped
 scoped_from known names [] = []
 scoped_from known names (n ∷ ns) = record { names = names; node = n } ∷ scoped_from known (names_behind known names n) ns
 
-abbrev pub scene_of : World → Scene
+unfoldable pub scene_of : World → Scene
 scene_of w = record { known = w.known; nodes = scoped_from w.known [] (nodes w) }
 
 -- ## Bodies

@@ -1,9 +1,13 @@
 //! Laws over the definitions, and worked examples.
 
-ghost use Rattle.std.specs.Prelude.{◌≡◌, map};
+ghost use Rattle.std.specs.Prelude.{◌≡◌, ℕ, map, Ok, Err};
+ghost use Rattle.nd_base.specs.declared.octets.Place.{Place};
 ghost use Rattle.idl_check.specs.World.{World};
-ghost use Rattle.idl_check.specs.Rules.{breaches};
+ghost use Rattle.idl_check.specs.Rules.{breach, breaches};
 ghost use Rattle.idl_check.specs.FirstBroken.{first_broken, IsLeast};
+ghost use Rattle.nd_types.specs.declared.interface.Interface.{Interface};
+ghost use Rattle.idl_check.specs.declared.fault.RuleFault.TheVariants as fault;
+ghost use Rattle.idl_check.specs.Answers.{Answers};
 ghost use Rattle.idl_check.specs.Texts.{told_of};
 ghost use Rattle.idl_check.specs.SmallTexts.{texts_that_break, texts_that_keep};
 
@@ -17,4 +21,11 @@ pub fn small_texts_are_judged()
 /// broken.
 pub fn least_rule_is_told()
     ensures { (w : World) → IsLeast w (breaches w) (first_broken w) }
+{}
+
+/// No two answers are right of the same files, but for want of memory.
+pub fn one_answer_is_right()
+    ensures told { (w : World) (rule other : ℕ) (place elsewhere : Place) → Answers w (Err (fault.Broken rule place)) → Answers w (Err (fault.Broken other elsewhere))
+        → breach rule place ≡ breach other elsewhere }
+    ensures not_both { (w : World) (i : Interface) (rule : ℕ) (place : Place) → Answers w (Ok i) → Answers w (Err (fault.Broken rule place)) → ⊥ }
 {}
