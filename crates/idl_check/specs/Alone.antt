@@ -1,5 +1,5 @@
 -- A file without imports, as it is resolved.
-use Rattle.std.specs.Prelude.{ℕ, true, List, [], ◌∷◌, ◌++◌, Result, Ok, Err}
+use Rattle.std.specs.Prelude.{true, [], ◌∷◌, ◌++◌, Result, Ok, Err}
 use Rattle.idl_grammar.specs.Tree.{Tree}
 use Rattle.idl_names.specs.declared.name_fault.NameFault.{NameFault}
 use Rattle.idl_names.specs.Ended.{ended}

@@ -1,5 +1,5 @@
 -- What is answered on files that are resolved: their interface, or the rule that is told.
-use Rattle.std.specs.Prelude.{◌≡◌, List, [], ◌∷◌, Some, None, Result, Ok, Err}
+use Rattle.std.specs.Prelude.{◌≡◌, [], ◌∷◌, Some, None, Result, Ok, Err}
 use Rattle.nd_types.specs.declared.interface.Interface.{Interface}
 use Rattle.idl_check.specs.declared.fault.RuleFault.{RuleFault}
 use Rattle.idl_check.specs.declared.fault.RuleFault.TheVariants as fault

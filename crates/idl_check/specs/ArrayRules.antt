@@ -1,12 +1,12 @@
 -- The rules of arrays, texts and pipes, and of what hoists a maximum count (C706, sections 4.2.15 to 4.2.17).
 -- "Hoists" means: a conformant array or conformant text, or a struct whose last member hoists. The dimensions of an array are its own and, where its
 -- element is an array, those of that element, also where a typedef names the element. For dimensions a text is no array.
-use Rattle.std.specs.Prelude.{ℕ, suc, zero, ◌+◌, Bool, true, false, not, ◌&&◌, ◌||◌, ltb, List, [], ◌∷◌, ◌++◌, map, length, Option, Some, None, is_none, ℤ, pos, ◌*ℤ◌, int_le}
-use Rattle.std.specs.List.{list_any, list_all}
+use Rattle.std.specs.Prelude.{ℕ, suc, zero, ◌+◌, Bool, true, false, not, ◌&&◌, ◌||◌, ltb, List, [], ◌∷◌, length, Option, Some, None, is_none, ℤ, pos, ◌*ℤ◌, int_le}
+use Rattle.std.specs.List.{list_any}
 use Rattle.nd_types.specs.declared.TheConstants.{ELEMENT_LIMIT, NESTING_LIMIT}
-use Rattle.idl_check.specs.Attributes.{has, has_one_of, string_word, lengths, sizes}
-use Rattle.idl_check.specs.Nodes.{Position, InMember, InParameter, InArm, InCasedArm}
-use Rattle.idl_check.specs.Types.{IdlType, Struct, Union, Array, Text, Pointer, Pipe, ContextHandle, is_array, is_text, is_pointer, is_varying_array, is_conformant_array, is_conformant_text}
+use Rattle.idl_check.specs.Attributes.{has, has_one_of, string_word, lengths}
+use Rattle.idl_check.specs.Nodes.{Position, InMember, InArm, InCasedArm}
+use Rattle.idl_check.specs.Types.{IdlType, Array, Text, Pointer, Pipe, ContextHandle, is_text, is_varying_array}
 use Rattle.idl_check.specs.Scene.{Scene, Use, in_place, chain, hoists}
 
 -- the counts of an array's dimensions

@@ -1,11 +1,11 @@
 -- The rules of attributes, as they stand in lists (C706, sections 4.2.4, 4.2.9 and 4.2.12 to 4.2.14).
-use Rattle.std.specs.Prelude.{ℕ, ◌+◌, Bool, true, false, not, ◌&&◌, ◌||◌, eqb, ltb, List, [], ◌∷◌, ◌++◌, Option, Some, None, codes}
+use Rattle.std.specs.Prelude.{ℕ, Bool, true, false, not, ◌&&◌, ◌||◌, eqb, ltb, List, [], ◌∷◌, ◌++◌, Option, Some, None, codes}
 use Rattle.std.specs.List.{list_any}
 use Rattle.idl_lexer.specs.Numbers.{number_of}
 use Rattle.idl_grammar.specs.declared.words.Spelling.{Spelling}
 use Rattle.idl_grammar.specs.Tree.{AttributeKind, Attribute}
 use Rattle.idl_grammar.specs.Tree as tree
-use Rattle.idl_check.specs.Attributes.{word_of, is_word, has, has_one_of, is_class, classes, sizes, lengths, string_word, context_handle_word, switch_is_word, in_word, out_word}
+use Rattle.idl_check.specs.Attributes.{word_of, is_word, has, has_one_of, is_class, classes, sizes, lengths}
 use Rattle.idl_check.specs.Nodes.{Construct, Position, InHeader, InTypedef, InTaggedType, InMember, InParameter, InArm, InCasedArm, InOperation}
 
 -- Rule 1: an attribute stands only in its place.

@@ -1,6 +1,6 @@
 -- What stands in a list of attributes (C706, sections 4.2.4, 4.2.9 and 4.2.12 to 4.2.14).
 -- `a` is an attribute, `attributes` a list of them, `word` the word with which one begins.
-use Rattle.std.specs.Prelude.{ℕ, Bool, true, false, cond, List, [], ◌∷◌, Option, Some, None, codes}
+use Rattle.std.specs.Prelude.{ℕ, Bool, List, [], ◌∷◌, Option, Some, None, codes}
 use Rattle.std.specs.List.{list_any}
 use Rattle.std.specs.Str.{bytes_eq}
 use Rattle.idl_grammar.specs.declared.attributes.PointerClass.{PointerClass}

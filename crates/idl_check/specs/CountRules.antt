@@ -1,11 +1,11 @@
 -- Rule 39: there are at most 4,096 types, 1,024 operations, 256 parameters of an operation, and 67,108,864 members of structs and arms of unions in all.
 -- Each label of a union counts as an arm. What is one too many breaks the rule, and so does all behind it.
-use Rattle.std.specs.Prelude.{ℕ, ◌-◌, Bool, true, false, List, [], ◌∷◌, ◌++◌, map, length, drop}
+use Rattle.std.specs.Prelude.{◌-◌, List, [], ◌∷◌, ◌++◌, map, length, drop}
 use Rattle.std.specs.List.{flat_map}
 use Rattle.nd_types.specs.declared.TheConstants.{TYPE_LIMIT, OPERATION_LIMIT, PARAM_LIMIT, MEMBER_LIMIT}
 use Rattle.nd_types.specs.Kinds.{basic_types}
 use Rattle.idl_check.specs.Nodes.{Construct, Position, InMember, Node, LabelNode, DeclaratorNode, OperationNode}
-use Rattle.idl_check.specs.Scene.{Scoped, Scene}
+use Rattle.idl_check.specs.Scene.{Scene}
 use Rattle.idl_check.specs.Numbering.{own_types}
 
 -- the constructs that need types past the limit

@@ -1,6 +1,5 @@
 -- The rules of declarations, parameters and unions as they are written (C706, sections 4.2.5 to 4.2.14).
-use Rattle.std.specs.Prelude.{ℕ, Bool, true, false, not, ◌&&◌, ◌||◌, eqb, List, [], ◌∷◌, Option, Some, None, is_none, codes}
-use Rattle.idl_grammar.specs.declared.types.SwitchType.{SwitchType}
+use Rattle.std.specs.Prelude.{Bool, true, false, not, ◌&&◌, is_none, codes}
 use Rattle.idl_grammar.specs.Tree.{Attribute, TypeSpec}
 use Rattle.idl_grammar.specs.Tree as tree
 use Rattle.idl_check.specs.Attributes.{has, has_one_of, in_word, out_word, string_word, classes}

@@ -1,7 +1,6 @@
 -- What a file means that keeps the rules: its interface, with the table of types and the operations.
 use Rattle.std.specs.Prelude.{ℕ, ◌+◌, ◌*◌, Bool, true, false, eqb, List, [], ◌∷◌, ◌++◌, map, Option, Some, None, option_map, ℤ, pos, negsuc, codes}
 use Rattle.std.specs.List.{flat_map}
-use Rattle.std.specs.Str.{bytes_eq}
 use Rattle.nd_types.specs.declared.types.TypeId.{TypeId}
 use Rattle.nd_types.specs.declared.types.TypeDef.{TypeDef}
 use Rattle.nd_types.specs.declared.types.TypeDef.TheVariants as def
@@ -19,7 +18,6 @@ use Rattle.nd_types.specs.declared.types.Operation.{Operation}
 use Rattle.nd_types.specs.Table.{Table}
 use Rattle.nd_types.specs.Kinds.{basic_types}
 use Rattle.idl_lexer.specs.Numbers.{digit_value, number_of}
-use Rattle.idl_grammar.specs.declared.words.Spelling.{Spelling}
 use Rattle.idl_grammar.specs.declared.attributes.PointerClass.{PointerClass}
 use Rattle.idl_grammar.specs.declared.attributes.PointerClass.TheVariants as class
 use Rattle.idl_grammar.specs.declared.attributes.Variable.{Variable}
@@ -30,12 +28,12 @@ use Rattle.idl_names.specs.Known.{Known}
 use Rattle.idl_names.specs.Known as known_names
 use Rattle.idl_check.specs.World.{World}
 use Rattle.idl_check.specs.Attributes.{has, first_said, in_word, out_word}
-use Rattle.idl_check.specs.Nodes.{Construct, Declared, ArmLabel, LabelledArm, arms_of, Node, OperationNode, result_of}
-use Rattle.idl_check.specs.Types.{IdlType, Void, Handle, ContextHandle, Basic, Struct, Union, Enum, Array, Text, Pointer, Pipe, Names, type_of}
-use Rattle.idl_check.specs.Scene.{Scoped, Scene, scene_of, Body, body_of, parts_declared, arm_declared, tag_type, enumerators_of}
+use Rattle.idl_check.specs.Nodes.{Declared, LabelledArm, arms_of, Node, OperationNode, result_of}
+use Rattle.idl_check.specs.Types.{IdlType, Void, Handle, Basic, Struct, Union, Enum, Array, Text, Pointer, Pipe, Names, type_of}
+use Rattle.idl_check.specs.Scene.{Scene, scene_of, Body, body_of, parts_declared, arm_declared, tag_type}
 use Rattle.idl_check.specs.ValueRules.{label_value}
 use Rattle.idl_check.specs.VariableRules.{Listed, listed_from, variables}
-use Rattle.idl_check.specs.Numbering.{Needed, own_types, number_of_type}
+use Rattle.idl_check.specs.Numbering.{own_types, number_of_type}
 
 -- An interface: what a file declares and its header says.
 pub record Meant : Type 0 where

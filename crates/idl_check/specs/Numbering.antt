@@ -1,7 +1,7 @@
 -- The numbers of types. 0 to 11 are the basic types. From 12 on they stand in the order of the text: a struct, union or enum at the first place of its tag,
 -- or where it has none of its first word; a pointer, array, text or pipe at the first declarator that needs it, behind the types of which it is made.
 -- Equal types have one number.
-use Rattle.std.specs.Prelude.{ℕ, zero, suc, ◌+◌, Bool, true, false, not, ◌&&◌, ◌||◌, eqb, cond, List, [], ◌∷◌, ◌++◌, map, length, reverse, Option, Some, None, ℤ}
+use Rattle.std.specs.Prelude.{ℕ, ◌+◌, Bool, true, false, not, ◌&&◌, eqb, List, [], ◌∷◌, map, length, reverse, Option, Some, None, ℤ}
 use Rattle.std.specs.List.{list_any, flat_map}
 use Rattle.std.specs.Ordering.{int_eq}
 use Rattle.nd_types.specs.declared.TheConstants.{HANDLE}
@@ -11,7 +11,7 @@ use Rattle.idl_grammar.specs.declared.attributes.PointerClass.TheVariants as cla
 use Rattle.idl_names.specs.Known.{Known}
 use Rattle.idl_check.specs.Nodes.{Construct, Node, TagNode, BodyNode, DeclaratorNode}
 use Rattle.idl_check.specs.Types.{IdlType, Void, Handle, ContextHandle, Basic, Struct, Union, Enum, Array, Text, Pointer, Pipe, Names, type_of, type_of_tag}
-use Rattle.idl_check.specs.Scene.{Scoped, Scene, same_place, chain, Body, type_of_body}
+use Rattle.idl_check.specs.Scene.{Scene, same_place, chain, type_of_body}
 
 -- ## Equal types
 

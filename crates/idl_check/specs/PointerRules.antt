@@ -1,7 +1,6 @@
 -- The rules of pointers, and of the types of parameters (C706, sections 4.2.13 to 4.2.20).
-use Rattle.std.specs.Prelude.{Bool, true, false, not, ◌&&◌, ◌||◌, List, [], ◌∷◌, Option, Some, None}
+use Rattle.std.specs.Prelude.{Bool, true, false, not, ◌&&◌, None}
 use Rattle.std.specs.List.{list_any}
-use Rattle.idl_grammar.specs.declared.attributes.PointerClass.TheVariants as class
 use Rattle.idl_check.specs.Attributes.{has, has_one_of, classes, in_word, out_word}
 use Rattle.idl_check.specs.DeclarationRules.{is_parameter}
 use Rattle.idl_check.specs.Types.{IdlType, Array, Text, Pointer, Pipe, is_pointer, is_reference}

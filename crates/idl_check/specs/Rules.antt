@@ -1,20 +1,19 @@
 -- Which rules of the language are broken, and where. Each kind of node has the rules that speak of it; a rule is told at the octet where the attribute, the
 -- attribute list or the label begins that breaks it, and else where the innermost declaration, member, parameter, arm or enumerator begins in which it is broken.
-use Rattle.std.specs.Prelude.{ℕ, Bool, true, false, List, [], ◌∷◌, ◌++◌, map, Option, Some, None}
+use Rattle.std.specs.Prelude.{ℕ, Bool, true, false, List, [], ◌∷◌, ◌++◌, map}
 use Rattle.std.specs.List.{flat_map}
 use Rattle.nd_base.specs.declared.octets.Place.{Place}
-use Rattle.idl_names.specs.Known.{Known}
 use Rattle.idl_check.specs.World.{World}
 use Rattle.idl_check.specs.Nodes.{Construct, place_in, Node, HeaderNode, AttributeNode, SwitchNode, TagNode, BodyNode, EnumeratorNode, LabelNode, EmptyArmNode, DeclaratorNode, ConstantNode, TypeNode, OperationNode}
 use Rattle.idl_check.specs.Types.{Names, switch_type, is_void, is_handle, is_pipe, is_context}
-use Rattle.idl_check.specs.Scene.{Scoped, Scene, scene_of, Body, Use, use_of, tag_type}
+use Rattle.idl_check.specs.Scene.{Scene, scene_of, Body, Use, use_of, tag_type}
 use Rattle.idl_check.specs.AttributeRules.{is_out_of_place, is_repeated, lacks_uuid_and_local, is_large_version, is_second_class}
 use Rattle.idl_check.specs.DeclarationRules.{has_no_body, lacks_switch_type, is_wrongly_cased, has_class, has_string, lacks_direction}
 use Rattle.idl_check.specs.ValueRules.{is_large_enumerator, has_lower_bounds, is_bad_label, is_wrong_constant, is_void_constant, is_handle_constant}
 use Rattle.idl_check.specs.TypeRules.{holds_void, holds_handle, holds_pipe, is_no_context_handle, holds_context_handle, in_tag, contains_itself, is_deep_body, holds_deep_array, is_wrong_result}
 use Rattle.idl_check.specs.ArrayRules.{has_wrong_counts, has_wrong_dimensions, has_wrong_elements, hoists_before_last, is_hoisting_arm, holds_wrong_pipe}
 use Rattle.idl_check.specs.PointerRules.{has_class_without_pointer, holds_pointer_without_class, holds_pointer_to_reference, is_nullable_out, is_wrong_out}
-use Rattle.idl_check.specs.VariableRules.{may_not_be_switched, holds_bare_union, has_wrong_switch, is_wrong_text, is_wrongly_sized, is_wrongly_varying, has_no_variable, has_wrong_variable}
+use Rattle.idl_check.specs.VariableRules.{may_not_be_switched, holds_nonencapsulated_union, has_wrong_switch, is_wrong_text, is_wrongly_sized, is_wrongly_varying, has_no_variable, has_wrong_variable}
 use Rattle.idl_check.specs.CountRules.{too_many}
 
 -- a rule, and a place at which it is broken
@@ -50,7 +49,7 @@ breaches_of_use s u =
     ++ broken_in u.construct 19 (is_hoisting_arm s u)
     ++ broken_in u.construct 20 (holds_wrong_pipe s u)
     ++ broken_in u.construct 23 (is_wrongly_cased u.construct)
-    ++ broken_in u.construct 24 (holds_bare_union s u)
+    ++ broken_in u.construct 24 (holds_nonencapsulated_union s u)
     ++ broken_in u.construct 25 (has_wrong_switch s u)
     ++ broken_in u.construct 26 (has_class_without_pointer u)
     ++ broken_in u.construct 27 (holds_pointer_without_class u)

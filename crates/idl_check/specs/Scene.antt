@@ -1,14 +1,14 @@
 -- The nodes of all files, each with the names of types that are declared before it.
 -- `t` is a type, `u` a declarator with its type, `b` a body, `place` the one by which a struct, union or enum is told.
-use Rattle.std.specs.Prelude.{ℕ, suc, zero, Bool, true, false, eqb, ◌&&◌, ◌||◌, not, List, [], ◌∷◌, ◌++◌, map, Option, Some, None, is_none, option_map}
-use Rattle.std.specs.List.{list_any, list_all, flat_map}
+use Rattle.std.specs.Prelude.{ℕ, suc, zero, Bool, true, false, eqb, ◌&&◌, List, [], ◌∷◌, ◌++◌, map, Option, Some, None, is_none, option_map}
+use Rattle.std.specs.List.{list_all, flat_map}
 use Rattle.nd_base.specs.declared.octets.Place.{Place}
 use Rattle.idl_grammar.specs.declared.types.SwitchType.{SwitchType}
 use Rattle.idl_grammar.specs.Tree.{Attribute, TypeSpec, Arm, Enumerator}
 use Rattle.idl_grammar.specs.Tree as tree
 use Rattle.idl_names.specs.Known.{Known}
 use Rattle.idl_check.specs.World.{World}
-use Rattle.idl_check.specs.Attributes.{attribute_list, switch_type_in}
+use Rattle.idl_check.specs.Attributes.{switch_type_in}
 use Rattle.idl_check.specs.Nodes.{Construct, Position, InTypedef, InTaggedType, Declared, declared, inside, declared_members, arms_of, Node, BodyNode, DeclaratorNode, nodes}
 use Rattle.idl_check.specs.Types.{IdlType, Struct, Union, Enum, Array, Text, Pointer, Pipe, Names, type_of, declared_type, switch_type, place_of_body}
 
@@ -113,18 +113,18 @@ in_place s (Text t count) = t ∷ []
 in_place s (Pipe t) = t ∷ []
 in_place s _ = []
 
-abbrev is_bare : TypeSpec → Bool
-is_bare (tree.NonEncapsulatedUnion at tag arms) = true
-is_bare _ = false
+abbrev is_nonencapsulated_body : TypeSpec → Bool
+is_nonencapsulated_body (tree.NonEncapsulatedUnion at tag arms) = true
+is_nonencapsulated_body _ = false
 
-abbrev is_bare_body : Option Body → Bool
-is_bare_body None = false
-is_bare_body (Some b) = is_bare b.body
+abbrev is_found_nonencapsulated : Option Body → Bool
+is_found_nonencapsulated None = false
+is_found_nonencapsulated (Some b) = is_nonencapsulated_body b.body
 
 -- a non-encapsulated union
-abbrev pub is_bare_union : Scene → IdlType → Bool
-is_bare_union s (Union place) = is_bare_body (body_of s place)
-is_bare_union s _ = false
+abbrev pub is_nonencapsulated : Scene → IdlType → Bool
+is_nonencapsulated s (Union place) = is_found_nonencapsulated (body_of s place)
+is_nonencapsulated s _ = false
 
 abbrev names_its_tag : Position → Bool
 names_its_tag InTypedef = true

@@ -1,6 +1,5 @@
 -- Texts of one file as examples: their tokens, their trees, and which rule is told of them.
 use Rattle.std.specs.Prelude.{ℕ, zero, suc, ◌+◌, ◌-◌, Bool, true, false, eqb, List, [], ◌∷◌, Option, Some, None, Result, Ok, Err}
-use Rattle.nd_base.specs.declared.octets.Place.{Place}
 use Rattle.phrases.specs.Reading.{Fault}
 use Rattle.idl_lexer.specs.Classes.{is_letter, is_digit, is_space, is_word_octet}
 use Rattle.idl_lexer.specs.declared.tokens.TokenKind.{TokenKind}

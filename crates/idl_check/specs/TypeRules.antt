@@ -1,14 +1,14 @@
 -- The rules of types and of where each kind of type may stand (C706, sections 4.2.8 to 4.2.16).
 -- `s` is the scene, `u` a declarator where it stands, `t` a type.
-use Rattle.std.specs.Prelude.{ℕ, suc, zero, Bool, true, false, not, ◌&&◌, ◌||◌, List, [], ◌∷◌, ◌++◌, map, length, Option, Some, None, is_none}
-use Rattle.std.specs.List.{list_any, list_all, flat_map}
+use Rattle.std.specs.Prelude.{ℕ, suc, zero, Bool, true, false, not, ◌&&◌, ◌||◌, List, [], ◌∷◌, length, Some}
+use Rattle.std.specs.List.{list_any, flat_map}
 use Rattle.nd_base.specs.declared.octets.Place.{Place}
 use Rattle.nd_types.specs.declared.TheConstants.{NESTING_LIMIT}
 use Rattle.idl_grammar.specs.declared.attributes.PointerClass.TheVariants as class
 use Rattle.idl_check.specs.Attributes.{has, context_handle_word, in_word, out_word}
 use Rattle.idl_check.specs.Nodes.{Position, InTypedef, InParameter, InOperation}
-use Rattle.idl_check.specs.Types.{IdlType, Void, Basic, Struct, Union, Enum, Array, Text, Pointer, Pipe, ContextHandle, is_void, is_handle, is_pipe, is_context, is_array, is_text}
-use Rattle.idl_check.specs.Scene.{Scene, Use, Body, bodies, place_of, type_of_body, same_place, parts_of, in_place, chain, below, nests}
+use Rattle.idl_check.specs.Types.{IdlType, Void, Basic, Struct, Union, Enum, Array, Text, Pointer, Pipe, is_void, is_handle, is_pipe, is_context}
+use Rattle.idl_check.specs.Scene.{Scene, Use, Body, bodies, place_of, type_of_body, same_place, parts_of, chain, below, nests}
 
 -- what stands in a type below the reference pointer that it is, or else below itself
 abbrev below_reference : IdlType → List IdlType
@@ -65,17 +65,17 @@ is_no_context_handle u = has context_handle_word u.construct.attributes && not (
 -- Rule 11: no struct or union contains itself in place.
 
 -- the struct or union that a type is in its place, or of which it is an array or pipe
-abbrev stem : IdlType → List Place
-stem (Struct place) = place ∷ []
-stem (Union place) = place ∷ []
-stem (Array t count varying) = stem t
-stem (Text t count) = stem t
-stem (Pipe t) = stem t
-stem _ = []
+abbrev innermost : IdlType → List Place
+innermost (Struct place) = place ∷ []
+innermost (Union place) = place ∷ []
+innermost (Array t count varying) = innermost t
+innermost (Text t count) = innermost t
+innermost (Pipe t) = innermost t
+innermost _ = []
 
 abbrev held_by : Scene → Place → List Body → List Place
 held_by s place [] = []
-held_by s place (b ∷ bs) = elim (same_place (place_of b) place) [ true ↦ flat_map stem (parts_of s.known b) | false ↦ held_by s place bs ]
+held_by s place (b ∷ bs) = elim (same_place (place_of b) place) [ true ↦ flat_map innermost (parts_of s.known b) | false ↦ held_by s place bs ]
 
 -- the structs and unions that stand right in one, in place
 abbrev pub held : Scene → Place → List Place

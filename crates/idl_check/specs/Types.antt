@@ -1,6 +1,6 @@
 -- What types are: of a type in the text, and of a declarator with its attributes (C706, sections 4.2.8 to 4.2.20).
 -- `t` is a type, `c` the construct in which it is written, `names` what the names of types stand for, `known` what else is known of names.
-use Rattle.std.specs.Prelude.{ℕ, Bool, true, false, not, ◌&&◌, ◌||◌, List, [], ◌∷◌, ◌++◌, Option, Some, None, is_none, ℤ, pos, ◌+ℤ◌}
+use Rattle.std.specs.Prelude.{ℕ, Bool, true, false, ◌&&◌, ◌||◌, List, [], ◌∷◌, Option, Some, None, is_none, ℤ, pos, ◌+ℤ◌}
 use Rattle.nd_base.specs.declared.octets.Place.{Place}
 use Rattle.nd_types.specs.declared.types.Primitive.{Primitive}
 use Rattle.nd_types.specs.declared.types.Primitive.TheVariants as primitive
@@ -22,7 +22,7 @@ use Rattle.idl_names.specs.declared.meaning.TagDefinition.{TagDefinition}
 use Rattle.idl_names.specs.Known.{Known, found}
 use Rattle.idl_check.specs.World.{value_in}
 use Rattle.idl_check.specs.Attributes.{has, has_one_of, class_in, sizes, lengths, context_handle_word, string_word}
-use Rattle.idl_check.specs.Nodes.{Construct, Position, InParameter, Declared, place_in}
+use Rattle.idl_check.specs.Nodes.{Construct, Position, InParameter, Declared}
 
 -- A type. Names of types are resolved. A struct, union or enum is told by the place of its tag, or where it has none by that of its first word.
 pub data IdlType : Type 0 where
@@ -215,8 +215,8 @@ sized varying t = Array t None varying
 abbrev pointee_with : List Attribute → IdlType → IdlType
 pointee_with attributes t =
     elim (has string_word attributes) [
-    | true ↦ text_of t
-    | false ↦ elim (has_one_of sizes attributes) [ true ↦ sized (has_one_of lengths attributes) t | false ↦ t ]
+      | true ↦ text_of t
+      | false ↦ elim (has_one_of sizes attributes) [ true ↦ sized (has_one_of lengths attributes) t | false ↦ t ]
     ]
 
 abbrev array_with : List Attribute → IdlType → Option ℤ → Bool → IdlType

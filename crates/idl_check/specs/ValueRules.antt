@@ -1,8 +1,7 @@
 -- The rules of values: of constants, enumerators, bounds and labels (C706, sections 4.2.7 to 4.2.11).
-use Rattle.std.specs.Prelude.{ℕ, Bool, true, false, not, ◌&&◌, ◌||◌, List, [], ◌∷◌, map, Option, Some, None, ℤ, pos, int_le}
-use Rattle.std.specs.List.{list_any, list_all}
+use Rattle.std.specs.Prelude.{Bool, true, false, not, ◌&&◌, ◌||◌, List, Option, Some, None, ℤ, pos, int_le}
+use Rattle.std.specs.List.{list_any}
 use Rattle.std.specs.Ordering.{int_eq}
-use Rattle.nd_base.specs.declared.octets.Place.{Place}
 use Rattle.nd_types.specs.declared.TheConstants.{ENUMERATOR_LIMIT}
 use Rattle.nd_types.specs.declared.types.Primitive.TheVariants as primitive
 use Rattle.nd_types.specs.Table.{in_range}
@@ -13,7 +12,7 @@ use Rattle.idl_grammar.specs.Tree as tree
 use Rattle.idl_names.specs.Known.{Known, number_of}
 use Rattle.idl_check.specs.World.{value_in}
 use Rattle.idl_check.specs.Nodes.{ArmLabel, Declared}
-use Rattle.idl_check.specs.Types.{IdlType, Void, Basic, Enum, is_void, is_handle, simple_type}
+use Rattle.idl_check.specs.Types.{IdlType, Basic, Enum, is_void, is_handle, simple_type}
 use Rattle.idl_check.specs.Scene.{Scene, enumerators_of}
 
 abbrev is_between : ℤ → ℤ → ℤ → Bool

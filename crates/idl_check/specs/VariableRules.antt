@@ -2,17 +2,16 @@
 use Rattle.std.specs.Prelude.{ℕ, ◌+◌, Bool, true, false, not, ◌&&◌, ◌||◌, eqb, List, [], ◌∷◌, ◌++◌, Option, Some, None, codes}
 use Rattle.std.specs.List.{list_any}
 use Rattle.std.specs.Str.{bytes_eq}
-use Rattle.nd_types.specs.declared.types.Primitive.{Primitive}
 use Rattle.nd_types.specs.declared.types.Primitive.TheVariants as primitive
 use Rattle.nd_types.specs.Kinds.{is_integer_prim, is_switch_prim}
 use Rattle.idl_grammar.specs.declared.attributes.PointerClass.TheVariants as class
 use Rattle.idl_grammar.specs.declared.attributes.Variable.{Variable}
 use Rattle.idl_grammar.specs.Tree.{Attribute}
-use Rattle.idl_check.specs.Attributes.{is_word, has, has_one_of, sizes, lengths, string_word, switch_is_word, variable_said}
+use Rattle.idl_check.specs.Attributes.{has, has_one_of, sizes, lengths, string_word, switch_is_word, variable_said}
 use Rattle.idl_check.specs.Nodes.{Position, InTypedef, InMember, InParameter, Declared}
 use Rattle.idl_check.specs.DeclarationRules.{is_parameter}
-use Rattle.idl_check.specs.Types.{IdlType, Basic, Enum, Array, Text, Pointer, type_of, is_array, is_text, is_pointer, is_conformant_array, is_conformant_text}
-use Rattle.idl_check.specs.Scene.{Scene, Use, is_bare_union, chain, below}
+use Rattle.idl_check.specs.Types.{IdlType, Basic, Enum, Array, Text, Pointer, type_of, is_text, is_pointer, is_conformant_array, is_conformant_text}
+use Rattle.idl_check.specs.Scene.{Scene, Use, is_nonencapsulated, chain, below}
 
 -- ## Variables
 
@@ -88,21 +87,21 @@ abbrev without_union : Use → List IdlType
 without_union u =
     elim (is_switched_place u.construct.position (has switch_is_word u.construct.attributes)) [ true ↦ below_pointer u.type | false ↦ chain u.type ]
 
-abbrev pub holds_bare_union : Scene → Use → Bool
-holds_bare_union s u = list_any (is_bare_union s) (without_union u)
+abbrev pub holds_nonencapsulated_union : Scene → Use → Bool
+holds_nonencapsulated_union s u = list_any (is_nonencapsulated s) (without_union u)
 
 -- Rule 25: switch_is stands only on such a member or parameter, and its variable, where its list of members or parameters has it, is, without `*`, of an
 -- integer, char, boolean or enumerated type, or, with `*`, a parameter that is a reference pointer to one of these.
 
 abbrev is_switched : Scene → IdlType → Bool
-is_switched s (Pointer class to) = is_bare_union s to
-is_switched s t = is_bare_union s t
+is_switched s (Pointer class to) = is_nonencapsulated s to
+is_switched s t = is_nonencapsulated s t
 
 abbrev pub has_wrong_switch : Scene → Use → Bool
 has_wrong_switch s u =
     has switch_is_word u.construct.attributes
     && (not (is_switched s u.type)
-        || list_any (λ v. not (is_right_variable s u may_be_switched v)) (variables (switch_is_word ∷ []) u.construct.attributes))
+    || list_any (λ v. not (is_right_variable s u may_be_switched v)) (variables (switch_is_word ∷ []) u.construct.attributes))
 
 -- Rule 33: `string` stands only on an array of char or byte or a pointer to one of these, without length_is, first_is or last_is. On what is a text
 -- already, or a pointer to a conformant text, it changes nothing.
@@ -135,8 +134,8 @@ is_listed _ = false
 abbrev pub is_wrongly_sized : Use → Bool
 is_wrongly_sized u =
     elim (has_one_of sizes u.construct.attributes) [
-    | true ↦ not (may_be_sized u.declared_as) || has (codes "size_is") u.construct.attributes && has (codes "max_is") u.construct.attributes
-    | false ↦ is_listed u.construct.position && is_conformant_array u.type
+      | true ↦ not (may_be_sized u.declared_as) || has (codes "size_is") u.construct.attributes && has (codes "max_is") u.construct.attributes
+      | false ↦ is_listed u.construct.position && is_conformant_array u.type
     ]
 
 -- Rule 35: length_is, first_is and last_is stand only on an array that is no text, or on a pointer with size_is or max_is that does not point to a text;
@@ -151,7 +150,7 @@ abbrev pub is_wrongly_varying : Use → Bool
 is_wrongly_varying u =
     has_one_of lengths u.construct.attributes
     && (not (may_vary (has_one_of sizes u.construct.attributes) u.type)
-        || has (codes "length_is") u.construct.attributes && has (codes "last_is") u.construct.attributes)
+    || has (codes "length_is") u.construct.attributes && has (codes "last_is") u.construct.attributes)
 
 -- Rule 36: an attribute's variable is a member of the same struct or a parameter of the same operation, and not itself.
 

@@ -1,5 +1,5 @@
 -- What the rules speak of: the files of a compilation, with what is known of their names.
-use Rattle.std.specs.Prelude.{ℕ, List, ℤ, pos, Result, Ok, Err}
+use Rattle.std.specs.Prelude.{List, ℤ, pos, Result, Ok, Err}
 use Rattle.idl_grammar.specs.Tree.{Expr}
 use Rattle.idl_names.specs.Ended.{Ended}
 use Rattle.idl_names.specs.Known.{Known, number_of}
