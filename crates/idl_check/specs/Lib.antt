@@ -19,3 +19,4 @@ pub mod Answers
 pub mod Alone
 pub mod Texts
 pub mod SmallTexts
+pub mod Interfaces

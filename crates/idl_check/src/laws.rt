@@ -1,6 +1,6 @@
 //! Laws over the definitions, and worked examples.
 
-ghost use Rattle.std.specs.Prelude.{◌≡◌, ℕ, map, Ok, Err};
+ghost use Rattle.std.specs.Prelude.{◌≡◌, ℕ, [], ◌∷◌, map, Ok, Err};
 ghost use Rattle.nd_base.specs.declared.octets.Place.{Place};
 ghost use Rattle.idl_check.specs.World.{World};
 ghost use Rattle.idl_check.specs.Rules.{breach, breaches};
@@ -9,6 +9,7 @@ ghost use Rattle.nd_types.specs.declared.interface.Interface.{Interface};
 ghost use Rattle.idl_check.specs.declared.fault.RuleFault.TheVariants as fault;
 ghost use Rattle.idl_check.specs.Answers.{Answers};
 ghost use Rattle.idl_check.specs.Texts.{told_of};
+ghost use Rattle.idl_check.specs.Interfaces.{meant_of, sum_text, sum_meant, directory_text, directory_meant};
 ghost use Rattle.idl_check.specs.SmallTexts.{texts_that_break, texts_that_keep};
 
 /// For each rule a small text that breaks it, with the octet that is told, and one near it that is accepted.
@@ -28,4 +29,11 @@ pub fn one_answer_is_right()
     ensures told { (w : World) (rule other : ℕ) (place elsewhere : Place) → Answers w (Err (fault.Broken rule place)) → Answers w (Err (fault.Broken other elsewhere))
         → breach rule place ≡ breach other elsewhere }
     ensures not_both { (w : World) (i : Interface) (rule : ℕ) (place : Place) → Answers w (Ok i) → Answers w (Err (fault.Broken rule place)) → ⊥ }
+{}
+
+/// Two texts and the interfaces that they mean: a struct that ends with a conformant array, and a directory with enumerators, a union, texts
+/// and pointers that lead back.
+pub fn texts_have_their_meaning()
+    ensures sum { meant_of sum_text ≡ sum_meant ∷ [] }
+    ensures directory { meant_of directory_text ≡ directory_meant ∷ [] }
 {}
