@@ -1,2 +1,4 @@
 mod Judged
 mod Order
+mod Equal
+mod Numbers

@@ -159,7 +159,7 @@ defined_at s None = def.Enum []
 defined_at s (Some b) = defined s b
 
 -- what a type is in the table
-abbrev definition : Scene → IdlType → TypeDef
+abbrev pub definition : Scene → IdlType → TypeDef
 definition s (Struct place) = defined_at s (body_of s place)
 definition s (Union place) = defined_at s (body_of s place)
 definition s (Enum place) = defined_at s (body_of s place)

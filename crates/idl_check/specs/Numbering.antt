@@ -15,16 +15,16 @@ use Rattle.idl_check.specs.Scene.{Scene, same_place, chain, type_of_body}
 
 -- ## Equal types
 
-abbrev same_count : Option ℤ → Option ℤ → Bool
+abbrev pub same_count : Option ℤ → Option ℤ → Bool
 same_count None None = true
 same_count (Some a) (Some b) = int_eq a b
 same_count _ _ = false
 
-abbrev same_flag : Bool → Bool → Bool
+abbrev pub same_flag : Bool → Bool → Bool
 same_flag true b = b
 same_flag false b = not b
 
-abbrev same_class : Option PointerClass → Option PointerClass → Bool
+abbrev pub same_class : Option PointerClass → Option PointerClass → Bool
 same_class None None = true
 same_class (Some class.Reference) (Some class.Reference) = true
 same_class (Some class.Unique) (Some class.Unique) = true
@@ -82,7 +82,7 @@ own_types s = first_needed [] (flat_map (λ n. needed_by s.known n.names n.node)
 
 -- ## Numbers
 
-abbrev number_among : ℕ → List Needed → IdlType → ℕ
+abbrev pub number_among : ℕ → List Needed → IdlType → ℕ
 number_among n [] t = n
 number_among n (m ∷ ms) t = elim (same_type m.type t) [ true ↦ n | false ↦ number_among (n + 1) ms t ]
 
@@ -92,3 +92,11 @@ number_of_type s (Basic p) = prim_number p
 number_of_type s ContextHandle = context_number
 number_of_type s Handle = HANDLE.0
 number_of_type s t = number_among (length basic_types) (own_types s) t
+
+-- A type that is in the table: a basic one, or one that is needed. `void` and `handle_t` are none.
+abbrev pub is_numbered : Scene → IdlType → Bool
+is_numbered s Void = false
+is_numbered s Handle = false
+is_numbered s ContextHandle = true
+is_numbered s (Basic p) = true
+is_numbered s t = list_any (λ n. same_type n.type t) (own_types s)

@@ -2,7 +2,13 @@
 
 ghost use Rattle.std.specs.Prelude.{◌≡◌, ℕ, [], ◌∷◌, map, Ok, Err};
 ghost use Rattle.nd_base.specs.declared.octets.Place.{Place};
+ghost use Rattle.std.specs.Prelude.{Some, true};
+ghost use Rattle.nd_types.specs.Table.{type_at};
 ghost use Rattle.idl_check.specs.World.{World};
+ghost use Rattle.idl_check.specs.Types.{IdlType};
+ghost use Rattle.idl_check.specs.Scene.{Scene};
+ghost use Rattle.idl_check.specs.Numbering.{is_numbered, number_of_type};
+ghost use Rattle.idl_check.specs.Meaning.{types_of, definition};
 ghost use Rattle.idl_check.specs.Rules.{breach, breaches};
 ghost use Rattle.idl_check.specs.FirstBroken.{first_broken, IsLeast};
 ghost use Rattle.nd_types.specs.declared.interface.Interface.{Interface};
@@ -36,4 +42,9 @@ pub fn one_answer_is_right()
 pub fn texts_have_their_meaning()
     ensures sum { meant_of sum_text ≡ sum_meant ∷ [] }
     ensures directory { meant_of directory_text ≡ directory_meant ∷ [] }
+{}
+
+/// At the number of a type the table has what the type is.
+pub fn types_stand_at_their_numbers()
+    ensures { (s : Scene) (t : IdlType) → is_numbered s t ≡ true → type_at (types_of s) (number_of_type s t) ≡ Some (definition s t) }
 {}
