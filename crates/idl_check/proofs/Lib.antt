@@ -2,3 +2,4 @@ mod Judged
 mod Order
 mod Equal
 mod Numbers
+mod Needed

@@ -56,14 +56,14 @@ abbrev needed : Construct → IdlType → Needed
 needed c t = record { construct = c; type = t }
 
 -- the types that a node needs, each behind those of which it is made
-abbrev needed_by : Known → Names → Node → List Needed
+abbrev pub needed_by : Known → Names → Node → List Needed
 needed_by known names (TagNode c kind tag) = needed c (type_of_tag known c.file kind tag) ∷ []
 needed_by known names (BodyNode c body) = needed c (type_of_body (record { construct = c; names = names; body = body })) ∷ []
 needed_by known names (DeclaratorNode list index d) = map (needed d.construct) (reverse (chain (type_of known names d)))
 needed_by known names _ = []
 
 -- a type with a number from 12 on
-abbrev has_own_number : IdlType → Bool
+abbrev pub has_own_number : IdlType → Bool
 has_own_number Void = false
 has_own_number Handle = false
 has_own_number ContextHandle = false
@@ -71,14 +71,18 @@ has_own_number (Basic p) = false
 has_own_number _ = true
 
 -- each type with a number of its own where it is needed first, behind these
-abbrev first_needed : List IdlType → List Needed → List Needed
+abbrev pub first_needed : List IdlType → List Needed → List Needed
 first_needed before [] = []
 first_needed before (n ∷ ns) =
     elim (has_own_number n.type && not (list_any (same_type n.type) before)) [ true ↦ n ∷ first_needed (n.type ∷ before) ns | false ↦ first_needed before ns ]
 
+-- the types that all nodes need, in the order of the text
+unfoldable pub needed_types : Scene → List Needed
+needed_types s = flat_map (λ n. needed_by s.known n.names n.node) s.nodes
+
 -- the types from number 12 on
 unfoldable pub own_types : Scene → List Needed
-own_types s = first_needed [] (flat_map (λ n. needed_by s.known n.names n.node) s.nodes)
+own_types s = first_needed [] (needed_types s)
 
 -- ## Numbers
 
@@ -100,3 +104,9 @@ is_numbered s Handle = false
 is_numbered s ContextHandle = true
 is_numbered s (Basic p) = true
 is_numbered s t = list_any (λ n. same_type n.type t) (own_types s)
+
+-- the same, or `void` or `handle_t`
+abbrev pub is_numbered_or_none : Scene → IdlType → Bool
+is_numbered_or_none s Void = true
+is_numbered_or_none s Handle = true
+is_numbered_or_none s t = is_numbered s t

@@ -3,11 +3,12 @@
 ghost use Rattle.std.specs.Prelude.{◌≡◌, ℕ, [], ◌∷◌, map, Ok, Err};
 ghost use Rattle.nd_base.specs.declared.octets.Place.{Place};
 ghost use Rattle.std.specs.Prelude.{Some, true};
+ghost use Rattle.std.specs.List.{list_all};
 ghost use Rattle.nd_types.specs.Table.{type_at};
 ghost use Rattle.idl_check.specs.World.{World};
 ghost use Rattle.idl_check.specs.Types.{IdlType};
 ghost use Rattle.idl_check.specs.Scene.{Scene};
-ghost use Rattle.idl_check.specs.Numbering.{is_numbered, number_of_type};
+ghost use Rattle.idl_check.specs.Numbering.{is_numbered, is_numbered_or_none, needed_types, number_of_type};
 ghost use Rattle.idl_check.specs.Meaning.{types_of, definition};
 ghost use Rattle.idl_check.specs.Rules.{breach, breaches};
 ghost use Rattle.idl_check.specs.FirstBroken.{first_broken, IsLeast};
@@ -44,7 +45,8 @@ pub fn texts_have_their_meaning()
     ensures directory { meant_of directory_text ≡ directory_meant ∷ [] }
 {}
 
-/// At the number of a type the table has what the type is.
+/// At the number of a type the table has what the type is, and each type that a declarator needs, down to the innermost, has a number.
 pub fn types_stand_at_their_numbers()
-    ensures { (s : Scene) (t : IdlType) → is_numbered s t ≡ true → type_at (types_of s) (number_of_type s t) ≡ Some (definition s t) }
+    ensures needed { (s : Scene) → list_all (λ n. is_numbered_or_none s n.type) (needed_types s) ≡ true }
+    ensures stands { (s : Scene) (t : IdlType) → is_numbered s t ≡ true → type_at (types_of s) (number_of_type s t) ≡ Some (definition s t) }
 {}
