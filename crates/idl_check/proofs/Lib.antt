@@ -3,3 +3,4 @@ mod Order
 mod Equal
 mod Numbers
 mod Needed
+mod Kept

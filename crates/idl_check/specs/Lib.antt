@@ -20,3 +20,4 @@ pub mod Alone
 pub mod Texts
 pub mod SmallTexts
 pub mod Interfaces
+pub mod Kept

@@ -1,7 +1,7 @@
 -- The numbers of types. 0 to 11 are the basic types. From 12 on they stand in the order of the text: a struct, union or enum at the first place of its tag,
 -- or where it has none of its first word; a pointer, array, text or pipe at the first declarator that needs it, behind the types of which it is made.
 -- Equal types have one number.
-use Rattle.std.specs.Prelude.{ℕ, ◌+◌, Bool, true, false, not, ◌&&◌, eqb, List, [], ◌∷◌, map, length, reverse, Option, Some, None, ℤ}
+use Rattle.std.specs.Prelude.{ℕ, ◌+◌, Bool, true, false, not, ◌&&◌, eqb, List, [], ◌∷◌, ◌++◌, map, length, Option, Some, None, ℤ}
 use Rattle.std.specs.List.{list_any, flat_map}
 use Rattle.std.specs.Ordering.{int_eq}
 use Rattle.nd_types.specs.declared.TheConstants.{HANDLE}
@@ -11,7 +11,7 @@ use Rattle.idl_grammar.specs.declared.attributes.PointerClass.TheVariants as cla
 use Rattle.idl_names.specs.Known.{Known}
 use Rattle.idl_check.specs.Nodes.{Construct, Node, TagNode, BodyNode, DeclaratorNode}
 use Rattle.idl_check.specs.Types.{IdlType, Void, Handle, ContextHandle, Basic, Struct, Union, Enum, Array, Text, Pointer, Pipe, Names, type_of, type_of_tag}
-use Rattle.idl_check.specs.Scene.{Scene, same_place, chain, type_of_body}
+use Rattle.idl_check.specs.Scene.{Scene, same_place, type_of_body}
 
 -- ## Equal types
 
@@ -52,14 +52,22 @@ pub record Needed : Type 0 where
   pub construct : Construct
   pub type : IdlType
 
-abbrev needed : Construct → IdlType → Needed
+abbrev pub needed : Construct → IdlType → Needed
 needed c t = record { construct = c; type = t }
+
+-- a type behind those of which it is made
+abbrev pub built : IdlType → List IdlType
+built (Array t count varying) = built t ++ Array t count varying ∷ []
+built (Text t count) = built t ++ Text t count ∷ []
+built (Pointer class to) = built to ++ Pointer class to ∷ []
+built (Pipe t) = built t ++ Pipe t ∷ []
+built t = t ∷ []
 
 -- the types that a node needs, each behind those of which it is made
 abbrev pub needed_by : Known → Names → Node → List Needed
 needed_by known names (TagNode c kind tag) = needed c (type_of_tag known c.file kind tag) ∷ []
 needed_by known names (BodyNode c body) = needed c (type_of_body (record { construct = c; names = names; body = body })) ∷ []
-needed_by known names (DeclaratorNode list index d) = map (needed d.construct) (reverse (chain (type_of known names d)))
+needed_by known names (DeclaratorNode list index d) = map (needed d.construct) (built (type_of known names d))
 needed_by known names _ = []
 
 -- a type with a number from 12 on

@@ -25,15 +25,15 @@ abbrev pub breach : ℕ → Place → Breach
 breach rule place = record { rule = rule; place = place }
 
 -- a rule that is broken at an octet of a construct's file, if the test says so
-abbrev broken_at : Construct → ℕ → ℕ → Bool → List Breach
+abbrev pub broken_at : Construct → ℕ → ℕ → Bool → List Breach
 broken_at c rule at true = breach rule (place_in c at) ∷ []
 broken_at c rule at false = []
 
 -- the same where the construct begins
-abbrev broken_in : Construct → ℕ → Bool → List Breach
+abbrev pub broken_in : Construct → ℕ → Bool → List Breach
 broken_in c rule broken = broken_at c rule c.at broken
 
-abbrev breaches_of_use : Scene → Use → List Breach
+abbrev pub breaches_of_use : Scene → Use → List Breach
 breaches_of_use s u =
     broken_in u.construct 6 (holds_void u)
     ++ broken_in u.construct 7 (holds_handle u)
@@ -64,7 +64,7 @@ breaches_of_use s u =
     ++ broken_in u.construct 36 (has_no_variable u)
     ++ broken_in u.construct 37 (has_wrong_variable s u)
 
-abbrev breaches_of_body : Scene → Body → List Breach
+abbrev pub breaches_of_body : Scene → Body → List Breach
 breaches_of_body s b =
     broken_in b.construct 11 (contains_itself s b)
     ++ broken_in b.construct 12 (is_deep_body s b)

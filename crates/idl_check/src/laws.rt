@@ -7,10 +7,11 @@ ghost use Rattle.std.specs.List.{list_all};
 ghost use Rattle.nd_types.specs.Table.{type_at};
 ghost use Rattle.idl_check.specs.World.{World};
 ghost use Rattle.idl_check.specs.Types.{IdlType};
-ghost use Rattle.idl_check.specs.Scene.{Scene};
+ghost use Rattle.idl_check.specs.Scene.{Scene, Use};
+ghost use Rattle.idl_check.specs.Kept.{KeepsUse};
 ghost use Rattle.idl_check.specs.Numbering.{is_numbered, is_numbered_or_none, needed_types, number_of_type};
 ghost use Rattle.idl_check.specs.Meaning.{types_of, definition};
-ghost use Rattle.idl_check.specs.Rules.{breach, breaches};
+ghost use Rattle.idl_check.specs.Rules.{breach, breaches, breaches_of_use};
 ghost use Rattle.idl_check.specs.FirstBroken.{first_broken, IsLeast};
 ghost use Rattle.nd_types.specs.declared.interface.Interface.{Interface};
 ghost use Rattle.idl_check.specs.declared.fault.RuleFault.TheVariants as fault;
@@ -49,4 +50,9 @@ pub fn texts_have_their_meaning()
 pub fn types_stand_at_their_numbers()
     ensures needed { (s : Scene) → list_all (λ n. is_numbered_or_none s n.type) (needed_types s) ≡ true }
     ensures stands { (s : Scene) (t : IdlType) → is_numbered s t ≡ true → type_at (types_of s) (number_of_type s t) ≡ Some (definition s t) }
+{}
+
+/// Where a declarator breaks no rule, each test of a rule says so.
+pub fn declarators_keep_their_rules()
+    ensures { (s : Scene) (u : Use) → breaches_of_use s u ≡ [] → KeepsUse s u }
 {}
