@@ -12,7 +12,7 @@ use Rattle.idl_check.specs.PointerRules.{has_class_without_pointer, holds_pointe
 use Rattle.idl_check.specs.VariableRules.{holds_nonencapsulated_union, has_wrong_switch, is_wrong_text, is_wrongly_sized, is_wrongly_varying, has_no_variable, has_wrong_variable}
 
 -- two lists that are nothing together
-neither : {X : Type 0} (xs ys : List X) → xs ++ ys ≡ [] → (xs ≡ []) × (ys ≡ [])
+pub neither : {X : Type 0} (xs ys : List X) → xs ++ ys ≡ [] → (xs ≡ []) × (ys ≡ [])
 neither [] ys h = (refl, h)
 neither (x ∷ xs) ys h = absurd (let e : x ∷ (xs ++ ys) ≡ [] = h in cc)
 

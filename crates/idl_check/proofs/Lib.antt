@@ -4,3 +4,4 @@ mod Equal
 mod Numbers
 mod Needed
 mod Kept
+mod KeptTypes

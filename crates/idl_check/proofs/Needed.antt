@@ -12,7 +12,7 @@ use Rattle.idl_check.specs.Scene.{Scene, same_place}
 use Rattle.idl_check.specs.Numbering.{Needed, needed_types, own_types, first_needed, has_own_number, same_type, same_count, same_flag, same_class, is_numbered, is_numbered_or_none}
 use Rattle.idl_check.proofs.Equal.{type_is}
 
-conjunction : (a b : Bool) → a ≡ true → b ≡ true → (a && b) ≡ true
+pub conjunction : (a b : Bool) → a ≡ true → b ≡ true → (a && b) ≡ true
 conjunction true b h i = i
 conjunction false b h i = absurd (let e : false ≡ true = h in cc)
 

@@ -23,7 +23,7 @@ holds_pointer_without_class u = list_any has_no_class (chain u.declared_as)
 
 -- Rule 28: no pointer's referent is a reference pointer.
 
-abbrev refers_to_reference : IdlType → Bool
+abbrev pub refers_to_reference : IdlType → Bool
 refers_to_reference (Pointer class to) = is_reference to
 refers_to_reference _ = false
 

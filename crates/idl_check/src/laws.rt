@@ -2,16 +2,17 @@
 
 ghost use Rattle.std.specs.Prelude.{◌≡◌, ℕ, [], ◌∷◌, map, Ok, Err};
 ghost use Rattle.nd_base.specs.declared.octets.Place.{Place};
-ghost use Rattle.std.specs.Prelude.{Some, true};
+ghost use Rattle.std.specs.Prelude.{Some, not, true};
 ghost use Rattle.std.specs.List.{list_all};
 ghost use Rattle.nd_types.specs.Table.{type_at};
 ghost use Rattle.idl_check.specs.World.{World};
 ghost use Rattle.idl_check.specs.Types.{IdlType};
 ghost use Rattle.idl_check.specs.Scene.{Scene, Use};
 ghost use Rattle.idl_check.specs.Kept.{KeepsUse};
-ghost use Rattle.idl_check.specs.Numbering.{is_numbered, is_numbered_or_none, needed_types, number_of_type};
+ghost use Rattle.idl_check.specs.PointerRules.{refers_to_reference};
+ghost use Rattle.idl_check.specs.Numbering.{is_numbered, is_numbered_or_none, needed_types, own_types, number_of_type};
 ghost use Rattle.idl_check.specs.Meaning.{types_of, definition};
-ghost use Rattle.idl_check.specs.Rules.{breach, breaches, breaches_of_use};
+ghost use Rattle.idl_check.specs.Rules.{breach, breaches, breaches_in, breaches_of_use};
 ghost use Rattle.idl_check.specs.FirstBroken.{first_broken, IsLeast};
 ghost use Rattle.nd_types.specs.declared.interface.Interface.{Interface};
 ghost use Rattle.idl_check.specs.declared.fault.RuleFault.TheVariants as fault;
@@ -55,4 +56,9 @@ pub fn types_stand_at_their_numbers()
 /// Where a declarator breaks no rule, each test of a rule says so.
 pub fn declarators_keep_their_rules()
     ensures { (s : Scene) (u : Use) → breaches_of_use s u ≡ [] → KeepsUse s u }
+{}
+
+/// Where no rule is broken, no pointer in the table points to a reference pointer.
+pub fn no_pointer_refers_to_a_reference()
+    ensures { (s : Scene) → breaches_in s ≡ [] → list_all (λ n. not (refers_to_reference n.type)) (own_types s) ≡ true }
 {}
