@@ -24,7 +24,7 @@ apart : (a b : Bool) → (a && b) ≡ true → (a ≡ true) × (b ≡ true)
 apart true b h = (refl, h)
 apart false b h = absurd (let e : false ≡ true = h in cc)
 
-none_of : (a b : Bool) → (a || b) ≡ false → (a ≡ false) × (b ≡ false)
+pub none_of : (a b : Bool) → (a || b) ≡ false → (a ≡ false) × (b ≡ false)
 none_of false b h = (refl, h)
 none_of true b h = absurd (let e : true ≡ false = h in cc)
 

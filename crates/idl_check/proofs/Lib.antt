@@ -5,3 +5,4 @@ mod Numbers
 mod Needed
 mod Kept
 mod KeptTypes
+mod Inner

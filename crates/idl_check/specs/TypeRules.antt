@@ -18,7 +18,7 @@ below_reference t = below t
 -- Rule 6: `void` is only an operation's result, the empty parameter list, the pointee of a context handle, or the type of a NULL constant.
 
 -- the types in which no `void` may stand
-abbrev without_void : Position → IdlType → List IdlType
+abbrev pub without_void : Position → IdlType → List IdlType
 without_void InOperation t = below t
 without_void _ t = chain t
 
@@ -27,10 +27,10 @@ holds_void u = list_any is_void (without_void u.construct.position u.type)
 
 -- Rule 7: handle_t is only the type of an [in] parameter without pointer or bound.
 
-abbrev is_in_alone : Use → Bool
+abbrev pub is_in_alone : Use → Bool
 is_in_alone u = has in_word u.construct.attributes && not (has out_word u.construct.attributes)
 
-abbrev without_handle : Position → Bool → IdlType → List IdlType
+abbrev pub without_handle : Position → Bool → IdlType → List IdlType
 without_handle InParameter true t = below t
 without_handle _ _ t = chain t
 

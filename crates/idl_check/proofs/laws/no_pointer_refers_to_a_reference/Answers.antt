@@ -1,3 +1,4 @@
+use Rattle.idl_check.proofs.Inner.{all_solid}
 use Rattle.idl_check.proofs.KeptTypes.{no_pointer_to_reference}
 use Rattle.idl_check.proofs.laws.no_pointer_refers_to_a_reference.Goals as goal
 
