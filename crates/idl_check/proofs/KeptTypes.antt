@@ -30,7 +30,7 @@ none_of true b h = absurd (let e : true ≡ false = h in cc)
 
 -- ## From nodes to the types that they need
 
-abbrev all_are : (IdlType → Bool) → List Needed → Bool
+abbrev pub all_are : (IdlType → Bool) → List Needed → Bool
 all_are p ns = list_all (λ n. p n.type) ns
 
 abbrev Each : Scene → (IdlType → Bool) → Type 0
@@ -50,7 +50,7 @@ kept_or_not : (p : IdlType → Bool) (n : Needed) (ns others : List Needed) (b :
 kept_or_not p n ns others true h i j = conjunction (p n.type) (all_are p ns) h i
 kept_or_not p n ns others false h i j = j
 
-all_first : (p : IdlType → Bool) (before : List IdlType) (ns : List Needed) → all_are p ns ≡ true → all_are p (first_needed before ns) ≡ true
+pub all_first : (p : IdlType → Bool) (before : List IdlType) (ns : List Needed) → all_are p ns ≡ true → all_are p (first_needed before ns) ≡ true
 all_first p before [] h = refl
 all_first p before (n ∷ ns) h =
     let parts = apart (p n.type) (all_are p ns) h in

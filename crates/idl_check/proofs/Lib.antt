@@ -6,3 +6,4 @@ mod Needed
 mod Kept
 mod KeptTypes
 mod Inner
+mod Referents

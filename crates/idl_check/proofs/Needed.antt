@@ -16,7 +16,7 @@ pub conjunction : (a b : Bool) → a ≡ true → b ≡ true → (a && b) ≡ tr
 conjunction true b h i = i
 conjunction false b h i = absurd (let e : false ≡ true = h in cc)
 
-right : (a b : Bool) → b ≡ true → (a || b) ≡ true
+pub right : (a b : Bool) → b ≡ true → (a || b) ≡ true
 right true b h = refl
 right false b h = h
 
@@ -34,7 +34,7 @@ same_count_itself : (m : Option ℤ) → same_count m m ≡ true
 same_count_itself None = refl
 same_count_itself (Some a) = (Decides-int_eq a a).1 refl
 
-itself : (t : IdlType) → same_type t t ≡ true
+pub itself : (t : IdlType) → same_type t t ≡ true
 itself Void = refl
 itself Handle = refl
 itself ContextHandle = refl
@@ -49,7 +49,7 @@ itself (Pointer c t) = conjunction (same_class c c) (same_type t t) (same_class_
 itself (Pipe t) = itself t
 
 -- whether a type is among those that are needed
-abbrev is_among : List Needed → IdlType → Bool
+abbrev pub is_among : List Needed → IdlType → Bool
 is_among ns t = list_any (λ n. same_type n.type t) ns
 
 abbrev Known : List IdlType → List Needed → IdlType → Type 0
@@ -98,7 +98,7 @@ numbered : (s : Scene) (t : IdlType) → has_own_number t ≡ true → is_among 
 unfolding own_types
 numbered s t own h = elim (known [] (needed_types s) t own h) [ inl e ↦ absurd (let f : false ≡ true = e in cc) | inr e ↦ e ]
 
-each_one : (s : Scene) (t : IdlType) → is_among (needed_types s) t ≡ true → is_numbered_or_none s t ≡ true
+pub each_one : (s : Scene) (t : IdlType) → is_among (needed_types s) t ≡ true → is_numbered_or_none s t ≡ true
 each_one s Void h = refl
 each_one s Handle h = refl
 each_one s ContextHandle h = refl
@@ -111,7 +111,7 @@ each_one s (Text t m) h = numbered s (Text t m) refl h
 each_one s (Pointer c t) h = numbered s (Pointer c t) refl h
 each_one s (Pipe t) h = numbered s (Pipe t) refl h
 
-all_among : (p : IdlType → Bool) (ns : List Needed) → ((t : IdlType) → is_among ns t ≡ true → p t ≡ true) → list_all (λ n. p n.type) ns ≡ true
+pub all_among : (p : IdlType → Bool) (ns : List Needed) → ((t : IdlType) → is_among ns t ≡ true → p t ≡ true) → list_all (λ n. p n.type) ns ≡ true
 all_among p [] h = refl
 all_among p (n ∷ ns) h =
     conjunction (p n.type) (list_all (λ m. p m.type) ns)

@@ -86,7 +86,7 @@ abbrev bound : Option ℤ → Option ℕ
 bound count = option_map natural count
 
 -- Each pointer has a class by now.
-abbrev pointer_class : Option PointerClass → Class
+abbrev pub pointer_class : Option PointerClass → Class
 pointer_class (Some class.Reference) = nd_class.Ref
 pointer_class (Some class.Unique) = nd_class.Unique
 pointer_class (Some class.Full) = nd_class.Full
@@ -135,28 +135,24 @@ or_handle (Some t) = t
 or_handle None = Handle
 
 -- A struct of these members. By the grammar it has one.
-abbrev struct_of : List Field → TypeDef
+abbrev pub struct_of : List Field → TypeDef
 struct_of [] = def.Enum []
 struct_of (f ∷ fs) = def.Struct (f ∷ fs)
 
--- a struct, union or enum, by its body
-abbrev defined : Scene → Body → TypeDef
-defined s b = elim b.body [
-  | tree.Struct at tag _ ↦ struct_of (map (field s b.names (parts_declared b.construct b.body)) (parts_declared b.construct b.body))
-  | tree.EncapsulatedUnion at tag d name cases ↦
-      def.Union (number s (or_handle (tag_type b.construct b.names b.body))) true (labelled_arms s b) (default_arm s b)
-  | tree.NonEncapsulatedUnion at tag arms ↦
-      def.Union (number s (or_handle (tag_type b.construct b.names b.body))) false (labelled_arms s b) (default_arm s b)
-  | tree.Enum at tag es ↦ def.Enum (map (λ e. or_zero (known_names.number_of s.known e.name.octets)) es)
-  | tree.Simple t ↦ def.Enum []
-  | tree.Name n ↦ def.Enum []
-  | tree.Tag at kind tag ↦ def.Enum []
-]
+-- what a body defines
+abbrev pub defined_by : Scene → Body → TypeSpec → TypeDef
+defined_by s b (tree.Struct at tag _) = struct_of (map (field s b.names (parts_declared b.construct b.body)) (parts_declared b.construct b.body))
+defined_by s b (tree.EncapsulatedUnion at tag d name cases) =
+    def.Union (number s (or_handle (tag_type b.construct b.names b.body))) true (labelled_arms s b) (default_arm s b)
+defined_by s b (tree.NonEncapsulatedUnion at tag arms) =
+    def.Union (number s (or_handle (tag_type b.construct b.names b.body))) false (labelled_arms s b) (default_arm s b)
+defined_by s b (tree.Enum at tag es) = def.Enum (map (λ e. or_zero (known_names.number_of s.known e.name.octets)) es)
+defined_by s b _ = def.Enum []
 
 -- Each tag has its body in files that are resolved. Without one it has no values, so that the table is legal whatever the files are.
-abbrev defined_at : Scene → Option Body → TypeDef
+abbrev pub defined_at : Scene → Option Body → TypeDef
 defined_at s None = def.Enum []
-defined_at s (Some b) = defined s b
+defined_at s (Some b) = defined_by s b b.body
 
 -- what a type is in the table
 abbrev pub definition : Scene → IdlType → TypeDef

@@ -2,15 +2,15 @@
 
 ghost use Rattle.std.specs.Prelude.{◌≡◌, ℕ, [], ◌∷◌, map, Ok, Err};
 ghost use Rattle.nd_base.specs.declared.octets.Place.{Place};
-ghost use Rattle.std.specs.Prelude.{Some, not, true};
+ghost use Rattle.std.specs.Prelude.{Some, true};
 ghost use Rattle.std.specs.List.{list_all};
 ghost use Rattle.nd_types.specs.Table.{type_at};
 ghost use Rattle.idl_check.specs.World.{World};
 ghost use Rattle.idl_check.specs.Types.{IdlType};
 ghost use Rattle.idl_check.specs.Scene.{Scene, Use};
 ghost use Rattle.idl_check.specs.Kept.{KeepsUse};
-ghost use Rattle.idl_check.specs.PointerRules.{refers_to_reference};
-ghost use Rattle.idl_check.specs.Numbering.{is_numbered, is_numbered_or_none, needed_types, own_types, number_of_type};
+ghost use Rattle.nd_types.specs.Legal.{refers_to_no_reference};
+ghost use Rattle.idl_check.specs.Numbering.{is_numbered, is_numbered_or_none, needed_types, number_of_type};
 ghost use Rattle.idl_check.specs.Meaning.{types_of, definition};
 ghost use Rattle.idl_check.specs.Rules.{breach, breaches, breaches_in, breaches_of_use};
 ghost use Rattle.idl_check.specs.FirstBroken.{first_broken, IsLeast};
@@ -60,5 +60,5 @@ pub fn declarators_keep_their_rules()
 
 /// Where no rule is broken, no pointer in the table points to a reference pointer.
 pub fn no_pointer_refers_to_a_reference()
-    ensures { (s : Scene) → breaches_in s ≡ [] → list_all (λ n. not (refers_to_reference n.type)) (own_types s) ≡ true }
+    ensures { (s : Scene) → breaches_in s ≡ [] → list_all (refers_to_no_reference (types_of s)) (types_of s) ≡ true }
 {}
