@@ -1,7 +1,6 @@
 -- Types that are the same by test are equal.
-use Rattle.std.proofs.Common.{◌≡◌, ℕ, Bool, true, false, ◌||◌, ◌&&◌, Option, Some, None, ℤ, refl, sym, ap, arith, ◌∙◌}
+use Rattle.std.proofs.Common.{◌≡◌, Bool, true, false, ◌&&◌, Option, Some, None, ℤ, refl, sym, ap, arith, ◌∙◌}
 use Rattle.std.specs.Prelude.{eqb}
-use Rattle.std.specs.Ordering.{int_eq}
 use Rattle.std.proofs.lemmas.Bool.Decides.{nat_tests, Decides-int_eq}
 use Rattle.nd_base.specs.declared.octets.Place.{Place}
 use Rattle.nd_types.specs.declared.types.Primitive.{Primitive}

@@ -1,16 +1,13 @@
 -- What a type in the table is made of is in the table too.
-use Rattle.std.proofs.Common.{◌≡◌, ℕ, Bool, true, false, not, ◌||◌, ◌&&◌, List, [], ◌∷◌, ◌++◌, map, Option, Some, None, refl, sym, ap, arith, ◌∙◌, subst}
-use Rattle.std.specs.List.{list_any, list_all, flat_map}
-use Rattle.std.proofs.lemmas.List.Folds.{list_any-append, list_all-append, list_all-map}
-use Rattle.idl_grammar.specs.declared.types.TagKind.{TagKind}
+use Rattle.std.proofs.Common.{◌≡◌, Bool, true, false, not, ◌||◌, [], refl, sym, ◌∙◌}
+use Rattle.std.specs.List.{list_any, list_all}
 use Rattle.idl_check.specs.Nodes.{Position, InHeader, InTypedef, InTaggedType, InMember, InParameter, InArm, InCasedArm, InOperation}
 use Rattle.idl_check.specs.Types.{IdlType, Void, Handle, ContextHandle, Basic, Struct, Union, Enum, Array, Text, Pointer, Pipe, is_void, is_handle}
-use Rattle.idl_check.specs.Scene.{Scene, Use, chain, below}
+use Rattle.idl_check.specs.Scene.{Scene, chain, below}
 use Rattle.idl_check.specs.Rules.{breaches_in}
 use Rattle.idl_check.specs.TypeRules.{without_void, without_handle, is_in_alone}
-use Rattle.idl_check.specs.Kept.{KeepsUse}
-use Rattle.idl_check.specs.Numbering.{own_types, is_numbered, is_numbered_or_none}
-use Rattle.idl_check.proofs.KeptTypes.{none_of, all_own_good, IsOfDerived}
+use Rattle.idl_check.specs.Numbering.{own_types}
+use Rattle.idl_check.proofs.KeptTypes.{none_of, all_own_good}
 
 -- what a type is made of, or points to, is `void` or `handle_t`
 abbrev pub is_hollow : IdlType → Bool
@@ -87,4 +84,4 @@ handle_below InCasedArm b t h = (further is_handle t h).1
 pub all_solid : (s : Scene) → breaches_in s ≡ [] → list_all (λ n. not (is_hollow n.type)) (own_types s) ≡ true
 all_solid s h =
     all_own_good s is_hollow (record { structs = λ p. refl; unions = λ p. refl; enums = λ p. refl })
-        (λ u k. solid u.type (void_below u.construct.position u.type k.no_void) (handle_below u.construct.position (is_in_alone u) u.type k.no_handle)) h
+    (λ u k. solid u.type (void_below u.construct.position u.type k.no_void) (handle_below u.construct.position (is_in_alone u) u.type k.no_handle)) h

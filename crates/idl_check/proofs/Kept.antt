@@ -1,7 +1,7 @@
 -- A declarator breaks no rule: each test fails.
-use Rattle.std.proofs.Common.{◌≡◌, ℕ, Bool, true, false, List, [], ◌∷◌, ◌++◌, refl, sym, ap, arith}
+use Rattle.std.proofs.Common.{◌≡◌, ℕ, Bool, true, false, List, [], ◌∷◌, ◌++◌, refl}
 use Rattle.idl_check.specs.Nodes.{Construct}
-use Rattle.idl_check.specs.Rules.{Breach, broken_in, breaches_of_use}
+use Rattle.idl_check.specs.Rules.{broken_in, breaches_of_use}
 use Rattle.idl_check.specs.Scene.{Scene, Use}
 use Rattle.idl_check.specs.Kept.{KeepsUse}
 use Rattle.idl_check.specs.DeclarationRules.{is_wrongly_cased, lacks_direction}

@@ -1,5 +1,5 @@
 -- Where no rule is broken, what a rule asks of each declarator's type holds of each type in the table.
-use Rattle.std.proofs.Common.{◌≡◌, ℕ, Bool, true, false, not, ◌||◌, ◌&&◌, List, [], ◌∷◌, ◌++◌, map, Option, Some, None, refl, sym, ap, arith, ◌∙◌}
+use Rattle.std.proofs.Common.{◌≡◌, ℕ, Bool, true, false, not, ◌||◌, ◌&&◌, List, [], ◌∷◌, ◌++◌, map, refl, ap, ◌∙◌}
 use Rattle.std.specs.List.{list_any, list_all, flat_map}
 use Rattle.std.proofs.lemmas.List.Folds.{list_all-append, list_all-map}
 use Rattle.nd_base.specs.declared.octets.Place.{Place}
@@ -11,8 +11,8 @@ use Rattle.idl_grammar.specs.Tree as tree
 use Rattle.idl_names.specs.Known.{Known}
 use Rattle.idl_check.specs.Nodes.{Construct, place_in, Node, HeaderNode, AttributeNode, SwitchNode, TagNode, BodyNode, EnumeratorNode, LabelNode, EmptyArmNode, DeclaratorNode, ConstantNode, TypeNode, OperationNode}
 use Rattle.idl_check.specs.Types.{IdlType, Void, Handle, ContextHandle, Basic, Struct, Union, Enum, Array, Text, Pointer, Pipe, Names, type_of, type_of_tag}
-use Rattle.idl_check.specs.Scene.{Scoped, Scene, Use, Body, use_of, chain, type_of_body}
-use Rattle.idl_check.specs.Rules.{Breach, breach, breaches_at, breaches_in}
+use Rattle.idl_check.specs.Scene.{Scoped, Scene, Use, use_of, chain, type_of_body}
+use Rattle.idl_check.specs.Rules.{breach, breaches_at, breaches_in}
 use Rattle.idl_check.specs.CountRules.{too_many}
 use Rattle.idl_check.specs.Numbering.{Needed, needed, built, needed_by, needed_types, own_types, first_needed, has_own_number, same_type}
 use Rattle.idl_check.specs.PointerRules.{refers_to_reference}
@@ -43,7 +43,7 @@ all_needed s p each (n ∷ ns) h =
     let parts = neither (breaches_at s n.names n.node) (flat_map (λ m. breaches_at s m.names m.node) ns) h in
     list_all-append (λ m. p m.type) (needed_by s.known n.names n.node) (flat_map (λ m. needed_by s.known m.names m.node) ns)
     ∙ conjunction (all_are p (needed_by s.known n.names n.node)) (all_are p (flat_map (λ m. needed_by s.known m.names m.node) ns))
-        (each n.names n.node parts.0) (all_needed s p each ns parts.1)
+    (each n.names n.node parts.0) (all_needed s p each ns parts.1)
 
 kept_or_not : (p : IdlType → Bool) (n : Needed) (ns others : List Needed) (b : Bool) → p n.type ≡ true → all_are p ns ≡ true → all_are p others ≡ true
     → all_are p (elim b [ true ↦ n ∷ ns | false ↦ others ]) ≡ true
@@ -55,7 +55,7 @@ all_first p before [] h = refl
 all_first p before (n ∷ ns) h =
     let parts = apart (p n.type) (all_are p ns) h in
     kept_or_not p n (first_needed (n.type ∷ before) ns) (first_needed before ns) (has_own_number n.type && not (list_any (same_type n.type) before)) parts.0
-        (all_first p (n.type ∷ before) ns parts.1) (all_first p before ns parts.1)
+    (all_first p (n.type ∷ before) ns parts.1) (all_first p before ns parts.1)
 
 -- what holds of the types of each node holds of all types in the table
 pub all_own : (s : Scene) (p : IdlType → Bool) → Each s p → breaches_in s ≡ [] → all_are p (own_types s) ≡ true

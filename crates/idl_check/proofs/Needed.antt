@@ -1,15 +1,12 @@
 -- Each type that a node needs has a number.
-use Rattle.std.proofs.Common.{◌≡◌, ℕ, Bool, true, false, not, ◌||◌, ◌&&◌, ◌⊎◌, inl, inr, List, [], ◌∷◌, Option, Some, None, ℤ, refl, sym, ap, arith, ◌∙◌, subst}
+use Rattle.std.proofs.Common.{◌≡◌, Bool, true, false, not, ◌||◌, ◌&&◌, ◌⊎◌, inl, inr, List, [], ◌∷◌, Option, Some, None, ℤ, refl, sym, ap, arith, ◌∙◌, subst}
 use Rattle.std.specs.List.{list_any, list_all}
-use Rattle.std.specs.Ordering.{int_eq}
 use Rattle.std.proofs.lemmas.Bool.Decides.{nat_tests, Decides-int_eq}
-use Rattle.nd_types.specs.declared.types.Primitive.{Primitive}
-use Rattle.nd_types.specs.Kinds.{prim_number}
 use Rattle.idl_grammar.specs.declared.attributes.PointerClass.{PointerClass}
 use Rattle.idl_grammar.specs.declared.attributes.PointerClass.TheVariants as class
 use Rattle.idl_check.specs.Types.{IdlType, Void, Handle, ContextHandle, Basic, Struct, Union, Enum, Array, Text, Pointer, Pipe}
-use Rattle.idl_check.specs.Scene.{Scene, same_place}
-use Rattle.idl_check.specs.Numbering.{Needed, needed_types, own_types, first_needed, has_own_number, same_type, same_count, same_flag, same_class, is_numbered, is_numbered_or_none}
+use Rattle.idl_check.specs.Scene.{Scene}
+use Rattle.idl_check.specs.Numbering.{Needed, needed_types, own_types, first_needed, has_own_number, same_type, same_count, same_flag, same_class, is_numbered_or_none}
 use Rattle.idl_check.proofs.Equal.{type_is}
 
 pub conjunction : (a b : Bool) → a ≡ true → b ≡ true → (a && b) ≡ true
@@ -68,15 +65,15 @@ here : (before : List IdlType) (n : Needed) (ns : List Needed) (t : IdlType) →
 here before n ns t e own true h = inl (subst (λ u. list_any (same_type u) before ≡ true) e h)
 here before n ns t e own false h =
     subst (λ b. KnownBy (b && true) before n ns t) (sym (ap has_own_number e ∙ own))
-        (inr (subst (λ u. (same_type n.type u || is_among (first_needed (n.type ∷ before) ns) u) ≡ true) e
-            (ap (λ b. b || is_among (first_needed (n.type ∷ before) ns) n.type) (itself n.type))))
+    (inr (subst (λ u. (same_type n.type u || is_among (first_needed (n.type ∷ before) ns) u) ≡ true) e
+    (ap (λ b. b || is_among (first_needed (n.type ∷ before) ns) n.type) (itself n.type))))
 
 -- it stands further on, behind one that was kept
 behind_kept : (before : List IdlType) (n : Needed) (ns : List Needed) (t : IdlType) (same : Bool) → same_type t n.type ≡ same
     → ((same || list_any (same_type t) before) ≡ true) ⊎ (is_among (first_needed (n.type ∷ before) ns) t ≡ true) → KnownBy true before n ns t
 behind_kept before n ns t true e h =
     inr (subst (λ u. (same_type u t || is_among (first_needed (n.type ∷ before) ns) t) ≡ true) (type_is t n.type e)
-        (ap (λ b. b || is_among (first_needed (n.type ∷ before) ns) t) (itself t)))
+    (ap (λ b. b || is_among (first_needed (n.type ∷ before) ns) t) (itself t)))
 behind_kept before n ns t false e (inl h) = inl h
 behind_kept before n ns t false e (inr h) = inr (right (same_type n.type t) (is_among (first_needed (n.type ∷ before) ns) t) h)
 
@@ -115,8 +112,8 @@ pub all_among : (p : IdlType → Bool) (ns : List Needed) → ((t : IdlType) →
 all_among p [] h = refl
 all_among p (n ∷ ns) h =
     conjunction (p n.type) (list_all (λ m. p m.type) ns)
-        (h n.type (ap (λ b. b || is_among ns n.type) (itself n.type)))
-        (all_among p ns (λ t i. h t (right (same_type n.type t) (is_among ns t) i)))
+    (h n.type (ap (λ b. b || is_among ns n.type) (itself n.type)))
+    (all_among p ns (λ t i. h t (right (same_type n.type t) (is_among ns t) i)))
 
 -- each type that a node needs has a number
 pub all_numbered : (s : Scene) → list_all (λ n. is_numbered_or_none s n.type) (needed_types s) ≡ true

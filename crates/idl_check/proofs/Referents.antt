@@ -1,10 +1,9 @@
 -- In the table no pointer points to a reference pointer.
-use Rattle.std.proofs.Common.{◌≡◌, ℕ, Bool, true, false, not, ◌||◌, ◌&&◌, List, [], ◌∷◌, ◌++◌, map, Option, Some, None, refl, sym, ap, arith, ◌∙◌, subst}
+use Rattle.std.proofs.Common.{◌≡◌, ℕ, Bool, true, false, not, ◌||◌, ◌&&◌, List, [], ◌∷◌, ◌++◌, map, Option, Some, None, refl, sym, ap, ◌∙◌, subst}
 use Rattle.std.specs.List.{list_any, list_all, flat_map}
 use Rattle.std.proofs.lemmas.List.Folds.{list_any-append, list_all-append, list_all-map}
-use Rattle.nd_types.specs.declared.types.TypeDef.{TypeDef}
 use Rattle.nd_types.specs.declared.types.Field.{Field}
-use Rattle.nd_types.specs.Table.{Table, type_at}
+use Rattle.nd_types.specs.Table.{Table}
 use Rattle.nd_types.specs.Kinds as kinds
 use Rattle.nd_types.specs.Kinds.{basic_types}
 use Rattle.nd_types.specs.Legal.{refers_to_no_reference}
@@ -20,12 +19,12 @@ use Rattle.idl_check.specs.Types.{IdlType, Void, Handle, ContextHandle, Basic, S
 use Rattle.idl_check.specs.Scene.{Scoped, Scene, Body, body_of, type_of_body}
 use Rattle.idl_check.specs.Rules.{breaches_in}
 use Rattle.idl_check.specs.PointerRules.{refers_to_reference}
-use Rattle.idl_check.specs.Numbering.{Needed, needed, built, needed_by, needed_types, own_types, same_type, number_of_type, is_numbered, is_numbered_or_none}
+use Rattle.idl_check.specs.Numbering.{Needed, needed, built, needed_by, needed_types, own_types, same_type, is_numbered, is_numbered_or_none}
 use Rattle.idl_check.specs.Meaning.{definition, types_of, struct_of, defined_by, defined_at}
 use Rattle.idl_check.proofs.Equal.{type_is}
 use Rattle.idl_check.proofs.Numbers.{at_its_number}
 use Rattle.idl_check.proofs.Needed.{conjunction, right, itself, is_among, each_one, all_among}
-use Rattle.idl_check.proofs.KeptTypes.{none_of, all_are, all_first, no_pointer_to_reference}
+use Rattle.idl_check.proofs.KeptTypes.{all_are, all_first, no_pointer_to_reference}
 use Rattle.idl_check.proofs.Inner.{is_hollow, all_solid}
 
 -- ## What a needed type is made of is needed
@@ -149,7 +148,7 @@ closed_all known (n ∷ ns) t h =
     let rest = flat_map (λ m. needed_by known m.names m.node) ns in
     list_any-append (λ m. same_type m.type (inner_of t)) here rest
     ∙ either (is_among here t) (is_among rest t) (is_among here (inner_of t)) (is_among rest (inner_of t)) (by_node known n.names n.node t) (closed_all known ns t)
-        (sym (list_any-append (λ m. same_type m.type t) here rest) ∙ h)
+    (sym (list_any-append (λ m. same_type m.type t) here rest) ∙ h)
 
 inner_needed : (s : Scene) (t : IdlType) → is_among (needed_types s) t ≡ true → is_among (needed_types s) (inner_of t) ≡ true
 unfolding needed_types
@@ -160,7 +159,7 @@ pub inner_numbered : (s : Scene) → all_are (λ t. is_numbered_or_none s (inner
 unfolding own_types
 inner_numbered s =
     all_first (λ t. is_numbered_or_none s (inner_of t)) [] (needed_types s)
-        (all_among (λ t. is_numbered_or_none s (inner_of t)) (needed_types s) (λ t h. each_one s (inner_of t) (inner_needed s t h)))
+    (all_among (λ t. is_numbered_or_none s (inner_of t)) (needed_types s) (λ t h. each_one s (inner_of t) (inner_needed s t h)))
 
 -- ## Pointers in the table
 
@@ -264,7 +263,7 @@ together p q r z f (n ∷ ns) h i j =
 pub table_referents : (s : Scene) → breaches_in s ≡ [] → list_all (refers_to_no_reference (types_of s)) (types_of s) ≡ true
 table_referents s h =
     let own =
-        together (λ t. not (refers_to_reference t)) (λ t. not (is_hollow t)) (λ t. is_numbered_or_none s (inner_of t))
-            (λ t. refers_to_no_reference (types_of s) (definition s t)) (fact s) (own_types s) (no_pointer_to_reference s h) (all_solid s h) (inner_numbered s) in
+    together (λ t. not (refers_to_reference t)) (λ t. not (is_hollow t)) (λ t. is_numbered_or_none s (inner_of t))
+    (λ t. refers_to_no_reference (types_of s) (definition s t)) (fact s) (own_types s) (no_pointer_to_reference s h) (all_solid s h) (inner_numbered s) in
     list_all-append (refers_to_no_reference (types_of s)) basic_types (map (λ n. definition s n.type) (own_types s))
     ∙ (list_all-map (refers_to_no_reference (types_of s)) (λ n. definition s n.type) (own_types s) ∙ own)

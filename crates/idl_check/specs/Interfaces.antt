@@ -1,5 +1,5 @@
 -- Texts, and the interfaces that they mean.
-use Rattle.std.specs.Prelude.{ℕ, ℤ, pos, Bool, true, false, List, [], ◌∷◌, ◌++◌, Option, Some, None, codes, Result, Ok, Err}
+use Rattle.std.specs.Prelude.{ℕ, pos, false, List, [], ◌∷◌, ◌++◌, Option, Some, None, codes, Result, Ok, Err}
 use Rattle.phrases.specs.Reading.{Fault}
 use Rattle.nd_types.specs.declared.types.TypeId.{TypeId}
 use Rattle.nd_types.specs.declared.types.TypeDef.TheVariants.{Enum, Struct, Array, Text, Union, Pointer}
@@ -78,12 +78,12 @@ directory_meant = record {
       ++ Enum (pos 0 ∷ pos 4 ∷ [])
       ∷ Union (number 12) false (arm 0 (Some (codes "size")) (Some (number 8)) ∷ arm 4 None None ∷ []) None
       ∷ Struct (
-        field (codes "kind") 12 []
-        ∷ field (codes "detail") 13 (var attr.Switch 0 ∷ [])
-        ∷ field (codes "name") 15 []
-        ∷ field (codes "parent") 16 []
-        ∷ field (codes "next") 17 []
-        ∷ []
+      field (codes "kind") 12 []
+      ∷ field (codes "detail") 13 (var attr.Switch 0 ∷ [])
+      ∷ field (codes "name") 15 []
+      ∷ field (codes "parent") 16 []
+      ∷ field (codes "next") 17 []
+      ∷ []
       )
       ∷ Text (number 1) (Some 16)
       ∷ Pointer class.Full (number 14)

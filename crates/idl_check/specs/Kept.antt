@@ -1,5 +1,5 @@
 -- What holds where no rule is broken.
-use Rattle.std.specs.Prelude.{◌≡◌, Bool, false}
+use Rattle.std.specs.Prelude.{◌≡◌, false}
 use Rattle.idl_check.specs.Scene.{Scene, Use}
 use Rattle.idl_check.specs.DeclarationRules.{is_wrongly_cased, lacks_direction}
 use Rattle.idl_check.specs.ValueRules.{has_lower_bounds}
