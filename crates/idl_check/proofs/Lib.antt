@@ -7,3 +7,4 @@ mod Kept
 mod KeptTypes
 mod Inner
 mod Referents
+mod Few

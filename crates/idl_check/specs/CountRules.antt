@@ -9,21 +9,21 @@ use Rattle.idl_check.specs.Scene.{Scene}
 use Rattle.idl_check.specs.Numbering.{own_types}
 
 -- the constructs that need types past the limit
-abbrev types_too_many : Scene → List Construct
+abbrev pub types_too_many : Scene → List Construct
 types_too_many s = drop (TYPE_LIMIT - length basic_types) (map (λ n. n.construct) (own_types s))
 
 abbrev operation_in : Node → List Construct
 operation_in (OperationNode c name parameters result) = c ∷ []
 operation_in _ = []
 
-abbrev operations_too_many : Scene → List Construct
+abbrev pub operations_too_many : Scene → List Construct
 operations_too_many s = drop OPERATION_LIMIT (flat_map (λ n. operation_in n.node) s.nodes)
 
 abbrev parameters_in : Node → List Construct
 parameters_in (OperationNode c name parameters result) = map (λ p. p.construct) parameters
 parameters_in _ = []
 
-abbrev parameters_too_many : Scene → List Construct
+abbrev pub parameters_too_many : Scene → List Construct
 parameters_too_many s = flat_map (λ n. drop PARAM_LIMIT (parameters_in n.node)) s.nodes
 
 abbrev member_of : Position → Construct → List Construct
@@ -35,7 +35,7 @@ part_in (DeclaratorNode list index d) = member_of d.construct.position d.constru
 part_in (LabelNode c body before label) = c ∷ []
 part_in _ = []
 
-abbrev parts_too_many : Scene → List Construct
+abbrev pub parts_too_many : Scene → List Construct
 parts_too_many s = drop MEMBER_LIMIT (flat_map (λ n. part_in n.node) s.nodes)
 
 abbrev pub too_many : Scene → List Construct

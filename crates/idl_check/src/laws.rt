@@ -1,6 +1,7 @@
 //! Laws over the definitions, and worked examples.
 
-ghost use Rattle.std.specs.Prelude.{◌≡◌, ℕ, [], ◌∷◌, map, Ok, Err};
+ghost use Rattle.std.specs.Prelude.{◌≡◌, ℕ, ◌≤◌, [], ◌∷◌, length, map, Ok, Err};
+ghost use Rattle.nd_types.specs.declared.TheConstants.{TYPE_LIMIT};
 ghost use Rattle.nd_base.specs.declared.octets.Place.{Place};
 ghost use Rattle.std.specs.Prelude.{Some, true};
 ghost use Rattle.std.specs.List.{list_all};
@@ -61,4 +62,9 @@ pub fn declarators_keep_their_rules()
 /// Where no rule is broken, no pointer in the table points to a reference pointer.
 pub fn no_pointer_refers_to_a_reference()
     ensures { (s : Scene) → breaches_in s ≡ [] → list_all (refers_to_no_reference (types_of s)) (types_of s) ≡ true }
+{}
+
+/// Where no rule is broken, the table has at most 4,096 types.
+pub fn types_are_few()
+    ensures { (s : Scene) → breaches_in s ≡ [] → length (types_of s) ≤ TYPE_LIMIT }
 {}
