@@ -44,9 +44,9 @@ value numbers (Leaf a) = operand_value numbers a
 value numbers (Round at e) = value numbers e
 value numbers (Unary at s e) = with_value (value numbers e) (λ a. in_range at (unary_value s a))
 value numbers (Binary l at s r) = with_value (value numbers l) (λ a. elim (is_decided s a) [
-  | true ↦ Ok (truth (not (is_zero a)))
-  | false ↦ with_value (value numbers r) (λ b. binary_value at s a b)
-])
+      true ↦ Ok (truth (not (is_zero a)))
+    | false ↦ with_value (value numbers r) (λ b. binary_value at s a b)
+  ])
 value numbers (Conditional c at a b) = with_value (value numbers c) (λ z. with_value (elim (is_zero z) [ true ↦ value numbers b | false ↦ value numbers a ]) (λ v. in_range at v))
 
 -- ## Names that are not known

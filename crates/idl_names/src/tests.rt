@@ -44,12 +44,10 @@ fn tree_of(alloc: Global, expression: &[u8]) -> Result<Tree, Fail> {
 
 fn expression_of(tree: &Tree) -> Option<&Expr> {
     match tree.exports.first() {
-        Some(
-            Export::Const {
-                value: Init::Value(expression),
-                ..
-            },
-        ) => Some(expression),
+        Some(Export::Const {
+            value: Init::Value(expression),
+            ..
+        }) => Some(expression),
         _ => None,
     }
 }
@@ -113,33 +111,13 @@ fn faults_stand_at_their_operators(rt: HostRuntime) -> Result<(), Fail> {
     let alloc = rt.alloc();
     assert_value(&rt, alloc, b"1 << 64", fault(2, ConstFault::OutOfRange))?;
     assert_value(&rt, alloc, b"1 >> -1", fault(2, ConstFault::OutOfRange))?;
-    assert_value(
-        &rt,
-        alloc,
-        b"0xFFFFFFFFFFFFFFFF + 1",
-        fault(19, ConstFault::OutOfRange),
-    )?;
-    assert_value(
-        &rt,
-        alloc,
-        b"-(1 << 63) - 1",
-        fault(11, ConstFault::OutOfRange),
-    )?;
-    assert_value(
-        &rt,
-        alloc,
-        b"(1 << 63) << 1",
-        fault(10, ConstFault::OutOfRange),
-    )?;
+    assert_value(&rt, alloc, b"0xFFFFFFFFFFFFFFFF + 1", fault(19, ConstFault::OutOfRange))?;
+    assert_value(&rt, alloc, b"-(1 << 63) - 1", fault(11, ConstFault::OutOfRange))?;
+    assert_value(&rt, alloc, b"(1 << 63) << 1", fault(10, ConstFault::OutOfRange))?;
     assert_value(&rt, alloc, b"M * M", fault(2, ConstFault::OutOfRange))?;
     assert_value(&rt, alloc, b"+M", fault(0, ConstFault::OutOfRange))?;
     assert_value(&rt, alloc, b"5 % 0", fault(2, ConstFault::ZeroDivisor))?;
-    assert_value(
-        &rt,
-        alloc,
-        b"(0 - 1) / 0 + (1 << 64)",
-        fault(8, ConstFault::ZeroDivisor),
-    )?;
+    assert_value(&rt, alloc, b"(0 - 1) / 0 + (1 << 64)", fault(8, ConstFault::ZeroDivisor))?;
     assert_value(&rt, alloc, b"N + T", fault(4, ConstFault::NotConst))
 }
 
