@@ -1,8 +1,7 @@
 -- What is known of names, and how each step of a file changes it or is at fault (C706, sections 4.2.2, 4.2.5 to 4.2.11).
-use Rattle.std.specs.Prelude.{ℕ, Bool, true, false, cond, ◌&&◌, List, [], ◌∷◌, ◌++◌, Option, Some, None, option_map, ℤ, pos, ◌+ℤ◌, Result, Ok, Err}
+use Rattle.std.specs.Prelude.{◌≡◌, ℕ, Bool, true, false, cond, ◌&&◌, List, [], ◌∷◌, ◌++◌, Option, Some, None, option_map, ℤ, pos, ◌+ℤ◌, Result, Ok, Err}
 use Rattle.std.specs.Option.{is_some}
 use Rattle.std.specs.Str.{bytes_eq}
-use Rattle.std.specs.Map.{lookup}
 use Rattle.nd_base.specs.declared.octets.Place.{Place}
 use Rattle.idl_grammar.specs.declared.words.Spelling.{Spelling}
 use Rattle.idl_grammar.specs.declared.types.TagKind.{TagKind}
@@ -16,6 +15,7 @@ use Rattle.idl_names.specs.declared.fault.ExpressionFault.{ExpressionFault}
 use Rattle.idl_names.specs.declared.fault.ExpressionFault.TheVariants as expression_fault
 use Rattle.idl_names.specs.declared.name_fault.NameFault.{NameFault}
 use Rattle.idl_names.specs.declared.name_fault.NameFault.TheVariants as fault
+use Rattle.idl_names.specs.Tables.{found, put}
 use Rattle.idl_names.specs.Value.{evaluated}
 use Rattle.idl_names.specs.Steps.{Step, UseType, UseTag, DefineTag, Declare, Know, KnowValue, KnowNext, Evaluate, Enlist}
 
@@ -32,14 +32,6 @@ pub record Known : Type 0 where
 
 abbrev pub nothing : Known
 nothing = record { places = []; meanings = []; tags = []; uses = [] }
-
-abbrev pub found : {X : Type 0} → List ℕ → List (List ℕ × X) → Option X
-found name entries = lookup (bytes_eq name) entries
-
--- one more; a name that is there already stays where it is
-abbrev pub put : {X : Type 0} → List (List ℕ × X) → List ℕ → X → List (List ℕ × X)
-put [] name x = (name, x) ∷ []
-put (e ∷ entries) name x = elim (bytes_eq name e.0) [ true ↦ (e.0, x) ∷ entries | false ↦ e ∷ put entries name x ]
 
 -- ## Names that are known
 
@@ -150,6 +142,15 @@ then (Err f) next = Err f
 abbrev pub walked : ℕ → Known → List Step → Result Known NameFault
 walked file k [] = Ok k
 walked file k (s ∷ steps) = then (passed file k s) (λ next. walked file next steps)
+
+-- What was answered on steps is right, unless memory was wanting: all is passed, and this is known; or this is the first fault.
+abbrev pub is_memory : NameFault → Bool
+is_memory fault.Memory = true
+is_memory _ = false
+
+abbrev pub Told : {A : Type 0} → Known → Result A NameFault → Result Known NameFault → Type 0
+Told after (Ok a) r = r ≡ Ok after
+Told after (Err f) r = is_memory f ≡ false → r ≡ Err f
 
 -- ## Behind all files
 

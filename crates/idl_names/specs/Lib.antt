@@ -4,8 +4,9 @@ pub mod Value
 pub mod Checked
 pub mod Example
 pub mod Steps
-pub mod Known
 pub mod Tables
+pub mod Known
+pub mod Kept
 pub mod Sources
 pub mod Files
 pub mod Ended

@@ -11,6 +11,7 @@ mod operators;
 mod resolving;
 mod scope;
 mod sources;
+mod table;
 #[cfg(test)]
 mod tests;
 mod whole;

@@ -1,7 +1,7 @@
 // Why names are not resolved.
 use crate::ConstFault;
 use idl_lexer::LexFault;
-use nd_base::Place;
+use nd_base::{Memory, Place};
 use thiserror::Error;
 
 /// Where the tokens of a file are no file of the language: a copy of the parser's fault, until the parser is a library of this crate.
@@ -77,4 +77,15 @@ pub enum NameFault {
         at: u32,
         fault: SyntaxFault,
     },
+}
+
+impl From<Memory> for NameFault {
+    ghost use Rattle.std.specs.Prelude.{◌≡◌};
+    ghost use Rattle.idl_names.specs.declared.name_fault.NameFault.TheVariants as faults;
+
+    ghost from_gives = { λ _ e. e ≡ faults.Memory };
+
+    fn from(_: Memory) -> NameFault {
+        NameFault::Memory
+    }
 }

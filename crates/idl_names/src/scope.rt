@@ -1,9 +1,9 @@
 // What is known once all files are resolved.
-ghost use Rattle.std.specs.Prelude.{◌≡◌, [], ◌∷◌, ◌++◌, length, slice_get, option_map, OnOk, OnErr};
+ghost use Rattle.std.specs.Prelude.{◌≡◌, [], ◌∷◌, ◌++◌, length, slice_get, option_map, OnOk};
 ghost use Rattle.idl_names.specs.Known.{place_found};
 ghost use Rattle.idl_names.specs.Seen.{seen_file, seen_files};
 
-use crate::known::Names;
+use crate::known::NameTables;
 use idl_grammar::Tree;
 use nd_base::{Memory, Place};
 use std::alloc::Global;
@@ -35,8 +35,7 @@ impl FileTrees {
 
     /// Adds a file. Takes memory for its entry.
     pub(crate) fn push(&mut self, file: FileTree) -> Result<(), Memory>
-        ensures ok { OnOk result (seen_files self.new ≡ seen_files self.old ++ seen_file file ∷ []) }
-        ensures err { OnErr result (self.new ≡ self.old) }
+        ensures { OnOk result (seen_files self.new ≡ seen_files self.old ++ seen_file file ∷ []) }
     {
         match self.items.push(file) {
             Ok(()) => Ok(()),
@@ -65,7 +64,7 @@ pub struct Scope {
     /// The files.
     pub files: FileTrees,
     /// What is known of names.
-    pub(crate) names: Names,
+    pub(crate) names: NameTables,
 }
 
 impl Scope {
