@@ -74,28 +74,28 @@ and_nots : (w : Width) (a b : ℕ) → a < 2 ^ bits w → b < 2 ^ bits w → bit
 and_nots w a b p q = same_from_bits_below (bits w) (bit_and (bit_not w a) (bit_not w b)) (bit_not w (bit_or a b))
     (omega (arith, and_le_l (bit_not w a) (bit_not w b), not_lt w a)) (not_lt w (bit_or a b))
     (λ i h. bit_at_and (bit_not w a) (bit_not w b) i
-        ∙ two min (bit_at (bit_not w a) i) (bit_at (bit_not w b) i) (1 - bit_at a i) (1 - bit_at b i) (bit_at_not w a i p h) (bit_at_not w b i q h)
-        ∙ least_of_nots (bit_at a i) (bit_at b i) (bit_at-lt a i) (bit_at-lt b i)
-        ∙ ap (λ m. 1 - m) (sym (bit_at_or a b i))
-        ∙ sym (bit_at_not w (bit_or a b) i (or_lt (bits w) a b p q) h))
+    ∙ two min (bit_at (bit_not w a) i) (bit_at (bit_not w b) i) (1 - bit_at a i) (1 - bit_at b i) (bit_at_not w a i p h) (bit_at_not w b i q h)
+    ∙ least_of_nots (bit_at a i) (bit_at b i) (bit_at-lt a i) (bit_at-lt b i)
+    ∙ ap (λ m. 1 - m) (sym (bit_at_or a b i))
+    ∙ sym (bit_at_not w (bit_or a b) i (or_lt (bits w) a b p q) h))
 
 or_nots : (w : Width) (a b : ℕ) → a < 2 ^ bits w → b < 2 ^ bits w → bit_or (bit_not w a) (bit_not w b) ≡ bit_not w (bit_and a b)
 or_nots w a b p q = same_from_bits_below (bits w) (bit_or (bit_not w a) (bit_not w b)) (bit_not w (bit_and a b))
     (or_lt (bits w) (bit_not w a) (bit_not w b) (not_lt w a) (not_lt w b)) (not_lt w (bit_and a b))
     (λ i h. bit_at_or (bit_not w a) (bit_not w b) i
-        ∙ two max (bit_at (bit_not w a) i) (bit_at (bit_not w b) i) (1 - bit_at a i) (1 - bit_at b i) (bit_at_not w a i p h) (bit_at_not w b i q h)
-        ∙ greatest_of_nots (bit_at a i) (bit_at b i) (bit_at-lt a i) (bit_at-lt b i)
-        ∙ ap (λ m. 1 - m) (sym (bit_at_and a b i))
-        ∙ sym (bit_at_not w (bit_and a b) i (omega (arith, and_le_l a b, p)) h))
+    ∙ two max (bit_at (bit_not w a) i) (bit_at (bit_not w b) i) (1 - bit_at a i) (1 - bit_at b i) (bit_at_not w a i p h) (bit_at_not w b i q h)
+    ∙ greatest_of_nots (bit_at a i) (bit_at b i) (bit_at-lt a i) (bit_at-lt b i)
+    ∙ ap (λ m. 1 - m) (sym (bit_at_and a b i))
+    ∙ sym (bit_at_not w (bit_and a b) i (omega (arith, and_le_l a b, p)) h))
 
 xor_not : (w : Width) (a b : ℕ) → a < 2 ^ bits w → b < 2 ^ bits w → bit_xor a (bit_not w b) ≡ bit_not w (bit_xor a b)
 xor_not w a b p q = same_from_bits_below (bits w) (bit_xor a (bit_not w b)) (bit_not w (bit_xor a b))
     (xor_lt (bits w) a (bit_not w b) p (not_lt w b)) (not_lt w (bit_xor a b))
     (λ i h. bit_at_xor a (bit_not w b) i
-        ∙ ap (λ y. (bit_at a i + y) % 2) (bit_at_not w b i q h)
-        ∙ one_of_not (bit_at a i) (bit_at b i) (bit_at-lt a i) (bit_at-lt b i)
-        ∙ ap (λ m. 1 - m) (sym (bit_at_xor a b i))
-        ∙ sym (bit_at_not w (bit_xor a b) i (xor_lt (bits w) a b p q) h))
+    ∙ ap (λ y. (bit_at a i + y) % 2) (bit_at_not w b i q h)
+    ∙ one_of_not (bit_at a i) (bit_at b i) (bit_at-lt a i) (bit_at-lt b i)
+    ∙ ap (λ m. 1 - m) (sym (bit_at_xor a b i))
+    ∙ sym (bit_at_not w (bit_xor a b) i (xor_lt (bits w) a b p q) h))
 
 and_not : (w : Width) (a b : ℕ) → a < 2 ^ bits w → b < 2 ^ bits w → bit_and a (bit_not w b) ≡ without a b
 and_not w a b p q = same_from_bits_below (bits w) (bit_and a (bit_not w b)) (without a b)
@@ -136,7 +136,7 @@ both_is (negsuc a) (pos b) f g =
     ∙ to_z_pos w128 (without b a) (without_lt (hbits w128) b a g.sfits)
 both_is (negsuc a) (negsuc b) f g =
     ap (to_z w128) (two bit_and (of_z w128 (negsuc a)) (of_z w128 (negsuc b)) (bit_not w128 a) (bit_not w128 b) (negative_bits w128 a) (negative_bits w128 b)
-        ∙ and_nots w128 a b (fits a f.sfits) (fits b g.sfits))
+    ∙ and_nots w128 a b (fits a f.sfits) (fits b g.sfits))
     ∙ as_negative w128 (bit_or a b) (or_lt (hbits w128) a b f.sfits g.sfits)
 
 pub either_is : (a b : ℤ) → SFits w128 a → SFits w128 b → to_z w128 (bit_or (of_z w128 a) (of_z w128 b)) ≡ bits_in_either a b
@@ -149,7 +149,7 @@ either_is (negsuc a) (pos b) f g =
     ∙ as_negative w128 (without a b) (without_lt (hbits w128) a b f.sfits)
 either_is (negsuc a) (negsuc b) f g =
     ap (to_z w128) (two bit_or (of_z w128 (negsuc a)) (of_z w128 (negsuc b)) (bit_not w128 a) (bit_not w128 b) (negative_bits w128 a) (negative_bits w128 b)
-        ∙ or_nots w128 a b (fits a f.sfits) (fits b g.sfits))
+    ∙ or_nots w128 a b (fits a f.sfits) (fits b g.sfits))
     ∙ as_negative w128 (bit_and a b) (omega (arith, and_le_l a b, f.sfits))
 
 pub one_is : (a b : ℤ) → SFits w128 a → SFits w128 b → to_z w128 (bit_xor (of_z w128 a) (of_z w128 b)) ≡ bits_in_one a b
@@ -159,11 +159,11 @@ one_is (pos a) (negsuc b) f g =
     ∙ as_negative w128 (bit_xor a b) (xor_lt (hbits w128) a b f.sfits g.sfits)
 one_is (negsuc a) (pos b) f g =
     ap (to_z w128) (ap (λ x. bit_xor x b) (negative_bits w128 a) ∙ xor_comm (bit_not w128 a) b ∙ xor_not w128 b a (fits b g.sfits) (fits a f.sfits)
-        ∙ ap (bit_not w128) (xor_comm b a))
+    ∙ ap (bit_not w128) (xor_comm b a))
     ∙ as_negative w128 (bit_xor a b) (xor_lt (hbits w128) a b f.sfits g.sfits)
 one_is (negsuc a) (negsuc b) f g =
     ap (to_z w128) (two bit_xor (of_z w128 (negsuc a)) (of_z w128 (negsuc b)) (bit_not w128 a) (bit_not w128 b) (negative_bits w128 a) (negative_bits w128 b)
-        ∙ xor_nots w128 a b (fits a f.sfits) (fits b g.sfits))
+    ∙ xor_nots w128 a b (fits a f.sfits) (fits b g.sfits))
     ∙ to_z_pos w128 (bit_xor a b) (xor_lt (hbits w128) a b f.sfits g.sfits)
 
 -- ## Two's complement of unlimited width
@@ -212,10 +212,12 @@ bit_of_one (negsuc a) (negsuc b) k = bit_at_xor a b k ∙ sym (one_of_nots (bit_
 
 -- no number without sign has the bits of one with a sign
 apart : (a b : ℕ) → ((k : ℕ) → bit_at a k ≡ 1 - bit_at b k) → ⊥
-apart a b same = absurd (omega (arith,
-    same (max a b),
-    bit_at_above a (max a b) (max a b) (below_power (max a b) a (omega arith)) (omega arith),
-    bit_at_above b (max a b) (max a b) (below_power (max a b) b (omega arith)) (omega arith)))
+apart a b same = absurd (omega (
+  arith,
+  same (max a b),
+  bit_at_above a (max a b) (max a b) (below_power (max a b) a (omega arith)) (omega arith),
+  bit_at_above b (max a b) (max a b) (below_power (max a b) b (omega arith)) (omega arith),
+))
 
 pub same_bits : (a b : ℤ) → ((k : ℕ) → bit a k ≡ bit b k) → a ≡ b
 same_bits (pos a) (pos b) same = ap pos (same_from_bits a b same)

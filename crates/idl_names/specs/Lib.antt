@@ -2,7 +2,6 @@ pub mod Whole
 pub mod Operators
 pub mod Value
 pub mod Checked
-pub mod Example
 pub mod Steps
 pub mod Tables
 pub mod Known

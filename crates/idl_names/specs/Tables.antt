@@ -6,7 +6,7 @@ use Rattle.std.specs.Map.{lookup}
 abbrev pub found : {X : Type 0} → List ℕ → List (List ℕ × X) → Option X
 found name entries = lookup (bytes_eq name) entries
 
--- one more; a name that is there already stays where it is
+-- one more; a name that is there already keeps its place and gets the new value
 abbrev pub put : {X : Type 0} → List (List ℕ × X) → List ℕ → X → List (List ℕ × X)
 put [] name x = (name, x) ∷ []
 put (e ∷ entries) name x = elim (bytes_eq name e.0) [ true ↦ (e.0, x) ∷ entries | false ↦ e ∷ put entries name x ]

@@ -1,10 +1,9 @@
 // What is known of names on the way through the files, and each step of a file.
-ghost use Rattle.std.specs.Prelude.{◌≡◌, ◌++◌, [], ◌∷◌, Option, option_map, Some, OnOk};
-ghost use Rattle.idl_grammar.specs.declared.words.Spelling.{Spelling};
+ghost use Rattle.std.specs.Prelude.{◌≡◌, ◌++◌, [], ◌∷◌, option_map, Ok, OnOk};
 ghost use Rattle.idl_grammar.specs.Seen.{seen_expr};
 ghost use Rattle.idl_names.specs.Tables.{found};
-ghost use Rattle.idl_names.specs.Known.{Known, nothing, walked, Told, value_in, is_defined, next_meaning, number_of, is_known, with_place, with_meaning, with_tag, with_use};
-ghost use Rattle.idl_names.specs.Kept.{listed};
+ghost use Rattle.idl_names.specs.Known.{Known, nothing, walked, value_in, is_defined, next_meaning, place_in};
+ghost use Rattle.idl_names.specs.Kept.{listed, IsRight};
 ghost use Rattle.idl_names.specs.Steps.{UseType, UseTag, DefineTag, Declare, Know, KnowValue, KnowNext, Evaluate, Enlist};
 
 use crate::table::Table;
@@ -34,27 +33,18 @@ impl Model for NameTables {
 }
 
 impl Names for NameTables {
-    ghost use Rattle.idl_names.specs.Known as names;
+    ghost use Rattle.idl_names.specs.Known.{meaning_in};
 
-    ghost known = { λ k. names.is_known k };
+    ghost meanings = { λ k. meaning_in k };
 
-    ghost numbers = { λ k. names.number_of k };
-
-    fn is_known(&self, name: &[u8]) -> bool {
-        self.meanings.get(name).is_some()
-    }
-
-    fn number(&self, name: &[u8]) -> Option<i128> {
-        match self.meanings.get(name) {
-            Some(Meaning::Number(number)) => Some(number),
-            _ => None,
-        }
+    fn meaning(&self, name: &[u8]) -> Option<Meaning> {
+        self.meanings.get(name)
     }
 }
 
 /// Where a token of a file stands.
 fn place_of(file: u16, spelling: &Spelling) -> Place
-    ensures { result ≡ Rattle.idl_names.specs.Known.place_of file spelling.now }
+    ensures { result ≡ place_in file spelling.now }
 {
     Place {
         file,
@@ -108,7 +98,7 @@ impl NameTables {
 
     /// A type is named.
     pub(crate) fn use_type(&self, file: u16, name: &Spelling) -> Result<(), NameFault>
-        ensures { Told self.now result (walked file self.now (UseType name.now ∷ [])) }
+        ensures { IsRight self.now result (walked file self.now (UseType name.now ∷ [])) }
     {
         match self.meanings.get(name.octets.as_slice()) {
             Some(Meaning::Type) => Ok(()),
@@ -136,7 +126,7 @@ impl NameTables {
         tag: &Spelling,
         behind_pointers: bool,
     ) -> Result<(), NameFault>
-        ensures { Told self.new result (walked file self.old (UseTag kind tag.now behind_pointers ∷ [])) }
+        ensures { IsRight self.new result (walked file self.old (UseTag kind tag.now behind_pointers ∷ [])) }
     {
         if self.is_defined(kind, tag.octets.as_slice()) {
             return Ok(());
@@ -159,7 +149,7 @@ impl NameTables {
         kind: TagKind,
         tag: &Spelling,
     ) -> Result<(), NameFault>
-        ensures { Told self.new result (walked file self.old (DefineTag kind tag.now ∷ [])) }
+        ensures { IsRight self.new result (walked file self.old (DefineTag kind tag.now ∷ [])) }
     {
         let place = place_of(file, tag);
         match self.tags.get(tag.octets.as_slice()) {
@@ -175,7 +165,7 @@ impl NameTables {
 
     /// A type, constant, enumerator or operation takes its name.
     pub(crate) fn declare(&mut self, file: u16, name: &Spelling) -> Result<(), NameFault>
-        ensures { Told self.new result (walked file self.old (Declare name.now ∷ [])) }
+        ensures { IsRight self.new result (walked file self.old (Declare name.now ∷ [])) }
     {
         let place = place_of(file, name);
         match self.places.get(name.octets.as_slice()) {
@@ -186,14 +176,14 @@ impl NameTables {
 
     /// From here on a name is known.
     pub(crate) fn know(&mut self, file: u16, name: &Spelling, meaning: Meaning) -> Result<(), NameFault>
-        ensures { Told self.new result (walked file self.old (Know name.now meaning ∷ [])) }
+        ensures { IsRight self.new result (walked file self.old (Know name.now meaning ∷ [])) }
     {
         Ok(self.meanings.put(name.octets.as_slice(), meaning)?)
     }
 
     /// From here on a name is known, and stands for the value of an expression.
     pub(crate) fn know_value(&mut self, file: u16, name: &Spelling, expression: &Expr) -> Result<(), NameFault>
-        ensures { Told self.new result (walked file self.old (KnowValue name.now (seen_expr expression.now) ∷ [])) }
+        ensures { IsRight self.new result (walked file self.old (KnowValue name.now (seen_expr expression.now) ∷ [])) }
     {
         let value = self.value(file, expression)?;
         Ok(self
@@ -208,12 +198,12 @@ impl NameTables {
         let Some(previous) = previous else {
             return Ok(Meaning::Number(0));
         };
-        match self.number(previous.octets.as_slice()) {
-            None => Ok(Meaning::Other),
-            Some(number) => match number.checked_add(1) {
+        match self.meanings.get(previous.octets.as_slice()) {
+            Some(Meaning::Number(number)) => match number.checked_add(1) {
                 Some(next) => Ok(Meaning::Number(next)),
                 None => Err(Memory),
             },
+            _ => Ok(Meaning::Other),
         }
     }
 
@@ -224,7 +214,7 @@ impl NameTables {
         name: &Spelling,
         previous: Option<&Spelling>,
     ) -> Result<(), NameFault>
-        ensures { Told self.new result (walked file self.old (KnowNext name.now (option_map (λ s. s.now) previous.entry) ∷ [])) }
+        ensures { IsRight self.new result (walked file self.old (KnowNext name.now (option_map (λ s. s.now) previous.entry) ∷ [])) }
     {
         let meaning = self.next_meaning(previous)?;
         Ok(self.meanings.put(name.octets.as_slice(), meaning)?)
@@ -232,7 +222,7 @@ impl NameTables {
 
     /// An expression is evaluated.
     pub(crate) fn check_value(&self, file: u16, expression: &Expr) -> Result<(), NameFault>
-        ensures { Told self.now result (walked file self.now (Evaluate (seen_expr expression.now) ∷ [])) }
+        ensures { IsRight self.now result (walked file self.now (Evaluate (seen_expr expression.now) ∷ [])) }
     {
         match self.value(file, expression) {
             Ok(_) => Ok(()),
@@ -243,7 +233,7 @@ impl NameTables {
 
 /// A member or parameter comes behind those of its list.
 pub(crate) fn enlist(file: u16, list: &mut Table<u32>, name: &Spelling) -> Result<(), NameFault>
-    ensures told { (k : Known) → Told k result (walked file k (Enlist (listed list.old) name.now ∷ [])) }
+    ensures told { (k : Known) → IsRight k result (walked file k (Enlist (listed list.old) name.now ∷ [])) }
     ensures more { OnOk result (listed list.new ≡ listed list.old ++ name.now ∷ []) }
 {
     match list.get(name.octets.as_slice()) {

@@ -27,7 +27,7 @@ pub enum NameFault {
     /// Memory was wanting.
     #[error("out of memory")]
     Memory,
-    /// No such name is known there, or none of its kind.
+    /// No such name is known there, or none of its kind; or a tag behind pointers has no body of its kind in any file.
     #[error("unknown name")]
     Unknown {
         place: Place,
@@ -54,12 +54,12 @@ pub enum NameFault {
     TooMany {
         place: Place,
     },
-    /// The imported file is absent.
+    /// The imported file is absent. It is the last of the sources.
     #[error("no such file")]
     Absent {
         file: u16,
     },
-    /// The imported file could not be read.
+    /// The imported file could not be read. It is the last of the sources.
     #[error("file failed")]
     Failed {
         file: u16,

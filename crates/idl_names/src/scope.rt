@@ -4,6 +4,7 @@ ghost use Rattle.idl_names.specs.Known.{place_found};
 ghost use Rattle.idl_names.specs.Seen.{seen_file, seen_files};
 
 use crate::known::NameTables;
+use crate::{Meaning, Names};
 use idl_grammar::Tree;
 use nd_base::{Memory, Place};
 use std::alloc::Global;
@@ -68,8 +69,8 @@ pub struct Scope {
 }
 
 impl Scope {
-    /// Where a name stands at its declaration, as a type, constant, enumerator or operation; or, of a tag, before its body. None exactly
-    /// where there is none. Takes no memory.
+    /// Where a name stands at its declaration, as a type, constant, enumerator or operation of the main file; or, of a tag, before its body.
+    /// None exactly where there is none: operations of imported files are not declared. Takes no memory.
     pub fn find(&self, tag: bool, name: &[u8]) -> Option<Place>
         ensures { result ≡ place_found self.now.names tag name.now }
     {
@@ -78,5 +79,15 @@ impl Scope {
         } else {
             self.names.place(name)
         }
+    }
+}
+
+impl Names for Scope {
+    ghost use Rattle.idl_names.specs.Known.{meaning_in};
+
+    ghost meanings = { λ s. meaning_in s.names };
+
+    fn meaning(&self, name: &[u8]) -> Option<Meaning> {
+        self.names.meaning(name)
     }
 }

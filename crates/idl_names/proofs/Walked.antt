@@ -1,11 +1,12 @@
--- Steps one behind the other.
+-- Steps one after the other.
 use Rattle.std.proofs.Common.{◌≡◌, ℕ, ◌+◌, ◌<◌, ◌≤◌, Bool, true, false, refl, ap, sym, ◌∙◌, List, [], ◌∷◌, ◌++◌, map, drop, length, get_or, Result, Ok, Err}
 use Rattle.std.specs.List.{flat_map}
 use Rattle.std.proofs.lemmas.List.{drop_more, drop_all}
 use Rattle.std.proofs.lemmas.List.Concat.{flat_map-cons}
 use Rattle.idl_names.specs.declared.name_fault.NameFault.{NameFault}
 use Rattle.idl_names.specs.Steps.{Step}
-use Rattle.idl_names.specs.Known.{Known, passed, then, walked, is_memory, Told}
+use Rattle.idl_names.specs.Known.{Known, passed, then, walked}
+use Rattle.idl_names.specs.Kept.{is_memory, IsRight}
 
 pub append_is : (file : ℕ) (k : Known) (a b : List Step) → walked file k (a ++ b) ≡ then (walked file k a) (λ next. walked file next b)
 append_is file k [] b = refl
@@ -16,7 +17,7 @@ append_is file k (s ∷ a) b = by (passed file k s) (λ next. append_is file nex
     by (Ok next) more = more next
     by (Err f) more = refl
 
--- behind steps that are passed
+-- after steps that are passed
 pub goes_on : (file : ℕ) (k n : Known) (a b : List Step) → walked file k a ≡ Ok n → walked file k (a ++ b) ≡ walked file n b
 goes_on file k n a b e = append_is file k a b ∙ ap (λ r. then r (λ next. walked file next b)) e
 
@@ -24,13 +25,13 @@ goes_on file k n a b e = append_is file k a b ∙ ap (λ r. then r (λ next. wal
 pub stops : (file : ℕ) (k : Known) (a b : List Step) (f : NameFault) → walked file k a ≡ Err f → walked file k (a ++ b) ≡ Err f
 stops file k a b f e = append_is file k a b ∙ ap (λ r. then r (λ next. walked file next b)) e
 
--- what was answered on the steps behind is answered on all
-pub told_on : {A : Type 0} (file : ℕ) (k n last : Known) (a b : List Step) (r : Result A NameFault) → walked file k a ≡ Ok n → Told last r (walked file n b) → Told last r (walked file k (a ++ b))
-told_on file k n last a b (Ok x) e t = goes_on file k n a b e ∙ t
-told_on file k n last a b (Err f) e t = λ h. goes_on file k n a b e ∙ t h
+-- what was answered on the steps after them is answered on all
+pub right_on : {A : Type 0} (file : ℕ) (k n last : Known) (a b : List Step) (r : Result A NameFault) → walked file k a ≡ Ok n → IsRight last r (walked file n b) → IsRight last r (walked file k (a ++ b))
+right_on file k n last a b (Ok x) e t = goes_on file k n a b e ∙ t
+right_on file k n last a b (Err f) e t = λ h. goes_on file k n a b e ∙ t h
 
-pub told_stop : (file : ℕ) (k : Known) (a b : List Step) (f : NameFault) → (is_memory f ≡ false → walked file k a ≡ Err f) → is_memory f ≡ false → walked file k (a ++ b) ≡ Err f
-told_stop file k a b f t h = stops file k a b f (t h)
+pub right_stop : (file : ℕ) (k : Known) (a b : List Step) (f : NameFault) → (is_memory f ≡ false → walked file k a ≡ Err f) → is_memory f ≡ false → walked file k (a ++ b) ≡ Err f
+right_stop file k a b f t h = stops file k a b f (t h)
 
 -- ## Items of a list, from an index on
 
