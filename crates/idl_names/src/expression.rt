@@ -12,6 +12,8 @@ use idl_lexer::number_of;
 
 /// What is known of names.
 pub trait Names {
+    ghost use Rattle.idl_names.specs.declared.meaning.Meaning.{Meaning};
+
     /// What each name that is known stands for.
     ghost meanings: { Self → List ℕ → Option Meaning };
 
