@@ -1,4 +1,4 @@
--- Values as 128 bits hold them.
+-- For the code: values as 128 bits hold them. No definition of the language stands here.
 use Rattle.std.specs.Prelude.{ℕ, ℤ, pos, negsuc, cond, leb, Option, Some, None}
 use Rattle.idl_names.specs.declared.fault.ConstFault.TheVariants.{OutOfRange}
 use Rattle.idl_names.specs.Operators.{Outcome, fails, in_range}

@@ -1,8 +1,7 @@
--- What is known of names, and how each step of a file changes it or is at fault (C706, sections 4.2.2, 4.2.5 to 4.2.11).
-use Rattle.std.specs.Prelude.{ℕ, Bool, true, false, cond, ◌&&◌, List, [], ◌∷◌, ◌++◌, Option, Some, None, option_map, ℤ, pos, ◌+ℤ◌, Result, Ok, Err}
-use Rattle.std.specs.Option.{is_some}
+-- What is known of names, and what each step of a file does to it (C706, section 4.2). That the names of imported files are known in all
+-- files after them, in one space for all, is this project's own choice, as are the numbers of enumerators.
+use Rattle.std.specs.Prelude.{ℕ, Bool, true, false, cond, List, [], ◌∷◌, ◌++◌, Option, Some, None, option_map, ℤ, pos, ◌+ℤ◌, Result, Ok, Err}
 use Rattle.std.specs.Str.{bytes_eq}
-use Rattle.std.specs.Map.{lookup}
 use Rattle.nd_base.specs.declared.octets.Place.{Place}
 use Rattle.idl_grammar.specs.declared.words.Spelling.{Spelling}
 use Rattle.idl_grammar.specs.declared.types.TagKind.{TagKind}
@@ -10,12 +9,13 @@ use Rattle.idl_grammar.specs.declared.types.TagKind.TheVariants as tag_kind
 use Rattle.idl_grammar.specs.Tree.{Expr}
 use Rattle.idl_names.specs.declared.meaning.Meaning.{Meaning}
 use Rattle.idl_names.specs.declared.meaning.Meaning.TheVariants as meaning
-use Rattle.idl_names.specs.declared.meaning.TagDefinition.{TagDefinition}
-use Rattle.idl_names.specs.declared.meaning.TagUse.{TagUse}
+use Rattle.idl_names.specs.declared.tag.TagDefinition.{TagDefinition}
+use Rattle.idl_names.specs.declared.tag.TagUse.{TagUse}
 use Rattle.idl_names.specs.declared.fault.ExpressionFault.{ExpressionFault}
 use Rattle.idl_names.specs.declared.fault.ExpressionFault.TheVariants as expression_fault
 use Rattle.idl_names.specs.declared.name_fault.NameFault.{NameFault}
 use Rattle.idl_names.specs.declared.name_fault.NameFault.TheVariants as fault
+use Rattle.idl_names.specs.Tables.{found, put}
 use Rattle.idl_names.specs.Value.{evaluated}
 use Rattle.idl_names.specs.Steps.{Step, UseType, UseTag, DefineTag, Declare, Know, KnowValue, KnowNext, Evaluate, Enlist}
 
@@ -27,35 +27,20 @@ pub record Known : Type 0 where
   pub meanings : List (List ℕ × Meaning)
   -- the tags that have their bodies
   pub tags : List (List ℕ × TagDefinition)
-  -- tags behind pointers, used before their bodies
+  -- tags behind pointers that had no body of their kind where they were used
   pub uses : List TagUse
 
 abbrev pub nothing : Known
 nothing = record { places = []; meanings = []; tags = []; uses = [] }
 
-abbrev pub found : {X : Type 0} → List ℕ → List (List ℕ × X) → Option X
-found name entries = lookup (bytes_eq name) entries
-
--- one more; a name that is there already stays where it is
-abbrev pub put : {X : Type 0} → List (List ℕ × X) → List ℕ → X → List (List ℕ × X)
-put [] name x = (name, x) ∷ []
-put (e ∷ entries) name x = elim (bytes_eq name e.0) [ true ↦ (e.0, x) ∷ entries | false ↦ e ∷ put entries name x ]
-
 -- ## Names that are known
+
+abbrev pub meaning_in : Known → List ℕ → Option Meaning
+meaning_in k name = found name k.meanings
 
 abbrev pub is_type : Option Meaning → Bool
 is_type (Some meaning.Type) = true
 is_type _ = false
-
-abbrev pub number_meant : Option Meaning → Option ℤ
-number_meant (Some (meaning.Number z)) = Some z
-number_meant _ = None
-
-abbrev pub is_known : Known → List ℕ → Bool
-is_known k name = is_some (found name k.meanings)
-
-abbrev pub number_of : Known → List ℕ → Option ℤ
-number_of k name = number_meant (found name k.meanings)
 
 abbrev pub same_kind : TagKind → TagKind → Bool
 same_kind tag_kind.Struct tag_kind.Struct = true
@@ -73,19 +58,28 @@ is_defined k kind tag = is_of_kind kind (found tag k.tags)
 
 -- ## The values of expressions
 
-abbrev pub place_of : ℕ → Spelling → Place
-place_of file s = record { file = file; at = s.at }
+abbrev pub place_in : ℕ → Spelling → Place
+place_in file s = record { file = file; at = s.at }
 
 abbrev pub expression_fault_in : ℕ → ExpressionFault → NameFault
 expression_fault_in file (expression_fault.Unknown at) = fault.Unknown (record { file = file; at = at })
 expression_fault_in file (expression_fault.Const f) = fault.Const (record { file = file; at = f.at }) f.fault
 
-abbrev pub told_in : ℕ → Result ℤ ExpressionFault → Result ℤ NameFault
-told_in file (Ok z) = Ok z
-told_in file (Err f) = Err (expression_fault_in file f)
+abbrev pub in_file : ℕ → Result ℤ ExpressionFault → Result ℤ NameFault
+in_file file (Ok z) = Ok z
+in_file file (Err f) = Err (expression_fault_in file f)
 
 abbrev pub value_in : ℕ → Known → Expr → Result ℤ NameFault
-value_in file k e = told_in file (evaluated (is_known k) (number_of k) e)
+value_in file k e = in_file file (evaluated (meaning_in k) e)
+
+-- what an enumerator without a value stands for: 0, or one more than the one before it, which has a number in every walk
+abbrev pub next_of : Option Meaning → Meaning
+next_of (Some (meaning.Number z)) = meaning.Number (z +ℤ pos 1)
+next_of _ = meaning.Other
+
+abbrev pub next_meaning : Known → Option Spelling → Meaning
+next_meaning k None = meaning.Number (pos 0)
+next_meaning k (Some previous) = next_of (meaning_in k previous.octets)
 
 -- ## Steps
 
@@ -101,64 +95,70 @@ with_tag k tag d = record k { tags = put k.tags tag.octets d }
 abbrev pub with_use : Known → TagUse → Known
 with_use k u = record k { uses = k.uses ++ u ∷ [] }
 
--- what an enumerator without a value stands for
-abbrev pub next_meaning : Known → Option Spelling → Meaning
-next_meaning k None = meaning.Number (pos 0)
-next_meaning k (Some previous) = elim (number_of k previous.octets) [ Some z ↦ meaning.Number (z +ℤ pos 1) | None ↦ meaning.Other ]
-
--- goes on only where a name is free
-abbrev pub where_free : Option Place → Place → Known → Result Known NameFault
-where_free None place k = Ok k
-where_free (Some first) place k = Err (fault.Twice place first)
-
-abbrev pub place_in_list : ℕ → List Spelling → List ℕ → Option Place
-place_in_list file [] name = None
-place_in_list file (s ∷ before) name = cond (bytes_eq name s.octets) (Some (place_of file s)) (place_in_list file before name)
-
--- goes on with a value
-abbrev pub with_value : Result ℤ NameFault → (ℤ → Known) → Result Known NameFault
-with_value (Ok z) next = Ok (next z)
-with_value (Err f) next = Err f
-
--- goes on only where something holds of a name
+-- goes on where something holds of a name
 abbrev pub where_known : Bool → Place → Known → Result Known NameFault
 where_known true place k = Ok k
 where_known false place k = Err (fault.Unknown place)
 
-abbrev pub tag_used : ℕ → Known → TagKind → Spelling → Bool → Result Known NameFault
-tag_used file k kind tag true = Ok (with_use k (record { kind = kind; tag = tag.octets; place = place_of file tag }))
-tag_used file k kind tag false = Err (fault.Unknown (place_of file tag))
+-- goes on where no name like it stands anywhere
+abbrev pub where_free : Option Place → Place → Known → Result Known NameFault
+where_free None place k = Ok k
+where_free (Some first) place k = Err (fault.Twice place first)
 
--- what is known behind a step in a file, or the fault of the step
+-- goes on with a value
+abbrev pub where_valued : Result ℤ NameFault → (ℤ → Known) → Result Known NameFault
+where_valued (Ok z) next = Ok (next z)
+where_valued (Err f) next = Err f
+
+-- a tag without a body of its kind: behind pointers it waits for one
+abbrev pub tag_used : ℕ → Known → TagKind → Spelling → Bool → Result Known NameFault
+tag_used file k kind tag true = Ok (with_use k (record { kind = kind; tag = tag.octets; place = place_in file tag }))
+tag_used file k kind tag false = Err (fault.Unknown (place_in file tag))
+
+-- where a name stands in a list of members or parameters
+abbrev pub place_in_list : ℕ → List Spelling → List ℕ → Option Place
+place_in_list file [] name = None
+place_in_list file (s ∷ before) name = cond (bytes_eq name s.octets) (Some (place_in file s)) (place_in_list file before name)
+
+abbrev pub tag_place : Known → List ℕ → Option Place
+tag_place k tag = option_map (λ d. d.place) (found tag k.tags)
+
+-- what is known after a step in a file, or the fault of the step
 abbrev pub passed : ℕ → Known → Step → Result Known NameFault
-passed file k (UseType name) = where_known (is_type (found name.octets k.meanings)) (place_of file name) k
+-- the name has to be known as a type
+passed file k (UseType name) = where_known (is_type (meaning_in k name.octets)) (place_in file name) k
+-- the tag has to have a body of its kind, or waits for it
 passed file k (UseTag kind tag behind_pointers) = elim (is_defined k kind tag.octets) [ true ↦ Ok k | false ↦ tag_used file k kind tag behind_pointers ]
-passed file k (DefineTag kind tag) = where_free (option_map (λ d. d.place) (found tag.octets k.tags)) (place_of file tag) (with_tag k tag (record { kind = kind; place = place_of file tag }))
-passed file k (Declare name) = where_free (found name.octets k.places) (place_of file name) (with_place k name (place_of file name))
+-- no tag has two bodies, whatever their kinds
+passed file k (DefineTag kind tag) = where_free (tag_place k tag.octets) (place_in file tag) (with_tag k tag (record { kind = kind; place = place_in file tag }))
+-- no name is declared twice
+passed file k (Declare name) = where_free (found name.octets k.places) (place_in file name) (with_place k name (place_in file name))
 passed file k (Know name m) = Ok (with_meaning k name m)
-passed file k (KnowValue name e) = with_value (value_in file k e) (λ z. with_meaning k name (meaning.Number z))
+passed file k (KnowValue name e) = where_valued (value_in file k e) (λ z. with_meaning k name (meaning.Number z))
 passed file k (KnowNext name previous) = Ok (with_meaning k name (next_meaning k previous))
-passed file k (Evaluate e) = with_value (value_in file k e) (λ z. k)
-passed file k (Enlist before name) = where_free (place_in_list file before name.octets) (place_of file name) k
+-- the expression has to have a value
+passed file k (Evaluate e) = where_valued (value_in file k e) (λ z. k)
+-- no list has a name twice
+passed file k (Enlist before name) = where_free (place_in_list file before name.octets) (place_in file name) k
 
 -- goes on from what is known
 abbrev pub then : Result Known NameFault → (Known → Result Known NameFault) → Result Known NameFault
 then (Ok k) next = next k
 then (Err f) next = Err f
 
--- what is known behind steps in a file, or the first fault
+-- what is known after steps in a file, or the first fault
 abbrev pub walked : ℕ → Known → List Step → Result Known NameFault
 walked file k [] = Ok k
 walked file k (s ∷ steps) = then (passed file k s) (λ next. walked file next steps)
 
--- ## Behind all files
+-- ## After all files
 
--- the first of these uses of a tag that has no body of its kind
+-- where the first of these uses stands whose tag has no body of its kind
 abbrev pub first_undefined : Known → List TagUse → Option Place
 first_undefined k [] = None
 first_undefined k (u ∷ uses) = elim (is_defined k u.kind u.tag) [ true ↦ first_undefined k uses | false ↦ Some u.place ]
 
--- where a name was declared, or where a tag has its body
+-- where a name was declared, or where a tag stands before its body
 abbrev pub place_found : Known → Bool → List ℕ → Option Place
-place_found k true tag = option_map (λ d. d.place) (found tag k.tags)
+place_found k true tag = tag_place k tag
 place_found k false name = found name k.places

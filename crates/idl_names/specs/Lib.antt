@@ -2,10 +2,10 @@ pub mod Whole
 pub mod Operators
 pub mod Value
 pub mod Checked
-pub mod Example
 pub mod Steps
-pub mod Known
 pub mod Tables
+pub mod Known
+pub mod Kept
 pub mod Sources
 pub mod Files
 pub mod Ended

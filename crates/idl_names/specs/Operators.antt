@@ -1,5 +1,5 @@
 -- What operators give, in whole numbers (C706, section 4.2.7: the operators of C).
-use Rattle.std.specs.Prelude.{ℕ, ◌^◌, Bool, true, false, not, ◌&&◌, ◌||◌, cond, leb, ℤ, pos, negsuc, ◌+ℤ◌, ◌-ℤ◌, ◌*ℤ◌, neg_ℤ, int_lt, int_le, int_div, int_rem, Result, Ok, Err}
+use Rattle.std.specs.Prelude.{ℕ, ◌^◌, Bool, true, false, not, ◌&&◌, ◌||◌, leb, ℤ, pos, negsuc, ◌+ℤ◌, ◌-ℤ◌, ◌*ℤ◌, neg_ℤ, int_lt, int_le, int_div, int_rem, Result, Ok, Err}
 use Rattle.std.specs.Int.{int_shr}
 use Rattle.idl_grammar.specs.declared.expressions.BinaryOperator.{BinaryOperator}
 use Rattle.idl_grammar.specs.declared.expressions.BinaryOperator.TheVariants as binary
@@ -27,7 +27,7 @@ with_value (Err f) next = Err f
 
 -- the value of an operator, which has to be in range
 abbrev pub in_range : ℕ → ℤ → Outcome
-in_range at z = cond (is_in_range z) (Ok z) (fails OutOfRange at)
+in_range at z = elim (is_in_range z) [ true ↦ Ok z | false ↦ fails OutOfRange at ]
 
 -- the value of a shift, by 0 to 63 places
 abbrev pub shifted : ℕ → (ℕ → ℤ) → ℤ → Outcome
@@ -36,7 +36,7 @@ shifted at by (negsuc k) = fails OutOfRange at
 
 -- what a division gives, by a divisor that is not 0
 abbrev pub divided : ℕ → ℤ → ℤ → Outcome
-divided at z divisor = cond (is_zero divisor) (fails ZeroDivisor at) (in_range at z)
+divided at z divisor = elim (is_zero divisor) [ true ↦ fails ZeroDivisor at | false ↦ in_range at z ]
 
 abbrev pub unary_value : UnaryOperator → ℤ → ℤ
 unary_value unary.Plus a = a

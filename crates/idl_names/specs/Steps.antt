@@ -28,19 +28,22 @@ pub data Step : Type 0 where
   KnowNext : (name : Spelling) (previous : Option Spelling) → Step
   -- an expression is evaluated
   Evaluate : (value : Expr) → Step
-  -- a member or parameter, behind these of its list
+  -- a member or parameter, after these of its list
   Enlist : (before : List Spelling) (name : Spelling) → Step
 
 -- ## Attributes and declarators
+
+abbrev pub value_steps : Expr → List Step
+value_steps e = Evaluate e ∷ []
 
 abbrev pub switch_steps : SwitchType → List Step
 switch_steps (switch.Simple s) = []
 switch_steps (switch.Name n) = UseType n ∷ []
 
--- The variable of an attribute is looked up in its own list, and by other rules.
+-- The variable of an attribute is not looked up here, but in its own list once all names are resolved.
 abbrev pub kind_steps : AttributeKind → List Step
 kind_steps (tree.SwitchTypeIs s) = switch_steps s
-kind_steps (tree.Case values) = map Evaluate values
+kind_steps (tree.Case values) = flat_map value_steps values
 kind_steps _ = []
 
 abbrev pub attribute_steps : Attributes → List Step
@@ -53,27 +56,31 @@ optional_attribute_steps (Some a) = attribute_steps a
 abbrev pub bound_steps : Option Bound → List Step
 bound_steps None = []
 bound_steps (Some tree.Star) = []
-bound_steps (Some (tree.Count e)) = Evaluate e ∷ []
-bound_steps (Some (tree.From e)) = Evaluate e ∷ []
-bound_steps (Some (tree.Between e f)) = Evaluate e ∷ Evaluate f ∷ []
+bound_steps (Some (tree.Count e)) = value_steps e
+bound_steps (Some (tree.From e)) = value_steps e
+bound_steps (Some (tree.Between e f)) = value_steps e ++ value_steps f
 
 abbrev pub dimension_steps : Declarator → List Step
 dimension_steps d = flat_map bound_steps d.dimensions
 
-abbrev pub is_some_list : List ℕ → Bool
-is_some_list [] = false
-is_some_list (a ∷ more) = true
+abbrev pub is_not_empty : List ℕ → Bool
+is_not_empty [] = false
+is_not_empty (a ∷ more) = true
 
 abbrev pub is_pointer : Declarator → Bool
-is_pointer d = is_some_list d.stars
+is_pointer d = is_not_empty d.stars
 
-abbrev pub name_of : Declarator → Spelling
-name_of d = d.name
+abbrev pub declared_name : Declarator → Spelling
+declared_name d = d.name
 
--- members of one type, behind these of their list
+-- a member or parameter, after these of its list
+abbrev pub listed_steps : List Spelling → Declarator → List Step
+listed_steps before d = Enlist before d.name ∷ dimension_steps d
+
+-- members of one type, after these of their list
 abbrev pub enlisted_steps : List Spelling → List Declarator → List Step
 enlisted_steps before [] = []
-enlisted_steps before (d ∷ ds) = Enlist before d.name ∷ dimension_steps d ++ enlisted_steps (before ++ d.name ∷ []) ds
+enlisted_steps before (d ∷ ds) = listed_steps before d ++ enlisted_steps (before ++ d.name ∷ []) ds
 
 -- ## Types
 
@@ -91,11 +98,12 @@ enumerator_steps previous [] = []
 enumerator_steps previous (e ∷ es) = Declare e.name ∷ value_step previous e.name e.value ∷ enumerator_steps (Some e.name) es
 
 abbrev pub label_steps : Label → List Step
-label_steps (tree.Value at e) = Evaluate e ∷ []
+label_steps (tree.Value at e) = value_steps e
 label_steps (tree.Default at) = []
 
 abbrev mutual
-  -- a type, where all its declarators are pointers or not
+  -- A type. `behind_pointers`: each of its declarators is a pointer. The name of a discriminant, and the name of the union part after it,
+  -- are in no space.
   pub type_steps : Bool → TypeSpec → List Step
   type_steps behind_pointers (tree.Simple s) = []
   type_steps behind_pointers (tree.Name n) = UseType n ∷ []
@@ -105,11 +113,11 @@ abbrev mutual
   type_steps behind_pointers (tree.NonEncapsulatedUnion at tag arms) = tag_steps tag_kind.Union tag ++ arms_steps arms
   type_steps behind_pointers (tree.Enum at tag es) = tag_steps tag_kind.Enum tag ++ enumerator_steps None es
 
-  -- the members of a struct, behind these
+  -- the members of a struct, after these
   pub member_steps : List Spelling → Members → List Step
   member_steps before tree.no_members = []
   member_steps before (tree.next_member at a type ds others) =
-      optional_attribute_steps a ++ type_steps (list_all is_pointer ds) type ++ enlisted_steps before ds ++ member_steps (before ++ map name_of ds) others
+      optional_attribute_steps a ++ type_steps (list_all is_pointer ds) type ++ enlisted_steps before ds ++ member_steps (before ++ map declared_name ds) others
 
   pub case_steps : Cases → List Step
   case_steps tree.no_cases = []
@@ -130,28 +138,32 @@ abbrev mutual
 abbrev pub typedef_steps : Declarator → List Step
 typedef_steps d = Declare d.name ∷ dimension_steps d ++ Know d.name meaning.Type ∷ []
 
--- nor a constant in its own value
+-- A constant is not known in its own value.
 abbrev pub init_step : Spelling → Init → Step
 init_step name (tree.Text s) = Know name meaning.Other
 init_step name (tree.Null at) = Know name meaning.Other
 init_step name (tree.Value e) = KnowValue name e
 
+-- a parameter, after these of its list
+abbrev pub one_parameter_steps : List Spelling → Parameter → List Step
+one_parameter_steps before p = optional_attribute_steps p.attributes ++ type_steps (is_pointer p.declarator) p.type ++ listed_steps before p.declarator
+
 abbrev pub parameter_steps : List Spelling → List Parameter → List Step
 parameter_steps before [] = []
-parameter_steps before (p ∷ ps) =
-    optional_attribute_steps p.attributes ++ type_steps (is_pointer p.declarator) p.type ++ enlisted_steps before (p.declarator ∷ []) ++ parameter_steps (before ++ p.declarator.name ∷ []) ps
+parameter_steps before (p ∷ ps) = one_parameter_steps before p ++ parameter_steps (before ++ p.declarator.name ∷ []) ps
 
 abbrev pub parameters_of : Parameters → List Parameter
 parameters_of tree.Absent = []
 parameters_of tree.Void = []
 parameters_of (tree.Listed ps) = ps
 
--- an operation, which is not known in its own parameters
+-- An operation is not known in its own parameters. Its result has no declarator, so that a tag there is behind no pointer.
 abbrev pub operation_steps : Option Attributes → TypeSpec → Spelling → Parameters → List Step
 operation_steps a result name ps =
     optional_attribute_steps a ++ type_steps false result ++ Declare name ∷ parameter_steps [] (parameters_of ps) ++ Know name meaning.Other ∷ []
 
--- A declaration. The operations of files other than the main one are passed over. The element of a pipe is behind no pointer.
+-- A declaration. The operations of files other than the main one are passed over. The stars of a typedef with `pipe` belong to the pipe,
+-- which is this project's own choice: its element is behind no pointer. Nor is a tag without a declarator.
 abbrev pub export_steps : Bool → Export → List Step
 export_steps is_main (tree.Typedef at a pipe type ds) =
     optional_attribute_steps a ++ type_steps (not pipe && list_all is_pointer ds) type ++ flat_map typedef_steps ds

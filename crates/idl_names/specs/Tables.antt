@@ -1,14 +1,16 @@
--- The tables of the program as lists.
-use Rattle.std.specs.Prelude.{ℕ, List, map, Vec}
-use Rattle.nd_base.specs.declared.octets.Place.{Place}
-use Rattle.idl_names.specs.declared.meaning.Meaning.{Meaning}
-use Rattle.idl_names.specs.declared.meaning.TagDefinition.{TagDefinition}
-use Rattle.idl_names.specs.declared.meaning.TagUse.{TagUse}
-use Rattle.idl_names.specs.Known.{Known}
+-- Tables by names: lists of names with what stands there.
+use Rattle.std.specs.Prelude.{ℕ, true, false, List, [], ◌∷◌, Option, map, Vec}
+use Rattle.std.specs.Str.{bytes_eq}
+use Rattle.std.specs.Map.{lookup}
 
--- a table by names
+abbrev pub found : {X : Type 0} → List ℕ → List (List ℕ × X) → Option X
+found name entries = lookup (bytes_eq name) entries
+
+-- one more; a name that is there already keeps its place and gets the new value
+abbrev pub put : {X : Type 0} → List (List ℕ × X) → List ℕ → X → List (List ℕ × X)
+put [] name x = (name, x) ∷ []
+put (e ∷ entries) name x = elim (bytes_eq name e.0) [ true ↦ (e.0, x) ∷ entries | false ↦ e ∷ put entries name x ]
+
+-- a table of the program as a list
 abbrev pub table : {A X : Type 0} → List (Vec ℕ A × X) → List (List ℕ × X)
 table entries = map (λ e. (e.0.items, e.1)) entries
-
-abbrev pub known_of : List (List ℕ × Place) → List (List ℕ × Meaning) → List (List ℕ × TagDefinition) → List TagUse → Known
-known_of places meanings tags uses = record { places = places; meanings = meanings; tags = tags; uses = uses }

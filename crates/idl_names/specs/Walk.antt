@@ -12,8 +12,8 @@ use Rattle.idl_names.specs.declared.name_fault.NameFault.{NameFault}
 use Rattle.idl_names.specs.declared.name_fault.NameFault.TheVariants as fault
 use Rattle.idl_names.specs.declared.name_fault.SyntaxFault.{SyntaxFault}
 use Rattle.idl_names.specs.Steps.{Step, attribute_steps, imports_of, declaration_steps}
-use Rattle.idl_names.specs.Known.{Known, nothing, passed, place_of, first_undefined}
-use Rattle.idl_names.specs.Sources.{Source, number_of, file_named, and_source}
+use Rattle.idl_names.specs.Known.{Known, nothing, passed, place_in, first_undefined}
+use Rattle.idl_names.specs.Sources.{Source, file_number, file_named, and_source}
 use Rattle.idl_names.specs.Ended.{Ended, ended}
 use Rattle.idl_names.specs.Files.{IsFile, IsNoFile}
 
@@ -32,21 +32,27 @@ pub record State : Type 0 where
 
 -- what is still to be done
 pub data Due : Type 0 where
+  -- a step of a file
   Pass : (file : ℕ) (step : Step) → Due
-  Load : (file : ℕ) (string : Spelling) → Due
+  -- the import at a place, of the file of a name
+  Load : (place : Place) (name : List ℕ) → Due
+  -- the end of a file
   End : (file : ℕ) (tree : Tree) → Due
+
+abbrev pub load_of : ℕ → Spelling → Due
+load_of file string = Load (place_in file string) (file_named string.octets)
 
 -- all of a file
 abbrev pub all_of : ℕ → Tree → List Due
 all_of file t =
-    map (Pass file) (attribute_steps t.attributes) ++ map (Load file) (imports_of t) ++ map (Pass file) (declaration_steps (eqb file 0) t) ++ End file t ∷ []
+    map (Pass file) (attribute_steps t.attributes) ++ map (load_of file) (imports_of t) ++ map (Pass file) (declaration_steps (eqb file 0) t) ++ End file t ∷ []
 
 abbrev pub has_ended : List Ended → ℕ → Bool
 has_ended files file = list_any (λ e. eqb e.file file) files
 
--- The file of an import is to be loaded: it is not there yet, and not one too many.
+-- A file is to be loaded: it is not there yet, and not one too many.
 pub record IsDue (sources : List Source) (name : List ℕ) : Type 0 where
-  pub new : number_of sources name ≡ None
+  pub new : file_number sources name ≡ None
   pub room : length sources < most_files
 
 abbrev pub with_known : State → Known → State
@@ -55,53 +61,60 @@ with_known s k = record s { known = k }
 abbrev pub with_ended : State → ℕ → Tree → State
 with_ended s file t = record s { ended = s.ended ++ ended file t ∷ [] }
 
-abbrev pub with_source : State → List Source → State
-with_source s sources = record s { sources = sources }
+abbrev pub with_source : State → List ℕ → List ℕ → State
+with_source s name text = record s { sources = and_source s.sources name text }
 
 -- How a walk ends: all is done, or there is a fault, with the files whose load was begun.
-pub data Outcome : Type 0 where
-  Done : (state : State) → Outcome
-  Stopped : (sources : List Source) (fault : NameFault) → Outcome
+pub data Ending : Type 0 where
+  Done : (state : State) → Ending
+  Stopped : (sources : List Source) (fault : NameFault) → Ending
 
--- What a walk comes to from a state, where this is due and `held` tells the contents of files.
-pub data Walk (held : Option (List ℕ → Option (List ℕ))) : State → List Due → Outcome → Type 0 where
+-- How a walk ends from a state, where this is due and `held` tells the contents of files.
+pub data Walk (held : Option (List ℕ → Option (List ℕ))) : State → List Due → Ending → Type 0 where
   all_done : (s : State) → Walk held s [] (Done s)
-  -- steps
-  goes_on : (s : State) (file : ℕ) (step : Step) (k : Known) (rest : List Due) (o : Outcome) → passed file s.known step ≡ Ok k
-      → Walk held (with_known s k) rest o → Walk held s (Pass file step ∷ rest) o
+  -- a step is passed
+  goes_on : (s : State) (file : ℕ) (step : Step) (k : Known) (rest : List Due) (e : Ending) → passed file s.known step ≡ Ok k
+      → Walk held (with_known s k) rest e → Walk held s (Pass file step ∷ rest) e
+  -- a step is at fault
   faults : (s : State) (file : ℕ) (step : Step) (f : NameFault) (rest : List Due) → passed file s.known step ≡ Err f
       → Walk held s (Pass file step ∷ rest) (Stopped s.sources f)
-  ends : (s : State) (file : ℕ) (t : Tree) (rest : List Due) (o : Outcome) → Walk held (with_ended s file t) rest o → Walk held s (End file t ∷ rest) o
-  -- an import of a file that is being resolved, of one that has been, and of one too many
-  cycle : (s : State) (file : ℕ) (string : Spelling) (rest : List Due) (n : ℕ) → number_of s.sources (file_named string.octets) ≡ Some n
-      → has_ended s.ended n ≡ false → Walk held s (Load file string ∷ rest) (Stopped s.sources (fault.ImportCycle (place_of file string)))
-  again : (s : State) (file : ℕ) (string : Spelling) (rest : List Due) (o : Outcome) (n : ℕ) → number_of s.sources (file_named string.octets) ≡ Some n
-      → has_ended s.ended n ≡ true → Walk held s rest o → Walk held s (Load file string ∷ rest) o
-  too_many : (s : State) (file : ℕ) (string : Spelling) (rest : List Due) → number_of s.sources (file_named string.octets) ≡ None
-      → most_files ≤ length s.sources → Walk held s (Load file string ∷ rest) (Stopped s.sources (fault.TooMany (place_of file string)))
-  -- an import that is loaded, and is no file of the language
-  absent : (s : State) (file : ℕ) (string : Spelling) (rest : List Due) → IsDue s.sources (file_named string.octets) → IsMissing held (file_named string.octets)
-      → Walk held s (Load file string ∷ rest) (Stopped (and_source s.sources (file_named string.octets) []) (fault.Absent (length s.sources)))
-  failed : (s : State) (file : ℕ) (string : Spelling) (rest : List Due) → IsDue s.sources (file_named string.octets)
-      → Walk held s (Load file string ∷ rest) (Stopped (and_source s.sources (file_named string.octets) []) (fault.Failed (length s.sources)))
-  uncut : (s : State) (file : ℕ) (string : Spelling) (rest : List Due) (text : List ℕ) (at : ℕ) (kind : LexKind) → IsDue s.sources (file_named string.octets)
-      → IsContent held (file_named string.octets) text → IsVerdict text (Refused at kind)
-      → Walk held s (Load file string ∷ rest) (Stopped (and_source s.sources (file_named string.octets) text) (fault.Lex (length s.sources) (lex_fault.At at kind)))
-  no_file : (s : State) (file : ℕ) (string : Spelling) (rest : List Due) (text : List ℕ) (at : ℕ) (f : SyntaxFault) → IsDue s.sources (file_named string.octets)
-      → IsContent held (file_named string.octets) text → IsNoFile text at f
-      → Walk held s (Load file string ∷ rest) (Stopped (and_source s.sources (file_named string.octets) text) (fault.Syntax (length s.sources) at f))
-  -- an import that is walked
-  enters : (s : State) (file : ℕ) (string : Spelling) (rest : List Due) (o : Outcome) (text : List ℕ) (t : Tree) → IsDue s.sources (file_named string.octets)
-      → IsContent held (file_named string.octets) text → IsFile text t
-      → Walk held (with_source s (and_source s.sources (file_named string.octets) text)) (all_of (length s.sources) t ++ rest) o
-      → Walk held s (Load file string ∷ rest) o
-  -- Want of memory may stop a walk anywhere, also behind a load.
+  -- a file ends
+  ends : (s : State) (file : ℕ) (t : Tree) (rest : List Due) (e : Ending) → Walk held (with_ended s file t) rest e → Walk held s (End file t ∷ rest) e
+  -- the imported file is being resolved
+  cycle : (s : State) (place : Place) (name : List ℕ) (rest : List Due) (n : ℕ) → file_number s.sources name ≡ Some n → has_ended s.ended n ≡ false
+      → Walk held s (Load place name ∷ rest) (Stopped s.sources (fault.ImportCycle place))
+  -- it is resolved already
+  again : (s : State) (place : Place) (name : List ℕ) (rest : List Due) (e : Ending) (n : ℕ) → file_number s.sources name ≡ Some n → has_ended s.ended n ≡ true
+      → Walk held s rest e → Walk held s (Load place name ∷ rest) e
+  -- it would be one too many
+  too_many : (s : State) (place : Place) (name : List ℕ) (rest : List Due) → file_number s.sources name ≡ None → most_files ≤ length s.sources
+      → Walk held s (Load place name ∷ rest) (Stopped s.sources (fault.TooMany place))
+  -- there is no such file
+  absent : (s : State) (place : Place) (name : List ℕ) (rest : List Due) → IsDue s.sources name → IsMissing held name
+      → Walk held s (Load place name ∷ rest) (Stopped (and_source s.sources name []) (fault.Absent (length s.sources)))
+  -- its load failed
+  failed : (s : State) (place : Place) (name : List ℕ) (rest : List Due) → IsDue s.sources name
+      → Walk held s (Load place name ∷ rest) (Stopped (and_source s.sources name []) (fault.Failed (length s.sources)))
+  -- it cannot be cut into tokens
+  uncut : (s : State) (place : Place) (name : List ℕ) (rest : List Due) (text : List ℕ) (at : ℕ) (kind : LexKind) → IsDue s.sources name
+      → IsContent held name text → IsVerdict text (Refused at kind)
+      → Walk held s (Load place name ∷ rest) (Stopped (and_source s.sources name text) (fault.Lex (length s.sources) (lex_fault.At at kind)))
+  -- it is no file of the language
+  no_file : (s : State) (place : Place) (name : List ℕ) (rest : List Due) (text : List ℕ) (at : ℕ) (f : SyntaxFault) → IsDue s.sources name
+      → IsContent held name text → IsNoFile text at f
+      → Walk held s (Load place name ∷ rest) (Stopped (and_source s.sources name text) (fault.Syntax (length s.sources) at f))
+  -- it is walked in the place of its import
+  enters : (s : State) (place : Place) (name : List ℕ) (rest : List Due) (e : Ending) (text : List ℕ) (t : Tree) → IsDue s.sources name
+      → IsContent held name text → IsFile text t
+      → Walk held (with_source s name text) (all_of (length s.sources) t ++ rest) e → Walk held s (Load place name ∷ rest) e
+  -- Want of memory may stop a walk anywhere, also in a load or after it.
   short : (s : State) (rest : List Due) → Walk held s rest (Stopped s.sources fault.Memory)
-  short_behind_load : (s : State) (file : ℕ) (string : Spelling) (rest : List Due) (text : List ℕ) → IsDue s.sources (file_named string.octets)
-      → IsContent held (file_named string.octets) text
-      → Walk held s (Load file string ∷ rest) (Stopped (and_source s.sources (file_named string.octets) text) fault.Memory)
+  short_in_load : (s : State) (place : Place) (name : List ℕ) (rest : List Due) → IsDue s.sources name
+      → Walk held s (Load place name ∷ rest) (Stopped (and_source s.sources name []) fault.Memory)
+  short_after_load : (s : State) (place : Place) (name : List ℕ) (rest : List Due) (text : List ℕ) → IsDue s.sources name → IsContent held name text
+      → Walk held s (Load place name ∷ rest) (Stopped (and_source s.sources name text) fault.Memory)
 
--- where a walk begins: at the main file, whose names are told first
+-- A walk begins with the main file alone, and no names.
 abbrev pub start : List Source → State
 start main = record { sources = main; ended = []; known = nothing }
 

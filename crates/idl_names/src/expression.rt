@@ -1,30 +1,25 @@
 // The value of a constant expression (C706, section 4.2.7).
-ghost use Rattle.std.specs.Prelude.{◌≡◌, ℕ, ℤ, List, Bool, Option};
+ghost use Rattle.std.specs.Prelude.{◌≡◌, ℕ, List, Option};
 ghost use Rattle.idl_grammar.specs.Seen.{seen_expr};
 ghost use Rattle.idl_lexer.specs.Numbers.{number_of as number_of_octets};
 ghost use Rattle.idl_names.specs.Value as values;
 
 use crate::operators::{binary_value, in_range, is_decided, unary_value};
 use crate::whole::{is_zero, truth};
-use crate::{ConstFault, ExpressionFault, ValueFault};
-use idl_grammar::{BinaryOperator, Expr, Operand, Spelling};
+use crate::{ConstFault, ExpressionFault, Meaning, ValueFault};
+use idl_grammar::{Expr, Operand, Spelling};
 use idl_lexer::number_of;
 
 /// What is known of names.
 pub trait Names {
-    /// Which names are known.
-    ghost known: { Self → List ℕ → Bool };
+    ghost use Rattle.idl_names.specs.declared.meaning.Meaning.{Meaning};
 
-    /// The values of those that stand for numbers.
-    ghost numbers: { Self → List ℕ → Option ℤ };
+    /// What each name that is known stands for.
+    ghost meanings: { Self → List ℕ → Option Meaning };
 
-    /// Whether a name is known.
-    fn is_known(&self, name: &[u8]) -> bool
-        ensures { result ≡ known self.now name.now };
-
-    /// The value of a name, where it stands for a number.
-    fn number(&self, name: &[u8]) -> Option<i128>
-        ensures { result ≡ numbers self.now name.now };
+    /// What a name stands for, or None where it is not known.
+    fn meaning(&self, name: &[u8]) -> Option<Meaning>
+        ensures { result ≡ meanings self.now name.now };
 }
 
 /// What an escape stands for.
@@ -55,7 +50,7 @@ fn character_value(octets: &[u8]) -> u8
 }
 
 fn number_value(spelling: &Spelling) -> Result<i128, ValueFault>
-    ensures { result ≡ values.some_number spelling.now.at (number_of_octets spelling.now.octets) }
+    ensures { result ≡ values.number_or_fault spelling.now.at (number_of_octets spelling.now.octets) }
 {
     match number_of(spelling.octets.as_slice()) {
         Some(number) => Ok(i128::from(number)),
@@ -67,11 +62,11 @@ fn number_value(spelling: &Spelling) -> Result<i128, ValueFault>
 }
 
 fn name_value<N: Names>(names: &N, name: &Spelling) -> Result<i128, ValueFault>
-    ensures { result ≡ values.some_constant name.now.at (N.numbers names.now name.now.octets) }
+    ensures { result ≡ values.name_value name.now.at (N.meanings names.now name.now.octets) }
 {
-    match names.number(name.octets.as_slice()) {
-        Some(number) => Ok(number),
-        None => Err(ValueFault {
+    match names.meaning(name.octets.as_slice()) {
+        Some(Meaning::Number(number)) => Ok(number),
+        _ => Err(ValueFault {
             at: name.at,
             fault: ConstFault::NotConst,
         }),
@@ -79,7 +74,7 @@ fn name_value<N: Names>(names: &N, name: &Spelling) -> Result<i128, ValueFault>
 }
 
 fn operand_value<N: Names>(names: &N, operand: &Operand) -> Result<i128, ValueFault>
-    ensures { result ≡ values.operand_value (N.numbers names.now) operand.now }
+    ensures { result ≡ values.operand_value (N.meanings names.now) operand.now }
 {
     match operand {
         Operand::Number(spelling) => number_value(spelling),
@@ -92,10 +87,11 @@ fn operand_value<N: Names>(names: &N, operand: &Operand) -> Result<i128, ValueFa
     }
 }
 
-/// The value of an expression, or its first fault, operands from left to right. `&&`, `||` and `?:` leave the
-/// operand that C leaves unevaluated. Takes no memory.
+/// The value of an expression, or its first fault and where it is, operands from left to right. `&&`, `||` and `?:`
+/// leave the operand unevaluated that C leaves so. A name that is not known stands for no number. A number that is
+/// no token of IDL, which no tree of a text holds, is out of range. Takes no memory.
 pub fn value<N: Names>(names: &N, expression: &Expr) -> Result<i128, ValueFault>
-    ensures { result ≡ values.value (N.numbers names.now) (seen_expr expression.now) }
+    ensures { result ≡ values.value (N.meanings names.now) (seen_expr expression.now) }
 {
     match expression {
         Expr::Leaf(operand) => operand_value(names, operand),
@@ -133,19 +129,26 @@ pub fn value<N: Names>(names: &N, expression: &Expr) -> Result<i128, ValueFault>
     }
 }
 
+/// The value of an expression, or the reason of its first fault, as `value` has them. Takes no memory.
+pub fn value_of<N: Names>(names: &N, expression: &Expr) -> Result<i128, ConstFault>
+    ensures { result ≡ values.constant (values.value (N.meanings names.now) (seen_expr expression.now)) }
+{
+    value(names, expression).map_err(|fault| fault.fault)
+}
+
 /// The octet of a name that is not known.
 fn unknown_operand<N: Names>(names: &N, operand: &Operand) -> Option<u32>
-    ensures { result ≡ values.unknown_operand (N.known names.now) operand.now }
+    ensures { result ≡ values.unknown_operand (N.meanings names.now) operand.now }
 {
     match operand {
-        Operand::Name(name) if !names.is_known(name.octets.as_slice()) => Some(name.at),
+        Operand::Name(name) if names.meaning(name.octets.as_slice()).is_none() => Some(name.at),
         _ => None,
     }
 }
 
 /// The octet of the first name of an expression that is not known, evaluated or not.
 fn first_unknown<N: Names>(names: &N, expression: &Expr) -> Option<u32>
-    ensures { result ≡ values.first_unknown (N.known names.now) (seen_expr expression.now) }
+    ensures { result ≡ values.first_unknown (N.meanings names.now) (seen_expr expression.now) }
 {
     match expression {
         Expr::Leaf(operand) => unknown_operand(names, operand),
@@ -170,7 +173,7 @@ fn first_unknown<N: Names>(names: &N, expression: &Expr) -> Option<u32>
 /// The value of an expression all of whose names are known; else the fault that stands first in the text: a name
 /// that is not known, evaluated or not, or the fault of the value. Takes no memory.
 pub fn evaluate<N: Names>(names: &N, expression: &Expr) -> Result<i128, ExpressionFault>
-    ensures { result ≡ values.evaluated (N.known names.now) (N.numbers names.now) (seen_expr expression.now) }
+    ensures { result ≡ values.evaluated (N.meanings names.now) (seen_expr expression.now) }
 {
     match (first_unknown(names, expression), value(names, expression)) {
         (None, Ok(value)) => Ok(value),

@@ -4,7 +4,8 @@ use thiserror::Error;
 /// Why a constant expression has no value (C706, section 4.2.7).
 #[derive(Clone, Copy, Debug, PartialEq, Eq, Error)]
 pub enum ConstFault {
-    /// The value of an operator is below -2^63 or above 2^64 - 1, or a shift is by less than 0 or more than 63 places.
+    /// The value of an operator is below -2^63 or above 2^64 - 1, or a shift is by less than 0 or more than 63 places;
+    /// or a number is no token of IDL, as in no tree of a text.
     #[error("out of range")]
     OutOfRange,
     /// A divisor is 0.

@@ -5,9 +5,10 @@ ghost use Rattle.idl_grammar.specs.declared.expressions.BinaryOperator.{BinaryOp
 ghost use Rattle.idl_grammar.specs.declared.expressions.UnaryOperator.{UnaryOperator};
 ghost use Rattle.idl_grammar.specs.Tree.{Expr, Unary, Binary, Conditional};
 ghost use Rattle.idl_names.specs.Whole.{bit, complement, bits_in_both, bits_in_either, bits_in_one, is_in_range};
+ghost use Rattle.idl_names.specs.declared.meaning.Meaning.{Meaning};
 ghost use Rattle.idl_names.specs.Value.{value};
 
-/// The operators on bits work on two's complement of unlimited width, bit by bit, and numbers with the same bits are
+/// The operators on bits work on two's complement of unlimited width, bit by bit, and meanings with the same bits are
 /// the same.
 #[tactic(auto, using(crate::proofs::Bits::bit_of_complement, crate::proofs::Bits::bit_of_both, crate::proofs::Bits::bit_of_either, crate::proofs::Bits::bit_of_one, crate::proofs::Bits::same_bits))]
 pub fn bits_are_those_of_twos_complement()
@@ -21,7 +22,7 @@ pub fn bits_are_those_of_twos_complement()
 /// The value of an operator is from -2^63 to 2^64 - 1, whatever its operands are.
 #[tactic(auto, using(crate::proofs::Ranges::unary_in_range, crate::proofs::Ranges::binary_in_range, crate::proofs::Ranges::conditional_in_range))]
 pub fn operators_stay_in_range()
-    ensures unary { (numbers : List ℕ → Option ℤ) (at : ℕ) (s : UnaryOperator) (e : Expr) (z : ℤ) → value numbers (Unary at s e) ≡ Ok z → is_in_range z ≡ true }
-    ensures binary { (numbers : List ℕ → Option ℤ) (l : Expr) (at : ℕ) (s : BinaryOperator) (r : Expr) (z : ℤ) → value numbers (Binary l at s r) ≡ Ok z → is_in_range z ≡ true }
-    ensures conditional { (numbers : List ℕ → Option ℤ) (c : Expr) (at : ℕ) (a b : Expr) (z : ℤ) → value numbers (Conditional c at a b) ≡ Ok z → is_in_range z ≡ true }
+    ensures unary { (meanings : List ℕ → Option Meaning) (at : ℕ) (s : UnaryOperator) (e : Expr) (z : ℤ) → value meanings (Unary at s e) ≡ Ok z → is_in_range z ≡ true }
+    ensures binary { (meanings : List ℕ → Option Meaning) (l : Expr) (at : ℕ) (s : BinaryOperator) (r : Expr) (z : ℤ) → value meanings (Binary l at s r) ≡ Ok z → is_in_range z ≡ true }
+    ensures conditional { (meanings : List ℕ → Option Meaning) (c : Expr) (at : ℕ) (a b : Expr) (z : ℤ) → value meanings (Conditional c at a b) ≡ Ok z → is_in_range z ≡ true }
 {}

@@ -1,7 +1,7 @@
 // Why names are not resolved.
 use crate::ConstFault;
 use idl_lexer::LexFault;
-use nd_base::Place;
+use nd_base::{Memory, Place};
 use thiserror::Error;
 
 /// Where the tokens of a file are no file of the language: a copy of the parser's fault, until the parser is a library of this crate.
@@ -27,7 +27,7 @@ pub enum NameFault {
     /// Memory was wanting.
     #[error("out of memory")]
     Memory,
-    /// No such name is known there, or none of its kind.
+    /// No such name is known there, or none of its kind; or a tag behind pointers has no body of its kind in any file.
     #[error("unknown name")]
     Unknown {
         place: Place,
@@ -54,12 +54,12 @@ pub enum NameFault {
     TooMany {
         place: Place,
     },
-    /// The imported file is absent.
+    /// The imported file is absent. It is the last of the sources.
     #[error("no such file")]
     Absent {
         file: u16,
     },
-    /// The imported file could not be read.
+    /// The imported file could not be read. It is the last of the sources.
     #[error("file failed")]
     Failed {
         file: u16,
@@ -77,4 +77,15 @@ pub enum NameFault {
         at: u32,
         fault: SyntaxFault,
     },
+}
+
+impl From<Memory> for NameFault {
+    ghost use Rattle.std.specs.Prelude.{◌≡◌};
+    ghost use Rattle.idl_names.specs.declared.name_fault.NameFault.TheVariants as faults;
+
+    ghost from_gives = { λ _ e. e ≡ faults.Memory };
+
+    fn from(_: Memory) -> NameFault {
+        NameFault::Memory
+    }
 }

@@ -10,11 +10,12 @@ use idl_grammar::Tree;
 use nd_base::Files;
 use std::alloc::Global;
 
-/// Reads each name of a file and of the files that it imports by the declarations before it, and a tag behind pointers by those of all
-/// files (C706, sections 4.2.2 to 4.2.14). The files are walked depth first, each by its attributes, its imports and its declarations; one
-/// that is imported again is loaded once. Of the operations those of the main file are read alone.
+/// Reads each name of a file and of the files that it imports by the declarations before it, but the variable of an attribute, which is looked
+/// up in its own list later; and a tag behind pointers by those of all files (C706, section 4.2). The files are walked depth first, each by
+/// its attributes, its imports and its declarations; one that is imported again is loaded once. Only the main file's operations are read. That
+/// all files have one space of names is this project's own choice.
 ///
-/// At every exit `sources` has, behind the main file, each file whose load was begun, in that order; a file whose load did not answer Ok
+/// At every exit `sources` has, after the main file, each file whose load was begun, in that order; a file whose load did not answer Ok
 /// has an empty text. After Memory the last of them may be missing.
 ///
 /// # Errors

@@ -1,9 +1,10 @@
 // What is known once all files are resolved.
-ghost use Rattle.std.specs.Prelude.{◌≡◌, [], ◌∷◌, ◌++◌, length, slice_get, option_map, OnOk, OnErr};
+ghost use Rattle.std.specs.Prelude.{◌≡◌, [], ◌∷◌, ◌++◌, length, slice_get, option_map, OnOk};
 ghost use Rattle.idl_names.specs.Known.{place_found};
 ghost use Rattle.idl_names.specs.Seen.{seen_file, seen_files};
 
-use crate::known::Names;
+use crate::known::NameTables;
+use crate::{Meaning, Names};
 use idl_grammar::Tree;
 use nd_base::{Memory, Place};
 use std::alloc::Global;
@@ -35,8 +36,7 @@ impl FileTrees {
 
     /// Adds a file. Takes memory for its entry.
     pub(crate) fn push(&mut self, file: FileTree) -> Result<(), Memory>
-        ensures ok { OnOk result (seen_files self.new ≡ seen_files self.old ++ seen_file file ∷ []) }
-        ensures err { OnErr result (self.new ≡ self.old) }
+        ensures { OnOk result (seen_files self.new ≡ seen_files self.old ++ seen_file file ∷ []) }
     {
         match self.items.push(file) {
             Ok(()) => Ok(()),
@@ -65,12 +65,12 @@ pub struct Scope {
     /// The files.
     pub files: FileTrees,
     /// What is known of names.
-    pub(crate) names: Names,
+    pub(crate) names: NameTables,
 }
 
 impl Scope {
-    /// Where a name stands at its declaration, as a type, constant, enumerator or operation; or, of a tag, before its body. None exactly
-    /// where there is none. Takes no memory.
+    /// Where a name stands at its declaration, as a type, constant, enumerator or operation of the main file; or, of a tag, before its body.
+    /// None exactly where there is none: operations of imported files are not declared. Takes no memory.
     pub fn find(&self, tag: bool, name: &[u8]) -> Option<Place>
         ensures { result ≡ place_found self.now.names tag name.now }
     {
@@ -79,5 +79,15 @@ impl Scope {
         } else {
             self.names.place(name)
         }
+    }
+}
+
+impl Names for Scope {
+    ghost use Rattle.idl_names.specs.Known.{meaning_in};
+
+    ghost meanings = { λ s. meaning_in s.names };
+
+    fn meaning(&self, name: &[u8]) -> Option<Meaning> {
+        self.names.meaning(name)
     }
 }

@@ -1,6 +1,6 @@
 // The files, by the numbers that places have.
 ghost use Rattle.std.specs.Prelude.{◌≡◌, ℕ, ◌<◌, List, [], ◌∷◌, ◌++◌, length, option_map, IfOk, OnOk, IfErr, OnErr};
-ghost use Rattle.idl_names.specs.Sources.{Source, name_of, text_of, number_of, and_source};
+ghost use Rattle.idl_names.specs.Sources.{Source, file_name, file_text, and_source};
 
 use nd_base::{Memory, Octets};
 use std::alloc::Global;
@@ -9,7 +9,7 @@ use std::marker::Model;
 /// The greatest number of files in `Sources`.
 pub const FILES_LIMIT: u16 = 65_535;
 
-/// A file that was loaded.
+/// The main file, or a file whose load was begun.
 #[derive(Debug, Drop)]
 struct File {
     name: String,
@@ -71,7 +71,7 @@ impl Sources {
 
     /// The name of a file, or None past the last. Takes no memory.
     pub fn name(&self, file: u16) -> Option<&str>
-        ensures { option_map (λ name. name.now) result ≡ name_of self.now file }
+        ensures { option_map (λ name. name.now) result ≡ file_name self.now file }
     {
         match self.files.get(usize::from(file)) {
             Some(found) => Some(found.name.as_str()),
@@ -81,7 +81,7 @@ impl Sources {
 
     /// The text of a file, or None past the last. Takes no memory.
     pub fn text(&self, file: u16) -> Option<&[u8]>
-        ensures { option_map (λ text. text.now) result ≡ text_of self.now file }
+        ensures { option_map (λ text. text.now) result ≡ file_text self.now file }
     {
         match self.files.get(usize::from(file)) {
             Some(found) => Some(found.text.as_slice()),

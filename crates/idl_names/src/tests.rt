@@ -1,5 +1,5 @@
 // What expressions come to, by examples.
-use crate::{ConstFault, ExpressionFault, Names, ValueFault, evaluate, value};
+use crate::{ConstFault, ExpressionFault, Meaning, Names, ValueFault, evaluate, value, value_of};
 use idl_grammar::{Export, Expr, Init, Tree};
 use idl_lexer::lex;
 use idl_parser::parse;
@@ -11,24 +11,24 @@ use std::test::Fail;
 /// What stands before an expression.
 const FRONT: &[u8] = b"[local] interface t { const long A = ";
 
-/// Names that begin with `N` are 7, with `M` 2^64; with `T` they stand for something else. No others are known.
+/// How many octets these are.
+const FRONT_LENGTH: u32 = 37;
+
+/// Names that begin with `N` are 7, with `M` 2^64; with `T` they are types. No others are known.
 struct Example;
 
 impl Names for Example {
-    ghost use Rattle.idl_names.specs.Example.{known_example, number_of_example};
+    ghost use Rattle.std.specs.Prelude.{eqb, cond, slice_index, Some, None, pos, ◌^◌};
+    ghost use Rattle.idl_names.specs.declared.meaning.Meaning.TheVariants as meaning;
 
-    ghost known = { λ _. known_example };
+    ghost meanings = { λ _ name. cond (eqb (slice_index name 0) 78) (Some (meaning.Number (pos 7)))
+        (cond (eqb (slice_index name 0) 77) (Some (meaning.Number (pos (2 ^ 64)))) (cond (eqb (slice_index name 0) 84) (Some meaning.Type) None)) };
 
-    ghost numbers = { λ _. number_of_example };
-
-    fn is_known(&self, name: &[u8]) -> bool {
-        matches!(name, [b'N' | b'M' | b'T', ..])
-    }
-
-    fn number(&self, name: &[u8]) -> Option<i128> {
-        match name {
-            [b'N', ..] => Some(7),
-            [b'M', ..] => Some(1 << 64),
+    fn meaning(&self, name: &[u8]) -> Option<Meaning> {
+        match name.first() {
+            Some(b'N') => Some(Meaning::Number(7)),
+            Some(b'M') => Some(Meaning::Number(1 << 64)),
+            Some(b'T') => Some(Meaning::Type),
             _ => None,
         }
     }
@@ -55,11 +55,9 @@ fn expression_of(tree: &Tree) -> Option<&Expr> {
 }
 
 /// A fault at an octet of the expression.
-fn fault(at: u32, fault: ConstFault) -> Result<i128, ValueFault>
-    requires { at < 1000 }
-{
+fn fault(at: u16, fault: ConstFault) -> Result<i128, ValueFault> {
     Err(ValueFault {
-        at: FRONT.len() as u32 + at,
+        at: FRONT_LENGTH + u32::from(at),
         fault,
     })
 }
@@ -71,8 +69,14 @@ fn assert_value(
     wanted: Result<i128, ValueFault>,
 ) -> Result<(), Fail> {
     let tree = tree_of(alloc, expression)?;
-    let found = expression_of(&tree).map(|expression| value(&Example, expression));
-    assert_eq!(rt; found, Some(wanted));
+    let Some(expression) = expression_of(&tree) else {
+        return Err(Fail::new("no expression"));
+    };
+    assert_eq!(rt; value(&Example, expression), wanted);
+    assert_eq!(rt;
+        value_of(&Example, expression),
+        wanted.map_err(|fault| fault.fault)
+    );
     Ok(())
 }
 
@@ -105,7 +109,19 @@ fn some_operands_are_not_evaluated(rt: HostRuntime) -> Result<(), Fail> {
     assert_value(&rt, alloc, b"0 || 9", Ok(1))?;
     assert_value(&rt, alloc, b"1 ? 2 : 1 / 0", Ok(2))?;
     assert_value(&rt, alloc, b"0 ? 1 / 0 : 3", Ok(3))?;
-    assert_value(&rt, alloc, b"M", Ok(1 << 64))
+    assert_value(&rt, alloc, b"T && 0 || 1", fault(0, ConstFault::NotConst))
+}
+
+#[test]
+fn a_name_may_be_past_the_range_of_operators(rt: HostRuntime) -> Result<(), Fail> {
+    let alloc = rt.alloc();
+    assert_value(&rt, alloc, b"(M)", Ok(1 << 64))?;
+    assert_value(&rt, alloc, b"!M", Ok(0))?;
+    assert_value(&rt, alloc, b"M == 0", Ok(0))?;
+    assert_value(&rt, alloc, b"M >> 1", Ok(1 << 63))?;
+    assert_value(&rt, alloc, b"+M", fault(0, ConstFault::OutOfRange))?;
+    assert_value(&rt, alloc, b"1 ? M : 0", fault(2, ConstFault::OutOfRange))?;
+    assert_value(&rt, alloc, b"M * M", fault(2, ConstFault::OutOfRange))
 }
 
 #[test]
@@ -131,8 +147,6 @@ fn faults_stand_at_their_operators(rt: HostRuntime) -> Result<(), Fail> {
         b"(1 << 63) << 1",
         fault(10, ConstFault::OutOfRange),
     )?;
-    assert_value(&rt, alloc, b"M * M", fault(2, ConstFault::OutOfRange))?;
-    assert_value(&rt, alloc, b"+M", fault(0, ConstFault::OutOfRange))?;
     assert_value(&rt, alloc, b"5 % 0", fault(2, ConstFault::ZeroDivisor))?;
     assert_value(
         &rt,
@@ -150,16 +164,16 @@ fn assert_evaluated(
     wanted: Result<i128, ExpressionFault>,
 ) -> Result<(), Fail> {
     let tree = tree_of(alloc, expression)?;
-    let found = expression_of(&tree).map(|expression| evaluate(&Example, expression));
-    assert_eq!(rt; found, Some(wanted));
+    let Some(expression) = expression_of(&tree) else {
+        return Err(Fail::new("no expression"));
+    };
+    assert_eq!(rt; evaluate(&Example, expression), wanted);
     Ok(())
 }
 
-fn unknown(at: u32) -> Result<i128, ExpressionFault>
-    requires { at < 1000 }
-{
+fn unknown(at: u16) -> Result<i128, ExpressionFault> {
     Err(ExpressionFault::Unknown {
-        at: FRONT.len() as u32 + at,
+        at: FRONT_LENGTH + u32::from(at),
     })
 }
 
@@ -170,6 +184,8 @@ fn names_are_known_also_where_they_are_not_evaluated(rt: HostRuntime) -> Result<
     assert_evaluated(&rt, alloc, b"0 && B", unknown(5))?;
     assert_evaluated(&rt, alloc, b"1 ? 2 : B", unknown(8))?;
     assert_evaluated(&rt, alloc, b"B + 5 % 0", unknown(0))?;
+    assert_evaluated(&rt, alloc, b"1 << (64 + B)", unknown(11))?;
+    assert_evaluated(&rt, alloc, b"(0 && B) + 1 / 0", unknown(6))?;
     let division = fault(2, ConstFault::ZeroDivisor).map_err(ExpressionFault::Const);
     assert_evaluated(&rt, alloc, b"5 % 0 + B", division)
 }
