@@ -6,8 +6,6 @@ pub mod FewRoots
 pub mod LocalPass
 pub mod Misfits
 pub mod NodeFacts
-pub mod NodeTests
-pub mod NodeWalk
 pub mod Orderly
 pub mod PlainFit
 pub mod Told

@@ -14,7 +14,7 @@ use Rattle.nd_graph.specs.declared.misfit.MisfitReason.{MisfitReason}
 use Rattle.nd_graph.specs.declared.misfit.MisfitReason.TheVariants as misfit
 use Rattle.nd_graph.specs.declared.misfit.Misfit.{Misfit}
 use Rattle.nd_graph.specs.declared.misfit.Misfit.TheVariants as answer
-use Rattle.nd_graph.specs.declared.nodes.NodeMisfit.{NodeMisfit}
+use Rattle.nd_graph.specs.declared.local.NodeMisfit.{NodeMisfit}
 use Rattle.nd_graph.specs.Tree.{Tree, Trees, node, none, more, node_count, Referent}
 use Rattle.nd_graph.specs.Agreement.{Agreement}
 use Rattle.nd_graph.specs.Setting.{Setting, root_list, cell_home}

@@ -2,8 +2,7 @@
 -- make no misfit of a node by itself.
 -- `w` is a setting, `g` a graph, `h` a home, `n` a node's number, `r` a reason or a root, `m` a misfit in a home, `t` a type's
 -- number, `l` a label, `ks` are children, `i` is a root's index, `c` a cell's number, `v` a value, `x` a cell.
-use Rattle.std.specs.Prelude.{◌≡◌, ℕ, ◌+◌, ◌<◌, ◌≤◌, length, List, [], ◌∷◌, Option, Some, None, Result, Ok, Err}
-use Rattle.nd_types.specs.declared.types.TypeDef.{TypeDef}
+use Rattle.std.specs.Prelude.{◌≡◌, ℕ, ◌+◌, ◌<◌, ◌≤◌, length, List, [], ◌∷◌, Option, Some, None}
 use Rattle.nd_types.specs.Table.{Table, type_at}
 use Rattle.nd_types.specs.Walk.{NamedRoot}
 use Rattle.nd_graph.specs.declared.value.Graph.{Graph}
@@ -13,11 +12,11 @@ use Rattle.nd_graph.specs.declared.misfit.MisfitReason.{MisfitReason}
 use Rattle.nd_graph.specs.declared.misfit.MisfitReason.TheVariants as misfit
 use Rattle.nd_graph.specs.declared.misfit.Misfit.{Misfit}
 use Rattle.nd_graph.specs.declared.misfit.Misfit.TheVariants as answer
-use Rattle.nd_graph.specs.declared.nodes.NodeMisfit.{NodeMisfit}
-use Rattle.nd_graph.specs.Tree.{Tree, Trees, Label, node, none, more, node_count, Referent}
+use Rattle.nd_graph.specs.declared.local.NodeMisfit.{NodeMisfit}
+use Rattle.nd_graph.specs.Tree.{Tree, Trees, node, none, more, node_count, Referent}
 use Rattle.nd_graph.specs.Setting.{Setting, cell_home}
 use Rattle.nd_graph.specs.Nodes.{TypedNode, child_types}
-use Rattle.nd_graph.specs.Misfit.{misfit_by, misfit_of}
+use Rattle.nd_graph.specs.Misfit.{misfit_of}
 use Rattle.nd_graph.specs.Conforms.{Reached}
 use Rattle.nd_graph.specs.FirstMisfit.{MisfitAt, or_later, IsFirstUnreached}
 
@@ -39,18 +38,6 @@ AreReached w g = (c : ℕ) → 0 < c → c ≤ length g.cells → Reached w g c
 abbrev pub lone_node : ℕ → ℕ → Tree → TypedNode
 lone_node n t (node l ks) = record { node = n; of = t; agreements = []; label = l; kids = ks }
 
--- why a value cannot stand as a node of a type, or none
-abbrev pub misfit_in : Table → Graph → Option TypeDef → Tree → Option MisfitReason
-misfit_in table g d (node l ks) = misfit_by table g d l ks
-
--- what a value says beside its children
-abbrev pub label_in : Tree → Label
-label_in (node l ks) = l
-
--- the children of a value
-abbrev pub kids_in : Tree → Trees
-kids_in (node l ks) = ks
-
 -- the first misfit, if there is one, else the later
 abbrev pub or_next : Option NodeMisfit → Option NodeMisfit → Option NodeMisfit
 or_next (Some m) later = Some m
@@ -68,12 +55,6 @@ first_in table g [] n (more v vs) = None
 first_in table g (t ∷ types) n (more (node l ks) vs) =
     or_next (at_number n (misfit_of table g (lone_node n t (node l ks))))
     (or_next (first_in table g (child_types (type_at table t) l ks) (n + 1) ks) (first_in table g types (n + 1 + node_count ks) vs))
-
--- what a search through values of these types gives: the number behind their nodes, where none has a misfit by itself, else the
--- first that has one
-abbrev pub Searched : Table → Graph → List ℕ → ℕ → Trees → Result ℕ NodeMisfit → Type 0
-Searched table g types n vs (Ok m) = (first_in table g types n vs ≡ None) × (m ≡ n + node_count vs)
-Searched table g types n vs (Err e) = first_in table g types n vs ≡ Some e
 
 -- a misfit in this home
 abbrev pub at_home : Home → Option NodeMisfit → Option MisfitAt

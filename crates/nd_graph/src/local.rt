@@ -1,23 +1,34 @@
 // The first pass: misfits of nodes by themselves, and the number of roots.
-ghost use Rattle.std.specs.Prelude.{◌≡◌, ◌<◌, ◌^◌, length, map, slice_get, Some, None, OnOk, IfErr};
+ghost use Rattle.std.specs.Prelude.{◌≡◌, ℕ, ℤ, ◌<◌, ◌^◌, [], ◌∷◌, length, slice_get, Some, None, OnOk, IfErr};
 ghost use Rattle.nd_types.specs.declared.types.Operation.{Operation};
+ghost use Rattle.nd_types.specs.declared.types.TypeDef.TheVariants as def;
+ghost use Rattle.nd_types.specs.Table.{Table, type_at, in_range, least, greatest};
+ghost use Rattle.nd_types.specs.Kinds.{basic_types};
 ghost use Rattle.nd_types.specs.Walk.{named_roots};
-ghost use Rattle.nd_graph.specs.Tree.{more, none, node_count};
+ghost use Rattle.nd_types.specs.Plain.{IsPlainInterface};
+ghost use Rattle.nd_graph.specs.declared.value.Graph.{Graph as GraphValue};
+ghost use Rattle.nd_graph.specs.Tree.{more, none};
 ghost use Rattle.nd_graph.specs.Seen.{tree_of};
-ghost use Rattle.nd_graph.specs.Conforms.{FewNodes, HasFewNodes};
+ghost use Rattle.nd_graph.specs.Misfit.{misfit_of};
 ghost use Rattle.nd_graph.specs.Fitting.{setting_of};
 ghost use Rattle.nd_graph.specs.FirstMisfit.{first_local};
-ghost use Rattle.nd_graph.specs.Passes.{Tells, first_in_home, first_in_roots, first_in_cells};
+ghost use Rattle.nd_graph.specs.Passes.{Tells, lone_node, first_in, first_in_home, first_in_roots, first_in_cells};
 
-use crate::nodes::{NodeMisfit, value};
 use crate::{CellId, Graph, Home, Misfit, MisfitReason, Val};
-use nd_types::{Interface, Side, TypeId, Types};
+use nd_types::{Interface, Prim, Side, TypeDef, TypeId, Types};
+
+// A misfit in a home: the number of its node, and why.
+#[derive(Clone, Copy, Debug, PartialEq, Eq)]
+struct NodeMisfit {
+    node: u32,
+    reason: MisfitReason,
+}
 
 // The first node that has a misfit by itself. A root that is missing or too many comes behind the roots that are there.
 pub(crate) fn local(interface: &Interface, op: u32, side: Side, graph: &Graph) -> Result<(), Misfit>
     requires known { op < length interface.now.operations }
     requires few_cells { length graph.now.cells < 2 ^ 32 }
-    requires few_nodes { HasFewNodes graph.now }
+    requires plain { IsPlainInterface interface.now.types interface.now.operations }
     ensures none { OnOk result ((o : Operation) → slice_get interface.now.operations op ≡ Some o
         → first_local (setting_of interface.now o side) graph.now ≡ None) }
     ensures first { IfErr result (λ e. (o : Operation) → slice_get interface.now.operations op ≡ Some o
@@ -30,7 +41,7 @@ pub(crate) fn local(interface: &Interface, op: u32, side: Side, graph: &Graph) -
 // The same of the roots.
 fn roots(interface: &Interface, op: u32, side: Side, graph: &Graph) -> Result<(), Misfit>
     requires known { op < length interface.now.operations }
-    requires few { FewNodes graph.now.roots }
+    requires basic { interface.now.types ≡ basic_types }
     ensures none { OnOk result ((o : Operation) → slice_get interface.now.operations op ≡ Some o
         → first_in_roots interface.now.types graph.now 0 (named_roots interface.now.types side o) graph.now.roots ≡ None) }
     ensures first { IfErr result (λ e. (o : Operation) → slice_get interface.now.operations op ≡ Some o
@@ -63,8 +74,8 @@ fn wrong_root(at: u32) -> Misfit
 
 // The same of the cells.
 fn cells(types: &Types, graph: &Graph) -> Result<(), Misfit>
+    requires basic { types.now ≡ basic_types }
     requires few { length graph.now.cells < 2 ^ 32 }
-    requires few_nodes { FewNodes (map (λ c. c.val) graph.now.cells) }
     ensures none { OnOk result (first_in_cells types.now graph.now 1 graph.now.cells ≡ None) }
     ensures first { IfErr result (λ e. Tells (first_in_cells types.now graph.now 1 graph.now.cells) e) }
 {
@@ -80,12 +91,101 @@ fn cells(types: &Types, graph: &Graph) -> Result<(), Misfit>
 
 // The same of one value as a home.
 fn home(types: &Types, graph: &Graph, home: Home, of: TypeId, val: &Val) -> Result<(), Misfit>
-    requires few { node_count (more (tree_of val.now) none) < 2 ^ 32 }
+    requires basic { types.now ≡ basic_types }
     ensures none { OnOk result (first_in_home types.now graph.now home of.0 (tree_of val.now) ≡ None) }
     ensures first { IfErr result (λ e. Tells (first_in_home types.now graph.now home of.0 (tree_of val.now)) e) }
 {
-    match value(types, graph, of, val, 0) {
-        Ok(_) => Ok(()),
-        Err(NodeMisfit { node, reason }) => Err(Misfit::At { home, node, reason }),
+    match value(types, graph, of, val) {
+        Some(NodeMisfit { node, reason }) => Err(Misfit::At { home, node, reason }),
+        None => Ok(()),
+    }
+}
+
+// The first misfit among the nodes of a value: of a basic type it has but one.
+fn value(types: &Types, graph: &Graph, of: TypeId, val: &Val) -> Option<NodeMisfit>
+    requires basic { types.now ≡ basic_types }
+    ensures { result ≡ first_in types.now graph.now (of.0 ∷ []) 0 (more (tree_of val.now) none) }
+{
+    match single(types, graph, of, val) {
+        Some(reason) => Some(NodeMisfit { node: 0, reason }),
+        None => None,
+    }
+}
+
+// Why a node has a misfit by itself, if it has one.
+fn single(types: &Types, graph: &Graph, of: TypeId, val: &Val) -> Option<MisfitReason>
+    requires basic { types.now ≡ basic_types }
+    ensures { result ≡ misfit_of types.now graph.now (lone_node 0 of.0 (tree_of val.now)) }
+{
+    match types.get(of.0 as usize) {
+        Some(TypeDef::Prim(prim)) => primitive(*prim, val),
+        Some(TypeDef::Context) => context(val),
+        _ => Some(MisfitReason::Shape),
+    }
+}
+
+// The same of a node that is to be a primitive.
+fn primitive(prim: Prim, val: &Val) -> Option<MisfitReason>
+    ensures { (table : Table) (g : GraphValue) (t : ℕ) → type_at table t ≡ Some (def.Prim prim)
+        → result ≡ misfit_of table g (lone_node 0 t (tree_of val.now)) }
+{
+    match val {
+        Val::Num(number) if is_in_range(prim, *number) => None,
+        Val::Num(_) => Some(MisfitReason::Range),
+        _ => Some(MisfitReason::Shape),
+    }
+}
+
+// The same of a node that is to be a context handle.
+fn context(val: &Val) -> Option<MisfitReason>
+    ensures { (table : Table) (g : GraphValue) (t : ℕ) → type_at table t ≡ Some def.Context
+        → result ≡ misfit_of table g (lone_node 0 t (tree_of val.now)) }
+{
+    match val {
+        Val::Context { .. } => None,
+        _ => Some(MisfitReason::Shape),
+    }
+}
+
+// Whether a primitive can hold a number.
+fn is_in_range(prim: Prim, number: i128) -> bool
+    ensures { result ≡ in_range prim number }
+{
+    least(prim) <= number && number <= greatest(prim)
+}
+
+// The least value of a primitive.
+fn least(prim: Prim) -> i128
+    ensures { result ≡ least prim }
+{
+    match prim {
+        Prim::Small => -0x80,
+        Prim::Short => -0x8000,
+        Prim::Long => -0x8000_0000,
+        Prim::Hyper => -0x8000_0000_0000_0000,
+        Prim::Boolean
+        | Prim::Char
+        | Prim::Byte
+        | Prim::UnsignedSmall
+        | Prim::UnsignedShort
+        | Prim::UnsignedLong
+        | Prim::UnsignedHyper => 0,
+    }
+}
+
+// The greatest value of a primitive.
+fn greatest(prim: Prim) -> i128
+    ensures { result ≡ greatest prim }
+{
+    match prim {
+        Prim::Boolean => 1,
+        Prim::Char | Prim::Byte | Prim::UnsignedSmall => 0xff,
+        Prim::Small => 0x7f,
+        Prim::Short => 0x7fff,
+        Prim::UnsignedShort => 0xffff,
+        Prim::Long => 0x7fff_ffff,
+        Prim::UnsignedLong => 0xffff_ffff,
+        Prim::Hyper => 0x7fff_ffff_ffff_ffff,
+        Prim::UnsignedHyper => 0xffff_ffff_ffff_ffff,
     }
 }

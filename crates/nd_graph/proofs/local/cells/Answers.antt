@@ -1,21 +1,9 @@
-use Rattle.std.proofs.Common.{◌≡◌, ◌+◌, ◌∙◌, refl, ap, map, Some, arith}
+use Rattle.std.proofs.Common.{◌+◌, ◌∙◌, refl, ap, arith}
 use Rattle.std.proofs.lemmas.Result.{err_from_is_err_and}
-use Rattle.std.specs.List.{slice_get}
-use Rattle.std.specs.Option.{option_map}
-use Rattle.std.proofs.lemmas.Option.{slice_get-map}
-use Rattle.nd_graph.specs.Tree.{Referent}
-use Rattle.nd_graph.specs.Seen.{tree_of, cell_of}
-use Rattle.nd_graph.proofs.NodeWalk.{few_at}
+use Rattle.nd_graph.specs.Seen.{cell_of}
 use Rattle.nd_graph.specs.Passes.{first_in_cells}
 use Rattle.nd_graph.proofs.LocalPass.{cell_next, tells_first, later_left, drop-past}
 use Rattle.nd_graph.proofs.local.cells.Goals as goal
-
-pub home-requires : goal.home-requires
-home-requires c =
-    let cells = c.args.graph.now.cells in
-    let there : slice_get (map (λ (x : Referent). x.val) cells) c.loop-at.at ≡ Some (tree_of c.in-Some.cell.now.val) =
-    slice_get-map (λ (x : Referent). x.val) cells c.loop-at.at ∙ ap (option_map (λ (x : Referent). x.val)) c.in-Some.ensures.some in
-    record { few = few_at (map (λ (x : Referent). x.val) cells) c.loop-at.at (tree_of c.in-Some.cell.now.val) c.requires.few_nodes there }
 
 pub loop-at-init : goal.loop-at-init
 loop-at-init c = refl

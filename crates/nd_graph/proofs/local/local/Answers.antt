@@ -1,20 +1,8 @@
-use Rattle.std.proofs.Common.{◌∙◌, ◌<◌, ◌^◌, map}
+use Rattle.std.proofs.Common.{◌∙◌}
 use Rattle.std.proofs.lemmas.Result.{err_from_is_err_and, IfErr-weaker, on_ok_weaker}
 use Rattle.nd_graph.specs.Fitting.{setting_of}
 use Rattle.nd_graph.proofs.LocalPass.{local_first, tells_first, tells_later, later_left}
-use Rattle.nd_graph.specs.Tree.{Tree, Referent, node_count, more, none}
-use Rattle.nd_graph.proofs.Misfits.{all_left, all_right}
 use Rattle.nd_graph.proofs.local.local.Goals as goal
-
--- a value whose nodes are few
-abbrev Few : Tree → Type 0
-Few t = node_count (more t none) < 2 ^ 32
-
-pub roots-requires-clause-few : goal.roots-requires-clause-few
-roots-requires-clause-few c = let g = c.args.graph.now in all_left Few g.roots (map (λ (x : Referent). x.val) g.cells) c.requires.few_nodes
-
-pub cells-requires-clause-few_nodes : goal.cells-requires-clause-few_nodes
-cells-requires-clause-few_nodes c = let g = c.args.graph.now in all_right Few g.roots (map (λ (x : Referent). x.val) g.cells) c.requires.few_nodes
 
 pub returns-in_err-roots-clause-first : goal.returns-in_err-roots-clause-first
 returns-in_err-roots-clause-first c =
