@@ -25,8 +25,8 @@ use Rattle.idl_grammar.specs.Tree.{Attribute, AttributeKind, TypeSpec, Arm, Tree
 use Rattle.idl_grammar.specs.Tree as tree
 use Rattle.idl_names.specs.Ended.{Ended}
 use Rattle.idl_names.specs.Known.{Known}
-use Rattle.idl_names.specs.Known as known_names
 use Rattle.idl_check.specs.World.{World}
+use Rattle.idl_check.specs.World as world
 use Rattle.idl_check.specs.Attributes.{has, first_said, in_word, out_word}
 use Rattle.idl_check.specs.Nodes.{Declared, LabelledArm, arms_of, Node, OperationNode, result_of}
 use Rattle.idl_check.specs.Types.{IdlType, Void, Handle, Basic, Struct, Union, Enum, Array, Text, Pointer, Pipe, Names, type_of}
@@ -146,7 +146,7 @@ defined_by s b (tree.EncapsulatedUnion at tag d name cases) =
     def.Union (number s (or_handle (tag_type b.construct b.names b.body))) true (labelled_arms s b) (default_arm s b)
 defined_by s b (tree.NonEncapsulatedUnion at tag arms) =
     def.Union (number s (or_handle (tag_type b.construct b.names b.body))) false (labelled_arms s b) (default_arm s b)
-defined_by s b (tree.Enum at tag es) = def.Enum (map (λ e. or_zero (known_names.number_of s.known e.name.octets)) es)
+defined_by s b (tree.Enum at tag es) = def.Enum (map (λ e. or_zero (world.number_of s.known e.name.octets)) es)
 defined_by s b _ = def.Enum []
 
 -- Each tag has its body in files that are resolved. Without one it has no values, so that the table is legal whatever the files are.

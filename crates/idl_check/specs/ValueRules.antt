@@ -9,8 +9,8 @@ use Rattle.idl_grammar.specs.declared.words.Spelling.{Spelling}
 use Rattle.idl_grammar.specs.declared.types.SimpleType.{SimpleType}
 use Rattle.idl_grammar.specs.Tree.{Expr, Bound, Declarator, Init}
 use Rattle.idl_grammar.specs.Tree as tree
-use Rattle.idl_names.specs.Known.{Known, number_of}
-use Rattle.idl_check.specs.World.{value_in}
+use Rattle.idl_names.specs.Known.{Known}
+use Rattle.idl_check.specs.World.{value_in, number_of}
 use Rattle.idl_check.specs.Nodes.{ArmLabel, Declared}
 use Rattle.idl_check.specs.Types.{IdlType, Basic, Enum, is_void, is_handle, simple_type}
 use Rattle.idl_check.specs.Scene.{Scene, enumerators_of}
