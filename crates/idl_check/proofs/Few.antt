@@ -1,16 +1,15 @@
 -- Where no rule is broken, there are not too many types and operations.
-use Rattle.std.proofs.Common.{◌≡◌, ℕ, ◌+◌, ◌-◌, ◌≤◌, Bool, true, false, List, [], ◌∷◌, ◌++◌, map, length, refl, sym, ap, arith, ◌∙◌, subst}
+use Rattle.std.proofs.Common.{◌≡◌, ℕ, ◌+◌, ◌-◌, ◌≤◌, List, [], ◌∷◌, ◌++◌, map, length, refl, sym, ap, arith, ◌∙◌}
 use Rattle.std.specs.Prelude.{drop}
 use Rattle.std.specs.List.{flat_map}
 use Rattle.std.proofs.lemmas.List.{length-drop}
-use Rattle.nd_types.specs.declared.types.TypeDef.{TypeDef}
-use Rattle.nd_types.specs.declared.TheConstants.{TYPE_LIMIT, OPERATION_LIMIT}
+use Rattle.nd_types.specs.declared.TheConstants.{TYPE_LIMIT}
 use Rattle.nd_types.specs.Kinds.{basic_types}
-use Rattle.idl_check.specs.Nodes.{Construct, place_in}
+use Rattle.idl_check.specs.Nodes.{place_in}
 use Rattle.idl_check.specs.Scene.{Scene}
 use Rattle.idl_check.specs.Rules.{breach, breaches_at, breaches_in}
 use Rattle.idl_check.specs.CountRules.{too_many, types_too_many, operations_too_many, parameters_too_many, parts_too_many}
-use Rattle.idl_check.specs.Numbering.{Needed, own_types}
+use Rattle.idl_check.specs.Numbering.{own_types}
 use Rattle.idl_check.specs.Meaning.{definition, types_of}
 use Rattle.idl_check.proofs.Kept.{neither}
 
@@ -24,7 +23,7 @@ few n xs h = let e : length xs - n ≡ 0 = sym (length-drop n xs) ∙ ap length 
 none_too_many : (s : Scene) → breaches_in s ≡ [] → too_many s ≡ []
 none_too_many s h =
     none_mapped (λ c. breach 39 (place_in c c.at)) (too_many s)
-        (neither (flat_map (λ n. breaches_at s n.names n.node) s.nodes) (map (λ c. breach 39 (place_in c c.at)) (too_many s)) h).1
+    (neither (flat_map (λ n. breaches_at s n.names n.node) s.nodes) (map (λ c. breach 39 (place_in c c.at)) (too_many s)) h).1
 
 mapped : {X Y : Type 0} (f : X → Y) (xs : List X) → length (map f xs) ≡ length xs
 mapped f [] = refl
