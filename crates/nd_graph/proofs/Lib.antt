@@ -13,3 +13,9 @@ pub mod PlainFit
 pub mod Told
 pub mod Waiting
 pub mod WorkedFit
+pub mod HomeWalk
+pub mod FormWalk
+pub mod PointerWalk
+pub mod NumberRanges
+pub mod Walkable
+pub mod Sharing

@@ -16,3 +16,5 @@ pub mod Same
 pub mod Canon
 pub mod Fitting
 pub mod WorkedFit
+pub mod HomeList
+pub mod Pointers

@@ -1,14 +1,14 @@
 // Whether a graph conforms.
-ghost use Rattle.std.specs.Prelude.{◌≡◌, ◌<◌, ◌^◌, [], length, slice_get, Some, None, IfOk, IfErr, OnOk};
+ghost use Rattle.std.specs.Prelude.{◌≡◌, ◌<◌, ◌^◌, length, slice_get, Some, None, IfOk, IfErr, OnOk};
 ghost use Rattle.nd_types.specs.declared.types.Operation.{Operation};
 ghost use Rattle.nd_types.specs.Plain.{IsPlainInterface};
-ghost use Rattle.nd_graph.specs.Homes.{all_pointers};
 ghost use Rattle.nd_graph.specs.Conforms.{Conforms, HasFewNodes};
 ghost use Rattle.nd_graph.specs.Fitting.{setting_of};
-ghost use Rattle.nd_graph.specs.FirstMisfit.{IsMisfit, IsOfNoFit, first_shared, first_disagreeing};
+ghost use Rattle.nd_graph.specs.FirstMisfit.{IsMisfit, IsOfNoFit, first_disagreeing};
 ghost use Rattle.nd_graph.specs.Passes.{Tells, TellsUnreached, AreReached};
 
 use crate::local::local;
+use crate::shared::shared;
 use crate::{CellId, Fit, Graph, Home, Misfit, MisfitReason};
 use nd_types::{Interface, Side};
 use std::alloc::Global;
@@ -19,8 +19,8 @@ use std::alloc::Global;
 /// each home fewer than 2^32 nodes. Four passes go over the graph in this order, each over the roots and then the cells, and in
 /// each home over its nodes in order: nodes that have a misfit by themselves, cells that are shared, cells that are not reached,
 /// attributes that disagree (C706, 4.2.18 to 4.2.20). The first failing place of the first failing pass is answered. A wrong number
-/// of roots is a Shape at the first that is missing or too many, behind the misfits of the roots that are there. For a plain interface
-/// it takes no memory.
+/// of roots is a Shape at the first that is missing or too many, behind the misfits of the roots that are there. Takes memory for a
+/// list of the homes, for a mark for each cell, and for the pointers of one home at a time.
 pub fn fit(
     alloc: Global,
     interface: &Interface,
@@ -66,24 +66,6 @@ fn passes(
     shared(alloc, interface, op, side, graph)?;
     unreached(alloc, interface, op, side, graph)?;
     disagreeing(interface, op, side, graph)
-}
-
-// The second pass: the first pointer that names a cell which an earlier pointer names, unless both are full. A plain interface has
-// no pointers.
-fn shared(
-    _alloc: Global,
-    interface: &Interface,
-    op: u32,
-    side: Side,
-    graph: &Graph,
-) -> Result<(), Misfit>
-    requires plain { IsPlainInterface interface.now.types interface.now.operations }
-    ensures none { OnOk result ((o : Operation) → slice_get interface.now.operations op ≡ Some o
-        → first_shared [] (all_pointers (setting_of interface.now o side) graph.now) ≡ None) }
-    ensures first { IfErr result (λ e. (o : Operation) → slice_get interface.now.operations op ≡ Some o
-        → Tells (first_shared [] (all_pointers (setting_of interface.now o side) graph.now)) e) }
-{
-    Ok(())
 }
 
 // The third pass: the first cell that is not reached. Without pointers no cell is.

@@ -1,5 +1,6 @@
 // Why a graph does not conform.
 use crate::Home;
+use nd_base::Memory;
 use thiserror::Error;
 
 /// Why a graph does not conform at a place.
@@ -43,4 +44,15 @@ pub enum Misfit {
         node: u32,
         reason: MisfitReason,
     },
+}
+
+impl From<Memory> for Misfit {
+    ghost use Rattle.std.specs.Prelude.{◌≡◌};
+    ghost use Rattle.nd_graph.specs.declared.misfit.Misfit.TheVariants as answer;
+
+    ghost from_gives = { λ _ e. e ≡ answer.Memory };
+
+    fn from(_: Memory) -> Misfit {
+        Misfit::Memory
+    }
 }
