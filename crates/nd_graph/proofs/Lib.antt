@@ -19,3 +19,4 @@ pub mod PointerWalk
 pub mod NumberRanges
 pub mod Walkable
 pub mod Sharing
+pub mod Reaching

@@ -18,3 +18,4 @@ pub mod Fitting
 pub mod WorkedFit
 pub mod HomeList
 pub mod Pointers
+pub mod Reach

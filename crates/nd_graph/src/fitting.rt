@@ -9,7 +9,8 @@ ghost use Rattle.nd_graph.specs.Passes.{Tells, TellsUnreached, AreReached};
 
 use crate::local::local;
 use crate::shared::shared;
-use crate::{CellId, Fit, Graph, Home, Misfit, MisfitReason};
+use crate::unreached::unreached;
+use crate::{Fit, Graph, Misfit};
 use nd_types::{Interface, Side};
 use std::alloc::Global;
 
@@ -66,30 +67,6 @@ fn passes(
     shared(alloc, interface, op, side, graph)?;
     unreached(alloc, interface, op, side, graph)?;
     disagreeing(interface, op, side, graph)
-}
-
-// The third pass: the first cell that is not reached. Without pointers no cell is.
-fn unreached(
-    _alloc: Global,
-    interface: &Interface,
-    op: u32,
-    side: Side,
-    graph: &Graph,
-) -> Result<(), Misfit>
-    requires plain { IsPlainInterface interface.now.types interface.now.operations }
-    ensures none { OnOk result ((o : Operation) → slice_get interface.now.operations op ≡ Some o
-        → AreReached (setting_of interface.now o side) graph.now) }
-    ensures first { IfErr result (λ e. (o : Operation) → slice_get interface.now.operations op ≡ Some o
-        → TellsUnreached (setting_of interface.now o side) graph.now e) }
-{
-    match graph.cells.get(0) {
-        None => Ok(()),
-        Some(_) => Err(Misfit::At {
-            home: Home::Cell(CellId(1)),
-            node: 0,
-            reason: MisfitReason::Unreached,
-        }),
-    }
 }
 
 // The fourth pass: the first node whose attributes state other numbers than are there. A plain interface has no attributes.
