@@ -163,6 +163,28 @@ module _ (limit : ℕ) where
           go (inr (q, inl m, e)) = inr (q, inl m, e)
           go (inr (q, inr m, e)) = absurd m
 
+-- what the steps of the code add up to
+pub reach_many : (s : Reaching) (c : CellId) → length (reach_cell s c).marks ≡ length s.marks
+reach_many s c = go (is_marked s.marks c.0)
+  where
+    go : (b : Bool) → length (reach_by s c b).marks ≡ length s.marks
+    go true = refl
+    go false = length-set s.marks c.0 true
+
+pub reach_all_many : (s : Reaching) (ps : List CellPointer) → length (reach_all s ps).marks ≡ length s.marks
+reach_all_many s [] = refl
+reach_all_many s (p ∷ ps) = reach_all_many (reach_cell s p.cell) ps ∙ reach_many s p.cell
+
+pub reach_append : (s : Reaching) (ps qs : List CellPointer) → reach_all s (ps ++ qs) ≡ reach_all (reach_all s ps) qs
+reach_append s [] qs = refl
+reach_append s (p ∷ ps) qs = reach_append (reach_cell s p.cell) ps qs
+
+pub found_at : (limit n : ℕ) (ps : List CellPointer) (i : ℕ) (d : CellPointer) → n ≡ limit → i < length ps → AllByRecursion (NamesBelow limit) ps
+    → (get_or ps i d).cell.0 < n
+found_at limit n [] i d e h a = absurd (omega (arith, h))
+found_at limit n (p ∷ ps) zero d e h a = omega (arith, e, a.0.1)
+found_at limit n (p ∷ ps) (suc i) d e h a = found_at limit n ps i d e (omega (arith, h)) a.1
+
 names_kept : (table : Table) (g : Graph) (ms ms' : List Bool) (b : ℕ) → ((d : ℕ) → is_marked ms d ≡ true → is_marked ms' d ≡ true)
     → NamesMarked table g ms b → NamesMarked table g ms' b
 names_kept table g ms ms' b grows h x e = go (pointers_of_home table (cell_home b) x.of x.val) (h x e)
