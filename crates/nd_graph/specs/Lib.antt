@@ -19,3 +19,4 @@ pub mod WorkedFit
 pub mod HomeList
 pub mod Pointers
 pub mod Reach
+pub mod Disagreeing
