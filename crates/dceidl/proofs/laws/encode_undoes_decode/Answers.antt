@@ -17,3 +17,11 @@ returns-clause-represents c file i n o order other chunk octets text made is the
     let plain = plain_interface file i is in
     represented_again (inputs_of i o) order _ (plain_side i.types i.operations n o plain there) (plain_side_of i n o plain there)
     (word_names file i is n o there) octets text d other chunk made e
+
+pub returns-clause-words_read : goal.returns-clause-words_read
+returns-clause-words_read c i n o order octets text plain there words d short =
+    reads_back (inputs_of i o) order _ (plain_side i.types i.operations n o plain there) (plain_side_of i n o plain there) words octets text d short
+
+pub returns-clause-words_represent : goal.returns-clause-words_represent
+returns-clause-words_represent c i n o order other chunk octets text made plain there words d e =
+    represented_again (inputs_of i o) order _ (plain_side i.types i.operations n o plain there) (plain_side_of i n o plain there) words octets text d other chunk made e
