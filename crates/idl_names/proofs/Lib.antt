@@ -1,2 +1,5 @@
 pub mod Bits
 pub mod Ranges
+pub mod Tables
+pub mod Walked
+pub mod Lists

@@ -1,0 +1,10 @@
+mod Judged
+mod Order
+mod Equal
+mod Numbers
+mod Needed
+mod Kept
+mod KeptTypes
+mod Inner
+mod Referents
+mod Few

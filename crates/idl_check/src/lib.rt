@@ -1,0 +1,7 @@
+//! The rules of IDL, and what files mean that keep them (C706, chapter 4).
+#![tactic(auto)]
+
+mod fault;
+pub mod laws;
+
+pub use fault::RuleFault;

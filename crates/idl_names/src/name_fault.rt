@@ -1,0 +1,91 @@
+// Why names are not resolved.
+use crate::ConstFault;
+use idl_lexer::LexFault;
+use nd_base::{Memory, Place};
+use thiserror::Error;
+
+/// Where the tokens of a file are no file of the language: a copy of the parser's fault, until the parser is a library of this crate.
+#[derive(Clone, Copy, Debug, PartialEq, Eq, Error)]
+pub enum SyntaxFault {
+    /// Memory was wanting.
+    #[error("out of memory")]
+    Memory,
+    /// No file goes on with this token, or the text ends here too early.
+    #[error("syntax error at token {token}")]
+    Syntax { token: u32 },
+    /// A bracket with 64 open, or an operator with 64 before it in its outermost expression.
+    #[error("too deep at token {token}")]
+    Deep { token: u32 },
+    /// A word that is banned in its place.
+    #[error("banned word at token {token}")]
+    Banned { token: u32 },
+}
+
+/// Why the names of files are not resolved. Files are told by their numbers in `Sources`.
+#[derive(Debug, Drop, Error)]
+pub enum NameFault {
+    /// Memory was wanting.
+    #[error("out of memory")]
+    Memory,
+    /// No such name is known there, or none of its kind; or a tag behind pointers has no body of its kind in any file.
+    #[error("unknown name")]
+    Unknown {
+        place: Place,
+    },
+    /// The name stands already in its space.
+    #[error("name declared twice")]
+    Twice {
+        place: Place,
+        first: Place,
+    },
+    /// An expression has no value.
+    #[error("{fault}")]
+    Const {
+        place: Place,
+        fault: ConstFault,
+    },
+    /// The imported file is being resolved.
+    #[error("files import each other")]
+    ImportCycle {
+        place: Place,
+    },
+    /// The imported file would be the 65th.
+    #[error("too many files")]
+    TooMany {
+        place: Place,
+    },
+    /// The imported file is absent. It is the last of the sources.
+    #[error("no such file")]
+    Absent {
+        file: u16,
+    },
+    /// The imported file could not be read. It is the last of the sources.
+    #[error("file failed")]
+    Failed {
+        file: u16,
+    },
+    /// The imported file cannot be cut into tokens.
+    #[error("no tokens")]
+    Lex {
+        file: u16,
+        fault: LexFault,
+    },
+    /// The imported file is no file of the language; and the octet where the fault's token begins.
+    #[error("no file of the language")]
+    Syntax {
+        file: u16,
+        at: u32,
+        fault: SyntaxFault,
+    },
+}
+
+impl From<Memory> for NameFault {
+    ghost use Rattle.std.specs.Prelude.{◌≡◌};
+    ghost use Rattle.idl_names.specs.declared.name_fault.NameFault.TheVariants as faults;
+
+    ghost from_gives = { λ _ e. e ≡ faults.Memory };
+
+    fn from(_: Memory) -> NameFault {
+        NameFault::Memory
+    }
+}
