@@ -3,5 +3,6 @@
 
 mod fault;
 pub mod laws;
+mod nodes;
 
 pub use fault::RuleFault;

@@ -27,4 +27,5 @@ pub use name_fault::{NameFault, SyntaxFault};
 pub use resolving::resolve;
 pub use scope::{FileTree, FileTrees, Scope};
 pub use sources::{FILES_LIMIT, Sources};
+pub use table::Table;
 pub use tag::{TagDefinition, TagUse};
