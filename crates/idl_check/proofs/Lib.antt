@@ -8,3 +8,6 @@ mod KeptTypes
 mod Inner
 mod Referents
 mod Few
+mod Noted
+mod AnyFrom
+mod Ranks

@@ -22,3 +22,7 @@ pub mod SmallTexts
 pub mod Interfaces
 pub mod Kept
 pub mod SeenNodes
+pub mod Noted
+pub mod Spelled
+pub mod Found
+pub mod ListBreaches

@@ -3,6 +3,9 @@
 
 mod fault;
 pub mod laws;
+mod lists;
 mod nodes;
+mod words;
+mod finder;
 
 pub use fault::RuleFault;
