@@ -23,3 +23,6 @@ pub mod Interfaces
 pub mod Kept
 pub mod SeenNodes
 pub mod Checked
+pub mod Kinds
+pub mod Places
+pub mod SeenTypes

@@ -3,8 +3,11 @@
 
 mod checking;
 mod fault;
+mod kinds;
 pub mod laws;
 mod nodes;
+mod places;
+mod types;
 
 pub use checking::check;
 pub use fault::RuleFault;
