@@ -113,7 +113,7 @@ in_place s (Text t count) = t ∷ []
 in_place s (Pipe t) = t ∷ []
 in_place s _ = []
 
-abbrev is_nonencapsulated_body : TypeSpec → Bool
+abbrev pub is_nonencapsulated_body : TypeSpec → Bool
 is_nonencapsulated_body (tree.NonEncapsulatedUnion at tag arms) = true
 is_nonencapsulated_body _ = false
 

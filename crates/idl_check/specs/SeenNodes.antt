@@ -33,16 +33,16 @@ seen_declared d = record { construct = seen_construct d.construct; is_pipe = d.p
 abbrev pub seen_result : returned.Returned → Declared
 seen_result r = rules.result_of (seen_construct r.construct) (seen_type r.of.now) r.name.now
 
-abbrev or_empty : Option (Vec declared.Declared) → List Declared
+abbrev or_empty : {A : Type 0} → Option (Vec declared.Declared A) → List Declared
 or_empty (Some list) = map seen_declared list.items
 or_empty None = []
 
 -- a list by its number
-abbrev pub list_at : List (Vec declared.Declared) → ℕ → List Declared
+abbrev pub list_at : {A : Type 0} → List (Vec declared.Declared A) → ℕ → List Declared
 list_at lists n = or_empty (slice_get lists n)
 
 -- the nodes for which one of the program stands
-abbrev pub seen_node : List (Vec declared.Declared) → program_node.Node → List Node
+abbrev pub seen_node : {A : Type 0} → List (Vec declared.Declared A) → program_node.Node → List Node
 seen_node lists (node.Header c) = rules.HeaderNode (seen_construct c) c.at ∷ []
 seen_node lists (node.Attributes c) = rules.attribute_nodes (seen_construct c)
 seen_node lists (node.Switch c of) = rules.SwitchNode (seen_construct c) of.now ∷ []

@@ -41,7 +41,7 @@ passes_listed s u test star None = true
 passes_listed s u test star (Some d) = passes test (is_parameter d.it.construct.position) star (type_of s.known u.names d.it)
 
 -- where its list has the variable, it is of such a type
-abbrev is_right_variable : Scene → Use → (IdlType → Bool) → Variable → Bool
+abbrev pub is_right_variable : Scene → Use → (IdlType → Bool) → Variable → Bool
 is_right_variable s u test v = passes_listed s u test v.star (variable_of u v)
 
 -- the variable of an attribute, where its word is one of these

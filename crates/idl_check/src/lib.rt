@@ -1,11 +1,16 @@
 //! The rules of IDL, and what files mean that keep them (C706, chapter 4).
 #![tactic(auto)]
 
+mod checking;
 mod fault;
+mod kinds;
 pub mod laws;
 mod lists;
 mod nodes;
 mod words;
 mod finder;
+mod places;
+mod types;
 
+pub use checking::check;
 pub use fault::RuleFault;
