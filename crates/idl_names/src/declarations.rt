@@ -60,6 +60,22 @@ fn parameter(
     listed_declarator(names, file, list, &parameter.declarator)
 }
 
+/// Parameters in order.
+fn parameter_list(
+    alloc: Global,
+    names: &mut NameTables,
+    file: u16,
+    list: &Vec<Parameter>,
+) -> Result<(), NameFault>
+    ensures { IsRight names.new result (walked file names.old (parameter_steps [] (map seen.seen_parameter list.now.items))) }
+{
+    let mut before = Table::new(alloc);
+    for one in list {
+        parameter(alloc, names, file, &mut before, one)?;
+    }
+    Ok(())
+}
+
 /// The parameters of an operation.
 fn parameters(
     alloc: Global,
@@ -69,14 +85,10 @@ fn parameters(
 ) -> Result<(), NameFault>
     ensures { IsRight names.new result (walked file names.old (parameter_steps [] (parameters_of (seen.seen_parameters parameters.now)))) }
 {
-    let Parameters::List(list) = parameters else {
-        return Ok(());
-    };
-    let mut listed = Table::new(alloc);
-    for one in list {
-        parameter(alloc, names, file, &mut listed, one)?;
+    match parameters {
+        Parameters::Absent | Parameters::Void => Ok(()),
+        Parameters::List(list) => parameter_list(alloc, names, file, list),
     }
-    Ok(())
 }
 
 /// An operation.

@@ -93,14 +93,22 @@ pub(crate) fn dimensions(names: &NameTables, file: u16, declarator: &Declarator)
     Ok(())
 }
 
+/// A label of a case.
+fn label(names: &NameTables, file: u16, label: &Label) -> Result<(), NameFault>
+    ensures { IsRight names.now result (walked file names.now (label_steps (seen.seen_label label.now))) }
+{
+    match label {
+        Label::Value { value, .. } => names.check_value(file, value),
+        Label::Default { .. } => Ok(()),
+    }
+}
+
 /// Labels of a case.
 pub(crate) fn labels(names: &NameTables, file: u16, list: &Vec<Label>) -> Result<(), NameFault>
     ensures { IsRight names.now result (walked file names.now (flat_map label_steps (map seen.seen_label list.now.items))) }
 {
-    for label in list {
-        if let Label::Value { value, .. } = label {
-            names.check_value(file, value)?;
-        }
+    for one in list {
+        label(names, file, one)?;
     }
     Ok(())
 }
