@@ -1,5 +1,5 @@
 -- The steps of the items that are left of the program's vectors, where they depend on the items before.
-use Rattle.std.proofs.Common.{◌≡◌, ℕ, ◌+◌, ◌<◌, ◌≤◌, refl, ap, sym, ◌∙◌, List, [], ◌∷◌, ◌++◌, length, get_or, drop, append_assoc, append-nil, map, Option, Some, None, option_map}
+use Rattle.std.proofs.Common.{◌≡◌, ℕ, ◌+◌, ◌<◌, ◌≤◌, refl, ap, sym, ◌∙◌, ◌&&◌, List, [], ◌∷◌, ◌++◌, length, get_or, drop, append_assoc, append-nil, map, Option, Some, None, option_map}
 use Rattle.std.specs.List.{flat_map, list_all}
 use Rattle.std.proofs.lemmas.List.{drop_more, drop_all}
 use Rattle.idl_grammar.specs.declared.words.Spelling.{Spelling}
@@ -81,6 +81,12 @@ after_parameter before x = before ++ x.declarator.name ∷ []
 
 pub parameters_cons : (s : List Spelling) (x : Parameter) (more : List Parameter) → parameters_from s (x ∷ more) ≡ one_parameter s x ++ parameters_from (after_parameter s x) more
 parameters_cons s x more = refl
+
+-- ## Pointers
+
+pub all_seen : (xs : List Declarator) → list_all (λ x. steps.is_pointer (seen.seen_declarator x)) xs ≡ list_all steps.is_pointer (map seen.seen_declarator xs)
+all_seen [] = refl
+all_seen (x ∷ xs) = ap (λ b. steps.is_pointer (seen.seen_declarator x) && b) (all_seen xs)
 
 -- ## Cases and arms, which depend on none before: a number that stays stands for these
 

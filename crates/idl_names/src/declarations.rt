@@ -8,7 +8,7 @@ ghost use Rattle.std.specs.List.{flat_map};
 
 use crate::known::NameTables;
 use crate::table::Table;
-use crate::types::{are_pointers, type_spec};
+use crate::types::{are_pointers, is_pointer, type_spec};
 use crate::walk::{dimensions, listed_declarator, optional_attributes};
 use crate::{Meaning, NameFault};
 use idl_grammar::{Attributes, Declarator, Export, Init, Parameter, Parameters, Spelling, TypeSpec};
@@ -55,7 +55,7 @@ fn parameter(
     ensures more { OnOk result (listed list.new ≡ listed list.old ++ parameter.now.declarator.name ∷ []) }
 {
     optional_attributes(names, file, &parameter.attributes)?;
-    let behind_pointers = !parameter.declarator.stars.is_empty();
+    let behind_pointers = is_pointer(&parameter.declarator);
     type_spec(alloc, names, file, &parameter.of, behind_pointers)?;
     listed_declarator(names, file, list, &parameter.declarator)
 }

@@ -57,11 +57,18 @@ fn enumerators(names: &mut NameTables, file: u16, list: &Vec<Enumerator>) -> Res
     Ok(())
 }
 
+/// Whether a name is a pointer's.
+pub(crate) fn is_pointer(declarator: &Declarator) -> bool
+    ensures { result ≡ is_pointer (seen.seen_declarator declarator.now) }
+{
+    !declarator.stars.is_empty()
+}
+
 /// Whether all these are pointers.
 pub(crate) fn are_pointers(declarators: &[Declarator]) -> bool
     ensures { result ≡ list_all is_pointer (map seen.seen_declarator declarators.now) }
 {
-    declarators.iter().all(|declarator| !declarator.stars.is_empty())
+    declarators.iter().all(is_pointer)
 }
 
 /// Members of one type, after those of their list.
@@ -204,7 +211,7 @@ fn arm(alloc: Global, names: &mut NameTables, file: u16, arm: &Arm) -> Result<()
         Arm::Empty { attributes, .. } => optional_attributes(names, file, attributes),
         Arm::Typed { attributes, of, declarator, .. } => {
             optional_attributes(names, file, attributes)?;
-            let behind_pointers = !declarator.stars.is_empty();
+            let behind_pointers = is_pointer(declarator);
             type_spec(alloc, names, file, of, behind_pointers)?;
             dimensions(names, file, declarator)
         }

@@ -20,7 +20,7 @@ loop-declarator-preserved c =
 
 pub returns-in_err-listed_declarator-clause-right : goal.returns-in_err-listed_declarator-clause-right
 returns-in_err-listed_declarator-clause-right c =
-    turn_fault rests.listed_from rests.one_listed rests.after_listed rests.listed_cons c.args.declarators.now c.args.file c.args.names.now c.args.names.now (listed c.loop-declarator.list) c.loop-declarator.declarator-index c.declarator-item.result c.from_residual.result c.in_err-listed_declarator.field-0
+    turn_fault rests.listed_from rests.one_listed rests.after_listed rests.listed_cons c.args.declarators.now c.args.file c.args.names.now c.args.names.now (listed c.loop-declarator.list) c.loop-declarator.declarator-index c.declarator-item.result c.from_residual.result c.in_err-listed_declarator.field-0.0
     (walked c.args.file c.args.names.now (rests.listed_from (listed c.args.list.now) c.args.declarators.now)) (omega arith) c.declarator-item.is
     c.loop-declarator.invariant.right
     (told_fault c.from_residual.result c.in_err-listed_declarator.field-0.0 c.from_residual.ensures.1) c.in_err-listed_declarator.ensures.told
