@@ -1,10 +1,10 @@
 // Declarations, step by step.
-ghost use Rattle.std.specs.Prelude.{◌≡◌, ◌++◌, [], ◌∷◌, map, OnOk, option_map};
+ghost use Rattle.std.specs.Prelude.{◌≡◌, ◌++◌, [], ◌∷◌, map, not, ◌&&◌, OnOk, option_map};
 ghost use Rattle.idl_grammar.specs.Seen as seen;
 ghost use Rattle.idl_names.specs.Known.{walked};
 ghost use Rattle.idl_names.specs.Kept.{listed, IsRight};
-ghost use Rattle.idl_names.specs.Steps.{typedef_steps, init_step, one_parameter_steps, parameter_steps, parameters_of, operation_steps, export_steps};
-ghost use Rattle.std.specs.List.{flat_map};
+ghost use Rattle.idl_names.specs.Steps.{is_pointer, typedef_steps, init_step, one_parameter_steps, parameter_steps, parameters_of, operation_steps, export_steps};
+ghost use Rattle.std.specs.List.{flat_map, list_all};
 
 use crate::known::NameTables;
 use crate::table::Table;
@@ -110,6 +110,13 @@ fn operation(
     names.know(file, name, Meaning::Other)
 }
 
+/// Whether each name of a typedef is a pointer to its type.
+fn is_behind_pointers(pipe: bool, declarators: &[Declarator]) -> bool
+    ensures { result ≡ (not pipe && list_all is_pointer (map seen.seen_declarator declarators.now)) }
+{
+    !pipe && are_pointers(declarators)
+}
+
 /// A declaration.
 fn export(alloc: Global, names: &mut NameTables, file: u16, is_main: bool, export: &Export) -> Result<(), NameFault>
     ensures { IsRight names.new result (walked file names.old (export_steps is_main (seen.seen_export export.now))) }
@@ -123,7 +130,7 @@ fn export(alloc: Global, names: &mut NameTables, file: u16, is_main: bool, expor
             ..
         } => {
             optional_attributes(names, file, attributes)?;
-            let behind_pointers = !*pipe && are_pointers(declarators.as_slice());
+            let behind_pointers = is_behind_pointers(*pipe, declarators.as_slice());
             type_spec(alloc, names, file, of, behind_pointers)?;
             typedefs(names, file, declarators)
         }
