@@ -11,7 +11,9 @@ use crate::table::Table;
 use crate::types::{are_pointers, is_pointer, type_spec};
 use crate::walk::{dimensions, listed_declarator, optional_attributes};
 use crate::{Meaning, NameFault};
-use idl_grammar::{Attributes, Declarator, Export, Init, Parameter, Parameters, Spelling, TypeSpec};
+use idl_grammar::{
+    Attributes, Declarator, Export, Init, Parameter, Parameters, Spelling, TypeSpec,
+};
 use std::alloc::Global;
 
 /// A name for a type.
@@ -24,7 +26,11 @@ fn typedef(names: &mut NameTables, file: u16, declarator: &Declarator) -> Result
 }
 
 /// Names for a type.
-fn typedefs(names: &mut NameTables, file: u16, declarators: &Vec<Declarator>) -> Result<(), NameFault>
+fn typedefs(
+    names: &mut NameTables,
+    file: u16,
+    declarators: &Vec<Declarator>,
+) -> Result<(), NameFault>
     ensures { IsRight names.new result (walked file names.old (flat_map typedef_steps (map seen.seen_declarator declarators.now.items))) }
 {
     for declarator in declarators {
@@ -118,7 +124,13 @@ fn is_behind_pointers(pipe: bool, declarators: &[Declarator]) -> bool
 }
 
 /// A declaration.
-fn export(alloc: Global, names: &mut NameTables, file: u16, is_main: bool, export: &Export) -> Result<(), NameFault>
+fn export(
+    alloc: Global,
+    names: &mut NameTables,
+    file: u16,
+    is_main: bool,
+    export: &Export,
+) -> Result<(), NameFault>
     ensures { IsRight names.new result (walked file names.old (export_steps is_main (seen.seen_export export.now))) }
 {
     match export {

@@ -110,16 +110,29 @@ pub(crate) fn type_spec(
             tag(names, file, TagKind::Struct, name)?;
             members(alloc, names, file, list)
         }
-        TypeSpec::EncapsulatedUnion { tag: name, discriminant, cases: list, .. } => {
+        TypeSpec::EncapsulatedUnion {
+            tag: name,
+            discriminant,
+            cases: list,
+            ..
+        } => {
             tag(names, file, TagKind::Union, name)?;
             switch_type(names, file, &discriminant.of)?;
             cases(alloc, names, file, list)
         }
-        TypeSpec::NonEncapsulatedUnion { tag: name, arms: list, .. } => {
+        TypeSpec::NonEncapsulatedUnion {
+            tag: name,
+            arms: list,
+            ..
+        } => {
             tag(names, file, TagKind::Union, name)?;
             arms(alloc, names, file, list)
         }
-        TypeSpec::Enum { tag: name, enumerators: list, .. } => {
+        TypeSpec::Enum {
+            tag: name,
+            enumerators: list,
+            ..
+        } => {
             tag(names, file, TagKind::Enum, name)?;
             enumerators(names, file, list)
         }
@@ -188,12 +201,7 @@ fn cases(
 
 /// The arms of a union whose discriminant stands elsewhere.
 #[cycle(types)]
-fn arms(
-    alloc: Global,
-    names: &mut NameTables,
-    file: u16,
-    list: &Vec<Arm>,
-) -> Result<(), NameFault>
+fn arms(alloc: Global, names: &mut NameTables, file: u16, list: &Vec<Arm>) -> Result<(), NameFault>
     ensures { IsRight names.new result (walked file names.old (arms_steps (arms_of (map seen.seen_arm list.now.items)))) }
 {
     for one in list {
@@ -209,7 +217,12 @@ fn arm(alloc: Global, names: &mut NameTables, file: u16, arm: &Arm) -> Result<()
 {
     match arm {
         Arm::Empty { attributes, .. } => optional_attributes(names, file, attributes),
-        Arm::Typed { attributes, of, declarator, .. } => {
+        Arm::Typed {
+            attributes,
+            of,
+            declarator,
+            ..
+        } => {
             optional_attributes(names, file, attributes)?;
             let behind_pointers = is_pointer(declarator);
             type_spec(alloc, names, file, of, behind_pointers)?;

@@ -1,11 +1,10 @@
-use Rattle.std.proofs.Common.{◌≡◌, ◌∙◌, ◌++◌, [], ◌∷◌, sym, ap, subst, Bool, not, ◌&&◌, List, map, option_map, Result, Ok, Err, false}
+use Rattle.std.proofs.Common.{◌≡◌, ◌∙◌, ◌++◌, sym, ap, subst, Bool, not, ◌&&◌, List, map, option_map, Ok, Err, false}
 use Rattle.std.specs.List.{flat_map, list_all}
 use Rattle.idl_grammar.specs.Seen as seen
-use Rattle.idl_names.specs.Known.{Known, walked}
-use Rattle.idl_names.specs.Kept.{listed, is_memory, IsRight}
+use Rattle.idl_names.specs.Known.{walked}
+use Rattle.idl_names.specs.Kept.{is_memory, IsRight}
 use Rattle.idl_names.specs.Steps.{Step, Declare, Know}
 use Rattle.idl_names.specs.Steps as steps
-use Rattle.idl_names.specs.declared.meaning.Meaning.TheVariants as meaning
 use Rattle.idl_names.proofs.Walked.{both_on, later_stop, right_stop, right_on, at_fault, told_fault}
 use Rattle.idl_grammar.specs.declared.files.Export.{Export}
 use Rattle.idl_grammar.specs.declared.declarators.Declarator.{Declarator}
@@ -58,4 +57,3 @@ returns-in_ok-optional_attributes-in-Tagged c =
     let o : List Step = steps.optional_attribute_steps (option_map seen.seen_attributes c.in-Tagged.attributes) in
     let u : List Step = steps.type_steps false (seen.seen_type c.in-Tagged.of) in
     subst (λ (x : Export). IsRight c.type_spec-in-Tagged.new.names c.type_spec-in-Tagged.result (walked file k (steps.export_steps c.args.is_main (seen.seen_export x)))) (sym c.in-Tagged.is) (right_on file k k c.type_spec-in-Tagged.new.names ((o)) (u) c.type_spec-in-Tagged.result c.in_ok-optional_attributes-in-Tagged.ensures c.type_spec-in-Tagged.ensures)
-

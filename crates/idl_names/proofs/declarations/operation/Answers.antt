@@ -1,8 +1,6 @@
-use Rattle.std.proofs.Common.{◌≡◌, ◌∙◌, ◌++◌, [], ◌∷◌, sym, ap, subst, List, map, option_map, Result, Ok, Err, false}
-use Rattle.std.specs.List.{flat_map, list_all}
+use Rattle.std.proofs.Common.{◌++◌, [], ◌∷◌, List, option_map, false}
 use Rattle.idl_grammar.specs.Seen as seen
-use Rattle.idl_names.specs.Known.{Known, walked}
-use Rattle.idl_names.specs.Kept.{listed, is_memory, IsRight}
+use Rattle.idl_names.specs.Known.{walked}
 use Rattle.idl_names.specs.Steps.{Step, Declare, Know}
 use Rattle.idl_names.specs.Steps as steps
 use Rattle.idl_names.specs.declared.meaning.Meaning.TheVariants as meaning
@@ -72,4 +70,3 @@ returns c =
     let d : List Step = Declare c.args.name.now ∷ p in
     let m : List Step = Know c.args.name.now meaning.Other ∷ [] in
     right_on file k c.parameters.new.names c.know.new.self ((o) ++ (t) ++ (d)) (m) c.know.result (both_on file k k1 c.parameters.new.names ((o) ++ (t)) (d) (both_on file k k k1 ((o)) (t) c.in_ok-optional_attributes.ensures c.in_ok-type_spec.ensures) (both_on file k1 c.declare.new.self c.parameters.new.names a p c.in_ok-declare.ensures c.in_ok-parameters.ensures)) c.know.ensures
-

@@ -1,11 +1,9 @@
-use Rattle.std.proofs.Common.{◌≡◌, ◌∙◌, ◌++◌, [], ◌∷◌, sym, ap, subst, Bool, List, map, option_map, Result, Ok, Err, false}
-use Rattle.std.specs.List.{flat_map, list_all}
+use Rattle.std.proofs.Common.{◌≡◌, ◌++◌, subst, Bool, List, option_map, Ok, Err, false}
 use Rattle.idl_grammar.specs.Seen as seen
-use Rattle.idl_names.specs.Known.{Known, walked}
-use Rattle.idl_names.specs.Kept.{listed, is_memory, IsRight}
+use Rattle.idl_names.specs.Known.{walked}
+use Rattle.idl_names.specs.Kept.{listed, is_memory}
 use Rattle.idl_names.specs.Steps.{Step, Declare, Know}
 use Rattle.idl_names.specs.Steps as steps
-use Rattle.idl_names.specs.declared.meaning.Meaning.TheVariants as meaning
 use Rattle.idl_names.proofs.Walked.{both_on, later_stop, right_stop, right_on, at_fault, told_fault}
 use Rattle.idl_names.proofs.declarations.parameter.Goals as goal
 
@@ -44,4 +42,3 @@ returns-clause-right c =
     let t : List Step = ts pointer in
     let l : List Step = steps.listed_steps before (seen.seen_declarator c.args.parameter.now.declarator) in
     right_on file k c.type_spec.new.names c.type_spec.new.names ((o) ++ (t)) (l) c.listed_declarator.result (both_on file k k c.type_spec.new.names ((o)) (t) c.in_ok-optional_attributes.ensures (subst (λ b. walked file k (ts b) ≡ Ok c.type_spec.new.names) c.is_pointer-behind_pointers.ensures c.in_ok-type_spec.ensures)) c.listed_declarator.ensures.told
-

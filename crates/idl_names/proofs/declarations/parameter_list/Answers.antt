@@ -1,4 +1,4 @@
-use Rattle.std.proofs.Common.{◌≡◌, ◌∙◌, ◌+◌, ◌++◌, [], ◌∷◌, sym, ap, refl, arith, List, drop, map, option_map, Option, Some, None}
+use Rattle.std.proofs.Common.{◌∙◌, ◌+◌, [], sym, ap, refl, arith, drop}
 use Rattle.idl_names.specs.Kept.{listed}
 use Rattle.idl_names.specs.Known.{walked}
 use Rattle.idl_names.proofs.Rests as rests
@@ -22,4 +22,3 @@ pub returns : goal.returns
 returns c =
     ap (λ xs. walked c.args.file c.args.names.now (rests.parameters_from [] xs)) (sym c.deref-one-items.ensures.value)
     ∙ (sym c.loop-one.invariant ∙ turns_end rests.parameters_from rests.one_parameter rests.after_parameter rests.parameters_cons c.deref-one-items.result.now c.args.file c.loop-one.names (listed c.loop-one.before) c.loop-one.one-index (omega arith) refl)
-

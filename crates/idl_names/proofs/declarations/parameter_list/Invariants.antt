@@ -1,4 +1,4 @@
-use Rattle.std.proofs.Common.{◌≡◌, [], drop, map, option_map, Option, Some, None}
+use Rattle.std.proofs.Common.{◌≡◌, [], drop}
 use Rattle.idl_names.specs.Kept.{listed}
 use Rattle.idl_names.specs.Known.{walked}
 use Rattle.idl_names.proofs.Rests as rests

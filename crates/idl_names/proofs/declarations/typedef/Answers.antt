@@ -1,8 +1,6 @@
-use Rattle.std.proofs.Common.{◌≡◌, ◌∙◌, ◌++◌, [], ◌∷◌, sym, ap, subst, List, map, option_map, Result, Ok, Err, false}
-use Rattle.std.specs.List.{flat_map, list_all}
+use Rattle.std.proofs.Common.{◌++◌, [], ◌∷◌, List}
 use Rattle.idl_grammar.specs.Seen as seen
-use Rattle.idl_names.specs.Known.{Known, walked}
-use Rattle.idl_names.specs.Kept.{listed, is_memory, IsRight}
+use Rattle.idl_names.specs.Known.{walked}
 use Rattle.idl_names.specs.Steps.{Step, Declare, Know}
 use Rattle.idl_names.specs.Steps as steps
 use Rattle.idl_names.specs.declared.meaning.Meaning.TheVariants as meaning
@@ -28,4 +26,3 @@ returns c =
     let b : List Step = steps.dimension_steps (seen.seen_declarator c.args.declarator.now) in
     let m : List Step = Know c.args.declarator.now.name meaning.Type ∷ [] in
     right_on file k k1 c.know.new.self ((a) ++ (b)) (m) c.know.result (both_on file k k1 k1 ((a)) (b) c.in_ok-declare.ensures c.in_ok-dimensions.ensures) c.know.ensures
-

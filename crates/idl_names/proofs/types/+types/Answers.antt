@@ -1,11 +1,10 @@
-use Rattle.std.proofs.Common.{◌≡◌, ◌∙◌, ◌+◌, ◌++◌, [], ◌∷◌, sym, ap, subst, refl, arith, Bool, List, drop, map, option_map, Result, Ok, Err, false}
+use Rattle.std.proofs.Common.{◌≡◌, ◌∙◌, ◌+◌, ◌++◌, [], sym, ap, subst, refl, arith, Bool, List, drop, map, option_map, Ok, Err, false}
 use Rattle.std.specs.List.{flat_map, list_all}
 use Rattle.idl_grammar.specs.Seen as seen
-use Rattle.idl_names.specs.Known.{Known, walked}
+use Rattle.idl_names.specs.Known.{walked}
 use Rattle.idl_names.specs.Kept.{listed, is_memory, IsRight}
 use Rattle.idl_names.specs.Steps.{Step, Declare, Know}
 use Rattle.idl_names.specs.Steps as steps
-use Rattle.idl_names.specs.declared.meaning.Meaning.TheVariants as meaning
 use Rattle.idl_names.proofs.Walked.{both_on, later_stop, right_stop, right_on, at_fault, told_fault}
 use Rattle.idl_names.proofs.Walked.{turn, turn_fault, turns_end}
 use Rattle.idl_names.proofs.Rests as rests
@@ -174,4 +173,3 @@ pub arms-returns : goal.arms-returns
 arms-returns t c =
     ap (λ xs. walked c.args.file c.args.names.now (rests.arms_from 0 xs)) (sym c.deref-one-items.ensures.value)
     ∙ (sym c.loop-one.invariant ∙ turns_end rests.arms_from rests.one_arm rests.after_arm rests.arms_cons c.deref-one-items.result.now c.args.file c.loop-one.names 0 c.loop-one.one-index (omega arith) refl)
-

@@ -1,5 +1,4 @@
-use Rattle.std.proofs.Common.{◌≡◌, ◌∙◌, ◌+◌, ◌++◌, [], ◌∷◌, sym, ap, refl, arith, List, drop, map, option_map, Option, Some, None}
-use Rattle.idl_names.specs.Kept.{listed}
+use Rattle.std.proofs.Common.{◌∙◌, sym, ap, refl, arith, option_map, None}
 use Rattle.idl_names.specs.Known.{walked}
 use Rattle.idl_names.proofs.Rests as rests
 use Rattle.idl_names.proofs.Walked.{turn, turn_fault, turns_end, told_fault}
@@ -21,4 +20,3 @@ pub returns : goal.returns
 returns c =
     ap (λ xs. walked c.args.file c.args.names.now (rests.enumerators_from None xs)) (sym c.deref-one-items.ensures.value)
     ∙ (sym c.loop-one.invariant ∙ turns_end rests.enumerators_from rests.one_enumerator rests.after_enumerator rests.enumerators_cons c.deref-one-items.result.now c.args.file c.loop-one.names (option_map (λ s. s.now) c.loop-one.previous) c.loop-one.one-index (omega arith) refl)
-

@@ -1,4 +1,4 @@
-use Rattle.std.proofs.Common.{◌≡◌, ◌∙◌, ◌+◌, ◌++◌, [], ◌∷◌, sym, ap, refl, arith, List, drop, map}
+use Rattle.std.proofs.Common.{◌∙◌, ◌+◌, sym, ap, refl, arith, drop}
 use Rattle.idl_names.specs.Kept.{listed}
 use Rattle.idl_names.specs.Known.{walked}
 use Rattle.idl_names.proofs.Rests as rests
@@ -12,9 +12,9 @@ loop-declarator-preserved c =
     let x = c.declarator-item.result in
     record {
       right =
-        ap (λ s. walked c.args.file c.args.names.now (rests.listed_from s (drop (i + 1) xs))) c.in_ok-listed_declarator.ensures.more
-        ∙ (turn rests.listed_from rests.one_listed rests.after_listed rests.listed_cons c.args.declarators.now c.args.file c.args.names.now c.args.names.now (listed c.loop-declarator.list) i x (omega arith) c.declarator-item.is c.in_ok-listed_declarator.ensures.told
-        ∙ c.loop-declarator.invariant.right);
+          ap (λ s. walked c.args.file c.args.names.now (rests.listed_from s (drop (i + 1) xs))) c.in_ok-listed_declarator.ensures.more
+          ∙ (turn rests.listed_from rests.one_listed rests.after_listed rests.listed_cons c.args.declarators.now c.args.file c.args.names.now c.args.names.now (listed c.loop-declarator.list) i x (omega arith) c.declarator-item.is c.in_ok-listed_declarator.ensures.told
+          ∙ c.loop-declarator.invariant.right);
       more = rests.names_more xs i x (listed c.loop-declarator.list) (listed c.listed_declarator.new.list) (omega arith) c.declarator-item.is c.in_ok-listed_declarator.ensures.more ∙ c.loop-declarator.invariant.more;
     }
 
