@@ -3,3 +3,4 @@ pub mod Ranges
 pub mod Tables
 pub mod Walked
 pub mod Lists
+pub mod Rests
