@@ -11,3 +11,6 @@ mod Few
 mod Noted
 mod AnyFrom
 mod Ranks
+mod ListNotes
+mod NoListRules
+mod Runs

@@ -1,6 +1,6 @@
 -- Breaches noted one by one come to the first of all, and rules 1 to 4 come before the others.
 use Rattle.std.proofs.Common.{◌≡◌, ◌∙◌, ℕ, Bool, true, false, not, ◌&&◌, ◌||◌, List, [], ◌∷◌, ◌++◌, Option, Some, None, refl, sym, ap, ap₂, subst, arith}
-use Rattle.std.specs.Prelude.{⊤, tt}
+use Rattle.std.specs.Prelude.{⊤}
 use Rattle.std.specs.Prelude.{eqb, ltb, filter}
 use Rattle.std.proofs.lemmas.Bool.Decides.{nat_tests}
 use Rattle.idl_check.specs.World.{World}
@@ -94,47 +94,51 @@ of_others_more b bs t e = ap (λ t. elim t [ true ↦ of_others bs | false ↦ b
 
 lists_are : (bs : List Breach) → Are true (of_lists bs)
 lists_are [] = none_are
-lists_are (b ∷ bs) = by (is_of_lists b) refl where
-  by : (t : Bool) → is_of_lists b ≡ t → Are true (of_lists (b ∷ bs))
-  by true e = subst (λ l. Are true l) (sym (of_lists_more b bs true e)) (next_is b (of_lists bs) e (lists_are bs))
-  by false e = subst (λ l. Are true l) (sym (of_lists_more b bs false e)) (lists_are bs)
+lists_are (b ∷ bs) = by (is_of_lists b) refl (lists_are bs) where
+  by : (t : Bool) → is_of_lists b ≡ t → Are true (of_lists bs) → Are true (of_lists (b ∷ bs))
+  by true e rest = subst (λ l. Are true l) (sym (of_lists_more b bs true e)) (next_is b (of_lists bs) e rest)
+  by false e rest = subst (λ l. Are true l) (sym (of_lists_more b bs false e)) rest
 
 others_are : (bs : List Breach) → Are false (of_others bs)
 others_are [] = none_are
-others_are (b ∷ bs) = by (is_of_lists b) refl where
-  by : (t : Bool) → is_of_lists b ≡ t → Are false (of_others (b ∷ bs))
-  by true e = subst (λ l. Are false l) (sym (of_others_more b bs true e)) (others_are bs)
-  by false e = subst (λ l. Are false l) (sym (of_others_more b bs false e)) (next_is b (of_others bs) e (others_are bs))
+others_are (b ∷ bs) = by (is_of_lists b) refl (others_are bs) where
+  by : (t : Bool) → is_of_lists b ≡ t → Are false (of_others bs) → Are false (of_others (b ∷ bs))
+  by true e rest = subst (λ l. Are false l) (sym (of_others_more b bs true e)) rest
+  by false e rest = subst (λ l. Are false l) (sym (of_others_more b bs false e)) (next_is b (of_others bs) e rest)
 
 abbrev OnSomeOf : (Breach → Type 0) → Option Breach → Type 0
 OnSomeOf P None = ⊤
 OnSomeOf P (Some b) = P b
 
-first_is : (w : World) (test : Bool) (bs : List Breach) → Are test bs → OnSomeOf (λ b. is_of_lists b ≡ test) (first_of w bs)
+earlier_is : (w : World) (test : Bool) (b : Breach) → is_of_lists b ≡ test → (o : Option Breach) → OnSomeOf (λ x. is_of_lists x ≡ test) o → is_of_lists (earlier w b o) ≡ test
+earlier_is w test b is None h = is
+earlier_is w test b is (Some a) h = either (comes_before w a b) refl where
+  either : (t : Bool) → comes_before w a b ≡ t → is_of_lists (earlier w b (Some a)) ≡ test
+  either true e = ap is_of_lists (two w b a true e) ∙ h
+  either false e = ap is_of_lists (two w b a false e) ∙ is
+
+first_is : (w : World) (test : Bool) (bs : List Breach) → Are test bs → OnSomeOf (λ x. is_of_lists x ≡ test) (first_of w bs)
 first_is w test [] none_are = tt
-first_is w test (b ∷ bs) (next_is b bs is rest) = by (first_of w bs) (first_is w test bs rest) where
-  by : (o : Option Breach) → OnSomeOf (λ b. is_of_lists b ≡ test) o → is_of_lists (earlier w b o) ≡ test
-  by None h = is
-  by (Some a) h = either (comes_before w a b) refl where
-    either : (t : Bool) → comes_before w a b ≡ t → is_of_lists (earlier w b (Some a)) ≡ test
-    either true e = (ap (λ x. is_of_lists x) (two w b a true e)) ∙ h
-    either false e = (ap (λ x. is_of_lists x) (two w b a false e)) ∙ is
+first_is w test (b ∷ bs) (next_is _ _ is rest) = earlier_is w test b is (first_of w bs) (first_is w test bs rest)
+
+of_list : (w : World) (b : Breach) → is_of_lists b ≡ true → (l o : Option Breach) → OnSomeOf (λ x. is_of_lists x ≡ false) o → earlier w b (or_else l o) ≡ earlier w b l
+of_list w b e None None h = refl
+of_list w b e None (Some a) h = two w b a false (list_rule_first w b a e h)
+of_list w b e (Some l) o h = refl
+
+of_other : (w : World) (b : Breach) → is_of_lists b ≡ false → (l o : Option Breach) → OnSomeOf (λ x. is_of_lists x ≡ true) l
+    → Some (earlier w b (or_else l o)) ≡ or_else l (Some (earlier w b o))
+of_other w b e None o h = refl
+of_other w b e (Some l) o h = ap (λ x. Some x) (two w b l true (list_rule_last w b l e h))
 
 pub in_two : (w : World) (bs : List Breach) → first_of w bs ≡ or_else (first_of w (of_lists bs)) (first_of w (of_others bs))
 in_two w [] = refl
-in_two w (b ∷ bs) = by (is_of_lists b) refl where
-  of_list : is_of_lists b ≡ true → (l o : Option Breach) → OnSomeOf (λ b. is_of_lists b ≡ false) o → earlier w b (or_else l o) ≡ earlier w b l
-  of_list e None None h = refl
-  of_list e None (Some a) h = two w b a false (list_rule_first w b a e h)
-  of_list e (Some l) o h = refl
-  of_other : is_of_lists b ≡ false → (l o : Option Breach) → OnSomeOf (λ b. is_of_lists b ≡ true) l
-      → Some (earlier w b (or_else l o)) ≡ or_else l (Some (earlier w b o))
-  of_other e None o h = refl
-  of_other e (Some l) o h = ap (λ x. Some x) (two w b l true (list_rule_last w b l e h))
-  by : (t : Bool) → is_of_lists b ≡ t → first_of w (b ∷ bs) ≡ or_else (first_of w (of_lists (b ∷ bs))) (first_of w (of_others (b ∷ bs)))
-  by true e =
-      ap (λ x. Some x) ((ap (λ x. earlier w b x) (in_two w bs)) ∙ of_list e (first_of w (of_lists bs)) (first_of w (of_others bs)) (first_is w false (of_others bs) (others_are bs)))
+in_two w (b ∷ bs) = by (is_of_lists b) refl (in_two w bs) where
+  by : (t : Bool) → is_of_lists b ≡ t → first_of w bs ≡ or_else (first_of w (of_lists bs)) (first_of w (of_others bs))
+      → first_of w (b ∷ bs) ≡ or_else (first_of w (of_lists (b ∷ bs))) (first_of w (of_others (b ∷ bs)))
+  by true e rest =
+      ap (λ x. Some x) (ap (λ x. earlier w b x) rest ∙ of_list w b e (first_of w (of_lists bs)) (first_of w (of_others bs)) (first_is w false (of_others bs) (others_are bs)))
       ∙ sym (ap₂ (λ l o. or_else (first_of w l) (first_of w o)) (of_lists_more b bs true e) (of_others_more b bs true e))
-  by false e =
-      (ap (λ x. Some (earlier w b x)) (in_two w bs)) ∙ of_other e (first_of w (of_lists bs)) (first_of w (of_others bs)) (first_is w true (of_lists bs) (lists_are bs))
+  by false e rest =
+      ap (λ x. Some (earlier w b x)) rest ∙ of_other w b e (first_of w (of_lists bs)) (first_of w (of_others bs)) (first_is w true (of_lists bs) (lists_are bs))
       ∙ sym (ap₂ (λ l o. or_else (first_of w l) (first_of w o)) (of_lists_more b bs false e) (of_others_more b bs false e))

@@ -1,23 +1,25 @@
 // Rules 1 to 4: attributes as they stand in lists (C706, sections 4.2.4, 4.2.9 and 4.2.12 to 4.2.14).
-ghost use Rattle.std.specs.Prelude.{◌≡◌, None, [], ◌∷◌, ◌++◌, map, not, option_map, IfOk};
+ghost use Rattle.std.specs.Prelude.{◌≡◌, None, [], ◌∷◌, ◌++◌, map, not, option_map, IfOk, OnOk, List};
 ghost use Rattle.std.specs.List.{list_any};
 ghost use Rattle.std.specs.Str.{bytes_eq};
 ghost use Rattle.idl_names.specs.Seen.{seen_files};
 ghost use Rattle.idl_grammar.specs.Seen.{seen_kind, seen_attribute};
 ghost use Rattle.idl_check.specs.World.{World};
-ghost use Rattle.idl_check.specs.Attributes.{classes, sizes, lengths, switch_is_word};
+ghost use Rattle.idl_check.specs.Attributes.{word_of, classes, sizes, lengths, switch_is_word};
 ghost use Rattle.idl_check.specs.AttributeRules.{words_in, is_large_version_in, is_past_65535};
-ghost use Rattle.idl_check.specs.Nodes.{attribute_nodes, attribute_nodes_from};
+ghost use Rattle.idl_check.specs.Nodes.{attribute_nodes, HeaderNode};
+ghost use Rattle.idl_grammar.specs.Tree as tree;
+ghost use Rattle.idl_check.specs.declared.nodes.Nodes as declared;
 ghost use Rattle.idl_check.specs.SeenNodes.{seen_position, seen_construct, seen_node, seen_nodes};
 ghost use Rattle.idl_check.specs.Noted.{noted};
-ghost use Rattle.idl_check.specs.ListBreaches.{list_breaches};
+ghost use Rattle.idl_check.specs.ListBreaches.{list_breaches, list_breaches_at, attribute_breaches, is_among, AreWords};
 ghost use Rattle.idl_check.specs.Found.{seen_breach};
 ghost use Rattle.idl_check.specs.Spelled.{spelled};
 ghost use Rattle.idl_lexer.specs.Numbers.{number_of};
 
 use crate::finder::{Breach, Finder};
 use crate::nodes::{Construct, Node, Nodes, Position};
-use crate::words::{Word, first_word, has};
+use crate::words::{Word, first_word, has, is_same};
 use idl_grammar::{Attribute, AttributeKind, Spelling};
 use idl_lexer::number_of as number_value;
 use idl_names::FileTrees;
@@ -87,9 +89,24 @@ fn is_large_version(kind: &AttributeKind) -> bool
     }
 }
 
+/// Whether a word is one of these.
+fn is_among(words: &[Word], word: Word) -> bool
+    ensures { result ≡ is_among (spelled word) words.now }
+{
+    for one in words {
+        if is_same(&word, one) {
+            return true;
+        }
+    }
+    false
+}
+
 /// Keeps a word, once. Takes memory for it.
-fn enlist(words: &mut Vec<Word>, word: Word) -> Result<(), Memory> {
-    if words.contains(&word) {
+fn enlist(words: &mut Vec<Word>, word: Word) -> Result<(), Memory>
+    ensures { (before : List tree.Attribute) (a : tree.Attribute) → AreWords words.old.items before → spelled word ≡ word_of a.kind
+        → OnOk result (AreWords words.new.items (before ++ a ∷ [])) }
+{
+    if is_among(words.as_slice(), word) {
         return Ok(());
     }
     match words.push(word) {
@@ -100,20 +117,28 @@ fn enlist(words: &mut Vec<Word>, word: Word) -> Result<(), Memory> {
 
 /// The rules on an attribute, behind attributes with these words.
 fn attribute(finder: &mut Finder<'_>, construct: &Construct<'_>, words: &[Word], attribute: &Attribute)
+    ensures files { finder.new.files.now ≡ finder.old.files.now }
+    ensures first { (w : World) (before : List tree.Attribute) → w.files ≡ seen_files finder.old.files.now → AreWords words.now before
+        → option_map seen_breach finder.new.first
+            ≡ noted w (option_map seen_breach finder.old.first) (attribute_breaches (seen_construct construct.now) before (seen_attribute attribute.now)) }
 {
     let place = construct.place(attribute.at);
     let word = first_word(&attribute.kind);
     finder.note(1, place, !is_in_place(construct.position, word));
-    finder.note(2, place, words.contains(&word));
+    finder.note(2, place, is_among(words, word));
     finder.note(4, place, is_large_version(&attribute.kind));
 }
 
 /// The rules on the attributes of a construct. Takes memory for their words.
 fn attributes(alloc: Global, finder: &mut Finder<'_>, construct: &Construct<'_>) -> Result<(), Memory>
+    ensures files { finder.new.files.now ≡ finder.old.files.now }
+    ensures first { (w : World) → w.files ≡ seen_files finder.old.files.now
+        → OnOk result (option_map seen_breach finder.new.first
+            ≡ noted w (option_map seen_breach finder.old.first) (list_breaches (attribute_nodes (seen_construct construct.now)))) }
 {
     let mut words = Vec::new(alloc);
     for one in construct.attributes {
-        attribute(finder, construct, &words, one);
+        attribute(finder, construct, words.as_slice(), one);
         enlist(&mut words, first_word(&one.kind))?;
     }
     Ok(())
@@ -121,11 +146,30 @@ fn attributes(alloc: Global, finder: &mut Finder<'_>, construct: &Construct<'_>)
 
 /// The rule on a header: the main file's has `uuid` or `local`.
 fn header(finder: &mut Finder<'_>, construct: &Construct<'_>)
+    ensures files { finder.new.files.now ≡ finder.old.files.now }
+    ensures first { (w : World) → w.files ≡ seen_files finder.old.files.now
+        → option_map seen_breach finder.new.first
+            ≡ noted w (option_map seen_breach finder.old.first) (list_breaches_at (HeaderNode (seen_construct construct.now) construct.now.at)) }
 {
     let lacks = construct.file == 0
         && !has(construct.attributes, Word::Uuid)
         && !has(construct.attributes, Word::Local);
     finder.note(3, construct.place(construct.at), lacks);
+}
+
+/// The rules on what a node stands for.
+fn node(alloc: Global, finder: &mut Finder<'_>, node: &Node<'_>) -> Result<(), Memory>
+    ensures files { finder.new.files.now ≡ finder.old.files.now }
+    ensures first { (w : World) (nodes : declared.Nodes) → w.files ≡ seen_files finder.old.files.now
+        → OnOk result (option_map seen_breach finder.new.first
+            ≡ noted w (option_map seen_breach finder.old.first) (list_breaches (seen_node nodes.lists.items node.now))) }
+{
+    match node {
+        Node::Header { construct } => header(finder, construct),
+        Node::Attributes { construct } => attributes(alloc, finder, construct)?,
+        _ => {}
+    }
+    Ok(())
 }
 
 /// The first breach of these rules, if one is broken.
@@ -134,12 +178,8 @@ pub(crate) fn first_breach(alloc: Global, files: &FileTrees, nodes: &Nodes<'_>) 
         → IfOk result (λ first. option_map seen_breach first ≡ noted w None (list_breaches (seen_nodes nodes.now))) }
 {
     let mut finder = Finder::new(files);
-    for node in &nodes.items {
-        match node {
-            Node::Header { construct } => header(&mut finder, construct),
-            Node::Attributes { construct } => attributes(alloc, &mut finder, construct)?,
-            _ => {}
-        }
+    for one in &nodes.items {
+        node(alloc, &mut finder, one)?;
     }
     Ok(finder.first())
 }

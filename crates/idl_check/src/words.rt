@@ -87,6 +87,13 @@ pub(crate) fn first_word(kind: &AttributeKind) -> Word
     }
 }
 
+/// Whether two words are the same.
+pub(crate) fn is_same(one: &Word, other: &Word) -> bool
+    ensures { result ≡ bytes_eq (spelled one.now) (spelled other.now) }
+{
+    one == other
+}
+
 /// Whether an attribute begins with a word.
 pub(crate) fn is_word(word_meant: Word, kind: &AttributeKind) -> bool
     ensures { result ≡ bytes_eq (spelled word_meant) (word_of (seen_kind kind.now)) }
