@@ -8,3 +8,5 @@ mod KeptTypes
 mod Inner
 mod Referents
 mod Few
+pub mod Fronts
+pub mod KindLists

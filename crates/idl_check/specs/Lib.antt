@@ -26,3 +26,4 @@ pub mod Checked
 pub mod Kinds
 pub mod Places
 pub mod SeenTypes
+pub mod SeenMarks

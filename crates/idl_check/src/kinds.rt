@@ -101,6 +101,16 @@ fn primitive_number(of: Primitive) -> u8
     }
 }
 
+/// A number of 32 bits. There is no memory for more types.
+fn narrow(number: usize) -> Result<u32, Memory>
+    ensures { IfOk result (λ n. n ≡ number) }
+{
+    match u32::try_from(number) {
+        Ok(number) => Ok(number),
+        Err(_) => Err(Memory),
+    }
+}
+
 impl Class {
     /// A class, or none.
     pub(crate) fn new(class: Option<PointerClass>) -> Class
@@ -195,13 +205,10 @@ impl Kinds {
         ensures stands { IfOk result (λ n. Stands self.new n (type_by (seen_types self.old) kind)) }
         ensures keeps { Keeps self.old self.new }
     {
-        let (number, _) = match self.entries.insert_full(kind) {
-            Ok(added) => added,
-            Err(_) => return Err(Memory),
+        let Ok((number, _)) = self.entries.insert_full(kind) else {
+            return Err(Memory);
         };
-        match u32::try_from(number) {
-            Ok(number) => Ok(number),
-            Err(_) => Err(Memory),
-        }
+        let number = narrow(number)?;
+        Ok(number)
     }
 }

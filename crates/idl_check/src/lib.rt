@@ -5,6 +5,7 @@ mod checking;
 mod fault;
 mod kinds;
 pub mod laws;
+mod marks;
 mod nodes;
 mod places;
 mod types;
