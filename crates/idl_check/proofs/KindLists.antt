@@ -7,8 +7,8 @@ use Rattle.std.specs.Bool.{if◌then◌else◌}
 use Rattle.indexmap.specs.IndexSet.{insert_key}
 use Rattle.idl_check.specs.declared.kinds.Kind.{Kind}
 use Rattle.idl_check.specs.declared.kinds.Kind.TheVariants as kind
-use Rattle.idl_check.specs.Types.{IdlType, Void}
-use Rattle.idl_check.specs.Kinds.{type_by, types_from, seen_types, is_inside, are_ordered, or_void, type_at, Stands, Keeps}
+use Rattle.idl_check.specs.Types.{IdlType, Void, or_void}
+use Rattle.idl_check.specs.Kinds.{type_by, types_from, seen_types, is_inside, are_ordered, type_at, Stands, Keeps}
 
 pub slice_get_kept : {X : Type 0} (xs ys : List X) (n : ℕ) (x : X) → slice_get xs n ≡ Some x → slice_get (xs ++ ys) n ≡ Some x
 slice_get_kept [] ys n x h = absurd (none-some x h)
@@ -19,7 +19,7 @@ pub slice_get_last : {X : Type 0} (xs : List X) (x : X) → slice_get (xs ++ x �
 slice_get_last [] x = refl
 slice_get_last (y ∷ xs) x = slice_get_last xs x
 
-both : (a b : Bool) → (a && b) ≡ true → (a ≡ true) × (b ≡ true)
+pub both : (a b : Bool) → (a && b) ≡ true → (a ≡ true) × (b ≡ true)
 both true b h = (refl, h)
 both false b h = absurd (true≢false (sym h))
 

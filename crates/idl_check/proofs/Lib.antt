@@ -10,3 +10,5 @@ mod Referents
 mod Few
 pub mod Fronts
 pub mod KindLists
+pub mod PlaceLists
+pub mod NameLists

@@ -27,3 +27,4 @@ pub mod Kinds
 pub mod Places
 pub mod SeenTypes
 pub mod SeenMarks
+pub mod SeenNames

@@ -1,5 +1,5 @@
 // Types, each of them once, by number.
-ghost use Rattle.std.specs.Prelude.{◌≡◌, true, List, [], length, IfOk};
+ghost use Rattle.std.specs.Prelude.{◌≡◌, ℕ, true, List, [], length, IfOk};
 ghost use Rattle.idl_check.specs.Types.{IdlType, Basic};
 ghost use Rattle.idl_check.specs.Kinds.{seen_class, primitive_by, basic_in, inner_of, seen_types, type_by, type_at, is_inside, Stands, Keeps};
 
@@ -128,7 +128,8 @@ impl Class {
 impl Kind {
     /// A primitive type.
     pub(crate) fn basic(of: Primitive) -> Kind
-        ensures { (types : List IdlType) → type_by types result ≡ Basic of }
+        ensures seen { (types : List IdlType) → type_by types result ≡ Basic of }
+        ensures inside { (n : ℕ) → is_inside n result ≡ true }
     {
         Kind::Basic {
             number: primitive_number(of),

@@ -8,7 +8,10 @@ pub mod laws;
 mod marks;
 mod nodes;
 mod places;
+mod said;
 mod types;
+mod typing;
+mod written;
 
 pub use checking::check;
 pub use fault::RuleFault;
