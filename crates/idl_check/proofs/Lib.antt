@@ -14,3 +14,7 @@ mod Ranks
 mod ListNotes
 mod NoListRules
 mod Runs
+pub mod Fronts
+pub mod KindLists
+pub mod PlaceLists
+pub mod NameLists

@@ -33,7 +33,7 @@ abbrev product : List (Option ℤ) → Option ℤ
 product [] = Some (pos 1)
 product (c ∷ cs) = times c (product cs)
 
-abbrev has_wrong_count : IdlType → Bool
+abbrev pub has_wrong_count : IdlType → Bool
 has_wrong_count (Array t count varying) = not (is_right_count count) || not (is_right_count (product (dimensions (Array t count varying))))
 has_wrong_count _ = false
 
@@ -42,11 +42,11 @@ has_wrong_counts u = list_any has_wrong_count (chain u.declared_as)
 
 -- Rule 16: an array of more than one dimension is fixed in each, and has no length_is, first_is, last_is or string.
 
-abbrev are_many : List (Option ℤ) → Bool
+abbrev pub are_many : List (Option ℤ) → Bool
 are_many (c ∷ d ∷ cs) = true
 are_many _ = false
 
-abbrev has_many_not_fixed : IdlType → Bool
+abbrev pub has_many_not_fixed : IdlType → Bool
 has_many_not_fixed t = are_many (dimensions t) && list_any is_none (dimensions t)
 
 abbrev pub has_wrong_dimensions : Use → Bool
@@ -56,7 +56,7 @@ has_wrong_dimensions u =
 
 -- Rule 17: an array's element does not hoist and is no varying array or text.
 
-abbrev has_wrong_element : Scene → IdlType → Bool
+abbrev pub has_wrong_element : Scene → IdlType → Bool
 has_wrong_element s (Array t count varying) = hoists s t || is_text t || is_varying_array t
 has_wrong_element s _ = false
 
@@ -100,7 +100,7 @@ is_barred_within (suc n) s t = is_barred_by s (is_barred_within n s) t
 unfoldable pub is_barred_in_pipes : Scene → IdlType → Bool
 is_barred_in_pipes s t = is_barred_within NESTING_LIMIT s t
 
-abbrev is_wrong_pipe : Scene → IdlType → Bool
+abbrev pub is_wrong_pipe : Scene → IdlType → Bool
 is_wrong_pipe s (Pipe t) = is_barred_in_pipes s t
 is_wrong_pipe s _ = false
 

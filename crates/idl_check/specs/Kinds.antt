@@ -8,7 +8,7 @@ use Rattle.idl_check.specs.declared.kinds.Class.{Class}
 use Rattle.idl_check.specs.declared.kinds.Class.TheVariants as class
 use Rattle.idl_check.specs.declared.kinds.Kind.{Kind}
 use Rattle.idl_check.specs.declared.kinds.Kind.TheVariants as kind
-use Rattle.idl_check.specs.Types.{IdlType, Void, Handle, ContextHandle, Basic, Struct, Union, Enum, Array, Text, Pointer, Pipe}
+use Rattle.idl_check.specs.Types.{IdlType, or_void, Void, Handle, ContextHandle, Basic, Struct, Union, Enum, Array, Text, Pointer, Pipe}
 
 abbrev pub seen_class : Class → Option PointerClass
 seen_class class.Absent = None
@@ -29,10 +29,6 @@ primitive_by (suc (suc (suc (suc (suc (suc (suc zero))))))) = primitive.Long
 primitive_by (suc (suc (suc (suc (suc (suc (suc (suc zero)))))))) = primitive.UnsignedLong
 primitive_by (suc (suc (suc (suc (suc (suc (suc (suc (suc zero))))))))) = primitive.Hyper
 primitive_by _ = primitive.UnsignedHyper
-
-abbrev pub or_void : Option IdlType → IdlType
-or_void (Some t) = t
-or_void None = Void
 
 -- the type of a kind over these types
 abbrev pub type_by : List IdlType → Kind → IdlType

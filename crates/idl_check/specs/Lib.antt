@@ -30,3 +30,5 @@ pub mod Checked
 pub mod Kinds
 pub mod Places
 pub mod SeenTypes
+pub mod SeenMarks
+pub mod SeenNames

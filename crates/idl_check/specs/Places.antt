@@ -7,7 +7,7 @@ use Rattle.idl_check.specs.Scene.{same_place}
 
 -- the number of a place
 abbrev pub found_place : Place → List (Place × ℕ) → Option ℕ
-found_place place entries = lookup (λ p. same_place p place) entries
+found_place place entries = lookup (same_place place) entries
 
 -- a table of the program as a list
 abbrev pub numbered : List (Spot × ℕ) → List (Place × ℕ)

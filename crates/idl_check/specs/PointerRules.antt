@@ -14,7 +14,7 @@ has_class_without_pointer u = has_one_of classes u.construct.attributes && not (
 -- Rule 27: a pointer without a class has a pointer_default, unless it is the outermost pointer of a parameter's own declarator, a context handle,
 -- or the `*` of a constant.
 
-abbrev has_no_class : IdlType → Bool
+abbrev pub has_no_class : IdlType → Bool
 has_no_class (Pointer None to) = true
 has_no_class _ = false
 

@@ -103,7 +103,7 @@ is_too_deep s t = not (nests NESTING_LIMIT s t)
 abbrev pub is_deep_body : Scene → Body → Bool
 is_deep_body s b = is_too_deep s (type_of_body b)
 
-abbrev is_made_of_elements : IdlType → Bool
+abbrev pub is_made_of_elements : IdlType → Bool
 is_made_of_elements (Array t count varying) = true
 is_made_of_elements (Text t count) = true
 is_made_of_elements (Pipe t) = true

@@ -1,5 +1,5 @@
 // Types, each of them once, by number.
-ghost use Rattle.std.specs.Prelude.{◌≡◌, true, List, [], length, IfOk};
+ghost use Rattle.std.specs.Prelude.{◌≡◌, ℕ, true, List, [], length, IfOk};
 ghost use Rattle.idl_check.specs.Types.{IdlType, Basic};
 ghost use Rattle.idl_check.specs.Kinds.{seen_class, primitive_by, basic_in, inner_of, seen_types, type_by, type_at, is_inside, Stands, Keeps};
 
@@ -101,6 +101,16 @@ fn primitive_number(of: Primitive) -> u8
     }
 }
 
+/// A number of 32 bits. There is no memory for more types.
+fn narrow(number: usize) -> Result<u32, Memory>
+    ensures { IfOk result (λ n. n ≡ number) }
+{
+    match u32::try_from(number) {
+        Ok(number) => Ok(number),
+        Err(_) => Err(Memory),
+    }
+}
+
 impl Class {
     /// A class, or none.
     pub(crate) fn new(class: Option<PointerClass>) -> Class
@@ -118,7 +128,8 @@ impl Class {
 impl Kind {
     /// A primitive type.
     pub(crate) fn basic(of: Primitive) -> Kind
-        ensures { (types : List IdlType) → type_by types result ≡ Basic of }
+        ensures seen { (types : List IdlType) → type_by types result ≡ Basic of }
+        ensures inside { (n : ℕ) → is_inside n result ≡ true }
     {
         Kind::Basic {
             number: primitive_number(of),
@@ -195,13 +206,10 @@ impl Kinds {
         ensures stands { IfOk result (λ n. Stands self.new n (type_by (seen_types self.old) kind)) }
         ensures keeps { Keeps self.old self.new }
     {
-        let (number, _) = match self.entries.insert_full(kind) {
-            Ok(added) => added,
-            Err(_) => return Err(Memory),
+        let Ok((number, _)) = self.entries.insert_full(kind) else {
+            return Err(Memory);
         };
-        match u32::try_from(number) {
-            Ok(number) => Ok(number),
-            Err(_) => Err(Memory),
-        }
+        let number = narrow(number)?;
+        Ok(number)
     }
 }

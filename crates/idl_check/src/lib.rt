@@ -6,11 +6,15 @@ mod fault;
 mod kinds;
 pub mod laws;
 mod lists;
+mod marks;
 mod nodes;
 mod words;
 mod finder;
 mod places;
+mod said;
 mod types;
+mod typing;
+mod written;
 
 pub use checking::check;
 pub use fault::RuleFault;

@@ -60,9 +60,9 @@ impl Places {
             file: place.file,
             at: place.at,
         };
-        match self.entries.insert(spot, number) {
-            Ok(_) => Ok(()),
-            Err(_) => Err(Memory),
-        }
+        let Ok(_) = self.entries.insert(spot, number) else {
+            return Err(Memory);
+        };
+        Ok(())
     }
 }
