@@ -8,6 +8,8 @@ mod known;
 pub mod laws;
 mod meaning;
 mod name_fault;
+#[cfg(test)]
+mod one_file_tests;
 mod operators;
 mod resolving;
 mod scope;
