@@ -2,4 +2,5 @@ pub mod Bits
 pub mod Ranges
 pub mod Tables
 pub mod Walked
+pub mod Going
 pub mod Lists
