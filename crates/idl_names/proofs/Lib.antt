@@ -3,4 +3,5 @@ pub mod Ranges
 pub mod Tables
 pub mod Walked
 pub mod Going
+pub mod Spelled
 pub mod Lists

@@ -26,12 +26,13 @@ const WALK_LIMIT: usize = 64;
 fn has_ended(files: &FileTrees, number: usize) -> bool
     ensures { result ≡ has_ended (seen_files files.now) number }
 {
-    let mut at = 0;
-    while let Some(ended) = files.get(at) {
+    for at in 0..files.len() {
+        let Some(ended) = files.get(at) else {
+            unreachable!();
+        };
         if usize::from(ended.file) == number {
             return true;
         }
-        at += 1;
     }
     false
 }
