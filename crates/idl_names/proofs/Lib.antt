@@ -4,4 +4,5 @@ pub mod Tables
 pub mod Walked
 pub mod Going
 pub mod Spelled
+pub mod Loads
 pub mod Lists
