@@ -1,23 +1,30 @@
 -- Parts of a walk, one after the other.
 use Rattle.std.proofs.Common.{◌≡◌, ◌⊎◌, inl, inr, ℕ, ◌+◌, ◌-◌, ◌^◌, ◌<◌, ◌≤◌, Bool, true, false, eqb, refl, sym, ap, subst, ◌∙◌, arith, List, [], ◌∷◌, ◌++◌, map, drop, length, get_or, Option, Some, None, min, Result, Ok, Err, IfErr}
 use Rattle.std.specs.List.{flat_map}
+use Rattle.std.specs.Result.{IsErrAnd}
 use Rattle.std.proofs.lemmas.List.{append_assoc, append-nil, map-append, drop_more, drop_all}
 use Rattle.std.proofs.lemmas.List.Concat.{flat_map-cons}
+use Rattle.nd_base.specs.declared.octets.Place.{Place}
 use Rattle.nd_base.specs.Counts.{Rose, next_count}
 use Rattle.idl_grammar.specs.declared.words.Spelling.{Spelling}
-use Rattle.idl_grammar.specs.Tree.{Import, Tree}
+use Rattle.idl_grammar.specs.declared.files.Import as import
+use Rattle.idl_grammar.specs.Seen.{seen_import}
+use Rattle.idl_grammar.specs.Tree.{Tree}
 use Rattle.idl_names.specs.declared.fault.ExpressionFault.{ExpressionFault}
 use Rattle.idl_names.specs.declared.fault.ExpressionFault.TheVariants as expression_fault
 use Rattle.idl_names.specs.declared.name_fault.NameFault.{NameFault}
 use Rattle.idl_names.specs.declared.name_fault.NameFault.TheVariants as fault
 use Rattle.idl_names.specs.Causes.{IsAbsent, IsFailed}
+use Rattle.idl_names.specs.Ended.{Ended, ended}
 use Rattle.idl_names.specs.Going.{Point, Leads, Went}
+use Rattle.idl_names.specs.Loads.{IsLoaded}
+use Rattle.idl_names.specs.Sources.{Source, file_number, and_source}
 use Rattle.idl_names.specs.Steps as step
 use Rattle.idl_names.specs.Steps.{Step, attribute_steps, imports_of, declaration_steps}
 use Rattle.idl_names.specs.Known.{Known, passed, then, walked, where_known, where_free, where_valued, in_file, expression_fault_in, value_in, tag_used}
 use Rattle.idl_names.specs.Kept.{is_memory, IsRight}
 use Rattle.idl_names.specs.Walk as walk
-use Rattle.idl_names.specs.Walk.{State, Due, Pass, Load, End, Ending, Done, Stopped, Walk, load_of, all_of, with_known, with_ended, most_files}
+use Rattle.idl_names.specs.Walk.{State, Due, Pass, Load, End, Ending, Done, Stopped, Walk, load_of, all_of, with_known, with_ended, has_ended, most_files}
 
 -- ## Counts
 
@@ -244,6 +251,19 @@ end_went p file t a few = record {
   few = few;
 }
 
+-- what was answered at Ok does not matter
+pub any_value : {A B : Type 0} (p q : Point) (dues left : List Due) (a : A) (b : B) → Went p dues q left (Ok a) → Went p dues q left (Ok b)
+any_value p q dues left a b w = record {
+  leads = w.leads;
+  same = w.same;
+  absent = tt;
+  failed = tt;
+  later = w.later;
+  absences_later = w.absences_later;
+  more = w.more;
+  few = w.few;
+}
+
 -- ## Lists of items
 
 module _ {X : Type 0} (F : List X → List Due) (D : X → List Due) (none : F [] ≡ []) (one : (x : X) (xs : List X) → F (x ∷ xs) ≡ D x ++ F xs) (xs : List X) where
@@ -273,3 +293,106 @@ attributes_went p file t r few h =
     goes_on p p p (all_of file t) (map (Pass file) (attribute_steps t.attributes)) (behind_attributes file t) 0 r
     (subst (λ (l : List Due). Went {A = ℕ} p (all_of file t) p l (Ok 0)) (all_is file t) (at_first p (all_of file t) 0 few))
     (steps_went p file (attribute_steps t.attributes) p.state.known r few h)
+
+abbrev pub behind_imports : ℕ → Tree → List Due
+behind_imports file t = map (Pass file) (declaration_steps (eqb file 0) t) ++ End file t ∷ []
+
+pub imports_went : {A B : Type 0} (p q : Point) (file : ℕ) (t : Tree) (strings : List Spelling) (a : A) (r : Result B NameFault) → strings ≡ imports_of t
+    → Went p (all_of file t) p (behind_attributes file t) (Ok a) → Went p (map (load_of file) strings) q [] r → Went p (all_of file t) q (behind_imports file t) r
+imports_went p q file t strings a r is f g =
+    goes_on p p q (all_of file t) (map (load_of file) (imports_of t)) (behind_imports file t) a r f
+    (subst (λ (l : List Spelling). Went p (map (load_of file) l) q [] r) is g)
+
+pub exports_went : {A B : Type 0} (p q : Point) (file : ℕ) (t : Tree) (after : Known) (a : A) (r : Result B NameFault)
+    → Went p (all_of file t) q (behind_imports file t) (Ok a) → IsRight after r (walked file q.state.known (declaration_steps (eqb file 0) t))
+    → Went p (all_of file t) (at_state q (with_known q.state after)) (End file t ∷ []) r
+exports_went p q file t after a r f h =
+    goes_on p q (at_state q (with_known q.state after)) (all_of file t) (map (Pass file) (declaration_steps (eqb file 0) t)) (End file t ∷ []) a r f
+    (steps_went q file (declaration_steps (eqb file 0) t) after r f.few h)
+
+pub ended_went : {A B : Type 0} (p q : Point) (file : ℕ) (t : Tree) (files : List Ended) (a : A) (b : B) → files ≡ q.state.ended ++ ended file t ∷ []
+    → Went p (all_of file t) q (End file t ∷ []) (Ok a) → Went p (all_of file t) (at_state q (record q.state { ended = files })) [] (Ok b)
+ended_went {B = B} p q file t files a b is f =
+    subst (λ (l : List Ended). Went {A = B} p (all_of file t) (at_state q (record q.state { ended = l })) [] (Ok b)) (sym is)
+    (goes_on p q (at_state q (with_ended q.state file t)) (all_of file t) (End file t ∷ []) [] a (Ok b) f (end_went q file t b f.few))
+
+pub unended_went : {A B : Type 0} (p q : Point) (file : ℕ) (t : Tree) (files : List Ended) (a : A) (f : NameFault) → f ≡ fault.Memory
+    → Went p (all_of file t) q (End file t ∷ []) (Ok a) → Went {A = B} p (all_of file t) (at_state q (record q.state { ended = files })) [] (Err f)
+unended_went {B = B} p q file t files a f is w =
+    subst (λ (g : NameFault). Went {A = B} p (all_of file t) (at_state q (record q.state { ended = files })) [] (Err g)) (sym is)
+    (goes_on p q (at_state q (record q.state { ended = files })) (all_of file t) (End file t ∷ []) [] a (Err fault.Memory) w
+    (stops q (at_state q (record q.state { ended = files })) (End file t ∷ []) fault.Memory (λ rest. walk.short q.state (End file t ∷ rest)) refl tt tt (omega arith) (omega arith) (omega arith) w.few))
+
+-- a fault that is passed on
+pub passed_on : {A : Type 0} (p q : Point) (dues left : List Due) (r : Result A NameFault) (f : NameFault) → IsErrAnd r (λ y. y ≡ f) → Went {A = A} p dues q left (Err f) → Went p dues q [] r
+passed_on p q dues left (Ok a) f h w = absurd h
+passed_on {A} p q dues left (Err g) f h w = subst (λ (y : NameFault). Went {A = A} p dues q [] (Err y)) (sym h) (any_left p q dues left [] f w)
+
+-- ## Lists of imports
+
+abbrev pub loads : ℕ → List Spelling → List Due
+loads file xs = map (load_of file) xs
+
+abbrev pub loads_of : ℕ → List import.Import → List Due
+loads_of file xs = map (load_of file) (flat_map (λ m. m.files) (map seen_import xs))
+
+pub one_load : (file : ℕ) (x : Spelling) (xs : List Spelling) → loads file (x ∷ xs) ≡ (load_of file x ∷ []) ++ loads file xs
+one_load file x xs = refl
+
+pub one_import : (file : ℕ) (m : import.Import) (ms : List import.Import) → loads_of file (m ∷ ms) ≡ loads file m.files.items ++ loads_of file ms
+one_import file m ms =
+    ap (map (load_of file)) (flat_map-cons (λ x. x.files) (seen_import m) (map seen_import ms))
+    ∙ map-append (load_of file) m.files.items (flat_map (λ x. x.files) (map seen_import ms))
+
+-- ## An import
+
+module _ (p : Point) (place : Place) (name : List ℕ) (few : length p.state.sources ≤ most_files) where
+  pub again_went : {A : Type 0} (n : ℕ) (a : A) → file_number p.state.sources name ≡ Some n → has_ended p.state.ended n ≡ true → Went p (Load place name ∷ []) p [] (Ok a)
+  again_went n a known done = record {
+    leads = λ rest e w. walk.again p.state place name rest e n known done w;
+    same = refl;
+    absent = tt;
+    failed = tt;
+    later = omega arith;
+    absences_later = omega arith;
+    more = omega arith;
+    few = few;
+  }
+
+  pub cycle_went : {A : Type 0} (n : ℕ) → file_number p.state.sources name ≡ Some n → has_ended p.state.ended n ≡ false
+      → Went {A = A} p (Load place name ∷ []) p [] (Err (fault.ImportCycle place))
+  cycle_went n known not_done =
+      stops p p (Load place name ∷ []) (fault.ImportCycle place) (λ rest. walk.cycle p.state place name rest n known not_done) refl tt tt (omega arith) (omega arith) (omega arith) few
+
+  pub too_many_went : {A : Type 0} → file_number p.state.sources name ≡ None → most_files ≤ length p.state.sources
+      → Went {A = A} p (Load place name ∷ []) p [] (Err (fault.TooMany place))
+  too_many_went new full =
+      stops p p (Load place name ∷ []) (fault.TooMany place) (λ rest. walk.too_many p.state place name rest new full) refl tt tt (omega arith) (omega arith) (omega arith) few
+
+  pub enters_went : {A : Type 0} (q r : Point) (e : Ended) (result : Result A NameFault) → file_number p.state.sources name ≡ None → length p.state.sources < most_files
+      → IsLoaded p.held p.state.sources name q.state.sources e → q.state.ended ≡ p.state.ended → q.state.known ≡ p.state.known → q.held ≡ p.held
+      → p.faults ≤ q.faults → p.absences ≤ q.absences → length p.state.sources ≤ length q.state.sources
+      → Went q (all_of e.file e.tree) r [] result → Went p (Load place name ∷ []) r [] result
+  enters_went {A} q r e result new room loaded ended_is known_is held_is later absences_later more w =
+      let first : Went {A = ℕ} p (Load place name ∷ []) q (all_of e.file e.tree ++ []) (Ok 0) = record {
+        leads = λ rest x w. walk.enters p.state place name rest x loaded.text e.tree (record { new = new; room = room }) loaded.content loaded.read.is_file
+            (subst (λ (d : List Due). Walk p.held (record { sources = and_source p.state.sources name loaded.text; ended = p.state.ended; known = p.state.known }) d x)
+            (ap (λ n. all_of n e.tree ++ rest) loaded.read.number)
+            (subst (λ (s : State). Walk p.held s (all_of e.file e.tree ++ rest) x) (same_state q.state loaded.text loaded.read.sources ended_is known_is)
+            (subst (λ (d : List Due). Walk p.held q.state d x) (ap (λ l. l ++ rest) (append-nil (all_of e.file e.tree))) w)));
+        same = held_is;
+        absent = tt;
+        failed = tt;
+        later = later;
+        absences_later = absences_later;
+        more = more;
+        few = let k = w.few in let m = w.more in omega (arith, k, m);
+      } in
+      goes_on p q r (Load place name ∷ []) (all_of e.file e.tree) [] 0 result first w
+    where
+      same_state : (s : State) (text : List ℕ) → s.sources ≡ and_source p.state.sources name text → s.ended ≡ p.state.ended → s.known ≡ p.state.known
+          → s ≡ record { sources = and_source p.state.sources name text; ended = p.state.ended; known = p.state.known }
+      same_state s text a b c =
+          ap (λ x. record { sources = x; ended = s.ended; known = s.known }) a
+          ∙ (ap (λ x. record { sources = and_source p.state.sources name text; ended = x; known = s.known }) b
+          ∙ ap (λ x. record { sources = and_source p.state.sources name text; ended = p.state.ended; known = x }) c)
