@@ -21,10 +21,10 @@ use Rattle.idl_names.specs.Loads.{IsLoaded}
 use Rattle.idl_names.specs.Sources.{Source, file_number, and_source}
 use Rattle.idl_names.specs.Steps as step
 use Rattle.idl_names.specs.Steps.{Step, attribute_steps, imports_of, declaration_steps}
-use Rattle.idl_names.specs.Known.{Known, passed, then, walked, where_known, where_free, where_valued, in_file, expression_fault_in, value_in, tag_used}
+use Rattle.idl_names.specs.Known.{Known, nothing, passed, then, walked, where_known, where_free, where_valued, in_file, expression_fault_in, value_in, tag_used}
 use Rattle.idl_names.specs.Kept.{is_memory, IsRight}
 use Rattle.idl_names.specs.Walk as walk
-use Rattle.idl_names.specs.Walk.{State, Due, Pass, Load, End, Ending, Done, Stopped, Walk, load_of, all_of, with_known, with_ended, has_ended, most_files}
+use Rattle.idl_names.specs.Walk.{State, Due, Pass, Load, End, Ending, Done, Stopped, Walk, load_of, all_of, with_known, with_ended, has_ended, start, most_files}
 
 -- ## Counts
 
@@ -396,3 +396,23 @@ module _ (p : Point) (place : Place) (name : List ℕ) (few : length p.state.sou
           ap (λ x. record { sources = x; ended = s.ended; known = s.known }) a
           ∙ (ap (λ x. record { sources = and_source p.state.sources name text; ended = x; known = s.known }) b
           ∙ ap (λ x. record { sources = and_source p.state.sources name text; ended = p.state.ended; known = x }) c)
+
+-- ## The whole walk
+
+pub all_went : {A : Type 0} (p q : Point) (all : List Due) (a : A) (s : State) → p.state ≡ s → Went p all q [] (Ok a) → Walk p.held s all (Done q.state)
+all_went p q all a s is w =
+    subst (λ (d : List Due). Walk p.held s d (Done q.state)) (append-nil all)
+    (subst (λ (x : State). Walk p.held x (all ++ []) (Done q.state)) is (w.leads [] (Done q.state) (walk.all_done q.state)))
+
+pub all_stopped : {A : Type 0} (p q : Point) (all : List Due) (f : NameFault) (s : State) → p.state ≡ s → Went {A = A} p all q [] (Err f) → Walk p.held s all (Stopped q.state.sources f)
+all_stopped p q all f s is w =
+    subst (λ (d : List Due). Walk p.held s d (Stopped q.state.sources f)) (append-nil all)
+    (subst (λ (x : State). Walk p.held x (all ++ []) (Stopped q.state.sources f)) is (w.leads []))
+
+pub at_start : (main : List Source) (files : List Ended) (names : Known) → files ≡ [] → names ≡ nothing
+    → ◌≡◌ {A = State} (record { sources = main; ended = files; known = names }) (start main)
+at_start main files names e f = ap (λ x. record { sources = main; ended = x; known = names }) e ∙ ap (λ x. record { sources = main; ended = []; known = x }) f
+
+pub at_error : {A : Type 0} (r : Result A NameFault) (f : NameFault) (P : NameFault → Type 0) → IsErrAnd r (λ y. y ≡ f) → P f → IfErr r P
+at_error (Ok a) f P h x = tt
+at_error (Err g) f P h x = subst P (sym h) x
