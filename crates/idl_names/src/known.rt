@@ -2,7 +2,7 @@
 ghost use Rattle.std.specs.Prelude.{◌≡◌, ◌++◌, [], ◌∷◌, option_map, Ok, OnOk};
 ghost use Rattle.idl_grammar.specs.Seen.{seen_expr};
 ghost use Rattle.idl_names.specs.Tables.{found};
-ghost use Rattle.idl_names.specs.Known.{Known, nothing, walked, value_in, is_defined, next_meaning, place_in};
+ghost use Rattle.idl_names.specs.Known.{Known, nothing, walked, value_in, is_defined, first_undefined, next_meaning, place_in};
 ghost use Rattle.idl_names.specs.Kept.{listed, IsRight};
 ghost use Rattle.idl_names.specs.Steps.{UseType, UseTag, DefineTag, Declare, Know, KnowValue, KnowNext, Evaluate, Enlist};
 
@@ -240,6 +240,20 @@ impl NameTables {
             Ok(_) => Ok(()),
             Err(fault) => Err(fault),
         }
+    }
+}
+
+impl NameTables {
+    /// Where the first use of a tag behind pointers stands that has no body of its kind.
+    pub(crate) fn first_undefined(&self) -> Option<Place>
+        ensures { result ≡ first_undefined self.now self.now.uses }
+    {
+        for one in &self.uses {
+            if !self.is_defined(one.kind, one.tag.as_slice()) {
+                return Some(one.place);
+            }
+        }
+        None
     }
 }
 

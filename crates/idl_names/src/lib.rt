@@ -6,6 +6,7 @@ mod expression;
 mod fault;
 mod known;
 pub mod laws;
+mod loading;
 mod meaning;
 mod name_fault;
 #[cfg(test)]
@@ -14,6 +15,7 @@ mod operators;
 mod resolving;
 mod scope;
 mod sources;
+mod strings;
 mod table;
 mod tag;
 #[cfg(test)]
@@ -25,7 +27,8 @@ mod whole;
 pub use expression::{Names, evaluate, value, value_of};
 pub use fault::{ConstFault, ExpressionFault, ValueFault};
 pub use meaning::Meaning;
-pub use name_fault::{NameFault, SyntaxFault};
+pub use idl_parser::SyntaxFault;
+pub use name_fault::NameFault;
 pub use resolving::resolve;
 pub use scope::{FileTree, FileTrees, Scope};
 pub use sources::{FILES_LIMIT, Sources};
