@@ -20,7 +20,7 @@ use Rattle.idl_check.specs.Scene.{Scoped, Scene, Body, body_of, type_of_body}
 use Rattle.idl_check.specs.Rules.{breaches_in}
 use Rattle.idl_check.specs.PointerRules.{refers_to_reference}
 use Rattle.idl_check.specs.Numbering.{Needed, needed, built, needed_by, needed_types, own_types, same_type, is_numbered, is_numbered_or_none}
-use Rattle.idl_check.specs.Meaning.{definition, types_of, struct_of, defined_by, defined_at}
+use Rattle.idl_check.specs.Meaning.{definition, types_of, struct_of, defined_by, defined_at, body_if, is_struct, is_union, is_enum}
 use Rattle.idl_check.proofs.Equal.{type_is}
 use Rattle.idl_check.proofs.Numbers.{at_its_number}
 use Rattle.idl_check.proofs.Needed.{conjunction, right, itself, is_among, each_one, all_among}
@@ -198,9 +198,9 @@ alike s (Pointer None t) = refl
 alike s (Pointer (Some class.Reference) t) = refl
 alike s (Pointer (Some class.Unique) t) = refl
 alike s (Pointer (Some class.Full) t) = refl
-alike s (Struct p) = found_none s (body_of s p)
-alike s (Union p) = found_none s (body_of s p)
-alike s (Enum p) = found_none s (body_of s p)
+alike s (Struct p) = found_none s (body_if is_struct (body_of s p))
+alike s (Union p) = found_none s (body_if is_union (body_of s p))
+alike s (Enum p) = found_none s (body_if is_enum (body_of s p))
 alike s (Array t m v) = refl
 alike s (Text t m) = refl
 alike s (Pipe t) = refl
@@ -235,9 +235,9 @@ fact : (s : Scene) (t : IdlType) → not (refers_to_reference t) ≡ true → no
 fact s (Pointer c t) h i j =
     let n = numbered s t (untrue (is_void t || is_handle t) i) j in
     ap (λ d. not (kinds.is_reference d) && true) (at_its_number s t n) ∙ ap (λ b. not b && true) (alike s t ∙ untrue (is_reference t) h)
-fact s (Struct p) h i j = found_points (types_of s) s (body_of s p)
-fact s (Union p) h i j = found_points (types_of s) s (body_of s p)
-fact s (Enum p) h i j = found_points (types_of s) s (body_of s p)
+fact s (Struct p) h i j = found_points (types_of s) s (body_if is_struct (body_of s p))
+fact s (Union p) h i j = found_points (types_of s) s (body_if is_union (body_of s p))
+fact s (Enum p) h i j = found_points (types_of s) s (body_if is_enum (body_of s p))
 fact s (Array t m v) h i j = refl
 fact s (Text t m) h i j = refl
 fact s (Pipe t) h i j = refl

@@ -22,7 +22,7 @@ pub record Scene : Type 0 where
 
 -- ## Names of types
 
-abbrev is_typedef : Position → Bool
+abbrev pub is_typedef : Position → Bool
 is_typedef InTypedef = true
 is_typedef _ = false
 
@@ -57,7 +57,7 @@ place_of_type file _ = record { file = file; at = 0 }
 abbrev pub same_place : Place → Place → Bool
 same_place p q = eqb p.file q.file && eqb p.at q.at
 
-abbrev body_by : Names → Node → List Body
+abbrev pub body_by : Names → Node → List Body
 body_by names (BodyNode c body) = record { construct = c; names = names; body = body } ∷ []
 body_by names _ = []
 
@@ -68,7 +68,7 @@ bodies s = flat_map (λ n. body_by n.names n.node) s.nodes
 abbrev pub place_of : Body → Place
 place_of b = place_of_type b.construct.file b.body
 
-abbrev body_among : List Body → Place → Option Body
+abbrev pub body_among : List Body → Place → Option Body
 body_among [] place = None
 body_among (b ∷ bs) place = elim (same_place (place_of b) place) [ true ↦ Some b | false ↦ body_among bs place ]
 
@@ -113,11 +113,11 @@ in_place s (Text t count) = t ∷ []
 in_place s (Pipe t) = t ∷ []
 in_place s _ = []
 
-abbrev is_nonencapsulated_body : TypeSpec → Bool
+abbrev pub is_nonencapsulated_body : TypeSpec → Bool
 is_nonencapsulated_body (tree.NonEncapsulatedUnion at tag arms) = true
 is_nonencapsulated_body _ = false
 
-abbrev is_found_nonencapsulated : Option Body → Bool
+abbrev pub is_found_nonencapsulated : Option Body → Bool
 is_found_nonencapsulated None = false
 is_found_nonencapsulated (Some b) = is_nonencapsulated_body b.body
 

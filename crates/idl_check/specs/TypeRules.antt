@@ -115,13 +115,13 @@ holds_deep_array s u = list_any (λ t. is_made_of_elements t && is_too_deep s t)
 
 -- Rule 32: an operation's result is void, a primitive or an enumerated type.
 
-abbrev is_result_type : IdlType → Bool
+abbrev pub is_result_type : IdlType → Bool
 is_result_type Void = true
 is_result_type (Basic p) = true
 is_result_type (Enum place) = true
 is_result_type _ = false
 
-abbrev is_operation : Position → Bool
+abbrev pub is_operation : Position → Bool
 is_operation InOperation = true
 is_operation _ = false
 

@@ -187,7 +187,7 @@ abbrev class_by_position : Position → Option PointerClass → Option PointerCl
 class_by_position InParameter default = Some class.Reference
 class_by_position _ default = default
 
-abbrev class_or : Option PointerClass → Option PointerClass → Option PointerClass
+abbrev pub class_or : Option PointerClass → Option PointerClass → Option PointerClass
 class_or (Some c) other = Some c
 class_or None other = other
 
@@ -203,24 +203,24 @@ with_declarator known c d t = with_dimensions known (with_stars c.default (outer
 -- ## Attributes of the outermost pointer or array
 
 -- what a pointer with `string` points to
-abbrev text_of : IdlType → IdlType
+abbrev pub text_of : IdlType → IdlType
 text_of (Text t None) = Text t None
 text_of t = Text t None
 
 -- what a pointer with size_is or max_is points to
-abbrev sized : Bool → IdlType → IdlType
+abbrev pub sized : Bool → IdlType → IdlType
 sized varying (Text t None) = Text t None
 sized varying (Array t None was_varying) = Array t None varying
 sized varying t = Array t None varying
 
-abbrev pointee_with : List Attribute → IdlType → IdlType
+abbrev pub pointee_with : List Attribute → IdlType → IdlType
 pointee_with attributes t =
     elim (has string_word attributes) [
       | true ↦ text_of t
       | false ↦ elim (has_one_of sizes attributes) [ true ↦ sized (has_one_of lengths attributes) t | false ↦ t ]
     ]
 
-abbrev array_with : List Attribute → IdlType → Option ℤ → Bool → IdlType
+abbrev pub array_with : List Attribute → IdlType → Option ℤ → Bool → IdlType
 array_with attributes t count varying =
     elim (has string_word attributes) [ true ↦ Text t count | false ↦ Array t count (varying || has_one_of lengths attributes) ]
 
@@ -252,7 +252,7 @@ pipe_or_plain false t = t
 abbrev pub type_before : Known → Names → Declared → IdlType
 type_before known names d = pipe_or_plain d.is_pipe (written_type known names d.construct.file d.type)
 
-abbrev declared_from : Known → Declared → IdlType → IdlType
+abbrev pub declared_from : Known → Declared → IdlType → IdlType
 declared_from known d t = elim (is_context_handle d t) [ true ↦ ContextHandle | false ↦ with_declarator known d.construct d.declarator t ]
 
 -- the type of a declarator, but for attributes other than a class
