@@ -1,0 +1,3 @@
+mod FromNodes
+mod Standing
+mod Fields
