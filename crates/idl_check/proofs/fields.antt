@@ -1,3 +1,4 @@
 mod FromNodes
 mod Standing
 mod Fields
+mod Words

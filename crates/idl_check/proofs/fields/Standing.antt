@@ -33,11 +33,11 @@ use Rattle.idl_check.proofs.fields.FromNodes.{Test, stands_in, one_passes, they_
 
 -- ## The test of a node: it breaks no rule, and the types that it needs have numbers
 
-abbrev is_nothing : List Breach → Bool
+abbrev pub is_nothing : List Breach → Bool
 is_nothing [] = true
 is_nothing (b ∷ bs) = false
 
-nothing_is : (bs : List Breach) → is_nothing bs ≡ true → bs ≡ []
+pub nothing_is : (bs : List Breach) → is_nothing bs ≡ true → bs ≡ []
 nothing_is [] h = refl
 nothing_is (b ∷ bs) h = absurd (let e : false ≡ true = h in cc)
 
