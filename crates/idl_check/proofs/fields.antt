@@ -2,3 +2,5 @@ mod FromNodes
 mod Standing
 mod Fields
 mod Words
+mod Alike
+mod Counts
