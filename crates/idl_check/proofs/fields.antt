@@ -4,3 +4,4 @@ mod Fields
 mod Words
 mod Alike
 mod Counts
+mod Variables

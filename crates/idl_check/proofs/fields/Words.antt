@@ -144,7 +144,7 @@ abbrev is_one_or_none : {X : Type 0} → List X → Bool
 is_one_or_none (x ∷ y ∷ more) = false
 is_one_or_none _ = true
 
-none_is : {X : Type 0} (xs : List X) → is_any xs ≡ false → xs ≡ []
+pub none_is : {X : Type 0} (xs : List X) → is_any xs ≡ false → xs ≡ []
 none_is [] h = refl
 none_is (x ∷ xs) h = absurd (let e : true ≡ false = h in cc)
 
