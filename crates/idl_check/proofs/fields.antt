@@ -5,3 +5,4 @@ mod Words
 mod Alike
 mod Counts
 mod Variables
+mod Parameters

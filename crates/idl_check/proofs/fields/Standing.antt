@@ -103,7 +103,7 @@ stands s names is_param list index d h =
 -- ## Types in the table
 
 -- a type is the last of those of which it is built
-last_of : (p : IdlType → Bool) (t : IdlType) → list_all p (built t) ≡ true → p t ≡ true
+pub last_of : (p : IdlType → Bool) (t : IdlType) → list_all p (built t) ≡ true → p t ≡ true
 last_of p (Array t m v) h = (both_of (p (Array t m v)) true (split_all p (built t) (Array t m v ∷ []) h).1).0
 last_of p (Text t m) h = (both_of (p (Text t m)) true (split_all p (built t) (Text t m ∷ []) h).1).0
 last_of p (Pointer c t) h = (both_of (p (Pointer c t)) true (split_all p (built t) (Pointer c t ∷ []) h).1).0

@@ -216,7 +216,7 @@ passed s test of_table i true true (Pointer (Some class.Reference) t) ty h f e =
 passed s test of_table i true true _ ty h f e = absurd (let g : false ≡ true = h in cc)
 passed s test of_table i false true t ty h f e = absurd (let g : false ≡ true = h in cc)
 
-param_is : (is_param : Bool) (position : Position) → stands_in is_param position ≡ true → is_parameter position ≡ is_param
+pub param_is : (is_param : Bool) (position : Position) → stands_in is_param position ≡ true → is_parameter position ≡ is_param
 param_is true InParameter h = refl
 param_is false InMember h = refl
 param_is true InMember h = absurd (let e : false ≡ true = h in cc)
