@@ -6,3 +6,4 @@ mod Alike
 mod Counts
 mod Variables
 mod Parameters
+mod Limits
