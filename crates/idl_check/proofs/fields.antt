@@ -7,3 +7,4 @@ mod Counts
 mod Variables
 mod Parameters
 mod Limits
+pub mod Facts

@@ -21,3 +21,4 @@ pub mod Texts
 pub mod SmallTexts
 pub mod Interfaces
 pub mod Kept
+pub mod LegalFields
