@@ -8,3 +8,5 @@ mod KeptTypes
 mod Inner
 mod Referents
 mod Few
+mod Among
+mod Whole
