@@ -1,6 +1,12 @@
 -- Elements of lists, and what holds of each.
-use Rattle.std.proofs.Common.{◌≡◌, ◌⊎◌, inl, inr, List, [], ◌∷◌, ◌++◌, map, refl, ap, subst}
-use Rattle.std.specs.List.{flat_map}
+use Rattle.std.proofs.Common.{◌≡◌, Bool, true, false, ◌⊎◌, inl, inr, List, [], ◌∷◌, ◌++◌, map, refl, sym, ap, ◌∙◌, subst}
+use Rattle.std.specs.List.{list_any, list_all, flat_map}
+use Rattle.std.proofs.lemmas.List.Folds.{list_any-append}
+use Rattle.idl_check.proofs.Equal.{both}
+use Rattle.idl_check.proofs.Needed.{conjunction, right}
+use Rattle.idl_check.proofs.Kept.{neither}
+use Rattle.idl_check.proofs.KeptTypes.{none_of}
+use Rattle.idl_check.proofs.Referents.{left}
 
 -- x is an element
 abbrev pub Among : {X : Type 0} → X → List X → Type 0
@@ -80,3 +86,44 @@ each_every P f (x ∷ xs) = (f x, each_every P f xs)
 pub each_then : {X : Type 0} (P Q : X → Type 0) → ((x : X) → P x → Q x) → (xs : List X) → Each P xs → Each Q xs
 each_then P Q f [] h = tt
 each_then P Q f (x ∷ xs) h = (f x h.0, each_then P Q f xs h.1)
+
+pub each_left : {X : Type 0} (P : X → Type 0) (xs ys : List X) → Each P (xs ++ ys) → Each P xs
+each_left P [] ys h = tt
+each_left P (x ∷ xs) ys h = (h.0, each_left P xs ys h.1)
+
+pub each_right : {X : Type 0} (P : X → Type 0) (xs ys : List X) → Each P (xs ++ ys) → Each P ys
+each_right P [] ys h = h
+each_right P (x ∷ xs) ys h = each_right P xs ys h.1
+
+pub each_flat : {X Y : Type 0} (P : Y → Type 0) (f : X → List Y) (xs : List X) → Each (λ x. Each P (f x)) xs → Each P (flat_map f xs)
+each_flat P f [] h = tt
+each_flat P f (x ∷ xs) h = each_join P (f x) (flat_map f xs) h.0 (each_flat P f xs h.1)
+
+pub among_flat : {X Y : Type 0} (f : X → List Y) (xs : List X) (x : X) (y : Y) → Among x xs → Among y (f x) → Among y (flat_map f xs)
+among_flat f [] x y h i = absurd h
+among_flat f (z ∷ xs) x y (inl e) i = among_left y (f z) (flat_map f xs) (subst (λ a. Among y (f a)) (sym e) i)
+among_flat f (z ∷ xs) x y (inr h) i = among_right y (f z) (flat_map f xs) (among_flat f xs x y h i)
+
+-- lists that are nothing together
+pub each_empty : {X Y : Type 0} (f : X → List Y) (xs : List X) → flat_map f xs ≡ [] → Each (λ x. f x ≡ []) xs
+each_empty f [] h = tt
+each_empty f (x ∷ xs) h = let e = neither (f x) (flat_map f xs) h in (e.0, each_empty f xs e.1)
+
+-- ## Tests
+
+pub all_each : {X : Type 0} (p : X → Bool) (xs : List X) → list_all p xs ≡ true → Each (λ x. p x ≡ true) xs
+all_each p [] h = tt
+all_each p (x ∷ xs) h = let e = both (p x) (list_all p xs) h in (e.0, all_each p xs e.1)
+
+pub each_all : {X : Type 0} (p : X → Bool) (xs : List X) → Each (λ x. p x ≡ true) xs → list_all p xs ≡ true
+each_all p [] h = refl
+each_all p (x ∷ xs) h = conjunction (p x) (list_all p xs) h.0 (each_all p xs h.1)
+
+pub none_each : {X : Type 0} (p : X → Bool) (xs : List X) → list_any p xs ≡ false → Each (λ x. p x ≡ false) xs
+none_each p [] h = tt
+none_each p (x ∷ xs) h = let e = none_of (p x) (list_any p xs) h in (e.0, none_each p xs e.1)
+
+pub any_flat : {X Y : Type 0} (p : Y → Bool) (f : X → List Y) (xs : List X) (x : X) → Among x xs → list_any p (f x) ≡ true → list_any p (flat_map f xs) ≡ true
+any_flat p f [] x h i = absurd h
+any_flat p f (y ∷ ys) x (inl e) i = list_any-append p (f y) (flat_map f ys) ∙ left (list_any p (f y)) (list_any p (flat_map f ys)) (ap (λ z. list_any p (f z)) e ∙ i)
+any_flat p f (y ∷ ys) x (inr h) i = list_any-append p (f y) (flat_map f ys) ∙ right (list_any p (f y)) (list_any p (flat_map f ys)) (any_flat p f ys x h i)

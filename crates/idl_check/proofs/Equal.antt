@@ -12,7 +12,7 @@ use Rattle.idl_check.specs.Types.{IdlType, Void, Handle, ContextHandle, Basic, S
 use Rattle.idl_check.specs.Scene.{same_place}
 use Rattle.idl_check.specs.Numbering.{same_type, same_count, same_flag, same_class}
 
-both : (a b : Bool) → (a && b) ≡ true → (a ≡ true) × (b ≡ true)
+pub both : (a b : Bool) → (a && b) ≡ true → (a ≡ true) × (b ≡ true)
 both true b h = (refl, h)
 both false b h = absurd (let e : false ≡ true = h in cc)
 

@@ -10,3 +10,4 @@ mod Referents
 mod Few
 mod Among
 mod Whole
+mod Scenes
