@@ -11,3 +11,5 @@ mod Few
 mod Among
 mod Whole
 mod Scenes
+mod Parts
+mod Tags

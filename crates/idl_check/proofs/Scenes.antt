@@ -23,7 +23,7 @@ use Rattle.idl_check.specs.TypeRules.{without_void, without_handle, is_in_alone}
 use Rattle.idl_check.specs.Kept.{KeepsUse}
 use Rattle.idl_check.specs.Numbering.{Needed, needed, built, first_needed, has_own_number, needed_by, needed_types, own_types, same_type, number_of_type, is_numbered, is_numbered_or_none}
 use Rattle.idl_check.specs.Meaning.{definition, types_of, defined_by, defined_at, body_if, is_struct, is_union, is_enum}
-use Rattle.idl_check.proofs.Equal.{type_is, both}
+use Rattle.idl_check.proofs.Equal.{type_is, place_is, both}
 use Rattle.idl_check.proofs.Numbers.{at_its_number}
 use Rattle.idl_check.proofs.Needed.{conjunction, right, itself, is_among, each_one}
 use Rattle.idl_check.proofs.Kept.{neither, keeps_use}
@@ -269,18 +269,9 @@ number_in s t h = lt-ltb (number_of_type s t) (length (types_of s)) (got (types_
 
 -- ## Facts of the table
 
--- a test of what a type is in the table, of types that are made of others
-abbrev pub if_made : (IdlType → Bool) → IdlType → Bool
-if_made test (Array t m v) = test (Array t m v)
-if_made test (Text t m) = test (Text t m)
-if_made test (Pointer c t) = test (Pointer c t)
-if_made test (Pipe t) = test (Pipe t)
-if_made test _ = true
-
 pub record Fact (s : Scene) (test : TypeDef → Bool) : Type 0 where
-  pub basic : list_all test basic_types ≡ true
   pub nothing : test (def.Enum []) ≡ true
-  pub by_bodies : (b : Body) → BodyThere s b → test (defined_by s b b.body) ≡ true
+  pub by_bodies : (b : Body) → BodyThere s b → body_of s (place_of b) ≡ Some b → test (defined_by s b b.body) ≡ true
   pub by_made : (t : IdlType) → is_made t ≡ true → is_numbered s t ≡ true → test (definition s t) ≡ true
 
 by_body : (s : Scene) (test : TypeDef → Bool) → Fact s test → (place : Place) (is_meant : TypeSpec → Bool) (o : Option Body) → body_of s place ≡ o → test (defined_at s (body_if is_meant o)) ≡ true
@@ -288,7 +279,7 @@ by_body s test f place is_meant None e = f.nothing
 by_body s test f place is_meant (Some b) e = kind (is_meant b.body)
   where
     kind : (t : Bool) → test (defined_at s (elim t [ true ↦ Some b | false ↦ None ])) ≡ true
-    kind true = f.by_bodies b (found_there s place b e)
+    kind true = f.by_bodies b (found_there s place b e) (subst (λ q. body_of s q ≡ Some b) (sym (place_is (place_of b) place (found_same s place b e))) e)
     kind false = f.nothing
 
 by_own : (s : Scene) (test : TypeDef → Bool) → Fact s test → (t : IdlType) → has_own_number t ≡ true → is_numbered s t ≡ true → test (definition s t) ≡ true
@@ -338,16 +329,19 @@ among_is [] n h = absurd h
 among_is (m ∷ ms) n (inl e) = subst (λ x. (same_type x.type n.type || is_among ms n.type) ≡ true) (sym e) (ap (λ b. b || is_among ms n.type) (itself n.type))
 among_is (m ∷ ms) n (inr h) = right (same_type m.type n.type) (is_among ms n.type) (among_is ms n h)
 
-pub table_all : (s : Scene) (test : TypeDef → Bool) → Fact s test → list_all test (types_of s) ≡ true
-table_all s test f =
-    list_all-append test basic_types (map (λ n. definition s n.type) (own_types s))
-    ∙ conjunction (list_all test basic_types) (list_all test (map (λ n. definition s n.type) (own_types s))) f.basic
-    (list_all-map test (λ n. definition s n.type) (own_types s)
-    ∙ each_all (λ n. test (definition s n.type)) (own_types s)
-    (own_each (own_types s) (λ n i. i) (all_own_numbers s)))
+-- a test that each type from number 12 on passes
+pub own_all : (s : Scene) (test : TypeDef → Bool) → Fact s test → list_all test (map (λ n. definition s n.type) (own_types s)) ≡ true
+own_all s test f =
+    list_all-map test (λ n. definition s n.type) (own_types s)
+    ∙ each_all (λ n. test (definition s n.type)) (own_types s) (own_each (own_types s) (λ n i. i) (all_own_numbers s))
   where
     own_each : (ns : List Needed) → Sub ns (own_types s) → all_are has_own_number ns ≡ true → Each (λ n. test (definition s n.type) ≡ true) ns
     own_each [] sub h = tt
     own_each (n ∷ ns) sub h =
         let e = both (has_own_number n.type) (all_are has_own_number ns) h in
         (by_own s test f n.type e.0 (own_numbers s n.type e.0 (among_is (own_types s) n (sub n (inl refl)))), own_each ns (λ m i. sub m (inr i)) e.1)
+
+pub table_all : (s : Scene) (test : TypeDef → Bool) → list_all test basic_types ≡ true → Fact s test → list_all test (types_of s) ≡ true
+table_all s test h f =
+    list_all-append test basic_types (map (λ n. definition s n.type) (own_types s))
+    ∙ conjunction (list_all test basic_types) (list_all test (map (λ n. definition s n.type) (own_types s))) h (own_all s test f)
