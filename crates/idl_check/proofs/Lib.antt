@@ -13,3 +13,4 @@ mod Whole
 mod Scenes
 mod Parts
 mod Tags
+mod legal

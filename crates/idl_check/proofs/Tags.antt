@@ -71,7 +71,7 @@ tag_passes : (s : Scene) (names : Names) (w : SwitchType) → NamesKeep (Passes 
 tag_passes s names (switch.Simple t) h = simple_passes s t
 tag_passes s names (switch.Name n) h = named_keeps (Passes (is_numbered_or_none s)) names n h refl
 
-no_not : (b : Bool) → not b ≡ false → b ≡ true
+pub no_not : (b : Bool) → not b ≡ false → b ≡ true
 no_not true h = refl
 no_not false h = absurd (let e : true ≡ false = h in cc)
 
