@@ -1,6 +1,7 @@
 -- Elements of lists, and what holds of each.
 use Rattle.std.proofs.Common.{◌≡◌, Bool, true, false, ◌⊎◌, inl, inr, List, [], ◌∷◌, ◌++◌, map, refl, sym, ap, ◌∙◌, subst}
 use Rattle.std.specs.List.{list_any, list_all, flat_map}
+use Rattle.std.proofs.lemmas.List.{append_assoc, map-append}
 use Rattle.std.proofs.lemmas.List.Folds.{list_any-append}
 use Rattle.idl_check.proofs.Equal.{both}
 use Rattle.idl_check.proofs.Needed.{conjunction, right}
@@ -127,3 +128,11 @@ pub any_flat : {X Y : Type 0} (p : Y → Bool) (f : X → List Y) (xs : List X) 
 any_flat p f [] x h i = absurd h
 any_flat p f (y ∷ ys) x (inl e) i = list_any-append p (f y) (flat_map f ys) ∙ left (list_any p (f y)) (list_any p (flat_map f ys)) (ap (λ z. list_any p (f z)) e ∙ i)
 any_flat p f (y ∷ ys) x (inr h) i = list_any-append p (f y) (flat_map f ys) ∙ right (list_any p (f y)) (list_any p (flat_map f ys)) (any_flat p f ys x h i)
+
+pub each_unflat : {X Y : Type 0} (P : Y → Type 0) (f : X → List Y) (xs : List X) → Each P (flat_map f xs) → Each (λ x. Each P (f x)) xs
+each_unflat P f [] h = tt
+each_unflat P f (x ∷ xs) h = (each_left P (f x) (flat_map f xs) h, each_unflat P f xs (each_right P (f x) (flat_map f xs) h))
+
+pub flat_join : {X Y : Type 0} (f : X → List Y) (xs ys : List X) → flat_map f (xs ++ ys) ≡ flat_map f xs ++ flat_map f ys
+flat_join f [] ys = refl
+flat_join f (x ∷ xs) ys = ap (λ zs. f x ++ zs) (flat_join f xs ys) ∙ sym (append_assoc (f x) (flat_map f xs) (flat_map f ys))
