@@ -9,3 +9,9 @@ mod Inner
 mod Referents
 mod Few
 mod fields
+mod Among
+mod Whole
+mod Scenes
+mod Parts
+mod Tags
+mod legal

@@ -30,7 +30,7 @@ use Rattle.idl_check.proofs.Inner.{is_hollow, all_solid}
 -- ## What a needed type is made of is needed
 
 -- what a type is made of, or points to; a type that is made of none itself
-abbrev inner_of : IdlType → IdlType
+abbrev pub inner_of : IdlType → IdlType
 inner_of (Array t m v) = t
 inner_of (Text t m) = t
 inner_of (Pointer c t) = t
@@ -40,7 +40,7 @@ inner_of t = t
 abbrev stands : List IdlType → IdlType → Bool
 stands us t = list_any (λ u. same_type u t) us
 
-left : (a b : Bool) → a ≡ true → (a || b) ≡ true
+pub left : (a b : Bool) → a ≡ true → (a || b) ≡ true
 left true b h = refl
 left false b h = absurd (let e : false ≡ true = h in cc)
 
@@ -50,7 +50,7 @@ in_front us x t h = list_any-append (λ u. same_type u t) us (x ∷ []) ∙ left
 at_end : (us : List IdlType) (x : IdlType) → stands (us ++ x ∷ []) x ≡ true
 at_end us x = list_any-append (λ u. same_type u x) us (x ∷ []) ∙ right (stands us x) (stands (x ∷ []) x) (left (same_type x x) false (itself x))
 
-last : (t : IdlType) → stands (built t) t ≡ true
+pub last : (t : IdlType) → stands (built t) t ≡ true
 last (Array t m v) = at_end (built t) (Array t m v)
 last (Text t m) = at_end (built t) (Text t m)
 last (Pointer c t) = at_end (built t) (Pointer c t)
@@ -97,7 +97,7 @@ closed (Struct p) t h = single (Struct p) t refl h
 closed (Union p) t h = single (Union p) t refl h
 closed (Enum p) t h = single (Enum p) t refl h
 
-as_list : (c : Construct) (us : List IdlType) (t : IdlType) → is_among (map (needed c) us) t ≡ stands us t
+pub as_list : (c : Construct) (us : List IdlType) (t : IdlType) → is_among (map (needed c) us) t ≡ stands us t
 as_list c [] t = refl
 as_list c (u ∷ us) t = ap (λ b. same_type u t || b) (as_list c us t)
 
@@ -163,7 +163,7 @@ inner_numbered s =
 
 -- ## Pointers in the table
 
-numbered : (s : Scene) (t : IdlType) → (is_void t || is_handle t) ≡ false → is_numbered_or_none s t ≡ true → is_numbered s t ≡ true
+pub numbered : (s : Scene) (t : IdlType) → (is_void t || is_handle t) ≡ false → is_numbered_or_none s t ≡ true → is_numbered s t ≡ true
 numbered s Void h i = absurd (let e : true ≡ false = h in cc)
 numbered s Handle h i = absurd (let e : true ≡ false = h in cc)
 numbered s ContextHandle h i = i
@@ -209,7 +209,7 @@ alike s Handle = refl
 alike s ContextHandle = refl
 alike s (Basic p) = refl
 
-untrue : (a : Bool) → not a ≡ true → a ≡ false
+pub untrue : (a : Bool) → not a ≡ true → a ≡ false
 untrue false h = refl
 untrue true h = absurd (let e : false ≡ true = h in cc)
 
@@ -246,7 +246,7 @@ fact s Handle h i j = refl
 fact s ContextHandle h i j = refl
 fact s (Basic p) h i j = refl
 
-parts : (a b : Bool) → (a && b) ≡ true → (a ≡ true) × (b ≡ true)
+pub parts : (a b : Bool) → (a && b) ≡ true → (a ≡ true) × (b ≡ true)
 parts true b h = (refl, h)
 parts false b h = absurd (let e : false ≡ true = h in cc)
 

@@ -77,7 +77,7 @@ field s names list d = record {
 
 -- ## Types
 
-abbrev natural : ℤ → ℕ
+abbrev pub natural : ℤ → ℕ
 natural (pos n) = n
 natural (negsuc n) = 0
 
@@ -91,23 +91,23 @@ pointer_class (Some class.Unique) = nd_class.Unique
 pointer_class (Some class.Full) = nd_class.Full
 pointer_class None = nd_class.Unique
 
-abbrev or_zero : Option ℤ → ℤ
+abbrev pub or_zero : Option ℤ → ℤ
 or_zero (Some z) = z
 or_zero None = pos 0
 
 -- one arm for each label; a default has the label 0
-abbrev arm_for : Option (List ℕ) → Option TypeId → ℤ → arm.Arm
+abbrev pub arm_for : Option (List ℕ) → Option TypeId → ℤ → arm.Arm
 arm_for name of label = record { label = label; name = name; of = of }
 
-abbrev name_of_arm : Arm → Option (List ℕ)
+abbrev pub name_of_arm : Arm → Option (List ℕ)
 name_of_arm (tree.Empty at a) = None
 name_of_arm (tree.Typed at a type d) = Some d.name.octets
 
-abbrev first_type : Scene → Names → List Declared → Option TypeId
+abbrev pub first_type : Scene → Names → List Declared → Option TypeId
 first_type s names [] = None
 first_type s names (d ∷ ds) = Some (number s (type_of s.known names d))
 
-abbrev type_of_arm : Scene → Body → LabelledArm → Option TypeId
+abbrev pub type_of_arm : Scene → Body → LabelledArm → Option TypeId
 type_of_arm s b a = first_type s b.names (arm_declared b.construct a.position a.arm)
 
 abbrev pub arm_by : Scene → Body → LabelledArm → Option ℤ → List arm.Arm
@@ -129,7 +129,7 @@ first_arm (a ∷ more) = Some a
 abbrev pub default_arm : Scene → Body → Option arm.Arm
 default_arm s b = first_arm (flat_map (λ a. flat_map (λ l. default_by s b a (label_value s.known l)) a.labels) (arms_of b.body))
 
-abbrev or_handle : Option IdlType → IdlType
+abbrev pub or_handle : Option IdlType → IdlType
 or_handle (Some t) = t
 or_handle None = Handle
 

@@ -100,7 +100,7 @@ parts_declared c body = flat_map (λ a. arm_declared c a.position a.arm) (arms_o
 abbrev pub parts_of : Known → Body → List IdlType
 parts_of known b = map (type_of known b.names) (parts_declared b.construct b.body)
 
-abbrev parts_of_found : Known → Option Body → List IdlType
+abbrev pub parts_of_found : Known → Option Body → List IdlType
 parts_of_found known None = []
 parts_of_found known (Some b) = parts_of known b
 
@@ -126,12 +126,12 @@ abbrev pub is_nonencapsulated : Scene → IdlType → Bool
 is_nonencapsulated s (Union place) = is_found_nonencapsulated (body_of s place)
 is_nonencapsulated s _ = false
 
-abbrev names_its_tag : Position → Bool
+abbrev pub names_its_tag : Position → Bool
 names_its_tag InTypedef = true
 names_its_tag InTaggedType = true
 names_its_tag _ = false
 
-abbrev switch_where : Bool → Construct → Option SwitchType
+abbrev pub switch_where : Bool → Construct → Option SwitchType
 switch_where true c = switch_type_in c.attributes
 switch_where false c = None
 
@@ -144,11 +144,11 @@ tag_written c _ = None
 abbrev pub tag_type : Construct → Names → TypeSpec → Option IdlType
 tag_type c names body = option_map (switch_type names) (tag_written c body)
 
-abbrev enumerators_in : TypeSpec → List Enumerator
+abbrev pub enumerators_in : TypeSpec → List Enumerator
 enumerators_in (tree.Enum at tag es) = es
 enumerators_in _ = []
 
-abbrev enumerators_found : Option Body → List Enumerator
+abbrev pub enumerators_found : Option Body → List Enumerator
 enumerators_found None = []
 enumerators_found (Some b) = enumerators_in b.body
 
@@ -185,7 +185,7 @@ last_passes test (t ∷ []) = test t
 last_passes test (t ∷ u ∷ more) = last_passes test (u ∷ more)
 
 -- from whether the types of its members do
-abbrev hoists_by : Scene → (IdlType → Bool) → IdlType → Bool
+abbrev pub hoists_by : Scene → (IdlType → Bool) → IdlType → Bool
 hoists_by s hoists (Array t count varying) = is_none count
 hoists_by s hoists (Text t count) = is_none count
 hoists_by s hoists (Struct place) = last_passes hoists (in_place s (Struct place))

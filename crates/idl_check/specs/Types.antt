@@ -74,7 +74,7 @@ simple_type simple.Void = Void
 simple_type simple.Handle = Handle
 
 -- Each name of a type is known where it is used.
-abbrev or_void : Option IdlType → IdlType
+abbrev pub or_void : Option IdlType → IdlType
 or_void (Some t) = t
 or_void None = Void
 
