@@ -1,10 +1,10 @@
-mod FromNodes
-mod Standing
-mod Fields
-mod Words
-mod Alike
-mod Counts
-mod Variables
-mod Parameters
-mod Limits
+pub mod FromNodes
+pub mod Standing
+pub mod Fields
+pub mod Words
+pub mod Alike
+pub mod Counts
+pub mod Variables
+pub mod Parameters
+pub mod Limits
 pub mod Facts
