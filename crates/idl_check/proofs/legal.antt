@@ -1,2 +1,3 @@
 pub mod Known
 pub mod Values
+pub mod Places
