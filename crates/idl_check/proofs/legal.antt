@@ -1,2 +1,4 @@
 pub mod Known
 pub mod Values
+pub mod Places
+pub mod Alone

@@ -224,7 +224,7 @@ body_shallow s k b h e = by_form b.construct b.names b.body h e (shallow s (type
     by_form c names (tree.Name n) i e2 j = refl
     by_form c names (tree.Tag at kind tag) i e2 j = refl
 
-not_deep : (s : Scene) → IsKept s → (t : IdlType) → is_made_of_elements t ≡ true → list_any (λ n. same_type n.type t) (own_types s) ≡ true → nests 32 s t ≡ true
+pub not_deep : (s : Scene) → IsKept s → (t : IdlType) → is_made_of_elements t ≡ true → list_any (λ n. same_type n.type t) (own_types s) ≡ true → nests 32 s t ≡ true
 not_deep s k t m h =
     let e = own_fact (λ u. not (is_made_of_elements u && is_too_deep s u)) (own_types s) t
     (all_own_good s (λ u. is_made_of_elements u && is_too_deep s u) (record { structs = λ p. refl; unions = λ p. refl; enums = λ p. refl }) (λ u kept. kept.shallow) k.none) h in
