@@ -3,3 +3,4 @@ pub mod Values
 pub mod Places
 pub mod Alone
 pub mod All
+pub mod Meanings

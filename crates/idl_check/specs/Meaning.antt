@@ -239,7 +239,7 @@ minor_said (tree.Version major None) = Some 0
 minor_said (tree.Version major (Some minor)) = number_of minor.octets
 minor_said _ = None
 
-abbrev header_meant : Scene → Tree → Meant
+abbrev pub header_meant : Scene → Tree → Meant
 header_meant s t = record {
   name = t.name.octets;
   uuid = first_said uuid_said t.attributes.list;
@@ -250,7 +250,7 @@ header_meant s t = record {
 }
 
 -- the main file is number 0
-abbrev main_among : List Ended → List Tree
+abbrev pub main_among : List Ended → List Tree
 main_among [] = []
 main_among (f ∷ fs) = elim (eqb f.file 0) [ true ↦ f.tree ∷ [] | false ↦ main_among fs ]
 
