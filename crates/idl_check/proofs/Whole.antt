@@ -107,7 +107,6 @@ members_there c list index (tree.next_member at a type ds others) =
     (λ x i. among_left x (front ++ here) rest (among_right x front here i))
     (λ x i. among_right x (front ++ here) rest (members_there c list (index + length ds) others x i)))
 
-
 arms_there : (c : Construct) (at : ℕ) (tag : Option Spelling) (arms : Arms) → Sub (lone (parts_declared c (tree.NonEncapsulatedUnion at tag arms))) (arms_nodes c arms)
 arms_there c at tag tree.no_arms x h = absurd h
 arms_there c at tag (tree.next_arm (tree.Empty at_arm a) others) x h =
@@ -175,22 +174,30 @@ mutual
   type_fine all c (tree.EncapsulatedUnion at tag d name cases) w h =
       let body = tree.EncapsulatedUnion at tag d name cases in
       let labels = label_nodes c body [] (labels_of body) in
-      let behind : Sub (labels ++ case_nodes c cases) all = λ x i. h x (inr (inr i)) in
-      ((λ known names. refl,
-      sub_join (SwitchNode c d.of ∷ []) (labels ++ lone (parts_declared c body)) all (λ x i. h x (inr (first_one x (SwitchNode c d.of) (labels ++ case_nodes c cases) i)))
-      (sub_join labels (lone (parts_declared c body)) all (sub_left labels (case_nodes c cases) all behind)
-      (λ x i. sub_right labels (case_nodes c cases) all behind x (cases_there c at tag d name cases x i)))),
-      ((λ known names. refl, λ x i. absurd i),
-      each_join (Fine all) labels (case_nodes c cases) (labels_fine all c body [] (labels_of body)) (cases_fine all c cases (sub_right labels (case_nodes c cases) all behind))))
+      let behind : Sub (labels ++ case_nodes c cases) all = λ x i. h x (inr (inr i)) in (
+        (
+          λ known names. refl,
+          sub_join (SwitchNode c d.of ∷ []) (labels ++ lone (parts_declared c body)) all (λ x i. h x (inr (first_one x (SwitchNode c d.of) (labels ++ case_nodes c cases) i)))
+              (sub_join labels (lone (parts_declared c body)) all (sub_left labels (case_nodes c cases) all behind)
+              (λ x i. sub_right labels (case_nodes c cases) all behind x (cases_there c at tag d name cases x i))),
+        ),
+        (
+          (λ known names. refl, λ x i. absurd i),
+          each_join (Fine all) labels (case_nodes c cases) (labels_fine all c body [] (labels_of body)) (cases_fine all c cases (sub_right labels (case_nodes c cases) all behind)),
+        ),
+      )
   type_fine all c (tree.NonEncapsulatedUnion at tag arms) w h =
       let body = tree.NonEncapsulatedUnion at tag arms in
       let labels = label_nodes c body [] (labels_of body) in
-      let behind : Sub (labels ++ arms_nodes c arms) all = λ x i. h x (inr i) in
-      ((λ known names. refl,
-      sub_join (switch_of c body) (labels ++ lone (parts_declared c body)) all w
-      (sub_join labels (lone (parts_declared c body)) all (sub_left labels (arms_nodes c arms) all behind)
-      (λ x i. sub_right labels (arms_nodes c arms) all behind x (arms_there c at tag arms x i)))),
-      each_join (Fine all) labels (arms_nodes c arms) (labels_fine all c body [] (labels_of body)) (arms_fine all c arms (sub_right labels (arms_nodes c arms) all behind)))
+      let behind : Sub (labels ++ arms_nodes c arms) all = λ x i. h x (inr i) in (
+        (
+          λ known names. refl,
+          sub_join (switch_of c body) (labels ++ lone (parts_declared c body)) all w
+              (sub_join labels (lone (parts_declared c body)) all (sub_left labels (arms_nodes c arms) all behind)
+              (λ x i. sub_right labels (arms_nodes c arms) all behind x (arms_there c at tag arms x i))),
+        ),
+        each_join (Fine all) labels (arms_nodes c arms) (labels_fine all c body [] (labels_of body)) (arms_fine all c arms (sub_right labels (arms_nodes c arms) all behind)),
+      )
   type_fine all c (tree.Enum at tag es) w h = ((λ known names. refl, λ x i. h x (inr i)), enumerators_fine all c es)
 
   all_members_fine : (all : List Node) (c : Construct) (list : List Declared) (index : ℕ) (ms : Members) → Sub (member_nodes c list index ms) all
@@ -363,13 +370,18 @@ operation_fine header at a result name ps =
     each_join (Fine all) (a_ ++ t_ ++ (d_ ∷ p_)) (o_ ∷ [])
     (each_join (Fine all) (a_ ++ t_) (d_ ∷ p_)
     (each_join (Fine all) a_ t_ (attributes_fine all c [] c.attributes)
-    (type_fine all c result (in_operation all header at a result) (λ x i. among_left x (a_ ++ t_ ++ (d_ ∷ p_)) (o_ ∷ []) (among_left x (a_ ++ t_) (d_ ∷ p_) (among_right x a_ t_ i)))))
-    ((λ known names. refl, λ x i. absurd i),
-    parameters_fine all c list 0 ps (λ x i. among_left x (a_ ++ t_ ++ (d_ ∷ p_)) (o_ ∷ []) (among_right x (a_ ++ t_) (d_ ∷ p_) (inr i)))))
-    ((λ known names. refl,
-    sub_join (d_ ∷ []) (declarator_nodes list 0 list) all
-    (λ x i. among_left x (a_ ++ t_ ++ (d_ ∷ p_)) (o_ ∷ []) (among_right x (a_ ++ t_) (d_ ∷ p_) (first_one x d_ p_ i)))
-    (λ x i. among_left x (a_ ++ t_ ++ (d_ ∷ p_)) (o_ ∷ []) (among_right x (a_ ++ t_) (d_ ∷ p_) (inr (parameters_there c list 0 ps x i))))), tt)
+    (type_fine all c result (in_operation all header at a result) (λ x i. among_left x (a_ ++ t_ ++ (d_ ∷ p_)) (o_ ∷ []) (among_left x (a_ ++ t_) (d_ ∷ p_) (among_right x a_ t_ i))))) (
+      (λ known names. refl, λ x i. absurd i),
+      parameters_fine all c list 0 ps (λ x i. among_left x (a_ ++ t_ ++ (d_ ∷ p_)) (o_ ∷ []) (among_right x (a_ ++ t_) (d_ ∷ p_) (inr i))),
+    )) (
+      (
+        λ known names. refl,
+        sub_join (d_ ∷ []) (declarator_nodes list 0 list) all
+            (λ x i. among_left x (a_ ++ t_ ++ (d_ ∷ p_)) (o_ ∷ []) (among_right x (a_ ++ t_) (d_ ∷ p_) (first_one x d_ p_ i)))
+            (λ x i. among_left x (a_ ++ t_ ++ (d_ ∷ p_)) (o_ ∷ []) (among_right x (a_ ++ t_) (d_ ∷ p_) (inr (parameters_there c list 0 ps x i)))),
+      ),
+      tt,
+    )
 
 export_whole : (is_main : Bool) (header : Construct) (e : Export) → Whole (export_nodes is_main header e)
 export_whole is_main header (tree.Typedef at a pipe type ds) =

@@ -1,5 +1,5 @@
 -- What makes the fields and operations of an interface legal: the facts of `IsLegal` on them.
-use Rattle.std.specs.Prelude.{◌≡◌, ◌≤◌, Bool, true, not, ◌&&◌, ◌||◌, nat_le, List, length, sum_by}
+use Rattle.std.specs.Prelude.{◌≡◌, ◌≤◌, true, not, ◌&&◌, ◌||◌, nat_le, List, length, sum_by}
 use Rattle.std.specs.List.{list_all}
 use Rattle.nd_types.specs.declared.types.Attr.TheVariants.{Size, Max, Length, Last, Switch}
 use Rattle.nd_types.specs.declared.types.Operation.{Operation}

@@ -1,5 +1,5 @@
 -- Tests of a type in the table say what those of the type say.
-use Rattle.std.proofs.Common.{◌≡◌, ℕ, Bool, true, false, not, List, [], ◌∷◌, Option, Some, None, ℤ, refl, sym, ap, ◌∙◌}
+use Rattle.std.proofs.Common.{◌≡◌, Bool, true, false, List, [], ◌∷◌, Option, Some, None, ℤ, refl}
 use Rattle.nd_types.specs.declared.types.TypeDef.{TypeDef}
 use Rattle.nd_types.specs.declared.types.TypeDef.TheVariants as def
 use Rattle.nd_types.specs.declared.types.TypeId.{TypeId}
@@ -10,12 +10,10 @@ use Rattle.idl_grammar.specs.declared.attributes.PointerClass.TheVariants as cla
 use Rattle.idl_grammar.specs.Tree.{TypeSpec}
 use Rattle.idl_grammar.specs.Tree as tree
 use Rattle.idl_check.specs.Nodes.{Construct}
-use Rattle.idl_check.specs.Types.{IdlType, Void, Handle, ContextHandle, Basic, Struct, Union, Enum, Array, Text, Pointer, Pipe, Names, is_array, is_text, is_pipe, is_pointer, is_reference, is_conformant_array, is_conformant_text, is_varying_array}
+use Rattle.idl_check.specs.Types.{IdlType, Basic, Struct, Union, Enum, Array, Text, Pointer, Pipe, Names, is_array, is_text, is_pipe, is_pointer, is_reference, is_conformant_array, is_conformant_text, is_varying_array}
 use Rattle.idl_check.specs.Scene.{Scene, Body, body_of, is_nonencapsulated, is_nonencapsulated_body, is_found_nonencapsulated}
 use Rattle.idl_check.specs.VariableRules.{is_integer, may_be_switched}
-use Rattle.idl_check.specs.TypeRules.{is_result_type}
-use Rattle.idl_check.specs.PointerRules.{is_out_type}
-use Rattle.idl_check.specs.Meaning.{definition, struct_of, defined_by, defined_at, body_if, is_struct, is_union, is_enum}
+use Rattle.idl_check.specs.Meaning.{struct_of, defined_by, defined_at, body_if, is_struct, is_union, is_enum}
 use Rattle.idl_check.proofs.fields.Standing.{meant}
 
 -- a test of what no struct, union or enum is

@@ -1,23 +1,22 @@
 -- The rules of counts, as facts of fields.
-use Rattle.std.proofs.Common.{◌≡◌, ℕ, Bool, true, false, not, ◌||◌, ◌&&◌, List, [], ◌∷◌, Option, Some, None, ℤ, codes, refl, sym, ap, ap₂, ◌∙◌, subst}
-use Rattle.nd_types.specs.declared.types.TypeDef.{TypeDef}
+use Rattle.std.proofs.Common.{◌≡◌, ℕ, Bool, true, false, not, ◌||◌, ◌&&◌, List, [], Option, Some, None, ℤ, codes, refl, sym, ap, ap₂, ◌∙◌, subst}
 use Rattle.nd_types.specs.declared.types.Attr.TheVariants as attr
 use Rattle.nd_types.specs.Table.{type_at}
 use Rattle.nd_types.specs.Kinds as kinds
-use Rattle.nd_types.specs.Fields.{FieldAt, are_ordered, has_attr, has_size, has_range_attr, subject_type}
+use Rattle.nd_types.specs.Fields.{are_ordered, has_attr, has_size, has_range_attr, subject_type}
 use Rattle.nd_types.specs.Legal.{implies}
 use Rattle.idl_grammar.specs.declared.attributes.PointerClass.{PointerClass}
 use Rattle.idl_grammar.specs.Tree.{Attribute}
 use Rattle.idl_check.specs.Attributes.{has, has_one_of, class_in, sizes, lengths, string_word}
-use Rattle.idl_check.specs.Nodes.{Position, InHeader, InTypedef, InTaggedType, InMember, InParameter, InArm, InCasedArm, InOperation, Declared}
-use Rattle.idl_check.specs.Types.{IdlType, Void, Handle, ContextHandle, Basic, Struct, Union, Enum, Array, Text, Pointer, Pipe, Names, type_of, declared_type, with_attributes, class_or, text_of, sized, is_array, is_text, is_conformant_array, is_conformant_text, is_varying_array}
+use Rattle.idl_check.specs.Nodes.{Position, InMember, InParameter, Declared}
+use Rattle.idl_check.specs.Types.{IdlType, Array, Text, Pointer, Names, type_of, declared_type, with_attributes, class_or, text_of, sized, is_array, is_text, is_conformant_array, is_conformant_text, is_varying_array}
 use Rattle.idl_check.specs.Scene.{Scene}
 use Rattle.idl_check.specs.Rules.{breaches_in}
 use Rattle.idl_check.specs.VariableRules.{may_be_sized, may_vary, is_listed}
 use Rattle.idl_check.specs.Meaning.{field, types_of}
-use Rattle.idl_check.proofs.fields.FromNodes.{stands_in, they_pass}
-use Rattle.idl_check.proofs.fields.Standing.{node_keeps, Stands, Typed, field_typed, referent, meant}
-use Rattle.idl_check.proofs.fields.Fields.{OfFields, field_here}
+use Rattle.idl_check.proofs.fields.FromNodes.{stands_in}
+use Rattle.idl_check.proofs.fields.Standing.{Stands, field_typed, referent, meant}
+use Rattle.idl_check.proofs.fields.Fields.{OfFields}
 use Rattle.idl_check.proofs.fields.Words.{ordered_vars, of_size, of_max, of_first, of_length, of_last}
 use Rattle.idl_check.proofs.fields.Alike as alike
 

@@ -1,5 +1,5 @@
 -- All facts of fields and operations.
-use Rattle.std.proofs.Common.{◌≡◌, Bool, true, not, ◌||◌, ◌&&◌, []}
+use Rattle.std.proofs.Common.{◌≡◌, not, ◌||◌, ◌&&◌, []}
 use Rattle.nd_types.specs.declared.types.Attr.TheVariants as attr
 use Rattle.nd_types.specs.Table.{type_at}
 use Rattle.nd_types.specs.Kinds as kinds

@@ -1,13 +1,10 @@
 -- From members and parameters where they stand to the fields of the table and of the operations.
-use Rattle.std.proofs.Common.{◌≡◌, ℕ, ◌+◌, Bool, true, false, ◌&&◌, List, [], ◌∷◌, ◌++◌, map, length, Option, Some, None, refl, sym, ap, ◌∙◌, subst}
+use Rattle.std.proofs.Common.{◌≡◌, ℕ, ◌+◌, Bool, true, false, ◌&&◌, List, [], ◌∷◌, ◌++◌, map, Option, Some, None, refl, ap, ◌∙◌}
 use Rattle.std.specs.List.{list_all, flat_map, enumerate_from}
-use Rattle.std.proofs.lemmas.List.Folds.{list_all-map}
 use Rattle.nd_base.specs.declared.octets.Place.{Place}
-use Rattle.nd_types.specs.declared.types.TypeDef.{TypeDef}
 use Rattle.nd_types.specs.declared.types.Field.{Field}
 use Rattle.nd_types.specs.declared.types.Param.{Param}
 use Rattle.nd_types.specs.declared.types.Operation.{Operation}
-use Rattle.nd_types.specs.Table.{Table}
 use Rattle.nd_types.specs.Kinds.{basic_types}
 use Rattle.nd_types.specs.Fields.{FieldAt, fields_at, members_of, param_fields, all_fields}
 use Rattle.nd_types.specs.Legal.{all_params}
@@ -17,13 +14,13 @@ use Rattle.idl_grammar.specs.Tree as tree
 use Rattle.idl_check.specs.World.{World}
 use Rattle.idl_check.specs.Nodes.{Construct, Declared, declared_members, result_of, Node, HeaderNode, AttributeNode, SwitchNode, TagNode, BodyNode, EnumeratorNode, LabelNode, EmptyArmNode, DeclaratorNode, ConstantNode, TypeNode, OperationNode}
 use Rattle.idl_check.specs.Types.{IdlType, Void, Handle, ContextHandle, Basic, Struct, Union, Enum, Array, Text, Pointer, Pipe, Names}
-use Rattle.idl_check.specs.Scene.{Scoped, Scene, scene_of, Body, body_by, body_among, bodies, body_of, place_of, same_place}
-use Rattle.idl_check.specs.Rules.{breaches_in, breaches}
+use Rattle.idl_check.specs.Scene.{Scoped, Scene, scene_of, Body, body_by, body_among, body_of, place_of, same_place}
+use Rattle.idl_check.specs.Rules.{breaches}
 use Rattle.idl_check.specs.TypeRules.{is_operation}
 use Rattle.idl_check.specs.Numbering.{Needed, own_types}
 use Rattle.idl_check.specs.Meaning.{field, parameter, operation_in, operations_of, definition, types_of, struct_of, defined_by, defined_at, body_if, is_struct, is_union, is_enum}
 use Rattle.idl_check.proofs.Needed.{conjunction}
-use Rattle.idl_check.proofs.fields.FromNodes.{Test, they_pass, one_passes, body_passes, node_passes, both_of, split_all, join_all}
+use Rattle.idl_check.proofs.fields.FromNodes.{they_pass, one_passes, body_passes, node_passes, both_of, join_all}
 use Rattle.idl_check.proofs.fields.Standing.{node_keeps, all_keep, Stands, stands}
 
 -- ## Facts

@@ -1,29 +1,26 @@
 -- The rules of parameters and results, as facts of operations.
-use Rattle.std.proofs.Common.{◌≡◌, ℕ, ◌≤◌, ◌<◌, Bool, true, false, not, ◌||◌, ◌&&◌, List, [], ◌∷◌, map, length, Option, Some, None, refl, sym, ap, ap₂, arith, ◌∙◌}
-use Rattle.std.specs.Prelude.{◌==◌, nat_lt}
+use Rattle.std.proofs.Common.{◌≡◌, ℕ, Bool, true, false, not, ◌||◌, ◌&&◌, [], Option, Some, None, refl, sym, ap, ap₂, arith, ◌∙◌}
+use Rattle.std.specs.Prelude.{◌==◌}
 use Rattle.std.specs.List.{list_all, list_any}
 use Rattle.std.proofs.lemmas.List.Folds.{list_all-map}
 use Rattle.std.proofs.lemmas.Option.{slice_get_within}
 use Rattle.std.proofs.lemmas.Bool.Decides.{nat_tests}
 use Rattle.nd_types.specs.declared.types.TypeDef.{TypeDef}
-use Rattle.nd_types.specs.declared.types.TypeId.{TypeId}
-use Rattle.nd_types.specs.declared.TheConstants.{HANDLE, TYPE_LIMIT}
-use Rattle.nd_types.specs.Table.{Table, type_at}
+use Rattle.nd_types.specs.declared.TheConstants.{HANDLE}
+use Rattle.nd_types.specs.Table.{type_at}
 use Rattle.nd_types.specs.Kinds as kinds
 use Rattle.nd_types.specs.Legal as legal
 use Rattle.nd_types.specs.Legal.{implies, is_in, is_out_only, is_in_table, result_passes}
-use Rattle.idl_grammar.specs.declared.words.Spelling.{Spelling}
 use Rattle.idl_grammar.specs.Tree.{TypeSpec}
 use Rattle.idl_grammar.specs.Tree as tree
 use Rattle.idl_check.specs.Attributes.{has, in_word, out_word}
-use Rattle.idl_check.specs.Nodes.{Construct, Position, InHeader, InTypedef, InTaggedType, InMember, InParameter, InArm, InCasedArm, InOperation, Declared, result_of, DeclaratorNode}
+use Rattle.idl_check.specs.Nodes.{Construct, Position, InParameter, result_of, DeclaratorNode}
 use Rattle.idl_check.specs.Types.{IdlType, Void, Handle, ContextHandle, Basic, Struct, Union, Enum, Array, Text, Pointer, Pipe, Names, type_of, is_handle, is_array, is_text, is_pipe, is_pointer, is_reference}
-use Rattle.idl_check.specs.Scene.{Scene, Body, body_of, use_of, chain}
+use Rattle.idl_check.specs.Scene.{Scene, Body, body_of, use_of}
 use Rattle.idl_check.specs.Rules.{breaches_at, breaches_in}
 use Rattle.idl_check.specs.DeclarationRules.{is_parameter}
 use Rattle.idl_check.specs.TypeRules.{without_handle, is_in_alone, is_result_type}
 use Rattle.idl_check.specs.PointerRules.{is_out_type}
-use Rattle.idl_check.specs.Kept.{KeepsUse}
 use Rattle.idl_check.specs.Numbering.{needed, built, needed_by, number_of_type, is_numbered_or_none}
 use Rattle.idl_check.specs.Meaning.{way_by, parameter, result_number, types_of, defined_at, body_if, is_enum}
 use Rattle.idl_check.proofs.Kept.{keeps_use}
@@ -31,7 +28,7 @@ use Rattle.idl_check.proofs.Needed.{conjunction, right}
 use Rattle.idl_check.proofs.Numbers.{at_its_number}
 use Rattle.idl_check.proofs.Few.{few_types}
 use Rattle.idl_check.proofs.fields.FromNodes.{stands_in, both_of}
-use Rattle.idl_check.proofs.fields.Standing.{node_keeps, nothing_is, is_nothing, Stands, Typed, field_typed, meant, first_of, last_of}
+use Rattle.idl_check.proofs.fields.Standing.{nothing_is, is_nothing, Typed, field_typed, meant, first_of, last_of}
 use Rattle.idl_check.proofs.fields.Fields.{OfParams, OfOperations}
 use Rattle.idl_check.proofs.fields.Counts.{implied}
 use Rattle.idl_check.proofs.fields.Variables.{param_is}

@@ -1,35 +1,31 @@
 -- Where no rule is broken: what is known of a member or parameter where it stands, and of its type in the table.
-use Rattle.std.proofs.Common.{◌≡◌, ℕ, zero, suc, ◌+◌, ◌≤◌, ◌<◌, Bool, true, false, not, ◌||◌, ◌&&◌, List, [], ◌∷◌, ◌++◌, map, length, Option, Some, None, refl, sym, ap, arith, ◌∙◌, subst}
-use Rattle.std.specs.List.{list_all, list_any, flat_map, slice_get}
-use Rattle.std.proofs.lemmas.List.Folds.{list_all-append, list_all-map}
+use Rattle.std.proofs.Common.{◌≡◌, ℕ, Bool, true, false, ◌&&◌, List, [], ◌∷◌, map, Option, Some, None, refl, sym, ap, arith, ◌∙◌}
+use Rattle.std.specs.List.{list_all, list_any, flat_map}
+use Rattle.std.proofs.lemmas.List.Folds.{list_all-map}
 use Rattle.std.proofs.lemmas.Option.{slice_get_past}
 use Rattle.nd_types.specs.declared.types.TypeDef.{TypeDef}
-use Rattle.nd_types.specs.declared.types.TypeDef.TheVariants as def
-use Rattle.nd_types.specs.declared.types.TypeId.{TypeId}
-use Rattle.nd_types.specs.declared.types.Arm as arm
 use Rattle.nd_types.specs.declared.types.Field.{Field}
-use Rattle.nd_types.specs.declared.TheConstants.{HANDLE, TYPE_LIMIT}
-use Rattle.nd_types.specs.Table.{Table, type_at}
-use Rattle.nd_types.specs.Kinds as kinds
+use Rattle.nd_types.specs.declared.TheConstants.{HANDLE}
+use Rattle.nd_types.specs.Table.{type_at}
 use Rattle.nd_types.specs.Kinds.{pointee, pointee_by}
 use Rattle.idl_grammar.specs.Tree.{TypeSpec}
 use Rattle.idl_grammar.specs.Tree as tree
 use Rattle.idl_check.specs.World.{World}
-use Rattle.idl_check.specs.Nodes.{Position, InHeader, InTypedef, InTaggedType, InMember, InParameter, InArm, InCasedArm, InOperation, place_in, Declared, attribute_nodes, Node, DeclaratorNode}
-use Rattle.idl_check.specs.Types.{IdlType, Void, Handle, ContextHandle, Basic, Struct, Union, Enum, Array, Text, Pointer, Pipe, Names, type_of, is_void, is_handle}
-use Rattle.idl_check.specs.Scene.{Scoped, Scene, scene_of, Use, use_of, Body, body_of, chain, below}
+use Rattle.idl_check.specs.Nodes.{Position, InMember, InParameter, place_in, Declared, attribute_nodes, DeclaratorNode}
+use Rattle.idl_check.specs.Types.{IdlType, Void, Handle, ContextHandle, Basic, Struct, Union, Enum, Array, Text, Pointer, Pipe, Names, type_of, is_void}
+use Rattle.idl_check.specs.Scene.{Scoped, Scene, scene_of, use_of, Body, body_of, chain}
 use Rattle.idl_check.specs.Rules.{Breach, breach, breaches_at, breaches_in, breaches}
 use Rattle.idl_check.specs.CountRules.{too_many}
-use Rattle.idl_check.specs.TypeRules.{is_operation, without_void}
+use Rattle.idl_check.specs.TypeRules.{without_void}
 use Rattle.idl_check.specs.Kept.{KeepsUse}
-use Rattle.idl_check.specs.Numbering.{Needed, needed, built, needed_by, needed_types, number_of_type, is_numbered, is_numbered_or_none}
+use Rattle.idl_check.specs.Numbering.{needed, built, needed_by, needed_types, number_of_type, is_numbered_or_none}
 use Rattle.idl_check.specs.Meaning.{definition, types_of, struct_of, defined_by, defined_at, body_if, is_struct, is_union, is_enum}
 use Rattle.idl_check.proofs.Kept.{neither, keeps_use}
 use Rattle.idl_check.proofs.KeptTypes.{none_of}
 use Rattle.idl_check.proofs.Needed.{conjunction, all_numbered}
 use Rattle.idl_check.proofs.Numbers.{at_its_number}
 use Rattle.idl_check.proofs.Few.{few_types}
-use Rattle.idl_check.proofs.fields.FromNodes.{Test, stands_in, one_passes, they_pass, node_passes, both_of, split_all, members_and_parameters_pass}
+use Rattle.idl_check.proofs.fields.FromNodes.{Test, stands_in, one_passes, node_passes, both_of, split_all, members_and_parameters_pass}
 
 -- ## The test of a node: it breaks no rule, and the types that it needs have numbers
 

@@ -1,5 +1,5 @@
 -- The rules of variables and of switch_is, as facts of fields.
-use Rattle.std.proofs.Common.{◌≡◌, ℕ, zero, suc, ◌+◌, ◌<◌, Bool, true, false, not, ◌||◌, ◌&&◌, List, [], ◌∷◌, ◌++◌, map, length, Option, Some, None, codes, refl, sym, ap, ap₂, arith, ◌∙◌, subst}
+use Rattle.std.proofs.Common.{◌≡◌, ℕ, zero, suc, ◌+◌, ◌<◌, Bool, true, false, not, ◌||◌, ◌&&◌, List, [], ◌∷◌, ◌++◌, map, length, Option, Some, None, codes, refl, sym, ap, arith, ◌∙◌, subst}
 use Rattle.std.specs.Prelude.{◌==◌, eqb, nat_lt, option_map}
 use Rattle.std.specs.List.{list_all, list_any, slice_get}
 use Rattle.std.specs.Str.{bytes_eq}
@@ -16,19 +16,19 @@ use Rattle.nd_types.specs.declared.types.Attr.TheVariants as attr
 use Rattle.nd_types.specs.Table.{Table, type_at}
 use Rattle.nd_types.specs.Kinds as kinds
 use Rattle.nd_types.specs.Kinds.{pointee_by, referent_type, reference_by}
-use Rattle.nd_types.specs.Fields.{FieldAt, has_attr, variable_type, all_variables}
+use Rattle.nd_types.specs.Fields.{has_attr, variable_type, all_variables}
 use Rattle.nd_types.specs.Legal.{implies, has_other_variables, is_switch_attr}
 use Rattle.nd_types.specs.Legal as legal
 use Rattle.idl_grammar.specs.declared.attributes.PointerClass.TheVariants as class
 use Rattle.idl_grammar.specs.declared.attributes.Variable.{Variable}
 use Rattle.idl_grammar.specs.Tree.{Attribute}
 use Rattle.idl_check.specs.Attributes.{has, sizes, lengths, switch_is_word, variable_said}
-use Rattle.idl_check.specs.Nodes.{Position, InHeader, InTypedef, InTaggedType, InMember, InParameter, InArm, InCasedArm, InOperation, Declared}
+use Rattle.idl_check.specs.Nodes.{Position, InMember, InParameter, Declared}
 use Rattle.idl_check.specs.Types.{IdlType, Void, Handle, ContextHandle, Basic, Struct, Union, Enum, Array, Text, Pointer, Pipe, Names, type_of}
-use Rattle.idl_check.specs.Scene.{Scene, Use, use_of, is_nonencapsulated, chain}
+use Rattle.idl_check.specs.Scene.{Scene, use_of, is_nonencapsulated, chain}
 use Rattle.idl_check.specs.Rules.{breaches_in}
 use Rattle.idl_check.specs.DeclarationRules.{is_parameter}
-use Rattle.idl_check.specs.VariableRules.{Listed, listed_from, variable_of, passes, passes_listed, is_right_variable, variable_if, variables, is_integer, may_be_switched, is_switched, is_switched_place, below_pointer, is_other}
+use Rattle.idl_check.specs.VariableRules.{Listed, listed_from, passes, passes_listed, is_right_variable, variable_if, variables, is_integer, may_be_switched, is_switched, is_switched_place, below_pointer, is_other}
 use Rattle.idl_check.specs.Numbering.{number_of_type}
 use Rattle.idl_check.specs.Meaning.{index_in, attr_var, vars_of, field_vars, field, types_of}
 use Rattle.idl_check.proofs.KeptTypes.{none_of}
@@ -36,7 +36,7 @@ use Rattle.idl_check.proofs.Needed.{conjunction}
 use Rattle.idl_check.proofs.fields.FromNodes.{stands_in, one_passes, they_pass, both_of, join_all}
 use Rattle.idl_check.proofs.fields.Standing.{node_keeps, Stands, stands, Typed, field_typed, referent, meant, first_of}
 use Rattle.idl_check.proofs.fields.Fields.{OfFields, field_here}
-use Rattle.idl_check.proofs.fields.Words.{is_any, none_is, has_is, switch_is_has, of_switch}
+use Rattle.idl_check.proofs.fields.Words.{none_is, has_is, switch_is_has, of_switch}
 use Rattle.idl_check.proofs.fields.Counts.{implied}
 use Rattle.idl_check.proofs.fields.Alike as alike
 

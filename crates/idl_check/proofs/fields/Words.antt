@@ -1,12 +1,10 @@
 -- The attributes of a field are those of its declaration: each once, and in order.
-use Rattle.std.proofs.Common.{◌≡◌, ℕ, ◌+◌, Bool, true, false, not, ◌||◌, ◌&&◌, List, [], ◌∷◌, ◌++◌, map, Option, Some, None, codes, refl, sym, ap, arith, ◌∙◌, subst, append-nil}
+use Rattle.std.proofs.Common.{◌≡◌, ℕ, Bool, true, false, ◌||◌, List, [], ◌∷◌, ◌++◌, map, Option, Some, None, codes, refl, sym, ap, ◌∙◌, subst, append-nil}
 use Rattle.std.specs.Prelude.{◌==◌, nat_lt}
 use Rattle.std.specs.List.{list_all, list_any}
 use Rattle.std.specs.Str.{bytes_eq}
-use Rattle.std.proofs.lemmas.List.Folds.{list_all-append, list_any-append, list_all-map}
+use Rattle.std.proofs.lemmas.List.Folds.{list_any-append}
 use Rattle.std.proofs.lemmas.Slice.Eq.{bytes_eq-Decides}
-use Rattle.std.proofs.lemmas.Bool.Decides.{nat_tests}
-use Rattle.nd_types.specs.declared.types.Field.{Field}
 use Rattle.nd_types.specs.declared.types.AttrVar.{AttrVar}
 use Rattle.nd_types.specs.declared.types.Attr.{Attr}
 use Rattle.nd_types.specs.declared.types.Attr.TheVariants as attr
@@ -16,7 +14,7 @@ use Rattle.idl_grammar.specs.declared.attributes.VariableWord.TheVariants as var
 use Rattle.idl_grammar.specs.declared.attributes.Variable.{Variable}
 use Rattle.idl_grammar.specs.Tree.{Attribute, AttributeKind}
 use Rattle.idl_grammar.specs.Tree as tree
-use Rattle.idl_check.specs.Attributes.{word_of, is_word, has, has_one_of, sizes, lengths, switch_is_word, variable_said}
+use Rattle.idl_check.specs.Attributes.{word_of, is_word, has, variable_said}
 use Rattle.idl_check.specs.Nodes.{Construct, Declared, attribute_nodes, attribute_nodes_from, AttributeNode}
 use Rattle.idl_check.specs.Types.{Names}
 use Rattle.idl_check.specs.Scene.{Scene}

@@ -1,18 +1,17 @@
 -- Files that break no rule mean a legal interface.
-use Rattle.std.proofs.Common.{◌≡◌, List, [], ◌∷◌, map, Option, Some, None, true, refl, sym, ap, subst}
+use Rattle.std.proofs.Common.{◌≡◌, [], true}
 use Rattle.std.specs.Prelude.{nat_le}
 use Rattle.std.specs.List.{list_all}
 use Rattle.nd_types.specs.declared.TheConstants.{ELEMENT_LIMIT}
 use Rattle.nd_types.specs.Legal as legal
 use Rattle.nd_types.specs.Legal.{IsLegal}
-use Rattle.idl_grammar.specs.Tree.{Tree}
 use Rattle.idl_check.specs.World.{World}
 use Rattle.idl_check.specs.Scene.{Scene, scene_of}
-use Rattle.idl_check.specs.Rules.{breaches, breaches_in}
+use Rattle.idl_check.specs.Rules.{breaches}
 use Rattle.idl_check.specs.Meaning.{types_of, operations_of}
 use Rattle.idl_check.proofs.Referents.{table_referents}
 use Rattle.idl_check.proofs.Few.{few_types}
-use Rattle.idl_check.proofs.Scenes.{IsKept, kept}
+use Rattle.idl_check.proofs.Scenes.{kept}
 use Rattle.idl_check.proofs.legal.Known as known
 use Rattle.idl_check.proofs.legal.Values as values
 use Rattle.idl_check.proofs.legal.Places as places

@@ -121,6 +121,7 @@ tag_each s k P f b h = by_form b.construct b.names b.body h
   where
     of_union : (c : Construct) (names : Names) (t : TypeSpec) → KeptTag s (record { construct = c; names = names; body = t }) → P (number_of_type s (or_handle (tag_type c names t)))
     of_union c names t p = subst (λ o. P (number_of_type s (or_handle o))) (sym p.is) (f p.type p.switched p.there)
+
     by_form : (c : Construct) (names : Names) (t : TypeSpec) → There s names (BodyNode c t) → Each P (tag_of (defined_by s (record { construct = c; names = names; body = t }) t))
     by_form c names (tree.Struct at tag ms) i = subst (Each P) (sym (struct_untagged _)) tt
     by_form c names (tree.EncapsulatedUnion at tag d name cases) i =
@@ -295,6 +296,6 @@ tags s k =
     table_all s (has_switch_tag (types_of s)) refl (record {
       nothing = refl;
       by_bodies = λ b h e. each_all (λ t. is_switch_type (type_at (types_of s) t)) (tag_of (defined_by s b b.body))
-      (tag_each s k (λ n. is_switch_type (type_at (types_of s) n) ≡ true) (λ t m i. ap is_switch_type (at_its_number s t i) ∙ switched_there s t m) b h);
+          (tag_each s k (λ n. is_switch_type (type_at (types_of s) n) ≡ true) (λ t m i. ap is_switch_type (at_its_number s t i) ∙ switched_there s t m) b h);
       by_made = λ t h i. made_tagged s t h;
     })

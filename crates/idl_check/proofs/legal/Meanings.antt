@@ -1,5 +1,5 @@
 -- What files mean that break no rule is legal, and two such interfaces.
-use Rattle.std.proofs.Common.{◌≡◌, ℕ, ◌<◌, List, [], ◌∷◌, map, length, Option, Some, None, refl, sym, ap, subst, arith}
+use Rattle.std.proofs.Common.{◌≡◌, ℕ, List, [], Option, Some, None, refl, subst, arith}
 use Rattle.std.specs.Prelude.{Result, Ok, Err, All}
 use Rattle.std.proofs.lemmas.List.Elements.{All-map}
 use Rattle.phrases.specs.Reading.{Fault}
@@ -8,7 +8,7 @@ use Rattle.nd_types.specs.declared.interface.Interface.{Interface}
 use Rattle.idl_grammar.specs.Tree.{Tree}
 use Rattle.idl_check.specs.World.{World}
 use Rattle.idl_check.specs.Rules.{Breach}
-use Rattle.idl_check.specs.FirstBroken.{first_broken, first_of, IsLeast}
+use Rattle.idl_check.specs.FirstBroken.{first_broken, IsLeast}
 use Rattle.idl_check.specs.Meaning.{Meant, types_of, operations_of, header_meant, main_among}
 use Rattle.idl_check.specs.Alone.{alone}
 use Rattle.idl_check.specs.Answers.{IsMeaning, meant_by}

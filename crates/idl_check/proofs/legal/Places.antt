@@ -426,9 +426,11 @@ arms_each s k P f names c t h = by_form t h
         each_then (PartNumber s names (parts_declared c u)) P
         (λ n p. subst P p.number (f names p.it (each_at (KeptPart s names) (parts_declared c u) (kept_parts s k names c u i) p.it p.among) (each_at IsArm (parts_declared c u) j p.it p.among)))
         (layout.parts (Some (defined_by s (record { construct = c; names = names; body = u }) u))) (body_parts s (record { construct = c; names = names; body = u }))
+
     struct_arms : (fs : List Field) → Each P (legal.arms_of (struct_of fs))
     struct_arms [] = tt
     struct_arms (x ∷ xs) = tt
+
     by_form : (u : TypeSpec) → There s names (BodyNode c u) → Each P (legal.arms_of (defined_by s (record { construct = c; names = names; body = u }) u))
     by_form (tree.EncapsulatedUnion at tag d name cases) i = of_union (tree.EncapsulatedUnion at tag d name cases) i (cases_arms c at tag d name cases)
     by_form (tree.NonEncapsulatedUnion at tag arms) i = of_union (tree.NonEncapsulatedUnion at tag arms) i (arms_arms c at tag arms)

@@ -151,10 +151,12 @@ HasValue s b a = is_value (type_at (types_of s) (number_of_type s (or_handle (ta
 
 one_label : (s : Scene) (b : Body) (tag : KeptTag s b) (a : LabelledArm) (o : Option ℤ) → is_label_of s (tag_type b.construct b.names b.body) o ≡ true → Each (HasValue s b) (arm_by s b a o)
 one_label s b tag a None h = tt
-one_label s b tag a (Some z) h =
-    (ap (λ t. is_value (type_at (types_of s) (number_of_type s (or_handle t))) z) tag.is
-    ∙ (ap (λ d. is_value d z) (at_its_number s tag.type tag.there)
-    ∙ value_there s tag.type z tag.switched (subst (λ t. is_label_of s t (Some z) ≡ true) tag.is h)), tt)
+one_label s b tag a (Some z) h = (
+  ap (λ t. is_value (type_at (types_of s) (number_of_type s (or_handle t))) z) tag.is
+      ∙ (ap (λ d. is_value d z) (at_its_number s tag.type tag.there)
+      ∙ value_there s tag.type z tag.switched (subst (λ t. is_label_of s t (Some z) ≡ true) tag.is h)),
+  tt,
+)
 
 labels_have : (s : Scene) (b : Body) → KeptTag s b → GoodLabels s b.names b.construct b.body (labels_of b.body)
     → list_all (λ a. is_value (type_at (types_of s) (number_of_type s (or_handle (tag_type b.construct b.names b.body)))) a.label) (labelled_arms s b) ≡ true
@@ -238,10 +240,11 @@ distinct_arms tag encapsulated default (a ∷ more) h =
 later_differs : (s : Scene) → IsKept s → (names : Names) (c : Construct) (body : TypeSpec) (m : ArmLabel) (before ls : List ArmLabel) → Among m before
     → Each (There s names) (label_nodes c body before ls) → Each (λ l. same_value (label_value s.known m) (label_value s.known l) ≡ false) ls
 later_differs s k names c body m before [] i h = tt
-later_differs s k names c body m before (l ∷ ls) i h =
-    (each_at (λ x. same_value (label_value s.known x) (label_value s.known l) ≡ false) before
-    (none_each (λ x. same_value (label_value s.known x) (label_value s.known l)) before (label_kept s k names c body before l h.0).1) m i,
-    later_differs s k names c body m (before ++ l ∷ []) ls (among_left m before (l ∷ []) i) h.1)
+later_differs s k names c body m before (l ∷ ls) i h = (
+  each_at (λ x. same_value (label_value s.known x) (label_value s.known l) ≡ false) before
+      (none_each (λ x. same_value (label_value s.known x) (label_value s.known l)) before (label_kept s k names c body before l h.0).1) m i,
+  later_differs s k names c body m (before ++ l ∷ []) ls (among_left m before (l ∷ []) i) h.1,
+)
 
 none_same : (known : Known) (z : ℤ) (ls : List ArmLabel) → Each (λ l. same_value (Some z) (label_value known l) ≡ false) ls → list_any (int_eq z) (flat_map (λ l. listed (label_value known l)) ls) ≡ false
 none_same known z [] h = refl
