@@ -91,7 +91,7 @@ abbrev place_of_tag : Option TagDefinition → Place → Place
 place_of_tag (Some d) here = d.place
 place_of_tag None here = here
 
-abbrev tagged_type : TagKind → Place → IdlType
+abbrev pub tagged_type : TagKind → Place → IdlType
 tagged_type tag_kind.Struct place = Struct place
 tagged_type tag_kind.Union place = Union place
 tagged_type tag_kind.Enum place = Enum place
@@ -244,7 +244,7 @@ is_empty _ = false
 abbrev pub is_context_handle : Declared → IdlType → Bool
 is_context_handle d t = has context_handle_word d.construct.attributes && is_one_star d.declarator.stars && is_empty d.declarator.dimensions && is_void t
 
-abbrev pipe_or_plain : Bool → IdlType → IdlType
+abbrev pub pipe_or_plain : Bool → IdlType → IdlType
 pipe_or_plain true t = Pipe t
 pipe_or_plain false t = t
 

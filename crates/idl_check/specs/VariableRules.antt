@@ -106,12 +106,12 @@ has_wrong_switch s u =
 -- Rule 33: `string` stands only on an array of char or byte or a pointer to one of these, without length_is, first_is or last_is. On what is a text
 -- already, or a pointer to a conformant text, it changes nothing.
 
-abbrev is_octet : IdlType → Bool
+abbrev pub is_octet : IdlType → Bool
 is_octet (Basic primitive.Char) = true
 is_octet (Basic primitive.Byte) = true
 is_octet _ = false
 
-abbrev may_be_text : IdlType → Bool
+abbrev pub may_be_text : IdlType → Bool
 may_be_text (Text t count) = true
 may_be_text (Array t count varying) = is_octet t
 may_be_text (Pointer class to) = is_octet to || is_conformant_text to

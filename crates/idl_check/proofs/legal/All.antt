@@ -16,17 +16,12 @@ use Rattle.idl_check.proofs.legal.Known as known
 use Rattle.idl_check.proofs.legal.Values as values
 use Rattle.idl_check.proofs.legal.Places as places
 use Rattle.idl_check.proofs.legal.Alone as alone
+use Rattle.idl_check.proofs.legal.Counts as counts
 use Rattle.idl_check.proofs.fields.Facts.{legal_fields}
 
--- what is not yet proved
-record Open (s : Scene) : Type 0 where
-  bounds : list_all legal.has_small_bound (types_of s) ≡ true
-  elements : list_all (λ t. nat_le (legal.element_count (types_of s) t) ELEMENT_LIMIT) (legal.type_numbers (types_of s)) ≡ true
-  dimensions : list_all (legal.has_fixed_dimensions (types_of s)) (types_of s) ≡ true
-  text_elements : list_all legal.has_text_element (types_of s) ≡ true
-
-legal_but : (w : World) → breaches w ≡ [] → Open (scene_of w) → IsLegal (types_of (scene_of w)) (operations_of (scene_of w))
-legal_but w h o =
+-- files that break no rule mean a legal interface
+pub all_legal : (w : World) → breaches w ≡ [] → IsLegal (types_of (scene_of w)) (operations_of (scene_of w))
+all_legal w h =
     let s = scene_of w in
     let k = kept w h in
     let f = legal_fields w h in
@@ -39,11 +34,11 @@ legal_but w h o =
       nesting = known.nesting s k;
       members = known.members s;
       enumerators = values.enumerators s k;
-      bounds = o.bounds;
-      elements = o.elements;
-      dimensions = o.dimensions;
+      bounds = counts.bounds s k;
+      elements = counts.elements s k;
+      dimensions = counts.fixed_dimensions s k;
       array_elements = places.array_elements s k;
-      text_elements = o.text_elements;
+      text_elements = counts.text_elements s k;
       pipe_elements = places.pipe_elements s k;
       hoisting_members = places.hoisting_members s k;
       hoisting_arms = places.hoisting_arms s k;
