@@ -1,22 +1,18 @@
 -- What a type in the table holds in its place.
-use Rattle.std.proofs.Common.{◌≡◌, ℕ, zero, suc, Bool, true, false, not, ◌||◌, ◌&&◌, List, [], ◌∷◌, ◌++◌, map, Option, Some, None, ℤ, ◌⊎◌, inl, inr, refl, sym, ap, ◌∙◌, subst}
-use Rattle.std.specs.List.{list_any, list_all, flat_map}
+use Rattle.std.proofs.Common.{◌≡◌, ℕ, zero, suc, Bool, true, false, List, [], ◌∷◌, ◌++◌, map, Option, Some, None, ℤ, inl, refl, sym, ap, ◌∙◌, subst}
+use Rattle.std.specs.List.{list_all, flat_map}
 use Rattle.nd_types.specs.declared.types.Field.{Field}
 use Rattle.nd_types.specs.declared.types.Arm as arm
-use Rattle.nd_types.specs.declared.types.TypeDef.{TypeDef}
-use Rattle.nd_types.specs.declared.types.TypeDef.TheVariants as def
-use Rattle.nd_types.specs.Table.{Table, type_at}
 use Rattle.nd_types.specs.Layout as layout
 use Rattle.idl_grammar.specs.Tree.{TypeSpec, Arm}
 use Rattle.idl_grammar.specs.Tree as tree
 use Rattle.nd_base.specs.declared.octets.Place.{Place}
-use Rattle.idl_check.specs.Nodes.{Construct, Declared, ArmLabel, LabelledArm, arms_of}
+use Rattle.idl_check.specs.Nodes.{Declared, LabelledArm, arms_of}
 use Rattle.idl_check.specs.Types.{IdlType, Void, Handle, ContextHandle, Basic, Struct, Union, Enum, Array, Text, Pointer, Pipe, Names, type_of}
 use Rattle.idl_check.specs.Scene.{Scene, Body, body_of, parts_declared, arm_declared, parts_of, parts_of_found, in_place, nests}
 use Rattle.idl_check.specs.ValueRules.{label_value}
 use Rattle.idl_check.specs.Numbering.{number_of_type, is_numbered}
-use Rattle.idl_check.specs.Meaning.{definition, types_of, field, first_type, struct_of, defined_by, defined_at, body_if, is_struct, is_union, is_enum, number, type_of_arm, name_of_arm, arm_for, arm_by, labelled_arms, default_by, default_arm, first_arm}
-use Rattle.idl_check.proofs.Equal.{both}
+use Rattle.idl_check.specs.Meaning.{definition, types_of, field, first_type, struct_of, defined_by, defined_at, body_if, is_struct, is_union, is_enum, type_of_arm, arm_by, labelled_arms, default_by, default_arm, first_arm}
 use Rattle.idl_check.proofs.Numbers.{at_its_number}
 use Rattle.idl_check.proofs.Among.{Among, among_map, among_flat, Each, each_at, each_made, each_map, each_join, each_flat, each_every, each_then, all_each, each_all}
 use Rattle.idl_check.proofs.Scenes.{IsKept, BodyThere, KeptPart, kept_parts, part_numbered, found_there, inner_there}

@@ -1,11 +1,10 @@
 -- Scenes of files that break no rule.
-use Rattle.std.proofs.Common.{◌≡◌, ℕ, zero, suc, ◌+◌, ◌<◌, Bool, true, false, not, ◌||◌, ◌&&◌, ◌⊎◌, inl, inr, List, [], ◌∷◌, ◌++◌, map, length, Option, Some, None, refl, sym, ap, arith, ◌∙◌, subst}
+use Rattle.std.proofs.Common.{◌≡◌, ℕ, zero, suc, ◌+◌, ◌<◌, Bool, true, false, not, ◌||◌, ◌&&◌, inl, inr, List, [], ◌∷◌, ◌++◌, map, length, Option, Some, None, refl, sym, ap, arith, ◌∙◌, subst}
 use Rattle.std.specs.List.{list_any, list_all, flat_map, slice_get}
-use Rattle.std.proofs.lemmas.List.Folds.{list_any-append, list_all-append, list_all-map}
+use Rattle.std.proofs.lemmas.List.Folds.{list_all-append, list_all-map}
 use Rattle.std.proofs.lemmas.Bool.{lt-ltb}
 use Rattle.nd_types.specs.declared.types.TypeDef.{TypeDef}
 use Rattle.nd_types.specs.declared.types.TypeDef.TheVariants as def
-use Rattle.nd_types.specs.Table.{Table, type_at}
 use Rattle.nd_types.specs.Kinds.{basic_types}
 use Rattle.nd_types.specs.Legal.{is_in_table}
 use Rattle.idl_grammar.specs.declared.words.Spelling.{Spelling}
@@ -14,14 +13,14 @@ use Rattle.idl_grammar.specs.Tree.{TypeSpec, Members, Cases, Arms, Arm, Declarat
 use Rattle.idl_grammar.specs.Tree as tree
 use Rattle.nd_base.specs.declared.octets.Place.{Place}
 use Rattle.idl_check.specs.World.{World}
-use Rattle.idl_check.specs.Nodes.{Construct, place_in, Position, InMember, InArm, InCasedArm, InHeader, InTypedef, InTaggedType, InParameter, InOperation, inside, Declared, declared, Node, HeaderNode, AttributeNode, SwitchNode, TagNode, BodyNode, EnumeratorNode, LabelNode, EmptyArmNode, DeclaratorNode, ConstantNode, TypeNode, OperationNode, declared_members, declarator_nodes, labels_of, label_nodes, nodes}
+use Rattle.idl_check.specs.Nodes.{Construct, place_in, Position, InMember, InArm, InCasedArm, InHeader, InTypedef, InTaggedType, InParameter, InOperation, inside, Declared, declared, Node, HeaderNode, AttributeNode, SwitchNode, TagNode, BodyNode, EnumeratorNode, LabelNode, EmptyArmNode, DeclaratorNode, ConstantNode, TypeNode, OperationNode, declared_members, declarator_nodes, labels_of, label_nodes}
 use Rattle.idl_check.specs.Types.{IdlType, Void, Handle, ContextHandle, Basic, Struct, Union, Enum, Array, Text, Pointer, Pipe, Names, type_of, is_void, is_handle}
-use Rattle.idl_check.specs.Scene.{Scoped, Scene, scene_of, Use, use_of, Body, bodies, body_by, body_among, body_of, place_of, same_place, parts_declared, chain}
+use Rattle.idl_check.specs.Scene.{Scoped, Scene, scene_of, use_of, Body, bodies, body_by, body_among, body_of, place_of, same_place, parts_declared}
 use Rattle.idl_check.specs.Rules.{breach, breaches, breaches_at, breaches_in}
 use Rattle.idl_check.specs.CountRules.{too_many}
 use Rattle.idl_check.specs.TypeRules.{without_void, without_handle, is_in_alone}
 use Rattle.idl_check.specs.Kept.{KeepsUse}
-use Rattle.idl_check.specs.Numbering.{Needed, needed, built, first_needed, has_own_number, needed_by, needed_types, own_types, same_type, number_of_type, is_numbered, is_numbered_or_none}
+use Rattle.idl_check.specs.Numbering.{Needed, built, first_needed, has_own_number, needed_by, needed_types, own_types, same_type, number_of_type, is_numbered, is_numbered_or_none}
 use Rattle.idl_check.specs.Meaning.{definition, types_of, defined_by, defined_at, body_if, is_struct, is_union, is_enum}
 use Rattle.idl_check.proofs.Equal.{type_is, place_is, both}
 use Rattle.idl_check.proofs.Numbers.{at_its_number}
@@ -30,8 +29,8 @@ use Rattle.idl_check.proofs.Kept.{neither, keeps_use}
 use Rattle.idl_check.proofs.KeptTypes.{all_are}
 use Rattle.idl_check.proofs.Inner.{is_hollow, all_solid, further, neither_one}
 use Rattle.idl_check.proofs.Referents.{inner_of, inner_numbered, numbered, untrue, last, as_list}
-use Rattle.idl_check.proofs.Among.{Among, among_one, Sub, Each, each_at, each_made, each_map, each_mapped, each_join, each_left, each_right, each_flat, among_flat, each_empty, all_each, each_all, any_flat}
-use Rattle.idl_check.proofs.Whole.{Good, scope, beside, beside_body, switch_of, lone, NamesKeep, Declares, whole, named}
+use Rattle.idl_check.proofs.Among.{Among, among_one, Sub, Each, each_at, each_made, each_mapped, each_join, each_right, each_empty, each_all, any_flat}
+use Rattle.idl_check.proofs.Whole.{Good, scope, beside, switch_of, lone, NamesKeep, Declares, whole, named}
 
 abbrev pub Passes : (IdlType → Bool) → IdlType → Type 0
 Passes test t = test t ≡ true

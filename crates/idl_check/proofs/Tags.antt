@@ -1,8 +1,7 @@
 -- The types of tags.
-use Rattle.std.proofs.Common.{◌≡◌, ℕ, Bool, true, false, not, ◌||◌, ◌&&◌, ◌⊎◌, inl, inr, List, [], ◌∷◌, ◌++◌, map, Option, Some, None, refl, sym, ap, ◌∙◌, subst}
+use Rattle.std.proofs.Common.{◌≡◌, Bool, true, false, not, [], ◌∷◌, ◌++◌, Option, Some, None, refl, ap}
 use Rattle.std.specs.Prelude.{cond, is_none, option_map}
 use Rattle.std.specs.Str.{bytes_eq}
-use Rattle.std.specs.List.{list_any, list_all, flat_map}
 use Rattle.idl_grammar.specs.declared.words.Spelling.{Spelling}
 use Rattle.idl_grammar.specs.declared.types.SwitchType.{SwitchType}
 use Rattle.idl_grammar.specs.declared.types.SwitchType.TheVariants as switch
@@ -11,7 +10,7 @@ use Rattle.idl_grammar.specs.declared.types.SimpleType.TheVariants as simple
 use Rattle.idl_grammar.specs.Tree.{TypeSpec}
 use Rattle.idl_grammar.specs.Tree as tree
 use Rattle.idl_names.specs.Tables.{found}
-use Rattle.idl_check.specs.Nodes.{Construct, Declared, Node, SwitchNode, BodyNode, DeclaratorNode, switch_node, label_nodes, labels_of}
+use Rattle.idl_check.specs.Nodes.{Construct, Node, SwitchNode, BodyNode, switch_node, label_nodes, labels_of}
 use Rattle.idl_check.specs.Types.{IdlType, or_void, Void, Handle, ContextHandle, Basic, Struct, Union, Enum, Array, Text, Pointer, Pipe, Names, type_of, named_type, simple_type, switch_type, is_void, is_handle, is_pipe, is_context}
 use Rattle.idl_check.specs.Scene.{Scene, Body, tag_type, tag_written, parts_declared}
 use Rattle.idl_check.specs.Rules.{broken_in}
@@ -24,7 +23,7 @@ use Rattle.idl_check.proofs.Needed.{each_one}
 use Rattle.idl_check.proofs.Kept.{neither, fails}
 use Rattle.idl_check.proofs.Among.{Each, each_left}
 use Rattle.idl_check.proofs.Whole.{NamesKeep, lone, switch_of}
-use Rattle.idl_check.proofs.Scenes.{IsKept, There, Passes, BodyThere, keeps_there, beside_there, names_there, declarator_needed}
+use Rattle.idl_check.proofs.Scenes.{IsKept, There, Passes, keeps_there, beside_there, names_there, declarator_needed}
 
 -- the type of a union's tag
 pub record KeptTag (s : Scene) (b : Body) : Type 0 where

@@ -1,5 +1,5 @@
 -- What stands beside the bodies and the operations of files, with the same names.
-use Rattle.std.proofs.Common.{◌≡◌, ℕ, ◌+◌, Bool, true, false, ◌⊎◌, inl, inr, List, [], ◌∷◌, ◌++◌, map, length, Option, Some, None, refl, sym, ap, arith, ◌∙◌, subst}
+use Rattle.std.proofs.Common.{◌≡◌, ℕ, ◌+◌, Bool, true, false, inl, inr, List, [], ◌∷◌, ◌++◌, map, length, Option, Some, None, refl, sym, ap, arith, ◌∙◌, subst}
 use Rattle.std.specs.Prelude.{eqb}
 use Rattle.std.specs.List.{flat_map}
 use Rattle.idl_grammar.specs.declared.types.SwitchType.{SwitchType}
@@ -14,8 +14,8 @@ use Rattle.idl_check.specs.World.{World}
 use Rattle.idl_check.specs.Attributes.{switch_type_in}
 use Rattle.idl_check.specs.Nodes.{Construct, Position, InTypedef, InTaggedType, InMember, InParameter, InArm, InCasedArm, InOperation, inside, Declared, declared, ArmLabel, Node, HeaderNode, AttributeNode, SwitchNode, TagNode, BodyNode, EnumeratorNode, LabelNode, EmptyArmNode, DeclaratorNode, ConstantNode, TypeNode, OperationNode, attribute_nodes, attribute_nodes_from, switch_node, switch_nodes, declared_members, declared_parameters, parameter_construct, declarator_nodes, labels_of, label_nodes, type_nodes, member_nodes, case_nodes, arms_nodes, arm_nodes, parameter_nodes, typedef_node, result_of, operation_nodes, export_nodes, header_of, file_nodes, nodes}
 use Rattle.idl_check.specs.Types.{IdlType, Names, type_of}
-use Rattle.idl_check.specs.Scene.{Scoped, Scene, scene_of, is_typedef, names_behind, scoped_from, parts_declared, tag_written}
-use Rattle.idl_check.proofs.Among.{Among, among_left, among_right, Sub, sub_left, sub_right, sub_join, sub_map, Each, each_join, each_at, each_made, each_map, each_every}
+use Rattle.idl_check.specs.Scene.{Scoped, scene_of, is_typedef, names_behind, scoped_from, parts_declared, tag_written}
+use Rattle.idl_check.proofs.Among.{Among, among_left, among_right, Sub, sub_left, sub_right, sub_join, sub_map, Each, each_join}
 
 -- ## What stands beside a node
 

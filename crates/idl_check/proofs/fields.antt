@@ -7,4 +7,5 @@ pub mod Counts
 pub mod Variables
 pub mod Parameters
 pub mod Limits
+pub mod Legal
 pub mod Facts

@@ -21,4 +21,3 @@ pub mod Texts
 pub mod SmallTexts
 pub mod Interfaces
 pub mod Kept
-pub mod LegalFields

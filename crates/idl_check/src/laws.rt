@@ -13,7 +13,6 @@ ghost use Rattle.idl_check.specs.Kept.{KeepsUse};
 ghost use Rattle.nd_types.specs.Legal.{IsLegal, refers_to_no_reference};
 ghost use Rattle.idl_check.specs.Numbering.{is_numbered, is_numbered_or_none, needed_types, number_of_type};
 ghost use Rattle.idl_check.specs.Meaning.{types_of, operations_of, definition, meaning};
-ghost use Rattle.idl_check.specs.LegalFields.{HasLegalFields};
 ghost use Rattle.idl_check.specs.Rules.{breach, breaches, breaches_in, breaches_of_use};
 ghost use Rattle.idl_check.specs.FirstBroken.{first_broken, IsLeast};
 ghost use Rattle.nd_types.specs.declared.interface.Interface.{Interface};
@@ -68,11 +67,6 @@ pub fn no_pointer_refers_to_a_reference()
 /// Where no rule is broken, the table has at most 4,096 types.
 pub fn types_are_few()
     ensures { (s : Scene) → breaches_in s ≡ [] → length (types_of s) ≤ TYPE_LIMIT }
-{}
-
-/// Where files break no rule, the fields and operations of their interface are legal.
-pub fn fields_and_operations_are_legal()
-    ensures { (w : World) → breaches w ≡ [] → HasLegalFields (types_of (scene_of w)) (operations_of (scene_of w)) }
 {}
 
 /// Files that break no rule mean a legal interface, whatever is known of their names; so do two texts.

@@ -10,7 +10,7 @@ use Rattle.idl_check.specs.World.{World}
 use Rattle.idl_check.specs.Scene.{scene_of}
 use Rattle.idl_check.specs.Rules.{breaches, breaches_in}
 use Rattle.idl_check.specs.Meaning.{types_of, operations_of}
-use Rattle.idl_check.specs.LegalFields.{HasLegalFields}
+use Rattle.idl_check.proofs.fields.Legal.{HasLegalFields}
 use Rattle.idl_check.proofs.fields.Fields.{every_field, every_param, all_operations}
 use Rattle.idl_check.proofs.fields.Counts.{ordered_fact, sized_fact, one_size_fact, conformant_sized_fact, varying_fact, varying_sized_fact, one_length_fact}
 use Rattle.idl_check.proofs.fields.Variables.{variables_fact, count_variables_fact, switched_fact, switches_fact, switch_variables_fact}

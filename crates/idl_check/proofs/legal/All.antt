@@ -1,12 +1,8 @@
 -- Files that break no rule mean a legal interface.
-use Rattle.std.proofs.Common.{◌≡◌, [], true}
-use Rattle.std.specs.Prelude.{nat_le}
-use Rattle.std.specs.List.{list_all}
-use Rattle.nd_types.specs.declared.TheConstants.{ELEMENT_LIMIT}
-use Rattle.nd_types.specs.Legal as legal
+use Rattle.std.proofs.Common.{◌≡◌, []}
 use Rattle.nd_types.specs.Legal.{IsLegal}
 use Rattle.idl_check.specs.World.{World}
-use Rattle.idl_check.specs.Scene.{Scene, scene_of}
+use Rattle.idl_check.specs.Scene.{scene_of}
 use Rattle.idl_check.specs.Rules.{breaches}
 use Rattle.idl_check.specs.Meaning.{types_of, operations_of}
 use Rattle.idl_check.proofs.Referents.{table_referents}

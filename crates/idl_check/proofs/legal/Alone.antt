@@ -1,11 +1,8 @@
 -- Pipes, context handles and non-encapsulated unions stand in the table only where they may.
-use Rattle.std.proofs.Common.{◌≡◌, ℕ, Bool, true, false, not, ◌||◌, ◌&&◌, List, [], ◌∷◌, ◌++◌, map, Option, Some, None, ℤ, refl, sym, ap, ◌∙◌, subst}
+use Rattle.std.proofs.Common.{◌≡◌, ℕ, Bool, true, false, not, ◌||◌, ◌&&◌, List, [], ◌∷◌, ◌++◌, Option, Some, None, refl, sym, ap, ◌∙◌, subst}
 use Rattle.std.specs.List.{list_any, list_all}
-use Rattle.nd_types.specs.declared.types.TypeId.{TypeId}
 use Rattle.nd_types.specs.declared.types.Field.{Field}
-use Rattle.nd_types.specs.declared.types.Arm as arm
 use Rattle.nd_types.specs.declared.types.TypeDef.{TypeDef}
-use Rattle.nd_types.specs.declared.types.TypeDef.TheVariants as def
 use Rattle.nd_types.specs.Table.{Table, type_at}
 use Rattle.nd_types.specs.Layout as layout
 use Rattle.nd_types.specs.Kinds as kinds
@@ -15,25 +12,25 @@ use Rattle.idl_grammar.specs.declared.attributes.PointerClass.TheVariants as cla
 use Rattle.idl_grammar.specs.Tree.{TypeSpec}
 use Rattle.idl_grammar.specs.Tree as tree
 use Rattle.idl_check.specs.Attributes.{has, switch_is_word}
-use Rattle.idl_check.specs.Nodes.{Construct, Position, InHeader, InTypedef, InTaggedType, InMember, InParameter, InArm, InCasedArm, InOperation, Declared, BodyNode}
+use Rattle.idl_check.specs.Nodes.{Position, InHeader, InTypedef, InTaggedType, InMember, InParameter, InArm, InCasedArm, InOperation, Declared}
 use Rattle.idl_check.specs.Types.{IdlType, Void, Handle, ContextHandle, Basic, Struct, Union, Enum, Array, Text, Pointer, Pipe, Names, type_of, is_pipe, is_context, is_pointer}
 use Rattle.idl_check.specs.Scene.{Scene, Use, use_of, Body, body_of, parts_declared, chain, below, is_nonencapsulated, is_found_nonencapsulated}
-use Rattle.idl_check.specs.TypeRules.{below_reference, without_pipe, holds_pipe, holds_context_handle}
+use Rattle.idl_check.specs.TypeRules.{below_reference, without_pipe}
 use Rattle.idl_check.specs.ArrayRules.{is_arm}
-use Rattle.idl_check.specs.VariableRules.{may_be_switched, is_switched, below_pointer, is_switched_place, without_union, holds_nonencapsulated_union}
+use Rattle.idl_check.specs.VariableRules.{may_be_switched, is_switched, below_pointer, is_switched_place}
 use Rattle.idl_check.specs.Kept.{KeepsUse}
 use Rattle.idl_check.specs.Numbering.{own_types, same_type, number_of_type, is_numbered}
 use Rattle.idl_check.specs.Meaning.{definition, types_of, struct_of, defined_by, body_if, defined_at, is_struct, is_union, is_enum}
 use Rattle.idl_check.proofs.Numbers.{at_its_number}
 use Rattle.idl_check.proofs.Needed.{conjunction}
-use Rattle.idl_check.proofs.KeptTypes.{none_of, all_own_good}
+use Rattle.idl_check.proofs.KeptTypes.{all_own_good}
 use Rattle.idl_check.proofs.Inner.{neither_one, further}
 use Rattle.idl_check.proofs.Referents.{untrue}
 use Rattle.idl_check.proofs.Among.{Each, each_at, each_join, each_then, each_all}
-use Rattle.idl_check.proofs.Scenes.{IsKept, There, BodyThere, KeptPart, kept_parts, part_numbered, is_part, own_fact, is_made, inner_there, Fact, table_all}
+use Rattle.idl_check.proofs.Scenes.{IsKept, BodyThere, KeptPart, kept_parts, part_numbered, is_part, own_fact, is_made, inner_there, table_all}
 use Rattle.idl_check.proofs.Parts.{PartNumber, body_parts}
 use Rattle.idl_check.proofs.legal.Known.{tag_each, body_points}
-use Rattle.idl_check.proofs.legal.Places.{NoTag, tag_none, arms_each, IsArm}
+use Rattle.idl_check.proofs.legal.Places.{NoTag, tag_none, arms_each}
 
 -- what holds of the number of each member and arm that breaks no rule
 pub parts_each : (s : Scene) → IsKept s → (P : ℕ → Type 0) → ((names : Names) (d : Declared) → KeptPart s names d → P (number_of_type s (type_of s.known names d))) → (b : Body) → BodyThere s b

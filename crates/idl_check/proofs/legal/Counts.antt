@@ -1,5 +1,5 @@
 -- The counts of arrays and texts in the table.
-use Rattle.std.proofs.Common.{◌≡◌, ℕ, zero, suc, ◌+◌, ◌*◌, ◌≤◌, Bool, true, false, not, ◌||◌, ◌&&◌, ◌⊎◌, inl, inr, List, [], ◌∷◌, ◌++◌, map, Option, Some, None, ℤ, refl, sym, ap, arith, ◌∙◌, subst}
+use Rattle.std.proofs.Common.{◌≡◌, ℕ, zero, suc, ◌*◌, ◌≤◌, Bool, true, false, not, ◌||◌, ◌&&◌, List, [], ◌∷◌, Option, Some, None, ℤ, refl, sym, ap, arith, ◌∙◌, subst}
 use Rattle.std.specs.Prelude.{pos, negsuc, ◌*ℤ◌, int_le, nat_le, is_none}
 use Rattle.std.specs.List.{list_any, list_all, flat_map}
 use Rattle.std.proofs.lemmas.List.Folds.{list_all-append, list_all-map}
@@ -11,7 +11,7 @@ use Rattle.nd_types.specs.declared.types.Field.{Field}
 use Rattle.nd_types.specs.declared.types.TypeDef.{TypeDef}
 use Rattle.nd_types.specs.declared.types.TypeDef.TheVariants as def
 use Rattle.nd_types.specs.declared.types.Primitive.TheVariants as primitive
-use Rattle.nd_types.specs.Table.{Table, type_at}
+use Rattle.nd_types.specs.Table.{Table}
 use Rattle.nd_types.specs.Kinds as kinds
 use Rattle.nd_types.specs.Legal as legal
 use Rattle.idl_grammar.specs.declared.attributes.PointerClass.{PointerClass}
@@ -24,9 +24,9 @@ use Rattle.idl_grammar.specs.Tree.{Attribute, Bound, TypeSpec}
 use Rattle.idl_grammar.specs.Tree as tree
 use Rattle.idl_names.specs.Known.{Known}
 use Rattle.idl_check.specs.Attributes.{has, has_one_of, sizes, lengths, string_word}
-use Rattle.idl_check.specs.Nodes.{Construct, Declared, Node, HeaderNode, AttributeNode, SwitchNode, TagNode, BodyNode, EnumeratorNode, LabelNode, EmptyArmNode, DeclaratorNode, ConstantNode, TypeNode, OperationNode}
-use Rattle.idl_check.specs.Types.{IdlType, Void, Handle, ContextHandle, Basic, Struct, Union, Enum, Array, Text, Pointer, Pipe, Names, type_of, is_array, is_text, is_conformant_text, is_varying_array, simple_type, tagged_type, written_type, count_of, with_stars, with_dimensions, with_declarator, outermost_class, text_of, sized, pointee_with, array_with, with_attributes, pipe_or_plain, type_before, declared_from, declared_type, is_context_handle}
-use Rattle.idl_check.specs.Scene.{Scoped, Scene, Use, use_of, Body, body_of, chain, type_of_body, hoists}
+use Rattle.idl_check.specs.Nodes.{Declared, Node, HeaderNode, AttributeNode, SwitchNode, TagNode, BodyNode, EnumeratorNode, LabelNode, EmptyArmNode, DeclaratorNode, ConstantNode, TypeNode, OperationNode}
+use Rattle.idl_check.specs.Types.{IdlType, Void, Handle, ContextHandle, Basic, Struct, Union, Enum, Array, Text, Pointer, Pipe, Names, type_of, is_array, is_text, is_conformant_text, is_varying_array, simple_type, tagged_type, written_type, with_stars, with_dimensions, with_declarator, outermost_class, text_of, sized, with_attributes, pipe_or_plain, type_before, declared_from, declared_type, is_context_handle}
+use Rattle.idl_check.specs.Scene.{Scoped, Scene, use_of, Body, body_of, chain, type_of_body, hoists}
 use Rattle.idl_check.specs.ArrayRules.{dimensions, is_few, is_right_count, times, product, has_wrong_count, are_many, has_many_not_fixed, has_wrong_element}
 use Rattle.idl_check.specs.VariableRules.{is_octet, may_be_text}
 use Rattle.idl_check.specs.Kept.{KeepsUse}
@@ -38,9 +38,9 @@ use Rattle.idl_check.proofs.Equal.{both}
 use Rattle.idl_check.proofs.KeptTypes.{none_of, all_are, all_first, is_good, IsOfDerived, one_good, built_good, tag_good, body_good, all_own_good}
 use Rattle.idl_check.proofs.Inner.{neither_one, further}
 use Rattle.idl_check.proofs.Referents.{untrue}
-use Rattle.idl_check.proofs.Among.{Among, Each, each_made}
-use Rattle.idl_check.proofs.Whole.{NamesKeep, Declares, scope}
-use Rattle.idl_check.proofs.Scenes.{IsKept, There, Passes, use_there, names_there, own_fact, is_made, inner_there, Fact, table_all}
+use Rattle.idl_check.proofs.Among.{Each, each_made}
+use Rattle.idl_check.proofs.Whole.{NamesKeep, Declares}
+use Rattle.idl_check.proofs.Scenes.{IsKept, There, Passes, use_there, names_there, own_fact, is_made, inner_there, table_all}
 use Rattle.idl_check.proofs.Tags.{named_keeps, no_not}
 use Rattle.idl_check.proofs.legal.Known.{numbers_all}
 use Rattle.idl_check.proofs.legal.Places.{NoTag, tag_none}

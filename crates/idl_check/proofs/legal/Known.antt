@@ -1,18 +1,17 @@
 -- The table begins with the basic types, names only types that it has, nests no deeper than the limit, and its tags are of types that tags may have.
-use Rattle.std.proofs.Common.{◌≡◌, ℕ, zero, suc, ◌+◌, Bool, true, false, not, ◌||◌, ◌&&◌, ◌⊎◌, inl, inr, List, [], ◌∷◌, ◌++◌, map, length, Option, Some, None, refl, sym, ap, arith, ◌∙◌, subst}
+use Rattle.std.proofs.Common.{◌≡◌, ℕ, suc, ◌+◌, Bool, true, false, not, ◌&&◌, List, [], ◌∷◌, ◌++◌, map, length, Option, Some, None, refl, sym, ap, arith, ◌∙◌, subst}
 use Rattle.std.specs.Prelude.{drop}
 use Rattle.std.specs.List.{list_any, list_all, slice_get, starts_with, enumerate_from}
 use Rattle.nd_types.specs.declared.TheConstants.{NESTING_LIMIT}
 use Rattle.nd_types.specs.declared.types.Field.{Field}
 use Rattle.nd_types.specs.declared.types.TypeDef.{TypeDef}
-use Rattle.nd_types.specs.declared.types.TypeDef.TheVariants as def
 use Rattle.nd_types.specs.Table.{Table, type_at}
 use Rattle.nd_types.specs.Layout as layout
 use Rattle.nd_types.specs.Kinds.{basic_types, is_basic, is_same_basic, is_switch_type}
 use Rattle.nd_types.specs.Legal.{type_numbers, tag_of, pointee_of, named_types, is_in_table, has_member, is_shallow, has_switch_tag}
 use Rattle.idl_grammar.specs.Tree.{TypeSpec}
 use Rattle.idl_grammar.specs.Tree as tree
-use Rattle.idl_check.specs.Nodes.{Construct, Node, BodyNode}
+use Rattle.idl_check.specs.Nodes.{Construct, BodyNode}
 use Rattle.idl_check.specs.Types.{IdlType, Void, Handle, ContextHandle, Basic, Struct, Union, Enum, Array, Text, Pointer, Pipe, Names}
 use Rattle.idl_check.specs.Scene.{Scene, Body, body_of, place_of, type_of_body, parts_of, parts_of_found, tag_type, nests}
 use Rattle.idl_check.specs.Rules.{broken_in}
@@ -20,16 +19,16 @@ use Rattle.idl_check.specs.DeclarationRules.{lacks_switch_type}
 use Rattle.idl_check.specs.TypeRules.{contains_itself, is_deep_body, is_too_deep, is_made_of_elements}
 use Rattle.idl_check.specs.VariableRules.{may_be_switched}
 use Rattle.idl_check.specs.Numbering.{own_types, same_type, number_of_type, is_numbered}
-use Rattle.idl_check.specs.Meaning.{definition, types_of, struct_of, defined_by, body_if, defined_at, is_union, is_enum, or_handle}
+use Rattle.idl_check.specs.Meaning.{definition, types_of, struct_of, defined_by, body_if, defined_at, is_enum, or_handle}
 use Rattle.idl_check.proofs.Needed.{conjunction}
 use Rattle.idl_check.proofs.Equal.{both}
 use Rattle.idl_check.proofs.Numbers.{at_its_number}
 use Rattle.idl_check.proofs.Kept.{neither, fails}
 use Rattle.idl_check.proofs.KeptTypes.{all_own_good}
-use Rattle.idl_check.proofs.Referents.{inner_of, untrue}
+use Rattle.idl_check.proofs.Referents.{untrue}
 use Rattle.idl_check.proofs.Among.{Each, each_at, each_join, each_then, all_each, each_all}
-use Rattle.idl_check.proofs.Scenes.{IsKept, There, BodyThere, keeps_there, own_fact, is_made, inner_there, number_in, Fact, own_all, table_all}
-use Rattle.idl_check.proofs.Parts.{Held, body_held, struct_parts, nests_there}
+use Rattle.idl_check.proofs.Scenes.{IsKept, There, BodyThere, keeps_there, own_fact, is_made, inner_there, number_in, own_all, table_all}
+use Rattle.idl_check.proofs.Parts.{Held, body_held, nests_there}
 use Rattle.idl_check.proofs.Tags.{KeptTag, kept_tag, no_not}
 
 -- ## Basic types

@@ -1,7 +1,7 @@
 -- What stands in arrays, pipes, structs and unions of the table.
-use Rattle.std.proofs.Common.{◌≡◌, ℕ, zero, suc, ◌+◌, Bool, true, false, not, ◌||◌, ◌&&◌, ◌⊎◌, inl, inr, List, [], ◌∷◌, ◌++◌, map, length, Option, Some, None, ℤ, refl, sym, ap, arith, ◌∙◌, subst}
+use Rattle.std.proofs.Common.{◌≡◌, ℕ, zero, suc, ◌+◌, Bool, true, false, not, ◌||◌, ◌&&◌, List, [], ◌∷◌, map, length, Option, Some, None, ℤ, refl, ap, arith, ◌∙◌, subst}
 use Rattle.std.specs.Prelude.{ltb, is_none}
-use Rattle.std.specs.List.{list_any, list_all, flat_map}
+use Rattle.std.specs.List.{list_all}
 use Rattle.std.proofs.lemmas.Bool.{lt-ltb}
 use Rattle.nd_types.specs.declared.types.TypeId.{TypeId}
 use Rattle.nd_types.specs.declared.types.Field.{Field}
@@ -18,20 +18,19 @@ use Rattle.idl_grammar.specs.declared.types.Discriminant.{Discriminant}
 use Rattle.idl_grammar.specs.declared.words.Spelling.{Spelling}
 use Rattle.idl_grammar.specs.Tree as tree
 use Rattle.nd_base.specs.declared.octets.Place.{Place}
-use Rattle.idl_check.specs.Nodes.{Construct, Position, InHeader, InTypedef, InTaggedType, InMember, InParameter, InArm, InCasedArm, InOperation, inside, Declared, declared, Node, BodyNode, declared_members, declarator_nodes}
+use Rattle.idl_check.specs.Nodes.{Construct, InMember, inside, Declared, declared, BodyNode, declared_members, declarator_nodes}
 use Rattle.idl_check.specs.Types.{IdlType, Void, Handle, ContextHandle, Basic, Struct, Union, Enum, Array, Text, Pointer, Pipe, Names, type_of, is_text, is_varying_array}
-use Rattle.idl_check.specs.Scene.{Scene, Use, use_of, Body, body_of, parts_declared, parts_of_found, in_place, nests, last_passes, hoists_within, hoists}
-use Rattle.idl_check.specs.ArrayRules.{has_wrong_element, is_member, is_arm, hoists_before_last, is_hoisting_arm, is_barred_by, is_barred_within, is_barred_in_pipes, is_wrong_pipe}
-use Rattle.idl_check.specs.Numbering.{own_types, same_type, number_of_type, is_numbered}
+use Rattle.idl_check.specs.Scene.{Scene, use_of, Body, body_of, parts_declared, parts_of_found, in_place, nests, last_passes, hoists_within, hoists}
+use Rattle.idl_check.specs.ArrayRules.{has_wrong_element, is_member, is_arm, is_barred_by, is_barred_within, is_barred_in_pipes, is_wrong_pipe}
+use Rattle.idl_check.specs.Numbering.{own_types, number_of_type, is_numbered}
 use Rattle.idl_check.specs.Meaning.{definition, types_of, number, bound, field, struct_of, defined_by, body_if, defined_at, is_struct, is_union, is_enum}
 use Rattle.idl_check.proofs.Numbers.{at_its_number}
 use Rattle.idl_check.proofs.Needed.{conjunction}
 use Rattle.idl_check.proofs.Equal.{both}
 use Rattle.idl_check.proofs.KeptTypes.{none_of, all_own_good}
-use Rattle.idl_check.proofs.Inner.{neither_one}
 use Rattle.idl_check.proofs.Referents.{untrue}
-use Rattle.idl_check.proofs.Among.{Among, Each, each_at, each_join, each_then, each_made, all_each, each_all, none_each}
-use Rattle.idl_check.proofs.Scenes.{IsKept, There, BodyThere, KeptPart, kept_parts, part_numbered, use_there, beside_there, found_there, own_fact, is_made, inner_there, Fact, table_all}
+use Rattle.idl_check.proofs.Among.{Each, each_at, each_join, each_then, all_each, each_all, none_each}
+use Rattle.idl_check.proofs.Scenes.{IsKept, There, BodyThere, KeptPart, kept_parts, part_numbered, use_there, beside_there, found_there, own_fact, is_made, inner_there, table_all}
 use Rattle.idl_check.proofs.Parts.{Held, PartNumber, body_parts, holds}
 use Rattle.idl_check.proofs.legal.Known.{not_deep}
 

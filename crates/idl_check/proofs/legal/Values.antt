@@ -1,5 +1,5 @@
 -- The values of enumerators and labels in the table.
-use Rattle.std.proofs.Common.{◌≡◌, ℕ, Bool, true, false, not, ◌||◌, ◌&&◌, ◌⊎◌, inl, inr, List, [], ◌∷◌, ◌++◌, map, Option, Some, None, ℤ, refl, sym, ap, ◌∙◌, subst}
+use Rattle.std.proofs.Common.{◌≡◌, ℕ, Bool, true, false, not, ◌||◌, ◌&&◌, inl, List, [], ◌∷◌, ◌++◌, map, Option, Some, None, ℤ, refl, sym, ap, ◌∙◌, subst}
 use Rattle.std.specs.Prelude.{pos, int_le}
 use Rattle.std.specs.Ordering.{int_eq}
 use Rattle.std.specs.List.{list_any, list_all, flat_map}
@@ -9,31 +9,29 @@ use Rattle.nd_types.specs.declared.TheConstants.{ENUMERATOR_LIMIT}
 use Rattle.nd_types.specs.declared.types.TypeId.{TypeId}
 use Rattle.nd_types.specs.declared.types.Field.{Field}
 use Rattle.nd_types.specs.declared.types.Arm as arm
-use Rattle.nd_types.specs.declared.types.TypeDef.{TypeDef}
 use Rattle.nd_types.specs.declared.types.TypeDef.TheVariants as def
 use Rattle.nd_types.specs.Table.{Table, type_at, is_value}
 use Rattle.nd_types.specs.Legal.{has_small_values, has_tag_labels, has_distinct_labels}
-use Rattle.idl_grammar.specs.declared.words.Spelling.{Spelling}
 use Rattle.idl_grammar.specs.Tree.{TypeSpec, Enumerator}
 use Rattle.idl_grammar.specs.Tree as tree
 use Rattle.idl_names.specs.Known.{Known}
 use Rattle.idl_check.specs.World as world
-use Rattle.idl_check.specs.Nodes.{Construct, Node, EnumeratorNode, LabelNode, BodyNode, ArmLabel, LabelledArm, arms_of, labels_of, label_nodes}
+use Rattle.idl_check.specs.Nodes.{Construct, EnumeratorNode, LabelNode, BodyNode, ArmLabel, LabelledArm, arms_of, labels_of, label_nodes}
 use Rattle.idl_check.specs.Types.{IdlType, Void, Handle, ContextHandle, Basic, Struct, Union, Enum, Array, Text, Pointer, Pipe, Names}
-use Rattle.idl_check.specs.Scene.{Scene, Body, body_of, tag_type, enumerators_of, enumerators_found, parts_declared}
+use Rattle.idl_check.specs.Scene.{Scene, Body, body_of, tag_type, enumerators_found, parts_declared}
 use Rattle.idl_check.specs.Rules.{broken_at}
 use Rattle.idl_check.specs.ValueRules.{is_small, is_large_enumerator, same_value, label_value, is_repeated_label, is_value_of, is_label_of, is_bad_label}
 use Rattle.idl_check.specs.VariableRules.{may_be_switched}
-use Rattle.idl_check.specs.Numbering.{number_of_type, is_numbered}
+use Rattle.idl_check.specs.Numbering.{number_of_type}
 use Rattle.idl_check.specs.Meaning.{definition, types_of, struct_of, defined_by, body_if, defined_at, is_union, is_enum, or_zero, or_handle, number, arm_by, labelled_arms, default_arm}
 use Rattle.idl_check.proofs.Numbers.{at_its_number}
 use Rattle.idl_check.proofs.Needed.{conjunction, right}
 use Rattle.idl_check.proofs.KeptTypes.{none_of}
 use Rattle.idl_check.proofs.Inner.{neither_one}
 use Rattle.idl_check.proofs.Referents.{left}
-use Rattle.idl_check.proofs.Among.{Among, among_left, among_right, Each, each_at, each_left, each_right, each_flat, each_then, each_map, each_unflat, each_all, none_each, flat_join}
+use Rattle.idl_check.proofs.Among.{Among, among_left, among_right, Each, each_at, each_left, each_right, each_flat, each_then, each_unflat, each_all, none_each, flat_join}
 use Rattle.idl_check.proofs.Whole.{lone, switch_of, enumerator_nodes}
-use Rattle.idl_check.proofs.Scenes.{IsKept, There, BodyThere, keeps_there, beside_there, is_made, Fact, table_all}
+use Rattle.idl_check.proofs.Scenes.{IsKept, There, keeps_there, beside_there, is_made, table_all}
 use Rattle.idl_check.proofs.Tags.{KeptTag, kept_tag, no_not}
 
 fails_at : (c : Construct) (rule at : ℕ) (b : Bool) → broken_at c rule at b ≡ [] → b ≡ false
