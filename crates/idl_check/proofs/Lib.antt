@@ -18,3 +18,10 @@ pub mod Fronts
 pub mod KindLists
 pub mod PlaceLists
 pub mod NameLists
+mod fields
+mod Among
+mod Whole
+mod Scenes
+mod Parts
+mod Tags
+mod legal
