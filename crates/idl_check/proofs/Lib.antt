@@ -8,3 +8,4 @@ mod KeptTypes
 mod Inner
 mod Referents
 mod Few
+pub mod Adding

@@ -22,3 +22,4 @@ pub mod SmallTexts
 pub mod Interfaces
 pub mod Kept
 pub mod SeenNodes
+pub mod Growing

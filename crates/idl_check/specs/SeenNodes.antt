@@ -1,6 +1,7 @@
 -- The nodes of the program as those of the rules.
-use Rattle.std.specs.Prelude.{ℕ, List, [], ◌∷◌, map, Option, Some, None, Vec}
+use Rattle.std.specs.Prelude.{ℕ, List, [], ◌∷◌, map, Option, Some, None, option_map, Vec}
 use Rattle.std.specs.List.{flat_map, slice_get}
+use Rattle.std.specs.declared.alloc.Global.{Global}
 use Rattle.idl_grammar.specs.Seen.{seen_attribute, seen_declarator, seen_type, seen_init}
 use Rattle.idl_check.specs.declared.nodes.Position.{Position}
 use Rattle.idl_check.specs.declared.nodes.Position.TheVariants as position
@@ -33,16 +34,20 @@ seen_declared d = record { construct = seen_construct d.construct; is_pipe = d.p
 abbrev pub seen_result : returned.Returned → Declared
 seen_result r = rules.result_of (seen_construct r.construct) (seen_type r.of.now) r.name.now
 
-abbrev or_empty : Option (Vec declared.Declared) → List Declared
-or_empty (Some list) = map seen_declared list.items
+-- the list of a number, where there is one
+abbrev pub list_found : List (Vec declared.Declared Global) → ℕ → Option (List Declared)
+list_found lists n = option_map (λ v. map seen_declared v.items) (slice_get lists n)
+
+abbrev pub or_empty : Option (List Declared) → List Declared
+or_empty (Some list) = list
 or_empty None = []
 
 -- a list by its number
-abbrev pub list_at : List (Vec declared.Declared) → ℕ → List Declared
-list_at lists n = or_empty (slice_get lists n)
+abbrev pub list_at : List (Vec declared.Declared Global) → ℕ → List Declared
+list_at lists n = or_empty (list_found lists n)
 
 -- the nodes for which one of the program stands
-abbrev pub seen_node : List (Vec declared.Declared) → program_node.Node → List Node
+abbrev pub seen_node : List (Vec declared.Declared Global) → program_node.Node → List Node
 seen_node lists (node.Header c) = rules.HeaderNode (seen_construct c) c.at ∷ []
 seen_node lists (node.Attributes c) = rules.attribute_nodes (seen_construct c)
 seen_node lists (node.Switch c of) = rules.SwitchNode (seen_construct c) of.now ∷ []

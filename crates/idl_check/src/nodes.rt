@@ -1,10 +1,14 @@
 // All that a rule may speak of, as one list in the order of the text.
-ghost use Rattle.std.specs.Prelude.{◌≡◌};
-ghost use Rattle.idl_check.specs.Nodes.{place_in};
-ghost use Rattle.idl_check.specs.SeenNodes.{seen_construct};
+ghost use Rattle.std.specs.Prelude.{◌≡◌, ◌+◌, [], map, option_map, Some, None, IfOk, OnOk};
+ghost use Rattle.idl_grammar.specs.Seen.{seen_attributes, seen_type, seen_declarator};
+ghost use Rattle.idl_check.specs.Nodes.{place_in, inside, declared};
+ghost use Rattle.idl_check.specs.SeenNodes.{seen_construct, seen_position, seen_declared, list_found};
+ghost use Rattle.idl_check.specs.Growing.{Adds, Pushes};
 
-use idl_grammar::{Attribute, Declarator, Enumerator, Init, PointerClass, SimpleType, Spelling, SwitchType, TagKind, TypeSpec};
-use nd_base::Place;
+use crate::attributes::attribute_list;
+use idl_grammar::{Attribute, Attributes, Declarator, Enumerator, Init, PointerClass, SimpleType, Spelling, SwitchType, TagKind, TypeSpec};
+use nd_base::{Memory, Place};
+use std::alloc::Global;
 
 /// Where something stands.
 #[derive(Clone, Copy, Debug, PartialEq, Eq)]
@@ -124,5 +128,88 @@ impl<'t> Construct<'t> {
         ensures { result ≡ place_in (seen_construct self.now) at }
     {
         Place { file: self.file, at }
+    }
+    /// A construct in the same file.
+    pub(crate) fn inside(
+        &self,
+        position: Position,
+        at: u32,
+        attributes: &'t Option<Attributes>,
+    ) -> Construct<'t>
+        ensures { seen_construct result ≡ inside (seen_construct self.now) (seen_position position) at (option_map seen_attributes attributes.now) }
+    {
+        Construct {
+            file: self.file,
+            position,
+            at,
+            attributes: attribute_list(attributes),
+            default: self.default,
+        }
+    }
+
+    /// A construct without attributes in the same file.
+    pub(crate) fn without_attributes(&self, position: Position, at: u32) -> Construct<'t>
+        ensures { seen_construct result ≡ inside (seen_construct self.now) (seen_position position) at None }
+    {
+        Construct {
+            file: self.file,
+            position,
+            at,
+            attributes: &[],
+            default: self.default,
+        }
+    }
+
+    /// A name that is declared for a type there.
+    pub(crate) fn declared(&self, of: &'t TypeSpec, declarator: &'t Declarator) -> Declared<'t>
+        ensures { seen_declared result ≡ declared (seen_construct self.now) (seen_type of.now) (seen_declarator declarator.now) }
+    {
+        Declared {
+            construct: *self,
+            pipe: false,
+            of,
+            declarator,
+        }
+    }
+}
+
+impl<'t> Nodes<'t> {
+    /// No nodes, and the empty list. Takes memory for this list's entry.
+    pub(crate) fn new(alloc: Global) -> Result<Nodes<'t>, Memory>
+        ensures none { IfOk result (λ n. n.items.items ≡ []) }
+        ensures empty { IfOk result (λ n. list_found n.lists.items 0 ≡ Some []) }
+    {
+        let mut lists = Vec::new(alloc);
+        match lists.push(Vec::new(alloc)) {
+            Ok(()) => Ok(Nodes {
+                items: Vec::new(alloc),
+                lists,
+            }),
+            Err(_) => Err(Memory),
+        }
+    }
+
+    /// Adds a node. Takes memory for its entry.
+    pub(crate) fn push(&mut self, node: Node<'t>) -> Result<(), Memory>
+        ensures { OnOk result (Pushes self.old self.new node.entry) }
+    {
+        match self.items.push(node) {
+            Ok(()) => Ok(()),
+            Err(_) => Err(Memory),
+        }
+    }
+
+    /// Adds a list, and gives its number. Takes memory for its entry.
+    pub(crate) fn push_list(&mut self, list: Vec<Declared<'t>>) -> Result<u32, Memory>
+        ensures adds { OnOk result (Adds self.old self.new []) }
+        ensures number { IfOk result (λ n. list_found self.new.lists.items n ≡ Some (map seen_declared list.entry.items)) }
+    {
+        let Ok(number) = u32::try_from(self.lists.len()) else {
+            return Err(Memory);
+        };
+        match self.lists.push(list) {
+            Ok(()) => Ok(number),
+            Err(_) => Err(Memory),
+        }
     }
 }
