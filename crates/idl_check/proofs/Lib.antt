@@ -9,3 +9,6 @@ mod Inner
 mod Referents
 mod Few
 pub mod Adding
+pub mod Gathering
+pub mod Rests
+pub mod Bodies

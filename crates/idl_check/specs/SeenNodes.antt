@@ -2,7 +2,7 @@
 use Rattle.std.specs.Prelude.{ℕ, List, [], ◌∷◌, map, Option, Some, None, option_map, Vec}
 use Rattle.std.specs.List.{flat_map, slice_get}
 use Rattle.std.specs.declared.alloc.Global.{Global}
-use Rattle.idl_grammar.specs.Seen.{seen_attribute, seen_declarator, seen_type, seen_init}
+use Rattle.idl_grammar.specs.Seen.{seen_attribute, seen_declarator, seen_enumerator, seen_type, seen_init}
 use Rattle.idl_check.specs.declared.nodes.Position.{Position}
 use Rattle.idl_check.specs.declared.nodes.Position.TheVariants as position
 use Rattle.idl_check.specs.declared.nodes.Construct as program
@@ -53,7 +53,7 @@ seen_node lists (node.Attributes c) = rules.attribute_nodes (seen_construct c)
 seen_node lists (node.Switch c of) = rules.SwitchNode (seen_construct c) of.now ∷ []
 seen_node lists (node.Tag c kind tag) = rules.TagNode (seen_construct c) kind tag.now ∷ []
 seen_node lists (node.Body c body) = rules.BodyNode (seen_construct c) (seen_type body.now) ∷ []
-seen_node lists (node.Enumerators c list) = map (λ e. rules.EnumeratorNode (seen_construct c) e.name) list.now
+seen_node lists (node.Enumerators c list) = map (λ e. rules.EnumeratorNode (seen_construct c) e.name) (map seen_enumerator list.now)
 seen_node lists (node.Labels c body) = rules.label_nodes (seen_construct c) (seen_type body.now) [] (rules.labels_of (seen_type body.now))
 seen_node lists (node.EmptyArm c) = rules.EmptyArmNode (seen_construct c) ∷ []
 seen_node lists (node.Declarator list index it) = rules.DeclaratorNode (list_at lists list) index (seen_declared it) ∷ []
