@@ -8,7 +8,7 @@ use Rattle.idl_check.specs.declared.nodes.Declared as declared
 use Rattle.idl_check.specs.declared.nodes.Node as program_node
 use Rattle.idl_check.specs.declared.nodes.Nodes.{Nodes}
 use Rattle.idl_check.specs.Nodes.{Declared, Node}
-use Rattle.idl_check.specs.SeenNodes.{seen_declared, seen_node, list_found, list_at, or_empty}
+use Rattle.idl_check.specs.SeenNodes.{seen_declared, seen_node, seen_nodes, list_found, list_at, or_empty}
 use Rattle.idl_check.specs.Growing.{Keeps, Pushes, Adds, AddsOf}
 
 abbrev pub Lists : Type 0
@@ -74,6 +74,12 @@ added_list a b v same e = record {
   lists = record { kept = λ n list h. subst (λ (l : Lists). list_found l n ≡ Some list) (sym e) (front a.lists.items (v ∷ []) n list h) };
   nodes = λ later k none. ap (λ (l : List program_node.Node). flat_map (seen_node later) l) same ∙ sym (append-nil (flat_map (seen_node later) a.items.items));
 }
+
+-- all that was added from nothing on
+pub all_seen : (a n : Nodes) (part : List Node) → a.items.items ≡ [] → list_found a.lists.items 0 ≡ Some [] → Adds a n part → seen_nodes n ≡ part
+all_seen a n part none empty x =
+    x.nodes n.lists.items (keeps_same n.lists.items n.lists.items refl) (ap or_empty (x.lists.kept 0 [] empty))
+    ∙ ap (λ (l : List program_node.Node). flat_map (seen_node n.lists.items) l ++ part) none
 
 -- ## Parts of a list
 

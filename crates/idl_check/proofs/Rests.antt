@@ -1,5 +1,5 @@
 -- What is declared, and the nodes, of the items that are left of the program's vectors.
-use Rattle.std.proofs.Common.{◌≡◌, ℕ, ◌+◌, Bool, refl, List, [], ◌∷◌, ◌++◌, length, map, option_map}
+use Rattle.std.proofs.Common.{◌≡◌, ℕ, ◌+◌, Bool, refl, List, [], ◌∷◌, ◌++◌, length, map, append_assoc, option_map}
 use Rattle.std.specs.List.{flat_map}
 use Rattle.idl_grammar.specs.declared.types.Member.{Member}
 use Rattle.idl_grammar.specs.declared.types.Case.{Case}
@@ -119,6 +119,14 @@ parameters_from c all s xs = nodes.parameter_nodes c all s (map seen.seen_parame
 
 abbrev pub one_parameter : Construct → List Declared → ℕ → Parameter → List Node
 one_parameter c all s x = one_parameter_nodes c s (seen.seen_parameter x) all
+
+pub parameters_cons : (c : Construct) (all : List Declared) (s : ℕ) (x : Parameter) (more : List Parameter)
+    → parameters_from c all s (x ∷ more) ≡ one_parameter c all s x ++ parameters_from c all (s + one_more x) more
+parameters_cons c all s x more = regroup (nodes.attribute_nodes (in_parameter c x)) (nodes.type_nodes (in_parameter c x) (seen.seen_type x.of))
+    (nodes.DeclaratorNode all s (nodes.declared (in_parameter c x) (seen.seen_type x.of) (seen.seen_declarator x.declarator))) (parameters_from c all (s + 1) more)
+  where
+    regroup : (a b : List Node) (x : Node) (l : List Node) → a ++ b ++ x ∷ l ≡ (a ++ b ++ (x ∷ [])) ++ l
+    regroup a b x l = simp append_assoc
 
 abbrev pub typedefs_from : Construct → Bool → TypeSpec → List Declarator → List Node
 typedefs_from c pipe type xs = map (nodes.typedef_node c pipe type) (map seen.seen_declarator xs)
