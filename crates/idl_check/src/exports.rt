@@ -214,13 +214,23 @@ fn exports<'t>(
 }
 
 /// A file.
-fn file<'t>(alloc: Global, nodes: &mut Nodes<'t>, file: &'t FileTree) -> Result<(), Memory>
+pub(crate) fn file<'t>(
+    alloc: Global,
+    nodes: &mut Nodes<'t>,
+    file: &'t FileTree,
+) -> Result<(), Memory>
     ensures { OnOk result (Adds nodes.old nodes.new (rules.file_nodes (seen_file file.now))) }
 {
     let header = header_of(file);
     nodes.push(Node::Header { construct: header })?;
     attributes(nodes, &header)?;
-    exports(alloc, nodes, file.file == 0, &header, file.tree.exports.as_slice())
+    exports(
+        alloc,
+        nodes,
+        file.file == 0,
+        &header,
+        file.tree.exports.as_slice(),
+    )
 }
 
 /// The nodes of all files. Takes memory for an entry of each node, and of each member and parameter.

@@ -5,6 +5,8 @@ mod attributes;
 mod exports;
 mod fault;
 pub mod laws;
+#[cfg(test)]
+mod node_tests;
 mod nodes;
 mod parts;
 mod walk;

@@ -6,7 +6,10 @@ ghost use Rattle.idl_check.specs.SeenNodes.{seen_construct, seen_position, seen_
 ghost use Rattle.idl_check.specs.Growing.{Adds, Pushes};
 
 use crate::attributes::attribute_list;
-use idl_grammar::{Attribute, Attributes, Declarator, Enumerator, Init, PointerClass, SimpleType, Spelling, SwitchType, TagKind, TypeSpec};
+use idl_grammar::{
+    Attribute, Attributes, Declarator, Enumerator, Init, PointerClass, SimpleType, Spelling,
+    SwitchType, TagKind, TypeSpec,
+};
 use nd_base::{Memory, Place};
 use std::alloc::Global;
 
@@ -57,9 +60,13 @@ pub(crate) struct Returned<'t> {
 #[derive(Clone, Copy)]
 pub(crate) enum Node<'t> {
     /// The header of a file.
-    Header { construct: Construct<'t> },
+    Header {
+        construct: Construct<'t>,
+    },
     /// The attributes of a construct.
-    Attributes { construct: Construct<'t> },
+    Attributes {
+        construct: Construct<'t>,
+    },
     /// A type that is to tell the arms of a union apart.
     Switch {
         construct: Construct<'t>,
@@ -87,7 +94,9 @@ pub(crate) enum Node<'t> {
         body: &'t TypeSpec,
     },
     /// An arm that holds nothing.
-    EmptyArm { construct: Construct<'t> },
+    EmptyArm {
+        construct: Construct<'t>,
+    },
     /// A declarator. A member or parameter is number `index` of its list; others have the empty list, which is number 0.
     Declarator {
         list: u32,
@@ -95,7 +104,9 @@ pub(crate) enum Node<'t> {
         it: Declared<'t>,
     },
     /// The result of an operation: its type as it stands, without attributes.
-    Result { it: Returned<'t> },
+    Result {
+        it: Returned<'t>,
+    },
     Constant {
         construct: Construct<'t>,
         of: SimpleType,
@@ -127,7 +138,10 @@ impl<'t> Construct<'t> {
     pub(crate) fn place(&self, at: u32) -> Place
         ensures { result ≡ place_in (seen_construct self.now) at }
     {
-        Place { file: self.file, at }
+        Place {
+            file: self.file,
+            at,
+        }
     }
     /// A construct in the same file.
     pub(crate) fn inside(
@@ -196,6 +210,16 @@ impl<'t> Nodes<'t> {
         match self.items.push(node) {
             Ok(()) => Ok(()),
             Err(_) => Err(Memory),
+        }
+    }
+
+    /// A list by its number, where there is one. Takes no memory.
+    pub(crate) fn list(&self, number: u32) -> Option<&[Declared<'t>]>
+        ensures { option_map (λ l. map seen_declared l.now) result ≡ list_found self.now.lists.items number }
+    {
+        match self.lists.get(number as usize) {
+            Some(list) => Some(list.as_slice()),
+            None => None,
         }
     }
 

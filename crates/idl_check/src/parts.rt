@@ -65,7 +65,10 @@ pub(crate) fn parameters_declared<'t>(
     let mut list = Vec::new(alloc);
     for parameter in parameters {
         let inner = construct.inside(Position::Parameter, parameter.at, &parameter.attributes);
-        add(&mut list, inner.declared(&parameter.of, &parameter.declarator))?;
+        add(
+            &mut list,
+            inner.declared(&parameter.of, &parameter.declarator),
+        )?;
     }
     Ok(list)
 }

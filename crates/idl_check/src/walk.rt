@@ -122,7 +122,10 @@ pub(crate) fn type_spec<'t>(
             labels(nodes, construct, of)?;
             arms(alloc, nodes, construct, list)
         }
-        TypeSpec::Enum { enumerators: list, .. } => {
+        TypeSpec::Enum {
+            enumerators: list,
+            ..
+        } => {
             body(nodes, construct, of)?;
             enumerators(nodes, construct, list.as_slice())
         }
@@ -262,7 +265,10 @@ fn arm<'t>(
     ensures { OnOk result (Adds nodes.old nodes.new (rules.arm_nodes (seen_construct construct.now) (seen_position position) (seen.seen_arm arm.now))) }
 {
     match arm {
-        Arm::Empty { at, attributes: list } => {
+        Arm::Empty {
+            at,
+            attributes: list,
+        } => {
             let inner = construct.inside(position, *at, list);
             attributes(nodes, &inner)?;
             nodes.push(Node::EmptyArm { construct: inner })

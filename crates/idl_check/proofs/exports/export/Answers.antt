@@ -1,5 +1,5 @@
 use Rattle.std.proofs.lemmas.Result.{on_ok_weaker}
-use Rattle.std.proofs.Common.{◌≡◌, ◌∙◌, ◌++◌, sym, ap}
+use Rattle.std.proofs.Common.{◌∙◌, ◌++◌, sym, ap}
 use Rattle.idl_grammar.specs.Seen.{seen_type, seen_export}
 use Rattle.idl_check.specs.Nodes.{attribute_nodes, switch_nodes, type_nodes, export_nodes}
 use Rattle.idl_check.specs.SeenNodes.{seen_construct}

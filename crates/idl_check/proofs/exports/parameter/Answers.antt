@@ -1,4 +1,4 @@
-use Rattle.std.proofs.Common.{◌≡◌, ◌∙◌, [], ◌∷◌, ◌++◌, ap}
+use Rattle.std.proofs.Common.{◌∙◌, [], ◌∷◌, ◌++◌, ap}
 use Rattle.std.proofs.lemmas.Result.{on_ok_weaker}
 use Rattle.idl_grammar.specs.Seen.{seen_type, seen_declarator}
 use Rattle.idl_check.specs.Nodes.{DeclaratorNode, attribute_nodes, type_nodes, declared}

@@ -1,4 +1,4 @@
-use Rattle.std.proofs.Common.{◌≡◌, ◌∙◌, ◌++◌, map, refl, ap, arith}
+use Rattle.std.proofs.Common.{◌∙◌, ◌++◌, map, refl, ap, arith}
 use Rattle.idl_grammar.specs.Seen.{seen_type, seen_declarator}
 use Rattle.idl_check.specs.Nodes.{declared}
 use Rattle.idl_check.specs.SeenNodes.{seen_construct, seen_declared}

@@ -1,14 +1,12 @@
-use Rattle.std.proofs.Common.{◌≡◌, ◌∙◌, ◌+◌, [], ◌∷◌, ◌++◌, Some, map, length, option_map, refl, sym, ap, subst, arith}
+use Rattle.std.proofs.Common.{◌∙◌, [], ◌∷◌, ◌++◌, Some, map, option_map, refl, ap, subst, arith}
 use Rattle.std.proofs.lemmas.Result.{on_ok_weaker}
 use Rattle.idl_grammar.specs.Seen.{seen_type, seen_declarator, seen_enumerator, seen_attributes, seen_arm}
 use Rattle.idl_grammar.specs.Reading.{members_of, cases_of, arms_of}
 use Rattle.idl_grammar.specs.Seen as seen
-use Rattle.idl_grammar.specs.declared.types.TypeSpec as types
 use Rattle.idl_grammar.proofs.Rows.{struct_is, cases_are, arms_are}
-use Rattle.idl_check.specs.declared.nodes.Node.TheVariants as node
-use Rattle.idl_check.specs.Nodes.{Construct, Declared, Node, BodyNode, SwitchNode, EnumeratorNode, DeclaratorNode, attribute_nodes, type_nodes, member_nodes, declared_members, label_nodes, labels_of, case_nodes, arms_nodes, declared, arm_nodes}
+use Rattle.idl_check.specs.Nodes.{BodyNode, SwitchNode, EnumeratorNode, DeclaratorNode, attribute_nodes, type_nodes, member_nodes, declared_members, label_nodes, labels_of, case_nodes, arms_nodes, arm_nodes}
 use Rattle.idl_check.specs.SeenNodes.{seen_construct, seen_position, seen_declared}
-use Rattle.idl_check.specs.Growing.{Adds, AddsOf}
+use Rattle.idl_check.specs.Growing.{Adds}
 use Rattle.idl_check.proofs.Adding.{adds_as, adds_both, pushed, of_all, of_both, turn, over, turn_of, over_of}
 use Rattle.idl_check.proofs.Bodies.{struct_nodes, switched_nodes, union_nodes, enum_nodes, typed_nodes}
 use Rattle.idl_check.proofs.Rests as rests

@@ -1,4 +1,4 @@
-use Rattle.std.proofs.Common.{◌≡◌, drop}
+use Rattle.std.proofs.Common.{drop}
 use Rattle.idl_check.specs.declared.nodes.Nodes.{Nodes}
 use Rattle.idl_check.specs.SeenNodes.{seen_construct}
 use Rattle.idl_check.specs.Growing.{Adds, AddsOf}

@@ -1,6 +1,5 @@
-use Rattle.std.proofs.Common.{◌≡◌, ◌∙◌, ◌+◌, [], ◌∷◌, map, length, refl, subst, arith}
+use Rattle.std.proofs.Common.{[], ◌∷◌, refl, subst, arith}
 use Rattle.std.proofs.lemmas.List.{length-map}
-use Rattle.idl_grammar.specs.declared.declarators.Declarator.{Declarator}
 use Rattle.idl_grammar.specs.Seen.{seen_type, seen_declarator}
 use Rattle.idl_check.specs.Nodes.{Declared, DeclaratorNode}
 use Rattle.idl_check.specs.SeenNodes.{seen_construct}

@@ -1,6 +1,4 @@
-use Rattle.std.proofs.Common.{◌≡◌, [], map, Some, IfOk, OnOk, rules, arith, refl}
-use Rattle.idl_check.specs.SeenNodes.{seen_declared, list_found}
-use Rattle.idl_check.specs.Growing.{Adds}
+use Rattle.std.proofs.Common.{rules, arith, refl}
 use Rattle.idl_check.proofs.Adding.{added_list, last_found}
 use Rattle.idl_check.proofs.nodes.Nodes.push_list.Goals as goal
 use Rattle.idl_check.proofs.nodes.Nodes.push_list.Goals.{in-Ok-push, in-Err}
