@@ -25,3 +25,7 @@ mod Scenes
 mod Parts
 mod Tags
 mod legal
+pub mod Adding
+pub mod Gathering
+pub mod Rests
+pub mod Bodies

@@ -32,3 +32,4 @@ pub mod Places
 pub mod SeenTypes
 pub mod SeenMarks
 pub mod SeenNames
+pub mod Growing

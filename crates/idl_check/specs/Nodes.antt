@@ -147,11 +147,11 @@ pub record LabelledArm : Type 0 where
 abbrev labelled : Position → List ArmLabel → Arm → LabelledArm
 labelled position labels arm = record { position = position; labels = labels; arm = arm }
 
-abbrev arms_of_cases : Cases → List LabelledArm
+abbrev pub arms_of_cases : Cases → List LabelledArm
 arms_of_cases tree.no_cases = []
 arms_of_cases (tree.next_case labels arm others) = labelled InArm (map arm_label labels) arm ∷ arms_of_cases others
 
-abbrev arms_of_arms : Arms → List LabelledArm
+abbrev pub arms_of_arms : Arms → List LabelledArm
 arms_of_arms tree.no_arms = []
 arms_of_arms (tree.next_arm arm others) = labelled InCasedArm (labels_in (arm_attributes arm)) arm ∷ arms_of_arms others
 

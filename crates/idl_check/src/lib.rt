@@ -2,6 +2,8 @@
 #![tactic(auto)]
 
 mod checking;
+mod attributes;
+mod exports;
 mod fault;
 mod kinds;
 pub mod laws;
@@ -15,6 +17,10 @@ mod said;
 mod types;
 mod typing;
 mod written;
+#[cfg(test)]
+mod node_tests;
+mod parts;
+mod walk;
 
 pub use checking::check;
 pub use fault::RuleFault;
