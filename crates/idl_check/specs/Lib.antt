@@ -21,3 +21,6 @@ pub mod Texts
 pub mod SmallTexts
 pub mod Interfaces
 pub mod Kept
+pub mod Graph
+pub mod GraphRows
+pub mod GraphRounds

@@ -2,6 +2,7 @@
 #![tactic(auto)]
 
 mod fault;
+mod graph;
 pub mod laws;
 
 pub use fault::RuleFault;
