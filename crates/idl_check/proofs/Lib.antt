@@ -8,3 +8,9 @@ mod KeptTypes
 mod Inner
 mod Referents
 mod Few
+mod GraphTests
+mod GraphContains
+mod GraphPeeling
+mod GraphRounds
+mod GraphRows
+mod GraphSearching

@@ -24,3 +24,4 @@ pub mod Kept
 pub mod Graph
 pub mod GraphRows
 pub mod GraphRounds
+pub mod GraphCycles

@@ -1,9 +1,10 @@
 //! The first node that contains itself.
 
-ghost use Rattle.std.specs.Prelude.{◌≡◌, ℕ, ◌+◌, ◌<◌, ◌≤◌, true, length, ◌++◌, [], ◌∷◌, slice_set, slice_index_or};
+ghost use Rattle.std.specs.Prelude.{◌≡◌, ℕ, ◌+◌, ◌<◌, length, [], ◌∷◌, eqb, slice_get, slice_index};
 ghost use Rattle.std.specs.List.{list_all, list_any};
 ghost use Rattle.std.specs.Result.{IfOk, OnOk};
 ghost use Rattle.idl_check.specs.Graph.{parts_at, contains_itself, IsLeast};
+ghost use Rattle.idl_check.specs.GraphCycles.{is_peeled_in, ArePeeled, Comes, IsReady, is_less_than};
 
 use std::alloc::{AllocError, Global};
 
@@ -16,8 +17,8 @@ pub(crate) fn least_key(alloc: Global, graph: &Graph, keys: &[u64]) -> Result<Op
     let peeled = peel(alloc, graph)?;
     let mut search = Search::new(alloc, graph.len())?;
     let mut least = None;
-    for (node, key) in keys.iter().enumerate() {
-        least = search.judge(graph, &peeled, node, *key, least)?;
+    for node in 0..keys.len() {
+        least = search.judge(graph, &peeled, keys, node, least)?;
     }
     Ok(least)
 }
@@ -25,7 +26,9 @@ pub(crate) fn least_key(alloc: Global, graph: &Graph, keys: &[u64]) -> Result<Op
 // Peeling.
 
 /// Nodes that do not contain themselves: peeled is what holds nothing but peeled nodes, in turn.
-fn peel(alloc: Global, graph: &Graph) -> Result<Vec<bool>, AllocError> {
+fn peel(alloc: Global, graph: &Graph) -> Result<Vec<bool>, AllocError>
+    ensures { IfOk result (λ v. ArePeeled graph.now v.items) }
+{
     let mut peeled = vec![in alloc; false; graph.len()]?;
     for _ in 0..graph.len() {
         if !pass(graph, &mut peeled) {
@@ -36,7 +39,10 @@ fn peel(alloc: Global, graph: &Graph) -> Result<Vec<bool>, AllocError> {
 }
 
 /// One pass over all nodes; whether it peels any.
-fn pass(graph: &Graph, peeled: &mut [bool]) -> bool {
+fn pass(graph: &Graph, peeled: &mut [bool]) -> bool
+    requires { ArePeeled graph.now peeled.old }
+    ensures { ArePeeled graph.now peeled.new }
+{
     let mut some = false;
     for node in 0..peeled.len() {
         if peel_node(graph, peeled, node) {
@@ -47,7 +53,11 @@ fn pass(graph: &Graph, peeled: &mut [bool]) -> bool {
 }
 
 /// Peels a node that can be; whether it does.
-fn peel_node(graph: &Graph, peeled: &mut [bool], node: usize) -> bool {
+fn peel_node(graph: &Graph, peeled: &mut [bool], node: usize) -> bool
+    requires within { node < length peeled.old }
+    requires peeled { ArePeeled graph.now peeled.old }
+    ensures { ArePeeled graph.now peeled.new }
+{
     if is_peeled(peeled, node) || !are_peeled(peeled, graph.parts(node)) {
         return false;
     }
@@ -55,12 +65,16 @@ fn peel_node(graph: &Graph, peeled: &mut [bool], node: usize) -> bool {
     true
 }
 
-fn are_peeled(peeled: &[bool], parts: &[u32]) -> bool {
+fn are_peeled(peeled: &[bool], parts: &[u32]) -> bool
+    ensures { result ≡ list_all (is_peeled_in peeled.now) parts.now }
+{
     parts.iter().all(|part| is_peeled(peeled, *part as usize))
 }
 
 /// Whether a node is peeled; so is what is no node.
-fn is_peeled(peeled: &[bool], node: usize) -> bool {
+fn is_peeled(peeled: &[bool], node: usize) -> bool
+    ensures { result ≡ is_peeled_in peeled.now node }
+{
     match peeled.get(node) {
         Some(peeled) => *peeled,
         None => true,
@@ -79,7 +93,11 @@ struct Search {
 }
 
 impl Search {
-    fn new(alloc: Global, nodes: usize) -> Result<Search, AllocError> {
+    /// No search was made, in a graph of so many nodes.
+    fn new(alloc: Global, nodes: usize) -> Result<Search, AllocError>
+        ensures count { IfOk result (λ s. length s.seen.items ≡ nodes) }
+        ensures none { IfOk result (λ s. (node : ℕ) → slice_index s.seen.items node < 1) }
+    {
         Ok(Search {
             seen: vec![in alloc; 0usize; nodes]?,
             queue: Vec::new(alloc),
@@ -87,7 +105,15 @@ impl Search {
     }
 
     /// The least key, with that of one more node.
-    fn judge(&mut self, graph: &Graph, peeled: &[bool], node: usize, key: u64, least: Option<u64>) -> Result<Option<u64>, AllocError> {
+    fn judge(&mut self, graph: &Graph, peeled: &[bool], keys: &[u64], node: usize, least: Option<u64>) -> Result<Option<u64>, AllocError>
+        requires within { node < length keys.now }
+        requires peeled { ArePeeled graph.now peeled.now }
+        requires ready { IsReady graph.now (node + 1) self.old.seen.items }
+        requires least { IsLeast graph.now keys.now node least }
+        ensures ready { OnOk result (IsReady graph.now (node + 2) self.new.seen.items) }
+        ensures least { IfOk result (λ least. IsLeast graph.now keys.now (node + 1) least) }
+    {
+        let key = keys[node];
         if is_peeled(peeled, node) || !is_less(key, least) {
             return Ok(least);
         }
@@ -98,7 +124,11 @@ impl Search {
     }
 
     /// Whether the search of this number that begins at a node comes back to it.
-    fn comes_back(&mut self, graph: &Graph, start: usize, number: usize) -> Result<bool, AllocError> {
+    fn comes_back(&mut self, graph: &Graph, start: usize, number: usize) -> Result<bool, AllocError>
+        requires { IsReady graph.now number self.old.seen.items }
+        ensures ready { OnOk result (IsReady graph.now (number + 1) self.new.seen.items) }
+        ensures exact { IfOk result (λ comes. comes ≡ contains_itself graph.now start) }
+    {
         self.queue.clear();
         self.come_to(start, number)?;
         for head in 0..graph.len() {
@@ -114,12 +144,17 @@ impl Search {
         Ok(false)
     }
 
-    fn node_at(&self, place: usize) -> Option<usize> {
+    /// What stands in the queue at a place.
+    fn node_at(&self, place: usize) -> Option<usize>
+        ensures { result ≡ slice_get self.now.queue.items place }
+    {
         self.queue.get(place).copied()
     }
 
     /// Comes to each of these.
-    fn come_to_all(&mut self, parts: &[u32], number: usize) -> Result<(), AllocError> {
+    fn come_to_all(&mut self, parts: &[u32], number: usize) -> Result<(), AllocError>
+        ensures { OnOk result (Comes number parts.now self.old.seen.items self.old.queue.items self.new.seen.items self.new.queue.items) }
+    {
         for part in parts {
             self.come_to(*part as usize, number)?;
         }
@@ -127,7 +162,9 @@ impl Search {
     }
 
     /// Comes to a node, unless this search was there or it is none.
-    fn come_to(&mut self, node: usize, number: usize) -> Result<(), AllocError> {
+    fn come_to(&mut self, node: usize, number: usize) -> Result<(), AllocError>
+        ensures { OnOk result (Comes number (node ∷ []) self.old.seen.items self.old.queue.items self.new.seen.items self.new.queue.items) }
+    {
         let Some(seen) = self.seen.get_mut(node) else {
             return Ok(());
         };
@@ -140,11 +177,15 @@ impl Search {
     }
 }
 
-fn is_among(parts: &[u32], node: usize) -> bool {
+fn is_among(parts: &[u32], node: usize) -> bool
+    ensures { result ≡ list_any (λ p. eqb p node) parts.now }
+{
     parts.iter().any(|part| *part as usize == node)
 }
 
-fn is_less(key: u64, least: Option<u64>) -> bool {
+fn is_less(key: u64, least: Option<u64>) -> bool
+    ensures { result ≡ is_less_than key least }
+{
     match least {
         Some(least) => key < least,
         None => true,
