@@ -1,8 +1,9 @@
 -- What a search keeps.
-use Rattle.std.proofs.Common.{◌≡◌, ℕ, suc, zero, ◌<◌, ◌≤◌, ◌-◌, ◌+◌, Bool, true, false, not, eqb, cond, ◌&&◌, ◌||◌, ◌⊎◌, List, [], ◌∷◌, ◌++◌, length, get_or, set, take, replicate, refl, sym, ap, ◌∙◌, subst, inl, inr, arith}
-use Rattle.std.specs.List.{list_all, list_any}
+use Rattle.std.proofs.Common.{◌≡◌, ℕ, suc, zero, ◌<◌, ◌≤◌, ◌-◌, ◌+◌, Bool, true, false, not, eqb, cond, ◌&&◌, ◌||◌, ◌⊎◌, List, [], ◌∷◌, ◌++◌, length, get_or, set, take, replicate, Option, Some, None, refl, sym, ap, ◌∙◌, subst, inl, inr, arith}
+use Rattle.std.specs.List.{list_all, list_any, slice_get}
 use Rattle.std.proofs.lemmas.Bool.{false≢true, cases_eq, cases_lt, eqb-true, eq-eqb, ne_eqb}
-use Rattle.std.proofs.lemmas.List.{get_or-set_same, get_or-set_other, length-set, get_or_append_left, get_or_push, length_push, get_or_past, take_more, get_or_default}
+use Rattle.std.proofs.lemmas.List.{get_or-set_same, get_or-set_other, length-set, get_or_append_left, get_or_push, length_push, get_or_past, take_more, get_or_default, get_or-replicate, length-replicate}
+use Rattle.std.proofs.lemmas.Option.{none-some, slice_get_within, get_or_from_slice_get, slice_get-get_or}
 use Rattle.std.proofs.lemmas.List.Folds.{list_all-append, list_any-append}
 use Rattle.idl_check.specs.Graph.{parts_at, contains_within, contains_itself}
 use Rattle.idl_check.specs.GraphCycles.{reaches_within, is_marked, times_in, Waits, Comes, IsReady, is_done, Searches}
@@ -135,26 +136,29 @@ comes_more number nodes i s q s' q' s'' q'' h a b =
 done_of_none : (f : ℕ → Bool) (xs : List ℕ) → xs ≡ [] → list_all f xs ≡ true
 done_of_none f xs e = ap (list_all f) e
 
+only : (b : Bool) → (b || false) ≡ true → b ≡ true
+only true e = refl
+only false e = e
+
 -- it begins
-pub search_begins : (graph : List (List ℕ)) (start number : ℕ) (seen seen' queue' : List ℕ) → IsReady graph number seen → Comes number (start ∷ []) seen [] seen' queue'
+pub search_begins : (graph : List (List ℕ)) (start number : ℕ) (seen queue seen' queue' : List ℕ) → IsReady graph number seen → queue ≡ [] → Comes number (start ∷ []) seen queue seen' queue'
     → Searches graph start number 0 seen' queue'
-search_begins graph start number seen seen' queue' ready comes = record {
-  same = comes.same ∙ ready.count;
-  counts = comes.counts (sym (times_none number seen ready.before));
-  ahead = omega arith;
-  reached = λ place h. or_left (eqb start (get_or queue' place 0)) _ (only (eqb start (get_or queue' place 0)) (comes.new place (omega arith) h));
-  done = λ node m. elim (comes.waits node m) [ inl old ↦ inl (done_of_none _ _ (no_parts graph node (past node old))) | inr w ↦ inr w ];
-  begun = first_of (is_marked number seen' start) true comes.marks;
-  bound = comes.bound (λ node. let l : get_or seen node 0 < number = ready.before node in omega arith);
-} where
-  only : (b : Bool) → (b || false) ≡ true → b ≡ true
-  only true e = refl
-  only false e = e
+search_begins graph start number seen queue seen' queue' ready none first = let P : List ℕ → Type 0 = λ q. Comes number (start ∷ []) seen q seen' queue' in begun (subst P none first) where
   past : (node : ℕ) → is_marked number seen node ≡ true → length graph ≤ node
   past node m = elim (cases_lt node (length seen))
     [ inl l ↦ absurd (let e : get_or seen node number ≡ number = eqb-true (get_or seen node number) number m in
         let d : get_or seen node number ≡ get_or seen node 0 = get_or_default seen node number 0 l in let b : get_or seen node 0 < number = ready.before node in omega arith)
     | inr g ↦ let c : length seen ≡ length graph = ready.count in omega arith ]
+  begun : Comes number (start ∷ []) seen [] seen' queue' → Searches graph start number 0 seen' queue'
+  begun comes = record {
+    same = comes.same ∙ ready.count;
+    counts = comes.counts (sym (times_none number seen ready.before));
+    ahead = omega arith;
+    reached = λ place h. or_left (eqb start (get_or queue' place 0)) _ (only (eqb start (get_or queue' place 0)) (comes.new place (omega arith) h));
+    done = λ node m. elim (comes.waits node m) [ inl old ↦ inl (done_of_none _ _ (no_parts graph node (past node old))) | inr w ↦ inr w ];
+    begun = first_of (is_marked number seen' start) true comes.marks;
+    bound = comes.bound (λ node. let l : get_or seen node 0 < number = ready.before node in omega arith);
+  }
 
 -- one step
 pub search_more : (graph : List (List ℕ)) (start number head node : ℕ) (seen queue seen' queue' : List ℕ) → Searches graph start number head seen queue → head < length queue
@@ -212,6 +216,22 @@ search_ends graph start number head seen queue s h =
     never_true (contains_itself graph start) (never_comes (is_marked number seen) graph start closed (length graph) start s.begun) where
     closed : (node : ℕ) → is_marked number seen node ≡ true → is_done graph start number seen node ≡ true
     closed node m = elim (s.done node m) [ inl d ↦ d | inr w ↦ absurd (omega (arith, w.behind, w.within)) ]
+
+-- no search was made
+pub ready_none : (graph : List (List ℕ)) (seen : List ℕ) → seen ≡ replicate {A = ℕ} (length graph) 0 → IsReady graph 1 seen
+ready_none graph seen e = record {
+  count = ap length e ∙ length-replicate {A = ℕ} (length graph) 0;
+  before = λ node. let z : get_or seen node 0 ≡ 0 = ap (λ xs. get_or xs node 0) e ∙ zeros (length graph) node in omega arith;
+} where
+  zeros : (n node : ℕ) → get_or (replicate {A = ℕ} n 0) node 0 ≡ 0
+  zeros n node = elim (cases_lt node n) [ inl l ↦ get_or-replicate n node 0 0 l | inr g ↦ get_or_past (replicate {A = ℕ} n 0) node 0 (omega (arith, length-replicate {A = ℕ} n 0)) ]
+
+-- what stands at a place, or that none does
+pub place_within : (xs : List ℕ) (k x : ℕ) → Some x ≡ slice_get xs k → (k < length xs) × (get_or xs k 0 ≡ x)
+place_within xs k x e = (slice_get_within xs k x (sym e), get_or_from_slice_get xs k x 0 (sym e))
+
+pub place_past : (xs : List ℕ) (k : ℕ) → None ≡ slice_get xs k → length xs ≤ k
+place_past xs k e = elim (cases_lt k (length xs)) [ inl l ↦ absurd (none-some (get_or xs k 0) (e ∙ slice_get-get_or xs k 0 l)) | inr g ↦ g ]
 
 -- no search of the next number was made
 pub ready_next : (graph : List (List ℕ)) (start number head : ℕ) (seen queue : List ℕ) → Searches graph start number head seen queue → IsReady graph (number + 1) seen

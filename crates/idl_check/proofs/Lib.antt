@@ -14,3 +14,4 @@ mod GraphPeeling
 mod GraphRounds
 mod GraphRows
 mod GraphSearching
+mod GraphKeys

@@ -15,7 +15,7 @@ pub(crate) fn least_key(alloc: Global, graph: &Graph, keys: &[u64]) -> Result<Op
     ensures { IfOk result (λ least. IsLeast graph.now keys.now (length keys.now) least) }
 {
     let peeled = peel(alloc, graph)?;
-    let mut search = Search::new(alloc, graph.len())?;
+    let mut search = Search::new(alloc, graph)?;
     let mut least = None;
     for node in 0..keys.len() {
         least = search.judge(graph, &peeled, keys, node, least)?;
@@ -93,13 +93,13 @@ struct Search {
 }
 
 impl Search {
-    /// No search was made, in a graph of so many nodes.
-    fn new(alloc: Global, nodes: usize) -> Result<Search, AllocError>
-        ensures count { IfOk result (λ s. length s.seen.items ≡ nodes) }
-        ensures none { IfOk result (λ s. (node : ℕ) → slice_index s.seen.items node < 1) }
+    /// No search was made.
+    fn new(alloc: Global, graph: &Graph) -> Result<Search, AllocError>
+        ensures { IfOk result (λ s. IsReady graph.now 1 s.seen.items) }
     {
+        let seen = vec![in alloc; 0usize; graph.len()]?;
         Ok(Search {
-            seen: vec![in alloc; 0usize; nodes]?,
+            seen,
             queue: Vec::new(alloc),
         })
     }
