@@ -1,5 +1,5 @@
 -- What peeling keeps.
-use Rattle.std.proofs.Common.{◌≡◌, ℕ, suc, zero, ◌<◌, ◌≤◌, Bool, true, false, eqb, ◌⊎◌, List, [], ◌∷◌, length, get_or, set, replicate, refl, sym, ap, ◌∙◌, subst, inl, inr, arith}
+use Rattle.std.proofs.Common.{◌≡◌, ℕ, suc, zero, ◌<◌, ◌≤◌, Bool, true, false, ◌⊎◌, List, [], length, get_or, set, replicate, refl, sym, ap, ◌∙◌, inl, inr, arith}
 use Rattle.std.specs.List.{list_all, list_any}
 use Rattle.std.proofs.lemmas.Bool.{false≢true, cases_eq, cases_lt}
 use Rattle.std.proofs.lemmas.List.{get_or-set_same, get_or-set_other, length-set, get_or-replicate, length-replicate}
@@ -36,9 +36,12 @@ peeled_more graph peeled node h are out parts = record {
 } where
   keeps : (x : ℕ) → is_peeled_in peeled x ≡ true → is_peeled_in (set peeled node true) x ≡ true
   keeps x p = elim (cases_eq x node) [ inl e ↦ ap (λ y. get_or (set peeled node true) y true) e ∙ get_or-set_same peeled node true true h | inr o ↦ get_or-set_other peeled node x true true o ∙ p ]
+
   cases : (x : ℕ) → is_peeled_in (set peeled node true) x ≡ true → (is_peeled_in peeled x ≡ true) ⊎ (x ≡ node)
   cases x p = elim (cases_eq x node) [ inl e ↦ inr e | inr o ↦ inl (sym (get_or-set_other peeled node x true true o) ∙ p) ]
+
   at : (x : ℕ) → x ≡ node → list_all (is_peeled_in peeled) (parts_at graph node) ≡ true → list_all (is_peeled_in peeled) (parts_at graph x) ≡ true
   at x e q = ap (λ y. list_all (is_peeled_in peeled) (parts_at graph y)) e ∙ q
+
   here : (x : ℕ) → x ≡ node → (n : ℕ) → contains_within n graph x x ≡ false
   here x e n = ap (λ y. contains_within n graph y y) e ∙ stands_apart (is_peeled_in peeled) graph are.closed n node out parts

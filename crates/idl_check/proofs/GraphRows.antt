@@ -1,7 +1,6 @@
 -- One more node of a graph.
-use Rattle.std.proofs.Common.{◌≡◌, ℕ, suc, zero, ◌<◌, ◌≤◌, ◌-◌, ◌+◌, List, [], ◌∷◌, ◌++◌, length, get_or, map, take, drop, Result, Ok, Err, refl, sym, ap, ◌∙◌, arith}
+use Rattle.std.proofs.Common.{◌≡◌, ℕ, suc, ◌≤◌, ◌-◌, ◌+◌, List, [], ◌∷◌, ◌++◌, length, take, drop, Result, Ok, Err, refl, sym, ap, ◌∙◌, arith}
 use Rattle.std.specs.Result.{OnErr}
-use Rattle.std.specs.List.{All}
 use Rattle.std.proofs.lemmas.List.{map_push, drop-append-le, take-append-le, length-drop, length-append, drop_at, take_all}
 use Rattle.idl_check.specs.declared.graph.Span.{Span}
 use Rattle.idl_check.specs.GraphRows.{row_at, rows_of, IsSpan, AreSpans}

@@ -1,7 +1,7 @@
 -- Tests on lists of numbers.
-use Rattle.std.proofs.Common.{◌≡◌, ℕ, ◌<◌, ◌+◌, Bool, true, false, not, eqb, ◌&&◌, ◌||◌, ◌⊎◌, List, [], ◌∷◌, length, refl, sym, ap, ◌∙◌, cond, inl, inr, arith}
+use Rattle.std.proofs.Common.{◌≡◌, ℕ, Bool, true, false, not, eqb, ◌&&◌, ◌||◌, ◌⊎◌, List, [], ◌∷◌, refl, sym, ◌∙◌, inl, inr}
 use Rattle.std.specs.List.{list_all, list_any}
-use Rattle.std.proofs.lemmas.Bool.{false≢true, eqb-true, eqb-false}
+use Rattle.std.proofs.lemmas.Bool.{false≢true}
 
 pub or_cases : (a b : Bool) → (a || b) ≡ true → (a ≡ true) ⊎ (b ≡ true)
 or_cases true b e = inl refl
@@ -64,5 +64,5 @@ none_is p f (x ∷ xs) n a =
     let e : eqb x p ≡ false = never_true (eqb x p) (λ h. false≢true (sym n ∙ or_left (eqb x p) (list_any (λ x. eqb x p) xs) h)) in
     let m : list_any (λ x. eqb x p) xs ≡ false = never_true _ (λ h. false≢true (sym n ∙ or_right (eqb x p) (list_any (λ x. eqb x p) xs) h)) in
     both (not (eqb x p) && f x) (list_all (λ x. not (eqb x p) && f x) xs)
-        (both (not (eqb x p)) (f x) (not_from (eqb x p) e) (first_of (f x) (list_all f xs) a))
-        (none_is p f xs m (second_of (f x) (list_all f xs) a))
+    (both (not (eqb x p)) (f x) (not_from (eqb x p) e) (first_of (f x) (list_all f xs) a))
+    (none_is p f xs m (second_of (f x) (list_all f xs) a))

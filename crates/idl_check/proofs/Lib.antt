@@ -14,4 +14,3 @@ mod GraphPeeling
 mod GraphRounds
 mod GraphRows
 mod GraphSearching
-mod GraphKeys

@@ -3,13 +3,12 @@
 mod cycles;
 mod rounds;
 
-pub(crate) use cycles::least_key;
-pub(crate) use rounds::{Rule, properties};
-
 ghost use Rattle.std.specs.Prelude.{◌≡◌, [], ◌∷◌, ◌++◌, length};
 ghost use Rattle.std.specs.Result.{OnErr, OnOk};
 ghost use Rattle.idl_check.specs.Graph.{parts_at};
 
+pub(crate) use cycles::least_key;
+pub(crate) use rounds::{Rule, properties};
 use std::alloc::{AllocError, Global};
 use std::marker::Model;
 

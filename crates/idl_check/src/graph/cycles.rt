@@ -6,12 +6,15 @@ ghost use Rattle.std.specs.Result.{IfOk, OnOk};
 ghost use Rattle.idl_check.specs.Graph.{parts_at, contains_itself, IsLeast};
 ghost use Rattle.idl_check.specs.GraphCycles.{is_peeled_in, ArePeeled, Comes, IsReady, is_less_than};
 
+use super::Graph;
 use std::alloc::{AllocError, Global};
 
-use super::Graph;
-
 /// The least key of a node that contains itself, where node i has key i; what has no key is not asked for.
-pub(crate) fn least_key(alloc: Global, graph: &Graph, keys: &[u64]) -> Result<Option<u64>, AllocError>
+pub(crate) fn least_key(
+    alloc: Global,
+    graph: &Graph,
+    keys: &[u64],
+) -> Result<Option<u64>, AllocError>
     ensures { IfOk result (λ least. IsLeast graph.now keys.now (length keys.now) least) }
 {
     let peeled = peel(alloc, graph)?;
@@ -75,10 +78,7 @@ fn are_peeled(peeled: &[bool], parts: &[u32]) -> bool
 fn is_peeled(peeled: &[bool], node: usize) -> bool
     ensures { result ≡ is_peeled_in peeled.now node }
 {
-    match peeled.get(node) {
-        Some(peeled) => *peeled,
-        None => true,
-    }
+    peeled.get(node).copied().unwrap_or(true)
 }
 
 // Searching.
@@ -105,7 +105,14 @@ impl Search {
     }
 
     /// The least key, with that of one more node.
-    fn judge(&mut self, graph: &Graph, peeled: &[bool], keys: &[u64], node: usize, least: Option<u64>) -> Result<Option<u64>, AllocError>
+    fn judge(
+        &mut self,
+        graph: &Graph,
+        peeled: &[bool],
+        keys: &[u64],
+        node: usize,
+        least: Option<u64>,
+    ) -> Result<Option<u64>, AllocError>
         requires within { node < length keys.now }
         requires peeled { ArePeeled graph.now peeled.now }
         requires ready { IsReady graph.now (node + 1) self.old.seen.items }
@@ -186,8 +193,5 @@ fn is_among(parts: &[u32], node: usize) -> bool
 fn is_less(key: u64, least: Option<u64>) -> bool
     ensures { result ≡ is_less_than key least }
 {
-    match least {
-        Some(least) => key < least,
-        None => true,
-    }
+    least.is_none_or(|least| key < least)
 }

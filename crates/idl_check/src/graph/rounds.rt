@@ -5,10 +5,9 @@ ghost use Rattle.std.specs.Result.{IfOk};
 ghost use Rattle.idl_check.specs.Graph.{parts_at, rule_at, has_by, has_within, last_passes};
 ghost use Rattle.idl_check.specs.GraphRounds.{value_in};
 
+use super::Graph;
 use std::alloc::{AllocError, Global};
 use std::mem;
-
-use super::Graph;
 
 /// When a node has a property, from whether its parts have it.
 #[derive(Clone, Copy, Debug, PartialEq, Eq)]
@@ -27,7 +26,12 @@ pub(crate) enum Rule {
 
 /// Which nodes have a property, after so many rounds that begin where none has it: node i has rule i, and what has no rule never has it. Time: the
 /// number of rounds times the size of the graph. Memory: two octets for each rule.
-pub(crate) fn properties(alloc: Global, graph: &Graph, rules: &[Rule], rounds: usize) -> Result<Vec<bool>, AllocError>
+pub(crate) fn properties(
+    alloc: Global,
+    graph: &Graph,
+    rules: &[Rule],
+    rounds: usize,
+) -> Result<Vec<bool>, AllocError>
     ensures count { IfOk result (λ v. length v.items ≡ length rules.now) }
     ensures exact { IfOk result (λ v. (node : ℕ) → slice_index_or v.items node false ≡ has_within rounds graph.now rules.now node) }
 {
@@ -88,8 +92,5 @@ fn last_has(values: &[bool], parts: &[u32]) -> bool
 fn value(values: &[bool], part: u32) -> bool
     ensures { result ≡ value_in values.now part }
 {
-    match values.get(part as usize) {
-        Some(value) => *value,
-        None => false,
-    }
+    values.get(part as usize).copied().unwrap_or(false)
 }

@@ -5,7 +5,7 @@ use Rattle.idl_check.proofs.graph.Graph.push.Goals as goal
 pub returns-in_err-push-clause-err : goal.returns-in_err-push-clause-err
 returns-in_err-push-clause-err c =
     on_err c.from_residual-in_err-push.result
-        (rows_stay c.self.inside.parts.items c.args.parts.now _ c.self.inside.spans.items _ c.in_ok-extend_from_slice.ensures.items c.in_err-push.ensures.items c.self.invariant ∙ c.self.view_is)
+    (rows_stay c.self.inside.parts.items c.args.parts.now _ c.self.inside.spans.items _ c.in_ok-extend_from_slice.ensures.items c.in_err-push.ensures.items c.self.invariant ∙ c.self.view_is)
 
 pub returns-clause-ok : goal.returns-clause-ok
 returns-clause-ok c =

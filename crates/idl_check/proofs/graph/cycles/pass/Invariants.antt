@@ -1,4 +1,3 @@
-use Rattle.std.proofs.Common.{◌≡◌, length}
 use Rattle.idl_check.specs.GraphCycles.{ArePeeled}
 use Rattle.idl_check.proofs.graph.cycles.pass.Given as goal
 

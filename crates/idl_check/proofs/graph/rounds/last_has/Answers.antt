@@ -1,4 +1,4 @@
-use Rattle.std.proofs.Common.{sym, ap, ◌∙◌}
+use Rattle.std.proofs.Common.{◌∙◌}
 use Rattle.idl_check.specs.GraphRounds.{value_in}
 use Rattle.idl_check.proofs.GraphRounds.{last_at}
 use Rattle.idl_check.proofs.graph.rounds.last_has.Goals as goal

@@ -1,4 +1,4 @@
-use Rattle.std.proofs.Common.{◌≡◌, ◌<◌, ℕ, length, false, refl, arith, rules}
+use Rattle.std.proofs.Common.{◌≡◌, ◌<◌, length, false, refl, arith, rules}
 use Rattle.std.proofs.lemmas.Grind.{common_steps}
 use Rattle.idl_check.specs.GraphCycles.{is_marked}
 use Rattle.idl_check.proofs.GraphSearching.{comes_first}
