@@ -29,3 +29,9 @@ pub mod Adding
 pub mod Gathering
 pub mod Rests
 pub mod Bodies
+mod GraphTests
+mod GraphContains
+mod GraphPeeling
+mod GraphRounds
+mod GraphRows
+mod GraphSearching

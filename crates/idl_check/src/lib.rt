@@ -6,6 +6,7 @@ mod attributes;
 mod exports;
 mod fault;
 mod kinds;
+mod graph;
 pub mod laws;
 mod lists;
 mod marks;
