@@ -22,7 +22,7 @@ mod fields
 mod Among
 mod Whole
 mod Scenes
-mod Parts
+mod PartNodes
 mod Tags
 mod legal
 pub mod Adding

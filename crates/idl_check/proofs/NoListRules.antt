@@ -1,14 +1,13 @@
 -- Nodes that no rule on attribute lists speaks of.
 use Rattle.std.proofs.Common.{◌≡◌, ℕ, List, [], ◌∷◌, ◌++◌, map, Vec, refl}
-use Rattle.idl_grammar.specs.declared.types.Enumerator.{Enumerator}
-use Rattle.idl_grammar.specs.Tree.{TypeSpec}
+use Rattle.idl_grammar.specs.Tree.{TypeSpec, Enumerator}
 use Rattle.idl_check.specs.declared.nodes.Construct as program
 use Rattle.idl_check.specs.declared.nodes.Declared as declared
 use Rattle.idl_check.specs.declared.nodes.Node as program_node
 use Rattle.idl_check.specs.declared.nodes.Node.TheVariants as node
 use Rattle.idl_check.specs.Nodes.{Construct, ArmLabel, EnumeratorNode, label_nodes, labels_of}
 use Rattle.idl_check.specs.SeenNodes.{seen_construct, seen_node}
-use Rattle.idl_grammar.specs.Seen.{seen_type}
+use Rattle.idl_grammar.specs.Seen.{seen_type, seen_enumerator}
 use Rattle.idl_check.specs.ListBreaches.{list_breaches}
 
 of_enumerators : (c : Construct) (es : List Enumerator) → list_breaches (map (λ e. EnumeratorNode c e.name) es) ≡ []
@@ -26,7 +25,7 @@ nothing_there lists (node.Attributes c) h a = absurd (a c refl)
 nothing_there lists (node.Switch c of) h a = refl
 nothing_there lists (node.Tag c kind tag) h a = refl
 nothing_there lists (node.Body c body) h a = refl
-nothing_there lists (node.Enumerators c list) h a = of_enumerators (seen_construct c) list.now
+nothing_there lists (node.Enumerators c list) h a = of_enumerators (seen_construct c) (map seen_enumerator list.now)
 nothing_there lists (node.Labels c body) h a = of_labels (seen_construct c) (seen_type body.now) [] (labels_of (seen_type body.now))
 nothing_there lists (node.EmptyArm c) h a = refl
 nothing_there lists (node.Declarator list index it) h a = refl

@@ -28,7 +28,7 @@ use Rattle.idl_check.proofs.Inner.{neither_one, further}
 use Rattle.idl_check.proofs.Referents.{untrue}
 use Rattle.idl_check.proofs.Among.{Each, each_at, each_join, each_then, each_all}
 use Rattle.idl_check.proofs.Scenes.{IsKept, BodyThere, KeptPart, kept_parts, part_numbered, is_part, own_fact, is_made, inner_there, table_all}
-use Rattle.idl_check.proofs.Parts.{PartNumber, body_parts}
+use Rattle.idl_check.proofs.PartNodes.{PartNumber, body_parts}
 use Rattle.idl_check.proofs.legal.Known.{tag_each, body_points}
 use Rattle.idl_check.proofs.legal.Places.{NoTag, tag_none, arms_each}
 

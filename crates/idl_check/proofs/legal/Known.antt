@@ -28,7 +28,7 @@ use Rattle.idl_check.proofs.KeptTypes.{all_own_good}
 use Rattle.idl_check.proofs.Referents.{untrue}
 use Rattle.idl_check.proofs.Among.{Each, each_at, each_join, each_then, all_each, each_all}
 use Rattle.idl_check.proofs.Scenes.{IsKept, There, BodyThere, keeps_there, own_fact, is_made, inner_there, number_in, own_all, table_all}
-use Rattle.idl_check.proofs.Parts.{Held, body_held, nests_there}
+use Rattle.idl_check.proofs.PartNodes.{Held, body_held, nests_there}
 use Rattle.idl_check.proofs.Tags.{KeptTag, kept_tag, no_not}
 
 -- ## Basic types

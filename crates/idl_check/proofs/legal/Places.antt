@@ -31,7 +31,7 @@ use Rattle.idl_check.proofs.KeptTypes.{none_of, all_own_good}
 use Rattle.idl_check.proofs.Referents.{untrue}
 use Rattle.idl_check.proofs.Among.{Each, each_at, each_join, each_then, all_each, each_all, none_each}
 use Rattle.idl_check.proofs.Scenes.{IsKept, There, BodyThere, KeptPart, kept_parts, part_numbered, use_there, beside_there, found_there, own_fact, is_made, inner_there, table_all}
-use Rattle.idl_check.proofs.Parts.{Held, PartNumber, body_parts, holds}
+use Rattle.idl_check.proofs.PartNodes.{Held, PartNumber, body_parts, holds}
 use Rattle.idl_check.proofs.legal.Known.{not_deep}
 
 -- ## Tests of what types are in the table
