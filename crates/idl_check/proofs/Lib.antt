@@ -12,3 +12,4 @@ pub mod Fronts
 pub mod KindLists
 pub mod PlaceLists
 pub mod NameLists
+pub mod Dimensions
