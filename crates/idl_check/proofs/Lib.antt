@@ -13,3 +13,4 @@ pub mod KindLists
 pub mod PlaceLists
 pub mod NameLists
 pub mod Dimensions
+pub mod Noted
