@@ -35,3 +35,5 @@ mod GraphPeeling
 mod GraphRounds
 mod GraphRows
 mod GraphSearching
+pub mod Dimensions
+pub mod Noted

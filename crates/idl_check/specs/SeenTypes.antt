@@ -1,5 +1,5 @@
 -- The types of the program's nodes as those of the rules. `n` are the nodes of the program, `ks` the kinds of its types.
-use Rattle.std.specs.Prelude.{◌≡◌, ℕ, Bool, true, false, not, List, [], ◌∷◌, ◌++◌, map, take, length, Option, Some, None, Vec}
+use Rattle.std.specs.Prelude.{◌≡◌, ◌<◌, ℕ, Bool, true, false, not, List, [], ◌∷◌, ◌++◌, map, take, length, Option, Some, None, Vec}
 use Rattle.std.specs.List.{flat_map, slice_get, list_any}
 use Rattle.std.specs.Option.{option_and_then}
 use Rattle.nd_base.specs.declared.octets.Place.{Place}
@@ -71,6 +71,14 @@ IsTyped s names ks lists (node.Tag c kind tag) t = type_at ks t.of ≡ type_of_t
 IsTyped s names ks lists (node.Body c body) t = type_at ks t.of ≡ type_of_body (record { construct = seen_construct c; names = names; body = seen_type body.now })
 IsTyped s names ks lists (node.Labels c body) t = tag_seen ks t ≡ tag_type (seen_construct c) names (seen_type body.now)
 IsTyped s names ks lists _ t = Unit {0}
+
+-- the numbers that are noted are among the first n
+abbrev pub AreTypedWithin : ℕ → Typed → Type 0
+AreTypedWithin n t = (t.declared_as < n) × (t.of < n)
+
+-- a scene without nodes
+abbrev pub bare : Known → Scene
+bare known = record { known = known; nodes = [] }
 
 -- ## Bodies
 

@@ -1,10 +1,10 @@
 // What a list of attributes says of types.
-ghost use Rattle.std.specs.Prelude.{◌≡◌, map};
+ghost use Rattle.std.specs.Prelude.{◌≡◌, map, option_map};
 ghost use Rattle.idl_grammar.specs.Seen.{seen_attribute};
 ghost use Rattle.idl_check.specs.Attributes as attributes;
 ghost use Rattle.idl_check.specs.Attributes.{has, has_one_of, is_word, variable_word, string_word, context_handle_word, sizes, lengths};
 
-use idl_grammar::{Attribute, AttributeKind, PointerClass, VariableWord};
+use idl_grammar::{Attribute, AttributeKind, PointerClass, SwitchType, VariableWord};
 
 fn is_of(attribute: &Attribute, word: VariableWord) -> bool
     ensures { result ≡ is_word (variable_word word) (seen_attribute attribute.now) }
@@ -77,6 +77,18 @@ pub(crate) fn class_in(list: &[Attribute]) -> Option<PointerClass>
     for attribute in list {
         if let AttributeKind::Class(class) = &attribute.kind {
             return Some(*class);
+        }
+    }
+    None
+}
+
+/// The type that switch_type gives.
+pub(crate) fn switch_type_in<'t>(list: &'t [Attribute]) -> Option<&'t SwitchType>
+    ensures { option_map (λ s. s.now) result ≡ attributes.switch_type_in (map seen_attribute list.now) }
+{
+    for attribute in list {
+        if let AttributeKind::SwitchTypeIs(of) = &attribute.kind {
+            return Some(of);
         }
     }
     None

@@ -4,15 +4,17 @@ ghost use Rattle.idl_grammar.specs.Seen.{seen_expr, seen_bound, seen_attribute, 
 ghost use Rattle.idl_names.specs.Seen.{known_in};
 ghost use Rattle.idl_check.specs.World.{value_in};
 ghost use Rattle.idl_check.specs.Types as types;
+ghost use Rattle.idl_check.specs.Types.{Pointer};
 ghost use Rattle.idl_check.specs.Kinds.{seen_class, type_at, Stands, Keeps};
 ghost use Rattle.idl_check.specs.SeenNames.{seen_names, are_within};
-ghost use Rattle.idl_check.specs.SeenNodes.{seen_position, seen_construct};
+ghost use Rattle.idl_check.specs.SeenNodes.{seen_position, seen_construct, seen_declared};
 
 use crate::kinds::{Class, Kind, Kinds};
-use crate::nodes::{Construct, Position};
-use crate::said::class_in;
-use idl_grammar::{Bound, Declarator, Expr, PointerClass};
-use idl_names::{Scope, value};
+use crate::nodes::{Construct, Declared, Position};
+use crate::said::{class_in, has_context_handle, has_length, has_size, has_string};
+use crate::written::written;
+use idl_grammar::{Attribute, Bound, Declarator, Expr, PointerClass};
+use idl_names::{Scope, Table, value};
 use nd_base::Memory;
 
 /// The value of an expression. Each expression of files that are resolved has one.
@@ -64,7 +66,7 @@ fn with_stars(
     let Some(last) = stars.len().checked_sub(1) else {
         return Ok(to);
     };
-    for _ in 0..last {
+    for index in 0..last {
         to = kinds.add(Kind::Pointer { class: default, to })?;
     }
     let number = kinds.add(Kind::Pointer {
@@ -86,8 +88,8 @@ fn with_dimensions(
     ensures keeps { Keeps kinds.old kinds.new }
 {
     let mut element = of;
-    for bound in dimensions.iter().rev() {
-        let count = count_of(scope, bound)?;
+    for done in 0..dimensions.len() {
+        let count = count_of(scope, &dimensions[dimensions.len() - 1 - done])?;
         element = kinds.add(Kind::Array {
             element,
             count,
@@ -137,4 +139,169 @@ fn with_declarator(
     let of = with_stars(kinds, default, outermost, of, &declarator.stars)?;
     let number = with_dimensions(scope, kinds, of, &declarator.dimensions)?;
     Ok(number)
+}
+
+/// Whether a declarator is one pointer to `void`, with context_handle.
+fn is_context_handle(kinds: &Kinds, declared: &Declared, of: u32) -> bool
+    ensures { result ≡ types.is_context_handle (seen_declared declared.now) (type_at kinds.now of) }
+{
+    has_context_handle(declared.construct.attributes)
+        && declared.declarator.stars.len() == 1
+        && declared.declarator.dimensions.is_empty()
+        && is_void(kinds, of)
+}
+
+fn is_void(kinds: &Kinds, of: u32) -> bool
+    ensures { result ≡ types.is_void (type_at kinds.now of) }
+{
+    match kinds.kind(of) {
+        Kind::Void => true,
+        _ => false,
+    }
+}
+
+/// The type before a declarator.
+fn type_before(
+    scope: &Scope,
+    kinds: &mut Kinds,
+    names: &Table<u32>,
+    declared: &Declared,
+) -> Result<u32, Memory>
+    requires { are_within (length kinds.old) names.now ≡ true }
+    ensures stands { IfOk result (λ n. Stands kinds.new n (types.type_before (known_in scope.now) (seen_names kinds.old names.now) (seen_declared declared.now))) }
+    ensures keeps { Keeps kinds.old kinds.new }
+{
+    let element = written(scope, kinds, names, declared.construct.file, declared.of)?;
+    if !declared.pipe {
+        return Ok(element);
+    }
+    let number = kinds.add(Kind::Pipe { element })?;
+    Ok(number)
+}
+
+/// The type of a declarator, but for attributes other than a class.
+pub(crate) fn declared_type(
+    scope: &Scope,
+    kinds: &mut Kinds,
+    names: &Table<u32>,
+    declared: &Declared,
+) -> Result<u32, Memory>
+    requires { are_within (length kinds.old) names.now ≡ true }
+    ensures stands { IfOk result (λ n. Stands kinds.new n (types.declared_type (known_in scope.now) (seen_names kinds.old names.now) (seen_declared declared.now))) }
+    ensures keeps { Keeps kinds.old kinds.new }
+{
+    let before = type_before(scope, kinds, names, declared)?;
+    if is_context_handle(kinds, declared, before) {
+        let number = kinds.add(Kind::ContextHandle)?;
+        return Ok(number);
+    }
+    let Declared { construct, declarator, .. } = declared;
+    let number = with_declarator(scope, kinds, construct, declarator, before)?;
+    Ok(number)
+}
+
+/// What a pointer with `string` points to.
+fn text_of(kinds: &mut Kinds, of: u32) -> Result<u32, Memory>
+    requires { of < length kinds.old }
+    ensures stands { IfOk result (λ n. Stands kinds.new n (types.text_of (type_at kinds.old of))) }
+    ensures keeps { Keeps kinds.old kinds.new }
+{
+    if let Kind::Text { count: None, .. } = kinds.kind(of) {
+        return Ok(of);
+    }
+    let number = kinds.add(Kind::Text {
+        element: of,
+        count: None,
+    })?;
+    Ok(number)
+}
+
+/// What a pointer with size_is or max_is points to.
+fn sized(kinds: &mut Kinds, varying: bool, of: u32) -> Result<u32, Memory>
+    requires { of < length kinds.old }
+    ensures stands { IfOk result (λ n. Stands kinds.new n (types.sized varying (type_at kinds.old of))) }
+    ensures keeps { Keeps kinds.old kinds.new }
+{
+    let element = match kinds.kind(of) {
+        Kind::Text { count: None, .. } => return Ok(of),
+        Kind::Array {
+            element,
+            count: None,
+            ..
+        } => element,
+        _ => of,
+    };
+    let number = kinds.add(Kind::Array {
+        element,
+        count: None,
+        varying,
+    })?;
+    Ok(number)
+}
+
+/// What a pointer with attributes points to.
+fn pointee_with(kinds: &mut Kinds, attributes: &[Attribute], of: u32) -> Result<u32, Memory>
+    requires { of < length kinds.old }
+    ensures stands { IfOk result (λ n. Stands kinds.new n (types.pointee_with (map seen_attribute attributes.now) (type_at kinds.old of))) }
+    ensures keeps { Keeps kinds.old kinds.new }
+{
+    if has_string(attributes) {
+        return text_of(kinds, of);
+    }
+    if has_size(attributes) {
+        return sized(kinds, has_length(attributes), of);
+    }
+    Ok(of)
+}
+
+/// An array with attributes.
+fn array_with(kinds: &mut Kinds, attributes: &[Attribute], element: u32, count: Option<i128>, varying: bool) -> Result<u32, Memory>
+    requires { element < length kinds.old }
+    ensures stands { IfOk result (λ n. Stands kinds.new n (types.array_with (map seen_attribute attributes.now) (type_at kinds.old element) count varying)) }
+    ensures keeps { Keeps kinds.old kinds.new }
+{
+    if has_string(attributes) {
+        let number = kinds.add(Kind::Text { element, count })?;
+        return Ok(number);
+    }
+    let number = kinds.add(Kind::Array {
+        element,
+        count,
+        varying: varying || has_length(attributes),
+    })?;
+    Ok(number)
+}
+
+fn class_or(class: Option<PointerClass>, other: Class) -> Class
+    ensures { seen_class result ≡ types.class_or class (seen_class other) }
+{
+    match class {
+        Some(_) => Class::new(class),
+        None => other,
+    }
+}
+
+/// A pointer with attributes.
+fn pointer_with(kinds: &mut Kinds, attributes: &[Attribute], class: Class, to: u32) -> Result<u32, Memory>
+    requires { to < length kinds.old }
+    ensures stands { IfOk result (λ n. Stands kinds.new n (types.with_attributes (map seen_attribute attributes.now) (Pointer (seen_class class) (type_at kinds.old to)))) }
+    ensures keeps { Keeps kinds.old kinds.new }
+{
+    let class = class_or(class_in(attributes), class);
+    let to = pointee_with(kinds, attributes, to)?;
+    let number = kinds.add(Kind::Pointer { class, to })?;
+    Ok(number)
+}
+
+/// A type with the attributes of its declarator.
+pub(crate) fn with_attributes(kinds: &mut Kinds, attributes: &[Attribute], of: u32) -> Result<u32, Memory>
+    requires { of < length kinds.old }
+    ensures stands { IfOk result (λ n. Stands kinds.new n (types.with_attributes (map seen_attribute attributes.now) (type_at kinds.old of))) }
+    ensures keeps { Keeps kinds.old kinds.new }
+{
+    match kinds.kind(of) {
+        Kind::Pointer { class, to } => pointer_with(kinds, attributes, class, to),
+        Kind::Array { element, count, varying } => array_with(kinds, attributes, element, count, varying),
+        _ => Ok(of),
+    }
 }

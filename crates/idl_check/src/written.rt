@@ -78,7 +78,8 @@ pub(crate) fn switch(kinds: &mut Kinds, names: &Table<u32>, of: &SwitchType) -> 
     }
 }
 
-fn tagged_kind(kind: TagKind, place: Place) -> Kind
+/// A struct, union or enum by its place.
+pub(crate) fn tagged_kind(kind: TagKind, place: Place) -> Kind
     ensures seen { (ts : List IdlType) → type_by ts result ≡ types.tagged_type kind place }
     ensures inside { (n : ℕ) → is_inside n result ≡ true }
 {
