@@ -36,4 +36,4 @@ mod GraphRounds
 mod GraphRows
 mod GraphSearching
 pub mod Dimensions
-pub mod Noted
+pub mod NotedTypes
