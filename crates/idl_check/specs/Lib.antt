@@ -26,6 +26,7 @@ pub mod Noted
 pub mod Spelled
 pub mod Found
 pub mod ListBreaches
+pub mod OtherBreaches
 pub mod Checked
 pub mod Kinds
 pub mod Places

@@ -1,0 +1,8 @@
+use Rattle.idl_check.proofs.Split.{lists_in, others_in}
+use Rattle.idl_check.proofs.laws.breaches_are_in_two.Goals as goal
+
+pub returns-clause-lists : goal.returns-clause-lists
+returns-clause-lists c = lists_in
+
+pub returns-clause-others : goal.returns-clause-others
+returns-clause-others c = others_in
