@@ -1,5 +1,6 @@
 -- What is noted of nodes.
 use Rattle.std.proofs.Common.{◌≡◌, ℕ, ◌<◌, Bool, true, false, List, [], ◌∷◌, length, Option, Some, None, option_map, refl, sym, ap, ◌∙◌, subst}
+use Rattle.std.specs.Prelude.{Result, Ok, Err, IfOk}
 use Rattle.idl_grammar.specs.Tree.{TypeSpec}
 use Rattle.idl_grammar.specs.declared.words.Spelling.{Spelling}
 use Rattle.idl_names.specs.Known.{Known}
@@ -63,3 +64,12 @@ listed_is known table first second third last list d wrong wrong_switch declared
       wrong_variable = w;
       wrong_switch_variable = ws ∙ ap (λ n. has_wrong_switch_variable (bare known) (use_of known n list 0 d)) e;
     }
+
+pub ok_then : {A E : Type 0} (r : Result A E) {P Q : A → Type 0} → IfOk r P → ((x : A) → P x → Q x) → IfOk r Q
+ok_then (Ok x) h next = next x h
+ok_then (Err e) h next = tt
+
+-- nothing that is noted depends on the place in the list
+pub at_index : (known : Known) (names : Names) (ks : List Kind) (list : List Declared) (index : ℕ) (d : Declared) (t : Typed)
+    → IsTypedUse (bare known) ks (use_of known names list 0 d) t → IsTypedUse (bare known) ks (use_of known names list index d) t
+at_index known names ks list index d t h = record { declared_as = h.declared_as; of = h.of; wrong_variable = h.wrong_variable; wrong_switch_variable = h.wrong_switch_variable }

@@ -22,7 +22,7 @@ pub record Scene : Type 0 where
 
 -- ## Names of types
 
-abbrev is_typedef : Position → Bool
+abbrev pub is_typedef : Position → Bool
 is_typedef InTypedef = true
 is_typedef _ = false
 

