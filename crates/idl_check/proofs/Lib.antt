@@ -14,3 +14,4 @@ pub mod PlaceLists
 pub mod NameLists
 pub mod Dimensions
 pub mod Noted
+pub mod Agreed

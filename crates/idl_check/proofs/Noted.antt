@@ -1,6 +1,6 @@
 -- What is noted of nodes.
 use Rattle.std.proofs.Common.{◌≡◌, ℕ, ◌<◌, Bool, true, false, List, [], ◌∷◌, length, Option, Some, None, option_map, refl, sym, ap, ◌∙◌, subst}
-use Rattle.std.specs.Prelude.{Result, Ok, Err, IfOk}
+use Rattle.std.specs.Prelude.{Result, Ok, Err, IfOk, OnOk}
 use Rattle.idl_grammar.specs.Tree.{TypeSpec}
 use Rattle.idl_grammar.specs.declared.words.Spelling.{Spelling}
 use Rattle.idl_names.specs.Known.{Known}
@@ -73,3 +73,7 @@ ok_then (Err e) h next = tt
 pub at_index : (known : Known) (names : Names) (ks : List Kind) (list : List Declared) (index : ℕ) (d : Declared) (t : Typed)
     → IsTypedUse (bare known) ks (use_of known names list 0 d) t → IsTypedUse (bare known) ks (use_of known names list index d) t
 at_index known names ks list index d t h = record { declared_as = h.declared_as; of = h.of; wrong_variable = h.wrong_variable; wrong_switch_variable = h.wrong_switch_variable }
+
+pub on_ok_then : {A E : Type 0} (r : Result A E) {P Q : Type 0} → OnOk r P → (P → Q) → OnOk r Q
+on_ok_then (Ok x) h next = next h
+on_ok_then (Err e) h next = tt

@@ -3,6 +3,10 @@ use Rattle.std.specs.Prelude.{◌≡◌, ℕ, Bool, true, false, ltb, List, [], 
 use Rattle.idl_names.specs.Tables.{found}
 use Rattle.std.specs.List.{list_all}
 use Rattle.idl_check.specs.declared.kinds.Kind.{Kind}
+use Rattle.idl_check.specs.declared.nodes.Node.{Node}
+use Rattle.idl_check.specs.declared.nodes.Node.TheVariants as node
+use Rattle.idl_check.specs.Nodes.{Position, InTypedef}
+use Rattle.idl_check.specs.SeenNodes.{seen_position}
 use Rattle.idl_check.specs.Types.{Names}
 use Rattle.idl_check.specs.Kinds.{type_at}
 
@@ -20,3 +24,14 @@ and_name names name of = elim (is_some (found name names)) [ true ↦ names | fa
 -- what the program keeps says of each name what these names say
 abbrev pub Agree : Names → List Kind → List (List ℕ × ℕ) → Type 0
 Agree names ks table = (name : List ℕ) → found name names ≡ found name (seen_names ks table)
+
+-- the same of a typedef
+abbrev pub declared_in : List (List ℕ × ℕ) → Position → List ℕ → ℕ → List (List ℕ × ℕ)
+declared_in names InTypedef name of = and_name names name of
+declared_in names _ name of = names
+
+-- the same of a node, of which this number is the type
+abbrev pub names_with : List (List ℕ × ℕ) → Node → ℕ → List (List ℕ × ℕ)
+names_with names (node.Declarator list index it) of = declared_in names (seen_position it.construct.position) it.declarator.now.name.octets of
+names_with names (node.Result it) of = declared_in names (seen_position it.construct.position) it.name.now.octets of
+names_with names _ of = names

@@ -31,12 +31,12 @@ abbrev pub variable_of : Use → Variable → Option Listed
 variable_of u v = listed_from 0 u.list v.name.octets
 
 -- a type that a variable may have: with `*` it is behind a parameter that is a reference pointer
-abbrev passes : (IdlType → Bool) → Bool → Bool → IdlType → Bool
+abbrev pub passes : (IdlType → Bool) → Bool → Bool → IdlType → Bool
 passes test is_param false t = test t
 passes test true true (Pointer (Some class.Reference) to) = test to
 passes test _ _ _ = false
 
-abbrev passes_listed : Scene → Use → (IdlType → Bool) → Bool → Option Listed → Bool
+abbrev pub passes_listed : Scene → Use → (IdlType → Bool) → Bool → Option Listed → Bool
 passes_listed s u test star None = true
 passes_listed s u test star (Some d) = passes test (is_parameter d.it.construct.position) star (type_of s.known u.names d.it)
 

@@ -1,12 +1,12 @@
 // The types of all nodes.
-ghost use Rattle.std.specs.Prelude.{◌≡◌, ℕ, ◌<◌, true, false, [], List, length, option_map, IfOk, OnOk, if◌then◌else◌};
+ghost use Rattle.std.specs.Prelude.{◌≡◌, ℕ, ◌<◌, true, false, [], List, length, option_map, IfOk, OnOk};
 ghost use Rattle.idl_grammar.specs.Seen.{seen_type};
 ghost use Rattle.idl_check.specs.Types as types;
 ghost use Rattle.idl_check.specs.Types.{IdlType, Names};
 ghost use Rattle.idl_check.specs.VariableRules.{has_wrong_variable};
-ghost use Rattle.idl_check.specs.Scene.{is_typedef, place_of_type, tag_written, tag_type, type_of_body, use_of};
+ghost use Rattle.idl_check.specs.Scene.{place_of_type, tag_written, tag_type, type_of_body, use_of};
 ghost use Rattle.idl_check.specs.Kinds.{type_by, type_at, is_inside, Keeps};
-ghost use Rattle.idl_check.specs.SeenNames.{seen_names, are_within, and_name};
+ghost use Rattle.idl_check.specs.SeenNames.{seen_names, are_within, and_name, declared_in, names_with};
 ghost use Rattle.idl_check.specs.SeenNodes.{seen_position, seen_construct, seen_declared, seen_result, list_at};
 ghost use Rattle.idl_check.specs.SeenTypes.{scene_seen, bare, has_wrong_switch_variable, IsTypedUse, tag_seen, IsTyped, AreTypedWithin, IsTypes};
 ghost use Rattle.idl_names.specs.Seen.{known_in};
@@ -320,18 +320,36 @@ fn note_body(kinds: &mut Kinds, construct: &Construct, body: &TypeSpec) -> Resul
     Ok(note(of))
 }
 
-/// Gives a typedef's name its type, unless the name is there already.
-fn declare(names: &mut Table<u32>, position: Position, name: &Spelling, of: u32) -> Result<(), Memory>
-    ensures { OnOk result (names.new ≡ (if is_typedef (seen_position position) then and_name names.old name.now.octets of else names.old)) }
+/// Gives a name its type, unless it is there already.
+fn put_first(names: &mut Table<u32>, name: &Spelling, of: u32) -> Result<(), Memory>
+    ensures { OnOk result (names.new ≡ and_name names.old name.now.octets of) }
 {
-    if position != Position::Typedef {
-        return Ok(());
-    }
     let name = name.octets.as_slice();
-    if names.get(name).is_some() {
-        return Ok(());
+    match names.get(name) {
+        Some(_) => Ok(()),
+        None => names.put(name, of),
     }
-    names.put(name, of)
+}
+
+/// Gives a typedef's name its type.
+fn declare(names: &mut Table<u32>, position: Position, name: &Spelling, of: u32) -> Result<(), Memory>
+    ensures { OnOk result (names.new ≡ declared_in names.old (seen_position position) name.now.octets of) }
+{
+    match position {
+        Position::Typedef => put_first(names, name, of),
+        _ => Ok(()),
+    }
+}
+
+/// Gives the name of a node its type, where the node is a typedef's.
+fn declare_node(names: &mut Table<u32>, node: &Node, of: u32) -> Result<(), Memory>
+    ensures { OnOk result (names.new ≡ names_with names.old node.now of) }
+{
+    match node {
+        Node::Declarator { it, .. } => declare(names, it.construct.position, &it.declarator.name, of),
+        Node::Result { it } => declare(names, it.construct.position, it.name, of),
+        _ => Ok(()),
+    }
 }
 
 /// The types of all nodes. Takes memory for each type once, and for an entry of each node.
