@@ -13,5 +13,5 @@ pub mod KindLists
 pub mod PlaceLists
 pub mod NameLists
 pub mod Dimensions
-pub mod Noted
+pub mod NotedTypes
 pub mod Agreed

@@ -1,7 +1,7 @@
 use Rattle.std.proofs.Common.{◌∙◌, ap}
 use Rattle.idl_check.specs.Kinds.{type_at, seen_types}
 use Rattle.idl_check.proofs.KindLists.{type_at-stands}
-use Rattle.idl_check.proofs.Noted.{noted_within}
+use Rattle.idl_check.proofs.NotedTypes.{noted_within}
 use Rattle.idl_check.proofs.types.note_body.Goals as goal
 
 pub returns-clause-typed : goal.returns-clause-typed

@@ -1,5 +1,5 @@
 use Rattle.idl_check.proofs.NameLists.{within_stands}
-use Rattle.idl_check.proofs.Noted.{noted_within}
+use Rattle.idl_check.proofs.NotedTypes.{noted_within}
 use Rattle.idl_check.proofs.types.note_labels.Goals as goal
 
 pub returns-in_default-clause-within : goal.returns-in_default-clause-within

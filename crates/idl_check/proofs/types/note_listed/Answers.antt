@@ -3,7 +3,7 @@ use Rattle.idl_names.specs.Seen.{known_in}
 use Rattle.idl_check.specs.SeenNames.{are_within}
 use Rattle.idl_check.specs.SeenNodes.{seen_declared, list_at}
 use Rattle.idl_check.proofs.NameLists.{are_within-keeps}
-use Rattle.idl_check.proofs.Noted.{listed_is}
+use Rattle.idl_check.proofs.NotedTypes.{listed_is}
 use Rattle.idl_check.proofs.types.note_listed.Goals as goal
 
 pub wrong_switch_variable-requires : goal.wrong_switch_variable-requires

@@ -6,7 +6,7 @@ use Rattle.idl_check.specs.Scene.{use_of}
 use Rattle.idl_check.specs.SeenNames.{seen_names}
 use Rattle.idl_check.specs.SeenNodes.{seen_construct, seen_result}
 use Rattle.idl_check.specs.SeenTypes.{bare, IsTypedUse}
-use Rattle.idl_check.proofs.Noted.{result_is, noted_within}
+use Rattle.idl_check.proofs.NotedTypes.{result_is, noted_within}
 use Rattle.idl_check.proofs.types.note_result.Goals as goal
 
 pub returns-clause-typed : goal.returns-clause-typed

@@ -1,4 +1,4 @@
-use Rattle.idl_check.proofs.Noted.{noted_within}
+use Rattle.idl_check.proofs.NotedTypes.{noted_within}
 use Rattle.idl_check.proofs.types.note_tag.Goals as goal
 
 pub returns-clause-within : goal.returns-clause-within

@@ -4,7 +4,7 @@ use Rattle.idl_check.specs.declared.nodes.Node.{Node}
 use Rattle.idl_check.specs.SeenNames.{seen_names}
 use Rattle.idl_check.specs.SeenNodes.{seen_declared, list_at}
 use Rattle.idl_check.specs.SeenTypes.{bare, IsTyped}
-use Rattle.idl_check.proofs.Noted.{ok_then, at_index}
+use Rattle.idl_check.proofs.NotedTypes.{ok_then, at_index}
 use Rattle.idl_check.proofs.types.noted.Goals as goal
 
 pub returns-in-Declarator-clause-typed : goal.returns-in-Declarator-clause-typed

@@ -3,7 +3,7 @@ use Rattle.std.proofs.Common.{◌≡◌, sym, ap, ◌∙◌, OnOk, None, Some}
 use Rattle.idl_names.specs.Tables.{found, put}
 use Rattle.idl_check.specs.SeenNames.{and_name}
 use Rattle.idl_check.proofs.NameLists.{and_name-there, and_name-new}
-use Rattle.idl_check.proofs.Noted.{on_ok_then}
+use Rattle.idl_check.proofs.NotedTypes.{on_ok_then}
 use Rattle.idl_check.proofs.types.put_first.Goals as goal
 
 pub returns-in-Some : goal.returns-in-Some
