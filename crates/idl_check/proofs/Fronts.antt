@@ -1,5 +1,5 @@
 -- The nodes for which the first of the program stand, each with its names.
-use Rattle.std.proofs.Common.{◌≡◌, ℕ, ◌+◌, ◌<◌, List, [], ◌∷◌, ◌++◌, take, length, get_or, Some, slice_get, refl, sym, ap, ◌∙◌, add-one}
+use Rattle.std.proofs.Common.{append-nil, ◌≡◌, ℕ, ◌+◌, ◌<◌, List, [], ◌∷◌, ◌++◌, take, length, get_or, Some, slice_get, refl, sym, ap, ◌∙◌, add-one}
 use Rattle.std.specs.List.{flat_map}
 use Rattle.std.proofs.lemmas.Grind.{flat_map-append}
 use Rattle.std.proofs.lemmas.Option.{slice_get_within, get_or_from_slice_get}
@@ -31,6 +31,7 @@ take_next xs i x h =
 
 pub front_next : (n : program_nodes.Nodes) (i : ℕ) (it : program_node.Node) → slice_get n.items.items i ≡ Some it → front n (i + 1) ≡ front n i ++ seen_node n.lists.items it
 front_next n i it h = ap (λ l. flat_map (seen_node n.lists.items) l) (take_next n.items.items i it h) ∙ flat_map-append (seen_node n.lists.items) (take i n.items.items) (it ∷ [])
+    ∙ ap (λ l. front n i ++ l) (append-nil (seen_node n.lists.items it))
 
 pub scoped_front_next : (known : Known) (n : program_nodes.Nodes) (i : ℕ) (it : program_node.Node) → slice_get n.items.items i ≡ Some it
     → scoped_front known n (i + 1) ≡ scoped_front known n i ++ scoped_from known (names_at known n i) (seen_node n.lists.items it)

@@ -16,20 +16,20 @@ dimensions _ = []
 
 -- Rule 14: a fixed dimension has 1 to 16,777,216 elements, and so has the product of an array's dimensions.
 
-abbrev is_few : ℤ → Bool
+abbrev pub is_few : ℤ → Bool
 is_few z = int_le (pos 1) z && int_le z (pos ELEMENT_LIMIT)
 
 -- what a fixed dimension, or a product of such, has to be
-abbrev is_right_count : Option ℤ → Bool
+abbrev pub is_right_count : Option ℤ → Bool
 is_right_count None = true
 is_right_count (Some z) = is_few z
 
-abbrev times : Option ℤ → Option ℤ → Option ℤ
+abbrev pub times : Option ℤ → Option ℤ → Option ℤ
 times (Some a) (Some b) = Some (a *ℤ b)
 times _ _ = None
 
 -- the product of dimensions, where each is fixed
-abbrev product : List (Option ℤ) → Option ℤ
+abbrev pub product : List (Option ℤ) → Option ℤ
 product [] = Some (pos 1)
 product (c ∷ cs) = times c (product cs)
 
@@ -65,7 +65,7 @@ has_wrong_elements s u = list_any (has_wrong_element s) (chain u.type)
 
 -- Rule 18: a struct's member that hoists is its last.
 
-abbrev is_member : Position → Bool
+abbrev pub is_member : Position → Bool
 is_member InMember = true
 is_member _ = false
 
@@ -74,7 +74,7 @@ hoists_before_last s u = is_member u.construct.position && ltb (u.index + 1) (le
 
 -- Rule 19: a union's arm does not hoist.
 
-abbrev is_arm : Position → Bool
+abbrev pub is_arm : Position → Bool
 is_arm InArm = true
 is_arm InCasedArm = true
 is_arm _ = false
@@ -84,7 +84,7 @@ is_hoisting_arm s u = is_arm u.construct.position && hoists s u.type
 
 -- Rule 20: a pipe's element holds no pointer, no conformant or varying array, no text, no context handle and no pipe.
 
-abbrev is_barred_by : Scene → (IdlType → Bool) → IdlType → Bool
+abbrev pub is_barred_by : Scene → (IdlType → Bool) → IdlType → Bool
 is_barred_by s is_barred (Pointer class to) = true
 is_barred_by s is_barred ContextHandle = true
 is_barred_by s is_barred (Pipe t) = true

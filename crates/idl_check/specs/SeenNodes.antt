@@ -1,7 +1,8 @@
 -- The nodes of the program as those of the rules.
-use Rattle.std.specs.Prelude.{ℕ, List, [], ◌∷◌, map, Option, Some, None, Vec}
+use Rattle.std.specs.Prelude.{ℕ, List, [], ◌∷◌, map, Option, Some, None, option_map, Vec}
 use Rattle.std.specs.List.{flat_map, slice_get}
-use Rattle.idl_grammar.specs.Seen.{seen_attribute, seen_declarator, seen_type, seen_init}
+use Rattle.std.specs.declared.alloc.Global.{Global}
+use Rattle.idl_grammar.specs.Seen.{seen_attribute, seen_declarator, seen_enumerator, seen_type, seen_init}
 use Rattle.idl_check.specs.declared.nodes.Position.{Position}
 use Rattle.idl_check.specs.declared.nodes.Position.TheVariants as position
 use Rattle.idl_check.specs.declared.nodes.Construct as program
@@ -33,13 +34,17 @@ seen_declared d = record { construct = seen_construct d.construct; is_pipe = d.p
 abbrev pub seen_result : returned.Returned → Declared
 seen_result r = rules.result_of (seen_construct r.construct) (seen_type r.of.now) r.name.now
 
-abbrev or_empty : {A : Type 0} → Option (Vec declared.Declared A) → List Declared
-or_empty (Some list) = map seen_declared list.items
+-- the list of a number, where there is one
+abbrev pub list_found : {A : Type 0} → List (Vec declared.Declared A) → ℕ → Option (List Declared)
+list_found lists n = option_map (λ v. map seen_declared v.items) (slice_get lists n)
+
+abbrev pub or_empty : Option (List Declared) → List Declared
+or_empty (Some list) = list
 or_empty None = []
 
 -- a list by its number
 abbrev pub list_at : {A : Type 0} → List (Vec declared.Declared A) → ℕ → List Declared
-list_at lists n = or_empty (slice_get lists n)
+list_at lists n = or_empty (list_found lists n)
 
 -- the nodes for which one of the program stands
 abbrev pub seen_node : {A : Type 0} → List (Vec declared.Declared A) → program_node.Node → List Node
@@ -48,7 +53,7 @@ seen_node lists (node.Attributes c) = rules.attribute_nodes (seen_construct c)
 seen_node lists (node.Switch c of) = rules.SwitchNode (seen_construct c) of.now ∷ []
 seen_node lists (node.Tag c kind tag) = rules.TagNode (seen_construct c) kind tag.now ∷ []
 seen_node lists (node.Body c body) = rules.BodyNode (seen_construct c) (seen_type body.now) ∷ []
-seen_node lists (node.Enumerators c list) = map (λ e. rules.EnumeratorNode (seen_construct c) e.name) list.now
+seen_node lists (node.Enumerators c list) = map (λ e. rules.EnumeratorNode (seen_construct c) e.name) (map seen_enumerator list.now)
 seen_node lists (node.Labels c body) = rules.label_nodes (seen_construct c) (seen_type body.now) [] (rules.labels_of (seen_type body.now))
 seen_node lists (node.EmptyArm c) = rules.EmptyArmNode (seen_construct c) ∷ []
 seen_node lists (node.Declarator list index it) = rules.DeclaratorNode (list_at lists list) index (seen_declared it) ∷ []
