@@ -24,7 +24,7 @@ pub written_same : (known : Known) (a b : Names) (file : ℕ) (t : TypeSpec) →
 written_same known a b file (tree.Simple s) h = refl
 written_same known a b file (tree.Name n) h = ap or_void (h n.octets)
 written_same known a b file (tree.Tag at kind tag) h = refl
-written_same known a b file (tree.Struct at tag members) h = refl
+written_same known a b file (tree.Struct at tag _) h = refl
 written_same known a b file (tree.EncapsulatedUnion at tag d name cases) h = refl
 written_same known a b file (tree.NonEncapsulatedUnion at tag arms) h = refl
 written_same known a b file (tree.Enum at tag es) h = refl

@@ -13,6 +13,10 @@ use Rattle.idl_check.specs.Kinds.{type_at}
 abbrev pub seen_names : List Kind → List (List ℕ × ℕ) → Names
 seen_names ks names = map (λ e. (e.0, type_at ks e.1)) names
 
+-- numbers of some of the first n types
+abbrev pub are_below : ℕ → List ℕ → Bool
+are_below n numbers = list_all (λ k. ltb k n) numbers
+
 -- each of them has one of the first n types
 abbrev pub are_within : ℕ → List (List ℕ × ℕ) → Bool
 are_within n names = list_all (λ e. ltb e.1 n) names

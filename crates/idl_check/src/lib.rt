@@ -14,8 +14,8 @@ mod nodes;
 mod words;
 mod finder;
 mod places;
-mod said;
 mod types;
+mod variables;
 mod typing;
 mod written;
 #[cfg(test)]

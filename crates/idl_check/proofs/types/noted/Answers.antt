@@ -2,19 +2,9 @@ use Rattle.std.proofs.Common.{sym, subst, IfOk}
 use Rattle.idl_names.specs.Seen.{known_in}
 use Rattle.idl_check.specs.declared.nodes.Node.{Node}
 use Rattle.idl_check.specs.SeenNames.{seen_names}
-use Rattle.idl_check.specs.SeenNodes.{seen_declared, list_at}
 use Rattle.idl_check.specs.SeenTypes.{bare, IsTyped}
-use Rattle.idl_check.proofs.NotedTypes.{ok_then, at_index}
+use Rattle.idl_check.proofs.NotedTypes.{ok_then}
 use Rattle.idl_check.proofs.types.noted.Goals as goal
-
-pub returns-in-Declarator-clause-typed : goal.returns-in-Declarator-clause-typed
-returns-in-Declarator-clause-typed c =
-    let known = known_in c.args.scope.now in
-    let names = seen_names c.args.kinds.now c.args.names.now in
-    let lists = c.args.nodes.now.lists.items in
-    subst (λ (n : Node). IfOk c.note_listed.result (IsTyped (bare known) names c.note_listed.new.kinds lists n)) (sym c.in-Declarator.is)
-        (ok_then c.note_listed.result c.note_listed.ensures.typed
-            (at_index known names c.note_listed.new.kinds (list_at lists c.in-Declarator.list) c.in-Declarator.index (seen_declared c.in-Declarator.it)))
 
 pub returns-in-Body-clause-typed : goal.returns-in-Body-clause-typed
 returns-in-Body-clause-typed c =
