@@ -39,3 +39,5 @@ pub mod Dimensions
 pub mod NotedTypes
 mod Split
 mod Judgement
+pub mod Agreed
+pub mod PartTypes

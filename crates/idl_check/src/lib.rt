@@ -5,6 +5,7 @@ mod checking;
 mod attributes;
 mod exports;
 mod fault;
+mod in_place;
 mod kinds;
 mod graph;
 pub mod laws;
@@ -14,8 +15,8 @@ mod nodes;
 mod words;
 mod finder;
 mod places;
-mod said;
 mod types;
+mod variables;
 mod typing;
 mod written;
 #[cfg(test)]
