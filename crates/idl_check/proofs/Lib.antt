@@ -41,3 +41,7 @@ mod Split
 mod Judgement
 pub mod Agreed
 pub mod PartTypes
+mod Held
+mod BodyParts
+mod PlacesFilled
+mod Bridges

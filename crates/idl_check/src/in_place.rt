@@ -5,20 +5,19 @@ ghost use Rattle.nd_base.specs.declared.octets.Place.{Place};
 ghost use Rattle.idl_check.specs.Scene.{Scene, in_place, nests, hoists_within};
 ghost use Rattle.idl_check.specs.ArrayRules.{is_barred_within};
 ghost use Rattle.idl_check.specs.Kinds.{type_by, type_at, seen_types};
+ghost use Rattle.idl_check.specs.Types.{IdlType};
 ghost use Rattle.idl_check.specs.SeenTypes.{IsTypes};
 ghost use Rattle.idl_check.specs.declared.nodes.Nodes as program_nodes;
 ghost use Rattle.idl_check.specs.declared.kinds.Kind.{Kind};
 ghost use Rattle.idl_check.specs.Graph.{parts_at, rule_at};
-ghost use Rattle.idl_check.specs.InPlace.{parts_in_place, hoists_rule, barred_rule, AreHeld, IsPlaces};
+ghost use Rattle.idl_check.specs.InPlace.{parts_in_place, hoists_rule, barred_rule, AreHeld, IsPlaces, AreRules, AreProperties};
 
 use crate::graph::{Graph, Rule, properties};
 use crate::kinds::{Kind, Kinds};
 use crate::types::Types;
 use nd_base::{Memory, Place};
+use nd_types::NESTING_LIMIT;
 use std::alloc::Global;
-
-/// How many types a path down through members, elements and arms may have.
-const NESTING_LIMIT: usize = 32;
 
 /// The number of a type, or that of `void` behind all types.
 fn node(number: u32, count: u32) -> u32
@@ -85,7 +84,7 @@ fn places(alloc: Global, types: &Types, count: u32) -> Result<Graph, Memory>
 
 /// When a type of this kind hoists.
 fn hoists(kind: Kind) -> Rule
-    ensures { result ≡ hoists_rule kind }
+    ensures { (types : List IdlType) → result ≡ hoists_rule (type_by types kind) }
 {
     match kind {
         Kind::Array { count: None, .. } => Rule::Always,
@@ -97,7 +96,7 @@ fn hoists(kind: Kind) -> Rule
 
 /// When a type of this kind may not stand in a pipe.
 fn barred(kind: Kind) -> Rule
-    ensures { result ≡ barred_rule kind }
+    ensures { (types : List IdlType) → result ≡ barred_rule (type_by types kind) }
 {
     match kind {
         Kind::Pointer { .. } => Rule::Always,
@@ -108,4 +107,61 @@ fn barred(kind: Kind) -> Rule
         Kind::Array { varying: true, .. } => Rule::Always,
         _ => Rule::Any,
     }
+}
+
+/// When types hoist, by their numbers, and `void` behind them.
+fn hoists_rules(alloc: Global, kinds: &Kinds, count: u32) -> Result<Vec<Rule>, Memory>
+    ensures { length kinds.now ≡ count → IfOk result (λ v. AreRules hoists_rule kinds.now count v.items) }
+{
+    let mut rules = Vec::new(alloc);
+    for number in 0..count {
+        let Ok(()) = rules.push(hoists(kinds.kind(number))) else {
+            return Err(Memory);
+        };
+    }
+    let Ok(()) = rules.push(Rule::Never) else {
+        return Err(Memory);
+    };
+    Ok(rules)
+}
+
+/// When types may not stand in pipes, by their numbers, and `void` behind them.
+fn barred_rules(alloc: Global, kinds: &Kinds, count: u32) -> Result<Vec<Rule>, Memory>
+    ensures { length kinds.now ≡ count → IfOk result (λ v. AreRules barred_rule kinds.now count v.items) }
+{
+    let mut rules = Vec::new(alloc);
+    for number in 0..count {
+        let Ok(()) = rules.push(barred(kinds.kind(number))) else {
+            return Err(Memory);
+        };
+    }
+    let Ok(()) = rules.push(Rule::Any) else {
+        return Err(Memory);
+    };
+    Ok(rules)
+}
+
+/// What follows from what types hold in their place, by their numbers; behind them the same of `void`.
+#[derive(Drop)]
+pub(crate) struct Properties {
+    pub(crate) hoists: Vec<bool>,
+    /// No path down from the type has more types than may be.
+    pub(crate) nests: Vec<bool>,
+    /// The type may not stand in a pipe.
+    pub(crate) barred: Vec<bool>,
+}
+
+/// The properties of all types. Takes memory for each type and each part of a body.
+pub(crate) fn properties_of(alloc: Global, types: &Types, count: u32) -> Result<Properties, Memory>
+    ensures { (s : Scene) (n : program_nodes.Nodes) → IsTypes s n types.now → length types.now.kinds ≡ count → IfOk result (AreProperties s types.now.kinds count) }
+{
+    let graph = places(alloc, types, count)?;
+    let hoists = hoists_rules(alloc, &types.kinds, count)?;
+    let barred = barred_rules(alloc, &types.kinds, count)?;
+    let nests = vec![in alloc; Rule::All; count as usize + 1]?;
+    Ok(Properties {
+        hoists: properties(alloc, &graph, hoists.as_slice(), NESTING_LIMIT as usize)?,
+        nests: properties(alloc, &graph, nests.as_slice(), NESTING_LIMIT as usize)?,
+        barred: properties(alloc, &graph, barred.as_slice(), NESTING_LIMIT as usize)?,
+    })
 }
