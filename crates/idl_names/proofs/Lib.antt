@@ -5,4 +5,5 @@ pub mod Walked
 pub mod Going
 pub mod Spelled
 pub mod Loads
+pub mod Once
 pub mod Lists

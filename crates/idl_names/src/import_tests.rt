@@ -1,5 +1,5 @@
 // What files and their imports come to, by examples.
-ghost use Rattle.std.specs.Prelude.{◌≤◌};
+ghost use Rattle.std.specs.Prelude.{◌≤◌, ◌<◌};
 
 use crate::{
     Meaning, NameFault, Names, Scope, Sources, SyntaxFault, resolve,
@@ -211,6 +211,13 @@ fn strings_spell_names(rt: HostRuntime) -> Result<(), Fail> {
 /// The names of 64 files, one octet each.
 const NAMES: &[u8; 64] = b"ABCDEFGHIJKLMNOPQRSTUVWXYZabcdefghijklmnopqrstuvwxyz0123456789+-";
 
+/// One of them.
+fn name(at: usize) -> u8
+    requires { at < 64 }
+{
+    NAMES[at]
+}
+
 /// A file that imports so many of them.
 fn importing(alloc: Global, count: usize) -> Result<Octets, Fail>
     requires { count ≤ 64 }
@@ -220,9 +227,7 @@ fn importing(alloc: Global, count: usize) -> Result<Octets, Fail>
         if at > 0 {
             text.append(b", ")?;
         }
-        text.append(b"\"")?;
-        text.append(&NAMES[at..at + 1])?;
-        text.append(b"\"")?;
+        text.append(&[b'"', name(at), b'"'])?;
     }
     text.append(b"; }")?;
     Ok(text)
@@ -233,7 +238,7 @@ fn there_are_at_most_64_files(rt: HostRuntime) -> Result<(), Fail> {
     let alloc = rt.alloc();
     let mut files = MemFiles::new(alloc, &[])?;
     for at in 0..64 {
-        let name = String::from_utf8_lossy(alloc, &NAMES[at..at + 1])?;
+        let name = String::from_utf8_lossy(alloc, &[name(at)])?;
         files.add(name.as_str(), b"[local] interface x { }")?;
     }
     let main = importing(alloc, 63)?;
