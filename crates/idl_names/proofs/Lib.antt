@@ -7,3 +7,4 @@ pub mod Spelled
 pub mod Loads
 pub mod Once
 pub mod Lists
+pub mod Rests

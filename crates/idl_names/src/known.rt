@@ -157,9 +157,10 @@ impl NameTables {
                 place,
                 first: earlier.place,
             }),
-            None => Ok(self
-                .tags
-                .put(tag.octets.as_slice(), TagDefinition { kind, place })?),
+            None => Ok(
+                self.tags
+                    .put(tag.octets.as_slice(), TagDefinition { kind, place })?,
+            ),
         }
     }
 
@@ -175,20 +176,31 @@ impl NameTables {
     }
 
     /// From here on a name is known.
-    pub(crate) fn know(&mut self, file: u16, name: &Spelling, meaning: Meaning) -> Result<(), NameFault>
+    pub(crate) fn know(
+        &mut self,
+        file: u16,
+        name: &Spelling,
+        meaning: Meaning,
+    ) -> Result<(), NameFault>
         ensures { IsRight self.new result (walked file self.old (Know name.now meaning ∷ [])) }
     {
         Ok(self.meanings.put(name.octets.as_slice(), meaning)?)
     }
 
     /// From here on a name is known, and stands for the value of an expression.
-    pub(crate) fn know_value(&mut self, file: u16, name: &Spelling, expression: &Expr) -> Result<(), NameFault>
+    pub(crate) fn know_value(
+        &mut self,
+        file: u16,
+        name: &Spelling,
+        expression: &Expr,
+    ) -> Result<(), NameFault>
         ensures { IsRight self.new result (walked file self.old (KnowValue name.now (seen_expr expression.now) ∷ [])) }
     {
         let value = self.value(file, expression)?;
-        Ok(self
-            .meanings
-            .put(name.octets.as_slice(), Meaning::Number(value))?)
+        Ok(
+            self.meanings
+                .put(name.octets.as_slice(), Meaning::Number(value))?,
+        )
     }
 
     /// What an enumerator without a value stands for. A number past 128 bits would take more names than memory can hold.

@@ -11,6 +11,8 @@ pub mod laws;
 mod loading;
 mod meaning;
 mod name_fault;
+#[cfg(test)]
+mod one_file_tests;
 mod operators;
 mod resolving;
 mod scope;
@@ -32,4 +34,5 @@ pub use name_fault::NameFault;
 pub use resolving::resolve;
 pub use scope::{FileTree, FileTrees, Scope};
 pub use sources::{FILES_LIMIT, Sources};
+pub use table::Table;
 pub use tag::{TagDefinition, TagUse};
