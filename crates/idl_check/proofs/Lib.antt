@@ -39,3 +39,6 @@ pub mod Dimensions
 pub mod NotedTypes
 pub mod Agreed
 pub mod PartTypes
+pub mod ReadNames
+pub mod ReadSteps
+pub mod ReadBodies
