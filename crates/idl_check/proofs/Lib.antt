@@ -42,3 +42,4 @@ pub mod PartTypes
 pub mod ReadNames
 pub mod ReadSteps
 pub mod ReadBodies
+pub mod ReadAll

@@ -8,6 +8,8 @@ use Rattle.nd_base.specs.declared.octets.Place.{Place}
 use Rattle.idl_names.specs.Known.{Known}
 use Rattle.idl_check.specs.declared.kinds.Kind.{Kind}
 use Rattle.idl_check.specs.declared.nodes.Node as program_node
+use Rattle.idl_check.specs.declared.nodes.Node.TheVariants as node
+use Rattle.idl_check.specs.Types.{Names}
 use Rattle.idl_check.specs.declared.nodes.Nodes as program_nodes
 use Rattle.idl_check.specs.declared.types.BodyTypes.{BodyTypes}
 use Rattle.idl_check.specs.Scene.{Body, body_among, same_place, place_of}
@@ -185,3 +187,7 @@ bodies_read_next known n i ks noted places it body b here at h is below =
     let e = bodies_front_next known n i it here ∙ ap (λ o. bodies_front known n i ++ body_list o) at in
     subst (λ (front : List Body). BodiesOver known n front ks (noted ++ b ∷ []) (and_place places b.place (length noted))) (sym e)
         (bodies_more known n (bodies_front known n i) ks noted places body b h is below)
+
+pub not_body : (names : Names) (it : program_node.Node) → ((c : _) (body : _) → it ≡ node.Body c body → ⊥) → body_at names (Some it) ≡ None
+not_body names (node.Body c body) h = absurd (h c body refl)
+not_body names it h = refl

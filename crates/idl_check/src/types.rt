@@ -441,7 +441,7 @@ fn read_body(
     ensures typed { types.new.typed ≡ types.old.typed }
     ensures keeps { Keeps types.old.kinds types.new.kinds }
 {
-    let Some(Node::Body { construct, body }) = nodes.items.get(index) else {
+    let Node::Body { construct, body } = &nodes.items[index] else {
         return Ok(());
     };
     let node = narrow(index)?;
