@@ -1,4 +1,4 @@
-use Rattle.std.proofs.Common.{◌≡◌, ℕ, ◌+◌, List, true, length, Some, None, slice_get, sym, ap, ◌∙◌, refl, subst}
+use Rattle.std.proofs.Common.{◌≡◌, ℕ, ◌+◌, List, [], ◌∷◌, ◌++◌, true, length, Some, None, slice_get, sym, ap, ◌∙◌, refl, subst}
 use Rattle.std.proofs.lemmas.Option.{slice_get_read}
 use Rattle.nd_base.specs.declared.octets.Place.{Place}
 use Rattle.idl_grammar.specs.Seen.{seen_type}
@@ -49,4 +49,4 @@ returns-clause-bodies c =
     let next = bodies_read_next known n i ks c.args.types.now.bodies.items c.args.types.now.by_place c.index.result.now body b here at before is c.in_ok-noted.ensures.within in
     on_ok_both c.push_body.result c.push_body.ensures.bodies c.push_body.ensures.places (λ e f.
       subst (λ (l : List BodyTypes). BodiesRead known n (i + 1) ks l c.push_body.new.by_place) (sym e)
-        (subst (λ (p : List (Place × ℕ)). BodiesRead known n (i + 1) ks _ p) (sym f) next))
+        (subst (λ (p : List (Place × ℕ)). BodiesRead known n (i + 1) ks (c.args.types.now.bodies.items ++ b ∷ []) p) (sym f) next))
