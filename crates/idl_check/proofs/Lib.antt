@@ -45,3 +45,7 @@ mod Held
 mod BodyParts
 mod PlacesFilled
 mod Bridges
+pub mod ReadNames
+pub mod ReadSteps
+pub mod ReadBodies
+pub mod ReadAll
