@@ -1,5 +1,5 @@
 // The rule of labels: each is a value of the tag's type, and none stands twice (C706, section 4.2.11).
-ghost use Rattle.std.specs.Prelude.{◌≡◌, ℤ, [], map, option_map, Some, IfOk, OnOk, List, Option};
+ghost use Rattle.std.specs.Prelude.{◌≡◌, ◌∷◌, ◌++◌, ℤ, [], map, option_map, Some, IfOk, OnOk, List, Option, slice_get};
 ghost use Rattle.idl_grammar.specs.Seen.{seen_enumerator, seen_type};
 ghost use Rattle.idl_names.specs.Seen.{seen_files, known_in};
 ghost use Rattle.idl_check.specs.World as world;
@@ -9,6 +9,7 @@ ghost use Rattle.idl_check.specs.Types.{IdlType, Names};
 ghost use Rattle.idl_check.specs.Scene as scenes;
 ghost use Rattle.idl_check.specs.Scene.{Scene, tag_type};
 ghost use Rattle.idl_check.specs.SeenNodes.{seen_construct};
+ghost use Rattle.idl_check.specs.Kinds.{type_by};
 ghost use Rattle.idl_check.specs.SeenTypes.{tag_seen, body_at, IsTypes};
 ghost use Rattle.idl_check.specs.ValueRules.{is_value_of};
 ghost use Rattle.idl_check.specs.LabelValues as values;

@@ -1,5 +1,5 @@
 // The labels of a union, with their values.
-ghost use Rattle.std.specs.Prelude.{◌≡◌, [], ◌∷◌, ◌++◌, map, IfOk, OnOk};
+ghost use Rattle.std.specs.Prelude.{◌≡◌, [], ◌∷◌, ◌++◌, map, Some, IfOk, OnOk};
 ghost use Rattle.std.specs.List.{flat_map};
 ghost use Rattle.idl_grammar.specs.Reading.{cases_of, arms_of};
 ghost use Rattle.idl_grammar.specs.Seen.{seen_expr, seen_label, seen_attribute, seen_arm, seen_case, seen_type};
