@@ -80,7 +80,7 @@ fn values_of(alloc: Global, scope: &Scope, list: &[Enumerator]) -> Result<ValueS
 {
     let mut set = ValueSet::new(alloc);
     for one in list {
-        let _repeated = set.add(number_of(scope, &one.name))?;
+        set.add(number_of(scope, &one.name))?;
     }
     Ok(set)
 }

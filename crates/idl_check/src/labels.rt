@@ -2,7 +2,7 @@
 ghost use Rattle.std.specs.Prelude.{◌≡◌, [], ◌∷◌, ◌++◌, map, Some, IfOk, OnOk};
 ghost use Rattle.std.specs.List.{flat_map};
 ghost use Rattle.idl_grammar.specs.Reading.{cases_of, arms_of};
-ghost use Rattle.idl_grammar.specs.Seen.{seen_expr, seen_label, seen_attribute, seen_arm, seen_case, seen_type};
+ghost use Rattle.idl_grammar.specs.Seen.{seen_expr, seen_label, seen_attribute, seen_kind, seen_arm, seen_case, seen_type};
 ghost use Rattle.idl_names.specs.Seen.{known_in};
 ghost use Rattle.idl_check.specs.Nodes as rules;
 ghost use Rattle.idl_check.specs.LabelValues.{valued};
@@ -63,7 +63,7 @@ fn add_values(scope: &Scope, list: &mut Vec<Valued>, at: u32, values: &[Expr]) -
 
 /// Adds the labels that an attribute gives.
 fn add_said(scope: &Scope, list: &mut Vec<Valued>, attribute: &Attribute) -> Result<(), Memory>
-    ensures { OnOk result (list.new.items ≡ list.old.items ++ map (valued (known_in scope.now)) (rules.labels_in (seen_attribute attribute.now ∷ []))) }
+    ensures { OnOk result (list.new.items ≡ list.old.items ++ map (valued (known_in scope.now)) (rules.labels_said attribute.now.at (seen_kind attribute.now.kind))) }
 {
     match &attribute.kind {
         AttributeKind::Case(values) => add_values(scope, list, attribute.at, values.as_slice()),

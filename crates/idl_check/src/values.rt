@@ -129,8 +129,8 @@ pub(crate) fn second_classes(finder: &mut Finder<'_>, construct: &Construct<'_>)
     let mut found = false;
     for one in construct.attributes {
         let class = is_class(one);
-        finder.note(26, construct.place(construct.at), class && found);
-        found = found || class;
+        finder.note(26, construct.place(construct.at), class & found);
+        found |= class;
     }
 }
 
