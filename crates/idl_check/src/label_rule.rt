@@ -127,12 +127,12 @@ fn accepts(accepted: &Accepted, value: Option<i128>) -> bool
 }
 
 /// The rule on a label, behind others with the values of a set.
-fn label(finder: &mut Finder<'_>, construct: &Construct<'_>, accepted: &Accepted, before: &mut ValueSet, it: Valued) -> Result<(), Memory>
+fn label(finder: &mut Finder<'_>, construct: &Construct<'_>, accepted: &Accepted, before: &mut ValueSet, it: &Valued) -> Result<(), Memory>
     ensures files { finder.new.files.now ≡ finder.old.files.now }
-    ensures holds { (done : List (Option ℤ)) → Holds before.old done → OnOk result (Holds before.new (done ++ it.value ∷ [])) }
+    ensures holds { (done : List (Option ℤ)) → Holds before.old done → OnOk result (Holds before.new (done ++ it.now.value ∷ [])) }
     ensures first { (w : World) (done : List (Option ℤ)) → w.files ≡ seen_files finder.old.files.now → Holds before.old done
         → OnOk result (option_map seen_breach finder.new.first
-            ≡ noted w (option_map seen_breach finder.old.first) (value_breaches (values.accepts accepted.now) (seen_construct construct.now) done (it ∷ []))) }
+            ≡ noted w (option_map seen_breach finder.old.first) (value_breaches (values.accepts accepted.now) (seen_construct construct.now) done (it.now ∷ []))) }
 {
     let repeated = before.add(it.value)?;
     let broken = !accepts(accepted, it.value) || repeated;
@@ -149,7 +149,7 @@ fn each_label(alloc: Global, finder: &mut Finder<'_>, construct: &Construct<'_>,
 {
     let mut before = ValueSet::new(alloc);
     for one in list {
-        label(finder, construct, accepted, &mut before, *one)?;
+        label(finder, construct, accepted, &mut before, one)?;
     }
     Ok(())
 }

@@ -51,12 +51,19 @@ fn add_labels(scope: &Scope, list: &mut Vec<Valued>, labels: &[Label]) -> Result
     Ok(())
 }
 
+/// Adds a value of `case` in a list of attributes.
+fn add_value(scope: &Scope, list: &mut Vec<Valued>, at: u32, value: &Expr) -> Result<(), Memory>
+    ensures { OnOk result (list.new.items ≡ list.old.items ++ valued (known_in scope.now) (record { at = at; value = Some (seen_expr value.now) }) ∷ []) }
+{
+    add(list, at, Some(number(scope, value)))
+}
+
 /// Adds the values of `case` in a list of attributes.
 fn add_values(scope: &Scope, list: &mut Vec<Valued>, at: u32, values: &[Expr]) -> Result<(), Memory>
     ensures { OnOk result (list.new.items ≡ list.old.items ++ map (valued (known_in scope.now)) (map (λ e. record { at = at; value = Some e }) (map seen_expr values.now))) }
 {
     for value in values {
-        add(list, at, Some(number(scope, value)))?;
+        add_value(scope, list, at, value)?;
     }
     Ok(())
 }
