@@ -2,7 +2,7 @@
 use Rattle.std.proofs.Common.{◌≡◌, ◌∙◌, ℕ, zero, suc, ℤ, ◌+◌, ◌<◌, ◌≤◌, arith, Bool, true, false, not, ◌||◌, List, [], ◌∷◌, ◌++◌, map, take, drop, length, get_or, Option, Some, None, slice_get, refl, ap, ap₂, sym, append-nil}
 use Rattle.std.specs.List.{list_any, flat_map}
 use Rattle.std.specs.Option.{option_and_then}
-use Rattle.std.proofs.lemmas.Option.{none-some, same_Some}
+use Rattle.std.proofs.lemmas.Option.{none-some, same_Some, slice_get-get_or}
 use Rattle.std.proofs.lemmas.List.{take_more, take_all, drop_more, drop_all, map-append}
 use Rattle.nd_base.specs.declared.octets.Place.{Place}
 use Rattle.nd_types.specs.declared.types.Primitive.{Primitive}
@@ -14,14 +14,15 @@ use Rattle.idl_check.specs.declared.kinds.Kind.TheVariants as kind
 use Rattle.idl_check.specs.declared.labels.Valued.{Valued}
 use Rattle.idl_check.specs.declared.nodes.Nodes as program_nodes
 use Rattle.idl_check.specs.declared.types.BodyTypes.{BodyTypes}
+use Rattle.idl_check.specs.declared.types.Typed.{Typed}
 use Rattle.idl_check.specs.declared.types.Types as program_types
 use Rattle.idl_check.specs.World.{World, number_of}
 use Rattle.idl_check.specs.Nodes.{Construct, ArmLabel, LabelNode, label_nodes}
 use Rattle.idl_check.specs.Types.{IdlType, Void, Handle, ContextHandle, Basic, Struct, Union, Enum, Array, Text, Pointer, Pipe, Names}
-use Rattle.idl_check.specs.Kinds.{basic_in, type_by}
+use Rattle.idl_check.specs.Kinds.{basic_in, type_by, type_at}
 use Rattle.idl_check.specs.Places.{found_place}
 use Rattle.idl_check.specs.Scene.{Scene, Body, bodies, body_of, tag_type, enumerators_found, enumerators_of}
-use Rattle.idl_check.specs.SeenTypes.{body_at, names_at, IsTypes}
+use Rattle.idl_check.specs.SeenTypes.{body_at, names_at, tag_seen, IsTypes}
 use Rattle.idl_check.specs.ValueRules.{same_value, label_value, is_repeated_label, is_value_of, is_label_of, is_bad_label}
 use Rattle.idl_check.specs.Rules.{Breach, broken_at, breaches_at}
 use Rattle.idl_check.specs.Noted.{noted, of_others}
@@ -43,6 +44,17 @@ not_there xs [] n same h = refl
 not_there [] (y ∷ ys) n same h = absurd (omega arith)
 not_there (x ∷ xs) (y ∷ ys) zero same h = absurd (none-some x (sym h))
 not_there (x ∷ xs) (y ∷ ys) (suc n) same h = not_there xs ys n (omega arith) h
+
+pub item_at : {X : Type 0} (xs ys : List X) (i : ℕ) (x : X) → xs ≡ ys → i < length xs → x ≡ get_or xs i x → slice_get ys i ≡ Some x
+item_at xs ys i x same below is = ap (λ l. slice_get l i) (sym same) ∙ slice_get-get_or xs i x below ∙ ap Some (sym is)
+
+past_end : {X : Type 0} (xs : List X) (i : ℕ) → length xs ≤ i → slice_get xs i ≡ None
+past_end [] i past = refl
+past_end (x ∷ xs) zero past = absurd (omega arith)
+past_end (x ∷ xs) (suc i) past = past_end xs i (omega arith)
+
+pub no_item_at : {X : Type 0} (xs ys : List X) (i : ℕ) → xs ≡ ys → length xs ≤ i → slice_get ys i ≡ None
+no_item_at xs ys i same past = ap (λ l. slice_get l i) (sym same) ∙ past_end xs i past
 
 module _ (s : Scene) (n : program_nodes.Nodes) (t : program_types.Types) (is : IsTypes s n t) (place : Place) where
   pub body_is : (i : ℕ) → found_place place t.by_place ≡ Some i → body_of s place ≡ slice_get (bodies s) i
@@ -70,6 +82,16 @@ holds_next f xs i x v set below is e h y =
 
 pub holds_all : {X : Type 0} (f : X → Option ℤ) (xs : List X) (i : ℕ) (set : List (Option ℤ)) → length xs ≤ i → Holds set (map f (take i xs)) → Holds set (map f xs)
 holds_all f xs i set past h y = h y ∙ ap (λ l. is_among y (map f l)) (take_all i xs past)
+
+-- the same, of an item that was copied
+same_item : {X : Type 0} (xs : List X) (i : ℕ) (d e : X) → i < length xs → get_or xs i d ≡ get_or xs i e
+same_item [] i d e below = absurd (omega (arith, below))
+same_item (x ∷ xs) zero d e below = refl
+same_item (x ∷ xs) (suc i) d e below = same_item xs i d e (omega (arith, below))
+
+pub holds_copy : {X : Type 0} (f : X → Option ℤ) (xs : List X) (i : ℕ) (d : X) (set : List (Option ℤ)) → i < length xs
+    → Holds set (map f (take i xs) ++ f (get_or xs i d) ∷ []) → Holds set (map f (take (i + 1) xs))
+holds_copy f xs i d set below h = holds_next f xs i (get_or xs i d) (f (get_or xs i d)) set below (same_item xs i d (get_or xs i d) below) refl h
 
 -- ## What labels may be
 
@@ -106,6 +128,14 @@ in_enum s known place es set z is e h =
     ∙ ap₂ (λ k l. is_among (Some z) (map (λ e. number_of k e.name.octets) l)) (sym is) e
     ∙ sym (any_seen (λ x. same_value x (Some z)) (λ e. number_of s.known e.name.octets) (enumerators_of s place))
 
+-- the tag's type is said
+pub tag_said : (ks : List Kind) (t : Typed) → t.has_tag ≡ true → tag_seen ks t ≡ Some (type_at ks t.of)
+tag_said ks t h = ap (λ b. elim b [ true ↦ Some (type_at ks t.of) | false ↦ None ]) h
+
+pub none_of : {X : Type 0} (o : Option X) → ((x : X) → o ≡ Some x → ⊥) → None ≡ o
+none_of None h = refl
+none_of (Some x) h = absurd (h x refl)
+
 accepts_is : (s : Scene) (tag : Option IdlType) (test : ℤ → Bool) → ((z : ℤ) → test z ≡ is_value_of s tag z) → (v : Option ℤ) → accepts_value test v ≡ is_label_of s tag v
 accepts_is s tag test is None = refl
 accepts_is s tag test is (Some z) = is z
@@ -140,6 +170,10 @@ label_noted w test c xs i x first next all below is e h =
       (ap (value_breaches test c (values_before xs i)) (drop_more xs i x below ∙ ap (λ y. y ∷ drop (i + 1) xs) (sym is))
         ∙ ap (λ b. part ++ value_breaches test c b (drop (i + 1) xs)) (sym (before_next (λ v. v.value) xs i x below is)))
       (e ∙ ap (noted w first) (append-nil part)) h
+
+pub copy_noted : (w : World) (test : ℤ → Bool) (c : Construct) (xs : List Valued) (i : ℕ) (d : Valued) (first next all : Option Breach) → i < length xs
+    → next ≡ noted w first (value_breaches test c (values_before xs i) (get_or xs i d ∷ [])) → noted w first (labels_left test c xs i) ≡ all → noted w next (labels_left test c xs (i + 1)) ≡ all
+copy_noted w test c xs i d first next all below e h = label_noted w test c xs i (get_or xs i d) first next all below (same_item xs i d (get_or xs i d) below) e h
 
 pub no_label_left : (w : World) (test : ℤ → Bool) (c : Construct) (xs : List Valued) (i : ℕ) (first all : Option Breach) → length xs ≤ i → noted w first (labels_left test c xs i) ≡ all → first ≡ all
 no_label_left w test c xs i first all past h = sym (ap (λ l. noted w first (value_breaches test c (values_before xs i) l)) (drop_all i xs past)) ∙ h

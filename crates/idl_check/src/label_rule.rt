@@ -174,5 +174,6 @@ pub(crate) fn labels(
 {
     let accepted = accepted_of(alloc, scope, nodes, types, typed)?;
     let list = labels_of(alloc, scope, body)?;
-    each_label(alloc, finder, construct, &accepted, list.as_slice())
+    each_label(alloc, finder, construct, &accepted, list.as_slice())?;
+    Ok(())
 }

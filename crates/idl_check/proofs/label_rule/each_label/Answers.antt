@@ -2,7 +2,7 @@ use Rattle.std.proofs.Common.{◌≡◌, ◌∙◌, ap, sym, refl, arith, option
 use Rattle.idl_names.specs.Seen.{seen_files}
 use Rattle.idl_check.specs.SeenNodes.{seen_construct}
 use Rattle.idl_check.specs.LabelValues.{is_among, accepts}
-use Rattle.idl_check.proofs.LabelTags.{holds_next, values_before, label_noted, no_label_left}
+use Rattle.idl_check.proofs.LabelTags.{holds_copy, values_before, copy_noted, no_label_left}
 use Rattle.idl_check.proofs.label_rule.each_label.Goals as goal
 
 pub loop-one-init : goal.loop-one-init
@@ -15,10 +15,9 @@ pub loop-one-preserved : goal.loop-one-preserved
 loop-one-preserved c =
     let xs = c.args.list.now in
     let i = c.loop-one.one-index in
-    let x = c.one-item.result in
     (c.in_ok-label.ensures.files ∙ c.loop-one.invariant.0,
-      holds_next (λ v. v.value) xs i x x.value c.label.new.before (omega arith) c.one-item.is refl (c.in_ok-label.ensures.holds (values_before xs i) c.loop-one.invariant.1),
-      (λ w files. label_noted w (accepts c.args.accepted.now) (seen_construct c.args.construct.now) xs i x _ _ _ (omega arith) c.one-item.is
+      holds_copy (λ v. v.value) xs i _ c.label.new.before c.loop-one-test.true (c.in_ok-label.ensures.holds (values_before xs i) c.loop-one.invariant.1),
+      (λ w files. copy_noted w (accepts c.args.accepted.now) (seen_construct c.args.construct.now) xs i _ _ _ _ c.loop-one-test.true
         (c.in_ok-label.ensures.first w (values_before xs i) (files ∙ ap seen_files (sym c.loop-one.invariant.0)) c.loop-one.invariant.1)
         (c.loop-one.invariant.2 w files)))
 
