@@ -11,7 +11,7 @@ use Rattle.idl_grammar.specs.Reading.{cases_of, arms_of}
 use Rattle.idl_grammar.specs.Seen.{seen_expr, seen_label, seen_attribute, seen_arm, seen_case}
 use Rattle.idl_names.specs.Known.{Known}
 use Rattle.idl_check.specs.declared.labels.Valued.{Valued}
-use Rattle.idl_check.specs.Nodes.{ArmLabel, arm_label, labels_said, labels_in, arm_attributes, arms_of_cases, arms_of_arms}
+use Rattle.idl_check.specs.Nodes.{arm_label, labels_said, labels_in, arm_attributes, arms_of_cases, arms_of_arms}
 use Rattle.idl_check.specs.LabelValues.{valued}
 
 abbrev pub each_label : Known → List labels.Label → List Valued

@@ -1,6 +1,5 @@
 -- What labels may be, and what is noted of them.
 use Rattle.std.proofs.Common.{◌≡◌, ◌∙◌, ℕ, zero, suc, ℤ, ◌+◌, ◌<◌, ◌≤◌, arith, Bool, true, false, not, ◌||◌, List, [], ◌∷◌, ◌++◌, map, take, drop, length, get_or, Option, Some, None, slice_get, refl, ap, ap₂, sym, append-nil}
-use Rattle.std.specs.List.{list_any, flat_map}
 use Rattle.std.specs.Option.{option_and_then}
 use Rattle.std.proofs.lemmas.Option.{none-some, same_Some, slice_get-get_or}
 use Rattle.std.proofs.lemmas.List.{take_more, take_all, drop_more, drop_all, map-append}
@@ -23,9 +22,9 @@ use Rattle.idl_check.specs.Kinds.{basic_in, type_by, type_at}
 use Rattle.idl_check.specs.Places.{found_place}
 use Rattle.idl_check.specs.Scene.{Scene, Body, bodies, body_of, tag_type, enumerators_found, enumerators_of}
 use Rattle.idl_check.specs.SeenTypes.{body_at, names_at, tag_seen, IsTypes}
-use Rattle.idl_check.specs.ValueRules.{same_value, label_value, is_repeated_label, is_value_of, is_label_of, is_bad_label}
-use Rattle.idl_check.specs.Rules.{Breach, broken_at, breaches_at}
-use Rattle.idl_check.specs.Noted.{noted, of_others}
+use Rattle.idl_check.specs.ValueRules.{same_value, label_value, is_value_of, is_label_of, is_bad_label}
+use Rattle.idl_check.specs.Rules.{Breach, broken_at}
+use Rattle.idl_check.specs.Noted.{noted}
 use Rattle.idl_check.specs.OtherBreaches.{other_breaches}
 use Rattle.idl_check.specs.LabelValues.{valued, is_among, Holds, accepts_value, value_breaches}
 use Rattle.idl_check.proofs.Dimensions.{any_seen}
@@ -150,10 +149,10 @@ module _ (s : Scene) (names : Names) (c : Construct) (body : TypeSpec) (test : �
       let tag = tag_type c names body in
       let v = label_value s.known l in
       let bad : (not (accepts_value test v) || is_among v (map (label_value s.known) before)) ≡ is_bad_label s tag before l =
-          ap₂ (λ a b. not a || b) (accepts_is s tag test is v) (sym (any_seen (λ x. same_value x v) (label_value s.known) before)) in
+      ap₂ (λ a b. not a || b) (accepts_is s tag test is v) (sym (any_seen (λ x. same_value x v) (label_value s.known) before)) in
       ap₂ (λ p r. p ++ r)
-        (ap (broken_at c 22 l.at) bad ∙ sym (kept c 22 l.at (is_bad_label s tag before l) refl))
-        (ap (λ b. value_breaches test c b (map (valued s.known) ls)) (sym (map-append (label_value s.known) before (l ∷ []))) ∙ labels_others (before ++ l ∷ []) ls)
+      (ap (broken_at c 22 l.at) bad ∙ sym (kept c 22 l.at (is_bad_label s tag before l) refl))
+      (ap (λ b. value_breaches test c b (map (valued s.known) ls)) (sym (map-append (label_value s.known) before (l ∷ []))) ∙ labels_others (before ++ l ∷ []) ls)
       ∙ sym (other_cons s names (LabelNode c body before l) (label_nodes c body (before ++ l ∷ []) ls))
 
 abbrev pub values_before : List Valued → ℕ → List (Option ℤ)
@@ -167,9 +166,9 @@ pub label_noted : (w : World) (test : ℤ → Bool) (c : Construct) (xs : List V
 label_noted w test c xs i x first next all below is e h =
     let part = broken_at c 22 x.at (not (accepts_value test x.value) || is_among x.value (values_before xs i)) in
     part_noted w part (labels_left test c xs (i + 1)) (labels_left test c xs i) first next all
-      (ap (value_breaches test c (values_before xs i)) (drop_more xs i x below ∙ ap (λ y. y ∷ drop (i + 1) xs) (sym is))
-        ∙ ap (λ b. part ++ value_breaches test c b (drop (i + 1) xs)) (sym (before_next (λ v. v.value) xs i x below is)))
-      (e ∙ ap (noted w first) (append-nil part)) h
+    (ap (value_breaches test c (values_before xs i)) (drop_more xs i x below ∙ ap (λ y. y ∷ drop (i + 1) xs) (sym is))
+    ∙ ap (λ b. part ++ value_breaches test c b (drop (i + 1) xs)) (sym (before_next (λ v. v.value) xs i x below is)))
+    (e ∙ ap (noted w first) (append-nil part)) h
 
 pub copy_noted : (w : World) (test : ℤ → Bool) (c : Construct) (xs : List Valued) (i : ℕ) (d : Valued) (first next all : Option Breach) → i < length xs
     → next ≡ noted w first (value_breaches test c (values_before xs i) (get_or xs i d ∷ [])) → noted w first (labels_left test c xs i) ≡ all → noted w next (labels_left test c xs (i + 1)) ≡ all

@@ -45,9 +45,9 @@ pub last_kept : (c : Construct) (at end i j k r : ℕ) (a b d e : Bool) → ltb 
 last_kept c at end i j k r a b d e f g h last =
     others_append (broken_at c i at a ++ broken_at c j at b ++ broken_at c k at d) (broken_at c r end e)
     ∙ ap₂ (λ l m. l ++ m)
-        (others_append (broken_at c i at a ++ broken_at c j at b) (broken_at c k at d)
-        ∙ ap₂ (λ l m. l ++ m) (others_append (broken_at c i at a) (broken_at c j at b) ∙ ap₂ (λ l m. l ++ m) (dropped c i at a f) (dropped c j at b g)) (dropped c k at d h))
-        (kept c r end e last)
+    (others_append (broken_at c i at a ++ broken_at c j at b) (broken_at c k at d)
+    ∙ ap₂ (λ l m. l ++ m) (others_append (broken_at c i at a) (broken_at c j at b) ∙ ap₂ (λ l m. l ++ m) (dropped c i at a f) (dropped c j at b g)) (dropped c k at d h))
+    (kept c r end e last)
 
 -- one part is noted, and another is left
 pub part_noted : (w : World) (part rest left : List Breach) (first next all : Option Breach) → left ≡ part ++ rest → next ≡ noted w first part → noted w first left ≡ all

@@ -13,16 +13,16 @@ use Rattle.idl_names.specs.Known.{Known}
 use Rattle.idl_check.specs.World.{World}
 use Rattle.idl_check.specs.Attributes.{has, is_word, has_one_of, classes, is_class}
 use Rattle.idl_check.specs.AttributeRules.{is_out_of_place, is_repeated, is_large_version, is_second_class}
-use Rattle.idl_check.specs.Nodes.{Construct, place_in, EnumeratorNode, ConstantNode, AttributeNode, attribute_nodes_from}
+use Rattle.idl_check.specs.Nodes.{Construct, EnumeratorNode, ConstantNode, AttributeNode, attribute_nodes_from}
 use Rattle.idl_check.specs.Types.{IdlType, Void, Handle, ContextHandle, Basic, Struct, Union, Enum, Array, Text, Pointer, Pipe, Names}
 use Rattle.idl_check.specs.Kinds.{basic_in}
 use Rattle.idl_check.specs.Scene.{Scene}
 use Rattle.idl_check.specs.ValueRules.{holds, is_large_enumerator, is_void_constant, is_handle_constant, is_wrong_constant}
-use Rattle.idl_check.specs.Rules.{Breach, broken_at, broken_in, breaches_at}
-use Rattle.idl_check.specs.Noted.{noted, of_others}
+use Rattle.idl_check.specs.Rules.{Breach, broken_at}
+use Rattle.idl_check.specs.Noted.{noted}
 use Rattle.idl_check.specs.OtherBreaches.{other_breaches}
 use Rattle.idl_check.proofs.ListNotes.{any_last}
-use Rattle.idl_check.proofs.OtherNotes.{kept, other_cons, other_one, three_kept, last_kept, part_noted}
+use Rattle.idl_check.proofs.OtherNotes.{kept, other_cons, other_one, three_kept, last_kept}
 
 -- ## Constants
 
@@ -61,7 +61,7 @@ pub constant_others : (s : Scene) (names : Names) (known : Known) (c : Construct
 constant_others s names known c type star value is =
     ap (λ k. constant_breaches k c type star value) (sym is)
     ∙ sym (other_one s names (ConstantNode c type star value)
-        ∙ three_kept c c.at 6 7 38 (is_void_constant type value) (is_handle_constant type) (is_wrong_constant s.known type star value) refl refl refl)
+    ∙ three_kept c c.at 6 7 38 (is_void_constant type value) (is_handle_constant type) (is_wrong_constant s.known type star value) refl refl refl)
 
 -- ## Enumerators
 
@@ -95,7 +95,7 @@ or_three false false false false false false = refl
 pub classes_more : (before : List Attribute) (a : Attribute) → has_one_of classes (before ++ a ∷ []) ≡ (has_one_of classes before || is_class a)
 classes_more before a =
     ap₂ (λ x y. x || y) (any_last (is_word (codes "ref")) before a)
-        (ap₂ (λ x y. x || y) (any_last (is_word (codes "unique")) before a) (ap (λ x. x || false) (any_last (is_word (codes "ptr")) before a)))
+    (ap₂ (λ x y. x || y) (any_last (is_word (codes "unique")) before a) (ap (λ x. x || false) (any_last (is_word (codes "ptr")) before a)))
     ∙ or_three (has (codes "ref") before) (has (codes "unique") before) (has (codes "ptr") before) (is_word (codes "ref") a) (is_word (codes "unique") a) (is_word (codes "ptr") a)
 
 abbrev pub class_breaches : Scene → Names → Construct → List attribute.Attribute → ℕ → List Breach
@@ -123,7 +123,7 @@ classes_left s names c xs i x below is =
     ap (λ l. other_breaches s names (attribute_nodes_from c before (map seen_attribute l))) (drop_more xs i x below ∙ ap (λ y. y ∷ drop (i + 1) xs) (sym is))
     ∙ other_cons s names (AttributeNode c before a) (attribute_nodes_from c (before ++ a ∷ []) more)
     ∙ ap₂ (λ l m. l ++ m) (last_kept c a.at c.at 1 2 4 26 (is_out_of_place c.position a) (is_repeated before a) (is_large_version a) (is_second_class before a) refl refl refl refl)
-        (ap (λ b. other_breaches s names (attribute_nodes_from c b more)) (sym (before_next xs i x below is)))
+    (ap (λ b. other_breaches s names (attribute_nodes_from c b more)) (sym (before_next xs i x below is)))
 
 pub no_class_left : (w : World) (s : Scene) (names : Names) (c : Construct) (xs : List attribute.Attribute) (i : ℕ) (first all : Option Breach) → length xs ≤ i
     → noted w first (class_breaches s names c xs i) ≡ all → first ≡ all

@@ -80,7 +80,11 @@ fn add_said(scope: &Scope, list: &mut Vec<Valued>, attribute: &Attribute) -> Res
 }
 
 /// Adds the labels that attributes give.
-fn add_all_said(scope: &Scope, list: &mut Vec<Valued>, attributes: &[Attribute]) -> Result<(), Memory>
+fn add_all_said(
+    scope: &Scope,
+    list: &mut Vec<Valued>,
+    attributes: &[Attribute],
+) -> Result<(), Memory>
     ensures { OnOk result (list.new.items ≡ list.old.items ++ map (valued (known_in scope.now)) (rules.labels_in (map seen_attribute attributes.now))) }
 {
     for attribute in attributes {
@@ -122,7 +126,11 @@ fn labels_of_arms(alloc: Global, scope: &Scope, arms: &Vec<Arm>) -> Result<Vec<V
 }
 
 /// The labels of a union, in the order of the text. Takes memory for the list.
-pub(crate) fn labels_of(alloc: Global, scope: &Scope, body: &TypeSpec) -> Result<Vec<Valued>, Memory>
+pub(crate) fn labels_of(
+    alloc: Global,
+    scope: &Scope,
+    body: &TypeSpec,
+) -> Result<Vec<Valued>, Memory>
     ensures { IfOk result (λ v. v.items ≡ map (valued (known_in scope.now)) (rules.labels_of (seen_type body.now))) }
 {
     match body {

@@ -1,4 +1,4 @@
-use Rattle.std.proofs.Common.{◌≡◌, ◌∙◌, Some, sym, ap}
+use Rattle.std.proofs.Common.{◌∙◌, Some, sym, ap}
 use Rattle.idl_names.specs.Seen.{known_in}
 use Rattle.idl_check.specs.Kinds.{type_by}
 use Rattle.idl_check.specs.ValueRules.{is_value_of}

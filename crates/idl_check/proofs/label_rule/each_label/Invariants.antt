@@ -14,5 +14,5 @@ invariant-loop-one l =
     (l.finder.files.now ≡ l.fn.finder.files.now)
     × Holds l.before (values_before l.list l.one-index)
     × ((w : World) → w.files ≡ seen_files l.fn.finder.files.now
-        → noted w (option_map seen_breach l.finder.first) (labels_left (accepts l.accepted) (seen_construct l.construct) l.list l.one-index)
-            ≡ noted w (option_map seen_breach l.fn.finder.first) (value_breaches (accepts l.accepted) (seen_construct l.construct) [] l.list))
+    → noted w (option_map seen_breach l.finder.first) (labels_left (accepts l.accepted) (seen_construct l.construct) l.list l.one-index)
+    ≡ noted w (option_map seen_breach l.fn.finder.first) (value_breaches (accepts l.accepted) (seen_construct l.construct) [] l.list))

@@ -1,4 +1,4 @@
-use Rattle.std.proofs.Common.{◌≡◌, ◌∙◌, sym, ap, slice_get, rules}
+use Rattle.std.proofs.Common.{rules}
 use Rattle.idl_check.proofs.LabelTags.{item_at, no_item_at, enumerators_there, no_body_there}
 use Rattle.idl_check.proofs.label_rule.enumerators_of.Goals as goal
 

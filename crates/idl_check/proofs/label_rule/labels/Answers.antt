@@ -1,6 +1,5 @@
-use Rattle.std.proofs.Common.{◌≡◌, ◌∙◌, [], map, sym, ap, option_map}
+use Rattle.std.proofs.Common.{◌∙◌, [], map, sym, ap, option_map}
 use Rattle.idl_grammar.specs.Seen.{seen_type}
-use Rattle.idl_names.specs.Seen.{known_in}
 use Rattle.idl_check.specs.Nodes.{labels_of}
 use Rattle.idl_check.specs.SeenNodes.{seen_construct}
 use Rattle.idl_check.specs.ValueRules.{is_value_of}
@@ -17,6 +16,6 @@ returns-clause-first c w s names files known is tag =
     let test = accepts c.in_ok-accepted.accepted in
     c.in_ok-each_label.ensures.first w files
     ∙ ap (λ l. noted w (option_map seen_breach c.args.finder.now.first) (value_breaches test k [] l))
-        (c.as_slice.ensures.value ∙ c.in_ok-list.ensures ∙ ap (λ n. map (valued n) (labels_of body)) (sym known))
+    (c.as_slice.ensures.value ∙ c.in_ok-list.ensures ∙ ap (λ n. map (valued n) (labels_of body)) (sym known))
     ∙ ap (λ l. noted w (option_map seen_breach c.args.finder.now.first) l)
-        (labels_others s names k body test (λ z. c.in_ok-accepted.ensures s known is z ∙ ap (λ t. is_value_of s t z) tag) [] (labels_of body))
+    (labels_others s names k body test (λ z. c.in_ok-accepted.ensures s known is z ∙ ap (λ t. is_value_of s t z) tag) [] (labels_of body))

@@ -1,4 +1,4 @@
-use Rattle.std.proofs.Common.{◌≡◌, ◌∙◌, List, [], ◌∷◌, map, take, ap, sym, refl, arith}
+use Rattle.std.proofs.Common.{◌≡◌, ◌∙◌, List, [], ◌∷◌, map, ap, refl, arith}
 use Rattle.idl_grammar.specs.declared.types.Enumerator.{Enumerator}
 use Rattle.idl_grammar.specs.Seen.{seen_enumerator}
 use Rattle.idl_names.specs.Known.{Known}
@@ -18,7 +18,7 @@ loop-one-init c v = ap (is_among v) c.new-set.ensures
 pub loop-one-preserved : goal.loop-one-preserved
 loop-one-preserved c =
     holds_next (λ e. number_of (known_in c.args.scope.now) e.name.octets) c.args.list.now c.loop-one.one-index c.one-item.result c.number_of.result c.add.new.self (omega arith) c.one-item.is c.number_of.ensures
-      (c.in_ok-add.ensures.holds _ c.loop-one.invariant)
+    (c.in_ok-add.ensures.holds _ c.loop-one.invariant)
 
 pub returns : goal.returns
 returns c v =

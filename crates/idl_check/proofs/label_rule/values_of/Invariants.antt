@@ -1,5 +1,4 @@
 use Rattle.std.proofs.Common.{map, take}
-use Rattle.idl_grammar.specs.Seen.{seen_enumerator}
 use Rattle.idl_names.specs.Seen.{known_in}
 use Rattle.idl_check.specs.World.{number_of}
 use Rattle.idl_check.specs.LabelValues.{Holds}

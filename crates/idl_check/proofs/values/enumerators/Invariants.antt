@@ -14,5 +14,5 @@ abbrev pub invariant-loop-one : goal.invariant-loop-one
 invariant-loop-one l =
     (l.finder.files.now ≡ l.fn.finder.files.now)
     × ((w : World) (s : Scene) (names : Names) → w.files ≡ seen_files l.fn.finder.files.now → s.known ≡ known_in l.scope
-        → noted w (option_map seen_breach l.finder.first) (enumerator_breaches s names (seen_construct l.construct) (drop l.one-index l.list))
-            ≡ noted w (option_map seen_breach l.fn.finder.first) (enumerator_breaches s names (seen_construct l.construct) l.list))
+    → noted w (option_map seen_breach l.finder.first) (enumerator_breaches s names (seen_construct l.construct) (drop l.one-index l.list))
+    ≡ noted w (option_map seen_breach l.fn.finder.first) (enumerator_breaches s names (seen_construct l.construct) l.list))

@@ -17,5 +17,5 @@ invariant-loop-one l =
     (l.finder.files.now ≡ l.fn.finder.files.now)
     × (l.found ≡ has_class_before l.one-items l.one-index)
     × ((w : World) (s : Scene) (names : Names) → w.files ≡ seen_files l.fn.finder.files.now
-        → noted w (option_map seen_breach l.finder.first) (class_breaches s names (seen_construct l.construct) l.one-items l.one-index)
-            ≡ noted w (option_map seen_breach l.fn.finder.first) (other_breaches s names (attribute_nodes (seen_construct l.fn.construct))))
+    → noted w (option_map seen_breach l.finder.first) (class_breaches s names (seen_construct l.construct) l.one-items l.one-index)
+    ≡ noted w (option_map seen_breach l.fn.finder.first) (other_breaches s names (attribute_nodes (seen_construct l.fn.construct))))
