@@ -25,6 +25,8 @@ mod values;
 mod written;
 #[cfg(test)]
 mod node_tests;
+#[cfg(test)]
+mod label_tests;
 mod parts;
 mod walk;
 
