@@ -27,6 +27,7 @@ pub mod Spelled
 pub mod Found
 pub mod ListBreaches
 pub mod OtherBreaches
+pub mod LabelValues
 pub mod Checked
 pub mod Kinds
 pub mod Places

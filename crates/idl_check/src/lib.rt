@@ -7,6 +7,8 @@ mod exports;
 mod fault;
 mod in_place;
 mod kinds;
+mod label_rule;
+mod labels;
 mod graph;
 pub mod laws;
 mod lists;
@@ -15,12 +17,18 @@ mod nodes;
 mod words;
 mod finder;
 mod places;
+mod ranges;
+mod said;
 mod types;
 mod variables;
 mod typing;
+mod value_set;
+mod values;
 mod written;
 #[cfg(test)]
 mod node_tests;
+#[cfg(test)]
+mod label_tests;
 mod parts;
 mod walk;
 
