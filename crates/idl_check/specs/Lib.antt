@@ -37,3 +37,4 @@ pub mod Graph
 pub mod GraphRows
 pub mod GraphRounds
 pub mod GraphCycles
+pub mod SeenNumbers
