@@ -28,7 +28,8 @@ number_is (suc (suc (suc (suc (suc (suc (suc zero))))))) h = refl
 number_is (suc (suc (suc (suc (suc (suc (suc (suc zero)))))))) h = refl
 number_is (suc (suc (suc (suc (suc (suc (suc (suc (suc zero))))))))) h = refl
 number_is (suc (suc (suc (suc (suc (suc (suc (suc (suc (suc zero)))))))))) h = refl
-number_is (suc (suc (suc (suc (suc (suc (suc (suc (suc (suc (suc a))))))))))) h = absurd (let e : false ≡ true = h in cc)
+number_is (suc (suc (suc (suc (suc (suc (suc (suc (suc (suc (suc a))))))))))) h =
+    absurd (let b : suc (suc (suc (suc (suc (suc (suc (suc (suc (suc (suc a)))))))))) < 11 = ltb-true (suc (suc (suc (suc (suc (suc (suc (suc (suc (suc (suc a))))))))))) 11 h in omega (arith, b))
 
 class_is : (c d : Class) → same_class (seen_class c) (seen_class d) ≡ true → c ≡ d
 class_is class.Absent class.Absent h = refl

@@ -1,19 +1,21 @@
 -- The numbers that the program gives to types, as those of the definitions. `ks` are the kinds of its types.
-use Rattle.std.specs.Prelude.{◌≡◌, ◌<◌, ℕ, ◌+◌, Bool, true, false, not, ◌&&◌, ◌||◌, eqb, List, [], ◌∷◌, ◌++◌, map, length, Option, Some, None, slice_get, Vec}
-use Rattle.std.specs.List.{list_any, list_all, flat_map, slice_set}
-use Rattle.std.specs.declared.alloc.Global.{Global}
-use Rattle.idl_names.specs.Known.{Known}
+use Rattle.std.specs.Prelude.{◌≡◌, ◌<◌, ℕ, ◌+◌, Bool, true, false, not, ◌&&◌, ◌||◌, eqb, List, [], ◌∷◌, ◌++◌, map, length, Option, Some, None, slice_get, ltb}
+use Rattle.std.specs.List.{list_any, list_all, slice_set}
 use Rattle.nd_base.specs.declared.octets.Place.{Place}
 use Rattle.nd_types.specs.declared.TheConstants.{HANDLE}
 use Rattle.nd_types.specs.Kinds.{prim_number, context_number}
 use Rattle.idl_check.specs.declared.kinds.Kind.{Kind}
-use Rattle.idl_check.specs.declared.nodes.Declared.{Declared}
+use Rattle.idl_check.specs.declared.nodes.Construct as program
+use Rattle.idl_check.specs.declared.nodes.Node as program_node
+use Rattle.idl_check.specs.declared.nodes.Node.TheVariants as node
+use Rattle.idl_check.specs.declared.types.Typed.{Typed}
 use Rattle.idl_check.specs.declared.numbering.Own.{Own}
 use Rattle.idl_check.specs.declared.numbering.Numbers.{Numbers}
-use Rattle.idl_check.specs.Nodes.{Construct, Node, place_in}
-use Rattle.idl_check.specs.Types.{IdlType, Void, Handle, ContextHandle, Basic, Names}
-use Rattle.idl_check.specs.Scene.{Scene, scoped_from}
-use Rattle.idl_check.specs.Numbering.{Needed, needed, needed_by, built, has_own_number, same_type, own_types, number_of_type}
+use Rattle.idl_check.specs.Nodes.{Construct, place_in}
+use Rattle.idl_check.specs.SeenNodes.{seen_construct}
+use Rattle.idl_check.specs.Types.{IdlType, Void, Handle, ContextHandle, Basic}
+use Rattle.idl_check.specs.Scene.{Scene}
+use Rattle.idl_check.specs.Numbering.{Needed, needed, built, has_own_number, same_type, own_types, number_of_type}
 use Rattle.idl_check.specs.Kinds.{type_at, AreOnce}
 
 -- the number that stands at a kind's, if one does
@@ -79,7 +81,7 @@ given n (o ∷ os) k = elim (eqb o.kind k) [ true ↦ Some n | false ↦ given (
 pub record Shows (ks : List Kind) (firsts : List Needed) (t : Numbers) : Type 0 where
   pub once : AreOnce ks
   pub own : map seen_needed firsts ≡ map (seen_own ks) t.own.items
-  pub within : (i : ℕ) (o : Own) → slice_get t.own.items i ≡ Some o → o.kind < length ks
+  pub within : list_all (λ o. ltb o.kind (length ks)) t.own.items ≡ true
   pub count : length t.numbers.items ≡ length ks
   pub numbers : (k : ℕ) → k < length ks → slice_get t.numbers.items k ≡ Some (given 12 t.own.items k)
   pub next : t.next ≡ 12 + length t.own.items
@@ -94,9 +96,14 @@ pub record Gives (kind : ℕ) (place : Place) (old : Numbers) (new : Numbers) : 
 abbrev pub along : List Kind → Construct → List ℕ → List Needed
 along ks c path = map (λ k. needed c (type_at ks k)) path
 
--- the types that nodes need which stand behind these names
-abbrev pub needed_from : Known → Names → List Node → List Needed
-needed_from known names nodes = flat_map (λ n. needed_by known n.names n.node) (scoped_from known names nodes)
+-- a type that a construct needs, behind those of which it is made
+abbrev pub built_in : List Kind → program.Construct → Typed → List Needed
+built_in ks c t = map (needed (seen_construct c)) (built (type_at ks t.of))
 
-abbrev pub Lists : Type 0
-Lists = List (Vec Declared Global)
+-- the types that a node of the program needs
+abbrev pub needed_at : List Kind → program_node.Node → Typed → List Needed
+needed_at ks (node.Tag c kind tag) t = built_in ks c t
+needed_at ks (node.Body c body) t = built_in ks c t
+needed_at ks (node.Declarator list index it) t = built_in ks it.construct t
+needed_at ks (node.Result it) t = built_in ks it.construct t
+needed_at ks _ t = []

@@ -2,14 +2,13 @@
 ghost use Rattle.std.specs.Prelude.{◌≡◌, ◌<◌, [], List, length, map, reverse, slice_get, IfOk, OnOk};
 ghost use Rattle.idl_names.specs.Known.{Known};
 ghost use Rattle.idl_check.specs.Nodes.{Construct as construct, place_in};
-ghost use Rattle.idl_check.specs.Types.{IdlType, Names};
-ghost use Rattle.idl_check.specs.Scene.{Scene};
+ghost use Rattle.idl_check.specs.Types.{IdlType};
 ghost use Rattle.idl_check.specs.Numbering as numbering;
 ghost use Rattle.idl_check.specs.Numbering.{Needed, needed, built};
 ghost use Rattle.idl_check.specs.Kinds.{type_by, type_at};
-ghost use Rattle.idl_check.specs.SeenNodes.{seen_construct, seen_node};
-ghost use Rattle.idl_check.specs.SeenTypes.{scene_seen, IsTyped, IsTypes};
-ghost use Rattle.idl_check.specs.SeenNumbers.{found_number, number_at, AreNumbers, along, needed_from, grown, grown_by, Gives, Lists, IsClosed, Shows};
+ghost use Rattle.idl_check.specs.SeenNodes.{seen_construct};
+ghost use Rattle.idl_check.specs.SeenTypes.{scene_seen, IsTypes};
+ghost use Rattle.idl_check.specs.SeenNumbers.{found_number, number_at, AreNumbers, along, needed_at, grown, grown_by, Gives, IsClosed, Shows};
 
 use crate::kinds::{Kind, Kinds};
 use crate::nodes::{Construct, Node, Nodes};
@@ -151,8 +150,8 @@ impl Numbers {
         node: &Node<'_>,
         typed: &Typed,
     ) -> Result<(), Memory>
-        ensures { (s : Scene) (names : Names) (lists : Lists) (firsts : List Needed) → IsTyped s names kinds.now lists node.now typed.now → Shows kinds.now firsts self.old → IsClosed firsts
-            → OnOk result (Shows kinds.now (grown firsts (needed_from s.known names (seen_node lists node.now))) self.new) }
+        ensures { (firsts : List Needed) → Shows kinds.now firsts self.old → IsClosed firsts
+            → OnOk result (Shows kinds.now (grown firsts (needed_at kinds.now node.now typed.now)) self.new) }
     {
         match node {
             Node::Tag { construct, .. } => self.need_in(alloc, kinds, construct, typed.of),
