@@ -39,3 +39,4 @@ pub mod Dimensions
 pub mod NotedTypes
 pub mod KindsOnce
 pub mod Grown
+pub mod Numbered
