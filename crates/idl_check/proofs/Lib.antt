@@ -40,3 +40,4 @@ pub mod NotedTypes
 pub mod KindsOnce
 pub mod Grown
 pub mod Numbered
+pub mod NeededNodes

@@ -303,3 +303,33 @@ are_numbers s ks t h =
       own = shown.own;
       numbers = λ k. numbers_by s t k (type_at ks k) (own_number_is ks (own_types s) t k shown own);
     }
+
+pub at_number : (ks : List Kind) (firsts : List Needed) (t : Numbers) (c : Construct) (of k : ℕ) (next : Option ℕ) (path : List ℕ) → Shows ks firsts t → IsClosed firsts
+    → built (type_at ks of) ≡ built_at ks next ++ types_along ks path → next ≡ Some k → is_some (found_number (slice_get t.numbers.items k)) ≡ true
+    → grown firsts (along ks c path) ≡ grown firsts (map (needed c) (built (type_at ks of)))
+at_number ks firsts t c of k next path s closed h is found =
+    path_ends ks c firsts of (built (type_at ks k)) path (h ∙ ap (λ o. built_at ks o ++ types_along ks path) is) (closed (type_at ks k) (has_found_true ks firsts t k s found))
+
+pub at_end : (ks : List Kind) (firsts : List Needed) (c : Construct) (of : ℕ) (next : Option ℕ) (path : List ℕ)
+    → built (type_at ks of) ≡ built_at ks next ++ types_along ks path → next ≡ None
+    → grown firsts (along ks c path) ≡ grown firsts (map (needed c) (built (type_at ks of)))
+at_end ks firsts c of next path h is = path_ends ks c firsts of [] path (h ∙ ap (λ o. built_at ks o ++ types_along ks path) is) refl
+
+-- ## Back along the path
+
+-- with those that are left on the path it comes to all
+pub record Going (ks : List Kind) (c : Construct) (all : List Needed) (t : Numbers) (path : List ℕ) : Type 0 where
+  pub firsts : List Needed
+  pub shows : Shows ks firsts t
+  pub rest : grown firsts (along ks c (reverse path)) ≡ all
+
+pub going_on : (ks : List Kind) (c : Construct) (all : List Needed) (old new : Numbers) (path left : List ℕ) (k : ℕ) → Going ks c all old path → path ≡ left ++ k ∷ []
+    → ((firsts : List Needed) → Shows ks firsts old → Shows ks (grown_by firsts (needed c (type_at ks k))) new) → Going ks c all new left
+going_on ks c all old new path left k g e step = record {
+  firsts = grown_by g.firsts (needed c (type_at ks k));
+  shows = step g.firsts g.shows;
+  rest = sym (ap (λ l. grown g.firsts (along ks c l)) (ap reverse e ∙ reverse-append left (k ∷ []))) ∙ g.rest;
+}
+
+pub gone : (ks : List Kind) (c : Construct) (all : List Needed) (t : Numbers) (path : List ℕ) → Going ks c all t path → path ≡ [] → Shows ks all t
+gone ks c all t path g e = subst (λ l. Shows ks l t) (sym (ap (λ l. grown g.firsts (along ks c (reverse l))) e) ∙ g.rest) g.shows

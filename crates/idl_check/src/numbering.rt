@@ -105,10 +105,14 @@ impl Numbers {
         ensures { (firsts : List Needed) (c : construct) → place ≡ place_in c c.at → Shows kinds.now firsts self.old
             → OnOk result (Shows kinds.now (grown_by firsts (needed c (type_at kinds.now kind))) self.new) }
     {
-        if !has_own_number(kinds.kind(kind)) || self.own_number(kind).is_some() {
+        if !has_own_number(kinds.kind(kind)) {
             return Ok(());
         }
-        self.give(kind, place)
+        if self.own_number(kind).is_some() {
+            return Ok(());
+        }
+        self.give(kind, place)?;
+        Ok(())
     }
 
     /// A type and those of which it is made, down to one that has a number. Takes memory for an entry for each.
