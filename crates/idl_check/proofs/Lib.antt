@@ -53,3 +53,7 @@ pub mod ReadNames
 pub mod ReadSteps
 pub mod ReadBodies
 pub mod ReadAll
+pub mod KindsOnce
+pub mod Grown
+pub mod Numbered
+pub mod NeededNodes

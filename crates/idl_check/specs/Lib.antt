@@ -42,3 +42,4 @@ pub mod GraphCycles
 pub mod Lookups
 pub mod InPlace
 pub mod ReadTypes
+pub mod SeenNumbers

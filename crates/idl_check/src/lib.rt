@@ -2,6 +2,7 @@
 #![tactic(auto)]
 
 mod checking;
+mod counts;
 mod attributes;
 mod exports;
 mod fault;
@@ -14,6 +15,7 @@ pub mod laws;
 mod lists;
 mod marks;
 mod nodes;
+mod numbering;
 mod words;
 mod finder;
 mod places;
