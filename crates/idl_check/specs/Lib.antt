@@ -38,3 +38,6 @@ pub mod Graph
 pub mod GraphRows
 pub mod GraphRounds
 pub mod GraphCycles
+pub mod SeenNumbers
+pub mod SeenOperations
+pub mod Made

@@ -18,6 +18,14 @@ mod said;
 mod types;
 mod typing;
 mod written;
+mod numbering;
+mod listed;
+mod members;
+mod arms;
+mod header;
+mod definitions;
+mod operations;
+mod meaning;
 #[cfg(test)]
 mod node_tests;
 mod parts;
