@@ -38,3 +38,4 @@ mod GraphSearching
 pub mod Dimensions
 pub mod NotedTypes
 mod Split
+pub mod KindsOnce

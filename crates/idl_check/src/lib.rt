@@ -2,6 +2,7 @@
 #![tactic(auto)]
 
 mod checking;
+mod counts;
 mod attributes;
 mod exports;
 mod fault;
@@ -11,6 +12,7 @@ pub mod laws;
 mod lists;
 mod marks;
 mod nodes;
+mod numbering;
 mod words;
 mod finder;
 mod places;
@@ -18,7 +20,6 @@ mod said;
 mod types;
 mod typing;
 mod written;
-mod numbering;
 mod listed;
 mod members;
 mod arms;
