@@ -1,5 +1,6 @@
 // Members and parameters by their names.
-ghost use Rattle.std.specs.Prelude.{◌≡◌, map, OnOk, IfOk};
+ghost use Rattle.std.specs.Prelude.{◌≡◌, ◌++◌, [], ◌∷◌, List, length, map, OnOk, IfOk};
+ghost use Rattle.idl_check.specs.Nodes as rules;
 ghost use Rattle.idl_check.specs.SeenNodes.{seen_declared};
 ghost use Rattle.idl_check.specs.Made.{AreListed};
 
@@ -19,11 +20,15 @@ fn narrow(index: usize) -> Result<u32, Memory>
 }
 
 /// Gives a name its index, where it has none.
-fn put(table: &mut Table<u32>, name: &[u8], index: usize) -> Result<(), Memory> {
+fn put(table: &mut Table<u32>, name: &[u8], index: usize) -> Result<(), Memory>
+    ensures { (before : List rules.Declared) (d : rules.Declared) → AreListed before table.old → length before ≡ index → d.declarator.name.octets ≡ name.now
+        → OnOk result (AreListed (before ++ d ∷ []) table.new) }
+{
     if table.get(name).is_some() {
         return Ok(());
     }
-    table.put(name, narrow(index)?)
+    let index = narrow(index)?;
+    table.put(name, index)
 }
 
 /// The index of each member or parameter of a list, by its name. Takes memory for them.
@@ -32,7 +37,8 @@ pub(crate) fn indexes(alloc: Global, list: &[Declared<'_>]) -> Result<Table<u32>
 {
     let mut table = Table::new(alloc);
     for index in 0..list.len() {
-        put(&mut table, list[index].declarator.name.octets.as_slice(), index)?;
+        let declarator = list[index].declarator;
+        put(&mut table, declarator.name.octets.as_slice(), index)?;
     }
     Ok(table)
 }

@@ -1,20 +1,17 @@
 // The interface that files mean which break no rule.
-ghost use Rattle.std.specs.Prelude.{◌≡◌, [], ◌∷◌, map, IfOk};
-ghost use Rattle.std.specs.Option as options;
+ghost use Rattle.std.specs.Prelude.{◌≡◌, [], ◌∷◌, IfOk};
 ghost use Rattle.idl_names.specs.Seen.{seen_files};
 ghost use Rattle.idl_grammar.specs.Seen.{seen_tree};
 ghost use Rattle.idl_check.specs.Checked.{world_of};
-ghost use Rattle.idl_check.specs.Nodes.{nodes};
 ghost use Rattle.idl_check.specs.Rules.{breaches};
 ghost use Rattle.idl_check.specs.Scene.{scene_of};
 ghost use Rattle.idl_check.specs.Meaning as of;
 ghost use Rattle.idl_check.specs.Answers.{meant_by};
-ghost use Rattle.idl_check.specs.SeenNodes.{seen_nodes};
 ghost use Rattle.idl_check.specs.SeenTypes.{IsTypes};
 ghost use Rattle.idl_check.specs.SeenOperations.{HasTags, HasOperations};
 ghost use Rattle.idl_check.specs.SeenNumbers.{AreNumbers};
 
-use crate::definitions::type_table;
+use crate::definitions::{Program, type_table};
 use crate::header::{major, minor, uuid};
 use crate::laws::meaning_is_legal;
 use crate::members::name_of;
@@ -64,15 +61,21 @@ pub(crate) fn interface(
     let uuid = uuid(list)?;
     let major = major(list)?;
     let minor = minor(list)?;
-    let types_made = type_table(alloc, scope, nodes, types, numbers)?;
-    let operations = all_operations(alloc, nodes, types, numbers)?;
+    let program = Program {
+        scope,
+        nodes,
+        types,
+        numbers,
+    };
+    let types = type_table(alloc, &program)?;
+    let operations = all_operations(alloc, &program)?;
     meaning_is_legal();
     Ok(Interface {
         name,
         uuid,
         major,
         minor,
-        types: types_made,
+        types,
         operations,
     })
 }

@@ -1,14 +1,15 @@
 // Members and parameters as an interface has them.
-ghost use Rattle.std.specs.Prelude.{◌≡◌, ◌++◌, ℕ, List, map, IfOk, OnOk};
-ghost use Rattle.nd_types.specs.declared.types.TypeId as type_id;
-ghost use Rattle.idl_grammar.specs.Seen.{seen_attribute};
-ghost use Rattle.idl_check.specs.Attributes.{variable_word};
-ghost use Rattle.idl_check.specs.Nodes as rules;
-ghost use Rattle.idl_check.specs.Meaning.{attr_var, vars_of, field_vars, way_of};
+ghost use Rattle.std.specs.Prelude.{◌≡◌, ◌++◌, ◌∷◌, [], map, option_map, IfOk, OnOk};
+ghost use Rattle.idl_grammar.specs.Seen.{seen_kind, seen_attribute};
+ghost use Rattle.idl_names.specs.Tables.{found};
+ghost use Rattle.idl_check.specs.Attributes as attributes_of;
+ghost use Rattle.idl_check.specs.Attributes.{variable_word, in_word, out_word};
+ghost use Rattle.idl_check.specs.VariableRules.{variable_if};
+ghost use Rattle.idl_check.specs.Meaning.{way_by};
 ghost use Rattle.idl_check.specs.SeenNodes.{seen_declared};
-ghost use Rattle.idl_check.specs.SeenNumbers.{number_at};
-ghost use Rattle.idl_check.specs.Made.{AreListed, field_with, parameter_with, each_with};
+ghost use Rattle.idl_check.specs.Made.{ids_of, index_or, listed_if, attr_var_by, vars_by, field_vars_by, field_by, field_with, parameter_by, parameter_with, each_with};
 
+use crate::kinds::Kinds;
 use crate::listed::indexes;
 use crate::nodes::Declared;
 use crate::numbering::Numbers;
@@ -19,7 +20,7 @@ use nd_base::{Memory, Name};
 use nd_types::{Attr, AttrVar, AttrVars, Field, Fields, Param, Params, TypeId, Way};
 use std::alloc::Global;
 
-/// A name. Takes memory for it. One that is no word of a file, with 1 to 31 octets, is told as want of memory: no file has such a name.
+/// A name. Takes memory for it. By the language each has 1 to 31 octets; another would be told as want of memory.
 pub(crate) fn name_of(alloc: Global, name: &Spelling) -> Result<Name, Memory>
     ensures { IfOk result (λ n. n ≡ name.now.octets) }
 {
@@ -31,12 +32,17 @@ pub(crate) fn name_of(alloc: Global, name: &Spelling) -> Result<Name, Memory>
 }
 
 /// The numbers of types. Takes memory for them.
-pub(crate) fn numbered(alloc: Global, numbers: &Numbers, types: &[u32]) -> Result<Vec<TypeId>, Memory>
-    ensures { IfOk result (λ v. v.items ≡ map (λ k. type_id.mk (number_at numbers.now k)) types.now) }
+pub(crate) fn numbered(
+    alloc: Global,
+    numbers: &Numbers,
+    kinds: &Kinds,
+    types: &[u32],
+) -> Result<Vec<TypeId>, Memory>
+    ensures { IfOk result (λ v. v.items ≡ ids_of kinds.now numbers.now types.now) }
 {
     let mut ids = Vec::new(alloc);
     for of in types {
-        match ids.push(TypeId(numbers.number(*of))) {
+        match ids.push(TypeId(numbers.number(kinds, *of))) {
             Ok(()) => {}
             Err(_) => return Err(Memory),
         }
@@ -44,8 +50,10 @@ pub(crate) fn numbered(alloc: Global, numbers: &Numbers, types: &[u32]) -> Resul
     Ok(ids)
 }
 
-/// The index of a name, which the list has where no rule is broken.
-fn index_of(table: &Table<u32>, name: &[u8]) -> u32 {
+/// The index of a name. Where no rule is broken the list has each name that an attribute says.
+fn index_of(table: &Table<u32>, name: &[u8]) -> u32
+    ensures { result ≡ index_or (found name.now table.now) }
+{
     match table.get(name) {
         Some(index) => index,
         None => 0,
@@ -54,7 +62,7 @@ fn index_of(table: &Table<u32>, name: &[u8]) -> u32 {
 
 /// An attribute with its variable.
 fn variable(table: &Table<u32>, attr: Attr, variable: &Variable) -> AttrVar
-    ensures { (list : List rules.Declared) → AreListed list table.now → result ≡ attr_var list attr variable.now }
+    ensures { result ≡ attr_var_by table.now attr variable.now }
 {
     AttrVar {
         attr,
@@ -64,10 +72,38 @@ fn variable(table: &Table<u32>, attr: Attr, variable: &Variable) -> AttrVar
 }
 
 /// The variable of an attribute, where it has this word.
-fn variable_said(kind: &AttributeKind, word: VariableWord) -> Option<&Variable> {
+fn variable_said(kind: &AttributeKind, word: VariableWord) -> Option<&Variable>
+    ensures { listed_if (option_map (λ v. v.now) result) ≡ variable_if (variable_word word ∷ []) (attributes_of.variable_said (seen_kind kind.now)) }
+{
     match kind {
-        AttributeKind::Of(said, variable) if *said == word => Some(variable),
+        AttributeKind::Of(said, variable) => {
+            if *said == word {
+                Some(variable)
+            } else {
+                None
+            }
+        }
         _ => None,
+    }
+}
+
+/// Adds the variable of an attribute, where it has this word.
+fn add_variable(
+    variables: &mut AttrVars,
+    table: &Table<u32>,
+    kind: &AttributeKind,
+    word: VariableWord,
+    attr: Attr,
+) -> Result<(), Memory>
+    ensures { OnOk result (variables.new ≡ variables.old
+        ++ map (attr_var_by table.now attr) (variable_if (variable_word word ∷ []) (attributes_of.variable_said (seen_kind kind.now)))) }
+{
+    let Some(said) = variable_said(kind, word) else {
+        return Ok(());
+    };
+    match variables.push(variable(table, attr, said)) {
+        Ok(()) => Ok(()),
+        Err(_) => Err(Memory),
     }
 }
 
@@ -79,23 +115,21 @@ fn add_variables(
     word: VariableWord,
     attr: Attr,
 ) -> Result<(), Memory>
-    ensures { (list : List rules.Declared) → AreListed list table.now
-        → OnOk result (variables.new ≡ variables.old ++ vars_of list (map seen_attribute attributes.now) (variable_word word) attr) }
+    ensures { OnOk result (variables.new ≡ variables.old ++ vars_by table.now (map seen_attribute attributes.now) (variable_word word) attr) }
 {
     for attribute in attributes {
-        if let Some(said) = variable_said(&attribute.kind, word) {
-            if variables.push(variable(table, attr, said)).is_err() {
-                return Err(Memory);
-            }
-        }
+        add_variable(variables, table, &attribute.kind, word, attr)?;
     }
     Ok(())
 }
 
 /// The variables of attributes, in the order in which they are checked. Takes memory for them.
-fn all_variables(alloc: Global, table: &Table<u32>, attributes: &[Attribute]) -> Result<AttrVars, Memory>
-    ensures { (list : List rules.Declared) → AreListed list table.now
-        → IfOk result (λ v. v ≡ field_vars list (map seen_attribute attributes.now)) }
+fn all_variables(
+    alloc: Global,
+    table: &Table<u32>,
+    attributes: &[Attribute],
+) -> Result<AttrVars, Memory>
+    ensures { IfOk result (λ v. v ≡ field_vars_by table.now (map seen_attribute attributes.now)) }
 {
     let mut variables = AttrVars::new(alloc);
     add_variables(&mut variables, table, attributes, VariableWord::SizeIs, Attr::Size)?;
@@ -108,31 +142,46 @@ fn all_variables(alloc: Global, table: &Table<u32>, attributes: &[Attribute]) ->
 }
 
 /// A member or parameter of a list, with its type. Takes memory for its name and variables.
-fn field(alloc: Global, table: &Table<u32>, it: &Declared<'_>, of: TypeId) -> Result<Field, Memory>
-    ensures { (list : List rules.Declared) → AreListed list table.now → IfOk result (λ f. f ≡ field_with list (seen_declared it.now) of) }
+fn field(
+    alloc: Global,
+    table: &Table<u32>,
+    it: &Declared<'_>,
+    of: TypeId,
+) -> Result<Field, Memory>
+    ensures { IfOk result (λ f. f ≡ field_by table.now (seen_declared it.now) of) }
 {
     let name = name_of(alloc, &it.declarator.name)?;
     let vars = all_variables(alloc, table, it.construct.attributes)?;
     Ok(Field { name, of, vars })
 }
 
-/// The members of a list with these types. Takes memory for them.
-pub(crate) fn fields(alloc: Global, list: &[Declared<'_>], types: &[TypeId]) -> Result<Fields, Memory>
+/// The members of a list with these types, of which there are as many. Takes memory for them.
+pub(crate) fn fields(
+    alloc: Global,
+    list: &[Declared<'_>],
+    types: &[TypeId],
+) -> Result<Fields, Memory>
     ensures { IfOk result (λ fs. fs ≡ each_with (field_with (map seen_declared list.now)) (map seen_declared list.now) types.now) }
 {
     let table = indexes(alloc, list)?;
     let mut fields = Fields::new(alloc);
-    for (it, of) in list.iter().zip(types) {
-        let field = field(alloc, &table, it, *of)?;
-        if fields.push(field).is_err() {
+    for index in 0..list.len() {
+        let Some(of) = types.get(index) else {
             return Err(Memory);
+        };
+        let field = field(alloc, &table, &list[index], *of)?;
+        match fields.push(field) {
+            Ok(()) => {}
+            Err(_) => return Err(Memory),
         }
     }
     Ok(fields)
 }
 
 /// The directions of a parameter.
-fn way(attributes: &[Attribute]) -> Way {
+fn way(attributes: &[Attribute]) -> Way
+    ensures { result ≡ way_by (attributes_of.has in_word (map seen_attribute attributes.now)) (attributes_of.has out_word (map seen_attribute attributes.now)) }
+{
     match (has(attributes, Word::In), has(attributes, Word::Out)) {
         (true, true) => Way::InOut,
         (true, false) => Way::In,
@@ -141,8 +190,13 @@ fn way(attributes: &[Attribute]) -> Way {
 }
 
 /// A parameter of a list, with its type. Takes memory for its name and variables.
-fn parameter(alloc: Global, table: &Table<u32>, it: &Declared<'_>, of: TypeId) -> Result<Param, Memory>
-    ensures { (list : List rules.Declared) → AreListed list table.now → IfOk result (λ p. p ≡ parameter_with list (seen_declared it.now) of) }
+fn parameter(
+    alloc: Global,
+    table: &Table<u32>,
+    it: &Declared<'_>,
+    of: TypeId,
+) -> Result<Param, Memory>
+    ensures { IfOk result (λ p. p ≡ parameter_by table.now (seen_declared it.now) of) }
 {
     let field = field(alloc, table, it, of)?;
     Ok(Param {
@@ -151,16 +205,24 @@ fn parameter(alloc: Global, table: &Table<u32>, it: &Declared<'_>, of: TypeId) -
     })
 }
 
-/// The parameters of a list with these types. Takes memory for them.
-pub(crate) fn parameters(alloc: Global, list: &[Declared<'_>], types: &[TypeId]) -> Result<Params, Memory>
+/// The parameters of a list with these types, of which there are as many. Takes memory for them.
+pub(crate) fn parameters(
+    alloc: Global,
+    list: &[Declared<'_>],
+    types: &[TypeId],
+) -> Result<Params, Memory>
     ensures { IfOk result (λ ps. ps ≡ each_with (parameter_with (map seen_declared list.now)) (map seen_declared list.now) types.now) }
 {
     let table = indexes(alloc, list)?;
     let mut parameters = Params::new(alloc);
-    for (it, of) in list.iter().zip(types) {
-        let parameter = parameter(alloc, &table, it, *of)?;
-        if parameters.push(parameter).is_err() {
+    for index in 0..list.len() {
+        let Some(of) = types.get(index) else {
             return Err(Memory);
+        };
+        let parameter = parameter(alloc, &table, &list[index], *of)?;
+        match parameters.push(parameter) {
+            Ok(()) => {}
+            Err(_) => return Err(Memory),
         }
     }
     Ok(parameters)
