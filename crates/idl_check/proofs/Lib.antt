@@ -39,3 +39,4 @@ pub mod Dimensions
 pub mod NotedTypes
 mod Split
 pub mod KindsOnce
+pub mod Listing
