@@ -43,3 +43,5 @@ pub mod Lookups
 pub mod InPlace
 pub mod ReadTypes
 pub mod SeenNumbers
+pub mod SeenOperations
+pub mod Made

@@ -27,6 +27,13 @@ mod typing;
 mod value_set;
 mod values;
 mod written;
+mod listed;
+mod members;
+mod arms;
+mod header;
+mod definitions;
+mod operations;
+mod meaning;
 #[cfg(test)]
 mod node_tests;
 #[cfg(test)]

@@ -53,6 +53,19 @@ pub(crate) struct BodyTypes {
     pub(crate) nonencapsulated: bool,
     /// The types of its members, or of its arms that are not empty.
     pub(crate) parts: Vec<u32>,
+    /// The type of a union's tag, where it is said.
+    pub(crate) tag: Option<u32>,
+}
+
+/// An operation.
+#[derive(Drop)]
+pub(crate) struct OperationTypes {
+    /// The number of its node.
+    pub(crate) node: u32,
+    /// The types of its parameters.
+    pub(crate) parameters: Vec<u32>,
+    /// The type of its result.
+    pub(crate) result: u32,
 }
 
 /// The types of the nodes of a program.
@@ -65,6 +78,8 @@ pub(crate) struct Types {
     pub(crate) bodies: Vec<BodyTypes>,
     /// The first body of each place, by its number.
     pub(crate) by_place: Places,
+    /// All operations, in order.
+    pub(crate) operations: Vec<OperationTypes>,
 }
 
 impl Types {
