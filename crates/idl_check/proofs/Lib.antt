@@ -37,3 +37,4 @@ mod GraphRows
 mod GraphSearching
 pub mod Dimensions
 pub mod NotedTypes
+mod Below

@@ -33,6 +33,7 @@ pub mod SeenTypes
 pub mod SeenMarks
 pub mod SeenNames
 pub mod Growing
+pub mod Asked
 pub mod Graph
 pub mod GraphRows
 pub mod GraphRounds

@@ -3,8 +3,12 @@
 
 mod checking;
 mod attributes;
+mod array_rules;
+mod asked;
 mod exports;
 mod fault;
+mod declaration_rules;
+mod kind_tests;
 mod kinds;
 mod graph;
 pub mod laws;
@@ -15,7 +19,10 @@ mod words;
 mod finder;
 mod places;
 mod said;
+mod pointer_rules;
+mod type_rules;
 mod types;
+mod variable_rules;
 mod typing;
 mod written;
 #[cfg(test)]
