@@ -26,6 +26,8 @@ pub mod Noted
 pub mod Spelled
 pub mod Found
 pub mod ListBreaches
+pub mod OtherBreaches
+pub mod LabelValues
 pub mod Checked
 pub mod Kinds
 pub mod Places
