@@ -38,3 +38,5 @@ mod GraphSearching
 pub mod Dimensions
 pub mod NotedTypes
 mod Below
+mod Split
+mod Judgement

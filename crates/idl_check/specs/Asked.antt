@@ -51,21 +51,6 @@ pub record IsAsked (s : Scene) (ks : List Kind) (u : Use) (a : Asked) : Type 0 w
   pub lower_bounds : a.lower_bounds ≡ has_lower_bounds s.known u.it
   pub no_variable : a.no_variable ≡ has_no_variable u
 
--- ## Rules other than those on lists of attributes
-
--- Rule 11 is judged for all bodies at once.
-abbrev pub is_of_rest : Breach → Bool
-is_of_rest b = ltb 4 b.rule && not (eqb b.rule 11)
-
--- the breaches of rules 5 to 38 but 11
-abbrev pub of_rest : List Breach → List Breach
-of_rest [] = []
-of_rest (b ∷ bs) = elim (is_of_rest b) [ true ↦ b ∷ of_rest bs | false ↦ of_rest bs ]
-
--- those of nodes
-abbrev pub rest_breaches : Scene → List Scoped → List Breach
-rest_breaches s ns = flat_map (λ n. of_rest (breaches_at s n.names n.node)) ns
-
 -- ## Kinds
 
 -- the number of the type to which a kind points

@@ -27,6 +27,8 @@ pub mod Spelled
 pub mod Found
 pub mod ListBreaches
 pub mod OtherBreaches
+pub mod NodeBreaches
+pub mod RestBreaches
 pub mod LabelValues
 pub mod Checked
 pub mod Kinds

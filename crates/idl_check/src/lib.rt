@@ -27,6 +27,7 @@ mod type_rules;
 mod types;
 mod variable_rules;
 mod typing;
+mod uses;
 mod value_set;
 mod values;
 mod written;

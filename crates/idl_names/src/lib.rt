@@ -4,6 +4,8 @@
 mod declarations;
 mod expression;
 mod fault;
+#[cfg(test)]
+mod import_tests;
 mod known;
 pub mod laws;
 mod loading;
