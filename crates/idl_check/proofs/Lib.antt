@@ -40,3 +40,4 @@ pub mod NotedTypes
 mod Below
 mod Split
 mod Judgement
+mod AskedUses

@@ -6,6 +6,8 @@ ghost use Rattle.idl_check.specs.World.{World};
 ghost use Rattle.idl_check.specs.Scene.{Scene, Use};
 ghost use Rattle.idl_check.specs.Rules.{Breach};
 ghost use Rattle.idl_check.specs.PointerRules as rules;
+ghost use Rattle.idl_check.specs.Attributes.{has, out_word};
+ghost use Rattle.idl_check.specs.DeclarationRules.{is_parameter};
 ghost use Rattle.idl_check.specs.Kinds.{type_at};
 ghost use Rattle.idl_check.specs.SeenNodes.{seen_position, seen_construct};
 ghost use Rattle.idl_check.specs.SeenMarks.{AreMarks};
@@ -16,9 +18,9 @@ ghost use Rattle.idl_check.specs.Asked.{Holds, asked_use, IsAsked, with_pointers
 use crate::asked::{Asked, Judge, note};
 use crate::declaration_rules::lacks_direction;
 use crate::finder::Finder;
-use crate::nodes::Position;
+use crate::nodes::{Construct, Position};
 use crate::type_rules::is_wrong_result;
-use crate::words::{Word, has, has_class};
+use crate::words::{Word, has as has_word, has_class};
 
 /// Rule 26: whether it has a class and is no pointer.
 fn has_class_without_pointer(judge: &Judge<'_>, asked: &Asked<'_>) -> bool
@@ -28,10 +30,10 @@ fn has_class_without_pointer(judge: &Judge<'_>, asked: &Asked<'_>) -> bool
 }
 
 /// Whether it is an `[out]` parameter.
-fn is_out(judge: &Judge<'_>, asked: &Asked<'_>) -> bool
-    ensures { (u : Use) → result ≡ rules.is_out (asked_use judge.now.kinds.now asked.now u) }
+fn is_out(construct: &Construct<'_>) -> bool
+    ensures { result ≡ (is_parameter (seen_position construct.now.position) && has out_word (map seen_attribute construct.now.attributes.now)) }
 {
-    asked.construct.position == Position::Parameter && has(asked.construct.attributes, Word::Out)
+    construct.position == Position::Parameter && has_word(construct.attributes, Word::Out)
 }
 
 /// Rule 29: whether a pointer that is [out] alone is no reference pointer.
@@ -39,8 +41,8 @@ fn is_nullable_out(judge: &Judge<'_>, asked: &Asked<'_>) -> bool
     ensures { (u : Use) → result ≡ rules.is_nullable_out (asked_use judge.now.kinds.now asked.now u) }
 {
     let of = judge.kind(asked.typed.of);
-    is_out(judge, asked)
-        && !has(asked.construct.attributes, Word::In)
+    is_out(&asked.construct)
+        && !has_word(asked.construct.attributes, Word::In)
         && of.is_pointer()
         && !of.is_reference()
 }
@@ -49,7 +51,7 @@ fn is_nullable_out(judge: &Judge<'_>, asked: &Asked<'_>) -> bool
 fn is_wrong_out(judge: &Judge<'_>, asked: &Asked<'_>) -> bool
     ensures { (u : Use) → result ≡ rules.is_wrong_out (asked_use judge.now.kinds.now asked.now u) }
 {
-    is_out(judge, asked) && !judge.kind(asked.typed.of).is_out()
+    is_out(&asked.construct) && !judge.kind(asked.typed.of).is_out()
 }
 
 /// Rules 26 to 32 on a declarator.
