@@ -41,6 +41,7 @@ mod GraphRows
 mod GraphSearching
 pub mod Dimensions
 pub mod NotedTypes
+mod Below
 mod Split
 mod Judgement
 pub mod Agreed
@@ -58,3 +59,4 @@ pub mod Grown
 pub mod Numbered
 pub mod NeededNodes
 pub mod Listing
+mod AskedUses

@@ -27,6 +27,8 @@ pub mod Spelled
 pub mod Found
 pub mod ListBreaches
 pub mod OtherBreaches
+pub mod NodeBreaches
+pub mod RestBreaches
 pub mod LabelValues
 pub mod Checked
 pub mod Kinds
@@ -35,6 +37,7 @@ pub mod SeenTypes
 pub mod SeenMarks
 pub mod SeenNames
 pub mod Growing
+pub mod Asked
 pub mod Graph
 pub mod GraphRows
 pub mod GraphRounds
