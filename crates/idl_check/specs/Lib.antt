@@ -27,6 +27,7 @@ pub mod Spelled
 pub mod Found
 pub mod ListBreaches
 pub mod OtherBreaches
+pub mod OthersOf
 pub mod NodeBreaches
 pub mod RestBreaches
 pub mod LabelValues

@@ -10,9 +10,3 @@ other_breaches_at s n = of_others (breaches_at s n.names n.node)
 
 abbrev pub other_breaches : Scene → List Breach
 other_breaches s = flat_map (other_breaches_at s) s.nodes
--- For the code: what nodes break of the other rules, 5 to 38, where these names stand.
-use Rattle.idl_check.specs.Nodes.{Node}
-use Rattle.idl_check.specs.Types.{Names}
-use Rattle.idl_check.specs.Scene.{Scene}
-abbrev pub other_breaches : Scene → Names → List Node → List Breach
-other_breaches s names nodes = of_others (flat_map (breaches_at s names) nodes)

@@ -24,7 +24,6 @@ mod words;
 mod finder;
 mod places;
 mod ranges;
-mod said;
 mod pointer_rules;
 mod type_rules;
 mod types;

@@ -414,6 +414,7 @@ fn body_types(
         node,
         nonencapsulated: is_nonencapsulated(body),
         parts,
+        tag: None,
     })
 }
 
@@ -500,6 +501,7 @@ pub(crate) fn of_nodes<'t>(alloc: Global, scope: &Scope, nodes: &Nodes<'t>) -> R
         typed: Vec::new(alloc),
         bodies: Vec::new(alloc),
         by_place: Places::new(alloc),
+        operations: Vec::new(alloc),
     };
     for index in 0..nodes.items.len() {
         read_node(alloc, scope, nodes, &tables, &mut types, &mut names, index)?;
