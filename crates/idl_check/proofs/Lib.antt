@@ -60,3 +60,4 @@ pub mod Numbered
 pub mod NeededNodes
 pub mod Listing
 mod AskedUses
+mod MarkSums

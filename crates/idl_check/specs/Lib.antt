@@ -49,3 +49,5 @@ pub mod ReadTypes
 pub mod SeenNumbers
 pub mod SeenOperations
 pub mod Made
+pub mod OwnMarks
+pub mod Counted

@@ -2,6 +2,7 @@
 #![tactic(auto)]
 
 mod checking;
+mod counted;
 mod counts;
 mod attributes;
 mod array_rules;
