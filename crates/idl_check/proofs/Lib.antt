@@ -61,3 +61,4 @@ pub mod NeededNodes
 pub mod Listing
 mod AskedUses
 mod MarkSums
+mod MarkLists
