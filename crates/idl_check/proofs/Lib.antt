@@ -45,3 +45,4 @@ mod Held
 mod BodyParts
 mod PlacesFilled
 mod Bridges
+mod CountedTypes

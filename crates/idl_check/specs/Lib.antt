@@ -40,3 +40,4 @@ pub mod GraphRounds
 pub mod GraphCycles
 pub mod Lookups
 pub mod InPlace
+pub mod Counted

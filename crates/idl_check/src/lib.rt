@@ -2,6 +2,7 @@
 #![tactic(auto)]
 
 mod checking;
+mod counted;
 mod attributes;
 mod exports;
 mod fault;
