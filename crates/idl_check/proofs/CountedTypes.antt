@@ -47,15 +47,15 @@ array_counted t varying count i r is wrong many_unfixed many array unfixed right
     let many_is : r.many ≡ are_many (count ∷ dimensions t) = many ∙ is.array ∙ many_array t count in
     record {
       holds_wrong =
-        wrong
-        ∙ wrong_step i.holds_wrong (list_any has_wrong_count (chain t)) (is_right_count count) (is_right_count r.elements) (is_right_count (times count (product (dimensions t)))) is.holds_wrong
-            (λ h. right ∙ ap (λ o. is_right_count (times count o)) (is.elements h));
+          wrong
+          ∙ wrong_step i.holds_wrong (list_any has_wrong_count (chain t)) (is_right_count count) (is_right_count r.elements) (is_right_count (times count (product (dimensions t)))) is.holds_wrong
+          (λ h. right ∙ ap (λ o. is_right_count (times count o)) (is.elements h));
       holds_many_not_fixed =
-        many_unfixed ∙ ap₂ (λ a b. a || b) is.holds_many_not_fixed (ap₂ (λ a b. a && b) (is.array ∙ many_array t count) unfixed_is)
-        ∙ or_swap (list_any has_many_not_fixed (chain t)) (are_many (count ∷ dimensions t) && (is_none count || list_any is_none (dimensions t)));
+          many_unfixed ∙ ap₂ (λ a b. a || b) is.holds_many_not_fixed (ap₂ (λ a b. a && b) (is.array ∙ many_array t count) unfixed_is)
+          ∙ or_swap (list_any has_many_not_fixed (chain t)) (are_many (count ∷ dimensions t) && (is_none count || list_any is_none (dimensions t)));
       many = many_is;
       elements =
-        (λ h.
+          (λ h.
           let n = not_wrong i.holds_wrong (is_right_count count) (is_right_count r.elements) (sym wrong ∙ h) in
           same n.1 ∙ ap (times count) (is.elements n.0));
       array = array;
