@@ -62,3 +62,4 @@ pub mod Listing
 mod AskedUses
 mod MarkSums
 mod MarkLists
+mod CountedTypes
