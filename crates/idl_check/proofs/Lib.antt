@@ -43,3 +43,4 @@ pub mod ReadNames
 pub mod ReadSteps
 pub mod ReadBodies
 pub mod ReadAll
+pub mod LookupSteps
