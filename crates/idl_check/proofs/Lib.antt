@@ -44,3 +44,4 @@ pub mod ReadSteps
 pub mod ReadBodies
 pub mod ReadAll
 pub mod LookupSteps
+pub mod Wanted

@@ -1,5 +1,5 @@
 -- The names of lists of members and parameters, each with its place in its list.
-use Rattle.std.specs.Prelude.{◌≡◌, ℕ, Bool, not, List, Option, Some, None, option_map, Vec}
+use Rattle.std.specs.Prelude.{◌≡◌, ℕ, Bool, true, false, not, List, Option, Some, None, option_map, Vec}
 use Rattle.std.specs.List.{slice_get}
 use Rattle.idl_names.specs.Tables.{found}
 use Rattle.idl_check.specs.declared.nodes.Declared as declared
@@ -8,7 +8,7 @@ use Rattle.idl_check.specs.declared.variables.Wanted.{Wanted}
 use Rattle.idl_check.specs.declared.variables.Wanted.TheVariants as wanted
 use Rattle.idl_check.specs.Nodes.{Declared}
 use Rattle.idl_check.specs.SeenNodes.{list_at}
-use Rattle.idl_check.specs.Types.{IdlType}
+use Rattle.idl_check.specs.Types.{IdlType, Enum}
 use Rattle.idl_check.specs.VariableRules.{listed_from, is_other, is_integer, may_be_switched}
 
 abbrev pub found_in : List ℕ → Option (List (List ℕ × ℕ)) → Option ℕ
@@ -30,3 +30,7 @@ no_other list index v = not (is_other index (listed_from 0 list v.name.octets))
 abbrev pub wanted_test : Wanted → IdlType → Bool
 wanted_test wanted.Integer t = is_integer t
 wanted_test wanted.Switch t = may_be_switched t
+
+abbrev pub is_enumerated : IdlType → Bool
+is_enumerated (Enum place) = true
+is_enumerated _ = false

@@ -7,20 +7,24 @@ ghost use Rattle.idl_check.specs.Attributes.{switch_is_word, sizes, lengths, var
 ghost use Rattle.idl_names.specs.Seen.{known_in};
 ghost use Rattle.idl_check.specs.Scene.{use_of};
 ghost use Rattle.idl_names.specs.Known.{Known};
-ghost use Rattle.idl_check.specs.Types.{Names};
-ghost use Rattle.idl_check.specs.VariableRules.{listed_from, variable_if, has_no_variable, has_wrong_variable};
-ghost use Rattle.idl_check.specs.Kinds.{type_at, Keeps};
-ghost use Rattle.idl_check.specs.Lookups.{found_at, AreTables, no_other, wanted_test};
+ghost use Rattle.idl_check.specs.Types.{IdlType, Names, type_of};
+ghost use Rattle.idl_check.specs.VariableRules as rules;
+ghost use Rattle.idl_check.specs.VariableRules.{listed_from, variable_if, passes, has_no_variable, has_wrong_variable};
+ghost use Rattle.idl_check.specs.DeclarationRules as parameter_rule;
+ghost use Rattle.nd_types.specs.Kinds.{is_integer_prim};
+ghost use Rattle.idl_check.specs.Kinds.{type_by, type_at, Keeps};
+ghost use Rattle.idl_check.specs.Lookups.{found_at, AreTables, no_other, wanted_test, is_enumerated};
 ghost use Rattle.idl_check.specs.SeenNames.{seen_names, are_within};
-ghost use Rattle.idl_check.specs.SeenNodes.{seen_declared, list_at};
+ghost use Rattle.idl_check.specs.SeenNodes.{seen_position, seen_declared, list_at};
 ghost use Rattle.idl_check.specs.SeenTypes.{bare, has_wrong_switch_variable};
 
-use crate::kinds::{Kinds, narrow};
-use crate::nodes::{Declared, Nodes};
-use crate::types::put_first;
+use crate::kinds::{Class, Kind, Kinds, narrow};
+use crate::nodes::{Declared, Nodes, Position};
+use crate::types::{note_declared, put_first};
 use idl_grammar::{Attribute, AttributeKind, Variable};
 use idl_names::{Scope, Table};
 use nd_base::Memory;
+use nd_types::Primitive;
 use std::alloc::Global;
 
 /// Where a declarator stands: the number of its list, and its place there.
@@ -113,6 +117,129 @@ pub(crate) fn has_no_variable(
         }
     }
     false
+}
+
+fn is_integer_primitive(primitive: Primitive) -> bool
+    ensures { result ≡ is_integer_prim primitive }
+{
+    match primitive {
+        Primitive::Boolean | Primitive::Char | Primitive::Byte => false,
+        _ => true,
+    }
+}
+
+/// Whether a type is small, short, long or hyper, signed or unsigned.
+fn is_integer(kind: Kind) -> bool
+    ensures { (ts : List IdlType) → result ≡ rules.is_integer (type_by ts kind) }
+{
+    match kind.primitive() {
+        Some(primitive) => is_integer_primitive(primitive),
+        None => false,
+    }
+}
+
+fn is_enum(kind: Kind) -> bool
+    ensures { (ts : List IdlType) → result ≡ is_enumerated (type_by ts kind) }
+{
+    match kind {
+        Kind::Enum { .. } => true,
+        _ => false,
+    }
+}
+
+/// Whether a type is an integer, char, boolean or enumerated type.
+fn may_be_switched(kind: Kind) -> bool
+    ensures { (ts : List IdlType) → result ≡ rules.may_be_switched (type_by ts kind) }
+{
+    match kind.primitive() {
+        Some(primitive) => primitive != Primitive::Byte,
+        None => is_enum(kind),
+    }
+}
+
+/// Whether a type is what is wanted.
+fn is_wanted(kinds: &Kinds, wanted: Wanted, of: u32) -> bool
+    ensures { result ≡ wanted_test wanted (type_at kinds.now of) }
+{
+    let kind = kinds.kind(of);
+    match wanted {
+        Wanted::Integer => is_integer(kind),
+        Wanted::Switch => may_be_switched(kind),
+    }
+}
+
+/// Whether what a reference pointer points to is what is wanted.
+fn is_behind(kinds: &Kinds, wanted: Wanted, of: u32) -> bool
+    ensures { result ≡ passes (wanted_test wanted) true true (type_at kinds.now of) }
+{
+    match kinds.kind(of) {
+        Kind::Pointer {
+            class: Class::Reference,
+            to,
+        } => is_wanted(kinds, wanted, to),
+        _ => false,
+    }
+}
+
+/// Whether a variable of a type is what is wanted: with `*` it is behind a parameter that is a reference pointer.
+fn is_passed(kinds: &Kinds, wanted: Wanted, parameter: bool, star: bool, of: u32) -> bool
+    ensures { result ≡ passes (wanted_test wanted) parameter star (type_at kinds.now of) }
+{
+    match (star, parameter) {
+        (false, _) => is_wanted(kinds, wanted, of),
+        (true, true) => is_behind(kinds, wanted, of),
+        (true, false) => false,
+    }
+}
+
+fn is_parameter(position: Position) -> bool
+    ensures { result ≡ parameter_rule.is_parameter (seen_position position) }
+{
+    match position {
+        Position::Parameter => true,
+        _ => false,
+    }
+}
+
+/// Whether a member or parameter is what is wanted. None is with dimensions, or more than one star.
+fn is_right(
+    scope: &Scope,
+    kinds: &mut Kinds,
+    names: &Table<u32>,
+    it: &Declared,
+    star: bool,
+    wanted: Wanted,
+) -> Result<bool, Memory>
+    requires { are_within (length kinds.old) names.now ≡ true }
+    ensures right { IfOk result (λ b. b ≡ passes (wanted_test wanted) (parameter_rule.is_parameter (seen_declared it.now).construct.position) star
+        (type_of (known_in scope.now) (seen_names kinds.old names.now) (seen_declared it.now))) }
+    ensures keeps { Keeps kinds.old kinds.new }
+{
+    let declarator = it.declarator;
+    if !declarator.dimensions.is_empty() {
+        return Ok(false);
+    }
+    if declarator.stars.len() > 1 {
+        return Ok(false);
+    }
+    let noted = note_declared(scope, kinds, names, it)?;
+    let parameter = is_parameter(it.construct.position);
+    Ok(is_passed(kinds, wanted, parameter, star, noted.of))
+}
+
+/// The member or parameter of a name, in its list.
+fn listed<'n, 't>(
+    nodes: &'n Nodes<'t>,
+    tables: &[Table<u32>],
+    list: u32,
+    name: &[u8],
+) -> Option<&'n Declared<'t>>
+    requires { AreTables tables.now nodes.now.lists.items }
+    ensures { option_map (λ d. seen_declared d.now) result ≡ option_map (λ l. l.it) (listed_from 0 (list_at nodes.now.lists.items list) name.now) }
+{
+    let place = look_up(tables, list, name)?;
+    let list = nodes.list(list)?;
+    list.get(place as usize)
 }
 
 /// Whether a variable of size_is, max_is, first_is, length_is or last_is, where its list has it, is of a wrong type.
