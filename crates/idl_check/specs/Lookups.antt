@@ -8,8 +8,10 @@ use Rattle.idl_check.specs.declared.variables.Wanted.{Wanted}
 use Rattle.idl_check.specs.declared.variables.Wanted.TheVariants as wanted
 use Rattle.idl_check.specs.Nodes.{Declared}
 use Rattle.idl_check.specs.SeenNodes.{list_at}
-use Rattle.idl_check.specs.Types.{IdlType, Enum}
-use Rattle.idl_check.specs.VariableRules.{listed_from, is_other, is_integer, may_be_switched}
+use Rattle.idl_names.specs.Known.{Known}
+use Rattle.idl_check.specs.DeclarationRules.{is_parameter}
+use Rattle.idl_check.specs.Types.{IdlType, Enum, Names, type_of}
+use Rattle.idl_check.specs.VariableRules.{listed_from, is_other, is_integer, may_be_switched, passes}
 
 abbrev pub found_in : List ℕ → Option (List (List ℕ × ℕ)) → Option ℕ
 found_in name (Some table) = found name table
@@ -34,3 +36,12 @@ wanted_test wanted.Switch t = may_be_switched t
 abbrev pub is_enumerated : IdlType → Bool
 is_enumerated (Enum place) = true
 is_enumerated _ = false
+
+-- a member or parameter, where there is one, is of a type that passes
+abbrev pub passes_it : Known → Names → (IdlType → Bool) → Bool → Option Declared → Bool
+passes_it known names test star None = true
+passes_it known names test star (Some d) = passes test (is_parameter d.construct.position) star (type_of known names d)
+
+-- the variable, where the list has it, is of a type that does not pass
+abbrev pub fails_in : Known → Names → (IdlType → Bool) → List Declared → Variable → Bool
+fails_in known names test list v = not (passes_it known names test v.star (option_map (λ l. l.it) (listed_from 0 list v.name.octets)))

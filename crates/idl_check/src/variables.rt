@@ -1,5 +1,5 @@
 // The variables that attributes name: members or parameters of the same list (C706, sections 4.2.17 to 4.2.19).
-ghost use Rattle.std.specs.Prelude.{◌≡◌, ℕ, true, List, ◌∷◌, ◌++◌, map, option_map, length, IfOk};
+ghost use Rattle.std.specs.Prelude.{◌≡◌, ℕ, true, List, [], ◌∷◌, ◌++◌, map, option_map, length, slice_get, IfOk};
 ghost use Rattle.std.specs.List.{list_any};
 ghost use Rattle.idl_grammar.specs.Seen.{seen_kind};
 ghost use Rattle.idl_names.specs.Tables.{found};
@@ -13,7 +13,7 @@ ghost use Rattle.idl_check.specs.VariableRules.{listed_from, variable_if, passes
 ghost use Rattle.idl_check.specs.DeclarationRules as parameter_rule;
 ghost use Rattle.nd_types.specs.Kinds.{is_integer_prim};
 ghost use Rattle.idl_check.specs.Kinds.{type_by, type_at, Keeps};
-ghost use Rattle.idl_check.specs.Lookups.{found_at, AreTables, no_other, wanted_test, is_enumerated};
+ghost use Rattle.idl_check.specs.Lookups.{found_at, AreTables, no_other, wanted_test, is_enumerated, passes_it, fails_in};
 ghost use Rattle.idl_check.specs.SeenNames.{seen_names, are_within};
 ghost use Rattle.idl_check.specs.SeenNodes.{seen_position, seen_declared, list_at};
 ghost use Rattle.idl_check.specs.SeenTypes.{bare, has_wrong_switch_variable};
@@ -21,7 +21,7 @@ ghost use Rattle.idl_check.specs.SeenTypes.{bare, has_wrong_switch_variable};
 use crate::kinds::{Class, Kind, Kinds, narrow};
 use crate::nodes::{Declared, Nodes, Position};
 use crate::types::{note_declared, put_first};
-use idl_grammar::{Attribute, AttributeKind, Variable};
+use idl_grammar::{Attribute, AttributeKind, Variable, VariableWord};
 use idl_names::{Scope, Table};
 use nd_base::Memory;
 use nd_types::Primitive;
@@ -215,16 +215,26 @@ fn is_right(
         (type_of (known_in scope.now) (seen_names kinds.old names.now) (seen_declared it.now))) }
     ensures keeps { Keeps kinds.old kinds.new }
 {
-    let declarator = it.declarator;
-    if !declarator.dimensions.is_empty() {
+    let dimensions = it.declarator.dimensions.as_slice();
+    if !dimensions.is_empty() {
         return Ok(false);
     }
-    if declarator.stars.len() > 1 {
+    let stars = it.declarator.stars.as_slice();
+    if stars.len() > 1 {
         return Ok(false);
     }
     let noted = note_declared(scope, kinds, names, it)?;
     let parameter = is_parameter(it.construct.position);
     Ok(is_passed(kinds, wanted, parameter, star, noted.of))
+}
+
+fn item<'n, 't>(list: &'n [Declared<'t>], place: u32) -> Option<&'n Declared<'t>>
+    ensures { option_map (λ d. seen_declared d.now) result ≡ slice_get (map seen_declared list.now) place }
+{
+    match list.get(place as usize) {
+        Some(declared) => Some(declared),
+        None => None,
+    }
 }
 
 /// The member or parameter of a name, in its list.
@@ -239,7 +249,79 @@ fn listed<'n, 't>(
 {
     let place = look_up(tables, list, name)?;
     let list = nodes.list(list)?;
-    list.get(place as usize)
+    item(list, place)
+}
+
+/// Whether a variable, where its list has it, is what is wanted.
+fn is_found_right(
+    scope: &Scope,
+    kinds: &mut Kinds,
+    names: &Table<u32>,
+    found: Option<&Declared>,
+    star: bool,
+    wanted: Wanted,
+) -> Result<bool, Memory>
+    requires { are_within (length kinds.old) names.now ≡ true }
+    ensures right { IfOk result (λ b. b ≡ passes_it (known_in scope.now) (seen_names kinds.old names.now) (wanted_test wanted) star (option_map (λ d. seen_declared d.now) found.entry)) }
+    ensures keeps { Keeps kinds.old kinds.new }
+{
+    match found {
+        Some(it) => is_right(scope, kinds, names, it, star, wanted),
+        None => Ok(true),
+    }
+}
+
+/// Whether the variable of an attribute of one of five words, where its list has it, is of a wrong type.
+fn says_wrong(
+    scope: &Scope,
+    kinds: &mut Kinds,
+    names: &Table<u32>,
+    nodes: &Nodes,
+    tables: &[Table<u32>],
+    list: u32,
+    attribute: &Attribute,
+) -> Result<bool, Memory>
+    requires within { are_within (length kinds.old) names.now ≡ true }
+    requires tables { AreTables tables.now nodes.now.lists.items }
+    ensures wrong { IfOk result (λ b. b ≡ list_any (fails_in (known_in scope.now) (seen_names kinds.old names.now) rules.is_integer (list_at nodes.now.lists.items list))
+        (variable_if (sizes ++ lengths) (variable_said (seen_kind attribute.now.kind)))) }
+    ensures keeps { Keeps kinds.old kinds.new }
+{
+    match &attribute.kind {
+        AttributeKind::Of(VariableWord::SwitchIs, _) => Ok(false),
+        AttributeKind::Of(_, variable) => {
+            let found = listed(nodes, tables, list, variable.name.octets.as_slice());
+            let right = is_found_right(scope, kinds, names, found, variable.star, Wanted::Integer)?;
+            Ok(!right)
+        }
+        _ => Ok(false),
+    }
+}
+
+/// Whether the variable of switch_is, where its list has it, is of a wrong type.
+fn says_wrong_switch(
+    scope: &Scope,
+    kinds: &mut Kinds,
+    names: &Table<u32>,
+    nodes: &Nodes,
+    tables: &[Table<u32>],
+    list: u32,
+    attribute: &Attribute,
+) -> Result<bool, Memory>
+    requires within { are_within (length kinds.old) names.now ≡ true }
+    requires tables { AreTables tables.now nodes.now.lists.items }
+    ensures wrong { IfOk result (λ b. b ≡ list_any (fails_in (known_in scope.now) (seen_names kinds.old names.now) rules.may_be_switched (list_at nodes.now.lists.items list))
+        (variable_if (switch_is_word ∷ []) (variable_said (seen_kind attribute.now.kind)))) }
+    ensures keeps { Keeps kinds.old kinds.new }
+{
+    match &attribute.kind {
+        AttributeKind::Of(VariableWord::SwitchIs, variable) => {
+            let found = listed(nodes, tables, list, variable.name.octets.as_slice());
+            let right = is_found_right(scope, kinds, names, found, variable.star, Wanted::Switch)?;
+            Ok(!right)
+        }
+        _ => Ok(false),
+    }
 }
 
 /// Whether a variable of size_is, max_is, first_is, length_is or last_is, where its list has it, is of a wrong type.
@@ -257,7 +339,12 @@ pub(crate) fn has_wrong_variable(
     ensures wrong { IfOk result (λ b. b ≡ has_wrong_variable (bare (known_in scope.now)) (use_of (known_in scope.now) (seen_names kinds.old names.now) (list_at nodes.now.lists.items slot.list) slot.index (seen_declared it.now))) }
     ensures keeps { Keeps kinds.old kinds.new }
 {
-    Err(Memory)
+    for attribute in it.construct.attributes {
+        if says_wrong(scope, kinds, names, nodes, tables, slot.list, attribute)? {
+            return Ok(true);
+        }
+    }
+    Ok(false)
 }
 
 /// Whether the variable of switch_is, where its list has it, is of a wrong type.
@@ -275,5 +362,10 @@ pub(crate) fn has_wrong_switch_variable(
     ensures wrong { IfOk result (λ b. b ≡ has_wrong_switch_variable (bare (known_in scope.now)) (use_of (known_in scope.now) (seen_names kinds.old names.now) (list_at nodes.now.lists.items slot.list) slot.index (seen_declared it.now))) }
     ensures keeps { Keeps kinds.old kinds.new }
 {
-    Err(Memory)
+    for attribute in it.construct.attributes {
+        if says_wrong_switch(scope, kinds, names, nodes, tables, slot.list, attribute)? {
+            return Ok(true);
+        }
+    }
+    Ok(false)
 }

@@ -1,4 +1,5 @@
-use Rattle.std.proofs.Common.{◌≡◌, ℕ, ◌<◌, true, false, length, option_map, refl, sym, ◌∙◌, arith}
+use Rattle.std.proofs.Common.{◌≡◌, ℕ, ◌<◌, true, false, eqb, length, option_map, refl, sym, ap, ◌∙◌, arith, true≢false}
+use Rattle.std.proofs.lemmas.Bool.{eqb-true}
 use Rattle.idl_grammar.specs.Seen.{seen_bound}
 use Rattle.idl_names.specs.Seen.{known_in}
 use Rattle.idl_check.specs.DeclarationRules.{is_parameter}
@@ -10,11 +11,14 @@ use Rattle.idl_check.proofs.variables.is_right.Goals as goal
 pub returns-then-not-is_empty-clause-right : goal.returns-then-not-is_empty-clause-right
 returns-then-not-is_empty-clause-right c =
     let d = seen_declared c.args.it.now in
+    let some : length c.args.it.now.declarator.now.dimensions.items ≡ 0 → ⊥ = λ z. true≢false (sym (c.if-not-is_empty.ensures ∙ ap (λ n. eqb n 0) (ap length c.as_slice-dimensions.ensures.value ∙ z))) in
     with_dimensions_fails (known_in c.args.scope.now) (seen_names c.args.kinds.now c.args.names.now) d c.args.wanted c.args.star (is_parameter d.construct.position) (option_map seen_bound)
-        c.args.it.now.declarator.now.dimensions.items refl (let a = c.is_empty.ensures in let b = c.if-not-is_empty.true in let e = c.if-not-is_empty.ensures in ?)
+        c.args.it.now.declarator.now.dimensions.items refl some
 
 pub returns-then-len-gt1-clause-right : goal.returns-then-len-gt1-clause-right
 returns-then-len-gt1-clause-right c =
     let d = seen_declared c.args.it.now in
+    let none : length c.args.it.now.declarator.now.dimensions.items ≡ 0 = sym (ap length c.as_slice-dimensions.ensures.value) ∙ eqb-true (length c.as_slice-dimensions.result.now) 0 (sym c.if-not-is_empty.ensures) in
+    let many : 1 < length c.args.it.now.declarator.now.stars.items = omega (arith, ap length c.as_slice-stars.ensures.value, c.if-len-gt1.true, c.len.ensures) in
     with_stars_fails (known_in c.args.scope.now) (seen_names c.args.kinds.now c.args.names.now) d c.args.wanted c.args.star (is_parameter d.construct.position) (option_map seen_bound)
-        c.args.it.now.declarator.now.dimensions.items c.args.it.now.declarator.now.stars.items refl (let b = c.if-not-is_empty.false in let e = c.if-not-is_empty.ensures in ?) refl (let a = c.len.ensures in let b = c.if-len-gt1.true in ?)
+        c.args.it.now.declarator.now.dimensions.items c.args.it.now.declarator.now.stars.items refl none refl many

@@ -1,16 +1,10 @@
 use Rattle.std.proofs.Common.{◌≡◌, ℕ, List, map, Option, Some, None, slice_get, option_map, refl, sym, ap, ◌∙◌, arith, Bor}
-use Rattle.std.specs.Option.{option_copied}
-use Rattle.std.proofs.lemmas.Option.{slice_get-map}
 use Rattle.idl_check.specs.declared.nodes.Declared.{Declared}
 use Rattle.idl_check.specs.SeenNodes.{seen_declared, list_at, or_empty}
 use Rattle.idl_check.specs.VariableRules.{Listed, listed_from}
 use Rattle.idl_check.proofs.LookupSteps.{index_of}
 use Rattle.idl_check.proofs.Wanted.{listed_at}
 use Rattle.idl_check.proofs.variables.listed.Goals as goal
-
-copied : (o : Option (Bor Declared)) → option_map (λ (d : Bor Declared). seen_declared d.now) o ≡ option_map seen_declared (option_copied o)
-copied None = refl
-copied (Some d) = refl
 
 pub returns : goal.returns
 returns c =
@@ -21,5 +15,4 @@ returns c =
     let xs = c.in_ok-list.list.now in
     let is : list_at lists n ≡ map seen_declared xs = ap or_empty (sym c.in_ok-list.ensures) in
     let index : index_of (listed_from 0 (list_at lists n) name) ≡ Some place = sym (c.requires n name) ∙ sym c.in_ok-place.ensures in
-    copied c.get.result ∙ ap (option_map seen_declared) c.get.ensures.lookup ∙ sym (slice_get-map seen_declared xs place)
-    ∙ sym (listed_at (list_at lists n) 0 name place index place (omega arith) ∙ ap (λ l. slice_get l place) is)
+    c.item.ensures ∙ sym (listed_at (list_at lists n) 0 name place index place (omega arith) ∙ ap (λ l. slice_get l place) is)
