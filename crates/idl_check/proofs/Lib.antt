@@ -45,3 +45,4 @@ pub mod ReadBodies
 pub mod ReadAll
 pub mod LookupSteps
 pub mod Wanted
+pub mod VariableSteps
