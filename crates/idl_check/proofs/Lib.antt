@@ -63,3 +63,6 @@ mod AskedUses
 mod MarkSums
 mod MarkLists
 mod CountedTypes
+pub mod LookupSteps
+pub mod Wanted
+pub mod VariableSteps

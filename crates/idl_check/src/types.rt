@@ -146,7 +146,7 @@ fn note(of: u32) -> Typed
 }
 
 /// What is noted of the type of a declarator.
-fn note_declared(
+pub(crate) fn note_declared(
     scope: &Scope,
     kinds: &mut Kinds,
     names: &Table<u32>,
@@ -186,7 +186,7 @@ fn note_listed(
     ensures within { IfOk result (AreTypedWithin (length kinds.new)) }
     ensures keeps { Keeps kinds.old kinds.new }
 {
-    let no_variable = has_no_variable(nodes, tables, slot, it)?;
+    let no_variable = has_no_variable(nodes, tables, slot, it);
     let wrong_variable = has_wrong_variable(scope, kinds, names, nodes, tables, slot, it)?;
     let wrong_switch_variable =
         has_wrong_switch_variable(scope, kinds, names, nodes, tables, slot, it)?;
@@ -325,7 +325,7 @@ fn note_body(kinds: &mut Kinds, construct: &Construct, body: &TypeSpec) -> Resul
 }
 
 /// Gives a name its type, unless it is there already.
-fn put_first(names: &mut Table<u32>, name: &Spelling, of: u32) -> Result<(), Memory>
+pub(crate) fn put_first(names: &mut Table<u32>, name: &Spelling, of: u32) -> Result<(), Memory>
     ensures { OnOk result (names.new ≡ and_name names.old name.now.octets of) }
 {
     let name = name.octets.as_slice();
