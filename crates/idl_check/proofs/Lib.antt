@@ -41,3 +41,4 @@ pub mod KindsOnce
 pub mod Grown
 pub mod Numbered
 pub mod NeededNodes
+pub mod Counted

@@ -38,3 +38,4 @@ pub mod GraphRows
 pub mod GraphRounds
 pub mod GraphCycles
 pub mod SeenNumbers
+pub mod SeenCounts

@@ -1,0 +1,11 @@
+use Rattle.std.proofs.Common.{◌≡◌, ◌∙◌, option_map, ap, sym}
+use Rattle.idl_names.specs.Seen.{seen_files}
+use Rattle.idl_check.specs.Rules.{breach}
+use Rattle.idl_check.proofs.Counted.{one_from, none_from}
+use Rattle.idl_check.proofs.counts.types.Goals as goal
+
+pub loop-at-preserved : goal.loop-at-preserved
+loop-at-preserved c = (c.note.ensures.files ∙ c.loop-at.invariant.0,
+    (λ w files. one_from (λ o. breach 39 o.place) c.args.own.now w c.loop-at.at ? _ _ _ ? ?
+        (c.note.ensures.first w (files ∙ ap seen_files (sym c.loop-at.invariant.0)))
+        (c.loop-at.invariant.1 w files)))
