@@ -63,14 +63,17 @@ passed w c zero zero first = refl
 passed w c zero (suc left) first =
     let e : ltb (suc left) 0 ≡ false = grind (arith, nat_tests) in
     ap (λ b. noted w first (if_broken 39 (place_in c c.at) b)) e
-passed w c (suc count) zero first = sym (ap (noted w (later w (one_too_many c) first)) (map_copies one_too_many count c) ∙ copies w (one_too_many c) count first)
+passed w c (suc count) zero first =
+    let e : ltb 0 (suc count) ≡ true = grind (arith, nat_tests) in
+    ap (λ b. noted w first (if_broken 39 (place_in c c.at) b)) e
+    ∙ sym (ap (noted w (later w (one_too_many c) first)) (map_copies one_too_many count c) ∙ copies w (one_too_many c) count first)
 passed w c (suc count) (suc left) first =
     let e : ltb (suc left) (suc count) ≡ ltb left count = grind (arith, nat_tests) in
     ap (λ b. noted w first (if_broken 39 (place_in c c.at) b)) e ∙ passed w c count left first
 
 drop_both : {X : Type 0} (n : ℕ) (xs ys : List X) → drop n (xs ++ ys) ≡ drop n xs ++ drop (n - length xs) ys
 drop_both zero xs ys = let e : 0 ≡ 0 - length xs = omega arith in ap (λ (k : ℕ). xs ++ drop k ys) e
-drop_both (suc n) [] ys = refl
+drop_both (suc n) [] ys = let e : suc n ≡ suc n - 0 = omega arith in ap (λ (k : ℕ). drop k ys) e
 drop_both (suc n) (x ∷ xs) ys = let e : n - length xs ≡ suc n - suc (length xs) = omega arith in drop_both n xs ys ∙ ap (λ (k : ℕ). drop n xs ++ drop k ys) e
 
 module _ {X : Type 0} (of : X → List Construct) (xs : List X) where
