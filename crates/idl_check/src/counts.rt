@@ -1,5 +1,5 @@
 // Rule 39: there are not too many types, operations, parameters, members and arms.
-ghost use Rattle.std.specs.Prelude.{◌≡◌, ◌-◌, List, map, drop, replicate, option_map};
+ghost use Rattle.std.specs.Prelude.{◌≡◌, ◌-◌, List, [], ◌∷◌, map, drop, length, replicate, option_map};
 ghost use Rattle.std.specs.List.{flat_map};
 ghost use Rattle.idl_names.specs.Known.{Known};
 ghost use Rattle.idl_names.specs.Seen.{seen_files};
@@ -12,7 +12,8 @@ ghost use Rattle.idl_check.specs.Found.{seen_breach};
 ghost use Rattle.idl_check.specs.SeenNodes.{seen_construct};
 ghost use Rattle.idl_check.specs.SeenTypes.{scene_seen};
 ghost use Rattle.idl_check.specs.SeenNumbers.{AreNumbers};
-ghost use Rattle.idl_check.specs.SeenCounts.{one_too_many, operations_at, parameters_at};
+ghost use Rattle.idl_check.specs.SeenCounts as seen;
+ghost use Rattle.idl_check.specs.SeenCounts.{one_too_many, operations_at};
 
 use crate::finder::Finder;
 use crate::nodes::{Construct, Declared, Node, Nodes};
@@ -42,6 +43,19 @@ fn pass(finder: &mut Finder<'_>, construct: &Construct<'_>, count: usize, left: 
     left.saturating_sub(count)
 }
 
+/// Notes an operation if none may come, and gives how many may come behind it.
+fn operation(finder: &mut Finder<'_>, node: &Node<'_>, left: usize) -> usize
+    ensures left { result ≡ left - length (operations_at node.now) }
+    ensures files { finder.new.files.now ≡ finder.old.files.now }
+    ensures first { (w : World) → w.files ≡ seen_files finder.old.files.now
+        → option_map seen_breach finder.new.first ≡ noted w (option_map seen_breach finder.old.first) (map one_too_many (drop left (operations_at node.now))) }
+{
+    match node {
+        Node::Operation { it, .. } => pass(finder, &it.construct, 1, left),
+        _ => left,
+    }
+}
+
 /// Notes the operations from a number on.
 fn operations(finder: &mut Finder<'_>, nodes: &[Node<'_>], limit: usize)
     ensures files { finder.new.files.now ≡ finder.old.files.now }
@@ -51,10 +65,17 @@ fn operations(finder: &mut Finder<'_>, nodes: &[Node<'_>], limit: usize)
 {
     let mut left = limit;
     for node in nodes {
-        if let Node::Operation { it, .. } = node {
-            left = pass(finder, &it.construct, 1, left);
-        }
+        left = operation(finder, node, left);
     }
+}
+
+/// Notes a construct.
+fn note_one(finder: &mut Finder<'_>, construct: &Construct<'_>)
+    ensures files { finder.new.files.now ≡ finder.old.files.now }
+    ensures first { (w : World) → w.files ≡ seen_files finder.old.files.now
+        → option_map seen_breach finder.new.first ≡ noted w (option_map seen_breach finder.old.first) (one_too_many (seen_construct construct.now) ∷ []) }
+{
+    finder.note(39, construct.place(construct.at), true);
 }
 
 /// Notes the parameters of a list from a number on.
@@ -65,8 +86,22 @@ fn parameters_of(finder: &mut Finder<'_>, list: &[Declared<'_>], limit: usize)
             ≡ noted w (option_map seen_breach finder.old.first) (map (λ p. one_too_many (seen_construct p.construct)) (drop limit list.now)) }
 {
     for at in limit..list.len() {
-        let construct = &list[at].construct;
-        finder.note(39, construct.place(construct.at), true);
+        note_one(finder, &list[at].construct);
+    }
+}
+
+/// Notes the parameters of a node from a number on.
+fn parameters_at(finder: &mut Finder<'_>, nodes: &Nodes<'_>, node: &Node<'_>, limit: usize)
+    ensures files { finder.new.files.now ≡ finder.old.files.now }
+    ensures first { (w : World) → w.files ≡ seen_files finder.old.files.now
+        → option_map seen_breach finder.new.first
+            ≡ noted w (option_map seen_breach finder.old.first) (map one_too_many (seen.parameters_at nodes.now.lists.items limit node.now)) }
+{
+    let Node::Operation { parameters, .. } = node else {
+        return;
+    };
+    if let Some(list) = nodes.list(*parameters) {
+        parameters_of(finder, list, limit);
     }
 }
 
@@ -75,12 +110,10 @@ fn parameters(finder: &mut Finder<'_>, nodes: &Nodes<'_>, limit: usize)
     ensures files { finder.new.files.now ≡ finder.old.files.now }
     ensures first { (w : World) → w.files ≡ seen_files finder.old.files.now
         → option_map seen_breach finder.new.first
-            ≡ noted w (option_map seen_breach finder.old.first) (map one_too_many (flat_map (parameters_at nodes.now.lists.items limit) nodes.now.items.items)) }
+            ≡ noted w (option_map seen_breach finder.old.first) (map one_too_many (flat_map (seen.parameters_at nodes.now.lists.items limit) nodes.now.items.items)) }
 {
     for node in &nodes.items {
-        if let Node::Operation { parameters, .. } = node && let Some(list) = nodes.list(*parameters) {
-            parameters_of(finder, list, limit);
-        }
+        parameters_at(finder, nodes, node, limit);
     }
 }
 
