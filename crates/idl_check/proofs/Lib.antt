@@ -42,3 +42,4 @@ pub mod Grown
 pub mod Numbered
 pub mod NeededNodes
 pub mod Counted
+pub mod CountedNodes
