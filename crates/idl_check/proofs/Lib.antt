@@ -66,3 +66,5 @@ mod CountedTypes
 pub mod LookupSteps
 pub mod Wanted
 pub mod VariableSteps
+pub mod Counted
+pub mod CountedNodes

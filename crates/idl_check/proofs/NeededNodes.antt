@@ -51,7 +51,7 @@ tag_alone tag_kind.Enum place = refl
 
 body_alone : (c : Construct) (names : Names) (body : TypeSpec)
     → built (type_of_body (record { construct = c; names = names; body = body })) ≡ type_of_body (record { construct = c; names = names; body = body }) ∷ []
-body_alone c names (tree.Struct at tag members) = refl
+body_alone c names (tree.Struct at tag _) = refl
 body_alone c names (tree.Enum at tag es) = refl
 body_alone c names _ = refl
 
@@ -75,7 +75,7 @@ of_node s names ks lists (node.Enumerators c list) t h = enumerators_need_none s
 of_node s names ks lists (node.Labels c body) t h = labels_need_none s.known names (seen_construct c) (seen_type body.now) [] (labels_of (seen_type body.now))
 of_node s names ks lists (node.EmptyArm c) t h = refl
 of_node s names ks lists (node.Declarator list index it) t h = all_built (seen_construct it.construct) (type_at ks t.of) (type_of s.known names (seen_declared it)) h.of
-of_node s names ks lists (node.Result it) t h = all_built (seen_construct it.construct) (type_at ks t.of) (type_of s.known names (seen_result it)) h.of
+of_node s names ks lists (node.Result it) t h = all_built (seen_result it).construct (type_at ks t.of) (type_of s.known names (seen_result it)) h.of
 of_node s names ks lists (node.Constant c of star value) t h = refl
 of_node s names ks lists (node.Type c of) t h = refl
 of_node s names ks lists (node.Operation it parameters) t h = refl
@@ -84,7 +84,7 @@ closed_node : (ks : List Kind) (firsts : List Needed) (it : program_node.Node) (
 closed_node ks firsts (node.Tag c kind tag) t h = closed_behind firsts (seen_construct c) (type_at ks t.of) h
 closed_node ks firsts (node.Body c body) t h = closed_behind firsts (seen_construct c) (type_at ks t.of) h
 closed_node ks firsts (node.Declarator list index it) t h = closed_behind firsts (seen_construct it.construct) (type_at ks t.of) h
-closed_node ks firsts (node.Result it) t h = closed_behind firsts (seen_construct it.construct) (type_at ks t.of) h
+closed_node ks firsts (node.Result it) t h = closed_behind firsts (seen_result it).construct (type_at ks t.of) h
 closed_node ks firsts _ t h = h
 
 -- the types with numbers behind the first i nodes

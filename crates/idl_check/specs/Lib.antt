@@ -51,3 +51,4 @@ pub mod SeenOperations
 pub mod Made
 pub mod OwnMarks
 pub mod Counted
+pub mod SeenCounts

@@ -5,14 +5,13 @@ use Rattle.nd_base.specs.declared.octets.Place.{Place}
 use Rattle.nd_types.specs.declared.TheConstants.{HANDLE}
 use Rattle.nd_types.specs.Kinds.{prim_number, context_number}
 use Rattle.idl_check.specs.declared.kinds.Kind.{Kind}
-use Rattle.idl_check.specs.declared.nodes.Construct as program
 use Rattle.idl_check.specs.declared.nodes.Node as program_node
 use Rattle.idl_check.specs.declared.nodes.Node.TheVariants as node
 use Rattle.idl_check.specs.declared.types.Typed.{Typed}
 use Rattle.idl_check.specs.declared.numbering.Own.{Own}
 use Rattle.idl_check.specs.declared.numbering.Numbers.{Numbers}
 use Rattle.idl_check.specs.Nodes.{Construct, place_in}
-use Rattle.idl_check.specs.SeenNodes.{seen_construct}
+use Rattle.idl_check.specs.SeenNodes.{seen_construct, seen_result}
 use Rattle.idl_check.specs.Types.{IdlType, Void, Handle, ContextHandle, Basic}
 use Rattle.idl_check.specs.Scene.{Scene}
 use Rattle.idl_check.specs.Numbering.{Needed, needed, built, has_own_number, same_type, own_types, number_of_type}
@@ -97,13 +96,13 @@ abbrev pub along : List Kind → Construct → List ℕ → List Needed
 along ks c path = map (λ k. needed c (type_at ks k)) path
 
 -- a type that a construct needs, behind those of which it is made
-abbrev pub built_in : List Kind → program.Construct → Typed → List Needed
-built_in ks c t = map (needed (seen_construct c)) (built (type_at ks t.of))
+abbrev pub built_in : List Kind → Construct → Typed → List Needed
+built_in ks c t = map (needed c) (built (type_at ks t.of))
 
 -- the types that a node of the program needs
 abbrev pub needed_at : List Kind → program_node.Node → Typed → List Needed
-needed_at ks (node.Tag c kind tag) t = built_in ks c t
-needed_at ks (node.Body c body) t = built_in ks c t
-needed_at ks (node.Declarator list index it) t = built_in ks it.construct t
-needed_at ks (node.Result it) t = built_in ks it.construct t
+needed_at ks (node.Tag c kind tag) t = built_in ks (seen_construct c) t
+needed_at ks (node.Body c body) t = built_in ks (seen_construct c) t
+needed_at ks (node.Declarator list index it) t = built_in ks (seen_construct it.construct) t
+needed_at ks (node.Result it) t = built_in ks (seen_result it).construct t
 needed_at ks _ t = []

@@ -1,7 +1,8 @@
 // The numbers of types (0 to 11 are the basic ones).
 ghost use Rattle.std.specs.Prelude.{◌≡◌, ◌<◌, [], List, length, map, reverse, slice_get, IfOk, OnOk};
 ghost use Rattle.idl_names.specs.Known.{Known};
-ghost use Rattle.idl_check.specs.Nodes.{Construct as construct, place_in};
+ghost use Rattle.idl_check.specs.Nodes as rules;
+ghost use Rattle.idl_check.specs.Nodes.{place_in};
 ghost use Rattle.idl_check.specs.Types.{IdlType};
 ghost use Rattle.idl_check.specs.Numbering as numbering;
 ghost use Rattle.idl_check.specs.Numbering.{Needed, needed, built};
@@ -102,7 +103,7 @@ impl Numbers {
 
     /// Gives a type a number if it needs one and has none. Takes memory for its entry.
     fn need_one(&mut self, kinds: &Kinds, kind: u32, place: Place) -> Result<(), Memory>
-        ensures { (firsts : List Needed) (c : construct) → place ≡ place_in c c.at → Shows kinds.now firsts self.old
+        ensures { (firsts : List Needed) (c : rules.Construct) → place ≡ place_in c c.at → Shows kinds.now firsts self.old
             → OnOk result (Shows kinds.now (grown_by firsts (needed c (type_at kinds.now kind))) self.new) }
     {
         if !has_own_number(kinds.kind(kind)) {
@@ -117,7 +118,7 @@ impl Numbers {
 
     /// A type and those of which it is made, down to one that has a number. Takes memory for an entry for each.
     fn path(&self, alloc: Global, kinds: &Kinds, of: u32) -> Result<Vec<u32>, Memory>
-        ensures { IfOk result (λ path. (firsts : List Needed) (c : construct) → Shows kinds.now firsts self.now → IsClosed firsts
+        ensures { IfOk result (λ path. (firsts : List Needed) (c : rules.Construct) → Shows kinds.now firsts self.now → IsClosed firsts
             → grown firsts (along kinds.now c (reverse path.items)) ≡ grown firsts (map (needed c) (built (type_at kinds.now of)))) }
     {
         let mut path = Vec::new(alloc);
@@ -136,7 +137,7 @@ impl Numbers {
 
     /// Gives numbers to a type and those of which it is made, these first. Takes memory for an entry for each that has none yet.
     fn need(&mut self, alloc: Global, kinds: &Kinds, of: u32, place: Place) -> Result<(), Memory>
-        ensures { (firsts : List Needed) (c : construct) → place ≡ place_in c c.at → Shows kinds.now firsts self.old → IsClosed firsts
+        ensures { (firsts : List Needed) (c : rules.Construct) → place ≡ place_in c c.at → Shows kinds.now firsts self.old → IsClosed firsts
             → OnOk result (Shows kinds.now (grown firsts (map (needed c) (built (type_at kinds.now of)))) self.new) }
     {
         let mut path = self.path(alloc, kinds, of)?;
@@ -158,12 +159,13 @@ impl Numbers {
             → OnOk result (Shows kinds.now (grown firsts (needed_at kinds.now node.now typed.now)) self.new) }
     {
         match node {
-            Node::Tag { construct, .. } => self.need_in(alloc, kinds, construct, typed.of),
-            Node::Body { construct, .. } => self.need_in(alloc, kinds, construct, typed.of),
-            Node::Declarator { it, .. } => self.need_in(alloc, kinds, &it.construct, typed.of),
-            Node::Result { it } => self.need_in(alloc, kinds, &it.construct, typed.of),
-            _ => Ok(()),
+            Node::Tag { construct, .. } => self.need_in(alloc, kinds, construct, typed.of)?,
+            Node::Body { construct, .. } => self.need_in(alloc, kinds, construct, typed.of)?,
+            Node::Declarator { it, .. } => self.need_in(alloc, kinds, &it.construct, typed.of)?,
+            Node::Result { it } => self.need_in(alloc, kinds, &it.construct, typed.of)?,
+            _ => {}
         }
+        Ok(())
     }
 
     /// Gives numbers to a type that a construct needs, and those of which it is made.
@@ -174,10 +176,11 @@ impl Numbers {
         construct: &Construct<'_>,
         of: u32,
     ) -> Result<(), Memory>
-        ensures { (firsts : List Needed) → Shows kinds.now firsts self.old → IsClosed firsts
-            → OnOk result (Shows kinds.now (grown firsts (map (needed (seen_construct construct.now)) (built (type_at kinds.now of)))) self.new) }
+        ensures { (firsts : List Needed) (c : rules.Construct) → place_in (seen_construct construct.now) construct.now.at ≡ place_in c c.at → Shows kinds.now firsts self.old → IsClosed firsts
+            → OnOk result (Shows kinds.now (grown firsts (map (needed c) (built (type_at kinds.now of)))) self.new) }
     {
-        self.need(alloc, kinds, of, construct.place(construct.at))
+        self.need(alloc, kinds, of, construct.place(construct.at))?;
+        Ok(())
     }
 }
 
