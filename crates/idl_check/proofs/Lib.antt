@@ -41,3 +41,22 @@ mod GraphRows
 mod GraphSearching
 pub mod Dimensions
 pub mod NotedTypes
+mod Below
+mod Split
+mod Judgement
+pub mod Agreed
+pub mod PartTypes
+mod Held
+mod BodyParts
+mod PlacesFilled
+mod Bridges
+pub mod ReadNames
+pub mod ReadSteps
+pub mod ReadBodies
+pub mod ReadAll
+pub mod KindsOnce
+pub mod Grown
+pub mod Numbered
+pub mod NeededNodes
+pub mod Listing
+mod AskedUses

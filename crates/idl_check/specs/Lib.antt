@@ -27,6 +27,9 @@ pub mod Spelled
 pub mod Found
 pub mod ListBreaches
 pub mod OtherBreaches
+pub mod OthersOf
+pub mod NodeBreaches
+pub mod RestBreaches
 pub mod LabelValues
 pub mod Checked
 pub mod Kinds
@@ -35,7 +38,14 @@ pub mod SeenTypes
 pub mod SeenMarks
 pub mod SeenNames
 pub mod Growing
+pub mod Asked
 pub mod Graph
 pub mod GraphRows
 pub mod GraphRounds
 pub mod GraphCycles
+pub mod Lookups
+pub mod InPlace
+pub mod ReadTypes
+pub mod SeenNumbers
+pub mod SeenOperations
+pub mod Made

@@ -15,7 +15,7 @@ ghost use Rattle.idl_check.specs.ValueRules.{is_value_of};
 ghost use Rattle.idl_check.specs.LabelValues as values;
 ghost use Rattle.idl_check.specs.LabelValues.{Holds, accepts_value, value_breaches};
 ghost use Rattle.idl_check.specs.Noted.{noted};
-ghost use Rattle.idl_check.specs.OtherBreaches.{other_breaches};
+ghost use Rattle.idl_check.specs.NodeBreaches.{other_breaches};
 ghost use Rattle.idl_check.specs.Found.{seen_breach};
 
 use crate::finder::Finder;

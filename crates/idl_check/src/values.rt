@@ -12,7 +12,7 @@ ghost use Rattle.idl_check.specs.Kinds.{basic_in};
 ghost use Rattle.idl_check.specs.SeenNodes.{seen_construct};
 ghost use Rattle.idl_check.specs.ValueRules as value_rules;
 ghost use Rattle.idl_check.specs.Noted.{noted};
-ghost use Rattle.idl_check.specs.OtherBreaches.{other_breaches};
+ghost use Rattle.idl_check.specs.NodeBreaches.{other_breaches};
 ghost use Rattle.idl_check.specs.Found.{seen_breach};
 
 use crate::finder::Finder;
