@@ -40,3 +40,6 @@ pub mod NotedTypes
 mod Split
 pub mod KindsOnce
 pub mod Listing
+pub mod Making
+pub mod Defining
+pub mod Operating
