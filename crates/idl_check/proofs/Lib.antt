@@ -68,3 +68,6 @@ pub mod Wanted
 pub mod VariableSteps
 pub mod Counted
 pub mod CountedNodes
+pub mod Making
+pub mod Defining
+pub mod Operating

@@ -117,7 +117,7 @@ fn attributes_of(arm: &Arm) -> &[Attribute]
 /// Adds an arm.
 fn add<'t>(list: &mut Vec<ValuedArm<'t>>, name: Option<&'t Spelling>, labels: Vec<Option<i128>>) -> Result<(), Memory>
     ensures { OnOk result (map seen_valued list.new.items ≡ map seen_valued list.old.items
-        ++ record { name = option_map (λ s. s.now.octets) name; labels = labels.entry.items } ∷ []) }
+        ++ record { name = option_map (λ s. s.now.octets) name.entry; labels = labels.items } ∷ []) }
 {
     match list.push(ValuedArm { name, labels }) {
         Ok(()) => Ok(()),
@@ -164,7 +164,7 @@ pub(crate) fn valued_arms<'t>(alloc: Global, scope: &Scope, body: &'t TypeSpec) 
 
 /// The first of these types, where the arm is not empty.
 fn type_for(name: Option<&Spelling>, types: &[TypeId]) -> Option<TypeId>
-    ensures { result ≡ made.type_for (option_map (λ s. s.now.octets) name) types.now }
+    ensures { result ≡ made.type_for (option_map (λ s. s.now.octets) name.entry) types.now }
 {
     match (name, types) {
         (Some(_), [first, ..]) => Some(*first),
@@ -174,7 +174,7 @@ fn type_for(name: Option<&Spelling>, types: &[TypeId]) -> Option<TypeId>
 
 /// The types of the arms behind this one.
 fn types_past<'s>(name: Option<&Spelling>, types: &'s [TypeId]) -> &'s [TypeId]
-    ensures { result.now ≡ made.types_past (option_map (λ s. s.now.octets) name) types.now }
+    ensures { result.now ≡ made.types_past (option_map (λ s. s.now.octets) name.entry) types.now }
 {
     match (name, types) {
         (Some(_), [_, rest @ ..]) => rest,
@@ -184,7 +184,7 @@ fn types_past<'s>(name: Option<&Spelling>, types: &'s [TypeId]) -> &'s [TypeId]
 
 /// The name of an arm. Takes memory for it.
 fn arm_name(alloc: Global, name: Option<&Spelling>) -> Result<Option<Name>, Memory>
-    ensures { IfOk result (λ n. n ≡ option_map (λ s. s.now.octets) name) }
+    ensures { IfOk result (λ n. n ≡ option_map (λ s. s.now.octets) name.entry) }
 {
     match name {
         Some(name) => Ok(Some(name_of(alloc, name)?)),
@@ -194,7 +194,7 @@ fn arm_name(alloc: Global, name: Option<&Spelling>) -> Result<Option<Name>, Memo
 
 /// An arm for a label. Takes memory for its name.
 fn arm_for(alloc: Global, name: Option<&Spelling>, of: Option<TypeId>, label: i128) -> Result<nd::Arm, Memory>
-    ensures { IfOk result (λ a. a ≡ meaning.arm_for (option_map (λ s. s.now.octets) name) of label) }
+    ensures { IfOk result (λ a. a ≡ meaning.arm_for (option_map (λ s. s.now.octets) name.entry) of label) }
 {
     let name = arm_name(alloc, name)?;
     Ok(nd::Arm { label, name, of })
@@ -208,7 +208,7 @@ fn add_arm(
     of: Option<TypeId>,
     label: Option<i128>,
 ) -> Result<(), Memory>
-    ensures { OnOk result (arms.new ≡ arms.old ++ arm_with (option_map (λ s. s.now.octets) name) of label) }
+    ensures { OnOk result (arms.new ≡ arms.old ++ arm_with (option_map (λ s. s.now.octets) name.entry) of label) }
 {
     let Some(label) = label else {
         return Ok(());
@@ -228,7 +228,7 @@ fn add_arms(
     of: Option<TypeId>,
     labels: &[Option<i128>],
 ) -> Result<(), Memory>
-    ensures { OnOk result (arms.new ≡ arms.old ++ flat_map (arm_with (option_map (λ s. s.now.octets) name) of) labels.now) }
+    ensures { OnOk result (arms.new ≡ arms.old ++ flat_map (arm_with (option_map (λ s. s.now.octets) name.entry) of) labels.now) }
 {
     for label in labels {
         add_arm(alloc, arms, name, of, *label)?;

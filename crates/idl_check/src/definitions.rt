@@ -51,20 +51,27 @@ pub(crate) fn number_of(program: &Program<'_, '_>, of: u32) -> TypeId
     TypeId(program.numbers.number(&program.types.kinds, of))
 }
 
-/// The body of a place.
-fn body_at<'s, 't>(program: &Program<'s, 't>, place: Place) -> Option<FoundBody<'s, 't>>
+/// The body of a place. What is noted of a body names its node; another would be told as want of memory.
+fn body_at<'s, 't>(
+    program: &Program<'s, 't>,
+    place: Place,
+) -> Result<Option<FoundBody<'s, 't>>, Memory>
     requires { IsProgram program.now }
-    ensures { MatchOption result (body_of (scene_in program.now) place ≡ None) (IsFound (scene_in program.now) program.now.types.now.kinds place) }
+    ensures { IfOk result (λ found. MatchOption found (body_of (scene_in program.now) place ≡ None) (IsFound (scene_in program.now) program.now.types.now.kinds place)) }
 {
-    let number = program.types.body_of(place)?;
-    let noted = program.types.bodies.get(number as usize)?;
-    match program.nodes.items.get(noted.node as usize)? {
-        Node::Body { construct, body } => Some(FoundBody {
+    let Some(number) = program.types.body_of(place) else {
+        return Ok(None);
+    };
+    let Some(noted) = program.types.bodies.get(number as usize) else {
+        return Err(Memory);
+    };
+    match program.nodes.items.get(noted.node as usize) {
+        Some(Node::Body { construct, body }) => Ok(Some(FoundBody {
             construct,
             body,
             noted,
-        }),
-        _ => None,
+        })),
+        _ => Err(Memory),
     }
 }
 
@@ -170,46 +177,46 @@ fn enum_of(alloc: Global, scope: &Scope, enumerators: &[Enumerator]) -> Result<T
     Ok(TypeDef::Enum { values })
 }
 
-/// What a place is as a struct.
+/// What a place is as a struct. In files that are resolved its body is a struct; another would be told as want of memory.
 fn struct_at(alloc: Global, program: &Program<'_, '_>, place: Place) -> Result<TypeDef, Memory>
     requires { IsProgram program.now }
     ensures { IfOk result (λ d. d ≡ meaning.definition (scene_in program.now) (Struct place)) }
 {
-    let Some(found) = body_at(program, place) else {
+    let Some(found) = body_at(program, place)? else {
         return Ok(nothing(alloc));
     };
     match found.body {
         TypeSpec::Struct { .. } => struct_of(alloc, program, &found),
-        _ => Ok(nothing(alloc)),
+        _ => Err(Memory),
     }
 }
 
-/// What a place is as a union.
+/// What a place is as a union. In files that are resolved its body is a union; another would be told as want of memory.
 fn union_at(alloc: Global, program: &Program<'_, '_>, place: Place) -> Result<TypeDef, Memory>
     requires { IsProgram program.now }
     ensures { IfOk result (λ d. d ≡ meaning.definition (scene_in program.now) (Union place)) }
 {
-    let Some(found) = body_at(program, place) else {
+    let Some(found) = body_at(program, place)? else {
         return Ok(nothing(alloc));
     };
     match found.body {
         TypeSpec::EncapsulatedUnion { .. } => union_of(alloc, program, true, &found),
         TypeSpec::NonEncapsulatedUnion { .. } => union_of(alloc, program, false, &found),
-        _ => Ok(nothing(alloc)),
+        _ => Err(Memory),
     }
 }
 
-/// What a place is as an enumerated type.
+/// What a place is as an enumerated type. In files that are resolved its body is an enum; another would be told as want of memory.
 fn enum_at(alloc: Global, program: &Program<'_, '_>, place: Place) -> Result<TypeDef, Memory>
     requires { IsProgram program.now }
     ensures { IfOk result (λ d. d ≡ meaning.definition (scene_in program.now) (Enum place)) }
 {
-    let Some(found) = body_at(program, place) else {
+    let Some(found) = body_at(program, place)? else {
         return Ok(nothing(alloc));
     };
     match found.body {
         TypeSpec::Enum { enumerators, .. } => enum_of(alloc, program.scope, enumerators.as_slice()),
-        _ => Ok(nothing(alloc)),
+        _ => Err(Memory),
     }
 }
 

@@ -155,26 +155,39 @@ fn field(
     Ok(Field { name, of, vars })
 }
 
+/// The members of a list with these types, by the list's table. Takes memory for them.
+fn fields_by(
+    alloc: Global,
+    table: &Table<u32>,
+    list: &[Declared<'_>],
+    types: &[TypeId],
+) -> Result<Fields, Memory>
+    ensures { IfOk result (λ v. v ≡ each_with (field_by table.now) (map seen_declared list.now) types.now) }
+{
+    let mut fields = Fields::new(alloc);
+    for index in 0..list.len() {
+        let Some(of) = types.get(index) else {
+            return Err(Memory);
+        };
+        let field = field(alloc, table, &list[index], *of)?;
+        match fields.push(field) {
+            Ok(()) => {}
+            Err(_) => return Err(Memory),
+        }
+    }
+    Ok(fields)
+}
+
 /// The members of a list with these types, of which there are as many. Takes memory for them.
 pub(crate) fn fields(
     alloc: Global,
     list: &[Declared<'_>],
     types: &[TypeId],
 ) -> Result<Fields, Memory>
-    ensures { IfOk result (λ fs. fs ≡ each_with (field_with (map seen_declared list.now)) (map seen_declared list.now) types.now) }
+    ensures { IfOk result (λ v. v ≡ each_with (field_with (map seen_declared list.now)) (map seen_declared list.now) types.now) }
 {
     let table = indexes(alloc, list)?;
-    let mut fields = Fields::new(alloc);
-    for index in 0..list.len() {
-        let Some(of) = types.get(index) else {
-            return Err(Memory);
-        };
-        let field = field(alloc, &table, &list[index], *of)?;
-        match fields.push(field) {
-            Ok(()) => {}
-            Err(_) => return Err(Memory),
-        }
-    }
+    let fields = fields_by(alloc, &table, list, types)?;
     Ok(fields)
 }
 
@@ -205,25 +218,38 @@ fn parameter(
     })
 }
 
+/// The parameters of a list with these types, by the list's table. Takes memory for them.
+fn parameters_by(
+    alloc: Global,
+    table: &Table<u32>,
+    list: &[Declared<'_>],
+    types: &[TypeId],
+) -> Result<Params, Memory>
+    ensures { IfOk result (λ v. v ≡ each_with (parameter_by table.now) (map seen_declared list.now) types.now) }
+{
+    let mut parameters = Params::new(alloc);
+    for index in 0..list.len() {
+        let Some(of) = types.get(index) else {
+            return Err(Memory);
+        };
+        let parameter = parameter(alloc, table, &list[index], *of)?;
+        match parameters.push(parameter) {
+            Ok(()) => {}
+            Err(_) => return Err(Memory),
+        }
+    }
+    Ok(parameters)
+}
+
 /// The parameters of a list with these types, of which there are as many. Takes memory for them.
 pub(crate) fn parameters(
     alloc: Global,
     list: &[Declared<'_>],
     types: &[TypeId],
 ) -> Result<Params, Memory>
-    ensures { IfOk result (λ ps. ps ≡ each_with (parameter_with (map seen_declared list.now)) (map seen_declared list.now) types.now) }
+    ensures { IfOk result (λ v. v ≡ each_with (parameter_with (map seen_declared list.now)) (map seen_declared list.now) types.now) }
 {
     let table = indexes(alloc, list)?;
-    let mut parameters = Params::new(alloc);
-    for index in 0..list.len() {
-        let Some(of) = types.get(index) else {
-            return Err(Memory);
-        };
-        let parameter = parameter(alloc, &table, &list[index], *of)?;
-        match parameters.push(parameter) {
-            Ok(()) => {}
-            Err(_) => return Err(Memory),
-        }
-    }
+    let parameters = parameters_by(alloc, &table, list, types)?;
     Ok(parameters)
 }

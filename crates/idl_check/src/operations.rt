@@ -30,7 +30,7 @@ fn result_number(program: &Program<'_, '_>, of: u32) -> Option<TypeId>
 
 /// A list, or the empty one.
 fn or_empty<'s, 't>(list: Option<&'s [Declared<'t>]>) -> &'s [Declared<'t>]
-    ensures { map seen_declared result.now ≡ seen.or_empty (option_map (λ l. map seen_declared l.now) list) }
+    ensures { map seen_declared result.now ≡ seen.or_empty (option_map (λ l. map seen_declared l.now) list.entry) }
 {
     match list {
         Some(list) => list,

@@ -1,7 +1,7 @@
 use Rattle.std.proofs.Common.{◌≡◌, ◌++◌, map, drop}
 use Rattle.idl_check.specs.SeenNodes.{seen_declared}
 use Rattle.idl_check.specs.Made.{each_with, field_by}
-use Rattle.idl_check.proofs.members.fields.Given as goal
+use Rattle.idl_check.proofs.members.fields_by.Given as goal
 
 -- what is there, with what is left
 abbrev pub invariant-loop-index : goal.invariant-loop-index

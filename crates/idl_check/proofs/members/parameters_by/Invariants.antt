@@ -1,7 +1,7 @@
 use Rattle.std.proofs.Common.{◌≡◌, ◌++◌, map, drop}
 use Rattle.idl_check.specs.SeenNodes.{seen_declared}
 use Rattle.idl_check.specs.Made.{each_with, parameter_by}
-use Rattle.idl_check.proofs.members.parameters.Given as goal
+use Rattle.idl_check.proofs.members.parameters_by.Given as goal
 
 -- what is there, with what is left
 abbrev pub invariant-loop-index : goal.invariant-loop-index
