@@ -12,6 +12,10 @@ mod Noted
 mod AnyFrom
 mod Ranks
 mod ListNotes
+mod OtherNotes
+mod ValueNotes
+mod LabelLists
+mod LabelTags
 mod NoListRules
 mod Runs
 pub mod Fronts

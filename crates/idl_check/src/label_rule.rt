@@ -80,13 +80,19 @@ fn values_of(alloc: Global, scope: &Scope, list: &[Enumerator]) -> Result<ValueS
 {
     let mut set = ValueSet::new(alloc);
     for one in list {
-        let _repeated = set.add(number_of(scope, &one.name))?;
+        set.add(number_of(scope, &one.name))?;
     }
     Ok(set)
 }
 
 /// What labels may be where the tag has a type of this kind. Takes memory for the values of an enum.
-fn accepted_by(alloc: Global, scope: &Scope, nodes: &Nodes<'_>, types: &Types, kind: Kind) -> Result<Accepted, Memory>
+fn accepted_by(
+    alloc: Global,
+    scope: &Scope,
+    nodes: &Nodes<'_>,
+    types: &Types,
+    kind: Kind,
+) -> Result<Accepted, Memory>
     ensures { (s : Scene) (ts : List IdlType) → s.known ≡ known_in scope.now → IsTypes s nodes.now types.now
         → IfOk result (λ a. (z : ℤ) → values.accepts a z ≡ is_value_of s (Some (type_by ts kind)) z) }
 {
@@ -102,7 +108,13 @@ fn accepted_by(alloc: Global, scope: &Scope, nodes: &Nodes<'_>, types: &Types, k
 }
 
 /// What labels may be whose tag has this type. Takes memory for the values of an enum.
-fn accepted_of(alloc: Global, scope: &Scope, nodes: &Nodes<'_>, types: &Types, typed: &Typed) -> Result<Accepted, Memory>
+fn accepted_of(
+    alloc: Global,
+    scope: &Scope,
+    nodes: &Nodes<'_>,
+    types: &Types,
+    typed: &Typed,
+) -> Result<Accepted, Memory>
     ensures { (s : Scene) → s.known ≡ known_in scope.now → IsTypes s nodes.now types.now
         → IfOk result (λ a. (z : ℤ) → values.accepts a z ≡ is_value_of s (tag_seen types.now.kinds typed.now) z) }
 {
@@ -127,12 +139,18 @@ fn accepts(accepted: &Accepted, value: Option<i128>) -> bool
 }
 
 /// The rule on a label, behind others with the values of a set.
-fn label(finder: &mut Finder<'_>, construct: &Construct<'_>, accepted: &Accepted, before: &mut ValueSet, it: Valued) -> Result<(), Memory>
+fn label(
+    finder: &mut Finder<'_>,
+    construct: &Construct<'_>,
+    accepted: &Accepted,
+    before: &mut ValueSet,
+    it: &Valued,
+) -> Result<(), Memory>
     ensures files { finder.new.files.now ≡ finder.old.files.now }
-    ensures holds { (done : List (Option ℤ)) → Holds before.old done → OnOk result (Holds before.new (done ++ it.value ∷ [])) }
+    ensures holds { (done : List (Option ℤ)) → Holds before.old done → OnOk result (Holds before.new (done ++ it.now.value ∷ [])) }
     ensures first { (w : World) (done : List (Option ℤ)) → w.files ≡ seen_files finder.old.files.now → Holds before.old done
         → OnOk result (option_map seen_breach finder.new.first
-            ≡ noted w (option_map seen_breach finder.old.first) (value_breaches (values.accepts accepted.now) (seen_construct construct.now) done (it ∷ []))) }
+        ≡ noted w (option_map seen_breach finder.old.first) (value_breaches (values.accepts accepted.now) (seen_construct construct.now) done (it.now ∷ []))) }
 {
     let repeated = before.add(it.value)?;
     let broken = !accepts(accepted, it.value) || repeated;
@@ -141,15 +159,21 @@ fn label(finder: &mut Finder<'_>, construct: &Construct<'_>, accepted: &Accepted
 }
 
 /// The rule on labels with their values. Takes memory for a set of them.
-fn each_label(alloc: Global, finder: &mut Finder<'_>, construct: &Construct<'_>, accepted: &Accepted, list: &[Valued]) -> Result<(), Memory>
+fn each_label(
+    alloc: Global,
+    finder: &mut Finder<'_>,
+    construct: &Construct<'_>,
+    accepted: &Accepted,
+    list: &[Valued],
+) -> Result<(), Memory>
     ensures files { finder.new.files.now ≡ finder.old.files.now }
     ensures first { (w : World) → w.files ≡ seen_files finder.old.files.now
         → OnOk result (option_map seen_breach finder.new.first
-            ≡ noted w (option_map seen_breach finder.old.first) (value_breaches (values.accepts accepted.now) (seen_construct construct.now) [] list.now)) }
+        ≡ noted w (option_map seen_breach finder.old.first) (value_breaches (values.accepts accepted.now) (seen_construct construct.now) [] list.now)) }
 {
     let mut before = ValueSet::new(alloc);
     for one in list {
-        label(finder, construct, accepted, &mut before, *one)?;
+        label(finder, construct, accepted, &mut before, one)?;
     }
     Ok(())
 }
@@ -169,10 +193,11 @@ pub(crate) fn labels(
     ensures first { (w : World) (s : Scene) (names : Names) → w.files ≡ seen_files finder.old.files.now → s.known ≡ known_in scope.now → IsTypes s nodes.now types.now
         → tag_seen types.now.kinds typed.now ≡ tag_type (seen_construct construct.now) names (seen_type body.now)
         → OnOk result (option_map seen_breach finder.new.first
-            ≡ noted w (option_map seen_breach finder.old.first)
-                (other_breaches s names (rules.label_nodes (seen_construct construct.now) (seen_type body.now) [] (rules.labels_of (seen_type body.now))))) }
+        ≡ noted w (option_map seen_breach finder.old.first)
+        (other_breaches s names (rules.label_nodes (seen_construct construct.now) (seen_type body.now) [] (rules.labels_of (seen_type body.now))))) }
 {
     let accepted = accepted_of(alloc, scope, nodes, types, typed)?;
     let list = labels_of(alloc, scope, body)?;
-    each_label(alloc, finder, construct, &accepted, list.as_slice())
+    each_label(alloc, finder, construct, &accepted, list.as_slice())?;
+    Ok(())
 }

@@ -2,7 +2,7 @@
 ghost use Rattle.std.specs.Prelude.{◌≡◌, [], ◌∷◌, ◌++◌, map, Some, IfOk, OnOk};
 ghost use Rattle.std.specs.List.{flat_map};
 ghost use Rattle.idl_grammar.specs.Reading.{cases_of, arms_of};
-ghost use Rattle.idl_grammar.specs.Seen.{seen_expr, seen_label, seen_attribute, seen_arm, seen_case, seen_type};
+ghost use Rattle.idl_grammar.specs.Seen.{seen_expr, seen_label, seen_attribute, seen_kind, seen_arm, seen_case, seen_type};
 ghost use Rattle.idl_names.specs.Seen.{known_in};
 ghost use Rattle.idl_check.specs.Nodes as rules;
 ghost use Rattle.idl_check.specs.LabelValues.{valued};
@@ -51,19 +51,26 @@ fn add_labels(scope: &Scope, list: &mut Vec<Valued>, labels: &[Label]) -> Result
     Ok(())
 }
 
+/// Adds a value of `case` in a list of attributes.
+fn add_value(scope: &Scope, list: &mut Vec<Valued>, at: u32, value: &Expr) -> Result<(), Memory>
+    ensures { OnOk result (list.new.items ≡ list.old.items ++ valued (known_in scope.now) (record { at = at; value = Some (seen_expr value.now) }) ∷ []) }
+{
+    add(list, at, Some(number(scope, value)))
+}
+
 /// Adds the values of `case` in a list of attributes.
 fn add_values(scope: &Scope, list: &mut Vec<Valued>, at: u32, values: &[Expr]) -> Result<(), Memory>
     ensures { OnOk result (list.new.items ≡ list.old.items ++ map (valued (known_in scope.now)) (map (λ e. record { at = at; value = Some e }) (map seen_expr values.now))) }
 {
     for value in values {
-        add(list, at, Some(number(scope, value)))?;
+        add_value(scope, list, at, value)?;
     }
     Ok(())
 }
 
 /// Adds the labels that an attribute gives.
 fn add_said(scope: &Scope, list: &mut Vec<Valued>, attribute: &Attribute) -> Result<(), Memory>
-    ensures { OnOk result (list.new.items ≡ list.old.items ++ map (valued (known_in scope.now)) (rules.labels_in (seen_attribute attribute.now ∷ []))) }
+    ensures { OnOk result (list.new.items ≡ list.old.items ++ map (valued (known_in scope.now)) (rules.labels_said attribute.now.at (seen_kind attribute.now.kind))) }
 {
     match &attribute.kind {
         AttributeKind::Case(values) => add_values(scope, list, attribute.at, values.as_slice()),
@@ -73,7 +80,11 @@ fn add_said(scope: &Scope, list: &mut Vec<Valued>, attribute: &Attribute) -> Res
 }
 
 /// Adds the labels that attributes give.
-fn add_all_said(scope: &Scope, list: &mut Vec<Valued>, attributes: &[Attribute]) -> Result<(), Memory>
+fn add_all_said(
+    scope: &Scope,
+    list: &mut Vec<Valued>,
+    attributes: &[Attribute],
+) -> Result<(), Memory>
     ensures { OnOk result (list.new.items ≡ list.old.items ++ map (valued (known_in scope.now)) (rules.labels_in (map seen_attribute attributes.now))) }
 {
     for attribute in attributes {
@@ -115,7 +126,11 @@ fn labels_of_arms(alloc: Global, scope: &Scope, arms: &Vec<Arm>) -> Result<Vec<V
 }
 
 /// The labels of a union, in the order of the text. Takes memory for the list.
-pub(crate) fn labels_of(alloc: Global, scope: &Scope, body: &TypeSpec) -> Result<Vec<Valued>, Memory>
+pub(crate) fn labels_of(
+    alloc: Global,
+    scope: &Scope,
+    body: &TypeSpec,
+) -> Result<Vec<Valued>, Memory>
     ensures { IfOk result (λ v. v.items ≡ map (valued (known_in scope.now)) (rules.labels_of (seen_type body.now))) }
 {
     match body {

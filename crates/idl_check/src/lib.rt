@@ -33,6 +33,8 @@ mod values;
 mod written;
 #[cfg(test)]
 mod node_tests;
+#[cfg(test)]
+mod label_tests;
 mod parts;
 mod walk;
 

@@ -20,7 +20,9 @@ use crate::nodes::Construct;
 use crate::ranges::is_in_range;
 use crate::typing::number;
 use crate::written::simple_kind;
-use idl_grammar::{Attribute, AttributeKind, Bound, Declarator, Enumerator, Init, SimpleType, Spelling};
+use idl_grammar::{
+    Attribute, AttributeKind, Bound, Declarator, Enumerator, Init, SimpleType, Spelling,
+};
 use idl_names::{Meaning, Names, Scope};
 
 /// The greatest value of an enumerator.
@@ -47,12 +49,17 @@ fn is_large_enumerator(scope: &Scope, name: &Spelling) -> bool
 }
 
 /// The rule on enumerators.
-pub(crate) fn enumerators(finder: &mut Finder<'_>, scope: &Scope, construct: &Construct<'_>, list: &[Enumerator])
+pub(crate) fn enumerators(
+    finder: &mut Finder<'_>,
+    scope: &Scope,
+    construct: &Construct<'_>,
+    list: &[Enumerator],
+)
     ensures files { finder.new.files.now ≡ finder.old.files.now }
     ensures first { (w : World) (s : Scene) (names : Names) → w.files ≡ seen_files finder.old.files.now → s.known ≡ known_in scope.now
         → option_map seen_breach finder.new.first
-            ≡ noted w (option_map seen_breach finder.old.first)
-                (other_breaches s names (map (λ e. rules.EnumeratorNode (seen_construct construct.now) e.name) (map seen_enumerator list.now))) }
+        ≡ noted w (option_map seen_breach finder.old.first)
+        (other_breaches s names (map (λ e. rules.EnumeratorNode (seen_construct construct.now) e.name) (map seen_enumerator list.now))) }
 {
     for one in list {
         let broken = is_large_enumerator(scope, &one.name);
@@ -96,12 +103,19 @@ fn is_handle_constant(of: SimpleType) -> bool
 }
 
 /// The rules on a constant.
-pub(crate) fn constant(finder: &mut Finder<'_>, scope: &Scope, construct: &Construct<'_>, of: SimpleType, star: bool, value: &Init)
+pub(crate) fn constant(
+    finder: &mut Finder<'_>,
+    scope: &Scope,
+    construct: &Construct<'_>,
+    of: SimpleType,
+    star: bool,
+    value: &Init,
+)
     ensures files { finder.new.files.now ≡ finder.old.files.now }
     ensures first { (w : World) (s : Scene) (names : Names) → w.files ≡ seen_files finder.old.files.now → s.known ≡ known_in scope.now
         → option_map seen_breach finder.new.first
-            ≡ noted w (option_map seen_breach finder.old.first)
-                (other_breaches s names (rules.ConstantNode (seen_construct construct.now) of star (seen_init value.now) ∷ [])) }
+        ≡ noted w (option_map seen_breach finder.old.first)
+        (other_breaches s names (rules.ConstantNode (seen_construct construct.now) of star (seen_init value.now) ∷ [])) }
 {
     let place = construct.place(construct.at);
     finder.note(6, place, is_void_constant(of, value));
@@ -124,13 +138,13 @@ pub(crate) fn second_classes(finder: &mut Finder<'_>, construct: &Construct<'_>)
     ensures files { finder.new.files.now ≡ finder.old.files.now }
     ensures first { (w : World) (s : Scene) (names : Names) → w.files ≡ seen_files finder.old.files.now
         → option_map seen_breach finder.new.first
-            ≡ noted w (option_map seen_breach finder.old.first) (other_breaches s names (rules.attribute_nodes (seen_construct construct.now))) }
+        ≡ noted w (option_map seen_breach finder.old.first) (other_breaches s names (rules.attribute_nodes (seen_construct construct.now))) }
 {
     let mut found = false;
     for one in construct.attributes {
         let class = is_class(one);
-        finder.note(26, construct.place(construct.at), class && found);
-        found = found || class;
+        finder.note(26, construct.place(construct.at), class & found);
+        found |= class;
     }
 }
 
