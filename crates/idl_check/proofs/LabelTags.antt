@@ -25,7 +25,7 @@ use Rattle.idl_check.specs.SeenTypes.{body_at, names_at, tag_seen, IsTypes}
 use Rattle.idl_check.specs.ValueRules.{same_value, label_value, is_value_of, is_label_of, is_bad_label}
 use Rattle.idl_check.specs.Rules.{Breach, broken_at}
 use Rattle.idl_check.specs.Noted.{noted}
-use Rattle.idl_check.specs.OtherBreaches.{other_breaches}
+use Rattle.idl_check.specs.OthersOf.{others_of}
 use Rattle.idl_check.specs.LabelValues.{valued, is_among, Holds, accepts_value, value_breaches}
 use Rattle.idl_check.proofs.Dimensions.{any_seen}
 use Rattle.idl_check.proofs.OtherNotes.{kept, other_cons, part_noted}
@@ -143,7 +143,7 @@ accepts_is s tag test is (Some z) = is z
 
 module _ (s : Scene) (names : Names) (c : Construct) (body : TypeSpec) (test : ℤ → Bool) (is : (z : ℤ) → test z ≡ is_value_of s (tag_type c names body) z) where
   pub labels_others : (before ls : List ArmLabel)
-      → value_breaches test c (map (label_value s.known) before) (map (valued s.known) ls) ≡ other_breaches s names (label_nodes c body before ls)
+      → value_breaches test c (map (label_value s.known) before) (map (valued s.known) ls) ≡ others_of s names (label_nodes c body before ls)
   labels_others before [] = refl
   labels_others before (l ∷ ls) =
       let tag = tag_type c names body in

@@ -9,7 +9,7 @@ use Rattle.idl_check.specs.Types.{Names}
 use Rattle.idl_check.specs.Scene.{Scene}
 use Rattle.idl_check.specs.Rules.{Breach, broken_at, breaches_at}
 use Rattle.idl_check.specs.Noted.{noted, is_of_lists, of_others}
-use Rattle.idl_check.specs.OtherBreaches.{other_breaches}
+use Rattle.idl_check.specs.OthersOf.{others_of}
 use Rattle.idl_check.proofs.Noted.{noted_more}
 
 pub others_append : (xs ys : List Breach) → of_others (xs ++ ys) ≡ of_others xs ++ of_others ys
@@ -28,10 +28,10 @@ pub dropped : (c : Construct) (rule at : ℕ) (t : Bool) → ltb rule 5 ≡ true
 dropped c rule at false h = refl
 dropped c rule at true h = ap (λ b. elim b [ true ↦ [] | false ↦ broken_at c rule at true ]) h
 
-pub other_cons : (s : Scene) (names : Names) (n : Node) (ns : List Node) → other_breaches s names (n ∷ ns) ≡ of_others (breaches_at s names n) ++ other_breaches s names ns
+pub other_cons : (s : Scene) (names : Names) (n : Node) (ns : List Node) → others_of s names (n ∷ ns) ≡ of_others (breaches_at s names n) ++ others_of s names ns
 other_cons s names n ns = ap of_others (flat_map-cons (breaches_at s names) n ns) ∙ others_append (breaches_at s names n) (flat_map (breaches_at s names) ns)
 
-pub other_one : (s : Scene) (names : Names) (n : Node) → other_breaches s names (n ∷ []) ≡ of_others (breaches_at s names n)
+pub other_one : (s : Scene) (names : Names) (n : Node) → others_of s names (n ∷ []) ≡ of_others (breaches_at s names n)
 other_one s names n = other_cons s names n [] ∙ append-nil (of_others (breaches_at s names n))
 
 pub three_kept : (c : Construct) (at i j k : ℕ) (a b d : Bool) → ltb i 5 ≡ false → ltb j 5 ≡ false → ltb k 5 ≡ false

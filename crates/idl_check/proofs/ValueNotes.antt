@@ -20,7 +20,7 @@ use Rattle.idl_check.specs.Scene.{Scene}
 use Rattle.idl_check.specs.ValueRules.{holds, is_large_enumerator, is_void_constant, is_handle_constant, is_wrong_constant}
 use Rattle.idl_check.specs.Rules.{Breach, broken_at}
 use Rattle.idl_check.specs.Noted.{noted}
-use Rattle.idl_check.specs.OtherBreaches.{other_breaches}
+use Rattle.idl_check.specs.OthersOf.{others_of}
 use Rattle.idl_check.proofs.ListNotes.{any_last}
 use Rattle.idl_check.proofs.OtherNotes.{kept, other_cons, other_one, three_kept, last_kept}
 
@@ -57,7 +57,7 @@ constant_breaches known c type star value =
     broken_at c 6 c.at (is_void_constant type value) ++ broken_at c 7 c.at (is_handle_constant type) ++ broken_at c 38 c.at (is_wrong_constant known type star value)
 
 pub constant_others : (s : Scene) (names : Names) (known : Known) (c : Construct) (type : SimpleType) (star : Bool) (value : Init) → s.known ≡ known
-    → constant_breaches known c type star value ≡ other_breaches s names (ConstantNode c type star value ∷ [])
+    → constant_breaches known c type star value ≡ others_of s names (ConstantNode c type star value ∷ [])
 constant_others s names known c type star value is =
     ap (λ k. constant_breaches k c type star value) (sym is)
     ∙ sym (other_one s names (ConstantNode c type star value)
@@ -66,7 +66,7 @@ constant_others s names known c type star value is =
 -- ## Enumerators
 
 abbrev pub enumerator_breaches : Scene → Names → Construct → List program.Enumerator → List Breach
-enumerator_breaches s names c es = other_breaches s names (map (λ e. EnumeratorNode c e.name) (map seen_enumerator es))
+enumerator_breaches s names c es = others_of s names (map (λ e. EnumeratorNode c e.name) (map seen_enumerator es))
 
 abbrev pub enumerator_breach : Scene → Construct → program.Enumerator → List Breach
 enumerator_breach s c e = broken_at c 13 e.name.at (is_large_enumerator s.known e.name)
@@ -99,7 +99,7 @@ classes_more before a =
     ∙ or_three (has (codes "ref") before) (has (codes "unique") before) (has (codes "ptr") before) (is_word (codes "ref") a) (is_word (codes "unique") a) (is_word (codes "ptr") a)
 
 abbrev pub class_breaches : Scene → Names → Construct → List attribute.Attribute → ℕ → List Breach
-class_breaches s names c xs i = other_breaches s names (attribute_nodes_from c (map seen_attribute (take i xs)) (map seen_attribute (drop i xs)))
+class_breaches s names c xs i = others_of s names (attribute_nodes_from c (map seen_attribute (take i xs)) (map seen_attribute (drop i xs)))
 
 abbrev pub has_class_before : List attribute.Attribute → ℕ → Bool
 has_class_before xs i = has_one_of classes (map seen_attribute (take i xs))
@@ -120,12 +120,12 @@ classes_left s names c xs i x below is =
     let before = map seen_attribute (take i xs) in
     let a = seen_attribute x in
     let more = map seen_attribute (drop (i + 1) xs) in
-    ap (λ l. other_breaches s names (attribute_nodes_from c before (map seen_attribute l))) (drop_more xs i x below ∙ ap (λ y. y ∷ drop (i + 1) xs) (sym is))
+    ap (λ l. others_of s names (attribute_nodes_from c before (map seen_attribute l))) (drop_more xs i x below ∙ ap (λ y. y ∷ drop (i + 1) xs) (sym is))
     ∙ other_cons s names (AttributeNode c before a) (attribute_nodes_from c (before ++ a ∷ []) more)
     ∙ ap₂ (λ l m. l ++ m) (last_kept c a.at c.at 1 2 4 26 (is_out_of_place c.position a) (is_repeated before a) (is_large_version a) (is_second_class before a) refl refl refl refl)
-    (ap (λ b. other_breaches s names (attribute_nodes_from c b more)) (sym (before_next xs i x below is)))
+    (ap (λ b. others_of s names (attribute_nodes_from c b more)) (sym (before_next xs i x below is)))
 
 pub no_class_left : (w : World) (s : Scene) (names : Names) (c : Construct) (xs : List attribute.Attribute) (i : ℕ) (first all : Option Breach) → length xs ≤ i
     → noted w first (class_breaches s names c xs i) ≡ all → first ≡ all
 no_class_left w s names c xs i first all past h =
-    sym (ap (λ l. noted w first (other_breaches s names (attribute_nodes_from c (map seen_attribute (take i xs)) (map seen_attribute l)))) (drop_all i xs past)) ∙ h
+    sym (ap (λ l. noted w first (others_of s names (attribute_nodes_from c (map seen_attribute (take i xs)) (map seen_attribute l)))) (drop_all i xs past)) ∙ h

@@ -27,7 +27,7 @@ pub mod Spelled
 pub mod Found
 pub mod ListBreaches
 pub mod OtherBreaches
-pub mod NodeBreaches
+pub mod OthersOf
 pub mod RestBreaches
 pub mod LabelValues
 pub mod Checked

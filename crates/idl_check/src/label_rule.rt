@@ -15,7 +15,7 @@ ghost use Rattle.idl_check.specs.ValueRules.{is_value_of};
 ghost use Rattle.idl_check.specs.LabelValues as values;
 ghost use Rattle.idl_check.specs.LabelValues.{Holds, accepts_value, value_breaches};
 ghost use Rattle.idl_check.specs.Noted.{noted};
-ghost use Rattle.idl_check.specs.NodeBreaches.{other_breaches};
+ghost use Rattle.idl_check.specs.OthersOf.{others_of};
 ghost use Rattle.idl_check.specs.Found.{seen_breach};
 
 use crate::finder::Finder;
@@ -194,7 +194,7 @@ pub(crate) fn labels(
         → tag_seen types.now.kinds typed.now ≡ tag_type (seen_construct construct.now) names (seen_type body.now)
         → OnOk result (option_map seen_breach finder.new.first
         ≡ noted w (option_map seen_breach finder.old.first)
-        (other_breaches s names (rules.label_nodes (seen_construct construct.now) (seen_type body.now) [] (rules.labels_of (seen_type body.now))))) }
+        (others_of s names (rules.label_nodes (seen_construct construct.now) (seen_type body.now) [] (rules.labels_of (seen_type body.now))))) }
 {
     let accepted = accepted_of(alloc, scope, nodes, types, typed)?;
     let list = labels_of(alloc, scope, body)?;

@@ -12,7 +12,7 @@ ghost use Rattle.idl_check.specs.Kinds.{basic_in};
 ghost use Rattle.idl_check.specs.SeenNodes.{seen_construct};
 ghost use Rattle.idl_check.specs.ValueRules as value_rules;
 ghost use Rattle.idl_check.specs.Noted.{noted};
-ghost use Rattle.idl_check.specs.NodeBreaches.{other_breaches};
+ghost use Rattle.idl_check.specs.OthersOf.{others_of};
 ghost use Rattle.idl_check.specs.Found.{seen_breach};
 
 use crate::finder::Finder;
@@ -59,7 +59,7 @@ pub(crate) fn enumerators(
     ensures first { (w : World) (s : Scene) (names : Names) → w.files ≡ seen_files finder.old.files.now → s.known ≡ known_in scope.now
         → option_map seen_breach finder.new.first
         ≡ noted w (option_map seen_breach finder.old.first)
-        (other_breaches s names (map (λ e. rules.EnumeratorNode (seen_construct construct.now) e.name) (map seen_enumerator list.now))) }
+        (others_of s names (map (λ e. rules.EnumeratorNode (seen_construct construct.now) e.name) (map seen_enumerator list.now))) }
 {
     for one in list {
         let broken = is_large_enumerator(scope, &one.name);
@@ -115,7 +115,7 @@ pub(crate) fn constant(
     ensures first { (w : World) (s : Scene) (names : Names) → w.files ≡ seen_files finder.old.files.now → s.known ≡ known_in scope.now
         → option_map seen_breach finder.new.first
         ≡ noted w (option_map seen_breach finder.old.first)
-        (other_breaches s names (rules.ConstantNode (seen_construct construct.now) of star (seen_init value.now) ∷ [])) }
+        (others_of s names (rules.ConstantNode (seen_construct construct.now) of star (seen_init value.now) ∷ [])) }
 {
     let place = construct.place(construct.at);
     finder.note(6, place, is_void_constant(of, value));
@@ -138,7 +138,7 @@ pub(crate) fn second_classes(finder: &mut Finder<'_>, construct: &Construct<'_>)
     ensures files { finder.new.files.now ≡ finder.old.files.now }
     ensures first { (w : World) (s : Scene) (names : Names) → w.files ≡ seen_files finder.old.files.now
         → option_map seen_breach finder.new.first
-        ≡ noted w (option_map seen_breach finder.old.first) (other_breaches s names (rules.attribute_nodes (seen_construct construct.now))) }
+        ≡ noted w (option_map seen_breach finder.old.first) (others_of s names (rules.attribute_nodes (seen_construct construct.now))) }
 {
     let mut found = false;
     for one in construct.attributes {

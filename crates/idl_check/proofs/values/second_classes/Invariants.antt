@@ -6,7 +6,7 @@ use Rattle.idl_check.specs.Types.{Names}
 use Rattle.idl_check.specs.Scene.{Scene}
 use Rattle.idl_check.specs.SeenNodes.{seen_construct}
 use Rattle.idl_check.specs.Noted.{noted}
-use Rattle.idl_check.specs.OtherBreaches.{other_breaches}
+use Rattle.idl_check.specs.OthersOf.{others_of}
 use Rattle.idl_check.specs.Found.{seen_breach}
 use Rattle.idl_check.proofs.ValueNotes.{class_breaches, has_class_before}
 use Rattle.idl_check.proofs.values.second_classes.Given as goal
@@ -18,4 +18,4 @@ invariant-loop-one l =
     × (l.found ≡ has_class_before l.one-items l.one-index)
     × ((w : World) (s : Scene) (names : Names) → w.files ≡ seen_files l.fn.finder.files.now
     → noted w (option_map seen_breach l.finder.first) (class_breaches s names (seen_construct l.construct) l.one-items l.one-index)
-    ≡ noted w (option_map seen_breach l.fn.finder.first) (other_breaches s names (attribute_nodes (seen_construct l.fn.construct))))
+    ≡ noted w (option_map seen_breach l.fn.finder.first) (others_of s names (attribute_nodes (seen_construct l.fn.construct))))

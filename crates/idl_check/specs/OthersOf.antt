@@ -7,5 +7,5 @@ use Rattle.idl_check.specs.Scene.{Scene}
 use Rattle.idl_check.specs.Rules.{Breach, breaches_at}
 use Rattle.idl_check.specs.Noted.{of_others}
 
-abbrev pub other_breaches : Scene → Names → List Node → List Breach
-other_breaches s names nodes = of_others (flat_map (breaches_at s names) nodes)
+abbrev pub others_of : Scene → Names → List Node → List Breach
+others_of s names nodes = of_others (flat_map (breaches_at s names) nodes)
