@@ -45,3 +45,9 @@ mod Below
 mod Split
 mod Judgement
 mod AskedUses
+pub mod Agreed
+pub mod PartTypes
+mod Held
+mod BodyParts
+mod PlacesFilled
+mod Bridges

@@ -42,3 +42,5 @@ pub mod Graph
 pub mod GraphRows
 pub mod GraphRounds
 pub mod GraphCycles
+pub mod Lookups
+pub mod InPlace

@@ -1,22 +1,24 @@
 // The types of all nodes.
-ghost use Rattle.std.specs.Prelude.{◌≡◌, ℕ, ◌<◌, true, false, [], List, length, option_map, IfOk};
+ghost use Rattle.std.specs.Prelude.{◌≡◌, ℕ, ◌<◌, true, false, [], List, length, map, option_map, IfOk, OnOk};
 ghost use Rattle.idl_grammar.specs.Seen.{seen_type};
 ghost use Rattle.idl_check.specs.Types as types;
 ghost use Rattle.idl_check.specs.Types.{IdlType, Names};
-ghost use Rattle.idl_check.specs.VariableRules.{has_wrong_variable};
-ghost use Rattle.idl_check.specs.Scene.{place_of_type, tag_written, tag_type, type_of_body, use_of};
+ghost use Rattle.idl_check.specs.Lookups.{AreTables};
+ghost use Rattle.idl_check.specs.Scene.{place_of_type, is_nonencapsulated_body, parts_declared, tag_written, tag_type, type_of_body, use_of};
 ghost use Rattle.idl_check.specs.Kinds.{type_by, type_at, is_inside, Keeps};
-ghost use Rattle.idl_check.specs.SeenNames.{seen_names, are_within};
-ghost use Rattle.idl_check.specs.SeenNodes.{seen_construct, seen_declared, seen_result, list_at};
-ghost use Rattle.idl_check.specs.SeenTypes.{scene_seen, bare, has_wrong_switch_variable, IsTypedUse, tag_seen, IsTyped, AreTypedWithin, IsTypes};
+ghost use Rattle.idl_check.specs.SeenNames.{are_below, seen_names, are_within, and_name, declared_in, names_with};
+ghost use Rattle.idl_check.specs.SeenNodes.{seen_position, seen_construct, seen_declared, seen_result, list_at};
+ghost use Rattle.idl_check.specs.SeenTypes.{scene_seen, bare, IsTypedUse, tag_seen, IsTyped, AreTypedWithin, IsTypes};
 ghost use Rattle.idl_names.specs.Seen.{known_in};
 ghost use Rattle.idl_check.specs.Places.{found_place};
 
+use crate::attributes::switch_type_in;
 use crate::kinds::{Kind, Kinds};
 use crate::nodes::{Construct, Declared, Node, Nodes, Position, Returned};
+use crate::parts::parts;
 use crate::places::Places;
-use crate::said::switch_type_in;
 use crate::typing::{declared_type, with_attributes};
+use crate::variables::{Slot, has_no_variable, has_wrong_switch_variable, has_wrong_variable};
 use crate::written::{place_of_body, switch, tag, tagged_kind, written};
 use idl_grammar::{Spelling, SwitchType, TagKind, TypeSpec};
 use idl_names::{Scope, Table};
@@ -32,6 +34,8 @@ pub(crate) struct Typed {
     pub(crate) of: u32,
     /// Whether the union of these labels says its tag's type.
     pub(crate) has_tag: bool,
+    /// A variable of switch_is, size_is, max_is, first_is, length_is or last_is is no other member or parameter of the same list.
+    pub(crate) no_variable: bool,
     /// A variable of size_is, max_is, first_is, length_is or last_is is of a wrong type.
     pub(crate) wrong_variable: bool,
     /// The variable of switch_is is of a wrong type.
@@ -113,12 +117,13 @@ fn tag_said<'t>(construct: &Construct<'t>, body: &'t TypeSpec) -> Option<&'t Swi
 
 /// What is noted of a node that is no declarator.
 fn note(of: u32) -> Typed
-    ensures { result ≡ record { declared_as = of; of = of; has_tag = false; wrong_variable = false; wrong_switch_variable = false } }
+    ensures { result ≡ record { declared_as = of; of = of; has_tag = false; no_variable = false; wrong_variable = false; wrong_switch_variable = false } }
 {
     Typed {
         declared_as: of,
         of,
         has_tag: false,
+        no_variable: false,
         wrong_variable: false,
         wrong_switch_variable: false,
     }
@@ -143,41 +148,10 @@ fn note_declared(
         declared_as,
         of,
         has_tag: false,
+        no_variable: false,
         wrong_variable: false,
         wrong_switch_variable: false,
     })
-}
-
-/// Whether a variable of size_is, max_is, first_is, length_is or last_is, where its list has it, is of a wrong type.
-fn wrong_variable(
-    scope: &Scope,
-    kinds: &mut Kinds,
-    names: &Table<u32>,
-    nodes: &Nodes,
-    list: u32,
-    it: &Declared,
-) -> Result<bool, Memory>
-    requires { are_within (length kinds.old) names.now ≡ true }
-    ensures wrong { IfOk result (λ b. b ≡ has_wrong_variable (bare (known_in scope.now)) (use_of (known_in scope.now) (seen_names kinds.old names.now) (list_at nodes.now.lists.items list) 0 (seen_declared it.now))) }
-    ensures keeps { Keeps kinds.old kinds.new }
-{
-    Err(Memory)
-}
-
-/// Whether the variable of switch_is, where its list has it, is of a wrong type.
-fn wrong_switch_variable(
-    scope: &Scope,
-    kinds: &mut Kinds,
-    names: &Table<u32>,
-    nodes: &Nodes,
-    list: u32,
-    it: &Declared,
-) -> Result<bool, Memory>
-    requires { are_within (length kinds.old) names.now ≡ true }
-    ensures wrong { IfOk result (λ b. b ≡ has_wrong_switch_variable (bare (known_in scope.now)) (use_of (known_in scope.now) (seen_names kinds.old names.now) (list_at nodes.now.lists.items list) 0 (seen_declared it.now))) }
-    ensures keeps { Keeps kinds.old kinds.new }
-{
-    Err(Memory)
 }
 
 /// What is noted of a declarator with its list.
@@ -186,21 +160,26 @@ fn note_listed(
     kinds: &mut Kinds,
     names: &Table<u32>,
     nodes: &Nodes,
-    list: u32,
+    tables: &[Table<u32>],
+    slot: Slot,
     it: &Declared,
 ) -> Result<Typed, Memory>
-    requires { are_within (length kinds.old) names.now ≡ true }
-    ensures typed { IfOk result (λ t. IsTypedUse (bare (known_in scope.now)) kinds.new (use_of (known_in scope.now) (seen_names kinds.old names.now) (list_at nodes.now.lists.items list) 0 (seen_declared it.now)) t) }
+    requires within { are_within (length kinds.old) names.now ≡ true }
+    requires tables { AreTables tables.now nodes.now.lists.items }
+    ensures typed { IfOk result (λ t. IsTypedUse (bare (known_in scope.now)) kinds.new (use_of (known_in scope.now) (seen_names kinds.old names.now) (list_at nodes.now.lists.items slot.list) slot.index (seen_declared it.now)) t) }
     ensures within { IfOk result (AreTypedWithin (length kinds.new)) }
     ensures keeps { Keeps kinds.old kinds.new }
 {
-    let wrong_variable = wrong_variable(scope, kinds, names, nodes, list, it)?;
-    let wrong_switch_variable = wrong_switch_variable(scope, kinds, names, nodes, list, it)?;
+    let no_variable = has_no_variable(nodes, tables, slot, it)?;
+    let wrong_variable = has_wrong_variable(scope, kinds, names, nodes, tables, slot, it)?;
+    let wrong_switch_variable =
+        has_wrong_switch_variable(scope, kinds, names, nodes, tables, slot, it)?;
     let noted = note_declared(scope, kinds, names, it)?;
     Ok(Typed {
         declared_as: noted.declared_as,
         of: noted.of,
         has_tag: false,
+        no_variable,
         wrong_variable,
         wrong_switch_variable,
     })
@@ -243,6 +222,7 @@ fn note_labels(
         declared_as: of,
         of,
         has_tag: true,
+        no_variable: false,
         wrong_variable: false,
         wrong_switch_variable: false,
     })
@@ -254,15 +234,23 @@ fn noted(
     kinds: &mut Kinds,
     names: &Table<u32>,
     nodes: &Nodes,
+    tables: &[Table<u32>],
     node: &Node,
 ) -> Result<Typed, Memory>
-    requires { are_within (length kinds.old) names.now ≡ true }
+    requires within { are_within (length kinds.old) names.now ≡ true }
+    requires tables { AreTables tables.now nodes.now.lists.items }
     ensures typed { IfOk result (IsTyped (bare (known_in scope.now)) (seen_names kinds.old names.now) kinds.new nodes.now.lists.items node.now) }
     ensures within { IfOk result (AreTypedWithin (length kinds.new)) }
     ensures keeps { Keeps kinds.old kinds.new }
 {
     match node {
-        Node::Declarator { list, it, .. } => note_listed(scope, kinds, names, nodes, *list, it),
+        Node::Declarator { list, index, it } => {
+            let slot = Slot {
+                list: *list,
+                index: *index,
+            };
+            note_listed(scope, kinds, names, nodes, tables, slot, it)
+        }
         Node::Result { it } => note_result(scope, kinds, names, it),
         Node::Switch { of, .. } => note_switch(kinds, names, of),
         Node::Tag { construct, kind, tag } => {
@@ -318,4 +306,104 @@ fn note_body(kinds: &mut Kinds, construct: &Construct, body: &TypeSpec) -> Resul
 {
     let of = kinds.add(body_kind(construct, body))?;
     Ok(note(of))
+}
+
+/// Gives a name its type, unless it is there already.
+fn put_first(names: &mut Table<u32>, name: &Spelling, of: u32) -> Result<(), Memory>
+    ensures { OnOk result (names.new ≡ and_name names.old name.now.octets of) }
+{
+    let name = name.octets.as_slice();
+    match names.get(name) {
+        Some(_) => Ok(()),
+        None => names.put(name, of),
+    }
+}
+
+/// Gives a typedef's name its type.
+fn declare(names: &mut Table<u32>, position: Position, name: &Spelling, of: u32) -> Result<(), Memory>
+    ensures { OnOk result (names.new ≡ declared_in names.old (seen_position position) name.now.octets of) }
+{
+    match position {
+        Position::Typedef => put_first(names, name, of),
+        _ => Ok(()),
+    }
+}
+
+/// Gives the name of a node its type, where the node is a typedef's.
+fn declare_node(names: &mut Table<u32>, node: &Node, of: u32) -> Result<(), Memory>
+    ensures { OnOk result (names.new ≡ names_with names.old node.now of) }
+{
+    match node {
+        Node::Declarator { it, .. } => declare(names, it.construct.position, &it.declarator.name, of),
+        Node::Result { it } => declare(names, it.construct.position, it.name, of),
+        _ => Ok(()),
+    }
+}
+
+/// The types of parts of a body.
+fn part_types(
+    alloc: Global,
+    scope: &Scope,
+    kinds: &mut Kinds,
+    names: &Table<u32>,
+    parts: &[Declared],
+) -> Result<Vec<u32>, Memory>
+    requires { are_within (length kinds.old) names.now ≡ true }
+    ensures types { IfOk result (λ v. map (type_at kinds.new) v.items ≡ map (types.type_of (known_in scope.now) (seen_names kinds.old names.now)) (map seen_declared parts.now)) }
+    ensures within { IfOk result (λ v. are_below (length kinds.new) v.items ≡ true) }
+    ensures keeps { Keeps kinds.old kinds.new }
+{
+    let mut numbers = Vec::new(alloc);
+    for part in parts {
+        let noted = note_declared(scope, kinds, names, part)?;
+        let Ok(()) = numbers.push(noted.of) else {
+            return Err(Memory);
+        };
+    }
+    Ok(numbers)
+}
+
+fn is_nonencapsulated(body: &TypeSpec) -> bool
+    ensures { result ≡ is_nonencapsulated_body (seen_type body.now) }
+{
+    match body {
+        TypeSpec::NonEncapsulatedUnion { .. } => true,
+        _ => false,
+    }
+}
+
+/// What is noted of a body, which is this node.
+fn body_types(
+    alloc: Global,
+    scope: &Scope,
+    kinds: &mut Kinds,
+    names: &Table<u32>,
+    node: u32,
+    construct: &Construct,
+    body: &TypeSpec,
+) -> Result<BodyTypes, Memory>
+    requires { are_within (length kinds.old) names.now ≡ true }
+    ensures place { IfOk result (λ b. b.place ≡ place_of_type construct.now.file (seen_type body.now)) }
+    ensures nonencapsulated { IfOk result (λ b. b.nonencapsulated ≡ is_nonencapsulated_body (seen_type body.now)) }
+    ensures node { IfOk result (λ b. b.node ≡ node) }
+    ensures parts { IfOk result (λ b. map (type_at kinds.new) b.parts.items
+        ≡ map (types.type_of (known_in scope.now) (seen_names kinds.old names.now)) (parts_declared (seen_construct construct.now) (seen_type body.now))) }
+    ensures within { IfOk result (λ b. are_below (length kinds.new) b.parts.items ≡ true) }
+    ensures keeps { Keeps kinds.old kinds.new }
+{
+    let declared = parts(alloc, construct, body)?;
+    let parts = part_types(alloc, scope, kinds, names, &declared)?;
+    Ok(BodyTypes {
+        place: place_of(construct, body),
+        node,
+        nonencapsulated: is_nonencapsulated(body),
+        parts,
+    })
+}
+
+/// The types of all nodes. Takes memory for each type once, and for an entry of each node.
+pub(crate) fn of_nodes<'t>(alloc: Global, scope: &Scope, nodes: &Nodes<'t>) -> Result<Types, Memory>
+    ensures { IfOk result (IsTypes (scene_seen (known_in scope.now) nodes.now) nodes.now) }
+{
+    Err(Memory)
 }

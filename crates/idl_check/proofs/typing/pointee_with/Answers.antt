@@ -15,4 +15,4 @@ plain attributes t string size =
 pub returns-clause-stands : goal.returns-clause-stands
 returns-clause-stands c =
     stands_within c.args.kinds.now c.args.of c.requires
-    ∙ ap Some (plain (map seen_attribute c.args.attributes.now) (type_at c.args.kinds.now c.args.of) (sym c.has_string.ensures ∙ c.if-has_string.false) (sym c.has_size.ensures ∙ c.if-has_size.false))
+    ∙ ap Some (plain (map seen_attribute c.args.attributes.now) (type_at c.args.kinds.now c.args.of) (sym c.has.ensures ∙ c.if-has.false) (sym c.has_size.ensures ∙ c.if-has_size.false))
