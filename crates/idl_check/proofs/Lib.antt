@@ -44,6 +44,7 @@ pub mod NotedTypes
 mod Below
 mod Split
 mod Judgement
+mod AskedUses
 pub mod Agreed
 pub mod PartTypes
 mod Held

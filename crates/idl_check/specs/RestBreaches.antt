@@ -10,7 +10,7 @@ use Rattle.idl_check.specs.SeenNodes.{seen_construct, seen_node}
 use Rattle.idl_check.specs.Types.{Names}
 use Rattle.idl_check.specs.Scene.{Scene, Scoped, Body}
 use Rattle.idl_check.specs.Rules.{Breach}
-use Rattle.idl_check.specs.NodeBreaches.{other_breaches}
+use Rattle.idl_check.specs.OthersOf.{others_of}
 use Rattle.idl_check.specs.OtherBreaches.{other_breaches_at}
 use Rattle.idl_check.specs.Asked.{body_breaches}
 
@@ -32,4 +32,4 @@ rest_breaches s ns = flat_map (rest_breaches_at s) ns
 -- those of the nodes for which one of the program stands
 abbrev pub program_breaches : {A : Type 0} → Scene → Names → List (Vec declared.Declared A) → program_node.Node → List Breach
 program_breaches s names lists (node.Body c body) = body_breaches s (record { construct = seen_construct c; names = names; body = seen_type body.now })
-program_breaches s names lists n = other_breaches s names (seen_node lists n)
+program_breaches s names lists n = others_of s names (seen_node lists n)
