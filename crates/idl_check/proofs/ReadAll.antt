@@ -26,7 +26,7 @@ none_read known n t names none typed bodies places = record {
       (record { count = refl; typed = λ j it u a b. absurd (none-some u b); within = λ j u b. absurd (none-some u b) });
   bodies_read = subst (λ (l : List BodyTypes). BodiesRead known n 0 t.kinds l t.by_place) (sym bodies)
       (subst (λ (p : List (Place × ℕ)). BodiesRead known n 0 t.kinds [] p) (sym places)
-        (record { count = refl; body = λ j body b x y. absurd (none-some b y); within = λ j b y. absurd (none-some b y); first = λ place. refl; inside = λ place j f. absurd (none-some j f) }));
+      (record { count = refl; body = λ j body b x y. absurd (none-some b y); within = λ j b y. absurd (none-some b y); first = λ place. refl; inside = λ place j f. absurd (none-some j f) }));
 }
 
 use_in : (known : Known) (nodes : List Scoped) (ks : List Kind) (u : Use) (t : Typed) → IsTypedUse (bare known) ks u t → IsTypedUse (record { known = known; nodes = nodes }) ks u t

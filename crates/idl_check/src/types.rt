@@ -19,7 +19,9 @@ use crate::nodes::{Construct, Declared, Node, Nodes, Position, Returned};
 use crate::parts::parts;
 use crate::places::Places;
 use crate::typing::{declared_type, with_attributes};
-use crate::variables::{Slot, has_no_variable, has_wrong_switch_variable, has_wrong_variable, tables};
+use crate::variables::{
+    Slot, has_no_variable, has_wrong_switch_variable, has_wrong_variable, tables,
+};
 use crate::written::{place_of_body, switch, tag, tagged_kind, written};
 use idl_grammar::{Spelling, SwitchType, TagKind, TypeSpec};
 use idl_names::{Scope, Table};
@@ -188,8 +190,9 @@ fn note_listed(
 {
     let no_variable = has_no_variable(nodes, tables, slot, it);
     let wrong_variable = has_wrong_variable(scope, kinds, names, nodes, tables, slot, it)?;
-    let wrong_switch_variable =
-        has_wrong_switch_variable(scope, kinds, names, nodes, tables, slot, it)?;
+    let wrong_switch_variable = has_wrong_switch_variable(
+        scope, kinds, names, nodes, tables, slot, it,
+    )?;
     let noted = note_declared(scope, kinds, names, it)?;
     Ok(Typed {
         declared_as: noted.declared_as,
@@ -269,9 +272,11 @@ fn noted(
         }
         Node::Result { it } => note_result(scope, kinds, names, it),
         Node::Switch { of, .. } => note_switch(kinds, names, of),
-        Node::Tag { construct, kind, tag } => {
-            note_tag(scope, kinds, construct.file, *kind, tag)
-        }
+        Node::Tag {
+            construct,
+            kind,
+            tag,
+        } => { note_tag(scope, kinds, construct.file, *kind, tag) }
         Node::Body { construct, body } => note_body(kinds, construct, body),
         Node::Labels { construct, body } => note_labels(kinds, names, construct, body),
         _ => note_nothing(kinds),
@@ -336,7 +341,12 @@ pub(crate) fn put_first(names: &mut Table<u32>, name: &Spelling, of: u32) -> Res
 }
 
 /// Gives a typedef's name its type.
-fn declare(names: &mut Table<u32>, position: Position, name: &Spelling, of: u32) -> Result<(), Memory>
+fn declare(
+    names: &mut Table<u32>,
+    position: Position,
+    name: &Spelling,
+    of: u32,
+) -> Result<(), Memory>
     ensures { OnOk result (names.new ≡ declared_in names.old (seen_position position) name.now.octets of) }
 {
     match position {
@@ -350,7 +360,12 @@ fn declare_node(names: &mut Table<u32>, node: &Node, of: u32) -> Result<(), Memo
     ensures { OnOk result (names.new ≡ names_with names.old node.now of) }
 {
     match node {
-        Node::Declarator { it, .. } => declare(names, it.construct.position, &it.declarator.name, of),
+        Node::Declarator { it, .. } => declare(
+            names,
+            it.construct.position,
+            &it.declarator.name,
+            of,
+        ),
         Node::Result { it } => declare(names, it.construct.position, it.name, of),
         _ => Ok(()),
     }
@@ -419,7 +434,11 @@ fn body_types(
 }
 
 /// Keeps what is noted of a body, and its number under its place, unless one stands there already.
-fn push_body(bodies: &mut Vec<BodyTypes>, by_place: &mut Places, body: BodyTypes) -> Result<(), Memory>
+fn push_body(
+    bodies: &mut Vec<BodyTypes>,
+    by_place: &mut Places,
+    body: BodyTypes,
+) -> Result<(), Memory>
     ensures bodies { OnOk result (bodies.new.items ≡ bodies.old.items ++ body ∷ []) }
     ensures places { OnOk result (by_place.new ≡ and_place by_place.old body.place (length bodies.old.items)) }
 {

@@ -48,5 +48,5 @@ returns-clause-bodies c =
     let before = bodies_read_keeps known n _ c.args.types.now.kinds ks c.args.types.now.bodies.items c.args.types.now.by_place c.in_ok-noted.ensures.keeps c.requires.bodies in
     let next = bodies_read_next known n i ks c.args.types.now.bodies.items c.args.types.now.by_place c.index.result.now body b here at before is c.in_ok-noted.ensures.within in
     on_ok_both c.push_body.result c.push_body.ensures.bodies c.push_body.ensures.places (λ e f.
-      subst (λ (l : List BodyTypes). BodiesRead known n (i + 1) ks l c.push_body.new.by_place) (sym e)
-        (subst (λ (p : List (Place × ℕ)). BodiesRead known n (i + 1) ks (c.args.types.now.bodies.items ++ b ∷ []) p) (sym f) next))
+    subst (λ (l : List BodyTypes). BodiesRead known n (i + 1) ks l c.push_body.new.by_place) (sym e)
+    (subst (λ (p : List (Place × ℕ)). BodiesRead known n (i + 1) ks (c.args.types.now.bodies.items ++ b ∷ []) p) (sym f) next))
