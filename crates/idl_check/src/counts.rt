@@ -37,7 +37,7 @@ fn pass(finder: &mut Finder<'_>, construct: &Construct<'_>, count: usize, left: 
     ensures files { finder.new.files.now ≡ finder.old.files.now }
     ensures first { (w : World) → w.files ≡ seen_files finder.old.files.now
         → option_map seen_breach finder.new.first
-            ≡ noted w (option_map seen_breach finder.old.first) (map one_too_many (drop left (replicate count (seen_construct construct.now)))) }
+        ≡ noted w (option_map seen_breach finder.old.first) (map one_too_many (drop left (replicate count (seen_construct construct.now)))) }
 {
     finder.note(39, construct.place(construct.at), count > left);
     left.saturating_sub(count)
@@ -61,7 +61,7 @@ fn operations(finder: &mut Finder<'_>, nodes: &[Node<'_>], limit: usize)
     ensures files { finder.new.files.now ≡ finder.old.files.now }
     ensures first { (w : World) → w.files ≡ seen_files finder.old.files.now
         → option_map seen_breach finder.new.first
-            ≡ noted w (option_map seen_breach finder.old.first) (map one_too_many (drop limit (flat_map operations_at nodes.now))) }
+        ≡ noted w (option_map seen_breach finder.old.first) (map one_too_many (drop limit (flat_map operations_at nodes.now))) }
 {
     let mut left = limit;
     for node in nodes {
@@ -83,7 +83,7 @@ fn parameters_of(finder: &mut Finder<'_>, list: &[Declared<'_>], limit: usize)
     ensures files { finder.new.files.now ≡ finder.old.files.now }
     ensures first { (w : World) → w.files ≡ seen_files finder.old.files.now
         → option_map seen_breach finder.new.first
-            ≡ noted w (option_map seen_breach finder.old.first) (map (λ p. one_too_many (seen_construct p.construct)) (drop limit list.now)) }
+        ≡ noted w (option_map seen_breach finder.old.first) (map (λ p. one_too_many (seen_construct p.construct)) (drop limit list.now)) }
 {
     for at in limit..list.len() {
         note_one(finder, &list[at].construct);
@@ -95,7 +95,7 @@ fn parameters_at(finder: &mut Finder<'_>, nodes: &Nodes<'_>, node: &Node<'_>, li
     ensures files { finder.new.files.now ≡ finder.old.files.now }
     ensures first { (w : World) → w.files ≡ seen_files finder.old.files.now
         → option_map seen_breach finder.new.first
-            ≡ noted w (option_map seen_breach finder.old.first) (map one_too_many (seen.parameters_at nodes.now.lists.items limit node.now)) }
+        ≡ noted w (option_map seen_breach finder.old.first) (map one_too_many (seen.parameters_at nodes.now.lists.items limit node.now)) }
 {
     let Node::Operation { parameters, .. } = node else {
         return;
@@ -110,7 +110,7 @@ fn parameters(finder: &mut Finder<'_>, nodes: &Nodes<'_>, limit: usize)
     ensures files { finder.new.files.now ≡ finder.old.files.now }
     ensures first { (w : World) → w.files ≡ seen_files finder.old.files.now
         → option_map seen_breach finder.new.first
-            ≡ noted w (option_map seen_breach finder.old.first) (map one_too_many (flat_map (seen.parameters_at nodes.now.lists.items limit) nodes.now.items.items)) }
+        ≡ noted w (option_map seen_breach finder.old.first) (map one_too_many (flat_map (seen.parameters_at nodes.now.lists.items limit) nodes.now.items.items)) }
 {
     for node in &nodes.items {
         parameters_at(finder, nodes, node, limit);
@@ -122,7 +122,7 @@ pub(crate) fn too_many(finder: &mut Finder<'_>, nodes: &Nodes<'_>, numbers: &Num
     ensures files { finder.new.files.now ≡ finder.old.files.now }
     ensures first { (w : World) (known : Known) (ks : List program_kind) → w.files ≡ seen_files finder.old.files.now → AreNumbers (scene_seen known nodes.now) ks numbers.now
         → option_map seen_breach finder.new.first
-            ≡ noted w (option_map seen_breach finder.old.first) (map one_too_many (rules.too_many (scene_seen known nodes.now))) }
+        ≡ noted w (option_map seen_breach finder.old.first) (map one_too_many (rules.too_many (scene_seen known nodes.now))) }
 {
     types(finder, numbers.own.as_slice(), TYPE_LIMIT as usize - 12);
     operations(finder, nodes.items.as_slice(), OPERATION_LIMIT as usize);
