@@ -1,29 +1,29 @@
 //! The rules of IDL, and what files mean that keep them (C706, chapter 4).
 #![tactic(auto)]
 
-mod attributes;
 mod checking;
 mod counts;
+mod attributes;
 mod exports;
 mod fault;
-mod finder;
-mod graph;
 mod kinds;
+mod graph;
 pub mod laws;
 mod lists;
 mod marks;
-#[cfg(test)]
-mod node_tests;
 mod nodes;
 mod numbering;
-mod parts;
+mod words;
+mod finder;
 mod places;
 mod said;
 mod types;
 mod typing;
-mod walk;
-mod words;
 mod written;
+#[cfg(test)]
+mod node_tests;
+mod parts;
+mod walk;
 
 pub use checking::check;
 pub use fault::RuleFault;

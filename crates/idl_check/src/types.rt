@@ -265,11 +265,9 @@ fn noted(
         Node::Declarator { list, it, .. } => note_listed(scope, kinds, names, nodes, *list, it),
         Node::Result { it } => note_result(scope, kinds, names, it),
         Node::Switch { of, .. } => note_switch(kinds, names, of),
-        Node::Tag {
-            construct,
-            kind,
-            tag,
-        } => { note_tag(scope, kinds, construct.file, *kind, tag) }
+        Node::Tag { construct, kind, tag } => {
+            note_tag(scope, kinds, construct.file, *kind, tag)
+        }
         Node::Body { construct, body } => note_body(kinds, construct, body),
         Node::Labels { construct, body } => note_labels(kinds, names, construct, body),
         _ => note_nothing(kinds),
