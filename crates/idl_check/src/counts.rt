@@ -167,7 +167,7 @@ fn labels(finder: &mut Finder<'_>, construct: &Construct<'_>, body: &TypeSpec, l
     ensures files { finder.new.files.now ≡ finder.old.files.now }
     ensures first { (w : World) → w.files ≡ seen_files finder.old.files.now
         → option_map seen_breach finder.new.first
-            ≡ noted w (option_map seen_breach finder.old.first) (map one_too_many (drop left (replicate (length (of_rules.labels_of (seen_type body.now))) (seen_construct construct.now)))) }
+        ≡ noted w (option_map seen_breach finder.old.first) (map one_too_many (drop left (replicate (length (of_rules.labels_of (seen_type body.now))) (seen_construct construct.now)))) }
 {
     let count = label_count(body, left.saturating_add(1));
     pass(finder, construct, count, left)
@@ -179,7 +179,7 @@ fn member(finder: &mut Finder<'_>, construct: &Construct<'_>, left: usize) -> us
     ensures files { finder.new.files.now ≡ finder.old.files.now }
     ensures first { (w : World) → w.files ≡ seen_files finder.old.files.now
         → option_map seen_breach finder.new.first
-            ≡ noted w (option_map seen_breach finder.old.first) (map one_too_many (drop left (rules.member_of (seen_construct construct.now).position (seen_construct construct.now)))) }
+        ≡ noted w (option_map seen_breach finder.old.first) (map one_too_many (drop left (rules.member_of (seen_construct construct.now).position (seen_construct construct.now)))) }
 {
     match construct.position {
         Position::Member => pass(finder, construct, 1, left),
@@ -207,7 +207,7 @@ fn parts(finder: &mut Finder<'_>, nodes: &[Node<'_>], limit: usize)
     ensures files { finder.new.files.now ≡ finder.old.files.now }
     ensures first { (w : World) → w.files ≡ seen_files finder.old.files.now
         → option_map seen_breach finder.new.first
-            ≡ noted w (option_map seen_breach finder.old.first) (map one_too_many (drop limit (flat_map parts_at nodes.now))) }
+        ≡ noted w (option_map seen_breach finder.old.first) (map one_too_many (drop limit (flat_map parts_at nodes.now))) }
 {
     let mut left = limit;
     for node in nodes {
