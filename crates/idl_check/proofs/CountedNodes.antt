@@ -42,8 +42,8 @@ pub parameters_are : {A : Type 0} (lists : List (Vec declared.Declared A)) (limi
     → map (λ d. one_too_many (seen_construct d.construct)) (drop limit ds) ≡ map one_too_many (parameters_at lists limit n)
 parameters_are lists limit n it p ds e h =
     sym (ap (λ m. map one_too_many (parameters_at lists limit m)) e
-        ∙ ap (λ l. map one_too_many (drop limit (map (λ q. q.construct) (or_empty l)))) (sym h)
-        ∙ by_drop limit ds)
+    ∙ ap (λ l. map one_too_many (drop limit (map (λ q. q.construct) (or_empty l)))) (sym h)
+    ∙ by_drop limit ds)
 
 -- ## Types
 

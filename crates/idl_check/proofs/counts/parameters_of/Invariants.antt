@@ -13,5 +13,5 @@ abbrev pub invariant-loop-at : goal.invariant-loop-at
 invariant-loop-at l =
     (l.finder.files.now ≡ l.fn.finder.files.now)
     × ((w : World) → w.files ≡ seen_files l.fn.finder.files.now
-        → noted w (option_map seen_breach l.finder.first) (from (λ p. one_too_many (seen_construct p.construct)) l.list l.at)
-            ≡ noted w (option_map seen_breach l.fn.finder.first) (from (λ p. one_too_many (seen_construct p.construct)) l.fn.list l.fn.limit))
+    → noted w (option_map seen_breach l.finder.first) (from (λ p. one_too_many (seen_construct p.construct)) l.list l.at)
+    ≡ noted w (option_map seen_breach l.fn.finder.first) (from (λ p. one_too_many (seen_construct p.construct)) l.fn.list l.fn.limit))
