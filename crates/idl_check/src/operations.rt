@@ -8,7 +8,7 @@ ghost use Rattle.idl_check.specs.SeenOperations.{IsOperation};
 ghost use Rattle.idl_check.specs.SeenOperations as operations_seen;
 ghost use Rattle.idl_check.specs.Made.{ids_of, each_with, parameter_with, IsProgram, scene_in, operation_made};
 
-use crate::definitions::{Program, number_of};
+use crate::definitions::{Program, node_at, number_of};
 use crate::kinds::Kind;
 use crate::members::{name_of, numbered, parameters};
 use crate::nodes::{Declared, Node, Returned};
@@ -78,7 +78,7 @@ fn operation(
     ensures { (o : operations_seen.Called) → IsOperation (scene_in program.now) program.now.nodes.now program.now.types.now.kinds o noted.now
         → IfOk result (λ made. made ≡ operation_made (scene_in program.now) o) }
 {
-    match program.nodes.items.get(noted.node as usize) {
+    match node_at(program.nodes, noted.node) {
         Some(Node::Operation { it, parameters }) => {
             let list = or_empty(program.nodes.list(*parameters));
             operation_of(alloc, program, it, list, noted)
