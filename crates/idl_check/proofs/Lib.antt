@@ -43,3 +43,4 @@ pub mod Listing
 pub mod Making
 pub mod Defining
 pub mod Operating
+pub mod MainFile
