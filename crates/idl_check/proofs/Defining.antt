@@ -80,14 +80,14 @@ parts_as s ks place f t h e = h.parts ∙ ap (λ b. map (type_of s.known h.body.
 pub struct_made : (s : Scene) (ks : List Kind) (t : Numbers) (place : Place) (f : FoundBody) (at : ℕ) (tag : Option Spelling) (ms : Members)
     → AreNumbers s ks t → (h : IsFound s ks place f) → seen_type f.body.now ≡ tree.Struct at tag ms
     → struct_of (each_with (field_with (parts_declared (seen_construct f.construct.now) (seen_type f.body.now))) (parts_declared (seen_construct f.construct.now) (seen_type f.body.now))
-        (ids_of ks t f.noted.now.parts.items))
+    (ids_of ks t f.noted.now.parts.items))
     ≡ definition s (Struct place)
 struct_made s ks t place f at tag ms n h e =
     let list = parts_declared h.body.construct (tree.Struct at tag ms) in
     let same : parts_declared (seen_construct f.construct.now) (seen_type f.body.now) ≡ list =
-        ap (λ c. parts_declared c (seen_type f.body.now)) (sym h.construct) ∙ ap (parts_declared h.body.construct) e in
+    ap (λ c. parts_declared c (seen_type f.body.now)) (sym h.construct) ∙ ap (parts_declared h.body.construct) e in
     let ids : ids_of ks t f.noted.now.parts.items ≡ map (number s) (map (type_of s.known h.body.names) list) =
-        ids_are s ks t n f.noted.now.parts.items ∙ ap (map (number s)) (parts_as s ks place f (tree.Struct at tag ms) h e) in
+    ids_are s ks t n f.noted.now.parts.items ∙ ap (map (number s)) (parts_as s ks place f (tree.Struct at tag ms) h e) in
     ap (λ l. struct_of (each_with (field_with l) l (ids_of ks t f.noted.now.parts.items))) same
     ∙ (ap (λ i. struct_of (each_with (field_with list) list i)) ids
     ∙ (ap struct_of (each_fields s h.body.names list list)
@@ -185,20 +185,20 @@ union_same : (s : Scene) (ks : List Kind) (t : Numbers) (encapsulated : Bool) (p
     → union_with ks t s.known encapsulated f ≡ union_by s encapsulated (record { construct = h.body.construct; names = h.body.names; body = u })
 union_same s ks t encapsulated place f u n h e parts =
     let tag : tag_id ks t f.noted.now.tag ≡ number s (or_handle (tag_type h.body.construct h.body.names u)) =
-        tag_is s ks t n f.noted.now.tag ∙ ap (λ o. number s (or_handle o)) (h.tag ∙ ap (tag_type h.body.construct h.body.names) (h.type ∙ e)) in
+    tag_is s ks t n f.noted.now.tag ∙ ap (λ o. number s (or_handle o)) (h.tag ∙ ap (tag_type h.body.construct h.body.names) (h.type ∙ e)) in
     let ids : ids_of ks t f.noted.now.parts.items ≡ map (number s) (map (type_of s.known h.body.names) (flat_map (λ a. arm_declared h.body.construct a.position a.arm) (arms_of u))) =
-        ids_are s ks t n f.noted.now.parts.items ∙ ap (λ l. map (number s) l) (parts_as s ks place f u h e ∙ ap (map (type_of s.known h.body.names)) (parts h.body.construct)) in
+    ids_are s ks t n f.noted.now.parts.items ∙ ap (λ l. map (number s) l) (parts_as s ks place f u h e ∙ ap (map (type_of s.known h.body.names)) (parts h.body.construct)) in
     let i = map (number s) (map (type_of s.known h.body.names) (flat_map (λ a. arm_declared h.body.construct a.position a.arm) (arms_of u))) in
     ap (λ x. def.Union x encapsulated (arms_with (map (valued s.known) (arms_of (seen_type f.body.now))) (ids_of ks t f.noted.now.parts.items))
-      (default_with (map (valued s.known) (arms_of (seen_type f.body.now))) (ids_of ks t f.noted.now.parts.items))) tag
+    (default_with (map (valued s.known) (arms_of (seen_type f.body.now))) (ids_of ks t f.noted.now.parts.items))) tag
     ∙ (ap (λ x. def.Union (number s (or_handle (tag_type h.body.construct h.body.names u))) encapsulated (arms_with (map (valued s.known) (arms_of (seen_type f.body.now))) x)
-      (default_with (map (valued s.known) (arms_of (seen_type f.body.now))) x)) ids
+    (default_with (map (valued s.known) (arms_of (seen_type f.body.now))) x)) ids
     ∙ (ap (λ x. def.Union (number s (or_handle (tag_type h.body.construct h.body.names u))) encapsulated (arms_with (map (valued s.known) (arms_of x)) i)
-      (default_with (map (valued s.known) (arms_of x)) i)) e
+    (default_with (map (valued s.known) (arms_of x)) i)) e
     ∙ (ap (λ x. def.Union (number s (or_handle (tag_type h.body.construct h.body.names u))) encapsulated x (default_with (map (valued s.known) (arms_of u)) i))
-      (each_arm s s.known (record { construct = h.body.construct; names = h.body.names; body = u }) (arms_of u))
+    (each_arm s s.known (record { construct = h.body.construct; names = h.body.names; body = u }) (arms_of u))
     ∙ ap (λ x. def.Union (number s (or_handle (tag_type h.body.construct h.body.names u))) encapsulated (labelled_arms s (record { construct = h.body.construct; names = h.body.names; body = u })) x)
-      (each_default s s.known (record { construct = h.body.construct; names = h.body.names; body = u }) (arms_of u)))))
+    (each_default s s.known (record { construct = h.body.construct; names = h.body.names; body = u }) (arms_of u)))))
 
 pub encapsulated_made : (s : Scene) (ks : List Kind) (t : Numbers) (place : Place) (f : FoundBody) (at : ℕ) (tag : Option Spelling) (d : Discriminant) (name : Option Spelling) (cs : Cases)
     → AreNumbers s ks t → (h : IsFound s ks place f) → seen_type f.body.now ≡ tree.EncapsulatedUnion at tag d name cs → union_with ks t s.known true f ≡ definition s (Union place)

@@ -144,9 +144,9 @@ fn union_of(
         (tag_id program.now.types.now.kinds program.now.numbers.now found.now.noted.now.tag)
         encapsulated
         (arms_with (map (valued (known_in program.now.scope.now)) (arms_of (seen_type found.now.body.now)))
-            (ids_of program.now.types.now.kinds program.now.numbers.now found.now.noted.now.parts.items))
+        (ids_of program.now.types.now.kinds program.now.numbers.now found.now.noted.now.parts.items))
         (default_with (map (valued (known_in program.now.scope.now)) (arms_of (seen_type found.now.body.now)))
-            (ids_of program.now.types.now.kinds program.now.numbers.now found.now.noted.now.parts.items))) }
+        (ids_of program.now.types.now.kinds program.now.numbers.now found.now.noted.now.parts.items))) }
 {
     let list = valued_arms(alloc, program.scope, found.body)?;
     let ids = numbered(

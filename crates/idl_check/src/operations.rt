@@ -48,10 +48,11 @@ fn operation_of(
 ) -> Result<Operation, Memory>
     requires { IsProgram program.now }
     ensures { IfOk result (λ o. o ≡ record {
-        name = it.now.name.now.octets;
-        params = each_with (parameter_with (map seen_declared list.now)) (map seen_declared list.now)
-            (ids_of program.now.types.now.kinds program.now.numbers.now noted.now.parameters.items);
-        result = result_number (scene_in program.now) (type_at program.now.types.now.kinds noted.now.result) }) }
+      name = it.now.name.now.octets;
+      params = each_with (parameter_with (map seen_declared list.now)) (map seen_declared list.now)
+          (ids_of program.now.types.now.kinds program.now.numbers.now noted.now.parameters.items);
+      result = result_number (scene_in program.now) (type_at program.now.types.now.kinds noted.now.result);
+    }) }
 {
     let name = name_of(alloc, it.name)?;
     let ids = numbered(
@@ -88,10 +89,7 @@ fn operation(
 }
 
 /// The operations of the main file, in their order. Takes memory for them.
-pub(crate) fn all_operations(
-    alloc: Global,
-    program: &Program<'_, '_>,
-) -> Result<Operations, Memory>
+pub(crate) fn all_operations(alloc: Global, program: &Program<'_, '_>) -> Result<Operations, Memory>
     requires { IsProgram program.now }
     ensures { IfOk result (λ o. o ≡ operations_of (scene_in program.now)) }
 {

@@ -21,6 +21,6 @@ returns-in-Enum c =
     let h = subst (λ o. MatchOption o (body_of s place ≡ None) (IsFound s ks place)) c.in-Some.is c.in_ok-found.ensures in
     ok_is c.enum_of.result _ _
     (ap (λ es. def.Enum (map (λ e. or_zero (number_of (known_in p.scope.now) e.name.octets)) (map seen_enumerator es))) c.as_slice.ensures.value
-      ∙ (ap (λ k. def.Enum (map (λ e. or_zero (number_of k e.name.octets)) (map seen_enumerator u.enumerators.items))) (sym (known_is (world_of p.scope.now)))
-      ∙ enum_made s ks place c.in-Some.found u.at u.tag (map seen_enumerator u.enumerators.items) h (ap seen_type u.is)))
+    ∙ (ap (λ k. def.Enum (map (λ e. or_zero (number_of k e.name.octets)) (map seen_enumerator u.enumerators.items))) (sym (known_is (world_of p.scope.now)))
+    ∙ enum_made s ks place c.in-Some.found u.at u.tag (map seen_enumerator u.enumerators.items) h (ap seen_type u.is)))
     c.enum_of.ensures

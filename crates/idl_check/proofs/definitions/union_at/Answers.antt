@@ -20,8 +20,8 @@ returns-in-EncapsulatedUnion c =
     let h = subst (λ o. MatchOption o (body_of s place ≡ None) (IsFound s ks place)) c.in-Some.is c.in_ok-found.ensures in
     ok_is c.union_of.result _ _
     (ap (λ k. union_with ks p.numbers.now k true found) (sym (known_is (world_of p.scope.now)))
-      ∙ encapsulated_made s ks p.numbers.now place found u.at u.tag u.discriminant u.name (cases_of (map seen_case u.cases.items)) c.requires.numbers h
-      (ap seen_type u.is ∙ cases_are u.at u.tag u.discriminant u.name u.cases))
+    ∙ encapsulated_made s ks p.numbers.now place found u.at u.tag u.discriminant u.name (cases_of (map seen_case u.cases.items)) c.requires.numbers h
+    (ap seen_type u.is ∙ cases_are u.at u.tag u.discriminant u.name u.cases))
     c.union_of.ensures
 
 pub returns-in-NonEncapsulatedUnion : goal.returns-in-NonEncapsulatedUnion
@@ -35,5 +35,5 @@ returns-in-NonEncapsulatedUnion c =
     let h = subst (λ o. MatchOption o (body_of s place ≡ None) (IsFound s ks place)) c.in-Some.is c.in_ok-found.ensures in
     ok_is c.union_of-in-NonEncapsulatedUnion.result _ _
     (ap (λ k. union_with ks p.numbers.now k false found) (sym (known_is (world_of p.scope.now)))
-      ∙ nonencapsulated_made s ks p.numbers.now place found u.at u.tag (arms_of (map seen_arm u.arms.items)) c.requires.numbers h (ap seen_type u.is ∙ arms_are u.at u.tag u.arms))
+    ∙ nonencapsulated_made s ks p.numbers.now place found u.at u.tag (arms_of (map seen_arm u.arms.items)) c.requires.numbers h (ap seen_type u.is ∙ arms_are u.at u.tag u.arms))
     c.union_of-in-NonEncapsulatedUnion.ensures

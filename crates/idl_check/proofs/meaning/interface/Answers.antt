@@ -27,7 +27,7 @@ returns c =
     ap (map (header_meant s)) c.in_ok-tree.ensures
     ∙ ap (λ (m : Meant). m ∷ [])
     (meant_is s (seen_tree c.in_ok-tree.tree.now) _ c.in_ok-name.ensures
-      (c.in_ok-uuid.ensures ∙ ap (λ l. first_said uuid_said (map seen_attribute l)) same)
-      (c.in_ok-major.ensures ∙ ap (λ l. or_none (first_said major_said (map seen_attribute l))) same)
-      (c.in_ok-minor.ensures ∙ ap (λ l. or_none (first_said minor_said (map seen_attribute l))) same)
-      c.in_ok-types.ensures c.in_ok-operations.ensures)
+    (c.in_ok-uuid.ensures ∙ ap (λ l. first_said uuid_said (map seen_attribute l)) same)
+    (c.in_ok-major.ensures ∙ ap (λ l. or_none (first_said major_said (map seen_attribute l))) same)
+    (c.in_ok-minor.ensures ∙ ap (λ l. or_none (first_said minor_said (map seen_attribute l))) same)
+    c.in_ok-types.ensures c.in_ok-operations.ensures)

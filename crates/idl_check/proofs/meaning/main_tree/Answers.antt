@@ -14,5 +14,5 @@ pub loop-at-preserved : goal.loop-at-preserved
 loop-at-preserved c =
     let file = c.in-Some.file.now in
     sym (main_later (seen_files c.args.files.now) c.loop-at.at (seen_file file) (sym c.get.ensures ∙ ap (option_map (λ f. seen_file f.now)) c.in-Some.is)
-        (ne_eqb file.file 0 c.if-file-eq0.false))
+    (ne_eqb file.file 0 c.if-file-eq0.false))
     ∙ c.loop-at.invariant
