@@ -1,15 +1,14 @@
 -- What the program makes of the types of a scene.
-use Rattle.std.proofs.Common.{◌≡◌, ℕ, ◌+◌, ◌<◌, ◌≤◌, drop, Bool, true, false, ◌||◌, inl, inr, List, [], ◌∷◌, ◌++◌, map, length, Option, Some, None, is_none, option_map, ℤ, pos, refl, sym, ap, arith, ◌∙◌, subst}
+use Rattle.std.proofs.Common.{◌≡◌, ℕ, ◌≤◌, drop, Bool, true, false, ◌||◌, inl, inr, List, [], ◌∷◌, ◌++◌, map, length, Option, Some, None, is_none, option_map, ℤ, pos, refl, sym, ap, arith, ◌∙◌}
 use Rattle.std.specs.List.{flat_map, slice_get, list_any}
 use Rattle.std.specs.Prelude.{Result, IfOk}
 use Rattle.std.proofs.lemmas.Result.{IfOk-weaker}
 use Rattle.std.specs.Option.{option_and_then}
-use Rattle.std.proofs.lemmas.Option.{slice_get_within, slice_get_cases, none-some, same_Some}
+use Rattle.std.proofs.lemmas.Option.{slice_get_within, slice_get_cases, same_Some}
 use Rattle.nd_base.specs.declared.octets.Place.{Place}
 use Rattle.nd_types.specs.declared.types.TypeId.{TypeId}
 use Rattle.nd_types.specs.declared.types.TypeDef.{TypeDef}
 use Rattle.nd_types.specs.declared.types.TypeDef.TheVariants as def
-use Rattle.nd_types.specs.declared.types.Field.{Field}
 use Rattle.nd_types.specs.declared.types.Arm as nd
 use Rattle.idl_grammar.specs.declared.words.Spelling.{Spelling}
 use Rattle.idl_grammar.specs.declared.types.Discriminant.{Discriminant}
@@ -21,27 +20,26 @@ use Rattle.idl_check.specs.declared.kinds.Kind.{Kind}
 use Rattle.idl_check.specs.declared.nodes.Node.TheVariants as node
 use Rattle.idl_check.specs.declared.nodes.Nodes.{Nodes}
 use Rattle.idl_check.specs.declared.types.Types.{Types}
-use Rattle.idl_check.specs.declared.types.BodyTypes.{BodyTypes}
 use Rattle.idl_check.specs.declared.numbering.Own.{Own}
 use Rattle.idl_check.specs.declared.numbering.Numbers.{Numbers}
 use Rattle.idl_check.specs.declared.definitions.FoundBody.{FoundBody}
 use Rattle.idl_check.specs.World as world
 use Rattle.idl_check.specs.World.{World}
 use Rattle.idl_check.specs.Nodes.{Construct, Declared, ArmLabel, LabelledArm, arms_of}
-use Rattle.idl_check.specs.Types.{IdlType, Names, Struct, Union, Enum, type_of}
-use Rattle.idl_check.specs.Scene.{Scene, scene_of, Body, bodies, body_of, parts_of, parts_declared, arm_declared, tag_type}
+use Rattle.idl_check.specs.Types.{Names, Struct, Union, Enum, type_of}
+use Rattle.idl_check.specs.Scene.{Scene, scene_of, Body, bodies, body_of, parts_declared, arm_declared, tag_type}
 use Rattle.idl_check.specs.ValueRules.{label_value}
-use Rattle.idl_check.specs.Numbering.{Needed, own_types, number_of_type}
+use Rattle.idl_check.specs.Numbering.{Needed, own_types}
 use Rattle.idl_check.specs.Kinds.{type_at}
 use Rattle.idl_check.specs.Places.{found_place}
 use Rattle.idl_check.specs.SeenNodes.{seen_construct}
-use Rattle.idl_check.specs.SeenTypes.{names_at, body_at, IsBody, IsTypes}
+use Rattle.idl_check.specs.SeenTypes.{names_at, body_at, IsTypes}
 use Rattle.idl_check.specs.SeenOperations.{HasTags}
-use Rattle.idl_check.specs.SeenNumbers.{number_at, AreNumbers, seen_own, seen_needed}
-use Rattle.idl_check.specs.Meaning.{number, field, arm_for, name_of_arm, type_of_arm, arm_by, labelled_arms, default_by, first_arm, default_arm, or_handle, or_zero, struct_of, defined_by, defined_at, body_if, is_struct, is_union, is_enum, definition, types_of}
+use Rattle.idl_check.specs.SeenNumbers.{AreNumbers, seen_own, seen_needed}
+use Rattle.idl_check.specs.Meaning.{number, field, arm_for, name_of_arm, type_of_arm, arm_by, labelled_arms, default_by, first_arm, default_arm, or_handle, or_zero, struct_of, defined_at, body_if, is_struct, is_union, is_enum, definition, types_of}
 use Rattle.nd_types.specs.Kinds.{basic_types}
 use Rattle.idl_check.proofs.Gathering.{gathered}
-use Rattle.idl_check.specs.Made.{id, ids_of, tag_id, field_with, each_with, ValuedArm, valued, type_for, types_past, arm_with, arms_with, default_with, IsFound}
+use Rattle.idl_check.specs.Made.{id, ids_of, tag_id, field_with, each_with, valued, type_for, types_past, arm_with, arms_with, default_with, IsFound}
 
 -- ## Numbers
 

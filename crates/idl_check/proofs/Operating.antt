@@ -1,9 +1,8 @@
 -- What the program makes of the operations of a scene.
-use Rattle.std.proofs.Common.{◌≡◌, ℕ, ◌+◌, ◌<◌, ◌≤◌, inl, inr, length, get_or, drop, arith, append_assoc, subst, List, [], ◌∷◌, ◌++◌, map, Option, Some, None, refl, sym, ap, ◌∙◌}
+use Rattle.std.proofs.Common.{◌≡◌, ℕ, ◌+◌, ◌<◌, ◌≤◌, inl, inr, length, get_or, drop, arith, List, [], ◌∷◌, ◌++◌, map, Some, refl, sym, ap, ◌∙◌}
 use Rattle.std.specs.List.{flat_map, slice_get}
 use Rattle.std.proofs.lemmas.Option.{same_Some, slice_get_within, slice_get_cases, slice_get_read}
 use Rattle.std.proofs.lemmas.List.{map-append}
-use Rattle.nd_types.specs.declared.types.TypeId.{TypeId}
 use Rattle.nd_types.specs.declared.types.Operation.{Operation}
 use Rattle.idl_check.specs.declared.kinds.Kind.{Kind}
 use Rattle.idl_check.specs.declared.nodes.Nodes.{Nodes}
@@ -13,11 +12,11 @@ use Rattle.idl_check.specs.declared.numbering.Numbers.{Numbers}
 use Rattle.idl_check.specs.declared.types.OperationTypes.{OperationTypes}
 use Rattle.idl_check.specs.declared.types.Types.{Types}
 use Rattle.idl_check.proofs.Gathering.{gather, gathered}
-use Rattle.idl_check.specs.Nodes.{Declared, Node, HeaderNode, AttributeNode, SwitchNode, TagNode, BodyNode, EnumeratorNode, LabelNode, EmptyArmNode, DeclaratorNode, ConstantNode, TypeNode, OperationNode, result_of}
+use Rattle.idl_check.specs.Nodes.{Declared, Node, HeaderNode, AttributeNode, SwitchNode, TagNode, BodyNode, EnumeratorNode, LabelNode, EmptyArmNode, DeclaratorNode, ConstantNode, TypeNode, OperationNode}
 use Rattle.idl_check.specs.Types.{Names, type_of}
 use Rattle.idl_check.specs.Scene.{Scene, Scoped}
 use Rattle.idl_check.specs.Kinds.{type_at}
-use Rattle.idl_check.specs.SeenNodes.{seen_construct, list_at}
+use Rattle.idl_check.specs.SeenNodes.{list_at}
 use Rattle.idl_check.specs.SeenTypes.{names_at}
 use Rattle.idl_check.specs.SeenNumbers.{AreNumbers}
 use Rattle.idl_check.specs.SeenOperations.{Called, called, called_by, called_at, IsOperation, HasOperations}

@@ -1,4 +1,4 @@
-use Rattle.std.proofs.Common.{◌≡◌, ◌∙◌, Some, sym, ap, option_map}
+use Rattle.std.proofs.Common.{◌∙◌, Some, sym, ap, option_map}
 use Rattle.idl_check.specs.Made.{scene_in}
 use Rattle.idl_check.proofs.Defining.{found_is}
 use Rattle.idl_check.proofs.definitions.body_at.Goals as goal

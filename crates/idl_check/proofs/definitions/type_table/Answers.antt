@@ -1,9 +1,6 @@
-use Rattle.std.proofs.Common.{◌≡◌, ◌∙◌, ◌++◌, map, refl, ap, arith}
-use Rattle.nd_types.specs.Kinds.{basic_types}
-use Rattle.idl_check.specs.Kinds.{type_at}
-use Rattle.idl_check.specs.Meaning.{definition}
+use Rattle.std.proofs.Common.{arith}
 use Rattle.idl_check.specs.Made.{scene_in}
-use Rattle.idl_check.proofs.Defining.{own_made, table_end}
+use Rattle.idl_check.proofs.Defining.{table_end}
 use Rattle.idl_check.proofs.definitions.type_table.Goals as goal
 
 pub returns : goal.returns

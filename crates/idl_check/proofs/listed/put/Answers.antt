@@ -1,4 +1,4 @@
-use Rattle.std.proofs.Common.{◌≡◌, ℕ, List, ◌++◌, [], ◌∷◌, length, Option, None, true, is_some, is_none, sym, ap, subst}
+use Rattle.std.proofs.Common.{◌≡◌, ◌++◌, [], ◌∷◌, length, None, true, is_some, ap, subst}
 use Rattle.std.proofs.lemmas.Result.{on_ok_weaker}
 use Rattle.idl_names.specs.Tables.{found, put}
 use Rattle.idl_check.specs.Made.{AreListed}

@@ -1,4 +1,4 @@
-use Rattle.std.proofs.Common.{◌≡◌, ◌∙◌, List, [], ◌∷◌, map, sym, ap, subst}
+use Rattle.std.proofs.Common.{◌∙◌, List, [], ◌∷◌, map, sym, ap, subst}
 use Rattle.nd_types.specs.Table.{Table}
 use Rattle.nd_types.specs.declared.types.Operation.{Operation}
 use Rattle.nd_types.specs.Legal.{IsLegal}
@@ -6,7 +6,7 @@ use Rattle.idl_grammar.specs.Seen.{seen_attribute, seen_tree}
 use Rattle.idl_check.specs.Attributes.{first_said}
 use Rattle.idl_check.specs.Checked.{world_of}
 use Rattle.idl_check.specs.Scene.{scene_of}
-use Rattle.idl_check.specs.Meaning.{Meant, meaning, header_meant, types_of, operations_of, uuid_said, major_said, minor_said, or_none}
+use Rattle.idl_check.specs.Meaning.{Meant, meaning, header_meant, types_of, uuid_said, major_said, minor_said, or_none}
 use Rattle.idl_check.proofs.MainFile.{meant_is}
 use Rattle.idl_check.proofs.meaning.interface.Goals as goal
 

@@ -1,4 +1,4 @@
-use Rattle.std.proofs.Common.{◌≡◌, ◌∙◌, Some, map, sym, ap, option_map}
+use Rattle.std.proofs.Common.{◌∙◌, Some, map, sym, ap, option_map}
 use Rattle.idl_check.specs.SeenNodes.{seen_declared, or_empty}
 use Rattle.idl_check.specs.Made.{scene_in}
 use Rattle.idl_check.proofs.Defining.{ok_is}
