@@ -51,3 +51,5 @@ mod Held
 mod BodyParts
 mod PlacesFilled
 mod Bridges
+mod UseNotes
+mod RestNotes

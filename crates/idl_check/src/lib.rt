@@ -22,7 +22,6 @@ mod words;
 mod finder;
 mod places;
 mod ranges;
-mod said;
 mod pointer_rules;
 mod type_rules;
 mod types;

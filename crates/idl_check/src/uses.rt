@@ -1,5 +1,6 @@
 // Rules 5 to 38, node by node.
-ghost use Rattle.std.specs.Prelude.{◌≡◌, ◌+◌, ltb, List, [], Option, length, option_map, OnOk};
+ghost use Rattle.std.specs.Prelude.{◌≡◌, ◌+◌, ltb, List, [], Option, Some, length, option_map, OnOk};
+ghost use Rattle.std.specs.List.{slice_get};
 ghost use Rattle.idl_grammar.specs.Seen.{seen_type};
 ghost use Rattle.idl_names.specs.Seen.{seen_files, known_in};
 ghost use Rattle.idl_check.specs.declared.kinds.Kind as kind;
@@ -7,10 +8,9 @@ ghost use Rattle.idl_check.specs.World.{World};
 ghost use Rattle.idl_check.specs.Types.{Names};
 ghost use Rattle.idl_check.specs.Scene.{Scene, Use, Body, use_of, type_of_body};
 ghost use Rattle.idl_check.specs.Rules.{Breach, breaches_of_use};
-ghost use Rattle.idl_check.specs.VariableRules as variables;
 ghost use Rattle.idl_check.specs.Kinds.{type_at};
 ghost use Rattle.idl_check.specs.SeenNodes.{seen_construct, seen_declared, seen_result, list_at};
-ghost use Rattle.idl_check.specs.SeenTypes.{scene_seen, IsTypedUse, IsTyped, IsTypes};
+ghost use Rattle.idl_check.specs.SeenTypes.{scene_seen, names_at, IsTypedUse, IsTyped, IsTypes};
 ghost use Rattle.idl_check.specs.SeenMarks.{AreMarks};
 ghost use Rattle.idl_check.specs.Noted.{noted};
 ghost use Rattle.idl_check.specs.Found.{seen_breach};
@@ -45,13 +45,6 @@ fn is_followed(nodes: &Nodes<'_>, list: u32, index: u32) -> bool
     }
 }
 
-/// Rule 36: whether a variable of its attributes is no other member or parameter of its list.
-fn has_no_variable(typed: &Typed) -> bool
-    ensures { (s : Scene) (ks : List kind.Kind) (u : Use) → IsTypedUse s ks u typed.now → result ≡ variables.has_no_variable u }
-{
-    typed.wrong_variable
-}
-
 /// A declarator with its list.
 fn asked_listed<'t>(
     scope: &Scope,
@@ -70,7 +63,7 @@ fn asked_listed<'t>(
         typed: *typed,
         followed: is_followed(nodes, list, index),
         lower_bounds: has_lower_bounds(scope, it.declarator),
-        no_variable: has_no_variable(typed),
+        no_variable: typed.no_variable,
     }
 }
 
@@ -190,6 +183,30 @@ fn node<'t>(
     Ok(())
 }
 
+/// The rules on the node of a number, but for rule 11. Takes memory for the labels of a union.
+fn nth_node<'t>(
+    alloc: Global,
+    finder: &mut Finder<'_>,
+    scope: &Scope,
+    nodes: &Nodes<'t>,
+    types: &Types,
+    judge: &Judge<'_>,
+    at: usize,
+    one: &Node<'t>,
+) -> Result<(), Memory>
+    requires { judge.now.kinds.now ≡ types.now.kinds }
+    ensures files { finder.new.files.now ≡ finder.old.files.now }
+    ensures first { (w : World) (s : Scene) → w.files ≡ seen_files finder.old.files.now → s.known ≡ known_in scope.now
+        → AreMarks s judge.now.kinds.now judge.now.marks.now → IsTypes s nodes.now types.now → slice_get nodes.now.items.items at ≡ Some one.now
+        → OnOk result (option_map seen_breach finder.new.first
+            ≡ noted w (option_map seen_breach finder.old.first) (program_breaches s (names_at s.known nodes.now at) nodes.now.lists.items one.now)) }
+{
+    if let Some(typed) = types.typed.get(at) {
+        node(alloc, finder, scope, nodes, types, judge, one, typed)?;
+    }
+    Ok(())
+}
+
 /// The rules on all nodes, but for rule 11. Takes memory for the labels of a union.
 fn each_node<'t>(
     alloc: Global,
@@ -208,8 +225,8 @@ fn each_node<'t>(
         kinds: &types.kinds,
         marks,
     };
-    for (one, typed) in nodes.items.iter().zip(&types.typed) {
-        node(alloc, finder, scope, nodes, types, &judge, one, typed)?;
+    for (at, one) in nodes.items.iter().enumerate() {
+        nth_node(alloc, finder, scope, nodes, types, &judge, at, one)?;
     }
     Ok(())
 }
