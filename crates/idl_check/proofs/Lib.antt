@@ -53,3 +53,4 @@ mod PlacesFilled
 mod Bridges
 mod UseNotes
 mod RestNotes
+mod CycleNotes

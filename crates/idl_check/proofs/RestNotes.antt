@@ -17,8 +17,8 @@ use Rattle.idl_check.specs.DeclarationRules.{has_no_body}
 use Rattle.idl_check.specs.ValueRules.{is_large_enumerator, is_bad_label, is_wrong_constant, is_void_constant, is_handle_constant}
 use Rattle.idl_check.specs.Nodes.{Construct, ArmLabel, Node, HeaderNode, AttributeNode, SwitchNode, TagNode, BodyNode, EnumeratorNode, LabelNode, EmptyArmNode, DeclaratorNode, ConstantNode, TypeNode, OperationNode, attribute_nodes_from, label_nodes, labels_of}
 use Rattle.idl_check.specs.Types.{Names, switch_type}
-use Rattle.idl_check.specs.Scene.{Scene, Scoped, Body, scoped_from, names_behind, use_of, tag_type}
-use Rattle.idl_check.specs.Rules.{Breach, broken_at, broken_in, breaches_at, breaches_of_body}
+use Rattle.idl_check.specs.Scene.{Scene, Scoped, Body, body_by, scoped_from, names_behind, use_of, tag_type}
+use Rattle.idl_check.specs.Rules.{Breach, broken_at, broken_in, breaches_at, breaches_of_use, breaches_of_body}
 use Rattle.idl_check.specs.TypeRules.{contains_itself, is_deep_body}
 use Rattle.idl_check.specs.DeclarationRules.{lacks_switch_type}
 use Rattle.idl_check.specs.SeenNodes.{seen_construct, seen_declared, seen_result, list_at, seen_node}
@@ -26,7 +26,7 @@ use Rattle.idl_check.specs.SeenTypes.{names_at, scoped_front}
 use Rattle.idl_check.specs.Noted.{noted, of_others}
 use Rattle.idl_check.specs.OthersOf.{others_of}
 use Rattle.idl_check.specs.OtherBreaches.{other_breaches_at}
-use Rattle.idl_check.specs.Asked.{body_breaches}
+use Rattle.idl_check.specs.Asked.{body_breaches, switch_breaches, empty_arm_breaches}
 use Rattle.idl_check.specs.RestBreaches.{but_cycles, rest_breaches_at, rest_breaches, program_breaches}
 use Rattle.idl_check.proofs.Fronts.{scoped_front_next}
 use Rattle.idl_check.proofs.Noted.{noted_more}
@@ -116,19 +116,41 @@ alone s names n e =
     ∙ append-nil (but_cycles (of_others (breaches_at s names n)))
     ∙ e ∙ sym (other_one s names n)
 
+-- a node that is no body breaks no rule 11
+pub node_rest : (s : Scene) (names : Names) (n : Node) → body_by names n ≡ [] → but_cycles (of_others (breaches_at s names n)) ≡ of_others (breaches_at s names n)
+node_rest s names (HeaderNode c at) h =
+    let lacks = lacks_uuid_and_local c in
+    same_part (broken_at c 3 at lacks) [] (dropped c 3 at lacks refl) refl
+node_rest s names (AttributeNode c before a) h = attribute_rest s names c before a
+node_rest s names (SwitchNode c of) h =
+    let t = switch_type names of in
+    same_part (switch_breaches c t) (switch_breaches c t) (switch_kept of_others refl more_others c t) (switch_kept but_cycles refl more_rest c t)
+node_rest s names (TagNode c kind tag) h = refl
+node_rest s names (BodyNode c body) h = absurd (let e : (record { construct = c; names = names; body = body }) ∷ [] ≡ [] = h in cc)
+node_rest s names (EnumeratorNode c name) h =
+    let large = is_large_enumerator s.known name in
+    one_rest c 13 name.at large (kept c 13 name.at large refl) (no_cycle c 13 name.at large refl)
+node_rest s names (LabelNode c body before l) h =
+    let bad = is_bad_label s (tag_type c names body) before l in
+    one_rest c 22 l.at bad (kept c 22 l.at bad refl) (no_cycle c 22 l.at bad refl)
+node_rest s names (EmptyArmNode c) h =
+    same_part (empty_arm_breaches c) (empty_arm_breaches c) (arm_kept of_others refl more_others c) (arm_kept but_cycles refl more_rest c)
+node_rest s names (DeclaratorNode list index d) h =
+    let u = use_of s.known names list index d in
+    same_part (breaches_of_use s u) (breaches_of_use s u) (use_kept of_others refl more_others s u) (use_kept but_cycles refl more_rest s u)
+node_rest s names (ConstantNode c of star value) h = constant_rest c (is_void_constant of value) (is_handle_constant of) (is_wrong_constant s.known of star value)
+node_rest s names (TypeNode c of) h =
+    let bare = has_no_body of in
+    one_rest c 5 c.at bare (kept c 5 c.at bare refl) (no_cycle c 5 c.at bare refl)
+node_rest s names (OperationNode c name parameters result) h = refl
+
 -- what a node of the program stands for
 pub program_rest : {A : Type 0} (s : Scene) (names : Names) (lists : List (Vec declared.Declared A)) (n : program_node.Node)
     → rest_breaches s (scoped_from s.known names (seen_node lists n)) ≡ program_breaches s names lists n
-program_rest s names lists (node.Header c) =
-    let lacks = lacks_uuid_and_local (seen_construct c) in
-    alone s names (HeaderNode (seen_construct c) c.at)
-        (same_part (broken_at (seen_construct c) 3 c.at lacks) [] (dropped (seen_construct c) 3 c.at lacks refl) refl)
+program_rest s names lists (node.Header c) = let n = HeaderNode (seen_construct c) c.at in alone s names n (node_rest s names n refl)
 program_rest s names lists (node.Attributes c) = attributes_rest s names (seen_construct c) [] (seen_construct c).attributes
-program_rest s names lists (node.Switch c of) =
-    let t = switch_type names of.now in
-    alone s names (SwitchNode (seen_construct c) of.now)
-        (same_part _ _ (switch_kept of_others refl more_others (seen_construct c) t) (switch_kept but_cycles refl more_rest (seen_construct c) t))
-program_rest s names lists (node.Tag c kind tag) = alone s names (TagNode (seen_construct c) kind tag.now) refl
+program_rest s names lists (node.Switch c of) = let n = SwitchNode (seen_construct c) of.now in alone s names n (node_rest s names n refl)
+program_rest s names lists (node.Tag c kind tag) = let n = TagNode (seen_construct c) kind tag.now in alone s names n (node_rest s names n refl)
 program_rest s names lists (node.Body c body) =
     let b : Body = record { construct = seen_construct c; names = names; body = seen_type body.now } in
     flat_map-cons (rest_breaches_at s) (record { names = names; node = BodyNode (seen_construct c) (seen_type body.now) }) []
@@ -136,26 +158,15 @@ program_rest s names lists (node.Body c body) =
     ∙ body_rest s b
 program_rest s names lists (node.Enumerators c list) = enumerators_rest s names (seen_construct c) (map seen_enumerator list.now)
 program_rest s names lists (node.Labels c body) = labels_rest s names (seen_construct c) (seen_type body.now) [] (labels_of (seen_type body.now))
-program_rest s names lists (node.EmptyArm c) =
-    alone s names (EmptyArmNode (seen_construct c))
-        (same_part _ _ (arm_kept of_others refl more_others (seen_construct c)) (arm_kept but_cycles refl more_rest (seen_construct c)))
+program_rest s names lists (node.EmptyArm c) = let n = EmptyArmNode (seen_construct c) in alone s names n (node_rest s names n refl)
 program_rest s names lists (node.Declarator list index it) =
-    let u = use_of s.known names (list_at lists list) index (seen_declared it) in
-    alone s names (DeclaratorNode (list_at lists list) index (seen_declared it))
-        (same_part _ _ (use_kept of_others refl more_others s u) (use_kept but_cycles refl more_rest s u))
-program_rest s names lists (node.Result it) =
-    let u = use_of s.known names [] 0 (seen_result it) in
-    alone s names (DeclaratorNode [] 0 (seen_result it))
-        (same_part _ _ (use_kept of_others refl more_others s u) (use_kept but_cycles refl more_rest s u))
+    let n = DeclaratorNode (list_at lists list) index (seen_declared it) in alone s names n (node_rest s names n refl)
+program_rest s names lists (node.Result it) = let n = DeclaratorNode [] 0 (seen_result it) in alone s names n (node_rest s names n refl)
 program_rest s names lists (node.Constant c of star value) =
-    alone s names (ConstantNode (seen_construct c) of star (seen_init value.now))
-        (constant_rest (seen_construct c) (is_void_constant of (seen_init value.now)) (is_handle_constant of) (is_wrong_constant s.known of star (seen_init value.now)))
-program_rest s names lists (node.Type c of) =
-    let co = seen_construct c in
-    let bare = has_no_body (seen_type of.now) in
-    alone s names (TypeNode co (seen_type of.now)) (one_rest co 5 co.at bare (kept co 5 co.at bare refl) (no_cycle co 5 co.at bare refl))
+    let n = ConstantNode (seen_construct c) of star (seen_init value.now) in alone s names n (node_rest s names n refl)
+program_rest s names lists (node.Type c of) = let n = TypeNode (seen_construct c) (seen_type of.now) in alone s names n (node_rest s names n refl)
 program_rest s names lists (node.Operation it parameters) =
-    alone s names (OperationNode (seen_construct it.construct) it.name.now (list_at lists parameters) (seen_type it.of.now)) refl
+    let n = OperationNode (seen_construct it.construct) it.name.now (list_at lists parameters) (seen_type it.of.now) in alone s names n (node_rest s names n refl)
 
 -- ## The loop over the nodes of the program
 

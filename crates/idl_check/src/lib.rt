@@ -7,6 +7,7 @@ mod array_rules;
 mod asked;
 mod exports;
 mod fault;
+mod cycle_rule;
 mod declaration_rules;
 mod kind_tests;
 mod graph;

@@ -15,10 +15,12 @@ ghost use Rattle.idl_check.specs.SeenMarks.{AreMarks};
 ghost use Rattle.idl_check.specs.Noted.{noted};
 ghost use Rattle.idl_check.specs.Found.{seen_breach};
 ghost use Rattle.idl_check.specs.Asked.{IsAsked, body_breaches, switch_breaches, empty_arm_breaches};
+ghost use Rattle.idl_check.specs.OtherBreaches.{other_breaches};
 ghost use Rattle.idl_check.specs.RestBreaches.{rest_breaches, program_breaches};
 
 use crate::array_rules::note_arrays;
 use crate::asked::{Asked, Judge, note};
+use crate::cycle_rule::note_cycles;
 use crate::declaration_rules::{has_no_body, is_wrongly_cased, lacks_switch_type};
 use crate::finder::Finder;
 use crate::label_rule::labels;
@@ -228,5 +230,24 @@ fn each_node<'t>(
     for (at, one) in nodes.items.iter().enumerate() {
         nth_node(alloc, finder, scope, nodes, types, &judge, at, one)?;
     }
+    Ok(())
+}
+
+/// Rules 5 to 38 on all nodes. Takes memory for the labels of a union, and for each body.
+pub(crate) fn other_rules<'t>(
+    alloc: Global,
+    finder: &mut Finder<'_>,
+    scope: &Scope,
+    nodes: &Nodes<'t>,
+    types: &Types,
+    marks: &Marks,
+) -> Result<(), Memory>
+    ensures files { finder.new.files.now ≡ finder.old.files.now }
+    ensures first { (w : World) (s : Scene) → w.files ≡ seen_files finder.old.files.now → s ≡ scene_seen (known_in scope.now) nodes.now
+        → IsTypes s nodes.now types.now → AreMarks s types.now.kinds marks.now
+        → OnOk result (option_map seen_breach finder.new.first ≡ noted w (option_map seen_breach finder.old.first) (other_breaches s)) }
+{
+    note_cycles(alloc, finder, scope, nodes, types)?;
+    each_node(alloc, finder, scope, nodes, types, marks)?;
     Ok(())
 }
