@@ -20,8 +20,14 @@ use Rattle.idl_check.proofs.OtherNotes.{three_kept}
 use Rattle.idl_check.proofs.UseNotes.{cycles_append}
 use Rattle.idl_check.proofs.RestNotes.{node_rest}
 
-is_cycle : Breach → Bool
+abbrev is_cycle : Breach → Bool
 is_cycle b = eqb b.rule 11
+
+alone_more : (b : Breach) (bs : List Breach) (t : Bool) → is_cycle b ≡ t → cycles_alone (b ∷ bs) ≡ elim t [ true ↦ b ∷ cycles_alone bs | false ↦ cycles_alone bs ]
+alone_more b bs t e = ap (λ t. elim t [ true ↦ b ∷ cycles_alone bs | false ↦ cycles_alone bs ]) e
+
+but_more : (b : Breach) (bs : List Breach) (t : Bool) → is_cycle b ≡ t → but_cycles (b ∷ bs) ≡ elim t [ true ↦ but_cycles bs | false ↦ b ∷ but_cycles bs ]
+but_more b bs t e = ap (λ t. elim t [ true ↦ but_cycles bs | false ↦ b ∷ but_cycles bs ]) e
 
 -- of two breaches of which one alone is of rule 11 one comes before the other
 before_not : (w : World) (a b : Breach) → is_cycle a ≡ true → is_cycle b ≡ false → comes_before w a b ≡ not (comes_before w b a)
@@ -31,11 +37,16 @@ before_not w a b h i = by_numbers a.rule (rank w a.place.file) a.place.at b.rule
   by_numbers r k p s l q h i = grind (arith, nat_tests, h, i)
 
 -- so the first of the two is the same in either order
+abbrev one_of : Breach → Breach → Bool → Breach
+one_of a b true = a
+one_of a b false = b
+
+turned : (a b : Breach) (t : Bool) → one_of a b (not t) ≡ one_of b a t
+turned a b true = refl
+turned a b false = refl
+
 either_order : (w : World) (a b : Breach) → is_cycle a ≡ true → is_cycle b ≡ false → earlier w b (Some a) ≡ earlier w a (Some b)
-either_order w a b h i = ap (λ t. elim t [ true ↦ a | false ↦ b ]) (before_not w a b h i) ∙ turned (comes_before w b a) where
-  turned : (t : Bool) → elim (not t) [ true ↦ a | false ↦ b ] ≡ elim t [ true ↦ b | false ↦ a ]
-  turned true = refl
-  turned false = refl
+either_order w a b h i = ap (one_of a b) (before_not w a b h i) ∙ turned a b (comes_before w b a)
 
 swapped : (w : World) (a b : Breach) (o : Option Breach) → is_cycle a ≡ true → is_cycle b ≡ false → later w a (later w b o) ≡ later w b (later w a o)
 swapped w a b None h i = noted_all w (b ∷ a ∷ []) ∙ ap (λ x. Some x) (either_order w a b h i) ∙ sym (noted_all w (a ∷ b ∷ []))
@@ -46,29 +57,27 @@ swapped w a b (Some x) h i =
 behind_cycles : (w : World) (b : Breach) (o : Option Breach) (bs : List Breach) → is_cycle b ≡ false
     → noted w (later w b o) (cycles_alone bs) ≡ later w b (noted w o (cycles_alone bs))
 behind_cycles w b o [] i = refl
-behind_cycles w b o (x ∷ bs) i = by (is_cycle x) refl where
-  by : (t : Bool) → is_cycle x ≡ t → noted w (later w b o) (cycles_alone (x ∷ bs)) ≡ later w b (noted w o (cycles_alone (x ∷ bs)))
-  by true e =
-      ap (λ t. noted w (later w b o) (elim t [ true ↦ x ∷ cycles_alone bs | false ↦ cycles_alone bs ])) e
+behind_cycles w b o (x ∷ bs) i = by (is_cycle x) refl (behind_cycles w b o bs i) (behind_cycles w b (later w x o) bs i) where
+  by : (t : Bool) → is_cycle x ≡ t → noted w (later w b o) (cycles_alone bs) ≡ later w b (noted w o (cycles_alone bs))
+      → noted w (later w b (later w x o)) (cycles_alone bs) ≡ later w b (noted w (later w x o) (cycles_alone bs))
+      → noted w (later w b o) (cycles_alone (x ∷ bs)) ≡ later w b (noted w o (cycles_alone (x ∷ bs)))
+  by true e rest more =
+      ap (noted w (later w b o)) (alone_more x bs true e)
       ∙ ap (λ p. noted w p (cycles_alone bs)) (swapped w x b o e i)
-      ∙ behind_cycles w b (later w x o) bs i
-      ∙ sym (ap (λ t. later w b (noted w o (elim t [ true ↦ x ∷ cycles_alone bs | false ↦ cycles_alone bs ]))) e)
-  by false e =
-      ap (λ t. noted w (later w b o) (elim t [ true ↦ x ∷ cycles_alone bs | false ↦ cycles_alone bs ])) e
-      ∙ behind_cycles w b o bs i
-      ∙ sym (ap (λ t. later w b (noted w o (elim t [ true ↦ x ∷ cycles_alone bs | false ↦ cycles_alone bs ]))) e)
+      ∙ more
+      ∙ sym (ap (λ l. later w b (noted w o l)) (alone_more x bs true e))
+  by false e rest more = ap (noted w (later w b o)) (alone_more x bs false e) ∙ rest ∙ sym (ap (λ l. later w b (noted w o l)) (alone_more x bs false e))
 
 pub cycles_first : (w : World) (o : Option Breach) (bs : List Breach) → noted w o bs ≡ noted w (noted w o (cycles_alone bs)) (but_cycles bs)
 cycles_first w o [] = refl
-cycles_first w o (b ∷ bs) = by (is_cycle b) refl where
-  by : (t : Bool) → is_cycle b ≡ t → noted w o (b ∷ bs) ≡ noted w (noted w o (cycles_alone (b ∷ bs))) (but_cycles (b ∷ bs))
-  by true e =
-      cycles_first w (later w b o) bs
-      ∙ sym (ap (λ t. noted w (noted w o (elim t [ true ↦ b ∷ cycles_alone bs | false ↦ cycles_alone bs ])) (elim t [ true ↦ but_cycles bs | false ↦ b ∷ but_cycles bs ])) e)
-  by false e =
-      cycles_first w (later w b o) bs
+cycles_first w o (b ∷ bs) = by (is_cycle b) refl (cycles_first w (later w b o) bs) where
+  by : (t : Bool) → is_cycle b ≡ t → noted w (later w b o) bs ≡ noted w (noted w (later w b o) (cycles_alone bs)) (but_cycles bs)
+      → noted w o (b ∷ bs) ≡ noted w (noted w o (cycles_alone (b ∷ bs))) (but_cycles (b ∷ bs))
+  by true e rest = rest ∙ sym (ap₂ (λ l m. noted w (noted w o l) m) (alone_more b bs true e) (but_more b bs true e))
+  by false e rest =
+      rest
       ∙ ap (λ p. noted w p (but_cycles bs)) (behind_cycles w b o bs e)
-      ∙ sym (ap (λ t. noted w (noted w o (elim t [ true ↦ b ∷ cycles_alone bs | false ↦ cycles_alone bs ])) (elim t [ true ↦ but_cycles bs | false ↦ b ∷ but_cycles bs ])) e)
+      ∙ sym (ap₂ (λ l m. noted w (noted w o l) m) (alone_more b bs false e) (but_more b bs false e))
 
 -- ## Both parts of what all nodes break
 
@@ -82,11 +91,16 @@ alone_append (b ∷ bs) ys = by (is_cycle b) (alone_append bs ys) where
 
 both_count : (bs : List Breach) → length (but_cycles bs) + length (cycles_alone bs) ≡ length bs
 both_count [] = refl
-both_count (b ∷ bs) = by (is_cycle b) (both_count bs) where
-  by : (t : Bool) → length (but_cycles bs) + length (cycles_alone bs) ≡ length bs
-      → length (elim t [ true ↦ but_cycles bs | false ↦ b ∷ but_cycles bs ]) + length (elim t [ true ↦ b ∷ cycles_alone bs | false ↦ cycles_alone bs ]) ≡ length (b ∷ bs)
-  by true e = omega (arith, e)
-  by false e = omega (arith, e)
+both_count (b ∷ bs) = by (is_cycle b) refl (both_count bs) where
+  by : (t : Bool) → is_cycle b ≡ t → length (but_cycles bs) + length (cycles_alone bs) ≡ length bs → length (but_cycles (b ∷ bs)) + length (cycles_alone (b ∷ bs)) ≡ length (b ∷ bs)
+  by true e h =
+      let l = ap (λ x. length x) (but_more b bs true e) in
+      let m = ap (λ x. length x) (alone_more b bs true e) in
+      omega (arith, h, l, m)
+  by false e h =
+      let l = ap (λ x. length x) (but_more b bs false e) in
+      let m = ap (λ x. length x) (alone_more b bs false e) in
+      omega (arith, h, l, m)
 
 no_length : {X : Type 0} (xs : List X) → length xs ≡ 0 → xs ≡ []
 no_length [] h = refl
