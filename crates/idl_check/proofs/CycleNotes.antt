@@ -122,15 +122,17 @@ body_alone s b =
     ∙ alone_append (own ++ deep) lacks
     ∙ ap₂ (λ l m. l ++ m) (alone_append own deep ∙ ap₂ (λ l m. l ++ m) (there (contains_itself s b)) (gone_12 (is_deep_body s b))) (gone_23 (lacks_switch_type c b.body))
     ∙ append-nil (own ++ []) ∙ append-nil own where
-  there : (t : Bool) → cycles_alone (broken_in b.construct 11 t) ≡ broken_in b.construct 11 t
-  there true = refl
-  there false = refl
-  gone_12 : (t : Bool) → cycles_alone (broken_in b.construct 12 t) ≡ []
-  gone_12 true = refl
-  gone_12 false = refl
-  gone_23 : (t : Bool) → cycles_alone (broken_in b.construct 23 t) ≡ []
-  gone_23 true = refl
-  gone_23 false = refl
+      there : (t : Bool) → cycles_alone (broken_in b.construct 11 t) ≡ broken_in b.construct 11 t
+      there true = refl
+      there false = refl
+
+      gone_12 : (t : Bool) → cycles_alone (broken_in b.construct 12 t) ≡ []
+      gone_12 true = refl
+      gone_12 false = refl
+
+      gone_23 : (t : Bool) → cycles_alone (broken_in b.construct 23 t) ≡ []
+      gone_23 true = refl
+      gone_23 false = refl
 
 cycles_at : (s : Scene) (names : Names) (n : Node) → cycles_alone (of_others (breaches_at s names n)) ≡ flat_map (cycle_of s) (body_by names n)
 cycles_at s names (BodyNode c body) =
@@ -155,7 +157,7 @@ all_alone s (n ∷ ns) =
     ∙ alone_append (other_breaches_at s n) (flat_map (other_breaches_at s) ns)
     ∙ ap₂ (λ l m. l ++ m) (cycles_at s n.names n.node) (all_alone s ns)
     ∙ sym (ap (flat_map (cycle_of s)) (flat_map-cons (λ m. body_by m.names m.node) n ns)
-        ∙ flat_map-append (cycle_of s) (body_by n.names n.node) (flat_map (λ m. body_by m.names m.node) ns))
+    ∙ flat_map-append (cycle_of s) (body_by n.names n.node) (flat_map (λ m. body_by m.names m.node) ns))
 
 all_rest : (s : Scene) (ns : List Scoped) → but_cycles (flat_map (other_breaches_at s) ns) ≡ rest_breaches s ns
 all_rest s [] = refl

@@ -48,18 +48,18 @@ body_rest s b =
     ap but_cycles (three_kept c c.at 11 12 23 (contains_itself s b) (is_deep_body s b) (lacks_switch_type c b.body) refl refl refl)
     ∙ cycles_append (own ++ deep) lacks
     ∙ ap₂ (λ l m. l ++ m)
-        (cycles_append own deep ∙ ap₂ (λ l m. l ++ m) (gone (contains_itself s b)) (no_cycle c 12 c.at (is_deep_body s b) refl))
-        (no_cycle c 23 c.at (lacks_switch_type c b.body) refl) where
-  gone : (t : Bool) → but_cycles (broken_in b.construct 11 t) ≡ []
-  gone true = refl
-  gone false = refl
+    (cycles_append own deep ∙ ap₂ (λ l m. l ++ m) (gone (contains_itself s b)) (no_cycle c 12 c.at (is_deep_body s b) refl))
+    (no_cycle c 23 c.at (lacks_switch_type c b.body) refl) where
+      gone : (t : Bool) → but_cycles (broken_in b.construct 11 t) ≡ []
+      gone true = refl
+      gone false = refl
 
 attribute_rest : (s : Scene) (names : Names) (c : Construct) (before : List Attribute) (a : Attribute)
     → but_cycles (of_others (breaches_at s names (AttributeNode c before a))) ≡ of_others (breaches_at s names (AttributeNode c before a))
 attribute_rest s names c before a =
     same_part (breaches_at s names (AttributeNode c before a)) (broken_in c 26 (is_second_class before a))
-        (last_kept c a.at c.at 1 2 4 26 (is_out_of_place c.position a) (is_repeated before a) (is_large_version a) (is_second_class before a) refl refl refl refl)
-        (no_cycle c 26 c.at (is_second_class before a) refl)
+    (last_kept c a.at c.at 1 2 4 26 (is_out_of_place c.position a) (is_repeated before a) (is_large_version a) (is_second_class before a) refl refl refl refl)
+    (no_cycle c 26 c.at (is_second_class before a) refl)
 
 one_rest : (c : Construct) (rule at : ℕ) (t : Bool) → of_others (broken_at c rule at t) ≡ broken_at c rule at t
     → but_cycles (broken_at c rule at t) ≡ broken_at c rule at t → but_cycles (of_others (broken_at c rule at t)) ≡ of_others (broken_at c rule at t)
@@ -69,8 +69,8 @@ constant_rest : (c : Construct) (a b d : Bool)
     → but_cycles (of_others (broken_in c 6 a ++ broken_in c 7 b ++ broken_in c 38 d)) ≡ of_others (broken_in c 6 a ++ broken_in c 7 b ++ broken_in c 38 d)
 constant_rest c a b d =
     same_part (broken_in c 6 a ++ broken_in c 7 b ++ broken_in c 38 d) (broken_in c 6 a ++ broken_in c 7 b ++ broken_in c 38 d)
-        (three_kept c c.at 6 7 38 a b d refl refl refl)
-        (more_rest (broken_in c 6 a ++ broken_in c 7 b) c 38 d (more_rest (broken_in c 6 a) c 7 b (no_cycle c 6 c.at a refl) refl) refl)
+    (three_kept c c.at 6 7 38 a b d refl refl refl)
+    (more_rest (broken_in c 6 a ++ broken_in c 7 b) c 38 d (more_rest (broken_in c 6 a) c 7 b (no_cycle c 6 c.at a refl) refl) refl)
 
 -- ## Nodes side by side
 
@@ -88,7 +88,7 @@ attributes_rest : (s : Scene) (names : Names) (c : Construct) (before more : Lis
 attributes_rest s names c before [] = refl
 attributes_rest s names c before (a ∷ more) =
     step s names (AttributeNode c before a) (attribute_nodes_from c (before ++ a ∷ []) more) (attribute_rest s names c before a) refl
-        (attributes_rest s names c (before ++ a ∷ []) more)
+    (attributes_rest s names c (before ++ a ∷ []) more)
 
 labels_rest : (s : Scene) (names : Names) (c : Construct) (body : TypeSpec) (before ls : List ArmLabel)
     → rest_breaches s (scoped_from s.known names (label_nodes c body before ls)) ≡ others_of s names (label_nodes c body before ls)
@@ -96,8 +96,8 @@ labels_rest s names c body before [] = refl
 labels_rest s names c body before (l ∷ ls) =
     let bad = is_bad_label s (tag_type c names body) before l in
     step s names (LabelNode c body before l) (label_nodes c body (before ++ l ∷ []) ls)
-        (one_rest c 22 l.at bad (kept c 22 l.at bad refl) (no_cycle c 22 l.at bad refl)) refl
-        (labels_rest s names c body (before ++ l ∷ []) ls)
+    (one_rest c 22 l.at bad (kept c 22 l.at bad refl) (no_cycle c 22 l.at bad refl)) refl
+    (labels_rest s names c body (before ++ l ∷ []) ls)
 
 enumerators_rest : (s : Scene) (names : Names) (c : Construct) (es : List tree.Enumerator)
     → rest_breaches s (scoped_from s.known names (map (λ e. EnumeratorNode c e.name) es)) ≡ others_of s names (map (λ e. EnumeratorNode c e.name) es)
@@ -105,8 +105,8 @@ enumerators_rest s names c [] = refl
 enumerators_rest s names c (e ∷ es) =
     let large = is_large_enumerator s.known e.name in
     step s names (EnumeratorNode c e.name) (map (λ e. EnumeratorNode c e.name) es)
-        (one_rest c 13 e.name.at large (kept c 13 e.name.at large refl) (no_cycle c 13 e.name.at large refl)) refl
-        (enumerators_rest s names c es)
+    (one_rest c 13 e.name.at large (kept c 13 e.name.at large refl) (no_cycle c 13 e.name.at large refl)) refl
+    (enumerators_rest s names c es)
 
 -- one node alone
 alone : (s : Scene) (names : Names) (n : Node) → but_cycles (of_others (breaches_at s names n)) ≡ of_others (breaches_at s names n)

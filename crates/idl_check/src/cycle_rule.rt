@@ -16,7 +16,13 @@ use nd_base::Memory;
 use std::alloc::Global;
 
 /// Rule 11 on all bodies: the first breach is noted. Takes memory for each body and each part of one.
-pub(crate) fn note_cycles<'t>(alloc: Global, finder: &mut Finder<'_>, scope: &Scope, nodes: &Nodes<'t>, types: &Types) -> Result<(), Memory>
+pub(crate) fn note_cycles<'t>(
+    alloc: Global,
+    finder: &mut Finder<'_>,
+    scope: &Scope,
+    nodes: &Nodes<'t>,
+    types: &Types,
+) -> Result<(), Memory>
     ensures files { finder.new.files.now ≡ finder.old.files.now }
     ensures first { (w : World) (s : Scene) → w.files ≡ seen_files finder.old.files.now → s ≡ scene_seen (known_in scope.now) nodes.now → IsTypes s nodes.now types.now
         → OnOk result (option_map seen_breach finder.new.first ≡ noted w (option_map seen_breach finder.old.first) (cycle_breaches s)) }

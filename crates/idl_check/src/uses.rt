@@ -109,7 +109,7 @@ fn note_switch(finder: &mut Finder<'_>, judge: &Judge<'_>, construct: &Construct
     ensures files { finder.new.files.now ≡ finder.old.files.now }
     ensures first { (w : World) (s : Scene) → w.files ≡ seen_files finder.old.files.now → AreMarks s judge.now.kinds.now judge.now.marks.now
         → option_map seen_breach finder.new.first
-            ≡ noted w (option_map seen_breach finder.old.first) (switch_breaches (seen_construct construct.now) (type_at judge.now.kinds.now of)) }
+        ≡ noted w (option_map seen_breach finder.old.first) (switch_breaches (seen_construct construct.now) (type_at judge.now.kinds.now of)) }
 {
     let mark = judge.mark(of);
     note(finder, construct, 6, mark.holds_void);
@@ -120,7 +120,13 @@ fn note_switch(finder: &mut Finder<'_>, judge: &Judge<'_>, construct: &Construct
 }
 
 /// The rules on a struct, union or enum with its body, but for rule 11.
-fn note_body(finder: &mut Finder<'_>, judge: &Judge<'_>, construct: &Construct<'_>, body: &TypeSpec, of: u32)
+fn note_body(
+    finder: &mut Finder<'_>,
+    judge: &Judge<'_>,
+    construct: &Construct<'_>,
+    body: &TypeSpec,
+    of: u32,
+)
     ensures files { finder.new.files.now ≡ finder.old.files.now }
     ensures first { (w : World) (s : Scene) (b : Body) → w.files ≡ seen_files finder.old.files.now → AreMarks s judge.now.kinds.now judge.now.marks.now
         → seen_construct construct.now ≡ b.construct → seen_type body.now ≡ b.body → type_at judge.now.kinds.now of ≡ type_of_body b
@@ -135,11 +141,16 @@ fn note_empty_arm(finder: &mut Finder<'_>, construct: &Construct<'_>)
     ensures files { finder.new.files.now ≡ finder.old.files.now }
     ensures first { (w : World) → w.files ≡ seen_files finder.old.files.now
         → option_map seen_breach finder.new.first
-            ≡ noted w (option_map seen_breach finder.old.first) (empty_arm_breaches (seen_construct construct.now)) }
+        ≡ noted w (option_map seen_breach finder.old.first) (empty_arm_breaches (seen_construct construct.now)) }
 {
     note(finder, construct, 23, is_wrongly_cased(construct));
     note(finder, construct, 26, has_class(construct.attributes));
-    note(finder, construct, 33, has(construct.attributes, Word::String));
+    note(
+        finder,
+        construct,
+        33,
+        has(construct.attributes, Word::String),
+    );
 }
 
 /// The rules on a node, but for rule 11. Takes memory for the labels of a union.
@@ -159,7 +170,7 @@ fn node<'t>(
         → AreMarks s judge.now.kinds.now judge.now.marks.now → IsTypes s nodes.now types.now
         → IsTyped s names types.now.kinds nodes.now.lists.items node.now typed.now
         → OnOk result (option_map seen_breach finder.new.first
-            ≡ noted w (option_map seen_breach finder.old.first) (program_breaches s names nodes.now.lists.items node.now)) }
+        ≡ noted w (option_map seen_breach finder.old.first) (program_breaches s names nodes.now.lists.items node.now)) }
 {
     match node {
         Node::Header { .. } => {}
@@ -173,12 +184,19 @@ fn node<'t>(
         }
         Node::EmptyArm { construct } => note_empty_arm(finder, construct),
         Node::Declarator { list, index, it } => {
-            note_use(finder, judge, &asked_listed(scope, nodes, *list, *index, it, typed))
+            note_use(
+                finder,
+                judge,
+                &asked_listed(scope, nodes, *list, *index, it, typed),
+            )
         }
         Node::Result { it } => note_use(finder, judge, &asked_result(it, typed)),
-        Node::Constant { construct, of, star, value } => {
-            constant(finder, scope, construct, *of, *star, value)
-        }
+        Node::Constant {
+            construct,
+            of,
+            star,
+            value,
+        } => { constant(finder, scope, construct, *of, *star, value) }
         Node::Type { construct, of } => note(finder, construct, 5, has_no_body(of)),
         Node::Operation { .. } => {}
     }
@@ -201,7 +219,7 @@ fn nth_node<'t>(
     ensures first { (w : World) (s : Scene) → w.files ≡ seen_files finder.old.files.now → s.known ≡ known_in scope.now
         → AreMarks s judge.now.kinds.now judge.now.marks.now → IsTypes s nodes.now types.now → slice_get nodes.now.items.items at ≡ Some one.now
         → OnOk result (option_map seen_breach finder.new.first
-            ≡ noted w (option_map seen_breach finder.old.first) (program_breaches s (names_at s.known nodes.now at) nodes.now.lists.items one.now)) }
+        ≡ noted w (option_map seen_breach finder.old.first) (program_breaches s (names_at s.known nodes.now at) nodes.now.lists.items one.now)) }
 {
     if let Some(typed) = types.typed.get(at) {
         node(alloc, finder, scope, nodes, types, judge, one, typed)?;

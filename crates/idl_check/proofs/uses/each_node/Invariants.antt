@@ -14,5 +14,5 @@ abbrev pub invariant-loop-at : goal.invariant-loop-at
 invariant-loop-at l =
     (l.finder.files.now ≡ l.fn.finder.files.now)
     × ((w : World) (s : Scene) → w.files ≡ seen_files l.fn.finder.files.now → s ≡ scene_seen (known_in l.scope) l.nodes
-        → IsTypes s l.nodes l.types → AreMarks s l.types.kinds l.marks
-        → option_map seen_breach l.finder.first ≡ noted w (option_map seen_breach l.fn.finder.first) (rest_breaches s (scoped_front s.known l.nodes l.at)))
+    → IsTypes s l.nodes l.types → AreMarks s l.types.kinds l.marks
+    → option_map seen_breach l.finder.first ≡ noted w (option_map seen_breach l.fn.finder.first) (rest_breaches s (scoped_front s.known l.nodes l.at)))
