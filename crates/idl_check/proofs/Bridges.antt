@@ -112,7 +112,7 @@ module _ (s : Scene) (ks : List Kind) (count : ℕ) (graph : List (List ℕ)) (p
   within node h = (places node h).within
 
   pub hoists_at : (rules : List Rule) → AreRules hoists_rule ks count rules → (node : ℕ) → node < suc count → has_within NESTING_LIMIT graph rules node ≡ hoists s (type_at ks node)
-    unfolding hoists
+  unfolding hoists
   hoists_at rules are node h =
       sym (properties_agree (suc count) graph rules (type_at ks) (λ n t. hoists_within n s t) (λ t. refl) within
       (λ n i l. hoists_one s (hoists_within n s) (type_at ks) (parts_at graph i) (type_at ks i) (places i l).seen
@@ -120,7 +120,7 @@ module _ (s : Scene) (ks : List Kind) (count : ℕ) (graph : List (List ℕ)) (p
       NESTING_LIMIT node h)
 
   pub barred_at : (rules : List Rule) → AreRules barred_rule ks count rules → (node : ℕ) → node < suc count → has_within NESTING_LIMIT graph rules node ≡ is_barred_in_pipes s (type_at ks node)
-    unfolding is_barred_in_pipes
+  unfolding is_barred_in_pipes
   barred_at rules are node h =
       sym (properties_agree (suc count) graph rules (type_at ks) (λ n t. is_barred_within n s t) (λ t. refl) within
       (λ n i l. barred_one s (is_barred_within n s) (type_at ks) (parts_at graph i) (type_at ks i) (places i l).seen

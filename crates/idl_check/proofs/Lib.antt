@@ -54,3 +54,23 @@ mod Bridges
 mod UseNotes
 mod RestNotes
 mod CycleNotes
+pub mod ReadNames
+pub mod ReadSteps
+pub mod ReadBodies
+pub mod ReadAll
+pub mod KindsOnce
+pub mod Grown
+pub mod Numbered
+pub mod NeededNodes
+pub mod Listing
+mod MarkSums
+mod MarkLists
+mod CountedTypes
+pub mod LookupSteps
+pub mod Wanted
+pub mod VariableSteps
+pub mod Counted
+pub mod CountedNodes
+pub mod Making
+pub mod Defining
+pub mod Operating

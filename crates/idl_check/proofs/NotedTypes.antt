@@ -75,3 +75,7 @@ ok_then (Err e) h next = tt
 pub on_ok_then : {A E : Type 0} (r : Result A E) {P Q : Type 0} → OnOk r P → (P → Q) → OnOk r Q
 on_ok_then (Ok x) h next = next h
 on_ok_then (Err e) h next = tt
+
+pub on_ok_both : {A E : Type 0} (r : Result A E) {P Q R : Type 0} → OnOk r P → OnOk r Q → (P → Q → R) → OnOk r R
+on_ok_both (Ok x) h g next = next h g
+on_ok_both (Err e) h g next = tt

@@ -28,6 +28,7 @@ pub mod Found
 pub mod ListBreaches
 pub mod OtherBreaches
 pub mod OthersOf
+pub mod NodeBreaches
 pub mod RestBreaches
 pub mod LabelValues
 pub mod Checked
@@ -44,3 +45,10 @@ pub mod GraphRounds
 pub mod GraphCycles
 pub mod Lookups
 pub mod InPlace
+pub mod ReadTypes
+pub mod SeenNumbers
+pub mod SeenOperations
+pub mod Made
+pub mod OwnMarks
+pub mod Counted
+pub mod SeenCounts

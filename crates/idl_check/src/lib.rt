@@ -2,16 +2,18 @@
 #![tactic(auto)]
 
 mod checking;
+mod counted;
+mod counts;
 mod attributes;
 mod array_rules;
 mod asked;
 mod exports;
 mod fault;
 mod cycle_rule;
+mod in_place;
 mod declaration_rules;
 mod kind_tests;
 mod graph;
-mod in_place;
 mod kinds;
 mod label_rule;
 mod labels;
@@ -19,6 +21,7 @@ pub mod laws;
 mod lists;
 mod marks;
 mod nodes;
+mod numbering;
 mod words;
 mod finder;
 mod places;
@@ -26,13 +29,20 @@ mod ranges;
 mod pointer_rules;
 mod type_rules;
 mod types;
-mod variable_rules;
 mod variables;
+mod variable_rules;
 mod typing;
 mod uses;
 mod value_set;
 mod values;
 mod written;
+mod listed;
+mod members;
+mod arms;
+mod header;
+mod definitions;
+mod operations;
+mod meaning;
 #[cfg(test)]
 mod node_tests;
 #[cfg(test)]

@@ -1,9 +1,10 @@
 // The types of all nodes.
-ghost use Rattle.std.specs.Prelude.{◌≡◌, ℕ, ◌<◌, true, false, [], List, length, map, option_map, IfOk, OnOk};
+ghost use Rattle.std.specs.Prelude.{◌≡◌, ℕ, ◌<◌, ◌+◌, true, false, [], ◌∷◌, ◌++◌, List, length, map, option_map, IfOk, OnOk};
 ghost use Rattle.idl_grammar.specs.Seen.{seen_type};
 ghost use Rattle.idl_check.specs.Types as types;
 ghost use Rattle.idl_check.specs.Types.{IdlType, Names};
 ghost use Rattle.idl_check.specs.Lookups.{AreTables};
+ghost use Rattle.idl_check.specs.ReadTypes.{and_place, NamesRead, BodiesRead, AreRead};
 ghost use Rattle.idl_check.specs.Scene.{place_of_type, is_nonencapsulated_body, parts_declared, tag_written, tag_type, type_of_body, use_of};
 ghost use Rattle.idl_check.specs.Kinds.{type_by, type_at, is_inside, Keeps};
 ghost use Rattle.idl_check.specs.SeenNames.{are_below, seen_names, are_within, and_name, declared_in, names_with};
@@ -13,12 +14,12 @@ ghost use Rattle.idl_names.specs.Seen.{known_in};
 ghost use Rattle.idl_check.specs.Places.{found_place};
 
 use crate::attributes::switch_type_in;
-use crate::kinds::{Kind, Kinds};
+use crate::kinds::{Kind, Kinds, narrow};
 use crate::nodes::{Construct, Declared, Node, Nodes, Position, Returned};
 use crate::parts::parts;
 use crate::places::Places;
 use crate::typing::{declared_type, with_attributes};
-use crate::variables::{Slot, has_no_variable, has_wrong_switch_variable, has_wrong_variable};
+use crate::variables::{Slot, has_no_variable, has_wrong_switch_variable, has_wrong_variable, tables};
 use crate::written::{place_of_body, switch, tag, tagged_kind, written};
 use idl_grammar::{Spelling, SwitchType, TagKind, TypeSpec};
 use idl_names::{Scope, Table};
@@ -52,6 +53,19 @@ pub(crate) struct BodyTypes {
     pub(crate) nonencapsulated: bool,
     /// The types of its members, or of its arms that are not empty.
     pub(crate) parts: Vec<u32>,
+    /// The type of a union's tag, where it is said.
+    pub(crate) tag: Option<u32>,
+}
+
+/// An operation.
+#[derive(Drop)]
+pub(crate) struct OperationTypes {
+    /// The number of its node.
+    pub(crate) node: u32,
+    /// The types of its parameters.
+    pub(crate) parameters: Vec<u32>,
+    /// The type of its result.
+    pub(crate) result: u32,
 }
 
 /// The types of the nodes of a program.
@@ -64,6 +78,8 @@ pub(crate) struct Types {
     pub(crate) bodies: Vec<BodyTypes>,
     /// The first body of each place, by its number.
     pub(crate) by_place: Places,
+    /// All operations, in order.
+    pub(crate) operations: Vec<OperationTypes>,
 }
 
 impl Types {
@@ -130,7 +146,7 @@ fn note(of: u32) -> Typed
 }
 
 /// What is noted of the type of a declarator.
-fn note_declared(
+pub(crate) fn note_declared(
     scope: &Scope,
     kinds: &mut Kinds,
     names: &Table<u32>,
@@ -170,7 +186,7 @@ fn note_listed(
     ensures within { IfOk result (AreTypedWithin (length kinds.new)) }
     ensures keeps { Keeps kinds.old kinds.new }
 {
-    let no_variable = has_no_variable(nodes, tables, slot, it)?;
+    let no_variable = has_no_variable(nodes, tables, slot, it);
     let wrong_variable = has_wrong_variable(scope, kinds, names, nodes, tables, slot, it)?;
     let wrong_switch_variable =
         has_wrong_switch_variable(scope, kinds, names, nodes, tables, slot, it)?;
@@ -309,7 +325,7 @@ fn note_body(kinds: &mut Kinds, construct: &Construct, body: &TypeSpec) -> Resul
 }
 
 /// Gives a name its type, unless it is there already.
-fn put_first(names: &mut Table<u32>, name: &Spelling, of: u32) -> Result<(), Memory>
+pub(crate) fn put_first(names: &mut Table<u32>, name: &Spelling, of: u32) -> Result<(), Memory>
     ensures { OnOk result (names.new ≡ and_name names.old name.now.octets of) }
 {
     let name = name.octets.as_slice();
@@ -398,12 +414,97 @@ fn body_types(
         node,
         nonencapsulated: is_nonencapsulated(body),
         parts,
+        tag: None,
     })
+}
+
+/// Keeps what is noted of a body, and its number under its place, unless one stands there already.
+fn push_body(bodies: &mut Vec<BodyTypes>, by_place: &mut Places, body: BodyTypes) -> Result<(), Memory>
+    ensures bodies { OnOk result (bodies.new.items ≡ bodies.old.items ++ body ∷ []) }
+    ensures places { OnOk result (by_place.new ≡ and_place by_place.old body.place (length bodies.old.items)) }
+{
+    put_place(by_place, body.place, bodies.len())?;
+    let Ok(()) = bodies.push(body) else {
+        return Err(Memory);
+    };
+    Ok(())
+}
+
+/// Gives a place a number, unless one stands there already.
+fn put_place(by_place: &mut Places, place: Place, number: usize) -> Result<(), Memory>
+    ensures { OnOk result (by_place.new ≡ and_place by_place.old place number) }
+{
+    if by_place.get(place).is_some() {
+        return Ok(());
+    }
+    let number = narrow(number)?;
+    by_place.put(place, number)
+}
+
+/// What is noted of the body that a node is.
+fn read_body(
+    alloc: Global,
+    scope: &Scope,
+    nodes: &Nodes,
+    types: &mut Types,
+    names: &Table<u32>,
+    index: usize,
+) -> Result<(), Memory>
+    requires within { index < length nodes.now.items.items }
+    requires names { NamesRead (known_in scope.now) nodes.now index types.old.kinds names.now }
+    requires bodies { BodiesRead (known_in scope.now) nodes.now index types.old.kinds types.old.bodies.items types.old.by_place }
+    ensures bodies { OnOk result (BodiesRead (known_in scope.now) nodes.now (index + 1) types.new.kinds types.new.bodies.items types.new.by_place) }
+    ensures typed { types.new.typed ≡ types.old.typed }
+    ensures keeps { Keeps types.old.kinds types.new.kinds }
+{
+    let Node::Body { construct, body } = &nodes.items[index] else {
+        return Ok(());
+    };
+    let node = narrow(index)?;
+    let noted = body_types(alloc, scope, &mut types.kinds, names, node, construct, body)?;
+    push_body(&mut types.bodies, &mut types.by_place, noted)
+}
+
+/// What is noted of the next node.
+fn read_node(
+    alloc: Global,
+    scope: &Scope,
+    nodes: &Nodes,
+    tables: &[Table<u32>],
+    types: &mut Types,
+    names: &mut Table<u32>,
+    index: usize,
+) -> Result<(), Memory>
+    requires within { index < length nodes.now.items.items }
+    requires tables { AreTables tables.now nodes.now.lists.items }
+    requires read { AreRead (known_in scope.now) nodes.now index types.old names.old }
+    ensures { OnOk result (AreRead (known_in scope.now) nodes.now (index + 1) types.new names.new) }
+{
+    read_body(alloc, scope, nodes, types, names, index)?;
+    let node = &nodes.items[index];
+    let noted = noted(scope, &mut types.kinds, names, nodes, tables, node)?;
+    declare_node(names, node, noted.of)?;
+    let Ok(()) = types.typed.push(noted) else {
+        return Err(Memory);
+    };
+    Ok(())
 }
 
 /// The types of all nodes. Takes memory for each type once, and for an entry of each node.
 pub(crate) fn of_nodes<'t>(alloc: Global, scope: &Scope, nodes: &Nodes<'t>) -> Result<Types, Memory>
     ensures { IfOk result (IsTypes (scene_seen (known_in scope.now) nodes.now) nodes.now) }
 {
-    Err(Memory)
+    let tables = tables(alloc, nodes)?;
+    let mut names = Table::new(alloc);
+    let mut types = Types {
+        kinds: Kinds::new(alloc),
+        typed: Vec::new(alloc),
+        bodies: Vec::new(alloc),
+        by_place: Places::new(alloc),
+        operations: Vec::new(alloc),
+    };
+    for index in 0..nodes.items.len() {
+        read_node(alloc, scope, nodes, &tables, &mut types, &mut names, index)?;
+    }
+    Ok(types)
 }

@@ -1,4 +1,3 @@
-use Rattle.idl_check.proofs.Agreed.{wrong_switch_same, wrong_same, tag_same, types_same}
 use Rattle.std.proofs.Common.{◌≡◌, sym, ap, ◌∙◌, OnOk, None, Some}
 use Rattle.idl_names.specs.Tables.{found, put}
 use Rattle.idl_check.specs.SeenNames.{and_name}
