@@ -51,6 +51,9 @@ mod Held
 mod BodyParts
 mod PlacesFilled
 mod Bridges
+mod UseNotes
+mod RestNotes
+mod CycleNotes
 pub mod ReadNames
 pub mod ReadSteps
 pub mod ReadBodies
@@ -60,7 +63,6 @@ pub mod Grown
 pub mod Numbered
 pub mod NeededNodes
 pub mod Listing
-mod AskedUses
 mod MarkSums
 mod MarkLists
 mod CountedTypes
