@@ -69,7 +69,6 @@ mod CountedTypes
 pub mod LookupSteps
 pub mod Wanted
 pub mod VariableSteps
-pub mod Counted
 pub mod CountedNodes
 pub mod Making
 pub mod Defining
