@@ -23,7 +23,7 @@ use Rattle.idl_check.specs.CountRules.{operation_in, parameters_in, part_in}
 use Rattle.idl_check.specs.SeenNodes.{seen_construct, seen_declared, seen_node, list_found, list_at, or_empty}
 use Rattle.idl_check.specs.SeenNumbers.{seen_own, seen_needed}
 use Rattle.idl_check.specs.SeenCounts.{one_too_many, operations_at, parameters_at, parts_at}
-use Rattle.idl_check.proofs.Counted.{drop_none}
+use Rattle.idl_check.proofs.Passes.{drop_none}
 
 -- ## Parameters of one operation
 

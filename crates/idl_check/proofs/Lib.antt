@@ -74,3 +74,4 @@ pub mod Making
 pub mod Defining
 pub mod Operating
 pub mod MainFile
+pub mod Passes
