@@ -23,7 +23,7 @@ place_is p q h =
     let g : p.at ≡ q.at = grind (arith, nat_tests, e.1) in
     ap (λ n. record { file = n; at = p.at }) f ∙ ap (λ n. record { file = q.file; at = n }) g
 
-flag_is : (v w : Bool) → same_flag v w ≡ true → v ≡ w
+pub flag_is : (v w : Bool) → same_flag v w ≡ true → v ≡ w
 flag_is true true h = refl
 flag_is true false h = sym h
 flag_is false false h = refl
@@ -50,7 +50,7 @@ primitive_is primitive.Hyper primitive.Hyper h = refl
 primitive_is primitive.UnsignedHyper primitive.UnsignedHyper h = refl
 primitive_is _ _ h = absurd (let e : false ≡ true = h in cc)
 
-count_is : (m n : Option ℤ) → same_count m n ≡ true → m ≡ n
+pub count_is : (m n : Option ℤ) → same_count m n ≡ true → m ≡ n
 count_is None None h = refl
 count_is (Some a) (Some b) h = ap (λ z. Some z) ((Decides-int_eq a b).0 h)
 count_is None (Some b) h = absurd (let e : false ≡ true = h in cc)

@@ -12,6 +12,10 @@ mod Noted
 mod AnyFrom
 mod Ranks
 mod ListNotes
+mod OtherNotes
+mod ValueNotes
+mod LabelLists
+mod LabelTags
 mod NoListRules
 mod Runs
 pub mod Fronts
@@ -37,12 +41,34 @@ mod GraphRows
 mod GraphSearching
 pub mod Dimensions
 pub mod NotedTypes
+mod Below
+mod Split
+mod Judgement
+mod AskedUses
 pub mod Agreed
 pub mod PartTypes
+mod Held
+mod BodyParts
+mod PlacesFilled
+mod Bridges
 pub mod ReadNames
 pub mod ReadSteps
 pub mod ReadBodies
 pub mod ReadAll
+pub mod KindsOnce
+pub mod Grown
+pub mod Numbered
+pub mod NeededNodes
+pub mod Listing
+mod AskedUses
+mod MarkSums
+mod MarkLists
+mod CountedTypes
 pub mod LookupSteps
 pub mod Wanted
 pub mod VariableSteps
+pub mod Counted
+pub mod CountedNodes
+pub mod Making
+pub mod Defining
+pub mod Operating

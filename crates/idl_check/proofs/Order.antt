@@ -23,7 +23,7 @@ passed_on r k p s l q t m o h i = grind (arith, nat_tests, h, i)
 pub behind_not : (w : World) (a b : Breach) → comes_before w a b ≡ true → comes_before w b a ≡ false
 behind_not w a b h = one_way a.rule (rank w a.place.file) a.place.at b.rule (rank w b.place.file) b.place.at h
 
-not_before_itself : (w : World) (a : Breach) → comes_before w a a ≡ false
+pub not_before_itself : (w : World) (a : Breach) → comes_before w a a ≡ false
 not_before_itself w a = not_itself a.rule (rank w a.place.file) a.place.at
 
 pub not_before_next : (w : World) (a b c : Breach) → comes_before w a b ≡ false → comes_before w b c ≡ false → comes_before w a c ≡ false

@@ -1,5 +1,5 @@
 -- The types of the program as those of the rules. `ks` are the kinds that were met, in order: a type's number is its place among them.
-use Rattle.std.specs.Prelude.{◌≡◌, ℕ, zero, suc, Bool, true, ltb, ◌&&◌, List, [], ◌∷◌, ◌++◌, length, Option, Some, None, slice_get}
+use Rattle.std.specs.Prelude.{◌≡◌, ◌<◌, ℕ, zero, suc, Bool, true, ltb, ◌&&◌, List, [], ◌∷◌, ◌++◌, length, Option, Some, None, slice_get}
 use Rattle.nd_types.specs.declared.types.Primitive.{Primitive}
 use Rattle.nd_types.specs.declared.types.Primitive.TheVariants as primitive
 use Rattle.idl_grammar.specs.declared.attributes.PointerClass.{PointerClass}
@@ -70,8 +70,9 @@ abbrev pub basic_in : IdlType → Option Primitive
 basic_in (Basic p) = Some p
 basic_in _ = None
 
--- whether the types that a kind is made of are among the first n
+-- whether the types that a kind is made of are among the first n, and its number is that of a primitive type
 abbrev pub is_inside : ℕ → Kind → Bool
+is_inside n (kind.Basic number) = ltb number 11
 is_inside n (kind.Array element count varying) = ltb element n
 is_inside n (kind.Text element count) = ltb element n
 is_inside n (kind.Pointer class to) = ltb to n
@@ -90,3 +91,7 @@ Stands ks n t = slice_get (seen_types ks) n ≡ Some t
 -- kinds that came later leave the types of those before them
 abbrev pub Keeps : List Kind → List Kind → Type 0
 Keeps old new = (n : ℕ) (t : IdlType) → Stands old n t → Stands new n t
+
+-- equal types stand at one number
+abbrev pub AreOnce : List Kind → Type 0
+AreOnce ks = (i j : ℕ) → i < length ks → j < length ks → type_at ks i ≡ type_at ks j → i ≡ j

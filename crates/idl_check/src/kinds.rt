@@ -1,7 +1,7 @@
 // Types, each of them once, by number.
-ghost use Rattle.std.specs.Prelude.{◌≡◌, ℕ, true, List, [], length, IfOk};
+ghost use Rattle.std.specs.Prelude.{◌≡◌, ◌<◌, ℕ, true, List, [], length, IfOk};
 ghost use Rattle.idl_check.specs.Types.{IdlType, Basic};
-ghost use Rattle.idl_check.specs.Kinds.{seen_class, primitive_by, basic_in, inner_of, seen_types, type_by, type_at, is_inside, Stands, Keeps};
+ghost use Rattle.idl_check.specs.Kinds.{seen_class, primitive_by, basic_in, inner_of, seen_types, type_by, type_at, is_inside, Stands, Keeps, AreOnce};
 
 use idl_grammar::PointerClass;
 use indexmap::IndexSet;
@@ -84,7 +84,8 @@ impl Model for Kinds {
 
 /// The number of a primitive type.
 fn primitive_number(of: Primitive) -> u8
-    ensures { primitive_by result ≡ of }
+    ensures seen { primitive_by result ≡ of }
+    ensures below { result < 11 }
 {
     match of {
         Primitive::Boolean => 0,
@@ -184,7 +185,8 @@ impl Kinds {
 
     /// How many types there are.
     pub(crate) fn len(&self) -> usize
-        ensures { result ≡ length self.now }
+        ensures count { result ≡ length self.now }
+        ensures once { AreOnce self.now }
     {
         self.entries.len()
     }

@@ -55,6 +55,19 @@ pub(crate) struct BodyTypes {
     pub(crate) nonencapsulated: bool,
     /// The types of its members, or of its arms that are not empty.
     pub(crate) parts: Vec<u32>,
+    /// The type of a union's tag, where it is said.
+    pub(crate) tag: Option<u32>,
+}
+
+/// An operation.
+#[derive(Drop)]
+pub(crate) struct OperationTypes {
+    /// The number of its node.
+    pub(crate) node: u32,
+    /// The types of its parameters.
+    pub(crate) parameters: Vec<u32>,
+    /// The type of its result.
+    pub(crate) result: u32,
 }
 
 /// The types of the nodes of a program.
@@ -67,6 +80,8 @@ pub(crate) struct Types {
     pub(crate) bodies: Vec<BodyTypes>,
     /// The first body of each place, by its number.
     pub(crate) by_place: Places,
+    /// All operations, in order.
+    pub(crate) operations: Vec<OperationTypes>,
 }
 
 impl Types {
@@ -414,6 +429,7 @@ fn body_types(
         node,
         nonencapsulated: is_nonencapsulated(body),
         parts,
+        tag: None,
     })
 }
 
@@ -504,6 +520,7 @@ pub(crate) fn of_nodes<'t>(alloc: Global, scope: &Scope, nodes: &Nodes<'t>) -> R
         typed: Vec::new(alloc),
         bodies: Vec::new(alloc),
         by_place: Places::new(alloc),
+        operations: Vec::new(alloc),
     };
     for index in 0..nodes.items.len() {
         read_node(alloc, scope, nodes, &tables, &mut types, &mut names, index)?;

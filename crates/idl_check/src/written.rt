@@ -29,7 +29,8 @@ fn integer_primitive(unsigned: bool, width: Width) -> Primitive
     }
 }
 
-fn simple_kind(of: SimpleType) -> Kind
+/// A type without parts, as a kind.
+pub(crate) fn simple_kind(of: SimpleType) -> Kind
     ensures seen { (ts : List IdlType) → type_by ts result ≡ types.simple_type of }
     ensures inside { (n : ℕ) → is_inside n result ≡ true }
 {

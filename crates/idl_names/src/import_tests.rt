@@ -1,9 +1,7 @@
 // What files and their imports come to, by examples.
-ghost use Rattle.std.specs.Prelude.{◌≤◌};
+ghost use Rattle.std.specs.Prelude.{◌≤◌, ◌<◌};
 
-use crate::{
-    Meaning, NameFault, Names, Scope, Sources, SyntaxFault, resolve,
-};
+use crate::{Meaning, NameFault, Names, Scope, Sources, SyntaxFault, resolve};
 use idl_lexer::{LexFault, LexKind, lex};
 use idl_parser::parse;
 use nd_base::{MemFiles, Octets, Place};
@@ -38,10 +36,12 @@ fn told(answer: &Result<Scope, NameFault>) -> Answer {
         Err(NameFault::TooMany { place }) => Answer::TooMany(*place),
         Err(NameFault::Absent { file }) => Answer::Absent(*file),
         Err(NameFault::Failed { file }) => Answer::Failed(*file),
-        Err(NameFault::Lex {
-            file,
-            fault: LexFault::At { at, kind },
-        }) => Answer::Lex(*file, *at, *kind),
+        Err(
+            NameFault::Lex {
+                file,
+                fault: LexFault::At { at, kind },
+            },
+        ) => Answer::Lex(*file, *at, *kind),
         Err(NameFault::Syntax { file, at, fault }) => Answer::Syntax(*file, *at, *fault),
         Err(_) => Answer::Other,
     }
@@ -97,7 +97,10 @@ fn imported_names_are_known(rt: HostRuntime) -> Result<(), Fail> {
 fn a_file_is_loaded_once(rt: HostRuntime) -> Result<(), Fail> {
     let mut files = MemFiles::new(rt.alloc(), &[3])?;
     files.add("b", BASE)?;
-    files.add("c", b"[local] interface c { import \"b\"; const long B = A; }")?;
+    files.add(
+        "c",
+        b"[local] interface c { import \"b\"; const long B = A; }",
+    )?;
     let walked = walked(
         rt.alloc(),
         &mut files,
@@ -185,7 +188,10 @@ fn the_first_fault_is_told(rt: HostRuntime) -> Result<(), Fail> {
 fn tags_behind_pointers_are_those_of_all_files(rt: HostRuntime) -> Result<(), Fail> {
     let alloc = rt.alloc();
     let mut files = MemFiles::new(alloc, &[])?;
-    files.add("p", b"[local] interface p { typedef struct s *P; typedef struct s *Q; }")?;
+    files.add(
+        "p",
+        b"[local] interface p { typedef struct s *P; typedef struct s *Q; }",
+    )?;
     let main = b"[local] interface t { import \"p\"; struct s { long a; }; }";
     let whole = walked(alloc, &mut files, main)?;
     let scope = whole.answer?;
@@ -211,6 +217,13 @@ fn strings_spell_names(rt: HostRuntime) -> Result<(), Fail> {
 /// The names of 64 files, one octet each.
 const NAMES: &[u8; 64] = b"ABCDEFGHIJKLMNOPQRSTUVWXYZabcdefghijklmnopqrstuvwxyz0123456789+-";
 
+/// One of them.
+fn name(at: usize) -> u8
+    requires { at < 64 }
+{
+    NAMES[at]
+}
+
 /// A file that imports so many of them.
 fn importing(alloc: Global, count: usize) -> Result<Octets, Fail>
     requires { count ≤ 64 }
@@ -220,9 +233,7 @@ fn importing(alloc: Global, count: usize) -> Result<Octets, Fail>
         if at > 0 {
             text.append(b", ")?;
         }
-        text.append(b"\"")?;
-        text.append(&NAMES[at..at + 1])?;
-        text.append(b"\"")?;
+        text.append(&[b'"', name(at), b'"'])?;
     }
     text.append(b"; }")?;
     Ok(text)
@@ -233,7 +244,7 @@ fn there_are_at_most_64_files(rt: HostRuntime) -> Result<(), Fail> {
     let alloc = rt.alloc();
     let mut files = MemFiles::new(alloc, &[])?;
     for at in 0..64 {
-        let name = String::from_utf8_lossy(alloc, &NAMES[at..at + 1])?;
+        let name = String::from_utf8_lossy(alloc, &[name(at)])?;
         files.add(name.as_str(), b"[local] interface x { }")?;
     }
     let main = importing(alloc, 63)?;
