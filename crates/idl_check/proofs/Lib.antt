@@ -72,3 +72,4 @@ pub mod CountedNodes
 pub mod Making
 pub mod Defining
 pub mod Operating
+pub mod ReadOperations
