@@ -51,6 +51,9 @@ mod Held
 mod BodyParts
 mod PlacesFilled
 mod Bridges
+mod UseNotes
+mod RestNotes
+mod CycleNotes
 pub mod ReadNames
 pub mod ReadSteps
 pub mod ReadBodies
@@ -60,16 +63,16 @@ pub mod Grown
 pub mod Numbered
 pub mod NeededNodes
 pub mod Listing
-mod AskedUses
 mod MarkSums
 mod MarkLists
 mod CountedTypes
 pub mod LookupSteps
 pub mod Wanted
 pub mod VariableSteps
-pub mod Counted
 pub mod CountedNodes
 pub mod Making
 pub mod Defining
 pub mod Operating
 pub mod ReadOperations
+pub mod MainFile
+pub mod Passes

@@ -8,8 +8,9 @@ use Rattle.idl_check.specs.declared.nodes.Node.TheVariants as node
 use Rattle.idl_check.specs.Nodes.{Node, BodyNode}
 use Rattle.idl_check.specs.SeenNodes.{seen_construct, seen_node}
 use Rattle.idl_check.specs.Types.{Names}
-use Rattle.idl_check.specs.Scene.{Scene, Scoped, Body}
-use Rattle.idl_check.specs.Rules.{Breach}
+use Rattle.idl_check.specs.Scene.{Scene, Scoped, Body, bodies}
+use Rattle.idl_check.specs.TypeRules.{contains_itself}
+use Rattle.idl_check.specs.Rules.{Breach, broken_in}
 use Rattle.idl_check.specs.OthersOf.{others_of}
 use Rattle.idl_check.specs.OtherBreaches.{other_breaches_at}
 use Rattle.idl_check.specs.Asked.{body_breaches}
@@ -33,3 +34,10 @@ rest_breaches s ns = flat_map (rest_breaches_at s) ns
 abbrev pub program_breaches : {A : Type 0} → Scene → Names → List (Vec declared.Declared A) → program_node.Node → List Breach
 program_breaches s names lists (node.Body c body) = body_breaches s (record { construct = seen_construct c; names = names; body = seen_type body.now })
 program_breaches s names lists n = others_of s names (seen_node lists n)
+
+-- rule 11, of all bodies
+abbrev pub cycle_of : Scene → Body → List Breach
+cycle_of s b = broken_in b.construct 11 (contains_itself s b)
+
+abbrev pub cycle_breaches : Scene → List Breach
+cycle_breaches s = flat_map (cycle_of s) (bodies s)

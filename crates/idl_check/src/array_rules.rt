@@ -33,7 +33,9 @@ fn has_wrong_dimensions(judge: &Judge<'_>, asked: &Asked<'_>) -> bool
 fn hoists_before_last(judge: &Judge<'_>, asked: &Asked<'_>) -> bool
     ensures { (s : Scene) (u : Use) → AreMarks s judge.now.kinds.now judge.now.marks.now → asked.now.followed ≡ is_followed u → result ≡ rules.hoists_before_last s (asked_use judge.now.kinds.now asked.now u) }
 {
-    asked.construct.position == Position::Member && asked.followed && judge.mark(asked.typed.of).hoists
+    asked.construct.position == Position::Member
+        && asked.followed
+        && judge.mark(asked.typed.of).hoists
 }
 
 /// Rule 19: whether an arm of a union hoists.
@@ -54,7 +56,12 @@ pub(crate) fn note_arrays(finder: &mut Finder<'_>, judge: &Judge<'_>, asked: &As
 {
     let construct = &asked.construct;
     let of = judge.mark(asked.typed.of);
-    note(finder, construct, 14, judge.mark(asked.typed.declared_as).holds_wrong_count);
+    note(
+        finder,
+        construct,
+        14,
+        judge.mark(asked.typed.declared_as).holds_wrong_count,
+    );
     note(finder, construct, 15, asked.lower_bounds);
     note(finder, construct, 16, has_wrong_dimensions(judge, asked));
     note(finder, construct, 17, of.holds_wrong_element);

@@ -45,7 +45,10 @@ impl Kind {
         ensures { result ≡ referent_of self }
     {
         match self {
-            Kind::Pointer { class: Class::Reference, to } => Some(to),
+            Kind::Pointer {
+                class: Class::Reference,
+                to,
+            } => Some(to),
             _ => None,
         }
     }
@@ -66,7 +69,13 @@ impl Kind {
     pub(crate) fn is_reference(self) -> bool
         ensures { (ts : List IdlType) → result ≡ types.is_reference (type_by ts self) }
     {
-        matches!(self, Kind::Pointer { class: Class::Reference, .. })
+        matches!(
+            self,
+            Kind::Pointer {
+                class: Class::Reference,
+                ..
+            }
+        )
     }
 
     pub(crate) fn is_text(self) -> bool

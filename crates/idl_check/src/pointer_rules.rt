@@ -63,9 +63,24 @@ pub(crate) fn note_pointers(finder: &mut Finder<'_>, judge: &Judge<'_>, asked: &
         → option_map seen_breach finder.new.first ≡ noted w first (with_pointers s u before) }
 {
     let construct = &asked.construct;
-    note(finder, construct, 26, has_class_without_pointer(judge, asked));
-    note(finder, construct, 27, judge.mark(asked.typed.declared_as).holds_classless);
-    note(finder, construct, 28, judge.mark(asked.typed.of).holds_reference_behind);
+    note(
+        finder,
+        construct,
+        26,
+        has_class_without_pointer(judge, asked),
+    );
+    note(
+        finder,
+        construct,
+        27,
+        judge.mark(asked.typed.declared_as).holds_classless,
+    );
+    note(
+        finder,
+        construct,
+        28,
+        judge.mark(asked.typed.of).holds_reference_behind,
+    );
     note(finder, construct, 29, is_nullable_out(judge, asked));
     note(finder, construct, 30, lacks_direction(construct));
     note(finder, construct, 31, is_wrong_out(judge, asked));

@@ -34,7 +34,8 @@ fn without_void(judge: &Judge<'_>, asked: &Asked<'_>) -> Mark
 fn is_in_alone(asked: &Asked<'_>) -> bool
     ensures { result ≡ (has in_word (map seen_attribute asked.now.construct.attributes.now) && not (has out_word (map seen_attribute asked.now.construct.attributes.now))) }
 {
-    has_word(asked.construct.attributes, Word::In) && !has_word(asked.construct.attributes, Word::Out)
+    has_word(asked.construct.attributes, Word::In)
+        && !has_word(asked.construct.attributes, Word::Out)
 }
 
 /// Those in which no `handle_t` may stand.
@@ -83,10 +84,20 @@ pub(crate) fn note_types(finder: &mut Finder<'_>, judge: &Judge<'_>, asked: &Ask
 {
     let construct = &asked.construct;
     note(finder, construct, 6, without_void(judge, asked).holds_void);
-    note(finder, construct, 7, without_handle(judge, asked).holds_handle);
+    note(
+        finder,
+        construct,
+        7,
+        without_handle(judge, asked).holds_handle,
+    );
     let within = without_pipe(judge, asked);
     note(finder, construct, 8, within.holds_pipe);
     note(finder, construct, 9, is_no_context_handle(judge, asked));
     note(finder, construct, 10, within.holds_context);
-    note(finder, construct, 12, judge.mark(asked.typed.of).holds_deep_array);
+    note(
+        finder,
+        construct,
+        12,
+        judge.mark(asked.typed.of).holds_deep_array,
+    );
 }

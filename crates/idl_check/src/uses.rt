@@ -1,5 +1,6 @@
 // Rules 5 to 38, node by node.
-ghost use Rattle.std.specs.Prelude.{◌≡◌, ◌+◌, ltb, List, [], Option, length, option_map, OnOk};
+ghost use Rattle.std.specs.Prelude.{◌≡◌, ◌+◌, ltb, List, [], Option, Some, length, option_map, OnOk};
+ghost use Rattle.std.specs.List.{slice_get};
 ghost use Rattle.idl_grammar.specs.Seen.{seen_type};
 ghost use Rattle.idl_names.specs.Seen.{seen_files, known_in};
 ghost use Rattle.idl_check.specs.declared.kinds.Kind as kind;
@@ -7,18 +8,19 @@ ghost use Rattle.idl_check.specs.World.{World};
 ghost use Rattle.idl_check.specs.Types.{Names};
 ghost use Rattle.idl_check.specs.Scene.{Scene, Use, Body, use_of, type_of_body};
 ghost use Rattle.idl_check.specs.Rules.{Breach, breaches_of_use};
-ghost use Rattle.idl_check.specs.VariableRules as variables;
 ghost use Rattle.idl_check.specs.Kinds.{type_at};
 ghost use Rattle.idl_check.specs.SeenNodes.{seen_construct, seen_declared, seen_result, list_at};
-ghost use Rattle.idl_check.specs.SeenTypes.{scene_seen, IsTypedUse, IsTyped, IsTypes};
+ghost use Rattle.idl_check.specs.SeenTypes.{scene_seen, names_at, IsTypedUse, IsTyped, IsTypes};
 ghost use Rattle.idl_check.specs.SeenMarks.{AreMarks};
 ghost use Rattle.idl_check.specs.Noted.{noted};
 ghost use Rattle.idl_check.specs.Found.{seen_breach};
 ghost use Rattle.idl_check.specs.Asked.{IsAsked, body_breaches, switch_breaches, empty_arm_breaches};
+ghost use Rattle.idl_check.specs.OtherBreaches.{other_breaches};
 ghost use Rattle.idl_check.specs.RestBreaches.{rest_breaches, program_breaches};
 
 use crate::array_rules::note_arrays;
 use crate::asked::{Asked, Judge, note};
+use crate::cycle_rule::note_cycles;
 use crate::declaration_rules::{has_no_body, is_wrongly_cased, lacks_switch_type};
 use crate::finder::Finder;
 use crate::label_rule::labels;
@@ -45,13 +47,6 @@ fn is_followed(nodes: &Nodes<'_>, list: u32, index: u32) -> bool
     }
 }
 
-/// Rule 36: whether a variable of its attributes is no other member or parameter of its list.
-fn has_no_variable(typed: &Typed) -> bool
-    ensures { (s : Scene) (ks : List kind.Kind) (u : Use) → IsTypedUse s ks u typed.now → result ≡ variables.has_no_variable u }
-{
-    typed.wrong_variable
-}
-
 /// A declarator with its list.
 fn asked_listed<'t>(
     scope: &Scope,
@@ -70,7 +65,7 @@ fn asked_listed<'t>(
         typed: *typed,
         followed: is_followed(nodes, list, index),
         lower_bounds: has_lower_bounds(scope, it.declarator),
-        no_variable: has_no_variable(typed),
+        no_variable: typed.no_variable,
     }
 }
 
@@ -114,7 +109,7 @@ fn note_switch(finder: &mut Finder<'_>, judge: &Judge<'_>, construct: &Construct
     ensures files { finder.new.files.now ≡ finder.old.files.now }
     ensures first { (w : World) (s : Scene) → w.files ≡ seen_files finder.old.files.now → AreMarks s judge.now.kinds.now judge.now.marks.now
         → option_map seen_breach finder.new.first
-            ≡ noted w (option_map seen_breach finder.old.first) (switch_breaches (seen_construct construct.now) (type_at judge.now.kinds.now of)) }
+        ≡ noted w (option_map seen_breach finder.old.first) (switch_breaches (seen_construct construct.now) (type_at judge.now.kinds.now of)) }
 {
     let mark = judge.mark(of);
     note(finder, construct, 6, mark.holds_void);
@@ -125,7 +120,13 @@ fn note_switch(finder: &mut Finder<'_>, judge: &Judge<'_>, construct: &Construct
 }
 
 /// The rules on a struct, union or enum with its body, but for rule 11.
-fn note_body(finder: &mut Finder<'_>, judge: &Judge<'_>, construct: &Construct<'_>, body: &TypeSpec, of: u32)
+fn note_body(
+    finder: &mut Finder<'_>,
+    judge: &Judge<'_>,
+    construct: &Construct<'_>,
+    body: &TypeSpec,
+    of: u32,
+)
     ensures files { finder.new.files.now ≡ finder.old.files.now }
     ensures first { (w : World) (s : Scene) (b : Body) → w.files ≡ seen_files finder.old.files.now → AreMarks s judge.now.kinds.now judge.now.marks.now
         → seen_construct construct.now ≡ b.construct → seen_type body.now ≡ b.body → type_at judge.now.kinds.now of ≡ type_of_body b
@@ -140,11 +141,16 @@ fn note_empty_arm(finder: &mut Finder<'_>, construct: &Construct<'_>)
     ensures files { finder.new.files.now ≡ finder.old.files.now }
     ensures first { (w : World) → w.files ≡ seen_files finder.old.files.now
         → option_map seen_breach finder.new.first
-            ≡ noted w (option_map seen_breach finder.old.first) (empty_arm_breaches (seen_construct construct.now)) }
+        ≡ noted w (option_map seen_breach finder.old.first) (empty_arm_breaches (seen_construct construct.now)) }
 {
     note(finder, construct, 23, is_wrongly_cased(construct));
     note(finder, construct, 26, has_class(construct.attributes));
-    note(finder, construct, 33, has(construct.attributes, Word::String));
+    note(
+        finder,
+        construct,
+        33,
+        has(construct.attributes, Word::String),
+    );
 }
 
 /// The rules on a node, but for rule 11. Takes memory for the labels of a union.
@@ -164,7 +170,7 @@ fn node<'t>(
         → AreMarks s judge.now.kinds.now judge.now.marks.now → IsTypes s nodes.now types.now
         → IsTyped s names types.now.kinds nodes.now.lists.items node.now typed.now
         → OnOk result (option_map seen_breach finder.new.first
-            ≡ noted w (option_map seen_breach finder.old.first) (program_breaches s names nodes.now.lists.items node.now)) }
+        ≡ noted w (option_map seen_breach finder.old.first) (program_breaches s names nodes.now.lists.items node.now)) }
 {
     match node {
         Node::Header { .. } => {}
@@ -178,14 +184,45 @@ fn node<'t>(
         }
         Node::EmptyArm { construct } => note_empty_arm(finder, construct),
         Node::Declarator { list, index, it } => {
-            note_use(finder, judge, &asked_listed(scope, nodes, *list, *index, it, typed))
+            note_use(
+                finder,
+                judge,
+                &asked_listed(scope, nodes, *list, *index, it, typed),
+            )
         }
         Node::Result { it } => note_use(finder, judge, &asked_result(it, typed)),
-        Node::Constant { construct, of, star, value } => {
-            constant(finder, scope, construct, *of, *star, value)
-        }
+        Node::Constant {
+            construct,
+            of,
+            star,
+            value,
+        } => { constant(finder, scope, construct, *of, *star, value) }
         Node::Type { construct, of } => note(finder, construct, 5, has_no_body(of)),
         Node::Operation { .. } => {}
+    }
+    Ok(())
+}
+
+/// The rules on the node of a number, but for rule 11. Takes memory for the labels of a union.
+fn nth_node<'t>(
+    alloc: Global,
+    finder: &mut Finder<'_>,
+    scope: &Scope,
+    nodes: &Nodes<'t>,
+    types: &Types,
+    judge: &Judge<'_>,
+    at: usize,
+    one: &Node<'t>,
+) -> Result<(), Memory>
+    requires { judge.now.kinds.now ≡ types.now.kinds }
+    ensures files { finder.new.files.now ≡ finder.old.files.now }
+    ensures first { (w : World) (s : Scene) → w.files ≡ seen_files finder.old.files.now → s.known ≡ known_in scope.now
+        → AreMarks s judge.now.kinds.now judge.now.marks.now → IsTypes s nodes.now types.now → slice_get nodes.now.items.items at ≡ Some one.now
+        → OnOk result (option_map seen_breach finder.new.first
+        ≡ noted w (option_map seen_breach finder.old.first) (program_breaches s (names_at s.known nodes.now at) nodes.now.lists.items one.now)) }
+{
+    if let Some(typed) = types.typed.get(at) {
+        node(alloc, finder, scope, nodes, types, judge, one, typed)?;
     }
     Ok(())
 }
@@ -208,8 +245,27 @@ fn each_node<'t>(
         kinds: &types.kinds,
         marks,
     };
-    for (one, typed) in nodes.items.iter().zip(&types.typed) {
-        node(alloc, finder, scope, nodes, types, &judge, one, typed)?;
+    for (at, one) in nodes.items.iter().enumerate() {
+        nth_node(alloc, finder, scope, nodes, types, &judge, at, one)?;
     }
+    Ok(())
+}
+
+/// Rules 5 to 38 on all nodes. Takes memory for the labels of a union, and for each body.
+pub(crate) fn other_rules<'t>(
+    alloc: Global,
+    finder: &mut Finder<'_>,
+    scope: &Scope,
+    nodes: &Nodes<'t>,
+    types: &Types,
+    marks: &Marks,
+) -> Result<(), Memory>
+    ensures files { finder.new.files.now ≡ finder.old.files.now }
+    ensures first { (w : World) (s : Scene) → w.files ≡ seen_files finder.old.files.now → s ≡ scene_seen (known_in scope.now) nodes.now
+        → IsTypes s nodes.now types.now → AreMarks s types.now.kinds marks.now
+        → OnOk result (option_map seen_breach finder.new.first ≡ noted w (option_map seen_breach finder.old.first) (other_breaches s)) }
+{
+    note_cycles(alloc, finder, scope, nodes, types)?;
+    each_node(alloc, finder, scope, nodes, types, marks)?;
     Ok(())
 }

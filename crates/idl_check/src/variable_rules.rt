@@ -82,7 +82,12 @@ pub(crate) fn note_unions(finder: &mut Finder<'_>, judge: &Judge<'_>, asked: &As
 {
     let construct = &asked.construct;
     note(finder, construct, 23, is_wrongly_cased(construct));
-    note(finder, construct, 24, without_union(judge, asked).holds_nonencapsulated);
+    note(
+        finder,
+        construct,
+        24,
+        without_union(judge, asked).holds_nonencapsulated,
+    );
     note(finder, construct, 25, has_wrong_switch(judge, asked));
 }
 
@@ -119,8 +124,10 @@ fn is_wrongly_sized(judge: &Judge<'_>, asked: &Asked<'_>) -> bool
         !judge.kind(asked.typed.declared_as).may_be_sized()
             || has_word(attributes, Word::SizeIs) && has_word(attributes, Word::MaxIs)
     } else {
-        matches!(asked.construct.position, Position::Member | Position::Parameter)
-            && judge.kind(asked.typed.of).is_conformant_array()
+        matches!(
+            asked.construct.position,
+            Position::Member | Position::Parameter
+        ) && judge.kind(asked.typed.of).is_conformant_array()
     }
 }
 

@@ -13,5 +13,5 @@ returns-in-Parameter-true c s are =
     let attributes = map seen_attribute c.args.asked.now.construct.attributes.now in
     let of = type_at c.args.judge.now.kinds.now c.args.asked.now.typed.of in
     subst (λ p. Holds s (without_handle (seen_position p) (has in_word attributes && not (has out_word attributes)) of) c.below.result)
-        (sym c.in-Parameter-true.is-0)
-        (subst (λ b. Holds s (without_handle InParameter b of) c.below.result) c.in-Parameter-true.ensures (c.below.ensures s are))
+    (sym c.in-Parameter-true.is-0)
+    (subst (λ b. Holds s (without_handle InParameter b of) c.below.result) c.in-Parameter-true.ensures (c.below.ensures s are))

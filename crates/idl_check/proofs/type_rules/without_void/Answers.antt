@@ -8,4 +8,4 @@ use Rattle.idl_check.proofs.type_rules.without_void.Goals as goal
 pub returns-in-Operation : goal.returns-in-Operation
 returns-in-Operation c s are =
     subst (λ p. Holds s (without_void (seen_position p) (type_at c.args.judge.now.kinds.now c.args.asked.now.typed.of)) c.below.result)
-        (sym c.in-Operation.is) (c.below.ensures s are)
+    (sym c.in-Operation.is) (c.below.ensures s are)
