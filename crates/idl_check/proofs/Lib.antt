@@ -73,5 +73,6 @@ pub mod CountedNodes
 pub mod Making
 pub mod Defining
 pub mod Operating
+pub mod ReadOperations
 pub mod MainFile
 pub mod Passes
