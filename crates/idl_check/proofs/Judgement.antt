@@ -1,8 +1,14 @@
 -- How the passes come to the answer.
-use Rattle.std.proofs.Common.{◌≡◌, ◌∙◌, ℕ, List, [], ◌∷◌, ◌++◌, map, Option, Some, None, refl, ap, sym, subst}
+use Rattle.std.proofs.Common.{◌≡◌, ◌∙◌, ℕ, List, [], ◌∷◌, ◌++◌, map, Option, Some, None, Result, Ok, Err, refl, ap, sym, subst}
+use Rattle.std.specs.Result.{IsErrAnd}
+use Rattle.nd_types.specs.declared.interface.Interface.{Interface}
+use Rattle.idl_check.specs.declared.fault.RuleFault.{RuleFault}
+use Rattle.idl_check.specs.declared.fault.RuleFault.TheVariants as faults
+use Rattle.idl_check.specs.Answers.{Answers}
+use Rattle.std.specs.List.{flat_map}
 use Rattle.idl_names.specs.Known.{Known}
 use Rattle.idl_check.specs.World.{World}
-use Rattle.idl_check.specs.Nodes.{Node, nodes, place_in}
+use Rattle.idl_check.specs.Nodes.{Node, nodes, file_nodes, place_in}
 use Rattle.idl_check.specs.Types.{Names}
 use Rattle.idl_check.specs.Scene.{Scene, Scoped, scoped_from, names_behind, scene_of}
 use Rattle.idl_check.specs.Rules.{Breach, breach, breaches, breaches_in}
@@ -46,3 +52,20 @@ told_by_others w ns before last is none others counts =
 -- no rule is broken where none is told
 pub none_broken : (w : World) → first_broken w ≡ None → breaches w ≡ []
 none_broken w none = subst (λ o. IsLeast w (breaches w) o) none (least w (breaches w))
+
+-- ## The same over the program's nodes
+
+pub nodes_are : (w : World) → flat_map file_nodes w.files ≡ nodes w
+unfolding nodes
+nodes_are w = refl
+
+pub told_over : (w : World) (s : Scene) (ns : List Node) (last : Option Breach) → s ≡ scene_of w → ns ≡ nodes w → None ≡ noted w None (list_breaches ns)
+    → last ≡ noted w (noted w None (other_breaches s)) (map (λ c. breach 39 (place_in c c.at)) (too_many s)) → last ≡ first_broken w
+told_over w s ns last same is none told =
+    told_by_others w ns (noted w None (other_breaches (scene_of w))) last is none refl
+    (told ∙ ap (λ t. noted w (noted w None (other_breaches t)) (map (λ c. breach 39 (place_in c c.at)) (too_many t))) same)
+
+-- want of memory is an answer
+pub memory_answers : (w : World) (r : Result Interface RuleFault) → IsErrAnd r (λ e. e ≡ faults.Memory) → Answers w r
+memory_answers w (Ok i) h = absurd h
+memory_answers w (Err f) h = subst (λ (e : RuleFault). Answers w (Err e)) (sym h) tt
