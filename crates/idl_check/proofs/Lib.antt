@@ -43,3 +43,4 @@ pub mod Numbered
 pub mod NeededNodes
 pub mod Counted
 pub mod CountedNodes
+pub mod CountedLabels

@@ -121,11 +121,11 @@ declarator_nodes list index (d ∷ ds) = DeclaratorNode list index d ∷ declara
 
 -- ## Labels
 
-abbrev arm_label : Label → ArmLabel
+abbrev pub arm_label : Label → ArmLabel
 arm_label (tree.Value at e) = record { at = at; value = Some e }
 arm_label (tree.Default at) = record { at = at; value = None }
 
-abbrev labels_said : ℕ → AttributeKind → List ArmLabel
+abbrev pub labels_said : ℕ → AttributeKind → List ArmLabel
 labels_said at (tree.Case values) = map (λ e. record { at = at; value = Some e }) values
 labels_said at tree.Default = record { at = at; value = None } ∷ []
 labels_said at _ = []
