@@ -152,10 +152,7 @@ parameters_of lists limit (node.Attributes c) = attributes_no_parameter limit (s
 parameters_of lists limit (node.Enumerators c list) = enumerators_no_parameter limit (seen_construct c) (map seen_enumerator list.now)
 parameters_of lists limit (node.Labels c body) = labels_no_parameter limit (seen_construct c) (seen_type body.now) [] (labels_of (seen_type body.now))
 parameters_of lists limit (node.Operation it p) = append-nil (drop limit (map (λ q. q.construct) (list_at lists p)))
-parameters_of lists limit _ = no_parameter limit where
-  no_parameter : (limit : ℕ) → drop limit [] ++ [] ≡ []
-  no_parameter zero = refl
-  no_parameter (suc limit) = refl
+parameters_of lists limit _ = ap (λ (l : List Construct). l ++ []) (drop_none limit [] refl)
 
 -- ## All
 
