@@ -29,7 +29,7 @@ use Rattle.idl_check.specs.SeenTypes.{scene_seen}
 use Rattle.idl_check.specs.SeenNumbers.{seen_own, seen_needed, AreNumbers}
 use Rattle.idl_check.specs.SeenCounts.{one_too_many, operations_at, parameters_at, parts_at}
 use Rattle.idl_check.proofs.Noted.{noted_more}
-use Rattle.idl_check.proofs.Counted.{drop_none}
+use Rattle.idl_check.proofs.Passes.{drop_none}
 
 -- ## Parameters of one operation
 

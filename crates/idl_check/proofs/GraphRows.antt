@@ -1,13 +1,8 @@
 -- One more node of a graph.
-use Rattle.std.proofs.Common.{◌≡◌, ℕ, suc, ◌≤◌, ◌-◌, ◌+◌, List, [], ◌∷◌, ◌++◌, length, take, drop, Result, Ok, Err, refl, sym, ap, ◌∙◌, arith}
-use Rattle.std.specs.Result.{OnErr}
+use Rattle.std.proofs.Common.{◌≡◌, ℕ, suc, ◌≤◌, ◌-◌, ◌+◌, List, [], ◌∷◌, ◌++◌, length, take, drop, refl, sym, ap, ◌∙◌, arith}
 use Rattle.std.proofs.lemmas.List.{map_push, drop-append-le, take-append-le, length-drop, length-append, drop_at, take_all}
 use Rattle.idl_check.specs.declared.graph.Span.{Span}
 use Rattle.idl_check.specs.GraphRows.{row_at, rows_of, IsSpan, AreSpans}
-
-pub on_err : {T E : Type 0} {Q : Type 0} (r : Result T E) → Q → OnErr r Q
-on_err (Ok x) q = tt
-on_err (Err e) q = q
 
 same_row : (parts more : List ℕ) (span : Span) → IsSpan parts span → row_at (parts ++ more) span ≡ row_at parts span
 same_row parts more span is =

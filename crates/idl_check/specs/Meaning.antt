@@ -218,23 +218,23 @@ operations_of s = flat_map (λ n. operation_in s n.names n.node) s.nodes
 -- ## The header
 
 -- the number of a UUID's digits, behind those of n
-abbrev uuid_from : ℕ → List ℕ → ℕ
+abbrev pub uuid_from : ℕ → List ℕ → ℕ
 uuid_from n [] = n
 uuid_from n (c ∷ cs) = elim (eqb c 45) [ true ↦ uuid_from n cs | false ↦ uuid_from (16 * n + digit_value c) cs ]
 
-abbrev uuid_said : AttributeKind → Option ℕ
+abbrev pub uuid_said : AttributeKind → Option ℕ
 uuid_said (tree.Uuid u) = Some (uuid_from 0 u.octets)
 uuid_said _ = None
 
-abbrev or_none : Option ℕ → ℕ
+abbrev pub or_none : Option ℕ → ℕ
 or_none (Some n) = n
 or_none None = 0
 
-abbrev major_said : AttributeKind → Option ℕ
+abbrev pub major_said : AttributeKind → Option ℕ
 major_said (tree.Version major minor) = number_of major.octets
 major_said _ = None
 
-abbrev minor_said : AttributeKind → Option ℕ
+abbrev pub minor_said : AttributeKind → Option ℕ
 minor_said (tree.Version major None) = Some 0
 minor_said (tree.Version major (Some minor)) = number_of minor.octets
 minor_said _ = None

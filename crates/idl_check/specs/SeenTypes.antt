@@ -19,7 +19,7 @@ use Rattle.idl_check.specs.Nodes.{Declared, Node}
 use Rattle.idl_check.specs.SeenNodes.{seen_construct, seen_declared, seen_result, list_at, seen_node, seen_nodes}
 use Rattle.idl_check.specs.Types.{IdlType, Names, declared_type, type_of, switch_type, type_of_tag}
 use Rattle.idl_check.specs.Scene.{Scene, Scoped, scoped_from, names_behind, Body, bodies, body_of, place_of, type_of_body, is_nonencapsulated_body, parts_of, tag_type, Use, use_of}
-use Rattle.idl_check.specs.VariableRules.{is_right_variable, variables, may_be_switched, has_wrong_variable}
+use Rattle.idl_check.specs.VariableRules.{is_right_variable, variables, may_be_switched, has_no_variable, has_wrong_variable}
 use Rattle.idl_check.specs.Kinds.{type_at}
 use Rattle.idl_check.specs.Places.{found_place}
 
@@ -56,6 +56,7 @@ has_wrong_switch_variable s u = list_any (λ v. not (is_right_variable s u may_b
 pub record IsTypedUse (s : Scene) (ks : List Kind) (u : Use) (t : Typed) : Type 0 where
   pub declared_as : type_at ks t.declared_as ≡ u.declared_as
   pub of : type_at ks t.of ≡ u.type
+  pub no_variable : t.no_variable ≡ has_no_variable u
   pub wrong_variable : t.wrong_variable ≡ has_wrong_variable s u
   pub wrong_switch_variable : t.wrong_switch_variable ≡ has_wrong_switch_variable s u
 

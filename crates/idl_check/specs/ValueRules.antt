@@ -30,7 +30,7 @@ is_large_enumerator known name = not (is_small (number_of known name.octets))
 
 -- Rule 15: a lower bound is 0.
 
-abbrev has_lower_bound : Known → Option Bound → Bool
+abbrev pub has_lower_bound : Known → Option Bound → Bool
 has_lower_bound known (Some (tree.From e)) = not (int_eq (value_in known e) (pos 0))
 has_lower_bound known (Some (tree.Between e f)) = not (int_eq (value_in known e) (pos 0))
 has_lower_bound known _ = false
@@ -67,15 +67,15 @@ is_bad_label s tag before l = not (is_label_of s tag (label_value s.known l)) ||
 
 -- Rule 38: a constant's value is in its type's range; a string has type `char *`, and NULL has `void *`.
 
-abbrev is_char : IdlType → Bool
+abbrev pub is_char : IdlType → Bool
 is_char (Basic primitive.Char) = true
 is_char _ = false
 
-abbrev holds : IdlType → ℤ → Bool
+abbrev pub holds : IdlType → ℤ → Bool
 holds (Basic p) z = in_range p z
 holds t z = false
 
-abbrev is_right_constant : Known → IdlType → Bool → Init → Bool
+abbrev pub is_right_constant : Known → IdlType → Bool → Init → Bool
 is_right_constant known t star (tree.Text text) = star && is_char t
 is_right_constant known t star (tree.Null at) = star && is_void t
 is_right_constant known t star (tree.Value e) = not star && holds t (value_in known e)
@@ -85,7 +85,7 @@ is_wrong_constant known type star value = not (is_right_constant known (simple_t
 
 -- Rule 6, of constants: `void` is only the type of NULL.
 
-abbrev is_null : Init → Bool
+abbrev pub is_null : Init → Bool
 is_null (tree.Null at) = true
 is_null _ = false
 

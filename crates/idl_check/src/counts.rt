@@ -18,8 +18,8 @@ ghost use Rattle.idl_check.specs.Nodes as of_rules;
 ghost use Rattle.idl_grammar.specs.Reading.{cases_of, arms_of};
 ghost use Rattle.idl_grammar.specs.Seen.{seen_attribute, seen_kind, seen_arm, seen_case, seen_type};
 
-use crate::attributes::attribute_list;
 use crate::finder::Finder;
+use crate::labels::arm_attributes;
 use crate::nodes::{Construct, Declared, Node, Nodes, Position};
 use crate::numbering::{Numbers, Own};
 use idl_grammar::{Arm, Attribute, AttributeKind, Case, TypeSpec};
@@ -146,16 +146,6 @@ fn labels_in(finder: &mut Finder<'_>, construct: &Construct<'_>, attributes: &[A
         left = pass(finder, construct, labels_said(attribute), left);
     }
     left
-}
-
-/// The attributes of an arm.
-fn arm_attributes(arm: &Arm) -> &[Attribute]
-    ensures { map seen_attribute result.now ≡ of_rules.arm_attributes (seen_arm arm.now) }
-{
-    match arm {
-        Arm::Empty { attributes, .. } => attribute_list(attributes),
-        Arm::Typed { attributes, .. } => attribute_list(attributes),
-    }
 }
 
 /// Notes a construct if arms have more labels than may come, and gives how many may come behind them.

@@ -8,8 +8,9 @@ ghost use Rattle.std.specs.Result.{OnErr, OnOk};
 ghost use Rattle.idl_check.specs.Graph.{parts_at};
 
 pub(crate) use cycles::least_key;
+use nd_base::Memory;
 pub(crate) use rounds::{Rule, properties};
-use std::alloc::{AllocError, Global};
+use std::alloc::Global;
 use std::marker::Model;
 
 /// Where the parts of a node stand.
@@ -56,14 +57,16 @@ impl Graph {
     }
 
     /// Adds the next node, of these parts.
-    pub(crate) fn push(&mut self, parts: &[u32]) -> Result<(), AllocError>
+    pub(crate) fn push(&mut self, parts: &[u32]) -> Result<(), Memory>
         ensures ok { OnOk result (self.new ≡ self.old ++ parts.now ∷ []) }
         ensures err { OnErr result (self.new ≡ self.old) }
     {
         let start = self.parts.len();
         self.parts.extend_from_slice(parts)?;
         let end = self.parts.len();
-        self.spans.push(Span { start, end })?;
+        let Ok(()) = self.spans.push(Span { start, end }) else {
+            return Err(Memory);
+        };
         Ok(())
     }
 

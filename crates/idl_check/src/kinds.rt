@@ -103,7 +103,7 @@ fn primitive_number(of: Primitive) -> u8
 }
 
 /// A number of 32 bits. There is no memory for more types.
-fn narrow(number: usize) -> Result<u32, Memory>
+pub(crate) fn narrow(number: usize) -> Result<u32, Memory>
     ensures { IfOk result (λ n. n ≡ number) }
 {
     match u32::try_from(number) {

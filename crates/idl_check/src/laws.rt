@@ -1,5 +1,11 @@
 //! Laws over the definitions, and worked examples.
 
+ghost use Rattle.idl_check.specs.Noted.{of_lists, of_others};
+ghost use Rattle.std.specs.Prelude.{◌++◌};
+ghost use Rattle.idl_check.specs.ListBreaches.{list_breaches};
+ghost use Rattle.idl_check.specs.OtherBreaches.{other_breaches};
+ghost use Rattle.idl_check.specs.CountRules.{too_many};
+ghost use Rattle.idl_check.specs.Nodes.{place_in};
 ghost use Rattle.std.specs.Prelude.{◌≡◌, ℕ, ◌≤◌, [], ◌∷◌, length, map, Ok, Err};
 ghost use Rattle.nd_types.specs.declared.TheConstants.{TYPE_LIMIT};
 ghost use Rattle.nd_base.specs.declared.octets.Place.{Place};
@@ -75,4 +81,10 @@ pub fn meaning_is_legal()
     ensures meanings { (w : World) → first_broken w ≡ None → All (λ m. IsLegal m.types m.operations) (meaning w) }
     ensures sum { IsLegal sum_meant.types sum_meant.operations }
     ensures directory { IsLegal directory_meant.types directory_meant.operations }
+{}
+
+/// The breaches of files are those of the rules on attribute lists, and the others.
+pub fn breaches_are_in_two()
+    ensures lists { (s : Scene) → of_lists (breaches_in s) ≡ list_breaches (map (λ n. n.node) s.nodes) }
+    ensures others { (s : Scene) → of_others (breaches_in s) ≡ other_breaches s ++ map (λ c. breach 39 (place_in c c.at)) (too_many s) }
 {}

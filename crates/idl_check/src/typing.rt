@@ -9,9 +9,10 @@ ghost use Rattle.idl_check.specs.Kinds.{seen_class, type_at, Stands, Keeps};
 ghost use Rattle.idl_check.specs.SeenNames.{seen_names, are_within};
 ghost use Rattle.idl_check.specs.SeenNodes.{seen_position, seen_construct, seen_declared};
 
+use crate::attributes::class_in;
 use crate::kinds::{Class, Kind, Kinds};
 use crate::nodes::{Construct, Declared, Position};
-use crate::said::{class_in, has_context_handle, has_length, has_size, has_string};
+use crate::words::{Word, has, has_length, has_size};
 use crate::written::written;
 use idl_grammar::{Attribute, Bound, Declarator, Expr, PointerClass};
 use idl_names::{Scope, Table, value};
@@ -145,7 +146,7 @@ fn with_declarator(
 fn is_context_handle(kinds: &Kinds, declared: &Declared, of: u32) -> bool
     ensures { result ≡ types.is_context_handle (seen_declared declared.now) (type_at kinds.now of) }
 {
-    has_context_handle(declared.construct.attributes)
+    has(declared.construct.attributes, Word::ContextHandle)
         && declared.declarator.stars.len() == 1
         && declared.declarator.dimensions.is_empty()
         && is_void(kinds, of)
@@ -195,7 +196,11 @@ pub(crate) fn declared_type(
         let number = kinds.add(Kind::ContextHandle)?;
         return Ok(number);
     }
-    let Declared { construct, declarator, .. } = declared;
+    let Declared {
+        construct,
+        declarator,
+        ..
+    } = declared;
     let number = with_declarator(scope, kinds, construct, declarator, before)?;
     Ok(number)
 }
@@ -245,7 +250,7 @@ fn pointee_with(kinds: &mut Kinds, attributes: &[Attribute], of: u32) -> Result<
     ensures stands { IfOk result (λ n. Stands kinds.new n (types.pointee_with (map seen_attribute attributes.now) (type_at kinds.old of))) }
     ensures keeps { Keeps kinds.old kinds.new }
 {
-    if has_string(attributes) {
+    if has(attributes, Word::String) {
         return text_of(kinds, of);
     }
     if has_size(attributes) {
@@ -255,12 +260,18 @@ fn pointee_with(kinds: &mut Kinds, attributes: &[Attribute], of: u32) -> Result<
 }
 
 /// An array with attributes.
-fn array_with(kinds: &mut Kinds, attributes: &[Attribute], element: u32, count: Option<i128>, varying: bool) -> Result<u32, Memory>
+fn array_with(
+    kinds: &mut Kinds,
+    attributes: &[Attribute],
+    element: u32,
+    count: Option<i128>,
+    varying: bool,
+) -> Result<u32, Memory>
     requires { element < length kinds.old }
     ensures stands { IfOk result (λ n. Stands kinds.new n (types.array_with (map seen_attribute attributes.now) (type_at kinds.old element) count varying)) }
     ensures keeps { Keeps kinds.old kinds.new }
 {
-    if has_string(attributes) {
+    if has(attributes, Word::String) {
         let number = kinds.add(Kind::Text { element, count })?;
         return Ok(number);
     }
@@ -282,7 +293,12 @@ fn class_or(class: Option<PointerClass>, other: Class) -> Class
 }
 
 /// A pointer with attributes.
-fn pointer_with(kinds: &mut Kinds, attributes: &[Attribute], class: Class, to: u32) -> Result<u32, Memory>
+fn pointer_with(
+    kinds: &mut Kinds,
+    attributes: &[Attribute],
+    class: Class,
+    to: u32,
+) -> Result<u32, Memory>
     requires { to < length kinds.old }
     ensures stands { IfOk result (λ n. Stands kinds.new n (types.with_attributes (map seen_attribute attributes.now) (Pointer (seen_class class) (type_at kinds.old to)))) }
     ensures keeps { Keeps kinds.old kinds.new }
@@ -294,14 +310,22 @@ fn pointer_with(kinds: &mut Kinds, attributes: &[Attribute], class: Class, to: u
 }
 
 /// A type with the attributes of its declarator.
-pub(crate) fn with_attributes(kinds: &mut Kinds, attributes: &[Attribute], of: u32) -> Result<u32, Memory>
+pub(crate) fn with_attributes(
+    kinds: &mut Kinds,
+    attributes: &[Attribute],
+    of: u32,
+) -> Result<u32, Memory>
     requires { of < length kinds.old }
     ensures stands { IfOk result (λ n. Stands kinds.new n (types.with_attributes (map seen_attribute attributes.now) (type_at kinds.old of))) }
     ensures keeps { Keeps kinds.old kinds.new }
 {
     match kinds.kind(of) {
         Kind::Pointer { class, to } => pointer_with(kinds, attributes, class, to),
-        Kind::Array { element, count, varying } => array_with(kinds, attributes, element, count, varying),
+        Kind::Array {
+            element,
+            count,
+            varying,
+        } => array_with(kinds, attributes, element, count, varying),
         _ => Ok(of),
     }
 }

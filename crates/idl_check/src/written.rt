@@ -29,7 +29,8 @@ fn integer_primitive(unsigned: bool, width: Width) -> Primitive
     }
 }
 
-fn simple_kind(of: SimpleType) -> Kind
+/// A type without parts, as a kind.
+pub(crate) fn simple_kind(of: SimpleType) -> Kind
     ensures seen { (ts : List IdlType) → type_by ts result ≡ types.simple_type of }
     ensures inside { (n : ℕ) → is_inside n result ≡ true }
 {
@@ -158,7 +159,11 @@ pub(crate) fn written(
     match of {
         TypeSpec::Simple(of) => simple(kinds, *of),
         TypeSpec::Name(name) => named(kinds, names, name),
-        TypeSpec::Tag { kind, tag: name, .. } => tag(scope, kinds, file, *kind, name),
+        TypeSpec::Tag {
+            kind,
+            tag: name,
+            ..
+        } => tag(scope, kinds, file, *kind, name),
         TypeSpec::Struct { at, tag, .. } => body(kinds, file, TagKind::Struct, *at, tag),
         TypeSpec::EncapsulatedUnion { at, tag, .. } => body(kinds, file, TagKind::Union, *at, tag),
         TypeSpec::NonEncapsulatedUnion { at, tag, .. } => {

@@ -171,6 +171,7 @@ module _ (held : Option (List ℕ → Option (List ℕ))) (file : ℕ) where
     where
       same_fault : {g n : NameFault} → ◌≡◌ {A = Result Known NameFault} (Err g) (Err n) → g ≡ n
       same_fault p = cc
+
       by : (r : Result Known NameFault) → passed file s.known x ≡ r
           → ((k : Known) → walked file k steps ≡ Err f → Walk held (with_known s k) (map (Pass file) steps ++ rest) (Stopped s.sources f))
           → then r (λ next. walked file next steps) ≡ Err f
@@ -230,6 +231,7 @@ steps_went {A} p file steps after (Err f) few h = by (is_memory f) refl
   where
     goal : NameFault → Type 0
     goal g = Went {A = A} p (map (Pass file) steps) (at_state p (with_known p.state after)) [] (Err g)
+
     by : (b : Bool) → is_memory f ≡ b → Went {A = A} p (map (Pass file) steps) (at_state p (with_known p.state after)) [] (Err f)
     by true is = subst (λ (g : NameFault). Went {A = A} p (map (Pass file) steps) (at_state p (with_known p.state after)) [] (Err g)) (sym (is_memory_is f is))
         (stops p (at_state p (with_known p.state after)) (map (Pass file) steps) fault.Memory (λ rest. walk.short p.state (map (Pass file) steps ++ rest)) refl tt tt (omega arith) (omega arith) (omega arith) few)

@@ -5,5 +5,6 @@ pub mod Walked
 pub mod Going
 pub mod Spelled
 pub mod Loads
+pub mod Once
 pub mod Lists
 pub mod Rests

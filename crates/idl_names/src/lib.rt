@@ -4,6 +4,8 @@
 mod declarations;
 mod expression;
 mod fault;
+#[cfg(test)]
+mod import_tests;
 mod known;
 pub mod laws;
 mod loading;
@@ -26,8 +28,8 @@ mod whole;
 
 pub use expression::{Names, evaluate, value, value_of};
 pub use fault::{ConstFault, ExpressionFault, ValueFault};
-pub use meaning::Meaning;
 pub use idl_parser::SyntaxFault;
+pub use meaning::Meaning;
 pub use name_fault::NameFault;
 pub use resolving::resolve;
 pub use scope::{FileTree, FileTrees, Scope};

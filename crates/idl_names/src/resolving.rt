@@ -52,7 +52,10 @@ fn import<F: Files>(
         (load_of file string.now ∷ [])
         (point (F.held files.new) (F.absences files.new) (F.faults files.new) (seen_scope sources.new scope.new)) [] result }
 {
-    let place = Place { file, at: string.at };
+    let place = Place {
+        file,
+        at: string.at,
+    };
     let name = file_named(alloc, string.octets.as_slice())?;
     match sources.number(name.as_str()) {
         Some(number) if has_ended(&scope.files, number) => Ok(()),
@@ -160,7 +163,13 @@ pub fn resolve<F: Files>(
         files: FileTrees::new(alloc),
         names: NameTables::new(alloc),
     };
-    whole(alloc, files, sources, &mut scope, FileTree { file: 0, tree })?;
+    whole(
+        alloc,
+        files,
+        sources,
+        &mut scope,
+        FileTree { file: 0, tree },
+    )?;
     match scope.names.first_undefined() {
         None => Ok(scope),
         Some(place) => Err(NameFault::Unknown { place }),

@@ -5,7 +5,7 @@ ghost use Rattle.idl_grammar.specs.Seen as seen;
 ghost use Rattle.idl_grammar.specs.Reading.{members_of, cases_of, arms_of};
 ghost use Rattle.idl_names.specs.Known.{walked};
 ghost use Rattle.idl_names.specs.Kept.{listed, IsRight};
-ghost use Rattle.idl_names.specs.Steps.{Declare, value_step, optional_attribute_steps, label_steps, tag_steps, enumerator_steps, enlisted_steps, is_pointer, declared_name, type_steps, member_steps, case_steps, arms_steps, arm_steps};
+ghost use Rattle.idl_names.specs.Steps.{optional_attribute_steps, label_steps, tag_steps, enumerator_steps, enlisted_steps, is_pointer, declared_name, type_steps, member_steps, case_steps, arms_steps, arm_steps};
 
 use crate::NameFault;
 use crate::known::NameTables;
@@ -36,7 +36,7 @@ fn enumerator(
     previous: Option<&Spelling>,
     one: &Enumerator,
 ) -> Result<(), NameFault>
-    ensures { IsRight names.new result (walked file names.old (Declare one.now.name ∷ value_step (option_map (λ s. s.now) previous.entry) one.now.name (option_map seen.seen_expr one.now.value) ∷ [])) }
+    ensures { IsRight names.new result (walked file names.old (enumerator_steps (option_map (λ s. s.now) previous.entry) (seen.seen_enumerator one.now ∷ []))) }
 {
     names.declare(file, &one.name)?;
     match &one.value {

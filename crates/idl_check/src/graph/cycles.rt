@@ -7,14 +7,11 @@ ghost use Rattle.idl_check.specs.Graph.{parts_at, contains_itself, IsLeast};
 ghost use Rattle.idl_check.specs.GraphCycles.{is_peeled_in, ArePeeled, Comes, IsReady, is_less_than};
 
 use super::Graph;
-use std::alloc::{AllocError, Global};
+use nd_base::Memory;
+use std::alloc::Global;
 
 /// The least key of a node that contains itself, where node i has key i; what has no key is not asked for.
-pub(crate) fn least_key(
-    alloc: Global,
-    graph: &Graph,
-    keys: &[u64],
-) -> Result<Option<u64>, AllocError>
+pub(crate) fn least_key(alloc: Global, graph: &Graph, keys: &[u64]) -> Result<Option<u64>, Memory>
     ensures { IfOk result (λ least. IsLeast graph.now keys.now (length keys.now) least) }
 {
     let peeled = peel(alloc, graph)?;
@@ -29,7 +26,7 @@ pub(crate) fn least_key(
 // Peeling.
 
 /// Nodes that do not contain themselves: peeled is what holds nothing but peeled nodes, in turn.
-fn peel(alloc: Global, graph: &Graph) -> Result<Vec<bool>, AllocError>
+fn peel(alloc: Global, graph: &Graph) -> Result<Vec<bool>, Memory>
     ensures { IfOk result (λ v. ArePeeled graph.now v.items) }
 {
     let mut peeled = vec![in alloc; false; graph.len()]?;
@@ -94,7 +91,7 @@ struct Search {
 
 impl Search {
     /// No search was made.
-    fn new(alloc: Global, graph: &Graph) -> Result<Search, AllocError>
+    fn new(alloc: Global, graph: &Graph) -> Result<Search, Memory>
         ensures { IfOk result (λ s. IsReady graph.now 1 s.seen.items) }
     {
         let seen = vec![in alloc; 0usize; graph.len()]?;
@@ -112,7 +109,7 @@ impl Search {
         keys: &[u64],
         node: usize,
         least: Option<u64>,
-    ) -> Result<Option<u64>, AllocError>
+    ) -> Result<Option<u64>, Memory>
         requires within { node < length keys.now }
         requires peeled { ArePeeled graph.now peeled.now }
         requires ready { IsReady graph.now (node + 1) self.old.seen.items }
@@ -131,7 +128,7 @@ impl Search {
     }
 
     /// Whether the search of this number that begins at a node comes back to it.
-    fn comes_back(&mut self, graph: &Graph, start: usize, number: usize) -> Result<bool, AllocError>
+    fn comes_back(&mut self, graph: &Graph, start: usize, number: usize) -> Result<bool, Memory>
         requires { IsReady graph.now number self.old.seen.items }
         ensures ready { OnOk result (IsReady graph.now (number + 1) self.new.seen.items) }
         ensures exact { IfOk result (λ comes. comes ≡ contains_itself graph.now start) }
@@ -159,7 +156,7 @@ impl Search {
     }
 
     /// Comes to each of these.
-    fn come_to_all(&mut self, parts: &[u32], number: usize) -> Result<(), AllocError>
+    fn come_to_all(&mut self, parts: &[u32], number: usize) -> Result<(), Memory>
         ensures { OnOk result (Comes number parts.now self.old.seen.items self.old.queue.items self.new.seen.items self.new.queue.items) }
     {
         for part in parts {
@@ -169,7 +166,7 @@ impl Search {
     }
 
     /// Comes to a node, unless this search was there or it is none.
-    fn come_to(&mut self, node: usize, number: usize) -> Result<(), AllocError>
+    fn come_to(&mut self, node: usize, number: usize) -> Result<(), Memory>
         ensures { OnOk result (Comes number (node ∷ []) self.old.seen.items self.old.queue.items self.new.seen.items self.new.queue.items) }
     {
         let Some(seen) = self.seen.get_mut(node) else {
@@ -179,7 +176,9 @@ impl Search {
             return Ok(());
         }
         *seen = number;
-        self.queue.push(node)?;
+        let Ok(()) = self.queue.push(node) else {
+            return Err(Memory);
+        };
         Ok(())
     }
 }

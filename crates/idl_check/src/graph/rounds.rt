@@ -6,7 +6,8 @@ ghost use Rattle.idl_check.specs.Graph.{parts_at, rule_at, has_by, has_within, l
 ghost use Rattle.idl_check.specs.GraphRounds.{value_in};
 
 use super::Graph;
-use std::alloc::{AllocError, Global};
+use nd_base::Memory;
+use std::alloc::Global;
 use std::mem;
 
 /// When a node has a property, from whether its parts have it.
@@ -31,7 +32,7 @@ pub(crate) fn properties(
     graph: &Graph,
     rules: &[Rule],
     rounds: usize,
-) -> Result<Vec<bool>, AllocError>
+) -> Result<Vec<bool>, Memory>
     ensures count { IfOk result (λ v. length v.items ≡ length rules.now) }
     ensures exact { IfOk result (λ v. (node : ℕ) → slice_index_or v.items node false ≡ has_within rounds graph.now rules.now node) }
 {

@@ -4,7 +4,7 @@ use Rattle.idl_check.specs.Noted.{noted}
 use Rattle.idl_check.specs.Found.{seen_breach}
 use Rattle.idl_check.specs.SeenNodes.{seen_construct}
 use Rattle.idl_check.specs.SeenCounts.{one_too_many}
-use Rattle.idl_check.proofs.Counted.{one_given, one_fewer}
+use Rattle.idl_check.proofs.Passes.{one_given, one_fewer}
 use Rattle.idl_check.proofs.CountedLabels.{in_attributes, in_attribute, attributes_cons}
 use Rattle.idl_check.proofs.counts.labels_in.Goals as goal
 

@@ -4,7 +4,7 @@ use Rattle.idl_check.specs.World.{World}
 use Rattle.idl_check.specs.Noted.{noted}
 use Rattle.idl_check.specs.Found.{seen_breach}
 use Rattle.idl_check.specs.SeenNodes.{seen_construct}
-use Rattle.idl_check.proofs.Counted.{given_left}
+use Rattle.idl_check.proofs.Passes.{given_left}
 use Rattle.idl_check.proofs.CountedLabels.{in_attributes, in_attribute, attributes_cons}
 use Rattle.idl_check.proofs.counts.labels_in.Given as goal
 

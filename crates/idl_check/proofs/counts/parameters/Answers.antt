@@ -4,7 +4,7 @@ use Rattle.idl_names.specs.Seen.{seen_files}
 use Rattle.idl_check.specs.Noted.{noted}
 use Rattle.idl_check.specs.Found.{seen_breach}
 use Rattle.idl_check.specs.SeenCounts.{one_too_many, parameters_at}
-use Rattle.idl_check.proofs.Counted.{one_counted, all_counted}
+use Rattle.idl_check.proofs.Passes.{one_counted, all_counted}
 use Rattle.idl_check.proofs.counts.parameters.Goals as goal
 
 pub loop-node-init : goal.loop-node-init

@@ -5,7 +5,7 @@ use Rattle.idl_check.specs.Noted.{noted}
 use Rattle.idl_check.specs.Found.{seen_breach}
 use Rattle.idl_check.specs.SeenNodes.{seen_construct}
 use Rattle.idl_check.specs.SeenCounts.{one_too_many}
-use Rattle.idl_check.proofs.Counted.{from}
+use Rattle.idl_check.proofs.Passes.{from}
 use Rattle.idl_check.proofs.counts.parameters_of.Given as goal
 
 -- with those that are left it comes to what all come to

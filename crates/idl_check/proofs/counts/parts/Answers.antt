@@ -1,7 +1,7 @@
 use Rattle.std.proofs.Common.{◌≡◌, ◌∙◌, option_map, ap, sym}
 use Rattle.idl_names.specs.Seen.{seen_files}
 use Rattle.idl_check.specs.SeenCounts.{parts_at}
-use Rattle.idl_check.proofs.Counted.{one_counted, all_counted}
+use Rattle.idl_check.proofs.Passes.{one_counted, all_counted}
 use Rattle.idl_check.proofs.counts.parts.Goals as goal
 
 pub loop-node-preserved : goal.loop-node-preserved

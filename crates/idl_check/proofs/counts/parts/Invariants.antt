@@ -5,7 +5,7 @@ use Rattle.idl_check.specs.World.{World}
 use Rattle.idl_check.specs.Noted.{noted}
 use Rattle.idl_check.specs.Found.{seen_breach}
 use Rattle.idl_check.specs.SeenCounts.{one_too_many, parts_at}
-use Rattle.idl_check.proofs.Counted.{too_many_left}
+use Rattle.idl_check.proofs.Passes.{too_many_left}
 use Rattle.idl_check.proofs.counts.parts.Given as goal
 
 -- with those that are left it comes to what all come to

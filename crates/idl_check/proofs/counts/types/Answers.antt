@@ -2,7 +2,7 @@ use Rattle.std.proofs.Common.{◌≡◌, ◌∙◌, option_map, ap, sym, arith}
 use Rattle.std.proofs.lemmas.Option.{slice_get-get_or, get_or_from_slice_get}
 use Rattle.idl_names.specs.Seen.{seen_files}
 use Rattle.idl_check.specs.Rules.{breach}
-use Rattle.idl_check.proofs.Counted.{one_from, none_from}
+use Rattle.idl_check.proofs.Passes.{one_from, none_from}
 use Rattle.idl_check.proofs.counts.types.Goals as goal
 
 pub loop-at-preserved : goal.loop-at-preserved

@@ -4,7 +4,7 @@ use Rattle.idl_check.specs.World.{World}
 use Rattle.idl_check.specs.Rules.{breach}
 use Rattle.idl_check.specs.Noted.{noted}
 use Rattle.idl_check.specs.Found.{seen_breach}
-use Rattle.idl_check.proofs.Counted.{from}
+use Rattle.idl_check.proofs.Passes.{from}
 use Rattle.idl_check.proofs.counts.types.Given as goal
 
 -- with those that are left it comes to what all come to

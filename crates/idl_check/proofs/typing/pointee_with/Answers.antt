@@ -10,9 +10,9 @@ use Rattle.idl_check.proofs.typing.pointee_with.Goals as goal
 plain : (attributes : List Attribute) (t : IdlType) → has string_word attributes ≡ false → has_one_of sizes attributes ≡ false → t ≡ pointee_with attributes t
 plain attributes t string size =
     sym (ap (λ b. elim b [ true ↦ text_of t | false ↦ elim (has_one_of sizes attributes) [ true ↦ sized (has_one_of lengths attributes) t | false ↦ t ] ]) string
-        ∙ ap (λ b. elim b [ true ↦ sized (has_one_of lengths attributes) t | false ↦ t ]) size)
+    ∙ ap (λ b. elim b [ true ↦ sized (has_one_of lengths attributes) t | false ↦ t ]) size)
 
 pub returns-clause-stands : goal.returns-clause-stands
 returns-clause-stands c =
     stands_within c.args.kinds.now c.args.of c.requires
-    ∙ ap Some (plain (map seen_attribute c.args.attributes.now) (type_at c.args.kinds.now c.args.of) (sym c.has_string.ensures ∙ c.if-has_string.false) (sym c.has_size.ensures ∙ c.if-has_size.false))
+    ∙ ap Some (plain (map seen_attribute c.args.attributes.now) (type_at c.args.kinds.now c.args.of) (sym c.has.ensures ∙ c.if-has.false) (sym c.has_size.ensures ∙ c.if-has_size.false))

@@ -15,7 +15,10 @@ returns-in_err-dimensions c =
     let a : List Step = Declare c.args.declarator.now.name ∷ [] in
     let b : List Step = steps.dimension_steps (seen.seen_declarator c.args.declarator.now) in
     let m : List Step = Know c.args.declarator.now.name meaning.Type ∷ [] in
-    at_fault k1 c.from_residual-in_err-dimensions.result c.in_err-dimensions.field-0.0 (walked file k (a ++ b ++ m)) (told_fault c.from_residual-in_err-dimensions.result c.in_err-dimensions.field-0.0 c.from_residual-in_err-dimensions.ensures.1) (right_stop file k ((a) ++ (b)) (m) c.in_err-dimensions.field-0.0 (later_stop file k k1 ((a)) (b) c.in_err-dimensions.field-0.0 c.in_ok-declare.ensures c.in_err-dimensions.ensures))
+    at_fault k1 c.from_residual-in_err-dimensions.result c.in_err-dimensions.field-0.0 (walked file k (a ++ b ++ m))
+    (told_fault c.from_residual-in_err-dimensions.result c.in_err-dimensions.field-0.0 c.from_residual-in_err-dimensions.ensures.1)
+    (right_stop file k (a ++ b) m c.in_err-dimensions.field-0.0
+    (later_stop file k k1 a b c.in_err-dimensions.field-0.0 c.in_ok-declare.ensures c.in_err-dimensions.ensures))
 
 pub returns : goal.returns
 returns c =
@@ -25,4 +28,4 @@ returns c =
     let a : List Step = Declare c.args.declarator.now.name ∷ [] in
     let b : List Step = steps.dimension_steps (seen.seen_declarator c.args.declarator.now) in
     let m : List Step = Know c.args.declarator.now.name meaning.Type ∷ [] in
-    right_on file k k1 c.know.new.self ((a) ++ (b)) (m) c.know.result (both_on file k k1 k1 ((a)) (b) c.in_ok-declare.ensures c.in_ok-dimensions.ensures) c.know.ensures
+    right_on file k k1 c.know.new.self (a ++ b) m c.know.result (both_on file k k1 k1 a b c.in_ok-declare.ensures c.in_ok-dimensions.ensures) c.know.ensures

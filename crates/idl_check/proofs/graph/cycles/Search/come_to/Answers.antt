@@ -8,4 +8,4 @@ pub returns : goal.returns
 returns c =
     let h : c.args.node < length c.args.self.now.seen.items = search rules in
     let n : is_marked c.args.number c.args.self.now.seen.items c.args.node ≡ false = grind (arith, common_steps) in
-    comes_first c.args.number c.args.node c.args.self.now.seen.items c.args.self.now.queue.items _ _ h n refl c.in_ok-push.ensures.items
+    comes_first c.args.number c.args.node c.args.self.now.seen.items c.args.self.now.queue.items _ _ h n refl c.in-Ok.ensures.items
