@@ -163,6 +163,13 @@ fn labels_of_arms(finder: &mut Finder<'_>, construct: &Construct<'_>, arms: &Vec
     left
 }
 
+/// How many labels a case has.
+fn labels_of_case(case: &Case) -> usize
+    ensures { result ≡ length case.now.labels.items }
+{
+    case.labels.len()
+}
+
 /// Notes a construct if cases have more labels than may come, and gives how many may come behind them.
 fn labels_of_cases(finder: &mut Finder<'_>, construct: &Construct<'_>, cases: &Vec<Case>, limit: usize) -> usize
     ensures left { result ≡ limit - length (flat_map (λ a. a.labels) (of_rules.arms_of_cases (cases_of (map seen_case cases.now.items)))) }
@@ -173,7 +180,7 @@ fn labels_of_cases(finder: &mut Finder<'_>, construct: &Construct<'_>, cases: &V
 {
     let mut left = limit;
     for case in cases {
-        left = pass(finder, construct, case.labels.len(), left);
+        left = pass(finder, construct, labels_of_case(case), left);
     }
     left
 }
