@@ -1,10 +1,9 @@
 -- What rule 39 counts, by the nodes of the program.
-use Rattle.std.proofs.Common.{◌≡◌, ◌∙◌, ℕ, zero, suc, List, [], ◌∷◌, ◌++◌, Option, Some, None, drop, map, length, replicate, option_map, append-nil, refl, ap, ap₂, sym, Vec}
+use Rattle.std.proofs.Common.{◌≡◌, ◌∙◌, ℕ, zero, suc, List, [], ◌∷◌, ◌++◌, Option, Some, drop, map, length, replicate, append-nil, refl, ap, ap₂, sym, Vec}
 use Rattle.std.specs.List.{flat_map}
 use Rattle.std.proofs.lemmas.List.Concat.{flat_map-cons}
 use Rattle.std.proofs.lemmas.Grind.{flat_map-append}
 use Rattle.std.proofs.lemmas.List.{map-append}
-use Rattle.nd_base.specs.declared.octets.Place.{Place}
 use Rattle.idl_grammar.specs.Tree.{Attribute, TypeSpec, Enumerator}
 use Rattle.idl_grammar.specs.Seen.{seen_type, seen_enumerator}
 use Rattle.idl_names.specs.Known.{Known}
@@ -18,10 +17,10 @@ use Rattle.idl_check.specs.declared.nodes.Node.TheVariants as node
 use Rattle.idl_check.specs.declared.nodes.Nodes as program_nodes
 use Rattle.idl_check.specs.World.{World}
 use Rattle.idl_check.specs.Noted.{noted}
-use Rattle.idl_check.specs.Nodes.{Construct, Position, InMember, Node, AttributeNode, EnumeratorNode, LabelNode, ArmLabel, attribute_nodes_from, label_nodes, labels_of, place_in}
+use Rattle.idl_check.specs.Nodes.{Construct, Position, InMember, Node, AttributeNode, EnumeratorNode, LabelNode, ArmLabel, attribute_nodes_from, label_nodes, labels_of}
 use Rattle.idl_check.specs.Rules.{Breach, breach}
 use Rattle.idl_check.specs.Types.{Names}
-use Rattle.idl_check.specs.Scene.{Scene, Scoped, scoped_from, names_behind}
+use Rattle.idl_check.specs.Scene.{Scene, scoped_from, names_behind}
 use Rattle.idl_check.specs.Numbering.{Needed, own_types}
 use Rattle.idl_check.specs.CountRules.{operation_in, parameters_in, member_of, part_in}
 use Rattle.idl_check.specs.SeenNodes.{seen_construct, seen_declared, seen_result, seen_node, seen_nodes, list_found, list_at, or_empty}

@@ -1,10 +1,9 @@
 -- What is one too many, noted one by one.
-use Rattle.std.proofs.Common.{◌≡◌, ◌∙◌, ℕ, zero, suc, ◌+◌, ◌-◌, ◌<◌, ◌≤◌, Bool, true, false, ltb, List, [], ◌∷◌, ◌++◌, Option, Some, None, drop, map, length, replicate, get_or, refl, ap, sym, arith, true≢false, append-nil}
+use Rattle.std.proofs.Common.{◌≡◌, ◌∙◌, ℕ, zero, suc, ◌+◌, ◌-◌, ◌<◌, ◌≤◌, Bool, true, false, ltb, List, [], ◌∷◌, ◌++◌, Option, Some, None, drop, map, length, replicate, get_or, refl, ap, sym, arith}
 use Rattle.std.specs.List.{flat_map}
 use Rattle.std.proofs.lemmas.List.{drop_more, drop_all, map-append, length-replicate, replicate-append-replicate}
 use Rattle.std.proofs.lemmas.List.Concat.{flat_map-cons}
 use Rattle.std.proofs.lemmas.Bool.Decides.{nat_tests}
-use Rattle.nd_base.specs.declared.octets.Place.{Place}
 use Rattle.idl_check.specs.World.{World}
 use Rattle.idl_check.specs.Nodes.{Construct, place_in}
 use Rattle.idl_check.specs.Rules.{Breach, breach}
@@ -140,13 +139,3 @@ module _ {X : Type 0} (all : List X → ℕ) (one : X → ℕ) (cons : (x : X) (
 
   pub one_fewer : (left behind i whole : ℕ) (x : X) → i < length xs → x ≡ get_or xs i x → behind ≡ left - one x → left - all (drop i xs) ≡ whole → behind - all (drop (i + 1) xs) ≡ whole
   one_fewer left behind i whole x below is b h = let e = all_is i x below is in omega (arith, b, h, e)
-
-  none_is : (i : ℕ) → length xs ≤ i → all [] ≡ 0 → all (drop i xs) ≡ 0
-  none_is i past none = ap all (drop_all i xs past) ∙ none
-
-  pub all_given : (w : World) (left i : ℕ) (first whole : Option Breach) → length xs ≤ i → all [] ≡ 0 → noted w first (given_left left i) ≡ whole → first ≡ whole
-  all_given w left i first whole past none h =
-      sym (ap (λ l. noted w first (map one_too_many l)) (drop_none left (replicate (all (drop i xs)) c) (ap (λ (k : ℕ). replicate k c) (none_is i past none)))) ∙ h
-
-  pub none_fewer : (left i whole : ℕ) → length xs ≤ i → all [] ≡ 0 → left - all (drop i xs) ≡ whole → left ≡ whole
-  none_fewer left i whole past none h = let e = none_is i past none in omega (arith, h, e)

@@ -1,4 +1,4 @@
-use Rattle.std.proofs.Common.{◌≡◌, ◌∙◌, ◌-◌, map, drop, length, replicate, option_map, ap, sym}
+use Rattle.std.proofs.Common.{◌∙◌, ◌-◌, map, drop, length, replicate, option_map, ap, sym}
 use Rattle.idl_grammar.specs.Seen.{seen_type}
 use Rattle.idl_grammar.proofs.Rows.{cases_are, arms_are}
 use Rattle.idl_check.specs.Nodes.{labels_of}

@@ -1,4 +1,4 @@
-use Rattle.std.proofs.Common.{◌≡◌, ◌∙◌, ℕ, ◌-◌, map, drop, replicate, option_map, ap, sym}
+use Rattle.std.proofs.Common.{◌∙◌, ℕ, ◌-◌, map, drop, replicate, option_map, ap, sym}
 use Rattle.idl_names.specs.Seen.{seen_files}
 use Rattle.idl_check.specs.Noted.{noted}
 use Rattle.idl_check.specs.Found.{seen_breach}

@@ -1,4 +1,4 @@
-use Rattle.std.proofs.Common.{◌≡◌, ◌∙◌, ◌-◌, map, drop, length, replicate, option_map, ap, sym}
+use Rattle.std.proofs.Common.{◌∙◌, ◌-◌, map, drop, length, replicate, option_map, ap, sym}
 use Rattle.idl_names.specs.Seen.{seen_files}
 use Rattle.idl_check.specs.Nodes.{labels_in}
 use Rattle.idl_check.specs.Noted.{noted}

@@ -1,4 +1,4 @@
-use Rattle.std.proofs.Common.{◌≡◌, ◌∙◌, map, drop, option_map, refl, ap, sym}
+use Rattle.std.proofs.Common.{◌∙◌, map, drop, option_map, refl, ap, sym}
 use Rattle.idl_check.specs.Noted.{noted}
 use Rattle.idl_check.specs.Found.{seen_breach}
 use Rattle.idl_check.specs.SeenNodes.{seen_construct, seen_result}

@@ -1,4 +1,4 @@
-use Rattle.std.proofs.Common.{◌≡◌, ◌∙◌, ◌-◌, map, drop, length, option_map, ap, sym}
+use Rattle.std.proofs.Common.{◌∙◌, ◌-◌, map, drop, length, option_map, ap, sym}
 use Rattle.std.specs.List.{flat_map}
 use Rattle.nd_types.specs.declared.TheConstants.{TYPE_LIMIT, OPERATION_LIMIT, PARAM_LIMIT, MEMBER_LIMIT}
 use Rattle.nd_types.specs.Kinds.{basic_types}
