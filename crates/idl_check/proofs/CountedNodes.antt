@@ -166,8 +166,8 @@ four : (w : World) (a b c d : List Construct) (zeroth first second third fourth 
     → fourth ≡ noted w zeroth (map one_too_many (a ++ b ++ c ++ d))
 four w a b c d zeroth first second third fourth e f g h =
     h ∙ ap (λ o. noted w o (map one_too_many d)) (g ∙ ap (λ o. noted w o (map one_too_many c)) (f ∙ ap (λ o. noted w o (map one_too_many b)) e ∙ both a b) ∙ both (a ++ b) c) ∙ both (a ++ b ++ c) d where
-  both : (l k : List Construct) → noted w (noted w zeroth (map one_too_many l)) (map one_too_many k) ≡ noted w zeroth (map one_too_many (l ++ k))
-  both l k = sym (noted_more w zeroth (map one_too_many l) (map one_too_many k)) ∙ ap (noted w zeroth) (sym (map-append one_too_many l k))
+      both : (l k : List Construct) → noted w (noted w zeroth (map one_too_many l)) (map one_too_many k) ≡ noted w zeroth (map one_too_many (l ++ k))
+      both l k = sym (noted_more w zeroth (map one_too_many l) (map one_too_many k)) ∙ ap (noted w zeroth) (sym (map-append one_too_many l k))
 
 pub all_too_many : (w : World) (known : Known) (ks : List Kind) (n : program_nodes.Nodes) (t : Numbers) (types operations parameters parts : ℕ) (zeroth first second third fourth : Option Breach)
     → AreNumbers (scene_seen known n) ks t

@@ -134,7 +134,12 @@ fn labels_said(attribute: &Attribute) -> usize
 }
 
 /// Notes a construct if attributes give more labels than may come, and gives how many may come behind them.
-fn labels_in(finder: &mut Finder<'_>, construct: &Construct<'_>, attributes: &[Attribute], limit: usize) -> usize
+fn labels_in(
+    finder: &mut Finder<'_>,
+    construct: &Construct<'_>,
+    attributes: &[Attribute],
+    limit: usize,
+) -> usize
     ensures left { result ≡ limit - length (of_rules.labels_in (map seen_attribute attributes.now)) }
     ensures files { finder.new.files.now ≡ finder.old.files.now }
     ensures first { (w : World) → w.files ≡ seen_files finder.old.files.now
@@ -149,7 +154,12 @@ fn labels_in(finder: &mut Finder<'_>, construct: &Construct<'_>, attributes: &[A
 }
 
 /// Notes a construct if arms have more labels than may come, and gives how many may come behind them.
-fn labels_of_arms(finder: &mut Finder<'_>, construct: &Construct<'_>, arms: &Vec<Arm>, limit: usize) -> usize
+fn labels_of_arms(
+    finder: &mut Finder<'_>,
+    construct: &Construct<'_>,
+    arms: &Vec<Arm>,
+    limit: usize,
+) -> usize
     ensures left { result ≡ limit - length (flat_map (λ a. a.labels) (of_rules.arms_of_arms (arms_of (map seen_arm arms.now.items)))) }
     ensures files { finder.new.files.now ≡ finder.old.files.now }
     ensures first { (w : World) → w.files ≡ seen_files finder.old.files.now
@@ -171,7 +181,12 @@ fn labels_of_case(case: &Case) -> usize
 }
 
 /// Notes a construct if cases have more labels than may come, and gives how many may come behind them.
-fn labels_of_cases(finder: &mut Finder<'_>, construct: &Construct<'_>, cases: &Vec<Case>, limit: usize) -> usize
+fn labels_of_cases(
+    finder: &mut Finder<'_>,
+    construct: &Construct<'_>,
+    cases: &Vec<Case>,
+    limit: usize,
+) -> usize
     ensures left { result ≡ limit - length (flat_map (λ a. a.labels) (of_rules.arms_of_cases (cases_of (map seen_case cases.now.items)))) }
     ensures files { finder.new.files.now ≡ finder.old.files.now }
     ensures first { (w : World) → w.files ≡ seen_files finder.old.files.now
@@ -194,8 +209,12 @@ fn labels(finder: &mut Finder<'_>, construct: &Construct<'_>, body: &TypeSpec, l
         ≡ noted w (option_map seen_breach finder.old.first) (map one_too_many (drop left (replicate (length (of_rules.labels_of (seen_type body.now))) (seen_construct construct.now)))) }
 {
     match body {
-        TypeSpec::EncapsulatedUnion { cases, .. } => labels_of_cases(finder, construct, cases, left),
-        TypeSpec::NonEncapsulatedUnion { arms, .. } => labels_of_arms(finder, construct, arms, left),
+        TypeSpec::EncapsulatedUnion { cases, .. } => labels_of_cases(
+            finder, construct, cases, left,
+        ),
+        TypeSpec::NonEncapsulatedUnion { arms, .. } => labels_of_arms(
+            finder, construct, arms, left,
+        ),
         _ => left,
     }
 }

@@ -12,8 +12,7 @@ pub loop-attribute-preserved : goal.loop-attribute-preserved
 loop-attribute-preserved c =
     let k = seen_construct c.args.construct.now in
     let l = c.loop-attribute in
-    let fewer = c.pass-left.ensures.left ∙ ap (λ (n : ℕ). l.left - n) c.labels_said.ensures in
-    (
+    let fewer = c.pass-left.ensures.left ∙ ap (λ (n : ℕ). l.left - n) c.labels_said.ensures in (
       c.pass-left.ensures.files ∙ l.invariant.0,
       one_fewer in_attributes in_attribute attributes_cons c.args.attributes.now k l.left _ l.attribute-index _ c.attribute-item.result c.loop-attribute-test.true c.attribute-item.is fewer l.invariant.1,
       (λ w files. one_given in_attributes in_attribute attributes_cons c.args.attributes.now k w l.left _ l.attribute-index c.attribute-item.result _ _ _ c.loop-attribute-test.true c.attribute-item.is fewer

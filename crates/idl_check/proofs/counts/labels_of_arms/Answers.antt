@@ -14,8 +14,7 @@ loop-arm-preserved c =
     let k = seen_construct c.args.construct.now in
     let xs = c.deref-arm-items.result.now in
     let l = c.loop-arm in
-    let fewer = c.labels_in-left.ensures.left ∙ ap (λ a. l.left - length (labels_in a)) c.arm_attributes.ensures in
-    (
+    let fewer = c.labels_in-left.ensures.left ∙ ap (λ a. l.left - length (labels_in a)) c.arm_attributes.ensures in (
       c.labels_in-left.ensures.files ∙ l.invariant.0,
       one_fewer in_arms in_arm arms_cons xs k l.left _ l.arm-index _ c.arm-item.result c.loop-arm-test.true c.arm-item.is fewer l.invariant.1,
       (λ w files. one_given in_arms in_arm arms_cons xs k w l.left _ l.arm-index c.arm-item.result _ _ _ c.loop-arm-test.true c.arm-item.is fewer

@@ -13,8 +13,7 @@ loop-case-preserved c =
     let k = seen_construct c.args.construct.now in
     let xs = c.deref-case-items.result.now in
     let l = c.loop-case in
-    let fewer = c.pass-left.ensures.left ∙ ap (λ (n : ℕ). l.left - n) c.labels_of_case.ensures in
-    (
+    let fewer = c.pass-left.ensures.left ∙ ap (λ (n : ℕ). l.left - n) c.labels_of_case.ensures in (
       c.pass-left.ensures.files ∙ l.invariant.0,
       one_fewer in_cases in_case cases_cons xs k l.left _ l.case-index _ c.case-item.result c.loop-case-test.true c.case-item.is fewer l.invariant.1,
       (λ w files. one_given in_cases in_case cases_cons xs k w l.left _ l.case-index c.case-item.result _ _ _ c.loop-case-test.true c.case-item.is fewer
