@@ -70,6 +70,7 @@ pub mod LookupSteps
 pub mod Wanted
 pub mod VariableSteps
 pub mod CountedNodes
+pub mod CountedLabels
 pub mod Making
 pub mod Defining
 pub mod Operating

@@ -1,10 +1,9 @@
 -- What is one too many, noted one by one.
-use Rattle.std.proofs.Common.{◌≡◌, ◌∙◌, ℕ, zero, suc, ◌+◌, ◌-◌, ◌<◌, ◌≤◌, Bool, true, false, ltb, List, [], ◌∷◌, ◌++◌, Option, Some, None, drop, map, length, replicate, get_or, refl, ap, sym, arith, true≢false, append-nil}
+use Rattle.std.proofs.Common.{◌≡◌, ◌∙◌, ℕ, zero, suc, ◌+◌, ◌-◌, ◌<◌, ◌≤◌, Bool, true, false, ltb, List, [], ◌∷◌, ◌++◌, Option, Some, None, drop, map, length, replicate, get_or, refl, ap, sym, arith}
 use Rattle.std.specs.List.{flat_map}
-use Rattle.std.proofs.lemmas.List.{drop_more, drop_all, map-append}
+use Rattle.std.proofs.lemmas.List.{drop_more, drop_all, map-append, length-replicate, replicate-append-replicate}
 use Rattle.std.proofs.lemmas.List.Concat.{flat_map-cons}
 use Rattle.std.proofs.lemmas.Bool.Decides.{nat_tests}
-use Rattle.nd_base.specs.declared.octets.Place.{Place}
 use Rattle.idl_check.specs.World.{World}
 use Rattle.idl_check.specs.Nodes.{Construct, place_in}
 use Rattle.idl_check.specs.Rules.{Breach, breach}
@@ -107,3 +106,36 @@ module _ {X : Type 0} (of : X → List Construct) (xs : List X) where
   pub all_counted : (w : World) (left i : ℕ) (first all : Option Breach) → length xs ≤ i → noted w first (too_many_left left i) ≡ all → first ≡ all
   all_counted w left i first all past h =
       sym (ap (λ l. noted w first (map one_too_many l)) (drop_none left (flat_map of (drop i xs)) (ap (flat_map of) (drop_all i xs past)))) ∙ h
+
+-- ## Things that one construct has
+
+module _ {X : Type 0} (all : List X → ℕ) (one : X → ℕ) (cons : (x : X) (more : List X) → all (x ∷ more) ≡ one x + all more) (xs : List X) (c : Construct) where
+  -- what is too many of those that items from i on give, where so many may come
+  abbrev pub given_left : ℕ → ℕ → List Breach
+  given_left left i = map one_too_many (drop left (replicate (all (drop i xs)) c))
+
+  all_is : (i : ℕ) (x : X) → i < length xs → x ≡ get_or xs i x → all (drop i xs) ≡ one x + all (drop (i + 1) xs)
+  all_is i x below is = ap all (drop_more xs i x below ∙ ap (λ y. y ∷ drop (i + 1) xs) (sym is)) ∙ cons x (drop (i + 1) xs)
+
+  given_is : (left a b : ℕ) → map one_too_many (drop left (replicate (a + b) c)) ≡ map one_too_many (drop left (replicate a c)) ++ map one_too_many (drop (left - a) (replicate b c))
+  given_is left a b =
+      ap (λ l. map one_too_many (drop left l)) (sym (replicate-append-replicate a b c))
+      ∙ ap (map one_too_many) (drop_both left (replicate a c) (replicate b c))
+      ∙ ap (λ (k : ℕ). map one_too_many (drop left (replicate a c) ++ drop (left - k) (replicate b c))) (length-replicate a c)
+      ∙ map-append one_too_many (drop left (replicate a c)) (drop (left - a) (replicate b c))
+
+  pub one_given : (w : World) (left behind i : ℕ) (x : X) (first next whole : Option Breach) → i < length xs → x ≡ get_or xs i x → behind ≡ left - one x
+      → next ≡ noted w first (map one_too_many (drop left (replicate (one x) c)))
+      → noted w first (given_left left i) ≡ whole → noted w next (given_left behind (i + 1)) ≡ whole
+  one_given w left behind i x first next whole below is b e h =
+      let rest = map one_too_many (drop (left - one x) (replicate (all (drop (i + 1) xs)) c)) in
+      let ones = map one_too_many (drop left (replicate (one x) c)) in
+      ap (λ (k : ℕ). noted w next (map one_too_many (drop k (replicate (all (drop (i + 1) xs)) c)))) b
+      ∙ ap (λ o. noted w o rest) e
+      ∙ sym (noted_more w first ones rest)
+      ∙ sym (ap (noted w first) (given_is left (one x) (all (drop (i + 1) xs))))
+      ∙ sym (ap (λ (k : ℕ). noted w first (map one_too_many (drop left (replicate k c)))) (all_is i x below is))
+      ∙ h
+
+  pub one_fewer : (left behind i whole : ℕ) (x : X) → i < length xs → x ≡ get_or xs i x → behind ≡ left - one x → left - all (drop i xs) ≡ whole → behind - all (drop (i + 1) xs) ≡ whole
+  one_fewer left behind i whole x below is b h = let e = all_is i x below is in omega (arith, b, h, e)

@@ -1,5 +1,5 @@
 // Rule 39: there are not too many types, operations, parameters, members and arms.
-ghost use Rattle.std.specs.Prelude.{◌≡◌, ◌-◌, List, [], ◌∷◌, map, drop, length, min, replicate, option_map};
+ghost use Rattle.std.specs.Prelude.{◌≡◌, ◌-◌, List, [], ◌∷◌, map, drop, length, replicate, option_map};
 ghost use Rattle.std.specs.List.{flat_map};
 ghost use Rattle.idl_names.specs.Known.{Known};
 ghost use Rattle.idl_names.specs.Seen.{seen_files};
@@ -15,13 +15,14 @@ ghost use Rattle.idl_check.specs.SeenNumbers.{AreNumbers};
 ghost use Rattle.idl_check.specs.SeenCounts as seen;
 ghost use Rattle.idl_check.specs.SeenCounts.{one_too_many, operations_at, parts_at};
 ghost use Rattle.idl_check.specs.Nodes as of_rules;
-ghost use Rattle.idl_grammar.specs.Seen.{seen_attribute, seen_type};
+ghost use Rattle.idl_grammar.specs.Reading.{cases_of, arms_of};
+ghost use Rattle.idl_grammar.specs.Seen.{seen_attribute, seen_kind, seen_arm, seen_case, seen_type};
 
-use crate::attributes::attribute_list;
 use crate::finder::Finder;
+use crate::labels::arm_attributes;
 use crate::nodes::{Construct, Declared, Node, Nodes, Position};
 use crate::numbering::{Numbers, Own};
-use idl_grammar::{Arm, Attribute, AttributeKind, TypeSpec};
+use idl_grammar::{Arm, Attribute, AttributeKind, Case, TypeSpec};
 use nd_types::{MEMBER_LIMIT, OPERATION_LIMIT, PARAM_LIMIT, TYPE_LIMIT};
 
 /// Notes the types from a number of their list on.
@@ -121,47 +122,85 @@ fn parameters(finder: &mut Finder<'_>, nodes: &Nodes<'_>, limit: usize)
     }
 }
 
-/// How many labels attributes give; `most`, if they are more.
-fn labels_in(attributes: &[Attribute], most: usize) -> usize
-    ensures { result ≡ min (length (of_rules.labels_in (map seen_attribute attributes.now))) most }
+/// How many labels an attribute gives.
+fn labels_said(attribute: &Attribute) -> usize
+    ensures { result ≡ length (of_rules.labels_said attribute.now.at (seen_kind attribute.now.kind)) }
 {
-    let mut count = 0usize;
+    match &attribute.kind {
+        AttributeKind::Case(values) => values.len(),
+        AttributeKind::Default => 1,
+        _ => 0,
+    }
+}
+
+/// Notes a construct if attributes give more labels than may come, and gives how many may come behind them.
+fn labels_in(
+    finder: &mut Finder<'_>,
+    construct: &Construct<'_>,
+    attributes: &[Attribute],
+    limit: usize,
+) -> usize
+    ensures left { result ≡ limit - length (of_rules.labels_in (map seen_attribute attributes.now)) }
+    ensures files { finder.new.files.now ≡ finder.old.files.now }
+    ensures first { (w : World) → w.files ≡ seen_files finder.old.files.now
+        → option_map seen_breach finder.new.first
+        ≡ noted w (option_map seen_breach finder.old.first) (map one_too_many (drop limit (replicate (length (of_rules.labels_in (map seen_attribute attributes.now))) (seen_construct construct.now)))) }
+{
+    let mut left = limit;
     for attribute in attributes {
-        let more = match &attribute.kind {
-            AttributeKind::Case(values) => values.len(),
-            AttributeKind::Default => 1,
-            _ => 0,
-        };
-        count = count.saturating_add(more).min(most);
+        left = pass(finder, construct, labels_said(attribute), left);
     }
-    count
+    left
 }
 
-/// How many labels a union has; `most`, if they are more.
-fn label_count(body: &TypeSpec, most: usize) -> usize
-    ensures { result ≡ min (length (of_rules.labels_of (seen_type body.now))) most }
+/// Notes a construct if arms have more labels than may come, and gives how many may come behind them.
+fn labels_of_arms(
+    finder: &mut Finder<'_>,
+    construct: &Construct<'_>,
+    arms: &Vec<Arm>,
+    limit: usize,
+) -> usize
+    ensures left { result ≡ limit - length (flat_map (λ a. a.labels) (of_rules.arms_of_arms (arms_of (map seen_arm arms.now.items)))) }
+    ensures files { finder.new.files.now ≡ finder.old.files.now }
+    ensures first { (w : World) → w.files ≡ seen_files finder.old.files.now
+        → option_map seen_breach finder.new.first
+        ≡ noted w (option_map seen_breach finder.old.first) (map one_too_many (drop limit (replicate (length (flat_map (λ a. a.labels) (of_rules.arms_of_arms (arms_of (map seen_arm arms.now.items))))) (seen_construct construct.now)))) }
 {
-    let mut count = 0usize;
-    match body {
-        TypeSpec::EncapsulatedUnion { cases, .. } => {
-            for case in cases {
-                count = count.saturating_add(case.labels.len()).min(most);
-            }
-        }
-        TypeSpec::NonEncapsulatedUnion { arms, .. } => {
-            for arm in arms {
-                let (Arm::Empty { attributes, .. } | Arm::Typed { attributes, .. }) = arm;
-                count = count
-                    .saturating_add(labels_in(attribute_list(attributes), most))
-                    .min(most);
-            }
-        }
-        _ => {}
+    let mut left = limit;
+    for arm in arms {
+        left = labels_in(finder, construct, arm_attributes(arm), left);
     }
-    count
+    left
 }
 
-/// Notes the labels of a union if there are more than may come, and gives how many may come behind them.
+/// How many labels a case has.
+fn labels_of_case(case: &Case) -> usize
+    ensures { result ≡ length case.now.labels.items }
+{
+    case.labels.len()
+}
+
+/// Notes a construct if cases have more labels than may come, and gives how many may come behind them.
+fn labels_of_cases(
+    finder: &mut Finder<'_>,
+    construct: &Construct<'_>,
+    cases: &Vec<Case>,
+    limit: usize,
+) -> usize
+    ensures left { result ≡ limit - length (flat_map (λ a. a.labels) (of_rules.arms_of_cases (cases_of (map seen_case cases.now.items)))) }
+    ensures files { finder.new.files.now ≡ finder.old.files.now }
+    ensures first { (w : World) → w.files ≡ seen_files finder.old.files.now
+        → option_map seen_breach finder.new.first
+        ≡ noted w (option_map seen_breach finder.old.first) (map one_too_many (drop limit (replicate (length (flat_map (λ a. a.labels) (of_rules.arms_of_cases (cases_of (map seen_case cases.now.items))))) (seen_construct construct.now)))) }
+{
+    let mut left = limit;
+    for case in cases {
+        left = pass(finder, construct, labels_of_case(case), left);
+    }
+    left
+}
+
+/// Notes a construct if a union has more labels than may come, and gives how many may come behind them.
 fn labels(finder: &mut Finder<'_>, construct: &Construct<'_>, body: &TypeSpec, left: usize) -> usize
     ensures left { result ≡ left - length (of_rules.labels_of (seen_type body.now)) }
     ensures files { finder.new.files.now ≡ finder.old.files.now }
@@ -169,8 +208,15 @@ fn labels(finder: &mut Finder<'_>, construct: &Construct<'_>, body: &TypeSpec, l
         → option_map seen_breach finder.new.first
         ≡ noted w (option_map seen_breach finder.old.first) (map one_too_many (drop left (replicate (length (of_rules.labels_of (seen_type body.now))) (seen_construct construct.now)))) }
 {
-    let count = label_count(body, left.saturating_add(1));
-    pass(finder, construct, count, left)
+    match body {
+        TypeSpec::EncapsulatedUnion { cases, .. } => labels_of_cases(
+            finder, construct, cases, left,
+        ),
+        TypeSpec::NonEncapsulatedUnion { arms, .. } => labels_of_arms(
+            finder, construct, arms, left,
+        ),
+        _ => left,
+    }
 }
 
 /// Notes a member if none may come, and gives how many may come behind it.

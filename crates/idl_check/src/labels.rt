@@ -94,7 +94,7 @@ fn add_all_said(
 }
 
 /// The attributes of an arm.
-fn arm_attributes(arm: &Arm) -> &[Attribute]
+pub(crate) fn arm_attributes(arm: &Arm) -> &[Attribute]
     ensures { map seen_attribute result.now ≡ rules.arm_attributes (seen_arm arm.now) }
 {
     match arm {

@@ -1,4 +1,4 @@
-use Rattle.std.proofs.Common.{◌≡◌, ◌∙◌, true, option_map, ap}
+use Rattle.std.proofs.Common.{◌∙◌, true, option_map, ap}
 use Rattle.idl_check.specs.Noted.{noted, if_broken}
 use Rattle.idl_check.specs.Found.{seen_breach}
 use Rattle.idl_check.proofs.counts.note_one.Goals as goal

@@ -1,4 +1,4 @@
-use Rattle.std.proofs.Common.{◌≡◌, ◌∙◌, option_map, ap, sym}
+use Rattle.std.proofs.Common.{◌∙◌, ap, sym}
 use Rattle.idl_names.specs.Seen.{seen_files}
 use Rattle.idl_check.specs.SeenCounts.{operations_at}
 use Rattle.idl_check.proofs.Passes.{one_counted, all_counted}

@@ -1,4 +1,4 @@
-use Rattle.std.proofs.Common.{◌≡◌, ◌∙◌, refl, map, option_map, ap, sym, arith}
+use Rattle.std.proofs.Common.{◌∙◌, refl, map, option_map, ap, sym, arith}
 use Rattle.std.specs.List.{flat_map}
 use Rattle.idl_names.specs.Seen.{seen_files}
 use Rattle.idl_check.specs.Noted.{noted}

@@ -1,7 +1,7 @@
-use Rattle.std.proofs.Common.{◌≡◌, ◌∙◌, option_map, ap}
+use Rattle.std.proofs.Common.{◌∙◌, option_map, ap}
 use Rattle.idl_check.specs.Noted.{noted}
 use Rattle.idl_check.specs.Found.{seen_breach}
-use Rattle.idl_check.proofs.CountedNodes.{parameters_are, types_are, scoped_is, seen_is, operations_of}
+use Rattle.idl_check.proofs.CountedNodes.{parameters_are}
 use Rattle.idl_check.proofs.counts.parameters_at.Goals as goal
 
 pub returns-in-Some-clause-first : goal.returns-in-Some-clause-first

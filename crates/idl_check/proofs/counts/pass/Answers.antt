@@ -1,4 +1,4 @@
-use Rattle.std.proofs.Common.{◌≡◌, ◌∙◌, option_map, ap}
+use Rattle.std.proofs.Common.{◌∙◌, option_map, ap}
 use Rattle.std.specs.Prelude.{ltb}
 use Rattle.idl_check.specs.Noted.{noted, if_broken}
 use Rattle.idl_check.specs.Found.{seen_breach}
