@@ -30,6 +30,7 @@ pub mod OtherBreaches
 pub mod OthersOf
 pub mod NodeBreaches
 pub mod RestBreaches
+pub mod Cycles
 pub mod LabelValues
 pub mod Checked
 pub mod Kinds

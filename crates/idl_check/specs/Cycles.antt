@@ -1,0 +1,47 @@
+-- For the code: structs and unions that contain themselves, as a graph of the numbers of bodies.
+use Rattle.std.specs.Prelude.{◌≡◌, ℕ, ◌+◌, ◌*◌, ◌^◌, ◌≤◌, Bool, true, false, List, [], ◌∷◌, Option, Some, None, map, slice_get, slice_index_or}
+use Rattle.std.specs.List.{flat_map}
+use Rattle.nd_base.specs.declared.octets.Place.{Place}
+use Rattle.idl_names.specs.Ended.{Ended}
+use Rattle.idl_check.specs.declared.kinds.Kind.{Kind}
+use Rattle.idl_check.specs.declared.types.Types as program_types
+use Rattle.idl_check.specs.Types.{IdlType}
+use Rattle.idl_check.specs.Scene.{Scene, Body, bodies, place_of, parts_of}
+use Rattle.idl_check.specs.TypeRules.{innermost, held, contains_itself}
+use Rattle.idl_check.specs.FirstBroken.{rank_in}
+use Rattle.idl_check.specs.Kinds.{type_at}
+use Rattle.idl_check.specs.Places.{found_place}
+use Rattle.idl_check.specs.Graph.{parts_at}
+
+abbrev option_list : {X : Type 0} → Option X → List X
+option_list (Some x) = x ∷ []
+option_list None = []
+
+-- For each type the struct or union that it is in its place, or of which it is an array or pipe.
+abbrev pub AreInnermost : List Kind → List (Option Place) → Type 0
+AreInnermost ks places = (n : ℕ) → option_list (slice_index_or places n None) ≡ innermost (type_at ks n)
+
+-- the numbers of the first bodies of places; a place without a body has none
+abbrev pub numbers_of : program_types.Types → List Place → List ℕ
+numbers_of t places = flat_map (λ p. option_list (found_place p t.by_place)) places
+
+-- the graph of bodies: each holds what the first body of its place holds
+abbrev pub AreHeldBy : Scene → program_types.Types → List (List ℕ) → Type 0
+AreHeldBy s t graph = (i : ℕ) (b : Body) → slice_get (bodies s) i ≡ Some b → slice_get graph i ≡ Some (numbers_of t (held s (place_of b)))
+
+-- the key by which a breach of a body comes first
+abbrev pub key_of : List Ended → Body → ℕ
+key_of files b = rank_in files b.construct.file * 2 ^ 32 + b.construct.at
+
+-- one body contains itself and has this value, and none that does has less
+pub record IsLeastValue (s : Scene) (values : List ℕ) (value : ℕ) : Type 0 where
+  pub number : ℕ
+  pub body : Body
+  pub there : slice_get (bodies s) number ≡ Some body
+  pub contains : contains_itself s body ≡ true
+  pub is_value : slice_get values number ≡ Some value
+  pub least : (i : ℕ) (b : Body) (v : ℕ) → slice_get (bodies s) i ≡ Some b → slice_get values i ≡ Some v → contains_itself s b ≡ true → value ≤ v
+
+abbrev pub IsLeastOf : Scene → List ℕ → Option ℕ → Type 0
+IsLeastOf s values None = (i : ℕ) (b : Body) → slice_get (bodies s) i ≡ Some b → contains_itself s b ≡ false
+IsLeastOf s values (Some value) = IsLeastValue s values value
