@@ -65,7 +65,7 @@ is_no_context_handle u = has context_handle_word u.construct.attributes && not (
 -- Rule 11: no struct or union contains itself in place.
 
 -- the struct or union that a type is in its place, or of which it is an array or pipe
-abbrev innermost : IdlType → List Place
+abbrev pub innermost : IdlType → List Place
 innermost (Struct place) = place ∷ []
 innermost (Union place) = place ∷ []
 innermost (Array t count varying) = innermost t
