@@ -52,7 +52,7 @@ tag_same c a b body h = by (tag_written c body)
 
 -- ## Variables
 
-any_same : {X : Type 0} (f g : X → Bool) (xs : List X) → ((x : X) → f x ≡ g x) → list_any f xs ≡ list_any g xs
+pub any_same : {X : Type 0} (f g : X → Bool) (xs : List X) → ((x : X) → f x ≡ g x) → list_any f xs ≡ list_any g xs
 any_same f g [] h = refl
 any_same f g (x ∷ xs) h = ap (λ b. b || list_any f xs) (h x) ∙ ap (λ r. g x || r) (any_same f g xs h)
 
@@ -68,10 +68,10 @@ pub wrong_same : (s : Scene) (a b : Names) (list : List Declared) (index : ℕ) 
     → has_wrong_variable s (use_of s.known a list index d) ≡ has_wrong_variable s (use_of s.known b list index d)
 wrong_same s a b list index d h =
     any_same (λ v. not (is_right_variable s (use_of s.known a list index d) is_integer v)) (λ v. not (is_right_variable s (use_of s.known b list index d) is_integer v))
-        (variables (sizes ++ lengths) d.construct.attributes) (λ v. ap not (right_same s a b list index d is_integer v h))
+    (variables (sizes ++ lengths) d.construct.attributes) (λ v. ap not (right_same s a b list index d is_integer v h))
 
 pub wrong_switch_same : (s : Scene) (a b : Names) (list : List Declared) (index : ℕ) (d : Declared) → Same a b
     → has_wrong_switch_variable s (use_of s.known a list index d) ≡ has_wrong_switch_variable s (use_of s.known b list index d)
 wrong_switch_same s a b list index d h =
     any_same (λ v. not (is_right_variable s (use_of s.known a list index d) may_be_switched v)) (λ v. not (is_right_variable s (use_of s.known b list index d) may_be_switched v))
-        (variables (switch_is_word ∷ []) d.construct.attributes) (λ v. ap not (right_same s a b list index d may_be_switched v h))
+    (variables (switch_is_word ∷ []) d.construct.attributes) (λ v. ap not (right_same s a b list index d may_be_switched v h))

@@ -23,7 +23,7 @@ use Rattle.idl_check.specs.CountRules.{operation_in, parameters_in, part_in}
 use Rattle.idl_check.specs.SeenNodes.{seen_construct, seen_declared, seen_node, list_found, list_at, or_empty}
 use Rattle.idl_check.specs.SeenNumbers.{seen_own, seen_needed}
 use Rattle.idl_check.specs.SeenCounts.{one_too_many, operations_at, parameters_at, parts_at}
-use Rattle.idl_check.proofs.Counted.{drop_none}
+use Rattle.idl_check.proofs.Passes.{drop_none}
 
 -- ## Parameters of one operation
 
@@ -42,8 +42,8 @@ pub parameters_are : {A : Type 0} (lists : List (Vec declared.Declared A)) (limi
     → map (λ d. one_too_many (seen_construct d.construct)) (drop limit ds) ≡ map one_too_many (parameters_at lists limit n)
 parameters_are lists limit n it p ds e h =
     sym (ap (λ m. map one_too_many (parameters_at lists limit m)) e
-        ∙ ap (λ l. map one_too_many (drop limit (map (λ q. q.construct) (or_empty l)))) (sym h)
-        ∙ by_drop limit ds)
+    ∙ ap (λ l. map one_too_many (drop limit (map (λ q. q.construct) (or_empty l)))) (sym h)
+    ∙ by_drop limit ds)
 
 -- ## Types
 

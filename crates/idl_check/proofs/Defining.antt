@@ -1,13 +1,14 @@
 -- What the program makes of the types of a scene.
-use Rattle.std.proofs.Common.{◌≡◌, ℕ, ◌+◌, ◌<◌, ◌≤◌, Bool, true, false, ◌||◌, ◌×◌, inl, inr, List, [], ◌∷◌, ◌++◌, map, length, Option, Some, None, is_none, option_map, ℤ, pos, refl, sym, ap, arith, ◌∙◌, subst}
+use Rattle.std.proofs.Common.{◌≡◌, ℕ, ◌≤◌, drop, Bool, true, false, ◌||◌, inl, inr, List, [], ◌∷◌, ◌++◌, map, length, Option, Some, None, is_none, option_map, ℤ, pos, refl, sym, ap, arith, ◌∙◌}
 use Rattle.std.specs.List.{flat_map, slice_get, list_any}
+use Rattle.std.specs.Prelude.{Result, IfOk}
+use Rattle.std.proofs.lemmas.Result.{IfOk-weaker}
 use Rattle.std.specs.Option.{option_and_then}
-use Rattle.std.proofs.lemmas.Option.{slice_get_within, slice_get_cases, none-some, same_Some}
+use Rattle.std.proofs.lemmas.Option.{slice_get_within, slice_get_cases, same_Some}
 use Rattle.nd_base.specs.declared.octets.Place.{Place}
 use Rattle.nd_types.specs.declared.types.TypeId.{TypeId}
 use Rattle.nd_types.specs.declared.types.TypeDef.{TypeDef}
 use Rattle.nd_types.specs.declared.types.TypeDef.TheVariants as def
-use Rattle.nd_types.specs.declared.types.Field.{Field}
 use Rattle.nd_types.specs.declared.types.Arm as nd
 use Rattle.idl_grammar.specs.declared.words.Spelling.{Spelling}
 use Rattle.idl_grammar.specs.declared.types.Discriminant.{Discriminant}
@@ -19,25 +20,26 @@ use Rattle.idl_check.specs.declared.kinds.Kind.{Kind}
 use Rattle.idl_check.specs.declared.nodes.Node.TheVariants as node
 use Rattle.idl_check.specs.declared.nodes.Nodes.{Nodes}
 use Rattle.idl_check.specs.declared.types.Types.{Types}
-use Rattle.idl_check.specs.declared.types.BodyTypes.{BodyTypes}
 use Rattle.idl_check.specs.declared.numbering.Own.{Own}
 use Rattle.idl_check.specs.declared.numbering.Numbers.{Numbers}
 use Rattle.idl_check.specs.declared.definitions.FoundBody.{FoundBody}
 use Rattle.idl_check.specs.World as world
 use Rattle.idl_check.specs.World.{World}
 use Rattle.idl_check.specs.Nodes.{Construct, Declared, ArmLabel, LabelledArm, arms_of}
-use Rattle.idl_check.specs.Types.{IdlType, Names, Struct, Union, Enum, type_of}
-use Rattle.idl_check.specs.Scene.{Scene, scene_of, Body, bodies, body_of, parts_of, parts_declared, arm_declared, tag_type}
+use Rattle.idl_check.specs.Types.{Names, Struct, Union, Enum, type_of}
+use Rattle.idl_check.specs.Scene.{Scene, scene_of, Body, bodies, body_of, parts_declared, arm_declared, tag_type}
 use Rattle.idl_check.specs.ValueRules.{label_value}
-use Rattle.idl_check.specs.Numbering.{Needed, own_types, number_of_type}
+use Rattle.idl_check.specs.Numbering.{Needed, own_types}
 use Rattle.idl_check.specs.Kinds.{type_at}
 use Rattle.idl_check.specs.Places.{found_place}
 use Rattle.idl_check.specs.SeenNodes.{seen_construct}
-use Rattle.idl_check.specs.SeenTypes.{names_at, body_at, IsBody, IsTypes}
+use Rattle.idl_check.specs.SeenTypes.{names_at, body_at, IsTypes}
 use Rattle.idl_check.specs.SeenOperations.{HasTags}
-use Rattle.idl_check.specs.SeenNumbers.{number_at, AreNumbers, seen_own, seen_needed}
-use Rattle.idl_check.specs.Meaning.{number, field, arm_for, name_of_arm, type_of_arm, arm_by, labelled_arms, default_by, first_arm, default_arm, or_handle, or_zero, struct_of, defined_by, defined_at, body_if, is_struct, is_union, is_enum, definition}
-use Rattle.idl_check.specs.Made.{id, ids_of, tag_id, field_with, each_with, ValuedArm, valued, type_for, types_past, arm_with, arms_with, default_with, IsFound}
+use Rattle.idl_check.specs.SeenNumbers.{AreNumbers, seen_own, seen_needed}
+use Rattle.idl_check.specs.Meaning.{number, field, arm_for, name_of_arm, type_of_arm, arm_by, labelled_arms, default_by, first_arm, default_arm, or_handle, or_zero, struct_of, defined_at, body_if, is_struct, is_union, is_enum, definition, types_of}
+use Rattle.nd_types.specs.Kinds.{basic_types}
+use Rattle.idl_check.proofs.Gathering.{gathered}
+use Rattle.idl_check.specs.Made.{id, ids_of, tag_id, field_with, each_with, valued, type_for, types_past, arm_with, arms_with, default_with, IsFound}
 
 -- ## Numbers
 
@@ -52,6 +54,10 @@ tag_is s ks t h (Some k) = ap id (h.numbers k)
 pub known_is : (w : World) → (scene_of w).known ≡ w.known
 unfolding scene_of
 known_is w = refl
+
+-- an equal value
+pub ok_is : {X E : Type 0} (r : Result X E) (a b : X) → a ≡ b → IfOk r (λ x. x ≡ a) → IfOk r (λ x. x ≡ b)
+ok_is r a b e h = IfOk-weaker r (λ x. x ≡ a) (λ x. x ≡ b) (λ x p. p ∙ e) h
 
 -- ## Structs
 
@@ -72,14 +78,14 @@ parts_as s ks place f t h e = h.parts ∙ ap (λ b. map (type_of s.known h.body.
 pub struct_made : (s : Scene) (ks : List Kind) (t : Numbers) (place : Place) (f : FoundBody) (at : ℕ) (tag : Option Spelling) (ms : Members)
     → AreNumbers s ks t → (h : IsFound s ks place f) → seen_type f.body.now ≡ tree.Struct at tag ms
     → struct_of (each_with (field_with (parts_declared (seen_construct f.construct.now) (seen_type f.body.now))) (parts_declared (seen_construct f.construct.now) (seen_type f.body.now))
-        (ids_of ks t f.noted.now.parts.items))
+    (ids_of ks t f.noted.now.parts.items))
     ≡ definition s (Struct place)
 struct_made s ks t place f at tag ms n h e =
     let list = parts_declared h.body.construct (tree.Struct at tag ms) in
     let same : parts_declared (seen_construct f.construct.now) (seen_type f.body.now) ≡ list =
-        ap (λ c. parts_declared c (seen_type f.body.now)) (sym h.construct) ∙ ap (parts_declared h.body.construct) e in
+    ap (λ c. parts_declared c (seen_type f.body.now)) (sym h.construct) ∙ ap (parts_declared h.body.construct) e in
     let ids : ids_of ks t f.noted.now.parts.items ≡ map (number s) (map (type_of s.known h.body.names) list) =
-        ids_are s ks t n f.noted.now.parts.items ∙ ap (map (number s)) (parts_as s ks place f (tree.Struct at tag ms) h e) in
+    ids_are s ks t n f.noted.now.parts.items ∙ ap (map (number s)) (parts_as s ks place f (tree.Struct at tag ms) h e) in
     ap (λ l. struct_of (each_with (field_with l) l (ids_of ks t f.noted.now.parts.items))) same
     ∙ (ap (λ i. struct_of (each_with (field_with list) list i)) ids
     ∙ (ap struct_of (each_fields s h.body.names list list)
@@ -162,7 +168,7 @@ each_default s k b (a ∷ xs) =
     ∙ sym (first_default s k b a a.labels more)))
 
 -- the union of arms and a tag
-abbrev union_with : List Kind → Numbers → Known → Bool → FoundBody → TypeDef
+abbrev pub union_with : List Kind → Numbers → Known → Bool → FoundBody → TypeDef
 union_with ks t k encapsulated f =
     def.Union (tag_id ks t f.noted.now.tag) encapsulated (arms_with (map (valued k) (arms_of (seen_type f.body.now))) (ids_of ks t f.noted.now.parts.items))
     (default_with (map (valued k) (arms_of (seen_type f.body.now))) (ids_of ks t f.noted.now.parts.items))
@@ -176,22 +182,21 @@ union_same : (s : Scene) (ks : List Kind) (t : Numbers) (encapsulated : Bool) (p
     → AreNumbers s ks t → (h : IsFound s ks place f) → (e : seen_type f.body.now ≡ u) → ((c : Construct) → parts_declared c u ≡ flat_map (λ a. arm_declared c a.position a.arm) (arms_of u))
     → union_with ks t s.known encapsulated f ≡ union_by s encapsulated (record { construct = h.body.construct; names = h.body.names; body = u })
 union_same s ks t encapsulated place f u n h e parts =
-    let b = record { construct = h.body.construct; names = h.body.names; body = u } in
     let tag : tag_id ks t f.noted.now.tag ≡ number s (or_handle (tag_type h.body.construct h.body.names u)) =
-        tag_is s ks t n f.noted.now.tag ∙ ap (λ o. number s (or_handle o)) (h.tag ∙ ap (tag_type h.body.construct h.body.names) (h.type ∙ e)) in
+    tag_is s ks t n f.noted.now.tag ∙ ap (λ o. number s (or_handle o)) (h.tag ∙ ap (tag_type h.body.construct h.body.names) (h.type ∙ e)) in
     let ids : ids_of ks t f.noted.now.parts.items ≡ map (number s) (map (type_of s.known h.body.names) (flat_map (λ a. arm_declared h.body.construct a.position a.arm) (arms_of u))) =
-        ids_are s ks t n f.noted.now.parts.items ∙ ap (λ l. map (number s) l) (parts_as s ks place f u h e ∙ ap (map (type_of s.known h.body.names)) (parts h.body.construct)) in
+    ids_are s ks t n f.noted.now.parts.items ∙ ap (λ l. map (number s) l) (parts_as s ks place f u h e ∙ ap (map (type_of s.known h.body.names)) (parts h.body.construct)) in
     let i = map (number s) (map (type_of s.known h.body.names) (flat_map (λ a. arm_declared h.body.construct a.position a.arm) (arms_of u))) in
     ap (λ x. def.Union x encapsulated (arms_with (map (valued s.known) (arms_of (seen_type f.body.now))) (ids_of ks t f.noted.now.parts.items))
-      (default_with (map (valued s.known) (arms_of (seen_type f.body.now))) (ids_of ks t f.noted.now.parts.items))) tag
+    (default_with (map (valued s.known) (arms_of (seen_type f.body.now))) (ids_of ks t f.noted.now.parts.items))) tag
     ∙ (ap (λ x. def.Union (number s (or_handle (tag_type h.body.construct h.body.names u))) encapsulated (arms_with (map (valued s.known) (arms_of (seen_type f.body.now))) x)
-      (default_with (map (valued s.known) (arms_of (seen_type f.body.now))) x)) ids
+    (default_with (map (valued s.known) (arms_of (seen_type f.body.now))) x)) ids
     ∙ (ap (λ x. def.Union (number s (or_handle (tag_type h.body.construct h.body.names u))) encapsulated (arms_with (map (valued s.known) (arms_of x)) i)
-      (default_with (map (valued s.known) (arms_of x)) i)) e
+    (default_with (map (valued s.known) (arms_of x)) i)) e
     ∙ (ap (λ x. def.Union (number s (or_handle (tag_type h.body.construct h.body.names u))) encapsulated x (default_with (map (valued s.known) (arms_of u)) i))
-      (each_arm s s.known (record { construct = h.body.construct; names = h.body.names; body = u }) (arms_of u))
+    (each_arm s s.known (record { construct = h.body.construct; names = h.body.names; body = u }) (arms_of u))
     ∙ ap (λ x. def.Union (number s (or_handle (tag_type h.body.construct h.body.names u))) encapsulated (labelled_arms s (record { construct = h.body.construct; names = h.body.names; body = u })) x)
-      (each_default s s.known (record { construct = h.body.construct; names = h.body.names; body = u }) (arms_of u)))))
+    (each_default s s.known (record { construct = h.body.construct; names = h.body.names; body = u }) (arms_of u)))))
 
 pub encapsulated_made : (s : Scene) (ks : List Kind) (t : Numbers) (place : Place) (f : FoundBody) (at : ℕ) (tag : Option Spelling) (d : Discriminant) (name : Option Spelling) (cs : Cases)
     → AreNumbers s ks t → (h : IsFound s ks place f) → seen_type f.body.now ≡ tree.EncapsulatedUnion at tag d name cs → union_with ks t s.known true f ≡ definition s (Union place)
@@ -253,3 +258,11 @@ found_is s n t place i f h tags found noted it =
           (sym (ap (body_at (names_at s.known n f.noted.now.node)) it) ∙ (h.body i w.0 f.noted.now w.2 noted).node)
       | inr w ↦ absurd (omega (arith, w.0, h.body_count, slice_get_within t.bodies.items i f.noted.now noted))
     ]
+
+-- all types are there
+pub table_end : (s : Scene) (ks : List Kind) (t : Numbers) → AreNumbers s ks t → (xs : List Own) → xs ≡ t.own.items → (i : ℕ) → length xs ≤ i → (done : List TypeDef)
+    → done ++ map (λ o. definition s (type_at ks o.kind)) (drop i xs) ≡ basic_types ++ map (λ o. definition s (type_at ks o.kind)) xs → done ≡ types_of s
+table_end s ks t h xs same i past done before =
+    gathered (map (λ (o : Own). definition s (type_at ks o.kind))) (λ o. definition s (type_at ks o.kind) ∷ []) (λ o more. refl) xs
+    (basic_types ++ map (λ o. definition s (type_at ks o.kind)) xs) done i past refl before
+    ∙ (ap (λ (l : List Own). basic_types ++ map (λ o. definition s (type_at ks o.kind)) l) same ∙ ap (λ l. basic_types ++ l) (own_made s ks t h))

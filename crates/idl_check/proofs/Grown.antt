@@ -48,21 +48,22 @@ grown_is before firsts [] h = append-nil firsts
 grown_is before firsts (n ∷ ns) h =
     by (has_own_number n.type && not (list_any (same_type n.type) before)) refl (grown_is (n.type ∷ before) (firsts ++ n ∷ []) ns more) (grown_is before firsts ns h)
     ∙ ap (λ b. grown (with_one (has_own_number n.type && not b) firsts n) ns) (h n.type) where
-  more : (t : IdlType) → list_any (same_type t) (n.type ∷ before) ≡ has_number (firsts ++ n ∷ []) t
-  more t = ap₂ (λ a b. a || b) (same_turned t n.type) (h t) ∙ or_turned (same_type n.type t) (has_number firsts t) ∙ sym (has_more firsts n t)
-  by : (b : Bool) → (has_own_number n.type && not (list_any (same_type n.type) before)) ≡ b
-      → (firsts ++ n ∷ []) ++ first_needed (n.type ∷ before) ns ≡ grown (firsts ++ n ∷ []) ns
-      → firsts ++ first_needed before ns ≡ grown firsts ns
-      → firsts ++ first_needed before (n ∷ ns) ≡ grown (with_one (has_own_number n.type && not (list_any (same_type n.type) before)) firsts n) ns
-  by true e one none =
-      ap (λ b. firsts ++ elim b [ true ↦ n ∷ first_needed (n.type ∷ before) ns | false ↦ first_needed before ns ]) e
-      ∙ sym (append_assoc firsts (n ∷ []) (first_needed (n.type ∷ before) ns))
-      ∙ one
-      ∙ sym (ap (λ b. grown (with_one b firsts n) ns) e)
-  by false e one none =
-      ap (λ b. firsts ++ elim b [ true ↦ n ∷ first_needed (n.type ∷ before) ns | false ↦ first_needed before ns ]) e
-      ∙ none
-      ∙ sym (ap (λ b. grown (with_one b firsts n) ns) e ∙ ap (λ l. grown l ns) (append-nil firsts))
+      more : (t : IdlType) → list_any (same_type t) (n.type ∷ before) ≡ has_number (firsts ++ n ∷ []) t
+      more t = ap₂ (λ a b. a || b) (same_turned t n.type) (h t) ∙ or_turned (same_type n.type t) (has_number firsts t) ∙ sym (has_more firsts n t)
+
+      by : (b : Bool) → (has_own_number n.type && not (list_any (same_type n.type) before)) ≡ b
+          → (firsts ++ n ∷ []) ++ first_needed (n.type ∷ before) ns ≡ grown (firsts ++ n ∷ []) ns
+          → firsts ++ first_needed before ns ≡ grown firsts ns
+          → firsts ++ first_needed before (n ∷ ns) ≡ grown (with_one (has_own_number n.type && not (list_any (same_type n.type) before)) firsts n) ns
+      by true e one none =
+          ap (λ b. firsts ++ elim b [ true ↦ n ∷ first_needed (n.type ∷ before) ns | false ↦ first_needed before ns ]) e
+          ∙ sym (append_assoc firsts (n ∷ []) (first_needed (n.type ∷ before) ns))
+          ∙ one
+          ∙ sym (ap (λ b. grown (with_one b firsts n) ns) e)
+      by false e one none =
+          ap (λ b. firsts ++ elim b [ true ↦ n ∷ first_needed (n.type ∷ before) ns | false ↦ first_needed before ns ]) e
+          ∙ none
+          ∙ sym (ap (λ b. grown (with_one b firsts n) ns) e ∙ ap (λ l. grown l ns) (append-nil firsts))
 
 pub own_grown : (s : Scene) → own_types s ≡ grown [] (needed_types s)
 unfolding own_types
@@ -140,22 +141,28 @@ record Done (firsts : List Needed) (t : IdlType) : Type 0 where
 
 behind : (firsts : List Needed) (c : Construct) (inner : List IdlType) (t : IdlType) → built t ≡ inner ++ t ∷ [] → IsClosed firsts → list_all (is_settled firsts) inner ≡ true
     → Done (grown_by firsts (needed c t)) t
-behind firsts c inner t is closed settled = record { closed = all; settled = here; } where
+behind firsts c inner t is closed settled = record { closed = all; settled = here } where
   n : Needed
   n = needed c t
+
   here : list_all (is_settled (grown_by firsts (needed c t))) (built t) ≡ true
   here = ap (list_all (is_settled (grown_by firsts (needed c t)))) is
       ∙ all_last (is_settled (grown_by firsts (needed c t))) inner t (all_kept firsts (needed c t ∷ []) inner settled) (settled_now firsts (needed c t))
+
   old : (u : IdlType) → has_number firsts u ≡ true → list_all (is_settled (grown_by firsts (needed c t))) (built u) ≡ true
   old u h = all_kept firsts (needed c t ∷ []) (built u) (closed u h)
+
   new : (u : IdlType) → same_type t u ≡ true → list_all (is_settled (grown_by firsts (needed c t))) (built u) ≡ true
   new u h = subst (λ v. list_all (is_settled (grown_by firsts (needed c t))) (built v) ≡ true) (type_is t u h) here
+
   either : (u : IdlType) (b d : Bool) → has_number firsts u ≡ b → same_type t u ≡ d → (b || d) ≡ true → list_all (is_settled (grown_by firsts (needed c t))) (built u) ≡ true
   either u true d e f h = old u e
   either u false d e f h = new u (f ∙ h)
+
   one : (u : IdlType) (b : Bool) → has_number (with_one b firsts (needed c t)) u ≡ true → list_all (is_settled (grown_by firsts (needed c t))) (built u) ≡ true
   one u false h = old u (ap (λ l. has_number l u) (sym (append-nil firsts)) ∙ h)
   one u true h = either u (has_number firsts u) (same_type t u) refl refl (sym (has_more firsts (needed c t) u) ∙ h)
+
   all : IsClosed (grown_by firsts (needed c t))
   all u h = one u (has_own_number t && not (has_number firsts t)) h
 

@@ -115,9 +115,9 @@ module _ (eq : Kind → Kind → Bool) (itself_eq : (k : Kind) → eq k k ≡ tr
         let bt : type_at ks j ≡ type_by (seen_types ks) l = type_at-stands ks j (type_by (seen_types ks) l) (stands_at ks j l ordered y) in
         let s : same_type (type_by (seen_types ks) k) (type_by (seen_types ks) l) ≡ true = ap₂ same_type (sym at) (sym bt) ∙ h in
         let inner : Inner ks i j = λ a b u v g.
-            let c : a < i = ltb-true a i u in
-            let d : b < j = ltb-true b j v in
-            once_below fuel a b (omega (arith, c, f)) (omega (arith, c, p)) (omega (arith, d, q)) g in
+        let c : a < i = ltb-true a i u in
+        let d : b < j = ltb-true b j v in
+        once_below fuel a b (omega (arith, c, f)) (omega (arith, c, p)) (omega (arith, d, q)) g in
         let e = kind_is ks i j inner k l (inside_at ks i k ordered x) (inside_at ks j l ordered y) s in
         distinct_at ks i j k distinct x (y ∙ ap (λ z. Some z) (sym e))
 

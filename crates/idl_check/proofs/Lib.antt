@@ -69,8 +69,10 @@ mod CountedTypes
 pub mod LookupSteps
 pub mod Wanted
 pub mod VariableSteps
-pub mod Counted
 pub mod CountedNodes
 pub mod Making
 pub mod Defining
 pub mod Operating
+pub mod ReadOperations
+pub mod MainFile
+pub mod Passes

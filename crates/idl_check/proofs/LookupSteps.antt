@@ -80,7 +80,7 @@ table_next ds i n d old new here number within h made x =
     ap (found x) made ∙ and_found old x d.declarator.now.name.octets n ∙ ap (λ o. last_number o (bytes_eq x d.declarator.now.name.octets) n) (h x)
     ∙ ap (last_number (index_of (listed_from 0 (map seen_declared (take i ds)) x)) (bytes_eq x d.declarator.now.name.octets)) long
     ∙ sym (ap (λ l. index_of (listed_from 0 l x)) (ap (map seen_declared) (take_next ds i d here) ∙ map-append seen_declared (take i ds) (d ∷ []))
-        ∙ listed_push (map seen_declared (take i ds)) (seen_declared d) 0 x)
+    ∙ listed_push (map seen_declared (take i ds)) (seen_declared d) 0 x)
   where
     sized : i ≡ 0 + length (map seen_declared (take i ds))
     sized = let e = length_seen seen_declared ds i (omega arith) in omega (arith, e)

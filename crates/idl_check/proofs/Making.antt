@@ -1,5 +1,5 @@
 -- What the program makes of members, parameters and arms.
-use Rattle.std.proofs.Common.{◌≡◌, ℕ, Bool, true, false, List, [], ◌∷◌, ◌++◌, map, Option, Some, None, option_map, ℤ, ◌+◌, ◌<◌, length, get_or, drop, append_assoc, refl, sym, ap, ◌∙◌}
+use Rattle.std.proofs.Common.{◌≡◌, ℕ, List, [], ◌∷◌, ◌++◌, map, Option, Some, None, option_map, ℤ, ◌+◌, ◌<◌, length, get_or, drop, append_assoc, refl, sym, ap, ◌∙◌}
 use Rattle.std.specs.List.{flat_map}
 use Rattle.std.specs.Prelude.{codes}
 use Rattle.std.proofs.lemmas.List.{map-append, drop_more}
@@ -18,14 +18,13 @@ use Rattle.idl_grammar.specs.Tree.{Attribute, Expr, Label}
 use Rattle.idl_grammar.specs.Tree as tree
 use Rattle.idl_grammar.specs.Reading.{cases_of, arms_of}
 use Rattle.idl_grammar.specs.Seen.{seen_attribute, seen_kind, seen_label, seen_case, seen_arm}
-use Rattle.idl_names.specs.Tables.{found}
 use Rattle.idl_names.specs.Known.{Known}
 use Rattle.idl_check.specs.Nodes.{Declared, labels_in, labels_said, arm_label, arms_of_cases, arms_of_arms}
 use Rattle.idl_check.specs.World.{value_in}
 use Rattle.idl_check.specs.ValueRules.{label_value}
 use Rattle.idl_check.specs.VariableRules.{Listed, listed_from, variables}
-use Rattle.idl_check.specs.Meaning.{index_in, attr_var, vars_of, field_vars, name_of_arm, way_of}
-use Rattle.idl_check.specs.Made.{AreListed, index_or, attr_var_by, vars_by, field_vars_by, field_by, field_with, parameter_by, parameter_with, each_with, ValuedArm, valued, seen_valued, value_said, type_for, types_past, arm_with, arms_with}
+use Rattle.idl_check.specs.Meaning.{index_in, attr_var, field_vars, way_of}
+use Rattle.idl_check.specs.Made.{AreListed, index_or, attr_var_by, field_vars_by, field_by, field_with, parameter_by, parameter_with, each_with, ValuedArm, valued, seen_valued, value_said, type_for, types_past, arm_with, arms_with}
 
 -- ## Members and parameters
 

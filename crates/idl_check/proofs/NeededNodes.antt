@@ -97,7 +97,7 @@ pub record Reaches (known : Known) (n : program_nodes.Nodes) (ks : List Kind) (i
   pub closed : IsClosed (numbered known n i)
 
 pub reaches_none : (known : Known) (n : program_nodes.Nodes) (ks : List Kind) (t : Numbers) → Shows ks [] t → Reaches known n ks 0 t
-reaches_none known n ks t s = record { shows = s; closed = λ t h. absurd (true≢false (sym h)); }
+reaches_none known n ks t s = record { shows = s; closed = λ t h. absurd (true≢false (sym h)) }
 
 pub reaches_next : (known : Known) (n : program_nodes.Nodes) (types : program_types.Types) (i : ℕ) (it : program_node.Node) (typed : Typed) (old new : Numbers)
     → IsTypes (scene_seen known n) n types → slice_get n.items.items i ≡ Some it → slice_get types.typed.items i ≡ Some typed
@@ -109,6 +109,7 @@ reaches_next known n types i it typed old new are h g step r = record {
 } where
   s : Scene
   s = scene_seen known n
+
   e : numbered known n (i + 1) ≡ grown (numbered known n i) (needed_at types.kinds it typed)
   e = ap (λ l. grown [] (flat_map (λ x. needed_by known x.names x.node) l)) (scoped_front_next known n i it h)
       ∙ ap (grown []) (flat_map-append (λ x. needed_by known x.names x.node) (scoped_front known n i) (scoped_from known (names_at known n i) (seen_node n.lists.items it)))

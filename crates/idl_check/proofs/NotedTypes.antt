@@ -56,7 +56,7 @@ pub listed_is : (known : Known) (table : List (List ℕ × ℕ)) (first second t
     → wrong_switch ≡ has_wrong_switch_variable (bare known) (use_of known (seen_names second table) list index d)
     → type_at last declared_as ≡ declared_type known (seen_names third table) d → type_at last of ≡ type_of known (seen_names third table) d
     → IsTypedUse (bare known) last (use_of known (seen_names first table) list index d)
-        (record { declared_as = declared_as; of = of; has_tag = false; no_variable = none; wrong_variable = wrong; wrong_switch_variable = wrong_switch })
+    (record { declared_as = declared_as; of = of; has_tag = false; no_variable = none; wrong_variable = wrong; wrong_switch_variable = wrong_switch })
 listed_is known table first second third last list d index none wrong wrong_switch declared_as of within one two nv w ws da o =
     let e = seen_names-keeps first second table one within in
     let f = seen_names-keeps second third table two (are_within-keeps first second table one within) ∙ e in

@@ -66,10 +66,10 @@ module _ (ks : List Kind) (once : AreOnce ks) (k : ℕ) (below : k < length ks) 
       let v = both (ltb o.kind (length ks)) (are_within ks os) w in
       let rest = number_given past (n + 1) ms os (rest_of _ _ _ _ e) v.1 (omega (arith, p)) in
       pick (eqb o.kind k) rest ∙ sym (ap (λ b. elim b [ true ↦ n | false ↦ number_among (n + 1) ms (type_at ks k) ]) (same_kind m o (first_of _ _ _ _ e) v.0)) where
-    pick : (b : Bool) → number_or past (given (n + 1) os k) ≡ number_among (n + 1) ms (type_at ks k)
-        → number_or past (elim b [ true ↦ Some n | false ↦ given (n + 1) os k ]) ≡ elim b [ true ↦ n | false ↦ number_among (n + 1) ms (type_at ks k) ]
-    pick true rest = refl
-    pick false rest = rest
+        pick : (b : Bool) → number_or past (given (n + 1) os k) ≡ number_among (n + 1) ms (type_at ks k)
+            → number_or past (elim b [ true ↦ Some n | false ↦ given (n + 1) os k ]) ≡ elim b [ true ↦ n | false ↦ number_among (n + 1) ms (type_at ks k) ]
+        pick true rest = refl
+        pick false rest = rest
 
   has_given : (n : ℕ) (firsts : List Needed) (os : List Own) → map seen_needed firsts ≡ map (seen_own ks) os → are_within ks os ≡ true
       → has_number firsts (type_at ks k) ≡ is_some (given n os k)
@@ -80,9 +80,9 @@ module _ (ks : List Kind) (once : AreOnce ks) (k : ℕ) (below : k < length ks) 
       let v = both (ltb o.kind (length ks)) (are_within ks os) w in
       let rest = has_given (n + 1) ms os (rest_of _ _ _ _ e) v.1 in
       ap (λ b. b || has_number ms (type_at ks k)) (same_kind m o (first_of _ _ _ _ e) v.0) ∙ pick (eqb o.kind k) rest where
-    pick : (b : Bool) → has_number ms (type_at ks k) ≡ is_some (given (n + 1) os k) → (b || has_number ms (type_at ks k)) ≡ is_some (elim b [ true ↦ Some n | false ↦ given (n + 1) os k ])
-    pick true rest = refl
-    pick false rest = rest
+        pick : (b : Bool) → has_number ms (type_at ks k) ≡ is_some (given (n + 1) os k) → (b || has_number ms (type_at ks k)) ≡ is_some (elim b [ true ↦ Some n | false ↦ given (n + 1) os k ])
+        pick true rest = refl
+        pick false rest = rest
 
 -- ## One more number
 
@@ -138,8 +138,10 @@ shows_next ks firsts old new c k place s at below none g = record {
 } where
   o : Own
   o = record { kind = k; place = place }
+
   room : k < length old.numbers.items
   room = omega (arith, s.count, below)
+
   by : (j : ℕ) → j < length ks → (b : Bool) → eqb k j ≡ b → slice_get new.numbers.items j ≡ Some (given 12 new.own.items j)
   by j q true e =
       let same : k ≡ j = eqb_is k j e in
@@ -219,7 +221,7 @@ pub path_next : (ks : List Kind) (of : ℕ) (path : List ℕ) (k : ℕ) (it : Ki
     → built (type_at ks of) ≡ built_at ks (inner_of it) ++ types_along ks (reverse (path ++ k ∷ []))
 path_next ks of path k it is h =
     let e : built (type_at ks k) ≡ built_at ks (inner_of it) ++ type_at ks k ∷ [] =
-        ap built (sym is) ∙ built_by ks it ∙ ap (λ t. built_at ks (inner_of it) ++ t ∷ []) is in
+    ap built (sym is) ∙ built_by ks it ∙ ap (λ t. built_at ks (inner_of it) ++ t ∷ []) is in
     h ∙ ap (λ l. l ++ types_along ks (reverse path)) e
     ∙ append_assoc (built_at ks (inner_of it)) (type_at ks k ∷ []) (types_along ks (reverse path))
     ∙ ap (λ l. built_at ks (inner_of it) ++ types_along ks l) (sym (reverse-append path (k ∷ [])))
@@ -234,9 +236,9 @@ pub path_ends : (ks : List Kind) (c : Construct) (firsts : List Needed) (of : �
 path_ends ks c firsts of left path e h =
     ap (grown firsts) (along_is ks c path)
     ∙ sym (ap (λ l. grown firsts (map (needed c) l)) e
-        ∙ ap (grown firsts) (map-append (needed c) left (types_along ks path))
-        ∙ grown-append firsts (map (needed c) left) (map (needed c) (types_along ks path))
-        ∙ ap (λ l. grown l (map (needed c) (types_along ks path))) (nothing_all firsts c left h))
+    ∙ ap (grown firsts) (map-append (needed c) left (types_along ks path))
+    ∙ grown-append firsts (map (needed c) left) (map (needed c) (types_along ks path))
+    ∙ ap (λ l. grown l (map (needed c) (types_along ks path))) (nothing_all firsts c left h))
 
 -- ## All types
 
@@ -245,18 +247,18 @@ among_none n [] h = omega arith
 among_none n (m ∷ ms) h =
     let e = both (has_own_number m.type) (are_own ms) h in
     ap (λ b. elim b [ true ↦ n | false ↦ number_among (n + 1) ms Void ]) (no_void m.type e.0) ∙ among_none (n + 1) ms e.1 ∙ omega arith where
-  no_void : (t : IdlType) → has_own_number t ≡ true → same_type t Void ≡ false
-  no_void Void h = absurd (true≢false (sym h))
-  no_void Handle h = refl
-  no_void ContextHandle h = refl
-  no_void (Basic p) h = refl
-  no_void (Struct p) h = refl
-  no_void (Union p) h = refl
-  no_void (Enum p) h = refl
-  no_void (Array t m v) h = refl
-  no_void (Text t m) h = refl
-  no_void (Pointer c t) h = refl
-  no_void (Pipe t) h = refl
+      no_void : (t : IdlType) → has_own_number t ≡ true → same_type t Void ≡ false
+      no_void Void h = absurd (true≢false (sym h))
+      no_void Handle h = refl
+      no_void ContextHandle h = refl
+      no_void (Basic p) h = refl
+      no_void (Struct p) h = refl
+      no_void (Union p) h = refl
+      no_void (Enum p) h = refl
+      no_void (Array t m v) h = refl
+      no_void (Text t m) h = refl
+      no_void (Pointer c t) h = refl
+      no_void (Pipe t) h = refl
 
 as_long : {X Y Z : Type 0} (f : X → Z) (g : Y → Z) (xs : List X) (ys : List Y) → map f xs ≡ map g ys → length xs ≡ length ys
 as_long f g [] [] h = refl

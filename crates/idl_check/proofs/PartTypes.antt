@@ -45,5 +45,5 @@ part_next old new numbers f seen parts i part k keeps below is here type =
     ∙ ap (λ l. l ++ type_at new k ∷ []) (types-keeps old new numbers keeps below ∙ is)
     ∙ ap (λ t. map f (map seen (take i parts)) ++ t ∷ []) type
     ∙ sym (ap (λ l. map f (map seen l)) (take_next parts i part here)
-        ∙ ap (map f) (map-append seen (take i parts) (part ∷ []))
-        ∙ map-append f (map seen (take i parts)) (seen part ∷ []))
+    ∙ ap (map f) (map-append seen (take i parts) (part ∷ []))
+    ∙ map-append f (map seen (take i parts)) (seen part ∷ []))

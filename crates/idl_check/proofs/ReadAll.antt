@@ -14,19 +14,25 @@ use Rattle.idl_check.specs.declared.types.Types.{Types}
 use Rattle.idl_check.specs.Types.{Names}
 use Rattle.idl_check.specs.Scene.{Scene, Scoped, Body, Use, bodies, body_of}
 use Rattle.idl_check.specs.SeenTypes.{bare, scene_seen, scoped_front, IsTypedUse, IsTyped, IsBody, IsTypes}
-use Rattle.idl_check.specs.ReadTypes.{NamesRead, TypedRead, BodiesOver, BodiesRead, AreRead, bodies_in, bodies_front}
+use Rattle.idl_check.specs.ReadTypes.{NamesRead, TypedRead, BodiesOver, BodiesRead, TagsOver, TagsRead, OperationsOver, OperationsRead, AreRead, bodies_in, bodies_front, called_in, called_front}
+use Rattle.idl_check.specs.declared.types.OperationTypes.{OperationTypes}
+use Rattle.idl_check.specs.SeenOperations.{Called, called, IsOperation, HasTags, HasOperations}
 use Rattle.idl_check.proofs.Fronts.{scoped_front_all}
 
 -- before the first node
-pub none_read : (known : Known) (n : program_nodes.Nodes) (t : Types) (names : List (List ℕ × ℕ)) → names ≡ [] → t.typed.items ≡ [] → t.bodies.items ≡ [] → t.by_place ≡ []
+pub none_read : (known : Known) (n : program_nodes.Nodes) (t : Types) (names : List (List ℕ × ℕ)) → names ≡ [] → t.typed.items ≡ [] → t.bodies.items ≡ [] → t.by_place ≡ [] → t.operations.items ≡ []
     → AreRead known n 0 t names
-none_read known n t names none typed bodies places = record {
+none_read known n t names none typed bodies places operations = record {
   names_read = subst (λ (l : List (List ℕ × ℕ)). NamesRead known n 0 t.kinds l) (sym none) (record { within = refl; agree = λ x. refl });
   typed_read = subst (λ (l : List Typed). TypedRead known n 0 t.kinds l) (sym typed)
       (record { count = refl; typed = λ j it u a b. absurd (none-some u b); within = λ j u b. absurd (none-some u b) });
   bodies_read = subst (λ (l : List BodyTypes). BodiesRead known n 0 t.kinds l t.by_place) (sym bodies)
       (subst (λ (p : List (Place × ℕ)). BodiesRead known n 0 t.kinds [] p) (sym places)
-        (record { count = refl; body = λ j body b x y. absurd (none-some b y); within = λ j b y. absurd (none-some b y); first = λ place. refl; inside = λ place j f. absurd (none-some j f) }));
+      (record { count = refl; body = λ j body b x y. absurd (none-some b y); within = λ j b y. absurd (none-some b y); first = λ place. refl; inside = λ place j f. absurd (none-some j f) }));
+  tags_read = subst (λ (l : List BodyTypes). TagsRead known n 0 t.kinds l) (sym bodies)
+      (record { count = refl; tag = λ j body b x y. absurd (none-some b y); within = λ j b y. absurd (none-some b y) });
+  operations_read = subst (λ (l : List OperationTypes). OperationsRead known n 0 t.kinds l) (sym operations)
+      (record { count = refl; operation = λ j o u x y. absurd (none-some u y); parameters = λ j u y. absurd (none-some u y); result = λ j u y. absurd (none-some u y) });
 }
 
 use_in : (known : Known) (nodes : List Scoped) (ks : List Kind) (u : Use) (t : Typed) → IsTypedUse (bare known) ks u t → IsTypedUse (record { known = known; nodes = nodes }) ks u t
@@ -66,3 +72,22 @@ all_read known n i t names end h =
       body = λ j body b x y. body_in known nodes n t.kinds body b (over.body j body b x y);
       first = over.first;
     }
+
+pub all_tags : (known : Known) (n : program_nodes.Nodes) (i : ℕ) (t : Types) (names : List (List ℕ × ℕ)) → i ≡ length n.items.items → AreRead known n i t names
+    → HasTags (scene_seen known n) t
+all_tags known n i t names end h =
+    let front : bodies_front known n i ≡ bodies (scene_seen known n) = ap (bodies_front known n) end ∙ ap bodies_in (scoped_front_all known n) in
+    let over = subst (λ (l : List Body). TagsOver l t.kinds t.bodies.items) front h.tags_read in
+    record { tag = over.tag }
+
+operation_in : (known : Known) (nodes : List Scoped) (n : program_nodes.Nodes) (ks : List Kind) (o : Called) (t : OperationTypes) → IsOperation (bare known) n ks o t
+    → IsOperation (record { known = known; nodes = nodes }) n ks o t
+operation_in known nodes n ks o t h = record { parameters = h.parameters; result = h.result; node = h.node }
+
+pub all_operations : (known : Known) (n : program_nodes.Nodes) (i : ℕ) (t : Types) (names : List (List ℕ × ℕ)) → i ≡ length n.items.items → AreRead known n i t names
+    → HasOperations (scene_seen known n) n t
+all_operations known n i t names end h =
+    let nodes = (scene_seen known n).nodes in
+    let front : called_front known n i ≡ called (scene_seen known n) = ap (called_front known n) end ∙ ap called_in (scoped_front_all known n) in
+    let over = subst (λ (l : List Called). OperationsOver known n l t.kinds t.operations.items) front h.operations_read in
+    record { count = over.count; operation = λ j o u x y. operation_in known nodes n t.kinds o u (over.operation j o u x y) }

@@ -105,9 +105,9 @@ module _ (known : Known) (n : program_nodes.Nodes) (front : List Body) (ks : Lis
   body_more : (j : ℕ) (other : Body) (c : BodyTypes) → slice_get (front ++ body ∷ []) j ≡ Some other → slice_get (noted ++ b ∷ []) j ≡ Some c → IsBody (bare known) n ks other c
   body_more j other c x y =
       last_or_before front body j other x
-          (λ e. last_or_before noted b j c y (λ f. h.body j other c e f) (λ f s. absurd (omega (arith, slice_get_within front j other e, h.count))))
-          (λ e s. last_or_before noted b j c y (λ f. absurd (omega (arith, slice_get_within noted j c f, h.count)))
-              (λ f t. subst (λ (o : Body). IsBody (bare known) n ks o c) s (subst (λ (d : BodyTypes). IsBody (bare known) n ks body d) t is)))
+      (λ e. last_or_before noted b j c y (λ f. h.body j other c e f) (λ f s. absurd (omega (arith, slice_get_within front j other e, h.count))))
+      (λ e s. last_or_before noted b j c y (λ f. absurd (omega (arith, slice_get_within noted j c f, h.count)))
+      (λ f t. subst (λ (o : Body). IsBody (bare known) n ks o c) s (subst (λ (d : BodyTypes). IsBody (bare known) n ks body d) t is)))
 
   -- a place that was found before
   found_before : (place : Place) (j : ℕ) → found_place place places ≡ Some j → body_among (front ++ body ∷ []) place ≡ slice_get (front ++ body ∷ []) j
@@ -144,11 +144,11 @@ module _ (known : Known) (n : program_nodes.Nodes) (front : List Body) (ks : Lis
   first_by place None g (Some j) f =
       found_before place j f
       ∙ sym (ap (λ o. option_and_then (λ i. slice_get (front ++ body ∷ []) i) o)
-          (found_more places place b.place (length noted) ∙ ap (λ o. last_place o (same_place place b.place) (length noted)) f))
+      (found_more places place b.place (length noted) ∙ ap (λ o. last_place o (same_place place b.place) (length noted)) f))
   first_by place None g None f =
       not_before place f ∙ by (same_place (place_of body) place) (same_back (place_of body) place ∙ ap (λ q. same_place place q) (sym is.place))
       ∙ sym (ap (λ o. option_and_then (λ i. slice_get (front ++ body ∷ []) i) o)
-          (found_more places place b.place (length noted) ∙ ap (λ o. last_place o (same_place place b.place) (length noted)) f))
+      (found_more places place b.place (length noted) ∙ ap (λ o. last_place o (same_place place b.place) (length noted)) f))
     where
       by : (c : Bool) → c ≡ same_place place b.place
           → elim c [ true ↦ Some body | false ↦ None ] ≡ option_and_then (λ j. slice_get (front ++ body ∷ []) j) (last_place None (same_place place b.place) (length noted))
@@ -186,7 +186,7 @@ pub bodies_read_next : (known : Known) (n : program_nodes.Nodes) (i : ℕ) (ks :
 bodies_read_next known n i ks noted places it body b here at h is below =
     let e = bodies_front_next known n i it here ∙ ap (λ o. bodies_front known n i ++ body_list o) at in
     subst (λ (front : List Body). BodiesOver known n front ks (noted ++ b ∷ []) (and_place places b.place (length noted))) (sym e)
-        (bodies_more known n (bodies_front known n i) ks noted places body b h is below)
+    (bodies_more known n (bodies_front known n i) ks noted places body b h is below)
 
 pub not_body : (names : Names) (it : program_node.Node) → ((c : _) (body : _) → it ≡ node.Body c body → ⊥) → body_at names (Some it) ≡ None
 not_body names (node.Body c body) h = absurd (h c body refl)

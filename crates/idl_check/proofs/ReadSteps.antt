@@ -114,8 +114,8 @@ typed_read_next known n i ks noted it t h here typed within = record {
     last j other u a e s =
         let same : it ≡ other = same_Some it other (sym here ∙ ap (λ k. slice_get n.items.items k) (sym e) ∙ a) in
         subst (λ (k : ℕ). IsTyped (bare known) (names_at known n k) ks n.lists.items other u) (sym e)
-            (subst (λ (o : program_node.Node). IsTyped (bare known) (names_at known n i) ks n.lists.items o u) same
-                (subst (λ (v : Typed). IsTyped (bare known) (names_at known n i) ks n.lists.items it v) s typed))
+        (subst (λ (o : program_node.Node). IsTyped (bare known) (names_at known n i) ks n.lists.items o u) same
+        (subst (λ (v : Typed). IsTyped (bare known) (names_at known n i) ks n.lists.items it v) s typed))
 
 -- ## Names
 
@@ -150,8 +150,8 @@ and_agree ks a table name u of same type x = by (found name table) refl
     by None h =
         found_more a x name u ∙ ap (λ o. last_of o (bytes_eq x name) u) (same x) ∙ ap (λ v. last_of (found x (seen_names ks table)) (bytes_eq x name) v) (sym type)
         ∙ sym (ap (λ o. found x (seen_names ks (elim (is_some o) [ true ↦ table | false ↦ table ++ (name, of) ∷ [] ]))) h
-            ∙ ap (found x) (map-append (λ (e : List ℕ × ℕ). (e.0, type_at ks e.1)) table ((name, of) ∷ []))
-            ∙ found_more (seen_names ks table) x name (type_at ks of))
+        ∙ ap (found x) (map-append (λ (e : List ℕ × ℕ). (e.0, type_at ks e.1)) table ((name, of) ∷ []))
+        ∙ found_more (seen_names ks table) x name (type_at ks of))
     by (Some k) h =
         found_more a x name u ∙ there k h (found x a) refl (bytes_eq x name) refl ∙ same x
         ∙ sym (ap (λ o. found x (seen_names ks (elim (is_some o) [ true ↦ table | false ↦ table ++ (name, of) ∷ [] ]))) h)

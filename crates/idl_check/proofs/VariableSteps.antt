@@ -26,13 +26,13 @@ pub wrong_is : (known : Known) (names : Names) (list : List Declared) (index : �
     → has_wrong_variable (bare known) (use_of known names list index d) ≡ list_any (fails_in known names is_integer list) (variables (sizes ++ lengths) d.construct.attributes)
 wrong_is known names list index d =
     any_same (λ v. not (is_right_variable (bare known) (use_of known names list index d) is_integer v)) (fails_in known names is_integer list)
-        (variables (sizes ++ lengths) d.construct.attributes) (λ v. ap not (right_is known names list index d is_integer v))
+    (variables (sizes ++ lengths) d.construct.attributes) (λ v. ap not (right_is known names list index d is_integer v))
 
 pub wrong_switch_is : (known : Known) (names : Names) (list : List Declared) (index : ℕ) (d : Declared)
     → has_wrong_switch_variable (bare known) (use_of known names list index d) ≡ list_any (fails_in known names may_be_switched list) (variables (switch_is_word ∷ []) d.construct.attributes)
 wrong_switch_is known names list index d =
     any_same (λ v. not (is_right_variable (bare known) (use_of known names list index d) may_be_switched v)) (fails_in known names may_be_switched list)
-        (variables (switch_is_word ∷ []) d.construct.attributes) (λ v. ap not (right_is known names list index d may_be_switched v))
+    (variables (switch_is_word ∷ []) d.construct.attributes) (λ v. ap not (right_is known names list index d may_be_switched v))
 
 module _ {B : Type 0} (f : Variable → Bool) (words : List (List ℕ)) (seen : B → Attribute) (xs : List B) (i : ℕ) (x : B) (whole : Bool) (here : slice_get xs i ≡ Some x)
     (same : whole ≡ list_any f (variables words (map seen (drop i xs)))) where

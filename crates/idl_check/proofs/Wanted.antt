@@ -147,7 +147,7 @@ many_stars_fail known names d w star parameter s r stars h none =
     let outermost = outermost_class d.construct d.declarator.dimensions in
     let plain = plain_declared known names d (no_and (has context_handle_word d.construct.attributes) (is_one_star d.declarator.stars) (is_empty d.declarator.dimensions) (is_void t) (ap is_one_star h)) in
     ap (λ u. passes (wanted_test w) parameter star (with_attributes d.construct.attributes u))
-        (plain ∙ ap (with_dimensions known (with_stars d.construct.default outermost t d.declarator.stars)) none ∙ ap (with_stars d.construct.default outermost t) h)
+    (plain ∙ ap (with_dimensions known (with_stars d.construct.default outermost t d.declarator.stars)) none ∙ ap (with_stars d.construct.default outermost t) h)
     ∙ stars_fail d.construct.attributes w parameter star d.construct.default outermost t s r stars
 
 later : (ds : List Declared) (k : ℕ) (name : List ℕ) (i : ℕ) → index_of (listed_from k ds name) ≡ Some i → k ≤ i

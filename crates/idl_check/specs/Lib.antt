@@ -28,7 +28,6 @@ pub mod Found
 pub mod ListBreaches
 pub mod OtherBreaches
 pub mod OthersOf
-pub mod NodeBreaches
 pub mod RestBreaches
 pub mod Cycles
 pub mod LabelValues

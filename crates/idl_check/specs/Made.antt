@@ -1,5 +1,5 @@
 -- Members, parameters and arms over the numbers of their types, as the program makes them.
-use Rattle.std.specs.Prelude.{◌≡◌, ℕ, Bool, true, false, List, [], ◌∷◌, ◌++◌, map, Option, Some, None, is_none, option_map, ℤ, pos, codes}
+use Rattle.std.specs.Prelude.{◌≡◌, ℕ, true, false, List, [], ◌∷◌, ◌++◌, map, Option, Some, None, is_none, option_map, ℤ, pos, codes}
 use Rattle.std.specs.List.{flat_map, list_any}
 use Rattle.nd_types.specs.declared.types.TypeId.{TypeId}
 use Rattle.nd_types.specs.declared.types.Field.{Field}
@@ -24,10 +24,10 @@ use Rattle.idl_check.specs.declared.kinds.Kind.{Kind}
 use Rattle.idl_check.specs.declared.numbering.Numbers.{Numbers}
 use Rattle.idl_check.specs.declared.definitions.FoundBody.{FoundBody}
 use Rattle.idl_check.specs.declared.definitions.Program.{Program}
-use Rattle.idl_check.specs.World.{World, value_in}
+use Rattle.idl_check.specs.World.{value_in}
 use Rattle.idl_check.specs.Checked.{world_of}
 use Rattle.idl_check.specs.Nodes.{Declared, LabelledArm, result_of}
-use Rattle.idl_check.specs.Types.{IdlType, Names, type_of}
+use Rattle.idl_check.specs.Types.{type_of}
 use Rattle.idl_check.specs.Scene.{Scene, scene_of, Body, body_of, parts_of, tag_type}
 use Rattle.idl_check.specs.ValueRules.{label_value}
 use Rattle.idl_check.specs.VariableRules.{listed_from, variables}

@@ -51,7 +51,11 @@ fn add_values(labels: &mut Vec<Option<i128>>, scope: &Scope, values: &[Expr]) ->
 }
 
 /// Adds the labels that an attribute gives.
-fn add_said(labels: &mut Vec<Option<i128>>, scope: &Scope, attribute: &Attribute) -> Result<(), Memory>
+fn add_said(
+    labels: &mut Vec<Option<i128>>,
+    scope: &Scope,
+    attribute: &Attribute,
+) -> Result<(), Memory>
     ensures { OnOk result (labels.new.items ≡ labels.old.items
         ++ map (values.label_value (known_in scope.now)) (rules.labels_said attribute.now.at (seen_kind attribute.now.kind))) }
 {
@@ -63,7 +67,11 @@ fn add_said(labels: &mut Vec<Option<i128>>, scope: &Scope, attribute: &Attribute
 }
 
 /// The labels that attributes give. Takes memory for them.
-fn labels_in(alloc: Global, scope: &Scope, attributes: &[Attribute]) -> Result<Vec<Option<i128>>, Memory>
+fn labels_in(
+    alloc: Global,
+    scope: &Scope,
+    attributes: &[Attribute],
+) -> Result<Vec<Option<i128>>, Memory>
     ensures { IfOk result (λ v. v.items ≡ map (values.label_value (known_in scope.now)) (rules.labels_in (map seen_attribute attributes.now))) }
 {
     let mut labels = Vec::new(alloc);
@@ -115,7 +123,11 @@ fn attributes_of(arm: &Arm) -> &[Attribute]
 }
 
 /// Adds an arm.
-fn add<'t>(list: &mut Vec<ValuedArm<'t>>, name: Option<&'t Spelling>, labels: Vec<Option<i128>>) -> Result<(), Memory>
+fn add<'t>(
+    list: &mut Vec<ValuedArm<'t>>,
+    name: Option<&'t Spelling>,
+    labels: Vec<Option<i128>>,
+) -> Result<(), Memory>
     ensures { OnOk result (map seen_valued list.new.items ≡ map seen_valued list.old.items
         ++ record { name = option_map (λ s. s.now.octets) name.entry; labels = labels.items } ∷ []) }
 {
@@ -126,7 +138,11 @@ fn add<'t>(list: &mut Vec<ValuedArm<'t>>, name: Option<&'t Spelling>, labels: Ve
 }
 
 /// The arms of a union that has its discriminant with it.
-fn valued_cases<'t>(alloc: Global, scope: &Scope, cases: &'t Vec<Case>) -> Result<Vec<ValuedArm<'t>>, Memory>
+fn valued_cases<'t>(
+    alloc: Global,
+    scope: &Scope,
+    cases: &'t Vec<Case>,
+) -> Result<Vec<ValuedArm<'t>>, Memory>
     ensures { IfOk result (λ v. map seen_valued v.items
         ≡ map (valued (known_in scope.now)) (rules.arms_of_cases (reading.cases_of (map seen_case cases.now.items)))) }
 {
@@ -139,7 +155,11 @@ fn valued_cases<'t>(alloc: Global, scope: &Scope, cases: &'t Vec<Case>) -> Resul
 }
 
 /// The arms of a union whose discriminant stands elsewhere.
-fn valued_each<'t>(alloc: Global, scope: &Scope, arms: &'t Vec<Arm>) -> Result<Vec<ValuedArm<'t>>, Memory>
+fn valued_each<'t>(
+    alloc: Global,
+    scope: &Scope,
+    arms: &'t Vec<Arm>,
+) -> Result<Vec<ValuedArm<'t>>, Memory>
     ensures { IfOk result (λ v. map seen_valued v.items
         ≡ map (valued (known_in scope.now)) (rules.arms_of_arms (reading.arms_of (map seen_arm arms.now.items)))) }
 {
@@ -152,7 +172,11 @@ fn valued_each<'t>(alloc: Global, scope: &Scope, arms: &'t Vec<Arm>) -> Result<V
 }
 
 /// The arms of a union. Takes memory for them.
-pub(crate) fn valued_arms<'t>(alloc: Global, scope: &Scope, body: &'t TypeSpec) -> Result<Vec<ValuedArm<'t>>, Memory>
+pub(crate) fn valued_arms<'t>(
+    alloc: Global,
+    scope: &Scope,
+    body: &'t TypeSpec,
+) -> Result<Vec<ValuedArm<'t>>, Memory>
     ensures { IfOk result (λ v. map seen_valued v.items ≡ map (valued (known_in scope.now)) (rules.arms_of (seen_type body.now))) }
 {
     match body {
@@ -193,7 +217,12 @@ fn arm_name(alloc: Global, name: Option<&Spelling>) -> Result<Option<Name>, Memo
 }
 
 /// An arm for a label. Takes memory for its name.
-fn arm_for(alloc: Global, name: Option<&Spelling>, of: Option<TypeId>, label: i128) -> Result<nd::Arm, Memory>
+fn arm_for(
+    alloc: Global,
+    name: Option<&Spelling>,
+    of: Option<TypeId>,
+    label: i128,
+) -> Result<nd::Arm, Memory>
     ensures { IfOk result (λ a. a ≡ meaning.arm_for (option_map (λ s. s.now.octets) name.entry) of label) }
 {
     let name = arm_name(alloc, name)?;
@@ -237,13 +266,23 @@ fn add_arms(
 }
 
 /// The arms of a union, one for each label that is no default. Takes memory for them.
-pub(crate) fn labelled_arms(alloc: Global, list: &[ValuedArm<'_>], types: &[TypeId]) -> Result<Arms, Memory>
+pub(crate) fn labelled_arms(
+    alloc: Global,
+    list: &[ValuedArm<'_>],
+    types: &[TypeId],
+) -> Result<Arms, Memory>
     ensures { IfOk result (λ v. v ≡ arms_with (map seen_valued list.now) types.now) }
 {
     let mut arms = Arms::new(alloc);
     let mut rest = types;
     for arm in list {
-        add_arms(alloc, &mut arms, arm.name, type_for(arm.name, rest), arm.labels.as_slice())?;
+        add_arms(
+            alloc,
+            &mut arms,
+            arm.name,
+            type_for(arm.name, rest),
+            arm.labels.as_slice(),
+        )?;
         rest = types_past(arm.name, rest);
     }
     Ok(arms)
@@ -262,7 +301,11 @@ fn is_default(labels: &[Option<i128>]) -> bool
 }
 
 /// The default of a union, where it has one. Takes memory for its name.
-pub(crate) fn default_arm(alloc: Global, list: &[ValuedArm<'_>], types: &[TypeId]) -> Result<Option<nd::Arm>, Memory>
+pub(crate) fn default_arm(
+    alloc: Global,
+    list: &[ValuedArm<'_>],
+    types: &[TypeId],
+) -> Result<Option<nd::Arm>, Memory>
     ensures { IfOk result (λ a. a ≡ default_with (map seen_valued list.now) types.now) }
 {
     let mut rest = types;

@@ -1,5 +1,5 @@
 // Rule 39: there are not too many types, operations, parameters, members and arms.
-ghost use Rattle.std.specs.Prelude.{◌≡◌, ◌-◌, List, [], ◌∷◌, map, drop, length, replicate, option_map};
+ghost use Rattle.std.specs.Prelude.{◌≡◌, ◌-◌, List, [], ◌∷◌, map, drop, length, min, replicate, option_map};
 ghost use Rattle.std.specs.List.{flat_map};
 ghost use Rattle.idl_names.specs.Known.{Known};
 ghost use Rattle.idl_names.specs.Seen.{seen_files};
@@ -13,12 +13,16 @@ ghost use Rattle.idl_check.specs.SeenNodes.{seen_construct};
 ghost use Rattle.idl_check.specs.SeenTypes.{scene_seen};
 ghost use Rattle.idl_check.specs.SeenNumbers.{AreNumbers};
 ghost use Rattle.idl_check.specs.SeenCounts as seen;
-ghost use Rattle.idl_check.specs.SeenCounts.{one_too_many, operations_at};
+ghost use Rattle.idl_check.specs.SeenCounts.{one_too_many, operations_at, parts_at};
+ghost use Rattle.idl_check.specs.Nodes as of_rules;
+ghost use Rattle.idl_grammar.specs.Seen.{seen_attribute, seen_type};
 
+use crate::attributes::attribute_list;
 use crate::finder::Finder;
-use crate::nodes::{Construct, Declared, Node, Nodes};
+use crate::nodes::{Construct, Declared, Node, Nodes, Position};
 use crate::numbering::{Numbers, Own};
-use nd_types::{OPERATION_LIMIT, PARAM_LIMIT, TYPE_LIMIT};
+use idl_grammar::{Arm, Attribute, AttributeKind, TypeSpec};
+use nd_types::{MEMBER_LIMIT, OPERATION_LIMIT, PARAM_LIMIT, TYPE_LIMIT};
 
 /// Notes the types from a number of their list on.
 fn types(finder: &mut Finder<'_>, own: &[Own], limit: usize)
@@ -37,7 +41,7 @@ fn pass(finder: &mut Finder<'_>, construct: &Construct<'_>, count: usize, left: 
     ensures files { finder.new.files.now ≡ finder.old.files.now }
     ensures first { (w : World) → w.files ≡ seen_files finder.old.files.now
         → option_map seen_breach finder.new.first
-            ≡ noted w (option_map seen_breach finder.old.first) (map one_too_many (drop left (replicate count (seen_construct construct.now)))) }
+        ≡ noted w (option_map seen_breach finder.old.first) (map one_too_many (drop left (replicate count (seen_construct construct.now)))) }
 {
     finder.note(39, construct.place(construct.at), count > left);
     left.saturating_sub(count)
@@ -61,7 +65,7 @@ fn operations(finder: &mut Finder<'_>, nodes: &[Node<'_>], limit: usize)
     ensures files { finder.new.files.now ≡ finder.old.files.now }
     ensures first { (w : World) → w.files ≡ seen_files finder.old.files.now
         → option_map seen_breach finder.new.first
-            ≡ noted w (option_map seen_breach finder.old.first) (map one_too_many (drop limit (flat_map operations_at nodes.now))) }
+        ≡ noted w (option_map seen_breach finder.old.first) (map one_too_many (drop limit (flat_map operations_at nodes.now))) }
 {
     let mut left = limit;
     for node in nodes {
@@ -83,7 +87,7 @@ fn parameters_of(finder: &mut Finder<'_>, list: &[Declared<'_>], limit: usize)
     ensures files { finder.new.files.now ≡ finder.old.files.now }
     ensures first { (w : World) → w.files ≡ seen_files finder.old.files.now
         → option_map seen_breach finder.new.first
-            ≡ noted w (option_map seen_breach finder.old.first) (map (λ p. one_too_many (seen_construct p.construct)) (drop limit list.now)) }
+        ≡ noted w (option_map seen_breach finder.old.first) (map (λ p. one_too_many (seen_construct p.construct)) (drop limit list.now)) }
 {
     for at in limit..list.len() {
         note_one(finder, &list[at].construct);
@@ -95,7 +99,7 @@ fn parameters_at(finder: &mut Finder<'_>, nodes: &Nodes<'_>, node: &Node<'_>, li
     ensures files { finder.new.files.now ≡ finder.old.files.now }
     ensures first { (w : World) → w.files ≡ seen_files finder.old.files.now
         → option_map seen_breach finder.new.first
-            ≡ noted w (option_map seen_breach finder.old.first) (map one_too_many (seen.parameters_at nodes.now.lists.items limit node.now)) }
+        ≡ noted w (option_map seen_breach finder.old.first) (map one_too_many (seen.parameters_at nodes.now.lists.items limit node.now)) }
 {
     let Node::Operation { parameters, .. } = node else {
         return;
@@ -110,10 +114,104 @@ fn parameters(finder: &mut Finder<'_>, nodes: &Nodes<'_>, limit: usize)
     ensures files { finder.new.files.now ≡ finder.old.files.now }
     ensures first { (w : World) → w.files ≡ seen_files finder.old.files.now
         → option_map seen_breach finder.new.first
-            ≡ noted w (option_map seen_breach finder.old.first) (map one_too_many (flat_map (seen.parameters_at nodes.now.lists.items limit) nodes.now.items.items)) }
+        ≡ noted w (option_map seen_breach finder.old.first) (map one_too_many (flat_map (seen.parameters_at nodes.now.lists.items limit) nodes.now.items.items)) }
 {
     for node in &nodes.items {
         parameters_at(finder, nodes, node, limit);
+    }
+}
+
+/// How many labels attributes give; `most`, if they are more.
+fn labels_in(attributes: &[Attribute], most: usize) -> usize
+    ensures { result ≡ min (length (of_rules.labels_in (map seen_attribute attributes.now))) most }
+{
+    let mut count = 0usize;
+    for attribute in attributes {
+        let more = match &attribute.kind {
+            AttributeKind::Case(values) => values.len(),
+            AttributeKind::Default => 1,
+            _ => 0,
+        };
+        count = count.saturating_add(more).min(most);
+    }
+    count
+}
+
+/// How many labels a union has; `most`, if they are more.
+fn label_count(body: &TypeSpec, most: usize) -> usize
+    ensures { result ≡ min (length (of_rules.labels_of (seen_type body.now))) most }
+{
+    let mut count = 0usize;
+    match body {
+        TypeSpec::EncapsulatedUnion { cases, .. } => {
+            for case in cases {
+                count = count.saturating_add(case.labels.len()).min(most);
+            }
+        }
+        TypeSpec::NonEncapsulatedUnion { arms, .. } => {
+            for arm in arms {
+                let (Arm::Empty { attributes, .. } | Arm::Typed { attributes, .. }) = arm;
+                count = count
+                    .saturating_add(labels_in(attribute_list(attributes), most))
+                    .min(most);
+            }
+        }
+        _ => {}
+    }
+    count
+}
+
+/// Notes the labels of a union if there are more than may come, and gives how many may come behind them.
+fn labels(finder: &mut Finder<'_>, construct: &Construct<'_>, body: &TypeSpec, left: usize) -> usize
+    ensures left { result ≡ left - length (of_rules.labels_of (seen_type body.now)) }
+    ensures files { finder.new.files.now ≡ finder.old.files.now }
+    ensures first { (w : World) → w.files ≡ seen_files finder.old.files.now
+        → option_map seen_breach finder.new.first
+        ≡ noted w (option_map seen_breach finder.old.first) (map one_too_many (drop left (replicate (length (of_rules.labels_of (seen_type body.now))) (seen_construct construct.now)))) }
+{
+    let count = label_count(body, left.saturating_add(1));
+    pass(finder, construct, count, left)
+}
+
+/// Notes a member if none may come, and gives how many may come behind it.
+fn member(finder: &mut Finder<'_>, construct: &Construct<'_>, left: usize) -> usize
+    ensures left { result ≡ left - length (rules.member_of (seen_construct construct.now).position (seen_construct construct.now)) }
+    ensures files { finder.new.files.now ≡ finder.old.files.now }
+    ensures first { (w : World) → w.files ≡ seen_files finder.old.files.now
+        → option_map seen_breach finder.new.first
+        ≡ noted w (option_map seen_breach finder.old.first) (map one_too_many (drop left (rules.member_of (seen_construct construct.now).position (seen_construct construct.now)))) }
+{
+    match construct.position {
+        Position::Member => pass(finder, construct, 1, left),
+        _ => left,
+    }
+}
+
+/// Notes the members and labels that a node stands for, if there are more than may come, and gives how many may come behind them.
+fn part(finder: &mut Finder<'_>, node: &Node<'_>, left: usize) -> usize
+    ensures left { result ≡ left - length (parts_at node.now) }
+    ensures files { finder.new.files.now ≡ finder.old.files.now }
+    ensures first { (w : World) → w.files ≡ seen_files finder.old.files.now
+        → option_map seen_breach finder.new.first ≡ noted w (option_map seen_breach finder.old.first) (map one_too_many (drop left (parts_at node.now))) }
+{
+    match node {
+        Node::Declarator { it, .. } => member(finder, &it.construct, left),
+        Node::Result { it } => member(finder, &it.construct, left),
+        Node::Labels { construct, body } => labels(finder, construct, body, left),
+        _ => left,
+    }
+}
+
+/// Notes the members of structs and arms of unions from a number on.
+fn parts(finder: &mut Finder<'_>, nodes: &[Node<'_>], limit: usize)
+    ensures files { finder.new.files.now ≡ finder.old.files.now }
+    ensures first { (w : World) → w.files ≡ seen_files finder.old.files.now
+        → option_map seen_breach finder.new.first
+        ≡ noted w (option_map seen_breach finder.old.first) (map one_too_many (drop limit (flat_map parts_at nodes.now))) }
+{
+    let mut left = limit;
+    for node in nodes {
+        left = part(finder, node, left);
     }
 }
 
@@ -122,9 +220,10 @@ pub(crate) fn too_many(finder: &mut Finder<'_>, nodes: &Nodes<'_>, numbers: &Num
     ensures files { finder.new.files.now ≡ finder.old.files.now }
     ensures first { (w : World) (known : Known) (ks : List program_kind) → w.files ≡ seen_files finder.old.files.now → AreNumbers (scene_seen known nodes.now) ks numbers.now
         → option_map seen_breach finder.new.first
-            ≡ noted w (option_map seen_breach finder.old.first) (map one_too_many (rules.too_many (scene_seen known nodes.now))) }
+        ≡ noted w (option_map seen_breach finder.old.first) (map one_too_many (rules.too_many (scene_seen known nodes.now))) }
 {
     types(finder, numbers.own.as_slice(), TYPE_LIMIT as usize - 12);
     operations(finder, nodes.items.as_slice(), OPERATION_LIMIT as usize);
     parameters(finder, nodes, PARAM_LIMIT as usize);
+    parts(finder, nodes.items.as_slice(), MEMBER_LIMIT as usize);
 }

@@ -1,5 +1,5 @@
 // The types of an interface.
-ghost use Rattle.std.specs.Prelude.{◌≡◌, [], None, map, List, MatchOption, IfOk};
+ghost use Rattle.std.specs.Prelude.{◌≡◌, [], None, map, option_map, slice_get, List, MatchOption, IfOk};
 ghost use Rattle.nd_types.specs.declared.types.TypeDef.TheVariants as def;
 ghost use Rattle.idl_grammar.specs.Seen.{seen_type, seen_enumerator};
 ghost use Rattle.idl_names.specs.Seen.{known_in};
@@ -51,6 +51,20 @@ pub(crate) fn number_of(program: &Program<'_, '_>, of: u32) -> TypeId
     TypeId(program.numbers.number(&program.types.kinds, of))
 }
 
+/// What is noted of a body, by its number.
+fn noted_at(types: &Types, number: u32) -> Option<&BodyTypes>
+    ensures { option_map (λ b. b.now) result ≡ slice_get types.now.bodies.items number }
+{
+    types.bodies.get(number as usize)
+}
+
+/// A node, by its number.
+pub(crate) fn node_at<'s, 't>(nodes: &'s Nodes<'t>, number: u32) -> Option<&'s Node<'t>>
+    ensures { option_map (λ n. n.now) result ≡ slice_get nodes.now.items.items number }
+{
+    nodes.items.get(number as usize)
+}
+
 /// The body of a place. What is noted of a body names its node; another would be told as want of memory.
 fn body_at<'s, 't>(
     program: &Program<'s, 't>,
@@ -62,10 +76,10 @@ fn body_at<'s, 't>(
     let Some(number) = program.types.body_of(place) else {
         return Ok(None);
     };
-    let Some(noted) = program.types.bodies.get(number as usize) else {
+    let Some(noted) = noted_at(program.types, number) else {
         return Err(Memory);
     };
-    match program.nodes.items.get(noted.node as usize) {
+    match node_at(program.nodes, noted.node) {
         Some(Node::Body { construct, body }) => Ok(Some(FoundBody {
             construct,
             body,
@@ -130,9 +144,9 @@ fn union_of(
         (tag_id program.now.types.now.kinds program.now.numbers.now found.now.noted.now.tag)
         encapsulated
         (arms_with (map (valued (known_in program.now.scope.now)) (arms_of (seen_type found.now.body.now)))
-            (ids_of program.now.types.now.kinds program.now.numbers.now found.now.noted.now.parts.items))
+        (ids_of program.now.types.now.kinds program.now.numbers.now found.now.noted.now.parts.items))
         (default_with (map (valued (known_in program.now.scope.now)) (arms_of (seen_type found.now.body.now)))
-            (ids_of program.now.types.now.kinds program.now.numbers.now found.now.noted.now.parts.items))) }
+        (ids_of program.now.types.now.kinds program.now.numbers.now found.now.noted.now.parts.items))) }
 {
     let list = valued_arms(alloc, program.scope, found.body)?;
     let ids = numbered(
@@ -152,12 +166,14 @@ fn union_of(
 }
 
 /// The number that a name stands for, or 0.
-fn number_meant(meaning: Option<Meaning>) -> i128
-    ensures { result ≡ meaning.or_zero (world.number_meant meaning) }
+fn value_of(scope: &Scope, name: &[u8]) -> i128
+    ensures { result ≡ meaning.or_zero (world.number_of (known_in scope.now) name.now) }
 {
-    match meaning {
+    match scope.meaning(name) {
         Some(Meaning::Number(number)) => number,
-        _ => 0,
+        Some(Meaning::Type) => 0,
+        Some(Meaning::Other) => 0,
+        None => 0,
     }
 }
 
@@ -168,7 +184,7 @@ fn enum_of(alloc: Global, scope: &Scope, enumerators: &[Enumerator]) -> Result<T
 {
     let mut values = nd::Numbers::new(alloc);
     for enumerator in enumerators {
-        let value = number_meant(scope.meaning(enumerator.name.octets.as_slice()));
+        let value = value_of(scope, enumerator.name.octets.as_slice());
         match values.push(value) {
             Ok(()) => {}
             Err(_) => return Err(Memory),

@@ -1,5 +1,5 @@
 // Why files are refused that are resolved.
-use nd_base::Place;
+use nd_base::{Memory, Place};
 use thiserror::Error;
 
 /// The rule that is broken, or want of memory.
@@ -17,4 +17,15 @@ pub enum RuleFault {
         /// Where it is broken.
         place: Place,
     },
+}
+
+impl From<Memory> for RuleFault {
+    ghost use Rattle.std.specs.Prelude.{◌≡◌};
+    ghost use Rattle.idl_check.specs.declared.fault.RuleFault.TheVariants as faults;
+
+    ghost from_gives = { λ _ e. e ≡ faults.Memory };
+
+    fn from(_: Memory) -> RuleFault {
+        RuleFault::Memory
+    }
 }

@@ -84,7 +84,10 @@ fn minor_said(kind: &AttributeKind) -> Option<u64>
 {
     match kind {
         AttributeKind::Version { minor: None, .. } => Some(0),
-        AttributeKind::Version { minor: Some(minor), .. } => number_of(minor.octets.as_slice()),
+        AttributeKind::Version {
+            minor: Some(minor),
+            ..
+        } => number_of(minor.octets.as_slice()),
         _ => None,
     }
 }

@@ -76,13 +76,7 @@ fn variable_said(kind: &AttributeKind, word: VariableWord) -> Option<&Variable>
     ensures { listed_if (option_map (λ v. v.now) result) ≡ variable_if (variable_word word ∷ []) (attributes_of.variable_said (seen_kind kind.now)) }
 {
     match kind {
-        AttributeKind::Of(said, variable) => {
-            if *said == word {
-                Some(variable)
-            } else {
-                None
-            }
-        }
+        AttributeKind::Of(said, variable) => { if *said == word { Some(variable) } else { None } }
         _ => None,
     }
 }
@@ -132,22 +126,53 @@ fn all_variables(
     ensures { IfOk result (λ v. v ≡ field_vars_by table.now (map seen_attribute attributes.now)) }
 {
     let mut variables = AttrVars::new(alloc);
-    add_variables(&mut variables, table, attributes, VariableWord::SizeIs, Attr::Size)?;
-    add_variables(&mut variables, table, attributes, VariableWord::MaxIs, Attr::Max)?;
-    add_variables(&mut variables, table, attributes, VariableWord::FirstIs, Attr::First)?;
-    add_variables(&mut variables, table, attributes, VariableWord::LengthIs, Attr::Length)?;
-    add_variables(&mut variables, table, attributes, VariableWord::LastIs, Attr::Last)?;
-    add_variables(&mut variables, table, attributes, VariableWord::SwitchIs, Attr::Switch)?;
+    add_variables(
+        &mut variables,
+        table,
+        attributes,
+        VariableWord::SizeIs,
+        Attr::Size,
+    )?;
+    add_variables(
+        &mut variables,
+        table,
+        attributes,
+        VariableWord::MaxIs,
+        Attr::Max,
+    )?;
+    add_variables(
+        &mut variables,
+        table,
+        attributes,
+        VariableWord::FirstIs,
+        Attr::First,
+    )?;
+    add_variables(
+        &mut variables,
+        table,
+        attributes,
+        VariableWord::LengthIs,
+        Attr::Length,
+    )?;
+    add_variables(
+        &mut variables,
+        table,
+        attributes,
+        VariableWord::LastIs,
+        Attr::Last,
+    )?;
+    add_variables(
+        &mut variables,
+        table,
+        attributes,
+        VariableWord::SwitchIs,
+        Attr::Switch,
+    )?;
     Ok(variables)
 }
 
 /// A member or parameter of a list, with its type. Takes memory for its name and variables.
-fn field(
-    alloc: Global,
-    table: &Table<u32>,
-    it: &Declared<'_>,
-    of: TypeId,
-) -> Result<Field, Memory>
+fn field(alloc: Global, table: &Table<u32>, it: &Declared<'_>, of: TypeId) -> Result<Field, Memory>
     ensures { IfOk result (λ f. f ≡ field_by table.now (seen_declared it.now) of) }
 {
     let name = name_of(alloc, &it.declarator.name)?;

@@ -8,7 +8,7 @@ ghost use Rattle.idl_check.specs.SeenOperations.{IsOperation};
 ghost use Rattle.idl_check.specs.SeenOperations as operations_seen;
 ghost use Rattle.idl_check.specs.Made.{ids_of, each_with, parameter_with, IsProgram, scene_in, operation_made};
 
-use crate::definitions::{Program, number_of};
+use crate::definitions::{Program, node_at, number_of};
 use crate::kinds::Kind;
 use crate::members::{name_of, numbered, parameters};
 use crate::nodes::{Declared, Node, Returned};
@@ -48,10 +48,11 @@ fn operation_of(
 ) -> Result<Operation, Memory>
     requires { IsProgram program.now }
     ensures { IfOk result (λ o. o ≡ record {
-        name = it.now.name.now.octets;
-        params = each_with (parameter_with (map seen_declared list.now)) (map seen_declared list.now)
-            (ids_of program.now.types.now.kinds program.now.numbers.now noted.now.parameters.items);
-        result = result_number (scene_in program.now) (type_at program.now.types.now.kinds noted.now.result) }) }
+      name = it.now.name.now.octets;
+      params = each_with (parameter_with (map seen_declared list.now)) (map seen_declared list.now)
+          (ids_of program.now.types.now.kinds program.now.numbers.now noted.now.parameters.items);
+      result = result_number (scene_in program.now) (type_at program.now.types.now.kinds noted.now.result);
+    }) }
 {
     let name = name_of(alloc, it.name)?;
     let ids = numbered(
@@ -78,7 +79,7 @@ fn operation(
     ensures { (o : operations_seen.Called) → IsOperation (scene_in program.now) program.now.nodes.now program.now.types.now.kinds o noted.now
         → IfOk result (λ made. made ≡ operation_made (scene_in program.now) o) }
 {
-    match program.nodes.items.get(noted.node as usize) {
+    match node_at(program.nodes, noted.node) {
         Some(Node::Operation { it, parameters }) => {
             let list = or_empty(program.nodes.list(*parameters));
             operation_of(alloc, program, it, list, noted)
@@ -88,10 +89,7 @@ fn operation(
 }
 
 /// The operations of the main file, in their order. Takes memory for them.
-pub(crate) fn all_operations(
-    alloc: Global,
-    program: &Program<'_, '_>,
-) -> Result<Operations, Memory>
+pub(crate) fn all_operations(alloc: Global, program: &Program<'_, '_>) -> Result<Operations, Memory>
     requires { IsProgram program.now }
     ensures { IfOk result (λ o. o ≡ operations_of (scene_in program.now)) }
 {

@@ -4,7 +4,8 @@ ghost use Rattle.idl_grammar.specs.Seen.{seen_type};
 ghost use Rattle.idl_check.specs.Types as types;
 ghost use Rattle.idl_check.specs.Types.{IdlType, Names};
 ghost use Rattle.idl_check.specs.Lookups.{AreTables};
-ghost use Rattle.idl_check.specs.ReadTypes.{and_place, NamesRead, BodiesRead, AreRead};
+ghost use Rattle.idl_check.specs.ReadTypes.{and_place, is_tag_below, NamesRead, BodiesRead, TagsRead, OperationsRead, AreRead};
+ghost use Rattle.idl_check.specs.SeenOperations.{HasTags, HasOperations};
 ghost use Rattle.idl_check.specs.Scene.{place_of_type, is_nonencapsulated_body, parts_declared, tag_written, tag_type, type_of_body, use_of};
 ghost use Rattle.idl_check.specs.Kinds.{type_by, type_at, is_inside, Keeps};
 ghost use Rattle.idl_check.specs.SeenNames.{are_below, seen_names, are_within, and_name, declared_in, names_with};
@@ -19,7 +20,9 @@ use crate::nodes::{Construct, Declared, Node, Nodes, Position, Returned};
 use crate::parts::parts;
 use crate::places::Places;
 use crate::typing::{declared_type, with_attributes};
-use crate::variables::{Slot, has_no_variable, has_wrong_switch_variable, has_wrong_variable, tables};
+use crate::variables::{
+    Slot, has_no_variable, has_wrong_switch_variable, has_wrong_variable, tables,
+};
 use crate::written::{place_of_body, switch, tag, tagged_kind, written};
 use idl_grammar::{Spelling, SwitchType, TagKind, TypeSpec};
 use idl_names::{Scope, Table};
@@ -188,8 +191,9 @@ fn note_listed(
 {
     let no_variable = has_no_variable(nodes, tables, slot, it);
     let wrong_variable = has_wrong_variable(scope, kinds, names, nodes, tables, slot, it)?;
-    let wrong_switch_variable =
-        has_wrong_switch_variable(scope, kinds, names, nodes, tables, slot, it)?;
+    let wrong_switch_variable = has_wrong_switch_variable(
+        scope, kinds, names, nodes, tables, slot, it,
+    )?;
     let noted = note_declared(scope, kinds, names, it)?;
     Ok(Typed {
         declared_as: noted.declared_as,
@@ -269,9 +273,11 @@ fn noted(
         }
         Node::Result { it } => note_result(scope, kinds, names, it),
         Node::Switch { of, .. } => note_switch(kinds, names, of),
-        Node::Tag { construct, kind, tag } => {
-            note_tag(scope, kinds, construct.file, *kind, tag)
-        }
+        Node::Tag {
+            construct,
+            kind,
+            tag,
+        } => { note_tag(scope, kinds, construct.file, *kind, tag) }
         Node::Body { construct, body } => note_body(kinds, construct, body),
         Node::Labels { construct, body } => note_labels(kinds, names, construct, body),
         _ => note_nothing(kinds),
@@ -336,7 +342,12 @@ pub(crate) fn put_first(names: &mut Table<u32>, name: &Spelling, of: u32) -> Res
 }
 
 /// Gives a typedef's name its type.
-fn declare(names: &mut Table<u32>, position: Position, name: &Spelling, of: u32) -> Result<(), Memory>
+fn declare(
+    names: &mut Table<u32>,
+    position: Position,
+    name: &Spelling,
+    of: u32,
+) -> Result<(), Memory>
     ensures { OnOk result (names.new ≡ declared_in names.old (seen_position position) name.now.octets of) }
 {
     match position {
@@ -350,7 +361,12 @@ fn declare_node(names: &mut Table<u32>, node: &Node, of: u32) -> Result<(), Memo
     ensures { OnOk result (names.new ≡ names_with names.old node.now of) }
 {
     match node {
-        Node::Declarator { it, .. } => declare(names, it.construct.position, &it.declarator.name, of),
+        Node::Declarator { it, .. } => declare(
+            names,
+            it.construct.position,
+            &it.declarator.name,
+            of,
+        ),
         Node::Result { it } => declare(names, it.construct.position, it.name, of),
         _ => Ok(()),
     }
@@ -388,6 +404,25 @@ fn is_nonencapsulated(body: &TypeSpec) -> bool
     }
 }
 
+/// The number of the type of a union's tag, where it is said.
+fn tag_number(
+    kinds: &mut Kinds,
+    names: &Table<u32>,
+    construct: &Construct,
+    body: &TypeSpec,
+) -> Result<Option<u32>, Memory>
+    requires { are_within (length kinds.old) names.now ≡ true }
+    ensures tag { IfOk result (λ o. option_map (type_at kinds.new) o ≡ tag_type (seen_construct construct.now) (seen_names kinds.old names.now) (seen_type body.now)) }
+    ensures within { IfOk result (λ o. is_tag_below (length kinds.new) o ≡ true) }
+    ensures keeps { Keeps kinds.old kinds.new }
+{
+    let Some(said) = tag_said(construct, body) else {
+        return Ok(None);
+    };
+    let number = switch(kinds, names, said)?;
+    Ok(Some(number))
+}
+
 /// What is noted of a body, which is this node.
 fn body_types(
     alloc: Global,
@@ -405,8 +440,11 @@ fn body_types(
     ensures parts { IfOk result (λ b. map (type_at kinds.new) b.parts.items
         ≡ map (types.type_of (known_in scope.now) (seen_names kinds.old names.now)) (parts_declared (seen_construct construct.now) (seen_type body.now))) }
     ensures within { IfOk result (λ b. are_below (length kinds.new) b.parts.items ≡ true) }
+    ensures tag { IfOk result (λ b. option_map (type_at kinds.new) b.tag ≡ tag_type (seen_construct construct.now) (seen_names kinds.old names.now) (seen_type body.now)) }
+    ensures tag_within { IfOk result (λ b. is_tag_below (length kinds.new) b.tag ≡ true) }
     ensures keeps { Keeps kinds.old kinds.new }
 {
+    let tag = tag_number(kinds, names, construct, body)?;
     let declared = parts(alloc, construct, body)?;
     let parts = part_types(alloc, scope, kinds, names, &declared)?;
     Ok(BodyTypes {
@@ -414,12 +452,16 @@ fn body_types(
         node,
         nonencapsulated: is_nonencapsulated(body),
         parts,
-        tag: None,
+        tag,
     })
 }
 
 /// Keeps what is noted of a body, and its number under its place, unless one stands there already.
-fn push_body(bodies: &mut Vec<BodyTypes>, by_place: &mut Places, body: BodyTypes) -> Result<(), Memory>
+fn push_body(
+    bodies: &mut Vec<BodyTypes>,
+    by_place: &mut Places,
+    body: BodyTypes,
+) -> Result<(), Memory>
     ensures bodies { OnOk result (bodies.new.items ≡ bodies.old.items ++ body ∷ []) }
     ensures places { OnOk result (by_place.new ≡ and_place by_place.old body.place (length bodies.old.items)) }
 {
@@ -453,8 +495,11 @@ fn read_body(
     requires within { index < length nodes.now.items.items }
     requires names { NamesRead (known_in scope.now) nodes.now index types.old.kinds names.now }
     requires bodies { BodiesRead (known_in scope.now) nodes.now index types.old.kinds types.old.bodies.items types.old.by_place }
+    requires tags { TagsRead (known_in scope.now) nodes.now index types.old.kinds types.old.bodies.items }
     ensures bodies { OnOk result (BodiesRead (known_in scope.now) nodes.now (index + 1) types.new.kinds types.new.bodies.items types.new.by_place) }
+    ensures tags { OnOk result (TagsRead (known_in scope.now) nodes.now (index + 1) types.new.kinds types.new.bodies.items) }
     ensures typed { types.new.typed ≡ types.old.typed }
+    ensures operations { types.new.operations ≡ types.old.operations }
     ensures keeps { Keeps types.old.kinds types.new.kinds }
 {
     let Node::Body { construct, body } = &nodes.items[index] else {
@@ -463,6 +508,65 @@ fn read_body(
     let node = narrow(index)?;
     let noted = body_types(alloc, scope, &mut types.kinds, names, node, construct, body)?;
     push_body(&mut types.bodies, &mut types.by_place, noted)
+}
+
+/// The types of the parameters of a list; where there is none it is empty.
+fn parameter_types(
+    alloc: Global,
+    scope: &Scope,
+    kinds: &mut Kinds,
+    names: &Table<u32>,
+    nodes: &Nodes,
+    list: u32,
+) -> Result<Vec<u32>, Memory>
+    requires { are_within (length kinds.old) names.now ≡ true }
+    ensures types { IfOk result (λ v. map (type_at kinds.new) v.items ≡ map (types.type_of (known_in scope.now) (seen_names kinds.old names.now)) (list_at nodes.now.lists.items list)) }
+    ensures within { IfOk result (λ v. are_below (length kinds.new) v.items ≡ true) }
+    ensures keeps { Keeps kinds.old kinds.new }
+{
+    match nodes.list(list) {
+        Some(parameters) => part_types(alloc, scope, kinds, names, parameters),
+        None => Ok(Vec::new(alloc)),
+    }
+}
+
+/// What is noted of the operation that a node is.
+fn read_operation(
+    alloc: Global,
+    scope: &Scope,
+    nodes: &Nodes,
+    types: &mut Types,
+    names: &Table<u32>,
+    index: usize,
+) -> Result<(), Memory>
+    requires within { index < length nodes.now.items.items }
+    requires names { NamesRead (known_in scope.now) nodes.now index types.old.kinds names.now }
+    requires operations { OperationsRead (known_in scope.now) nodes.now index types.old.kinds types.old.operations.items }
+    ensures operations { OnOk result (OperationsRead (known_in scope.now) nodes.now (index + 1) types.new.kinds types.new.operations.items) }
+    ensures typed { types.new.typed ≡ types.old.typed }
+    ensures bodies { types.new.bodies ≡ types.old.bodies }
+    ensures by_place { types.new.by_place ≡ types.old.by_place }
+    ensures keeps { Keeps types.old.kinds types.new.kinds }
+{
+    let Node::Operation {
+        it,
+        parameters: list,
+    } = &nodes.items[index]
+    else {
+        return Ok(());
+    };
+    let node = narrow(index)?;
+    let parameters = parameter_types(alloc, scope, &mut types.kinds, names, nodes, *list)?;
+    let result = written(scope, &mut types.kinds, names, it.construct.file, it.of)?;
+    let noted = OperationTypes {
+        node,
+        parameters,
+        result,
+    };
+    let Ok(()) = types.operations.push(noted) else {
+        return Err(Memory);
+    };
+    Ok(())
 }
 
 /// What is noted of the next node.
@@ -481,6 +585,7 @@ fn read_node(
     ensures { OnOk result (AreRead (known_in scope.now) nodes.now (index + 1) types.new names.new) }
 {
     read_body(alloc, scope, nodes, types, names, index)?;
+    read_operation(alloc, scope, nodes, types, names, index)?;
     let node = &nodes.items[index];
     let noted = noted(scope, &mut types.kinds, names, nodes, tables, node)?;
     declare_node(names, node, noted.of)?;
@@ -492,7 +597,9 @@ fn read_node(
 
 /// The types of all nodes. Takes memory for each type once, and for an entry of each node.
 pub(crate) fn of_nodes<'t>(alloc: Global, scope: &Scope, nodes: &Nodes<'t>) -> Result<Types, Memory>
-    ensures { IfOk result (IsTypes (scene_seen (known_in scope.now) nodes.now) nodes.now) }
+    ensures types { IfOk result (IsTypes (scene_seen (known_in scope.now) nodes.now) nodes.now) }
+    ensures tags { IfOk result (HasTags (scene_seen (known_in scope.now) nodes.now)) }
+    ensures operations { IfOk result (HasOperations (scene_seen (known_in scope.now) nodes.now) nodes.now) }
 {
     let tables = tables(alloc, nodes)?;
     let mut names = Table::new(alloc);

@@ -196,7 +196,11 @@ pub(crate) fn declared_type(
         let number = kinds.add(Kind::ContextHandle)?;
         return Ok(number);
     }
-    let Declared { construct, declarator, .. } = declared;
+    let Declared {
+        construct,
+        declarator,
+        ..
+    } = declared;
     let number = with_declarator(scope, kinds, construct, declarator, before)?;
     Ok(number)
 }
@@ -256,7 +260,13 @@ fn pointee_with(kinds: &mut Kinds, attributes: &[Attribute], of: u32) -> Result<
 }
 
 /// An array with attributes.
-fn array_with(kinds: &mut Kinds, attributes: &[Attribute], element: u32, count: Option<i128>, varying: bool) -> Result<u32, Memory>
+fn array_with(
+    kinds: &mut Kinds,
+    attributes: &[Attribute],
+    element: u32,
+    count: Option<i128>,
+    varying: bool,
+) -> Result<u32, Memory>
     requires { element < length kinds.old }
     ensures stands { IfOk result (λ n. Stands kinds.new n (types.array_with (map seen_attribute attributes.now) (type_at kinds.old element) count varying)) }
     ensures keeps { Keeps kinds.old kinds.new }
@@ -283,7 +293,12 @@ fn class_or(class: Option<PointerClass>, other: Class) -> Class
 }
 
 /// A pointer with attributes.
-fn pointer_with(kinds: &mut Kinds, attributes: &[Attribute], class: Class, to: u32) -> Result<u32, Memory>
+fn pointer_with(
+    kinds: &mut Kinds,
+    attributes: &[Attribute],
+    class: Class,
+    to: u32,
+) -> Result<u32, Memory>
     requires { to < length kinds.old }
     ensures stands { IfOk result (λ n. Stands kinds.new n (types.with_attributes (map seen_attribute attributes.now) (Pointer (seen_class class) (type_at kinds.old to)))) }
     ensures keeps { Keeps kinds.old kinds.new }
@@ -295,14 +310,22 @@ fn pointer_with(kinds: &mut Kinds, attributes: &[Attribute], class: Class, to: u
 }
 
 /// A type with the attributes of its declarator.
-pub(crate) fn with_attributes(kinds: &mut Kinds, attributes: &[Attribute], of: u32) -> Result<u32, Memory>
+pub(crate) fn with_attributes(
+    kinds: &mut Kinds,
+    attributes: &[Attribute],
+    of: u32,
+) -> Result<u32, Memory>
     requires { of < length kinds.old }
     ensures stands { IfOk result (λ n. Stands kinds.new n (types.with_attributes (map seen_attribute attributes.now) (type_at kinds.old of))) }
     ensures keeps { Keeps kinds.old kinds.new }
 {
     match kinds.kind(of) {
         Kind::Pointer { class, to } => pointer_with(kinds, attributes, class, to),
-        Kind::Array { element, count, varying } => array_with(kinds, attributes, element, count, varying),
+        Kind::Array {
+            element,
+            count,
+            varying,
+        } => array_with(kinds, attributes, element, count, varying),
         _ => Ok(of),
     }
 }

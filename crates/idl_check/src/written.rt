@@ -159,7 +159,11 @@ pub(crate) fn written(
     match of {
         TypeSpec::Simple(of) => simple(kinds, *of),
         TypeSpec::Name(name) => named(kinds, names, name),
-        TypeSpec::Tag { kind, tag: name, .. } => tag(scope, kinds, file, *kind, name),
+        TypeSpec::Tag {
+            kind,
+            tag: name,
+            ..
+        } => tag(scope, kinds, file, *kind, name),
         TypeSpec::Struct { at, tag, .. } => body(kinds, file, TagKind::Struct, *at, tag),
         TypeSpec::EncapsulatedUnion { at, tag, .. } => body(kinds, file, TagKind::Union, *at, tag),
         TypeSpec::NonEncapsulatedUnion { at, tag, .. } => {

@@ -15,6 +15,6 @@ returns-in-Case c =
     let before = c.args.labels.now.items in
     on_ok_weaker c.add_values.result
     (λ e. e ∙ (ap (λ l. before ++ l) (case_said k at (map seen_expr c.as_slice.result.now))
-      ∙ (ap (λ es. before ++ map (label_value k) (labels_said at (tree.Case (map seen_expr es)))) c.as_slice.ensures.value
-      ∙ ap (λ x. before ++ map (label_value k) (labels_said at (seen_kind x))) (sym c.in-Case.is))))
+    ∙ (ap (λ es. before ++ map (label_value k) (labels_said at (tree.Case (map seen_expr es)))) c.as_slice.ensures.value
+    ∙ ap (λ x. before ++ map (label_value k) (labels_said at (seen_kind x))) (sym c.in-Case.is))))
     c.add_values.ensures

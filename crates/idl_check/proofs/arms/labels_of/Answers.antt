@@ -1,4 +1,4 @@
-use Rattle.std.proofs.Common.{◌∙◌, ◌++◌, refl, arith, map, sym}
+use Rattle.std.proofs.Common.{◌∙◌, refl, arith, map}
 use Rattle.idl_grammar.specs.Seen.{seen_label}
 use Rattle.idl_names.specs.Seen.{known_in}
 use Rattle.idl_check.proofs.Gathering.{gathered}

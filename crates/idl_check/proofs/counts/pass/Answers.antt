@@ -3,7 +3,7 @@ use Rattle.std.specs.Prelude.{ltb}
 use Rattle.idl_check.specs.Noted.{noted, if_broken}
 use Rattle.idl_check.specs.Found.{seen_breach}
 use Rattle.idl_check.specs.SeenNodes.{seen_construct}
-use Rattle.idl_check.proofs.Counted.{passed}
+use Rattle.idl_check.proofs.Passes.{passed}
 use Rattle.idl_check.proofs.counts.pass.Goals as goal
 
 pub returns-clause-first : goal.returns-clause-first

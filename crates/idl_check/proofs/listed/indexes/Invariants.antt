@@ -1,4 +1,4 @@
-use Rattle.std.proofs.Common.{◌≡◌, map, take}
+use Rattle.std.proofs.Common.{map, take}
 use Rattle.idl_check.specs.SeenNodes.{seen_declared}
 use Rattle.idl_check.specs.Made.{AreListed}
 use Rattle.idl_check.proofs.listed.indexes.Given as goal

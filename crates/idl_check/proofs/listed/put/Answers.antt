@@ -1,4 +1,4 @@
-use Rattle.std.proofs.Common.{◌≡◌, ℕ, List, ◌++◌, [], ◌∷◌, length, Option, None, true, is_some, is_none, sym, ap, subst}
+use Rattle.std.proofs.Common.{◌≡◌, ◌++◌, [], ◌∷◌, length, None, true, is_some, ap, subst}
 use Rattle.std.proofs.lemmas.Result.{on_ok_weaker}
 use Rattle.idl_names.specs.Tables.{found, put}
 use Rattle.idl_check.specs.Made.{AreListed}
@@ -17,5 +17,5 @@ returns c = λ before d h n e.
     let none : found d.declarator.name.octets c.args.table.now ≡ None = lacks (found d.declarator.name.octets c.args.table.now) cc in
     on_ok_weaker c.put.result
     (λ p.
-      let made : put c.args.table.now d.declarator.name.octets (length before) ≡ c.put.new.self = cc (c.in_ok-index.ensures) in
-      subst (λ t. AreListed (before ++ d ∷ []) t) made (listed_new before d c.args.table.now h none)) c.put.ensures
+    let made : put c.args.table.now d.declarator.name.octets (length before) ≡ c.put.new.self = cc (c.in_ok-index.ensures) in
+    subst (λ t. AreListed (before ++ d ∷ []) t) made (listed_new before d c.args.table.now h none)) c.put.ensures

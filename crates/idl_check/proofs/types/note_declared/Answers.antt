@@ -8,5 +8,5 @@ with_attributes-requires c = within_stands c.declared_type.new.kinds c.in_ok-dec
 pub returns-clause-within : goal.returns-clause-within
 returns-clause-within c = (
   within_stands c.with_attributes.new.kinds c.in_ok-declared_as.declared_as _ (c.in_ok-of.ensures.keeps _ _ c.in_ok-declared_as.ensures.stands),
-  within_stands c.with_attributes.new.kinds c.in_ok-of.of _ c.in_ok-of.ensures.stands
+  within_stands c.with_attributes.new.kinds c.in_ok-of.of _ c.in_ok-of.ensures.stands,
 )

@@ -11,4 +11,4 @@ returns-in-Body-clause-typed c =
     let known = known_in c.args.scope.now in
     let names = seen_names c.args.kinds.now c.args.names.now in
     subst (λ (n : Node). IfOk c.note_body.result (IsTyped (bare known) names c.note_body.new.kinds c.args.nodes.now.lists.items n)) (sym c.in-Body.is)
-        (ok_then c.note_body.result c.note_body.ensures.typed (λ t h. h names))
+    (ok_then c.note_body.result c.note_body.ensures.typed (λ t h. h names))

@@ -10,7 +10,7 @@ use Rattle.idl_check.proofs.typing.pointee_with.Goals as goal
 plain : (attributes : List Attribute) (t : IdlType) → has string_word attributes ≡ false → has_one_of sizes attributes ≡ false → t ≡ pointee_with attributes t
 plain attributes t string size =
     sym (ap (λ b. elim b [ true ↦ text_of t | false ↦ elim (has_one_of sizes attributes) [ true ↦ sized (has_one_of lengths attributes) t | false ↦ t ] ]) string
-        ∙ ap (λ b. elim b [ true ↦ sized (has_one_of lengths attributes) t | false ↦ t ]) size)
+    ∙ ap (λ b. elim b [ true ↦ sized (has_one_of lengths attributes) t | false ↦ t ]) size)
 
 pub returns-clause-stands : goal.returns-clause-stands
 returns-clause-stands c =

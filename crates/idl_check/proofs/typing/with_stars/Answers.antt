@@ -35,4 +35,4 @@ returns-clause-stands c =
     let end : c.loop-index.index + 1 ≡ length c.args.stars.now = omega (arith, c.in-Some.ensures) in
     c.in_ok-number.ensures.stands
     ∙ ap Some (sym (c.loop-index.invariant.same
-        ∙ star_last (seen_class c.args.default) (seen_class c.args.outermost) (type_at c.loop-index.kinds c.loop-index.to) c.args.stars.now c.loop-index.index end))
+    ∙ star_last (seen_class c.args.default) (seen_class c.args.outermost) (type_at c.loop-index.kinds c.loop-index.to) c.args.stars.now c.loop-index.index end))

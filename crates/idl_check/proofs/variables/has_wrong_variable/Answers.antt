@@ -27,7 +27,7 @@ returns-then-branch-clause-wrong c =
     let e = seen_names-keeps c.args.kinds.now c.loop-attribute.kinds c.args.names.now c.loop-attribute.invariant.keeps c.requires.within in
     let says = ap (λ n. list_any (fails_in known n is_integer list) (variable_if (sizes ++ lengths) (variable_said (seen_kind x.kind)))) (sym e) ∙ sym c.in_ok-says_wrong.ensures.wrong ∙ c.if-branch.true in
     sym (wrong_is known names list c.args.slot.index (seen_declared c.args.it.now)
-        ∙ one_says (fails_in known names is_integer list) (sizes ++ lengths) seen_attribute xs i x _ here c.loop-attribute.invariant.same says)
+    ∙ one_says (fails_in known names is_integer list) (sizes ++ lengths) seen_attribute xs i x _ here c.loop-attribute.invariant.same says)
 
 pub loop-attribute-preserved : goal.loop-attribute-preserved
 loop-attribute-preserved c =

@@ -22,7 +22,7 @@ loop-list-preserved c =
     let below : i < length ls = omega (arith, c.loop-list-test.true, ap length same) in
     let long : length c.loop-list.tables.items ≡ length (take i ls) = omega (arith, c.loop-list.invariant.count, length-take i ls) in
     let more = tables_push c.loop-list.tables.items (take i ls) t l long c.loop-list.invariant.are
-        (λ x. c.in_ok-table.ensures x ∙ ap (λ ds. index_of (listed_from 0 (map seen_declared ds) x)) c.deref.ensures.value) in
+    (λ x. c.in_ok-table.ensures x ∙ ap (λ ds. index_of (listed_from 0 (map seen_declared ds) x)) c.deref.ensures.value) in
     record {
       count = ap length c.in-Ok.ensures.items ∙ length-append c.loop-list.tables.items (t ∷ []) ∙ ap (λ n. n + 1) c.loop-list.invariant.count;
       are = subst (λ (ts : List (List (List ℕ × ℕ))). AreTables ts (take (i + 1) ls)) (sym c.in-Ok.ensures.items)

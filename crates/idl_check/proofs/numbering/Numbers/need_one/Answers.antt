@@ -20,7 +20,7 @@ pub returns : goal.returns
 returns c firsts c' at s =
     let some : c.has_own_number.result ≡ true = search rules in
     let own : numbering.has_own_number (type_at c.args.kinds.now c.args.kind) ≡ true =
-        sym (c.has_own_number.ensures (seen_types c.args.kinds.now) ∙ ap numbering.has_own_number c.kind.ensures.seen) ∙ some in
+    sym (c.has_own_number.ensures (seen_types c.args.kinds.now) ∙ ap numbering.has_own_number c.kind.ensures.seen) ∙ some in
     let none : is_some (found_number (slice_get c.args.self.now.numbers.items c.args.kind)) ≡ false = search rules in
     gets_one c.args.kinds.now firsts c.args.self.now c.give.new.self c' c.args.kind c.args.place s at own none
     (c.in_ok-give.ensures (omega (arith, own_within c.args.kinds.now c.args.kind own, s.count)))

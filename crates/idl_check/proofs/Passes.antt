@@ -47,7 +47,7 @@ copies w b (suc n) first = ap (λ o. noted w o (replicate n b)) (again w b first
 
 -- ## Things that are counted down
 
-drop_none : {X : Type 0} (n : ℕ) (xs : List X) → xs ≡ [] → drop n xs ≡ []
+pub drop_none : {X : Type 0} (n : ℕ) (xs : List X) → xs ≡ [] → drop n xs ≡ []
 drop_none zero xs e = e
 drop_none (suc n) [] e = refl
 drop_none (suc n) (x ∷ xs) e = absurd (let f : x ∷ xs ≡ [] = e in cc)
