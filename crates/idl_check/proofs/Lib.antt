@@ -54,6 +54,7 @@ mod Bridges
 mod UseNotes
 mod RestNotes
 mod CycleNotes
+mod CycleFirst
 pub mod ReadNames
 pub mod ReadSteps
 pub mod ReadBodies
