@@ -55,6 +55,8 @@ mod UseNotes
 mod RestNotes
 mod CycleNotes
 mod CycleFirst
+mod CycleGraph
+mod CycleLeast
 pub mod ReadNames
 pub mod ReadSteps
 pub mod ReadBodies

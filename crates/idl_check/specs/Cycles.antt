@@ -1,5 +1,5 @@
 -- For the code: structs and unions that contain themselves, as a graph of the numbers of bodies.
-use Rattle.std.specs.Prelude.{◌≡◌, ℕ, ◌+◌, ◌*◌, ◌^◌, ◌≤◌, Bool, true, false, List, [], ◌∷◌, Option, Some, None, map, slice_get, slice_index_or}
+use Rattle.std.specs.Prelude.{◌≡◌, ℕ, ◌+◌, ◌*◌, ◌^◌, ◌≤◌, Bool, true, false, List, [], ◌∷◌, Option, Some, None, map, length, slice_get, slice_index_or}
 use Rattle.std.specs.List.{flat_map}
 use Rattle.nd_base.specs.declared.octets.Place.{Place}
 use Rattle.idl_names.specs.Ended.{Ended}
@@ -13,7 +13,7 @@ use Rattle.idl_check.specs.Kinds.{type_at}
 use Rattle.idl_check.specs.Places.{found_place}
 use Rattle.idl_check.specs.Graph.{parts_at}
 
-abbrev option_list : {X : Type 0} → Option X → List X
+abbrev pub option_list : {X : Type 0} → Option X → List X
 option_list (Some x) = x ∷ []
 option_list None = []
 
@@ -26,8 +26,19 @@ abbrev pub numbers_of : program_types.Types → List Place → List ℕ
 numbers_of t places = flat_map (λ p. option_list (found_place p t.by_place)) places
 
 -- the graph of bodies: each holds what the first body of its place holds
-abbrev pub AreHeldBy : Scene → program_types.Types → List (List ℕ) → Type 0
-AreHeldBy s t graph = (i : ℕ) (b : Body) → slice_get (bodies s) i ≡ Some b → slice_get graph i ≡ Some (numbers_of t (held s (place_of b)))
+pub record AreHeldBy (s : Scene) (t : program_types.Types) (graph : List (List ℕ)) : Type 0 where
+  pub count : length graph ≡ length (bodies s)
+  pub row : (i : ℕ) (b : Body) → slice_get (bodies s) i ≡ Some b → parts_at graph i ≡ numbers_of t (held s (place_of b))
+
+-- values of bodies, put at the first body of their place: the least of them
+pub record AreOfPlaces (s : Scene) (t : program_types.Types) (values least : List ℕ) : Type 0 where
+  pub count : length least ≡ length values
+  -- it is the value of a body of the place
+  pub is_value : (j : ℕ) (b : Body) (v : ℕ) → slice_get (bodies s) j ≡ Some b → found_place (place_of b) t.by_place ≡ Some j → slice_get least j ≡ Some v
+      → (i : ℕ) × (c : Body) × (slice_get (bodies s) i ≡ Some c) × (place_of c ≡ place_of b) × (slice_get values i ≡ Some v)
+  -- no body of the place has a lesser one
+  pub least : (i : ℕ) (b : Body) (v j w : ℕ) → slice_get (bodies s) i ≡ Some b → slice_get values i ≡ Some v → found_place (place_of b) t.by_place ≡ Some j
+      → slice_get least j ≡ Some w → w ≤ v
 
 -- the key by which a breach of a body comes first
 abbrev pub key_of : List Ended → Body → ℕ

@@ -73,7 +73,7 @@ innermost (Text t count) = innermost t
 innermost (Pipe t) = innermost t
 innermost _ = []
 
-abbrev held_by : Scene → Place → List Body → List Place
+abbrev pub held_by : Scene → Place → List Body → List Place
 held_by s place [] = []
 held_by s place (b ∷ bs) = elim (same_place (place_of b) place) [ true ↦ flat_map innermost (parts_of s.known b) | false ↦ held_by s place bs ]
 

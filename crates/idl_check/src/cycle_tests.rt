@@ -63,13 +63,13 @@ fn a_struct_that_contains_itself_is_told(rt: HostRuntime) -> Result<(), Fail> {
     assert_told(
         &rt,
         alloc,
-        b"struct a { long x; }; struct b { struct c x[3]; }; struct c { struct b x; };",
+        b"struct a { long x; }; struct b { struct c { struct b x; } y[3]; };",
         Some(44),
     )?;
     assert_told(
         &rt,
         alloc,
-        b"struct d { union e x; }; union e switch (long k) { case 1: struct g y; }; struct g { struct g z; };",
-        Some(95),
+        b"struct a { struct { long x; } y; }; struct d { union switch (long k) { case 1: struct d x; } u; };",
+        Some(58),
     )
 }
