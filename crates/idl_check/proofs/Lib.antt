@@ -56,6 +56,7 @@ mod RestNotes
 mod CycleNotes
 mod CycleFirst
 mod CycleGraph
+mod CycleChosen
 mod CycleLeast
 pub mod ReadNames
 pub mod ReadSteps

@@ -1,5 +1,5 @@
 -- For the code: structs and unions that contain themselves, as a graph of the numbers of bodies.
-use Rattle.std.specs.Prelude.{◌≡◌, ℕ, ◌+◌, ◌*◌, ◌^◌, ◌≤◌, Bool, true, false, List, [], ◌∷◌, Option, Some, None, map, length, slice_get, slice_index_or}
+use Rattle.std.specs.Prelude.{◌≡◌, ℕ, ◌+◌, ◌*◌, ◌^◌, ◌≤◌, ◌<◌, ◌⊎◌, Bool, true, false, List, [], ◌∷◌, Option, Some, None, map, length, slice_get, slice_index_or}
 use Rattle.std.specs.List.{flat_map}
 use Rattle.nd_base.specs.declared.octets.Place.{Place}
 use Rattle.idl_names.specs.Ended.{Ended}
@@ -20,6 +20,10 @@ option_list None = []
 -- For each type the struct or union that it is in its place, or of which it is an array or pipe.
 abbrev pub AreInnermost : List Kind → List (Option Place) → Type 0
 AreInnermost ks places = (n : ℕ) → option_list (slice_index_or places n None) ≡ innermost (type_at ks n)
+
+-- the same of the first `count` types
+abbrev pub AreInnermostBelow : List Kind → ℕ → List (Option Place) → Type 0
+AreInnermostBelow ks count places = (n : ℕ) → n < count → option_list (slice_index_or places n None) ≡ innermost (type_at ks n)
 
 -- the numbers of the first bodies of places; a place without a body has none
 abbrev pub numbers_of : program_types.Types → List Place → List ℕ
@@ -43,6 +47,21 @@ pub record AreOfPlaces (s : Scene) (t : program_types.Types) (values least : Lis
 -- the key by which a breach of a body comes first
 abbrev pub key_of : List Ended → Body → ℕ
 key_of files b = rank_in files b.construct.file * 2 ^ 32 + b.construct.at
+
+-- the key of a body, at its number
+pub record IsKeyAt (files : List Ended) (b : Body) (keys : List ℕ) (i : ℕ) : Type 0 where
+  pub is_key : slice_get keys i ≡ Some (key_of files b)
+  pub narrow : b.construct.at < 2 ^ 32
+
+pub record AreKeys (files : List Ended) (bs : List Body) (keys : List ℕ) : Type 0 where
+  pub count : length keys ≡ length bs
+  pub each : (i : ℕ) (b : Body) → slice_get bs i ≡ Some b → IsKeyAt files b keys i
+
+-- its own number at each number that has the key, and else the number past all
+pub record AreNumbersWith (keys : List ℕ) (key : ℕ) (numbers : List ℕ) : Type 0 where
+  pub count : length numbers ≡ length keys
+  pub with_key : (i : ℕ) → slice_get keys i ≡ Some key → slice_get numbers i ≡ Some i
+  pub others : (i k v : ℕ) → slice_get keys i ≡ Some k → slice_get numbers i ≡ Some v → (k ≡ key) × (v ≡ i) ⊎ (v ≡ length keys)
 
 -- one body contains itself and has this value, and none that does has less
 pub record IsLeastValue (s : Scene) (values : List ℕ) (value : ℕ) : Type 0 where
