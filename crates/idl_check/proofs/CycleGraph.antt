@@ -10,7 +10,7 @@ use Rattle.std.proofs.lemmas.Option.{none-some, same_Some, slice_get_cases, slic
 use Rattle.nd_base.specs.declared.octets.Place.{Place}
 use Rattle.idl_check.specs.declared.nodes.Nodes as program_nodes
 use Rattle.idl_check.specs.declared.types.Types as program_types
-use Rattle.idl_check.specs.Scene.{Scene, Body, bodies, body_among, body_of, place_of, parts_of, same_place}
+use Rattle.idl_check.specs.Scene.{Scene, Body, bodies, body_among, body_of, place_of, parts_of, parts_of_found, same_place}
 use Rattle.idl_check.specs.TypeRules.{innermost, held_by, held, contains_within, contains, contains_itself}
 use Rattle.idl_check.specs.Graph.{parts_at}
 use Rattle.idl_check.specs.Graph as graph
@@ -32,6 +32,13 @@ held_among s p (b ∷ bs) = by (same_place (place_of b) p) (held_among s p bs) w
       → elim t [ true ↦ flat_map innermost (parts_of s.known b) | false ↦ held_by s p bs ] ≡ places_in s (elim t [ true ↦ Some b | false ↦ body_among bs p ])
   by true e = refl
   by false e = e
+
+-- it is of the types that the place holds
+pub held_parts : (s : Scene) (p : Place) → held s p ≡ flat_map innermost (parts_of_found s.known (body_of s p))
+held_parts s p = held_among s p (bodies s) ∙ by (body_of s p) where
+  by : (o : Option Body) → places_in s o ≡ flat_map innermost (parts_of_found s.known o)
+  by None = refl
+  by (Some b) = refl
 
 pub among_place : (p : Place) (bs : List Body) (c : Body) → body_among bs p ≡ Some c → place_of c ≡ p
 among_place p [] c h = absurd (none-some c h)
