@@ -1,5 +1,5 @@
 -- The least value of a body that contains itself is the least key of a node of the graph of bodies that does.
-use Rattle.std.proofs.Common.{◌≡◌, ◌∙◌, ◌⊎◌, inl, inr, ⊥, ℕ, zero, suc, ◌+◌, ◌<◌, ◌≤◌, Bool, true, false, eqb, ◌&&◌, ◌||◌, List, [], ◌∷◌, ◌++◌, length, get_or, Option, Some, None, slice_get, refl, ap, ap₂, sym, subst, arith, true≢false}
+use Rattle.std.proofs.Common.{◌≡◌, ◌∙◌, ◌⊎◌, inl, inr, ℕ, zero, suc, ◌+◌, ◌<◌, ◌≤◌, Bool, true, false, eqb, ◌&&◌, ◌||◌, List, [], ◌∷◌, ◌++◌, length, get_or, Option, Some, None, slice_get, refl, ap, ap₂, sym, subst, arith, true≢false}
 use Rattle.std.specs.Prelude.{slice_index_or, slice_index}
 use Rattle.std.specs.List.{list_any, flat_map}
 use Rattle.std.specs.Option.{option_and_then}
@@ -105,7 +105,7 @@ module _ (s : Scene) (n : program_nodes.Nodes) (t : program_types.Types) (is : I
     below_all i c w valued at has (j, b, found, there, same) =
         let l = slice_get_within (bodies s) j b there in
         let m = of_places.count in
-        let one = of_places.least i c w j (slice_index least j) at valued found (at_least j l) in
+        let one = of_places.no_less i c w j (slice_index least j) at valued found (at_least j l) in
         let two = key.least j (omega (arith, l, m, size)) (sym (itself_by_first c b j found there same) ∙ has) in
         omega (arith, one, two)
     with_value : (b : Body) → contains_itself s b ≡ true → (i : ℕ) × (c : Body) × (slice_get (bodies s) i ≡ Some c) × (place_of c ≡ place_of b) × (slice_get values i ≡ Some v) → IsLeastOf s values (Some v)

@@ -41,7 +41,7 @@ pub record AreOfPlaces (s : Scene) (t : program_types.Types) (values least : Lis
   pub is_value : (j : ℕ) (b : Body) (v : ℕ) → slice_get (bodies s) j ≡ Some b → found_place (place_of b) t.by_place ≡ Some j → slice_get least j ≡ Some v
       → (i : ℕ) × (c : Body) × (slice_get (bodies s) i ≡ Some c) × (place_of c ≡ place_of b) × (slice_get values i ≡ Some v)
   -- no body of the place has a lesser one
-  pub least : (i : ℕ) (b : Body) (v j w : ℕ) → slice_get (bodies s) i ≡ Some b → slice_get values i ≡ Some v → found_place (place_of b) t.by_place ≡ Some j
+  pub no_less : (i : ℕ) (b : Body) (v j w : ℕ) → slice_get (bodies s) i ≡ Some b → slice_get values i ≡ Some v → found_place (place_of b) t.by_place ≡ Some j
       → slice_get least j ≡ Some w → w ≤ v
 
 -- the key by which a breach of a body comes first
