@@ -1,6 +1,5 @@
 pub mod Causes
 pub mod Chunks
-pub mod FileWords
 pub mod Encodings
 pub mod Rows
 pub mod Statuses

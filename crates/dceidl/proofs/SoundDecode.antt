@@ -13,14 +13,15 @@ use Rattle.nd_grammar.specs.Represents.{Represents}
 use Rattle.nd_grammar.specs.Prefix.{BeginsWith}
 use Rattle.nd_grammar.specs.Bad.{Bad}
 use Rattle.nd_grammar.specs.Plain.{IsPlain}
-use Rattle.nd_grammar.specs.Primitives.{param_primitive}
-use Rattle.nd_grammar.proofs.PlainSides.{plain_side}
+use Rattle.nd_types.specs.declared.types.Side.{Side}
+use Rattle.nd_types.specs.Roots.{roots_of}
+use Rattle.nd_graph.specs.Fitting.{setting_of}
+use Rattle.nd_grammar.specs.Primitives.{root_primitive}
+use Rattle.nd_grammar.proofs.PlainSides.{number_side_plain}
 use Rattle.nd_grammar.proofs.PlainVerdict.{never_both, one_graph, one_refusal}
-use Rattle.plain_idl.proofs.OneVerdict.{plain_interface}
-use Rattle.plain_ndr.specs.Decoding.{inputs_of}
 use Rattle.dceidl.specs.declared.task.Task.TheVariants.{Decode}
 use Rattle.dceidl.specs.declared.refusal.Refusal.{Refusal}
-use Rattle.dceidl.specs.declared.refusal.Refusal.TheVariants.{Memory, Absent, FileFailed, BadIdl, NoOperation, ReadFault, BadOctets, BadText, BadValue}
+use Rattle.dceidl.specs.declared.refusal.Refusal.TheVariants.{Memory, Absent, FileFailed, BadIdl, NoOperation, NotBuilt, ReadFault, BadOctets, BadText, BadValue}
 use Rattle.dceidl.specs.declared.refusal.OctetsFault.TheVariants as fault
 use Rattle.dceidl.specs.Outside.{FilesSeen, SinkSeen, Got}
 use Rattle.dceidl.specs.Decode.{IsDecoding, IsTrailing, IsOctetsCause}
@@ -38,9 +39,9 @@ whole_begins w order octets g r c = record {
 }
 
 -- the side of an operation that is accepted is plain
-pub side_of : (f : FilesSeen) (idl op : List ℕ) (i : Interface) (n : ℕ) (o : Operation) → IsAccepted f idl op i n o
-    → IsPlain (inputs_of i o) (map (param_primitive i.types) o.params)
-side_of f idl op i n o accepted = plain_side i.types i.operations n o (plain_interface accepted.file i accepted.plain) accepted.named.is_there
+pub side_of : (f : FilesSeen) (idl op : List ℕ) (side : Side) (i : Interface) (n : ℕ) (o : Operation) → IsAccepted f idl op side i n o
+    → IsPlain (setting_of i o side) (map (root_primitive i.types) (roots_of i.types side o))
+side_of f idl op side i n o accepted = number_side_plain i n o side accepted.built accepted.named.is_there
 
 module _ (notes : SinkSeen) (order : Order) (idl op : List ℕ) (w : Setting) (ps : List Primitive) (side : IsPlain w ps) (octets : List ℕ) (status : ℕ)
     (settled : Settled notes (Decode order) idl op w octets status) where
@@ -63,7 +64,7 @@ module _ (notes : SinkSeen) (order : Order) (idl op : List ℕ) (w : Setting) (p
           absurd (omega (arith, same, trailing.follows))
       by_cause Absent cause is = absurd cause
       by_cause FileFailed cause is = absurd cause
-      by_cause (BadIdl line column reason) cause is = absurd cause
+      by_cause (BadIdl file line column reason) cause is = absurd cause
       by_cause NoOperation cause is = absurd cause
       by_cause ReadFault cause is = absurd cause
       by_cause (BadText line column reason) cause is = absurd cause
@@ -88,7 +89,7 @@ module _ (notes : SinkSeen) (order : Order) (idl op : List ℕ) (w : Setting) (p
           absurd (never_both w order ps octets place' trailing.graph place why side trailing.begins is_bad)
       by_cause Absent cause is line = absurd cause
       by_cause FileFailed cause is line = absurd cause
-      by_cause (BadIdl row column reason) cause is line = absurd cause
+      by_cause (BadIdl file row column reason) cause is line = absurd cause
       by_cause NoOperation cause is line = absurd cause
       by_cause ReadFault cause is line = absurd cause
       by_cause (BadText at column reason) cause is line = absurd cause
@@ -115,7 +116,7 @@ module _ (notes : SinkSeen) (order : Order) (idl op : List ℕ) (w : Setting) (p
           told_as notes idl op status _ _ is line (ap (λ p. BadOctets p fault.Trailing) same.0)
       by_cause Absent cause is line = absurd cause
       by_cause FileFailed cause is line = absurd cause
-      by_cause (BadIdl row column reason) cause is line = absurd cause
+      by_cause (BadIdl file row column reason) cause is line = absurd cause
       by_cause NoOperation cause is line = absurd cause
       by_cause ReadFault cause is line = absurd cause
       by_cause (BadText at column reason) cause is line = absurd cause
