@@ -1,6 +1,8 @@
 pub mod Causes
 pub mod Chunks
+pub mod Compiled
 pub mod Encodings
+pub mod Roots
 pub mod Rows
 pub mod Statuses
 pub mod Sound
@@ -8,3 +10,4 @@ pub mod SoundDecode
 pub mod WholeMisfits
 pub mod SoundEncode
 pub mod RoundTrip
+pub mod Within
