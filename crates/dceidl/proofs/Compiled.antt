@@ -13,14 +13,21 @@ use Rattle.idl_parser.specs.declared.fault.SyntaxFault.TheVariants as parser
 use Rattle.idl_parser.specs.Answered.{Told}
 use Rattle.idl_names.specs.declared.name_fault.NameFault.{NameFault}
 use Rattle.idl_names.specs.declared.name_fault.NameFault.TheVariants as names
-use Rattle.idl_names.specs.Sources.{Source}
+use Rattle.idl_names.specs.Sources.{Source, source, and_source}
 use Rattle.idl_names.specs.Causes.{IsAbsent, IsFailed}
-use Rattle.idl_names.specs.Walk.{State}
+use Rattle.idl_names.specs.Walk.{State, Walk, start, all_of, Stopped}
 use Rattle.idl_check.specs.Rules.{breach}
 use Rattle.idl_check.specs.FirstBroken.{first_broken}
 use Rattle.dceidl.specs.declared.refusal.Refusal.{Refusal}
 use Rattle.dceidl.specs.declared.refusal.Refusal.TheVariants.{Memory}
-use Rattle.dceidl.specs.Idl.{main_file, AreResolved, resolved_world, IsMainFault, IsIdlFault, by_rules, told_rule}
+use Rattle.dceidl.specs.Idl.{main_file, AreResolved, resolved_world, IsMainFault, IsNameFault, IsIdlFault, IsDueImport, by_names, by_rules, told_rule, told_fault, name_in}
+use Rattle.idl_lexer.specs.declared.tokens.LexFault.TheVariants as lexical
+use Rattle.idl_names.specs.declared.name_fault.SyntaxFault.TheVariants as syntax
+use Rattle.nd_base.specs.Outside.{IsContent, IsMissing}
+use Rattle.dceidl.specs.declared.refusal.Refusal.TheVariants.{Absent, FileFailed, BadIdl}
+use Rattle.dceidl.specs.Outside.{FilesSeen, HasRisen}
+use Rattle.dceidl.specs.Ready.{IsTextCause}
+use Rattle.dceidl.proofs.Walks.{walk_absent, walk_failed, last_source}
 use Rattle.dceidl.specs.Reading.{IsToldUnparsed, IsOrMemory}
 
 -- tokens that are no file of the language are a main file that is refused
@@ -75,3 +82,66 @@ main_failed before now text (names.Absent n) h = absurd h
 main_failed before now text (names.Failed n) h = absurd h
 main_failed before now text (names.Lex n x) h = tt
 main_failed before now text (names.Syntax n at x) h = tt
+
+-- ## Faults of names as causes
+
+abbrev Held : Type 0
+Held = Option (List ℕ → Option (List ℕ))
+
+last_name : (sources before : List Source) (name : List ℕ) (n : ℕ) → sources ≡ and_source before name [] → n ≡ length before → name_in sources n ≡ name
+last_name sources before name n same number =
+    ap (λ (s : List Source). name_in s n) same ∙ ap (name_in (and_source before name [])) number ∙ named before name
+  where
+    named : (before : List Source) (name : List ℕ) → name_in (and_source before name []) (length before) ≡ name
+    named before name = rw (last_source before (source name [])) refl
+
+-- an import that is absent is due and missing
+pub absent_due : (held : Held) (idl text : List ℕ) (sources : List Source) (n : ℕ) → IsNameFault held idl text sources (names.Absent n)
+    → IsDueImport held idl text (name_in sources n) × IsMissing held (name_in sources n)
+absent_due held idl text sources n (inl (same, never)) = absurd never
+absent_due held idl text sources n (inr (tree, parsed, inr never)) = absurd never
+absent_due held idl text sources n (inr (tree, parsed, inl walk)) =
+    let r = walk_absent held _ _ sources n walk in
+    let is : r.name ≡ name_in sources n = sym (last_name sources r.before r.name n r.sources_are r.number) in (
+      subst (IsDueImport held idl text) is (record { tree = tree; parsed = parsed; sources = r.before; comes = r.comes }),
+      subst (IsMissing held) is r.missing,
+    )
+
+-- an import whose load fails is due
+pub failed_due : (held : Held) (idl text : List ℕ) (sources : List Source) (n : ℕ) → IsNameFault held idl text sources (names.Failed n)
+    → IsDueImport held idl text (name_in sources n)
+failed_due held idl text sources n (inl (same, never)) = absurd never
+failed_due held idl text sources n (inr (tree, parsed, inr never)) = absurd never
+failed_due held idl text sources n (inr (tree, parsed, inl walk)) =
+    let r = walk_failed held _ _ sources n walk in
+    let is : r.name ≡ name_in sources n = sym (last_name sources r.before r.name n r.sources_are r.number) in
+    subst (IsDueImport held idl text) is (record {
+      tree = tree;
+      parsed = parsed;
+      sources = r.before;
+      comes = subst (λ (s : List Source). Walk held (start (main_file idl text)) (all_of 0 tree) (Stopped s (names.Failed (length r.before)))) r.sources_are
+          (subst (λ k. Walk held (start (main_file idl text)) (all_of 0 tree) (Stopped sources (names.Failed k))) r.number walk);
+    })
+
+fault_cause : (f : FilesSeen) (idl text : List ℕ) (sources : List Source) (x : NameFault) → IsNameFault f.held idl text sources x
+    → IsAbsent f.absences.before f.absences.now x → IsFailed f.faults.before f.faults.now x → IsTextCause f idl text (told_fault sources x)
+fault_cause f idl text sources names.Memory h a b = tt
+fault_cause f idl text sources (names.Unknown p) h a b = by_names sources (names.Unknown p) h refl
+fault_cause f idl text sources (names.Twice p q) h a b = by_names sources (names.Twice p q) h refl
+fault_cause f idl text sources (names.Const p c) h a b = by_names sources (names.Const p c) h refl
+fault_cause f idl text sources (names.ImportCycle p) h a b = by_names sources (names.ImportCycle p) h refl
+fault_cause f idl text sources (names.TooMany p) h a b = by_names sources (names.TooMany p) h refl
+fault_cause f idl text sources (names.Absent n) h a b = (a, absent_due f.held idl text sources n h)
+fault_cause f idl text sources (names.Failed n) h a b = (b, failed_due f.held idl text sources n h)
+fault_cause f idl text sources (names.Lex n lexical.Memory) h a b = tt
+fault_cause f idl text sources (names.Lex n (lexical.At at kind)) h a b = by_names sources (names.Lex n (lexical.At at kind)) h refl
+fault_cause f idl text sources (names.Syntax n at syntax.Memory) h a b = tt
+fault_cause f idl text sources (names.Syntax n at (syntax.Syntax k)) h a b = by_names sources (names.Syntax n at (syntax.Syntax k)) h refl
+fault_cause f idl text sources (names.Syntax n at (syntax.Deep k)) h a b = by_names sources (names.Syntax n at (syntax.Deep k)) h refl
+fault_cause f idl text sources (names.Syntax n at (syntax.Banned k)) h a b = by_names sources (names.Syntax n at (syntax.Banned k)) h refl
+
+pub text_cause : (f : FilesSeen) (idl text : List ℕ) (sources : List Source) (x : NameFault) → IsNameFault f.held idl text sources x
+    → IsAbsent f.absences.before f.absences.now x → IsFailed f.faults.before f.faults.now x → (told : Refusal) → IsOrMemory (told_fault sources x) told
+    → IsTextCause f idl text told
+text_cause f idl text sources x h a b told (inl is) = subst (IsTextCause f idl text) (sym is) (fault_cause f idl text sources x h a b)
+text_cause f idl text sources x h a b told (inr is) = subst (IsTextCause f idl text) (sym is) tt

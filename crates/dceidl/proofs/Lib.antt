@@ -11,3 +11,4 @@ pub mod WholeMisfits
 pub mod SoundEncode
 pub mod RoundTrip
 pub mod Within
+pub mod Walks
