@@ -1,5 +1,5 @@
 -- What compiling answers, from what its steps answer.
-use Rattle.std.proofs.Common.{◌≡◌, ◌⊎◌, ◌∙◌, ℕ, List, [], ◌∷◌, length, Option, Some, Result, Ok, Err, refl, sym, ap, subst, inl, inr}
+use Rattle.std.proofs.Common.{◌≡◌, ◌∙◌, ◌≤◌, ℕ, arith, List, [], ◌∷◌, length, Option, Some, Result, Ok, Err, refl, sym, ap, subst, inl, inr}
 use Rattle.phrases.specs.Text.{Depth, Ban}
 use Rattle.phrases.specs.Reading.{Syntax, Passes}
 use Rattle.nd_base.specs.declared.octets.Place.{Place}
@@ -24,9 +24,10 @@ use Rattle.dceidl.specs.Idl.{main_file, AreResolved, resolved_world, IsMainFault
 use Rattle.idl_lexer.specs.declared.tokens.LexFault.TheVariants as lexical
 use Rattle.idl_names.specs.declared.name_fault.SyntaxFault.TheVariants as syntax
 use Rattle.nd_base.specs.Outside.{IsContent, IsMissing}
-use Rattle.dceidl.specs.declared.refusal.Refusal.TheVariants.{Absent, FileFailed, BadIdl}
+use Rattle.dceidl.specs.declared.refusal.Refusal.TheVariants.{Absent, FileFailed, BadIdl, NoOperation, NotBuilt, ReadFault, BadOctets, BadText, BadValue}
+use Rattle.nd_base.specs.Counts.{Rose}
 use Rattle.dceidl.specs.Outside.{FilesSeen, HasRisen}
-use Rattle.dceidl.specs.Ready.{IsTextCause}
+use Rattle.dceidl.specs.Ready.{IsTextCause, IsIdlCause}
 use Rattle.dceidl.proofs.Walks.{walk_absent, walk_failed, last_source}
 use Rattle.dceidl.specs.Reading.{IsToldUnparsed, IsOrMemory}
 
@@ -45,12 +46,13 @@ unparsed_main text l same tokens (parser.Banned k) h r told =
     (refl, record { lexed = l; told = Passes Ban k; token = k; is_told = (refl, refl); read = record { text_is = same; tokens = tokens; answered = h }; octet = refl })
 
 -- a rule that is broken is told, unless memory was wanting
-pub rule_fault : (held : Option (List ℕ → Option (List ℕ))) (idl text : List ℕ) (state : State) → AreResolved held idl text state → (rule : ℕ) (place : Place)
+pub rule_fault : (f : FilesSeen) (idl text : List ℕ) (state : State) → AreResolved f.held idl text state → (rule : ℕ) (place : Place)
     → first_broken (resolved_world state) ≡ Some (breach rule place) → (told : Refusal) → IsOrMemory (told_rule state.sources rule place) told
-    → IsIdlFault held idl text told ⊎ (told ≡ Memory)
-rule_fault held idl text state resolved rule place first told (inl is) =
-    inl (by_rules state.sources rule place (record { state = state; resolved = resolved; sources_are = refl; first = first }) is)
-rule_fault held idl text state resolved rule place first told (inr is) = inr is
+    → IsTextCause f idl text told
+rule_fault f idl text state resolved rule place first told (inl is) =
+    subst (IsTextCause f idl text) (sym is)
+    (by_rules state.sources rule place (record { state = state; resolved = resolved; sources_are = refl; first = first }) refl)
+rule_fault f idl text state resolved rule place first told (inr is) = subst (IsTextCause f idl text) (sym is) tt
 
 -- one source is a main file
 pub one_source : (s : List Source) → length s ≡ 1 → (idl : List ℕ) × (text : List ℕ) × (s ≡ main_file idl text)
@@ -131,7 +133,7 @@ fault_cause f idl text sources (names.Twice p q) h a b = by_names sources (names
 fault_cause f idl text sources (names.Const p c) h a b = by_names sources (names.Const p c) h refl
 fault_cause f idl text sources (names.ImportCycle p) h a b = by_names sources (names.ImportCycle p) h refl
 fault_cause f idl text sources (names.TooMany p) h a b = by_names sources (names.TooMany p) h refl
-fault_cause f idl text sources (names.Absent n) h a b = (a, absent_due f.held idl text sources n h)
+fault_cause f idl text sources (names.Absent n) h a b = let d = absent_due f.held idl text sources n h in (a, d.0, d.1)
 fault_cause f idl text sources (names.Failed n) h a b = (b, failed_due f.held idl text sources n h)
 fault_cause f idl text sources (names.Lex n lexical.Memory) h a b = tt
 fault_cause f idl text sources (names.Lex n (lexical.At at kind)) h a b = by_names sources (names.Lex n (lexical.At at kind)) h refl
@@ -145,3 +147,32 @@ pub text_cause : (f : FilesSeen) (idl text : List ℕ) (sources : List Source) (
     → IsTextCause f idl text told
 text_cause f idl text sources x h a b told (inl is) = subst (IsTextCause f idl text) (sym is) (fault_cause f idl text sources x h a b)
 text_cause f idl text sources x h a b told (inr is) = subst (IsTextCause f idl text) (sym is) tt
+
+-- ## Loads
+
+rose_later : (before mid now : ℕ) → before ≤ mid → Rose mid now → Rose before now
+rose_later before mid now le rose = grind (arith, le, rose)
+
+-- what came after the load of the main file
+pub after_load : (held : Held) (a b c x y z : ℕ) (idl text : List ℕ) (r : Refusal) → IsContent held idl text → a ≤ b → x ≤ y
+    → IsTextCause (record { held = held; absences = record { before = b; now = c }; faults = record { before = y; now = z } }) idl text r
+    → IsIdlCause (record { held = held; absences = record { before = a; now = c }; faults = record { before = x; now = z } }) idl r
+after_load held a b c x y z idl text Memory content le le' cause = tt
+after_load held a b c x y z idl text (Absent file) content le le' (rose, due, missing) = (rose_later a b c le rose, inr (text, content, due), missing)
+after_load held a b c x y z idl text (FileFailed file) content le le' (rose, due) = (rose_later x y z le' rose, inr (text, content, due))
+after_load held a b c x y z idl text (BadIdl file line column why) content le le' cause = (text, content, cause)
+after_load held a b c x y z idl text NoOperation content le le' cause = absurd cause
+after_load held a b c x y z idl text NotBuilt content le le' cause = absurd cause
+after_load held a b c x y z idl text ReadFault content le le' cause = absurd cause
+after_load held a b c x y z idl text (BadOctets place why) content le le' cause = absurd cause
+after_load held a b c x y z idl text (BadText line column why) content le le' cause = absurd cause
+after_load held a b c x y z idl text (BadValue path why) content le le' cause = absurd cause
+
+-- a main file that is absent, or was not read, is told as that, unless memory was wanting
+pub main_is_absent : (f : FilesSeen) (idl : List ℕ) (r : Refusal) → HasRisen f.absences → IsMissing f.held idl → IsOrMemory (Absent idl) r → IsIdlCause f idl r
+main_is_absent f idl r rose missing (inl is) = subst (IsIdlCause f idl) (sym is) (rose, inl refl, missing)
+main_is_absent f idl r rose missing (inr is) = subst (IsIdlCause f idl) (sym is) tt
+
+pub main_is_failed : (f : FilesSeen) (idl : List ℕ) (r : Refusal) → HasRisen f.faults → IsOrMemory (FileFailed idl) r → IsIdlCause f idl r
+main_is_failed f idl r rose (inl is) = subst (IsIdlCause f idl) (sym is) (rose, inl refl)
+main_is_failed f idl r rose (inr is) = subst (IsIdlCause f idl) (sym is) tt

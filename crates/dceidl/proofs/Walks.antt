@@ -65,20 +65,20 @@ module _ (held : Option (List ℕ → Option (List ℕ))) where
     pub comes : Walk held s due (at_load before name)
 
   pub walk_absent : (s : State) (due : List Due) (sources : List Source) (n : ℕ) → Walk held s due (Stopped sources (names.Absent n)) → IsAbsentAt s due sources n
-  walk_absent s due sources n (goes_on s file step k rest e a d) =
+  walk_absent st ds sources n (goes_on s file step k rest e a d) =
       let r = walk_absent _ rest sources n d in
       record { before = r.before; name = r.name; sources_are = r.sources_are; number = r.number; missing = r.missing; comes = goes_on s file step k rest _ a r.comes }
-  walk_absent s due sources n (faults s file step f rest a) = absurd (passed_fault file s.known step (names.Absent n) a)
-  walk_absent s due sources n (ends s file t rest e d) =
+  walk_absent st ds sources n (faults s file step f rest a) = absurd (passed_fault file s.known step (names.Absent n) a)
+  walk_absent st ds sources n (ends s file t rest e d) =
       let r = walk_absent _ rest sources n d in
       record { before = r.before; name = r.name; sources_are = r.sources_are; number = r.number; missing = r.missing; comes = ends s file t rest _ r.comes }
-  walk_absent s due sources n (again s place name rest e m a b d) =
+  walk_absent st ds sources n (again s place name rest e m a b d) =
       let r = walk_absent s rest sources n d in
       record { before = r.before; name = r.name; sources_are = r.sources_are; number = r.number; missing = r.missing; comes = again s place name rest _ m a b r.comes }
-  walk_absent s due sources n (enters s place name rest e text t is_due c v d) =
+  walk_absent st ds sources n (enters s place name rest e text t is_due c v d) =
       let r = walk_absent _ _ sources n d in
       record { before = r.before; name = r.name; sources_are = r.sources_are; number = r.number; missing = r.missing; comes = enters s place name rest _ text t is_due c v r.comes }
-  walk_absent s due sources n (absent s place name rest is_due m) =
+  walk_absent st ds sources n (absent s place name rest is_due m) =
       record { before = s.sources; name = name; sources_are = refl; number = refl; missing = m; comes = failed s place name rest is_due }
 
   -- a walk that ends at a load that fails
@@ -89,12 +89,12 @@ module _ (held : Option (List ℕ → Option (List ℕ))) where
     pub number : n ≡ length before
 
   pub walk_failed : (s : State) (due : List Due) (sources : List Source) (n : ℕ) → Walk held s due (Stopped sources (names.Failed n)) → IsFailedAt sources n
-  walk_failed s due sources n (goes_on s file step k rest e a d) = walk_failed _ rest sources n d
-  walk_failed s due sources n (faults s file step f rest a) = absurd (passed_fault file s.known step (names.Failed n) a)
-  walk_failed s due sources n (ends s file t rest e d) = walk_failed _ rest sources n d
-  walk_failed s due sources n (again s place name rest e m a b d) = walk_failed s rest sources n d
-  walk_failed s due sources n (enters s place name rest e text t is_due c v d) = walk_failed _ _ sources n d
-  walk_failed s due sources n (failed s place name rest is_due) = record { before = s.sources; name = name; sources_are = refl; number = refl }
+  walk_failed st ds sources n (goes_on s file step k rest e a d) = walk_failed _ rest sources n d
+  walk_failed st ds sources n (faults s file step f rest a) = absurd (passed_fault file s.known step (names.Failed n) a)
+  walk_failed st ds sources n (ends s file t rest e d) = walk_failed _ rest sources n d
+  walk_failed st ds sources n (again s place name rest e m a b d) = walk_failed s rest sources n d
+  walk_failed st ds sources n (enters s place name rest e text t is_due c v d) = walk_failed _ _ sources n d
+  walk_failed st ds sources n (failed s place name rest is_due) = record { before = s.sources; name = name; sources_are = refl; number = refl }
 
 -- the last of the sources
 pub last_source : (before : List Source) (x : Source) → slice_get (before ++ x ∷ []) (length before) ≡ Some x

@@ -1,12 +1,12 @@
 // The interface that files mean: the main file is loaded and read, its names are resolved with those of the files that it imports, and the rules tried.
-ghost use Rattle.std.specs.Prelude.{◌≡◌, ◌⊎◌, ◌≤◌, ℕ, List, Option, length, IfOk, IfErr};
+ghost use Rattle.std.specs.Prelude.{◌≡◌, ◌≤◌, ℕ, List, Option, length, IfOk, IfErr};
 ghost use Rattle.idl_grammar.specs.Seen.{seen_tree};
 ghost use Rattle.idl_names.specs.Files.{IsFile};
 ghost use Rattle.idl_names.specs.Seen.{seen_scope};
 ghost use Rattle.idl_names.specs.Causes.{IsAbsent, IsFailed};
-ghost use Rattle.dceidl.specs.Outside.{files_seen};
+ghost use Rattle.dceidl.specs.Outside.{FilesSeen, files_seen};
 ghost use Rattle.dceidl.specs.declared.refusal.Refusal.{Refusal as RefusalValue};
-ghost use Rattle.dceidl.specs.Idl.{main_file, AreResolved, Means, IsMainFault, IsNameFault, IsIdlFault};
+ghost use Rattle.dceidl.specs.Idl.{main_file, AreResolved, Means, IsMainFault, IsNameFault};
 ghost use Rattle.dceidl.specs.Ready.{IsCompiled, IsIdlCause, IsTextCause};
 ghost use Rattle.dceidl.specs.Reading.{IsOfText, IsToldUnparsed, IsOrMemory};
 
@@ -68,13 +68,24 @@ fn compile_text<F: Files>(
     ensures ok { IfOk result (Means (F.held files.old) idl.now text) }
     ensures err { IfErr result (IsTextCause (files_seen F.held F.absences F.faults files.old files.new) idl.now text) }
 {
-    let mut sources = Sources::new(alloc);
-    if sources.add(idl, text).is_err() {
-        return Err(Refusal::Memory);
-    }
+    let mut sources = match main_sources(alloc, idl, text) {
+        Ok(sources) => sources,
+        Err(_) => return Err(Refusal::Memory),
+    };
     match scope_of(alloc, files, &mut sources) {
         Ok(scope) => checked(alloc, &sources, &scope),
         Err(fault) => Err(or_memory(tell_fault(alloc, &sources, fault))),
+    }
+}
+
+// The main file alone.
+fn main_sources(alloc: Global, idl: &str, text: Octets) -> Result<Sources, Memory>
+    ensures { IfOk result (λ sources. sources ≡ main_file idl.now text) }
+{
+    let mut sources = Sources::new(alloc);
+    match sources.add(idl, text) {
+        Ok(_) => Ok(sources),
+        Err(_) => Err(Memory),
     }
 }
 
@@ -155,8 +166,8 @@ fn no_file(tokens: &Tokens, fault: idl_parser::SyntaxFault) -> NameFault
 fn checked(alloc: Global, sources: &Sources, scope: &Scope) -> Result<Interface, Refusal>
     ensures ok { (held : Option (List ℕ → Option (List ℕ))) (idl text : List ℕ) → AreResolved held idl text (seen_scope sources.now scope.now)
         → IfOk result (Means held idl text) }
-    ensures err { (held : Option (List ℕ → Option (List ℕ))) (idl text : List ℕ) → AreResolved held idl text (seen_scope sources.now scope.now)
-        → IfErr result (λ r. IsIdlFault held idl text r ⊎ (r ≡ Refusal.Memory)) }
+    ensures err { (f : FilesSeen) (idl text : List ℕ) → AreResolved f.held idl text (seen_scope sources.now scope.now)
+        → IfErr result (IsTextCause f idl text) }
 {
     match check(alloc, scope) {
         Ok(interface) => Ok(interface),
