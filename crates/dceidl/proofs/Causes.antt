@@ -20,7 +20,8 @@ use Rattle.dceidl.specs.declared.refusal.Refusal.{Refusal}
 use Rattle.dceidl.specs.declared.refusal.Refusal.TheVariants.{Memory, Absent, FileFailed, BadIdl, NoOperation, NotBuilt, ReadFault, BadOctets, BadText, BadValue}
 use Rattle.dceidl.specs.Outside.{FilesSeen, SourceSeen}
 use Rattle.dceidl.specs.Ready.{IsReady, IsCompiled, IsFileCause, IsIdlCause, IsNotFound}
-use Rattle.dceidl.specs.Decode.{IsDecoding}
+use Rattle.dceidl.specs.declared.refusal.OctetsFault.TheVariants as fault
+use Rattle.dceidl.specs.Decode.{IsDecoding, IsLeftOver, IsOctetsCause}
 use Rattle.dceidl.specs.Task.{limit_of, IsRead, IsMade, IsContentCause, IsInputCause, IsCause, IsMadeOfInput}
 
 item_at : {X : Type 0} (xs : List X) (i : ℕ) → i < length xs → (x : X) × (slice_get xs i ≡ Some x)
@@ -102,10 +103,11 @@ content_cause : (s : SourceSeen) (w : Setting) (task : Task) (octets : List ℕ)
 content_cause s w task octets read Memory cause = tt
 content_cause s w (Decode order) octets read ReadFault cause = absurd cause
 content_cause s w (Encode order chunk) octets read ReadFault cause = absurd cause
-content_cause s w task octets read Absent cause = (octets, read, cause)
-content_cause s w task octets read FileFailed cause = (octets, read, cause)
+content_cause s w task octets read (Absent file) cause = (octets, read, cause)
+content_cause s w task octets read (FileFailed file) cause = (octets, read, cause)
 content_cause s w task octets read (BadIdl file line column reason) cause = (octets, read, cause)
 content_cause s w task octets read NoOperation cause = (octets, read, cause)
+content_cause s w task octets read NotBuilt cause = (octets, read, cause)
 content_cause s w task octets read (BadOctets place why) cause = (octets, read, cause)
 content_cause s w task octets read (BadText line column reason) cause = (octets, read, cause)
 content_cause s w task octets read (BadValue path reason) cause = (octets, read, cause)
@@ -127,3 +129,20 @@ pub task_refused : (f : FilesSeen) (s : SourceSeen) (task : Task) (idl op : List
     → (result : Result (List ℕ) Refusal) → IfErr result (IsInputCause s task (setting_of i o side)) → IfErr result (IsCause f s task idl op side)
 task_refused f s task idl op side i n o ready (Ok made) cause = tt
 task_refused f s task idl op side i n o ready (Err e) cause = inr (i, n, o, ready, cause)
+
+-- octets behind a graph that conforms are what is left over
+pub left_over : (w : Setting) (order : Order) (octets : List ℕ) (taken : ℕ) (g : Graph) → BeginsWith w order octets taken g → (result : Result (List ℕ) Refusal)
+    → IfErr result (IsLeftOver (length octets) taken) → IfErr result (IsOctetsCause w order octets)
+left_over w order octets taken g begins (Ok made) h = tt
+left_over w order octets taken g begins (Err Memory) h = tt
+left_over w order octets taken g begins (Err (BadOctets place fault.Trailing)) h =
+    record { graph = g; begins = subst (λ k. BeginsWith w order octets k g) (sym h.0) begins; follows = omega (arith, h.0, h.1) }
+left_over w order octets taken g begins (Err (BadOctets place (fault.Refused why))) h = absurd h
+left_over w order octets taken g begins (Err (Absent file)) h = absurd h
+left_over w order octets taken g begins (Err (FileFailed file)) h = absurd h
+left_over w order octets taken g begins (Err (BadIdl file line column why)) h = absurd h
+left_over w order octets taken g begins (Err NoOperation) h = absurd h
+left_over w order octets taken g begins (Err NotBuilt) h = absurd h
+left_over w order octets taken g begins (Err ReadFault) h = absurd h
+left_over w order octets taken g begins (Err (BadText line column why)) h = absurd h
+left_over w order octets taken g begins (Err (BadValue path why)) h = absurd h

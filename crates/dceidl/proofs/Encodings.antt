@@ -5,6 +5,7 @@ use Rattle.nd_base.specs.declared.octets.Order.{Order}
 use Rattle.nd_types.specs.declared.interface.Interface.{Interface}
 use Rattle.nd_types.specs.declared.types.Operation.{Operation}
 use Rattle.nd_types.specs.declared.types.Side.{Side}
+use Rattle.nd_types.specs.declared.types.Primitive.{Primitive}
 use Rattle.nd_graph.specs.declared.misfit.Misfit.{Misfit}
 use Rattle.nd_graph.specs.declared.misfit.Misfit.TheVariants as misfit
 use Rattle.nd_graph.specs.declared.misfit.MisfitReason.{MisfitReason}
@@ -42,10 +43,11 @@ module _ (w : Setting) (primitives : List Primitive) (plain : IsPlain w primitiv
   text_cause (BadValue path reason) misfit = record { graph = g; reads = reads; misfit = misfit; whole = is_whole path reason misfit }
   text_cause (BadText line column reason) cause = absurd cause
   text_cause (BadOctets place why) cause = absurd cause
-  text_cause Absent cause = absurd cause
-  text_cause FileFailed cause = absurd cause
+  text_cause (Absent file) cause = absurd cause
+  text_cause (FileFailed file) cause = absurd cause
   text_cause (BadIdl file line column reason) cause = absurd cause
   text_cause NoOperation cause = absurd cause
+  text_cause NotBuilt cause = absurd cause
   text_cause ReadFault cause = absurd cause
 
   pub text_refused : (result : Result (List ℕ) Refusal) → IfErr result (IsValueCause w g) → IfErr result (IsTextCause w text)
@@ -62,10 +64,10 @@ value_cause w g (misfit.At h n reason) first e (inr told) = subst (IsValueCause 
 -- what was encoded of a fit was encoded of its graph
 pub chosen_of : (f : Fitting) (i : Interface) (o : Operation) (n : ℕ) (s : Side) (g : Graph) (order : Order) (chunk : ℕ) (result : Result (List ℕ) Refusal)
     → f ≡ record { graph = g; op = n; side = s; interface = i }
-    → (slice_get i.operations f.op ≡ Some o → IfOk result (Chosen (setting_of i o f.side) order chunk f.graph))
+    → (slice_get i.operations f.op ≡ Some o → IfOk result (Chosen (setting_of i o s) order chunk f.graph))
     → slice_get i.operations n ≡ Some o → IfOk result (Chosen (setting_of i o s) order chunk g)
 chosen_of f i o n s g order chunk result fits chosen there =
-    subst (λ (x : Fitting). slice_get i.operations x.op ≡ Some o → IfOk result (Chosen (setting_of i o x.side) order chunk x.graph)) fits chosen there
+    subst (λ (x : Fitting). slice_get i.operations x.op ≡ Some o → IfOk result (Chosen (setting_of i o s) order chunk x.graph)) fits chosen there
 
 -- a fault by other names for its line, column and reason
 pub same_fault : (w : Setting) (text : List ℕ) (line at column octet : ℕ) (reason why : TextReason) → line ≡ at → column ≡ octet → reason ≡ why
@@ -73,3 +75,16 @@ pub same_fault : (w : Setting) (text : List ℕ) (line at column octet : ℕ) (r
 same_fault w text line at column octet reason why a b c fault =
     subst (λ l. IsTextFault w text l column reason) (sym a)
     (subst (λ k. IsTextFault w text at k reason) (sym b) (subst (IsTextFault w text at octet) (sym c) fault))
+
+-- the same of what conforms
+pub conforms_of : (f : Fitting) (i : Interface) (o : Operation) (n : ℕ) (s : Side) (g : Graph) (result : Result (List ℕ) Refusal)
+    → f ≡ record { graph = g; op = n; side = s; interface = i }
+    → (slice_get i.operations f.op ≡ Some o → IfOk result (λ octets. Conforms (setting_of i o s) f.graph))
+    → slice_get i.operations n ≡ Some o → IfOk result (λ octets. Conforms (setting_of i o s) g)
+conforms_of f i o n s g result fits conforms there =
+    subst (λ (x : Fitting). slice_get i.operations x.op ≡ Some o → IfOk result (λ octets. Conforms (setting_of i o s) x.graph)) fits conforms there
+
+-- want of memory is a cause
+pub memory_cause : (w : Setting) (g : Graph) (result : Result (List ℕ) Refusal) → IfErr result (λ e. e ≡ Memory) → IfErr result (IsValueCause w g)
+memory_cause w g (Ok octets) is = tt
+memory_cause w g (Err e) is = subst (IsValueCause w g) (sym is) tt

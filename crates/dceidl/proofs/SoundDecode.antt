@@ -62,10 +62,11 @@ module _ (notes : SinkSeen) (order : Order) (idl op : List ℕ) (w : Setting) (p
       by_cause (BadOctets place fault.Trailing) trailing is =
           let same = (one_graph w order ps octets place (length octets) trailing.graph g side trailing.begins begins).0 in
           absurd (omega (arith, same, trailing.follows))
-      by_cause Absent cause is = absurd cause
-      by_cause FileFailed cause is = absurd cause
+      by_cause (Absent file) cause is = absurd cause
+      by_cause (FileFailed file) cause is = absurd cause
       by_cause (BadIdl file line column reason) cause is = absurd cause
       by_cause NoOperation cause is = absurd cause
+      by_cause NotBuilt cause is = absurd cause
       by_cause ReadFault cause is = absurd cause
       by_cause (BadText line column reason) cause is = absurd cause
       by_cause (BadValue path reason) cause is = absurd cause
@@ -87,10 +88,11 @@ module _ (notes : SinkSeen) (order : Order) (idl op : List ℕ) (w : Setting) (p
           told_as notes idl op status _ _ is line (ap₂ (λ p q. BadOctets p (fault.Refused q)) same.0 same.1)
       by_cause (BadOctets place' fault.Trailing) trailing is line =
           absurd (never_both w order ps octets place' trailing.graph place why side trailing.begins is_bad)
-      by_cause Absent cause is line = absurd cause
-      by_cause FileFailed cause is line = absurd cause
+      by_cause (Absent file) cause is line = absurd cause
+      by_cause (FileFailed file) cause is line = absurd cause
       by_cause (BadIdl file row column reason) cause is line = absurd cause
       by_cause NoOperation cause is line = absurd cause
+      by_cause NotBuilt cause is line = absurd cause
       by_cause ReadFault cause is line = absurd cause
       by_cause (BadText at column reason) cause is line = absurd cause
       by_cause (BadValue path reason) cause is line = absurd cause
@@ -114,10 +116,11 @@ module _ (notes : SinkSeen) (order : Order) (idl op : List ℕ) (w : Setting) (p
       by_cause (BadOctets place' fault.Trailing) other is line =
           let same = one_graph w order ps octets place' place other.graph goes_on.graph side other.begins goes_on.begins in
           told_as notes idl op status _ _ is line (ap (λ p. BadOctets p fault.Trailing) same.0)
-      by_cause Absent cause is line = absurd cause
-      by_cause FileFailed cause is line = absurd cause
+      by_cause (Absent file) cause is line = absurd cause
+      by_cause (FileFailed file) cause is line = absurd cause
       by_cause (BadIdl file row column reason) cause is line = absurd cause
       by_cause NoOperation cause is line = absurd cause
+      by_cause NotBuilt cause is line = absurd cause
       by_cause ReadFault cause is line = absurd cause
       by_cause (BadText at column reason) cause is line = absurd cause
       by_cause (BadValue path reason) cause is line = absurd cause

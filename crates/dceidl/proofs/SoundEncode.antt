@@ -52,10 +52,11 @@ module _ (notes : SinkSeen) (order : Order) (chunk : ℕ) (idl op : List ℕ) (w
       by_cause (BadText line column why) fault is = absurd (never_both w text g line column why reads fault)
       by_cause (BadValue path reason) bad is =
           absurd (misfit_is_no_fit w bad.graph _ bad.misfit.first (subst (Conforms w) (one_graph w text g bad.graph side reads bad.reads) conforms))
-      by_cause Absent cause is = absurd cause
-      by_cause FileFailed cause is = absurd cause
+      by_cause (Absent file) cause is = absurd cause
+      by_cause (FileFailed file) cause is = absurd cause
       by_cause (BadIdl file line column reason) cause is = absurd cause
       by_cause NoOperation cause is = absurd cause
+      by_cause NotBuilt cause is = absurd cause
       by_cause ReadFault cause is = absurd cause
       by_cause (BadOctets place why) cause is = absurd cause
 
@@ -77,10 +78,11 @@ module _ (notes : SinkSeen) (order : Order) (chunk : ℕ) (idl op : List ℕ) (w
           told_as notes idl op status _ _ is told
           (ap (λ l. BadText l column' why') place.0 ∙ ap₂ (λ c y. BadText line c y) place.1 reason)
       by_cause (BadValue path reason) bad is told = absurd (never_both w text bad.graph line column why bad.reads fault)
-      by_cause Absent cause is told = absurd cause
-      by_cause FileFailed cause is told = absurd cause
+      by_cause (Absent file) cause is told = absurd cause
+      by_cause (FileFailed file) cause is told = absurd cause
       by_cause (BadIdl file line column reason) cause is told = absurd cause
       by_cause NoOperation cause is told = absurd cause
+      by_cause NotBuilt cause is told = absurd cause
       by_cause ReadFault cause is told = absurd cause
       by_cause (BadOctets place reason) cause is told = absurd cause
 
@@ -107,10 +109,11 @@ module _ (notes : SinkSeen) (order : Order) (chunk : ℕ) (idl op : List ℕ) (w
       by_cause (BadValue path reason) bad is told =
           told_as notes idl op status _ _ is told
           (by_misfit path reason (subst (λ h. IsMisfitAt w h path reason) (one_graph w text bad.graph g side bad.reads reads) bad.misfit))
-      by_cause Absent cause is told = absurd cause
-      by_cause FileFailed cause is told = absurd cause
+      by_cause (Absent file) cause is told = absurd cause
+      by_cause (FileFailed file) cause is told = absurd cause
       by_cause (BadIdl file line column reason) cause is told = absurd cause
       by_cause NoOperation cause is told = absurd cause
+      by_cause NotBuilt cause is told = absurd cause
       by_cause ReadFault cause is told = absurd cause
       by_cause (BadOctets place reason) cause is told = absurd cause
 

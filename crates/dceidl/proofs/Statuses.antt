@@ -20,11 +20,11 @@ use Rattle.dceidl.specs.Idl.{IsDueFile}
 use Rattle.dceidl.proofs.Rows.{Ended, ended_done, ended_refused, ended_wanting, ended_unwritten, ended_untold, ended}
 
 -- the octets of the input are not refused as a file is
-no_absence : (task : Task) (w : Setting) (octets file : List ℕ) → IsContentCause task w octets Absent → ⊥
+no_absence : (task : Task) (w : Setting) (octets file : List ℕ) → IsContentCause task w octets (Absent file) → ⊥
 no_absence (Decode order) w octets file cause = cause
 no_absence (Encode order chunk) w octets file cause = cause
 
-no_file_fault : (task : Task) (w : Setting) (octets file : List ℕ) → IsContentCause task w octets FileFailed → ⊥
+no_file_fault : (task : Task) (w : Setting) (octets file : List ℕ) → IsContentCause task w octets (FileFailed file) → ⊥
 no_file_fault (Decode order) w octets file cause = cause
 no_file_fault (Encode order chunk) w octets file cause = cause
 
@@ -40,35 +40,38 @@ module _ (f : FilesSeen) (s : SourceSeen) (out notes : SinkSeen) (status : ℕ) 
     rose_3 ReadFault (inl (never, untouched)) e = absurd never
     rose_3 ReadFault (inr (i, n, o, ready, rose)) e = rose
     rose_3 Memory cause e = cc
-    rose_3 Absent cause e = cc
-    rose_3 FileFailed cause e = cc
+    rose_3 (Absent file) cause e = cc
+    rose_3 (FileFailed file) cause e = cc
     rose_3 (BadIdl file line column reason) cause e = cc
     rose_3 NoOperation cause e = cc
+    rose_3 NotBuilt cause e = cc
     rose_3 (BadOctets place why) cause e = cc
     rose_3 (BadText line column reason) cause e = cc
     rose_3 (BadValue path reason) cause e = cc
 
     rose_7 : (r : Refusal) → IsCause f s task idl op side r → status_of r ≡ 7
-        → HasRisen f.absences × ((file : List ℕ) × (r ≡ Absent file) × IsDueFile f.held idl file × IsMissing f.held file)
+        → HasRisen f.absences × ((file : List ℕ) × (r ≡ (Absent file) file) × IsDueFile f.held idl file × IsMissing f.held file)
     rose_7 (Absent file) (inl ((rose, due, missing), untouched)) e = (rose, file, refl, due, missing)
     rose_7 (Absent file) (inr (i, n, o, ready, (octets, read, cause))) e = absurd (no_absence task (setting_of i o side) octets file cause)
     rose_7 ReadFault cause e = cc
     rose_7 Memory cause e = cc
-    rose_7 FileFailed cause e = cc
+    rose_7 (FileFailed file) cause e = cc
     rose_7 (BadIdl file line column reason) cause e = cc
     rose_7 NoOperation cause e = cc
+    rose_7 NotBuilt cause e = cc
     rose_7 (BadOctets place why) cause e = cc
     rose_7 (BadText line column reason) cause e = cc
     rose_7 (BadValue path reason) cause e = cc
 
-    rose_9 : (r : Refusal) → IsCause f s task idl op side r → status_of r ≡ 9 → HasRisen f.faults × ((file : List ℕ) × (r ≡ FileFailed file) × IsDueFile f.held idl file)
+    rose_9 : (r : Refusal) → IsCause f s task idl op side r → status_of r ≡ 9 → HasRisen f.faults × ((file : List ℕ) × (r ≡ (FileFailed file) file) × IsDueFile f.held idl file)
     rose_9 (FileFailed file) (inl ((rose, due), untouched)) e = (rose, file, refl, due)
     rose_9 (FileFailed file) (inr (i, n, o, ready, (octets, read, cause))) e = absurd (no_file_fault task (setting_of i o side) octets file cause)
     rose_9 ReadFault cause e = cc
     rose_9 Memory cause e = cc
-    rose_9 Absent cause e = cc
+    rose_9 (Absent file) cause e = cc
     rose_9 (BadIdl file line column reason) cause e = cc
     rose_9 NoOperation cause e = cc
+    rose_9 NotBuilt cause e = cc
     rose_9 (BadOctets place why) cause e = cc
     rose_9 (BadText line column reason) cause e = cc
     rose_9 (BadValue path reason) cause e = cc
