@@ -36,12 +36,14 @@ pub ready_is : (f : FilesSeen) (idl op : List ℕ) (side : Side) (i : Interface)
     → IfOk result (λ r. IsNumberSide r.interface.types r.interface.operations r.number r.side)
     → IfOk result (λ r. (o : Operation) × IsReady f idl op side r.interface r.number o)
 ready_is f idl op side i compiled (Ok r) same named sided known built =
-    let (o, there) = item_at r.interface.operations r.number known in
-    (o, record {
-      compiled = subst (IsCompiled f idl) (sym same) compiled;
-      named = record { found = ap (λ (j : Interface). operation_named j.operations op) same ∙ named; is_there = there };
-      built = subst (λ s. has_number_roots r.interface.types s o ≡ true) sided (built o there);
-    })
+    let (o, there) = item_at r.interface.operations r.number known in (
+      o,
+      record {
+        compiled = subst (IsCompiled f idl) (sym same) compiled;
+        named = record { found = ap (λ (j : Interface). operation_named j.operations op) same ∙ named; is_there = there };
+        built = subst (λ s. has_number_roots r.interface.types s o ≡ true) sided (built o there);
+      },
+    )
 ready_is f idl op side i compiled (Err e) same named sided known built = tt
 
 not_found : (f : FilesSeen) (idl op : List ℕ) (side : Side) (i : Interface) → IsCompiled f idl i → (e : Refusal) → IsNotFound i op side e → IsFileCause f idl op side e

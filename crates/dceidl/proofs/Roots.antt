@@ -1,8 +1,10 @@
 -- Whether the roots that a walk gives are primitives.
 use Rattle.std.proofs.Common.{◌≡◌, ◌<◌, ◌≤◌, ℕ, zero, suc, ◌+◌, Bool, true, false, List, [], ◌∷◌, ◌++◌, length, map, take, get_or, Some, refl, ap, ap₂, sym, ◌∙◌, arith, ◌&&◌}
-use Rattle.std.specs.Prelude.{nat_lt}
-use Rattle.std.specs.List.{slice_get, list_all}
-use Rattle.std.proofs.lemmas.Bool.{and_parts, and_from, lt-ltb, le-ltb}
+use Rattle.std.specs.Prelude.{nat_lt, cond, None, Option}
+use Rattle.std.proofs.Common.{subst}
+use Rattle.std.proofs.lemmas.Option.{same_Some}
+use Rattle.std.specs.List.{slice_get, list_all, position, position_or_len}
+use Rattle.std.proofs.lemmas.Bool.{and_parts, and_from, lt-ltb, le-ltb, ltb-true}
 use Rattle.std.proofs.lemmas.List.{take_more}
 use Rattle.std.proofs.lemmas.List.Folds.{list_all-append}
 use Rattle.nd_types.specs.declared.types.Operation.{Operation}
@@ -42,3 +44,10 @@ is_false false h = refl
 -- one that is none
 pub one_is_none : (all : List NamedRoot) (n : ℕ) (r : NamedRoot) → (n < length all) × (r ≡ get_or all n r) → 11 ≤ r.of → false ≡ list_all is_number all
 one_is_none all n r turn large = is_false (list_all is_number all) (large_fails all n r (given_root all n n r refl turn) large)
+
+-- the place of an operation that was found is one of the list
+pub position_within : {X : Type 0} (p : X → Bool) (xs : List X) (n : ℕ) → position p xs ≡ Some n → n < length xs
+position_within p xs n e = by (nat_lt (position_or_len p xs) (length xs)) refl e where
+  by : (b : Bool) → nat_lt (position_or_len p xs) (length xs) ≡ b → cond b (Some (position_or_len p xs)) None ≡ Some n → n < length xs
+  by true h f = subst (λ k. k < length xs) (same_Some _ _ f) (ltb-true (position_or_len p xs) (length xs) h)
+  by false h f = cc

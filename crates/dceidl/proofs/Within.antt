@@ -42,7 +42,6 @@ fault_front {A = A} P t (Ok a) x f e = by_case (eqb a.1 (length t)) e where
 -- ## files of the language
 
 module _ (l : Lexed) where
-
   -- a word that is banned anywhere stands in the text
   banned_within : (k : ℕ) → is_banned (lexemes l) k ≡ true → k < length (lexemes l)
   unfolding is_banned

@@ -172,7 +172,9 @@ fn checked(alloc: Global, sources: &Sources, scope: &Scope) -> Result<Interface,
     match check(alloc, scope) {
         Ok(interface) => Ok(interface),
         Err(RuleFault::Memory) => Err(Refusal::Memory),
-        Err(RuleFault::Broken { rule, place }) => Err(or_memory(tell_rule(alloc, sources, rule, place))),
+        Err(RuleFault::Broken { rule, place }) => Err(or_memory(tell_rule(
+            alloc, sources, rule, place,
+        ))),
     }
 }
 

@@ -36,9 +36,7 @@ pub(crate) fn line(alloc: Global, idl: &str, op: &str, refusal: &Refusal) -> Res
     match refusal {
         Refusal::Memory => Octets::copy(alloc, b"want of memory\n"),
         Refusal::Absent { file } => join(alloc, &[b"absent: ", file.as_slice(), b"\n"]),
-        Refusal::FileFailed { file } => {
-            join(alloc, &[b"file fault: ", file.as_slice(), b"\n"])
-        }
+        Refusal::FileFailed { file } => { join(alloc, &[b"file fault: ", file.as_slice(), b"\n"]) }
         Refusal::BadIdl {
             file,
             line,
@@ -62,10 +60,7 @@ pub(crate) fn line(alloc: Global, idl: &str, op: &str, refusal: &Refusal) -> Res
 fn operation_line(alloc: Global, idl: &str, why: &[u8], op: &str) -> Result<Octets, Memory>
     ensures { IfOk result (λ told. told ≡ joined (codes "idl " ∷ idl.now ∷ why.now ∷ op.now ∷ codes "\n" ∷ [])) }
 {
-    join(
-        alloc,
-        &[b"idl ", idl.as_bytes(), why, op.as_bytes(), b"\n"],
-    )
+    join(alloc, &[b"idl ", idl.as_bytes(), why, op.as_bytes(), b"\n"])
 }
 
 // A file that is refused at a line and column.

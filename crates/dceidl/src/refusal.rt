@@ -61,10 +61,14 @@ pub enum Refusal {
     Memory,
     /// There is no file of the name: the main file, or one that is imported.
     #[error("no such file")]
-    Absent { file: Octets },
+    Absent {
+        file: Octets,
+    },
     /// The file of the name was not read.
     #[error("file failed")]
-    FileFailed { file: Octets },
+    FileFailed {
+        file: Octets,
+    },
     /// The file of the name is refused at a line and column, from 1, in octets.
     #[error("file refused at {line}:{column}: {reason}")]
     BadIdl {

@@ -209,12 +209,14 @@ fn answer<F: Files, S: Source>(
         None => refused(alloc, 2, b"words refused\n"),
         Some(Command::Help) => done(alloc, HELP.as_bytes()),
         Some(Command::Version) => done(alloc, VERSION.as_bytes()),
-        Some(Command::Work {
-            task,
-            idl,
-            op,
-            side,
-        }) => {
+        Some(
+            Command::Work {
+                task,
+                idl,
+                op,
+                side,
+            },
+        ) => {
             match perform(alloc, task, idl, op, side, files, input) {
                 Ok(made) => Outcome::Done(made),
                 Err(refusal) => refused_task(alloc, idl, op, &refusal),

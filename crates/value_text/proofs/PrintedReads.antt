@@ -182,7 +182,6 @@ no_more [] e = refl
 no_more (x ∷ xs) e = cc
 
 module _ (w : Setting) (primitives : List Primitive) (side_plain : IsPlain w primitives) (g h : Graph) (c : Conforms w g) (canon : IsCanon w g h) where
-
   -- the numbers that the graph is
   record Numbers : Type 0 where
     pub numbers : List ℤ

@@ -31,6 +31,7 @@ pub returns-clause-fault : goal.returns-clause-fault
 returns-clause-fault g c idl text same =
     IfErr-weaker c.resolve.result _ _
     (λ e r. inr (
-      seen_tree c.in_ok-tree.tree, c.in_ok-tree.ensures.tree idl text same,
+      seen_tree c.in_ok-tree.tree,
+      c.in_ok-tree.ensures.tree idl text same,
       subst (λ s. IsRefused (g.F.Files.held c.args.files.now) s (seen_tree c.in_ok-tree.tree) c.resolve.new.sources e) same r,
     )) c.resolve.ensures.fault
