@@ -5,6 +5,7 @@ pub mod Encodings
 pub mod Roots
 pub mod Rows
 pub mod Statuses
+pub mod Sides
 pub mod Sound
 pub mod SoundDecode
 pub mod WholeMisfits

@@ -27,16 +27,8 @@ use Rattle.dceidl.specs.Outside.{FilesSeen, SinkSeen, Got}
 use Rattle.dceidl.specs.Decode.{IsDecoding, IsTrailing, IsOctetsCause}
 use Rattle.dceidl.specs.Lines.{status_of, line_of}
 use Rattle.dceidl.specs.Rows.{IsAccepted, Refuses}
-use Rattle.dceidl.proofs.Causes.{take_whole}
+use Rattle.dceidl.proofs.Sides.{whole_begins}
 use Rattle.dceidl.proofs.Sound.{Settled, settled_done, settled_refused, settled_wanting, told_as}
-
-pub whole_begins : (w : Setting) (order : Order) (octets : List ℕ) (g : Graph) → Represents w order octets g → Conforms w g
-    → BeginsWith w order octets (length octets) g
-whole_begins w order octets g r c = record {
-  within = omega arith;
-  represented = subst (λ os. Represents w order os g) (sym (take_whole (length octets) octets (omega arith))) r;
-  conforms = c;
-}
 
 -- the side of an operation that is accepted is plain
 pub side_of : (f : FilesSeen) (idl op : List ℕ) (side : Side) (i : Interface) (n : ℕ) (o : Operation) → IsAccepted f idl op side i n o

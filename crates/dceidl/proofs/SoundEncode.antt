@@ -29,13 +29,8 @@ use Rattle.dceidl.specs.Outside.{FilesSeen, SinkSeen, Got}
 use Rattle.dceidl.specs.Encode.{IsTextCause, IsMisfitAt, home_path}
 use Rattle.dceidl.specs.Lines.{status_of, line_of}
 use Rattle.dceidl.specs.Rows.{IsAccepted, Refuses}
+use Rattle.dceidl.proofs.Sides.{plain_side_of}
 use Rattle.dceidl.proofs.Sound.{Settled, settled_done, settled_refused, settled_wanting, told_as}
-
--- a side whose roots are primitives is plain
-pub plain_side_of : (i : Interface) (n : ℕ) (o : Operation) (side : Side) → has_number_roots i.types side o ≡ true → slice_get i.operations n ≡ Some o
-    → IsPlainSide (setting_of i o side)
-plain_side_of i n o side numbers there =
-    record { primitives = map (root_primitive i.types) (roots_of i.types side o); plain = number_side_plain i n o side numbers there }
 
 pub side_of : (f : FilesSeen) (idl op : List ℕ) (side : Side) (i : Interface) (n : ℕ) (o : Operation) → IsAccepted f idl op side i n o → IsPlainSide (setting_of i o side)
 side_of f idl op side i n o accepted = plain_side_of i n o side accepted.built accepted.named.is_there

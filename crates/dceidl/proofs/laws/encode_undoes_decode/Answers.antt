@@ -1,6 +1,6 @@
 use Rattle.nd_graph.specs.Fitting.{setting_of}
 use Rattle.nd_grammar.proofs.PlainSides.{number_side_plain}
-use Rattle.dceidl.proofs.SoundEncode.{plain_side_of}
+use Rattle.dceidl.proofs.Sides.{plain_side_of}
 use Rattle.dceidl.proofs.RoundTrip.{reads_back, represented_again}
 use Rattle.dceidl.proofs.laws.encode_undoes_decode.Goals as goal
 
