@@ -13,3 +13,5 @@ pub mod SoundEncode
 pub mod RoundTrip
 pub mod Within
 pub mod Walks
+pub mod OneFile
+pub mod OneWalk
