@@ -12,11 +12,11 @@ use Rattle.idl_check.specs.Types.{IdlType, Void, Handle, ContextHandle, Basic, S
 use Rattle.idl_check.specs.Scene.{same_place}
 use Rattle.idl_check.specs.Numbering.{same_type, same_count, same_flag, same_class}
 
-both : (a b : Bool) → (a && b) ≡ true → (a ≡ true) × (b ≡ true)
+pub both : (a b : Bool) → (a && b) ≡ true → (a ≡ true) × (b ≡ true)
 both true b h = (refl, h)
 both false b h = absurd (let e : false ≡ true = h in cc)
 
-place_is : (p q : Place) → same_place p q ≡ true → p ≡ q
+pub place_is : (p q : Place) → same_place p q ≡ true → p ≡ q
 place_is p q h =
     let e = both (eqb p.file q.file) (eqb p.at q.at) h in
     let f : p.file ≡ q.file = grind (arith, nat_tests, e.0) in

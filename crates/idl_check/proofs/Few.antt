@@ -17,19 +17,19 @@ none_mapped : {X Y : Type 0} (f : X → Y) (xs : List X) → map f xs ≡ [] →
 none_mapped f [] h = refl
 none_mapped f (x ∷ xs) h = absurd (let e : f x ∷ map f xs ≡ [] = h in cc)
 
-few : {X : Type 0} (n : ℕ) (xs : List X) → drop n xs ≡ [] → length xs ≤ n
+pub few : {X : Type 0} (n : ℕ) (xs : List X) → drop n xs ≡ [] → length xs ≤ n
 few n xs h = let e : length xs - n ≡ 0 = sym (length-drop n xs) ∙ ap length h in omega (arith, e)
 
-none_too_many : (s : Scene) → breaches_in s ≡ [] → too_many s ≡ []
+pub none_too_many : (s : Scene) → breaches_in s ≡ [] → too_many s ≡ []
 none_too_many s h =
     none_mapped (λ c. breach 39 (place_in c c.at)) (too_many s)
     (neither (flat_map (λ n. breaches_at s n.names n.node) s.nodes) (map (λ c. breach 39 (place_in c c.at)) (too_many s)) h).1
 
-mapped : {X Y : Type 0} (f : X → Y) (xs : List X) → length (map f xs) ≡ length xs
+pub mapped : {X Y : Type 0} (f : X → Y) (xs : List X) → length (map f xs) ≡ length xs
 mapped f [] = refl
 mapped f (x ∷ xs) = let e = mapped f xs in omega (arith, e)
 
-joined : {X : Type 0} (xs ys : List X) → length (xs ++ ys) ≡ length xs + length ys
+pub joined : {X : Type 0} (xs ys : List X) → length (xs ++ ys) ≡ length xs + length ys
 joined [] ys = omega (arith)
 joined (x ∷ xs) ys = let e = joined xs ys in omega (arith, e)
 

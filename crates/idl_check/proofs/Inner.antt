@@ -17,12 +17,12 @@ is_hollow (Pointer c t) = is_void t || is_handle t
 is_hollow (Pipe t) = is_void t || is_handle t
 is_hollow _ = false
 
-neither_one : (a b : Bool) → a ≡ false → b ≡ false → (a || b) ≡ false
+pub neither_one : (a b : Bool) → a ≡ false → b ≡ false → (a || b) ≡ false
 neither_one false b h i = i
 neither_one true b h i = absurd (let e : true ≡ false = h in cc)
 
 -- the parts of a type are itself and those below it
-chain_is : (p : IdlType → Bool) (t : IdlType) → list_any p (chain t) ≡ (p t || list_any p (below t))
+pub chain_is : (p : IdlType → Bool) (t : IdlType) → list_any p (chain t) ≡ (p t || list_any p (below t))
 chain_is p (Array t m v) = refl
 chain_is p (Text t m) = refl
 chain_is p (Pointer c t) = refl
@@ -35,7 +35,7 @@ chain_is p (Struct q) = refl
 chain_is p (Union q) = refl
 chain_is p (Enum q) = refl
 
-further : (p : IdlType → Bool) (t : IdlType) → list_any p (chain t) ≡ false → (p t ≡ false) × (list_any p (below t) ≡ false)
+pub further : (p : IdlType → Bool) (t : IdlType) → list_any p (chain t) ≡ false → (p t ≡ false) × (list_any p (below t) ≡ false)
 further p t h = none_of (p t) (list_any p (below t)) (sym (chain_is p t) ∙ h)
 
 solid : (t : IdlType) → list_any is_void (below t) ≡ false → list_any is_handle (below t) ≡ false → list_any is_hollow (chain t) ≡ false

@@ -16,7 +16,7 @@ pub neither : {X : Type 0} (xs ys : List X) → xs ++ ys ≡ [] → (xs ≡ []) 
 neither [] ys h = (refl, h)
 neither (x ∷ xs) ys h = absurd (let e : x ∷ (xs ++ ys) ≡ [] = h in cc)
 
-fails : (c : Construct) (rule : ℕ) (b : Bool) → broken_in c rule b ≡ [] → b ≡ false
+pub fails : (c : Construct) (rule : ℕ) (b : Bool) → broken_in c rule b ≡ [] → b ≡ false
 fails c rule false h = refl
 fails c rule true h = absurd (cc)
 

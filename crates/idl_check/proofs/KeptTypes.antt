@@ -72,13 +72,13 @@ pub record IsOfDerived (bad : IdlType → Bool) : Type 0 where
   pub unions : (p : Place) → bad (Union p) ≡ false
   pub enums : (p : Place) → bad (Enum p) ≡ false
 
-abbrev is_good : (IdlType → Bool) → IdlType → Bool
+abbrev pub is_good : (IdlType → Bool) → IdlType → Bool
 is_good bad t = not (bad t)
 
 good : (bad : IdlType → Bool) (t : IdlType) → bad t ≡ false → is_good bad t ≡ true
 good bad t h = ap not h
 
-one_good : (bad : IdlType → Bool) (c : Construct) (t : IdlType) → bad t ≡ false → all_are (is_good bad) (needed c t ∷ []) ≡ true
+pub one_good : (bad : IdlType → Bool) (c : Construct) (t : IdlType) → bad t ≡ false → all_are (is_good bad) (needed c t ∷ []) ≡ true
 one_good bad c t h = conjunction (is_good bad t) true (good bad t h) refl
 
 behind : (bad : IdlType → Bool) (ts : List IdlType) (t : IdlType) → list_all (is_good bad) ts ≡ true → bad t ≡ false → list_all (is_good bad) (ts ++ t ∷ []) ≡ true
@@ -87,7 +87,7 @@ behind bad ts t h i = list_all-append (is_good bad) ts (t ∷ []) ∙ conjunctio
 alone : (bad : IdlType → Bool) (t : IdlType) → (bad t || false) ≡ false → list_all (is_good bad) (t ∷ []) ≡ true
 alone bad t h = conjunction (is_good bad t) true (good bad t (none_of (bad t) false h).0) refl
 
-built_good : (bad : IdlType → Bool) (t : IdlType) → list_any bad (chain t) ≡ false → list_all (is_good bad) (built t) ≡ true
+pub built_good : (bad : IdlType → Bool) (t : IdlType) → list_any bad (chain t) ≡ false → list_all (is_good bad) (built t) ≡ true
 built_good bad (Array t m v) h = let e = none_of (bad (Array t m v)) (list_any bad (chain t)) h in behind bad (built t) (Array t m v) (built_good bad t e.1) e.0
 built_good bad (Text t m) h = let e = none_of (bad (Text t m)) (list_any bad (chain t)) h in behind bad (built t) (Text t m) (built_good bad t e.1) e.0
 built_good bad (Pointer c t) h = let e = none_of (bad (Pointer c t)) (list_any bad (chain t)) h in behind bad (built t) (Pointer c t) (built_good bad t e.1) e.0
@@ -100,12 +100,12 @@ built_good bad (Struct p) h = alone bad (Struct p) h
 built_good bad (Union p) h = alone bad (Union p) h
 built_good bad (Enum p) h = alone bad (Enum p) h
 
-tag_good : (bad : IdlType → Bool) → IsOfDerived bad → (known : Known) (file : ℕ) (kind : TagKind) (tag : Spelling) → bad (type_of_tag known file kind tag) ≡ false
+pub tag_good : (bad : IdlType → Bool) → IsOfDerived bad → (known : Known) (file : ℕ) (kind : TagKind) (tag : Spelling) → bad (type_of_tag known file kind tag) ≡ false
 tag_good bad is known file tag_kind.Struct tag = is.structs _
 tag_good bad is known file tag_kind.Union tag = is.unions _
 tag_good bad is known file tag_kind.Enum tag = is.enums _
 
-body_good : (bad : IdlType → Bool) → IsOfDerived bad → (c : Construct) (names : Names) (body : TypeSpec) → bad (type_of_body (record { construct = c; names = names; body = body })) ≡ false
+pub body_good : (bad : IdlType → Bool) → IsOfDerived bad → (c : Construct) (names : Names) (body : TypeSpec) → bad (type_of_body (record { construct = c; names = names; body = body })) ≡ false
 body_good bad is c names (tree.Struct at tag ms) = is.structs _
 body_good bad is c names (tree.Enum at tag es) = is.enums _
 body_good bad is c names (tree.EncapsulatedUnion at tag d name cases) = is.unions _

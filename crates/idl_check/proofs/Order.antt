@@ -20,13 +20,13 @@ one_way r k p s l q h = grind (arith, nat_tests, h)
 passed_on : (r k p s l q t m o : ℕ) → before r k p s l q ≡ false → before s l q t m o ≡ false → before r k p t m o ≡ false
 passed_on r k p s l q t m o h i = grind (arith, nat_tests, h, i)
 
-behind_not : (w : World) (a b : Breach) → comes_before w a b ≡ true → comes_before w b a ≡ false
+pub behind_not : (w : World) (a b : Breach) → comes_before w a b ≡ true → comes_before w b a ≡ false
 behind_not w a b h = one_way a.rule (rank w a.place.file) a.place.at b.rule (rank w b.place.file) b.place.at h
 
 not_before_itself : (w : World) (a : Breach) → comes_before w a a ≡ false
 not_before_itself w a = not_itself a.rule (rank w a.place.file) a.place.at
 
-not_before_next : (w : World) (a b c : Breach) → comes_before w a b ≡ false → comes_before w b c ≡ false → comes_before w a c ≡ false
+pub not_before_next : (w : World) (a b c : Breach) → comes_before w a b ≡ false → comes_before w b c ≡ false → comes_before w a c ≡ false
 not_before_next w a b c h i =
     passed_on a.rule (rank w a.place.file) a.place.at b.rule (rank w b.place.file) b.place.at c.rule (rank w c.place.file) c.place.at h i
 

@@ -20,7 +20,7 @@ use Rattle.idl_check.specs.Scene.{Scoped, Scene, Body, body_of, type_of_body}
 use Rattle.idl_check.specs.Rules.{breaches_in}
 use Rattle.idl_check.specs.PointerRules.{refers_to_reference}
 use Rattle.idl_check.specs.Numbering.{Needed, needed, built, needed_by, needed_types, own_types, same_type, is_numbered, is_numbered_or_none}
-use Rattle.idl_check.specs.Meaning.{definition, types_of, struct_of, defined_by, defined_at}
+use Rattle.idl_check.specs.Meaning.{definition, types_of, struct_of, defined_by, defined_at, body_if, is_struct, is_union, is_enum}
 use Rattle.idl_check.proofs.Equal.{type_is}
 use Rattle.idl_check.proofs.Numbers.{at_its_number}
 use Rattle.idl_check.proofs.Needed.{conjunction, right, itself, is_among, each_one, all_among}
@@ -30,7 +30,7 @@ use Rattle.idl_check.proofs.Inner.{is_hollow, all_solid}
 -- ## What a needed type is made of is needed
 
 -- what a type is made of, or points to; a type that is made of none itself
-abbrev inner_of : IdlType → IdlType
+abbrev pub inner_of : IdlType → IdlType
 inner_of (Array t m v) = t
 inner_of (Text t m) = t
 inner_of (Pointer c t) = t
@@ -40,7 +40,7 @@ inner_of t = t
 abbrev stands : List IdlType → IdlType → Bool
 stands us t = list_any (λ u. same_type u t) us
 
-left : (a b : Bool) → a ≡ true → (a || b) ≡ true
+pub left : (a b : Bool) → a ≡ true → (a || b) ≡ true
 left true b h = refl
 left false b h = absurd (let e : false ≡ true = h in cc)
 
@@ -50,7 +50,7 @@ in_front us x t h = list_any-append (λ u. same_type u t) us (x ∷ []) ∙ left
 at_end : (us : List IdlType) (x : IdlType) → stands (us ++ x ∷ []) x ≡ true
 at_end us x = list_any-append (λ u. same_type u x) us (x ∷ []) ∙ right (stands us x) (stands (x ∷ []) x) (left (same_type x x) false (itself x))
 
-last : (t : IdlType) → stands (built t) t ≡ true
+pub last : (t : IdlType) → stands (built t) t ≡ true
 last (Array t m v) = at_end (built t) (Array t m v)
 last (Text t m) = at_end (built t) (Text t m)
 last (Pointer c t) = at_end (built t) (Pointer c t)
@@ -97,7 +97,7 @@ closed (Struct p) t h = single (Struct p) t refl h
 closed (Union p) t h = single (Union p) t refl h
 closed (Enum p) t h = single (Enum p) t refl h
 
-as_list : (c : Construct) (us : List IdlType) (t : IdlType) → is_among (map (needed c) us) t ≡ stands us t
+pub as_list : (c : Construct) (us : List IdlType) (t : IdlType) → is_among (map (needed c) us) t ≡ stands us t
 as_list c [] t = refl
 as_list c (u ∷ us) t = ap (λ b. same_type u t || b) (as_list c us t)
 
@@ -163,7 +163,7 @@ inner_numbered s =
 
 -- ## Pointers in the table
 
-numbered : (s : Scene) (t : IdlType) → (is_void t || is_handle t) ≡ false → is_numbered_or_none s t ≡ true → is_numbered s t ≡ true
+pub numbered : (s : Scene) (t : IdlType) → (is_void t || is_handle t) ≡ false → is_numbered_or_none s t ≡ true → is_numbered s t ≡ true
 numbered s Void h i = absurd (let e : true ≡ false = h in cc)
 numbered s Handle h i = absurd (let e : true ≡ false = h in cc)
 numbered s ContextHandle h i = i
@@ -198,9 +198,9 @@ alike s (Pointer None t) = refl
 alike s (Pointer (Some class.Reference) t) = refl
 alike s (Pointer (Some class.Unique) t) = refl
 alike s (Pointer (Some class.Full) t) = refl
-alike s (Struct p) = found_none s (body_of s p)
-alike s (Union p) = found_none s (body_of s p)
-alike s (Enum p) = found_none s (body_of s p)
+alike s (Struct p) = found_none s (body_if is_struct (body_of s p))
+alike s (Union p) = found_none s (body_if is_union (body_of s p))
+alike s (Enum p) = found_none s (body_if is_enum (body_of s p))
 alike s (Array t m v) = refl
 alike s (Text t m) = refl
 alike s (Pipe t) = refl
@@ -209,7 +209,7 @@ alike s Handle = refl
 alike s ContextHandle = refl
 alike s (Basic p) = refl
 
-untrue : (a : Bool) → not a ≡ true → a ≡ false
+pub untrue : (a : Bool) → not a ≡ true → a ≡ false
 untrue false h = refl
 untrue true h = absurd (let e : false ≡ true = h in cc)
 
@@ -235,9 +235,9 @@ fact : (s : Scene) (t : IdlType) → not (refers_to_reference t) ≡ true → no
 fact s (Pointer c t) h i j =
     let n = numbered s t (untrue (is_void t || is_handle t) i) j in
     ap (λ d. not (kinds.is_reference d) && true) (at_its_number s t n) ∙ ap (λ b. not b && true) (alike s t ∙ untrue (is_reference t) h)
-fact s (Struct p) h i j = found_points (types_of s) s (body_of s p)
-fact s (Union p) h i j = found_points (types_of s) s (body_of s p)
-fact s (Enum p) h i j = found_points (types_of s) s (body_of s p)
+fact s (Struct p) h i j = found_points (types_of s) s (body_if is_struct (body_of s p))
+fact s (Union p) h i j = found_points (types_of s) s (body_if is_union (body_of s p))
+fact s (Enum p) h i j = found_points (types_of s) s (body_if is_enum (body_of s p))
 fact s (Array t m v) h i j = refl
 fact s (Text t m) h i j = refl
 fact s (Pipe t) h i j = refl
@@ -246,7 +246,7 @@ fact s Handle h i j = refl
 fact s ContextHandle h i j = refl
 fact s (Basic p) h i j = refl
 
-parts : (a b : Bool) → (a && b) ≡ true → (a ≡ true) × (b ≡ true)
+pub parts : (a b : Bool) → (a && b) ≡ true → (a ≡ true) × (b ≡ true)
 parts true b h = (refl, h)
 parts false b h = absurd (let e : false ≡ true = h in cc)
 

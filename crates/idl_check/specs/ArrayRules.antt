@@ -16,24 +16,24 @@ dimensions _ = []
 
 -- Rule 14: a fixed dimension has 1 to 16,777,216 elements, and so has the product of an array's dimensions.
 
-abbrev is_few : ℤ → Bool
+abbrev pub is_few : ℤ → Bool
 is_few z = int_le (pos 1) z && int_le z (pos ELEMENT_LIMIT)
 
 -- what a fixed dimension, or a product of such, has to be
-abbrev is_right_count : Option ℤ → Bool
+abbrev pub is_right_count : Option ℤ → Bool
 is_right_count None = true
 is_right_count (Some z) = is_few z
 
-abbrev times : Option ℤ → Option ℤ → Option ℤ
+abbrev pub times : Option ℤ → Option ℤ → Option ℤ
 times (Some a) (Some b) = Some (a *ℤ b)
 times _ _ = None
 
 -- the product of dimensions, where each is fixed
-abbrev product : List (Option ℤ) → Option ℤ
+abbrev pub product : List (Option ℤ) → Option ℤ
 product [] = Some (pos 1)
 product (c ∷ cs) = times c (product cs)
 
-abbrev has_wrong_count : IdlType → Bool
+abbrev pub has_wrong_count : IdlType → Bool
 has_wrong_count (Array t count varying) = not (is_right_count count) || not (is_right_count (product (dimensions (Array t count varying))))
 has_wrong_count _ = false
 
@@ -42,11 +42,11 @@ has_wrong_counts u = list_any has_wrong_count (chain u.declared_as)
 
 -- Rule 16: an array of more than one dimension is fixed in each, and has no length_is, first_is, last_is or string.
 
-abbrev are_many : List (Option ℤ) → Bool
+abbrev pub are_many : List (Option ℤ) → Bool
 are_many (c ∷ d ∷ cs) = true
 are_many _ = false
 
-abbrev has_many_not_fixed : IdlType → Bool
+abbrev pub has_many_not_fixed : IdlType → Bool
 has_many_not_fixed t = are_many (dimensions t) && list_any is_none (dimensions t)
 
 abbrev pub has_wrong_dimensions : Use → Bool
@@ -56,7 +56,7 @@ has_wrong_dimensions u =
 
 -- Rule 17: an array's element does not hoist and is no varying array or text.
 
-abbrev has_wrong_element : Scene → IdlType → Bool
+abbrev pub has_wrong_element : Scene → IdlType → Bool
 has_wrong_element s (Array t count varying) = hoists s t || is_text t || is_varying_array t
 has_wrong_element s _ = false
 
@@ -65,7 +65,7 @@ has_wrong_elements s u = list_any (has_wrong_element s) (chain u.type)
 
 -- Rule 18: a struct's member that hoists is its last.
 
-abbrev is_member : Position → Bool
+abbrev pub is_member : Position → Bool
 is_member InMember = true
 is_member _ = false
 
@@ -74,7 +74,7 @@ hoists_before_last s u = is_member u.construct.position && ltb (u.index + 1) (le
 
 -- Rule 19: a union's arm does not hoist.
 
-abbrev is_arm : Position → Bool
+abbrev pub is_arm : Position → Bool
 is_arm InArm = true
 is_arm InCasedArm = true
 is_arm _ = false
@@ -84,7 +84,7 @@ is_hoisting_arm s u = is_arm u.construct.position && hoists s u.type
 
 -- Rule 20: a pipe's element holds no pointer, no conformant or varying array, no text, no context handle and no pipe.
 
-abbrev is_barred_by : Scene → (IdlType → Bool) → IdlType → Bool
+abbrev pub is_barred_by : Scene → (IdlType → Bool) → IdlType → Bool
 is_barred_by s is_barred (Pointer class to) = true
 is_barred_by s is_barred ContextHandle = true
 is_barred_by s is_barred (Pipe t) = true
@@ -100,7 +100,7 @@ is_barred_within (suc n) s t = is_barred_by s (is_barred_within n s) t
 unfoldable pub is_barred_in_pipes : Scene → IdlType → Bool
 is_barred_in_pipes s t = is_barred_within NESTING_LIMIT s t
 
-abbrev is_wrong_pipe : Scene → IdlType → Bool
+abbrev pub is_wrong_pipe : Scene → IdlType → Bool
 is_wrong_pipe s (Pipe t) = is_barred_in_pipes s t
 is_wrong_pipe s _ = false
 

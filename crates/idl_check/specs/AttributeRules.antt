@@ -37,15 +37,15 @@ lacks_uuid_and_local c = eqb c.file 0 && not (has (codes "uuid") c.attributes) &
 
 -- Rule 4: the numbers of a version are at most 65,535.
 
-abbrev is_past_65535 : Option ℕ → Bool
+abbrev pub is_past_65535 : Option ℕ → Bool
 is_past_65535 None = true
 is_past_65535 (Some n) = ltb 65535 n
 
-abbrev is_large_minor : Option Spelling → Bool
+abbrev pub is_large_minor : Option Spelling → Bool
 is_large_minor None = false
 is_large_minor (Some s) = is_past_65535 (number_of s.octets)
 
-abbrev is_large_version_in : AttributeKind → Bool
+abbrev pub is_large_version_in : AttributeKind → Bool
 is_large_version_in (tree.Version major minor) = is_past_65535 (number_of major.octets) || is_large_minor minor
 is_large_version_in _ = false
 

@@ -98,15 +98,15 @@ abbrev pub first_said : {X : Type 0} → (AttributeKind → Option X) → List A
 first_said says [] = None
 first_said says (a ∷ more) = elim (says a.kind) [ Some x ↦ Some x | None ↦ first_said says more ]
 
-abbrev class_said : AttributeKind → Option PointerClass
+abbrev pub class_said : AttributeKind → Option PointerClass
 class_said (tree.Class c) = Some c
 class_said _ = None
 
-abbrev default_said : AttributeKind → Option PointerClass
+abbrev pub default_said : AttributeKind → Option PointerClass
 default_said (tree.PointerDefault c) = Some c
 default_said _ = None
 
-abbrev switch_said : AttributeKind → Option SwitchType
+abbrev pub switch_said : AttributeKind → Option SwitchType
 switch_said (tree.SwitchTypeIs s) = Some s
 switch_said _ = None
 

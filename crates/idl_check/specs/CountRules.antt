@@ -12,25 +12,25 @@ use Rattle.idl_check.specs.Numbering.{own_types}
 abbrev pub types_too_many : Scene → List Construct
 types_too_many s = drop (TYPE_LIMIT - length basic_types) (map (λ n. n.construct) (own_types s))
 
-abbrev operation_in : Node → List Construct
+abbrev pub operation_in : Node → List Construct
 operation_in (OperationNode c name parameters result) = c ∷ []
 operation_in _ = []
 
 abbrev pub operations_too_many : Scene → List Construct
 operations_too_many s = drop OPERATION_LIMIT (flat_map (λ n. operation_in n.node) s.nodes)
 
-abbrev parameters_in : Node → List Construct
+abbrev pub parameters_in : Node → List Construct
 parameters_in (OperationNode c name parameters result) = map (λ p. p.construct) parameters
 parameters_in _ = []
 
 abbrev pub parameters_too_many : Scene → List Construct
 parameters_too_many s = flat_map (λ n. drop PARAM_LIMIT (parameters_in n.node)) s.nodes
 
-abbrev member_of : Position → Construct → List Construct
+abbrev pub member_of : Position → Construct → List Construct
 member_of InMember c = c ∷ []
 member_of _ c = []
 
-abbrev part_in : Node → List Construct
+abbrev pub part_in : Node → List Construct
 part_in (DeclaratorNode list index d) = member_of d.construct.position d.construct
 part_in (LabelNode c body before label) = c ∷ []
 part_in _ = []

@@ -8,7 +8,7 @@ use Rattle.idl_check.specs.Scene.{same_place}
 use Rattle.idl_check.specs.Rules.{Breach, breaches}
 
 -- how many files ended before this one
-abbrev rank_in : List Ended → ℕ → ℕ
+abbrev pub rank_in : List Ended → ℕ → ℕ
 rank_in [] file = 0
 rank_in (f ∷ fs) file = elim (eqb f.file file) [ true ↦ 0 | false ↦ rank_in fs file + 1 ]
 

@@ -21,7 +21,7 @@ use Rattle.idl_check.specs.Alone.{alone}
 use Rattle.idl_check.specs.Texts.{cut}
 use Rattle.idl_check.specs.Meaning.{Meant, meaning}
 
-abbrev meant_of_tree : Result Tree Fault → List Meant
+abbrev pub meant_of_tree : Result Tree Fault → List Meant
 meant_of_tree (Ok t) = meaning (alone t)
 meant_of_tree (Err f) = []
 

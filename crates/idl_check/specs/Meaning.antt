@@ -46,29 +46,29 @@ pub record Meant : Type 0 where
 
 -- ## Members and parameters
 
-abbrev number : Scene → IdlType → TypeId
+abbrev pub number : Scene → IdlType → TypeId
 number s t = record { 0 = number_of_type s t }
 
-abbrev index_in : Option Listed → ℕ
+abbrev pub index_in : Option Listed → ℕ
 index_in None = 0
 index_in (Some d) = d.index
 
-abbrev attr_var : List Declared → Attr → Variable → AttrVar
+abbrev pub attr_var : List Declared → Attr → Variable → AttrVar
 attr_var list a v = record { attr = a; var = index_in (listed_from 0 list v.name.octets); star = v.star }
 
 -- an attribute of a member or parameter, if it stands there
-abbrev vars_of : List Declared → List Attribute → List ℕ → Attr → List AttrVar
+abbrev pub vars_of : List Declared → List Attribute → List ℕ → Attr → List AttrVar
 vars_of list attributes word a = map (attr_var list a) (variables (word ∷ []) attributes)
 
 -- the attributes of a member or parameter, in the order in which they are checked
-abbrev field_vars : List Declared → List Attribute → List AttrVar
+abbrev pub field_vars : List Declared → List Attribute → List AttrVar
 field_vars list attributes =
     vars_of list attributes (codes "size_is") attr.Size ++ vars_of list attributes (codes "max_is") attr.Max
     ++ vars_of list attributes (codes "first_is") attr.First ++ vars_of list attributes (codes "length_is") attr.Length
     ++ vars_of list attributes (codes "last_is") attr.Last ++ vars_of list attributes (codes "switch_is") attr.Switch
 
 -- a member or parameter of a list
-abbrev field : Scene → Names → List Declared → Declared → Field
+abbrev pub field : Scene → Names → List Declared → Declared → Field
 field s names list d = record {
   name = d.declarator.name.octets;
   of = number s (type_of s.known names d);
@@ -77,11 +77,11 @@ field s names list d = record {
 
 -- ## Types
 
-abbrev natural : ℤ → ℕ
+abbrev pub natural : ℤ → ℕ
 natural (pos n) = n
 natural (negsuc n) = 0
 
-abbrev bound : Option ℤ → Option ℕ
+abbrev pub bound : Option ℤ → Option ℕ
 bound count = option_map natural count
 
 -- Each pointer has a class by now.
@@ -91,45 +91,45 @@ pointer_class (Some class.Unique) = nd_class.Unique
 pointer_class (Some class.Full) = nd_class.Full
 pointer_class None = nd_class.Unique
 
-abbrev or_zero : Option ℤ → ℤ
+abbrev pub or_zero : Option ℤ → ℤ
 or_zero (Some z) = z
 or_zero None = pos 0
 
 -- one arm for each label; a default has the label 0
-abbrev arm_for : Option (List ℕ) → Option TypeId → ℤ → arm.Arm
+abbrev pub arm_for : Option (List ℕ) → Option TypeId → ℤ → arm.Arm
 arm_for name of label = record { label = label; name = name; of = of }
 
-abbrev name_of_arm : Arm → Option (List ℕ)
+abbrev pub name_of_arm : Arm → Option (List ℕ)
 name_of_arm (tree.Empty at a) = None
 name_of_arm (tree.Typed at a type d) = Some d.name.octets
 
-abbrev first_type : Scene → Names → List Declared → Option TypeId
+abbrev pub first_type : Scene → Names → List Declared → Option TypeId
 first_type s names [] = None
 first_type s names (d ∷ ds) = Some (number s (type_of s.known names d))
 
-abbrev type_of_arm : Scene → Body → LabelledArm → Option TypeId
+abbrev pub type_of_arm : Scene → Body → LabelledArm → Option TypeId
 type_of_arm s b a = first_type s b.names (arm_declared b.construct a.position a.arm)
 
-abbrev arm_by : Scene → Body → LabelledArm → Option ℤ → List arm.Arm
+abbrev pub arm_by : Scene → Body → LabelledArm → Option ℤ → List arm.Arm
 arm_by s b a (Some z) = arm_for (name_of_arm a.arm) (type_of_arm s b a) z ∷ []
 arm_by s b a None = []
 
 -- the arms of a union, one for each label that is no default
-abbrev labelled_arms : Scene → Body → List arm.Arm
+abbrev pub labelled_arms : Scene → Body → List arm.Arm
 labelled_arms s b = flat_map (λ a. flat_map (λ l. arm_by s b a (label_value s.known l)) a.labels) (arms_of b.body)
 
-abbrev default_by : Scene → Body → LabelledArm → Option ℤ → List arm.Arm
+abbrev pub default_by : Scene → Body → LabelledArm → Option ℤ → List arm.Arm
 default_by s b a (Some z) = []
 default_by s b a None = arm_for (name_of_arm a.arm) (type_of_arm s b a) (pos 0) ∷ []
 
-abbrev first_arm : List arm.Arm → Option arm.Arm
+abbrev pub first_arm : List arm.Arm → Option arm.Arm
 first_arm [] = None
 first_arm (a ∷ more) = Some a
 
-abbrev default_arm : Scene → Body → Option arm.Arm
+abbrev pub default_arm : Scene → Body → Option arm.Arm
 default_arm s b = first_arm (flat_map (λ a. flat_map (λ l. default_by s b a (label_value s.known l)) a.labels) (arms_of b.body))
 
-abbrev or_handle : Option IdlType → IdlType
+abbrev pub or_handle : Option IdlType → IdlType
 or_handle (Some t) = t
 or_handle None = Handle
 
@@ -153,11 +153,29 @@ abbrev pub defined_at : Scene → Option Body → TypeDef
 defined_at s None = def.Enum []
 defined_at s (Some b) = defined_by s b b.body
 
--- what a type is in the table
+-- a body that passes the test
+abbrev pub body_if : (TypeSpec → Bool) → Option Body → Option Body
+body_if test None = None
+body_if test (Some b) = elim (test b.body) [ true ↦ Some b | false ↦ None ]
+
+abbrev pub is_struct : TypeSpec → Bool
+is_struct (tree.Struct at tag _) = true
+is_struct _ = false
+
+abbrev pub is_union : TypeSpec → Bool
+is_union (tree.EncapsulatedUnion at tag d name cases) = true
+is_union (tree.NonEncapsulatedUnion at tag arms) = true
+is_union _ = false
+
+abbrev pub is_enum : TypeSpec → Bool
+is_enum (tree.Enum at tag es) = true
+is_enum _ = false
+
+-- What a type is in the table. A tag's body is of its kind in files that are resolved; another is as none.
 abbrev pub definition : Scene → IdlType → TypeDef
-definition s (Struct place) = defined_at s (body_of s place)
-definition s (Union place) = defined_at s (body_of s place)
-definition s (Enum place) = defined_at s (body_of s place)
+definition s (Struct place) = defined_at s (body_if is_struct (body_of s place))
+definition s (Union place) = defined_at s (body_if is_union (body_of s place))
+definition s (Enum place) = defined_at s (body_if is_enum (body_of s place))
 definition s (Array t count varying) = def.Array (number s t) (bound count) varying
 definition s (Text t count) = def.Text (number s t) (bound count)
 definition s (Pointer c to) = def.Pointer (pointer_class c) (number s to)
@@ -170,22 +188,22 @@ types_of s = basic_types ++ map (λ n. definition s n.type) (own_types s)
 
 -- ## Operations
 
-abbrev way_by : Bool → Bool → Way
+abbrev pub way_by : Bool → Bool → Way
 way_by true true = way.InOut
 way_by true false = way.In
 way_by false out = way.Out
 
-abbrev way_of : Declared → Way
+abbrev pub way_of : Declared → Way
 way_of d = way_by (has in_word d.construct.attributes) (has out_word d.construct.attributes)
 
-abbrev parameter : Scene → Names → List Declared → Declared → Param
+abbrev pub parameter : Scene → Names → List Declared → Declared → Param
 parameter s names list d = record { field = field s names list d; way = way_of d }
 
-abbrev result_number : Scene → IdlType → Option TypeId
+abbrev pub result_number : Scene → IdlType → Option TypeId
 result_number s Void = None
 result_number s t = Some (number s t)
 
-abbrev operation_in : Scene → Names → Node → List Operation
+abbrev pub operation_in : Scene → Names → Node → List Operation
 operation_in s names (OperationNode c name parameters result) = record {
   name = name.octets;
   params = map (parameter s names parameters) parameters;
@@ -221,7 +239,7 @@ minor_said (tree.Version major None) = Some 0
 minor_said (tree.Version major (Some minor)) = number_of minor.octets
 minor_said _ = None
 
-abbrev header_meant : Scene → Tree → Meant
+abbrev pub header_meant : Scene → Tree → Meant
 header_meant s t = record {
   name = t.name.octets;
   uuid = first_said uuid_said t.attributes.list;
@@ -232,7 +250,7 @@ header_meant s t = record {
 }
 
 -- the main file is number 0
-abbrev main_among : List Ended → List Tree
+abbrev pub main_among : List Ended → List Tree
 main_among [] = []
 main_among (f ∷ fs) = elim (eqb f.file 0) [ true ↦ f.tree ∷ [] | false ↦ main_among fs ]
 

@@ -95,7 +95,7 @@ attribute_nodes_from c before (a ∷ more) = AttributeNode c before a ∷ attrib
 abbrev pub attribute_nodes : Construct → List Node
 attribute_nodes c = attribute_nodes_from c [] c.attributes
 
-abbrev switch_node : Construct → Option SwitchType → List Node
+abbrev pub switch_node : Construct → Option SwitchType → List Node
 switch_node c None = []
 switch_node c (Some s) = SwitchNode c s ∷ []
 
@@ -147,11 +147,11 @@ pub record LabelledArm : Type 0 where
 abbrev labelled : Position → List ArmLabel → Arm → LabelledArm
 labelled position labels arm = record { position = position; labels = labels; arm = arm }
 
-abbrev arms_of_cases : Cases → List LabelledArm
+abbrev pub arms_of_cases : Cases → List LabelledArm
 arms_of_cases tree.no_cases = []
 arms_of_cases (tree.next_case labels arm others) = labelled InArm (map arm_label labels) arm ∷ arms_of_cases others
 
-abbrev arms_of_arms : Arms → List LabelledArm
+abbrev pub arms_of_arms : Arms → List LabelledArm
 arms_of_arms tree.no_arms = []
 arms_of_arms (tree.next_arm arm others) = labelled InCasedArm (labels_in (arm_attributes arm)) arm ∷ arms_of_arms others
 
@@ -208,21 +208,21 @@ abbrev mutual
 
 -- ## Declarations
 
-abbrev parameter_nodes : Construct → List Declared → ℕ → List Parameter → List Node
+abbrev pub parameter_nodes : Construct → List Declared → ℕ → List Parameter → List Node
 parameter_nodes c list index [] = []
 parameter_nodes c list index (p ∷ ps) =
     attribute_nodes (parameter_construct c p) ++ type_nodes (parameter_construct c p) p.type
     ++ DeclaratorNode list index (declared (parameter_construct c p) p.type p.declarator) ∷ parameter_nodes c list (index + 1) ps
 
 -- what a typedef declares
-abbrev typedef_node : Construct → Bool → TypeSpec → Declarator → Node
+abbrev pub typedef_node : Construct → Bool → TypeSpec → Declarator → Node
 typedef_node c pipe type d = DeclaratorNode [] 0 (record { construct = c; is_pipe = pipe; type = type; declarator = d })
 
 -- the result of an operation: its type as it stands, without attributes
 abbrev pub result_of : Construct → TypeSpec → Spelling → Declared
 result_of c type name = declared (record c { attributes = [] }) type (record { stars = []; name = name; dimensions = [] })
 
-abbrev operation_nodes : Construct → TypeSpec → Spelling → List Parameter → List Node
+abbrev pub operation_nodes : Construct → TypeSpec → Spelling → List Parameter → List Node
 operation_nodes c result name ps =
     attribute_nodes c ++ type_nodes c result ++ DeclaratorNode [] 0 (result_of c result name)
     ∷ parameter_nodes c (declared_parameters c ps) 0 ps ++ OperationNode c name (declared_parameters c ps) result ∷ []

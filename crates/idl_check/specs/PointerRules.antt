@@ -14,7 +14,7 @@ has_class_without_pointer u = has_one_of classes u.construct.attributes && not (
 -- Rule 27: a pointer without a class has a pointer_default, unless it is the outermost pointer of a parameter's own declarator, a context handle,
 -- or the `*` of a constant.
 
-abbrev has_no_class : IdlType → Bool
+abbrev pub has_no_class : IdlType → Bool
 has_no_class (Pointer None to) = true
 has_no_class _ = false
 
@@ -32,7 +32,7 @@ holds_pointer_to_reference u = list_any refers_to_reference (chain u.type)
 
 -- Rule 29: a pointer parameter that is [out] only is a reference pointer, apart from a context handle.
 
-abbrev is_out : Use → Bool
+abbrev pub is_out : Use → Bool
 is_out u = is_parameter u.construct.position && has out_word u.construct.attributes
 
 abbrev pub is_nullable_out : Use → Bool
@@ -40,7 +40,7 @@ is_nullable_out u = is_out u && not (has in_word u.construct.attributes) && is_p
 
 -- Rule 31: an out parameter is an array, a text, a pipe, or a pointer that is no context handle.
 
-abbrev is_out_type : IdlType → Bool
+abbrev pub is_out_type : IdlType → Bool
 is_out_type (Array t count varying) = true
 is_out_type (Text t count) = true
 is_out_type (Pipe t) = true

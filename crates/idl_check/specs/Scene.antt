@@ -22,7 +22,7 @@ pub record Scene : Type 0 where
 
 -- ## Names of types
 
-abbrev is_typedef : Position → Bool
+abbrev pub is_typedef : Position → Bool
 is_typedef InTypedef = true
 is_typedef _ = false
 
@@ -57,7 +57,7 @@ place_of_type file _ = record { file = file; at = 0 }
 abbrev pub same_place : Place → Place → Bool
 same_place p q = eqb p.file q.file && eqb p.at q.at
 
-abbrev body_by : Names → Node → List Body
+abbrev pub body_by : Names → Node → List Body
 body_by names (BodyNode c body) = record { construct = c; names = names; body = body } ∷ []
 body_by names _ = []
 
@@ -68,7 +68,7 @@ bodies s = flat_map (λ n. body_by n.names n.node) s.nodes
 abbrev pub place_of : Body → Place
 place_of b = place_of_type b.construct.file b.body
 
-abbrev body_among : List Body → Place → Option Body
+abbrev pub body_among : List Body → Place → Option Body
 body_among [] place = None
 body_among (b ∷ bs) place = elim (same_place (place_of b) place) [ true ↦ Some b | false ↦ body_among bs place ]
 
@@ -100,7 +100,7 @@ parts_declared c body = flat_map (λ a. arm_declared c a.position a.arm) (arms_o
 abbrev pub parts_of : Known → Body → List IdlType
 parts_of known b = map (type_of known b.names) (parts_declared b.construct b.body)
 
-abbrev parts_of_found : Known → Option Body → List IdlType
+abbrev pub parts_of_found : Known → Option Body → List IdlType
 parts_of_found known None = []
 parts_of_found known (Some b) = parts_of known b
 
@@ -113,11 +113,11 @@ in_place s (Text t count) = t ∷ []
 in_place s (Pipe t) = t ∷ []
 in_place s _ = []
 
-abbrev is_nonencapsulated_body : TypeSpec → Bool
+abbrev pub is_nonencapsulated_body : TypeSpec → Bool
 is_nonencapsulated_body (tree.NonEncapsulatedUnion at tag arms) = true
 is_nonencapsulated_body _ = false
 
-abbrev is_found_nonencapsulated : Option Body → Bool
+abbrev pub is_found_nonencapsulated : Option Body → Bool
 is_found_nonencapsulated None = false
 is_found_nonencapsulated (Some b) = is_nonencapsulated_body b.body
 
@@ -126,12 +126,12 @@ abbrev pub is_nonencapsulated : Scene → IdlType → Bool
 is_nonencapsulated s (Union place) = is_found_nonencapsulated (body_of s place)
 is_nonencapsulated s _ = false
 
-abbrev names_its_tag : Position → Bool
+abbrev pub names_its_tag : Position → Bool
 names_its_tag InTypedef = true
 names_its_tag InTaggedType = true
 names_its_tag _ = false
 
-abbrev switch_where : Bool → Construct → Option SwitchType
+abbrev pub switch_where : Bool → Construct → Option SwitchType
 switch_where true c = switch_type_in c.attributes
 switch_where false c = None
 
@@ -144,11 +144,11 @@ tag_written c _ = None
 abbrev pub tag_type : Construct → Names → TypeSpec → Option IdlType
 tag_type c names body = option_map (switch_type names) (tag_written c body)
 
-abbrev enumerators_in : TypeSpec → List Enumerator
+abbrev pub enumerators_in : TypeSpec → List Enumerator
 enumerators_in (tree.Enum at tag es) = es
 enumerators_in _ = []
 
-abbrev enumerators_found : Option Body → List Enumerator
+abbrev pub enumerators_found : Option Body → List Enumerator
 enumerators_found None = []
 enumerators_found (Some b) = enumerators_in b.body
 
@@ -185,7 +185,7 @@ last_passes test (t ∷ []) = test t
 last_passes test (t ∷ u ∷ more) = last_passes test (u ∷ more)
 
 -- from whether the types of its members do
-abbrev hoists_by : Scene → (IdlType → Bool) → IdlType → Bool
+abbrev pub hoists_by : Scene → (IdlType → Bool) → IdlType → Bool
 hoists_by s hoists (Array t count varying) = is_none count
 hoists_by s hoists (Text t count) = is_none count
 hoists_by s hoists (Struct place) = last_passes hoists (in_place s (Struct place))

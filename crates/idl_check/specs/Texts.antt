@@ -47,7 +47,7 @@ cut text = record { text = text; tokens = tokens_from 0 0 text }
 
 -- ## What is told of a text
 
-abbrev told_of_tree : Result Tree Fault → Option (Option Breach)
+abbrev pub told_of_tree : Result Tree Fault → Option (Option Breach)
 told_of_tree (Ok t) = Some (first_broken (alone t))
 told_of_tree (Err f) = None
 

@@ -11,7 +11,7 @@ use Rattle.idl_check.specs.Types.{IdlType, Void, Basic, Struct, Union, Enum, Arr
 use Rattle.idl_check.specs.Scene.{Scene, Use, Body, bodies, place_of, type_of_body, same_place, parts_of, chain, below, nests}
 
 -- what stands in a type below the reference pointer that it is, or else below itself
-abbrev below_reference : IdlType → List IdlType
+abbrev pub below_reference : IdlType → List IdlType
 below_reference (Pointer (Some class.Reference) to) = below to
 below_reference t = below t
 
@@ -41,7 +41,7 @@ holds_handle u = list_any is_handle (without_handle u.construct.position (is_in_
 -- Rule 10: so is a context handle.
 
 -- the types in which no pipe and no context handle may stand; a typedef only names what a parameter may be
-abbrev without_pipe : Position → IdlType → List IdlType
+abbrev pub without_pipe : Position → IdlType → List IdlType
 without_pipe InTypedef t = below_reference t
 without_pipe InParameter t = below_reference t
 without_pipe _ t = chain t
@@ -103,7 +103,7 @@ is_too_deep s t = not (nests NESTING_LIMIT s t)
 abbrev pub is_deep_body : Scene → Body → Bool
 is_deep_body s b = is_too_deep s (type_of_body b)
 
-abbrev is_made_of_elements : IdlType → Bool
+abbrev pub is_made_of_elements : IdlType → Bool
 is_made_of_elements (Array t count varying) = true
 is_made_of_elements (Text t count) = true
 is_made_of_elements (Pipe t) = true
@@ -115,13 +115,13 @@ holds_deep_array s u = list_any (λ t. is_made_of_elements t && is_too_deep s t)
 
 -- Rule 32: an operation's result is void, a primitive or an enumerated type.
 
-abbrev is_result_type : IdlType → Bool
+abbrev pub is_result_type : IdlType → Bool
 is_result_type Void = true
 is_result_type (Basic p) = true
 is_result_type (Enum place) = true
 is_result_type _ = false
 
-abbrev is_operation : Position → Bool
+abbrev pub is_operation : Position → Bool
 is_operation InOperation = true
 is_operation _ = false
 

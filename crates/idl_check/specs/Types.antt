@@ -49,19 +49,19 @@ Names = List (List ℕ × IdlType)
 
 -- ## A type in the text
 
-abbrev signed_primitive : Width → Primitive
+abbrev pub signed_primitive : Width → Primitive
 signed_primitive width.Small = primitive.Small
 signed_primitive width.Short = primitive.Short
 signed_primitive width.Long = primitive.Long
 signed_primitive width.Hyper = primitive.Hyper
 
-abbrev unsigned_primitive : Width → Primitive
+abbrev pub unsigned_primitive : Width → Primitive
 unsigned_primitive width.Small = primitive.UnsignedSmall
 unsigned_primitive width.Short = primitive.UnsignedShort
 unsigned_primitive width.Long = primitive.UnsignedLong
 unsigned_primitive width.Hyper = primitive.UnsignedHyper
 
-abbrev integer_primitive : Bool → Width → Primitive
+abbrev pub integer_primitive : Bool → Width → Primitive
 integer_primitive true w = unsigned_primitive w
 integer_primitive false w = signed_primitive w
 
@@ -74,7 +74,7 @@ simple_type simple.Void = Void
 simple_type simple.Handle = Handle
 
 -- Each name of a type is known where it is used.
-abbrev or_void : Option IdlType → IdlType
+abbrev pub or_void : Option IdlType → IdlType
 or_void (Some t) = t
 or_void None = Void
 
@@ -87,11 +87,11 @@ place_of_body file at None = record { file = file; at = at }
 place_of_body file at (Some tag) = record { file = file; at = tag.at }
 
 -- Each tag has its body in the end.
-abbrev place_of_tag : Option TagDefinition → Place → Place
+abbrev pub place_of_tag : Option TagDefinition → Place → Place
 place_of_tag (Some d) here = d.place
 place_of_tag None here = here
 
-abbrev tagged_type : TagKind → Place → IdlType
+abbrev pub tagged_type : TagKind → Place → IdlType
 tagged_type tag_kind.Struct place = Struct place
 tagged_type tag_kind.Union place = Union place
 tagged_type tag_kind.Enum place = Enum place
@@ -183,11 +183,11 @@ with_dimensions known t [] = t
 with_dimensions known t (b ∷ bs) = Array (with_dimensions known t bs) (count_of known b) false
 
 -- A pointer that is a parameter's own type is a reference pointer.
-abbrev class_by_position : Position → Option PointerClass → Option PointerClass
+abbrev pub class_by_position : Position → Option PointerClass → Option PointerClass
 class_by_position InParameter default = Some class.Reference
 class_by_position _ default = default
 
-abbrev class_or : Option PointerClass → Option PointerClass → Option PointerClass
+abbrev pub class_or : Option PointerClass → Option PointerClass → Option PointerClass
 class_or (Some c) other = Some c
 class_or None other = other
 
@@ -203,24 +203,24 @@ with_declarator known c d t = with_dimensions known (with_stars c.default (outer
 -- ## Attributes of the outermost pointer or array
 
 -- what a pointer with `string` points to
-abbrev text_of : IdlType → IdlType
+abbrev pub text_of : IdlType → IdlType
 text_of (Text t None) = Text t None
 text_of t = Text t None
 
 -- what a pointer with size_is or max_is points to
-abbrev sized : Bool → IdlType → IdlType
+abbrev pub sized : Bool → IdlType → IdlType
 sized varying (Text t None) = Text t None
 sized varying (Array t None was_varying) = Array t None varying
 sized varying t = Array t None varying
 
-abbrev pointee_with : List Attribute → IdlType → IdlType
+abbrev pub pointee_with : List Attribute → IdlType → IdlType
 pointee_with attributes t =
     elim (has string_word attributes) [
       | true ↦ text_of t
       | false ↦ elim (has_one_of sizes attributes) [ true ↦ sized (has_one_of lengths attributes) t | false ↦ t ]
     ]
 
-abbrev array_with : List Attribute → IdlType → Option ℤ → Bool → IdlType
+abbrev pub array_with : List Attribute → IdlType → Option ℤ → Bool → IdlType
 array_with attributes t count varying =
     elim (has string_word attributes) [ true ↦ Text t count | false ↦ Array t count (varying || has_one_of lengths attributes) ]
 
@@ -232,11 +232,11 @@ with_attributes attributes t = t
 
 -- ## What a declarator declares
 
-abbrev is_one_star : List ℕ → Bool
+abbrev pub is_one_star : List ℕ → Bool
 is_one_star (star ∷ []) = true
 is_one_star _ = false
 
-abbrev is_empty : List (Option Bound) → Bool
+abbrev pub is_empty : List (Option Bound) → Bool
 is_empty [] = true
 is_empty _ = false
 
@@ -244,7 +244,7 @@ is_empty _ = false
 abbrev pub is_context_handle : Declared → IdlType → Bool
 is_context_handle d t = has context_handle_word d.construct.attributes && is_one_star d.declarator.stars && is_empty d.declarator.dimensions && is_void t
 
-abbrev pipe_or_plain : Bool → IdlType → IdlType
+abbrev pub pipe_or_plain : Bool → IdlType → IdlType
 pipe_or_plain true t = Pipe t
 pipe_or_plain false t = t
 
@@ -252,7 +252,7 @@ pipe_or_plain false t = t
 abbrev pub type_before : Known → Names → Declared → IdlType
 type_before known names d = pipe_or_plain d.is_pipe (written_type known names d.construct.file d.type)
 
-abbrev declared_from : Known → Declared → IdlType → IdlType
+abbrev pub declared_from : Known → Declared → IdlType → IdlType
 declared_from known d t = elim (is_context_handle d t) [ true ↦ ContextHandle | false ↦ with_declarator known d.construct d.declarator t ]
 
 -- the type of a declarator, but for attributes other than a class

@@ -15,12 +15,12 @@ use Rattle.idl_check.specs.Nodes.{ArmLabel, Declared}
 use Rattle.idl_check.specs.Types.{IdlType, Basic, Enum, is_void, is_handle, simple_type}
 use Rattle.idl_check.specs.Scene.{Scene, enumerators_of}
 
-abbrev is_between : ℤ → ℤ → ℤ → Bool
+abbrev pub is_between : ℤ → ℤ → ℤ → Bool
 is_between least greatest z = int_le least z && int_le z greatest
 
 -- Rule 13: the values of enumerators are 0 to 32,767.
 
-abbrev is_small : Option ℤ → Bool
+abbrev pub is_small : Option ℤ → Bool
 is_small None = true
 is_small (Some z) = is_between (pos 0) (pos ENUMERATOR_LIMIT) z
 
@@ -40,7 +40,7 @@ has_lower_bounds known d = list_any (has_lower_bound known) d.declarator.dimensi
 
 -- Rule 22: labels are in the switch type's range, or one of its enumerators' values, and distinct, and default stands at most once.
 
-abbrev same_value : Option ℤ → Option ℤ → Bool
+abbrev pub same_value : Option ℤ → Option ℤ → Bool
 same_value None None = true
 same_value (Some a) (Some b) = int_eq a b
 same_value _ _ = false
@@ -49,15 +49,15 @@ abbrev pub label_value : Known → ArmLabel → Option ℤ
 label_value known l = elim l.value [ None ↦ None | Some e ↦ Some (value_in known e) ]
 
 -- a label stands already before this one
-abbrev is_repeated_label : Known → List ArmLabel → ArmLabel → Bool
+abbrev pub is_repeated_label : Known → List ArmLabel → ArmLabel → Bool
 is_repeated_label known before l = list_any (λ m. same_value (label_value known m) (label_value known l)) before
 
-abbrev is_value_of : Scene → Option IdlType → ℤ → Bool
+abbrev pub is_value_of : Scene → Option IdlType → ℤ → Bool
 is_value_of s (Some (Basic p)) z = in_range p z
 is_value_of s (Some (Enum place)) z = list_any (λ e. same_value (number_of s.known e.name.octets) (Some z)) (enumerators_of s place)
 is_value_of s _ z = true
 
-abbrev is_label_of : Scene → Option IdlType → Option ℤ → Bool
+abbrev pub is_label_of : Scene → Option IdlType → Option ℤ → Bool
 is_label_of s tag None = true
 is_label_of s tag (Some z) = is_value_of s tag z
 

@@ -31,21 +31,21 @@ abbrev pub variable_of : Use → Variable → Option Listed
 variable_of u v = listed_from 0 u.list v.name.octets
 
 -- a type that a variable may have: with `*` it is behind a parameter that is a reference pointer
-abbrev passes : (IdlType → Bool) → Bool → Bool → IdlType → Bool
+abbrev pub passes : (IdlType → Bool) → Bool → Bool → IdlType → Bool
 passes test is_param false t = test t
 passes test true true (Pointer (Some class.Reference) to) = test to
 passes test _ _ _ = false
 
-abbrev passes_listed : Scene → Use → (IdlType → Bool) → Bool → Option Listed → Bool
+abbrev pub passes_listed : Scene → Use → (IdlType → Bool) → Bool → Option Listed → Bool
 passes_listed s u test star None = true
 passes_listed s u test star (Some d) = passes test (is_parameter d.it.construct.position) star (type_of s.known u.names d.it)
 
 -- where its list has the variable, it is of such a type
-abbrev is_right_variable : Scene → Use → (IdlType → Bool) → Variable → Bool
+abbrev pub is_right_variable : Scene → Use → (IdlType → Bool) → Variable → Bool
 is_right_variable s u test v = passes_listed s u test v.star (variable_of u v)
 
 -- the variable of an attribute, where its word is one of these
-abbrev variable_if : List (List ℕ) → Option (List ℕ × Variable) → List Variable
+abbrev pub variable_if : List (List ℕ) → Option (List ℕ × Variable) → List Variable
 variable_if words None = []
 variable_if words (Some e) = elim (list_any (bytes_eq e.0) words) [ true ↦ e.1 ∷ [] | false ↦ [] ]
 
@@ -72,18 +72,18 @@ may_not_be_switched t = not (may_be_switched t)
 
 -- Rule 24: a non-encapsulated union is used only by a member or parameter that has switch_is, as its type or as the pointee of its outermost pointer.
 
-abbrev below_pointer : IdlType → List IdlType
+abbrev pub below_pointer : IdlType → List IdlType
 below_pointer (Pointer class to) = below to
 below_pointer t = below t
 
-abbrev is_switched_place : Position → Bool → Bool
+abbrev pub is_switched_place : Position → Bool → Bool
 is_switched_place InTypedef has_switch_is = true
 is_switched_place InMember has_switch_is = has_switch_is
 is_switched_place InParameter has_switch_is = has_switch_is
 is_switched_place _ has_switch_is = false
 
 -- the types in which no such union may stand; a typedef only names what a member or parameter may be
-abbrev without_union : Use → List IdlType
+abbrev pub without_union : Use → List IdlType
 without_union u =
     elim (is_switched_place u.construct.position (has switch_is_word u.construct.attributes)) [ true ↦ below_pointer u.type | false ↦ chain u.type ]
 
@@ -93,7 +93,7 @@ holds_nonencapsulated_union s u = list_any (is_nonencapsulated s) (without_union
 -- Rule 25: switch_is stands only on such a member or parameter, and its variable, where its list of members or parameters has it, is, without `*`, of an
 -- integer, char, boolean or enumerated type, or, with `*`, a parameter that is a reference pointer to one of these.
 
-abbrev is_switched : Scene → IdlType → Bool
+abbrev pub is_switched : Scene → IdlType → Bool
 is_switched s (Pointer class to) = is_nonencapsulated s to
 is_switched s t = is_nonencapsulated s t
 
@@ -106,12 +106,12 @@ has_wrong_switch s u =
 -- Rule 33: `string` stands only on an array of char or byte or a pointer to one of these, without length_is, first_is or last_is. On what is a text
 -- already, or a pointer to a conformant text, it changes nothing.
 
-abbrev is_octet : IdlType → Bool
+abbrev pub is_octet : IdlType → Bool
 is_octet (Basic primitive.Char) = true
 is_octet (Basic primitive.Byte) = true
 is_octet _ = false
 
-abbrev may_be_text : IdlType → Bool
+abbrev pub may_be_text : IdlType → Bool
 may_be_text (Text t count) = true
 may_be_text (Array t count varying) = is_octet t
 may_be_text (Pointer class to) = is_octet to || is_conformant_text to
@@ -123,10 +123,10 @@ is_wrong_text u = has string_word u.construct.attributes && (not (may_be_text u.
 -- Rule 34: size_is and max_is stand only on a conformant array or a pointer that is no context handle, not both; a member or parameter whose own type is a
 -- conformant array that is no text has one.
 
-abbrev may_be_sized : IdlType → Bool
+abbrev pub may_be_sized : IdlType → Bool
 may_be_sized t = is_pointer t || is_conformant_array t || is_conformant_text t
 
-abbrev is_listed : Position → Bool
+abbrev pub is_listed : Position → Bool
 is_listed InMember = true
 is_listed InParameter = true
 is_listed _ = false
@@ -141,7 +141,7 @@ is_wrongly_sized u =
 -- Rule 35: length_is, first_is and last_is stand only on an array that is no text, or on a pointer with size_is or max_is that does not point to a text;
 -- length_is and last_is not both.
 
-abbrev may_vary : Bool → IdlType → Bool
+abbrev pub may_vary : Bool → IdlType → Bool
 may_vary is_sized (Array t count varying) = true
 may_vary is_sized (Pointer class to) = is_sized && not (is_text to)
 may_vary is_sized t = false
@@ -154,7 +154,7 @@ is_wrongly_varying u =
 
 -- Rule 36: an attribute's variable is a member of the same struct or a parameter of the same operation, and not itself.
 
-abbrev is_other : ℕ → Option Listed → Bool
+abbrev pub is_other : ℕ → Option Listed → Bool
 is_other index None = false
 is_other index (Some d) = not (eqb d.index index)
 

@@ -1,18 +1,24 @@
 //! Laws over the definitions, and worked examples.
 
+ghost use Rattle.idl_check.specs.Noted.{of_lists, of_others};
+ghost use Rattle.std.specs.Prelude.{◌++◌};
+ghost use Rattle.idl_check.specs.ListBreaches.{list_breaches};
+ghost use Rattle.idl_check.specs.OtherBreaches.{other_breaches};
+ghost use Rattle.idl_check.specs.CountRules.{too_many};
+ghost use Rattle.idl_check.specs.Nodes.{place_in};
 ghost use Rattle.std.specs.Prelude.{◌≡◌, ℕ, ◌≤◌, [], ◌∷◌, length, map, Ok, Err};
 ghost use Rattle.nd_types.specs.declared.TheConstants.{TYPE_LIMIT};
 ghost use Rattle.nd_base.specs.declared.octets.Place.{Place};
-ghost use Rattle.std.specs.Prelude.{Some, true};
+ghost use Rattle.std.specs.Prelude.{Some, None, true, All};
 ghost use Rattle.std.specs.List.{list_all};
 ghost use Rattle.nd_types.specs.Table.{type_at};
 ghost use Rattle.idl_check.specs.World.{World};
 ghost use Rattle.idl_check.specs.Types.{IdlType};
-ghost use Rattle.idl_check.specs.Scene.{Scene, Use};
+ghost use Rattle.idl_check.specs.Scene.{Scene, Use, scene_of};
 ghost use Rattle.idl_check.specs.Kept.{KeepsUse};
-ghost use Rattle.nd_types.specs.Legal.{refers_to_no_reference};
+ghost use Rattle.nd_types.specs.Legal.{IsLegal, refers_to_no_reference};
 ghost use Rattle.idl_check.specs.Numbering.{is_numbered, is_numbered_or_none, needed_types, number_of_type};
-ghost use Rattle.idl_check.specs.Meaning.{types_of, definition};
+ghost use Rattle.idl_check.specs.Meaning.{types_of, operations_of, definition, meaning};
 ghost use Rattle.idl_check.specs.Rules.{breach, breaches, breaches_in, breaches_of_use};
 ghost use Rattle.idl_check.specs.FirstBroken.{first_broken, IsLeast};
 ghost use Rattle.nd_types.specs.declared.interface.Interface.{Interface};
@@ -67,4 +73,18 @@ pub fn no_pointer_refers_to_a_reference()
 /// Where no rule is broken, the table has at most 4,096 types.
 pub fn types_are_few()
     ensures { (s : Scene) → breaches_in s ≡ [] → length (types_of s) ≤ TYPE_LIMIT }
+{}
+
+/// Files that break no rule mean a legal interface, whatever is known of their names; so do two texts.
+pub fn meaning_is_legal()
+    ensures tables { (w : World) → breaches w ≡ [] → IsLegal (types_of (scene_of w)) (operations_of (scene_of w)) }
+    ensures meanings { (w : World) → first_broken w ≡ None → All (λ m. IsLegal m.types m.operations) (meaning w) }
+    ensures sum { IsLegal sum_meant.types sum_meant.operations }
+    ensures directory { IsLegal directory_meant.types directory_meant.operations }
+{}
+
+/// The breaches of files are those of the rules on attribute lists, and the others.
+pub fn breaches_are_in_two()
+    ensures lists { (s : Scene) → of_lists (breaches_in s) ≡ list_breaches (map (λ n. n.node) s.nodes) }
+    ensures others { (s : Scene) → of_others (breaches_in s) ≡ other_breaches s ++ map (λ c. breach 39 (place_in c c.at)) (too_many s) }
 {}

@@ -12,3 +12,5 @@ pub mod Ended
 pub mod Walk
 pub mod Seen
 pub mod Causes
+pub mod Loads
+pub mod Going

@@ -1,5 +1,5 @@
 -- Files by the names under which they are loaded.
-use Rattle.std.specs.Prelude.{◌≡◌, ℕ, Bool, true, false, eqb, List, [], ◌∷◌, ◌++◌, Option, position, slice_get, option_map}
+use Rattle.std.specs.Prelude.{ℕ, true, false, eqb, List, [], ◌∷◌, ◌++◌, Option, position, slice_get, option_map}
 use Rattle.std.specs.Str.{bytes_eq}
 use Rattle.std.specs.Str.Lossy.{utf8_lossy}
 use Rattle.idl_names.specs.Value.{escaped}

@@ -1,17 +1,19 @@
 // Declarations, step by step.
-ghost use Rattle.std.specs.Prelude.{◌≡◌, ◌++◌, [], ◌∷◌, map, OnOk, option_map};
+ghost use Rattle.std.specs.Prelude.{◌≡◌, ◌++◌, [], ◌∷◌, map, not, ◌&&◌, OnOk, option_map};
 ghost use Rattle.idl_grammar.specs.Seen as seen;
 ghost use Rattle.idl_names.specs.Known.{walked};
 ghost use Rattle.idl_names.specs.Kept.{listed, IsRight};
-ghost use Rattle.idl_names.specs.Steps.{typedef_steps, init_step, one_parameter_steps, parameter_steps, parameters_of, operation_steps, export_steps};
-ghost use Rattle.std.specs.List.{flat_map};
+ghost use Rattle.idl_names.specs.Steps.{is_pointer, typedef_steps, init_step, one_parameter_steps, parameter_steps, parameters_of, operation_steps, export_steps};
+ghost use Rattle.std.specs.List.{flat_map, list_all};
 
 use crate::known::NameTables;
 use crate::table::Table;
-use crate::types::{are_pointers, type_spec};
+use crate::types::{are_pointers, is_pointer, type_spec};
 use crate::walk::{dimensions, listed_declarator, optional_attributes};
 use crate::{Meaning, NameFault};
-use idl_grammar::{Attributes, Declarator, Export, Init, Parameter, Parameters, Spelling, TypeSpec};
+use idl_grammar::{
+    Attributes, Declarator, Export, Init, Parameter, Parameters, Spelling, TypeSpec,
+};
 use std::alloc::Global;
 
 /// A name for a type.
@@ -24,7 +26,11 @@ fn typedef(names: &mut NameTables, file: u16, declarator: &Declarator) -> Result
 }
 
 /// Names for a type.
-fn typedefs(names: &mut NameTables, file: u16, declarators: &Vec<Declarator>) -> Result<(), NameFault>
+fn typedefs(
+    names: &mut NameTables,
+    file: u16,
+    declarators: &Vec<Declarator>,
+) -> Result<(), NameFault>
     ensures { IsRight names.new result (walked file names.old (flat_map typedef_steps (map seen.seen_declarator declarators.now.items))) }
 {
     for declarator in declarators {
@@ -55,9 +61,25 @@ fn parameter(
     ensures more { OnOk result (listed list.new ≡ listed list.old ++ parameter.now.declarator.name ∷ []) }
 {
     optional_attributes(names, file, &parameter.attributes)?;
-    let behind_pointers = !parameter.declarator.stars.is_empty();
+    let behind_pointers = is_pointer(&parameter.declarator);
     type_spec(alloc, names, file, &parameter.of, behind_pointers)?;
     listed_declarator(names, file, list, &parameter.declarator)
+}
+
+/// Parameters in order.
+fn parameter_list(
+    alloc: Global,
+    names: &mut NameTables,
+    file: u16,
+    list: &Vec<Parameter>,
+) -> Result<(), NameFault>
+    ensures { IsRight names.new result (walked file names.old (parameter_steps [] (map seen.seen_parameter list.now.items))) }
+{
+    let mut before = Table::new(alloc);
+    for one in list {
+        parameter(alloc, names, file, &mut before, one)?;
+    }
+    Ok(())
 }
 
 /// The parameters of an operation.
@@ -69,14 +91,10 @@ fn parameters(
 ) -> Result<(), NameFault>
     ensures { IsRight names.new result (walked file names.old (parameter_steps [] (parameters_of (seen.seen_parameters parameters.now)))) }
 {
-    let Parameters::List(list) = parameters else {
-        return Ok(());
-    };
-    let mut listed = Table::new(alloc);
-    for one in list {
-        parameter(alloc, names, file, &mut listed, one)?;
+    match parameters {
+        Parameters::Absent | Parameters::Void => Ok(()),
+        Parameters::List(list) => parameter_list(alloc, names, file, list),
     }
-    Ok(())
 }
 
 /// An operation.
@@ -98,8 +116,21 @@ fn operation(
     names.know(file, name, Meaning::Other)
 }
 
+/// Whether each name of a typedef is a pointer to its type.
+fn is_behind_pointers(pipe: bool, declarators: &[Declarator]) -> bool
+    ensures { result ≡ (not pipe && list_all is_pointer (map seen.seen_declarator declarators.now)) }
+{
+    !pipe && are_pointers(declarators)
+}
+
 /// A declaration.
-fn export(alloc: Global, names: &mut NameTables, file: u16, is_main: bool, export: &Export) -> Result<(), NameFault>
+fn export(
+    alloc: Global,
+    names: &mut NameTables,
+    file: u16,
+    is_main: bool,
+    export: &Export,
+) -> Result<(), NameFault>
     ensures { IsRight names.new result (walked file names.old (export_steps is_main (seen.seen_export export.now))) }
 {
     match export {
@@ -111,7 +142,7 @@ fn export(alloc: Global, names: &mut NameTables, file: u16, is_main: bool, expor
             ..
         } => {
             optional_attributes(names, file, attributes)?;
-            let behind_pointers = !*pipe && are_pointers(declarators.as_slice());
+            let behind_pointers = is_behind_pointers(*pipe, declarators.as_slice());
             type_spec(alloc, names, file, of, behind_pointers)?;
             typedefs(names, file, declarators)
         }

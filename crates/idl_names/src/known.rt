@@ -2,7 +2,7 @@
 ghost use Rattle.std.specs.Prelude.{◌≡◌, ◌++◌, [], ◌∷◌, option_map, Ok, OnOk};
 ghost use Rattle.idl_grammar.specs.Seen.{seen_expr};
 ghost use Rattle.idl_names.specs.Tables.{found};
-ghost use Rattle.idl_names.specs.Known.{Known, nothing, walked, value_in, is_defined, next_meaning, place_in};
+ghost use Rattle.idl_names.specs.Known.{Known, nothing, walked, value_in, is_defined, first_undefined, next_meaning, place_in};
 ghost use Rattle.idl_names.specs.Kept.{listed, IsRight};
 ghost use Rattle.idl_names.specs.Steps.{UseType, UseTag, DefineTag, Declare, Know, KnowValue, KnowNext, Evaluate, Enlist};
 
@@ -157,9 +157,10 @@ impl NameTables {
                 place,
                 first: earlier.place,
             }),
-            None => Ok(self
-                .tags
-                .put(tag.octets.as_slice(), TagDefinition { kind, place })?),
+            None => Ok(
+                self.tags
+                    .put(tag.octets.as_slice(), TagDefinition { kind, place })?,
+            ),
         }
     }
 
@@ -175,20 +176,31 @@ impl NameTables {
     }
 
     /// From here on a name is known.
-    pub(crate) fn know(&mut self, file: u16, name: &Spelling, meaning: Meaning) -> Result<(), NameFault>
+    pub(crate) fn know(
+        &mut self,
+        file: u16,
+        name: &Spelling,
+        meaning: Meaning,
+    ) -> Result<(), NameFault>
         ensures { IsRight self.new result (walked file self.old (Know name.now meaning ∷ [])) }
     {
         Ok(self.meanings.put(name.octets.as_slice(), meaning)?)
     }
 
     /// From here on a name is known, and stands for the value of an expression.
-    pub(crate) fn know_value(&mut self, file: u16, name: &Spelling, expression: &Expr) -> Result<(), NameFault>
+    pub(crate) fn know_value(
+        &mut self,
+        file: u16,
+        name: &Spelling,
+        expression: &Expr,
+    ) -> Result<(), NameFault>
         ensures { IsRight self.new result (walked file self.old (KnowValue name.now (seen_expr expression.now) ∷ [])) }
     {
         let value = self.value(file, expression)?;
-        Ok(self
-            .meanings
-            .put(name.octets.as_slice(), Meaning::Number(value))?)
+        Ok(
+            self.meanings
+                .put(name.octets.as_slice(), Meaning::Number(value))?,
+        )
     }
 
     /// What an enumerator without a value stands for. A number past 128 bits would take more names than memory can hold.
@@ -228,6 +240,20 @@ impl NameTables {
             Ok(_) => Ok(()),
             Err(fault) => Err(fault),
         }
+    }
+}
+
+impl NameTables {
+    /// Where the first use of a tag behind pointers stands that has no body of its kind.
+    pub(crate) fn first_undefined(&self) -> Option<Place>
+        ensures { result ≡ first_undefined self.now self.now.uses }
+    {
+        for one in &self.uses {
+            if !self.is_defined(one.kind, one.tag.as_slice()) {
+                return Some(one.place);
+            }
+        }
+        None
     }
 }
 

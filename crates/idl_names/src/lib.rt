@@ -4,14 +4,20 @@
 mod declarations;
 mod expression;
 mod fault;
+#[cfg(test)]
+mod import_tests;
 mod known;
 pub mod laws;
+mod loading;
 mod meaning;
 mod name_fault;
+#[cfg(test)]
+mod one_file_tests;
 mod operators;
 mod resolving;
 mod scope;
 mod sources;
+mod strings;
 mod table;
 mod tag;
 #[cfg(test)]
@@ -23,8 +29,10 @@ mod whole;
 pub use expression::{Names, evaluate, value, value_of};
 pub use fault::{ConstFault, ExpressionFault, ValueFault};
 pub use meaning::Meaning;
-pub use name_fault::{NameFault, SyntaxFault};
+pub use idl_parser::SyntaxFault;
+pub use name_fault::NameFault;
 pub use resolving::resolve;
 pub use scope::{FileTree, FileTrees, Scope};
 pub use sources::{FILES_LIMIT, Sources};
+pub use table::Table;
 pub use tag::{TagDefinition, TagUse};

@@ -1,25 +1,9 @@
 // Why names are not resolved.
 use crate::ConstFault;
 use idl_lexer::LexFault;
+use idl_parser::SyntaxFault;
 use nd_base::{Memory, Place};
 use thiserror::Error;
-
-/// Where the tokens of a file are no file of the language: a copy of the parser's fault, until the parser is a library of this crate.
-#[derive(Clone, Copy, Debug, PartialEq, Eq, Error)]
-pub enum SyntaxFault {
-    /// Memory was wanting.
-    #[error("out of memory")]
-    Memory,
-    /// No file goes on with this token, or the text ends here too early.
-    #[error("syntax error at token {token}")]
-    Syntax { token: u32 },
-    /// A bracket with 64 open, or an operator with 64 before it in its outermost expression.
-    #[error("too deep at token {token}")]
-    Deep { token: u32 },
-    /// A word that is banned in its place.
-    #[error("banned word at token {token}")]
-    Banned { token: u32 },
-}
 
 /// Why the names of files are not resolved. Files are told by their numbers in `Sources`.
 #[derive(Debug, Drop, Error)]

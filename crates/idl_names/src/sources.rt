@@ -1,6 +1,7 @@
 // The files, by the numbers that places have.
-ghost use Rattle.std.specs.Prelude.{◌≡◌, ℕ, ◌<◌, List, [], ◌∷◌, ◌++◌, length, option_map, IfOk, OnOk, IfErr, OnErr};
-ghost use Rattle.idl_names.specs.Sources.{Source, file_name, file_text, and_source};
+ghost use Rattle.std.specs.Prelude.{◌≡◌, ℕ, ◌<◌, List, [], ◌∷◌, ◌++◌, length, option_map, position, string_bytes, IfOk, OnOk, IfErr, OnErr};
+ghost use Rattle.std.specs.Str.{bytes_eq};
+ghost use Rattle.idl_names.specs.Sources.{Source, file_name, file_number, file_text, and_source};
 
 use nd_base::{Memory, Octets};
 use std::alloc::Global;
@@ -21,6 +22,13 @@ struct File {
 #[derive(Debug, Drop)]
 pub struct Sources {
     files: Vec<File>,
+}
+
+/// The place of the first file of a name.
+fn number_in(files: &[File], name: &str) -> Option<usize>
+    ensures { result ≡ position (λ f. bytes_eq name.now (string_bytes f.name)) files.now }
+{
+    files.iter().position(|file| name == file.name.as_str())
 }
 
 impl Model for Sources {
@@ -67,6 +75,13 @@ impl Sources {
         ensures { result ≡ length self.now }
     {
         self.files.len()
+    }
+
+    /// The number of the file of a name, or None where there is none. Takes no memory.
+    pub(crate) fn number(&self, name: &str) -> Option<usize>
+        ensures { result ≡ file_number self.now name.now }
+    {
+        number_in(self.files.as_slice(), name)
     }
 
     /// The name of a file, or None past the last. Takes no memory.

@@ -9,7 +9,7 @@ use std::marker::Model;
 
 /// Values by names, in the order in which the names came. Contracts see it as that list.
 #[derive(Drop)]
-pub(crate) struct Table<V: Copy> {
+pub struct Table<V: Copy> {
     alloc: Global,
     entries: IndexMap<Vec<u8>, V>,
 }
@@ -25,7 +25,7 @@ impl<V: Copy> Model for Table<V> {
 
 impl<V: Copy> Table<V> {
     /// No names. It allocates nothing.
-    pub(crate) fn new(alloc: Global) -> Table<V>
+    pub fn new(alloc: Global) -> Table<V>
         ensures { result ≡ [] }
     {
         Table {
@@ -35,14 +35,14 @@ impl<V: Copy> Table<V> {
     }
 
     /// The value of a name, if it is there.
-    pub(crate) fn get(&self, name: &[u8]) -> Option<V>
+    pub fn get(&self, name: &[u8]) -> Option<V>
         ensures { result ≡ found name.now self.now }
     {
         self.entries.get(name).copied()
     }
 
     /// Gives a name a value. A new name goes last. Takes memory for a new name.
-    pub(crate) fn put(&mut self, name: &[u8], value: V) -> Result<(), Memory>
+    pub fn put(&mut self, name: &[u8], value: V) -> Result<(), Memory>
         ensures { OnOk result (self.new ≡ put self.old name.now value) }
     {
         let key = Vec::from_slice(self.alloc, name)?;

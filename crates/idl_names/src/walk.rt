@@ -9,9 +9,7 @@ ghost use Rattle.idl_names.specs.Steps.{value_steps, switch_steps, kind_steps, o
 use crate::NameFault;
 use crate::known::{NameTables, enlist};
 use crate::table::Table;
-use idl_grammar::{
-    AttributeKind, Attributes, Bound, Declarator, Expr, Label, SwitchType,
-};
+use idl_grammar::{AttributeKind, Attributes, Bound, Declarator, Expr, Label, SwitchType};
 
 /// The type of a switch.
 pub(crate) fn switch_type(names: &NameTables, file: u16, of: &SwitchType) -> Result<(), NameFault>
@@ -84,7 +82,11 @@ fn bound(names: &NameTables, file: u16, bound: &Option<Bound>) -> Result<(), Nam
 }
 
 /// The dimensions of a declarator.
-pub(crate) fn dimensions(names: &NameTables, file: u16, declarator: &Declarator) -> Result<(), NameFault>
+pub(crate) fn dimensions(
+    names: &NameTables,
+    file: u16,
+    declarator: &Declarator,
+) -> Result<(), NameFault>
     ensures { IsRight names.now result (walked file names.now (dimension_steps (seen.seen_declarator declarator.now))) }
 {
     for one in &declarator.dimensions {
@@ -93,14 +95,22 @@ pub(crate) fn dimensions(names: &NameTables, file: u16, declarator: &Declarator)
     Ok(())
 }
 
+/// A label of a case.
+fn label(names: &NameTables, file: u16, label: &Label) -> Result<(), NameFault>
+    ensures { IsRight names.now result (walked file names.now (label_steps (seen.seen_label label.now))) }
+{
+    match label {
+        Label::Value { value, .. } => names.check_value(file, value),
+        Label::Default { .. } => Ok(()),
+    }
+}
+
 /// Labels of a case.
 pub(crate) fn labels(names: &NameTables, file: u16, list: &Vec<Label>) -> Result<(), NameFault>
     ensures { IsRight names.now result (walked file names.now (flat_map label_steps (map seen.seen_label list.now.items))) }
 {
-    for label in list {
-        if let Label::Value { value, .. } = label {
-            names.check_value(file, value)?;
-        }
+    for one in list {
+        label(names, file, one)?;
     }
     Ok(())
 }

@@ -1,7 +1,7 @@
 use Rattle.std.proofs.Common.{◌≡◌, ◌∙◌, sym, ap, option_map, Some, None, Ok, Err}
 use Rattle.idl_names.specs.declared.name_fault.NameFault.TheVariants as fault
 use Rattle.idl_names.specs.Tables.{found, put}
-use Rattle.idl_names.specs.Known.{Known, then, where_free, place_in, place_in_list}
+use Rattle.idl_names.specs.Known.{then, where_free, place_in, place_in_list}
 use Rattle.idl_names.specs.Kept.{listed}
 use Rattle.idl_names.proofs.Lists.{at_octet, place_is, listed_new}
 use Rattle.idl_names.proofs.known.enlist.Goals as goal

@@ -1,4 +1,4 @@
-use Rattle.std.proofs.Common.{◌≡◌, ◌∙◌, sym, ap, arith, map}
+use Rattle.std.proofs.Common.{◌∙◌, sym, ap, arith, map}
 use Rattle.std.specs.List.{flat_map}
 use Rattle.idl_grammar.specs.Seen as seen
 use Rattle.idl_names.specs.Known.{walked}

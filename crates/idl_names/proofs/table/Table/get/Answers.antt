@@ -1,4 +1,4 @@
-use Rattle.std.proofs.Common.{◌≡◌, ◌∙◌, sym, ap, rules}
+use Rattle.std.proofs.Common.{◌∙◌, ap}
 use Rattle.idl_names.specs.Tables.{found}
 use Rattle.idl_names.proofs.Tables.{found_is}
 use Rattle.idl_names.proofs.table.Table.get.Goals as goal
