@@ -22,7 +22,7 @@ use Rattle.dceidl.specs.declared.refusal.Refusal.{Refusal}
 use Rattle.dceidl.specs.declared.refusal.Refusal.TheVariants.{Memory}
 use Rattle.dceidl.specs.Idl.{main_file, AreResolved, resolved_world, IsMainFault, IsNameFault, IsIdlFault, IsDueImport, by_names, by_rules, told_rule, told_fault, name_in}
 use Rattle.idl_lexer.specs.declared.tokens.LexFault.TheVariants as lexical
-use Rattle.idl_names.specs.declared.name_fault.SyntaxFault.TheVariants as syntax
+use Rattle.idl_parser.specs.declared.fault.SyntaxFault.TheVariants as syntax
 use Rattle.nd_base.specs.Outside.{IsContent, IsMissing}
 use Rattle.dceidl.specs.declared.refusal.Refusal.TheVariants.{Absent, FileFailed, BadIdl, NoOperation, NotBuilt, ReadFault, BadOctets, BadText, BadValue}
 use Rattle.nd_base.specs.Counts.{Rose}
@@ -90,7 +90,7 @@ main_failed before now text (names.Syntax n at x) h = tt
 abbrev Held : Type 0
 Held = Option (List ℕ → Option (List ℕ))
 
-last_name : (sources before : List Source) (name : List ℕ) (n : ℕ) → sources ≡ and_source before name [] → n ≡ length before → name_in sources n ≡ name
+pub last_name : (sources before : List Source) (name : List ℕ) (n : ℕ) → sources ≡ and_source before name [] → n ≡ length before → name_in sources n ≡ name
 last_name sources before name n same number =
     ap (λ (s : List Source). name_in s n) same ∙ ap (name_in (and_source before name [])) number ∙ named before name
   where

@@ -15,3 +15,4 @@ pub mod Within
 pub mod Walks
 pub mod OneFile
 pub mod OneWalk
+pub mod OneMeaning

@@ -50,7 +50,7 @@ module _ (f : FilesSeen) (s : SourceSeen) (out notes : SinkSeen) (status : ℕ) 
     rose_3 (BadValue path reason) cause e = cc
 
     rose_7 : (r : Refusal) → IsCause f s task idl op side r → status_of r ≡ 7
-        → HasRisen f.absences × ((file : List ℕ) × (r ≡ (Absent file) file) × IsDueFile f.held idl file × IsMissing f.held file)
+        → HasRisen f.absences × ((file : List ℕ) × (r ≡ Absent file) × IsDueFile f.held idl file × IsMissing f.held file)
     rose_7 (Absent file) (inl ((rose, due, missing), untouched)) e = (rose, file, refl, due, missing)
     rose_7 (Absent file) (inr (i, n, o, ready, (octets, read, cause))) e = absurd (no_absence task (setting_of i o side) octets file cause)
     rose_7 ReadFault cause e = cc
@@ -63,7 +63,7 @@ module _ (f : FilesSeen) (s : SourceSeen) (out notes : SinkSeen) (status : ℕ) 
     rose_7 (BadText line column reason) cause e = cc
     rose_7 (BadValue path reason) cause e = cc
 
-    rose_9 : (r : Refusal) → IsCause f s task idl op side r → status_of r ≡ 9 → HasRisen f.faults × ((file : List ℕ) × (r ≡ (FileFailed file) file) × IsDueFile f.held idl file)
+    rose_9 : (r : Refusal) → IsCause f s task idl op side r → status_of r ≡ 9 → HasRisen f.faults × ((file : List ℕ) × (r ≡ FileFailed file) × IsDueFile f.held idl file)
     rose_9 (FileFailed file) (inl ((rose, due), untouched)) e = (rose, file, refl, due)
     rose_9 (FileFailed file) (inr (i, n, o, ready, (octets, read, cause))) e = absurd (no_file_fault task (setting_of i o side) octets file cause)
     rose_9 ReadFault cause e = cc
@@ -133,7 +133,7 @@ module _ (f : FilesSeen) (s : SourceSeen) (out notes : SinkSeen) (status : ℕ) 
   task_of words run n e zero two four five = by (command words) refl
     where
       by : (c : Option Command) → command words ≡ c → OfTask words
-      by (Some (Work task idl op)) is = of_task task idl op is (ended f s out notes task idl op status words is run)
+      by (Some (Work task idl op side)) is = of_task task idl op side is (ended f s out notes task idl op side status words is run)
       by None is = absurd (not_idle n e zero two four five (idle_none run.outcome (subst (λ c. IsOutcome f s c run.outcome) is run.caused) run.delivered))
       by (Some Help) is = absurd (not_idle n e zero two four five (idle_help run.outcome (subst (λ c. IsOutcome f s c run.outcome) is run.caused) run.delivered))
       by (Some Version) is = absurd (not_idle n e zero two four five (idle_version run.outcome (subst (λ c. IsOutcome f s c run.outcome) is run.caused) run.delivered))

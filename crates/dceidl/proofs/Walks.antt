@@ -36,7 +36,7 @@ valued_fault file (Err (expression.Unknown at)) next f e =
 valued_fault file (Err (expression.Const x)) next f e =
     let same : names.Const (record { file = file; at = x.at }) x.fault ≡ f = cc in subst IsStepFault same tt
 
-passed_fault : (file : ℕ) (k : Known) (step : Step) (f : NameFault) → passed file k step ≡ Err f → IsStepFault f
+pub passed_fault : (file : ℕ) (k : Known) (step : Step) (f : NameFault) → passed file k step ≡ Err f → IsStepFault f
 passed_fault file k (UseType name) f e = known_fault (is_type (meaning_in k name.octets)) (place_in file name) k f e
 passed_fault file k (UseTag kind tag behind) f e = by (is_defined k kind tag.octets) behind e where
   by : (b c : Bool) → ◌≡◌ {A = Result Known NameFault} (elim b [ true ↦ Ok k | false ↦ tag_used file k kind tag c ]) (Err f) → IsStepFault f

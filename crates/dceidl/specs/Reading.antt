@@ -5,7 +5,7 @@ use Rattle.idl_parser.specs.declared.fault.SyntaxFault.{SyntaxFault}
 use Rattle.idl_parser.specs.declared.fault.SyntaxFault.TheVariants as parser
 use Rattle.idl_names.specs.declared.name_fault.NameFault.{NameFault}
 use Rattle.idl_names.specs.declared.name_fault.NameFault.TheVariants as names
-use Rattle.idl_names.specs.declared.name_fault.SyntaxFault.TheVariants as syntax
+use Rattle.idl_parser.specs.declared.fault.SyntaxFault.TheVariants as syntax
 use Rattle.dceidl.specs.declared.refusal.Refusal.{Refusal}
 use Rattle.dceidl.specs.declared.refusal.Refusal.TheVariants.{Memory}
 

@@ -138,26 +138,16 @@ fn tree_of(alloc: Global, text: &[u8]) -> Result<Tree, NameFault>
 }
 
 // The fault of tokens that are no file of the language.
-fn no_file(tokens: &Tokens, fault: idl_parser::SyntaxFault) -> NameFault
+fn no_file(tokens: &Tokens, fault: SyntaxFault) -> NameFault
     requires { IsOfText tokens.now fault }
     ensures { IsToldUnparsed tokens.now fault result }
 {
     match fault {
-        idl_parser::SyntaxFault::Memory => NameFault::Memory,
-        idl_parser::SyntaxFault::Syntax { token } => NameFault::Syntax {
+        SyntaxFault::Memory => NameFault::Memory,
+        SyntaxFault::Syntax { token } | SyntaxFault::Deep { token } | SyntaxFault::Banned { token } => NameFault::Syntax {
             file: 0,
             at: tokens.at(token),
-            fault: SyntaxFault::Syntax { token },
-        },
-        idl_parser::SyntaxFault::Deep { token } => NameFault::Syntax {
-            file: 0,
-            at: tokens.at(token),
-            fault: SyntaxFault::Deep { token },
-        },
-        idl_parser::SyntaxFault::Banned { token } => NameFault::Syntax {
-            file: 0,
-            at: tokens.at(token),
-            fault: SyntaxFault::Banned { token },
+            fault,
         },
     }
 }
