@@ -22,7 +22,6 @@ use Rattle.dceidl.specs.declared.refusal.Refusal.{Refusal}
 use Rattle.dceidl.specs.declared.refusal.Refusal.TheVariants.{Memory}
 use Rattle.dceidl.specs.Idl.{main_file, AreResolved, resolved_world, IsMainFault, IsNameFault, IsIdlFault, IsDueImport, by_names, by_rules, told_rule, told_fault, name_in}
 use Rattle.idl_lexer.specs.declared.tokens.LexFault.TheVariants as lexical
-use Rattle.idl_parser.specs.declared.fault.SyntaxFault.TheVariants as syntax
 use Rattle.nd_base.specs.Outside.{IsContent, IsMissing}
 use Rattle.dceidl.specs.declared.refusal.Refusal.TheVariants.{Absent, FileFailed, BadIdl, NoOperation, NotBuilt, ReadFault, BadOctets, BadText, BadValue}
 use Rattle.nd_base.specs.Counts.{Rose}
@@ -137,10 +136,10 @@ fault_cause f idl text sources (names.Absent n) h a b = let d = absent_due f.hel
 fault_cause f idl text sources (names.Failed n) h a b = (b, failed_due f.held idl text sources n h)
 fault_cause f idl text sources (names.Lex n lexical.Memory) h a b = tt
 fault_cause f idl text sources (names.Lex n (lexical.At at kind)) h a b = by_names sources (names.Lex n (lexical.At at kind)) h refl
-fault_cause f idl text sources (names.Syntax n at syntax.Memory) h a b = tt
-fault_cause f idl text sources (names.Syntax n at (syntax.Syntax k)) h a b = by_names sources (names.Syntax n at (syntax.Syntax k)) h refl
-fault_cause f idl text sources (names.Syntax n at (syntax.Deep k)) h a b = by_names sources (names.Syntax n at (syntax.Deep k)) h refl
-fault_cause f idl text sources (names.Syntax n at (syntax.Banned k)) h a b = by_names sources (names.Syntax n at (syntax.Banned k)) h refl
+fault_cause f idl text sources (names.Syntax n at parser.Memory) h a b = tt
+fault_cause f idl text sources (names.Syntax n at (parser.Syntax k)) h a b = by_names sources (names.Syntax n at (parser.Syntax k)) h refl
+fault_cause f idl text sources (names.Syntax n at (parser.Deep k)) h a b = by_names sources (names.Syntax n at (parser.Deep k)) h refl
+fault_cause f idl text sources (names.Syntax n at (parser.Banned k)) h a b = by_names sources (names.Syntax n at (parser.Banned k)) h refl
 
 pub text_cause : (f : FilesSeen) (idl text : List ℕ) (sources : List Source) (x : NameFault) → IsNameFault f.held idl text sources x
     → IsAbsent f.absences.before f.absences.now x → IsFailed f.faults.before f.faults.now x → (told : Refusal) → IsOrMemory (told_fault sources x) told

@@ -51,7 +51,7 @@ module _ (f : FilesSeen) (s : SourceSeen) (out notes : SinkSeen) (status : ℕ) 
 
     rose_7 : (r : Refusal) → IsCause f s task idl op side r → status_of r ≡ 7
         → HasRisen f.absences × ((file : List ℕ) × (r ≡ Absent file) × IsDueFile f.held idl file × IsMissing f.held file)
-    rose_7 (Absent file) (inl ((rose, due, missing), untouched)) e = (rose, file, refl, due, missing)
+    rose_7 (Absent file) (inl ((rose, due, missing), untouched)) e = (rose, (file, refl, due, missing))
     rose_7 (Absent file) (inr (i, n, o, ready, (octets, read, cause))) e = absurd (no_absence task (setting_of i o side) octets file cause)
     rose_7 ReadFault cause e = cc
     rose_7 Memory cause e = cc
@@ -64,7 +64,7 @@ module _ (f : FilesSeen) (s : SourceSeen) (out notes : SinkSeen) (status : ℕ) 
     rose_7 (BadValue path reason) cause e = cc
 
     rose_9 : (r : Refusal) → IsCause f s task idl op side r → status_of r ≡ 9 → HasRisen f.faults × ((file : List ℕ) × (r ≡ FileFailed file) × IsDueFile f.held idl file)
-    rose_9 (FileFailed file) (inl ((rose, due), untouched)) e = (rose, file, refl, due)
+    rose_9 (FileFailed file) (inl ((rose, due), untouched)) e = (rose, (file, refl, due))
     rose_9 (FileFailed file) (inr (i, n, o, ready, (octets, read, cause))) e = absurd (no_file_fault task (setting_of i o side) octets file cause)
     rose_9 ReadFault cause e = cc
     rose_9 Memory cause e = cc
@@ -138,6 +138,9 @@ module _ (f : FilesSeen) (s : SourceSeen) (out notes : SinkSeen) (status : ℕ) 
       by (Some Help) is = absurd (not_idle n e zero two four five (idle_help run.outcome (subst (λ c. IsOutcome f s c run.outcome) is run.caused) run.delivered))
       by (Some Version) is = absurd (not_idle n e zero two four five (idle_version run.outcome (subst (λ c. IsOutcome f s c run.outcome) is run.caused) run.delivered))
 
+  told : (idl op : List ℕ) (r q : Refusal) → r ≡ q → Got notes (line_of idl op r) → Got notes (line_of idl op q)
+  told idl op r q e line = subst (λ x. Got notes (line_of idl op x)) e line
+
   pub read : (words : List (List ℕ)) → HasRun words f s out notes status → status ≡ 3 → HasRisen s.faults × ReadsInput (command words)
   read words run e = by (task_of words run 3 e (λ x. cc) (λ x. cc) (λ x. cc) (λ x. cc))
     where
@@ -152,8 +155,8 @@ module _ (f : FilesSeen) (s : SourceSeen) (out notes : SinkSeen) (status : ℕ) 
       by : OfTask words → HasRisen f.absences × IsDueAndMissing (command words) f.held notes
       by (of_task task idl op side is end) =
           let (r, cause, seven, line) = refusal_of task idl op side end 7 e (λ x. cc) (λ x. cc) (λ x. cc) in
-          let (rose, file, same, due, missing) = rose_7 task idl op side r cause seven in
-          (rose, subst (λ c. IsDueAndMissing c f.held notes) (sym is) (file, due, missing, subst (λ x. Got notes (line_of idl op x)) same line))
+          let (rose, (file, same, due, missing)) = rose_7 task idl op side r cause seven in
+          (rose, subst (λ c. IsDueAndMissing c f.held notes) (sym is) (file, due, missing, told idl op r (Absent file) same line))
 
   pub file : (words : List (List ℕ)) → HasRun words f s out notes status → status ≡ 9 → HasRisen f.faults × IsDueAndTold (command words) f.held notes
   file words run e = by (task_of words run 9 e (λ x. cc) (λ x. cc) (λ x. cc) (λ x. cc))
@@ -161,5 +164,5 @@ module _ (f : FilesSeen) (s : SourceSeen) (out notes : SinkSeen) (status : ℕ) 
       by : OfTask words → HasRisen f.faults × IsDueAndTold (command words) f.held notes
       by (of_task task idl op side is end) =
           let (r, cause, nine, line) = refusal_of task idl op side end 9 e (λ x. cc) (λ x. cc) (λ x. cc) in
-          let (rose, name, same, due) = rose_9 task idl op side r cause nine in
-          (rose, subst (λ c. IsDueAndTold c f.held notes) (sym is) (name, due, subst (λ x. Got notes (line_of idl op x)) same line))
+          let (rose, (name, same, due)) = rose_9 task idl op side r cause nine in
+          (rose, subst (λ c. IsDueAndTold c f.held notes) (sym is) (name, due, told idl op r (FileFailed name) same line))
