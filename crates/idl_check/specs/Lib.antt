@@ -20,6 +20,8 @@ pub mod Alone
 pub mod Texts
 pub mod SmallTexts
 pub mod Interfaces
+pub mod Listing
+pub mod Listings
 pub mod Kept
 pub mod SeenNodes
 pub mod Noted

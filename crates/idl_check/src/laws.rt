@@ -26,6 +26,7 @@ ghost use Rattle.idl_check.specs.declared.fault.RuleFault.TheVariants as fault;
 ghost use Rattle.idl_check.specs.Answers.{Answers};
 ghost use Rattle.idl_check.specs.Texts.{told_of};
 ghost use Rattle.idl_check.specs.Interfaces.{meant_of, sum_text, sum_meant, directory_text, directory_meant};
+ghost use Rattle.idl_check.specs.Listings.{listing_of, listing_beside, sum_file, sum_listing, base_file, directory_file, directory_listing, forms_file, forms_listing};
 ghost use Rattle.idl_check.specs.SmallTexts.{texts_that_break, texts_that_keep};
 
 /// For each rule a small text that breaks it, with the octet that is told, and one near it that is accepted.
@@ -52,6 +53,14 @@ pub fn one_answer_is_right()
 pub fn texts_have_their_meaning()
     ensures sum { meant_of sum_text ≡ sum_meant ∷ [] }
     ensures directory { meant_of directory_text ≡ directory_meant ∷ [] }
+{}
+
+/// Three texts and how what they mean is listed: a struct that ends with a conformant array, a directory whose kinds another file declares, and all
+/// other forms of types and roots.
+pub fn listings_are_as_worked()
+    ensures sum { listing_of sum_file ≡ sum_listing ∷ [] }
+    ensures directory { listing_beside base_file directory_file ≡ directory_listing ∷ [] }
+    ensures forms { listing_of forms_file ≡ forms_listing ∷ [] }
 {}
 
 /// At the number of a type the table has what the type is, and each type that a declarator needs, down to the innermost, has a number.
