@@ -1,4 +1,5 @@
 mod Judged
+mod AcfJudged
 mod Order
 mod Equal
 mod Numbers

@@ -21,6 +21,8 @@ pub mod Texts
 pub mod SmallTexts
 pub mod Interfaces
 pub mod Listing
+pub mod AcfRules
+pub mod AcfTexts
 pub mod Listings
 pub mod Kept
 pub mod SeenNodes

@@ -27,6 +27,8 @@ ghost use Rattle.idl_check.specs.Answers.{Answers};
 ghost use Rattle.idl_check.specs.Texts.{told_of};
 ghost use Rattle.idl_check.specs.Interfaces.{meant_of, sum_text, sum_meant, directory_text, directory_meant};
 ghost use Rattle.idl_check.specs.Listings.{listing_of, listing_beside, sum_file, sum_listing, base_file, directory_file, directory_listing, forms_file, forms_listing};
+ghost use Rattle.idl_check.specs.Texts.{no_rule, rule_at};
+ghost use Rattle.idl_check.specs.AcfTexts.{told_with, acf_rule_at, told_of_directory, directory_acf, other_acf, small_idl, broken_idl, acf_names, acf_places};
 ghost use Rattle.idl_check.specs.SmallTexts.{texts_that_break, texts_that_keep};
 
 /// For each rule a small text that breaks it, with the octet that is told, and one near it that is accepted.
@@ -61,6 +63,16 @@ pub fn listings_are_as_worked()
     ensures sum { listing_of sum_file ≡ sum_listing ∷ [] }
     ensures directory { listing_beside base_file directory_file ≡ directory_listing ∷ [] }
     ensures forms { listing_of forms_file ≡ forms_listing ∷ [] }
+{}
+
+/// Attribute configuration files beside files of IDL: the directory's own and one of another interface, names that the IDL has and that it lacks,
+/// each attribute at each place, and a file beside IDL that breaks a rule itself, which is told.
+pub fn attribute_files_are_judged()
+    ensures directory { told_of_directory directory_acf ≡ no_rule }
+    ensures other { told_of_directory other_acf ≡ acf_rule_at 0 }
+    ensures names { map (λ e. told_with small_idl e.text) acf_names ≡ map (λ e. e.told) acf_names }
+    ensures places { map (λ e. told_with small_idl e.text) acf_places ≡ map (λ e. e.told) acf_places }
+    ensures lesser { told_with broken_idl other_acf ≡ rule_at 30 29 }
 {}
 
 /// At the number of a type the table has what the type is, and each type that a declarator needs, down to the innermost, has a number.
