@@ -143,3 +143,8 @@ all_breaches w acf = breaches w ++ acf_breaches w acf
 -- the rule that is told, and where: as the others are, with the fortieth behind them
 abbrev pub first_of_all : World → Option Acf → Option Breach
 first_of_all w acf = first_of w (all_breaches w acf)
+
+-- the one, or the other where there is none
+abbrev pub or_else : Option Breach → Option Breach → Option Breach
+or_else None other = other
+or_else (Some b) other = Some b
