@@ -1,0 +1,82 @@
+import subprocess
+H='[uuid(11111111-2222-3333-4444-555555555555), version(1.0), pointer_default(unique)]\ninterface t {\n'
+def body(s): return H+s+'\n}\n'
+C=[
+('include','#include "types.h"\n'+body('void f([in] long x);')),
+('define',body('#define N 16\nvoid f([in] long x);')),
+('slash',body('// sizes\nvoid f([in] long x);')),
+('cpp_quote',body('cpp_quote("#define N 16")\nvoid f([in] long x);')),
+('quoted','[uuid("11111111-2222-3333-4444-555555555555")]\ninterface t {\n}\n'),
+('quotedver','[uuid(11111111-2222-3333-4444-555555555555), version("1.0")]\ninterface t {\n}\n'),
+('import1','import "base.idl";\n'+body('void f([in] long x);')),
+('twolists',body('void f([in] [ref] long *x);')),
+('expr',body('void f([in] long n, [in, size_is(n + 1)] byte d[*]);')),
+('expr2',body('void f([in] long n, [in, size_is(n * 2), length_is(n)] byte d[*]);')),
+('comma',body('void f([in] long n, [out, size_is(,n)] byte **d);')),
+('constsize',body('void f([in, size_is(16)] byte d[*]);')),
+('wchar',body('void f([in, string] wchar_t *s);')),
+('long',body('void NetrLogonGetTrustInformationExtended([in] long x);')),
+('float',body('void f([in] double x);')),
+('object','[object, uuid(11111111-2222-3333-4444-555555555555)]\ninterface t {\n}\n'),
+('helpstring','[uuid(11111111-2222-3333-4444-555555555555), helpstring("x")]\ninterface t {\n}\n'),
+('colon','[uuid(11111111-2222-3333-4444-555555555555)]\ninterface t : IUnknown {\n}\n'),
+('int',body('void f([in] int x);')),
+('dword',body('void f([in] DWORD x);')),
+('uint32',body('void f([in] uint32 x);')),
+('int64',body('void f([in] __int64 x);')),
+('constp',body('void f([in, string] const char *s);')),
+('noinout',body('void f(long x);')),
+('noclass','[uuid(11111111-2222-3333-4444-555555555555)]\ninterface t {\ntypedef struct n { struct n *next; } n;\n}\n'),
+('range',body('void f([in, range(0, 10)] long x);')),
+('v1enum',body('typedef [v1_enum] enum { A } e;')),
+('hresult',body('HRESULT f([in] long x);')),
+('error_status',body('error_status_t f([in] long x);')),
+('structres',body('typedef struct { long a; } s;\ns f([in] long x);')),
+('handle_member',body('typedef handle_t h;')),
+('ptrptr',body('void f([in] long **x);')),
+('outscalar',body('void f([out] long x);')),
+('ptrvoid',body('void f([in] void *x);')),
+('constenum',body('const enum e X = 1;')),
+('hexlong',body('const long A = 012;')),
+('conststr',body('const char *NAME = "x";')),
+('stringconst',body('const long BIG = 0x80000000;')),
+('suffix',body('const long A = 10L;')),
+('sizeof',body('const long A = sizeof(long);')),
+('cast',body('const long A = (long) 1;')),
+('public',body('typedef [public] struct { long a; } s;')),
+('switchexpr',body('typedef union { [case(1)] long a; } u;\nvoid f([in] long k, [in, switch_is(k)] u *x);')),
+('noswitchtype',body('typedef union { [case(1)] long a; [default]; } u;')),
+('unionboth',body('typedef union switch (long k) u { case 1: long a; } u;')),
+('charset',body('void f([in, charset(UTF16)] long x);')),
+('relative',body('void f([in, unique, relative] long *x);')),
+('coclass','[uuid(11111111-2222-3333-4444-555555555555)]\ninterface t {\n}\nlibrary x { }\n'),
+('twointf','[uuid(11111111-2222-3333-4444-555555555555)]\ninterface t {\n}\n[uuid(11111111-2222-3333-4444-555555555556)]\ninterface u {\n}\n'),
+('ms_union',body('void f([in, ms_union] long x);')),
+('callback',body('[callback] void f([in] long x);')),
+('transmit',body('typedef [transmit_as(long)] char x;')),
+('iid_is',body('void f([in, iid_is(x)] long *p);')),
+('midl_pragma',body('midl_pragma warning(disable: 2400)\nvoid f([in] long x);')),
+('pragma',body('#pragma pack(4)\n')),
+('declspec',body('typedef struct { long a, b; } s, *ps;\nvoid f([in] ps x);')),
+('ascii',body('void f([in] long x); \xe9'.encode('latin-1').decode('latin-1'))),
+('semicolon','[uuid(11111111-2222-3333-4444-555555555555)]\ninterface t {\n};\n'),
+('void',body('void f([in] long x, ...);')),
+('bitfield',body('typedef struct { long a : 4; } s;')),
+('emptystruct',body('typedef struct { } s;')),
+('nouuid','[version(1.0)]\ninterface t {\n}\n'),
+('unsignedalone',body('void f([in] unsigned x);')),
+('intwidth',body('void f([in] unsigned short int x, [in] long unsigned y);')),
+('emptybr',body('void f([in] long n, [in, size_is(n)] byte d[]);')),
+('namedenum',body('typedef enum kind { A, B } kind;\nvoid f([in] kind k);')),
+('enum_neg',body('typedef enum { A = -1 } kind;')),
+]
+for n,t in C:
+    open(n+'.idl','wb').write(t.encode('latin-1'))
+    r=subprocess.run(['python3','/work/shared/model/dceidl.py','compile',n+'.idl','-'],capture_output=True,text=True)
+    print('%-14s %d %s'%(n,r.returncode,r.stderr.strip()))
+A=[('acf_bytecount','interface t { f([byte_count(n)] x); }'),('acf_optimize','[optimize("s")] interface t { }'),('acf_cpp','interface t { typedef [represent_as(local)] n; }'),('acf_include','interface t { include "x.h"; }'),('acf_explicit','[explicit_handle] interface t { f(); }'),('acf_notify','interface t { [notify] f(); }'),('acf_bind','[auto_handle, binding_callout(x)] interface t { }'),('acf_extern','interface t { extern_exceptions(x); }')]
+open('ok.idl','w').write(body('typedef long n;\nvoid f([in] long x);'))
+for n,t in A:
+    open(n+'.acf','w').write(t)
+    r=subprocess.run(['python3','/work/shared/model/dceidl.py','compile','ok.idl',n+'.acf'],capture_output=True,text=True)
+    print('%-14s %d %s'%(n,r.returncode,r.stderr.strip()))
