@@ -54,6 +54,10 @@ mod Bridges
 mod UseNotes
 mod RestNotes
 mod CycleNotes
+mod CycleFirst
+mod CycleGraph
+mod CycleChosen
+mod CycleLeast
 pub mod ReadNames
 pub mod ReadSteps
 pub mod ReadBodies

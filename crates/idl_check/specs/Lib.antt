@@ -29,6 +29,7 @@ pub mod ListBreaches
 pub mod OtherBreaches
 pub mod OthersOf
 pub mod RestBreaches
+pub mod Cycles
 pub mod LabelValues
 pub mod Checked
 pub mod Kinds

@@ -65,7 +65,7 @@ is_no_context_handle u = has context_handle_word u.construct.attributes && not (
 -- Rule 11: no struct or union contains itself in place.
 
 -- the struct or union that a type is in its place, or of which it is an array or pipe
-abbrev innermost : IdlType → List Place
+abbrev pub innermost : IdlType → List Place
 innermost (Struct place) = place ∷ []
 innermost (Union place) = place ∷ []
 innermost (Array t count varying) = innermost t
@@ -73,7 +73,7 @@ innermost (Text t count) = innermost t
 innermost (Pipe t) = innermost t
 innermost _ = []
 
-abbrev held_by : Scene → Place → List Body → List Place
+abbrev pub held_by : Scene → Place → List Body → List Place
 held_by s place [] = []
 held_by s place (b ∷ bs) = elim (same_place (place_of b) place) [ true ↦ flat_map innermost (parts_of s.known b) | false ↦ held_by s place bs ]
 

@@ -85,6 +85,13 @@ impl<'t> Finder<'t> {
         }
     }
 
+    /// How many files stand before one.
+    pub(crate) fn rank(&self, file: u16) -> usize
+        ensures { result ≡ rank_in (seen_files self.now.files.now) file }
+    {
+        rank(self.files, file)
+    }
+
     /// The first breach.
     pub(crate) fn first(&self) -> Option<Breach>
         ensures { result ≡ self.now.first }

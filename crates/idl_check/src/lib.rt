@@ -47,6 +47,8 @@ mod meaning;
 mod node_tests;
 #[cfg(test)]
 mod label_tests;
+#[cfg(test)]
+mod cycle_tests;
 mod parts;
 mod walk;
 
