@@ -215,6 +215,28 @@ def large_idl(size: int) -> bytes:
     return large_file(IDL, size, "[uuid(11111111-2222-3333-4444-555555555555), version(1.0)]\ninterface t {\n", "}\n")
 
 
+def small_part(number: int) -> str:
+    """A constant, a struct that points back, and an array of what an earlier one holds."""
+    earlier = max(0, number - 7)
+    return (
+        f"const long N{number} = {number} * 3 + 1;\n"
+        f"typedef struct s{number} {{ long count; [ptr] struct s{number} *next; small bytes[N{number} % 9 + 1];"
+        f" hyper far; [ptr] struct s{earlier} *back; boolean last; unsigned short flags; }} t{number};\n"
+        f"const hyper M{number} = (N{number} << 4 | N{earlier}) + {number};\n"
+        + "".join(f"const long K{number}_{place} = M{number} % {place + 2};\n" for place in range(12))
+    )
+
+
+def many_types(size: int) -> bytes:
+    """An interface of this many octets, of thousands of types and constants in one MiB."""
+    text = "[uuid(11111111-2222-3333-4444-555555555555), version(1.0)]\ninterface t {\n"
+    number = 0
+    while len(text) + len(part := small_part(number)) + 2 <= size:
+        text += part
+        number += 1
+    return (text + "}\n").ljust(size).encode()
+
+
 def numbers(seed: int) -> List[int]:
     chance = random.Random(seed)
     return [chance.randrange(-(2**63), 2**63) for _ in range(PARAMETERS)]
@@ -392,6 +414,24 @@ def measure_language(bench: Bench, start: Measured) -> None:
         tell_ratio("decode beside cc", of_large.seconds, other.seconds)
 
 
+def measure_types(bench: Bench, start: Measured) -> None:
+    """Files of many types and constants, whose names are resolved and whose rules are checked before the operation is missed."""
+    files = [bench.write(f"types.{size}.idl", many_types(size)) for size in (FILE_LIMIT // 4, FILE_LIMIT)]
+    commands = [bench.decode(file, "none", "little") for file in files]
+    for command in commands:
+        if refusal(command) != "NoOperation none":
+            bench.fail(f"a file of many types: it is refused as {refusal(command)}")
+    of_small, of_large = bench.large(
+        [
+            Run("decode, a quarter of many types and constants", commands[0], files[0], 6, b""),
+            Run("decode, many types and constants (no operation)", commands[1], files[1], 6, b""),
+        ]
+    )
+    nets = [tell(of_small, start, True), tell(of_large, start, True)]
+    check_growth(bench, "a file of many types and constants", *nets, times="four times", most=MOST_TIMES_OF_FOUR)
+    check_memory(bench, of_large)
+
+
 def has_encode(bench: Bench, idl: Path, nothing: Path) -> bool:
     """Whether the program has the command: where it has not, it ends with status 2 before all else."""
     with open(nothing, "rb") as stdin:
@@ -411,6 +451,7 @@ def measure(bench: Bench, size: int) -> None:
     measure_octets(bench, idl, start)
     measure_files(bench, nothing, start)
     measure_language(bench, start)
+    measure_types(bench, start)
 
 
 def built() -> Path:

@@ -1,9 +1,9 @@
 -- Two's complement at 128 bits is two's complement of unlimited width, of numbers that 128 bits hold.
-use Rattle.std.proofs.Common.{◌≡◌, ℕ, zero, suc, ◌+◌, ◌-◌, ◌*◌, ◌%◌, ◌^◌, ◌<◌, ◌≤◌, min, max, refl, sym, ◌∙◌, ap, arith, ℤ, pos, negsuc, bit_and, bit_or}
+use Rattle.std.proofs.Common.{◌≡◌, ℕ, zero, suc, ◌+◌, ◌-◌, ◌%◌, ◌^◌, ◌<◌, ◌≤◌, min, max, refl, sym, ◌∙◌, ap, arith, ℤ, pos, negsuc, bit_and, bit_or}
 use Rattle.std.specs.Prelude.{bit_xor}
 use Rattle.std.specs.Int.{Width, w128, bit_at, bit_not}
 use Rattle.std.proofs.lemmas.Int.{to_z_pos, to_z-of_z}
-use Rattle.std.proofs.lemmas.Nat.{pow_pos, and-not, and_comm, or_comm, xor_comm, and_le_l, and_le_r, or_lt, xor_lt}
+use Rattle.std.proofs.lemmas.Nat.{pow_pos, and_comm, or_comm, xor_comm, and_le_l, or_lt, xor_lt}
 use Rattle.std.proofs.lemmas.Nat.Bits.{same_from_bits_below, same_from_bits, bit_at_above, bit_at_and, bit_at_or, bit_at_xor, bit_at_not, bit_at-lt}
 use Rattle.std.proofs.Math.Nat.{min_comm, max_comm, add_comm, two-pow-succ}
 use mir.Val.{bits, hbits, to_z, of_z, SFits}

@@ -1,5 +1,5 @@
 -- The values of operators are in range.
-use Rattle.std.proofs.Common.{◌≡◌, ℕ, ◌^◌, Bool, true, false, not, refl, List, Option, Result, Ok, Err, ℤ, pos, negsuc, leb, ◌+ℤ◌, ◌-ℤ◌, ◌*ℤ◌}
+use Rattle.std.proofs.Common.{◌≡◌, ℕ, ◌^◌, Bool, true, false, not, refl, List, Option, Ok, Err, ℤ, pos, negsuc, leb, ◌+ℤ◌, ◌-ℤ◌, ◌*ℤ◌}
 use Rattle.std.specs.Prelude.{int_div, int_rem}
 use Rattle.std.specs.Int.{int_shr}
 use Rattle.idl_grammar.specs.declared.expressions.BinaryOperator.{BinaryOperator}

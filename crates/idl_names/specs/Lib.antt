@@ -2,3 +2,16 @@ pub mod Whole
 pub mod Operators
 pub mod Value
 pub mod Checked
+pub mod Steps
+pub mod Tables
+pub mod Known
+pub mod Kept
+pub mod Sources
+pub mod Files
+pub mod Ended
+pub mod Walk
+pub mod Seen
+pub mod Causes
+pub mod Loads
+pub mod Decided
+pub mod Going

@@ -1,5 +1,5 @@
 -- The value of a constant expression (C706, section 4.2.7).
-use Rattle.std.specs.Prelude.{ℕ, Bool, true, false, not, cond, eqb, leb, List, [], ◌∷◌, Option, Some, None, is_some, ℤ, pos, Result, Ok, Err}
+use Rattle.std.specs.Prelude.{ℕ, true, false, not, cond, eqb, leb, List, ◌∷◌, Option, Some, None, is_some, ℤ, pos, Result, Ok, Err}
 use Rattle.idl_lexer.specs.Numbers.{number_of}
 use Rattle.idl_grammar.specs.declared.expressions.BinaryOperator.{BinaryOperator}
 use Rattle.idl_grammar.specs.declared.expressions.Operand.{Operand}
@@ -9,7 +9,6 @@ use Rattle.idl_names.specs.declared.fault.ConstFault.{ConstFault}
 use Rattle.idl_names.specs.declared.fault.ConstFault.TheVariants.{OutOfRange, NotConst}
 use Rattle.idl_names.specs.declared.fault.ExpressionFault.{ExpressionFault}
 use Rattle.idl_names.specs.declared.fault.ExpressionFault.TheVariants as fault
-use Rattle.idl_names.specs.declared.fault.ValueFault.{ValueFault}
 use Rattle.idl_names.specs.declared.meaning.Meaning.{Meaning}
 use Rattle.idl_names.specs.declared.meaning.Meaning.TheVariants as meaning
 use Rattle.idl_names.specs.Whole.{is_zero, truth}

@@ -23,7 +23,7 @@ pub trait Names {
 }
 
 /// What an escape stands for.
-fn escaped(octet: u8) -> u8
+pub(crate) fn escaped(octet: u8) -> u8
     ensures { result ≡ values.escaped octet }
 {
     match octet {

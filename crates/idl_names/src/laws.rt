@@ -1,12 +1,14 @@
 //! Laws over the definitions.
 
-ghost use Rattle.std.specs.Prelude.{◌≡◌, ℕ, ◌+◌, ◌-◌, ◌%◌, min, max, ℤ, List, Option, Ok, true};
+ghost use Rattle.std.specs.Prelude.{◌≡◌, ℕ, ◌+◌, ◌-◌, ◌%◌, min, max, ℤ, List, Option, Some, Ok, true};
 ghost use Rattle.idl_grammar.specs.declared.expressions.BinaryOperator.{BinaryOperator};
 ghost use Rattle.idl_grammar.specs.declared.expressions.UnaryOperator.{UnaryOperator};
 ghost use Rattle.idl_grammar.specs.Tree.{Expr, Unary, Binary, Conditional};
 ghost use Rattle.idl_names.specs.Whole.{bit, complement, bits_in_both, bits_in_either, bits_in_one, is_in_range};
 ghost use Rattle.idl_names.specs.declared.meaning.Meaning.{Meaning};
 ghost use Rattle.idl_names.specs.Value.{value};
+ghost use Rattle.idl_names.specs.Decided.{is_decided};
+ghost use Rattle.idl_names.specs.Walk.{State, Due, Ending, Walk};
 
 /// The operators on bits work on two's complement of unlimited width, bit by bit, and meanings with the same bits are
 /// the same.
@@ -25,4 +27,12 @@ pub fn operators_stay_in_range()
     ensures unary { (meanings : List ℕ → Option Meaning) (at : ℕ) (s : UnaryOperator) (e : Expr) (z : ℤ) → value meanings (Unary at s e) ≡ Ok z → is_in_range z ≡ true }
     ensures binary { (meanings : List ℕ → Option Meaning) (l : Expr) (at : ℕ) (s : BinaryOperator) (r : Expr) (z : ℤ) → value meanings (Binary l at s r) ≡ Ok z → is_in_range z ≡ true }
     ensures conditional { (meanings : List ℕ → Option Meaning) (c : Expr) (at : ℕ) (a b : Expr) (z : ℤ) → value meanings (Conditional c at a b) ≡ Ok z → is_in_range z ≡ true }
+{}
+
+/// Where the contents of files are told, a walk has one ending, but for three: that memory was wanting, that a file was absent, and that a load
+/// failed. These may come at other places in other walks over the same files.
+#[tactic(auto, using(crate::proofs::Once::one_ending))]
+pub fn walks_have_one_ending()
+    ensures { (held : List ℕ → Option (List ℕ)) (s : State) (dues : List Due) (a b : Ending) → is_decided a ≡ true → is_decided b ≡ true
+        → Walk (Some held) s dues a → Walk (Some held) s dues b → a ≡ b }
 {}

@@ -1,15 +1,38 @@
-//! Names, constants and imports of IDL (C706, sections 4.2.1 to 4.2.7).
+//! Names, constants and imports of IDL (C706, section 4.2).
 #![tactic(auto)]
 
+mod declarations;
 mod expression;
 mod fault;
+#[cfg(test)]
+mod import_tests;
+mod known;
 pub mod laws;
+mod loading;
 mod meaning;
+mod name_fault;
+#[cfg(test)]
+mod one_file_tests;
 mod operators;
+mod resolving;
+mod scope;
+mod sources;
+mod strings;
+mod table;
+mod tag;
 #[cfg(test)]
 mod tests;
+mod types;
+mod walk;
 mod whole;
 
 pub use expression::{Names, evaluate, value, value_of};
 pub use fault::{ConstFault, ExpressionFault, ValueFault};
+pub use idl_parser::SyntaxFault;
 pub use meaning::Meaning;
+pub use name_fault::NameFault;
+pub use resolving::resolve;
+pub use scope::{FileTree, FileTrees, Scope};
+pub use sources::{FILES_LIMIT, Sources};
+pub use table::Table;
+pub use tag::{TagDefinition, TagUse};

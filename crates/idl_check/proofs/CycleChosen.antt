@@ -1,0 +1,59 @@
+-- The body with the least key, and of these the first, is the one that is told.
+use Rattle.std.proofs.Common.{◌≡◌, ◌∙◌, ◌⊎◌, inl, inr, ℕ, zero, suc, ◌+◌, ◌*◌, ◌^◌, ◌<◌, ◌≤◌, Bool, true, false, ◌&&◌, ◌||◌, eqb, ltb, List, [], ◌∷◌, length, Option, Some, None, slice_get, refl, ap, sym, subst, arith}
+use Rattle.std.proofs.lemmas.Bool.Decides.{nat_tests}
+use Rattle.std.proofs.lemmas.Option.{same_Some, slice_get_within}
+use Rattle.std.proofs.lemmas.Bool.{eqb-true}
+use Rattle.idl_check.specs.World.{World}
+use Rattle.idl_check.specs.Scene.{Scene, Body, bodies}
+use Rattle.idl_check.specs.TypeRules.{contains_itself}
+use Rattle.idl_check.specs.Rules.{Breach}
+use Rattle.idl_check.specs.FirstBroken.{comes_before, rank_in}
+use Rattle.idl_check.specs.Noted.{later, noted}
+use Rattle.idl_check.specs.RestBreaches.{cycle_breaches}
+use Rattle.idl_check.specs.Cycles.{key_of, AreKeys, AreNumbersWith, IsLeastValue}
+use Rattle.idl_check.proofs.CycleFirst.{cycle_at, first_noted}
+
+less_key : (r a k b : ℕ) → a < 4294967296 → b < 4294967296 → r * 4294967296 + a < k * 4294967296 + b → (ltb r k || eqb r k && ltb a b) ≡ true
+less_key r a k b h i j = grind (arith, nat_tests, h, i, j)
+
+no_less_key : (r a k b : ℕ) → a < 4294967296 → b < 4294967296 → k * 4294967296 + b ≤ r * 4294967296 + a → (ltb r k || eqb r k && ltb a b) ≡ false
+no_less_key r a k b h i j = grind (arith, nat_tests, h, i, j)
+
+module _ (w : World) (s : Scene) (keys numbers : List ℕ) (key : ℕ) (all : AreKeys w.files (bodies s) keys) (with : AreNumbersWith keys key numbers) (one : IsLeastValue s keys key) where
+  before_by : (b x : Body) (i j : ℕ) → slice_get (bodies s) i ≡ Some b → slice_get (bodies s) j ≡ Some x → key_of w.files b < key_of w.files x
+      → comes_before w (cycle_at b) (cycle_at x) ≡ true
+  before_by b x i j at there h =
+      less_key (rank_in w.files b.construct.file) b.construct.at (rank_in w.files x.construct.file) x.construct.at (all.each i b at).narrow (all.each j x there).narrow h
+
+  not_before_by : (b x : Body) (i j : ℕ) → slice_get (bodies s) i ≡ Some b → slice_get (bodies s) j ≡ Some x → key_of w.files b ≤ key_of w.files x
+      → comes_before w (cycle_at x) (cycle_at b) ≡ false
+  not_before_by b x i j at there h =
+      no_less_key (rank_in w.files x.construct.file) x.construct.at (rank_in w.files b.construct.file) b.construct.at (all.each j x there).narrow (all.each i b at).narrow h
+
+  pub chosen : (number : ℕ) (b : Body) (o : Option Breach) → IsLeastValue s numbers number → slice_get (bodies s) number ≡ Some b → later w (cycle_at b) o ≡ noted w o (cycle_breaches s)
+  chosen number b o two there = by (with.others two.number (key_of w.files two.body) number (all.each two.number two.body two.there).is_key two.is_value) where
+    by : (key_of w.files two.body ≡ key) × (number ≡ two.number) ⊎ (number ≡ length keys) → later w (cycle_at b) o ≡ noted w o (cycle_breaches s)
+    by (inr past) =
+        let l = slice_get_within keys one.number key one.is_value in
+        let m = two.least one.number one.body one.number one.there (with.with_key one.number one.is_value) one.contains in
+        absurd (omega (arith, l, m, past))
+    by (inl (has_key, same)) = first_noted w s b number o there (ap (contains_itself s) (sym body) ∙ two.contains) before behind where
+      body : two.body ≡ b
+      body = same_Some two.body b (sym two.there ∙ ap (slice_get (bodies s)) (sym same) ∙ there)
+      own : key_of w.files b ≡ key
+      own = ap (key_of w.files) (sym body) ∙ has_key
+      before : (i : ℕ) (x : Body) → slice_get (bodies s) i ≡ Some x → contains_itself s x ≡ true → i < number → comes_before w (cycle_at b) (cycle_at x) ≡ true
+      before i x at has below = before_by b x number i there at (strict (eqb (key_of w.files x) key) refl) where
+        least : key ≤ key_of w.files x
+        least = one.least i x (key_of w.files x) at (all.each i x at).is_key has
+        strict : (t : Bool) → eqb (key_of w.files x) key ≡ t → key_of w.files b < key_of w.files x
+        strict true e =
+            let m = two.least i x i at (with.with_key i ((all.each i x at).is_key ∙ ap (λ k. Some k) (eqb-true (key_of w.files x) key e))) has in
+            absurd (omega (arith, m, below))
+        strict false e = strictly (key_of w.files b) (key_of w.files x) key own least e where
+          strictly : (m n k : ℕ) → m ≡ k → k ≤ n → eqb n k ≡ false → m < n
+          strictly m n k h i j = grind (arith, nat_tests, h, i, j)
+      behind : (i : ℕ) (x : Body) → slice_get (bodies s) i ≡ Some x → contains_itself s x ≡ true → number < i → comes_before w (cycle_at x) (cycle_at b) ≡ false
+      behind i x at has past =
+          let l = one.least i x (key_of w.files x) at (all.each i x at).is_key has in
+          not_before_by b x number i there at (subst (λ (k : ℕ). k ≤ key_of w.files x) (sym own) l)

@@ -1,0 +1,68 @@
+-- Tests on lists of numbers.
+use Rattle.std.proofs.Common.{◌≡◌, ℕ, Bool, true, false, not, eqb, ◌&&◌, ◌||◌, ◌⊎◌, List, [], ◌∷◌, refl, sym, ◌∙◌, inl, inr}
+use Rattle.std.specs.List.{list_all, list_any}
+use Rattle.std.proofs.lemmas.Bool.{false≢true}
+
+pub or_cases : (a b : Bool) → (a || b) ≡ true → (a ≡ true) ⊎ (b ≡ true)
+or_cases true b e = inl refl
+or_cases false b e = inr e
+
+pub or_left : (a b : Bool) → a ≡ true → (a || b) ≡ true
+or_left true b e = refl
+or_left false b e = absurd (false≢true e)
+
+pub or_right : (a b : Bool) → b ≡ true → (a || b) ≡ true
+or_right true b e = refl
+or_right false b e = e
+
+pub both : (a b : Bool) → a ≡ true → b ≡ true → (a && b) ≡ true
+both true b e f = f
+both false b e f = e
+
+pub first_of : (a b : Bool) → (a && b) ≡ true → a ≡ true
+first_of true b e = refl
+first_of false b e = e
+
+pub second_of : (a b : Bool) → (a && b) ≡ true → b ≡ true
+second_of true b e = e
+second_of false b e = absurd (false≢true e)
+
+pub is_not : (b : Bool) → not b ≡ true → b ≡ true → ⊥
+is_not true n e = false≢true n
+is_not false n e = false≢true e
+
+pub not_from : (b : Bool) → b ≡ false → not b ≡ true
+not_from true e = sym e
+not_from false e = refl
+
+pub never_true : (b : Bool) → (b ≡ true → ⊥) → b ≡ false
+never_true true f = absurd (f refl)
+never_true false f = refl
+
+pub any_weaker : (t u : ℕ → Bool) → ((x : ℕ) → t x ≡ true → u x ≡ true) → (xs : List ℕ) → list_any t xs ≡ true → list_any u xs ≡ true
+any_weaker t u f [] e = e
+any_weaker t u f (x ∷ xs) e =
+    elim (or_cases (t x) (list_any t xs) e)
+    [ inl h ↦ or_left (u x) (list_any u xs) (f x h) | inr h ↦ or_right (u x) (list_any u xs) (any_weaker t u f xs h) ]
+
+pub all_weaker : (t u : ℕ → Bool) → ((x : ℕ) → t x ≡ true → u x ≡ true) → (xs : List ℕ) → list_all t xs ≡ true → list_all u xs ≡ true
+all_weaker t u f [] e = refl
+all_weaker t u f (x ∷ xs) e =
+    both (u x) (list_all u xs) (f x (first_of (t x) (list_all t xs) e)) (all_weaker t u f xs (second_of (t x) (list_all t xs) e))
+
+-- a number of a list that passes one test, where all pass the other
+pub any_of_all : (f t : ℕ → Bool) (xs : List ℕ) → list_all f xs ≡ true → list_any t xs ≡ true → (p : ℕ) × (f p ≡ true) × (t p ≡ true)
+any_of_all f t [] a e = absurd (false≢true e)
+any_of_all f t (x ∷ xs) a e =
+    elim (or_cases (t x) (list_any t xs) e)
+    [ inl h ↦ (x, first_of (f x) (list_all f xs) a, h) | inr h ↦ any_of_all f t xs (second_of (f x) (list_all f xs) a) h ]
+
+-- what none is, each is not
+pub none_is : (p : ℕ) (f : ℕ → Bool) (xs : List ℕ) → list_any (λ x. eqb x p) xs ≡ false → list_all f xs ≡ true → list_all (λ x. not (eqb x p) && f x) xs ≡ true
+none_is p f [] n a = refl
+none_is p f (x ∷ xs) n a =
+    let e : eqb x p ≡ false = never_true (eqb x p) (λ h. false≢true (sym n ∙ or_left (eqb x p) (list_any (λ x. eqb x p) xs) h)) in
+    let m : list_any (λ x. eqb x p) xs ≡ false = never_true _ (λ h. false≢true (sym n ∙ or_right (eqb x p) (list_any (λ x. eqb x p) xs) h)) in
+    both (not (eqb x p) && f x) (list_all (λ x. not (eqb x p) && f x) xs)
+    (both (not (eqb x p)) (f x) (not_from (eqb x p) e) (first_of (f x) (list_all f xs) a))
+    (none_is p f xs m (second_of (f x) (list_all f xs) a))

@@ -1,0 +1,9 @@
+use Rattle.std.proofs.Common.{map, take}
+use Rattle.idl_names.specs.Seen.{known_in}
+use Rattle.idl_check.specs.World.{number_of}
+use Rattle.idl_check.specs.LabelValues.{Holds}
+use Rattle.idl_check.proofs.label_rule.values_of.Given as goal
+
+-- those before are there
+abbrev pub invariant-loop-one : goal.invariant-loop-one
+invariant-loop-one l = Holds l.set (map (λ e. number_of (known_in l.scope) e.name.octets) (take l.one-index l.list))

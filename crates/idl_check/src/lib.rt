@@ -1,0 +1,56 @@
+//! The rules of IDL, and what files mean that keep them (C706, chapter 4).
+#![tactic(auto)]
+
+mod checking;
+mod counted;
+mod counts;
+mod attributes;
+mod array_rules;
+mod asked;
+mod exports;
+mod fault;
+mod cycle_rule;
+mod in_place;
+mod declaration_rules;
+mod kind_tests;
+mod graph;
+mod kinds;
+mod label_rule;
+mod labels;
+pub mod laws;
+mod lists;
+mod marks;
+mod nodes;
+mod numbering;
+mod words;
+mod finder;
+mod places;
+mod ranges;
+mod pointer_rules;
+mod type_rules;
+mod types;
+mod variables;
+mod variable_rules;
+mod typing;
+mod uses;
+mod value_set;
+mod values;
+mod written;
+mod listed;
+mod members;
+mod arms;
+mod header;
+mod definitions;
+mod operations;
+mod meaning;
+#[cfg(test)]
+mod node_tests;
+#[cfg(test)]
+mod label_tests;
+#[cfg(test)]
+mod cycle_tests;
+mod parts;
+mod walk;
+
+pub use checking::check;
+pub use fault::RuleFault;

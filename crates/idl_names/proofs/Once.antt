@@ -1,0 +1,188 @@
+-- A walk has one ending, but for want of memory and for files that were not loaded.
+use Rattle.std.proofs.Common.{◌≡◌, ℕ, ◌<◌, ◌≤◌, Bool, true, false, refl, sym, ap, subst, ◌∙◌, arith, List, [], ◌∷◌, ◌++◌, length, Option, Some, None, option_map, Result, Ok, Err}
+use Rattle.std.proofs.lemmas.Option.{same_Some}
+use Rattle.phrases.specs.Text.{Depth, Ban}
+use Rattle.phrases.specs.Reading.{Fault, Syntax, Passes}
+use Rattle.nd_base.specs.declared.octets.Place.{Place}
+use Rattle.nd_base.specs.Outside.{loaded, IsContent}
+use Rattle.idl_lexer.specs.Lexed.{Lexed, place_of}
+use Rattle.idl_lexer.specs.Verdict.{IsVerdict, AreTokens, Cut, Refused}
+use Rattle.idl_lexer.specs.declared.tokens.LexKind.{LexKind}
+use Rattle.idl_lexer.specs.declared.tokens.LexFault.TheVariants as lex_fault
+use Rattle.idl_lexer.specs.declared.tokens.Token.{Token}
+use Rattle.idl_lexer.proofs.OneVerdict.{one_verdict}
+use Rattle.idl_grammar.specs.Grammar as grammar
+use Rattle.idl_grammar.specs.Lexemes.{lexemes}
+use Rattle.idl_grammar.specs.Tree.{Tree}
+use Rattle.idl_grammar.specs.Answers.{Answers, file_answer}
+use Rattle.idl_grammar.proofs.FileLaws.{file_answered_alone}
+use Rattle.idl_grammar.proofs.RealTokens.{lexemes_real}
+use Rattle.idl_parser.specs.declared.fault.SyntaxFault.{SyntaxFault}
+use Rattle.idl_parser.specs.declared.fault.SyntaxFault.TheVariants as syntax
+use Rattle.idl_names.specs.declared.name_fault.NameFault.{NameFault}
+use Rattle.idl_names.specs.declared.name_fault.NameFault.TheVariants as fault
+use Rattle.idl_names.specs.Files.{IsRead, IsFile, IsNoFile, IsSyntaxFault}
+use Rattle.idl_names.specs.Known.{Known, passed}
+use Rattle.idl_names.specs.Sources.{and_source, file_number}
+use Rattle.idl_names.specs.Walk.{State, Due, Pass, Load, End, Ending, Done, Stopped, Walk, IsDue, most_files, with_known, with_source, all_of}
+use Rattle.idl_names.specs.Walk as walk
+use Rattle.idl_names.specs.Decided.{is_decided}
+
+-- ## Texts
+
+one_text : (f : List ℕ → Option (List ℕ)) (name a b : List ℕ) → IsContent (Some f) name a → IsContent (Some f) name b → a ≡ b
+one_text f name a b x y = same_Some _ _ (sym x ∙ y)
+
+same_tokens : (a b : List Token) → Cut a ≡ Cut b → a ≡ b
+same_tokens a b e = cc
+
+one_lexed : (text : List ℕ) (l m : Lexed) → l.text ≡ text → m.text ≡ text → AreTokens text l.tokens → AreTokens text m.tokens → l ≡ m
+one_lexed text l m a b x y =
+    let e : l.tokens ≡ m.tokens = same_tokens l.tokens m.tokens (one_verdict text (Cut m.tokens) (Cut l.tokens) y x) in
+    ap (λ (t : List ℕ). record { text = t; tokens = l.tokens }) (a ∙ sym b) ∙ ap (λ (ts : List Token). record { text = m.text; tokens = ts }) e
+
+one_answer : (text : List ℕ) (l m : Lexed) (a b : Result Tree Fault) → IsRead text l a → IsRead text m b → a ≡ b
+one_answer text l m a b x y =
+    let e : l ≡ m = one_lexed text l m x.text_is y.text_is x.tokens y.tokens in
+    let p : a ≡ file_answer 64 129 (lexemes l) = file_answered_alone 64 129 (omega arith) (omega arith) (lexemes l) (lexemes_real l) a x.answered in
+    let q : b ≡ file_answer 64 129 (lexemes m) = file_answered_alone 64 129 (omega arith) (omega arith) (lexemes m) (lexemes_real m) b y.answered in
+    p ∙ (ap (λ (n : Lexed). file_answer 64 129 (lexemes n)) e ∙ sym q)
+
+one_syntax : (f g : SyntaxFault) (j k : ℕ) (a b : Fault) → IsSyntaxFault f j a → IsSyntaxFault g k b → a ≡ b → (f ≡ g) × (j ≡ k)
+one_syntax syntax.Memory g j k a b x y e = absurd x
+one_syntax f syntax.Memory j k a b x y e = absurd y
+one_syntax (syntax.Syntax m) (syntax.Syntax n) j k a b x y e = (cc, cc)
+one_syntax (syntax.Syntax m) (syntax.Deep n) j k a b x y e = absurd (cc)
+one_syntax (syntax.Syntax m) (syntax.Banned n) j k a b x y e = absurd (cc)
+one_syntax (syntax.Deep m) (syntax.Syntax n) j k a b x y e = absurd (cc)
+one_syntax (syntax.Deep m) (syntax.Deep n) j k a b x y e = (cc, cc)
+one_syntax (syntax.Deep m) (syntax.Banned n) j k a b x y e = absurd (cc)
+one_syntax (syntax.Banned m) (syntax.Syntax n) j k a b x y e = absurd (cc)
+one_syntax (syntax.Banned m) (syntax.Deep n) j k a b x y e = absurd (cc)
+one_syntax (syntax.Banned m) (syntax.Banned n) j k a b x y e = (cc, cc)
+
+same_errors : {A : Type 0} (a b : Fault) → ◌≡◌ {A = Result A Fault} (Err a) (Err b) → a ≡ b
+same_errors a b e = cc
+
+same_trees : (a b : Tree) → ◌≡◌ {A = Result Tree Fault} (Ok a) (Ok b) → a ≡ b
+same_trees a b e = cc
+
+no_clash : {B : Type 0} (a : Tree) (b : Fault) → ◌≡◌ {A = Result Tree Fault} (Ok a) (Err b) → B
+no_clash a b e = absurd (cc)
+
+one_tree : (text : List ℕ) (a b : Tree) → IsFile text a → IsFile text b → a ≡ b
+one_tree text a b x y = same_trees a b (one_answer text x.lexed y.lexed (Ok a) (Ok b) x.read y.read)
+
+one_fault : (text : List ℕ) (at at' : ℕ) (f f' : SyntaxFault) → IsNoFile text at f → IsNoFile text at' f' → (f ≡ f') × (at ≡ at')
+one_fault text at at' f f' x y =
+    let told : x.told ≡ y.told = same_errors x.told y.told (one_answer text x.lexed y.lexed (Err x.told) (Err y.told) x.read y.read) in
+    let same = one_syntax f f' x.token y.token x.told y.told x.is_told y.is_told told in
+    let lexed : x.lexed ≡ y.lexed = one_lexed text x.lexed y.lexed x.read.text_is y.read.text_is x.read.tokens y.read.tokens in
+    (same.0, x.octet ∙ (ap (λ (l : Lexed). place_of l x.token) lexed ∙ (ap (λ (k : ℕ). place_of y.lexed k) same.1 ∙ sym y.octet)))
+
+one_refusal : (text : List ℕ) (at at' : ℕ) (kind kind' : LexKind) → IsVerdict text (Refused at kind) → IsVerdict text (Refused at' kind') → Refused at kind ≡ Refused at' kind'
+one_refusal text at at' kind kind' x y = sym (one_verdict text (Refused at kind) (Refused at' kind') x y)
+
+cut_or_refused : {B : Type 0} (text : List ℕ) (at : ℕ) (kind : LexKind) (tokens : List Token) → IsVerdict text (Refused at kind) → AreTokens text tokens → B
+cut_or_refused text at kind tokens x y = let e : Refused at kind ≡ Cut tokens = one_verdict text (Cut tokens) (Refused at kind) y x in absurd (cc)
+
+file_or_fault : {B : Type 0} (text : List ℕ) (at : ℕ) (f : SyntaxFault) (t : Tree) → IsFile text t → IsNoFile text at f → B
+file_or_fault text at f t x y = no_clash t y.told (one_answer text x.lexed y.lexed (Ok t) (Err y.told) x.read y.read)
+
+known_or_new : {B : Type 0} (n : ℕ) (o : Option ℕ) → o ≡ Some n → o ≡ None → B
+known_or_new n o e h = absurd (cc)
+
+room_or_full : {B : Type 0} (n : ℕ) → n < most_files → most_files ≤ n → B
+room_or_full n a b = absurd (omega (arith, a, b))
+
+ended_or_not : {B : Type 0} (n m : ℕ) (o : Option ℕ) (test : ℕ → Bool) → o ≡ Some n → o ≡ Some m → test n ≡ true → test m ≡ false → B
+ended_or_not n m o test e h x y = let s : n ≡ m = same_Some _ _ (sym e ∙ h) in absurd (cc)
+
+same_known : (a b : Known) (r : Result Known NameFault) → r ≡ Ok a → r ≡ Ok b → a ≡ b
+same_known a b r e h = cc
+
+same_fault : (a b : NameFault) (r : Result Known NameFault) → r ≡ Err a → r ≡ Err b → a ≡ b
+same_fault a b r e h = cc
+
+passes_or_not : {B : Type 0} (a : Known) (b : NameFault) (r : Result Known NameFault) → r ≡ Ok a → r ≡ Err b → B
+passes_or_not a b r e h = absurd (cc)
+
+undecided : {B : Type 0} → false ≡ true → B
+undecided e = absurd (cc)
+
+-- ## Walks
+
+module _ (f : List ℕ → Option (List ℕ)) where
+  pub one_ending : {s : State} {dues : List Due} {a b : Ending} → is_decided a ≡ true → is_decided b ≡ true → Walk (Some f) s dues a → Walk (Some f) s dues b → a ≡ b
+  one_ending p q (walk.all_done s) (walk.all_done _) = refl
+  one_ending p q (walk.goes_on s file step k rest e h w) (walk.goes_on _ _ _ n _ x g v) =
+      one_ending p q w (subst (λ (m : Known). Walk (Some f) (with_known s m) rest x) (same_known n k (passed file s.known step) g h) v)
+  one_ending p q (walk.goes_on s file step k rest e h w) (walk.faults _ _ _ n _ g) = passes_or_not k n (passed file s.known step) h g
+  one_ending p q (walk.faults s file step n rest h) (walk.goes_on _ _ _ k _ x g v) = passes_or_not k n (passed file s.known step) g h
+  one_ending p q (walk.faults s file step n rest h) (walk.faults _ _ _ m _ g) = ap (λ (x : NameFault). Stopped s.sources x) (same_fault n m (passed file s.known step) h g)
+  one_ending p q (walk.ends s file t rest e w) (walk.ends _ _ _ _ x v) = one_ending p q w v
+  one_ending p q (walk.cycle s place name rest n h d) (walk.cycle _ _ _ _ m g c) = refl
+  one_ending p q (walk.cycle s place name rest n h d) (walk.again _ _ _ _ x m g c v) = ended_or_not m n (file_number s.sources name) (λ k. walk.has_ended s.ended k) g h c d
+  one_ending p q (walk.cycle s place name rest n h d) (walk.too_many _ _ _ _ g c) = known_or_new n (file_number s.sources name) h g
+  one_ending p q (walk.cycle s place name rest n h d) (walk.uncut _ _ _ _ text at kind due c v) = known_or_new n (file_number s.sources name) h due.new
+  one_ending p q (walk.cycle s place name rest n h d) (walk.no_file _ _ _ _ text at g due c v) = known_or_new n (file_number s.sources name) h due.new
+  one_ending p q (walk.cycle s place name rest n h d) (walk.enters _ _ _ _ x text t due c g v) = known_or_new n (file_number s.sources name) h due.new
+  one_ending p q (walk.again s place name rest e n h d w) (walk.cycle _ _ _ _ m g c) = ended_or_not n m (file_number s.sources name) (λ k. walk.has_ended s.ended k) h g d c
+  one_ending p q (walk.again s place name rest e n h d w) (walk.again _ _ _ _ x m g c v) = one_ending p q w v
+  one_ending p q (walk.again s place name rest e n h d w) (walk.too_many _ _ _ _ g c) = known_or_new n (file_number s.sources name) h g
+  one_ending p q (walk.again s place name rest e n h d w) (walk.uncut _ _ _ _ text at kind due c v) = known_or_new n (file_number s.sources name) h due.new
+  one_ending p q (walk.again s place name rest e n h d w) (walk.no_file _ _ _ _ text at g due c v) = known_or_new n (file_number s.sources name) h due.new
+  one_ending p q (walk.again s place name rest e n h d w) (walk.enters _ _ _ _ x text t due c g v) = known_or_new n (file_number s.sources name) h due.new
+  one_ending p q (walk.too_many s place name rest h d) (walk.cycle _ _ _ _ m g c) = known_or_new m (file_number s.sources name) g h
+  one_ending p q (walk.too_many s place name rest h d) (walk.again _ _ _ _ x m g c v) = known_or_new m (file_number s.sources name) g h
+  one_ending p q (walk.too_many s place name rest h d) (walk.too_many _ _ _ _ g c) = refl
+  one_ending p q (walk.too_many s place name rest h d) (walk.uncut _ _ _ _ text at kind due c v) = room_or_full (length s.sources) due.room d
+  one_ending p q (walk.too_many s place name rest h d) (walk.no_file _ _ _ _ text at g due c v) = room_or_full (length s.sources) due.room d
+  one_ending p q (walk.too_many s place name rest h d) (walk.enters _ _ _ _ x text t due c g v) = room_or_full (length s.sources) due.room d
+  one_ending p q (walk.uncut s place name rest text at kind due c w) (walk.cycle _ _ _ _ m g d) = known_or_new m (file_number s.sources name) g due.new
+  one_ending p q (walk.uncut s place name rest text at kind due c w) (walk.again _ _ _ _ x m g d v) = known_or_new m (file_number s.sources name) g due.new
+  one_ending p q (walk.uncut s place name rest text at kind due c w) (walk.too_many _ _ _ _ g d) = room_or_full (length s.sources) due.room d
+  one_ending p q (walk.uncut s place name rest text at kind due c w) (walk.uncut _ _ _ _ other at' kind' due' d v) =
+      let e : other ≡ text = one_text f name other text d c in
+      let r : Refused at kind ≡ Refused at' kind' = one_refusal text at at' kind kind' w (subst (λ (l : List ℕ). IsVerdict l (Refused at' kind')) e v) in
+      cc
+  one_ending p q (walk.uncut s place name rest text at kind due c w) (walk.no_file _ _ _ _ other at' g due' d v) =
+      cut_or_refused other at kind v.lexed.tokens (subst (λ (l : List ℕ). IsVerdict l (Refused at kind)) (one_text f name text other c d) w) v.read.tokens
+  one_ending p q (walk.uncut s place name rest text at kind due c w) (walk.enters _ _ _ _ x other t due' d g v) =
+      cut_or_refused other at kind g.lexed.tokens (subst (λ (l : List ℕ). IsVerdict l (Refused at kind)) (one_text f name text other c d) w) g.read.tokens
+  one_ending p q (walk.no_file s place name rest text at n due c w) (walk.cycle _ _ _ _ m g d) = known_or_new m (file_number s.sources name) g due.new
+  one_ending p q (walk.no_file s place name rest text at n due c w) (walk.again _ _ _ _ x m g d v) = known_or_new m (file_number s.sources name) g due.new
+  one_ending p q (walk.no_file s place name rest text at n due c w) (walk.too_many _ _ _ _ g d) = room_or_full (length s.sources) due.room d
+  one_ending p q (walk.no_file s place name rest text at n due c w) (walk.uncut _ _ _ _ other at' kind due' d v) =
+      cut_or_refused text at' kind w.lexed.tokens (subst (λ (l : List ℕ). IsVerdict l (Refused at' kind)) (one_text f name other text d c) v) w.read.tokens
+  one_ending p q (walk.no_file s place name rest text at n due c w) (walk.no_file _ _ _ _ other at' m due' d v) =
+      let e : other ≡ text = one_text f name other text d c in
+      let r = one_fault text at at' n m w (subst (λ (l : List ℕ). IsNoFile l at' m) e v) in
+      let r0 : n ≡ m = r.0 in
+      let r1 : at ≡ at' = r.1 in
+      cc
+  one_ending p q (walk.no_file s place name rest text at n due c w) (walk.enters _ _ _ _ x other t due' d g v) =
+      file_or_fault other at n t g (subst (λ (l : List ℕ). IsNoFile l at n) (one_text f name text other c d) w)
+  one_ending p q (walk.enters s place name rest e text t due c h w) (walk.cycle _ _ _ _ m g d) = known_or_new m (file_number s.sources name) g due.new
+  one_ending p q (walk.enters s place name rest e text t due c h w) (walk.again _ _ _ _ x m g d v) = known_or_new m (file_number s.sources name) g due.new
+  one_ending p q (walk.enters s place name rest e text t due c h w) (walk.too_many _ _ _ _ g d) = room_or_full (length s.sources) due.room d
+  one_ending p q (walk.enters s place name rest e text t due c h w) (walk.uncut _ _ _ _ other at' kind due' d v) =
+      cut_or_refused text at' kind h.lexed.tokens (subst (λ (l : List ℕ). IsVerdict l (Refused at' kind)) (one_text f name other text d c) v) h.read.tokens
+  one_ending p q (walk.enters s place name rest e text t due c h w) (walk.no_file _ _ _ _ other at' m due' d v) =
+      file_or_fault text at' m t h (subst (λ (l : List ℕ). IsNoFile l at' m) (one_text f name other text d c) v)
+  one_ending p q (walk.enters s place name rest e text t due c h w) (walk.enters _ _ _ _ x other u due' d g v) =
+      let same : other ≡ text = one_text f name other text d c in
+      let tree : u ≡ t = one_tree text u t (subst (λ (l : List ℕ). IsFile l u) same g) h in
+      one_ending p q w
+      (subst (λ (y : Tree). Walk (Some f) (with_source s name text) (all_of (length s.sources) y ++ rest) x) tree
+      (subst (λ (l : List ℕ). Walk (Some f) (with_source s name l) (all_of (length s.sources) u ++ rest) x) same v))
+  one_ending p q (walk.short s rest) v = undecided p
+  one_ending p q (walk.short_in_load s place name rest due) v = undecided p
+  one_ending p q (walk.short_after_load s place name rest text due c) v = undecided p
+  one_ending p q (walk.absent s place name rest due m) v = undecided p
+  one_ending p q (walk.failed s place name rest due) v = undecided p
+  one_ending p q w (walk.short s rest) = undecided q
+  one_ending p q w (walk.short_in_load s place name rest due) = undecided q
+  one_ending p q w (walk.short_after_load s place name rest text due c) = undecided q
+  one_ending p q w (walk.absent s place name rest due m) = undecided q
+  one_ending p q w (walk.failed s place name rest due) = undecided q

@@ -1,0 +1,11 @@
+use Rattle.std.proofs.Common.{◌≡◌, map}
+use Rattle.std.specs.List.{flat_map}
+use Rattle.idl_grammar.specs.Seen as seen
+use Rattle.idl_names.specs.Known.{walked}
+use Rattle.idl_names.specs.Steps as steps
+use Rattle.idl_names.proofs.Walked.{from}
+use Rattle.idl_names.proofs.walk.labels.Given as goal
+
+-- the steps of the items that are left come to what those of all come to
+abbrev pub invariant-loop-one : goal.invariant-loop-one
+invariant-loop-one l = walked l.file l.names (from seen.seen_label steps.label_steps l.one-items l.one-index) ≡ walked l.file l.names (flat_map steps.label_steps (map seen.seen_label l.one-items))

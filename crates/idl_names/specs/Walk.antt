@@ -1,0 +1,139 @@
+-- The walk through the files: each file by its attributes, then its imports, then its declarations. An import is walked in its place.
+use Rattle.std.specs.Prelude.{◌≡◌, ◌⊎◌, ℕ, ◌≤◌, ◌<◌, Bool, true, false, eqb, List, [], ◌∷◌, ◌++◌, map, length, Option, Some, None, Ok, Err}
+use Rattle.std.specs.List.{list_any}
+use Rattle.nd_base.specs.declared.octets.Place.{Place}
+use Rattle.nd_base.specs.Outside.{IsContent, IsMissing}
+use Rattle.idl_lexer.specs.declared.tokens.LexKind.{LexKind}
+use Rattle.idl_lexer.specs.declared.tokens.LexFault.TheVariants as lex_fault
+use Rattle.idl_lexer.specs.Verdict.{IsVerdict, Refused}
+use Rattle.idl_grammar.specs.declared.words.Spelling.{Spelling}
+use Rattle.idl_grammar.specs.Tree.{Tree}
+use Rattle.idl_names.specs.declared.name_fault.NameFault.{NameFault}
+use Rattle.idl_names.specs.declared.name_fault.NameFault.TheVariants as fault
+use Rattle.idl_parser.specs.declared.fault.SyntaxFault.{SyntaxFault}
+use Rattle.idl_names.specs.Steps.{Step, attribute_steps, imports_of, declaration_steps}
+use Rattle.idl_names.specs.Known.{Known, nothing, passed, place_in, first_undefined}
+use Rattle.idl_names.specs.Sources.{Source, file_number, file_named, and_source}
+use Rattle.idl_names.specs.Ended.{Ended, ended}
+use Rattle.idl_names.specs.Files.{IsFile, IsNoFile}
+
+-- the greatest number of files
+abbrev pub most_files : ℕ
+most_files = 64
+
+-- how far a walk has come
+pub record State : Type 0 where
+  -- the main file, then each file whose load was begun, in that order
+  pub sources : List Source
+  -- the files whose resolving has ended, in that order
+  pub ended : List Ended
+  -- what is known of names
+  pub known : Known
+
+-- what is still to be done
+pub data Due : Type 0 where
+  -- a step of a file
+  Pass : (file : ℕ) (step : Step) → Due
+  -- the import at a place, of the file of a name
+  Load : (place : Place) (name : List ℕ) → Due
+  -- the end of a file
+  End : (file : ℕ) (tree : Tree) → Due
+
+abbrev pub load_of : ℕ → Spelling → Due
+load_of file string = Load (place_in file string) (file_named string.octets)
+
+-- all of a file
+abbrev pub all_of : ℕ → Tree → List Due
+all_of file t =
+    map (Pass file) (attribute_steps t.attributes) ++ map (load_of file) (imports_of t) ++ map (Pass file) (declaration_steps (eqb file 0) t) ++ End file t ∷ []
+
+abbrev pub has_ended : List Ended → ℕ → Bool
+has_ended files file = list_any (λ e. eqb e.file file) files
+
+-- A file is to be loaded: it is not there yet, and not one too many.
+pub record IsDue (sources : List Source) (name : List ℕ) : Type 0 where
+  pub new : file_number sources name ≡ None
+  pub room : length sources < most_files
+
+abbrev pub with_known : State → Known → State
+with_known s k = record s { known = k }
+
+abbrev pub with_ended : State → ℕ → Tree → State
+with_ended s file t = record s { ended = s.ended ++ ended file t ∷ [] }
+
+abbrev pub with_source : State → List ℕ → List ℕ → State
+with_source s name text = record s { sources = and_source s.sources name text }
+
+-- How a walk ends: all is done, or there is a fault, with the files whose load was begun.
+pub data Ending : Type 0 where
+  Done : (state : State) → Ending
+  Stopped : (sources : List Source) (fault : NameFault) → Ending
+
+-- How a walk ends from a state, where this is due and `held` tells the contents of files.
+pub data Walk (held : Option (List ℕ → Option (List ℕ))) : State → List Due → Ending → Type 0 where
+  all_done : (s : State) → Walk held s [] (Done s)
+  -- a step is passed
+  goes_on : (s : State) (file : ℕ) (step : Step) (k : Known) (rest : List Due) (e : Ending) → passed file s.known step ≡ Ok k
+      → Walk held (with_known s k) rest e → Walk held s (Pass file step ∷ rest) e
+  -- a step is at fault
+  faults : (s : State) (file : ℕ) (step : Step) (f : NameFault) (rest : List Due) → passed file s.known step ≡ Err f
+      → Walk held s (Pass file step ∷ rest) (Stopped s.sources f)
+  -- a file ends
+  ends : (s : State) (file : ℕ) (t : Tree) (rest : List Due) (e : Ending) → Walk held (with_ended s file t) rest e → Walk held s (End file t ∷ rest) e
+  -- the imported file is being resolved
+  cycle : (s : State) (place : Place) (name : List ℕ) (rest : List Due) (n : ℕ) → file_number s.sources name ≡ Some n → has_ended s.ended n ≡ false
+      → Walk held s (Load place name ∷ rest) (Stopped s.sources (fault.ImportCycle place))
+  -- it is resolved already
+  again : (s : State) (place : Place) (name : List ℕ) (rest : List Due) (e : Ending) (n : ℕ) → file_number s.sources name ≡ Some n → has_ended s.ended n ≡ true
+      → Walk held s rest e → Walk held s (Load place name ∷ rest) e
+  -- it would be one too many
+  too_many : (s : State) (place : Place) (name : List ℕ) (rest : List Due) → file_number s.sources name ≡ None → most_files ≤ length s.sources
+      → Walk held s (Load place name ∷ rest) (Stopped s.sources (fault.TooMany place))
+  -- there is no such file
+  absent : (s : State) (place : Place) (name : List ℕ) (rest : List Due) → IsDue s.sources name → IsMissing held name
+      → Walk held s (Load place name ∷ rest) (Stopped (and_source s.sources name []) (fault.Absent (length s.sources)))
+  -- its load failed
+  failed : (s : State) (place : Place) (name : List ℕ) (rest : List Due) → IsDue s.sources name
+      → Walk held s (Load place name ∷ rest) (Stopped (and_source s.sources name []) (fault.Failed (length s.sources)))
+  -- it cannot be cut into tokens
+  uncut : (s : State) (place : Place) (name : List ℕ) (rest : List Due) (text : List ℕ) (at : ℕ) (kind : LexKind) → IsDue s.sources name
+      → IsContent held name text → IsVerdict text (Refused at kind)
+      → Walk held s (Load place name ∷ rest) (Stopped (and_source s.sources name text) (fault.Lex (length s.sources) (lex_fault.At at kind)))
+  -- it is no file of the language
+  no_file : (s : State) (place : Place) (name : List ℕ) (rest : List Due) (text : List ℕ) (at : ℕ) (f : SyntaxFault) → IsDue s.sources name
+      → IsContent held name text → IsNoFile text at f
+      → Walk held s (Load place name ∷ rest) (Stopped (and_source s.sources name text) (fault.Syntax (length s.sources) at f))
+  -- it is walked in the place of its import
+  enters : (s : State) (place : Place) (name : List ℕ) (rest : List Due) (e : Ending) (text : List ℕ) (t : Tree) → IsDue s.sources name
+      → IsContent held name text → IsFile text t
+      → Walk held (with_source s name text) (all_of (length s.sources) t ++ rest) e → Walk held s (Load place name ∷ rest) e
+  -- Want of memory may stop a walk anywhere, also in a load or after it.
+  short : (s : State) (rest : List Due) → Walk held s rest (Stopped s.sources fault.Memory)
+  short_in_load : (s : State) (place : Place) (name : List ℕ) (rest : List Due) → IsDue s.sources name
+      → Walk held s (Load place name ∷ rest) (Stopped (and_source s.sources name []) fault.Memory)
+  short_after_load : (s : State) (place : Place) (name : List ℕ) (rest : List Due) (text : List ℕ) → IsDue s.sources name → IsContent held name text
+      → Walk held s (Load place name ∷ rest) (Stopped (and_source s.sources name text) fault.Memory)
+
+-- A walk begins with the main file alone, and no names.
+abbrev pub start : List Source → State
+start main = record { sources = main; ended = []; known = nothing }
+
+-- The whole walk is done, and each tag that was used has its body.
+pub record IsResolved (held : Option (List ℕ → Option (List ℕ))) (main : List Source) (t : Tree) (s : State) : Type 0 where
+  pub walk : Walk held (start main) (all_of 0 t) (Done s)
+  pub whole : first_undefined s.known s.known.uses ≡ None
+
+-- The whole walk is done, and the first tag behind pointers that has no body of its kind stands there.
+pub record IsUndefined (held : Option (List ℕ → Option (List ℕ))) (main : List Source) (t : Tree) (sources : List Source) (place : Place) : Type 0 where
+  pub state : State
+  pub walk : Walk held (start main) (all_of 0 t) (Done state)
+  pub sources_are : sources ≡ state.sources
+  pub first : first_undefined state.known state.known.uses ≡ Some place
+
+abbrev pub IsUndefinedFault : Option (List ℕ → Option (List ℕ)) → List Source → Tree → List Source → NameFault → Type 0
+IsUndefinedFault held main t sources (fault.Unknown place) = IsUndefined held main t sources place
+IsUndefinedFault held main t sources _ = ⊥
+
+-- The first fault: of the walk, else of a tag behind pointers.
+abbrev pub IsRefused : Option (List ℕ → Option (List ℕ)) → List Source → Tree → List Source → NameFault → Type 0
+IsRefused held main t sources f = Walk held (start main) (all_of 0 t) (Stopped sources f) ⊎ IsUndefinedFault held main t sources f

@@ -1,0 +1,272 @@
+// What is known of names on the way through the files, and each step of a file.
+ghost use Rattle.std.specs.Prelude.{◌≡◌, ◌++◌, [], ◌∷◌, option_map, Ok, OnOk};
+ghost use Rattle.idl_grammar.specs.Seen.{seen_expr};
+ghost use Rattle.idl_names.specs.Tables.{found};
+ghost use Rattle.idl_names.specs.Known.{Known, nothing, walked, value_in, is_defined, first_undefined, next_meaning, place_in};
+ghost use Rattle.idl_names.specs.Kept.{listed, IsRight};
+ghost use Rattle.idl_names.specs.Steps.{UseType, UseTag, DefineTag, Declare, Know, KnowValue, KnowNext, Evaluate, Enlist};
+
+use crate::table::Table;
+use crate::{ExpressionFault, Meaning, NameFault, Names, TagDefinition, TagUse, evaluate};
+use idl_grammar::{Expr, Spelling, TagKind};
+use nd_base::{Memory, Octets, Place};
+use std::alloc::Global;
+use std::marker::Model;
+
+/// What was declared so far.
+#[derive(Drop)]
+pub(crate) struct NameTables {
+    alloc: Global,
+    places: Table<Place>,
+    meanings: Table<Meaning>,
+    tags: Table<TagDefinition>,
+    uses: Vec<TagUse>,
+}
+
+impl Model for NameTables {
+    ghost use Rattle.idl_names.specs.Known.{Known};
+    ghost use Rattle.idl_names.specs.Kept.{known_of};
+
+    ghost Value = { Known };
+
+    ghost view = { λ n. known_of n.places n.meanings n.tags n.uses.items };
+}
+
+impl Names for NameTables {
+    ghost use Rattle.idl_names.specs.Known.{meaning_in};
+
+    ghost meanings = { λ k. meaning_in k };
+
+    fn meaning(&self, name: &[u8]) -> Option<Meaning> {
+        self.meanings.get(name)
+    }
+}
+
+/// Where a token of a file stands.
+fn place_of(file: u16, spelling: &Spelling) -> Place
+    ensures { result ≡ place_in file spelling.now }
+{
+    Place {
+        file,
+        at: spelling.at,
+    }
+}
+
+impl NameTables {
+    /// Nothing. It allocates nothing.
+    pub(crate) fn new(alloc: Global) -> NameTables
+        ensures { result ≡ nothing }
+    {
+        NameTables {
+            alloc,
+            places: Table::new(alloc),
+            meanings: Table::new(alloc),
+            tags: Table::new(alloc),
+            uses: Vec::new(alloc),
+        }
+    }
+
+    /// Where a name was declared.
+    pub(crate) fn place(&self, name: &[u8]) -> Option<Place>
+        ensures { result ≡ found name.now self.now.places }
+    {
+        self.places.get(name)
+    }
+
+    /// A tag with its body.
+    pub(crate) fn tag(&self, name: &[u8]) -> Option<TagDefinition>
+        ensures { result ≡ found name.now self.now.tags }
+    {
+        self.tags.get(name)
+    }
+
+    /// The value of an expression in a file.
+    pub(crate) fn value(&self, file: u16, expression: &Expr) -> Result<i128, NameFault>
+        ensures { result ≡ value_in file self.now (seen_expr expression.now) }
+    {
+        match evaluate(self, expression) {
+            Ok(value) => Ok(value),
+            Err(ExpressionFault::Unknown { at }) => Err(NameFault::Unknown {
+                place: Place { file, at },
+            }),
+            Err(ExpressionFault::Const(found)) => Err(NameFault::Const {
+                place: Place { file, at: found.at },
+                fault: found.fault,
+            }),
+        }
+    }
+
+    /// A type is named.
+    pub(crate) fn use_type(&self, file: u16, name: &Spelling) -> Result<(), NameFault>
+        ensures { IsRight self.now result (walked file self.now (UseType name.now ∷ [])) }
+    {
+        match self.meanings.get(name.octets.as_slice()) {
+            Some(Meaning::Type) => Ok(()),
+            _ => Err(NameFault::Unknown {
+                place: place_of(file, name),
+            }),
+        }
+    }
+
+    /// Whether a tag has a body, and is of that kind.
+    fn is_defined(&self, kind: TagKind, tag: &[u8]) -> bool
+        ensures { result ≡ is_defined self.now kind tag.now }
+    {
+        match self.tags.get(tag) {
+            Some(definition) => definition.kind == kind,
+            None => false,
+        }
+    }
+
+    /// A tag is used without its body.
+    pub(crate) fn use_tag(
+        &mut self,
+        file: u16,
+        kind: TagKind,
+        tag: &Spelling,
+        behind_pointers: bool,
+    ) -> Result<(), NameFault>
+        ensures { IsRight self.new result (walked file self.old (UseTag kind tag.now behind_pointers ∷ [])) }
+    {
+        if self.is_defined(kind, tag.octets.as_slice()) {
+            return Ok(());
+        }
+        let place = place_of(file, tag);
+        if !behind_pointers {
+            return Err(NameFault::Unknown { place });
+        }
+        let tag = Octets::copy(self.alloc, tag.octets.as_slice())?;
+        match self.uses.push(TagUse { kind, tag, place }) {
+            Ok(()) => Ok(()),
+            Err(_) => Err(NameFault::Memory),
+        }
+    }
+
+    /// A tag with its body.
+    pub(crate) fn define_tag(
+        &mut self,
+        file: u16,
+        kind: TagKind,
+        tag: &Spelling,
+    ) -> Result<(), NameFault>
+        ensures { IsRight self.new result (walked file self.old (DefineTag kind tag.now ∷ [])) }
+    {
+        let place = place_of(file, tag);
+        match self.tags.get(tag.octets.as_slice()) {
+            Some(earlier) => Err(NameFault::Twice {
+                place,
+                first: earlier.place,
+            }),
+            None => Ok(
+                self.tags
+                    .put(tag.octets.as_slice(), TagDefinition { kind, place })?,
+            ),
+        }
+    }
+
+    /// A type, constant, enumerator or operation takes its name.
+    pub(crate) fn declare(&mut self, file: u16, name: &Spelling) -> Result<(), NameFault>
+        ensures { IsRight self.new result (walked file self.old (Declare name.now ∷ [])) }
+    {
+        let place = place_of(file, name);
+        match self.places.get(name.octets.as_slice()) {
+            Some(first) => Err(NameFault::Twice { place, first }),
+            None => Ok(self.places.put(name.octets.as_slice(), place)?),
+        }
+    }
+
+    /// From here on a name is known.
+    pub(crate) fn know(
+        &mut self,
+        file: u16,
+        name: &Spelling,
+        meaning: Meaning,
+    ) -> Result<(), NameFault>
+        ensures { IsRight self.new result (walked file self.old (Know name.now meaning ∷ [])) }
+    {
+        Ok(self.meanings.put(name.octets.as_slice(), meaning)?)
+    }
+
+    /// From here on a name is known, and stands for the value of an expression.
+    pub(crate) fn know_value(
+        &mut self,
+        file: u16,
+        name: &Spelling,
+        expression: &Expr,
+    ) -> Result<(), NameFault>
+        ensures { IsRight self.new result (walked file self.old (KnowValue name.now (seen_expr expression.now) ∷ [])) }
+    {
+        let value = self.value(file, expression)?;
+        Ok(
+            self.meanings
+                .put(name.octets.as_slice(), Meaning::Number(value))?,
+        )
+    }
+
+    /// What an enumerator without a value stands for. A number past 128 bits would take more names than memory can hold.
+    fn next_meaning(&self, previous: Option<&Spelling>) -> Result<Meaning, Memory>
+        ensures { OnOk result (result ≡ Ok (next_meaning self.now (option_map (λ s. s.now) previous.entry))) }
+    {
+        let Some(previous) = previous else {
+            return Ok(Meaning::Number(0));
+        };
+        match self.meanings.get(previous.octets.as_slice()) {
+            Some(Meaning::Number(number)) => match number.checked_add(1) {
+                Some(next) => Ok(Meaning::Number(next)),
+                None => Err(Memory),
+            },
+            _ => Ok(Meaning::Other),
+        }
+    }
+
+    /// From here on an enumerator without a value is known.
+    pub(crate) fn know_next(
+        &mut self,
+        file: u16,
+        name: &Spelling,
+        previous: Option<&Spelling>,
+    ) -> Result<(), NameFault>
+        ensures { IsRight self.new result (walked file self.old (KnowNext name.now (option_map (λ s. s.now) previous.entry) ∷ [])) }
+    {
+        let meaning = self.next_meaning(previous)?;
+        Ok(self.meanings.put(name.octets.as_slice(), meaning)?)
+    }
+
+    /// An expression is evaluated.
+    pub(crate) fn check_value(&self, file: u16, expression: &Expr) -> Result<(), NameFault>
+        ensures { IsRight self.now result (walked file self.now (Evaluate (seen_expr expression.now) ∷ [])) }
+    {
+        match self.value(file, expression) {
+            Ok(_) => Ok(()),
+            Err(fault) => Err(fault),
+        }
+    }
+}
+
+impl NameTables {
+    /// Where the first use of a tag behind pointers stands that has no body of its kind.
+    pub(crate) fn first_undefined(&self) -> Option<Place>
+        ensures { result ≡ first_undefined self.now self.now.uses }
+    {
+        for one in &self.uses {
+            if !self.is_defined(one.kind, one.tag.as_slice()) {
+                return Some(one.place);
+            }
+        }
+        None
+    }
+}
+
+/// A member or parameter comes behind those of its list.
+pub(crate) fn enlist(file: u16, list: &mut Table<u32>, name: &Spelling) -> Result<(), NameFault>
+    ensures told { (k : Known) → IsRight k result (walked file k (Enlist (listed list.old) name.now ∷ [])) }
+    ensures more { OnOk result (listed list.new ≡ listed list.old ++ name.now ∷ []) }
+{
+    match list.get(name.octets.as_slice()) {
+        Some(at) => Err(NameFault::Twice {
+            place: place_of(file, name),
+            first: Place { file, at },
+        }),
+        None => Ok(list.put(name.octets.as_slice(), name.at)?),
+    }
+}

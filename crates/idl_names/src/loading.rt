@@ -1,0 +1,138 @@
+// Imported files.
+ghost use Rattle.std.specs.Prelude.{◌≡◌, ◌≤◌, ◌<◌, length, IfOk, IfErr, IsErrOf, OnOk, OnErr};
+ghost use Rattle.nd_base.specs.Counts.{Rose};
+ghost use Rattle.idl_lexer.specs.Verdict.{AreTokens};
+ghost use Rattle.idl_grammar.specs.Seen.{seen_tree};
+ghost use Rattle.idl_names.specs.declared.name_fault.NameFault.TheVariants as faults;
+ghost use Rattle.idl_names.specs.Causes.{IsAbsent, IsFailed};
+ghost use Rattle.idl_names.specs.Files.{IsFile};
+ghost use Rattle.idl_names.specs.Loads.{IsFaultOf, IsOfText, told_syntax, IsRead, IsReadFault, IsUnloaded, IsLoaded, IsLoadFault};
+ghost use Rattle.idl_names.specs.Seen.{seen_file};
+ghost use Rattle.idl_names.specs.Sources.{and_source};
+ghost use Rattle.idl_names.specs.Walk.{most_files};
+
+use crate::{FILES_LIMIT, FileTree, NameFault, Sources};
+use idl_grammar::Tree;
+use idl_lexer::{LexFault, Tokens, lex};
+use idl_parser::{SyntaxFault, parse};
+use nd_base::{FileFault, Files, Octets};
+use std::alloc::Global;
+
+/// The tokens of a file.
+fn tokens_of(alloc: Global, file: u16, text: &[u8]) -> Result<Tokens, NameFault>
+    ensures text { IfOk result (λ t. t.text ≡ text.now) }
+    ensures tokens { IfOk result (λ t. AreTokens text.now t.tokens) }
+    ensures fault { IfErr result (IsFaultOf file text.now) }
+{
+    match lex(alloc, text) {
+        Ok(tokens) => Ok(tokens),
+        Err(LexFault::Memory) => Err(NameFault::Memory),
+        Err(LexFault::At { at, kind }) => Err(NameFault::Lex {
+            file,
+            fault: LexFault::At { at, kind },
+        }),
+    }
+}
+
+/// The fault of a file whose tokens are no file of the language.
+fn syntax_fault(file: u16, tokens: &Tokens, fault: SyntaxFault) -> NameFault
+    requires { IsOfText tokens.now fault }
+    ensures { result ≡ told_syntax file tokens.now fault }
+{
+    match fault {
+        SyntaxFault::Memory => NameFault::Memory,
+        SyntaxFault::Syntax { token }
+        | SyntaxFault::Deep { token }
+        | SyntaxFault::Banned { token } => NameFault::Syntax {
+            file,
+            at: tokens.at(token),
+            fault,
+        },
+    }
+}
+
+/// The tree of a file.
+fn tree_of(alloc: Global, file: u16, text: &[u8]) -> Result<Tree, NameFault>
+    ensures tree { IfOk result (λ t. IsFile text.now (seen_tree t)) }
+    ensures fault { IfErr result (IsFaultOf file text.now) }
+{
+    let tokens = tokens_of(alloc, file, text)?;
+    match parse(alloc, &tokens) {
+        Ok(tree) => Ok(tree),
+        Err(fault) => Err(syntax_fault(file, &tokens, fault)),
+    }
+}
+
+/// Adds a file whose load was begun.
+fn begin(sources: &mut Sources, name: &str, text: Octets) -> Result<u16, NameFault>
+    requires { length sources.old < FILES_LIMIT }
+    ensures number { IfOk result (λ file. file ≡ length sources.old) }
+    ensures ok { OnOk result (sources.new ≡ and_source sources.old name.now text) }
+    ensures err { OnErr result (sources.new ≡ sources.old) }
+    ensures fault { IfErr result (λ f. f ≡ faults.Memory) }
+{
+    match sources.add(name, text) {
+        Ok(file) => Ok(file),
+        Err(_) => Err(NameFault::Memory),
+    }
+}
+
+/// Adds a file that was loaded, and reads it.
+fn read(
+    alloc: Global,
+    sources: &mut Sources,
+    name: &str,
+    text: Octets,
+) -> Result<FileTree, NameFault>
+    requires { length sources.old < FILES_LIMIT }
+    ensures ok { IfOk result (λ f. IsRead sources.old name.now text sources.new (seen_file f)) }
+    ensures err { IfErr result (IsReadFault sources.old name.now text sources.new) }
+{
+    let file = begin(sources, name, text)?;
+    let Some(text) = sources.text(file) else {
+        unreachable!();
+    };
+    let tree = tree_of(alloc, file, text)?;
+    Ok(FileTree { file, tree })
+}
+
+/// Adds a file that was not loaded.
+fn unloaded(alloc: Global, sources: &mut Sources, name: &str, fault: FileFault) -> NameFault
+    requires { length sources.old < FILES_LIMIT }
+    ensures { IsUnloaded sources.old name.now fault sources.new result }
+{
+    if fault == FileFault::Memory {
+        return NameFault::Memory;
+    }
+    match begin(sources, name, Octets::new(alloc)) {
+        Ok(file) => match fault {
+            FileFault::Absent => NameFault::Absent { file },
+            _ => NameFault::Failed { file },
+        },
+        Err(fault) => fault,
+    }
+}
+
+/// Loads a file, adds it, and reads it.
+pub(crate) fn load<F: Files>(
+    alloc: Global,
+    files: &mut F,
+    sources: &mut Sources,
+    name: &str,
+) -> Result<FileTree, NameFault>
+    requires { length sources.old < most_files }
+    ensures ok { IfOk result (λ f. IsLoaded (F.held files.old) sources.old name.now sources.new (seen_file f)) }
+    ensures err { IfErr result (IsLoadFault (F.held files.old) sources.old name.now sources.new) }
+    ensures absent { IfErr result (IsAbsent (F.absences files.old) (F.absences files.new)) }
+    ensures failed { IfErr result (IsFailed (F.faults files.old) (F.faults files.new)) }
+    ensures later { F.faults files.old ≤ F.faults files.new }
+    ensures absences_later { F.absences files.old ≤ F.absences files.new }
+    ensures same { F.held files.new ≡ F.held files.old }
+    ensures few { length sources.new ≤ most_files }
+    ensures more { length sources.old ≤ length sources.new }
+{
+    match files.load(alloc, name) {
+        Ok(text) => read(alloc, sources, name, text),
+        Err(fault) => Err(unloaded(alloc, sources, name, fault)),
+    }
+}

@@ -1,0 +1,177 @@
+// The names of all files.
+ghost use Rattle.std.specs.Prelude.{◌≡◌, ◌≤◌, ◌<◌, [], ◌∷◌, ◌++◌, map, length, IfOk, IfErr};
+ghost use Rattle.std.specs.List.{flat_map};
+ghost use Rattle.idl_grammar.specs.Seen.{seen_tree, seen_import};
+ghost use Rattle.idl_names.specs.declared.name_fault.NameFault.TheVariants as faults;
+ghost use Rattle.idl_names.specs.Causes.{IsAbsent, IsFailed};
+ghost use Rattle.idl_names.specs.Going.{point, Went};
+ghost use Rattle.idl_names.specs.Seen.{seen_files, seen_scope};
+ghost use Rattle.idl_names.specs.Sources.{file_number};
+ghost use Rattle.idl_names.specs.Walk.{IsResolved, IsRefused, Load, load_of, all_of, has_ended, most_files};
+
+use crate::declarations::exports;
+use crate::known::NameTables;
+use crate::loading::load;
+use crate::strings::file_named;
+use crate::walk::attributes;
+use crate::{FileTree, FileTrees, NameFault, Scope, Sources};
+use idl_grammar::{Import, Spelling, Tree};
+use nd_base::{Files, Place};
+use std::alloc::Global;
+
+/// The greatest number of files of a walk.
+const WALK_LIMIT: usize = 64;
+
+/// Whether the resolving of a file has ended.
+fn has_ended(files: &FileTrees, number: usize) -> bool
+    ensures { result ≡ has_ended (seen_files files.now) number }
+{
+    for at in 0..files.len() {
+        let Some(ended) = files.get(at) else {
+            unreachable!();
+        };
+        if usize::from(ended.file) == number {
+            return true;
+        }
+    }
+    false
+}
+
+/// An import at a place: its file is loaded and walked, unless that was done.
+#[cycle(files)]
+fn import<F: Files>(
+    alloc: Global,
+    files: &mut F,
+    sources: &mut Sources,
+    scope: &mut Scope,
+    file: u16,
+    string: &Spelling,
+) -> Result<(), NameFault>
+    requires { length sources.old ≤ most_files }
+    ensures { Went (point (F.held files.old) (F.absences files.old) (F.faults files.old) (seen_scope sources.old scope.old))
+        (load_of file string.now ∷ [])
+        (point (F.held files.new) (F.absences files.new) (F.faults files.new) (seen_scope sources.new scope.new)) [] result }
+{
+    let place = Place {
+        file,
+        at: string.at,
+    };
+    let name = file_named(alloc, string.octets.as_slice())?;
+    match sources.number(name.as_str()) {
+        Some(number) if has_ended(&scope.files, number) => Ok(()),
+        Some(_) => Err(NameFault::ImportCycle { place }),
+        None if sources.count() >= WALK_LIMIT => Err(NameFault::TooMany { place }),
+        None => {
+            let loaded = load(alloc, files, sources, name.as_str())?;
+            whole(alloc, files, sources, scope, loaded)
+        }
+    }
+}
+
+/// The files of one `import`.
+#[cycle(files)]
+fn import_all<F: Files>(
+    alloc: Global,
+    files: &mut F,
+    sources: &mut Sources,
+    scope: &mut Scope,
+    file: u16,
+    strings: &[Spelling],
+) -> Result<(), NameFault>
+    requires { length sources.old ≤ most_files }
+    ensures { Went (point (F.held files.old) (F.absences files.old) (F.faults files.old) (seen_scope sources.old scope.old))
+        (map (load_of file) strings.now)
+        (point (F.held files.new) (F.absences files.new) (F.faults files.new) (seen_scope sources.new scope.new)) [] result }
+{
+    for string in strings {
+        import(alloc, files, sources, scope, file, string)?;
+    }
+    Ok(())
+}
+
+/// The imports of a file.
+#[cycle(files)]
+fn imports<F: Files>(
+    alloc: Global,
+    files: &mut F,
+    sources: &mut Sources,
+    scope: &mut Scope,
+    file: u16,
+    list: &[Import],
+) -> Result<(), NameFault>
+    requires { length sources.old ≤ most_files }
+    ensures { Went (point (F.held files.old) (F.absences files.old) (F.faults files.old) (seen_scope sources.old scope.old))
+        (map (load_of file) (flat_map (λ m. m.files) (map seen_import list.now)))
+        (point (F.held files.new) (F.absences files.new) (F.faults files.new) (seen_scope sources.new scope.new)) [] result }
+{
+    for one in list {
+        import_all(alloc, files, sources, scope, file, one.files.as_slice())?;
+    }
+    Ok(())
+}
+
+/// A file, and the files that it imports.
+#[cycle(files)]
+fn whole<F: Files>(
+    alloc: Global,
+    files: &mut F,
+    sources: &mut Sources,
+    scope: &mut Scope,
+    of: FileTree,
+) -> Result<(), NameFault>
+    requires { length sources.old ≤ most_files }
+    ensures { Went (point (F.held files.old) (F.absences files.old) (F.faults files.old) (seen_scope sources.old scope.old))
+        (all_of of.file (seen_tree of.tree))
+        (point (F.held files.new) (F.absences files.new) (F.faults files.new) (seen_scope sources.new scope.new)) [] result }
+{
+    let FileTree { file, tree } = of;
+    attributes(&scope.names, file, &tree.attributes)?;
+    imports(alloc, files, sources, scope, file, tree.imports.as_slice())?;
+    exports(alloc, &mut scope.names, file, file == 0, &tree.exports)?;
+    scope.files.push(FileTree { file, tree })?;
+    Ok(())
+}
+
+/// Reads each name of a file and of the files that it imports by the declarations before it, but the variable of an attribute, which is looked
+/// up in its own list later; and a tag behind pointers by those of all files (C706, section 4.2). The files are walked depth first, each by
+/// its attributes, its imports and its declarations; one that is imported again is loaded once. Only the main file's operations are read. That
+/// all files have one space of names is this project's own choice.
+///
+/// At every exit `sources` has, after the main file, each file whose load was begun, in that order; a file whose load did not answer Ok
+/// has an empty text. After Memory the last of them may be missing.
+///
+/// # Errors
+/// The first fault of the walk. `NameFault` has the reasons. Memory where memory was wanting.
+///
+/// Takes memory for the trees of the files, and for an entry of each name.
+pub fn resolve<F: Files>(
+    alloc: Global,
+    files: &mut F,
+    sources: &mut Sources,
+    tree: Tree,
+) -> Result<Scope, NameFault>
+    requires { length sources.old ≡ 1 }
+    ensures scope { IfOk result (λ scope. IsResolved (F.held files.old) sources.old (seen_tree tree) (seen_scope sources.new scope)) }
+    ensures fault { IfErr result (IsRefused (F.held files.old) sources.old (seen_tree tree) sources.new) }
+    ensures absent { IfErr result (IsAbsent (F.absences files.old) (F.absences files.new)) }
+    ensures failed { IfErr result (IsFailed (F.faults files.old) (F.faults files.new)) }
+    ensures later { F.faults files.old ≤ F.faults files.new }
+    ensures absences_later { F.absences files.old ≤ F.absences files.new }
+    ensures same { F.held files.new ≡ F.held files.old }
+{
+    let mut scope = Scope {
+        files: FileTrees::new(alloc),
+        names: NameTables::new(alloc),
+    };
+    whole(
+        alloc,
+        files,
+        sources,
+        &mut scope,
+        FileTree { file: 0, tree },
+    )?;
+    match scope.names.first_undefined() {
+        None => Ok(scope),
+        Some(place) => Err(NameFault::Unknown { place }),
+    }
+}
