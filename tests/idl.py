@@ -62,5 +62,5 @@ def value(what: str, *texts: str) -> List[Case]:
 
 
 def parsed(*texts: str) -> List[Case]:
-    """Files with a constant of this value, which is of the language: only the whole constant is not built yet."""
-    return export("NotBuilt", *(f"{MARK}const long A = {text};" for text in texts))
+    """Files with a constant of this value, which is of the language: the first fault is the empty declaration behind it."""
+    return export("Syntax", *(f"const long A = {text};{MARK};" for text in texts))

@@ -212,7 +212,7 @@ BANNED_ATTRIBUTE_WORDS = [
                 f"struct a {{ [§{word}] long b; }};", f"union a {{ [§{word}] ; }};"),
         # Where no attribute begins it is a name.
         *parameters("Syntax", f"[in §{word}] small y", f"[pointer_default(§{word})] small y", f"[in] {word}§"),
-        *parameters("NotBuilt", f"[§size_is({word})] small y", f"[§case({word})] small y", f"[in] §{word} y"))),
+        *parameters("Syntax", f"[size_is({word})] small y§;", f"[case({word})] small y§;", f"[in] {word} y§;"))),
 ]
 
 # 64 brackets may be open, of any kind. The interface's is one of them.
@@ -221,12 +221,12 @@ BRACKETS = [
             " + ".join(["(1)"] * 65)),
     *value("Deep", f"{'(' * 63}§(1{')' * 64}", f"{'(' * 63}§(", f"{'(' * 63}§({'(' * 100_000}",
            f"({'(' * 62}1{')' * 62} + {'(' * 62}§(1{')' * 63})"),
-    *header("NotBuilt", f"[§case({'(' * 62}1{')' * 62})]"),
+    *header("Syntax", f"[case({'(' * 62}1{')' * 62})]§;"),
     *header("Deep", f"[case({'(' * 62}§(1{')' * 63})]"),
-    *parameters("NotBuilt", f"[§case({'(' * 60}1{')' * 60})] small y", f"[in] small y§[{'(' * 61}1{')' * 61}]"),
+    *parameters("Syntax", f"[case({'(' * 60}1{')' * 60})] small y§;", f"[in] small y[{'(' * 61}1{')' * 61}]§;"),
     *parameters("Deep", f"[case({'(' * 60}§(1{')' * 61})] small y", f"[in] small y[{'(' * 61}§(1{')' * 62}]"),
-    *export("NotBuilt", f"§typedef {'struct { ' * 63}long b; {'} c; ' * 62}}} n;",
-            f"§typedef {'struct { ' * 62}[in] long b[1]; union switch (long b) {{ case 1: ; }} c; {'} c; ' * 61}}} n;"),
+    *export("Syntax", f"typedef {'struct { ' * 63}long b; {'} c; ' * 62}}} n;§;",
+            f"typedef {'struct { ' * 62}[in] long b[1]; union switch (long b) {{ case 1: ; }} c; {'} c; ' * 61}}} n;§;"),
     *export("Deep", f"typedef {'struct { ' * 63}struct §{{ long b; {'} c; ' * 63}}} n;",
             f"typedef {'struct { ' * 63}§[in] long b;", f"typedef {'struct { ' * 63}long b§[1];",
             f"typedef {'struct { ' * 63}union switch §(long b)", f"typedef {'struct { ' * 63}enum §{{ B"),
@@ -245,10 +245,10 @@ OPERATORS = [
            f"{'!' * 64}§{'!' * 100_000}1", f"1 ? {' + '.join(['1'] * 64)} §+ 1 : 2"),
     *value("Syntax", f"{'1 + ' * 64}§* 1", f"{'1 + ' * 64}§)", f"{SUM} §: 1", f"{SUM} §= 1"),
     # Each of several expressions has its own operators.
-    *parameters("NotBuilt", f"[in] small y§[{SUM}..{SUM}][{SUM}..*]", f"[§case({SUM}, {SUM})] small y"),
+    *parameters("Syntax", f"[in] small y[{SUM}..{SUM}][{SUM}..*]§;", f"[case({SUM}, {SUM})] small y§;"),
     *parameters("Deep", f"[in] small y[{SUM} .. {SUM} §+ 1]", f"[in] small y[{SUM}][{SUM} §+ 1]",
                 f"[case({SUM}, {SUM} §+ 1)] small y"),
-    *export("NotBuilt", f"§enum a {{ B = {SUM}, C = {SUM} }};", f"§union a switch (long b) {{ case {SUM}: case {SUM}: ; }};"),
+    *export("Syntax", f"enum a {{ B = {SUM}, C = {SUM} }};§;", f"union a switch (long b) {{ case {SUM}: case {SUM}: ; }};§;"),
     *export("Deep", f"enum a {{ B = {SUM}, C = {SUM} §+ 1 }};",
             f"union a switch (long b) {{ case {SUM}: case {SUM} §+ 1: ; }};"),
 ]
@@ -260,7 +260,7 @@ NUMBERED = [
     for line, place, what in (
         ("void f([in] long);", "3:17", "Syntax"), ("void f([in] float x);", "3:13", "Banned float"),
         ("const long A = 012;", "3:16", "BadNumber"), ("void f([in] long x)", "4:1", "Syntax"),
-        ("void f(long x);", "3:8", "NotBuilt"), ("void f([in] no_t x);", "3:13", "NotBuilt"))
+        ("void f([in] no_t x);", "3:13", "Unknown no_t"))
 ]
 
 # Only a line feed ends a line, and each octet is a column.

@@ -57,7 +57,7 @@ MARKS = [
     *value("Syntax", "1||§|2", "1&&§&2", "1==§=2", "1!=§=2", "1<<§<2", "1<<§=2", "1>>§>2", "1>>§=2", "1<=§=2"),
     # No token holds a space.
     *value("Syntax", "1 | §| 2", "1 & §& 2", "1 §= = 2", "1 §! = 2", "1 < §< 2", "1 < §= 2", "1 > §> 2", "1 > §= 2"),
-    *export("NotBuilt", "void g([in] long y§[1..2]);", "void g([in] long y§[1 ..*]);", "void g([in] long y§[0x1..'2']);"),
+    *export("Syntax", "void g([in] long y[1..2]);§;", "void g([in] long y[1 ..*]);§;", "void g([in] long y[0x1..'2']);§;"),
     *parameters("Syntax", "[in] long y[1..§.2]", "[in] long y[1§. .2]", "[in] long y[1..§..2]"),
 ]
 

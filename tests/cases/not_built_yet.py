@@ -19,11 +19,9 @@ CASES = [
     refused("plan", "t.idl", "-"),
     refused("explain", "t.idl", "-", "f", "in", "little"),
     refused("drain", "t.idl", "-", "f", "in", "little"),
-    refused("decode", "t.idl", "-", "f", "out", "little"),
     refused("decode", "t.idl", "-", "f", "in", "label"),
     refused("decode", "t.idl", "t.acf", "f", "in", "little"),
     refused("decode", "t.idl", "", "f", "in", "little"),
     refused("encode", "t.idl", "-", "f", "in", "label", "1"),
-    refused("encode", "t.idl", "-", "f", "out", "little", "1"),
     refused("encode", "t.idl", "t.acf", "f", "in", "little", "1"),
 ]

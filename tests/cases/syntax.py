@@ -22,8 +22,8 @@ def export(name, what, text):
 
 
 def taken(name, text):
-    """A file of one declaration that is of the language. It is not built yet, from its first token on."""
-    return export(name, "NotBuilt", MARK + text)
+    """A file of one declaration that is of the language. The first fault is the empty declaration behind it."""
+    return export(name, "Syntax", f"{text}{MARK};")
 
 
 # ----------------------------------------------------------------------------------------------------------------------
@@ -71,10 +71,10 @@ def begun(count):
     return "".join(f"{token} " for token in TOKENS[:count])
 
 
-# The first token with which no plain file goes on is the comma behind the identifier.
+# Nothing stands behind a whole file.
 WHOLE = [
-    fault("every alternative", "NotBuilt", begun(5) + MARK + " ".join(TOKENS[5:])),
-    fault("every alternative, on lines", "NotBuilt", EVERY.replace(",", MARK + ",", 1)),
+    fault("behind every alternative", "Syntax", f"{' '.join(TOKENS)} {MARK};"),
+    fault("behind every alternative, on lines", "Syntax", f"{EVERY}{MARK};"),
 ]
 
 # Where the text ends early it is only the beginning of one. `interface` goes on with the attributes of the file alone, and a

@@ -5,8 +5,7 @@ use Rattle.nd_base.specs.declared.octets.Order.{Order}
 use Rattle.nd_types.specs.declared.interface.Interface.{Interface}
 use Rattle.nd_types.specs.declared.types.Operation.{Operation}
 use Rattle.nd_types.specs.declared.types.Side.{Side}
-use Rattle.nd_types.specs.declared.types.Side.TheVariants as side
-use Rattle.nd_types.specs.Plain.{IsPlainInterface}
+use Rattle.nd_types.specs.declared.types.Primitive.{Primitive}
 use Rattle.nd_graph.specs.declared.misfit.Misfit.{Misfit}
 use Rattle.nd_graph.specs.declared.misfit.Misfit.TheVariants as misfit
 use Rattle.nd_graph.specs.declared.misfit.MisfitReason.{MisfitReason}
@@ -14,15 +13,14 @@ use Rattle.nd_graph.specs.declared.value.Graph.{Graph}
 use Rattle.nd_graph.specs.Setting.{Setting}
 use Rattle.nd_graph.specs.Conforms.{Conforms}
 use Rattle.nd_graph.specs.FirstMisfit.{IsMisfit, IsFirstMisfit}
-use Rattle.nd_graph.specs.Fitting.{Fitting}
+use Rattle.nd_graph.specs.Fitting.{Fitting, setting_of}
 use Rattle.nd_grammar.specs.Chosen.{Chosen}
-use Rattle.plain_ndr.specs.Decoding.{inputs_of}
+use Rattle.nd_grammar.specs.Plain.{IsPlain}
 use Rattle.value_text.specs.declared.fault.TextReason.{TextReason}
 use Rattle.value_text.specs.Reads.{ReadsAs, IsTextFault}
-use Rattle.nd_grammar.proofs.PlainSides.{plain_operation}
-use Rattle.value_text.proofs.PlainGraphs.{side_of, readable_plain}
+use Rattle.value_text.proofs.PlainGraphs.{readable_plain}
 use Rattle.dceidl.specs.declared.refusal.Refusal.{Refusal}
-use Rattle.dceidl.specs.declared.refusal.Refusal.TheVariants.{Memory, Absent, FileFailed, BadIdl, NoOperation, ReadFault, BadOctets, BadText, BadValue}
+use Rattle.dceidl.specs.declared.refusal.Refusal.TheVariants.{Memory, Absent, FileFailed, BadIdl, NoOperation, NotBuilt, ReadFault, BadOctets, BadText, BadValue}
 use Rattle.dceidl.specs.Encode.{IsEncoding, IsTextCause, IsValueCause, IsMisfitAt, IsToldAsValue}
 use Rattle.dceidl.proofs.WholeMisfits.{whole_misfit}
 
@@ -33,30 +31,23 @@ encoding_is w order chunk text g reads (Ok octets) conforms chosen = record { gr
 encoding_is w order chunk text g reads (Err e) conforms chosen = tt
 
 -- of a text of a plain side, a graph that is refused is a text that is refused
-module _ (i : Interface) (n : ℕ) (o : Operation) (plain : IsPlainInterface i.types i.operations) (there : slice_get i.operations n ≡ Some o)
-    (text : List ℕ) (g : Graph) (reads : ReadsAs (inputs_of i o) text g) where
-  abbrev w : Setting
-  w = inputs_of i o
-
+module _ (w : Setting) (primitives : List Primitive) (plain : IsPlain w primitives) (text : List ℕ) (g : Graph) (reads : ReadsAs w text g) where
   is_whole : (path : List ℕ) (reason : MisfitReason) (m : IsMisfitAt w g path reason) → m.node ≡ 0
   is_whole path reason m =
-      let is : inputs_of i o ≡ side_of o = ap (λ t. record { table = t; op = o; side = side.In; given = None }) plain.basic in
-      let plain_op = plain_operation i.types i.operations n o plain there in
-      let numbers = readable_plain o plain_op g (subst (λ x. ReadsAs x text g) is reads).readable in
-      let first : IsFirstMisfit (side_of o) g (record { home = m.home; node = m.node; reason = reason }) =
-      subst (λ x. IsFirstMisfit x g (record { home = m.home; node = m.node; reason = reason })) is m.first in
-      whole_misfit o plain_op numbers.numbers _
-      (subst (λ k. IsFirstMisfit (side_of o) k (record { home = m.home; node = m.node; reason = reason })) numbers.is first)
+      let numbers = readable_plain w primitives plain g reads.readable in
+      whole_misfit w primitives plain numbers.numbers _
+      (subst (λ k. IsFirstMisfit w k (record { home = m.home; node = m.node; reason = reason })) numbers.is m.first)
 
   text_cause : (e : Refusal) → IsValueCause w g e → IsTextCause w text e
   text_cause Memory cause = tt
   text_cause (BadValue path reason) misfit = record { graph = g; reads = reads; misfit = misfit; whole = is_whole path reason misfit }
   text_cause (BadText line column reason) cause = absurd cause
   text_cause (BadOctets place why) cause = absurd cause
-  text_cause Absent cause = absurd cause
-  text_cause FileFailed cause = absurd cause
-  text_cause (BadIdl line column reason) cause = absurd cause
+  text_cause (Absent file) cause = absurd cause
+  text_cause (FileFailed file) cause = absurd cause
+  text_cause (BadIdl file line column reason) cause = absurd cause
   text_cause NoOperation cause = absurd cause
+  text_cause NotBuilt cause = absurd cause
   text_cause ReadFault cause = absurd cause
 
   pub text_refused : (result : Result (List ℕ) Refusal) → IfErr result (IsValueCause w g) → IfErr result (IsTextCause w text)
@@ -73,10 +64,10 @@ value_cause w g (misfit.At h n reason) first e (inr told) = subst (IsValueCause 
 -- what was encoded of a fit was encoded of its graph
 pub chosen_of : (f : Fitting) (i : Interface) (o : Operation) (n : ℕ) (s : Side) (g : Graph) (order : Order) (chunk : ℕ) (result : Result (List ℕ) Refusal)
     → f ≡ record { graph = g; op = n; side = s; interface = i }
-    → (slice_get i.operations f.op ≡ Some o → IfOk result (Chosen (inputs_of i o) order chunk f.graph))
-    → slice_get i.operations n ≡ Some o → IfOk result (Chosen (inputs_of i o) order chunk g)
+    → (slice_get i.operations f.op ≡ Some o → IfOk result (Chosen (setting_of i o s) order chunk f.graph))
+    → slice_get i.operations n ≡ Some o → IfOk result (Chosen (setting_of i o s) order chunk g)
 chosen_of f i o n s g order chunk result fits chosen there =
-    subst (λ x. slice_get i.operations x.op ≡ Some o → IfOk result (Chosen (inputs_of i o) order chunk x.graph)) fits chosen there
+    subst (λ (x : Fitting). slice_get i.operations x.op ≡ Some o → IfOk result (Chosen (setting_of i o s) order chunk x.graph)) fits chosen there
 
 -- a fault by other names for its line, column and reason
 pub same_fault : (w : Setting) (text : List ℕ) (line at column octet : ℕ) (reason why : TextReason) → line ≡ at → column ≡ octet → reason ≡ why
@@ -84,3 +75,16 @@ pub same_fault : (w : Setting) (text : List ℕ) (line at column octet : ℕ) (r
 same_fault w text line at column octet reason why a b c fault =
     subst (λ l. IsTextFault w text l column reason) (sym a)
     (subst (λ k. IsTextFault w text at k reason) (sym b) (subst (IsTextFault w text at octet) (sym c) fault))
+
+-- the same of what conforms
+pub conforms_of : (f : Fitting) (i : Interface) (o : Operation) (n : ℕ) (s : Side) (g : Graph) (result : Result (List ℕ) Refusal)
+    → f ≡ record { graph = g; op = n; side = s; interface = i }
+    → (slice_get i.operations f.op ≡ Some o → IfOk result (λ octets. Conforms (setting_of i o s) f.graph))
+    → slice_get i.operations n ≡ Some o → IfOk result (λ octets. Conforms (setting_of i o s) g)
+conforms_of f i o n s g result fits conforms there =
+    subst (λ (x : Fitting). slice_get i.operations x.op ≡ Some o → IfOk result (λ octets. Conforms (setting_of i o s) x.graph)) fits conforms there
+
+-- want of memory is a cause
+pub memory_cause : (w : Setting) (g : Graph) (result : Result (List ℕ) Refusal) → IfErr result (λ e. e ≡ Memory) → IfErr result (IsValueCause w g)
+memory_cause w g (Ok octets) is = tt
+memory_cause w g (Err e) is = subst (IsValueCause w g) (sym is) tt

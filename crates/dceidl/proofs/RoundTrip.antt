@@ -19,7 +19,7 @@ use Rattle.value_text.proofs.OneFault.{one_graph}
 use Rattle.value_text.proofs.PrintedReads.{printed_reads}
 use Rattle.dceidl.specs.Decode.{IsDecoding}
 use Rattle.dceidl.specs.Encode.{IsEncoding}
-use Rattle.dceidl.proofs.SoundDecode.{whole_begins}
+use Rattle.dceidl.proofs.Sides.{whole_begins}
 
 trees_same : (xs ys : List Tree) → trees xs ≡ trees ys → xs ≡ ys
 trees_same [] [] e = refl

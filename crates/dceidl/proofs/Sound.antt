@@ -1,31 +1,35 @@
 -- What a run of a task comes to where nothing outside fails: the cause that holds is the one that is told.
-use Rattle.std.proofs.Common.{◌≡◌, ℕ, ◌+◌, ◌<◌, ◌≤◌, true, List, [], ◌++◌, length, Option, Some, None, refl, sym, ◌∙◌, ap, ap₂, subst, inl, inr, take, arith}
+use Rattle.std.proofs.Common.{◌≡◌, ℕ, ◌+◌, ◌<◌, ◌≤◌, List, [], ◌++◌, length, Option, Some, None, refl, sym, ◌∙◌, ap, subst, inl, inr, ◌⊎◌, take, arith}
 use Rattle.std.specs.List.{slice_get}
 use Rattle.std.proofs.lemmas.Option.{same_Some}
 use Rattle.std.proofs.lemmas.List.{append-nil}
 use Rattle.std.proofs.Math.Seq.{take-append_seam}
 use Rattle.std.proofs.lemmas.Bool.{leb-true, leb-false}
-use Rattle.std.specs.Prelude.{option_map, leb, Bool, false}
+use Rattle.std.specs.Prelude.{option_map, leb, Bool, true, false}
 use Rattle.std.specs.Io.KnownBytes.{Consumes, IsAtEnd}
 use Rattle.nd_base.specs.Outside.{IsContent, IsMissing, loaded}
 use Rattle.nd_types.specs.declared.interface.Interface.{Interface}
 use Rattle.nd_types.specs.declared.types.Operation.{Operation}
+use Rattle.nd_types.specs.declared.types.Side.{Side}
 use Rattle.nd_types.specs.Operations.{operation_named}
+use Rattle.nd_types.specs.Numbers.{has_number_roots}
+use Rattle.nd_types.specs.Table.{Table}
 use Rattle.nd_graph.specs.Setting.{Setting}
-use Rattle.plain_idl.specs.Answers.{IsPlainFile}
-use Rattle.plain_idl.proofs.OneVerdict.{one_interface, one_fault, never_both}
-use Rattle.plain_idl.specs.declared.fault.IdlReason.{IdlReason}
-use Rattle.value_text.specs.Reads.{position_of}
-use Rattle.plain_ndr.specs.Decoding.{inputs_of}
+use Rattle.nd_graph.specs.Fitting.{setting_of}
+use Rattle.idl_check.specs.Meaning.{Meant}
+use Rattle.idl_check.specs.Answers.{meant_by}
 use Rattle.dceidl.specs.declared.task.Task.{Task}
 use Rattle.dceidl.specs.declared.refusal.Refusal.{Refusal}
-use Rattle.dceidl.specs.declared.refusal.Refusal.TheVariants.{Memory, Absent, FileFailed, BadIdl, NoOperation, ReadFault, BadOctets, BadText, BadValue}
+use Rattle.dceidl.specs.declared.refusal.Refusal.TheVariants.{Memory, Absent, FileFailed, BadIdl, NoOperation, NotBuilt, ReadFault, BadOctets, BadText, BadValue}
+use Rattle.dceidl.specs.declared.refusal.IdlReason.{IdlReason}
 use Rattle.dceidl.specs.Outside.{FilesSeen, SourceSeen, SinkSeen, Got}
-use Rattle.dceidl.specs.Ready.{IsReady, IsFileCause, IsRefusedFile}
+use Rattle.dceidl.specs.Idl.{Means, IsIdlFault, IsDueImport, IsDueFile}
+use Rattle.dceidl.specs.Ready.{IsNamed, IsCompiled, IsReady, IsFileCause}
 use Rattle.dceidl.specs.Task.{limit_of, IsRead, IsMade, IsContentCause, IsInputCause, IsCause}
 use Rattle.dceidl.specs.Lines.{status_of, line_of}
 use Rattle.dceidl.specs.Rows.{IsRefused, IsSound, IsSoundForFiles, IsHeld, IsAccepted, IsInput, Refuses}
 use Rattle.dceidl.proofs.Causes.{take_whole}
+use Rattle.dceidl.proofs.OneMeaning.{IsBad, means_one, never_both, one_bad, absent_or_means, absent_or_bad}
 use Rattle.dceidl.proofs.Rows.{Ended, ended_done, ended_refused, ended_wanting, ended_unwritten, ended_untold}
 
 take_front : (n : ℕ) (xs ys : List ℕ) → length xs ≡ n → take n (xs ++ ys) ≡ xs
@@ -52,6 +56,11 @@ module _ (s : SourceSeen) (task : Task) (octets others : List ℕ) (input : IsIn
   same_octets : others ≡ octets
   same_octets = by_left s.left s.left_now input.left read.taken read.none_left
 
+-- ## The files
+
+abbrev Told : Type 0
+Told = Option (List ℕ → Option (List ℕ))
+
 -- only the held file can have been loaded
 held_only : (f : FilesSeen) (name file other : List ℕ) → IsHeld f name file → IsContent f.held name other → other ≡ file
 held_only f name file other (held, told, there) content =
@@ -65,157 +74,240 @@ held_there f name file (held, told, there) missing =
     let none : Some file ≡ None = sym there ∙ ap (option_map loaded) gone in
     cc
 
--- a file that is accepted is ready in one way
-same_ready : (f : FilesSeen) (idl op : List ℕ) (i i' : Interface) (n n' : ℕ) (o o' : Operation) → IsAccepted f idl op i n o → IsReady f idl op i' n' o'
-    → inputs_of i' o' ≡ inputs_of i o
-same_ready f idl op i i' n n' o o' accepted ready =
-    let file : ready.file ≡ accepted.file = held_only f idl accepted.file ready.file accepted.held ready.loaded in
-    let one : i' ≡ i = one_interface accepted.file i' i (subst (λ x. IsPlainFile x i') file ready.plain) accepted.plain in
-    let number : n' ≡ n = same_Some _ _ (sym ready.named.found ∙ ap (λ j. operation_named j.operations op) one ∙ accepted.named.found) in
-    let operation : o' ≡ o =
-    same_Some _ _ (sym ready.named.is_there ∙ ap₂ (λ j k. slice_get j.operations k) one number ∙ accepted.named.is_there) in
-    ap₂ inputs_of one operation
+-- The main file is held: what its files mean, and how they are refused.
+module _ (f : FilesSeen) (idl text : List ℕ) (held : IsHeld f idl text) where
+  -- they mean one interface, as far as it is read from them
+  one_meaning : (i j : Interface) → Means f.held idl text i → Means f.held idl text j → meant_by i ≡ meant_by j
+  one_meaning i j x y =
+      means_one held.0 idl text i j (subst (λ (h : Told). Means h idl text i) held.1 x) (subst (λ (h : Told). Means h idl text j) held.1 y)
 
--- How a run is settled by the octets of the input: something was made of them, or they are refused for a cause, or memory was wanting.
+  fault_or_meaning : {B : Type 0} (i : Interface) (r : Refusal) → IsBad r → Means f.held idl text i → IsIdlFault f.held idl text r → B
+  fault_or_meaning i r bad x y =
+      never_both held.0 idl text i r bad (subst (λ (h : Told). Means h idl text i) held.1 x) (subst (λ (h : Told). IsIdlFault h idl text r) held.1 y)
+
+  same_fault : (r r' : Refusal) → IsBad r → IsBad r' → IsIdlFault f.held idl text r → IsIdlFault f.held idl text r' → r ≡ r'
+  same_fault r r' bad bad' x y =
+      one_bad held.0 idl text r r' bad bad' (subst (λ (h : Told). IsIdlFault h idl text r) held.1 x) (subst (λ (h : Told). IsIdlFault h idl text r') held.1 y)
+
+  -- where a file that is due is missing they mean nothing, and are refused at no line and column
+  absent_meaning : {B : Type 0} (file : List ℕ) (i : Interface) → IsDueFile f.held idl file → IsMissing f.held file → Means f.held idl text i → B
+  absent_meaning file i (inl is) missing x = absurd (held_there f idl text held (subst (IsMissing f.held) is missing))
+  absent_meaning file i (inr (other, content, due)) missing x =
+      let own : IsDueImport f.held idl text file = subst (λ t. IsDueImport f.held idl t file) (held_only f idl text other held content) due in
+      absent_or_means held.0 idl text file i
+      (subst (λ (h : Told). IsDueImport h idl text file) held.1 own)
+      (subst (λ (h : Told). IsMissing h file) held.1 missing)
+      (subst (λ (h : Told). Means h idl text i) held.1 x)
+
+  absent_fault : {B : Type 0} (file : List ℕ) (r : Refusal) → IsBad r → IsDueFile f.held idl file → IsMissing f.held file → IsIdlFault f.held idl text r → B
+  absent_fault file r bad (inl is) missing x = absurd (held_there f idl text held (subst (IsMissing f.held) is missing))
+  absent_fault file r bad (inr (other, content, due)) missing x =
+      let own : IsDueImport f.held idl text file = subst (λ t. IsDueImport f.held idl t file) (held_only f idl text other held content) due in
+      absent_or_bad held.0 idl text file r bad
+      (subst (λ (h : Told). IsDueImport h idl text file) held.1 own)
+      (subst (λ (h : Told). IsMissing h file) held.1 missing)
+      (subst (λ (h : Told). IsIdlFault h idl text r) held.1 x)
+
+  -- what was loaded and means an interface is this file
+  means_here : (i : Interface) → IsCompiled f idl i → Means f.held idl text i
+  means_here i c = subst (λ t. Means f.held idl t i) (held_only f idl text c.file held c.loaded) c.means
+
+  fault_here : (r : Refusal) (other : List ℕ) → IsContent f.held idl other → IsIdlFault f.held idl other r → IsIdlFault f.held idl text r
+  fault_here r other content x = subst (λ t. IsIdlFault f.held idl t r) (held_only f idl text other held content) x
+
+-- interfaces of one meaning have the same operations by name and number
+same_number : (i j : Interface) (op : List ℕ) (n m : ℕ) (o q : Operation) → meant_by i ≡ meant_by j → IsNamed i op n o → IsNamed j op m q → n ≡ m
+same_number i j op n m o q e x y = same_Some _ _ (sym x.found ∙ ap (λ (z : Meant). operation_named z.operations op) e ∙ y.found)
+
+same_operation : (i j : Interface) (op : List ℕ) (n m : ℕ) (o q : Operation) → meant_by i ≡ meant_by j → IsNamed i op n o → IsNamed j op m q → o ≡ q
+same_operation i j op n m o q e x y =
+    same_Some _ _
+    (sym x.is_there ∙ ap (λ (z : Meant). slice_get z.operations n) e ∙ ap (slice_get j.operations) (same_number i j op n m o q e x y) ∙ y.is_there)
+
+unknown_or_named : {B : Type 0} (i j : Interface) (op : List ℕ) (n : ℕ) (o : Operation) → meant_by i ≡ meant_by j → operation_named i.operations op ≡ None → IsNamed j op n o → B
+unknown_or_named i j op n o e none named =
+    let gone : None ≡ Some n = sym none ∙ ap (λ (z : Meant). operation_named z.operations op) e ∙ named.found in
+    absurd (cc)
+
+built_or_not : {B : Type 0} (i j : Interface) (op : List ℕ) (side : Side) (n m : ℕ) (o q : Operation) → meant_by i ≡ meant_by j → IsNamed i op n o → IsNamed j op m q
+    → has_number_roots i.types side o ≡ false → has_number_roots j.types side q ≡ true → B
+built_or_not i j op side n m o q e x y unbuilt built =
+    let both : false ≡ true =
+        sym unbuilt ∙ ap (λ (z : Meant). has_number_roots z.types side o) e ∙ ap (has_number_roots j.types side) (same_operation i j op n m o q e x y) ∙ built in
+    absurd (cc)
+
+-- a file that is accepted is ready in one way
+same_ready : (f : FilesSeen) (idl op : List ℕ) (side : Side) (i j : Interface) (n m : ℕ) (o q : Operation) → IsAccepted f idl op side i n o → IsReady f idl op side j m q
+    → setting_of j q side ≡ setting_of i o side
+same_ready f idl op side i j n m o q accepted ready =
+    let meant = one_meaning f idl accepted.file accepted.held j i (means_here f idl accepted.file accepted.held j ready.compiled) accepted.means in
+    same (ap (λ (z : Meant). z.types) meant) (same_operation j i op m n q o meant ready.named accepted.named)
+  where
+    same : j.types ≡ i.types → q ≡ o → ◌≡◌ {A = Setting} (setting_of j q side) (setting_of i o side)
+    same a b = λ x. record { table = a x; op = b x; side = side; given = None }
+
+-- ## How a run is settled
+
+-- By the octets of the input: something was made of them, or they are refused for a cause, or memory was wanting.
 pub data Settled (notes : SinkSeen) (task : Task) (idl op : List ℕ) (w : Setting) (octets : List ℕ) (status : ℕ) : Type 0 where
   settled_done : (made : List ℕ) → status ≡ 0 → IsMade task w octets made → Settled notes task idl op w octets status
   settled_refused : (r : Refusal) → IsContentCause task w octets r → status ≡ status_of r → Got notes (line_of idl op r)
       → Settled notes task idl op w octets status
   settled_wanting : status ≡ 5 → Settled notes task idl op w octets status
 
-module _ (f : FilesSeen) (s : SourceSeen) (out notes : SinkSeen) (task : Task) (idl op : List ℕ) (status : ℕ) (sound : IsSound f s out notes)
-    (end : Ended f s out notes task idl op status) where
+module _ (f : FilesSeen) (s : SourceSeen) (out notes : SinkSeen) (task : Task) (idl op : List ℕ) (side : Side) (status : ℕ) (sound : IsSound f s out notes)
+    (end : Ended f s out notes task idl op side status) where
   -- where the file is accepted, the octets of the input settle the run
-  pub settled : (i : Interface) (n : ℕ) (o : Operation) (octets : List ℕ) → IsAccepted f idl op i n o → IsInput s task octets
-      → Settled notes task idl op (inputs_of i o) octets status
+  pub settled : (i : Interface) (n : ℕ) (o : Operation) (octets : List ℕ) → IsAccepted f idl op side i n o → IsInput s task octets
+      → Settled notes task idl op (setting_of i o side) octets status
   settled i n o octets accepted input = by_end end
     where
       Here : Type 0
-      Here = Settled notes task idl op (inputs_of i o) octets status
+      Here = Settled notes task idl op (setting_of i o side) octets status
 
-      by_input : {i' : Interface} {n' : ℕ} {o' : Operation} → IsReady f idl op i' n' o' → (r : Refusal) → IsInputCause s task (inputs_of i' o') r
+      by_octets : {j : Interface} {m : ℕ} {q : Operation} → IsReady f idl op side j m q → (r : Refusal) (os : List ℕ) → IsRead s (limit_of task) os
+          → IsContentCause task (setting_of j q side) os r → status ≡ status_of r → Got notes (line_of idl op r) → Here
+      by_octets {j = j} {m = m} {q = q} ready r os read cause is line =
+          let same = same_ready f idl op side i j n m o q accepted ready in
+          let one = same_octets s task octets os input read in
+          settled_refused r
+          (subst (λ v. IsContentCause task v octets r) same (subst (λ xs. IsContentCause task (setting_of j q side) xs r) one cause)) is line
+
+      by_input : {j : Interface} {m : ℕ} {q : Operation} → IsReady f idl op side j m q → (r : Refusal) → IsInputCause s task (setting_of j q side) r
           → status ≡ status_of r → Got notes (line_of idl op r) → Here
       by_input ready Memory cause is line = settled_wanting is
       by_input ready ReadFault rose is line = absurd (sound.reads rose)
-      by_input {i' = i'} {n' = n'} {o' = o'} ready r (os, read, cause) is line =
-          let same = same_ready f idl op i i' n n' o o' accepted ready in
-          let here = same_octets s task octets os input read in
-          settled_refused r
-          (subst (λ v. IsContentCause task v octets r) same (subst (λ xs. IsContentCause task (inputs_of i' o') xs r) here cause)) is line
+      by_input ready r (os, read, cause) is line = by_octets ready r os read cause is line
 
-      by_file : (r : Refusal) → IsFileCause f idl op r → status ≡ status_of r → Here
+      by_file : (r : Refusal) → IsFileCause f idl op side r → status ≡ status_of r → Here
       by_file Memory cause is = settled_wanting is
-      by_file Absent (rose, missing) is = absurd (held_there f idl accepted.file accepted.held missing)
-      by_file FileFailed rose is = absurd (sound.loads rose)
-      by_file (BadIdl line column reason) (file', content, bad) is =
-          absurd (never_both file' i bad.at reason
-          (subst (λ x. IsPlainFile x i) (sym (held_only f idl accepted.file file' accepted.held content)) accepted.plain) bad.fault)
-      by_file NoOperation (file', content, (i', plain', none)) is =
-          let file : file' ≡ accepted.file = held_only f idl accepted.file file' accepted.held content in
-          let one : i' ≡ i = one_interface accepted.file i' i (subst (λ x. IsPlainFile x i') file plain') accepted.plain in
-          let gone : None ≡ Some n = sym none ∙ ap (λ j. operation_named j.operations op) one ∙ accepted.named.found in
-          cc
-      by_file ReadFault (file', content, never) is = absurd never
-      by_file (BadOctets place why) (file', content, never) is = absurd never
-      by_file (BadText line column reason) (file', content, never) is = absurd never
-      by_file (BadValue path reason) (file', content, never) is = absurd never
+      by_file (Absent file) (rose, due, missing) is = absent_meaning f idl accepted.file accepted.held file i due missing accepted.means
+      by_file (FileFailed file) (rose, due) is = absurd (sound.loads rose)
+      by_file (BadIdl file line column reason) (text, content, fault) is =
+          fault_or_meaning f idl accepted.file accepted.held i (BadIdl file line column reason) tt accepted.means
+          (fault_here f idl accepted.file accepted.held (BadIdl file line column reason) text content fault)
+      by_file NoOperation (j, compiled, none) is =
+          unknown_or_named j i op n o
+          (one_meaning f idl accepted.file accepted.held j i (means_here f idl accepted.file accepted.held j compiled) accepted.means) none accepted.named
+      by_file NotBuilt (j, m, q, compiled, named, unbuilt) is =
+          built_or_not j i op side m n q o
+          (one_meaning f idl accepted.file accepted.held j i (means_here f idl accepted.file accepted.held j compiled) accepted.means) named accepted.named unbuilt accepted.built
+      by_file ReadFault never is = absurd never
+      by_file (BadOctets place why) never is = absurd never
+      by_file (BadText line column reason) never is = absurd never
+      by_file (BadValue path reason) never is = absurd never
 
-      by_cause : (r : Refusal) → IsCause f s task idl op r → status ≡ status_of r → Got notes (line_of idl op r) → Here
+      by_cause : (r : Refusal) → IsCause f s task idl op side r → status ≡ status_of r → Got notes (line_of idl op r) → Here
       by_cause r (inl (cause, untouched)) is line = by_file r cause is
-      by_cause r (inr (i', n', o', ready, cause)) is line = by_input ready r cause is line
+      by_cause r (inr (j, m, q, ready, cause)) is line = by_input ready r cause is line
 
-      by_end : Ended f s out notes task idl op status → Here
+      by_end : Ended f s out notes task idl op side status → Here
       by_end (ended_done is d) =
-          let same = same_ready f idl op i d.interface n d.number o d.operation accepted d.ready in
-          let here = same_octets s task octets d.of_input.octets input d.of_input.read in
+          let same = same_ready f idl op side i d.interface n d.number o d.operation accepted d.ready in
+          let one = same_octets s task octets d.of_input.octets input d.of_input.read in
           settled_done d.made is
           (subst (λ v. IsMade task v octets d.made) same
-          (subst (λ xs. IsMade task (inputs_of d.interface d.operation) xs d.made) here d.of_input.is_made))
+          (subst (λ xs. IsMade task (setting_of d.interface d.operation side) xs d.made) one d.of_input.is_made))
       by_end (ended_refused r) = by_cause r.refusal r.cause r.own_status r.line
       by_end (ended_wanting is) = settled_wanting is
-      by_end (ended_unwritten is rose i n o ready) = absurd (sound.writes rose)
+      by_end (ended_unwritten is rose j m q ready) = absurd (sound.writes rose)
       by_end (ended_untold is rose) = absurd (sound.tells rose)
 
-module _ (f : FilesSeen) (s : SourceSeen) (out notes : SinkSeen) (task : Task) (idl op : List ℕ) (status : ℕ) (sound : IsSoundForFiles f notes)
-    (end : Ended f s out notes task idl op status) where
-  told_of : (r : IsRefused f s out notes task idl op status) (refusal : Refusal) → r.refusal ≡ refusal → Refuses idl op notes status refusal
-  told_of r refusal e = inl (r.own_status ∙ ap status_of e, subst (λ x. Got notes (line_of idl op x)) e r.line)
+-- ## How files are refused
 
-  -- a file that is refused is refused at its line and column
-  pub bad_idl : (file : List ℕ) (line column : ℕ) (why : IdlReason) → IsHeld f idl file → IsRefusedFile file line column why
-      → Refuses idl op notes status (BadIdl line column why)
-  bad_idl file line column why held refused = by_end end
+module _ (f : FilesSeen) (s : SourceSeen) (out notes : SinkSeen) (task : Task) (idl op : List ℕ) (side : Side) (status : ℕ) (sound : IsSoundForFiles f notes)
+    (end : Ended f s out notes task idl op side status) where
+  -- Where the files cannot be ready, and each cause of files but want of memory is this one, the run is refused so.
+  by_files : (refusal : Refusal) → ((i : Interface) (n : ℕ) (o : Operation) → IsReady f idl op side i n o → ⊥)
+      → ((r : Refusal) → IsFileCause f idl op side r → (r ≡ Memory) ⊎ (r ≡ refusal)) → Refuses idl op notes status refusal
+  by_files refusal unready same = by_end end
     where
-      none : (i : Interface) → IsPlainFile file i → ⊥
-      none i plain = never_both file i refused.at why plain refused.fault
+      by_same : (r : Refusal) → status ≡ status_of r → Got notes (line_of idl op r) → (r ≡ Memory) ⊎ (r ≡ refusal) → Refuses idl op notes status refusal
+      by_same r is line (inl e) = inr (is ∙ ap status_of e)
+      by_same r is line (inr e) = inl (is ∙ ap status_of e, subst (λ x. Got notes (line_of idl op x)) e line)
 
-      unready : {i : Interface} {n : ℕ} {o : Operation} → IsReady f idl op i n o → ⊥
-      unready {i = i} ready = none i (subst (λ x. IsPlainFile x i) (held_only f idl file ready.file held ready.loaded) ready.plain)
+      by_cause : (r : Refusal) → IsCause f s task idl op side r → status ≡ status_of r → Got notes (line_of idl op r) → Refuses idl op notes status refusal
+      by_cause r (inl (cause, untouched)) is line = by_same r is line (same r cause)
+      by_cause r (inr (i, n, o, ready, cause)) is line = absurd (unready i n o ready)
 
-      same : (l c : ℕ) (w : IdlReason) → IsRefusedFile file l c w → BadIdl l c w ≡ BadIdl line column why
-      same l c w other =
-          let one = one_fault file other.at refused.at w why other.fault refused.fault in
-          let places : (l, c) ≡ (line, column) = sym other.position ∙ ap (position_of file) one.0 ∙ refused.position in
-          let lines : l ≡ line = ap (λ (p : ℕ × ℕ). p.0) places in
-          let columns : c ≡ column = ap (λ (p : ℕ × ℕ). p.1) places in
-          let reasons = one.1 in
-          cc
-
-      by_cause : (r : IsRefused f s out notes task idl op status) (q : Refusal) → r.refusal ≡ q → IsCause f s task idl op q
-          → Refuses idl op notes status (BadIdl line column why)
-      by_cause r Memory e cause = inr (r.own_status ∙ ap status_of e)
-      by_cause r (BadIdl l c w) e (inl ((file', content, bad), untouched)) =
-          told_of r (BadIdl line column why) (e ∙ same l c w (subst (λ x. IsRefusedFile x l c w) (held_only f idl file file' held content) bad))
-      by_cause r Absent e (inl ((rose, missing), untouched)) = absurd (held_there f idl file held missing)
-      by_cause r FileFailed e (inl (rose, untouched)) = absurd (sound.loads rose)
-      by_cause r NoOperation e (inl ((file', content, (i, plain, gone)), untouched)) =
-          absurd (none i (subst (λ x. IsPlainFile x i) (held_only f idl file file' held content) plain))
-      by_cause r ReadFault e (inl ((file', content, never), untouched)) = absurd never
-      by_cause r (BadOctets place why) e (inl ((file', content, never), untouched)) = absurd never
-      by_cause r (BadText line column reason) e (inl ((file', content, never), untouched)) = absurd never
-      by_cause r (BadValue path reason) e (inl ((file', content, never), untouched)) = absurd never
-      by_cause r q e (inr (i, n, o, ready, cause)) = absurd (unready ready)
-
-      by_end : Ended f s out notes task idl op status → Refuses idl op notes status (BadIdl line column why)
-      by_end (ended_done is d) = absurd (unready d.ready)
-      by_end (ended_refused r) = by_cause r r.refusal refl r.cause
+      by_end : Ended f s out notes task idl op side status → Refuses idl op notes status refusal
+      by_end (ended_done is d) = absurd (unready d.interface d.number d.operation d.ready)
+      by_end (ended_refused r) = by_cause r.refusal r.cause r.own_status r.line
       by_end (ended_wanting is) = inr is
-      by_end (ended_unwritten is rose j n o ready) = absurd (unready ready)
+      by_end (ended_unwritten is rose i n o ready) = absurd (unready i n o ready)
       by_end (ended_untold is rose) = absurd (sound.tells rose)
 
-  -- a plain file without the operation is refused as that
-  pub no_operation : (file : List ℕ) (i : Interface) → IsHeld f idl file → IsPlainFile file i → operation_named i.operations op ≡ None
+  -- files that are refused are refused at their line and column
+  pub bad_idl : (text file : List ℕ) (line column : ℕ) (why : IdlReason) → IsHeld f idl text → IsIdlFault f.held idl text (BadIdl file line column why)
+      → Refuses idl op notes status (BadIdl file line column why)
+  bad_idl text file line column why held fault = by_files (BadIdl file line column why) unready same
+    where
+      never : {B : Type 0} (i : Interface) → IsCompiled f idl i → B
+      never i compiled = fault_or_meaning f idl text held i (BadIdl file line column why) tt (means_here f idl text held i compiled) fault
+
+      unready : (i : Interface) (n : ℕ) (o : Operation) → IsReady f idl op side i n o → ⊥
+      unready i n o ready = never i ready.compiled
+
+      same : (r : Refusal) → IsFileCause f idl op side r → (r ≡ Memory) ⊎ (r ≡ BadIdl file line column why)
+      same Memory cause = inl refl
+      same (BadIdl a b c d) (other, content, x) =
+          inr (same_fault f idl text held (BadIdl a b c d) (BadIdl file line column why) tt tt (fault_here f idl text held (BadIdl a b c d) other content x) fault)
+      same (Absent other) (rose, due, missing) = absent_fault f idl text held other (BadIdl file line column why) tt due missing fault
+      same (FileFailed other) (rose, due) = absurd (sound.loads rose)
+      same NoOperation (i, compiled, none) = never i compiled
+      same NotBuilt (i, n, o, compiled, named, unbuilt) = never i compiled
+      same ReadFault cause = absurd cause
+      same (BadOctets place reason) cause = absurd cause
+      same (BadText row at reason) cause = absurd cause
+      same (BadValue path reason) cause = absurd cause
+
+  -- files that mean an interface without the operation are refused as that
+  pub no_operation : (text : List ℕ) (i : Interface) → IsHeld f idl text → Means f.held idl text i → operation_named i.operations op ≡ None
       → Refuses idl op notes status NoOperation
-  no_operation file i held plain gone = by_end end
+  no_operation text i held means none = by_files NoOperation unready same
     where
-      same : (file' : List ℕ) (j : Interface) → IsContent f.held idl file' → IsPlainFile file' j → j ≡ i
-      same file' j content plain' = one_interface file j i (subst (λ x. IsPlainFile x j) (held_only f idl file file' held content) plain') plain
+      meant : (j : Interface) → IsCompiled f idl j → meant_by i ≡ meant_by j
+      meant j compiled = one_meaning f idl text held i j means (means_here f idl text held j compiled)
 
-      unready : {j : Interface} {n : ℕ} {o : Operation} → IsReady f idl op j n o → ⊥
-      unready {j = j} {n = n} ready =
-          let found : None ≡ Some n = sym gone ∙ ap (λ k. operation_named k.operations op) (sym (same ready.file j ready.loaded ready.plain)) ∙ ready.named.found in
-          cc
+      unready : (j : Interface) (n : ℕ) (o : Operation) → IsReady f idl op side j n o → ⊥
+      unready j n o ready = unknown_or_named i j op n o (meant j ready.compiled) none ready.named
 
-      by_cause : (r : IsRefused f s out notes task idl op status) (q : Refusal) → r.refusal ≡ q → IsCause f s task idl op q
-          → Refuses idl op notes status NoOperation
-      by_cause r Memory e cause = inr (r.own_status ∙ ap status_of e)
-      by_cause r NoOperation e cause = told_of r NoOperation e
-      by_cause r Absent e (inl ((rose, missing), untouched)) = absurd (held_there f idl file held missing)
-      by_cause r FileFailed e (inl (rose, untouched)) = absurd (sound.loads rose)
-      by_cause r (BadIdl line column why) e (inl ((file', content, bad), untouched)) =
-          absurd (never_both file' i bad.at why (subst (λ x. IsPlainFile x i) (sym (held_only f idl file file' held content)) plain) bad.fault)
-      by_cause r ReadFault e (inl ((file', content, never), untouched)) = absurd never
-      by_cause r (BadOctets place why) e (inl ((file', content, never), untouched)) = absurd never
-      by_cause r (BadText line column reason) e (inl ((file', content, never), untouched)) = absurd never
-      by_cause r (BadValue path reason) e (inl ((file', content, never), untouched)) = absurd never
-      by_cause r q e (inr (j, n, o, ready, cause)) = absurd (unready ready)
+      same : (r : Refusal) → IsFileCause f idl op side r → (r ≡ Memory) ⊎ (r ≡ NoOperation)
+      same Memory cause = inl refl
+      same NoOperation cause = inr refl
+      same (BadIdl a b c d) (other, content, x) =
+          fault_or_meaning f idl text held i (BadIdl a b c d) tt means (fault_here f idl text held (BadIdl a b c d) other content x)
+      same (Absent other) (rose, due, missing) = absent_meaning f idl text held other i due missing means
+      same (FileFailed other) (rose, due) = absurd (sound.loads rose)
+      same NotBuilt (j, n, o, compiled, named, unbuilt) = unknown_or_named i j op n o (meant j compiled) none named
+      same ReadFault cause = absurd cause
+      same (BadOctets place reason) cause = absurd cause
+      same (BadText row at reason) cause = absurd cause
+      same (BadValue path reason) cause = absurd cause
 
-      by_end : Ended f s out notes task idl op status → Refuses idl op notes status NoOperation
-      by_end (ended_done is d) = absurd (unready d.ready)
-      by_end (ended_refused r) = by_cause r r.refusal refl r.cause
-      by_end (ended_wanting is) = inr is
-      by_end (ended_unwritten is rose j n o ready) = absurd (unready ready)
-      by_end (ended_untold is rose) = absurd (sound.tells rose)
+  -- an operation with a root that is no primitive is refused as not built
+  pub not_built : (text : List ℕ) (i : Interface) (n : ℕ) (o : Operation) → IsHeld f idl text → Means f.held idl text i → IsNamed i op n o
+      → has_number_roots i.types side o ≡ false → Refuses idl op notes status NotBuilt
+  not_built text i n o held means named unbuilt = by_files NotBuilt unready same
+    where
+      meant : (j : Interface) → IsCompiled f idl j → meant_by i ≡ meant_by j
+      meant j compiled = one_meaning f idl text held i j means (means_here f idl text held j compiled)
+
+      unready : (j : Interface) (m : ℕ) (q : Operation) → IsReady f idl op side j m q → ⊥
+      unready j m q ready = built_or_not i j op side n m o q (meant j ready.compiled) named ready.named unbuilt ready.built
+
+      same : (r : Refusal) → IsFileCause f idl op side r → (r ≡ Memory) ⊎ (r ≡ NotBuilt)
+      same Memory cause = inl refl
+      same NotBuilt cause = inr refl
+      same (BadIdl a b c d) (other, content, x) =
+          fault_or_meaning f idl text held i (BadIdl a b c d) tt means (fault_here f idl text held (BadIdl a b c d) other content x)
+      same (Absent other) (rose, due, missing) = absent_meaning f idl text held other i due missing means
+      same (FileFailed other) (rose, due) = absurd (sound.loads rose)
+      same NoOperation (j, compiled, none) = unknown_or_named j i op n o (sym (meant j compiled)) none named
+      same ReadFault cause = absurd cause
+      same (BadOctets place reason) cause = absurd cause
+      same (BadText row at reason) cause = absurd cause
+      same (BadValue path reason) cause = absurd cause
 
 -- a refusal that is this one is told as this one
 pub told_as : (notes : SinkSeen) (idl op : List ℕ) (status : ℕ) (r refusal : Refusal) → status ≡ status_of r → Got notes (line_of idl op r) → r ≡ refusal

@@ -13,34 +13,27 @@ use Rattle.nd_grammar.specs.Represents.{Represents}
 use Rattle.nd_grammar.specs.Prefix.{BeginsWith}
 use Rattle.nd_grammar.specs.Bad.{Bad}
 use Rattle.nd_grammar.specs.Plain.{IsPlain}
-use Rattle.nd_grammar.specs.Primitives.{param_primitive}
-use Rattle.nd_grammar.proofs.PlainSides.{plain_side}
+use Rattle.nd_types.specs.declared.types.Side.{Side}
+use Rattle.nd_types.specs.Roots.{roots_of}
+use Rattle.nd_graph.specs.Fitting.{setting_of}
+use Rattle.nd_grammar.specs.Primitives.{root_primitive}
+use Rattle.nd_grammar.proofs.PlainSides.{number_side_plain}
 use Rattle.nd_grammar.proofs.PlainVerdict.{never_both, one_graph, one_refusal}
-use Rattle.plain_idl.proofs.OneVerdict.{plain_interface}
-use Rattle.plain_ndr.specs.Decoding.{inputs_of}
 use Rattle.dceidl.specs.declared.task.Task.TheVariants.{Decode}
 use Rattle.dceidl.specs.declared.refusal.Refusal.{Refusal}
-use Rattle.dceidl.specs.declared.refusal.Refusal.TheVariants.{Memory, Absent, FileFailed, BadIdl, NoOperation, ReadFault, BadOctets, BadText, BadValue}
+use Rattle.dceidl.specs.declared.refusal.Refusal.TheVariants.{Memory, Absent, FileFailed, BadIdl, NoOperation, NotBuilt, ReadFault, BadOctets, BadText, BadValue}
 use Rattle.dceidl.specs.declared.refusal.OctetsFault.TheVariants as fault
 use Rattle.dceidl.specs.Outside.{FilesSeen, SinkSeen, Got}
 use Rattle.dceidl.specs.Decode.{IsDecoding, IsTrailing, IsOctetsCause}
 use Rattle.dceidl.specs.Lines.{status_of, line_of}
 use Rattle.dceidl.specs.Rows.{IsAccepted, Refuses}
-use Rattle.dceidl.proofs.Causes.{take_whole}
+use Rattle.dceidl.proofs.Sides.{whole_begins}
 use Rattle.dceidl.proofs.Sound.{Settled, settled_done, settled_refused, settled_wanting, told_as}
 
-pub whole_begins : (w : Setting) (order : Order) (octets : List ℕ) (g : Graph) → Represents w order octets g → Conforms w g
-    → BeginsWith w order octets (length octets) g
-whole_begins w order octets g r c = record {
-  within = omega arith;
-  represented = subst (λ os. Represents w order os g) (sym (take_whole (length octets) octets (omega arith))) r;
-  conforms = c;
-}
-
 -- the side of an operation that is accepted is plain
-pub side_of : (f : FilesSeen) (idl op : List ℕ) (i : Interface) (n : ℕ) (o : Operation) → IsAccepted f idl op i n o
-    → IsPlain (inputs_of i o) (map (param_primitive i.types) o.params)
-side_of f idl op i n o accepted = plain_side i.types i.operations n o (plain_interface accepted.file i accepted.plain) accepted.named.is_there
+pub side_of : (f : FilesSeen) (idl op : List ℕ) (side : Side) (i : Interface) (n : ℕ) (o : Operation) → IsAccepted f idl op side i n o
+    → IsPlain (setting_of i o side) (map (root_primitive i.types) (roots_of i.types side o))
+side_of f idl op side i n o accepted = number_side_plain i n o side accepted.built accepted.named.is_there
 
 module _ (notes : SinkSeen) (order : Order) (idl op : List ℕ) (w : Setting) (ps : List Primitive) (side : IsPlain w ps) (octets : List ℕ) (status : ℕ)
     (settled : Settled notes (Decode order) idl op w octets status) where
@@ -61,10 +54,11 @@ module _ (notes : SinkSeen) (order : Order) (idl op : List ℕ) (w : Setting) (p
       by_cause (BadOctets place fault.Trailing) trailing is =
           let same = (one_graph w order ps octets place (length octets) trailing.graph g side trailing.begins begins).0 in
           absurd (omega (arith, same, trailing.follows))
-      by_cause Absent cause is = absurd cause
-      by_cause FileFailed cause is = absurd cause
-      by_cause (BadIdl line column reason) cause is = absurd cause
+      by_cause (Absent file) cause is = absurd cause
+      by_cause (FileFailed file) cause is = absurd cause
+      by_cause (BadIdl file line column reason) cause is = absurd cause
       by_cause NoOperation cause is = absurd cause
+      by_cause NotBuilt cause is = absurd cause
       by_cause ReadFault cause is = absurd cause
       by_cause (BadText line column reason) cause is = absurd cause
       by_cause (BadValue path reason) cause is = absurd cause
@@ -86,10 +80,11 @@ module _ (notes : SinkSeen) (order : Order) (idl op : List ℕ) (w : Setting) (p
           told_as notes idl op status _ _ is line (ap₂ (λ p q. BadOctets p (fault.Refused q)) same.0 same.1)
       by_cause (BadOctets place' fault.Trailing) trailing is line =
           absurd (never_both w order ps octets place' trailing.graph place why side trailing.begins is_bad)
-      by_cause Absent cause is line = absurd cause
-      by_cause FileFailed cause is line = absurd cause
-      by_cause (BadIdl row column reason) cause is line = absurd cause
+      by_cause (Absent file) cause is line = absurd cause
+      by_cause (FileFailed file) cause is line = absurd cause
+      by_cause (BadIdl file row column reason) cause is line = absurd cause
       by_cause NoOperation cause is line = absurd cause
+      by_cause NotBuilt cause is line = absurd cause
       by_cause ReadFault cause is line = absurd cause
       by_cause (BadText at column reason) cause is line = absurd cause
       by_cause (BadValue path reason) cause is line = absurd cause
@@ -113,10 +108,11 @@ module _ (notes : SinkSeen) (order : Order) (idl op : List ℕ) (w : Setting) (p
       by_cause (BadOctets place' fault.Trailing) other is line =
           let same = one_graph w order ps octets place' place other.graph goes_on.graph side other.begins goes_on.begins in
           told_as notes idl op status _ _ is line (ap (λ p. BadOctets p fault.Trailing) same.0)
-      by_cause Absent cause is line = absurd cause
-      by_cause FileFailed cause is line = absurd cause
-      by_cause (BadIdl row column reason) cause is line = absurd cause
+      by_cause (Absent file) cause is line = absurd cause
+      by_cause (FileFailed file) cause is line = absurd cause
+      by_cause (BadIdl file row column reason) cause is line = absurd cause
       by_cause NoOperation cause is line = absurd cause
+      by_cause NotBuilt cause is line = absurd cause
       by_cause ReadFault cause is line = absurd cause
       by_cause (BadText at column reason) cause is line = absurd cause
       by_cause (BadValue path reason) cause is line = absurd cause

@@ -1,10 +1,13 @@
 -- What `encode` comes to, from how the text of the input settles it.
 use Rattle.std.specs.List.{slice_get}
-use Rattle.std.proofs.Common.{◌≡◌, ℕ, List, Some, refl, ◌∙◌, ap, ap₂, subst, inl, inr, ◌⊎◌}
+use Rattle.std.proofs.Common.{◌≡◌, ℕ, true, List, map, Some, refl, ◌∙◌, ap, ap₂, subst, inl, inr, ◌⊎◌}
 use Rattle.nd_base.specs.declared.octets.Order.{Order}
 use Rattle.nd_types.specs.declared.interface.Interface.{Interface}
 use Rattle.nd_types.specs.declared.types.Operation.{Operation}
-use Rattle.nd_types.specs.Plain.{IsPlainInterface}
+use Rattle.nd_types.specs.declared.types.Side.{Side}
+use Rattle.nd_types.specs.Roots.{roots_of}
+use Rattle.nd_types.specs.Numbers.{has_number_roots}
+use Rattle.nd_graph.specs.Fitting.{setting_of}
 use Rattle.nd_graph.specs.declared.item.Home.{Home}
 use Rattle.nd_graph.specs.declared.misfit.MisfitReason.{MisfitReason}
 use Rattle.nd_graph.specs.declared.value.Graph.{Graph}
@@ -12,9 +15,8 @@ use Rattle.nd_graph.specs.Setting.{Setting}
 use Rattle.nd_graph.specs.Conforms.{Conforms}
 use Rattle.nd_graph.specs.FirstMisfit.{IsFirstMisfit}
 use Rattle.nd_graph.proofs.Misfits.{misfit_is_no_fit, one_first_misfit}
-use Rattle.nd_grammar.proofs.PlainSides.{plain_operation}
-use Rattle.plain_idl.proofs.OneVerdict.{plain_interface}
-use Rattle.plain_ndr.specs.Decoding.{inputs_of}
+use Rattle.nd_grammar.specs.Primitives.{root_primitive}
+use Rattle.nd_grammar.proofs.PlainSides.{number_side_plain}
 use Rattle.value_text.specs.declared.fault.TextReason.{TextReason}
 use Rattle.value_text.specs.PlainSide.{IsPlainSide}
 use Rattle.value_text.specs.Reads.{ReadsAs, IsTextFault}
@@ -22,20 +24,16 @@ use Rattle.value_text.proofs.OneText.{never_both}
 use Rattle.value_text.proofs.OneFault.{one_graph, one_place, one_reason}
 use Rattle.dceidl.specs.declared.task.Task.TheVariants.{Encode}
 use Rattle.dceidl.specs.declared.refusal.Refusal.{Refusal}
-use Rattle.dceidl.specs.declared.refusal.Refusal.TheVariants.{Memory, Absent, FileFailed, BadIdl, NoOperation, ReadFault, BadOctets, BadText, BadValue}
+use Rattle.dceidl.specs.declared.refusal.Refusal.TheVariants.{Memory, Absent, FileFailed, BadIdl, NoOperation, NotBuilt, ReadFault, BadOctets, BadText, BadValue}
 use Rattle.dceidl.specs.Outside.{FilesSeen, SinkSeen, Got}
 use Rattle.dceidl.specs.Encode.{IsTextCause, IsMisfitAt, home_path}
 use Rattle.dceidl.specs.Lines.{status_of, line_of}
 use Rattle.dceidl.specs.Rows.{IsAccepted, Refuses}
+use Rattle.dceidl.proofs.Sides.{plain_side_of}
 use Rattle.dceidl.proofs.Sound.{Settled, settled_done, settled_refused, settled_wanting, told_as}
 
--- the [in] side of an operation of a plain interface is plain
-pub plain_side_of : (i : Interface) (n : ℕ) (o : Operation) → IsPlainInterface i.types i.operations → slice_get i.operations n ≡ Some o → IsPlainSide (inputs_of i o)
-plain_side_of i n o plain there =
-    record { basic = plain.basic; plain = plain_operation i.types i.operations n o plain there; inputs = refl; alone = refl }
-
-pub side_of : (f : FilesSeen) (idl op : List ℕ) (i : Interface) (n : ℕ) (o : Operation) → IsAccepted f idl op i n o → IsPlainSide (inputs_of i o)
-side_of f idl op i n o accepted = plain_side_of i n o (plain_interface accepted.file i accepted.plain) accepted.named.is_there
+pub side_of : (f : FilesSeen) (idl op : List ℕ) (side : Side) (i : Interface) (n : ℕ) (o : Operation) → IsAccepted f idl op side i n o → IsPlainSide (setting_of i o side)
+side_of f idl op side i n o accepted = plain_side_of i n o side accepted.built accepted.named.is_there
 
 module _ (notes : SinkSeen) (order : Order) (chunk : ℕ) (idl op : List ℕ) (w : Setting) (text : List ℕ) (status : ℕ)
     (settled : Settled notes (Encode order chunk) idl op w text status)
@@ -49,10 +47,11 @@ module _ (notes : SinkSeen) (order : Order) (chunk : ℕ) (idl op : List ℕ) (w
       by_cause (BadText line column why) fault is = absurd (never_both w text g line column why reads fault)
       by_cause (BadValue path reason) bad is =
           absurd (misfit_is_no_fit w bad.graph _ bad.misfit.first (subst (Conforms w) (one_graph w text g bad.graph side reads bad.reads) conforms))
-      by_cause Absent cause is = absurd cause
-      by_cause FileFailed cause is = absurd cause
-      by_cause (BadIdl line column reason) cause is = absurd cause
+      by_cause (Absent file) cause is = absurd cause
+      by_cause (FileFailed file) cause is = absurd cause
+      by_cause (BadIdl file line column reason) cause is = absurd cause
       by_cause NoOperation cause is = absurd cause
+      by_cause NotBuilt cause is = absurd cause
       by_cause ReadFault cause is = absurd cause
       by_cause (BadOctets place why) cause is = absurd cause
 
@@ -74,10 +73,11 @@ module _ (notes : SinkSeen) (order : Order) (chunk : ℕ) (idl op : List ℕ) (w
           told_as notes idl op status _ _ is told
           (ap (λ l. BadText l column' why') place.0 ∙ ap₂ (λ c y. BadText line c y) place.1 reason)
       by_cause (BadValue path reason) bad is told = absurd (never_both w text bad.graph line column why bad.reads fault)
-      by_cause Absent cause is told = absurd cause
-      by_cause FileFailed cause is told = absurd cause
-      by_cause (BadIdl line column reason) cause is told = absurd cause
+      by_cause (Absent file) cause is told = absurd cause
+      by_cause (FileFailed file) cause is told = absurd cause
+      by_cause (BadIdl file line column reason) cause is told = absurd cause
       by_cause NoOperation cause is told = absurd cause
+      by_cause NotBuilt cause is told = absurd cause
       by_cause ReadFault cause is told = absurd cause
       by_cause (BadOctets place reason) cause is told = absurd cause
 
@@ -104,10 +104,11 @@ module _ (notes : SinkSeen) (order : Order) (chunk : ℕ) (idl op : List ℕ) (w
       by_cause (BadValue path reason) bad is told =
           told_as notes idl op status _ _ is told
           (by_misfit path reason (subst (λ h. IsMisfitAt w h path reason) (one_graph w text bad.graph g side bad.reads reads) bad.misfit))
-      by_cause Absent cause is told = absurd cause
-      by_cause FileFailed cause is told = absurd cause
-      by_cause (BadIdl line column reason) cause is told = absurd cause
+      by_cause (Absent file) cause is told = absurd cause
+      by_cause (FileFailed file) cause is told = absurd cause
+      by_cause (BadIdl file line column reason) cause is told = absurd cause
       by_cause NoOperation cause is told = absurd cause
+      by_cause NotBuilt cause is told = absurd cause
       by_cause ReadFault cause is told = absurd cause
       by_cause (BadOctets place reason) cause is told = absurd cause
 

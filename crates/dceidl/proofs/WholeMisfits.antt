@@ -3,24 +3,18 @@ use Rattle.std.proofs.Common.{◌≡◌, ℕ, ◌+◌, ℤ, Bool, true, false, L
 use Rattle.std.specs.Prelude.{cond, eqb}
 use Rattle.std.specs.List.{AllByRecursion}
 use Rattle.std.proofs.lemmas.Option.{same_Some}
-use Rattle.nd_types.specs.declared.types.Operation.{Operation}
 use Rattle.nd_types.specs.declared.types.Primitive.{Primitive}
-use Rattle.nd_types.specs.Kinds.{basic_types}
 use Rattle.nd_types.specs.Roots.{Root}
-use Rattle.nd_types.specs.Plain.{IsPlainOperation}
 use Rattle.nd_graph.specs.declared.value.Graph.{Graph}
 use Rattle.nd_graph.specs.declared.item.Home.TheVariants as home
 use Rattle.nd_graph.specs.declared.misfit.MisfitReason.{MisfitReason}
 use Rattle.nd_graph.specs.Nodes.{TypedNode}
-use Rattle.nd_graph.specs.Setting.{root_list}
+use Rattle.nd_graph.specs.Setting.{Setting, root_list}
 use Rattle.nd_graph.specs.Deferral.{Pending, home_pointers}
 use Rattle.nd_graph.specs.Homes.{HomeNode, root_nodes, root_pointers}
 use Rattle.nd_graph.specs.FirstMisfit.{MisfitAt, IsFirstMisfit, is_local, is_shared, is_unreached, is_disagreeing, or_later, at_node, first_node, root_count, first_shared}
 use Rattle.nd_graph.specs.Misfit.{misfit_of}
-use Rattle.nd_grammar.specs.Plain.{ArePlain, number, plain_graph}
-use Rattle.nd_grammar.specs.Primitives.{param_primitive}
-use Rattle.nd_grammar.proofs.PlainSides.{plain_basic}
-use Rattle.value_text.proofs.PlainGraphs.{side_of}
+use Rattle.nd_grammar.specs.Plain.{ArePlain, IsPlain, number, plain_graph}
 
 -- all stand first in their homes
 abbrev AreFirst : List HomeNode → Type 0
@@ -43,41 +37,38 @@ or_is : (a b : Option MisfitAt) (m : MisfitAt) → (a ≡ Some m → m.node ≡ 
 or_is None b m first next e = next e
 or_is (Some x) b m first next e = first e
 
-module _ (o : Operation) (h : IsPlainOperation o) where
-  abbrev primitives : List Primitive
-  primitives = map (param_primitive basic_types) o.params
-
-  are_plain : ArePlain basic_types (root_list (side_of o)) primitives
-  are_plain = (plain_basic o h).plain
+module _ (w : Setting) (primitives : List Primitive) (h : IsPlain w primitives) where
+  are_plain : ArePlain w.table (root_list w) primitives
+  are_plain = h.plain
 
   -- a number is its home's only node
-  are_first : (g : Graph) (rs : List Root) (i : ℕ) (zs : List ℤ) → AreFirst (root_nodes (side_of o) g i rs (map number zs))
+  are_first : (g : Graph) (rs : List Root) (i : ℕ) (zs : List ℤ) → AreFirst (root_nodes w g i rs (map number zs))
   are_first g [] i zs = tt
   are_first g (r ∷ rs) i [] = tt
   are_first g (r ∷ rs) i (z ∷ zs) = (refl, are_first g rs (i + 1) zs)
 
-  no_pointers : (ps : List Primitive) (rs : List Root) (i : ℕ) (zs : List ℤ) → ArePlain basic_types rs ps → root_pointers basic_types i rs (map number zs) ≡ []
+  no_pointers : (ps : List Primitive) (rs : List Root) (i : ℕ) (zs : List ℤ) → ArePlain w.table rs ps → root_pointers w.table i rs (map number zs) ≡ []
   no_pointers [] [] i zs a = refl
   no_pointers (p ∷ ps) [] i zs a = absurd a
   no_pointers [] (r ∷ rs) i zs a = absurd a
   no_pointers (p ∷ ps) (r ∷ rs) i [] a = refl
   no_pointers (p ∷ ps) (r ∷ rs) i (z ∷ zs) a =
-      let none_here : home_pointers basic_types (home.Root i) r.of (number z) ≡ [] = rw a.2 in
+      let none_here : home_pointers w.table (home.Root i) r.of (number z) ≡ [] = rw a.2 in
       ap₂ (λ (x y : List Pending). x ++ y) none_here (no_pointers ps rs (i + 1) zs a.3)
 
-  pub whole_misfit : (zs : List ℤ) (m : MisfitAt) → IsFirstMisfit (side_of o) (plain_graph zs) m → m.node ≡ 0
+  pub whole_misfit : (zs : List ℤ) (m : MisfitAt) → IsFirstMisfit w (plain_graph zs) m → m.node ≡ 0
   whole_misfit zs m (is_local x e) =
-      or_is (first_node (misfit_of basic_types (plain_graph zs)) (root_nodes (side_of o) (plain_graph zs) 0 (root_list (side_of o)) (map number zs))) _ m
-      (first_is _ _ m (are_first (plain_graph zs) (root_list (side_of o)) 0 zs))
-      (or_is (root_count (length (map number zs)) (length (root_list (side_of o)))) None m
-      (count_is (eqb (length (map number zs)) (length (root_list (side_of o)))) _ _ m) (λ never. cc)) e
+      or_is (first_node (misfit_of w.table (plain_graph zs)) (root_nodes w (plain_graph zs) 0 (root_list w) (map number zs))) _ m
+      (first_is _ _ m (are_first (plain_graph zs) (root_list w) 0 zs))
+      (or_is (root_count (length (map number zs)) (length (root_list w))) None m
+      (count_is (eqb (length (map number zs)) (length (root_list w))) _ _ m) (λ never. cc)) e
   whole_misfit zs m (is_shared x none e) =
-      let pointers : root_pointers basic_types 0 (root_list (side_of o)) (map number zs) ++ [] ≡ [] =
-      append-nil _ ∙ no_pointers primitives (root_list (side_of o)) 0 zs are_plain in
+      let pointers : root_pointers w.table 0 (root_list w) (map number zs) ++ [] ≡ [] =
+      append-nil _ ∙ no_pointers primitives (root_list w) 0 zs are_plain in
       let nothing : None ≡ Some m = sym (ap (first_shared []) pointers) ∙ e in
       cc
   whole_misfit zs m (is_unreached c a b u) = refl
   whole_misfit zs m (is_disagreeing x a b r e) =
       first_is _ _ m
-      (subst AreFirst (sym (append-nil (root_nodes (side_of o) (plain_graph zs) 0 (root_list (side_of o)) (map number zs))))
-      (are_first (plain_graph zs) (root_list (side_of o)) 0 zs)) e
+      (subst AreFirst (sym (append-nil (root_nodes w (plain_graph zs) 0 (root_list w) (map number zs))))
+      (are_first (plain_graph zs) (root_list w) 0 zs)) e

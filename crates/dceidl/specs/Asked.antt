@@ -8,7 +8,7 @@ use Rattle.dceidl.specs.declared.words.Command.TheVariants.{Work, Help, Version}
 
 -- the command that one of the code stands for
 abbrev pub asked : Command → words.Command
-asked (Work task idl op) = words.Work task idl.now op.now
+asked (Work task idl op side) = words.Work task idl.now op.now side
 asked Help = words.Help
 asked Version = words.Version
 
@@ -19,5 +19,5 @@ HasChunk (Encode order chunk) = 1 ≤ chunk
 
 -- the same of a command
 abbrev pub AsksChunk : Command → Type 0
-AsksChunk (Work task idl op) = HasChunk task
+AsksChunk (Work task idl op side) = HasChunk task
 AsksChunk _ = ⊤

@@ -3,8 +3,8 @@ use Rattle.std.specs.Prelude.{ℕ, ℤ, List, [], ◌∷◌, codes, decimal}
 use Rattle.std.specs.Fmt.{signed_decimal}
 use Rattle.idl_lexer.specs.declared.tokens.LexKind.{LexKind}
 use Rattle.idl_lexer.specs.declared.tokens.LexKind.TheVariants as kind
-use Rattle.plain_idl.specs.declared.fault.IdlReason.{IdlReason}
-use Rattle.plain_idl.specs.declared.fault.IdlReason.TheVariants as idl_reason
+use Rattle.idl_names.specs.declared.fault.ConstFault.{ConstFault}
+use Rattle.idl_names.specs.declared.fault.ConstFault.TheVariants as const_fault
 use Rattle.nd_graph.specs.declared.misfit.MisfitReason.{MisfitReason}
 use Rattle.nd_graph.specs.declared.misfit.MisfitReason.TheVariants as misfit
 use Rattle.nd_grammar.specs.declared.reason.Reason.{Reason}
@@ -13,7 +13,9 @@ use Rattle.value_text.specs.declared.fault.TextReason.{TextReason}
 use Rattle.value_text.specs.declared.fault.TextReason.TheVariants as text
 use Rattle.value_text.specs.Text.{joined}
 use Rattle.dceidl.specs.declared.refusal.Refusal.{Refusal}
-use Rattle.dceidl.specs.declared.refusal.Refusal.TheVariants.{Memory, Absent, FileFailed, BadIdl, NoOperation, ReadFault, BadOctets, BadText, BadValue}
+use Rattle.dceidl.specs.declared.refusal.Refusal.TheVariants.{Memory, Absent, FileFailed, BadIdl, NoOperation, NotBuilt, ReadFault, BadOctets, BadText, BadValue}
+use Rattle.dceidl.specs.declared.refusal.IdlReason.{IdlReason}
+use Rattle.dceidl.specs.declared.refusal.IdlReason.TheVariants as idl_reason
 use Rattle.dceidl.specs.declared.refusal.OctetsFault.{OctetsFault}
 use Rattle.dceidl.specs.declared.refusal.OctetsFault.TheVariants.{Refused, Trailing}
 
@@ -24,10 +26,11 @@ status_of (BadText line column reason) = 1
 status_of (BadValue path reason) = 1
 status_of ReadFault = 3
 status_of Memory = 5
-status_of (BadIdl line column reason) = 6
+status_of (BadIdl file line column reason) = 6
 status_of NoOperation = 6
-status_of Absent = 7
-status_of FileFailed = 9
+status_of NotBuilt = 6
+status_of (Absent file) = 7
+status_of (FileFailed file) = 9
 
 -- the name of a reason why a text of IDL cannot be cut into tokens
 abbrev pub lex_kind_name : LexKind → List ℕ
@@ -38,13 +41,24 @@ lex_kind_name kind.LongName = codes "LongName"
 lex_kind_name kind.BadNumber = codes "BadNumber"
 lex_kind_name kind.TooLong = codes "TooLong"
 
+-- the name of a reason why an expression has no value
+abbrev pub const_fault_name : ConstFault → List ℕ
+const_fault_name const_fault.OutOfRange = codes "OutOfRange"
+const_fault_name const_fault.ZeroDivisor = codes "ZeroDivisor"
+const_fault_name const_fault.NotConst = codes "NotConst"
+
 -- a reason why a file is refused, as a line tells it
 abbrev pub idl_reason_text : IdlReason → List ℕ
 idl_reason_text (idl_reason.Lexical kind) = lex_kind_name kind
 idl_reason_text idl_reason.Syntax = codes "Syntax"
 idl_reason_text idl_reason.Deep = codes "Deep"
 idl_reason_text (idl_reason.Banned word) = joined (codes "Banned " ∷ word ∷ [])
-idl_reason_text idl_reason.NotBuilt = codes "NotBuilt"
+idl_reason_text (idl_reason.Unknown name) = joined (codes "Unknown " ∷ name ∷ [])
+idl_reason_text (idl_reason.Twice name) = joined (codes "Twice " ∷ name ∷ [])
+idl_reason_text idl_reason.ImportCycle = codes "ImportCycle"
+idl_reason_text idl_reason.TooMany = codes "TooMany"
+idl_reason_text (idl_reason.NoValue fault) = const_fault_name fault
+idl_reason_text (idl_reason.Rule rule) = joined (codes "Rule " ∷ decimal rule ∷ [])
 
 -- the name of a reason why octets are refused
 abbrev pub reason_name : Reason → List ℕ
@@ -110,8 +124,9 @@ line_of idl op (BadText line column reason) =
 line_of idl op (BadValue path reason) = joined (codes "refused: value at " ∷ path ∷ codes ": " ∷ misfit_text reason ∷ codes "\n" ∷ [])
 line_of idl op ReadFault = codes "read fault\n"
 line_of idl op Memory = codes "want of memory\n"
-line_of idl op (BadIdl line column reason) =
-    joined (codes "idl " ∷ idl ∷ codes ":" ∷ decimal line ∷ codes ":" ∷ decimal column ∷ codes ": " ∷ idl_reason_text reason ∷ codes "\n" ∷ [])
+line_of idl op (BadIdl file line column reason) =
+    joined (codes "idl " ∷ file ∷ codes ":" ∷ decimal line ∷ codes ":" ∷ decimal column ∷ codes ": " ∷ idl_reason_text reason ∷ codes "\n" ∷ [])
 line_of idl op NoOperation = joined (codes "idl " ∷ idl ∷ codes ": NoOperation " ∷ op ∷ codes "\n" ∷ [])
-line_of idl op Absent = joined (codes "absent: " ∷ idl ∷ codes "\n" ∷ [])
-line_of idl op FileFailed = joined (codes "file fault: " ∷ idl ∷ codes "\n" ∷ [])
+line_of idl op NotBuilt = joined (codes "idl " ∷ idl ∷ codes ": NotBuilt " ∷ op ∷ codes "\n" ∷ [])
+line_of idl op (Absent file) = joined (codes "absent: " ∷ file ∷ codes "\n" ∷ [])
+line_of idl op (FileFailed file) = joined (codes "file fault: " ∷ file ∷ codes "\n" ∷ [])

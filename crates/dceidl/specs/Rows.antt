@@ -1,56 +1,58 @@
 -- The rows of a run: what each status says by itself, and what comes in each case where nothing fails.
-use Rattle.std.specs.Prelude.{◌≡◌, ◌⊎◌, ℕ, ◌+◌, List, take, option_map, Option, Some}
+use Rattle.std.specs.Prelude.{◌≡◌, ◌⊎◌, ℕ, ◌+◌, true, List, [], ◌∷◌, codes, take, option_map, Option, Some}
 use Rattle.nd_base.specs.Outside.{IsMissing, loaded}
 use Rattle.nd_types.specs.declared.interface.Interface.{Interface}
 use Rattle.nd_types.specs.declared.types.Operation.{Operation}
-use Rattle.plain_idl.specs.Answers.{IsPlainFile}
+use Rattle.nd_types.specs.declared.types.Side.{Side}
+use Rattle.nd_types.specs.Numbers.{has_number_roots}
 use Rattle.dceidl.specs.declared.refusal.Refusal.{Refusal}
 use Rattle.dceidl.specs.declared.task.Task.{Task}
 use Rattle.dceidl.specs.Words.{Command, Work}
 use Rattle.dceidl.specs.Outside.{FilesSeen, SourceSeen, SinkSeen, HasRisen, Got, IsAsBefore}
+use Rattle.dceidl.specs.Idl.{Means, IsDueFile}
 use Rattle.dceidl.specs.Ready.{IsNamed, IsReady}
 use Rattle.dceidl.specs.Task.{IsCause, IsMadeOfInput, limit_of}
 use Rattle.dceidl.specs.Lines.{status_of, line_of}
-use Rattle.plain_ndr.specs.Decoding.{inputs_of}
+use Rattle.value_text.specs.Text.{joined}
+use Rattle.nd_graph.specs.Fitting.{setting_of}
 
 -- one of three statuses
 abbrev pub IsOneOf : ℕ → ℕ → ℕ → ℕ → Type 0
 IsOneOf status a b c = (status ≡ a) ⊎ ((status ≡ b) ⊎ (status ≡ c))
 
--- the file of this name is due
-abbrev pub IsDue : Option Command → List ℕ → Type 0
-IsDue (Some (Work task idl op)) name = name ≡ idl
-IsDue _ name = ⊥
+-- the file of this name is due: the main file, or an import to which the walk comes
+abbrev pub IsDue : Option Command → Option (List ℕ → Option (List ℕ)) → List ℕ → Type 0
+IsDue (Some (Work task idl op side)) held name = IsDueFile held idl name
+IsDue _ held name = ⊥
 
--- some file is due and, where the names are told, not held
-abbrev pub IsDueAndMissing : Option Command → Option (List ℕ → Option (List ℕ)) → Type 0
-IsDueAndMissing command held = (name : List ℕ) × IsDue command name × IsMissing held name
+-- a file that is told in a line is due and, where the names are told, not held
+abbrev pub IsDueAndMissing : Option Command → Option (List ℕ → Option (List ℕ)) → SinkSeen → Type 0
+IsDueAndMissing command held notes = (name : List ℕ) × IsDue command held name × IsMissing held name × Got notes (joined (codes "absent: " ∷ name ∷ codes "\n" ∷ []))
 
--- some file is due
-abbrev pub IsSomeDue : Option Command → Type 0
-IsSomeDue (Some (Work task idl op)) = Unit {0}
-IsSomeDue _ = ⊥
+-- a file that is told in a line is due
+abbrev pub IsDueAndTold : Option Command → Option (List ℕ → Option (List ℕ)) → SinkSeen → Type 0
+IsDueAndTold command held notes = (name : List ℕ) × IsDue command held name × Got notes (joined (codes "file fault: " ∷ name ∷ codes "\n" ∷ []))
 
 -- the words are a command that reads the input
 abbrev pub ReadsInput : Option Command → Type 0
-ReadsInput (Some (Work task idl op)) = Unit {0}
+ReadsInput (Some (Work task idl op side)) = Unit {0}
 ReadsInput _ = ⊥
 
 -- A task was done: the file was ready, something was made of the input, out grew by it, and notes stand as before.
-pub record IsDone (f : FilesSeen) (s : SourceSeen) (out notes : SinkSeen) (task : Task) (idl op : List ℕ) : Type 0 where
+pub record IsDone (f : FilesSeen) (s : SourceSeen) (out notes : SinkSeen) (task : Task) (idl op : List ℕ) (side : Side) : Type 0 where
   pub interface : Interface
   pub number : ℕ
   pub operation : Operation
-  pub ready : IsReady f idl op interface number operation
+  pub ready : IsReady f idl op side interface number operation
   pub made : List ℕ
-  pub of_input : IsMadeOfInput s task (inputs_of interface operation) made
+  pub of_input : IsMadeOfInput s task (setting_of interface operation side) made
   pub given : Got out made
   pub quiet : IsAsBefore notes
 
 -- A task was refused: for a cause, under its status and with its line on notes, and out stands as before.
-pub record IsRefused (f : FilesSeen) (s : SourceSeen) (out notes : SinkSeen) (task : Task) (idl op : List ℕ) (status : ℕ) : Type 0 where
+pub record IsRefused (f : FilesSeen) (s : SourceSeen) (out notes : SinkSeen) (task : Task) (idl op : List ℕ) (side : Side) (status : ℕ) : Type 0 where
   pub refusal : Refusal
-  pub cause : IsCause f s task idl op refusal
+  pub cause : IsCause f s task idl op side refusal
   pub own_status : status ≡ status_of refusal
   pub line : Got notes (line_of idl op refusal)
   pub nothing_given : IsAsBefore out
@@ -71,12 +73,13 @@ pub record IsSoundForFiles (f : FilesSeen) (notes : SinkSeen) : Type 0 where
 abbrev pub IsHeld : FilesSeen → List ℕ → List ℕ → Type 0
 IsHeld f name file = (held : List ℕ → Option (List ℕ)) × (f.held ≡ Some held) × (option_map loaded (held name) ≡ Some file)
 
--- the file is held, and is a plain file of this interface, which has the operation
-pub record IsAccepted (f : FilesSeen) (idl op : List ℕ) (i : Interface) (n : ℕ) (o : Operation) : Type 0 where
+-- The main file is held, the files mean this interface, it has the operation, and each root of the side is a primitive.
+pub record IsAccepted (f : FilesSeen) (idl op : List ℕ) (side : Side) (i : Interface) (n : ℕ) (o : Operation) : Type 0 where
   pub file : List ℕ
   pub held : IsHeld f idl file
-  pub plain : IsPlainFile file i
+  pub means : Means f.held idl file i
   pub named : IsNamed i op n o
+  pub built : has_number_roots i.types side o ≡ true
 
 -- these are the octets of the input that count for a task: all of them, or one more than it takes
 pub record IsInput (s : SourceSeen) (task : Task) (octets : List ℕ) : Type 0 where

@@ -6,7 +6,8 @@ use Rattle.dceidl.specs.Words.{Command, command, Work, Help, Version}
 use Rattle.dceidl.specs.Outside.{FilesSeen, SourceSeen, SinkSeen, HasRisen, Got, GotPrefix, IsAsBefore, IsUntouched, AreUntouched}
 use Rattle.dceidl.specs.Ready.{IsReady}
 use Rattle.dceidl.specs.Task.{IsCause, IsMadeOfInput}
-use Rattle.plain_ndr.specs.Decoding.{inputs_of}
+use Rattle.nd_types.specs.declared.types.Side.{Side}
+use Rattle.nd_graph.specs.Fitting.{setting_of}
 use Rattle.dceidl.specs.Lines.{line_of, status_of}
 use Rattle.dceidl.specs.declared.refusal.Refusal.{Refusal}
 use Rattle.dceidl.specs.declared.task.Task.{Task}
@@ -15,12 +16,12 @@ use Rattle.dceidl.specs.declared.outcome.Outcome.TheVariants.{Done, Refused, Wan
 use Rattle.dceidl.specs.declared.TheConstants.{HELP, VERSION}
 
 -- a task comes to this outcome
-abbrev pub IsTaskOutcome : FilesSeen → SourceSeen → Task → List ℕ → List ℕ → Outcome → Type 0
-IsTaskOutcome f s task idl op (Done made) =
-    (i : Interface) × (n : ℕ) × (o : Operation) × IsReady f idl op i n o × IsMadeOfInput s task (inputs_of i o) made
-IsTaskOutcome f s task idl op (Refused status line) =
-    (refusal : Refusal) × IsCause f s task idl op refusal × (status ≡ status_of refusal) × (line ≡ line_of idl op refusal)
-IsTaskOutcome f s task idl op Wanting = Unit {0}
+abbrev pub IsTaskOutcome : FilesSeen → SourceSeen → Task → List ℕ → List ℕ → Side → Outcome → Type 0
+IsTaskOutcome f s task idl op side (Done made) =
+    (i : Interface) × (n : ℕ) × (o : Operation) × IsReady f idl op side i n o × IsMadeOfInput s task (setting_of i o side) made
+IsTaskOutcome f s task idl op side (Refused status line) =
+    (refusal : Refusal) × IsCause f s task idl op side refusal × (status ≡ status_of refusal) × (line ≡ line_of idl op refusal)
+IsTaskOutcome f s task idl op side Wanting = Unit {0}
 
 -- Only a task asks for files and for the input.
 pub record AsksNothing (f : FilesSeen) (s : SourceSeen) : Type 0 where
@@ -32,7 +33,7 @@ abbrev pub IsOutcome : FilesSeen → SourceSeen → Option Command → Outcome �
 IsOutcome f s None outcome = ((outcome ≡ Refused 2 (codes "words refused\n")) ⊎ (outcome ≡ Wanting)) × AsksNothing f s
 IsOutcome f s (Some Help) outcome = ((outcome ≡ Done HELP.now) ⊎ (outcome ≡ Wanting)) × AsksNothing f s
 IsOutcome f s (Some Version) outcome = ((outcome ≡ Done VERSION.now) ⊎ (outcome ≡ Wanting)) × AsksNothing f s
-IsOutcome f s (Some (Work task idl op)) outcome = IsTaskOutcome f s task idl op outcome
+IsOutcome f s (Some (Work task idl op side)) outcome = IsTaskOutcome f s task idl op side outcome
 
 -- `write fault` stands on notes, or a prefix of it where notes failed too
 abbrev pub IsWarned : SinkSeen → Type 0

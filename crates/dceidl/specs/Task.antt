@@ -6,7 +6,8 @@ use Rattle.value_text.specs.declared.TheConstants.{TEXT_LIMIT}
 use Rattle.nd_types.specs.declared.interface.Interface.{Interface}
 use Rattle.nd_types.specs.declared.types.Operation.{Operation}
 use Rattle.nd_graph.specs.Setting.{Setting}
-use Rattle.plain_ndr.specs.Decoding.{inputs_of}
+use Rattle.nd_types.specs.declared.types.Side.{Side}
+use Rattle.nd_graph.specs.Fitting.{setting_of}
 use Rattle.dceidl.specs.Outside.{FilesSeen, SourceSeen, HasRisen, IsUntouched}
 use Rattle.dceidl.specs.Ready.{IsReady, IsFileCause}
 use Rattle.dceidl.specs.Decode.{IsDecoding, IsOctetsCause}
@@ -45,10 +46,10 @@ IsInputCause s task w Memory = ⊤
 IsInputCause s task w refusal = (octets : List ℕ) × IsRead s (limit_of task) octets × IsContentCause task w octets refusal
 
 -- Why a task is refused: the files are, and the input is not asked for; or they are ready, and the input is refused.
-abbrev pub IsCause : FilesSeen → SourceSeen → Task → List ℕ → List ℕ → Refusal → Type 0
-IsCause f s task idl op refusal =
-    (IsFileCause f idl op refusal × IsUntouched s)
-    ⊎ ((i : Interface) × (n : ℕ) × (o : Operation) × IsReady f idl op i n o × IsInputCause s task (inputs_of i o) refusal)
+abbrev pub IsCause : FilesSeen → SourceSeen → Task → List ℕ → List ℕ → Side → Refusal → Type 0
+IsCause f s task idl op side refusal =
+    (IsFileCause f idl op side refusal × IsUntouched s)
+    ⊎ ((i : Interface) × (n : ℕ) × (o : Operation) × IsReady f idl op side i n o × IsInputCause s task (setting_of i o side) refusal)
 
 -- The input was read, and this was made of it.
 pub record IsMadeOfInput (s : SourceSeen) (task : Task) (w : Setting) (made : List ℕ) : Type 0 where

@@ -4,14 +4,16 @@ use Rattle.std.specs.Cmp.Lexicographic.{pointwise}
 use Rattle.std.specs.Str.Parse.{digits_value}
 use Rattle.nd_base.specs.declared.octets.Order.{Order}
 use Rattle.nd_base.specs.declared.octets.Order.TheVariants.{Little, Big}
+use Rattle.nd_types.specs.declared.types.Side.{Side}
+use Rattle.nd_types.specs.declared.types.Side.TheVariants.{In, Out}
 use Rattle.dceidl.specs.declared.TheConstants.{CHUNK_LIMIT}
 use Rattle.dceidl.specs.declared.task.Task.{Task}
 use Rattle.dceidl.specs.declared.task.Task.TheVariants.{Decode, Encode}
 
 -- what the words of a command line ask for
 pub data Command : Type 0 where
-  -- a task on the [in] parameters of an operation of an interface file
-  Work : (task : Task) (idl op : List ℕ) → Command
+  -- a task on a side of an operation of an interface file
+  Work : (task : Task) (idl op : List ℕ) (side : Side) → Command
   Help : Command
   Version : Command
 
@@ -24,6 +26,12 @@ abbrev pub order_of : List ℕ → Option Order
 order_of word =
     if is_word word (codes "little") then Some Little
     else if is_word word (codes "big") then Some Big else None
+
+-- the side that a word names
+abbrev pub side_of : List ℕ → Option Side
+side_of word =
+    if is_word word (codes "in") then Some In
+    else if is_word word (codes "out") then Some Out else None
 
 -- the number of elements of a chunk whose digits are this word, where it is within its limit
 abbrev pub chunk_by : List ℕ → ℕ → Option ℕ
@@ -43,21 +51,21 @@ abbrev pub encoding : Option Order → Option ℕ → Option Task
 encoding (Some order) (Some chunk) = Some (Encode order chunk)
 encoding _ _ = None
 
--- the command of a task, if it is one
-abbrev pub work : Option Task → List ℕ → List ℕ → Option Command
-work None idl op = None
-work (Some task) idl op = Some (Work task idl op)
+-- the command of a task and a side, if they are ones
+abbrev pub work : Option Task → List ℕ → List ℕ → Option Side → Option Command
+work (Some task) idl op (Some side) = Some (Work task idl op side)
+work _ idl op _ = None
 
--- The command that words are, if they are one: `decode IDL - OP in ORDER`, `encode IDL - OP in ORDER CHUNK`, `--help` or
+-- The command that words are, if they are one: `decode IDL - OP SIDE ORDER`, `encode IDL - OP SIDE ORDER CHUNK`, `--help` or
 -- `--version`.
 abbrev pub command : List (List ℕ) → Option Command
 command (word ∷ []) =
     if is_word word (codes "--help") then Some Help
     else if is_word word (codes "--version") then Some Version else None
 command (verb ∷ idl ∷ acf ∷ op ∷ side ∷ order ∷ []) =
-    if is_word verb (codes "decode") && is_word acf (codes "-") && is_word side (codes "in")
-    then work (decoding (order_of order)) idl op else None
+    if is_word verb (codes "decode") && is_word acf (codes "-")
+    then work (decoding (order_of order)) idl op (side_of side) else None
 command (verb ∷ idl ∷ acf ∷ op ∷ side ∷ order ∷ chunk ∷ []) =
-    if is_word verb (codes "encode") && is_word acf (codes "-") && is_word side (codes "in")
-    then work (encoding (order_of order) (chunk_of chunk)) idl op else None
+    if is_word verb (codes "encode") && is_word acf (codes "-")
+    then work (encoding (order_of order) (chunk_of chunk)) idl op (side_of side) else None
 command _ = None

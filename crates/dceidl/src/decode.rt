@@ -2,9 +2,8 @@
 ghost use Rattle.std.specs.Prelude.{◌≡◌, ◌<◌, ◌≤◌, ◌^◌, length, Some, IfOk, IfErr};
 ghost use Rattle.std.specs.List.{slice_get};
 ghost use Rattle.nd_types.specs.declared.types.Operation.{Operation};
-ghost use Rattle.nd_types.specs.declared.types.Side.TheVariants as side;
-ghost use Rattle.nd_types.specs.Plain.{IsPlainInterface};
-ghost use Rattle.plain_ndr.specs.Decoding.{inputs_of};
+ghost use Rattle.nd_types.specs.Numbers.{IsNumberSide};
+ghost use Rattle.nd_graph.specs.Fitting.{setting_of};
 ghost use Rattle.value_text.specs.Printed.{IsText};
 ghost use Rattle.dceidl.specs.Decode.{IsOctetsCause, IsDecoding, IsLeftOver};
 
@@ -22,15 +21,22 @@ pub(crate) fn decode(
     order: Order,
     octets: &[u8],
 ) -> Result<Octets, Refusal>
-    requires plain { IsPlainInterface ready.now.interface.types ready.now.interface.operations }
+    requires built { IsNumberSide ready.now.interface.types ready.now.interface.operations ready.now.number ready.now.side }
     requires known { ready.now.number < length ready.now.interface.operations }
     requires short { length octets.now < 2 ^ 32 }
     ensures done { (o : Operation) → slice_get ready.now.interface.operations ready.now.number ≡ Some o
-        → IfOk result (IsDecoding (inputs_of ready.now.interface o) order octets.now) }
+        → IfOk result (IsDecoding (setting_of ready.now.interface o ready.now.side) order octets.now) }
     ensures refused { (o : Operation) → slice_get ready.now.interface.operations ready.now.number ≡ Some o
-        → IfErr result (IsOctetsCause (inputs_of ready.now.interface o) order octets.now) }
+        → IfErr result (IsOctetsCause (setting_of ready.now.interface o ready.now.side) order octets.now) }
 {
-    match plain_ndr::decode(alloc, &ready.interface, ready.number, order, octets) {
+    match plain_ndr::decode(
+        alloc,
+        &ready.interface,
+        ready.number,
+        ready.side,
+        order,
+        octets,
+    ) {
         Ok(decoded) => print_whole(alloc, ready, &decoded, octets.len()),
         Err(DecodeFault::Memory) => Err(Refusal::Memory),
         Err(DecodeFault::Bad { place, reason }) => Err(Refusal::BadOctets {
@@ -47,11 +53,12 @@ fn print_whole(
     decoded: &Decoded,
     given: usize,
 ) -> Result<Octets, Refusal>
-    requires plain { IsPlainInterface ready.now.interface.types ready.now.interface.operations }
+    requires built { IsNumberSide ready.now.interface.types ready.now.interface.operations ready.now.number ready.now.side }
     requires tied { decoded.now.fit.interface ≡ ready.now.interface }
-    requires inputs { decoded.now.fit.side ≡ side.In }
+    requires number { decoded.now.fit.op ≡ ready.now.number }
+    requires side { decoded.now.fit.side ≡ ready.now.side }
     ensures text { (o : Operation) → slice_get ready.now.interface.operations decoded.now.fit.op ≡ Some o
-        → IfOk result (IsText (inputs_of ready.now.interface o) decoded.now.fit.graph) }
+        → IfOk result (IsText (setting_of ready.now.interface o ready.now.side) decoded.now.fit.graph) }
     ensures whole { IfOk result (λ _. given ≤ decoded.now.taken) }
     ensures refused { IfErr result (λ e. IsLeftOver given decoded.now.taken e) }
 {

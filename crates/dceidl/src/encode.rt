@@ -2,12 +2,11 @@
 ghost use Rattle.std.specs.Prelude.{◌≡◌, ◌<◌, ◌≤◌, ◌^◌, [], ◌∷◌, length, Some, IfOk, IfErr, codes, decimal};
 ghost use Rattle.std.specs.List.{slice_get};
 ghost use Rattle.nd_types.specs.declared.types.Operation.{Operation};
-ghost use Rattle.nd_types.specs.declared.types.Side.TheVariants as side;
-ghost use Rattle.nd_types.specs.Plain.{IsPlainInterface};
+ghost use Rattle.nd_types.specs.Numbers.{IsNumberSide};
 ghost use Rattle.nd_types.specs.Walk.{named_roots};
 ghost use Rattle.nd_graph.specs.Conforms.{Conforms, HasFewNodes};
 ghost use Rattle.nd_grammar.specs.Chosen.{Chosen};
-ghost use Rattle.plain_ndr.specs.Decoding.{inputs_of};
+ghost use Rattle.nd_graph.specs.Fitting.{setting_of};
 ghost use Rattle.value_text.specs.Text.{joined};
 ghost use Rattle.dceidl.specs.Encode.{IsEncoding, IsTextCause, IsValueCause, IsToldAsValue, home_path, root_path as name_of};
 
@@ -17,7 +16,6 @@ use crate::refusal::Refusal;
 use itoa::Buffer;
 use nd_base::{Memory, Octets, Order};
 use nd_graph::{CellId, Fit, Graph, Home, Misfit, fit};
-use nd_types::Side;
 use std::alloc::Global;
 use value_text::{TextFault, read_text};
 
@@ -29,15 +27,15 @@ pub(crate) fn encode(
     chunk: u32,
     text: &[u8],
 ) -> Result<Octets, Refusal>
-    requires plain { IsPlainInterface ready.now.interface.types ready.now.interface.operations }
+    requires built { IsNumberSide ready.now.interface.types ready.now.interface.operations ready.now.number ready.now.side }
     requires known { ready.now.number < length ready.now.interface.operations }
     requires chunk { 1 ≤ chunk }
     ensures done { (o : Operation) → slice_get ready.now.interface.operations ready.now.number ≡ Some o
-        → IfOk result (IsEncoding (inputs_of ready.now.interface o) order chunk text.now) }
+        → IfOk result (IsEncoding (setting_of ready.now.interface o ready.now.side) order chunk text.now) }
     ensures refused { (o : Operation) → slice_get ready.now.interface.operations ready.now.number ≡ Some o
-        → IfErr result (IsTextCause (inputs_of ready.now.interface o) text.now) }
+        → IfErr result (IsTextCause (setting_of ready.now.interface o ready.now.side) text.now) }
 {
-    match read_text(alloc, &ready.interface, ready.number, Side::In, text) {
+    match read_text(alloc, &ready.interface, ready.number, ready.side, text) {
         Ok(graph) => encode_graph(alloc, ready, order, chunk, graph),
         Err(TextFault::Memory) => Err(Refusal::Memory),
         Err(
@@ -62,19 +60,20 @@ fn encode_graph(
     chunk: u32,
     graph: Graph,
 ) -> Result<Octets, Refusal>
-    requires plain { IsPlainInterface ready.now.interface.types ready.now.interface.operations }
+    requires built { IsNumberSide ready.now.interface.types ready.now.interface.operations ready.now.number ready.now.side }
     requires known { ready.now.number < length ready.now.interface.operations }
     requires few_cells { length graph.cells < 2 ^ 32 }
     requires few_nodes { HasFewNodes graph }
+    requires no_cells { graph.cells ≡ [] }
     requires chunk { 1 ≤ chunk }
     ensures conforms { (o : Operation) → slice_get ready.now.interface.operations ready.now.number ≡ Some o
-        → IfOk result (λ _. Conforms (inputs_of ready.now.interface o) graph) }
+        → IfOk result (λ _. Conforms (setting_of ready.now.interface o ready.now.side) graph) }
     ensures chosen { (o : Operation) → slice_get ready.now.interface.operations ready.now.number ≡ Some o
-        → IfOk result (Chosen (inputs_of ready.now.interface o) order chunk graph) }
+        → IfOk result (Chosen (setting_of ready.now.interface o ready.now.side) order chunk graph) }
     ensures refused { (o : Operation) → slice_get ready.now.interface.operations ready.now.number ≡ Some o
-        → IfErr result (IsValueCause (inputs_of ready.now.interface o) graph) }
+        → IfErr result (IsValueCause (setting_of ready.now.interface o ready.now.side) graph) }
 {
-    match fit(alloc, &ready.interface, ready.number, Side::In, graph) {
+    match fit(alloc, &ready.interface, ready.number, ready.side, graph) {
         Ok(fit) => encode_fit(alloc, ready, order, chunk, &fit),
         Err((misfit, _)) => Err(value_refused(alloc, ready, misfit)),
     }
@@ -88,14 +87,15 @@ fn encode_fit(
     chunk: u32,
     fit: &Fit,
 ) -> Result<Octets, Refusal>
-    requires plain { IsPlainInterface ready.now.interface.types ready.now.interface.operations }
+    requires built { IsNumberSide ready.now.interface.types ready.now.interface.operations ready.now.number ready.now.side }
     requires tied { fit.now.interface ≡ ready.now.interface }
-    requires inputs { fit.now.side ≡ side.In }
+    requires number { fit.now.op ≡ ready.now.number }
+    requires side { fit.now.side ≡ ready.now.side }
     requires chunk { 1 ≤ chunk }
     ensures conforms { (o : Operation) → slice_get ready.now.interface.operations fit.now.op ≡ Some o
-        → IfOk result (λ _. Conforms (inputs_of ready.now.interface o) fit.now.graph) }
+        → IfOk result (λ _. Conforms (setting_of ready.now.interface o ready.now.side) fit.now.graph) }
     ensures chosen { (o : Operation) → slice_get ready.now.interface.operations fit.now.op ≡ Some o
-        → IfOk result (Chosen (inputs_of ready.now.interface o) order chunk fit.now.graph) }
+        → IfOk result (Chosen (setting_of ready.now.interface o ready.now.side) order chunk fit.now.graph) }
     ensures refused { IfErr result (λ e. e ≡ Refusal.Memory) }
 {
     // A fit's graph conforms.
@@ -110,7 +110,7 @@ fn encode_fit(
 fn value_refused(alloc: Global, ready: &Ready, misfit: Misfit) -> Refusal
     requires known { ready.now.number < length ready.now.interface.operations }
     ensures { (o : Operation) → slice_get ready.now.interface.operations ready.now.number ≡ Some o
-        → IsToldAsValue (inputs_of ready.now.interface o) misfit result }
+        → IsToldAsValue (setting_of ready.now.interface o ready.now.side) misfit result }
 {
     match misfit {
         Misfit::Memory => Refusal::Memory,
@@ -125,7 +125,7 @@ fn value_refused(alloc: Global, ready: &Ready, misfit: Misfit) -> Refusal
 fn path_of(alloc: Global, ready: &Ready, home: Home) -> Result<Octets, Memory>
     requires known { ready.now.number < length ready.now.interface.operations }
     ensures { (o : Operation) → slice_get ready.now.interface.operations ready.now.number ≡ Some o
-        → IfOk result (λ path. path ≡ home_path (inputs_of ready.now.interface o) home) }
+        → IfOk result (λ path. path ≡ home_path (setting_of ready.now.interface o ready.now.side) home) }
 {
     match home {
         Home::Root(at) => root_path(alloc, ready, at as usize),
@@ -137,9 +137,9 @@ fn path_of(alloc: Global, ready: &Ready, home: Home) -> Result<Octets, Memory>
 fn root_path(alloc: Global, ready: &Ready, at: usize) -> Result<Octets, Memory>
     requires known { ready.now.number < length ready.now.interface.operations }
     ensures { (o : Operation) → slice_get ready.now.interface.operations ready.now.number ≡ Some o
-        → IfOk result (λ path. path ≡ name_of (slice_get (named_roots ready.now.interface.types side.In o) at)) }
+        → IfOk result (λ path. path ≡ name_of (slice_get (named_roots ready.now.interface.types ready.now.side o) at)) }
 {
-    match ready.interface.params(ready.number, Side::In).nth(at) {
+    match ready.interface.params(ready.number, ready.side).nth(at) {
         Some(root) => Octets::copy(alloc, root.name),
         None => Ok(Octets::new(alloc)),
     }

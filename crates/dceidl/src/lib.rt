@@ -1,8 +1,10 @@
 //! The program `dceidl` as a library: what a command line asks for is done over sources, sinks and files that its caller makes.
 #![tactic(auto)]
 
+mod compiling;
 mod decode;
 mod encode;
+mod faults;
 mod input;
 mod join;
 pub mod laws;
@@ -18,7 +20,7 @@ mod top;
 mod words;
 
 pub use outcome::Outcome;
-pub use refusal::{OctetsFault, Refusal};
+pub use refusal::{IdlReason, OctetsFault, Refusal};
 pub use task::Task;
 pub use top::{Status, run};
 pub use words::Words;
@@ -28,18 +30,19 @@ pub const CHUNK_LIMIT: u32 = 16_777_216;
 
 /// What `--help` prints.
 pub const HELP: &str = "\
-usage: dceidl decode IDL - OP in ORDER
-       dceidl encode IDL - OP in ORDER CHUNK
+usage: dceidl decode IDL - OP SIDE ORDER
+       dceidl encode IDL - OP SIDE ORDER CHUNK
        dceidl --help
        dceidl --version
 
-decode  reads the octets of an operation's [in] parameters from standard input, in NDR
-        (C706, chapter 14), and writes their values to standard output as text.
+decode  reads the octets of a side of an operation from standard input, in NDR (C706,
+        chapter 14), and writes their values to standard output as text.
 encode  reads such a text from standard input, and writes the octets of its values to
         standard output. CHUNK is the number of elements in a chunk of a pipe, 1 to 16777216.
 
 IDL is the path of a file of IDL, `-` stands for no attribute file, OP is the name of an
-operation, and ORDER, `little` or `big`, is the order of a number's octets.
+operation, SIDE is `in` for its [in] parameters or `out` for its [out] parameters and its
+result, and ORDER, `little` or `big`, is the order of a number's octets.
 
 A refusal is one line on standard error. The status is 0 done, 1 octets, text or value
 refused, 2 words refused, 3 input failed, 4 output failed, 5 memory wanting, 6 IDL refused,

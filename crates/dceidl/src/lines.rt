@@ -1,16 +1,17 @@
 // The status and the line of each refusal.
-ghost use Rattle.std.specs.Prelude.{◌≡◌, [], IfOk};
-ghost use Rattle.dceidl.specs.Lines.{status_of, line_of, idl_reason_text, lex_kind_name as name_of_lex_kind, fault_text, reason_text, misfit_text, disagreement as disagreement_text, reason_name as name_of_reason, misfit_name as name_of_misfit, text_reason_name as name_of_text_reason};
+ghost use Rattle.std.specs.Prelude.{◌≡◌, [], ◌∷◌, codes, IfOk};
+ghost use Rattle.value_text.specs.Text.{joined};
+ghost use Rattle.dceidl.specs.Lines.{status_of, line_of, idl_reason_text, lex_kind_name as name_of_lex_kind, const_fault_name as name_of_const_fault, fault_text, reason_text, misfit_text, disagreement as disagreement_text, reason_name as name_of_reason, misfit_name as name_of_misfit, text_reason_name as name_of_text_reason};
 
 use crate::join::join;
-use crate::refusal::{OctetsFault, Refusal};
+use crate::refusal::{IdlReason, OctetsFault, Refusal};
 use crate::top::Status;
 use idl_lexer::LexKind;
+use idl_names::ConstFault;
 use itoa::Buffer;
 use nd_base::{Memory, Octets};
 use nd_grammar::Reason;
 use nd_graph::MisfitReason;
-use plain_idl::IdlReason;
 use std::alloc::Global;
 use value_text::TextReason;
 
@@ -20,9 +21,9 @@ pub(crate) fn status(refusal: &Refusal) -> Status
 {
     match refusal {
         Refusal::Memory => 5,
-        Refusal::Absent => 7,
-        Refusal::FileFailed => 9,
-        Refusal::BadIdl { .. } | Refusal::NoOperation => 6,
+        Refusal::Absent { .. } => 7,
+        Refusal::FileFailed { .. } => 9,
+        Refusal::BadIdl { .. } | Refusal::NoOperation | Refusal::NotBuilt => 6,
         Refusal::ReadFault => 3,
         Refusal::BadOctets { .. } | Refusal::BadText { .. } | Refusal::BadValue { .. } => 1,
     }
@@ -32,20 +33,18 @@ pub(crate) fn status(refusal: &Refusal) -> Status
 pub(crate) fn line(alloc: Global, idl: &str, op: &str, refusal: &Refusal) -> Result<Octets, Memory>
     ensures { IfOk result (λ line. line ≡ line_of idl.now op.now refusal.now) }
 {
-    let idl = idl.as_bytes();
     match refusal {
         Refusal::Memory => Octets::copy(alloc, b"want of memory\n"),
-        Refusal::Absent => join(alloc, &[b"absent: ", idl, b"\n"]),
-        Refusal::FileFailed => join(alloc, &[b"file fault: ", idl, b"\n"]),
+        Refusal::Absent { file } => join(alloc, &[b"absent: ", file.as_slice(), b"\n"]),
+        Refusal::FileFailed { file } => { join(alloc, &[b"file fault: ", file.as_slice(), b"\n"]) }
         Refusal::BadIdl {
+            file,
             line,
             column,
             reason,
-        } => idl_line(alloc, idl, *line, *column, reason),
-        Refusal::NoOperation => join(
-            alloc,
-            &[b"idl ", idl, b": NoOperation ", op.as_bytes(), b"\n"],
-        ),
+        } => idl_line(alloc, file.as_slice(), *line, *column, reason),
+        Refusal::NoOperation => operation_line(alloc, idl, b": NoOperation ", op),
+        Refusal::NotBuilt => operation_line(alloc, idl, b": NotBuilt ", op),
         Refusal::ReadFault => Octets::copy(alloc, b"read fault\n"),
         Refusal::BadOctets { place, why } => octets_line(alloc, *place, *why),
         Refusal::BadText {
@@ -57,15 +56,22 @@ pub(crate) fn line(alloc: Global, idl: &str, op: &str, refusal: &Refusal) -> Res
     }
 }
 
+// An operation that is refused.
+fn operation_line(alloc: Global, idl: &str, why: &[u8], op: &str) -> Result<Octets, Memory>
+    ensures { IfOk result (λ told. told ≡ joined (codes "idl " ∷ idl.now ∷ why.now ∷ op.now ∷ codes "\n" ∷ [])) }
+{
+    join(alloc, &[b"idl ", idl.as_bytes(), why, op.as_bytes(), b"\n"])
+}
+
 // A file that is refused at a line and column.
 fn idl_line(
     alloc: Global,
-    idl: &[u8],
+    file: &[u8],
     line: u64,
     column: u64,
     reason: &IdlReason,
 ) -> Result<Octets, Memory>
-    ensures { IfOk result (λ told. told ≡ line_of idl.now [] (Refusal.BadIdl line column reason.now)) }
+    ensures { IfOk result (λ told. told ≡ line_of [] [] (Refusal.BadIdl file.now line column reason.now)) }
 {
     let mut line_digits = Buffer::new();
     let line = line_digits.format(line).as_bytes();
@@ -76,7 +82,7 @@ fn idl_line(
         alloc,
         &[
             b"idl ",
-            idl,
+            file,
             b":",
             line,
             b":",
@@ -97,7 +103,31 @@ fn why_not_idl(alloc: Global, reason: &IdlReason) -> Result<Octets, Memory>
         IdlReason::Syntax => Octets::copy(alloc, b"Syntax"),
         IdlReason::Deep => Octets::copy(alloc, b"Deep"),
         IdlReason::Banned { word } => join(alloc, &[b"Banned ", word.as_slice()]),
-        IdlReason::NotBuilt => Octets::copy(alloc, b"NotBuilt"),
+        IdlReason::Unknown { name } => join(alloc, &[b"Unknown ", name.as_slice()]),
+        IdlReason::Twice { name } => join(alloc, &[b"Twice ", name.as_slice()]),
+        IdlReason::ImportCycle => Octets::copy(alloc, b"ImportCycle"),
+        IdlReason::TooMany => Octets::copy(alloc, b"TooMany"),
+        IdlReason::NoValue(fault) => Octets::copy(alloc, const_fault_name(*fault).as_bytes()),
+        IdlReason::Rule(rule) => rule_text(alloc, *rule),
+    }
+}
+
+// A broken rule, as a line tells it.
+fn rule_text(alloc: Global, rule: u8) -> Result<Octets, Memory>
+    ensures { IfOk result (λ text. text ≡ idl_reason_text (IdlReason.Rule rule)) }
+{
+    let mut digits = Buffer::new();
+    join(alloc, &[b"Rule ", digits.format(rule).as_bytes()])
+}
+
+// The name of a reason why an expression has no value.
+fn const_fault_name(fault: ConstFault) -> &'static str
+    ensures { result.now ≡ name_of_const_fault fault }
+{
+    match fault {
+        ConstFault::OutOfRange => "OutOfRange",
+        ConstFault::ZeroDivisor => "ZeroDivisor",
+        ConstFault::NotConst => "NotConst",
     }
 }
 

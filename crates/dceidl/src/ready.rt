@@ -1,74 +1,80 @@
-// What a command speaks of is made ready: the file is loaded and read, and the operation found.
-ghost use Rattle.std.specs.Prelude.{◌≡◌, ℕ, ◌<◌, List, length, Some, IfOk, IfErr};
+// What a command speaks of is made ready: the interface of the files, the operation, and that its values are built.
+ghost use Rattle.std.specs.Prelude.{◌≡◌, ◌<◌, length, Some, IfOk, IfErr};
 ghost use Rattle.nd_types.specs.declared.types.Operation.{Operation};
 ghost use Rattle.nd_types.specs.Operations.{operation_named};
-ghost use Rattle.nd_types.specs.Plain.{IsPlainInterface};
-ghost use Rattle.plain_idl.specs.Answers.{IsPlainFile, IsIdlFault};
+ghost use Rattle.nd_types.specs.Numbers.{IsNumberSide, has_number_roots as all_roots_are_numbers};
+ghost use Rattle.std.specs.List.{slice_get};
 ghost use Rattle.dceidl.specs.Outside.{files_seen};
-ghost use Rattle.dceidl.specs.Ready.{IsReady, IsFileCause, IsNoInterface};
+ghost use Rattle.dceidl.specs.Ready.{IsReady, IsFileCause, IsNotFound};
 
-use crate::position::position_of;
+use crate::compiling::compile;
 use crate::refusal::Refusal;
-use nd_base::{FileFault, Files};
-use nd_types::Interface;
-use plain_idl::{IdlFault, IdlReason, read_idl};
+use nd_base::Files;
+use nd_types::{Interface, Side};
 use std::alloc::Global;
 
-// An interface, and the number of one of its operations.
+// An interface, the number of one of its operations, and a side of it whose roots are primitives.
 #[derive(Drop)]
 pub(crate) struct Ready {
     pub(crate) interface: Interface,
     pub(crate) number: u32,
+    pub(crate) side: Side,
 }
 
-// Loads and reads the file, and finds the operation.
+// Loads and reads the files, and finds the operation.
 pub(crate) fn make_ready<F: Files>(
     alloc: Global,
     idl: &str,
     op: &str,
+    side: Side,
     files: &mut F,
 ) -> Result<Ready, Refusal>
     ensures ready { IfOk result (λ r. (o : Operation)
-        × IsReady (files_seen F.held F.absences F.faults files.old files.new) idl.now op.now r.interface r.number o) }
-    ensures plain { IfOk result (λ r. IsPlainInterface r.interface.types r.interface.operations) }
+        × IsReady (files_seen F.held F.absences F.faults files.old files.new) idl.now op.now side r.interface r.number o) }
+    ensures built { IfOk result (λ r. IsNumberSide r.interface.types r.interface.operations r.number r.side) }
     ensures known { IfOk result (λ r. r.number < length r.interface.operations) }
-    ensures refused { IfErr result (IsFileCause (files_seen F.held F.absences F.faults files.old files.new) idl.now op.now) }
+    ensures side { IfOk result (λ r. r.side ≡ side) }
+    ensures refused { IfErr result (IsFileCause (files_seen F.held F.absences F.faults files.old files.new) idl.now op.now side) }
 {
-    match files.load(alloc, idl) {
-        Ok(file) => read_file(alloc, file.as_slice(), op),
-        Err(FileFault::Absent) => Err(Refusal::Absent),
-        Err(FileFault::Failed) => Err(Refusal::FileFailed),
-        Err(FileFault::Memory) => Err(Refusal::Memory),
-    }
+    let interface = compile(alloc, idl, files)?;
+    find(interface, op, side)
 }
 
-// The interface that a file declares, and its operation of a name.
-fn read_file(alloc: Global, file: &[u8], op: &str) -> Result<Ready, Refusal>
-    ensures file { IfOk result (λ r. IsPlainFile file.now r.interface) }
-    ensures named { IfOk result (λ r. operation_named r.interface.operations op.now ≡ Some r.number) }
-    ensures plain { IfOk result (λ r. IsPlainInterface r.interface.types r.interface.operations) }
+// The operation of a name, where the roots of its side are primitives.
+fn find(interface: Interface, op: &str, side: Side) -> Result<Ready, Refusal>
+    ensures interface { IfOk result (λ r. r.interface ≡ interface) }
+    ensures found { IfOk result (λ r. operation_named interface.operations op.now ≡ Some r.number) }
+    ensures side { IfOk result (λ r. r.side ≡ side) }
     ensures known { IfOk result (λ r. r.number < length r.interface.operations) }
-    ensures refused { IfErr result (IsNoInterface file.now op.now) }
+    ensures built { IfOk result (λ r. IsNumberSide r.interface.types r.interface.operations r.number r.side) }
+    ensures refused { IfErr result (IsNotFound interface op.now side) }
 {
-    match read_idl(alloc, file) {
-        Ok(interface) => match interface.operation(op) {
-            Some(number) => Ok(Ready { interface, number }),
-            None => Err(Refusal::NoOperation),
-        },
-        Err(IdlFault::At { at, reason }) => Err(refused_at(file, at, reason)),
-        Err(IdlFault::Memory) => Err(Refusal::Memory),
+    let Some(number) = interface.operation(op) else {
+        return Err(Refusal::NoOperation);
+    };
+    if !has_number_roots(&interface, number, side) {
+        return Err(Refusal::NotBuilt);
     }
+    Ok(Ready {
+        interface,
+        number,
+        side,
+    })
 }
 
-// A file that is refused at an octet, told by its line and column.
-fn refused_at(file: &[u8], at: u32, reason: IdlReason) -> Refusal
-    requires { IsIdlFault file.now at reason }
-    ensures { (op : List ℕ) → IsNoInterface file.now op result }
+// Whether each root of a side is a primitive.
+fn has_number_roots(interface: &Interface, number: u32, side: Side) -> bool
+    requires { number < length interface.now.operations }
+    ensures { (o : Operation) → slice_get interface.now.operations number ≡ Some o
+        → result ≡ all_roots_are_numbers interface.now.types side o }
 {
-    let (line, column) = position_of(file, at);
-    Refusal::BadIdl {
-        line,
-        column,
-        reason,
+    for root in interface.params(number, side) {
+        if root.of.0 >= NUMBER_TYPES {
+            return false;
+        }
     }
+    true
 }
+
+// The types with smaller numbers are the primitives.
+const NUMBER_TYPES: u32 = 11;

@@ -1,10 +1,46 @@
 // Why a command is refused.
+use idl_lexer::LexKind;
+use idl_names::ConstFault;
 use nd_base::Octets;
 use nd_grammar::Reason;
 use nd_graph::MisfitReason;
-use plain_idl::IdlReason;
 use thiserror::Error;
 use value_text::TextReason;
+
+/// Why a file of IDL is refused at a place.
+#[derive(Debug, Drop, Error)]
+pub enum IdlReason {
+    /// It cannot be cut into tokens, or is too long.
+    #[error("no tokens: {0:?}")]
+    Lexical(LexKind),
+    /// No file of the language goes on there.
+    #[error("no file of the language goes on here")]
+    Syntax,
+    /// A bracket with 64 open, or an operator with 64 before it in its outermost expression.
+    #[error("nested too deep")]
+    Deep,
+    /// This word of the language, which this compiler leaves out.
+    #[error("a word that is left out")]
+    Banned { word: Octets },
+    /// No such name is known there, or none of its kind.
+    #[error("unknown name")]
+    Unknown { name: Octets },
+    /// The name stands already in its space.
+    #[error("name declared twice")]
+    Twice { name: Octets },
+    /// The imported file is being resolved.
+    #[error("files import each other")]
+    ImportCycle,
+    /// The imported file would be the 65th.
+    #[error("too many files")]
+    TooMany,
+    /// An expression has no value.
+    #[error("{0}")]
+    NoValue(ConstFault),
+    /// The rule of this number of `docs/IDL.md` is broken.
+    #[error("rule {0}")]
+    Rule(u8),
+}
 
 /// Why octets of the input are refused.
 #[derive(Clone, Copy, Debug, PartialEq, Eq, Error)]
@@ -23,15 +59,20 @@ pub enum Refusal {
     /// Memory was wanting.
     #[error("out of memory")]
     Memory,
-    /// There is no file of the name.
+    /// There is no file of the name: the main file, or one that is imported.
     #[error("no such file")]
-    Absent,
-    /// The file was not read.
+    Absent {
+        file: Octets,
+    },
+    /// The file of the name was not read.
     #[error("file failed")]
-    FileFailed,
-    /// The file is refused at a line and column, from 1, in octets.
+    FileFailed {
+        file: Octets,
+    },
+    /// The file of the name is refused at a line and column, from 1, in octets.
     #[error("file refused at {line}:{column}: {reason}")]
     BadIdl {
+        file: Octets,
         line: u64,
         column: u64,
         reason: IdlReason,
@@ -39,6 +80,9 @@ pub enum Refusal {
     /// The interface has no operation of the name.
     #[error("no such operation")]
     NoOperation,
+    /// The operation has values of a type that is not built yet.
+    #[error("not built yet")]
+    NotBuilt,
     /// The input failed.
     #[error("read failed")]
     ReadFault,

@@ -1,10 +1,10 @@
-// A task: what is done with the values of an operation's [in] parameters.
+// A task: what is done with the values of an operation's side.
 ghost use Rattle.std.specs.Prelude.{◌≡◌, ℕ, ◌+◌, ◌<◌, ◌≤◌, List, length, Some, IfOk, IfErr};
 ghost use Rattle.std.specs.List.{slice_get};
 ghost use Rattle.nd_types.specs.declared.interface.Interface.{Interface as InterfaceValue};
 ghost use Rattle.nd_types.specs.declared.types.Operation.{Operation};
-ghost use Rattle.nd_types.specs.Plain.{IsPlainInterface};
-ghost use Rattle.plain_ndr.specs.Decoding.{inputs_of};
+ghost use Rattle.nd_types.specs.Numbers.{IsNumberSide};
+ghost use Rattle.nd_graph.specs.Fitting.{setting_of};
 ghost use Rattle.dceidl.specs.Asked.{HasChunk};
 ghost use Rattle.dceidl.specs.Outside.{files_seen, source_seen};
 ghost use Rattle.dceidl.specs.Ready.{IsReady};
@@ -16,10 +16,11 @@ use crate::input::{InputFault, read_input};
 use crate::ready::{Ready, make_ready};
 use crate::refusal::Refusal;
 use nd_base::{Files, Octets, Order, STREAM_LIMIT, Source};
+use nd_types::Side;
 use std::alloc::Global;
 use value_text::TEXT_LIMIT;
 
-/// What is done with the values of an operation's [in] parameters.
+/// What is done with the values of a side of an operation: its [in] parameters, or its [out] parameters and its result.
 #[derive(Clone, Copy, Debug, PartialEq, Eq)]
 pub enum Task {
     /// The octets of the input are decoded, and their values written as text.
@@ -34,18 +35,19 @@ pub(crate) fn perform<F: Files, S: Source>(
     task: Task,
     idl: &str,
     op: &str,
+    side: Side,
     files: &mut F,
     input: &mut S,
 ) -> Result<Octets, Refusal>
     requires chunk { HasChunk task }
     ensures done { IfOk result (λ made. (i : InterfaceValue) × (n : ℕ) × (o : Operation)
-        × IsReady (files_seen F.held F.absences F.faults files.old files.new) idl.now op.now i n o
-        × IsMadeOfInput (source_seen S.left S.ended S.faults input.old input.new) task (inputs_of i o) made) }
+        × IsReady (files_seen F.held F.absences F.faults files.old files.new) idl.now op.now side i n o
+        × IsMadeOfInput (source_seen S.left S.ended S.faults input.old input.new) task (setting_of i o side) made) }
     ensures refused { IfErr result (IsCause
         (files_seen F.held F.absences F.faults files.old files.new)
-        (source_seen S.left S.ended S.faults input.old input.new) task idl.now op.now) }
+        (source_seen S.left S.ended S.faults input.old input.new) task idl.now op.now side) }
 {
-    let ready = make_ready(alloc, idl, op, files)?;
+    let ready = make_ready(alloc, idl, op, side, files)?;
     convert_input(alloc, &ready, task, input)
 }
 
@@ -56,13 +58,13 @@ fn convert_input<S: Source>(
     task: Task,
     input: &mut S,
 ) -> Result<Octets, Refusal>
-    requires plain { IsPlainInterface ready.now.interface.types ready.now.interface.operations }
+    requires built { IsNumberSide ready.now.interface.types ready.now.interface.operations ready.now.number ready.now.side }
     requires known { ready.now.number < length ready.now.interface.operations }
     requires chunk { HasChunk task }
     ensures done { (o : Operation) → slice_get ready.now.interface.operations ready.now.number ≡ Some o
-        → IfOk result (IsMadeOfInput (source_seen S.left S.ended S.faults input.old input.new) task (inputs_of ready.now.interface o)) }
+        → IfOk result (IsMadeOfInput (source_seen S.left S.ended S.faults input.old input.new) task (setting_of ready.now.interface o ready.now.side)) }
     ensures refused { (o : Operation) → slice_get ready.now.interface.operations ready.now.number ≡ Some o
-        → IfErr result (IsInputCause (source_seen S.left S.ended S.faults input.old input.new) task (inputs_of ready.now.interface o)) }
+        → IfErr result (IsInputCause (source_seen S.left S.ended S.faults input.old input.new) task (setting_of ready.now.interface o ready.now.side)) }
 {
     match read_input(alloc, input, limit(task)) {
         Ok(octets) => convert(alloc, ready, task, octets.as_slice()),
@@ -83,14 +85,14 @@ fn limit(task: Task) -> u32
 
 // Decodes or encodes the octets of the input.
 fn convert(alloc: Global, ready: &Ready, task: Task, octets: &[u8]) -> Result<Octets, Refusal>
-    requires plain { IsPlainInterface ready.now.interface.types ready.now.interface.operations }
+    requires built { IsNumberSide ready.now.interface.types ready.now.interface.operations ready.now.number ready.now.side }
     requires known { ready.now.number < length ready.now.interface.operations }
     requires chunk { HasChunk task }
     requires few { length octets.now ≤ limit_of task + 1 }
     ensures done { (o : Operation) → slice_get ready.now.interface.operations ready.now.number ≡ Some o
-        → IfOk result (IsMade task (inputs_of ready.now.interface o) octets.now) }
+        → IfOk result (IsMade task (setting_of ready.now.interface o ready.now.side) octets.now) }
     ensures refused { (o : Operation) → slice_get ready.now.interface.operations ready.now.number ≡ Some o
-        → IfErr result (IsContentCause task (inputs_of ready.now.interface o) octets.now) }
+        → IfErr result (IsContentCause task (setting_of ready.now.interface o ready.now.side) octets.now) }
 {
     match task {
         Task::Decode { order } => decode(alloc, ready, order, octets),

@@ -46,9 +46,21 @@ const WRONG_FILE: &[u8] =
 const UNCUT_FILE: &[u8] =
     b"[uuid(11111111-2222-3333-4444-555555555555)]\ninterface t {\nconst long A = 012;\n}\n";
 
-// The file `x.idl`, which is no plain file: a name stands twice.
+// The file `x.idl`, in which a name stands twice.
 const TWICE_FILE: &[u8] =
     b"[uuid(11111111-2222-3333-4444-555555555555)]\ninterface t {\nvoid f(); /* once\n more: */ void f();\n}\n";
+
+// The file `y.idl`, which breaks a rule: a parameter is neither [in] nor [out].
+const BROKEN_FILE: &[u8] =
+    b"[uuid(11111111-2222-3333-4444-555555555555)]\ninterface t {\nvoid f(long x);\n}\n";
+
+// The file `z.idl`, with a result, and a parameter whose values are not built yet. It imports `t.idl`.
+const SIDES_FILE: &[u8] =
+    b"[uuid(11111111-2222-3333-4444-555555555555)]\ninterface s { import \"t.idl\"; typedef enum { A, B } kind; unsigned hyper f([in] kind k); }";
+
+// The file `a.idl`, which imports a file that is absent.
+const ALONE_FILE: &[u8] =
+    b"[uuid(11111111-2222-3333-4444-555555555555)]\ninterface t { import \"s.idl\"; void f(); }";
 
 // The values 1, 2 and 3 of `add`.
 const DECODED: Case = Case {
@@ -108,6 +120,9 @@ fn run_case(alloc: Global, case: &Case) -> Result<Ran, Memory> {
     files.add("v.idl", WRONG_FILE)?;
     files.add("w.idl", UNCUT_FILE)?;
     files.add("x.idl", TWICE_FILE)?;
+    files.add("y.idl", BROKEN_FILE)?;
+    files.add("z.idl", SIDES_FILE)?;
+    files.add("a.idl", ALONE_FILE)?;
     let piece = case.piece.max(1);
     let mut input = MemSource::new(alloc, case.input, piece, case.failing_fetches)?;
     let mut out = MemSink::new(alloc, case.room, case.failing_puts)?;
@@ -156,6 +171,13 @@ fn values_are_decoded(rt: HostRuntime) {
             ..DECODED
         },
         PINGED,
+        // The other side of an operation that has one that is not built.
+        Case {
+            words: &["decode", "z.idl", "-", "f", "out", "big"],
+            input: b"\xff\xff\xff\xff\xff\xff\xff\xff",
+            out: b"values 1\nop f out\nreturn = 18446744073709551615\n",
+            ..DECODED
+        },
     ];
     expect_all(&rt, rt.alloc(), &cases);
 }
@@ -330,7 +352,37 @@ fn words_and_files_are_refused(rt: HostRuntime) {
             words: &["decode", "x.idl", "-", "f", "in", "little"],
             status: 6,
             out: b"",
-            notes: "idl x.idl:4:16: NotBuilt\n",
+            notes: "idl x.idl:4:16: Twice f\n",
+            ..DECODED
+        },
+        Case {
+            words: &["decode", "y.idl", "-", "f", "in", "little"],
+            status: 6,
+            out: b"",
+            notes: "idl y.idl:3:8: Rule 30\n",
+            ..DECODED
+        },
+        Case {
+            words: &["decode", "z.idl", "-", "f", "in", "little"],
+            status: 6,
+            out: b"",
+            notes: "idl z.idl: NotBuilt f\n",
+            ..DECODED
+        },
+        Case {
+            words: &["decode", "a.idl", "-", "f", "in", "little"],
+            status: 7,
+            out: b"",
+            notes: "absent: s.idl\n",
+            ..DECODED
+        },
+        // The import fails, or the main file.
+        Case {
+            words: &["decode", "z.idl", "-", "f", "in", "little"],
+            failing_loads: &[2],
+            status: 9,
+            out: b"",
+            notes: "file fault: t.idl\n",
             ..DECODED
         },
         Case {

@@ -1,5 +1,5 @@
 // The top call: what the words ask for is done, and what it comes to is written.
-ghost use Rattle.std.specs.Prelude.{◌≡◌, ◌≢◌, ◌≤◌, ◌⊎◌, codes, ℕ, List, Some, None};
+ghost use Rattle.std.specs.Prelude.{◌≡◌, ◌≢◌, ◌≤◌, ◌⊎◌, codes, ℕ, List, Some, None, false};
 ghost use Rattle.std.specs.Io.KnownBytes.{Appends};
 ghost use Rattle.nd_base.specs.Counts.{Rose};
 ghost use Rattle.nd_base.specs.declared.octets.Order.{Order};
@@ -16,10 +16,12 @@ ghost use Rattle.nd_grammar.specs.Represents.{Represents};
 ghost use Rattle.nd_grammar.specs.Bad.{Bad};
 ghost use Rattle.value_text.specs.declared.fault.TextReason.{TextReason};
 ghost use Rattle.value_text.specs.Reads.{ReadsAs, IsTextFault};
-ghost use Rattle.plain_idl.specs.Answers.{IsPlainFile};
-ghost use Rattle.plain_idl.specs.declared.fault.IdlReason.{IdlReason};
-ghost use Rattle.dceidl.specs.Ready.{IsRefusedFile};
-ghost use Rattle.plain_ndr.specs.Decoding.{inputs_of};
+ghost use Rattle.nd_types.specs.declared.types.Side.{Side};
+ghost use Rattle.nd_types.specs.Numbers.{has_number_roots};
+ghost use Rattle.nd_graph.specs.Fitting.{setting_of};
+ghost use Rattle.dceidl.specs.declared.refusal.IdlReason.{IdlReason};
+ghost use Rattle.dceidl.specs.Idl.{Means, IsIdlFault};
+ghost use Rattle.dceidl.specs.Ready.{IsNamed};
 ghost use Rattle.dceidl.specs.Words.{command, Work};
 ghost use Rattle.dceidl.specs.Asked.{HasChunk};
 ghost use Rattle.dceidl.specs.Outside.{files_seen, source_seen, sink_seen};
@@ -27,7 +29,7 @@ ghost use Rattle.dceidl.specs.Decode.{IsTrailing};
 ghost use Rattle.dceidl.specs.Encode.{home_path};
 ghost use Rattle.dceidl.specs.Lines.{status_of, line_of};
 ghost use Rattle.dceidl.specs.Run.{IsOutcome, IsTaskOutcome, IsDelivered, HasRun, IsTold};
-ghost use Rattle.dceidl.specs.Rows.{IsOneOf, ReadsInput, IsDueAndMissing, IsSomeDue, IsDone, IsRefused, IsSound, IsSoundForFiles, IsAccepted, IsInput, IsHeld, Refuses};
+ghost use Rattle.dceidl.specs.Rows.{IsOneOf, ReadsInput, IsDueAndMissing, IsDueAndTold, IsDone, IsRefused, IsSound, IsSoundForFiles, IsAccepted, IsInput, IsHeld, Refuses};
 
 use crate::lines::{line, status};
 use crate::outcome::Outcome;
@@ -48,9 +50,9 @@ use std::alloc::Global;
 /// | 3 | the input failed |
 /// | 4 | standard output or standard error failed; it takes the place of any other status |
 /// | 5 | memory was wanting |
-/// | 6 | the interface file is refused at a line and column, or it has no operation of the name |
-/// | 7 | the interface file is absent |
-/// | 9 | the interface file was not read |
+/// | 6 | an interface file is refused at a line and column, or the interface has no operation of the name, or its values are not built yet |
+/// | 7 | the interface file, or one that is imported, is absent |
+/// | 9 | the interface file, or one that is imported, was not read |
 ///
 /// No run ends with 8, which is kept.
 pub type Status = u8;
@@ -59,17 +61,17 @@ pub type Status = u8;
 ///
 /// `--help` and `--version` write their text to `out`. `decode` and `encode` load the interface file, and then read the input
 /// to its end or to one octet past what they take: [`STREAM_LIMIT`](nd_base::STREAM_LIMIT) octets of a stream,
-/// [`TEXT_LIMIT`](value_text::TEXT_LIMIT) octets of a text. `decode` writes the values of the operation's [in] parameters
-/// (C706, chapter 14) to `out` as text, and `encode` reads such a text and writes the octets of its values. Each is asked for only
-/// when it is due: no file where the words are neither, and no input before the file is loaded and read and the operation is
-/// found. A file is loaded once.
+/// [`TEXT_LIMIT`](value_text::TEXT_LIMIT) octets of a text. `decode` writes the values of a side of the operation, its [in] parameters or
+/// its [out] parameters and its result (C706, chapter 14), to `out` as text, and `encode` reads such a text and writes the octets of
+/// its values. Each is asked for only when it is due: no file where the words are neither, an import when its declaration is come to,
+/// and no input before the files are loaded and read, the rules are kept, and the operation is found. A file is loaded once.
 ///
 /// Nothing is written before all else is past. A run that is done writes its text to `out` and nothing to `notes`. A run
 /// that is refused writes nothing to `out` and one line to `notes`; where several refusals are due it is the first in the
 /// order of work. Where `out` fails, a prefix of the text may stand there, `notes` is told of it in a line, and the status
 /// is 4; where `notes` fails the status is 4 too.
 ///
-/// Memory is taken for the file and what it declares, for the input with a buffer of 65,536 octets while it is read, for
+/// Memory is taken for the files and what they declare, for the input with a buffer of 65,536 octets while it is read, for
 /// the values, and for the text or the line. All of it is given back before the status is answered.
 pub fn run<F: Files, S: Source, K: Sink, N: Sink>(
     alloc: Global,
@@ -92,94 +94,101 @@ pub fn run<F: Files, S: Source, K: Sink, N: Sink>(
     ensures read { result ≡ 3 → Rose (S.faults input.old) (S.faults input.new) × ReadsInput (command words.now) }
     ensures write { result ≡ 4 → Rose (K.faults out.old) (K.faults out.new) ⊎ Rose (N.faults notes.old) (N.faults notes.new) }
     ensures absent { result ≡ 7 → Rose (F.absences files.old) (F.absences files.new)
-        × IsDueAndMissing (command words.now) (F.held files.old) }
-    ensures file { result ≡ 9 → Rose (F.faults files.old) (F.faults files.new) × IsSomeDue (command words.now) }
+        × IsDueAndMissing (command words.now) (F.held files.old) (sink_seen N.written N.faults notes.old notes.new) }
+    ensures file { result ≡ 9 → Rose (F.faults files.old) (F.faults files.new)
+        × IsDueAndTold (command words.now) (F.held files.old) (sink_seen N.written N.faults notes.old notes.new) }
     ensures quiet { result ≡ 0 → N.written notes.new ≡ N.written notes.old }
     ensures nothing_given { result ≢ 0 → result ≢ 4 → K.written out.new ≡ K.written out.old }
     // What a task comes to: it is done, or it is refused for a cause, under its status and with its line.
-    ensures done { (task : Task) (idl op : List ℕ) → command words.now ≡ Some (Work task idl op) → result ≡ 0
+    ensures done { (task : Task) (idl op : List ℕ) (side : Side) → command words.now ≡ Some (Work task idl op side) → result ≡ 0
         → IsDone (files_seen F.held F.absences F.faults files.old files.new)
         (source_seen S.left S.ended S.faults input.old input.new)
         (sink_seen K.written K.faults out.old out.new)
-        (sink_seen N.written N.faults notes.old notes.new) task idl op }
-    ensures refused { (task : Task) (idl op : List ℕ) → command words.now ≡ Some (Work task idl op)
+        (sink_seen N.written N.faults notes.old notes.new) task idl op side }
+    ensures refused { (task : Task) (idl op : List ℕ) (side : Side) → command words.now ≡ Some (Work task idl op side)
         → result ≢ 0 → result ≢ 4 → result ≢ 5
         → IsRefused (files_seen F.held F.absences F.faults files.old files.new)
         (source_seen S.left S.ended S.faults input.old input.new)
         (sink_seen K.written K.faults out.old out.new)
-        (sink_seen N.written N.faults notes.old notes.new) task idl op result }
+        (sink_seen N.written N.faults notes.old notes.new) task idl op side result }
     // What comes where no load fails and notes do not either: the refusal of the file whose cause holds.
-    ensures bad_idl { (task : Task) (idl op file : List ℕ) (line column : ℕ) (why : IdlReason)
-        → command words.now ≡ Some (Work task idl op)
+    ensures bad_idl { (task : Task) (idl op text : List ℕ) (side : Side) (file : List ℕ) (line column : ℕ) (why : IdlReason)
+        → command words.now ≡ Some (Work task idl op side)
         → IsSoundForFiles (files_seen F.held F.absences F.faults files.old files.new) (sink_seen N.written N.faults notes.old notes.new)
-        → IsHeld (files_seen F.held F.absences F.faults files.old files.new) idl file
-        → IsRefusedFile file line column why
-        → Refuses idl op (sink_seen N.written N.faults notes.old notes.new) result (Refusal.BadIdl line column why) }
-    ensures no_operation { (task : Task) (idl op file : List ℕ) (i : Interface)
-        → command words.now ≡ Some (Work task idl op)
+        → IsHeld (files_seen F.held F.absences F.faults files.old files.new) idl text
+        → IsIdlFault (F.held files.old) idl text (Refusal.BadIdl file line column why)
+        → Refuses idl op (sink_seen N.written N.faults notes.old notes.new) result (Refusal.BadIdl file line column why) }
+    ensures no_operation { (task : Task) (idl op text : List ℕ) (side : Side) (i : Interface)
+        → command words.now ≡ Some (Work task idl op side)
         → IsSoundForFiles (files_seen F.held F.absences F.faults files.old files.new) (sink_seen N.written N.faults notes.old notes.new)
-        → IsHeld (files_seen F.held F.absences F.faults files.old files.new) idl file
-        → IsPlainFile file i → operation_named i.operations op ≡ None
+        → IsHeld (files_seen F.held F.absences F.faults files.old files.new) idl text
+        → Means (F.held files.old) idl text i → operation_named i.operations op ≡ None
         → Refuses idl op (sink_seen N.written N.faults notes.old notes.new) result Refusal.NoOperation }
+    ensures not_built { (task : Task) (idl op text : List ℕ) (side : Side) (i : Interface) (n : ℕ) (o : Operation)
+        → command words.now ≡ Some (Work task idl op side)
+        → IsSoundForFiles (files_seen F.held F.absences F.faults files.old files.new) (sink_seen N.written N.faults notes.old notes.new)
+        → IsHeld (files_seen F.held F.absences F.faults files.old files.new) idl text
+        → Means (F.held files.old) idl text i → IsNamed i op n o → has_number_roots i.types side o ≡ false
+        → Refuses idl op (sink_seen N.written N.faults notes.old notes.new) result Refusal.NotBuilt }
     // Of `decode`, where nothing fails outside: status 0 where the octets represent a graph that conforms, else the refusal whose cause
     // holds. Memory may be wanting in each of these cases.
-    ensures complete { (order : Order) (idl op : List ℕ) (i : Interface) (n : ℕ) (o : Operation) (octets : List ℕ) (g : Graph)
-        → command words.now ≡ Some (Work (Task.Decode order) idl op)
+    ensures complete { (order : Order) (idl op : List ℕ) (side : Side) (i : Interface) (n : ℕ) (o : Operation) (octets : List ℕ) (g : Graph)
+        → command words.now ≡ Some (Work (Task.Decode order) idl op side)
         → IsSound (files_seen F.held F.absences F.faults files.old files.new)
         (source_seen S.left S.ended S.faults input.old input.new)
         (sink_seen K.written K.faults out.old out.new) (sink_seen N.written N.faults notes.old notes.new)
-        → IsAccepted (files_seen F.held F.absences F.faults files.old files.new) idl op i n o
+        → IsAccepted (files_seen F.held F.absences F.faults files.old files.new) idl op side i n o
         → IsInput (source_seen S.left S.ended S.faults input.old input.new) (Task.Decode order) octets
-        → Represents (inputs_of i o) order octets g → Conforms (inputs_of i o) g
+        → Represents (setting_of i o side) order octets g → Conforms (setting_of i o side) g
         → (result ≡ 0) ⊎ (result ≡ 5) }
-    ensures bad { (order : Order) (idl op : List ℕ) (i : Interface) (n : ℕ) (o : Operation) (octets : List ℕ) (place : ℕ) (why : Reason)
-        → command words.now ≡ Some (Work (Task.Decode order) idl op)
+    ensures bad { (order : Order) (idl op : List ℕ) (side : Side) (i : Interface) (n : ℕ) (o : Operation) (octets : List ℕ) (place : ℕ) (why : Reason)
+        → command words.now ≡ Some (Work (Task.Decode order) idl op side)
         → IsSound (files_seen F.held F.absences F.faults files.old files.new)
         (source_seen S.left S.ended S.faults input.old input.new)
         (sink_seen K.written K.faults out.old out.new) (sink_seen N.written N.faults notes.old notes.new)
-        → IsAccepted (files_seen F.held F.absences F.faults files.old files.new) idl op i n o
+        → IsAccepted (files_seen F.held F.absences F.faults files.old files.new) idl op side i n o
         → IsInput (source_seen S.left S.ended S.faults input.old input.new) (Task.Decode order) octets
-        → Bad (inputs_of i o) order octets place why
+        → Bad (setting_of i o side) order octets place why
         → Refuses idl op (sink_seen N.written N.faults notes.old notes.new) result (Refusal.BadOctets place (OctetsFault.Refused why)) }
-    ensures trailing { (order : Order) (idl op : List ℕ) (i : Interface) (n : ℕ) (o : Operation) (octets : List ℕ) (place : ℕ)
-        → command words.now ≡ Some (Work (Task.Decode order) idl op)
+    ensures trailing { (order : Order) (idl op : List ℕ) (side : Side) (i : Interface) (n : ℕ) (o : Operation) (octets : List ℕ) (place : ℕ)
+        → command words.now ≡ Some (Work (Task.Decode order) idl op side)
         → IsSound (files_seen F.held F.absences F.faults files.old files.new)
         (source_seen S.left S.ended S.faults input.old input.new)
         (sink_seen K.written K.faults out.old out.new) (sink_seen N.written N.faults notes.old notes.new)
-        → IsAccepted (files_seen F.held F.absences F.faults files.old files.new) idl op i n o
+        → IsAccepted (files_seen F.held F.absences F.faults files.old files.new) idl op side i n o
         → IsInput (source_seen S.left S.ended S.faults input.old input.new) (Task.Decode order) octets
-        → IsTrailing (inputs_of i o) order octets place
+        → IsTrailing (setting_of i o side) order octets place
         → Refuses idl op (sink_seen N.written N.faults notes.old notes.new) result (Refusal.BadOctets place OctetsFault.Trailing) }
     // Of `encode`, in the same case: status 0 where the text reads as a graph that conforms, else the refusal whose cause holds.
-    ensures encoded { (order : Order) (chunk : ℕ) (idl op : List ℕ) (i : Interface) (n : ℕ) (o : Operation) (text : List ℕ) (g : Graph)
-        → command words.now ≡ Some (Work (Task.Encode order chunk) idl op)
+    ensures encoded { (order : Order) (chunk : ℕ) (idl op : List ℕ) (side : Side) (i : Interface) (n : ℕ) (o : Operation) (text : List ℕ) (g : Graph)
+        → command words.now ≡ Some (Work (Task.Encode order chunk) idl op side)
         → IsSound (files_seen F.held F.absences F.faults files.old files.new)
         (source_seen S.left S.ended S.faults input.old input.new)
         (sink_seen K.written K.faults out.old out.new) (sink_seen N.written N.faults notes.old notes.new)
-        → IsAccepted (files_seen F.held F.absences F.faults files.old files.new) idl op i n o
+        → IsAccepted (files_seen F.held F.absences F.faults files.old files.new) idl op side i n o
         → IsInput (source_seen S.left S.ended S.faults input.old input.new) (Task.Encode order chunk) text
-        → ReadsAs (inputs_of i o) text g → Conforms (inputs_of i o) g
+        → ReadsAs (setting_of i o side) text g → Conforms (setting_of i o side) g
         → (result ≡ 0) ⊎ (result ≡ 5) }
-    ensures bad_text { (order : Order) (chunk : ℕ) (idl op : List ℕ) (i : Interface) (n : ℕ) (o : Operation) (text : List ℕ)
+    ensures bad_text { (order : Order) (chunk : ℕ) (idl op : List ℕ) (side : Side) (i : Interface) (n : ℕ) (o : Operation) (text : List ℕ)
         → (line column : ℕ) (why : TextReason)
-        → command words.now ≡ Some (Work (Task.Encode order chunk) idl op)
+        → command words.now ≡ Some (Work (Task.Encode order chunk) idl op side)
         → IsSound (files_seen F.held F.absences F.faults files.old files.new)
         (source_seen S.left S.ended S.faults input.old input.new)
         (sink_seen K.written K.faults out.old out.new) (sink_seen N.written N.faults notes.old notes.new)
-        → IsAccepted (files_seen F.held F.absences F.faults files.old files.new) idl op i n o
+        → IsAccepted (files_seen F.held F.absences F.faults files.old files.new) idl op side i n o
         → IsInput (source_seen S.left S.ended S.faults input.old input.new) (Task.Encode order chunk) text
-        → IsTextFault (inputs_of i o) text line column why
+        → IsTextFault (setting_of i o side) text line column why
         → Refuses idl op (sink_seen N.written N.faults notes.old notes.new) result (Refusal.BadText line column why) }
-    ensures bad_value { (order : Order) (chunk : ℕ) (idl op : List ℕ) (i : Interface) (n : ℕ) (o : Operation) (text : List ℕ) (g : Graph)
+    ensures bad_value { (order : Order) (chunk : ℕ) (idl op : List ℕ) (side : Side) (i : Interface) (n : ℕ) (o : Operation) (text : List ℕ) (g : Graph)
         → (home : Home) (node : ℕ) (why : MisfitReason)
-        → command words.now ≡ Some (Work (Task.Encode order chunk) idl op)
+        → command words.now ≡ Some (Work (Task.Encode order chunk) idl op side)
         → IsSound (files_seen F.held F.absences F.faults files.old files.new)
         (source_seen S.left S.ended S.faults input.old input.new)
         (sink_seen K.written K.faults out.old out.new) (sink_seen N.written N.faults notes.old notes.new)
-        → IsAccepted (files_seen F.held F.absences F.faults files.old files.new) idl op i n o
+        → IsAccepted (files_seen F.held F.absences F.faults files.old files.new) idl op side i n o
         → IsInput (source_seen S.left S.ended S.faults input.old input.new) (Task.Encode order chunk) text
-        → ReadsAs (inputs_of i o) text g → IsFirstMisfit (inputs_of i o) g (record { home = home; node = node; reason = why })
-        → Refuses idl op (sink_seen N.written N.faults notes.old notes.new) result (Refusal.BadValue (home_path (inputs_of i o) home) why) }
+        → ReadsAs (setting_of i o side) text g → IsFirstMisfit (setting_of i o side) g (record { home = home; node = node; reason = why })
+        → Refuses idl op (sink_seen N.written N.faults notes.old notes.new) result (Refusal.BadValue (home_path (setting_of i o side) home) why) }
 {
     let outcome = answer(alloc, words, files, input);
     deliver(&outcome, out, notes)
@@ -200,8 +209,15 @@ fn answer<F: Files, S: Source>(
         None => refused(alloc, 2, b"words refused\n"),
         Some(Command::Help) => done(alloc, HELP.as_bytes()),
         Some(Command::Version) => done(alloc, VERSION.as_bytes()),
-        Some(Command::Work { task, idl, op }) => {
-            match perform(alloc, task, idl, op, files, input) {
+        Some(
+            Command::Work {
+                task,
+                idl,
+                op,
+                side,
+            },
+        ) => {
+            match perform(alloc, task, idl, op, side, files, input) {
                 Ok(made) => Outcome::Done(made),
                 Err(refusal) => refused_task(alloc, idl, op, &refusal),
             }

@@ -1,12 +1,13 @@
 // The words of a command line, and the command that they are.
 ghost use Rattle.std.specs.Prelude.{◌≡◌, ◌≤◌, [], ◌∷◌, ◌++◌, OnOk, OnErr, IfSome, option_map};
-ghost use Rattle.dceidl.specs.Words.{command, order_of, chunk_of, chunk_by, work as work_of, decoding as decoding_of, encoding as encoding_of};
+ghost use Rattle.dceidl.specs.Words.{command, order_of, side_of, chunk_of, chunk_by, work as work_of, decoding as decoding_of, encoding as encoding_of};
 ghost use Rattle.dceidl.specs.Asked.{asked, HasChunk, AsksChunk};
 
 use crate::CHUNK_LIMIT;
 use crate::task::Task;
 use itoa::Buffer;
 use nd_base::{Memory, Order};
+use nd_types::Side;
 use std::alloc::Global;
 use std::marker::Model;
 
@@ -56,18 +57,24 @@ impl Words {
         match self.items.as_slice() {
             [word] => short_command(word.as_str()),
             [verb, idl, acf, op, side, order] => {
-                if verb.as_str() == "decode" && acf.as_str() == "-" && side.as_str() == "in" {
-                    work(decoding(order.as_str()), idl.as_str(), op.as_str())
+                if verb.as_str() == "decode" && acf.as_str() == "-" {
+                    work(
+                        decoding(order.as_str()),
+                        idl.as_str(),
+                        op.as_str(),
+                        side_named(side.as_str()),
+                    )
                 } else {
                     None
                 }
             }
             [verb, idl, acf, op, side, order, chunk] => {
-                if verb.as_str() == "encode" && acf.as_str() == "-" && side.as_str() == "in" {
+                if verb.as_str() == "encode" && acf.as_str() == "-" {
                     work(
                         encoding(order.as_str(), chunk.as_str()),
                         idl.as_str(),
                         op.as_str(),
+                        side_named(side.as_str()),
                     )
                 } else {
                     None
@@ -85,6 +92,7 @@ pub(crate) enum Command<'a> {
         task: Task,
         idl: &'a str,
         op: &'a str,
+        side: Side,
     },
     Help,
     Version,
@@ -103,15 +111,25 @@ fn short_command(word: &str) -> Option<Command<'_>>
     }
 }
 
-// The command of a task, where there is one.
-fn work<'a>(task: Option<Task>, idl: &'a str, op: &'a str) -> Option<Command<'a>>
+// The command of a task and a side, where there are ones.
+fn work<'a>(
+    task: Option<Task>,
+    idl: &'a str,
+    op: &'a str,
+    side: Option<Side>,
+) -> Option<Command<'a>>
     requires chunk { IfSome task HasChunk }
-    ensures command { option_map asked result ≡ work_of task idl.now op.now }
+    ensures command { option_map asked result ≡ work_of task idl.now op.now side }
     ensures chunk { IfSome result AsksChunk }
 {
-    match task {
-        Some(task) => Some(Command::Work { task, idl, op }),
-        None => None,
+    match (task, side) {
+        (Some(task), Some(side)) => Some(Command::Work {
+            task,
+            idl,
+            op,
+            side,
+        }),
+        _ => None,
     }
 }
 
@@ -144,6 +162,17 @@ fn order_named(word: &str) -> Option<Order>
     match word {
         "little" => Some(Order::Little),
         "big" => Some(Order::Big),
+        _ => None,
+    }
+}
+
+// The side that a word names.
+fn side_named(word: &str) -> Option<Side>
+    ensures { result ≡ side_of word.now }
+{
+    match word {
+        "in" => Some(Side::In),
+        "out" => Some(Side::Out),
         _ => None,
     }
 }

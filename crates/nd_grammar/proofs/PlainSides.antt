@@ -1,5 +1,5 @@
 -- The sides of plain operations are plain.
-use Rattle.std.proofs.Common.{◌≡◌, ℕ, ◌+◌, true, List, [], ◌∷◌, Option, Some, None, refl, sym, subst, map, arith}
+use Rattle.std.proofs.Common.{◌≡◌, ℕ, ◌+◌, true, List, [], ◌∷◌, Option, Some, None, refl, ap, sym, ◌∙◌, subst, map, arith}
 use Rattle.std.specs.Prelude.{All}
 use Rattle.std.specs.List.{slice_get}
 use Rattle.std.proofs.lemmas.List.{length-map}
@@ -14,7 +14,16 @@ use Rattle.nd_types.specs.Kinds.{basic_types}
 use Rattle.nd_types.specs.Plain.{IsPlainParam, IsPlainOperation, IsPlainInterface, plain_roots, is_plain_type}
 use Rattle.nd_types.proofs.PlainLaws.{plain_roots_in, all_head, all_tail}
 use Rattle.nd_grammar.specs.Plain.{ArePlain, IsPlain}
-use Rattle.nd_grammar.specs.Primitives.{param_primitive, primitive_of}
+use Rattle.nd_grammar.specs.Primitives.{param_primitive, primitive_of, root_primitive}
+use Rattle.std.specs.List.{AllByRecursion}
+use Rattle.nd_types.specs.declared.types.Side.{Side}
+use Rattle.nd_types.specs.declared.interface.Interface.{Interface}
+use Rattle.nd_types.specs.Roots.{Root, roots_of}
+use Rattle.nd_types.specs.Walk.{named_root}
+use Rattle.nd_types.specs.Numbers.{has_number_roots, IsPrimitiveRoot}
+use Rattle.nd_types.proofs.NumberRoots.{primitive_roots}
+use Rattle.nd_graph.specs.Fitting.{setting_of}
+use Rattle.nd_graph.proofs.FewRoots.{few_named_roots}
 
 prim_is : (d : Option TypeDef) → is_plain_type d ≡ true → d ≡ Some (def.Prim (primitive_of d))
 prim_is None e = cc
@@ -45,3 +54,22 @@ pub plain_side : (types : Table) (operations : List Operation) (n : ℕ) (o : Op
 plain_side types operations n o h there =
     subst (λ t. IsPlain (record { table = t; op = o; side = side.In; given = None }) (map (param_primitive t) o.params)) (sym h.basic)
     (plain_basic o (plain_operation types operations n o h there))
+
+-- ## Sides of legal interfaces whose roots are primitives
+
+numbers_are : (table : Table) (rs : List Root) → AllByRecursion (IsPrimitiveRoot table) rs → ArePlain table rs (map (root_primitive table) rs)
+numbers_are table [] h = tt
+numbers_are table (r ∷ rs) h =
+    let is : root_primitive table r ≡ h.0.prim = ap primitive_of h.0.type in
+    (h.0.no_pipe, h.0.no_attributes, h.0.type ∙ ap (λ p. Some (def.Prim p)) (sym is), numbers_are table rs h.1)
+
+-- a side whose roots are of types 0 to 10 is plain
+pub number_side_plain : (i : Interface) (n : ℕ) (o : Operation) (s : Side) → has_number_roots i.types s o ≡ true → slice_get i.operations n ≡ Some o
+    → IsPlain (setting_of i o s) (map (root_primitive i.types) (roots_of i.types s o))
+number_side_plain i n o s numbers there = record {
+  plain = numbers_are i.types (roots_of i.types s o) (primitive_roots i.types i.operations n o i.legal there s numbers);
+  few = omega (
+    arith, few_named_roots i.types i.operations n s o i.legal.few_params there, length-map (roots_of i.types s o) (named_root o),
+    length-map (roots_of i.types s o) (root_primitive i.types),
+  );
+}

@@ -11,10 +11,14 @@ use Rattle.nd_types.specs.declared.types.Operation.{Operation}
 use Rattle.nd_types.specs.declared.types.Side.{Side}
 use Rattle.nd_types.specs.declared.types.Side.TheVariants as side
 use Rattle.nd_types.specs.Table.{Table, type_at}
-use Rattle.nd_types.specs.Kinds.{basic_types, is_basic}
 use Rattle.nd_types.specs.Roots.{Root, roots_of, params_from}
-use Rattle.nd_types.specs.Plain.{is_plain_type, IsPlainParam, IsPlainOperation, IsPlainInterface, plain_roots}
-use Rattle.nd_types.proofs.PlainLaws.{all_head, all_tail, plain_roots_in}
+use Rattle.nd_types.specs.declared.types.Primitive.{Primitive}
+use Rattle.nd_types.specs.Numbers.{has_number_roots, IsPrimitiveRoot}
+use Rattle.std.proofs.lemmas.Option.{same_Some}
+use Rattle.nd_types.specs.Walk.{NamedRoot, named_root, named_roots}
+use Rattle.nd_types.proofs.LegalLaws.{passes_at}
+use Rattle.nd_types.proofs.NumberRoots.{primitive_roots}
+use Rattle.nd_graph.specs.Simple.{is_simple}
 use Rattle.nd_graph.specs.declared.value.Graph.{Graph}
 use Rattle.nd_graph.specs.declared.item.Home.{Home}
 use Rattle.nd_graph.specs.declared.item.Home.TheVariants as home
@@ -24,7 +28,7 @@ use Rattle.nd_graph.specs.Tree.{Tree, Trees, node, none, more, node_count, Label
 use Rattle.nd_graph.specs.Agreement.{Agreement}
 use Rattle.nd_graph.specs.Setting.{Setting, root_list, cell_home, Among}
 use Rattle.nd_graph.specs.Nodes.{TypedNode, child_types, child_agreements, first_agreements, rest_agreements, nodes_of, governed_nodes, home_nodes}
-use Rattle.nd_graph.specs.Deferral.{pointer_by, pointer, home_pointers}
+use Rattle.nd_graph.specs.Deferral.{Pending, pointer_by, pointer, home_pointers}
 use Rattle.nd_graph.specs.Variables.{root_agreements}
 use Rattle.nd_graph.specs.Homes.{HomeNode, in_home, root_nodes, cell_nodes, all_nodes, all_pointers, root_pointers, cell_pointers}
 use Rattle.nd_graph.specs.Misfit.{misfit_of, has_shape, has_machine_values}
@@ -33,22 +37,6 @@ use Rattle.nd_graph.specs.FirstMisfit.{MisfitAt, first_local, first_shared, IsFi
 use Rattle.nd_graph.specs.Fitting.{setting_of}
 use Rattle.nd_graph.proofs.NodeFacts.{fit_node}
 use Rattle.nd_graph.proofs.Misfits.{all_left, all_both, all_weaker, Without, first-none, none-local, passed_conforms}
-
--- a primitive, a context handle, or nothing
-abbrev pub is_simple : Option TypeDef → Bool
-is_simple None = true
-is_simple (Some d) = is_basic d
-
-simple_get : (ds : List TypeDef) (t : ℕ) → list_all is_basic ds ≡ true → is_simple (slice_get ds t) ≡ true
-simple_get [] t e = refl
-simple_get (d ∷ ds) zero e = (and_parts (is_basic d) (list_all is_basic ds) e).0
-simple_get (d ∷ ds) (suc t) e = simple_get ds t (and_parts (is_basic d) (list_all is_basic ds) e).1
-
-abbrev pub IsSimple : Table → Type 0
-IsSimple table = (t : ℕ) → is_simple (type_at table t) ≡ true
-
-pub basic_simple : (table : Table) → table ≡ basic_types → IsSimple table
-basic_simple table e t = simple_get table t (ap (list_all is_basic) e)
 
 no_pointer_by : (d : Option TypeDef) → is_simple d ≡ true → (b : Bool) (c : Option ℕ) (h : Home) (n : ℕ) (ags : List Agreement) → pointer_by d b c h n ags ≡ []
 no_pointer_by (Some (def.Pointer k to)) e b c h n ags = cc
@@ -61,10 +49,6 @@ no_children (Some (def.Union tag encapsulated arms default)) e l ks = cc
 no_children (Some (def.Pipe elem)) e l ks = cc
 no_children _ e l ks = refl
 
-flat_none : {X Y : Type 0} (f : X → List Y) → ((x : X) → f x ≡ []) → (xs : List X) → flat_map f xs ≡ []
-flat_none f h [] = refl
-flat_none f h (x ∷ xs) = ap₂ (λ a b. a ++ b) (h x) (flat_none f h xs)
-
 none_typed : (table : Table) (ags : List (List Agreement)) (n : ℕ) (ts : Trees) → nodes_of table [] ags n ts ≡ []
 none_typed table ags n none = refl
 none_typed table ags n (more t ts) = refl
@@ -73,91 +57,80 @@ none_typed table ags n (more t ts) = refl
 abbrev Ungoverned : HomeNode → Type 0
 Ungoverned x = x.typed.agreements ≡ []
 
-abbrev Free : List (List Agreement) → Type 0
-Free ags = AllByRecursion (λ (a : List Agreement). a ≡ []) ags
+-- a node of a simple type stands alone in its home
+module _ (table : Table) (t : ℕ) (simple : is_simple (type_at table t) ≡ true) where
+  no_kids : (n : ℕ) (l : Label) (ks : Trees) (ags : List (List Agreement)) → nodes_of table (child_types (type_at table t) l ks) ags n ks ≡ []
+  no_kids n l ks ags = ap (λ types. nodes_of table types ags n ks) (no_children (type_at table t) simple l ks) ∙ none_typed table ags n ks
 
-free_first : (ags : List (List Agreement)) → Free ags → first_agreements ags ≡ []
-free_first [] h = refl
-free_first (a ∷ ags) h = h.0
+  abbrev lone : List (List Agreement) → Label → Trees → TypedNode
+  lone ags l ks = record { node = 0; of = t; agreements = first_agreements ags; label = l; kids = ks }
 
-free_rest : (ags : List (List Agreement)) → Free ags → Free (rest_agreements ags)
-free_rest [] h = tt
-free_rest (a ∷ ags) h = h.1
+  alone : (ags : List (List Agreement)) (l : Label) (ks : Trees) → nodes_of table (t ∷ []) ags 0 (more (node l ks) none) ≡ lone ags l ks ∷ []
+  alone ags l ks = ap (λ (xs : List TypedNode). lone ags l ks ∷ (xs ++ [])) (no_kids 1 l ks (child_agreements (type_at table t) ks))
 
-all_mapped : {X Y : Type 0} (P : Y → Type 0) (f : X → Y) (xs : List X) → AllByRecursion (λ x. P (f x)) xs → AllByRecursion P (map f xs)
-all_mapped P f [] h = tt
-all_mapped P f (x ∷ xs) h = (h.0, all_mapped P f xs h.1)
+  no_pointers : (h : Home) (v : Tree) → home_pointers table h t v ≡ []
+  no_pointers h (node l ks) =
+      ap (flat_map (pointer table h)) (alone [] l ks)
+      ∙ ap (λ (xs : List Pending). xs ++ []) (no_pointer_by (type_at table t) simple _ _ h 0 [])
 
-module _ (table : Table) (simple : IsSimple table) where
-  no_pointers : (h : Home) (t : ℕ) (v : Tree) → home_pointers table h t v ≡ []
-  no_pointers h t v =
-      flat_none (pointer table h) (λ x. no_pointer_by (type_at table x.of) (simple x.of) _ _ h x.node x.agreements) (home_nodes table t v)
+  ungoverned : (h : Home) (ags : List (List Agreement)) (v : Tree) → first_agreements ags ≡ []
+      → AllByRecursion Ungoverned (map (in_home h) (nodes_of table (t ∷ []) ags 0 (more v none)))
+  ungoverned h ags (node l ks) e =
+      subst (λ (xs : List TypedNode). AllByRecursion Ungoverned (map (in_home h) xs)) (sym (alone ags l ks)) (e, tt)
 
-  no_root_pointers : (i : ℕ) (rs : List Root) (vs : List Tree) → root_pointers table i rs vs ≡ []
-  no_root_pointers i [] vs = refl
-  no_root_pointers i (r ∷ rs) [] = refl
-  no_root_pointers i (r ∷ rs) (v ∷ vs) = ap₂ (λ a b. a ++ b) (no_pointers (home.Root i) r.of v) (no_root_pointers (i + 1) rs vs)
+-- of a primitive
+prim_simple : (table : Table) (r : Root) → IsPrimitiveRoot table r → is_simple (type_at table r.of) ≡ true
+prim_simple table r h = ap is_simple h.type
 
-  no_cell_pointers : (c : ℕ) (xs : List Referent) → cell_pointers table c xs ≡ []
-  no_cell_pointers c [] = refl
-  no_cell_pointers c (x ∷ xs) = ap₂ (λ a b. a ++ b) (no_pointers (cell_home c) x.of x.val) (no_cell_pointers (c + 1) xs)
+no_root_pointers : (table : Table) (i : ℕ) (rs : List Root) (vs : List Tree) → AllByRecursion (IsPrimitiveRoot table) rs → root_pointers table i rs vs ≡ []
+no_root_pointers table i [] vs h = refl
+no_root_pointers table i (r ∷ rs) [] h = refl
+no_root_pointers table i (r ∷ rs) (v ∷ vs) h =
+    ap₂ (λ a b. a ++ b) (no_pointers table r.of (prim_simple table r h.0) (home.Root i) v) (no_root_pointers table (i + 1) rs vs h.1)
 
-  no_kids : (t n : ℕ) (l : Label) (ks : Trees) (ags : List (List Agreement)) → nodes_of table (child_types (type_at table t) l ks) ags n ks ≡ []
-  no_kids t n l ks ags = ap (λ types. nodes_of table types ags n ks) (no_children (type_at table t) (simple t) l ks) ∙ none_typed table ags n ks
+abbrev IsSimpleCell : Table → Referent → Type 0
+IsSimpleCell table x = is_simple (type_at table x.of) ≡ true
 
-  ungoverned : (types : List ℕ) (ags : List (List Agreement)) (n : ℕ) (ts : Trees) → Free ags
-      → AllByRecursion (λ (x : TypedNode). x.agreements ≡ []) (nodes_of table types ags n ts)
-  ungoverned types ags n none h = tt
-  ungoverned [] ags n (more t ts) h = tt
-  ungoverned (t ∷ types) ags n (more (node l ks) ts) h = (
-    free_first ags h,
-    subst (λ xs. AllByRecursion (λ (x : TypedNode). x.agreements ≡ []) (xs ++ nodes_of table types (rest_agreements ags) (n + 1 + node_count ks) ts))
-        (sym (no_kids t (n + 1) l ks (child_agreements (type_at table t) ks)))
-        (ungoverned types (rest_agreements ags) (n + 1 + node_count ks) ts (free_rest ags h)),
-  )
+no_cell_pointers : (table : Table) (c : ℕ) (xs : List Referent) → AllByRecursion (IsSimpleCell table) xs → cell_pointers table c xs ≡ []
+no_cell_pointers table c [] h = refl
+no_cell_pointers table c (x ∷ xs) h = ap₂ (λ a b. a ++ b) (no_pointers table x.of h.0 (cell_home c) x.val) (no_cell_pointers table (c + 1) xs h.1)
 
--- a root of a plain operation
-abbrev pub IsPlainRoot : Table → Root → Type 0
-IsPlainRoot table r = (is_plain_type (type_at table r.of) ≡ true) × (r.vars ≡ [])
-
-value_of_type : (d : Option TypeDef) → is_plain_type d ≡ true → (l : Label) (ks : Trees) → has_shape d l ks ≡ true → has_machine_values l ≡ true
-value_of_type (Some (def.Prim p)) e (tree.Num z) ks h = refl
-value_of_type (Some (def.Prim p)) e l ks h = cc
-value_of_type _ e l ks h = cc
+value_of_type : (d : Option TypeDef) (p : Primitive) → d ≡ Some (def.Prim p) → (l : Label) (ks : Trees) → has_shape d l ks ≡ true → has_machine_values l ≡ true
+value_of_type d p e l ks h = by l (ap (λ x. has_shape x l ks) (sym e) ∙ h) where
+  by : (m : Label) → has_shape (Some (def.Prim p)) m ks ≡ true → has_machine_values m ≡ true
+  by (tree.Num z) h = refl
+  by m h = cc
 
 list_all_from : {X : Type 0} (f : X → Bool) (xs : List X) → AllByRecursion (λ x. f x ≡ true) xs → list_all f xs ≡ true
 list_all_from f [] h = refl
 list_all_from f (x ∷ xs) h = and_from (f x) (list_all f xs) h.0 (list_all_from f xs h.1)
 
-module _ (w : Setting) (g : Graph) (simple : IsSimple w.table) (plain : AllByRecursion (IsPlainRoot w.table) (root_list w)) where
+module _ (w : Setting) (g : Graph) (simple : AllByRecursion (IsSimpleCell w.table) g.cells) (plain : AllByRecursion (IsPrimitiveRoot w.table) (root_list w)) where
   pub no_pointers_at_all : all_pointers w g ≡ []
   no_pointers_at_all =
-      ap₂ (λ a b. a ++ b) (no_root_pointers w.table simple 0 (root_list w) g.roots) (no_cell_pointers w.table simple 1 g.cells)
+      ap₂ (λ a b. a ++ b) (no_root_pointers w.table 0 (root_list w) g.roots plain) (no_cell_pointers w.table 1 g.cells simple)
 
   pub no_reach : {c : ℕ} → Reached w g c → ⊥
-  no_reach (by_root p m e) = subst (λ xs. Among xs p) (no_root_pointers w.table simple 0 (root_list w) g.roots) m
+  no_reach (by_root p m e) = subst (λ xs. Among xs p) (no_root_pointers w.table 0 (root_list w) g.roots plain) m
   no_reach (by_cell x p r q m e) = no_reach r
 
   -- the first cell is not reached
   pub first_unreached : 0 < length g.cells → IsFirstUnreached w g 1
   first_unreached some = record { is_cell = (omega arith, omega (arith, some)); unreached = λ r. no_reach r; earlier = λ d low high. absurd (omega (arith, low, high)) }
 
-  roots_ungoverned : (i : ℕ) (rs : List Root) (vs : List Tree) → AllByRecursion (IsPlainRoot w.table) rs → AllByRecursion Ungoverned (root_nodes w g i rs vs)
+  roots_ungoverned : (i : ℕ) (rs : List Root) (vs : List Tree) → AllByRecursion (IsPrimitiveRoot w.table) rs → AllByRecursion Ungoverned (root_nodes w g i rs vs)
   roots_ungoverned i [] vs h = tt
   roots_ungoverned i (r ∷ rs) [] h = tt
   roots_ungoverned i (r ∷ rs) (v ∷ vs) h =
-      let free : root_agreements w g r.vars ≡ [] = ap (root_agreements w g) h.0.1 in
       all_both Ungoverned (map (in_home (home.Root i)) (governed_nodes w.table r.of (root_agreements w g r.vars) v)) (root_nodes w g (i + 1) rs vs)
-      (all_mapped Ungoverned (in_home (home.Root i)) (governed_nodes w.table r.of (root_agreements w g r.vars) v)
-      (ungoverned w.table simple (r.of ∷ []) (root_agreements w g r.vars ∷ []) 0 (more v none) (free, tt)))
+      (ungoverned w.table r.of (prim_simple w.table r h.0) (home.Root i) (root_agreements w g r.vars ∷ []) v (ap (root_agreements w g) h.0.no_attributes))
       (roots_ungoverned (i + 1) rs vs h.1)
 
-  cells_ungoverned : (c : ℕ) (xs : List Referent) → AllByRecursion Ungoverned (cell_nodes w.table c xs)
-  cells_ungoverned c [] = tt
-  cells_ungoverned c (x ∷ xs) =
+  cells_ungoverned : (c : ℕ) (xs : List Referent) → AllByRecursion (IsSimpleCell w.table) xs → AllByRecursion Ungoverned (cell_nodes w.table c xs)
+  cells_ungoverned c [] h = tt
+  cells_ungoverned c (x ∷ xs) h =
       all_both Ungoverned (map (in_home (cell_home c)) (home_nodes w.table x.of x.val)) (cell_nodes w.table (c + 1) xs)
-      (all_mapped Ungoverned (in_home (cell_home c)) (home_nodes w.table x.of x.val) (ungoverned w.table simple (x.of ∷ []) [] 0 (more x.val none) tt))
-      (cells_ungoverned (c + 1) xs)
+      (ungoverned w.table x.of h.0 (cell_home c) [] x.val refl) (cells_ungoverned (c + 1) xs h.1)
 
   abbrev agreement_test : TypedNode → Option MisfitReason
   agreement_test x = disagreement_of (subject g x) x.agreements
@@ -173,7 +146,7 @@ module _ (w : Setting) (g : Graph) (simple : IsSimple w.table) (plain : AllByRec
       (all_weaker Ungoverned (Without agreement_test)
       (λ x e. ap (disagreement_of (subject g x.typed)) e ∙ no_agreements (subject g x.typed)) (all_nodes w g)
       (all_both Ungoverned (root_nodes w g 0 (root_list w) g.roots) (cell_nodes w.table 1 g.cells)
-      (roots_ungoverned 0 (root_list w) g.roots plain) (cells_ungoverned 1 g.cells)))
+      (roots_ungoverned 0 (root_list w) g.roots plain) (cells_ungoverned 1 g.cells simple)))
 
   abbrev HasValue : HomeNode → Type 0
   HasValue x = has_machine_values x.typed.label ≡ true
@@ -181,7 +154,7 @@ module _ (w : Setting) (g : Graph) (simple : IsSimple w.table) (plain : AllByRec
   abbrev IsFine : HomeNode → Type 0
   IsFine x = misfit_of w.table g x.typed ≡ None
 
-  root_values : (i : ℕ) (rs : List Root) (vs : List Tree) → AllByRecursion (IsPlainRoot w.table) rs
+  root_values : (i : ℕ) (rs : List Root) (vs : List Tree) → AllByRecursion (IsPrimitiveRoot w.table) rs
       → AllByRecursion IsFine (root_nodes w g i rs vs) → AllByRecursion HasValue (root_nodes w g i rs vs)
   root_values i [] vs h a = tt
   root_values i (r ∷ rs) [] h a = tt
@@ -190,9 +163,9 @@ module _ (w : Setting) (g : Graph) (simple : IsSimple w.table) (plain : AllByRec
       let kids : List TypedNode = nodes_of w.table (child_types (type_at w.table r.of) l ks) (child_agreements (type_at w.table r.of) ks) 1 ks in
       let rest : List HomeNode = root_nodes w g (i + 1) rs vs in
       let alone : map (in_home (home.Root i)) (kids ++ []) ≡ [] =
-      ap (λ xs. map (in_home (home.Root i)) (xs ++ [])) (no_kids w.table simple r.of 1 l ks (child_agreements (type_at w.table r.of) ks)) in
+      ap (λ xs. map (in_home (home.Root i)) (xs ++ [])) (no_kids w.table r.of (prim_simple w.table r h.0) 1 l ks (child_agreements (type_at w.table r.of) ks)) in
       let later : AllByRecursion IsFine rest = subst (λ xs. AllByRecursion IsFine (xs ++ rest)) alone a.1 in (
-        value_of_type (type_at w.table r.of) h.0.0 l ks (fit_node w.table g (record { node = 0; of = r.of; agreements = ags; label = l; kids = ks }) a.0).shape,
+        value_of_type (type_at w.table r.of) h.0.prim h.0.type l ks (fit_node w.table g (record { node = 0; of = r.of; agreements = ags; label = l; kids = ks }) a.0).shape,
         subst (λ xs. AllByRecursion HasValue (xs ++ rest)) (sym alone) (root_values (i + 1) rs vs h.1 later),
       )
 
@@ -234,28 +207,32 @@ module _ (w : Setting) (g : Graph) (simple : IsSimple w.table) (plain : AllByRec
       by_local (Some m) e = absurd (h m (is_local m e))
       by_local None e = by_cells e g.cells refl
 
--- the roots of a plain operation
-plain_root_list : (i : ℕ) (ps : List Param) → All IsPlainParam ps → AllByRecursion (IsPlainRoot basic_types) (plain_roots i ps)
-plain_root_list i [] h = tt
-plain_root_list i (p ∷ ps) h = (((all_head IsPlainParam p ps h).integer, refl), plain_root_list (i + 1) ps (all_tail IsPlainParam p ps h))
+-- ## Sides of legal interfaces whose roots are numbers
 
-no_out : (i : ℕ) (ps : List Param) → All IsPlainParam ps → params_from basic_types side.Out i ps ≡ []
-no_out i [] h = refl
-no_out i (p ∷ ps) h = rw (all_head IsPlainParam p ps h).way (no_out (i + 1) ps (all_tail IsPlainParam p ps h))
+pub number_side : (i : Interface) (op : ℕ) (o : Operation) (s : Side) → has_number_roots i.types s o ≡ true → slice_get i.operations op ≡ Some o
+    → AllByRecursion (IsPrimitiveRoot i.types) (root_list (setting_of i o s))
+number_side i op o s e there = primitive_roots i.types i.operations op o i.legal there s e
 
-side_roots : (s : Side) (o : Operation) → IsPlainOperation o → AllByRecursion (IsPlainRoot basic_types) (roots_of basic_types s o)
-unfolding roots_of
-side_roots side.In o h = subst (AllByRecursion (IsPlainRoot basic_types)) (sym (plain_roots_in o h)) (plain_root_list 0 o.params h.params)
-side_roots side.Out o h = rw (no_out 0 o.params h.params, h.no_result) tt
+pub simple_cells : (table : Table) (xs : List Referent) → list_all (λ (c : Referent). is_simple (type_at table c.of)) xs ≡ true → AllByRecursion (IsSimpleCell table) xs
+simple_cells table [] e = tt
+simple_cells table (x ∷ xs) e =
+    let parts = and_parts (is_simple (type_at table x.of)) (list_all (λ (c : Referent). is_simple (type_at table c.of)) xs) e in
+    (parts.0, simple_cells table xs parts.1)
 
-all_get : {X : Type 0} (P : X → Type 0) (xs : List X) (i : ℕ) (x : X) → All P xs → slice_get xs i ≡ Some x → P x
-all_get P [] i x h e = cc
-all_get P (y ∷ ys) zero x h e = let s : y ≡ x = cc in subst P s (all_head P y ys h)
-all_get P (y ∷ ys) (suc i) x h e = all_get P ys i x (all_tail P y ys h) e
+-- the type of a root by its place
+named_simple : (table : Table) (o : Operation) (rs : List Root) (k : ℕ) (x : NamedRoot) → AllByRecursion (IsPrimitiveRoot table) rs
+    → slice_get (map (named_root o) rs) k ≡ Some x → is_simple (type_at table x.of) ≡ true
+named_simple table o [] k x h e = cc
+named_simple table o (r ∷ rs) zero x h e =
+    let same : named_root o r ≡ x = same_Some _ _ e in
+    ap (λ (y : NamedRoot). is_simple (type_at table y.of)) (sym same) ∙ prim_simple table r h.0
+named_simple table o (r ∷ rs) (suc k) x h e = named_simple table o rs k x h.1 e
 
-pub plain_side : (i : Interface) (op : ℕ) (o : Operation) (s : Side) → IsPlainInterface i.types i.operations → slice_get i.operations op ≡ Some o
-    → IsSimple i.types × AllByRecursion (IsPlainRoot i.types) (root_list (setting_of i o s))
-plain_side i op o s h e = (
-  basic_simple i.types h.basic,
-  subst (λ table. AllByRecursion (IsPlainRoot table) (roots_of table s o)) (sym h.basic) (side_roots s o (all_get IsPlainOperation i.operations op o h.plain e)),
-)
+pub root_simple : (i : Interface) (op : ℕ) (o : Operation) (s : Side) (k : ℕ) (x : NamedRoot) → has_number_roots i.types s o ≡ true
+    → slice_get i.operations op ≡ Some o → slice_get (named_roots i.types s o) k ≡ Some x → is_simple (type_at i.types x.of) ≡ true
+root_simple i op o s k x e there at = named_simple i.types o (roots_of i.types s o) k x (number_side i op o s e there) at
+
+-- the type of a cell by its place
+pub cell_simple : (table : Table) (xs : List Referent) (k : ℕ) (x : Referent) → list_all (λ (c : Referent). is_simple (type_at table c.of)) xs ≡ true
+    → slice_get xs k ≡ Some x → is_simple (type_at table x.of) ≡ true
+cell_simple table xs k x e at = passes_at (λ (c : Referent). is_simple (type_at table c.of)) xs k x e at

@@ -16,3 +16,4 @@ pub mod Same
 pub mod Canon
 pub mod Fitting
 pub mod WorkedFit
+pub mod Simple

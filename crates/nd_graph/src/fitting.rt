@@ -1,7 +1,8 @@
 // Whether a graph conforms.
-ghost use Rattle.std.specs.Prelude.{◌≡◌, ◌<◌, ◌^◌, [], length, slice_get, Some, None, IfOk, IfErr, OnOk};
+ghost use Rattle.std.specs.Prelude.{◌≡◌, ◌<◌, ◌^◌, [], length, slice_get, Some, None, true, IfOk, IfErr, OnOk};
 ghost use Rattle.nd_types.specs.declared.types.Operation.{Operation};
-ghost use Rattle.nd_types.specs.Plain.{IsPlainInterface};
+ghost use Rattle.nd_types.specs.Numbers.{IsNumberSide};
+ghost use Rattle.nd_graph.specs.Simple.{has_simple_cells};
 ghost use Rattle.nd_graph.specs.Homes.{all_pointers};
 ghost use Rattle.nd_graph.specs.Conforms.{Conforms, HasFewNodes};
 ghost use Rattle.nd_graph.specs.Fitting.{setting_of};
@@ -15,12 +16,11 @@ use std::alloc::Global;
 
 /// Takes over a graph that conforms to a side of an operation, or hands it back unchanged with its first misfit.
 ///
-/// The interface must be plain, `op` the number of one of its operations, and the graph must have fewer than 2^32 cells and in
-/// each home fewer than 2^32 nodes. Four passes go over the graph in this order, each over the roots and then the cells, and in
+/// `op` must be the number of an operation, each root of the side a primitive, of a type from 0 to 10, and each cell of the graph of a type from 0
+/// to 11 or of none of the table. There must be fewer than 2^32 cells, and in each home fewer than 2^32 nodes. Four passes go over the graph in this order, each over the roots and then the cells, and in
 /// each home over its nodes in order: nodes that have a misfit by themselves, cells that are shared, cells that are not reached,
 /// attributes that disagree (C706, 4.2.18 to 4.2.20). The first failing place of the first failing pass is answered. A wrong number
-/// of roots is a Shape at the first that is missing or too many, behind the misfits of the roots that are there. For a plain interface
-/// it takes no memory.
+/// of roots is a Shape at the first that is missing or too many, behind the misfits of the roots that are there. It takes no memory.
 pub fn fit(
     alloc: Global,
     interface: &Interface,
@@ -31,7 +31,8 @@ pub fn fit(
     requires known { op < length interface.now.operations }
     requires few_cells { length graph.cells < 2 ^ 32 }
     requires few_nodes { HasFewNodes graph }
-    requires plain { IsPlainInterface interface.now.types interface.now.operations }
+    requires numbers { IsNumberSide interface.now.types interface.now.operations op side }
+    requires simple { has_simple_cells interface.now.types graph ≡ true }
     ensures fits { IfOk result (λ f. f ≡ record { graph = graph; op = op; side = side; interface = interface.now }) }
     ensures misfit { IfErr result (λ e. (o : Operation) → slice_get interface.now.operations op ≡ Some o
         → IsMisfit (setting_of interface.now o side) graph e.0) }
@@ -56,7 +57,8 @@ fn passes(
     requires known { op < length interface.now.operations }
     requires few_cells { length graph.now.cells < 2 ^ 32 }
     requires few_nodes { HasFewNodes graph.now }
-    requires plain { IsPlainInterface interface.now.types interface.now.operations }
+    requires numbers { IsNumberSide interface.now.types interface.now.operations op side }
+    requires simple { has_simple_cells interface.now.types graph.now ≡ true }
     ensures conforms { OnOk result ((o : Operation) → slice_get interface.now.operations op ≡ Some o
         → Conforms (setting_of interface.now o side) graph.now) }
     ensures misfit { IfErr result (λ e. (o : Operation) → slice_get interface.now.operations op ≡ Some o
@@ -68,8 +70,8 @@ fn passes(
     disagreeing(interface, op, side, graph)
 }
 
-// The second pass: the first pointer that names a cell which an earlier pointer names, unless both are full. A plain interface has
-// no pointers.
+// The second pass: the first pointer that names a cell which an earlier pointer names, unless both are full. There are no
+// pointers.
 fn shared(
     _alloc: Global,
     interface: &Interface,
@@ -77,7 +79,8 @@ fn shared(
     side: Side,
     graph: &Graph,
 ) -> Result<(), Misfit>
-    requires plain { IsPlainInterface interface.now.types interface.now.operations }
+    requires numbers { IsNumberSide interface.now.types interface.now.operations op side }
+    requires simple { has_simple_cells interface.now.types graph.now ≡ true }
     ensures none { OnOk result ((o : Operation) → slice_get interface.now.operations op ≡ Some o
         → first_shared [] (all_pointers (setting_of interface.now o side) graph.now) ≡ None) }
     ensures first { IfErr result (λ e. (o : Operation) → slice_get interface.now.operations op ≡ Some o
@@ -94,7 +97,8 @@ fn unreached(
     side: Side,
     graph: &Graph,
 ) -> Result<(), Misfit>
-    requires plain { IsPlainInterface interface.now.types interface.now.operations }
+    requires numbers { IsNumberSide interface.now.types interface.now.operations op side }
+    requires simple { has_simple_cells interface.now.types graph.now ≡ true }
     ensures none { OnOk result ((o : Operation) → slice_get interface.now.operations op ≡ Some o
         → AreReached (setting_of interface.now o side) graph.now) }
     ensures first { IfErr result (λ e. (o : Operation) → slice_get interface.now.operations op ≡ Some o
@@ -110,9 +114,10 @@ fn unreached(
     }
 }
 
-// The fourth pass: the first node whose attributes state other numbers than are there. A plain interface has no attributes.
+// The fourth pass: the first node whose attributes state other numbers than are there. Primitives have no attributes.
 fn disagreeing(interface: &Interface, op: u32, side: Side, graph: &Graph) -> Result<(), Misfit>
-    requires plain { IsPlainInterface interface.now.types interface.now.operations }
+    requires numbers { IsNumberSide interface.now.types interface.now.operations op side }
+    requires simple { has_simple_cells interface.now.types graph.now ≡ true }
     ensures none { OnOk result ((o : Operation) → slice_get interface.now.operations op ≡ Some o
         → first_disagreeing (setting_of interface.now o side) graph.now ≡ None) }
     ensures first { IfErr result (λ e. (o : Operation) → slice_get interface.now.operations op ≡ Some o

@@ -4,7 +4,8 @@ ghost use Rattle.std.specs.List.{list_all};
 ghost use Rattle.nd_types.specs.declared.interface.Interface.{Interface};
 ghost use Rattle.nd_types.specs.declared.types.Operation.{Operation};
 ghost use Rattle.nd_types.specs.declared.types.Side.{Side};
-ghost use Rattle.nd_types.specs.Plain.{IsPlainInterface};
+ghost use Rattle.nd_types.specs.Numbers.{has_number_roots};
+ghost use Rattle.nd_graph.specs.Simple.{has_simple_cells};
 ghost use Rattle.nd_graph.specs.declared.value.Graph.{Graph};
 ghost use Rattle.nd_graph.specs.Setting.{Setting};
 ghost use Rattle.nd_graph.specs.Homes.{all_nodes, all_pointers};
@@ -31,9 +32,9 @@ pub fn passed_conforms()
         → Conforms w g }
 {}
 
-/// A graph of an operation of a plain interface, with few cells and few nodes, conforms where it has no first misfit.
-pub fn plain_exact()
-    ensures { (i : Interface) (op : ℕ) (o : Operation) (s : Side) (g : Graph) → IsPlainInterface i.types i.operations
+/// A graph of a side whose roots are primitives, with few cells, each of a simple type, and few nodes, conforms where it has no first misfit.
+pub fn numbers_exact()
+    ensures { (i : Interface) (op : ℕ) (o : Operation) (s : Side) (g : Graph) → has_number_roots i.types s o ≡ true → has_simple_cells i.types g ≡ true
         → slice_get i.operations op ≡ Some o → ((m : MisfitAt) → ¬ IsFirstMisfit (setting_of i o s) g m)
         → length g.cells < 2 ^ 32 → HasFewNodes g → Conforms (setting_of i o s) g }
 {}

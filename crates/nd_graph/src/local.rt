@@ -1,11 +1,11 @@
 // The first pass: misfits of nodes by themselves, and the number of roots.
-ghost use Rattle.std.specs.Prelude.{◌≡◌, ℕ, ℤ, ◌<◌, ◌^◌, [], ◌∷◌, length, slice_get, Some, None, OnOk, IfErr};
+ghost use Rattle.std.specs.Prelude.{◌≡◌, ℕ, ℤ, ◌<◌, ◌^◌, [], ◌∷◌, length, slice_get, Some, None, true, OnOk, IfErr};
 ghost use Rattle.nd_types.specs.declared.types.Operation.{Operation};
 ghost use Rattle.nd_types.specs.declared.types.TypeDef.TheVariants as def;
 ghost use Rattle.nd_types.specs.Table.{Table, type_at, in_range, least, greatest};
-ghost use Rattle.nd_types.specs.Kinds.{basic_types};
 ghost use Rattle.nd_types.specs.Walk.{named_roots};
-ghost use Rattle.nd_types.specs.Plain.{IsPlainInterface};
+ghost use Rattle.nd_types.specs.Numbers.{IsNumberSide};
+ghost use Rattle.nd_graph.specs.Simple.{is_simple, has_simple_cells};
 ghost use Rattle.nd_graph.specs.declared.value.Graph.{Graph as GraphValue};
 ghost use Rattle.nd_graph.specs.Tree.{more, none};
 ghost use Rattle.nd_graph.specs.Seen.{tree_of};
@@ -28,7 +28,8 @@ struct NodeMisfit {
 pub(crate) fn local(interface: &Interface, op: u32, side: Side, graph: &Graph) -> Result<(), Misfit>
     requires known { op < length interface.now.operations }
     requires few_cells { length graph.now.cells < 2 ^ 32 }
-    requires plain { IsPlainInterface interface.now.types interface.now.operations }
+    requires numbers { IsNumberSide interface.now.types interface.now.operations op side }
+    requires simple { has_simple_cells interface.now.types graph.now ≡ true }
     ensures none { OnOk result ((o : Operation) → slice_get interface.now.operations op ≡ Some o
         → first_local (setting_of interface.now o side) graph.now ≡ None) }
     ensures first { IfErr result (λ e. (o : Operation) → slice_get interface.now.operations op ≡ Some o
@@ -41,7 +42,7 @@ pub(crate) fn local(interface: &Interface, op: u32, side: Side, graph: &Graph) -
 // The same of the roots.
 fn roots(interface: &Interface, op: u32, side: Side, graph: &Graph) -> Result<(), Misfit>
     requires known { op < length interface.now.operations }
-    requires basic { interface.now.types ≡ basic_types }
+    requires numbers { IsNumberSide interface.now.types interface.now.operations op side }
     ensures none { OnOk result ((o : Operation) → slice_get interface.now.operations op ≡ Some o
         → first_in_roots interface.now.types graph.now 0 (named_roots interface.now.types side o) graph.now.roots ≡ None) }
     ensures first { IfErr result (λ e. (o : Operation) → slice_get interface.now.operations op ≡ Some o
@@ -74,7 +75,7 @@ fn wrong_root(at: u32) -> Misfit
 
 // The same of the cells.
 fn cells(types: &Types, graph: &Graph) -> Result<(), Misfit>
-    requires basic { types.now ≡ basic_types }
+    requires simple { has_simple_cells types.now graph.now ≡ true }
     requires few { length graph.now.cells < 2 ^ 32 }
     ensures none { OnOk result (first_in_cells types.now graph.now 1 graph.now.cells ≡ None) }
     ensures first { IfErr result (λ e. Tells (first_in_cells types.now graph.now 1 graph.now.cells) e) }
@@ -91,7 +92,7 @@ fn cells(types: &Types, graph: &Graph) -> Result<(), Misfit>
 
 // The same of one value as a home.
 fn home(types: &Types, graph: &Graph, home: Home, of: TypeId, val: &Val) -> Result<(), Misfit>
-    requires basic { types.now ≡ basic_types }
+    requires simple { is_simple (type_at types.now of.0) ≡ true }
     ensures none { OnOk result (first_in_home types.now graph.now home of.0 (tree_of val.now) ≡ None) }
     ensures first { IfErr result (λ e. Tells (first_in_home types.now graph.now home of.0 (tree_of val.now)) e) }
 {
@@ -101,9 +102,9 @@ fn home(types: &Types, graph: &Graph, home: Home, of: TypeId, val: &Val) -> Resu
     }
 }
 
-// The first misfit among the nodes of a value: of a basic type it has but one.
+// The first misfit among the nodes of a value: of a simple type it has but one.
 fn value(types: &Types, graph: &Graph, of: TypeId, val: &Val) -> Option<NodeMisfit>
-    requires basic { types.now ≡ basic_types }
+    requires simple { is_simple (type_at types.now of.0) ≡ true }
     ensures { result ≡ first_in types.now graph.now (of.0 ∷ []) 0 (more (tree_of val.now) none) }
 {
     match single(types, graph, of, val) {
@@ -114,7 +115,7 @@ fn value(types: &Types, graph: &Graph, of: TypeId, val: &Val) -> Option<NodeMisf
 
 // Why a node has a misfit by itself, if it has one.
 fn single(types: &Types, graph: &Graph, of: TypeId, val: &Val) -> Option<MisfitReason>
-    requires basic { types.now ≡ basic_types }
+    requires simple { is_simple (type_at types.now of.0) ≡ true }
     ensures { result ≡ misfit_of types.now graph.now (lone_node 0 of.0 (tree_of val.now)) }
 {
     match types.get(of.0 as usize) {

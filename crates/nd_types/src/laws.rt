@@ -7,6 +7,10 @@ ghost use Rattle.nd_types.specs.Kinds.{basic_types, prim_number};
 ghost use Rattle.nd_types.specs.Layout.{align_of, align_by, hoists, hoists_by};
 ghost use Rattle.nd_types.specs.Legal.{IsLegal};
 ghost use Rattle.nd_types.specs.Roots.{roots_of};
+ghost use Rattle.std.specs.Prelude.{slice_get, true};
+ghost use Rattle.std.specs.List.{AllByRecursion};
+ghost use Rattle.nd_types.specs.declared.types.Side.{Side};
+ghost use Rattle.nd_types.specs.Numbers.{has_number_roots, IsPrimitiveRoot};
 ghost use Rattle.nd_types.specs.Plain.{IsPlainOperation, IsPlainInterface, plain_roots};
 ghost use Rattle.nd_types.specs.declared.types.Operation.{Operation};
 ghost use Rattle.nd_types.specs.declared.types.Primitive.{Primitive};
@@ -21,6 +25,12 @@ pub fn plain_is_legal()
 /// The roots of a plain operation's request are its parameters in order.
 pub fn plain_roots_in()
     ensures { (o : Operation) → IsPlainOperation o → roots_of basic_types side.In o ≡ plain_roots 0 o.params }
+{}
+
+/// Where each root of a side of an operation of a legal interface is of a type from 0 to 10, each is a primitive, no pipe, and without attributes.
+pub fn number_roots_are_primitives()
+    ensures { (types : Table) (operations : List Operation) (n : ℕ) (o : Operation) → IsLegal types operations → slice_get operations n ≡ Some o
+        → (s : Side) → has_number_roots types s o ≡ true → AllByRecursion (IsPrimitiveRoot types) (roots_of types s o) }
 {}
 
 /// The alignment of a type of a legal interface is that of its parts.

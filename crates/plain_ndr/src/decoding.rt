@@ -1,11 +1,11 @@
-// Decoding of the [in] parameters of a plain operation.
+// Decoding of a side whose roots are primitives.
 ghost use Rattle.std.specs.Prelude.{◌≡◌, ℕ, ◌<◌, ◌^◌, List, length, Some, IfOk, IfErr};
 ghost use Rattle.std.specs.List.{slice_get};
 ghost use Rattle.nd_types.specs.declared.types.Operation.{Operation};
-ghost use Rattle.nd_types.specs.declared.types.Side.TheVariants as side;
-ghost use Rattle.nd_types.specs.Plain.{IsPlainInterface};
+ghost use Rattle.nd_types.specs.Numbers.{IsNumberSide};
+ghost use Rattle.nd_graph.specs.Fitting.{setting_of};
 ghost use Rattle.nd_grammar.specs.Prefix.{BeginsWith};
-ghost use Rattle.plain_ndr.specs.Decoding.{IsFault, inputs_of};
+ghost use Rattle.plain_ndr.specs.Decoding.{IsFault};
 
 use crate::numbers::{NumbersFault, read_numbers};
 use crate::primitives::primitives;
@@ -19,7 +19,7 @@ use thiserror::Error;
 /// What octets were decoded to.
 #[derive(Drop)]
 pub struct Decoded {
-    /// The graph of the values, which conforms to the [in] side of the operation.
+    /// The graph of the values, which conforms to the side of the operation.
     pub fit: Fit,
     /// How many octets the values take up with the gaps between them, from the beginning of the stream.
     pub taken: u32,
@@ -37,39 +37,37 @@ pub enum DecodeFault {
     Bad { place: u32, reason: Reason },
 }
 
-/// Decodes the values of the [in] parameters of a plain operation from the front of octets, which begin at the beginning of
-/// the operation's stream (C706, 14.2 and 14.4): one integer for each parameter, each at the next multiple of its width.
+/// Decodes the values of a side of an operation from the front of octets, which begin at the beginning of its stream (C706, 14.2 and
+/// 14.4): one number for each root, each at the next multiple of its width.
 ///
-/// The interface must be plain, `op` the number of one of its operations, and the octets fewer than 2^32. Octets behind the
+/// `op` must be the number of an operation, each root of the side a primitive, of a type from 0 to 10, and the octets fewer than 2^32. Octets behind the
 /// values are let stand. Each octet is looked at once. It takes memory for the values that were read, 32 octets each, and for
-/// a list of the parameters' types.
+/// a list of the roots' types.
 pub fn decode(
     alloc: Global,
     interface: &Interface,
     op: u32,
+    side: Side,
     order: Order,
     octets: &[u8],
 ) -> Result<Decoded, DecodeFault>
-    requires plain { IsPlainInterface interface.now.types interface.now.operations }
+    requires numbers { IsNumberSide interface.now.types interface.now.operations op side }
     requires known { op < length interface.now.operations }
     requires short { length octets.now < 2 ^ 32 }
     ensures decoded { IfOk result (λ d. (o : Operation) → slice_get interface.now.operations op ≡ Some o
-        → BeginsWith (inputs_of interface.now o) order octets.now d.taken d.fit.graph) }
-    ensures of { IfOk result (λ d. (d.fit.op ≡ op) × (d.fit.side ≡ side.In) × (d.fit.interface ≡ interface.now)) }
+        → BeginsWith (setting_of interface.now o side) order octets.now d.taken d.fit.graph) }
+    ensures of { IfOk result (λ d. (d.fit.op ≡ op) × (d.fit.side ≡ side) × (d.fit.interface ≡ interface.now)) }
     ensures refused { IfErr result (λ e. (o : Operation) → slice_get interface.now.operations op ≡ Some o
-        → IsFault (inputs_of interface.now o) order octets.now e) }
+        → IsFault (setting_of interface.now o side) order octets.now e) }
 {
-    let Some(operation) = interface.operations.get(op as usize) else {
-        unreachable!()
-    };
-    let prims = match primitives(alloc, &interface.types, &operation.params) {
+    let prims = match primitives(alloc, interface, op, side) {
         Ok(prims) => prims,
         Err(_) => return Err(DecodeFault::Memory),
     };
     match read_numbers(alloc, order, prims.as_slice(), octets) {
         Ok((roots, taken)) => {
             let cells = Cells::new(alloc);
-            let fit = Fit::adopt(interface.tie(), Graph { roots, cells }, op, Side::In);
+            let fit = Fit::adopt(interface.tie(), Graph { roots, cells }, op, side);
             Ok(Decoded {
                 fit,
                 taken: taken as u32,

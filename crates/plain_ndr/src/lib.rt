@@ -1,4 +1,4 @@
-//! Decoding and encoding of plain operations, whose parameters are signed integers alone.
+//! Decoding and encoding of sides of operations whose roots are primitives alone.
 #![tactic(auto)]
 
 mod decoding;

@@ -1,26 +1,29 @@
-// The primitives of the parameters of a plain operation.
-ghost use Rattle.std.specs.Prelude.{◌≡◌, ◌+◌, ℕ, ◌<◌, map, Some, true, All, IfOk, IsErrOf};
+// The primitives of the roots of a side.
+ghost use Rattle.std.specs.Prelude.{◌≡◌, ◌<◌, length, map, Some, IfOk};
+ghost use Rattle.std.specs.List.{slice_get};
+ghost use Rattle.nd_types.specs.declared.types.Operation.{Operation};
 ghost use Rattle.nd_types.specs.Table.{type_at};
-ghost use Rattle.nd_types.specs.Plain.{IsPlainParam, is_plain_type};
-ghost use Rattle.nd_types.specs.Kinds.{basic_types};
-ghost use Rattle.nd_grammar.specs.Primitives.{param_primitive, primitive_of};
+ghost use Rattle.nd_types.specs.Roots.{roots_of};
+ghost use Rattle.nd_grammar.specs.Primitives.{primitive_of, root_primitive};
 
 use nd_base::Memory;
-use nd_types::{Params, Prim, TypeDef, TypeId, Types};
+use nd_types::{Interface, Prim, Side, TypeDef, TypeId, Types};
 use std::alloc::Global;
 
-// The primitive of each parameter.
-pub(crate) fn primitives(alloc: Global, types: &Types, params: &Params) -> Result<Vec<Prim>, Memory>
-    requires types { types.now ≡ basic_types }
-    requires plain { All IsPlainParam params.now }
-    ensures { IfOk result (λ prims. prims.items ≡ map (param_primitive types.now) params.now) }
+// The primitive of each root.
+pub(crate) fn primitives(
+    alloc: Global,
+    interface: &Interface,
+    op: u32,
+    side: Side,
+) -> Result<Vec<Prim>, Memory>
+    requires { op < length interface.now.operations }
+    ensures { IfOk result (λ prims. (o : Operation) → slice_get interface.now.operations op ≡ Some o
+        → prims.items ≡ map (root_primitive interface.now.types) (roots_of interface.now.types side o)) }
 {
     let mut prims = Vec::new(alloc);
-    for at in 0..params.len() {
-        let Some(param) = params.get(at) else {
-            unreachable!()
-        };
-        let prim = primitive(types, param.field.of);
+    for root in interface.params(op, side) {
+        let prim = primitive(&interface.types, root.of);
         match prims.push(prim) {
             Ok(()) => {}
             Err(_) => return Err(Memory),

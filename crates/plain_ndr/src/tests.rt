@@ -9,7 +9,7 @@ use nd_base::{Memory, Name, Order};
 use nd_grammar::Reason;
 use nd_graph::Val;
 use nd_types::{
-    AttrVars, Field, Interface, Operation, Operations, Param, Params, TypeId, Types, Way,
+    AttrVars, Field, Interface, Operation, Operations, Param, Params, Side, TypeId, Types, Way,
 };
 use std::alloc::Global;
 use std::process::Abort;
@@ -86,7 +86,7 @@ fn expect_numbers(rt: &impl Abort, alloc: Global, order: Order, octets: &[u8]) -
     requires { length octets.now < 2 ^ 32 }
 {
     let interface = interface(alloc)?;
-    let decoded = decode(alloc, &interface, 0, order, octets)?;
+    let decoded = decode(alloc, &interface, 0, Side::In, order, octets)?;
     assert_eq!(rt; decoded.taken, 16);
     assert_eq!(rt; decoded.fit.op(), 0);
     let roots = &decoded.fit.graph().roots;
@@ -113,7 +113,7 @@ fn short_octets_are_refused(rt: HostRuntime) -> Result<(), Fail> {
     let whole = b"\x01\0\0\0\x02\0\0\0\x03";
     for place in [9u32, 7] {
         let octets = &whole[..place as usize];
-        let fault = decode(rt.alloc(), &interface, 0, Order::Little, octets).err();
+        let fault = decode(rt.alloc(), &interface, 0, Side::In, Order::Little, octets).err();
         let reason = Reason::Truncated;
         assert_eq!(rt; fault, Some(DecodeFault::Bad { place, reason }));
     }
@@ -133,7 +133,7 @@ fn expect_written(
 {
     let interface = interface(alloc)?;
     let big = b"\0\0\0\x01\0\x02\xaa\xaa\0\0\0\0\0\0\0\x03";
-    let decoded = decode(alloc, &interface, 0, Order::Big, big)?;
+    let decoded = decode(alloc, &interface, 0, Side::In, Order::Big, big)?;
     let written = encode(alloc, &interface, &decoded.fit, order, chunk)?;
     assert_eq!(rt; written.as_slice(), octets);
     Ok(())

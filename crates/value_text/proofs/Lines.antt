@@ -5,7 +5,6 @@ use Rattle.std.specs.Fmt.{signed_decimal}
 use Rattle.std.specs.List.{slice_get}
 use Rattle.std.proofs.lemmas.List.{take_more, append-nil}
 use Rattle.std.proofs.lemmas.Option.{slice_get_within, get_or_from_slice_get, same_Some}
-use Rattle.nd_types.specs.declared.types.Param.{Param}
 use Rattle.nd_graph.specs.Tree as tree
 use Rattle.nd_graph.specs.Tree.{Tree, node, none}
 use Rattle.nd_grammar.specs.Plain.{number}
@@ -21,15 +20,15 @@ number_at (z ∷ zs) (suc i) t e = number_at zs i t e
 pub is_number_at : (zs : List ℤ) (i : ℕ) (t : Tree) → slice_get (map number zs) i ≡ Some t → is_number t ≡ true
 is_number_at zs i t e = ap is_number (number_at zs i t e)
 
-lines_more : (ps : List Param) (zs : List ℤ) (p : Param) (z : ℤ) → length ps ≡ length zs
-    → number_lines (ps ++ p ∷ []) (zs ++ z ∷ []) ≡ number_lines ps zs ++ line p.field.name (signed_decimal z)
-lines_more [] [] p z e = append-nil (line p.field.name (signed_decimal z))
+lines_more : (ps : List (List ℕ)) (zs : List ℤ) (p : List ℕ) (z : ℤ) → length ps ≡ length zs
+    → number_lines (ps ++ p ∷ []) (zs ++ z ∷ []) ≡ number_lines ps zs ++ line p (signed_decimal z)
+lines_more [] [] p z e = append-nil (line p (signed_decimal z))
 lines_more [] (y ∷ zs) p z e = cc
 lines_more (q ∷ ps) [] p z e = cc
 lines_more (q ∷ ps) (y ∷ zs) p z e =
     let e' : length ps ≡ length zs = cc in
-    ap (λ u. line q.field.name (signed_decimal y) ++ u) (lines_more ps zs p z e')
-    ∙ sym (append_assoc (line q.field.name (signed_decimal y)) (number_lines ps zs) (line p.field.name (signed_decimal z)))
+    ap (λ u. line q (signed_decimal y) ++ u) (lines_more ps zs p z e')
+    ∙ sym (append_assoc (line q (signed_decimal y)) (number_lines ps zs) (line p (signed_decimal z)))
 
 same_number : (y z : ℤ) → number y ≡ number z → y ≡ z
 same_number y z e = cc
@@ -42,9 +41,9 @@ take_length (suc i) (x ∷ xs) [] e = cc
 take_length (suc i) (x ∷ xs) (y ∷ ys) e = let e' : length xs ≡ length ys = cc in ap suc (take_length i xs ys e')
 
 -- the line of the next parameter
-pub next_line : (ps : List Param) (zs : List ℤ) (i : ℕ) (p : Param) (t : Tree) (z : ℤ) (before old new : List ℕ) → length ps ≡ length zs
+pub next_line : (ps : List (List ℕ)) (zs : List ℤ) (i : ℕ) (p : List ℕ) (t : Tree) (z : ℤ) (before old new : List ℕ) → length ps ≡ length zs
     → slice_get ps i ≡ Some p → slice_get (map number zs) i ≡ Some t → t ≡ number z
-    → old ≡ before ++ number_lines (take i ps) (take i zs) → new ≡ old ++ line p.field.name (signed_decimal z)
+    → old ≡ before ++ number_lines (take i ps) (take i zs) → new ≡ old ++ line p (signed_decimal z)
     → new ≡ before ++ number_lines (take (i + 1) ps) (take (i + 1) zs)
 next_line ps zs i p t z before old new same param root value e n =
     let here : i < length ps = slice_get_within ps i p param in
@@ -52,11 +51,16 @@ next_line ps zs i p t z before old new same param root value e n =
     let q : take (i + 1) ps ≡ take i ps ++ p ∷ [] = take_more ps i p here ∙ ap (λ u. take i ps ++ u ∷ []) (get_or_from_slice_get ps i p p param) in
     let y : get_or zs i (pos 0) ≡ z = same_number _ _ (sym (number_at zs i t root) ∙ value) in
     let r : take (i + 1) zs ≡ take i zs ++ z ∷ [] = take_more zs i (pos 0) here' ∙ ap (λ u. take i zs ++ u ∷ []) y in
-    n ∙ ap (λ u. u ++ line p.field.name (signed_decimal z)) e
-    ∙ append_assoc before (number_lines (take i ps) (take i zs)) (line p.field.name (signed_decimal z))
+    n ∙ ap (λ u. u ++ line p (signed_decimal z)) e
+    ∙ append_assoc before (number_lines (take i ps) (take i zs)) (line p (signed_decimal z))
     ∙ ap (λ u. before ++ u) (sym (lines_more (take i ps) (take i zs) p z (take_length i ps zs same)))
     ∙ ap₂ (λ u v. before ++ number_lines u v) (sym q) (sym r)
 
 -- three pieces behind a text
 pub three_pieces : (t a b c : List ℕ) → ((t ++ a) ++ b) ++ c ≡ t ++ (a ++ (b ++ c))
 three_pieces t a b c = append_assoc (t ++ a) b c ∙ append_assoc t a (b ++ c)
+
+-- five pieces behind a text
+pub five_pieces : (t a b c d e : List ℕ) → ((((t ++ a) ++ b) ++ c) ++ d) ++ e ≡ t ++ (a ++ (b ++ (c ++ (d ++ e))))
+five_pieces t a b c d e =
+    append_assoc (((t ++ a) ++ b) ++ c) d e ∙ append_assoc ((t ++ a) ++ b) c (d ++ e) ∙ append_assoc (t ++ a) b (c ++ (d ++ e)) ∙ append_assoc t a (b ++ (c ++ (d ++ e)))

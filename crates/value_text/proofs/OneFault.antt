@@ -1,13 +1,9 @@
 -- A text of a plain side is read as one graph, and has one fault.
 use Rattle.std.proofs.Common.{◌≡◌, ◌≢◌, ℕ, suc, ◌+◌, ◌-◌, ◌<◌, ◌≤◌, ℤ, pos, List, [], ◌∷◌, ◌++◌, length, map, Option, Some, None, refl, ap, ap₂, sym, ◌∙◌, subst, arith}
-use Rattle.nd_types.specs.declared.types.Operation.{Operation}
-use Rattle.nd_types.specs.declared.types.Param.{Param}
-use Rattle.nd_types.specs.declared.types.Side.TheVariants as side
-use Rattle.nd_types.specs.Plain.{IsPlainOperation}
-use Rattle.nd_types.specs.Kinds.{basic_types}
+use Rattle.nd_types.specs.declared.types.Primitive.{Primitive}
 use Rattle.nd_graph.specs.declared.value.Graph.{Graph}
 use Rattle.nd_graph.specs.Setting.{Setting}
-use Rattle.nd_grammar.specs.Plain.{plain_graph}
+use Rattle.nd_grammar.specs.Plain.{IsPlain, plain_graph}
 use Rattle.value_text.specs.declared.fault.TextReason.{TextReason}
 use Rattle.value_text.specs.declared.fault.TextReason.TheVariants as reason
 use Rattle.value_text.specs.declared.TheConstants.{TEXT_LIMIT}
@@ -15,17 +11,10 @@ use Rattle.value_text.specs.Tokens.{Token, Word, Number, Cell, skip, uuid_due, b
 use Rattle.value_text.specs.Written.{Piece, token_of, graph_tokens, graph_pieces}
 use Rattle.value_text.specs.Readable.{IsReadable}
 use Rattle.value_text.specs.Reads.{ReadsAs, Lexeme, Cut, End, Bad, IsWhole, IsReason, IsFirstFault, IsTextFault, position_of}
-use Rattle.value_text.specs.Dues.{Due, Exactly, AnyNumber, param_dues}
+use Rattle.value_text.specs.Dues.{Due, Exactly, AnyNumber, name_dues}
 use Rattle.value_text.specs.PlainSide.{IsPlainSide}
 use Rattle.value_text.proofs.OneText.{AreOne, one_fault, Compared, as_far, shorter, longer, compare, some_octets}
-use Rattle.value_text.proofs.PlainGraphs.{side_of, dues_of, filled, padded, plain_pieces, readable_plain, IsPlainGraph}
-
--- a plain side is the side of its operation
-pub side_is : (w : Setting) → IsPlainSide w → w ≡ side_of w.op
-side_is w p =
-    ap (λ t. record { table = t; op = w.op; side = w.side; given = w.given }) p.basic
-    ∙ ap (λ s. record { table = basic_types; op = w.op; side = s; given = w.given }) p.inputs
-    ∙ ap (λ g. record { table = basic_types; op = w.op; side = side.In; given = g }) p.alone
+use Rattle.value_text.proofs.PlainGraphs.{names_of, dues_of, filled, padded, plain_pieces, readable_plain, IsPlainGraph}
 
 -- ## One graph
 
@@ -42,7 +31,7 @@ numbers_due [] = 0
 numbers_due (Exactly p ∷ ds) = numbers_due ds
 numbers_due (AnyNumber ∷ ds) = suc (numbers_due ds)
 
-params_due : (ps : List Param) → numbers_due (param_dues ps) ≡ length ps
+params_due : (ps : List (List ℕ)) → numbers_due (name_dues ps) ≡ length ps
 params_due [] = refl
 params_due (p ∷ ps) = ap suc (params_due ps)
 
@@ -60,20 +49,19 @@ same_numbers (AnyNumber ∷ ds) (z ∷ zs) (y ∷ ys) a b e =
     let f : z ≡ y = cc in
     ap₂ (λ x (l : List ℤ). x ∷ l) f (same_numbers ds zs ys a' b' e')
 
-one_plain : (o : Operation) → IsPlainOperation o → (text : List ℕ) (g h : Graph) → ReadsAs (side_of o) text g → ReadsAs (side_of o) text h → g ≡ h
-one_plain o plain text g h a b =
-    let p = readable_plain o plain g a.readable in
-    let q = readable_plain o plain h b.readable in
-    let e : map token_of (filled (dues_of o) p.numbers) ≡ map token_of (filled (dues_of o) q.numbers) =
-    sym (ap (graph_tokens (side_of o)) p.is ∙ ap (map token_of) (plain_pieces o plain p.numbers p.as_many))
-    ∙ same_tokens (side_of o) text g h a b
-    ∙ (ap (graph_tokens (side_of o)) q.is ∙ ap (map token_of) (plain_pieces o plain q.numbers q.as_many)) in
-    p.is ∙ ap plain_graph (same_numbers (dues_of o) p.numbers q.numbers (p.as_many ∙ sym (params_due o.params)) (q.as_many ∙ sym (params_due o.params)) e) ∙ sym q.is
+one_plain : (w : Setting) (primitives : List Primitive) → IsPlain w primitives → (text : List ℕ) (g h : Graph) → ReadsAs w text g → ReadsAs w text h → g ≡ h
+one_plain w primitives plain text g h a b =
+    let p = readable_plain w primitives plain g a.readable in
+    let q = readable_plain w primitives plain h b.readable in
+    let e : map token_of (filled (dues_of w) p.numbers) ≡ map token_of (filled (dues_of w) q.numbers) =
+    sym (ap (graph_tokens w) p.is ∙ ap (map token_of) (plain_pieces w primitives plain p.numbers p.as_many))
+    ∙ same_tokens w text g h a b
+    ∙ (ap (graph_tokens w) q.is ∙ ap (map token_of) (plain_pieces w primitives plain q.numbers q.as_many)) in
+    p.is ∙ ap plain_graph (same_numbers (dues_of w) p.numbers q.numbers (p.as_many ∙ sym (params_due (names_of w))) (q.as_many ∙ sym (params_due (names_of w))) e) ∙ sym q.is
 
 pub one_graph : (w : Setting) (text : List ℕ) (g h : Graph) → IsPlainSide w → ReadsAs w text g → ReadsAs w text h → g ≡ h
 one_graph w text g h p a b =
-    let e = side_is w p in
-    one_plain w.op p.plain text g h (subst (λ x. ReadsAs x text g) e a) (subst (λ x. ReadsAs x text h) e b)
+    one_plain w p.primitives p.plain text g h a b
 
 -- ## One fault
 
@@ -107,12 +95,12 @@ one_place w text line line' column column' why why' f g = by (parted w text line
       let e : (line, column) ≡ (line', column') = sym h.position ∙ ap (position_of text) one.places ∙ k.position in
       (ap (λ x. x.0) e, ap (λ x. x.1) e)
 
-module _ (o : Operation) (plain : IsPlainOperation o) where
+module _ (w : Setting) (primitives : List Primitive) (plain : IsPlain w primitives) where
   -- a whole graph has no cells
-  no_cells : (ts : List Token) (g : Graph) → IsWhole (side_of o) ts g → length g.cells ≡ 0
-  no_cells ts g h = ap (λ (x : Graph). length x.cells) (readable_plain o plain g h.readable).is
+  no_cells : (ts : List Token) (g : Graph) → IsWhole w ts g → length g.cells ≡ 0
+  no_cells ts g h = ap (λ (x : Graph). length x.cells) (readable_plain w primitives plain g h.readable).is
 
-  one_why : (ts : List Token) (n : Lexeme) (a b : TextReason) → IsReason (side_of o) ts n a → IsReason (side_of o) ts n b → a ≡ b
+  one_why : (ts : List Token) (n : Lexeme) (a b : TextReason) → IsReason w ts n a → IsReason w ts n b → a ≡ b
   one_why ts n reason.TooLong b h k = absurd h
   one_why ts n reason.BadToken reason.TooLong h k = absurd k
   one_why ts n reason.BadToken reason.BadToken h k = refl
@@ -151,18 +139,15 @@ module _ (o : Operation) (plain : IsPlainOperation o) where
       absurd (k.4 (omega (arith, f, h.4, no_cells ts h.1 h.3, no_cells ts k.1 k.3)))
   one_why ts n reason.Unnamed reason.Unnamed h k = refl
 
-  plain_reason : (text : List ℕ) (line line' column column' : ℕ) (why why' : TextReason) → Parted (side_of o) text line column why → Parted (side_of o) text line' column' why' → why ≡ why'
+  plain_reason : (text : List ℕ) (line line' column column' : ℕ) (why why' : TextReason) → Parted w text line column why → Parted w text line' column' why' → why ≡ why'
   plain_reason text line line' column column' why why' (too_long a l c r) (too_long b l' c' r') = r ∙ sym r'
   plain_reason text line line' column column' why why' (too_long a l c r) (has_fault h) = absurd (omega (arith, a, h.first.short))
   plain_reason text line line' column column' why why' (has_fault h) (too_long b l c r) = absurd (omega (arith, b, h.first.short))
   plain_reason text line line' column column' why why' (has_fault h) (has_fault k) =
-      let one = one_fault (side_of o) text h.place k.place why why' h.first k.first in
+      let one = one_fault w text h.place k.place why why' h.first k.first in
       one_why one.tokens one.next why why' one.reason one.reason'
 
 pub one_reason : (w : Setting) (text : List ℕ) (line line' column column' : ℕ) (why why' : TextReason) → IsPlainSide w → IsTextFault w text line column why → IsTextFault w text line' column' why'
     → why ≡ why'
 one_reason w text line line' column column' why why' p f g =
-    let e = side_is w p in
-    plain_reason w.op p.plain text line line' column column' why why'
-    (parted (side_of w.op) text line column why (subst (λ x. IsTextFault x text line column why) e f))
-    (parted (side_of w.op) text line' column' why' (subst (λ x. IsTextFault x text line' column' why') e g))
+    plain_reason w p.primitives p.plain text line line' column column' why why' (parted w text line column why f) (parted w text line' column' why' g)

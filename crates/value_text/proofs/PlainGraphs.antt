@@ -8,13 +8,8 @@ use Rattle.nd_types.specs.declared.types.TypeDef.{TypeDef}
 use Rattle.nd_types.specs.declared.types.TypeDef.TheVariants as def
 use Rattle.nd_types.specs.declared.types.Primitive.{Primitive}
 use Rattle.nd_types.specs.declared.types.Param.{Param}
-use Rattle.nd_types.specs.declared.types.Operation.{Operation}
-use Rattle.nd_types.specs.declared.types.Side.TheVariants as side
 use Rattle.nd_types.specs.Table.{Table, type_at}
 use Rattle.nd_types.specs.Roots.{Root, roots_of}
-use Rattle.nd_types.specs.Plain.{plain_roots, IsPlainOperation}
-use Rattle.nd_types.specs.Kinds.{basic_types}
-use Rattle.nd_types.proofs.PlainLaws.{plain_roots_in}
 use Rattle.nd_graph.specs.declared.value.Graph.{Graph}
 use Rattle.nd_graph.specs.declared.item.Home.TheVariants as home
 use Rattle.nd_graph.specs.Tree as tree
@@ -25,22 +20,20 @@ use Rattle.nd_graph.specs.Deferral.{Pending, home_pointers}
 use Rattle.nd_graph.specs.Homes.{HomeNode, in_home, root_nodes, cell_nodes, all_nodes, root_pointers}
 use Rattle.nd_graph.specs.Variables.{root_agreements}
 use Rattle.nd_grammar.specs.Plain.{ArePlain, IsPlain, number, plain_graph}
-use Rattle.nd_grammar.specs.Primitives.{param_primitive}
-use Rattle.nd_grammar.proofs.PlainSides.{plain_basic}
-use Rattle.nd_grammar.proofs.PlainStreams.{plain_length, Suffix, suffix_next, suffix_first, suffix_whole}
+use Rattle.nd_grammar.proofs.PlainStreams.{plain_length}
 use Rattle.value_text.specs.Whole.{root_name, parameter_name}
 use Rattle.value_text.specs.Tokens.{Token}
 use Rattle.value_text.specs.Written.{Piece, Name, Other, token_of, number_piece, equals, named, value_pieces, root_pieces, cell_pieces, head_pieces, graph_pieces, graph_tokens}
 use Rattle.value_text.specs.Readable.{IsReadable, AreNamed, has_text_form}
-use Rattle.value_text.specs.Dues.{Due, Exactly, AnyNumber, head_dues, param_dues}
+use Rattle.value_text.specs.Dues.{Due, Exactly, AnyNumber, name_dues, side_names, side_dues}
 
--- the side of a plain operation
-abbrev pub side_of : Operation → Setting
-side_of o = record { table = basic_types; op = o; side = side.In; given = None }
+-- the names of the roots
+abbrev pub names_of : Setting → List (List ℕ)
+names_of w = side_names w.table w.side w.op
 
 -- what is due in the text of such a side
-abbrev pub dues_of : Operation → List Due
-dues_of o = head_dues o ++ param_dues o.params
+abbrev pub dues_of : Setting → List Due
+dues_of w = side_dues w.table w.side w.op
 
 -- what is due, the numbers among it being these, and 0 where these end
 abbrev pub filled : List Due → List ℤ → List Piece
@@ -62,13 +55,13 @@ filled_padded (Exactly p ∷ ds) zs = ap (λ (l : List Piece). p ∷ l) (filled_
 filled_padded (AnyNumber ∷ ds) [] = ap (λ (l : List Piece). number_piece (pos 0) ∷ l) (filled_padded ds [])
 filled_padded (AnyNumber ∷ ds) (z ∷ zs) = ap (λ (l : List Piece). number_piece z ∷ l) (filled_padded ds zs)
 
-padded_params : (ps : List Param) (zs : List ℤ) → length (padded (param_dues ps) zs) ≡ length ps
+padded_params : (ps : List (List ℕ)) (zs : List ℤ) → length (padded (name_dues ps) zs) ≡ length ps
 padded_params [] zs = refl
 padded_params (p ∷ ps) [] = ap suc (padded_params ps [])
 padded_params (p ∷ ps) (z ∷ zs) = ap suc (padded_params ps zs)
 
-pub padded_length : (o : Operation) (zs : List ℤ) → length (padded (dues_of o) zs) ≡ length o.params
-padded_length o zs = padded_params o.params zs
+pub padded_length : (w : Setting) (zs : List ℤ) → length (padded (dues_of w) zs) ≡ length (names_of w)
+padded_length w zs = padded_params (names_of w) zs
 
 pub filled_length : (ds : List Due) (zs : List ℤ) → length (filled ds zs) ≡ length ds
 filled_length [] zs = refl
@@ -78,55 +71,48 @@ filled_length (AnyNumber ∷ ds) (z ∷ zs) = ap suc (filled_length ds zs)
 
 -- ## The tokens of a plain graph
 
-roots_are : (table : Table) (all params : List Param) (i : ℕ) (zs : List ℤ) → Suffix all i params → length zs ≡ length params
-    → root_pieces table all (plain_roots i params) (map number zs) ≡ filled (param_dues params) zs
-roots_are table all [] i [] s l = refl
-roots_are table all [] i (z ∷ zs) s l = cc
-roots_are table all (p ∷ ps) i [] s l = cc
-roots_are table all (p ∷ ps) i (z ∷ zs) s l =
-    let l' : length zs ≡ length ps = cc in
-    ap₂ (λ n (u : List Piece). Name (parameter_name n) ∷ equals ∷ number_piece z ∷ u) (suffix_first all i p ps s)
-    (roots_are table all ps (i + 1) zs (subst (λ j. Suffix all j ps) (sym (add-one i)) (suffix_next all i p ps s)) l')
+roots_are : (table : Table) (params : List Param) (rs : List Root) (zs : List ℤ) → length zs ≡ length rs
+    → root_pieces table params rs (map number zs) ≡ filled (name_dues (map (root_name params) rs)) zs
+roots_are table params [] [] l = refl
+roots_are table params [] (z ∷ zs) l = cc
+roots_are table params (r ∷ rs) [] l = cc
+roots_are table params (r ∷ rs) (z ∷ zs) l =
+    let l' : length zs ≡ length rs = cc in
+    ap (λ (u : List Piece). Name (root_name params r) ∷ equals ∷ number_piece z ∷ u) (roots_are table params rs zs l')
 
-module _ (o : Operation) (h : IsPlainOperation o) where
-  root_list_is : root_list (side_of o) ≡ plain_roots 0 o.params
-  root_list_is = plain_roots_in o h
+module _ (w : Setting) (primitives : List Primitive) (plain : IsPlain w primitives) where
+  are_plain : ArePlain w.table (root_list w) primitives
+  are_plain = plain.plain
 
-  abbrev primitives : List Primitive
-  primitives = map (param_primitive basic_types) o.params
+  as_many : length (root_list w) ≡ length (names_of w)
+  as_many = sym (length-map (root_list w) (root_name w.op.params))
 
-  are_plain : ArePlain basic_types (root_list (side_of o)) primitives
-  are_plain = (plain_basic o h).plain
-
-  as_many : length (root_list (side_of o)) ≡ length o.params
-  as_many = plain_length basic_types primitives (root_list (side_of o)) are_plain ∙ length-map o.params (param_primitive basic_types)
-
-  pub plain_pieces : (zs : List ℤ) → length zs ≡ length o.params → graph_pieces (side_of o) (plain_graph zs) ≡ filled (dues_of o) zs
+  pub plain_pieces : (zs : List ℤ) → length zs ≡ length (names_of w) → graph_pieces w (plain_graph zs) ≡ filled (dues_of w) zs
   plain_pieces zs l =
-      let all : root_pieces basic_types o.params (root_list (side_of o)) (map number zs) ≡ filled (param_dues o.params) zs =
-      ap (λ rs. root_pieces basic_types o.params rs (map number zs)) root_list_is ∙ roots_are basic_types o.params o.params 0 zs (suffix_whole o.params) l in
-      ap (λ (u : List Piece). head_pieces (side_of o) ++ u) (append-nil (root_pieces basic_types o.params (root_list (side_of o)) (map number zs)) ∙ all)
+      let all : root_pieces w.table w.op.params (root_list w) (map number zs) ≡ filled (name_dues (names_of w)) zs =
+      roots_are w.table w.op.params (root_list w) zs (l ∙ sym as_many) in
+      ap (λ (u : List Piece). head_pieces w ++ u) (append-nil (root_pieces w.table w.op.params (root_list w) (map number zs)) ∙ all)
 
   -- ## The forms of its nodes
 
   abbrev has_form : HomeNode → Bool
-  has_form x = has_text_form (type_at basic_types x.typed.of) x.typed.label x.typed.kids
+  has_form x = has_text_form (type_at w.table x.typed.of) x.typed.label x.typed.kids
 
-  forms_are : (g : Graph) (ps : List Primitive) (rs : List Root) (i : ℕ) (zs : List ℤ) → ArePlain basic_types rs ps
-      → list_all has_form (root_nodes (side_of o) g i rs (map number zs)) ≡ true
+  forms_are : (g : Graph) (ps : List Primitive) (rs : List Root) (i : ℕ) (zs : List ℤ) → ArePlain w.table rs ps
+      → list_all has_form (root_nodes w g i rs (map number zs)) ≡ true
   forms_are g [] [] i zs a = refl
   forms_are g (p ∷ ps) [] i zs a = absurd a
   forms_are g [] (r ∷ rs) i zs a = absurd a
   forms_are g (p ∷ ps) (r ∷ rs) i [] a = refl
   forms_are g (p ∷ ps) (r ∷ rs) i (z ∷ zs) a =
-      and_from (has_text_form (type_at basic_types r.of) (tree.Num z) none) (list_all has_form (root_nodes (side_of o) g (i + 1) rs (map number zs)))
+      and_from (has_text_form (type_at w.table r.of) (tree.Num z) none) (list_all has_form (root_nodes w g (i + 1) rs (map number zs)))
       (ap (λ d. has_text_form d (tree.Num z) none) a.2) (forms_are g ps rs (i + 1) zs a.3)
 
-  pub plain_readable : (zs : List ℤ) → length zs ≡ length o.params → IsReadable (side_of o) (plain_graph zs)
+  pub plain_readable : (zs : List ℤ) → length zs ≡ length (names_of w) → IsReadable w (plain_graph zs)
   plain_readable zs l = record {
     all_roots = length-map zs number ∙ l ∙ sym as_many;
-    forms = ap (list_all has_form) (append-nil (root_nodes (side_of o) (plain_graph zs) 0 (root_list (side_of o)) (map number zs)))
-        ∙ forms_are (plain_graph zs) primitives (root_list (side_of o)) 0 zs are_plain;
+    forms = ap (list_all has_form) (append-nil (root_nodes w (plain_graph zs) 0 (root_list w) (map number zs)))
+        ∙ forms_are (plain_graph zs) primitives (root_list w) 0 zs are_plain;
     named = tt;
   }
 
@@ -150,8 +136,8 @@ module _ (o : Operation) (h : IsPlainOperation o) where
     by tree.Pipe ks h = cc
     by tree.Unread ks h = cc
 
-  values_are : (g : Graph) (ps : List Primitive) (rs : List Root) (i : ℕ) (vs : List Tree) → ArePlain basic_types rs ps → length vs ≡ length rs
-      → list_all has_form (root_nodes (side_of o) g i rs vs) ≡ true → vs ≡ map number (map value_of vs)
+  values_are : (g : Graph) (ps : List Primitive) (rs : List Root) (i : ℕ) (vs : List Tree) → ArePlain w.table rs ps → length vs ≡ length rs
+      → list_all has_form (root_nodes w g i rs vs) ≡ true → vs ≡ map number (map value_of vs)
   values_are g [] [] i [] a l h = refl
   values_are g [] [] i (v ∷ vs) a l h = cc
   values_are g (p ∷ ps) [] i vs a l h = absurd a
@@ -159,43 +145,43 @@ module _ (o : Operation) (h : IsPlainOperation o) where
   values_are g (p ∷ ps) (r ∷ rs) i [] a l h = cc
   values_are g (p ∷ ps) (r ∷ rs) i (node x ks ∷ vs) a l h =
       let l' : length vs ≡ length rs = cc in
-      let here : List HomeNode = map (in_home (home.Root i)) (governed_nodes basic_types r.of (root_agreements (side_of o) g r.vars) (node x ks)) in
-      let later : List HomeNode = root_nodes (side_of o) g (i + 1) rs vs in
+      let here : List HomeNode = map (in_home (home.Root i)) (governed_nodes w.table r.of (root_agreements w g r.vars) (node x ks)) in
+      let later : List HomeNode = root_nodes w g (i + 1) rs vs in
       let parts = and_parts (list_all has_form here) (list_all has_form later) (sym (list_all-append has_form here later) ∙ h) in
       let below : List HomeNode =
-      map (in_home (home.Root i)) (nodes_of basic_types (child_types (type_at basic_types r.of) x ks) (child_agreements (type_at basic_types r.of) ks) 1 ks ++ []) in
-      let first = and_parts (has_text_form (type_at basic_types r.of) x ks) (list_all has_form below) parts.0 in
-      let is : node x ks ≡ number (value_of (node x ks)) = one_value p (type_at basic_types r.of) x ks a.2 first.0 in
+      map (in_home (home.Root i)) (nodes_of w.table (child_types (type_at w.table r.of) x ks) (child_agreements (type_at w.table r.of) ks) 1 ks ++ []) in
+      let first = and_parts (has_text_form (type_at w.table r.of) x ks) (list_all has_form below) parts.0 in
+      let is : node x ks ≡ number (value_of (node x ks)) = one_value p (type_at w.table r.of) x ks a.2 first.0 in
       ap₂ (λ t (ts : List Tree). t ∷ ts) is (values_are g ps rs (i + 1) vs a.3 l' parts.1)
 
-  no_pointers : (ps : List Primitive) (rs : List Root) (i : ℕ) (zs : List ℤ) → ArePlain basic_types rs ps → root_pointers basic_types i rs (map number zs) ≡ []
+  no_pointers : (ps : List Primitive) (rs : List Root) (i : ℕ) (zs : List ℤ) → ArePlain w.table rs ps → root_pointers w.table i rs (map number zs) ≡ []
   no_pointers [] [] i zs a = refl
   no_pointers (p ∷ ps) [] i zs a = absurd a
   no_pointers [] (r ∷ rs) i zs a = absurd a
   no_pointers (p ∷ ps) (r ∷ rs) i [] a = refl
   no_pointers (p ∷ ps) (r ∷ rs) i (z ∷ zs) a =
-      let none_here : home_pointers basic_types (home.Root i) r.of (number z) ≡ [] = rw a.2 in
+      let none_here : home_pointers w.table (home.Root i) r.of (number z) ≡ [] = rw a.2 in
       ap₂ (λ (x y : List Pending). x ++ y) none_here (no_pointers ps rs (i + 1) zs a.3)
 
-  no_cells : (cells : List Referent) → AreNamed basic_types [] 1 cells → cells ≡ []
+  no_cells : (cells : List Referent) → AreNamed w.table [] 1 cells → cells ≡ []
   no_cells [] n = refl
   no_cells (x ∷ xs) n = let e = n.0 in cc
 
   -- a graph that stands in a text, as numbers
   pub record IsPlainGraph (g : Graph) : Type 0 where
     pub numbers : List ℤ
-    pub as_many : length numbers ≡ length o.params
+    pub as_many : length numbers ≡ length (names_of w)
     pub is : g ≡ plain_graph numbers
 
-  pub readable_plain : (g : Graph) → IsReadable (side_of o) g → IsPlainGraph g
+  pub readable_plain : (g : Graph) → IsReadable w g → IsPlainGraph g
   readable_plain g r =
       let zs : List ℤ = map value_of g.roots in
-      let parts = and_parts (list_all has_form (root_nodes (side_of o) g 0 (root_list (side_of o)) g.roots)) (list_all has_form (cell_nodes basic_types 1 g.cells))
-      (sym (list_all-append has_form (root_nodes (side_of o) g 0 (root_list (side_of o)) g.roots) (cell_nodes basic_types 1 g.cells)) ∙ r.forms) in
-      let roots : g.roots ≡ map number zs = values_are g primitives (root_list (side_of o)) 0 g.roots are_plain r.all_roots parts.0 in
-      let none_named : root_pointers basic_types 0 (root_list (side_of o)) g.roots ≡ [] =
-      ap (root_pointers basic_types 0 (root_list (side_of o))) roots ∙ no_pointers primitives (root_list (side_of o)) 0 zs are_plain in
-      let cells : g.cells ≡ [] = no_cells g.cells (subst (λ ps. AreNamed basic_types ps 1 g.cells) none_named r.named) in
+      let parts = and_parts (list_all has_form (root_nodes w g 0 (root_list w) g.roots)) (list_all has_form (cell_nodes w.table 1 g.cells))
+      (sym (list_all-append has_form (root_nodes w g 0 (root_list w) g.roots) (cell_nodes w.table 1 g.cells)) ∙ r.forms) in
+      let roots : g.roots ≡ map number zs = values_are g primitives (root_list w) 0 g.roots are_plain r.all_roots parts.0 in
+      let none_named : root_pointers w.table 0 (root_list w) g.roots ≡ [] =
+      ap (root_pointers w.table 0 (root_list w)) roots ∙ no_pointers primitives (root_list w) 0 zs are_plain in
+      let cells : g.cells ≡ [] = no_cells g.cells (subst (λ ps. AreNamed w.table ps 1 g.cells) none_named r.named) in
       let F : List Tree → List Referent → Graph = λ x y. record { roots = x; cells = y } in
       record {
         numbers = zs;

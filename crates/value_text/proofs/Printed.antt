@@ -9,13 +9,12 @@ use Rattle.nd_types.specs.declared.types.TypeDef.TheVariants as def
 use Rattle.nd_types.specs.declared.types.Primitive.{Primitive}
 use Rattle.nd_types.specs.declared.types.Param.{Param}
 use Rattle.nd_types.specs.declared.types.Operation.{Operation}
-use Rattle.nd_types.specs.declared.types.Side.TheVariants as side
 use Rattle.nd_types.specs.declared.interface.Interface.{Interface}
 use Rattle.nd_types.specs.Table.{Table, type_at}
 use Rattle.nd_types.specs.Roots.{Root, roots_of}
-use Rattle.nd_types.specs.Plain.{plain_roots, IsPlainOperation, IsPlainInterface}
-use Rattle.nd_types.specs.Kinds.{basic_types}
-use Rattle.nd_types.proofs.PlainLaws.{plain_roots_in}
+use Rattle.nd_types.specs.declared.types.Side.{Side}
+use Rattle.nd_types.specs.Walk as walk
+use Rattle.nd_types.specs.Walk.{NamedRoot, named_root}
 use Rattle.nd_graph.specs.declared.value.Graph.{Graph}
 use Rattle.nd_graph.specs.declared.item.Home.TheVariants as home
 use Rattle.nd_graph.specs.Tree as tree
@@ -29,13 +28,12 @@ use Rattle.nd_graph.specs.Conforms.{Conforms}
 use Rattle.nd_graph.specs.Same.{renumbered}
 use Rattle.nd_graph.specs.Fitting.{Fitting, IsFit, setting_of}
 use Rattle.nd_graph.specs.Canon.{IsCanon, canonical_number, named_cells}
-use Rattle.nd_grammar.specs.Primitives.{param_primitive}
-use Rattle.nd_grammar.proofs.PlainSides.{plain_side, plain_operation}
 use Rattle.nd_grammar.specs.Plain.{ArePlain, IsPlain, number, plain_graph}
-use Rattle.nd_grammar.proofs.PlainStreams.{plain_stream, plain_length, Suffix, suffix_next, suffix_first, suffix_whole, label_of}
+use Rattle.nd_grammar.proofs.PlainStreams.{plain_stream, plain_length, label_of}
 use Rattle.nd_grammar.proofs.PlainConforms.{all_left, all_right, no_cells}
 use Rattle.value_text.specs.Text.{joined}
-use Rattle.value_text.specs.Whole.{line, root_lines, graph_text, parameter_name}
+use Rattle.value_text.specs.Whole.{line, root_lines, root_name, side_word, graph_text, parameter_name}
+use Rattle.value_text.specs.Dues.{side_names, walk_names}
 use Rattle.value_text.specs.Numbers.{number_lines}
 use Rattle.value_text.specs.Printed.{IsText}
 
@@ -110,69 +108,74 @@ module _ (w : Setting) (ps : List Primitive) (plain : IsPlain w ps) (g : Graph) 
         numbered = λ k. refl;
       }
 
--- the lines of roots that are numbers: each with its parameter's name
-lines_are : (table : Table) (all params : List Param) (i : ℕ) (zs : List ℤ) → Suffix all i params
-    → root_lines table all (plain_roots i params) (map number zs) ≡ number_lines params zs
-lines_are table all [] i zs s = refl
-lines_are table all (p ∷ ps) i [] s = refl
-lines_are table all (p ∷ ps) i (z ∷ zs) s =
-    ap₂ (λ n u. line (parameter_name n) (signed_decimal z) ++ u) (suffix_first all i p ps s) (lines_are table all ps (i + 1) zs (subst (λ j. Suffix all j ps) (sym (add-one i)) (suffix_next all i p ps s)))
+-- the lines of roots that are numbers: each with its own name
+lines_are : (table : Table) (params : List Param) (rs : List Root) (zs : List ℤ)
+    → root_lines table params rs (map number zs) ≡ number_lines (map (root_name params) rs) zs
+lines_are table params [] zs = refl
+lines_are table params (r ∷ rs) [] = refl
+lines_are table params (r ∷ rs) (z ∷ zs) = ap (λ u. line (root_name params r) (signed_decimal z) ++ u) (lines_are table params rs zs)
 
-head_lines : (n lines : List ℕ) → joined (codes "values 1\nop " ∷ n ∷ codes " in\n" ∷ []) ++ lines
-    ≡ joined (codes "values 1\nop " ∷ n ∷ codes " " ∷ codes "in" ∷ codes "\n" ∷ lines ∷ [] ∷ [])
-head_lines n lines =
-    ap (λ u. codes "values 1\nop " ++ u) (append_assoc n (codes " in\n") lines ∙ ap (λ u. n ++ (codes " in\n" ++ u)) (sym (append-nil lines)))
+head_lines : (n side lines : List ℕ) → joined (codes "values 1\nop " ∷ n ∷ codes " " ∷ side ∷ codes "\n" ∷ []) ++ lines
+    ≡ joined (codes "values 1\nop " ∷ n ∷ codes " " ∷ side ∷ codes "\n" ∷ lines ∷ [] ∷ [])
+head_lines n side lines =
+    ap (λ u. codes "values 1\nop " ++ u)
+    (append_assoc n (codes " " ++ (side ++ codes "\n")) lines
+    ∙ ap (λ u. n ++ (codes " " ++ u)) (append_assoc side (codes "\n") lines ∙ ap (λ u. side ++ (codes "\n" ++ u)) (sym (append-nil lines))))
+
+-- the first lines of a side's text
+abbrev pub head_text : Setting → List ℕ
+head_text w = joined (codes "values 1\nop " ∷ w.op.name ∷ codes " " ∷ side_word w.side ∷ codes "\n" ∷ [])
 
 -- the text of numbers
-pub text_is : (o : Operation) (zs : List ℤ) → IsPlainOperation o
-    → joined (codes "values 1\nop " ∷ o.name ∷ codes " in\n" ∷ []) ++ number_lines o.params zs
-    ≡ graph_text (record { table = basic_types; op = o; side = side.In; given = None }) (plain_graph zs)
-text_is o zs h =
-    let lines : root_lines basic_types o.params (roots_of basic_types side.In o) (map number zs) ≡ number_lines o.params zs =
-    ap (λ rs. root_lines basic_types o.params rs (map number zs)) (plain_roots_in o h) ∙ lines_are basic_types o.params o.params 0 zs (suffix_whole o.params) in
-    head_lines o.name (number_lines o.params zs)
-    ∙ ap (λ u. joined (codes "values 1\nop " ∷ o.name ∷ codes " " ∷ codes "in" ∷ codes "\n" ∷ u ∷ [] ∷ [])) (sym lines)
+pub text_is : (w : Setting) (zs : List ℤ) → head_text w ++ number_lines (side_names w.table w.side w.op) zs ≡ graph_text w (plain_graph zs)
+text_is w zs =
+    let lines : root_lines w.table w.op.params (root_list w) (map number zs) ≡ number_lines (side_names w.table w.side w.op) zs =
+    lines_are w.table w.op.params (root_list w) zs in
+    head_lines w.op.name (side_word w.side) (number_lines (side_names w.table w.side w.op) zs)
+    ∙ ap (λ u. joined (codes "values 1\nop " ∷ w.op.name ∷ codes " " ∷ side_word w.side ∷ codes "\n" ∷ u ∷ [] ∷ [])) (sym lines)
 
--- What is known of a graph that fits a plain operation.
-module _ (types : Table) (operations : List Operation) (n : ℕ) (o : Operation) (h : IsPlainInterface types operations) (there : slice_get operations n ≡ Some o)
-    (g : Graph) (c : Conforms (record { table = types; op = o; side = side.In; given = None }) g) where
-  side_is : IsPlain (record { table = types; op = o; side = side.In; given = None }) (map (param_primitive types) o.params)
-  side_is = plain_side types operations n o h there
-
-  -- its roots are numbers, one for each parameter
+-- What is known of a graph that fits a side whose roots are numbers.
+module _ (w : Setting) (primitives : List Primitive) (plain : IsPlain w primitives) (g : Graph) (c : Conforms w g) where
+  -- its roots are numbers, one for each root of the side
   pub fit_numbers : (zs : List ℤ) × (g.roots ≡ map number zs)
-  fit_numbers = (
-    plain_numbers (record { table = types; op = o; side = side.In; given = None }) (map (param_primitive types) o.params) side_is g c,
-    roots_are_numbers (record { table = types; op = o; side = side.In; given = None }) (map (param_primitive types) o.params) side_is g c,
-  )
+  fit_numbers = (plain_numbers w primitives plain g c, roots_are_numbers w primitives plain g c)
 
-  pub fit_length : length g.roots ≡ length o.params
-  fit_length =
-      many (record { table = types; op = o; side = side.In; given = None }) (map (param_primitive types) o.params) side_is g c
-      ∙ length-map o.params (param_primitive types)
+  pub fit_length : length g.roots ≡ length (root_list w)
+  fit_length = c.all_roots
 
   -- their lines behind the first ones are its text
-  pub fit_text : (text : List ℕ)
-      → ((zs : List ℤ) → g.roots ≡ map number zs → text ≡ joined (codes "values 1\nop " ∷ o.name ∷ codes " in\n" ∷ []) ++ number_lines o.params zs)
-      → IsText (record { table = types; op = o; side = side.In; given = None }) g text
+  pub fit_text : (text : List ℕ) → ((zs : List ℤ) → g.roots ≡ map number zs → text ≡ head_text w ++ number_lines (side_names w.table w.side w.op) zs) → IsText w g text
   fit_text text lines =
-      let w : Setting = record { table = types; op = o; side = side.In; given = None } in
       let (zs, same) = fit_numbers in
-      let whole : plain_graph zs ≡ g = ap₂ (λ r k. record { roots = r; cells = k }) (sym same) (sym (none_there w (map (param_primitive types) o.params) side_is g c)) in
-      let table : basic_types ≡ types = sym h.basic in
-      record {
-        canonical = g;
-        is_canonical = is_canonical w (map (param_primitive types) o.params) side_is g c;
-        printed = lines zs same ∙ text_is o zs (plain_operation types operations n o h there)
-            ∙ ap₂ (λ t k. graph_text (record { table = t; op = o; side = side.In; given = None }) k) table whole;
-      }
+      let whole : plain_graph zs ≡ g = ap₂ (λ r k. record { roots = r; cells = k }) (sym same) (sym (none_there w primitives plain g c)) in
+      record { canonical = g; is_canonical = is_canonical w primitives plain g c; printed = lines zs same ∙ text_is w zs ∙ ap (graph_text w) whole }
 
--- A fit conforms, its interface and side being these.
-pub fit_conforms : (f : Fitting) (i : Interface) (o : Operation) → IsFit f → f.interface ≡ i → f.side ≡ side.In → slice_get i.operations f.op ≡ Some o
-    → Conforms (record { table = i.types; op = o; side = side.In; given = None }) f.graph
-fit_conforms f i o fit tied inputs there =
+-- A fit conforms, its interface being this.
+pub fit_conforms : (f : Fitting) (i : Interface) (o : Operation) → IsFit f → f.interface ≡ i → slice_get i.operations f.op ≡ Some o
+    → Conforms (setting_of i o f.side) f.graph
+fit_conforms f i o fit tied there =
     let found : slice_get i.operations f.op ≡ Some fit.operation = ap (λ j. slice_get j.operations f.op) (sym tied) ∙ fit.is_there in
     let same : fit.operation ≡ o = same_Some _ _ (sym found ∙ there) in
-    let a : Conforms (setting_of i fit.operation f.side) f.graph = subst (λ j. Conforms (setting_of j fit.operation f.side) f.graph) tied fit.conforms in
-    let b : Conforms (setting_of i fit.operation side.In) f.graph = subst (λ s. Conforms (setting_of i fit.operation s) f.graph) inputs a in
-    subst (λ p. Conforms (setting_of i p side.In) f.graph) same b
+    subst (λ p. Conforms (setting_of i p f.side) f.graph) same (subst (λ j. Conforms (setting_of j fit.operation f.side) f.graph) tied fit.conforms)
+
+found_name : (p : Option Param) → walk.param_name p ≡ parameter_name p
+found_name None = refl
+found_name (Some p) = refl
+
+one_name : (o : Operation) (i : Option ℕ) → walk.root_name o i ≡ elim i [ None ↦ codes "return" | Some k ↦ parameter_name (slice_get o.params k) ]
+one_name o None = refl
+one_name o (Some k) = found_name (slice_get o.params k)
+
+-- the names of a walk's roots are those of the text
+walk_names_of : (o : Operation) (rs : List Root) → map (λ (r : NamedRoot). r.name) (map (named_root o) rs) ≡ map (root_name o.params) rs
+walk_names_of o [] = refl
+walk_names_of o (r ∷ rs) = ap₂ (λ (n : List ℕ) (ns : List (List ℕ)). n ∷ ns) (one_name o r.param) (walk_names_of o rs)
+
+pub walk_names_are : (types : Table) (s : Side) (o : Operation) → walk_names types s o ≡ side_names types s o
+walk_names_are types s o = walk_names_of o (roots_of types s o)
+
+-- the name of a root by its place
+pub named_at : (all : List NamedRoot) (n : ℕ) (r : NamedRoot) → slice_get all n ≡ Some r → slice_get (map (λ (x : NamedRoot). x.name) all) n ≡ Some r.name
+named_at [] n r e = cc
+named_at (x ∷ all) zero r e = ap (λ (y : NamedRoot). Some y.name) (same_Some _ _ e)
+named_at (x ∷ all) (suc n) r e = named_at all n r e

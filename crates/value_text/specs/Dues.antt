@@ -2,7 +2,7 @@
 -- `d` is what is due, `t` a token, `p` a piece, `z` a number, `n` a name.
 use Rattle.std.specs.Prelude.{◌≡◌, ◌≢◌, ◌⊎◌, ℕ, ◌+◌, ◌-◌, ℤ, false, List, [], ◌∷◌, ◌++◌, length, map, codes}
 use Rattle.nd_types.specs.declared.types.Operation.{Operation}
-use Rattle.nd_types.specs.declared.types.Param.{Param}
+use Rattle.nd_types.specs.declared.types.Side.{Side}
 use Rattle.value_text.specs.declared.fault.TextReason.{TextReason}
 use Rattle.value_text.specs.declared.fault.TextReason.TheVariants as reason
 use Rattle.value_text.specs.declared.fault.TextFault.{TextFault}
@@ -10,6 +10,10 @@ use Rattle.value_text.specs.declared.fault.TextFault.TheVariants as fault
 use Rattle.value_text.specs.declared.stop.Stop.{Stop}
 use Rattle.value_text.specs.declared.stop.Stop.TheVariants as stop
 use Rattle.value_text.specs.Tokens.{Token, Word, Number, Cell, skip, IsCut}
+use Rattle.nd_types.specs.Table.{Table}
+use Rattle.nd_types.specs.Roots.{roots_of}
+use Rattle.nd_types.specs.Walk.{named_roots}
+use Rattle.value_text.specs.Whole.{root_name, side_word}
 use Rattle.value_text.specs.Written.{Piece, Name, Other, token_of, word, count_piece, equals}
 use Rattle.value_text.specs.Reads.{Lexeme, Cut, End, Bad, IsNext, position_of}
 
@@ -18,14 +22,26 @@ pub data Due : Type 0 where
   Exactly : (p : Piece) → Due
   AnyNumber : Due
 
-abbrev pub head_dues : Operation → List Due
-head_dues o =
-    Exactly (word (codes "values")) ∷ Exactly (count_piece 1) ∷ Exactly (word (codes "op")) ∷ Exactly (Name o.name) ∷ Exactly (Name (codes "in")) ∷ []
+abbrev pub head_dues : Operation → Side → List Due
+head_dues o s =
+    Exactly (word (codes "values")) ∷ Exactly (count_piece 1) ∷ Exactly (word (codes "op")) ∷ Exactly (Name o.name) ∷ Exactly (Name (side_word s)) ∷ []
 
--- a line for each parameter
-abbrev pub param_dues : List Param → List Due
-param_dues [] = []
-param_dues (p ∷ ps) = Exactly (Name p.field.name) ∷ Exactly equals ∷ AnyNumber ∷ param_dues ps
+-- a line for each root
+abbrev pub name_dues : List (List ℕ) → List Due
+name_dues [] = []
+name_dues (n ∷ ns) = Exactly (Name n) ∷ Exactly equals ∷ AnyNumber ∷ name_dues ns
+
+-- the names of the roots of a side, as a walk over them gives them
+abbrev pub walk_names : Table → Side → Operation → List (List ℕ)
+walk_names types s o = map (λ r. r.name) (named_roots types s o)
+
+-- the names of the roots of a side
+abbrev pub side_names : Table → Side → Operation → List (List ℕ)
+side_names types s o = map (root_name o.params) (roots_of types s o)
+
+-- the lines of a side
+abbrev pub side_dues : Table → Side → Operation → List Due
+side_dues types s o = head_dues o s ++ name_dues (side_names types s o)
 
 -- a token is the due one
 abbrev pub Fits : Due → Token → Type 0

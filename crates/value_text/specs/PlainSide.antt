@@ -1,20 +1,17 @@
 -- The settings whose texts are read yet, and what their names are.
-use Rattle.std.specs.Prelude.{◌≡◌, Bool, true, false, List, None, All}
+use Rattle.std.specs.Prelude.{◌≡◌, Bool, true, List}
 use Rattle.std.specs.List.{list_all}
 use Rattle.nd_types.specs.declared.types.TypeDef.{TypeDef}
 use Rattle.nd_types.specs.declared.types.TypeDef.TheVariants as def
-use Rattle.nd_types.specs.declared.types.Side.TheVariants as side
-use Rattle.nd_types.specs.Plain.{IsPlainOperation}
-use Rattle.nd_types.specs.Kinds.{basic_types}
+use Rattle.nd_types.specs.declared.types.Primitive.{Primitive}
 use Rattle.nd_graph.specs.Setting.{Setting}
+use Rattle.nd_grammar.specs.Plain.{IsPlain}
 use Rattle.value_text.specs.Tokens.{is_word}
 
--- the [in] side of a plain operation, beside no request
+-- a side whose roots are numbers
 pub record IsPlainSide (w : Setting) : Type 0 where
-  pub basic : w.table ≡ basic_types
-  pub plain : IsPlainOperation w.op
-  pub inputs : w.side ≡ side.In
-  pub alone : w.given ≡ None
+  pub primitives : List Primitive
+  pub plain : IsPlain w primitives
 
 abbrev has_word_members : TypeDef → Bool
 has_word_members (def.Struct members) = list_all (λ f. is_word f.name) members

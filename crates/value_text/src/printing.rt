@@ -1,69 +1,90 @@
 // Printing of graphs. Numbers are the only values that are printed yet.
-ghost use Rattle.std.specs.Prelude.{◌≡◌, ◌++◌, ◌∷◌, [], ℕ, ℤ, ◌≤◌, List, length, map, true, Some, IfOk, OnOk, codes};
+ghost use Rattle.std.specs.Prelude.{◌≡◌, ◌++◌, ◌∷◌, [], ℤ, ◌<◌, List, length, map, true, Some, IfOk, OnOk, codes};
 ghost use Rattle.std.specs.Fmt.{signed_decimal};
 ghost use Rattle.std.specs.List.{slice_get};
 ghost use Rattle.nd_types.specs.declared.types.Operation.{Operation};
-ghost use Rattle.nd_types.specs.declared.types.Side.TheVariants as side;
-ghost use Rattle.nd_types.specs.Plain.{IsPlainInterface};
+ghost use Rattle.nd_types.specs.Numbers.{IsNumberSide};
+ghost use Rattle.nd_types.specs.Roots.{roots_of};
 ghost use Rattle.nd_graph.specs.Fitting.{setting_of};
 ghost use Rattle.nd_graph.specs.Seen.{tree_of};
 ghost use Rattle.nd_grammar.specs.Plain.{number};
 ghost use Rattle.value_text.specs.Text.{joined};
 ghost use Rattle.value_text.specs.Whole.{line, side_word};
 ghost use Rattle.value_text.specs.Numbers.{is_number, number_lines};
+ghost use Rattle.value_text.specs.Dues.{walk_names};
 ghost use Rattle.value_text.specs.Printed.{IsText};
 
 use itoa::Buffer;
 use nd_base::{Memory, Octets};
 use nd_graph::{Fit, Val, Vals};
-use nd_types::{Interface, Params};
+use nd_types::{Interface, Side};
 use std::alloc::Global;
 
-/// The text of the values of a graph, version 1: `values 1`, then the operation with its side, then a line for each parameter.
+/// The text of the values of a graph, version 1: `values 1`, then the operation with its side, then a line for each root.
 ///
-/// The interface must be the one that the fit is tied to, and be plain: its operations take signed integers alone and give
-/// nothing back. The fit must be of the [in] side. It takes memory for the text alone; want of it is the only refusal.
+/// The interface must be the one that the fit is tied to, and each root of the fit's side a primitive, of a type from 0 to 10. It takes
+/// memory for the text alone; want of it is the only refusal.
 pub fn print(alloc: Global, interface: &Interface, fit: &Fit) -> Result<Octets, Memory>
     requires tied { fit.now.interface ≡ interface.now }
-    requires inputs { fit.now.side ≡ side.In }
-    requires plain { IsPlainInterface interface.now.types interface.now.operations }
+    requires numbers { IsNumberSide interface.now.types interface.now.operations fit.now.op fit.now.side }
     ensures { IfOk result (λ text. (o : Operation) → slice_get interface.now.operations fit.now.op ≡ Some o
-        → IsText (setting_of interface.now o side.In) fit.now.graph text) }
+        → IsText (setting_of interface.now o fit.now.side) fit.now.graph text) }
 {
     let graph = fit.graph();
-    let Some(operation) = interface.operations.get(fit.op() as usize) else {
+    let op = fit.op();
+    let side = fit.side();
+    let Some(operation) = interface.operations.get(op as usize) else {
         unreachable!()
     };
     let mut text = Octets::new(alloc);
-    append_head(&mut text, operation.name.as_slice())?;
-    append_roots(&mut text, &operation.params, &graph.roots)?;
+    append_head(&mut text, operation.name.as_slice(), side)?;
+    append_roots(&mut text, interface, op, side, &graph.roots)?;
     Ok(text)
 }
 
 // The first lines.
-fn append_head(text: &mut Octets, name: &[u8]) -> Result<(), Memory>
-    ensures { OnOk result (text.new ≡ text.old ++ joined (codes "values 1\nop " ∷ name.now ∷ codes " in\n" ∷ [])) }
+fn append_head(text: &mut Octets, name: &[u8], side: Side) -> Result<(), Memory>
+    ensures { OnOk result (text.new ≡ text.old ++ joined (codes "values 1\nop " ∷ name.now ∷ codes " " ∷ side_word side ∷ codes "\n" ∷ [])) }
 {
     text.append(b"values 1\nop ")?;
     text.append(name)?;
-    text.append(b" in\n")?;
+    text.append(b" ")?;
+    text.append(side_name(side))?;
+    text.append(b"\n")?;
     Ok(())
 }
 
-// A line for each root, which is a number.
-fn append_roots(text: &mut Octets, params: &Params, roots: &Vals) -> Result<(), Memory>
-    requires numbers { (zs : List ℤ) × (roots.now ≡ map number zs) }
-    requires named { length roots.now ≡ length params.now }
-    ensures { OnOk result ((zs : List ℤ) → roots.now ≡ map number zs → text.new ≡ text.old ++ number_lines params.now zs) }
+// `in` or `out`.
+pub(crate) fn side_name(side: Side) -> &'static [u8]
+    ensures { result.now ≡ side_word side }
 {
-    for at in 0..roots.len() {
-        let Some(param) = params.get(at) else {
+    match side {
+        Side::In => b"in",
+        Side::Out => b"out",
+    }
+}
+
+// A line for each root, which is a number.
+fn append_roots(
+    text: &mut Octets,
+    interface: &Interface,
+    op: u32,
+    side: Side,
+    roots: &Vals,
+) -> Result<(), Memory>
+    requires known { op < length interface.now.operations }
+    requires numbers { (zs : List ℤ) × (roots.now ≡ map number zs) }
+    requires named { (o : Operation) → slice_get interface.now.operations op ≡ Some o → length roots.now ≡ length (roots_of interface.now.types side o) }
+    ensures { OnOk result ((o : Operation) (zs : List ℤ) → slice_get interface.now.operations op ≡ Some o → roots.now ≡ map number zs
+        → text.new ≡ text.old ++ number_lines (walk_names interface.now.types side o) zs) }
+{
+    let mut at = 0;
+    for root in interface.params(op, side) {
+        let Some(val) = roots.get(at) else {
             unreachable!()
         };
-        let Some(root) = roots.get(at) else {
-            unreachable!()
-        };
-        append_line(text, param.field.name.as_slice(), number_in(root))?;
+        append_line(text, root.name, number_in(val))?;
+        at += 1;
     }
     Ok(())
 }

@@ -2,8 +2,7 @@
 ghost use Rattle.std.specs.Prelude.{◌≡◌, ◌++◌, ◌∷◌, [], ℕ, ℤ, ◌<◌, ◌≤◌, ◌^◌, List, length, map, Some, IfOk, IfErr};
 ghost use Rattle.std.specs.List.{slice_get, AllByRecursion};
 ghost use Rattle.nd_types.specs.declared.types.Operation.{Operation};
-ghost use Rattle.nd_types.specs.declared.types.Side.TheVariants as sides;
-ghost use Rattle.nd_types.specs.Plain.{IsPlainInterface};
+ghost use Rattle.nd_types.specs.Numbers.{IsNumberSide};
 ghost use Rattle.nd_graph.specs.declared.value.Graph.{Graph};
 ghost use Rattle.nd_graph.specs.Tree.{more, none, node_count};
 ghost use Rattle.nd_graph.specs.Fitting.{setting_of};
@@ -11,52 +10,59 @@ ghost use Rattle.nd_grammar.specs.Plain.{number as number_tree, plain_graph};
 ghost use Rattle.value_text.specs.declared.TheConstants.{TEXT_LIMIT};
 ghost use Rattle.value_text.specs.Tokens.{skip};
 ghost use Rattle.value_text.specs.Reads.{ReadsAs, IsFault, IsRead};
-ghost use Rattle.value_text.specs.Dues.{Due, head_dues, param_dues, Follows, Stops, left_by, fault_by};
+ghost use Rattle.value_text.specs.Dues.{Due, head_dues, name_dues, walk_names, Follows, Stops, left_by, fault_by};
 
 use crate::TEXT_LIMIT;
 use crate::fault::{TextFault, TextReason};
 use crate::lexeme::Lexeme;
 use crate::position::position_behind;
+use crate::printing::side_name;
 use crate::steps::{end, name, number, token};
 use crate::stop::Stop;
 use nd_graph::{Cells, Graph, Val, Vals};
-use nd_types::{Interface, Operation, Param, Params, Side};
+use nd_types::{Interface, Operation, Side};
 use std::alloc::Global;
 
 /// `values 1`, and the operation with its side.
-fn head<'a>(text: &'a [u8], operation: &Operation) -> Result<&'a [u8], Stop>
-    ensures ok { IfOk result (λ rest. Follows (head_dues operation.now) text.now [] rest.now) }
-    ensures err { IfErr result (λ e. (ds : List Due) → Stops (head_dues operation.now ++ ds) text.now e) }
+fn head<'a>(text: &'a [u8], operation: &Operation, side: Side) -> Result<&'a [u8], Stop>
+    ensures ok { IfOk result (λ rest. Follows (head_dues operation.now side) text.now [] rest.now) }
+    ensures err { IfErr result (λ e. (ds : List Due) → Stops (head_dues operation.now side ++ ds) text.now e) }
 {
     let rest = token(text, Lexeme::Word(b"values"))?;
     let rest = token(rest, Lexeme::Number(1))?;
     let rest = token(rest, Lexeme::Word(b"op"))?;
     let rest = name(rest, operation.name.as_slice())?;
-    name(rest, b"in")
+    name(rest, side_name(side))
 }
 
-/// The line of a parameter.
-fn root<'a>(text: &'a [u8], param: &Param) -> Result<(i128, &'a [u8]), Stop>
-    ensures ok { IfOk result (λ x. Follows (param_dues (param.now ∷ [])) text.now (x.0 ∷ []) x.1.now) }
-    ensures err { IfErr result (λ e. (ds : List Due) → Stops (param_dues (param.now ∷ []) ++ ds) text.now e) }
+/// The line of a root.
+fn root<'a>(text: &'a [u8], root: &[u8]) -> Result<(i128, &'a [u8]), Stop>
+    ensures ok { IfOk result (λ x. Follows (name_dues (root.now ∷ [])) text.now (x.0 ∷ []) x.1.now) }
+    ensures err { IfErr result (λ e. (ds : List Due) → Stops (name_dues (root.now ∷ []) ++ ds) text.now e) }
 {
-    let rest = name(text, param.field.name.as_slice())?;
+    let rest = name(text, root)?;
     let rest = token(rest, Lexeme::Mark(b'='))?;
     number(rest)
 }
 
-/// The lines of the parameters, which are numbers.
-fn roots<'a>(alloc: Global, text: &'a [u8], params: &Params) -> Result<(Vals, &'a [u8]), Stop>
-    ensures ok { IfOk result (λ x. (zs : List ℤ) × (x.0 ≡ map number_tree zs) × Follows (param_dues params.now) text.now zs x.1.now) }
-    ensures err { IfErr result (λ e. Stops (param_dues params.now) text.now e) }
+/// The lines of the roots, which are numbers.
+fn roots<'a>(
+    alloc: Global,
+    text: &'a [u8],
+    interface: &Interface,
+    op: u32,
+    side: Side,
+) -> Result<(Vals, &'a [u8]), Stop>
+    requires { op < length interface.now.operations }
+    ensures ok { IfOk result (λ x. (o : Operation) → slice_get interface.now.operations op ≡ Some o
+        → (zs : List ℤ) × (x.0 ≡ map number_tree zs) × Follows (name_dues (walk_names interface.now.types side o)) text.now zs x.1.now) }
+    ensures err { IfErr result (λ e. (o : Operation) → slice_get interface.now.operations op ≡ Some o
+        → Stops (name_dues (walk_names interface.now.types side o)) text.now e) }
 {
     let mut vals = Vals::new(alloc);
     let mut rest = text;
-    for at in 0..params.len() {
-        let Some(param) = params.get(at) else {
-            unreachable!()
-        };
-        let (value, after) = root(rest, param)?;
+    for next in interface.params(op, side) {
+        let (value, after) = root(rest, next.name)?;
         if let Err((memory, _)) = vals.push(Val::Num(value)) {
             return Err(Stop::from(memory));
         }
@@ -65,14 +71,27 @@ fn roots<'a>(alloc: Global, text: &'a [u8], params: &Params) -> Result<(Vals, &'
     Ok((vals, rest))
 }
 
-/// The graph of a text of the [in] side of a plain operation.
-fn plain_text(alloc: Global, text: &[u8], operation: &Operation) -> Result<Graph, Stop>
-    ensures ok { IfOk result (λ g. (zs : List ℤ) × (rest : List ℕ) × (g ≡ plain_graph zs)
-        × Follows (head_dues operation.now ++ param_dues operation.now.params) text.now zs rest × (skip rest ≡ [])) }
-    ensures err { IfErr result (λ e. Stops (head_dues operation.now ++ param_dues operation.now.params) text.now e) }
+/// The graph of a text of a side whose roots are primitives.
+fn plain_text(
+    alloc: Global,
+    text: &[u8],
+    interface: &Interface,
+    op: u32,
+    side: Side,
+) -> Result<Graph, Stop>
+    requires { op < length interface.now.operations }
+    ensures ok { IfOk result (λ g. (o : Operation) → slice_get interface.now.operations op ≡ Some o
+        → (zs : List ℤ) × (rest : List ℕ) × (g ≡ plain_graph zs)
+        × Follows (head_dues o side ++ name_dues (walk_names interface.now.types side o)) text.now zs rest × (skip rest ≡ [])) }
+    ensures err { IfErr result (λ e. (o : Operation) → slice_get interface.now.operations op ≡ Some o
+        → Stops (head_dues o side ++ name_dues (walk_names interface.now.types side o)) text.now e) }
+    ensures cells { IfOk result (λ g. g.cells ≡ []) }
 {
-    let rest = head(text, operation)?;
-    let (roots, rest) = roots(alloc, rest, &operation.params)?;
+    let Some(operation) = interface.operations.get(op as usize) else {
+        unreachable!()
+    };
+    let rest = head(text, operation, side)?;
+    let (roots, rest) = roots(alloc, rest, interface, op, side)?;
     end(rest)?;
     Ok(Graph {
         roots,
@@ -100,10 +119,10 @@ fn fault_of(text: &[u8], stop: Stop) -> TextFault
 }
 
 /// Reads a text of the values of an operation's side, version 1: `values 1`, the operation with its side, a line for each
-/// parameter, and a line for each cell. Blanks may stand between all tokens.
+/// root, and a line for each cell. Blanks may stand between all tokens.
 ///
-/// The interface must be plain: its operations take signed integers alone and give nothing back. `op` is the number of an
-/// operation, and the side is [in]. Numbers have at most 20 digits: whether they are values of their types is asked of the graph.
+/// `op` must be the number of an operation, and each root of the side a primitive, of a type from 0 to 10. Numbers have at most 20 digits:
+/// whether they are values of their types is asked of the graph.
 ///
 /// # Errors
 /// TooLong for a text of more than 268,435,456 octets. Otherwise the first token, or the end, with which the text begins that of
@@ -117,15 +136,15 @@ pub fn read_text(
     side: Side,
     text: &[u8],
 ) -> Result<Graph, TextFault>
-    requires plain { IsPlainInterface interface.now.types interface.now.operations }
+    requires numbers { IsNumberSide interface.now.types interface.now.operations op side }
     requires known { op < length interface.now.operations }
-    requires inputs { side ≡ sides.In }
     ensures read { IfOk result (λ g. (o : Operation) → slice_get interface.now.operations op ≡ Some o
         → ReadsAs (setting_of interface.now o side) text.now g) }
     ensures refused { IfErr result (λ e. (o : Operation) → slice_get interface.now.operations op ≡ Some o
         → IsFault (setting_of interface.now o side) text.now e) }
     ensures only { (o : Operation) (g : Graph) → slice_get interface.now.operations op ≡ Some o
         → ReadsAs (setting_of interface.now o side) text.now g → IsRead result g }
+    ensures no_cells { IfOk result (λ g. g.cells ≡ []) }
     ensures few_cells { IfOk result (λ g. length g.cells < 2 ^ 32) }
     ensures few_nodes { IfOk result (λ g. AllByRecursion (λ t. node_count (more t none) < 2 ^ 32) (g.roots ++ map (λ c. c.val) g.cells)) }
 {
@@ -136,10 +155,7 @@ pub fn read_text(
             reason: TextReason::TooLong,
         });
     }
-    let Some(operation) = interface.operations.get(op as usize) else {
-        unreachable!()
-    };
-    match plain_text(alloc, text, operation) {
+    match plain_text(alloc, text, interface, op, side) {
         Ok(graph) => Ok(graph),
         Err(stop) => Err(fault_of(text, stop)),
     }

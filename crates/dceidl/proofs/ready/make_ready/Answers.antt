@@ -1,17 +1,21 @@
-use Rattle.std.proofs.Common.{sym, subst}
-use Rattle.nd_base.specs.Outside.{IsContent}
+use Rattle.std.proofs.lemmas.Result.{err_from_is_err_and}
 use Rattle.dceidl.specs.Outside.{files_seen}
-use Rattle.dceidl.proofs.Causes.{ready_is, file_refused}
+use Rattle.dceidl.proofs.Causes.{ready_is, find_refused, idl_refused}
 use Rattle.dceidl.proofs.ready.make_ready.Goals as goal
 
-pub returns-in-Ok-clause-ready : goal.returns-in-Ok-clause-ready
-returns-in-Ok-clause-ready g c =
-    ready_is (files_seen g.F.Files.held g.F.Files.absences g.F.Files.faults c.args.files.now c.load.new.self) c.args.idl.now c.args.op.now
-    c.as_slice.result.now (subst (IsContent (g.F.Files.held c.args.files.now) c.args.idl.now) (sym c.as_slice.ensures) c.in-Ok.ensures.content)
-    c.read_file.result c.read_file.ensures.file c.read_file.ensures.named c.read_file.ensures.known
+pub returns-in_err-interface-clause-refused : goal.returns-in_err-interface-clause-refused
+returns-in_err-interface-clause-refused g c =
+    let p = err_from_is_err_and c.from_residual.result c.from_residual.ensures.1 in
+    rw (p.1, p.2)
+    (idl_refused (files_seen g.F.Files.held g.F.Files.absences g.F.Files.faults c.args.files.now c.compile.new.files) c.args.idl.now c.args.op.now c.args.side _
+    c.in_err-interface.ensures.err)
 
-pub returns-in-Ok-clause-refused : goal.returns-in-Ok-clause-refused
-returns-in-Ok-clause-refused g c =
-    file_refused (files_seen g.F.Files.held g.F.Files.absences g.F.Files.faults c.args.files.now c.load.new.self) c.args.idl.now c.args.op.now
-    c.as_slice.result.now (subst (IsContent (g.F.Files.held c.args.files.now) c.args.idl.now) (sym c.as_slice.ensures) c.in-Ok.ensures.content)
-    c.read_file.result c.read_file.ensures.refused
+pub returns-clause-ready : goal.returns-clause-ready
+returns-clause-ready g c =
+    ready_is (files_seen g.F.Files.held g.F.Files.absences g.F.Files.faults c.args.files.now c.compile.new.files) c.args.idl.now c.args.op.now c.args.side
+    c.in_ok-interface.interface c.in_ok-interface.ensures.ok c.find.result c.find.ensures.interface c.find.ensures.found c.find.ensures.side c.find.ensures.known c.find.ensures.built
+
+pub returns-clause-refused : goal.returns-clause-refused
+returns-clause-refused g c =
+    find_refused (files_seen g.F.Files.held g.F.Files.absences g.F.Files.faults c.args.files.now c.compile.new.files) c.args.idl.now c.args.op.now c.args.side
+    c.in_ok-interface.interface c.in_ok-interface.ensures.ok c.find.result c.find.ensures.refused

@@ -1,5 +1,5 @@
 use Rattle.std.proofs.Common.{sym, subst}
-use Rattle.plain_ndr.specs.Decoding.{inputs_of}
+use Rattle.nd_graph.specs.Fitting.{setting_of}
 use Rattle.dceidl.specs.Outside.{source_seen}
 use Rattle.dceidl.specs.Task.{IsRead}
 use Rattle.dceidl.proofs.Causes.{made_of_input, input_refused}
@@ -7,7 +7,7 @@ use Rattle.dceidl.proofs.task.convert_input.Goals as goal
 
 pub returns-in-Ok-clause-done : goal.returns-in-Ok-clause-done
 returns-in-Ok-clause-done g c o there =
-    made_of_input (source_seen g.S.Source.left g.S.Source.ended g.S.Source.faults c.args.input.now c.read_input.new.input) (inputs_of c.args.ready.now.interface o)
+    made_of_input (source_seen g.S.Source.left g.S.Source.ended g.S.Source.faults c.args.input.now c.read_input.new.input) (setting_of c.args.ready.now.interface o c.args.ready.now.side)
     c.args.task c.as_slice.result.now
     (subst (λ n. IsRead (source_seen g.S.Source.left g.S.Source.ended g.S.Source.faults c.args.input.now c.read_input.new.input) n c.as_slice.result.now) c.limit.ensures
     (subst (IsRead (source_seen g.S.Source.left g.S.Source.ended g.S.Source.faults c.args.input.now c.read_input.new.input) c.limit.result) (sym c.as_slice.ensures)
@@ -16,7 +16,7 @@ returns-in-Ok-clause-done g c o there =
 
 pub returns-in-Ok-clause-refused : goal.returns-in-Ok-clause-refused
 returns-in-Ok-clause-refused g c o there =
-    input_refused (source_seen g.S.Source.left g.S.Source.ended g.S.Source.faults c.args.input.now c.read_input.new.input) (inputs_of c.args.ready.now.interface o)
+    input_refused (source_seen g.S.Source.left g.S.Source.ended g.S.Source.faults c.args.input.now c.read_input.new.input) (setting_of c.args.ready.now.interface o c.args.ready.now.side)
     c.args.task c.as_slice.result.now
     (subst (λ n. IsRead (source_seen g.S.Source.left g.S.Source.ended g.S.Source.faults c.args.input.now c.read_input.new.input) n c.as_slice.result.now) c.limit.ensures
     (subst (IsRead (source_seen g.S.Source.left g.S.Source.ended g.S.Source.faults c.args.input.now c.read_input.new.input) c.limit.result) (sym c.as_slice.ensures)

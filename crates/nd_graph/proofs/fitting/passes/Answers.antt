@@ -1,7 +1,7 @@
 use Rattle.std.proofs.lemmas.Result.{err_from_is_err_and, IfErr-weaker, on_ok_weaker}
 use Rattle.nd_graph.specs.Fitting.{setting_of}
 use Rattle.nd_graph.proofs.Told.{told_local, told_shared, told_unreached, told_disagreeing}
-use Rattle.nd_graph.proofs.PlainFit.{plain_side, plain_passed}
+use Rattle.nd_graph.proofs.PlainFit.{number_side, simple_cells, plain_passed}
 use Rattle.nd_graph.proofs.fitting.passes.Goals as goal
 
 pub returns-in_err-local-clause-misfit : goal.returns-in_err-local-clause-misfit
@@ -35,7 +35,8 @@ returns-clause-conforms c =
     let i = c.args.interface.now in
     on_ok_weaker c.disagreeing.result
     (λ none o there.
-    let (simple, plain) = plain_side i c.args.op o c.args.side c.requires.plain there in
+    let simple = simple_cells i.types c.args.graph.now.cells c.requires.simple in
+    let plain = number_side i c.args.op o c.args.side (c.requires.numbers o there) there in
     plain_passed (setting_of i o c.args.side) c.args.graph.now simple plain (c.in_ok-local.ensures.none o there) (c.in_ok-shared.ensures.none o there)
     (c.in_ok-unreached.ensures.none o there) (none o there) c.requires.few_cells c.requires.few_nodes)
     c.disagreeing.ensures.none

@@ -3,6 +3,7 @@ use Rattle.std.proofs.lemmas.Result.{err_from_is_err_and}
 use Rattle.nd_graph.specs.Seen.{cell_of}
 use Rattle.nd_graph.specs.Passes.{first_in_cells}
 use Rattle.nd_graph.proofs.LocalPass.{cell_next, tells_first, later_left, drop-past}
+use Rattle.nd_graph.proofs.PlainFit.{cell_simple}
 use Rattle.nd_graph.proofs.local.cells.Goals as goal
 
 pub loop-at-init : goal.loop-at-init
@@ -14,6 +15,10 @@ returns-in_err-home-clause-first c =
     let next = c.loop-at.invariant ∙ cell_next c.args.types.now g g.cells c.loop-at.at (cell_of c.in-Some.cell.now) c.in-Some.ensures.some in
     let p = err_from_is_err_and c.from_residual.result c.from_residual.ensures.1 in
     rw (p.1, p.2) (tells_first _ _ _ _ next c.in_err-home.ensures.first)
+
+pub home-requires : goal.home-requires
+home-requires c =
+    record { simple = cell_simple c.args.types.now c.args.graph.now.cells c.loop-at.at (cell_of c.in-Some.cell.now) c.requires.simple c.in-Some.ensures.some }
 
 pub loop-at-preserved : goal.loop-at-preserved
 loop-at-preserved c =

@@ -6,6 +6,7 @@ use Rattle.nd_types.specs.Walk.{named_roots, root_value}
 use Rattle.nd_graph.specs.Seen.{tree_of}
 use Rattle.nd_graph.proofs.FewRoots.{few_named_roots, item_at, past_end}
 use Rattle.nd_graph.proofs.LocalPass.{root_next, root_missing, root_surplus, roots_end, given_root, tells_first, told_shape, later_left}
+use Rattle.nd_graph.proofs.PlainFit.{root_simple}
 use Rattle.nd_graph.proofs.local.roots.Goals as goal
 
 pub loop-root-init : goal.loop-root-init
@@ -37,6 +38,16 @@ returns-in_err-home-clause-first c =
     (c.loop-root.invariant.left o there
     ∙ root_next i.types g all g.roots c.loop-root.at (root_value c.in-Some.root) (tree_of c.in-Some-get.val.now) root c.in-Some-get.ensures.some)
     c.in_err-home.ensures.first)
+
+pub home-requires : goal.home-requires
+home-requires c =
+    let (o, there) = item_at c.args.interface.now.operations c.args.op c.requires.known in
+    let i = c.args.interface.now in
+    let all = named_roots i.types c.args.side o in
+    let walk = YieldsList-from_first root_value (λ w. w) all (c.into_iter-root-iterator.ensures.into_iter_gives ∙ c.params-root-items.ensures o there) in
+    let turn = YieldsList-turn walk c.loop-root.yielded _ c.loop-root.yielded_by _ _ c.in-Some.root c.in-Some.is c.next.ensures.steps in
+    let root = given_root _ c.loop-root.at _ (root_value c.in-Some.root) c.loop-root.invariant.counted turn in
+    record { simple = root_simple i c.args.op o c.args.side c.loop-root.at (root_value c.in-Some.root) (c.requires.numbers o there) there root }
 
 pub overflow_add-at : goal.overflow_add-at
 overflow_add-at c =

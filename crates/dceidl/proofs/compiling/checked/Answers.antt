@@ -1,0 +1,13 @@
+use Rattle.std.proofs.Common.{subst, Err}
+use Rattle.idl_names.specs.Seen.{seen_scope}
+use Rattle.idl_check.specs.Checked.{world_of}
+use Rattle.idl_check.specs.Answers.{Answers}
+use Rattle.dceidl.proofs.Compiled.{rule_fault}
+use Rattle.dceidl.specs.Idl.{told_rule}
+use Rattle.dceidl.proofs.compiling.checked.Goals as goal
+
+pub returns-in-Err-Broken-clause-err : goal.returns-in-Err-Broken-clause-err
+returns-in-Err-Broken-clause-err c f idl text resolved =
+    rule_fault f idl text (seen_scope c.args.sources.now c.args.scope.now) resolved c.in-Err-Broken.rule c.in-Err-Broken.place
+    (subst (λ e. Answers (world_of c.args.scope.now) (Err e)) c.in-Err-Broken.field-0-is c.in-Err-Broken.ensures)
+    c.or_memory.result (c.or_memory.ensures (told_rule c.args.sources.now c.in-Err-Broken.rule c.in-Err-Broken.place) c.tell_rule.ensures)

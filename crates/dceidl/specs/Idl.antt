@@ -1,0 +1,147 @@
+-- What the files of a compilation mean, and for which causes they are refused. `held` tells the contents of files, `idl` is the name of the main file
+-- and `text` its text.
+use Rattle.std.specs.Prelude.{◌≡◌, ◌⊎◌, ℕ, List, [], ◌∷◌, ◌++◌, length, drop, take_while, Option, None, Some, ⊤}
+use Rattle.nd_base.specs.declared.octets.Place.{Place}
+use Rattle.nd_base.specs.Outside.{IsContent}
+use Rattle.nd_types.specs.declared.interface.Interface.{Interface}
+use Rattle.idl_lexer.specs.Classes.{is_word_octet}
+use Rattle.idl_lexer.specs.declared.tokens.LexFault.TheVariants as lexical
+use Rattle.idl_lexer.specs.Verdict.{IsFault}
+use Rattle.idl_grammar.specs.Tree.{Tree}
+use Rattle.idl_names.specs.declared.name_fault.NameFault.{NameFault}
+use Rattle.idl_names.specs.declared.name_fault.NameFault.TheVariants as names
+use Rattle.idl_parser.specs.declared.fault.SyntaxFault.{SyntaxFault}
+use Rattle.idl_parser.specs.declared.fault.SyntaxFault.TheVariants as syntax
+use Rattle.idl_names.specs.Files.{IsFile, IsNoFile}
+use Rattle.idl_names.specs.Sources.{Source, source, and_source, file_name, file_text}
+use Rattle.idl_names.specs.Walk.{State, Walk, start, all_of, Stopped, IsResolved, IsRefused}
+use Rattle.idl_check.specs.World.{World}
+use Rattle.idl_check.specs.Rules.{breach}
+use Rattle.idl_check.specs.FirstBroken.{first_broken}
+use Rattle.idl_check.specs.Answers.{IsMeaning}
+use Rattle.value_text.specs.Reads.{position_of}
+use Rattle.dceidl.specs.declared.refusal.IdlReason.{IdlReason}
+use Rattle.dceidl.specs.declared.refusal.IdlReason.TheVariants as reason
+use Rattle.dceidl.specs.declared.refusal.Refusal.{Refusal}
+use Rattle.dceidl.specs.declared.refusal.Refusal.TheVariants.{Memory, Absent, FileFailed, BadIdl}
+
+-- ## What the files mean
+
+-- the main file alone
+abbrev pub main_file : List ℕ → List ℕ → List Source
+main_file idl text = source idl text ∷ []
+
+-- files that are resolved, as the rules speak of them
+abbrev pub resolved_world : State → World
+resolved_world s = record { files = s.ended; known = s.known }
+
+-- The text is a file of the language, and its names are resolved, with those of the files that it imports.
+pub record AreResolved (held : Option (List ℕ → Option (List ℕ))) (idl text : List ℕ) (state : State) : Type 0 where
+  pub tree : Tree
+  pub parsed : IsFile text tree
+  pub names : IsResolved held (main_file idl text) tree state
+
+-- The names are resolved, no rule is broken, and the files mean this interface.
+pub record Means (held : Option (List ℕ → Option (List ℕ))) (idl text : List ℕ) (i : Interface) : Type 0 where
+  pub state : State
+  pub resolved : AreResolved held idl text state
+  pub meaning : IsMeaning (resolved_world state) i
+
+-- ## Faults
+
+-- The main file cannot be cut into tokens, or is no file of the language. (Where memory was wanting no more is said.)
+abbrev pub IsMainFault : List ℕ → NameFault → Type 0
+IsMainFault text names.Memory = ⊤
+IsMainFault text (names.Lex file f) = (file ≡ 0) × IsFault text f
+IsMainFault text (names.Syntax file at f) = (file ≡ 0) × IsNoFile text at f
+IsMainFault text _ = ⊥
+
+-- the main file has a fault, or the walk through the files
+abbrev pub IsNameFault : Option (List ℕ → Option (List ℕ)) → List ℕ → List ℕ → List Source → NameFault → Type 0
+IsNameFault held idl text sources f =
+    ((sources ≡ main_file idl text) × IsMainFault text f)
+    ⊎ ((tree : Tree) × IsFile text tree × IsRefused held (main_file idl text) tree sources f)
+
+-- The names are resolved, and this is the rule that is told, at its place.
+pub record IsBroken (held : Option (List ℕ → Option (List ℕ))) (idl text : List ℕ) (sources : List Source) (rule : ℕ) (place : Place) : Type 0 where
+  pub state : State
+  pub resolved : AreResolved held idl text state
+  pub sources_are : sources ≡ state.sources
+  pub first : first_broken (resolved_world state) ≡ Some (breach rule place)
+
+-- ## How faults are told
+
+abbrev or_empty : Option (List ℕ) → List ℕ
+or_empty None = []
+or_empty (Some octets) = octets
+
+-- the name and the text of a file by its number; each fault is of a file that is there
+abbrev pub name_in : List Source → ℕ → List ℕ
+name_in sources file = or_empty (file_name sources file)
+
+abbrev pub text_in : List Source → ℕ → List ℕ
+text_in sources file = or_empty (file_text sources file)
+
+-- the word that begins at an octet: the longest run of letters, digits and `_` there
+abbrev pub word_at : List ℕ → ℕ → List ℕ
+word_at text at = take_while is_word_octet (drop at text)
+
+abbrev pub word_in : List Source → Place → List ℕ
+word_in sources p = word_at (text_in sources p.file) p.at
+
+-- an octet of a text is told by its line and column, both from 1; a line feed ends a line
+abbrev pub told_by : List ℕ → ℕ × ℕ → IdlReason → Refusal
+told_by name position why = BadIdl name position.0 position.1 why
+
+abbrev pub told_at : List Source → Place → IdlReason → Refusal
+told_at sources p why = told_by (name_in sources p.file) (position_of (text_in sources p.file) p.at) why
+
+abbrev pub syntax_reason : List ℕ → SyntaxFault → Option IdlReason
+syntax_reason word syntax.Memory = None
+syntax_reason word (syntax.Syntax token) = Some reason.Syntax
+syntax_reason word (syntax.Deep token) = Some reason.Deep
+syntax_reason word (syntax.Banned token) = Some (reason.Banned word)
+
+abbrev pub told_if : List Source → Place → Option IdlReason → Refusal
+told_if sources p None = Memory
+told_if sources p (Some why) = told_at sources p why
+
+abbrev pub place_of : ℕ → ℕ → Place
+place_of file at = record { file = file; at = at }
+
+-- a fault of names, of the main file or of an import, as a refusal
+abbrev pub told_fault : List Source → NameFault → Refusal
+told_fault s names.Memory = Memory
+told_fault s (names.Unknown p) = told_at s p (reason.Unknown (word_in s p))
+told_fault s (names.Twice p first) = told_at s p (reason.Twice (word_in s p))
+told_fault s (names.Const p f) = told_at s p (reason.NoValue f)
+told_fault s (names.ImportCycle p) = told_at s p reason.ImportCycle
+told_fault s (names.TooMany p) = told_at s p reason.TooMany
+told_fault s (names.Absent file) = Absent (name_in s file)
+told_fault s (names.Failed file) = FileFailed (name_in s file)
+told_fault s (names.Lex file lexical.Memory) = Memory
+told_fault s (names.Lex file (lexical.At at kind)) = told_at s (place_of file at) (reason.Lexical kind)
+told_fault s (names.Syntax file at f) = told_if s (place_of file at) (syntax_reason (word_in s (place_of file at)) f)
+
+-- a broken rule as a refusal
+abbrev pub told_rule : List Source → ℕ → Place → Refusal
+told_rule s rule place = told_at s place (reason.Rule rule)
+
+-- The files are refused in this way: for the first fault of their names, or for the first rule that is broken.
+pub data IsIdlFault (held : Option (List ℕ → Option (List ℕ))) (idl text : List ℕ) (r : Refusal) : Type 0 where
+  by_names : (sources : List Source) (f : NameFault) → IsNameFault held idl text sources f → r ≡ told_fault sources f → IsIdlFault held idl text r
+  by_rules : (sources : List Source) (rule : ℕ) (place : Place) → IsBroken held idl text sources rule place → r ≡ told_rule sources rule place
+      → IsIdlFault held idl text r
+
+-- ## Files that are due
+
+-- The load of an import is due: the walk comes to it, so that it ends there if the load fails.
+pub record IsDueImport (held : Option (List ℕ → Option (List ℕ))) (idl text file : List ℕ) : Type 0 where
+  pub tree : Tree
+  pub parsed : IsFile text tree
+  pub sources : List Source
+  pub comes : Walk held (start (main_file idl text)) (all_of 0 tree) (Stopped (and_source sources file []) (names.Failed (length sources)))
+
+-- the load of a file is due: of the main file, or of an import
+abbrev pub IsDueFile : Option (List ℕ → Option (List ℕ)) → List ℕ → List ℕ → Type 0
+IsDueFile held idl file = (file ≡ idl) ⊎ ((text : List ℕ) × IsContent held idl text × IsDueImport held idl text file)
