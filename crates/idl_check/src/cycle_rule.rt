@@ -1,14 +1,16 @@
 // Rule 11: no struct or union contains itself in place (C706, section 4.2.8).
-ghost use Rattle.std.specs.Prelude.{◌≡◌, ℕ, List, ◌∷◌, [], map, Some, None, true, length, option_map, slice_index_or, IfOk, OnOk};
+ghost use Rattle.std.specs.Prelude.{◌≡◌, ℕ, List, ◌∷◌, [], map, Some, None, true, length, option_map, slice_get, slice_index_or, IfOk, OnOk};
 ghost use Rattle.std.specs.List.{flat_map};
 ghost use Rattle.idl_names.specs.Seen.{seen_files, known_in};
+ghost use Rattle.idl_names.specs.Known.{Known};
 ghost use Rattle.idl_check.specs.declared.nodes.Nodes as program_nodes;
 ghost use Rattle.idl_check.specs.World.{World};
-ghost use Rattle.idl_check.specs.Scene.{Scene, bodies, place_of};
+ghost use Rattle.idl_check.specs.Nodes.{place_in};
+ghost use Rattle.idl_check.specs.Scene.{Scene, Body, bodies, place_of};
 ghost use Rattle.idl_check.specs.TypeRules.{held, innermost};
 ghost use Rattle.idl_check.specs.declared.kinds.Kind as kinds;
 ghost use Rattle.idl_check.specs.Kinds.{type_at, type_by, seen_types, is_inside};
-ghost use Rattle.idl_check.specs.SeenTypes.{scene_seen, IsTypes};
+ghost use Rattle.idl_check.specs.SeenTypes.{scene_seen, names_at, body_at, IsTypes};
 ghost use Rattle.idl_check.specs.Noted.{noted};
 ghost use Rattle.idl_check.specs.Found.{seen_breach};
 ghost use Rattle.idl_check.specs.RestBreaches.{cycle_breaches};
@@ -145,7 +147,10 @@ fn least_value(alloc: Global, types: &Types, graph: &Graph, values: &[u64]) -> R
 }
 
 /// Where a breach of a body is told.
-fn place_told(nodes: &Nodes<'_>, body: &BodyTypes) -> Option<Place> {
+fn place_told(nodes: &Nodes<'_>, body: &BodyTypes) -> Option<Place>
+    ensures { (known : Known) (b : Body) → body_at (names_at known nodes.now body.now.node) (slice_get nodes.now.items.items body.now.node) ≡ Some b
+        → result ≡ Some (place_in b.construct b.construct.at) }
+{
     match nodes.items.get(body.node as usize) {
         Some(Node::Body { construct, .. }) => Some(construct.place(construct.at)),
         _ => None,
@@ -186,6 +191,17 @@ fn with_key(alloc: Global, keys: &[u64], key: u64) -> Result<Vec<u64>, Memory>
     Ok(numbers)
 }
 
+/// Where a breach of a body is told, by the number of the body.
+fn told(nodes: &Nodes<'_>, types: &Types, number: u64) -> Option<Place>
+    ensures { (s : Scene) (b : Body) → IsTypes s nodes.now types.now → slice_get (bodies s) number ≡ Some b
+        → result ≡ Some (place_in b.construct b.construct.at) }
+{
+    match types.bodies.get(number as usize) {
+        Some(body) => place_told(nodes, body),
+        None => None,
+    }
+}
+
 /// Rule 11 on all bodies: the first breach is noted. Takes memory for each body and each part of one.
 pub(crate) fn note_cycles<'t>(
     alloc: Global,
@@ -207,8 +223,9 @@ pub(crate) fn note_cycles<'t>(
     let Some(number) = least_value(alloc, types, &graph, numbers.as_slice())? else {
         return Ok(());
     };
-    if let Some(place) = types.bodies.get(number as usize).and_then(|body| place_told(nodes, body)) {
-        finder.note(11, place, true);
-    }
+    let Some(place) = told(nodes, types, number) else {
+        return Ok(());
+    };
+    finder.note(11, place, true);
     Ok(())
 }
