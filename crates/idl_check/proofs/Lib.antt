@@ -58,6 +58,8 @@ mod CycleFirst
 mod CycleGraph
 mod CycleChosen
 mod CycleLeast
+mod CycleKeys
+mod CycleLower
 pub mod ReadNames
 pub mod ReadSteps
 pub mod ReadBodies

@@ -1,5 +1,5 @@
 // Rule 11: no struct or union contains itself in place (C706, section 4.2.8).
-ghost use Rattle.std.specs.Prelude.{◌≡◌, ℕ, List, ◌∷◌, [], map, Some, None, true, length, option_map, slice_get, slice_index_or, IfOk, OnOk};
+ghost use Rattle.std.specs.Prelude.{◌≡◌, ℕ, List, ◌∷◌, [], map, Some, None, true, length, min, option_map, slice_get, slice_index_or, slice_set, IfOk, OnOk};
 ghost use Rattle.std.specs.List.{flat_map};
 ghost use Rattle.idl_names.specs.Seen.{seen_files, known_in};
 ghost use Rattle.idl_names.specs.Known.{Known};
@@ -14,7 +14,7 @@ ghost use Rattle.idl_check.specs.SeenTypes.{scene_seen, names_at, body_at, IsTyp
 ghost use Rattle.idl_check.specs.Noted.{noted};
 ghost use Rattle.idl_check.specs.Found.{seen_breach};
 ghost use Rattle.idl_check.specs.RestBreaches.{cycle_breaches};
-ghost use Rattle.idl_check.specs.Cycles.{option_list, AreInnermost, AreInnermostBelow, numbers_of, AreHeldBy, AreOfPlaces, AreKeys, AreNumbersWith, IsLeastOf};
+ghost use Rattle.idl_check.specs.Cycles.{option_list, AreInnermost, AreInnermostBelow, numbers_of, first_number, AreHeldBy, AreOfPlaces, AreKeys, AreNumbersWith, IsLeastOf};
 
 use crate::finder::Finder;
 use crate::graph::{Graph, least_key};
@@ -115,9 +115,22 @@ fn graph_of(alloc: Global, types: &Types) -> Result<Graph, Memory>
 }
 
 /// A value at a number, if it is less than what stands there.
-fn lower(least: &mut [u64], number: u32, value: u64) {
-    if let Some(so_far) = least.get_mut(number as usize) {
-        *so_far = (*so_far).min(value);
+fn lower(least: &mut [u64], number: u32, value: u64)
+    ensures { least.new ≡ slice_set least.old number (min (slice_index_or least.old number 0) value) }
+{
+    let number = number as usize;
+    if number < least.len() {
+        least[number] = least[number].min(value);
+    }
+}
+
+/// The first body of the place of a body.
+fn first_of(types: &Types, number: usize) -> Option<u32>
+    ensures { result ≡ first_number types.now number }
+{
+    match types.bodies.get(number) {
+        Some(body) => types.body_of(body.place),
+        None => None,
     }
 }
 
@@ -128,10 +141,11 @@ fn of_places(alloc: Global, types: &Types, values: &[u64]) -> Result<Vec<u64>, M
 {
     let mut least = Vec::new(alloc);
     least.extend_from_slice(values)?;
-    for (body, value) in types.bodies.iter().zip(values) {
-        if let Some(number) = types.body_of(body.place) {
-            lower(&mut least, number, *value);
-        }
+    for (number, value) in values.iter().enumerate() {
+        let Some(first) = first_of(types, number) else {
+            continue;
+        };
+        lower(least.as_mut_slice(), first, *value);
     }
     Ok(least)
 }
