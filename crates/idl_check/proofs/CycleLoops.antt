@@ -4,18 +4,22 @@ use Rattle.std.specs.Prelude.{slice_index_or}
 use Rattle.std.specs.List.{flat_map}
 use Rattle.std.proofs.lemmas.Bool.{ltb-true, ltb-false}
 use Rattle.std.proofs.lemmas.List.{take_more, map-append, append-nil}
+use Rattle.std.proofs.lemmas.Option.{slice_get_within}
+use Rattle.std.specs.Option.{option_and_then}
 use Rattle.std.proofs.lemmas.List.Concat.{flat_map-cons, flat_map-append}
 use Rattle.nd_base.specs.declared.octets.Place.{Place}
+use Rattle.idl_check.specs.declared.nodes.Nodes as program_nodes
 use Rattle.idl_check.specs.declared.kinds.Kind.{Kind}
 use Rattle.idl_check.specs.declared.types.Types as program_types
 use Rattle.idl_check.specs.Types.{IdlType}
-use Rattle.idl_check.specs.Scene.{Scene, Body, bodies, place_of}
+use Rattle.idl_check.specs.Scene.{Scene, Body, bodies, place_of, parts_of_found}
 use Rattle.idl_check.specs.Graph.{parts_at}
 use Rattle.idl_check.specs.TypeRules.{innermost, held}
 use Rattle.idl_check.specs.Kinds.{type_at}
 use Rattle.idl_check.specs.Places.{found_place}
-use Rattle.idl_check.specs.Cycles.{option_list, AreInnermost, AreInnermostBelow, numbers_of}
-use Rattle.idl_check.proofs.CycleGraph.{index_past}
+use Rattle.idl_check.specs.SeenTypes.{IsTypes}
+use Rattle.idl_check.specs.Cycles.{option_list, AreInnermost, AreInnermostBelow, numbers_of, AreHeldBy}
+use Rattle.idl_check.proofs.CycleGraph.{index_past, held_parts}
 use Rattle.idl_check.proofs.Held.{void_past}
 use Rattle.idl_check.proofs.PlacesFilled.{each_more}
 
@@ -77,3 +81,25 @@ one_number t place o e =
 -- the first bodies, each with the numbers of what it holds
 abbrev pub AreRows : Scene → program_types.Types → ℕ → List (List ℕ) → Type 0
 AreRows s t count graph = (i : ℕ) (b : Body) → i < count → slice_get (bodies s) i ≡ Some b → parts_at graph i ≡ numbers_of t (held s (place_of b))
+
+-- one more body
+pub rows_more : (s : Scene) (t : program_types.Types) (count : ℕ) (graph : List (List ℕ)) (row : List ℕ) → length graph ≡ count → AreRows s t count graph
+    → ((b : Body) → slice_get (bodies s) count ≡ Some b → row ≡ numbers_of t (held s (place_of b))) → AreRows s t (count + 1) (graph ++ row ∷ [])
+rows_more s t count graph row size before is i b below there =
+    each_more (λ k x. (c : Body) → slice_get (bodies s) k ≡ Some c → x ≡ numbers_of t (held s (place_of c))) [] graph row
+    (λ k h c at. before k c (omega (arith, size, h)) at)
+    (λ c at. is c (ap (slice_get (bodies s)) (sym size) ∙ at))
+    i (let e = length-append graph (row ∷ []) in omega (arith, below, size, e)) b there
+
+pub all_rows : (s : Scene) (t : program_types.Types) (count : ℕ) (graph : List (List ℕ)) → length graph ≡ count → length (bodies s) ≡ count → AreRows s t count graph
+    → AreHeldBy s t graph
+all_rows s t count graph size all rows = record {
+  count = size ∙ sym all;
+  row = λ i b there. rows i b (let l = slice_get_within (bodies s) i b there in omega (arith, l, all)) there;
+}
+
+-- a place without a body holds nothing
+pub held_none : (s : Scene) (n : program_nodes.Nodes) (t : program_types.Types) → IsTypes s n t → (place : Place) → found_place place t.by_place ≡ None → held s place ≡ []
+held_none s n t is place missed =
+    held_parts s place
+    ∙ ap (λ o. flat_map innermost (parts_of_found s.known o)) (is.first place ∙ ap (option_and_then (λ i. slice_get (bodies s) i)) missed)
