@@ -56,6 +56,7 @@ mod RestNotes
 mod CycleNotes
 mod CycleFirst
 mod CycleGraph
+mod CycleLoops
 mod CycleChosen
 mod CycleLeast
 mod CycleKeys
