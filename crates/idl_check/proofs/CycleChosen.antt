@@ -50,12 +50,15 @@ module _ (w : World) (s : Scene) (keys numbers : List ℕ) (key : ℕ) (all : Ar
     by (inl (has_key, same)) = first_noted w s b number o there (ap (contains_itself s) (sym body) ∙ two.contains) before behind where
       body : two.body ≡ b
       body = same_Some two.body b (sym two.there ∙ ap (slice_get (bodies s)) (sym same) ∙ there)
+
       own : key_of w.files b ≡ key
       own = ap (key_of w.files) (sym body) ∙ has_key
+
       before : (i : ℕ) (x : Body) → slice_get (bodies s) i ≡ Some x → contains_itself s x ≡ true → i < number → comes_before w (cycle_at b) (cycle_at x) ≡ true
       before i x at has below = before_by b x number i there at (strict (eqb (key_of w.files x) key) refl) where
         least : key ≤ key_of w.files x
         least = one.least i x (key_of w.files x) at (all.each i x at).is_key has
+
         strict : (t : Bool) → eqb (key_of w.files x) key ≡ t → key_of w.files b < key_of w.files x
         strict true e =
             let m = two.least i x i at (with.with_key i ((all.each i x at).is_key ∙ ap (λ k. Some k) (eqb-true (key_of w.files x) key e))) has in
@@ -63,6 +66,7 @@ module _ (w : World) (s : Scene) (keys numbers : List ℕ) (key : ℕ) (all : Ar
         strict false e = strictly (key_of w.files b) (key_of w.files x) key own least e where
           strictly : (m n k : ℕ) → m ≡ k → k ≤ n → eqb n k ≡ false → m < n
           strictly m n k h i j = grind (arith, nat_tests, h, i, j)
+
       behind : (i : ℕ) (x : Body) → slice_get (bodies s) i ≡ Some x → contains_itself s x ≡ true → number < i → comes_before w (cycle_at x) (cycle_at b) ≡ false
       behind i x at has past =
           let l = one.least i x (key_of w.files x) at (all.each i x at).is_key has in

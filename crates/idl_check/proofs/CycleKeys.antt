@@ -47,9 +47,11 @@ with_all keys key numbers size each = record {
 } where
   by : (i k : ℕ) → slice_get keys i ≡ Some k → (k ≡ key) × (slice_index_or numbers i 0 ≡ i) ⊎ (k ≡ key → ⊥) × (slice_index_or numbers i 0 ≡ length keys)
   by i k has = let l = slice_get_within keys i k has in each i (omega (arith, l, size)) k has
+
   own : (i : ℕ) → slice_get keys i ≡ Some key → (key ≡ key) × (slice_index_or numbers i 0 ≡ i) ⊎ (key ≡ key → ⊥) × (slice_index_or numbers i 0 ≡ length keys) → slice_get numbers i ≡ Some i
   own i has (inl (_, e)) = let l = slice_get_within keys i key has in item_there numbers i 0 (omega (arith, l, size)) ∙ ap (λ v. Some v) e
   own i has (inr (apart, _)) = absurd (apart refl)
+
   other : (i k v : ℕ) → slice_get numbers i ≡ Some v → (k ≡ key) × (slice_index_or numbers i 0 ≡ i) ⊎ (k ≡ key → ⊥) × (slice_index_or numbers i 0 ≡ length keys)
       → (k ≡ key) × (v ≡ i) ⊎ (v ≡ length keys)
   other i k v valued (inl (same, e)) = inl (same, sym (item_read numbers i 0 v valued) ∙ e)
@@ -69,6 +71,7 @@ pub keys_all : (files : List Ended) (bs : List Body) (keys : List ℕ) → lengt
 keys_all files bs keys size each = record { count = size; each = λ i b at. one i b at (key i b at) } where
   key : (i : ℕ) (b : Body) → slice_get bs i ≡ Some b → (slice_index_or keys i 0 ≡ key_of files b) × (b.construct.at < 2 ^ 32)
   key i b at = let l = slice_get_within bs i b at in each i (omega (arith, l, size)) b at
+
   one : (i : ℕ) (b : Body) → slice_get bs i ≡ Some b → (slice_index_or keys i 0 ≡ key_of files b) × (b.construct.at < 2 ^ 32) → IsKeyAt files b keys i
   one i b at (is, narrow) = let l = slice_get_within bs i b at in record { is_key = item_there keys i 0 (omega (arith, l, size)) ∙ ap (λ v. Some v) is; narrow = narrow }
 

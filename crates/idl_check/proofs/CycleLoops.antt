@@ -62,7 +62,7 @@ pub numbers_more : (t : program_types.Types) (ks : List Kind) (places : List (Op
 numbers_more t ks places parts numbers added i d inner below so_far is =
     let y = get_or parts i d in
     let last : numbers_in t ks (y ∷ []) ≡ numbers_of t (innermost (type_at ks y)) =
-        ap (numbers_of t) (flat_map-cons innermost (type_at ks y) [] ∙ append-nil (innermost (type_at ks y))) in
+    ap (numbers_of t) (flat_map-cons innermost (type_at ks y) [] ∙ append-nil (innermost (type_at ks y))) in
     ap₂ (λ a b. a ++ b) so_far (sym is ∙ ap (numbers_of t) (inner y) ∙ sym last)
     ∙ sym (ap (numbers_in t ks) (take_more parts i d below) ∙ numbers_append t ks (take i parts) (y ∷ []))
 

@@ -83,24 +83,31 @@ lowered_more first values least count number value are goes_there valued_here = 
 } where
   before : ℕ
   before = slice_index_or least number 0
+
   lesser : ℕ
   lesser = min before value
+
   set : List ℕ
   set = slice_set least number lesser
+
   within : (j v : ℕ) → slice_get set j ≡ Some v → j ≡ number → number < length least
   within j v there same =
       let l = slice_get_within set j v there in
       let m = length-set least number lesser in
       omega (arith, l, m, same)
+
   set_is : (j v : ℕ) → slice_get set j ≡ Some v → j ≡ number → lesser ≡ v
   set_is j v there same = same_Some lesser v (sym (set_same least number lesser (within j v there same)) ∙ ap (slice_get set) (sym same) ∙ there)
+
   either : (j v : ℕ) → slice_get set j ≡ Some v → j ≡ number → (lesser ≡ before) ⊎ (lesser ≡ value) → (i : ℕ) × ((i ≡ j) ⊎ (first i ≡ Some j)) × (slice_get values i ≡ Some v)
   either j v there same (inl e) =
       are.is_value j v (ap (slice_get least) same ∙ item_there least number 0 (within j v there same) ∙ ap (λ x. Some x) (sym e ∙ set_is j v there same))
   either j v there same (inr e) = (count, inr (goes_there ∙ ap (λ x. Some x) (sym same)), valued_here ∙ ap (λ x. Some x) (sym e ∙ set_is j v there same))
+
   value_by : (j v : ℕ) → slice_get set j ≡ Some v → (t : Bool) → eqb j number ≡ t → (i : ℕ) × ((i ≡ j) ⊎ (first i ≡ Some j)) × (slice_get values i ≡ Some v)
   value_by j v there true e = either j v there (eqb-true j number e) (one_of_two before value)
   value_by j v there false e = are.is_value j v (sym (set_other least number j lesser (differ j number e)) ∙ there)
+
   less_by : (i v j w : ℕ) → slice_get values i ≡ Some v → first i ≡ Some j → slice_get set j ≡ Some w → (t : Bool) → eqb j number ≡ t → (i < count) ⊎ (i ≡ count) → w ≤ v
   less_by i v j w valued goes there true e (inl below) =
       let same = eqb-true j number e in
@@ -146,6 +153,7 @@ module _ (s : Scene) (n : program_nodes.Nodes) (t : program_types.Types) (is : I
     less i b v j w there valued found least_there =
         let l = slice_get_within values i v valued in
         are.no_less i v j w (omega (arith, l, past)) valued (goes i b there ∙ found) least_there
+
     value_of : (j : ℕ) (b : Body) (v : ℕ) → slice_get (bodies s) j ≡ Some b → (i : ℕ) × ((i ≡ j) ⊎ (first_number t i ≡ Some j)) × (slice_get values i ≡ Some v)
         → (i : ℕ) × (c : Body) × (slice_get (bodies s) i ≡ Some c) × (place_of c ≡ place_of b) × (slice_get values i ≡ Some v)
     value_of j b v there (i, inl same, valued) = (i, b, ap (slice_get (bodies s)) same ∙ there, refl, valued)

@@ -68,7 +68,12 @@ fn innermost(alloc: Global, kinds: &Kinds) -> Result<Vec<Option<Place>>, Memory>
 }
 
 /// The numbers of the bodies that stand in one with these parts. Takes memory for each part.
-fn row(alloc: Global, types: &Types, places: &[Option<Place>], parts: &[u32]) -> Result<Vec<u32>, Memory>
+fn row(
+    alloc: Global,
+    types: &Types,
+    places: &[Option<Place>],
+    parts: &[u32],
+) -> Result<Vec<u32>, Memory>
     ensures { (ks : List kinds.Kind) → AreInnermost ks places.now
         → IfOk result (λ v. v.items ≡ numbers_of types.now (flat_map innermost (map (type_at ks) parts.now))) }
 {
@@ -88,7 +93,12 @@ fn row(alloc: Global, types: &Types, places: &[Option<Place>], parts: &[u32]) ->
 }
 
 /// The numbers of the bodies that stand in the first body of a place. Takes memory for each part.
-fn row_of(alloc: Global, types: &Types, places: &[Option<Place>], place: Place) -> Result<Vec<u32>, Memory>
+fn row_of(
+    alloc: Global,
+    types: &Types,
+    places: &[Option<Place>],
+    place: Place,
+) -> Result<Vec<u32>, Memory>
     ensures { (s : Scene) (n : program_nodes.Nodes) → IsTypes s n types.now → AreInnermost types.now.kinds places.now
         → IfOk result (λ v. v.items ≡ numbers_of types.now (held s place)) }
 {
@@ -151,7 +161,12 @@ fn of_places(alloc: Global, types: &Types, values: &[u64]) -> Result<Vec<u64>, M
 }
 
 /// The least value of a body that contains itself. Takes memory for each body.
-fn least_value(alloc: Global, types: &Types, graph: &Graph, values: &[u64]) -> Result<Option<u64>, Memory>
+fn least_value(
+    alloc: Global,
+    types: &Types,
+    graph: &Graph,
+    values: &[u64],
+) -> Result<Option<u64>, Memory>
     ensures { (s : Scene) (n : program_nodes.Nodes) → IsTypes s n types.now → AreHeldBy s types.now graph.now → length values.now ≡ length (bodies s)
         → IfOk result (λ least. IsLeastOf s values.now least) }
 {
@@ -172,7 +187,12 @@ fn place_told(nodes: &Nodes<'_>, body: &BodyTypes) -> Option<Place>
 }
 
 /// The keys by which the breaches of bodies go in order. Takes memory for each body.
-fn keys(alloc: Global, finder: &Finder<'_>, nodes: &Nodes<'_>, types: &Types) -> Result<Vec<u64>, Memory>
+fn keys(
+    alloc: Global,
+    finder: &Finder<'_>,
+    nodes: &Nodes<'_>,
+    types: &Types,
+) -> Result<Vec<u64>, Memory>
     ensures { (s : Scene) → s ≡ scene_seen s.known nodes.now → IsTypes s nodes.now types.now
         → IfOk result (λ v. AreKeys (seen_files finder.now.files.now) (bodies s) v.items) }
 {
@@ -197,7 +217,11 @@ fn with_key(alloc: Global, keys: &[u64], key: u64) -> Result<Vec<u64>, Memory>
 {
     let mut numbers = Vec::new(alloc);
     for (number, one) in keys.iter().enumerate() {
-        let number = if *one == key { number as u64 } else { keys.len() as u64 };
+        let number = if *one == key {
+            number as u64
+        } else {
+            keys.len() as u64
+        };
         let Ok(()) = numbers.push(number) else {
             return Err(Memory);
         };

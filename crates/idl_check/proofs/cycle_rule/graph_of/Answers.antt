@@ -23,10 +23,10 @@ loop-body-preserved c =
       (λ s n is. subst (λ (g : List (List ℕ)). AreRows s t (index + 1) g) (sym c.in_ok-push.ensures.ok)
           (rows_more s t index graph numbers c.loop-body.invariant.0 (c.loop-body.invariant.1 s n is)
           (λ b there.
-              let read : slice_get bodies_read index ≡ Some item = slice_get_read bodies_read (length bodies_read) index item refl c.loop-body-test.true c.body-item.is in
-              let here : slice_get t.bodies.items index ≡ Some item = ap (λ l. slice_get l index) (sym c.deref-body-items.ensures.value) ∙ read in
-              let place : item.place ≡ place_of b = (is.body index b item there here).place in
-              c.as_slice-in-loop-body.ensures.value ∙ c.in_ok-numbers.ensures s n is inner ∙ ap (λ p. numbers_of t (held s p)) place))),
+          let read : slice_get bodies_read index ≡ Some item = slice_get_read bodies_read (length bodies_read) index item refl c.loop-body-test.true c.body-item.is in
+          let here : slice_get t.bodies.items index ≡ Some item = ap (λ l. slice_get l index) (sym c.deref-body-items.ensures.value) ∙ read in
+          let place : item.place ≡ place_of b = (is.body index b item there here).place in
+          c.as_slice-in-loop-body.ensures.value ∙ c.in_ok-numbers.ensures s n is inner ∙ ap (λ p. numbers_of t (held s p)) place))),
     )
 
 pub returns : goal.returns

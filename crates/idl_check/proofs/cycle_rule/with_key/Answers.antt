@@ -14,12 +14,13 @@ loop-number-preserved c =
     let number = c.loop-number.number in
     let size = c.loop-number.invariant.0 in
     let item : NumberWith keys key number c.if-one-key.number = elim c.if-one-key.branch [
-      then-one-key w ↦ with_own keys key number c.if-one-key.number w.if-one-key.true w.number-is
+      | then-one-key w ↦ with_own keys key number c.if-one-key.number w.if-one-key.true w.number-is
       | else-one-key w ↦ with_past keys key number c.if-one-key.number w.if-one-key.false w.number-is
-    ] in
-    (ap length c.in-Ok.ensures.items ∙ length-append c.loop-number.numbers.items (c.if-one-key.number ∷ []) ∙ ap (λ n. n + 1) size,
-    subst (λ (l : List ℕ). Each (NumberWith keys key) 0 l) (sym c.in-Ok.ensures.items)
-    (with_more keys key number c.loop-number.numbers.items c.if-one-key.number size c.loop-number.invariant.1 item))
+    ] in (
+      ap length c.in-Ok.ensures.items ∙ length-append c.loop-number.numbers.items (c.if-one-key.number ∷ []) ∙ ap (λ n. n + 1) size,
+      subst (λ (l : List ℕ). Each (NumberWith keys key) 0 l) (sym c.in-Ok.ensures.items)
+          (with_more keys key number c.loop-number.numbers.items c.if-one-key.number size c.loop-number.invariant.1 item),
+    )
 
 pub returns : goal.returns
 returns c =
