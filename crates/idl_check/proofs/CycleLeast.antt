@@ -1,7 +1,7 @@
 -- The least value of a body that contains itself is the least key of a node of the graph of bodies that does.
-use Rattle.std.proofs.Common.{◌≡◌, ◌∙◌, ◌⊎◌, inl, inr, ℕ, zero, suc, ◌+◌, ◌<◌, ◌≤◌, Bool, true, false, eqb, ◌&&◌, ◌||◌, List, [], ◌∷◌, ◌++◌, length, get_or, Option, Some, None, slice_get, refl, ap, ap₂, sym, subst, arith, true≢false}
-use Rattle.std.specs.Prelude.{slice_index_or, slice_index}
-use Rattle.std.specs.List.{list_any, flat_map}
+use Rattle.std.proofs.Common.{◌≡◌, ◌∙◌, ◌⊎◌, inl, inr, ℕ, zero, suc, ◌<◌, ◌≤◌, Bool, true, false, eqb, ◌||◌, List, [], ◌∷◌, ◌++◌, length, get_or, Option, Some, None, slice_get, refl, ap, sym, arith, true≢false}
+use Rattle.std.specs.Prelude.{slice_index}
+use Rattle.std.specs.List.{list_any}
 use Rattle.std.specs.Option.{option_and_then}
 use Rattle.std.proofs.lemmas.Bool.{eqb-true}
 use Rattle.std.proofs.lemmas.List.Concat.{flat_map-cons}
@@ -9,7 +9,7 @@ use Rattle.std.proofs.lemmas.Option.{none-some, same_Some, slice_get_cases, slic
 use Rattle.nd_base.specs.declared.octets.Place.{Place}
 use Rattle.idl_check.specs.declared.nodes.Nodes as program_nodes
 use Rattle.idl_check.specs.declared.types.Types as program_types
-use Rattle.idl_check.specs.Scene.{Scene, Body, bodies, body_among, body_of, place_of, same_place}
+use Rattle.idl_check.specs.Scene.{Scene, Body, bodies, body_among, place_of, same_place}
 use Rattle.idl_check.specs.TypeRules.{held, contains, contains_itself}
 use Rattle.idl_check.specs.Graph as graph
 use Rattle.idl_check.specs.Places.{found_place}

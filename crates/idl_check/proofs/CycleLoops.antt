@@ -1,5 +1,5 @@
 -- Lists that the loops on bodies that contain themselves fill.
-use Rattle.std.proofs.Common.{◌≡◌, ◌∙◌, ◌⊎◌, inl, inr, ℕ, zero, suc, ◌+◌, ◌<◌, ◌≤◌, Bool, true, false, ltb, List, [], ◌∷◌, ◌++◌, map, take, length, get_or, Option, Some, None, slice_get, refl, ap, ap₂, sym, subst, arith, length-append}
+use Rattle.std.proofs.Common.{◌≡◌, ◌∙◌, ℕ, ◌+◌, ◌<◌, Bool, true, false, ltb, List, [], ◌∷◌, ◌++◌, map, take, length, get_or, Option, Some, None, slice_get, refl, ap, ap₂, sym, subst, arith, length-append}
 use Rattle.std.specs.Prelude.{slice_index_or}
 use Rattle.std.specs.List.{flat_map}
 use Rattle.std.proofs.lemmas.Bool.{ltb-true, ltb-false}
@@ -11,7 +11,6 @@ use Rattle.nd_base.specs.declared.octets.Place.{Place}
 use Rattle.idl_check.specs.declared.nodes.Nodes as program_nodes
 use Rattle.idl_check.specs.declared.kinds.Kind.{Kind}
 use Rattle.idl_check.specs.declared.types.Types as program_types
-use Rattle.idl_check.specs.Types.{IdlType}
 use Rattle.idl_check.specs.Scene.{Scene, Body, bodies, place_of, parts_of_found}
 use Rattle.idl_check.specs.Graph.{parts_at}
 use Rattle.idl_check.specs.TypeRules.{innermost, held}

@@ -1,5 +1,5 @@
 -- Values of bodies, put one by one at the first body of their place, come to the least of each place.
-use Rattle.std.proofs.Common.{◌≡◌, ◌∙◌, ◌⊎◌, inl, inr, ℕ, zero, suc, ◌+◌, ◌<◌, ◌≤◌, min, Bool, true, false, eqb, ltb, List, [], ◌∷◌, length, Option, Some, None, slice_get, refl, ap, sym, subst, arith}
+use Rattle.std.proofs.Common.{◌≡◌, ◌∙◌, ◌⊎◌, inl, inr, ℕ, zero, suc, ◌+◌, ◌<◌, ◌≤◌, min, Bool, true, false, eqb, ltb, List, [], ◌∷◌, length, Option, Some, None, slice_get, refl, ap, sym, arith}
 use Rattle.std.proofs.lemmas.List.{length-set}
 use Rattle.std.specs.Prelude.{slice_index_or, slice_set}
 use Rattle.std.specs.Option.{option_and_then}
@@ -16,7 +16,7 @@ use Rattle.idl_check.specs.Places.{found_place}
 use Rattle.idl_check.specs.SeenTypes.{IsTypes}
 use Rattle.idl_check.specs.Cycles.{first_number, AreOfPlaces}
 use Rattle.idl_check.proofs.CycleGraph.{among_place}
-use Rattle.idl_check.proofs.CycleKeys.{item_there, item_read}
+use Rattle.idl_check.proofs.CycleKeys.{item_there}
 
 -- ## One number of a list is set
 

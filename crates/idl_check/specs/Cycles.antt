@@ -1,5 +1,5 @@
 -- For the code: structs and unions that contain themselves, as a graph of the numbers of bodies.
-use Rattle.std.specs.Prelude.{◌≡◌, ℕ, ◌+◌, ◌*◌, ◌^◌, ◌≤◌, ◌<◌, ◌⊎◌, Bool, true, false, List, [], ◌∷◌, Option, Some, None, map, length, slice_get, slice_index_or}
+use Rattle.std.specs.Prelude.{◌≡◌, ℕ, ◌+◌, ◌*◌, ◌^◌, ◌≤◌, ◌<◌, ◌⊎◌, true, false, List, [], ◌∷◌, Option, Some, None, length, slice_get, slice_index_or}
 use Rattle.std.specs.List.{flat_map}
 use Rattle.std.specs.Option.{option_and_then}
 use Rattle.nd_base.specs.declared.octets.Place.{Place}
@@ -7,8 +7,7 @@ use Rattle.idl_names.specs.Ended.{Ended}
 use Rattle.idl_check.specs.declared.kinds.Kind.{Kind}
 use Rattle.idl_check.specs.declared.types.BodyTypes.{BodyTypes}
 use Rattle.idl_check.specs.declared.types.Types as program_types
-use Rattle.idl_check.specs.Types.{IdlType}
-use Rattle.idl_check.specs.Scene.{Scene, Body, bodies, place_of, parts_of}
+use Rattle.idl_check.specs.Scene.{Scene, Body, bodies, place_of}
 use Rattle.idl_check.specs.TypeRules.{innermost, held, contains_itself}
 use Rattle.idl_check.specs.FirstBroken.{rank_in}
 use Rattle.idl_check.specs.Kinds.{type_at}

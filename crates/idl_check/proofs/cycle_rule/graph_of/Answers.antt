@@ -1,7 +1,7 @@
-use Rattle.std.proofs.Common.{◌≡◌, ◌∙◌, ◌<◌, ◌+◌, ◌++◌, ◌∷◌, [], ℕ, List, Option, Some, length, slice_get, refl, ap, sym, subst, arith, length-append}
+use Rattle.std.proofs.Common.{◌≡◌, ◌∙◌, ◌+◌, ◌∷◌, [], ℕ, List, Option, Some, length, slice_get, refl, ap, sym, subst, arith, length-append}
 use Rattle.std.proofs.lemmas.Option.{slice_get_read}
 use Rattle.nd_base.specs.declared.octets.Place.{Place}
-use Rattle.idl_check.specs.Scene.{Body, bodies, place_of}
+use Rattle.idl_check.specs.Scene.{place_of}
 use Rattle.idl_check.specs.TypeRules.{held}
 use Rattle.idl_check.specs.Cycles.{AreInnermost, numbers_of}
 use Rattle.idl_check.proofs.CycleLoops.{AreRows, rows_more, all_rows}

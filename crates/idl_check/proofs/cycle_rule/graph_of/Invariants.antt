@@ -1,9 +1,7 @@
-use Rattle.std.proofs.Common.{◌≡◌, ◌<◌, ℕ, Some, length, slice_get}
+use Rattle.std.proofs.Common.{◌≡◌, length}
 use Rattle.idl_check.specs.declared.nodes.Nodes as program_nodes
-use Rattle.idl_check.specs.Scene.{Scene, Body, bodies, place_of}
-use Rattle.idl_check.specs.TypeRules.{held}
+use Rattle.idl_check.specs.Scene.{Scene}
 use Rattle.idl_check.specs.SeenTypes.{IsTypes}
-use Rattle.idl_check.specs.Cycles.{numbers_of}
 use Rattle.idl_check.proofs.CycleLoops.{AreRows}
 use Rattle.idl_check.proofs.cycle_rule.graph_of.Given as goal
 

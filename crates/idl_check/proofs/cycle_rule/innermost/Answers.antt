@@ -1,8 +1,8 @@
-use Rattle.std.proofs.Common.{◌≡◌, ◌∙◌, ◌<◌, ◌+◌, ◌++◌, ◌∷◌, [], ℕ, List, Option, true, length, ap, sym, subst, arith, length-append}
+use Rattle.std.proofs.Common.{◌≡◌, ◌∙◌, ◌+◌, ◌∷◌, [], ℕ, List, Option, true, length, ap, sym, subst, arith, length-append}
 use Rattle.nd_base.specs.declared.octets.Place.{Place}
 use Rattle.idl_check.specs.Kinds.{is_inside, type_at}
 use Rattle.idl_check.specs.TypeRules.{innermost}
-use Rattle.idl_check.specs.Cycles.{AreInnermost, AreInnermostBelow}
+use Rattle.idl_check.specs.Cycles.{AreInnermostBelow}
 use Rattle.idl_check.proofs.CycleLoops.{innermost_more, all_innermost}
 use Rattle.idl_check.proofs.cycle_rule.innermost.Goals as goal
 

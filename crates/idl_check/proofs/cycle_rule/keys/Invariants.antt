@@ -1,4 +1,4 @@
-use Rattle.std.proofs.Common.{◌≡◌, ℕ, length}
+use Rattle.std.proofs.Common.{◌≡◌, length}
 use Rattle.idl_names.specs.Seen.{seen_files}
 use Rattle.idl_check.specs.Scene.{Scene, bodies}
 use Rattle.idl_check.specs.SeenTypes.{IsTypes}

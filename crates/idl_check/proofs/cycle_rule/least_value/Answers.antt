@@ -1,4 +1,4 @@
-use Rattle.std.proofs.Common.{◌≡◌, ◌∙◌, ℕ, List, length, ap, sym, subst}
+use Rattle.std.proofs.Common.{ℕ, List, length, subst}
 use Rattle.idl_check.specs.Graph as graph
 use Rattle.idl_check.proofs.CycleLeast.{least_of}
 use Rattle.idl_check.proofs.cycle_rule.least_value.Goals as goal

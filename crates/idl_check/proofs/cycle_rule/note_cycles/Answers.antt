@@ -1,5 +1,4 @@
-use Rattle.std.proofs.Common.{◌≡◌, ◌∙◌, ℕ, List, Option, Some, None, length, option_map, refl, sym, ap, subst}
-use Rattle.nd_base.specs.declared.octets.Place.{Place}
+use Rattle.std.proofs.Common.{◌∙◌, ℕ, List, length, option_map, sym, ap, subst}
 use Rattle.idl_names.specs.Ended.{Ended}
 use Rattle.idl_check.specs.Scene.{Scene, bodies}
 use Rattle.idl_check.specs.SeenTypes.{scene_seen}

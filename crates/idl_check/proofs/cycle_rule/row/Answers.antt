@@ -1,4 +1,4 @@
-use Rattle.std.proofs.Common.{◌≡◌, ◌∙◌, ◌∷◌, [], List, None, Some, ap, sym}
+use Rattle.std.proofs.Common.{◌∙◌, ◌∷◌, [], None, Some, ap, sym}
 use Rattle.idl_check.specs.Cycles.{option_list, numbers_of}
 use Rattle.idl_check.proofs.CycleLoops.{numbers_more, numbers_same, one_number}
 use Rattle.idl_check.proofs.cycle_rule.row.Goals as goal

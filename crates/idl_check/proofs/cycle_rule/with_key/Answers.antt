@@ -1,4 +1,4 @@
-use Rattle.std.proofs.Common.{◌≡◌, ◌∙◌, ◌⊎◌, inl, inr, ℕ, ◌+◌, ◌<◌, ◌≤◌, ◌++◌, ◌∷◌, [], List, length, Some, slice_get, refl, ap, sym, subst, arith, length-append}
+use Rattle.std.proofs.Common.{◌∙◌, ℕ, ◌+◌, ◌∷◌, [], List, length, ap, sym, subst, arith, length-append}
 use Rattle.idl_check.proofs.PlacesFilled.{Each}
 use Rattle.idl_check.proofs.CycleKeys.{NumberWith, with_own, with_past, with_more, with_all}
 use Rattle.idl_check.proofs.cycle_rule.with_key.Goals.{then-one-key, else-one-key}

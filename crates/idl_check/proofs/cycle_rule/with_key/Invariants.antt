@@ -1,4 +1,4 @@
-use Rattle.std.proofs.Common.{◌≡◌, ℕ, length}
+use Rattle.std.proofs.Common.{◌≡◌, length}
 use Rattle.idl_check.proofs.PlacesFilled.{Each}
 use Rattle.idl_check.proofs.CycleKeys.{NumberWith}
 use Rattle.idl_check.proofs.cycle_rule.with_key.Given as goal
