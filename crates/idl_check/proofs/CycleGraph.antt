@@ -1,12 +1,12 @@
 -- Bodies that contain themselves are, by the first body of their place, the nodes of the graph of bodies that do.
-use Rattle.std.proofs.Common.{◌≡◌, ◌∙◌, ◌⊎◌, inl, inr, ℕ, zero, suc, ◌+◌, ◌<◌, ◌≤◌, Bool, true, false, eqb, ◌&&◌, ◌||◌, List, [], ◌∷◌, ◌++◌, length, get_or, Option, Some, None, slice_get, refl, ap, ap₂, sym, subst, arith}
-use Rattle.std.specs.Prelude.{slice_index_or, slice_index}
+use Rattle.std.proofs.Common.{◌≡◌, ◌∙◌, ◌⊎◌, inl, inr, ℕ, zero, suc, ◌<◌, ◌≤◌, Bool, true, false, eqb, ◌&&◌, ◌||◌, List, [], ◌∷◌, ◌++◌, length, get_or, Option, Some, None, slice_get, refl, ap, ap₂, sym, arith}
+use Rattle.std.specs.Prelude.{slice_index_or}
 use Rattle.std.specs.List.{list_any, flat_map}
 use Rattle.std.specs.Option.{option_and_then}
 use Rattle.std.proofs.lemmas.Bool.{eqb-true}
 use Rattle.std.proofs.lemmas.Bool.Decides.{nat_tests}
 use Rattle.std.proofs.lemmas.List.Concat.{flat_map-cons}
-use Rattle.std.proofs.lemmas.Option.{none-some, same_Some, slice_get_cases, slice_get_within, slice_get-get_or}
+use Rattle.std.proofs.lemmas.Option.{none-some, same_Some, slice_get_cases, slice_get_within}
 use Rattle.nd_base.specs.declared.octets.Place.{Place}
 use Rattle.idl_check.specs.declared.nodes.Nodes as program_nodes
 use Rattle.idl_check.specs.declared.types.Types as program_types
@@ -71,6 +71,7 @@ module _ (s : Scene) (n : program_nodes.Nodes) (t : program_types.Types) (is : I
   any_number f h none some (p ∷ ps) = by (found_place p t.by_place) refl (any_number f h none some ps) where
     numbers : (o : Option ℕ) → found_place p t.by_place ≡ o → numbers_of t (p ∷ ps) ≡ option_list o ++ numbers_of t ps
     numbers o e = flat_map-cons (λ q. option_list (found_place q t.by_place)) p ps ∙ ap (λ o. option_list o ++ numbers_of t ps) e
+
     by : (o : Option ℕ) → found_place p t.by_place ≡ o → list_any f ps ≡ list_any h (numbers_of t ps) → (f p || list_any f ps) ≡ list_any h (numbers_of t (p ∷ ps))
     by None e more = ap (λ b. b || list_any f ps) (none p e) ∙ more ∙ sym (ap (list_any h) (numbers None e))
     by (Some k) e more = ap (λ b. b || list_any f ps) (some p k e) ∙ ap (λ b. h k || b) more ∙ sym (ap (list_any h) (numbers (Some k) e))
@@ -100,11 +101,13 @@ module _ (s : Scene) (n : program_nodes.Nodes) (t : program_types.Types) (is : I
     apart e = other_place j b first p (Some k) f (λ z. let y : k ≡ j = same_Some k j z in by_number y) where
       by_number : k ≡ j → ⊥
       by_number y = grind (arith, nat_tests, e, y)
+
     by : ((x : Body) × (k < length (bodies s)) × (slice_get (bodies s) k ≡ Some x) × (get_or (bodies s) k x ≡ x)) ⊎ ((length (bodies s) ≤ k) × (slice_get (bodies s) k ≡ None))
         → (same_place p (place_of b) || contains_within m s p (place_of b)) ≡ (eqb k j || graph.contains_within m g k j)
     by (inl (c, below, at, _)) = ap₂ (λ x y. x || y) (same (eqb k j) refl) (ap (λ q. contains_within m s q (place_of b)) (sym place) ∙ known k c at) where
       place : place_of c ≡ p
       place = among_place p (bodies s) c (body_found p k (Some c) f at)
+
       same : (x : Bool) → eqb k j ≡ x → same_place p (place_of b) ≡ eqb k j
       same true e =
           let number : k ≡ j = eqb-true k j e in

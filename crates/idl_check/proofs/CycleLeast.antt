@@ -1,7 +1,7 @@
 -- The least value of a body that contains itself is the least key of a node of the graph of bodies that does.
-use Rattle.std.proofs.Common.{◌≡◌, ◌∙◌, ◌⊎◌, inl, inr, ℕ, zero, suc, ◌+◌, ◌<◌, ◌≤◌, Bool, true, false, eqb, ◌&&◌, ◌||◌, List, [], ◌∷◌, ◌++◌, length, get_or, Option, Some, None, slice_get, refl, ap, ap₂, sym, subst, arith, true≢false}
-use Rattle.std.specs.Prelude.{slice_index_or, slice_index}
-use Rattle.std.specs.List.{list_any, flat_map}
+use Rattle.std.proofs.Common.{◌≡◌, ◌∙◌, ◌⊎◌, inl, inr, ℕ, zero, suc, ◌<◌, ◌≤◌, Bool, true, false, eqb, ◌||◌, List, [], ◌∷◌, ◌++◌, length, get_or, Option, Some, None, slice_get, refl, ap, sym, arith, true≢false}
+use Rattle.std.specs.Prelude.{slice_index}
+use Rattle.std.specs.List.{list_any}
 use Rattle.std.specs.Option.{option_and_then}
 use Rattle.std.proofs.lemmas.Bool.{eqb-true}
 use Rattle.std.proofs.lemmas.List.Concat.{flat_map-cons}
@@ -9,7 +9,7 @@ use Rattle.std.proofs.lemmas.Option.{none-some, same_Some, slice_get_cases, slic
 use Rattle.nd_base.specs.declared.octets.Place.{Place}
 use Rattle.idl_check.specs.declared.nodes.Nodes as program_nodes
 use Rattle.idl_check.specs.declared.types.Types as program_types
-use Rattle.idl_check.specs.Scene.{Scene, Body, bodies, body_among, body_of, place_of, same_place}
+use Rattle.idl_check.specs.Scene.{Scene, Body, bodies, body_among, place_of, same_place}
 use Rattle.idl_check.specs.TypeRules.{held, contains, contains_itself}
 use Rattle.idl_check.specs.Graph as graph
 use Rattle.idl_check.specs.Places.{found_place}
@@ -44,11 +44,13 @@ module _ (s : Scene) (n : program_nodes.Nodes) (t : program_types.Types) (is : I
   among_numbers j test known (p ∷ ps) h = by (found_place p t.by_place) refl (among_numbers j test known ps) where
     numbers : (o : Option ℕ) → found_place p t.by_place ≡ o → numbers_of t (p ∷ ps) ≡ option_list o ++ numbers_of t ps
     numbers o e = flat_map-cons (λ q. option_list (found_place q t.by_place)) p ps ∙ ap (λ o. option_list o ++ numbers_of t ps) e
+
     three : (k : ℕ) → found_place p t.by_place ≡ Some k → (a b : Bool) → eqb k j ≡ a → test k ≡ b → ((a || b) || list_any (λ k. eqb k j || test k) (numbers_of t ps)) ≡ true
         → (list_any (λ k. eqb k j || test k) (numbers_of t ps) ≡ true → (p : Place) × (found_place p t.by_place ≡ Some j)) → (p : Place) × (found_place p t.by_place ≡ Some j)
     three k f true b e i h more = (p, f ∙ ap (λ x. Some x) (eqb-true k j e))
     three k f false true e i h more = known k i
     three k f false false e i h more = more h
+
     by : (o : Option ℕ) → found_place p t.by_place ≡ o → (list_any (λ k. eqb k j || test k) (numbers_of t ps) ≡ true → (p : Place) × (found_place p t.by_place ≡ Some j))
         → (p : Place) × (found_place p t.by_place ≡ Some j)
     by None e more = more (sym (ap (list_any (λ k. eqb k j || test k)) (numbers None e)) ∙ h)
@@ -100,6 +102,7 @@ module _ (s : Scene) (n : program_nodes.Nodes) (t : program_types.Types) (is : I
   least_of values least (Some v) size of_places key = by (slice_get_cases (bodies s) key.node).1 where
     at_least : (j : ℕ) → j < length (bodies s) → slice_get least j ≡ Some (slice_index least j)
     at_least j l = let m = of_places.count in index_there least j (omega (arith, l, m, size))
+
     below_all : (i : ℕ) (c : Body) (w : ℕ) → slice_get values i ≡ Some w → slice_get (bodies s) i ≡ Some c → contains_itself s c ≡ true
         → (j : ℕ) × (b : Body) × (found_place (place_of c) t.by_place ≡ Some j) × (slice_get (bodies s) j ≡ Some b) × (place_of b ≡ place_of c) → v ≤ w
     below_all i c w valued at has (j, b, found, there, same) =
@@ -108,6 +111,7 @@ module _ (s : Scene) (n : program_nodes.Nodes) (t : program_types.Types) (is : I
         let one = of_places.no_less i c w j (slice_index least j) at valued found (at_least j l) in
         let two = key.least j (omega (arith, l, m, size)) (sym (itself_by_first c b j found there same) ∙ has) in
         omega (arith, one, two)
+
     with_value : (b : Body) → contains_itself s b ≡ true → (i : ℕ) × (c : Body) × (slice_get (bodies s) i ≡ Some c) × (place_of c ≡ place_of b) × (slice_get values i ≡ Some v) → IsLeastOf s values (Some v)
     with_value b has (i, c, at, same, valued) = record {
       number = i;
@@ -117,6 +121,7 @@ module _ (s : Scene) (n : program_nodes.Nodes) (t : program_types.Types) (is : I
       is_value = valued;
       least = λ i d w at valued has. below_all i d w valued at has (first_of_place i d at);
     }
+
     by : ((x : Body) × (key.node < length (bodies s)) × (slice_get (bodies s) key.node ≡ Some x) × (get_or (bodies s) key.node x ≡ x)) ⊎ ((length (bodies s) ≤ key.node) × (slice_get (bodies s) key.node ≡ None))
         → IsLeastOf s values (Some v)
     by (inl (b, below, there, _)) =

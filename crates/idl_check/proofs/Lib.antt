@@ -56,8 +56,11 @@ mod RestNotes
 mod CycleNotes
 mod CycleFirst
 mod CycleGraph
+mod CycleLoops
 mod CycleChosen
 mod CycleLeast
+mod CycleKeys
+mod CycleLower
 pub mod ReadNames
 pub mod ReadSteps
 pub mod ReadBodies

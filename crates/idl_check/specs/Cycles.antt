@@ -1,12 +1,13 @@
 -- For the code: structs and unions that contain themselves, as a graph of the numbers of bodies.
-use Rattle.std.specs.Prelude.{◌≡◌, ℕ, ◌+◌, ◌*◌, ◌^◌, ◌≤◌, ◌<◌, ◌⊎◌, Bool, true, false, List, [], ◌∷◌, Option, Some, None, map, length, slice_get, slice_index_or}
+use Rattle.std.specs.Prelude.{◌≡◌, ℕ, ◌+◌, ◌*◌, ◌^◌, ◌≤◌, ◌<◌, ◌⊎◌, true, false, List, [], ◌∷◌, Option, Some, None, length, slice_get, slice_index_or}
 use Rattle.std.specs.List.{flat_map}
+use Rattle.std.specs.Option.{option_and_then}
 use Rattle.nd_base.specs.declared.octets.Place.{Place}
 use Rattle.idl_names.specs.Ended.{Ended}
 use Rattle.idl_check.specs.declared.kinds.Kind.{Kind}
+use Rattle.idl_check.specs.declared.types.BodyTypes.{BodyTypes}
 use Rattle.idl_check.specs.declared.types.Types as program_types
-use Rattle.idl_check.specs.Types.{IdlType}
-use Rattle.idl_check.specs.Scene.{Scene, Body, bodies, place_of, parts_of}
+use Rattle.idl_check.specs.Scene.{Scene, Body, bodies, place_of}
 use Rattle.idl_check.specs.TypeRules.{innermost, held, contains_itself}
 use Rattle.idl_check.specs.FirstBroken.{rank_in}
 use Rattle.idl_check.specs.Kinds.{type_at}
@@ -33,6 +34,10 @@ numbers_of t places = flat_map (λ p. option_list (found_place p t.by_place)) pl
 pub record AreHeldBy (s : Scene) (t : program_types.Types) (graph : List (List ℕ)) : Type 0 where
   pub count : length graph ≡ length (bodies s)
   pub row : (i : ℕ) (b : Body) → slice_get (bodies s) i ≡ Some b → parts_at graph i ≡ numbers_of t (held s (place_of b))
+
+-- the number of the first body of the place of a body
+abbrev pub first_number : program_types.Types → ℕ → Option ℕ
+first_number t number = option_and_then (λ (b : BodyTypes). found_place b.place t.by_place) (slice_get t.bodies.items number)
 
 -- values of bodies, put at the first body of their place: the least of them
 pub record AreOfPlaces (s : Scene) (t : program_types.Types) (values least : List ℕ) : Type 0 where

@@ -1,18 +1,20 @@
 // Rule 11: no struct or union contains itself in place (C706, section 4.2.8).
-ghost use Rattle.std.specs.Prelude.{◌≡◌, ℕ, List, ◌∷◌, [], map, Some, None, true, length, option_map, slice_index_or, IfOk, OnOk};
+ghost use Rattle.std.specs.Prelude.{◌≡◌, ℕ, List, ◌∷◌, [], map, Some, None, true, length, min, option_map, slice_get, slice_index_or, slice_set, IfOk, OnOk};
 ghost use Rattle.std.specs.List.{flat_map};
 ghost use Rattle.idl_names.specs.Seen.{seen_files, known_in};
+ghost use Rattle.idl_names.specs.Known.{Known};
 ghost use Rattle.idl_check.specs.declared.nodes.Nodes as program_nodes;
 ghost use Rattle.idl_check.specs.World.{World};
-ghost use Rattle.idl_check.specs.Scene.{Scene, bodies, place_of};
+ghost use Rattle.idl_check.specs.Nodes.{place_in};
+ghost use Rattle.idl_check.specs.Scene.{Scene, Body, bodies, place_of};
 ghost use Rattle.idl_check.specs.TypeRules.{held, innermost};
 ghost use Rattle.idl_check.specs.declared.kinds.Kind as kinds;
 ghost use Rattle.idl_check.specs.Kinds.{type_at, type_by, seen_types, is_inside};
-ghost use Rattle.idl_check.specs.SeenTypes.{scene_seen, IsTypes};
+ghost use Rattle.idl_check.specs.SeenTypes.{scene_seen, names_at, body_at, IsTypes};
 ghost use Rattle.idl_check.specs.Noted.{noted};
 ghost use Rattle.idl_check.specs.Found.{seen_breach};
 ghost use Rattle.idl_check.specs.RestBreaches.{cycle_breaches};
-ghost use Rattle.idl_check.specs.Cycles.{option_list, AreInnermost, AreInnermostBelow, numbers_of, AreHeldBy, AreOfPlaces, AreKeys, AreNumbersWith, IsLeastOf};
+ghost use Rattle.idl_check.specs.Cycles.{option_list, AreInnermost, AreInnermostBelow, numbers_of, first_number, AreHeldBy, AreOfPlaces, AreKeys, AreNumbersWith, IsLeastOf};
 
 use crate::finder::Finder;
 use crate::graph::{Graph, least_key};
@@ -66,7 +68,12 @@ fn innermost(alloc: Global, kinds: &Kinds) -> Result<Vec<Option<Place>>, Memory>
 }
 
 /// The numbers of the bodies that stand in one with these parts. Takes memory for each part.
-fn row(alloc: Global, types: &Types, places: &[Option<Place>], parts: &[u32]) -> Result<Vec<u32>, Memory>
+fn row(
+    alloc: Global,
+    types: &Types,
+    places: &[Option<Place>],
+    parts: &[u32],
+) -> Result<Vec<u32>, Memory>
     ensures { (ks : List kinds.Kind) → AreInnermost ks places.now
         → IfOk result (λ v. v.items ≡ numbers_of types.now (flat_map innermost (map (type_at ks) parts.now))) }
 {
@@ -86,7 +93,12 @@ fn row(alloc: Global, types: &Types, places: &[Option<Place>], parts: &[u32]) ->
 }
 
 /// The numbers of the bodies that stand in the first body of a place. Takes memory for each part.
-fn row_of(alloc: Global, types: &Types, places: &[Option<Place>], place: Place) -> Result<Vec<u32>, Memory>
+fn row_of(
+    alloc: Global,
+    types: &Types,
+    places: &[Option<Place>],
+    place: Place,
+) -> Result<Vec<u32>, Memory>
     ensures { (s : Scene) (n : program_nodes.Nodes) → IsTypes s n types.now → AreInnermost types.now.kinds places.now
         → IfOk result (λ v. v.items ≡ numbers_of types.now (held s place)) }
 {
@@ -113,9 +125,22 @@ fn graph_of(alloc: Global, types: &Types) -> Result<Graph, Memory>
 }
 
 /// A value at a number, if it is less than what stands there.
-fn lower(least: &mut [u64], number: u32, value: u64) {
-    if let Some(so_far) = least.get_mut(number as usize) {
-        *so_far = (*so_far).min(value);
+fn lower(least: &mut [u64], number: u32, value: u64)
+    ensures { least.new ≡ slice_set least.old number (min (slice_index_or least.old number 0) value) }
+{
+    let number = number as usize;
+    if number < least.len() {
+        least[number] = least[number].min(value);
+    }
+}
+
+/// The first body of the place of a body.
+fn first_of(types: &Types, number: usize) -> Option<u32>
+    ensures { result ≡ first_number types.now number }
+{
+    match types.bodies.get(number) {
+        Some(body) => types.body_of(body.place),
+        None => None,
     }
 }
 
@@ -126,16 +151,22 @@ fn of_places(alloc: Global, types: &Types, values: &[u64]) -> Result<Vec<u64>, M
 {
     let mut least = Vec::new(alloc);
     least.extend_from_slice(values)?;
-    for (body, value) in types.bodies.iter().zip(values) {
-        if let Some(number) = types.body_of(body.place) {
-            lower(&mut least, number, *value);
-        }
+    for (number, value) in values.iter().enumerate() {
+        let Some(first) = first_of(types, number) else {
+            continue;
+        };
+        lower(least.as_mut_slice(), first, *value);
     }
     Ok(least)
 }
 
 /// The least value of a body that contains itself. Takes memory for each body.
-fn least_value(alloc: Global, types: &Types, graph: &Graph, values: &[u64]) -> Result<Option<u64>, Memory>
+fn least_value(
+    alloc: Global,
+    types: &Types,
+    graph: &Graph,
+    values: &[u64],
+) -> Result<Option<u64>, Memory>
     ensures { (s : Scene) (n : program_nodes.Nodes) → IsTypes s n types.now → AreHeldBy s types.now graph.now → length values.now ≡ length (bodies s)
         → IfOk result (λ least. IsLeastOf s values.now least) }
 {
@@ -145,7 +176,10 @@ fn least_value(alloc: Global, types: &Types, graph: &Graph, values: &[u64]) -> R
 }
 
 /// Where a breach of a body is told.
-fn place_told(nodes: &Nodes<'_>, body: &BodyTypes) -> Option<Place> {
+fn place_told(nodes: &Nodes<'_>, body: &BodyTypes) -> Option<Place>
+    ensures { (known : Known) (b : Body) → body_at (names_at known nodes.now body.now.node) (slice_get nodes.now.items.items body.now.node) ≡ Some b
+        → result ≡ Some (place_in b.construct b.construct.at) }
+{
     match nodes.items.get(body.node as usize) {
         Some(Node::Body { construct, .. }) => Some(construct.place(construct.at)),
         _ => None,
@@ -153,7 +187,12 @@ fn place_told(nodes: &Nodes<'_>, body: &BodyTypes) -> Option<Place> {
 }
 
 /// The keys by which the breaches of bodies go in order. Takes memory for each body.
-fn keys(alloc: Global, finder: &Finder<'_>, nodes: &Nodes<'_>, types: &Types) -> Result<Vec<u64>, Memory>
+fn keys(
+    alloc: Global,
+    finder: &Finder<'_>,
+    nodes: &Nodes<'_>,
+    types: &Types,
+) -> Result<Vec<u64>, Memory>
     ensures { (s : Scene) → s ≡ scene_seen s.known nodes.now → IsTypes s nodes.now types.now
         → IfOk result (λ v. AreKeys (seen_files finder.now.files.now) (bodies s) v.items) }
 {
@@ -178,12 +217,27 @@ fn with_key(alloc: Global, keys: &[u64], key: u64) -> Result<Vec<u64>, Memory>
 {
     let mut numbers = Vec::new(alloc);
     for (number, one) in keys.iter().enumerate() {
-        let number = if *one == key { number as u64 } else { keys.len() as u64 };
+        let number = if *one == key {
+            number as u64
+        } else {
+            keys.len() as u64
+        };
         let Ok(()) = numbers.push(number) else {
             return Err(Memory);
         };
     }
     Ok(numbers)
+}
+
+/// Where a breach of a body is told, by the number of the body.
+fn told(nodes: &Nodes<'_>, types: &Types, number: u64) -> Option<Place>
+    ensures { (s : Scene) (b : Body) → IsTypes s nodes.now types.now → slice_get (bodies s) number ≡ Some b
+        → result ≡ Some (place_in b.construct b.construct.at) }
+{
+    match types.bodies.get(number as usize) {
+        Some(body) => place_told(nodes, body),
+        None => None,
+    }
 }
 
 /// Rule 11 on all bodies: the first breach is noted. Takes memory for each body and each part of one.
@@ -207,8 +261,9 @@ pub(crate) fn note_cycles<'t>(
     let Some(number) = least_value(alloc, types, &graph, numbers.as_slice())? else {
         return Ok(());
     };
-    if let Some(place) = types.bodies.get(number as usize).and_then(|body| place_told(nodes, body)) {
-        finder.note(11, place, true);
-    }
+    let Some(place) = told(nodes, types, number) else {
+        return Ok(());
+    };
+    finder.note(11, place, true);
     Ok(())
 }

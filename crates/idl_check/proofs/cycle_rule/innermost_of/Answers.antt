@@ -1,4 +1,4 @@
-use Rattle.std.proofs.Common.{◌≡◌, ◌∙◌, true, ltb, refl, sym, ap}
+use Rattle.std.proofs.Common.{◌≡◌, ◌∙◌, true, ltb, sym, ap}
 use Rattle.std.proofs.lemmas.Bool.{ltb-true}
 use Rattle.idl_check.specs.Kinds.{type_by, seen_types, is_inside}
 use Rattle.idl_check.specs.TypeRules.{innermost}

@@ -1,4 +1,4 @@
-use Rattle.std.proofs.Common.{◌≡◌, ◌∙◌, ℕ, ◌<◌, ◌≤◌, List, [], Some, map, length, get_or, refl, sym, ap, subst, arith}
+use Rattle.std.proofs.Common.{◌≡◌, ◌∙◌, ◌<◌, ◌≤◌, List, Some, map, length, get_or, sym, ap, subst}
 use Rattle.std.specs.List.{flat_map}
 use Rattle.std.specs.Result.{IfOk}
 use Rattle.std.proofs.lemmas.Bool.{ltb-true, ltb-false}
@@ -10,6 +10,7 @@ use Rattle.idl_check.specs.Places.{found_place}
 use Rattle.idl_check.specs.Cycles.{numbers_of}
 use Rattle.idl_check.proofs.BodyParts.{parts_found, parts_missed}
 use Rattle.idl_check.proofs.CycleGraph.{held_parts}
+use Rattle.idl_check.proofs.CycleLoops.{held_none}
 use Rattle.idl_check.proofs.cycle_rule.row_of.Goals as goal
 
 pub returns-in-Some-get : goal.returns-in-Some-get
@@ -31,3 +32,8 @@ returns-in-None c s n is inner =
     let beyond : length t.bodies.items ≤ c.in-Some.number = subst (λ (l : List BodyTypes). length l ≤ c.in-Some.number) c.deref.ensures.value past in
     let none = parts_missed s n t is c.args.place c.in-Some.number found beyond in
     c.new-in-None.ensures.items ∙ ap (λ l. numbers_of t (flat_map innermost l)) none ∙ ap (numbers_of t) (sym (held_parts s c.args.place))
+
+pub returns-in_default : goal.returns-in_default
+returns-in_default c s n is inner =
+    let t = c.args.types.now in
+    c.new.ensures.items ∙ sym (ap (numbers_of t) (held_none s n t is c.args.place (sym c.body_of.ensures ∙ c.in_default.is)))
