@@ -22,6 +22,7 @@ pub parts_found : (s : Scene) (n : program_nodes.Nodes) (t : program_types.Types
 parts_found s n t is place j b found below same = by (slice_get_cases (bodies s) j).1 where
   here : slice_get t.bodies.items j ≡ Some b
   here = slice_get_read t.bodies.items (length t.bodies.items) j b refl below same
+
   by : ((x : Body) × (j < length (bodies s)) × (slice_get (bodies s) j ≡ Some x) × (get_or (bodies s) j x ≡ x)) ⊎ ((length (bodies s) ≤ j) × (slice_get (bodies s) j ≡ None))
       → map (type_at t.kinds) b.parts.items ≡ parts_in_place s place
   by (inl (x, within, there, _)) =
@@ -41,6 +42,7 @@ pub union_found : (s : Scene) (n : program_nodes.Nodes) (t : program_types.Types
 union_found s n t is place j b found below same = by (slice_get_cases (bodies s) j).1 where
   here : slice_get t.bodies.items j ≡ Some b
   here = slice_get_read t.bodies.items (length t.bodies.items) j b refl below same
+
   by : ((x : Body) × (j < length (bodies s)) × (slice_get (bodies s) j ≡ Some x) × (get_or (bodies s) j x ≡ x)) ⊎ ((length (bodies s) ≤ j) × (slice_get (bodies s) j ≡ None))
       → b.nonencapsulated ≡ is_found_nonencapsulated (body_of s place)
   by (inl (x, within, there, _)) =

@@ -116,7 +116,7 @@ module _ (s : Scene) (ks : List Kind) (count : ℕ) (graph : List (List ℕ)) (p
   hoists_at rules are node h =
       sym (properties_agree (suc count) graph rules (type_at ks) (λ n t. hoists_within n s t) (λ t. refl) within
       (λ n i l. hoists_one s (hoists_within n s) (type_at ks) (parts_at graph i) (type_at ks i) (places i l).seen
-          ∙ ap (λ r. has_by r (λ p. hoists_within n s (type_at ks p)) (parts_at graph i)) (sym (are i l)))
+      ∙ ap (λ r. has_by r (λ p. hoists_within n s (type_at ks p)) (parts_at graph i)) (sym (are i l)))
       NESTING_LIMIT node h)
 
   pub barred_at : (rules : List Rule) → AreRules barred_rule ks count rules → (node : ℕ) → node < suc count → has_within NESTING_LIMIT graph rules node ≡ is_barred_in_pipes s (type_at ks node)
@@ -124,7 +124,7 @@ module _ (s : Scene) (ks : List Kind) (count : ℕ) (graph : List (List ℕ)) (p
   barred_at rules are node h =
       sym (properties_agree (suc count) graph rules (type_at ks) (λ n t. is_barred_within n s t) (λ t. refl) within
       (λ n i l. barred_one s (is_barred_within n s) (type_at ks) (parts_at graph i) (type_at ks i) (places i l).seen
-          ∙ ap (λ r. has_by r (λ p. is_barred_within n s (type_at ks p)) (parts_at graph i)) (sym (are i l)))
+      ∙ ap (λ r. has_by r (λ p. is_barred_within n s (type_at ks p)) (parts_at graph i)) (sym (are i l)))
       NESTING_LIMIT node h)
 
   pub nests_at : (rules : List Rule) → ((node : ℕ) → node < suc count → rule_at rules node ≡ All) → (node : ℕ) → node < suc count
@@ -132,7 +132,7 @@ module _ (s : Scene) (ks : List Kind) (count : ℕ) (graph : List (List ℕ)) (p
   nests_at rules are node h =
       sym (properties_agree (suc count) graph rules (type_at ks) (λ n t. nests n s t) (λ t. refl) within
       (λ n i l. ap (list_all (nests n s)) (sym (places i l).seen) ∙ all_of_map (nests n s) (type_at ks) (parts_at graph i)
-          ∙ ap (λ r. has_by r (λ p. nests n s (type_at ks p)) (parts_at graph i)) (sym (are i l)))
+      ∙ ap (λ r. has_by r (λ p. nests n s (type_at ks p)) (parts_at graph i)) (sym (are i l)))
       NESTING_LIMIT node h)
 
 pub all_rules : (count node : ℕ) → node < suc count → rule_at (replicate (suc count) All) node ≡ All

@@ -29,8 +29,8 @@ pub three : (w : World) (c : Construct) (at i j k : ℕ) (a b d : Bool) (first s
 three w c at i j k a b d first second third last e f g =
     g ∙ ap (λ l. noted w third l) (if_broken_is c k at d)
     ∙ ap (λ o. noted w o (broken_at c k at d)) (f ∙ ap (λ l. noted w second l) (if_broken_is c j at b)
-        ∙ ap (λ o. noted w o (broken_at c j at b)) (e ∙ ap (λ l. noted w first l) (if_broken_is c i at a))
-        ∙ sym (noted_more w first (broken_at c i at a) (broken_at c j at b)))
+    ∙ ap (λ o. noted w o (broken_at c j at b)) (e ∙ ap (λ l. noted w first l) (if_broken_is c i at a))
+    ∙ sym (noted_more w first (broken_at c i at a) (broken_at c j at b)))
     ∙ sym (noted_more w first (broken_at c i at a ++ broken_at c j at b) (broken_at c k at d))
 
 -- ## Words that stand in a list
@@ -56,11 +56,11 @@ pub no_word_more : (words : List Word) (before : List Attribute) (a : Attribute)
     → is_among (spelled word) words ≡ true → AreWords words (before ++ a ∷ [])
 no_word_more words before a word are is among x =
     are x ∙ by (bytes_eq x (word_of a.kind)) refl ∙ sym (any_last (is_word x) before a) where
-  by : (t : Bool) → bytes_eq x (word_of a.kind) ≡ t → has x before ≡ (has x before || bytes_eq x (word_of a.kind))
-  by true e =
-      let there : has x before ≡ true = ap (λ y. has y before) ((bytes_eq-Decides x (word_of a.kind)).0 e ∙ sym is) ∙ sym (are (spelled word)) ∙ among in
-      there ∙ sym (ap (λ b. b || bytes_eq x (word_of a.kind)) there)
-  by false e = sym (ap (λ b. has x before || b) e ∙ or_false (has x before))
+      by : (t : Bool) → bytes_eq x (word_of a.kind) ≡ t → has x before ≡ (has x before || bytes_eq x (word_of a.kind))
+      by true e =
+          let there : has x before ≡ true = ap (λ y. has y before) ((bytes_eq-Decides x (word_of a.kind)).0 e ∙ sym is) ∙ sym (are (spelled word)) ∙ among in
+          there ∙ sym (ap (λ b. b || bytes_eq x (word_of a.kind)) there)
+      by false e = sym (ap (λ b. has x before || b) e ∙ or_false (has x before))
 
 -- ## The attributes that are left, behind those before them
 
@@ -77,9 +77,9 @@ left_is : (c : Construct) (xs : List program.Attribute) (i : ℕ) (x : program.A
 left_is c xs i x below is =
     ap (λ l. list_breaches (attribute_nodes_from c (map seen_attribute (take i xs)) (map seen_attribute l))) (drop_more xs i x below ∙ ap (λ y. y ∷ drop (i + 1) xs) (sym is))
     ∙ flat_map-cons list_breaches_at (AttributeNode c (map seen_attribute (take i xs)) (seen_attribute x))
-        (attribute_nodes_from c (map seen_attribute (take i xs) ++ seen_attribute x ∷ []) (map seen_attribute (drop (i + 1) xs)))
+    (attribute_nodes_from c (map seen_attribute (take i xs) ++ seen_attribute x ∷ []) (map seen_attribute (drop (i + 1) xs)))
     ∙ ap (λ before. attribute_breaches c (map seen_attribute (take i xs)) (seen_attribute x) ++ list_breaches (attribute_nodes_from c before (map seen_attribute (drop (i + 1) xs))))
-        (sym (before_next xs i x below is))
+    (sym (before_next xs i x below is))
 
 -- one attribute is noted, and the others are left
 pub one_noted : (w : World) (c : Construct) (xs : List program.Attribute) (i : ℕ) (x : program.Attribute) (first next all : Option Breach) → i < length xs → x ≡ get_or xs i x

@@ -41,9 +41,22 @@ one_more s ks number items m size marks is n below = by (ltb n number) refl wher
 void_mark : (s : Scene) → IsMark s Void OF_VOID
 unfolding hoists is_too_deep
 void_mark s = record {
-  holds_void = refl; holds_handle = refl; holds_pipe = refl; holds_context = refl; holds_classless = refl; holds_reference_behind = refl;
-  holds_wrong_count = refl; holds_many_not_fixed = refl; holds_nonencapsulated = refl; holds_wrong_element = refl; holds_wrong_pipe = refl;
-  holds_deep_array = refl; many_dimensions = refl; nonencapsulated = refl; hoists = refl; too_deep = refl;
+  holds_void = refl;
+  holds_handle = refl;
+  holds_pipe = refl;
+  holds_context = refl;
+  holds_classless = refl;
+  holds_reference_behind = refl;
+  holds_wrong_count = refl;
+  holds_many_not_fixed = refl;
+  holds_nonencapsulated = refl;
+  holds_wrong_element = refl;
+  holds_wrong_pipe = refl;
+  holds_deep_array = refl;
+  many_dimensions = refl;
+  nonencapsulated = refl;
+  hoists = refl;
+  too_deep = refl;
 }
 
 pub all_marks : (s : Scene) (ks : List Kind) (items : List Mark) → length items ≡ length ks → MarksTo s ks (length ks) items

@@ -57,7 +57,7 @@ pub void_last : (s : Scene) (ks : List Kind) (count : ℕ) (graph : List (List �
 void_last s ks count graph known size each node below =
     each_more (HeldBy s ks count) [] graph [] each
     (subst (λ (n : ℕ). HeldBy s ks count n []) (sym size)
-        (subst (λ (u : IdlType). AreHeld ks count [] (in_place s u)) (sym (void_past ks count (omega (arith, known)))) (record { seen = refl; within = refl })))
+    (subst (λ (u : IdlType). AreHeld ks count [] (in_place s u)) (sym (void_past ks count (omega (arith, known)))) (record { seen = refl; within = refl })))
     node (let e = length-append graph ([] ∷ []) in omega (arith, below, size, e))
 
 -- ## Rules

@@ -69,6 +69,14 @@ attr_var_by t a v = record { attr = a; var = index_or (found v.name.octets t); s
 abbrev pub vars_by : List (List ℕ × ℕ) → List Attribute → List ℕ → Attr → List AttrVar
 vars_by t attributes word a = map (attr_var_by t a) (variables (word ∷ []) attributes)
 
+abbrev pub size_vars_by : List (List ℕ × ℕ) → List Attribute → List AttrVar
+size_vars_by t attributes = vars_by t attributes (codes "size_is") attr.Size ++ vars_by t attributes (codes "max_is") attr.Max
+
+abbrev pub range_vars_by : List (List ℕ × ℕ) → List Attribute → List AttrVar
+range_vars_by t attributes =
+    vars_by t attributes (codes "first_is") attr.First ++ vars_by t attributes (codes "length_is") attr.Length
+    ++ vars_by t attributes (codes "last_is") attr.Last
+
 abbrev pub field_vars_by : List (List ℕ × ℕ) → List Attribute → List AttrVar
 field_vars_by t attributes =
     vars_by t attributes (codes "size_is") attr.Size ++ vars_by t attributes (codes "max_is") attr.Max

@@ -12,17 +12,16 @@ ghost use Rattle.idl_check.specs.SeenTypes.{scene_seen, IsTypes};
 ghost use Rattle.idl_check.specs.SeenCounts.{one_too_many};
 ghost use Rattle.idl_names.specs.Seen.{known_in};
 
-use crate::RuleFault;
 use crate::counts::too_many;
 use crate::exports::of_files;
 use crate::finder::{Breach, Finder};
 use crate::lists::first_breach;
-use crate::marks;
 use crate::meaning::interface;
 use crate::nodes::Nodes;
 use crate::numbering::{self, Numbers};
 use crate::types::{Types, of_nodes};
 use crate::uses::other_rules;
+use crate::{RuleFault, marks};
 use idl_names::Scope;
 use nd_base::Memory;
 use nd_types::Interface;
@@ -49,8 +48,8 @@ fn other_breach(
     ensures { IsTypes (scene_seen (known_in scope.now) nodes.now) nodes.now types.now
         → AreNumbers (scene_seen (known_in scope.now) nodes.now) types.now.kinds numbers.now
         → IfOk result (λ b. option_map seen_breach b
-            ≡ noted (world_of scope.now) (noted (world_of scope.now) None (other_breaches (scene_seen (known_in scope.now) nodes.now)))
-                (map one_too_many (rules.too_many (scene_seen (known_in scope.now) nodes.now)))) }
+        ≡ noted (world_of scope.now) (noted (world_of scope.now) None (other_breaches (scene_seen (known_in scope.now) nodes.now)))
+        (map one_too_many (rules.too_many (scene_seen (known_in scope.now) nodes.now)))) }
 {
     let marks = marks::of_types(alloc, types)?;
     let mut finder = Finder::new(&scope.files);

@@ -1,5 +1,5 @@
 // The walk through the declarations of files.
-ghost use Rattle.std.specs.Prelude.{◌≡◌, ◌+◌, ◌++◌, map, IfOk, OnOk};
+ghost use Rattle.std.specs.Prelude.{◌≡◌, ◌+◌, [], ◌∷◌, ◌++◌, None, map, IfOk, OnOk};
 ghost use Rattle.std.specs.List.{flat_map};
 ghost use Rattle.idl_grammar.specs.Seen as seen;
 ghost use Rattle.idl_names.specs.Seen.{seen_file, seen_files};
@@ -12,7 +12,9 @@ use crate::attributes::default_class_in;
 use crate::nodes::{Construct, Declared, Node, Nodes, Position, Returned};
 use crate::parts::parameters_declared;
 use crate::walk::{attributes, listed, switch, type_spec, unlisted};
-use idl_grammar::{Declarator, Export, Parameter, Parameters, TypeSpec};
+use idl_grammar::{
+    Declarator, Export, Init, Parameter, Parameters, SimpleType, Spelling, TypeSpec,
+};
 use idl_names::{FileTree, FileTrees};
 use nd_base::Memory;
 use std::alloc::Global;
@@ -84,6 +86,44 @@ fn operation<'t>(
     })
 }
 
+/// An operation with what stands between its brackets.
+fn exported<'t>(
+    alloc: Global,
+    nodes: &mut Nodes<'t>,
+    construct: Construct<'t>,
+    of: &'t TypeSpec,
+    name: &'t Spelling,
+    parameters: &'t Parameters,
+) -> Result<(), Memory>
+    ensures { OnOk result (Adds nodes.old nodes.new (rules.operation_nodes (seen_construct construct) (seen.seen_type of.now) name.now (parameters_of (seen.seen_parameters parameters.now)))) }
+{
+    let it = Returned {
+        construct,
+        of,
+        name,
+    };
+    operation(alloc, nodes, it, parameter_list(parameters))
+}
+
+/// A constant.
+fn constant<'t>(
+    nodes: &mut Nodes<'t>,
+    header: &Construct<'t>,
+    at: u32,
+    of: SimpleType,
+    star: bool,
+    value: &'t Init,
+) -> Result<(), Memory>
+    ensures { OnOk result (Adds nodes.old nodes.new (rules.ConstantNode (rules.inside (seen_construct header.now) rules.InTypedef at None) of star (seen.seen_init value.now) ∷ [])) }
+{
+    nodes.push(Node::Constant {
+        construct: header.without_attributes(Position::Typedef, at),
+        of,
+        star,
+        value,
+    })
+}
+
 /// What a typedef declares.
 fn typedefs<'t>(
     nodes: &mut Nodes<'t>,
@@ -151,12 +191,7 @@ fn export<'t>(
             star,
             value,
             ..
-        } => nodes.push(Node::Constant {
-            construct: header.without_attributes(Position::Typedef, *at),
-            of: *of,
-            star: *star,
-            value,
-        }),
+        } => constant(nodes, header, *at, *of, *star, value),
         Export::Tagged { at, attributes, of } => {
             let construct = header.inside(Position::TaggedType, *at, attributes);
             declaration(alloc, nodes, &construct, of)?;
@@ -173,12 +208,7 @@ fn export<'t>(
                 return Ok(());
             }
             let construct = header.inside(Position::Operation, *at, attributes);
-            let it = Returned {
-                construct,
-                of: result,
-                name,
-            };
-            operation(alloc, nodes, it, parameter_list(parameters))
+            exported(alloc, nodes, construct, result, name, parameters)
         }
     }
 }

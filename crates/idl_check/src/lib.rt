@@ -1,56 +1,58 @@
 //! The rules of IDL, and what files mean that keep them (C706, chapter 4).
 #![tactic(auto)]
 
+mod arms;
+mod array_rules;
+mod asked;
+mod attributes;
 mod checking;
 mod counted;
 mod counts;
-mod attributes;
-mod array_rules;
-mod asked;
+mod cycle_rule;
+#[cfg(test)]
+mod cycle_tests;
+mod declaration_rules;
+mod definitions;
 mod exports;
 mod fault;
-mod cycle_rule;
-mod in_place;
-mod declaration_rules;
-mod kind_tests;
+mod finder;
 mod graph;
+mod header;
+mod in_place;
+#[cfg(test)]
+mod interface_tests;
+mod kind_tests;
 mod kinds;
 mod label_rule;
 mod labels;
 pub mod laws;
+mod listed;
 mod lists;
 mod marks;
+mod meaning;
+mod members;
+#[cfg(test)]
+mod node_tests;
 mod nodes;
 mod numbering;
-mod words;
-mod finder;
+mod operations;
+mod parts;
 mod places;
-mod ranges;
 mod pointer_rules;
+mod ranges;
+#[cfg(test)]
+mod rule_tests;
 mod type_rules;
 mod types;
-mod variables;
-mod variable_rules;
 mod typing;
 mod uses;
 mod value_set;
 mod values;
-mod written;
-mod listed;
-mod members;
-mod arms;
-mod header;
-mod definitions;
-mod operations;
-mod meaning;
-#[cfg(test)]
-mod node_tests;
-#[cfg(test)]
-mod label_tests;
-#[cfg(test)]
-mod cycle_tests;
-mod parts;
+mod variable_rules;
+mod variables;
 mod walk;
+mod words;
+mod written;
 
 pub use checking::check;
 pub use fault::RuleFault;

@@ -53,17 +53,24 @@ fn is_in_place(position: Position, word: Word) -> bool
             Word::Uuid | Word::Version | Word::Endpoint | Word::Local | Word::PointerDefault
         ),
         Position::Typedef => {
-            is_class_word(word) || matches!(word, Word::String | Word::ContextHandle | Word::SwitchType)
+            is_class_word(word)
+                || matches!(word, Word::String | Word::ContextHandle | Word::SwitchType)
         }
         Position::TaggedType => matches!(word, Word::SwitchType),
-        Position::Member => is_class_word(word) || is_variable_word(word) || matches!(word, Word::String),
+        Position::Member => is_class_word(word)
+            || is_variable_word(word)
+            || matches!(word, Word::String),
         Position::Parameter => {
             is_class_word(word)
                 || is_variable_word(word)
-                || matches!(word, Word::In | Word::Out | Word::String | Word::ContextHandle)
+                || matches!(
+                    word,
+                    Word::In | Word::Out | Word::String | Word::ContextHandle
+                )
         }
         Position::Arm => is_class_word(word) || matches!(word, Word::String),
-        Position::CasedArm => is_class_word(word) || matches!(word, Word::String | Word::Case | Word::Default),
+        Position::CasedArm => is_class_word(word)
+            || matches!(word, Word::String | Word::Case | Word::Default),
         Position::Operation => matches!(word, Word::Idempotent | Word::Broadcast | Word::Maybe),
     }
 }
@@ -84,7 +91,10 @@ fn is_large_version(kind: &AttributeKind) -> bool
 {
     match kind {
         AttributeKind::Version { major, minor: None } => is_past(major),
-        AttributeKind::Version { major, minor: Some(minor) } => is_past(major) || is_past(minor),
+        AttributeKind::Version {
+            major,
+            minor: Some(minor),
+        } => is_past(major) || is_past(minor),
         _ => false,
     }
 }
@@ -116,11 +126,16 @@ fn enlist(words: &mut Vec<Word>, word: Word) -> Result<(), Memory>
 }
 
 /// The rules on an attribute, behind attributes with these words.
-fn attribute(finder: &mut Finder<'_>, construct: &Construct<'_>, words: &[Word], attribute: &Attribute)
+fn attribute(
+    finder: &mut Finder<'_>,
+    construct: &Construct<'_>,
+    words: &[Word],
+    attribute: &Attribute,
+)
     ensures files { finder.new.files.now ≡ finder.old.files.now }
     ensures first { (w : World) (before : List tree.Attribute) → w.files ≡ seen_files finder.old.files.now → AreWords words.now before
         → option_map seen_breach finder.new.first
-            ≡ noted w (option_map seen_breach finder.old.first) (attribute_breaches (seen_construct construct.now) before (seen_attribute attribute.now)) }
+        ≡ noted w (option_map seen_breach finder.old.first) (attribute_breaches (seen_construct construct.now) before (seen_attribute attribute.now)) }
 {
     let place = construct.place(attribute.at);
     let word = first_word(&attribute.kind);
@@ -130,11 +145,15 @@ fn attribute(finder: &mut Finder<'_>, construct: &Construct<'_>, words: &[Word],
 }
 
 /// The rules on the attributes of a construct. Takes memory for their words.
-fn attributes(alloc: Global, finder: &mut Finder<'_>, construct: &Construct<'_>) -> Result<(), Memory>
+fn attributes(
+    alloc: Global,
+    finder: &mut Finder<'_>,
+    construct: &Construct<'_>,
+) -> Result<(), Memory>
     ensures files { finder.new.files.now ≡ finder.old.files.now }
     ensures first { (w : World) → w.files ≡ seen_files finder.old.files.now
         → OnOk result (option_map seen_breach finder.new.first
-            ≡ noted w (option_map seen_breach finder.old.first) (list_breaches (attribute_nodes (seen_construct construct.now)))) }
+        ≡ noted w (option_map seen_breach finder.old.first) (list_breaches (attribute_nodes (seen_construct construct.now)))) }
 {
     let mut words = Vec::new(alloc);
     for one in construct.attributes {
@@ -149,7 +168,7 @@ fn header(finder: &mut Finder<'_>, construct: &Construct<'_>)
     ensures files { finder.new.files.now ≡ finder.old.files.now }
     ensures first { (w : World) → w.files ≡ seen_files finder.old.files.now
         → option_map seen_breach finder.new.first
-            ≡ noted w (option_map seen_breach finder.old.first) (list_breaches_at (HeaderNode (seen_construct construct.now) construct.now.at)) }
+        ≡ noted w (option_map seen_breach finder.old.first) (list_breaches_at (HeaderNode (seen_construct construct.now) construct.now.at)) }
 {
     let lacks = construct.file == 0
         && !has(construct.attributes, Word::Uuid)
@@ -162,7 +181,7 @@ fn node(alloc: Global, finder: &mut Finder<'_>, node: &Node<'_>) -> Result<(), M
     ensures files { finder.new.files.now ≡ finder.old.files.now }
     ensures first { (w : World) (nodes : declared.Nodes) → w.files ≡ seen_files finder.old.files.now
         → OnOk result (option_map seen_breach finder.new.first
-            ≡ noted w (option_map seen_breach finder.old.first) (list_breaches (seen_node nodes.lists.items node.now))) }
+        ≡ noted w (option_map seen_breach finder.old.first) (list_breaches (seen_node nodes.lists.items node.now))) }
 {
     match node {
         Node::Header { construct } => header(finder, construct),
@@ -173,7 +192,11 @@ fn node(alloc: Global, finder: &mut Finder<'_>, node: &Node<'_>) -> Result<(), M
 }
 
 /// The first breach of these rules, if one is broken.
-pub(crate) fn first_breach(alloc: Global, files: &FileTrees, nodes: &Nodes<'_>) -> Result<Option<Breach>, Memory>
+pub(crate) fn first_breach(
+    alloc: Global,
+    files: &FileTrees,
+    nodes: &Nodes<'_>,
+) -> Result<Option<Breach>, Memory>
     ensures { (w : World) → w.files ≡ seen_files files.now
         → IfOk result (λ first. option_map seen_breach first ≡ noted w None (list_breaches (seen_nodes nodes.now))) }
 {

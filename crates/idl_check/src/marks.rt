@@ -187,7 +187,10 @@ fn is_absent(class: Class) -> bool
 fn is_made_of_elements(kind: Kind) -> bool
     ensures { (types : List IdlType) → result ≡ rules.is_made_of_elements (type_by types kind) }
 {
-    matches!(kind, Kind::Array { .. } | Kind::Text { .. } | Kind::Pipe { .. })
+    matches!(
+        kind,
+        Kind::Array { .. } | Kind::Text { .. } | Kind::Pipe { .. }
+    )
 }
 
 /// Whether an array, text or pipe nests too deep.
@@ -306,7 +309,13 @@ fn mark_of(own: &Own, counted: &Counted, below: &Mark) -> Mark
     }
 }
 /// The mark of the type of a number, from those of the types before it.
-fn next_mark(types: &Types, number: u32, properties: &Properties, counted: &Counted, before: &Marks) -> Mark
+fn next_mark(
+    types: &Types,
+    number: u32,
+    properties: &Properties,
+    counted: &Counted,
+    before: &Marks,
+) -> Mark
     ensures { (s : Scene) (n : program_nodes.Nodes) (count : ℕ) → IsTypes s n types.now → length types.now.kinds ≡ count → number < count
         → AreProperties s types.now.kinds count properties.now → IsCounted (type_at types.now.kinds number) counted.now
         → AreMarksBelow s types.now.kinds number before.now → IsMark s (type_at types.now.kinds number) result }
@@ -325,7 +334,9 @@ pub(crate) fn of_types(alloc: Global, types: &Types) -> Result<Marks, Memory>
     let count = narrow(types.kinds.len())?;
     let properties = properties_of(alloc, types, count)?;
     let counted = of_kinds(alloc, &types.kinds)?;
-    let mut marks = Marks { items: Vec::new(alloc) };
+    let mut marks = Marks {
+        items: Vec::new(alloc),
+    };
     for number in 0..count {
         let Some(one) = counted.get(number as usize) else {
             unreachable!();

@@ -7,7 +7,7 @@ ghost use Rattle.idl_check.specs.Attributes.{variable_word, in_word, out_word};
 ghost use Rattle.idl_check.specs.VariableRules.{variable_if};
 ghost use Rattle.idl_check.specs.Meaning.{way_by};
 ghost use Rattle.idl_check.specs.SeenNodes.{seen_declared};
-ghost use Rattle.idl_check.specs.Made.{ids_of, index_or, listed_if, attr_var_by, vars_by, field_vars_by, field_by, field_with, parameter_by, parameter_with, each_with};
+ghost use Rattle.idl_check.specs.Made.{ids_of, index_or, listed_if, attr_var_by, vars_by, size_vars_by, range_vars_by, field_vars_by, field_by, field_with, parameter_by, parameter_with, each_with};
 
 use crate::kinds::Kinds;
 use crate::listed::indexes;
@@ -117,6 +117,55 @@ fn add_variables(
     Ok(())
 }
 
+/// Adds the variables that say how many elements there may be.
+fn add_sizes(
+    variables: &mut AttrVars,
+    table: &Table<u32>,
+    attributes: &[Attribute],
+) -> Result<(), Memory>
+    ensures { OnOk result (variables.new ≡ variables.old ++ size_vars_by table.now (map seen_attribute attributes.now)) }
+{
+    add_variables(
+        variables,
+        table,
+        attributes,
+        VariableWord::SizeIs,
+        Attr::Size,
+    )?;
+    add_variables(variables, table, attributes, VariableWord::MaxIs, Attr::Max)
+}
+
+/// Adds the variables that say which of the elements are sent.
+fn add_range(
+    variables: &mut AttrVars,
+    table: &Table<u32>,
+    attributes: &[Attribute],
+) -> Result<(), Memory>
+    ensures { OnOk result (variables.new ≡ variables.old ++ range_vars_by table.now (map seen_attribute attributes.now)) }
+{
+    add_variables(
+        variables,
+        table,
+        attributes,
+        VariableWord::FirstIs,
+        Attr::First,
+    )?;
+    add_variables(
+        variables,
+        table,
+        attributes,
+        VariableWord::LengthIs,
+        Attr::Length,
+    )?;
+    add_variables(
+        variables,
+        table,
+        attributes,
+        VariableWord::LastIs,
+        Attr::Last,
+    )
+}
+
 /// The variables of attributes, in the order in which they are checked. Takes memory for them.
 fn all_variables(
     alloc: Global,
@@ -126,41 +175,8 @@ fn all_variables(
     ensures { IfOk result (λ v. v ≡ field_vars_by table.now (map seen_attribute attributes.now)) }
 {
     let mut variables = AttrVars::new(alloc);
-    add_variables(
-        &mut variables,
-        table,
-        attributes,
-        VariableWord::SizeIs,
-        Attr::Size,
-    )?;
-    add_variables(
-        &mut variables,
-        table,
-        attributes,
-        VariableWord::MaxIs,
-        Attr::Max,
-    )?;
-    add_variables(
-        &mut variables,
-        table,
-        attributes,
-        VariableWord::FirstIs,
-        Attr::First,
-    )?;
-    add_variables(
-        &mut variables,
-        table,
-        attributes,
-        VariableWord::LengthIs,
-        Attr::Length,
-    )?;
-    add_variables(
-        &mut variables,
-        table,
-        attributes,
-        VariableWord::LastIs,
-        Attr::Last,
-    )?;
+    add_sizes(&mut variables, table, attributes)?;
+    add_range(&mut variables, table, attributes)?;
     add_variables(
         &mut variables,
         table,

@@ -131,5 +131,7 @@ pub(crate) fn has_size(attributes: &[Attribute]) -> bool
 pub(crate) fn has_length(attributes: &[Attribute]) -> bool
     ensures { result ≡ has_one_of lengths (map seen_attribute attributes.now) }
 {
-    has(attributes, Word::FirstIs) || has(attributes, Word::LengthIs) || has(attributes, Word::LastIs)
+    has(attributes, Word::FirstIs)
+        || has(attributes, Word::LengthIs)
+        || has(attributes, Word::LastIs)
 }

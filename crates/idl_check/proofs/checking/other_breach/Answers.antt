@@ -18,5 +18,5 @@ returns c typed numbered =
     ap (option_map seen_breach) c.first.ensures
     ∙ c.too_many.ensures.first w (known_in c.args.scope.now) c.args.types.now.kinds second numbered
     ∙ ap (λ o. noted w o (map one_too_many (rules.too_many s)))
-        (c.in_ok-other_rules.ensures.first w s first refl typed (c.in_ok-marks.ensures s c.args.nodes.now typed)
-        ∙ ap (λ o. noted w (option_map seen_breach o) (other_breaches s)) c.new-finder.ensures.none)
+    (c.in_ok-other_rules.ensures.first w s first refl typed (c.in_ok-marks.ensures s c.args.nodes.now typed)
+    ∙ ap (λ o. noted w (option_map seen_breach o) (other_breaches s)) c.new-finder.ensures.none)

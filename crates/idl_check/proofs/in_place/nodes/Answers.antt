@@ -12,7 +12,7 @@ pub loop-number-preserved : goal.loop-number-preserved
 loop-number-preserved c ks size =
     subst (λ (l : List ℕ). AreHeld ks c.args.count l (map (type_at ks) (take (c.loop-number.number-index + 1) c.args.numbers.now))) (sym c.in-Ok.ensures.items)
     (held_more ks c.args.count c.loop-number.held.items c.args.numbers.now c.loop-number.number-index 0 c.node.result c.loop-number-test.true
-        (c.loop-number.invariant ks size) (c.node.ensures.same ks size) c.node.ensures.within)
+    (c.loop-number.invariant ks size) (c.node.ensures.same ks size) c.node.ensures.within)
 
 pub returns : goal.returns
 returns c ks size =

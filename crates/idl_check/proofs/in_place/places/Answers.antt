@@ -11,13 +11,14 @@ loop-number-init c =
 
 pub loop-number-preserved : goal.loop-number-preserved
 loop-number-preserved c =
-    let ks = c.args.types.now.kinds in
-    (ap length c.in_ok-push.ensures.ok ∙ length-append c.loop-number.graph (c.as_slice.result.now ∷ []) ∙ ap (λ n. n + 1) c.loop-number.invariant.0,
-    (λ s n is size. subst (λ (g : List (List ℕ)). Each (HeldBy s ks c.args.count) [] g) (sym c.in_ok-push.ensures.ok)
-        (place_more s ks c.args.count c.loop-number.number c.loop-number.graph c.as_slice.result.now (type_by (seen_types ks) c.kind.result) c.loop-number.invariant.0
-            (c.loop-number.invariant.1 s n is size)
-            (subst (λ (l : List ℕ). AreHeld ks c.args.count l (in_place s (type_by (seen_types ks) c.kind.result))) (sym c.as_slice.ensures.value) (c.in_ok-held.ensures s n is size))
-            c.kind.ensures.seen)))
+    let ks = c.args.types.now.kinds in (
+      ap length c.in_ok-push.ensures.ok ∙ length-append c.loop-number.graph (c.as_slice.result.now ∷ []) ∙ ap (λ n. n + 1) c.loop-number.invariant.0,
+      (λ s n is size. subst (λ (g : List (List ℕ)). Each (HeldBy s ks c.args.count) [] g) (sym c.in_ok-push.ensures.ok)
+          (place_more s ks c.args.count c.loop-number.number c.loop-number.graph c.as_slice.result.now (type_by (seen_types ks) c.kind.result) c.loop-number.invariant.0
+          (c.loop-number.invariant.1 s n is size)
+          (subst (λ (l : List ℕ). AreHeld ks c.args.count l (in_place s (type_by (seen_types ks) c.kind.result))) (sym c.as_slice.ensures.value) (c.in_ok-held.ensures s n is size))
+          c.kind.ensures.seen)),
+    )
 
 pub returns : goal.returns
 returns c s n is size =

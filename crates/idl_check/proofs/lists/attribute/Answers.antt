@@ -20,9 +20,9 @@ returns-clause-first c w before files words =
     let out = ap not (c.is_in_place.ensures ∙ ap (λ x. list_any (λ w. bytes_eq w x) (words_in (seen_position c.args.construct.now.position))) word) in
     let again = c.is_among.ensures ∙ ap (λ x. is_among x c.args.words.now) word ∙ words _ in
     let first = c.note.ensures.first w files
-        ∙ ap₂ (λ p b. noted w (option_map seen_breach c.args.finder.now.first) (if_broken 1 p b)) c.place-place.ensures out in
+    ∙ ap₂ (λ p b. noted w (option_map seen_breach c.args.finder.now.first) (if_broken 1 p b)) c.place-place.ensures out in
     let second = c.note-2.ensures.first w (files ∙ ap seen_files (sym c.note.ensures.files))
-        ∙ ap₂ (λ p b. noted w (option_map seen_breach c.note.new.self.first) (if_broken 2 p b)) c.place-place.ensures again in
+    ∙ ap₂ (λ p b. noted w (option_map seen_breach c.note.new.self.first) (if_broken 2 p b)) c.place-place.ensures again in
     let third = c.note-3.ensures.first w (files ∙ ap seen_files (sym (c.note-2.ensures.files ∙ c.note.ensures.files)))
-        ∙ ap₂ (λ p b. noted w (option_map seen_breach c.note-2.new.self.first) (if_broken 4 p b)) c.place-place.ensures c.is_large_version.ensures in
+    ∙ ap₂ (λ p b. noted w (option_map seen_breach c.note-2.new.self.first) (if_broken 4 p b)) c.place-place.ensures c.is_large_version.ensures in
     three w co c.args.attribute.now.at 1 2 4 _ _ _ _ _ _ _ first second third

@@ -17,14 +17,15 @@ pub loop-one-preserved : goal.loop-one-preserved
 loop-one-preserved c =
     let xs = c.args.construct.now.attributes.now in
     let i = c.loop-one.one-index in
-    let below = c.loop-one-test.true in
-    (c.attribute.ensures.files ∙ c.loop-one.invariant.0,
+    let below = c.loop-one-test.true in (
+      c.attribute.ensures.files ∙ c.loop-one.invariant.0,
       words_next c.enlist.new.words.items xs i c.one-item.result below c.one-item.is
-        (c.in_ok-enlist.ensures (map seen_attribute (take i xs)) (seen_attribute c.one-item.result) c.loop-one.invariant.1 c.first_word.ensures),
+          (c.in_ok-enlist.ensures (map seen_attribute (take i xs)) (seen_attribute c.one-item.result) c.loop-one.invariant.1 c.first_word.ensures),
       (λ w files. one_noted w (seen_construct c.args.construct.now) xs i c.one-item.result _ _ _ below c.one-item.is
-        (c.attribute.ensures.first w (map seen_attribute (take i xs)) (files ∙ ap seen_files (sym c.loop-one.invariant.0))
-            (λ word. ap (λ l. is_among word l) c.as_slice.ensures.value ∙ c.loop-one.invariant.1 word))
-        (c.loop-one.invariant.2 w files)))
+          (c.attribute.ensures.first w (map seen_attribute (take i xs)) (files ∙ ap seen_files (sym c.loop-one.invariant.0))
+          (λ word. ap (λ l. is_among word l) c.as_slice.ensures.value ∙ c.loop-one.invariant.1 word))
+          (c.loop-one.invariant.2 w files)),
+    )
 
 pub returns-clause-files : goal.returns-clause-files
 returns-clause-files c = c.loop-one.invariant.0

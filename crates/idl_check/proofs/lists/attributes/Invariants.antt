@@ -16,5 +16,5 @@ invariant-loop-one l =
     (l.finder.files.now ≡ l.fn.finder.files.now)
     × AreWords l.words.items (map seen_attribute (take l.one-index l.one-items))
     × ((w : World) → w.files ≡ seen_files l.fn.finder.files.now
-        → noted w (option_map seen_breach l.finder.first) (left (seen_construct l.construct) l.one-items l.one-index)
-            ≡ noted w (option_map seen_breach l.fn.finder.first) (list_breaches (attribute_nodes (seen_construct l.fn.construct))))
+    → noted w (option_map seen_breach l.finder.first) (left (seen_construct l.construct) l.one-items l.one-index)
+    ≡ noted w (option_map seen_breach l.fn.finder.first) (list_breaches (attribute_nodes (seen_construct l.fn.construct))))

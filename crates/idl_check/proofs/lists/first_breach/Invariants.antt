@@ -13,4 +13,4 @@ abbrev pub invariant-loop-one : goal.invariant-loop-one
 invariant-loop-one l =
     (l.finder.files.now ≡ l.files)
     × ((w : World) → w.files ≡ seen_files l.files
-        → noted w (option_map seen_breach l.finder.first) (left (seen_node l.nodes.lists.items) list_breaches_at l.one-items l.one-index) ≡ noted w None (list_breaches (seen_nodes l.nodes)))
+    → noted w (option_map seen_breach l.finder.first) (left (seen_node l.nodes.lists.items) list_breaches_at l.one-items l.one-index) ≡ noted w None (list_breaches (seen_nodes l.nodes)))

@@ -11,13 +11,13 @@ loop-one-init c = ap (λ l. list_any (λ w. bytes_eq (spelled c.args.word) (spel
 pub returns-then-is_same : goal.returns-then-is_same
 returns-then-is_same c =
     found_copy (λ w. w) (λ w. bytes_eq (spelled c.args.word) (spelled w)) c.args.words.now c.loop-one.one-index _ c.loop-one-test.true
-        (sym c.if-is_same.true ∙ c.is_same.ensures)
+    (sym c.if-is_same.true ∙ c.is_same.ensures)
     ∙ c.loop-one.invariant
 
 pub loop-one-preserved : goal.loop-one-preserved
 loop-one-preserved c =
     sym (no_copy (λ w. w) (λ w. bytes_eq (spelled c.args.word) (spelled w)) c.args.words.now c.loop-one.one-index _ c.loop-one-test.true
-        (sym c.if-is_same.false ∙ c.is_same.ensures))
+    (sym c.if-is_same.false ∙ c.is_same.ensures))
     ∙ c.loop-one.invariant
 
 pub returns : goal.returns

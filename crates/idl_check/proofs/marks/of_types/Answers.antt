@@ -17,12 +17,13 @@ loop-number-preserved c =
     let counted = c.in_ok-counted.counted.items in
     let sized = c.in_ok-counted.ensures.count in
     let one : slice_get counted number ≡ Some c.in-Some.one.now =
-        slice_get_read counted (length counted) number c.in-Some.one.now refl (omega (arith, below, sized, size))
-        (c.in-Some.ensures.lookup.1 ∙ ap (λ l. get_or l number c.in-Some.one.now) c.deref.ensures.value) in
-    (ap length c.in-Ok.ensures.items ∙ length-append c.loop-number.marks.items.items (c.next_mark-mark.result ∷ []) ∙ ap (λ k. k + 1) c.loop-number.invariant.0,
-    (λ s n is. subst (λ (l : List Mark). MarksTo s ks (number + 1) l) (sym c.in-Ok.ensures.items)
-        (one_more s ks number c.loop-number.marks.items.items c.next_mark-mark.result c.loop-number.invariant.0 (c.loop-number.invariant.1 s n is)
-        (c.next_mark-mark.ensures s n c.in_ok-count.count is size below (c.in_ok-properties.ensures s n is size) (c.in_ok-counted.ensures.each number c.in-Some.one.now one) (c.loop-number.invariant.1 s n is)))))
+    slice_get_read counted (length counted) number c.in-Some.one.now refl (omega (arith, below, sized, size))
+    (c.in-Some.ensures.lookup.1 ∙ ap (λ l. get_or l number c.in-Some.one.now) c.deref.ensures.value) in (
+      ap length c.in-Ok.ensures.items ∙ length-append c.loop-number.marks.items.items (c.next_mark-mark.result ∷ []) ∙ ap (λ k. k + 1) c.loop-number.invariant.0,
+      (λ s n is. subst (λ (l : List Mark). MarksTo s ks (number + 1) l) (sym c.in-Ok.ensures.items)
+          (one_more s ks number c.loop-number.marks.items.items c.next_mark-mark.result c.loop-number.invariant.0 (c.loop-number.invariant.1 s n is)
+          (c.next_mark-mark.ensures s n c.in_ok-count.count is size below (c.in_ok-properties.ensures s n is size) (c.in_ok-counted.ensures.each number c.in-Some.one.now one) (c.loop-number.invariant.1 s n is)))),
+    )
 
 pub returns : goal.returns
 returns c s n is =
