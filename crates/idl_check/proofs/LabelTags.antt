@@ -1,13 +1,12 @@
 -- What labels may be, and what is noted of them.
 use Rattle.std.proofs.Common.{◌≡◌, ◌∙◌, ℕ, zero, suc, ℤ, ◌+◌, ◌<◌, ◌≤◌, arith, Bool, true, false, not, ◌||◌, List, [], ◌∷◌, ◌++◌, map, take, drop, length, get_or, Option, Some, None, slice_get, refl, ap, ap₂, sym, append-nil}
 use Rattle.std.specs.Option.{option_and_then}
-use Rattle.std.proofs.lemmas.Option.{none-some, same_Some, slice_get-get_or}
+use Rattle.std.proofs.lemmas.Option.{none-some, same_Some, slice_get_past, slice_get_read}
 use Rattle.std.proofs.lemmas.List.{take_more, take_all, drop_more, drop_all, map-append}
 use Rattle.nd_base.specs.declared.octets.Place.{Place}
 use Rattle.nd_types.specs.declared.types.Primitive.{Primitive}
 use Rattle.nd_types.specs.Table.{in_range}
 use Rattle.idl_grammar.specs.Tree.{TypeSpec, Enumerator}
-use Rattle.idl_names.specs.Known.{Known}
 use Rattle.idl_check.specs.declared.kinds.Kind.{Kind}
 use Rattle.idl_check.specs.declared.kinds.Kind.TheVariants as kind
 use Rattle.idl_check.specs.declared.labels.Valued.{Valued}
@@ -20,54 +19,15 @@ use Rattle.idl_check.specs.Nodes.{Construct, ArmLabel, LabelNode, label_nodes}
 use Rattle.idl_check.specs.Types.{IdlType, Void, Handle, ContextHandle, Basic, Struct, Union, Enum, Array, Text, Pointer, Pipe, Names}
 use Rattle.idl_check.specs.Kinds.{basic_in, type_by, type_at}
 use Rattle.idl_check.specs.Places.{found_place}
-use Rattle.idl_check.specs.Scene.{Scene, Body, bodies, body_of, tag_type, enumerators_found, enumerators_of}
-use Rattle.idl_check.specs.SeenTypes.{body_at, names_at, tag_seen, IsTypes}
+use Rattle.idl_check.specs.Scene.{Scene, Body, bodies, body_of, tag_type, enumerators_in, enumerators_found, enumerators_of}
+use Rattle.idl_check.specs.SeenTypes.{tag_seen, IsTypes}
 use Rattle.idl_check.specs.ValueRules.{same_value, label_value, is_value_of, is_label_of, is_bad_label}
 use Rattle.idl_check.specs.Rules.{Breach, broken_at}
 use Rattle.idl_check.specs.Noted.{noted}
 use Rattle.idl_check.specs.OthersOf.{others_of}
-use Rattle.idl_check.specs.LabelValues.{valued, is_among, Holds, accepts_value, value_breaches}
+use Rattle.idl_check.specs.LabelValues.{valued, is_among, Holds, values_of, accepts_value, value_breaches}
 use Rattle.idl_check.proofs.Dimensions.{any_seen}
 use Rattle.idl_check.proofs.OtherNotes.{kept, other_cons, part_noted}
-
--- ## The enumerators of an enum
-
-there_too : {X Y : Type 0} (xs : List X) (ys : List Y) (n : ℕ) (x : X) → length xs ≡ length ys → slice_get xs n ≡ Some x → (y : Y) × (slice_get ys n ≡ Some y)
-there_too [] ys n x same h = absurd (none-some x h)
-there_too (z ∷ xs) [] n x same h = absurd (omega arith)
-there_too (z ∷ xs) (y ∷ ys) zero x same h = (y, refl)
-there_too (z ∷ xs) (y ∷ ys) (suc n) x same h = there_too xs ys n x (omega arith) h
-
-not_there : {X Y : Type 0} (xs : List X) (ys : List Y) (n : ℕ) → length xs ≡ length ys → slice_get xs n ≡ None → slice_get ys n ≡ None
-not_there xs [] n same h = refl
-not_there [] (y ∷ ys) n same h = absurd (omega arith)
-not_there (x ∷ xs) (y ∷ ys) zero same h = absurd (none-some x (sym h))
-not_there (x ∷ xs) (y ∷ ys) (suc n) same h = not_there xs ys n (omega arith) h
-
-pub item_at : {X : Type 0} (xs ys : List X) (i : ℕ) (x : X) → xs ≡ ys → i < length xs → x ≡ get_or xs i x → slice_get ys i ≡ Some x
-item_at xs ys i x same below is = ap (λ l. slice_get l i) (sym same) ∙ slice_get-get_or xs i x below ∙ ap Some (sym is)
-
-past_end : {X : Type 0} (xs : List X) (i : ℕ) → length xs ≤ i → slice_get xs i ≡ None
-past_end [] i past = refl
-past_end (x ∷ xs) zero past = absurd (omega arith)
-past_end (x ∷ xs) (suc i) past = past_end xs i (omega arith)
-
-pub no_item_at : {X : Type 0} (xs ys : List X) (i : ℕ) → xs ≡ ys → length xs ≤ i → slice_get ys i ≡ None
-no_item_at xs ys i same past = ap (λ l. slice_get l i) (sym same) ∙ past_end xs i past
-
-module _ (s : Scene) (n : program_nodes.Nodes) (t : program_types.Types) (is : IsTypes s n t) (place : Place) where
-  pub body_is : (i : ℕ) → found_place place t.by_place ≡ Some i → body_of s place ≡ slice_get (bodies s) i
-  body_is i h = is.first place ∙ ap (option_and_then (λ j. slice_get (bodies s) j)) h
-
-  pub enumerators_there : (i : ℕ) (b : BodyTypes) (es : List Enumerator) → found_place place t.by_place ≡ Some i → slice_get t.bodies.items i ≡ Some b
-      → ((names : Names) → es ≡ enumerators_found (body_at names (slice_get n.items.items b.node))) → es ≡ enumerators_of s place
-  enumerators_there i b es found h e =
-      let there : (body : Body) × (slice_get (bodies s) i ≡ Some body) = there_too t.bodies.items (bodies s) i b is.body_count h in
-      e (names_at s.known n b.node)
-      ∙ ap enumerators_found ((is.body i there.0 b there.1 h).node ∙ sym (body_is i found ∙ there.1))
-
-  pub no_body_there : (i : ℕ) → found_place place t.by_place ≡ Some i → slice_get t.bodies.items i ≡ None → [] ≡ enumerators_of s place
-  no_body_there i found h = ap enumerators_found (sym (body_is i found ∙ not_there t.bodies.items (bodies s) i is.body_count h))
 
 -- ## Items before an index
 
@@ -120,12 +80,44 @@ in_other s ts (kind.Text element count) z h other = refl
 in_other s ts (kind.Pointer class to) z h other = refl
 in_other s ts (kind.Pipe element) z h other = refl
 
-pub in_enum : (s : Scene) (known : Known) (place : Place) (es : List Enumerator) (set : List (Option ℤ)) (z : ℤ) → s.known ≡ known → es ≡ enumerators_of s place
-    → Holds set (map (λ e. number_of known e.name.octets) es) → is_among (Some z) set ≡ is_value_of s (Some (Enum place)) z
-in_enum s known place es set z is e h =
+-- a set has the values of these enumerators, which are the enum's
+in_enum : (s : Scene) (place : Place) (es : List Enumerator) (set : List (Option ℤ)) (z : ℤ) → es ≡ enumerators_of s place → Holds set (values_of s.known es)
+    → is_among (Some z) set ≡ is_value_of s (Some (Enum place)) z
+in_enum s place es set z e h =
     h (Some z)
-    ∙ ap₂ (λ k l. is_among (Some z) (map (λ e. number_of k e.name.octets) l)) (sym is) e
+    ∙ ap (λ l. is_among (Some z) (values_of s.known l)) e
     ∙ sym (any_seen (λ x. same_value x (Some z)) (λ e. number_of s.known e.name.octets) (enumerators_of s place))
+
+there_too : {X Y : Type 0} (xs : List X) (ys : List Y) (n : ℕ) (x : X) → length xs ≡ length ys → slice_get xs n ≡ Some x → (y : Y) × (slice_get ys n ≡ Some y)
+there_too [] ys n x same h = absurd (none-some x h)
+there_too (z ∷ xs) [] n x same h = absurd (omega arith)
+there_too (z ∷ xs) (y ∷ ys) zero x same h = (y, refl)
+there_too (z ∷ xs) (y ∷ ys) (suc n) x same h = there_too xs ys n x (omega arith) h
+
+module _ (s : Scene) (n : program_nodes.Nodes) (t : program_types.Types) (is : IsTypes s n t) (place : Place) where
+  body_is : (o : Option ℕ) → found_place place t.by_place ≡ o → body_of s place ≡ option_and_then (λ i. slice_get (bodies s) i) o
+  body_is o h = is.first place ∙ ap (option_and_then (λ j. slice_get (bodies s) j)) h
+
+  pub in_body : (i : ℕ) (b : BodyTypes) → found_place place t.by_place ≡ Some i → i < length t.bodies.items → b ≡ get_or t.bodies.items i b
+      → (z : ℤ) → is_among (Some z) b.values ≡ is_value_of s (Some (Enum place)) z
+  in_body i b found below same z =
+      let here : slice_get t.bodies.items i ≡ Some b = slice_get_read t.bodies.items (length t.bodies.items) i b refl below same in
+      let there : (body : Body) × (slice_get (bodies s) i ≡ Some body) = there_too t.bodies.items (bodies s) i b is.body_count here in
+      in_enum s place (enumerators_in there.0.body) b.values z
+      (sym (ap enumerators_found (body_is (Some i) found ∙ there.1)))
+      (is.body i there.0 b there.1 here).values
+
+  -- without a body there is none
+  in_none : body_of s place ≡ None → (z : ℤ) → false ≡ is_value_of s (Some (Enum place)) z
+  in_none none z = in_enum s place [] [] z (sym (ap enumerators_found none)) (λ v. refl)
+
+  pub in_no_body : found_place place t.by_place ≡ None → (z : ℤ) → false ≡ is_value_of s (Some (Enum place)) z
+  in_no_body missed = in_none (body_is None missed)
+
+  pub past_bodies : (i : ℕ) → found_place place t.by_place ≡ Some i → length t.bodies.items ≤ i → (z : ℤ) → false ≡ is_value_of s (Some (Enum place)) z
+  past_bodies i found past =
+      let e = is.body_count in
+      in_none (body_is (Some i) found ∙ slice_get_past (bodies s) i (omega (arith, past, e)))
 
 -- the tag's type is said
 pub tag_said : (ks : List Kind) (t : Typed) → t.has_tag ≡ true → tag_seen ks t ≡ Some (type_at ks t.of)

@@ -56,7 +56,7 @@ typed_in known nodes names ks lists (node.Operation r parameters) t h = tt
 
 body_in : (known : Known) (nodes : List Scoped) (n : program_nodes.Nodes) (ks : List Kind) (body : Body) (b : BodyTypes) → IsBody (bare known) n ks body b
     → IsBody (record { known = known; nodes = nodes }) n ks body b
-body_in known nodes n ks body b h = record { place = h.place; nonencapsulated = h.nonencapsulated; parts = h.parts; node = h.node }
+body_in known nodes n ks body b h = record { place = h.place; nonencapsulated = h.nonencapsulated; parts = h.parts; values = h.values; node = h.node }
 
 -- behind the last node
 pub all_read : (known : Known) (n : program_nodes.Nodes) (i : ℕ) (t : Types) (names : List (List ℕ × ℕ)) → i ≡ length n.items.items → AreRead known n i t names

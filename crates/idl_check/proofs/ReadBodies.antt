@@ -81,6 +81,7 @@ body_keeps known n old new body b keeps below h = record {
   place = h.place;
   nonencapsulated = h.nonencapsulated;
   parts = types-keeps old new b.parts.items keeps below ∙ h.parts;
+  values = h.values;
   node = h.node;
 }
 

@@ -1,11 +1,13 @@
--- For the code: labels by their values, and what breaks the rule on them. A default has no value.
-use Rattle.std.specs.Prelude.{◌≡◌, ℤ, Bool, true, not, ◌||◌, List, [], ◌∷◌, ◌++◌, Option, Some, None}
+-- For the code: sets of values, labels by their values, and what breaks the rule on them. A default has no value.
+use Rattle.std.specs.Prelude.{◌≡◌, ℤ, Bool, true, false, not, ◌||◌, List, [], ◌∷◌, ◌++◌, map, Option, Some, None}
 use Rattle.std.specs.List.{list_any}
 use Rattle.nd_types.specs.Table.{in_range}
 use Rattle.idl_check.specs.declared.labels.Valued.{Valued}
 use Rattle.idl_check.specs.declared.label_rule.Accepted.{Accepted}
 use Rattle.idl_check.specs.declared.label_rule.Accepted.TheVariants as accepted
+use Rattle.idl_grammar.specs.Tree.{Enumerator}
 use Rattle.idl_names.specs.Known.{Known}
+use Rattle.idl_check.specs.World.{number_of}
 use Rattle.idl_check.specs.Nodes.{Construct, ArmLabel}
 use Rattle.idl_check.specs.Rules.{Breach, broken_at}
 use Rattle.idl_check.specs.ValueRules.{same_value, label_value}
@@ -21,11 +23,16 @@ is_among v values = list_any (λ x. same_value x v) values
 abbrev pub Holds : List (Option ℤ) → List (Option ℤ) → Type 0
 Holds set values = (v : Option ℤ) → is_among v set ≡ is_among v values
 
+-- the values of enumerators
+abbrev pub values_of : Known → List Enumerator → List (Option ℤ)
+values_of known es = map (λ e. number_of known e.name.octets) es
+
 -- what a label may be
 abbrev pub accepts : Accepted → ℤ → Bool
 accepts accepted.All z = true
 accepts (accepted.Range p) z = in_range p z
-accepts (accepted.Values set) z = is_among (Some z) set
+accepts accepted.Nothing z = false
+accepts (accepted.Values set) z = is_among (Some z) set.now
 
 abbrev pub accepts_value : (ℤ → Bool) → Option ℤ → Bool
 accepts_value test None = true

@@ -18,8 +18,9 @@ use Rattle.idl_check.specs.Attributes.{switch_is_word}
 use Rattle.idl_check.specs.Nodes.{Declared, Node}
 use Rattle.idl_check.specs.SeenNodes.{seen_construct, seen_declared, seen_result, list_at, seen_node, seen_nodes}
 use Rattle.idl_check.specs.Types.{IdlType, Names, declared_type, type_of, switch_type, type_of_tag}
-use Rattle.idl_check.specs.Scene.{Scene, Scoped, scoped_from, names_behind, Body, bodies, body_of, place_of, type_of_body, is_nonencapsulated_body, parts_of, tag_type, Use, use_of}
+use Rattle.idl_check.specs.Scene.{Scene, Scoped, scoped_from, names_behind, Body, bodies, body_of, place_of, type_of_body, is_nonencapsulated_body, parts_of, tag_type, enumerators_in, Use, use_of}
 use Rattle.idl_check.specs.VariableRules.{is_right_variable, variables, may_be_switched, has_no_variable, has_wrong_variable}
+use Rattle.idl_check.specs.LabelValues.{Holds, values_of}
 use Rattle.idl_check.specs.Kinds.{type_at}
 use Rattle.idl_check.specs.Places.{found_place}
 
@@ -94,6 +95,7 @@ pub record IsBody (s : Scene) (n : program_nodes.Nodes) (ks : List Kind) (body :
   pub nonencapsulated : b.nonencapsulated ≡ is_nonencapsulated_body body.body
   -- the types of its members, or of its arms that are not empty
   pub parts : map (type_at ks) b.parts.items ≡ parts_of s.known body
+  pub values : Holds b.values (values_of s.known (enumerators_in body.body))
   -- the node of the program that it is
   pub node : body_at (names_at s.known n b.node) (slice_get n.items.items b.node) ≡ Some body
 

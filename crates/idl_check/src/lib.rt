@@ -13,6 +13,7 @@ mod cycle_rule;
 mod cycle_tests;
 mod declaration_rules;
 mod definitions;
+mod enum_values;
 mod exports;
 mod fault;
 mod finder;

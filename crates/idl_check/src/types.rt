@@ -6,7 +6,8 @@ ghost use Rattle.idl_check.specs.Types.{IdlType, Names};
 ghost use Rattle.idl_check.specs.Lookups.{AreTables};
 ghost use Rattle.idl_check.specs.ReadTypes.{and_place, is_tag_below, NamesRead, BodiesRead, TagsRead, OperationsRead, AreRead};
 ghost use Rattle.idl_check.specs.SeenOperations.{HasTags, HasOperations};
-ghost use Rattle.idl_check.specs.Scene.{place_of_type, is_nonencapsulated_body, parts_declared, tag_written, tag_type, type_of_body, use_of};
+ghost use Rattle.idl_check.specs.Scene.{place_of_type, is_nonencapsulated_body, parts_declared, enumerators_in, tag_written, tag_type, type_of_body, use_of};
+ghost use Rattle.idl_check.specs.LabelValues.{Holds, values_of};
 ghost use Rattle.idl_check.specs.Kinds.{type_by, type_at, is_inside, Keeps};
 ghost use Rattle.idl_check.specs.SeenNames.{are_below, seen_names, are_within, and_name, declared_in, names_with};
 ghost use Rattle.idl_check.specs.SeenNodes.{seen_position, seen_construct, seen_declared, seen_result, list_at};
@@ -15,11 +16,13 @@ ghost use Rattle.idl_names.specs.Seen.{known_in};
 ghost use Rattle.idl_check.specs.Places.{found_place};
 
 use crate::attributes::switch_type_in;
+use crate::enum_values::enum_values;
 use crate::kinds::{Kind, Kinds, narrow};
 use crate::nodes::{Construct, Declared, Node, Nodes, Position, Returned};
 use crate::parts::parts;
 use crate::places::Places;
 use crate::typing::{declared_type, with_attributes};
+use crate::value_set::ValueSet;
 use crate::variables::{
     Slot, has_no_variable, has_wrong_switch_variable, has_wrong_variable, tables,
 };
@@ -58,6 +61,8 @@ pub(crate) struct BodyTypes {
     pub(crate) parts: Vec<u32>,
     /// The type of a union's tag, where it is said.
     pub(crate) tag: Option<u32>,
+    /// The values of an enum; of another body there are none.
+    pub(crate) values: ValueSet,
 }
 
 /// An operation.
@@ -442,17 +447,20 @@ fn body_types(
     ensures within { IfOk result (λ b. are_below (length kinds.new) b.parts.items ≡ true) }
     ensures tag { IfOk result (λ b. option_map (type_at kinds.new) b.tag ≡ tag_type (seen_construct construct.now) (seen_names kinds.old names.now) (seen_type body.now)) }
     ensures tag_within { IfOk result (λ b. is_tag_below (length kinds.new) b.tag ≡ true) }
+    ensures values { IfOk result (λ b. Holds b.values (values_of (known_in scope.now) (enumerators_in (seen_type body.now)))) }
     ensures keeps { Keeps kinds.old kinds.new }
 {
     let tag = tag_number(kinds, names, construct, body)?;
     let declared = parts(alloc, construct, body)?;
     let parts = part_types(alloc, scope, kinds, names, &declared)?;
+    let values = enum_values(alloc, scope, body)?;
     Ok(BodyTypes {
         place: place_of(construct, body),
         node,
         nonencapsulated: is_nonencapsulated(body),
         parts,
         tag,
+        values,
     })
 }
 
@@ -595,7 +603,7 @@ fn read_node(
     Ok(())
 }
 
-/// The types of all nodes. Takes memory for each type once, and for an entry of each node.
+/// The types of all nodes. Takes memory for each type once, for each value of an enum, and for an entry of each node.
 pub(crate) fn of_nodes<'t>(alloc: Global, scope: &Scope, nodes: &Nodes<'t>) -> Result<Types, Memory>
     ensures types { IfOk result (IsTypes (scene_seen (known_in scope.now) nodes.now) nodes.now) }
     ensures tags { IfOk result (HasTags (scene_seen (known_in scope.now) nodes.now)) }

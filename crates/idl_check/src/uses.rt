@@ -180,7 +180,7 @@ fn node<'t>(
         Node::Body { construct, body } => note_body(finder, judge, construct, body, typed.of),
         Node::Enumerators { construct, list } => enumerators(finder, scope, construct, list),
         Node::Labels { construct, body } => {
-            labels(alloc, finder, scope, nodes, types, construct, body, typed)?
+            labels(alloc, finder, scope, types, construct, body, typed)?
         }
         Node::EmptyArm { construct } => note_empty_arm(finder, construct),
         Node::Declarator { list, index, it } => {

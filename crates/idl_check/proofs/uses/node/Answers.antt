@@ -50,7 +50,7 @@ pub returns-in_ok-labels-in-Labels-clause-first : goal.returns-in_ok-labels-in-L
 returns-in_ok-labels-in-Labels-clause-first c w s names files known are types typed =
     let h = subst (λ n. IsTyped s names c.args.types.now.kinds c.args.nodes.now.lists.items n c.args.typed.now) c.in-Labels.is typed in
     subst (λ n. option_map seen_breach c.labels.new.finder.first ≡ noted w (option_map seen_breach c.args.finder.now.first) (program_breaches s names c.args.nodes.now.lists.items n))
-    (sym c.in-Labels.is) (c.in_ok-labels-in-Labels.ensures.first w s names files known types h)
+    (sym c.in-Labels.is) (c.in_ok-labels-in-Labels.ensures.first w s c.args.nodes.now names files known types h)
 
 pub returns-in-EmptyArm-clause-first : goal.returns-in-EmptyArm-clause-first
 returns-in-EmptyArm-clause-first c w s names files known are types typed =

@@ -2,7 +2,7 @@ use Rattle.std.proofs.Common.{map, take}
 use Rattle.idl_names.specs.Seen.{known_in}
 use Rattle.idl_check.specs.World.{number_of}
 use Rattle.idl_check.specs.LabelValues.{Holds}
-use Rattle.idl_check.proofs.label_rule.values_of.Given as goal
+use Rattle.idl_check.proofs.enum_values.listed_values.Given as goal
 
 -- those before are there
 abbrev pub invariant-loop-one : goal.invariant-loop-one

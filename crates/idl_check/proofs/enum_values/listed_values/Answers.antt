@@ -6,7 +6,7 @@ use Rattle.idl_names.specs.Seen.{known_in}
 use Rattle.idl_check.specs.World.{number_of}
 use Rattle.idl_check.specs.LabelValues.{is_among}
 use Rattle.idl_check.proofs.LabelTags.{holds_next, holds_all}
-use Rattle.idl_check.proofs.label_rule.values_of.Goals as goal
+use Rattle.idl_check.proofs.enum_values.listed_values.Goals as goal
 
 seen : (known : Known) (es : List Enumerator) → map (λ e. number_of known e.name.octets) es ≡ map (λ e. number_of known e.name.octets) (map seen_enumerator es)
 seen known [] = refl
