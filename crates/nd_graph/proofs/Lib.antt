@@ -8,6 +8,7 @@ pub mod Misfits
 pub mod NodeFacts
 pub mod Orderly
 pub mod PlainFit
+pub mod SimpleCells
 pub mod Told
 pub mod Waiting
 pub mod WorkedFit

@@ -5,12 +5,15 @@ use Rattle.std.specs.List.{slice_get}
 use Rattle.nd_types.specs.declared.interface.Interface.{Interface}
 use Rattle.nd_types.specs.declared.types.Param.{Param}
 use Rattle.nd_types.specs.declared.types.Operation.{Operation}
+use Rattle.nd_types.specs.declared.types.Side.{Side}
 use Rattle.nd_types.specs.declared.types.Side.TheVariants as side
 use Rattle.nd_types.specs.Kinds.{basic_types}
 use Rattle.nd_types.specs.Legal.{IsLegal}
 use Rattle.nd_types.specs.Plain.{IsPlainParam, IsPlainOperation, IsPlainInterface}
+use Rattle.nd_types.specs.Numbers.{IsNumberSide}
 use Rattle.nd_types.specs.Roots.{roots_of}
 use Rattle.nd_types.specs.Table.{Table}
+use Rattle.nd_types.proofs.NumberSides.{plain_numbers}
 use Rattle.nd_types.proofs.PlainLaws.{plain_is_legal}
 use Rattle.nd_graph.specs.declared.value.Graph.{Graph}
 use Rattle.nd_graph.specs.Tree as tree
@@ -45,6 +48,9 @@ add_is_plain = record { params = are_plain; no_result = refl; few = lit≤ tt; d
 
 pub plain : IsPlainInterface basic_types (add ∷ [])
 plain = record { basic = refl; plain = only IsPlainOperation add add_is_plain; few = lit≤ tt; distinct = λ i j d low high e. absurd (omega (arith, low, high)) }
+
+pub numbers : (s : Side) → IsNumberSide basic_types (add ∷ []) 0 s
+numbers s = plain_numbers basic_types (add ∷ []) plain 0 s
 
 pub legal : IsLegal basic_types (add ∷ [])
 legal = plain_is_legal basic_types (add ∷ []) plain

@@ -16,11 +16,12 @@ use std::alloc::Global;
 
 /// Takes over a graph that conforms to a side of an operation, or hands it back unchanged with its first misfit.
 ///
-/// `op` must be the number of an operation, each root of the side a primitive, of a type from 0 to 10, and each cell of the graph of a type from 0
-/// to 11 or of none of the table. There must be fewer than 2^32 cells, and in each home fewer than 2^32 nodes. Four passes go over the graph in this order, each over the roots and then the cells, and in
-/// each home over its nodes in order: nodes that have a misfit by themselves, cells that are shared, cells that are not reached,
-/// attributes that disagree (C706, 4.2.18 to 4.2.20). The first failing place of the first failing pass is answered. A wrong number
-/// of roots is a Shape at the first that is missing or too many, behind the misfits of the roots that are there. It takes no memory.
+/// `op` must be the number of an operation, each root of the side a primitive, of a type from 0 to 10, and each cell of the graph of
+/// a type from 0 to 11 or of none of the table. There must be fewer than 2^32 cells, and in each home fewer than 2^32 nodes. Four
+/// passes go over the graph in this order, each over the roots and then the cells, and in each home over its nodes in order: nodes
+/// that have a misfit by themselves, cells that are shared, cells that are not reached, attributes that disagree (C706, 4.2.18 to
+/// 4.2.20). The first failing place of the first failing pass is answered. A wrong number of roots is a Shape at the first that is
+/// missing or too many, behind the misfits of the roots that are there. It takes no memory.
 pub fn fit(
     alloc: Global,
     interface: &Interface,

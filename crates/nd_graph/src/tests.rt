@@ -1,7 +1,8 @@
 // Each call once with ample memory.
 ghost use Rattle.std.specs.Prelude.{◌≡◌, ◌≤◌, ◌<◌, ◌^◌, ◌++◌, [], ◌∷◌, length, map, codes, IfOk};
 ghost use Rattle.nd_types.specs.Kinds.{basic_types};
-ghost use Rattle.nd_types.specs.Plain.{IsPlainInterface, plain_param};
+ghost use Rattle.nd_types.specs.Numbers.{IsNumberSide};
+ghost use Rattle.nd_types.specs.Plain.{plain_param};
 ghost use Rattle.nd_graph.specs.Seen.{tree_of};
 ghost use Rattle.nd_graph.specs.Tree.{node_count, more, none};
 ghost use Rattle.nd_graph.specs.Conforms.{HasFewNodes, FewNodes};
@@ -59,9 +60,9 @@ fn operations(alloc: Global) -> Result<Operations, Memory>
 }
 
 // interface t { void add([in] long a, [in] short b, [in] hyper c); }
-#[tactic(auto, using(crate::proofs::WorkedFit::legal, crate::proofs::WorkedFit::plain))]
+#[tactic(auto, using(crate::proofs::WorkedFit::legal, crate::proofs::WorkedFit::numbers))]
 fn interface(alloc: Global) -> Result<Interface, Memory>
-    ensures plain { IfOk result (λ i. IsPlainInterface i.types i.operations) }
+    ensures numbers { IfOk result (λ i. (s : Side) → IsNumberSide i.types i.operations 0 s) }
     ensures types { IfOk result (λ i. i.types ≡ basic_types) }
     ensures operations { IfOk result (λ i. i.operations ≡ add ∷ []) }
 {
@@ -199,6 +200,7 @@ fn cells(alloc: Global, numbers: &[(u32, Option<i128>)]) -> Result<Cells, Memory
 }
 
 // What `fit` answers of these roots and cells of the operation: None where it is Ok.
+#[tactic(auto, using(crate::proofs::SimpleCells::basic_cells))]
 fn misfit(
     alloc: Global,
     side: Side,
@@ -228,6 +230,7 @@ fn at(home: Home, reason: MisfitReason) -> Option<Misfit> {
 
 // The least and the greatest numbers of a long, a short and a hyper; the response has no values.
 #[test]
+#[tactic(auto, using(crate::proofs::SimpleCells::basic_cells))]
 fn conforming_graphs_fit(rt: HostRuntime) -> Result<(), Fail> {
     let alloc = rt.alloc();
     let least = [
@@ -311,6 +314,7 @@ fn has_number(cell: Option<&Cell>, of: u32, number: i128) -> bool {
 
 // A graph that is no fit comes back as it was.
 #[test]
+#[tactic(auto, using(crate::proofs::SimpleCells::basic_cells))]
 fn graphs_come_back(rt: HostRuntime) -> Result<(), Fail> {
     let alloc = rt.alloc();
     let interface = interface(alloc)?;

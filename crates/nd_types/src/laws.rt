@@ -10,7 +10,7 @@ ghost use Rattle.nd_types.specs.Roots.{roots_of};
 ghost use Rattle.std.specs.Prelude.{slice_get, true};
 ghost use Rattle.std.specs.List.{AllByRecursion};
 ghost use Rattle.nd_types.specs.declared.types.Side.{Side};
-ghost use Rattle.nd_types.specs.Numbers.{has_number_roots, IsPrimitiveRoot};
+ghost use Rattle.nd_types.specs.Numbers.{has_number_roots, IsNumberSide, IsPrimitiveRoot};
 ghost use Rattle.nd_types.specs.Plain.{IsPlainOperation, IsPlainInterface, plain_roots};
 ghost use Rattle.nd_types.specs.declared.types.Operation.{Operation};
 ghost use Rattle.nd_types.specs.declared.types.Primitive.{Primitive};
@@ -31,6 +31,11 @@ pub fn plain_roots_in()
 pub fn number_roots_are_primitives()
     ensures { (types : Table) (operations : List Operation) (n : ℕ) (o : Operation) → IsLegal types operations → slice_get operations n ≡ Some o
         → (s : Side) → has_number_roots types s o ≡ true → AllByRecursion (IsPrimitiveRoot types) (roots_of types s o) }
+{}
+
+/// Each side of each operation of a plain interface has roots of types from 0 to 10 alone.
+pub fn plain_sides_are_numbers()
+    ensures { (types : Table) (operations : List Operation) → IsPlainInterface types operations → (n : ℕ) (s : Side) → IsNumberSide types operations n s }
 {}
 
 /// The alignment of a type of a legal interface is that of its parts.

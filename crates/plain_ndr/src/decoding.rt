@@ -40,9 +40,9 @@ pub enum DecodeFault {
 /// Decodes the values of a side of an operation from the front of octets, which begin at the beginning of its stream (C706, 14.2 and
 /// 14.4): one number for each root, each at the next multiple of its width.
 ///
-/// `op` must be the number of an operation, each root of the side a primitive, of a type from 0 to 10, and the octets fewer than 2^32. Octets behind the
-/// values are let stand. Each octet is looked at once. It takes memory for the values that were read, 32 octets each, and for
-/// a list of the roots' types.
+/// `op` must be the number of an operation, each root of the side a primitive, of a type from 0 to 10, and the octets fewer than
+/// 2^32. Octets behind the values are let stand. Each octet is looked at once. It takes memory for the values that were read, 32
+/// octets each, and for a list of the roots' types.
 pub fn decode(
     alloc: Global,
     interface: &Interface,

@@ -1,7 +1,8 @@
 // Each call with ample memory, in both orders, and the refusal of octets.
 ghost use Rattle.std.specs.Prelude.{◌≡◌, ◌≤◌, ◌<◌, ◌^◌, [], ◌∷◌, length, codes, IfOk};
 ghost use Rattle.nd_types.specs.Kinds.{basic_types};
-ghost use Rattle.nd_types.specs.Plain.{IsPlainInterface, plain_param};
+ghost use Rattle.nd_types.specs.Numbers.{IsNumberSide};
+ghost use Rattle.nd_types.specs.Plain.{plain_param};
 ghost use Rattle.nd_graph.specs.WorkedFit.{add_params, add};
 
 use crate::{DecodeFault, decode, encode};
@@ -59,9 +60,9 @@ fn operations(alloc: Global) -> Result<Operations, Memory>
 }
 
 // interface t { void add([in] long a, [in] short b, [in] hyper c); }
-#[tactic(auto, using(nd_graph::proofs::WorkedFit::legal, nd_graph::proofs::WorkedFit::plain))]
+#[tactic(auto, using(nd_graph::proofs::WorkedFit::legal, nd_graph::proofs::WorkedFit::numbers))]
 fn interface(alloc: Global) -> Result<Interface, Memory>
-    ensures plain { IfOk result (λ i. IsPlainInterface i.types i.operations) }
+    ensures numbers { IfOk result (λ i. (s : Side) → IsNumberSide i.types i.operations 0 s) }
     ensures types { IfOk result (λ i. i.types ≡ basic_types) }
     ensures operations { IfOk result (λ i. i.operations ≡ add ∷ []) }
 {
@@ -104,6 +105,19 @@ fn numbers_are_decoded(rt: HostRuntime) -> Result<(), Fail> {
     expect_numbers(&rt, rt.alloc(), Order::Little, little)?;
     let big = b"\0\0\0\x01\0\x02\xaa\xaa\0\0\0\0\0\0\0\x03\x04";
     expect_numbers(&rt, rt.alloc(), Order::Big, big)
+}
+
+// The response has no values.
+#[test]
+fn other_side_is_decoded(rt: HostRuntime) -> Result<(), Fail> {
+    let interface = interface(rt.alloc())?;
+    let decoded = decode(rt.alloc(), &interface, 0, Side::Out, Order::Little, b"\x01")?;
+    assert_eq!(rt; decoded.taken, 0);
+    assert_eq!(rt; decoded.fit.side(), Side::Out);
+    assert_eq!(rt; decoded.fit.graph().roots.len(), 0);
+    let written = encode(rt.alloc(), &interface, &decoded.fit, Order::Big, 1)?;
+    assert_eq!(rt; written.as_slice().len(), 0);
+    Ok(())
 }
 
 // The octets end in the hyper, and in the gap before it.

@@ -1,7 +1,7 @@
 // Reading with ample memory: what is read, and each reason with its line and column.
 ghost use Rattle.std.specs.Prelude.{◌≡◌, ◌<◌, [], ◌∷◌, length, IfOk};
 ghost use Rattle.nd_types.specs.Kinds.{basic_types};
-ghost use Rattle.nd_types.specs.Plain.{IsPlainInterface};
+ghost use Rattle.nd_types.specs.Numbers.{IsNumberSide};
 ghost use Rattle.value_text.specs.WorkedPing.{ping};
 
 use crate::tests::interface;
@@ -110,12 +110,17 @@ const FAULTS: [Case; 36] = [
     ),
 ];
 
-/// The fault of a text of the [in] side of an interface's first operation.
-fn fault_of(alloc: Global, interface: &Interface, text: &[u8]) -> Option<(u32, u32, TextReason)>
-    requires plain { IsPlainInterface interface.now.types interface.now.operations }
+/// The fault of a text of a side of an interface's first operation.
+fn fault_of(
+    alloc: Global,
+    interface: &Interface,
+    side: Side,
+    text: &[u8],
+) -> Option<(u32, u32, TextReason)>
+    requires numbers { IsNumberSide interface.now.types interface.now.operations 0 side }
     requires some { 0 < length interface.now.operations }
 {
-    match read_text(alloc, interface, 0, Side::In, text) {
+    match read_text(alloc, interface, 0, side, text) {
         Err(
             TextFault::At {
                 line,
@@ -154,9 +159,9 @@ fn ping_operations(alloc: Global) -> Result<Operations, Memory>
 }
 
 /// interface t { void ping(); }
-#[tactic(auto, using(crate::proofs::WorkedPing::legal, crate::proofs::WorkedPing::plain))]
+#[tactic(auto, using(crate::proofs::WorkedPing::legal, crate::proofs::WorkedPing::numbers))]
 fn ping_interface(alloc: Global) -> Result<Interface, Memory>
-    ensures plain { IfOk result (λ i. IsPlainInterface i.types i.operations) }
+    ensures numbers { IfOk result (λ i. (s : Side) → IsNumberSide i.types i.operations 0 s) }
     ensures types { IfOk result (λ i. i.types ≡ basic_types) }
     ensures operations { IfOk result (λ i. i.operations ≡ ping ∷ []) }
 {
@@ -209,10 +214,22 @@ fn faults_are_told(rt: HostRuntime) -> Result<(), Fail> {
     let interface = interface(rt.alloc())?;
     for (text, line, column, reason) in FAULTS {
         assert_eq!(rt;
-            fault_of(rt.alloc(), &interface, text),
+            fault_of(rt.alloc(), &interface, Side::In, text),
             Some((line, column, reason))
         );
     }
+    Ok(())
+}
+
+// The response has no values.
+#[test]
+fn other_side_is_read(rt: HostRuntime) -> Result<(), Fail> {
+    let interface = interface(rt.alloc())?;
+    let text = b"values 1\nop add out\n";
+    let graph = read_text(rt.alloc(), &interface, 0, Side::Out, text)?;
+    assert_eq!(rt; graph.roots.len(), 0);
+    let fault = fault_of(rt.alloc(), &interface, Side::Out, b"values 1\nop add in\n");
+    assert_eq!(rt; fault, Some((2, 8, TextReason::OtherName)));
     Ok(())
 }
 
@@ -228,7 +245,7 @@ fn cell_that_nothing_names(rt: HostRuntime) -> Result<(), Fail> {
     )?;
     assert_eq!(rt; graph.roots.len(), 0);
     assert_eq!(rt;
-        fault_of(rt.alloc(), &interface, b"values 1\nop ping in\n@1 = 5\n"),
+        fault_of(rt.alloc(), &interface, Side::In, b"values 1\nop ping in\n@1 = 5\n"),
         Some((3, 1, TextReason::Unnamed))
     );
     Ok(())

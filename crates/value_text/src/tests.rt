@@ -2,7 +2,8 @@
 ghost use Rattle.std.specs.Prelude.{◌≡◌, ◌≤◌, [], ◌∷◌, length, codes, IfOk};
 ghost use Rattle.nd_types.specs.declared.types.Side.TheVariants as side;
 ghost use Rattle.nd_types.specs.Kinds.{basic_types};
-ghost use Rattle.nd_types.specs.Plain.{IsPlainInterface, plain_param};
+ghost use Rattle.nd_types.specs.Numbers.{IsNumberSide};
+ghost use Rattle.nd_types.specs.Plain.{plain_param};
 ghost use Rattle.nd_graph.specs.WorkedFit.{add_params, add, one_two_three};
 
 use crate::print;
@@ -58,9 +59,9 @@ fn operations(alloc: Global) -> Result<Operations, Memory>
 }
 
 // interface t { void add([in] long a, [in] short b, [in] hyper c); }
-#[tactic(auto, using(nd_graph::proofs::WorkedFit::legal, nd_graph::proofs::WorkedFit::plain))]
+#[tactic(auto, using(nd_graph::proofs::WorkedFit::legal, nd_graph::proofs::WorkedFit::numbers))]
 pub(crate) fn interface(alloc: Global) -> Result<Interface, Memory>
-    ensures plain { IfOk result (λ i. IsPlainInterface i.types i.operations) }
+    ensures numbers { IfOk result (λ i. (s : Side) → IsNumberSide i.types i.operations 0 s) }
     ensures types { IfOk result (λ i. i.types ≡ basic_types) }
     ensures operations { IfOk result (λ i. i.operations ≡ add ∷ []) }
 {
