@@ -1,5 +1,5 @@
 //! Laws of what commands answer, each the contract of a function that does nothing.
-ghost use Rattle.std.specs.Prelude.{◌≡◌, ◌≤◌, ℕ, true, List, length, Some};
+ghost use Rattle.std.specs.Prelude.{◌≡◌, ◌≤◌, ℕ, true, List, length, Option, Some};
 ghost use Rattle.std.specs.List.{slice_get};
 ghost use Rattle.nd_base.specs.declared.octets.Order.{Order};
 ghost use Rattle.nd_types.specs.declared.interface.Interface.{Interface};
@@ -14,6 +14,7 @@ ghost use Rattle.value_text.specs.Reads.{ReadsAs};
 ghost use Rattle.value_text.specs.Printed.{IsText};
 ghost use Rattle.dceidl.specs.Decode.{IsDecoding};
 ghost use Rattle.dceidl.specs.Encode.{IsEncoding};
+ghost use Rattle.dceidl.specs.Idl.{Means};
 
 /// `decode` undoes `encode` on sides whose roots are primitives: the octets that `encode` writes of a text represent the graph that the text reads
 /// as, and what `decode` of the same order writes of them is the text of that graph. A text that was printed comes back.
@@ -32,9 +33,20 @@ pub fn decode_undoes_encode()
         → IsText (setting_of i o s) e.graph text → made ≡ text }
 {}
 
-/// `encode` undoes `decode` on sides whose roots are primitives and whose names are words: a text that `decode` writes, where it is within its
-/// limit, reads as the graph that the octets represent, and what `encode` writes of it in any order represents that graph.
+/// `encode` undoes `decode` on the operations of files that mean an interface, on sides whose roots are primitives: a text that `decode` writes,
+/// where it is within its limit, reads as the graph that the octets represent, and what `encode` writes of it in any order represents that
+/// graph. The same holds of any such side whose names are words, where no file declares it.
 pub fn encode_undoes_decode()
+    ensures reads { (held : Option (List ℕ → Option (List ℕ))) (idl file : List ℕ) (i : Interface) (n : ℕ) (o : Operation) (s : Side)
+        → (order : Order) (octets text : List ℕ)
+        → Means held idl file i → has_number_roots i.types s o ≡ true → slice_get i.operations n ≡ Some o
+        → (d : IsDecoding (setting_of i o s) order octets text) → length text ≤ TEXT_LIMIT
+        → ReadsAs (setting_of i o s) text d.graph }
+    ensures represents { (held : Option (List ℕ → Option (List ℕ))) (idl file : List ℕ) (i : Interface) (n : ℕ) (o : Operation) (s : Side)
+        → (order other : Order) (chunk : ℕ) (octets text made : List ℕ)
+        → Means held idl file i → has_number_roots i.types s o ≡ true → slice_get i.operations n ≡ Some o
+        → (d : IsDecoding (setting_of i o s) order octets text) → IsEncoding (setting_of i o s) other chunk text made
+        → Represents (setting_of i o s) other made d.graph }
     ensures words_read { (i : Interface) (n : ℕ) (o : Operation) (s : Side) (order : Order) (octets text : List ℕ)
         → has_number_roots i.types s o ≡ true → slice_get i.operations n ≡ Some o → HasWordNames (setting_of i o s)
         → (d : IsDecoding (setting_of i o s) order octets text) → length text ≤ TEXT_LIMIT
