@@ -1,7 +1,6 @@
 -- The names of the operations that files declare, and of their parameters, are words.
-use Rattle.std.proofs.Common.{◌≡◌, ℕ, zero, suc, ◌+◌, ◌<◌, Bool, true, false, not, ◌&&◌, cond, List, [], ◌∷◌, ◌++◌, length, map, slice_range, slice_index, slice_get, Option, Some, None, refl, sym, ap, subst, arith, ◌∙◌}
-use Rattle.std.specs.Prelude.{eqb}
-use Rattle.std.specs.List.{list_all, flat_map, AllByRecursion}
+use Rattle.std.proofs.Common.{◌≡◌, ℕ, zero, suc, ◌+◌, ◌<◌, Bool, true, false, not, ◌&&◌, cond, List, [], ◌∷◌, length, map, slice_range, slice_index, refl, sym, ap, subst, arith, ◌∙◌}
+use Rattle.std.specs.List.{list_all, AllByRecursion}
 use Rattle.std.specs.Str.{bytes_eq}
 use Rattle.phrases.specs.Text.{Text, Lifted, lexeme_at, symbol_at, is_in, many, ◌⊳◌}
 use Rattle.phrases.specs.Verdict.{strict}

@@ -1,5 +1,5 @@
 -- The names of a side of the interface that files mean are words.
-use Rattle.std.proofs.Common.{◌≡◌, ℕ, List, [], ◌∷◌, ◌++◌, map, length, Option, Some, refl}
+use Rattle.std.proofs.Common.{◌≡◌, ℕ, List, [], ◌∷◌, ◌++◌, map, length, Option, Some}
 use Rattle.std.specs.Prelude.{eqb}
 use Rattle.std.specs.List.{slice_get, AllByRecursion}
 use Rattle.nd_types.specs.declared.interface.Interface.{Interface}
@@ -8,7 +8,7 @@ use Rattle.nd_types.specs.declared.types.Side.{Side}
 use Rattle.nd_graph.specs.Fitting.{setting_of}
 use Rattle.idl_grammar.specs.declared.words.Spelling.{Spelling}
 use Rattle.idl_grammar.specs.Tree.{Tree}
-use Rattle.idl_names.specs.Ended.{Ended, ended}
+use Rattle.idl_names.specs.Ended.{ended}
 use Rattle.idl_names.specs.Steps.{Step, attribute_steps, imports_of, declaration_steps}
 use Rattle.idl_names.specs.Walk.{State, Due, Pass, Load, End, load_of, all_of, Done, Walk, all_done, goes_on, ends, again, enters}
 use Rattle.value_text.specs.PlainSide.{HasWordNames}

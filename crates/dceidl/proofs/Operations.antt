@@ -1,16 +1,15 @@
 -- The operations of the interface that files mean have words for names.
 use Rattle.std.proofs.Common.{◌≡◌, ℕ, zero, suc, ◌+◌, Bool, true, false, ◌&&◌, List, [], ◌∷◌, ◌++◌, length, map, slice_get, Option, Some, None, refl, sym, ap, subst, ◌∙◌}
+use Rattle.std.proofs.lemmas.Option.{same_Some}
 use Rattle.std.specs.Prelude.{eqb}
 use Rattle.std.specs.List.{list_all, flat_map, AllByRecursion}
 use Rattle.nd_types.specs.declared.interface.Interface.{Interface}
 use Rattle.nd_types.specs.declared.types.Operation.{Operation}
-use Rattle.nd_types.specs.declared.types.Side.{Side}
-use Rattle.nd_graph.specs.Fitting.{setting_of}
 use Rattle.idl_grammar.specs.declared.words.Spelling.{Spelling}
 use Rattle.idl_grammar.specs.declared.types.SwitchType.{SwitchType}
-use Rattle.idl_grammar.specs.Tree.{Attribute, Attributes, Declarator, Enumerator, TypeSpec, Members, Cases, Arms, Arm, Parameter, Export, Tree}
+use Rattle.idl_grammar.specs.Tree.{Attribute, Declarator, Enumerator, TypeSpec, Members, Cases, Arms, Arm, Parameter, Export, Tree}
 use Rattle.idl_grammar.specs.Tree as tree
-use Rattle.idl_names.specs.Ended.{Ended, ended}
+use Rattle.idl_names.specs.Ended.{Ended}
 use Rattle.idl_names.specs.Known.{Known}
 use Rattle.idl_names.specs.Steps.{parameters_of}
 use Rattle.idl_check.specs.Attributes.{switch_type_in}
@@ -18,10 +17,9 @@ use Rattle.idl_check.specs.Nodes.{Construct, Position, InTypedef, InTaggedType, 
 use Rattle.idl_check.specs.Scene.{Scene, Scoped, scoped_from, names_behind, scene_of}
 use Rattle.idl_check.specs.Types.{Names}
 use Rattle.idl_check.specs.World.{World}
-use Rattle.idl_check.specs.Meaning.{Meant, field, parameter, operation_in, operations_of, header_meant, main_among, meaning}
+use Rattle.idl_check.specs.Meaning.{Meant, parameter, operation_in, operations_of, header_meant, main_among, meaning}
 use Rattle.idl_check.specs.Answers.{IsMeaning, meant_by}
 use Rattle.value_text.specs.Tokens.{is_word}
-use Rattle.value_text.specs.PlainSide.{HasWordNames}
 use Rattle.dceidl.proofs.FileWords.{have_words, HasExportWords, HasTreeWords}
 
 -- ## Nodes
@@ -231,10 +229,7 @@ told_operations w i m = by (main_among w.files) m.means
 
 each_at : {X : Type 0} (P : X → Type 0) (xs : List X) → AllByRecursion P xs → (n : ℕ) (x : X) → slice_get xs n ≡ Some x → P x
 each_at P [] h n x e = absurd (cc)
-each_at P (y ∷ ys) h zero x e = subst P (same y x e) h.0
-  where
-    same : (a b : _) → Some a ≡ Some b → a ≡ b
-    same a b d = cc
+each_at P (y ∷ ys) h zero x e = subst P (same_Some y x e) h.0
 each_at P (y ∷ ys) h (suc n) x e = each_at P ys h.1 n x e
 
 -- of files whose names are words, the operations of their interface have words for names
