@@ -19,3 +19,4 @@ pub mod OneMeaning
 pub mod FileWords
 pub mod Operations
 pub mod MeantWords
+pub mod OneInterface

@@ -14,7 +14,27 @@ ghost use Rattle.value_text.specs.Reads.{ReadsAs};
 ghost use Rattle.value_text.specs.Printed.{IsText};
 ghost use Rattle.dceidl.specs.Decode.{IsDecoding};
 ghost use Rattle.dceidl.specs.Encode.{IsEncoding};
-ghost use Rattle.dceidl.specs.Idl.{Means};
+ghost use Rattle.dceidl.specs.Idl.{Means, IsIdlFault};
+ghost use Rattle.dceidl.specs.declared.refusal.IdlReason.{IdlReason};
+ghost use Rattle.dceidl.specs.declared.refusal.Refusal.TheVariants as refusal;
+
+/// Where the contents of files are told, a main file means one interface at most with those that it imports, or is refused at one line and column
+/// of one file for one reason at most, and never both.
+pub fn one_idl_verdict()
+    ensures one_interface { (held : List ℕ → Option (List ℕ)) (idl text : List ℕ) (i j : Interface)
+        → Means (Some held) idl text i → Means (Some held) idl text j → i ≡ j }
+    ensures one_fault { (held : List ℕ → Option (List ℕ)) (idl text file other : List ℕ) (line column row place : ℕ) (why because : IdlReason)
+        → IsIdlFault (Some held) idl text (refusal.BadIdl file line column why) → IsIdlFault (Some held) idl text (refusal.BadIdl other row place because)
+        → refusal.BadIdl file line column why ≡ refusal.BadIdl other row place because }
+    ensures never_both { (held : List ℕ → Option (List ℕ)) (idl text : List ℕ) (i : Interface) (file : List ℕ) (line column : ℕ) (why : IdlReason)
+        → Means (Some held) idl text i → IsIdlFault (Some held) idl text (refusal.BadIdl file line column why) → ⊥ }
+{}
+
+/// The names of operations that files mean, and of their parameters, are words: a letter or `_`, then letters, digits and `_`.
+pub fn meant_names_are_words()
+    ensures { (held : Option (List ℕ → Option (List ℕ))) (idl text : List ℕ) (i : Interface) (n : ℕ) (o : Operation) (s : Side)
+        → Means held idl text i → slice_get i.operations n ≡ Some o → HasWordNames (setting_of i o s) }
+{}
 
 /// `decode` undoes `encode` on sides whose roots are primitives: the octets that `encode` writes of a text represent the graph that the text reads
 /// as, and what `decode` of the same order writes of them is the text of that graph. A text that was printed comes back.
