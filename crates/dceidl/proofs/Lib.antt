@@ -16,3 +16,7 @@ pub mod Walks
 pub mod OneFile
 pub mod OneWalk
 pub mod OneMeaning
+pub mod FileWords
+pub mod Operations
+pub mod MeantWords
+pub mod OneInterface

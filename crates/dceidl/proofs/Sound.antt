@@ -133,7 +133,7 @@ built_or_not : {B : Type 0} (i j : Interface) (op : List ℕ) (side : Side) (n m
     → has_number_roots i.types side o ≡ false → has_number_roots j.types side q ≡ true → B
 built_or_not i j op side n m o q e x y unbuilt built =
     let both : false ≡ true =
-        sym unbuilt ∙ ap (λ (z : Meant). has_number_roots z.types side o) e ∙ ap (has_number_roots j.types side) (same_operation i j op n m o q e x y) ∙ built in
+    sym unbuilt ∙ ap (λ (z : Meant). has_number_roots z.types side o) e ∙ ap (has_number_roots j.types side) (same_operation i j op n m o q e x y) ∙ built in
     absurd (cc)
 
 -- a file that is accepted is ready in one way

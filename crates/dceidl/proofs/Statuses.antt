@@ -1,5 +1,5 @@
 -- What the statuses of faults say, from the whole of a run.
-use Rattle.std.proofs.Common.{◌≡◌, ℕ, List, Option, Some, None, refl, sym, ◌∙◌, ap, subst, inl, inr, ◌⊎◌}
+use Rattle.std.proofs.Common.{◌≡◌, ℕ, ◌≤◌, List, Option, Some, None, refl, sym, ◌∙◌, ap, subst, inl, inr, ◌⊎◌, lit≤}
 use Rattle.nd_base.specs.Outside.{IsMissing}
 use Rattle.nd_graph.specs.Setting.{Setting}
 use Rattle.nd_types.specs.declared.types.Side.{Side}
@@ -33,6 +33,22 @@ abbrev own : Outcome → ℕ
 own (Done made) = 0
 own (Refused status line) = status
 own Wanting = 5
+
+-- the statuses that there are
+abbrev IsStatus : ℕ → Type 0
+IsStatus status = (status ≤ 7) ⊎ (status ≡ 9)
+
+refusal_status : (r : Refusal) → IsStatus (status_of r)
+refusal_status Memory = inl (lit≤ tt)
+refusal_status (Absent file) = inl (lit≤ tt)
+refusal_status (FileFailed file) = inr refl
+refusal_status (BadIdl file line column reason) = inl (lit≤ tt)
+refusal_status NoOperation = inl (lit≤ tt)
+refusal_status NotBuilt = inl (lit≤ tt)
+refusal_status ReadFault = inl (lit≤ tt)
+refusal_status (BadOctets place why) = inl (lit≤ tt)
+refusal_status (BadText line column reason) = inl (lit≤ tt)
+refusal_status (BadValue path reason) = inl (lit≤ tt)
 
 module _ (f : FilesSeen) (s : SourceSeen) (out notes : SinkSeen) (status : ℕ) where
   module _ (task : Task) (idl op : List ℕ) (side : Side) where
@@ -166,3 +182,23 @@ module _ (f : FilesSeen) (s : SourceSeen) (out notes : SinkSeen) (status : ℕ) 
           let (r, cause, nine, line) = refusal_of task idl op side end 9 e (λ x. cc) (λ x. cc) (λ x. cc) in
           let (rose, (name, same, due)) = rose_9 task idl op side r cause nine in
           (rose, subst (λ c. IsDueAndTold c f.held notes) (sym is) (name, due, told idl op r (FileFailed name) same line))
+
+  -- ## The status of any run
+
+  own_status : (words : Option Command) (outcome : Outcome) → IsOutcome f s words outcome → IsStatus (own outcome)
+  own_status None outcome (inl is, asks) = subst IsStatus (sym (ap own is)) (inl (lit≤ tt))
+  own_status None outcome (inr is, asks) = subst IsStatus (sym (ap own is)) (inl (lit≤ tt))
+  own_status (Some Help) outcome (inl is, asks) = subst IsStatus (sym (ap own is)) (inl (lit≤ tt))
+  own_status (Some Help) outcome (inr is, asks) = subst IsStatus (sym (ap own is)) (inl (lit≤ tt))
+  own_status (Some Version) outcome (inl is, asks) = subst IsStatus (sym (ap own is)) (inl (lit≤ tt))
+  own_status (Some Version) outcome (inr is, asks) = subst IsStatus (sym (ap own is)) (inl (lit≤ tt))
+  own_status (Some (Work task idl op side)) (Done made) is = inl (lit≤ tt)
+  own_status (Some (Work task idl op side)) (Refused status line) (r, cause, is, line_is) = subst IsStatus (sym is) (refusal_status r)
+  own_status (Some (Work task idl op side)) Wanting is = inl (lit≤ tt)
+
+  pub statuses : (words : List (List ℕ)) → HasRun words f s out notes status → IsStatus status
+  statuses words run = by (own_or_four run.outcome run.delivered)
+    where
+      by : (status ≡ own run.outcome) ⊎ (status ≡ 4) → IsStatus status
+      by (inl is) = subst IsStatus (sym is) (own_status (command words) run.outcome run.caused)
+      by (inr is) = subst IsStatus (sym is) (inl (lit≤ tt))

@@ -144,7 +144,9 @@ fn no_file(tokens: &Tokens, fault: SyntaxFault) -> NameFault
 {
     match fault {
         SyntaxFault::Memory => NameFault::Memory,
-        SyntaxFault::Syntax { token } | SyntaxFault::Deep { token } | SyntaxFault::Banned { token } => NameFault::Syntax {
+        SyntaxFault::Syntax { token }
+        | SyntaxFault::Deep { token }
+        | SyntaxFault::Banned { token } => NameFault::Syntax {
             file: 0,
             at: tokens.at(token),
             fault,

@@ -8,6 +8,10 @@ use Rattle.dceidl.proofs.SoundDecode as decoding
 use Rattle.dceidl.proofs.SoundEncode as encoding
 use Rattle.dceidl.proofs.top.run.Goals as goal
 
+pub returns-clause-statuses : goal.returns-clause-statuses
+returns-clause-statuses g c =
+    statuses.statuses _ _ _ _ _ c.args.words.now (record { outcome = c.answer-outcome.result; caused = c.answer-outcome.ensures; delivered = c.deliver.ensures })
+
 pub returns-clause-read : goal.returns-clause-read
 returns-clause-read g c =
     statuses.read _ _ _ _ _ c.args.words.now (record { outcome = c.answer-outcome.result; caused = c.answer-outcome.ensures; delivered = c.deliver.ensures })
