@@ -38,6 +38,16 @@ def file(*exports: str) -> str:
     return f"{HEADER} interface u {{ {' '.join(exports)} }}"
 
 
+def held(condition: str) -> Case:
+    """A condition that holds. Where it did not, the array would have no elements, which breaks a rule."""
+    return accepted(f"a condition that holds: {condition}", f"{HEADER} interface t {{ typedef long a[{condition}]; void f([in] small x); }}")
+
+
+def false(condition: str) -> Case:
+    """A condition that does not hold, so that the array has no elements."""
+    return fault("Rule 14", f"{HEADER} interface t {{ §typedef long a[{condition}]; void f([in] small x); }}", condition)
+
+
 UNKNOWN = [
     *parameters("Unknown no_t", "[in] §no_t y", "[in] long y[§no_t]", "[in, switch_type(§no_t)] long y"),
     *export("Unknown A", "const long A = §A;", "const long B = 0 && §A;", "typedef long x[§A];", "enum e { A = §A };"),
@@ -65,6 +75,13 @@ CONSTANTS = [
     *export("ZeroDivisor", "const long A = 5 §% 0 + B;"),
 ]
 
+# Division rounds toward zero, a remainder has the sign of what is divided, and operators on bits are those of two's complement.
+VALUES = [held(condition) for condition in [
+    "7 / 2 * 2 == 6", "-7 / 2 == -3", "-7 % 2 == -1", "7 % -2 == 1", "-1 >> 1 == -1", "~0 == -1", "1 << 63 == 9223372036854775808",
+    "(0 && 5 % 0) == 0", "(1 || 5 % 0) == 1", "(1 ? 6 : 5 % 0) == 6", "(-5 ^ 3) == -8", "(-5 & 6) == 2", "(-5 | 2) == -5", "2 + 3 * 4 == 14",
+    "10 - 4 - 3 == 3", "(0 ? 1 : 0 ? 2 : 3) == 3", "'a' == 97", "'\\n' == 10", "TRUE == 1", "!7 == FALSE", "0xFF == 255",
+]] + [false("7 / 2 * 2 == 7"), false("-1 >> 1 == 0")]
+
 IMPORTS = [
     imported("Twice A", "a name of two files", with_import("const long §A = 1;"), u=file("const long A = 2;")),
     imported("Unknown no_t", "a name in an import", with_import(), u=file("typedef §no_t n;")),
@@ -73,6 +90,9 @@ IMPORTS = [
     imported("BadNumber", "a number in an import", with_import(), u=file("const long A = §012;")),
     imported("Banned float", "a banned word in an import", with_import(), u=file("typedef §float n;")),
     imported("ImportCycle", "two files", with_import(), u=f'{HEADER} interface u {{ import §"t.idl"; }}'),
+    imported("ImportCycle", "three files", with_import(), u=f'{HEADER} interface u {{ import "v.idl"; }}', v=f'{HEADER} interface v {{ import §"t.idl"; }}'),
+    imported("ImportCycle", "three files without the main file", with_import(), u=f'{HEADER} interface u {{ import "v.idl"; }}',
+             v=f'{HEADER} interface v {{ import "w.idl"; }}', w=f'{HEADER} interface w {{ import §"u.idl"; }}'),
     imported("ImportCycle", "a file itself", f'{HEADER} interface t {{ import §"t.idl"; void f([in] small x); }}'),
     imported("Rule 5", "a rule in an import", with_import(), u=file("§long;")),
     imported("Rule 5", "the same rule in both files", with_import("long;"), u=file("§long;")),
@@ -104,11 +124,34 @@ def chain(count: int, mark: str = "") -> Dict[str, bytes]:
     return files
 
 
+def main_with(count: int) -> str:
+    """A main file that imports so many others. A mark stands before the 64th."""
+    names = ", ".join(("§" if number == 64 else "") + f'"u{number}.idl"' for number in range(1, count + 1))
+    return f"{HEADER} interface t {{ import {names}; void f([in] small x); }}"
+
+
+def side_by_side(count: int) -> Dict[str, bytes]:
+    """So many files that import none."""
+    return {f"u{number}.idl": file().encode() for number in range(1, count + 1)}
+
+
+WIDE, WIDE_PLACE = marked(main_with(64))
 LAST, PLACE = marked(f'{HEADER} interface u63 {{ import §"u64.idl"; }}')
 COUNTS = [
     Case("import, 64 files", ["decode", "t.idl", "-", "f", "in", "little"], chain(MANY), octets("01"), lines("values 1", "op f in", "x = 1")),
     Case("import, 65 files", ["decode", "t.idl", "-", "f", "in", "little"], {**chain(MANY), "u63.idl": LAST}, octets("01"),
          notes=lines(f"idl u63.idl:{PLACE}: TooMany"), status=6),
+    Case("import, 63 files beside the main file", ["decode", "t.idl", "-", "f", "in", "little"], {**side_by_side(63), "t.idl": main_with(63).encode()},
+         octets("01"), lines("values 1", "op f in", "x = 1")),
+    Case("import, 64 files beside the main file", ["decode", "t.idl", "-", "f", "in", "little"], {**side_by_side(64), "t.idl": WIDE}, octets("01"),
+         notes=lines(f"idl t.idl:{WIDE_PLACE}: TooMany"), status=6),
 ]
 
-CASES = UNKNOWN + TWICE + CONSTANTS + IMPORTS + COUNTS + [fault("ZeroDivisor", interface("const long A = 5 §% 0;"), "row of a constant")]
+# Each stands on the third line of its file.
+LINES = [
+    fault("Unknown no_t", interface("void f([in] §no_t x);"), "a type of no declaration"),
+    fault("Rule 30", interface("void f(§long x);"), "a parameter without a direction"),
+    fault("ZeroDivisor", interface("const long A = 5 §% 0;"), "a constant of no value"),
+]
+
+CASES = UNKNOWN + TWICE + CONSTANTS + VALUES + IMPORTS + COUNTS + LINES
