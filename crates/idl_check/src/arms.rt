@@ -11,7 +11,7 @@ ghost use Rattle.idl_check.specs.Meaning as meaning;
 ghost use Rattle.idl_check.specs.Made as made;
 ghost use Rattle.idl_check.specs.Made.{seen_valued, valued, value_said, arm_with, arms_with, default_with};
 
-use crate::attributes::attribute_list;
+use crate::labels::arm_attributes;
 use crate::members::name_of;
 use crate::typing::number;
 use idl_grammar::{Arm, Attribute, AttributeKind, Case, Expr, Label, Spelling, TypeSpec};
@@ -112,16 +112,6 @@ fn name_in(arm: &Arm) -> Option<&Spelling>
     }
 }
 
-/// The attributes of an arm.
-fn attributes_of(arm: &Arm) -> &[Attribute]
-    ensures { map seen_attribute result.now ≡ rules.arm_attributes (seen_arm arm.now) }
-{
-    match arm {
-        Arm::Empty { attributes, .. } => attribute_list(attributes),
-        Arm::Typed { attributes, .. } => attribute_list(attributes),
-    }
-}
-
 /// Adds an arm.
 fn add<'t>(
     list: &mut Vec<ValuedArm<'t>>,
@@ -165,7 +155,7 @@ fn valued_each<'t>(
 {
     let mut list = Vec::new(alloc);
     for arm in arms {
-        let labels = labels_in(alloc, scope, attributes_of(arm))?;
+        let labels = labels_in(alloc, scope, arm_attributes(arm))?;
         add(&mut list, name_in(arm), labels)?;
     }
     Ok(list)

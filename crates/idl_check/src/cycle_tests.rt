@@ -63,6 +63,12 @@ fn a_struct_that_contains_itself_is_told(rt: HostRuntime) -> Result<(), Fail> {
     assert_told(
         &rt,
         alloc,
+        b"struct a { struct a x; }; struct b { struct b x; };",
+        Some(22),
+    )?;
+    assert_told(
+        &rt,
+        alloc,
         b"struct a { long x; }; struct b { struct c { struct b x; } y[3]; };",
         Some(44),
     )?;

@@ -95,7 +95,7 @@ fn exported<'t>(
     name: &'t Spelling,
     parameters: &'t Parameters,
 ) -> Result<(), Memory>
-    ensures { OnOk result (Adds nodes.old nodes.new (rules.operation_nodes (seen_construct construct) (seen.seen_type of.now) name.now (parameters_of (seen.seen_parameters parameters.now)))) }
+    ensures { OnOk result (Adds nodes.old nodes.new (rules.operation_nodes (seen_construct construct.entry) (seen.seen_type of.now) name.now (parameters_of (seen.seen_parameters parameters.now)))) }
 {
     let it = Returned {
         construct,

@@ -13,7 +13,7 @@ ghost use Rattle.idl_check.specs.VariableRules.{listed_from, variable_if, passes
 ghost use Rattle.idl_check.specs.DeclarationRules as parameter_rule;
 ghost use Rattle.nd_types.specs.Kinds.{is_integer_prim};
 ghost use Rattle.idl_check.specs.Kinds.{type_by, type_at, Keeps};
-ghost use Rattle.idl_check.specs.Lookups.{found_at, AreTables, no_other, wanted_test, is_enumerated, passes_it, fails_in};
+ghost use Rattle.idl_check.specs.Lookups.{found_at, AreTables, no_other, wanted_test, passes_it, fails_in};
 ghost use Rattle.idl_check.specs.SeenNames.{seen_names, are_within};
 ghost use Rattle.idl_check.specs.SeenNodes.{seen_position, seen_declared, list_at};
 ghost use Rattle.idl_check.specs.SeenTypes.{bare, has_wrong_switch_variable};
@@ -138,25 +138,6 @@ fn is_integer(kind: Kind) -> bool
     }
 }
 
-fn is_enum(kind: Kind) -> bool
-    ensures { (ts : List IdlType) → result ≡ is_enumerated (type_by ts kind) }
-{
-    match kind {
-        Kind::Enum { .. } => true,
-        _ => false,
-    }
-}
-
-/// Whether a type is an integer, char, boolean or enumerated type.
-fn may_be_switched(kind: Kind) -> bool
-    ensures { (ts : List IdlType) → result ≡ rules.may_be_switched (type_by ts kind) }
-{
-    match kind.primitive() {
-        Some(primitive) => primitive != Primitive::Byte,
-        None => is_enum(kind),
-    }
-}
-
 /// Whether a type is what is wanted.
 fn is_wanted(kinds: &Kinds, wanted: Wanted, of: u32) -> bool
     ensures { result ≡ wanted_test wanted (type_at kinds.now of) }
@@ -164,7 +145,7 @@ fn is_wanted(kinds: &Kinds, wanted: Wanted, of: u32) -> bool
     let kind = kinds.kind(of);
     match wanted {
         Wanted::Integer => is_integer(kind),
-        Wanted::Switch => may_be_switched(kind),
+        Wanted::Switch => kind.may_be_switched(),
     }
 }
 
