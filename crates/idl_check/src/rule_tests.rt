@@ -460,6 +460,18 @@ fn labels_are_enumerators(rt: HostRuntime) -> Result<(), Fail> {
 }
 
 #[test]
+fn labels_are_enumerators_of_their_own_enum(rt: HostRuntime) -> Result<(), Fail> {
+    let alloc = rt.alloc();
+    assert_breaks(
+        &rt,
+        alloc,
+        b"typedef enum { red, green } E; typedef enum { one, two, three } F; union u switch (F k) { case three: long a; }; union v switch (E k) { case green: char c; case 2: ; };",
+        22,
+        178,
+    )
+}
+
+#[test]
 fn void_and_handles_have_their_places(rt: HostRuntime) -> Result<(), Fail> {
     let alloc = rt.alloc();
     assert_breaks(&rt, alloc, b"const void *A = 1;", 6, 22)?;
