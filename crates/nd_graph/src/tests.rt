@@ -200,7 +200,6 @@ fn cells(alloc: Global, numbers: &[(u32, Option<i128>)]) -> Result<Cells, Memory
 }
 
 // What `fit` answers of these roots and cells of the operation: None where it is Ok.
-#[tactic(auto, using(crate::proofs::SimpleCells::basic_cells))]
 fn misfit(
     alloc: Global,
     side: Side,
@@ -230,7 +229,6 @@ fn at(home: Home, reason: MisfitReason) -> Option<Misfit> {
 
 // The least and the greatest numbers of a long, a short and a hyper; the response has no values.
 #[test]
-#[tactic(auto, using(crate::proofs::SimpleCells::basic_cells))]
 fn conforming_graphs_fit(rt: HostRuntime) -> Result<(), Fail> {
     let alloc = rt.alloc();
     let least = [
@@ -314,7 +312,6 @@ fn has_number(cell: Option<&Cell>, of: u32, number: i128) -> bool {
 
 // A graph that is no fit comes back as it was.
 #[test]
-#[tactic(auto, using(crate::proofs::SimpleCells::basic_cells))]
 fn graphs_come_back(rt: HostRuntime) -> Result<(), Fail> {
     let alloc = rt.alloc();
     let interface = interface(alloc)?;

@@ -245,7 +245,12 @@ fn cell_that_nothing_names(rt: HostRuntime) -> Result<(), Fail> {
     )?;
     assert_eq!(rt; graph.roots.len(), 0);
     assert_eq!(rt;
-        fault_of(rt.alloc(), &interface, Side::In, b"values 1\nop ping in\n@1 = 5\n"),
+        fault_of(
+            rt.alloc(),
+            &interface,
+            Side::In,
+            b"values 1\nop ping in\n@1 = 5\n"
+        ),
         Some((3, 1, TextReason::Unnamed))
     );
     Ok(())

@@ -1,6 +1,5 @@
 // The call once with ample memory.
 ghost use Rattle.std.specs.Prelude.{◌≡◌, ◌≤◌, [], ◌∷◌, length, codes, IfOk};
-ghost use Rattle.nd_types.specs.declared.types.Side.TheVariants as side;
 ghost use Rattle.nd_types.specs.Kinds.{basic_types};
 ghost use Rattle.nd_types.specs.Numbers.{IsNumberSide};
 ghost use Rattle.nd_types.specs.Plain.{plain_param};
@@ -95,7 +94,7 @@ fn fit(alloc: Global, interface: &Interface) -> Result<Fit, Memory>
     requires types { interface.now.types ≡ basic_types }
     requires operations { interface.now.operations ≡ add ∷ [] }
     ensures tied { IfOk result (λ f. f.interface ≡ interface.now) }
-    ensures inputs { IfOk result (λ f. f.side ≡ side.In) }
+    ensures first { IfOk result (λ f. f.op ≡ 0) }
 {
     let graph = Graph {
         roots: numbers(alloc)?,
