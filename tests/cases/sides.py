@@ -23,7 +23,7 @@ def refused(name, declarations, operation, side, line):
 
 ALL = "void f([in] boolean a, [in] char b, [in] byte c, [in] small d, [in] unsigned small e, [in] short g, [in] unsigned short h, [in] long i, " \
       "[in] unsigned long j, [in] hyper k, [in] unsigned hyper l);"
-ALL_OCTETS = "01 41 FF FF FF AA FFFF FFFF AAAA FFFFFFFF FFFFFFFF FFFFFFFFFFFFFFFF FFFFFFFFFFFFFFFF"
+ALL_OCTETS = "01 41 FF FF FF AA FFFF FFFF AAAA FFFFFFFF FFFFFFFF AAAAAAAA FFFFFFFFFFFFFFFF FFFFFFFFFFFFFFFF"
 ALL_TEXT = lines("values 1", "op f in", "a = 1", "b = 65", "c = 255", "d = -1", "e = 255", "g = -1", "h = 65535", "i = -1", "j = 4294967295", "k = -1",
                  "l = 18446744073709551615")
 
