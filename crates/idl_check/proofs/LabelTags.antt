@@ -95,8 +95,8 @@ there_too (z ∷ xs) (y ∷ ys) zero x same h = (y, refl)
 there_too (z ∷ xs) (y ∷ ys) (suc n) x same h = there_too xs ys n x (omega arith) h
 
 module _ (s : Scene) (n : program_nodes.Nodes) (t : program_types.Types) (is : IsTypes s n t) (place : Place) where
-  body_is : (o : Option ℕ) → found_place place t.by_place ≡ o → body_of s place ≡ option_and_then (λ i. slice_get (bodies s) i) o
-  body_is o h = is.first place ∙ ap (option_and_then (λ j. slice_get (bodies s) j)) h
+  body_is : (i : ℕ) → found_place place t.by_place ≡ Some i → body_of s place ≡ slice_get (bodies s) i
+  body_is i h = is.first place ∙ ap (option_and_then (λ j. slice_get (bodies s) j)) h
 
   pub in_body : (i : ℕ) (b : BodyTypes) → found_place place t.by_place ≡ Some i → i < length t.bodies.items → b ≡ get_or t.bodies.items i b
       → (z : ℤ) → is_among (Some z) b.values ≡ is_value_of s (Some (Enum place)) z
@@ -104,20 +104,13 @@ module _ (s : Scene) (n : program_nodes.Nodes) (t : program_types.Types) (is : I
       let here : slice_get t.bodies.items i ≡ Some b = slice_get_read t.bodies.items (length t.bodies.items) i b refl below same in
       let there : (body : Body) × (slice_get (bodies s) i ≡ Some body) = there_too t.bodies.items (bodies s) i b is.body_count here in
       in_enum s place (enumerators_in there.0.body) b.values z
-      (sym (ap enumerators_found (body_is (Some i) found ∙ there.1)))
+      (sym (ap enumerators_found (body_is i found ∙ there.1)))
       (is.body i there.0 b there.1 here).values
 
-  -- without a body there is none
-  in_none : body_of s place ≡ None → (z : ℤ) → false ≡ is_value_of s (Some (Enum place)) z
-  in_none none z = in_enum s place [] [] z (sym (ap enumerators_found none)) (λ v. refl)
-
-  pub in_no_body : found_place place t.by_place ≡ None → (z : ℤ) → false ≡ is_value_of s (Some (Enum place)) z
-  in_no_body missed = in_none (body_is None missed)
-
   pub past_bodies : (i : ℕ) → found_place place t.by_place ≡ Some i → length t.bodies.items ≤ i → (z : ℤ) → false ≡ is_value_of s (Some (Enum place)) z
-  past_bodies i found past =
+  past_bodies i found past z =
       let e = is.body_count in
-      in_none (body_is (Some i) found ∙ slice_get_past (bodies s) i (omega (arith, past, e)))
+      in_enum s place [] [] z (sym (ap enumerators_found (body_is i found ∙ slice_get_past (bodies s) i (omega (arith, past, e))))) (λ v. refl)
 
 -- the tag's type is said
 pub tag_said : (ks : List Kind) (t : Typed) → t.has_tag ≡ true → tag_seen ks t ≡ Some (type_at ks t.of)

@@ -34,11 +34,7 @@ fn listed_values(alloc: Global, scope: &Scope, list: &[Enumerator]) -> Result<Va
 }
 
 /// The values of an enum with this body; of another body there are none. Takes memory for each.
-pub(crate) fn enum_values(
-    alloc: Global,
-    scope: &Scope,
-    body: &TypeSpec,
-) -> Result<ValueSet, Memory>
+pub(crate) fn enum_values(alloc: Global, scope: &Scope, body: &TypeSpec) -> Result<ValueSet, Memory>
     ensures { IfOk result (λ set. Holds set (values_of (known_in scope.now) (scenes.enumerators_in (seen_type body.now)))) }
 {
     listed_values(alloc, scope, enumerators_in(body))

@@ -1,8 +1,8 @@
-use Rattle.std.proofs.Common.{◌≡◌, ◌∙◌, ◌<◌, ◌≤◌, List, Some, None, length, get_or, sym, ap, subst}
+use Rattle.std.proofs.Common.{◌≡◌, ◌∙◌, ◌<◌, ◌≤◌, List, Some, length, get_or, sym, ap, subst}
 use Rattle.std.proofs.lemmas.Bool.{ltb-true, ltb-false}
 use Rattle.idl_check.specs.declared.types.BodyTypes.{BodyTypes}
 use Rattle.idl_check.specs.Places.{found_place}
-use Rattle.idl_check.proofs.LabelTags.{in_body, in_no_body, past_bodies}
+use Rattle.idl_check.proofs.LabelTags.{in_body, past_bodies}
 use Rattle.idl_check.proofs.label_rule.accepted_in.Goals as goal
 
 pub returns-in-Some-get : goal.returns-in-Some-get
