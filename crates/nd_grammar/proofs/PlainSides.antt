@@ -69,7 +69,9 @@ pub number_side_plain : (i : Interface) (n : ℕ) (o : Operation) (s : Side) →
 number_side_plain i n o s numbers there = record {
   plain = numbers_are i.types (roots_of i.types s o) (primitive_roots i.types i.operations n o i.legal there s numbers);
   few = omega (
-    arith, few_named_roots i.types i.operations n s o i.legal.few_params there, length-map (roots_of i.types s o) (named_root o),
+    arith,
+    few_named_roots i.types i.operations n s o i.legal.few_params there,
+    length-map (roots_of i.types s o) (named_root o),
     length-map (roots_of i.types s o) (root_primitive i.types),
   );
 }
