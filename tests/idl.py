@@ -47,7 +47,7 @@ def header(what: str, *texts: str) -> List[Case]:
 
 
 def export(what: str, *texts: str) -> List[Case]:
-    """Plain files of one operation, but for one of these behind it, on line 4."""
+    """Files of one operation of small numbers, but for one of these behind it, on line 4."""
     return [fault(what, interface("void f([in] small x);", text), text) for text in texts]
 
 

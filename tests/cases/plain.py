@@ -1,4 +1,4 @@
-"""Interface files that are plain, in unusual layouts and with unusual names, and operations that they lack."""
+"""Interface files with one operation of one small number, in unusual layouts and with unusual names, and operations that they lack."""
 
 from case import Case, interface, lines, octets
 
@@ -6,29 +6,29 @@ HEADER = "[uuid(11111111-2222-3333-4444-555555555555)]"
 
 
 def accepted(name, file, operation="f", parameter="x"):
-    """A plain file, in which the operation has one small parameter."""
+    """A file in which the operation has one small parameter."""
     return Case(f"plain: {name}", ["decode", "t.idl", "-", operation, "in", "little"], {"t.idl": file}, octets("01"),
                 lines("values 1", f"op {operation} in", f"{parameter} = 1"))
 
 
 def named(name, word):
-    """A plain file that uses a word as the name of everything."""
+    """A file that uses a word as the name of everything."""
     return accepted(name, interface(f"void {word}([in] small {word});", name=word), word, word)
 
 
 def unknown(name, file, operation):
-    """A plain file without the operation."""
+    """A file without the operation."""
     return Case(f"plain: {name}", ["decode", "t.idl", "-", operation, "in", "little"], {"t.idl": file}, octets("01"),
                 notes=lines(f"idl t.idl: NoOperation {operation}"), status=6)
 
 
 def identified(name, uuid):
-    """A plain file with this identifier."""
+    """A file with this identifier."""
     return accepted(name, f"[uuid({uuid})] interface t {{ void f([in] small x); }}\n".encode())
 
 
 def between(separator):
-    """A plain file with this before, between and behind all tokens."""
+    """A file with this before, between and behind all tokens."""
     tokens = "[ uuid ( 11111111-2222-3333-4444-555555555555 ) ] interface t { void f ( [ in ] small x ) ; }".split()
     return separator.join(["", *tokens, ""]).encode()
 
