@@ -1,4 +1,6 @@
 mod Judged
+mod AcfJudged
+mod AcfLast
 mod Order
 mod Equal
 mod Numbers

@@ -20,6 +20,10 @@ pub mod Alone
 pub mod Texts
 pub mod SmallTexts
 pub mod Interfaces
+pub mod Listing
+pub mod AcfRules
+pub mod AcfTexts
+pub mod Listings
 pub mod Kept
 pub mod SeenNodes
 pub mod Noted

@@ -2,6 +2,7 @@
 use Rattle.std.specs.Prelude.{ℕ, zero, suc, ◌+◌, ◌-◌, Bool, true, false, eqb, List, [], ◌∷◌, Option, Some, None, Result, Ok, Err}
 use Rattle.phrases.specs.Reading.{Fault}
 use Rattle.idl_lexer.specs.Classes.{is_letter, is_digit, is_space, is_word_octet}
+use Rattle.idl_lexer.specs.Pieces.{fits_uuid}
 use Rattle.idl_lexer.specs.declared.tokens.TokenKind.{TokenKind}
 use Rattle.idl_lexer.specs.declared.tokens.TokenKind.TheVariants as token
 use Rattle.idl_lexer.specs.declared.tokens.Token.{Token}
@@ -13,7 +14,7 @@ use Rattle.idl_check.specs.Rules.{Breach, breach}
 use Rattle.idl_check.specs.FirstBroken.{first_broken}
 use Rattle.idl_check.specs.Alone.{alone}
 
--- ## Tokens of a text that has words, numbers, spaces, `..` and marks of one octet alone
+-- ## Tokens of a text that has words, numbers, UUIDs, strings without escapes, spaces, `..` and marks of one octet alone
 
 abbrev word_length : List ℕ → ℕ
 word_length [] = 0
@@ -26,14 +27,40 @@ is_dot (c ∷ cs) = eqb c 46
 abbrev mark_length : ℕ → List ℕ → ℕ
 mark_length c cs = elim (eqb c 46) [ true ↦ elim (is_dot cs) [ true ↦ 2 | false ↦ 1 ] | false ↦ 1 ]
 
-abbrev token_kind : ℕ → TokenKind
-token_kind c = elim (is_letter c) [ true ↦ token.Word | false ↦ elim (is_digit c) [ true ↦ token.Number | false ↦ token.Mark ] ]
+-- text begins with a UUID, from place k of it on; so many octets of it are left
+abbrev uuid_begins : ℕ → ℕ → List ℕ → Bool
+uuid_begins zero k text = true
+uuid_begins (suc left) k [] = false
+uuid_begins (suc left) k (c ∷ cs) = elim (fits_uuid k c) [ true ↦ uuid_begins left (k + 1) cs | false ↦ false ]
+
+abbrev is_quote : ℕ → Bool
+is_quote c = eqb c 34
+
+-- the octets up to a closing quote, and it
+abbrev quote_length : List ℕ → ℕ
+quote_length [] = 0
+quote_length (c ∷ cs) = elim (is_quote c) [ true ↦ 1 | false ↦ quote_length cs + 1 ]
+
+abbrev other_kind : ℕ → TokenKind
+other_kind c = elim (is_quote c) [ true ↦ token.Str | false ↦ token.Mark ]
+
+abbrev kind_by_octet : ℕ → TokenKind
+kind_by_octet c = elim (is_letter c) [ true ↦ token.Word | false ↦ elim (is_digit c) [ true ↦ token.Number | false ↦ other_kind c ] ]
+
+abbrev token_kind : ℕ → List ℕ → TokenKind
+token_kind c cs = elim (uuid_begins 36 0 (c ∷ cs)) [ true ↦ token.Uuid | false ↦ kind_by_octet c ]
+
+abbrev other_length : ℕ → List ℕ → ℕ
+other_length c cs = elim (is_quote c) [ true ↦ quote_length cs + 1 | false ↦ mark_length c cs ]
+
+abbrev length_by_octet : ℕ → List ℕ → ℕ
+length_by_octet c cs = elim (is_word_octet c) [ true ↦ word_length (c ∷ cs) | false ↦ other_length c cs ]
 
 abbrev token_length : ℕ → List ℕ → ℕ
-token_length c cs = elim (is_word_octet c) [ true ↦ word_length (c ∷ cs) | false ↦ mark_length c cs ]
+token_length c cs = elim (uuid_begins 36 0 (c ∷ cs)) [ true ↦ 36 | false ↦ length_by_octet c cs ]
 
 abbrev token_at : ℕ → ℕ → List ℕ → Token
-token_at at c cs = record { kind = token_kind c; from = at; to = at + token_length c cs }
+token_at at c cs = record { kind = token_kind c cs; from = at; to = at + token_length c cs }
 
 -- the tokens from an octet on, where so many octets of a token are still passed over
 abbrev tokens_from : ℕ → ℕ → List ℕ → List Token

@@ -9,7 +9,7 @@ ghost use Rattle.idl_check.specs.Nodes.{place_in};
 ghost use Rattle.std.specs.Prelude.{◌≡◌, ℕ, ◌≤◌, [], ◌∷◌, length, map, Ok, Err};
 ghost use Rattle.nd_types.specs.declared.TheConstants.{TYPE_LIMIT};
 ghost use Rattle.nd_base.specs.declared.octets.Place.{Place};
-ghost use Rattle.std.specs.Prelude.{Some, None, true, All};
+ghost use Rattle.std.specs.Prelude.{Option, Some, None, true, All};
 ghost use Rattle.std.specs.List.{list_all};
 ghost use Rattle.nd_types.specs.Table.{type_at};
 ghost use Rattle.idl_check.specs.World.{World};
@@ -20,12 +20,17 @@ ghost use Rattle.nd_types.specs.Legal.{IsLegal, refers_to_no_reference};
 ghost use Rattle.idl_check.specs.Numbering.{is_numbered, is_numbered_or_none, needed_types, number_of_type};
 ghost use Rattle.idl_check.specs.Meaning.{types_of, operations_of, definition, meaning};
 ghost use Rattle.idl_check.specs.Rules.{breach, breaches, breaches_in, breaches_of_use};
-ghost use Rattle.idl_check.specs.FirstBroken.{first_broken, IsLeast};
+ghost use Rattle.idl_check.specs.FirstBroken.{first_of, first_broken, IsLeast};
 ghost use Rattle.nd_types.specs.declared.interface.Interface.{Interface};
 ghost use Rattle.idl_check.specs.declared.fault.RuleFault.TheVariants as fault;
 ghost use Rattle.idl_check.specs.Answers.{Answers};
 ghost use Rattle.idl_check.specs.Texts.{told_of};
 ghost use Rattle.idl_check.specs.Interfaces.{meant_of, sum_text, sum_meant, directory_text, directory_meant};
+ghost use Rattle.idl_check.specs.Listings.{listing_of, listing_beside, sum_file, sum_listing, base_file, directory_file, directory_listing, forms_file, forms_listing};
+ghost use Rattle.idl_check.specs.Texts.{no_rule, rule_at};
+ghost use Rattle.acf_reader.specs.Tree.{Acf};
+ghost use Rattle.idl_check.specs.AcfRules.{acf_breaches, all_breaches, first_of_all, or_else};
+ghost use Rattle.idl_check.specs.AcfTexts.{told_with, acf_rule_at, told_of_directory, directory_acf, other_acf, small_idl, broken_idl, acf_names, acf_places};
 ghost use Rattle.idl_check.specs.SmallTexts.{texts_that_break, texts_that_keep};
 
 /// For each rule a small text that breaks it, with the octet that is told, and one near it that is accepted.
@@ -52,6 +57,32 @@ pub fn one_answer_is_right()
 pub fn texts_have_their_meaning()
     ensures sum { meant_of sum_text ≡ sum_meant ∷ [] }
     ensures directory { meant_of directory_text ≡ directory_meant ∷ [] }
+{}
+
+/// Three texts and how what they mean is listed: a struct that ends with a conformant array, a directory whose kinds another file declares, and all
+/// other forms of types and roots.
+pub fn listings_are_as_worked()
+    ensures sum { listing_of sum_file ≡ sum_listing ∷ [] }
+    ensures directory { listing_beside base_file directory_file ≡ directory_listing ∷ [] }
+    ensures forms { listing_of forms_file ≡ forms_listing ∷ [] }
+{}
+
+/// Attribute configuration files beside files of IDL: the directory's own and one of another interface, names that the IDL has and that it lacks,
+/// each attribute at each place, and a file beside IDL that breaks a rule itself, which is told.
+pub fn attribute_files_are_judged()
+    ensures directory { told_of_directory directory_acf ≡ no_rule }
+    ensures other { told_of_directory other_acf ≡ acf_rule_at 0 }
+    ensures names { map (λ e. told_with small_idl e.text) acf_names ≡ map (λ e. e.told) acf_names }
+    ensures places { map (λ e. told_with small_idl e.text) acf_places ≡ map (λ e. e.told) acf_places }
+    ensures lesser { told_with broken_idl other_acf ≡ rule_at 30 29 }
+{}
+
+/// The rule on attribute configuration files is told where no other is: all rules together have as their first one that of the others, and where these
+/// have none its own. No lesser one is broken, and none at an earlier place. Without such a file the others stand alone.
+pub fn attribute_files_come_last()
+    ensures behind { (w : World) (f : Option Acf) → first_of_all w f ≡ or_else (first_broken w) (first_of w (acf_breaches w f)) }
+    ensures least { (w : World) (f : Option Acf) → IsLeast w (all_breaches w f) (first_of_all w f) }
+    ensures alone { (w : World) → first_of_all w None ≡ first_broken w }
 {}
 
 /// At the number of a type the table has what the type is, and each type that a declarator needs, down to the innermost, has a number.
