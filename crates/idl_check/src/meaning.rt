@@ -68,6 +68,7 @@ pub(crate) fn interface(
         numbers,
     };
     let types = type_table(alloc, &program)?;
+    let layouts = types.layouts(alloc)?;
     let operations = all_operations(alloc, &program)?;
     meaning_is_legal();
     Ok(Interface {
@@ -76,6 +77,7 @@ pub(crate) fn interface(
         major,
         minor,
         types,
+        layouts,
         operations,
     })
 }
