@@ -83,3 +83,10 @@ pub mod Operating
 pub mod ReadOperations
 pub mod MainFile
 pub mod Passes
+mod WordLists
+mod ListedLines
+mod ListedRoots
+mod AcfAnswers
+mod AcfOperations
+mod AcfNotes
+mod AcfWhole

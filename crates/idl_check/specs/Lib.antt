@@ -56,3 +56,5 @@ pub mod Made
 pub mod OwnMarks
 pub mod Counted
 pub mod SeenCounts
+pub mod Worded
+pub mod SeenAcf

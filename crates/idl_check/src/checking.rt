@@ -29,7 +29,7 @@ use nd_types::Interface;
 use std::alloc::Global;
 
 /// A rule that is told.
-fn broken(first: Breach) -> RuleFault
+pub(crate) fn broken(first: Breach) -> RuleFault
     ensures { result ≡ faults.Broken first.rule first.place }
 {
     RuleFault::Broken {

@@ -26,7 +26,7 @@ use nd_types::Interface;
 use std::alloc::Global;
 
 /// The main file, which is number 0. Files that are resolved have it; where it is missing, want of memory is told.
-fn main_tree(files: &FileTrees) -> Result<&Tree, Memory>
+pub(crate) fn main_tree(files: &FileTrees) -> Result<&Tree, Memory>
     ensures { IfOk result (λ t. of.main_among (seen_files files.now) ≡ seen_tree t.now ∷ []) }
 {
     for at in 0..files.len() {

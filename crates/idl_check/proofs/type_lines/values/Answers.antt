@@ -1,0 +1,16 @@
+use Rattle.std.proofs.Common.{◌∙◌, ap, sym, drop, map, ◌++◌, arith}
+use Rattle.std.proofs.Common.{◌+◌}
+use Rattle.std.specs.Fmt.{signed_decimal}
+use Rattle.idl_check.specs.Worded.{behind}
+use Rattle.idl_check.proofs.ListedLines.{word_more, word_end}
+use Rattle.idl_check.proofs.type_lines.values.Goals as goal
+
+pub loop-at-preserved : goal.loop-at-preserved
+loop-at-preserved c =
+    let l = c.loop-at in
+    ap (λ t. t ++ behind (map signed_decimal (drop (l.at + 1) c.args.values.now))) c.in_ok-signed.ensures ∙ word_more signed_decimal c.args.values.now l.at c.in-Some.value.now l.text c.in-Some.ensures.some ∙ l.invariant
+
+pub returns : goal.returns
+returns c =
+    let l = c.loop-at in
+    sym (word_end signed_decimal c.args.values.now l.at l.text (omega (arith, c.len-at-end.ensures, c.loop-at-test.false))) ∙ l.invariant
