@@ -90,3 +90,4 @@ mod AcfAnswers
 mod AcfOperations
 mod AcfNotes
 mod AcfWhole
+mod ListedWhole

@@ -44,6 +44,10 @@ mod definitions;
 mod operations;
 mod meaning;
 #[cfg(test)]
+mod acf_tests;
+#[cfg(test)]
+mod listing_tests;
+#[cfg(test)]
 mod node_tests;
 #[cfg(test)]
 mod label_tests;
