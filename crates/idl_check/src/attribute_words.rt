@@ -22,10 +22,10 @@ fn attr_word(attr: Attr) -> &'static [u8]
 }
 
 /// What stands before the variable: `*` or nothing.
-fn star(star: bool) -> &'static [u8]
-    ensures { result.now ≡ star star }
+fn star(stands: bool) -> &'static [u8]
+    ensures { result.now ≡ star stands }
 {
-    if star { b"*" } else { b"" }
+    if stands { b"*" } else { b"" }
 }
 
 /// An attribute with the name of its variable.
