@@ -1,7 +1,7 @@
 -- Lines that are written word by word.
-use Rattle.std.proofs.Common.{◌≡◌, ◌∙◌, ℕ, List, [], ◌∷◌, ◌++◌, refl, ap, sym, append_assoc, codes}
+use Rattle.std.proofs.Common.{◌≡◌, ◌∙◌, ℕ, zero, suc, ◌-◌, ◌/◌, ◌%◌, ◌≤◌, List, [], ◌∷◌, ◌++◌, refl, ap, sym, append_assoc, codes, absurd, arith}
 use Rattle.std.proofs.lemmas.List.{append-nil}
-use Rattle.idl_check.specs.Listing.{spaced, line}
+use Rattle.idl_check.specs.Listing.{spaced, line, hex_digit, hex_digits}
 use Rattle.idl_check.specs.Worded.{behind}
 
 -- a line is its first word with the others behind it
@@ -50,3 +50,8 @@ pub type_words : (t : List ℕ) (form tail : List (List ℕ)) (number align : Li
     → t ++ line (codes "type" ∷ number ∷ form ++ codes "align" ∷ [] ++ align ∷ [] ++ tail) ≡ t ++ line (codes "type" ∷ number ∷ form ++ codes "align" ∷ align ∷ tail)
 type_words t form tail number align =
     ap (λ ws. t ++ line (codes "type" ∷ number ∷ ws)) (append_assoc (form ++ codes "align" ∷ []) (align ∷ []) tail ∙ append_assoc form (codes "align" ∷ []) (align ∷ tail))
+
+-- the last digit stands behind the others
+pub last_digit : (k n : ℕ) → 1 ≤ k → hex_digits k n ≡ hex_digits (k - 1) (n / 16) ++ hex_digit (n % 16) ∷ []
+last_digit zero n h = absurd (omega (arith, h))
+last_digit (suc k) n h = let e : suc k - 1 ≡ k = omega arith in ap (λ j. hex_digits j (n / 16) ++ hex_digit (n % 16) ∷ []) (sym e)

@@ -146,10 +146,8 @@ pub(crate) fn operations_of<'t>(
     ensures { IfOk result (λ o. o.exports.now ≡ exports.now) }
 {
     let mut numbers = Table::new(alloc);
-    let mut left = exports.len();
-    while left > 0 {
-        left -= 1;
-        add_operation(&mut numbers, &exports[left], left)?;
+    for at in (0..exports.len()).rev() {
+        add_operation(&mut numbers, &exports[at], at)?;
     }
     Ok(NamedOperations { exports, numbers })
 }
