@@ -186,13 +186,12 @@ FAULTS = [
     beside("Rule 40", "interface dir { list(path, §[heap] last); }"),
     beside("Rule 40", "interface dir { put(e, §[code] n); }"),
     beside("Rule 40", "§[implicit_handle(no_t h)] interface dir { }"),
-    beside("Syntax", "interface dir { put(e §) }"),
+    beside("Syntax", "interface dir { put(e) §}"),
     beside("Syntax", "§"),
     beside("Syntax", "interface dir { } §x"),
     beside("Banned represent_as", "[§represent_as(local)] interface dir { }"),
     beside("BadOctet", "interface dir { §$ }"),
     beside("OpenComment", "interface dir { } §/*"),
-    Case("acf, Rule 40: a declaration that ends", COMPILE, {**FILES, "dir.acf": b"interface dir { put(e) }"}, notes=lines("idl dir.acf:1:24: Syntax"), status=6),
 ]
 
 # Each attribute at each place: the interface, a type, an operation, a parameter.

@@ -16,6 +16,7 @@ invariant_of-result c =
     record {
       legal = subst (λ (t : Table). IsLegal t c.in_ok-operations.operations) (sym c.in_ok-types.ensures)
           (subst (λ (o : List Operation). IsLegal (types_of (scene_of w)) o) (sym c.in_ok-operations.ensures) (c.meaning_is_legal.ensures.tables w c.requires.kept));
+      laid_out = c.in_ok-layouts.ensures;
     }
 
 pub returns : goal.returns
