@@ -1,5 +1,5 @@
 -- What is answered beside an attribute configuration file, from what is answered without it.
-use Rattle.std.proofs.Common.{◌≡◌, ◌∙◌, ℕ, Option, Some, None, Result, Ok, Err, refl, ap, sym, tt, [], ◌∷◌}
+use Rattle.std.proofs.Common.{◌≡◌, ◌∙◌, ℕ, Option, Some, None, Result, Ok, Err, refl, ap, sym, [], ◌∷◌}
 use Rattle.nd_base.specs.declared.octets.Place.{Place}
 use Rattle.nd_types.specs.declared.interface.Interface.{Interface}
 use Rattle.acf_reader.specs.Tree.{Acf}

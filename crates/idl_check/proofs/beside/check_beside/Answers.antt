@@ -1,4 +1,4 @@
-use Rattle.std.proofs.Common.{◌≡◌, ◌∙◌, Option, Some, None, Err, option_map, ap, sym, subst, tt}
+use Rattle.std.proofs.Common.{◌≡◌, ◌∙◌, Option, Some, None, Err, option_map, ap, sym, subst}
 use Rattle.acf_reader.specs.Seen.{seen_acf}
 use Rattle.idl_check.specs.declared.fault.RuleFault.{RuleFault}
 use Rattle.idl_check.specs.Checked.{world_of}
