@@ -16,7 +16,7 @@ use Rattle.idl_check.specs.SeenAcf.{parameters_in, parameters_at, AreOperations}
 -- what is found once a name has got a value
 found_put : {X : Type 0} (es : List (List ℕ × X)) (name other : List ℕ) (x : X) → found other (put es name x) ≡ cond (bytes_eq other name) (Some x) (found other es)
 found_put [] name other x = refl
-found_put (e ∷ es) name other x = by (bytes_eq name e.0) refl where
+found_put (e ∷ es) name other x = by (found_put es name other x) (bytes_eq name e.0) refl where
   both : (b : Bool) → cond b (Some x) (found other es) ≡ cond b (Some x) (cond b (Some e.1) (found other es))
   both true = refl
   both false = refl
@@ -28,13 +28,13 @@ found_put (e ∷ es) name other x = by (bytes_eq name e.0) refl where
   differ true false h k n = refl
   differ false true h k n = refl
   differ false false h k n = refl
-  by : (b : Bool) → bytes_eq name e.0 ≡ b
+  by : found other (put es name x) ≡ cond (bytes_eq other name) (Some x) (found other es) → (b : Bool) → bytes_eq name e.0 ≡ b
       → found other (elim b [ true ↦ (e.0, x) ∷ es | false ↦ e ∷ put es name x ]) ≡ cond (bytes_eq other name) (Some x) (found other (e ∷ es))
-  by true k =
+  by rest true k =
       both (bytes_eq other e.0)
       ∙ ap (λ b. cond b (Some x) (found other (e ∷ es))) (sym (ap (bytes_eq other) ((bytes_eq-Decides name e.0).0 k)))
-  by false k =
-      ap (λ f. cond (bytes_eq other e.0) (Some e.1) f) (found_put es name other x)
+  by rest false k =
+      ap (λ f. cond (bytes_eq other e.0) (Some e.1) f) rest
       ∙ differ (bytes_eq other e.0) (bytes_eq other name) refl refl k
 
 -- no declaration is left

@@ -26,24 +26,28 @@ root_agrees : (o : Operation) (i : ℕ) (p : Param) → slice_get o.params i ≡
 root_agrees o i p e (Some t) = sym (ap vars_in e)
 root_agrees o i p e None = sym (ap vars_in e)
 
+-- a root before others, where it is kept
+by_travels : (o : Operation) (r : Root) (rs : List Root) → r.vars ≡ vars_at o r.param → Agree o rs → (b : Bool) → Agree o (elim b [ true ↦ r ∷ rs | false ↦ rs ])
+by_travels o r rs h k true = (h, k)
+by_travels o r rs h k false = k
+
+by_test : (o : Operation) (r : Root) (rs : List Root) → r.vars ≡ vars_at o r.param → Agree o rs → (b : Bool) → Agree o (cond b (r ∷ rs) rs)
+by_test o r rs h k true = (h, k)
+by_test o r rs h k false = k
+
 params_agree : (types : Table) (s : Side) (o : Operation) (i : ℕ) (ps : List Param) → ((j : ℕ) → slice_get o.params (i + j) ≡ slice_get ps j)
     → Agree o (params_from types s i ps)
 params_agree types s o i [] h = tt
-params_agree types s o i (p ∷ ps) h = by (travels s p.way && not (eqb p.field.of.0 HANDLE.0)) where
-  rest : Agree o (params_from types s (i + 1) ps)
-  rest = params_agree types s o (i + 1) ps (λ j. let e : i + 1 + j ≡ i + suc j = omega arith in ap (slice_get o.params) e ∙ h (suc j))
-  here : slice_get o.params i ≡ Some p
-  here = let e : i ≡ i + 0 = omega arith in ap (slice_get o.params) e ∙ h 0
-  by : (b : Bool) → Agree o (elim b [ true ↦ root_of types i p ∷ params_from types s (i + 1) ps | false ↦ params_from types s (i + 1) ps ])
-  by true = (root_agrees o i p here (pipe_of types p.field.of.0), rest)
-  by false = rest
+params_agree types s o i (p ∷ ps) h =
+    let e : i ≡ i + 0 = omega arith in
+    let here : slice_get o.params i ≡ Some p = ap (slice_get o.params) e ∙ h 0 in
+    let rest = params_agree types s o (i + 1) ps (λ j. let f : i + 1 + j ≡ i + suc j = omega arith in ap (slice_get o.params) f ∙ h (suc j)) in
+    by_travels o (root_of types i p) (params_from types s (i + 1) ps) (root_agrees o i p here (pipe_of types p.field.of.0)) rest
+    (travels s p.way && not (eqb p.field.of.0 HANDLE.0))
 
 filter_agrees : (o : Operation) (test : Root → Bool) (rs : List Root) → Agree o rs → Agree o (filter test rs)
 filter_agrees o test [] h = tt
-filter_agrees o test (r ∷ rs) h = by (test r) where
-  by : (b : Bool) → Agree o (cond b (r ∷ filter test rs) (filter test rs))
-  by true = (h.0, filter_agrees o test rs h.1)
-  by false = filter_agrees o test rs h.1
+filter_agrees o test (r ∷ rs) h = by_test o r (filter test rs) h.0 (filter_agrees o test rs h.1) (test r)
 
 both_agree : (o : Operation) (rs qs : List Root) → Agree o rs → Agree o qs → Agree o (rs ++ qs)
 both_agree o [] qs h k = k

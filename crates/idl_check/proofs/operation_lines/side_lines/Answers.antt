@@ -9,8 +9,8 @@ use Rattle.idl_check.specs.Worded.{named_line}
 use Rattle.idl_check.proofs.ListedRoots.{side_by_walk}
 use Rattle.idl_check.proofs.operation_lines.side_lines.Goals as goal
 
-pub params-requires : goal.params-requires
-params-requires c = slice_get_within c.args.interface.now.operations c.args.number c.args.operation.now c.requires
+pub params-root-items-requires : goal.params-root-items-requires
+params-root-items-requires c = slice_get_within c.args.interface.now.operations c.args.number c.args.operation.now c.requires
 
 pub loop-root-init : goal.loop-root-init
 loop-root-init c = sym (append-nil c.args.text.now)
