@@ -16,8 +16,8 @@ use Rattle.idl_names.specs.declared.name_fault.NameFault.TheVariants as names
 use Rattle.idl_names.specs.Sources.{Source, source, and_source}
 use Rattle.idl_names.specs.Causes.{IsAbsent, IsFailed}
 use Rattle.idl_names.specs.Walk.{State, Walk, start, all_of, Stopped}
-use Rattle.idl_check.specs.Rules.{breach}
-use Rattle.idl_check.specs.FirstBroken.{first_broken}
+use Rattle.idl_rules.specs.Rules.{breach}
+use Rattle.idl_rules.specs.FirstBroken.{first_broken}
 use Rattle.dceidl.specs.declared.refusal.Refusal.{Refusal}
 use Rattle.dceidl.specs.declared.refusal.Refusal.TheVariants.{Memory}
 use Rattle.dceidl.specs.Idl.{main_file, AreResolved, resolved_world, IsMainFault, IsNameFault, IsIdlFault, IsDueImport, by_names, by_rules, told_rule, told_fault, name_in}

@@ -5,7 +5,7 @@ use Rattle.nd_types.specs.declared.types.Operation.{Operation}
 use Rattle.nd_types.specs.declared.interface.Interface.{Interface}
 use Rattle.nd_types.specs.Table.{Table}
 use Rattle.nd_types.specs.Legal.{IsLegal}
-use Rattle.idl_check.specs.Meaning.{Meant}
+use Rattle.idl_rules.specs.Meaning.{Meant}
 use Rattle.dceidl.specs.Idl.{Means}
 use Rattle.dceidl.proofs.OneMeaning.{means_one}
 

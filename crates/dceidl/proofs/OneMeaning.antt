@@ -16,10 +16,10 @@ use Rattle.idl_names.specs.Files.{IsFile, IsNoFile}
 use Rattle.idl_names.specs.Known.{first_undefined}
 use Rattle.idl_names.specs.Sources.{Source, and_source}
 use Rattle.idl_names.specs.Walk.{State, Due, Ending, Done, Stopped, Walk, IsUndefinedFault, start, all_of, all_done, goes_on, faults, ends, cycle, again, too_many, absent, failed, uncut, no_file, enters, short, short_in_load, short_after_load}
-use Rattle.idl_check.specs.Rules.{Breach, breach}
-use Rattle.idl_check.specs.FirstBroken.{first_broken}
-use Rattle.idl_check.specs.Meaning.{Meant, meaning}
-use Rattle.idl_check.specs.Answers.{meant_by, IsMeaning}
+use Rattle.idl_rules.specs.Rules.{Breach, breach}
+use Rattle.idl_rules.specs.FirstBroken.{first_broken}
+use Rattle.idl_rules.specs.Meaning.{Meant, meaning}
+use Rattle.idl_rules.specs.Answers.{meant_by, IsMeaning}
 use Rattle.dceidl.specs.declared.refusal.Refusal.{Refusal}
 use Rattle.dceidl.specs.declared.refusal.Refusal.TheVariants.{Memory, Absent, FileFailed, BadIdl, NoOperation, NotBuilt, ReadFault, BadOctets, BadText, BadValue}
 use Rattle.dceidl.specs.Idl.{main_file, resolved_world, AreResolved, Means, IsMainFault, IsNameFault, IsBroken, IsIdlFault, by_names, by_rules, told_fault, told_rule, name_in, IsDueImport}

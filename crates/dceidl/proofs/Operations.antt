@@ -12,13 +12,13 @@ use Rattle.idl_grammar.specs.Tree as tree
 use Rattle.idl_names.specs.Ended.{Ended}
 use Rattle.idl_names.specs.Known.{Known}
 use Rattle.idl_names.specs.Steps.{parameters_of}
-use Rattle.idl_check.specs.Attributes.{switch_type_in}
-use Rattle.idl_check.specs.Nodes.{Construct, Position, InTypedef, InTaggedType, InMember, InArm, InCasedArm, InOperation, inside, Declared, declared, ArmLabel, Node, HeaderNode, AttributeNode, SwitchNode, TagNode, BodyNode, EnumeratorNode, LabelNode, EmptyArmNode, DeclaratorNode, ConstantNode, TypeNode, OperationNode, attribute_nodes, attribute_nodes_from, switch_node, switch_nodes, declared_members, declared_parameters, parameter_construct, declarator_nodes, labels_of, label_nodes, type_nodes, member_nodes, case_nodes, arms_nodes, arm_nodes, parameter_nodes, typedef_node, result_of, operation_nodes, export_nodes, header_of, file_nodes, nodes}
-use Rattle.idl_check.specs.Scene.{Scene, Scoped, scoped_from, names_behind, scene_of}
-use Rattle.idl_check.specs.Types.{Names}
-use Rattle.idl_check.specs.World.{World}
-use Rattle.idl_check.specs.Meaning.{Meant, parameter, operation_in, operations_of, header_meant, main_among, meaning}
-use Rattle.idl_check.specs.Answers.{IsMeaning, meant_by}
+use Rattle.idl_rules.specs.Attributes.{switch_type_in}
+use Rattle.idl_rules.specs.Nodes.{Construct, Position, InTypedef, InTaggedType, InMember, InArm, InCasedArm, InOperation, inside, Declared, declared, ArmLabel, Node, HeaderNode, AttributeNode, SwitchNode, TagNode, BodyNode, EnumeratorNode, LabelNode, EmptyArmNode, DeclaratorNode, ConstantNode, TypeNode, OperationNode, attribute_nodes, attribute_nodes_from, switch_node, switch_nodes, declared_members, declared_parameters, parameter_construct, declarator_nodes, labels_of, label_nodes, type_nodes, member_nodes, case_nodes, arms_nodes, arm_nodes, parameter_nodes, typedef_node, result_of, operation_nodes, export_nodes, header_of, file_nodes, nodes}
+use Rattle.idl_rules.specs.Scene.{Scene, Scoped, scoped_from, names_behind, scene_of}
+use Rattle.idl_rules.specs.Types.{Names}
+use Rattle.idl_rules.specs.World.{World}
+use Rattle.idl_rules.specs.Meaning.{Meant, parameter, operation_in, operations_of, header_meant, main_among, meaning}
+use Rattle.idl_rules.specs.Answers.{IsMeaning, meant_by}
 use Rattle.value_text.specs.Tokens.{is_word}
 use Rattle.dceidl.proofs.FileWords.{have_words, HasExportWords, HasTreeWords}
 

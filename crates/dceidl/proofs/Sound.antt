@@ -16,8 +16,8 @@ use Rattle.nd_types.specs.Numbers.{has_number_roots}
 use Rattle.nd_types.specs.Table.{Table}
 use Rattle.nd_graph.specs.Setting.{Setting}
 use Rattle.nd_graph.specs.Fitting.{setting_of}
-use Rattle.idl_check.specs.Meaning.{Meant}
-use Rattle.idl_check.specs.Answers.{meant_by}
+use Rattle.idl_rules.specs.Meaning.{Meant}
+use Rattle.idl_rules.specs.Answers.{meant_by}
 use Rattle.dceidl.specs.declared.task.Task.{Task}
 use Rattle.dceidl.specs.declared.refusal.Refusal.{Refusal}
 use Rattle.dceidl.specs.declared.refusal.Refusal.TheVariants.{Memory, Absent, FileFailed, BadIdl, NoOperation, NotBuilt, ReadFault, BadOctets, BadText, BadValue}

@@ -15,10 +15,10 @@ use Rattle.idl_parser.specs.declared.fault.SyntaxFault.TheVariants as syntax
 use Rattle.idl_names.specs.Files.{IsFile, IsNoFile}
 use Rattle.idl_names.specs.Sources.{Source, source, and_source, file_name, file_text}
 use Rattle.idl_names.specs.Walk.{State, Walk, start, all_of, Stopped, IsResolved, IsRefused}
-use Rattle.idl_check.specs.World.{World}
-use Rattle.idl_check.specs.Rules.{breach}
-use Rattle.idl_check.specs.FirstBroken.{first_broken}
-use Rattle.idl_check.specs.Answers.{IsMeaning}
+use Rattle.idl_rules.specs.World.{World}
+use Rattle.idl_rules.specs.Rules.{breach}
+use Rattle.idl_rules.specs.FirstBroken.{first_broken}
+use Rattle.idl_rules.specs.Answers.{IsMeaning}
 use Rattle.value_text.specs.Reads.{position_of}
 use Rattle.dceidl.specs.declared.refusal.IdlReason.{IdlReason}
 use Rattle.dceidl.specs.declared.refusal.IdlReason.TheVariants as reason

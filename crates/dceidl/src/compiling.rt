@@ -12,7 +12,7 @@ ghost use Rattle.dceidl.specs.Reading.{IsOfText, IsToldUnparsed, IsOrMemory};
 
 use crate::faults::{tell_fault, tell_rule};
 use crate::refusal::Refusal;
-use idl_check::{RuleFault, check};
+use idl_rules::{RuleFault, check};
 use idl_grammar::Tree;
 use idl_lexer::{Tokens, lex};
 use idl_names::{NameFault, Scope, Sources, SyntaxFault, resolve};

@@ -1,80 +1,37 @@
-// The rules, and what files mean that keep them.
-ghost use Rattle.std.specs.Prelude.{◌≡◌, None, map, option_map, IfOk};
-ghost use Rattle.idl_check.specs.declared.fault.RuleFault.TheVariants as faults;
-ghost use Rattle.idl_check.specs.Answers.{Answers};
-ghost use Rattle.idl_check.specs.Checked.{world_of};
-ghost use Rattle.idl_check.specs.CountRules as rules;
-ghost use Rattle.idl_check.specs.Found.{seen_breach};
-ghost use Rattle.idl_check.specs.Noted.{noted};
-ghost use Rattle.idl_check.specs.OtherBreaches.{other_breaches};
-ghost use Rattle.idl_check.specs.SeenNumbers.{AreNumbers};
-ghost use Rattle.idl_check.specs.SeenTypes.{scene_seen, IsTypes};
-ghost use Rattle.idl_check.specs.SeenCounts.{one_too_many};
-ghost use Rattle.idl_names.specs.Seen.{known_in};
+// The rules, and what files mean that keep them, beside an attribute configuration file.
+ghost use Rattle.std.specs.Prelude.{option_map};
+ghost use Rattle.acf_reader.specs.Seen.{seen_acf};
+ghost use Rattle.idl_rules.specs.Checked.{world_of};
+ghost use Rattle.idl_check.specs.SeenAcf.{AnswersBeside};
 
-use crate::counts::too_many;
-use crate::exports::of_files;
-use crate::finder::{Breach, Finder};
-use crate::lists::first_breach;
-use crate::meaning::interface;
-use crate::nodes::Nodes;
-use crate::numbering::{self, Numbers};
-use crate::types::{Types, of_nodes};
-use crate::uses::other_rules;
-use crate::{RuleFault, marks};
+use crate::acf_rule::acf_breach;
+use acf_reader::Acf;
 use idl_names::Scope;
-use nd_base::Memory;
+use idl_rules::{RuleFault, broken};
 use nd_types::Interface;
 use std::alloc::Global;
 
-/// A rule that is told.
-fn broken(first: Breach) -> RuleFault
-    ensures { result ≡ faults.Broken first.rule first.place }
-{
-    RuleFault::Broken {
-        rule: first.rule,
-        place: first.place,
-    }
-}
-
-/// The first breach of the rules 5 to 39, if one is broken.
-fn other_breach(
-    alloc: Global,
-    scope: &Scope,
-    nodes: &Nodes<'_>,
-    types: &Types,
-    numbers: &Numbers,
-) -> Result<Option<Breach>, Memory>
-    ensures { IsTypes (scene_seen (known_in scope.now) nodes.now) nodes.now types.now
-        → AreNumbers (scene_seen (known_in scope.now) nodes.now) types.now.kinds numbers.now
-        → IfOk result (λ b. option_map seen_breach b
-        ≡ noted (world_of scope.now) (noted (world_of scope.now) None (other_breaches (scene_seen (known_in scope.now) nodes.now)))
-        (map one_too_many (rules.too_many (scene_seen (known_in scope.now) nodes.now)))) }
-{
-    let marks = marks::of_types(alloc, types)?;
-    let mut finder = Finder::new(&scope.files);
-    other_rules(alloc, &mut finder, scope, nodes, types, &marks)?;
-    too_many(&mut finder, nodes, numbers);
-    Ok(finder.first())
-}
-
-/// The interface that files mean whose names are resolved (C706, chapter 4).
+/// The interface that files mean whose names are resolved (C706, chapter 4), beside an attribute configuration file, if there is one. That
+/// file changes nothing of what they mean.
 ///
 /// # Errors
-/// Broken, the least broken rule at its first place, exactly where a rule is broken. Memory where memory was wanting.
+/// Broken, the least broken rule at its first place, exactly where a rule is broken: the one on attribute configuration files where no other is.
+/// Memory where memory was wanting.
 ///
 /// Takes memory for the interface.
-pub fn check(alloc: Global, scope: &Scope) -> Result<Interface, RuleFault>
-    ensures { Answers (world_of scope.now) result }
+pub fn check(
+    alloc: Global,
+    scope: &Scope,
+    acf: Option<&Acf>,
+) -> Result<Interface, RuleFault>
+    ensures { AnswersBeside (world_of scope.now) (option_map (λ f. seen_acf f.now) acf) result }
 {
-    let nodes = of_files(alloc, &scope.files)?;
-    if let Some(first) = first_breach(alloc, &scope.files, &nodes)? {
-        return Err(broken(first));
+    let interface = idl_rules::check(alloc, scope)?;
+    let Some(acf) = acf else {
+        return Ok(interface);
+    };
+    match acf_breach(alloc, scope, acf)? {
+        Some(first) => Err(broken(first)),
+        None => Ok(interface),
     }
-    let types = of_nodes(alloc, scope, &nodes)?;
-    let numbers = numbering::of_types(alloc, &nodes, &types)?;
-    if let Some(first) = other_breach(alloc, scope, &nodes, &types, &numbers)? {
-        return Err(broken(first));
-    }
-    Ok(interface(alloc, scope, &nodes, &types, &numbers)?)
 }

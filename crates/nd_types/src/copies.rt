@@ -34,6 +34,7 @@ impl Interface {
     {
         let name = Name::copy(alloc, self.name.as_slice())?;
         let types = self.types.copy(alloc)?;
+        let layouts = self.layouts.copy(alloc)?;
         let operations = self.operations.copy(alloc)?;
         Ok(Interface {
             name,
@@ -41,6 +42,7 @@ impl Interface {
             major: self.major,
             minor: self.minor,
             types,
+            layouts,
             operations,
         })
     }

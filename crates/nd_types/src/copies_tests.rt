@@ -105,12 +105,14 @@ fn operations(alloc: Global) -> Result<Operations, Memory>
 fn interface(alloc: Global) -> Result<Interface, Memory> {
     let types = types(alloc)?;
     let operations = operations(alloc)?;
+    let layouts = types.layouts(alloc)?;
     Ok(Interface {
         name: Name::copy(alloc, b"t")?,
         uuid: Some(0x11111111_2222_3333_4444_555555555555),
         major: 1,
         minor: 0,
         types,
+        layouts,
         operations,
     })
 }

@@ -1,7 +1,9 @@
 // An interface.
+ghost use Rattle.std.specs.Prelude.{◌≡◌};
 ghost use Rattle.nd_types.specs.Legal.{IsLegal};
+ghost use Rattle.nd_types.specs.Rounds.{layouts_of};
 
-use crate::{Operations, Types};
+use crate::{Layouts, Operations, Types};
 use nd_base::Name;
 
 /// An interface: its table of types and its operations. Each interface is legal: its table and operations
@@ -18,7 +20,10 @@ pub struct Interface {
     pub minor: u16,
     /// The types by number. The first twelve are the primitives, in the order of `Primitive`, and the context handle.
     pub types: Types,
+    /// How the types are laid out, by number: what `Types::layouts` gives.
+    pub layouts: Layouts,
     /// The operations in the order of the file. An operation's number is its place here, from 0.
     pub operations: Operations,
     pub ghost legal: { IsLegal types operations },
+    pub ghost laid_out: { layouts ≡ layouts_of types },
 }

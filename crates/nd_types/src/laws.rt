@@ -6,6 +6,8 @@ ghost use Rattle.nd_types.specs.Number.{AreOctets, value_of_octets, written};
 ghost use Rattle.nd_types.specs.Kinds.{basic_types, prim_number};
 ghost use Rattle.nd_types.specs.Layout.{align_of, align_by, hoists, hoists_by};
 ghost use Rattle.nd_types.specs.Legal.{IsLegal};
+ghost use Rattle.std.specs.Prelude.{suc, ◌+◌};
+ghost use Rattle.nd_types.specs.Rounds.{align_in, hoists_in, layouts_of, layouts_after};
 ghost use Rattle.nd_types.specs.Roots.{roots_of};
 ghost use Rattle.std.specs.Prelude.{slice_get, true};
 ghost use Rattle.std.specs.List.{AllByRecursion};
@@ -66,4 +68,11 @@ pub fn read_after_write()
 pub fn written_octets()
     ensures wide { (order : Order) (p : Primitive) (z : ℤ) → length (written order p z) ≡ width p }
     ensures octets { (order : Order) (p : Primitive) (z : ℤ) → AreOctets (written order p z) }
+{}
+
+/// The rounds come to the alignment of each type, and to whether it hoists. After a round that changes nothing none does.
+pub fn rounds_come_to_the_layout()
+    ensures align { (table : Table) (t : ℕ) → align_in (layouts_of table) t ≡ align_of table t }
+    ensures hoists { (table : Table) (t : ℕ) → hoists_in (layouts_of table) t ≡ hoists table t }
+    ensures settled { (table : Table) (k j : ℕ) → layouts_after (suc k) table ≡ layouts_after k table → layouts_after (j + k) table ≡ layouts_after k table }
 {}

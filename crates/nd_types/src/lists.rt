@@ -150,6 +150,13 @@ impl Fields {
         }
     }
 
+    // The items.
+    pub(crate) fn as_slice(&self) -> &[Field]
+        ensures { result.now ≡ self.now }
+    {
+        self.items.as_slice()
+    }
+
     /// The number of items. Takes no memory.
     pub fn len(&self) -> usize
         ensures { result ≡ length self.now }
@@ -201,6 +208,13 @@ impl Arms {
             Ok(()) => Ok(()),
             Err(failed) => Err((Memory, failed.value)),
         }
+    }
+
+    // The items.
+    pub(crate) fn as_slice(&self) -> &[Arm]
+        ensures { result.now ≡ self.now }
+    {
+        self.items.as_slice()
     }
 
     /// The number of items. Takes no memory.
@@ -340,6 +354,13 @@ impl Types {
             Ok(()) => Ok(()),
             Err(failed) => Err((Memory, failed.value)),
         }
+    }
+
+    // The items.
+    pub(crate) fn as_slice(&self) -> &[TypeDef]
+        ensures { result.now ≡ self.now }
+    {
+        self.items.as_slice()
     }
 
     /// The number of items. Takes no memory.

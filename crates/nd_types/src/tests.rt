@@ -69,12 +69,14 @@ fn two_operations(alloc: Global) -> Result<Operations, Memory>
 fn two(alloc: Global) -> Result<Interface, Memory> {
     let types = Types::basic(alloc)?;
     let operations = two_operations(alloc)?;
+    let layouts = types.layouts(alloc)?;
     Ok(Interface {
         name: Name::copy(alloc, b"two")?,
         uuid: None,
         major: 1,
         minor: 0,
         types,
+        layouts,
         operations,
     })
 }

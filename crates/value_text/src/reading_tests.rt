@@ -167,12 +167,14 @@ fn ping_interface(alloc: Global) -> Result<Interface, Memory>
 {
     let types = Types::basic(alloc)?;
     let operations = ping_operations(alloc)?;
+    let layouts = types.layouts(alloc)?;
     Ok(Interface {
         name: Name::copy(alloc, b"t")?,
         uuid: None,
         major: 0,
         minor: 0,
         types,
+        layouts,
         operations,
     })
 }

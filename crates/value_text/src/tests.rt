@@ -66,12 +66,14 @@ pub(crate) fn interface(alloc: Global) -> Result<Interface, Memory>
 {
     let types = Types::basic(alloc)?;
     let operations = operations(alloc)?;
+    let layouts = types.layouts(alloc)?;
     Ok(Interface {
         name: Name::copy(alloc, b"t")?,
         uuid: None,
         major: 0,
         minor: 0,
         types,
+        layouts,
         operations,
     })
 }

@@ -1,7 +1,7 @@
 use Rattle.std.proofs.Common.{subst, Err}
 use Rattle.idl_names.specs.Seen.{seen_scope}
-use Rattle.idl_check.specs.Checked.{world_of}
-use Rattle.idl_check.specs.Answers.{Answers}
+use Rattle.idl_rules.specs.Checked.{world_of}
+use Rattle.idl_rules.specs.Answers.{Answers}
 use Rattle.dceidl.proofs.Compiled.{rule_fault}
 use Rattle.dceidl.specs.Idl.{told_rule}
 use Rattle.dceidl.proofs.compiling.checked.Goals as goal

@@ -1,0 +1,21 @@
+use Rattle.std.proofs.Common.{◌≡◌, ◌∙◌, refl, sym, ap, map, option_map, Some, None, ◌++◌, append-nil}
+use Rattle.std.specs.List.{flat_map}
+use Rattle.idl_grammar.specs.Seen as of_idl
+use Rattle.idl_names.specs.Seen.{seen_files, known_in}
+use Rattle.acf_reader.specs.Seen.{seen_acf}
+use Rattle.idl_rules.specs.Checked.{world_of}
+use Rattle.idl_rules.specs.Found.{seen_breach}
+use Rattle.idl_check.specs.AcfRules.{breaches_beside}
+use Rattle.idl_check.proofs.AcfWhole.{acf_noted}
+use Rattle.idl_check.proofs.acf_rule.acf_breach.Goals as goal
+
+pub returns : goal.returns
+returns c =
+    let w = world_of c.args.scope.now in
+    let main = of_idl.seen_tree c.in_ok-main.main.now in
+    ap (option_map seen_breach) c.first.ensures
+    ∙ acf_noted w (seen_acf c.args.acf.now) main c.in_ok-main.ensures _ _ _
+    (ap (option_map seen_breach) c.new-finder.ensures.none)
+    (c.note.ensures.first w (ap seen_files (sym c.new-finder.ensures.files)) ∙ ap (λ b. _) c.breaks_header.ensures)
+    (c.elements.ensures.first w main (ap seen_files (sym (c.note.ensures.files ∙ c.new-finder.ensures.files)))
+        (ap (map of_idl.seen_export) (sym (c.in_ok-operations.ensures ∙ c.as_slice.ensures.value))))

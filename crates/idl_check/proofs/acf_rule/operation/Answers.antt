@@ -1,0 +1,22 @@
+use Rattle.std.proofs.Common.{◌∙◌, sym, ap, map, option_map}
+use Rattle.std.specs.List.{flat_map}
+use Rattle.idl_grammar.specs.Seen as of_idl
+use Rattle.idl_names.specs.Seen.{seen_files}
+use Rattle.acf_reader.specs.Seen.{seen_parameter}
+use Rattle.idl_rules.specs.Noted.{noted}
+use Rattle.idl_rules.specs.Found.{seen_breach}
+use Rattle.idl_check.specs.AcfRules.{broken_at, is_of_operation, is_misplaced, breaches_of_parameter}
+use Rattle.idl_check.proofs.AcfNotes.{then_noted}
+use Rattle.idl_check.proofs.acf_rule.operation.Goals as goal
+
+-- the operation, then its parameters
+pub returns-in-Some-clause-files : goal.returns-in-Some-clause-files
+returns-in-Some-clause-files c = c.parameters.ensures.files ∙ c.note-in-Some.ensures.files
+
+pub returns-in-Some-clause-first : goal.returns-in-Some-clause-first
+returns-in-Some-clause-first c w files =
+    then_noted w (option_map seen_breach c.args.finder.now.first) _ _
+    (broken_at c.args.at (is_misplaced is_of_operation c.args.attributes.now))
+    (flat_map (breaches_of_parameter (map of_idl.seen_parameter c.in-Some.found.now)) (map seen_parameter c.args.list.now))
+    (c.note-in-Some.ensures.first w files ∙ ap (λ b. noted w (option_map seen_breach c.args.finder.now.first) (broken_at c.args.at b)) c.is_misplaced.ensures)
+    (c.parameters.ensures.first w (files ∙ ap seen_files (sym c.note-in-Some.ensures.files)))

@@ -1,0 +1,19 @@
+use Rattle.std.proofs.Common.{◌≡◌, map, option_map}
+use Rattle.std.specs.List.{flat_map}
+use Rattle.idl_grammar.specs.Seen as of_idl
+use Rattle.idl_names.specs.Seen.{seen_files}
+use Rattle.acf_reader.specs.Seen.{seen_parameter}
+use Rattle.idl_rules.specs.World.{World}
+use Rattle.idl_rules.specs.Noted.{noted}
+use Rattle.idl_rules.specs.Found.{seen_breach}
+use Rattle.idl_check.specs.AcfRules.{breaches_of_parameter}
+use Rattle.idl_check.proofs.AcfNotes.{noted_from}
+use Rattle.idl_check.proofs.acf_rule.parameters.Given as goal
+
+-- with those that are left it comes to what all come to
+abbrev pub invariant-loop-one : goal.invariant-loop-one
+invariant-loop-one l =
+    (l.finder.files.now ≡ l.fn.finder.files.now)
+    × ((w : World) → w.files ≡ seen_files l.fn.finder.files.now
+        → noted_from seen_parameter (breaches_of_parameter (map of_idl.seen_parameter l.parameters)) l.list w (option_map seen_breach l.finder.first) l.one-index
+            ≡ noted w (option_map seen_breach l.fn.finder.first) (flat_map (breaches_of_parameter (map of_idl.seen_parameter l.parameters)) (map seen_parameter l.list)))

@@ -1,0 +1,12 @@
+use Rattle.std.proofs.Common.{◌≡◌, ◌∙◌, ap, ap₂, sym, refl, [], ◌∷◌, ◌++◌, codes, decimal}
+use Rattle.nd_types.specs.declared.types.Side.TheVariants as side
+use Rattle.idl_check.specs.Listing.{side_lines}
+use Rattle.idl_check.proofs.WordLists.{then_piece}
+use Rattle.idl_check.proofs.operation_lines.operation_lines.Goals as goal
+
+pub returns : goal.returns
+returns c =
+    let t = c.args.text.now in
+    let e1 = c.in_ok-name_line.ensures in
+    let e2 = c.in_ok-side_lines.ensures ∙ then_piece t _ _ _ e1 in
+    c.in_ok-side_lines-2.ensures ∙ then_piece t _ _ _ e2

@@ -1,0 +1,10 @@
+use Rattle.std.proofs.Common.{◌≡◌, ◌++◌, drop, option_map}
+use Rattle.std.specs.List.{flat_map}
+use Rattle.idl_rules.specs.Made.{arm_with}
+use Rattle.idl_rules.proofs.arms.add_arms.Given as goal
+
+-- what is there, with what is left
+abbrev pub invariant-loop-label : goal.invariant-loop-label
+invariant-loop-label l =
+    l.arms ++ flat_map (arm_with (option_map (λ s. s.now.octets) l.name) l.of) (drop l.label-index l.labels)
+    ≡ l.initial.arms ++ flat_map (arm_with (option_map (λ s. s.now.octets) l.name) l.of) l.labels

@@ -1,0 +1,10 @@
+use Rattle.std.proofs.Common.{◌≡◌, ◌++◌, map, drop}
+use Rattle.idl_rules.specs.SeenNodes.{seen_declared}
+use Rattle.idl_rules.specs.Made.{each_with, parameter_by}
+use Rattle.idl_rules.proofs.members.parameters_by.Given as goal
+
+-- what is there, with what is left
+abbrev pub invariant-loop-index : goal.invariant-loop-index
+invariant-loop-index l =
+    l.parameters ++ each_with (parameter_by l.table) (map seen_declared (drop l.index l.list)) (drop l.index l.types)
+    ≡ each_with (parameter_by l.table) (map seen_declared l.list) l.types

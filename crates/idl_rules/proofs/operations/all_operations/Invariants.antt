@@ -1,0 +1,10 @@
+use Rattle.std.proofs.Common.{◌≡◌, ◌++◌, map, drop}
+use Rattle.idl_rules.specs.SeenOperations.{called}
+use Rattle.idl_rules.specs.Made.{scene_in, operation_made}
+use Rattle.idl_rules.proofs.operations.all_operations.Given as goal
+
+-- what is there, with what is left
+abbrev pub invariant-loop-noted : goal.invariant-loop-noted
+invariant-loop-noted l =
+    l.operations ++ map (operation_made (scene_in l.program)) (drop l.noted-index (called (scene_in l.program)))
+    ≡ map (operation_made (scene_in l.program)) (called (scene_in l.program))

@@ -1,0 +1,28 @@
+-- What rule 39 counts, by the nodes of the program.
+use Rattle.std.specs.Prelude.{ℕ, List, [], ◌∷◌, map, drop, length, replicate, Vec}
+use Rattle.idl_grammar.specs.Seen.{seen_type}
+use Rattle.idl_rules.specs.declared.nodes.Declared as declared
+use Rattle.idl_rules.specs.declared.nodes.Node as program_node
+use Rattle.idl_rules.specs.declared.nodes.Node.TheVariants as node
+use Rattle.idl_rules.specs.Nodes.{Construct, place_in, labels_of}
+use Rattle.idl_rules.specs.Rules.{Breach, breach}
+use Rattle.idl_rules.specs.CountRules.{member_of}
+use Rattle.idl_rules.specs.SeenNodes.{seen_construct, seen_result, list_at}
+
+-- a construct that is one too many, or has what is
+abbrev pub one_too_many : Construct → Breach
+one_too_many c = breach 39 (place_in c c.at)
+
+abbrev pub operations_at : program_node.Node → List Construct
+operations_at (node.Operation it parameters) = seen_construct it.construct ∷ []
+operations_at _ = []
+
+abbrev pub parameters_at : {A : Type 0} → List (Vec declared.Declared A) → ℕ → program_node.Node → List Construct
+parameters_at lists limit (node.Operation it parameters) = drop limit (map (λ p. p.construct) (list_at lists parameters))
+parameters_at lists limit _ = []
+
+abbrev pub parts_at : program_node.Node → List Construct
+parts_at (node.Declarator list index it) = member_of (seen_construct it.construct).position (seen_construct it.construct)
+parts_at (node.Result it) = member_of (seen_result it).construct.position (seen_result it).construct
+parts_at (node.Labels c body) = replicate (length (labels_of (seen_type body.now))) (seen_construct c)
+parts_at _ = []

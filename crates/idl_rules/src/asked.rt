@@ -1,0 +1,119 @@
+// What the rules ask of a declarator where it stands.
+ghost use Rattle.std.specs.Prelude.{◌≡◌, ◌++◌, Bool, List, Option, option_map};
+ghost use Rattle.idl_names.specs.Seen.{seen_files};
+ghost use Rattle.idl_rules.specs.World.{World};
+ghost use Rattle.idl_rules.specs.Nodes as rules;
+ghost use Rattle.idl_rules.specs.Rules.{Breach, broken_in};
+ghost use Rattle.idl_rules.specs.Scene.{Scene, chain, below};
+ghost use Rattle.idl_rules.specs.TypeRules.{below_reference};
+ghost use Rattle.idl_rules.specs.VariableRules.{below_pointer};
+ghost use Rattle.idl_rules.specs.Kinds.{type_by, type_at, seen_types};
+ghost use Rattle.idl_rules.specs.SeenNodes.{seen_construct};
+ghost use Rattle.idl_rules.specs.SeenMarks.{IsMark, AreMarks};
+ghost use Rattle.idl_rules.specs.Noted.{noted};
+ghost use Rattle.idl_rules.specs.Found.{seen_breach};
+ghost use Rattle.idl_rules.specs.Asked.{Holds};
+
+use crate::finder::Finder;
+use crate::kinds::{Kind, Kinds};
+use crate::marks::{Mark, Marks};
+use crate::nodes::Construct;
+use crate::types::Typed;
+
+/// A declarator where it stands, with the numbers of its types.
+#[derive(Clone, Copy)]
+pub(crate) struct Asked<'t> {
+    pub(crate) construct: Construct<'t>,
+    pub(crate) typed: Typed,
+    /// Others stand behind it in its list.
+    pub(crate) followed: bool,
+    /// A dimension has a lower bound other than 0.
+    pub(crate) lower_bounds: bool,
+    /// A variable of its attributes is no other member or parameter of its list.
+    pub(crate) no_variable: bool,
+}
+
+/// The types of the program with their marks.
+#[derive(Clone, Copy)]
+pub(crate) struct Judge<'j> {
+    pub(crate) kinds: &'j Kinds,
+    pub(crate) marks: &'j Marks,
+}
+
+/// Of no types.
+const NOTHING: Mark = Mark {
+    holds_void: false,
+    holds_handle: false,
+    holds_pipe: false,
+    holds_context: false,
+    holds_classless: false,
+    holds_reference_behind: false,
+    holds_wrong_count: false,
+    holds_many_not_fixed: false,
+    holds_nonencapsulated: false,
+    holds_wrong_element: false,
+    holds_wrong_pipe: false,
+    holds_deep_array: false,
+    many_dimensions: false,
+    nonencapsulated: false,
+    hoists: false,
+    too_deep: false,
+};
+
+impl<'j> Judge<'j> {
+    /// The kind of a type.
+    pub(crate) fn kind(&self, number: u32) -> Kind
+        ensures { type_by (seen_types self.now.kinds.now) result ≡ type_at self.now.kinds.now number }
+    {
+        self.kinds.kind(number)
+    }
+
+    /// What is marked of a type.
+    pub(crate) fn mark(&self, number: u32) -> Mark
+        ensures is { (s : Scene) → AreMarks s self.now.kinds.now self.now.marks.now → IsMark s (type_at self.now.kinds.now number) result }
+        ensures holds { (s : Scene) → AreMarks s self.now.kinds.now self.now.marks.now → Holds s (chain (type_at self.now.kinds.now number)) result }
+    {
+        self.marks.get(number)
+    }
+
+    /// What is marked of all that a type is made of, without the type itself.
+    pub(crate) fn below(&self, number: u32) -> Mark
+        ensures { (s : Scene) → AreMarks s self.now.kinds.now self.now.marks.now → Holds s (below (type_at self.now.kinds.now number)) result }
+    {
+        match self.kind(number).inner() {
+            Some(inner) => self.mark(inner),
+            None => NOTHING,
+        }
+    }
+
+    /// The same without the type behind it, where it is a reference pointer.
+    pub(crate) fn below_reference(&self, number: u32) -> Mark
+        ensures { (s : Scene) → AreMarks s self.now.kinds.now self.now.marks.now → Holds s (below_reference (type_at self.now.kinds.now number)) result }
+    {
+        match self.kind(number).referent() {
+            Some(to) => self.below(to),
+            None => self.below(number),
+        }
+    }
+
+    /// The same without the type behind it, where it is a pointer.
+    pub(crate) fn below_pointer(&self, number: u32) -> Mark
+        ensures { (s : Scene) → AreMarks s self.now.kinds.now self.now.marks.now → Holds s (below_pointer (type_at self.now.kinds.now number)) result }
+    {
+        match self.kind(number).pointee() {
+            Some(to) => self.below(to),
+            None => self.below(number),
+        }
+    }
+}
+
+/// Notes a rule if it is broken in a construct.
+pub(crate) fn note(finder: &mut Finder<'_>, construct: &Construct<'_>, rule: u8, broken: bool)
+    ensures files { finder.new.files.now ≡ finder.old.files.now }
+    ensures next { (w : World) (first : Option Breach) (before : List Breach) (c : rules.Construct) (is_broken : Bool)
+        → w.files ≡ seen_files finder.old.files.now → seen_construct construct.now ≡ c → broken ≡ is_broken
+        → option_map seen_breach finder.old.first ≡ noted w first before
+        → option_map seen_breach finder.new.first ≡ noted w first (before ++ broken_in c rule is_broken) }
+{
+    finder.note(rule, construct.place(construct.at), broken);
+}

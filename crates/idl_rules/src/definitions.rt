@@ -1,0 +1,344 @@
+// The types of an interface.
+ghost use Rattle.std.specs.Prelude.{◌≡◌, [], None, map, option_map, slice_get, List, MatchOption, IfOk};
+ghost use Rattle.nd_types.specs.declared.types.TypeDef.TheVariants as def;
+ghost use Rattle.idl_grammar.specs.Seen.{seen_type, seen_enumerator};
+ghost use Rattle.idl_names.specs.Seen.{known_in};
+ghost use Rattle.idl_rules.specs.World as world;
+ghost use Rattle.idl_rules.specs.Types.{IdlType, Struct, Union, Enum};
+ghost use Rattle.idl_rules.specs.Meaning as meaning;
+ghost use Rattle.idl_rules.specs.Nodes.{arms_of};
+ghost use Rattle.idl_rules.specs.Scene.{body_of, parts_declared};
+ghost use Rattle.idl_rules.specs.Kinds.{type_by, type_at, basic_in, seen_class};
+ghost use Rattle.idl_rules.specs.SeenNodes.{seen_construct};
+ghost use Rattle.idl_rules.specs.SeenNumbers.{number_at};
+ghost use Rattle.idl_rules.specs.Made.{id, ids_of, tag_id, field_with, each_with, valued, arms_with, default_with, basic_made, IsFound, IsProgram, scene_in};
+
+use crate::arms::{default_arm, labelled_arms, valued_arms};
+use crate::kinds::{Class, Kind};
+use crate::members::{fields, numbered};
+use crate::nodes::{Construct, Node, Nodes};
+use crate::numbering::Numbers;
+use crate::parts::parts;
+use crate::types::{BodyTypes, Types};
+use idl_grammar::{Enumerator, TypeSpec};
+use idl_names::{Meaning, Names, Scope};
+use nd_base::{Memory, Place};
+use nd_types as nd;
+use nd_types::{HANDLE, TypeDef, TypeId};
+use std::alloc::Global;
+
+/// Files, their nodes, and what is noted of these.
+#[derive(Clone, Copy)]
+pub(crate) struct Program<'s, 't> {
+    pub(crate) scope: &'s Scope,
+    pub(crate) nodes: &'s Nodes<'t>,
+    pub(crate) types: &'s Types,
+    pub(crate) numbers: &'s Numbers,
+}
+
+/// A struct, union or enum with its body, and what is noted of it.
+#[derive(Clone, Copy)]
+struct FoundBody<'s, 't> {
+    construct: &'s Construct<'t>,
+    body: &'t TypeSpec,
+    noted: &'s BodyTypes,
+}
+
+/// The number of a type.
+pub(crate) fn number_of(program: &Program<'_, '_>, of: u32) -> TypeId
+    ensures { result ≡ id (number_at program.now.types.now.kinds program.now.numbers.now of) }
+{
+    TypeId(program.numbers.number(&program.types.kinds, of))
+}
+
+/// What is noted of a body, by its number.
+fn noted_at(types: &Types, number: u32) -> Option<&BodyTypes>
+    ensures { option_map (λ b. b.now) result ≡ slice_get types.now.bodies.items number }
+{
+    types.bodies.get(number as usize)
+}
+
+/// A node, by its number.
+pub(crate) fn node_at<'s, 't>(nodes: &'s Nodes<'t>, number: u32) -> Option<&'s Node<'t>>
+    ensures { option_map (λ n. n.now) result ≡ slice_get nodes.now.items.items number }
+{
+    nodes.items.get(number as usize)
+}
+
+/// The body of a place. What is noted of a body names its node; another would be told as want of memory.
+fn body_at<'s, 't>(
+    program: &Program<'s, 't>,
+    place: Place,
+) -> Result<Option<FoundBody<'s, 't>>, Memory>
+    requires { IsProgram program.now }
+    ensures { IfOk result (λ found. MatchOption found (body_of (scene_in program.now) place ≡ None) (IsFound (scene_in program.now) program.now.types.now.kinds place)) }
+{
+    let Some(number) = program.types.body_of(place) else {
+        return Ok(None);
+    };
+    let Some(noted) = noted_at(program.types, number) else {
+        return Err(Memory);
+    };
+    match node_at(program.nodes, noted.node) {
+        Some(Node::Body { construct, body }) => Ok(Some(FoundBody {
+            construct,
+            body,
+            noted,
+        })),
+        _ => Err(Memory),
+    }
+}
+
+/// An enumerated type without values.
+fn nothing(alloc: Global) -> TypeDef
+    ensures { result ≡ def.Enum [] }
+{
+    TypeDef::Enum {
+        values: nd::Numbers::new(alloc),
+    }
+}
+
+/// A struct.
+fn struct_of(
+    alloc: Global,
+    program: &Program<'_, '_>,
+    found: &FoundBody<'_, '_>,
+) -> Result<TypeDef, Memory>
+    ensures { IfOk result (λ d. d ≡ meaning.struct_of (each_with
+        (field_with (parts_declared (seen_construct found.now.construct.now) (seen_type found.now.body.now)))
+        (parts_declared (seen_construct found.now.construct.now) (seen_type found.now.body.now))
+        (ids_of program.now.types.now.kinds program.now.numbers.now found.now.noted.now.parts.items))) }
+{
+    let list = parts(alloc, found.construct, found.body)?;
+    let ids = numbered(
+        alloc,
+        program.numbers,
+        &program.types.kinds,
+        found.noted.parts.as_slice(),
+    )?;
+    let members = fields(alloc, list.as_slice(), ids.as_slice())?;
+    if members.len() == 0 {
+        return Ok(nothing(alloc));
+    }
+    Ok(TypeDef::Struct { members })
+}
+
+/// The number of the type of a union's tag.
+fn tag_number(program: &Program<'_, '_>, tag: Option<u32>) -> TypeId
+    ensures { result ≡ tag_id program.now.types.now.kinds program.now.numbers.now tag }
+{
+    match tag {
+        Some(of) => number_of(program, of),
+        None => HANDLE,
+    }
+}
+
+/// A union.
+fn union_of(
+    alloc: Global,
+    program: &Program<'_, '_>,
+    encapsulated: bool,
+    found: &FoundBody<'_, '_>,
+) -> Result<TypeDef, Memory>
+    ensures { IfOk result (λ d. d ≡ def.Union
+        (tag_id program.now.types.now.kinds program.now.numbers.now found.now.noted.now.tag)
+        encapsulated
+        (arms_with (map (valued (known_in program.now.scope.now)) (arms_of (seen_type found.now.body.now)))
+        (ids_of program.now.types.now.kinds program.now.numbers.now found.now.noted.now.parts.items))
+        (default_with (map (valued (known_in program.now.scope.now)) (arms_of (seen_type found.now.body.now)))
+        (ids_of program.now.types.now.kinds program.now.numbers.now found.now.noted.now.parts.items))) }
+{
+    let list = valued_arms(alloc, program.scope, found.body)?;
+    let ids = numbered(
+        alloc,
+        program.numbers,
+        &program.types.kinds,
+        found.noted.parts.as_slice(),
+    )?;
+    let arms = labelled_arms(alloc, list.as_slice(), ids.as_slice())?;
+    let default = default_arm(alloc, list.as_slice(), ids.as_slice())?;
+    Ok(TypeDef::Union {
+        tag: tag_number(program, found.noted.tag),
+        encapsulated,
+        arms,
+        default,
+    })
+}
+
+/// The number that a name stands for, or 0.
+fn value_of(scope: &Scope, name: &[u8]) -> i128
+    ensures { result ≡ meaning.or_zero (world.number_of (known_in scope.now) name.now) }
+{
+    match scope.meaning(name) {
+        Some(Meaning::Number(number)) => number,
+        Some(Meaning::Type) => 0,
+        Some(Meaning::Other) => 0,
+        None => 0,
+    }
+}
+
+/// An enumerated type.
+fn enum_of(alloc: Global, scope: &Scope, enumerators: &[Enumerator]) -> Result<TypeDef, Memory>
+    ensures { IfOk result (λ d. d ≡ def.Enum
+        (map (λ e. meaning.or_zero (world.number_of (known_in scope.now) e.name.octets)) (map seen_enumerator enumerators.now))) }
+{
+    let mut values = nd::Numbers::new(alloc);
+    for enumerator in enumerators {
+        let value = value_of(scope, enumerator.name.octets.as_slice());
+        match values.push(value) {
+            Ok(()) => {}
+            Err(_) => return Err(Memory),
+        }
+    }
+    Ok(TypeDef::Enum { values })
+}
+
+/// What a place is as a struct. In files that are resolved its body is a struct; another would be told as want of memory.
+fn struct_at(alloc: Global, program: &Program<'_, '_>, place: Place) -> Result<TypeDef, Memory>
+    requires { IsProgram program.now }
+    ensures { IfOk result (λ d. d ≡ meaning.definition (scene_in program.now) (Struct place)) }
+{
+    let Some(found) = body_at(program, place)? else {
+        return Ok(nothing(alloc));
+    };
+    match found.body {
+        TypeSpec::Struct { .. } => struct_of(alloc, program, &found),
+        _ => Err(Memory),
+    }
+}
+
+/// What a place is as a union. In files that are resolved its body is a union; another would be told as want of memory.
+fn union_at(alloc: Global, program: &Program<'_, '_>, place: Place) -> Result<TypeDef, Memory>
+    requires { IsProgram program.now }
+    ensures { IfOk result (λ d. d ≡ meaning.definition (scene_in program.now) (Union place)) }
+{
+    let Some(found) = body_at(program, place)? else {
+        return Ok(nothing(alloc));
+    };
+    match found.body {
+        TypeSpec::EncapsulatedUnion { .. } => union_of(alloc, program, true, &found),
+        TypeSpec::NonEncapsulatedUnion { .. } => union_of(alloc, program, false, &found),
+        _ => Err(Memory),
+    }
+}
+
+/// What a place is as an enumerated type. In files that are resolved its body is an enum; another would be told as want of memory.
+fn enum_at(alloc: Global, program: &Program<'_, '_>, place: Place) -> Result<TypeDef, Memory>
+    requires { IsProgram program.now }
+    ensures { IfOk result (λ d. d ≡ meaning.definition (scene_in program.now) (Enum place)) }
+{
+    let Some(found) = body_at(program, place)? else {
+        return Ok(nothing(alloc));
+    };
+    match found.body {
+        TypeSpec::Enum { enumerators, .. } => enum_of(alloc, program.scope, enumerators.as_slice()),
+        _ => Err(Memory),
+    }
+}
+
+/// A count. Where no rule is broken it has 32 bits; a larger one would be told as want of memory.
+fn bound(count: Option<i128>) -> Result<Option<u32>, Memory>
+    ensures { IfOk result (λ b. b ≡ meaning.bound count) }
+{
+    let Some(count) = count else {
+        return Ok(None);
+    };
+    if count < 0 {
+        return Ok(Some(0));
+    }
+    match u32::try_from(count) {
+        Ok(count) => Ok(Some(count)),
+        Err(_) => Err(Memory),
+    }
+}
+
+/// An array.
+fn array(
+    program: &Program<'_, '_>,
+    element: u32,
+    count: Option<i128>,
+    varying: bool,
+) -> Result<TypeDef, Memory>
+    ensures { IfOk result (λ d. d ≡ def.Array (id (number_at program.now.types.now.kinds program.now.numbers.now element)) (meaning.bound count) varying) }
+{
+    let bound = bound(count)?;
+    Ok(TypeDef::Array {
+        elem: number_of(program, element),
+        bound,
+        varying,
+    })
+}
+
+/// A text.
+fn text(program: &Program<'_, '_>, element: u32, count: Option<i128>) -> Result<TypeDef, Memory>
+    ensures { IfOk result (λ d. d ≡ def.Text (id (number_at program.now.types.now.kinds program.now.numbers.now element)) (meaning.bound count)) }
+{
+    let bound = bound(count)?;
+    Ok(TypeDef::Text {
+        elem: number_of(program, element),
+        bound,
+    })
+}
+
+/// The class of a pointer, which each has by now.
+fn class_of(class: Class) -> nd::Class
+    ensures { result ≡ meaning.pointer_class (seen_class class) }
+{
+    match class {
+        Class::Reference => nd::Class::Ref,
+        Class::Full => nd::Class::Full,
+        Class::Unique | Class::Absent => nd::Class::Unique,
+    }
+}
+
+/// A primitive type, or a context handle.
+fn basic(kind: Kind) -> TypeDef
+    ensures { (types : List IdlType) → result ≡ basic_made (basic_in (type_by types kind)) }
+{
+    match kind.primitive() {
+        Some(primitive) => TypeDef::Prim(primitive),
+        None => TypeDef::Context,
+    }
+}
+
+/// What a type is in the table. Takes memory for it.
+fn definition(alloc: Global, program: &Program<'_, '_>, of: u32) -> Result<TypeDef, Memory>
+    requires { IsProgram program.now }
+    ensures { IfOk result (λ d. d ≡ meaning.definition (scene_in program.now) (type_at program.now.types.now.kinds of)) }
+{
+    match program.types.kinds.kind(of) {
+        Kind::Struct { file, at } => struct_at(alloc, program, Place { file, at }),
+        Kind::Union { file, at } => union_at(alloc, program, Place { file, at }),
+        Kind::Enum { file, at } => enum_at(alloc, program, Place { file, at }),
+        Kind::Array {
+            element,
+            count,
+            varying,
+        } => array(program, element, count, varying),
+        Kind::Text { element, count } => text(program, element, count),
+        Kind::Pointer { class, to } => Ok(TypeDef::Pointer {
+            class: class_of(class),
+            to: number_of(program, to),
+        }),
+        Kind::Pipe { element } => Ok(TypeDef::Pipe {
+            elem: number_of(program, element),
+        }),
+        other => Ok(basic(other)),
+    }
+}
+
+/// The types of the interface. Takes memory for them.
+pub(crate) fn type_table(alloc: Global, program: &Program<'_, '_>) -> Result<nd::Types, Memory>
+    requires { IsProgram program.now }
+    ensures { IfOk result (λ t. t ≡ meaning.types_of (scene_in program.now)) }
+{
+    let mut table = nd::Types::basic(alloc)?;
+    for own in &program.numbers.own {
+        let definition = definition(alloc, program, own.kind)?;
+        match table.push(definition) {
+            Ok(()) => {}
+            Err(_) => return Err(Memory),
+        }
+    }
+    Ok(table)
+}

@@ -1,0 +1,142 @@
+// What the header of a file says.
+ghost use Rattle.std.specs.Prelude.{◌≡◌, ◌∷◌, ℕ, List, map, IfOk};
+ghost use Rattle.idl_lexer.specs.Numbers.{digit_value};
+ghost use Rattle.idl_grammar.specs.Seen.{seen_kind, seen_attribute};
+ghost use Rattle.idl_rules.specs.Attributes.{first_said};
+ghost use Rattle.idl_rules.specs.Meaning.{uuid_from, uuid_said, major_said, minor_said, or_none};
+
+use idl_grammar::{Attribute, AttributeKind};
+use idl_lexer::number_of;
+use nd_base::Memory;
+
+/// The value of a digit of a UUID.
+fn digit_value(digit: u8) -> u8
+    ensures { result ≡ digit_value digit }
+{
+    if digit <= b'9' {
+        digit.saturating_sub(b'0')
+    } else if digit <= b'F' {
+        digit - 55
+    } else {
+        digit.saturating_sub(87)
+    }
+}
+
+/// A number with one more octet of a UUID. No UUID has more than 128 bits, and one that had were told as want of memory.
+fn with_octet(number: u128, octet: u8) -> Result<u128, Memory>
+    ensures { (more : List ℕ) → IfOk result (λ n. uuid_from number (octet ∷ more) ≡ uuid_from n more) }
+{
+    if octet == b'-' {
+        return Ok(number);
+    }
+    let Some(shifted) = number.checked_mul(16) else {
+        return Err(Memory);
+    };
+    match shifted.checked_add(u128::from(digit_value(octet))) {
+        Some(next) => Ok(next),
+        None => Err(Memory),
+    }
+}
+
+/// The number of a UUID.
+fn uuid_of(octets: &[u8]) -> Result<u128, Memory>
+    ensures { IfOk result (λ n. n ≡ uuid_from 0 octets.now) }
+{
+    let mut number = 0;
+    for octet in octets {
+        number = with_octet(number, *octet)?;
+    }
+    Ok(number)
+}
+
+fn uuid_said(kind: &AttributeKind) -> Result<Option<u128>, Memory>
+    ensures { IfOk result (λ u. u ≡ uuid_said (seen_kind kind.now)) }
+{
+    match kind {
+        AttributeKind::Uuid(uuid) => Ok(Some(uuid_of(uuid.octets.as_slice())?)),
+        _ => Ok(None),
+    }
+}
+
+/// The UUID of a header.
+pub(crate) fn uuid(list: &[Attribute]) -> Result<Option<u128>, Memory>
+    ensures { IfOk result (λ u. u ≡ first_said uuid_said (map seen_attribute list.now)) }
+{
+    for attribute in list {
+        if let Some(uuid) = uuid_said(&attribute.kind)? {
+            return Ok(Some(uuid));
+        }
+    }
+    Ok(None)
+}
+
+fn major_said(kind: &AttributeKind) -> Option<u64>
+    ensures { result ≡ major_said (seen_kind kind.now) }
+{
+    match kind {
+        AttributeKind::Version { major, .. } => number_of(major.octets.as_slice()),
+        _ => None,
+    }
+}
+
+fn minor_said(kind: &AttributeKind) -> Option<u64>
+    ensures { result ≡ minor_said (seen_kind kind.now) }
+{
+    match kind {
+        AttributeKind::Version { minor: None, .. } => Some(0),
+        AttributeKind::Version {
+            minor: Some(minor),
+            ..
+        } => number_of(minor.octets.as_slice()),
+        _ => None,
+    }
+}
+
+fn first_major(list: &[Attribute]) -> Option<u64>
+    ensures { result ≡ first_said major_said (map seen_attribute list.now) }
+{
+    for attribute in list {
+        if let Some(major) = major_said(&attribute.kind) {
+            return Some(major);
+        }
+    }
+    None
+}
+
+fn first_minor(list: &[Attribute]) -> Option<u64>
+    ensures { result ≡ first_said minor_said (map seen_attribute list.now) }
+{
+    for attribute in list {
+        if let Some(minor) = minor_said(&attribute.kind) {
+            return Some(minor);
+        }
+    }
+    None
+}
+
+/// A number of a version. Where no rule is broken it has 16 bits; a larger one is told as want of memory.
+fn narrow(number: Option<u64>) -> Result<u16, Memory>
+    ensures { IfOk result (λ n. n ≡ or_none number) }
+{
+    let Some(number) = number else {
+        return Ok(0);
+    };
+    match u16::try_from(number) {
+        Ok(number) => Ok(number),
+        Err(_) => Err(Memory),
+    }
+}
+
+/// The major number of the version of a header.
+pub(crate) fn major(list: &[Attribute]) -> Result<u16, Memory>
+    ensures { IfOk result (λ n. n ≡ or_none (first_said major_said (map seen_attribute list.now))) }
+{
+    narrow(first_major(list))
+}
+
+/// The minor number of the version of a header.
+pub(crate) fn minor(list: &[Attribute]) -> Result<u16, Memory>
+    ensures { IfOk result (λ n. n ≡ or_none (first_said minor_said (map seen_attribute list.now))) }
+{
+    narrow(first_minor(list))
+}

@@ -1,0 +1,105 @@
+// The operations of an interface.
+ghost use Rattle.std.specs.Prelude.{◌≡◌, map, option_map, IfOk};
+ghost use Rattle.idl_rules.specs.Meaning.{operations_of, result_number};
+ghost use Rattle.idl_rules.specs.Kinds.{type_at};
+ghost use Rattle.idl_rules.specs.SeenNodes as seen;
+ghost use Rattle.idl_rules.specs.SeenNodes.{seen_declared};
+ghost use Rattle.idl_rules.specs.SeenOperations.{IsOperation};
+ghost use Rattle.idl_rules.specs.SeenOperations as operations_seen;
+ghost use Rattle.idl_rules.specs.Made.{ids_of, each_with, parameter_with, IsProgram, scene_in, operation_made};
+
+use crate::definitions::{Program, node_at, number_of};
+use crate::kinds::Kind;
+use crate::members::{name_of, numbered, parameters};
+use crate::nodes::{Declared, Node, Returned};
+use crate::types::OperationTypes;
+use nd_base::Memory;
+use nd_types::{Operation, Operations, TypeId};
+use std::alloc::Global;
+
+/// The number of the type of a result, where it is not void.
+fn result_number(program: &Program<'_, '_>, of: u32) -> Option<TypeId>
+    requires { IsProgram program.now }
+    ensures { result ≡ result_number (scene_in program.now) (type_at program.now.types.now.kinds of) }
+{
+    match program.types.kinds.kind(of) {
+        Kind::Void => None,
+        _ => Some(number_of(program, of)),
+    }
+}
+
+/// A list, or the empty one.
+fn or_empty<'s, 't>(list: Option<&'s [Declared<'t>]>) -> &'s [Declared<'t>]
+    ensures { map seen_declared result.now ≡ seen.or_empty (option_map (λ l. map seen_declared l.now) list.entry) }
+{
+    match list {
+        Some(list) => list,
+        None => &[],
+    }
+}
+
+/// An operation. Takes memory for it.
+fn operation_of(
+    alloc: Global,
+    program: &Program<'_, '_>,
+    it: &Returned<'_>,
+    list: &[Declared<'_>],
+    noted: &OperationTypes,
+) -> Result<Operation, Memory>
+    requires { IsProgram program.now }
+    ensures { IfOk result (λ o. o ≡ record {
+      name = it.now.name.now.octets;
+      params = each_with (parameter_with (map seen_declared list.now)) (map seen_declared list.now)
+          (ids_of program.now.types.now.kinds program.now.numbers.now noted.now.parameters.items);
+      result = result_number (scene_in program.now) (type_at program.now.types.now.kinds noted.now.result);
+    }) }
+{
+    let name = name_of(alloc, it.name)?;
+    let ids = numbered(
+        alloc,
+        program.numbers,
+        &program.types.kinds,
+        noted.parameters.as_slice(),
+    )?;
+    let params = parameters(alloc, list, ids.as_slice())?;
+    Ok(Operation {
+        name,
+        params,
+        result: result_number(program, noted.result),
+    })
+}
+
+/// The operation of a node. What is noted of one names its node; another would be told as want of memory.
+fn operation(
+    alloc: Global,
+    program: &Program<'_, '_>,
+    noted: &OperationTypes,
+) -> Result<Operation, Memory>
+    requires { IsProgram program.now }
+    ensures { (o : operations_seen.Called) → IsOperation (scene_in program.now) program.now.nodes.now program.now.types.now.kinds o noted.now
+        → IfOk result (λ made. made ≡ operation_made (scene_in program.now) o) }
+{
+    match node_at(program.nodes, noted.node) {
+        Some(Node::Operation { it, parameters }) => {
+            let list = or_empty(program.nodes.list(*parameters));
+            operation_of(alloc, program, it, list, noted)
+        }
+        _ => Err(Memory),
+    }
+}
+
+/// The operations of the main file, in their order. Takes memory for them.
+pub(crate) fn all_operations(alloc: Global, program: &Program<'_, '_>) -> Result<Operations, Memory>
+    requires { IsProgram program.now }
+    ensures { IfOk result (λ o. o ≡ operations_of (scene_in program.now)) }
+{
+    let mut operations = Operations::new(alloc);
+    for noted in &program.types.operations {
+        let operation = operation(alloc, program, noted)?;
+        match operations.push(operation) {
+            Ok(()) => {}
+            Err(_) => return Err(Memory),
+        }
+    }
+    Ok(operations)
+}

@@ -1,0 +1,88 @@
+// The rules of pointers, and of the types of parameters (C706, sections 4.2.13 to 4.2.20).
+ghost use Rattle.std.specs.Prelude.{◌≡◌, ◌&&◌, not, map, List, Option, option_map};
+ghost use Rattle.idl_names.specs.Seen.{seen_files};
+ghost use Rattle.idl_grammar.specs.Seen.{seen_attribute};
+ghost use Rattle.idl_rules.specs.World.{World};
+ghost use Rattle.idl_rules.specs.Scene.{Scene, Use};
+ghost use Rattle.idl_rules.specs.Rules.{Breach};
+ghost use Rattle.idl_rules.specs.PointerRules as rules;
+ghost use Rattle.idl_rules.specs.Attributes.{has, out_word};
+ghost use Rattle.idl_rules.specs.DeclarationRules.{is_parameter};
+ghost use Rattle.idl_rules.specs.Kinds.{type_at};
+ghost use Rattle.idl_rules.specs.SeenNodes.{seen_position, seen_construct};
+ghost use Rattle.idl_rules.specs.SeenMarks.{AreMarks};
+ghost use Rattle.idl_rules.specs.Noted.{noted};
+ghost use Rattle.idl_rules.specs.Found.{seen_breach};
+ghost use Rattle.idl_rules.specs.Asked.{Holds, asked_use, IsAsked, with_pointers};
+
+use crate::asked::{Asked, Judge, note};
+use crate::declaration_rules::lacks_direction;
+use crate::finder::Finder;
+use crate::nodes::{Construct, Position};
+use crate::type_rules::is_wrong_result;
+use crate::words::{Word, has as has_word, has_class};
+
+/// Rule 26: whether it has a class and is no pointer.
+fn has_class_without_pointer(judge: &Judge<'_>, asked: &Asked<'_>) -> bool
+    ensures { (u : Use) → result ≡ rules.has_class_without_pointer (asked_use judge.now.kinds.now asked.now u) }
+{
+    has_class(asked.construct.attributes) && !judge.kind(asked.typed.declared_as).is_pointer()
+}
+
+/// Whether it is an `[out]` parameter.
+fn is_out(construct: &Construct<'_>) -> bool
+    ensures { result ≡ (is_parameter (seen_position construct.now.position) && has out_word (map seen_attribute construct.now.attributes.now)) }
+{
+    construct.position == Position::Parameter && has_word(construct.attributes, Word::Out)
+}
+
+/// Rule 29: whether a pointer that is [out] alone is no reference pointer.
+fn is_nullable_out(judge: &Judge<'_>, asked: &Asked<'_>) -> bool
+    ensures { (u : Use) → result ≡ rules.is_nullable_out (asked_use judge.now.kinds.now asked.now u) }
+{
+    let of = judge.kind(asked.typed.of);
+    is_out(&asked.construct)
+        && !has_word(asked.construct.attributes, Word::In)
+        && of.is_pointer()
+        && !of.is_reference()
+}
+
+/// Rule 31: whether an out parameter is neither array nor text nor pipe nor pointer.
+fn is_wrong_out(judge: &Judge<'_>, asked: &Asked<'_>) -> bool
+    ensures { (u : Use) → result ≡ rules.is_wrong_out (asked_use judge.now.kinds.now asked.now u) }
+{
+    is_out(&asked.construct) && !judge.kind(asked.typed.of).is_out()
+}
+
+/// Rules 26 to 32 on a declarator.
+pub(crate) fn note_pointers(finder: &mut Finder<'_>, judge: &Judge<'_>, asked: &Asked<'_>)
+    ensures files { finder.new.files.now ≡ finder.old.files.now }
+    ensures next { (w : World) (s : Scene) (u : Use) (first : Option Breach) (before : List Breach)
+        → w.files ≡ seen_files finder.old.files.now → AreMarks s judge.now.kinds.now judge.now.marks.now → IsAsked s judge.now.kinds.now u asked.now
+        → option_map seen_breach finder.old.first ≡ noted w first before
+        → option_map seen_breach finder.new.first ≡ noted w first (with_pointers s u before) }
+{
+    let construct = &asked.construct;
+    note(
+        finder,
+        construct,
+        26,
+        has_class_without_pointer(judge, asked),
+    );
+    note(
+        finder,
+        construct,
+        27,
+        judge.mark(asked.typed.declared_as).holds_classless,
+    );
+    note(
+        finder,
+        construct,
+        28,
+        judge.mark(asked.typed.of).holds_reference_behind,
+    );
+    note(finder, construct, 29, is_nullable_out(judge, asked));
+    note(finder, construct, 30, lacks_direction(construct));
+    note(finder, construct, 31, is_wrong_out(judge, asked));
+    note(finder, construct, 32, is_wrong_result(judge, asked));
+}

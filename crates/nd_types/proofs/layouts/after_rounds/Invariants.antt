@@ -1,0 +1,7 @@
+use Rattle.std.proofs.Common.{◌≡◌}
+use Rattle.nd_types.specs.Rounds.{layouts_after}
+use Rattle.nd_types.proofs.layouts.after_rounds.Given as goal
+
+-- what is known after the rounds so far
+abbrev pub invariant-loop-_round : goal.invariant-loop-_round
+invariant-loop-_round l = l.layouts.items ≡ layouts_after l._round l.types

@@ -1,0 +1,18 @@
+//! How the types of an interface are laid out in a stream (C706, 14.2 and 14.3).
+#![tactic(auto)]
+
+ghost use Rattle.std.specs.Prelude.{◌≡◌, ◌<◌, length};
+ghost use Rattle.nd_types.specs.Layout.{align_of};
+
+use nd_types::{Interface, TypeId};
+
+#[cfg(test)]
+mod tests;
+
+/// The alignment of a type, by its number, which must be that of a type of the interface. It takes no memory.
+pub fn align_of(interface: &Interface, of: TypeId) -> u8
+    requires { of.0 < length interface.now.types }
+    ensures { result ≡ align_of interface.now.types of.0 }
+{
+    interface.align(of)
+}
