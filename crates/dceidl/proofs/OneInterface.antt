@@ -1,8 +1,13 @@
 -- Files mean one interface at most, beside whatever attribute configuration file.
 use Rattle.std.proofs.Common.{◌≡◌, ◌∙◌, ℕ, List, [], ◌∷◌, ◌++◌, Option, Some, None, refl, sym, ap, subst}
+use Rattle.std.proofs.Props.{props}
+use mathlib.Core.HLevel.{is_prop→PathP}
 use Rattle.nd_types.specs.declared.interface.Interface.{Interface}
 use Rattle.nd_types.specs.Rounds.{layouts_of}
-use Rattle.nd_types.proofs.EqualLaws.{same_interface}
+use Rattle.nd_types.specs.declared.layouts.Layout.{Layout}
+use Rattle.nd_types.specs.declared.types.Operation.{Operation}
+use Rattle.nd_types.specs.Table.{Table}
+use Rattle.nd_types.specs.Legal.{IsLegal}
 use Rattle.idl_rules.specs.World.{World}
 use Rattle.idl_rules.specs.Rules.{Breach, breaches}
 use Rattle.idl_rules.specs.FirstBroken.{first_of}
@@ -14,12 +19,28 @@ use Rattle.dceidl.specs.AcfFile.{AcfFile, IsLoadedAcf}
 use Rattle.dceidl.specs.Idl.{Means, resolved_world}
 use Rattle.dceidl.proofs.OneMeaning.{means_one}
 
+-- there is one proof that an interface is legal, and one that its layouts are those of its types
+legal_once : (types : Table) (operations : List Operation) → IsProp (IsLegal types operations)
+legal_once types operations = hlevel props
+
+layouts_once : (types : Table) (layouts : List Layout) → IsProp (layouts ≡ layouts_of types)
+layouts_once types layouts = hlevel props
+
 -- interfaces that mean the same are equal
 same_meant : (i j : Interface) → meant_by i ≡ meant_by j → i ≡ j
 same_meant i j e =
-    let types = ap (λ (m : Meant). m.types) e in
-    same_interface i j (ap (λ (m : Meant). m.name) e) (ap (λ (m : Meant). m.uuid) e) (ap (λ (m : Meant). m.major) e) (ap (λ (m : Meant). m.minor) e)
-    types (i.laid_out ∙ ap layouts_of types ∙ sym j.laid_out) (ap (λ (m : Meant). m.operations) e)
+    let layouts : i.layouts ≡ j.layouts = i.laid_out ∙ ap (λ (m : Meant). layouts_of m.types) e ∙ sym j.laid_out in
+    λ k. record {
+      name = (e k).name;
+      uuid = (e k).uuid;
+      major = (e k).major;
+      minor = (e k).minor;
+      types = (e k).types;
+      layouts = layouts k;
+      operations = (e k).operations;
+      legal = is_prop→PathP (λ l. IsLegal (e l).types (e l).operations) (λ l. legal_once (e l).types (e l).operations) i.legal j.legal k;
+      laid_out = is_prop→PathP (λ l. layouts l ≡ layouts_of (e l).types) (λ l. layouts_once (e l).types (layouts l)) i.laid_out j.laid_out k;
+    }
 
 pub one_interface : (k : List ℕ → Option (List ℕ)) (idl text : List ℕ) (acf : Option (List ℕ)) (i j : Interface) → Means (Some k) idl text acf i
     → Means (Some k) idl text acf j → i ≡ j
