@@ -1,15 +1,18 @@
 //! The program `dceidl` as a library: what a command line asks for is done over sources, sinks and files that its caller makes.
 #![tactic(auto)]
 
+mod acf_reading;
 mod compiling;
 mod decode;
 mod encode;
 mod faults;
 mod input;
 mod join;
+mod judging;
 pub mod laws;
 mod lines;
 mod listed;
+mod loading;
 mod outcome;
 mod position;
 mod ready;
