@@ -82,7 +82,7 @@ module _ (f : FilesSeen) (idl text : List ℕ) (acf : Option (List ℕ)) (held :
   -- they mean one interface, as far as it is read from them
   one_meaning : (i j : Interface) → Means f.held idl text acf i → Means f.held idl text acf j → meant_by i ≡ meant_by j
   one_meaning i j x y =
-      means_one held.0 idl text acf i j (subst (λ (h : Told). Means h idl text acf i) held.1 x) (subst (λ (h : Told). Means h idl text j) held.1 y)
+      means_one held.0 idl text acf i j (subst (λ (h : Told). Means h idl text acf i) held.1 x) (subst (λ (h : Told). Means h idl text acf j) held.1 y)
 
   fault_or_meaning : {B : Type 0} (i : Interface) (r : Refusal) → IsBad r → Means f.held idl text acf i → IsIdlFault f.held idl text acf r → B
   fault_or_meaning i r bad x y =
