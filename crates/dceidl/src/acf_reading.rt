@@ -13,7 +13,7 @@ use idl_names::SyntaxFault;
 use std::alloc::Global;
 
 // The tree of the text of the attribute configuration file of a name.
-pub(crate) fn read_text(alloc: Global, name: &str, text: &[u8]) -> Result<Acf, Refusal>
+pub(crate) fn read_text(alloc: Global, name: &[u8], text: &[u8]) -> Result<Acf, Refusal>
     ensures tree { IfOk result (λ f. IsAcf text.now (seen_acf f)) }
     ensures refused { IfErr result (IsToldAcf name.now text.now) }
 {
@@ -28,14 +28,14 @@ pub(crate) fn read_text(alloc: Global, name: &str, text: &[u8]) -> Result<Acf, R
 }
 
 // The fault of a text that cannot be cut into tokens.
-fn uncut(alloc: Global, name: &str, text: &[u8], fault: LexFault) -> Refusal
+fn uncut(alloc: Global, name: &[u8], text: &[u8], fault: LexFault) -> Refusal
     ensures { IsFault text.now fault → IsToldAcf name.now text.now result }
 {
     match fault {
         LexFault::Memory => Refusal::Memory,
         LexFault::At { at, kind } => or_memory(tell_in(
             alloc,
-            name.as_bytes(),
+            name,
             text,
             at,
             IdlReason::Lexical(kind),
@@ -46,7 +46,7 @@ fn uncut(alloc: Global, name: &str, text: &[u8], fault: LexFault) -> Refusal
 // The fault of tokens that are no attribute configuration file.
 fn unread(
     alloc: Global,
-    name: &str,
+    name: &[u8],
     text: &[u8],
     tokens: &Tokens,
     fault: SyntaxFault,
@@ -54,7 +54,6 @@ fn unread(
     requires { IsOfText tokens.now fault }
     ensures { IsToldUnread name.now text.now tokens.now fault result }
 {
-    let name = name.as_bytes();
     match fault {
         SyntaxFault::Memory => Refusal::Memory,
         SyntaxFault::Syntax { token } => {

@@ -84,7 +84,7 @@ fn judge_text(
     ensures err { (f : FilesSeen) (idl text : List ℕ) → AreResolved f.held idl text (seen_scope sources.now scope.now)
         → IsContent f.held name.now body.now → IfErr result (IsTextCause f idl text (Some name.now)) }
 {
-    let tree = read_text(alloc, name, body)?;
+    let tree = read_text(alloc, name.as_bytes(), body)?;
     judge_tree(alloc, sources, scope, name, body, &tree)
 }
 
