@@ -83,7 +83,7 @@ const DECODED: Case = Case {
     failing_fetches: &[],
     failing_puts: &[],
     failing_notes: &[],
-    room: 1000,
+    room: 2000,
     status: 0,
     out: b"values 1\nop add in\na = 1\nb = 2\nc = 3\n",
     notes: "",
