@@ -1,5 +1,5 @@
 // A task: what is done with the values of an operation's side.
-ghost use Rattle.std.specs.Prelude.{◌≡◌, ℕ, ◌+◌, ◌<◌, ◌≤◌, List, length, option_map, Some, IfOk, IfErr};
+ghost use Rattle.std.specs.Prelude.{◌≡◌, ℕ, ◌+◌, ◌<◌, ◌≤◌, length, option_map, Some, IfOk, IfErr};
 ghost use Rattle.std.specs.List.{slice_get};
 ghost use Rattle.nd_types.specs.declared.interface.Interface.{Interface as InterfaceValue};
 ghost use Rattle.nd_types.specs.declared.types.Operation.{Operation};

@@ -23,12 +23,11 @@ ghost use Rattle.dceidl.specs.declared.refusal.IdlReason.{IdlReason};
 ghost use Rattle.dceidl.specs.Idl.{Means, IsIdlFault};
 ghost use Rattle.dceidl.specs.Ready.{IsNamed};
 ghost use Rattle.dceidl.specs.Words.{command, Work, Compile};
-ghost use Rattle.dceidl.specs.Asked.{HasChunk};
 ghost use Rattle.dceidl.specs.Outside.{files_seen, source_seen, sink_seen, IsUntouched};
 ghost use Rattle.dceidl.specs.Decode.{IsTrailing};
 ghost use Rattle.dceidl.specs.Encode.{home_path};
 ghost use Rattle.dceidl.specs.Lines.{status_of, line_of};
-ghost use Rattle.dceidl.specs.Run.{IsOutcome, IsTaskOutcome, IsDelivered, HasRun, IsTold};
+ghost use Rattle.dceidl.specs.Run.{IsOutcome, IsDelivered, HasRun, IsTold};
 ghost use Rattle.dceidl.specs.Rows.{IsOneOf, ReadsInput, SpeaksOf, IsDueAndMissing, IsDueAndTold, IsDone, IsRefused, IsListing, IsNoListing, Lists, IsSound, IsSoundForFiles, IsAccepted, IsInput, IsHeld, Refuses};
 
 use crate::lines::{line, status};
