@@ -1,5 +1,5 @@
 -- What a run of a task says by itself, from the whole of a run.
-use Rattle.std.proofs.Common.{◌≡◌, ℕ, List, [], Option, Some, sym, ◌∙◌, subst, inl, inr, ◌⊎◌}
+use Rattle.std.proofs.Common.{◌≡◌, ℕ, List, Option, Some, sym, ◌∙◌, subst, inl, inr, ◌⊎◌}
 use Rattle.std.specs.Prelude.{◌≢◌}
 use Rattle.nd_types.specs.declared.interface.Interface.{Interface}
 use Rattle.nd_types.specs.declared.types.Operation.{Operation}
@@ -12,7 +12,7 @@ use Rattle.dceidl.specs.declared.outcome.Outcome.TheVariants.{Done, Refused, Wan
 use Rattle.dceidl.specs.Outside.{FilesSeen, SourceSeen, SinkSeen, HasRisen, Got, IsUntouched}
 use Rattle.dceidl.specs.Words.{command, Work, Compile}
 use Rattle.dceidl.specs.Ready.{IsCompiled, IsReady, IsIdlCause}
-use Rattle.dceidl.specs.Lines.{status_of, line_of}
+use Rattle.dceidl.specs.Lines.{status_of}
 use Rattle.dceidl.specs.Run.{HasRun, IsOutcome, IsDelivered, IsTaskOutcome, IsListingOutcome}
 use Rattle.dceidl.specs.Rows.{IsOneOf, IsDone, IsRefused, IsListing, IsNoListing}
 

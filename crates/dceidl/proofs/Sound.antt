@@ -13,7 +13,6 @@ use Rattle.nd_types.specs.declared.types.Operation.{Operation}
 use Rattle.nd_types.specs.declared.types.Side.{Side}
 use Rattle.nd_types.specs.Operations.{operation_named}
 use Rattle.nd_types.specs.Numbers.{has_number_roots}
-use Rattle.nd_types.specs.Table.{Table}
 use Rattle.nd_graph.specs.Setting.{Setting}
 use Rattle.nd_graph.specs.Fitting.{setting_of}
 use Rattle.idl_rules.specs.Meaning.{Meant}
@@ -30,7 +29,7 @@ use Rattle.dceidl.specs.Ready.{IsNamed, IsCompiled, IsReady, IsFileCause, IsIdlC
 use Rattle.dceidl.specs.Task.{limit_of, IsRead, IsMade, IsContentCause, IsInputCause, IsCause}
 use Rattle.dceidl.specs.Lines.{status_of, line_of}
 use Rattle.dceidl.specs.Run.{HasRun}
-use Rattle.dceidl.specs.Rows.{IsRefused, SpeaksOf, Lists, IsSound, IsSoundForFiles, IsHeld, IsAccepted, IsInput, Refuses}
+use Rattle.dceidl.specs.Rows.{SpeaksOf, Lists, IsSound, IsSoundForFiles, IsHeld, IsAccepted, IsInput, Refuses}
 use Rattle.dceidl.proofs.Causes.{take_whole}
 use Rattle.dceidl.proofs.OneMeaning.{IsBad, means_one, never_both, one_bad, absent_or_means, absent_or_bad}
 use Rattle.dceidl.proofs.Rows.{Ended, ended_done, ended_refused, ended_wanting, ended_unwritten, ended_untold, ended, Listed, listed_done, listed_refused, listed_wanting, listed_unwritten, listed_untold, listed}

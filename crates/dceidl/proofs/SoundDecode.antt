@@ -1,5 +1,5 @@
 -- What `decode` comes to, from how the octets of the input settle it.
-use Rattle.std.proofs.Common.{◌≡◌, ℕ, List, Option, length, sym, ap, ap₂, subst, inl, inr, ◌⊎◌, arith}
+use Rattle.std.proofs.Common.{◌≡◌, ℕ, List, Option, length, ap, ap₂, inl, inr, ◌⊎◌, arith}
 use Rattle.std.specs.Prelude.{map}
 use Rattle.nd_base.specs.declared.octets.Order.{Order}
 use Rattle.nd_types.specs.declared.interface.Interface.{Interface}

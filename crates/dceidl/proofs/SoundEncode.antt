@@ -1,12 +1,9 @@
 -- What `encode` comes to, from how the text of the input settles it.
-use Rattle.std.specs.List.{slice_get}
-use Rattle.std.proofs.Common.{◌≡◌, ℕ, true, List, map, Option, Some, refl, ◌∙◌, ap, ap₂, subst, inl, inr, ◌⊎◌}
+use Rattle.std.proofs.Common.{◌≡◌, ℕ, List, Option, ◌∙◌, ap, ap₂, subst, inl, inr, ◌⊎◌}
 use Rattle.nd_base.specs.declared.octets.Order.{Order}
 use Rattle.nd_types.specs.declared.interface.Interface.{Interface}
 use Rattle.nd_types.specs.declared.types.Operation.{Operation}
 use Rattle.nd_types.specs.declared.types.Side.{Side}
-use Rattle.nd_types.specs.Roots.{roots_of}
-use Rattle.nd_types.specs.Numbers.{has_number_roots}
 use Rattle.nd_graph.specs.Fitting.{setting_of}
 use Rattle.nd_graph.specs.declared.item.Home.{Home}
 use Rattle.nd_graph.specs.declared.misfit.MisfitReason.{MisfitReason}
@@ -15,8 +12,6 @@ use Rattle.nd_graph.specs.Setting.{Setting}
 use Rattle.nd_graph.specs.Conforms.{Conforms}
 use Rattle.nd_graph.specs.FirstMisfit.{IsFirstMisfit}
 use Rattle.nd_graph.proofs.Misfits.{misfit_is_no_fit, one_first_misfit}
-use Rattle.nd_grammar.specs.Primitives.{root_primitive}
-use Rattle.nd_grammar.proofs.PlainSides.{number_side_plain}
 use Rattle.value_text.specs.declared.fault.TextReason.{TextReason}
 use Rattle.value_text.specs.PlainSide.{IsPlainSide}
 use Rattle.value_text.specs.Reads.{ReadsAs, IsTextFault}
