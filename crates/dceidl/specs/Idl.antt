@@ -136,7 +136,7 @@ told_rule s rule place = told_at s place (reason.Rule rule)
 abbrev pub told_beside : List Source → Option AcfFile → ℕ → Place → Refusal
 told_beside s None rule place = told_rule s rule place
 told_beside s (Some f) rule place = elim (eqb place.file acf_file) [
-  true ↦ told_by f.name (position_of f.text place.at) (reason.Rule rule)
+  | true ↦ told_by f.name (position_of f.text place.at) (reason.Rule rule)
   | false ↦ told_rule s rule place
 ]
 

@@ -183,11 +183,7 @@ fn encoding(order: &str, chunk: &str) -> Option<Task>
 fn acf_named(word: &str) -> Option<&str>
     ensures { option_map (λ a. a.now) result ≡ acf_of word.now }
 {
-    if word == "-" {
-        None
-    } else {
-        Some(word)
-    }
+    if word == "-" { None } else { Some(word) }
 }
 
 // The order of octets that a word names.
