@@ -1,5 +1,5 @@
 -- The token of a fault of an attribute configuration file is one of the text, or its end.
-use Rattle.std.proofs.Common.{◌≡◌, ℕ, ◌+◌, ◌<◌, ◌≤◌, true, false, Bool, cond, [], length, refl, sym, subst, arith, Result, Ok, Err}
+use Rattle.std.proofs.Common.{◌≡◌, ℕ, ◌+◌, ◌<◌, ◌≤◌, true, false, Bool, cond, length, refl, sym, subst, arith, Result, Ok, Err}
 use Rattle.std.proofs.lemmas.List.{length-map}
 use Rattle.phrases.specs.Text.{Depth, Ban}
 use Rattle.phrases.specs.Reading.{Fault, Syntax, Passes}

@@ -1,5 +1,5 @@
 -- What compiling answers, from what its steps answer.
-use Rattle.std.proofs.Common.{◌≡◌, ◌∙◌, ◌≤◌, ℕ, arith, List, [], ◌∷◌, length, Option, Some, None, Result, Ok, Err, IfErr, refl, sym, ap, subst, inl, inr}
+use Rattle.std.proofs.Common.{◌≡◌, ◌∙◌, ◌≤◌, ℕ, arith, List, [], ◌∷◌, length, Option, Err, refl, sym, ap, subst, inl, inr}
 use Rattle.phrases.specs.Text.{Depth, Ban}
 use Rattle.phrases.specs.Reading.{Syntax, Passes}
 use Rattle.idl_lexer.specs.Lexed.{Lexed}
@@ -17,7 +17,7 @@ use Rattle.idl_names.specs.Causes.{IsAbsent, IsFailed}
 use Rattle.idl_names.specs.Walk.{Walk, start, all_of, Stopped}
 use Rattle.dceidl.specs.declared.refusal.Refusal.{Refusal}
 use Rattle.dceidl.specs.declared.refusal.Refusal.TheVariants.{Memory}
-use Rattle.dceidl.specs.Idl.{main_file, IsMainFault, IsNameFault, IsIdlFault, IsDueImport, by_names, told_fault, name_in}
+use Rattle.dceidl.specs.Idl.{main_file, IsMainFault, IsNameFault, IsDueImport, by_names, told_fault, name_in}
 use Rattle.idl_lexer.specs.declared.tokens.LexFault.TheVariants as lexical
 use Rattle.nd_base.specs.Outside.{IsContent, IsMissing}
 use Rattle.dceidl.specs.declared.refusal.Refusal.TheVariants.{Absent, FileFailed, BadIdl, NoOperation, NotBuilt, ReadFault, BadOctets, BadText, BadValue}

@@ -6,11 +6,10 @@ use Rattle.nd_base.specs.declared.octets.Place.{Place}
 use Rattle.nd_base.specs.Outside.{IsContent, IsMissing}
 use Rattle.nd_types.specs.declared.interface.Interface.{Interface}
 use Rattle.idl_lexer.specs.Lexed.{Lexed, place_of}
-use Rattle.idl_lexer.specs.Verdict.{AreTokens, IsFault, IsVerdict, Refused}
+use Rattle.idl_lexer.specs.Verdict.{AreTokens, IsVerdict, Refused}
 use Rattle.idl_lexer.specs.declared.tokens.LexKind.{LexKind}
 use Rattle.idl_parser.specs.declared.fault.SyntaxFault.{SyntaxFault}
 use Rattle.idl_parser.specs.declared.fault.SyntaxFault.TheVariants as parser
-use Rattle.idl_names.specs.Files.{IsSyntaxFault}
 use Rattle.idl_names.specs.Sources.{Source}
 use Rattle.idl_names.specs.Walk.{State}
 use Rattle.idl_rules.specs.Rules.{breach}
@@ -25,7 +24,7 @@ use Rattle.dceidl.specs.declared.refusal.IdlReason.{IdlReason}
 use Rattle.dceidl.specs.declared.refusal.IdlReason.TheVariants as reason
 use Rattle.dceidl.specs.declared.refusal.Refusal.{Refusal}
 use Rattle.dceidl.specs.declared.refusal.Refusal.TheVariants.{Memory, Absent, FileFailed, BadIdl, NoOperation, NotBuilt, ReadFault, BadOctets, BadText, BadValue}
-use Rattle.dceidl.specs.AcfFile.{AcfFile, IsAcf, IsNoAcf}
+use Rattle.dceidl.specs.AcfFile.{AcfFile, IsAcf}
 use Rattle.dceidl.specs.Outside.{FilesSeen}
 use Rattle.dceidl.specs.Idl.{AreResolved, Means, resolved_world, IsBroken, by_acf, by_rules, told_by, told_rule, told_beside, word_at, IsAcfFault}
 use Rattle.dceidl.specs.Ready.{IsTextCause}

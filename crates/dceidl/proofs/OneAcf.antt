@@ -1,5 +1,5 @@
 -- A text is an attribute configuration file of one tree, or is refused at one octet for one reason, and never both.
-use Rattle.std.proofs.Common.{◌≡◌, ◌∙◌, ℕ, List, Result, Ok, Err, refl, sym, ap, ap₂, subst}
+use Rattle.std.proofs.Common.{◌≡◌, ◌∙◌, ℕ, List, Result, Ok, Err, refl, sym, ap, ap₂}
 use Rattle.phrases.specs.Reading.{Fault}
 use Rattle.idl_lexer.specs.declared.tokens.Token.{Token}
 use Rattle.idl_lexer.specs.declared.tokens.LexKind.{LexKind}

@@ -1,11 +1,11 @@
 -- A text is a file of one tree, or is refused at one octet for one fault, and never both.
-use Rattle.std.proofs.Common.{◌≡◌, ◌∙◌, ℕ, List, Result, Ok, Err, refl, sym, ap, ap₂, subst, arith}
+use Rattle.std.proofs.Common.{◌≡◌, ◌∙◌, ℕ, List, Result, Ok, Err, sym, ap, ap₂, arith}
 use Rattle.phrases.specs.Text.{Depth, Ban}
 use Rattle.phrases.specs.Reading.{Fault, Syntax, Passes}
 use Rattle.idl_lexer.specs.declared.tokens.Token.{Token}
 use Rattle.idl_lexer.specs.declared.tokens.LexKind.{LexKind}
 use Rattle.idl_lexer.specs.Lexed.{Lexed, place_of}
-use Rattle.idl_lexer.specs.Verdict.{Verdict, IsVerdict, Cut, Refused}
+use Rattle.idl_lexer.specs.Verdict.{IsVerdict, Cut, Refused}
 use Rattle.idl_lexer.proofs.OneVerdict.{one_verdict}
 use Rattle.idl_grammar.specs.Lexemes.{lexemes}
 use Rattle.idl_grammar.specs.Tree.{Tree}

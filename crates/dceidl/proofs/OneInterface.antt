@@ -1,5 +1,5 @@
 -- Files mean one interface at most, beside whatever attribute configuration file.
-use Rattle.std.proofs.Common.{◌≡◌, ◌∙◌, ℕ, List, [], ◌∷◌, ◌++◌, Option, Some, None, refl, sym, ap, subst}
+use Rattle.std.proofs.Common.{◌≡◌, ◌∙◌, ℕ, List, [], ◌∷◌, ◌++◌, Option, Some, None, refl, sym, ap}
 use Rattle.std.proofs.Props.{props}
 use mathlib.Core.HLevel.{is_prop→PathP}
 use Rattle.nd_types.specs.declared.interface.Interface.{Interface}

@@ -1,5 +1,5 @@
 -- Files mean one interface or are refused for one fault, never both, and neither where a file that is due is missing.
-use Rattle.std.proofs.Common.{◌≡◌, ◌∙◌, ℕ, List, [], ◌∷◌, ◌++◌, length, Option, Some, None, refl, sym, ap, subst, inl, inr}
+use Rattle.std.proofs.Common.{◌≡◌, ◌∙◌, ℕ, List, [], ◌∷◌, length, Option, Some, None, refl, sym, ap, subst, inl, inr}
 use Rattle.std.proofs.lemmas.Option.{same_Some}
 use Rattle.nd_base.specs.declared.octets.Place.{Place}
 use Rattle.nd_base.specs.Outside.{IsContent, IsMissing}
@@ -9,24 +9,22 @@ use Rattle.idl_lexer.specs.declared.tokens.LexFault.TheVariants as lexical
 use Rattle.idl_lexer.specs.Verdict.{IsVerdict, Refused}
 use Rattle.idl_grammar.specs.Tree.{Tree}
 use Rattle.idl_parser.specs.declared.fault.SyntaxFault.{SyntaxFault}
-use Rattle.idl_parser.specs.declared.fault.SyntaxFault.TheVariants as syntax
 use Rattle.idl_names.specs.declared.name_fault.NameFault.{NameFault}
 use Rattle.idl_names.specs.declared.name_fault.NameFault.TheVariants as names
 use Rattle.idl_names.specs.Files.{IsFile, IsNoFile}
 use Rattle.idl_names.specs.Known.{first_undefined}
 use Rattle.idl_names.specs.Sources.{Source, and_source}
-use Rattle.idl_names.specs.Walk.{State, Due, Ending, Done, Stopped, Walk, IsUndefinedFault, start, all_of, all_done, goes_on, faults, ends, cycle, again, too_many, absent, failed, uncut, no_file, enters, short, short_in_load, short_after_load}
+use Rattle.idl_names.specs.Walk.{State, Due, Ending, Done, Stopped, Walk, IsUndefinedFault, start, all_of, goes_on, faults, ends, again, absent, failed, enters}
 use Rattle.idl_rules.specs.Rules.{Breach, breach}
 use Rattle.idl_rules.specs.Meaning.{meaning}
 use Rattle.idl_rules.specs.Answers.{meant_by}
-use Rattle.acf_reader.specs.Tree.{Acf}
 use Rattle.idl_check.specs.AcfRules.{first_of_all}
 use Rattle.value_text.specs.Reads.{position_of}
 use Rattle.dceidl.specs.declared.refusal.IdlReason.{IdlReason}
 use Rattle.dceidl.specs.declared.refusal.Refusal.{Refusal}
-use Rattle.dceidl.specs.declared.refusal.Refusal.TheVariants.{Memory, Absent, FileFailed, BadIdl, NoOperation, NotBuilt, ReadFault, BadOctets, BadText, BadValue}
+use Rattle.dceidl.specs.declared.refusal.Refusal.TheVariants.{BadIdl}
 use Rattle.dceidl.specs.AcfFile.{AcfFile, IsAcf, IsLoadedAcf, IsBeside, tree_beside}
-use Rattle.dceidl.specs.Idl.{main_file, resolved_world, AreResolved, Means, IsMainFault, IsNameFault, IsAcfFault, IsBadAcf, IsBroken, IsIdlFault, by_names, by_acf, by_rules, told_by, told_fault, told_beside, IsDueImport, IsDueAcf, IsDueBehind}
+use Rattle.dceidl.specs.Idl.{main_file, resolved_world, AreResolved, Means, IsMainFault, IsNameFault, IsAcfFault, IsBadAcf, IsIdlFault, by_names, by_acf, by_rules, told_by, told_fault, told_beside, IsDueImport, IsDueAcf, IsDueBehind}
 use Rattle.dceidl.proofs.OneFile.{one_tree, one_no_file, one_cut, never_cut, never_file, never_uncut}
 use Rattle.dceidl.proofs.OneAcf.{one_acf, one_acf_fault, never_acf}
 use Rattle.dceidl.proofs.OneWalk.{IsKept, one_end, one_content, not_missing}

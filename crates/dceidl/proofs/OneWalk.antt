@@ -1,5 +1,5 @@
 -- A walk ends in one way, but for want of memory and loads that fail.
-use Rattle.std.proofs.Common.{◌≡◌, ◌∙◌, ℕ, ◌<◌, ◌≤◌, true, false, List, [], ◌∷◌, ◌++◌, length, Option, Some, None, Result, Ok, Err, refl, sym, ap, subst, arith}
+use Rattle.std.proofs.Common.{◌≡◌, ◌∙◌, ℕ, true, false, List, ◌++◌, length, Option, Some, None, Result, Ok, Err, refl, sym, ap, subst, arith}
 use Rattle.std.proofs.lemmas.Option.{same_Some}
 use Rattle.std.specs.Prelude.{option_map}
 use Rattle.nd_base.specs.declared.octets.Place.{Place}
@@ -14,7 +14,7 @@ use Rattle.idl_parser.specs.declared.fault.SyntaxFault.{SyntaxFault}
 use Rattle.idl_names.specs.Files.{IsFile, IsNoFile}
 use Rattle.idl_names.specs.Known.{Known}
 use Rattle.idl_names.specs.Sources.{Source, and_source}
-use Rattle.idl_names.specs.Walk.{State, Due, Ending, Done, Stopped, Walk, IsDue, with_source, all_of, has_ended, all_done, goes_on, faults, ends, cycle, again, too_many, absent, failed, uncut, no_file, enters, short, short_in_load, short_after_load}
+use Rattle.idl_names.specs.Walk.{State, Due, Ending, Done, Stopped, Walk, with_source, all_of, has_ended, all_done, goes_on, faults, ends, cycle, again, too_many, absent, failed, uncut, no_file, enters, short, short_in_load, short_after_load}
 use Rattle.dceidl.proofs.OneFile.{one_tree, one_no_file, one_cut, never_cut, never_file, never_uncut}
 
 -- an ending that is told by the files alone

@@ -1,6 +1,6 @@
 -- What the files of a compilation mean, and for which causes they are refused. `held` tells the contents of files, `idl` is the name of the main file
 -- and `text` its text, and `acf` is the name of the attribute configuration file, if one is named.
-use Rattle.std.specs.Prelude.{◌≡◌, ◌⊎◌, ℕ, true, false, eqb, List, [], ◌∷◌, ◌++◌, length, drop, take_while, Option, None, Some, ⊤}
+use Rattle.std.specs.Prelude.{◌≡◌, ◌⊎◌, ℕ, true, false, eqb, List, [], ◌∷◌, length, drop, take_while, Option, None, Some, ⊤}
 use Rattle.nd_base.specs.declared.octets.Place.{Place}
 use Rattle.nd_base.specs.Outside.{IsContent}
 use Rattle.nd_types.specs.declared.interface.Interface.{Interface}
@@ -136,7 +136,7 @@ told_rule s rule place = told_at s place (reason.Rule rule)
 abbrev pub told_beside : List Source → Option AcfFile → ℕ → Place → Refusal
 told_beside s None rule place = told_rule s rule place
 told_beside s (Some f) rule place = elim (eqb place.file acf_file) [
-  true ↦ told_by f.name (position_of f.text place.at) (reason.Rule rule)
+  | true ↦ told_by f.name (position_of f.text place.at) (reason.Rule rule)
   | false ↦ told_rule s rule place
 ]
 

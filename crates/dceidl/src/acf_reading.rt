@@ -44,13 +44,7 @@ fn uncut(alloc: Global, name: &[u8], text: &[u8], fault: LexFault) -> Refusal
 }
 
 // The fault of tokens that are no attribute configuration file.
-fn unread(
-    alloc: Global,
-    name: &[u8],
-    text: &[u8],
-    tokens: &Tokens,
-    fault: SyntaxFault,
-) -> Refusal
+fn unread(alloc: Global, name: &[u8], text: &[u8], tokens: &Tokens, fault: SyntaxFault) -> Refusal
     requires { IsOfText tokens.now fault }
     ensures { IsToldUnread name.now text.now tokens.now fault result }
 {

@@ -127,7 +127,13 @@ pub(crate) fn tell_beside(
     ensures { (tree : Acf) → IfOk result (λ r. r ≡ told_beside sources.now (Some (record { name = name.now; text = body.now; tree = tree })) rule place) }
 {
     if place.file == ACF_FILE {
-        tell_in(alloc, name.as_bytes(), body, place.at, IdlReason::Rule(rule))
+        tell_in(
+            alloc,
+            name.as_bytes(),
+            body,
+            place.at,
+            IdlReason::Rule(rule),
+        )
     } else {
         tell_rule(alloc, sources, rule, place)
     }

@@ -10,11 +10,7 @@ use nd_base::{FileFault, Files, Octets};
 use std::alloc::Global;
 
 // The content of the file of a name.
-pub(crate) fn load<F: Files>(
-    alloc: Global,
-    name: &str,
-    files: &mut F,
-) -> Result<Octets, Refusal>
+pub(crate) fn load<F: Files>(alloc: Global, name: &str, files: &mut F) -> Result<Octets, Refusal>
     ensures content { IfOk result (IsContent (F.held files.old) name.now) }
     ensures refused { IfErr result (IsLoadCause (files_seen F.held F.absences F.faults files.old files.new) name.now) }
     ensures later { F.faults files.old ≤ F.faults files.new }
