@@ -1,12 +1,11 @@
 -- The numbers of the rounds are the alignments of types, and whether they hoist.
-use Rattle.std.proofs.Common.{◌≡◌, ◌∙◌, ℕ, zero, suc, ◌+◌, Bool, true, false, ◌&&◌, List, [], ◌∷◌, Option, Some, None, refl, ap, sym, map, option_map, zero-add, suc-add}
+use Rattle.std.proofs.Common.{◌≡◌, ◌∙◌, ℕ, zero, suc, ◌+◌, Bool, true, false, List, [], ◌∷◌, Option, Some, None, refl, ap, option_map, zero-add, suc-add}
 use Rattle.std.specs.List.{list_all, slice_get}
 use Rattle.std.proofs.lemmas.Option.{slice_get-map}
 use Rattle.nd_types.specs.declared.types.TypeDef.{TypeDef}
 use Rattle.nd_types.specs.declared.TheConstants.{NESTING_LIMIT}
 use Rattle.nd_types.specs.Table.{Table, type_at}
 use Rattle.nd_types.specs.Layout.{parts, align_of, align_by, align_within, hoists, hoists_by, hoists_within}
-use Rattle.nd_types.specs.declared.layouts.Layout.{Layout}
 use Rattle.nd_types.specs.Rounds.{align_found, hoists_found, align_in, hoists_in, layout_by, round, unknown, layouts_after, layouts_of}
 use Rattle.nd_types.proofs.LayoutLaws.{align_alike, hoists_alike}
 

@@ -43,6 +43,13 @@ impl Layouts {
             items: Vec::from_slice(alloc, &self.items)?,
         })
     }
+
+    // The layouts in the order of the types' numbers.
+    fn as_slice(&self) -> &[Layout]
+        ensures { result.now ≡ self.now }
+    {
+        &self.items
+    }
 }
 
 impl Types {
@@ -62,14 +69,14 @@ impl Interface {
     pub fn align(&self, of: TypeId) -> u8
         ensures { result ≡ align_of self.now.types of.0 }
     {
-        align_in(&self.layouts.items, of)
+        align_in(self.layouts.as_slice(), of)
     }
 
     /// Whether a maximum count stands before the values of a type. It takes no memory.
     pub fn hoists(&self, of: TypeId) -> bool
         ensures { result ≡ hoists self.now.types of.0 }
     {
-        hoists_in(&self.layouts.items, of)
+        hoists_in(self.layouts.as_slice(), of)
     }
 }
 
