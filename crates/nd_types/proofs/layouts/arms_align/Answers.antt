@@ -8,7 +8,7 @@ use Rattle.nd_types.proofs.layouts.arms_align.Goals as goal
 pub loop-arm-init : goal.loop-arm-init
 loop-arm-init c =
     let all = map (align_in c.args.layouts.now) (arm_types c.args.arms.now) in
-    record { some = omega arith; all = one_max (largest all) (some_largest all); }
+    record { some = omega arith; all = one_max (largest all) (some_largest all) }
 
 pub with_arm-align-requires : goal.with_arm-align-requires
 with_arm-align-requires c = c.loop-arm.invariant.some

@@ -8,7 +8,7 @@ use Rattle.nd_types.proofs.layouts.members_align.Goals as goal
 pub loop-member-init : goal.loop-member-init
 loop-member-init c =
     let all = map (λ f. align_in c.args.layouts.now f.of.0) c.args.members.now in
-    record { some = omega arith; all = one_max (largest all) (some_largest all); }
+    record { some = omega arith; all = one_max (largest all) (some_largest all) }
 
 pub loop-member-preserved : goal.loop-member-preserved
 loop-member-preserved c =
