@@ -1,4 +1,4 @@
-use Rattle.std.proofs.Common.{◌≡◌, ◌∙◌, ap, ap₂, sym, refl, [], ◌∷◌, ◌++◌, codes, decimal}
+use Rattle.std.proofs.Common.{◌∙◌, ap, [], ◌∷◌, ◌++◌, codes}
 use Rattle.idl_check.specs.Worded.{behind}
 use Rattle.idl_check.specs.Listing.{version_word, uuid_word}
 use Rattle.idl_check.proofs.WordLists.{first_word, then_words, then_end}

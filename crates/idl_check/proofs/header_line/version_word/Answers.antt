@@ -1,4 +1,4 @@
-use Rattle.std.proofs.Common.{◌≡◌, ◌∙◌, ap, ap₂, sym, refl, [], ◌∷◌, ◌++◌, codes, decimal}
+use Rattle.std.proofs.Common.{◌∙◌, ap, ap₂, [], ◌∷◌, ◌++◌, codes, decimal}
 use Rattle.idl_check.specs.Worded.{behind}
 use Rattle.idl_check.proofs.WordLists.{goes_on}
 use Rattle.idl_check.proofs.header_line.version_word.Goals as goal

@@ -1,4 +1,4 @@
-use Rattle.std.proofs.Common.{◌≡◌, ◌∙◌, ap, ap₂, sym, refl, [], ◌∷◌, ◌++◌, codes, decimal}
+use Rattle.std.proofs.Common.{◌∙◌, ap, [], ◌∷◌, ◌++◌, codes, decimal}
 use Rattle.nd_types.specs.Layout.{align_of, hoists}
 use Rattle.idl_check.specs.Worded.{behind}
 use Rattle.idl_check.specs.Listing.{form, word_if}
