@@ -82,7 +82,7 @@ fn operation(
     ensures files { finder.new.files.now ≡ finder.old.files.now }
     ensures first { (w : World) → w.files ≡ seen_files finder.old.files.now
         → option_map seen_breach finder.new.first ≡ noted w (option_map seen_breach finder.old.first)
-            (breaches_of_operation at attributes.now (map seen_parameter list.now) (option_map (λ ps. map of_idl.seen_parameter ps.now) found)) }
+            (breaches_of_operation at attributes.now (map seen_parameter list.now) (option_map (λ ps. map of_idl.seen_parameter ps.now) found.entry)) }
 {
     match found {
         None => note(finder, at, true),

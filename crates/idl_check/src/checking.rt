@@ -24,7 +24,7 @@ pub fn check(
     scope: &Scope,
     acf: Option<&Acf>,
 ) -> Result<Interface, RuleFault>
-    ensures { AnswersBeside (world_of scope.now) (option_map (λ f. seen_acf f.now) acf) result }
+    ensures { AnswersBeside (world_of scope.now) (option_map (λ f. seen_acf f.now) acf.entry) result }
 {
     let interface = idl_rules::check(alloc, scope)?;
     let Some(acf) = acf else {
