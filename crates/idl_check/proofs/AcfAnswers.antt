@@ -26,7 +26,7 @@ told_on w f e (Err x) h a = subst (λ (y : RuleFault). AnswersBeside w f (Err y)
 
 -- no file
 pub alone : (w : World) (i : Interface) → IsMeaning w i → IsMeaningBeside w None i
-alone w i h = record { keeps = none_beside w ∙ h.keeps; means = h.means; }
+alone w i h = record { keeps = none_beside w ∙ h.keeps; means = h.means }
 
 -- the rule on the file is told
 pub last_told : (w : World) (f : Acf) (b : Breach) (i : Interface) → IsMeaning w i → first_of w (acf_breaches w (Some f)) ≡ Some b → first_of_all w (Some f) ≡ Some b

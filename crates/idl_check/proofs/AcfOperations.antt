@@ -22,6 +22,7 @@ found_put (e ∷ es) name other x = by (found_put es name other x) (bytes_eq nam
   both : (b : Bool) → cond b (Some x) (found other es) ≡ cond b (Some x) (cond b (Some e.1) (found other es))
   both true = refl
   both false = refl
+
   differ : (b d : Bool) → bytes_eq other e.0 ≡ b → bytes_eq other name ≡ d → bytes_eq name e.0 ≡ false
       → cond b (Some e.1) (cond d (Some x) (found other es)) ≡ cond d (Some x) (cond b (Some e.1) (found other es))
   differ true true h k n =
@@ -30,6 +31,7 @@ found_put (e ∷ es) name other x = by (found_put es name other x) (bytes_eq nam
   differ true false h k n = refl
   differ false true h k n = refl
   differ false false h k n = refl
+
   by : found other (put es name x) ≡ cond (bytes_eq other name) (Some x) (found other es) → (b : Bool) → bytes_eq name e.0 ≡ b
       → found other (elim b [ true ↦ (e.0, x) ∷ es | false ↦ e ∷ put es name x ]) ≡ cond (bytes_eq other name) (Some x) (found other (e ∷ es))
   by rest true k =
@@ -74,7 +76,7 @@ pub one_before : (all : List Export) (k i : ℕ) (x : Export) (old new : List (L
 one_before all k i x old new below e next h added =
     let next_one : k + 1 ≡ suc k = omega arith in
     let these : x ∷ drop (suc k) all ≡ drop k all =
-        ap (λ j. x ∷ drop j all) (sym next_one) ∙ ap (λ y. y ∷ drop (k + 1) all) (sym (get_or_from_slice_get all k x x e)) ∙ sym (drop_more all k x below) in
+    ap (λ j. x ∷ drop j all) (sym next_one) ∙ ap (λ y. y ∷ drop (k + 1) all) (sym (get_or_from_slice_get all k x x e)) ∙ sym (drop_more all k x below) in
     subst (λ l. AreOperations k l new) these (added (drop (suc k) all) (subst (λ j. AreOperations j (drop j all) old) (sym next) h))
 
 -- the parameters of the declaration of a number
@@ -89,6 +91,7 @@ same_place all [] i there name = refl
 same_place all (e ∷ es) i there name = by e (there 0) (same_place all es (suc i) (λ k. ap (slice_get all) (omega arith) ∙ there (suc k)) name) where
   at_it : (e : Export) → slice_get all (i + 0) ≡ Some e → slice_get all i ≡ Some e
   at_it e h = ap (slice_get all) (omega arith) ∙ h
+
   by : (e : Export) → slice_get all (i + 0) ≡ Some e → parameters_at all (number_of name.octets (suc i) es) ≡ parameters_found name es
       → parameters_at all (number_of name.octets i (e ∷ es)) ≡ parameters_found name (e ∷ es)
   by (idl.Operation at a r n ps) h rest = either (bytes_eq name.octets n.octets) where

@@ -9,7 +9,8 @@ use std::alloc::Global;
 use std::process::Abort;
 use std::test::Fail;
 
-const IDL: &[u8] = b"[local] interface t { const long C = 1; typedef struct s { long a; } n; void f([in] n a, [in] n b); }";
+const IDL: &[u8] =
+    b"[local] interface t { const long C = 1; typedef struct s { long a; } n; void f([in] n a, [in] n b); }";
 
 /// What is known after a file.
 fn scope_of(alloc: Global, text: &[u8]) -> Result<Scope, Fail> {
@@ -56,23 +57,53 @@ fn the_interface_is_that_of_the_idl(rt: HostRuntime) -> Result<(), Fail> {
     let alloc = rt.alloc();
     assert_told(&rt, alloc, b"interface t { }", None)?;
     assert_told(&rt, alloc, b"interface T { }", Some(0))?;
-    assert_told(&rt, alloc, b"[implicit_handle(n h), code, code] interface t { }", None)?;
-    assert_told(&rt, alloc, b"[implicit_handle(s h)] interface t { }", Some(0))?;
-    assert_told(&rt, alloc, b"[code, implicit_handle(C h)] interface t { }", Some(0))
+    assert_told(
+        &rt,
+        alloc,
+        b"[implicit_handle(n h), code, code] interface t { }",
+        None,
+    )?;
+    assert_told(
+        &rt,
+        alloc,
+        b"[implicit_handle(s h)] interface t { }",
+        Some(0),
+    )?;
+    assert_told(
+        &rt,
+        alloc,
+        b"[code, implicit_handle(C h)] interface t { }",
+        Some(0),
+    )
 }
 
 #[test]
 fn types_are_of_the_idl(rt: HostRuntime) -> Result<(), Fail> {
     let alloc = rt.alloc();
     assert_told(&rt, alloc, b"interface t { typedef [heap] n, n; }", None)?;
-    assert_told(&rt, alloc, b"interface t { typedef [heap] n, s; }", Some(14))?;
-    assert_told(&rt, alloc, b"interface t { f(); typedef [heap] C; }", Some(19))
+    assert_told(
+        &rt,
+        alloc,
+        b"interface t { typedef [heap] n, s; }",
+        Some(14),
+    )?;
+    assert_told(
+        &rt,
+        alloc,
+        b"interface t { f(); typedef [heap] C; }",
+        Some(19),
+    )
 }
 
 #[test]
 fn operations_and_parameters_are_of_the_idl(rt: HostRuntime) -> Result<(), Fail> {
     let alloc = rt.alloc();
-    assert_told(&rt, alloc, b"interface t { include \"x.h\"; f(b, a, a); f(); }", None)?;
+    assert_told(
+        &rt,
+        alloc,
+        b"interface t { include \"x.h\"; f(b, a, a); f(); }",
+        None,
+    )?;
     assert_told(&rt, alloc, b"interface t { f(a); [code] g(a); }", Some(20))?;
     assert_told(&rt, alloc, b"interface t { n(); }", Some(14))?;
     assert_told(&rt, alloc, b"interface t { f(a, [heap] c); }", Some(19))?;

@@ -20,5 +20,5 @@ returns c =
     (c.note.ensures.first w (ap seen_files (sym c.new-finder.ensures.files))
     ∙ ap (λ b. noted w (option_map seen_breach c.new-finder.result.first) (broken_at c.args.acf.now.at b)) c.breaks_header.ensures)
     (c.elements.ensures.first w main (ap seen_files (sym (c.note.ensures.files ∙ c.new-finder.ensures.files)))
-        (ap (map of_idl.seen_export) (sym (c.in_ok-operations.ensures ∙ c.as_slice.ensures.value)))
+    (ap (map of_idl.seen_export) (sym (c.in_ok-operations.ensures ∙ c.as_slice.ensures.value)))
     ∙ ap (λ l. noted w (option_map seen_breach c.note.new.finder.first) (flat_map (breaches_of_element w.known main) (map seen_element l))) c.as_slice-2.ensures.value)

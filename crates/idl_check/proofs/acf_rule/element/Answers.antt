@@ -28,4 +28,4 @@ returns-in-Operation-clause-first c w main files exports =
     (c.operation.ensures.first w files
     ∙ ap (λ l. noted w start l)
     (operation_is c.in-Operation.at c.attribute_list.ensures (ap (map seen_parameter) c.as_slice-in-Operation.ensures.value)
-        (c.parameters.ensures ∙ ap (parameters_found c.in-Operation.name) (sym exports))))
+    (c.parameters.ensures ∙ ap (parameters_found c.in-Operation.name) (sym exports))))

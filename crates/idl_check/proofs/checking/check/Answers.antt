@@ -28,7 +28,7 @@ returns-in-Some-2 c =
     let told = sym c.in_ok-first.ensures ∙ ap (option_map seen_breach) c.in-Some-2.is in
     subst (λ o. AnswersBeside w (option_map (λ f. seen_acf f.now) o) (Err c.broken.result)) (sym c.in-Some.is)
     (subst (λ (e : RuleFault). AnswersBeside w (Some f) (Err e)) (sym c.broken.ensures)
-        (last_told w f (seen_breach c.in-Some-2.first) c.in_ok-interface.interface c.in_ok-interface.ensures told))
+    (last_told w f (seen_breach c.in-Some-2.first) c.in_ok-interface.interface c.in_ok-interface.ensures told))
 
 -- kept by the file
 pub returns-in-None : goal.returns-in-None
@@ -36,4 +36,4 @@ returns-in-None c =
     let w = world_of c.args.scope.now in
     subst (λ o. IsMeaningBeside w (option_map (λ f. seen_acf f.now) o) c.in_ok-interface.interface) (sym c.in-Some.is)
     (kept_beside w (seen_acf c.in-Some.acf.now) c.in_ok-interface.interface c.in_ok-interface.ensures
-        (sym c.in_ok-first.ensures ∙ ap (option_map seen_breach) c.in-None.is))
+    (sym c.in_ok-first.ensures ∙ ap (option_map seen_breach) c.in-None.is))
