@@ -1,5 +1,5 @@
 -- What a task answers, from what its steps answer.
-use Rattle.std.proofs.Common.{◌≡◌, ◌∙◌, ℕ, zero, suc, ◌<◌, ◌≤◌, true, List, [], ◌∷◌, length, Some, Result, Ok, Err, IfOk, IfErr, refl, sym, ap, subst, inr, take, arith}
+use Rattle.std.proofs.Common.{◌≡◌, ◌∙◌, ℕ, zero, suc, ◌<◌, ◌≤◌, true, List, [], ◌∷◌, length, Option, Some, Result, Ok, Err, IfOk, IfErr, refl, sym, ap, subst, inr, take, arith}
 use Rattle.std.specs.List.{slice_get}
 use Rattle.nd_base.specs.declared.octets.Order.{Order}
 use Rattle.nd_types.specs.declared.interface.Interface.{Interface}
@@ -30,52 +30,52 @@ item_at (x ∷ xs) zero h = (x, refl)
 item_at (x ∷ xs) (suc i) h = item_at xs i (omega (arith, h))
 
 -- an interface that files mean, and its operation, are ready
-pub ready_is : (f : FilesSeen) (idl op : List ℕ) (side : Side) (i : Interface) → IsCompiled f idl i → (result : Result Ready Refusal)
+pub ready_is : (f : FilesSeen) (idl : List ℕ) (acf : Option (List ℕ)) (op : List ℕ) (side : Side) (i : Interface) → IsCompiled f idl acf i → (result : Result Ready Refusal)
     → IfOk result (λ r. r.interface ≡ i) → IfOk result (λ r. operation_named i.operations op ≡ Some r.number) → IfOk result (λ r. r.side ≡ side)
     → IfOk result (λ r. r.number < length r.interface.operations)
     → IfOk result (λ r. IsNumberSide r.interface.types r.interface.operations r.number r.side)
-    → IfOk result (λ r. (o : Operation) × IsReady f idl op side r.interface r.number o)
-ready_is f idl op side i compiled (Ok r) same named sided known built =
+    → IfOk result (λ r. (o : Operation) × IsReady f idl acf op side r.interface r.number o)
+ready_is f idl acf op side i compiled (Ok r) same named sided known built =
     let (o, there) = item_at r.interface.operations r.number known in (
       o,
       record {
-        compiled = subst (IsCompiled f idl) (sym same) compiled;
+        compiled = subst (IsCompiled f idl acf) (sym same) compiled;
         named = record { found = ap (λ (j : Interface). operation_named j.operations op) same ∙ named; is_there = there };
         built = subst (λ s. has_number_roots r.interface.types s o ≡ true) sided (built o there);
       },
     )
-ready_is f idl op side i compiled (Err e) same named sided known built = tt
+ready_is f idl acf op side i compiled (Err e) same named sided known built = tt
 
-not_found : (f : FilesSeen) (idl op : List ℕ) (side : Side) (i : Interface) → IsCompiled f idl i → (e : Refusal) → IsNotFound i op side e → IsFileCause f idl op side e
-not_found f idl op side i compiled NoOperation cause = (i, compiled, cause)
-not_found f idl op side i compiled NotBuilt (n, o, named, unbuilt) = (i, n, o, compiled, named, unbuilt)
-not_found f idl op side i compiled Memory cause = absurd cause
-not_found f idl op side i compiled (Absent file) cause = absurd cause
-not_found f idl op side i compiled (FileFailed file) cause = absurd cause
-not_found f idl op side i compiled (BadIdl file line column reason) cause = absurd cause
-not_found f idl op side i compiled ReadFault cause = absurd cause
-not_found f idl op side i compiled (BadOctets place why) cause = absurd cause
-not_found f idl op side i compiled (BadText line column reason) cause = absurd cause
-not_found f idl op side i compiled (BadValue path reason) cause = absurd cause
+not_found : (f : FilesSeen) (idl : List ℕ) (acf : Option (List ℕ)) (op : List ℕ) (side : Side) (i : Interface) → IsCompiled f idl acf i → (e : Refusal) → IsNotFound i op side e → IsFileCause f idl acf op side e
+not_found f idl acf op side i compiled NoOperation cause = (i, compiled, cause)
+not_found f idl acf op side i compiled NotBuilt (n, o, named, unbuilt) = (i, n, o, compiled, named, unbuilt)
+not_found f idl acf op side i compiled Memory cause = absurd cause
+not_found f idl acf op side i compiled (Absent file) cause = absurd cause
+not_found f idl acf op side i compiled (FileFailed file) cause = absurd cause
+not_found f idl acf op side i compiled (BadIdl file line column reason) cause = absurd cause
+not_found f idl acf op side i compiled ReadFault cause = absurd cause
+not_found f idl acf op side i compiled (BadOctets place why) cause = absurd cause
+not_found f idl acf op side i compiled (BadText line column reason) cause = absurd cause
+not_found f idl acf op side i compiled (BadValue path reason) cause = absurd cause
 
 -- where the operation is not found or not built, that is the cause
-pub find_refused : (f : FilesSeen) (idl op : List ℕ) (side : Side) (i : Interface) → IsCompiled f idl i → (result : Result Ready Refusal)
-    → IfErr result (IsNotFound i op side) → IfErr result (IsFileCause f idl op side)
-find_refused f idl op side i compiled (Ok r) cause = tt
-find_refused f idl op side i compiled (Err e) cause = not_found f idl op side i compiled e cause
+pub find_refused : (f : FilesSeen) (idl : List ℕ) (acf : Option (List ℕ)) (op : List ℕ) (side : Side) (i : Interface) → IsCompiled f idl acf i → (result : Result Ready Refusal)
+    → IfErr result (IsNotFound i op side) → IfErr result (IsFileCause f idl acf op side)
+find_refused f idl acf op side i compiled (Ok r) cause = tt
+find_refused f idl acf op side i compiled (Err e) cause = not_found f idl acf op side i compiled e cause
 
 -- why the files mean no interface is why they are refused
-pub idl_refused : (f : FilesSeen) (idl op : List ℕ) (side : Side) (e : Refusal) → IsIdlCause f idl e → IsFileCause f idl op side e
-idl_refused f idl op side Memory cause = tt
-idl_refused f idl op side (Absent file) cause = cause
-idl_refused f idl op side (FileFailed file) cause = cause
-idl_refused f idl op side (BadIdl file line column reason) cause = cause
-idl_refused f idl op side NoOperation cause = absurd cause
-idl_refused f idl op side NotBuilt cause = absurd cause
-idl_refused f idl op side ReadFault cause = absurd cause
-idl_refused f idl op side (BadOctets place why) cause = absurd cause
-idl_refused f idl op side (BadText line column reason) cause = absurd cause
-idl_refused f idl op side (BadValue path reason) cause = absurd cause
+pub idl_refused : (f : FilesSeen) (idl : List ℕ) (acf : Option (List ℕ)) (op : List ℕ) (side : Side) (e : Refusal) → IsIdlCause f idl acf e → IsFileCause f idl acf op side e
+idl_refused f idl acf op side Memory cause = tt
+idl_refused f idl acf op side (Absent file) cause = cause
+idl_refused f idl acf op side (FileFailed file) cause = cause
+idl_refused f idl acf op side (BadIdl file line column reason) cause = cause
+idl_refused f idl acf op side NoOperation cause = absurd cause
+idl_refused f idl acf op side NotBuilt cause = absurd cause
+idl_refused f idl acf op side ReadFault cause = absurd cause
+idl_refused f idl acf op side (BadOctets place why) cause = absurd cause
+idl_refused f idl acf op side (BadText line column reason) cause = absurd cause
+idl_refused f idl acf op side (BadValue path reason) cause = absurd cause
 
 pub take_whole : (n : ℕ) (xs : List ℕ) → length xs ≤ n → take n xs ≡ xs
 take_whole zero [] h = refl
@@ -121,16 +121,16 @@ input_refused s w task octets read (Ok made) cause = tt
 input_refused s w task octets read (Err e) cause = content_cause s w task octets read e cause
 
 -- where the file is ready, the task was done or refused by the input
-pub task_done : (f : FilesSeen) (s : SourceSeen) (task : Task) (idl op : List ℕ) (side : Side) (i : Interface) (n : ℕ) (o : Operation) → IsReady f idl op side i n o
+pub task_done : (f : FilesSeen) (s : SourceSeen) (task : Task) (idl : List ℕ) (acf : Option (List ℕ)) (op : List ℕ) (side : Side) (i : Interface) (n : ℕ) (o : Operation) → IsReady f idl acf op side i n o
     → (result : Result (List ℕ) Refusal) → IfOk result (IsMadeOfInput s task (setting_of i o side))
-    → IfOk result (λ made. (i' : Interface) × (n' : ℕ) × (o' : Operation) × IsReady f idl op side i' n' o' × IsMadeOfInput s task (setting_of i' o' side) made)
-task_done f s task idl op side i n o ready (Ok made) of_input = (i, n, o, ready, of_input)
-task_done f s task idl op side i n o ready (Err e) of_input = tt
+    → IfOk result (λ made. (i' : Interface) × (n' : ℕ) × (o' : Operation) × IsReady f idl acf op side i' n' o' × IsMadeOfInput s task (setting_of i' o' side) made)
+task_done f s task idl acf op side i n o ready (Ok made) of_input = (i, n, o, ready, of_input)
+task_done f s task idl acf op side i n o ready (Err e) of_input = tt
 
-pub task_refused : (f : FilesSeen) (s : SourceSeen) (task : Task) (idl op : List ℕ) (side : Side) (i : Interface) (n : ℕ) (o : Operation) → IsReady f idl op side i n o
-    → (result : Result (List ℕ) Refusal) → IfErr result (IsInputCause s task (setting_of i o side)) → IfErr result (IsCause f s task idl op side)
-task_refused f s task idl op side i n o ready (Ok made) cause = tt
-task_refused f s task idl op side i n o ready (Err e) cause = inr (i, n, o, ready, cause)
+pub task_refused : (f : FilesSeen) (s : SourceSeen) (task : Task) (idl : List ℕ) (acf : Option (List ℕ)) (op : List ℕ) (side : Side) (i : Interface) (n : ℕ) (o : Operation) → IsReady f idl acf op side i n o
+    → (result : Result (List ℕ) Refusal) → IfErr result (IsInputCause s task (setting_of i o side)) → IfErr result (IsCause f s task idl acf op side)
+task_refused f s task idl acf op side i n o ready (Ok made) cause = tt
+task_refused f s task idl acf op side i n o ready (Err e) cause = inr (i, n, o, ready, cause)
 
 -- octets behind a graph that conforms are what is left over
 pub left_over : (w : Setting) (order : Order) (octets : List ℕ) (taken : ℕ) (g : Graph) → BeginsWith w order octets taken g → (result : Result (List ℕ) Refusal)

@@ -1,8 +1,7 @@
 -- What compiling answers, from what its steps answer.
-use Rattle.std.proofs.Common.{◌≡◌, ◌∙◌, ◌≤◌, ℕ, arith, List, [], ◌∷◌, length, Option, Some, Result, Ok, Err, refl, sym, ap, subst, inl, inr}
+use Rattle.std.proofs.Common.{◌≡◌, ◌∙◌, ◌≤◌, ℕ, arith, List, [], ◌∷◌, length, Option, Some, None, Result, Ok, Err, IfErr, refl, sym, ap, subst, inl, inr}
 use Rattle.phrases.specs.Text.{Depth, Ban}
 use Rattle.phrases.specs.Reading.{Syntax, Passes}
-use Rattle.nd_base.specs.declared.octets.Place.{Place}
 use Rattle.idl_lexer.specs.Lexed.{Lexed}
 use Rattle.idl_lexer.specs.Verdict.{AreTokens}
 use Rattle.idl_grammar.specs.Lexemes.{lexemes}
@@ -15,12 +14,10 @@ use Rattle.idl_names.specs.declared.name_fault.NameFault.{NameFault}
 use Rattle.idl_names.specs.declared.name_fault.NameFault.TheVariants as names
 use Rattle.idl_names.specs.Sources.{Source, source, and_source}
 use Rattle.idl_names.specs.Causes.{IsAbsent, IsFailed}
-use Rattle.idl_names.specs.Walk.{State, Walk, start, all_of, Stopped}
-use Rattle.idl_rules.specs.Rules.{breach}
-use Rattle.idl_rules.specs.FirstBroken.{first_broken}
+use Rattle.idl_names.specs.Walk.{Walk, start, all_of, Stopped}
 use Rattle.dceidl.specs.declared.refusal.Refusal.{Refusal}
 use Rattle.dceidl.specs.declared.refusal.Refusal.TheVariants.{Memory}
-use Rattle.dceidl.specs.Idl.{main_file, AreResolved, resolved_world, IsMainFault, IsNameFault, IsIdlFault, IsDueImport, by_names, by_rules, told_rule, told_fault, name_in}
+use Rattle.dceidl.specs.Idl.{main_file, IsMainFault, IsNameFault, IsIdlFault, IsDueImport, by_names, told_fault, name_in}
 use Rattle.idl_lexer.specs.declared.tokens.LexFault.TheVariants as lexical
 use Rattle.nd_base.specs.Outside.{IsContent, IsMissing}
 use Rattle.dceidl.specs.declared.refusal.Refusal.TheVariants.{Absent, FileFailed, BadIdl, NoOperation, NotBuilt, ReadFault, BadOctets, BadText, BadValue}
@@ -28,7 +25,7 @@ use Rattle.nd_base.specs.Counts.{Rose}
 use Rattle.dceidl.specs.Outside.{FilesSeen, HasRisen}
 use Rattle.dceidl.specs.Ready.{IsTextCause, IsIdlCause}
 use Rattle.dceidl.proofs.Walks.{walk_absent, walk_failed, last_source}
-use Rattle.dceidl.specs.Reading.{IsToldUnparsed, IsOrMemory}
+use Rattle.dceidl.specs.Reading.{IsToldUnparsed, IsOrMemory, IsLoadCause}
 
 -- tokens that are no file of the language are a main file that is refused
 pub unparsed_main : (text : List ℕ) (l : Lexed) → l.text ≡ text → AreTokens text l.tokens → (f : SyntaxFault)
@@ -43,15 +40,6 @@ unparsed_main text l same tokens (parser.Deep k) h r told =
 unparsed_main text l same tokens (parser.Banned k) h r told =
     subst (IsMainFault text) (sym told)
     (refl, record { lexed = l; told = Passes Ban k; token = k; is_told = (refl, refl); read = record { text_is = same; tokens = tokens; answered = h }; octet = refl })
-
--- a rule that is broken is told, unless memory was wanting
-pub rule_fault : (f : FilesSeen) (idl text : List ℕ) (state : State) → AreResolved f.held idl text state → (rule : ℕ) (place : Place)
-    → first_broken (resolved_world state) ≡ Some (breach rule place) → (told : Refusal) → IsOrMemory (told_rule state.sources rule place) told
-    → IsTextCause f idl text told
-rule_fault f idl text state resolved rule place first told (inl is) =
-    subst (IsTextCause f idl text) (sym is)
-    (by_rules state.sources rule place (record { state = state; resolved = resolved; sources_are = refl; first = first }) refl)
-rule_fault f idl text state resolved rule place first told (inr is) = subst (IsTextCause f idl text) (sym is) tt
 
 -- one source is a main file
 pub one_source : (s : List Source) → length s ≡ 1 → (idl : List ℕ) × (text : List ℕ) × (s ≡ main_file idl text)
@@ -124,54 +112,88 @@ failed_due held idl text sources n (inr (tree, parsed, inl walk)) =
           (subst (λ k. Walk held (start (main_file idl text)) (all_of 0 tree) (Stopped sources (names.Failed k))) r.number walk);
     })
 
-fault_cause : (f : FilesSeen) (idl text : List ℕ) (sources : List Source) (x : NameFault) → IsNameFault f.held idl text sources x
-    → IsAbsent f.absences.before f.absences.now x → IsFailed f.faults.before f.faults.now x → IsTextCause f idl text (told_fault sources x)
-fault_cause f idl text sources names.Memory h a b = tt
-fault_cause f idl text sources (names.Unknown p) h a b = by_names sources (names.Unknown p) h refl
-fault_cause f idl text sources (names.Twice p q) h a b = by_names sources (names.Twice p q) h refl
-fault_cause f idl text sources (names.Const p c) h a b = by_names sources (names.Const p c) h refl
-fault_cause f idl text sources (names.ImportCycle p) h a b = by_names sources (names.ImportCycle p) h refl
-fault_cause f idl text sources (names.TooMany p) h a b = by_names sources (names.TooMany p) h refl
-fault_cause f idl text sources (names.Absent n) h a b = let d = absent_due f.held idl text sources n h in (a, d.0, d.1)
-fault_cause f idl text sources (names.Failed n) h a b = (b, failed_due f.held idl text sources n h)
-fault_cause f idl text sources (names.Lex n lexical.Memory) h a b = tt
-fault_cause f idl text sources (names.Lex n (lexical.At at kind)) h a b = by_names sources (names.Lex n (lexical.At at kind)) h refl
-fault_cause f idl text sources (names.Syntax n at parser.Memory) h a b = tt
-fault_cause f idl text sources (names.Syntax n at (parser.Syntax k)) h a b = by_names sources (names.Syntax n at (parser.Syntax k)) h refl
-fault_cause f idl text sources (names.Syntax n at (parser.Deep k)) h a b = by_names sources (names.Syntax n at (parser.Deep k)) h refl
-fault_cause f idl text sources (names.Syntax n at (parser.Banned k)) h a b = by_names sources (names.Syntax n at (parser.Banned k)) h refl
+fault_cause : (f : FilesSeen) (idl text : List ℕ) (acf : Option (List ℕ)) (sources : List Source) (x : NameFault) → IsNameFault f.held idl text sources x
+    → IsAbsent f.absences.before f.absences.now x → IsFailed f.faults.before f.faults.now x → IsTextCause f idl text acf (told_fault sources x)
+fault_cause f idl text acf sources names.Memory h a b = tt
+fault_cause f idl text acf sources (names.Unknown p) h a b = by_names sources (names.Unknown p) h refl
+fault_cause f idl text acf sources (names.Twice p q) h a b = by_names sources (names.Twice p q) h refl
+fault_cause f idl text acf sources (names.Const p c) h a b = by_names sources (names.Const p c) h refl
+fault_cause f idl text acf sources (names.ImportCycle p) h a b = by_names sources (names.ImportCycle p) h refl
+fault_cause f idl text acf sources (names.TooMany p) h a b = by_names sources (names.TooMany p) h refl
+fault_cause f idl text acf sources (names.Absent n) h a b = let d = absent_due f.held idl text sources n h in (a, inl d.0, d.1)
+fault_cause f idl text acf sources (names.Failed n) h a b = (b, inl (failed_due f.held idl text sources n h))
+fault_cause f idl text acf sources (names.Lex n lexical.Memory) h a b = tt
+fault_cause f idl text acf sources (names.Lex n (lexical.At at kind)) h a b = by_names sources (names.Lex n (lexical.At at kind)) h refl
+fault_cause f idl text acf sources (names.Syntax n at parser.Memory) h a b = tt
+fault_cause f idl text acf sources (names.Syntax n at (parser.Syntax k)) h a b = by_names sources (names.Syntax n at (parser.Syntax k)) h refl
+fault_cause f idl text acf sources (names.Syntax n at (parser.Deep k)) h a b = by_names sources (names.Syntax n at (parser.Deep k)) h refl
+fault_cause f idl text acf sources (names.Syntax n at (parser.Banned k)) h a b = by_names sources (names.Syntax n at (parser.Banned k)) h refl
 
-pub text_cause : (f : FilesSeen) (idl text : List ℕ) (sources : List Source) (x : NameFault) → IsNameFault f.held idl text sources x
+pub text_cause : (f : FilesSeen) (idl text : List ℕ) (acf : Option (List ℕ)) (sources : List Source) (x : NameFault) → IsNameFault f.held idl text sources x
     → IsAbsent f.absences.before f.absences.now x → IsFailed f.faults.before f.faults.now x → (told : Refusal) → IsOrMemory (told_fault sources x) told
-    → IsTextCause f idl text told
-text_cause f idl text sources x h a b told (inl is) = subst (IsTextCause f idl text) (sym is) (fault_cause f idl text sources x h a b)
-text_cause f idl text sources x h a b told (inr is) = subst (IsTextCause f idl text) (sym is) tt
+    → IsTextCause f idl text acf told
+text_cause f idl text acf sources x h a b told (inl is) = subst (IsTextCause f idl text acf) (sym is) (fault_cause f idl text acf sources x h a b)
+text_cause f idl text acf sources x h a b told (inr is) = subst (IsTextCause f idl text acf) (sym is) tt
 
 -- ## Loads
 
 rose_later : (before mid now : ℕ) → before ≤ mid → Rose mid now → Rose before now
 rose_later before mid now le rose = grind (arith, le, rose)
 
+-- what came behind an earlier load
+pub after : (held : Held) (a b c x y z : ℕ) (idl text : List ℕ) (acf : Option (List ℕ)) (r : Refusal) → a ≤ b → x ≤ y
+    → IsTextCause (record { held = held; absences = record { before = b; now = c }; faults = record { before = y; now = z } }) idl text acf r
+    → IsTextCause (record { held = held; absences = record { before = a; now = c }; faults = record { before = x; now = z } }) idl text acf r
+after held a b c x y z idl text acf Memory le le' cause = tt
+after held a b c x y z idl text acf (Absent file) le le' (rose, due, missing) = (rose_later a b c le rose, due, missing)
+after held a b c x y z idl text acf (FileFailed file) le le' (rose, due) = (rose_later x y z le' rose, due)
+after held a b c x y z idl text acf (BadIdl file line column why) le le' cause = cause
+after held a b c x y z idl text acf NoOperation le le' cause = absurd cause
+after held a b c x y z idl text acf NotBuilt le le' cause = absurd cause
+after held a b c x y z idl text acf ReadFault le le' cause = absurd cause
+after held a b c x y z idl text acf (BadOctets place why) le le' cause = absurd cause
+after held a b c x y z idl text acf (BadText line column why) le le' cause = absurd cause
+after held a b c x y z idl text acf (BadValue path why) le le' cause = absurd cause
+
+-- why a main file that was loaded means nothing is why the files do
+loaded_cause : (f : FilesSeen) (idl text : List ℕ) (acf : Option (List ℕ)) (r : Refusal) → IsContent f.held idl text → IsTextCause f idl text acf r → IsIdlCause f idl acf r
+loaded_cause f idl text acf Memory content cause = tt
+loaded_cause f idl text acf (Absent file) content (rose, due, missing) = (rose, inr (text, content, due), missing)
+loaded_cause f idl text acf (FileFailed file) content (rose, due) = (rose, inr (text, content, due))
+loaded_cause f idl text acf (BadIdl file line column why) content cause = (text, content, cause)
+loaded_cause f idl text acf NoOperation content cause = absurd cause
+loaded_cause f idl text acf NotBuilt content cause = absurd cause
+loaded_cause f idl text acf ReadFault content cause = absurd cause
+loaded_cause f idl text acf (BadOctets place why) content cause = absurd cause
+loaded_cause f idl text acf (BadText line column why) content cause = absurd cause
+loaded_cause f idl text acf (BadValue path why) content cause = absurd cause
+
 -- what came after the load of the main file
-pub after_load : (held : Held) (a b c x y z : ℕ) (idl text : List ℕ) (r : Refusal) → IsContent held idl text → a ≤ b → x ≤ y
-    → IsTextCause (record { held = held; absences = record { before = b; now = c }; faults = record { before = y; now = z } }) idl text r
-    → IsIdlCause (record { held = held; absences = record { before = a; now = c }; faults = record { before = x; now = z } }) idl r
-after_load held a b c x y z idl text Memory content le le' cause = tt
-after_load held a b c x y z idl text (Absent file) content le le' (rose, due, missing) = (rose_later a b c le rose, inr (text, content, due), missing)
-after_load held a b c x y z idl text (FileFailed file) content le le' (rose, due) = (rose_later x y z le' rose, inr (text, content, due))
-after_load held a b c x y z idl text (BadIdl file line column why) content le le' cause = (text, content, cause)
-after_load held a b c x y z idl text NoOperation content le le' cause = absurd cause
-after_load held a b c x y z idl text NotBuilt content le le' cause = absurd cause
-after_load held a b c x y z idl text ReadFault content le le' cause = absurd cause
-after_load held a b c x y z idl text (BadOctets place why) content le le' cause = absurd cause
-after_load held a b c x y z idl text (BadText line column why) content le le' cause = absurd cause
-after_load held a b c x y z idl text (BadValue path why) content le le' cause = absurd cause
+pub after_load : (held : Held) (a b c x y z : ℕ) (idl text : List ℕ) (acf : Option (List ℕ)) (r : Refusal) → IsContent held idl text → a ≤ b → x ≤ y
+    → IsTextCause (record { held = held; absences = record { before = b; now = c }; faults = record { before = y; now = z } }) idl text acf r
+    → IsIdlCause (record { held = held; absences = record { before = a; now = c }; faults = record { before = x; now = z } }) idl acf r
+after_load held a b c x y z idl text acf r content le le' cause =
+    loaded_cause (record { held = held; absences = record { before = a; now = c }; faults = record { before = x; now = z } }) idl text acf r content
+    (after held a b c x y z idl text acf r le le' cause)
 
--- a main file that is absent, or was not read, is told as that, unless memory was wanting
-pub main_is_absent : (f : FilesSeen) (idl : List ℕ) (r : Refusal) → HasRisen f.absences → IsMissing f.held idl → IsOrMemory (Absent idl) r → IsIdlCause f idl r
-main_is_absent f idl r rose missing (inl is) = subst (IsIdlCause f idl) (sym is) (rose, inl refl, missing)
-main_is_absent f idl r rose missing (inr is) = subst (IsIdlCause f idl) (sym is) tt
+-- a file that is absent, or was not read, is told as that, unless memory was wanting
+pub told_absent : (f : FilesSeen) (name : List ℕ) (r : Refusal) → HasRisen f.absences → IsMissing f.held name → IsOrMemory (Absent name) r → IsLoadCause f name r
+told_absent f name r rose missing (inl is) = subst (IsLoadCause f name) (sym is) (refl, rose, missing)
+told_absent f name r rose missing (inr is) = subst (IsLoadCause f name) (sym is) tt
 
-pub main_is_failed : (f : FilesSeen) (idl : List ℕ) (r : Refusal) → HasRisen f.faults → IsOrMemory (FileFailed idl) r → IsIdlCause f idl r
-main_is_failed f idl r rose (inl is) = subst (IsIdlCause f idl) (sym is) (rose, inl refl)
-main_is_failed f idl r rose (inr is) = subst (IsIdlCause f idl) (sym is) tt
+pub told_failed : (f : FilesSeen) (name : List ℕ) (r : Refusal) → HasRisen f.faults → IsOrMemory (FileFailed name) r → IsLoadCause f name r
+told_failed f name r rose (inl is) = subst (IsLoadCause f name) (sym is) (refl, rose)
+told_failed f name r rose (inr is) = subst (IsLoadCause f name) (sym is) tt
+
+-- a main file that was not loaded is why the files mean nothing
+pub main_not_loaded : (f : FilesSeen) (idl : List ℕ) (acf : Option (List ℕ)) (r : Refusal) → IsLoadCause f idl r → IsIdlCause f idl acf r
+main_not_loaded f idl acf Memory cause = tt
+main_not_loaded f idl acf (Absent file) (same, rose, missing) = (rose, inl same, subst (IsMissing f.held) (sym same) missing)
+main_not_loaded f idl acf (FileFailed file) (same, rose) = (rose, inl same)
+main_not_loaded f idl acf (BadIdl file line column why) cause = absurd cause
+main_not_loaded f idl acf NoOperation cause = absurd cause
+main_not_loaded f idl acf NotBuilt cause = absurd cause
+main_not_loaded f idl acf ReadFault cause = absurd cause
+main_not_loaded f idl acf (BadOctets place why) cause = absurd cause
+main_not_loaded f idl acf (BadText line column why) cause = absurd cause
+main_not_loaded f idl acf (BadValue path why) cause = absurd cause

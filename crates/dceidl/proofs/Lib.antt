@@ -1,6 +1,7 @@
 pub mod Causes
 pub mod Chunks
 pub mod Compiled
+pub mod Judged
 pub mod Encodings
 pub mod Roots
 pub mod Rows
@@ -12,8 +13,10 @@ pub mod WholeMisfits
 pub mod SoundEncode
 pub mod RoundTrip
 pub mod Within
+pub mod AcfWithin
 pub mod Walks
 pub mod OneFile
+pub mod OneAcf
 pub mod OneWalk
 pub mod OneMeaning
 pub mod FileWords

@@ -57,10 +57,10 @@ module _ (held : Option (List ℕ → Option (List ℕ))) where
       ended_have _ _ end w h (each_join IsDueOfWords (all_of (length s.sources) t) rest (all_have (length s.sources) t (file_has_words text t is_file)) d.1)
 
 -- the names of files that mean an interface are words
-pub meant_words : (held : Option (List ℕ → Option (List ℕ))) (idl text : List ℕ) (i : Interface) → Means held idl text i
+pub meant_words : (held : Option (List ℕ → Option (List ℕ))) (idl text : List ℕ) (acf : Option (List ℕ)) (i : Interface) → Means held idl text acf i
     → (n : ℕ) (o : Operation) (side : Side) → slice_get i.operations n ≡ Some o → HasWordNames (setting_of i o side)
-meant_words held idl text i m n o side there =
+meant_words held idl text acf i m n o side there =
     let r = m.resolved in
     let files = ended_have held _ (all_of 0 r.tree) m.state r.names.walk tt (all_have 0 r.tree (file_has_words text r.tree r.parsed)) in
-    let words = has_words (resolved_world m.state) i m.meaning files n o there in
+    let words = has_words (resolved_world m.state) i m.meaning.means files n o there in
     record { operation = words.operation; params = words.params }

@@ -46,16 +46,16 @@ never_file text at f t x y =
     let e : ◌≡◌ {A = Result Tree Fault} (Err x.told) (Ok t) = one_answer text x.lexed y.lexed (Err x.told) (Ok t) x.read y.read in
     absurd (cc)
 
-abbrev fault_of : Fault → SyntaxFault
+abbrev pub fault_of : Fault → SyntaxFault
 fault_of (Syntax k) = syntax.Syntax k
 fault_of (Passes Depth k) = syntax.Deep k
 fault_of (Passes Ban k) = syntax.Banned k
 
-abbrev token_of : Fault → ℕ
+abbrev pub token_of : Fault → ℕ
 token_of (Syntax k) = k
 token_of (Passes rule k) = k
 
-fault_is : (f : SyntaxFault) (token : ℕ) (told : Fault) → IsSyntaxFault f token told → (f ≡ fault_of told) × (token ≡ token_of told)
+pub fault_is : (f : SyntaxFault) (token : ℕ) (told : Fault) → IsSyntaxFault f token told → (f ≡ fault_of told) × (token ≡ token_of told)
 fault_is syntax.Memory token told h = absurd h
 fault_is (syntax.Syntax k) token told h = (sym (ap fault_of h.1), h.0 ∙ sym (ap token_of h.1))
 fault_is (syntax.Deep k) token told h = (sym (ap fault_of h.1), h.0 ∙ sym (ap token_of h.1))

@@ -1,8 +1,8 @@
--- Files mean one interface or are refused for one fault, never both, and neither where an import that is due is missing.
+-- Files mean one interface or are refused for one fault, never both, and neither where a file that is due is missing.
 use Rattle.std.proofs.Common.{◌≡◌, ◌∙◌, ℕ, List, [], ◌∷◌, ◌++◌, length, Option, Some, None, refl, sym, ap, subst, inl, inr}
 use Rattle.std.proofs.lemmas.Option.{same_Some}
 use Rattle.nd_base.specs.declared.octets.Place.{Place}
-use Rattle.nd_base.specs.Outside.{IsMissing}
+use Rattle.nd_base.specs.Outside.{IsContent, IsMissing}
 use Rattle.nd_types.specs.declared.interface.Interface.{Interface}
 use Rattle.idl_lexer.specs.declared.tokens.LexKind.{LexKind}
 use Rattle.idl_lexer.specs.declared.tokens.LexFault.TheVariants as lexical
@@ -17,14 +17,19 @@ use Rattle.idl_names.specs.Known.{first_undefined}
 use Rattle.idl_names.specs.Sources.{Source, and_source}
 use Rattle.idl_names.specs.Walk.{State, Due, Ending, Done, Stopped, Walk, IsUndefinedFault, start, all_of, all_done, goes_on, faults, ends, cycle, again, too_many, absent, failed, uncut, no_file, enters, short, short_in_load, short_after_load}
 use Rattle.idl_rules.specs.Rules.{Breach, breach}
-use Rattle.idl_rules.specs.FirstBroken.{first_broken}
-use Rattle.idl_rules.specs.Meaning.{Meant, meaning}
-use Rattle.idl_rules.specs.Answers.{meant_by, IsMeaning}
+use Rattle.idl_rules.specs.Meaning.{meaning}
+use Rattle.idl_rules.specs.Answers.{meant_by}
+use Rattle.acf_reader.specs.Tree.{Acf}
+use Rattle.idl_check.specs.AcfRules.{first_of_all}
+use Rattle.value_text.specs.Reads.{position_of}
+use Rattle.dceidl.specs.declared.refusal.IdlReason.{IdlReason}
 use Rattle.dceidl.specs.declared.refusal.Refusal.{Refusal}
 use Rattle.dceidl.specs.declared.refusal.Refusal.TheVariants.{Memory, Absent, FileFailed, BadIdl, NoOperation, NotBuilt, ReadFault, BadOctets, BadText, BadValue}
-use Rattle.dceidl.specs.Idl.{main_file, resolved_world, AreResolved, Means, IsMainFault, IsNameFault, IsBroken, IsIdlFault, by_names, by_rules, told_fault, told_rule, name_in, IsDueImport}
+use Rattle.dceidl.specs.AcfFile.{AcfFile, IsAcf, IsLoadedAcf, IsBeside, tree_beside}
+use Rattle.dceidl.specs.Idl.{main_file, resolved_world, AreResolved, Means, IsMainFault, IsNameFault, IsAcfFault, IsBadAcf, IsBroken, IsIdlFault, by_names, by_acf, by_rules, told_by, told_fault, told_beside, IsDueImport, IsDueAcf, IsDueBehind}
 use Rattle.dceidl.proofs.OneFile.{one_tree, one_no_file, one_cut, never_cut, never_file, never_uncut}
-use Rattle.dceidl.proofs.OneWalk.{IsKept, one_end}
+use Rattle.dceidl.proofs.OneAcf.{one_acf, one_acf_fault, never_acf}
+use Rattle.dceidl.proofs.OneWalk.{IsKept, one_end, one_content, not_missing}
 use Rattle.dceidl.proofs.Compiled.{last_name}
 use Rattle.dceidl.proofs.Walks.{passed_fault}
 
@@ -205,56 +210,146 @@ module _ (k : List ℕ → Option (List ℕ)) (idl text : List ℕ) where
       let w = due_absent (start (main_file idl text)) (all_of 0 due.tree) (and_source due.sources file []) (length due.sources) due.sources file refl refl missing due.comes in
       (and_source due.sources file [], length due.sources, inr (due.tree, due.parsed, inl w))
 
-  -- ## What the files mean
+  -- ## The attribute configuration file
 
-  pub means_one : (i j : Interface) → Means (Some k) idl text i → Means (Some k) idl text j → meant_by i ≡ meant_by j
-  means_one i j x y =
-      let s : x.state ≡ y.state = one_state x.state y.state x.resolved y.resolved in
-      let e : meant_by i ∷ [] ≡ meant_by j ∷ [] = sym x.meaning.means ∙ ap (λ z. meaning (resolved_world z)) s ∙ y.meaning.means in
-      let same : meant_by i ≡ meant_by j = cc in
-      same
+  module _ (acf : Option (List ℕ)) where
+    -- where one is named it was loaded and read
+    named_beside : (beside : Option AcfFile) → IsBeside (Some k) acf beside → (name : List ℕ) → acf ≡ Some name
+        → (f : AcfFile) × IsLoadedAcf (Some k) name f × (beside ≡ Some f)
+    named_beside beside h name e = by acf beside h e
+      where
+        by : (a : Option (List ℕ)) (b : Option AcfFile) → IsBeside (Some k) a b → a ≡ Some name → (f : AcfFile) × IsLoadedAcf (Some k) name f × (b ≡ Some f)
+        by None b h' e' = absurd (cc)
+        by (Some n) None h' e' = absurd h'
+        by (Some n) (Some f) h' e' = (f, subst (λ m. IsLoadedAcf (Some k) m f) (same_Some _ _ e') h', refl)
 
-  same_breach : (rule rule' : ℕ) (place place' : Place) → breach rule place ≡ breach rule' place' → (rule ≡ rule') × (place ≡ place')
-  same_breach rule rule' place place' e = (ap (λ (b : Breach). b.rule) e, ap (λ (b : Breach). b.place) e)
+    -- it was not missing
+    not_missing_beside : {B : Type 0} (beside : Option AcfFile) → IsBeside (Some k) acf beside → (file : List ℕ) → acf ≡ Some file → IsMissing (Some k) file → B
+    not_missing_beside beside h file e missing = let (f, loaded, is) = named_beside beside h file e in not_missing k file f.text missing loaded.loaded
 
-  same_told : (s s' : List Source) (rule rule' : ℕ) (place place' : Place) → s ≡ s' → rule ≡ rule' → place ≡ place' → told_rule s rule place ≡ told_rule s' rule' place'
-  same_told s s' rule rule' place place' a b c = λ i. told_rule (a i) (b i) (c i)
+    -- it has no fault
+    beside_or_bad : {B : Type 0} (beside : Option AcfFile) → IsBeside (Some k) acf beside → (name body : List ℕ) (at : ℕ) (why : IdlReason)
+        → IsBadAcf (Some k) idl text acf name body at why → B
+    beside_or_bad beside h name body at why bad =
+        let (f, loaded, is) = named_beside beside h name bad.named in
+        never_acf body at why f.tree bad.fault (subst (λ t. IsAcf t f.tree) (one_content k name f.text body loaded.loaded bad.loaded) loaded.read)
 
-  same_fault : (s s' : List Source) (f f' : NameFault) → s ≡ s' → f ≡ f' → told_fault s f ≡ told_fault s' f'
-  same_fault s s' f f' a b = λ i. told_fault (a i) (b i)
+    -- it is one
+    same_files : (f g : AcfFile) → f.name ≡ g.name → f.text ≡ g.text → f.tree ≡ g.tree → f ≡ g
+    same_files f g a b c = λ i. record { name = a i; text = b i; tree = c i }
 
-  sure_of : (r : Refusal) (s : List Source) (f : NameFault) → IsBad r → r ≡ told_fault s f → IsSureFault f
-  sure_of r s f b e = sure_told s f (subst IsBad e b)
+    one_loaded : (name : List ℕ) (f g : AcfFile) → IsLoadedAcf (Some k) name f → IsLoadedAcf (Some k) name g → f ≡ g
+    one_loaded name f g x y =
+        let same : f.text ≡ g.text = one_content k name f.text g.text x.loaded y.loaded in
+        same_files f g (x.named ∙ sym y.named) same (one_acf f.text f.tree g.tree x.read (subst (λ t. IsAcf t g.tree) (sym same) y.read))
 
-  pub never_both : {B : Type 0} (i : Interface) (r : Refusal) → IsBad r → Means (Some k) idl text i → IsIdlFault (Some k) idl text r → B
-  never_both i r bad x (by_names sources f fault e) = done_or_faulty x.state sources f x.resolved fault (sure_of r sources f bad e)
-  never_both i r bad x (by_rules sources rule place broken e) =
-      let s : x.state ≡ broken.state = one_state x.state broken.state x.resolved broken.resolved in
-      none_some _ (breach rule place) (sym (ap (λ z. first_broken (resolved_world z)) s) ∙ x.meaning.keeps) broken.first
+    one_beside : (a b : Option AcfFile) → IsBeside (Some k) acf a → IsBeside (Some k) acf b → a ≡ b
+    one_beside a b x y = by acf a b x y
+      where
+        by : (n : Option (List ℕ)) (a' b' : Option AcfFile) → IsBeside (Some k) n a' → IsBeside (Some k) n b' → a' ≡ b'
+        by None None None x' y' = refl
+        by None None (Some g) x' y' = absurd y'
+        by None (Some f) b' x' y' = absurd x'
+        by (Some name) None b' x' y' = absurd x'
+        by (Some name) (Some f) None x' y' = absurd y'
+        by (Some name) (Some f) (Some g) x' y' = ap Some (one_loaded name f g x' y')
 
-  pub one_bad : (r r' : Refusal) → IsBad r → IsBad r' → IsIdlFault (Some k) idl text r → IsIdlFault (Some k) idl text r' → r ≡ r'
-  one_bad r r' b b' (by_names s f x e) (by_names s' f' y e') =
-      let one = one_fault s s' f f' x y (sure_of r s f b e) (sure_of r' s' f' b' e') in
-      e ∙ same_fault s s' f f' one.0 one.1 ∙ sym e'
-  one_bad r r' b b' (by_names s f x e) (by_rules s' rule place y e') = done_or_faulty y.state s f y.resolved x (sure_of r s f b e)
-  one_bad r r' b b' (by_rules s rule place x e) (by_names s' f y e') = done_or_faulty x.state s' f x.resolved y (sure_of r' s' f b' e')
-  one_bad r r' b b' (by_rules s rule place x e) (by_rules s' rule' place' y e') =
-      let state : x.state ≡ y.state = one_state x.state y.state x.resolved y.resolved in
-      let sources : s ≡ s' = x.sources_are ∙ ap (λ (z : State). z.sources) state ∙ sym y.sources_are in
-      let first : breach rule place ≡ breach rule' place' = same_Some _ _ (sym x.first ∙ ap (λ z. first_broken (resolved_world z)) state ∙ y.first) in
-      let both = same_breach rule rule' place place' first in
-      e ∙ same_told s s' rule rule' place place' sources both.0 both.1 ∙ sym e'
+    -- one file has one fault
+    one_bad_acf : (name name' body body' : List ℕ) (at at' : ℕ) (why why' : IdlReason) → IsBadAcf (Some k) idl text acf name body at why
+        → IsBadAcf (Some k) idl text acf name' body' at' why' → told_by name (position_of body at) why ≡ told_by name' (position_of body' at') why'
+    one_bad_acf name name' body body' at at' why why' x y =
+        let names : name ≡ name' = same_Some _ _ (sym x.named ∙ y.named) in
+        let bodies : body ≡ body' = one_content k name body body' x.loaded (subst (λ n. IsContent (Some k) n body') (sym names) y.loaded) in
+        let fault = one_acf_fault body at at' why why' x.fault (subst (λ t. IsAcfFault t at' why') (sym bodies) y.fault) in
+        same names bodies fault.0 fault.1
+      where
+        same : name ≡ name' → body ≡ body' → at ≡ at' → why ≡ why' → told_by name (position_of body at) why ≡ told_by name' (position_of body' at') why'
+        same a b c d = λ i. told_by (a i) (position_of (b i) (c i)) (d i)
 
-  pub absent_or_means : {B : Type 0} (file : List ℕ) (i : Interface) → IsDueImport (Some k) idl text file → IsMissing (Some k) file → Means (Some k) idl text i → B
-  absent_or_means file i due missing x =
-      let a = absent_fault file due missing in
-      done_or_faulty x.state a.0 (names.Absent a.1) x.resolved a.2 tt
+    -- ## What the files mean
 
-  pub absent_or_bad : {B : Type 0} (file : List ℕ) (r : Refusal) → IsBad r → IsDueImport (Some k) idl text file → IsMissing (Some k) file → IsIdlFault (Some k) idl text r → B
-  absent_or_bad file r bad due missing (by_names s f x e) =
-      let a = absent_fault file due missing in
-      let one = one_fault a.0 s (names.Absent a.1) f a.2 x tt (sure_of r s f bad e) in
-      absurd (subst IsBad (e ∙ ap (told_fault s) (sym one.1)) bad)
-  absent_or_bad file r bad due missing (by_rules s rule place y e) =
-      let a = absent_fault file due missing in
-      done_or_faulty y.state a.0 (names.Absent a.1) y.resolved a.2 tt
+    pub means_one : (i j : Interface) → Means (Some k) idl text acf i → Means (Some k) idl text acf j → meant_by i ≡ meant_by j
+    means_one i j x y =
+        let s : x.state ≡ y.state = one_state x.state y.state x.resolved y.resolved in
+        let e : meant_by i ∷ [] ≡ meant_by j ∷ [] = sym x.meaning.means ∙ ap (λ z. meaning (resolved_world z)) s ∙ y.meaning.means in
+        let same : meant_by i ≡ meant_by j = cc in
+        same
+
+    same_breach : (rule rule' : ℕ) (place place' : Place) → breach rule place ≡ breach rule' place' → (rule ≡ rule') × (place ≡ place')
+    same_breach rule rule' place place' e = (ap (λ (b : Breach). b.rule) e, ap (λ (b : Breach). b.place) e)
+
+    same_told : (s s' : List Source) (b b' : Option AcfFile) (rule rule' : ℕ) (place place' : Place) → s ≡ s' → b ≡ b' → rule ≡ rule' → place ≡ place'
+        → told_beside s b rule place ≡ told_beside s' b' rule' place'
+    same_told s s' b b' rule rule' place place' e f g h = λ i. told_beside (e i) (f i) (g i) (h i)
+
+    same_fault : (s s' : List Source) (f f' : NameFault) → s ≡ s' → f ≡ f' → told_fault s f ≡ told_fault s' f'
+    same_fault s s' f f' a b = λ i. told_fault (a i) (b i)
+
+    same_first : (s s' : State) (b b' : Option AcfFile) → s ≡ s' → b ≡ b'
+        → first_of_all (resolved_world s) (tree_beside b) ≡ first_of_all (resolved_world s') (tree_beside b')
+    same_first s s' b b' e f = λ i. first_of_all (resolved_world (e i)) (tree_beside (f i))
+
+    sure_of : (r : Refusal) (s : List Source) (f : NameFault) → IsBad r → r ≡ told_fault s f → IsSureFault f
+    sure_of r s f b e = sure_told s f (subst IsBad e b)
+
+    pub never_both : {B : Type 0} (i : Interface) (r : Refusal) → IsBad r → Means (Some k) idl text acf i → IsIdlFault (Some k) idl text acf r → B
+    never_both i r bad x (by_names sources f fault e) = done_or_faulty x.state sources f x.resolved fault (sure_of r sources f bad e)
+    never_both i r bad x (by_acf name body at why fault e) = beside_or_bad x.beside x.read name body at why fault
+    never_both i r bad x (by_rules sources beside rule place broken e) =
+        let s : x.state ≡ broken.state = one_state x.state broken.state x.resolved broken.resolved in
+        let b : x.beside ≡ beside = one_beside x.beside beside x.read broken.read in
+        none_some _ (breach rule place) (sym (same_first x.state broken.state x.beside beside s b) ∙ x.meaning.keeps) broken.first
+
+    pub one_bad : (r r' : Refusal) → IsBad r → IsBad r' → IsIdlFault (Some k) idl text acf r → IsIdlFault (Some k) idl text acf r' → r ≡ r'
+    one_bad r r' b b' (by_names s f x e) (by_names s' f' y e') =
+        let one = one_fault s s' f f' x y (sure_of r s f b e) (sure_of r' s' f' b' e') in
+        e ∙ same_fault s s' f f' one.0 one.1 ∙ sym e'
+    one_bad r r' b b' (by_names s f x e) (by_acf name body at why y e') = done_or_faulty y.state s f y.resolved x (sure_of r s f b e)
+    one_bad r r' b b' (by_names s f x e) (by_rules s' beside rule place y e') = done_or_faulty y.state s f y.resolved x (sure_of r s f b e)
+    one_bad r r' b b' (by_acf name body at why x e) (by_names s' f y e') = done_or_faulty x.state s' f x.resolved y (sure_of r' s' f b' e')
+    one_bad r r' b b' (by_acf name body at why x e) (by_acf name' body' at' why' y e') = e ∙ one_bad_acf name name' body body' at at' why why' x y ∙ sym e'
+    one_bad r r' b b' (by_acf name body at why x e) (by_rules s' beside rule place y e') = beside_or_bad beside y.read name body at why x
+    one_bad r r' b b' (by_rules s beside rule place x e) (by_names s' f y e') = done_or_faulty x.state s' f x.resolved y (sure_of r' s' f b' e')
+    one_bad r r' b b' (by_rules s beside rule place x e) (by_acf name body at why y e') = beside_or_bad beside x.read name body at why y
+    one_bad r r' b b' (by_rules s beside rule place x e) (by_rules s' beside' rule' place' y e') =
+        let state : x.state ≡ y.state = one_state x.state y.state x.resolved y.resolved in
+        let sources : s ≡ s' = x.sources_are ∙ ap (λ (z : State). z.sources) state ∙ sym y.sources_are in
+        let file : beside ≡ beside' = one_beside beside beside' x.read y.read in
+        let first : breach rule place ≡ breach rule' place' = same_Some _ _ (sym x.first ∙ same_first x.state y.state beside beside' state file ∙ y.first) in
+        let both = same_breach rule rule' place place' first in
+        e ∙ same_told s s' beside beside' rule rule' place place' sources file both.0 both.1 ∙ sym e'
+
+    -- ## Files that are due and missing
+
+    pub absent_or_means : {B : Type 0} (file : List ℕ) (i : Interface) → IsDueBehind (Some k) idl text acf file → IsMissing (Some k) file
+        → Means (Some k) idl text acf i → B
+    absent_or_means file i (inl due) missing x =
+        let a = absent_fault file due missing in
+        done_or_faulty x.state a.0 (names.Absent a.1) x.resolved a.2 tt
+    absent_or_means file i (inr due) missing x = not_missing_beside x.beside x.read file due.named missing
+
+    absent_import_or_bad : {B : Type 0} (file : List ℕ) (r : Refusal) → IsBad r → IsDueImport (Some k) idl text file → IsMissing (Some k) file
+        → IsIdlFault (Some k) idl text acf r → B
+    absent_import_or_bad file r bad due missing (by_names s f x e) =
+        let a = absent_fault file due missing in
+        let one = one_fault a.0 s (names.Absent a.1) f a.2 x tt (sure_of r s f bad e) in
+        absurd (subst IsBad (e ∙ ap (told_fault s) (sym one.1)) bad)
+    absent_import_or_bad file r bad due missing (by_acf name body at why y e) =
+        let a = absent_fault file due missing in
+        done_or_faulty y.state a.0 (names.Absent a.1) y.resolved a.2 tt
+    absent_import_or_bad file r bad due missing (by_rules s beside rule place y e) =
+        let a = absent_fault file due missing in
+        done_or_faulty y.state a.0 (names.Absent a.1) y.resolved a.2 tt
+
+    absent_acf_or_bad : {B : Type 0} (file : List ℕ) (r : Refusal) → IsBad r → IsDueAcf (Some k) idl text acf file → IsMissing (Some k) file
+        → IsIdlFault (Some k) idl text acf r → B
+    absent_acf_or_bad file r bad due missing (by_names s f x e) = done_or_faulty due.state s f due.resolved x (sure_of r s f bad e)
+    absent_acf_or_bad file r bad due missing (by_acf name body at why y e) =
+        let same : name ≡ file = same_Some _ _ (sym y.named ∙ due.named) in
+        not_missing k file body missing (subst (λ n. IsContent (Some k) n body) same y.loaded)
+    absent_acf_or_bad file r bad due missing (by_rules s beside rule place y e) = not_missing_beside beside y.read file due.named missing
+
+    pub absent_or_bad : {B : Type 0} (file : List ℕ) (r : Refusal) → IsBad r → IsDueBehind (Some k) idl text acf file → IsMissing (Some k) file
+        → IsIdlFault (Some k) idl text acf r → B
+    absent_or_bad file r bad (inl due) missing x = absent_import_or_bad file r bad due missing x
+    absent_or_bad file r bad (inr due) missing x = absent_acf_or_bad file r bad due missing x

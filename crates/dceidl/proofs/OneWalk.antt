@@ -28,10 +28,10 @@ none_some : {X : Type 0} {B : Type 0} (o : Option X) (x : X) → o ≡ None → 
 none_some o x e f = let never : None ≡ Some x = sym e ∙ f in absurd (cc)
 
 module _ (k : List ℕ → Option (List ℕ)) where
-  one_content : (name a b : List ℕ) → IsContent (Some k) name a → IsContent (Some k) name b → a ≡ b
+  pub one_content : (name a b : List ℕ) → IsContent (Some k) name a → IsContent (Some k) name b → a ≡ b
   one_content name a b e f = same_Some _ _ (sym e ∙ f)
 
-  not_missing : {B : Type 0} (name a : List ℕ) → IsMissing (Some k) name → IsContent (Some k) name a → B
+  pub not_missing : {B : Type 0} (name a : List ℕ) → IsMissing (Some k) name → IsContent (Some k) name a → B
   not_missing name a e f = none_some (option_map loaded (k name)) a (ap (option_map loaded) e) f
 
   one_uncut_end : (sources : List Source) (name text text' : List ℕ) (at at' : ℕ) (kind kind' : LexKind) → text ≡ text' → at ≡ at' → kind ≡ kind'

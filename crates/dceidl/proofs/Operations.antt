@@ -18,7 +18,7 @@ use Rattle.idl_rules.specs.Scene.{Scene, Scoped, scoped_from, names_behind, scen
 use Rattle.idl_rules.specs.Types.{Names}
 use Rattle.idl_rules.specs.World.{World}
 use Rattle.idl_rules.specs.Meaning.{Meant, parameter, operation_in, operations_of, header_meant, main_among, meaning}
-use Rattle.idl_rules.specs.Answers.{IsMeaning, meant_by}
+use Rattle.idl_rules.specs.Answers.{meant_by}
 use Rattle.value_text.specs.Tokens.{is_word}
 use Rattle.dceidl.proofs.FileWords.{have_words, HasExportWords, HasTreeWords}
 
@@ -217,9 +217,9 @@ scene_words w h =
     let s = scene_of w in
     each_flat (λ (n : Scoped). HasNodeWords n.node) HasWords (λ n. operation_in s n.names n.node) (operation_words s) s.nodes (scoped_have w.known [] (nodes w) (nodes_have w h))
 
-told_operations : (w : World) (i : Interface) → IsMeaning w i → i.operations ≡ operations_of (scene_of w)
+told_operations : (w : World) (i : Interface) → meaning w ≡ meant_by i ∷ [] → i.operations ≡ operations_of (scene_of w)
 unfolding meaning
-told_operations w i m = by (main_among w.files) m.means
+told_operations w i m = by (main_among w.files) m
   where
     by : (ts : List Tree) → map (header_meant (scene_of w)) ts ≡ meant_by i ∷ [] → i.operations ≡ operations_of (scene_of w)
     by [] e = cc
@@ -233,6 +233,6 @@ each_at P (y ∷ ys) h zero x e = subst P (same_Some y x e) h.0
 each_at P (y ∷ ys) h (suc n) x e = each_at P ys h.1 n x e
 
 -- of files whose names are words, the operations of their interface have words for names
-pub has_words : (w : World) (i : Interface) → IsMeaning w i → AllByRecursion HasEndedWords w.files → (n : ℕ) (o : Operation) → slice_get i.operations n ≡ Some o → HasWords o
+pub has_words : (w : World) (i : Interface) → meaning w ≡ meant_by i ∷ [] → AllByRecursion HasEndedWords w.files → (n : ℕ) (o : Operation) → slice_get i.operations n ≡ Some o → HasWords o
 has_words w i m h n o e =
     each_at HasWords i.operations (subst (AllByRecursion HasWords) (sym (told_operations w i m)) (scene_words w h)) n o e

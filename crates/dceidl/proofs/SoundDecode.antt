@@ -1,5 +1,5 @@
 -- What `decode` comes to, from how the octets of the input settle it.
-use Rattle.std.proofs.Common.{◌≡◌, ℕ, List, length, sym, ap, ap₂, subst, inl, inr, ◌⊎◌, arith}
+use Rattle.std.proofs.Common.{◌≡◌, ℕ, List, Option, length, sym, ap, ap₂, subst, inl, inr, ◌⊎◌, arith}
 use Rattle.std.specs.Prelude.{map}
 use Rattle.nd_base.specs.declared.octets.Order.{Order}
 use Rattle.nd_types.specs.declared.interface.Interface.{Interface}
@@ -31,9 +31,9 @@ use Rattle.dceidl.proofs.Sides.{whole_begins}
 use Rattle.dceidl.proofs.Sound.{Settled, settled_done, settled_refused, settled_wanting, told_as}
 
 -- the side of an operation that is accepted is plain
-pub side_of : (f : FilesSeen) (idl op : List ℕ) (side : Side) (i : Interface) (n : ℕ) (o : Operation) → IsAccepted f idl op side i n o
+pub side_of : (f : FilesSeen) (idl : List ℕ) (acf : Option (List ℕ)) (op : List ℕ) (side : Side) (i : Interface) (n : ℕ) (o : Operation) → IsAccepted f idl acf op side i n o
     → IsPlain (setting_of i o side) (map (root_primitive i.types) (roots_of i.types side o))
-side_of f idl op side i n o accepted = number_side_plain i n o side accepted.built accepted.named.is_there
+side_of f idl acf op side i n o accepted = number_side_plain i n o side accepted.built accepted.named.is_there
 
 module _ (notes : SinkSeen) (order : Order) (idl op : List ℕ) (w : Setting) (ps : List Primitive) (side : IsPlain w ps) (octets : List ℕ) (status : ℕ)
     (settled : Settled notes (Decode order) idl op w octets status) where

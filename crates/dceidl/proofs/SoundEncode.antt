@@ -1,6 +1,6 @@
 -- What `encode` comes to, from how the text of the input settles it.
 use Rattle.std.specs.List.{slice_get}
-use Rattle.std.proofs.Common.{◌≡◌, ℕ, true, List, map, Some, refl, ◌∙◌, ap, ap₂, subst, inl, inr, ◌⊎◌}
+use Rattle.std.proofs.Common.{◌≡◌, ℕ, true, List, map, Option, Some, refl, ◌∙◌, ap, ap₂, subst, inl, inr, ◌⊎◌}
 use Rattle.nd_base.specs.declared.octets.Order.{Order}
 use Rattle.nd_types.specs.declared.interface.Interface.{Interface}
 use Rattle.nd_types.specs.declared.types.Operation.{Operation}
@@ -32,8 +32,8 @@ use Rattle.dceidl.specs.Rows.{IsAccepted, Refuses}
 use Rattle.dceidl.proofs.Sides.{plain_side_of}
 use Rattle.dceidl.proofs.Sound.{Settled, settled_done, settled_refused, settled_wanting, told_as}
 
-pub side_of : (f : FilesSeen) (idl op : List ℕ) (side : Side) (i : Interface) (n : ℕ) (o : Operation) → IsAccepted f idl op side i n o → IsPlainSide (setting_of i o side)
-side_of f idl op side i n o accepted = plain_side_of i n o side accepted.built accepted.named.is_there
+pub side_of : (f : FilesSeen) (idl : List ℕ) (acf : Option (List ℕ)) (op : List ℕ) (side : Side) (i : Interface) (n : ℕ) (o : Operation) → IsAccepted f idl acf op side i n o → IsPlainSide (setting_of i o side)
+side_of f idl acf op side i n o accepted = plain_side_of i n o side accepted.built accepted.named.is_there
 
 module _ (notes : SinkSeen) (order : Order) (chunk : ℕ) (idl op : List ℕ) (w : Setting) (text : List ℕ) (status : ℕ)
     (settled : Settled notes (Encode order chunk) idl op w text status)

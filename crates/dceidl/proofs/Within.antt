@@ -25,14 +25,14 @@ use Rattle.dceidl.specs.Reading.{IsOfText}
 pub token_count : (l : Lexed) → length (lexemes l) ≡ length l.tokens
 token_count l = simp length-map refl
 
-same_fault : {A : Type 0} (f g : Fault) → ◌≡◌ {A = Result A Fault} (Err f) (Err g) → f ≡ g
+pub same_fault : {A : Type 0} (f g : Fault) → ◌≡◌ {A = Result A Fault} (Err f) (Err g) → f ≡ g
 same_fault f g e = cc
 
-clash_results : {A B : Type 0} (a : A) (f : Fault) → ◌≡◌ {A = Result A Fault} (Ok a) (Err f) → B
+pub clash_results : {A B : Type 0} (a : A) (f : Fault) → ◌≡◌ {A = Result A Fault} (Ok a) (Err f) → B
 clash_results a f e = absurd (cc)
 
 -- of what is read exactly
-fault_front : {A : Type 0} (P : Rel A) (t : Text) (r : Read A) → Exact P (stops []) t 0 r → (f : Fault) → whole_read r t ≡ Err f → front f ≤ length t
+pub fault_front : {A : Type 0} (P : Rel A) (t : Text) (r : Read A) → Exact P (stops []) t 0 r → (f : Fault) → whole_read r t ≡ Err f → front f ≤ length t
 fault_front P t (Err g) x f e = subst (λ (h : Fault). front h ≤ length t) (same_fault g f e) x.within
 fault_front {A = A} P t (Ok a) x f e = by_case (eqb a.1 (length t)) e where
   by_case : (b : Bool) → ◌≡◌ {A = Result A Fault} (cond b (Ok a.0) (Err (Syntax a.1))) (Err f) → front f ≤ length t

@@ -1,12 +1,12 @@
 -- What the files of a compilation mean, and for which causes they are refused. `held` tells the contents of files, `idl` is the name of the main file
--- and `text` its text.
-use Rattle.std.specs.Prelude.{◌≡◌, ◌⊎◌, ℕ, List, [], ◌∷◌, ◌++◌, length, drop, take_while, Option, None, Some, ⊤}
+-- and `text` its text, and `acf` is the name of the attribute configuration file, if one is named.
+use Rattle.std.specs.Prelude.{◌≡◌, ◌⊎◌, ℕ, true, false, eqb, List, [], ◌∷◌, ◌++◌, length, drop, take_while, Option, None, Some, ⊤}
 use Rattle.nd_base.specs.declared.octets.Place.{Place}
 use Rattle.nd_base.specs.Outside.{IsContent}
 use Rattle.nd_types.specs.declared.interface.Interface.{Interface}
 use Rattle.idl_lexer.specs.Classes.{is_word_octet}
 use Rattle.idl_lexer.specs.declared.tokens.LexFault.TheVariants as lexical
-use Rattle.idl_lexer.specs.Verdict.{IsFault}
+use Rattle.idl_lexer.specs.Verdict.{IsFault, IsVerdict, Refused}
 use Rattle.idl_grammar.specs.Tree.{Tree}
 use Rattle.idl_names.specs.declared.name_fault.NameFault.{NameFault}
 use Rattle.idl_names.specs.declared.name_fault.NameFault.TheVariants as names
@@ -17,9 +17,10 @@ use Rattle.idl_names.specs.Sources.{Source, source, and_source, file_name, file_
 use Rattle.idl_names.specs.Walk.{State, Walk, start, all_of, Stopped, IsResolved, IsRefused}
 use Rattle.idl_rules.specs.World.{World}
 use Rattle.idl_rules.specs.Rules.{breach}
-use Rattle.idl_rules.specs.FirstBroken.{first_broken}
-use Rattle.idl_rules.specs.Answers.{IsMeaning}
+use Rattle.idl_check.specs.AcfRules.{acf_file, first_of_all}
+use Rattle.idl_check.specs.SeenAcf.{IsMeaningBeside}
 use Rattle.value_text.specs.Reads.{position_of}
+use Rattle.dceidl.specs.AcfFile.{AcfFile, IsNoAcf, IsBeside, tree_beside}
 use Rattle.dceidl.specs.declared.refusal.IdlReason.{IdlReason}
 use Rattle.dceidl.specs.declared.refusal.IdlReason.TheVariants as reason
 use Rattle.dceidl.specs.declared.refusal.Refusal.{Refusal}
@@ -41,11 +42,13 @@ pub record AreResolved (held : Option (List ℕ → Option (List ℕ))) (idl tex
   pub parsed : IsFile text tree
   pub names : IsResolved held (main_file idl text) tree state
 
--- The names are resolved, no rule is broken, and the files mean this interface.
-pub record Means (held : Option (List ℕ → Option (List ℕ))) (idl text : List ℕ) (i : Interface) : Type 0 where
+-- The names are resolved, the attribute configuration file is read, no rule is broken, and the files mean this interface.
+pub record Means (held : Option (List ℕ → Option (List ℕ))) (idl text : List ℕ) (acf : Option (List ℕ)) (i : Interface) : Type 0 where
   pub state : State
   pub resolved : AreResolved held idl text state
-  pub meaning : IsMeaning (resolved_world state) i
+  pub beside : Option AcfFile
+  pub read : IsBeside held acf beside
+  pub meaning : IsMeaningBeside (resolved_world state) (tree_beside beside) i
 
 -- ## Faults
 
@@ -62,12 +65,13 @@ IsNameFault held idl text sources f =
     ((sources ≡ main_file idl text) × IsMainFault text f)
     ⊎ ((tree : Tree) × IsFile text tree × IsRefused held (main_file idl text) tree sources f)
 
--- The names are resolved, and this is the rule that is told, at its place.
-pub record IsBroken (held : Option (List ℕ → Option (List ℕ))) (idl text : List ℕ) (sources : List Source) (rule : ℕ) (place : Place) : Type 0 where
+-- The names are resolved, the attribute configuration file is read, and this is the rule that is told, at its place.
+pub record IsBroken (held : Option (List ℕ → Option (List ℕ))) (idl text : List ℕ) (acf : Option (List ℕ)) (sources : List Source) (beside : Option AcfFile) (rule : ℕ) (place : Place) : Type 0 where
   pub state : State
   pub resolved : AreResolved held idl text state
   pub sources_are : sources ≡ state.sources
-  pub first : first_broken (resolved_world state) ≡ Some (breach rule place)
+  pub read : IsBeside held acf beside
+  pub first : first_of_all (resolved_world state) (tree_beside beside) ≡ Some (breach rule place)
 
 -- ## How faults are told
 
@@ -123,15 +127,47 @@ told_fault s (names.Lex file lexical.Memory) = Memory
 told_fault s (names.Lex file (lexical.At at kind)) = told_at s (place_of file at) (reason.Lexical kind)
 told_fault s (names.Syntax file at f) = told_if s (place_of file at) (syntax_reason (word_in s (place_of file at)) f)
 
--- a broken rule as a refusal
+-- a rule that is broken by a file of IDL as a refusal
 abbrev pub told_rule : List Source → ℕ → Place → Refusal
 told_rule s rule place = told_at s place (reason.Rule rule)
 
--- The files are refused in this way: for the first fault of their names, or for the first rule that is broken.
-pub data IsIdlFault (held : Option (List ℕ → Option (List ℕ))) (idl text : List ℕ) (r : Refusal) : Type 0 where
-  by_names : (sources : List Source) (f : NameFault) → IsNameFault held idl text sources f → r ≡ told_fault sources f → IsIdlFault held idl text r
-  by_rules : (sources : List Source) (rule : ℕ) (place : Place) → IsBroken held idl text sources rule place → r ≡ told_rule sources rule place
-      → IsIdlFault held idl text r
+-- A broken rule as a refusal. It is told under the name of the file that breaks it: that of the attribute configuration file where the place is one
+-- of that file.
+abbrev pub told_beside : List Source → Option AcfFile → ℕ → Place → Refusal
+told_beside s None rule place = told_rule s rule place
+told_beside s (Some f) rule place = elim (eqb place.file acf_file) [
+  true ↦ told_by f.name (position_of f.text place.at) (reason.Rule rule)
+  | false ↦ told_rule s rule place
+]
+
+-- ## Faults of the attribute configuration file
+
+-- why the text of an attribute configuration file cannot be cut into tokens, or is none, at an octet
+abbrev pub IsAcfFault : List ℕ → ℕ → IdlReason → Type 0
+IsAcfFault text at (reason.Lexical kind) = IsVerdict text (Refused at kind)
+IsAcfFault text at reason.Syntax = (token : ℕ) × IsNoAcf text at (syntax.Syntax token)
+IsAcfFault text at reason.Deep = (token : ℕ) × IsNoAcf text at (syntax.Deep token)
+IsAcfFault text at (reason.Banned word) = ((token : ℕ) × IsNoAcf text at (syntax.Banned token)) × (word ≡ word_at text at)
+IsAcfFault text at _ = ⊥
+
+-- The names are resolved, and the attribute configuration file of this name was loaded. It has this text, and a fault at this octet.
+pub record IsBadAcf (held : Option (List ℕ → Option (List ℕ))) (idl text : List ℕ) (acf : Option (List ℕ)) (name body : List ℕ) (at : ℕ) (why : IdlReason) : Type 0 where
+  pub state : State
+  pub resolved : AreResolved held idl text state
+  pub named : acf ≡ Some name
+  pub loaded : IsContent held name body
+  pub fault : IsAcfFault body at why
+
+-- ## How the files are refused
+
+-- The files are refused in this way: for the first fault of their names; behind that for the first fault of the attribute configuration file, which is
+-- told by its name and by line and column of its text; and behind that for the first rule that is broken.
+pub data IsIdlFault (held : Option (List ℕ → Option (List ℕ))) (idl text : List ℕ) (acf : Option (List ℕ)) (r : Refusal) : Type 0 where
+  by_names : (sources : List Source) (f : NameFault) → IsNameFault held idl text sources f → r ≡ told_fault sources f → IsIdlFault held idl text acf r
+  by_acf : (name body : List ℕ) (at : ℕ) (why : IdlReason) → IsBadAcf held idl text acf name body at why → r ≡ told_by name (position_of body at) why
+      → IsIdlFault held idl text acf r
+  by_rules : (sources : List Source) (beside : Option AcfFile) (rule : ℕ) (place : Place) → IsBroken held idl text acf sources beside rule place
+      → r ≡ told_beside sources beside rule place → IsIdlFault held idl text acf r
 
 -- ## Files that are due
 
@@ -142,6 +178,17 @@ pub record IsDueImport (held : Option (List ℕ → Option (List ℕ))) (idl tex
   pub sources : List Source
   pub comes : Walk held (start (main_file idl text)) (all_of 0 tree) (Stopped (and_source sources file []) (names.Failed (length sources)))
 
--- the load of a file is due: of the main file, or of an import
-abbrev pub IsDueFile : Option (List ℕ → Option (List ℕ)) → List ℕ → List ℕ → Type 0
-IsDueFile held idl file = (file ≡ idl) ⊎ ((text : List ℕ) × IsContent held idl text × IsDueImport held idl text file)
+-- The load of the attribute configuration file is due: it is named, and all names are resolved. A file that was loaded already under this name, as one
+-- of IDL, is loaded again.
+pub record IsDueAcf (held : Option (List ℕ → Option (List ℕ))) (idl text : List ℕ) (acf : Option (List ℕ)) (file : List ℕ) : Type 0 where
+  pub state : State
+  pub resolved : AreResolved held idl text state
+  pub named : acf ≡ Some file
+
+-- the load of a file is due behind that of the main file: of an import, or of the attribute configuration file
+abbrev pub IsDueBehind : Option (List ℕ → Option (List ℕ)) → List ℕ → List ℕ → Option (List ℕ) → List ℕ → Type 0
+IsDueBehind held idl text acf file = IsDueImport held idl text file ⊎ IsDueAcf held idl text acf file
+
+-- the load of a file is due: of the main file, or of one behind it
+abbrev pub IsDueFile : Option (List ℕ → Option (List ℕ)) → List ℕ → Option (List ℕ) → List ℕ → Type 0
+IsDueFile held idl acf file = (file ≡ idl) ⊎ ((text : List ℕ) × IsContent held idl text × IsDueBehind held idl text acf file)

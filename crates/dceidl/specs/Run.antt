@@ -1,10 +1,12 @@
 -- What a run comes to, and how it is written.
-use Rattle.std.specs.Prelude.{◌≡◌, ◌⊎◌, ℕ, List, Option, None, Some, codes}
+use Rattle.std.specs.Prelude.{◌≡◌, ◌⊎◌, ℕ, List, [], Option, None, Some, codes}
 use Rattle.nd_types.specs.declared.interface.Interface.{Interface}
 use Rattle.nd_types.specs.declared.types.Operation.{Operation}
-use Rattle.dceidl.specs.Words.{Command, command, Work, Help, Version}
+use Rattle.idl_rules.specs.Answers.{meant_by}
+use Rattle.idl_check.specs.Listing.{listing}
+use Rattle.dceidl.specs.Words.{Command, command, Work, Compile, Help, Version}
 use Rattle.dceidl.specs.Outside.{FilesSeen, SourceSeen, SinkSeen, HasRisen, Got, GotPrefix, IsAsBefore, IsUntouched, AreUntouched}
-use Rattle.dceidl.specs.Ready.{IsReady}
+use Rattle.dceidl.specs.Ready.{IsCompiled, IsReady, IsIdlCause}
 use Rattle.dceidl.specs.Task.{IsCause, IsMadeOfInput}
 use Rattle.nd_types.specs.declared.types.Side.{Side}
 use Rattle.nd_graph.specs.Fitting.{setting_of}
@@ -16,14 +18,21 @@ use Rattle.dceidl.specs.declared.outcome.Outcome.TheVariants.{Done, Refused, Wan
 use Rattle.dceidl.specs.declared.TheConstants.{HELP, VERSION}
 
 -- a task comes to this outcome
-abbrev pub IsTaskOutcome : FilesSeen → SourceSeen → Task → List ℕ → List ℕ → Side → Outcome → Type 0
-IsTaskOutcome f s task idl op side (Done made) =
-    (i : Interface) × (n : ℕ) × (o : Operation) × IsReady f idl op side i n o × IsMadeOfInput s task (setting_of i o side) made
-IsTaskOutcome f s task idl op side (Refused status line) =
-    (refusal : Refusal) × IsCause f s task idl op side refusal × (status ≡ status_of refusal) × (line ≡ line_of idl op refusal)
-IsTaskOutcome f s task idl op side Wanting = Unit {0}
+abbrev pub IsTaskOutcome : FilesSeen → SourceSeen → Task → List ℕ → Option (List ℕ) → List ℕ → Side → Outcome → Type 0
+IsTaskOutcome f s task idl acf op side (Done made) =
+    (i : Interface) × (n : ℕ) × (o : Operation) × IsReady f idl acf op side i n o × IsMadeOfInput s task (setting_of i o side) made
+IsTaskOutcome f s task idl acf op side (Refused status line) =
+    (refusal : Refusal) × IsCause f s task idl acf op side refusal × (status ≡ status_of refusal) × (line ≡ line_of idl op refusal)
+IsTaskOutcome f s task idl acf op side Wanting = Unit {0}
 
--- Only a task asks for files and for the input.
+-- The files come to this outcome: the listing of the interface that they mean, or a refusal. No operation is asked for.
+abbrev pub IsListingOutcome : FilesSeen → List ℕ → Option (List ℕ) → Outcome → Type 0
+IsListingOutcome f idl acf (Done made) = (i : Interface) × IsCompiled f idl acf i × (made ≡ listing (meant_by i))
+IsListingOutcome f idl acf (Refused status line) =
+    (refusal : Refusal) × IsIdlCause f idl acf refusal × (status ≡ status_of refusal) × (line ≡ line_of idl [] refusal)
+IsListingOutcome f idl acf Wanting = Unit {0}
+
+-- Only a task and a listing ask for files, and only a task for the input.
 pub record AsksNothing (f : FilesSeen) (s : SourceSeen) : Type 0 where
   pub files : AreUntouched f
   pub source : IsUntouched s
@@ -33,7 +42,8 @@ abbrev pub IsOutcome : FilesSeen → SourceSeen → Option Command → Outcome �
 IsOutcome f s None outcome = ((outcome ≡ Refused 2 (codes "words refused\n")) ⊎ (outcome ≡ Wanting)) × AsksNothing f s
 IsOutcome f s (Some Help) outcome = ((outcome ≡ Done HELP.now) ⊎ (outcome ≡ Wanting)) × AsksNothing f s
 IsOutcome f s (Some Version) outcome = ((outcome ≡ Done VERSION.now) ⊎ (outcome ≡ Wanting)) × AsksNothing f s
-IsOutcome f s (Some (Work task idl op side)) outcome = IsTaskOutcome f s task idl op side outcome
+IsOutcome f s (Some (Compile idl acf)) outcome = IsListingOutcome f idl acf outcome × IsUntouched s
+IsOutcome f s (Some (Work task idl acf op side)) outcome = IsTaskOutcome f s task idl acf op side outcome
 
 -- `write fault` stands on notes, or a prefix of it where notes failed too
 abbrev pub IsWarned : SinkSeen → Type 0

@@ -1,5 +1,5 @@
 -- What a task makes of an operation's file and the input, and for which causes it is refused: the files first, then the input.
-use Rattle.std.specs.Prelude.{◌≡◌, ◌⊎◌, ℕ, ◌+◌, ◌<◌, ◌≤◌, true, List, length, ⊤}
+use Rattle.std.specs.Prelude.{◌≡◌, ◌⊎◌, ℕ, ◌+◌, ◌<◌, ◌≤◌, true, List, Option, length, ⊤}
 use Rattle.std.specs.Io.KnownBytes.{Consumes, IsAtEnd}
 use Rattle.nd_base.specs.declared.TheConstants.{STREAM_LIMIT}
 use Rattle.value_text.specs.declared.TheConstants.{TEXT_LIMIT}
@@ -46,10 +46,10 @@ IsInputCause s task w Memory = ⊤
 IsInputCause s task w refusal = (octets : List ℕ) × IsRead s (limit_of task) octets × IsContentCause task w octets refusal
 
 -- Why a task is refused: the files are, and the input is not asked for; or they are ready, and the input is refused.
-abbrev pub IsCause : FilesSeen → SourceSeen → Task → List ℕ → List ℕ → Side → Refusal → Type 0
-IsCause f s task idl op side refusal =
-    (IsFileCause f idl op side refusal × IsUntouched s)
-    ⊎ ((i : Interface) × (n : ℕ) × (o : Operation) × IsReady f idl op side i n o × IsInputCause s task (setting_of i o side) refusal)
+abbrev pub IsCause : FilesSeen → SourceSeen → Task → List ℕ → Option (List ℕ) → List ℕ → Side → Refusal → Type 0
+IsCause f s task idl acf op side refusal =
+    (IsFileCause f idl acf op side refusal × IsUntouched s)
+    ⊎ ((i : Interface) × (n : ℕ) × (o : Operation) × IsReady f idl acf op side i n o × IsInputCause s task (setting_of i o side) refusal)
 
 -- The input was read, and this was made of it.
 pub record IsMadeOfInput (s : SourceSeen) (task : Task) (w : Setting) (made : List ℕ) : Type 0 where

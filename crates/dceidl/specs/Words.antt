@@ -12,14 +12,20 @@ use Rattle.dceidl.specs.declared.task.Task.TheVariants.{Decode, Encode}
 
 -- what the words of a command line ask for
 pub data Command : Type 0 where
-  -- a task on a side of an operation of an interface file
-  Work : (task : Task) (idl op : List ℕ) (side : Side) → Command
+  -- a task on a side of an operation of an interface file, beside an attribute file where one is named
+  Work : (task : Task) (idl : List ℕ) (acf : Option (List ℕ)) (op : List ℕ) (side : Side) → Command
+  -- the listing of an interface file, beside an attribute file where one is named
+  Compile : (idl : List ℕ) (acf : Option (List ℕ)) → Command
   Help : Command
   Version : Command
 
 -- a word is this text
 abbrev pub is_word : List ℕ → List ℕ → Bool
 is_word word text = pointwise nat_eq word text
+
+-- the attribute file that a word names: `-` names none
+abbrev pub acf_of : List ℕ → Option (List ℕ)
+acf_of word = if is_word word (codes "-") then None else Some word
 
 -- the order of octets that a word names
 abbrev pub order_of : List ℕ → Option Order
@@ -52,20 +58,19 @@ encoding (Some order) (Some chunk) = Some (Encode order chunk)
 encoding _ _ = None
 
 -- the command of a task and a side, if they are ones
-abbrev pub work : Option Task → List ℕ → List ℕ → Option Side → Option Command
-work (Some task) idl op (Some side) = Some (Work task idl op side)
-work _ idl op _ = None
+abbrev pub work : Option Task → List ℕ → Option (List ℕ) → List ℕ → Option Side → Option Command
+work (Some task) idl acf op (Some side) = Some (Work task idl acf op side)
+work _ idl acf op _ = None
 
--- The command that words are, if they are one: `decode IDL - OP SIDE ORDER`, `encode IDL - OP SIDE ORDER CHUNK`, `--help` or
--- `--version`.
+-- The command that words are, if they are one: `compile IDL ACF`, `decode IDL ACF OP SIDE ORDER`, `encode IDL ACF OP SIDE ORDER CHUNK`, `--help`
+-- or `--version`.
 abbrev pub command : List (List ℕ) → Option Command
 command (word ∷ []) =
     if is_word word (codes "--help") then Some Help
     else if is_word word (codes "--version") then Some Version else None
+command (verb ∷ idl ∷ acf ∷ []) = if is_word verb (codes "compile") then Some (Compile idl (acf_of acf)) else None
 command (verb ∷ idl ∷ acf ∷ op ∷ side ∷ order ∷ []) =
-    if is_word verb (codes "decode") && is_word acf (codes "-")
-    then work (decoding (order_of order)) idl op (side_of side) else None
+    if is_word verb (codes "decode") then work (decoding (order_of order)) idl (acf_of acf) op (side_of side) else None
 command (verb ∷ idl ∷ acf ∷ op ∷ side ∷ order ∷ chunk ∷ []) =
-    if is_word verb (codes "encode") && is_word acf (codes "-")
-    then work (encoding (order_of order) (chunk_of chunk)) idl op (side_of side) else None
+    if is_word verb (codes "encode") then work (encoding (order_of order) (chunk_of chunk)) idl (acf_of acf) op (side_of side) else None
 command _ = None

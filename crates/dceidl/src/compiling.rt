@@ -1,79 +1,58 @@
-// The interface that files mean: the main file is loaded and read, its names are resolved with those of the files that it imports, and the rules tried.
-ghost use Rattle.std.specs.Prelude.{◌≡◌, ◌≤◌, ℕ, List, Option, length, IfOk, IfErr};
+// The interface that files mean: the main file is loaded and read, its names are resolved with those of the files that it imports, and the rules tried
+// beside an attribute configuration file if one is named.
+ghost use Rattle.std.specs.Prelude.{◌≡◌, ◌≤◌, ℕ, List, length, option_map, IfOk, IfErr};
 ghost use Rattle.idl_grammar.specs.Seen.{seen_tree};
 ghost use Rattle.idl_names.specs.Files.{IsFile};
 ghost use Rattle.idl_names.specs.Seen.{seen_scope};
 ghost use Rattle.idl_names.specs.Causes.{IsAbsent, IsFailed};
-ghost use Rattle.dceidl.specs.Outside.{FilesSeen, files_seen};
-ghost use Rattle.dceidl.specs.declared.refusal.Refusal.{Refusal as RefusalValue};
+ghost use Rattle.dceidl.specs.Outside.{files_seen};
 ghost use Rattle.dceidl.specs.Idl.{main_file, AreResolved, Means, IsMainFault, IsNameFault};
 ghost use Rattle.dceidl.specs.Ready.{IsCompiled, IsIdlCause, IsTextCause};
-ghost use Rattle.dceidl.specs.Reading.{IsOfText, IsToldUnparsed, IsOrMemory};
+ghost use Rattle.dceidl.specs.Reading.{IsOfText, IsToldUnparsed};
 
-use crate::faults::{tell_fault, tell_rule};
+use crate::faults::{or_memory, tell_fault};
+use crate::judging::judge;
+use crate::loading::load;
 use crate::refusal::Refusal;
-use idl_rules::{RuleFault, check};
 use idl_grammar::Tree;
 use idl_lexer::{Tokens, lex};
 use idl_names::{NameFault, Scope, Sources, SyntaxFault, resolve};
 use idl_parser::parse;
-use nd_base::{FileFault, Files, Memory, Octets};
+use nd_base::{Files, Memory, Octets};
 use nd_types::Interface;
 use std::alloc::Global;
 
-// The interface that the file of a name means with those that it imports.
+// The interface that the file of a name means with those that it imports, and an attribute configuration file if one is named.
 pub(crate) fn compile<F: Files>(
     alloc: Global,
     idl: &str,
+    acf: Option<&str>,
     files: &mut F,
 ) -> Result<Interface, Refusal>
-    ensures ok { IfOk result (IsCompiled (files_seen F.held F.absences F.faults files.old files.new) idl.now) }
-    ensures err { IfErr result (IsIdlCause (files_seen F.held F.absences F.faults files.old files.new) idl.now) }
+    ensures ok { IfOk result (IsCompiled (files_seen F.held F.absences F.faults files.old files.new) idl.now (option_map (λ a. a.now) acf.entry)) }
+    ensures err { IfErr result (IsIdlCause (files_seen F.held F.absences F.faults files.old files.new) idl.now (option_map (λ a. a.now) acf.entry)) }
 {
-    match files.load(alloc, idl) {
-        Ok(text) => compile_text(alloc, idl, text, files),
-        Err(FileFault::Absent) => Err(absent(alloc, idl)),
-        Err(FileFault::Failed) => Err(failed(alloc, idl)),
-        Err(FileFault::Memory) => Err(Refusal::Memory),
-    }
+    let text = load(alloc, idl, files)?;
+    compile_text(alloc, idl, text, acf, files)
 }
 
-// A main file that is absent.
-fn absent(alloc: Global, idl: &str) -> Refusal
-    ensures { IsOrMemory (Refusal.Absent idl.now) result }
-{
-    match Octets::copy(alloc, idl.as_bytes()) {
-        Ok(file) => Refusal::Absent { file },
-        Err(_) => Refusal::Memory,
-    }
-}
-
-// A main file that was not read.
-fn failed(alloc: Global, idl: &str) -> Refusal
-    ensures { IsOrMemory (Refusal.FileFailed idl.now) result }
-{
-    match Octets::copy(alloc, idl.as_bytes()) {
-        Ok(file) => Refusal::FileFailed { file },
-        Err(_) => Refusal::Memory,
-    }
-}
-
-// The interface that a text means with the files that it imports.
+// The interface that a text means with the files that it imports, and an attribute configuration file if one is named.
 fn compile_text<F: Files>(
     alloc: Global,
     idl: &str,
     text: Octets,
+    acf: Option<&str>,
     files: &mut F,
 ) -> Result<Interface, Refusal>
-    ensures ok { IfOk result (Means (F.held files.old) idl.now text) }
-    ensures err { IfErr result (IsTextCause (files_seen F.held F.absences F.faults files.old files.new) idl.now text) }
+    ensures ok { IfOk result (Means (F.held files.old) idl.now text (option_map (λ a. a.now) acf.entry)) }
+    ensures err { IfErr result (IsTextCause (files_seen F.held F.absences F.faults files.old files.new) idl.now text (option_map (λ a. a.now) acf.entry)) }
 {
     let mut sources = match main_sources(alloc, idl, text) {
         Ok(sources) => sources,
         Err(_) => return Err(Refusal::Memory),
     };
     match scope_of(alloc, files, &mut sources) {
-        Ok(scope) => checked(alloc, &sources, &scope),
+        Ok(scope) => judge(alloc, &sources, &scope, acf, files),
         Err(fault) => Err(or_memory(tell_fault(alloc, &sources, fault))),
     }
 }
@@ -151,31 +130,5 @@ fn no_file(tokens: &Tokens, fault: SyntaxFault) -> NameFault
             at: tokens.at(token),
             fault,
         },
-    }
-}
-
-// The interface of files that are resolved, where they keep the rules.
-fn checked(alloc: Global, sources: &Sources, scope: &Scope) -> Result<Interface, Refusal>
-    ensures ok { (held : Option (List ℕ → Option (List ℕ))) (idl text : List ℕ) → AreResolved held idl text (seen_scope sources.now scope.now)
-        → IfOk result (Means held idl text) }
-    ensures err { (f : FilesSeen) (idl text : List ℕ) → AreResolved f.held idl text (seen_scope sources.now scope.now)
-        → IfErr result (IsTextCause f idl text) }
-{
-    match check(alloc, scope) {
-        Ok(interface) => Ok(interface),
-        Err(RuleFault::Memory) => Err(Refusal::Memory),
-        Err(RuleFault::Broken { rule, place }) => Err(or_memory(tell_rule(
-            alloc, sources, rule, place,
-        ))),
-    }
-}
-
-// A refusal, or that memory was wanting for it.
-fn or_memory(told: Result<Refusal, Memory>) -> Refusal
-    ensures { (due : RefusalValue) → IfOk told (λ r. r ≡ due) → IsOrMemory due result }
-{
-    match told {
-        Ok(refusal) => refusal,
-        Err(_) => Refusal::Memory,
     }
 }

@@ -1,9 +1,15 @@
 // How a fault of the files is told: by the name of its file, and its line and column there.
-ghost use Rattle.std.specs.Prelude.{◌≡◌, IfOk};
-ghost use Rattle.dceidl.specs.Idl.{name_in as name_of_file, text_in as text_of_file, word_at as word_from, told_at as told_there, told_fault, told_rule};
+ghost use Rattle.std.specs.Prelude.{◌≡◌, Some, IfOk};
+ghost use Rattle.acf_reader.specs.Tree.{Acf};
+ghost use Rattle.dceidl.specs.declared.refusal.Refusal.{Refusal as RefusalValue};
+ghost use Rattle.dceidl.specs.declared.refusal.IdlReason.TheVariants as reason;
+ghost use Rattle.value_text.specs.Reads.{position_of as position_at};
+ghost use Rattle.dceidl.specs.Reading.{IsOrMemory};
+ghost use Rattle.dceidl.specs.Idl.{name_in as name_of_file, text_in as text_of_file, word_at as word_from, told_by, told_at as told_there, told_fault, told_rule, told_beside};
 
 use crate::position::{position_of, word_at};
 use crate::refusal::{IdlReason, Refusal};
+use idl_check::ACF_FILE;
 use idl_lexer::LexFault;
 use idl_names::{NameFault, Sources, SyntaxFault};
 use nd_base::{Memory, Octets, Place};
@@ -45,8 +51,27 @@ fn told_at(
 ) -> Result<Refusal, Memory>
     ensures { IfOk result (λ r. r ≡ told_there sources.now place reason) }
 {
-    let file = Octets::copy(alloc, name_in(sources, place.file))?;
-    let (line, column) = position_of(text_in(sources, place.file), place.at);
+    tell_in(
+        alloc,
+        name_in(sources, place.file),
+        text_in(sources, place.file),
+        place.at,
+        reason,
+    )
+}
+
+// A refusal at an octet of the text of a file.
+pub(crate) fn tell_in(
+    alloc: Global,
+    name: &[u8],
+    text: &[u8],
+    at: u32,
+    reason: IdlReason,
+) -> Result<Refusal, Memory>
+    ensures { IfOk result (λ r. r ≡ told_by name.now (position_at text.now at) reason) }
+{
+    let file = Octets::copy(alloc, name)?;
+    let (line, column) = position_of(text, at);
     Ok(Refusal::BadIdl {
         file,
         line,
@@ -55,7 +80,30 @@ fn told_at(
     })
 }
 
-// A broken rule as a refusal.
+// A refusal at a word of the text of a file, which the language leaves out.
+pub(crate) fn tell_banned(
+    alloc: Global,
+    name: &[u8],
+    text: &[u8],
+    at: u32,
+) -> Result<Refusal, Memory>
+    ensures { IfOk result (λ r. r ≡ told_by name.now (position_at text.now at) (reason.Banned (word_from text.now at))) }
+{
+    let word = Octets::copy(alloc, word_at(text, at))?;
+    tell_in(alloc, name, text, at, IdlReason::Banned { word })
+}
+
+// A refusal, or that memory was wanting for it.
+pub(crate) fn or_memory(told: Result<Refusal, Memory>) -> Refusal
+    ensures { (due : RefusalValue) → IfOk told (λ r. r ≡ due) → IsOrMemory due result }
+{
+    match told {
+        Ok(refusal) => refusal,
+        Err(_) => Refusal::Memory,
+    }
+}
+
+// A rule that is broken by a file of IDL as a refusal.
 pub(crate) fn tell_rule(
     alloc: Global,
     sources: &Sources,
@@ -65,6 +113,24 @@ pub(crate) fn tell_rule(
     ensures { IfOk result (λ r. r ≡ told_rule sources.now rule place) }
 {
     told_at(alloc, sources, place, IdlReason::Rule(rule))
+}
+
+// A broken rule as a refusal, beside the attribute configuration file of a name and a text.
+pub(crate) fn tell_beside(
+    alloc: Global,
+    sources: &Sources,
+    name: &str,
+    body: &[u8],
+    rule: u8,
+    place: Place,
+) -> Result<Refusal, Memory>
+    ensures { (tree : Acf) → IfOk result (λ r. r ≡ told_beside sources.now (Some (record { name = name.now; text = body.now; tree = tree })) rule place) }
+{
+    if place.file == ACF_FILE {
+        tell_in(alloc, name.as_bytes(), body, place.at, IdlReason::Rule(rule))
+    } else {
+        tell_rule(alloc, sources, rule, place)
+    }
 }
 
 // A fault of names, of the main file or of an import, as a refusal.
@@ -135,9 +201,11 @@ fn tell_syntax(
         SyntaxFault::Memory => Ok(Refusal::Memory),
         SyntaxFault::Syntax { .. } => told_at(alloc, sources, place, IdlReason::Syntax),
         SyntaxFault::Deep { .. } => told_at(alloc, sources, place, IdlReason::Deep),
-        SyntaxFault::Banned { .. } => {
-            let word = word_in(alloc, sources, place)?;
-            told_at(alloc, sources, place, IdlReason::Banned { word })
-        }
+        SyntaxFault::Banned { .. } => tell_banned(
+            alloc,
+            name_in(sources, file),
+            text_in(sources, file),
+            at,
+        ),
     }
 }

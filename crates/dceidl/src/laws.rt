@@ -1,5 +1,5 @@
 //! Laws of what commands answer, each the contract of a function that does nothing.
-ghost use Rattle.std.specs.Prelude.{◌≡◌, ◌≤◌, ℕ, true, List, length, Option, Some};
+ghost use Rattle.std.specs.Prelude.{◌≡◌, ◌≤◌, ℕ, true, List, [], length, Option, None, Some};
 ghost use Rattle.std.specs.List.{slice_get};
 ghost use Rattle.nd_base.specs.declared.octets.Order.{Order};
 ghost use Rattle.nd_types.specs.declared.interface.Interface.{Interface};
@@ -14,26 +14,43 @@ ghost use Rattle.value_text.specs.Reads.{ReadsAs};
 ghost use Rattle.value_text.specs.Printed.{IsText};
 ghost use Rattle.dceidl.specs.Decode.{IsDecoding};
 ghost use Rattle.dceidl.specs.Encode.{IsEncoding};
-ghost use Rattle.dceidl.specs.Idl.{Means, IsIdlFault};
+ghost use Rattle.idl_check.specs.AcfRules.{acf_breaches};
+ghost use Rattle.dceidl.specs.AcfFile.{AcfFile, IsLoadedAcf};
+ghost use Rattle.dceidl.specs.Idl.{Means, IsIdlFault, resolved_world};
 ghost use Rattle.dceidl.specs.declared.refusal.IdlReason.{IdlReason};
 ghost use Rattle.dceidl.specs.declared.refusal.Refusal.TheVariants as refusal;
 
-/// Where the contents of files are told, a main file means one interface at most with those that it imports, or is refused at one line and column
-/// of one file for one reason at most, and never both.
+/// Where the contents of files are told, a main file means one interface at most with those that it imports, beside an attribute configuration file
+/// if one is named, or is refused at one line and column of one file for one reason at most, and never both.
 pub fn one_idl_verdict()
-    ensures one_interface { (held : List ℕ → Option (List ℕ)) (idl text : List ℕ) (i j : Interface)
-        → Means (Some held) idl text i → Means (Some held) idl text j → i ≡ j }
-    ensures one_fault { (held : List ℕ → Option (List ℕ)) (idl text file other : List ℕ) (line column row place : ℕ) (why because : IdlReason)
-        → IsIdlFault (Some held) idl text (refusal.BadIdl file line column why) → IsIdlFault (Some held) idl text (refusal.BadIdl other row place because)
+    ensures one_interface { (held : List ℕ → Option (List ℕ)) (idl text : List ℕ) (acf : Option (List ℕ)) (i j : Interface)
+        → Means (Some held) idl text acf i → Means (Some held) idl text acf j → i ≡ j }
+    ensures one_fault { (held : List ℕ → Option (List ℕ)) (idl text : List ℕ) (acf : Option (List ℕ)) (file other : List ℕ) (line column row place : ℕ)
+        → (why because : IdlReason)
+        → IsIdlFault (Some held) idl text acf (refusal.BadIdl file line column why)
+        → IsIdlFault (Some held) idl text acf (refusal.BadIdl other row place because)
         → refusal.BadIdl file line column why ≡ refusal.BadIdl other row place because }
-    ensures never_both { (held : List ℕ → Option (List ℕ)) (idl text : List ℕ) (i : Interface) (file : List ℕ) (line column : ℕ) (why : IdlReason)
-        → Means (Some held) idl text i → IsIdlFault (Some held) idl text (refusal.BadIdl file line column why) → ⊥ }
+    ensures never_both { (held : List ℕ → Option (List ℕ)) (idl text : List ℕ) (acf : Option (List ℕ)) (i : Interface) (file : List ℕ)
+        → (line column : ℕ) (why : IdlReason)
+        → Means (Some held) idl text acf i → IsIdlFault (Some held) idl text acf (refusal.BadIdl file line column why) → ⊥ }
+{}
+
+/// An attribute configuration file changes nothing of what files mean: what they mean beside one they mean without it; what they mean without one
+/// they mean beside each that was loaded and read and keeps the rule on it; and where the contents of files are told they mean one interface
+/// whatever is named.
+pub fn attribute_files_change_nothing()
+    ensures without { (held : Option (List ℕ → Option (List ℕ))) (idl text : List ℕ) (acf : Option (List ℕ)) (i : Interface)
+        → Means held idl text acf i → Means held idl text None i }
+    ensures beside { (held : Option (List ℕ → Option (List ℕ))) (idl text name : List ℕ) (i : Interface) → (m : Means held idl text None i)
+        → (f : AcfFile) → IsLoadedAcf held name f → acf_breaches (resolved_world m.state) (Some f.tree) ≡ [] → Means held idl text (Some name) i }
+    ensures same { (held : List ℕ → Option (List ℕ)) (idl text : List ℕ) (acf other : Option (List ℕ)) (i j : Interface)
+        → Means (Some held) idl text acf i → Means (Some held) idl text other j → i ≡ j }
 {}
 
 /// The names of operations that files mean, and of their parameters, are words: a letter or `_`, then letters, digits and `_`.
 pub fn meant_names_are_words()
-    ensures { (held : Option (List ℕ → Option (List ℕ))) (idl text : List ℕ) (i : Interface) (n : ℕ) (o : Operation) (s : Side)
-        → Means held idl text i → slice_get i.operations n ≡ Some o → HasWordNames (setting_of i o s) }
+    ensures { (held : Option (List ℕ → Option (List ℕ))) (idl text : List ℕ) (acf : Option (List ℕ)) (i : Interface) (n : ℕ) (o : Operation) (s : Side)
+        → Means held idl text acf i → slice_get i.operations n ≡ Some o → HasWordNames (setting_of i o s) }
 {}
 
 /// `decode` undoes `encode` on sides whose roots are primitives: the octets that `encode` writes of a text represent the graph that the text reads
@@ -57,14 +74,14 @@ pub fn decode_undoes_encode()
 /// where it is within its limit, reads as the graph that the octets represent, and what `encode` writes of it in any order represents that
 /// graph. The same holds of any such side whose names are words, where no file declares it.
 pub fn encode_undoes_decode()
-    ensures reads { (held : Option (List ℕ → Option (List ℕ))) (idl file : List ℕ) (i : Interface) (n : ℕ) (o : Operation) (s : Side)
+    ensures reads { (held : Option (List ℕ → Option (List ℕ))) (idl file : List ℕ) (acf : Option (List ℕ)) (i : Interface) (n : ℕ) (o : Operation) (s : Side)
         → (order : Order) (octets text : List ℕ)
-        → Means held idl file i → has_number_roots i.types s o ≡ true → slice_get i.operations n ≡ Some o
+        → Means held idl file acf i → has_number_roots i.types s o ≡ true → slice_get i.operations n ≡ Some o
         → (d : IsDecoding (setting_of i o s) order octets text) → length text ≤ TEXT_LIMIT
         → ReadsAs (setting_of i o s) text d.graph }
-    ensures represents { (held : Option (List ℕ → Option (List ℕ))) (idl file : List ℕ) (i : Interface) (n : ℕ) (o : Operation) (s : Side)
+    ensures represents { (held : Option (List ℕ → Option (List ℕ))) (idl file : List ℕ) (acf : Option (List ℕ)) (i : Interface) (n : ℕ) (o : Operation) (s : Side)
         → (order other : Order) (chunk : ℕ) (octets text made : List ℕ)
-        → Means held idl file i → has_number_roots i.types s o ≡ true → slice_get i.operations n ≡ Some o
+        → Means held idl file acf i → has_number_roots i.types s o ≡ true → slice_get i.operations n ≡ Some o
         → (d : IsDecoding (setting_of i o s) order octets text) → IsEncoding (setting_of i o s) other chunk text made
         → Represents (setting_of i o s) other made d.graph }
     ensures words_read { (i : Interface) (n : ℕ) (o : Operation) (s : Side) (order : Order) (octets text : List ℕ)

@@ -1,14 +1,18 @@
 //! The program `dceidl` as a library: what a command line asks for is done over sources, sinks and files that its caller makes.
 #![tactic(auto)]
 
+mod acf_reading;
 mod compiling;
 mod decode;
 mod encode;
 mod faults;
 mod input;
 mod join;
+mod judging;
 pub mod laws;
 mod lines;
+mod listed;
+mod loading;
 mod outcome;
 mod position;
 mod ready;
@@ -30,23 +34,27 @@ pub const CHUNK_LIMIT: u32 = 16_777_216;
 
 /// What `--help` prints.
 pub const HELP: &str = "\
-usage: dceidl decode IDL - OP SIDE ORDER
-       dceidl encode IDL - OP SIDE ORDER CHUNK
+usage: dceidl compile IDL ACF
+       dceidl decode IDL ACF OP SIDE ORDER
+       dceidl encode IDL ACF OP SIDE ORDER CHUNK
        dceidl --help
        dceidl --version
 
+compile checks a file of IDL with the files that it imports (C706, chapter 4), and writes the
+        listing of its interface to standard output.
 decode  reads the octets of a side of an operation from standard input, in NDR (C706,
         chapter 14), and writes their values to standard output as text.
 encode  reads such a text from standard input, and writes the octets of its values to
         standard output. CHUNK is the number of elements in a chunk of a pipe, 1 to 16777216.
 
-IDL is the path of a file of IDL, `-` stands for no attribute file, OP is the name of an
-operation, SIDE is `in` for its [in] parameters or `out` for its [out] parameters and its
-result, and ORDER, `little` or `big`, is the order of a number's octets.
+IDL is the path of a file of IDL, ACF is the path of an attribute configuration file or `-`
+for none, OP is the name of an operation, SIDE is `in` for its [in] parameters or `out` for
+its [out] parameters and its result, and ORDER, `little` or `big`, is the order of a
+number's octets.
 
 A refusal is one line on standard error. The status is 0 done, 1 octets, text or value
-refused, 2 words refused, 3 input failed, 4 output failed, 5 memory wanting, 6 IDL refused,
-7 IDL absent, 9 IDL not read.
+refused, 2 words refused, 3 input failed, 4 output failed, 5 memory wanting, 6 IDL or ACF
+refused, 7 IDL or ACF absent, 9 IDL or ACF not read.
 ";
 
 /// What `--version` prints.

@@ -1,5 +1,5 @@
 // What a command speaks of is made ready: the interface of the files, the operation, and that its values are built.
-ghost use Rattle.std.specs.Prelude.{◌≡◌, ◌<◌, length, Some, IfOk, IfErr};
+ghost use Rattle.std.specs.Prelude.{◌≡◌, ◌<◌, length, Some, option_map, IfOk, IfErr};
 ghost use Rattle.nd_types.specs.declared.types.Operation.{Operation};
 ghost use Rattle.nd_types.specs.Operations.{operation_named};
 ghost use Rattle.nd_types.specs.Numbers.{IsNumberSide, has_number_roots as all_roots_are_numbers};
@@ -25,18 +25,19 @@ pub(crate) struct Ready {
 pub(crate) fn make_ready<F: Files>(
     alloc: Global,
     idl: &str,
+    acf: Option<&str>,
     op: &str,
     side: Side,
     files: &mut F,
 ) -> Result<Ready, Refusal>
     ensures ready { IfOk result (λ r. (o : Operation)
-        × IsReady (files_seen F.held F.absences F.faults files.old files.new) idl.now op.now side r.interface r.number o) }
+        × IsReady (files_seen F.held F.absences F.faults files.old files.new) idl.now (option_map (λ a. a.now) acf.entry) op.now side r.interface r.number o) }
     ensures built { IfOk result (λ r. IsNumberSide r.interface.types r.interface.operations r.number r.side) }
     ensures known { IfOk result (λ r. r.number < length r.interface.operations) }
     ensures side { IfOk result (λ r. r.side ≡ side) }
-    ensures refused { IfErr result (IsFileCause (files_seen F.held F.absences F.faults files.old files.new) idl.now op.now side) }
+    ensures refused { IfErr result (IsFileCause (files_seen F.held F.absences F.faults files.old files.new) idl.now (option_map (λ a. a.now) acf.entry) op.now side) }
 {
-    let interface = compile(alloc, idl, files)?;
+    let interface = compile(alloc, idl, acf, files)?;
     find(interface, op, side)
 }
 

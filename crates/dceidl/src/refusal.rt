@@ -7,7 +7,7 @@ use nd_graph::MisfitReason;
 use thiserror::Error;
 use value_text::TextReason;
 
-/// Why a file of IDL is refused at a place.
+/// Why a file of IDL, or an attribute configuration file, is refused at a place.
 #[derive(Debug, Drop, Error)]
 pub enum IdlReason {
     /// It cannot be cut into tokens, or is too long.
@@ -37,7 +37,7 @@ pub enum IdlReason {
     /// An expression has no value.
     #[error("{0}")]
     NoValue(ConstFault),
-    /// The rule of this number of `docs/IDL.md` is broken.
+    /// The rule of this number of `docs/IDL.md` is broken: the fortieth by an attribute configuration file, each other by a file of IDL.
     #[error("rule {0}")]
     Rule(u8),
 }
@@ -59,7 +59,7 @@ pub enum Refusal {
     /// Memory was wanting.
     #[error("out of memory")]
     Memory,
-    /// There is no file of the name: the main file, or one that is imported.
+    /// There is no file of the name: the main file, one that is imported, or the attribute configuration file.
     #[error("no such file")]
     Absent {
         file: Octets,

@@ -1,5 +1,5 @@
 // A task: what is done with the values of an operation's side.
-ghost use Rattle.std.specs.Prelude.{◌≡◌, ℕ, ◌+◌, ◌<◌, ◌≤◌, List, length, Some, IfOk, IfErr};
+ghost use Rattle.std.specs.Prelude.{◌≡◌, ℕ, ◌+◌, ◌<◌, ◌≤◌, List, length, option_map, Some, IfOk, IfErr};
 ghost use Rattle.std.specs.List.{slice_get};
 ghost use Rattle.nd_types.specs.declared.interface.Interface.{Interface as InterfaceValue};
 ghost use Rattle.nd_types.specs.declared.types.Operation.{Operation};
@@ -34,6 +34,7 @@ pub(crate) fn perform<F: Files, S: Source>(
     alloc: Global,
     task: Task,
     idl: &str,
+    acf: Option<&str>,
     op: &str,
     side: Side,
     files: &mut F,
@@ -41,13 +42,13 @@ pub(crate) fn perform<F: Files, S: Source>(
 ) -> Result<Octets, Refusal>
     requires chunk { HasChunk task }
     ensures done { IfOk result (λ made. (i : InterfaceValue) × (n : ℕ) × (o : Operation)
-        × IsReady (files_seen F.held F.absences F.faults files.old files.new) idl.now op.now side i n o
+        × IsReady (files_seen F.held F.absences F.faults files.old files.new) idl.now (option_map (λ a. a.now) acf.entry) op.now side i n o
         × IsMadeOfInput (source_seen S.left S.ended S.faults input.old input.new) task (setting_of i o side) made) }
     ensures refused { IfErr result (IsCause
         (files_seen F.held F.absences F.faults files.old files.new)
-        (source_seen S.left S.ended S.faults input.old input.new) task idl.now op.now side) }
+        (source_seen S.left S.ended S.faults input.old input.new) task idl.now (option_map (λ a. a.now) acf.entry) op.now side) }
 {
-    let ready = make_ready(alloc, idl, op, side, files)?;
+    let ready = make_ready(alloc, idl, acf, op, side, files)?;
     convert_input(alloc, &ready, task, input)
 }
 

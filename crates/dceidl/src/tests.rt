@@ -62,6 +62,18 @@ const SIDES_FILE: &[u8] =
 const ALONE_FILE: &[u8] =
     b"[uuid(11111111-2222-3333-4444-555555555555)]\ninterface t { import \"s.idl\"; void f(); }";
 
+// The file `t.acf`, which stands beside `t.idl`.
+const ACF_FILE: &[u8] = b"[explicit_handle] interface t { [code] ping(); }\n";
+
+// The file `u.acf`, of another interface.
+const OTHER_ACF_FILE: &[u8] = b"\n [code] interface u { }";
+
+// The file `v.acf`, which is none of the language.
+const WRONG_ACF_FILE: &[u8] = b"[code interface t { }";
+
+// The file `w.acf`, with an octet that begins no token.
+const UNCUT_ACF_FILE: &[u8] = b"interface t {\n$ }";
+
 // The values 1, 2 and 3 of `add`.
 const DECODED: Case = Case {
     words: &["decode", "t.idl", "-", "add", "in", "little"],
@@ -71,7 +83,7 @@ const DECODED: Case = Case {
     failing_fetches: &[],
     failing_puts: &[],
     failing_notes: &[],
-    room: 1000,
+    room: 2000,
     status: 0,
     out: b"values 1\nop add in\na = 1\nb = 2\nc = 3\n",
     notes: "",
@@ -100,6 +112,21 @@ const PINGED: Case = Case {
     ..DECODED
 };
 
+// The listing of `t.idl`.
+const LISTED: Case = Case {
+    words: &["compile", "t.idl", "-"],
+    input: b"",
+    out: b"interface t version 0.0 uuid 11111111-2222-3333-4444-555555555555\nop 0 add\nin a 7\nin b 5\nin c 9\nop 1 ping\n",
+    ..DECODED
+};
+
+// A listing that is refused.
+const NOT_LISTED: Case = Case {
+    status: 6,
+    out: b"",
+    ..LISTED
+};
+
 // Words that are no command.
 const NO_COMMAND: Case = Case {
     words: &[],
@@ -123,6 +150,10 @@ fn run_case(alloc: Global, case: &Case) -> Result<Ran, Memory> {
     files.add("y.idl", BROKEN_FILE)?;
     files.add("z.idl", SIDES_FILE)?;
     files.add("a.idl", ALONE_FILE)?;
+    files.add("t.acf", ACF_FILE)?;
+    files.add("u.acf", OTHER_ACF_FILE)?;
+    files.add("v.acf", WRONG_ACF_FILE)?;
+    files.add("w.acf", UNCUT_ACF_FILE)?;
     let piece = case.piece.max(1);
     let mut input = MemSource::new(alloc, case.input, piece, case.failing_fetches)?;
     let mut out = MemSink::new(alloc, case.room, case.failing_puts)?;
@@ -391,6 +422,128 @@ fn words_and_files_are_refused(rt: HostRuntime) {
             out: b"",
             notes: "idl t.idl: NoOperation sub\n",
             ..DECODED
+        },
+    ];
+    expect_all(&rt, rt.alloc(), &cases);
+}
+
+#[test]
+fn interfaces_are_listed(rt: HostRuntime) {
+    let cases = [
+        LISTED,
+        Case {
+            words: &["compile", "t.idl", "t.acf"],
+            ..LISTED
+        },
+        Case {
+            words: &["compile", "z.idl", "-"],
+            out: b"interface s version 0.0 uuid 11111111-2222-3333-4444-555555555555\ntype 12 enum 0 1 align 2\nop 0 f\nin k 12\nout return 10\n",
+            ..LISTED
+        },
+        // The input is not asked for.
+        Case {
+            failing_fetches: &[1],
+            ..LISTED
+        },
+        Case {
+            failing_puts: &[1],
+            status: 4,
+            out: b"",
+            notes: "write fault\n",
+            ..LISTED
+        },
+    ];
+    expect_all(&rt, rt.alloc(), &cases);
+}
+
+#[test]
+fn listings_are_refused(rt: HostRuntime) {
+    let cases = [
+        Case {
+            words: &["compile", "t.idl"],
+            ..NO_COMMAND
+        },
+        Case {
+            words: &["compile", "t.idl", "-", "add"],
+            ..NO_COMMAND
+        },
+        Case {
+            words: &["compile", "y.idl", "-"],
+            notes: "idl y.idl:3:8: Rule 30\n",
+            ..NOT_LISTED
+        },
+        Case {
+            words: &["compile", "a.idl", "u.acf"],
+            status: 7,
+            notes: "absent: s.idl\n",
+            ..NOT_LISTED
+        },
+        Case {
+            words: &["compile", "y.idl", "s.acf"],
+            status: 7,
+            notes: "absent: s.acf\n",
+            ..NOT_LISTED
+        },
+        Case {
+            words: &["compile", "t.idl", "t.acf"],
+            failing_loads: &[2],
+            status: 9,
+            notes: "file fault: t.acf\n",
+            ..NOT_LISTED
+        },
+        Case {
+            words: &["compile", "y.idl", "v.acf"],
+            notes: "idl v.acf:1:7: Syntax\n",
+            ..NOT_LISTED
+        },
+        Case {
+            words: &["compile", "t.idl", "w.acf"],
+            notes: "idl w.acf:2:1: BadOctet\n",
+            ..NOT_LISTED
+        },
+        Case {
+            words: &["compile", "t.idl", "u.acf"],
+            notes: "idl u.acf:2:2: Rule 40\n",
+            ..NOT_LISTED
+        },
+        Case {
+            words: &["compile", "y.idl", "u.acf"],
+            notes: "idl y.idl:3:8: Rule 30\n",
+            ..NOT_LISTED
+        },
+        // A file of IDL is loaded again as an attribute file.
+        Case {
+            words: &["compile", "t.idl", "t.idl"],
+            notes: "idl t.idl:1:2: Syntax\n",
+            ..NOT_LISTED
+        },
+    ];
+    expect_all(&rt, rt.alloc(), &cases);
+}
+
+#[test]
+fn attribute_files_are_read(rt: HostRuntime) {
+    let cases = [
+        Case {
+            words: &["decode", "t.idl", "t.acf", "add", "in", "little"],
+            ..DECODED
+        },
+        Case {
+            words: &["encode", "t.idl", "t.acf", "add", "in", "little", "1"],
+            ..ENCODED
+        },
+        Case {
+            words: &["decode", "t.idl", "u.acf", "sub", "in", "little"],
+            status: 6,
+            out: b"",
+            notes: "idl u.acf:2:2: Rule 40\n",
+            ..DECODED
+        },
+        Case {
+            words: &["encode", "t.idl", "s.acf", "add", "in", "little", "1"],
+            status: 7,
+            notes: "absent: s.acf\n",
+            ..NOT_ENCODED
         },
     ];
     expect_all(&rt, rt.alloc(), &cases);

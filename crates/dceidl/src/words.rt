@@ -1,6 +1,6 @@
 // The words of a command line, and the command that they are.
 ghost use Rattle.std.specs.Prelude.{◌≡◌, ◌≤◌, [], ◌∷◌, ◌++◌, OnOk, OnErr, IfSome, option_map};
-ghost use Rattle.dceidl.specs.Words.{command, order_of, side_of, chunk_of, chunk_by, work as work_of, decoding as decoding_of, encoding as encoding_of};
+ghost use Rattle.dceidl.specs.Words.{command, acf_of, order_of, side_of, chunk_of, chunk_by, work as work_of, decoding as decoding_of, encoding as encoding_of};
 ghost use Rattle.dceidl.specs.Asked.{asked, HasChunk, AsksChunk};
 
 use crate::CHUNK_LIMIT;
@@ -56,11 +56,13 @@ impl Words {
     {
         match self.items.as_slice() {
             [word] => short_command(word.as_str()),
+            [verb, idl, acf] => compile_command(verb.as_str(), idl.as_str(), acf.as_str()),
             [verb, idl, acf, op, side, order] => {
-                if verb.as_str() == "decode" && acf.as_str() == "-" {
+                if verb.as_str() == "decode" {
                     work(
                         decoding(order.as_str()),
                         idl.as_str(),
+                        acf_named(acf.as_str()),
                         op.as_str(),
                         side_named(side.as_str()),
                     )
@@ -69,10 +71,11 @@ impl Words {
                 }
             }
             [verb, idl, acf, op, side, order, chunk] => {
-                if verb.as_str() == "encode" && acf.as_str() == "-" {
+                if verb.as_str() == "encode" {
                     work(
                         encoding(order.as_str(), chunk.as_str()),
                         idl.as_str(),
+                        acf_named(acf.as_str()),
                         op.as_str(),
                         side_named(side.as_str()),
                     )
@@ -91,8 +94,13 @@ pub(crate) enum Command<'a> {
     Work {
         task: Task,
         idl: &'a str,
+        acf: Option<&'a str>,
         op: &'a str,
         side: Side,
+    },
+    Compile {
+        idl: &'a str,
+        acf: Option<&'a str>,
     },
     Help,
     Version,
@@ -111,21 +119,37 @@ fn short_command(word: &str) -> Option<Command<'_>>
     }
 }
 
+fn compile_command<'a>(verb: &str, idl: &'a str, acf: &'a str) -> Option<Command<'a>>
+    ensures command { option_map asked result ≡ command (verb.now ∷ idl.now ∷ acf.now ∷ []) }
+    ensures chunk { IfSome result AsksChunk }
+{
+    if verb == "compile" {
+        Some(Command::Compile {
+            idl,
+            acf: acf_named(acf),
+        })
+    } else {
+        None
+    }
+}
+
 // The command of a task and a side, where there are ones.
 fn work<'a>(
     task: Option<Task>,
     idl: &'a str,
+    acf: Option<&'a str>,
     op: &'a str,
     side: Option<Side>,
 ) -> Option<Command<'a>>
     requires chunk { IfSome task HasChunk }
-    ensures command { option_map asked result ≡ work_of task idl.now op.now side }
+    ensures command { option_map asked result ≡ work_of task idl.now (option_map (λ a. a.now) acf.entry) op.now side }
     ensures chunk { IfSome result AsksChunk }
 {
     match (task, side) {
         (Some(task), Some(side)) => Some(Command::Work {
             task,
             idl,
+            acf,
             op,
             side,
         }),
@@ -152,6 +176,17 @@ fn encoding(order: &str, chunk: &str) -> Option<Task>
     match (order_named(order), chunk_named(chunk)) {
         (Some(order), Some(chunk)) => Some(Task::Encode { order, chunk }),
         _ => None,
+    }
+}
+
+// The attribute file that a word names: `-` names none.
+fn acf_named(word: &str) -> Option<&str>
+    ensures { option_map (λ a. a.now) result ≡ acf_of word.now }
+{
+    if word == "-" {
+        None
+    } else {
+        Some(word)
     }
 }
 
