@@ -18,7 +18,7 @@ def changed(at, word):
 
 CASES = [
     Case("words: decode", DECODE, {"t.idl": PLAIN}, octets("01"), lines("values 1", "op f in", "x = 1")),
-    Case("words: --help", ["--help"], out=Begins(b"usage: dceidl")),
+    Case("words: --help", ["--help"], out=Begins(b"usage: dceidl compile IDL ACF\n")),
     Case("words: --help reads no input", ["--help"], input=CLOSED, out=Begins(b"usage: dceidl")),
     Case("words: --version", ["--version"], out=lines("dceidl 0.1.0")),
     Case("words: --version reads no input", ["--version"], input=CLOSED, out=lines("dceidl 0.1.0")),
