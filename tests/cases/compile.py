@@ -1,6 +1,6 @@
 """The command `compile`: what it lists, and the order in which it refuses. `acf.py` has what attribute files are refused for."""
 
-from case import CLOSED, ENDLESS, FULL, Case, Folder, lines, octets
+from case import CLOSED, ENDLESS, FULL, Case, Folder, example, lines, octets
 
 UUID = "11111111-2222-3333-4444-555555555555"
 LOCAL = "interface t version 0.0 uuid -"
@@ -99,6 +99,37 @@ WORKED = [
     ),
     Case("compile: the directory", COMPILE, FILES, out=DIRECTORY_LISTING),
     Case("compile: the directory without an ACF", ["compile", "dir.idl", "-"], without("dir.acf"), out=DIRECTORY_LISTING),
+]
+
+EXAMPLES = [
+    Case("compile: the example of letters", ["compile", "letters.idl", "letters.acf"],
+         {name: example(name) for name in ("letters.idl", "letters.acf")},
+         out=lines(
+             "interface letters version 1.2 uuid 6b1d1e10-2f0a-4b6e-9d3f-0a1b2c3d4e5f",
+             "type 12 enum 0 4 align 2",
+             "type 13 struct align 4 hoists",
+             "member what 12",
+             "member to 14",
+             "member answered 15",
+             "member size 8",
+             "member text 16 size_is size",
+             "type 14 text 1 32 align 4",
+             "type 15 unique 13 align 4",
+             "type 16 conf 2 align 1 hoists",
+             "type 17 ref 13 align 4",
+             "type 18 conftext 1 align 4 hoists",
+             "type 19 ref 18 align 4",
+             "op 0 send",
+             "in sent 17",
+             "out return 8",
+             "op 1 last",
+             "in to 19",
+             "out found 17",
+         )),
+    Case("compile: the example of a shop", ["compile", "examples/shop.idl", "examples/shop.acf"],
+         {f"examples/{name}": example(name) for name in ("shop.idl", "base.idl", "shop.acf")},
+         out=lines("interface shop version 0.0 uuid -", "type 12 fixed 8 16 align 4", "op 0 put", "in i 8", "in count 6", "op 1 list", "in all 12",
+                   "op 2 top", "out return 10")),
 ]
 
 # ----------------------------------------------------------------------------------------------------------------------
@@ -301,4 +332,4 @@ NAMES = [
     refusal("letters past ASCII in the name of an ACF", ["compile", "t.idl", "größe.acf"], SMALL, "absent: größe.acf", 7),
 ]
 
-CASES = WORKED + HEADERS + OPERATIONS + TYPES + LAYOUTS + IMPORTED + WORDS + STREAMS + ORDER + NAMES
+CASES = WORKED + EXAMPLES + HEADERS + OPERATIONS + TYPES + LAYOUTS + IMPORTED + WORDS + STREAMS + ORDER + NAMES
