@@ -30,6 +30,9 @@ MEGABYTE = 1_000_000
 PARAMETERS = 256
 STREAM_LIMIT = 16_777_216
 FILE_LIMIT = 1_048_576
+TYPE_LIMIT = 4_096
+BASIC_TYPES = 12
+OPERATION_LIMIT = 1_024
 MOST_TIMES = 12.0  # the time that ten times the input may take
 MOST_TIMES_OF_FOUR = 4.6  # the time that four times an interface file may take
 MOST_OCTETS = 100  # the memory for each octet of an interface file
@@ -115,6 +118,9 @@ class Bench:
 
     def encode(self, idl: Path, operation: str, order: str) -> List[str]:
         return [self.program, "encode", str(idl), "-", operation, "in", order, "1"]
+
+    def compile(self, idl: Path) -> List[str]:
+        return [self.program, "compile", str(idl), "-"]
 
 
 # ----------------------------------------------------------------------------------------------------------------------
@@ -235,6 +241,20 @@ def many_types(size: int) -> bytes:
         text += part
         number += 1
     return (text + "}\n").ljust(size).encode()
+
+
+def listed_interface(types: int, operations: int) -> bytes:
+    """An interface with so many types, the twelve basic ones included: pairs of a struct and a pointer; and so many operations."""
+    pairs = (types - BASIC_TYPES) // 2
+    lines = ["[uuid(11111111-2222-3333-4444-555555555555), version(1.0)]", "interface t {"]
+    for number in range(pairs):
+        lines.append(
+            f"typedef struct s{number} {{ long count; hyper far; [unique] struct s{number} *next; boolean last; struct leaf{number % 2} leaf; }} t{number};"
+            if number > 1
+            else f"struct leaf{number} {{ short a; [ptr] struct leaf{number} *of; }};"
+        )
+    lines += [f"long f{number}([in] long a, [in] t{number % (pairs - 2) + 2} b, [in] hyper c, [in] t2 d);" for number in range(operations)]
+    return "".join(f"{line}\n" for line in [*lines, "}"]).encode()
 
 
 def numbers(seed: int) -> List[int]:
@@ -384,22 +404,27 @@ def measure_files(bench: Bench, nothing: Path, start: Measured) -> None:
     check_growth(bench, "an interface file", *nets)
 
 
-def refusal(command: Sequence[str]) -> str:
-    """What the program tells of a file that it refuses, without the place."""
-    told = subprocess.run(command, stdin=subprocess.DEVNULL, capture_output=True, check=False).stderr.decode()
-    return told.strip().rpartition(": ")[2]
+def check_listing(bench: Bench, idl: Path, types: Optional[int] = None, operations: Optional[int] = None) -> None:
+    """A file has to be listed, with so many types and operations where these are known."""
+    ran = subprocess.run(bench.compile(idl), stdin=subprocess.DEVNULL, capture_output=True, check=False)
+    lines = ran.stdout.split(b"\n")
+    own = sum(line.startswith(b"type ") for line in lines)
+    if ran.returncode != 0 or not lines[0].startswith(b"interface t version 1.0 uuid "):
+        bench.fail(f"{idl.name}: it is refused: {ran.stderr.decode().strip()}")
+    elif types is not None and own + BASIC_TYPES != types:
+        bench.fail(f"{idl.name}: it is listed with {own + BASIC_TYPES} types, not {types}")
+    elif operations is not None and sum(line.startswith(b"op ") for line in lines) != operations:
+        bench.fail(f"{idl.name}: it is not listed with {operations} operations")
 
 
 def measure_language(bench: Bench, start: Measured) -> None:
-    """Files of the whole language, which are lexed and parsed to their end before they are refused, beside a compiler of C."""
+    """Files of the whole language, which are compiled to their listing, beside a compiler of C on as much C."""
     files = [bench.write(f"whole.{size}.idl", large_idl(size)) for size in (FILE_LIMIT // 4, FILE_LIMIT)]
-    commands = [bench.decode(file, "none", "little") for file in files]
-    for command in commands:
-        if refusal(command) not in ("NotBuilt", "NoOperation none"):
-            bench.fail(f"a file of the whole language: it is refused as {refusal(command)}")
+    for file in files:
+        check_listing(bench, file)
     runs = [
-        Run("decode, a quarter of the whole language", commands[0], files[0], 6, b""),
-        Run("decode, the whole language (refused)", commands[1], files[1], 6, b""),
+        Run("compile, a quarter of the whole language", bench.compile(files[0]), files[0]),
+        Run("compile, the whole language", bench.compile(files[1]), files[1]),
     ]
     compiler = shutil.which("cc")
     if compiler is not None:
@@ -411,25 +436,43 @@ def measure_language(bench: Bench, start: Measured) -> None:
     check_memory(bench, of_large)
     for other in others:
         tell(other, None, True)
-        tell_ratio("decode beside cc", of_large.seconds, other.seconds)
+        tell_ratio("compile beside cc", of_large.seconds, other.seconds)
 
 
 def measure_types(bench: Bench, start: Measured) -> None:
-    """Files of many types and constants, whose names are resolved and whose rules are checked before the operation is missed."""
+    """Files of many types and constants, which are compiled to their listing."""
     files = [bench.write(f"types.{size}.idl", many_types(size)) for size in (FILE_LIMIT // 4, FILE_LIMIT)]
-    commands = [bench.decode(file, "none", "little") for file in files]
-    for command in commands:
-        if refusal(command) != "NoOperation none":
-            bench.fail(f"a file of many types: it is refused as {refusal(command)}")
+    for file in files:
+        check_listing(bench, file)
     of_small, of_large = bench.large(
         [
-            Run("decode, a quarter of many types and constants", commands[0], files[0], 6, b""),
-            Run("decode, many types and constants (no operation)", commands[1], files[1], 6, b""),
+            Run("compile, a quarter of many types and constants", bench.compile(files[0]), files[0]),
+            Run("compile, many types and constants", bench.compile(files[1]), files[1]),
         ]
     )
     nets = [tell(of_small, start, True), tell(of_large, start, True)]
     check_growth(bench, "a file of many types and constants", *nets, times="four times", most=MOST_TIMES_OF_FOUR)
     check_memory(bench, of_large)
+
+
+def measure_listing(bench: Bench, nothing: Path, start: Measured) -> None:
+    """The listing of as many types and operations as there may be, beyond the same file without its listing, and of a quarter."""
+    runs = []
+    for part in (4, 1):
+        types, operations = TYPE_LIMIT // part, OPERATION_LIMIT // part
+        file = bench.write(f"listed.{types}.idl", listed_interface(types, operations))
+        check_listing(bench, file, types, operations)
+        told = f"{types:,} types and {operations:,} operations"
+        runs.append(Run(f"no listing, {told}", bench.decode(file, "none", "little"), nothing, 6, b""))
+        runs.append(Run(f"compile, {told}", bench.compile(file), nothing))
+    small_base, small, large_base, large = bench.measure(runs, max(3, bench.runs // 10))
+    tell(small_base, start)
+    of_small = tell(small, small_base)
+    tell(large_base, start)
+    of_large = tell(large, large_base)
+    check_growth(bench, "the listing", of_small, of_large, times="four times", most=MOST_TIMES_OF_FOUR)
+    nets = [measured.seconds - start.seconds for measured in (small, large)]
+    check_growth(bench, "the compilation of many types and operations", *nets, times="four times", most=MOST_TIMES_OF_FOUR)
 
 
 def has_encode(bench: Bench, idl: Path, nothing: Path) -> bool:
@@ -452,6 +495,7 @@ def measure(bench: Bench, size: int) -> None:
     measure_files(bench, nothing, start)
     measure_language(bench, start)
     measure_types(bench, start)
+    measure_listing(bench, nothing, start)
 
 
 def built() -> Path:

@@ -15,13 +15,9 @@ CASES = [
     refused(),
     Case("not built yet: no words, closed input", [], input=CLOSED, notes=lines("words refused"), status=2),
     refused("sample", "1", "2"),
-    refused("compile", "t.idl", "-"),
     refused("plan", "t.idl", "-"),
     refused("explain", "t.idl", "-", "f", "in", "little"),
     refused("drain", "t.idl", "-", "f", "in", "little"),
     refused("decode", "t.idl", "-", "f", "in", "label"),
-    refused("decode", "t.idl", "t.acf", "f", "in", "little"),
-    refused("decode", "t.idl", "", "f", "in", "little"),
     refused("encode", "t.idl", "-", "f", "in", "label", "1"),
-    refused("encode", "t.idl", "t.acf", "f", "in", "little", "1"),
 ]

@@ -18,7 +18,7 @@ def changed(at, word):
 
 CASES = [
     Case("words: decode", DECODE, {"t.idl": PLAIN}, octets("01"), lines("values 1", "op f in", "x = 1")),
-    Case("words: --help", ["--help"], out=Begins(b"usage: dceidl")),
+    Case("words: --help", ["--help"], out=Begins(b"usage: dceidl compile IDL ACF\n")),
     Case("words: --help reads no input", ["--help"], input=CLOSED, out=Begins(b"usage: dceidl")),
     Case("words: --version", ["--version"], out=lines("dceidl 0.1.0")),
     Case("words: --version reads no input", ["--version"], input=CLOSED, out=lines("dceidl 0.1.0")),
@@ -50,6 +50,7 @@ CASES = [
     refused("the whole is no UTF-8", b"\xff"),
     refused("the file's name is no UTF-8", *changed(1, b"t\xff.idl")),
     refused("the file's name is an overlong UTF-8", *changed(1, b"t\xc0\xae.idl")),
+    refused("the attribute file's name is no UTF-8", *changed(2, b"t\xff.acf")),
     refused("the operation is no UTF-8", *changed(3, b"\xc3")),
     refused("the order is no UTF-8", *changed(5, b"little\x80")),
     Case("words: refused before a missing file", changed(5, "middle"), notes=lines("words refused"), status=2),

@@ -1,5 +1,6 @@
 -- What is answered beside an attribute configuration file, from what is answered without it.
-use Rattle.std.proofs.Common.{◌≡◌, ◌∙◌, ℕ, Option, Some, None, Result, Ok, Err, refl, ap, sym, [], ◌∷◌}
+use Rattle.std.proofs.Common.{◌≡◌, ◌∙◌, ℕ, Option, Some, None, Result, Ok, Err, refl, ap, sym, subst, [], ◌∷◌}
+use Rattle.std.specs.Result.{IsErrAnd}
 use Rattle.nd_base.specs.declared.octets.Place.{Place}
 use Rattle.nd_types.specs.declared.interface.Interface.{Interface}
 use Rattle.acf_reader.specs.Tree.{Acf}
@@ -18,9 +19,14 @@ pub told_beside : (w : World) (f : Option Acf) (e : RuleFault) → Answers w (Er
 told_beside w f fault.Memory h = tt
 told_beside w f (fault.Broken rule place) h = acf_behind w f ∙ ap (λ b. or_else b (first_of w (acf_breaches w f))) h
 
+-- the same of an answer that passes it on
+pub told_on : (w : World) (f : Option Acf) (e : RuleFault) (r : Result Interface RuleFault) → IsErrAnd r (λ x. x ≡ e) → Answers w (Err e) → AnswersBeside w f r
+told_on w f e (Ok i) h a = absurd h
+told_on w f e (Err x) h a = subst (λ (y : RuleFault). AnswersBeside w f (Err y)) (sym h) (told_beside w f e a)
+
 -- no file
 pub alone : (w : World) (i : Interface) → IsMeaning w i → IsMeaningBeside w None i
-alone w i h = record { keeps = none_beside w ∙ h.keeps; means = h.means; }
+alone w i h = record { keeps = none_beside w ∙ h.keeps; means = h.means }
 
 -- the rule on the file is told
 pub last_told : (w : World) (f : Acf) (b : Breach) (i : Interface) → IsMeaning w i → first_of w (acf_breaches w (Some f)) ≡ Some b → first_of_all w (Some f) ≡ Some b

@@ -1,6 +1,6 @@
 -- The attributes of a root are those of its parameter, so its line can be written from what a walk over the roots gives.
 -- `o` is an operation, `s` a side, `r` a root, `p` a parameter, `i` its index.
-use Rattle.std.proofs.Common.{◌≡◌, ◌∙◌, ℕ, zero, suc, ◌+◌, Bool, true, false, not, List, [], ◌∷◌, ◌++◌, Option, Some, None, refl, ap, ap₂, sym, map, cond, arith}
+use Rattle.std.proofs.Common.{◌≡◌, ◌∙◌, ℕ, suc, ◌+◌, Bool, true, false, not, List, [], ◌∷◌, ◌++◌, Option, Some, None, refl, ap, ap₂, sym, map, cond, arith}
 use Rattle.std.specs.Prelude.{filter, ◌&&◌, eqb, decimal}
 use Rattle.std.specs.List.{flat_map, slice_get}
 use Rattle.nd_types.specs.declared.types.TypeId.{TypeId}

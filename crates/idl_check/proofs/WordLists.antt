@@ -1,5 +1,5 @@
 -- Lines that are written word by word.
-use Rattle.std.proofs.Common.{◌≡◌, ◌∙◌, ℕ, zero, suc, ◌-◌, ◌/◌, ◌%◌, ◌≤◌, List, [], ◌∷◌, ◌++◌, refl, ap, sym, append_assoc, codes, absurd, arith}
+use Rattle.std.proofs.Common.{◌≡◌, ◌∙◌, ℕ, zero, suc, ◌-◌, ◌/◌, ◌%◌, ◌≤◌, List, [], ◌∷◌, ◌++◌, refl, ap, sym, append_assoc, codes, arith}
 use Rattle.std.proofs.lemmas.List.{append-nil}
 use Rattle.idl_check.specs.Listing.{spaced, line, hex_digit, hex_digits}
 use Rattle.idl_check.specs.Worded.{behind}

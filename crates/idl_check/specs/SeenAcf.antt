@@ -1,5 +1,6 @@
 -- For the code: the places of attributes in one function, the operations of a file by name, and the answer with an attribute configuration file.
-use Rattle.std.specs.Prelude.{◌≡◌, ℕ, Bool, List, [], ◌∷◌, Option, Some, None, slice_get, Result, Ok, Err}
+use Rattle.std.specs.Prelude.{◌≡◌, ℕ, suc, Bool, true, false, List, [], ◌∷◌, Option, Some, None, Result, Ok, Err}
+use Rattle.std.specs.Str.{bytes_eq}
 use Rattle.idl_grammar.specs.declared.words.Spelling.{Spelling}
 use Rattle.idl_grammar.specs.Tree.{Export}
 use Rattle.idl_grammar.specs.Tree as idl
@@ -16,7 +17,7 @@ use Rattle.idl_rules.specs.World.{World}
 use Rattle.idl_rules.specs.Rules.{breach}
 use Rattle.idl_rules.specs.Meaning.{meaning}
 use Rattle.idl_rules.specs.Answers.{meant_by}
-use Rattle.idl_check.specs.AcfRules.{is_of_interface, is_of_type, is_of_operation, is_of_parameter, parameters_found, first_of_all}
+use Rattle.idl_check.specs.AcfRules.{is_of_interface, is_of_type, is_of_operation, is_of_parameter, first_of_all}
 
 -- whether an attribute may stand in a place
 abbrev pub belongs : Spot → AttributeKind → Bool
@@ -25,19 +26,29 @@ belongs spot.Type = is_of_type
 belongs spot.Operation = is_of_operation
 belongs spot.Parameter = is_of_parameter
 
+-- the name of a declaration, where it is an operation
+abbrev pub operation_name : Export → Option Spelling
+operation_name (idl.Operation at a result n ps) = Some n
+operation_name _ = None
+
 -- the parameters of a declaration, where it is an operation
 abbrev pub parameters_in : Option Export → Option (List idl.Parameter)
 parameters_in (Some (idl.Operation at a result n ps)) = Some (parameters_of ps)
 parameters_in _ = None
 
--- the parameters of the declaration of a number
-abbrev pub parameters_at : List Export → Option ℕ → Option (List idl.Parameter)
-parameters_at exports None = None
-parameters_at exports (Some i) = parameters_in (slice_get exports i)
+-- the number of a declaration that is an operation of this name, or else the number that is given
+abbrev pub number_if : List ℕ → ℕ → Option Spelling → Option ℕ → Option ℕ
+number_if name i None rest = rest
+number_if name i (Some n) rest = elim (bytes_eq name n.octets) [ true ↦ Some i | false ↦ rest ]
 
--- a table of the operations among declarations, by the names of those from a number on
-pub record AreOperations (exports : List Export) (left : List Export) (table : List (List ℕ × ℕ)) : Type 0 where
-  pub found : (name : Spelling) → parameters_at exports (found name.octets table) ≡ parameters_found name left
+-- the number of the first operation of a name among declarations, of which the first has the number `i`
+abbrev pub number_of : List ℕ → ℕ → List Export → Option ℕ
+number_of name i [] = None
+number_of name i (e ∷ es) = number_if name i (operation_name e) (number_of name (suc i) es)
+
+-- a table of the operations among declarations, of which the first has the number `i`
+pub record AreOperations (i : ℕ) (exports : List Export) (table : List (List ℕ × ℕ)) : Type 0 where
+  pub found : (name : List ℕ) → found name table ≡ number_of name i exports
 
 -- Files that keep all rules with an attribute configuration file, if there is one, and their interface.
 pub record IsMeaningBeside (w : World) (acf : Option Acf) (i : Interface) : Type 0 where

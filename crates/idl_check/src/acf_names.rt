@@ -1,5 +1,5 @@
 // The names of an attribute configuration file, which are names of the IDL (C706, section 4.3).
-ghost use Rattle.std.specs.Prelude.{◌≡◌, ◌∷◌, List, Some, map, option_map, slice_get, IfOk, OnOk};
+ghost use Rattle.std.specs.Prelude.{◌≡◌, suc, ◌∷◌, List, map, option_map, slice_get, IfOk, OnOk};
 ghost use Rattle.std.specs.Str.{bytes_eq};
 ghost use Rattle.idl_grammar.specs.Tree as idl;
 ghost use Rattle.std.specs.List.{list_any};
@@ -7,7 +7,7 @@ ghost use Rattle.idl_grammar.specs.Seen.{seen_parameter, seen_parameters, seen_e
 ghost use Rattle.idl_names.specs.Seen.{known_in};
 ghost use Rattle.idl_names.specs.Steps.{parameters_of};
 ghost use Rattle.idl_check.specs.AcfRules.{is_no_type, handle_is_no_type, has_unknown_handle, is_no_parameter, parameters_found};
-ghost use Rattle.idl_check.specs.SeenAcf.{AreOperations};
+ghost use Rattle.idl_check.specs.SeenAcf.{parameters_in, operation_name, AreOperations};
 
 use acf_reader::{Attribute, AttributeKind, HandleType};
 use idl_grammar::{Export, Parameter, Parameters, Spelling};
@@ -102,12 +102,29 @@ fn listed(parameters: &Parameters) -> &[Parameter]
     }
 }
 
+/// The declaration of a number.
+fn export_at(exports: &[Export], at: usize) -> Option<&Export>
+    ensures { option_map (λ e. seen_export e.now) result ≡ slice_get (map seen_export exports.now) at }
+{
+    exports.get(at)
+}
+
+/// The parameters of a declaration, if it is an operation.
+fn parameters_in(export: Option<&Export>) -> Option<&[Parameter]>
+    ensures { option_map (λ ps. map seen_parameter ps.now) result ≡ parameters_in (option_map (λ e. seen_export e.now) export.entry) }
+{
+    match export {
+        Some(Export::Operation { parameters, .. }) => Some(listed(parameters)),
+        _ => None,
+    }
+}
+
 /// The operations of a file by their names.
 #[derive(Drop)]
 pub(crate) struct NamedOperations<'t> {
     exports: &'t [Export],
     numbers: Table<usize>,
-    ghost operations: { AreOperations (map seen_export exports.now) (map seen_export exports.now) numbers },
+    ghost operations: { AreOperations 0 (map seen_export exports.now) numbers },
 }
 
 impl<'t> NamedOperations<'t> {
@@ -116,25 +133,27 @@ impl<'t> NamedOperations<'t> {
         ensures { option_map (λ ps. map seen_parameter ps.now) result ≡ parameters_found name.now (map seen_export self.now.exports.now) }
     {
         let number = self.numbers.get(name.octets.as_slice())?;
-        match self.exports.get(number) {
-            Some(Export::Operation { parameters, .. }) => Some(listed(parameters)),
-            _ => None,
-        }
+        parameters_in(export_at(self.exports, number))
+    }
+}
+
+/// The name of a declaration, if it is an operation.
+fn operation_name(export: &Export) -> Option<&Spelling>
+    ensures { option_map (λ n. n.now) result ≡ operation_name (seen_export export.now) }
+{
+    match export {
+        Export::Operation { name, .. } => Some(name),
+        _ => None,
     }
 }
 
 /// Gives the name of a declaration its number, if it is an operation. Takes memory for the name.
-fn add_operation(
-    numbers: &mut Table<usize>,
-    export: &Export,
-    number: usize,
-) -> Result<(), Memory>
-    ensures { (all left : List idl.Export) → AreOperations all left numbers.old → slice_get all number ≡ Some (seen_export export.now)
-        → OnOk result (AreOperations all (seen_export export.now ∷ left) numbers.new) }
+fn add_operation(numbers: &mut Table<usize>, export: &Export, number: usize) -> Result<(), Memory>
+    ensures { (left : List idl.Export) → AreOperations (suc number) left numbers.old → OnOk result (AreOperations number (seen_export export.now ∷ left) numbers.new) }
 {
-    match export {
-        Export::Operation { name, .. } => numbers.put(name.octets.as_slice(), number),
-        _ => Ok(()),
+    match operation_name(export) {
+        Some(name) => numbers.put(name.octets.as_slice(), number),
+        None => Ok(()),
     }
 }
 

@@ -20,12 +20,11 @@ use crate::acf_names::{
     NamedOperations, any_is_no_type, any_unknown_handle, is_no_parameter, operations_of,
 };
 use crate::acf_places::{Spot, attribute_list, is_misplaced};
-use idl_rules::{Breach, Finder};
-use idl_rules::main_tree;
 use acf_reader::{Acf, Attribute, Attributes, BodyElement, Parameter};
 use idl_grammar as idl;
 use idl_grammar::{Spelling, Tree};
 use idl_names::Scope;
+use idl_rules::{Breach, Finder, main_tree};
 use nd_base::{Memory, Place};
 use std::alloc::Global;
 
@@ -64,7 +63,7 @@ fn parameters(finder: &mut Finder<'_>, parameters: &[idl::Parameter], list: &[Pa
     ensures files { finder.new.files.now ≡ finder.old.files.now }
     ensures first { (w : World) → w.files ≡ seen_files finder.old.files.now
         → option_map seen_breach finder.new.first ≡ noted w (option_map seen_breach finder.old.first)
-            (flat_map (breaches_of_parameter (map of_idl.seen_parameter parameters.now)) (map seen_parameter list.now)) }
+        (flat_map (breaches_of_parameter (map of_idl.seen_parameter parameters.now)) (map seen_parameter list.now)) }
 {
     for one in list {
         note(finder, one.at, breaks_parameter(parameters, one));
@@ -82,7 +81,7 @@ fn operation(
     ensures files { finder.new.files.now ≡ finder.old.files.now }
     ensures first { (w : World) → w.files ≡ seen_files finder.old.files.now
         → option_map seen_breach finder.new.first ≡ noted w (option_map seen_breach finder.old.first)
-            (breaches_of_operation at attributes.now (map seen_parameter list.now) (option_map (λ ps. map of_idl.seen_parameter ps.now) found)) }
+        (breaches_of_operation at attributes.now (map seen_parameter list.now) (option_map (λ ps. map of_idl.seen_parameter ps.now) found.entry)) }
 {
     match found {
         None => note(finder, at, true),
@@ -147,7 +146,7 @@ fn elements(
     ensures files { finder.new.files.now ≡ finder.old.files.now }
     ensures first { (w : World) (main : idl.Tree) → w.files ≡ seen_files finder.old.files.now → main.exports ≡ map of_idl.seen_export operations.now.exports.now
         → option_map seen_breach finder.new.first ≡ noted w (option_map seen_breach finder.old.first)
-            (flat_map (breaches_of_element (known_in scope.now) main) (map seen_element body.now)) }
+        (flat_map (breaches_of_element (known_in scope.now) main) (map seen_element body.now)) }
 {
     for one in body {
         element(finder, scope, operations, one);
@@ -170,11 +169,7 @@ fn breaks_header(scope: &Scope, main: &Tree, acf: &Acf) -> bool
 }
 
 /// The first breach of the rule in an attribute configuration file, if it is broken. Takes memory for the names of operations.
-pub(crate) fn acf_breach(
-    alloc: Global,
-    scope: &Scope,
-    acf: &Acf,
-) -> Result<Option<Breach>, Memory>
+pub(crate) fn acf_breach(alloc: Global, scope: &Scope, acf: &Acf) -> Result<Option<Breach>, Memory>
     ensures { IfOk result (λ b. option_map seen_breach b ≡ first_of (world_of scope.now) (acf_breaches (world_of scope.now) (Some (seen_acf acf.now)))) }
 {
     let main = main_tree(&scope.files)?;

@@ -9,7 +9,8 @@ use std::alloc::Global;
 use std::process::Abort;
 use std::test::Fail;
 
-const IDL: &[u8] = b"[local] interface t { const long C = 1; typedef struct s { long a; } n; void f([in] n a, [in] n b); }";
+const IDL: &[u8] =
+    b"[local] interface t { const long C = 1; typedef struct s { long a; } n; void f([in] n a, [in] n b); }";
 
 /// What is known after a file.
 fn scope_of(alloc: Global, text: &[u8]) -> Result<Scope, Fail> {
@@ -52,22 +53,57 @@ fn assert_told(
 }
 
 #[test]
-fn names_are_of_the_idl(rt: HostRuntime) -> Result<(), Fail> {
+fn the_interface_is_that_of_the_idl(rt: HostRuntime) -> Result<(), Fail> {
     let alloc = rt.alloc();
     assert_told(&rt, alloc, b"interface t { }", None)?;
     assert_told(&rt, alloc, b"interface T { }", Some(0))?;
-    assert_told(&rt, alloc, b"[implicit_handle(n h), code, code] interface t { }", None)?;
-    assert_told(&rt, alloc, b"[implicit_handle(s h)] interface t { }", Some(0))?;
-    assert_told(&rt, alloc, b"[code, implicit_handle(C h)] interface t { }", Some(0))?;
+    assert_told(
+        &rt,
+        alloc,
+        b"[implicit_handle(n h), code, code] interface t { }",
+        None,
+    )?;
+    assert_told(
+        &rt,
+        alloc,
+        b"[implicit_handle(s h)] interface t { }",
+        Some(0),
+    )?;
+    assert_told(
+        &rt,
+        alloc,
+        b"[code, implicit_handle(C h)] interface t { }",
+        Some(0),
+    )
+}
+
+#[test]
+fn types_are_of_the_idl(rt: HostRuntime) -> Result<(), Fail> {
+    let alloc = rt.alloc();
     assert_told(&rt, alloc, b"interface t { typedef [heap] n, n; }", None)?;
-    assert_told(&rt, alloc, b"interface t { typedef [heap] n, s; }", Some(14))?;
-    assert_told(&rt, alloc, b"interface t { f(); typedef [heap] C; }", Some(19))
+    assert_told(
+        &rt,
+        alloc,
+        b"interface t { typedef [heap] n, s; }",
+        Some(14),
+    )?;
+    assert_told(
+        &rt,
+        alloc,
+        b"interface t { f(); typedef [heap] C; }",
+        Some(19),
+    )
 }
 
 #[test]
 fn operations_and_parameters_are_of_the_idl(rt: HostRuntime) -> Result<(), Fail> {
     let alloc = rt.alloc();
-    assert_told(&rt, alloc, b"interface t { include \"x.h\"; f(b, a, a); f(); }", None)?;
+    assert_told(
+        &rt,
+        alloc,
+        b"interface t { include \"x.h\"; f(b, a, a); f(); }",
+        None,
+    )?;
     assert_told(&rt, alloc, b"interface t { f(a); [code] g(a); }", Some(20))?;
     assert_told(&rt, alloc, b"interface t { n(); }", Some(14))?;
     assert_told(&rt, alloc, b"interface t { f(a, [heap] c); }", Some(19))?;
@@ -82,48 +118,137 @@ fn joined(alloc: Global, before: &[u8], piece: &[u8], behind: &[u8]) -> Result<O
     Ok(text)
 }
 
-/// An attribute in one place, between these, is told at an octet, or it may stand there.
-fn assert_place(
+/// The attribute at the interface, which may stand there or is told.
+fn assert_of_interface(
     rt: &impl Abort,
     alloc: Global,
     attribute: &[u8],
-    around: (&[u8], &[u8]),
     may_stand: bool,
-    at: u32,
 ) -> Result<(), Fail> {
-    let text = joined(alloc, around.0, attribute, around.1)?;
-    let wanted = if may_stand { None } else { Some(at) };
+    let text = joined(alloc, b"[", attribute, b"] interface t { }")?;
+    let wanted = if may_stand { None } else { Some(0) };
     assert_told(rt, alloc, text.as_slice(), wanted)
 }
 
-/// An attribute at the interface, at a type, at an operation and at a parameter.
+/// At a type.
+fn assert_of_type(
+    rt: &impl Abort,
+    alloc: Global,
+    attribute: &[u8],
+    may_stand: bool,
+) -> Result<(), Fail> {
+    let text = joined(alloc, b"interface t { typedef [", attribute, b"] n; }")?;
+    let wanted = if may_stand { None } else { Some(14) };
+    assert_told(rt, alloc, text.as_slice(), wanted)
+}
+
+/// At an operation.
+fn assert_of_operation(
+    rt: &impl Abort,
+    alloc: Global,
+    attribute: &[u8],
+    may_stand: bool,
+) -> Result<(), Fail> {
+    let text = joined(alloc, b"interface t { [", attribute, b"] f(); }")?;
+    let wanted = if may_stand { None } else { Some(14) };
+    assert_told(rt, alloc, text.as_slice(), wanted)
+}
+
+/// At a parameter.
+fn assert_of_parameter(
+    rt: &impl Abort,
+    alloc: Global,
+    attribute: &[u8],
+    may_stand: bool,
+) -> Result<(), Fail> {
+    let text = joined(alloc, b"interface t { f([", attribute, b"] a); }")?;
+    let wanted = if may_stand { None } else { Some(16) };
+    assert_told(rt, alloc, text.as_slice(), wanted)
+}
+
+/// Where an attribute may stand.
+#[derive(Clone, Copy)]
+struct Stands {
+    interface: bool,
+    of_type: bool,
+    operation: bool,
+    parameter: bool,
+}
+
+/// An attribute in each place.
 fn assert_places(
     rt: &impl Abort,
     alloc: Global,
     attribute: &[u8],
-    may_stand: [bool; 4],
+    stands: Stands,
 ) -> Result<(), Fail> {
-    let [interface, of_type, operation, parameter] = may_stand;
-    assert_place(rt, alloc, attribute, (b"[", b"] interface t { }"), interface, 0)?;
-    assert_place(rt, alloc, attribute, (b"interface t { typedef [", b"] n; }"), of_type, 14)?;
-    assert_place(rt, alloc, attribute, (b"interface t { [", b"] f(); }"), operation, 14)?;
-    assert_place(rt, alloc, attribute, (b"interface t { f([", b"] a); }"), parameter, 16)
+    assert_of_interface(rt, alloc, attribute, stands.interface)?;
+    assert_of_type(rt, alloc, attribute, stands.of_type)?;
+    assert_of_operation(rt, alloc, attribute, stands.operation)?;
+    assert_of_parameter(rt, alloc, attribute, stands.parameter)
 }
 
 #[test]
-fn attributes_stand_in_their_places(rt: HostRuntime) -> Result<(), Fail> {
+fn handles_stand_in_their_places(rt: HostRuntime) -> Result<(), Fail> {
     let alloc = rt.alloc();
-    assert_places(&rt, alloc, b"auto_handle", [true, false, false, false])?;
-    assert_places(&rt, alloc, b"explicit_handle", [true, false, true, false])?;
-    assert_places(&rt, alloc, b"implicit_handle(handle_t h)", [true, false, false, false])?;
-    assert_places(&rt, alloc, b"code", [true, false, true, false])?;
-    assert_places(&rt, alloc, b"nocode", [true, false, true, false])?;
-    assert_places(&rt, alloc, b"in_line", [true, true, false, true])?;
-    assert_places(&rt, alloc, b"out_of_line", [true, true, false, true])?;
-    assert_places(&rt, alloc, b"enable_allocate", [true, false, true, false])?;
-    assert_places(&rt, alloc, b"heap", [false, true, false, true])?;
-    assert_places(&rt, alloc, b"comm_status", [false, false, true, true])?;
-    assert_places(&rt, alloc, b"fault_status", [false, false, true, true])
+    let interface = Stands {
+        interface: true,
+        of_type: false,
+        operation: false,
+        parameter: false,
+    };
+    let with_operation = Stands {
+        operation: true,
+        ..interface
+    };
+    assert_places(&rt, alloc, b"auto_handle", interface)?;
+    assert_places(&rt, alloc, b"implicit_handle(handle_t h)", interface)?;
+    assert_places(&rt, alloc, b"explicit_handle", with_operation)
+}
+
+#[test]
+fn code_and_memory_stand_in_their_places(rt: HostRuntime) -> Result<(), Fail> {
+    let alloc = rt.alloc();
+    let stands = Stands {
+        interface: true,
+        of_type: false,
+        operation: true,
+        parameter: false,
+    };
+    assert_places(&rt, alloc, b"code", stands)?;
+    assert_places(&rt, alloc, b"nocode", stands)?;
+    assert_places(&rt, alloc, b"enable_allocate", stands)
+}
+
+#[test]
+fn attributes_of_types_stand_in_their_places(rt: HostRuntime) -> Result<(), Fail> {
+    let alloc = rt.alloc();
+    let heap = Stands {
+        interface: false,
+        of_type: true,
+        operation: false,
+        parameter: true,
+    };
+    let lines = Stands {
+        interface: true,
+        ..heap
+    };
+    assert_places(&rt, alloc, b"in_line", lines)?;
+    assert_places(&rt, alloc, b"out_of_line", lines)?;
+    assert_places(&rt, alloc, b"heap", heap)
+}
+
+#[test]
+fn statuses_stand_in_their_places(rt: HostRuntime) -> Result<(), Fail> {
+    let alloc = rt.alloc();
+    let stands = Stands {
+        interface: false,
+        of_type: false,
+        operation: true,
+        parameter: true,
+    };
+    assert_places(&rt, alloc, b"comm_status", stands)?;
+    assert_places(&rt, alloc, b"fault_status", stands)
 }
 
 #[test]

@@ -19,12 +19,8 @@ use std::alloc::Global;
 /// Memory where memory was wanting.
 ///
 /// Takes memory for the interface.
-pub fn check(
-    alloc: Global,
-    scope: &Scope,
-    acf: Option<&Acf>,
-) -> Result<Interface, RuleFault>
-    ensures { AnswersBeside (world_of scope.now) (option_map (λ f. seen_acf f.now) acf) result }
+pub fn check(alloc: Global, scope: &Scope, acf: Option<&Acf>) -> Result<Interface, RuleFault>
+    ensures { AnswersBeside (world_of scope.now) (option_map (λ f. seen_acf f.now) acf.entry) result }
 {
     let interface = idl_rules::check(alloc, scope)?;
     let Some(acf) = acf else {

@@ -10,8 +10,13 @@ use nd_base::{Memory, Octets};
 use nd_types::Interface;
 use std::alloc::Global;
 
-/// How an interface is listed for people: a line for its header, then the lines of each type that it declares, then the lines of
-/// each operation. Want of memory is the only refusal.
+/// How an interface is listed for people: a line for its header, then the lines of each type of its table that is no basic one, then the
+/// lines of each operation. C706 has no such text: how the lines look is this project's own choice.
+///
+/// # Errors
+/// Memory where memory was wanting.
+///
+/// Takes memory for the text. Looks at each type, member, arm, operation, parameter and attribute a bounded number of times.
 pub fn interface_listing(alloc: Global, interface: &Interface) -> Result<Octets, Memory>
     ensures { IfOk result (λ text. text ≡ listing (meant_by interface.now)) }
 {

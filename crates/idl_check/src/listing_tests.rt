@@ -19,7 +19,7 @@ fn listing(alloc: Global, text: &[u8], imported: &[u8]) -> Result<Octets, Fail> 
         return Err(Memory.into());
     };
     let scope = resolve(alloc, &mut files, &mut sources, tree)?;
-    let interface = check(alloc, &scope)?;
+    let interface = check(alloc, &scope, None)?;
     Ok(interface_listing(alloc, &interface)?)
 }
 

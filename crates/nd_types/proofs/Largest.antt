@@ -1,23 +1,24 @@
 -- The largest of alignments, found one by one.
-use Rattle.std.proofs.Common.{◌≡◌, ◌∙◌, ℕ, zero, suc, ◌+◌, ◌<◌, ◌≤◌, List, [], ◌∷◌, ◌++◌, refl, ap, sym, map, drop, length, get_or, max, append-nil, arith}
-use Rattle.std.proofs.Math.Nat.{max_comm, max-zero, le-max_left, le-max_right}
+use Rattle.std.proofs.Common.{◌≡◌, ◌∙◌, ℕ, zero, suc, ◌+◌, ◌<◌, ◌≤◌, List, [], ◌∷◌, ◌++◌, ap, sym, map, drop, length, get_or, max, append-nil, arith}
+use Rattle.std.proofs.Math.Nat.{max_comm, max-zero, zero-max, suc-max-suc, max-eq_left, max-eq_right, le-max_right}
 use Rattle.std.proofs.lemmas.List.{drop_more, drop_all, map-append}
 use Rattle.nd_types.specs.declared.types.Arm.{Arm}
 use Rattle.nd_types.specs.Layout.{largest, arm_type, arm_types}
 
 pub max_assoc : (a b c : ℕ) → max (max a b) c ≡ max a (max b c)
-max_assoc zero b c = refl
-max_assoc (suc a) zero c = refl
-max_assoc (suc a) (suc b) zero = refl
-max_assoc (suc a) (suc b) (suc c) = ap suc (max_assoc a b c)
+max_assoc zero b c = ap (λ n. max n c) (zero-max b) ∙ sym (zero-max (max b c))
+max_assoc (suc a) zero c = ap (λ n. max n c) (max-zero (suc a)) ∙ ap (max (suc a)) (sym (zero-max c))
+max_assoc (suc a) (suc b) zero = max-zero (max (suc a) (suc b)) ∙ ap (max (suc a)) (sym (max-zero (suc b)))
+max_assoc (suc a) (suc b) (suc c) =
+    ap (λ n. max n (suc c)) (suc-max-suc a b) ∙ suc-max-suc (max a b) c ∙ ap suc (max_assoc a b c)
+    ∙ sym (suc-max-suc a (max b c)) ∙ ap (max (suc a)) (sym (suc-max-suc b c))
 
 -- 1 is the least alignment
 pub max_one : (n : ℕ) → 1 ≤ n → max n 1 ≡ n
-max_one zero h = absurd (omega (arith, h))
-max_one (suc n) h = ap suc (max-zero n)
+max_one n h = max-eq_left h
 
 pub one_max : (n : ℕ) → 1 ≤ n → max 1 n ≡ n
-one_max n h = max_comm 1 n ∙ max_one n h
+one_max n h = max-eq_right h
 
 pub some_largest : (ns : List ℕ) → 1 ≤ largest ns
 some_largest [] = omega arith

@@ -1,6 +1,6 @@
 -- The alignment of all types of a table, and which of them hoist, in rounds: each round goes by what the one before has of the parts.
 -- `ls` is what is known so far, `t` the number of a type, `d` what it is.
-use Rattle.std.specs.Prelude.{ℕ, zero, suc, Bool, true, false, List, [], ◌∷◌, Option, Some, None, map, slice_get}
+use Rattle.std.specs.Prelude.{ℕ, zero, suc, Bool, false, List, Option, Some, None, map, slice_get}
 use Rattle.nd_types.specs.declared.types.TypeDef.{TypeDef}
 use Rattle.nd_types.specs.declared.TheConstants.{NESTING_LIMIT}
 use Rattle.nd_types.specs.Table.{Table}

@@ -183,6 +183,17 @@ fn an_interface_is_copied(rt: HostRuntime) -> Result<(), Fail> {
     Ok(())
 }
 
+#[test]
+fn a_copy_is_laid_out(rt: HostRuntime) -> Result<(), Fail> {
+    let alloc = rt.alloc();
+    let copy = interface(alloc)?.copy(alloc)?;
+    assert_eq!(rt; copy.align(TypeId(12)), 8);
+    assert_eq!(rt; copy.align(TypeId(14)), 4);
+    assert!(rt; copy.hoists(TypeId(12)));
+    assert!(rt; !copy.hoists(TypeId(14)));
+    Ok(())
+}
+
 // case 0: unsigned long size; case 4: ;
 fn arms(alloc: Global) -> Result<Arms, Memory> {
     let size = Arm {

@@ -1,6 +1,6 @@
 // The alignment of each type of a table, and whether it hoists a maximum count (C706, 14.2 and 14.3). They are found in rounds, of
 // which each goes by what the one before has of the parts of a type; types nest so deep at most as there are rounds.
-ghost use Rattle.std.specs.Prelude.{◌≡◌, ◌≤◌, ◌++◌, Some, map, max, IfOk};
+ghost use Rattle.std.specs.Prelude.{◌≡◌, ◌≤◌, ◌++◌, Some, map, max, IfOk, IsTrue};
 ghost use Rattle.nd_types.specs.Table.{type_at, width};
 ghost use Rattle.nd_types.specs.Layout.{largest, arm_type, arm_types, default_type, tag_width, at_least_4, align_by, hoists_by, last_hoists, align_of, hoists};
 ghost use Rattle.nd_types.specs.Rounds.{align_in, hoists_in, layout_by, round, unknown, layouts_after, layouts_of};
@@ -43,10 +43,17 @@ impl Layouts {
             items: Vec::from_slice(alloc, &self.items)?,
         })
     }
+
+    // The layouts in the order of the types' numbers.
+    fn as_slice(&self) -> &[Layout]
+        ensures { result.now ≡ self.now }
+    {
+        &self.items
+    }
 }
 
 impl Types {
-    /// How the types are laid out: the alignment of each, and whether it hoists a maximum count. It takes memory for an entry of
+    /// How the types are laid out: the alignment of each, and whether it hoists a maximum count. It takes memory for two entries of
     /// each type, in time that grows with them and their members and arms. Want of memory is the only refusal.
     pub fn layouts(&self, alloc: Global) -> Result<Layouts, Memory>
         ensures { IfOk result (λ l. l ≡ layouts_of self.now) }
@@ -58,18 +65,19 @@ impl Types {
 }
 
 impl Interface {
-    /// The alignment of a type, by its number. It takes no memory.
+    /// The alignment of a type, by its number (C706, 14.2.2). A number of no type has 1. It takes no memory.
     pub fn align(&self, of: TypeId) -> u8
         ensures { result ≡ align_of self.now.types of.0 }
     {
-        align_in(&self.layouts.items, of)
+        align_in(self.layouts.as_slice(), of)
     }
 
-    /// Whether a maximum count stands before the values of a type. It takes no memory.
+    /// Whether a maximum count stands before the values of a type, by its number (C706, 14.3). None stands before those of no
+    /// type. It takes no memory.
     pub fn hoists(&self, of: TypeId) -> bool
         ensures { result ≡ hoists self.now.types of.0 }
     {
-        hoists_in(&self.layouts.items, of)
+        hoists_in(self.layouts.as_slice(), of)
     }
 }
 
@@ -193,7 +201,8 @@ fn align_by(types: &[TypeDef], layouts: &[Layout], definition: &TypeDef) -> u8
             all_arms_align(layouts, arms.as_slice(), default),
             tag_width(types, *tag),
         ),
-        TypeDef::Text { .. } | TypeDef::Pointer { .. } | TypeDef::Context | TypeDef::Pipe { .. } => 4,
+        TypeDef::Text { .. } | TypeDef::Pointer { .. } | TypeDef::Context | TypeDef::Pipe { .. } =>
+            4,
     }
 }
 
@@ -259,13 +268,24 @@ fn round(alloc: Global, types: &[TypeDef], layouts: &[Layout]) -> Result<Vec<Lay
     Ok(next)
 }
 
-// What is known after so many rounds.
+// Two lists of layouts are equal.
+fn are_equal(a: &[Layout], b: &[Layout]) -> bool
+    ensures { IsTrue result → a.now ≡ b.now }
+{
+    a == b
+}
+
+// What is known after so many rounds. A round that changes nothing is the last that is made.
 fn after_rounds(alloc: Global, types: &[TypeDef], rounds: u32) -> Result<Vec<Layout>, Memory>
     ensures { IfOk result (λ l. l.items ≡ layouts_after rounds types.now) }
 {
     let mut layouts = unknown_layouts(alloc, types)?;
     for _round in 0..rounds {
-        layouts = round(alloc, types, &layouts)?;
+        let next = round(alloc, types, &layouts)?;
+        if are_equal(&next, &layouts) {
+            return Ok(layouts);
+        }
+        layouts = next;
     }
     Ok(layouts)
 }

@@ -9,7 +9,7 @@ use nd_types::{Interface, TypeId};
 #[cfg(test)]
 mod tests;
 
-/// The alignment of a type, by its number, which must be that of a type of the interface. It takes no memory.
+/// The alignment of a type, by its number, which must be that of a type of the interface (C706, 14.2.2). It takes no memory.
 pub fn align_of(interface: &Interface, of: TypeId) -> u8
     requires { of.0 < length interface.now.types }
     ensures { result ≡ align_of interface.now.types of.0 }

@@ -1,4 +1,4 @@
-use Rattle.std.proofs.Common.{◌∙◌, sym, ap, not, map, map-id, arith}
+use Rattle.std.proofs.Common.{◌∙◌, sym, ap, map-id, arith}
 use Rattle.std.specs.List.{list_any}
 use Rattle.idl_names.specs.Seen.{known_in}
 use Rattle.idl_check.specs.AcfRules.{is_no_type}

@@ -1,5 +1,4 @@
-use Rattle.std.proofs.Common.{◌∙◌, sym, ap, not, map, map-id, arith}
-use Rattle.std.specs.List.{list_any}
+use Rattle.std.proofs.Common.{◌∙◌, sym, arith}
 use Rattle.std.specs.Str.{bytes_eq}
 use Rattle.idl_grammar.specs.Seen.{seen_parameter}
 use Rattle.idl_rules.proofs.AnyFrom.{found_there, not_there, nowhere}

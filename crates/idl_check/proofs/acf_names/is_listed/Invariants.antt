@@ -1,4 +1,4 @@
-use Rattle.std.proofs.Common.{◌≡◌, not, map}
+use Rattle.std.proofs.Common.{◌≡◌, map}
 use Rattle.std.specs.List.{list_any}
 use Rattle.std.specs.Str.{bytes_eq}
 use Rattle.idl_grammar.specs.Seen.{seen_parameter}

@@ -1,4 +1,4 @@
-use Rattle.std.proofs.Common.{◌∙◌, sym, ap, not, map, map-id, arith}
+use Rattle.std.proofs.Common.{◌∙◌, sym, ap, not, map-id, arith}
 use Rattle.std.specs.List.{list_any}
 use Rattle.idl_check.specs.SeenAcf.{belongs}
 use Rattle.idl_rules.proofs.AnyFrom.{found_there, not_there, nowhere}

@@ -1,4 +1,4 @@
-use Rattle.std.proofs.Common.{◌≡◌, not, map}
+use Rattle.std.proofs.Common.{◌≡◌, not}
 use Rattle.idl_check.specs.AcfRules.{is_misplaced}
 use Rattle.idl_check.specs.SeenAcf.{belongs}
 use Rattle.idl_rules.proofs.AnyFrom.{any_from}

@@ -16,5 +16,5 @@ abbrev pub invariant-loop-one : goal.invariant-loop-one
 invariant-loop-one l =
     (l.finder.files.now ≡ l.fn.finder.files.now)
     × ((w : World) (main : idl.Tree) → w.files ≡ seen_files l.fn.finder.files.now → main.exports ≡ map of_idl.seen_export l.operations.exports.now
-        → noted_from seen_element (breaches_of_element (known_in l.scope) main) l.body w (option_map seen_breach l.finder.first) l.one-index
-            ≡ noted w (option_map seen_breach l.fn.finder.first) (flat_map (breaches_of_element (known_in l.scope) main) (map seen_element l.body)))
+    → noted_from seen_element (breaches_of_element (known_in l.scope) main) l.body w (option_map seen_breach l.finder.first) l.one-index
+    ≡ noted w (option_map seen_breach l.fn.finder.first) (flat_map (breaches_of_element (known_in l.scope) main) (map seen_element l.body)))

@@ -13,13 +13,14 @@ loop-one-init c = (refl, (λ w files. refl))
 
 pub loop-one-preserved : goal.loop-one-preserved
 loop-one-preserved c =
-    let breaches = breaches_of_parameter (map of_idl.seen_parameter c.args.parameters.now) in
-    (c.note.ensures.files ∙ c.loop-one.invariant.0,
+    let breaches = breaches_of_parameter (map of_idl.seen_parameter c.args.parameters.now) in (
+      c.note.ensures.files ∙ c.loop-one.invariant.0,
       (λ w files.
-        one_part seen_parameter breaches c.args.list.now w (option_map seen_breach c.loop-one.finder.first) _ c.loop-one.one-index c.one-item.result c.loop-one-test.true c.one-item.is
-        (c.note.ensures.first w (files ∙ ap seen_files (sym c.loop-one.invariant.0))
-            ∙ ap (λ l. noted w (option_map seen_breach c.loop-one.finder.first) l) c.breaks_parameter.ensures)
-        ∙ c.loop-one.invariant.1 w files))
+          one_part seen_parameter breaches c.args.list.now w (option_map seen_breach c.loop-one.finder.first) _ c.loop-one.one-index c.one-item.result c.loop-one-test.true c.one-item.is
+          (c.note.ensures.first w (files ∙ ap seen_files (sym c.loop-one.invariant.0))
+          ∙ ap (λ l. noted w (option_map seen_breach c.loop-one.finder.first) l) c.breaks_parameter.ensures)
+          ∙ c.loop-one.invariant.1 w files),
+    )
 
 pub returns-clause-files : goal.returns-clause-files
 returns-clause-files c = c.loop-one.invariant.0

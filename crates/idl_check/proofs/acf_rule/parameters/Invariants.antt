@@ -15,5 +15,5 @@ abbrev pub invariant-loop-one : goal.invariant-loop-one
 invariant-loop-one l =
     (l.finder.files.now ≡ l.fn.finder.files.now)
     × ((w : World) → w.files ≡ seen_files l.fn.finder.files.now
-        → noted_from seen_parameter (breaches_of_parameter (map of_idl.seen_parameter l.parameters)) l.list w (option_map seen_breach l.finder.first) l.one-index
-            ≡ noted w (option_map seen_breach l.fn.finder.first) (flat_map (breaches_of_parameter (map of_idl.seen_parameter l.parameters)) (map seen_parameter l.list)))
+    → noted_from seen_parameter (breaches_of_parameter (map of_idl.seen_parameter l.parameters)) l.list w (option_map seen_breach l.finder.first) l.one-index
+    ≡ noted w (option_map seen_breach l.fn.finder.first) (flat_map (breaches_of_parameter (map of_idl.seen_parameter l.parameters)) (map seen_parameter l.list)))

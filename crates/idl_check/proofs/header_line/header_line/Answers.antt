@@ -1,4 +1,4 @@
-use Rattle.std.proofs.Common.{◌≡◌, ◌∙◌, ap, ap₂, sym, refl, [], ◌∷◌, ◌++◌, codes, decimal}
+use Rattle.std.proofs.Common.{◌∙◌, ap, [], ◌∷◌, ◌++◌, codes}
 use Rattle.idl_check.specs.Worded.{behind}
 use Rattle.idl_check.specs.Listing.{version_word, uuid_word}
 use Rattle.idl_check.proofs.WordLists.{first_word, then_words, then_end}
@@ -11,7 +11,7 @@ returns c =
     let first = codes "interface" in
     let base = t ++ first in
     let e0 = c.in_ok-append.ensures.ok ∙ first_word t first in
-    let e1 = c.in_ok-word.ensures ∙ ap (λ w. c.append.new.text ++ behind (w ∷ [])) c.as_slice.ensures.same ∙ then_words base _ [] (i.name ∷ []) e0 in
+    let e1 = c.in_ok-word.ensures ∙ ap (λ w. c.append.new.self ++ behind (w ∷ [])) c.as_slice.ensures.same ∙ then_words base _ [] (i.name ∷ []) e0 in
     let e2 = c.in_ok-word-2.ensures ∙ then_words base _ (i.name ∷ []) (codes "version" ∷ []) e1 in
     let e3 = c.in_ok-version_word.ensures ∙ then_words base _ (i.name ∷ codes "version" ∷ []) (version_word i.major i.minor ∷ []) e2 in
     let e4 = c.in_ok-word-3.ensures ∙ then_words base _ (i.name ∷ codes "version" ∷ version_word i.major i.minor ∷ []) (codes "uuid" ∷ []) e3 in

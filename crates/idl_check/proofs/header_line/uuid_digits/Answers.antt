@@ -1,5 +1,4 @@
-use Rattle.std.proofs.Common.{◌≡◌, ◌∙◌, ap, ap₂, sym, refl, [], ◌∷◌, ◌++◌, codes, decimal}
-use Rattle.idl_check.specs.Listing.{hex_digits}
+use Rattle.std.proofs.Common.{◌∙◌, codes}
 use Rattle.idl_check.proofs.WordLists.{then_piece}
 use Rattle.idl_check.proofs.header_line.uuid_digits.Goals as goal
 

@@ -1,4 +1,4 @@
-use Rattle.std.proofs.Common.{◌≡◌, ◌∙◌, ap, ap₂, sym, refl, [], ◌∷◌, ◌++◌, codes, decimal}
+use Rattle.std.proofs.Common.{◌∙◌, ap, ap₂, [], ◌∷◌, ◌++◌, codes, decimal}
 use Rattle.idl_check.specs.Worded.{behind}
 use Rattle.idl_check.proofs.WordLists.{goes_on}
 use Rattle.idl_check.proofs.header_line.version_word.Goals as goal
@@ -10,5 +10,5 @@ returns c =
     let e1 = c.in_ok-number.ensures ∙ ap (λ n. t ++ behind (decimal n ∷ [])) c.from.ensures in
     let e2 = c.in_ok-append.ensures.ok ∙ ap (λ u. u ++ codes ".") e1 ∙ goes_on t major (codes ".") in
     c.in_ok-append-2.ensures.ok
-    ∙ ap₂ (λ u v. u ++ v) e2 (c.as_bytes.ensures ∙ c.format.ensures.text)
+    ∙ ap₂ (λ u v. u ++ v) e2 (c.as_bytes.ensures.value ∙ c.format.ensures.text)
     ∙ goes_on t (major ++ codes ".") (decimal c.args.minor)

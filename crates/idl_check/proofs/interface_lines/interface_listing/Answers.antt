@@ -1,4 +1,3 @@
-use Rattle.std.proofs.Common.{◌≡◌, ◌∙◌, ap, ap₂, sym, refl, [], ◌∷◌, ◌++◌, codes, decimal}
 use Rattle.idl_rules.specs.Answers.{meant_by}
 use Rattle.idl_check.proofs.ListedWhole.{whole}
 use Rattle.idl_check.proofs.interface_lines.interface_listing.Goals as goal

@@ -1,11 +1,11 @@
-use Rattle.idl_check.proofs.Listed as laws
+use Rattle.idl_check.proofs.Listed.{worked}
 use Rattle.idl_check.proofs.laws.listings_are_as_worked.Goals as goal
 
 pub returns-clause-sum : goal.returns-clause-sum
-returns-clause-sum c = laws.sum_listed
+returns-clause-sum c = worked.0
 
 pub returns-clause-directory : goal.returns-clause-directory
-returns-clause-directory c = laws.directory_listed
+returns-clause-directory c = worked.1
 
 pub returns-clause-forms : goal.returns-clause-forms
-returns-clause-forms c = laws.forms_listed
+returns-clause-forms c = worked.2

@@ -1,4 +1,4 @@
-use Rattle.std.proofs.Common.{◌≡◌, ◌∙◌, ap, ap₂, sym, refl, [], ◌∷◌, ◌++◌, codes, decimal}
+use Rattle.std.proofs.Common.{◌∙◌, ap, ◌++◌}
 use Rattle.idl_check.proofs.WordLists.{one_behind}
 use Rattle.idl_check.proofs.line_words.word.Goals as goal
 

@@ -1,4 +1,4 @@
-use Rattle.std.proofs.Common.{◌≡◌, ◌∙◌, ap, ap₂, sym, refl, [], ◌∷◌, ◌++◌, codes, decimal}
+use Rattle.std.proofs.Common.{◌∙◌, ap, [], ◌∷◌, ◌++◌, codes, decimal}
 use Rattle.idl_check.specs.Worded.{behind}
 use Rattle.idl_check.proofs.WordLists.{first_word, then_words, then_end}
 use Rattle.idl_check.proofs.operation_lines.name_line.Goals as goal

@@ -1,6 +1,4 @@
-use Rattle.std.proofs.Common.{◌≡◌, ◌∙◌, ap, ap₂, sym, refl, [], ◌∷◌, ◌++◌, codes, decimal}
-use Rattle.nd_types.specs.declared.types.Side.TheVariants as side
-use Rattle.idl_check.specs.Listing.{side_lines}
+use Rattle.std.proofs.Common.{◌∙◌}
 use Rattle.idl_check.proofs.WordLists.{then_piece}
 use Rattle.idl_check.proofs.operation_lines.operation_lines.Goals as goal
 

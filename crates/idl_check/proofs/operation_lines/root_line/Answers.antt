@@ -1,6 +1,6 @@
-use Rattle.std.proofs.Common.{◌≡◌, ◌∙◌, ap, ap₂, sym, refl, [], ◌∷◌, ◌++◌, codes, decimal}
+use Rattle.std.proofs.Common.{◌∙◌, ap, [], ◌∷◌, ◌++◌, decimal}
 use Rattle.nd_types.specs.Fields.{param_fields}
-use Rattle.idl_check.specs.Worded.{behind, vars_at}
+use Rattle.idl_check.specs.Worded.{vars_at}
 use Rattle.idl_check.specs.Listing.{side_word, attrs_words}
 use Rattle.idl_check.proofs.WordLists.{first_word, then_words, then_end}
 use Rattle.idl_check.proofs.operation_lines.root_line.Goals as goal

@@ -1,4 +1,4 @@
-use Rattle.std.proofs.Common.{◌≡◌, ◌++◌, drop, map}
+use Rattle.std.proofs.Common.{◌≡◌, ◌++◌, drop}
 use Rattle.idl_check.specs.Listing.{arm_line}
 use Rattle.std.specs.List.{flat_map}
 use Rattle.idl_check.proofs.type_lines.arm_lines.Given as goal

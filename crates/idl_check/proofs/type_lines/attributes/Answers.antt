@@ -1,4 +1,4 @@
-use Rattle.std.proofs.Common.{◌∙◌, ap, sym, drop, map, ◌++◌, arith}
+use Rattle.std.proofs.Common.{◌∙◌, ap, sym, drop, ◌++◌, arith}
 use Rattle.std.proofs.Common.{◌+◌, [], ◌∷◌}
 use Rattle.std.specs.List.{flat_map}
 use Rattle.idl_check.specs.Worded.{behind}

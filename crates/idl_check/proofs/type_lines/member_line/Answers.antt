@@ -1,4 +1,4 @@
-use Rattle.std.proofs.Common.{◌≡◌, ◌∙◌, ap, ap₂, sym, refl, [], ◌∷◌, ◌++◌, codes, decimal}
+use Rattle.std.proofs.Common.{◌∙◌, ap, [], ◌∷◌, ◌++◌, codes, decimal}
 use Rattle.idl_check.specs.Worded.{behind}
 use Rattle.idl_check.specs.Listing.{attrs_words}
 use Rattle.idl_check.proofs.WordLists.{first_word, then_words, then_end}
@@ -11,7 +11,7 @@ returns c =
     let first = codes "member" in
     let base = t ++ first in
     let e0 = c.in_ok-append.ensures.ok ∙ first_word t first in
-    let e1 = c.in_ok-word.ensures ∙ ap (λ w. c.append.new.text ++ behind (w ∷ [])) c.as_slice.ensures.same ∙ then_words base _ [] (m.name ∷ []) e0 in
+    let e1 = c.in_ok-word.ensures ∙ ap (λ w. c.append.new.self ++ behind (w ∷ [])) c.as_slice.ensures.same ∙ then_words base _ [] (m.name ∷ []) e0 in
     let e2 = c.in_ok-number.ensures ∙ then_words base _ (m.name ∷ []) (decimal m.of.0 ∷ []) e1 in
     let e3 = c.in_ok-attributes.ensures ∙ then_words base _ (m.name ∷ decimal m.of.0 ∷ []) (attrs_words c.args.members.now m.vars) e2 in
     c.in_ok-append-2.ensures.ok ∙ then_end t first _ (m.name ∷ decimal m.of.0 ∷ attrs_words c.args.members.now m.vars) e3

@@ -3,5 +3,5 @@ use Rattle.nd_types.specs.Rounds.{layouts_after}
 use Rattle.nd_types.proofs.layouts.after_rounds.Given as goal
 
 -- what is known after the rounds so far
-abbrev pub invariant-loop-_round : goal.invariant-loop-_round
-invariant-loop-_round l = l.layouts.items ≡ layouts_after l._round l.types
+abbrev pub invariant-loop-round : goal.invariant-loop-round
+invariant-loop-round l = l.layouts.items ≡ layouts_after l._round l.types

@@ -8,10 +8,10 @@ use Rattle.nd_types.proofs.layouts.arms_align.Goals as goal
 pub loop-arm-init : goal.loop-arm-init
 loop-arm-init c =
     let all = map (align_in c.args.layouts.now) (arm_types c.args.arms.now) in
-    record { some = omega arith; all = one_max (largest all) (some_largest all); }
+    record { some = omega arith; all = one_max (largest all) (some_largest all) }
 
-pub with_arm-requires : goal.with_arm-requires
-with_arm-requires c = c.loop-arm.invariant.some
+pub with_arm-align-requires : goal.with_arm-align-requires
+with_arm-align-requires c = c.loop-arm.invariant.some
 
 pub loop-arm-preserved : goal.loop-arm-preserved
 loop-arm-preserved c =
@@ -19,9 +19,9 @@ loop-arm-preserved c =
     let f = align_in c.args.layouts.now in
     let a = c.arm-item.result in
     record {
-      some = let more = le-max_right (arm_largest f a) l.align in omega (arith, c.with_arm.ensures, more, l.invariant.some);
+      some = let more = le-max_right (arm_largest f a) l.align in omega (arith, c.with_arm-align.ensures, more, l.invariant.some);
       all =
-          ap (λ n. max n (arms_largest f (drop (l.arm-index + 1) c.args.arms.now))) c.with_arm.ensures
+          ap (λ n. max n (arms_largest f (drop (l.arm-index + 1) c.args.arms.now))) c.with_arm-align.ensures
           ∙ arm_more f c.args.arms.now l.arm-index a l.align c.loop-arm-test.true c.arm-item.is
           ∙ l.invariant.all;
     }

@@ -3,5 +3,5 @@ use Rattle.nd_types.specs.Rounds.{unknown}
 use Rattle.nd_types.proofs.layouts.unknown_layouts.Given as goal
 
 -- what is there, with what is left
-abbrev pub invariant-loop-_definition : goal.invariant-loop-_definition
-invariant-loop-_definition l = l.layouts.items ++ map unknown (drop l._definition-index l.types) ≡ map unknown l.types
+abbrev pub invariant-loop-definition : goal.invariant-loop-definition
+invariant-loop-definition l = l.layouts.items ++ map unknown (drop l._definition-index l.types) ≡ map unknown l.types

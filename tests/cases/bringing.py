@@ -1,0 +1,74 @@
+"""Each text of docs/BRINGING-YOUR-IDL.md is refused or accepted as the page says."""
+
+import re
+
+from case import ROOT, Begins, Case, Check, lines
+
+HEAD = "[uuid(11111111-2222-3333-4444-555555555555), version(1.0), pointer_default(unique)]\ninterface t {\n"
+BASE = {"base.idl": b"[local] interface base { }"}
+SPAN = re.compile(r"`([^`]+)`")
+MANY = 90  # texts that the page has at least
+
+
+def sections():
+    """The sections of the page, by their headings."""
+    parts = re.split(r"^## (.*)\n", (ROOT / "docs" / "BRINGING-YOUR-IDL.md").read_text(encoding="utf-8"), flags=re.MULTILINE)
+    return dict(zip(parts[1::2], parts[2::2]))
+
+
+def rows(section):
+    """The rows of its tables: texts, what is told of them, and what to write in their place."""
+    for line in section.splitlines():
+        cells = [SPAN.findall(cell) for cell in line.split(" | ")]
+        if line.startswith("| `") and len(cells) == 3:
+            yield cells
+
+
+def compiled(heading, text):
+    """The words and files by which a text of a section is compiled, and the name that is told."""
+    if heading == "Attribute configuration files":
+        beside = f"{HEAD}typedef long n; void f([in] long x);\n}}\n"
+        return ["compile", "t.idl", "t.acf"], {"t.idl": beside.encode(), "t.acf": text.encode()}, "t.acf"
+    whole = heading in ("The file and its header", "A whole file")
+    content = text if whole else f"{HEAD}{text}\n}}\n"
+    return ["compile", "t.idl", "-"], {"t.idl": content.encode(), **BASE}, "t.idl"
+
+
+def refused(heading, text, told):
+    """A text that is refused as the page says."""
+    words, files, name = compiled(heading, text)
+    return Case(f"bringing: {text}", words, files, notes=lines(f"idl {name}:{told}"), status=6)
+
+
+def accepted(heading, text):
+    """A text that the page has in the place of another."""
+    words, files, _ = compiled(heading, text)
+    return Case(f"bringing, accepted: {text}", words, files, out=Begins(b"interface "))
+
+
+def of_rows():
+    """The cases of all tables. One place stands for all texts of its row."""
+    seen = set()
+    for heading, section in sections().items():
+        for texts, told, instead in rows(section):
+            for at, text in enumerate(texts):
+                yield refused(heading, text, told[min(at, len(told) - 1)])
+            for text in instead:
+                if text[-1] in ";}" and (heading, text) not in seen:
+                    seen.add((heading, text))
+                    yield accepted(heading, text)
+
+
+def of_whole_files():
+    """The two files that the page has as blocks."""
+    blocks = re.findall(r"(?:^    .*\n)+", sections()["A whole file"], flags=re.MULTILINE)
+    first, second = ("".join(line[4:] for line in block.splitlines(keepends=True)) for block in blocks)
+    return [refused("A whole file", first, "1:1: BadOctet"), accepted("A whole file", second)]
+
+
+TABLES = list(of_rows())
+CASES = [
+    Check("bringing: the page was read", lambda: [] if len(TABLES) >= MANY else [f"it has {len(TABLES)} texts, not {MANY}"]),
+    *of_whole_files(),
+    *TABLES,
+]
