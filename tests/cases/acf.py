@@ -40,6 +40,17 @@ def accepted(*texts, group="acf"):
     return [Case(f"{group}: {readable(text)}", COMPILE, {**FILES, "t.acf": text.encode()}, out=LISTING) for text in texts]
 
 
+NO_NUMBERS = b"[local] interface t { void none(void); void bare(); void h([in] handle_t b); }"
+
+
+def without_numbers(text, *out):
+    """An attribute file beside operations without parameters, and one with a handle alone: right, with this listing, or refused at its mark."""
+    if out:
+        return Case(f"acf, no numbers: {readable(text)}", COMPILE, {"t.idl": NO_NUMBERS, "t.acf": text.encode()}, out=lines(*out))
+    content, place = marked(text)
+    return Case(f"acf, no numbers: {readable(text)}", COMPILE, {"t.idl": NO_NUMBERS, "t.acf": content}, notes=lines(f"idl t.acf:{place}: Rule 40"), status=6)
+
+
 def refused(what, *texts):
     """Attribute files beside it that are refused at their mark."""
     return [refused_as(what, readable(text), text) for text in texts]
@@ -274,4 +285,11 @@ COMMANDS = [
     told("right, and a closed input", DECODE, {**ADD, **ACF}, "read fault", 3),
 ]
 
-CASES = READ + SYNTAX + BANNED + LEXED + PLACES_OF_FAULTS + NAMES + FIRST + list(at_places()) + COMMANDS
+WITHOUT_NUMBERS = [
+    without_numbers("interface t { none(); bare(); h([heap] b); }", "interface t version 0.0 uuid -", "op 0 none", "op 1 bare", "op 2 h"),
+    without_numbers("interface t { none(§a); }"),
+    without_numbers("interface t { bare(§a); }"),
+    without_numbers("interface t { h(b, §a); }"),
+]
+
+CASES = WITHOUT_NUMBERS + READ + SYNTAX + BANNED + LEXED + PLACES_OF_FAULTS + NAMES + FIRST + list(at_places()) + COMMANDS

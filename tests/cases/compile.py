@@ -295,6 +295,9 @@ ORDER = [
     refusal("a missing file", ["compile", "t.idl", "-"], {}, "absent: t.idl", 7),
     refusal("a missing file before a missing ACF", WITH_ACF, {}, "absent: t.idl", 7),
     refusal("a missing import", COMPILE, without("base.idl"), "absent: base.idl", 7),
+    *(Case(f"{task}: the directory without the file that it imports", [task, "dir.idl", "dir.acf", "put", "in", "little", *chunk],
+           without("base.idl"), input=CLOSED, notes=lines("absent: base.idl"), status=7)
+      for task, chunk in (("decode", []), ("encode", ["1"]))),
     refusal("a missing ACF", COMPILE, without("dir.acf"), "absent: dir.acf", 7),
     refusal("a missing import before a missing ACF", COMPILE, without("base.idl", "dir.acf"), "absent: base.idl", 7),
     refusal("a missing import before an ACF's syntax", COMPILE, {**without("base.idl"), "dir.acf": b"]"}, "absent: base.idl", 7),
@@ -316,6 +319,7 @@ ORDER = [
     refusal("a rule of an import before that on ACFs", COMPILE,
             {**FILES, "base.idl": b"[local] interface base { long; const long NAME_MAX = 16;\ntypedef enum { FILE_KIND, FOLDER_KIND = 4 } kind_t; }",
              "dir.acf": b"interface other { }"}, "idl base.idl:1:26: Rule 5"),
+    refusal("the directory beside another interface's ACF", COMPILE, {**FILES, "dir.acf": b"interface other { }"}, "idl dir.acf:1:1: Rule 40"),
     refusal("an ACF that is the IDL file", ["compile", "dir.idl", "dir.idl"], FILES, "idl dir.idl:1:2: Syntax"),
     refusal("an ACF that is an imported file", ["compile", "dir.idl", "base.idl"], FILES, "idl base.idl:1:2: Syntax"),
     refusal("IDL that is an ACF", ["compile", "dir.acf", "dir.acf"], FILES, "idl dir.acf:1:2: Syntax"),
