@@ -13,8 +13,6 @@ mod octets;
 mod position;
 mod printing;
 mod reading;
-#[cfg(test)]
-mod reading_tests;
 mod steps;
 mod stop;
 mod strings;
