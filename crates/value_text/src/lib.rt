@@ -24,4 +24,4 @@ pub use printing::print;
 pub use reading::read_text;
 
 /// The greatest number of octets of a value text.
-pub const TEXT_LIMIT: u32 = 268_435_456;
+pub const TEXT_LIMIT: u32 = 536_870_912;
