@@ -5,6 +5,9 @@ pub mod Runs
 pub mod Numerals
 pub mod StringEnds
 pub mod Firsts
+pub mod SpelledTokens
+pub mod KeptTokens
+pub mod GraphLines
 pub mod OneText
 pub mod PlainGraphs
 pub mod PlainTexts

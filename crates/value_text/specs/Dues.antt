@@ -13,8 +13,7 @@ use Rattle.value_text.specs.Tokens.{Token, Word, Number, Cell, skip, IsCut}
 use Rattle.nd_types.specs.Table.{Table}
 use Rattle.nd_types.specs.Roots.{roots_of}
 use Rattle.nd_types.specs.Walk.{named_roots}
-use Rattle.value_text.specs.Whole.{root_name, side_word}
-use Rattle.value_text.specs.Written.{Piece, Name, Other, token_of, word, count_piece, equals}
+use Rattle.value_text.specs.Written.{Piece, Name, Other, token_of, word, count_piece, equals, root_name, side_word}
 use Rattle.value_text.specs.Reads.{Lexeme, Cut, End, Bad, IsNext, position_of}
 
 -- this piece, or any number

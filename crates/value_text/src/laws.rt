@@ -39,3 +39,8 @@ pub fn one_fault()
         → IsPlainSide w → IsTextFault w text line column why → IsTextFault w text line' column' why'
         → why ≡ why' }
 {}
+
+/// Temporary.
+pub fn temporary()
+    ensures { (w : Setting) → w ≡ w }
+{}
