@@ -32,7 +32,7 @@ files_seen held absences faults asked before now = record {
   asked = asked before;
   asked_now = asked now;
   absences = count absences before now;
-  faults = count faults before now
+  faults = count faults before now;
 }
 
 -- files were asked for by these names, in this order, and by no others
