@@ -12,6 +12,7 @@ use Rattle.value_text.specs.WorkedPing.{ping}
 
 ping_is_plain : IsPlainOperation ping
 ping_is_plain = record {
+  name = refl;
   params = λ k d lt. absurd (omega (arith, lt));
   no_result = refl;
   few = lit≤ tt;
