@@ -4,6 +4,7 @@ use Rattle.std.proofs.Common.{◌≡◌, ℕ, suc, ◌+◌, ◌<◌, ◌≤◌, 
 use Rattle.std.specs.Prelude.{pos}
 use Rattle.std.specs.List.{list_all, AllByRecursion}
 use Rattle.std.proofs.lemmas.List.{map-append}
+use Rattle.nd_base.specs.Text.{is_word}
 use Rattle.nd_types.specs.declared.types.TypeDef.{TypeDef}
 use Rattle.nd_types.specs.declared.types.TypeDef.TheVariants as def
 use Rattle.nd_types.specs.declared.types.Field.{Field}
@@ -26,7 +27,7 @@ use Rattle.nd_graph.specs.Misfit.{is_octet}
 use Rattle.nd_graph.proofs.Apart.{all_left, all_right}
 use Rattle.nd_graph.specs.Tree.{node_count}
 use Rattle.value_text.specs.declared.TheConstants.{TEXT_LIMIT}
-use Rattle.value_text.specs.Tokens.{Token, Word, Number, Cell, Str, Uuid, Mark, is_word, is_mark, skip}
+use Rattle.value_text.specs.Tokens.{Token, Word, Number, Cell, Str, Uuid, Mark, is_mark, skip}
 use Rattle.value_text.specs.Written.{Piece, Name, Other, token_of, separated, enclosed, named, members, node_pieces, values_pieces, value_pieces, side_word, root_name, root_lines, cell_lines, graph_lines}
 use Rattle.value_text.specs.Printed.{graph_text}
 use Rattle.value_text.specs.Readable.{IsReadable}

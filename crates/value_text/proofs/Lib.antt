@@ -8,6 +8,7 @@ pub mod Firsts
 pub mod SpelledTokens
 pub mod KeptTokens
 pub mod GraphLines
+pub mod LegalNames
 pub mod OneText
 pub mod PlainGraphs
 pub mod PlainTexts

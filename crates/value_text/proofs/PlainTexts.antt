@@ -2,6 +2,7 @@
 use Rattle.std.proofs.Common.{◌≡◌, ◌≢◌, ◌⊎◌, inl, inr, ℕ, zero, suc, ◌+◌, ◌-◌, ◌<◌, ◌≤◌, ℤ, pos, Bool, true, false, ◌&&◌, eqb, List, [], ◌∷◌, ◌++◌, length, take, map, refl, ap, ap₂, sym, ◌∙◌, subst, append_assoc, append-nil, length-append, arith}
 use Rattle.std.proofs.lemmas.List.{length-map, map-append}
 use Rattle.std.proofs.lemmas.Bool.{and_parts, and_left}
+use Rattle.nd_base.specs.Text.{position, position_of}
 use Rattle.nd_types.specs.declared.types.Primitive.{Primitive}
 use Rattle.nd_graph.specs.declared.value.Graph.{Graph}
 use Rattle.nd_graph.specs.Setting.{Setting}
@@ -13,7 +14,7 @@ use Rattle.value_text.specs.Tokens.{Token, Word, Number, Cell, Str, Uuid, Mark, 
 use Rattle.value_text.specs.Written.{Piece, Name, Other, token_of, number_piece, graph_pieces, graph_tokens}
 use Rattle.value_text.specs.Printed.{is_comma}
 use Rattle.value_text.specs.Readable.{IsReadable}
-use Rattle.value_text.specs.Reads.{ReadsAs, Lexeme, Cut, End, Bad, IsNext, CanGoOn, IsWhole, GoesOn, IsNameDue, IsReason, IsFirstFault, IsTextFault, position, position_of}
+use Rattle.value_text.specs.Reads.{ReadsAs, Lexeme, Cut, End, Bad, IsNext, CanGoOn, IsWhole, GoesOn, IsNameDue, IsReason, IsFirstFault, IsTextFault}
 use Rattle.value_text.specs.Dues.{Due, Exactly, AnyNumber, head_dues, name_dues, Fits, Follows, IsName, IsOther, IsMismatch, IsSurplus, GoesOnBehind, StopsAt}
 use Rattle.value_text.proofs.KeptTokens.{no_uuid}
 use Rattle.value_text.proofs.PlainGraphs.{names_of, dues_of, filled, padded, filled_padded, padded_length, filled_length, plain_pieces, plain_readable, readable_plain, IsPlainGraph}

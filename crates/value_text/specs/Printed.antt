@@ -2,18 +2,16 @@
 -- `t` and `u` are tokens, `b` is an octet, `n` a number below 16.
 use Rattle.std.specs.Prelude.{◌≡◌, ℕ, ◌+◌, ◌/◌, ◌%◌, Bool, true, false, ◌==◌, ◌&&◌, ◌||◌, nat_le, if◌then◌else◌, List, [], ◌∷◌, ◌++◌, take, drop, map, flat_map, codes, decimal}
 use Rattle.std.specs.Fmt.{signed_decimal}
+use Rattle.nd_base.specs.Text.{uuid_form, hex_digit}
 use Rattle.nd_graph.specs.declared.value.Graph.{Graph}
 use Rattle.nd_graph.specs.Setting.{Setting}
 use Rattle.nd_graph.specs.Canon.{IsCanon}
-use Rattle.value_text.specs.Tokens.{Token, Word, Number, Cell, Str, Uuid, Mark, uuid_form}
+use Rattle.value_text.specs.Tokens.{Token, Word, Number, Cell, Str, Uuid, Mark}
 use Rattle.value_text.specs.Written.{token_of, graph_lines}
 
 -- ## Tokens
 
--- a digit of base 16, in lower case
-abbrev pub hex_digit : ℕ → ℕ
-hex_digit n = if nat_le n 9 then 48 + n else 87 + n
-
+-- an octet as two digits of base 16, in lower case
 abbrev pub hex_octet : ℕ → List ℕ
 hex_octet b = hex_digit (b / 16) ∷ hex_digit (b % 16) ∷ []
 
