@@ -1,6 +1,6 @@
 use Rattle.std.proofs.Common.{ℕ, sym, subst}
 use Rattle.nd_types.specs.Numbers.{IsNumberSide}
-use Rattle.plain_ndr.proofs.tests.expect_written.Goals as goal
+use Rattle.plain_ndr.proofs.tests.numbers_are_encoded.Goals as goal
 
 pub encode-requires-clause-numbers : goal.encode-requires-clause-numbers
 encode-requires-clause-numbers g c =
