@@ -7,7 +7,7 @@ use Rattle.idl_lexer.specs.declared.tokens.Token.{Token}
 use Rattle.idl_lexer.specs.declared.cut.Piece.{Piece}
 use Rattle.idl_lexer.specs.declared.cut.PieceKind.{PieceKind}
 use Rattle.idl_lexer.specs.declared.cut.PieceKind.TheVariants as piece
-use Rattle.idl_lexer.specs.Classes.{is_letter}
+use Rattle.nd_base.specs.Text.{is_letter}
 use Rattle.idl_lexer.specs.Pieces.{IsRun, IsOf}
 use Rattle.idl_lexer.specs.Cut.{IsCut}
 use Rattle.idl_lexer.specs.Verdict.{AreCut, token_of, AreTokens}
