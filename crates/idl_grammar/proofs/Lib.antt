@@ -21,6 +21,7 @@ pub mod FileLaws
 pub mod Rows
 pub mod FileExamples
 pub mod RealTokens
+pub mod Formed
 mod Clean
 mod CleanFile
 mod BannedWords
