@@ -93,6 +93,7 @@ pub mod SameByMap
 pub mod SameForms
 pub mod Spelt
 pub mod Standings
+pub mod StaysBad
 pub mod StreamConforming
 pub mod StreamConforms
 pub mod StreamMet

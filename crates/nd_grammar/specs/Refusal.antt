@@ -4,7 +4,6 @@
 -- attribute or an arm, `v` what octets hold, `p` a primitive, `z` a value, `b` and `c` are octets, `o` is a later refusal, `r`
 -- a refusal.
 use Rattle.std.specs.Prelude.{◌≡◌, ℕ, ◌+◌, ℤ, Bool, true, false, not, ◌&&◌, ◌||◌, cond, eqb, ltb, List, [], ◌∷◌, ◌++◌, length, Option, Some, None}
-use Rattle.std.specs.List.{list_any}
 use Rattle.std.specs.Ordering.{int_eq}
 use Rattle.nd_base.specs.declared.octets.Order.{Order}
 use Rattle.nd_base.specs.declared.TheConstants.{STREAM_LIMIT}
@@ -12,7 +11,8 @@ use Rattle.nd_types.specs.declared.types.Arm.{Arm}
 use Rattle.nd_types.specs.declared.types.Attr.{Attr}
 use Rattle.nd_types.specs.declared.types.Attr.TheVariants as attr
 use Rattle.nd_types.specs.declared.types.Class.TheVariants.{Full}
-use Rattle.nd_types.specs.Table.{selected}
+use Rattle.nd_types.specs.declared.types.TypeDef.TheVariants as def
+use Rattle.nd_types.specs.Table.{is_value, selected}
 use Rattle.nd_graph.specs.declared.item.Home.{Home}
 use Rattle.nd_graph.specs.declared.item.Home.TheVariants as home
 use Rattle.nd_grammar.specs.declared.reason.Reason.{Reason}
@@ -28,10 +28,10 @@ is_long at (Test attr wanted found) = false
 is_long at Unread = false
 is_long at x = ltb STREAM_LIMIT (at + size_at at x)
 
--- the value of an enumerated type is one of its enumerators; others have no enumerators
+-- what octets hold for an enumerated type is a value of it, one of its enumerators; others have no enumerators
 abbrev pub is_enumerator : Option (List ℤ) → ℤ → Bool
 is_enumerator None v = true
-is_enumerator (Some values) v = list_any (int_eq v) values
+is_enumerator (Some values) v = is_value (Some (def.Enum values)) v
 
 -- an arm is selected
 abbrev pub is_selected : Option Arm → Bool

@@ -12,7 +12,6 @@ pub mod Scanned
 pub mod Shown
 pub mod PlainSteps
 pub mod PlainReading
-pub mod WorkedPing
 pub mod OneFault
 pub mod PrintedReads
 pub mod Tested

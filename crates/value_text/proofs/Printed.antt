@@ -27,7 +27,7 @@ use Rattle.nd_graph.specs.Misfit.{misfit_of}
 use Rattle.nd_graph.specs.Conforms.{Conforms}
 use Rattle.nd_graph.specs.Same.{renumbered}
 use Rattle.nd_graph.specs.Fitting.{Fitting, IsFit, setting_of}
-use Rattle.nd_graph.specs.Canon.{IsCanon, canonical_number, named_cells}
+use Rattle.nd_graph.specs.Canon.{IsCanon}
 use Rattle.nd_grammar.specs.Plain.{ArePlain, IsPlain, number, plain_graph}
 use Rattle.nd_grammar.proofs.PlainStreams.{plain_stream, plain_length, label_of}
 use Rattle.nd_grammar.proofs.PlainConforms.{all_left, all_right, no_cells}
@@ -93,7 +93,7 @@ module _ (w : Setting) (ps : List Primitive) (plain : IsPlain w ps) (g : Graph) 
   pub is_canonical : IsCanon w g g
   is_canonical =
       let s = plain_stream w ps plain.plain g many in
-      let m : ℕ → ℕ = canonical_number (named_cells w g s.steps) in
+      let m : ℕ → ℕ = λ k. k in
       record {
         steps = s.steps;
         deferral = s.deferral;
@@ -102,10 +102,11 @@ module _ (w : Setting) (ps : List Primitive) (plain : IsPlain w ps) (g : Graph) 
           as_many = refl;
           within = λ k low high. absurd (none_between k low high);
           one_to_one = λ k d low high low' high' same. absurd (none_between k low high);
+          elsewhere = λ k h. refl;
           roots = subst (λ vs. renumbered m (trees vs) ≡ trees vs) (sym roots_are_numbers) (still m plain_numbers);
           cells = λ k d x y there image there'. absurd (no_item k x there);
         };
-        numbered = λ k. refl;
+        numbered = λ k low high. absurd (none_between k low high);
       }
 
 -- the lines of roots that are numbers: each with its own name

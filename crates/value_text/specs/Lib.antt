@@ -8,6 +8,5 @@ pub mod Readable
 pub mod Reads
 pub mod Scan
 pub mod Dues
-pub mod WorkedPing
 pub mod PlainSide
 pub mod Examples

@@ -13,8 +13,6 @@ mod octets;
 mod position;
 mod printing;
 mod reading;
-#[cfg(test)]
-mod reading_tests;
 mod steps;
 mod stop;
 mod strings;
@@ -26,4 +24,4 @@ pub use printing::print;
 pub use reading::read_text;
 
 /// The greatest number of octets of a value text.
-pub const TEXT_LIMIT: u32 = 268_435_456;
+pub const TEXT_LIMIT: u32 = 536_870_912;

@@ -125,7 +125,7 @@ fn fault_of(text: &[u8], stop: Stop) -> TextFault
 /// whether they are values of their types is asked of the graph.
 ///
 /// # Errors
-/// TooLong for a text of more than 268,435,456 octets. Otherwise the first token, or the end, with which the text begins that of
+/// TooLong for a text of more than 536,870,912 octets. Otherwise the first token, or the end, with which the text begins that of
 /// no graph: `TextReason` has the reasons. Memory where memory was wanting.
 ///
 /// Takes memory for the graph alone, and looks at each octet a bounded number of times.
