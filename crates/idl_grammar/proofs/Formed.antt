@@ -21,7 +21,7 @@ cond_one true m n test wanted p q = p
 cond_one false m n test wanted p q = q
 
 -- where each symbol of a list passes a test, and the other one too, what is found passes it
-among_passes : (test : ℕ → Bool) (list : List Spelled) (otherwise : ℕ) (octets : List ℕ) → list_all (λ s. test s.symbol) list ≡ true → test otherwise ≡ true
+pub among_passes : (test : ℕ → Bool) (list : List Spelled) (otherwise : ℕ) (octets : List ℕ) → list_all (λ s. test s.symbol) list ≡ true → test otherwise ≡ true
     → test (symbol_among list otherwise octets) ≡ true
 among_passes test [] otherwise octets all other = other
 among_passes test (s ∷ others) otherwise octets all other =
@@ -50,10 +50,10 @@ word_kind token.Str octets h = clash true refl h
 word_kind token.Mark octets h = clash (is_other (symbol_among marks symbol.Unknown octets)) (among_passes is_other marks symbol.Unknown octets marks_are_others unknown_is_other) h
 
 -- no symbol of a UUID
-abbrev is_no_uuid : ℕ → Bool
+abbrev pub is_no_uuid : ℕ → Bool
 is_no_uuid s = not (eqb s symbol.UuidValue)
 
-no_uuid : {A : Type 0} (s : ℕ) → is_no_uuid s ≡ true → s ≡ symbol.UuidValue → A
+pub no_uuid : {A : Type 0} (s : ℕ) → is_no_uuid s ≡ true → s ≡ symbol.UuidValue → A
 no_uuid s h e = clash (is_no_uuid s) h (ap is_no_uuid e)
 
 uuid_kind : (kind : TokenKind) (octets : List ℕ) → symbol_of kind octets ≡ symbol.UuidValue → kind ≡ token.Uuid

@@ -22,6 +22,7 @@ pub mod Rows
 pub mod FileExamples
 pub mod RealTokens
 pub mod Formed
+pub mod Identifiers
 mod Clean
 mod CleanFile
 mod BannedWords

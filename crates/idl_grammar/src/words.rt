@@ -1,9 +1,10 @@
 // What the tree keeps of a token.
-ghost use Rattle.std.specs.Prelude.{◌≡◌, ◌≤◌, true, length};
+ghost use Rattle.std.specs.Prelude.{◌≡◌, true, IfOk};
 ghost use Rattle.nd_base.specs.Text.{is_identifier};
 ghost use Rattle.idl_lexer.specs.Pieces.{IsUuid};
 
-use nd_base::Octets;
+use nd_base::{Memory, Name, Octets};
+use std::alloc::Global;
 use std::marker::Model;
 
 /// A token as it is spelled: a number or a literal. A literal has its quotes and escapes.
@@ -51,12 +52,18 @@ impl Identifier {
 
     /// Its octets. Takes no memory.
     pub fn as_slice(&self) -> &[u8]
-        ensures same { result.now ≡ self.now.octets }
-        ensures identifier { is_identifier result.now ≡ true }
-        ensures some { 1 ≤ length result.now }
-        ensures few { length result.now ≤ 31 }
+        ensures { result.now ≡ self.now.octets }
     {
         self.spelling.octets.as_slice()
+    }
+
+    /// A copy of its octets, which are an identifier. Takes memory for them, and want of memory is the only refusal.
+    #[tactic(auto, using(crate::proofs::Identifiers::identifier_length))]
+    pub fn to_name(&self, alloc: Global) -> Result<Name, Memory>
+        ensures same { IfOk result (λ n. n ≡ self.now.octets) }
+        ensures identifier { is_identifier self.now.octets ≡ true }
+    {
+        Name::copy(alloc, self.spelling.octets.as_slice())
     }
 }
 
