@@ -70,7 +70,7 @@ def of_rules() -> Iterator[Tuple[int, Case]]:
             files = [{"t.idl": within(""), "t.acf": text} for (text,) in texts]
             yield 40, refused(told, files[0], f"t.acf:1:{column}: Rule 40", "t.acf")
             yield 40, accepted(f"{told}, kept", files[1], "t.acf")
-        elif number != "39":
+        elif number != "39" and texts[0]:
             yield int(number), refused(told, {"t.idl": within(*texts[0])}, f"t.idl:1:{column}: Rule {number}")
             yield int(number), accepted(f"{told}, kept", {"t.idl": within(*(texts[1] or [""]))})
 
