@@ -6,7 +6,7 @@ docs/BRINGING-YOUR-IDL.md has bringing.py, and README.md has readme.py.
 import re
 from typing import Dict, Iterator, List, Tuple
 
-from case import ROOT, Begins, Case, Check, lines
+from case import ROOT, Begins, Case, Check, commands, lines
 
 SPAN = re.compile(r"`([^`]+)`")
 RULES = 40
@@ -189,6 +189,7 @@ CASES = [
     *of_refusals(),
     *of_expressions(),
     of_listing(),
+    *commands("docs/LISTING.md"),
     Check("docs/ACF.md: the example", of_acf),
     *of_texts(),
 ]
