@@ -148,7 +148,7 @@ def of_texts() -> Iterator[Case]:
 # ----------------------------------------------------------------------------------------------------------------------
 # What pages name
 
-PLACE = re.compile(r"`(\w+): (specs|src|proofs)/(\w+)(?:\.\w+)?(?:, (\w+))?`((?:, `\w+`)*)")
+PLACE = re.compile(r"`(\w+): (specs|src|proofs)/(?:\w+/)*(\w+)(?:\.\w+)?(?:, (\w+))?`((?:, `\w+`)*)")
 
 
 def named_in(path: str, name: str) -> bool:
@@ -169,7 +169,8 @@ def wrong_places(text: str) -> Iterator[str]:
 
 def wrong_examples() -> Iterator[str]:
     """The worked examples that docs/NDR.md names and that are not there."""
-    held = "".join(file.read_text(encoding="utf-8") for path in ("src/*.rt", "proofs/**/*.antt") for file in ROOT.glob(f"crates/nd_grammar/{path}"))
+    paths = [f"crates/ndr_worked/{path}" for path in ("src/*.rt", "proofs/**/*.antt")]
+    held = "".join(file.read_text(encoding="utf-8") for path in paths for file in ROOT.glob(path))
     for mark in re.findall(r"\*\*Example\*\*((?: |\n)+`\w+`(?:,(?: |\n)+`\w+`)*)", page("NDR.md")):
         for name in SPAN.findall(mark):
             if not re.search(rf"\b{name}\b", held):

@@ -40,17 +40,17 @@ use Rattle.nd_types.specs.declared.types.Operation.{Operation}
 use Rattle.nd_types.specs.Legal.{IsLegal, has_small_bound}
 use Rattle.nd_types.proofs.LegalLaws.{passes_at}
 use Rattle.nd_grammar.proofs.LegalSides.{laid_out}
-use Rattle.nd_grammar.proofs.LegalSubjects.{has_subjects}
-use Rattle.nd_grammar.proofs.PointerPlaces.{root_there}
-use Rattle.nd_grammar.proofs.StreamFinds.{PendFits, Whole, root_whole, cell_whole, standing_pends, no_root_tests}
-use Rattle.nd_grammar.proofs.TestsFind.{HasSubjects}
-use Rattle.nd_grammar.proofs.Matching.{Known}
-use Rattle.nd_grammar.proofs.NextInPlace.{View, view, v_prim, v_enum, v_struct, v_array, v_text, v_union, v_pointer, v_context, v_unread}
-use Rattle.nd_grammar.proofs.NextStream.{IsLaidOut, IsPipeRoot, FitsPipes, drop_at, all_at}
-use Rattle.nd_grammar.proofs.HoistedMaxes.{HoistsLast}
-use Rattle.nd_grammar.proofs.KnownNodes.{known_cells, known_roots}
-use Rattle.nd_grammar.proofs.Mapped.{no_pointers}
-use Rattle.nd_grammar.proofs.CanonNumbers.{has_among, among_has}
+use Rattle.nd_grammar.proofs.agreements.LegalSubjects.{has_subjects}
+use Rattle.nd_grammar.proofs.next.PointerPlaces.{root_there}
+use Rattle.nd_grammar.proofs.agreements.StreamFinds.{PendFits, Whole, root_whole, cell_whole, standing_pends, no_root_tests}
+use Rattle.nd_grammar.proofs.agreements.TestsFind.{HasSubjects}
+use Rattle.nd_grammar.proofs.next.Matching.{Known}
+use Rattle.nd_grammar.proofs.next.NextInPlace.{View, view, v_prim, v_enum, v_struct, v_array, v_text, v_union, v_pointer, v_context, v_unread}
+use Rattle.nd_grammar.proofs.next.NextStream.{IsLaidOut, IsPipeRoot, FitsPipes, drop_at, all_at}
+use Rattle.nd_grammar.proofs.next.HoistedMaxes.{HoistsLast}
+use Rattle.nd_grammar.proofs.next.KnownNodes.{known_cells, known_roots}
+use Rattle.nd_grammar.proofs.next.Mapped.{no_pointers}
+use Rattle.nd_grammar.proofs.written.CanonNumbers.{has_among, among_has}
 use Rattle.nd_grammar.proofs.ChosenRepresents.{of_named}
 
 -- ## Lists of cells that differ by repetitions
