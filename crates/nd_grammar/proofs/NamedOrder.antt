@@ -542,27 +542,21 @@ module _ (w : Setting) (g : Graph) (s : IsSound w g) (laid : IsLaidOut w) (subje
         (due_more known l2 due (λ z m. w2 z (w1 z m)) a.1)) (λ l3 w3 m.
         k l3 (λ z u. w3 z (w2 z (w1 z u))) (tt, all_right (MetCells l3) (due_of table x) due m))))))
 
+  pointer_names : (i t : ℕ) (k : Class) (to : TypeId) (c : ℕ) (ks : Trees) → type_at table t ≡ Some (def.Pointer k to)
+      → Among (tgt (home_pointers table (home.Root i) t (node (tree.Ptr (Some c)) ks))) c
+  pointer_names i t k to c ks e =
+      let p : Pending = record { home = home.Root i; node = 0; class = k; to = to.0; cell = Some c; agreements = [] } in
+      of_named (home_pointers table (home.Root i) t (node (tree.Ptr (Some c)) ks)) c p
+      (among_left (pointer_by (type_at table t) true (Some c) (home.Root i) 0 []) _ p
+      (subst (λ d. Among (pointer_by d true (Some c) (home.Root i) 0 []) p) (sym e) (inl refl))) refl
+
   -- a pointer among the roots names a cell of what stands for it
   root_names : (i t : ℕ) (d : Option TypeDef) (c : ℕ) (ks : Trees) → type_at table t ≡ d → has_shape d (tree.Ptr (Some c)) ks ≡ true
       → Among (own_cell (standing_by g i t (node (tree.Ptr (Some c)) ks) (direct d (node (tree.Ptr (Some c)) ks))).home
       ++ named table (standing_by g i t (node (tree.Ptr (Some c)) ks) (direct d (node (tree.Ptr (Some c)) ks)))) c
   root_names i t (Some (def.Pointer Ref to)) c ks e h = inl refl
-  root_names i t (Some (def.Pointer Unique to)) c ks e h = by_pointer Unique e
-    where
-      by_pointer : (k : Class) → type_at table t ≡ Some (def.Pointer k to) → Among (tgt (home_pointers table (home.Root i) t (node (tree.Ptr (Some c)) ks))) c
-      by_pointer k e =
-          of_named (home_pointers table (home.Root i) t (node (tree.Ptr (Some c)) ks)) c
-          (record { home = home.Root i; node = 0; class = k; to = to.0; cell = Some c; agreements = [] })
-          (among_left (pointer_by (type_at table t) true (Some c) (home.Root i) 0 []) _ _
-          (subst (λ d. Among (pointer_by d true (Some c) (home.Root i) 0 []) (record { home = home.Root i; node = 0; class = k; to = to.0; cell = Some c; agreements = [] })) (sym e) (inl refl))) refl
-  root_names i t (Some (def.Pointer Full to)) c ks e h = by_pointer Full e
-    where
-      by_pointer : (k : Class) → type_at table t ≡ Some (def.Pointer k to) → Among (tgt (home_pointers table (home.Root i) t (node (tree.Ptr (Some c)) ks))) c
-      by_pointer k e =
-          of_named (home_pointers table (home.Root i) t (node (tree.Ptr (Some c)) ks)) c
-          (record { home = home.Root i; node = 0; class = k; to = to.0; cell = Some c; agreements = [] })
-          (among_left (pointer_by (type_at table t) true (Some c) (home.Root i) 0 []) _ _
-          (subst (λ d. Among (pointer_by d true (Some c) (home.Root i) 0 []) (record { home = home.Root i; node = 0; class = k; to = to.0; cell = Some c; agreements = [] })) (sym e) (inl refl))) refl
+  root_names i t (Some (def.Pointer Unique to)) c ks e h = pointer_names i t Unique to c ks e
+  root_names i t (Some (def.Pointer Full to)) c ks e h = pointer_names i t Full to c ks e
   root_names i t None c ks e h = cc
   root_names i t (Some _) c ks e h = cc
 

@@ -64,10 +64,11 @@ module _ (n : ℕ) (m : ℕ → ℕ) (within : (c : ℕ) → 0 < c → c ≤ n �
 
   images_distinct : (k : ℕ) → k ≤ n → Distinct (map m (down k))
   images_distinct zero few = tt
-  images_distinct (suc k) few =
-      (all_but (suc k) (down k) (λ y a e. let r = down_within k y a in
+  images_distinct (suc k) few = (
+    all_but (suc k) (down k) (λ y a e. let r = down_within k y a in
         let same : suc k ≡ y = apart (suc k) y (omega arith) few r.0 (omega (arith, r.1, few)) e in omega (arith, same, r.1)),
-        images_distinct k (omega (arith, few)))
+    images_distinct k (omega (arith, few)),
+  )
 
   map_length : (xs : List ℕ) → length (map m xs) ≡ length xs
   map_length [] = refl
@@ -389,13 +390,14 @@ module _ (w : Setting) (side : IsLegalSide w) (g h : Graph) (c : Conforms w g) (
   are_named j n [] e x before b = tt
   are_named j n (y ∷ ys) e x before b =
       let there : slice_get h.cells j ≡ Some y = suffix_first h.cells j y ys x in
-      let own : List Pending = home_pointers w.table (cell_home n) y.of y.val in
-      (ap (first_type before) e ∙ first_named j y there before b,
+      let own : List Pending = home_pointers w.table (cell_home n) y.of y.val in (
+        ap (first_type before) e ∙ first_named j y there before b,
         are_named (suc j) (n + 1) ys (omega (arith, e)) (suffix_next h.cells j y ys x) (before ++ own) (record {
           roots = λ q a. among_left before own q (b.roots q a);
           cells = λ i z q low at a. earlier i z q low at a (cases_lt i j);
           typed = λ q a. either q a;
-        }))
+        }),
+      )
     where
       there' : slice_get h.cells j ≡ Some y
       there' = suffix_first h.cells j y ys x

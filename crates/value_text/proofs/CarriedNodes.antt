@@ -186,6 +186,7 @@ module _ (table : Table) (small : list_all has_small_values table ≡ true) wher
         let c : (b : ℕ) → l ≡ tree.Ptr (Some b) → (0 < m b) × (m b < 2 ^ 32) = cells_within l f.cell in
         let kids : AllByRecursion Stands K' =
         subst (λ (u : List ℕ). AllByRecursion Stands (nodes_of table u (child_agreements d (renumbered m ks)) (n' + 1) (renumbered m ks))) (sym (child_types_same m d l ks))
-        (nodes_carried (child_types d l ks) (child_agreements d ks) (child_agreements d (renumbered m ks)) (n + 1) (n' + 1) ks (all_left Fine K R a.1)) in
-        ((form_carried m d l ks f.shape f.counts f.arm a.0.1 c, label_carried m t l ks f.shape f.range a.0.1 c),
-          all_append Stands K' R' kids (nodes_carried types (rest_agreements ags) (rest_agreements ags') (n + 1 + node_count ks) (n' + 1 + node_count (renumbered m ks)) ts (all_right Fine K R a.1)))
+        (nodes_carried (child_types d l ks) (child_agreements d ks) (child_agreements d (renumbered m ks)) (n + 1) (n' + 1) ks (all_left Fine K R a.1)) in (
+          (form_carried m d l ks f.shape f.counts f.arm a.0.1 c, label_carried m t l ks f.shape f.range a.0.1 c),
+          all_append Stands K' R' kids (nodes_carried types (rest_agreements ags) (rest_agreements ags') (n + 1 + node_count ks) (n' + 1 + node_count (renumbered m ks)) ts (all_right Fine K R a.1)),
+        )

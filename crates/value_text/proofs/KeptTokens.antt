@@ -122,9 +122,10 @@ kept_both ts us j k before c =
 -- `ctx ( NUMBER , UUID )`
 pub kept_context : (n : ℕ) (id : List ℕ) → n < 2 ^ 32 → length id ≡ 16 → list_all is_octet id ≡ true
     → Kept (Word (codes "ctx") ∷ Mark 40 ∷ Number (pos n) ∷ Mark 44 ∷ Uuid id ∷ Mark 41 ∷ [])
-kept_context n id few long octets before c =
-    ((refl, c.now, (refl, refl, (omega (arith, few), refl, (refl, refl, ((long, octets), refl, (refl, refl, tt)))))),
-      record { now = refl; comma = refl; number = λ z. refl })
+kept_context n id few long octets before c = (
+  (refl, c.now, (refl, refl, (omega (arith, few), refl, (refl, refl, ((long, octets), refl, (refl, refl, tt)))))),
+  record { now = refl; comma = refl; number = λ z. refl },
+)
 
 -- ## What follows a token
 

@@ -75,7 +75,6 @@ roots_words w n =
     (both_all (HasWord all) (filter (λ r. not r.is_pipe) ps) (result_root w.side w.op.result) (kept_all (HasWord all) (λ r. not r.is_pipe) ps h) (result_word all w.side w.op.result))
     (kept_all (HasWord all) (λ r. r.is_pipe) ps h)
 
-
 identifier_word : (name : List ℕ) → is_identifier name ≡ true → is_word name ≡ true
 identifier_word name h = (and_parts (is_word name) (nat_le (length name) 31) h).0
 

@@ -262,9 +262,9 @@ module _ (w : Setting) (side : IsLegalSide w) (g : Graph) (c : Conforms w g) whe
       elim (among_or_not own k) [
         | inl o ↦ own_named i r e L k o
         | inr o ↦ elim (among_or_not nam k) [
-            | inl n ↦ root_source i r e s A L N eq k x o n
-            | inr n ↦ again (behind (own ++ nam) N k (neither own nam k o n) m) (neither A (own ++ nam) k x (neither own nam k o n))
-          ]
+          | inl n ↦ root_source i r e s A L N eq k x o n
+          | inr n ↦ again (behind (own ++ nam) N k (neither own nam k o n) m) (neither A (own ++ nam) k x (neither own nam k o n))
+        ]
       ]
   sources (at_null e d) a A kn L eq k m x = sources d a.1 A kn.1 L eq k m x
   sources (at_standing b e full h d) a A kn L eq k m x = sources d a.1 A kn.1 L eq k m x

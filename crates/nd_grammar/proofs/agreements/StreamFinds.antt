@@ -39,7 +39,7 @@ use Rattle.nd_grammar.proofs.next.KnownNodes.{known_cells, known_roots}
 use Rattle.nd_grammar.proofs.next.NextPipes.{sum_first, count_drop, known_take, known_drop, pipe_label, unread_pipe}
 use Rattle.nd_grammar.proofs.next.NextStream.{IsLaidOut, IsPipeRoot, drop_at, all_at}
 use Rattle.nd_grammar.proofs.next.PointerPlaces.{root_there}
-use Rattle.nd_grammar.proofs.agreements.TestsFind.{IsReadKind, AreRead, Finds, onto, behind, Within, still_seen, now_seen, IsNoTest, kinds_find, kinds_read, read_label, AttrFits, AllFit, AgsFit, StandsAt, stands_more, HasSubjects, tests_find, child_fits, in_place_find, NodeStands, whole_find, whole_stands}
+use Rattle.nd_grammar.proofs.agreements.TestsFind.{IsReadKind, AreRead, Finds, onto, behind, Within, still_seen, now_seen, IsNoTest, kinds_find, kinds_read, is_read, read_label, AttrFits, AllFit, AgsFit, StandsAt, stands_more, HasSubjects, tests_find, child_fits, in_place_find, NodeStands, whole_find, whole_stands}
 
 -- what an agreement of a parameter speaks of is in its subject's type
 abbrev pub RootFits : Table → Root → Type 0
@@ -90,11 +90,6 @@ module _ (w : Setting) (g : Graph) (s : IsSound w g) (laid : IsLaidOut w) (subje
   no_nodes : (types : List ℕ) (ags : List (List Agreement)) (n : ℕ) (ts : Trees) → types ≡ [] → nodes_of table types ags n ts ≡ []
   no_nodes types ags n none e = ap (λ u. nodes_of table u ags n none) e
   no_nodes types ags n (more t ts) e = ap (λ u. nodes_of table u ags n (more t ts)) e
-
-  is_read : (l : Label) → (l ≡ tree.Unread) ⊎ (l ≡ tree.Unread → ⊥)
-  is_read tree.Unread = inl refl
-  is_read (tree.Num z) = inr (λ e. cc)
-  is_read _ = inr (λ e. cc)
 
   pointers_fit : (h : Home) (types : List ℕ) (ags : List (List Agreement)) (n : ℕ) (ts : Trees) → Known g table types ts → AgsFit table types ags
       → AllByRecursion PendFits (flat_map (pointer table h) (nodes_of table types ags n ts))

@@ -130,6 +130,11 @@ pub read_label : (table : Table) (t : ℕ) (d : Option TypeDef) (l : Label) (ks 
 read_label table t d l ks r e =
     (subst (AllByRecursion IsReadKind) (ap (λ u. before_children table t d u ks) e ∙ unread_before table t d ks) r).0
 
+pub is_read : (l : Label) → (l ≡ tree.Unread) ⊎ (l ≡ tree.Unread → ⊥)
+is_read tree.Unread = inl refl
+is_read (tree.Num z) = inr (λ e. cc)
+is_read _ = inr (λ e. cc)
+
 -- ## Attributes and what they speak of
 
 -- a subject of this type has what an attribute speaks of
@@ -406,11 +411,6 @@ module _ (table : Table) (laid : HoistsLast table) (subjects : HasSubjects table
     hoisted_there false l m n e = cc
     hoisted_there true tree.Unread m n e = absurd (n refl)
     hoisted_there true _ m n e = inr (inl refl)
-
-    is_read : (l : Label) → (l ≡ tree.Unread) ⊎ (l ≡ tree.Unread → ⊥)
-    is_read tree.Unread = inl refl
-    is_read (tree.Num z) = inr (λ e. cc)
-    is_read _ = inr (λ e. cc)
 
     whole_own : (t : ℕ) (l : Label) (ks : Trees) (seen : List Entry) → (l ≡ tree.Unread → ⊥)
         → Within (entries h 0 (hoisted (H t) l (hoisted_max 0 (more (node l ks) none)))) seen → Own seen (t ∷ []) (more (node l ks) none)

@@ -193,7 +193,7 @@ module _ (table : Table) (laid : HoistsLast table) where
     kids_or_none t l l' ks ks' (inr n) (inl u) e k = maxes_of_kids _ ks ks' (e ∙ ap (λ x. child_types (type_at table t) x ks') u ∙ no_children (type_at table t) ks')
     kids_or_none t l l' ks ks' (inr n) (inr n') e k = k n n'
 
-    pub no_more : (h : ℕ → Bool) (t : ℕ) (types : List ℕ) → OnlyLast h (t ∷ types) → OnlyLast h types
+    no_more : (h : ℕ → Bool) (t : ℕ) (types : List ℕ) → OnlyLast h (t ∷ types) → OnlyLast h types
     no_more h t [] o = tt
     no_more h t (u ∷ types) o = o.1
 
