@@ -1,5 +1,7 @@
 """Rules of the language: for each a small file that breaks it, told at its place, and one near it that keeps all rules."""
 
+from typing import Optional
+
 from case import Case, lines
 from idl import MARK, fault
 
@@ -87,9 +89,9 @@ KEPT = [
 ]
 
 
-def kept(text: str) -> Case:
-    """A file that keeps all rules: what comes next is its operation, which it lacks."""
-    return Case(f"idl, no rule: {text}", ["decode", "t.idl", "-", "none", "in", "little"], {"t.idl": text.encode()},
+def kept(text: str, name: Optional[str] = None) -> Case:
+    """A file that keeps all rules: what comes next is its operation, which it lacks. Without a name the text is the name."""
+    return Case(f"idl, no rule: {name or text}", ["decode", "t.idl", "-", "none", "in", "little"], {"t.idl": text.encode()},
                 notes=lines("idl t.idl: NoOperation none"), status=6)
 
 
@@ -103,10 +105,31 @@ def parameters(count: int) -> str:
     return ",".join(f"[in]long p{number}" for number in range(count))
 
 
-# 1,024 operations and 256 parameters are the most. The place is that of the operation, or the parameter, that is one too many.
+def structs(count: int) -> str:
+    """So many structs, each on a line of its own."""
+    return "".join(f"struct s{number} {{ long a; }};\n" for number in range(count))
+
+
+# A line that needs three types, if no pointer to long was before it: the struct, then the pointer to long at the member, then the
+# pointer to the struct at the typedef, which begins before the member.
+THREE_TYPES = "typedef [ptr] struct { [ptr] long *a; } *sp;"
+
+# 4,096 types, 1,024 operations and 256 parameters are the most; twelve types are there before any is declared. The place is that of
+# the first construct at which there is one too many. No file is long enough for 67,108,865 members and arms.
 COUNTS = [
+    fault("Rule 39", f"[local] interface t {{\n{structs(4084)}{MARK}struct q {{ long a; }};\n}}", "4,097 types, the last a struct"),
+    fault("Rule 39", f"[local] interface t {{\n{structs(4083)}{THREE_TYPES.replace('[ptr] long', MARK + '[ptr] long')}\n}}",
+          "4,098 types, the 4,097th a member's"),
+    fault("Rule 39", f"[local] interface t {{\n{structs(4082)}{MARK}{THREE_TYPES}\n}}", "4,097 types, the last a typedef's"),
+    kept(f"[local] interface t {{\n{structs(4084)}}}", "4,096 types, the last a struct"),
+    kept(f"[local] interface t {{\n{structs(4081)}{THREE_TYPES}\n}}", "4,096 types, the last a typedef's"),
     fault("Rule 39", f"[local] interface t {{ {operations(1024)}{MARK}void g(); }}", "1,025 operations"),
+    fault("Rule 39", f"[local] interface t {{ {operations(1024)}{MARK}void g(); void h(); }}", "1,026 operations"),
+    kept(f"[local] interface t {{ {operations(1024)} }}", "1,024 operations"),
     fault("Rule 39", f"[local] interface t {{ void f({parameters(256)},{MARK}[in]long q); }}", "257 parameters"),
+    fault("Rule 39", f"[local] interface t {{ void f({parameters(256)}); void g({parameters(256)},{MARK}[in]long q,[in]long r); }}",
+          "256 parameters and 258"),
+    kept(f"[local] interface t {{ void f({parameters(256)}); void g({parameters(256)}); }}", "256 parameters twice"),
 ]
 
 # The least rule is told, at its first place, and every fault of a name or a constant comes before it.
