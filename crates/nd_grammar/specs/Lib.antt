@@ -20,3 +20,4 @@ pub mod NextMark
 pub mod Reader
 pub mod StreamReader
 pub mod FewItems
+pub mod Tested

@@ -5,6 +5,10 @@ pub mod Runs
 pub mod Numerals
 pub mod StringEnds
 pub mod Firsts
+pub mod SpelledTokens
+pub mod KeptTokens
+pub mod GraphLines
+pub mod LegalNames
 pub mod OneText
 pub mod PlainGraphs
 pub mod PlainTexts
