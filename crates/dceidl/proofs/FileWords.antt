@@ -9,7 +9,7 @@ use Rattle.phrases.proofs.Sequences.{both}
 use Rattle.idl_lexer.specs.declared.tokens.TokenKind.{TokenKind}
 use Rattle.idl_lexer.specs.declared.tokens.TokenKind.TheVariants as token
 use Rattle.idl_lexer.specs.declared.tokens.Token.{Token}
-use Rattle.idl_lexer.specs.Classes.{is_letter, is_word_octet}
+use Rattle.nd_base.specs.Text.{is_letter, is_word_octet}
 use Rattle.idl_lexer.specs.Pieces.{IsRun}
 use Rattle.idl_lexer.specs.Verdict.{AreTokens}
 use Rattle.idl_lexer.proofs.Words.{AreFit, tokens_fit}

@@ -4,7 +4,7 @@ use Rattle.std.specs.Prelude.{◌≡◌, ◌⊎◌, ℕ, true, false, eqb, List,
 use Rattle.nd_base.specs.declared.octets.Place.{Place}
 use Rattle.nd_base.specs.Outside.{IsContent}
 use Rattle.nd_types.specs.declared.interface.Interface.{Interface}
-use Rattle.idl_lexer.specs.Classes.{is_word_octet}
+use Rattle.nd_base.specs.Text.{is_word_octet}
 use Rattle.idl_lexer.specs.declared.tokens.LexFault.TheVariants as lexical
 use Rattle.idl_lexer.specs.Verdict.{IsFault, IsVerdict, Refused}
 use Rattle.idl_grammar.specs.Tree.{Tree}

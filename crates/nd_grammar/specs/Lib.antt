@@ -20,3 +20,5 @@ pub mod NextMark
 pub mod Reader
 pub mod StreamReader
 pub mod FewItems
+pub mod Tested
+pub mod NamedOrder

@@ -1,5 +1,3 @@
-pub mod Text
-pub mod Whole
 pub mod Printed
 pub mod Numbers
 pub mod Tokens

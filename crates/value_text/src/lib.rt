@@ -10,7 +10,6 @@ pub mod laws;
 mod lexeme;
 mod numbers;
 mod octets;
-mod position;
 mod printing;
 mod reading;
 mod steps;

@@ -1,24 +1,21 @@
-"""The grammar of IDL as a whole: one text with every alternative, and the limits of depth over brackets and operators of all kinds.
+"""The grammar of IDL as a whole: one text with every alternative, cut and disturbed behind each token; and 64 and 65 brackets and operators of all kinds.
 
-In a text § stands before the place that is told, and is taken out.
+Where the grammar is refused line by line is in idl_syntax.py.
 """
 
-from case import Case, interface, lines, octets
-
-MARK = "§"
+import idl
+from case import interface
+from idl import MARK
 
 
 def fault(name, what, text):
     """A decoding by a file that is refused at the mark."""
-    before, behind = text.split(MARK)
-    place = f"{before.count(chr(10)) + 1}:{len(before) - before.rfind(chr(10))}"
-    return Case(f"syntax: {name}", ["decode", "t.idl", "-", "f", "in", "little"], {"t.idl": (before + behind).encode()}, octets("01"),
-                notes=lines(f"idl t.idl:{place}: {what}"), status=6)
+    return idl.fault(what, text, name)
 
 
 def export(name, what, text):
     """A file of one declaration. One bracket is open there."""
-    return fault(name, what, interface(text).decode())
+    return fault(name, what, interface(text))
 
 
 def taken(name, text):
