@@ -17,19 +17,19 @@ use Rattle.idl_names.specs.Causes.{IsAbsent, IsFailed}
 use Rattle.idl_names.specs.Walk.{Walk, start, all_of, Stopped}
 use Rattle.dceidl.specs.declared.refusal.Refusal.{Refusal}
 use Rattle.dceidl.specs.declared.refusal.Refusal.TheVariants.{Memory}
-use Rattle.dceidl.specs.Idl.{main_file, IsMainFault, IsNameFault, IsDueImport, by_names, told_fault, name_in}
+use Rattle.dceidl.specs.Idl.{main_file, IsMainFault, IsNameFault, IsDueImport, by_names, reported_fault, name_in}
 use Rattle.idl_lexer.specs.declared.tokens.LexFault.TheVariants as lexical
 use Rattle.nd_base.specs.Outside.{IsContent, IsMissing}
 use Rattle.dceidl.specs.declared.refusal.Refusal.TheVariants.{Absent, FileFailed, BadIdl, NoOperation, NotBuilt, ReadFault, BadOctets, BadText, BadValue}
 use Rattle.nd_base.specs.Counts.{Rose}
-use Rattle.dceidl.specs.Outside.{FilesSeen, HasRisen}
+use Rattle.nd_base.specs.Over.{FilesSeen, HasRisen}
 use Rattle.dceidl.specs.Ready.{IsTextCause, IsIdlCause}
 use Rattle.dceidl.proofs.Walks.{walk_absent, walk_failed, last_source}
-use Rattle.dceidl.specs.Reading.{IsToldUnparsed, IsOrMemory, IsLoadCause}
+use Rattle.dceidl.specs.Reading.{IsReportedUnparsed, IsOrMemory, IsLoadCause}
 
 -- tokens that are no file of the language are a main file that is refused
 pub unparsed_main : (text : List ℕ) (l : Lexed) → l.text ≡ text → AreTokens text l.tokens → (f : SyntaxFault)
-    → Told (λ a. Answers grammar.file (lexemes l) a) (Err f) → (r : NameFault) → IsToldUnparsed l f r → IsMainFault text r
+    → Told (λ a. Answers grammar.file (lexemes l) a) (Err f) → (r : NameFault) → IsReportedUnparsed l f r → IsMainFault text r
 unparsed_main text l same tokens parser.Memory h r told = subst (IsMainFault text) (sym told) tt
 unparsed_main text l same tokens (parser.Syntax k) h r told =
     subst (IsMainFault text) (sym told)
@@ -113,7 +113,7 @@ failed_due held idl text sources n (inr (tree, parsed, inl walk)) =
     })
 
 fault_cause : (f : FilesSeen) (idl text : List ℕ) (acf : Option (List ℕ)) (sources : List Source) (x : NameFault) → IsNameFault f.held idl text sources x
-    → IsAbsent f.absences.before f.absences.now x → IsFailed f.faults.before f.faults.now x → IsTextCause f idl text acf (told_fault sources x)
+    → IsAbsent f.absences.before f.absences.now x → IsFailed f.faults.before f.faults.now x → IsTextCause f idl text acf (reported_fault sources x)
 fault_cause f idl text acf sources names.Memory h a b = tt
 fault_cause f idl text acf sources (names.Unknown p) h a b = by_names sources (names.Unknown p) h refl
 fault_cause f idl text acf sources (names.Twice p q) h a b = by_names sources (names.Twice p q) h refl
@@ -130,7 +130,7 @@ fault_cause f idl text acf sources (names.Syntax n at (parser.Deep k)) h a b = b
 fault_cause f idl text acf sources (names.Syntax n at (parser.Banned k)) h a b = by_names sources (names.Syntax n at (parser.Banned k)) h refl
 
 pub text_cause : (f : FilesSeen) (idl text : List ℕ) (acf : Option (List ℕ)) (sources : List Source) (x : NameFault) → IsNameFault f.held idl text sources x
-    → IsAbsent f.absences.before f.absences.now x → IsFailed f.faults.before f.faults.now x → (told : Refusal) → IsOrMemory (told_fault sources x) told
+    → IsAbsent f.absences.before f.absences.now x → IsFailed f.faults.before f.faults.now x → (told : Refusal) → IsOrMemory (reported_fault sources x) told
     → IsTextCause f idl text acf told
 text_cause f idl text acf sources x h a b told (inl is) = subst (IsTextCause f idl text acf) (sym is) (fault_cause f idl text acf sources x h a b)
 text_cause f idl text acf sources x h a b told (inr is) = subst (IsTextCause f idl text acf) (sym is) tt

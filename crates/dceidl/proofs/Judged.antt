@@ -25,43 +25,43 @@ use Rattle.dceidl.specs.declared.refusal.IdlReason.TheVariants as reason
 use Rattle.dceidl.specs.declared.refusal.Refusal.{Refusal}
 use Rattle.dceidl.specs.declared.refusal.Refusal.TheVariants.{Memory, Absent, FileFailed, BadIdl, NoOperation, NotBuilt, ReadFault, BadOctets, BadText, BadValue}
 use Rattle.dceidl.specs.AcfFile.{AcfFile, IsAcf}
-use Rattle.dceidl.specs.Outside.{FilesSeen}
-use Rattle.dceidl.specs.Idl.{AreResolved, Means, resolved_world, IsBroken, by_acf, by_rules, told_by, told_rule, told_beside, word_at, IsAcfFault}
+use Rattle.nd_base.specs.Over.{FilesSeen}
+use Rattle.dceidl.specs.Idl.{AreResolved, Means, resolved_world, IsBroken, by_acf, by_rules, reported_by, reported_rule, reported_beside, word_at, IsAcfFault}
 use Rattle.dceidl.specs.Ready.{IsTextCause}
-use Rattle.dceidl.specs.Reading.{IsLoadCause, IsOrMemory, IsToldAcf, IsToldUnread}
+use Rattle.dceidl.specs.Reading.{IsLoadCause, IsOrMemory, IsReportedAcf, IsReportedUnread}
 
 -- ## The text of an attribute configuration file
 
 -- a fault of a text that is told, or that memory was wanting
-fault_told : (name text : List ℕ) (at : ℕ) (why : IdlReason) (r : Refusal) → IsAcfFault text at why → IsOrMemory (told_by name (position_of text at) why) r
-    → IsToldAcf name text r
-fault_told name text at why r fault (inl is) = subst (IsToldAcf name text) (sym is) (at, fault, refl)
-fault_told name text at why r fault (inr is) = subst (IsToldAcf name text) (sym is) tt
+fault_told : (name text : List ℕ) (at : ℕ) (why : IdlReason) (r : Refusal) → IsAcfFault text at why → IsOrMemory (reported_by name (position_of text at) why) r
+    → IsReportedAcf name text r
+fault_told name text at why r fault (inl is) = subst (IsReportedAcf name text) (sym is) (at, fault, refl)
+fault_told name text at why r fault (inr is) = subst (IsReportedAcf name text) (sym is) tt
 
 -- a text that cannot be cut
 pub uncut_told : (name text : List ℕ) (at : ℕ) (kind : LexKind) (r : Refusal) → IsVerdict text (Refused at kind)
-    → IsOrMemory (told_by name (position_of text at) (reason.Lexical kind)) r → IsToldAcf name text r
+    → IsOrMemory (reported_by name (position_of text at) (reason.Lexical kind)) r → IsReportedAcf name text r
 uncut_told name text at kind r uncut told = fault_told name text at (reason.Lexical kind) r uncut told
 
 -- what is told of a fault of tokens, by where its token begins
 module _ (name text : List ℕ) (l : Lexed) (k at : ℕ) (same : at ≡ place_of l k) (f : SyntaxFault) (r : Refusal) where
-  by_reason : (why : ℕ → IdlReason) → IsOrMemory (told_by name (position_of text at) (why at)) r
-      → IsOrMemory (told_by name (position_of text (place_of l k)) (why (place_of l k))) r
-  by_reason why told = subst (λ a. IsOrMemory (told_by name (position_of text a) (why a)) r) same told
+  by_reason : (why : ℕ → IdlReason) → IsOrMemory (reported_by name (position_of text at) (why at)) r
+      → IsOrMemory (reported_by name (position_of text (place_of l k)) (why (place_of l k))) r
+  by_reason why told = subst (λ a. IsOrMemory (reported_by name (position_of text a) (why a)) r) same told
 
-  pub told_syntax : f ≡ parser.Syntax k → IsOrMemory (told_by name (position_of text at) reason.Syntax) r → IsToldUnread name text l f r
-  told_syntax is told = subst (λ x. IsToldUnread name text l x r) (sym is) (by_reason (λ a. reason.Syntax) told)
+  pub told_syntax : f ≡ parser.Syntax k → IsOrMemory (reported_by name (position_of text at) reason.Syntax) r → IsReportedUnread name text l f r
+  told_syntax is told = subst (λ x. IsReportedUnread name text l x r) (sym is) (by_reason (λ a. reason.Syntax) told)
 
-  pub told_deep : f ≡ parser.Deep k → IsOrMemory (told_by name (position_of text at) reason.Deep) r → IsToldUnread name text l f r
-  told_deep is told = subst (λ x. IsToldUnread name text l x r) (sym is) (by_reason (λ a. reason.Deep) told)
+  pub told_deep : f ≡ parser.Deep k → IsOrMemory (reported_by name (position_of text at) reason.Deep) r → IsReportedUnread name text l f r
+  told_deep is told = subst (λ x. IsReportedUnread name text l x r) (sym is) (by_reason (λ a. reason.Deep) told)
 
-  pub told_banned : f ≡ parser.Banned k → IsOrMemory (told_by name (position_of text at) (reason.Banned (word_at text at))) r → IsToldUnread name text l f r
-  told_banned is told = subst (λ x. IsToldUnread name text l x r) (sym is) (by_reason (λ a. reason.Banned (word_at text a)) told)
+  pub told_banned : f ≡ parser.Banned k → IsOrMemory (reported_by name (position_of text at) (reason.Banned (word_at text at))) r → IsReportedUnread name text l f r
+  told_banned is told = subst (λ x. IsReportedUnread name text l x r) (sym is) (by_reason (λ a. reason.Banned (word_at text a)) told)
 
 -- tokens that are no such file
 module _ (name text : List ℕ) (l : Lexed) (same : l.text ≡ text) (tokens : AreTokens text l.tokens) (r : Refusal) where
-  pub unread_told : (f : SyntaxFault) → Told (λ a. IsAnswer (lexemes l) a) (Err f) → IsToldUnread name text l f r → IsToldAcf name text r
-  unread_told parser.Memory h told = subst (IsToldAcf name text) (sym told) tt
+  pub unread_told : (f : SyntaxFault) → Told (λ a. IsAnswer (lexemes l) a) (Err f) → IsReportedUnread name text l f r → IsReportedAcf name text r
+  unread_told parser.Memory h told = subst (IsReportedAcf name text) (sym told) tt
   unread_told (parser.Syntax k) h told =
       fault_told name text (place_of l k) reason.Syntax r
       (k, record { lexed = l; told = Syntax k; token = k; is_told = (refl, refl); read = record { text_is = same; tokens = tokens; answered = h }; octet = refl }) told
@@ -76,12 +76,12 @@ module _ (name text : List ℕ) (l : Lexed) (same : l.text ≡ text) (tokens : A
 
 -- a broken rule by whether its place is one of the attribute configuration file
 abbrev told_under : List Source → AcfFile → ℕ → Place → Bool → Refusal
-told_under s x rule place b = elim b [ true ↦ told_by x.name (position_of x.text place.at) (reason.Rule rule) | false ↦ told_rule s rule place ]
+told_under s x rule place b = elim b [ true ↦ reported_by x.name (position_of x.text place.at) (reason.Rule rule) | false ↦ reported_rule s rule place ]
 
 module _ (f : FilesSeen) (idl text : List ℕ) (state : State) (resolved : AreResolved f.held idl text state) where
   -- without an attribute configuration file
   pub broken_alone : (rule : ℕ) (place : Place) → first_of_all (resolved_world state) None ≡ Some (breach rule place) → (r : Refusal)
-      → IsOrMemory (told_rule state.sources rule place) r → IsTextCause f idl text None r
+      → IsOrMemory (reported_rule state.sources rule place) r → IsTextCause f idl text None r
   broken_alone rule place first r (inl is) =
       subst (IsTextCause f idl text None) (sym is)
       (by_rules state.sources None rule place (record { state = state; resolved = resolved; sources_are = refl; read = tt; first = first }) refl)
@@ -103,7 +103,7 @@ module _ (f : FilesSeen) (idl text : List ℕ) (state : State) (resolved : AreRe
 
   module _ (name body : List ℕ) (content : IsContent f.held name body) where
     -- its text is refused
-    pub acf_refused : (r : Refusal) → IsToldAcf name body r → IsTextCause f idl text (Some name) r
+    pub acf_refused : (r : Refusal) → IsReportedAcf name body r → IsTextCause f idl text (Some name) r
     acf_refused Memory cause = tt
     acf_refused (BadIdl file line column why) (at, fault, is) =
         by_acf name body at why (record { state = state; resolved = resolved; named = refl; loaded = content; fault = fault }) is
@@ -118,7 +118,7 @@ module _ (f : FilesSeen) (idl text : List ℕ) (state : State) (resolved : AreRe
 
     -- a rule is broken
     pub broken_beside : (tree : Acf) → IsAcf body tree → (rule : ℕ) (place : Place) → first_of_all (resolved_world state) (Some tree) ≡ Some (breach rule place)
-        → (r : Refusal) → IsOrMemory (told_beside state.sources (Some (record { name = name; text = body; tree = tree })) rule place) r
+        → (r : Refusal) → IsOrMemory (reported_beside state.sources (Some (record { name = name; text = body; tree = tree })) rule place) r
         → IsTextCause f idl text (Some name) r
     broken_beside tree read rule place first r (inl is) = subst (IsTextCause f idl text (Some name)) (sym is) (by_file (eqb place.file acf_file) refl)
       where

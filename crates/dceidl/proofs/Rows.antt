@@ -9,7 +9,7 @@ use Rattle.dceidl.specs.declared.refusal.Refusal.{Refusal}
 use Rattle.dceidl.specs.declared.refusal.Refusal.TheVariants.{Memory, Absent, FileFailed, BadIdl, NoOperation, NotBuilt, ReadFault, BadOctets, BadText, BadValue}
 use Rattle.dceidl.specs.declared.outcome.Outcome.{Outcome}
 use Rattle.dceidl.specs.declared.outcome.Outcome.TheVariants.{Done, Refused, Wanting}
-use Rattle.dceidl.specs.Outside.{FilesSeen, SourceSeen, SinkSeen, HasRisen, Got, IsUntouched}
+use Rattle.nd_base.specs.Over.{FilesSeen, SourceSeen, SinkSeen, HasRisen, Got, IsUntouched}
 use Rattle.dceidl.specs.Words.{command, Work, Compile}
 use Rattle.dceidl.specs.Ready.{IsCompiled, IsReady, IsIdlCause}
 use Rattle.dceidl.specs.Lines.{status_of}

@@ -22,9 +22,9 @@ use Rattle.dceidl.specs.declared.refusal.Refusal.{Refusal}
 use Rattle.dceidl.specs.declared.refusal.Refusal.TheVariants.{Memory, Absent, FileFailed, BadIdl, NoOperation, NotBuilt, ReadFault, BadOctets, BadText, BadValue}
 use Rattle.dceidl.specs.declared.refusal.IdlReason.{IdlReason}
 use Rattle.idl_check.specs.Listing.{listing}
-use Rattle.dceidl.specs.Outside.{FilesSeen, SourceSeen, SinkSeen, HasRisen, Got}
+use Rattle.nd_base.specs.Over.{FilesSeen, SourceSeen, SinkSeen, HasRisen, Got}
 use Rattle.dceidl.specs.Words.{Command, command, Work, Compile, Help, Version}
-use Rattle.dceidl.specs.Idl.{Means, IsIdlFault, IsDueBehind, IsDueFile}
+use Rattle.dceidl.specs.Idl.{Means, IsIdlFault, IsDueAfter, IsDueFile}
 use Rattle.dceidl.specs.Ready.{IsNamed, IsCompiled, IsReady, IsFileCause, IsIdlCause}
 use Rattle.dceidl.specs.Task.{limit_of, IsRead, IsMade, IsContentCause, IsInputCause, IsCause}
 use Rattle.dceidl.specs.Lines.{status_of, line_of}
@@ -95,18 +95,18 @@ module _ (f : FilesSeen) (idl text : List ℕ) (acf : Option (List ℕ)) (held :
   absent_meaning : {B : Type 0} (file : List ℕ) (i : Interface) → IsDueFile f.held idl acf file → IsMissing f.held file → Means f.held idl text acf i → B
   absent_meaning file i (inl is) missing x = absurd (held_there f idl text held (subst (IsMissing f.held) is missing))
   absent_meaning file i (inr (other, content, due)) missing x =
-      let own : IsDueBehind f.held idl text acf file = subst (λ t. IsDueBehind f.held idl t acf file) (held_only f idl text other held content) due in
+      let own : IsDueAfter f.held idl text acf file = subst (λ t. IsDueAfter f.held idl t acf file) (held_only f idl text other held content) due in
       absent_or_means held.0 idl text acf file i
-      (subst (λ (h : Told). IsDueBehind h idl text acf file) held.1 own)
+      (subst (λ (h : Told). IsDueAfter h idl text acf file) held.1 own)
       (subst (λ (h : Told). IsMissing h file) held.1 missing)
       (subst (λ (h : Told). Means h idl text acf i) held.1 x)
 
   absent_fault : {B : Type 0} (file : List ℕ) (r : Refusal) → IsBad r → IsDueFile f.held idl acf file → IsMissing f.held file → IsIdlFault f.held idl text acf r → B
   absent_fault file r bad (inl is) missing x = absurd (held_there f idl text held (subst (IsMissing f.held) is missing))
   absent_fault file r bad (inr (other, content, due)) missing x =
-      let own : IsDueBehind f.held idl text acf file = subst (λ t. IsDueBehind f.held idl t acf file) (held_only f idl text other held content) due in
+      let own : IsDueAfter f.held idl text acf file = subst (λ t. IsDueAfter f.held idl t acf file) (held_only f idl text other held content) due in
       absent_or_bad held.0 idl text acf file r bad
-      (subst (λ (h : Told). IsDueBehind h idl text acf file) held.1 own)
+      (subst (λ (h : Told). IsDueAfter h idl text acf file) held.1 own)
       (subst (λ (h : Told). IsMissing h file) held.1 missing)
       (subst (λ (h : Told). IsIdlFault h idl text acf r) held.1 x)
 

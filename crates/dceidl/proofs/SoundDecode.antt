@@ -23,7 +23,7 @@ use Rattle.dceidl.specs.declared.task.Task.TheVariants.{Decode}
 use Rattle.dceidl.specs.declared.refusal.Refusal.{Refusal}
 use Rattle.dceidl.specs.declared.refusal.Refusal.TheVariants.{Memory, Absent, FileFailed, BadIdl, NoOperation, NotBuilt, ReadFault, BadOctets, BadText, BadValue}
 use Rattle.dceidl.specs.declared.refusal.OctetsFault.TheVariants as fault
-use Rattle.dceidl.specs.Outside.{FilesSeen, SinkSeen, Got}
+use Rattle.nd_base.specs.Over.{FilesSeen, SinkSeen, Got}
 use Rattle.dceidl.specs.Decode.{IsDecoding, IsTrailing, IsOctetsCause}
 use Rattle.dceidl.specs.Lines.{status_of, line_of}
 use Rattle.dceidl.specs.Rows.{IsAccepted, Refuses}

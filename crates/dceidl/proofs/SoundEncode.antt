@@ -20,7 +20,7 @@ use Rattle.value_text.proofs.OneFault.{one_graph, one_place, one_reason}
 use Rattle.dceidl.specs.declared.task.Task.TheVariants.{Encode}
 use Rattle.dceidl.specs.declared.refusal.Refusal.{Refusal}
 use Rattle.dceidl.specs.declared.refusal.Refusal.TheVariants.{Memory, Absent, FileFailed, BadIdl, NoOperation, NotBuilt, ReadFault, BadOctets, BadText, BadValue}
-use Rattle.dceidl.specs.Outside.{FilesSeen, SinkSeen, Got}
+use Rattle.nd_base.specs.Over.{FilesSeen, SinkSeen, Got}
 use Rattle.dceidl.specs.Encode.{IsTextCause, IsMisfitAt, home_path}
 use Rattle.dceidl.specs.Lines.{status_of, line_of}
 use Rattle.dceidl.specs.Rows.{IsAccepted, Refuses}

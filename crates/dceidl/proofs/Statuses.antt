@@ -10,7 +10,7 @@ use Rattle.dceidl.specs.declared.refusal.Refusal.{Refusal}
 use Rattle.dceidl.specs.declared.refusal.Refusal.TheVariants.{Memory, Absent, FileFailed, BadIdl, NoOperation, NotBuilt, ReadFault, BadOctets, BadText, BadValue}
 use Rattle.dceidl.specs.declared.outcome.Outcome.{Outcome}
 use Rattle.dceidl.specs.declared.outcome.Outcome.TheVariants.{Done, Refused, Wanting}
-use Rattle.dceidl.specs.Outside.{FilesSeen, SourceSeen, SinkSeen, HasRisen, Got}
+use Rattle.nd_base.specs.Over.{FilesSeen, SourceSeen, SinkSeen, HasRisen, Got}
 use Rattle.dceidl.specs.Words.{Command, command, Work, Compile, Help, Version}
 use Rattle.dceidl.specs.Ready.{IsIdlCause}
 use Rattle.dceidl.specs.Task.{IsCause, IsContentCause}

@@ -42,9 +42,9 @@ IsValueCause w g (BadValue path reason) = IsMisfitAt w g path reason
 IsValueCause w g _ = ⊥
 
 -- a misfit is told at the path of its home, unless memory was wanting
-abbrev pub IsToldAsValue : Setting → Misfit → Refusal → Type 0
-IsToldAsValue w misfit.Memory refusal = refusal ≡ Memory
-IsToldAsValue w (misfit.At h n reason) refusal = (refusal ≡ BadValue (home_path w h) reason) ⊎ (refusal ≡ Memory)
+abbrev pub IsReportedAsValue : Setting → Misfit → Refusal → Type 0
+IsReportedAsValue w misfit.Memory refusal = refusal ≡ Memory
+IsReportedAsValue w (misfit.At h n reason) refusal = (refusal ≡ BadValue (home_path w h) reason) ⊎ (refusal ≡ Memory)
 
 -- The text reads as a graph that does not conform.
 pub record IsBadValue (w : Setting) (text path : List ℕ) (reason : MisfitReason) : Type 0 where

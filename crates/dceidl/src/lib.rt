@@ -1,23 +1,20 @@
 //! The program `dceidl` as a library: what a command line asks for is done over sources, sinks and files that its caller makes.
 #![tactic(auto)]
 
-mod acf_reading;
-mod compiling;
+mod acf;
+mod compile;
 mod decode;
 mod encode;
-mod faults;
 mod input;
 mod join;
-mod judging;
 pub mod laws;
 mod lines;
-mod listed;
-mod loading;
+mod load;
 mod outcome;
-mod position;
+mod perform;
 mod ready;
 mod refusal;
-mod task;
+mod reported;
 #[cfg(test)]
 mod tests;
 mod top;
@@ -25,7 +22,6 @@ mod words;
 
 pub use outcome::Outcome;
 pub use refusal::{IdlReason, OctetsFault, Refusal};
-pub use task::Task;
 pub use top::{Status, run};
 pub use words::Words;
 

@@ -1,7 +1,7 @@
 use Rattle.std.specs.Prelude.{option_map}
 use Rattle.std.proofs.Common.{subst}
 use Rattle.std.proofs.lemmas.Result.{err_from_is_err_and, IfErr-weaker}
-use Rattle.dceidl.specs.Outside.{files_seen}
+use Rattle.nd_base.specs.Over.{files_seen}
 use Rattle.dceidl.specs.Ready.{IsTextCause}
 use Rattle.dceidl.proofs.Compiled.{after_load, main_not_loaded}
 use Rattle.dceidl.proofs.compiling.compile.Goals as goal

@@ -2,8 +2,8 @@ use Rattle.std.specs.Prelude.{option_map}
 use Rattle.std.proofs.Common.{subst, sym}
 use Rattle.std.proofs.lemmas.Result.{IfErr-weaker}
 use Rattle.idl_names.specs.Seen.{seen_scope}
-use Rattle.dceidl.specs.Outside.{files_seen}
-use Rattle.dceidl.specs.Idl.{AreResolved, told_fault}
+use Rattle.nd_base.specs.Over.{files_seen}
+use Rattle.dceidl.specs.Idl.{AreResolved, reported_fault}
 use Rattle.dceidl.specs.Ready.{IsTextCause}
 use Rattle.dceidl.proofs.Compiled.{after, text_cause}
 use Rattle.dceidl.proofs.compiling.compile_text.Goals as goal
@@ -31,4 +31,4 @@ returns-clause-err g c =
     (option_map (λ a. a.now) c.args.acf)
     c.scope_of.new.sources c.in-Err-scope_of.fault (c.in-Err-scope_of.ensures.fault c.args.idl.now c.args.text c.in-Ok.ensures)
     c.in-Err-scope_of.ensures.absent c.in-Err-scope_of.ensures.failed c.or_memory.result
-    (c.or_memory.ensures (told_fault c.scope_of.new.sources c.in-Err-scope_of.fault) c.tell_fault.ensures)
+    (c.or_memory.ensures (reported_fault c.scope_of.new.sources c.in-Err-scope_of.fault) c.report_fault.ensures)

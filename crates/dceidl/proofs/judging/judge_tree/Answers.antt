@@ -4,7 +4,7 @@ use Rattle.acf_reader.specs.Seen.{seen_acf}
 use Rattle.idl_rules.specs.Checked.{world_of}
 use Rattle.idl_check.specs.SeenAcf.{AnswersBeside}
 use Rattle.dceidl.proofs.Judged.{means_beside, broken_beside}
-use Rattle.dceidl.specs.Idl.{told_beside}
+use Rattle.dceidl.specs.Idl.{reported_beside}
 use Rattle.dceidl.proofs.judging.judge_tree.Goals as goal
 
 pub returns-in-Ok-clause-ok : goal.returns-in-Ok-clause-ok
@@ -19,6 +19,6 @@ returns-in-Err-Broken-clause-err c f idl text resolved content read =
     (subst (λ e. AnswersBeside (world_of c.args.scope.now) (Some (seen_acf c.args.tree.now)) (Err e)) c.in-Err-Broken.field-0-is c.in-Err-Broken.ensures)
     c.or_memory.result
     (c.or_memory.ensures
-    (told_beside c.args.sources.now (Some (record { name = c.args.name.now; text = c.args.body.now; tree = seen_acf c.args.tree.now }))
+    (reported_beside c.args.sources.now (Some (record { name = c.args.name.now; text = c.args.body.now; tree = seen_acf c.args.tree.now }))
     c.in-Err-Broken.rule c.in-Err-Broken.place)
-    (c.tell_beside.ensures (seen_acf c.args.tree.now)))
+    (c.report_beside.ensures (seen_acf c.args.tree.now)))

@@ -1,6 +1,6 @@
 use Rattle.std.specs.Prelude.{option_map}
 use Rattle.std.proofs.lemmas.Result.{err_from_is_err_and}
-use Rattle.dceidl.specs.Outside.{files_seen}
+use Rattle.nd_base.specs.Over.{files_seen}
 use Rattle.dceidl.proofs.Causes.{ready_is, find_refused, idl_refused}
 use Rattle.dceidl.proofs.ready.make_ready.Goals as goal
 

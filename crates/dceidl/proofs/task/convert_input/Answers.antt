@@ -1,6 +1,6 @@
 use Rattle.std.proofs.Common.{sym, subst}
 use Rattle.nd_graph.specs.Fitting.{setting_of}
-use Rattle.dceidl.specs.Outside.{source_seen}
+use Rattle.nd_base.specs.Over.{source_seen}
 use Rattle.dceidl.specs.Task.{IsRead}
 use Rattle.dceidl.proofs.Causes.{made_of_input, input_refused}
 use Rattle.dceidl.proofs.task.convert_input.Goals as goal

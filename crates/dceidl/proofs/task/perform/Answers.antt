@@ -2,7 +2,7 @@ use Rattle.std.specs.Prelude.{option_map}
 use Rattle.std.proofs.Common.{subst, IfOk, IfErr}
 use Rattle.nd_graph.specs.Fitting.{setting_of}
 use Rattle.dceidl.specs.Task.{IsMadeOfInput, IsInputCause}
-use Rattle.dceidl.specs.Outside.{files_seen, source_seen}
+use Rattle.nd_base.specs.Over.{files_seen, source_seen}
 use Rattle.dceidl.proofs.Causes.{task_done, task_refused}
 use Rattle.dceidl.proofs.task.perform.Goals as goal
 
