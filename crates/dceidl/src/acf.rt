@@ -1,5 +1,5 @@
 // The attribute configuration file that is named beside a file of IDL (C706, section 4.3).
-ghost use Rattle.std.specs.Prelude.{◌≡◌, ◌≤◌, ◌++◌, option_map, option_to_list, IfOk, IfErr};
+ghost use Rattle.std.specs.Prelude.{◌≡◌, [], ◌∷◌, ◌++◌, option_map, option_to_list, IfOk, IfErr};
 ghost use Rattle.nd_base.specs.Over.{files_seen};
 ghost use Rattle.idl_lexer.specs.Verdict.{IsFault};
 ghost use Rattle.acf_reader.specs.Seen.{seen_acf};

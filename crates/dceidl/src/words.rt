@@ -182,7 +182,7 @@ fn decode_command<'a>(
     match (side, order) {
         (Some(side), Some(order)) => Some(Command::Read {
             how: Reading::Decode,
-            of: subject(idl, acf, op, side),
+            of: subject_named(idl, acf, op, side),
             order,
         }),
         _ => None,
@@ -204,7 +204,7 @@ fn encode_command<'a>(
 {
     match (side, order, chunk) {
         (Some(side), Some(order), Some(chunk)) => Some(Command::Encode {
-            of: subject(idl, acf, op, side),
+            of: subject_named(idl, acf, op, side),
             order,
             chunk,
         }),
@@ -212,7 +212,7 @@ fn encode_command<'a>(
     }
 }
 
-fn subject<'a>(idl: &'a str, acf: &'a str, op: &'a str, side: Side) -> Subject<'a>
+fn subject_named<'a>(idl: &'a str, acf: &'a str, op: &'a str, side: Side) -> Subject<'a>
     ensures { subject_of result ≡ subject_by idl.now acf.now op.now side }
 {
     Subject {

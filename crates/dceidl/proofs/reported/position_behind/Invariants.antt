@@ -1,6 +1,6 @@
 use Rattle.std.proofs.Common.{◌≡◌, ◌≤◌, ◌+◌, drop}
 use Rattle.value_text.specs.Reads.{position}
-use Rattle.dceidl.proofs.position.position_behind.Given as goal
+use Rattle.dceidl.proofs.reported.position_behind.Given as goal
 
 -- the position behind all octets is that behind the others from here on
 abbrev pub invariant-loop-octet : goal.invariant-loop-octet
