@@ -22,45 +22,41 @@ use Rattle.idl_rules.specs.Rules.{Breach, breach}
 use Rattle.idl_rules.specs.Types.{Names}
 use Rattle.idl_rules.specs.Scene.{Scene, scoped_from, names_behind}
 use Rattle.idl_rules.specs.Numbering.{Needed, own_types}
-use Rattle.idl_rules.specs.CountRules.{operation_in, parameters_in, member_of, part_in}
+use Rattle.idl_rules.specs.CountRules.{first_past, operation_in, parameters_in, member_of, part_in}
 use Rattle.idl_rules.specs.SeenNodes.{seen_construct, seen_declared, seen_result, seen_node, seen_nodes, list_found, list_at, or_empty}
 use Rattle.idl_rules.specs.SeenTypes.{scene_seen}
 use Rattle.idl_rules.specs.SeenNumbers.{seen_own, seen_needed, AreNumbers}
-use Rattle.idl_rules.specs.SeenCounts.{one_too_many, operations_at, parameters_at, parts_at}
+use Rattle.idl_rules.specs.SeenCounts.{numbered, one_too_many, operations_at, parameters_at, parts_at}
 use Rattle.idl_rules.proofs.Noted.{noted_more}
-use Rattle.idl_rules.proofs.Passes.{drop_none}
+use Rattle.idl_rules.proofs.Passes.{drop_none, none_past, none_numbered}
 
 -- ## Parameters of one operation
 
-mapped : (ds : List declared.Declared) → map one_too_many (map (λ p. p.construct) (map seen_declared ds)) ≡ map (λ d. one_too_many (seen_construct d.construct)) ds
-mapped [] = refl
-mapped (d ∷ ds) = ap (λ l. one_too_many (seen_construct d.construct) ∷ l) (mapped ds)
-
-by_drop : (n : ℕ) (ds : List declared.Declared)
-    → map one_too_many (drop n (map (λ p. p.construct) (map seen_declared ds))) ≡ map (λ d. one_too_many (seen_construct d.construct)) (drop n ds)
-by_drop zero ds = mapped ds
-by_drop (suc n) [] = refl
-by_drop (suc n) (d ∷ ds) = by_drop n ds
+by_past : (n : ℕ) (ds : List declared.Declared)
+    → map one_too_many (first_past n (map (λ p. p.construct) (map seen_declared ds))) ≡ map (λ d. one_too_many (seen_construct d.construct)) (first_past n ds)
+by_past zero [] = refl
+by_past zero (d ∷ ds) = refl
+by_past (suc n) [] = refl
+by_past (suc n) (d ∷ ds) = by_past n ds
 
 pub parameters_are : {A : Type 0} (lists : List (Vec declared.Declared A)) (limit : ℕ) (n : program_node.Node) (it : returned.Returned) (p : ℕ) (ds : List declared.Declared)
     → n ≡ node.Operation it p → Some (map seen_declared ds) ≡ list_found lists p
-    → map (λ d. one_too_many (seen_construct d.construct)) (drop limit ds) ≡ map one_too_many (parameters_at lists limit n)
+    → map (λ d. one_too_many (seen_construct d.construct)) (first_past limit ds) ≡ map one_too_many (parameters_at lists limit n)
 parameters_are lists limit n it p ds e h =
     sym (ap (λ m. map one_too_many (parameters_at lists limit m)) e
-    ∙ ap (λ l. map one_too_many (drop limit (map (λ q. q.construct) (or_empty l)))) (sym h)
-    ∙ by_drop limit ds)
+    ∙ ap (λ l. map one_too_many (first_past limit (map (λ q. q.construct) (or_empty l)))) (sym h)
+    ∙ by_past limit ds)
 
 -- ## Types
 
 pub types_are : (ks : List Kind) (n : ℕ) (firsts : List Needed) (os : List Own) → map seen_needed firsts ≡ map (seen_own ks) os
-    → map one_too_many (drop n (map (λ m. m.construct) firsts)) ≡ map (λ o. breach 39 o.place) (drop n os)
-types_are ks n [] [] e = ap (map one_too_many) (drop_none n [] refl) ∙ sym (ap (map (λ (o : Own). breach 39 o.place)) (drop_none n [] refl))
+    → map one_too_many (first_past n (map (λ m. m.construct) firsts)) ≡ map (λ o. breach 39 o.place) (first_past n os)
+types_are ks n [] [] e = ap (map one_too_many) (none_past n [] refl) ∙ sym (ap (map (λ (o : Own). breach 39 o.place)) (none_past n [] refl))
 types_are ks n [] (o ∷ os) e = absurd (let f : [] ≡ seen_own ks o ∷ map (seen_own ks) os = e in cc)
 types_are ks n (m ∷ ms) [] e = absurd (let f : seen_needed m ∷ map seen_needed ms ≡ [] = e in cc)
 types_are ks zero (m ∷ ms) (o ∷ os) e =
     let f : seen_needed m ≡ seen_own ks o = cc in
-    let g : map seen_needed ms ≡ map (seen_own ks) os = cc in
-    ap₂ (λ p l. breach 39 p ∷ l) (ap (λ r. r.1) f) (types_are ks zero ms os g)
+    ap (λ r. breach 39 r.1 ∷ []) f
 types_are ks (suc n) (m ∷ ms) (o ∷ os) e = let g : map seen_needed ms ≡ map (seen_own ks) os = cc in types_are ks n ms os g
 
 -- ## Nodes
@@ -111,11 +107,12 @@ label_parts c body before [] = refl
 label_parts c body before (l ∷ ls) = ap (λ k. c ∷ k) (label_parts c body (before ++ l ∷ []) ls)
 
 -- a result is a member in no place but its own
-pub member_alike : (p : Position) (left : ℕ) (c d : Construct) → one_too_many c ≡ one_too_many d
-    → map one_too_many (drop left (member_of p c)) ≡ map one_too_many (drop left (member_of p d))
-member_alike InMember zero c d e = ap (λ b. b ∷ []) e
-member_alike InMember (suc left) c d e = ap (map one_too_many) (drop_none left [] refl) ∙ sym (ap (map one_too_many) (drop_none left [] refl))
-member_alike _ left c d e = refl
+pub member_alike : (p : Position) (due : ℕ) (c d : Construct) → one_too_many c ≡ one_too_many d
+    → map one_too_many (numbered due (member_of p c)) ≡ map one_too_many (numbered due (member_of p d))
+member_alike InMember zero c d e = refl
+member_alike InMember (suc zero) c d e = ap (λ b. b ∷ []) e
+member_alike InMember (suc (suc due)) c d e = ap (map one_too_many) (none_past due [] refl) ∙ sym (ap (map one_too_many) (none_past due [] refl))
+member_alike _ due c d e = refl
 
 pub parts_of : {A : Type 0} (lists : List (Vec declared.Declared A)) (n : program_node.Node) → flat_map part_in (seen_node lists n) ≡ parts_at n
 parts_of lists (node.Attributes c) = attributes_no_part (seen_construct c) [] (seen_construct c).attributes
@@ -125,41 +122,41 @@ parts_of lists (node.Declarator list index it) = append-nil (member_of (seen_con
 parts_of lists (node.Result it) = append-nil (member_of (seen_result it).construct.position (seen_result it).construct)
 parts_of lists _ = refl
 
--- the parameters of a node from a number on
-abbrev pub parameters_from : ℕ → Node → List Construct
-parameters_from limit n = drop limit (parameters_in n)
+-- the first parameter of a node past a limit
+abbrev pub parameter_past : ℕ → Node → List Construct
+parameter_past limit n = first_past limit (parameters_in n)
 
-no_parameters : (limit : ℕ) (n : Node) (more : List Node) → parameters_in n ≡ [] → flat_map (parameters_from limit) more ≡ [] → flat_map (parameters_from limit) (n ∷ more) ≡ []
-no_parameters limit n more e h = flat_map-cons (parameters_from limit) n more ∙ ap₂ (λ l k. l ++ k) (drop_none limit (parameters_in n) e) h
+no_parameters : (limit : ℕ) (n : Node) (more : List Node) → parameters_in n ≡ [] → flat_map (parameter_past limit) more ≡ [] → flat_map (parameter_past limit) (n ∷ more) ≡ []
+no_parameters limit n more e h = flat_map-cons (parameter_past limit) n more ∙ ap₂ (λ l k. l ++ k) (none_past limit (parameters_in n) e) h
 
-attributes_no_parameter : (limit : ℕ) (c : Construct) (before more : List Attribute) → flat_map (parameters_from limit) (attribute_nodes_from c before more) ≡ []
+attributes_no_parameter : (limit : ℕ) (c : Construct) (before more : List Attribute) → flat_map (parameter_past limit) (attribute_nodes_from c before more) ≡ []
 attributes_no_parameter limit c before [] = refl
 attributes_no_parameter limit c before (a ∷ more) =
     no_parameters limit (AttributeNode c before a) (attribute_nodes_from c (before ++ a ∷ []) more) refl (attributes_no_parameter limit c (before ++ a ∷ []) more)
 
-enumerators_no_parameter : (limit : ℕ) (c : Construct) (es : List Enumerator) → flat_map (parameters_from limit) (map (λ e. EnumeratorNode c e.name) es) ≡ []
+enumerators_no_parameter : (limit : ℕ) (c : Construct) (es : List Enumerator) → flat_map (parameter_past limit) (map (λ e. EnumeratorNode c e.name) es) ≡ []
 enumerators_no_parameter limit c [] = refl
 enumerators_no_parameter limit c (e ∷ es) = no_parameters limit (EnumeratorNode c e.name) (map (λ f. EnumeratorNode c f.name) es) refl (enumerators_no_parameter limit c es)
 
-labels_no_parameter : (limit : ℕ) (c : Construct) (body : TypeSpec) (before ls : List ArmLabel) → flat_map (parameters_from limit) (label_nodes c body before ls) ≡ []
+labels_no_parameter : (limit : ℕ) (c : Construct) (body : TypeSpec) (before ls : List ArmLabel) → flat_map (parameter_past limit) (label_nodes c body before ls) ≡ []
 labels_no_parameter limit c body before [] = refl
 labels_no_parameter limit c body before (l ∷ ls) =
     no_parameters limit (LabelNode c body before l) (label_nodes c body (before ++ l ∷ []) ls) refl (labels_no_parameter limit c body (before ++ l ∷ []) ls)
 
-pub parameters_of : {A : Type 0} (lists : List (Vec declared.Declared A)) (limit : ℕ) (n : program_node.Node) → flat_map (parameters_from limit) (seen_node lists n) ≡ parameters_at lists limit n
+pub parameters_of : {A : Type 0} (lists : List (Vec declared.Declared A)) (limit : ℕ) (n : program_node.Node) → flat_map (parameter_past limit) (seen_node lists n) ≡ parameters_at lists limit n
 parameters_of lists limit (node.Attributes c) = attributes_no_parameter limit (seen_construct c) [] (seen_construct c).attributes
 parameters_of lists limit (node.Enumerators c list) = enumerators_no_parameter limit (seen_construct c) (map seen_enumerator list.now)
 parameters_of lists limit (node.Labels c body) = labels_no_parameter limit (seen_construct c) (seen_type body.now) [] (labels_of (seen_type body.now))
-parameters_of lists limit (node.Operation it p) = append-nil (drop limit (map (λ q. q.construct) (list_at lists p)))
-parameters_of lists limit _ = ap (λ (l : List Construct). l ++ []) (drop_none limit [] refl)
+parameters_of lists limit (node.Operation it p) = append-nil (first_past limit (map (λ q. q.construct) (list_at lists p)))
+parameters_of lists limit _ = ap (λ (l : List Construct). l ++ []) (none_past limit [] refl)
 
 -- ## All
 
 -- what is too many, with other limits
 abbrev pub too_many_past : ℕ → ℕ → ℕ → ℕ → Scene → List Construct
 too_many_past types operations parameters parts s =
-    drop types (map (λ n. n.construct) (own_types s)) ++ drop operations (flat_map (λ n. operation_in n.node) s.nodes)
-    ++ flat_map (λ n. drop parameters (parameters_in n.node)) s.nodes ++ drop parts (flat_map (λ n. part_in n.node) s.nodes)
+    first_past types (map (λ n. n.construct) (own_types s)) ++ first_past operations (flat_map (λ n. operation_in n.node) s.nodes)
+    ++ flat_map (λ n. first_past parameters (parameters_in n.node)) s.nodes ++ first_past parts (flat_map (λ n. part_in n.node) s.nodes)
 
 four : (w : World) (a b c d : List Construct) (zeroth first second third fourth : Option Breach)
     → first ≡ noted w zeroth (map one_too_many a) → second ≡ noted w first (map one_too_many b) → third ≡ noted w second (map one_too_many c) → fourth ≡ noted w third (map one_too_many d)
@@ -171,20 +168,20 @@ four w a b c d zeroth first second third fourth e f g h =
 
 pub all_too_many : (w : World) (known : Known) (ks : List Kind) (n : program_nodes.Nodes) (t : Numbers) (types operations parameters parts : ℕ) (zeroth first second third fourth : Option Breach)
     → AreNumbers (scene_seen known n) ks t
-    → first ≡ noted w zeroth (map (λ o. breach 39 o.place) (drop types t.own.items))
-    → second ≡ noted w first (map one_too_many (drop operations (flat_map operations_at n.items.items)))
+    → first ≡ noted w zeroth (map (λ o. breach 39 o.place) (first_past types t.own.items))
+    → second ≡ noted w first (map one_too_many (numbered (suc operations) (flat_map operations_at n.items.items)))
     → third ≡ noted w second (map one_too_many (flat_map (parameters_at n.lists.items parameters) n.items.items))
-    → fourth ≡ noted w third (map one_too_many (drop parts (flat_map parts_at n.items.items)))
+    → fourth ≡ noted w third (map one_too_many (numbered (suc parts) (flat_map parts_at n.items.items)))
     → fourth ≡ noted w zeroth (map one_too_many (too_many_past types operations parameters parts (scene_seen known n)))
 all_too_many w known ks n t types operations parameters parts zeroth first second third fourth are e f g h =
     let s = scene_seen known n in
     let lists = n.lists.items in
-    four w (drop types (map (λ m. m.construct) (own_types s))) (drop operations (flat_map (λ m. operation_in m.node) s.nodes)) (flat_map (λ m. drop parameters (parameters_in m.node)) s.nodes)
-    (drop parts (flat_map (λ m. part_in m.node) s.nodes)) zeroth first second third fourth
+    four w (first_past types (map (λ m. m.construct) (own_types s))) (first_past operations (flat_map (λ m. operation_in m.node) s.nodes)) (flat_map (λ m. first_past parameters (parameters_in m.node)) s.nodes)
+    (first_past parts (flat_map (λ m. part_in m.node) s.nodes)) zeroth first second third fourth
     (e ∙ ap (noted w zeroth) (sym (types_are ks types (own_types s) t.own.items are.own)))
-    (f ∙ ap (λ l. noted w first (map one_too_many (drop operations l)))
+    (f ∙ ap (λ l. noted w first (map one_too_many (first_past operations l)))
     (sym (scoped_is operation_in known [] (seen_nodes n) ∙ seen_is lists operation_in operations_at (operations_of lists) n.items.items)))
     (g ∙ ap (λ l. noted w second (map one_too_many l))
-    (sym (scoped_is (parameters_from parameters) known [] (seen_nodes n) ∙ seen_is lists (parameters_from parameters) (parameters_at lists parameters) (parameters_of lists parameters) n.items.items)))
-    (h ∙ ap (λ l. noted w third (map one_too_many (drop parts l)))
+    (sym (scoped_is (parameter_past parameters) known [] (seen_nodes n) ∙ seen_is lists (parameter_past parameters) (parameters_at lists parameters) (parameters_of lists parameters) n.items.items)))
+    (h ∙ ap (λ l. noted w third (map one_too_many (first_past parts l)))
     (sym (scoped_is part_in known [] (seen_nodes n) ∙ seen_is lists part_in parts_at (parts_of lists) n.items.items)))

@@ -1,6 +1,6 @@
 -- Where no rule is broken, there are not too many types and operations.
 use Rattle.std.proofs.Common.{◌≡◌, ℕ, ◌+◌, ◌-◌, ◌≤◌, List, [], ◌∷◌, ◌++◌, map, length, refl, sym, ap, arith, ◌∙◌}
-use Rattle.std.specs.Prelude.{drop}
+use Rattle.std.specs.Prelude.{take, drop}
 use Rattle.std.specs.List.{flat_map}
 use Rattle.std.proofs.lemmas.List.{length-drop}
 use Rattle.nd_types.specs.declared.TheConstants.{TYPE_LIMIT}
@@ -8,7 +8,7 @@ use Rattle.nd_types.specs.Kinds.{basic_types}
 use Rattle.idl_rules.specs.Nodes.{place_in}
 use Rattle.idl_rules.specs.Scene.{Scene}
 use Rattle.idl_rules.specs.Rules.{breach, breaches_at, breaches_in}
-use Rattle.idl_rules.specs.CountRules.{too_many, types_too_many, operations_too_many, parameters_too_many, parts_too_many}
+use Rattle.idl_rules.specs.CountRules.{first_past, too_many, types_too_many, operations_too_many, parameters_too_many, parts_too_many}
 use Rattle.idl_rules.specs.Numbering.{own_types}
 use Rattle.idl_rules.specs.Meaning.{definition, types_of}
 use Rattle.idl_rules.proofs.Kept.{neither}
@@ -17,8 +17,12 @@ none_mapped : {X Y : Type 0} (f : X → Y) (xs : List X) → map f xs ≡ [] →
 none_mapped f [] h = refl
 none_mapped f (x ∷ xs) h = absurd (let e : f x ∷ map f xs ≡ [] = h in cc)
 
-pub few : {X : Type 0} (n : ℕ) (xs : List X) → drop n xs ≡ [] → length xs ≤ n
-few n xs h = let e : length xs - n ≡ 0 = sym (length-drop n xs) ∙ ap length h in omega (arith, e)
+none_taken : {X : Type 0} (xs : List X) → take 1 xs ≡ [] → xs ≡ []
+none_taken [] h = refl
+none_taken (x ∷ xs) h = absurd (let e : x ∷ [] ≡ [] = h in cc)
+
+pub few : {X : Type 0} (n : ℕ) (xs : List X) → first_past n xs ≡ [] → length xs ≤ n
+few n xs h = let e : length xs - n ≡ 0 = sym (length-drop n xs) ∙ ap length (none_taken (drop n xs) h) in omega (arith, e)
 
 pub none_too_many : (s : Scene) → breaches_in s ≡ [] → too_many s ≡ []
 none_too_many s h =

@@ -1,5 +1,5 @@
 // Rule 39: there are not too many types, operations, parameters, members and arms.
-ghost use Rattle.std.specs.Prelude.{◌≡◌, ◌-◌, List, [], ◌∷◌, map, drop, length, replicate, option_map};
+ghost use Rattle.std.specs.Prelude.{◌≡◌, ◌-◌, ◌&&◌, List, [], ◌∷◌, map, ltb, nat_le, length, replicate, option_map};
 ghost use Rattle.std.specs.List.{flat_map};
 ghost use Rattle.idl_names.specs.Known.{Known};
 ghost use Rattle.idl_names.specs.Seen.{seen_files};
@@ -7,13 +7,14 @@ ghost use Rattle.idl_rules.specs.declared.kinds.Kind.{Kind as program_kind};
 ghost use Rattle.idl_rules.specs.World.{World};
 ghost use Rattle.idl_rules.specs.Rules.{breach};
 ghost use Rattle.idl_rules.specs.CountRules as rules;
+ghost use Rattle.idl_rules.specs.CountRules.{first_past};
 ghost use Rattle.idl_rules.specs.Noted.{noted};
 ghost use Rattle.idl_rules.specs.Found.{seen_breach};
 ghost use Rattle.idl_rules.specs.SeenNodes.{seen_construct};
 ghost use Rattle.idl_rules.specs.SeenTypes.{scene_seen};
 ghost use Rattle.idl_rules.specs.SeenNumbers.{AreNumbers};
 ghost use Rattle.idl_rules.specs.SeenCounts as seen;
-ghost use Rattle.idl_rules.specs.SeenCounts.{one_too_many, operations_at, parts_at};
+ghost use Rattle.idl_rules.specs.SeenCounts.{numbered, one_too_many, operations_at, parts_at};
 ghost use Rattle.idl_rules.specs.Nodes as of_rules;
 ghost use Rattle.idl_grammar.specs.Reading.{cases_of, arms_of};
 ghost use Rattle.idl_grammar.specs.Seen.{seen_attribute, seen_kind, seen_arm, seen_case, seen_type};
@@ -25,52 +26,60 @@ use crate::numbering::{Numbers, Own};
 use idl_grammar::{Arm, Attribute, AttributeKind, Case, TypeSpec};
 use nd_types::{MEMBER_LIMIT, OPERATION_LIMIT, PARAM_LIMIT, TYPE_LIMIT};
 
-/// Notes the types from a number of their list on.
+/// Notes the first of the types past a limit, if there is one.
 fn types(finder: &mut Finder<'_>, own: &[Own], limit: usize)
     ensures files { finder.new.files.now ≡ finder.old.files.now }
     ensures first { (w : World) → w.files ≡ seen_files finder.old.files.now
-        → option_map seen_breach finder.new.first ≡ noted w (option_map seen_breach finder.old.first) (map (λ o. breach 39 o.place) (drop limit own.now)) }
+        → option_map seen_breach finder.new.first ≡ noted w (option_map seen_breach finder.old.first) (map (λ o. breach 39 o.place) (first_past limit own.now)) }
 {
-    for at in limit..own.len() {
-        finder.note(39, own[at].place, true);
+    if let Some(first) = own.get(limit) {
+        finder.note(39, first.place, true);
     }
 }
 
-/// Notes a construct if it has more things than may come, and gives how many may come behind it.
-fn pass(finder: &mut Finder<'_>, construct: &Construct<'_>, count: usize, left: usize) -> usize
-    ensures left { result ≡ left - count }
+/// Whether the thing with this number, counted from 1, is among so many.
+fn is_among(number: usize, count: usize) -> bool
+    ensures { result ≡ (ltb 0 number && nat_le number count) }
+{
+    0 < number && number <= count
+}
+
+/// Notes a construct if the thing that is due is among those it has, and gives the number of the one that is due after them. Numbers
+/// count from 1, and 0 stands for none.
+fn pass(finder: &mut Finder<'_>, construct: &Construct<'_>, count: usize, due: usize) -> usize
+    ensures due { result ≡ due - count }
     ensures files { finder.new.files.now ≡ finder.old.files.now }
     ensures first { (w : World) → w.files ≡ seen_files finder.old.files.now
         → option_map seen_breach finder.new.first
-        ≡ noted w (option_map seen_breach finder.old.first) (map one_too_many (drop left (replicate count (seen_construct construct.now)))) }
+        ≡ noted w (option_map seen_breach finder.old.first) (map one_too_many (numbered due (replicate count (seen_construct construct.now)))) }
 {
-    finder.note(39, construct.place(construct.at), count > left);
-    left.saturating_sub(count)
+    finder.note(39, construct.place(construct.at), is_among(due, count));
+    due.saturating_sub(count)
 }
 
-/// Notes an operation if none may come, and gives how many may come behind it.
-fn operation(finder: &mut Finder<'_>, node: &Node<'_>, left: usize) -> usize
-    ensures left { result ≡ left - length (operations_at node.now) }
+/// Notes an operation if it is the one that is due, and gives the number of the one that is due after it.
+fn operation(finder: &mut Finder<'_>, node: &Node<'_>, due: usize) -> usize
+    ensures due { result ≡ due - length (operations_at node.now) }
     ensures files { finder.new.files.now ≡ finder.old.files.now }
     ensures first { (w : World) → w.files ≡ seen_files finder.old.files.now
-        → option_map seen_breach finder.new.first ≡ noted w (option_map seen_breach finder.old.first) (map one_too_many (drop left (operations_at node.now))) }
+        → option_map seen_breach finder.new.first ≡ noted w (option_map seen_breach finder.old.first) (map one_too_many (numbered due (operations_at node.now))) }
 {
     match node {
-        Node::Operation { it, .. } => pass(finder, &it.construct, 1, left),
-        _ => left,
+        Node::Operation { it, .. } => pass(finder, &it.construct, 1, due),
+        _ => due,
     }
 }
 
-/// Notes the operations from a number on.
-fn operations(finder: &mut Finder<'_>, nodes: &[Node<'_>], limit: usize)
+/// Notes the operation with this number, counted from 1.
+fn operations(finder: &mut Finder<'_>, nodes: &[Node<'_>], number: usize)
     ensures files { finder.new.files.now ≡ finder.old.files.now }
     ensures first { (w : World) → w.files ≡ seen_files finder.old.files.now
         → option_map seen_breach finder.new.first
-        ≡ noted w (option_map seen_breach finder.old.first) (map one_too_many (drop limit (flat_map operations_at nodes.now))) }
+        ≡ noted w (option_map seen_breach finder.old.first) (map one_too_many (numbered number (flat_map operations_at nodes.now))) }
 {
-    let mut left = limit;
+    let mut due = number;
     for node in nodes {
-        left = operation(finder, node, left);
+        due = operation(finder, node, due);
     }
 }
 
@@ -83,19 +92,19 @@ fn note_one(finder: &mut Finder<'_>, construct: &Construct<'_>)
     finder.note(39, construct.place(construct.at), true);
 }
 
-/// Notes the parameters of a list from a number on.
+/// Notes the first parameter of a list past a limit, if there is one.
 fn parameters_of(finder: &mut Finder<'_>, list: &[Declared<'_>], limit: usize)
     ensures files { finder.new.files.now ≡ finder.old.files.now }
     ensures first { (w : World) → w.files ≡ seen_files finder.old.files.now
         → option_map seen_breach finder.new.first
-        ≡ noted w (option_map seen_breach finder.old.first) (map (λ p. one_too_many (seen_construct p.construct)) (drop limit list.now)) }
+        ≡ noted w (option_map seen_breach finder.old.first) (map (λ p. one_too_many (seen_construct p.construct)) (first_past limit list.now)) }
 {
-    for at in limit..list.len() {
-        note_one(finder, &list[at].construct);
+    if let Some(first) = list.get(limit) {
+        note_one(finder, &first.construct);
     }
 }
 
-/// Notes the parameters of a node from a number on.
+/// Notes the first parameter of a node past a limit, if there is one.
 fn parameters_at(finder: &mut Finder<'_>, nodes: &Nodes<'_>, node: &Node<'_>, limit: usize)
     ensures files { finder.new.files.now ≡ finder.old.files.now }
     ensures first { (w : World) → w.files ≡ seen_files finder.old.files.now
@@ -110,7 +119,7 @@ fn parameters_at(finder: &mut Finder<'_>, nodes: &Nodes<'_>, node: &Node<'_>, li
     }
 }
 
-/// Notes the parameters of each operation from a number on.
+/// Notes the first parameter of each operation past a limit, if there is one.
 fn parameters(finder: &mut Finder<'_>, nodes: &Nodes<'_>, limit: usize)
     ensures files { finder.new.files.now ≡ finder.old.files.now }
     ensures first { (w : World) → w.files ≡ seen_files finder.old.files.now
@@ -133,44 +142,44 @@ fn labels_said(attribute: &Attribute) -> usize
     }
 }
 
-/// Notes a construct if attributes give more labels than may come, and gives how many may come behind them.
+/// Notes a construct if the label that is due is among those that attributes give, and gives the number of the one that is due after them.
 fn labels_in(
     finder: &mut Finder<'_>,
     construct: &Construct<'_>,
     attributes: &[Attribute],
-    limit: usize,
+    number: usize,
 ) -> usize
-    ensures left { result ≡ limit - length (of_rules.labels_in (map seen_attribute attributes.now)) }
+    ensures due { result ≡ number - length (of_rules.labels_in (map seen_attribute attributes.now)) }
     ensures files { finder.new.files.now ≡ finder.old.files.now }
     ensures first { (w : World) → w.files ≡ seen_files finder.old.files.now
         → option_map seen_breach finder.new.first
-        ≡ noted w (option_map seen_breach finder.old.first) (map one_too_many (drop limit (replicate (length (of_rules.labels_in (map seen_attribute attributes.now))) (seen_construct construct.now)))) }
+        ≡ noted w (option_map seen_breach finder.old.first) (map one_too_many (numbered number (replicate (length (of_rules.labels_in (map seen_attribute attributes.now))) (seen_construct construct.now)))) }
 {
-    let mut left = limit;
+    let mut due = number;
     for attribute in attributes {
-        left = pass(finder, construct, labels_said(attribute), left);
+        due = pass(finder, construct, labels_said(attribute), due);
     }
-    left
+    due
 }
 
-/// Notes a construct if arms have more labels than may come, and gives how many may come behind them.
+/// Notes a construct if the label that is due is among those of arms, and gives the number of the one that is due after them.
 fn labels_of_arms(
     finder: &mut Finder<'_>,
     construct: &Construct<'_>,
     arms: &Vec<Arm>,
-    limit: usize,
+    number: usize,
 ) -> usize
-    ensures left { result ≡ limit - length (flat_map (λ a. a.labels) (of_rules.arms_of_arms (arms_of (map seen_arm arms.now.items)))) }
+    ensures due { result ≡ number - length (flat_map (λ a. a.labels) (of_rules.arms_of_arms (arms_of (map seen_arm arms.now.items)))) }
     ensures files { finder.new.files.now ≡ finder.old.files.now }
     ensures first { (w : World) → w.files ≡ seen_files finder.old.files.now
         → option_map seen_breach finder.new.first
-        ≡ noted w (option_map seen_breach finder.old.first) (map one_too_many (drop limit (replicate (length (flat_map (λ a. a.labels) (of_rules.arms_of_arms (arms_of (map seen_arm arms.now.items))))) (seen_construct construct.now)))) }
+        ≡ noted w (option_map seen_breach finder.old.first) (map one_too_many (numbered number (replicate (length (flat_map (λ a. a.labels) (of_rules.arms_of_arms (arms_of (map seen_arm arms.now.items))))) (seen_construct construct.now)))) }
 {
-    let mut left = limit;
+    let mut due = number;
     for arm in arms {
-        left = labels_in(finder, construct, arm_attributes(arm), left);
+        due = labels_in(finder, construct, arm_attributes(arm), due);
     }
-    left
+    due
 }
 
 /// How many labels a case has.
@@ -180,88 +189,88 @@ fn labels_of_case(case: &Case) -> usize
     case.labels.len()
 }
 
-/// Notes a construct if cases have more labels than may come, and gives how many may come behind them.
+/// Notes a construct if the label that is due is among those of cases, and gives the number of the one that is due after them.
 fn labels_of_cases(
     finder: &mut Finder<'_>,
     construct: &Construct<'_>,
     cases: &Vec<Case>,
-    limit: usize,
+    number: usize,
 ) -> usize
-    ensures left { result ≡ limit - length (flat_map (λ a. a.labels) (of_rules.arms_of_cases (cases_of (map seen_case cases.now.items)))) }
+    ensures due { result ≡ number - length (flat_map (λ a. a.labels) (of_rules.arms_of_cases (cases_of (map seen_case cases.now.items)))) }
     ensures files { finder.new.files.now ≡ finder.old.files.now }
     ensures first { (w : World) → w.files ≡ seen_files finder.old.files.now
         → option_map seen_breach finder.new.first
-        ≡ noted w (option_map seen_breach finder.old.first) (map one_too_many (drop limit (replicate (length (flat_map (λ a. a.labels) (of_rules.arms_of_cases (cases_of (map seen_case cases.now.items))))) (seen_construct construct.now)))) }
+        ≡ noted w (option_map seen_breach finder.old.first) (map one_too_many (numbered number (replicate (length (flat_map (λ a. a.labels) (of_rules.arms_of_cases (cases_of (map seen_case cases.now.items))))) (seen_construct construct.now)))) }
 {
-    let mut left = limit;
+    let mut due = number;
     for case in cases {
-        left = pass(finder, construct, labels_of_case(case), left);
+        due = pass(finder, construct, labels_of_case(case), due);
     }
-    left
+    due
 }
 
-/// Notes a construct if a union has more labels than may come, and gives how many may come behind them.
-fn labels(finder: &mut Finder<'_>, construct: &Construct<'_>, body: &TypeSpec, left: usize) -> usize
-    ensures left { result ≡ left - length (of_rules.labels_of (seen_type body.now)) }
+/// Notes a construct if the label that is due is among those of a union, and gives the number of the one that is due after them.
+fn labels(finder: &mut Finder<'_>, construct: &Construct<'_>, body: &TypeSpec, due: usize) -> usize
+    ensures due { result ≡ due - length (of_rules.labels_of (seen_type body.now)) }
     ensures files { finder.new.files.now ≡ finder.old.files.now }
     ensures first { (w : World) → w.files ≡ seen_files finder.old.files.now
         → option_map seen_breach finder.new.first
-        ≡ noted w (option_map seen_breach finder.old.first) (map one_too_many (drop left (replicate (length (of_rules.labels_of (seen_type body.now))) (seen_construct construct.now)))) }
+        ≡ noted w (option_map seen_breach finder.old.first) (map one_too_many (numbered due (replicate (length (of_rules.labels_of (seen_type body.now))) (seen_construct construct.now)))) }
 {
     match body {
         TypeSpec::EncapsulatedUnion { cases, .. } => labels_of_cases(
-            finder, construct, cases, left,
+            finder, construct, cases, due,
         ),
         TypeSpec::NonEncapsulatedUnion { arms, .. } => labels_of_arms(
-            finder, construct, arms, left,
+            finder, construct, arms, due,
         ),
-        _ => left,
+        _ => due,
     }
 }
 
-/// Notes a member if none may come, and gives how many may come behind it.
-fn member(finder: &mut Finder<'_>, construct: &Construct<'_>, left: usize) -> usize
-    ensures left { result ≡ left - length (rules.member_of (seen_construct construct.now).position (seen_construct construct.now)) }
+/// Notes a member if it is the one that is due, and gives the number of the one that is due after it.
+fn member(finder: &mut Finder<'_>, construct: &Construct<'_>, due: usize) -> usize
+    ensures due { result ≡ due - length (rules.member_of (seen_construct construct.now).position (seen_construct construct.now)) }
     ensures files { finder.new.files.now ≡ finder.old.files.now }
     ensures first { (w : World) → w.files ≡ seen_files finder.old.files.now
         → option_map seen_breach finder.new.first
-        ≡ noted w (option_map seen_breach finder.old.first) (map one_too_many (drop left (rules.member_of (seen_construct construct.now).position (seen_construct construct.now)))) }
+        ≡ noted w (option_map seen_breach finder.old.first) (map one_too_many (numbered due (rules.member_of (seen_construct construct.now).position (seen_construct construct.now)))) }
 {
     match construct.position {
-        Position::Member => pass(finder, construct, 1, left),
-        _ => left,
+        Position::Member => pass(finder, construct, 1, due),
+        _ => due,
     }
 }
 
-/// Notes the members and labels that a node stands for, if there are more than may come, and gives how many may come behind them.
-fn part(finder: &mut Finder<'_>, node: &Node<'_>, left: usize) -> usize
-    ensures left { result ≡ left - length (parts_at node.now) }
+/// Notes a node if the member or label that is due is among those it stands for, and gives the number of the one that is due after them.
+fn part(finder: &mut Finder<'_>, node: &Node<'_>, due: usize) -> usize
+    ensures due { result ≡ due - length (parts_at node.now) }
     ensures files { finder.new.files.now ≡ finder.old.files.now }
     ensures first { (w : World) → w.files ≡ seen_files finder.old.files.now
-        → option_map seen_breach finder.new.first ≡ noted w (option_map seen_breach finder.old.first) (map one_too_many (drop left (parts_at node.now))) }
+        → option_map seen_breach finder.new.first ≡ noted w (option_map seen_breach finder.old.first) (map one_too_many (numbered due (parts_at node.now))) }
 {
     match node {
-        Node::Declarator { it, .. } => member(finder, &it.construct, left),
-        Node::Result { it } => member(finder, &it.construct, left),
-        Node::Labels { construct, body } => labels(finder, construct, body, left),
-        _ => left,
+        Node::Declarator { it, .. } => member(finder, &it.construct, due),
+        Node::Result { it } => member(finder, &it.construct, due),
+        Node::Labels { construct, body } => labels(finder, construct, body, due),
+        _ => due,
     }
 }
 
-/// Notes the members of structs and arms of unions from a number on.
-fn parts(finder: &mut Finder<'_>, nodes: &[Node<'_>], limit: usize)
+/// Notes the member or label with this number, counted from 1.
+fn parts(finder: &mut Finder<'_>, nodes: &[Node<'_>], number: usize)
     ensures files { finder.new.files.now ≡ finder.old.files.now }
     ensures first { (w : World) → w.files ≡ seen_files finder.old.files.now
         → option_map seen_breach finder.new.first
-        ≡ noted w (option_map seen_breach finder.old.first) (map one_too_many (drop limit (flat_map parts_at nodes.now))) }
+        ≡ noted w (option_map seen_breach finder.old.first) (map one_too_many (numbered number (flat_map parts_at nodes.now))) }
 {
-    let mut left = limit;
+    let mut due = number;
     for node in nodes {
-        left = part(finder, node, left);
+        due = part(finder, node, due);
     }
 }
 
-/// Notes what is one too many, and all behind it.
+/// Notes the first type, the first operation, the first parameter of each operation, and the first member or label that are one too many.
 pub(crate) fn too_many(finder: &mut Finder<'_>, nodes: &Nodes<'_>, numbers: &Numbers)
     ensures files { finder.new.files.now ≡ finder.old.files.now }
     ensures first { (w : World) (known : Known) (ks : List program_kind) → w.files ≡ seen_files finder.old.files.now → AreNumbers (scene_seen known nodes.now) ks numbers.now
@@ -269,7 +278,7 @@ pub(crate) fn too_many(finder: &mut Finder<'_>, nodes: &Nodes<'_>, numbers: &Num
         ≡ noted w (option_map seen_breach finder.old.first) (map one_too_many (rules.too_many (scene_seen known nodes.now))) }
 {
     types(finder, numbers.own.as_slice(), TYPE_LIMIT as usize - 12);
-    operations(finder, nodes.items.as_slice(), OPERATION_LIMIT as usize);
+    operations(finder, nodes.items.as_slice(), OPERATION_LIMIT as usize + 1);
     parameters(finder, nodes, PARAM_LIMIT as usize);
-    parts(finder, nodes.items.as_slice(), MEMBER_LIMIT as usize);
+    parts(finder, nodes.items.as_slice(), MEMBER_LIMIT as usize + 1);
 }

@@ -1,6 +1,6 @@
 -- Where no rule is broken, there are not too many operations, parameters, members and arms.
 use Rattle.std.proofs.Common.{◌≡◌, ℕ, ◌+◌, ◌≤◌, Bool, true, false, not, ◌||◌, ◌&&◌, List, [], ◌∷◌, ◌++◌, map, length, Option, Some, None, ℤ, refl, sym, ap, arith, ◌∙◌, subst}
-use Rattle.std.specs.Prelude.{drop, nat_le, sum_by, eqb}
+use Rattle.std.specs.Prelude.{nat_le, sum_by, eqb}
 use Rattle.std.specs.List.{list_all, list_any, flat_map}
 use Rattle.std.proofs.lemmas.List.{length-map}
 use Rattle.std.proofs.lemmas.List.Sums.{sum_by-cons}
@@ -27,7 +27,7 @@ use Rattle.idl_rules.specs.Types.{IdlType, Void, Handle, ContextHandle, Basic, S
 use Rattle.idl_rules.specs.Scene.{Scoped, Scene, scoped_from, scene_of, names_behind, Body, body_by, body_among, bodies, body_of, place_of, same_place, type_of_body}
 use Rattle.idl_rules.specs.Rules.{breaches_in}
 use Rattle.idl_rules.specs.ValueRules.{label_value}
-use Rattle.idl_rules.specs.CountRules.{operation_in, parameters_in, part_in, types_too_many, operations_too_many, parameters_too_many, parts_too_many}
+use Rattle.idl_rules.specs.CountRules.{first_past, operation_in, parameters_in, part_in, types_too_many, operations_too_many, parameters_too_many, parts_too_many}
 use Rattle.idl_rules.specs.Numbering.{Needed, needed_types, own_types, first_needed, has_own_number, same_type}
 use Rattle.idl_rules.specs.Meaning.{parameter, definition, types_of, operations_of, struct_of, defined_by, defined_at, body_if, is_struct, is_union, is_enum}
 use Rattle.idl_rules.specs.Meaning as meaning
@@ -84,7 +84,7 @@ few_operations s h =
 nat_le_from : (m n : ℕ) → m ≤ n → nat_le m n ≡ true
 nat_le_from m n h = grind (arith, nat_tests, h)
 
-operation_params : (s : Scene) (limit : ℕ) (names : Names) (n : Node) → drop limit (parameters_in n) ≡ [] → list_all (λ o. nat_le (length o.params) limit) (meaning.operation_in s names n) ≡ true
+operation_params : (s : Scene) (limit : ℕ) (names : Names) (n : Node) → first_past limit (parameters_in n) ≡ [] → list_all (λ o. nat_le (length o.params) limit) (meaning.operation_in s names n) ≡ true
 operation_params s limit names (OperationNode c name ps result) h =
     let a = few limit (map (λ p. p.construct) ps) h in
     let b = length-map ps (λ p. p.construct) in
@@ -102,11 +102,11 @@ operation_params s limit names (DeclaratorNode list index d) h = refl
 operation_params s limit names (ConstantNode c t star value) h = refl
 operation_params s limit names (TypeNode c t) h = refl
 
-all_params : (s : Scene) (limit : ℕ) (ns : List Scoped) → flat_map (λ n. drop limit (parameters_in n.node)) ns ≡ []
+all_params : (s : Scene) (limit : ℕ) (ns : List Scoped) → flat_map (λ n. first_past limit (parameters_in n.node)) ns ≡ []
     → list_all (λ o. nat_le (length o.params) limit) (flat_map (λ n. meaning.operation_in s n.names n.node) ns) ≡ true
 all_params s limit [] h = refl
 all_params s limit (n ∷ ns) h =
-    let x = neither (drop limit (parameters_in n.node)) (flat_map (λ m. drop limit (parameters_in m.node)) ns) h in
+    let x = neither (first_past limit (parameters_in n.node)) (flat_map (λ m. first_past limit (parameters_in m.node)) ns) h in
     join_all (λ o. nat_le (length o.params) limit) (meaning.operation_in s n.names n.node) (flat_map (λ m. meaning.operation_in s m.names m.node) ns)
     (operation_params s limit n.names n.node x.0) (all_params s limit ns x.1)
 

@@ -4,7 +4,7 @@ use Rattle.idl_rules.specs.World.{World}
 use Rattle.idl_rules.specs.Noted.{noted}
 use Rattle.idl_rules.specs.Found.{seen_breach}
 use Rattle.idl_rules.specs.SeenNodes.{seen_construct}
-use Rattle.idl_rules.proofs.Passes.{given_left}
+use Rattle.idl_rules.proofs.Passes.{given_due}
 use Rattle.idl_rules.proofs.CountedLabels.{in_attributes, in_attribute, attributes_cons}
 use Rattle.idl_rules.proofs.counts.labels_in.Given as goal
 
@@ -12,7 +12,7 @@ use Rattle.idl_rules.proofs.counts.labels_in.Given as goal
 abbrev pub invariant-loop-attribute : goal.invariant-loop-attribute
 invariant-loop-attribute l =
     (l.finder.files.now ≡ l.fn.finder.files.now)
-    × (l.left - in_attributes (drop l.attribute-index l.attributes) ≡ l.fn.limit - in_attributes l.attributes)
+    × (l.due - in_attributes (drop l.attribute-index l.attributes) ≡ l.fn.number - in_attributes l.attributes)
     × ((w : World) → w.files ≡ seen_files l.fn.finder.files.now
-    → noted w (option_map seen_breach l.finder.first) (given_left in_attributes in_attribute attributes_cons l.attributes (seen_construct l.construct) l.left l.attribute-index)
-    ≡ noted w (option_map seen_breach l.fn.finder.first) (given_left in_attributes in_attribute attributes_cons l.attributes (seen_construct l.construct) l.fn.limit 0))
+    → noted w (option_map seen_breach l.finder.first) (given_due in_attributes in_attribute attributes_cons l.attributes (seen_construct l.construct) l.due l.attribute-index)
+    ≡ noted w (option_map seen_breach l.fn.finder.first) (given_due in_attributes in_attribute attributes_cons l.attributes (seen_construct l.construct) l.fn.number 0))

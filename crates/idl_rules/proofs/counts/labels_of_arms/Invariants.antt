@@ -4,7 +4,7 @@ use Rattle.idl_rules.specs.World.{World}
 use Rattle.idl_rules.specs.Noted.{noted}
 use Rattle.idl_rules.specs.Found.{seen_breach}
 use Rattle.idl_rules.specs.SeenNodes.{seen_construct}
-use Rattle.idl_rules.proofs.Passes.{given_left}
+use Rattle.idl_rules.proofs.Passes.{given_due}
 use Rattle.idl_rules.proofs.CountedLabels.{in_arms, in_arm, arms_cons}
 use Rattle.idl_rules.proofs.counts.labels_of_arms.Given as goal
 
@@ -12,7 +12,7 @@ use Rattle.idl_rules.proofs.counts.labels_of_arms.Given as goal
 abbrev pub invariant-loop-arm : goal.invariant-loop-arm
 invariant-loop-arm l =
     (l.finder.files.now ≡ l.fn.finder.files.now)
-    × (l.left - in_arms (drop l.arm-index l.arm-items) ≡ l.fn.limit - in_arms l.arm-items)
+    × (l.due - in_arms (drop l.arm-index l.arm-items) ≡ l.fn.number - in_arms l.arm-items)
     × ((w : World) → w.files ≡ seen_files l.fn.finder.files.now
-    → noted w (option_map seen_breach l.finder.first) (given_left in_arms in_arm arms_cons l.arm-items (seen_construct l.construct) l.left l.arm-index)
-    ≡ noted w (option_map seen_breach l.fn.finder.first) (given_left in_arms in_arm arms_cons l.arm-items (seen_construct l.construct) l.fn.limit 0))
+    → noted w (option_map seen_breach l.finder.first) (given_due in_arms in_arm arms_cons l.arm-items (seen_construct l.construct) l.due l.arm-index)
+    ≡ noted w (option_map seen_breach l.fn.finder.first) (given_due in_arms in_arm arms_cons l.arm-items (seen_construct l.construct) l.fn.number 0))

@@ -4,7 +4,7 @@ use Rattle.idl_rules.specs.World.{World}
 use Rattle.idl_rules.specs.Noted.{noted}
 use Rattle.idl_rules.specs.Found.{seen_breach}
 use Rattle.idl_rules.specs.SeenNodes.{seen_construct}
-use Rattle.idl_rules.proofs.Passes.{given_left}
+use Rattle.idl_rules.proofs.Passes.{given_due}
 use Rattle.idl_rules.proofs.CountedLabels.{in_cases, in_case, cases_cons}
 use Rattle.idl_rules.proofs.counts.labels_of_cases.Given as goal
 
@@ -12,7 +12,7 @@ use Rattle.idl_rules.proofs.counts.labels_of_cases.Given as goal
 abbrev pub invariant-loop-case : goal.invariant-loop-case
 invariant-loop-case l =
     (l.finder.files.now ≡ l.fn.finder.files.now)
-    × (l.left - in_cases (drop l.case-index l.case-items) ≡ l.fn.limit - in_cases l.case-items)
+    × (l.due - in_cases (drop l.case-index l.case-items) ≡ l.fn.number - in_cases l.case-items)
     × ((w : World) → w.files ≡ seen_files l.fn.finder.files.now
-    → noted w (option_map seen_breach l.finder.first) (given_left in_cases in_case cases_cons l.case-items (seen_construct l.construct) l.left l.case-index)
-    ≡ noted w (option_map seen_breach l.fn.finder.first) (given_left in_cases in_case cases_cons l.case-items (seen_construct l.construct) l.fn.limit 0))
+    → noted w (option_map seen_breach l.finder.first) (given_due in_cases in_case cases_cons l.case-items (seen_construct l.construct) l.due l.case-index)
+    ≡ noted w (option_map seen_breach l.fn.finder.first) (given_due in_cases in_case cases_cons l.case-items (seen_construct l.construct) l.fn.number 0))

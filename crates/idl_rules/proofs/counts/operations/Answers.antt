@@ -6,11 +6,11 @@ use Rattle.idl_rules.proofs.counts.operations.Goals as goal
 
 pub loop-node-preserved : goal.loop-node-preserved
 loop-node-preserved c = (
-  c.operation-left.ensures.files ∙ c.loop-node.invariant.0,
-  (λ w files. one_counted operations_at c.args.nodes.now w c.loop-node.left _ c.loop-node.node-index c.node-item.result _ _ _ c.loop-node-test.true c.node-item.is c.operation-left.ensures.left
-      (c.operation-left.ensures.first w (files ∙ ap seen_files (sym c.loop-node.invariant.0)))
+  c.operation-due.ensures.files ∙ c.loop-node.invariant.0,
+  (λ w files. one_counted operations_at c.args.nodes.now w c.loop-node.due _ c.loop-node.node-index c.node-item.result _ _ _ c.loop-node-test.true c.node-item.is c.operation-due.ensures.due
+      (c.operation-due.ensures.first w (files ∙ ap seen_files (sym c.loop-node.invariant.0)))
       (c.loop-node.invariant.1 w files)),
 )
 
 pub returns-clause-first : goal.returns-clause-first
-returns-clause-first c w files = all_counted operations_at c.args.nodes.now w c.loop-node.left c.loop-node.node-index _ _ c.loop-node-test.false (c.loop-node.invariant.1 w files)
+returns-clause-first c w files = all_counted operations_at c.args.nodes.now w c.loop-node.due c.loop-node.node-index _ _ c.loop-node-test.false (c.loop-node.invariant.1 w files)

@@ -1,10 +1,10 @@
-use Rattle.std.proofs.Common.{◌∙◌, refl, map, option_map, ap, sym, arith}
+use Rattle.std.proofs.Common.{◌∙◌, refl, map, option_map, ap, sym}
 use Rattle.std.specs.List.{flat_map}
 use Rattle.idl_names.specs.Seen.{seen_files}
 use Rattle.idl_rules.specs.Noted.{noted}
 use Rattle.idl_rules.specs.Found.{seen_breach}
 use Rattle.idl_rules.specs.SeenCounts.{one_too_many, parameters_at}
-use Rattle.idl_rules.proofs.Passes.{one_counted, all_counted}
+use Rattle.idl_rules.proofs.Passes.{one_noted, all_noted}
 use Rattle.idl_rules.proofs.counts.parameters.Goals as goal
 
 pub loop-node-init : goal.loop-node-init
@@ -16,7 +16,7 @@ loop-node-init c = (
 pub loop-node-preserved : goal.loop-node-preserved
 loop-node-preserved c = (
   c.parameters_at.ensures.files ∙ c.loop-node.invariant.0,
-  (λ w files. one_counted (parameters_at c.args.nodes.now.lists.items c.args.limit) c.deref-node-items.result.now w 0 0 c.loop-node.node-index c.node-item.result _ _ _ c.loop-node-test.true c.node-item.is (omega arith)
+  (λ w files. one_noted (parameters_at c.args.nodes.now.lists.items c.args.limit) c.deref-node-items.result.now w c.loop-node.node-index c.node-item.result _ _ _ c.loop-node-test.true c.node-item.is
       (c.parameters_at.ensures.first w (files ∙ ap seen_files (sym c.loop-node.invariant.0)))
       (c.loop-node.invariant.1 w files)),
 )
@@ -26,4 +26,4 @@ returns-clause-files c = c.loop-node.invariant.0
 
 pub returns-clause-first : goal.returns-clause-first
 returns-clause-first c w files =
-    all_counted (parameters_at c.args.nodes.now.lists.items c.args.limit) c.deref-node-items.result.now w 0 c.loop-node.node-index _ _ c.loop-node-test.false (c.loop-node.invariant.1 w files)
+    all_noted (parameters_at c.args.nodes.now.lists.items c.args.limit) c.deref-node-items.result.now w c.loop-node.node-index _ _ c.loop-node-test.false (c.loop-node.invariant.1 w files)

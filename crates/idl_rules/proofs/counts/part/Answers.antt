@@ -1,8 +1,8 @@
-use Rattle.std.proofs.Common.{◌∙◌, map, drop, option_map, refl, ap, sym}
+use Rattle.std.proofs.Common.{◌∙◌, map, option_map, refl, ap, sym}
 use Rattle.idl_rules.specs.Noted.{noted}
 use Rattle.idl_rules.specs.Found.{seen_breach}
 use Rattle.idl_rules.specs.SeenNodes.{seen_construct, seen_result}
-use Rattle.idl_rules.specs.SeenCounts.{one_too_many, parts_at}
+use Rattle.idl_rules.specs.SeenCounts.{numbered, one_too_many, parts_at}
 use Rattle.idl_rules.proofs.CountedNodes.{member_alike}
 use Rattle.idl_rules.proofs.counts.part.Goals as goal
 
@@ -11,4 +11,4 @@ returns-in-Result-clause-first c w files =
     let k = seen_construct c.in-Result.it.construct in
     c.member-in-Result.ensures.first w files
     ∙ ap (noted w (option_map seen_breach c.args.finder.now.first))
-    (member_alike k.position c.args.left k (seen_result c.in-Result.it).construct refl ∙ sym (ap (λ n. map one_too_many (drop c.args.left (parts_at n))) c.in-Result.is))
+    (member_alike k.position c.args.due k (seen_result c.in-Result.it).construct refl ∙ sym (ap (λ n. map one_too_many (numbered c.args.due (parts_at n))) c.in-Result.is))

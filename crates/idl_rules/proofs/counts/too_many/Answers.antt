@@ -1,8 +1,9 @@
-use Rattle.std.proofs.Common.{◌∙◌, ◌-◌, map, drop, length, option_map, ap, sym}
+use Rattle.std.proofs.Common.{◌∙◌, ◌-◌, map, length, option_map, ap, sym}
 use Rattle.std.specs.List.{flat_map}
 use Rattle.nd_types.specs.declared.TheConstants.{TYPE_LIMIT, OPERATION_LIMIT, PARAM_LIMIT, MEMBER_LIMIT}
 use Rattle.nd_types.specs.Kinds.{basic_types}
 use Rattle.idl_names.specs.Seen.{seen_files}
+use Rattle.idl_rules.specs.CountRules.{first_past}
 use Rattle.idl_rules.specs.Rules.{breach}
 use Rattle.idl_rules.specs.Noted.{noted}
 use Rattle.idl_rules.specs.Found.{seen_breach}
@@ -19,9 +20,9 @@ returns-clause-first c w known ks files are =
     (option_map seen_breach c.args.finder.now.first) (option_map seen_breach c.types.new.finder.first) (option_map seen_breach c.operations.new.finder.first)
     (option_map seen_breach c.parameters.new.finder.first) (option_map seen_breach c.parts.new.finder.first) are
     (c.types.ensures.first w files
-    ∙ ap (λ l. noted w (option_map seen_breach c.args.finder.now.first) (map (λ o. breach 39 o.place) (drop (TYPE_LIMIT - length basic_types) l))) c.as_slice.ensures.value)
+    ∙ ap (λ l. noted w (option_map seen_breach c.args.finder.now.first) (map (λ o. breach 39 o.place) (first_past (TYPE_LIMIT - length basic_types) l))) c.as_slice.ensures.value)
     (c.operations.ensures.first w after-types
-    ∙ ap (λ l. noted w (option_map seen_breach c.types.new.finder.first) (map one_too_many (drop OPERATION_LIMIT (flat_map operations_at l)))) c.as_slice-2.ensures.value)
+    ∙ ap (λ l. noted w (option_map seen_breach c.types.new.finder.first) (map one_too_many (first_past OPERATION_LIMIT (flat_map operations_at l)))) c.as_slice-2.ensures.value)
     (c.parameters.ensures.first w after-operations)
     (c.parts.ensures.first w after-parameters
-    ∙ ap (λ l. noted w (option_map seen_breach c.parameters.new.finder.first) (map one_too_many (drop MEMBER_LIMIT (flat_map parts_at l)))) c.as_slice-3.ensures.value)
+    ∙ ap (λ l. noted w (option_map seen_breach c.parameters.new.finder.first) (map one_too_many (first_past MEMBER_LIMIT (flat_map parts_at l)))) c.as_slice-3.ensures.value)
