@@ -19,7 +19,7 @@ use Rattle.acf_reader.specs.Answers.{IsAnswer}
 use Rattle.acf_reader.specs.Told.{Told}
 use Rattle.idl_check.specs.AcfRules.{acf_file, first_of_all}
 use Rattle.idl_check.specs.SeenAcf.{IsMeaningBeside}
-use Rattle.value_text.specs.Reads.{position_of}
+use Rattle.nd_base.specs.Text.{position_of}
 use Rattle.dceidl.specs.declared.refusal.IdlReason.{IdlReason}
 use Rattle.dceidl.specs.declared.refusal.IdlReason.TheVariants as reason
 use Rattle.dceidl.specs.declared.refusal.Refusal.{Refusal}

@@ -21,7 +21,4 @@ pub mod OneWalk
 pub mod OneMeaning
 pub mod HeldFiles
 pub mod Exact
-pub mod FileWords
-pub mod Operations
-pub mod MeantWords
 pub mod OneInterface

@@ -19,7 +19,7 @@ use Rattle.idl_rules.specs.Rules.{Breach, breach}
 use Rattle.idl_rules.specs.Meaning.{meaning}
 use Rattle.idl_rules.specs.Answers.{meant_by}
 use Rattle.idl_check.specs.AcfRules.{first_of_all}
-use Rattle.value_text.specs.Reads.{position_of}
+use Rattle.nd_base.specs.Text.{position_of}
 use Rattle.dceidl.specs.declared.refusal.IdlReason.{IdlReason}
 use Rattle.dceidl.specs.declared.refusal.Refusal.{Refusal}
 use Rattle.dceidl.specs.declared.refusal.Refusal.TheVariants.{BadIdl}

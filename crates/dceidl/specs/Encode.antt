@@ -13,7 +13,7 @@ use Rattle.nd_graph.specs.Setting.{Setting}
 use Rattle.nd_graph.specs.Conforms.{Conforms}
 use Rattle.nd_graph.specs.FirstMisfit.{IsFirstMisfit}
 use Rattle.nd_grammar.specs.Chosen.{Chosen}
-use Rattle.value_text.specs.Text.{joined}
+use Rattle.nd_base.specs.Text.{joined}
 use Rattle.value_text.specs.Reads.{ReadsAs, IsTextFault}
 use Rattle.dceidl.specs.declared.refusal.Refusal.{Refusal}
 use Rattle.dceidl.specs.declared.refusal.Refusal.TheVariants.{Memory, BadText, BadValue}

@@ -4,7 +4,7 @@ use Rattle.std.specs.Prelude.{◌≡◌, ◌⊎◌, ℕ, true, false, eqb, List,
 use Rattle.nd_base.specs.declared.octets.Place.{Place}
 use Rattle.nd_base.specs.Outside.{IsContent}
 use Rattle.nd_types.specs.declared.interface.Interface.{Interface}
-use Rattle.idl_lexer.specs.Classes.{is_word_octet}
+use Rattle.nd_base.specs.Text.{is_word_octet}
 use Rattle.idl_lexer.specs.declared.tokens.LexFault.TheVariants as lexical
 use Rattle.idl_lexer.specs.Verdict.{IsFault, IsVerdict, Refused}
 use Rattle.idl_grammar.specs.Tree.{Tree}
@@ -19,7 +19,7 @@ use Rattle.idl_rules.specs.World.{World}
 use Rattle.idl_rules.specs.Rules.{breach}
 use Rattle.idl_check.specs.AcfRules.{acf_file, first_of_all}
 use Rattle.idl_check.specs.SeenAcf.{IsMeaningBeside}
-use Rattle.value_text.specs.Reads.{position_of}
+use Rattle.nd_base.specs.Text.{position_of}
 use Rattle.dceidl.specs.AcfFile.{AcfFile, IsNoAcf, IsBeside, tree_beside}
 use Rattle.dceidl.specs.declared.refusal.IdlReason.{IdlReason}
 use Rattle.dceidl.specs.declared.refusal.IdlReason.TheVariants as reason

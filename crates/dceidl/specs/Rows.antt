@@ -14,7 +14,7 @@ use Rattle.nd_graph.specs.Fitting.{setting_of}
 use Rattle.nd_grammar.specs.Represents.{Represents}
 use Rattle.value_text.specs.declared.TheConstants.{TEXT_LIMIT}
 use Rattle.value_text.specs.Reads.{ReadsAs, IsTextFault}
-use Rattle.value_text.specs.Text.{joined}
+use Rattle.nd_base.specs.Text.{joined}
 use Rattle.dceidl.specs.Causes.{IsMade, IsCause}
 use Rattle.dceidl.specs.Decode.{IsRefusedAt}
 use Rattle.dceidl.specs.Encode.{IsMisfitAt}

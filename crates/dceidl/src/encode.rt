@@ -7,13 +7,13 @@ ghost use Rattle.nd_types.specs.Walk.{named_roots};
 ghost use Rattle.nd_graph.specs.Conforms.{Conforms, HasFewNodes};
 ghost use Rattle.nd_grammar.specs.Chosen.{Chosen};
 ghost use Rattle.nd_graph.specs.Fitting.{setting_of};
-ghost use Rattle.value_text.specs.Text.{joined};
+ghost use Rattle.nd_base.specs.Text.{joined};
 ghost use Rattle.dceidl.specs.Encode.{IsEncoding, IsTextCause, IsValueCause, IsReportedAsValue, home_path, root_path as name_of};
 
-use crate::join::join;
 use crate::ready::Ready;
 use crate::refusal::Refusal;
 use itoa::Buffer;
+use nd_base::text::join;
 use nd_base::{Memory, Octets, Order};
 use nd_graph::{CellId, Fit, Graph, Home, Misfit, fit};
 use std::alloc::Global;

@@ -6,7 +6,6 @@ mod compile;
 mod decode;
 mod encode;
 mod input;
-mod join;
 pub mod laws;
 mod lines;
 mod load;

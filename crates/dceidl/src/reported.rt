@@ -2,8 +2,7 @@
 ghost use Rattle.std.specs.Prelude.{◌≡◌, ◌≤◌, length, take, take_while, Some, IfOk};
 ghost use Rattle.dceidl.specs.declared.refusal.Refusal.{Refusal as RefusalValue};
 ghost use Rattle.dceidl.specs.declared.refusal.IdlReason.TheVariants as reason;
-ghost use Rattle.value_text.specs.Reads.{position, position_of as position_at};
-ghost use Rattle.idl_lexer.specs.Classes as classes;
+ghost use Rattle.nd_base.specs.Text.{is_word_octet as is_of_word, position_of as position_at};
 ghost use Rattle.dceidl.specs.Reading.{IsOrMemory};
 ghost use Rattle.dceidl.specs.Idl.{name_in as name_of_file, text_in as text_of_file, word_at as word_from, reported_by, reported_at as reported_there, reported_fault, reported_beside};
 ghost use Rattle.dceidl.specs.Loaded.{seen_beside};
@@ -13,6 +12,7 @@ use crate::refusal::{IdlReason, Refusal};
 use idl_check::ACF_FILE;
 use idl_lexer::LexFault;
 use idl_names::{NameFault, Sources, SyntaxFault};
+use nd_base::text::{is_word_octet, position};
 use nd_base::{Memory, Octets, Place};
 use std::alloc::Global;
 
@@ -203,42 +203,18 @@ fn report_syntax(
     }
 }
 
-// Line and column after octets, both from 1. Only a line feed ends a line.
-fn position_behind(octets: &[u8]) -> (u64, u64)
-    ensures { result ≡ position 1 1 octets.now }
-{
-    let mut line = 1;
-    let mut column = 1;
-    for octet in octets {
-        if *octet == b'\n' {
-            line += 1;
-            column = 1;
-        } else {
-            column += 1;
-        }
-    }
-    (line, column)
-}
-
 // Line and column of an octet of a text, both from 1.
 fn position_of(text: &[u8], at: u32) -> (u64, u64)
     ensures { result ≡ position_at text.now at }
 {
     let front = text.len().min(at as usize);
-    position_behind(&text[..front])
-}
-
-// A letter, a digit or `_`.
-fn is_word_octet(octet: u8) -> bool
-    ensures { result ≡ classes.is_word_octet octet }
-{
-    octet.is_ascii_alphabetic() || octet == b'_' || octet.is_ascii_digit()
+    position(&text[..front])
 }
 
 // Where the letters, digits and `_` at the front of a text end.
 fn word_end(text: &[u8]) -> usize
     ensures within { result ≤ length text.now }
-    ensures word { take result text.now ≡ take_while classes.is_word_octet text.now }
+    ensures word { take result text.now ≡ take_while is_of_word text.now }
 {
     let mut end = 0;
     while end < text.len() && is_word_octet(text[end]) {

@@ -1,5 +1,5 @@
 use Rattle.std.proofs.Common.{subst}
-use Rattle.value_text.specs.Reads.{position_of}
+use Rattle.nd_base.specs.Text.{position_of}
 use Rattle.idl_lexer.specs.Verdict.{IsFault}
 use Rattle.dceidl.specs.declared.refusal.IdlReason.TheVariants as reason
 use Rattle.dceidl.specs.Idl.{reported_by}

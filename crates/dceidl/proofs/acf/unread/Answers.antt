@@ -1,4 +1,4 @@
-use Rattle.value_text.specs.Reads.{position_of}
+use Rattle.nd_base.specs.Text.{position_of}
 use Rattle.dceidl.specs.declared.refusal.IdlReason.TheVariants as reason
 use Rattle.dceidl.specs.Idl.{reported_by, word_at}
 use Rattle.dceidl.proofs.Judged.{told_syntax, told_deep, told_banned}

@@ -1,6 +1,6 @@
 use Rattle.std.proofs.Common.{◌≡◌, ◌≤◌, ◌-◌, ◌++◌, length, take, drop}
 use Rattle.std.specs.Prelude.{take_while}
-use Rattle.idl_lexer.specs.Classes as classes
+use Rattle.nd_base.specs.Text as classes
 use Rattle.dceidl.proofs.reported.word_end.Given as goal
 
 -- the octets so far are of the word, and the others are as in the text
