@@ -4,12 +4,13 @@ use Rattle.std.specs.Prelude.{option_to_list, leb}
 use Rattle.std.specs.List.{slice_get}
 use Rattle.std.proofs.lemmas.Bool.{leb-true, leb-false}
 use Rattle.std.proofs.lemmas.Option.{same_Some}
+use Rattle.nd_base.specs.declared.octets.Place.{Place}
 use Rattle.nd_base.specs.Outside.{IsContent}
 use Rattle.idl_grammar.specs.Tree.{Tree}
 use Rattle.idl_names.specs.declared.name_fault.NameFault.TheVariants as names
 use Rattle.idl_names.specs.Files.{IsFile}
 use Rattle.idl_names.specs.Sources.{Source, and_source, source}
-use Rattle.idl_names.specs.Walk.{State, Due, Ending, Done, Stopped, Walk, names_of, start, all_of, with_source, all_done, goes_on, faults, ends, cycle, again, too_many, absent, failed, uncut, no_file, enters, short, short_in_load, short_after_load}
+use Rattle.idl_names.specs.Walk.{State, Due, Load, IsDue, Ending, Done, Stopped, Walk, names_of, start, all_of, with_source, all_done, goes_on, faults, ends, cycle, again, too_many, absent, failed, uncut, no_file, enters, short, short_in_load, short_after_load}
 use Rattle.dceidl.specs.Asked.{IsNext, AreAsked, all_due}
 use Rattle.dceidl.specs.Idl.{main_file, AreResolved, IsDueImport, IsDueAcf}
 use Rattle.dceidl.proofs.Walks.{passed_fault, at_load}
@@ -51,13 +52,20 @@ names_append (x ∷ xs) ys = ap (λ l. x.name ∷ l) (names_append xs ys)
 
 names_length : (xs : List Source) → length (names_of xs) ≡ length xs
 names_length [] = refl
-names_length (x ∷ xs) = ap (λ n. n + 1) (names_length xs)
+names_length (x ∷ xs) = ap suc (names_length xs)
 
 -- a name in a list is that of a file
 named_at : (xs : List Source) (n : ℕ) (name : List ℕ) → slice_get (names_of xs) n ≡ Some name → (x : Source) × (slice_get xs n ≡ Some x) × (x.name ≡ name)
 named_at [] n name e = cc
 named_at (x ∷ xs) zero name e = (x, refl, same_Some _ _ e)
 named_at (x ∷ xs) (suc n) name e = named_at xs n name e
+
+-- what is got past a front of a list with one more is that one
+only : {X : Type 0} (xs : List X) (x : X) (n : ℕ) (y : X) → length xs ≤ n → slice_get (xs ++ x ∷ []) n ≡ Some y → (n ≡ length xs) × (x ≡ y)
+only [] x zero y h e = (refl, same_Some _ _ e)
+only [] x (suc n) y h e = cc
+only (z ∷ xs) x zero y h e = absurd (omega (arith, h))
+only (z ∷ xs) x (suc n) y h e = let r = only xs x n y (omega (arith, h)) e in (ap suc r.0, r.1)
 
 -- ## Walks
 
@@ -101,6 +109,27 @@ module _ (held : Option (List ℕ → Option (List ℕ))) where
         comes = subst (λ (z : Source). Walk held s due (at_load held s.sources z.name)) same w;
       }
 
+  -- a file that is entered is the next, or one after it
+  entered : (s : State) (place : Place) (name : List ℕ) (rest : List Due) (text : List ℕ) (tree : Tree) → IsDue s.sources name → IsContent held name text → IsFile text tree
+      → (reached : List Source) → Walk held (with_source s name text) (all_of (length s.sources) tree ++ rest) (Stopped reached names.Memory) → (n : ℕ) (y : Source)
+      → length s.sources ≤ n → slice_get reached n ≡ Some y
+      → (length (and_source s.sources name text) ≤ n → IsBegun (with_source s name text) (all_of (length s.sources) tree ++ rest) reached n y.name)
+      → IsBegun s (Load place name ∷ rest) reached n y.name
+  entered s place name rest text tree is_due c v reached d n y h g later = by (leb (length s.sources + 1) n) refl
+    where
+      by : (b : Bool) → leb (length s.sources + 1) n ≡ b → IsBegun s (Load place name ∷ rest) reached n y.name
+      by true is =
+          let more : length s.sources + 1 ≤ n = leb-true (length s.sources + 1) n is in
+          let r = later (subst (λ k. k ≤ n) (sym (length-append s.sources (source name text ∷ []))) more) in
+          record { before = r.before; before_are = r.before_are; comes = enters s place name rest _ text tree is_due c v r.comes }
+      by false is =
+          let below = leb-false (length s.sources + 1) n is in
+          let same : n ≡ length s.sources = omega (arith, below, h) in
+          let (more, all) = keeps _ _ reached d in
+          let whole : reached ≡ s.sources ++ source name text ∷ more = all ∙ append_assoc s.sources (source name text ∷ []) more in
+          subst (λ r. IsBegun s (Load place name ∷ rest) r n y.name) (sym whole)
+          (first_begun s (Load place name ∷ rest) (source name text) more n y (subst (λ r. slice_get r n ≡ Some y) whole g) same (failed s place name rest is_due))
+
   begun : (s : State) (due : List Due) (reached : List Source) → Walk held s due (Stopped reached names.Memory) → (n : ℕ) (y : Source) → length s.sources ≤ n
       → slice_get reached n ≡ Some y → IsBegun s due reached n y.name
   begun st ds reached (goes_on s file step k rest e a d) n y h g =
@@ -112,39 +141,11 @@ module _ (held : Option (List ℕ → Option (List ℕ))) where
       let r = begun s rest reached d n y h g in record { before = r.before; before_are = r.before_are; comes = again s place name rest _ m a b r.comes }
   begun st ds reached (short s rest) n y h g = absurd (past s.sources n y h g)
   begun st ds reached (short_in_load s place name rest is_due) n y h g =
-      first_begun s _ (source name []) [] n y g (only s.sources (source name []) n y h g) (failed s place name rest is_due)
-    where
-      only : (xs : List Source) (x : Source) (n : ℕ) (y : Source) → length xs ≤ n → slice_get (xs ++ x ∷ []) n ≡ Some y → n ≡ length xs
-      only [] x zero y h e = refl
-      only [] x (suc n) y h e = cc
-      only (z ∷ xs) x zero y h e = absurd (omega (arith, h))
-      only (z ∷ xs) x (suc n) y h e = ap (λ k. k + 1) (only xs x n y (omega (arith, h)) e)
+      first_begun s _ (source name []) [] n y g (only s.sources (source name []) n y h g).0 (failed s place name rest is_due)
   begun st ds reached (short_after_load s place name rest text is_due c) n y h g =
-      first_begun s _ (source name text) [] n y g (only s.sources (source name text) n y h g) (failed s place name rest is_due)
-    where
-      only : (xs : List Source) (x : Source) (n : ℕ) (y : Source) → length xs ≤ n → slice_get (xs ++ x ∷ []) n ≡ Some y → n ≡ length xs
-      only [] x zero y h e = refl
-      only [] x (suc n) y h e = cc
-      only (z ∷ xs) x zero y h e = absurd (omega (arith, h))
-      only (z ∷ xs) x (suc n) y h e = ap (λ k. k + 1) (only xs x n y (omega (arith, h)) e)
-  begun st ds reached (enters s place name rest e text tree is_due c v d) n y h g = by (leb (length s.sources + 1) n) refl
-    where
-      Here : Type 0
-      Here = IsBegun s ds reached n y.name
-
-      by : (b : Bool) → leb (length s.sources + 1) n ≡ b → Here
-      by true is =
-          let more : length s.sources + 1 ≤ n = leb-true (length s.sources + 1) n is in
-          let longer : length (and_source s.sources name text) ≤ n = subst (λ k. k ≤ n) (sym (length-append s.sources (source name text ∷ []))) more in
-          let r = begun _ _ reached d n y longer g in
-          record { before = r.before; before_are = r.before_are; comes = enters s place name rest _ text tree is_due c v r.comes }
-      by false is =
-          let below = leb-false (length s.sources + 1) n is in
-          let same : n ≡ length s.sources = omega (arith, below, h) in
-          let (more, all) = keeps _ _ reached d in
-          let whole : reached ≡ s.sources ++ source name text ∷ more = all ∙ append_assoc s.sources (source name text ∷ []) more in
-          subst (λ r. IsBegun s ds r n y.name) (sym whole)
-          (first_begun s ds (source name text) more n y (subst (λ r. slice_get r n ≡ Some y) whole g) same (failed s place name rest is_due))
+      first_begun s _ (source name text) [] n y g (only s.sources (source name text) n y h g).0 (failed s place name rest is_due)
+  begun st ds reached (enters s place name rest e text tree is_due c v d) n y h g =
+      entered s place name rest text tree is_due c v reached d n y h g (λ longer. begun _ _ reached d n y longer g)
 
 -- ## The names asked for
 
@@ -193,12 +194,6 @@ module _ (held : Option (List ℕ → Option (List ℕ))) (idl text : List ℕ) 
 
         main : slice_get (front ++ name ∷ []) 0 ≡ Some idl
         main = ap (λ l. slice_get (l ++ name ∷ []) 0) (reached_names resolved.tree resolved.parsed state.sources walk_to)
-
-        only : (xs : List (List ℕ)) (x : List ℕ) (n : ℕ) (y : List ℕ) → length xs ≤ n → slice_get (xs ++ x ∷ []) n ≡ Some y → (n ≡ length xs) × (x ≡ y)
-        only [] x zero y h e = (refl, same_Some _ _ e)
-        only [] x (suc n) y h e = cc
-        only (z ∷ xs) x zero y h e = absurd (omega (arith, h))
-        only (z ∷ xs) x (suc n) y h e = let r = only xs x n y (omega (arith, h)) e in (ap (λ k. k + 1) r.0, r.1)
 
         by : (n : ℕ) (other : List ℕ) → slice_get (front ++ name ∷ []) n ≡ Some other → (b : Bool) → leb (length front) n ≡ b
             → IsNext held idl (Some name) (take n (front ++ name ∷ [])) other

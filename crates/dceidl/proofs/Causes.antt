@@ -29,7 +29,7 @@ use Rattle.nd_base.specs.Over.{FilesSeen, SourceSeen}
 use Rattle.dceidl.specs.Ready.{IsFound, IsReady, IsCompiled, IsReadyCause, IsIdlCause, IsNotFound}
 use Rattle.dceidl.specs.declared.refusal.OctetsFault.TheVariants as fault
 use Rattle.dceidl.specs.Decode.{IsDecoding, IsLeftOver, IsOctetsCause}
-use Rattle.dceidl.specs.Input.{AreRead, IsFetchCause, IsRead, IsReadCause, IsEncoded, IsEncodeCause}
+use Rattle.dceidl.specs.Input.{AreRead, IsRead, IsReadCause, IsEncoded, IsEncodeCause}
 
 item_at : {X : Type 0} (xs : List X) (i : ℕ) → i < length xs → (x : X) × (slice_get xs i ≡ Some x)
 item_at [] i h = absurd (omega (arith, h))
@@ -102,15 +102,17 @@ decoding_is w order octets taken g begins (Ok text) is_text whole = record {
 decoding_is w order octets taken g begins (Err e) is_text whole = tt
 
 -- the input was read, and something made of it
-pub read_is : (s : SourceSeen) (w : Setting) (order : Order) (octets : List ℕ) → AreRead s STREAM_LIMIT octets → (result : Result (List ℕ) Refusal)
-    → IfOk result (IsDecoding w order octets) → IfOk result (IsRead s Decode w order)
-read_is s w order octets read (Ok made) decoding = record { octets = octets; read = read; shown = decoding }
-read_is s w order octets read (Err e) decoding = tt
+pub read_is : (s : SourceSeen) (how : Reading) (w : Setting) (order named : Order) (octets : List ℕ) → AreRead s STREAM_LIMIT octets → named ≡ order
+    → (result : Result (List ℕ) Refusal) → IfOk result (IsDecoding w named octets) → IfOk result (IsRead s how w order)
+read_is s Decode w order named octets read same (Ok made) decoding =
+    record { octets = octets; read = read; shown = subst (λ o. IsDecoding w o octets made) same decoding }
+read_is s how w order named octets read same (Err e) decoding = tt
 
-pub encoded_is : (s : SourceSeen) (w : Setting) (order : Order) (chunk : ℕ) (text : List ℕ) → AreRead s TEXT_LIMIT text → (result : Result (List ℕ) Refusal)
-    → IfOk result (IsEncoding w order chunk text) → IfOk result (IsEncoded s w order chunk)
-encoded_is s w order chunk text read (Ok made) encoding = record { text = text; read = read; encoding = encoding }
-encoded_is s w order chunk text read (Err e) encoding = tt
+pub encoded_is : (s : SourceSeen) (w : Setting) (order named : Order) (chunk : ℕ) (text : List ℕ) → AreRead s TEXT_LIMIT text → named ≡ order
+    → (result : Result (List ℕ) Refusal) → IfOk result (IsEncoding w named chunk text) → IfOk result (IsEncoded s w order chunk)
+encoded_is s w order named chunk text read same (Ok made) encoding =
+    record { text = text; read = read; encoding = subst (λ o. IsEncoding w o chunk text made) same encoding }
+encoded_is s w order named chunk text read same (Err e) encoding = tt
 
 -- octets that are refused are an input that is refused
 octets_cause : (s : SourceSeen) (how : Reading) (w : Setting) (order : Order) (octets : List ℕ) → AreRead s STREAM_LIMIT octets → (e : Refusal) → IsOctetsCause w order octets e
@@ -147,31 +149,6 @@ pub text_refused : (s : SourceSeen) (w : Setting) (text : List ℕ) → AreRead 
     → IfErr result (IsTextCause w text) → IfErr result (IsEncodeCause s w)
 text_refused s w text read (Ok made) cause = tt
 text_refused s w text read (Err e) cause = text_cause s w text read e cause
-
--- an input that was not read is refused
-pub unread_octets : (s : SourceSeen) (how : Reading) (w : Setting) (order : Order) (e : Refusal) → IsFetchCause s e → IsReadCause s how w order e
-unread_octets s how w order Memory cause = tt
-unread_octets s how w order ReadFault cause = cause
-unread_octets s how w order (Absent file) cause = absurd cause
-unread_octets s how w order (FileFailed file) cause = absurd cause
-unread_octets s how w order (BadIdl file line column reason) cause = absurd cause
-unread_octets s how w order NoOperation cause = absurd cause
-unread_octets s how w order NotBuilt cause = absurd cause
-unread_octets s how w order (BadOctets place why) cause = absurd cause
-unread_octets s how w order (BadText line column reason) cause = absurd cause
-unread_octets s how w order (BadValue path reason) cause = absurd cause
-
-pub unread_text : (s : SourceSeen) (w : Setting) (e : Refusal) → IsFetchCause s e → IsEncodeCause s w e
-unread_text s w Memory cause = tt
-unread_text s w ReadFault cause = cause
-unread_text s w (Absent file) cause = absurd cause
-unread_text s w (FileFailed file) cause = absurd cause
-unread_text s w (BadIdl file line column reason) cause = absurd cause
-unread_text s w NoOperation cause = absurd cause
-unread_text s w NotBuilt cause = absurd cause
-unread_text s w (BadOctets place why) cause = absurd cause
-unread_text s w (BadText line column reason) cause = absurd cause
-unread_text s w (BadValue path reason) cause = absurd cause
 
 -- ## What a command on values answers
 

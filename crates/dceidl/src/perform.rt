@@ -31,7 +31,7 @@ pub(crate) fn perform<F: Files, S: Source>(
     files: &mut F,
     input: &mut S,
 ) -> Result<Octets, Refusal>
-    requires { HasChunk command.entry }
+    requires { HasChunk command }
     ensures asked { AsksFor
         (seen_over (files_seen F.held F.absences F.faults F.asked files.old files.new) (source_seen S.left S.ended S.faults input.old input.new))
         (command_of command.entry) }

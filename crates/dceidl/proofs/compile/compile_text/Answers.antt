@@ -47,13 +47,13 @@ returns-in-Ok-clause-err g c =
     c.args.idl.now c.args.text acf e c.in-Ok.ensures.same c.in-Ok.ensures.absences_later refl c.in-Ok.ensures.later refl cause)
     (c.judge.ensures.err c.args.idl.now c.args.text here)
 
-pub returns-in-Err-clause-asked : goal.returns-in-Err-clause-asked
-returns-in-Err-clause-asked g c =
+pub returns-clause-asked : goal.returns-clause-asked
+returns-clause-asked g c =
     let a = c.in-Err.ensures.asked c.args.idl.now c.args.text c.in_ok-sources.ensures in
     record { rest = a.rest; asked = a.asked_is; are_asked = a.due c.requires (option_map (λ a. a.now) c.args.acf) }
 
-pub returns-in-Err-clause-err : goal.returns-in-Err-clause-err
-returns-in-Err-clause-err g c =
+pub returns-clause-err : goal.returns-clause-err
+returns-clause-err g c =
     text_cause (files_seen g.F.Files.held g.F.Files.absences g.F.Files.faults g.F.Files.asked c.args.files.now c.scope_of.new.files) c.args.idl.now c.args.text
     (option_map (λ a. a.now) c.args.acf)
     c.scope_of.new.sources c.in-Err.fault (c.in-Err.ensures.fault c.args.idl.now c.args.text c.in_ok-sources.ensures)

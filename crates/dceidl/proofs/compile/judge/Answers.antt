@@ -25,8 +25,8 @@ returns-in-Ok-clause-ok g c idl text resolved =
     (seen_beside c.in_ok-beside.beside) c.in_ok-beside.ensures.beside c.in-Ok.interface
     (subst (λ (t : Option Acf). IsMeaningBeside (world_of c.args.scope.now) t c.in-Ok.interface) c.tree_of_beside.ensures c.in-Ok.ensures)
 
-pub returns-in-Err-Broken-clause-err : goal.returns-in-Err-Broken-clause-err
-returns-in-Err-Broken-clause-err g c idl text resolved =
+pub returns-clause-err : goal.returns-clause-err
+returns-clause-err g c idl text resolved =
     broken (files_seen g.F.Files.held g.F.Files.absences g.F.Files.faults g.F.Files.asked c.args.files.now c.load_beside.new.files) idl text (option_map (λ a. a.now) c.args.acf)
     (seen_scope c.args.sources.now c.args.scope.now) resolved (seen_beside c.in_ok-beside.beside) c.in_ok-beside.ensures.beside c.in-Err-Broken.rule c.in-Err-Broken.place
     (subst (λ (t : Option Acf). AnswersBeside (world_of c.args.scope.now) t (Err (fault.Broken c.in-Err-Broken.rule c.in-Err-Broken.place))) c.tree_of_beside.ensures
