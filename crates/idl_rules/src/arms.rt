@@ -14,7 +14,7 @@ ghost use Rattle.idl_rules.specs.Made.{seen_valued, valued, value_said, arm_with
 use crate::labels::arm_attributes;
 use crate::members::name_of;
 use crate::typing::number;
-use idl_grammar::{Arm, Attribute, AttributeKind, Case, Expr, Label, Spelling, TypeSpec};
+use idl_grammar::{Arm, Attribute, AttributeKind, Case, Expr, Identifier, Label, TypeSpec};
 use idl_names::Scope;
 use nd_base::{Memory, Name};
 use nd_types as nd;
@@ -25,7 +25,7 @@ use std::alloc::Global;
 #[derive(Drop)]
 pub(crate) struct ValuedArm<'t> {
     /// The name that it declares; an empty arm has none.
-    pub(crate) name: Option<&'t Spelling>,
+    pub(crate) name: Option<&'t Identifier>,
     /// The values of its labels; a default has none.
     pub(crate) labels: Vec<Option<i128>>,
 }
@@ -103,7 +103,7 @@ fn labels_of(alloc: Global, scope: &Scope, labels: &[Label]) -> Result<Vec<Optio
 }
 
 /// The name that an arm declares.
-fn name_in(arm: &Arm) -> Option<&Spelling>
+fn name_in(arm: &Arm) -> Option<&Identifier>
     ensures { option_map (λ s. s.now.octets) result ≡ meaning.name_of_arm (seen_arm arm.now) }
 {
     match arm {
@@ -115,7 +115,7 @@ fn name_in(arm: &Arm) -> Option<&Spelling>
 /// Adds an arm.
 fn add<'t>(
     list: &mut Vec<ValuedArm<'t>>,
-    name: Option<&'t Spelling>,
+    name: Option<&'t Identifier>,
     labels: Vec<Option<i128>>,
 ) -> Result<(), Memory>
     ensures { OnOk result (map seen_valued list.new.items ≡ map seen_valued list.old.items
@@ -177,7 +177,7 @@ pub(crate) fn valued_arms<'t>(
 }
 
 /// The first of these types, where the arm is not empty.
-fn type_for(name: Option<&Spelling>, types: &[TypeId]) -> Option<TypeId>
+fn type_for(name: Option<&Identifier>, types: &[TypeId]) -> Option<TypeId>
     ensures { result ≡ made.type_for (option_map (λ s. s.now.octets) name.entry) types.now }
 {
     match (name, types) {
@@ -187,7 +187,7 @@ fn type_for(name: Option<&Spelling>, types: &[TypeId]) -> Option<TypeId>
 }
 
 /// The types of the arms behind this one.
-fn types_past<'s>(name: Option<&Spelling>, types: &'s [TypeId]) -> &'s [TypeId]
+fn types_past<'s>(name: Option<&Identifier>, types: &'s [TypeId]) -> &'s [TypeId]
     ensures { result.now ≡ made.types_past (option_map (λ s. s.now.octets) name.entry) types.now }
 {
     match (name, types) {
@@ -197,7 +197,7 @@ fn types_past<'s>(name: Option<&Spelling>, types: &'s [TypeId]) -> &'s [TypeId]
 }
 
 /// The name of an arm. Takes memory for it.
-fn arm_name(alloc: Global, name: Option<&Spelling>) -> Result<Option<Name>, Memory>
+fn arm_name(alloc: Global, name: Option<&Identifier>) -> Result<Option<Name>, Memory>
     ensures { IfOk result (λ n. n ≡ option_map (λ s. s.now.octets) name.entry) }
 {
     match name {
@@ -209,7 +209,7 @@ fn arm_name(alloc: Global, name: Option<&Spelling>) -> Result<Option<Name>, Memo
 /// An arm for a label. Takes memory for its name.
 fn arm_for(
     alloc: Global,
-    name: Option<&Spelling>,
+    name: Option<&Identifier>,
     of: Option<TypeId>,
     label: i128,
 ) -> Result<nd::Arm, Memory>
@@ -223,7 +223,7 @@ fn arm_for(
 fn add_arm(
     alloc: Global,
     arms: &mut Arms,
-    name: Option<&Spelling>,
+    name: Option<&Identifier>,
     of: Option<TypeId>,
     label: Option<i128>,
 ) -> Result<(), Memory>
@@ -243,7 +243,7 @@ fn add_arm(
 fn add_arms(
     alloc: Global,
     arms: &mut Arms,
-    name: Option<&Spelling>,
+    name: Option<&Identifier>,
     of: Option<TypeId>,
     labels: &[Option<i128>],
 ) -> Result<(), Memory>

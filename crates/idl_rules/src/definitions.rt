@@ -184,7 +184,7 @@ fn enum_of(alloc: Global, scope: &Scope, enumerators: &[Enumerator]) -> Result<T
 {
     let mut values = nd::Numbers::new(alloc);
     for enumerator in enumerators {
-        let value = value_of(scope, enumerator.name.octets.as_slice());
+        let value = value_of(scope, enumerator.name.as_slice());
         match values.push(value) {
             Ok(()) => {}
             Err(_) => return Err(Memory),

@@ -14,7 +14,7 @@ use crate::listed::indexes;
 use crate::nodes::Declared;
 use crate::numbering::Numbers;
 use crate::words::{Word, has};
-use idl_grammar::{Attribute, AttributeKind, Spelling, Variable, VariableWord};
+use idl_grammar::{Attribute, AttributeKind, Identifier, Variable, VariableWord};
 use idl_names::Table;
 use nd_base::{Memory, Name};
 use nd_types::{Attr, AttrVar, AttrVars, Field, Fields, Param, Params, TypeId, Way};
@@ -66,7 +66,7 @@ fn variable(table: &Table<u32>, attr: Attr, variable: &Variable) -> AttrVar
 {
     AttrVar {
         attr,
-        var: index_of(table, variable.name.octets.as_slice()),
+        var: index_of(table, variable.name.as_slice()),
         star: variable.star,
     }
 }

@@ -7,7 +7,7 @@ use Rattle.nd_graph.specs.Setting.{Among}
 use Rattle.nd_graph.specs.Canon.{has, number_from, canonical_number}
 use Rattle.nd_grammar.proofs.Counting.{Distinct, no_longer, down, length_down, among_down}
 
-has_among : (xs : List ℕ) (c : ℕ) → has xs c ≡ true → Among xs c
+pub has_among : (xs : List ℕ) (c : ℕ) → has xs c ≡ true → Among xs c
 has_among [] c e = cc
 has_among (x ∷ xs) c e = go (eqb c x) refl e (has_among xs c)
   where
@@ -15,7 +15,7 @@ has_among (x ∷ xs) c e = go (eqb c x) refl e (has_among xs c)
     go true f h r = inl (eqb-true c x f)
     go false f h r = inr (r h)
 
-among_has : (xs : List ℕ) (c : ℕ) → Among xs c → has xs c ≡ true
+pub among_has : (xs : List ℕ) (c : ℕ) → Among xs c → has xs c ≡ true
 among_has [] c m = absurd m
 among_has (x ∷ xs) c (inl e) = ap (λ b. cond b true (has xs c)) (eq-eqb c x e)
 among_has (x ∷ xs) c (inr m) = go (eqb c x) (among_has xs c m)

@@ -31,6 +31,7 @@ pub mod MadeTrees
 pub mod Mapped
 pub mod Matching
 pub mod NamedAlike
+pub mod NamedOrder
 pub mod Next
 pub mod NextDeferral
 pub mod NextInPlace
@@ -52,11 +53,9 @@ pub mod PlainChosen
 pub mod PlainConforms
 pub mod PlainGraphs
 pub mod PlainNumbers
-pub mod PlainRefused
 pub mod PlainSides
 pub mod PlainSteps
 pub mod PlainStreams
-pub mod PlainVerdict
 pub mod PlainWritten
 pub mod PointerPlaces
 pub mod Ranges
@@ -109,7 +108,6 @@ pub mod WorkedLarge
 pub mod WorkedLayout
 pub mod WorkedPlain
 pub mod WorkedPointers
-pub mod WorkedReading
 pub mod WorkedResponses
 pub mod WorkedUnions
 pub mod WritableTrees

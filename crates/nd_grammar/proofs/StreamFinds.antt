@@ -73,7 +73,7 @@ module _ (w : Setting) (g : Graph) (s : IsSound w g) (laid : IsLaidOut w) (subje
   full_stands seen (d ∷ done) c (inr h) a = full_stands seen done c h a.1
 
   -- a pointer whose agreements fit its referent, which is there
-  record PendFits (p : Pending) : Type 0 where
+  pub record PendFits (p : Pending) : Type 0 where
     pub fits : AllFit (type_at table p.to) p.agreements
     pub pointee : (c : ℕ) → p.cell ≡ Some c → (x : Referent) × (cell_of_number g c ≡ Some x) × (x.of ≡ p.to)
 
@@ -132,8 +132,11 @@ module _ (w : Setting) (g : Graph) (s : IsSound w g) (laid : IsLaidOut w) (subje
   due_fit [] a = tt
   due_fit (p ∷ ps) a = (a.0, due_fit ps a.1)
 
+  pub standing_pends : (x : Standing) → Known g table (x.of ∷ []) (more x.val none) → AllByRecursion PendFits (home_pointers table x.home x.of x.val)
+  standing_pends x k = pointers_fit x.home (x.of ∷ []) [] 0 (more x.val none) k (none_fit_one x.of)
+
   standing_fits : (x : Standing) → Known g table (x.of ∷ []) (more x.val none) → AllByRecursion DueFits (due_of table x)
-  standing_fits x k = due_fit (home_pointers table x.home x.of x.val) (pointers_fit x.home (x.of ∷ []) [] 0 (more x.val none) k (none_fit_one x.of))
+  standing_fits x k = due_fit (home_pointers table x.home x.of x.val) (standing_pends x k)
 
   -- a pointer's referent stands
   abbrev PendMet : List Entry → Pending → Type 0
@@ -153,7 +156,7 @@ module _ (w : Setting) (g : Graph) (s : IsSound w g) (laid : IsLaidOut w) (subje
   met_pointers seen (p ∷ ps) a = (a.0, met_pointers seen ps a.1)
 
   -- a value that stands as a whole, known, and its cell where it is one
-  record Whole (x : Standing) : Type 0 where
+  pub record Whole (x : Standing) : Type 0 where
     pub known : Known g table (x.of ∷ []) (more x.val none)
     pub its_cell : (b : ℕ) → x.home ≡ cell_home b → (y : Referent) → cell_of_number g b ≡ Some y → (y.of ≡ x.of) × (y.val ≡ x.val)
 
@@ -161,7 +164,7 @@ module _ (w : Setting) (g : Graph) (s : IsSound w g) (laid : IsLaidOut w) (subje
   home_number (home.Root i) = 0
   home_number (home.Cell c) = c.0
 
-  cell_whole : (c t : ℕ) (x : Referent) → cell_of_number g c ≡ Some x → x.of ≡ t → Whole (record { home = cell_home c; of = t; val = cell_at g c })
+  pub cell_whole : (c t : ℕ) (x : Referent) → cell_of_number g c ≡ Some x → x.of ≡ t → Whole (record { home = cell_home c; of = t; val = cell_at g c })
   cell_whole c t x e f = record {
     known =
         subst (λ u. Known g table (t ∷ []) (more u none)) (sym (ap cell_tree e))
@@ -182,7 +185,7 @@ module _ (w : Setting) (g : Graph) (s : IsSound w g) (laid : IsLaidOut w) (subje
   root_whole_tree : (i t : ℕ) (v : Tree) → Known g table (t ∷ []) (more v none) → Whole (standing_by g i t v (direct (type_at table t) v))
   root_whole_tree i t (node l ks) k = root_whole_by i t l ks k (direct (type_at table t) (node l ks)) refl
 
-  root_whole : (i : ℕ) (r : Root) → slice_get (root_list w) i ≡ Some r → Whole (standing_root w g i)
+  pub root_whole : (i : ℕ) (r : Root) → slice_get (root_list w) i ≡ Some r → Whole (standing_root w g i)
   root_whole i r e =
       subst (λ t. Whole (standing_by g i t (root_at g i) (direct (type_at table t) (root_at g i)))) (sym (ap root_type e)) (root_whole_tree i r.of (root_at g i) (known_roots w g s i r e))
 
@@ -288,7 +291,7 @@ module _ (w : Setting) (g : Graph) (s : IsSound w g) (laid : IsLaidOut w) (subje
   abbrev RootReady : List Entry → ℕ → Root → Tree → Type 0
   RootReady seen i r v = (r.vars ≡ []) ⊎ (RootFits table r × Known g table (r.of ∷ []) (more v none) × StandsMet seen (standing_by g i r.of v (direct (type_at table r.of) v)))
 
-  no_root_tests : (i : ℕ) (l : Label) (ks : Trees) (ags : List Agreement) → ags ≡ [] → root_test g i (node l ks) ags ≡ []
+  pub no_root_tests : (i : ℕ) (l : Label) (ks : Trees) (ags : List Agreement) → ags ≡ [] → root_test g i (node l ks) ags ≡ []
   no_root_tests i (tree.Ptr None) ks ags e = refl
   no_root_tests i (tree.Ptr (Some c)) ks ags e = ap (tests (cell_home c) 0 (cell_at g c)) e
   no_root_tests i (tree.Num z) ks ags e = ap (tests (home.Root i) 0 (node (tree.Num z) ks)) e

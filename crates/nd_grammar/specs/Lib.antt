@@ -21,3 +21,4 @@ pub mod Reader
 pub mod StreamReader
 pub mod FewItems
 pub mod Tested
+pub mod NamedOrder

@@ -3,7 +3,7 @@ use Rattle.std.proofs.Common.{◌≡◌, ℕ, zero, suc, ◌+◌, Bool, true, fa
 use Rattle.std.specs.Prelude.{◌⊎◌, filter, cond, eqb, nat_le}
 use Rattle.std.proofs.Common.{inl, inr}
 use Rattle.std.specs.List.{list_all, slice_get, AllByRecursion}
-use Rattle.std.proofs.lemmas.Bool.{and_parts, and_left}
+use Rattle.std.proofs.lemmas.Bool.{and_parts}
 use Rattle.nd_base.specs.Text.{is_word, is_identifier}
 use Rattle.nd_types.specs.declared.types.TypeDef.{TypeDef}
 use Rattle.nd_types.specs.declared.types.TypeDef.TheVariants as def
@@ -77,7 +77,7 @@ roots_words w n =
 
 
 identifier_word : (name : List ℕ) → is_identifier name ≡ true → is_word name ≡ true
-identifier_word name h = and_left (is_word name) (nat_le (length name) 31) h
+identifier_word name h = (and_parts (is_word name) (nat_le (length name) 31) h).0
 
 params_named : (ps : List Param) → list_all (λ (p : Param). is_identifier p.field.name) ps ≡ true → list_all (λ (p : Param). is_word p.field.name) ps ≡ true
 params_named [] h = refl
