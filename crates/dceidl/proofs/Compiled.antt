@@ -25,7 +25,7 @@ use Rattle.nd_base.specs.Counts.{Rose}
 use Rattle.nd_base.specs.Over.{FilesSeen, HasRisen}
 use Rattle.dceidl.specs.Ready.{IsTextCause, IsIdlCause}
 use Rattle.dceidl.proofs.Walks.{walk_absent, walk_failed, last_source}
-use Rattle.std.specs.Prelude.{drop, option_to_list}
+use Rattle.std.specs.Prelude.{drop, option_to_list, IfOk, Result, Ok}
 use Rattle.idl_names.specs.Files.{IsFile}
 use Rattle.idl_names.specs.Walk.{State, names_of, AsksAlong}
 use Rattle.idl_grammar.specs.Tree.{Tree}
@@ -244,6 +244,11 @@ imports_asked held idl text tree sources asked asked_now parsed same a =
     let walk = subst (λ (m : List Source). Walk held (start m) (all_of 0 tree) (Stopped a.reached names.Memory)) same a.walk in
     record {
       rest = names_of (drop 1 a.reached);
-      asked_is = a.asked_are ∙ ap (λ (m : List Source). asked ++ names_of (drop (length m) a.reached)) same;
+      asked_is = a.asked ∙ ap (λ (m : List Source). asked ++ names_of (drop (length m) a.reached)) same;
       due = λ content acf. subst (AreAsked held idl acf) (reached_names held idl text content tree parsed a.reached walk) (along held idl text content tree parsed a.reached walk acf);
     }
+
+-- what holds in any case holds of an answer
+pub always : {T E : Type 0} {P : Type 0} (r : Result T E) → P → IfOk r (λ x. P)
+always (Ok x) h = h
+always (Err e) h = tt

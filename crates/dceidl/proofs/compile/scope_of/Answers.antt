@@ -5,7 +5,7 @@ use Rattle.idl_grammar.specs.Seen.{seen_tree}
 use Rattle.idl_names.specs.Seen.{seen_scope}
 use Rattle.idl_names.specs.Walk.{IsResolved, IsRefused, names_of}
 use Rattle.dceidl.proofs.AskedFiles.{main_asked}
-use Rattle.dceidl.proofs.Compiled.{one_source, main_absent, main_failed, imports_asked}
+use Rattle.dceidl.proofs.Compiled.{one_source, main_absent, main_failed, imports_asked, always}
 use Rattle.dceidl.proofs.compile.scope_of.Goals as goal
 
 pub returns-in_err-tree-clause-absent : goal.returns-in_err-tree-clause-absent
@@ -52,6 +52,4 @@ returns-clause-asked g c idl text same =
 
 pub returns-clause-all_asked : goal.returns-clause-all_asked
 returns-clause-all_asked g c =
-    IfOk-weaker c.resolve.result _ _
-    (λ scope e. e ∙ ap (λ n. g.F.Files.asked c.args.files.now ++ names_of (drop n c.resolve.new.sources)) c.requires)
-    c.resolve.ensures.all_asked
+    always c.resolve.result (c.resolve.ensures.all_asked ∙ ap (λ n. g.F.Files.asked c.args.files.now ++ names_of (drop n c.resolve.new.sources)) c.requires)
