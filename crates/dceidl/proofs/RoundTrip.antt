@@ -78,7 +78,7 @@ module _ (w : Setting) (order : Order) (ps : List Primitive) (plain : IsPlain w 
       same_numbers zs d.is_text.canonical (subst (λ g. Same g d.is_text.canonical) numbers d.is_text.is_canonical.same) ∙ sym numbers
 
   pub reads_back : length text ≤ TEXT_LIMIT → ReadsAs w text d.graph
-  reads_back short = subst (ReadsAs w text) canonical_is (printed_reads w d.graph text d.is_text side legal d.conforms short)
+  reads_back short = subst (ReadsAs w text) canonical_is (printed_reads w d.graph text d.is_text legal d.conforms short)
 
   pub represented_again : (other : Order) (chunk : ℕ) (made : List ℕ) → IsEncoding w other chunk text made → Represents w other made d.graph
   represented_again other chunk made e =
