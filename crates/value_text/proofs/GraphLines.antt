@@ -1,6 +1,6 @@
 -- The lines of a graph's text are kept: their tokens are tokens of a text, and a UUID stands exactly where one is due.
 -- `d` is a node's type, `l` its label, `values` are the pieces of values.
-use Rattle.std.proofs.Common.{◌≡◌, ℕ, suc, ◌+◌, ◌<◌, ◌≤◌, ◌^◌, ℤ, Bool, true, false, not, eqb, List, [], ◌∷◌, ◌++◌, length, map, Option, Some, None, refl, ap, sym, ◌∙◌, subst, arith, codes, lit<, unsigned_abs}
+use Rattle.std.proofs.Common.{◌≡◌, ℕ, ◌+◌, ◌<◌, ◌≤◌, ◌^◌, Bool, true, false, not, eqb, List, [], ◌∷◌, ◌++◌, length, map, Option, Some, None, refl, sym, subst, arith, codes, lit<, unsigned_abs}
 use Rattle.std.specs.Prelude.{pos}
 use Rattle.std.specs.List.{list_all, AllByRecursion}
 use Rattle.std.proofs.lemmas.List.{map-append}
@@ -27,12 +27,12 @@ use Rattle.nd_graph.specs.Misfit.{is_octet}
 use Rattle.nd_graph.proofs.Apart.{all_left, all_right}
 use Rattle.nd_graph.specs.Tree.{node_count}
 use Rattle.value_text.specs.declared.TheConstants.{TEXT_LIMIT}
-use Rattle.value_text.specs.Tokens.{Token, Word, Number, Cell, Str, Uuid, Mark, is_mark, skip}
-use Rattle.value_text.specs.Written.{Piece, Name, Other, token_of, separated, enclosed, named, members, node_pieces, values_pieces, value_pieces, side_word, root_name, root_lines, cell_lines, graph_lines}
+use Rattle.value_text.specs.Tokens.{Token, Word, Number, Cell, Str, Mark, is_mark}
+use Rattle.value_text.specs.Written.{Piece, Other, token_of, separated, enclosed, named, members, node_pieces, values_pieces, value_pieces, side_word, root_name, root_lines, cell_lines, graph_lines}
 use Rattle.value_text.specs.Printed.{graph_text}
 use Rattle.value_text.specs.Readable.{IsReadable}
 use Rattle.value_text.specs.Reads.{ReadsAs}
-use Rattle.value_text.proofs.KeptTokens.{Kept, KeptPieces, kept_none, kept_more, kept_both, kept_context, lines_read, AreRead, IsCalm, is_simple}
+use Rattle.value_text.proofs.KeptTokens.{Kept, KeptPieces, kept_none, kept_more, kept_both, kept_context, lines_read, is_simple}
 use Rattle.value_text.proofs.SpelledTokens.{IsToken}
 
 -- the numbers and octets of a label stand in a text
