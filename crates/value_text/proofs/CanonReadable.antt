@@ -26,7 +26,7 @@ use Rattle.nd_graph.proofs.Apart.{all_weaker, all_left, all_right, all_append, a
 use Rattle.nd_graph.proofs.NodeFacts.{fit_node, all_of_list}
 use Rattle.nd_graph.proofs.Orderly.{Pointee, PointerFits, pointees}
 use Rattle.nd_grammar.specs.LegalSide.{IsLegalSide}
-use Rattle.nd_grammar.proofs.Counting.{Distinct, no_longer, down, among_down}
+use Rattle.nd_grammar.proofs.next.Counting.{Distinct, no_longer, down, among_down}
 use Rattle.nd_grammar.proofs.RenumberedEntries.{count_same, carried, PendLike, AllPend, pointers_alike}
 use Rattle.nd_grammar.proofs.PlainStreams.{Suffix, suffix_next, suffix_first, suffix_whole}
 use Rattle.value_text.specs.Readable.{IsReadable, AreNamed, first_type, is_cell, has_text_form}

@@ -20,10 +20,10 @@ use Rattle.nd_graph.specs.Conforms.{Conforms}
 use Rattle.nd_graph.proofs.Apart.{all_append, among_left, among_right}
 use Rattle.nd_graph.proofs.DeferralExists.{direct_is, direct_pointer}
 use Rattle.nd_grammar.specs.LegalSide.{IsLegalSide}
-use Rattle.nd_grammar.proofs.CanonNumbers.{number_low}
-use Rattle.nd_grammar.proofs.GoodStream.{DueGood, StandsGood, standing_due, root_good, pending_cell}
+use Rattle.nd_grammar.proofs.written.CanonNumbers.{number_low}
+use Rattle.nd_grammar.proofs.conforming.GoodStream.{DueGood, StandsGood, standing_due, root_good, pending_cell}
 use Rattle.nd_grammar.proofs.ChosenRepresents.{none_inside, w_roots, of_named, own_within, dues}
-use Rattle.nd_grammar.proofs.WritableTrees.{WritableTrees}
+use Rattle.nd_grammar.proofs.written.WritableTrees.{WritableTrees}
 
 -- ## Lists of cells
 
