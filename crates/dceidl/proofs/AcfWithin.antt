@@ -18,10 +18,9 @@ use Rattle.acf_reader.specs.Reading.{acf_read}
 use Rattle.acf_reader.specs.Answers.{IsAnswer, acf_answer}
 use Rattle.acf_reader.specs.Told.{Told}
 use Rattle.acf_reader.proofs.AcfExact.{acf_exact}
-use Rattle.acf_reader.proofs.AcfLaws.{acf_answered_alone}
-use Rattle.acf_reader.proofs.RealTokens.{lexemes_real}
-use Rattle.dceidl.specs.Reading.{IsOfText}
-use Rattle.dceidl.proofs.Within.{same_fault, clash_results, fault_front}
+use Rattle.acf_reader.proofs.AcfLaws.{acf_answered_alone, lexemes_real}
+use Rattle.idl_names.specs.Loads.{IsOfText}
+use Rattle.idl_names.proofs.Loads.{same_fault, clash_results, fault_front}
 
 module _ (l : Lexed) where
   token_count : length (lexemes l) ≡ length l.tokens

@@ -13,7 +13,6 @@ pub mod OneReading
 pub mod WholeMisfits
 pub mod OneWriting
 pub mod RoundTrip
-pub mod Within
 pub mod AcfWithin
 pub mod OneFile
 pub mod OneAcf

@@ -11,8 +11,7 @@ use Rattle.idl_parser.specs.declared.fault.SyntaxFault.TheVariants as syntax
 use Rattle.acf_reader.specs.Lexemes.{lexemes}
 use Rattle.acf_reader.specs.Tree.{Acf}
 use Rattle.acf_reader.specs.Answers.{acf_answer}
-use Rattle.acf_reader.proofs.AcfLaws.{acf_answered_alone}
-use Rattle.acf_reader.proofs.RealTokens.{lexemes_real}
+use Rattle.acf_reader.proofs.AcfLaws.{acf_answered_alone, lexemes_real}
 use Rattle.dceidl.specs.declared.refusal.IdlReason.{IdlReason}
 use Rattle.dceidl.specs.declared.refusal.IdlReason.TheVariants as reason
 use Rattle.dceidl.specs.AcfFile.{IsAcfRead, IsAcf, IsNoAcf}

@@ -17,13 +17,6 @@ use Rattle.dceidl.specs.declared.refusal.Refusal.TheVariants.{Memory, Absent, Fi
 use Rattle.dceidl.specs.Asked.{AreAsked, all_due}
 use Rattle.dceidl.specs.Idl.{Means, word_at, reported_by, IsAcfFault}
 
--- the token of a fault is one of the text, or its end
-abbrev pub IsOfText : Lexed → SyntaxFault → Type 0
-IsOfText l parser.Memory = Unit {0}
-IsOfText l (parser.Syntax k) = k ≤ length l.tokens
-IsOfText l (parser.Deep k) = k < length l.tokens
-IsOfText l (parser.Banned k) = k < length l.tokens
-
 -- what is reported of tokens that are not a file of the language for a fault
 abbrev pub IsReportedUnparsed : Lexed → SyntaxFault → NameFault → Type 0
 IsReportedUnparsed l parser.Memory f = f ≡ names.Memory

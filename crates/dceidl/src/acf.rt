@@ -2,10 +2,11 @@
 ghost use Rattle.std.specs.Prelude.{◌≡◌, [], ◌∷◌, ◌++◌, option_map, option_to_list, IfOk, IfErr};
 ghost use Rattle.nd_base.specs.Over.{files_seen};
 ghost use Rattle.idl_lexer.specs.Verdict.{IsFault};
+ghost use Rattle.idl_names.specs.Loads.{IsOfText};
 ghost use Rattle.acf_reader.specs.Seen.{seen_acf};
 ghost use Rattle.dceidl.specs.AcfFile.{IsAcf, IsLoadedAcf, IsBeside};
 ghost use Rattle.dceidl.specs.Loaded.{seen_file, seen_beside};
-ghost use Rattle.dceidl.specs.Reading.{IsOfText, IsAcfCause, IsBesideCause, IsReportedAcf, IsReportedUnread};
+ghost use Rattle.dceidl.specs.Reading.{IsAcfCause, IsBesideCause, IsReportedAcf, IsReportedUnread};
 
 use crate::load::load;
 use crate::refusal::{IdlReason, Refusal};

@@ -6,6 +6,7 @@ ghost use Rattle.nd_base.specs.Over.{files_seen};
 ghost use Rattle.acf_reader.specs.Seen.{seen_acf};
 ghost use Rattle.idl_grammar.specs.Seen.{seen_tree};
 ghost use Rattle.idl_names.specs.Files.{IsFile};
+ghost use Rattle.idl_names.specs.Loads.{IsOfText};
 ghost use Rattle.idl_names.specs.Seen.{seen_scope};
 ghost use Rattle.idl_names.specs.Causes.{IsAbsent, IsFailed};
 ghost use Rattle.idl_names.specs.Walk.{names_of};
@@ -14,7 +15,7 @@ ghost use Rattle.dceidl.specs.Asked.{AsksFiles};
 ghost use Rattle.dceidl.specs.Idl.{main_file, AreResolved, Means, IsMainFault, IsNameFault};
 ghost use Rattle.dceidl.specs.Loaded.{seen_beside};
 ghost use Rattle.dceidl.specs.Ready.{IsCompiled, IsListed, IsIdlCause, IsTextCause};
-ghost use Rattle.dceidl.specs.Reading.{IsOfText, IsReportedUnparsed, IsJudged, MeansAfter, AsksAfter, AsksOfImports};
+ghost use Rattle.dceidl.specs.Reading.{IsReportedUnparsed, IsJudged, MeansAfter, AsksAfter, AsksOfImports};
 
 use crate::acf::{NamedAcf, load_beside};
 use crate::load::load;

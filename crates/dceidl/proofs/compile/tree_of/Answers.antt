@@ -1,4 +1,4 @@
-use Rattle.dceidl.proofs.Within.{fault_within}
+use Rattle.idl_names.proofs.Loads.{fault_within}
 use Rattle.dceidl.proofs.Compiled.{unparsed_main}
 use Rattle.dceidl.proofs.compile.tree_of.Goals as goal
 
