@@ -28,7 +28,7 @@ from typing import List, Optional, Sequence
 ROOT = Path(__file__).resolve().parent.parent
 MEGABYTE = 1_000_000
 PARAMETERS = 256
-STREAM_LIMIT = 16_777_216
+STREAM_LIMIT = 67_108_864
 FILE_LIMIT = 1_048_576
 TYPE_LIMIT = 4_096
 BASIC_TYPES = 12

@@ -6,7 +6,7 @@ import os
 from dataclasses import dataclass, field
 from enum import Enum
 from pathlib import Path
-from typing import Callable, Mapping, Sequence, Union
+from typing import Callable, List, Mapping, Sequence, Tuple, Union
 
 ROOT = Path(__file__).resolve().parent.parent
 
@@ -88,6 +88,19 @@ class Case:
 
 
 @dataclass(frozen=True)
+class Command:
+    """A command line as a page of this repository shows it, run by a shell at the top of the clone.
+
+    `shown` is what it prints on standard output and standard error together. The name bin/dceidl stands for the program that
+    is tested.
+    """
+
+    name: str
+    line: str
+    shown: bytes
+
+
+@dataclass(frozen=True)
 class Check:
     """A case of another kind: `find` answers what is wrong, a line each. It may run bin/dceidl by itself."""
 
@@ -104,6 +117,21 @@ def octets(text: str) -> bytes:
 def lines(*texts: str) -> bytes:
     """Lines of text, each with its line feed."""
     return "".join(text + "\n" for text in texts).encode()
+
+
+def commands(page: str) -> List[Command]:
+    """The lines of a page that begin with `$`, in blocks of four spaces, each with the lines that it shows behind it."""
+    found: List[Tuple[str, List[str]]] = []
+    open_block = False
+    for text in (ROOT / page).read_text(encoding="utf-8").splitlines():
+        if text.startswith("    $ "):
+            found.append((text[6:], []))
+            open_block = True
+        elif open_block and text.startswith("    "):
+            found[-1][1].append(text[4:])
+        else:
+            open_block = False
+    return [Command(f"{page}: {line}", line, lines(*shown)) for line, shown in found]
 
 
 def interface(*operations: str, name: str = "t") -> bytes:

@@ -1,13 +1,12 @@
 #!/usr/bin/env python3
 """Runs the end-to-end cases of tests/cases on the real program.
 
-    tests/run.py [--next] [--program PATH] [NAME ..]
+    tests/run.py [--program PATH] [NAME ..]
 
-With names only the cases run whose name contains one of them. `--next` runs the cases of files next_*.py, which are
-written for a request that is not built yet, in place of those of until_*.py, which it ends. `--program` runs another
-program than bin/dceidl, which is built first where it has to be. tests/README.md says how to add a case.
+With names, only the cases run whose name contains one of them. `--program` runs another program than bin/dceidl, which is
+otherwise built first if it is out of date. tests/README.md says how to add a case.
 
-The last line is 'N passed, M failed', and the status is 1 where a case failed.
+The last line is 'N passed, M failed', and the status is 1 if a case failed.
 """
 
 from __future__ import annotations
@@ -16,6 +15,7 @@ import argparse
 import fcntl
 import importlib.util
 import os
+import shlex
 import subprocess
 import sys
 import tempfile
@@ -29,8 +29,9 @@ from typing import BinaryIO, List, Optional, Sequence, Union
 
 sys.dont_write_bytecode = True
 
-from case import ROOT, Begins, Case, Check, Folder, LinkTo, OneAtATime, Sparse, Stream, Unreadable, printable
+from case import ROOT, Begins, Case, Check, Command, Folder, LinkTo, OneAtATime, Sparse, Stream, Unreadable, printable
 
+AnyCase = Union[Case, Command, Check]
 SECONDS = 60
 SHOWN = 400  # octets of a long text that a failure shows
 
@@ -48,7 +49,7 @@ class Ran:
 # The cases
 
 
-def load(path: Path) -> List[Union[Case, Check]]:
+def load(path: Path) -> List[AnyCase]:
     """The cases of one file."""
     spec = importlib.util.spec_from_file_location(path.stem, path)
     module = importlib.util.module_from_spec(spec)
@@ -56,15 +57,9 @@ def load(path: Path) -> List[Union[Case, Check]]:
     return module.CASES
 
 
-def is_due(path: Path, following: bool) -> bool:
-    """Whether a file of cases is one for what is built now, or, where asked, for what follows."""
-    return not path.stem.startswith("until_" if following else "next_")
-
-
-def due_cases(names: Sequence[str], following: bool) -> List[Union[Case, Check]]:
+def chosen_cases(names: Sequence[str]) -> List[AnyCase]:
     """The cases that run, in the order of their files' names."""
-    paths = sorted((ROOT / "tests" / "cases").glob("*.py"))
-    cases = [case for path in paths if is_due(path, following) for case in load(path)]
+    cases = [case for path in sorted((ROOT / "tests" / "cases").glob("*.py")) for case in load(path)]
     known = set()
     for case in cases:
         if case.name in known:
@@ -179,8 +174,19 @@ def run(program: str, case: Case) -> Ran:
         return finish(child, case)
 
 
+def run_command(program: str, case: Command) -> bytes:
+    """Runs a line of a page, and gives what it prints."""
+    line = case.line.replace("bin/dceidl", shlex.quote(program))
+    try:
+        ran = subprocess.run(["/bin/sh", "-c", line], cwd=ROOT, stdin=subprocess.DEVNULL, stdout=subprocess.PIPE,
+                             stderr=subprocess.STDOUT, timeout=SECONDS)
+    except subprocess.TimeoutExpired as ran_on:
+        return (ran_on.output or b"") + f"no end after {SECONDS} seconds\n".encode()
+    return ran.stdout
+
+
 # ----------------------------------------------------------------------------------------------------------------------
-# What is told
+# What is reported
 
 
 def shown(octets: bytes) -> List[str]:
@@ -198,7 +204,7 @@ def is_met(wanted: Union[bytes, Begins], found: bytes) -> bool:
 
 
 def difference(what: str, wanted: Union[bytes, Begins, Stream], found: bytes) -> List[str]:
-    """What is wrong with a stream; one that is no pipe tells nothing."""
+    """What is wrong with a stream; of one that is not a pipe nothing is known."""
     if isinstance(wanted, Stream) or is_met(wanted, found):
         return []
     word = "begins" if isinstance(wanted, Begins) else "wanted"
@@ -207,24 +213,26 @@ def difference(what: str, wanted: Union[bytes, Begins, Stream], found: bytes) ->
     return [line for want, have in pairs for line in (f"  {what}: {word} {want}", f"  {what}: found  {have}")]
 
 
-def faults(program: str, case: Union[Case, Check]) -> List[str]:
+def faults(program: str, case: AnyCase) -> List[str]:
     """What is wrong, a line each."""
     if isinstance(case, Check):
         return ["  " + fault for fault in case.find()]
+    if isinstance(case, Command):
+        return difference("shown", case.shown, run_command(program, case))
     ran = run(program, case)
     found = [] if ran.status == case.status else [f"  status: wanted {case.status}, found {ran.status}"]
     found += difference("out", case.out, ran.out) + difference("notes", case.notes, ran.notes)
     return found and ["  words: " + " ".join(printable(word) for word in case.words)] + found
 
 
-def needs_program(case: Union[Case, Check]) -> bool:
+def needs_program(case: AnyCase) -> bool:
     """Whether a case can't be judged without a program."""
-    return isinstance(case, Case) or case.runs_script
+    return not isinstance(case, Check) or case.runs_script
 
 
 def build(program: str) -> Optional[str]:
-    """Has bin/dceidl build the program; what it said, where it could not."""
-    print("building the program where it is older than its sources ..", flush=True)
+    """Has bin/dceidl build the program; what it said if it could not."""
+    print("building the program if it is older than its sources ..", flush=True)
     built = subprocess.run([program, "--version"], stdin=subprocess.DEVNULL, capture_output=True)
     return None if built.returncode == 0 else built.stderr.decode("utf-8", "backslashreplace")
 
@@ -232,10 +240,9 @@ def build(program: str) -> Optional[str]:
 def main() -> int:
     parser = argparse.ArgumentParser(description="Runs the end-to-end cases.")
     parser.add_argument("names", nargs="*", metavar="NAME", help="run only the cases whose name contains NAME")
-    parser.add_argument("--next", action="store_true", help="run the cases of what is not built yet")
     parser.add_argument("--program", help="the program to run, in place of bin/dceidl")
     asked = parser.parse_args()
-    cases = due_cases(asked.names, asked.next)
+    cases = chosen_cases(asked.names)
     if asked.program:
         cases = [case for case in cases if not getattr(case, "runs_script", False)]
     program = os.path.abspath(asked.program or ROOT / "bin" / "dceidl")

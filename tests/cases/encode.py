@@ -9,7 +9,7 @@ ADD_LITTLE = octets("01000000 0200 0000 0300000000000000")
 ADD_BIG = octets("00000001 0002 0000 0000000000000003")
 PING = interface("void ping();")
 PING_TEXT = lines("values 1", "op ping in")
-TEXT_LIMIT = 268_435_456
+TEXT_LIMIT = 536_870_912
 
 
 def encode(name, file, operation, text, order="little", chunk="1", **wanted):

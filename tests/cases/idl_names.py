@@ -98,6 +98,7 @@ IMPORTS = [
     imported("Rule 5", "the same rule in both files", with_import("long;"), u=file("§long;")),
     imported("Rule 5", "a lesser rule in the main file", with_import("§long;"), u=file("typedef void v;")),
     accepted("an import of types", with_import("typedef n m;"), u=file("typedef long n;")),
+    accepted("an import whose name has escapes", f'{HEADER} interface t {{ import "u\\"\\\\v.idl"; void f([in] small x); }}', **{'u"\\v': file()}),
     accepted("an import twice", f'{HEADER} interface t {{ import "u.idl", "u.idl"; void f([in] small x); }}', u=file("typedef long n;")),
     accepted("operations of imports are passed over", with_import(), u=file("void f([in] no_t x); void f();")),
     accepted("an import loaded by two files", f'{HEADER} interface t {{ import "u.idl", "v.idl"; void f([in] small x); }}',

@@ -30,12 +30,12 @@ module _ (c : List ℕ) where
   joined (x ∷ xs) ys o = ap (λ (s : ℕ). cond (bytes_eq c x.octets) x.symbol s) (joined xs ys o)
 
   -- a word that is no name of IDL keeps its symbol
-  kept : (s : ℕ) → is_in names_of_idl s ≡ false → symbol_from s c ≡ s
+  pub kept : (s : ℕ) → is_in names_of_idl s ≡ false → symbol_from s c ≡ s
   unfolding symbol_from
   kept s h = ap (λ (b : Bool). cond b (symbol_among own_words symbol.Name c) s) h
 
   -- any other is looked up among the file's own
-  looked_up : (s : ℕ) → is_in names_of_idl s ≡ true → symbol_from s c ≡ symbol_among own_words symbol.Name c
+  pub looked_up : (s : ℕ) → is_in names_of_idl s ≡ true → symbol_from s c ≡ symbol_among own_words symbol.Name c
   unfolding symbol_from
   looked_up s h = ap (λ (b : Bool). cond b (symbol_among own_words symbol.Name c) s) h
 

@@ -10,4 +10,5 @@ pub mod AcfExamples
 pub mod Harmless
 mod Tables
 mod FromIdl
+mod Formed
 mod Answered

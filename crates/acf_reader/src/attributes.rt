@@ -13,7 +13,7 @@ ghost use Rattle.acf_reader.specs.Reading.{ident_read, handle_type_read, variabl
 
 use crate::tree::{Attribute, AttributeKind, Attributes, HandleType};
 use crate::words;
-use idl_grammar::Spelling;
+use idl_grammar::Identifier;
 use idl_parser::parser::Parser;
 use idl_parser::symbol;
 use phrases::Refusal;
@@ -86,12 +86,12 @@ pub(crate) fn is_name(parser: &Parser<'_>, inside: bool, at: usize) -> bool
 }
 
 /// A name, inside attribute brackets or outside.
-#[tactic(auto, using(crate::proofs::Within::name_within))]
+#[tactic(auto, using(crate::proofs::Within::name_within, crate::proofs::Within::name_is_word))]
 pub(crate) fn ident(
     parser: &Parser<'_>,
     inside: bool,
     at: usize,
-) -> Result<(Spelling, usize), Refusal>
+) -> Result<(Identifier, usize), Refusal>
     requires within { at ≤ length parser.now }
     ensures gives { Gives (λ x. x) result (ident_read inside parser.now at) }
     ensures within { IfOk result (λ x. (at < x.1) × (x.1 ≤ length parser.now)) }
@@ -99,7 +99,7 @@ pub(crate) fn ident(
     if !is_name(parser, inside, at) {
         return Err(Refusal::Syntax(at));
     }
-    Ok((parser.copied(at)?, parser.past(at)))
+    Ok((parser.word(at)?, parser.past(at)))
 }
 
 /// `handle_t` or the name of a type.
@@ -119,7 +119,7 @@ fn handle_type(parser: &Parser<'_>, at: usize) -> Result<(HandleType, usize), Re
 
 /// The type and the name of a variable.
 #[tactic(auto, unfolding(crate::specs::Reading::variable_read))]
-fn variable(parser: &Parser<'_>, at: usize) -> Result<((HandleType, Spelling), usize), Refusal>
+fn variable(parser: &Parser<'_>, at: usize) -> Result<((HandleType, Identifier), usize), Refusal>
     requires { at ≤ length parser.now }
     ensures gives { Gives (λ x. x) result (variable_read parser.now at) }
     ensures within { IfOk result (λ x. (at < x.1) × (x.1 ≤ length parser.now)) }
@@ -135,7 +135,7 @@ fn implicit_handle(
     parser: &Parser<'_>,
     depth: usize,
     at: usize,
-) -> Result<((HandleType, Spelling), usize), Refusal>
+) -> Result<((HandleType, Identifier), usize), Refusal>
     requires { at ≤ length parser.now }
     ensures gives { Gives (λ x. x) result (implicit_handle_read parser.now depth at) }
     ensures within { IfOk result (λ x. (at < x.1) × (x.1 ≤ length parser.now)) }

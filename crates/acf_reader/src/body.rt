@@ -6,13 +6,14 @@ ghost use Rattle.phrases.specs.Gives.{Gives};
 ghost use Rattle.idl_grammar.specs.Symbols as symbols;
 ghost use Rattle.idl_grammar.specs.ReadExpressions.{spelled_read};
 ghost use Rattle.idl_grammar.specs.Reading.{commas_read};
+ghost use Rattle.acf_reader.specs.Symbols.{Include};
 ghost use Rattle.acf_reader.specs.Seen.{seen_parameter, seen_element, seen_acf};
 ghost use Rattle.acf_reader.specs.Reading.{ident_read, parameter_read, parameters_read, signature_read, types_read, include_read, operation_read, element_read, element_firsts, body_read, acf_read};
 
 use crate::attributes::{attributes, ident, is_name, maybe_attributes};
 use crate::tree::{Acf, BodyElement, Parameter};
 use crate::words;
-use idl_grammar::Spelling;
+use idl_grammar::{Identifier, Spelling};
 use idl_parser::parser::Parser;
 use idl_parser::symbol;
 use phrases::Refusal;
@@ -109,7 +110,7 @@ fn signature(
 }
 
 /// A name behind a comma.
-fn next_name(parser: &Parser<'_>, at: usize) -> Result<(Spelling, usize), Refusal>
+fn next_name(parser: &Parser<'_>, at: usize) -> Result<(Identifier, usize), Refusal>
     requires { at ≤ length parser.now }
     ensures gives { Gives (λ x. x) result (behind_read symbols.Comma parser.now (ident_read false parser.now) at) }
     ensures within { IfOk result (λ x. (at < x.1) × (x.1 ≤ length parser.now)) }
@@ -120,7 +121,7 @@ fn next_name(parser: &Parser<'_>, at: usize) -> Result<(Spelling, usize), Refusa
 }
 
 /// Names with commas between.
-fn name_list(parser: &Parser<'_>, at: usize) -> Result<(Vec<Spelling>, usize), Refusal>
+fn name_list(parser: &Parser<'_>, at: usize) -> Result<(Vec<Identifier>, usize), Refusal>
     requires within { at ≤ length parser.now }
     ensures gives { Gives (λ v. v.items) result (commas_read parser.now (ident_read false parser.now) at) }
     ensures within { IfOk result (λ x. (at < x.1) × (x.1 ≤ length parser.now)) }
@@ -190,6 +191,19 @@ fn types(
     ))
 }
 
+/// The word `include`, which is also a name.
+#[tactic(auto, using(phrases::proofs::Within::mark_within, crate::proofs::Within::include_is_word))]
+fn include_word(parser: &Parser<'_>, at: usize) -> Result<(Identifier, usize), Refusal>
+    requires { at ≤ length parser.now }
+    ensures gives { Gives (λ x. x) result (spelled_read Include parser.now at) }
+    ensures within { IfOk result (λ x. (at < x.1) × (x.1 ≤ length parser.now)) }
+{
+    if !parser.stands(words::INCLUDE, at) {
+        return Err(Refusal::Syntax(at));
+    }
+    Ok((parser.word(at)?, parser.past(at)))
+}
+
 /// What begins with `include` at an octet: strings where one follows, else an operation of that name.
 #[tactic(auto, unfolding(crate::specs::Reading::include_read))]
 fn include(
@@ -202,7 +216,7 @@ fn include(
     ensures gives { Gives seen_element result (include_read parser.now depth octet at) }
     ensures within { IfOk result (λ x. (at < x.1) × (x.1 ≤ length parser.now)) }
 {
-    let (name, next) = parser.spelled(words::INCLUDE, at)?;
+    let (name, next) = include_word(parser, at)?;
     if parser.stands(symbol::QUOTED, next) {
         let (files, next) = string_list(parser, next)?;
         let next = parser.mark(symbol::SEMICOLON, next)?;

@@ -1,7 +1,7 @@
 // Tokens as the grammar sees them.
 ghost use Rattle.std.specs.Prelude.{◌≡◌, map, IfOk};
 ghost use Rattle.phrases.specs.Text.{is_in};
-ghost use Rattle.idl_grammar.specs.Lexemes.{symbol_among};
+ghost use Rattle.idl_grammar.specs.Lexemes.{symbol_among, IsFormed};
 ghost use Rattle.idl_parser.specs.Lexemes.{text_of};
 ghost use Rattle.acf_reader.specs.FromIdl.{names_of_idl, symbol_from, seen_word};
 ghost use Rattle.acf_reader.specs.Lexemes.{lexemes as grammar_lexemes};
@@ -70,9 +70,10 @@ fn own_symbol(symbol: u8, octets: &[u8]) -> u8
     among(&OWN_WORDS, symbol::NAME, octets)
 }
 
-/// The tokens of a text as the grammar sees them.
+/// The tokens of a text as the grammar sees them. Their words are identifiers, and their UUIDs have their form.
 pub(crate) fn lexemes(alloc: Global, tokens: &Tokens) -> Result<Vec<Lexeme<'_>>, AllocError>
-    ensures { IfOk result (λ v. text_of v.items ≡ grammar_lexemes tokens.now) }
+    ensures formed { IfOk result (λ v. IsFormed (text_of v.items)) }
+    ensures text { IfOk result (λ v. text_of v.items ≡ grammar_lexemes tokens.now) }
 {
     let in_idl = idl_lexemes(alloc, tokens)?;
     let mut list = Vec::with_capacity(alloc, in_idl.len())?;

@@ -1,5 +1,5 @@
 // What an attribute configuration file holds (C706, section 4.3).
-use idl_grammar::Spelling;
+use idl_grammar::{Identifier, Spelling};
 
 /// The type of the variable of `implicit_handle`.
 #[derive(Debug, Drop)]
@@ -7,7 +7,7 @@ pub enum HandleType {
     /// `handle_t`
     Handle,
     /// The name of a type.
-    Name(Spelling),
+    Name(Identifier),
 }
 
 /// What an attribute says (C706, sections 4.3.1 to 4.3.8).
@@ -18,7 +18,7 @@ pub enum AttributeKind {
     /// `explicit_handle`
     ExplicitHandle,
     /// `implicit_handle`, the type of its variable, and the variable's name.
-    ImplicitHandle { of: HandleType, name: Spelling },
+    ImplicitHandle { of: HandleType, name: Identifier },
     /// `code`
     Code,
     /// `nocode`
@@ -63,7 +63,7 @@ pub struct Parameter {
     /// Its attributes.
     pub attributes: Option<Attributes>,
     /// Its name.
-    pub name: Spelling,
+    pub name: Identifier,
 }
 
 /// An element of the body. The octet `at` is the one where it begins.
@@ -78,13 +78,13 @@ pub enum BodyElement {
     Types {
         at: u32,
         attributes: Attributes,
-        names: Vec<Spelling>,
+        names: Vec<Identifier>,
     },
     /// Attributes of an operation and of those of its parameters that are named.
     Operation {
         at: u32,
         attributes: Option<Attributes>,
-        name: Spelling,
+        name: Identifier,
         parameters: Vec<Parameter>,
     },
 }
@@ -97,7 +97,7 @@ pub struct Acf {
     /// The attributes of the interface.
     pub attributes: Option<Attributes>,
     /// The name of the interface.
-    pub name: Spelling,
+    pub name: Identifier,
     /// The body.
     pub body: Vec<BodyElement>,
 }

@@ -1,7 +1,8 @@
 -- Files mean one interface at most, beside whatever attribute configuration file.
-use Rattle.std.proofs.Common.{◌≡◌, ◌∙◌, ℕ, List, [], ◌∷◌, ◌++◌, Option, Some, None, refl, sym, ap}
+use Rattle.std.proofs.Common.{◌≡◌, ◌∙◌, ℕ, true, List, [], ◌∷◌, ◌++◌, Option, Some, None, refl, sym, ap}
 use Rattle.std.proofs.Props.{props}
 use mathlib.Core.HLevel.{is_prop→PathP}
+use Rattle.nd_base.specs.Text.{is_identifier}
 use Rattle.nd_types.specs.declared.interface.Interface.{Interface}
 use Rattle.nd_types.specs.Rounds.{layouts_of}
 use Rattle.nd_types.specs.declared.layouts.Layout.{Layout}
@@ -23,6 +24,9 @@ use Rattle.dceidl.proofs.OneMeaning.{means_one}
 legal_once : (types : Table) (operations : List Operation) → IsProp (IsLegal types operations)
 legal_once types operations = hlevel props
 
+named_once : (name : List ℕ) → IsProp (is_identifier name ≡ true)
+named_once name = hlevel props
+
 layouts_once : (types : Table) (layouts : List Layout) → IsProp (layouts ≡ layouts_of types)
 layouts_once types layouts = hlevel props
 
@@ -38,6 +42,7 @@ same_meant i j e =
       types = (e k).types;
       layouts = layouts k;
       operations = (e k).operations;
+      named = is_prop→PathP (λ l. is_identifier (e l).name ≡ true) (λ l. named_once (e l).name) i.named j.named k;
       legal = is_prop→PathP (λ l. IsLegal (e l).types (e l).operations) (λ l. legal_once (e l).types (e l).operations) i.legal j.legal k;
       laid_out = is_prop→PathP (λ l. layouts l ≡ layouts_of (e l).types) (λ l. layouts_once (e l).types (layouts l)) i.laid_out j.laid_out k;
     }

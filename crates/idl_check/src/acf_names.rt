@@ -10,20 +10,20 @@ ghost use Rattle.idl_check.specs.AcfRules.{is_no_type, handle_is_no_type, has_un
 ghost use Rattle.idl_check.specs.SeenAcf.{parameters_in, operation_name, AreOperations};
 
 use acf_reader::{Attribute, AttributeKind, HandleType};
-use idl_grammar::{Export, Parameter, Parameters, Spelling};
+use idl_grammar::{Export, Identifier, Parameter, Parameters};
 use idl_names::{Meaning, Names, Scope, Table};
 use nd_base::Memory;
 use std::alloc::Global;
 
 /// Whether a name is none of a type.
-fn is_no_type(scope: &Scope, name: &Spelling) -> bool
+fn is_no_type(scope: &Scope, name: &Identifier) -> bool
     ensures { result ≡ is_no_type (known_in scope.now) name.now }
 {
-    !matches!(scope.meaning(name.octets.as_slice()), Some(Meaning::Type))
+    !matches!(scope.meaning(name.as_slice()), Some(Meaning::Type))
 }
 
 /// Whether one of these names is none of a type.
-pub(crate) fn any_is_no_type(scope: &Scope, names: &[Spelling]) -> bool
+pub(crate) fn any_is_no_type(scope: &Scope, names: &[Identifier]) -> bool
     ensures { result ≡ list_any (is_no_type (known_in scope.now)) names.now }
 {
     for name in names {
@@ -67,14 +67,14 @@ pub(crate) fn any_unknown_handle(scope: &Scope, attributes: &[Attribute]) -> boo
 }
 
 /// Whether a parameter has a name.
-fn is_named(parameter: &Parameter, name: &Spelling) -> bool
+fn is_named(parameter: &Parameter, name: &Identifier) -> bool
     ensures { result ≡ bytes_eq name.now.octets (seen_parameter parameter.now).declarator.name.octets }
 {
-    name.octets.as_slice() == parameter.declarator.name.octets.as_slice()
+    name.as_slice() == parameter.declarator.name.as_slice()
 }
 
 /// Whether one of these parameters has a name.
-fn is_listed(parameters: &[Parameter], name: &Spelling) -> bool
+fn is_listed(parameters: &[Parameter], name: &Identifier) -> bool
     ensures { result ≡ list_any (λ q. bytes_eq name.now.octets q.declarator.name.octets) (map seen_parameter parameters.now) }
 {
     for parameter in parameters {
@@ -86,7 +86,7 @@ fn is_listed(parameters: &[Parameter], name: &Spelling) -> bool
 }
 
 /// Whether a name is none of these parameters'.
-pub(crate) fn is_no_parameter(parameters: &[Parameter], name: &Spelling) -> bool
+pub(crate) fn is_no_parameter(parameters: &[Parameter], name: &Identifier) -> bool
     ensures { result ≡ is_no_parameter (map seen_parameter parameters.now) name.now }
 {
     !is_listed(parameters, name)
@@ -129,16 +129,16 @@ pub(crate) struct NamedOperations<'t> {
 
 impl<'t> NamedOperations<'t> {
     /// The parameters of the operation of a name, if there is one.
-    pub(crate) fn parameters(&self, name: &Spelling) -> Option<&'t [Parameter]>
+    pub(crate) fn parameters(&self, name: &Identifier) -> Option<&'t [Parameter]>
         ensures { option_map (λ ps. map seen_parameter ps.now) result ≡ parameters_found name.now (map seen_export self.now.exports.now) }
     {
-        let number = self.numbers.get(name.octets.as_slice())?;
+        let number = self.numbers.get(name.as_slice())?;
         parameters_in(export_at(self.exports, number))
     }
 }
 
 /// The name of a declaration, if it is an operation.
-fn operation_name(export: &Export) -> Option<&Spelling>
+fn operation_name(export: &Export) -> Option<&Identifier>
     ensures { option_map (λ n. n.now) result ≡ operation_name (seen_export export.now) }
 {
     match export {
@@ -152,7 +152,7 @@ fn add_operation(numbers: &mut Table<usize>, export: &Export, number: usize) -> 
     ensures { (left : List idl.Export) → AreOperations (suc number) left numbers.old → OnOk result (AreOperations number (seen_export export.now ∷ left) numbers.new) }
 {
     match operation_name(export) {
-        Some(name) => numbers.put(name.octets.as_slice(), number),
+        Some(name) => numbers.put(name.as_slice(), number),
         None => Ok(()),
     }
 }

@@ -22,7 +22,7 @@ use crate::acf_names::{
 use crate::acf_places::{Spot, attribute_list, is_misplaced};
 use acf_reader::{Acf, Attribute, Attributes, BodyElement, Parameter};
 use idl_grammar as idl;
-use idl_grammar::{Spelling, Tree};
+use idl_grammar::{Identifier, Tree};
 use idl_names::Scope;
 use idl_rules::{Breach, Finder, main_tree};
 use nd_base::{Memory, Place};
@@ -93,7 +93,7 @@ fn operation(
 }
 
 /// Whether attributes of types break the rule.
-fn breaks_types(scope: &Scope, attributes: &Attributes, names: &[Spelling]) -> bool
+fn breaks_types(scope: &Scope, attributes: &Attributes, names: &[Identifier]) -> bool
     ensures { result ≡ (is_misplaced (belongs spot.Type) attributes.now.list.items || list_any (is_no_type (known_in scope.now)) names.now) }
 {
     is_misplaced(Spot::Type, attributes.list.as_slice()) || any_is_no_type(scope, names)
@@ -164,7 +164,7 @@ fn breaks_attributes(scope: &Scope, attributes: &[Attribute]) -> bool
 fn breaks_header(scope: &Scope, main: &Tree, acf: &Acf) -> bool
     ensures { result ≡ breaks_header (known_in scope.now) (of_idl.seen_tree main.now) (seen_acf acf.now) }
 {
-    acf.name.octets.as_slice() != main.name.octets.as_slice()
+    acf.name.as_slice() != main.name.as_slice()
         || breaks_attributes(scope, attribute_list(&acf.attributes))
 }
 

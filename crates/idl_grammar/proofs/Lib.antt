@@ -21,6 +21,8 @@ pub mod FileLaws
 pub mod Rows
 pub mod FileExamples
 pub mod RealTokens
+pub mod Formed
+pub mod Identifiers
 mod Clean
 mod CleanFile
 mod BannedWords

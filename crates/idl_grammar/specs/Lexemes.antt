@@ -1,11 +1,13 @@
 -- The tokens of a text as the grammar sees them.
-use Rattle.std.specs.Prelude.{ℕ, cond, List, [], ◌∷◌, ◌++◌, map, slice_range}
+use Rattle.std.specs.Prelude.{◌≡◌, ℕ, true, false, cond, List, [], ◌∷◌, ◌++◌, map, slice_range}
 use Rattle.std.specs.Str.{bytes_eq}
-use Rattle.phrases.specs.Text.{Lexeme, Text}
+use Rattle.nd_base.specs.Text.{is_identifier}
+use Rattle.phrases.specs.Text.{Lexeme, Text, lexeme_at, symbol_at, is_in}
 use Rattle.idl_lexer.specs.declared.tokens.TokenKind.{TokenKind}
 use Rattle.idl_lexer.specs.declared.tokens.TokenKind.TheVariants as token
 use Rattle.idl_lexer.specs.declared.tokens.Token.{Token}
 use Rattle.idl_lexer.specs.Lexed.{Lexed}
+use Rattle.idl_lexer.specs.Pieces.{IsUuid}
 use Rattle.idl_grammar.specs.Symbols.{Spelled, reserved_words, attribute_words, banned_words, banned_attributes, marks}
 use Rattle.idl_grammar.specs.Symbols as symbol
 
@@ -35,3 +37,14 @@ lexeme_of text t =
 -- the tokens of a text that was lexed
 abbrev pub lexemes : Lexed → Text
 lexemes lexed = map (lexeme_of lexed.text) lexed.tokens
+
+-- ## What words and UUIDs are
+
+-- the symbols of all that is no word
+unfoldable pub no_words : List ℕ
+no_words = symbol.End ∷ symbol.UuidValue ∷ symbol.Number ∷ symbol.Character ∷ symbol.Quoted ∷ symbol.Unknown ∷ map (λ s. s.symbol) marks
+
+-- a text whose words are identifiers, and whose UUIDs have their form
+pub record IsFormed (x : Text) : Type 0 where
+  pub word : (i : ℕ) → is_in no_words (symbol_at x i) ≡ false → is_identifier (lexeme_at x i).octets ≡ true
+  pub uuid : (i : ℕ) → symbol_at x i ≡ symbol.UuidValue → IsUuid (lexeme_at x i).octets

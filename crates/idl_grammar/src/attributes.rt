@@ -1,7 +1,7 @@
 // Attributes (C706, sections 4.2.4, 4.2.9 and 4.2.12 to 4.2.14).
 use crate::expressions::Expr;
 use crate::types::SwitchType;
-use crate::words::Spelling;
+use crate::words::{Identifier, Spelling, UuidText};
 
 /// The class of a pointer (C706, section 4.2.20).
 #[derive(Clone, Copy, Debug, PartialEq, Eq)]
@@ -37,14 +37,14 @@ pub struct Variable {
     /// Whether a `*` stands before the name.
     pub star: bool,
     /// The name.
-    pub name: Spelling,
+    pub name: Identifier,
 }
 
 /// What an attribute says.
 #[derive(Debug, Drop)]
 pub enum AttributeKind {
     /// `uuid` and the UUID.
-    Uuid(Spelling),
+    Uuid(UuidText),
     /// `version`, the major number, and the minor one where it stands.
     Version {
         major: Spelling,

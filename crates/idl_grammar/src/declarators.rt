@@ -1,6 +1,6 @@
 // Declarators and the values of constants (C706, sections 4.2.7 and 4.2.8).
 use crate::expressions::Expr;
-use crate::words::Spelling;
+use crate::words::{Identifier, Spelling};
 
 /// What stands between the square brackets of a dimension.
 #[derive(Debug, Drop)]
@@ -21,7 +21,7 @@ pub struct Declarator {
     /// The octet of each `*`.
     pub stars: Vec<u32>,
     /// The name.
-    pub name: Spelling,
+    pub name: Identifier,
     /// The dimensions, from the outermost one; without a bound where the brackets are empty.
     pub dimensions: Vec<Option<Bound>>,
 }

@@ -1,5 +1,5 @@
 // Expressions (C706, section 4.2.7).
-use crate::words::Spelling;
+use crate::words::{Identifier, Spelling};
 
 /// A binary operator. Each level binds tighter than the one before it, and groups to the left.
 #[derive(Clone, Copy, Debug, PartialEq, Eq)]
@@ -63,7 +63,7 @@ pub enum Operand {
     /// A character between its quotes.
     Character(Spelling),
     /// The name of a constant.
-    Name(Spelling),
+    Name(Identifier),
     /// `TRUE`, and the octet where it begins.
     True(u32),
     /// `FALSE`, and the octet where it begins.

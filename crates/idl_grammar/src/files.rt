@@ -2,7 +2,7 @@
 use crate::attributes::Attributes;
 use crate::declarators::{Declarator, Init};
 use crate::types::{SimpleType, TypeSpec};
-use crate::words::Spelling;
+use crate::words::{Identifier, Spelling};
 
 /// The files of one `import`.
 #[derive(Debug, Drop)]
@@ -51,7 +51,7 @@ pub enum Export {
         at: u32,
         of: SimpleType,
         star: bool,
-        name: Spelling,
+        name: Identifier,
         value: Init,
     },
     /// A type alone.
@@ -65,7 +65,7 @@ pub enum Export {
         at: u32,
         attributes: Option<Attributes>,
         result: TypeSpec,
-        name: Spelling,
+        name: Identifier,
         parameters: Parameters,
     },
 }
@@ -76,7 +76,7 @@ pub struct Tree {
     /// The attributes of the interface.
     pub attributes: Attributes,
     /// The name of the interface.
-    pub name: Spelling,
+    pub name: Identifier,
     /// The imports.
     pub imports: Vec<Import>,
     /// The declarations.

@@ -5,8 +5,8 @@ ghost use Rattle.phrases.specs.Text.{Text, Depth, Ban, Lifted};
 ghost use Rattle.phrases.specs.Reading.{Fault, Syntax, Passes};
 ghost use Rattle.phrases.specs.Verdict.{Judges, whole_read, begins, derives, limits_before};
 ghost use Rattle.phrases.specs.Gives.{IsText};
-ghost use Rattle.idl_lexer.specs.Lexed.{Lexed};
-ghost use Rattle.idl_grammar.specs.Lexemes.{lexemes};
+ghost use Rattle.idl_lexer.specs.Lexed.{Lexed, AreFormed};
+ghost use Rattle.idl_grammar.specs.Lexemes.{lexemes, IsFormed};
 ghost use Rattle.idl_grammar.specs.Examples.{small_file, small_tree, unended, banned_attribute, banned_word, attribute_name, deep};
 ghost use Rattle.idl_grammar.specs.Tree.{Tree};
 ghost use Rattle.idl_grammar.specs.Grammar.{file};
@@ -31,6 +31,11 @@ pub fn file_is_answered()
 /// No token of a text that was lexed is the end of the text, so the laws above hold of every such text.
 pub fn tokens_are_no_end()
     ensures { (lexed : Lexed) → IsText (lexemes lexed) }
+{}
+
+/// The words of a text that was cut into tokens are identifiers, and its UUIDs have their form.
+pub fn words_are_identifiers()
+    ensures { (lexed : Lexed) → AreFormed lexed → IsFormed (lexemes lexed) }
 {}
 
 /// A small file with a declaration or two of each form, and its one tree.

@@ -23,4 +23,4 @@ pub use types::{
     Arm, Case, Discriminant, Enumerator, IntegerType, Label, Member, SimpleType, SwitchType,
     TagKind, TypeSpec, Width,
 };
-pub use words::Spelling;
+pub use words::{Identifier, Spelling, UuidText};

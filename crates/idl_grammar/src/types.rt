@@ -2,7 +2,7 @@
 use crate::attributes::Attributes;
 use crate::declarators::Declarator;
 use crate::expressions::Expr;
-use crate::words::Spelling;
+use crate::words::Identifier;
 
 /// The width of an integer.
 #[derive(Clone, Copy, Debug, PartialEq, Eq)]
@@ -81,7 +81,7 @@ pub enum SwitchType {
     /// A type without parts.
     Simple(SimpleType),
     /// The name of a type.
-    Name(Spelling),
+    Name(Identifier),
 }
 
 /// What a tag names.
@@ -101,14 +101,14 @@ pub struct Discriminant {
     /// Its type.
     pub of: SwitchType,
     /// Its name.
-    pub name: Spelling,
+    pub name: Identifier,
 }
 
 /// A name of an enumeration, and its value where one stands.
 #[derive(Debug, Drop)]
 pub struct Enumerator {
     /// The name.
-    pub name: Spelling,
+    pub name: Identifier,
     /// The value.
     pub value: Option<Expr>,
 }
@@ -129,37 +129,37 @@ pub enum TypeSpec {
     /// A type without parts.
     Simple(SimpleType),
     /// The name of a type.
-    Name(Spelling),
+    Name(Identifier),
     /// A tag alone.
     Tag {
         at: u32,
         kind: TagKind,
-        tag: Spelling,
+        tag: Identifier,
     },
     /// A struct with its members.
     Struct {
         at: u32,
-        tag: Option<Spelling>,
+        tag: Option<Identifier>,
         members: Vec<Member>,
     },
     /// A union that has its discriminant with it (C706, section 4.2.11.1), and the name of its union part where it has one.
     EncapsulatedUnion {
         at: u32,
-        tag: Option<Spelling>,
+        tag: Option<Identifier>,
         discriminant: Discriminant,
-        name: Option<Spelling>,
+        name: Option<Identifier>,
         cases: Vec<Case>,
     },
     /// A union whose discriminant stands elsewhere (C706, section 4.2.11.2).
     NonEncapsulatedUnion {
         at: u32,
-        tag: Option<Spelling>,
+        tag: Option<Identifier>,
         arms: Vec<Arm>,
     },
     /// An enumeration with its names.
     Enum {
         at: u32,
-        tag: Option<Spelling>,
+        tag: Option<Identifier>,
         enumerators: Vec<Enumerator>,
     },
 }

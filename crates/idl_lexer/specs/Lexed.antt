@@ -1,8 +1,11 @@
 -- A text and its tokens.
-use Rattle.std.specs.Prelude.{◌≡◌, ℕ, ◌≤◌, List, length, slice_range, Some, option_map, unwrap_or, slice_get}
-use Rattle.std.specs.List.{All}
+use Rattle.std.specs.Prelude.{◌≡◌, ℕ, ◌≤◌, true, List, length, slice_range, Some, option_map, unwrap_or, slice_get}
+use Rattle.std.specs.List.{All, AllByRecursion}
+use Rattle.nd_base.specs.Text.{is_identifier}
 use Rattle.idl_lexer.specs.declared.tokens.TokenKind.{TokenKind}
+use Rattle.idl_lexer.specs.declared.tokens.TokenKind.TheVariants as token
 use Rattle.idl_lexer.specs.declared.tokens.Token.{Token}
+use Rattle.idl_lexer.specs.Pieces.{IsUuid}
 
 pub record Lexed : Type 0 where
   pub text : List ℕ
@@ -13,6 +16,15 @@ pub record AreWithin (text : List ℕ) (tokens : List Token) : Type 0 where
   pub short : length text ≤ 1048576
   pub few : length tokens ≤ length text
   pub each : All (λ t. (t.from ≤ t.to) × (t.to ≤ length text)) tokens
+
+-- a token of a text: a word is an identifier, and a UUID has its form
+pub record IsFormed (text : List ℕ) (t : Token) : Type 0 where
+  pub word : t.kind ≡ token.Word → is_identifier (slice_range text t.from t.to) ≡ true
+  pub uuid : t.kind ≡ token.Uuid → IsUuid (slice_range text t.from t.to)
+
+-- each token of a text is so
+abbrev pub AreFormed : Lexed → Type 0
+AreFormed lexed = AllByRecursion (IsFormed lexed.text) lexed.tokens
 
 -- the octet where a token begins, or the text's length
 abbrev pub place_of : Lexed → ℕ → ℕ

@@ -101,31 +101,33 @@ pub struct Tokens {
 }
 
 impl Model for Tokens {
-    ghost use Rattle.idl_lexer.specs.Lexed.{Lexed, AreWithin};
+    ghost use Rattle.idl_lexer.specs.Lexed.{Lexed, AreWithin, AreFormed};
 
     ghost Value = { Lexed };
 
     ghost view = { λ t. record { text = t.text; tokens = t.tokens.items } };
 
-    ghost invariant = { λ t. AreWithin t.text t.tokens.items };
+    ghost invariant = { λ t. AreWithin t.text t.tokens.items × AreFormed (record { text = t.text; tokens = t.tokens.items }) };
 }
 
 impl Tokens {
     ghost use Rattle.std.specs.Prelude.{◌≡◌, ◌≤◌, ◌<◌, ◌↔◌, ℕ, length, slice_range, slice_get, Some, cond, ltb};
-    ghost use Rattle.idl_lexer.specs.Lexed.{AreWithin, place_of, IsKindOf, IsTextOf};
+    ghost use Rattle.idl_lexer.specs.Lexed.{AreWithin, AreFormed, place_of, IsKindOf, IsTextOf};
 
     /// Keeps a text and its tokens.
     pub(crate) fn keep(text: Octets, tokens: Vec<Token>) -> Tokens
-        requires { AreWithin text tokens.items }
+        requires within { AreWithin text tokens.items }
+        requires formed { AreFormed (record { text = text; tokens = tokens.items }) }
         ensures text { result.text ≡ text }
         ensures tokens { result.tokens ≡ tokens.items }
     {
         Tokens { text, tokens }
     }
 
-    /// How many tokens there are. Takes no memory.
+    /// How many tokens there are. Each word among them is an identifier, and each UUID has its form. Takes no memory.
     pub fn count(&self) -> u32
-        ensures { result ≡ length self.now.tokens }
+        ensures count { result ≡ length self.now.tokens }
+        ensures formed { AreFormed self.now }
     {
         self.tokens.len() as u32
     }

@@ -12,7 +12,7 @@ use crate::types::{are_pointers, is_pointer, type_spec};
 use crate::walk::{dimensions, listed_declarator, optional_attributes};
 use crate::{Meaning, NameFault};
 use idl_grammar::{
-    Attributes, Declarator, Export, Init, Parameter, Parameters, Spelling, TypeSpec,
+    Attributes, Declarator, Export, Identifier, Init, Parameter, Parameters, TypeSpec,
 };
 use std::alloc::Global;
 
@@ -40,7 +40,7 @@ fn typedefs(
 }
 
 /// The value of a constant.
-fn init(names: &mut NameTables, file: u16, name: &Spelling, value: &Init) -> Result<(), NameFault>
+fn init(names: &mut NameTables, file: u16, name: &Identifier, value: &Init) -> Result<(), NameFault>
     ensures { IsRight names.new result (walked file names.old (init_step name.now (seen.seen_init value.now) ∷ [])) }
 {
     match value {
@@ -104,7 +104,7 @@ fn operation(
     file: u16,
     list: &Option<Attributes>,
     of: &TypeSpec,
-    name: &Spelling,
+    name: &Identifier,
     taken: &Parameters,
 ) -> Result<(), NameFault>
     ensures { IsRight names.new result (walked file names.old (operation_steps (option_map seen.seen_attributes list.now) (seen.seen_type of.now) name.now (seen.seen_parameters taken.now))) }

@@ -7,7 +7,7 @@ ghost use Rattle.idl_names.specs.Value as values;
 use crate::operators::{binary_value, in_range, is_decided, unary_value};
 use crate::whole::{is_zero, truth};
 use crate::{ConstFault, ExpressionFault, Meaning, ValueFault};
-use idl_grammar::{Expr, Operand, Spelling};
+use idl_grammar::{Expr, Identifier, Operand, Spelling};
 use idl_lexer::number_of;
 
 /// What is known of names.
@@ -61,13 +61,13 @@ fn number_value(spelling: &Spelling) -> Result<i128, ValueFault>
     }
 }
 
-fn name_value<N: Names>(names: &N, name: &Spelling) -> Result<i128, ValueFault>
+fn name_value<N: Names>(names: &N, name: &Identifier) -> Result<i128, ValueFault>
     ensures { result ≡ values.name_value name.now.at (N.meanings names.now name.now.octets) }
 {
-    match names.meaning(name.octets.as_slice()) {
+    match names.meaning(name.as_slice()) {
         Some(Meaning::Number(number)) => Ok(number),
         _ => Err(ValueFault {
-            at: name.at,
+            at: name.at(),
             fault: ConstFault::NotConst,
         }),
     }
@@ -141,7 +141,7 @@ fn unknown_operand<N: Names>(names: &N, operand: &Operand) -> Option<u32>
     ensures { result ≡ values.unknown_operand (N.meanings names.now) operand.now }
 {
     match operand {
-        Operand::Name(name) if names.meaning(name.octets.as_slice()).is_none() => Some(name.at),
+        Operand::Name(name) if names.meaning(name.as_slice()).is_none() => Some(name.at()),
         _ => None,
     }
 }

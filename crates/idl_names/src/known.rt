@@ -8,7 +8,7 @@ ghost use Rattle.idl_names.specs.Steps.{UseType, UseTag, DefineTag, Declare, Kno
 
 use crate::table::Table;
 use crate::{ExpressionFault, Meaning, NameFault, Names, TagDefinition, TagUse, evaluate};
-use idl_grammar::{Expr, Spelling, TagKind};
+use idl_grammar::{Expr, Identifier, TagKind};
 use nd_base::{Memory, Octets, Place};
 use std::alloc::Global;
 use std::marker::Model;
@@ -42,13 +42,13 @@ impl Names for NameTables {
     }
 }
 
-/// Where a token of a file stands.
-fn place_of(file: u16, spelling: &Spelling) -> Place
-    ensures { result ≡ place_in file spelling.now }
+/// Where a name of a file stands.
+fn place_of(file: u16, name: &Identifier) -> Place
+    ensures { result ≡ place_in file name.now }
 {
     Place {
         file,
-        at: spelling.at,
+        at: name.at(),
     }
 }
 
@@ -97,10 +97,10 @@ impl NameTables {
     }
 
     /// A type is named.
-    pub(crate) fn use_type(&self, file: u16, name: &Spelling) -> Result<(), NameFault>
+    pub(crate) fn use_type(&self, file: u16, name: &Identifier) -> Result<(), NameFault>
         ensures { IsRight self.now result (walked file self.now (UseType name.now ∷ [])) }
     {
-        match self.meanings.get(name.octets.as_slice()) {
+        match self.meanings.get(name.as_slice()) {
             Some(Meaning::Type) => Ok(()),
             _ => Err(NameFault::Unknown {
                 place: place_of(file, name),
@@ -123,19 +123,19 @@ impl NameTables {
         &mut self,
         file: u16,
         kind: TagKind,
-        tag: &Spelling,
+        tag: &Identifier,
         behind_pointers: bool,
     ) -> Result<(), NameFault>
         ensures { IsRight self.new result (walked file self.old (UseTag kind tag.now behind_pointers ∷ [])) }
     {
-        if self.is_defined(kind, tag.octets.as_slice()) {
+        if self.is_defined(kind, tag.as_slice()) {
             return Ok(());
         }
         let place = place_of(file, tag);
         if !behind_pointers {
             return Err(NameFault::Unknown { place });
         }
-        let tag = Octets::copy(self.alloc, tag.octets.as_slice())?;
+        let tag = Octets::copy(self.alloc, tag.as_slice())?;
         match self.uses.push(TagUse { kind, tag, place }) {
             Ok(()) => Ok(()),
             Err(_) => Err(NameFault::Memory),
@@ -147,31 +147,31 @@ impl NameTables {
         &mut self,
         file: u16,
         kind: TagKind,
-        tag: &Spelling,
+        tag: &Identifier,
     ) -> Result<(), NameFault>
         ensures { IsRight self.new result (walked file self.old (DefineTag kind tag.now ∷ [])) }
     {
         let place = place_of(file, tag);
-        match self.tags.get(tag.octets.as_slice()) {
+        match self.tags.get(tag.as_slice()) {
             Some(earlier) => Err(NameFault::Twice {
                 place,
                 first: earlier.place,
             }),
             None => Ok(
                 self.tags
-                    .put(tag.octets.as_slice(), TagDefinition { kind, place })?,
+                    .put(tag.as_slice(), TagDefinition { kind, place })?,
             ),
         }
     }
 
     /// A type, constant, enumerator or operation takes its name.
-    pub(crate) fn declare(&mut self, file: u16, name: &Spelling) -> Result<(), NameFault>
+    pub(crate) fn declare(&mut self, file: u16, name: &Identifier) -> Result<(), NameFault>
         ensures { IsRight self.new result (walked file self.old (Declare name.now ∷ [])) }
     {
         let place = place_of(file, name);
-        match self.places.get(name.octets.as_slice()) {
+        match self.places.get(name.as_slice()) {
             Some(first) => Err(NameFault::Twice { place, first }),
-            None => Ok(self.places.put(name.octets.as_slice(), place)?),
+            None => Ok(self.places.put(name.as_slice(), place)?),
         }
     }
 
@@ -179,38 +179,35 @@ impl NameTables {
     pub(crate) fn know(
         &mut self,
         file: u16,
-        name: &Spelling,
+        name: &Identifier,
         meaning: Meaning,
     ) -> Result<(), NameFault>
         ensures { IsRight self.new result (walked file self.old (Know name.now meaning ∷ [])) }
     {
-        Ok(self.meanings.put(name.octets.as_slice(), meaning)?)
+        Ok(self.meanings.put(name.as_slice(), meaning)?)
     }
 
     /// From here on a name is known, and stands for the value of an expression.
     pub(crate) fn know_value(
         &mut self,
         file: u16,
-        name: &Spelling,
+        name: &Identifier,
         expression: &Expr,
     ) -> Result<(), NameFault>
         ensures { IsRight self.new result (walked file self.old (KnowValue name.now (seen_expr expression.now) ∷ [])) }
     {
         let value = self.value(file, expression)?;
-        Ok(
-            self.meanings
-                .put(name.octets.as_slice(), Meaning::Number(value))?,
-        )
+        Ok(self.meanings.put(name.as_slice(), Meaning::Number(value))?)
     }
 
     /// What an enumerator without a value stands for. A number past 128 bits would take more names than memory can hold.
-    fn next_meaning(&self, previous: Option<&Spelling>) -> Result<Meaning, Memory>
+    fn next_meaning(&self, previous: Option<&Identifier>) -> Result<Meaning, Memory>
         ensures { OnOk result (result ≡ Ok (next_meaning self.now (option_map (λ s. s.now) previous.entry))) }
     {
         let Some(previous) = previous else {
             return Ok(Meaning::Number(0));
         };
-        match self.meanings.get(previous.octets.as_slice()) {
+        match self.meanings.get(previous.as_slice()) {
             Some(Meaning::Number(number)) => match number.checked_add(1) {
                 Some(next) => Ok(Meaning::Number(next)),
                 None => Err(Memory),
@@ -223,13 +220,13 @@ impl NameTables {
     pub(crate) fn know_next(
         &mut self,
         file: u16,
-        name: &Spelling,
-        previous: Option<&Spelling>,
+        name: &Identifier,
+        previous: Option<&Identifier>,
     ) -> Result<(), NameFault>
         ensures { IsRight self.new result (walked file self.old (KnowNext name.now (option_map (λ s. s.now) previous.entry) ∷ [])) }
     {
         let meaning = self.next_meaning(previous)?;
-        Ok(self.meanings.put(name.octets.as_slice(), meaning)?)
+        Ok(self.meanings.put(name.as_slice(), meaning)?)
     }
 
     /// An expression is evaluated.
@@ -258,15 +255,15 @@ impl NameTables {
 }
 
 /// A member or parameter comes behind those of its list.
-pub(crate) fn enlist(file: u16, list: &mut Table<u32>, name: &Spelling) -> Result<(), NameFault>
+pub(crate) fn enlist(file: u16, list: &mut Table<u32>, name: &Identifier) -> Result<(), NameFault>
     ensures told { (k : Known) → IsRight k result (walked file k (Enlist (listed list.old) name.now ∷ [])) }
     ensures more { OnOk result (listed list.new ≡ listed list.old ++ name.now ∷ []) }
 {
-    match list.get(name.octets.as_slice()) {
+    match list.get(name.as_slice()) {
         Some(at) => Err(NameFault::Twice {
             place: place_of(file, name),
             first: Place { file, at },
         }),
-        None => Ok(list.put(name.octets.as_slice(), name.at)?),
+        None => Ok(list.put(name.as_slice(), name.at())?),
     }
 }

@@ -11,8 +11,6 @@ pub mod laws;
 mod loading;
 mod meaning;
 mod name_fault;
-#[cfg(test)]
-mod one_file_tests;
 mod operators;
 mod resolving;
 mod scope;

@@ -11,7 +11,7 @@ use crate::NameFault;
 use crate::known::NameTables;
 use crate::table::Table;
 use crate::walk::{dimensions, labels, listed_declarator, optional_attributes, switch_type};
-use idl_grammar::{Arm, Case, Declarator, Enumerator, Member, Spelling, TagKind, TypeSpec};
+use idl_grammar::{Arm, Case, Declarator, Enumerator, Identifier, Member, TagKind, TypeSpec};
 use std::alloc::Global;
 
 /// A tag before its body, where there is one.
@@ -19,7 +19,7 @@ fn tag(
     names: &mut NameTables,
     file: u16,
     kind: TagKind,
-    tag: &Option<Spelling>,
+    tag: &Option<Identifier>,
 ) -> Result<(), NameFault>
     ensures { IsRight names.new result (walked file names.old (tag_steps kind tag.now)) }
 {
@@ -33,7 +33,7 @@ fn tag(
 fn enumerator(
     names: &mut NameTables,
     file: u16,
-    previous: Option<&Spelling>,
+    previous: Option<&Identifier>,
     one: &Enumerator,
 ) -> Result<(), NameFault>
     ensures { IsRight names.new result (walked file names.old (enumerator_steps (option_map (λ s. s.now) previous.entry) (seen.seen_enumerator one.now ∷ []))) }

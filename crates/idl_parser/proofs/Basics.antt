@@ -3,6 +3,8 @@ use Rattle.std.proofs.Common.{◌≡◌, ℕ, ◌+◌, ◌<◌, ◌≤◌, Bool,
 use Rattle.phrases.specs.Text.{Lexeme, Text, lexeme_at, symbol_at, is_in}
 use Rattle.phrases.specs.Reading.{Read, Syntax}
 use Rattle.phrases.proofs.Within.{test_within}
+use Rattle.phrases.proofs.Sequences.{disjoint, apart}
+use Rattle.idl_grammar.specs.Lexemes.{no_words}
 use Rattle.idl_grammar.specs.Limits.{Meant, names, symbols_of, value_of}
 use Rattle.idl_grammar.specs.Reading.{one_of_read}
 use Rattle.idl_parser.specs.Found.{found}
@@ -11,6 +13,14 @@ not_end : (inside : Bool) → is_in (names inside) 0 ≡ false
 unfolding names
 not_end true = refl
 not_end false = refl
+
+names_are_words : (inside : Bool) → disjoint (names inside) no_words ≡ true
+unfolding names no_words
+names_are_words true = refl
+names_are_words false = refl
+
+pub name_is_word : (t : Text) (i : ℕ) (inside : Bool) → is_in (names inside) (symbol_at t i) ≡ true → is_in no_words (symbol_at t i) ≡ false
+name_is_word t i inside h = apart (names inside) no_words (symbol_at t i) (names_are_words inside) h
 
 pub name_within : (t : Text) (i : ℕ) (inside : Bool) → is_in (names inside) (symbol_at t i) ≡ true → i < length t
 name_within t i inside h = test_within t i (λ s. is_in (names inside) s) (not_end inside) h

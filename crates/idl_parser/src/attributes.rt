@@ -14,8 +14,8 @@ ghost use Rattle.idl_parser.specs.Found.{found};
 use crate::parser::Parser;
 use crate::symbol;
 use idl_grammar::{
-    Attribute, AttributeKind, Attributes, Expr, PointerClass, Spelling, SwitchType, Variable,
-    VariableWord,
+    Attribute, AttributeKind, Attributes, Expr, PointerClass, Spelling, SwitchType, UuidText,
+    Variable, VariableWord,
 };
 use phrases::Refusal;
 
@@ -158,14 +158,14 @@ impl Parser<'_> {
 
     /// `uuid` and a UUID in brackets.
     #[tactic(auto, unfolding(idl_grammar::specs::Reading::uuid_read))]
-    fn uuid(&self, depth: usize, at: usize) -> Result<(Spelling, usize), Refusal>
+    fn uuid(&self, depth: usize, at: usize) -> Result<(UuidText, usize), Refusal>
         requires { at ≤ length self.now }
         ensures gives { Gives (λ x. x) result (uuid_read self.now depth at) }
         ensures within { IfOk result (λ x. (at < x.1) × (x.1 ≤ length self.now)) }
     {
         let next = self.mark(symbol::UUID, at)?;
         let next = self.open(depth, symbol::OPEN_ROUND, next)?;
-        let (uuid, next) = self.spelled(symbol::UUID_VALUE, next)?;
+        let (uuid, next) = self.uuid_text(next)?;
         let next = self.mark(symbol::CLOSE_ROUND, next)?;
         Ok((uuid, next))
     }

@@ -9,7 +9,7 @@ ghost use Rattle.idl_grammar.specs.Seen.{seen_expr, seen_enumerator, seen_label,
 
 use crate::parser::Parser;
 use crate::symbol;
-use idl_grammar::{Discriminant, Enumerator, Label, Spelling, TagKind, TypeSpec};
+use idl_grammar::{Discriminant, Enumerator, Identifier, Label, TagKind, TypeSpec};
 use phrases::Refusal;
 
 /// The symbols with which a label begins.
@@ -104,7 +104,7 @@ impl Parser<'_> {
         nesting: usize,
         depth: usize,
         octet: u32,
-        tag: Option<Spelling>,
+        tag: Option<Identifier>,
         at: usize,
     ) -> Result<(TypeSpec, usize), Refusal>
         requires within { at ≤ length self.now }
@@ -212,7 +212,7 @@ impl Parser<'_> {
 
     /// A name, where one stands.
     #[tactic(auto, unfolding(idl_grammar::specs::Reading::maybe_name_read))]
-    fn maybe_name(&self, at: usize) -> Result<(Option<Spelling>, usize), Refusal>
+    fn maybe_name(&self, at: usize) -> Result<(Option<Identifier>, usize), Refusal>
         requires within { at ≤ length self.now }
         ensures gives { Gives (λ x. x) result (maybe_name_read self.now at) }
         ensures within { IfOk result (λ x. (at ≤ x.1) × (x.1 ≤ length self.now)) }
@@ -230,7 +230,7 @@ impl Parser<'_> {
         &self,
         depth: usize,
         at: usize,
-    ) -> Result<((Discriminant, Option<Spelling>), usize), Refusal>
+    ) -> Result<((Discriminant, Option<Identifier>), usize), Refusal>
         requires within { at ≤ length self.now }
         ensures gives { Gives (λ x. x) result (union_switch_read self.now depth at) }
         ensures within { IfOk result (λ x. (at < x.1) × (x.1 ≤ length self.now)) }

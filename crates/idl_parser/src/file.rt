@@ -7,7 +7,7 @@ ghost use Rattle.idl_grammar.specs.Seen.{seen_parameters, seen_export, seen_impo
 
 use crate::parser::Parser;
 use crate::symbol;
-use idl_grammar::{Export, Import, Parameters, Spelling, Tree};
+use idl_grammar::{Export, Identifier, Import, Parameters, Tree};
 use phrases::Refusal;
 
 impl Parser<'_> {
@@ -95,7 +95,7 @@ impl Parser<'_> {
         nesting: usize,
         depth: usize,
         at: usize,
-    ) -> Result<((Spelling, Parameters), usize), Refusal>
+    ) -> Result<((Identifier, Parameters), usize), Refusal>
         requires within { at ≤ length self.now }
         requires shallow { depth ≤ 64 }
         ensures gives { Gives (λ x. (x.0, seen_parameters x.1)) result (signature_read fuel nesting self.now depth at) }

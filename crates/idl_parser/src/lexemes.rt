@@ -1,6 +1,6 @@
 // Tokens as the grammar sees them.
 ghost use Rattle.std.specs.Prelude.{◌≡◌, ◌≤◌, length, map, IfOk};
-ghost use Rattle.idl_grammar.specs.Lexemes.{symbol_among, symbol_of as grammar_symbol, lexemes as grammar_lexemes};
+ghost use Rattle.idl_grammar.specs.Lexemes.{symbol_among, symbol_of as grammar_symbol, lexemes as grammar_lexemes, IsFormed};
 ghost use Rattle.idl_parser.specs.Lexemes.{text_of, seen_entry};
 
 use crate::symbol;
@@ -43,9 +43,10 @@ fn symbol_of(kind: TokenKind, octets: &[u8]) -> u8
     }
 }
 
-/// The tokens of a text as the grammar sees them, in one pass.
+/// The tokens of a text as the grammar sees them, in one pass. Their words are identifiers, and their UUIDs have their form.
 pub fn lexemes(alloc: Global, tokens: &Tokens) -> Result<Vec<Lexeme<'_>>, AllocError>
-    ensures { IfOk result (λ v. text_of v.items ≡ grammar_lexemes tokens.now) }
+    ensures formed { IfOk result (λ v. IsFormed (text_of v.items)) }
+    ensures text { IfOk result (λ v. text_of v.items ≡ grammar_lexemes tokens.now) }
 {
     let mut list = Vec::with_capacity(alloc, tokens.count() as usize)?;
     for token in 0..tokens.count() {

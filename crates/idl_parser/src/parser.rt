@@ -5,13 +5,15 @@ ghost use Rattle.phrases.specs.Text.{symbol_at, lexeme_at, is, is_in};
 ghost use Rattle.phrases.specs.Reading.{mark_read, open_read};
 ghost use Rattle.phrases.specs.Gives.{Gives, GivesPlace};
 ghost use Rattle.idl_grammar.specs.Expressions.{spelling as spelling_of};
+ghost use Rattle.idl_grammar.specs.Lexemes.{no_words, IsFormed};
 ghost use Rattle.idl_grammar.specs.Limits.{names};
+ghost use Rattle.idl_grammar.specs.Symbols as symbols;
 ghost use Rattle.idl_grammar.specs.ReadExpressions.{spelled_read, placed_read, ident_read, opening_read};
 ghost use Rattle.idl_parser.specs.Lexemes.{text_of};
 
 use crate::lexemes::Lexeme;
 use crate::symbol;
-use idl_grammar::Spelling;
+use idl_grammar::{Identifier, Spelling, UuidText};
 use nd_base::Octets;
 use phrases::Refusal;
 use std::alloc::Global;
@@ -30,11 +32,14 @@ pub struct Parser<'a> {
 
 impl<'a> Model for Parser<'a> {
     ghost use Rattle.phrases.specs.Text.{Text};
+    ghost use Rattle.idl_grammar.specs.Lexemes.{IsFormed};
     ghost use Rattle.idl_parser.specs.Lexemes.{text_of};
 
     ghost Value = { Text };
 
     ghost view = { λ p. text_of p.lexemes.now };
+
+    ghost invariant = { λ p. IsFormed (text_of p.lexemes.now) };
 }
 
 /// The symbols of names inside attribute brackets.
@@ -88,8 +93,9 @@ pub(crate) fn is_name_symbol(inside: bool, symbol: u8) -> bool
 }
 
 impl<'a> Parser<'a> {
-    /// A parser of these tokens.
+    /// A parser of these tokens, whose words are identifiers and whose UUIDs have their form.
     pub fn new(alloc: Global, lexemes: &'a [Lexeme<'a>]) -> Parser<'a>
+        requires { IsFormed (text_of lexemes.now) }
         ensures { result ≡ text_of lexemes.now }
     {
         Parser { alloc, lexemes }
@@ -170,6 +176,18 @@ impl Parser<'_> {
         }
     }
 
+    /// A word as it is spelled.
+    pub fn word(&self, at: usize) -> Result<Identifier, Refusal>
+        requires within { at < length self.now }
+        requires word { is_in no_words (symbol_at self.now at) ≡ false }
+        ensures spelling { IfOk result (λ s. s ≡ spelling_of (lexeme_at self.now at)) }
+        ensures refusal { IfErr result (λ e. e ≡ refusal.Memory) }
+    {
+        let spelling = self.copied(at)?;
+        let _lexemes = &self.lexemes;
+        Ok(Identifier::new(spelling))
+    }
+
     /// A mark or a word.
     #[tactic(auto, using(phrases::proofs::Within::mark_within))]
     pub fn mark(&self, wanted: u8, at: usize) -> Result<usize, Refusal>
@@ -246,6 +264,21 @@ impl Parser<'_> {
         Ok((self.copied(at)?, self.past(at)))
     }
 
+    /// A UUID, as it is spelled.
+    #[tactic(auto, using(phrases::proofs::Within::mark_within))]
+    pub fn uuid_text(&self, at: usize) -> Result<(UuidText, usize), Refusal>
+        requires within { at ≤ length self.now }
+        ensures gives { Gives (λ x. x) result (spelled_read symbols.UuidValue self.now at) }
+        ensures within { IfOk result (λ x. (at < x.1) × (x.1 ≤ length self.now)) }
+    {
+        if !self.stands(symbol::UUID_VALUE, at) {
+            return Err(Refusal::Syntax(at));
+        }
+        let spelling = self.copied(at)?;
+        let _lexemes = &self.lexemes;
+        Ok((UuidText::new(spelling), self.past(at)))
+    }
+
     /// Whether a name stands at a place, inside attribute brackets or outside.
     pub fn is_name(&self, inside: bool, at: usize) -> bool
         ensures { result ≡ is_in (names inside) (symbol_at self.now at) }
@@ -254,8 +287,8 @@ impl Parser<'_> {
     }
 
     /// A name, inside attribute brackets or outside.
-    #[tactic(auto, using(crate::proofs::Basics::name_within))]
-    pub fn ident(&self, inside: bool, at: usize) -> Result<(Spelling, usize), Refusal>
+    #[tactic(auto, using(crate::proofs::Basics::name_within, crate::proofs::Basics::name_is_word))]
+    pub fn ident(&self, inside: bool, at: usize) -> Result<(Identifier, usize), Refusal>
         requires within { at ≤ length self.now }
         ensures gives { Gives (λ x. x) result (ident_read inside self.now at) }
         ensures within { IfOk result (λ x. (at < x.1) × (x.1 ≤ length self.now)) }
@@ -263,6 +296,6 @@ impl Parser<'_> {
         if !self.is_name(inside, at) {
             return Err(Refusal::Syntax(at));
         }
-        Ok((self.copied(at)?, self.past(at)))
+        Ok((self.word(at)?, self.past(at)))
     }
 }

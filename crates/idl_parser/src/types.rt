@@ -11,7 +11,7 @@ ghost use Rattle.idl_grammar.specs.Seen.{seen_type, seen_arm, seen_member, seen_
 use crate::enums::LABEL_FIRSTS;
 use crate::parser::Parser;
 use crate::symbol;
-use idl_grammar::{Arm, Case, Member, Spelling, TagKind, TypeSpec};
+use idl_grammar::{Arm, Case, Identifier, Member, TagKind, TypeSpec};
 use phrases::Refusal;
 
 /// The symbols with which a type begins that is no name.
@@ -141,7 +141,7 @@ impl Parser<'_> {
         nesting: usize,
         depth: usize,
         octet: u32,
-        tag: Option<Spelling>,
+        tag: Option<Identifier>,
         at: usize,
     ) -> Result<(TypeSpec, usize), Refusal>
         requires within { at ≤ length self.now }
@@ -262,7 +262,7 @@ impl Parser<'_> {
         nesting: usize,
         depth: usize,
         octet: u32,
-        tag: Option<Spelling>,
+        tag: Option<Identifier>,
         at: usize,
     ) -> Result<(TypeSpec, usize), Refusal>
         requires within { at ≤ length self.now }

@@ -12,7 +12,7 @@ use Rattle.idl_names.specs.Ended.{Ended}
 use Rattle.idl_rules.specs.World.{World}
 use Rattle.idl_rules.specs.Attributes.{first_said}
 use Rattle.idl_rules.specs.AttributeRules.{is_out_of_place, is_repeated, is_past_65535, is_large_minor, is_large_version_in, is_large_version, lacks_uuid_and_local}
-use Rattle.idl_rules.specs.ListBreaches.{attribute_breaches, list_breaches}
+use Rattle.idl_rules.specs.ListBreaches.{attribute_breaches, list_breaches_at, list_breaches}
 use Rattle.idl_rules.specs.Nodes.{Construct, Node, attribute_nodes, attribute_nodes_from, export_nodes, header_of, file_nodes, nodes}
 use Rattle.idl_rules.specs.Noted.{of_lists}
 use Rattle.idl_rules.specs.Rules.{broken_at, breaches}
@@ -99,7 +99,7 @@ small_file says small f h =
     let c = header_of f in
     let exports = flat_map (export_nodes (eqb f.file 0) c) f.tree.exports in
     let x = neither (broken_at c 3 f.tree.attributes.at (lacks_uuid_and_local c)) (list_breaches (attribute_nodes c ++ exports)) h in
-    let y = neither (list_breaches (attribute_nodes c)) (list_breaches exports) (sym (flat_map-append _ (attribute_nodes c) exports) ∙ x.1) in
+    let y = neither (list_breaches (attribute_nodes c)) (list_breaches exports) (sym (flat_map-append list_breaches_at (attribute_nodes c) exports) ∙ x.1) in
     small_said says small c [] c.attributes y.0
 
 small_one : (says : AttributeKind → Option ℕ) (f : Ended) (fs : List Ended) (t : Tree) → or_none (first_said says f.tree.attributes.list) ≤ 65535
@@ -116,7 +116,7 @@ small_among : (says : AttributeKind → Option ℕ) → IsSmallSaid says → (fs
     → or_none (first_said says t.attributes.list) ≤ 65535
 small_among says small [] t h e = absurd (let x : [] ≡ t ∷ [] = e in cc)
 small_among says small (f ∷ fs) t h e =
-    let both = neither (list_breaches (file_nodes f)) (list_breaches (flat_map file_nodes fs)) (sym (flat_map-append _ (file_nodes f) (flat_map file_nodes fs)) ∙ h) in
+    let both = neither (list_breaches (file_nodes f)) (list_breaches (flat_map file_nodes fs)) (sym (flat_map-append list_breaches_at (file_nodes f) (flat_map file_nodes fs)) ∙ h) in
     small_one says f fs t (small_file says small f both.0) (small_among says small fs t both.1) (eqb f.file 0) e
 
 none_of_lists : (w : World) → breaches w ≡ [] → list_breaches (nodes w) ≡ []

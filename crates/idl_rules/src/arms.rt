@@ -1,6 +1,7 @@
 // The arms of a union as an interface has them.
-ghost use Rattle.std.specs.Prelude.{◌≡◌, ◌++◌, ◌∷◌, [], Some, map, option_map, is_none, IfOk, OnOk};
-ghost use Rattle.std.specs.List.{flat_map, list_any};
+ghost use Rattle.std.specs.Prelude.{◌≡◌, ◌++◌, ◌∷◌, [], true, Some, map, option_map, is_none, IfOk, OnOk};
+ghost use Rattle.std.specs.List.{flat_map, list_all, list_any};
+ghost use Rattle.nd_types.specs.Legal.{is_named, is_named_default};
 ghost use Rattle.idl_grammar.specs.Reading as reading;
 ghost use Rattle.idl_grammar.specs.Seen.{seen_expr, seen_attribute, seen_kind, seen_label, seen_arm, seen_case, seen_type};
 ghost use Rattle.idl_names.specs.Seen.{known_in};
@@ -14,7 +15,7 @@ ghost use Rattle.idl_rules.specs.Made.{seen_valued, valued, value_said, arm_with
 use crate::labels::arm_attributes;
 use crate::members::name_of;
 use crate::typing::number;
-use idl_grammar::{Arm, Attribute, AttributeKind, Case, Expr, Label, Spelling, TypeSpec};
+use idl_grammar::{Arm, Attribute, AttributeKind, Case, Expr, Identifier, Label, TypeSpec};
 use idl_names::Scope;
 use nd_base::{Memory, Name};
 use nd_types as nd;
@@ -25,7 +26,7 @@ use std::alloc::Global;
 #[derive(Drop)]
 pub(crate) struct ValuedArm<'t> {
     /// The name that it declares; an empty arm has none.
-    pub(crate) name: Option<&'t Spelling>,
+    pub(crate) name: Option<&'t Identifier>,
     /// The values of its labels; a default has none.
     pub(crate) labels: Vec<Option<i128>>,
 }
@@ -103,7 +104,7 @@ fn labels_of(alloc: Global, scope: &Scope, labels: &[Label]) -> Result<Vec<Optio
 }
 
 /// The name that an arm declares.
-fn name_in(arm: &Arm) -> Option<&Spelling>
+fn name_in(arm: &Arm) -> Option<&Identifier>
     ensures { option_map (λ s. s.now.octets) result ≡ meaning.name_of_arm (seen_arm arm.now) }
 {
     match arm {
@@ -115,7 +116,7 @@ fn name_in(arm: &Arm) -> Option<&Spelling>
 /// Adds an arm.
 fn add<'t>(
     list: &mut Vec<ValuedArm<'t>>,
-    name: Option<&'t Spelling>,
+    name: Option<&'t Identifier>,
     labels: Vec<Option<i128>>,
 ) -> Result<(), Memory>
     ensures { OnOk result (map seen_valued list.new.items ≡ map seen_valued list.old.items
@@ -177,7 +178,7 @@ pub(crate) fn valued_arms<'t>(
 }
 
 /// The first of these types, where the arm is not empty.
-fn type_for(name: Option<&Spelling>, types: &[TypeId]) -> Option<TypeId>
+fn type_for(name: Option<&Identifier>, types: &[TypeId]) -> Option<TypeId>
     ensures { result ≡ made.type_for (option_map (λ s. s.now.octets) name.entry) types.now }
 {
     match (name, types) {
@@ -187,7 +188,7 @@ fn type_for(name: Option<&Spelling>, types: &[TypeId]) -> Option<TypeId>
 }
 
 /// The types of the arms behind this one.
-fn types_past<'s>(name: Option<&Spelling>, types: &'s [TypeId]) -> &'s [TypeId]
+fn types_past<'s>(name: Option<&Identifier>, types: &'s [TypeId]) -> &'s [TypeId]
     ensures { result.now ≡ made.types_past (option_map (λ s. s.now.octets) name.entry) types.now }
 {
     match (name, types) {
@@ -197,8 +198,9 @@ fn types_past<'s>(name: Option<&Spelling>, types: &'s [TypeId]) -> &'s [TypeId]
 }
 
 /// The name of an arm. Takes memory for it.
-fn arm_name(alloc: Global, name: Option<&Spelling>) -> Result<Option<Name>, Memory>
-    ensures { IfOk result (λ n. n ≡ option_map (λ s. s.now.octets) name.entry) }
+fn arm_name(alloc: Global, name: Option<&Identifier>) -> Result<Option<Name>, Memory>
+    ensures made { IfOk result (λ n. n ≡ option_map (λ s. s.now.octets) name.entry) }
+    ensures named { IfOk result (λ n. is_named n ≡ true) }
 {
     match name {
         Some(name) => Ok(Some(name_of(alloc, name)?)),
@@ -209,11 +211,12 @@ fn arm_name(alloc: Global, name: Option<&Spelling>) -> Result<Option<Name>, Memo
 /// An arm for a label. Takes memory for its name.
 fn arm_for(
     alloc: Global,
-    name: Option<&Spelling>,
+    name: Option<&Identifier>,
     of: Option<TypeId>,
     label: i128,
 ) -> Result<nd::Arm, Memory>
-    ensures { IfOk result (λ a. a ≡ meaning.arm_for (option_map (λ s. s.now.octets) name.entry) of label) }
+    ensures made { IfOk result (λ a. a ≡ meaning.arm_for (option_map (λ s. s.now.octets) name.entry) of label) }
+    ensures named { IfOk result (λ a. is_named a.name ≡ true) }
 {
     let name = arm_name(alloc, name)?;
     Ok(nd::Arm { label, name, of })
@@ -223,11 +226,12 @@ fn arm_for(
 fn add_arm(
     alloc: Global,
     arms: &mut Arms,
-    name: Option<&Spelling>,
+    name: Option<&Identifier>,
     of: Option<TypeId>,
     label: Option<i128>,
 ) -> Result<(), Memory>
-    ensures { OnOk result (arms.new ≡ arms.old ++ arm_with (option_map (λ s. s.now.octets) name.entry) of label) }
+    ensures made { OnOk result (arms.new ≡ arms.old ++ arm_with (option_map (λ s. s.now.octets) name.entry) of label) }
+    ensures named { list_all (λ a. is_named a.name) arms.old ≡ true → OnOk result (list_all (λ a. is_named a.name) arms.new ≡ true) }
 {
     let Some(label) = label else {
         return Ok(());
@@ -243,11 +247,12 @@ fn add_arm(
 fn add_arms(
     alloc: Global,
     arms: &mut Arms,
-    name: Option<&Spelling>,
+    name: Option<&Identifier>,
     of: Option<TypeId>,
     labels: &[Option<i128>],
 ) -> Result<(), Memory>
-    ensures { OnOk result (arms.new ≡ arms.old ++ flat_map (arm_with (option_map (λ s. s.now.octets) name.entry) of) labels.now) }
+    ensures made { OnOk result (arms.new ≡ arms.old ++ flat_map (arm_with (option_map (λ s. s.now.octets) name.entry) of) labels.now) }
+    ensures named { list_all (λ a. is_named a.name) arms.old ≡ true → OnOk result (list_all (λ a. is_named a.name) arms.new ≡ true) }
 {
     for label in labels {
         add_arm(alloc, arms, name, of, *label)?;
@@ -261,7 +266,8 @@ pub(crate) fn labelled_arms(
     list: &[ValuedArm<'_>],
     types: &[TypeId],
 ) -> Result<Arms, Memory>
-    ensures { IfOk result (λ v. v ≡ arms_with (map seen_valued list.now) types.now) }
+    ensures made { IfOk result (λ v. v ≡ arms_with (map seen_valued list.now) types.now) }
+    ensures named { IfOk result (λ v. list_all (λ a. is_named a.name) v ≡ true) }
 {
     let mut arms = Arms::new(alloc);
     let mut rest = types;
@@ -296,7 +302,8 @@ pub(crate) fn default_arm(
     list: &[ValuedArm<'_>],
     types: &[TypeId],
 ) -> Result<Option<nd::Arm>, Memory>
-    ensures { IfOk result (λ a. a ≡ default_with (map seen_valued list.now) types.now) }
+    ensures made { IfOk result (λ a. a ≡ default_with (map seen_valued list.now) types.now) }
+    ensures named { IfOk result (λ a. is_named_default a ≡ true) }
 {
     let mut rest = types;
     for arm in list {

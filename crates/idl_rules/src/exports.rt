@@ -13,7 +13,7 @@ use crate::nodes::{Construct, Declared, Node, Nodes, Position, Returned};
 use crate::parts::parameters_declared;
 use crate::walk::{attributes, listed, switch, type_spec, unlisted};
 use idl_grammar::{
-    Declarator, Export, Init, Parameter, Parameters, SimpleType, Spelling, TypeSpec,
+    Declarator, Export, Identifier, Init, Parameter, Parameters, SimpleType, TypeSpec,
 };
 use idl_names::{FileTree, FileTrees};
 use nd_base::Memory;
@@ -92,7 +92,7 @@ fn exported<'t>(
     nodes: &mut Nodes<'t>,
     construct: Construct<'t>,
     of: &'t TypeSpec,
-    name: &'t Spelling,
+    name: &'t Identifier,
     parameters: &'t Parameters,
 ) -> Result<(), Memory>
     ensures { OnOk result (Adds nodes.old nodes.new (rules.operation_nodes (seen_construct construct.entry) (seen.seen_type of.now) name.now (parameters_of (seen.seen_parameters parameters.now)))) }

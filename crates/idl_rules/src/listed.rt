@@ -38,7 +38,7 @@ pub(crate) fn indexes(alloc: Global, list: &[Declared<'_>]) -> Result<Table<u32>
     let mut table = Table::new(alloc);
     for index in 0..list.len() {
         let declarator = list[index].declarator;
-        put(&mut table, declarator.name.octets.as_slice(), index)?;
+        put(&mut table, declarator.name.as_slice(), index)?;
     }
     Ok(table)
 }

@@ -58,7 +58,7 @@ pub(crate) fn interface(
     let tree = main_tree(&scope.files)?;
     let name = name_of(alloc, &tree.name)?;
     let list = tree.attributes.list.as_slice();
-    let uuid = uuid(list)?;
+    let uuid = uuid(list);
     let major = major(list);
     let minor = minor(list);
     let program = Program {
@@ -67,11 +67,10 @@ pub(crate) fn interface(
         types,
         numbers,
     };
-    // proof: the bounds of a legal table have 32 bits, and the interface is legal
-    meaning_is_legal();
     let types = type_table(alloc, &program)?;
     let layouts = types.layouts(alloc)?;
     let operations = all_operations(alloc, &program)?;
+    meaning_is_legal();
     Ok(Interface {
         name,
         uuid,

@@ -7,7 +7,7 @@ ghost use Rattle.idl_rules.specs.Growing.{Adds, Pushes};
 
 use crate::attributes::attribute_list;
 use idl_grammar::{
-    Attribute, Attributes, Declarator, Enumerator, Init, PointerClass, SimpleType, Spelling,
+    Attribute, Attributes, Declarator, Enumerator, Identifier, Init, PointerClass, SimpleType,
     SwitchType, TagKind, TypeSpec,
 };
 use nd_base::{Memory, Place};
@@ -53,7 +53,7 @@ pub(crate) struct Declared<'t> {
 pub(crate) struct Returned<'t> {
     pub(crate) construct: Construct<'t>,
     pub(crate) of: &'t TypeSpec,
-    pub(crate) name: &'t Spelling,
+    pub(crate) name: &'t Identifier,
 }
 
 /// One thing, or some of one kind that stand side by side. A list is told by its number among the lists of `Nodes`.
@@ -76,7 +76,7 @@ pub(crate) enum Node<'t> {
     Tag {
         construct: Construct<'t>,
         kind: TagKind,
-        tag: &'t Spelling,
+        tag: &'t Identifier,
     },
     /// A struct, union or enum with its body.
     Body {

@@ -27,7 +27,7 @@ use crate::variables::{
     Slot, has_no_variable, has_wrong_switch_variable, has_wrong_variable, tables,
 };
 use crate::written::{place_of_body, switch, tag, tagged_kind, written};
-use idl_grammar::{Spelling, SwitchType, TagKind, TypeSpec};
+use idl_grammar::{Identifier, SwitchType, TagKind, TypeSpec};
 use idl_names::{Scope, Table};
 use nd_base::{Memory, Place};
 use std::alloc::Global;
@@ -315,7 +315,7 @@ fn note_tag(
     kinds: &mut Kinds,
     file: u16,
     kind: TagKind,
-    name: &Spelling,
+    name: &Identifier,
 ) -> Result<Typed, Memory>
     ensures typed { IfOk result (λ t. type_at kinds.new t.of ≡ types.type_of_tag (known_in scope.now) file kind name.now) }
     ensures within { IfOk result (AreTypedWithin (length kinds.new)) }
@@ -336,10 +336,10 @@ fn note_body(kinds: &mut Kinds, construct: &Construct, body: &TypeSpec) -> Resul
 }
 
 /// Gives a name its type, unless it is there already.
-pub(crate) fn put_first(names: &mut Table<u32>, name: &Spelling, of: u32) -> Result<(), Memory>
+pub(crate) fn put_first(names: &mut Table<u32>, name: &Identifier, of: u32) -> Result<(), Memory>
     ensures { OnOk result (names.new ≡ and_name names.old name.now.octets of) }
 {
-    let name = name.octets.as_slice();
+    let name = name.as_slice();
     match names.get(name) {
         Some(_) => Ok(()),
         None => names.put(name, of),
@@ -350,7 +350,7 @@ pub(crate) fn put_first(names: &mut Table<u32>, name: &Spelling, of: u32) -> Res
 fn declare(
     names: &mut Table<u32>,
     position: Position,
-    name: &Spelling,
+    name: &Identifier,
     of: u32,
 ) -> Result<(), Memory>
     ensures { OnOk result (names.new ≡ declared_in names.old (seen_position position) name.now.octets of) }

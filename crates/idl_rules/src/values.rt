@@ -21,7 +21,7 @@ use crate::ranges::is_in_range;
 use crate::typing::number;
 use crate::written::simple_kind;
 use idl_grammar::{
-    Attribute, AttributeKind, Bound, Declarator, Enumerator, Init, SimpleType, Spelling,
+    Attribute, AttributeKind, Bound, Declarator, Enumerator, Identifier, Init, SimpleType,
 };
 use idl_names::{Meaning, Names, Scope};
 
@@ -29,17 +29,17 @@ use idl_names::{Meaning, Names, Scope};
 const ENUMERATOR_LIMIT: i128 = 32_767;
 
 /// The number that a name stands for.
-pub(crate) fn number_of(scope: &Scope, name: &Spelling) -> Option<i128>
+pub(crate) fn number_of(scope: &Scope, name: &Identifier) -> Option<i128>
     ensures { result ≡ world.number_of (known_in scope.now) name.now.octets }
 {
-    match scope.meaning(name.octets.as_slice()) {
+    match scope.meaning(name.as_slice()) {
         Some(Meaning::Number(number)) => Some(number),
         _ => None,
     }
 }
 
 /// Whether the name of an enumerator stands for a value that none has.
-fn is_large_enumerator(scope: &Scope, name: &Spelling) -> bool
+fn is_large_enumerator(scope: &Scope, name: &Identifier) -> bool
     ensures { result ≡ value_rules.is_large_enumerator (known_in scope.now) name.now }
 {
     match number_of(scope, name) {
@@ -63,7 +63,7 @@ pub(crate) fn enumerators(
 {
     for one in list {
         let broken = is_large_enumerator(scope, &one.name);
-        finder.note(13, construct.place(one.name.at), broken);
+        finder.note(13, construct.place(one.name.at()), broken);
     }
 }
 

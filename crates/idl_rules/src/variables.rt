@@ -84,7 +84,7 @@ fn is_no_other(nodes: &Nodes, tables: &[Table<u32>], slot: Slot, variable: &Vari
     requires { AreTables tables.now nodes.now.lists.items }
     ensures { result ≡ no_other (list_at nodes.now.lists.items slot.list) slot.index variable.now }
 {
-    match look_up(tables, slot.list, variable.name.octets.as_slice()) {
+    match look_up(tables, slot.list, variable.name.as_slice()) {
         Some(place) => place == slot.index,
         None => true,
     }
@@ -271,7 +271,7 @@ fn says_wrong(
     match &attribute.kind {
         AttributeKind::Of(VariableWord::SwitchIs, _) => Ok(false),
         AttributeKind::Of(_, variable) => {
-            let found = listed(nodes, tables, list, variable.name.octets.as_slice());
+            let found = listed(nodes, tables, list, variable.name.as_slice());
             let right = is_found_right(scope, kinds, names, found, variable.star, Wanted::Integer)?;
             Ok(!right)
         }
@@ -297,7 +297,7 @@ fn says_wrong_switch(
 {
     match &attribute.kind {
         AttributeKind::Of(VariableWord::SwitchIs, variable) => {
-            let found = listed(nodes, tables, list, variable.name.octets.as_slice());
+            let found = listed(nodes, tables, list, variable.name.as_slice());
             let right = is_found_right(scope, kinds, names, found, variable.star, Wanted::Switch)?;
             Ok(!right)
         }

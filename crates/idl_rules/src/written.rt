@@ -9,7 +9,7 @@ ghost use Rattle.idl_rules.specs.Kinds.{type_by, is_inside, Stands, Keeps};
 ghost use Rattle.idl_rules.specs.SeenNames.{seen_names, are_within};
 
 use crate::kinds::{Kind, Kinds};
-use idl_grammar::{SimpleType, Spelling, SwitchType, TagKind, TypeSpec, Width};
+use idl_grammar::{Identifier, SimpleType, SwitchType, TagKind, TypeSpec, Width};
 use idl_names::{Scope, Table};
 use nd_base::{Memory, Place};
 use nd_types::Primitive;
@@ -56,12 +56,12 @@ fn simple(kinds: &mut Kinds, of: SimpleType) -> Result<u32, Memory>
 }
 
 /// The type of a name. Each name of a type is known where it is used.
-fn named(kinds: &mut Kinds, names: &Table<u32>, name: &Spelling) -> Result<u32, Memory>
+fn named(kinds: &mut Kinds, names: &Table<u32>, name: &Identifier) -> Result<u32, Memory>
     requires { are_within (length kinds.old) names.now ≡ true }
     ensures stands { IfOk result (λ n. Stands kinds.new n (types.named_type (seen_names kinds.old names.now) name.now)) }
     ensures keeps { Keeps kinds.old kinds.new }
 {
-    match names.get(name.octets.as_slice()) {
+    match names.get(name.as_slice()) {
         Some(number) => Ok(number),
         None => simple(kinds, SimpleType::Void),
     }
@@ -93,12 +93,12 @@ pub(crate) fn tagged_kind(kind: TagKind, place: Place) -> Kind
 }
 
 /// Where the body of a tag is told.
-fn place_of_tag(scope: &Scope, file: u16, tag: &Spelling) -> Place
+fn place_of_tag(scope: &Scope, file: u16, tag: &Identifier) -> Place
     ensures { result ≡ types.place_of_tag (found tag.now.octets (known_in scope.now).tags) (record { file = file; at = tag.now.at }) }
 {
-    match scope.find(true, tag.octets.as_slice()) {
+    match scope.find(true, tag.as_slice()) {
         Some(place) => place,
-        None => Place { file, at: tag.at },
+        None => Place { file, at: tag.at() },
     }
 }
 
@@ -108,7 +108,7 @@ pub(crate) fn tag(
     kinds: &mut Kinds,
     file: u16,
     kind: TagKind,
-    tag: &Spelling,
+    tag: &Identifier,
 ) -> Result<u32, Memory>
     ensures stands { IfOk result (λ n. Stands kinds.new n (types.type_of_tag (known_in scope.now) file kind tag.now)) }
     ensures keeps { Keeps kinds.old kinds.new }
@@ -119,11 +119,11 @@ pub(crate) fn tag(
 }
 
 /// By which place a struct, union or enum is told that begins at an octet.
-pub(crate) fn place_of_body(file: u16, at: u32, tag: &Option<Spelling>) -> Place
+pub(crate) fn place_of_body(file: u16, at: u32, tag: &Option<Identifier>) -> Place
     ensures { result ≡ types.place_of_body file at tag.now }
 {
     match tag {
-        Some(tag) => Place { file, at: tag.at },
+        Some(tag) => Place { file, at: tag.at() },
         None => Place { file, at },
     }
 }
@@ -134,7 +134,7 @@ fn body(
     file: u16,
     kind: TagKind,
     at: u32,
-    tag: &Option<Spelling>,
+    tag: &Option<Identifier>,
 ) -> Result<u32, Memory>
     ensures stands { IfOk result (λ n. Stands kinds.new n (types.tagged_type kind (types.place_of_body file at tag.now))) }
     ensures keeps { Keeps kinds.old kinds.new }

@@ -3,6 +3,7 @@
 //! memory, and has no cause that a contract could name.
 #![tactic(auto)]
 
+mod asked;
 mod calls;
 mod files;
 mod ledger;
@@ -15,6 +16,7 @@ mod plain;
 mod real;
 #[cfg(test)]
 mod tests;
+pub mod text;
 
 pub use files::MemFiles;
 pub use ledger::{Counted, Ledger, Steps, Uncounted};
@@ -29,4 +31,4 @@ pub use real::{FolderFiles, InputSource, OutputSink};
 pub const FILE_LIMIT: u32 = 1_048_576;
 
 /// The greatest number of octets of a stream of values in the network representation (C706 chapter 14).
-pub const STREAM_LIMIT: u32 = 16_777_216;
+pub const STREAM_LIMIT: u32 = 67_108_864;

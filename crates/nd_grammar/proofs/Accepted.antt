@@ -1,6 +1,6 @@
 -- Good entries that octets spell are not refused.
 use Rattle.std.proofs.Common.{◌≡◌, ℕ, ◌+◌, ◌<◌, ◌≤◌, ℤ, Bool, true, false, ◌&&◌, List, [], ◌∷◌, ◌++◌, length, Option, Some, None, refl, ap, ap₂, sym, ◌∙◌, arith, subst}
-use Rattle.std.specs.Prelude.{eqb, ltb, cond, not, ◌||◌}
+use Rattle.std.specs.Prelude.{option_map, eqb, ltb, cond, not, ◌||◌}
 use Rattle.std.specs.Ordering.{int_eq}
 use Rattle.std.specs.List.{AllByRecursion, list_any}
 use Rattle.std.proofs.lemmas.Bool.{le-ltb, eqb-true, eq-eqb, eqb-false, and_right}
@@ -20,7 +20,7 @@ use Rattle.nd_grammar.specs.declared.reason.Reason.{Reason}
 use Rattle.nd_grammar.specs.declared.reason.Reason.TheVariants as reason
 use Rattle.nd_grammar.specs.Entry.{Kind, Entry, Align, Max, Offset, Actual, Chunk, Number, Num, Tag, Text, Context, Test, Unread, size_at, EntryAt, end_to_end}
 use Rattle.nd_grammar.specs.Represents.{piece, Spells, IsRendered}
-use Rattle.nd_grammar.specs.Refusal.{kind_refusal, refused_if, is_long, is_enumerator, is_selected, text_refusal, is_other, other_pointee, disagrees_at, tested_at, Accepts}
+use Rattle.nd_grammar.specs.Refusal.{kind_refusal, refused_if, is_long, is_enumerator, is_selected, text_refusal, is_other, other_pointee, tested_at, Accepts}
 use Rattle.nd_grammar.proofs.GoodEntries.{IsGood, GoodEntry}
 
 not_refused : (b : Bool) (r : ℕ × Reason) (o : Option (ℕ × Reason)) → b ≡ false → o ≡ None → refused_if b r o ≡ None
@@ -122,7 +122,7 @@ module _ (order : Order) (octets : List ℕ) (g : Graph) (nums : ℕ → ℕ) (l
   kind_accepted seen s at m (Number Ref to c) os a b = refl
   kind_accepted seen s at m (Number Unique to c) os a b = refl
   kind_accepted seen s at m (Test q wanted found) os a b =
-      ap (λ t. cond t None (disagrees_at at (tested_at seen q m.home m.node) (reason.Disagrees wanted found))) (int_same wanted found a)
+      ap (λ t. cond t None (option_map (λ place. (place, reason.Disagrees wanted found)) (tested_at seen q m.home m.node))) (int_same wanted found a)
   kind_accepted seen s at m (Align n) os a b = refl
   kind_accepted seen s at m (Max v) os a b = refl
   kind_accepted seen s at m (Chunk v) os a b = refl

@@ -18,7 +18,7 @@ use Rattle.nd_grammar.specs.Entry.{Kind, Entry, Align, Max, Offset, Actual, Chun
 use Rattle.nd_grammar.specs.Represents.{piece, Spells, IsNumber, IsRendered, id_octets, IsNumbering, Represents}
 use Rattle.nd_grammar.specs.Bad.{Bad}
 use Rattle.nd_grammar.specs.Refusal.{Accepts, refusal}
-use Rattle.nd_grammar.specs.NextEntry.{IsReadTo}
+use Rattle.nd_grammar.specs.NextMark.{IsReadTo}
 use Rattle.nd_grammar.specs.declared.reason.Reason.{Reason}
 use Rattle.nd_graph.specs.Canon.{canonical_number, named_cells}
 use Rattle.nd_grammar.specs.Chosen.{Chosen, octets_from, pipe_cuts}

@@ -10,7 +10,7 @@ use Rattle.nd_grammar.specs.declared.reason.Reason.TheVariants as reason
 use Rattle.nd_grammar.specs.Entry.{Kind, Entry, Align, Max, Offset, Actual, Chunk, Number, Num, Tag, Text, Context, Test, Unread, size_at, EntryAt}
 use Rattle.nd_grammar.specs.Represents.{piece}
 use Rattle.nd_grammar.specs.Refusal.{kind_refusal, refused_if, is_long}
-use Rattle.nd_grammar.specs.NextEntry.{form}
+use Rattle.nd_grammar.specs.NextMark.{form}
 
 pub size_form : (at : ℕ) (x : Kind) → size_at at (form x) ≡ size_at at x
 size_form at (Text octets) = ap (λ n. n + 1) (length-replicate (length octets) 0)

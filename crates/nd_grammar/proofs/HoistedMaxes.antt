@@ -95,12 +95,12 @@ max_own (Some (def.Text e (Some n))) l ks c s x = cc
 max_own None l ks c s x = cc
 max_own (Some _) l ks c s x = cc
 
-replicate_only : (h : ℕ → Bool) (t : ℕ) → h t ≡ false → (n : ℕ) → OnlyLast h (replicate n t)
+pub replicate_only : (h : ℕ → Bool) (t : ℕ) → h t ≡ false → (n : ℕ) → OnlyLast h (replicate n t)
 replicate_only h t e zero = tt
 replicate_only h t e (suc zero) = tt
 replicate_only h t e (suc (suc n)) = (e, replicate_only h t e (suc n))
 
-replicate_last : (h : ℕ → Bool) (t : ℕ) → h t ≡ false → (n : ℕ) → last_of h (replicate n t) ≡ false
+pub replicate_last : (h : ℕ → Bool) (t : ℕ) → h t ≡ false → (n : ℕ) → last_of h (replicate n t) ≡ false
 replicate_last h t e zero = refl
 replicate_last h t e (suc zero) = e
 replicate_last h t e (suc (suc n)) = replicate_last h t e (suc n)
@@ -130,7 +130,7 @@ module _ (table : Table) (laid : HoistsLast table) where
   abbrev Children : ℕ → Option TypeDef → Label → List ℕ → Type 0
   Children t d l types = OnlyLast H types × (last_of H types ≡ true → (H t ≡ true) × (l ≡ tree.Rec) × ((ms : List Field) × (d ≡ Some (def.Struct ms))))
 
-  children : (t : ℕ) (d : Option TypeDef) (l : Label) (ks : Trees) → type_at table t ≡ d → Children t d l (child_types d l ks)
+  pub children : (t : ℕ) (d : Option TypeDef) (l : Label) (ks : Trees) → type_at table t ≡ d → Children t d l (child_types d l ks)
   children t (Some (def.Struct ms)) tree.Rec ks e = (
     laid.members t ms e,
     λ f. (laid.unfolds t ∙ ap (hoists_by H) e ∙ struct_last H ms ∙ f, refl, (ms, refl)),
@@ -193,7 +193,7 @@ module _ (table : Table) (laid : HoistsLast table) where
     kids_or_none t l l' ks ks' (inr n) (inl u) e k = maxes_of_kids _ ks ks' (e ∙ ap (λ x. child_types (type_at table t) x ks') u ∙ no_children (type_at table t) ks')
     kids_or_none t l l' ks ks' (inr n) (inr n') e k = k n n'
 
-    no_more : (h : ℕ → Bool) (t : ℕ) (types : List ℕ) → OnlyLast h (t ∷ types) → OnlyLast h types
+    pub no_more : (h : ℕ → Bool) (t : ℕ) (types : List ℕ) → OnlyLast h (t ∷ types) → OnlyLast h types
     no_more h t [] o = tt
     no_more h t (u ∷ types) o = o.1
 

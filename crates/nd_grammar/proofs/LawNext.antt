@@ -16,14 +16,14 @@ use Rattle.nd_grammar.specs.Represents.{IsRendered}
 use Rattle.nd_grammar.specs.Refusal.{Accepts}
 use Rattle.nd_grammar.specs.Stream.{Stream, representation}
 use Rattle.nd_grammar.specs.FewItems.{item_count}
-use Rattle.nd_grammar.specs.NextEntry.{NextAlike, IsOneToOne, IsReadTo}
+use Rattle.nd_grammar.specs.NextMark.{NextAlike, IsOneToOne, IsReadTo}
 use Rattle.nd_grammar.specs.declared.reason.Reason.{Reason}
 use Rattle.nd_grammar.specs.declared.reason.Reason.TheVariants as reason
 use Rattle.nd_grammar.specs.ExampleParts.{pointer_to}
 use Rattle.nd_grammar.proofs.Check.{upto, steps_of, partial_so, stream_so, read_so}
 use Rattle.nd_grammar.proofs.LawRing.{ring, ring_node, ring_2, ring_2_octets, ring_conforms, ring_represented, ring_cut}
 use Rattle.nd_grammar.proofs.LawExamples.{ring_side}
-use Rattle.nd_grammar.proofs.NextIndex.{next_entry}
+use Rattle.nd_grammar.proofs.NextIndex.{next_mark}
 use Rattle.nd_grammar.proofs.FewItemsLaw.{few_items}
 
 first_of : {X : Type 0} (xs ys : List X) → take (length xs) (xs ++ ys) ≡ xs
@@ -52,7 +52,7 @@ pub ring_next : (other : Bad ring Little (upto 6 ring_2_octets) 6 reason.Truncat
     → length other.earlier ≡ length ring_cut.earlier
     → NextAlike (slice_get (end_to_end 0 ring_cut.entries) (length ring_cut.earlier)) (slice_get (end_to_end 0 other.entries) (length ring_cut.earlier))
 ring_next other e =
-    (next_entry ring ring_side Little (upto 6 ring_2_octets) ring_cut.partial other.partial (sound_partial ring ring_cut.partial ring_cut.is_partial)
+    (next_mark ring ring_side Little (upto 6 ring_2_octets) ring_cut.partial other.partial (sound_partial ring ring_cut.partial ring_cut.is_partial)
     (sound_partial ring other.partial other.is_partial) ring_cut.entries other.entries ring_cut.stream other.stream (length ring_cut.earlier)
     (bad_read ring Little (upto 6 ring_2_octets) 6 reason.Truncated ring_cut)
     (subst (λ n. IsReadTo Little (upto 6 ring_2_octets) other.entries n) e (bad_read ring Little (upto 6 ring_2_octets) 6 reason.Truncated other))).0
@@ -99,7 +99,7 @@ turned_read = read_so (λ c. 3 - c) Little ring_2_octets turned_entries 7 refl r
 pub ring_map : (cells : List (ℕ × ℕ)) × IsOneToOne cells × Among cells (1, 2) × Among cells (2, 1)
 unfolding align_of hoists roots_of
 ring_map =
-    let (cells, one, homes, names) = (next_entry ring ring_side Little ring_2_octets ring_2 turned_ring (sound_partial ring ring_2 ring_partial)
+    let (cells, one, homes, names) = (next_mark ring ring_side Little ring_2_octets ring_2 turned_ring (sound_partial ring ring_2 ring_partial)
     (sound_partial ring turned_ring turned_partial) ring_entries turned_entries ring_stream turned_stream 7 ring_read turned_read).1 in
     (cells, one, names.1.0, names.1.1.1.1.1.1.0)
 

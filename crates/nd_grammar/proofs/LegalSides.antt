@@ -1,7 +1,7 @@
 -- The sides of legal interfaces are laid out as the laws need it.
 use Rattle.std.proofs.Common.{◌≡◌, ℕ, ◌+◌, zero, suc, ℤ, Bool, true, false, ◌&&◌, List, [], ◌∷◌, ◌++◌, Option, Some, None, refl, ap, sym, ◌∙◌, inl, inr, ◌⊎◌, subst, drop}
 use Rattle.std.specs.Prelude.{map, not, eqb, filter, cond, ◌==◌, ◌||◌}
-use Rattle.std.specs.List.{AllByRecursion, list_all, list_any, enumerate_from}
+use Rattle.std.specs.List.{AllByRecursion, list_all, list_any, enumerate_from, slice_get}
 use Rattle.std.proofs.lemmas.Bool.{and_parts, or_cases, not-true, eq-eqb, both_ways}
 use Rattle.std.proofs.lemmas.Option.{same_Some}
 use Rattle.nd_types.specs.declared.types.TypeDef.{TypeDef}
@@ -19,6 +19,7 @@ use Rattle.nd_types.specs.declared.types.TypeDef.TheVariants as def
 use Rattle.nd_types.specs.declared.types.Class.TheVariants.{Ref, Unique, Full}
 use Rattle.nd_types.specs.declared.TheConstants.{NESTING_LIMIT, HANDLE}
 use Rattle.std.specs.Ordering.{int_eq}
+use Rattle.nd_types.specs.declared.interface.Interface.{Interface}
 use Rattle.nd_types.specs.Table.{Table, type_at, selected, labelled, or_else}
 use Rattle.nd_types.specs.Layout.{hoists, hoists_by, hoists_within, last_hoists, parts, arm_type, arm_types, default_type}
 use Rattle.nd_types.specs.Legal.{IsLegal, only_last_hoists, has_none_within, is_barred_in_pipes, fits_pipes, is_switched}
@@ -30,6 +31,7 @@ use Rattle.nd_types.proofs.LegalLaws.{passes_at}
 use Rattle.nd_graph.specs.Setting.{Setting, Among, root_list}
 use Rattle.nd_graph.specs.Nodes.{selected_types}
 use Rattle.nd_graph.specs.Deferral.{before_pipes}
+use Rattle.nd_graph.specs.Fitting.{setting_of}
 use Rattle.nd_graph.proofs.NodeFacts.{all_of_list}
 use Rattle.nd_graph.proofs.Apart.{all_append, all_left, all_right, all_weaker}
 use Rattle.nd_grammar.specs.LegalSide.{IsLegalSide}
@@ -117,25 +119,28 @@ module _ (table : Table) (operations : List Operation) (legal : IsLegal table op
         (all_of_list _ _ (passes_at _ table t (def.Union tag enc arms default) legal.hoisting_arms e)));
   }
 
-  -- a test of fields passes at each parameter of each operation
-  test_in : (test : FieldAt → Bool) (siblings : List Field) (i : ℕ) (fs : List Field)
-      → list_all test (map (λ e. record { siblings = siblings; index = e.0; is_param = true; field = e.1 }) (enumerate_from i fs)) ≡ true
-      → AllByRecursion (λ f. (p : FieldAt) × (p.field ≡ f) × (test p ≡ true)) fs
-  test_in test siblings i [] h = tt
-  test_in test siblings i (f ∷ fs) h =
-      let (a, b) = and_parts _ _ h in
-      ((record { siblings = siblings; index = i; is_param = true; field = f }, refl, a), test_in test siblings (i + 1) fs b)
+  -- a test of fields passes at each of a list
+  abbrev pub AllPass : (FieldAt → Bool) → List Field → Type 0
+  AllPass test fs = AllByRecursion (λ f. (p : FieldAt) × (p.field ≡ f) × (test p ≡ true)) fs
 
+  pub test_in : (is_param : Bool) (test : FieldAt → Bool) (siblings : List Field) (i : ℕ) (fs : List Field)
+      → list_all test (map (λ e. record { siblings = siblings; index = e.0; is_param = is_param; field = e.1 }) (enumerate_from i fs)) ≡ true
+      → AllPass test fs
+  test_in is_param test siblings i [] h = tt
+  test_in is_param test siblings i (f ∷ fs) h =
+      let (a, b) = and_parts _ _ h in
+      ((record { siblings = siblings; index = i; is_param = is_param; field = f }, refl, a), test_in is_param test siblings (i + 1) fs b)
+
+  -- it passes at each parameter of each operation
   test_at : (test : FieldAt → Bool) (os : List Operation) (o : Operation) → Among os o → list_all (λ o. list_all test (fields_at true (param_fields o))) os ≡ true
-      → AllByRecursion (λ f. (p : FieldAt) × (p.field ≡ f) × (test p ≡ true)) (param_fields o)
+      → AllPass test (param_fields o)
   test_at test [] o a h = absurd a
   test_at test (q ∷ os) o (inl e) h =
       let (x, y) = and_parts _ _ h in
-      test_in test (param_fields o) 0 (param_fields o) (subst (λ u. list_all test (fields_at true (param_fields u)) ≡ true) (sym e) x)
+      test_in true test (param_fields o) 0 (param_fields o) (subst (λ u. list_all test (fields_at true (param_fields u)) ≡ true) (sym e) x)
   test_at test (q ∷ os) o (inr a) h = let (x, y) = and_parts _ _ h in test_at test os o a y
 
-  test_all : (test : FieldAt → Bool) → all_fields test table operations ≡ true → (o : Operation) → Among operations o
-      → AllByRecursion (λ f. (p : FieldAt) × (p.field ≡ f) × (test p ≡ true)) (param_fields o)
+  pub test_all : (test : FieldAt → Bool) → all_fields test table operations ≡ true → (o : Operation) → Among operations o → AllPass test (param_fields o)
   test_all test h o a = let (x, y) = and_parts _ _ h in test_at test operations o a y
 
   -- a field whose attributes would speak of a pipe has none
@@ -203,9 +208,9 @@ module _ (table : Table) (operations : List Operation) (legal : IsLegal table op
         go Switch h = both_ways (has_attr Switch f) c (has Switch h)
 
   bare_fields : (fs : List Field)
-      → AllByRecursion (λ f. (p : FieldAt) × (p.field ≡ f) × ((not (has_size p.field) || (is_conformant_array (subject_type table p.field) || is_conformant_text (subject_type table p.field))) ≡ true)) fs
-      → AllByRecursion (λ f. (p : FieldAt) × (p.field ≡ f) × ((not (has_range_attr p.field) || is_varying_array (subject_type table p.field)) ≡ true)) fs
-      → AllByRecursion (λ f. (p : FieldAt) × (p.field ≡ f) × ((not (has_attr Switch p.field) || is_switched table p.field.of.0) ≡ true)) fs
+      → AllPass (λ p. not (has_size p.field) || (is_conformant_array (subject_type table p.field) || is_conformant_text (subject_type table p.field))) fs
+      → AllPass (λ p. not (has_range_attr p.field) || is_varying_array (subject_type table p.field)) fs
+      → AllPass (λ p. not (has_attr Switch p.field) || is_switched table p.field.of.0) fs
       → AllByRecursion IsBare fs
   bare_fields [] a b c = tt
   bare_fields (f ∷ fs) a b c =
@@ -219,7 +224,7 @@ module _ (table : Table) (operations : List Operation) (legal : IsLegal table op
         bare_fields fs a.1 b.1 c.1,
       )
 
-  bare_params : (o : Operation) → Among operations o → AllByRecursion IsBare (param_fields o)
+  pub bare_params : (o : Operation) → Among operations o → AllByRecursion IsBare (param_fields o)
   bare_params o a = bare_fields (param_fields o) (test_all _ legal.sized o a) (test_all _ legal.varying o a) (test_all _ legal.switches o a)
 
 -- what is a pipe among the roots of parameters
@@ -231,7 +236,7 @@ module _ (table : Table) where
   PipeIsBare r = r.is_pipe ≡ true → IsPipeRoot table r
 
   -- a type that is a pipe, or a reference pointer to one
-  pipe_is : (t u : ℕ) (d : Option TypeDef) → type_at table t ≡ d → pipe_by table t d ≡ Some u
+  pub pipe_is : (t u : ℕ) (d : Option TypeDef) → type_at table t ≡ d → pipe_by table t d ≡ Some u
       → (e : TypeId) × (type_at table u ≡ Some (def.Pipe e)) × (type_at table (pointee_by t d) ≡ Some (def.Pipe e))
   pipe_is t u (Some (def.Pipe e)) h f =
       let same : t ≡ u = same_Some _ _ f in
@@ -336,3 +341,12 @@ module _ (w : Setting) (side_of : IsLegalSide w) where
             subst (λ u. AllByRecursion (IsPipeRoot w.table) (drop (before_pipes u) u)) (sym roots_parts)
             (subst (AllByRecursion (IsPipeRoot w.table)) (sym (pipes_behind first last z x)) y);
       }
+
+operation_there : (os : List Operation) (n : ℕ) (o : Operation) → slice_get os n ≡ Some o → Among os o
+operation_there [] n o e = cc
+operation_there (x ∷ os) zero o e = inl (sym (same_Some _ _ e))
+operation_there (x ∷ os) (suc n) o e = inr (operation_there os n o e)
+
+-- a side of an operation of an interface is legal
+pub interface_side : (i : Interface) (n : ℕ) (o : Operation) (s : Side) → slice_get i.operations n ≡ Some o → IsLegalSide (setting_of i o s)
+interface_side i n o s e = record { operations = i.operations; legal = i.legal; operation = operation_there i.operations n o e }

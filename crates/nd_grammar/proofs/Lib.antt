@@ -6,6 +6,7 @@ pub mod ChosenRepresents
 pub mod ConformingPartial
 pub mod Counting
 pub mod EntriesFine
+pub mod EntriesTell
 pub mod Excluded
 pub mod FewItemsLaw
 pub mod FewNodes
@@ -24,6 +25,7 @@ pub mod LawRing
 pub mod LegalPipes
 pub mod LegalReadable
 pub mod LegalSides
+pub mod LegalSubjects
 pub mod LegalUsable
 pub mod MadeTrees
 pub mod Mapped
@@ -93,10 +95,14 @@ pub mod SameByMap
 pub mod SameForms
 pub mod Spelt
 pub mod Standings
+pub mod StaysBad
 pub mod StreamConforming
 pub mod StreamConforms
+pub mod StreamFinds
 pub mod StreamMet
 pub mod StreamPointers
+pub mod TestedAt
+pub mod TestsFind
 pub mod WorkedArrays
 pub mod WorkedDirectory
 pub mod WorkedLarge

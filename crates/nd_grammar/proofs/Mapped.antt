@@ -30,9 +30,9 @@ use Rattle.nd_grammar.proofs.Carried.{InMap}
 use Rattle.nd_grammar.proofs.NextStream.{FitsPipes}
 use Rattle.nd_grammar.proofs.LegalSides.{in_selected}
 
--- the cell to which a map carries one
+-- the cell to which a map carries one; a number that is none of its cells stays
 abbrev pub image : List Pair → ℕ → ℕ
-image [] c = 0
+image [] c = c
 image (x ∷ xs) c = cond (eqb c x.left) x.right (image xs c)
 
 pub image_at : (ys : List Pair) → OneToOne ys → (z : Pair) → Among ys z → image ys z.left ≡ z.right
@@ -42,6 +42,12 @@ image_at (x ∷ xs) one z (inl e) =
 image_at (x ∷ xs) one z (inr a) =
     let p : IsApart x z = all_among (IsApart x) xs z a one.0 in
     ap (λ b. cond b x.right (image xs z.left)) (not_equal z.left x.left (λ e. p.0 (sym e))) ∙ image_at xs one.1 z a
+
+pub image_elsewhere : (ys : List Pair) (c : ℕ) → ((z : Pair) → Among ys z → z.left ≡ c → ⊥) → image ys c ≡ c
+image_elsewhere [] c none_there = refl
+image_elsewhere (x ∷ xs) c none_there =
+    ap (λ b. cond b x.right (image xs c)) (not_equal c x.left (λ e. none_there x (inl refl) (sym e)))
+    ∙ image_elsewhere xs c (λ z a. none_there z (inr a))
 
 -- pairs with one right cell have one left cell
 pub one_left : (ys : List Pair) → OneToOne ys → (y z : Pair) → Among ys y → Among ys z → y.right ≡ z.right → y.left ≡ z.left

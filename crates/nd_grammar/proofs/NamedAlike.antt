@@ -17,7 +17,7 @@ use Rattle.nd_graph.proofs.Apart.{all_append, all_among, among_left, among_right
 use Rattle.nd_graph.proofs.NodeFacts.{IsSound}
 use Rattle.nd_grammar.specs.Entry.{Kind, EntryAt, Number}
 use Rattle.nd_grammar.specs.Represents.{IsRendered, Spells, piece}
-use Rattle.nd_grammar.specs.NextEntry.{form, IsOneToOne, HomesCorrespond, AllCorrespond, named_cell, CellsCorrespond, AllNameAlike}
+use Rattle.nd_grammar.specs.NextMark.{form, IsOneToOne, HomesCorrespond, AllCorrespond, named_cell, CellsCorrespond, AllNameAlike}
 use Rattle.nd_grammar.proofs.StreamPointers.{NumberOf, KindHasPointer, HasPointer, is_good}
 use Rattle.nd_grammar.proofs.Matching.{CellsMatch}
 use Rattle.nd_grammar.proofs.Next.{Pair, HomesMeet, Readings}

@@ -8,7 +8,7 @@ use Rattle.std.specs.List.{AllByRecursion}
 use Rattle.nd_graph.specs.declared.item.Home.TheVariants as home
 use Rattle.nd_graph.specs.Setting.{Among}
 use Rattle.nd_graph.proofs.Apart.{among_right}
-use Rattle.nd_grammar.specs.NextEntry.{form}
+use Rattle.nd_grammar.specs.NextMark.{form}
 use Rattle.nd_grammar.specs.Entry.{Entry, Unread, size_at}
 use Rattle.nd_grammar.specs.Represents.{IsRendered}
 

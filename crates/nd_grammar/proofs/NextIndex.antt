@@ -8,7 +8,7 @@ use Rattle.nd_graph.specs.Homes.{all_pointers}
 use Rattle.nd_graph.proofs.NodeFacts.{IsSound}
 use Rattle.nd_grammar.specs.Entry.{Entry, EntryAt, size_at, end_to_end, full_cells}
 use Rattle.nd_grammar.specs.LegalSide.{IsLegalSide}
-use Rattle.nd_grammar.specs.NextEntry.{NextAlike, IsOneToOne, AllCorrespond, AllNameAlike, IsReadTo}
+use Rattle.nd_grammar.specs.NextMark.{NextAlike, IsOneToOne, AllCorrespond, AllNameAlike, IsReadTo}
 use Rattle.nd_grammar.specs.Represents.{IsRendered}
 use Rattle.nd_grammar.specs.Stream.{Stream}
 use Rattle.nd_grammar.proofs.Next.{Pair, HomesMeet, homes_grown, Readings, Next}
@@ -82,12 +82,12 @@ all_at P at (m ∷ ms) a = (a.0, all_at P (at + size_at at m.kind) ms a.1)
 
 -- Two streams of sound graphs of a legal side, each spelt by the same octets for i entries: their next entries agree, and a one-to-one
 -- map of cells carries the homes of the i entries of one, and the cells that their numbers name, to those of the other.
-pub next_entry : (w : Setting) → IsLegalSide w → (order : Order) (octets : List ℕ) (g h : Graph) → IsSound w g → IsSound w h
+pub next_mark : (w : Setting) → IsLegalSide w → (order : Order) (octets : List ℕ) (g h : Graph) → IsSound w g → IsSound w h
     → (ms ns : List Entry) → Stream w g ms → Stream w h ns → (i : ℕ) → IsReadTo order octets ms i → IsReadTo order octets ns i
     → NextAlike (slice_get (end_to_end 0 ms) i) (slice_get (end_to_end 0 ns) i)
     × ((cells : List (ℕ × ℕ)) × IsOneToOne cells × AllCorrespond cells (take i (end_to_end 0 ms)) (take i (end_to_end 0 ns))
     × AllNameAlike cells (take i (end_to_end 0 ms)) (take i (end_to_end 0 ns)))
-next_entry w side order octets g h s s' ms ns a b i r r' =
+next_mark w side order octets g h s s' ms ns a b i r r' =
     let laid : IsLaidOut w = laid_out w side in
     let two : Readings = readings order octets r.numbering (full_cells ms) r.is_numbering r'.numbering (full_cells ns) r'.is_numbering in
     let left = all_spelt_carried order octets r.numbering (full_cells ms) (take i (end_to_end 0 ms))

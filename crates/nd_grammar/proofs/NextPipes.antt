@@ -37,12 +37,12 @@ count_drop (suc k) none h = absurd (omega arith)
 count_drop (suc k) (more t ts) h = let e = count_drop k ts (omega arith) in omega arith
 
 module _ (g : Graph) (table : Table) (e : ℕ) where
-  known_take : (k : ℕ) (ts : Trees) → k ≤ count ts → Known g table (replicate (count ts) e) ts → Known g table (replicate k e) (take_trees k ts)
+  pub known_take : (k : ℕ) (ts : Trees) → k ≤ count ts → Known g table (replicate (count ts) e) ts → Known g table (replicate k e) (take_trees k ts)
   known_take zero ts h a = tt
   known_take (suc k) none h a = absurd (omega arith)
   known_take (suc k) (more (node l ks) ts) h a = (a.0, a.1, known_take k ts (omega arith) a.2)
 
-  known_drop : (k : ℕ) (ts : Trees) → Known g table (replicate (count ts) e) ts → Known g table (replicate (count (drop_trees k ts)) e) (drop_trees k ts)
+  pub known_drop : (k : ℕ) (ts : Trees) → Known g table (replicate (count ts) e) ts → Known g table (replicate (count (drop_trees k ts)) e) (drop_trees k ts)
   known_drop zero ts a = a
   known_drop (suc k) none a = tt
   known_drop (suc k) (more (node l ks) ts) a = known_drop k ts a.2
@@ -76,7 +76,7 @@ pipe_label k e (tree.Union v) ks a = shaped (tree.Union v) (has_counts (Some (de
 pipe_label k e (tree.Ptr c) ks a = shaped (tree.Ptr c) (has_counts (Some (def.Pipe e)) (tree.Ptr c) ks ≡ true) a.shape
 pipe_label k e (tree.Context x i) ks a = shaped (tree.Context x i) (has_counts (Some (def.Pipe e)) (tree.Context x i) ks ≡ true) a.shape
 
-unread_pipe : (table : Table) (h : Home) (d : Option TypeDef) (cut : List ℕ) (ks : Trees)
+pub unread_pipe : (table : Table) (h : Home) (d : Option TypeDef) (cut : List ℕ) (ks : Trees)
     → pipe_entries table h d cut (node tree.Unread ks) ≡ record { home = h; node = 0; kind = Unread } ∷ []
 unread_pipe table h (Some (def.Pipe e)) cut ks = refl
 unread_pipe table h None cut ks = refl

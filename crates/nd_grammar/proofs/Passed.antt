@@ -1,6 +1,6 @@
 -- What entries that are spelt and not refused say: enumerators, arms, counts within, texts without zeros, agreements that hold.
 use Rattle.std.proofs.Common.{◌≡◌, ℕ, ◌+◌, ◌≤◌, ℤ, Bool, true, false, ◌&&◌, List, [], ◌∷◌, ◌++◌, length, Option, Some, None, refl, ap, sym, ◌∙◌, arith, subst}
-use Rattle.std.specs.Prelude.{eqb, ltb, cond, not, ◌||◌}
+use Rattle.std.specs.Prelude.{eqb, ltb, cond, not, ◌||◌, option_map}
 use Rattle.std.specs.Ordering.{int_eq}
 use Rattle.std.specs.List.{AllByRecursion, list_any}
 use Rattle.std.proofs.lemmas.Bool.{ltb-false, eqb-false, not-false}
@@ -15,7 +15,7 @@ use Rattle.nd_grammar.specs.declared.reason.Reason.{Reason}
 use Rattle.nd_grammar.specs.declared.reason.Reason.TheVariants as reason
 use Rattle.nd_grammar.specs.Entry.{Kind, Entry, Align, Max, Offset, Actual, Chunk, Number, Num, Tag, Text, Context, Test, Unread, size_at, EntryAt, end_to_end, end_of}
 use Rattle.nd_grammar.specs.Represents.{piece, Spells, IsRendered}
-use Rattle.nd_grammar.specs.Refusal.{kind_refusal, is_long, is_enumerator, is_selected, text_refusal, disagrees_at, tested_at, Accepts}
+use Rattle.nd_grammar.specs.Refusal.{kind_refusal, is_long, is_enumerator, is_selected, text_refusal, tested_at, Accepts}
 use Rattle.nd_grammar.proofs.ReaderNodes.{if_not}
 
 abbrev pub HasPassed : Kind → Type 0
@@ -29,6 +29,15 @@ HasPassed _ = Unit {0}
 
 abbrev pub Passed : Entry → Type 0
 Passed m = HasPassed m.kind
+
+-- an agreement finds the count or tag that it speaks of
+abbrev pub IsFound : List EntryAt → Entry → Kind → Type 0
+IsFound seen m (Test a wanted found) = (place : ℕ) × (tested_at seen a m.home m.node ≡ Some place)
+IsFound seen m _ = Unit {0}
+
+abbrev pub AllFound : List EntryAt → ℕ → List Entry → Type 0
+AllFound seen at [] = Unit {0}
+AllFound seen at (m ∷ ms) = IsFound seen m m.kind × AllFound (seen ++ record { at = at; entry = m } ∷ []) (at + size_at at m.kind) ms
 
 either : (x y : Bool) → x ≡ false → y ≡ false → (x || y) ≡ false
 either true y e f = cc
@@ -52,45 +61,48 @@ no_zeros at (b ∷ c ∷ os) e = go (eqb b 0) refl e (no_zeros (at + 1) (c ∷ o
     go false f h r = either (eqb 0 b) (list_any (eqb 0) (c ∷ os)) (other_way b f) (r h)
 
 module _ (order : Order) (octets : List ℕ) (nums : ℕ → ℕ) where
-  agrees_then : (at : ℕ) (o : Option ℕ) (wanted found : ℤ) → cond (int_eq wanted found) None (disagrees_at at o (reason.Disagrees wanted found)) ≡ None → found ≡ wanted
-  agrees_then at o wanted found e = go (int_eq wanted found) refl o e
+  agrees_then : (o : Option ℕ) (place : ℕ) (wanted found : ℤ) → o ≡ Some place
+      → cond {A = Option (ℕ × Reason)} (int_eq wanted found) None (option_map (λ p. (p, reason.Disagrees wanted found)) o) ≡ None → found ≡ wanted
+  agrees_then o place wanted found f e = go (int_eq wanted found) refl o f e
     where
-      go : (t : Bool) → int_eq wanted found ≡ t → (o : Option ℕ) → cond t None (disagrees_at at o (reason.Disagrees wanted found)) ≡ None → found ≡ wanted
-      go true f o e = sym ((Decides-int_eq wanted found).0 f)
-      go false f None e = cc
-      go false f (Some place) e = cc
+      go : (t : Bool) → int_eq wanted found ≡ t → (o : Option ℕ) → o ≡ Some place
+          → cond {A = Option (ℕ × Reason)} t None (option_map (λ p. (p, reason.Disagrees wanted found)) o) ≡ None → found ≡ wanted
+      go true g o f e = sym ((Decides-int_eq wanted found).0 g)
+      go false g None f e = cc
+      go false g (Some p) f e = cc
 
-  kind_passed : (seen : List EntryAt) (at : ℕ) (m : Entry) (k : Kind) (os : List ℕ) → kind_refusal order octets seen at m k os ≡ None → Spells order nums k os → HasPassed k
-  kind_passed seen at m (Num p vs z) os e s =
+  kind_passed : (seen : List EntryAt) (at : ℕ) (m : Entry) (k : Kind) (os : List ℕ) → IsFound seen m k → kind_refusal order octets seen at m k os ≡ None → Spells order nums k os
+      → HasPassed k
+  kind_passed seen at m (Num p vs z) os f e s =
       let (a, b) = if_not (not (is_enumerator vs (value_of_octets order p os))) (at, reason.EnumValue) None e in
       ap (is_enumerator vs) (sym s) ∙ not-false _ a
-  kind_passed seen at m (Tag p vs arms default z) os e s =
+  kind_passed seen at m (Tag p vs arms default z) os f e s =
       let (a, b) = if_not (not (is_enumerator vs (value_of_octets order p os))) (at, reason.EnumValue) _ e in
       let (c, d) = if_not (not (is_selected (selected arms default (value_of_octets order p os)))) (at, reason.NoArm) None b in
       (ap (is_enumerator vs) (sym s) ∙ not-false _ a, ap (λ v. is_selected (selected arms default v)) (sym s) ∙ not-false _ c)
-  kind_passed seen at m (Actual t o l v) os e s =
+  kind_passed seen at m (Actual t o l v) os f e s =
       let (a, b) = if_not (t && eqb (unsigned order os) 0) (at, reason.TextEmpty) _ e in
       let (c, d) = if_not (ltb l (o + unsigned order os)) (at, reason.PastBound) None b in
       subst (λ u. o + u ≤ l) s (ltb-false l (o + unsigned order os) c)
-  kind_passed seen at m (Text text) os e s = no_zeros at text (subst (λ u. text_refusal at u ≡ None) s e)
-  kind_passed seen at m (Test a wanted found) os e s = agrees_then at (tested_at seen a m.home m.node) wanted found e
-  kind_passed seen at m Unread os e s = absurd s
-  kind_passed seen at m (Align n) os e s = tt
-  kind_passed seen at m (Max v) os e s = tt
-  kind_passed seen at m (Offset t v) os e s = tt
-  kind_passed seen at m (Chunk v) os e s = tt
-  kind_passed seen at m (Number k to c) os e s = tt
-  kind_passed seen at m (Context a i) os e s = tt
+  kind_passed seen at m (Text text) os f e s = no_zeros at text (subst (λ u. text_refusal at u ≡ None) s e)
+  kind_passed seen at m (Test a wanted found) os f e s = agrees_then (tested_at seen a m.home m.node) f.0 wanted found f.1 e
+  kind_passed seen at m Unread os f e s = absurd s
+  kind_passed seen at m (Align n) os f e s = tt
+  kind_passed seen at m (Max v) os f e s = tt
+  kind_passed seen at m (Offset t v) os f e s = tt
+  kind_passed seen at m (Chunk v) os f e s = tt
+  kind_passed seen at m (Number k to c) os f e s = tt
+  kind_passed seen at m (Context a i) os f e s = tt
 
   -- entries that are all spelt and not refused
-  pub all_passed : (seen : List EntryAt) (at : ℕ) (ms : List Entry) → AllByRecursion (IsRendered order nums octets) (end_to_end at ms) → Accepts order octets seen (end_to_end at ms)
+  pub all_passed : (seen : List EntryAt) (at : ℕ) (ms : List Entry) → AllFound seen at ms → AllByRecursion (IsRendered order nums octets) (end_to_end at ms) → Accepts order octets seen (end_to_end at ms)
       → AllByRecursion Passed ms
-  all_passed seen at [] r a = tt
-  all_passed seen at (m ∷ ms) r a =
+  all_passed seen at [] f r a = tt
+  all_passed seen at (m ∷ ms) f r a =
       let (x, y) = if_not (is_long at m.kind) (STREAM_LIMIT, reason.TooLong) _ a.0 in
       let (z, u) = if_not (ltb (length octets) (at + size_at at m.kind)) (length octets, reason.Truncated) _ y in (
-        kind_passed seen at m m.kind (piece octets at m.kind) u r.0.1,
-        all_passed (seen ++ record { at = at; entry = m } ∷ []) (at + size_at at m.kind) ms r.1 a.1,
+        kind_passed seen at m m.kind (piece octets at m.kind) f.0 u r.0.1,
+        all_passed (seen ++ record { at = at; entry = m } ∷ []) (at + size_at at m.kind) ms f.1 r.1 a.1,
       )
 
 -- at least so many octets, wherever an entry stands

@@ -5,6 +5,7 @@ use Rattle.std.proofs.lemmas.List.{take-append-drop, append-nil}
 use Rattle.nd_base.specs.declared.octets.Order.{Order}
 use Rattle.nd_types.specs.Number.{AreOctets}
 use Rattle.nd_graph.specs.declared.value.Graph.{Graph}
+use Rattle.nd_graph.proofs.NodeFacts.{sound_partial}
 use Rattle.nd_graph.specs.Setting.{Setting}
 use Rattle.nd_graph.specs.Homes.{HomeNode, all_nodes}
 use Rattle.nd_graph.specs.Misfit.{misfit_of}
@@ -19,6 +20,7 @@ use Rattle.nd_grammar.specs.Bad.{Bad}
 use Rattle.nd_grammar.specs.Prefix.{BeginsWith}
 use Rattle.nd_grammar.specs.StreamReader.{read_stream}
 use Rattle.nd_grammar.proofs.ReaderVerdict.{start, AllTaken, all_taken, stopped_is_bad}
+use Rattle.nd_grammar.proofs.TestedAt.{tests_found}
 use Rattle.nd_grammar.proofs.Passed.{PassedAll, all_passed, least_end}
 use Rattle.nd_grammar.proofs.StreamConforming.{NodeGood, all_good, few_nodes}
 use Rattle.nd_grammar.proofs.ReaderStream.{Pipes, G, ms, numbering, is_partial, is_stream, numbered, goes_over, ends_within, ends_in_octets, graph_is, head, cells_fit, roots_all_made, all_roots, all_reached, few_cells}
@@ -79,7 +81,9 @@ module _ (w : Setting) (side : IsLegalSide w) (order : Order) (octets : List ℕ
 
   passed : PassedAll es
   passed = record {
-    passed = all_passed order octets nums [] 0 es taken_all.rendered taken_all.accepted;
+    passed =
+        all_passed order octets nums [] 0 es (tests_found w side g (sound_partial w g (is_partial w side order octets all)) es (is_stream w side order octets all) order nums octets taken_all.rendered)
+        taken_all.rendered taken_all.accepted;
     light = omega (arith, least_end 0 es, ends_there, ends_within w side order octets all);
   }
 

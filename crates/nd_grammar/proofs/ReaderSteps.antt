@@ -12,7 +12,7 @@ use Rattle.nd_base.specs.declared.TheConstants.{STREAM_LIMIT}
 use Rattle.std.specs.Prelude.{ltb}
 use Rattle.nd_grammar.specs.Entry.{Kind, Entry, Align, Max, Offset, Actual, Chunk, Number, Num, Tag, Text, Context, Test, Unread, size_at, EntryAt}
 use Rattle.nd_grammar.specs.InPlace.{tests, own_tests, child_tests}
-use Rattle.nd_grammar.specs.NextEntry.{form}
+use Rattle.nd_grammar.specs.NextMark.{form}
 use Rattle.nd_grammar.specs.Represents.{piece, Spells}
 use Rattle.nd_grammar.specs.Refusal.{refusal, kind_refusal, refused_if, is_long}
 use Rattle.nd_grammar.specs.Reader.{Progress, here, advanced, taken_by, pass, pass_all, taken}

@@ -1,6 +1,6 @@
 -- Entries of two streams that are alike, behind earlier ones that are, are refused alike.
 use Rattle.std.proofs.Common.{◌≡◌, ℕ, ◌+◌, Bool, true, false, ◌&&◌, List, [], ◌∷◌, ◌++◌, length, Some, None, refl, ap, ap₂, sym, ◌∙◌, inl, inr, take, drop}
-use Rattle.std.specs.Prelude.{eqb, ltb, cond, not, ◌||◌}
+use Rattle.std.specs.Prelude.{option_map, eqb, ltb, cond, not, ◌||◌}
 use Rattle.std.specs.Ordering.{int_eq}
 use Rattle.std.proofs.lemmas.Bool.{eqb-true, eq-eqb, eqb-false}
 use Rattle.nd_base.specs.declared.octets.Order.{Order}
@@ -18,8 +18,8 @@ use Rattle.nd_graph.proofs.Waiting.{not_equal}
 use Rattle.nd_grammar.specs.declared.reason.Reason.TheVariants as reason
 use Rattle.nd_grammar.specs.Entry.{Kind, Entry, Align, Max, Offset, Actual, Chunk, Number, Num, Tag, Text, Context, Test, Unread, size_at, EntryAt}
 use Rattle.nd_grammar.specs.Represents.{piece}
-use Rattle.nd_grammar.specs.Refusal.{refusal, kind_refusal, refused_if, is_long, disagrees_at, tested_at, is_other, kind_agrees, is_max, same_home, other_pointee}
-use Rattle.nd_grammar.specs.NextEntry.{form}
+use Rattle.nd_grammar.specs.Refusal.{refusal, kind_refusal, refused_if, is_long, tested_at, is_other, kind_agrees, is_max, same_home, other_pointee}
+use Rattle.nd_grammar.specs.NextMark.{form}
 use Rattle.nd_grammar.proofs.Next.{Pair, IsApart, OneToOne, HomesMeet, homes_grown, Alike}
 use Rattle.nd_grammar.proofs.Forms.{refused_alike}
 use Rattle.nd_grammar.proofs.Spelt.{same_size}
@@ -163,7 +163,7 @@ module _ (order : Order) (octets : List ℕ) (map : List Pair) (one : OneToOne m
     kind_alike (Number Full to c) os =
         ap (λ b. refused_if (not (eqb (unsigned order os) 0) && b) (at, reason.OtherType) None) (others_alike xs ys seen (unsigned order os) to)
     kind_alike (Test a wanted found) os =
-        ap (λ o. cond (int_eq wanted found) None (disagrees_at at o (reason.Disagrees wanted found))) (tests_alike xs ys seen a m.home n.home homes m.node n.node node_count)
+        ap (λ o. cond (int_eq wanted found) None (option_map (λ place. (place, reason.Disagrees wanted found)) o)) (tests_alike xs ys seen a m.home n.home homes m.node n.node node_count)
     kind_alike (Number Ref to c) os = refl
     kind_alike (Number Unique to c) os = refl
     kind_alike (Offset true v) os = refl

@@ -27,7 +27,7 @@ use Rattle.nd_grammar.proofs.Carried.{InMap, AllInMap, carried}
 use Rattle.nd_grammar.proofs.Standings.{PairFits, IsClosed, RootCarried}
 use Rattle.nd_grammar.proofs.NextStream.{AreMapped, IsLaidOut, IsPipeRoot, pipe_root, root_carried, drop_at}
 use Rattle.nd_grammar.proofs.KnownNodes.{known_roots}
-use Rattle.nd_grammar.proofs.Mapped.{image, image_at, one_left, renumber, left_in, right_in, pipe_pointers}
+use Rattle.nd_grammar.proofs.Mapped.{image, image_at, image_elsewhere, one_left, renumber, left_in, right_in, pipe_pointers}
 use Rattle.nd_grammar.proofs.Counting.{Distinct, no_longer, down, length_down, among_down, down_distinct}
 
 abbrev first_of_trees : Trees → Tree
@@ -266,6 +266,13 @@ module _ (two : Readings) (w : Setting) (g g' : Graph) (laid : IsLaidOut w) (s :
         let x' : y.right ≡ image ys d = sym (image_at ys am.one y b) ∙ ap (image ys) f in
         sym e ∙ one_left ys am.one z y a b (x ∙ h ∙ sym x') ∙ f
 
+    elsewhere : (c : ℕ) → (c ≡ 0) ⊎ (length g.cells < c) → image ys c ≡ c
+    elsewhere c h = image_elsewhere ys c (λ z a e. (let (low, high) = left_range z a in go z e low high h))
+      where
+        go : (z : Pair) → z.left ≡ c → 0 < z.left → z.left ≤ length g.cells → (c ≡ 0) ⊎ (length g.cells < c) → ⊥
+        go z e low high (inl x) = omega (arith, e, x)
+        go z e low high (inr x) = omega (arith, e, x)
+
     same_cells : (c d : ℕ) (x y : Referent) → slice_get g.cells c ≡ Some x → image ys (suc c) ≡ suc d → slice_get g'.cells d ≡ Some y
         → (x.of ≡ y.of) × (renumbered (image ys) (more x.val none) ≡ more y.val none)
     same_cells c d x y e h e' =
@@ -292,6 +299,7 @@ module _ (two : Readings) (w : Setting) (g g' : Graph) (laid : IsLaidOut w) (s :
       as_many = same_many;
       within = within;
       one_to_one = one_to_one;
+      elsewhere = elsewhere;
       roots = roots_renumbered (root_list w) g.roots g'.roots all_roots_in;
       cells = same_cells;
     }

@@ -176,7 +176,7 @@ too_long octets earlier x e =
 abbrev long_text_octets : List ℕ
 long_text_octets = 0xFF ∷ 0xFF ∷ 0xFF ∷ 0xFF ∷ four 0 (0xFF ∷ 0xFF ∷ 0xFF ∷ 0xFF ∷ 104 ∷ 105 ∷ [])
 
-long_text_refused : (n : ℕ) → n + 1 ≡ 0xFFFF_FFFF → Bad text Little long_text_octets 16_777_216 reason.TooLong
+long_text_refused : (n : ℕ) → n + 1 ≡ 0xFFFF_FFFF → Bad text Little long_text_octets STREAM_LIMIT reason.TooLong
 unfolding align_of hoists roots_of
 long_text_refused n e =
     let g : Graph = text_graph 0xFFFF_FFFF (zeros n) in
@@ -185,9 +185,9 @@ long_text_refused n e =
     let long : ltb STREAM_LIMIT (12 + (length (zeros n) + 1)) ≡ true = ap (λ k. ltb STREAM_LIMIT (12 + k)) size in
     let earlier : List EntryAt = upto 5 (end_to_end 0 (representation text g (steps_of 20 text g) [])) in
     let here : EntryAt = record { at = 12; entry = record { home = cell_home 1; node = 0; kind = Text (zeros n) } } in
-    bad_so text Little long_text_octets 16_777_216 reason.TooLong g [] 20 5 here []
+    bad_so text Little long_text_octets STREAM_LIMIT reason.TooLong g [] 20 5 here []
     (partial_so text g refl (ap (λ b. b && true) (zeros_are_octets n)) refl refl) refl tt refl refl (ap (λ b. b && true) actual) refl
     (too_long long_text_octets earlier here long)
 
-pub longest_text : Bad text Little long_text_octets 16_777_216 reason.TooLong
+pub longest_text : Bad text Little long_text_octets STREAM_LIMIT reason.TooLong
 longest_text = long_text_refused 0xFFFF_FFFE refl

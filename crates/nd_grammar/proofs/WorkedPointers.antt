@@ -114,7 +114,9 @@ ring_conforms = record {
 
 -- The ring with its cells swapped is the same; numbered by the first pointer to each cell it is the ring again.
 abbrev pub swapped : ℕ → ℕ
-swapped c = canonical_number (2 ∷ 1 ∷ 2 ∷ []) c
+swapped (suc zero) = 2
+swapped (suc (suc zero)) = 1
+swapped c = c
 
 swapped_within : (c : ℕ) → 0 < c → c ≤ 2 → (0 < swapped c) × (swapped c ≤ 2)
 swapped_within zero h k = absurd (omega arith)
@@ -133,6 +135,21 @@ swapped_apart (suc (suc zero)) (suc zero) h k i j e = cc
 swapped_apart (suc (suc zero)) (suc (suc zero)) h k i j e = refl
 swapped_apart (suc (suc zero)) (suc (suc (suc d))) h k i j e = absurd (omega arith)
 swapped_apart (suc (suc (suc c))) d h k i j e = absurd (omega arith)
+
+swapped_elsewhere : (c : ℕ) → (c ≡ 0) ⊎ (2 < c) → swapped c ≡ c
+swapped_elsewhere zero h = refl
+swapped_elsewhere (suc zero) (inl e) = cc
+swapped_elsewhere (suc zero) (inr h) = absurd (omega arith)
+swapped_elsewhere (suc (suc zero)) (inl e) = cc
+swapped_elsewhere (suc (suc zero)) (inr h) = absurd (omega arith)
+swapped_elsewhere (suc (suc (suc c))) h = refl
+
+-- by the first pointer to each cell: 2, then 1
+swapped_numbered : (c : ℕ) → 0 < c → c ≤ 2 → swapped c ≡ canonical_number (2 ∷ 1 ∷ 2 ∷ []) c
+swapped_numbered zero h k = absurd (omega arith)
+swapped_numbered (suc zero) h k = refl
+swapped_numbered (suc (suc zero)) h k = refl
+swapped_numbered (suc (suc (suc c))) h k = absurd (omega arith)
 
 swapped_cells : (c d : ℕ) (x y : Referent) → slice_get ring_swapped.cells c ≡ Some x → swapped (suc c) ≡ suc d → slice_get ring_of_two.cells d ≡ Some y
     → (x.of ≡ y.of) × (renumbered swapped (more x.val none) ≡ more y.val none)
@@ -160,10 +177,11 @@ ring_canonical = record {
     as_many = refl;
     within = swapped_within;
     one_to_one = swapped_apart;
+    elsewhere = swapped_elsewhere;
     roots = refl;
     cells = swapped_cells;
   };
-  numbered = λ c. refl;
+  numbered = swapped_numbered;
 }
 
 -- a cell that nothing names is not reached: every pointer names the first

@@ -1,5 +1,5 @@
 -- Parts of the examples. Each example's table begins with the basic types, so its own types are numbered from 12 on.
-use Rattle.std.specs.Prelude.{ℕ, false, ℤ, List, [], ◌∷◌, ◌++◌, Some, None}
+use Rattle.std.specs.Prelude.{ℕ, false, ℤ, List, [], ◌∷◌, ◌++◌, Some, None, codes}
 use Rattle.nd_types.specs.declared.types.TypeDef.{TypeDef}
 use Rattle.nd_types.specs.declared.types.TypeId.{TypeId}
 use Rattle.nd_types.specs.declared.types.Attr.{Attr}
@@ -23,7 +23,7 @@ attribute a i = record { attr = a; var = i; star = false } ∷ []
 
 -- a member or parameter of a type, with attributes
 abbrev pub field : ℕ → List AttrVar → Field
-field t vars = record { name = []; of = id t; vars = vars }
+field t vars = record { name = codes "m"; of = id t; vars = vars }
 
 -- an input parameter of a type, with attributes or without
 abbrev pub governed : ℕ → List AttrVar → Param
@@ -42,7 +42,7 @@ empty_arm v = record { label = v; name = None; of = None }
 -- the request of an operation with these parameters, under these types from number 12 on
 abbrev pub request : List TypeDef → List Param → Setting
 request types params =
-    record { table = basic_types ++ types; op = record { name = []; params = params; result = None }; side = side.In; given = None }
+    record { table = basic_types ++ types; op = record { name = codes "f"; params = params; result = None }; side = side.In; given = None }
 
 abbrev pub num : ℤ → Tree
 num z = node (tree.Num z) none

@@ -16,7 +16,8 @@ pub mod ExamplesArrays
 pub mod ExamplesUnions
 pub mod Primitives
 pub mod LegalSide
-pub mod NextEntry
+pub mod NextMark
 pub mod Reader
 pub mod StreamReader
 pub mod FewItems
+pub mod Tested

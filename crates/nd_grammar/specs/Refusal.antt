@@ -3,8 +3,7 @@
 -- `x` is an entry at its place, `m` an entry, `at` its place, `os` are its octets, `h` is a home, `n` a node's number, `a` an
 -- attribute or an arm, `v` what octets hold, `p` a primitive, `z` a value, `b` and `c` are octets, `o` is a later refusal, `r`
 -- a refusal.
-use Rattle.std.specs.Prelude.{◌≡◌, ℕ, ◌+◌, ℤ, Bool, true, false, not, ◌&&◌, ◌||◌, cond, eqb, ltb, List, [], ◌∷◌, ◌++◌, length, Option, Some, None}
-use Rattle.std.specs.List.{list_any}
+use Rattle.std.specs.Prelude.{◌≡◌, ℕ, ◌+◌, ℤ, Bool, true, false, not, ◌&&◌, ◌||◌, cond, eqb, ltb, List, [], ◌∷◌, ◌++◌, length, Option, Some, None, option_map}
 use Rattle.std.specs.Ordering.{int_eq}
 use Rattle.nd_base.specs.declared.octets.Order.{Order}
 use Rattle.nd_base.specs.declared.TheConstants.{STREAM_LIMIT}
@@ -12,7 +11,8 @@ use Rattle.nd_types.specs.declared.types.Arm.{Arm}
 use Rattle.nd_types.specs.declared.types.Attr.{Attr}
 use Rattle.nd_types.specs.declared.types.Attr.TheVariants as attr
 use Rattle.nd_types.specs.declared.types.Class.TheVariants.{Full}
-use Rattle.nd_types.specs.Table.{selected}
+use Rattle.nd_types.specs.declared.types.TypeDef.TheVariants as def
+use Rattle.nd_types.specs.Table.{is_value, selected}
 use Rattle.nd_graph.specs.declared.item.Home.{Home}
 use Rattle.nd_graph.specs.declared.item.Home.TheVariants as home
 use Rattle.nd_grammar.specs.declared.reason.Reason.{Reason}
@@ -28,10 +28,10 @@ is_long at (Test attr wanted found) = false
 is_long at Unread = false
 is_long at x = ltb STREAM_LIMIT (at + size_at at x)
 
--- the value of an enumerated type is one of its enumerators; others have no enumerators
+-- what octets hold for an enumerated type is a value of it, one of its enumerators; others have no enumerators
 abbrev pub is_enumerator : Option (List ℤ) → ℤ → Bool
 is_enumerator None v = true
-is_enumerator (Some values) v = list_any (int_eq v) values
+is_enumerator (Some values) v = is_value (Some (def.Enum values)) v
 
 -- an arm is selected
 abbrev pub is_selected : Option Arm → Bool
@@ -89,16 +89,11 @@ abbrev pub refused_if : Bool → ℕ × Reason → Option (ℕ × Reason) → Op
 refused_if true r o = Some r
 refused_if false r o = o
 
--- An agreement that fails is refused at the count or tag that it speaks of. Under a legal table this always stands among the
--- earlier entries, since an attribute stands only on a type that has what it speaks of; else it is refused where it is tried.
-abbrev pub disagrees_at : ℕ → Option ℕ → Reason → Option (ℕ × Reason)
-disagrees_at at None why = Some (at, why)
-disagrees_at at (Some place) why = Some (place, why)
-
 -- Why an entry is refused, by its kind, where its octets are all there. An enumerated value or tag is an enumerator, else EnumValue.
 -- A tag selects an arm, else NoArm. A text's offset is 0, else TextOffset; its actual count is at least 1, else TextEmpty. Offset
 -- and actual count end within the maximum count or bound, else PastBound. A text ends at its first zero, else TextZero or
--- TextUnended. A full pointer's number stands for one type of referent, else OtherType. An agreement holds, else Disagrees.
+-- TextUnended. A full pointer's number stands for one type of referent, else OtherType. An agreement holds, else Disagrees, at the count
+-- or tag that it speaks of.
 abbrev pub kind_refusal : Order → List ℕ → List EntryAt → ℕ → Entry → Kind → List ℕ → Option (ℕ × Reason)
 kind_refusal order octets earlier at m (Num p values z) os =
     refused_if (not (is_enumerator values (value_of_octets order p os))) (at, reason.EnumValue) None
@@ -114,7 +109,7 @@ kind_refusal order octets earlier at m (Text text) os = text_refusal at os
 kind_refusal order octets earlier at m (Number Full to cell) os =
     refused_if (not (eqb (unsigned order os) 0) && is_other order octets earlier (unsigned order os) to) (at, reason.OtherType) None
 kind_refusal order octets earlier at m (Test a wanted found) os =
-    cond (int_eq wanted found) None (disagrees_at at (tested_at earlier a m.home m.node) (reason.Disagrees wanted found))
+    cond (int_eq wanted found) None (option_map (λ place. (place, reason.Disagrees wanted found)) (tested_at earlier a m.home m.node))
 kind_refusal order octets earlier at m _ os = None
 
 -- The place and the reason for which octets refuse an entry that stands behind earlier ones, or none. First TooLong, at the limit;

@@ -28,9 +28,9 @@ only P x h zero d lt = h
 only P x h (suc k) d lt = absurd (omega (arith, lt))
 
 are_plain : All IsPlainParam add_params
-are_plain zero d lt = record { integer = refl; way = refl; no_attributes = refl }
-are_plain (suc zero) d lt = record { integer = refl; way = refl; no_attributes = refl }
-are_plain (suc (suc zero)) d lt = record { integer = refl; way = refl; no_attributes = refl }
+are_plain zero d lt = record { integer = refl; way = refl; no_attributes = refl; name = refl }
+are_plain (suc zero) d lt = record { integer = refl; way = refl; no_attributes = refl; name = refl }
+are_plain (suc (suc zero)) d lt = record { integer = refl; way = refl; no_attributes = refl; name = refl }
 are_plain (suc (suc (suc k))) d lt = absurd (omega (arith, lt))
 
 add_names : AllPairs (λ (p q : Param). p.field.name ≢ q.field.name) add_params
@@ -44,7 +44,7 @@ add_names (suc (suc i)) (suc (suc zero)) d low high e = absurd (omega (arith, lo
 add_names i (suc (suc (suc j))) d low high e = absurd (omega (arith, high))
 
 add_is_plain : IsPlainOperation add
-add_is_plain = record { params = are_plain; no_result = refl; few = lit≤ tt; distinct = add_names }
+add_is_plain = record { name = refl; params = are_plain; no_result = refl; few = lit≤ tt; distinct = add_names }
 
 pub plain : IsPlainInterface basic_types (add ∷ [])
 plain = record { basic = refl; plain = only IsPlainOperation add add_is_plain; few = lit≤ tt; distinct = λ i j d low high e. absurd (omega (arith, low, high)) }

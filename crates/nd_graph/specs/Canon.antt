@@ -1,7 +1,7 @@
 -- The order of a graph's cells: by the first pointer to them in the order of the stream.
 -- `w` is a setting, `g` and `h` are graphs, `p` is a pointer, `c` and `d` are numbers of cells, `x` is a value that stands,
 -- `n` the next number to give.
-use Rattle.std.specs.Prelude.{◌≡◌, ℕ, ◌+◌, suc, zero, Bool, true, false, cond, eqb, List, [], ◌∷◌, ◌++◌, length, map, Option, Some, None, flat_map}
+use Rattle.std.specs.Prelude.{◌≡◌, ℕ, ◌+◌, ◌<◌, ◌≤◌, suc, zero, Bool, true, false, cond, eqb, List, [], ◌∷◌, ◌++◌, length, map, Option, Some, None, flat_map}
 use Rattle.nd_types.specs.Table.{Table}
 use Rattle.nd_graph.specs.declared.value.Graph.{Graph}
 use Rattle.nd_graph.specs.declared.item.Home.{Home}
@@ -58,4 +58,4 @@ pub record IsCanon (w : Setting) (g h : Graph) : Type 0 where
   pub steps : List Step
   pub deferral : Deferral w g [] (due_roots 0 (before_pipes (root_list w))) steps
   pub same : Same g h
-  pub numbered : (c : ℕ) → same.image c ≡ canonical_number (named_cells w g steps) c
+  pub numbered : (c : ℕ) → 0 < c → c ≤ length g.cells → same.image c ≡ canonical_number (named_cells w g steps) c

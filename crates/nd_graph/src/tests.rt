@@ -1,14 +1,11 @@
 // Each call once with ample memory.
-ghost use Rattle.std.specs.Prelude.{◌≡◌, ◌≤◌, ◌<◌, ◌^◌, ◌++◌, [], ◌∷◌, length, map, codes, IfOk};
+ghost use Rattle.std.specs.Prelude.{◌≡◌, ◌≤◌, [], ◌∷◌, length, IfOk};
 ghost use Rattle.nd_types.specs.Kinds.{basic_types};
 ghost use Rattle.nd_types.specs.Numbers.{IsNumberSide};
 ghost use Rattle.nd_types.specs.Plain.{plain_param};
-ghost use Rattle.nd_graph.specs.Seen.{tree_of};
-ghost use Rattle.nd_graph.specs.Tree.{node_count, more, none};
-ghost use Rattle.nd_graph.specs.Conforms.{HasFewNodes, FewNodes};
 ghost use Rattle.nd_graph.specs.WorkedFit.{add_params, add, one_two_three};
 
-use crate::{ArmVal, Cell, CellId, Cells, Fit, Graph, Home, Misfit, MisfitReason, Val, Vals, fit};
+use crate::{ArmVal, Cell, CellId, Cells, Fit, Graph, Val, Vals, fit};
 use nd_base::{Memory, Name};
 use nd_types::{
     AttrVars, Field, Interface, Operation, Operations, Param, Params, Side, TypeId, Types, Way,
@@ -161,174 +158,16 @@ fn arms_are_kept(rt: HostRuntime) -> Result<(), Fail> {
     Ok(())
 }
 
-// A number, or where none is given a null pointer.
-fn val(number: Option<i128>) -> Val
-    ensures { node_count (more (tree_of result) none) ≡ 1 }
-{
-    match number {
-        Some(value) => Val::Num(value),
-        None => Val::Ptr(None),
-    }
-}
-
-fn vals(alloc: Global, numbers: &[Option<i128>]) -> Result<Vals, Memory>
-    ensures { IfOk result (λ vs. FewNodes vs) }
-{
-    let mut vals = Vals::new(alloc);
-    for number in numbers {
-        if vals.push(val(*number)).is_err() {
-            return Err(Memory);
-        }
-    }
-    Ok(vals)
-}
-
-fn cells(alloc: Global, numbers: &[(u32, Option<i128>)]) -> Result<Cells, Memory>
-    requires { length numbers.now < 2 ^ 32 }
-    ensures few { IfOk result (λ cs. length cs < 2 ^ 32) }
-    ensures nodes { IfOk result (λ cs. FewNodes (map (λ c. c.val) cs)) }
-{
-    let mut cells = Cells::new(alloc);
-    for (of, number) in numbers {
-        let cell = Cell {
-            of: TypeId(*of),
-            val: val(*number),
-        };
-        if cells.push(cell).is_err() {
-            return Err(Memory);
-        }
-    }
-    Ok(cells)
-}
-
-// What `fit` answers of these roots and cells of the operation: None where it is Ok.
-fn misfit(
-    alloc: Global,
-    side: Side,
-    roots: &[Option<i128>],
-    numbers: &[(u32, Option<i128>)],
-) -> Result<Option<Misfit>, Memory>
-    requires { length numbers.now < 2 ^ 32 }
-{
-    let interface = interface(alloc)?;
-    let graph = Graph {
-        roots: vals(alloc, roots)?,
-        cells: cells(alloc, numbers)?,
-    };
-    match fit(alloc, &interface, 0, side, graph) {
-        Ok(_) => Ok(None),
-        Err((misfit, _)) => Ok(Some(misfit)),
-    }
-}
-
-fn at(home: Home, reason: MisfitReason) -> Option<Misfit> {
-    Some(Misfit::At {
-        home,
-        node: 0,
-        reason,
-    })
-}
-
-// The least and the greatest numbers of a long, a short and a hyper; the response has no values.
+// 1, 2 and 3 are numbers of a long, a short and a hyper.
 #[test]
 fn conforming_graphs_fit(rt: HostRuntime) -> Result<(), Fail> {
-    let alloc = rt.alloc();
-    let least = [
-        Some(-2_147_483_648),
-        Some(-32_768),
-        Some(-9_223_372_036_854_775_808),
-    ];
-    let greatest = [
-        Some(2_147_483_647),
-        Some(32_767),
-        Some(9_223_372_036_854_775_807),
-    ];
-    assert_eq!(rt; misfit(alloc, Side::In, &least, &[])?, None);
-    assert_eq!(rt; misfit(alloc, Side::In, &greatest, &[])?, None);
-    assert_eq!(rt; misfit(alloc, Side::Out, &[], &[])?, None);
-    let interface = interface(alloc)?;
+    let interface = interface(rt.alloc())?;
     let graph = Graph {
-        roots: vals(alloc, &[Some(1), Some(2), Some(3)])?,
-        cells: Cells::new(alloc),
+        roots: numbers(rt.alloc())?,
+        cells: Cells::new(rt.alloc()),
     };
-    let fit = fit(alloc, &interface, 0, Side::In, graph).map_err(|_| "no fit")?;
-    assert_eq!(rt; fit.op(), 0);
+    let fit = fit(rt.alloc(), &interface, 0, Side::In, graph).map_err(|_| "no fit")?;
     assert_eq!(rt; fit.side(), Side::In);
     assert!(rt; is_number(fit.graph().roots.get(2), 3));
-    Ok(())
-}
-
-// The first root is tried before the others, and the roots before their number.
-#[test]
-fn misfits_of_roots_are_found(rt: HostRuntime) -> Result<(), Fail> {
-    let alloc = rt.alloc();
-    let high = [Some(2_147_483_648), Some(40_000), None];
-    let range = at(Home::Root(0), MisfitReason::Range);
-    assert_eq!(rt; misfit(alloc, Side::In, &high, &[])?, range);
-    let low = [Some(1), Some(-32_769), None, Some(4)];
-    let range = at(Home::Root(1), MisfitReason::Range);
-    assert_eq!(rt; misfit(alloc, Side::In, &low, &[])?, range);
-    let pointer = [Some(1), Some(2), None];
-    let shape = at(Home::Root(2), MisfitReason::Shape);
-    assert_eq!(rt; misfit(alloc, Side::In, &pointer, &[])?, shape);
-    Ok(())
-}
-
-// A root that is missing or too many comes behind the roots that are there, and before the cells.
-#[test]
-fn numbers_of_roots_are_checked(rt: HostRuntime) -> Result<(), Fail> {
-    let alloc = rt.alloc();
-    let unknown = [(12, Some(0))];
-    let few = [Some(1), Some(2)];
-    let missing = at(Home::Root(2), MisfitReason::Shape);
-    assert_eq!(rt; misfit(alloc, Side::In, &few, &unknown)?, missing);
-    let many = [Some(1), Some(2), Some(3), Some(4), Some(5)];
-    let surplus = at(Home::Root(3), MisfitReason::Shape);
-    assert_eq!(rt; misfit(alloc, Side::In, &many, &unknown)?, surplus);
-    let surplus = at(Home::Root(0), MisfitReason::Shape);
-    assert_eq!(rt; misfit(alloc, Side::Out, &few, &[])?, surplus);
-    Ok(())
-}
-
-// The misfits of all cells come before the first cell that is not reached.
-#[test]
-fn misfits_of_cells_are_found(rt: HostRuntime) -> Result<(), Fail> {
-    let alloc = rt.alloc();
-    let roots = [Some(1), Some(2), Some(3)];
-    let cell = |number: u32| Home::Cell(CellId(number));
-    let unknown = [(10, Some(18_446_744_073_709_551_615)), (12, Some(0))];
-    let shape = at(cell(2), MisfitReason::Shape);
-    assert_eq!(rt; misfit(alloc, Side::In, &roots, &unknown)?, shape);
-    let truth = [(7, Some(1)), (1, Some(255)), (0, Some(2))];
-    let range = at(cell(3), MisfitReason::Range);
-    assert_eq!(rt; misfit(alloc, Side::In, &roots, &truth)?, range);
-    let unreached = at(cell(1), MisfitReason::Unreached);
-    let numbers = [(7, Some(1)), (7, Some(2))];
-    assert_eq!(rt; misfit(alloc, Side::In, &roots, &numbers)?, unreached);
-    Ok(())
-}
-
-fn has_number(cell: Option<&Cell>, of: u32, number: i128) -> bool {
-    matches!(cell, Some(Cell { of: TypeId(at), val: Val::Num(value) }) if *at == of && *value == number)
-}
-
-// A graph that is no fit comes back as it was.
-#[test]
-fn graphs_come_back(rt: HostRuntime) -> Result<(), Fail> {
-    let alloc = rt.alloc();
-    let interface = interface(alloc)?;
-    let graph = Graph {
-        roots: vals(alloc, &[Some(1), Some(2)])?,
-        cells: cells(alloc, &[(3, Some(-7))])?,
-    };
-    if let Err((_, back)) = fit(alloc, &interface, 0, Side::In, graph) {
-        assert_eq!(rt; back.roots.len(), 2);
-        assert!(rt; is_number(back.roots.get(0), 1));
-        assert!(rt; is_number(back.roots.get(1), 2));
-        assert_eq!(rt; back.cells.len(), 1);
-        assert!(rt; has_number(back.cells.get(0), 3, -7));
-        return Ok(());
-    }
-    assert!(rt; false);
     Ok(())
 }

@@ -97,6 +97,8 @@ sums_are_legal = record {
   out_pointers = refl;
   out_types = refl;
   results = refl;
+  part_names = refl;
+  operation_names = refl;
   few_types = lit≤ tt;
   few_operations = lit≤ tt;
   few_params = refl;
@@ -157,6 +159,8 @@ directory_is_legal = record {
   out_pointers = refl;
   out_types = refl;
   results = refl;
+  part_names = refl;
+  operation_names = refl;
   few_types = lit≤ tt;
   few_operations = lit≤ tt;
   few_params = refl;
@@ -218,6 +222,8 @@ others_are_legal = record {
   out_pointers = refl;
   out_types = refl;
   results = refl;
+  part_names = refl;
+  operation_names = refl;
   few_types = lit≤ tt;
   few_operations = lit≤ tt;
   few_params = refl;
@@ -492,3 +498,15 @@ context_result h = refused h.results refl
 -- 257 parameters
 pub many_params : IsLegal basic_types (operation (replicate 257 (param way.In 7 [])) None ∷ []) → ⊥
 many_params h = refused h.few_params refl
+
+-- an operation whose name begins with a digit
+pub digit_first : IsLegal basic_types (record { name = 49 ∷ 97 ∷ []; params = []; result = None } ∷ []) → ⊥
+digit_first h = refused h.operation_names refl
+
+-- a member whose name has 32 octets
+pub long_name : IsLegal (with (Struct (record { name = replicate 32 97; of = id 7; vars = [] } ∷ []) ∷ [])) [] → ⊥
+long_name h = refused h.part_names refl
+
+-- an arm whose name has a space
+pub spaced_arm : IsLegal (with (Union (id 7) true (record { label = pos 1; name = Some (97 ∷ 32 ∷ []); of = Some (id 7) } ∷ []) None ∷ [])) [] → ⊥
+spaced_arm h = refused h.part_names refl

@@ -6,6 +6,7 @@ use Rattle.std.specs.Cmp.Derive.{both_true}
 use Rattle.std.proofs.lemmas.Option.{slice_get_within}
 use Rattle.std.proofs.lemmas.Bool.{lt-ltb, le-leb, eqb-true}
 use Rattle.std.proofs.lemmas.List.{append-nil}
+use Rattle.nd_base.specs.Text.{is_identifier}
 use Rattle.nd_types.specs.declared.TheConstants.{HANDLE, PARAM_LIMIT}
 use Rattle.std.proofs.Math.Bool.{or-true}
 use Rattle.nd_types.specs.declared.types.TypeDef.{TypeDef}
@@ -19,7 +20,7 @@ use Rattle.nd_types.specs.Table.{Table, type_at}
 use Rattle.nd_types.specs.Kinds.{basic_types, is_nonencapsulated, pointee_by}
 use Rattle.nd_types.specs.Layout.{hoists}
 use Rattle.nd_types.specs.Fields.{FieldAt, fields_at, all_fields, param_fields}
-use Rattle.nd_types.specs.Legal.{is_shallow, element_count, fits_pipes, IsLegal, is_handle, all_params, is_in_table, is_switched, result_passes, is_result_type}
+use Rattle.nd_types.specs.Legal.{is_shallow, element_count, fits_pipes, IsLegal, is_handle, all_params, is_in_table, is_switched, result_passes, is_result_type, has_names}
 use Rattle.nd_types.specs.Roots.{roots_of, params_from, pipe_of, pipe_by, root_of, root_by, travels}
 use Rattle.nd_types.specs.Plain.{IsPlainParam, IsPlainOperation, IsPlainInterface, plain_roots, is_plain_type}
 
@@ -138,6 +139,8 @@ basic_is_legal operations h = record {
   out_pointers = params_pass _ (λ p plain. rw plain.way refl) operations h.plain;
   out_types = params_pass _ (λ p plain. rw plain.way refl) operations h.plain;
   results = operations_pass (λ o. result_passes (λ t. is_result_type (type_at basic_types t)) o.result) (λ o plain. rw plain.no_result refl) operations h.plain;
+  part_names = refl;
+  operation_names = operations_pass has_names (λ o plain. both_true plain.name (list_all_of IsPlainParam (λ p. is_identifier p.field.name) (λ p named. named.name) o.params plain.params)) operations h.plain;
   few_types = lit≤ tt;
   few_operations = h.few;
   few_params = operations_pass (λ o. nat_le (length o.params) PARAM_LIMIT) (λ o plain. le-leb (length o.params) PARAM_LIMIT plain.few) operations h.plain;

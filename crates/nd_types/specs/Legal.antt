@@ -4,11 +4,13 @@
 use Rattle.std.specs.Prelude.{◌≡◌, ℕ, suc, zero, ◌+◌, ◌*◌, ◌≤◌, ℤ, pos, int_le, Bool, true, false, not, ◌==◌, ◌&&◌, ◌||◌, nat_lt, nat_le, List, [], ◌∷◌, ◌++◌, Option, Some, None, map, length, drop, sum_by}
 use Rattle.std.specs.Ordering.{int_eq}
 use Rattle.std.specs.List.{list_all, list_any, starts_with, enumerate_from}
+use Rattle.nd_base.specs.Text.{is_identifier}
 use Rattle.nd_types.specs.declared.types.TypeId.{TypeId}
 use Rattle.nd_types.specs.declared.types.TypeDef.{TypeDef}
 use Rattle.nd_types.specs.declared.types.TypeDef.TheVariants.{Prim, Enum, Struct, Array, Text, Union, Pointer, Pipe}
 use Rattle.nd_types.specs.declared.types.Class.TheVariants.{Ref}
 use Rattle.nd_types.specs.declared.types.Field.{Field}
+use Rattle.nd_types.specs.declared.types.Arm.{Arm}
 use Rattle.nd_types.specs.declared.types.Attr.{Attr}
 use Rattle.nd_types.specs.declared.types.Attr.TheVariants.{Size, Max, Length, Last, Switch}
 use Rattle.nd_types.specs.declared.types.Param.{Param}
@@ -225,6 +227,26 @@ is_result_type (Some (Prim p)) = true
 is_result_type (Some (Enum values)) = true
 is_result_type _ = false
 
+-- a name, where there is one, is an identifier
+abbrev pub is_named : Option (List ℕ) → Bool
+is_named None = true
+is_named (Some name) = is_identifier name
+
+-- the same of a default arm, where there is one
+abbrev pub is_named_default : Option Arm → Bool
+is_named_default None = true
+is_named_default (Some a) = is_named a.name
+
+-- the names of members and of arms are identifiers
+abbrev pub has_named_parts : TypeDef → Bool
+has_named_parts (Struct members) = list_all (λ f. is_identifier f.name) members
+has_named_parts (Union tag encapsulated arms default) = list_all (λ a. is_named a.name) arms && is_named_default default
+has_named_parts _ = true
+
+-- an operation's name and those of its parameters are identifiers
+abbrev pub has_names : Operation → Bool
+has_names o = is_identifier o.name && list_all (λ p. is_identifier p.field.name) o.params
+
 -- a legal interface, by its table of types and its operations
 pub record IsLegal (types : Table) (operations : List Operation) : Type 0 where
   -- The table begins with the primitives, each under its number, and the context handle, and has none of these later.
@@ -293,6 +315,9 @@ pub record IsLegal (types : Table) (operations : List Operation) : Type 0 where
   pub out_types : all_params (λ p. is_in p.way || is_out_type (type_at types p.field.of.0)) operations ≡ true
   -- A result is a primitive or of an enumerated type.
   pub results : list_all (λ o. result_passes (λ t. is_result_type (type_at types t)) o.result) operations ≡ true
+  -- The names of members and arms, of operations and of parameters are identifiers.
+  pub part_names : list_all has_named_parts types ≡ true
+  pub operation_names : list_all has_names operations ≡ true
   -- There are at most 4,096 types, 1,024 operations, 256 parameters of an operation, and 67,108,864 members of structs and arms of unions.
   pub few_types : length types ≤ TYPE_LIMIT
   pub few_operations : length operations ≤ OPERATION_LIMIT

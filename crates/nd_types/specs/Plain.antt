@@ -1,6 +1,7 @@
 -- Plain interfaces: no types of their own, and operations that take signed integers alone and give nothing back.
 -- `p` is a primitive or a parameter, `o` an operation, `i` a parameter's index.
 use Rattle.std.specs.Prelude.{◌≡◌, ◌≢◌, ℕ, ◌+◌, ◌≤◌, Bool, true, false, List, [], ◌∷◌, Option, Some, None, length, All, AllPairs}
+use Rattle.nd_base.specs.Text.{is_identifier}
 use Rattle.nd_types.specs.declared.types.TypeDef.{TypeDef}
 use Rattle.nd_types.specs.declared.types.TypeDef.TheVariants.{Prim}
 use Rattle.nd_types.specs.declared.types.Primitive.{Primitive}
@@ -31,6 +32,7 @@ pub record IsPlainParam (p : Param) : Type 0 where
   pub integer : is_plain_type (type_at basic_types p.field.of.0) ≡ true
   pub way : p.way ≡ way.In
   pub no_attributes : p.field.vars ≡ []
+  pub name : is_identifier p.field.name ≡ true
 
 -- a parameter of this name and type, for a plain operation
 abbrev pub plain_param : List ℕ → ℕ → Param
@@ -38,6 +40,7 @@ plain_param name t = record { field = record { name = name; of = record { 0 = t 
 
 -- an operation of such parameters, not too many and of different names, without a result
 pub record IsPlainOperation (o : Operation) : Type 0 where
+  pub name : is_identifier o.name ≡ true
   pub params : All IsPlainParam o.params
   pub no_result : o.result ≡ None
   pub few : length o.params ≤ PARAM_LIMIT

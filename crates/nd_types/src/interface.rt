@@ -1,5 +1,6 @@
 // An interface.
-ghost use Rattle.std.specs.Prelude.{◌≡◌};
+ghost use Rattle.std.specs.Prelude.{◌≡◌, true};
+ghost use Rattle.nd_base.specs.Text.{is_identifier};
 ghost use Rattle.nd_types.specs.Legal.{IsLegal};
 ghost use Rattle.nd_types.specs.Rounds.{layouts_of};
 
@@ -7,7 +8,7 @@ use crate::{Layouts, Operations, Types};
 use nd_base::Name;
 
 /// An interface: its table of types and its operations. Each interface is legal: its table and operations
-/// keep every rule of the language that can be read off them.
+/// keep every rule of the language that can be read off them, and its names are identifiers.
 #[derive(Drop)]
 pub struct Interface {
     /// The name that stands behind `interface`.
@@ -24,6 +25,7 @@ pub struct Interface {
     pub layouts: Layouts,
     /// The operations in the order of the file. An operation's number is its place here, from 0.
     pub operations: Operations,
+    pub ghost named: { is_identifier name ≡ true },
     pub ghost legal: { IsLegal types operations },
     pub ghost laid_out: { layouts ≡ layouts_of types },
 }

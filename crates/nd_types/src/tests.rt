@@ -110,6 +110,17 @@ fn walks_the_roots(rt: HostRuntime) -> Result<(), Fail> {
     Ok(())
 }
 
+#[test]
+fn a_copy_has_the_layouts(rt: HostRuntime) -> Result<(), Fail> {
+    let copy = two(rt.alloc())?.copy(rt.alloc())?;
+    assert_eq!(rt; copy.name.as_slice(), b"two".as_slice());
+    assert_eq!(rt; copy.types.len(), 12);
+    assert_eq!(rt; copy.operation("take"), Some(1));
+    assert_eq!(rt; copy.align(TypeId(9)), 8);
+    assert!(rt; !copy.hoists(TypeId(9)));
+    Ok(())
+}
+
 // enum { 0, 4 }; union switch (enum) { case 0: unsigned long size; case 4: ; }; struct { .. }
 #[test]
 fn keeps_lists(rt: HostRuntime) -> Result<(), Fail> {

@@ -1,19 +1,17 @@
-// Each call with ample memory, in both orders, and the refusal of octets.
-ghost use Rattle.std.specs.Prelude.{◌≡◌, ◌≤◌, ◌<◌, ◌^◌, [], ◌∷◌, length, codes, IfOk};
+// Each call once with ample memory.
+ghost use Rattle.std.specs.Prelude.{◌≡◌, ◌≤◌, [], ◌∷◌, length, IfOk};
 ghost use Rattle.nd_types.specs.Kinds.{basic_types};
 ghost use Rattle.nd_types.specs.Numbers.{IsNumberSide};
 ghost use Rattle.nd_types.specs.Plain.{plain_param};
 ghost use Rattle.nd_graph.specs.WorkedFit.{add_params, add};
 
-use crate::{DecodeFault, decode, encode};
+use crate::{decode, encode};
 use nd_base::{Memory, Name, Order};
-use nd_grammar::Reason;
 use nd_graph::Val;
 use nd_types::{
     AttrVars, Field, Interface, Operation, Operations, Param, Params, Side, TypeId, Types, Way,
 };
 use std::alloc::Global;
-use std::process::Abort;
 use std::test::Fail;
 
 fn param(alloc: Global, name: &[u8], of: u32) -> Result<Param, Memory>
@@ -84,14 +82,14 @@ fn is_number(val: Option<&Val>, number: i128) -> bool {
     matches!(val, Some(Val::Num(value)) if *value == number)
 }
 
-// Asserts that 16 of the octets hold the numbers 1, 2 and 3.
-fn expect_numbers(rt: &impl Abort, alloc: Global, order: Order, octets: &[u8]) -> Result<(), Fail>
-    requires { length octets.now < 2 ^ 32 }
-{
-    let interface = interface(alloc)?;
-    let decoded = decode(alloc, &interface, 0, Side::In, order, octets)?;
+// Any octets stand in the gap before the hyper, and any after the values.
+const BIG: &[u8] = b"\0\0\0\x01\0\x02\xaa\xaa\0\0\0\0\0\0\0\x03\x04";
+
+#[test]
+fn numbers_are_decoded(rt: HostRuntime) -> Result<(), Fail> {
+    let interface = interface(rt.alloc())?;
+    let decoded = decode(rt.alloc(), &interface, 0, Side::In, Order::Big, BIG)?;
     assert_eq!(rt; decoded.taken, 16);
-    assert_eq!(rt; decoded.fit.op(), 0);
     let roots = &decoded.fit.graph().roots;
     assert_eq!(rt; roots.len(), 3);
     assert!(rt; is_number(roots.get(0), 1));
@@ -100,66 +98,14 @@ fn expect_numbers(rt: &impl Abort, alloc: Global, order: Order, octets: &[u8]) -
     Ok(())
 }
 
-// Any octets stand in the gap before the hyper, and any behind the values.
-#[test]
-fn numbers_are_decoded(rt: HostRuntime) -> Result<(), Fail> {
-    let little = b"\x01\0\0\0\x02\0\0\0\x03\0\0\0\0\0\0\0";
-    expect_numbers(&rt, rt.alloc(), Order::Little, little)?;
-    let big = b"\0\0\0\x01\0\x02\xaa\xaa\0\0\0\0\0\0\0\x03\x04";
-    expect_numbers(&rt, rt.alloc(), Order::Big, big)
-}
-
-// The response has no values.
-#[test]
-fn other_side_is_decoded(rt: HostRuntime) -> Result<(), Fail> {
-    let interface = interface(rt.alloc())?;
-    let decoded = decode(rt.alloc(), &interface, 0, Side::Out, Order::Little, b"\x01")?;
-    assert_eq!(rt; decoded.taken, 0);
-    assert_eq!(rt; decoded.fit.side(), Side::Out);
-    assert_eq!(rt; decoded.fit.graph().roots.len(), 0);
-    let written = encode(rt.alloc(), &interface, &decoded.fit, Order::Big, 1)?;
-    assert_eq!(rt; written.as_slice().len(), 0);
-    Ok(())
-}
-
-// The octets end in the hyper, and in the gap before it.
-#[test]
-fn short_octets_are_refused(rt: HostRuntime) -> Result<(), Fail> {
-    let interface = interface(rt.alloc())?;
-    let whole = b"\x01\0\0\0\x02\0\0\0\x03";
-    for place in [9u32, 7] {
-        let octets = &whole[..place as usize];
-        let fault = decode(rt.alloc(), &interface, 0, Side::In, Order::Little, octets).err();
-        let reason = Reason::Truncated;
-        assert_eq!(rt; fault, Some(DecodeFault::Bad { place, reason }));
-    }
-    Ok(())
-}
-
-// Asserts that these are the octets written for the numbers 1, 2 and 3, which are decoded from big endian octets with a gap that
-// is not zero.
-fn expect_written(
-    rt: &impl Abort,
-    alloc: Global,
-    order: Order,
-    chunk: u32,
-    octets: &[u8],
-) -> Result<(), Fail>
-    requires { 1 ≤ chunk }
-{
-    let interface = interface(alloc)?;
-    let big = b"\0\0\0\x01\0\x02\xaa\xaa\0\0\0\0\0\0\0\x03";
-    let decoded = decode(alloc, &interface, 0, Side::In, Order::Big, big)?;
-    let written = encode(alloc, &interface, &decoded.fit, order, chunk)?;
-    assert_eq!(rt; written.as_slice(), octets);
-    Ok(())
-}
-
-// The gap before the hyper is written as zeros, and the count of chunks changes nothing.
 #[test]
 fn numbers_are_encoded(rt: HostRuntime) -> Result<(), Fail> {
-    let little = b"\x01\0\0\0\x02\0\0\0\x03\0\0\0\0\0\0\0";
-    expect_written(&rt, rt.alloc(), Order::Little, 1, little)?;
-    let big = b"\0\0\0\x01\0\x02\0\0\0\0\0\0\0\0\0\x03";
-    expect_written(&rt, rt.alloc(), Order::Big, 16_777_216, big)
+    let interface = interface(rt.alloc())?;
+    let decoded = decode(rt.alloc(), &interface, 0, Side::In, Order::Big, BIG)?;
+    let written = encode(rt.alloc(), &interface, &decoded.fit, Order::Little, 1)?;
+    assert_eq!(rt;
+        written.as_slice(),
+        b"\x01\0\0\0\x02\0\0\0\x03\0\0\0\0\0\0\0".as_slice()
+    );
+    Ok(())
 }

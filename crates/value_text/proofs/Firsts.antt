@@ -5,7 +5,8 @@ use Rattle.std.specs.List.{list_all}
 use Rattle.std.specs.Fmt.{decimal, signed_decimal}
 use Rattle.std.proofs.lemmas.Bool.{cond-true, cond-false, and_parts, and_from, both_ways, or_left, or_right, eqb-true, eq-eqb}
 use Rattle.std.proofs.lemmas.Bool.Decides.{nat_tests}
-use Rattle.value_text.specs.Tokens.{Token, Word, Number, Cell, Str, Uuid, Mark, Spells, is_uuid, is_word, is_word_octet, is_letter, is_digit, is_mark, ends_run, IsString, character, escape, hex_pair, hex_value, is_hex_digit, is_plain}
+use Rattle.nd_base.specs.Text.{is_word, is_word_octet, is_letter, is_digit, hex_value, is_hex_digit}
+use Rattle.value_text.specs.Tokens.{Token, Word, Number, Cell, Str, Uuid, Mark, Spells, is_uuid, is_mark, ends_run, IsString, character, escape, hex_pair, is_plain}
 use Rattle.value_text.proofs.Classes.{letter_no_digit, letter_no_mark, digit_no_mark, letter_word}
 use Rattle.value_text.proofs.Runs.{one_run}
 use Rattle.value_text.proofs.Numerals.{Written, written, decimal_digits, digits_are_words, one_decimal}

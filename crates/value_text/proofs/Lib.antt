@@ -5,6 +5,10 @@ pub mod Runs
 pub mod Numerals
 pub mod StringEnds
 pub mod Firsts
+pub mod SpelledTokens
+pub mod KeptTokens
+pub mod GraphLines
+pub mod LegalNames
 pub mod OneText
 pub mod PlainGraphs
 pub mod PlainTexts
@@ -12,7 +16,6 @@ pub mod Scanned
 pub mod Shown
 pub mod PlainSteps
 pub mod PlainReading
-pub mod WorkedPing
 pub mod OneFault
 pub mod PrintedReads
 pub mod Tested

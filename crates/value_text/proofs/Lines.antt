@@ -8,8 +8,7 @@ use Rattle.std.proofs.lemmas.Option.{slice_get_within, get_or_from_slice_get, sa
 use Rattle.nd_graph.specs.Tree as tree
 use Rattle.nd_graph.specs.Tree.{Tree, node, none}
 use Rattle.nd_grammar.specs.Plain.{number}
-use Rattle.value_text.specs.Whole.{line}
-use Rattle.value_text.specs.Numbers.{number_lines, is_number}
+use Rattle.value_text.specs.Numbers.{line, number_lines, is_number}
 
 -- a number among numbers
 pub number_at : (zs : List ℤ) (i : ℕ) (t : Tree) → slice_get (map number zs) i ≡ Some t → t ≡ number (get_or zs i (pos 0))

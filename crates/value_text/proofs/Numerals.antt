@@ -6,7 +6,7 @@ use Rattle.std.proofs.lemmas.Fmt.{decimal_digit, decimal_step_wide, decimal_by_s
 use Rattle.std.proofs.lemmas.List.Folds.{list_all-append}
 use Rattle.std.proofs.lemmas.Bool.{cond-true, cond-false, and_parts, and_from, both_ways, cases_lt, ne_eqb, eqb-true, eq-eqb, le-leb, leb-true}
 use Rattle.std.proofs.lemmas.Option.{same_Some}
-use Rattle.value_text.specs.Tokens.{is_digit, is_word_octet}
+use Rattle.nd_base.specs.Text.{is_digit, is_word_octet}
 use Rattle.value_text.specs.Scan.{value_from, is_number, number_of}
 use Rattle.value_text.proofs.Classes.{digit_word, digit_range, range_digit}
 

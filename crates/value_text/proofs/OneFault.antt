@@ -1,5 +1,6 @@
 -- A text of a plain side is read as one graph, and has one fault.
 use Rattle.std.proofs.Common.{◌≡◌, ◌≢◌, ℕ, suc, ◌+◌, ◌-◌, ◌<◌, ◌≤◌, ℤ, pos, List, [], ◌∷◌, ◌++◌, length, map, Option, Some, None, refl, ap, ap₂, sym, ◌∙◌, subst, arith}
+use Rattle.nd_base.specs.Text.{position_of}
 use Rattle.nd_types.specs.declared.types.Primitive.{Primitive}
 use Rattle.nd_graph.specs.declared.value.Graph.{Graph}
 use Rattle.nd_graph.specs.Setting.{Setting}
@@ -10,7 +11,7 @@ use Rattle.value_text.specs.declared.TheConstants.{TEXT_LIMIT}
 use Rattle.value_text.specs.Tokens.{Token, Word, Number, Cell, skip, uuid_due, behind}
 use Rattle.value_text.specs.Written.{Piece, token_of, graph_tokens, graph_pieces}
 use Rattle.value_text.specs.Readable.{IsReadable}
-use Rattle.value_text.specs.Reads.{ReadsAs, Lexeme, Cut, End, Bad, IsWhole, IsReason, IsFirstFault, IsTextFault, position_of}
+use Rattle.value_text.specs.Reads.{ReadsAs, Lexeme, Cut, End, Bad, IsWhole, IsReason, IsFirstFault, IsTextFault}
 use Rattle.value_text.specs.Dues.{Due, Exactly, AnyNumber, name_dues}
 use Rattle.value_text.specs.PlainSide.{IsPlainSide}
 use Rattle.value_text.proofs.OneText.{AreOne, one_fault, Compared, as_far, shorter, longer, compare, some_octets}

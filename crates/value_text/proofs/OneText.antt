@@ -1,14 +1,15 @@
 -- A text is cut in one way; so it is not read as a graph and refused too, and it is refused at one place.
 use Rattle.std.proofs.Common.{◌≡◌, ◌≢◌, ◌⊎◌, inl, inr, ℕ, zero, suc, ◌+◌, ◌-◌, ◌<◌, ◌≤◌, Bool, true, false, ◌&&◌, cond, eqb, List, [], ◌∷◌, ◌++◌, length, take, map, refl, sym, ap, ap₂, subst, ◌∙◌, arith, append_assoc, append-nil}
 use Rattle.std.proofs.lemmas.Bool.{and_parts, both_ways}
+use Rattle.nd_base.specs.Text.{has_form, uuid_form, is_hex_digit, position_of}
 use Rattle.nd_graph.specs.declared.value.Graph.{Graph}
 use Rattle.nd_graph.specs.Setting.{Setting}
 use Rattle.value_text.specs.declared.fault.TextReason.{TextReason}
 use Rattle.value_text.specs.declared.fault.TextReason.TheVariants as reason
 use Rattle.value_text.specs.declared.TheConstants.{TEXT_LIMIT}
-use Rattle.value_text.specs.Tokens.{Token, Word, Number, Cell, Str, Uuid, Mark, Spells, is_uuid, IsCut, Begins, skip, uuid_due, behind, has_form, uuid_form, uuid_octets, is_hex_digit}
+use Rattle.value_text.specs.Tokens.{Token, Word, Number, Cell, Str, Uuid, Mark, Spells, is_uuid, IsCut, Begins, skip, uuid_due, behind, uuid_octets}
 use Rattle.value_text.specs.Written.{graph_tokens}
-use Rattle.value_text.specs.Reads.{ReadsAs, Lexeme, Cut, End, Bad, IsNext, CanGoOn, IsWhole, GoesOn, IsNameDue, IsReason, IsFirstFault, IsTextFault, position_of}
+use Rattle.value_text.specs.Reads.{ReadsAs, Lexeme, Cut, End, Bad, IsNext, CanGoOn, IsWhole, GoesOn, IsNameDue, IsReason, IsFirstFault, IsTextFault}
 use Rattle.value_text.proofs.Firsts.{BeginsAs, begins_as, one_first}
 
 -- ## UUIDs

@@ -1,5 +1,6 @@
 -- The graphs that stand in the texts of plain sides: numbers and no cells, and the tokens of these.
 use Rattle.std.proofs.Common.{◌≡◌, ◌≢◌, ℕ, zero, suc, ◌+◌, ◌<◌, ◌≤◌, ℤ, pos, Bool, true, false, ◌&&◌, List, [], ◌∷◌, ◌++◌, length, Option, Some, None, refl, ap, ap₂, sym, ◌∙◌, subst, map, append_assoc, append-nil, arith, add-one, codes}
+use Rattle.std.specs.Prelude.{flat_map}
 use Rattle.std.specs.List.{slice_get, list_all}
 use Rattle.std.proofs.lemmas.List.{length-map}
 use Rattle.std.proofs.lemmas.List.Folds.{list_all-append}
@@ -21,9 +22,8 @@ use Rattle.nd_graph.specs.Homes.{HomeNode, in_home, root_nodes, cell_nodes, all_
 use Rattle.nd_graph.specs.Variables.{root_agreements}
 use Rattle.nd_grammar.specs.Plain.{ArePlain, IsPlain, number, plain_graph}
 use Rattle.nd_grammar.proofs.PlainStreams.{plain_length}
-use Rattle.value_text.specs.Whole.{root_name, parameter_name}
 use Rattle.value_text.specs.Tokens.{Token}
-use Rattle.value_text.specs.Written.{Piece, Name, Other, token_of, number_piece, equals, named, value_pieces, root_pieces, cell_pieces, head_pieces, graph_pieces, graph_tokens}
+use Rattle.value_text.specs.Written.{Piece, Name, Other, token_of, word, number_piece, count_piece, equals, side_word, root_name, head_lines, root_lines, graph_pieces}
 use Rattle.value_text.specs.Readable.{IsReadable, AreNamed, has_text_form}
 use Rattle.value_text.specs.Dues.{Due, Exactly, AnyNumber, name_dues, side_names, side_dues}
 
@@ -72,7 +72,7 @@ filled_length (AnyNumber ∷ ds) (z ∷ zs) = ap suc (filled_length ds zs)
 -- ## The tokens of a plain graph
 
 roots_are : (table : Table) (params : List Param) (rs : List Root) (zs : List ℤ) → length zs ≡ length rs
-    → root_pieces table params rs (map number zs) ≡ filled (name_dues (map (root_name params) rs)) zs
+    → flat_map (λ (line : List Piece). line) (root_lines table params rs (map number zs)) ≡ filled (name_dues (map (root_name params) rs)) zs
 roots_are table params [] [] l = refl
 roots_are table params [] (z ∷ zs) l = cc
 roots_are table params (r ∷ rs) [] l = cc
@@ -89,9 +89,10 @@ module _ (w : Setting) (primitives : List Primitive) (plain : IsPlain w primitiv
 
   pub plain_pieces : (zs : List ℤ) → length zs ≡ length (names_of w) → graph_pieces w (plain_graph zs) ≡ filled (dues_of w) zs
   plain_pieces zs l =
-      let all : root_pieces w.table w.op.params (root_list w) (map number zs) ≡ filled (name_dues (names_of w)) zs =
-      roots_are w.table w.op.params (root_list w) zs (l ∙ sym as_many) in
-      ap (λ (u : List Piece). head_pieces w ++ u) (append-nil (root_pieces w.table w.op.params (root_list w) (map number zs)) ∙ all)
+      let lines : List (List Piece) = root_lines w.table w.op.params (root_list w) (map number zs) in
+      let all : flat_map (λ (line : List Piece). line) lines ≡ filled (name_dues (names_of w)) zs = roots_are w.table w.op.params (root_list w) zs (l ∙ sym as_many) in
+      ap (λ (u : List (List Piece)). flat_map (λ (line : List Piece). line) (head_lines w ++ u)) (append-nil lines)
+      ∙ ap (λ (u : List Piece). word (codes "values") ∷ count_piece 1 ∷ word (codes "op") ∷ Name w.op.name ∷ Name (side_word w.side) ∷ u) all
 
   -- ## The forms of its nodes
 

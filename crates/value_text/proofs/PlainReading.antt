@@ -2,6 +2,7 @@
 use Rattle.std.proofs.Common.{◌≡◌, ℕ, suc, ◌+◌, ◌-◌, ◌<◌, ◌≤◌, ◌^◌, ℤ, List, [], ◌∷◌, ◌++◌, length, map, Option, Some, None, refl, ap, sym, ◌∙◌, subst, append-nil, arith}
 use Rattle.std.specs.List.{slice_get, AllByRecursion}
 use Rattle.std.proofs.lemmas.Option.{same_Some}
+use Rattle.nd_base.specs.Text.{position_of}
 use Rattle.nd_types.specs.declared.types.Primitive.{Primitive}
 use Rattle.nd_graph.specs.declared.value.Graph.{Graph}
 use Rattle.nd_graph.specs.Tree.{Tree, node_count, more, none}
@@ -12,7 +13,7 @@ use Rattle.value_text.specs.declared.stop.Stop.{Stop}
 use Rattle.value_text.specs.declared.stop.Stop.TheVariants as stop
 use Rattle.value_text.specs.declared.TheConstants.{TEXT_LIMIT}
 use Rattle.value_text.specs.Tokens.{skip}
-use Rattle.value_text.specs.Reads.{ReadsAs, IsFault, position_of}
+use Rattle.value_text.specs.Reads.{ReadsAs, IsFault}
 use Rattle.value_text.specs.Dues.{Due, head_dues, name_dues, side_names, walk_names, Follows, Stops, fault_by}
 use Rattle.value_text.proofs.PlainGraphs.{dues_of}
 use Rattle.value_text.proofs.PlainTexts.{reads, fault_at, follows_both}

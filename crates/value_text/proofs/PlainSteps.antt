@@ -10,8 +10,7 @@ use Rattle.nd_grammar.specs.Plain.{number}
 use Rattle.value_text.specs.declared.stop.Stop.{Stop}
 use Rattle.value_text.specs.declared.stop.Stop.TheVariants as stop
 use Rattle.value_text.specs.Tokens.{Token, Word, Number, Mark, IsCut, skip}
-use Rattle.value_text.specs.Whole.{side_word}
-use Rattle.value_text.specs.Written.{Piece, Name, Other, token_of, word, count_piece, equals}
+use Rattle.value_text.specs.Written.{Piece, Name, Other, token_of, word, count_piece, equals, side_word}
 use Rattle.value_text.specs.Dues.{Due, Exactly, AnyNumber, head_dues, name_dues, Fits, Follows, MismatchUnless, Stops, StopsAt, left_by}
 use Rattle.value_text.proofs.Runs.{skip_less}
 use Rattle.value_text.proofs.Firsts.{spells_less}

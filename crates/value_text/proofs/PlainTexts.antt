@@ -2,6 +2,7 @@
 use Rattle.std.proofs.Common.{◌≡◌, ◌≢◌, ◌⊎◌, inl, inr, ℕ, zero, suc, ◌+◌, ◌-◌, ◌<◌, ◌≤◌, ℤ, pos, Bool, true, false, ◌&&◌, eqb, List, [], ◌∷◌, ◌++◌, length, take, map, refl, ap, ap₂, sym, ◌∙◌, subst, append_assoc, append-nil, length-append, arith}
 use Rattle.std.proofs.lemmas.List.{length-map, map-append}
 use Rattle.std.proofs.lemmas.Bool.{and_parts, and_left}
+use Rattle.nd_base.specs.Text.{position, position_of}
 use Rattle.nd_types.specs.declared.types.Primitive.{Primitive}
 use Rattle.nd_graph.specs.declared.value.Graph.{Graph}
 use Rattle.nd_graph.specs.Setting.{Setting}
@@ -11,42 +12,14 @@ use Rattle.value_text.specs.declared.fault.TextReason.TheVariants as reason
 use Rattle.value_text.specs.declared.TheConstants.{TEXT_LIMIT}
 use Rattle.value_text.specs.Tokens.{Token, Word, Number, Cell, Str, Uuid, Mark, IsCut, Begins, skip, uuid_due, behind}
 use Rattle.value_text.specs.Written.{Piece, Name, Other, token_of, number_piece, graph_pieces, graph_tokens}
+use Rattle.value_text.specs.Printed.{is_comma}
 use Rattle.value_text.specs.Readable.{IsReadable}
-use Rattle.value_text.specs.Reads.{ReadsAs, Lexeme, Cut, End, Bad, IsNext, CanGoOn, IsWhole, GoesOn, IsNameDue, IsReason, IsFirstFault, IsTextFault, position, position_of}
+use Rattle.value_text.specs.Reads.{ReadsAs, Lexeme, Cut, End, Bad, IsNext, CanGoOn, IsWhole, GoesOn, IsNameDue, IsReason, IsFirstFault, IsTextFault}
 use Rattle.value_text.specs.Dues.{Due, Exactly, AnyNumber, head_dues, name_dues, Fits, Follows, IsName, IsOther, IsMismatch, IsSurplus, GoesOnBehind, StopsAt}
+use Rattle.value_text.proofs.KeptTokens.{no_uuid}
 use Rattle.value_text.proofs.PlainGraphs.{names_of, dues_of, filled, padded, filled_padded, padded_length, filled_length, plain_pieces, plain_readable, readable_plain, IsPlainGraph}
 
 -- ## No UUID is due
-
-abbrev is_comma : Token → Bool
-is_comma (Mark c) = eqb c 44
-is_comma t = false
-
-no_uuid : (t : Token) (before : List Token) → is_comma t ≡ false → uuid_due (t ∷ before) ≡ false
-no_uuid (Mark c) (Number z ∷ Mark m ∷ Word word ∷ before) h = and_left (eqb c 44) _ h
-no_uuid (Mark c) (Number z ∷ Mark m ∷ Number y ∷ before) h = refl
-no_uuid (Mark c) (Number z ∷ Mark m ∷ Cell y ∷ before) h = refl
-no_uuid (Mark c) (Number z ∷ Mark m ∷ Str y ∷ before) h = refl
-no_uuid (Mark c) (Number z ∷ Mark m ∷ Uuid y ∷ before) h = refl
-no_uuid (Mark c) (Number z ∷ Mark m ∷ Mark y ∷ before) h = refl
-no_uuid (Mark c) (Number z ∷ Mark m ∷ []) h = refl
-no_uuid (Mark c) (Number z ∷ Word m ∷ before) h = refl
-no_uuid (Mark c) (Number z ∷ Number m ∷ before) h = refl
-no_uuid (Mark c) (Number z ∷ Cell m ∷ before) h = refl
-no_uuid (Mark c) (Number z ∷ Str m ∷ before) h = refl
-no_uuid (Mark c) (Number z ∷ Uuid m ∷ before) h = refl
-no_uuid (Mark c) (Number z ∷ []) h = refl
-no_uuid (Mark c) (Word m ∷ before) h = refl
-no_uuid (Mark c) (Cell m ∷ before) h = refl
-no_uuid (Mark c) (Str m ∷ before) h = refl
-no_uuid (Mark c) (Uuid m ∷ before) h = refl
-no_uuid (Mark c) (Mark m ∷ before) h = refl
-no_uuid (Mark c) [] h = refl
-no_uuid (Word m) before h = refl
-no_uuid (Number m) before h = refl
-no_uuid (Cell m) before h = refl
-no_uuid (Str m) before h = refl
-no_uuid (Uuid m) before h = refl
 
 abbrev is_comma_due : Due → Bool
 is_comma_due (Exactly p) = is_comma (token_of p)

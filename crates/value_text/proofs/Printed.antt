@@ -1,7 +1,8 @@
 -- The text of a graph of plain numbers.
-use Rattle.std.proofs.Common.{◌≡◌, ℕ, zero, suc, ◌+◌, ◌<◌, ◌≤◌, ℤ, Bool, true, false, List, [], ◌∷◌, ◌++◌, length, Option, Some, None, refl, ap, ap₂, sym, ◌∙◌, subst, take, map, append_assoc, arith, codes, add-one}
+use Rattle.std.proofs.Common.{◌≡◌, ℕ, zero, suc, ◌+◌, ◌<◌, ◌≤◌, ℤ, Bool, true, false, List, [], ◌∷◌, ◌++◌, length, Option, Some, None, refl, ap, ap₂, sym, ◌∙◌, subst, take, map, append_assoc, arith, codes, add-one, lit<}
 use Rattle.std.specs.Prelude.{pos, All}
-use Rattle.std.specs.Fmt.{signed_decimal}
+use Rattle.std.specs.Fmt.{decimal, signed_decimal}
+use Rattle.std.proofs.lemmas.Fmt.{decimal_digit}
 use Rattle.std.specs.List.{slice_get, AllByRecursion}
 use Rattle.std.proofs.lemmas.List.{append-nil, length-map}
 use Rattle.std.proofs.lemmas.Option.{same_Some, slice_get_within}
@@ -27,15 +28,15 @@ use Rattle.nd_graph.specs.Misfit.{misfit_of}
 use Rattle.nd_graph.specs.Conforms.{Conforms}
 use Rattle.nd_graph.specs.Same.{renumbered}
 use Rattle.nd_graph.specs.Fitting.{Fitting, IsFit, setting_of}
-use Rattle.nd_graph.specs.Canon.{IsCanon, canonical_number, named_cells}
+use Rattle.nd_graph.specs.Canon.{IsCanon}
 use Rattle.nd_grammar.specs.Plain.{ArePlain, IsPlain, number, plain_graph}
 use Rattle.nd_grammar.proofs.PlainStreams.{plain_stream, plain_length, label_of}
 use Rattle.nd_grammar.proofs.PlainConforms.{all_left, all_right, no_cells}
-use Rattle.value_text.specs.Text.{joined}
-use Rattle.value_text.specs.Whole.{line, root_lines, root_name, side_word, graph_text, parameter_name}
+use Rattle.value_text.specs.Written.{Piece, token_of, root_lines, root_name, side_word, parameter_name}
 use Rattle.value_text.specs.Dues.{side_names, walk_names}
-use Rattle.value_text.specs.Numbers.{number_lines}
-use Rattle.value_text.specs.Printed.{IsText}
+use Rattle.value_text.specs.Numbers.{line, number_lines, with_head}
+use Rattle.value_text.specs.Printed.{IsText, graph_text, line_text}
+use Rattle.value_text.proofs.KeptTokens.{lines_text}
 
 abbrev value_of : Tree → ℤ
 value_of (node (tree.Num z) ks) = z
@@ -93,7 +94,7 @@ module _ (w : Setting) (ps : List Primitive) (plain : IsPlain w ps) (g : Graph) 
   pub is_canonical : IsCanon w g g
   is_canonical =
       let s = plain_stream w ps plain.plain g many in
-      let m : ℕ → ℕ = canonical_number (named_cells w g s.steps) in
+      let m : ℕ → ℕ = λ k. k in
       record {
         steps = s.steps;
         deferral = s.deferral;
@@ -102,37 +103,39 @@ module _ (w : Setting) (ps : List Primitive) (plain : IsPlain w ps) (g : Graph) 
           as_many = refl;
           within = λ k low high. absurd (none_between k low high);
           one_to_one = λ k d low high low' high' same. absurd (none_between k low high);
+          elsewhere = λ k h. refl;
           roots = subst (λ vs. renumbered m (trees vs) ≡ trees vs) (sym roots_are_numbers) (still m plain_numbers);
           cells = λ k d x y there image there'. absurd (no_item k x there);
         };
-        numbered = λ k. refl;
+        numbered = λ k low high. absurd (none_between k low high);
       }
 
 -- the lines of roots that are numbers: each with its own name
 lines_are : (table : Table) (params : List Param) (rs : List Root) (zs : List ℤ)
-    → root_lines table params rs (map number zs) ≡ number_lines (map (root_name params) rs) zs
+    → lines_text (root_lines table params rs (map number zs)) ≡ number_lines (map (root_name params) rs) zs
 lines_are table params [] zs = refl
 lines_are table params (r ∷ rs) [] = refl
-lines_are table params (r ∷ rs) (z ∷ zs) = ap (λ u. line (root_name params r) (signed_decimal z) ++ u) (lines_are table params rs zs)
+lines_are table params (r ∷ rs) (z ∷ zs) = ap (λ (u : List ℕ). line (root_name params r) (signed_decimal z) ++ u) (lines_are table params rs zs)
 
-head_lines : (n side lines : List ℕ) → joined (codes "values 1\nop " ∷ n ∷ codes " " ∷ side ∷ codes "\n" ∷ []) ++ lines
-    ≡ joined (codes "values 1\nop " ∷ n ∷ codes " " ∷ side ∷ codes "\n" ∷ lines ∷ [] ∷ [])
-head_lines n side lines =
-    ap (λ u. codes "values 1\nop " ++ u)
-    (append_assoc n (codes " " ++ (side ++ codes "\n")) lines
-    ∙ ap (λ u. n ++ (codes " " ++ u)) (append_assoc side (codes "\n") lines ∙ ap (λ u. side ++ (codes "\n" ++ u)) (sym (append-nil lines))))
+-- the first lines, and what follows them
+pub head_before : (name : List ℕ) (s : Side) (lines : List ℕ) → with_head name s [] ++ lines ≡ with_head name s lines
+head_before name s lines =
+    ap (λ (u : List ℕ). codes "values 1\nop " ++ u)
+    (append_assoc name (codes " " ++ (side_word s ++ codes "\n")) lines ∙ ap (λ (u : List ℕ). name ++ (codes " " ++ u)) (append_assoc (side_word s) (codes "\n") lines))
 
--- the first lines of a side's text
-abbrev pub head_text : Setting → List ℕ
-head_text w = joined (codes "values 1\nop " ∷ w.op.name ∷ codes " " ∷ side_word w.side ∷ codes "\n" ∷ [])
+head_is : (name : List ℕ) (s : Side) (lines : List ℕ) → (codes "values " ++ (decimal 1 ++ codes "\n")) ++ ((codes "op " ++ (name ++ (codes " " ++ (side_word s ++ codes "\n")))) ++ lines)
+    ≡ with_head name s lines
+head_is name s lines =
+    let one : decimal 1 ≡ 49 ∷ [] = decimal_digit 1 (lit< tt) in
+    ap (λ (u : List ℕ). (codes "values " ++ (u ++ codes "\n")) ++ ((codes "op " ++ (name ++ (codes " " ++ (side_word s ++ codes "\n")))) ++ lines)) one
+    ∙ head_before name s lines
 
 -- the text of numbers
-pub text_is : (w : Setting) (zs : List ℤ) → head_text w ++ number_lines (side_names w.table w.side w.op) zs ≡ graph_text w (plain_graph zs)
+pub text_is : (w : Setting) (zs : List ℤ) → with_head w.op.name w.side (number_lines (side_names w.table w.side w.op) zs) ≡ graph_text w (plain_graph zs)
 text_is w zs =
-    let lines : root_lines w.table w.op.params (root_list w) (map number zs) ≡ number_lines (side_names w.table w.side w.op) zs =
-    lines_are w.table w.op.params (root_list w) zs in
-    head_lines w.op.name (side_word w.side) (number_lines (side_names w.table w.side w.op) zs)
-    ∙ ap (λ u. joined (codes "values 1\nop " ∷ w.op.name ∷ codes " " ∷ side_word w.side ∷ codes "\n" ∷ u ∷ [] ∷ [])) (sym lines)
+    let lines : List (List Piece) = root_lines w.table w.op.params (root_list w) (map number zs) in
+    sym (head_is w.op.name w.side (lines_text (lines ++ []))
+    ∙ ap (with_head w.op.name w.side) (ap lines_text (append-nil lines) ∙ lines_are w.table w.op.params (root_list w) zs))
 
 -- What is known of a graph that fits a side whose roots are numbers.
 module _ (w : Setting) (primitives : List Primitive) (plain : IsPlain w primitives) (g : Graph) (c : Conforms w g) where
@@ -143,8 +146,8 @@ module _ (w : Setting) (primitives : List Primitive) (plain : IsPlain w primitiv
   pub fit_length : length g.roots ≡ length (root_list w)
   fit_length = c.all_roots
 
-  -- their lines behind the first ones are its text
-  pub fit_text : (text : List ℕ) → ((zs : List ℤ) → g.roots ≡ map number zs → text ≡ head_text w ++ number_lines (side_names w.table w.side w.op) zs) → IsText w g text
+  -- the first lines and then theirs are its text
+  pub fit_text : (text : List ℕ) → ((zs : List ℤ) → g.roots ≡ map number zs → text ≡ with_head w.op.name w.side (number_lines (side_names w.table w.side w.op) zs)) → IsText w g text
   fit_text text lines =
       let (zs, same) = fit_numbers in
       let whole : plain_graph zs ≡ g = ap₂ (λ r k. record { roots = r; cells = k }) (sym same) (sym (none_there w primitives plain g c)) in

@@ -2,7 +2,8 @@
 use Rattle.std.proofs.Common.{◌≡◌, ◌≢◌, ℕ, suc, ◌+◌, ◌≤◌, ◌<◌, Bool, true, false, not, ◌&&◌, cond, List, [], ◌∷◌, ◌++◌, length, take, drop, refl, sym, ap, subst, ◌∙◌, arith}
 use Rattle.std.specs.List.{list_all}
 use Rattle.std.proofs.lemmas.Bool.{cond-true, cond-false, and_parts, and_from, both_ways}
-use Rattle.value_text.specs.Tokens.{is_word_octet, is_blank, ends_run, skip}
+use Rattle.nd_base.specs.Text.{is_word_octet}
+use Rattle.value_text.specs.Tokens.{is_blank, ends_run, skip}
 use Rattle.value_text.specs.Scan.{run, after_run}
 
 pub run_joins : (s : List ℕ) → s ≡ run s ++ after_run s

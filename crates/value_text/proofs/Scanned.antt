@@ -4,7 +4,8 @@ use Rattle.std.specs.List.{list_all}
 use Rattle.std.specs.Fmt.{decimal, signed_decimal}
 use Rattle.std.proofs.lemmas.Bool.{cond-true, and_parts, and_from, both_ways, eqb-true}
 use Rattle.std.proofs.lemmas.Bool.Decides.{nat_tests}
-use Rattle.value_text.specs.Tokens.{Token, Word, Number, Cell, Str, Uuid, Mark, Spells, is_uuid, is_word, is_word_octet, is_letter, is_digit, is_mark, ends_run, IsString}
+use Rattle.nd_base.specs.Text.{is_word, is_word_octet, is_letter, is_digit}
+use Rattle.value_text.specs.Tokens.{Token, Word, Number, Cell, Str, Uuid, Mark, Spells, is_uuid, is_mark, ends_run, IsString}
 use Rattle.value_text.specs.Scan.{run, after_run, begins, other, number_of, IsNatural, HasString}
 use Rattle.value_text.proofs.Classes.{letter_word}
 use Rattle.value_text.proofs.Runs.{run_joins, run_words, run_ends, run_again}

@@ -4,7 +4,8 @@ use Rattle.std.specs.Str.{bytes_eq}
 use Rattle.std.proofs.lemmas.Slice.Eq.{bytes_eq-Decides}
 use Rattle.std.proofs.lemmas.Option.{same_Some}
 use Rattle.std.proofs.lemmas.Bool.{and_parts, eqb-true, ltb-true}
-use Rattle.value_text.specs.Tokens.{Token, Word, Number, Cell, Str, Uuid, Mark, Spells, is_uuid, IsCut, Begins, skip, uuid_due, is_letter, is_mark, character, IsString, has_form, uuid_form, uuid_octets}
+use Rattle.nd_base.specs.Text.{is_letter, has_form, uuid_form}
+use Rattle.value_text.specs.Tokens.{Token, Word, Number, Cell, Str, Uuid, Mark, Spells, is_uuid, IsCut, Begins, skip, uuid_due, is_mark, character, IsString, uuid_octets}
 use Rattle.value_text.specs.Scan.{run, after_run, begins, number_of, IsNatural}
 use Rattle.value_text.proofs.Scanned.{word_first, natural_some}
 

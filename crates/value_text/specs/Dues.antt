@@ -1,6 +1,7 @@
 -- What is due in the text of a plain side: one token after another, each fixed but for the numbers.
 -- `d` is what is due, `t` a token, `p` a piece, `z` a number, `n` a name.
 use Rattle.std.specs.Prelude.{◌≡◌, ◌≢◌, ◌⊎◌, ℕ, ◌+◌, ◌-◌, ℤ, false, List, [], ◌∷◌, ◌++◌, length, map, codes}
+use Rattle.nd_base.specs.Text.{position_of}
 use Rattle.nd_types.specs.declared.types.Operation.{Operation}
 use Rattle.nd_types.specs.declared.types.Side.{Side}
 use Rattle.value_text.specs.declared.fault.TextReason.{TextReason}
@@ -13,9 +14,8 @@ use Rattle.value_text.specs.Tokens.{Token, Word, Number, Cell, skip, IsCut}
 use Rattle.nd_types.specs.Table.{Table}
 use Rattle.nd_types.specs.Roots.{roots_of}
 use Rattle.nd_types.specs.Walk.{named_roots}
-use Rattle.value_text.specs.Whole.{root_name, side_word}
-use Rattle.value_text.specs.Written.{Piece, Name, Other, token_of, word, count_piece, equals}
-use Rattle.value_text.specs.Reads.{Lexeme, Cut, End, Bad, IsNext, position_of}
+use Rattle.value_text.specs.Written.{Piece, Name, Other, token_of, word, count_piece, equals, root_name, side_word}
+use Rattle.value_text.specs.Reads.{Lexeme, Cut, End, Bad, IsNext}
 
 -- this piece, or any number
 pub data Due : Type 0 where

@@ -1,5 +1,3 @@
-pub mod Text
-pub mod Whole
 pub mod Printed
 pub mod Numbers
 pub mod Tokens
@@ -8,6 +6,5 @@ pub mod Readable
 pub mod Reads
 pub mod Scan
 pub mod Dues
-pub mod WorkedPing
 pub mod PlainSide
 pub mod Examples

@@ -1,6 +1,7 @@
 -- Which graph a text is read as, and where and why a text is that of no graph.
 -- `w` is a setting, `g` a graph, `t` a token, `ts` are tokens.
 use Rattle.std.specs.Prelude.{◌≡◌, ◌≢◌, ℕ, ◌+◌, ◌-◌, ◌<◌, ◌≤◌, Bool, ◌==◌, if◌then◌else◌, List, [], ◌∷◌, ◌++◌, length, take, map, Result, Ok, Err}
+use Rattle.nd_base.specs.Text.{position_of}
 use Rattle.nd_graph.specs.declared.value.Graph.{Graph}
 use Rattle.nd_graph.specs.Setting.{Setting}
 use Rattle.value_text.specs.declared.fault.TextReason.{TextReason}
@@ -91,15 +92,6 @@ pub record IsFirstFault (w : Setting) (text : List ℕ) (place : ℕ) (why : Tex
   pub is_next : IsNext (uuid_due (behind [] tokens)) rest next
   pub stuck : GoesOn w tokens next → ⊥
   pub reason : IsReason w tokens next why
-
--- line and column behind octets, from those before them: a line feed begins a line
-abbrev pub position : ℕ → ℕ → List ℕ → ℕ × ℕ
-position line column [] = (line, column)
-position line column (c ∷ cs) = if c == 10 then position (line + 1) 1 cs else position line (column + 1) cs
-
--- line and column of a place, both from 1
-abbrev pub position_of : List ℕ → ℕ → ℕ × ℕ
-position_of text place = position 1 1 (take place text)
 
 -- A text is refused, at a line and a column: it is too long, which is tried first and told at its first octet, or it has a fault.
 abbrev pub IsTextFault : Setting → List ℕ → ℕ → ℕ → TextReason → Type 0

@@ -1,13 +1,14 @@
 -- What the functions of the reader give, on lists.
 use Rattle.std.specs.Prelude.{◌≡◌, ◌≢◌, ℕ, ◌+◌, ◌-◌, ◌*◌, ◌^◌, ◌<◌, ◌≤◌, ℤ, pos, Bool, true, false, ◌==◌, not, ◌&&◌, ◌||◌, nat_le, if◌then◌else◌, List, [], ◌∷◌, ◌++◌, length, Option, None, Some, option_map, decimal}
 use Rattle.std.specs.List.{list_all}
+use Rattle.nd_base.specs.Text.{is_word_octet, is_letter, is_digit}
 use Rattle.value_text.specs.declared.lexeme.Lexeme as shown
 use Rattle.value_text.specs.declared.lexeme.Lexeme.TheVariants as lexeme
 use Rattle.value_text.specs.declared.fault.TextReason.{TextReason}
 use Rattle.value_text.specs.declared.fault.TextReason.TheVariants as reason
 use Rattle.std.specs.Ordering.{int_eq}
 use Rattle.std.specs.Str.{bytes_eq}
-use Rattle.value_text.specs.Tokens.{Token, Word, Number, Cell, Str, Mark, is_word_octet, is_letter, is_mark, is_digit, ends_run, character, IsString, Spells, is_uuid}
+use Rattle.value_text.specs.Tokens.{Token, Word, Number, Cell, Str, Mark, is_mark, ends_run, character, IsString, Spells, is_uuid}
 
 -- the letters, digits and `_` at the front, and the rest
 abbrev pub run : List ℕ → List ℕ

@@ -4,6 +4,7 @@ use Rattle.std.specs.Prelude.{◌≡◌, ℕ, ◌+◌, ◌-◌, ◌*◌, ◌^◌
 use Rattle.std.specs.List.{list_all, list_any}
 use Rattle.std.specs.Fmt.{signed_decimal}
 use Rattle.std.specs.Str.{bytes_eq}
+use Rattle.nd_base.specs.Text.{is_word, is_word_octet, is_hex_digit, hex_value, uuid_form, has_form}
 
 -- a word, a number, the mark of a cell, a string with what it stands for, a UUID with its 16 octets, a mark
 pub data Token : Type 0 where
@@ -23,25 +24,6 @@ abbrev pub skip : List ℕ → List ℕ
 skip [] = []
 skip (c ∷ cs) = if is_blank c then skip cs else c ∷ cs
 
-abbrev is_between : ℕ → ℕ → ℕ → Bool
-is_between low high c = nat_le low c && nat_le c high
-
-abbrev pub is_digit : ℕ → Bool
-is_digit c = is_between 48 57 c
-
--- a letter or `_`
-abbrev pub is_letter : ℕ → Bool
-is_letter c = is_between 65 90 c || (is_between 97 122 c || c == 95)
-
--- a letter, a digit or `_`
-abbrev pub is_word_octet : ℕ → Bool
-is_word_octet c = is_letter c || is_digit c
-
--- a letter or `_`, then letters, digits and `_`
-abbrev pub is_word : List ℕ → Bool
-is_word [] = false
-is_word (c ∷ cs) = is_letter c && list_all is_word_octet cs
-
 -- a run of letters, digits and `_` ends here
 abbrev pub ends_run : List ℕ → Bool
 ends_run [] = true
@@ -53,16 +35,9 @@ is_mark c = list_any (λ mark. c == mark) (codes "={}[],:()")
 
 -- ## Strings
 
-abbrev pub is_hex_digit : ℕ → Bool
-is_hex_digit c = is_digit c || (is_between 65 70 c || is_between 97 102 c)
-
--- the value of a hexadecimal digit in either case
-abbrev pub hex_value : ℕ → ℕ
-hex_value c = if is_digit c then c - 48 else (if nat_le c 70 then c - 55 else c - 87)
-
 -- an octet that stands for itself: 0x20 to 0x7E but quote and backslash
 abbrev pub is_plain : ℕ → Bool
-is_plain c = is_between 32 126 c && not (c == 34 || c == 92)
+is_plain c = (nat_le 32 c && nat_le c 126) && not (c == 34 || c == 92)
 
 -- two hexadecimal digits, as an octet and what follows
 abbrev pub hex_pair : List ℕ → Option (ℕ × List ℕ)
@@ -85,16 +60,6 @@ IsString text [] rest = text ≡ 34 ∷ rest
 IsString text (b ∷ bs) rest = (after : List ℕ) × (character text ≡ Some (b, after)) × IsString after bs rest
 
 -- ## UUIDs
-
--- the form of a UUID: each d stands for a hexadecimal digit, and a hyphen for itself
-abbrev pub uuid_form : List ℕ
-uuid_form = codes "dddddddd-dddd-dddd-dddd-dddddddddddd"
-
-abbrev pub has_form : List ℕ → List ℕ → Bool
-has_form [] [] = true
-has_form [] (c ∷ cs) = false
-has_form (place ∷ form) [] = false
-has_form (place ∷ form) (c ∷ cs) = (if place == 45 then c == 45 else is_hex_digit c) && has_form form cs
 
 -- the octets that pairs of hexadecimal digits write
 abbrev pub hex_octets : List ℕ → List ℕ

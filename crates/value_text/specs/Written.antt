@@ -1,10 +1,13 @@
--- The tokens of a graph's text, version 1: how a graph is written.
+-- The lines of a graph's text, version 1, each of so many tokens: how a graph is written.
 -- `d` is a type, `t` a type's number or a token, `l` a node's label, `ks` are its children.
-use Rattle.std.specs.Prelude.{ℕ, ◌+◌, ℤ, pos, Bool, true, false, List, [], ◌∷◌, ◌++◌, map, Option, None, Some, codes}
+use Rattle.std.specs.Prelude.{ℕ, ◌+◌, ℤ, pos, Bool, true, false, List, [], ◌∷◌, ◌++◌, map, flat_map, Option, None, Some, codes}
+use Rattle.std.specs.List.{slice_get}
 use Rattle.nd_types.specs.declared.types.TypeDef.{TypeDef}
 use Rattle.nd_types.specs.declared.types.TypeDef.TheVariants as def
 use Rattle.nd_types.specs.declared.types.Field.{Field}
 use Rattle.nd_types.specs.declared.types.Param.{Param}
+use Rattle.nd_types.specs.declared.types.Side.{Side}
+use Rattle.nd_types.specs.declared.types.Side.TheVariants as side
 use Rattle.nd_types.specs.Table.{Table, type_at}
 use Rattle.nd_types.specs.Roots.{Root}
 use Rattle.nd_graph.specs.declared.value.Graph.{Graph}
@@ -13,7 +16,6 @@ use Rattle.nd_graph.specs.Tree.{Tree, Trees, node, none, more, Label, Referent}
 use Rattle.nd_graph.specs.Setting.{Setting, root_list}
 use Rattle.nd_graph.specs.Nodes.{child_types}
 use Rattle.value_text.specs.Tokens.{Token, Word, Number, Cell, Str, Uuid, Mark}
-use Rattle.value_text.specs.Whole.{root_name, side_word}
 
 -- a token of a graph's text: the name of an operation, a side, a root or a member, or another
 pub data Piece : Type 0 where
@@ -60,7 +62,7 @@ abbrev pub named : List ℕ → List Piece → List Piece
 named name value = Name name ∷ equals ∷ value
 
 -- the members of a struct, each with its name
-abbrev members : List Field → List (List Piece) → List (List Piece)
+abbrev pub members : List Field → List (List Piece) → List (List Piece)
 members (f ∷ fs) (value ∷ values) = named f.name value ∷ members fs values
 members _ _ = []
 
@@ -108,23 +110,41 @@ first_pieces (value ∷ values) = value
 abbrev pub value_pieces : Table → ℕ → Tree → List Piece
 value_pieces table t v = first_pieces (values_pieces table (t ∷ []) (more v none))
 
+-- ## Lines
+
+abbrev pub side_word : Side → List ℕ
+side_word side.In = codes "in"
+side_word side.Out = codes "out"
+
+abbrev pub parameter_name : Option Param → List ℕ
+parameter_name None = []
+parameter_name (Some p) = p.field.name
+
+-- the name of a root: its parameter's, or `return` for the result of a function
+abbrev pub root_name : List Param → Root → List ℕ
+root_name params r = elim r.param [ None ↦ codes "return" | Some i ↦ parameter_name (slice_get params i) ]
+
+-- `values 1`, then `op NAME SIDE`
+abbrev pub head_lines : Setting → List (List Piece)
+head_lines w = (word (codes "values") ∷ count_piece 1 ∷ []) ∷ (word (codes "op") ∷ Name w.op.name ∷ Name (side_word w.side) ∷ []) ∷ []
+
 -- the roots in order, each with its name
-abbrev pub root_pieces : Table → List Param → List Root → List Tree → List Piece
-root_pieces table params (r ∷ rs) (v ∷ vs) = named (root_name params r) (value_pieces table r.of v) ++ root_pieces table params rs vs
-root_pieces table params _ _ = []
+abbrev pub root_lines : Table → List Param → List Root → List Tree → List (List Piece)
+root_lines table params (r ∷ rs) (v ∷ vs) = named (root_name params r) (value_pieces table r.of v) ∷ root_lines table params rs vs
+root_lines table params _ _ = []
 
 -- the cells in order, each with its number
-abbrev pub cell_pieces : Table → ℕ → List Referent → List Piece
-cell_pieces table c [] = []
-cell_pieces table c (x ∷ xs) = (Other (Cell c) ∷ equals ∷ value_pieces table x.of x.val) ++ cell_pieces table (c + 1) xs
+abbrev pub cell_lines : Table → ℕ → List Referent → List (List Piece)
+cell_lines table c [] = []
+cell_lines table c (x ∷ xs) = (Other (Cell c) ∷ equals ∷ value_pieces table x.of x.val) ∷ cell_lines table (c + 1) xs
 
--- `values 1 op NAME SIDE`
-abbrev pub head_pieces : Setting → List Piece
-head_pieces w = word (codes "values") ∷ count_piece 1 ∷ word (codes "op") ∷ Name w.op.name ∷ Name (side_word w.side) ∷ []
+-- the lines of a graph's text: the operation and its side, the roots, the cells
+abbrev pub graph_lines : Setting → Graph → List (List Piece)
+graph_lines w g = head_lines w ++ (root_lines w.table w.op.params (root_list w) g.roots ++ cell_lines w.table 1 g.cells)
 
--- the tokens of a graph's text: the operation and its side, the roots, the cells
+-- all tokens of a graph's text, one after the other
 abbrev pub graph_pieces : Setting → Graph → List Piece
-graph_pieces w g = head_pieces w ++ (root_pieces w.table w.op.params (root_list w) g.roots ++ cell_pieces w.table 1 g.cells)
+graph_pieces w g = flat_map (λ line. line) (graph_lines w g)
 
 abbrev pub graph_tokens : Setting → Graph → List Token
 graph_tokens w g = map token_of (graph_pieces w g)

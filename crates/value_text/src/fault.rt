@@ -4,7 +4,7 @@ use thiserror::Error;
 /// Why a text is that of no graph.
 #[derive(Clone, Copy, Debug, PartialEq, Eq)]
 pub enum TextReason {
-    /// The text has more than 268,435,456 octets. It is tried before all else, and told at line 1, column 1.
+    /// The text has more than 536,870,912 octets. It is tried before all else, and told at line 1, column 1.
     TooLong,
     /// No token is there.
     BadToken,

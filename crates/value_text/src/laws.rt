@@ -4,16 +4,17 @@ ghost use Rattle.std.specs.Prelude.{◌≡◌, ◌≤◌, ℕ, List, length};
 ghost use Rattle.nd_graph.specs.declared.value.Graph.{Graph};
 ghost use Rattle.nd_graph.specs.Setting.{Setting};
 ghost use Rattle.nd_graph.specs.Conforms.{Conforms};
+ghost use Rattle.nd_grammar.specs.LegalSide.{IsLegalSide};
 ghost use Rattle.value_text.specs.declared.fault.TextReason.{TextReason};
 ghost use Rattle.value_text.specs.declared.TheConstants.{TEXT_LIMIT};
 ghost use Rattle.value_text.specs.Printed.{IsText};
-ghost use Rattle.value_text.specs.PlainSide.{IsPlainSide, HasWordNames};
+ghost use Rattle.value_text.specs.PlainSide.{IsPlainSide};
 ghost use Rattle.value_text.specs.Reads.{ReadsAs, IsTextFault};
 
-/// What is printed of a graph is read as its canonical form: of a plain side, whose names are words, within the limit.
+/// What is printed of a graph is read as its canonical form: of a plain side of a legal interface, within the limit.
 pub fn reading_after_printing()
     ensures { (w : Setting) (g : Graph) (text : List ℕ) (t : IsText w g text)
-        → IsPlainSide w → HasWordNames w → Conforms w g → length text ≤ TEXT_LIMIT
+        → IsPlainSide w → IsLegalSide w → Conforms w g → length text ≤ TEXT_LIMIT
         → ReadsAs w text t.canonical }
 {}
 
@@ -38,4 +39,9 @@ pub fn one_fault()
     ensures reason { (w : Setting) (text : List ℕ) (line line' column column' : ℕ) (why why' : TextReason)
         → IsPlainSide w → IsTextFault w text line column why → IsTextFault w text line' column' why'
         → why ≡ why' }
+{}
+
+/// Temporary.
+pub fn temporary()
+    ensures { (w : Setting) → w ≡ w }
 {}

@@ -1,11 +1,12 @@
 // What stands first in a value text.
 ghost use Rattle.std.specs.Prelude.{◌≡◌, ◌∷◌, true};
-ghost use Rattle.value_text.specs.Tokens as tokens;
+ghost use Rattle.nd_base.specs.Text as octets;
 ghost use Rattle.value_text.specs.Scan.{Shows, begins, other};
 
 use crate::numbers::natural;
-use crate::octets::{is_letter, is_mark, run_end};
+use crate::octets::{is_mark, run_end};
 use crate::strings::behind_string;
+use nd_base::text::is_letter;
 
 /// A token, the end of a text, or what is none of them.
 #[derive(Clone, Copy)]
@@ -78,7 +79,7 @@ fn number(text: &[u8]) -> (Lexeme, &[u8])
 
 /// A word, whose first letter stands first.
 fn word(text: &[u8]) -> (Lexeme, &[u8])
-    requires { begins tokens.is_letter text.now ≡ true }
+    requires { begins octets.is_letter text.now ≡ true }
     ensures { Shows text.now result.0 result.1.now }
 {
     let end = run_end(text);

@@ -10,11 +10,8 @@ pub mod laws;
 mod lexeme;
 mod numbers;
 mod octets;
-mod position;
 mod printing;
 mod reading;
-#[cfg(test)]
-mod reading_tests;
 mod steps;
 mod stop;
 mod strings;
@@ -26,4 +23,4 @@ pub use printing::print;
 pub use reading::read_text;
 
 /// The greatest number of octets of a value text.
-pub const TEXT_LIMIT: u32 = 268_435_456;
+pub const TEXT_LIMIT: u32 = 536_870_912;

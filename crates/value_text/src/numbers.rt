@@ -1,8 +1,8 @@
 // Numbers of a value text.
 ghost use Rattle.std.specs.Prelude.{◌≡◌, ◌≤◌, true, ℕ, List, length, MatchOption};
 ghost use Rattle.std.specs.List.{list_all};
+ghost use Rattle.nd_base.specs.Text.{is_digit};
 ghost use Rattle.value_text.specs.Scan.{value_from, leading_zero, is_number as number_stands, number_of as number_by, IsNatural};
-ghost use Rattle.value_text.specs.Tokens.{is_digit};
 
 use crate::octets::run_end;
 

@@ -3,24 +3,13 @@ ghost use Rattle.std.specs.Prelude.{◌≡◌, ◌≤◌, true, length, take, dr
 ghost use Rattle.value_text.specs.Tokens as tokens;
 ghost use Rattle.value_text.specs.Scan.{run, after_run};
 
+use nd_base::text::is_word_octet;
+
 /// Space, tab, carriage return or line feed.
 pub(crate) fn is_blank(octet: u8) -> bool
     ensures { result ≡ tokens.is_blank octet }
 {
     octet == b' ' || octet == b'\t' || octet == b'\r' || octet == b'\n'
-}
-
-/// A letter or `_`.
-pub(crate) fn is_letter(octet: u8) -> bool
-    ensures { result ≡ tokens.is_letter octet }
-{
-    octet.is_ascii_alphabetic() || octet == b'_'
-}
-
-pub(crate) fn is_word_octet(octet: u8) -> bool
-    ensures { result ≡ tokens.is_word_octet octet }
-{
-    is_letter(octet) || octet.is_ascii_digit()
 }
 
 /// One of the marks `= { } [ ] , : ( )`.

@@ -1,5 +1,5 @@
 // Printing of graphs. Numbers are the only values that are printed yet.
-ghost use Rattle.std.specs.Prelude.{◌≡◌, ◌++◌, ◌∷◌, [], ℤ, ◌<◌, List, length, map, true, Some, IfOk, OnOk, codes};
+ghost use Rattle.std.specs.Prelude.{◌≡◌, ◌++◌, [], ℤ, ◌<◌, List, length, map, true, Some, IfOk, OnOk};
 ghost use Rattle.std.specs.Fmt.{signed_decimal};
 ghost use Rattle.std.specs.List.{slice_get};
 ghost use Rattle.nd_types.specs.declared.types.Operation.{Operation};
@@ -8,9 +8,8 @@ ghost use Rattle.nd_types.specs.Roots.{roots_of};
 ghost use Rattle.nd_graph.specs.Fitting.{setting_of};
 ghost use Rattle.nd_graph.specs.Seen.{tree_of};
 ghost use Rattle.nd_grammar.specs.Plain.{number};
-ghost use Rattle.value_text.specs.Text.{joined};
-ghost use Rattle.value_text.specs.Whole.{line, side_word};
-ghost use Rattle.value_text.specs.Numbers.{is_number, number_lines};
+ghost use Rattle.value_text.specs.Written.{side_word};
+ghost use Rattle.value_text.specs.Numbers.{is_number, line, number_lines, with_head};
 ghost use Rattle.value_text.specs.Dues.{walk_names};
 ghost use Rattle.value_text.specs.Printed.{IsText};
 
@@ -44,7 +43,7 @@ pub fn print(alloc: Global, interface: &Interface, fit: &Fit) -> Result<Octets, 
 
 // The first lines.
 fn append_head(text: &mut Octets, name: &[u8], side: Side) -> Result<(), Memory>
-    ensures { OnOk result (text.new ≡ text.old ++ joined (codes "values 1\nop " ∷ name.now ∷ codes " " ∷ side_word side ∷ codes "\n" ∷ [])) }
+    ensures { OnOk result (text.new ≡ text.old ++ with_head name.now side []) }
 {
     text.append(b"values 1\nop ")?;
     text.append(name)?;

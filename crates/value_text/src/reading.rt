@@ -15,10 +15,10 @@ ghost use Rattle.value_text.specs.Dues.{Due, head_dues, name_dues, walk_names, F
 use crate::TEXT_LIMIT;
 use crate::fault::{TextFault, TextReason};
 use crate::lexeme::Lexeme;
-use crate::position::position_behind;
 use crate::printing::side_name;
 use crate::steps::{end, name, number, token};
 use crate::stop::Stop;
+use nd_base::text::position;
 use nd_graph::{Cells, Graph, Val, Vals};
 use nd_types::{Interface, Operation, Side};
 use std::alloc::Global;
@@ -108,10 +108,10 @@ fn fault_of(text: &[u8], stop: Stop) -> TextFault
     match stop {
         Stop::Memory => TextFault::Memory,
         Stop::At { left, reason } => {
-            let (line, column) = position_behind(&text[..text.len() - left]);
+            let (line, column) = position(&text[..text.len() - left]);
             TextFault::At {
-                line,
-                column,
+                line: line as u32,
+                column: column as u32,
                 reason,
             }
         }
@@ -125,7 +125,7 @@ fn fault_of(text: &[u8], stop: Stop) -> TextFault
 /// whether they are values of their types is asked of the graph.
 ///
 /// # Errors
-/// TooLong for a text of more than 268,435,456 octets. Otherwise the first token, or the end, with which the text begins that of
+/// TooLong for a text of more than 536,870,912 octets. Otherwise the first token, or the end, with which the text begins that of
 /// no graph: `TextReason` has the reasons. Memory where memory was wanting.
 ///
 /// Takes memory for the graph alone, and looks at each octet a bounded number of times.

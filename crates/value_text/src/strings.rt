@@ -4,11 +4,7 @@ ghost use Rattle.value_text.specs.Tokens as tokens;
 ghost use Rattle.value_text.specs.Tokens.{IsString};
 ghost use Rattle.value_text.specs.Scan.{behind_character, behind_quote as after_quote, HasString};
 
-fn is_hex_digit(octet: u8) -> bool
-    ensures { result ≡ tokens.is_hex_digit octet }
-{
-    octet.is_ascii_hexdigit()
-}
+use nd_base::text::is_hex_digit;
 
 /// 0x20 to 0x7E but quote and backslash.
 fn is_plain(octet: u8) -> bool

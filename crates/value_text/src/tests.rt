@@ -1,11 +1,11 @@
-// The call once with ample memory.
+// Each call once with ample memory.
 ghost use Rattle.std.specs.Prelude.{◌≡◌, ◌≤◌, [], ◌∷◌, length, codes, IfOk};
 ghost use Rattle.nd_types.specs.Kinds.{basic_types};
 ghost use Rattle.nd_types.specs.Numbers.{IsNumberSide};
 ghost use Rattle.nd_types.specs.Plain.{plain_param};
 ghost use Rattle.nd_graph.specs.WorkedFit.{add_params, add, one_two_three};
 
-use crate::print;
+use crate::{print, read_text};
 use nd_base::{Memory, Name};
 use nd_graph::{Cells, Fit, Graph, Val, Vals};
 use nd_types::{
@@ -59,7 +59,7 @@ fn operations(alloc: Global) -> Result<Operations, Memory>
 
 // interface t { void add([in] long a, [in] short b, [in] hyper c); }
 #[tactic(auto, using(nd_graph::proofs::WorkedFit::legal, nd_graph::proofs::WorkedFit::numbers))]
-pub(crate) fn interface(alloc: Global) -> Result<Interface, Memory>
+fn interface(alloc: Global) -> Result<Interface, Memory>
     ensures numbers { IfOk result (λ i. (s : Side) → IsNumberSide i.types i.operations 0 s) }
     ensures types { IfOk result (λ i. i.types ≡ basic_types) }
     ensures operations { IfOk result (λ i. i.operations ≡ add ∷ []) }
@@ -114,5 +114,22 @@ fn numbers_are_printed(rt: HostRuntime) -> Result<(), Fail> {
         text.as_slice(),
         b"values 1\nop add in\na = 1\nb = 2\nc = 3\n".as_slice()
     );
+    Ok(())
+}
+
+/// The numbers that a graph of three numbers is.
+fn three_numbers(graph: &Graph) -> Option<[i128; 3]> {
+    match (graph.roots.get(0), graph.roots.get(1), graph.roots.get(2)) {
+        (Some(Val::Num(a)), Some(Val::Num(b)), Some(Val::Num(c))) => Some([*a, *b, *c]),
+        _ => None,
+    }
+}
+
+#[test]
+fn numbers_are_read(rt: HostRuntime) -> Result<(), Fail> {
+    let interface = interface(rt.alloc())?;
+    let text = b"values 1\nop add in\na = 1\nb = 2\nc = 3\n";
+    let graph = read_text(rt.alloc(), &interface, 0, Side::In, text)?;
+    assert_eq!(rt; three_numbers(&graph), Some([1, 2, 3]));
     Ok(())
 }

@@ -2,6 +2,7 @@ use Rattle.std.proofs.Common.{◌≡◌, length, sym, ap, subst, arith, ◌∙�
 use Rattle.std.proofs.lemmas.List.{length-map}
 use Rattle.phrases.specs.Text.{Text}
 use Rattle.phrases.specs.Reading.{Fault}
+use Rattle.idl_grammar.specs.Lexemes.{IsFormed}
 use Rattle.idl_parser.specs.Lexemes.{text_of}
 use Rattle.acf_reader.specs.Answers.{IsAnswer, acf_answer}
 use Rattle.acf_reader.specs.Lexemes.{lexemes, lexeme_of}
@@ -11,17 +12,20 @@ use Rattle.acf_reader.proofs.Answered.{told_for}
 use Rattle.acf_reader.proofs.RealTokens.{lexemes_real}
 use Rattle.acf_reader.proofs.reading.read_acf.Goals as goal
 
+pub new-parser-requires : goal.new-parser-requires
+new-parser-requires c = subst IsFormed (ap text_of (sym c.deref.ensures.value)) c.in_ok-list.ensures.formed
+
 pub answer-requires : goal.answer-requires
 answer-requires c =
-    let e : c.new-parser.result ≡ lexemes c.args.tokens.now = c.new-parser.ensures ∙ (ap text_of c.deref.ensures.value ∙ c.in_ok-list.ensures) in
+    let e : c.new-parser.result ≡ lexemes c.args.tokens.now = c.new-parser.ensures ∙ (ap text_of c.deref.ensures.value ∙ c.in_ok-list.ensures.text) in
     let n : length (lexemes c.args.tokens.now) ≡ length c.args.tokens.now.tokens = length-map c.args.tokens.now.tokens (lexeme_of c.args.tokens.now.text) in
     let g : length c.new-parser.result ≡ length c.args.tokens.now.tokens = ap (λ (x : Text). length x) e ∙ n in
-    omega (arith, g, c.count-count.ensures, c.count-count.type_inv)
+    omega (arith, g, c.count-count.ensures.count, c.count-count.type_inv)
 
 pub returns-clause-answer : goal.returns-clause-answer
 returns-clause-answer c =
     let t : Text = lexemes c.args.tokens.now in
-    let e : c.new-parser.result ≡ t = c.new-parser.ensures ∙ (ap text_of c.deref.ensures.value ∙ c.in_ok-list.ensures) in
+    let e : c.new-parser.result ≡ t = c.new-parser.ensures ∙ (ap text_of c.deref.ensures.value ∙ c.in_ok-list.ensures.text) in
     told_for (λ a. acf_answer c.new-parser.result ≡ a) (IsAnswer t)
     (λ v h. subst (λ (w : Result tree.Acf Fault). IsAnswer t w) (ap (λ (x : Text). acf_answer x) (sym e) ∙ h) (acf_answered t (lexemes_real c.args.tokens.now)))
     c.answer.result c.answer.ensures
@@ -29,7 +33,7 @@ returns-clause-answer c =
 pub returns-clause-only : goal.returns-clause-only
 returns-clause-only c v right =
     let t : Text = lexemes c.args.tokens.now in
-    let e : c.new-parser.result ≡ t = c.new-parser.ensures ∙ (ap text_of c.deref.ensures.value ∙ c.in_ok-list.ensures) in
+    let e : c.new-parser.result ≡ t = c.new-parser.ensures ∙ (ap text_of c.deref.ensures.value ∙ c.in_ok-list.ensures.text) in
     told_for (λ a. acf_answer c.new-parser.result ≡ a) (λ a. v ≡ a)
     (λ w h. acf_answered_alone t (lexemes_real c.args.tokens.now) v right ∙ (ap (λ (x : Text). acf_answer x) (sym e) ∙ h))
     c.answer.result c.answer.ensures

@@ -8,8 +8,8 @@ use Rattle.idl_rules.specs.Made.{is_encapsulated, IsFound, scene_in}
 use Rattle.idl_rules.proofs.Defining.{ok_is, known_is, union_with, union_made_as, other_union}
 use Rattle.idl_rules.proofs.definitions.union_at.Goals as goal
 
-pub returns-then-is_union : goal.returns-then-is_union
-returns-then-is_union c =
+pub returns-then-is_union-clause-made : goal.returns-then-is_union-clause-made
+returns-then-is_union-clause-made c =
     let p = c.args.program.now in
     let s = scene_in p in
     let ks = p.types.now.kinds in
@@ -20,13 +20,13 @@ returns-then-is_union c =
     (ap (λ b. union_with ks p.numbers.now (known_in p.scope.now) b found) c.is_encapsulated.ensures
     ∙ ap (λ k. union_with ks p.numbers.now k (is_encapsulated (seen_type found.body.now)) found) (sym (known_is (world_of p.scope.now)))
     ∙ union_made_as s ks p.numbers.now place found (seen_type found.body.now) c.requires.numbers h refl (sym c.is_union.ensures ∙ c.if-is_union.true))
-    c.union_of.ensures
+    c.union_of.ensures.made
 
-pub returns : goal.returns
-returns c =
+pub returns-clause-made : goal.returns-clause-made
+returns-clause-made c =
     let p = c.args.program.now in
     let s = scene_in p in
     let ks = p.types.now.kinds in
     let place = c.args.place in
     let h = subst (λ o. MatchOption o (body_of s place ≡ None) (IsFound s ks place)) c.in-Some.is c.body_at.ensures in
-    c.nothing.ensures ∙ other_union s ks place c.in-Some.found h (sym c.is_union.ensures ∙ c.if-is_union.false)
+    c.nothing-2.ensures ∙ other_union s ks place c.in-Some.found h (sym c.is_union.ensures ∙ c.if-is_union.false)

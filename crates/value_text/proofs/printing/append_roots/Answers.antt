@@ -12,9 +12,8 @@ use Rattle.nd_graph.specs.Seen.{tree_of}
 use Rattle.nd_graph.proofs.FewRoots.{few_named_roots, item_at, past_end}
 use Rattle.nd_graph.proofs.LocalPass.{given_root}
 use Rattle.nd_grammar.specs.Plain.{number}
-use Rattle.value_text.specs.Whole.{line}
 use Rattle.value_text.specs.Dues.{walk_names}
-use Rattle.value_text.specs.Numbers.{number_lines}
+use Rattle.value_text.specs.Numbers.{line, number_lines}
 use Rattle.value_text.proofs.Lines.{next_line, is_number_at}
 use Rattle.value_text.proofs.Printed.{named_at}
 use Rattle.value_text.proofs.printing.append_roots.Goals as goal

@@ -1,14 +1,12 @@
-use Rattle.std.proofs.Common.{◌≡◌, ◌∙◌, sym, ap, ap₂, subst, map, length, codes, ◌++◌, ◌∷◌, []}
+use Rattle.std.proofs.Common.{◌≡◌, ◌∙◌, sym, ap, ap₂, subst, map, length, ◌++◌, []}
 use Rattle.std.specs.List.{slice_get}
 use Rattle.std.proofs.lemmas.Option.{same_Some, slice_get_within}
 use Rattle.nd_types.specs.Roots.{roots_of}
 use Rattle.nd_graph.specs.Fitting.{setting_of}
 use Rattle.nd_grammar.proofs.PlainSides.{number_side_plain}
-use Rattle.value_text.specs.Text.{joined}
-use Rattle.value_text.specs.Whole.{side_word}
-use Rattle.value_text.specs.Dues.{walk_names}
-use Rattle.value_text.specs.Numbers.{number_lines}
-use Rattle.value_text.proofs.Printed.{fit_numbers, fit_length, fit_text, fit_conforms, walk_names_are}
+use Rattle.value_text.specs.Dues.{walk_names, side_names}
+use Rattle.value_text.specs.Numbers.{number_lines, with_head}
+use Rattle.value_text.proofs.Printed.{fit_numbers, fit_length, fit_text, fit_conforms, walk_names_are, head_before}
 use Rattle.value_text.proofs.printing.print.Goals as goal
 
 pub append_roots-requires-clause-known : goal.append_roots-requires-clause-known
@@ -45,7 +43,7 @@ returns c o there =
     (λ zs e. c.in_ok-append_roots.ensures o zs found (ap (λ g. g.roots) c.graph-graph.ensures.graph ∙ e)
     ∙ ap₂ (λ t ns. t ++ number_lines ns zs)
     (c.in_ok-append_head.ensures
-    ∙ ap₂ (λ t n. t ++ joined (codes "values 1\nop " ∷ n ∷ codes " " ∷ side_word c.side-side.result ∷ codes "\n" ∷ [])) c.new-text.ensures
-    (c.as_slice.ensures.same ∙ ap (λ p. p.name) same)
-    ∙ ap (λ s. joined (codes "values 1\nop " ∷ o.name ∷ codes " " ∷ side_word s ∷ codes "\n" ∷ [])) c.side-side.ensures)
-    (ap (λ s. walk_names i.types s o) c.side-side.ensures ∙ walk_names_are i.types f.side o))
+    ∙ ap₂ (λ t n. t ++ with_head n c.side-side.result []) c.new-text.ensures (c.as_slice.ensures.same ∙ ap (λ p. p.name) same)
+    ∙ ap (λ s. with_head o.name s []) c.side-side.ensures)
+    (ap (λ s. walk_names i.types s o) c.side-side.ensures ∙ walk_names_are i.types f.side o)
+    ∙ head_before o.name f.side (number_lines (side_names i.types f.side o) zs))

@@ -1,6 +1,0 @@
-use Rattle.nd_graph.proofs.SimpleCells.{basic_cells}
-use Rattle.nd_graph.proofs.tests.graphs_come_back.Goals as goal
-
-pub fit-requires-clause-simple : goal.fit-requires-clause-simple
-fit-requires-clause-simple g c =
-    basic_cells c.in_ok-interface.interface.types (record { roots = c.in_ok-vals.field-0; cells = c.in_ok-cells.field-0 }) c.in_ok-interface.ensures.types

@@ -1,0 +1,156 @@
+"""The pages of docs/ whose tables and examples are texts with what is reported of them: each is run as the page shows it.
+
+docs/BRINGING-YOUR-IDL.md has bringing.py, and README.md has readme.py.
+"""
+
+import re
+from typing import Dict, Iterator, List, Tuple
+
+from case import ROOT, Begins, Case, Check, lines
+
+SPAN = re.compile(r"`([^`]+)`")
+RULES = 40
+
+
+def page(name: str) -> str:
+    return (ROOT / "docs" / name).read_text(encoding="utf-8")
+
+
+def table(text: str, *header: str) -> Iterator[List[str]]:
+    """The rows of the table with this header; `\\|` within a cell is a `|`."""
+    rows = iter(text.splitlines())
+    head = f"| {' | '.join(header)} |"
+    if head not in text.splitlines():
+        raise ValueError(f"there is no table {head}")
+    while next(rows) != head:
+        pass
+    next(rows)
+    for row in rows:
+        if not row.startswith("|"):
+            return
+        yield [cell.strip().replace("\\|", "|") for cell in re.split(r"(?<!\\)\|", row)[1:-1]]
+
+
+def blocks(text: str) -> List[str]:
+    """The blocks of a text that are set in by four spaces."""
+    found = re.findall(r"(?:^    .*\n)+", text, flags=re.MULTILINE)
+    return ["".join(line[4:] for line in block.splitlines(keepends=True)) for block in found]
+
+
+def compiled(name: str, files: Dict[str, str], acf: str = "-", **wanted) -> Case:
+    """The compilation of t.idl among these files."""
+    return Case(name, ["compile", "t.idl", acf], {file: text.encode() for file, text in files.items()}, **wanted)
+
+
+def refused(name: str, files: Dict[str, str], line: str, acf: str = "-") -> Case:
+    return compiled(name, files, acf, notes=lines(f"idl {line}"), status=6)
+
+
+def accepted(name: str, files: Dict[str, str], acf: str = "-") -> Case:
+    return compiled(name, files, acf, out=Begins(b"interface t version "))
+
+
+# ----------------------------------------------------------------------------------------------------------------------
+# docs/IDL.md
+
+IDL = page("IDL.md")
+
+
+def within(text: str) -> str:
+    """A text of the page as a file: a whole one, or declarations of an interface."""
+    return text if "interface " in text else f"[local] interface t {{ {text} }}"
+
+
+def of_rules() -> Iterator[Tuple[int, Case]]:
+    """The smallest text for each rule, and one near it. The rows of rule 39 are too long for texts: idl_rules.py has them."""
+    for number, name, column, broken, kept in table(IDL, "N", "Name", "Column", "Breaks it", "Keeps all"):
+        told = f"docs/IDL.md, rule {number}, {name}"
+        texts = [SPAN.findall(cell) for cell in (broken, kept)]
+        if number == "40":
+            files = [{"t.idl": within(""), "t.acf": text} for (text,) in texts]
+            yield 40, refused(told, files[0], f"t.acf:1:{column}: Rule 40", "t.acf")
+            yield 40, accepted(f"{told}, kept", files[1], "t.acf")
+        elif number != "39":
+            yield int(number), refused(told, {"t.idl": within(*texts[0])}, f"t.idl:1:{column}: Rule {number}")
+            yield int(number), accepted(f"{told}, kept", {"t.idl": within(*(texts[1] or [""]))})
+
+
+OF_RULES = list(of_rules())
+
+
+def rules_without_texts() -> List[str]:
+    """The rules of which the page has no text."""
+    found = {number for number, _ in OF_RULES}
+    return [f"docs/IDL.md has no text of rule {number}" for number in range(1, RULES + 1) if number not in found | {39}]
+
+
+# The texts of the table of section 13 that are too long for it, or that need other files.
+DEEP = f"const long A = {'(' * 64}1{')' * 64};"
+CHAIN = {f"u{at}.idl": f'[local] interface u {{ import "u{at + 1}.idl"; }}' for at in range(1, 63)}
+LONG = {
+    "TooLong": {"t.idl": " " * 1_048_577},
+    "Deep": {"t.idl": within(DEEP)},
+    "TooMany": {"t.idl": within('import "u1.idl";'), **CHAIN, "u63.idl": within('import "v.idl";'), "v.idl": within("")},
+}
+
+
+def of_refusals() -> Iterator[Case]:
+    """The text for each WHAT."""
+    for what, _, text, line in table(IDL, "WHAT", "When", "Such a text", "Its line"):
+        kind, texts, told = SPAN.findall(what)[0], SPAN.findall(text), SPAN.findall(line)[0]
+        name = f"docs/IDL.md, section 13, {kind}"
+        files = LONG.get(kind) or {"t.idl": within(texts[0] if texts else "")}
+        if kind == "Rule 40":
+            yield refused(name, {"t.idl": within(""), "t.acf": texts[-1]}, told, "t.acf")
+        elif kind in ("NoOperation NAME", "NotBuilt NAME"):
+            words = ["decode", "t.idl", "-", "f", "in", "little"]
+            yield Case(name, words, {file: content.encode() for file, content in files.items()}, notes=lines(f"idl t.idl: {told}"), status=6)
+        else:
+            yield refused(name, files, told if ".idl:" in told else f"t.idl:{told}")
+
+
+def of_expressions() -> Iterator[Case]:
+    """The expressions with their values, or what they are refused for."""
+    for expressions, values in table(IDL, "Expression", "Value"):
+        for expression, value in zip(SPAN.findall(expressions), values.split(", ")):
+            name = f"docs/IDL.md, {expression} is {value}"
+            if value.lstrip("-").isdigit():
+                yield accepted(name, {"t.idl": within(f"typedef long a[({expression}) == {value}];")})
+            else:
+                at = len(within("const long A = ")[:-2]) + re.search(r"<<|%", expression).start() + 1
+                yield refused(name, {"t.idl": within(f"const long A = {expression};")}, f"t.idl:1:{at}: {value}")
+
+
+# ----------------------------------------------------------------------------------------------------------------------
+# docs/LISTING.md, docs/ACF.md, docs/TEXT.md
+
+
+def of_listing() -> Case:
+    """The example of the listing: the first block lists the second."""
+    listing, text = blocks(page("LISTING.md"))[:2]
+    return compiled("docs/LISTING.md: the example", {"t.idl": text}, out=listing.encode())
+
+
+def of_acf() -> List[str]:
+    """The example of an attribute file is the one that the examples have."""
+    return [] if (ROOT / "examples" / "letters.acf").read_text() in blocks(page("ACF.md")) else ["the page has another text than examples/letters.acf"]
+
+
+def of_texts() -> Iterator[Case]:
+    """The value texts of the page that are refused, and where."""
+    for reason, _, text, place in table(page("TEXT.md"), "Reason", "When", "Such a text", "Its place"):
+        if SPAN.findall(text):
+            yield Case(f"docs/TEXT.md, {reason}: {text}", ["encode", "t.idl", "-", "f", "in", "little", "1"],
+                       {"t.idl": within("void f([in] long a);").encode()}, SPAN.findall(text)[0].encode(),
+                       notes=lines(f"refused: text {SPAN.findall(place)[0]}: {reason}"), status=1)
+
+
+CASES = [
+    Check("docs/IDL.md: each rule has a text", rules_without_texts),
+    *(case for _, case in OF_RULES),
+    *of_refusals(),
+    *of_expressions(),
+    of_listing(),
+    Check("docs/ACF.md: the example", of_acf),
+    *of_texts(),
+]

@@ -1,0 +1,11 @@
+"""README.md: each line that begins with `$` is run, and prints what the page shows behind it."""
+
+from case import Check, commands
+
+LINES = commands("README.md")
+MANY = 11  # lines that the page has at least
+
+CASES = [
+    Check("README.md: the page was read", lambda: [] if len(LINES) >= MANY else [f"it has {len(LINES)} lines, not {MANY}"]),
+    *LINES,
+]
