@@ -9,7 +9,8 @@ use Rattle.idl_lexer.specs.declared.cut.Refusal.{Refusal}
 use Rattle.idl_lexer.specs.declared.cut.Piece.{Piece}
 use Rattle.idl_lexer.specs.declared.cut.PieceKind.{PieceKind}
 use Rattle.idl_lexer.specs.declared.cut.PieceKind.TheVariants as piece
-use Rattle.idl_lexer.specs.Classes.{is_letter, is_digit, is_hex_digit, is_word_octet, is_space, is_mark_octet, are_mark}
+use Rattle.nd_base.specs.Text.{is_letter, is_digit, is_hex_digit, is_word_octet}
+use Rattle.idl_lexer.specs.Classes.{is_space, is_mark_octet, are_mark}
 use Rattle.idl_lexer.specs.Numbers.{number_of}
 use Rattle.idl_lexer.specs.Pieces.{IsRun, IsUuid, IsComment, IsOf, is_mark}
 use Rattle.idl_lexer.specs.Cut.{IsLongest, IsCut, OpensComment, IsRefused}

@@ -6,7 +6,8 @@ use Rattle.std.proofs.lemmas.Bool.Decides.{nat_tests, eqb_tells}
 use Rattle.idl_lexer.specs.declared.tokens.TokenKind.TheVariants as token
 use Rattle.idl_lexer.specs.declared.cut.PieceKind.{PieceKind}
 use Rattle.idl_lexer.specs.declared.cut.PieceKind.TheVariants as piece
-use Rattle.idl_lexer.specs.Classes.{is_letter, is_digit, is_hex_digit, is_word_octet, is_space, is_one_of, is_mark_octet, are, are_mark}
+use Rattle.nd_base.specs.Text.{is_letter, is_digit, is_hex_digit, is_word_octet}
+use Rattle.idl_lexer.specs.Classes.{is_space, is_one_of, is_mark_octet, are, are_mark}
 use Rattle.idl_lexer.specs.Pieces.{IsOf, char_goes_on, string_goes_on}
 
 pub clash : {A : Type 0} (b : Bool) → b ≡ true → b ≡ false → A

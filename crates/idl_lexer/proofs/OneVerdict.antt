@@ -10,7 +10,8 @@ use Rattle.idl_lexer.specs.declared.tokens.Token.{Token}
 use Rattle.idl_lexer.specs.declared.cut.Piece.{Piece}
 use Rattle.idl_lexer.specs.declared.cut.PieceKind.{PieceKind}
 use Rattle.idl_lexer.specs.declared.cut.PieceKind.TheVariants as piece
-use Rattle.idl_lexer.specs.Classes.{is_letter, is_digit, is_word_octet, is_mark_octet}
+use Rattle.nd_base.specs.Text.{is_letter, is_digit, is_word_octet}
+use Rattle.idl_lexer.specs.Classes.{is_mark_octet}
 use Rattle.idl_lexer.specs.Numbers.{number_of}
 use Rattle.idl_lexer.specs.Pieces.{IsRun, IsUuid, IsComment, IsOf, is_mark}
 use Rattle.idl_lexer.specs.Cut.{IsLongest, IsCut, OpensComment, IsRefused, Begins, IsStuck, IsBadOctet, IsOpenText}

@@ -7,7 +7,7 @@ use Rattle.std.proofs.lemmas.List.{drop_all}
 use Rattle.std.specs.Prelude.{slice_index}
 use Rattle.std.specs.Prelude.{leb, ◌||◌, ◌&&◌}
 use Rattle.std.specs.List.{list_all}
-use Rattle.idl_lexer.specs.Classes.{is_digit, is_hex_digit}
+use Rattle.nd_base.specs.Text.{is_digit, is_hex_digit}
 use Rattle.idl_lexer.proofs.FirstOctets.{both}
 use Rattle.idl_lexer.specs.Numbers.{digit_value, value_from, in_64_bits}
 

@@ -10,7 +10,7 @@ use Rattle.idl_lexer.specs.declared.tokens.Token.{Token}
 use Rattle.idl_lexer.specs.declared.cut.Piece.{Piece}
 use Rattle.idl_lexer.specs.declared.cut.PieceKind.{PieceKind}
 use Rattle.idl_lexer.specs.declared.cut.PieceKind.TheVariants as piece
-use Rattle.idl_lexer.specs.Classes.{is_letter, is_word_octet}
+use Rattle.nd_base.specs.Text.{is_letter, is_word_octet}
 use Rattle.idl_lexer.specs.Pieces.{IsRun, IsUuid, IsOf}
 use Rattle.idl_lexer.specs.Lexed.{IsFormed, AreFormed}
 use Rattle.idl_lexer.specs.Cut.{IsCut}

@@ -2,20 +2,6 @@
 use Rattle.std.specs.Prelude.{ℕ, Bool, ◌||◌, ◌&&◌, leb, eqb, not, codes, slice_index, List}
 use Rattle.std.specs.List.{list_any}
 
--- a letter or `_`
-abbrev pub is_letter : ℕ → Bool
-is_letter c = (leb 65 c && leb c 90) || ((leb 97 c && leb c 122) || eqb c 95)
-
-abbrev pub is_digit : ℕ → Bool
-is_digit c = leb 48 c && leb c 57
-
-abbrev pub is_hex_digit : ℕ → Bool
-is_hex_digit c = is_digit c || ((leb 65 c && leb c 70) || (leb 97 c && leb c 102))
-
--- a letter, a digit or `_`
-abbrev pub is_word_octet : ℕ → Bool
-is_word_octet c = is_letter c || is_digit c
-
 -- space, tab, line feed, form feed or carriage return
 abbrev pub is_space : ℕ → Bool
 is_space c = (eqb c 32 || eqb c 9) || (eqb c 10 || (eqb c 12 || eqb c 13))

@@ -1,7 +1,7 @@
 -- The values of numbers and characters.
 use Rattle.std.specs.Prelude.{ℕ, ◌+◌, ◌*◌, ◌-◌, ◌^◌, Bool, ◌||◌, ◌&&◌, cond, not, ltb, leb, eqb, List, [], ◌∷◌, Option, Some, None}
 use Rattle.std.specs.List.{list_all}
-use Rattle.idl_lexer.specs.Classes.{is_digit, is_hex_digit}
+use Rattle.nd_base.specs.Text.{is_digit, is_hex_digit}
 
 -- the value of a digit, decimal or hexadecimal, in either case
 abbrev pub digit_value : ℕ → ℕ

@@ -1,6 +1,7 @@
 -- What a piece of each kind is, on its octets alone.
 use Rattle.std.specs.Prelude.{◌≡◌, ℕ, ◌+◌, ◌-◌, ◌<◌, ◌≤◌, Bool, true, false, ◌||◌, ◌&&◌, cond, eqb, List, [], ◌∷◌, length, slice_index}
-use Rattle.idl_lexer.specs.Classes.{is_letter, is_digit, is_hex_digit, is_word_octet, is_space, is_plain, is_escape, is_mark_octet, are_mark}
+use Rattle.nd_base.specs.Text.{is_letter, is_digit, is_hex_digit, is_word_octet}
+use Rattle.idl_lexer.specs.Classes.{is_space, is_plain, is_escape, is_mark_octet, are_mark}
 use Rattle.idl_lexer.specs.declared.tokens.TokenKind.TheVariants as token
 use Rattle.idl_lexer.specs.declared.cut.PieceKind.{PieceKind}
 use Rattle.idl_lexer.specs.declared.cut.PieceKind.TheVariants as piece

@@ -2,32 +2,6 @@
 ghost use Rattle.std.specs.Prelude.{◌≡◌};
 ghost use Rattle.idl_lexer.specs.Classes as classes;
 
-/// Whether an octet is a letter or `_`.
-pub(crate) fn is_letter(octet: u8) -> bool
-    ensures { result ≡ classes.is_letter octet }
-{
-    octet.is_ascii_alphabetic() || octet == b'_'
-}
-
-pub(crate) fn is_digit(octet: u8) -> bool
-    ensures { result ≡ classes.is_digit octet }
-{
-    octet >= b'0' && octet <= b'9'
-}
-
-pub(crate) fn is_hex_digit(octet: u8) -> bool
-    ensures { result ≡ classes.is_hex_digit octet }
-{
-    is_digit(octet) || (octet >= b'A' && octet <= b'F') || (octet >= b'a' && octet <= b'f')
-}
-
-/// Whether an octet is a letter, a digit or `_`.
-pub(crate) fn is_word_octet(octet: u8) -> bool
-    ensures { result ≡ classes.is_word_octet octet }
-{
-    is_letter(octet) || is_digit(octet)
-}
-
 pub(crate) fn is_space(octet: u8) -> bool
     ensures { result ≡ classes.is_space octet }
 {

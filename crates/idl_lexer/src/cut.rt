@@ -2,16 +2,18 @@
 ghost use Rattle.std.specs.Prelude.{◌≡◌, ℕ, ◌+◌, ◌-◌, ◌<◌, ◌≤◌, true, false, ◌||◌, length, slice_index, slice_range, MatchResult, MatchOption};
 ghost use Rattle.std.specs.Bool.{MatchBool};
 ghost use Rattle.idl_lexer.specs.Classes as classes;
+ghost use Rattle.nd_base.specs.Text as class;
 ghost use Rattle.idl_lexer.specs.Pieces.{IsComment};
 ghost use Rattle.idl_lexer.specs.Literals.{Opens, refusal_of};
 ghost use Rattle.idl_lexer.specs.declared.cut.PieceKind.TheVariants as piece;
 ghost use Rattle.idl_lexer.specs.Cut.{IsCut, IsRefused, OpensComment};
 
-use crate::classes::{are_mark, is_letter, is_mark_octet, is_space, is_word_octet};
+use crate::classes::{are_mark, is_mark_octet, is_space};
 use crate::literals::{Due, Unended, literal_end};
 use crate::numbers::number_of;
 use crate::runs::{UUID_LENGTH, run_end, uuid_stands};
 use crate::tokens::{LexKind, TokenKind};
+use nd_base::text::{is_letter, is_word_octet};
 
 /// The greatest number of octets of a word.
 const WORD_LIMIT: usize = 31;
@@ -58,7 +60,7 @@ fn comment_end(text: &[u8], from: usize) -> Option<usize>
 /// A word, a UUID or a number.
 fn cut_run(text: &[u8], from: usize) -> Result<Piece, Refusal>
     requires within { from < length text.now }
-    requires run { classes.is_word_octet (slice_index text.now from) ≡ true }
+    requires run { class.is_word_octet (slice_index text.now from) ≡ true }
     ensures { MatchResult result (λ p. IsCut text.now p × (p.from ≡ from)) (λ r. IsRefused text.now from r.at r.kind) }
 {
     if uuid_stands(text, from) {

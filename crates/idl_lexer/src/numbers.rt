@@ -1,14 +1,14 @@
 // The values of numbers.
 ghost use Rattle.std.specs.Prelude.{◌≡◌, ◌≤◌, ◌<◌, ◌^◌, ◌+◌, ◌*◌, List, ℕ, [], ◌∷◌, length, Some, None, cond, ltb, true, IsTrue};
 ghost use Rattle.std.specs.List.{list_all};
-ghost use Rattle.idl_lexer.specs.Classes as classes;
+ghost use Rattle.nd_base.specs.Text as class;
 ghost use Rattle.idl_lexer.specs.Numbers as numbers;
 
-use crate::classes::{is_digit, is_hex_digit};
+use nd_base::text::{is_digit, is_hex_digit};
 
 /// The value of a digit, decimal or hexadecimal.
 fn digit_value(digit: u8) -> u64
-    requires { IsTrue (classes.is_hex_digit digit) }
+    requires { IsTrue (class.is_hex_digit digit) }
     ensures { result ≡ numbers.digit_value digit }
 {
     match digit {
@@ -20,7 +20,7 @@ fn digit_value(digit: u8) -> u64
 
 /// The value with one digit more, where it is one of 64 bits.
 fn with_digit(base: u64, value: u64, digit: u8) -> Option<u64>
-    requires { IsTrue (classes.is_hex_digit digit) }
+    requires { IsTrue (class.is_hex_digit digit) }
     ensures { result ≡ numbers.in_64_bits (value * base + numbers.digit_value digit) }
 {
     let Some(shifted) = value.checked_mul(base) else {
@@ -32,7 +32,7 @@ fn with_digit(base: u64, value: u64, digit: u8) -> Option<u64>
 /// The value of digits to a base, where it is one of 64 bits.
 fn digits_value(base: u64, digits: &[u8]) -> Option<u64>
     requires some { 1 ≤ base }
-    requires digits { IsTrue (list_all classes.is_hex_digit digits.now) }
+    requires digits { IsTrue (list_all class.is_hex_digit digits.now) }
     ensures { result ≡ numbers.in_64_bits (numbers.value_from base 0 digits.now) }
 {
     let mut value = 0_u64;
@@ -46,13 +46,13 @@ fn digits_value(base: u64, digits: &[u8]) -> Option<u64>
 }
 
 fn all_digits(octets: &[u8]) -> bool
-    ensures { result ≡ list_all classes.is_digit octets.now }
+    ensures { result ≡ list_all class.is_digit octets.now }
 {
     octets.iter().all(|octet| is_digit(*octet))
 }
 
 fn all_hex_digits(octets: &[u8]) -> bool
-    ensures { result ≡ list_all classes.is_hex_digit octets.now }
+    ensures { result ≡ list_all class.is_hex_digit octets.now }
 {
     octets.iter().all(|octet| is_hex_digit(*octet))
 }

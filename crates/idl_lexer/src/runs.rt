@@ -1,11 +1,11 @@
 // Words, numbers and UUIDs.
 ghost use Rattle.std.specs.Prelude.{◌≡◌, ℕ, ◌+◌, ◌-◌, ◌<◌, ◌≤◌, true, false, length, slice_index, slice_range};
-ghost use Rattle.idl_lexer.specs.Classes as classes;
+ghost use Rattle.nd_base.specs.Text as class;
 ghost use Rattle.std.specs.Bool.{MatchBool};
 ghost use Rattle.idl_lexer.specs.Pieces as pieces;
 ghost use Rattle.idl_lexer.specs.Pieces.{IsUuid};
 
-use crate::classes::{is_hex_digit, is_word_octet};
+use nd_base::text::{is_hex_digit, is_word_octet};
 
 /// The octets of a UUID.
 pub(crate) const UUID_LENGTH: usize = 36;
@@ -15,8 +15,8 @@ pub(crate) fn run_end(text: &[u8], from: usize) -> usize
     requires { from ≤ length text.now }
     ensures after { from ≤ result }
     ensures within { result ≤ length text.now }
-    ensures each { (k : ℕ) → from ≤ k → k < result → classes.is_word_octet (slice_index text.now k) ≡ true }
-    ensures stops { result < length text.now → classes.is_word_octet (slice_index text.now result) ≡ false }
+    ensures each { (k : ℕ) → from ≤ k → k < result → class.is_word_octet (slice_index text.now k) ≡ true }
+    ensures stops { result < length text.now → class.is_word_octet (slice_index text.now result) ≡ false }
 {
     let mut end = from;
     while end < text.len() && is_word_octet(text[end]) {

@@ -4,6 +4,7 @@ use Rattle.std.specs.List.{flat_map}
 use Rattle.std.specs.Result.{IsErrAnd}
 use Rattle.std.proofs.lemmas.List.{append_assoc, append-nil, map-append, drop_more, drop_all}
 use Rattle.std.proofs.lemmas.List.Concat.{flat_map-cons}
+use Rattle.std.proofs.Math.Seq.{drop-append_seam}
 use Rattle.nd_base.specs.declared.octets.Place.{Place}
 use Rattle.nd_base.specs.Counts.{Rose, next_count}
 use Rattle.idl_grammar.specs.declared.words.Spelling.{Spelling}
@@ -16,7 +17,7 @@ use Rattle.idl_names.specs.declared.name_fault.NameFault.{NameFault}
 use Rattle.idl_names.specs.declared.name_fault.NameFault.TheVariants as fault
 use Rattle.idl_names.specs.Causes.{IsAbsent, IsFailed}
 use Rattle.idl_names.specs.Ended.{Ended, ended}
-use Rattle.idl_names.specs.Going.{Point, Leads, Went}
+use Rattle.idl_names.specs.Going.{Point, Asked, Leads, Went}
 use Rattle.idl_names.specs.Loads.{IsLoaded}
 use Rattle.idl_names.specs.Sources.{Source, file_number, and_source}
 use Rattle.idl_names.specs.Steps as step
@@ -24,7 +25,7 @@ use Rattle.idl_names.specs.Steps.{Step, attribute_steps, imports_of, declaration
 use Rattle.idl_names.specs.Known.{Known, nothing, passed, then, walked, where_known, where_free, where_valued, in_file, expression_fault_in, value_in, tag_used}
 use Rattle.idl_names.specs.Kept.{is_memory, IsRight}
 use Rattle.idl_names.specs.Walk as walk
-use Rattle.idl_names.specs.Walk.{State, Due, Pass, Load, End, Ending, Done, Stopped, Walk, load_of, all_of, with_known, with_ended, has_ended, start, most_files}
+use Rattle.idl_names.specs.Walk.{State, Due, Pass, Load, End, Ending, Done, Stopped, Walk, load_of, all_of, with_known, with_ended, has_ended, start, names_of, AsksAlong, most_files}
 
 -- ## Counts
 
@@ -47,6 +48,24 @@ failed_result : {A : Type 0} (a b c : ℕ) (r : Result A NameFault) → a ≤ b 
 failed_result a b c (Ok x) h r = tt
 failed_result a b c (Err f) h r = failed_before a b c f h r
 
+-- ## Names that were asked for
+
+pub none_asked : (a : List (List ℕ)) (s : List Source) → Asked a s a s
+none_asked a s = record { added = []; sources_are = sym (append-nil s); asked_are = sym (append-nil a) }
+
+pub asked_on : {a b c : List (List ℕ)} {s t u : List Source} → Asked a s b t → Asked b t c u → Asked a s c u
+asked_on {a} {b} {c} {s} {t} {u} f g = record {
+  added = f.added ++ g.added;
+  sources_are = g.sources_are ∙ (ap (λ x. x ++ g.added) f.sources_are ∙ append_assoc s f.added g.added);
+  asked_are = g.asked_are
+      ∙ (ap (λ x. x ++ names_of g.added) f.asked_are
+      ∙ (append_assoc a (names_of f.added) (names_of g.added)
+      ∙ ap (λ x. a ++ x) (sym (map-append (λ s. s.name) f.added g.added))));
+}
+
+pub one_asked : {a b : List (List ℕ)} {s t : List Source} (name text : List ℕ) → b ≡ a ++ name ∷ [] → t ≡ and_source s name text → Asked a s b t
+one_asked name text e h = record { added = record { name = name; text = text } ∷ []; sources_are = h; asked_are = e }
+
 -- ## Parts
 
 leads_on : {A B : Type 0} (held : Option (List ℕ → Option (List ℕ))) (s t u : State) (all x left : List Due) (a : A) (r : Result B NameFault)
@@ -60,6 +79,7 @@ goes_on p q r all x left a result f g = record {
   leads = leads_on p.held p.state q.state r.state all x left a result f.leads
       (subst (λ (h : Option (List ℕ → Option (List ℕ))). Leads h q.state x r.state [] result) f.same g.leads);
   same = g.same ∙ f.same;
+  asked = asked_on f.asked g.asked;
   absent = absent_result p.absences q.absences r.absences result f.absences_later g.absent;
   failed = failed_result p.faults q.faults r.faults result f.later g.failed;
   later = omega (arith, f.later, g.later);
@@ -72,6 +92,7 @@ pub at_first : {A : Type 0} (p : Point) (all : List Due) (a : A) → length p.st
 at_first p all a few = record {
   leads = λ rest e w. w;
   same = refl;
+  asked = none_asked p.asked p.state.sources;
   absent = tt;
   failed = tt;
   later = omega arith;
@@ -82,12 +103,14 @@ at_first p all a few = record {
 
 -- ## Faults of names
 
-abbrev IsOfNames : NameFault → Type 0
+-- not of a load, and not of memory
+abbrev pub IsOfNames : NameFault → Type 0
+IsOfNames fault.Memory = ⊥
 IsOfNames (fault.Absent file) = ⊥
 IsOfNames (fault.Failed file) = ⊥
 IsOfNames _ = Unit {0}
 
-abbrev OfNames : {A : Type 0} → Result A NameFault → Type 0
+abbrev pub OfNames : {A : Type 0} → Result A NameFault → Type 0
 OfNames (Ok a) = Unit {0}
 OfNames (Err f) = IsOfNames f
 
@@ -111,7 +134,7 @@ tag_of_names : (file : ℕ) (k : Known) (kind : _) (tag : Spelling) (b : Bool) �
 tag_of_names file k kind tag true = tt
 tag_of_names file k kind tag false = tt
 
-passed_of_names : (file : ℕ) (k : Known) (s : Step) → OfNames (passed file k s)
+pub passed_of_names : (file : ℕ) (k : Known) (s : Step) → OfNames (passed file k s)
 passed_of_names file k (step.UseType name) = known_of_names _ _ k
 passed_of_names file k (step.UseTag kind tag behind) = by _
   where
@@ -185,11 +208,12 @@ at_state p s = record p { state = s }
 
 -- a walk stops where it is
 pub stops : {A : Type 0} (p q : Point) (dues : List Due) (f : NameFault) → ((rest : List Due) → Walk p.held p.state (dues ++ rest) (Stopped q.state.sources f))
-    → q.held ≡ p.held → IsAbsent p.absences q.absences f → IsFailed p.faults q.faults f → p.faults ≤ q.faults → p.absences ≤ q.absences
+    → q.held ≡ p.held → Asked p.asked p.state.sources q.asked q.state.sources → IsAbsent p.absences q.absences f → IsFailed p.faults q.faults f → p.faults ≤ q.faults → p.absences ≤ q.absences
     → length p.state.sources ≤ length q.state.sources → length q.state.sources ≤ most_files → Went {A = A} p dues q [] (Err f)
-stops p q dues f leads same absent failed later absences_later more few = record {
+stops p q dues f leads same asked absent failed later absences_later more few = record {
   leads = leads;
   same = same;
+  asked = asked;
   absent = absent;
   failed = failed;
   later = later;
@@ -203,6 +227,7 @@ pub any_left : {A : Type 0} (p q : Point) (dues left other : List Due) (f : Name
 any_left p q dues left other f w = record {
   leads = w.leads;
   same = w.same;
+  asked = w.asked;
   absent = w.absent;
   failed = w.failed;
   later = w.later;
@@ -213,13 +238,14 @@ any_left p q dues left other f w = record {
 
 pub stops_short : {A : Type 0} (p : Point) (dues : List Due) (f : NameFault) → f ≡ fault.Memory → length p.state.sources ≤ most_files → Went {A = A} p dues p [] (Err f)
 stops_short {A} p dues f is few = subst (λ (g : NameFault). Went {A = A} p dues p [] (Err g)) (sym is)
-    (stops p p dues fault.Memory (λ rest. walk.short p.state (dues ++ rest)) refl tt tt (omega arith) (omega arith) (omega arith) few)
+    (stops p p dues fault.Memory (λ rest. walk.short p.state (dues ++ rest)) refl (none_asked p.asked p.state.sources) tt tt (omega arith) (omega arith) (omega arith) few)
 
 pub steps_went : {A : Type 0} (p : Point) (file : ℕ) (steps : List Step) (after : Known) (r : Result A NameFault) → length p.state.sources ≤ most_files
     → IsRight after r (walked file p.state.known steps) → Went p (map (Pass file) steps) (at_state p (with_known p.state after)) [] r
 steps_went p file steps after (Ok a) few h = record {
   leads = λ rest e w. pass_all p.held file p.state steps after rest e h w;
   same = refl;
+  asked = none_asked p.asked p.state.sources;
   absent = tt;
   failed = tt;
   later = omega arith;
@@ -234,17 +260,18 @@ steps_went {A} p file steps after (Err f) few h = by (is_memory f) refl
 
     by : (b : Bool) → is_memory f ≡ b → Went {A = A} p (map (Pass file) steps) (at_state p (with_known p.state after)) [] (Err f)
     by true is = subst (λ (g : NameFault). Went {A = A} p (map (Pass file) steps) (at_state p (with_known p.state after)) [] (Err g)) (sym (is_memory_is f is))
-        (stops p (at_state p (with_known p.state after)) (map (Pass file) steps) fault.Memory (λ rest. walk.short p.state (map (Pass file) steps ++ rest)) refl tt tt (omega arith) (omega arith) (omega arith) few)
+        (stops p (at_state p (with_known p.state after)) (map (Pass file) steps) fault.Memory (λ rest. walk.short p.state (map (Pass file) steps ++ rest)) refl (none_asked p.asked p.state.sources) tt tt (omega arith) (omega arith) (omega arith) few)
     by false is =
         let e : walked file p.state.known steps ≡ Err f = h is in
         let n : OfNames {A = Known} (Err f) = subst (λ (r : Result Known NameFault). OfNames r) e (walked_of_names file p.state.known steps) in
-        stops p (at_state p (with_known p.state after)) (map (Pass file) steps) f (λ rest. pass_fault p.held file p.state steps f rest e) refl
+        stops p (at_state p (with_known p.state after)) (map (Pass file) steps) f (λ rest. pass_fault p.held file p.state steps f rest e) refl (none_asked p.asked p.state.sources)
         (names_absent p.absences p.absences f n) (names_failed p.faults p.faults f n) (omega arith) (omega arith) (omega arith) few
 
 pub end_went : {A : Type 0} (p : Point) (file : ℕ) (t : Tree) (a : A) → length p.state.sources ≤ most_files → Went p (End file t ∷ []) (at_state p (with_ended p.state file t)) [] (Ok a)
 end_went p file t a few = record {
   leads = λ rest e w. walk.ends p.state file t rest e w;
   same = refl;
+  asked = none_asked p.asked p.state.sources;
   absent = tt;
   failed = tt;
   later = omega arith;
@@ -258,6 +285,7 @@ pub any_value : {A B : Type 0} (p q : Point) (dues left : List Due) (a : A) (b :
 any_value p q dues left a b w = record {
   leads = w.leads;
   same = w.same;
+  asked = w.asked;
   absent = tt;
   failed = tt;
   later = w.later;
@@ -323,7 +351,7 @@ pub unended_went : {A B : Type 0} (p q : Point) (file : ℕ) (t : Tree) (files :
 unended_went {B = B} p q file t files a f is w =
     subst (λ (g : NameFault). Went {A = B} p (all_of file t) (at_state q (record q.state { ended = files })) [] (Err g)) (sym is)
     (goes_on p q (at_state q (record q.state { ended = files })) (all_of file t) (End file t ∷ []) [] a (Err fault.Memory) w
-    (stops q (at_state q (record q.state { ended = files })) (End file t ∷ []) fault.Memory (λ rest. walk.short q.state (End file t ∷ rest)) refl tt tt (omega arith) (omega arith) (omega arith) w.few))
+    (stops q (at_state q (record q.state { ended = files })) (End file t ∷ []) fault.Memory (λ rest. walk.short q.state (End file t ∷ rest)) refl (none_asked q.asked q.state.sources) tt tt (omega arith) (omega arith) (omega arith) w.few))
 
 -- a fault that is passed on
 pub passed_on : {A : Type 0} (p q : Point) (dues left : List Due) (r : Result A NameFault) (f : NameFault) → IsErrAnd r (λ y. y ≡ f) → Went {A = A} p dues q left (Err f) → Went p dues q [] r
@@ -353,6 +381,7 @@ module _ (p : Point) (place : Place) (name : List ℕ) (few : length p.state.sou
   again_went n a known done = record {
     leads = λ rest e w. walk.again p.state place name rest e n known done w;
     same = refl;
+    asked = none_asked p.asked p.state.sources;
     absent = tt;
     failed = tt;
     later = omega arith;
@@ -364,18 +393,18 @@ module _ (p : Point) (place : Place) (name : List ℕ) (few : length p.state.sou
   pub cycle_went : {A : Type 0} (n : ℕ) → file_number p.state.sources name ≡ Some n → has_ended p.state.ended n ≡ false
       → Went {A = A} p (Load place name ∷ []) p [] (Err (fault.ImportCycle place))
   cycle_went n known not_done =
-      stops p p (Load place name ∷ []) (fault.ImportCycle place) (λ rest. walk.cycle p.state place name rest n known not_done) refl tt tt (omega arith) (omega arith) (omega arith) few
+      stops p p (Load place name ∷ []) (fault.ImportCycle place) (λ rest. walk.cycle p.state place name rest n known not_done) refl (none_asked p.asked p.state.sources) tt tt (omega arith) (omega arith) (omega arith) few
 
   pub too_many_went : {A : Type 0} → file_number p.state.sources name ≡ None → most_files ≤ length p.state.sources
       → Went {A = A} p (Load place name ∷ []) p [] (Err (fault.TooMany place))
   too_many_went new full =
-      stops p p (Load place name ∷ []) (fault.TooMany place) (λ rest. walk.too_many p.state place name rest new full) refl tt tt (omega arith) (omega arith) (omega arith) few
+      stops p p (Load place name ∷ []) (fault.TooMany place) (λ rest. walk.too_many p.state place name rest new full) refl (none_asked p.asked p.state.sources) tt tt (omega arith) (omega arith) (omega arith) few
 
   pub enters_went : {A : Type 0} (q r : Point) (e : Ended) (result : Result A NameFault) → file_number p.state.sources name ≡ None → length p.state.sources < most_files
       → IsLoaded p.held p.state.sources name q.state.sources e → q.state.ended ≡ p.state.ended → q.state.known ≡ p.state.known → q.held ≡ p.held
-      → p.faults ≤ q.faults → p.absences ≤ q.absences → length p.state.sources ≤ length q.state.sources
+      → Asked p.asked p.state.sources q.asked q.state.sources → p.faults ≤ q.faults → p.absences ≤ q.absences → length p.state.sources ≤ length q.state.sources
       → Went q (all_of e.file e.tree) r [] result → Went p (Load place name ∷ []) r [] result
-  enters_went {A} q r e result new room loaded ended_is known_is held_is later absences_later more w =
+  enters_went {A} q r e result new room loaded ended_is known_is held_is asked later absences_later more w =
       let first : Went {A = ℕ} p (Load place name ∷ []) q (all_of e.file e.tree ++ []) (Ok 0) = record {
         leads = λ rest x w. walk.enters p.state place name rest x loaded.text e.tree (record { new = new; room = room }) loaded.content loaded.read.is_file
             (subst (λ (d : List Due). Walk p.held (record { sources = and_source p.state.sources name loaded.text; ended = p.state.ended; known = p.state.known }) d x)
@@ -383,6 +412,7 @@ module _ (p : Point) (place : Place) (name : List ℕ) (few : length p.state.sou
             (subst (λ (s : State). Walk p.held s (all_of e.file e.tree ++ rest) x) (same_state q.state loaded.text loaded.read.sources ended_is known_is)
             (subst (λ (d : List Due). Walk p.held q.state d x) (ap (λ l. l ++ rest) (append-nil (all_of e.file e.tree))) w)));
         same = held_is;
+        asked = asked;
         absent = tt;
         failed = tt;
         later = later;
@@ -410,6 +440,45 @@ pub all_stopped : {A : Type 0} (p q : Point) (all : List Due) (f : NameFault) (s
 all_stopped p q all f s is w =
     subst (λ (d : List Due). Walk p.held s d (Stopped q.state.sources f)) (append-nil all)
     (subst (λ (x : State). Walk p.held x (all ++ []) (Stopped q.state.sources f)) is (w.leads []))
+
+-- where a walk stops, memory may be wanting as well
+stopped_short : {held : Option (List ℕ → Option (List ℕ))} {s : State} {dues : List Due} {sources : List Source} {f : NameFault} → Walk held s dues (Stopped sources f)
+    → Walk held s dues (Stopped sources fault.Memory)
+stopped_short (walk.goes_on s file step k rest _ is w) = walk.goes_on s file step k rest _ is (stopped_short w)
+stopped_short (walk.faults s file step f rest is) = walk.short s (Pass file step ∷ rest)
+stopped_short (walk.ends s file t rest _ w) = walk.ends s file t rest _ (stopped_short w)
+stopped_short (walk.cycle s place name rest n is not_done) = walk.short s (Load place name ∷ rest)
+stopped_short (walk.again s place name rest _ n is done w) = walk.again s place name rest _ n is done (stopped_short w)
+stopped_short (walk.too_many s place name rest new full) = walk.short s (Load place name ∷ rest)
+stopped_short (walk.absent s place name rest due missing) = walk.short_in_load s place name rest due
+stopped_short (walk.failed s place name rest due) = walk.short_in_load s place name rest due
+stopped_short (walk.uncut s place name rest text at kind due content is) = walk.short_after_load s place name rest text due content
+stopped_short (walk.no_file s place name rest text at f due content is) = walk.short_after_load s place name rest text due content
+stopped_short (walk.enters s place name rest _ text t due content is w) = walk.enters s place name rest _ text t due content is (stopped_short w)
+stopped_short (walk.short s rest) = walk.short s rest
+stopped_short (walk.short_in_load s place name rest due) = walk.short_in_load s place name rest due
+stopped_short (walk.short_after_load s place name rest text due content) = walk.short_after_load s place name rest text due content
+
+all_short : {A : Type 0} (p q : Point) (all : List Due) (r : Result A NameFault) → Went p all q [] r → Walk p.held p.state (all ++ []) (Stopped q.state.sources fault.Memory)
+all_short p q all (Ok a) w = w.leads [] (Stopped q.state.sources fault.Memory) (walk.short q.state [])
+all_short p q all (Err f) w = stopped_short (w.leads [])
+
+-- what was added is what is past the first
+asked_past : {a b : List (List ℕ)} {s t : List Source} → Asked a s b t → b ≡ a ++ names_of (drop (length s) t)
+asked_past {a} {b} {s} {t} h = h.asked_are ∙ ap (λ x. a ++ names_of x) (sym (ap (drop (length s)) h.sources_are ∙ drop-append_seam s h.added))
+
+pub all_asked : {A : Type 0} (p q : Point) (all : List Due) (r : Result A NameFault) → Went p all q [] r
+    → q.asked ≡ p.asked ++ names_of (drop (length p.state.sources) q.state.sources)
+all_asked p q all r w = asked_past w.asked
+
+pub asks_along : {A : Type 0} (p q : Point) (main : List Source) (t : Tree) (r : Result A NameFault) → p.state ≡ start main → Went p (all_of 0 t) q [] r
+    → AsksAlong p.held main t p.asked q.asked
+asks_along p q main t r is w = record {
+  reached = q.state.sources;
+  walk = subst (λ (d : List Due). Walk p.held (start main) d (Stopped q.state.sources fault.Memory)) (append-nil (all_of 0 t))
+      (subst (λ (x : State). Walk p.held x (all_of 0 t ++ []) (Stopped q.state.sources fault.Memory)) is (all_short p q (all_of 0 t) r w));
+  asked = subst (λ (l : List Source). q.asked ≡ p.asked ++ names_of (drop (length l) q.state.sources)) (ap (λ x. x.sources) is) (asked_past w.asked);
+}
 
 pub at_start : (main : List Source) (files : List Ended) (names : Known) → files ≡ [] → names ≡ nothing
     → ◌≡◌ {A = State} (record { sources = main; ended = files; known = names }) (start main)

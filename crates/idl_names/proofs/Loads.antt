@@ -1,6 +1,7 @@
 -- Loads: where the token of a fault stands, and how a walk stops at a load.
-use Rattle.std.proofs.Common.{◌≡◌, ◌⊎◌, inl, inr, ℕ, ◌+◌, ◌<◌, ◌≤◌, Bool, true, false, cond, eqb, List, [], ◌∷◌, length, refl, sym, ap, subst, arith, Option, Result, Ok, Err, IfErr}
-use Rattle.std.proofs.lemmas.List.{length-map}
+use Rattle.std.proofs.Common.{◌≡◌, ◌⊎◌, inl, inr, ℕ, ◌+◌, ◌<◌, ◌≤◌, Bool, true, false, cond, eqb, List, [], ◌∷◌, ◌++◌, map, set, get_or, length, refl, sym, ap, subst, ◌∙◌, arith, Option, Result, Ok, Err, IfOk, IfErr}
+use Rattle.std.proofs.lemmas.List.{length-map, length-append, map-set}
+use Rattle.std.proofs.Math.ListN.{get_or-map}
 use Rattle.phrases.specs.Text.{Text, Rel, Depth, Ban}
 use Rattle.phrases.specs.Reading.{Fault, Syntax, Passes, Read}
 use Rattle.phrases.specs.Verdict.{whole_read}
@@ -28,22 +29,26 @@ use Rattle.idl_parser.specs.declared.fault.SyntaxFault.TheVariants as syntax
 use Rattle.idl_parser.specs.Answered.{Told}
 use Rattle.idl_names.specs.declared.name_fault.NameFault.{NameFault}
 use Rattle.idl_names.specs.declared.name_fault.NameFault.TheVariants as fault
-use Rattle.idl_names.specs.Loads.{IsFaultOf, IsOfText, told_syntax, told_load, IsReadFault, IsUnloaded, IsLoadFault}
+use Rattle.idl_names.specs.declared.scope.FileTree.{FileTree}
+use Rattle.idl_names.specs.Files.{IsFile}
+use Rattle.idl_names.specs.Seen.{seen_file}
+use Rattle.idl_grammar.specs.Seen.{seen_tree}
+use Rattle.idl_names.specs.Loads.{IsLoaded, IsFaultOf, IsOfText, told_syntax, told_load, IsLoadFault}
 use Rattle.idl_names.specs.Sources.{Source, and_source}
 use Rattle.idl_names.specs.Walk as walk
 use Rattle.idl_names.specs.Walk.{State, Due, Load, Stopped, Walk, IsDue}
 
-token_count : (l : Lexed) → length (lexemes l) ≡ length l.tokens
+pub token_count : (l : Lexed) → length (lexemes l) ≡ length l.tokens
 token_count l = simp length-map refl
 
-same_fault : {A : Type 0} (f g : Fault) → ◌≡◌ {A = Result A Fault} (Err f) (Err g) → f ≡ g
+pub same_fault : {A : Type 0} (f g : Fault) → ◌≡◌ {A = Result A Fault} (Err f) (Err g) → f ≡ g
 same_fault f g e = cc
 
-clash_results : {A B : Type 0} (a : A) (f : Fault) → ◌≡◌ {A = Result A Fault} (Ok a) (Err f) → B
+pub clash_results : {A B : Type 0} (a : A) (f : Fault) → ◌≡◌ {A = Result A Fault} (Ok a) (Err f) → B
 clash_results a f e = absurd (cc)
 
 -- of what is read exactly
-fault_front : {A : Type 0} (P : Rel A) (t : Text) (r : Read A) → Exact P (stops []) t 0 r → (f : Fault) → whole_read r t ≡ Err f → front f ≤ length t
+pub fault_front : {A : Type 0} (P : Rel A) (t : Text) (r : Read A) → Exact P (stops []) t 0 r → (f : Fault) → whole_read r t ≡ Err f → front f ≤ length t
 fault_front P t (Err g) x f e = subst (λ (h : Fault). front h ≤ length t) (same_fault g f e) x.within
 fault_front {A = A} P t (Ok a) x f e = by_case (eqb a.1 (length t)) e where
   by_case : (b : Bool) → ◌≡◌ {A = Result A Fault} (cond b (Ok a.0) (Err (Syntax a.1))) (Err f) → front f ≤ length t
@@ -54,11 +59,11 @@ fault_front {A = A} P t (Ok a) x f e = by_case (eqb a.1 (length t)) e where
 
 module _ (l : Lexed) where
   -- a word that is banned anywhere stands in the text
-  banned_within : (k : ℕ) → is_banned (lexemes l) k ≡ true → k < length (lexemes l)
+  pub banned_within : (k : ℕ) → is_banned (lexemes l) k ≡ true → k < length (lexemes l)
   unfolding is_banned
   banned_within k h = mark_within (lexemes l) k symbol.Banned refl h
 
-  named_within : (g : Fault) → front g ≤ length (lexemes l) → front (named_fault (lexemes l) g) ≤ length (lexemes l)
+  pub named_within : (g : Fault) → front g ≤ length (lexemes l) → front (named_fault (lexemes l) g) ≤ length (lexemes l)
   named_within (Syntax k) h = by_case (is_banned (lexemes l) k) refl where
     by_case : (b : Bool) → is_banned (lexemes l) k ≡ b → front (cond b (Passes Ban k) (Syntax k)) ≤ length (lexemes l)
     by_case true e = let p = banned_within k e in omega (arith, p)
@@ -109,13 +114,8 @@ module _ (l : Lexed) where
 -- ## How a walk stops at a load
 
 module _ (held : Option (List ℕ → Option (List ℕ))) (s : State) (place : Place) (name : List ℕ) (rest : List Due) (due : IsDue s.sources name) where
-  other : (after sources : List Source) (f g : NameFault) → after ≡ sources → f ≡ g → Walk held s (Load place name ∷ rest) (Stopped sources g) → Walk held s (Load place name ∷ rest) (Stopped after f)
-  other after sources f g e h w =
-      subst (λ (x : List Source). Walk held s (Load place name ∷ rest) (Stopped x f)) (sym e)
-      (subst (λ (x : NameFault). Walk held s (Load place name ∷ rest) (Stopped sources x)) (sym h) w)
-
   module _ (text : List ℕ) (content : IsContent held name text) where
-    stops_at : (f : NameFault) → IsFaultOf (length s.sources) text f → Walk held s (Load place name ∷ rest) (Stopped (and_source s.sources name text) f)
+    pub stops_at : (f : NameFault) → IsFaultOf (length s.sources) text f → Walk held s (Load place name ∷ rest) (Stopped (and_source s.sources name text) f)
     stops_at fault.Memory h = walk.short_after_load s place name rest text due content
     stops_at (fault.Lex n (lex_fault.At at kind)) h =
         subst (λ (m : ℕ). Walk held s (Load place name ∷ rest) (Stopped (and_source s.sources name text) (fault.Lex m (lex_fault.At at kind)))) (sym h.0)
@@ -125,27 +125,67 @@ module _ (held : Option (List ℕ → Option (List ℕ))) (s : State) (place : P
         (walk.no_file s place name rest text at f due content h.1)
     stops_at _ h = absurd h
 
-    pub stops_read : (after : List Source) (f : NameFault) → IsReadFault s.sources name text after f → Walk held s (Load place name ∷ rest) (Stopped after f)
-    stops_read after f (inl h) = other after s.sources f fault.Memory h.1 h.0 (walk.short s (Load place name ∷ rest))
-    stops_read after f (inr h) = other after (and_source s.sources name text) f f h.0 refl (stops_at f h.1)
-
-  unloaded_at : (load : FileFault) → (load ≡ file_fault.Absent → IsMissing held name) → Walk held s (Load place name ∷ rest) (Stopped (and_source s.sources name []) (told_load (length s.sources) load))
+  pub unloaded_at : (load : FileFault) → (load ≡ file_fault.Absent → IsMissing held name) → Walk held s (Load place name ∷ rest) (Stopped (and_source s.sources name []) (told_load (length s.sources) load))
   unloaded_at file_fault.Absent h = walk.absent s place name rest due (h refl)
   unloaded_at file_fault.Failed h = walk.failed s place name rest due
   unloaded_at file_fault.Memory h = walk.short_in_load s place name rest due
 
-  pub stops_unloaded : (load : FileFault) → (load ≡ file_fault.Absent → IsMissing held name) → (after : List Source) (f : NameFault) → IsUnloaded s.sources name load after f
-      → Walk held s (Load place name ∷ rest) (Stopped after f)
-  stops_unloaded load h after f (inl u) = other after s.sources f fault.Memory u.1 u.0 (walk.short s (Load place name ∷ rest))
-  stops_unloaded load h after f (inr u) = other after (and_source s.sources name []) f (told_load (length s.sources) load) u.0 u.1 (unloaded_at load h)
+module _ (held : Option (List ℕ → Option (List ℕ))) (before : List Source) (name : List ℕ) where
+  -- the same from the state of any walk with these sources
+  at_sources : (after added : List Source) (f g : NameFault) → after ≡ added → f ≡ g
+      → ((s : State) (place : Place) (rest : List Due) → s.sources ≡ before → IsDue s.sources name → Walk held s (Load place name ∷ rest) (Stopped added g))
+      → IsLoadFault held before name after f
+  at_sources after added f g e h w = λ s place rest at due.
+      subst (λ (x : List Source). Walk held s (Load place name ∷ rest) (Stopped x f)) (sym e)
+      (subst (λ (x : NameFault). Walk held s (Load place name ∷ rest) (Stopped added x)) (sym h) (w s place rest at (subst (λ (b : List Source). IsDue b name) (sym at) due)))
 
-pub read_fault : {A : Type 0} (held : Option (List ℕ → Option (List ℕ))) (before : List Source) (name text : List ℕ) (after : List Source) (r : Result A NameFault)
-    → IsContent held name text → IfErr r (IsReadFault before name text after) → IfErr r (IsLoadFault held before name after)
-read_fault held before name text after (Ok a) content h = tt
-read_fault held before name text after (Err f) content h = λ s place rest at due.
-    stops_read held s place name rest (subst (λ (b : List Source). IsDue b name) (sym at) due) text content after f (subst (λ (b : List Source). IsReadFault b name text after f) (sym at) h)
+  pub short_fault : (after : List Source) (f : NameFault) → after ≡ before → f ≡ fault.Memory → IsLoadFault held before name after f
+  short_fault after f e h = at_sources after before f fault.Memory e h (λ s place rest at due.
+      subst (λ (b : List Source). Walk held s (Load place name ∷ rest) (Stopped b fault.Memory)) at (walk.short s (Load place name ∷ rest)))
 
-pub unloaded_fault : (held : Option (List ℕ → Option (List ℕ))) (before : List Source) (name : List ℕ) (load : FileFault) (after : List Source) (f : NameFault)
-    → (load ≡ file_fault.Absent → IsMissing held name) → IsUnloaded before name load after f → IsLoadFault held before name after f
-unloaded_fault held before name load after f missing h = λ s place rest at due.
-    stops_unloaded held s place name rest (subst (λ (b : List Source). IsDue b name) (sym at) due) load missing after f (subst (λ (b : List Source). IsUnloaded b name load after f) (sym at) h)
+  pub read_fault : (text : List ℕ) (after : List Source) (f : NameFault) → IsContent held name text → after ≡ and_source before name text → IsFaultOf (length before) text f
+      → IsLoadFault held before name after f
+  read_fault text after f content e h = at_sources after (and_source before name text) f f e refl (λ s place rest at due.
+      subst (λ (b : List Source). Walk held s (Load place name ∷ rest) (Stopped (and_source b name text) f)) at
+      (stops_at held s place name rest due text content f (subst (λ (b : List Source). IsFaultOf (length b) text f) (sym at) h)))
+
+  pub unloaded_fault : (load : FileFault) (after : List Source) (f : NameFault) → (load ≡ file_fault.Absent → IsMissing held name) → after ≡ and_source before name []
+      → f ≡ told_load (length before) load → IsLoadFault held before name after f
+  unloaded_fault load after f missing e h = at_sources after (and_source before name []) f (told_load (length before) load) e h (λ s place rest at due.
+      subst (λ (b : List Source). Walk held s (Load place name ∷ rest) (Stopped (and_source b name []) (told_load (length b) load))) at (unloaded_at held s place name rest due load missing))
+
+  -- ## Results
+
+  pub loaded_ok : (file : ℕ) (text : List ℕ) (after : List Source) (r : Result FileTree NameFault) → file ≡ length before → IsContent held name text
+      → after ≡ and_source before name text → IfOk r (λ f. f.file ≡ file) → IfOk r (λ f. IsFile text (seen_tree f.tree)) → IfOk r (λ f. IsLoaded held before name after (seen_file f))
+  loaded_ok file text after (Ok f) at content e number is =
+      record { text = text; content = content; read = record { is_file = is; number = number ∙ at; sources = e } }
+  loaded_ok file text after (Err f) at content e number is = tt
+
+  pub loaded_err : {A : Type 0} (file : ℕ) (text : List ℕ) (after : List Source) (r : Result A NameFault) → file ≡ length before → IsContent held name text
+      → after ≡ and_source before name text → IfErr r (IsFaultOf file text) → IfErr r (IsLoadFault held before name after)
+  loaded_err file text after (Ok a) at content e h = tt
+  loaded_err file text after (Err f) at content e h = read_fault text after f content e (subst (λ (n : ℕ). IsFaultOf n text f) at h)
+
+-- ## Sources
+
+pub one_more : (before after : List Source) (name text : List ℕ) → after ≡ and_source before name text → length after ≡ length before + 1
+one_more before after name text e = ap length e ∙ length-append before (record { name = name; text = text } ∷ [])
+
+last_is : (xs : List Source) (i : ℕ) (a d : Source) → i ≡ length xs → get_or (xs ++ a ∷ []) i d ≡ a
+last_is [] i a d e = ap (λ n. get_or (a ∷ []) n d) e
+last_is (x ∷ xs) i a d e = ap (λ n. get_or (x ∷ (xs ++ a ∷ [])) n d) e ∙ last_is xs (length xs) a d refl
+
+last_set : (xs : List Source) (i : ℕ) (a b : Source) → i ≡ length xs → set (xs ++ a ∷ []) i b ≡ xs ++ b ∷ []
+last_set [] i a b e = ap (λ n. set (a ∷ []) n b) e
+last_set (x ∷ xs) i a b e = ap (λ n. set (x ∷ (xs ++ a ∷ [])) n b) e ∙ ap (λ l. x ∷ l) (last_set xs (length xs) a b refl)
+
+-- The last source gets its text.
+pub last_filled : {A : Type 0} (f : A → Source) (xs : List A) (i : ℕ) (old new : A) (before : List Source) (name text : List ℕ) → i ≡ length before
+    → map f xs ≡ and_source before name [] → old ≡ get_or xs i old → (f new).name ≡ (f old).name → (f new).text ≡ text → map f (set xs i new) ≡ and_source before name text
+last_filled f xs i old new before name text at is item same filled =
+    let here : f old ≡ record { name = name; text = [] } =
+        ap f item ∙ (sym (get_or-map f xs i old) ∙ (ap (λ l. get_or l i (f old)) is ∙ last_is before i (record { name = name; text = [] }) (f old) at)) in
+    let now : f new ≡ record { name = name; text = text } =
+        ap (λ n. record { name = n; text = (f new).text }) (same ∙ ap (λ s. s.name) here) ∙ ap (λ t. record { name = name; text = t }) filled in
+    map-set f xs i new ∙ (ap (λ l. set l i (f new)) is ∙ (last_set before i (record { name = name; text = [] }) (f new) at ∙ ap (λ y. before ++ y ∷ []) now))

@@ -1,5 +1,5 @@
 -- For the code: how an import's file is loaded. No definition of the language stands here.
-use Rattle.std.specs.Prelude.{◌≡◌, ◌⊎◌, ℕ, ◌≤◌, ◌<◌, List, [], ◌∷◌, length, Option}
+use Rattle.std.specs.Prelude.{◌≡◌, ℕ, ◌≤◌, ◌<◌, List, [], ◌∷◌, length, Option}
 use Rattle.nd_base.specs.declared.octets.Place.{Place}
 use Rattle.nd_base.specs.declared.outside.FileFault.{FileFault}
 use Rattle.nd_base.specs.declared.outside.FileFault.TheVariants as file_fault
@@ -37,29 +37,17 @@ told_syntax file l (syntax.Syntax k) = fault.Syntax file (place_of l k) (syntax.
 told_syntax file l (syntax.Deep k) = fault.Syntax file (place_of l k) (syntax.Deep k)
 told_syntax file l (syntax.Banned k) = fault.Syntax file (place_of l k) (syntax.Banned k)
 
--- Memory was wanting before the file was added.
-abbrev pub IsShort : List Source → List Source → NameFault → Type 0
-IsShort before after f = (f ≡ fault.Memory) × (after ≡ before)
-
 -- a text was added under a name, and is this file
 pub record IsRead (before : List Source) (name text : List ℕ) (after : List Source) (e : Ended) : Type 0 where
   pub is_file : IsFile text e.tree
   pub number : e.file ≡ length before
   pub sources : after ≡ and_source before name text
 
--- a text was added under a name, and is at fault
-abbrev pub IsReadFault : List Source → (name text : List ℕ) → List Source → NameFault → Type 0
-IsReadFault before name text after f = IsShort before after f ⊎ ((after ≡ and_source before name text) × IsFaultOf (length before) text f)
-
 -- the fault of a load, as it is told of a file
 abbrev pub told_load : ℕ → FileFault → NameFault
 told_load file file_fault.Absent = fault.Absent file
 told_load file file_fault.Failed = fault.Failed file
 told_load file file_fault.Memory = fault.Memory
-
--- no text was loaded under a name
-abbrev pub IsUnloaded : List Source → (name : List ℕ) → FileFault → List Source → NameFault → Type 0
-IsUnloaded before name load after f = IsShort before after f ⊎ ((after ≡ and_source before name []) × (f ≡ told_load (length before) load))
 
 -- a file was loaded under a name
 pub record IsLoaded (held : Option (List ℕ → Option (List ℕ))) (before : List Source) (name : List ℕ) (after : List Source) (e : Ended) : Type 0 where

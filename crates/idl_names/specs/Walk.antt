@@ -1,5 +1,5 @@
 -- The walk through the files: each file by its attributes, then its imports, then its declarations. An import is walked in its place.
-use Rattle.std.specs.Prelude.{◌≡◌, ◌⊎◌, ℕ, ◌≤◌, ◌<◌, Bool, true, false, eqb, List, [], ◌∷◌, ◌++◌, map, length, Option, Some, None, Ok, Err}
+use Rattle.std.specs.Prelude.{◌≡◌, ◌⊎◌, ℕ, ◌≤◌, ◌<◌, Bool, true, false, eqb, List, [], ◌∷◌, ◌++◌, map, drop, length, Option, Some, None, Ok, Err}
 use Rattle.std.specs.List.{list_any}
 use Rattle.nd_base.specs.declared.octets.Place.{Place}
 use Rattle.nd_base.specs.Outside.{IsContent, IsMissing}
@@ -20,6 +20,9 @@ use Rattle.idl_names.specs.Files.{IsFile, IsNoFile}
 -- the greatest number of files
 abbrev pub most_files : ℕ
 most_files = 64
+
+abbrev pub names_of : List Source → List (List ℕ)
+names_of sources = map (λ s. s.name) sources
 
 -- how far a walk has come
 pub record State : Type 0 where
@@ -137,3 +140,9 @@ IsUndefinedFault held main t sources _ = ⊥
 -- The first fault: of the walk, else of a tag behind pointers.
 abbrev pub IsRefused : Option (List ℕ → Option (List ℕ)) → List Source → Tree → List Source → NameFault → Type 0
 IsRefused held main t sources f = Walk held (start main) (all_of 0 t) (Stopped sources f) ⊎ IsUndefinedFault held main t sources f
+
+-- The names that were asked for since are those of the files after the main one whose load a walk begins, in its order, up to where it stops.
+pub record AsksAlong (held : Option (List ℕ → Option (List ℕ))) (main : List Source) (t : Tree) (before after : List (List ℕ)) : Type 0 where
+  pub reached : List Source
+  pub walk : Walk held (start main) (all_of 0 t) (Stopped reached fault.Memory)
+  pub asked : after ≡ before ++ names_of (drop (length main) reached)

@@ -1,14 +1,14 @@
 // Imported files.
-ghost use Rattle.std.specs.Prelude.{◌≡◌, ◌≤◌, ◌<◌, length, IfOk, IfErr, IsErrOf, OnOk, OnErr};
-ghost use Rattle.nd_base.specs.Counts.{Rose};
+ghost use Rattle.std.specs.Prelude.{◌≡◌, ℕ, ◌≤◌, ◌<◌, List, [], length, IfOk, IfErr, OnOk, OnErr};
 ghost use Rattle.idl_lexer.specs.Verdict.{AreTokens};
 ghost use Rattle.idl_grammar.specs.Seen.{seen_tree};
 ghost use Rattle.idl_names.specs.declared.name_fault.NameFault.TheVariants as faults;
 ghost use Rattle.idl_names.specs.Causes.{IsAbsent, IsFailed};
 ghost use Rattle.idl_names.specs.Files.{IsFile};
-ghost use Rattle.idl_names.specs.Loads.{IsFaultOf, IsOfText, told_syntax, IsRead, IsReadFault, IsUnloaded, IsLoaded, IsLoadFault};
+ghost use Rattle.idl_names.specs.Going.{Asked};
+ghost use Rattle.idl_names.specs.Loads.{IsFaultOf, IsOfText, told_syntax, told_load, IsLoaded, IsLoadFault};
 ghost use Rattle.idl_names.specs.Seen.{seen_file};
-ghost use Rattle.idl_names.specs.Sources.{and_source};
+ghost use Rattle.idl_names.specs.Sources.{Source, and_source};
 ghost use Rattle.idl_names.specs.Walk.{most_files};
 
 use crate::{FILES_LIMIT, FileTree, NameFault, Sources};
@@ -63,57 +63,50 @@ fn tree_of(alloc: Global, file: u16, text: &[u8]) -> Result<Tree, NameFault>
     }
 }
 
-/// Adds a file whose load was begun.
-fn begin(sources: &mut Sources, name: &str, text: Octets) -> Result<u16, NameFault>
+/// Adds a file whose load begins. It has no text yet.
+fn begin(alloc: Global, sources: &mut Sources, name: &str) -> Result<u16, NameFault>
     requires { length sources.old < FILES_LIMIT }
     ensures number { IfOk result (λ file. file ≡ length sources.old) }
-    ensures ok { OnOk result (sources.new ≡ and_source sources.old name.now text) }
+    ensures ok { OnOk result (sources.new ≡ and_source sources.old name.now []) }
     ensures err { OnErr result (sources.new ≡ sources.old) }
     ensures fault { IfErr result (λ f. f ≡ faults.Memory) }
 {
-    match sources.add(name, text) {
+    match sources.add(name, Octets::new(alloc)) {
         Ok(file) => Ok(file),
         Err(_) => Err(NameFault::Memory),
     }
 }
 
-/// Adds a file that was loaded, and reads it.
+/// Gives a file that was loaded its text, and reads it.
 fn read(
     alloc: Global,
     sources: &mut Sources,
-    name: &str,
+    file: u16,
     text: Octets,
 ) -> Result<FileTree, NameFault>
-    requires { length sources.old < FILES_LIMIT }
-    ensures ok { IfOk result (λ f. IsRead sources.old name.now text sources.new (seen_file f)) }
-    ensures err { IfErr result (IsReadFault sources.old name.now text sources.new) }
+    requires { file < length sources.old }
+    ensures filled { (before : List Source) (name : List ℕ) → file ≡ length before → sources.old ≡ and_source before name [] → sources.new ≡ and_source before name text }
+    ensures number { IfOk result (λ f. f.file ≡ file) }
+    ensures tree { IfOk result (λ f. IsFile text (seen_tree f.tree)) }
+    ensures fault { IfErr result (IsFaultOf file text) }
 {
-    let file = begin(sources, name, text)?;
-    let Some(text) = sources.text(file) else {
-        unreachable!();
-    };
-    let tree = tree_of(alloc, file, text)?;
-    Ok(FileTree { file, tree })
+    let tree = tree_of(alloc, file, text.as_slice());
+    sources.fill(file, text);
+    Ok(FileTree { file, tree: tree? })
 }
 
-/// Adds a file that was not loaded.
-fn unloaded(alloc: Global, sources: &mut Sources, name: &str, fault: FileFault) -> NameFault
-    requires { length sources.old < FILES_LIMIT }
-    ensures { IsUnloaded sources.old name.now fault sources.new result }
+/// The fault of a file that was not loaded.
+fn unloaded(file: u16, fault: FileFault) -> NameFault
+    ensures { result ≡ told_load file fault }
 {
-    if fault == FileFault::Memory {
-        return NameFault::Memory;
-    }
-    match begin(sources, name, Octets::new(alloc)) {
-        Ok(file) => match fault {
-            FileFault::Absent => NameFault::Absent { file },
-            _ => NameFault::Failed { file },
-        },
-        Err(fault) => fault,
+    match fault {
+        FileFault::Absent => NameFault::Absent { file },
+        FileFault::Failed => NameFault::Failed { file },
+        FileFault::Memory => NameFault::Memory,
     }
 }
 
-/// Loads a file, adds it, and reads it.
+/// Adds a file, loads it, and reads it.
 pub(crate) fn load<F: Files>(
     alloc: Global,
     files: &mut F,
@@ -128,11 +121,13 @@ pub(crate) fn load<F: Files>(
     ensures later { F.faults files.old ≤ F.faults files.new }
     ensures absences_later { F.absences files.old ≤ F.absences files.new }
     ensures same { F.held files.new ≡ F.held files.old }
+    ensures asked { Asked (F.asked files.old) sources.old (F.asked files.new) sources.new }
     ensures few { length sources.new ≤ most_files }
     ensures more { length sources.old ≤ length sources.new }
 {
+    let file = begin(alloc, sources, name)?;
     match files.load(alloc, name) {
-        Ok(text) => read(alloc, sources, name, text),
-        Err(fault) => Err(unloaded(alloc, sources, name, fault)),
+        Ok(text) => read(alloc, sources, file, text),
+        Err(fault) => Err(unloaded(file, fault)),
     }
 }

@@ -1,5 +1,5 @@
 // The names of all files.
-ghost use Rattle.std.specs.Prelude.{◌≡◌, ◌≤◌, ◌<◌, [], ◌∷◌, ◌++◌, map, length, IfOk, IfErr};
+ghost use Rattle.std.specs.Prelude.{◌≡◌, ◌≤◌, ◌<◌, [], ◌∷◌, ◌++◌, map, drop, length, IfOk, IfErr};
 ghost use Rattle.std.specs.List.{flat_map};
 ghost use Rattle.idl_grammar.specs.Seen.{seen_tree, seen_import};
 ghost use Rattle.idl_names.specs.declared.name_fault.NameFault.TheVariants as faults;
@@ -7,7 +7,7 @@ ghost use Rattle.idl_names.specs.Causes.{IsAbsent, IsFailed};
 ghost use Rattle.idl_names.specs.Going.{point, Went};
 ghost use Rattle.idl_names.specs.Seen.{seen_files, seen_scope};
 ghost use Rattle.idl_names.specs.Sources.{file_number};
-ghost use Rattle.idl_names.specs.Walk.{IsResolved, IsRefused, Load, load_of, all_of, has_ended, most_files};
+ghost use Rattle.idl_names.specs.Walk.{IsResolved, IsRefused, AsksAlong, Load, load_of, all_of, has_ended, names_of, most_files};
 
 use crate::declarations::exports;
 use crate::known::NameTables;
@@ -48,9 +48,9 @@ fn import<F: Files>(
     string: &Spelling,
 ) -> Result<(), NameFault>
     requires { length sources.old ≤ most_files }
-    ensures { Went (point (F.held files.old) (F.absences files.old) (F.faults files.old) (seen_scope sources.old scope.old))
+    ensures { Went (point (F.held files.old) (F.asked files.old) (F.absences files.old) (F.faults files.old) (seen_scope sources.old scope.old))
         (load_of file string.now ∷ [])
-        (point (F.held files.new) (F.absences files.new) (F.faults files.new) (seen_scope sources.new scope.new)) [] result }
+        (point (F.held files.new) (F.asked files.new) (F.absences files.new) (F.faults files.new) (seen_scope sources.new scope.new)) [] result }
 {
     let place = Place {
         file,
@@ -79,9 +79,9 @@ fn import_all<F: Files>(
     strings: &[Spelling],
 ) -> Result<(), NameFault>
     requires { length sources.old ≤ most_files }
-    ensures { Went (point (F.held files.old) (F.absences files.old) (F.faults files.old) (seen_scope sources.old scope.old))
+    ensures { Went (point (F.held files.old) (F.asked files.old) (F.absences files.old) (F.faults files.old) (seen_scope sources.old scope.old))
         (map (load_of file) strings.now)
-        (point (F.held files.new) (F.absences files.new) (F.faults files.new) (seen_scope sources.new scope.new)) [] result }
+        (point (F.held files.new) (F.asked files.new) (F.absences files.new) (F.faults files.new) (seen_scope sources.new scope.new)) [] result }
 {
     for string in strings {
         import(alloc, files, sources, scope, file, string)?;
@@ -100,9 +100,9 @@ fn imports<F: Files>(
     list: &[Import],
 ) -> Result<(), NameFault>
     requires { length sources.old ≤ most_files }
-    ensures { Went (point (F.held files.old) (F.absences files.old) (F.faults files.old) (seen_scope sources.old scope.old))
+    ensures { Went (point (F.held files.old) (F.asked files.old) (F.absences files.old) (F.faults files.old) (seen_scope sources.old scope.old))
         (map (load_of file) (flat_map (λ m. m.files) (map seen_import list.now)))
-        (point (F.held files.new) (F.absences files.new) (F.faults files.new) (seen_scope sources.new scope.new)) [] result }
+        (point (F.held files.new) (F.asked files.new) (F.absences files.new) (F.faults files.new) (seen_scope sources.new scope.new)) [] result }
 {
     for one in list {
         import_all(alloc, files, sources, scope, file, one.files.as_slice())?;
@@ -120,9 +120,9 @@ fn whole<F: Files>(
     of: FileTree,
 ) -> Result<(), NameFault>
     requires { length sources.old ≤ most_files }
-    ensures { Went (point (F.held files.old) (F.absences files.old) (F.faults files.old) (seen_scope sources.old scope.old))
+    ensures { Went (point (F.held files.old) (F.asked files.old) (F.absences files.old) (F.faults files.old) (seen_scope sources.old scope.old))
         (all_of of.file (seen_tree of.tree))
-        (point (F.held files.new) (F.absences files.new) (F.faults files.new) (seen_scope sources.new scope.new)) [] result }
+        (point (F.held files.new) (F.asked files.new) (F.absences files.new) (F.faults files.new) (seen_scope sources.new scope.new)) [] result }
 {
     let FileTree { file, tree } = of;
     attributes(&scope.names, file, &tree.attributes)?;
@@ -137,8 +137,8 @@ fn whole<F: Files>(
 /// its attributes, its imports and its declarations; one that is imported again is loaded once. Only the main file's operations are read. That
 /// all files have one space of names is this project's own choice.
 ///
-/// At every exit `sources` has, after the main file, each file whose load was begun, in that order; a file whose load did not answer Ok
-/// has an empty text. After Memory the last of them may be missing.
+/// At every exit `sources` has, after the main file, each file that was asked for, in that order, and no other; a file whose load did not
+/// answer Ok has an empty text. A file is asked for where the walk comes to its import, and once.
 ///
 /// # Errors
 /// The first fault of the walk. `NameFault` has the reasons. Memory where memory was wanting.
@@ -158,6 +158,8 @@ pub fn resolve<F: Files>(
     ensures later { F.faults files.old ≤ F.faults files.new }
     ensures absences_later { F.absences files.old ≤ F.absences files.new }
     ensures same { F.held files.new ≡ F.held files.old }
+    ensures asked { AsksAlong (F.held files.old) sources.old (seen_tree tree) (F.asked files.old) (F.asked files.new) }
+    ensures all_asked { F.asked files.new ≡ F.asked files.old ++ names_of (drop (length sources.old) sources.new) }
 {
     let mut scope = Scope {
         files: FileTrees::new(alloc),

@@ -151,7 +151,7 @@ one_first t u text rest after a b s r = by t u a b s r (same_kind t u text (begi
 
 -- ## What follows is no longer
 
-character_less : (text : List ℕ) (b : ℕ) (after : List ℕ) → character text ≡ Some (b, after) → length after ≤ length text
+pub character_less : (text : List ℕ) (b : ℕ) (after : List ℕ) → character text ≡ Some (b, after) → length after < length text
 character_less [] b after e = cc
 character_less (c ∷ cs) b after e = by (eqb c 92) refl e where
   pair : (cs : List ℕ) → hex_pair cs ≡ Some (b, after) → length after ≤ length cs
@@ -170,11 +170,11 @@ character_less (c ∷ cs) b after e = by (eqb c 92) refl e where
     by_mark false true e = omega (arith, pair ds e)
     by_mark false false e = cc
 
-  plain : (t : Bool) → cond {A = Option (ℕ × List ℕ)} t (Some (c, cs)) None ≡ Some (b, after) → length after ≤ length (c ∷ cs)
+  plain : (t : Bool) → cond {A = Option (ℕ × List ℕ)} t (Some (c, cs)) None ≡ Some (b, after) → length after < length (c ∷ cs)
   plain true e = let f : cs ≡ after = ap (λ x. x.1) (same_Some _ _ e) in omega (arith, ap length f)
   plain false e = cc
 
-  by : (t : Bool) → eqb c 92 ≡ t → cond {A = Option (ℕ × List ℕ)} t (escape cs) (cond (is_plain c) (Some (c, cs)) None) ≡ Some (b, after) → length after ≤ length (c ∷ cs)
+  by : (t : Bool) → eqb c 92 ≡ t → cond {A = Option (ℕ × List ℕ)} t (escape cs) (cond (is_plain c) (Some (c, cs)) None) ≡ Some (b, after) → length after < length (c ∷ cs)
   by true h e = omega (arith, escaped cs e)
   by false h e = plain (is_plain c) e
 

@@ -1,4 +1,5 @@
 pub mod Lines
+pub mod Places
 pub mod Printed
 pub mod Classes
 pub mod Runs
@@ -9,6 +10,9 @@ pub mod SpelledTokens
 pub mod KeptTokens
 pub mod GraphLines
 pub mod LegalNames
+pub mod CarriedNodes
+pub mod NamedBefore
+pub mod CanonReadable
 pub mod OneText
 pub mod PlainGraphs
 pub mod PlainTexts
@@ -18,5 +22,7 @@ pub mod PlainSteps
 pub mod PlainReading
 pub mod OneFault
 pub mod PrintedReads
+pub mod OneOfTwo
 pub mod Tested
 pub mod WorkedTexts
+pub mod WorkedPrinted

@@ -30,7 +30,7 @@ no_character text e = by (character text) refl e where
   by None c e = c
   by (Some x) c e = cc
 
-quote_ends : (after : List ℕ) (x : ℕ × List ℕ) → character (34 ∷ after) ≡ Some x → ⊥
+pub quote_ends : (after : List ℕ) (x : ℕ × List ℕ) → character (34 ∷ after) ≡ Some x → ⊥
 quote_ends after x e = cc
 
 pub one_more : (body rest after : List ℕ) → Reaches body rest → behind_character rest ≡ Some after → Reaches body after

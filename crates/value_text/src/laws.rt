@@ -1,6 +1,6 @@
 //! Laws of value texts, each the contract of a function that does nothing.
 
-ghost use Rattle.std.specs.Prelude.{◌≡◌, ◌≤◌, ℕ, List, length};
+ghost use Rattle.std.specs.Prelude.{◌≡◌, ◌≤◌, ◌⊎◌, ℕ, List, length};
 ghost use Rattle.nd_graph.specs.declared.value.Graph.{Graph};
 ghost use Rattle.nd_graph.specs.Setting.{Setting};
 ghost use Rattle.nd_graph.specs.Conforms.{Conforms};
@@ -11,10 +11,10 @@ ghost use Rattle.value_text.specs.Printed.{IsText};
 ghost use Rattle.value_text.specs.PlainSide.{IsPlainSide};
 ghost use Rattle.value_text.specs.Reads.{ReadsAs, IsTextFault};
 
-/// What is printed of a graph is read as its canonical form: of a plain side of a legal interface, within the limit.
+/// What is printed of a graph that conforms is read as its canonical form: of each side of a legal interface, within the limit.
 pub fn reading_after_printing()
     ensures { (w : Setting) (g : Graph) (text : List ℕ) (t : IsText w g text)
-        → IsPlainSide w → IsLegalSide w → Conforms w g → length text ≤ TEXT_LIMIT
+        → IsLegalSide w → Conforms w g → length text ≤ TEXT_LIMIT
         → ReadsAs w text t.canonical }
 {}
 
@@ -41,7 +41,8 @@ pub fn one_fault()
         → why ≡ why' }
 {}
 
-/// Temporary.
-pub fn temporary()
-    ensures { (w : Setting) → w ≡ w }
+/// A text of a plain side is read as a graph, or it has a fault.
+pub fn one_of_two()
+    ensures { (w : Setting) (text : List ℕ) → IsPlainSide w
+        → ((g : Graph) × ReadsAs w text g) ⊎ ((line : ℕ) × (column : ℕ) × (why : TextReason) × IsTextFault w text line column why) }
 {}

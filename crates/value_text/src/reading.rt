@@ -1,6 +1,7 @@
 // Reading of value texts. Numbers are the only values that are read yet.
 ghost use Rattle.std.specs.Prelude.{◌≡◌, ◌++◌, ◌∷◌, [], ℕ, ℤ, ◌<◌, ◌≤◌, ◌^◌, List, length, map, Some, IfOk, IfErr};
 ghost use Rattle.std.specs.List.{slice_get, AllByRecursion};
+ghost use Rattle.nd_base.specs.Text.{position as position_by};
 ghost use Rattle.nd_types.specs.declared.types.Operation.{Operation};
 ghost use Rattle.nd_types.specs.Numbers.{IsNumberSide};
 ghost use Rattle.nd_graph.specs.declared.value.Graph.{Graph};
@@ -99,6 +100,16 @@ fn plain_text(
     })
 }
 
+/// Line and column after octets within the limit of a text.
+#[tactic(auto, using(crate::proofs::Places::line_low, crate::proofs::Places::column_low))]
+fn place_after(octets: &[u8]) -> (u32, u32)
+    requires { length octets.now ≤ TEXT_LIMIT }
+    ensures { result ≡ position_by 1 1 octets.now }
+{
+    let (line, column) = position(octets);
+    (line as u32, column as u32)
+}
+
 /// Where a text within its limit was not read on, as a line and a column.
 fn fault_of(text: &[u8], stop: Stop) -> TextFault
     requires short { length text.now ≤ TEXT_LIMIT }
@@ -108,10 +119,10 @@ fn fault_of(text: &[u8], stop: Stop) -> TextFault
     match stop {
         Stop::Memory => TextFault::Memory,
         Stop::At { left, reason } => {
-            let (line, column) = position(&text[..text.len() - left]);
+            let (line, column) = place_after(&text[..text.len() - left]);
             TextFault::At {
-                line: line as u32,
-                column: column as u32,
+                line,
+                column,
                 reason,
             }
         }

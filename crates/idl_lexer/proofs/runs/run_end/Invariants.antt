@@ -1,6 +1,6 @@
 use Rattle.std.proofs.Common.{◌≡◌, ℕ, ◌-◌, ◌<◌, ◌≤◌, length, true}
 use Rattle.std.specs.Prelude.{slice_index}
-use Rattle.idl_lexer.specs.Classes.{is_word_octet}
+use Rattle.nd_base.specs.Text.{is_word_octet}
 use Rattle.idl_lexer.proofs.runs.run_end.Given as goal
 
 abbrev pub invariant-loop-end : goal.invariant-loop-end

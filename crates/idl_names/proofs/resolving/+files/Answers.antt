@@ -19,13 +19,13 @@ use Rattle.idl_names.proofs.resolving.+files.Goals as goal
 
 pub import-returns-in_err-name : goal.import-returns-in_err-name
 import-returns-in_err-name g t c =
-    let p : Point = point (g.F.Files.held c.args.files.now) (g.F.Files.absences c.args.files.now) (g.F.Files.faults c.args.files.now) (seen_scope c.args.sources.now c.args.scope.now) in
+    let p : Point = point (g.F.Files.held c.args.files.now) (g.F.Files.asked c.args.files.now) (g.F.Files.absences c.args.files.now) (g.F.Files.faults c.args.files.now) (seen_scope c.args.sources.now c.args.scope.now) in
     let dues = load_of c.args.file c.args.string.now ∷ [] in
     passed_on p p dues [] c.from_residual.result fault.Memory c.from_residual.ensures.1 (going.stops_short p dues fault.Memory refl c.requires)
 
 pub import-returns-in-Some : goal.import-returns-in-Some
 import-returns-in-Some g t c =
-    let p : Point = point (g.F.Files.held c.args.files.now) (g.F.Files.absences c.args.files.now) (g.F.Files.faults c.args.files.now) (seen_scope c.args.sources.now c.args.scope.now) in
+    let p : Point = point (g.F.Files.held c.args.files.now) (g.F.Files.asked c.args.files.now) (g.F.Files.absences c.args.files.now) (g.F.Files.faults c.args.files.now) (seen_scope c.args.sources.now c.args.scope.now) in
     let name = file_named c.args.string.now.octets in
     let is : c.as_str.result.now ≡ name = c.as_str.ensures.value ∙ (c.in_ok-name.ensures ∙ ap file_named c.as_slice.ensures) in
     going.again_went p (place_in c.args.file c.args.string.now) name c.requires c.in-Some.number tt
@@ -33,7 +33,7 @@ import-returns-in-Some g t c =
 
 pub import-returns-in-Some-2 : goal.import-returns-in-Some-2
 import-returns-in-Some-2 g t c =
-    let p : Point = point (g.F.Files.held c.args.files.now) (g.F.Files.absences c.args.files.now) (g.F.Files.faults c.args.files.now) (seen_scope c.args.sources.now c.args.scope.now) in
+    let p : Point = point (g.F.Files.held c.args.files.now) (g.F.Files.asked c.args.files.now) (g.F.Files.absences c.args.files.now) (g.F.Files.faults c.args.files.now) (seen_scope c.args.sources.now c.args.scope.now) in
     let name = file_named c.args.string.now.octets in
     let is : c.as_str.result.now ≡ name = c.as_str.ensures.value ∙ (c.in_ok-name.ensures ∙ ap file_named c.as_slice.ensures) in
     going.cycle_went p (place_in c.args.file c.args.string.now) name c.requires c.in-Some.number
@@ -41,7 +41,7 @@ import-returns-in-Some-2 g t c =
 
 pub import-returns-in-None : goal.import-returns-in-None
 import-returns-in-None g t c =
-    let p : Point = point (g.F.Files.held c.args.files.now) (g.F.Files.absences c.args.files.now) (g.F.Files.faults c.args.files.now) (seen_scope c.args.sources.now c.args.scope.now) in
+    let p : Point = point (g.F.Files.held c.args.files.now) (g.F.Files.asked c.args.files.now) (g.F.Files.absences c.args.files.now) (g.F.Files.faults c.args.files.now) (seen_scope c.args.sources.now c.args.scope.now) in
     let name = file_named c.args.string.now.octets in
     let is : c.as_str.result.now ≡ name = c.as_str.ensures.value ∙ (c.in_ok-name.ensures ∙ ap file_named c.as_slice.ensures) in
     going.too_many_went p (place_in c.args.file c.args.string.now) name c.requires
@@ -49,33 +49,33 @@ import-returns-in-None g t c =
 
 pub import-returns : goal.import-returns
 import-returns g t c =
-    let p : Point = point (g.F.Files.held c.args.files.now) (g.F.Files.absences c.args.files.now) (g.F.Files.faults c.args.files.now) (seen_scope c.args.sources.now c.args.scope.now) in
-    let q : Point = point (g.F.Files.held c.load.new.files) (g.F.Files.absences c.load.new.files) (g.F.Files.faults c.load.new.files) (seen_scope c.load.new.sources c.args.scope.now) in
-    let r : Point = point (g.F.Files.held c.whole.new.files) (g.F.Files.absences c.whole.new.files) (g.F.Files.faults c.whole.new.files) (seen_scope c.whole.new.sources c.whole.new.scope) in
+    let p : Point = point (g.F.Files.held c.args.files.now) (g.F.Files.asked c.args.files.now) (g.F.Files.absences c.args.files.now) (g.F.Files.faults c.args.files.now) (seen_scope c.args.sources.now c.args.scope.now) in
+    let q : Point = point (g.F.Files.held c.load.new.files) (g.F.Files.asked c.load.new.files) (g.F.Files.absences c.load.new.files) (g.F.Files.faults c.load.new.files) (seen_scope c.load.new.sources c.args.scope.now) in
+    let r : Point = point (g.F.Files.held c.whole.new.files) (g.F.Files.asked c.whole.new.files) (g.F.Files.absences c.whole.new.files) (g.F.Files.faults c.whole.new.files) (seen_scope c.whole.new.sources c.whole.new.scope) in
     let name = file_named c.args.string.now.octets in
     let is : c.as_str.result.now ≡ name = c.as_str.ensures.value ∙ (c.in_ok-name.ensures ∙ ap file_named c.as_slice.ensures) in
     let same : c.as_str-in-None-2.result.now ≡ name = c.as_str-in-None-2.ensures.value ∙ (c.in_ok-name.ensures ∙ ap file_named c.as_slice.ensures) in
     going.enters_went p (place_in c.args.file c.args.string.now) name c.requires q r (seen_file c.in_ok-loaded-in-None-2.loaded) c.whole.result
     (ap (file_number c.args.sources.now) (sym is) ∙ sym c.in-None.ensures) (omega (arith, c.if-count-ge-WALK_LIMIT.false, c.count.ensures))
     (subst (λ (n : List ℕ). IsLoaded p.held p.state.sources n q.state.sources (seen_file c.in_ok-loaded-in-None-2.loaded)) same c.in_ok-loaded-in-None-2.ensures.ok)
-    refl refl c.in_ok-loaded-in-None-2.ensures.same c.in_ok-loaded-in-None-2.ensures.later c.in_ok-loaded-in-None-2.ensures.absences_later c.in_ok-loaded-in-None-2.ensures.more
+    refl refl c.in_ok-loaded-in-None-2.ensures.same c.in_ok-loaded-in-None-2.ensures.asked c.in_ok-loaded-in-None-2.ensures.later c.in_ok-loaded-in-None-2.ensures.absences_later c.in_ok-loaded-in-None-2.ensures.more
     c.whole.ensures
 
 -- ## import_all
 
 pub import_all-returns-in_err-import : goal.import_all-returns-in_err-import
 import_all-returns-in_err-import g t c =
-    let p : Point = point (g.F.Files.held c.args.files.now) (g.F.Files.absences c.args.files.now) (g.F.Files.faults c.args.files.now) (seen_scope c.args.sources.now c.args.scope.now) in
-    let q : Point = point (g.F.Files.held c.loop-string.files) (g.F.Files.absences c.loop-string.files) (g.F.Files.faults c.loop-string.files) (seen_scope c.loop-string.sources c.loop-string.scope) in
-    let r : Point = point (g.F.Files.held c.import.new.files) (g.F.Files.absences c.import.new.files) (g.F.Files.faults c.import.new.files) (seen_scope c.import.new.sources c.import.new.scope) in
+    let p : Point = point (g.F.Files.held c.args.files.now) (g.F.Files.asked c.args.files.now) (g.F.Files.absences c.args.files.now) (g.F.Files.faults c.args.files.now) (seen_scope c.args.sources.now c.args.scope.now) in
+    let q : Point = point (g.F.Files.held c.loop-string.files) (g.F.Files.asked c.loop-string.files) (g.F.Files.absences c.loop-string.files) (g.F.Files.faults c.loop-string.files) (seen_scope c.loop-string.sources c.loop-string.scope) in
+    let r : Point = point (g.F.Files.held c.import.new.files) (g.F.Files.asked c.import.new.files) (g.F.Files.absences c.import.new.files) (g.F.Files.faults c.import.new.files) (seen_scope c.import.new.sources c.import.new.scope) in
     passed_on p r (loads c.args.file c.args.strings.now) (loads c.args.file (drop (c.loop-string.string-index + 1) c.args.strings.now)) c.from_residual.result c.in_err-import.field-0.0 c.from_residual.ensures.1
     (going.next_item (loads c.args.file) (λ x. load_of c.args.file x ∷ []) refl (one_load c.args.file) c.args.strings.now p q r (loads c.args.file c.args.strings.now) c.loop-string.string-index c.string-item.result
     0 (Err c.in_err-import.field-0.0) (omega arith) c.string-item.is c.loop-string.invariant c.in_err-import.ensures)
 
 pub import_all-returns : goal.import_all-returns
 import_all-returns g t c =
-    let p : Point = point (g.F.Files.held c.args.files.now) (g.F.Files.absences c.args.files.now) (g.F.Files.faults c.args.files.now) (seen_scope c.args.sources.now c.args.scope.now) in
-    let q : Point = point (g.F.Files.held c.loop-string.files) (g.F.Files.absences c.loop-string.files) (g.F.Files.faults c.loop-string.files) (seen_scope c.loop-string.sources c.loop-string.scope) in
+    let p : Point = point (g.F.Files.held c.args.files.now) (g.F.Files.asked c.args.files.now) (g.F.Files.absences c.args.files.now) (g.F.Files.faults c.args.files.now) (seen_scope c.args.sources.now c.args.scope.now) in
+    let q : Point = point (g.F.Files.held c.loop-string.files) (g.F.Files.asked c.loop-string.files) (g.F.Files.absences c.loop-string.files) (g.F.Files.faults c.loop-string.files) (seen_scope c.loop-string.sources c.loop-string.scope) in
     going.any_value p q (loads c.args.file c.args.strings.now) [] 0 tt
     (going.no_item (loads c.args.file) (λ x. load_of c.args.file x ∷ []) refl (one_load c.args.file) c.args.strings.now p q (loads c.args.file c.args.strings.now) c.loop-string.string-index 0 (omega arith) c.loop-string.invariant)
 
@@ -83,9 +83,9 @@ import_all-returns g t c =
 
 pub imports-returns-in_err-import_all : goal.imports-returns-in_err-import_all
 imports-returns-in_err-import_all g t c =
-    let p : Point = point (g.F.Files.held c.args.files.now) (g.F.Files.absences c.args.files.now) (g.F.Files.faults c.args.files.now) (seen_scope c.args.sources.now c.args.scope.now) in
-    let q : Point = point (g.F.Files.held c.loop-one.files) (g.F.Files.absences c.loop-one.files) (g.F.Files.faults c.loop-one.files) (seen_scope c.loop-one.sources c.loop-one.scope) in
-    let r : Point = point (g.F.Files.held c.import_all.new.files) (g.F.Files.absences c.import_all.new.files) (g.F.Files.faults c.import_all.new.files) (seen_scope c.import_all.new.sources c.import_all.new.scope) in
+    let p : Point = point (g.F.Files.held c.args.files.now) (g.F.Files.asked c.args.files.now) (g.F.Files.absences c.args.files.now) (g.F.Files.faults c.args.files.now) (seen_scope c.args.sources.now c.args.scope.now) in
+    let q : Point = point (g.F.Files.held c.loop-one.files) (g.F.Files.asked c.loop-one.files) (g.F.Files.absences c.loop-one.files) (g.F.Files.faults c.loop-one.files) (seen_scope c.loop-one.sources c.loop-one.scope) in
+    let r : Point = point (g.F.Files.held c.import_all.new.files) (g.F.Files.asked c.import_all.new.files) (g.F.Files.absences c.import_all.new.files) (g.F.Files.faults c.import_all.new.files) (seen_scope c.import_all.new.sources c.import_all.new.scope) in
     passed_on p r (loads_of c.args.file c.args.list.now) (loads_of c.args.file (drop (c.loop-one.one-index + 1) c.args.list.now)) c.from_residual.result c.in_err-import_all.field-0.0 c.from_residual.ensures.1
     (going.next_item (loads_of c.args.file) (λ m. loads c.args.file m.files.items) refl (one_import c.args.file) c.args.list.now p q r (loads_of c.args.file c.args.list.now) c.loop-one.one-index c.one-item.result
     0 (Err c.in_err-import_all.field-0.0) (omega arith) c.one-item.is c.loop-one.invariant
@@ -93,8 +93,8 @@ imports-returns-in_err-import_all g t c =
 
 pub imports-returns : goal.imports-returns
 imports-returns g t c =
-    let p : Point = point (g.F.Files.held c.args.files.now) (g.F.Files.absences c.args.files.now) (g.F.Files.faults c.args.files.now) (seen_scope c.args.sources.now c.args.scope.now) in
-    let q : Point = point (g.F.Files.held c.loop-one.files) (g.F.Files.absences c.loop-one.files) (g.F.Files.faults c.loop-one.files) (seen_scope c.loop-one.sources c.loop-one.scope) in
+    let p : Point = point (g.F.Files.held c.args.files.now) (g.F.Files.asked c.args.files.now) (g.F.Files.absences c.args.files.now) (g.F.Files.faults c.args.files.now) (seen_scope c.args.sources.now c.args.scope.now) in
+    let q : Point = point (g.F.Files.held c.loop-one.files) (g.F.Files.asked c.loop-one.files) (g.F.Files.absences c.loop-one.files) (g.F.Files.faults c.loop-one.files) (seen_scope c.loop-one.sources c.loop-one.scope) in
     going.any_value p q (loads_of c.args.file c.args.list.now) [] 0 tt
     (going.no_item (loads_of c.args.file) (λ m. loads c.args.file m.files.items) refl (one_import c.args.file) c.args.list.now p q (loads_of c.args.file c.args.list.now) c.loop-one.one-index 0 (omega arith) c.loop-one.invariant)
 
@@ -102,7 +102,7 @@ imports-returns g t c =
 
 pub whole-returns-in_err-attributes : goal.whole-returns-in_err-attributes
 whole-returns-in_err-attributes g t c =
-    let p : Point = point (g.F.Files.held c.args.files.now) (g.F.Files.absences c.args.files.now) (g.F.Files.faults c.args.files.now) (seen_scope c.args.sources.now c.args.scope.now) in
+    let p : Point = point (g.F.Files.held c.args.files.now) (g.F.Files.asked c.args.files.now) (g.F.Files.absences c.args.files.now) (g.F.Files.faults c.args.files.now) (seen_scope c.args.sources.now c.args.scope.now) in
     let file = c.args.of.file in
     let t = seen_tree c.args.of.tree in
     passed_on p p (all_of file t) (going.behind_attributes file t) c.from_residual.result c.in_err-attributes.field-0.0 c.from_residual.ensures.1
@@ -110,8 +110,8 @@ whole-returns-in_err-attributes g t c =
 
 pub whole-returns-in_err-imports : goal.whole-returns-in_err-imports
 whole-returns-in_err-imports g t c =
-    let p : Point = point (g.F.Files.held c.args.files.now) (g.F.Files.absences c.args.files.now) (g.F.Files.faults c.args.files.now) (seen_scope c.args.sources.now c.args.scope.now) in
-    let q : Point = point (g.F.Files.held c.imports.new.files) (g.F.Files.absences c.imports.new.files) (g.F.Files.faults c.imports.new.files) (seen_scope c.imports.new.sources c.imports.new.scope) in
+    let p : Point = point (g.F.Files.held c.args.files.now) (g.F.Files.asked c.args.files.now) (g.F.Files.absences c.args.files.now) (g.F.Files.faults c.args.files.now) (seen_scope c.args.sources.now c.args.scope.now) in
+    let q : Point = point (g.F.Files.held c.imports.new.files) (g.F.Files.asked c.imports.new.files) (g.F.Files.absences c.imports.new.files) (g.F.Files.faults c.imports.new.files) (seen_scope c.imports.new.sources c.imports.new.scope) in
     let file = c.args.of.file in
     let t = seen_tree c.args.of.tree in
     let strings : List Spelling = flat_map (λ m. m.files) (map seen_import c.as_slice.result.now) in
@@ -122,8 +122,8 @@ whole-returns-in_err-imports g t c =
 
 pub whole-returns-in_err-exports : goal.whole-returns-in_err-exports
 whole-returns-in_err-exports g t c =
-    let p : Point = point (g.F.Files.held c.args.files.now) (g.F.Files.absences c.args.files.now) (g.F.Files.faults c.args.files.now) (seen_scope c.args.sources.now c.args.scope.now) in
-    let q : Point = point (g.F.Files.held c.imports.new.files) (g.F.Files.absences c.imports.new.files) (g.F.Files.faults c.imports.new.files) (seen_scope c.imports.new.sources c.imports.new.scope) in
+    let p : Point = point (g.F.Files.held c.args.files.now) (g.F.Files.asked c.args.files.now) (g.F.Files.absences c.args.files.now) (g.F.Files.faults c.args.files.now) (seen_scope c.args.sources.now c.args.scope.now) in
+    let q : Point = point (g.F.Files.held c.imports.new.files) (g.F.Files.asked c.imports.new.files) (g.F.Files.absences c.imports.new.files) (g.F.Files.faults c.imports.new.files) (seen_scope c.imports.new.sources c.imports.new.scope) in
     let file = c.args.of.file in
     let t = seen_tree c.args.of.tree in
     let strings : List Spelling = flat_map (λ m. m.files) (map seen_import c.as_slice.result.now) in
@@ -135,8 +135,8 @@ whole-returns-in_err-exports g t c =
 
 pub whole-returns-in_err-push : goal.whole-returns-in_err-push
 whole-returns-in_err-push g t c =
-    let p : Point = point (g.F.Files.held c.args.files.now) (g.F.Files.absences c.args.files.now) (g.F.Files.faults c.args.files.now) (seen_scope c.args.sources.now c.args.scope.now) in
-    let q : Point = point (g.F.Files.held c.imports.new.files) (g.F.Files.absences c.imports.new.files) (g.F.Files.faults c.imports.new.files) (seen_scope c.imports.new.sources c.imports.new.scope) in
+    let p : Point = point (g.F.Files.held c.args.files.now) (g.F.Files.asked c.args.files.now) (g.F.Files.absences c.args.files.now) (g.F.Files.faults c.args.files.now) (seen_scope c.args.sources.now c.args.scope.now) in
+    let q : Point = point (g.F.Files.held c.imports.new.files) (g.F.Files.asked c.imports.new.files) (g.F.Files.absences c.imports.new.files) (g.F.Files.faults c.imports.new.files) (seen_scope c.imports.new.sources c.imports.new.scope) in
     let file = c.args.of.file in
     let t = seen_tree c.args.of.tree in
     let strings : List Spelling = flat_map (λ m. m.files) (map seen_import c.as_slice.result.now) in
@@ -150,8 +150,8 @@ whole-returns-in_err-push g t c =
 
 pub whole-returns : goal.whole-returns
 whole-returns g t c =
-    let p : Point = point (g.F.Files.held c.args.files.now) (g.F.Files.absences c.args.files.now) (g.F.Files.faults c.args.files.now) (seen_scope c.args.sources.now c.args.scope.now) in
-    let q : Point = point (g.F.Files.held c.imports.new.files) (g.F.Files.absences c.imports.new.files) (g.F.Files.faults c.imports.new.files) (seen_scope c.imports.new.sources c.imports.new.scope) in
+    let p : Point = point (g.F.Files.held c.args.files.now) (g.F.Files.asked c.args.files.now) (g.F.Files.absences c.args.files.now) (g.F.Files.faults c.args.files.now) (seen_scope c.args.sources.now c.args.scope.now) in
+    let q : Point = point (g.F.Files.held c.imports.new.files) (g.F.Files.asked c.imports.new.files) (g.F.Files.absences c.imports.new.files) (g.F.Files.faults c.imports.new.files) (seen_scope c.imports.new.sources c.imports.new.scope) in
     let file = c.args.of.file in
     let t = seen_tree c.args.of.tree in
     let strings : List Spelling = flat_map (λ m. m.files) (map seen_import c.as_slice.result.now) in
