@@ -1,10 +1,12 @@
 -- What the program makes of the types of a scene.
-use Rattle.std.proofs.Common.{◌≡◌, ℕ, ◌≤◌, drop, Bool, true, false, ◌||◌, inl, inr, List, [], ◌∷◌, ◌++◌, map, length, Option, Some, None, is_none, option_map, ℤ, pos, refl, sym, ap, arith, ◌∙◌}
-use Rattle.std.specs.List.{flat_map, slice_get, list_any}
-use Rattle.std.specs.Prelude.{Result, IfOk}
+use Rattle.std.proofs.Common.{◌≡◌, ℕ, ◌≤◌, drop, ◌<◌, Bool, true, false, ◌||◌, ◌&&◌, inl, inr, get_or, List, [], ◌∷◌, ◌++◌, map, length, Option, Some, None, is_none, option_map, ℤ, pos, refl, sym, ap, arith, ◌∙◌}
+use Rattle.std.specs.List.{flat_map, slice_get, list_any, list_all}
+use Rattle.std.specs.Prelude.{Result, IfOk, nat_le}
 use Rattle.std.proofs.lemmas.Result.{IfOk-weaker}
 use Rattle.std.specs.Option.{option_and_then}
-use Rattle.std.proofs.lemmas.Option.{slice_get_within, slice_get_cases, same_Some}
+use Rattle.std.proofs.lemmas.Option.{slice_get_within, slice_get_cases, slice_get_past, slice_get_read, slice_get-map, same_Some}
+use Rattle.std.proofs.lemmas.List.Folds.{list_all-append}
+use Rattle.std.proofs.lemmas.Bool.{leb-true, lt-ltb}
 use Rattle.nd_base.specs.declared.octets.Place.{Place}
 use Rattle.nd_types.specs.declared.types.TypeId.{TypeId}
 use Rattle.nd_types.specs.declared.types.TypeDef.{TypeDef}
@@ -14,12 +16,16 @@ use Rattle.idl_grammar.specs.declared.words.Spelling.{Spelling}
 use Rattle.idl_grammar.specs.declared.types.Discriminant.{Discriminant}
 use Rattle.idl_grammar.specs.Tree.{TypeSpec, Members, Cases, Arms, Arm, Enumerator}
 use Rattle.idl_grammar.specs.Tree as tree
+use Rattle.idl_grammar.specs.declared.types.TypeSpec as program_type
+use Rattle.idl_grammar.specs.declared.types.TypeSpec.TheVariants as type
 use Rattle.idl_grammar.specs.Seen.{seen_type}
 use Rattle.idl_names.specs.Known.{Known}
 use Rattle.idl_rules.specs.declared.kinds.Kind.{Kind}
+use Rattle.idl_rules.specs.declared.nodes.Node.{Node}
 use Rattle.idl_rules.specs.declared.nodes.Node.TheVariants as node
 use Rattle.idl_rules.specs.declared.nodes.Nodes.{Nodes}
 use Rattle.idl_rules.specs.declared.types.Types.{Types}
+use Rattle.idl_rules.specs.declared.types.BodyTypes.{BodyTypes}
 use Rattle.idl_rules.specs.declared.numbering.Own.{Own}
 use Rattle.idl_rules.specs.declared.numbering.Numbers.{Numbers}
 use Rattle.idl_rules.specs.declared.definitions.FoundBody.{FoundBody}
@@ -38,8 +44,11 @@ use Rattle.idl_rules.specs.SeenOperations.{HasTags}
 use Rattle.idl_rules.specs.SeenNumbers.{AreNumbers, seen_own, seen_needed}
 use Rattle.idl_rules.specs.Meaning.{number, field, arm_for, name_of_arm, type_of_arm, arm_by, labelled_arms, default_by, first_arm, default_arm, or_handle, or_zero, struct_of, defined_at, body_if, is_struct, is_union, is_enum, definition, types_of}
 use Rattle.nd_types.specs.Kinds.{basic_types}
+use Rattle.nd_types.specs.declared.TheConstants.{ELEMENT_LIMIT}
+use Rattle.nd_types.specs.Legal.{has_small_bound}
+use Rattle.nd_types.proofs.LegalLaws.{passes_at}
 use Rattle.idl_rules.proofs.Gathering.{gathered}
-use Rattle.idl_rules.specs.Made.{id, ids_of, tag_id, field_with, each_with, valued, type_for, types_past, arm_with, arms_with, default_with, IsFound}
+use Rattle.idl_rules.specs.Made.{id, ids_of, tag_id, field_with, each_with, valued, type_for, types_past, arm_with, arms_with, default_with, is_narrow, is_encapsulated, IsFound}
 
 -- ## Numbers
 
@@ -216,6 +225,45 @@ pub enum_made : (s : Scene) (ks : List Kind) (place : Place) (f : FoundBody) (at
     → (h : IsFound s ks place f) → seen_type f.body.now ≡ tree.Enum at tag es → def.Enum (map (λ e. or_zero (world.number_of s.known e.name.octets)) es) ≡ definition s (Enum place)
 enum_made s ks place f at tag es h e = ap (λ o. defined_at s (body_if is_enum o)) (sym (there_as s ks place f (tree.Enum at tag es) h e))
 
+-- ## Bodies of another kind
+
+none_if : (s : Scene) (ks : List Kind) (place : Place) (f : FoundBody) (test : TypeSpec → Bool) → IsFound s ks place f → test (seen_type f.body.now) ≡ false
+    → def.Enum [] ≡ defined_at s (body_if test (body_of s place))
+none_if s ks place f test h e =
+    sym (ap (λ o. defined_at s (body_if test o)) h.there ∙ ap (λ b. defined_at s (elim b [ true ↦ Some h.body | false ↦ None ])) (ap test h.type ∙ e))
+
+not_enum : (t : program_type.TypeSpec) → ((at : _) (tag : _) (es : _) → t ≡ program_type.Enum at tag es → ⊥) → is_enum (seen_type t) ≡ false
+not_enum (type.Enum at tag es) h = absurd (h at tag es refl)
+not_enum (type.Simple t) h = refl
+not_enum (type.Name n) h = refl
+not_enum (type.Tag at kind tag) h = refl
+not_enum (type.Struct' at tag z row) h = refl
+not_enum (type.EncapsulatedUnion' at tag d name z row) h = refl
+not_enum (type.NonEncapsulatedUnion' at tag z row) h = refl
+
+pub struct_made_as : (s : Scene) (ks : List Kind) (t : Numbers) (place : Place) (f : FoundBody) (u : TypeSpec) → AreNumbers s ks t → IsFound s ks place f → seen_type f.body.now ≡ u → is_struct u ≡ true
+    → struct_of (each_with (field_with (parts_declared (seen_construct f.construct.now) (seen_type f.body.now))) (parts_declared (seen_construct f.construct.now) (seen_type f.body.now))
+    (ids_of ks t f.noted.now.parts.items))
+    ≡ definition s (Struct place)
+struct_made_as s ks t place f (tree.Struct at tag ms) n h e i = struct_made s ks t place f at tag ms n h e
+struct_made_as s ks t place f _ n h e i = absurd (cc)
+
+pub union_made_as : (s : Scene) (ks : List Kind) (t : Numbers) (place : Place) (f : FoundBody) (u : TypeSpec) → AreNumbers s ks t → IsFound s ks place f → seen_type f.body.now ≡ u → is_union u ≡ true
+    → union_with ks t s.known (is_encapsulated u) f ≡ definition s (Union place)
+union_made_as s ks t place f (tree.EncapsulatedUnion at tag d name cs) n h e i = encapsulated_made s ks t place f at tag d name cs n h e
+union_made_as s ks t place f (tree.NonEncapsulatedUnion at tag arms) n h e i = nonencapsulated_made s ks t place f at tag arms n h e
+union_made_as s ks t place f _ n h e i = absurd (cc)
+
+pub other_struct : (s : Scene) (ks : List Kind) (place : Place) (f : FoundBody) → IsFound s ks place f → is_struct (seen_type f.body.now) ≡ false → def.Enum [] ≡ definition s (Struct place)
+other_struct s ks place f h e = none_if s ks place f is_struct h e
+
+pub other_union : (s : Scene) (ks : List Kind) (place : Place) (f : FoundBody) → IsFound s ks place f → is_union (seen_type f.body.now) ≡ false → def.Enum [] ≡ definition s (Union place)
+other_union s ks place f h e = none_if s ks place f is_union h e
+
+pub other_enum : (s : Scene) (ks : List Kind) (place : Place) (f : FoundBody) → IsFound s ks place f → ((at : _) (tag : _) (es : _) → f.body.now ≡ program_type.Enum at tag es → ⊥)
+    → def.Enum [] ≡ definition s (Enum place)
+other_enum s ks place f h other = none_if s ks place f is_enum h (not_enum f.body.now other)
+
 -- ## The types from number 12 on
 
 own_types_are : (s : Scene) (xs : List Needed) → map (λ p. definition s p.0) (map seen_needed xs) ≡ map (λ n. definition s n.type) xs
@@ -228,6 +276,33 @@ own_kinds_are s ks (x ∷ xs) = ap (λ l. definition s (type_at ks x.kind) ∷ l
 
 pub own_made : (s : Scene) (ks : List Kind) (t : Numbers) → AreNumbers s ks t → map (λ o. definition s (type_at ks o.kind)) t.own.items ≡ map (λ n. definition s n.type) (own_types s)
 own_made s ks t h = sym (own_kinds_are s ks t.own.items) ∙ (ap (map (λ p. definition s p.0)) (sym h.own) ∙ own_types_are s (own_types s))
+
+second_true : (a b : Bool) → (a && b) ≡ true → b ≡ true
+second_true true b h = h
+second_true false b h = absurd (cc)
+
+-- a bound from 1 to the limit
+abbrev is_dimension : Option ℕ → Bool
+is_dimension None = true
+is_dimension (Some n) = nat_le 1 n && nat_le n ELEMENT_LIMIT
+
+pub narrow_bound : (b : Option ℕ) → is_dimension b ≡ true → is_narrow b ≡ true
+narrow_bound None h = refl
+narrow_bound (Some n) h =
+    let e : nat_le n ELEMENT_LIMIT ≡ true = second_true (nat_le 1 n) (nat_le n ELEMENT_LIMIT) h in
+    let f : n ≤ 16777216 = leb-true n 16777216 e in
+    lt-ltb n 4294967296 (omega (arith, f))
+
+-- each of them has a small bound, where all types of the table have
+pub own_bound : (s : Scene) (ks : List Kind) (t : Numbers) → AreNumbers s ks t → list_all has_small_bound (types_of s) ≡ true → (xs : List Own) → xs ≡ t.own.items
+    → (i : ℕ) (o : Own) → i < length xs → o ≡ get_or xs i o → has_small_bound (definition s (type_at ks o.kind)) ≡ true
+own_bound s ks t h all xs same i o below is =
+    let d : Own → TypeDef = λ o. definition s (type_at ks o.kind) in
+    let own : list_all has_small_bound (map (λ n. definition s n.type) (own_types s)) ≡ true =
+    second_true (list_all has_small_bound basic_types) (list_all has_small_bound (map (λ n. definition s n.type) (own_types s)))
+    (sym (list_all-append has_small_bound basic_types (map (λ n. definition s n.type) (own_types s))) ∙ all) in
+    let here : list_all has_small_bound (map d xs) ≡ true = ap (λ (l : List Own). list_all has_small_bound (map d l)) same ∙ ap (list_all has_small_bound) (own_made s ks t h) ∙ own in
+    passes_at has_small_bound (map d xs) i (d o) here (slice_get-map d xs i ∙ ap (option_map d) (slice_get_read xs (length xs) i o refl below is))
 
 -- ## Bodies
 
@@ -248,6 +323,42 @@ found_with s n t place i b f h tags there at noted same =
       parts = (h.body i b f.noted.now at noted).parts;
       tag = tags.tag i b f.noted.now at noted;
     }
+
+-- nothing is noted of it
+pub not_noted : (s : Scene) (n : Nodes) (t : Types) (place : Place) (i : ℕ) → IsTypes s n t → found_place place t.by_place ≡ Some i → slice_get t.bodies.items i ≡ None → body_of s place ≡ None
+not_noted s n t place i h found none =
+    elim (slice_get_cases t.bodies.items i).1 [
+      | inl w ↦ absurd (let e : None ≡ Some w.0 = sym none ∙ w.2 in cc)
+      | inr w ↦ h.first place ∙ ap (λ o. option_and_then (λ i. slice_get (bodies s) i) o) found ∙ slice_get_past (bodies s) i (omega (arith, w.0, h.body_count))
+    ]
+
+abbrev is_body_node : Option Node → Bool
+is_body_node (Some (node.Body c x)) = true
+is_body_node _ = false
+
+is_body_by : (names : Names) (body : Body) (o : Option Node) → body_at names o ≡ Some body → is_body_node o ≡ true
+is_body_by names body (Some (node.Body c x)) h = refl
+is_body_by names body _ h = absurd (cc)
+
+-- what is noted of a body names its node
+noted_is_body : (s : Scene) (n : Nodes) (t : Types) (i : ℕ) (b : BodyTypes) → IsTypes s n t → slice_get t.bodies.items i ≡ Some b → is_body_node (slice_get n.items.items b.node) ≡ true
+noted_is_body s n t i b h noted =
+    elim (slice_get_cases (bodies s) i).1 [
+      | inl w ↦ is_body_by (names_at s.known n b.node) w.0 (slice_get n.items.items b.node) (h.body i w.0 b w.2 noted).node
+      | inr w ↦ absurd (omega (arith, w.0, h.body_count, slice_get_within t.bodies.items i b noted))
+    ]
+
+pub has_node : (s : Scene) (n : Nodes) (t : Types) (i : ℕ) (b : BodyTypes) → IsTypes s n t → slice_get t.bodies.items i ≡ Some b → slice_get n.items.items b.node ≡ None → ⊥
+has_node s n t i b h noted none = let e = sym (ap is_body_node none) ∙ noted_is_body s n t i b h noted in let f : false ≡ true = e in cc
+
+other_node : (x : Node) → ((c : _) (b : _) → x ≡ node.Body c b → ⊥) → is_body_node (Some x) ≡ false
+other_node (node.Body c b) h = absurd (h c b refl)
+other_node _ h = refl
+
+pub has_body_node : (s : Scene) (n : Nodes) (t : Types) (i : ℕ) (b : BodyTypes) (x : Node) → IsTypes s n t → slice_get t.bodies.items i ≡ Some b → slice_get n.items.items b.node ≡ Some x
+    → ((c : _) (y : _) → x ≡ node.Body c y → ⊥) → ⊥
+has_body_node s n t i b x h noted there other =
+    let e = sym (other_node x other) ∙ ap is_body_node (sym there) ∙ noted_is_body s n t i b h noted in let f : false ≡ true = e in cc
 
 pub found_is : (s : Scene) (n : Nodes) (t : Types) (place : Place) (i : ℕ) (f : FoundBody) → IsTypes s n t → HasTags s t
     → found_place place t.by_place ≡ Some i → slice_get t.bodies.items i ≡ Some f.noted.now → slice_get n.items.items f.noted.now.node ≡ Some (node.Body f.construct.now f.body)

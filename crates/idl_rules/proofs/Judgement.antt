@@ -25,7 +25,7 @@ nodes_of : (known : Known) (names : Names) (ns : List Node) → map (λ n. n.nod
 nodes_of known names [] = refl
 nodes_of known names (n ∷ ns) = ap (λ l. n ∷ l) (nodes_of known (names_behind known names n) ns)
 
-scene_nodes : (w : World) → map (λ n. n.node) (scene_of w).nodes ≡ nodes w
+pub scene_nodes : (w : World) → map (λ n. n.node) (scene_of w).nodes ≡ nodes w
 unfolding scene_of
 scene_nodes w = nodes_of w.known [] (nodes w)
 

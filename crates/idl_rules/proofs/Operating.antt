@@ -1,5 +1,5 @@
 -- What the program makes of the operations of a scene.
-use Rattle.std.proofs.Common.{◌≡◌, ℕ, ◌+◌, ◌<◌, ◌≤◌, inl, inr, length, get_or, drop, arith, List, [], ◌∷◌, ◌++◌, map, Some, refl, sym, ap, ◌∙◌}
+use Rattle.std.proofs.Common.{◌≡◌, ℕ, ◌+◌, ◌<◌, ◌≤◌, inl, inr, length, get_or, drop, arith, List, [], ◌∷◌, ◌++◌, map, Bool, true, false, Option, Some, None, Vec, refl, sym, ap, ◌∙◌}
 use Rattle.std.specs.List.{flat_map, slice_get}
 use Rattle.std.proofs.lemmas.Option.{same_Some, slice_get_within, slice_get_cases, slice_get_read}
 use Rattle.std.proofs.lemmas.List.{map-append}
@@ -7,6 +7,8 @@ use Rattle.nd_types.specs.declared.types.Operation.{Operation}
 use Rattle.idl_rules.specs.declared.kinds.Kind.{Kind}
 use Rattle.idl_rules.specs.declared.nodes.Nodes.{Nodes}
 use Rattle.idl_rules.specs.declared.nodes.Returned.{Returned}
+use Rattle.idl_rules.specs.declared.nodes.Declared as declared
+use Rattle.idl_rules.specs.declared.nodes.Node as program_node
 use Rattle.idl_rules.specs.declared.nodes.Node.TheVariants as node
 use Rattle.idl_rules.specs.declared.numbering.Numbers.{Numbers}
 use Rattle.idl_rules.specs.declared.types.OperationTypes.{OperationTypes}
@@ -19,7 +21,7 @@ use Rattle.idl_rules.specs.Kinds.{type_at}
 use Rattle.idl_rules.specs.SeenNodes.{list_at}
 use Rattle.idl_rules.specs.SeenTypes.{names_at}
 use Rattle.idl_rules.specs.SeenNumbers.{AreNumbers}
-use Rattle.idl_rules.specs.SeenOperations.{Called, called, called_by, called_at, IsOperation, HasOperations}
+use Rattle.idl_rules.specs.SeenOperations.{Called, called, called_by, called_at, is_operation_node, IsOperation, HasOperations}
 use Rattle.idl_rules.specs.Meaning.{number, parameter, operation_in, operations_of, result_number}
 use Rattle.idl_rules.specs.Made.{ids_of, each_with, parameter_with, operation_made}
 use Rattle.idl_rules.proofs.Defining.{ids_are}
@@ -86,6 +88,31 @@ step_with : (s : Scene) (i : ℕ) (o : Called) → i < length (called s) → sli
     → next ++ map (operation_made s) (drop (i + 1) (called s)) ≡ all
 step_with s i o below at is done next e all before =
     gather (map (operation_made s)) (made_one s) (made_cons s) (called s) all done next i o below (sym is) e before
+
+is_operation_by : {A : Type 0} (lists : List (Vec declared.Declared A)) (names : Names) (o : Called) (x : Option program_node.Node) → called_at lists names x ≡ Some o → is_operation_node x ≡ true
+is_operation_by lists names o (Some (node.Operation it parameters)) h = refl
+is_operation_by lists names o _ h = absurd (cc)
+
+-- what is noted of an operation names its node
+pub noted_is_operation : (s : Scene) (n : Nodes) (t : Types) (xs : List OperationTypes) (i : ℕ) (noted : OperationTypes) → HasOperations s n t → xs ≡ t.operations.items
+    → i < length xs → noted ≡ get_or xs i noted → is_operation_node (slice_get n.items.items noted.node) ≡ true
+noted_is_operation s n t xs i noted h same below is =
+    let there : slice_get t.operations.items i ≡ Some noted = ap (λ l. slice_get l i) (sym same) ∙ slice_get_read xs (length xs) i noted refl below is in
+    let within : i < length t.operations.items = slice_get_within t.operations.items i noted there in
+    elim (slice_get_cases (called s) i).1 [
+      | inl w ↦ is_operation_by n.lists.items (names_at s.known n noted.node) w.0 (slice_get n.items.items noted.node) (h.operation i w.0 noted w.2 there).node
+      | inr w ↦ absurd (omega (arith, w.0, h.count, within))
+    ]
+
+other_node : (x : program_node.Node) → ((it : _) (p : _) → x ≡ node.Operation it p → ⊥) → is_operation_node (Some x) ≡ false
+other_node (node.Operation it p) h = absurd (h it p refl)
+other_node _ h = refl
+
+pub has_node : (o : Option program_node.Node) → is_operation_node o ≡ true → o ≡ None → ⊥
+has_node o h none = let f : false ≡ true = sym (ap is_operation_node none) ∙ h in cc
+
+pub has_operation_node : (o : Option program_node.Node) (x : program_node.Node) → is_operation_node o ≡ true → o ≡ Some x → ((it : _) (p : _) → x ≡ node.Operation it p → ⊥) → ⊥
+has_operation_node o x h there other = let f : false ≡ true = sym (other_node x other) ∙ ap is_operation_node (sym there) ∙ h in cc
 
 -- one more operation
 pub operations_step : (s : Scene) (n : Nodes) (t : Types) (xs : List OperationTypes) (i : ℕ) (noted : OperationTypes) → HasOperations s n t → xs ≡ t.operations.items

@@ -1,5 +1,5 @@
 -- Members, parameters and arms over the numbers of their types, as the program makes them.
-use Rattle.std.specs.Prelude.{◌≡◌, ℕ, true, false, List, [], ◌∷◌, ◌++◌, map, Option, Some, None, is_none, option_map, ℤ, pos, codes}
+use Rattle.std.specs.Prelude.{◌≡◌, ℕ, ◌^◌, Bool, true, false, ltb, List, [], ◌∷◌, ◌++◌, map, Option, Some, None, is_none, option_map, ℤ, pos, codes}
 use Rattle.std.specs.List.{flat_map, list_any}
 use Rattle.nd_types.specs.declared.types.TypeId.{TypeId}
 use Rattle.nd_types.specs.declared.types.Field.{Field}
@@ -14,7 +14,7 @@ use Rattle.nd_types.specs.declared.types.TypeDef.TheVariants as def
 use Rattle.nd_types.specs.declared.TheConstants.{HANDLE}
 use Rattle.nd_types.specs.declared.types.Primitive.{Primitive}
 use Rattle.idl_grammar.specs.declared.attributes.Variable.{Variable}
-use Rattle.idl_grammar.specs.Tree.{Attribute, Label}
+use Rattle.idl_grammar.specs.Tree.{Attribute, Label, TypeSpec}
 use Rattle.idl_grammar.specs.Tree as tree
 use Rattle.idl_grammar.specs.Seen.{seen_type}
 use Rattle.idl_names.specs.Known.{Known}
@@ -52,6 +52,11 @@ ids_of ks t kinds = map (λ k. id (number_at ks t k)) kinds
 abbrev pub tag_id : List Kind → Numbers → Option ℕ → TypeId
 tag_id ks t None = HANDLE
 tag_id ks t (Some k) = id (number_at ks t k)
+
+-- a bound of 32 bits
+abbrev pub is_narrow : Option ℕ → Bool
+is_narrow None = true
+is_narrow (Some n) = ltb n (2 ^ 32)
 
 -- ## Members and parameters
 
@@ -156,6 +161,11 @@ default_with (a ∷ more) ts =
     elim (list_any is_none a.labels) [ true ↦ Some (arm_for a.name (type_for a.name ts) (pos 0)) | false ↦ default_with more (types_past a.name ts) ]
 
 -- ## Bodies
+
+-- the body of a union that has its discriminant with it
+abbrev pub is_encapsulated : TypeSpec → Bool
+is_encapsulated (tree.EncapsulatedUnion at tag d name cases) = true
+is_encapsulated _ = false
 
 -- the body that was found at a place, where it has one
 pub record IsFound (s : Scene) (ks : List Kind) (place : Place) (f : FoundBody) : Type 0 where

@@ -1,5 +1,5 @@
 -- What is noted of operations, and of the tags of unions.
-use Rattle.std.specs.Prelude.{◌≡◌, ℕ, List, [], ◌∷◌, map, length, Option, Some, None, option_map, Vec}
+use Rattle.std.specs.Prelude.{◌≡◌, ℕ, Bool, true, false, List, [], ◌∷◌, map, length, Option, Some, None, option_map, Vec}
 use Rattle.std.specs.List.{flat_map, slice_get}
 use Rattle.idl_grammar.specs.declared.words.Spelling.{Spelling}
 use Rattle.idl_grammar.specs.Tree.{TypeSpec}
@@ -49,6 +49,11 @@ abbrev pub called_at : {A : Type 0} → List (Vec declared.Declared A) → Names
 called_at lists names (Some (node.Operation it parameters)) =
     Some (record { names = names; construct = seen_construct it.construct; name = it.name.now; parameters = list_at lists parameters; result = seen_type it.of.now })
 called_at lists names _ = None
+
+-- the node of an operation
+abbrev pub is_operation_node : Option program_node.Node → Bool
+is_operation_node (Some (node.Operation it parameters)) = true
+is_operation_node _ = false
 
 -- what is noted of an operation
 pub record IsOperation (s : Scene) (n : program_nodes.Nodes) (ks : List Kind) (o : Called) (t : OperationTypes) : Type 0 where

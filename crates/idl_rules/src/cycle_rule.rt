@@ -175,14 +175,14 @@ fn least_value(
     Ok(key)
 }
 
-/// Where a breach of a body is told.
-fn place_told(nodes: &Nodes<'_>, body: &BodyTypes) -> Option<Place>
+/// Where a breach of a body is reported: the beginning of its construct. Without its node that is the place of its tag.
+fn place_told(nodes: &Nodes<'_>, body: &BodyTypes) -> Place
     ensures { (known : Known) (b : Body) → body_at (names_at known nodes.now body.now.node) (slice_get nodes.now.items.items body.now.node) ≡ Some b
-        → result ≡ Some (place_in b.construct b.construct.at) }
+        → result ≡ place_in b.construct b.construct.at }
 {
     match nodes.items.get(body.node as usize) {
-        Some(Node::Body { construct, .. }) => Some(construct.place(construct.at)),
-        _ => None,
+        Some(Node::Body { construct, .. }) => construct.place(construct.at),
+        _ => body.place,
     }
 }
 
@@ -198,9 +198,7 @@ fn keys(
 {
     let mut keys = Vec::new(alloc);
     for body in &types.bodies {
-        let Some(place) = place_told(nodes, body) else {
-            return Err(Memory);
-        };
+        let place = place_told(nodes, body);
         let Ok(rank) = u32::try_from(finder.rank(place.file)) else {
             return Err(Memory);
         };
@@ -235,7 +233,7 @@ fn told(nodes: &Nodes<'_>, types: &Types, number: u64) -> Option<Place>
         → result ≡ Some (place_in b.construct b.construct.at) }
 {
     match types.bodies.get(number as usize) {
-        Some(body) => place_told(nodes, body),
+        Some(body) => Some(place_told(nodes, body)),
         None => None,
     }
 }

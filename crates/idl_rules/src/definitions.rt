@@ -1,8 +1,8 @@
 // The types of an interface.
+ghost use Rattle.std.specs.Prelude.{◌≡◌, true, [], None, map, option_map, slice_get, List, MatchOption, IfOk};
 ghost use Rattle.std.specs.List.{list_all};
-ghost use Rattle.std.specs.Prelude.{◌≡◌, [], true, None, map, option_map, slice_get, List, MatchOption, IfOk};
 ghost use Rattle.nd_types.specs.declared.types.TypeDef.TheVariants as def;
-ghost use Rattle.nd_types.specs.Legal.{has_named_parts};
+ghost use Rattle.nd_types.specs.Legal.{has_small_bound, has_named_parts};
 ghost use Rattle.idl_grammar.specs.Seen.{seen_type, seen_enumerator};
 ghost use Rattle.idl_names.specs.Seen.{known_in};
 ghost use Rattle.idl_rules.specs.World as world;
@@ -13,7 +13,8 @@ ghost use Rattle.idl_rules.specs.Scene.{body_of, parts_declared};
 ghost use Rattle.idl_rules.specs.Kinds.{type_by, type_at, basic_in, seen_class};
 ghost use Rattle.idl_rules.specs.SeenNodes.{seen_construct};
 ghost use Rattle.idl_rules.specs.SeenNumbers.{number_at};
-ghost use Rattle.idl_rules.specs.Made.{id, ids_of, tag_id, field_with, each_with, valued, arms_with, default_with, basic_made, IsFound, IsProgram, scene_in};
+ghost use Rattle.idl_rules.specs.Made as made;
+ghost use Rattle.idl_rules.specs.Made.{id, ids_of, tag_id, field_with, each_with, valued, arms_with, default_with, basic_made, is_narrow, IsFound, IsProgram, scene_in};
 
 use crate::arms::{default_arm, labelled_arms, valued_arms};
 use crate::kinds::{Class, Kind};
@@ -67,28 +68,28 @@ pub(crate) fn node_at<'s, 't>(nodes: &'s Nodes<'t>, number: u32) -> Option<&'s N
     nodes.items.get(number as usize)
 }
 
-/// The body of a place. What is noted of a body names its node; another would be told as want of memory.
-fn body_at<'s, 't>(
-    program: &Program<'s, 't>,
-    place: Place,
-) -> Result<Option<FoundBody<'s, 't>>, Memory>
+/// The body of a place.
+fn body_at<'s, 't>(program: &Program<'s, 't>, place: Place) -> Option<FoundBody<'s, 't>>
     requires { IsProgram program.now }
-    ensures { IfOk result (λ found. MatchOption found (body_of (scene_in program.now) place ≡ None) (IsFound (scene_in program.now) program.now.types.now.kinds place)) }
+    ensures { MatchOption result (body_of (scene_in program.now) place ≡ None) (IsFound (scene_in program.now) program.now.types.now.kinds place) }
 {
     let Some(number) = program.types.body_of(place) else {
-        return Ok(None);
+        return None;
     };
     let Some(noted) = noted_at(program.types, number) else {
-        return Err(Memory);
+        return None;
     };
-    match node_at(program.nodes, noted.node) {
-        Some(Node::Body { construct, body }) => Ok(Some(FoundBody {
-            construct,
-            body,
-            noted,
-        })),
-        _ => Err(Memory),
-    }
+    let Some(node) = node_at(program.nodes, noted.node) else {
+        unreachable!();
+    };
+    let Node::Body { construct, body } = node else {
+        unreachable!();
+    };
+    Some(FoundBody {
+        construct,
+        body,
+        noted,
+    })
 }
 
 /// An enumerated type without values.
@@ -197,66 +198,97 @@ fn enum_of(alloc: Global, scope: &Scope, enumerators: &[Enumerator]) -> Result<T
     Ok(TypeDef::Enum { values })
 }
 
-/// What a place is as a struct. In files that are resolved its body is a struct; another would be told as want of memory.
+/// Whether a body is a struct's.
+fn is_struct(body: &TypeSpec) -> bool
+    ensures { result ≡ meaning.is_struct (seen_type body.now) }
+{
+    match body {
+        TypeSpec::Struct { .. } => true,
+        _ => false,
+    }
+}
+
+/// Whether a body is a union's.
+fn is_union(body: &TypeSpec) -> bool
+    ensures { result ≡ meaning.is_union (seen_type body.now) }
+{
+    match body {
+        TypeSpec::EncapsulatedUnion { .. } => true,
+        TypeSpec::NonEncapsulatedUnion { .. } => true,
+        _ => false,
+    }
+}
+
+/// Whether a body is that of a union that has its discriminant with it.
+fn is_encapsulated(body: &TypeSpec) -> bool
+    ensures { result ≡ made.is_encapsulated (seen_type body.now) }
+{
+    match body {
+        TypeSpec::EncapsulatedUnion { .. } => true,
+        _ => false,
+    }
+}
+
+/// What a place is as a struct. In files that are resolved its body is a struct; another is as none.
 fn struct_at(alloc: Global, program: &Program<'_, '_>, place: Place) -> Result<TypeDef, Memory>
     requires { IsProgram program.now }
     ensures made { IfOk result (λ d. d ≡ meaning.definition (scene_in program.now) (Struct place)) }
     ensures named { IfOk result (λ d. has_named_parts d ≡ true) }
 {
-    let Some(found) = body_at(program, place)? else {
+    let Some(found) = body_at(program, place) else {
         return Ok(nothing(alloc));
     };
-    match found.body {
-        TypeSpec::Struct { .. } => struct_of(alloc, program, &found),
-        _ => Err(Memory),
+    if is_struct(found.body) {
+        return struct_of(alloc, program, &found);
     }
+    Ok(nothing(alloc))
 }
 
-/// What a place is as a union. In files that are resolved its body is a union; another would be told as want of memory.
+/// What a place is as a union. In files that are resolved its body is a union; another is as none.
 fn union_at(alloc: Global, program: &Program<'_, '_>, place: Place) -> Result<TypeDef, Memory>
     requires { IsProgram program.now }
     ensures made { IfOk result (λ d. d ≡ meaning.definition (scene_in program.now) (Union place)) }
     ensures named { IfOk result (λ d. has_named_parts d ≡ true) }
 {
-    let Some(found) = body_at(program, place)? else {
+    let Some(found) = body_at(program, place) else {
         return Ok(nothing(alloc));
     };
-    match found.body {
-        TypeSpec::EncapsulatedUnion { .. } => union_of(alloc, program, true, &found),
-        TypeSpec::NonEncapsulatedUnion { .. } => union_of(alloc, program, false, &found),
-        _ => Err(Memory),
+    if is_union(found.body) {
+        return union_of(alloc, program, is_encapsulated(found.body), &found);
     }
+    Ok(nothing(alloc))
 }
 
-/// What a place is as an enumerated type. In files that are resolved its body is an enum; another would be told as want of memory.
+/// What a place is as an enumerated type. In files that are resolved its body is an enum; another is as none.
 fn enum_at(alloc: Global, program: &Program<'_, '_>, place: Place) -> Result<TypeDef, Memory>
     requires { IsProgram program.now }
     ensures made { IfOk result (λ d. d ≡ meaning.definition (scene_in program.now) (Enum place)) }
     ensures named { IfOk result (λ d. has_named_parts d ≡ true) }
 {
-    let Some(found) = body_at(program, place)? else {
+    let Some(found) = body_at(program, place) else {
         return Ok(nothing(alloc));
     };
-    match found.body {
-        TypeSpec::Enum { enumerators, .. } => enum_of(alloc, program.scope, enumerators.as_slice()),
-        _ => Err(Memory),
-    }
+    let TypeSpec::Enum { enumerators, .. } = found.body else {
+        return Ok(nothing(alloc));
+    };
+    enum_of(alloc, program.scope, enumerators.as_slice())
 }
 
-/// A count. Where no rule is broken it has 32 bits; a larger one would be told as want of memory.
-fn bound(count: Option<i128>) -> Result<Option<u32>, Memory>
-    ensures { IfOk result (λ b. b ≡ meaning.bound count) }
+/// A bound, where there is one.
+fn bound(count: Option<i128>) -> Option<u32>
+    requires { is_narrow (meaning.bound count) ≡ true }
+    ensures { result ≡ meaning.bound count }
 {
     let Some(count) = count else {
-        return Ok(None);
+        return None;
     };
     if count < 0 {
-        return Ok(Some(0));
+        return Some(0);
     }
-    match u32::try_from(count) {
-        Ok(count) => Ok(Some(count)),
-        Err(_) => Err(Memory),
-    }
+    let Ok(count) = u32::try_from(count) else {
+        unreachable!();
+    };
+    Some(count)
 }
 
 /// An array.
@@ -265,26 +297,26 @@ fn array(
     element: u32,
     count: Option<i128>,
     varying: bool,
-) -> Result<TypeDef, Memory>
-    ensures { IfOk result (λ d. d ≡ def.Array (id (number_at program.now.types.now.kinds program.now.numbers.now element)) (meaning.bound count) varying) }
+) -> TypeDef
+    requires { is_narrow (meaning.bound count) ≡ true }
+    ensures { result ≡ def.Array (id (number_at program.now.types.now.kinds program.now.numbers.now element)) (meaning.bound count) varying }
 {
-    let bound = bound(count)?;
-    Ok(TypeDef::Array {
+    TypeDef::Array {
         elem: number_of(program, element),
-        bound,
+        bound: bound(count),
         varying,
-    })
+    }
 }
 
 /// A text.
-fn text(program: &Program<'_, '_>, element: u32, count: Option<i128>) -> Result<TypeDef, Memory>
-    ensures { IfOk result (λ d. d ≡ def.Text (id (number_at program.now.types.now.kinds program.now.numbers.now element)) (meaning.bound count)) }
+fn text(program: &Program<'_, '_>, element: u32, count: Option<i128>) -> TypeDef
+    requires { is_narrow (meaning.bound count) ≡ true }
+    ensures { result ≡ def.Text (id (number_at program.now.types.now.kinds program.now.numbers.now element)) (meaning.bound count) }
 {
-    let bound = bound(count)?;
-    Ok(TypeDef::Text {
+    TypeDef::Text {
         elem: number_of(program, element),
-        bound,
-    })
+        bound: bound(count),
+    }
 }
 
 /// The class of a pointer, which each has by now.
@@ -311,7 +343,8 @@ fn basic(kind: Kind) -> TypeDef
 
 /// What a type is in the table. Takes memory for it.
 fn definition(alloc: Global, program: &Program<'_, '_>, of: u32) -> Result<TypeDef, Memory>
-    requires { IsProgram program.now }
+    requires program { IsProgram program.now }
+    requires bound { has_small_bound (meaning.definition (scene_in program.now) (type_at program.now.types.now.kinds of)) ≡ true }
     ensures made { IfOk result (λ d. d ≡ meaning.definition (scene_in program.now) (type_at program.now.types.now.kinds of)) }
     ensures named { IfOk result (λ d. has_named_parts d ≡ true) }
 {
@@ -323,8 +356,8 @@ fn definition(alloc: Global, program: &Program<'_, '_>, of: u32) -> Result<TypeD
             element,
             count,
             varying,
-        } => array(program, element, count, varying),
-        Kind::Text { element, count } => text(program, element, count),
+        } => Ok(array(program, element, count, varying)),
+        Kind::Text { element, count } => Ok(text(program, element, count)),
         Kind::Pointer { class, to } => Ok(TypeDef::Pointer {
             class: class_of(class),
             to: number_of(program, to),
@@ -338,7 +371,8 @@ fn definition(alloc: Global, program: &Program<'_, '_>, of: u32) -> Result<TypeD
 
 /// The types of the interface. Takes memory for them.
 pub(crate) fn type_table(alloc: Global, program: &Program<'_, '_>) -> Result<nd::Types, Memory>
-    requires { IsProgram program.now }
+    requires program { IsProgram program.now }
+    requires bounds { list_all has_small_bound (meaning.types_of (scene_in program.now)) ≡ true }
     ensures made { IfOk result (λ t. t ≡ meaning.types_of (scene_in program.now)) }
     ensures named { IfOk result (λ t. list_all has_named_parts t ≡ true) }
 {

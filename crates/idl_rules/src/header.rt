@@ -1,5 +1,5 @@
 // What the header of a file says.
-ghost use Rattle.std.specs.Prelude.{◌≡◌, [], ◌∷◌, ◌^◌, ◌<◌, ℕ, List, map, IfOk};
+ghost use Rattle.std.specs.Prelude.{◌≡◌, [], ◌∷◌, ◌^◌, ◌<◌, ◌≤◌, ℕ, List, map, IfOk};
 ghost use Rattle.idl_lexer.specs.Numbers.{digit_value};
 ghost use Rattle.idl_lexer.specs.Pieces.{IsUuid};
 ghost use Rattle.idl_grammar.specs.Seen.{seen_kind, seen_attribute};
@@ -111,29 +111,32 @@ fn first_minor(list: &[Attribute]) -> Option<u64>
     None
 }
 
-/// A number of a version. Where no rule is broken it has 16 bits; a larger one is told as want of memory.
-fn narrow(number: Option<u64>) -> Result<u16, Memory>
-    ensures { IfOk result (λ n. n ≡ or_none number) }
+/// A number of a version, or 0.
+fn narrow(number: Option<u64>) -> u16
+    requires { or_none number ≤ 65535 }
+    ensures { result ≡ or_none number }
 {
     let Some(number) = number else {
-        return Ok(0);
+        return 0;
     };
-    match u16::try_from(number) {
-        Ok(number) => Ok(number),
-        Err(_) => Err(Memory),
-    }
+    let Ok(number) = u16::try_from(number) else {
+        unreachable!();
+    };
+    number
 }
 
-/// The major number of the version of a header.
-pub(crate) fn major(list: &[Attribute]) -> Result<u16, Memory>
-    ensures { IfOk result (λ n. n ≡ or_none (first_said major_said (map seen_attribute list.now))) }
+/// The major number of the version of a header that keeps rule 4.
+pub(crate) fn major(list: &[Attribute]) -> u16
+    requires { or_none (first_said major_said (map seen_attribute list.now)) ≤ 65535 }
+    ensures { result ≡ or_none (first_said major_said (map seen_attribute list.now)) }
 {
     narrow(first_major(list))
 }
 
-/// The minor number of the version of a header.
-pub(crate) fn minor(list: &[Attribute]) -> Result<u16, Memory>
-    ensures { IfOk result (λ n. n ≡ or_none (first_said minor_said (map seen_attribute list.now))) }
+/// The minor number of the version of a header that keeps rule 4.
+pub(crate) fn minor(list: &[Attribute]) -> u16
+    requires { or_none (first_said minor_said (map seen_attribute list.now)) ≤ 65535 }
+    ensures { result ≡ or_none (first_said minor_said (map seen_attribute list.now)) }
 {
     narrow(first_minor(list))
 }

@@ -59,8 +59,8 @@ pub(crate) fn interface(
     let name = name_of(alloc, &tree.name)?;
     let list = tree.attributes.list.as_slice();
     let uuid = uuid(list);
-    let major = major(list)?;
-    let minor = minor(list)?;
+    let major = major(list);
+    let minor = minor(list);
     let program = Program {
         scope,
         nodes,

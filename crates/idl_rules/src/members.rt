@@ -209,7 +209,7 @@ fn fields_by(
     let mut fields = Fields::new(alloc);
     for index in 0..list.len() {
         let Some(of) = types.get(index) else {
-            return Err(Memory);
+            return Ok(fields);
         };
         let field = field(alloc, table, &list[index], *of)?;
         match fields.push(field) {
@@ -275,7 +275,7 @@ fn parameters_by(
     let mut parameters = Params::new(alloc);
     for index in 0..list.len() {
         let Some(of) = types.get(index) else {
-            return Err(Memory);
+            return Ok(parameters);
         };
         let parameter = parameter(alloc, table, &list[index], *of)?;
         match parameters.push(parameter) {

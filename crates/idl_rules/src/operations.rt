@@ -1,12 +1,12 @@
 // The operations of an interface.
-ghost use Rattle.std.specs.Prelude.{◌≡◌, true, map, option_map, IfOk};
+ghost use Rattle.std.specs.Prelude.{◌≡◌, true, map, option_map, slice_get, IfOk};
 ghost use Rattle.std.specs.List.{list_all};
 ghost use Rattle.nd_types.specs.Legal.{has_names};
 ghost use Rattle.idl_rules.specs.Meaning.{operations_of, result_number};
 ghost use Rattle.idl_rules.specs.Kinds.{type_at};
 ghost use Rattle.idl_rules.specs.SeenNodes as seen;
 ghost use Rattle.idl_rules.specs.SeenNodes.{seen_declared};
-ghost use Rattle.idl_rules.specs.SeenOperations.{IsOperation};
+ghost use Rattle.idl_rules.specs.SeenOperations.{IsOperation, is_operation_node};
 ghost use Rattle.idl_rules.specs.SeenOperations as operations_seen;
 ghost use Rattle.idl_rules.specs.Made.{ids_of, each_with, parameter_with, IsProgram, scene_in, operation_made};
 
@@ -72,24 +72,26 @@ fn operation_of(
     })
 }
 
-/// The operation of a node. What is noted of one names its node; another would be told as want of memory.
+/// The operation of a node.
 fn operation(
     alloc: Global,
     program: &Program<'_, '_>,
     noted: &OperationTypes,
 ) -> Result<Operation, Memory>
-    requires { IsProgram program.now }
+    requires program { IsProgram program.now }
+    requires noted { is_operation_node (slice_get program.now.nodes.now.items.items noted.now.node) ≡ true }
     ensures made { (o : operations_seen.Called) → IsOperation (scene_in program.now) program.now.nodes.now program.now.types.now.kinds o noted.now
         → IfOk result (λ made. made ≡ operation_made (scene_in program.now) o) }
     ensures named { IfOk result (λ o. has_names o ≡ true) }
 {
-    match node_at(program.nodes, noted.node) {
-        Some(Node::Operation { it, parameters }) => {
-            let list = or_empty(program.nodes.list(*parameters));
-            operation_of(alloc, program, it, list, noted)
-        }
-        _ => Err(Memory),
-    }
+    let Some(node) = node_at(program.nodes, noted.node) else {
+        unreachable!();
+    };
+    let Node::Operation { it, parameters } = node else {
+        unreachable!();
+    };
+    let list = or_empty(program.nodes.list(*parameters));
+    operation_of(alloc, program, it, list, noted)
 }
 
 /// The operations of the main file, in their order. Takes memory for them.

@@ -1,5 +1,5 @@
 use Rattle.std.proofs.Common.{◌≡◌, ◌∙◌, ℕ, ◌+◌, ◌*◌, ◌%◌, ◌<◌, ◌∷◌, [], List, length, Some, slice_get, get_or, refl, ap, sym, subst, arith, rules, length-append}
-use Rattle.std.proofs.lemmas.Option.{same_Some, slice_get_read}
+use Rattle.std.proofs.lemmas.Option.{slice_get_read}
 use Rattle.nd_base.specs.declared.octets.Place.{Place}
 use Rattle.idl_names.specs.Seen.{seen_files}
 use Rattle.idl_rules.specs.declared.types.BodyTypes.{BodyTypes}
@@ -21,7 +21,7 @@ loop-body-preserved c =
     let files = seen_files c.args.finder.now.files.now in
     let t = c.args.types.now in
     let index = c.loop-body.body-index in
-    let place = c.in-Some.place in
+    let place = c.place_told-place.result in
     let size = c.loop-body.invariant.0 in
     let key = c.from.result * 4294967296 % 18446744073709551616 + c.from-in-loop-body.result in
     let octet : place.at < 4294967296 = search rules in
@@ -34,7 +34,7 @@ loop-body-preserved c =
       λ s is. subst (λ (l : List ℕ). Each (KeyAt files (bodies s)) 0 l) (sym c.in-Ok-push.ensures.items)
           (key_more files (bodies s) index c.loop-body.keys.items key size (c.loop-body.invariant.1 s is)
           (λ b at. let told : place ≡ place_in b.construct b.construct.at =
-          same_Some place (place_in b.construct b.construct.at) (c.in-Some.ensures s.known b (is.body index b c.body-item.result at here).node) in (
+          c.place_told-place.ensures s.known b (is.body index b c.body-item.result at here).node in (
             joined_key files b place c.from.result c.from-in-loop-body.result rank file c.from-in-loop-body.ensures told,
             subst (λ (p : Place). p.at < 4294967296) told octet,
           ))),

@@ -12,7 +12,7 @@ returns-in-Some c s b is there =
     let below : c.args.number < length t.bodies.items = subst (λ (l : List BodyTypes). c.args.number < length l) c.deref.ensures.value within in
     let same : c.in-Some.body.now ≡ get_or t.bodies.items c.args.number c.in-Some.body.now = c.in-Some.ensures.lookup.1 ∙ ap (λ l. get_or l c.args.number c.in-Some.body.now) c.deref.ensures.value in
     let here : slice_get t.bodies.items c.args.number ≡ Some c.in-Some.body.now = slice_get_read t.bodies.items (length t.bodies.items) c.args.number c.in-Some.body.now refl below same in
-    c.place_told.ensures s.known b (is.body c.args.number b c.in-Some.body.now there here).node
+    ap (λ p. Some p) (c.place_told.ensures s.known b (is.body c.args.number b c.in-Some.body.now there here).node)
 
 pub returns-in-None : goal.returns-in-None
 returns-in-None c s b is there =

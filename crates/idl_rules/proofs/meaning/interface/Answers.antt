@@ -1,15 +1,18 @@
-use Rattle.std.proofs.Common.{◌≡◌, ◌∙◌, ℕ, true, List, [], ◌∷◌, map, sym, ap, subst, subst₂}
+use Rattle.std.proofs.Common.{◌≡◌, ◌∙◌, ◌≤◌, ℕ, true, List, [], ◌∷◌, map, sym, ap, subst, subst₂}
 use Rattle.std.specs.List.{list_all}
 use Rattle.nd_base.specs.Text.{is_identifier}
 use Rattle.nd_types.specs.Table.{Table}
 use Rattle.nd_types.specs.declared.types.Operation.{Operation}
 use Rattle.nd_types.specs.Legal.{IsLegal, has_named_parts, has_names}
+use Rattle.idl_grammar.specs.declared.attributes.Attribute as attributes
 use Rattle.idl_grammar.specs.Seen.{seen_attribute, seen_tree}
 use Rattle.idl_rules.specs.Attributes.{first_said}
 use Rattle.idl_rules.specs.Checked.{world_of}
 use Rattle.idl_rules.specs.Scene.{scene_of}
 use Rattle.idl_rules.specs.Meaning.{Meant, meaning, header_meant, types_of, uuid_said, major_said, minor_said, or_none}
-use Rattle.idl_rules.proofs.MainFile.{meant_is}
+use Rattle.idl_rules.proofs.Scenes.{kept}
+use Rattle.idl_rules.proofs.legal.Counts as counts
+use Rattle.idl_rules.proofs.MainFile.{meant_is, small_major, small_minor, small_version}
 use Rattle.idl_rules.proofs.meaning.interface.Goals as goal
 
 pub invariant_of-result : goal.invariant_of-result
@@ -25,6 +28,21 @@ invariant_of-result c =
       laid_out = c.in_ok-layouts.ensures;
     }
 
+pub type_table-requires-clause-bounds : goal.type_table-requires-clause-bounds
+type_table-requires-clause-bounds c =
+    let w = world_of c.args.scope.now in
+    counts.bounds (scene_of w) (kept w c.requires.kept)
+
+pub major-major-requires : goal.major-major-requires
+major-major-requires c =
+    subst (λ (l : List attributes.Attribute). or_none (first_said major_said (map seen_attribute l)) ≤ 65535) (sym c.as_slice-list.ensures.value)
+    (small_version major_said small_major (world_of c.args.scope.now) (seen_tree c.in_ok-tree.tree.now) c.requires.kept c.in_ok-tree.ensures)
+
+pub minor-minor-requires : goal.minor-minor-requires
+minor-minor-requires c =
+    subst (λ (l : List attributes.Attribute). or_none (first_said minor_said (map seen_attribute l)) ≤ 65535) (sym c.as_slice-list.ensures.value)
+    (small_version minor_said small_minor (world_of c.args.scope.now) (seen_tree c.in_ok-tree.tree.now) c.requires.kept c.in_ok-tree.ensures)
+
 pub returns : goal.returns
 unfolding meaning
 returns c =
@@ -35,6 +53,6 @@ returns c =
     ∙ ap (λ (m : Meant). m ∷ [])
     (meant_is s (seen_tree c.in_ok-tree.tree.now) _ c.in_ok-name.ensures.same
     (c.uuid-uuid.ensures ∙ ap (λ l. first_said uuid_said (map seen_attribute l)) same)
-    (c.in_ok-major.ensures ∙ ap (λ l. or_none (first_said major_said (map seen_attribute l))) same)
-    (c.in_ok-minor.ensures ∙ ap (λ l. or_none (first_said minor_said (map seen_attribute l))) same)
+    (c.major-major.ensures ∙ ap (λ l. or_none (first_said major_said (map seen_attribute l))) same)
+    (c.minor-minor.ensures ∙ ap (λ l. or_none (first_said minor_said (map seen_attribute l))) same)
     c.in_ok-types.ensures.made c.in_ok-operations.ensures.made)
