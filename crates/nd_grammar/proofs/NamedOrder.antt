@@ -69,8 +69,12 @@ then_repeats known ns [] cs ds r k =
     subst (λ u. Repeats known (u ++ cs) ds) (sym r) (k known (λ x m. m) (λ x m. absurd (subst (λ u. Among u x) r m)))
 then_repeats known ns (b ∷ bs) cs ds (inl (m, r)) k = inl (m, then_repeats known ns bs cs ds r k)
 then_repeats known ns (b ∷ bs) cs ds (inr (rest, e, r)) k =
-    inr (rest ++ cs, ap (λ u. u ++ cs) e, then_repeats (b ∷ known) rest bs cs ds r (λ later w v.
-    k later (λ x m. w x (inr m)) (λ x m. among_b later x w v (subst (λ u. Among u x) e m))))
+    inr (
+      rest ++ cs,
+      ap (λ u. u ++ cs) e,
+      then_repeats (b ∷ known) rest bs cs ds r (λ later w v.
+          k later (λ x m. w x (inr m)) (λ x m. among_b later x w v (subst (λ u. Among u x) e m))),
+    )
   where
     among_b : (later : List ℕ) (x : ℕ) → Within (b ∷ known) later → Within rest later → Among (b ∷ rest) x → Among later x
     among_b later x w v (inl e) = w x (inl e)
@@ -319,7 +323,7 @@ module _ (table : Table) (laid : HoistsLast table) (elements : HasElements table
         target o ++ in_kinds xs,
         refl,
         then_repeats (c ∷ known) (target o) (target o) (in_kinds xs) (cells_met (entries h n xs)) (self (c ∷ known) o) (λ later w v.
-        kinds_repeat table h later (more_known table h (c ∷ known) later w (now_known known)) n xs),
+            kinds_repeat table h later (more_known table h (c ∷ known) later w (now_known known)) n xs),
       )
 
   -- elements of an array that has nothing before them
@@ -681,7 +685,7 @@ module _ (w : Setting) (g : Graph) (s : IsSound w g) (laid : IsLaidOut w) (subje
           (inr (
             known_roots w g s j r e,
             subst (λ t. Within (own_cell (standing_by g j t (root_at g j) (direct (type_at table t) (root_at g j))).home
-            ++ named table (standing_by g j t (root_at g j) (direct (type_at table t) (root_at g j)))) later) (ap root_type e) m,
+                ++ named table (standing_by g j t (root_at g j) (direct (type_at table t) (root_at g j)))) later) (ap root_type e) m,
           ))
       ready later met j r e (inr h) =
           let k : n + (j - n) ≡ j = omega arith in

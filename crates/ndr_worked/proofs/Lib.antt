@@ -3,6 +3,7 @@ pub mod LawExamples
 pub mod LawNext
 pub mod LawReader
 pub mod LawRing
+pub mod LawTests
 pub mod ReaderArrays
 pub mod ReaderDirectory
 pub mod ReaderFinds

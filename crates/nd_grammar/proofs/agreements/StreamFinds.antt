@@ -197,10 +197,10 @@ module _ (w : Setting) (g : Graph) (s : IsSound w g) (laid : IsLaidOut w) (subje
       go (home.Root i) e = tt
       go (home.Cell c) e = (
         (λ y f. (
-          let (a, b) = q.its_cell c.0 e y f in
-          subst (λ t. NodeStands table laid.hoisting subjects g (home.Cell c) seen t y.val) (sym a)
-          (subst (λ v. NodeStands table laid.hoisting subjects g (home.Cell c) seen x.of v) (sym b)
-          (subst (λ u. NodeStands table laid.hoisting subjects g u seen x.of x.val) e n)))),
+            let (a, b) = q.its_cell c.0 e y f in
+            subst (λ t. NodeStands table laid.hoisting subjects g (home.Cell c) seen t y.val) (sym a)
+            (subst (λ v. NodeStands table laid.hoisting subjects g (home.Cell c) seen x.of v) (sym b)
+            (subst (λ u. NodeStands table laid.hoisting subjects g u seen x.of x.val) e n)))),
         tt,
       )
 
