@@ -10,8 +10,7 @@ use Rattle.acf_reader.specs.Tree.{Acf}
 use Rattle.acf_reader.specs.Reading.{handle_type_read, variable_read, implicit_handle_read, attribute_kind_read, attribute_read, attributes_read, maybe_attributes_read, parameter_read, parameters_read, signature_read, types_read, include_read, operation_read, element_read, element_firsts, body_read, acf_read}
 use Rattle.acf_reader.specs.Answers.{IsAnswer, acf_answer}
 use Rattle.acf_reader.specs.Examples.{small_file, small_tree, unended, include_behind_attributes, attribute_name, banned_attribute, banned_word}
-use Rattle.acf_reader.proofs.AcfLaws.{acf_answered}
-use Rattle.acf_reader.proofs.RealTokens.{lexemes_real}
+use Rattle.acf_reader.proofs.AcfLaws.{acf_answered, lexemes_real}
 
 -- an answer that was computed is right
 answers_so : (lexed : Lexed) (v : Result Acf Fault) → acf_answer (lexemes lexed) ≡ v → IsAnswer (lexemes lexed) v

@@ -9,8 +9,8 @@ use Rattle.idl_grammar.specs.declared.words.Spelling.{Spelling}
 use Rattle.idl_grammar.specs.Symbols as symbol
 use Rattle.idl_grammar.specs.Grammar.{one_of, in_round, commas, is_banned_attribute}
 use Rattle.idl_grammar.specs.Reading.{commas_read}
-use Rattle.acf_reader.proofs.Combine.{changed_exact, one_of_exact, one_word, each_meant, either, either_exact, either_begins, mark_begins}
-use Rattle.acf_reader.proofs.Combine.{word_round_exact}
+use Rattle.idl_grammar.proofs.Combine.{changed_exact, one_of_exact, one_word, each_meant, either, either_exact, either_begins, mark_begins}
+use Rattle.idl_grammar.proofs.AttributesExact.{word_round_exact}
 use Rattle.acf_reader.specs.declared.tree.HandleType.{HandleType}
 use Rattle.acf_reader.specs.declared.tree.HandleType.TheVariants as handle
 use Rattle.acf_reader.specs.declared.tree.AttributeKind.{AttributeKind}

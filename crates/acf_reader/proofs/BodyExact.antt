@@ -12,9 +12,9 @@ use Rattle.idl_grammar.specs.Expressions.{spelled}
 use Rattle.idl_grammar.specs.ReadExpressions.{spelled_read}
 use Rattle.idl_grammar.specs.Grammar.{commas, in_round}
 use Rattle.idl_grammar.specs.Reading.{branch_read, commas_read, line_read, unless_read}
-use Rattle.acf_reader.proofs.Combine.{changed_exact, turned_same, spelled_exact, spelled_has, spelled_begins, branch_is, bind_is, bind_alike, unless_exact, before_meets}
-use Rattle.acf_reader.proofs.Combine.{at_exact}
-use Rattle.acf_reader.proofs.Combine.{closing, unless_is}
+use Rattle.idl_grammar.proofs.Combine.{changed_exact, turned_same, spelled_exact, spelled_has, spelled_begins, branch_is, bind_is, bind_alike, unless_exact, before_meets}
+use Rattle.idl_grammar.proofs.ExportsExact.{at_exact}
+use Rattle.idl_grammar.proofs.ParametersExact.{closing, unless_is}
 use Rattle.acf_reader.specs.Symbols as word
 use Rattle.acf_reader.specs.Symbols.{names}
 use Rattle.acf_reader.specs.Tree as tree

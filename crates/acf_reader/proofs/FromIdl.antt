@@ -20,7 +20,7 @@ use Rattle.idl_parser.specs.Lexemes.{text_of, seen_lexeme}
 use Rattle.acf_reader.specs.Symbols.{own_words}
 use Rattle.acf_reader.specs.Lexemes.{words, symbol_of, lexeme_of, lexemes}
 use Rattle.acf_reader.specs.FromIdl.{names_of_idl, symbol_from, lexeme_from}
-use Rattle.acf_reader.proofs.Tables.{drop_here}
+use Rattle.idl_parser.proofs.Tables.{drop_here}
 
 -- ## words
 

@@ -2,10 +2,8 @@
 use Rattle.std.specs.Prelude.{ℕ, cond, List, [], ◌∷◌}
 use Rattle.phrases.specs.Text.{Lexeme, is_in}
 use Rattle.idl_grammar.specs.Symbols as symbol
-use Rattle.idl_grammar.specs.Symbols.{Spelled}
 use Rattle.idl_grammar.specs.Lexemes.{symbol_among}
 use Rattle.acf_reader.specs.Symbols.{own_words}
-use Rattle.acf_reader.specs.declared.words.OwnWord.{OwnWord}
 
 -- names of IDL, and words with which its attributes begin
 unfoldable pub names_of_idl : List ℕ
@@ -20,7 +18,3 @@ symbol_from s octets = cond (is_in names_of_idl s) (symbol_among own_words symbo
 
 abbrev pub lexeme_from : Lexeme → Lexeme
 lexeme_from l = record { symbol = symbol_from l.symbol l.octets; at = l.at; octets = l.octets }
-
--- a word of the program's table, as the grammar has it
-abbrev pub seen_word : OwnWord → Spelled
-seen_word e = record { octets = e.octets.now; symbol = e.symbol }

@@ -137,34 +137,6 @@ fn name_list(parser: &Parser<'_>, at: usize) -> Result<(Vec<Identifier>, usize),
     Ok((list, here))
 }
 
-/// A string behind a comma.
-fn next_string(parser: &Parser<'_>, at: usize) -> Result<(Spelling, usize), Refusal>
-    requires { at ≤ length parser.now }
-    ensures gives { Gives (λ x. x) result (behind_read symbols.Comma parser.now (spelled_read symbols.Quoted parser.now) at) }
-    ensures within { IfOk result (λ x. (at < x.1) × (x.1 ≤ length parser.now)) }
-{
-    let next = parser.mark(symbol::COMMA, at)?;
-    let (item, next) = parser.spelled(symbol::QUOTED, next)?;
-    Ok((item, next))
-}
-
-/// Strings with commas between.
-fn string_list(parser: &Parser<'_>, at: usize) -> Result<(Vec<Spelling>, usize), Refusal>
-    requires within { at ≤ length parser.now }
-    ensures gives { Gives (λ v. v.items) result (commas_read parser.now (spelled_read symbols.Quoted parser.now) at) }
-    ensures within { IfOk result (λ x. (at < x.1) × (x.1 ≤ length parser.now)) }
-{
-    let (first, mut here) = parser.spelled(symbol::QUOTED, at)?;
-    let mut list = Vec::new(parser.alloc());
-    list.push(first)?;
-    while parser.stands(symbol::COMMA, here) {
-        let (next, past) = next_string(parser, here)?;
-        list.push(next)?;
-        here = past;
-    }
-    Ok((list, here))
-}
-
 /// Attributes of types, which begin at an octet, from `typedef` on.
 #[tactic(auto, unfolding(crate::specs::Reading::types_read))]
 fn types(
@@ -218,7 +190,7 @@ fn include(
 {
     let (name, next) = include_word(parser, at)?;
     if parser.stands(symbol::QUOTED, next) {
-        let (files, next) = string_list(parser, next)?;
+        let (files, next) = parser.strings(next)?;
         let next = parser.mark(symbol::SEMICOLON, next)?;
         return Ok((BodyElement::Include { at: octet, files }, next));
     }

@@ -3,12 +3,12 @@ ghost use Rattle.std.specs.Prelude.{◌≡◌, map, IfOk};
 ghost use Rattle.phrases.specs.Text.{is_in};
 ghost use Rattle.idl_grammar.specs.Lexemes.{symbol_among, IsFormed};
 ghost use Rattle.idl_parser.specs.Lexemes.{text_of};
-ghost use Rattle.acf_reader.specs.FromIdl.{names_of_idl, symbol_from, seen_word};
+ghost use Rattle.acf_reader.specs.FromIdl.{names_of_idl, symbol_from};
 ghost use Rattle.acf_reader.specs.Lexemes.{lexemes as grammar_lexemes};
 
-use crate::words::{OWN_WORDS, OwnWord};
+use crate::words::OWN_WORDS;
 use idl_lexer::Tokens;
-use idl_parser::lexemes::{Lexeme, lexemes as idl_lexemes};
+use idl_parser::lexemes::{Lexeme, among, lexemes as idl_lexemes};
 use idl_parser::symbol;
 use std::alloc::{AllocError, Global};
 
@@ -45,18 +45,6 @@ fn is_name_of_idl(symbol: u8) -> bool
     ensures { result ≡ is_in names_of_idl symbol }
 {
     NAMES_OF_IDL.iter().any(|other| symbol == *other)
-}
-
-/// The symbol that is spelled so, or another where the table has none.
-fn among(table: &[OwnWord], otherwise: u8, octets: &[u8]) -> u8
-    ensures { result ≡ symbol_among (map seen_word table.now) otherwise octets.now }
-{
-    for entry in table {
-        if octets == entry.octets {
-            return entry.symbol;
-        }
-    }
-    otherwise
 }
 
 /// The symbol of a token, from the one that it has in IDL.

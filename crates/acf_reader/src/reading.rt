@@ -3,8 +3,6 @@ ghost use Rattle.std.specs.Prelude.{◌≡◌, ◌≤◌, ◌<◌, length, Resul
 ghost use Rattle.phrases.specs.Reading.{Fault};
 ghost use Rattle.phrases.specs.Gives.{GivesWhole};
 ghost use Rattle.phrases.specs.Verdict.{whole_read};
-ghost use Rattle.idl_grammar.specs.Answers.{is_banned};
-ghost use Rattle.idl_parser.specs.Answered.{IsWithin, IsNamed};
 ghost use Rattle.acf_reader.specs.Answers.{IsAnswer, acf_answer};
 ghost use Rattle.acf_reader.specs.Lexemes.{lexemes as grammar_lexemes};
 ghost use Rattle.acf_reader.specs.Reading.{acf_read};
@@ -17,7 +15,7 @@ use crate::lexemes::lexemes;
 use crate::tree::Acf;
 use idl_lexer::Tokens;
 use idl_parser::parser::Parser;
-use idl_parser::{SyntaxFault, symbol};
+use idl_parser::{SyntaxFault, fault_of};
 use phrases::Refusal;
 use std::alloc::Global;
 
@@ -30,35 +28,6 @@ fn whole(parser: &Parser<'_>) -> Result<Acf, Refusal>
         return Err(Refusal::Syntax(at));
     }
     Ok(tree)
-}
-
-/// Whether a word stands at a place that is banned anywhere.
-#[tactic(auto, unfolding(idl_grammar::specs::Answers::is_banned))]
-fn stands_banned(parser: &Parser<'_>, at: usize) -> bool
-    ensures { result ≡ is_banned parser.now at }
-{
-    parser.stands(symbol::BANNED, at)
-}
-
-/// The fault of a refusal: a word that is banned anywhere is named as such.
-fn fault_of(parser: &Parser<'_>, refusal: Refusal) -> SyntaxFault
-    requires few { length parser.now < 4294967296 }
-    requires within { IsWithin refusal (length parser.now) }
-    ensures { IsNamed parser.now refusal result }
-{
-    match refusal {
-        Refusal::Memory => SyntaxFault::Memory,
-        Refusal::Syntax(at) => {
-            let token = at as u32;
-            if stands_banned(parser, at) {
-                SyntaxFault::Banned { token }
-            } else {
-                SyntaxFault::Syntax { token }
-            }
-        }
-        Refusal::Deep(at) => SyntaxFault::Deep { token: at as u32 },
-        Refusal::Banned(at) => SyntaxFault::Banned { token: at as u32 },
-    }
 }
 
 /// The tree of a file, or its first fault.

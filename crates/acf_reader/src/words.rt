@@ -1,4 +1,5 @@
 // The words that are an attribute configuration file's own, and their symbols.
+use idl_parser::words::Entry;
 
 /// `auto_handle`
 pub(crate) const AUTO_HANDLE: u8 = 110;
@@ -25,60 +26,53 @@ pub(crate) const FAULT_STATUS: u8 = 120;
 /// `include`
 pub(crate) const INCLUDE: u8 = 121;
 
-/// What a word is spelled as, and its symbol.
-#[derive(Clone, Copy)]
-pub(crate) struct OwnWord {
-    pub(crate) octets: &'static [u8],
-    pub(crate) symbol: u8,
-}
-
 /// The words.
-pub(crate) static OWN_WORDS: [OwnWord; 12] = [
-    OwnWord {
+pub(crate) static OWN_WORDS: [Entry; 12] = [
+    Entry {
         octets: b"auto_handle",
         symbol: AUTO_HANDLE,
     },
-    OwnWord {
+    Entry {
         octets: b"explicit_handle",
         symbol: EXPLICIT_HANDLE,
     },
-    OwnWord {
+    Entry {
         octets: b"implicit_handle",
         symbol: IMPLICIT_HANDLE,
     },
-    OwnWord {
+    Entry {
         octets: b"code",
         symbol: CODE,
     },
-    OwnWord {
+    Entry {
         octets: b"nocode",
         symbol: NOCODE,
     },
-    OwnWord {
+    Entry {
         octets: b"in_line",
         symbol: IN_LINE,
     },
-    OwnWord {
+    Entry {
         octets: b"out_of_line",
         symbol: OUT_OF_LINE,
     },
-    OwnWord {
+    Entry {
         octets: b"enable_allocate",
         symbol: ENABLE_ALLOCATE,
     },
-    OwnWord {
+    Entry {
         octets: b"heap",
         symbol: HEAP,
     },
-    OwnWord {
+    Entry {
         octets: b"comm_status",
         symbol: COMM_STATUS,
     },
-    OwnWord {
+    Entry {
         octets: b"fault_status",
         symbol: FAULT_STATUS,
     },
-    OwnWord {
+    Entry {
         octets: b"include",
         symbol: INCLUDE,
     },

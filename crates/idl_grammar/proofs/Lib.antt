@@ -1,10 +1,10 @@
 mod Levels
-mod Combine
+pub mod Combine
 mod ExpressionParts
 mod ExpressionsExact
 mod OuterExact
 mod SimpleExact
-mod AttributesExact
+pub mod AttributesExact
 mod AttributeLists
 mod DeclaratorsExact
 mod BodiesExact
@@ -14,8 +14,8 @@ mod Tagged
 mod TypeAlternatives
 mod TypesExact
 mod ParameterExact
-mod ParametersExact
-mod ExportsExact
+pub mod ParametersExact
+pub mod ExportsExact
 pub mod FileExact
 pub mod FileLaws
 pub mod Rows

@@ -15,7 +15,7 @@ use Rattle.idl_grammar.specs.Symbols as symbol
 use Rattle.idl_grammar.specs.Lexemes.{symbol_among, words, symbol_of, lexeme_of, lexemes}
 
 -- no word of a list has the number of the end
-abbrev are_real : List Spelled → Bool
+abbrev pub are_real : List Spelled → Bool
 are_real list = list_all (λ s. not (eqb s.symbol 0)) list
 
 not_zero : (b : Bool) → not b ≡ true → b ≡ false
@@ -26,7 +26,7 @@ cond_real : (b : Bool) (m n : ℕ) → eqb m 0 ≡ false → eqb n 0 ≡ false �
 cond_real true m n p q = p
 cond_real false m n p q = q
 
-among_real : (list : List Spelled) (otherwise : ℕ) (octets : List ℕ) → are_real list ≡ true → eqb otherwise 0 ≡ false → eqb (symbol_among list otherwise octets) 0 ≡ false
+pub among_real : (list : List Spelled) (otherwise : ℕ) (octets : List ℕ) → are_real list ≡ true → eqb otherwise 0 ≡ false → eqb (symbol_among list otherwise octets) 0 ≡ false
 among_real [] otherwise octets h o = o
 among_real (s ∷ others) otherwise octets h o =
     let parts = both (not (eqb s.symbol 0)) (are_real others) h in
@@ -41,11 +41,11 @@ symbol_real token.Char octets = refl
 symbol_real token.Str octets = refl
 symbol_real token.Mark octets = among_real marks symbol.Unknown octets refl refl
 
-all_real : (text : List ℕ) (tokens : List Token) → IsText (map (lexeme_of text) tokens)
-all_real text [] i lt e = absurd (omega arith)
-all_real text (t ∷ ts) zero lt e =
-    clash (eqb (lexeme_of text t).symbol 0) (ap (λ (l : Lexeme). eqb l.symbol 0) e) (symbol_real t.kind _)
-all_real text (t ∷ ts) (suc i) lt e = all_real text ts i (omega arith) e
+-- tokens as some grammar sees them, none of which is the end
+pub all_real : (see : List ℕ → Token → Lexeme) → ((text : List ℕ) (t : Token) → eqb (see text t).symbol 0 ≡ false) → (text : List ℕ) (tokens : List Token) → IsText (map (see text) tokens)
+all_real see real text [] i lt e = absurd (omega arith)
+all_real see real text (t ∷ ts) zero lt e = clash (eqb (see text t).symbol 0) (ap (λ (l : Lexeme). eqb l.symbol 0) e) (real text t)
+all_real see real text (t ∷ ts) (suc i) lt e = all_real see real text ts i (omega arith) e
 
 pub lexemes_real : (lexed : Lexed) → IsText (lexemes lexed)
-lexemes_real lexed = all_real lexed.text lexed.tokens
+lexemes_real lexed = all_real lexeme_of (λ text t. symbol_real t.kind _) lexed.text lexed.tokens

@@ -7,3 +7,4 @@ pub mod LiteralEnds
 pub mod Passes
 pub mod OneVerdict
 pub mod Words
+pub mod Answered

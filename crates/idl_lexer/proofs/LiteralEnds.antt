@@ -24,7 +24,7 @@ use Rattle.idl_lexer.proofs.Cuts.{none_empty}
 
 -- ## one octet
 
-next : Due → ℕ → Step
+pub next : Due → ℕ → Step
 next due.Characters c = cond (eqb c 34) step.Closed (cond (eqb c 92) (step.Goes due.Escape) (cond (is_plain 34 c) (step.Goes due.Characters) step.Bad))
 next due.Escape c = cond (is_escape c) (step.Goes due.Characters) step.Bad
 next due.OneCharacter c = cond (eqb c 92) (step.Goes due.OneEscape) (cond (is_plain 39 c) (step.Goes due.Quote) step.Bad)
@@ -39,7 +39,7 @@ closes_not : (quote c : ℕ) (rest : List ℕ) → eqb c quote ≡ false → clo
 closes_not quote c [] h = h
 closes_not quote c (d ∷ ds) h = refl
 
-next_is : (d : Due) (c : ℕ) (rest : List ℕ) → completes d (c ∷ rest) ≡ completes_after (next d c) rest
+pub next_is : (d : Due) (c : ℕ) (rest : List ℕ) → completes d (c ∷ rest) ≡ completes_after (next d c) rest
 unfolding next
 next_is due.Characters c rest = by_tests (eqb c 34) (eqb c 92) (is_plain 34 c) refl where
   by_tests : (a b p : Bool) → eqb c 34 ≡ a

@@ -50,6 +50,11 @@ IsVerdict text (Cut tokens) = AreTokens text tokens
 IsVerdict text (Refused at fault.TooLong) = (text_limit < length text) × (at ≡ text_limit)
 IsVerdict text (Refused at kind) = IsFirstFault text at kind
 
+-- A text has a verdict.
+pub record HasVerdict (text : List ℕ) : Type 0 where
+  pub verdict : Verdict
+  pub right : IsVerdict text verdict
+
 -- an error of `lex`: the first fault, unless memory was wanting
 abbrev pub IsFault : List ℕ → LexFault → Type 0
 IsFault text errors.Memory = Unit {0}

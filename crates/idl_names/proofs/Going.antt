@@ -103,12 +103,14 @@ at_first p all a few = record {
 
 -- ## Faults of names
 
-abbrev IsOfNames : NameFault → Type 0
+-- not of a load, and not of memory
+abbrev pub IsOfNames : NameFault → Type 0
+IsOfNames fault.Memory = ⊥
 IsOfNames (fault.Absent file) = ⊥
 IsOfNames (fault.Failed file) = ⊥
 IsOfNames _ = Unit {0}
 
-abbrev OfNames : {A : Type 0} → Result A NameFault → Type 0
+abbrev pub OfNames : {A : Type 0} → Result A NameFault → Type 0
 OfNames (Ok a) = Unit {0}
 OfNames (Err f) = IsOfNames f
 
@@ -132,7 +134,7 @@ tag_of_names : (file : ℕ) (k : Known) (kind : _) (tag : Spelling) (b : Bool) �
 tag_of_names file k kind tag true = tt
 tag_of_names file k kind tag false = tt
 
-passed_of_names : (file : ℕ) (k : Known) (s : Step) → OfNames (passed file k s)
+pub passed_of_names : (file : ℕ) (k : Known) (s : Step) → OfNames (passed file k s)
 passed_of_names file k (step.UseType name) = known_of_names _ _ k
 passed_of_names file k (step.UseTag kind tag behind) = by _
   where

@@ -38,17 +38,17 @@ use Rattle.idl_names.specs.Sources.{Source, and_source}
 use Rattle.idl_names.specs.Walk as walk
 use Rattle.idl_names.specs.Walk.{State, Due, Load, Stopped, Walk, IsDue}
 
-token_count : (l : Lexed) → length (lexemes l) ≡ length l.tokens
+pub token_count : (l : Lexed) → length (lexemes l) ≡ length l.tokens
 token_count l = simp length-map refl
 
-same_fault : {A : Type 0} (f g : Fault) → ◌≡◌ {A = Result A Fault} (Err f) (Err g) → f ≡ g
+pub same_fault : {A : Type 0} (f g : Fault) → ◌≡◌ {A = Result A Fault} (Err f) (Err g) → f ≡ g
 same_fault f g e = cc
 
-clash_results : {A B : Type 0} (a : A) (f : Fault) → ◌≡◌ {A = Result A Fault} (Ok a) (Err f) → B
+pub clash_results : {A B : Type 0} (a : A) (f : Fault) → ◌≡◌ {A = Result A Fault} (Ok a) (Err f) → B
 clash_results a f e = absurd (cc)
 
 -- of what is read exactly
-fault_front : {A : Type 0} (P : Rel A) (t : Text) (r : Read A) → Exact P (stops []) t 0 r → (f : Fault) → whole_read r t ≡ Err f → front f ≤ length t
+pub fault_front : {A : Type 0} (P : Rel A) (t : Text) (r : Read A) → Exact P (stops []) t 0 r → (f : Fault) → whole_read r t ≡ Err f → front f ≤ length t
 fault_front P t (Err g) x f e = subst (λ (h : Fault). front h ≤ length t) (same_fault g f e) x.within
 fault_front {A = A} P t (Ok a) x f e = by_case (eqb a.1 (length t)) e where
   by_case : (b : Bool) → ◌≡◌ {A = Result A Fault} (cond b (Ok a.0) (Err (Syntax a.1))) (Err f) → front f ≤ length t
@@ -59,11 +59,11 @@ fault_front {A = A} P t (Ok a) x f e = by_case (eqb a.1 (length t)) e where
 
 module _ (l : Lexed) where
   -- a word that is banned anywhere stands in the text
-  banned_within : (k : ℕ) → is_banned (lexemes l) k ≡ true → k < length (lexemes l)
+  pub banned_within : (k : ℕ) → is_banned (lexemes l) k ≡ true → k < length (lexemes l)
   unfolding is_banned
   banned_within k h = mark_within (lexemes l) k symbol.Banned refl h
 
-  named_within : (g : Fault) → front g ≤ length (lexemes l) → front (named_fault (lexemes l) g) ≤ length (lexemes l)
+  pub named_within : (g : Fault) → front g ≤ length (lexemes l) → front (named_fault (lexemes l) g) ≤ length (lexemes l)
   named_within (Syntax k) h = by_case (is_banned (lexemes l) k) refl where
     by_case : (b : Bool) → is_banned (lexemes l) k ≡ b → front (cond b (Passes Ban k) (Syntax k)) ≤ length (lexemes l)
     by_case true e = let p = banned_within k e in omega (arith, p)

@@ -1,10 +1,10 @@
--- A walk has one ending, but for want of memory and for files that were not loaded.
+-- A walk has one ending, but for want of memory and for failed loads.
 use Rattle.std.proofs.Common.{◌≡◌, ℕ, ◌<◌, ◌≤◌, Bool, true, false, refl, sym, ap, subst, ◌∙◌, arith, List, [], ◌∷◌, ◌++◌, length, Option, Some, None, option_map, Result, Ok, Err}
 use Rattle.std.proofs.lemmas.Option.{same_Some}
 use Rattle.phrases.specs.Text.{Depth, Ban}
 use Rattle.phrases.specs.Reading.{Fault, Syntax, Passes}
 use Rattle.nd_base.specs.declared.octets.Place.{Place}
-use Rattle.nd_base.specs.Outside.{loaded, IsContent}
+use Rattle.nd_base.specs.Outside.{loaded, IsContent, IsMissing}
 use Rattle.idl_lexer.specs.Lexed.{Lexed, place_of}
 use Rattle.idl_lexer.specs.Verdict.{IsVerdict, AreTokens, Cut, Refused}
 use Rattle.idl_lexer.specs.declared.tokens.LexKind.{LexKind}
@@ -107,6 +107,9 @@ same_fault a b r e h = cc
 passes_or_not : {B : Type 0} (a : Known) (b : NameFault) (r : Result Known NameFault) → r ≡ Ok a → r ≡ Err b → B
 passes_or_not a b r e h = absurd (cc)
 
+missing_or_held : {B : Type 0} (f : List ℕ → Option (List ℕ)) (name text : List ℕ) → IsMissing (Some f) name → IsContent (Some f) name text → B
+missing_or_held f name text m c = let e : ◌≡◌ {A = Option (List ℕ)} None (Some text) = sym (ap (option_map loaded) m) ∙ c in absurd (cc)
+
 undecided : {B : Type 0} → false ≡ true → B
 undecided e = absurd (cc)
 
@@ -176,13 +179,24 @@ module _ (f : List ℕ → Option (List ℕ)) where
       one_ending p q w
       (subst (λ (y : Tree). Walk (Some f) (with_source s name text) (all_of (length s.sources) y ++ rest) x) tree
       (subst (λ (l : List ℕ). Walk (Some f) (with_source s name l) (all_of (length s.sources) u ++ rest) x) same v))
+  one_ending p q (walk.cycle s place name rest n h d) (walk.absent _ _ _ _ due m) = known_or_new n (file_number s.sources name) h due.new
+  one_ending p q (walk.again s place name rest e n h d w) (walk.absent _ _ _ _ due m) = known_or_new n (file_number s.sources name) h due.new
+  one_ending p q (walk.too_many s place name rest h d) (walk.absent _ _ _ _ due m) = room_or_full (length s.sources) due.room d
+  one_ending p q (walk.uncut s place name rest text at kind due c w) (walk.absent _ _ _ _ other m) = missing_or_held f name text m c
+  one_ending p q (walk.no_file s place name rest text at n due c w) (walk.absent _ _ _ _ other m) = missing_or_held f name text m c
+  one_ending p q (walk.enters s place name rest e text t due c h w) (walk.absent _ _ _ _ other m) = missing_or_held f name text m c
+  one_ending p q (walk.absent s place name rest due m) (walk.cycle _ _ _ _ n g c) = known_or_new n (file_number s.sources name) g due.new
+  one_ending p q (walk.absent s place name rest due m) (walk.again _ _ _ _ x n g c v) = known_or_new n (file_number s.sources name) g due.new
+  one_ending p q (walk.absent s place name rest due m) (walk.too_many _ _ _ _ g c) = room_or_full (length s.sources) due.room c
+  one_ending p q (walk.absent s place name rest due m) (walk.absent _ _ _ _ other n) = refl
+  one_ending p q (walk.absent s place name rest due m) (walk.uncut _ _ _ _ text at kind other c v) = missing_or_held f name text m c
+  one_ending p q (walk.absent s place name rest due m) (walk.no_file _ _ _ _ text at n other c v) = missing_or_held f name text m c
+  one_ending p q (walk.absent s place name rest due m) (walk.enters _ _ _ _ x text t other c g v) = missing_or_held f name text m c
   one_ending p q (walk.short s rest) v = undecided p
   one_ending p q (walk.short_in_load s place name rest due) v = undecided p
   one_ending p q (walk.short_after_load s place name rest text due c) v = undecided p
-  one_ending p q (walk.absent s place name rest due m) v = undecided p
   one_ending p q (walk.failed s place name rest due) v = undecided p
   one_ending p q w (walk.short s rest) = undecided q
   one_ending p q w (walk.short_in_load s place name rest due) = undecided q
   one_ending p q w (walk.short_after_load s place name rest text due c) = undecided q
-  one_ending p q w (walk.absent s place name rest due m) = undecided q
   one_ending p q w (walk.failed s place name rest due) = undecided q

@@ -29,7 +29,7 @@ pub fn operators_stay_in_range()
     ensures conditional { (meanings : List ℕ → Option Meaning) (c : Expr) (at : ℕ) (a b : Expr) (z : ℤ) → value meanings (Conditional c at a b) ≡ Ok z → is_in_range z ≡ true }
 {}
 
-/// Where the contents of files are told, a walk has one ending, but for three: that memory was wanting, that a file was absent, and that a load
+/// Where the contents of files are told, a walk has one ending, also by an absent file, but for two: that memory was wanting, and that a load
 /// failed. These may come at other places in other walks over the same files.
 #[tactic(auto, using(crate::proofs::Once::one_ending))]
 pub fn walks_have_one_ending()

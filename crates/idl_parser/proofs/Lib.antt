@@ -5,7 +5,7 @@ pub mod Plain
 pub mod Lists
 pub mod Firsts
 pub mod TypeReading
-mod Tables
+pub mod Tables
 mod Taken
 mod Bodies
 mod Answered

@@ -5,7 +5,7 @@ use Rattle.idl_grammar.specs.Lexemes.{symbol_among}
 use Rattle.idl_parser.specs.declared.words.Entry.{Entry}
 use Rattle.idl_parser.specs.Lexemes.{seen_entry}
 
-drop_here : (table : List Entry) (i : ℕ) (d : Entry) → i < length table → drop i table ≡ slice_index_or table i d ∷ drop (suc i) table
+pub drop_here : {A : Type 0} (table : List A) (i : ℕ) (d : A) → i < length table → drop i table ≡ slice_index_or table i d ∷ drop (suc i) table
 drop_here [] i d h = absurd (omega (arith, h))
 drop_here (e ∷ es) zero d h = refl
 drop_here (e ∷ es) (suc i) d h = drop_here es i d (omega (arith, h))

@@ -215,8 +215,8 @@ impl Parser<'_> {
         Ok((item, next))
     }
 
-    /// Strings with commas between.
-    pub(crate) fn strings(&self, at: usize) -> Result<(Vec<Spelling>, usize), Refusal>
+    /// Strings with commas between. Takes memory for them.
+    pub fn strings(&self, at: usize) -> Result<(Vec<Spelling>, usize), Refusal>
         requires within { at ≤ length self.now }
         ensures gives { Gives (λ v. v.items) result (commas_read self.now (spelled_read symbols.Quoted self.now) at) }
         ensures within { IfOk result (λ x. (at < x.1) × (x.1 ≤ length self.now)) }

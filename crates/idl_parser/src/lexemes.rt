@@ -16,8 +16,8 @@ pub struct Lexeme<'a> {
     pub octets: &'a [u8],
 }
 
-/// The symbol that is spelled so, or another where the table has none.
-fn among(table: &[Entry], otherwise: u8, octets: &[u8]) -> u8
+/// The symbol that is spelled so, or another where the table has none. Takes no memory.
+pub fn among(table: &[Entry], otherwise: u8, octets: &[u8]) -> u8
     ensures { result ≡ symbol_among (map seen_entry table.now) otherwise octets.now }
 {
     for entry in table {

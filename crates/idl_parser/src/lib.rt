@@ -17,7 +17,7 @@ pub mod symbol;
 #[cfg(test)]
 mod tests;
 mod types;
-mod words;
+pub mod words;
 
 pub use fault::SyntaxFault;
-pub use parsing::parse;
+pub use parsing::{fault_of, parse};

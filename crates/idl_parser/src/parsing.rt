@@ -53,8 +53,8 @@ fn stands_banned(parser: &Parser<'_>, at: usize) -> bool
     parser.stands(symbol::BANNED, at)
 }
 
-/// The fault of a refusal: a word that is banned anywhere is named as such.
-fn fault_of(parser: &Parser<'_>, refusal: Refusal) -> SyntaxFault
+/// The fault of a refusal: a word that is banned anywhere is named as such. Takes no memory.
+pub fn fault_of(parser: &Parser<'_>, refusal: Refusal) -> SyntaxFault
     requires few { length parser.now < 4294967296 }
     requires within { IsWithin refusal (length parser.now) }
     ensures { IsNamed parser.now refusal result }

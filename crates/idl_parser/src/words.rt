@@ -1,11 +1,11 @@
-// Words and marks, and their symbols.
+//! Words and marks, and their symbols.
 use crate::symbol;
 
 /// What a word or a mark is spelled as, and its symbol.
 #[derive(Clone, Copy)]
-pub(crate) struct Entry {
-    pub(crate) octets: &'static [u8],
-    pub(crate) symbol: u8,
+pub struct Entry {
+    pub octets: &'static [u8],
+    pub symbol: u8,
 }
 
 /// The words that are no mere names.

@@ -84,3 +84,5 @@ pub mod Operating
 pub mod ReadOperations
 pub mod MainFile
 pub mod Passes
+mod Named
+mod UuidDigits

@@ -1,6 +1,6 @@
 -- What a file means that keeps the rules: its interface, with the table of types and the operations.
-use Rattle.std.specs.Prelude.{ℕ, ◌+◌, ◌*◌, Bool, true, false, eqb, List, [], ◌∷◌, ◌++◌, map, Option, Some, None, option_map, ℤ, pos, negsuc, codes}
-use Rattle.std.specs.List.{flat_map}
+use Rattle.std.specs.Prelude.{◌≡◌, ℕ, ◌+◌, ◌*◌, Bool, true, false, eqb, List, [], ◌∷◌, ◌++◌, map, Option, Some, None, option_map, ℤ, pos, negsuc, codes}
+use Rattle.std.specs.List.{flat_map, list_all}
 use Rattle.nd_types.specs.declared.types.TypeId.{TypeId}
 use Rattle.nd_types.specs.declared.types.TypeDef.{TypeDef}
 use Rattle.nd_types.specs.declared.types.TypeDef.TheVariants as def
@@ -17,6 +17,7 @@ use Rattle.nd_types.specs.declared.types.Way.TheVariants as way
 use Rattle.nd_types.specs.declared.types.Operation.{Operation}
 use Rattle.nd_types.specs.Table.{Table}
 use Rattle.nd_types.specs.Kinds.{basic_types}
+use Rattle.nd_types.specs.Legal.{has_named_parts, has_names}
 use Rattle.idl_lexer.specs.Numbers.{digit_value, number_of}
 use Rattle.idl_grammar.specs.declared.attributes.PointerClass.{PointerClass}
 use Rattle.idl_grammar.specs.declared.attributes.PointerClass.TheVariants as class
@@ -214,6 +215,11 @@ operation_in s names _ = []
 -- the operations of the main file, in their order
 abbrev pub operations_of : Scene → List Operation
 operations_of s = flat_map (λ n. operation_in s n.names n.node) s.nodes
+
+-- the names of members and arms, of operations and of parameters are identifiers
+pub record HasIdentifiers (types : Table) (operations : List Operation) : Type 0 where
+  pub part_names : list_all has_named_parts types ≡ true
+  pub operation_names : list_all has_names operations ≡ true
 
 -- ## The header
 

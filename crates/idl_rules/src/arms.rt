@@ -1,6 +1,7 @@
 // The arms of a union as an interface has them.
-ghost use Rattle.std.specs.Prelude.{◌≡◌, ◌++◌, ◌∷◌, [], Some, map, option_map, is_none, IfOk, OnOk};
-ghost use Rattle.std.specs.List.{flat_map, list_any};
+ghost use Rattle.std.specs.Prelude.{◌≡◌, ◌++◌, ◌∷◌, [], true, Some, map, option_map, is_none, IfOk, OnOk};
+ghost use Rattle.std.specs.List.{flat_map, list_all, list_any};
+ghost use Rattle.nd_types.specs.Legal.{is_named, is_named_default};
 ghost use Rattle.idl_grammar.specs.Reading as reading;
 ghost use Rattle.idl_grammar.specs.Seen.{seen_expr, seen_attribute, seen_kind, seen_label, seen_arm, seen_case, seen_type};
 ghost use Rattle.idl_names.specs.Seen.{known_in};
@@ -198,7 +199,8 @@ fn types_past<'s>(name: Option<&Identifier>, types: &'s [TypeId]) -> &'s [TypeId
 
 /// The name of an arm. Takes memory for it.
 fn arm_name(alloc: Global, name: Option<&Identifier>) -> Result<Option<Name>, Memory>
-    ensures { IfOk result (λ n. n ≡ option_map (λ s. s.now.octets) name.entry) }
+    ensures made { IfOk result (λ n. n ≡ option_map (λ s. s.now.octets) name.entry) }
+    ensures named { IfOk result (λ n. is_named n ≡ true) }
 {
     match name {
         Some(name) => Ok(Some(name_of(alloc, name)?)),
@@ -213,7 +215,8 @@ fn arm_for(
     of: Option<TypeId>,
     label: i128,
 ) -> Result<nd::Arm, Memory>
-    ensures { IfOk result (λ a. a ≡ meaning.arm_for (option_map (λ s. s.now.octets) name.entry) of label) }
+    ensures made { IfOk result (λ a. a ≡ meaning.arm_for (option_map (λ s. s.now.octets) name.entry) of label) }
+    ensures named { IfOk result (λ a. is_named a.name ≡ true) }
 {
     let name = arm_name(alloc, name)?;
     Ok(nd::Arm { label, name, of })
@@ -227,7 +230,8 @@ fn add_arm(
     of: Option<TypeId>,
     label: Option<i128>,
 ) -> Result<(), Memory>
-    ensures { OnOk result (arms.new ≡ arms.old ++ arm_with (option_map (λ s. s.now.octets) name.entry) of label) }
+    ensures made { OnOk result (arms.new ≡ arms.old ++ arm_with (option_map (λ s. s.now.octets) name.entry) of label) }
+    ensures named { list_all (λ a. is_named a.name) arms.old ≡ true → OnOk result (list_all (λ a. is_named a.name) arms.new ≡ true) }
 {
     let Some(label) = label else {
         return Ok(());
@@ -247,7 +251,8 @@ fn add_arms(
     of: Option<TypeId>,
     labels: &[Option<i128>],
 ) -> Result<(), Memory>
-    ensures { OnOk result (arms.new ≡ arms.old ++ flat_map (arm_with (option_map (λ s. s.now.octets) name.entry) of) labels.now) }
+    ensures made { OnOk result (arms.new ≡ arms.old ++ flat_map (arm_with (option_map (λ s. s.now.octets) name.entry) of) labels.now) }
+    ensures named { list_all (λ a. is_named a.name) arms.old ≡ true → OnOk result (list_all (λ a. is_named a.name) arms.new ≡ true) }
 {
     for label in labels {
         add_arm(alloc, arms, name, of, *label)?;
@@ -261,7 +266,8 @@ pub(crate) fn labelled_arms(
     list: &[ValuedArm<'_>],
     types: &[TypeId],
 ) -> Result<Arms, Memory>
-    ensures { IfOk result (λ v. v ≡ arms_with (map seen_valued list.now) types.now) }
+    ensures made { IfOk result (λ v. v ≡ arms_with (map seen_valued list.now) types.now) }
+    ensures named { IfOk result (λ v. list_all (λ a. is_named a.name) v ≡ true) }
 {
     let mut arms = Arms::new(alloc);
     let mut rest = types;
@@ -296,7 +302,8 @@ pub(crate) fn default_arm(
     list: &[ValuedArm<'_>],
     types: &[TypeId],
 ) -> Result<Option<nd::Arm>, Memory>
-    ensures { IfOk result (λ a. a ≡ default_with (map seen_valued list.now) types.now) }
+    ensures made { IfOk result (λ a. a ≡ default_with (map seen_valued list.now) types.now) }
+    ensures named { IfOk result (λ a. is_named_default a ≡ true) }
 {
     let mut rest = types;
     for arm in list {

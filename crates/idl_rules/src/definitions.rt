@@ -1,6 +1,8 @@
 // The types of an interface.
-ghost use Rattle.std.specs.Prelude.{◌≡◌, [], None, map, option_map, slice_get, List, MatchOption, IfOk};
+ghost use Rattle.std.specs.List.{list_all};
+ghost use Rattle.std.specs.Prelude.{◌≡◌, [], true, None, map, option_map, slice_get, List, MatchOption, IfOk};
 ghost use Rattle.nd_types.specs.declared.types.TypeDef.TheVariants as def;
+ghost use Rattle.nd_types.specs.Legal.{has_named_parts};
 ghost use Rattle.idl_grammar.specs.Seen.{seen_type, seen_enumerator};
 ghost use Rattle.idl_names.specs.Seen.{known_in};
 ghost use Rattle.idl_rules.specs.World as world;
@@ -104,10 +106,11 @@ fn struct_of(
     program: &Program<'_, '_>,
     found: &FoundBody<'_, '_>,
 ) -> Result<TypeDef, Memory>
-    ensures { IfOk result (λ d. d ≡ meaning.struct_of (each_with
+    ensures made { IfOk result (λ d. d ≡ meaning.struct_of (each_with
         (field_with (parts_declared (seen_construct found.now.construct.now) (seen_type found.now.body.now)))
         (parts_declared (seen_construct found.now.construct.now) (seen_type found.now.body.now))
         (ids_of program.now.types.now.kinds program.now.numbers.now found.now.noted.now.parts.items))) }
+    ensures named { IfOk result (λ d. has_named_parts d ≡ true) }
 {
     let list = parts(alloc, found.construct, found.body)?;
     let ids = numbered(
@@ -140,13 +143,14 @@ fn union_of(
     encapsulated: bool,
     found: &FoundBody<'_, '_>,
 ) -> Result<TypeDef, Memory>
-    ensures { IfOk result (λ d. d ≡ def.Union
+    ensures made { IfOk result (λ d. d ≡ def.Union
         (tag_id program.now.types.now.kinds program.now.numbers.now found.now.noted.now.tag)
         encapsulated
         (arms_with (map (valued (known_in program.now.scope.now)) (arms_of (seen_type found.now.body.now)))
         (ids_of program.now.types.now.kinds program.now.numbers.now found.now.noted.now.parts.items))
         (default_with (map (valued (known_in program.now.scope.now)) (arms_of (seen_type found.now.body.now)))
         (ids_of program.now.types.now.kinds program.now.numbers.now found.now.noted.now.parts.items))) }
+    ensures named { IfOk result (λ d. has_named_parts d ≡ true) }
 {
     let list = valued_arms(alloc, program.scope, found.body)?;
     let ids = numbered(
@@ -196,7 +200,8 @@ fn enum_of(alloc: Global, scope: &Scope, enumerators: &[Enumerator]) -> Result<T
 /// What a place is as a struct. In files that are resolved its body is a struct; another would be told as want of memory.
 fn struct_at(alloc: Global, program: &Program<'_, '_>, place: Place) -> Result<TypeDef, Memory>
     requires { IsProgram program.now }
-    ensures { IfOk result (λ d. d ≡ meaning.definition (scene_in program.now) (Struct place)) }
+    ensures made { IfOk result (λ d. d ≡ meaning.definition (scene_in program.now) (Struct place)) }
+    ensures named { IfOk result (λ d. has_named_parts d ≡ true) }
 {
     let Some(found) = body_at(program, place)? else {
         return Ok(nothing(alloc));
@@ -210,7 +215,8 @@ fn struct_at(alloc: Global, program: &Program<'_, '_>, place: Place) -> Result<T
 /// What a place is as a union. In files that are resolved its body is a union; another would be told as want of memory.
 fn union_at(alloc: Global, program: &Program<'_, '_>, place: Place) -> Result<TypeDef, Memory>
     requires { IsProgram program.now }
-    ensures { IfOk result (λ d. d ≡ meaning.definition (scene_in program.now) (Union place)) }
+    ensures made { IfOk result (λ d. d ≡ meaning.definition (scene_in program.now) (Union place)) }
+    ensures named { IfOk result (λ d. has_named_parts d ≡ true) }
 {
     let Some(found) = body_at(program, place)? else {
         return Ok(nothing(alloc));
@@ -225,7 +231,8 @@ fn union_at(alloc: Global, program: &Program<'_, '_>, place: Place) -> Result<Ty
 /// What a place is as an enumerated type. In files that are resolved its body is an enum; another would be told as want of memory.
 fn enum_at(alloc: Global, program: &Program<'_, '_>, place: Place) -> Result<TypeDef, Memory>
     requires { IsProgram program.now }
-    ensures { IfOk result (λ d. d ≡ meaning.definition (scene_in program.now) (Enum place)) }
+    ensures made { IfOk result (λ d. d ≡ meaning.definition (scene_in program.now) (Enum place)) }
+    ensures named { IfOk result (λ d. has_named_parts d ≡ true) }
 {
     let Some(found) = body_at(program, place)? else {
         return Ok(nothing(alloc));
@@ -293,7 +300,8 @@ fn class_of(class: Class) -> nd::Class
 
 /// A primitive type, or a context handle.
 fn basic(kind: Kind) -> TypeDef
-    ensures { (types : List IdlType) → result ≡ basic_made (basic_in (type_by types kind)) }
+    ensures made { (types : List IdlType) → result ≡ basic_made (basic_in (type_by types kind)) }
+    ensures named { has_named_parts result ≡ true }
 {
     match kind.primitive() {
         Some(primitive) => TypeDef::Prim(primitive),
@@ -304,7 +312,8 @@ fn basic(kind: Kind) -> TypeDef
 /// What a type is in the table. Takes memory for it.
 fn definition(alloc: Global, program: &Program<'_, '_>, of: u32) -> Result<TypeDef, Memory>
     requires { IsProgram program.now }
-    ensures { IfOk result (λ d. d ≡ meaning.definition (scene_in program.now) (type_at program.now.types.now.kinds of)) }
+    ensures made { IfOk result (λ d. d ≡ meaning.definition (scene_in program.now) (type_at program.now.types.now.kinds of)) }
+    ensures named { IfOk result (λ d. has_named_parts d ≡ true) }
 {
     match program.types.kinds.kind(of) {
         Kind::Struct { file, at } => struct_at(alloc, program, Place { file, at }),
@@ -330,7 +339,8 @@ fn definition(alloc: Global, program: &Program<'_, '_>, of: u32) -> Result<TypeD
 /// The types of the interface. Takes memory for them.
 pub(crate) fn type_table(alloc: Global, program: &Program<'_, '_>) -> Result<nd::Types, Memory>
     requires { IsProgram program.now }
-    ensures { IfOk result (λ t. t ≡ meaning.types_of (scene_in program.now)) }
+    ensures made { IfOk result (λ t. t ≡ meaning.types_of (scene_in program.now)) }
+    ensures named { IfOk result (λ t. list_all has_named_parts t ≡ true) }
 {
     let mut table = nd::Types::basic(alloc)?;
     for own in &program.numbers.own {

@@ -1,6 +1,7 @@
 // What the header of a file says.
-ghost use Rattle.std.specs.Prelude.{◌≡◌, ◌∷◌, ℕ, List, map, IfOk};
+ghost use Rattle.std.specs.Prelude.{◌≡◌, [], ◌∷◌, ◌^◌, ◌<◌, ℕ, List, map, IfOk};
 ghost use Rattle.idl_lexer.specs.Numbers.{digit_value};
+ghost use Rattle.idl_lexer.specs.Pieces.{IsUuid};
 ghost use Rattle.idl_grammar.specs.Seen.{seen_kind, seen_attribute};
 ghost use Rattle.idl_rules.specs.Attributes.{first_said};
 ghost use Rattle.idl_rules.specs.Meaning.{uuid_from, uuid_said, major_said, minor_said, or_none};
@@ -22,52 +23,48 @@ fn digit_value(digit: u8) -> u8
     }
 }
 
-/// A number with one more octet of a UUID. No UUID has more than 128 bits, and one that had were told as want of memory.
-fn with_octet(number: u128, octet: u8) -> Result<u128, Memory>
-    ensures { (more : List ℕ) → IfOk result (λ n. uuid_from number (octet ∷ more) ≡ uuid_from n more) }
+/// A number with one more octet of a UUID, where it still has 128 bits.
+fn with_octet(number: u128, octet: u8) -> u128
+    requires { uuid_from number (octet ∷ []) < 2 ^ 128 }
+    ensures { (more : List ℕ) → uuid_from number (octet ∷ more) ≡ uuid_from result more }
 {
     if octet == b'-' {
-        return Ok(number);
+        return number;
     }
-    let Some(shifted) = number.checked_mul(16) else {
-        return Err(Memory);
-    };
-    match shifted.checked_add(u128::from(digit_value(octet))) {
-        Some(next) => Ok(next),
-        None => Err(Memory),
-    }
+    16 * number + u128::from(digit_value(octet))
 }
 
 /// The number of a UUID.
-fn uuid_of(octets: &[u8]) -> Result<u128, Memory>
-    ensures { IfOk result (λ n. n ≡ uuid_from 0 octets.now) }
+fn uuid_of(octets: &[u8]) -> u128
+    requires { IsUuid octets.now }
+    ensures { result ≡ uuid_from 0 octets.now }
 {
     let mut number = 0;
     for octet in octets {
-        number = with_octet(number, *octet)?;
+        number = with_octet(number, *octet);
     }
-    Ok(number)
+    number
 }
 
-fn uuid_said(kind: &AttributeKind) -> Result<Option<u128>, Memory>
-    ensures { IfOk result (λ u. u ≡ uuid_said (seen_kind kind.now)) }
+fn uuid_said(kind: &AttributeKind) -> Option<u128>
+    ensures { result ≡ uuid_said (seen_kind kind.now) }
 {
     match kind {
-        AttributeKind::Uuid(uuid) => Ok(Some(uuid_of(uuid.octets.as_slice())?)),
-        _ => Ok(None),
+        AttributeKind::Uuid(uuid) => Some(uuid_of(uuid.as_slice())),
+        _ => None,
     }
 }
 
 /// The UUID of a header.
-pub(crate) fn uuid(list: &[Attribute]) -> Result<Option<u128>, Memory>
-    ensures { IfOk result (λ u. u ≡ first_said uuid_said (map seen_attribute list.now)) }
+pub(crate) fn uuid(list: &[Attribute]) -> Option<u128>
+    ensures { result ≡ first_said uuid_said (map seen_attribute list.now) }
 {
     for attribute in list {
-        if let Some(uuid) = uuid_said(&attribute.kind)? {
-            return Ok(Some(uuid));
+        if let Some(uuid) = uuid_said(&attribute.kind) {
+            return Some(uuid);
         }
     }
-    Ok(None)
+    None
 }
 
 fn major_said(kind: &AttributeKind) -> Option<u64>

@@ -18,7 +18,7 @@ ghost use Rattle.idl_rules.specs.Scene.{Scene, Use, scene_of};
 ghost use Rattle.idl_rules.specs.Kept.{KeepsUse};
 ghost use Rattle.nd_types.specs.Legal.{IsLegal, refers_to_no_reference};
 ghost use Rattle.idl_rules.specs.Numbering.{is_numbered, is_numbered_or_none, needed_types, number_of_type};
-ghost use Rattle.idl_rules.specs.Meaning.{types_of, operations_of, definition, meaning};
+ghost use Rattle.idl_rules.specs.Meaning.{types_of, operations_of, definition, meaning, HasIdentifiers};
 ghost use Rattle.idl_rules.specs.Rules.{breach, breaches, breaches_in, breaches_of_use};
 ghost use Rattle.idl_rules.specs.FirstBroken.{first_broken, IsLeast};
 ghost use Rattle.nd_types.specs.declared.interface.Interface.{Interface};
@@ -75,10 +75,11 @@ pub fn types_are_few()
     ensures { (s : Scene) → breaches_in s ≡ [] → length (types_of s) ≤ TYPE_LIMIT }
 {}
 
-/// Files that break no rule mean a legal interface, whatever is known of their names; so do two texts.
+/// Files that break no rule, and whose names are identifiers as those of texts are, mean a legal interface, whatever is known of the names; so do two texts.
 pub fn meaning_is_legal()
-    ensures tables { (w : World) → breaches w ≡ [] → IsLegal (types_of (scene_of w)) (operations_of (scene_of w)) }
-    ensures meanings { (w : World) → first_broken w ≡ None → All (λ m. IsLegal m.types m.operations) (meaning w) }
+    ensures tables { (w : World) → breaches w ≡ [] → HasIdentifiers (types_of (scene_of w)) (operations_of (scene_of w))
+        → IsLegal (types_of (scene_of w)) (operations_of (scene_of w)) }
+    ensures meanings { (w : World) → first_broken w ≡ None → All (λ m. HasIdentifiers m.types m.operations → IsLegal m.types m.operations) (meaning w) }
     ensures sum { IsLegal sum_meant.types sum_meant.operations }
     ensures directory { IsLegal directory_meant.types directory_meant.operations }
 {}

@@ -58,7 +58,7 @@ pub(crate) fn interface(
     let tree = main_tree(&scope.files)?;
     let name = name_of(alloc, &tree.name)?;
     let list = tree.attributes.list.as_slice();
-    let uuid = uuid(list)?;
+    let uuid = uuid(list);
     let major = major(list)?;
     let minor = minor(list)?;
     let program = Program {

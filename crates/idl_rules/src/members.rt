@@ -1,5 +1,7 @@
 // Members and parameters as an interface has them.
-ghost use Rattle.std.specs.Prelude.{◌≡◌, ◌++◌, ◌∷◌, [], map, option_map, IfOk, OnOk};
+ghost use Rattle.std.specs.Prelude.{◌≡◌, ◌++◌, ◌∷◌, [], map, option_map, IfOk, OnOk, true};
+ghost use Rattle.std.specs.List.{list_all};
+ghost use Rattle.nd_base.specs.Text.{is_identifier};
 ghost use Rattle.idl_grammar.specs.Seen.{seen_kind, seen_attribute};
 ghost use Rattle.idl_names.specs.Tables.{found};
 ghost use Rattle.idl_rules.specs.Attributes as attributes_of;
@@ -20,15 +22,12 @@ use nd_base::{Memory, Name};
 use nd_types::{Attr, AttrVar, AttrVars, Field, Fields, Param, Params, TypeId, Way};
 use std::alloc::Global;
 
-/// A name. Takes memory for it. By the language each has 1 to 31 octets; another would be told as want of memory.
-pub(crate) fn name_of(alloc: Global, name: &Spelling) -> Result<Name, Memory>
-    ensures { IfOk result (λ n. n ≡ name.now.octets) }
+/// A copy of a name, which is an identifier. Takes memory for it.
+pub(crate) fn name_of(alloc: Global, name: &Identifier) -> Result<Name, Memory>
+    ensures same { IfOk result (λ n. n ≡ name.now.octets) }
+    ensures named { is_identifier name.now.octets ≡ true }
 {
-    let octets = name.octets.as_slice();
-    if octets.is_empty() || octets.len() > 31 {
-        return Err(Memory);
-    }
-    Name::copy(alloc, octets)
+    name.to_name(alloc)
 }
 
 /// The numbers of types. Takes memory for them.
@@ -189,7 +188,8 @@ fn all_variables(
 
 /// A member or parameter of a list, with its type. Takes memory for its name and variables.
 fn field(alloc: Global, table: &Table<u32>, it: &Declared<'_>, of: TypeId) -> Result<Field, Memory>
-    ensures { IfOk result (λ f. f ≡ field_by table.now (seen_declared it.now) of) }
+    ensures made { IfOk result (λ f. f ≡ field_by table.now (seen_declared it.now) of) }
+    ensures named { IfOk result (λ f. is_identifier f.name ≡ true) }
 {
     let name = name_of(alloc, &it.declarator.name)?;
     let vars = all_variables(alloc, table, it.construct.attributes)?;
@@ -203,7 +203,8 @@ fn fields_by(
     list: &[Declared<'_>],
     types: &[TypeId],
 ) -> Result<Fields, Memory>
-    ensures { IfOk result (λ v. v ≡ each_with (field_by table.now) (map seen_declared list.now) types.now) }
+    ensures made { IfOk result (λ v. v ≡ each_with (field_by table.now) (map seen_declared list.now) types.now) }
+    ensures named { IfOk result (λ v. list_all (λ f. is_identifier f.name) v ≡ true) }
 {
     let mut fields = Fields::new(alloc);
     for index in 0..list.len() {
@@ -225,7 +226,8 @@ pub(crate) fn fields(
     list: &[Declared<'_>],
     types: &[TypeId],
 ) -> Result<Fields, Memory>
-    ensures { IfOk result (λ v. v ≡ each_with (field_with (map seen_declared list.now)) (map seen_declared list.now) types.now) }
+    ensures made { IfOk result (λ v. v ≡ each_with (field_with (map seen_declared list.now)) (map seen_declared list.now) types.now) }
+    ensures named { IfOk result (λ v. list_all (λ f. is_identifier f.name) v ≡ true) }
 {
     let table = indexes(alloc, list)?;
     let fields = fields_by(alloc, &table, list, types)?;
@@ -250,7 +252,8 @@ fn parameter(
     it: &Declared<'_>,
     of: TypeId,
 ) -> Result<Param, Memory>
-    ensures { IfOk result (λ p. p ≡ parameter_by table.now (seen_declared it.now) of) }
+    ensures made { IfOk result (λ p. p ≡ parameter_by table.now (seen_declared it.now) of) }
+    ensures named { IfOk result (λ p. is_identifier p.field.name ≡ true) }
 {
     let field = field(alloc, table, it, of)?;
     Ok(Param {
@@ -266,7 +269,8 @@ fn parameters_by(
     list: &[Declared<'_>],
     types: &[TypeId],
 ) -> Result<Params, Memory>
-    ensures { IfOk result (λ v. v ≡ each_with (parameter_by table.now) (map seen_declared list.now) types.now) }
+    ensures made { IfOk result (λ v. v ≡ each_with (parameter_by table.now) (map seen_declared list.now) types.now) }
+    ensures named { IfOk result (λ v. list_all (λ p. is_identifier p.field.name) v ≡ true) }
 {
     let mut parameters = Params::new(alloc);
     for index in 0..list.len() {
@@ -288,7 +292,8 @@ pub(crate) fn parameters(
     list: &[Declared<'_>],
     types: &[TypeId],
 ) -> Result<Params, Memory>
-    ensures { IfOk result (λ v. v ≡ each_with (parameter_with (map seen_declared list.now)) (map seen_declared list.now) types.now) }
+    ensures made { IfOk result (λ v. v ≡ each_with (parameter_with (map seen_declared list.now)) (map seen_declared list.now) types.now) }
+    ensures named { IfOk result (λ v. list_all (λ p. is_identifier p.field.name) v ≡ true) }
 {
     let table = indexes(alloc, list)?;
     let parameters = parameters_by(alloc, &table, list, types)?;

@@ -1,5 +1,7 @@
 // The operations of an interface.
-ghost use Rattle.std.specs.Prelude.{◌≡◌, map, option_map, IfOk};
+ghost use Rattle.std.specs.Prelude.{◌≡◌, true, map, option_map, IfOk};
+ghost use Rattle.std.specs.List.{list_all};
+ghost use Rattle.nd_types.specs.Legal.{has_names};
 ghost use Rattle.idl_rules.specs.Meaning.{operations_of, result_number};
 ghost use Rattle.idl_rules.specs.Kinds.{type_at};
 ghost use Rattle.idl_rules.specs.SeenNodes as seen;
@@ -47,12 +49,13 @@ fn operation_of(
     noted: &OperationTypes,
 ) -> Result<Operation, Memory>
     requires { IsProgram program.now }
-    ensures { IfOk result (λ o. o ≡ record {
+    ensures made { IfOk result (λ o. o ≡ record {
       name = it.now.name.now.octets;
       params = each_with (parameter_with (map seen_declared list.now)) (map seen_declared list.now)
           (ids_of program.now.types.now.kinds program.now.numbers.now noted.now.parameters.items);
       result = result_number (scene_in program.now) (type_at program.now.types.now.kinds noted.now.result);
     }) }
+    ensures named { IfOk result (λ o. has_names o ≡ true) }
 {
     let name = name_of(alloc, it.name)?;
     let ids = numbered(
@@ -76,8 +79,9 @@ fn operation(
     noted: &OperationTypes,
 ) -> Result<Operation, Memory>
     requires { IsProgram program.now }
-    ensures { (o : operations_seen.Called) → IsOperation (scene_in program.now) program.now.nodes.now program.now.types.now.kinds o noted.now
+    ensures made { (o : operations_seen.Called) → IsOperation (scene_in program.now) program.now.nodes.now program.now.types.now.kinds o noted.now
         → IfOk result (λ made. made ≡ operation_made (scene_in program.now) o) }
+    ensures named { IfOk result (λ o. has_names o ≡ true) }
 {
     match node_at(program.nodes, noted.node) {
         Some(Node::Operation { it, parameters }) => {
@@ -91,7 +95,8 @@ fn operation(
 /// The operations of the main file, in their order. Takes memory for them.
 pub(crate) fn all_operations(alloc: Global, program: &Program<'_, '_>) -> Result<Operations, Memory>
     requires { IsProgram program.now }
-    ensures { IfOk result (λ o. o ≡ operations_of (scene_in program.now)) }
+    ensures made { IfOk result (λ o. o ≡ operations_of (scene_in program.now)) }
+    ensures named { IfOk result (λ v. list_all has_names v ≡ true) }
 {
     let mut operations = Operations::new(alloc);
     for noted in &program.types.operations {

@@ -1,11 +1,11 @@
 -- The canonical form of a graph that conforms stands in a text: its nodes have the forms of a text, and each cell is named before its line.
 -- `w` is a setting, `g` a graph that conforms, `h` its canonical form, `m` carries the numbers of g's cells to those of h.
-use Rattle.std.proofs.Common.{◌≡◌, ◌⊎◌, inl, inr, ℕ, zero, suc, ◌+◌, ◌<◌, ◌≤◌, ◌^◌, Bool, true, false, ◌&&◌, eqb, List, [], ◌∷◌, ◌++◌, length, map, Option, Some, None, refl, ap, ap₂, sym, ◌∙◌, subst, arith, get_or, add-one}
+use Rattle.std.proofs.Common.{◌≡◌, ◌⊎◌, inl, inr, ℕ, zero, suc, ◌+◌, ◌<◌, ◌≤◌, ◌^◌, Bool, true, false, eqb, List, [], ◌∷◌, ◌++◌, length, map, Option, Some, None, refl, ap, sym, ◌∙◌, subst, arith, get_or}
 use Rattle.std.specs.Prelude.{flat_map}
 use Rattle.std.specs.List.{list_all, slice_get, AllByRecursion}
 use Rattle.std.proofs.lemmas.Bool.{and_from, eqb-true, eq-eqb, both_ways, cases_lt}
 use Rattle.std.proofs.lemmas.Option.{same_Some, slice_get-get_or, slice_get_within}
-use Rattle.nd_types.specs.Table.{Table, type_at}
+use Rattle.nd_types.specs.Table.{type_at}
 use Rattle.nd_types.specs.Legal.{has_small_values}
 use Rattle.nd_types.specs.Roots.{Root}
 use Rattle.nd_graph.specs.declared.value.Graph.{Graph}
@@ -14,20 +14,19 @@ use Rattle.nd_graph.specs.declared.item.Home.TheVariants as home
 use Rattle.nd_graph.specs.Tree as tree
 use Rattle.nd_graph.specs.Tree.{Tree, Trees, node, none, more, Label, Referent, trees, count}
 use Rattle.nd_graph.specs.Setting.{Setting, Among, root_list, cell_home, cell_of_number}
-use Rattle.nd_graph.specs.Agreement.{Agreement}
 use Rattle.nd_graph.specs.Nodes.{TypedNode, nodes_of, governed_nodes, home_nodes}
 use Rattle.nd_graph.specs.Variables.{root_agreements}
-use Rattle.nd_graph.specs.Deferral.{Pending, pointer, home_pointers, before_pipes, due_roots}
+use Rattle.nd_graph.specs.Deferral.{Pending, pointer, home_pointers}
 use Rattle.nd_graph.specs.Homes.{HomeNode, in_home, root_nodes, cell_nodes, all_nodes, root_pointers}
 use Rattle.nd_graph.specs.Canon.{IsCanon, canonical_number, named_cells}
 use Rattle.nd_graph.specs.Conforms.{Conforms}
 use Rattle.nd_graph.specs.Misfit.{misfit_of, has_machine_values}
-use Rattle.nd_graph.specs.Same.{Same, renumbered}
+use Rattle.nd_graph.specs.Same.{renumbered}
 use Rattle.nd_graph.proofs.Apart.{all_weaker, all_left, all_right, all_append, all_map, all_among, among_left, among_right}
 use Rattle.nd_graph.proofs.NodeFacts.{fit_node, all_of_list}
 use Rattle.nd_graph.proofs.Orderly.{Pointee, PointerFits, pointees}
 use Rattle.nd_grammar.specs.LegalSide.{IsLegalSide}
-use Rattle.nd_grammar.proofs.Counting.{Distinct, no_longer, down, length_down, among_down, down_distinct}
+use Rattle.nd_grammar.proofs.next.Counting.{Distinct, no_longer, down, among_down}
 use Rattle.nd_grammar.proofs.RenumberedEntries.{count_same, carried, PendLike, AllPend, pointers_alike}
 use Rattle.nd_grammar.proofs.PlainStreams.{Suffix, suffix_next, suffix_first, suffix_whole}
 use Rattle.value_text.specs.Readable.{IsReadable, AreNamed, first_type, is_cell, has_text_form}
@@ -64,10 +63,11 @@ module _ (n : ℕ) (m : ℕ → ℕ) (within : (c : ℕ) → 0 < c → c ≤ n �
 
   images_distinct : (k : ℕ) → k ≤ n → Distinct (map m (down k))
   images_distinct zero few = tt
-  images_distinct (suc k) few =
-      (all_but (suc k) (down k) (λ y a e. let r = down_within k y a in
+  images_distinct (suc k) few = (
+    all_but (suc k) (down k) (λ y a e. let r = down_within k y a in
         let same : suc k ≡ y = apart (suc k) y (omega arith) few r.0 (omega (arith, r.1, few)) e in omega (arith, same, r.1)),
-        images_distinct k (omega (arith, few)))
+    images_distinct k (omega (arith, few)),
+  )
 
   map_length : (xs : List ℕ) → length (map m xs) ≡ length xs
   map_length [] = refl
@@ -389,13 +389,14 @@ module _ (w : Setting) (side : IsLegalSide w) (g h : Graph) (c : Conforms w g) (
   are_named j n [] e x before b = tt
   are_named j n (y ∷ ys) e x before b =
       let there : slice_get h.cells j ≡ Some y = suffix_first h.cells j y ys x in
-      let own : List Pending = home_pointers w.table (cell_home n) y.of y.val in
-      (ap (first_type before) e ∙ first_named j y there before b,
+      let own : List Pending = home_pointers w.table (cell_home n) y.of y.val in (
+        ap (first_type before) e ∙ first_named j y there before b,
         are_named (suc j) (n + 1) ys (omega (arith, e)) (suffix_next h.cells j y ys x) (before ++ own) (record {
           roots = λ q a. among_left before own q (b.roots q a);
           cells = λ i z q low at a. earlier i z q low at a (cases_lt i j);
           typed = λ q a. either q a;
-        }))
+        }),
+      )
     where
       there' : slice_get h.cells j ≡ Some y
       there' = suffix_first h.cells j y ys x

@@ -25,3 +25,4 @@ pub mod PrintedReads
 pub mod OneOfTwo
 pub mod Tested
 pub mod WorkedTexts
+pub mod WorkedPrinted

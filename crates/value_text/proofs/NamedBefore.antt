@@ -3,28 +3,27 @@
 use Rattle.std.proofs.Common.{◌≡◌, ◌⊎◌, inl, inr, ℕ, zero, suc, ◌+◌, ◌<◌, ◌≤◌, Bool, true, false, cond, eqb, List, [], ◌∷◌, ◌++◌, length, map, Option, Some, None, refl, ap, sym, ◌∙◌, subst, arith, append_assoc, get_or}
 use Rattle.std.specs.Prelude.{flat_map}
 use Rattle.std.specs.List.{slice_get, AllByRecursion}
-use Rattle.std.proofs.lemmas.Bool.{eqb-true, eqb-false, eq-eqb, both_ways}
+use Rattle.std.proofs.lemmas.Bool.{eqb-true, eqb-false, both_ways}
 use Rattle.std.proofs.lemmas.Option.{same_Some, slice_get-get_or}
 use Rattle.nd_types.specs.declared.types.Class.TheVariants.{Ref}
 use Rattle.nd_types.specs.Table.{Table, type_at}
 use Rattle.nd_types.specs.Roots.{Root}
 use Rattle.nd_graph.specs.declared.value.Graph.{Graph}
-use Rattle.nd_graph.specs.declared.item.Home.{Home}
 use Rattle.nd_graph.specs.declared.item.Home.TheVariants as home
 use Rattle.nd_graph.specs.Tree as tree
 use Rattle.nd_graph.specs.Tree.{Tree, Trees, node, none, more, Label, Referent}
 use Rattle.nd_graph.specs.Setting.{Setting, Among, root_list, root_at, or_unread, cell_home, cell_at, cell_tree, cell_of_number}
-use Rattle.nd_graph.specs.Deferral.{Pending, home_pointers, Due, due_root, due_referent, Step, root_stands, referent_stands, Deferral, none_due, at_root, at_null, at_standing, at_referent, Placed_cells, Standing, standing_root, standing_by, standing_cell, direct, root_type, due_of, due_roots, before_pipes}
+use Rattle.nd_graph.specs.Deferral.{Pending, home_pointers, Due, due_root, due_referent, Step, Deferral, none_due, at_root, at_null, at_standing, at_referent, Placed_cells, Standing, standing_root, standing_by, standing_cell, direct, root_type, due_of, due_roots, before_pipes}
 use Rattle.nd_graph.specs.Homes.{root_pointers}
-use Rattle.nd_graph.specs.Canon.{target, named, own_cell, step_names, named_cells, has, number_from, canonical_number}
+use Rattle.nd_graph.specs.Canon.{target, named, own_cell, named_cells, has, number_from, canonical_number}
 use Rattle.nd_graph.specs.Conforms.{Conforms}
 use Rattle.nd_graph.proofs.Apart.{all_append, among_left, among_right}
 use Rattle.nd_graph.proofs.DeferralExists.{direct_is, direct_pointer}
 use Rattle.nd_grammar.specs.LegalSide.{IsLegalSide}
-use Rattle.nd_grammar.proofs.CanonNumbers.{number_low}
-use Rattle.nd_grammar.proofs.GoodStream.{DueGood, StandsGood, standing_due, root_good, pending_cell}
+use Rattle.nd_grammar.proofs.written.CanonNumbers.{number_low}
+use Rattle.nd_grammar.proofs.conforming.GoodStream.{DueGood, StandsGood, standing_due, root_good, pending_cell}
 use Rattle.nd_grammar.proofs.ChosenRepresents.{none_inside, w_roots, of_named, own_within, dues}
-use Rattle.nd_grammar.proofs.WritableTrees.{WritableTrees}
+use Rattle.nd_grammar.proofs.written.WritableTrees.{WritableTrees}
 
 -- ## Lists of cells
 
@@ -262,9 +261,9 @@ module _ (w : Setting) (side : IsLegalSide w) (g : Graph) (c : Conforms w g) whe
       elim (among_or_not own k) [
         | inl o ↦ own_named i r e L k o
         | inr o ↦ elim (among_or_not nam k) [
-            | inl n ↦ root_source i r e s A L N eq k x o n
-            | inr n ↦ again (behind (own ++ nam) N k (neither own nam k o n) m) (neither A (own ++ nam) k x (neither own nam k o n))
-          ]
+          | inl n ↦ root_source i r e s A L N eq k x o n
+          | inr n ↦ again (behind (own ++ nam) N k (neither own nam k o n) m) (neither A (own ++ nam) k x (neither own nam k o n))
+        ]
       ]
   sources (at_null e d) a A kn L eq k m x = sources d a.1 A kn.1 L eq k m x
   sources (at_standing b e full h d) a A kn L eq k m x = sources d a.1 A kn.1 L eq k m x

@@ -4,7 +4,7 @@ use Rattle.nd_types.specs.Legal.{IsLegal}
 use Rattle.idl_rules.specs.World.{World}
 use Rattle.idl_rules.specs.Scene.{scene_of}
 use Rattle.idl_rules.specs.Rules.{breaches}
-use Rattle.idl_rules.specs.Meaning.{types_of, operations_of}
+use Rattle.idl_rules.specs.Meaning.{types_of, operations_of, HasIdentifiers}
 use Rattle.idl_rules.proofs.Referents.{table_referents}
 use Rattle.idl_rules.proofs.Few.{few_types}
 use Rattle.idl_rules.proofs.Scenes.{kept}
@@ -15,9 +15,9 @@ use Rattle.idl_rules.proofs.legal.Alone as alone
 use Rattle.idl_rules.proofs.legal.Counts as counts
 use Rattle.idl_rules.proofs.fields.Facts.{legal_fields}
 
--- files that break no rule mean a legal interface
-pub all_legal : (w : World) → breaches w ≡ [] → IsLegal (types_of (scene_of w)) (operations_of (scene_of w))
-all_legal w h =
+-- files that break no rule, and whose names are identifiers, mean a legal interface
+pub all_legal : (w : World) → breaches w ≡ [] → HasIdentifiers (types_of (scene_of w)) (operations_of (scene_of w)) → IsLegal (types_of (scene_of w)) (operations_of (scene_of w))
+all_legal w h named =
     let s = scene_of w in
     let k = kept w h in
     let f = legal_fields w h in
@@ -61,6 +61,8 @@ all_legal w h =
       out_pointers = f.out_pointers;
       out_types = f.out_types;
       results = f.results;
+      part_names = named.part_names;
+      operation_names = named.operation_names;
       few_types = few_types s k.none;
       few_operations = f.few_operations;
       few_params = f.few_params;

@@ -4,14 +4,12 @@ use Rattle.std.specs.Prelude.{Result, Ok, Err, All}
 use Rattle.std.proofs.lemmas.List.Elements.{All-map}
 use Rattle.phrases.specs.Reading.{Fault}
 use Rattle.nd_types.specs.Legal.{IsLegal}
-use Rattle.nd_types.specs.declared.interface.Interface.{Interface}
 use Rattle.idl_grammar.specs.Tree.{Tree}
 use Rattle.idl_rules.specs.World.{World}
 use Rattle.idl_rules.specs.Rules.{Breach}
 use Rattle.idl_rules.specs.FirstBroken.{first_broken, IsLeast}
-use Rattle.idl_rules.specs.Meaning.{Meant, types_of, operations_of, header_meant, main_among}
+use Rattle.idl_rules.specs.Meaning.{Meant, types_of, operations_of, header_meant, main_among, HasIdentifiers}
 use Rattle.idl_rules.specs.Alone.{alone}
-use Rattle.idl_rules.specs.Answers.{IsMeaning, meant_by}
 use Rattle.idl_rules.specs.Texts.{cut, told_of_tree, no_rule}
 use Rattle.idl_rules.specs.Interfaces.{meant_of_tree}
 use Rattle.idl_rules.proofs.Order.{least}
@@ -34,10 +32,10 @@ use Rattle.idl_rules.specs.Interfaces.{meant_of, sum_text, sum_meant, directory_
 
 -- that each file without a broken rule means a legal interface
 abbrev pub AllLegal : Type 0
-AllLegal = (w : World) → breaches w ≡ [] → IsLegal (types_of (scene_of w)) (operations_of (scene_of w))
+AllLegal = (w : World) → breaches w ≡ [] → HasIdentifiers (types_of (scene_of w)) (operations_of (scene_of w)) → IsLegal (types_of (scene_of w)) (operations_of (scene_of w))
 
 abbrev pub IsLegalMeant : Meant → Type 0
-IsLegalMeant m = IsLegal m.types m.operations
+IsLegalMeant m = HasIdentifiers m.types m.operations → IsLegal m.types m.operations
 
 unbroken : (w : World) → first_broken w ≡ None → breaches w ≡ []
 unbroken w h = subst (IsLeast w (breaches w)) h (least w (breaches w))
@@ -45,12 +43,6 @@ unbroken w h = subst (IsLeast w (breaches w)) h (least w (breaches w))
 pub of_meaning : AllLegal → (w : World) → first_broken w ≡ None → All IsLegalMeant (meaning w)
 unfolding meaning
 of_meaning legal w h = All-map IsLegalMeant (header_meant (scene_of w)) (main_among w.files) (λ k t i. legal w (unbroken w h))
-
--- the interface of an answer
-pub of_interface : AllLegal → (w : World) (i : Interface) → IsMeaning w i → IsLegal i.types i.operations
-of_interface legal w i m =
-    let all = subst (All IsLegalMeant) m.means (of_meaning legal w m.keeps) in
-    all 0 (meant_by i) (omega (arith))
 
 of_tree : AllLegal → (r : Result Tree Fault) → told_of_tree r ≡ no_rule → All IsLegalMeant (meant_of_tree r)
 of_tree legal (Ok t) h = of_meaning legal (alone t) (same (first_broken (alone t)) None h)
@@ -72,8 +64,8 @@ directory_told : told_of directory_text ≡ no_rule
 unfolding words symbol_of names binary_operators unary_operators binary_of unary_of symbol_level is_unary is_operator many_operators is_operand operand_of outer_read simple_firsts width_read unsigned_read integer_read simple_read switch_type_read pointer_class_read variable_word_read variable_name_read uuid_read version_numbers_read version_read endpoint_read pointer_default_read variable_read switch_attribute_read case_attribute_read bracket_attribute_read attribute_kind_read attribute_read attributes_read maybe_attributes_read upper_read range_read bound_read dimension_read declarator_read declarators_read enumerator_read enumerators_read label_read labels_read discriminant_read maybe_name_read union_switch_read type_firsts member_firsts arm_firsts member_read members_read struct_body_read arm_field_read arm_read case_read cases_read cases_body_read arms_read arms_body_read struct_read union_body_read union_read enum_read parameter_read more_parameters_read void_parameters_read parameters_read init_read typedef_read const_read signature_read declared_read export_read import_read export_firsts imports_read exports_read file_read is_banned file_answer hoists contains is_too_deep is_barred_in_pipes needed_types own_types nodes scene_of breaches
 directory_told = refl
 
-pub sum_is_legal : AllLegal → IsLegalMeant sum_meant
-sum_is_legal legal = let all = subst (All IsLegalMeant) sum_means (of_text legal sum_text sum_told) in all 0 sum_meant (omega (arith))
+pub sum_is_legal : AllLegal → IsLegal sum_meant.types sum_meant.operations
+sum_is_legal legal = let all = subst (All IsLegalMeant) sum_means (of_text legal sum_text sum_told) in all 0 sum_meant (omega (arith)) (record { part_names = refl; operation_names = refl })
 
-pub directory_is_legal : AllLegal → IsLegalMeant directory_meant
-directory_is_legal legal = let all = subst (All IsLegalMeant) directory_means (of_text legal directory_text directory_told) in all 0 directory_meant (omega (arith))
+pub directory_is_legal : AllLegal → IsLegal directory_meant.types directory_meant.operations
+directory_is_legal legal = let all = subst (All IsLegalMeant) directory_means (of_text legal directory_text directory_told) in all 0 directory_meant (omega (arith)) (record { part_names = refl; operation_names = refl })

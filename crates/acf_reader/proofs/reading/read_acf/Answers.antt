@@ -7,9 +7,8 @@ use Rattle.idl_parser.specs.Lexemes.{text_of}
 use Rattle.acf_reader.specs.Answers.{IsAnswer, acf_answer}
 use Rattle.acf_reader.specs.Lexemes.{lexemes, lexeme_of}
 use Rattle.acf_reader.specs.Tree as tree
-use Rattle.acf_reader.proofs.AcfLaws.{acf_answered, acf_answered_alone}
+use Rattle.acf_reader.proofs.AcfLaws.{acf_answered, acf_answered_alone, lexemes_real}
 use Rattle.acf_reader.proofs.Answered.{told_for}
-use Rattle.acf_reader.proofs.RealTokens.{lexemes_real}
 use Rattle.acf_reader.proofs.reading.read_acf.Goals as goal
 
 pub new-parser-requires : goal.new-parser-requires

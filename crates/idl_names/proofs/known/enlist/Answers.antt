@@ -29,4 +29,5 @@ returns-in_ok-put-in-None-clause-more c =
     let name = c.args.name.now.octets in
     let e : found name list ≡ None = ap (λ n. found n list) (sym c.as_slice.ensures) ∙ (sym c.get.ensures ∙ c.in-None.is) in
     ap (λ t. listed t) c.in_ok-put-in-None.ensures
-    ∙ (ap (λ n. listed (put list n c.args.name.now.at)) c.as_slice-in-None.ensures ∙ listed_new list name c.args.name.now.at e)
+    ∙ (ap (λ n. listed (put list n c.at.result)) c.as_slice-in-None.ensures
+    ∙ (ap (λ a. listed (put list name a)) c.at.ensures ∙ listed_new list name c.args.name.now.at e))

@@ -9,10 +9,14 @@ use Rattle.idl_rules.specs.Scene.{body_of}
 use Rattle.idl_rules.specs.Meaning.{or_zero}
 use Rattle.idl_rules.specs.Made.{IsFound, scene_in}
 use Rattle.idl_rules.proofs.Defining.{ok_is, known_is, enum_made}
+use Rattle.idl_rules.proofs.Named.{enum_named}
 use Rattle.idl_rules.proofs.definitions.enum_at.Goals as goal
 
-pub returns-in-Enum : goal.returns-in-Enum
-returns-in-Enum c =
+pub returns-in-Enum-clause-named : goal.returns-in-Enum-clause-named
+returns-in-Enum-clause-named c = enum_named c.enum_of.result _ c.enum_of.ensures
+
+pub returns-in-Enum-clause-made : goal.returns-in-Enum-clause-made
+returns-in-Enum-clause-made c =
     let p = c.args.program.now in
     let s = scene_in p in
     let ks = p.types.now.kinds in

@@ -8,8 +8,8 @@ use Rattle.idl_rules.specs.Made.{IsFound, scene_in}
 use Rattle.idl_rules.proofs.Defining.{ok_is, struct_made}
 use Rattle.idl_rules.proofs.definitions.struct_at.Goals as goal
 
-pub returns-in-Struct : goal.returns-in-Struct
-returns-in-Struct c =
+pub returns-in-Struct-clause-made : goal.returns-in-Struct-clause-made
+returns-in-Struct-clause-made c =
     let p = c.args.program.now in
     let s = scene_in p in
     let ks = p.types.now.kinds in
@@ -19,4 +19,4 @@ returns-in-Struct c =
     let h = subst (λ o. MatchOption o (body_of s place ≡ None) (IsFound s ks place)) c.in-Some.is c.in_ok-found.ensures in
     ok_is c.struct_of.result _ _
     (struct_made s ks p.numbers.now place found u.at u.tag (members_of (map seen_member u.members.items)) c.requires.numbers h (ap seen_type u.is ∙ struct_is u.at u.tag u.members))
-    c.struct_of.ensures
+    c.struct_of.ensures.made

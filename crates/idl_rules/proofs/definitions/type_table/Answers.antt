@@ -3,8 +3,8 @@ use Rattle.idl_rules.specs.Made.{scene_in}
 use Rattle.idl_rules.proofs.Defining.{table_end}
 use Rattle.idl_rules.proofs.definitions.type_table.Goals as goal
 
-pub returns : goal.returns
-returns c =
+pub returns-clause-made : goal.returns-clause-made
+returns-clause-made c =
     let p = c.args.program.now in
     table_end (scene_in p) p.types.now.kinds p.numbers.now c.requires.numbers c.deref-own-items.result.now c.deref-own-items.ensures.value c.loop-own.own-index (omega arith) c.loop-own.table
-    c.loop-own.invariant
+    c.loop-own.invariant.0

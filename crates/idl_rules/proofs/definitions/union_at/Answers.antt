@@ -9,8 +9,8 @@ use Rattle.idl_rules.specs.Made.{IsFound, scene_in}
 use Rattle.idl_rules.proofs.Defining.{ok_is, known_is, union_with, encapsulated_made, nonencapsulated_made}
 use Rattle.idl_rules.proofs.definitions.union_at.Goals as goal
 
-pub returns-in-EncapsulatedUnion : goal.returns-in-EncapsulatedUnion
-returns-in-EncapsulatedUnion c =
+pub returns-in-EncapsulatedUnion-clause-made : goal.returns-in-EncapsulatedUnion-clause-made
+returns-in-EncapsulatedUnion-clause-made c =
     let p = c.args.program.now in
     let s = scene_in p in
     let ks = p.types.now.kinds in
@@ -22,10 +22,10 @@ returns-in-EncapsulatedUnion c =
     (ap (λ k. union_with ks p.numbers.now k true found) (sym (known_is (world_of p.scope.now)))
     ∙ encapsulated_made s ks p.numbers.now place found u.at u.tag u.discriminant u.name (cases_of (map seen_case u.cases.items)) c.requires.numbers h
     (ap seen_type u.is ∙ cases_are u.at u.tag u.discriminant u.name u.cases))
-    c.union_of.ensures
+    c.union_of.ensures.made
 
-pub returns-in-NonEncapsulatedUnion : goal.returns-in-NonEncapsulatedUnion
-returns-in-NonEncapsulatedUnion c =
+pub returns-in-NonEncapsulatedUnion-clause-made : goal.returns-in-NonEncapsulatedUnion-clause-made
+returns-in-NonEncapsulatedUnion-clause-made c =
     let p = c.args.program.now in
     let s = scene_in p in
     let ks = p.types.now.kinds in
@@ -36,4 +36,4 @@ returns-in-NonEncapsulatedUnion c =
     ok_is c.union_of-in-NonEncapsulatedUnion.result _ _
     (ap (λ k. union_with ks p.numbers.now k false found) (sym (known_is (world_of p.scope.now)))
     ∙ nonencapsulated_made s ks p.numbers.now place found u.at u.tag (arms_of (map seen_arm u.arms.items)) c.requires.numbers h (ap seen_type u.is ∙ arms_are u.at u.tag u.arms))
-    c.union_of-in-NonEncapsulatedUnion.ensures
+    c.union_of-in-NonEncapsulatedUnion.ensures.made

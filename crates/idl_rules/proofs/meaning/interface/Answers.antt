@@ -1,7 +1,9 @@
-use Rattle.std.proofs.Common.{◌∙◌, List, [], ◌∷◌, map, sym, ap, subst}
+use Rattle.std.proofs.Common.{◌≡◌, ◌∙◌, ℕ, true, List, [], ◌∷◌, map, sym, ap, subst, subst₂}
+use Rattle.std.specs.List.{list_all}
+use Rattle.nd_base.specs.Text.{is_identifier}
 use Rattle.nd_types.specs.Table.{Table}
 use Rattle.nd_types.specs.declared.types.Operation.{Operation}
-use Rattle.nd_types.specs.Legal.{IsLegal}
+use Rattle.nd_types.specs.Legal.{IsLegal, has_named_parts, has_names}
 use Rattle.idl_grammar.specs.Seen.{seen_attribute, seen_tree}
 use Rattle.idl_rules.specs.Attributes.{first_said}
 use Rattle.idl_rules.specs.Checked.{world_of}
@@ -14,8 +16,12 @@ pub invariant_of-result : goal.invariant_of-result
 invariant_of-result c =
     let w = world_of c.args.scope.now in
     record {
-      legal = subst (λ (t : Table). IsLegal t c.in_ok-operations.operations) (sym c.in_ok-types.ensures)
-          (subst (λ (o : List Operation). IsLegal (types_of (scene_of w)) o) (sym c.in_ok-operations.ensures) (c.meaning_is_legal.ensures.tables w c.requires.kept));
+      named = subst (λ (n : List ℕ). is_identifier n ≡ true) (sym c.in_ok-name.ensures.same) c.in_ok-name.ensures.named;
+      legal = subst₂ IsLegal (sym c.in_ok-types.ensures.made) (sym c.in_ok-operations.ensures.made)
+          (c.meaning_is_legal.ensures.tables w c.requires.kept (record {
+            part_names = subst (λ (t : Table). list_all has_named_parts t ≡ true) c.in_ok-types.ensures.made c.in_ok-types.ensures.named;
+            operation_names = subst (λ (o : List Operation). list_all has_names o ≡ true) c.in_ok-operations.ensures.made c.in_ok-operations.ensures.named;
+          }));
       laid_out = c.in_ok-layouts.ensures;
     }
 
@@ -27,8 +33,8 @@ returns c =
     let same = c.as_slice-list.ensures.value in
     ap (map (header_meant s)) c.in_ok-tree.ensures
     ∙ ap (λ (m : Meant). m ∷ [])
-    (meant_is s (seen_tree c.in_ok-tree.tree.now) _ c.in_ok-name.ensures
-    (c.in_ok-uuid.ensures ∙ ap (λ l. first_said uuid_said (map seen_attribute l)) same)
+    (meant_is s (seen_tree c.in_ok-tree.tree.now) _ c.in_ok-name.ensures.same
+    (c.uuid-uuid.ensures ∙ ap (λ l. first_said uuid_said (map seen_attribute l)) same)
     (c.in_ok-major.ensures ∙ ap (λ l. or_none (first_said major_said (map seen_attribute l))) same)
     (c.in_ok-minor.ensures ∙ ap (λ l. or_none (first_said minor_said (map seen_attribute l))) same)
-    c.in_ok-types.ensures c.in_ok-operations.ensures)
+    c.in_ok-types.ensures.made c.in_ok-operations.ensures.made)

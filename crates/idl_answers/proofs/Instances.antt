@@ -1,0 +1,15 @@
+-- Instances of the laws.
+use Rattle.std.proofs.Common.{◌≡◌, ℕ, true, arith, refl, codes, List, [], ◌∷◌, ◌++◌, Option, Some, None}
+use Rattle.nd_base.specs.declared.octets.Place.{Place}
+use Rattle.idl_names.specs.declared.name_fault.NameFault.TheVariants as fault
+use Rattle.idl_names.specs.Decided.{is_decided}
+use Rattle.idl_names.specs.Sources.{source}
+use Rattle.idl_names.specs.Walk as walk
+use Rattle.idl_names.specs.Walk.{Load, Ending, Stopped, Walk, start}
+use Rattle.idl_names.proofs.Once.{one_ending}
+
+-- Where no file is held, an import ends each walk as absent.
+pub nothing_held : (place : Place) (e : Ending) → is_decided e ≡ true → Walk (Some (λ name. None)) (start []) (Load place (codes "a.idl") ∷ []) e
+    → e ≡ Stopped (source (codes "a.idl") [] ∷ []) (fault.Absent 0)
+nothing_held place e d w =
+    one_ending (λ name. None) d refl w (walk.absent (start []) place (codes "a.idl") [] (record { new = refl; room = omega arith }) refl)

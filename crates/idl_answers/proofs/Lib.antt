@@ -1,0 +1,4 @@
+pub mod Read
+pub mod Ends
+pub mod Instances
+pub mod AttributeFiles

@@ -1,0 +1,12 @@
+-- What each main file comes to, with what it imports.
+use Rattle.std.specs.Prelude.{◌≡◌, ℕ, true, List, Option}
+use Rattle.idl_grammar.specs.Tree.{Tree}
+use Rattle.idl_names.specs.declared.name_fault.NameFault.{NameFault}
+use Rattle.idl_names.specs.Decided.{is_decided}
+use Rattle.idl_names.specs.Sources.{Source}
+use Rattle.idl_names.specs.Walk.{State, Stopped, IsResolved, IsRefused}
+
+-- The names of the files are resolved, or there is a first fault of the files, neither for want of memory nor for a failed load.
+pub data Comes (held : Option (List ℕ → Option (List ℕ))) (main : List Source) (t : Tree) : Type 0 where
+  ToNames : (s : State) → IsResolved held main t s → Comes held main t
+  ToFault : (sources : List Source) (f : NameFault) → is_decided (Stopped sources f) ≡ true → IsRefused held main t sources f → Comes held main t

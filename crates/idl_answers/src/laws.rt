@@ -1,0 +1,49 @@
+//! Laws over the definitions.
+
+ghost use Rattle.std.specs.Prelude.{◌≡◌, ℕ, true, List, [], ◌∷◌, Option, Some, None, codes};
+ghost use Rattle.phrases.specs.Text.{Text};
+ghost use Rattle.phrases.specs.Gives.{IsText};
+ghost use Rattle.nd_base.specs.declared.octets.Place.{Place};
+ghost use Rattle.idl_lexer.specs.Verdict.{HasVerdict};
+ghost use Rattle.idl_grammar.specs.Grammar.{file};
+ghost use Rattle.idl_grammar.specs.Tree.{Tree};
+ghost use Rattle.idl_names.specs.declared.name_fault.NameFault.TheVariants.{Absent};
+ghost use Rattle.idl_names.specs.Decided.{is_decided, HasEnding};
+ghost use Rattle.idl_names.specs.Sources.{Source, source};
+ghost use Rattle.idl_names.specs.Walk.{State, Due, Load, Ending, Stopped, Walk, start};
+ghost use Rattle.acf_reader.specs.Grammar.{acf};
+ghost use Rattle.idl_answers.specs.Read.{HasAnswer, IsReadAs};
+ghost use Rattle.idl_answers.specs.Named.{Comes};
+
+/// Each text has tokens, or a first place at which nothing can be cut, or it is too long.
+#[tactic(auto, using(idl_lexer::proofs::Answered::each_text))]
+pub fn texts_are_lexed()
+    ensures { (text : List ℕ) → HasVerdict text }
+{}
+
+/// Tokens are an interface file or have a first fault, whatever they are; and so with attribute files.
+#[tactic(auto, using(crate::proofs::Read::each_file, crate::proofs::AttributeFiles::each_acf))]
+pub fn tokens_are_read()
+    ensures idl { (t : Text) → IsText t → HasAnswer file t }
+    ensures acf { (t : Text) → IsText t → HasAnswer acf t }
+{}
+
+/// Each text is an interface file, or has a first fault of its tokens or of its syntax.
+pub fn texts_are_read()
+    ensures { (text : List ℕ) → IsReadAs text }
+{}
+
+/// A walk over files ends in some way other than for want of memory or for a failed load, whatever is due and whatever files hold: a file that is
+/// held is loaded, and one that is not ends the walk as absent. `idl_names: walks_have_one_ending` says that it ends in one such way alone.
+#[tactic(auto, using(crate::proofs::Ends::each_walk, crate::proofs::Instances::nothing_held))]
+pub fn walks_end()
+    ensures ends { (held : Option (List ℕ → Option (List ℕ))) (s : State) (dues : List Due) → HasEnding held s dues }
+    ensures absent { (place : Place) (e : Ending) → is_decided e ≡ true → Walk (Some (λ name. None)) (start []) (Load place (codes "a.idl") ∷ []) e
+        → e ≡ Stopped (source (codes "a.idl") [] ∷ []) (Absent 0) }
+{}
+
+/// Each main file has names, with all that it imports, or a first fault of the files, in some way other than for want of memory or for a failed
+/// load.
+pub fn names_are_resolved()
+    ensures { (held : Option (List ℕ → Option (List ℕ))) (main : List Source) (t : Tree) → Comes held main t }
+{}
