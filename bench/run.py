@@ -281,7 +281,7 @@ def large_text_of(values: Sequence[int], size: int) -> bytes:
 
 
 # ----------------------------------------------------------------------------------------------------------------------
-# What is told
+# What is reported
 
 
 def tell(measured: Measured, base: Optional[Measured] = None, speed: bool = False) -> float:

@@ -91,7 +91,7 @@ class Case:
 class Command:
     """A command line as a page of this repository shows it, run by a shell at the top of the clone.
 
-    `shown` is what it prints on standard output and standard error together. The name bin/dceidl stands for the program that
+    `shown` is what it prints on standard output and standard error together. The name bin/dceidl means the program that
     is tested.
     """
 
@@ -135,7 +135,7 @@ def commands(page: str) -> List[Command]:
 
 
 def interface(*operations: str, name: str = "t") -> bytes:
-    """A plain interface file with these operations, a line each; the first stands on line 3."""
+    """A plain interface file with these operations, a line each; the first is on line 3."""
     return lines("[uuid(11111111-2222-3333-4444-555555555555)]", f"interface {name} {{", *operations, "}")
 
 

@@ -1,4 +1,4 @@
-"""What cases of refused interface files are written with. In a text § stands before the place that is told, and is taken out."""
+"""What cases of refused interface files are written with. In a text § is before the place that is reported, and is taken out."""
 
 from __future__ import annotations
 
@@ -47,7 +47,7 @@ def header(what: str, *texts: str) -> List[Case]:
 
 
 def export(what: str, *texts: str) -> List[Case]:
-    """Files of one operation of small numbers, but for one of these behind it, on line 4."""
+    """Files of one operation of small numbers, followed by one of these on line 4."""
     return [fault(what, interface("void f([in] small x);", text), text) for text in texts]
 
 

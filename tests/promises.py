@@ -42,7 +42,7 @@ GHOST = re.compile(r"\bghost\s+(?P<name>\w+)\s*[:=]")
 
 @dataclass
 class Function:
-    """A function: its clauses, and the type, trait or module that it stands in."""
+    """A function: its clauses, and the type, trait or module that it is in."""
 
     name: str
     clauses: Set[str]
@@ -96,7 +96,7 @@ def clauses_of(code: str, at: int) -> Set[str]:
 
 
 def without_generics(head: str) -> str:
-    """The head of a block without what stands between < and >."""
+    """The head of a block without what is between < and >."""
     kept, depth = "", 0
     for before, sign in zip(" " + head, head):
         depth += sign == "<"
@@ -158,7 +158,7 @@ def read_crates(root: Path) -> Dict[str, Crate]:
 
 @dataclass
 class Row:
-    """A row of a table, and the line that it stands on."""
+    """A row of a table, and the line that it is on."""
 
     line: int
     cells: List[str]
@@ -190,7 +190,7 @@ def spans(cell: str) -> Optional[List[str]]:
 
 
 def clauses_at(crates: Dict[str, Crate], crate: Crate, path: str) -> Optional[Set[str]]:
-    """The clauses of a function or the ghost members of a type; None where it does not stand in the crate."""
+    """The clauses of a function or the ghost members of a type; None if the crate has none."""
     owner, _, name = path.rpartition("::")
     if not owner and name in crate.types:
         return {ghost for of, ghost in crate.ghosts if of == name}

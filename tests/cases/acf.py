@@ -167,7 +167,7 @@ LEXED = [
     Case("acf: 1,048,576 octets", COMPILE, {**FILES, "t.acf": b"interface t { }".ljust(1_048_576)}, out=LISTING),
 ]
 
-# Where lines and columns are those of the ACF, and the last thing that is told is the first of the text.
+# Where lines and columns are those of the ACF, and the last thing that is reported is the first of the text.
 PLACES_OF_FAULTS = refused(
     "Rule 40",
     "\n\n  §interface u { }",
@@ -176,7 +176,7 @@ PLACES_OF_FAULTS = refused(
 )
 
 # ----------------------------------------------------------------------------------------------------------------------
-# The rule: names, places, and what is told of more than one fault
+# The rule: names, places, and what is reported of more than one fault
 
 NAMES = refused(
     "Rule 40",
@@ -239,7 +239,7 @@ ATTRIBUTES = {
 
 
 def at_places():
-    """Each attribute at each place, alone and behind one that may stand there."""
+    """Each attribute at each place, alone and after one that may be there."""
     for attribute, answers in ATTRIBUTES.items():
         for text, other, answer in zip(PLACES, ["code", "in_line", "code", "in_line"], answers.split()):
             for filled in (text.format(attribute), text.format(f"{other}, {attribute}")):

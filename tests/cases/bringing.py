@@ -17,7 +17,7 @@ def sections():
 
 
 def rows(section):
-    """The rows of its tables: texts, what is told of them, and what to write in their place."""
+    """The rows of its tables: texts, what is reported of them, and what to write in their place."""
     for line in section.splitlines():
         cells = [SPAN.findall(cell) for cell in line.split(" | ")]
         if line.startswith("| `") and len(cells) == 3:
@@ -25,7 +25,7 @@ def rows(section):
 
 
 def compiled(heading, text):
-    """The words and files by which a text of a section is compiled, and the name that is told."""
+    """The words and files by which a text of a section is compiled, and the name that is reported."""
     if heading == "Attribute configuration files":
         beside = f"{HEAD}typedef long n; void f([in] long x);\n}}\n"
         return ["compile", "t.idl", "t.acf"], {"t.idl": beside.encode(), "t.acf": text.encode()}, "t.acf"
@@ -47,7 +47,7 @@ def accepted(heading, text):
 
 
 def of_rows():
-    """The cases of all tables. One place stands for all texts of its row."""
+    """The cases of all tables. One place is that of all texts of its row."""
     seen = set()
     for heading, section in sections().items():
         for texts, told, instead in rows(section):

@@ -79,7 +79,7 @@ COMPILE = ["compile", "dir.idl", "dir.acf"]
 
 
 def without(*names):
-    """The directory's files but for these."""
+    """The directory's files except these."""
     return {name: content for name, content in FILES.items() if name not in names}
 
 
@@ -286,7 +286,7 @@ STREAMS = [
 
 
 def refusal(name, words, files, line, status=6):
-    """What is told first, of more than one fault."""
+    """What is reported first, of more than one fault."""
     return Case(f"compile: {name}", words, files, notes=lines(line), status=status)
 
 

@@ -68,7 +68,7 @@ def begun(count):
     return "".join(f"{token} " for token in TOKENS[:count])
 
 
-# Nothing stands behind a whole file.
+# Nothing follows a whole file.
 WHOLE = [
     fault("behind every alternative", "Syntax", f"{' '.join(TOKENS)} {MARK};"),
     fault("behind every alternative, on lines", "Syntax", f"{EVERY}{MARK};"),
@@ -141,11 +141,11 @@ BRACKETS = [
     # Brackets that are closed do not count.
     taken("65 pairs of round brackets", "const long A = (1)" + " + (1)" * 64 + ";"),
     taken("100 pairs of square brackets", "typedef long a" + "[(1)]" * 100 + ";"),
-    # A bracket that could not stand there at all is a fault of syntax, as any other token is.
+    # A bracket that could not be there at all is a fault of syntax, as any other token is.
     *(export(f"{wrong} behind 64 open brackets", "Syntax", in_brackets(MARK + wrong)) for wrong in ("{", "[", ")", "*", "struct")),
     export("a bracket behind a number behind 64 open brackets", "Syntax", in_brackets("1 §(1)")),
     *(export(f"{wrong} where a member is due, behind 64 open brackets", "Syntax", in_structs(63, MARK + wrong)) for wrong in ("(", "{", "}", ";")),
-    # Of several faults the first is told.
+    # Of several faults the first is reported.
     export("a banned word behind 64 open brackets", "Banned float", in_brackets("§float")),
     export("a banned attribute behind 64 open brackets", "Banned handle", in_structs(62, "[§handle(a)] long b;")),
     export("one bracket too many before a wrong token", "Deep", in_brackets("§(;")),
@@ -155,7 +155,7 @@ BRACKETS = [
 ]
 
 # ----------------------------------------------------------------------------------------------------------------------
-# At most 64 operators stand in one outermost expression
+# At most 64 operators are in one outermost expression
 
 BINARY = "|| && | ^ & == != < > <= >= << >> + - * / %".split()
 UNARY = "+ - ~ !".split()
@@ -212,10 +212,10 @@ OPERATORS = [
     *in_each("union u switch (long k) { case ", ": case ", ": ; };"),
     *in_each("typedef [case(", ", ", ")] long a;"),
     *in_each("union u { [case(", ")] long a; [case(", ")] long b; };"),
-    # An operator that could not stand there at all is a fault of syntax, as any other token is.
+    # An operator that could not be there at all is a fault of syntax, as any other token is.
     *(refused(f"{wrong} behind 64 operators", "Syntax", f"{SUM} {MARK}{wrong} 1") for wrong in ("!", "~", "(", "1", ":", "=", ")")),
     *(refused(f"{wrong} in place of an operand behind 64 operators", "Syntax", f"{SUM[:-1]}{MARK}{wrong} 1") for wrong in ("*", "==", "?", ")")),
-    # Of several faults the first is told.
+    # Of several faults the first is reported.
     refused("a banned word behind 64 operators", "Banned double", f"{SUM} §double"),
     refused("a banned word as an operand behind 64 operators", "Banned double", f"{SUM[:-1]}§double"),
     refused("one operator too many before a wrong token", "Deep", f"{SUM} §+ *"),

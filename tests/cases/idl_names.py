@@ -126,7 +126,7 @@ def chain(count: int, mark: str = "") -> Dict[str, bytes]:
 
 
 def main_with(count: int) -> str:
-    """A main file that imports so many others. A mark stands before the 64th."""
+    """A main file that imports so many others. A mark is before the 64th."""
     names = ", ".join(("§" if number == 64 else "") + f'"u{number}.idl"' for number in range(1, count + 1))
     return f"{HEADER} interface t {{ import {names}; void f([in] small x); }}"
 
@@ -148,7 +148,7 @@ COUNTS = [
          notes=lines(f"idl t.idl:{WIDE_PLACE}: TooMany"), status=6),
 ]
 
-# Each stands on the third line of its file.
+# Each is on the third line of its file.
 LINES = [
     fault("Unknown no_t", interface("void f([in] §no_t x);"), "a type of no declaration"),
     fault("Rule 30", interface("void f(§long x);"), "a parameter without a direction"),

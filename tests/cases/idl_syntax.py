@@ -25,7 +25,7 @@ def named(what, word):
             *export(what, f"void §{word}();", f"void g([in] small §{word});")]
 
 
-# A text that ends too early is told just past its last octet.
+# A text that ends too early is reported just past its last octet.
 ENDS = [
     *whole("Syntax", *(" ".join(TOKENS[:count]) + MARK for count in range(len(TOKENS)))),
     *whole("Syntax", " §", "\n§", " \n\n §", "\r§", "/* */§", "/*\n*/ §", f"{HEADER}\n§", f"{HEADER}\n\n\n§", f"{HEADER}\n \t§",
@@ -230,13 +230,13 @@ BRACKETS = [
     *export("Deep", f"typedef {'struct { ' * 63}struct §{{ long b; {'} c; ' * 63}}} n;",
             f"typedef {'struct { ' * 63}§[in] long b;", f"typedef {'struct { ' * 63}long b§[1];",
             f"typedef {'struct { ' * 63}union switch §(long b)", f"typedef {'struct { ' * 63}enum §{{ B"),
-    # A 65th where none may stand is a wrong token.
+    # A 65th where none may be is a wrong token.
     *value("Syntax", f"{'(' * 63}§[", f"{'(' * 63}§{{", f"{'(' * 63}§)", f"{'(' * 63}1§("),
 ]
 
 SUM = " + ".join(["1"] * 65)
 
-# An expression has at most 64 operators, and what stands in its brackets is of it.
+# An expression has at most 64 operators, and what is in its brackets is of it.
 OPERATORS = [
     *parsed(SUM, f"{'-' * 64}1", f"{'1 ? 2 : ' * 64}3", f"{'1 + ~' * 32}1", f"{'(1 + 1) * ' * 32}1",
             f"{'(-1 ? 2 : 3) * ' * 21}1"),
@@ -283,7 +283,7 @@ LINES = [
     fault("Syntax", "\n" * 1_048_576 + "§", "line 1,048,577"),
 ]
 
-# The first of several, and one of them before what is of the language and not built yet, wherever that stands.
+# The first of several, and one of them before what is of the language and not built yet, wherever that is.
 ORDER = [
     *export("Syntax", "§; float", "void g(§; float", "const long A = (§) float;", f"const long A = §) {'(' * 70}"),
     *export("Banned float", "void §float ;;", "§float (", f"const long A = §float {'(' * 70}"),

@@ -88,7 +88,7 @@ COMMENTS = [
     *value("OpenComment", "§/*", "§/*/", "§/* *", "§/** /", "1 + §/* \"*\\/\"", "/**/§/*", "1/* */ §/*", "§/* '"),
     fault("OpenComment", HERE + b"/* " + PLAIN, "a whole file in an open comment"),
     *(fault("OpenComment", PLAIN + HERE + text, f"{text} behind the file") for text in (b"/*", b"/*/", b"/* *", b"/*\n\n")),
-    # A comment ends at its first */, whatever stands in it.
+    # A comment ends at its first */, whatever is in it.
     *value("Syntax", "/* /* */§*/", "1 /* /* */ *§/", "1 *§/", "1 / §*", "1 /§/ 2", "/**/§/ 1"),
     *value("BadOctet", "/* */§#", "/* /* */ 1 §# */", "1 /* \" */ + §#"),
 ]
@@ -123,7 +123,7 @@ LENGTHS = [
 ]
 
 ORDER = [
-    # The first of several, and one of them before a wrong word, wherever that stands.
+    # The first of several, and one of them before a wrong word, wherever that is.
     *whole("BadOctet", "§# 010", "'§\t 'a\n", "interface t §#", "; }} §#", f"{HEADER} interface t {{ float x; }} §#"),
     *whole("BadNumber", "§010 #", "[§1a] 'a", f"{HEADER} interface t {{ void f([in] long); }} §010", "float §010"),
     *whole("OpenText", "§'a\n #", "§\" /*", "interface §\"t"),

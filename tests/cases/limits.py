@@ -72,7 +72,7 @@ BLANKS = [
 
 
 def importing(count: int, mark_at: int = 0) -> str:
-    """A main file that imports others, so that there are so many files. A mark stands before the one of a number."""
+    """A main file that imports others, so that there are so many files. A mark is before the one of a number."""
     names = ", ".join(f'{MARK if at == mark_at else ""}"u{at}.idl"' for at in range(1, count))
     return local(f"import {names};")
 
@@ -100,7 +100,7 @@ FILES_AND_NAMES = [
 
 
 def opened(count: int, mark: str = "") -> str:
-    """A constant in round brackets, so that so many brackets are open with the interface's own. A mark stands before the last."""
+    """A constant in round brackets, so that so many brackets are open with the interface's own. A mark is before the last."""
     return f"const long A = {'(' * (count - 2)}{mark}(1{')' * (count - 1)};"
 
 

@@ -1,4 +1,4 @@
-"""docs/PROMISES.md speaks of what stands in the sources, and what does not is found."""
+"""docs/PROMISES.md speaks of what is in the sources, and what is not is found."""
 
 import tempfile
 from pathlib import Path
@@ -91,6 +91,6 @@ def unseen():
 
 
 CASES = [
-    Check("promises: each row stands in the sources, and each must-fail edit in a row", promises.faults),
-    Check("promises: what does not stand in the sources is found", unseen),
+    Check("promises: each row is in the sources, and each must-fail edit in a row", promises.faults),
+    Check("promises: what is not in the sources is found", unseen),
 ]

@@ -39,8 +39,8 @@ OUT = [
 ]
 
 NOTES = [
-    Case("streams: closed notes do not matter where none are told", DECODE, PLAIN, ONE, TEXT, notes=CLOSED),
-    Case("streams: full notes do not matter where none are told", DECODE, PLAIN, ONE, TEXT, notes=FULL),
+    Case("streams: closed notes do not matter if none are written", DECODE, PLAIN, ONE, TEXT, notes=CLOSED),
+    Case("streams: full notes do not matter if none are written", DECODE, PLAIN, ONE, TEXT, notes=FULL),
     Case("streams: full notes, refused octets", DECODE, PLAIN, b"", notes=FULL, status=4),
     Case("streams: unread notes, refused octets", DECODE, PLAIN, b"", notes=UNREAD, status=4),
     Case("streams: full notes, refused words", ["decode"], notes=FULL, status=4),
