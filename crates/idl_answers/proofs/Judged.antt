@@ -6,6 +6,7 @@ use Rattle.phrases.proofs.Parts.{clash}
 use Rattle.idl_grammar.specs.Tree.{Tree}
 use Rattle.idl_names.specs.Ended.{Ended, ended}
 use Rattle.idl_names.specs.Steps.{attribute_steps, imports_of, declaration_steps}
+use Rattle.idl_names.specs.Files.{IsFile}
 use Rattle.idl_names.specs.Sources.{Source}
 use Rattle.idl_names.specs.Walk as walk
 use Rattle.idl_names.specs.Walk.{State, Due, Pass, Load, End, Done, Walk, IsResolved, all_of, load_of, start, with_ended}
