@@ -298,7 +298,7 @@ def tell(measured: Measured, base: Optional[Measured] = None, speed: bool = Fals
 def tell_ratio(what: str, over: float, under: float) -> None:
     """A line on a ratio, with its inverse."""
     if min(over, under) <= 0:
-        print(f"    {what:<40}   not told from the noise")
+        print(f"    {what:<40}   lost in the noise")
     else:
         print(f"    {what:<40}{over / under:9.2f}  (1 : {under / over:.2f})")
 
@@ -307,7 +307,7 @@ def check_growth(bench: Bench, what: str, small: float, large: float, times: str
     """So many times the input may take so many times the time, start-up apart."""
     told = f"{times} the input (at most {most:g})"
     if small < NOISE:
-        print(f"    {told:<40}   not told: the small one takes less than {NOISE * 1000:.0f} ms")
+        print(f"    {told:<40}   not measured: the small one takes less than {NOISE * 1000:.0f} ms")
         return
     tell_ratio(told, large, small)
     if large > most * small:

@@ -1,12 +1,12 @@
 #!/usr/bin/env python3
-"""Checks that docs/PROMISES.md speaks of what stands in the sources.
+"""Checks that docs/PROMISES.md speaks of what is in the sources.
 
     tests/promises.py      prints what is wrong, a line each; the status is 1 where something is
 
 Each row of its tables names functions with clauses, must-fail edits and a state; docs/PROMISES.md says in which form.
-Checked is that the crate is listed and there, that the function stands in its sources, that the clause stands in the
-function's signature (where a method of an `impl` has no clause, in its trait's), that each edit is a file, and that
-each must-fail edit of the repository is named by a row. Whether a clause says what the row says, only a reader can tell.
+Checked is that the crate is listed and there, that the function is in its sources, that the clause is in the function's
+signature (or in its trait's, if a method of an `impl` has no clause), that each edit is a file, and that each must-fail
+edit of the repository is named by a row. Whether a clause says what the row says, only a reader can see.
 """
 
 from __future__ import annotations
@@ -272,5 +272,5 @@ def faults(root: Path = ROOT) -> List[str]:
 
 if __name__ == "__main__":
     found = faults()
-    print("\n".join(found) or "each row stands in the sources")
+    print("\n".join(found) or "each row is in the sources")
     sys.exit(1 if found else 0)

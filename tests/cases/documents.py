@@ -6,7 +6,7 @@ docs/BRINGING-YOUR-IDL.md has bringing.py, and README.md has readme.py.
 import re
 from typing import Dict, Iterator, List, Tuple
 
-from case import ROOT, Begins, Case, Check, lines
+from case import ROOT, Begins, Case, Check, commands, lines
 
 SPAN = re.compile(r"`([^`]+)`")
 RULES = 40
@@ -70,7 +70,7 @@ def of_rules() -> Iterator[Tuple[int, Case]]:
             files = [{"t.idl": within(""), "t.acf": text} for (text,) in texts]
             yield 40, refused(told, files[0], f"t.acf:1:{column}: Rule 40", "t.acf")
             yield 40, accepted(f"{told}, kept", files[1], "t.acf")
-        elif number != "39":
+        elif number != "39" and texts[0]:
             yield int(number), refused(told, {"t.idl": within(*texts[0])}, f"t.idl:1:{column}: Rule {number}")
             yield int(number), accepted(f"{told}, kept", {"t.idl": within(*(texts[1] or [""]))})
 
@@ -145,12 +145,52 @@ def of_texts() -> Iterator[Case]:
                        notes=lines(f"refused: text {SPAN.findall(place)[0]}: {reason}"), status=1)
 
 
+# ----------------------------------------------------------------------------------------------------------------------
+# What pages name
+
+PLACE = re.compile(r"`(\w+): (specs|src|proofs)/(?:\w+/)*(\w+)(?:\.\w+)?(?:, (\w+))?`((?:, `\w+`)*)")
+
+
+def named_in(path: str, name: str) -> bool:
+    """Whether a file, or one below a folder, of this name holds a word."""
+    return any(re.search(rf"\b{name}\b", file.read_text(encoding="utf-8")) for file in ROOT.glob(path))
+
+
+def wrong_places(text: str) -> Iterator[str]:
+    """The definitions that a page names and that are not there: `crate: specs/File, name`, and further names behind it."""
+    for crate, folder, file, first, more in PLACE.findall(text):
+        path = f"crates/{crate}/{folder}/**/{file}.*"
+        if not any(ROOT.glob(path)):
+            yield f"{crate}: {folder}/{file} is not there"
+        for name in [first, *SPAN.findall(more)] if first else []:
+            if not named_in(path, name):
+                yield f"{crate}: {folder}/{file} has no {name}"
+
+
+def wrong_examples() -> Iterator[str]:
+    """The worked examples that docs/NDR.md names and that are not there."""
+    paths = [f"crates/ndr_worked/{path}" for path in ("src/*.rt", "proofs/**/*.antt")]
+    held = "".join(file.read_text(encoding="utf-8") for path in paths for file in ROOT.glob(path))
+    for mark in re.findall(r"\*\*Example\*\*((?: |\n)+`\w+`(?:,(?: |\n)+`\w+`)*)", page("NDR.md")):
+        for name in SPAN.findall(mark):
+            if not re.search(rf"\b{name}\b", held):
+                yield f"there is no example {name}"
+
+
+def places_of_pages() -> List[str]:
+    """What the pages name and the sources do not have."""
+    pages = sorted(path.name for path in (ROOT / "docs").glob("*.md"))
+    return [f"docs/{name}: {wrong}" for name in pages for wrong in wrong_places(page(name))] + [f"docs/NDR.md: {wrong}" for wrong in wrong_examples()]
+
+
 CASES = [
+    Check("docs: each definition and example that a page names is in the sources", places_of_pages),
     Check("docs/IDL.md: each rule has a text", rules_without_texts),
     *(case for _, case in OF_RULES),
     *of_refusals(),
     *of_expressions(),
     of_listing(),
+    *commands("docs/LISTING.md"),
     Check("docs/ACF.md: the example", of_acf),
     *of_texts(),
 ]

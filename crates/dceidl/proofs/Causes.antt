@@ -1,4 +1,4 @@
--- What a task answers, from what its steps answer.
+-- What the commands on values answer, from what their steps answer.
 use Rattle.std.proofs.Common.{◌≡◌, ◌∙◌, ℕ, zero, suc, ◌<◌, ◌≤◌, true, List, [], ◌∷◌, length, Option, Some, Result, Ok, Err, IfOk, IfErr, refl, sym, ap, subst, inr, take, arith}
 use Rattle.std.specs.List.{slice_get}
 use Rattle.nd_base.specs.declared.octets.Order.{Order}
@@ -14,15 +14,22 @@ use Rattle.nd_types.specs.Numbers.{has_number_roots, IsNumberSide}
 use Rattle.nd_graph.specs.Fitting.{setting_of}
 use Rattle.value_text.specs.Printed.{IsText}
 use Rattle.dceidl.specs.declared.ready.Ready.{Ready}
-use Rattle.dceidl.specs.declared.task.Task.{Task}
-use Rattle.dceidl.specs.declared.task.Task.TheVariants.{Decode, Encode}
+use Rattle.nd_base.specs.declared.TheConstants.{STREAM_LIMIT}
+use Rattle.value_text.specs.declared.TheConstants.{TEXT_LIMIT}
+use Rattle.dceidl.specs.declared.words.Reading.{Reading}
+use Rattle.dceidl.specs.declared.words.Reading.TheVariants.{Decode}
+use Rattle.dceidl.specs.declared.words.OrderWord.{OrderWord}
+use Rattle.dceidl.specs.Seen.{Seen}
+use Rattle.dceidl.specs.Words.{Subject, Read, Encode, order_in}
+use Rattle.dceidl.specs.Causes.{IsMade, IsCause}
+use Rattle.dceidl.specs.Encode.{IsEncoding, IsTextCause}
 use Rattle.dceidl.specs.declared.refusal.Refusal.{Refusal}
 use Rattle.dceidl.specs.declared.refusal.Refusal.TheVariants.{Memory, Absent, FileFailed, BadIdl, NoOperation, NotBuilt, ReadFault, BadOctets, BadText, BadValue}
-use Rattle.dceidl.specs.Outside.{FilesSeen, SourceSeen}
-use Rattle.dceidl.specs.Ready.{IsReady, IsCompiled, IsFileCause, IsIdlCause, IsNotFound}
+use Rattle.nd_base.specs.Over.{FilesSeen, SourceSeen}
+use Rattle.dceidl.specs.Ready.{IsFound, IsReady, IsCompiled, IsReadyCause, IsIdlCause, IsNotFound}
 use Rattle.dceidl.specs.declared.refusal.OctetsFault.TheVariants as fault
 use Rattle.dceidl.specs.Decode.{IsDecoding, IsLeftOver, IsOctetsCause}
-use Rattle.dceidl.specs.Task.{limit_of, IsRead, IsMade, IsContentCause, IsInputCause, IsCause, IsMadeOfInput}
+use Rattle.dceidl.specs.Input.{AreRead, IsRead, IsReadCause, IsEncoded, IsEncodeCause}
 
 item_at : {X : Type 0} (xs : List X) (i : ℕ) → i < length xs → (x : X) × (slice_get xs i ≡ Some x)
 item_at [] i h = absurd (omega (arith, h))
@@ -30,52 +37,52 @@ item_at (x ∷ xs) zero h = (x, refl)
 item_at (x ∷ xs) (suc i) h = item_at xs i (omega (arith, h))
 
 -- an interface that files mean, and its operation, are ready
-pub ready_is : (f : FilesSeen) (idl : List ℕ) (acf : Option (List ℕ)) (op : List ℕ) (side : Side) (i : Interface) → IsCompiled f idl acf i → (result : Result Ready Refusal)
-    → IfOk result (λ r. r.interface ≡ i) → IfOk result (λ r. operation_named i.operations op ≡ Some r.number) → IfOk result (λ r. r.side ≡ side)
+pub found_is : (f : FilesSeen) (of : Subject) (i : Interface) → IsCompiled f of.idl of.acf i → (result : Result Ready Refusal)
+    → IfOk result (λ r. r.interface ≡ i) → IfOk result (λ r. operation_named i.operations of.op ≡ Some r.number) → IfOk result (λ r. r.side ≡ of.side)
     → IfOk result (λ r. r.number < length r.interface.operations)
     → IfOk result (λ r. IsNumberSide r.interface.types r.interface.operations r.number r.side)
-    → IfOk result (λ r. (o : Operation) × IsReady f idl acf op side r.interface r.number o)
-ready_is f idl acf op side i compiled (Ok r) same named sided known built =
+    → IfOk result (λ r. (o : Operation) × IsFound f of r.interface r.number o)
+found_is f of i compiled (Ok r) same named sided known built =
     let (o, there) = item_at r.interface.operations r.number known in (
       o,
       record {
-        compiled = subst (IsCompiled f idl acf) (sym same) compiled;
-        named = record { found = ap (λ (j : Interface). operation_named j.operations op) same ∙ named; is_there = there };
+        compiled = subst (IsCompiled f of.idl of.acf) (sym same) compiled;
+        named = record { found = ap (λ (j : Interface). operation_named j.operations of.op) same ∙ named; is_there = there };
         built = subst (λ s. has_number_roots r.interface.types s o ≡ true) sided (built o there);
       },
     )
-ready_is f idl acf op side i compiled (Err e) same named sided known built = tt
+found_is f of i compiled (Err e) same named sided known built = tt
 
-not_found : (f : FilesSeen) (idl : List ℕ) (acf : Option (List ℕ)) (op : List ℕ) (side : Side) (i : Interface) → IsCompiled f idl acf i → (e : Refusal) → IsNotFound i op side e → IsFileCause f idl acf op side e
-not_found f idl acf op side i compiled NoOperation cause = (i, compiled, cause)
-not_found f idl acf op side i compiled NotBuilt (n, o, named, unbuilt) = (i, n, o, compiled, named, unbuilt)
-not_found f idl acf op side i compiled Memory cause = absurd cause
-not_found f idl acf op side i compiled (Absent file) cause = absurd cause
-not_found f idl acf op side i compiled (FileFailed file) cause = absurd cause
-not_found f idl acf op side i compiled (BadIdl file line column reason) cause = absurd cause
-not_found f idl acf op side i compiled ReadFault cause = absurd cause
-not_found f idl acf op side i compiled (BadOctets place why) cause = absurd cause
-not_found f idl acf op side i compiled (BadText line column reason) cause = absurd cause
-not_found f idl acf op side i compiled (BadValue path reason) cause = absurd cause
+not_found : (f : FilesSeen) (of : Subject) (i : Interface) → IsCompiled f of.idl of.acf i → (e : Refusal) → IsNotFound i of.op of.side e → IsReadyCause f of e
+not_found f of i compiled NoOperation cause = (i, compiled, cause)
+not_found f of i compiled NotBuilt (n, o, named, unbuilt) = (i, n, o, compiled, named, unbuilt)
+not_found f of i compiled Memory cause = absurd cause
+not_found f of i compiled (Absent file) cause = absurd cause
+not_found f of i compiled (FileFailed file) cause = absurd cause
+not_found f of i compiled (BadIdl file line column reason) cause = absurd cause
+not_found f of i compiled ReadFault cause = absurd cause
+not_found f of i compiled (BadOctets place why) cause = absurd cause
+not_found f of i compiled (BadText line column reason) cause = absurd cause
+not_found f of i compiled (BadValue path reason) cause = absurd cause
 
--- where the operation is not found or not built, that is the cause
-pub find_refused : (f : FilesSeen) (idl : List ℕ) (acf : Option (List ℕ)) (op : List ℕ) (side : Side) (i : Interface) → IsCompiled f idl acf i → (result : Result Ready Refusal)
-    → IfErr result (IsNotFound i op side) → IfErr result (IsFileCause f idl acf op side)
-find_refused f idl acf op side i compiled (Ok r) cause = tt
-find_refused f idl acf op side i compiled (Err e) cause = not_found f idl acf op side i compiled e cause
+-- an operation that is not found or not built is the cause
+pub find_refused : (f : FilesSeen) (of : Subject) (i : Interface) → IsCompiled f of.idl of.acf i → (result : Result Ready Refusal)
+    → IfErr result (IsNotFound i of.op of.side) → IfErr result (IsReadyCause f of)
+find_refused f of i compiled (Ok r) cause = tt
+find_refused f of i compiled (Err e) cause = not_found f of i compiled e cause
 
 -- why the files mean no interface is why they are refused
-pub idl_refused : (f : FilesSeen) (idl : List ℕ) (acf : Option (List ℕ)) (op : List ℕ) (side : Side) (e : Refusal) → IsIdlCause f idl acf e → IsFileCause f idl acf op side e
-idl_refused f idl acf op side Memory cause = tt
-idl_refused f idl acf op side (Absent file) cause = cause
-idl_refused f idl acf op side (FileFailed file) cause = cause
-idl_refused f idl acf op side (BadIdl file line column reason) cause = cause
-idl_refused f idl acf op side NoOperation cause = absurd cause
-idl_refused f idl acf op side NotBuilt cause = absurd cause
-idl_refused f idl acf op side ReadFault cause = absurd cause
-idl_refused f idl acf op side (BadOctets place why) cause = absurd cause
-idl_refused f idl acf op side (BadText line column reason) cause = absurd cause
-idl_refused f idl acf op side (BadValue path reason) cause = absurd cause
+pub idl_refused : (f : FilesSeen) (of : Subject) (e : Refusal) → IsIdlCause f of.idl of.acf e → IsReadyCause f of e
+idl_refused f of Memory cause = tt
+idl_refused f of (Absent file) cause = cause
+idl_refused f of (FileFailed file) cause = cause
+idl_refused f of (BadIdl file line column reason) cause = cause
+idl_refused f of NoOperation cause = absurd cause
+idl_refused f of NotBuilt cause = absurd cause
+idl_refused f of ReadFault cause = absurd cause
+idl_refused f of (BadOctets place why) cause = absurd cause
+idl_refused f of (BadText line column reason) cause = absurd cause
+idl_refused f of (BadValue path reason) cause = absurd cause
 
 pub take_whole : (n : ℕ) (xs : List ℕ) → length xs ≤ n → take n xs ≡ xs
 take_whole zero [] h = refl
@@ -95,44 +102,78 @@ decoding_is w order octets taken g begins (Ok text) is_text whole = record {
 decoding_is w order octets taken g begins (Err e) is_text whole = tt
 
 -- the input was read, and something made of it
-pub made_of_input : (s : SourceSeen) (w : Setting) (task : Task) (octets : List ℕ) → IsRead s (limit_of task) octets → (result : Result (List ℕ) Refusal)
-    → IfOk result (IsMade task w octets) → IfOk result (IsMadeOfInput s task w)
-made_of_input s w task octets read (Ok made) is_made = record { octets = octets; read = read; is_made = is_made }
-made_of_input s w task octets read (Err e) is_made = tt
+pub read_is : (s : SourceSeen) (how : Reading) (w : Setting) (order named : Order) (octets : List ℕ) → AreRead s STREAM_LIMIT octets → named ≡ order
+    → (result : Result (List ℕ) Refusal) → IfOk result (IsDecoding w named octets) → IfOk result (IsRead s how w order)
+read_is s Decode w order named octets read same (Ok made) decoding =
+    record { octets = octets; read = read; shown = subst (λ o. IsDecoding w o octets made) same decoding }
+read_is s how w order named octets read same (Err e) decoding = tt
 
-content_cause : (s : SourceSeen) (w : Setting) (task : Task) (octets : List ℕ) → IsRead s (limit_of task) octets → (e : Refusal)
-    → IsContentCause task w octets e → IsInputCause s task w e
-content_cause s w task octets read Memory cause = tt
-content_cause s w (Decode order) octets read ReadFault cause = absurd cause
-content_cause s w (Encode order chunk) octets read ReadFault cause = absurd cause
-content_cause s w task octets read (Absent file) cause = (octets, read, cause)
-content_cause s w task octets read (FileFailed file) cause = (octets, read, cause)
-content_cause s w task octets read (BadIdl file line column reason) cause = (octets, read, cause)
-content_cause s w task octets read NoOperation cause = (octets, read, cause)
-content_cause s w task octets read NotBuilt cause = (octets, read, cause)
-content_cause s w task octets read (BadOctets place why) cause = (octets, read, cause)
-content_cause s w task octets read (BadText line column reason) cause = (octets, read, cause)
-content_cause s w task octets read (BadValue path reason) cause = (octets, read, cause)
+pub encoded_is : (s : SourceSeen) (w : Setting) (order named : Order) (chunk : ℕ) (text : List ℕ) → AreRead s TEXT_LIMIT text → named ≡ order
+    → (result : Result (List ℕ) Refusal) → IfOk result (IsEncoding w named chunk text) → IfOk result (IsEncoded s w order chunk)
+encoded_is s w order named chunk text read same (Ok made) encoding =
+    record { text = text; read = read; encoding = subst (λ o. IsEncoding w o chunk text made) same encoding }
+encoded_is s w order named chunk text read same (Err e) encoding = tt
 
--- octets of the input that are refused are an input that is refused
-pub input_refused : (s : SourceSeen) (w : Setting) (task : Task) (octets : List ℕ) → IsRead s (limit_of task) octets → (result : Result (List ℕ) Refusal)
-    → IfErr result (IsContentCause task w octets) → IfErr result (IsInputCause s task w)
-input_refused s w task octets read (Ok made) cause = tt
-input_refused s w task octets read (Err e) cause = content_cause s w task octets read e cause
+-- octets that are refused are an input that is refused
+octets_cause : (s : SourceSeen) (how : Reading) (w : Setting) (order : Order) (octets : List ℕ) → AreRead s STREAM_LIMIT octets → (e : Refusal) → IsOctetsCause w order octets e
+    → IsReadCause s how w order e
+octets_cause s how w order octets read Memory cause = tt
+octets_cause s how w order octets read ReadFault cause = absurd cause
+octets_cause s how w order octets read (Absent file) cause = (octets, read, cause)
+octets_cause s how w order octets read (FileFailed file) cause = (octets, read, cause)
+octets_cause s how w order octets read (BadIdl file line column reason) cause = (octets, read, cause)
+octets_cause s how w order octets read NoOperation cause = (octets, read, cause)
+octets_cause s how w order octets read NotBuilt cause = (octets, read, cause)
+octets_cause s how w order octets read (BadOctets place why) cause = (octets, read, cause)
+octets_cause s how w order octets read (BadText line column reason) cause = (octets, read, cause)
+octets_cause s how w order octets read (BadValue path reason) cause = (octets, read, cause)
 
--- where the file is ready, the task was done or refused by the input
-pub task_done : (f : FilesSeen) (s : SourceSeen) (task : Task) (idl : List ℕ) (acf : Option (List ℕ)) (op : List ℕ) (side : Side) (i : Interface) (n : ℕ) (o : Operation) → IsReady f idl acf op side i n o
-    → (result : Result (List ℕ) Refusal) → IfOk result (IsMadeOfInput s task (setting_of i o side))
-    → IfOk result (λ made. (i' : Interface) × (n' : ℕ) × (o' : Operation) × IsReady f idl acf op side i' n' o' × IsMadeOfInput s task (setting_of i' o' side) made)
-task_done f s task idl acf op side i n o ready (Ok made) of_input = (i, n, o, ready, of_input)
-task_done f s task idl acf op side i n o ready (Err e) of_input = tt
+pub octets_refused : (s : SourceSeen) (how : Reading) (w : Setting) (order : Order) (octets : List ℕ) → AreRead s STREAM_LIMIT octets → (result : Result (List ℕ) Refusal)
+    → IfErr result (IsOctetsCause w order octets) → IfErr result (IsReadCause s how w order)
+octets_refused s how w order octets read (Ok made) cause = tt
+octets_refused s how w order octets read (Err e) cause = octets_cause s how w order octets read e cause
 
-pub task_refused : (f : FilesSeen) (s : SourceSeen) (task : Task) (idl : List ℕ) (acf : Option (List ℕ)) (op : List ℕ) (side : Side) (i : Interface) (n : ℕ) (o : Operation) → IsReady f idl acf op side i n o
-    → (result : Result (List ℕ) Refusal) → IfErr result (IsInputCause s task (setting_of i o side)) → IfErr result (IsCause f s task idl acf op side)
-task_refused f s task idl acf op side i n o ready (Ok made) cause = tt
-task_refused f s task idl acf op side i n o ready (Err e) cause = inr (i, n, o, ready, cause)
+text_cause : (s : SourceSeen) (w : Setting) (text : List ℕ) → AreRead s TEXT_LIMIT text → (e : Refusal) → IsTextCause w text e → IsEncodeCause s w e
+text_cause s w text read Memory cause = tt
+text_cause s w text read ReadFault cause = absurd cause
+text_cause s w text read (Absent file) cause = (text, read, cause)
+text_cause s w text read (FileFailed file) cause = (text, read, cause)
+text_cause s w text read (BadIdl file line column reason) cause = (text, read, cause)
+text_cause s w text read NoOperation cause = (text, read, cause)
+text_cause s w text read NotBuilt cause = (text, read, cause)
+text_cause s w text read (BadOctets place why) cause = (text, read, cause)
+text_cause s w text read (BadText line column reason) cause = (text, read, cause)
+text_cause s w text read (BadValue path reason) cause = (text, read, cause)
 
--- octets behind a graph that conforms are what is left over
+pub text_refused : (s : SourceSeen) (w : Setting) (text : List ℕ) → AreRead s TEXT_LIMIT text → (result : Result (List ℕ) Refusal)
+    → IfErr result (IsTextCause w text) → IfErr result (IsEncodeCause s w)
+text_refused s w text read (Ok made) cause = tt
+text_refused s w text read (Err e) cause = text_cause s w text read e cause
+
+-- ## What a command on values answers
+
+-- what it speaks of is ready, with the side of the code
+pub ready_is : (f : FilesSeen) (of : Subject) (i : Interface) (n : ℕ) (o : Operation) (side : Side) → IsFound f of i n o → side ≡ of.side → IsReady f of (setting_of i o side)
+ready_is f of i n o side found same = record { interface = i; number = n; operation = o; found = found; setting_is = ap (setting_of i o) same }
+
+module _ (x : Seen) (of : Subject) (order : OrderWord) (w : Setting) (ready : IsReady x.files of w) where
+  pub read_made : (how : Reading) (result : Result (List ℕ) Refusal) → IfOk result (IsRead x.input how w (order_in order)) → IfOk result (IsMade x (Read how of order))
+  read_made how (Ok made) is = (w, ready, is)
+  read_made how (Err e) is = tt
+
+  pub read_refused : (how : Reading) (result : Result (List ℕ) Refusal) → IfErr result (IsReadCause x.input how w (order_in order)) → IfErr result (IsCause x (Read how of order))
+  read_refused how (Ok made) cause = tt
+  read_refused how (Err e) cause = inr (w, ready, cause)
+
+  pub encode_made : (chunk : ℕ) (result : Result (List ℕ) Refusal) → IfOk result (IsEncoded x.input w (order_in order) chunk) → IfOk result (IsMade x (Encode of order chunk))
+  encode_made chunk (Ok made) is = (w, ready, is)
+  encode_made chunk (Err e) is = tt
+
+  pub encode_refused : (chunk : ℕ) (result : Result (List ℕ) Refusal) → IfErr result (IsEncodeCause x.input w) → IfErr result (IsCause x (Encode of order chunk))
+  encode_refused chunk (Ok made) cause = tt
+  encode_refused chunk (Err e) cause = inr (w, ready, cause)
+
+-- octets after a graph that conforms are what is left over
 pub left_over : (w : Setting) (order : Order) (octets : List ℕ) (taken : ℕ) (g : Graph) → BeginsWith w order octets taken g → (result : Result (List ℕ) Refusal)
     → IfErr result (IsLeftOver (length octets) taken) → IfErr result (IsOctetsCause w order octets)
 left_over w order octets taken g begins (Ok made) h = tt

@@ -1,5 +1,5 @@
 -- What compiling answers, from what its steps answer.
-use Rattle.std.proofs.Common.{◌≡◌, ◌∙◌, ◌≤◌, ℕ, arith, List, [], ◌∷◌, length, Option, Err, refl, sym, ap, subst, inl, inr}
+use Rattle.std.proofs.Common.{◌≡◌, ◌∙◌, ◌≤◌, ℕ, arith, List, [], ◌∷◌, ◌++◌, append_assoc, length, Option, Some, Err, refl, sym, ap, subst, inl, inr}
 use Rattle.phrases.specs.Text.{Depth, Ban}
 use Rattle.phrases.specs.Reading.{Syntax, Passes}
 use Rattle.idl_lexer.specs.Lexed.{Lexed}
@@ -17,19 +17,28 @@ use Rattle.idl_names.specs.Causes.{IsAbsent, IsFailed}
 use Rattle.idl_names.specs.Walk.{Walk, start, all_of, Stopped}
 use Rattle.dceidl.specs.declared.refusal.Refusal.{Refusal}
 use Rattle.dceidl.specs.declared.refusal.Refusal.TheVariants.{Memory}
-use Rattle.dceidl.specs.Idl.{main_file, IsMainFault, IsNameFault, IsDueImport, by_names, told_fault, name_in}
+use Rattle.dceidl.specs.Idl.{main_file, IsMainFault, IsNameFault, IsDueImport, by_names, reported_fault, name_in, IsDueAfter, IsIdlFault}
 use Rattle.idl_lexer.specs.declared.tokens.LexFault.TheVariants as lexical
 use Rattle.nd_base.specs.Outside.{IsContent, IsMissing}
 use Rattle.dceidl.specs.declared.refusal.Refusal.TheVariants.{Absent, FileFailed, BadIdl, NoOperation, NotBuilt, ReadFault, BadOctets, BadText, BadValue}
 use Rattle.nd_base.specs.Counts.{Rose}
-use Rattle.dceidl.specs.Outside.{FilesSeen, HasRisen}
+use Rattle.nd_base.specs.Over.{FilesSeen, HasRisen}
 use Rattle.dceidl.specs.Ready.{IsTextCause, IsIdlCause}
 use Rattle.dceidl.proofs.Walks.{walk_absent, walk_failed, last_source}
-use Rattle.dceidl.specs.Reading.{IsToldUnparsed, IsOrMemory, IsLoadCause}
+use Rattle.std.specs.Prelude.{drop, option_to_list, IfOk, Result, Ok}
+use Rattle.idl_names.specs.Files.{IsFile}
+use Rattle.idl_names.specs.Walk.{State, names_of, AsksAlong}
+use Rattle.idl_grammar.specs.Tree.{Tree}
+use Rattle.nd_types.specs.declared.interface.Interface.{Interface}
+use Rattle.dceidl.specs.Asked.{AreAsked, AsksFiles, all_due}
+use Rattle.dceidl.specs.Idl.{Means, AreResolved}
+use Rattle.dceidl.specs.Ready.{IsCompiled}
+use Rattle.dceidl.proofs.AskedFiles.{reached_names, along, all_names, all_asked}
+use Rattle.dceidl.specs.Reading.{IsReportedUnparsed, IsOrMemory, IsLoadCause, IsJudged, MeansAfter, AsksAfter, AsksOfImports}
 
 -- tokens that are no file of the language are a main file that is refused
 pub unparsed_main : (text : List ℕ) (l : Lexed) → l.text ≡ text → AreTokens text l.tokens → (f : SyntaxFault)
-    → Told (λ a. Answers grammar.file (lexemes l) a) (Err f) → (r : NameFault) → IsToldUnparsed l f r → IsMainFault text r
+    → Told (λ a. Answers grammar.file (lexemes l) a) (Err f) → (r : NameFault) → IsReportedUnparsed l f r → IsMainFault text r
 unparsed_main text l same tokens parser.Memory h r told = subst (IsMainFault text) (sym told) tt
 unparsed_main text l same tokens (parser.Syntax k) h r told =
     subst (IsMainFault text) (sym told)
@@ -113,7 +122,7 @@ failed_due held idl text sources n (inr (tree, parsed, inl walk)) =
     })
 
 fault_cause : (f : FilesSeen) (idl text : List ℕ) (acf : Option (List ℕ)) (sources : List Source) (x : NameFault) → IsNameFault f.held idl text sources x
-    → IsAbsent f.absences.before f.absences.now x → IsFailed f.faults.before f.faults.now x → IsTextCause f idl text acf (told_fault sources x)
+    → IsAbsent f.absences.before f.absences.now x → IsFailed f.faults.before f.faults.now x → IsTextCause f idl text acf (reported_fault sources x)
 fault_cause f idl text acf sources names.Memory h a b = tt
 fault_cause f idl text acf sources (names.Unknown p) h a b = by_names sources (names.Unknown p) h refl
 fault_cause f idl text acf sources (names.Twice p q) h a b = by_names sources (names.Twice p q) h refl
@@ -130,7 +139,7 @@ fault_cause f idl text acf sources (names.Syntax n at (parser.Deep k)) h a b = b
 fault_cause f idl text acf sources (names.Syntax n at (parser.Banned k)) h a b = by_names sources (names.Syntax n at (parser.Banned k)) h refl
 
 pub text_cause : (f : FilesSeen) (idl text : List ℕ) (acf : Option (List ℕ)) (sources : List Source) (x : NameFault) → IsNameFault f.held idl text sources x
-    → IsAbsent f.absences.before f.absences.now x → IsFailed f.faults.before f.faults.now x → (told : Refusal) → IsOrMemory (told_fault sources x) told
+    → IsAbsent f.absences.before f.absences.now x → IsFailed f.faults.before f.faults.now x → (told : Refusal) → IsOrMemory (reported_fault sources x) told
     → IsTextCause f idl text acf told
 text_cause f idl text acf sources x h a b told (inl is) = subst (IsTextCause f idl text acf) (sym is) (fault_cause f idl text acf sources x h a b)
 text_cause f idl text acf sources x h a b told (inr is) = subst (IsTextCause f idl text acf) (sym is) tt
@@ -140,20 +149,26 @@ text_cause f idl text acf sources x h a b told (inr is) = subst (IsTextCause f i
 rose_later : (before mid now : ℕ) → before ≤ mid → Rose mid now → Rose before now
 rose_later before mid now le rose = grind (arith, le, rose)
 
--- what came behind an earlier load
-pub after : (held : Held) (a b c x y z : ℕ) (idl text : List ℕ) (acf : Option (List ℕ)) (r : Refusal) → a ≤ b → x ≤ y
-    → IsTextCause (record { held = held; absences = record { before = b; now = c }; faults = record { before = y; now = z } }) idl text acf r
-    → IsTextCause (record { held = held; absences = record { before = a; now = c }; faults = record { before = x; now = z } }) idl text acf r
-after held a b c x y z idl text acf Memory le le' cause = tt
-after held a b c x y z idl text acf (Absent file) le le' (rose, due, missing) = (rose_later a b c le rose, due, missing)
-after held a b c x y z idl text acf (FileFailed file) le le' (rose, due) = (rose_later x y z le' rose, due)
-after held a b c x y z idl text acf (BadIdl file line column why) le le' cause = cause
-after held a b c x y z idl text acf NoOperation le le' cause = absurd cause
-after held a b c x y z idl text acf NotBuilt le le' cause = absurd cause
-after held a b c x y z idl text acf ReadFault le le' cause = absurd cause
-after held a b c x y z idl text acf (BadOctets place why) le le' cause = absurd cause
-after held a b c x y z idl text acf (BadText line column why) le le' cause = absurd cause
-after held a b c x y z idl text acf (BadValue path why) le le' cause = absurd cause
+-- what came after an earlier load
+pub after : (f g : FilesSeen) (idl text : List ℕ) (acf : Option (List ℕ)) (r : Refusal) → g.held ≡ f.held → f.absences.before ≤ g.absences.before
+    → f.absences.now ≡ g.absences.now → f.faults.before ≤ g.faults.before → f.faults.now ≡ g.faults.now → IsTextCause g idl text acf r → IsTextCause f idl text acf r
+after f g idl text acf Memory same low now low' now' cause = tt
+after f g idl text acf (Absent file) same low now low' now' (rose, due, missing) = (
+  subst (Rose f.absences.before) (sym now) (rose_later f.absences.before g.absences.before g.absences.now low rose),
+  subst (λ h. IsDueAfter h idl text acf file) same due,
+  subst (λ h. IsMissing h file) same missing,
+)
+after f g idl text acf (FileFailed file) same low now low' now' (rose, due) = (
+  subst (Rose f.faults.before) (sym now') (rose_later f.faults.before g.faults.before g.faults.now low' rose),
+  subst (λ h. IsDueAfter h idl text acf file) same due,
+)
+after f g idl text acf (BadIdl file line column why) same low now low' now' cause = subst (λ h. IsIdlFault h idl text acf (BadIdl file line column why)) same cause
+after f g idl text acf NoOperation same low now low' now' cause = absurd cause
+after f g idl text acf NotBuilt same low now low' now' cause = absurd cause
+after f g idl text acf ReadFault same low now low' now' cause = absurd cause
+after f g idl text acf (BadOctets place why) same low now low' now' cause = absurd cause
+after f g idl text acf (BadText line column why) same low now low' now' cause = absurd cause
+after f g idl text acf (BadValue path why) same low now low' now' cause = absurd cause
 
 -- why a main file that was loaded means nothing is why the files do
 loaded_cause : (f : FilesSeen) (idl text : List ℕ) (acf : Option (List ℕ)) (r : Refusal) → IsContent f.held idl text → IsTextCause f idl text acf r → IsIdlCause f idl acf r
@@ -169,21 +184,10 @@ loaded_cause f idl text acf (BadText line column why) content cause = absurd cau
 loaded_cause f idl text acf (BadValue path why) content cause = absurd cause
 
 -- what came after the load of the main file
-pub after_load : (held : Held) (a b c x y z : ℕ) (idl text : List ℕ) (acf : Option (List ℕ)) (r : Refusal) → IsContent held idl text → a ≤ b → x ≤ y
-    → IsTextCause (record { held = held; absences = record { before = b; now = c }; faults = record { before = y; now = z } }) idl text acf r
-    → IsIdlCause (record { held = held; absences = record { before = a; now = c }; faults = record { before = x; now = z } }) idl acf r
-after_load held a b c x y z idl text acf r content le le' cause =
-    loaded_cause (record { held = held; absences = record { before = a; now = c }; faults = record { before = x; now = z } }) idl text acf r content
-    (after held a b c x y z idl text acf r le le' cause)
-
--- a file that is absent, or was not read, is told as that, unless memory was wanting
-pub told_absent : (f : FilesSeen) (name : List ℕ) (r : Refusal) → HasRisen f.absences → IsMissing f.held name → IsOrMemory (Absent name) r → IsLoadCause f name r
-told_absent f name r rose missing (inl is) = subst (IsLoadCause f name) (sym is) (refl, rose, missing)
-told_absent f name r rose missing (inr is) = subst (IsLoadCause f name) (sym is) tt
-
-pub told_failed : (f : FilesSeen) (name : List ℕ) (r : Refusal) → HasRisen f.faults → IsOrMemory (FileFailed name) r → IsLoadCause f name r
-told_failed f name r rose (inl is) = subst (IsLoadCause f name) (sym is) (refl, rose)
-told_failed f name r rose (inr is) = subst (IsLoadCause f name) (sym is) tt
+pub after_load : (f g : FilesSeen) (idl text : List ℕ) (acf : Option (List ℕ)) (r : Refusal) → IsContent f.held idl text → g.held ≡ f.held
+    → f.absences.before ≤ g.absences.before → f.absences.now ≡ g.absences.now → f.faults.before ≤ g.faults.before → f.faults.now ≡ g.faults.now
+    → IsTextCause g idl text acf r → IsIdlCause f idl acf r
+after_load f g idl text acf r content same low now low' now' cause = loaded_cause f idl text acf r content (after f g idl text acf r same low now low' now' cause)
 
 -- a main file that was not loaded is why the files mean nothing
 pub main_not_loaded : (f : FilesSeen) (idl : List ℕ) (acf : Option (List ℕ)) (r : Refusal) → IsLoadCause f idl r → IsIdlCause f idl acf r
@@ -197,3 +201,54 @@ main_not_loaded f idl acf ReadFault cause = absurd cause
 main_not_loaded f idl acf (BadOctets place why) cause = absurd cause
 main_not_loaded f idl acf (BadText line column why) cause = absurd cause
 main_not_loaded f idl acf (BadValue path why) cause = absurd cause
+
+-- ## Names asked for
+
+-- the main file, and what was asked for after it
+pub asks_after : (f g : FilesSeen) (idl : List ℕ) (acf : Option (List ℕ)) → g.held ≡ f.held → g.asked ≡ f.asked ++ idl ∷ [] → f.asked_now ≡ g.asked_now → AsksAfter g idl acf
+    → AsksFiles f (Some (record { idl = idl; acf = acf }))
+asks_after f g idl acf same first now a =
+    (idl ∷ a.rest, now ∙ a.asked ∙ ap (λ l. l ++ a.rest) first ∙ append_assoc f.asked (idl ∷ []) a.rest, subst (λ h. AreAsked h idl acf (idl ∷ a.rest)) same a.are_asked)
+
+-- the main file was loaded, and what is after it means an interface
+pub compiled_after : (f g : FilesSeen) (idl text : List ℕ) (acf : Option (List ℕ)) → IsContent f.held idl text → g.held ≡ f.held → g.asked ≡ f.asked ++ idl ∷ []
+    → f.asked_now ≡ g.asked_now → (i : Interface) → MeansAfter g idl text acf i → IsCompiled f idl acf i
+compiled_after f g idl text acf content same first now i m =
+    record { file = text; loaded = content; means = moved.0; all_asked = now ∙ m.asked ∙ ap (λ l. l ++ m.rest) first ∙ append_assoc f.asked (idl ∷ []) m.rest ∙ ap (λ l. f.asked ++ l) moved.1 }
+  where
+    moved : (x : Means f.held idl text acf i) × (idl ∷ m.rest ≡ all_due x.state.sources acf)
+    moved = subst (λ h. (x : Means h idl text acf i) × (idl ∷ m.rest ≡ all_due x.state.sources acf)) same (m.means, m.rest_is)
+
+-- names are resolved, and the attribute configuration file was asked for if one is named
+pub resolved_asks : (f : FilesSeen) (idl text : List ℕ) (acf : Option (List ℕ)) (state : State) → IsContent f.held idl text → AreResolved f.held idl text state
+    → f.asked_now ≡ (f.asked ++ names_of (drop 1 state.sources)) ++ option_to_list acf → AsksAfter f idl acf
+resolved_asks f idl text acf state content resolved now = record {
+  rest = names_of (drop 1 state.sources) ++ option_to_list acf;
+  asked = now ∙ append_assoc f.asked (names_of (drop 1 state.sources)) (option_to_list acf);
+  are_asked = subst (AreAsked f.held idl acf) (sym (all_names f.held idl text content state resolved acf)) (all_asked f.held idl text content state resolved acf);
+}
+
+pub resolved_means : (f : FilesSeen) (idl text : List ℕ) (acf : Option (List ℕ)) (state : State) → IsContent f.held idl text → AreResolved f.held idl text state
+    → f.asked_now ≡ (f.asked ++ names_of (drop 1 state.sources)) ++ option_to_list acf → (i : Interface) → IsJudged f.held idl text acf state i → MeansAfter f idl text acf i
+resolved_means f idl text acf state content resolved now i j = record {
+  means = j.means;
+  rest = names_of (drop 1 state.sources) ++ option_to_list acf;
+  rest_is = all_names f.held idl text content state resolved acf ∙ ap (λ (s : State). all_due s.sources acf) (sym j.state_is);
+  asked = now ∙ append_assoc f.asked (names_of (drop 1 state.sources)) (option_to_list acf);
+}
+
+-- imports along a walk
+pub imports_asked : (held : Held) (idl text : List ℕ) (tree : Tree) (sources : List Source) (asked asked_now : List (List ℕ)) → IsFile text tree → sources ≡ main_file idl text
+    → AsksAlong held sources tree asked asked_now → AsksOfImports held idl text asked asked_now
+imports_asked held idl text tree sources asked asked_now parsed same a =
+    let walk = subst (λ (m : List Source). Walk held (start m) (all_of 0 tree) (Stopped a.reached names.Memory)) same a.walk in
+    record {
+      rest = names_of (drop 1 a.reached);
+      asked_is = a.asked ∙ ap (λ (m : List Source). asked ++ names_of (drop (length m) a.reached)) same;
+      due = λ content acf. subst (AreAsked held idl acf) (reached_names held idl text content tree parsed a.reached walk) (along held idl text content tree parsed a.reached walk acf);
+    }
+
+-- what holds in any case holds of an answer
+pub always : {T E : Type 0} {P : Type 0} (r : Result T E) → P → IfOk r (λ x. P)
+always (Ok x) h = h
+always (Err e) h = tt

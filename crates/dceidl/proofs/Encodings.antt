@@ -21,7 +21,7 @@ use Rattle.value_text.specs.Reads.{ReadsAs, IsTextFault}
 use Rattle.value_text.proofs.PlainGraphs.{readable_plain}
 use Rattle.dceidl.specs.declared.refusal.Refusal.{Refusal}
 use Rattle.dceidl.specs.declared.refusal.Refusal.TheVariants.{Memory, Absent, FileFailed, BadIdl, NoOperation, NotBuilt, ReadFault, BadOctets, BadText, BadValue}
-use Rattle.dceidl.specs.Encode.{IsEncoding, IsTextCause, IsValueCause, IsMisfitAt, IsToldAsValue}
+use Rattle.dceidl.specs.Encode.{IsEncoding, IsTextCause, IsValueCause, IsMisfitAt, IsReportedAsValue}
 use Rattle.dceidl.proofs.WholeMisfits.{whole_misfit}
 
 -- a graph that the text reads as was encoded
@@ -55,7 +55,7 @@ module _ (w : Setting) (primitives : List Primitive) (plain : IsPlain w primitiv
   text_refused (Err e) cause = text_cause e cause
 
 -- a misfit that is told is the cause
-pub value_cause : (w : Setting) (g : Graph) (m : Misfit) → IsMisfit w g m → (e : Refusal) → IsToldAsValue w m e → IsValueCause w g e
+pub value_cause : (w : Setting) (g : Graph) (m : Misfit) → IsMisfit w g m → (e : Refusal) → IsReportedAsValue w m e → IsValueCause w g e
 value_cause w g misfit.Memory first e told = subst (IsValueCause w g) (sym told) tt
 value_cause w g (misfit.At h n reason) first e (inl told) =
     subst (IsValueCause w g) (sym told) (record { home = h; node = n; first = first; path_is = refl })

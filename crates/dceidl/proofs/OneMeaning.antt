@@ -19,12 +19,12 @@ use Rattle.idl_rules.specs.Rules.{Breach, breach}
 use Rattle.idl_rules.specs.Meaning.{meaning}
 use Rattle.idl_rules.specs.Answers.{meant_by}
 use Rattle.idl_check.specs.AcfRules.{first_of_all}
-use Rattle.value_text.specs.Reads.{position_of}
+use Rattle.nd_base.specs.Text.{position_of}
 use Rattle.dceidl.specs.declared.refusal.IdlReason.{IdlReason}
 use Rattle.dceidl.specs.declared.refusal.Refusal.{Refusal}
 use Rattle.dceidl.specs.declared.refusal.Refusal.TheVariants.{BadIdl}
 use Rattle.dceidl.specs.AcfFile.{AcfFile, IsAcf, IsLoadedAcf, IsBeside, tree_beside}
-use Rattle.dceidl.specs.Idl.{main_file, resolved_world, AreResolved, Means, IsMainFault, IsNameFault, IsAcfFault, IsBadAcf, IsIdlFault, by_names, by_acf, by_rules, told_by, told_fault, told_beside, IsDueImport, IsDueAcf, IsDueBehind}
+use Rattle.dceidl.specs.Idl.{main_file, resolved_world, AreResolved, Means, IsMainFault, IsNameFault, IsAcfFault, IsBadAcf, IsIdlFault, by_names, by_acf, by_rules, reported_by, reported_fault, reported_beside, IsDueImport, IsDueAcf, IsDueAfter}
 use Rattle.dceidl.proofs.OneFile.{one_tree, one_no_file, one_cut, never_cut, never_file, never_uncut}
 use Rattle.dceidl.proofs.OneAcf.{one_acf, one_acf_fault, never_acf}
 use Rattle.dceidl.proofs.OneWalk.{IsKept, one_end, one_content, not_missing}
@@ -61,7 +61,7 @@ abbrev pub IsBad : Refusal → Type 0
 IsBad (BadIdl file line column why) = Unit {0}
 IsBad r = ⊥
 
-sure_told : (s : List Source) (f : NameFault) → IsBad (told_fault s f) → IsSureFault f
+sure_told : (s : List Source) (f : NameFault) → IsBad (reported_fault s f) → IsSureFault f
 sure_told s names.Memory b = absurd b
 sure_told s (names.Failed n) b = absurd b
 sure_told s (names.Lex n lexical.Memory) b = absurd b
@@ -254,15 +254,15 @@ module _ (k : List ℕ → Option (List ℕ)) (idl text : List ℕ) where
 
     -- one file has one fault
     one_bad_acf : (name name' body body' : List ℕ) (at at' : ℕ) (why why' : IdlReason) → IsBadAcf (Some k) idl text acf name body at why
-        → IsBadAcf (Some k) idl text acf name' body' at' why' → told_by name (position_of body at) why ≡ told_by name' (position_of body' at') why'
+        → IsBadAcf (Some k) idl text acf name' body' at' why' → reported_by name (position_of body at) why ≡ reported_by name' (position_of body' at') why'
     one_bad_acf name name' body body' at at' why why' x y =
         let names : name ≡ name' = same_Some _ _ (sym x.named ∙ y.named) in
         let bodies : body ≡ body' = one_content k name body body' x.loaded (subst (λ n. IsContent (Some k) n body') (sym names) y.loaded) in
         let fault = one_acf_fault body at at' why why' x.fault (subst (λ t. IsAcfFault t at' why') (sym bodies) y.fault) in
         same names bodies fault.0 fault.1
       where
-        same : name ≡ name' → body ≡ body' → at ≡ at' → why ≡ why' → told_by name (position_of body at) why ≡ told_by name' (position_of body' at') why'
-        same a b c d = λ i. told_by (a i) (position_of (b i) (c i)) (d i)
+        same : name ≡ name' → body ≡ body' → at ≡ at' → why ≡ why' → reported_by name (position_of body at) why ≡ reported_by name' (position_of body' at') why'
+        same a b c d = λ i. reported_by (a i) (position_of (b i) (c i)) (d i)
 
     -- ## What the files mean
 
@@ -277,17 +277,17 @@ module _ (k : List ℕ → Option (List ℕ)) (idl text : List ℕ) where
     same_breach rule rule' place place' e = (ap (λ (b : Breach). b.rule) e, ap (λ (b : Breach). b.place) e)
 
     same_told : (s s' : List Source) (b b' : Option AcfFile) (rule rule' : ℕ) (place place' : Place) → s ≡ s' → b ≡ b' → rule ≡ rule' → place ≡ place'
-        → told_beside s b rule place ≡ told_beside s' b' rule' place'
-    same_told s s' b b' rule rule' place place' e f g h = λ i. told_beside (e i) (f i) (g i) (h i)
+        → reported_beside s b rule place ≡ reported_beside s' b' rule' place'
+    same_told s s' b b' rule rule' place place' e f g h = λ i. reported_beside (e i) (f i) (g i) (h i)
 
-    same_fault : (s s' : List Source) (f f' : NameFault) → s ≡ s' → f ≡ f' → told_fault s f ≡ told_fault s' f'
-    same_fault s s' f f' a b = λ i. told_fault (a i) (b i)
+    same_fault : (s s' : List Source) (f f' : NameFault) → s ≡ s' → f ≡ f' → reported_fault s f ≡ reported_fault s' f'
+    same_fault s s' f f' a b = λ i. reported_fault (a i) (b i)
 
     same_first : (s s' : State) (b b' : Option AcfFile) → s ≡ s' → b ≡ b'
         → first_of_all (resolved_world s) (tree_beside b) ≡ first_of_all (resolved_world s') (tree_beside b')
     same_first s s' b b' e f = λ i. first_of_all (resolved_world (e i)) (tree_beside (f i))
 
-    sure_of : (r : Refusal) (s : List Source) (f : NameFault) → IsBad r → r ≡ told_fault s f → IsSureFault f
+    sure_of : (r : Refusal) (s : List Source) (f : NameFault) → IsBad r → r ≡ reported_fault s f → IsSureFault f
     sure_of r s f b e = sure_told s f (subst IsBad e b)
 
     pub never_both : {B : Type 0} (i : Interface) (r : Refusal) → IsBad r → Means (Some k) idl text acf i → IsIdlFault (Some k) idl text acf r → B
@@ -319,7 +319,7 @@ module _ (k : List ℕ → Option (List ℕ)) (idl text : List ℕ) where
 
     -- ## Files that are due and missing
 
-    pub absent_or_means : {B : Type 0} (file : List ℕ) (i : Interface) → IsDueBehind (Some k) idl text acf file → IsMissing (Some k) file
+    pub absent_or_means : {B : Type 0} (file : List ℕ) (i : Interface) → IsDueAfter (Some k) idl text acf file → IsMissing (Some k) file
         → Means (Some k) idl text acf i → B
     absent_or_means file i (inl due) missing x =
         let a = absent_fault file due missing in
@@ -331,7 +331,7 @@ module _ (k : List ℕ → Option (List ℕ)) (idl text : List ℕ) where
     absent_import_or_bad file r bad due missing (by_names s f x e) =
         let a = absent_fault file due missing in
         let one = one_fault a.0 s (names.Absent a.1) f a.2 x tt (sure_of r s f bad e) in
-        absurd (subst IsBad (e ∙ ap (told_fault s) (sym one.1)) bad)
+        absurd (subst IsBad (e ∙ ap (reported_fault s) (sym one.1)) bad)
     absent_import_or_bad file r bad due missing (by_acf name body at why y e) =
         let a = absent_fault file due missing in
         done_or_faulty y.state a.0 (names.Absent a.1) y.resolved a.2 tt
@@ -347,7 +347,7 @@ module _ (k : List ℕ → Option (List ℕ)) (idl text : List ℕ) where
         not_missing k file body missing (subst (λ n. IsContent (Some k) n body) same y.loaded)
     absent_acf_or_bad file r bad due missing (by_rules s beside rule place y e) = not_missing_beside beside y.read file due.named missing
 
-    pub absent_or_bad : {B : Type 0} (file : List ℕ) (r : Refusal) → IsBad r → IsDueBehind (Some k) idl text acf file → IsMissing (Some k) file
+    pub absent_or_bad : {B : Type 0} (file : List ℕ) (r : Refusal) → IsBad r → IsDueAfter (Some k) idl text acf file → IsMissing (Some k) file
         → IsIdlFault (Some k) idl text acf r → B
     absent_or_bad file r bad (inl due) missing x = absent_import_or_bad file r bad due missing x
     absent_or_bad file r bad (inr due) missing x = absent_acf_or_bad file r bad due missing x

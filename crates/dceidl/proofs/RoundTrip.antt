@@ -11,10 +11,10 @@ use Rattle.nd_grammar.specs.Plain.{IsPlain, number, plain_graph}
 use Rattle.nd_grammar.proofs.PlainChosen.{chosen_read, chosen_represents}
 use Rattle.nd_grammar.proofs.PlainGraphs.{conforming_numbers}
 use Rattle.value_text.specs.declared.TheConstants.{TEXT_LIMIT}
-use Rattle.value_text.specs.PlainSide.{IsPlainSide, HasWordNames}
+use Rattle.nd_grammar.specs.LegalSide.{IsLegalSide}
+use Rattle.value_text.specs.PlainSide.{IsPlainSide}
 use Rattle.value_text.specs.Reads.{ReadsAs}
-use Rattle.value_text.specs.Printed.{IsText}
-use Rattle.value_text.specs.Whole.{graph_text}
+use Rattle.value_text.specs.Printed.{IsText, graph_text}
 use Rattle.value_text.proofs.OneFault.{one_graph}
 use Rattle.value_text.proofs.PrintedReads.{printed_reads}
 use Rattle.dceidl.specs.Decode.{IsDecoding}
@@ -68,15 +68,17 @@ module _ (w : Setting) (order : Order) (ps : List Primitive) (plain : IsPlain w 
       text_of_numbers w zs made text (subst (λ g. IsText w g made) numbers (given_back made d)) (subst (λ g. IsText w g text) numbers printed)
 
 -- what is encoded of a text that decoding gave represents the graph that was decoded, in any order
-module _ (w : Setting) (order : Order) (ps : List Primitive) (plain : IsPlain w ps) (side : IsPlainSide w) (words : HasWordNames w)
-    (octets text : List ℕ) (d : IsDecoding w order octets text) where
+module _ (w : Setting) (order : Order) (ps : List Primitive) (plain : IsPlain w ps) (legal : IsLegalSide w) (octets text : List ℕ) (d : IsDecoding w order octets text) where
+  side : IsPlainSide w
+  side = record { primitives = ps; plain = plain }
+
   canonical_is : d.is_text.canonical ≡ d.graph
   canonical_is =
       let (zs, numbers, range, many) = conforming_numbers w d.graph ps plain.plain d.conforms in
       same_numbers zs d.is_text.canonical (subst (λ g. Same g d.is_text.canonical) numbers d.is_text.is_canonical.same) ∙ sym numbers
 
   pub reads_back : length text ≤ TEXT_LIMIT → ReadsAs w text d.graph
-  reads_back short = subst (ReadsAs w text) canonical_is (printed_reads w d.graph text d.is_text side words d.conforms short)
+  reads_back short = subst (ReadsAs w text) canonical_is (printed_reads w d.graph text d.is_text legal d.conforms short)
 
   pub represented_again : (other : Order) (chunk : ℕ) (made : List ℕ) → IsEncoding w other chunk text made → Represents w other made d.graph
   represented_again other chunk made e =

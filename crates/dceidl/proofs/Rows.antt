@@ -1,161 +1,372 @@
--- What a run of a task says by itself, from the whole of a run.
-use Rattle.std.proofs.Common.{◌≡◌, ℕ, List, Option, Some, sym, ◌∙◌, subst, inl, inr, ◌⊎◌}
-use Rattle.std.specs.Prelude.{◌≢◌}
-use Rattle.nd_types.specs.declared.interface.Interface.{Interface}
-use Rattle.nd_types.specs.declared.types.Operation.{Operation}
-use Rattle.nd_types.specs.declared.types.Side.{Side}
-use Rattle.dceidl.specs.declared.task.Task.{Task}
-use Rattle.dceidl.specs.declared.refusal.Refusal.{Refusal}
-use Rattle.dceidl.specs.declared.refusal.Refusal.TheVariants.{Memory, Absent, FileFailed, BadIdl, NoOperation, NotBuilt, ReadFault, BadOctets, BadText, BadValue}
+-- The rows of a run follow from the whole of it: each goes by the way in which the run ended.
+use Rattle.std.proofs.Common.{◌≡◌, ◌∙◌, ℕ, List, [], ◌∷◌, Option, Some, None, refl, sym, ap, subst, inl, inr, ◌⊎◌}
+use Rattle.std.specs.Prelude.{◌≢◌, true}
+use Rattle.nd_base.specs.Outside.{IsMissing}
+use Rattle.nd_base.specs.Over.{FilesSeen, SourceSeen, SinkSeen, HasRisen, Got}
 use Rattle.dceidl.specs.declared.outcome.Outcome.{Outcome}
 use Rattle.dceidl.specs.declared.outcome.Outcome.TheVariants.{Done, Refused, Wanting}
-use Rattle.dceidl.specs.Outside.{FilesSeen, SourceSeen, SinkSeen, HasRisen, Got, IsUntouched}
-use Rattle.dceidl.specs.Words.{command, Work, Compile}
-use Rattle.dceidl.specs.Ready.{IsCompiled, IsReady, IsIdlCause}
-use Rattle.dceidl.specs.Lines.{status_of}
-use Rattle.dceidl.specs.Run.{HasRun, IsOutcome, IsDelivered, IsTaskOutcome, IsListingOutcome}
-use Rattle.dceidl.specs.Rows.{IsOneOf, IsDone, IsRefused, IsListing, IsNoListing}
+use Rattle.dceidl.specs.declared.refusal.Refusal.{Refusal}
+use Rattle.dceidl.specs.declared.refusal.Refusal.TheVariants.{Memory, Absent, FileFailed, BadIdl, NoOperation, NotBuilt, ReadFault, BadOctets, BadText, BadValue}
+use Rattle.dceidl.specs.declared.words.Reading.{Reading}
+use Rattle.dceidl.specs.Asked.{Asks}
+use Rattle.dceidl.specs.Causes.{IsMade, IsCause, statuses_of}
+use Rattle.dceidl.specs.Idl.{IsDueFile}
+use Rattle.dceidl.specs.Input.{IsReadCause, IsEncodeCause}
+use Rattle.dceidl.specs.Lines.{status_of, line_of}
+use Rattle.dceidl.specs.Ready.{IsIdlCause, IsReadyCause}
+use Rattle.dceidl.specs.Rows.{IsOneOf, IsDone, IsRefusedWith, ReadsInput, IsDue, IsDueOf, IsDueAndMissing, IsDueAndReported, HasNotFailed}
+use Rattle.dceidl.specs.Run.{HasRun, IsOutcome, IsCommandOutcome, IsDelivered}
+use Rattle.dceidl.specs.Seen.{Seen}
+use Rattle.dceidl.specs.Words.{Command, Subject, Read, Encode, Compile, Help, Version, command, idl_of, op_of, asks_files, asks_input}
 
--- How a run of a task ends: done, refused, for want of memory, or with a fault of out or notes in place of its own status.
-pub data Ended (f : FilesSeen) (s : SourceSeen) (out notes : SinkSeen) (task : Task) (idl : List ℕ) (acf : Option (List ℕ)) (op : List ℕ) (side : Side) (status : ℕ) : Type 0 where
-  ended_done : status ≡ 0 → IsDone f s out notes task idl acf op side → Ended f s out notes task idl acf op side status
-  ended_refused : IsRefused f s out notes task idl acf op side status → Ended f s out notes task idl acf op side status
-  ended_wanting : status ≡ 5 → Ended f s out notes task idl acf op side status
-  ended_unwritten : status ≡ 4 → HasRisen out.faults → (i : Interface) (n : ℕ) (o : Operation) → IsReady f idl acf op side i n o → Ended f s out notes task idl acf op side status
-  ended_untold : status ≡ 4 → HasRisen notes.faults → Ended f s out notes task idl acf op side status
+-- a refusal has none of the statuses 0, 2 and 4
+pub not_zero : (r : Refusal) → status_of r ≡ 0 → ⊥
+not_zero Memory e = cc
+not_zero (Absent file) e = cc
+not_zero (FileFailed file) e = cc
+not_zero (BadIdl file line column reason) e = cc
+not_zero NoOperation e = cc
+not_zero NotBuilt e = cc
+not_zero ReadFault e = cc
+not_zero (BadOctets place why) e = cc
+not_zero (BadText line column reason) e = cc
+not_zero (BadValue path reason) e = cc
 
--- a refusal has another status than 0
-pub never_zero : (r : Refusal) → status_of r ≡ 0 → ⊥
-never_zero Memory e = cc
-never_zero (Absent file) e = cc
-never_zero (FileFailed file) e = cc
-never_zero (BadIdl file line column reason) e = cc
-never_zero NoOperation e = cc
-never_zero NotBuilt e = cc
-never_zero ReadFault e = cc
-never_zero (BadOctets place why) e = cc
-never_zero (BadText line column reason) e = cc
-never_zero (BadValue path reason) e = cc
+-- How a run of a command ends: done, refused, out of memory, or with a fault of out or notes in place of its own status.
+pub data Ended (x : Seen) (out notes : SinkSeen) (c : Command) (status : ℕ) : Type 0 where
+  ended_done : status ≡ 0 → IsDone x out notes c → Ended x out notes c status
+  ended_refused : IsRefusedWith x out notes c status → Ended x out notes c status
+  ended_wanting : status ≡ 5 → Ended x out notes c status
+  ended_unwritten : status ≡ 4 → HasRisen out.faults → (made : List ℕ) → IsMade x c made → Ended x out notes c status
+  ended_unreported : status ≡ 4 → HasRisen notes.faults → Ended x out notes c status
 
-module _ (f : FilesSeen) (s : SourceSeen) (out notes : SinkSeen) (task : Task) (idl : List ℕ) (acf : Option (List ℕ)) (op : List ℕ) (side : Side) (status : ℕ) where
+module _ (x : Seen) (out notes : SinkSeen) (c : Command) (status : ℕ) where
   abbrev End : Type 0
-  End = Ended f s out notes task idl acf op side status
+  End = Ended x out notes c status
 
-  by_outcome : (outcome : Outcome) → IsTaskOutcome f s task idl acf op side outcome → IsDelivered out notes outcome status → End
-  by_outcome (Done made) (i, n, o, ready, of_input) (inl (is, given, quiet)) =
-      ended_done is (record { interface = i; number = n; operation = o; ready = ready; made = made; of_input = of_input; given = given; quiet = quiet })
-  by_outcome (Done made) (i, n, o, ready, of_input) (inr (is, rose, some, warned)) = ended_unwritten is rose i n o ready
-  by_outcome (Refused own line) (r, cause, is_own, is_line) (before, inl (is, told)) =
-      ended_refused (record { refusal = r; cause = cause; own_status = is ∙ is_own; line = subst (Got notes) is_line told; nothing_given = before })
-  by_outcome (Refused own line) caused (before, inr (is, rose, some)) = ended_untold is rose
+  by_outcome : (outcome : Outcome) → IsCommandOutcome x c outcome → IsDelivered out notes outcome status → End
+  by_outcome (Done made) is_made (inl (is, given, quiet)) = ended_done is (record { made = made; is_made = is_made; given = given; quiet = quiet })
+  by_outcome (Done made) is_made (inr (is, rose, some, warned)) = ended_unwritten is rose made is_made
+  by_outcome (Refused own line) r (before, inl (is, told)) =
+      ended_refused (record { refusal = r.refusal; cause = r.cause; own_status = is ∙ r.status_is; line = subst (Got notes) r.line_is told; nothing_given = before })
+  by_outcome (Refused own line) r (before, inr (is, rose, some)) = ended_unreported is rose
   by_outcome Wanting caused (before, inl (is, told)) = ended_wanting is
-  by_outcome Wanting caused (before, inr (is, rose, some)) = ended_untold is rose
+  by_outcome Wanting caused (before, inr (is, rose, some)) = ended_unreported is rose
 
-  pub ended : (words : List (List ℕ)) → command words ≡ Some (Work task idl acf op side) → HasRun words f s out notes status → End
-  ended words is run = by_outcome run.outcome (subst (λ c. IsOutcome f s c run.outcome) is run.caused) run.delivered
+  pub ended : (words : List (List ℕ)) → command words ≡ Some c → HasRun words x out notes status → End
+  ended words is run = by_outcome run.outcome (subst (λ o. IsOutcome x o run.outcome) is run.caused) run.delivered
 
-  -- status 0 is a task that was done
-  pub done_is : End → status ≡ 0 → IsDone f s out notes task idl acf op side
+  -- status 0 is a command that was done
+  pub done_is : End → status ≡ 0 → IsDone x out notes c
   done_is (ended_done is d) e = d
-  done_is (ended_refused r) e = absurd (never_zero r.refusal (sym r.own_status ∙ e))
-  done_is (ended_wanting is) e = absurd (five is e)
-    where
-      five : status ≡ 5 → status ≡ 0 → ⊥
-      five a b = cc
-  done_is (ended_unwritten is rose i n o ready) e = absurd (four is e)
-    where
-      four : status ≡ 4 → status ≡ 0 → ⊥
-      four a b = cc
-  done_is (ended_untold is rose) e = absurd (four is e)
-    where
-      four : status ≡ 4 → status ≡ 0 → ⊥
-      four a b = cc
-
-  -- any other status than 0, 4 and 5 is a refusal
-  pub refused_is : End → status ≢ 0 → status ≢ 4 → status ≢ 5 → IsRefused f s out notes task idl acf op side status
-  refused_is (ended_done is d) a b c = absurd (a is)
-  refused_is (ended_refused r) a b c = r
-  refused_is (ended_wanting is) a b c = absurd (c is)
-  refused_is (ended_unwritten is rose i n o ready) a b c = absurd (b is)
-  refused_is (ended_untold is rose) a b c = absurd (b is)
-
--- How a run of a listing ends, likewise.
-pub data Listed (f : FilesSeen) (s : SourceSeen) (out notes : SinkSeen) (idl : List ℕ) (acf : Option (List ℕ)) (status : ℕ) : Type 0 where
-  listed_done : status ≡ 0 → IsListing f s out notes idl acf → Listed f s out notes idl acf status
-  listed_refused : IsNoListing f s out notes idl acf status → Listed f s out notes idl acf status
-  listed_wanting : status ≡ 5 → Listed f s out notes idl acf status
-  listed_unwritten : status ≡ 4 → HasRisen out.faults → (i : Interface) → IsCompiled f idl acf i → Listed f s out notes idl acf status
-  listed_untold : status ≡ 4 → HasRisen notes.faults → Listed f s out notes idl acf status
-
-module _ (f : FilesSeen) (s : SourceSeen) (out notes : SinkSeen) (idl : List ℕ) (acf : Option (List ℕ)) (status : ℕ) where
-  abbrev ListedHere : Type 0
-  ListedHere = Listed f s out notes idl acf status
-
-  by_listing : (outcome : Outcome) → IsListingOutcome f idl acf outcome → IsUntouched s → IsDelivered out notes outcome status → ListedHere
-  by_listing (Done made) (i, compiled, same) unasked (inl (is, given, quiet)) =
-      listed_done is (record { interface = i; compiled = compiled; given = subst (Got out) same given; quiet = quiet; unasked = unasked })
-  by_listing (Done made) (i, compiled, same) unasked (inr (is, rose, some, warned)) = listed_unwritten is rose i compiled
-  by_listing (Refused own line) (r, cause, is_own, is_line) unasked (before, inl (is, told)) =
-      listed_refused
-      (record { refusal = r; cause = cause; own_status = is ∙ is_own; line = subst (Got notes) is_line told; nothing_given = before; unasked = unasked })
-  by_listing (Refused own line) caused unasked (before, inr (is, rose, some)) = listed_untold is rose
-  by_listing Wanting caused unasked (before, inl (is, told)) = listed_wanting is
-  by_listing Wanting caused unasked (before, inr (is, rose, some)) = listed_untold is rose
-
-  listed_of : (outcome : Outcome) → IsOutcome f s (Some (Compile idl acf)) outcome → IsDelivered out notes outcome status → ListedHere
-  listed_of outcome (caused, unasked) delivered = by_listing outcome caused unasked delivered
-
-  pub listed : (words : List (List ℕ)) → command words ≡ Some (Compile idl acf) → HasRun words f s out notes status → ListedHere
-  listed words is run = listed_of run.outcome (subst (λ c. IsOutcome f s c run.outcome) is run.caused) run.delivered
-
-  -- a listing does not ask for the input
-  unasked_of : (outcome : Outcome) → IsOutcome f s (Some (Compile idl acf)) outcome → IsUntouched s
-  unasked_of outcome (caused, unasked) = unasked
-
-  pub unasked : (words : List (List ℕ)) → command words ≡ Some (Compile idl acf) → HasRun words f s out notes status → IsUntouched s
-  unasked words is run = unasked_of run.outcome (subst (λ c. IsOutcome f s c run.outcome) is run.caused)
-
-  -- status 0 is a listing that was made
-  pub listing_is : ListedHere → status ≡ 0 → IsListing f s out notes idl acf
-  listing_is (listed_done is d) e = d
-  listing_is (listed_refused r) e = absurd (never_zero r.refusal (sym r.own_status ∙ e))
-  listing_is (listed_wanting is) e = absurd (never is e)
+  done_is (ended_refused r) e = absurd (not_zero r.refusal (sym r.own_status ∙ e))
+  done_is (ended_wanting is) e = absurd (never is e)
     where
       never : status ≡ 5 → status ≡ 0 → ⊥
       never a b = cc
-  listing_is (listed_unwritten is rose i compiled) e = absurd (never is e)
+  done_is (ended_unwritten is rose made is_made) e = absurd (never is e)
     where
       never : status ≡ 4 → status ≡ 0 → ⊥
       never a b = cc
-  listing_is (listed_untold is rose) e = absurd (never is e)
+  done_is (ended_unreported is rose) e = absurd (never is e)
     where
       never : status ≡ 4 → status ≡ 0 → ⊥
       never a b = cc
 
   -- any other status than 0, 4 and 5 is a refusal
-  pub no_listing_is : ListedHere → status ≢ 0 → status ≢ 4 → status ≢ 5 → IsNoListing f s out notes idl acf status
-  no_listing_is (listed_done is d) a b c = absurd (a is)
-  no_listing_is (listed_refused r) a b c = r
-  no_listing_is (listed_wanting is) a b c = absurd (c is)
-  no_listing_is (listed_unwritten is rose i compiled) a b c = absurd (b is)
-  no_listing_is (listed_untold is rose) a b c = absurd (b is)
+  pub refused_is : End → status ≢ 0 → status ≢ 4 → status ≢ 5 → IsRefusedWith x out notes c status
+  refused_is (ended_done is d) zero four five = absurd (zero is)
+  refused_is (ended_refused r) zero four five = r
+  refused_is (ended_wanting is) zero four five = absurd (five is)
+  refused_is (ended_unwritten is rose made is_made) zero four five = absurd (four is)
+  refused_is (ended_unreported is rose) zero four five = absurd (four is)
 
-  -- the statuses of a listing
-  refused_status : (r : Refusal) → IsIdlCause f idl acf r → status ≡ status_of r → IsOneOf status 0 4 5 ⊎ IsOneOf status 6 7 9
-  refused_status Memory cause is = inl (inr (inr is))
-  refused_status (Absent file) cause is = inr (inr (inl is))
-  refused_status (FileFailed file) cause is = inr (inr (inr is))
-  refused_status (BadIdl file line column reason) cause is = inr (inl is)
-  refused_status NoOperation cause is = absurd cause
-  refused_status NotBuilt cause is = absurd cause
-  refused_status ReadFault cause is = absurd cause
-  refused_status (BadOctets place why) cause is = absurd cause
-  refused_status (BadText line column reason) cause is = absurd cause
-  refused_status (BadValue path reason) cause is = absurd cause
+-- ## Statuses
 
-  pub listing_statuses : ListedHere → IsOneOf status 0 4 5 ⊎ IsOneOf status 6 7 9
-  listing_statuses (listed_done is d) = inl (inl is)
-  listing_statuses (listed_refused r) = refused_status r.refusal r.cause r.own_status
-  listing_statuses (listed_wanting is) = inl (inr (inr is))
-  listing_statuses (listed_unwritten is rose i compiled) = inl (inr (inl is))
-  listing_statuses (listed_untold is rose) = inl (inr (inl is))
+abbrev OfValues : ℕ → Type 0
+OfValues = IsOneOf (0 ∷ 1 ∷ 3 ∷ 4 ∷ 5 ∷ 6 ∷ 7 ∷ 9 ∷ [])
+
+abbrev OfFiles : ℕ → Type 0
+OfFiles = IsOneOf (0 ∷ 4 ∷ 5 ∷ 6 ∷ 7 ∷ 9 ∷ [])
+
+of_values : (status : ℕ) (r : Refusal) → status ≡ status_of r → OfValues status
+of_values status Memory e = inr (inr (inr (inr (inl e))))
+of_values status (Absent file) e = inr (inr (inr (inr (inr (inr (inl e))))))
+of_values status (FileFailed file) e = inr (inr (inr (inr (inr (inr (inr (inl e)))))))
+of_values status (BadIdl file line column reason) e = inr (inr (inr (inr (inr (inl e)))))
+of_values status NoOperation e = inr (inr (inr (inr (inr (inl e)))))
+of_values status NotBuilt e = inr (inr (inr (inr (inr (inl e)))))
+of_values status ReadFault e = inr (inr (inl e))
+of_values status (BadOctets place why) e = inr (inl e)
+of_values status (BadText line column reason) e = inr (inl e)
+of_values status (BadValue path reason) e = inr (inl e)
+
+of_files : (f : FilesSeen) (idl : List ℕ) (acf : Option (List ℕ)) (status : ℕ) (r : Refusal) → IsIdlCause f idl acf r → status ≡ status_of r → OfFiles status
+of_files f idl acf status Memory cause e = inr (inr (inl e))
+of_files f idl acf status (Absent file) cause e = inr (inr (inr (inr (inl e))))
+of_files f idl acf status (FileFailed file) cause e = inr (inr (inr (inr (inr (inl e)))))
+of_files f idl acf status (BadIdl file line column reason) cause e = inr (inr (inr (inl e)))
+of_files f idl acf status NoOperation cause e = absurd cause
+of_files f idl acf status NotBuilt cause e = absurd cause
+of_files f idl acf status ReadFault cause e = absurd cause
+of_files f idl acf status (BadOctets place why) cause e = absurd cause
+of_files f idl acf status (BadText line column reason) cause e = absurd cause
+of_files f idl acf status (BadValue path reason) cause e = absurd cause
+
+refused_status : (x : Seen) (c : Command) (status : ℕ) (r : Refusal) → IsCause x c r → status ≡ status_of r → IsOneOf (statuses_of c) status
+refused_status x (Read how of order) status r cause e = of_values status r e
+refused_status x (Encode of order chunk) status r cause e = of_values status r e
+refused_status x (Compile idl acf) status r cause e = of_files x.files idl acf status r cause e
+refused_status x Help status r cause e = inr (inr (inl (e ∙ ap status_of cause)))
+refused_status x Version status r cause e = inr (inr (inl (e ∙ ap status_of cause)))
+
+zero_in : (c : Command) (status : ℕ) → status ≡ 0 → IsOneOf (statuses_of c) status
+zero_in (Read how of order) status e = inl e
+zero_in (Encode of order chunk) status e = inl e
+zero_in (Compile idl acf) status e = inl e
+zero_in Help status e = inl e
+zero_in Version status e = inl e
+
+four_in : (c : Command) (status : ℕ) → status ≡ 4 → IsOneOf (statuses_of c) status
+four_in (Read how of order) status e = inr (inr (inr (inl e)))
+four_in (Encode of order chunk) status e = inr (inr (inr (inl e)))
+four_in (Compile idl acf) status e = inr (inl e)
+four_in Help status e = inr (inl e)
+four_in Version status e = inr (inl e)
+
+five_in : (c : Command) (status : ℕ) → status ≡ 5 → IsOneOf (statuses_of c) status
+five_in (Read how of order) status e = inr (inr (inr (inr (inl e))))
+five_in (Encode of order chunk) status e = inr (inr (inr (inr (inl e))))
+five_in (Compile idl acf) status e = inr (inr (inl e))
+five_in Help status e = inr (inr (inl e))
+five_in Version status e = inr (inr (inl e))
+
+pub status_in : (x : Seen) (out notes : SinkSeen) (c : Command) (status : ℕ) → Ended x out notes c status → IsOneOf (statuses_of c) status
+status_in x out notes c status (ended_done is d) = zero_in c status is
+status_in x out notes c status (ended_refused r) = refused_status x c status r.refusal r.cause r.own_status
+status_in x out notes c status (ended_wanting is) = five_in c status is
+status_in x out notes c status (ended_unwritten is rose made is_made) = four_in c status is
+status_in x out notes c status (ended_unreported is rose) = four_in c status is
+
+-- ## Words that are no command
+
+-- the statuses of words that are no command
+pub data Idle (status : ℕ) : Type 0 where
+  idle_two : status ≡ 2 → Idle status
+  idle_four : status ≡ 4 → Idle status
+  idle_five : status ≡ 5 → Idle status
+
+pub idle : (x : Seen) (out notes : SinkSeen) (status : ℕ) (words : List (List ℕ)) → command words ≡ None → HasRun words x out notes status → Idle status
+idle x out notes status words is run = by run.outcome (subst (λ o. IsOutcome x o run.outcome) is run.caused) run.delivered
+  where
+    by : (outcome : Outcome) → IsOutcome x None outcome → IsDelivered out notes outcome status → Idle status
+    by (Done made) (inl e) d = cc
+    by (Done made) (inr e) d = cc
+    by (Refused own line) (inl e) (before, inl (is, told)) = let two : own ≡ 2 = cc in idle_two (is ∙ two)
+    by (Refused own line) (inl e) (before, inr (is, rose, some)) = idle_four is
+    by (Refused own line) (inr e) d = cc
+    by Wanting e (before, inl (is, told)) = idle_five is
+    by Wanting e (before, inr (is, rose, some)) = idle_four is
+
+-- ## What a status says
+
+-- a status of a refusal is that of a command
+pub record OfRefusal (x : Seen) (notes : SinkSeen) (words : List (List ℕ)) (status : ℕ) : Type 0 where
+  pub command_is : Command
+  pub is : command words ≡ Some command_is
+  pub refusal : Refusal
+  pub cause : IsCause x command_is refusal
+  pub own : status_of refusal ≡ status
+  pub line : Got notes (line_of (idl_of command_is) (op_of command_is) refusal)
+
+abbrev IsOther : ℕ → Type 0
+IsOther n = (n ≡ 0 → ⊥) × (n ≡ 2 → ⊥) × (n ≡ 4 → ⊥) × (n ≡ 5 → ⊥)
+
+pub of_refusal : (x : Seen) (out notes : SinkSeen) (status : ℕ) (words : List (List ℕ)) → HasRun words x out notes status → (n : ℕ) → status ≡ n → IsOther n
+    → OfRefusal x notes words status
+of_refusal x out notes status words run n e (zero, two, four, five) = by (command words) refl
+  where
+    by : (o : Option Command) → command words ≡ o → OfRefusal x notes words status
+    by None is = absurd (never (idle x out notes status words is run))
+      where
+        never : Idle status → ⊥
+        never (idle_two h) = two (sym e ∙ h)
+        never (idle_four h) = four (sym e ∙ h)
+        never (idle_five h) = five (sym e ∙ h)
+    by (Some c) is =
+        let r = refused_is x out notes c status (ended x out notes c status words is run) (λ h. zero (sym e ∙ h)) (λ h. four (sym e ∙ h)) (λ h. five (sym e ∙ h)) in
+        record { command_is = c; is = is; refusal = r.refusal; cause = r.cause; own = sym r.own_status; line = r.line }
+
+module _ (x : Seen) where
+  -- the input is refused only as the input
+  read_fault : (c : Command) (r : Refusal) → IsCause x c r → status_of r ≡ 3 → HasRisen x.input.faults × (asks_input c ≡ true)
+  read_fault (Read how of order) ReadFault (inl (cause, before)) e = absurd cause
+  read_fault (Read how of order) ReadFault (inr (w, ready, rose)) e = (rose, refl)
+  read_fault (Read how of order) Memory cause e = cc
+  read_fault (Read how of order) (Absent file) cause e = cc
+  read_fault (Read how of order) (FileFailed file) cause e = cc
+  read_fault (Read how of order) (BadIdl file line column reason) cause e = cc
+  read_fault (Read how of order) NoOperation cause e = cc
+  read_fault (Read how of order) NotBuilt cause e = cc
+  read_fault (Read how of order) (BadOctets place why) cause e = cc
+  read_fault (Read how of order) (BadText line column reason) cause e = cc
+  read_fault (Read how of order) (BadValue path reason) cause e = cc
+  read_fault (Encode of order chunk) ReadFault (inl (cause, before)) e = absurd cause
+  read_fault (Encode of order chunk) ReadFault (inr (w, ready, rose)) e = (rose, refl)
+  read_fault (Encode of order chunk) Memory cause e = cc
+  read_fault (Encode of order chunk) (Absent file) cause e = cc
+  read_fault (Encode of order chunk) (FileFailed file) cause e = cc
+  read_fault (Encode of order chunk) (BadIdl file line column reason) cause e = cc
+  read_fault (Encode of order chunk) NoOperation cause e = cc
+  read_fault (Encode of order chunk) NotBuilt cause e = cc
+  read_fault (Encode of order chunk) (BadOctets place why) cause e = cc
+  read_fault (Encode of order chunk) (BadText line column reason) cause e = cc
+  read_fault (Encode of order chunk) (BadValue path reason) cause e = cc
+  read_fault (Compile idl acf) ReadFault cause e = absurd cause
+  read_fault (Compile idl acf) Memory cause e = cc
+  read_fault (Compile idl acf) (Absent file) cause e = cc
+  read_fault (Compile idl acf) (FileFailed file) cause e = cc
+  read_fault (Compile idl acf) (BadIdl file line column reason) cause e = cc
+  read_fault (Compile idl acf) NoOperation cause e = cc
+  read_fault (Compile idl acf) NotBuilt cause e = cc
+  read_fault (Compile idl acf) (BadOctets place why) cause e = cc
+  read_fault (Compile idl acf) (BadText line column reason) cause e = cc
+  read_fault (Compile idl acf) (BadValue path reason) cause e = cc
+  read_fault Help r cause e = let never : status_of Memory ≡ 3 = sym (ap status_of cause) ∙ e in cc
+  read_fault Version r cause e = let never : status_of Memory ≡ 3 = sym (ap status_of cause) ∙ e in cc
+
+  -- a file that is absent is due and missing
+  absent_is : (c : Command) (r : Refusal) → IsCause x c r → status_of r ≡ 7
+      → HasRisen x.files.absences × ((file : List ℕ) × (r ≡ Absent file) × IsDueOf x.files.held (asks_files c) file × IsMissing x.files.held file)
+  absent_is (Read how of order) (Absent file) (inl ((rose, due, missing), before)) e = (rose, (file, refl, due, missing))
+  absent_is (Read how of order) (Absent file) (inr (w, ready, (octets, read, cause))) e = absurd cause
+  absent_is (Read how of order) Memory cause e = cc
+  absent_is (Read how of order) (FileFailed file) cause e = cc
+  absent_is (Read how of order) (BadIdl file line column reason) cause e = cc
+  absent_is (Read how of order) NoOperation cause e = cc
+  absent_is (Read how of order) NotBuilt cause e = cc
+  absent_is (Read how of order) ReadFault cause e = cc
+  absent_is (Read how of order) (BadOctets place why) cause e = cc
+  absent_is (Read how of order) (BadText line column reason) cause e = cc
+  absent_is (Read how of order) (BadValue path reason) cause e = cc
+  absent_is (Encode of order chunk) (Absent file) (inl ((rose, due, missing), before)) e = (rose, (file, refl, due, missing))
+  absent_is (Encode of order chunk) (Absent file) (inr (w, ready, (octets, read, cause))) e = absurd cause
+  absent_is (Encode of order chunk) Memory cause e = cc
+  absent_is (Encode of order chunk) (FileFailed file) cause e = cc
+  absent_is (Encode of order chunk) (BadIdl file line column reason) cause e = cc
+  absent_is (Encode of order chunk) NoOperation cause e = cc
+  absent_is (Encode of order chunk) NotBuilt cause e = cc
+  absent_is (Encode of order chunk) ReadFault cause e = cc
+  absent_is (Encode of order chunk) (BadOctets place why) cause e = cc
+  absent_is (Encode of order chunk) (BadText line column reason) cause e = cc
+  absent_is (Encode of order chunk) (BadValue path reason) cause e = cc
+  absent_is (Compile idl acf) (Absent file) (rose, due, missing) e = (rose, (file, refl, due, missing))
+  absent_is (Compile idl acf) Memory cause e = cc
+  absent_is (Compile idl acf) (FileFailed file) cause e = cc
+  absent_is (Compile idl acf) (BadIdl file line column reason) cause e = cc
+  absent_is (Compile idl acf) NoOperation cause e = cc
+  absent_is (Compile idl acf) NotBuilt cause e = cc
+  absent_is (Compile idl acf) ReadFault cause e = cc
+  absent_is (Compile idl acf) (BadOctets place why) cause e = cc
+  absent_is (Compile idl acf) (BadText line column reason) cause e = cc
+  absent_is (Compile idl acf) (BadValue path reason) cause e = cc
+  absent_is Help r cause e = let never : status_of Memory ≡ 7 = sym (ap status_of cause) ∙ e in cc
+  absent_is Version r cause e = let never : status_of Memory ≡ 7 = sym (ap status_of cause) ∙ e in cc
+
+  -- a file that was not read is due
+  failed_is : (c : Command) (r : Refusal) → IsCause x c r → status_of r ≡ 9
+      → HasRisen x.files.faults × ((file : List ℕ) × (r ≡ FileFailed file) × IsDueOf x.files.held (asks_files c) file)
+  failed_is (Read how of order) (FileFailed file) (inl ((rose, due), before)) e = (rose, (file, refl, due))
+  failed_is (Read how of order) (FileFailed file) (inr (w, ready, (octets, read, cause))) e = absurd cause
+  failed_is (Read how of order) Memory cause e = cc
+  failed_is (Read how of order) (Absent file) cause e = cc
+  failed_is (Read how of order) (BadIdl file line column reason) cause e = cc
+  failed_is (Read how of order) NoOperation cause e = cc
+  failed_is (Read how of order) NotBuilt cause e = cc
+  failed_is (Read how of order) ReadFault cause e = cc
+  failed_is (Read how of order) (BadOctets place why) cause e = cc
+  failed_is (Read how of order) (BadText line column reason) cause e = cc
+  failed_is (Read how of order) (BadValue path reason) cause e = cc
+  failed_is (Encode of order chunk) (FileFailed file) (inl ((rose, due), before)) e = (rose, (file, refl, due))
+  failed_is (Encode of order chunk) (FileFailed file) (inr (w, ready, (octets, read, cause))) e = absurd cause
+  failed_is (Encode of order chunk) Memory cause e = cc
+  failed_is (Encode of order chunk) (Absent file) cause e = cc
+  failed_is (Encode of order chunk) (BadIdl file line column reason) cause e = cc
+  failed_is (Encode of order chunk) NoOperation cause e = cc
+  failed_is (Encode of order chunk) NotBuilt cause e = cc
+  failed_is (Encode of order chunk) ReadFault cause e = cc
+  failed_is (Encode of order chunk) (BadOctets place why) cause e = cc
+  failed_is (Encode of order chunk) (BadText line column reason) cause e = cc
+  failed_is (Encode of order chunk) (BadValue path reason) cause e = cc
+  failed_is (Compile idl acf) (FileFailed file) (rose, due) e = (rose, (file, refl, due))
+  failed_is (Compile idl acf) Memory cause e = cc
+  failed_is (Compile idl acf) (Absent file) cause e = cc
+  failed_is (Compile idl acf) (BadIdl file line column reason) cause e = cc
+  failed_is (Compile idl acf) NoOperation cause e = cc
+  failed_is (Compile idl acf) NotBuilt cause e = cc
+  failed_is (Compile idl acf) ReadFault cause e = cc
+  failed_is (Compile idl acf) (BadOctets place why) cause e = cc
+  failed_is (Compile idl acf) (BadText line column reason) cause e = cc
+  failed_is (Compile idl acf) (BadValue path reason) cause e = cc
+  failed_is Help r cause e = let never : status_of Memory ≡ 9 = sym (ap status_of cause) ∙ e in cc
+  failed_is Version r cause e = let never : status_of Memory ≡ 9 = sym (ap status_of cause) ∙ e in cc
+
+  module _ (out notes : SinkSeen) (status : ℕ) (words : List (List ℕ)) (run : HasRun words x out notes status) where
+    pub read : status ≡ 3 → HasRisen x.input.faults × ReadsInput (command words)
+    read e =
+        let r = of_refusal x out notes status words run 3 e ((λ h. cc), (λ h. cc), (λ h. cc), (λ h. cc)) in
+        let (rose, asks) = read_fault r.command_is r.refusal r.cause (r.own ∙ e) in
+        (rose, subst ReadsInput (sym r.is) asks)
+
+    pub absent : status ≡ 7 → HasRisen x.files.absences × IsDueAndMissing (command words) x.files.held notes
+    absent e =
+        let r = of_refusal x out notes status words run 7 e ((λ h. cc), (λ h. cc), (λ h. cc), (λ h. cc)) in
+        let (rose, (file, same, due, missing)) = absent_is r.command_is r.refusal r.cause (r.own ∙ e) in
+        (rose, subst (λ c. IsDueAndMissing c x.files.held notes) (sym r.is) (file, due, missing, subst (λ q. Got notes (line_of (idl_of r.command_is) (op_of r.command_is) q)) same r.line))
+
+    pub file : status ≡ 9 → HasRisen x.files.faults × IsDueAndReported (command words) x.files.held notes
+    file e =
+        let r = of_refusal x out notes status words run 9 e ((λ h. cc), (λ h. cc), (λ h. cc), (λ h. cc)) in
+        let (rose, (name, same, due)) = failed_is r.command_is r.refusal r.cause (r.own ∙ e) in
+        (rose, subst (λ c. IsDueAndReported c x.files.held notes) (sym r.is) (name, due, subst (λ q. Got notes (line_of (idl_of r.command_is) (op_of r.command_is) q)) same r.line))
+
+-- ## Where no count rose
+
+abbrev Unfailed : ℕ → Type 0
+Unfailed status = IsOneOf (0 ∷ 1 ∷ 2 ∷ 5 ∷ 6 ∷ []) status
+
+module _ (x : Seen) (out notes : SinkSeen) (status : ℕ) (nothing : HasNotFailed x out notes) where
+  refused_unfailed : (c : Command) (r : Refusal) → IsCause x c r → status ≡ status_of r → Unfailed status
+  refused_unfailed c Memory cause e = inr (inr (inr (inl e)))
+  refused_unfailed c (Absent file) cause e = absurd (nothing.found (absent_is x c (Absent file) cause refl).0)
+  refused_unfailed c (FileFailed file) cause e = absurd (nothing.loads (failed_is x c (FileFailed file) cause refl).0)
+  refused_unfailed c (BadIdl file line column reason) cause e = inr (inr (inr (inr (inl e))))
+  refused_unfailed c NoOperation cause e = inr (inr (inr (inr (inl e))))
+  refused_unfailed c NotBuilt cause e = inr (inr (inr (inr (inl e))))
+  refused_unfailed c ReadFault cause e = absurd (nothing.reads (read_fault x c ReadFault cause refl).0)
+  refused_unfailed c (BadOctets place why) cause e = inr (inl e)
+  refused_unfailed c (BadText line column reason) cause e = inr (inl e)
+  refused_unfailed c (BadValue path reason) cause e = inr (inl e)
+
+  by_command : (c : Command) → Ended x out notes c status → Unfailed status
+  by_command c (ended_done is d) = inl is
+  by_command c (ended_refused r) = refused_unfailed c r.refusal r.cause r.own_status
+  by_command c (ended_wanting is) = inr (inr (inr (inl is)))
+  by_command c (ended_unwritten is rose made is_made) = absurd (nothing.writes rose)
+  by_command c (ended_unreported is rose) = absurd (nothing.reports rose)
+
+  by_words : (words : List (List ℕ)) → (outcome : Outcome) → IsOutcome x None outcome → IsDelivered out notes outcome status → Unfailed status
+  by_words words (Done made) (inl e) d = cc
+  by_words words (Done made) (inr e) d = cc
+  by_words words (Refused own line) (inl e) (before, inl (is, told)) = let two : own ≡ 2 = cc in inr (inr (inl (is ∙ two)))
+  by_words words (Refused own line) (inl e) (before, inr (is, rose, some)) = absurd (nothing.reports rose)
+  by_words words (Refused own line) (inr e) d = cc
+  by_words words Wanting e (before, inl (is, told)) = inr (inr (inr (inl is)))
+  by_words words Wanting e (before, inr (is, rose, some)) = absurd (nothing.reports rose)
+
+  pub unfailed : (words : List (List ℕ)) → HasRun words x out notes status → Unfailed status
+  unfailed words run = by (command words) refl
+    where
+      by : (o : Option Command) → command words ≡ o → Unfailed status
+      by None is = by_words words run.outcome (subst (λ o. IsOutcome x o run.outcome) is run.caused) run.delivered
+      by (Some c) is = by_command c (ended x out notes c status words is run)

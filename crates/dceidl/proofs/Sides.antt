@@ -1,5 +1,6 @@
--- Sides whose roots are primitives are plain, and what represents a graph begins with it.
-use Rattle.std.proofs.Common.{◌≡◌, ℕ, true, List, length, map, Some, sym, subst, arith}
+-- The sides of the operations of an interface are legal, those whose roots are primitives are plain, and what represents a graph begins with it.
+use Rattle.std.proofs.Common.{◌≡◌, ℕ, zero, suc, true, List, [], ◌∷◌, length, map, Some, inl, inr, sym, subst, arith}
+use Rattle.std.proofs.lemmas.Option.{same_Some}
 use Rattle.std.specs.List.{slice_get}
 use Rattle.nd_base.specs.declared.octets.Order.{Order}
 use Rattle.nd_types.specs.declared.interface.Interface.{Interface}
@@ -8,9 +9,10 @@ use Rattle.nd_types.specs.declared.types.Side.{Side}
 use Rattle.nd_types.specs.Roots.{roots_of}
 use Rattle.nd_types.specs.Numbers.{has_number_roots}
 use Rattle.nd_graph.specs.declared.value.Graph.{Graph}
-use Rattle.nd_graph.specs.Setting.{Setting}
+use Rattle.nd_graph.specs.Setting.{Setting, Among}
 use Rattle.nd_graph.specs.Conforms.{Conforms}
 use Rattle.nd_graph.specs.Fitting.{setting_of}
+use Rattle.nd_grammar.specs.LegalSide.{IsLegalSide}
 use Rattle.nd_grammar.specs.Represents.{Represents}
 use Rattle.nd_grammar.specs.Prefix.{BeginsWith}
 use Rattle.nd_grammar.specs.Primitives.{root_primitive}
@@ -31,3 +33,13 @@ pub plain_side_of : (i : Interface) (n : ℕ) (o : Operation) (side : Side) → 
     → IsPlainSide (setting_of i o side)
 plain_side_of i n o side numbers there =
     record { primitives = map (root_primitive i.types) (roots_of i.types side o); plain = number_side_plain i n o side numbers there }
+
+-- an item of a list is among its items
+among_at : {X : Type 0} (xs : List X) (n : ℕ) (x : X) → slice_get xs n ≡ Some x → Among xs x
+among_at [] n x e = cc
+among_at (y ∷ xs) zero x e = inl (sym (same_Some _ _ e))
+among_at (y ∷ xs) (suc n) x e = inr (among_at xs n x e)
+
+-- a side of an operation of an interface is legal
+pub legal_side_of : (i : Interface) (n : ℕ) (o : Operation) (side : Side) → slice_get i.operations n ≡ Some o → IsLegalSide (setting_of i o side)
+legal_side_of i n o side there = record { operations = i.operations; legal = i.legal; operation = among_at i.operations n o there }

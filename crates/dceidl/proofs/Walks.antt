@@ -52,7 +52,7 @@ passed_fault file k (Evaluate x) f e = valued_fault file (evaluated (meaning_in 
 passed_fault file k (Enlist before name) f e = free_fault (place_in_list file before name.octets) (place_in file name) k f e
 
 module _ (held : Option (List ℕ → Option (List ℕ))) where
-  abbrev at_load : List Source → List ℕ → Ending
+  abbrev pub at_load : List Source → List ℕ → Ending
   at_load before name = Stopped (and_source before name []) (names.Failed (length before))
 
   -- a walk that ends at a load that is absent

@@ -13,7 +13,7 @@ use Rattle.nd_graph.specs.Setting.{Setting}
 use Rattle.nd_graph.specs.Conforms.{Conforms}
 use Rattle.nd_graph.specs.FirstMisfit.{IsFirstMisfit}
 use Rattle.nd_grammar.specs.Chosen.{Chosen}
-use Rattle.value_text.specs.Text.{joined}
+use Rattle.nd_base.specs.Text.{joined}
 use Rattle.value_text.specs.Reads.{ReadsAs, IsTextFault}
 use Rattle.dceidl.specs.declared.refusal.Refusal.{Refusal}
 use Rattle.dceidl.specs.declared.refusal.Refusal.TheVariants.{Memory, BadText, BadValue}
@@ -42,9 +42,9 @@ IsValueCause w g (BadValue path reason) = IsMisfitAt w g path reason
 IsValueCause w g _ = ⊥
 
 -- a misfit is told at the path of its home, unless memory was wanting
-abbrev pub IsToldAsValue : Setting → Misfit → Refusal → Type 0
-IsToldAsValue w misfit.Memory refusal = refusal ≡ Memory
-IsToldAsValue w (misfit.At h n reason) refusal = (refusal ≡ BadValue (home_path w h) reason) ⊎ (refusal ≡ Memory)
+abbrev pub IsReportedAsValue : Setting → Misfit → Refusal → Type 0
+IsReportedAsValue w misfit.Memory refusal = refusal ≡ Memory
+IsReportedAsValue w (misfit.At h n reason) refusal = (refusal ≡ BadValue (home_path w h) reason) ⊎ (refusal ≡ Memory)
 
 -- The text reads as a graph that does not conform.
 pub record IsBadValue (w : Setting) (text path : List ℕ) (reason : MisfitReason) : Type 0 where

@@ -19,7 +19,7 @@ use Rattle.idl_rules.specs.World.{World}
 use Rattle.idl_rules.specs.Rules.{breach}
 use Rattle.idl_check.specs.AcfRules.{acf_file, first_of_all}
 use Rattle.idl_check.specs.SeenAcf.{IsMeaningBeside}
-use Rattle.value_text.specs.Reads.{position_of}
+use Rattle.nd_base.specs.Text.{position_of}
 use Rattle.dceidl.specs.AcfFile.{AcfFile, IsNoAcf, IsBeside, tree_beside}
 use Rattle.dceidl.specs.declared.refusal.IdlReason.{IdlReason}
 use Rattle.dceidl.specs.declared.refusal.IdlReason.TheVariants as reason
@@ -94,11 +94,11 @@ abbrev pub word_in : List Source → Place → List ℕ
 word_in sources p = word_at (text_in sources p.file) p.at
 
 -- an octet of a text is told by its line and column, both from 1; a line feed ends a line
-abbrev pub told_by : List ℕ → ℕ × ℕ → IdlReason → Refusal
-told_by name position why = BadIdl name position.0 position.1 why
+abbrev pub reported_by : List ℕ → ℕ × ℕ → IdlReason → Refusal
+reported_by name position why = BadIdl name position.0 position.1 why
 
-abbrev pub told_at : List Source → Place → IdlReason → Refusal
-told_at sources p why = told_by (name_in sources p.file) (position_of (text_in sources p.file) p.at) why
+abbrev pub reported_at : List Source → Place → IdlReason → Refusal
+reported_at sources p why = reported_by (name_in sources p.file) (position_of (text_in sources p.file) p.at) why
 
 abbrev pub syntax_reason : List ℕ → SyntaxFault → Option IdlReason
 syntax_reason word syntax.Memory = None
@@ -106,38 +106,38 @@ syntax_reason word (syntax.Syntax token) = Some reason.Syntax
 syntax_reason word (syntax.Deep token) = Some reason.Deep
 syntax_reason word (syntax.Banned token) = Some (reason.Banned word)
 
-abbrev pub told_if : List Source → Place → Option IdlReason → Refusal
-told_if sources p None = Memory
-told_if sources p (Some why) = told_at sources p why
+abbrev pub reported_if : List Source → Place → Option IdlReason → Refusal
+reported_if sources p None = Memory
+reported_if sources p (Some why) = reported_at sources p why
 
 abbrev pub place_of : ℕ → ℕ → Place
 place_of file at = record { file = file; at = at }
 
 -- a fault of names, of the main file or of an import, as a refusal
-abbrev pub told_fault : List Source → NameFault → Refusal
-told_fault s names.Memory = Memory
-told_fault s (names.Unknown p) = told_at s p (reason.Unknown (word_in s p))
-told_fault s (names.Twice p first) = told_at s p (reason.Twice (word_in s p))
-told_fault s (names.Const p f) = told_at s p (reason.NoValue f)
-told_fault s (names.ImportCycle p) = told_at s p reason.ImportCycle
-told_fault s (names.TooMany p) = told_at s p reason.TooMany
-told_fault s (names.Absent file) = Absent (name_in s file)
-told_fault s (names.Failed file) = FileFailed (name_in s file)
-told_fault s (names.Lex file lexical.Memory) = Memory
-told_fault s (names.Lex file (lexical.At at kind)) = told_at s (place_of file at) (reason.Lexical kind)
-told_fault s (names.Syntax file at f) = told_if s (place_of file at) (syntax_reason (word_in s (place_of file at)) f)
+abbrev pub reported_fault : List Source → NameFault → Refusal
+reported_fault s names.Memory = Memory
+reported_fault s (names.Unknown p) = reported_at s p (reason.Unknown (word_in s p))
+reported_fault s (names.Twice p first) = reported_at s p (reason.Twice (word_in s p))
+reported_fault s (names.Const p f) = reported_at s p (reason.NoValue f)
+reported_fault s (names.ImportCycle p) = reported_at s p reason.ImportCycle
+reported_fault s (names.TooMany p) = reported_at s p reason.TooMany
+reported_fault s (names.Absent file) = Absent (name_in s file)
+reported_fault s (names.Failed file) = FileFailed (name_in s file)
+reported_fault s (names.Lex file lexical.Memory) = Memory
+reported_fault s (names.Lex file (lexical.At at kind)) = reported_at s (place_of file at) (reason.Lexical kind)
+reported_fault s (names.Syntax file at f) = reported_if s (place_of file at) (syntax_reason (word_in s (place_of file at)) f)
 
 -- a rule that is broken by a file of IDL as a refusal
-abbrev pub told_rule : List Source → ℕ → Place → Refusal
-told_rule s rule place = told_at s place (reason.Rule rule)
+abbrev pub reported_rule : List Source → ℕ → Place → Refusal
+reported_rule s rule place = reported_at s place (reason.Rule rule)
 
 -- A broken rule as a refusal. It is told under the name of the file that breaks it: that of the attribute configuration file where the place is one
 -- of that file.
-abbrev pub told_beside : List Source → Option AcfFile → ℕ → Place → Refusal
-told_beside s None rule place = told_rule s rule place
-told_beside s (Some f) rule place = elim (eqb place.file acf_file) [
-  | true ↦ told_by f.name (position_of f.text place.at) (reason.Rule rule)
-  | false ↦ told_rule s rule place
+abbrev pub reported_beside : List Source → Option AcfFile → ℕ → Place → Refusal
+reported_beside s None rule place = reported_rule s rule place
+reported_beside s (Some f) rule place = elim (eqb place.file acf_file) [
+  | true ↦ reported_by f.name (position_of f.text place.at) (reason.Rule rule)
+  | false ↦ reported_rule s rule place
 ]
 
 -- ## Faults of the attribute configuration file
@@ -163,11 +163,11 @@ pub record IsBadAcf (held : Option (List ℕ → Option (List ℕ))) (idl text :
 -- The files are refused in this way: for the first fault of their names; behind that for the first fault of the attribute configuration file, which is
 -- told by its name and by line and column of its text; and behind that for the first rule that is broken.
 pub data IsIdlFault (held : Option (List ℕ → Option (List ℕ))) (idl text : List ℕ) (acf : Option (List ℕ)) (r : Refusal) : Type 0 where
-  by_names : (sources : List Source) (f : NameFault) → IsNameFault held idl text sources f → r ≡ told_fault sources f → IsIdlFault held idl text acf r
-  by_acf : (name body : List ℕ) (at : ℕ) (why : IdlReason) → IsBadAcf held idl text acf name body at why → r ≡ told_by name (position_of body at) why
+  by_names : (sources : List Source) (f : NameFault) → IsNameFault held idl text sources f → r ≡ reported_fault sources f → IsIdlFault held idl text acf r
+  by_acf : (name body : List ℕ) (at : ℕ) (why : IdlReason) → IsBadAcf held idl text acf name body at why → r ≡ reported_by name (position_of body at) why
       → IsIdlFault held idl text acf r
   by_rules : (sources : List Source) (beside : Option AcfFile) (rule : ℕ) (place : Place) → IsBroken held idl text acf sources beside rule place
-      → r ≡ told_beside sources beside rule place → IsIdlFault held idl text acf r
+      → r ≡ reported_beside sources beside rule place → IsIdlFault held idl text acf r
 
 -- ## Files that are due
 
@@ -186,9 +186,9 @@ pub record IsDueAcf (held : Option (List ℕ → Option (List ℕ))) (idl text :
   pub named : acf ≡ Some file
 
 -- the load of a file is due behind that of the main file: of an import, or of the attribute configuration file
-abbrev pub IsDueBehind : Option (List ℕ → Option (List ℕ)) → List ℕ → List ℕ → Option (List ℕ) → List ℕ → Type 0
-IsDueBehind held idl text acf file = IsDueImport held idl text file ⊎ IsDueAcf held idl text acf file
+abbrev pub IsDueAfter : Option (List ℕ → Option (List ℕ)) → List ℕ → List ℕ → Option (List ℕ) → List ℕ → Type 0
+IsDueAfter held idl text acf file = IsDueImport held idl text file ⊎ IsDueAcf held idl text acf file
 
 -- the load of a file is due: of the main file, or of one behind it
 abbrev pub IsDueFile : Option (List ℕ → Option (List ℕ)) → List ℕ → Option (List ℕ) → List ℕ → Type 0
-IsDueFile held idl acf file = (file ≡ idl) ⊎ ((text : List ℕ) × IsContent held idl text × IsDueBehind held idl text acf file)
+IsDueFile held idl acf file = (file ≡ idl) ⊎ ((text : List ℕ) × IsContent held idl text × IsDueAfter held idl text acf file)

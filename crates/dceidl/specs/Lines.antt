@@ -11,7 +11,7 @@ use Rattle.nd_grammar.specs.declared.reason.Reason.{Reason}
 use Rattle.nd_grammar.specs.declared.reason.Reason.TheVariants as reason
 use Rattle.value_text.specs.declared.fault.TextReason.{TextReason}
 use Rattle.value_text.specs.declared.fault.TextReason.TheVariants as text
-use Rattle.value_text.specs.Text.{joined}
+use Rattle.nd_base.specs.Text.{joined}
 use Rattle.dceidl.specs.declared.refusal.Refusal.{Refusal}
 use Rattle.dceidl.specs.declared.refusal.Refusal.TheVariants.{Memory, Absent, FileFailed, BadIdl, NoOperation, NotBuilt, ReadFault, BadOctets, BadText, BadValue}
 use Rattle.dceidl.specs.declared.refusal.IdlReason.{IdlReason}

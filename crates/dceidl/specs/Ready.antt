@@ -1,14 +1,20 @@
--- When the files and the operation that a command speaks of are ready, and for which causes they are refused.
-use Rattle.std.specs.Prelude.{◌≡◌, ℕ, true, false, List, Option, None, Some, ⊤}
+-- When the files and the operation that a command speaks of are ready, and why they are refused.
+use Rattle.std.specs.Prelude.{◌≡◌, ℕ, true, false, List, [], ◌++◌, Option, None, Some, ⊤}
 use Rattle.std.specs.List.{slice_get}
 use Rattle.nd_base.specs.Outside.{IsContent, IsMissing}
+use Rattle.nd_base.specs.Over.{FilesSeen, HasRisen}
 use Rattle.nd_types.specs.declared.interface.Interface.{Interface}
 use Rattle.nd_types.specs.declared.types.Operation.{Operation}
 use Rattle.nd_types.specs.declared.types.Side.{Side}
 use Rattle.nd_types.specs.Operations.{operation_named}
 use Rattle.nd_types.specs.Numbers.{has_number_roots}
-use Rattle.dceidl.specs.Idl.{Means, IsIdlFault, IsDueBehind, IsDueFile}
-use Rattle.dceidl.specs.Outside.{FilesSeen, HasRisen}
+use Rattle.nd_graph.specs.Fitting.{setting_of}
+use Rattle.nd_graph.specs.Setting.{Setting}
+use Rattle.idl_rules.specs.Answers.{meant_by}
+use Rattle.idl_check.specs.Listing.{listing}
+use Rattle.dceidl.specs.Asked.{all_due}
+use Rattle.dceidl.specs.Idl.{Means, IsIdlFault, IsDueAfter, IsDueFile}
+use Rattle.dceidl.specs.Words.{Subject}
 use Rattle.dceidl.specs.declared.refusal.Refusal.{Refusal}
 use Rattle.dceidl.specs.declared.refusal.Refusal.TheVariants.{Memory, Absent, FileFailed, BadIdl, NoOperation, NotBuilt}
 
@@ -17,29 +23,44 @@ pub record IsNamed (i : Interface) (name : List ℕ) (n : ℕ) (o : Operation) :
   pub found : operation_named i.operations name ≡ Some n
   pub is_there : slice_get i.operations n ≡ Some o
 
--- The main file was loaded, and the files mean this interface. `acf` is the name of the attribute configuration file, if one is named.
+-- All files were loaded, and they mean this interface. `acf` is the name of the attribute configuration file, if one is named.
 pub record IsCompiled (f : FilesSeen) (idl : List ℕ) (acf : Option (List ℕ)) (i : Interface) : Type 0 where
   pub file : List ℕ
   pub loaded : IsContent f.held idl file
   pub means : Means f.held idl file acf i
+  -- every file that is due was asked for, once, and no other
+  pub all_asked : f.asked_now ≡ f.asked ++ all_due means.state.sources acf
+
+-- The files mean an interface, and this is its listing.
+pub record IsListed (f : FilesSeen) (idl : List ℕ) (acf : Option (List ℕ)) (made : List ℕ) : Type 0 where
+  pub interface : Interface
+  pub compiled : IsCompiled f idl acf interface
+  pub made_is : made ≡ listing (meant_by interface)
 
 -- The files mean an interface that has the operation, and each root of its side is a primitive.
-pub record IsReady (f : FilesSeen) (idl : List ℕ) (acf : Option (List ℕ)) (op : List ℕ) (side : Side) (i : Interface) (n : ℕ) (o : Operation) : Type 0 where
-  pub compiled : IsCompiled f idl acf i
-  pub named : IsNamed i op n o
-  pub built : has_number_roots i.types side o ≡ true
+pub record IsFound (f : FilesSeen) (of : Subject) (i : Interface) (n : ℕ) (o : Operation) : Type 0 where
+  pub compiled : IsCompiled f of.idl of.acf i
+  pub named : IsNamed i of.op n o
+  pub built : has_number_roots i.types of.side o ≡ true
 
--- Why a main file that was loaded means no interface with the files behind it: a load comes first that is absent or fails, or one of the files is
--- refused. (Where memory was wanting no more is said.)
+-- What a command on values speaks of is ready: this is the setting of its values.
+pub record IsReady (f : FilesSeen) (of : Subject) (w : Setting) : Type 0 where
+  pub interface : Interface
+  pub number : ℕ
+  pub operation : Operation
+  pub found : IsFound f of interface number operation
+  pub setting_is : w ≡ setting_of interface operation of.side
+
+-- Why a main file that was loaded means no interface with the files after it: a load comes first that is absent or fails, or one of the files is
+-- refused. (Of memory no more is said.)
 abbrev pub IsTextCause : FilesSeen → List ℕ → List ℕ → Option (List ℕ) → Refusal → Type 0
-IsTextCause f idl text acf (Absent file) = HasRisen f.absences × IsDueBehind f.held idl text acf file × IsMissing f.held file
-IsTextCause f idl text acf (FileFailed file) = HasRisen f.faults × IsDueBehind f.held idl text acf file
+IsTextCause f idl text acf (Absent file) = HasRisen f.absences × IsDueAfter f.held idl text acf file × IsMissing f.held file
+IsTextCause f idl text acf (FileFailed file) = HasRisen f.faults × IsDueAfter f.held idl text acf file
 IsTextCause f idl text acf Memory = ⊤
 IsTextCause f idl text acf (BadIdl file line column why) = IsIdlFault f.held idl text acf (BadIdl file line column why)
 IsTextCause f idl text acf _ = ⊥
 
--- Why the files mean no interface: a load comes first that is absent or fails, or one of the files is refused. (Where memory was wanting no more is
--- said.)
+-- Why the files mean no interface: a load comes first that is absent or fails, or one of the files is refused. (Of memory no more is said.)
 abbrev pub IsIdlCause : FilesSeen → List ℕ → Option (List ℕ) → Refusal → Type 0
 IsIdlCause f idl acf (Absent file) = HasRisen f.absences × IsDueFile f.held idl acf file × IsMissing f.held file
 IsIdlCause f idl acf (FileFailed file) = HasRisen f.faults × IsDueFile f.held idl acf file
@@ -49,23 +70,23 @@ IsIdlCause f idl acf (BadIdl file line column why) =
 IsIdlCause f idl acf _ = ⊥
 
 -- the interface has no operation of the name
-abbrev pub IsUnknown : FilesSeen → List ℕ → Option (List ℕ) → List ℕ → Type 0
-IsUnknown f idl acf op = (i : Interface) × IsCompiled f idl acf i × (operation_named i.operations op ≡ None)
+abbrev pub IsUnknown : FilesSeen → Subject → Type 0
+IsUnknown f of = (i : Interface) × IsCompiled f of.idl of.acf i × (operation_named i.operations of.op ≡ None)
 
--- a root of the operation's side is no primitive
-abbrev pub IsUnbuilt : FilesSeen → List ℕ → Option (List ℕ) → List ℕ → Side → Type 0
-IsUnbuilt f idl acf op side =
-    (i : Interface) × (n : ℕ) × (o : Operation) × IsCompiled f idl acf i × IsNamed i op n o × (has_number_roots i.types side o ≡ false)
+-- a root of the operation's side is not a primitive
+abbrev pub IsUnbuilt : FilesSeen → Subject → Type 0
+IsUnbuilt f of =
+    (i : Interface) × (n : ℕ) × (o : Operation) × IsCompiled f of.idl of.acf i × IsNamed i of.op n o × (has_number_roots i.types of.side o ≡ false)
 
--- the same of the interface that they mean
+-- the same of an interface
 abbrev pub IsNotFound : Interface → List ℕ → Side → Refusal → Type 0
 IsNotFound i op side NoOperation = operation_named i.operations op ≡ None
 IsNotFound i op side NotBuilt = (n : ℕ) × (o : Operation) × IsNamed i op n o × (has_number_roots i.types side o ≡ false)
 IsNotFound i op side _ = ⊥
 
--- Why the files are refused: they mean no interface; or the interface has no operation of the name; or a root of its side is of a type whose values
--- are not built yet.
-abbrev pub IsFileCause : FilesSeen → List ℕ → Option (List ℕ) → List ℕ → Side → Refusal → Type 0
-IsFileCause f idl acf op side NoOperation = IsUnknown f idl acf op
-IsFileCause f idl acf op side NotBuilt = IsUnbuilt f idl acf op side
-IsFileCause f idl acf op side refusal = IsIdlCause f idl acf refusal
+-- Why what a command on values speaks of is not ready: the files mean no interface; or the interface has no operation of the name; or a root of its
+-- side is of a type whose values are not built yet.
+abbrev pub IsReadyCause : FilesSeen → Subject → Refusal → Type 0
+IsReadyCause f of NoOperation = IsUnknown f of
+IsReadyCause f of NotBuilt = IsUnbuilt f of
+IsReadyCause f of refusal = IsIdlCause f of.idl of.acf refusal

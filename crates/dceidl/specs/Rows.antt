@@ -1,123 +1,157 @@
--- The rows of a run: what each status says by itself, and what comes in each case where nothing fails.
-use Rattle.std.specs.Prelude.{◌≡◌, ◌⊎◌, ℕ, ◌+◌, true, List, [], ◌∷◌, codes, take, option_map, Option, Some}
+-- The rows of a run, each for all commands at once: what a status says by itself, and what comes where nothing fails.
+use Rattle.std.specs.Prelude.{◌≡◌, ◌⊎◌, ℕ, ◌+◌, true, false, List, [], ◌∷◌, codes, take, option_map, Option, None, Some, ⊤}
+use Rattle.nd_base.specs.declared.TheConstants.{STREAM_LIMIT}
 use Rattle.nd_base.specs.Outside.{IsMissing, loaded}
+use Rattle.nd_base.specs.Over.{FilesSeen, SourceSeen, SinkSeen, HasRisen, Got, IsAsBefore}
 use Rattle.nd_types.specs.declared.interface.Interface.{Interface}
 use Rattle.nd_types.specs.declared.types.Operation.{Operation}
-use Rattle.nd_types.specs.declared.types.Side.{Side}
+use Rattle.nd_types.specs.Operations.{operation_named}
 use Rattle.nd_types.specs.Numbers.{has_number_roots}
-use Rattle.dceidl.specs.declared.refusal.Refusal.{Refusal}
-use Rattle.dceidl.specs.declared.task.Task.{Task}
-use Rattle.idl_rules.specs.Answers.{meant_by}
-use Rattle.idl_check.specs.Listing.{listing}
-use Rattle.dceidl.specs.Words.{Command, Work, Compile}
-use Rattle.dceidl.specs.Outside.{FilesSeen, SourceSeen, SinkSeen, HasRisen, Got, IsAsBefore, IsUntouched}
-use Rattle.dceidl.specs.Idl.{Means, IsDueFile}
-use Rattle.dceidl.specs.Ready.{IsNamed, IsCompiled, IsReady, IsIdlCause}
-use Rattle.dceidl.specs.Task.{IsCause, IsMadeOfInput, limit_of}
-use Rattle.dceidl.specs.Lines.{status_of, line_of}
-use Rattle.value_text.specs.Text.{joined}
+use Rattle.nd_graph.specs.declared.value.Graph.{Graph}
+use Rattle.nd_graph.specs.Setting.{Setting}
+use Rattle.nd_graph.specs.Conforms.{Conforms}
 use Rattle.nd_graph.specs.Fitting.{setting_of}
+use Rattle.nd_grammar.specs.Represents.{Represents}
+use Rattle.value_text.specs.declared.TheConstants.{TEXT_LIMIT}
+use Rattle.value_text.specs.Reads.{ReadsAs, IsTextFault}
+use Rattle.nd_base.specs.Text.{joined}
+use Rattle.dceidl.specs.Causes.{IsMade, IsCause}
+use Rattle.dceidl.specs.Decode.{IsRefusedAt}
+use Rattle.dceidl.specs.Encode.{IsMisfitAt}
+use Rattle.dceidl.specs.Idl.{Means, IsIdlFault, IsDueFile}
+use Rattle.dceidl.specs.Lines.{status_of, line_of}
+use Rattle.dceidl.specs.Ready.{IsNamed}
+use Rattle.dceidl.specs.Seen.{Seen}
+use Rattle.dceidl.specs.Words.{Command, FileNames, Subject, Read, Encode, Compile, Help, Version, asks_files, asks_input, idl_of, op_of, order_in}
+use Rattle.dceidl.specs.declared.refusal.Refusal.{Refusal}
+use Rattle.dceidl.specs.declared.refusal.Refusal.TheVariants.{BadIdl, NoOperation, NotBuilt, BadOctets, BadText, BadValue}
 
--- one of three statuses
-abbrev pub IsOneOf : ℕ → ℕ → ℕ → ℕ → Type 0
-IsOneOf status a b c = (status ≡ a) ⊎ ((status ≡ b) ⊎ (status ≡ c))
+-- a status is one of these
+abbrev pub IsOneOf : List ℕ → ℕ → Type 0
+IsOneOf [] status = ⊥
+IsOneOf (s ∷ ss) status = (status ≡ s) ⊎ IsOneOf ss status
 
--- the words are a command that speaks of these files: of an interface file, and of an attribute file where one is named
-abbrev pub SpeaksOf : Option Command → List ℕ → Option (List ℕ) → Type 0
-SpeaksOf (Some (Work task idl acf op side)) main beside = (main ≡ idl) × (beside ≡ acf)
-SpeaksOf (Some (Compile idl acf)) main beside = (main ≡ idl) × (beside ≡ acf)
-SpeaksOf _ main beside = ⊥
+-- ## What a status says
 
--- the file of this name is due: the main file, an import to which the walk comes, or the attribute file behind them
-abbrev pub IsDue : Option Command → Option (List ℕ → Option (List ℕ)) → List ℕ → Type 0
-IsDue (Some (Work task idl acf op side)) held name = IsDueFile held idl acf name
-IsDue (Some (Compile idl acf)) held name = IsDueFile held idl acf name
-IsDue _ held name = ⊥
-
--- a file that is told in a line is due and, where the names are told, not held
-abbrev pub IsDueAndMissing : Option Command → Option (List ℕ → Option (List ℕ)) → SinkSeen → Type 0
-IsDueAndMissing command held notes = (name : List ℕ) × IsDue command held name × IsMissing held name × Got notes (joined (codes "absent: " ∷ name ∷ codes "\n" ∷ []))
-
--- a file that is told in a line is due
-abbrev pub IsDueAndTold : Option Command → Option (List ℕ → Option (List ℕ)) → SinkSeen → Type 0
-IsDueAndTold command held notes = (name : List ℕ) × IsDue command held name × Got notes (joined (codes "file fault: " ∷ name ∷ codes "\n" ∷ []))
-
--- the words are a command that reads the input
-abbrev pub ReadsInput : Option Command → Type 0
-ReadsInput (Some (Work task idl acf op side)) = Unit {0}
-ReadsInput _ = ⊥
-
--- A task was done: the file was ready, something was made of the input, out grew by it, and notes stand as before.
-pub record IsDone (f : FilesSeen) (s : SourceSeen) (out notes : SinkSeen) (task : Task) (idl : List ℕ) (acf : Option (List ℕ)) (op : List ℕ) (side : Side) : Type 0 where
-  pub interface : Interface
-  pub number : ℕ
-  pub operation : Operation
-  pub ready : IsReady f idl acf op side interface number operation
+-- A command was done: it made this text, out grew by it, and notes are as before.
+pub record IsDone (x : Seen) (out notes : SinkSeen) (c : Command) : Type 0 where
   pub made : List ℕ
-  pub of_input : IsMadeOfInput s task (setting_of interface operation side) made
+  pub is_made : IsMade x c made
   pub given : Got out made
   pub quiet : IsAsBefore notes
 
--- A task was refused: for a cause, under its status and with its line on notes, and out stands as before.
-pub record IsRefused (f : FilesSeen) (s : SourceSeen) (out notes : SinkSeen) (task : Task) (idl : List ℕ) (acf : Option (List ℕ)) (op : List ℕ) (side : Side)
-    (status : ℕ) : Type 0 where
+-- A command was refused: for a cause, under its status and with its line on notes, and out is as before.
+pub record IsRefusedWith (x : Seen) (out notes : SinkSeen) (c : Command) (status : ℕ) : Type 0 where
   pub refusal : Refusal
-  pub cause : IsCause f s task idl acf op side refusal
+  pub cause : IsCause x c refusal
   pub own_status : status ≡ status_of refusal
-  pub line : Got notes (line_of idl op refusal)
+  pub line : Got notes (line_of (idl_of c) (op_of c) refusal)
   pub nothing_given : IsAsBefore out
 
--- A listing was made: the files mean an interface, out grew by its listing, notes stand as before, and the input was not asked for.
-pub record IsListing (f : FilesSeen) (s : SourceSeen) (out notes : SinkSeen) (idl : List ℕ) (acf : Option (List ℕ)) : Type 0 where
-  pub interface : Interface
-  pub compiled : IsCompiled f idl acf interface
-  pub given : Got out (listing (meant_by interface))
-  pub quiet : IsAsBefore notes
-  pub unasked : IsUntouched s
+-- the words are a command that reads the input
+abbrev pub ReadsInput : Option Command → Type 0
+ReadsInput None = ⊥
+ReadsInput (Some c) = asks_input c ≡ true
 
--- A listing was refused: for a cause of the files, under its status and with its line on notes, out stands as before, and the input was not asked for.
-pub record IsNoListing (f : FilesSeen) (s : SourceSeen) (out notes : SinkSeen) (idl : List ℕ) (acf : Option (List ℕ)) (status : ℕ) : Type 0 where
-  pub refusal : Refusal
-  pub cause : IsIdlCause f idl acf refusal
-  pub own_status : status ≡ status_of refusal
-  pub line : Got notes (line_of idl [] refusal)
-  pub nothing_given : IsAsBefore out
-  pub unasked : IsUntouched s
+-- the file of a name is due for a command: the main file, an import to which the walk comes, or the attribute file after them
+abbrev pub IsDueOf : Option (List ℕ → Option (List ℕ)) → Option FileNames → List ℕ → Type 0
+IsDueOf held None name = ⊥
+IsDueOf held (Some named) name = IsDueFile held named.idl named.acf name
 
--- The listing of an interface was given, or memory was wanting, or out failed.
-abbrev pub Lists : SinkSeen → ℕ → Interface → Type 0
-Lists out status i = ((status ≡ 0) × Got out (listing (meant_by i))) ⊎ ((status ≡ 5) ⊎ ((status ≡ 4) × HasRisen out.faults))
+abbrev pub IsDue : Option Command → Option (List ℕ → Option (List ℕ)) → List ℕ → Type 0
+IsDue None held name = ⊥
+IsDue (Some c) held name = IsDueOf held (asks_files c) name
 
--- nothing outside failed
-pub record IsSound (f : FilesSeen) (s : SourceSeen) (out notes : SinkSeen) : Type 0 where
-  pub loads : HasRisen f.faults → ⊥
-  pub reads : HasRisen s.faults → ⊥
+-- the file of a line is due and, where the contents of files are known, not held
+abbrev pub IsDueAndMissing : Option Command → Option (List ℕ → Option (List ℕ)) → SinkSeen → Type 0
+IsDueAndMissing command held notes = (name : List ℕ) × IsDue command held name × IsMissing held name × Got notes (joined (codes "absent: " ∷ name ∷ codes "\n" ∷ []))
+
+-- the file of a line is due
+abbrev pub IsDueAndReported : Option Command → Option (List ℕ → Option (List ℕ)) → SinkSeen → Type 0
+IsDueAndReported command held notes = (name : List ℕ) × IsDue command held name × Got notes (joined (codes "file fault: " ∷ name ∷ codes "\n" ∷ []))
+
+-- ## Where nothing fails
+
+-- no count rose
+pub record HasNotFailed (x : Seen) (out notes : SinkSeen) : Type 0 where
+  pub found : HasRisen x.files.absences → ⊥
+  pub loads : HasRisen x.files.faults → ⊥
+  pub reads : HasRisen x.input.faults → ⊥
   pub writes : HasRisen out.faults → ⊥
-  pub tells : HasRisen notes.faults → ⊥
+  pub reports : HasRisen notes.faults → ⊥
 
--- no load failed, and nothing failed on notes
-pub record IsSoundForFiles (f : FilesSeen) (notes : SinkSeen) : Type 0 where
-  pub loads : HasRisen f.faults → ⊥
-  pub tells : HasRisen notes.faults → ⊥
+-- no load failed, and notes did not
+pub record IsSound (x : Seen) (notes : SinkSeen) : Type 0 where
+  pub loads : HasRisen x.files.faults → ⊥
+  pub reports : HasRisen notes.faults → ⊥
 
--- the names are told, and under this name stands a file of this content, as far as a load gives it
+-- the contents of files are known, and under this name this content is held, as far as a load gives it
 abbrev pub IsHeld : FilesSeen → List ℕ → List ℕ → Type 0
 IsHeld f name file = (held : List ℕ → Option (List ℕ)) × (f.held ≡ Some held) × (option_map loaded (held name) ≡ Some file)
 
--- The main file is held, the files mean this interface, it has the operation, and each root of the side is a primitive.
-pub record IsAccepted (f : FilesSeen) (idl : List ℕ) (acf : Option (List ℕ)) (op : List ℕ) (side : Side) (i : Interface) (n : ℕ) (o : Operation) : Type 0 where
+-- The main file is held, the files mean this interface, it has the operation, each root of the side is a primitive, and this is its setting.
+pub record IsAccepted (f : FilesSeen) (of : Subject) (w : Setting) : Type 0 where
   pub file : List ℕ
-  pub held : IsHeld f idl file
-  pub means : Means f.held idl file acf i
-  pub named : IsNamed i op n o
-  pub built : has_number_roots i.types side o ≡ true
+  pub interface : Interface
+  pub number : ℕ
+  pub operation : Operation
+  pub held : IsHeld f of.idl file
+  pub means : Means f.held of.idl file of.acf interface
+  pub named : IsNamed interface of.op number operation
+  pub built : has_number_roots interface.types of.side operation ≡ true
+  pub setting_is : w ≡ setting_of interface operation of.side
 
--- these are the octets of the input that count for a task: all of them, or one more than it takes
-pub record IsInput (s : SourceSeen) (task : Task) (octets : List ℕ) : Type 0 where
+-- The octets of the input are known, and these count under a limit: all of them, or one more than the limit. No fetch failed.
+pub record IsInput (s : SourceSeen) (limit : ℕ) (octets : List ℕ) : Type 0 where
   pub all : List ℕ
   pub left : s.left ≡ Some all
-  pub counted : octets ≡ take (limit_of task + 1) all
+  pub counted : octets ≡ take (limit + 1) all
+  pub reads : HasRisen s.faults → ⊥
 
--- The run is refused in this way, or memory was wanting.
-abbrev pub Refuses : List ℕ → List ℕ → SinkSeen → ℕ → Refusal → Type 0
-Refuses idl op notes status refusal = ((status ≡ status_of refusal) × Got notes (line_of idl op refusal)) ⊎ (status ≡ 5)
+-- Where no load fails and notes do not, a command of which this holds is done, unless it runs out of memory or out fails.
+abbrev pub CanBeDone : Seen → Command → Type 0
+CanBeDone x (Read how of order) =
+    (w : Setting) × (octets : List ℕ) × (g : Graph) × IsAccepted x.files of w × IsInput x.input STREAM_LIMIT octets
+    × Represents w (order_in order) octets g × Conforms w g
+CanBeDone x (Encode of order chunk) =
+    (w : Setting) × (text : List ℕ) × (g : Graph) × IsAccepted x.files of w × IsInput x.input TEXT_LIMIT text × ReadsAs w text g × Conforms w g
+CanBeDone x (Compile idl acf) = (text : List ℕ) × (i : Interface) × IsHeld x.files idl text × Means x.files.held idl text acf i
+CanBeDone x Help = ⊤
+CanBeDone x Version = ⊤
+
+-- the files are refused in this way
+abbrev pub MustBeNoIdl : FilesSeen → List ℕ → Option (List ℕ) → Refusal → Type 0
+MustBeNoIdl f idl acf (BadIdl file line column why) =
+    (text : List ℕ) × IsHeld f idl text × IsIdlFault f.held idl text acf (BadIdl file line column why)
+MustBeNoIdl f idl acf _ = ⊥
+
+-- what a command on values speaks of is refused in this way
+abbrev pub MustBeUnready : FilesSeen → Subject → Refusal → Type 0
+MustBeUnready f of NoOperation =
+    (text : List ℕ) × (i : Interface) × IsHeld f of.idl text × Means f.held of.idl text of.acf i × (operation_named i.operations of.op ≡ None)
+MustBeUnready f of NotBuilt =
+    (text : List ℕ) × (i : Interface) × (n : ℕ) × (o : Operation) × IsHeld f of.idl text × Means f.held of.idl text of.acf i × IsNamed i of.op n o
+    × (has_number_roots i.types of.side o ≡ false)
+MustBeUnready f of r = MustBeNoIdl f of.idl of.acf r
+
+-- Where no load fails and notes do not, a command of which this holds is refused in this way, unless it runs out of memory.
+abbrev pub MustBeRefused : Seen → Command → Refusal → Type 0
+MustBeRefused x (Read how of order) (BadOctets place why) =
+    (w : Setting) × (octets : List ℕ) × IsAccepted x.files of w × IsInput x.input STREAM_LIMIT octets × IsRefusedAt w (order_in order) octets place why
+MustBeRefused x (Read how of order) r = MustBeUnready x.files of r
+MustBeRefused x (Encode of order chunk) (BadText line column why) =
+    (w : Setting) × (text : List ℕ) × IsAccepted x.files of w × IsInput x.input TEXT_LIMIT text × IsTextFault w text line column why
+MustBeRefused x (Encode of order chunk) (BadValue path why) =
+    (w : Setting) × (text : List ℕ) × (g : Graph) × IsAccepted x.files of w × IsInput x.input TEXT_LIMIT text × ReadsAs w text g × IsMisfitAt w g path why
+MustBeRefused x (Encode of order chunk) r = MustBeUnready x.files of r
+MustBeRefused x (Compile idl acf) r = MustBeNoIdl x.files idl acf r
+MustBeRefused x Help r = ⊥
+MustBeRefused x Version r = ⊥
+
+-- a command is completed: it is done, or it ran out of memory, or out failed
+abbrev pub IsCompleted : SinkSeen → ℕ → Type 0
+IsCompleted out status = (status ≡ 0) ⊎ ((status ≡ 5) ⊎ ((status ≡ 4) × HasRisen out.faults))
+
+-- a command is refused in this way, or it ran out of memory
+abbrev pub Refuses : Command → SinkSeen → ℕ → Refusal → Type 0
+Refuses c notes status refusal = ((status ≡ status_of refusal) × Got notes (line_of (idl_of c) (op_of c) refusal)) ⊎ (status ≡ 5)

@@ -1,5 +1,5 @@
--- The commands that the words of a command line are.
-use Rattle.std.specs.Prelude.{ℕ, Bool, ◌&&◌, leb, List, [], ◌∷◌, Option, None, Some, if◌then◌else◌, nat_eq, codes, decimal}
+-- The commands that the words of a command line are, and what each of them asks for.
+use Rattle.std.specs.Prelude.{ℕ, Bool, true, false, ◌&&◌, nat_le, List, [], ◌∷◌, Option, None, Some, if◌then◌else◌, nat_eq, codes, decimal}
 use Rattle.std.specs.Cmp.Lexicographic.{pointwise}
 use Rattle.std.specs.Str.Parse.{digits_value}
 use Rattle.nd_base.specs.declared.octets.Order.{Order}
@@ -7,17 +7,67 @@ use Rattle.nd_base.specs.declared.octets.Order.TheVariants.{Little, Big}
 use Rattle.nd_types.specs.declared.types.Side.{Side}
 use Rattle.nd_types.specs.declared.types.Side.TheVariants.{In, Out}
 use Rattle.dceidl.specs.declared.TheConstants.{CHUNK_LIMIT}
-use Rattle.dceidl.specs.declared.task.Task.{Task}
-use Rattle.dceidl.specs.declared.task.Task.TheVariants.{Decode, Encode}
+use Rattle.dceidl.specs.declared.words.OrderWord.{OrderWord}
+use Rattle.dceidl.specs.declared.words.OrderWord.TheVariants.{Fixed}
+use Rattle.dceidl.specs.declared.words.Reading.{Reading}
+use Rattle.dceidl.specs.declared.words.Reading.TheVariants.{Decode}
+
+-- the files of a command: a file of IDL, and an attribute configuration file if one is named
+pub record FileNames : Type 0 where
+  pub idl : List ℕ
+  pub acf : Option (List ℕ)
+
+-- what a command on values speaks of: the files, an operation of their interface, and a side of it
+pub record Subject : Type 0 where
+  pub idl : List ℕ
+  pub acf : Option (List ℕ)
+  pub op : List ℕ
+  pub side : Side
 
 -- what the words of a command line ask for
 pub data Command : Type 0 where
-  -- a task on a side of an operation of an interface file, beside an attribute file where one is named
-  Work : (task : Task) (idl : List ℕ) (acf : Option (List ℕ)) (op : List ℕ) (side : Side) → Command
-  -- the listing of an interface file, beside an attribute file where one is named
+  -- the octets of the input are read
+  Read : (how : Reading) (of : Subject) (order : OrderWord) → Command
+  -- the text of the input is encoded
+  Encode : (of : Subject) (order : OrderWord) (chunk : ℕ) → Command
+  -- the listing of an interface
   Compile : (idl : List ℕ) (acf : Option (List ℕ)) → Command
   Help : Command
   Version : Command
+
+-- ## What a command asks for
+
+-- the files that it asks for, if it asks for any
+abbrev pub asks_files : Command → Option FileNames
+asks_files (Read how of order) = Some (record { idl = of.idl; acf = of.acf })
+asks_files (Encode of order chunk) = Some (record { idl = of.idl; acf = of.acf })
+asks_files (Compile idl acf) = Some (record { idl = idl; acf = acf })
+asks_files Help = None
+asks_files Version = None
+
+-- whether it reads the input
+abbrev pub asks_input : Command → Bool
+asks_input (Read how of order) = true
+asks_input (Encode of order chunk) = true
+asks_input _ = false
+
+-- the file of IDL and the operation that the line of a refusal names
+abbrev pub idl_of : Command → List ℕ
+idl_of (Read how of order) = of.idl
+idl_of (Encode of order chunk) = of.idl
+idl_of (Compile idl acf) = idl
+idl_of _ = []
+
+abbrev pub op_of : Command → List ℕ
+op_of (Read how of order) = of.op
+op_of (Encode of order chunk) = of.op
+op_of _ = []
+
+-- the order of octets that a command names
+abbrev pub order_in : OrderWord → Order
+order_in (Fixed order) = order
+
+-- ## Words
 
 -- a word is this text
 abbrev pub is_word : List ℕ → List ℕ → Bool
@@ -28,10 +78,10 @@ abbrev pub acf_of : List ℕ → Option (List ℕ)
 acf_of word = if is_word word (codes "-") then None else Some word
 
 -- the order of octets that a word names
-abbrev pub order_of : List ℕ → Option Order
+abbrev pub order_of : List ℕ → Option OrderWord
 order_of word =
-    if is_word word (codes "little") then Some Little
-    else if is_word word (codes "big") then Some Big else None
+    if is_word word (codes "little") then Some (Fixed Little)
+    else if is_word word (codes "big") then Some (Fixed Big) else None
 
 -- the side that a word names
 abbrev pub side_of : List ℕ → Option Side
@@ -39,28 +89,26 @@ side_of word =
     if is_word word (codes "in") then Some In
     else if is_word word (codes "out") then Some Out else None
 
--- the number of elements of a chunk whose digits are this word, where it is within its limit
+-- the number of elements of a chunk whose digits are this word, if it is within its limit
 abbrev pub chunk_by : List ℕ → ℕ → Option ℕ
-chunk_by word n = if is_word word (decimal n) && leb 1 n && leb n CHUNK_LIMIT then Some n else None
+chunk_by word n = if is_word word (decimal n) && nat_le 1 n && nat_le n CHUNK_LIMIT then Some n else None
 
 -- the number of elements of a chunk that a word names, in decimal digits without a sign or a leading zero
 abbrev pub chunk_of : List ℕ → Option ℕ
 chunk_of word = chunk_by word (digits_value 10 word)
 
--- the task of decoding, where a word names an order
-abbrev pub decoding : Option Order → Option Task
-decoding None = None
-decoding (Some order) = Some (Decode order)
+abbrev pub subject : List ℕ → List ℕ → List ℕ → Side → Subject
+subject idl acf op side = record { idl = idl; acf = acf_of acf; op = op; side = side }
 
--- the task of encoding, where words name an order and the number of elements of a chunk
-abbrev pub encoding : Option Order → Option ℕ → Option Task
-encoding (Some order) (Some chunk) = Some (Encode order chunk)
-encoding _ _ = None
+-- `decode`, if its words are a side and an order
+abbrev pub decode : List ℕ → List ℕ → List ℕ → Option Side → Option OrderWord → Option Command
+decode idl acf op (Some side) (Some order) = Some (Read Decode (subject idl acf op side) order)
+decode idl acf op _ _ = None
 
--- the command of a task and a side, if they are ones
-abbrev pub work : Option Task → List ℕ → Option (List ℕ) → List ℕ → Option Side → Option Command
-work (Some task) idl acf op (Some side) = Some (Work task idl acf op side)
-work _ idl acf op _ = None
+-- `encode`, if its words are a side, an order and the number of elements of a chunk
+abbrev pub encode : List ℕ → List ℕ → List ℕ → Option Side → Option OrderWord → Option ℕ → Option Command
+encode idl acf op (Some side) (Some order) (Some chunk) = Some (Encode (subject idl acf op side) order chunk)
+encode idl acf op _ _ _ = None
 
 -- The command that words are, if they are one: `compile IDL ACF`, `decode IDL ACF OP SIDE ORDER`, `encode IDL ACF OP SIDE ORDER CHUNK`, `--help`
 -- or `--version`.
@@ -70,7 +118,7 @@ command (word ∷ []) =
     else if is_word word (codes "--version") then Some Version else None
 command (verb ∷ idl ∷ acf ∷ []) = if is_word verb (codes "compile") then Some (Compile idl (acf_of acf)) else None
 command (verb ∷ idl ∷ acf ∷ op ∷ side ∷ order ∷ []) =
-    if is_word verb (codes "decode") then work (decoding (order_of order)) idl (acf_of acf) op (side_of side) else None
+    if is_word verb (codes "decode") then decode idl acf op (side_of side) (order_of order) else None
 command (verb ∷ idl ∷ acf ∷ op ∷ side ∷ order ∷ chunk ∷ []) =
-    if is_word verb (codes "encode") then work (encoding (order_of order) (chunk_of chunk)) idl (acf_of acf) op (side_of side) else None
+    if is_word verb (codes "encode") then encode idl acf op (side_of side) (order_of order) (chunk_of chunk) else None
 command _ = None

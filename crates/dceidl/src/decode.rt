@@ -68,8 +68,5 @@ fn print_whole(
             why: OctetsFault::Trailing,
         });
     }
-    match print(alloc, &ready.interface, &decoded.fit) {
-        Ok(text) => Ok(text),
-        Err(_) => Err(Refusal::Memory),
-    }
+    Ok(print(alloc, &ready.interface, &decoded.fit)?)
 }

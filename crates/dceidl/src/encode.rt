@@ -7,13 +7,13 @@ ghost use Rattle.nd_types.specs.Walk.{named_roots};
 ghost use Rattle.nd_graph.specs.Conforms.{Conforms, HasFewNodes};
 ghost use Rattle.nd_grammar.specs.Chosen.{Chosen};
 ghost use Rattle.nd_graph.specs.Fitting.{setting_of};
-ghost use Rattle.value_text.specs.Text.{joined};
-ghost use Rattle.dceidl.specs.Encode.{IsEncoding, IsTextCause, IsValueCause, IsToldAsValue, home_path, root_path as name_of};
+ghost use Rattle.nd_base.specs.Text.{joined};
+ghost use Rattle.dceidl.specs.Encode.{IsEncoding, IsTextCause, IsValueCause, IsReportedAsValue, home_path, root_path as name_of};
 
-use crate::join::join;
 use crate::ready::Ready;
 use crate::refusal::Refusal;
 use itoa::Buffer;
+use nd_base::text::join;
 use nd_base::{Memory, Octets, Order};
 use nd_graph::{CellId, Fit, Graph, Home, Misfit, fit};
 use std::alloc::Global;
@@ -100,17 +100,20 @@ fn encode_fit(
 {
     // A fit's graph conforms.
     let _conforming = fit.graph();
-    match plain_ndr::encode(alloc, &ready.interface, fit, order, chunk) {
-        Ok(octets) => Ok(octets),
-        Err(_) => Err(Refusal::Memory),
-    }
+    Ok(plain_ndr::encode(
+        alloc,
+        &ready.interface,
+        fit,
+        order,
+        chunk,
+    )?)
 }
 
 // A misfit with the path of its home.
 fn value_refused(alloc: Global, ready: &Ready, misfit: Misfit) -> Refusal
     requires known { ready.now.number < length ready.now.interface.operations }
     ensures { (o : Operation) → slice_get ready.now.interface.operations ready.now.number ≡ Some o
-        → IsToldAsValue (setting_of ready.now.interface o ready.now.side) misfit result }
+        → IsReportedAsValue (setting_of ready.now.interface o ready.now.side) misfit result }
 {
     match misfit {
         Misfit::Memory => Refusal::Memory,

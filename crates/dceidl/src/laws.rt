@@ -9,7 +9,6 @@ ghost use Rattle.nd_types.specs.Numbers.{has_number_roots};
 ghost use Rattle.nd_grammar.specs.Represents.{Represents};
 ghost use Rattle.nd_graph.specs.Fitting.{setting_of};
 ghost use Rattle.value_text.specs.declared.TheConstants.{TEXT_LIMIT};
-ghost use Rattle.value_text.specs.PlainSide.{HasWordNames};
 ghost use Rattle.value_text.specs.Reads.{ReadsAs};
 ghost use Rattle.value_text.specs.Printed.{IsText};
 ghost use Rattle.dceidl.specs.Decode.{IsDecoding};
@@ -20,7 +19,7 @@ ghost use Rattle.dceidl.specs.Idl.{Means, IsIdlFault, resolved_world};
 ghost use Rattle.dceidl.specs.declared.refusal.IdlReason.{IdlReason};
 ghost use Rattle.dceidl.specs.declared.refusal.Refusal.TheVariants as refusal;
 
-/// Where the contents of files are told, a main file means one interface at most with those that it imports, beside an attribute configuration file
+/// Where the contents of files are known, a main file means one interface at most with those that it imports, with an attribute configuration file
 /// if one is named, or is refused at one line and column of one file for one reason at most, and never both.
 pub fn one_idl_verdict()
     ensures one_interface { (held : List ℕ → Option (List ℕ)) (idl text : List ℕ) (acf : Option (List ℕ)) (i j : Interface)
@@ -35,8 +34,8 @@ pub fn one_idl_verdict()
         → Means (Some held) idl text acf i → IsIdlFault (Some held) idl text acf (refusal.BadIdl file line column why) → ⊥ }
 {}
 
-/// An attribute configuration file changes nothing of what files mean: what they mean beside one they mean without it; what they mean without one
-/// they mean beside each that was loaded and read and keeps the rule on it; and where the contents of files are told they mean one interface
+/// An attribute configuration file changes nothing of what files mean: what they mean with one they mean without it; what they mean without one
+/// they mean with each that was loaded and read and keeps the rule on it; and where the contents of files are known they mean one interface
 /// whatever is named.
 pub fn attribute_files_change_nothing()
     ensures without { (held : Option (List ℕ → Option (List ℕ))) (idl text : List ℕ) (acf : Option (List ℕ)) (i : Interface)
@@ -45,12 +44,6 @@ pub fn attribute_files_change_nothing()
         → (f : AcfFile) → IsLoadedAcf held name f → acf_breaches (resolved_world m.state) (Some f.tree) ≡ [] → Means held idl text (Some name) i }
     ensures same { (held : List ℕ → Option (List ℕ)) (idl text : List ℕ) (acf other : Option (List ℕ)) (i j : Interface)
         → Means (Some held) idl text acf i → Means (Some held) idl text other j → i ≡ j }
-{}
-
-/// The names of operations that files mean, and of their parameters, are words: a letter or `_`, then letters, digits and `_`.
-pub fn meant_names_are_words()
-    ensures { (held : Option (List ℕ → Option (List ℕ))) (idl text : List ℕ) (acf : Option (List ℕ)) (i : Interface) (n : ℕ) (o : Operation) (s : Side)
-        → Means held idl text acf i → slice_get i.operations n ≡ Some o → HasWordNames (setting_of i o s) }
 {}
 
 /// `decode` undoes `encode` on sides whose roots are primitives: the octets that `encode` writes of a text represent the graph that the text reads
@@ -70,26 +63,15 @@ pub fn decode_undoes_encode()
         → IsText (setting_of i o s) e.graph text → made ≡ text }
 {}
 
-/// `encode` undoes `decode` on the operations of files that mean an interface, on sides whose roots are primitives: a text that `decode` writes,
-/// where it is within its limit, reads as the graph that the octets represent, and what `encode` writes of it in any order represents that
-/// graph. The same holds of any such side whose names are words, where no file declares it.
+/// `encode` undoes `decode` on sides whose roots are primitives: a text that `decode` writes, if it is within its limit, reads as the graph that
+/// the octets represent, and what `encode` writes of it in any order represents that graph.
 pub fn encode_undoes_decode()
-    ensures reads { (held : Option (List ℕ → Option (List ℕ))) (idl file : List ℕ) (acf : Option (List ℕ)) (i : Interface) (n : ℕ) (o : Operation) (s : Side)
-        → (order : Order) (octets text : List ℕ)
-        → Means held idl file acf i → has_number_roots i.types s o ≡ true → slice_get i.operations n ≡ Some o
+    ensures reads { (i : Interface) (n : ℕ) (o : Operation) (s : Side) (order : Order) (octets text : List ℕ)
+        → has_number_roots i.types s o ≡ true → slice_get i.operations n ≡ Some o
         → (d : IsDecoding (setting_of i o s) order octets text) → length text ≤ TEXT_LIMIT
         → ReadsAs (setting_of i o s) text d.graph }
-    ensures represents { (held : Option (List ℕ → Option (List ℕ))) (idl file : List ℕ) (acf : Option (List ℕ)) (i : Interface) (n : ℕ) (o : Operation) (s : Side)
-        → (order other : Order) (chunk : ℕ) (octets text made : List ℕ)
-        → Means held idl file acf i → has_number_roots i.types s o ≡ true → slice_get i.operations n ≡ Some o
-        → (d : IsDecoding (setting_of i o s) order octets text) → IsEncoding (setting_of i o s) other chunk text made
-        → Represents (setting_of i o s) other made d.graph }
-    ensures words_read { (i : Interface) (n : ℕ) (o : Operation) (s : Side) (order : Order) (octets text : List ℕ)
-        → has_number_roots i.types s o ≡ true → slice_get i.operations n ≡ Some o → HasWordNames (setting_of i o s)
-        → (d : IsDecoding (setting_of i o s) order octets text) → length text ≤ TEXT_LIMIT
-        → ReadsAs (setting_of i o s) text d.graph }
-    ensures words_represent { (i : Interface) (n : ℕ) (o : Operation) (s : Side) (order other : Order) (chunk : ℕ) (octets text made : List ℕ)
-        → has_number_roots i.types s o ≡ true → slice_get i.operations n ≡ Some o → HasWordNames (setting_of i o s)
+    ensures represents { (i : Interface) (n : ℕ) (o : Operation) (s : Side) (order other : Order) (chunk : ℕ) (octets text made : List ℕ)
+        → has_number_roots i.types s o ≡ true → slice_get i.operations n ≡ Some o
         → (d : IsDecoding (setting_of i o s) order octets text) → IsEncoding (setting_of i o s) other chunk text made
         → Represents (setting_of i o s) other made d.graph }
 {}

@@ -1,23 +1,19 @@
-//! The program `dceidl` as a library: what a command line asks for is done over sources, sinks and files that its caller makes.
+//! The program `dceidl` as a library: it runs a command line over sources, sinks and files that the caller makes.
 #![tactic(auto)]
 
-mod acf_reading;
-mod compiling;
+mod acf;
+mod compile;
 mod decode;
 mod encode;
-mod faults;
 mod input;
-mod join;
-mod judging;
 pub mod laws;
 mod lines;
-mod listed;
-mod loading;
+mod load;
 mod outcome;
-mod position;
+mod perform;
 mod ready;
 mod refusal;
-mod task;
+mod reported;
 #[cfg(test)]
 mod tests;
 mod top;
@@ -25,7 +21,6 @@ mod words;
 
 pub use outcome::Outcome;
 pub use refusal::{IdlReason, OctetsFault, Refusal};
-pub use task::Task;
 pub use top::{Status, run};
 pub use words::Words;
 
@@ -40,21 +35,22 @@ usage: dceidl compile IDL ACF
        dceidl --help
        dceidl --version
 
-compile checks a file of IDL with the files that it imports (C706, chapter 4), and writes the
-        listing of its interface to standard output.
-decode  reads the octets of a side of an operation from standard input, in NDR (C706,
-        chapter 14), and writes their values to standard output as text.
+compile checks a file of IDL, the files that it imports and its attribute configuration file
+        (ACF) if one is named (C706, chapter 4), and writes the listing of its interface to
+        standard output.
+decode  reads the octets of a request (SIDE `in`) or a response (SIDE `out`) from standard
+        input, in NDR (C706, chapter 14), and writes their values to standard output as text.
 encode  reads such a text from standard input, and writes the octets of its values to
-        standard output. CHUNK is the number of elements in a chunk of a pipe, 1 to 16777216.
+        standard output. CHUNK is the number of elements in a chunk of a pipe, 1 to 16777216;
+        it has no effect unless the operation has pipes.
 
 IDL is the path of a file of IDL, ACF is the path of an attribute configuration file or `-`
-for none, OP is the name of an operation, SIDE is `in` for its [in] parameters or `out` for
-its [out] parameters and its result, and ORDER, `little` or `big`, is the order of a
-number's octets.
+for none, and OP is the name of an operation. SIDE `in` has the [in] parameters, `out` the
+[out] parameters and the result. ORDER is the byte order, `little` or `big`.
 
-A refusal is one line on standard error. The status is 0 done, 1 octets, text or value
-refused, 2 words refused, 3 input failed, 4 output failed, 5 memory wanting, 6 IDL or ACF
-refused, 7 IDL or ACF absent, 9 IDL or ACF not read.
+An error is one line on standard error. Exit status: 0 success; 1 bad octets, text or value;
+2 bad command line; 3 input error; 4 output error; 5 out of memory; 6 bad IDL or ACF;
+7 IDL or ACF not found; 9 IDL or ACF not readable.
 ";
 
 /// What `--version` prints.

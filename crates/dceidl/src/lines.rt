@@ -1,14 +1,14 @@
 // The status and the line of each refusal.
 ghost use Rattle.std.specs.Prelude.{◌≡◌, [], ◌∷◌, codes, IfOk};
-ghost use Rattle.value_text.specs.Text.{joined};
+ghost use Rattle.nd_base.specs.Text.{joined};
 ghost use Rattle.dceidl.specs.Lines.{status_of, line_of, idl_reason_text, lex_kind_name as name_of_lex_kind, const_fault_name as name_of_const_fault, fault_text, reason_text, misfit_text, disagreement as disagreement_text, reason_name as name_of_reason, misfit_name as name_of_misfit, text_reason_name as name_of_text_reason};
 
-use crate::join::join;
 use crate::refusal::{IdlReason, OctetsFault, Refusal};
 use crate::top::Status;
 use idl_lexer::LexKind;
 use idl_names::ConstFault;
 use itoa::Buffer;
+use nd_base::text::join;
 use nd_base::{Memory, Octets};
 use nd_grammar::Reason;
 use nd_graph::MisfitReason;

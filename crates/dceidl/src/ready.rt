@@ -1,14 +1,17 @@
 // What a command speaks of is made ready: the interface of the files, the operation, and that its values are built.
-ghost use Rattle.std.specs.Prelude.{◌≡◌, ◌<◌, length, Some, option_map, IfOk, IfErr};
+ghost use Rattle.std.specs.Prelude.{◌≡◌, ◌<◌, length, Some, IfOk, IfErr};
 ghost use Rattle.nd_types.specs.declared.types.Operation.{Operation};
 ghost use Rattle.nd_types.specs.Operations.{operation_named};
 ghost use Rattle.nd_types.specs.Numbers.{IsNumberSide, has_number_roots as all_roots_are_numbers};
 ghost use Rattle.std.specs.List.{slice_get};
-ghost use Rattle.dceidl.specs.Outside.{files_seen};
-ghost use Rattle.dceidl.specs.Ready.{IsReady, IsFileCause, IsNotFound};
+ghost use Rattle.nd_base.specs.Over.{files_seen};
+ghost use Rattle.dceidl.specs.Asked.{AsksFiles};
+ghost use Rattle.dceidl.specs.Commands.{subject_of};
+ghost use Rattle.dceidl.specs.Ready.{IsFound, IsReadyCause, IsNotFound};
 
-use crate::compiling::compile;
+use crate::compile::compile;
 use crate::refusal::Refusal;
+use crate::words::Subject;
 use nd_base::Files;
 use nd_types::{Interface, Side};
 use std::alloc::Global;
@@ -24,24 +27,23 @@ pub(crate) struct Ready {
 // Loads and reads the files, and finds the operation.
 pub(crate) fn make_ready<F: Files>(
     alloc: Global,
-    idl: &str,
-    acf: Option<&str>,
-    op: &str,
-    side: Side,
+    of: Subject<'_>,
     files: &mut F,
 ) -> Result<Ready, Refusal>
+    ensures asked { AsksFiles (files_seen F.held F.absences F.faults F.asked files.old files.new)
+        (Some (record { idl = (subject_of of.entry).idl; acf = (subject_of of.entry).acf })) }
     ensures ready { IfOk result (λ r. (o : Operation)
-        × IsReady (files_seen F.held F.absences F.faults files.old files.new) idl.now (option_map (λ a. a.now) acf.entry) op.now side r.interface r.number o) }
+        × IsFound (files_seen F.held F.absences F.faults F.asked files.old files.new) (subject_of of.entry) r.interface r.number o) }
     ensures built { IfOk result (λ r. IsNumberSide r.interface.types r.interface.operations r.number r.side) }
     ensures known { IfOk result (λ r. r.number < length r.interface.operations) }
-    ensures side { IfOk result (λ r. r.side ≡ side) }
-    ensures refused { IfErr result (IsFileCause (files_seen F.held F.absences F.faults files.old files.new) idl.now (option_map (λ a. a.now) acf.entry) op.now side) }
+    ensures side { IfOk result (λ r. r.side ≡ (subject_of of.entry).side) }
+    ensures refused { IfErr result (IsReadyCause (files_seen F.held F.absences F.faults F.asked files.old files.new) (subject_of of.entry)) }
 {
-    let interface = compile(alloc, idl, acf, files)?;
-    find(interface, op, side)
+    let interface = compile(alloc, of.idl, of.acf, files)?;
+    find(interface, of.op, of.side)
 }
 
-// The operation of a name, where the roots of its side are primitives.
+// The operation of a name, if the roots of its side are primitives.
 fn find(interface: Interface, op: &str, side: Side) -> Result<Ready, Refusal>
     ensures interface { IfOk result (λ r. r.interface ≡ interface) }
     ensures found { IfOk result (λ r. operation_named interface.operations op.now ≡ Some r.number) }

@@ -1,7 +1,7 @@
 // Why a command is refused.
 use idl_lexer::LexKind;
 use idl_names::ConstFault;
-use nd_base::Octets;
+use nd_base::{Memory, Octets};
 use nd_grammar::Reason;
 use nd_graph::MisfitReason;
 use thiserror::Error;
@@ -105,4 +105,15 @@ pub enum Refusal {
         path: Octets,
         reason: MisfitReason,
     },
+}
+
+impl From<Memory> for Refusal {
+    ghost use Rattle.std.specs.Prelude.{◌≡◌};
+    ghost use Rattle.dceidl.specs.declared.refusal.Refusal.TheVariants as refusal;
+
+    ghost from_gives = { λ _ r. r ≡ refusal.Memory };
+
+    fn from(_: Memory) -> Refusal {
+        Refusal::Memory
+    }
 }

@@ -1,10 +1,9 @@
 // The words of a command line, and the command that they are.
 ghost use Rattle.std.specs.Prelude.{◌≡◌, ◌≤◌, [], ◌∷◌, ◌++◌, OnOk, OnErr, IfSome, option_map};
-ghost use Rattle.dceidl.specs.Words.{command, acf_of, order_of, side_of, chunk_of, chunk_by, work as work_of, decoding as decoding_of, encoding as encoding_of};
-ghost use Rattle.dceidl.specs.Asked.{asked, HasChunk, AsksChunk};
+ghost use Rattle.dceidl.specs.Words.{command, acf_of, order_in, order_of, side_of, chunk_of, chunk_by, decode as decode_of, encode as encode_of, subject as subject_by};
+ghost use Rattle.dceidl.specs.Commands.{command_of, subject_of, HasChunk};
 
 use crate::CHUNK_LIMIT;
-use crate::task::Task;
 use itoa::Buffer;
 use nd_base::{Memory, Order};
 use nd_types::Side;
@@ -37,7 +36,7 @@ impl Words {
         }
     }
 
-    /// Adds a word at the end. Where memory is wanting nothing has changed.
+    /// Adds a word at the end. If memory runs out nothing has changed.
     pub fn push(&mut self, word: &str) -> Result<(), Memory>
         ensures ok { OnOk result (self.new ≡ self.old ++ word.now ∷ []) }
         ensures err { OnErr result (self.new ≡ self.old) }
@@ -51,20 +50,20 @@ impl Words {
 
     // The command that the words are, if they are one.
     pub(crate) fn command(&self) -> Option<Command<'_>>
-        ensures command { option_map asked result ≡ command self.now }
-        ensures chunk { IfSome result AsksChunk }
+        ensures command { option_map command_of result ≡ command self.now }
+        ensures chunk { IfSome result HasChunk }
     {
         match self.items.as_slice() {
             [word] => short_command(word.as_str()),
             [verb, idl, acf] => compile_command(verb.as_str(), idl.as_str(), acf.as_str()),
             [verb, idl, acf, op, side, order] => {
                 if verb.as_str() == "decode" {
-                    work(
-                        decoding(order.as_str()),
+                    decode_command(
                         idl.as_str(),
-                        acf_named(acf.as_str()),
+                        acf.as_str(),
                         op.as_str(),
                         side_named(side.as_str()),
+                        order_named(order.as_str()),
                     )
                 } else {
                     None
@@ -72,12 +71,13 @@ impl Words {
             }
             [verb, idl, acf, op, side, order, chunk] => {
                 if verb.as_str() == "encode" {
-                    work(
-                        encoding(order.as_str(), chunk.as_str()),
+                    encode_command(
                         idl.as_str(),
-                        acf_named(acf.as_str()),
+                        acf.as_str(),
                         op.as_str(),
                         side_named(side.as_str()),
+                        order_named(order.as_str()),
+                        chunk_named(chunk.as_str()),
                     )
                 } else {
                     None
@@ -88,15 +88,50 @@ impl Words {
     }
 }
 
+// How the octets of the input are read.
+#[derive(Clone, Copy, Debug, PartialEq, Eq)]
+pub(crate) enum Reading {
+    // Their values are written as text.
+    Decode,
+}
+
+// The order of octets that a command names.
+#[derive(Clone, Copy, Debug, PartialEq, Eq)]
+pub(crate) enum OrderWord {
+    Fixed(Order),
+}
+
+impl OrderWord {
+    pub(crate) fn order(self) -> Order
+        ensures { result ≡ order_in self }
+    {
+        match self {
+            OrderWord::Fixed(order) => order,
+        }
+    }
+}
+
+// What a command on values speaks of: the files, an operation of their interface, and a side of it.
+#[derive(Clone, Copy)]
+pub(crate) struct Subject<'a> {
+    pub(crate) idl: &'a str,
+    pub(crate) acf: Option<&'a str>,
+    pub(crate) op: &'a str,
+    pub(crate) side: Side,
+}
+
 // What a command line asks for.
 #[derive(Clone, Copy)]
 pub(crate) enum Command<'a> {
-    Work {
-        task: Task,
-        idl: &'a str,
-        acf: Option<&'a str>,
-        op: &'a str,
-        side: Side,
+    Read {
+        how: Reading,
+        of: Subject<'a>,
+        order: OrderWord,
+    },
+    Encode {
+        of: Subject<'a>,
+        order: OrderWord,
+        chunk: u32,
     },
     Compile {
         idl: &'a str,
@@ -107,8 +142,8 @@ pub(crate) enum Command<'a> {
 }
 
 fn short_command(word: &str) -> Option<Command<'_>>
-    ensures command { option_map asked result ≡ command (word.now ∷ []) }
-    ensures chunk { IfSome result AsksChunk }
+    ensures command { option_map command_of result ≡ command (word.now ∷ []) }
+    ensures chunk { IfSome result HasChunk }
 {
     if word == "--help" {
         Some(Command::Help)
@@ -120,8 +155,8 @@ fn short_command(word: &str) -> Option<Command<'_>>
 }
 
 fn compile_command<'a>(verb: &str, idl: &'a str, acf: &'a str) -> Option<Command<'a>>
-    ensures command { option_map asked result ≡ command (verb.now ∷ idl.now ∷ acf.now ∷ []) }
-    ensures chunk { IfSome result AsksChunk }
+    ensures command { option_map command_of result ≡ command (verb.now ∷ idl.now ∷ acf.now ∷ []) }
+    ensures chunk { IfSome result HasChunk }
 {
     if verb == "compile" {
         Some(Command::Compile {
@@ -133,49 +168,58 @@ fn compile_command<'a>(verb: &str, idl: &'a str, acf: &'a str) -> Option<Command
     }
 }
 
-// The command of a task and a side, where there are ones.
-fn work<'a>(
-    task: Option<Task>,
+// `decode`, if its words are a side and an order.
+fn decode_command<'a>(
     idl: &'a str,
-    acf: Option<&'a str>,
+    acf: &'a str,
     op: &'a str,
     side: Option<Side>,
+    order: Option<OrderWord>,
 ) -> Option<Command<'a>>
-    requires chunk { IfSome task HasChunk }
-    ensures command { option_map asked result ≡ work_of task idl.now (option_map (λ a. a.now) acf.entry) op.now side }
-    ensures chunk { IfSome result AsksChunk }
+    ensures command { option_map command_of result ≡ decode_of idl.now acf.now op.now side order }
+    ensures chunk { IfSome result HasChunk }
 {
-    match (task, side) {
-        (Some(task), Some(side)) => Some(Command::Work {
-            task,
-            idl,
-            acf,
-            op,
-            side,
+    match (side, order) {
+        (Some(side), Some(order)) => Some(Command::Read {
+            how: Reading::Decode,
+            of: subject_named(idl, acf, op, side),
+            order,
         }),
         _ => None,
     }
 }
 
-// The decoding that a word asks for.
-fn decoding(order: &str) -> Option<Task>
-    ensures task { result ≡ decoding_of (order_of order.now) }
+// `encode`, if its words are a side, an order and the number of elements of a chunk.
+fn encode_command<'a>(
+    idl: &'a str,
+    acf: &'a str,
+    op: &'a str,
+    side: Option<Side>,
+    order: Option<OrderWord>,
+    chunk: Option<u32>,
+) -> Option<Command<'a>>
+    requires { IfSome chunk (λ n. 1 ≤ n) }
+    ensures command { option_map command_of result ≡ encode_of idl.now acf.now op.now side order chunk }
     ensures chunk { IfSome result HasChunk }
 {
-    match order_named(order) {
-        Some(order) => Some(Task::Decode { order }),
-        None => None,
+    match (side, order, chunk) {
+        (Some(side), Some(order), Some(chunk)) => Some(Command::Encode {
+            of: subject_named(idl, acf, op, side),
+            order,
+            chunk,
+        }),
+        _ => None,
     }
 }
 
-// The encoding that two words ask for.
-fn encoding(order: &str, chunk: &str) -> Option<Task>
-    ensures task { result ≡ encoding_of (order_of order.now) (chunk_of chunk.now) }
-    ensures chunk { IfSome result HasChunk }
+fn subject_named<'a>(idl: &'a str, acf: &'a str, op: &'a str, side: Side) -> Subject<'a>
+    ensures { subject_of result ≡ subject_by idl.now acf.now op.now side }
 {
-    match (order_named(order), chunk_named(chunk)) {
-        (Some(order), Some(chunk)) => Some(Task::Encode { order, chunk }),
-        _ => None,
+    Subject {
+        idl,
+        acf: acf_named(acf),
+        op,
+        side,
     }
 }
 
@@ -187,12 +231,12 @@ fn acf_named(word: &str) -> Option<&str>
 }
 
 // The order of octets that a word names.
-fn order_named(word: &str) -> Option<Order>
+fn order_named(word: &str) -> Option<OrderWord>
     ensures { result ≡ order_of word.now }
 {
     match word {
-        "little" => Some(Order::Little),
-        "big" => Some(Order::Big),
+        "little" => Some(OrderWord::Fixed(Order::Little)),
+        "big" => Some(OrderWord::Fixed(Order::Big)),
         _ => None,
     }
 }
@@ -219,7 +263,7 @@ fn chunk_named(word: &str) -> Option<u32>
     }
 }
 
-// A number, where its digits are the word and a chunk may have so many elements.
+// A number, if its digits are the word and a chunk may have so many elements.
 fn chunk_of_digits(word: &str, number: u32) -> Option<u32>
     ensures number { result ≡ chunk_by word.now number }
     ensures some { IfSome result (λ n. 1 ≤ n) }

@@ -41,19 +41,19 @@ use Rattle.nd_grammar.specs.Chosen.{Chosen, octets_from, pipe_cuts, cut_within}
 use Rattle.nd_graph.specs.Same.{Same}
 use Rattle.nd_grammar.proofs.OneGraph.{IsSpelled, one_spelled}
 use Rattle.std.proofs.lemmas.List.{append-nil}
-use Rattle.nd_grammar.proofs.GoodEntries.{IsNoPipe, HoldsNoPipe}
-use Rattle.nd_grammar.proofs.GoodStream.{PendingGood, StandsGood, DueGood, standing_due, pending_cell, root_good, roots_due}
-use Rattle.nd_grammar.proofs.LegalPipes.{holds_no_pipe, plain_before}
+use Rattle.nd_grammar.proofs.conforming.GoodEntries.{IsNoPipe, HoldsNoPipe}
+use Rattle.nd_grammar.proofs.conforming.GoodStream.{PendingGood, StandsGood, DueGood, standing_due, pending_cell, root_good, roots_due}
+use Rattle.nd_grammar.proofs.legal.LegalPipes.{holds_no_pipe, plain_before}
 use Rattle.nd_grammar.proofs.LegalSides.{laid_out}
-use Rattle.nd_grammar.proofs.Mapped.{no_pointers}
-use Rattle.nd_grammar.proofs.NextPipes.{sum_first, count_drop}
-use Rattle.nd_grammar.proofs.NextStream.{IsPipeRoot, FitsPipes, drop_at}
-use Rattle.nd_grammar.proofs.StreamConforming.{pipe_label as label_is}
-use Rattle.nd_grammar.proofs.EntriesFine.{Fine, FullOk, fine_tests, fine_whole, fine_in_place, full_fine}
-use Rattle.nd_grammar.proofs.ReaderTests.{IsTest, root_tests_are, tests_fine}
-use Rattle.nd_grammar.proofs.CanonNumbers.{canon_range, canon_apart}
-use Rattle.nd_grammar.proofs.WrittenEntries.{Counted, CanWrite, Writable, AreWritten, entries_written}
-use Rattle.nd_grammar.proofs.WritableTrees.{IsWritable, WritableTrees, writable_trees, PointerCounted, writable_tests, in_place_writable, whole_writable}
+use Rattle.nd_grammar.proofs.next.Mapped.{no_pointers}
+use Rattle.nd_grammar.proofs.next.NextPipes.{sum_first, count_drop}
+use Rattle.nd_grammar.proofs.next.NextStream.{IsPipeRoot, FitsPipes, drop_at}
+use Rattle.nd_grammar.proofs.conforming.StreamConforming.{pipe_label as label_is}
+use Rattle.nd_grammar.proofs.reader.EntriesFine.{Fine, FullOk, fine_tests, fine_whole, fine_in_place, full_fine}
+use Rattle.nd_grammar.proofs.reader.ReaderTests.{IsTest, root_tests_are, tests_fine}
+use Rattle.nd_grammar.proofs.written.CanonNumbers.{canon_range, canon_apart}
+use Rattle.nd_grammar.proofs.written.WrittenEntries.{Counted, CanWrite, Writable, AreWritten, entries_written}
+use Rattle.nd_grammar.proofs.written.WritableTrees.{IsWritable, WritableTrees, writable_trees, PointerCounted, writable_tests, in_place_writable, whole_writable}
 
 -- the counts of chunks that are written
 cut_sum : (fuel k n : ℕ) → 0 < k → n ≤ fuel → sum (cut_within fuel k n) ≡ n

@@ -14,13 +14,13 @@ use Rattle.nd_grammar.specs.LegalSide.{IsLegalSide}
 use Rattle.nd_grammar.specs.Represents.{Represents, IsRendered}
 use Rattle.nd_grammar.specs.Refusal.{Accepts}
 use Rattle.nd_grammar.specs.Bad.{Bad}
-use Rattle.nd_grammar.proofs.Spelt.{carried_on, carried_low, carried_one, cells_in, all_spelt_carried, spelt_in_more}
-use Rattle.nd_grammar.proofs.NextStream.{IsLaidOut}
+use Rattle.nd_grammar.proofs.next.Spelt.{carried_on, carried_low, carried_one, cells_in, all_spelt_carried, spelt_in_more}
+use Rattle.nd_grammar.proofs.next.NextStream.{IsLaidOut}
 use Rattle.nd_grammar.proofs.LegalSides.{laid_out}
-use Rattle.nd_grammar.proofs.LegalPipes.{holds_no_pipe, plain_before}
-use Rattle.nd_grammar.proofs.GoodEntries.{GoodEntry}
-use Rattle.nd_grammar.proofs.GoodStream.{good_stream}
-use Rattle.nd_grammar.proofs.Accepted.{accepted}
+use Rattle.nd_grammar.proofs.legal.LegalPipes.{holds_no_pipe, plain_before}
+use Rattle.nd_grammar.proofs.conforming.GoodEntries.{GoodEntry}
+use Rattle.nd_grammar.proofs.conforming.GoodStream.{good_stream}
+use Rattle.nd_grammar.proofs.conforming.Accepted.{accepted}
 use Rattle.nd_grammar.proofs.OneRefusal.{bad_excludes}
 
 module _ (w : Setting) (side : IsLegalSide w) (order : Order) where

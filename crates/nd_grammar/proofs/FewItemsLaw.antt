@@ -26,15 +26,15 @@ use Rattle.nd_grammar.specs.FewItems.{item_count}
 use Rattle.nd_grammar.specs.LegalSide.{IsLegalSide}
 use Rattle.nd_grammar.specs.Represents.{Represents}
 use Rattle.nd_grammar.specs.Stream.{step_entries, root_tests, pipes_entries}
-use Rattle.nd_grammar.proofs.Counting.{no_longer, down, length_down, down_distinct}
-use Rattle.nd_grammar.proofs.GoodEntries.{HoldsNoPipe}
-use Rattle.nd_grammar.proofs.GoodStream.{DueGood, roots_due}
-use Rattle.nd_grammar.proofs.GoodTrees.{GoodTrees, good_roots}
+use Rattle.nd_grammar.proofs.next.Counting.{no_longer, down, length_down, down_distinct}
+use Rattle.nd_grammar.proofs.conforming.GoodEntries.{HoldsNoPipe}
+use Rattle.nd_grammar.proofs.conforming.GoodStream.{DueGood, roots_due}
+use Rattle.nd_grammar.proofs.conforming.GoodTrees.{GoodTrees, good_roots}
 use Rattle.nd_grammar.proofs.ItemSizes.{numbers, numbers_append, items_size}
-use Rattle.nd_grammar.proofs.LegalPipes.{holds_no_pipe, plain_before}
+use Rattle.nd_grammar.proofs.legal.LegalPipes.{holds_no_pipe, plain_before}
 use Rattle.nd_grammar.proofs.LegalSides.{laid_out}
-use Rattle.nd_grammar.proofs.Mapped.{pipe_pointers}
-use Rattle.nd_grammar.proofs.NextStream.{IsLaidOut, IsPipeRoot, drop_at, all_at}
+use Rattle.nd_grammar.proofs.next.Mapped.{pipe_pointers}
+use Rattle.nd_grammar.proofs.next.NextStream.{IsLaidOut, IsPipeRoot, drop_at, all_at}
 use Rattle.nd_grammar.proofs.Placed.{all_placed, few_placed, made, made_numbers, covered, DueCovered, Covers, among_split, own}
 
 down_in : (n c : ℕ) → Among (down n) c → (0 < c) × (c ≤ n)

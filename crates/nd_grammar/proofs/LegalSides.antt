@@ -35,8 +35,8 @@ use Rattle.nd_graph.specs.Fitting.{setting_of}
 use Rattle.nd_graph.proofs.NodeFacts.{all_of_list}
 use Rattle.nd_graph.proofs.Apart.{all_append, all_left, all_right, all_weaker}
 use Rattle.nd_grammar.specs.LegalSide.{IsLegalSide}
-use Rattle.nd_grammar.proofs.HoistedMaxes.{OnlyLast, HoistsLast}
-use Rattle.nd_grammar.proofs.NextStream.{IsPipeRoot, IsLaidOut, FitsPipes}
+use Rattle.nd_grammar.proofs.next.HoistedMaxes.{OnlyLast, HoistsLast}
+use Rattle.nd_grammar.proofs.next.NextStream.{IsPipeRoot, IsLaidOut, FitsPipes}
 
 only_last : (table : Table) (ms : List Field) → only_last_hoists table ms ≡ true → OnlyLast (hoists table) (map (λ f. f.of.0) ms)
 only_last table [] h = tt

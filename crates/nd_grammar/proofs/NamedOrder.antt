@@ -40,17 +40,17 @@ use Rattle.nd_types.specs.declared.types.Operation.{Operation}
 use Rattle.nd_types.specs.Legal.{IsLegal, has_small_bound}
 use Rattle.nd_types.proofs.LegalLaws.{passes_at}
 use Rattle.nd_grammar.proofs.LegalSides.{laid_out}
-use Rattle.nd_grammar.proofs.LegalSubjects.{has_subjects}
-use Rattle.nd_grammar.proofs.PointerPlaces.{root_there}
-use Rattle.nd_grammar.proofs.StreamFinds.{PendFits, Whole, root_whole, cell_whole, standing_pends, no_root_tests}
-use Rattle.nd_grammar.proofs.TestsFind.{HasSubjects}
-use Rattle.nd_grammar.proofs.Matching.{Known}
-use Rattle.nd_grammar.proofs.NextInPlace.{View, view, v_prim, v_enum, v_struct, v_array, v_text, v_union, v_pointer, v_context, v_unread}
-use Rattle.nd_grammar.proofs.NextStream.{IsLaidOut, IsPipeRoot, FitsPipes, drop_at, all_at}
-use Rattle.nd_grammar.proofs.HoistedMaxes.{HoistsLast}
-use Rattle.nd_grammar.proofs.KnownNodes.{known_cells, known_roots}
-use Rattle.nd_grammar.proofs.Mapped.{no_pointers}
-use Rattle.nd_grammar.proofs.CanonNumbers.{has_among, among_has}
+use Rattle.nd_grammar.proofs.agreements.LegalSubjects.{has_subjects}
+use Rattle.nd_grammar.proofs.next.PointerPlaces.{root_there}
+use Rattle.nd_grammar.proofs.agreements.StreamFinds.{PendFits, Whole, root_whole, cell_whole, standing_pends, no_root_tests}
+use Rattle.nd_grammar.proofs.agreements.TestsFind.{HasSubjects}
+use Rattle.nd_grammar.proofs.next.Matching.{Known}
+use Rattle.nd_grammar.proofs.next.NextInPlace.{View, view, v_prim, v_enum, v_struct, v_array, v_text, v_union, v_pointer, v_context, v_unread}
+use Rattle.nd_grammar.proofs.next.NextStream.{IsLaidOut, IsPipeRoot, FitsPipes, drop_at, all_at}
+use Rattle.nd_grammar.proofs.next.HoistedMaxes.{HoistsLast}
+use Rattle.nd_grammar.proofs.next.KnownNodes.{known_cells, known_roots}
+use Rattle.nd_grammar.proofs.next.Mapped.{no_pointers}
+use Rattle.nd_grammar.proofs.written.CanonNumbers.{has_among, among_has}
 use Rattle.nd_grammar.proofs.ChosenRepresents.{of_named}
 
 -- ## Lists of cells that differ by repetitions
@@ -69,8 +69,12 @@ then_repeats known ns [] cs ds r k =
     subst (λ u. Repeats known (u ++ cs) ds) (sym r) (k known (λ x m. m) (λ x m. absurd (subst (λ u. Among u x) r m)))
 then_repeats known ns (b ∷ bs) cs ds (inl (m, r)) k = inl (m, then_repeats known ns bs cs ds r k)
 then_repeats known ns (b ∷ bs) cs ds (inr (rest, e, r)) k =
-    inr (rest ++ cs, ap (λ u. u ++ cs) e, then_repeats (b ∷ known) rest bs cs ds r (λ later w v.
-    k later (λ x m. w x (inr m)) (λ x m. among_b later x w v (subst (λ u. Among u x) e m))))
+    inr (
+      rest ++ cs,
+      ap (λ u. u ++ cs) e,
+      then_repeats (b ∷ known) rest bs cs ds r (λ later w v.
+          k later (λ x m. w x (inr m)) (λ x m. among_b later x w v (subst (λ u. Among u x) e m))),
+    )
   where
     among_b : (later : List ℕ) (x : ℕ) → Within (b ∷ known) later → Within rest later → Among (b ∷ rest) x → Among later x
     among_b later x w v (inl e) = w x (inl e)
@@ -319,7 +323,7 @@ module _ (table : Table) (laid : HoistsLast table) (elements : HasElements table
         target o ++ in_kinds xs,
         refl,
         then_repeats (c ∷ known) (target o) (target o) (in_kinds xs) (cells_met (entries h n xs)) (self (c ∷ known) o) (λ later w v.
-        kinds_repeat table h later (more_known table h (c ∷ known) later w (now_known known)) n xs),
+            kinds_repeat table h later (more_known table h (c ∷ known) later w (now_known known)) n xs),
       )
 
   -- elements of an array that has nothing before them
@@ -681,7 +685,7 @@ module _ (w : Setting) (g : Graph) (s : IsSound w g) (laid : IsLaidOut w) (subje
           (inr (
             known_roots w g s j r e,
             subst (λ t. Within (own_cell (standing_by g j t (root_at g j) (direct (type_at table t) (root_at g j))).home
-            ++ named table (standing_by g j t (root_at g j) (direct (type_at table t) (root_at g j)))) later) (ap root_type e) m,
+                ++ named table (standing_by g j t (root_at g j) (direct (type_at table t) (root_at g j)))) later) (ap root_type e) m,
           ))
       ready later met j r e (inr h) =
           let k : n + (j - n) ≡ j = omega arith in

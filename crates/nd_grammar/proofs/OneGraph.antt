@@ -11,12 +11,12 @@ use Rattle.nd_grammar.specs.Entry.{Entry, end_to_end, end_of, full_cells}
 use Rattle.nd_grammar.specs.Stream.{Stream}
 use Rattle.nd_grammar.specs.LegalSide.{IsLegalSide}
 use Rattle.nd_grammar.specs.Represents.{Represents, IsRendered, IsNumbering}
-use Rattle.nd_grammar.proofs.Next.{Readings}
-use Rattle.nd_grammar.proofs.Standings.{IsMap}
-use Rattle.nd_grammar.proofs.NextStream.{IsLaidOut, AreMapped, streams_next}
+use Rattle.nd_grammar.proofs.next.Next.{Readings}
+use Rattle.nd_grammar.proofs.next.Standings.{IsMap}
+use Rattle.nd_grammar.proofs.next.NextStream.{IsLaidOut, AreMapped, streams_next}
 use Rattle.nd_grammar.proofs.LegalSides.{laid_out}
-use Rattle.nd_grammar.proofs.Spelt.{carried_on, carried_low, carried_one, cells_in, all_spelt_carried, spelt_whole, spelt_in_more}
-use Rattle.nd_grammar.proofs.SameByMap.{same_by_map}
+use Rattle.nd_grammar.proofs.next.Spelt.{carried_on, carried_low, carried_one, cells_in, all_spelt_carried, spelt_whole, spelt_in_more}
+use Rattle.nd_grammar.proofs.next.SameByMap.{same_by_map}
 
 -- two readings of the same octets, their numberings carried on to all cells
 abbrev pub readings : Order → List ℕ → (nums : ℕ → ℕ) (cells : List ℕ) → IsNumbering nums cells → (nums' : ℕ → ℕ) (cells' : List ℕ) → IsNumbering nums' cells' → Readings

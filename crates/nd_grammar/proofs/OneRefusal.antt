@@ -19,11 +19,11 @@ use Rattle.nd_grammar.specs.Represents.{IsRendered, Represents, piece}
 use Rattle.nd_grammar.specs.Refusal.{refusal, kind_refusal, refused_if, is_long, Accepts}
 use Rattle.nd_grammar.specs.Bad.{Bad}
 use Rattle.nd_grammar.specs.LegalSide.{IsLegalSide}
-use Rattle.nd_grammar.proofs.Next.{IsUnread, Pair, OneToOne, Readings, Next}
-use Rattle.nd_grammar.proofs.Spelt.{carried_on, cells_in, all_spelt_carried, not_spelt, same_size, spelt_in_more}
-use Rattle.nd_grammar.proofs.RefusedAlike.{AllSeenAlike, seen_grown, seen_more, refusals_alike}
-use Rattle.nd_grammar.proofs.Standings.{IsMap}
-use Rattle.nd_grammar.proofs.NextStream.{AreMapped, streams_next}
+use Rattle.nd_grammar.proofs.next.Next.{IsUnread, Pair, OneToOne, Readings, Next}
+use Rattle.nd_grammar.proofs.next.Spelt.{carried_on, cells_in, all_spelt_carried, not_spelt, same_size, spelt_in_more}
+use Rattle.nd_grammar.proofs.next.RefusedAlike.{AllSeenAlike, seen_grown, seen_more, refusals_alike}
+use Rattle.nd_grammar.proofs.next.Standings.{IsMap}
+use Rattle.nd_grammar.proofs.next.NextStream.{AreMapped, streams_next}
 use Rattle.nd_grammar.proofs.LegalSides.{laid_out}
 use Rattle.nd_grammar.proofs.OneGraph.{readings}
 

@@ -13,8 +13,8 @@ use Rattle.nd_graph.specs.Conforms.{Conforms}
 use Rattle.nd_graph.proofs.DeferralLaws.{full_stands}
 use Rattle.nd_graph.proofs.Apart.{all_append, all_right, among_left, among_right}
 use Rattle.nd_grammar.specs.Stream.{step_entries, standing_entries, step_tests}
-use Rattle.nd_grammar.proofs.GoodEntries.{HoldsNoPipe}
-use Rattle.nd_grammar.proofs.GoodStream.{StandsGood, DueGood, standing_due, pending_cell, root_good}
+use Rattle.nd_grammar.proofs.conforming.GoodEntries.{HoldsNoPipe}
+use Rattle.nd_grammar.proofs.conforming.GoodStream.{StandsGood, DueGood, standing_due, pending_cell, root_good}
 use Rattle.nd_grammar.proofs.ItemSizes.{numbers, numbers_append, whole_numbers}
 
 abbrev pub own : Home → List ℕ

@@ -17,7 +17,7 @@ use Rattle.nd_grammar.specs.Represents.{IsRendered}
 use Rattle.nd_grammar.specs.Refusal.{Accepts, refusal, refused_if}
 use Rattle.nd_grammar.specs.Bad.{Bad}
 use Rattle.nd_grammar.specs.Plain.{AreInRange, IsPlain, plain_graph, numbers_at, with}
-use Rattle.nd_grammar.proofs.Ranges.{piece_in_range}
+use Rattle.nd_grammar.proofs.reader.Ranges.{piece_in_range}
 use Rattle.nd_grammar.proofs.Plain.{plain_entries, numbers_stream, no_cells}
 use Rattle.nd_grammar.proofs.PlainConforms.{plain_partial, plain_lengths}
 use Rattle.nd_grammar.proofs.PlainSteps.{number_small}

@@ -18,7 +18,7 @@ use Rattle.nd_types.specs.Number.{AreOctets}
 use Rattle.nd_grammar.specs.Represents.{IsRendered, Represents}
 use Rattle.nd_grammar.specs.Prefix.{BeginsWith}
 use Rattle.nd_grammar.specs.Plain.{ArePlain, AreInRange, IsPlain, plain_graph, numbers_at, plain_end, with, AreNumbersOf}
-use Rattle.nd_grammar.proofs.Ranges.{piece_in_range}
+use Rattle.nd_grammar.proofs.reader.Ranges.{piece_in_range}
 use Rattle.nd_grammar.proofs.Plain.{plain_represents}
 use Rattle.nd_grammar.proofs.PlainConforms.{AreNumbered, plain_conforms, conforming_is}
 use Rattle.nd_grammar.proofs.PlainSteps.{start_of, end_of_number, number_there, numbers_step, numbers_same, numbers_end, end_small}

@@ -23,8 +23,8 @@ use Rattle.nd_graph.proofs.Apart.{all_left, all_right}
 use Rattle.nd_grammar.specs.Entry.{Kind, Entry, size_at}
 use Rattle.nd_grammar.specs.InPlace.{before_children, entries, counts, tag_entries, in_place, tests, own_tests, child_tests, hoisted, hoisted_max, own_max, whole_value}
 use Rattle.nd_grammar.specs.Chosen.{octets_of, octets_from}
-use Rattle.nd_grammar.proofs.Matching.{bare, number_same, child_agreements_same, pointer_bare, through}
-use Rattle.nd_grammar.proofs.NextPending.{types_same}
+use Rattle.nd_grammar.proofs.next.Matching.{bare, number_same, child_agreements_same, pointer_bare, through}
+use Rattle.nd_grammar.proofs.next.NextPending.{types_same}
 
 module _ (m : ℕ → ℕ) where
   bare_same : (l : Label) → bare l ≡ bare (renumbered_label m l)

@@ -20,7 +20,7 @@ use Rattle.nd_grammar.specs.LegalSide.{IsLegalSide}
 use Rattle.nd_grammar.specs.Represents.{piece, IsRendered, Represents}
 use Rattle.nd_grammar.specs.Refusal.{refusal, kind_refusal, refused_if, is_long, is_other, other_pointee, Accepts}
 use Rattle.nd_grammar.specs.Bad.{Bad}
-use Rattle.nd_grammar.proofs.Spelt.{piece_left, spelt_in_more}
+use Rattle.nd_grammar.proofs.next.Spelt.{piece_left, spelt_in_more}
 use Rattle.nd_grammar.proofs.Excluded.{excluded}
 
 module _ (order : Order) (octets more : List ℕ) where

@@ -8,12 +8,7 @@ pub mod Items
 pub mod Chosen
 pub mod Prefix
 pub mod Plain
-pub mod Examples
 pub mod ExampleParts
-pub mod ExamplesPlain
-pub mod ExamplesPointers
-pub mod ExamplesArrays
-pub mod ExamplesUnions
 pub mod Primitives
 pub mod LegalSide
 pub mod NextMark

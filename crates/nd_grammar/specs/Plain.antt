@@ -11,8 +11,6 @@ use Rattle.nd_graph.specs.declared.value.Graph.{Graph}
 use Rattle.nd_graph.specs.Tree as tree
 use Rattle.nd_graph.specs.Tree.{Tree, node, none}
 use Rattle.nd_graph.specs.Setting.{Setting, root_list}
-use Rattle.nd_grammar.specs.declared.reason.Reason.{Reason}
-use Rattle.nd_grammar.specs.declared.reason.Reason.TheVariants.{Truncated}
 use Rattle.nd_grammar.specs.Entry.{gap}
 use Rattle.nd_types.specs.Number.{value_of_octets, written}
 
@@ -73,9 +71,3 @@ pub record AreNumbersOf (order : Order) (ps : List Primitive) (octets : List ℕ
   pub read : numbers_at order ps 0 octets ≡ Some numbers
   pub ends : n ≡ plain_end ps 0
   pub graph : g ≡ plain_graph numbers
-
--- The octets are too short for the numbers, and that is the refusal: Truncated, at their end.
-pub record AreCutShort (order : Order) (ps : List Primitive) (octets : List ℕ) (place : ℕ) (why : Reason) : Type 0 where
-  pub short : numbers_at order ps 0 octets ≡ None
-  pub at_end : place ≡ length octets
-  pub truncated : why ≡ Truncated

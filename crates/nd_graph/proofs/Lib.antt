@@ -8,6 +8,7 @@ pub mod Misfits
 pub mod NodeFacts
 pub mod Orderly
 pub mod PlainFit
+pub mod SameCells
 pub mod SimpleCells
 pub mod Told
 pub mod Waiting

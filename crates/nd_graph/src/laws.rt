@@ -9,6 +9,7 @@ ghost use Rattle.nd_types.specs.Numbers.{has_number_roots};
 ghost use Rattle.nd_types.specs.Plain.{IsPlainInterface};
 ghost use Rattle.nd_graph.specs.Simple.{has_simple_cells};
 ghost use Rattle.nd_graph.specs.declared.value.Graph.{Graph};
+ghost use Rattle.nd_graph.specs.Same.{Same};
 ghost use Rattle.nd_graph.specs.Setting.{Setting};
 ghost use Rattle.nd_graph.specs.Homes.{all_nodes, all_pointers};
 ghost use Rattle.nd_graph.specs.Misfit.{has_machine_values};
@@ -51,4 +52,10 @@ pub fn plain_exact()
     ensures { (i : Interface) (op : ℕ) (o : Operation) (s : Side) (g : Graph) → IsPlainInterface i.types i.operations
         → slice_get i.operations op ≡ Some o → ((m : MisfitAt) → ¬ IsFirstMisfit (setting_of i o s) g m)
         → length g.cells < 2 ^ 32 → HasFewNodes g → Conforms (setting_of i o s) g }
+{}
+
+/// A graph is the same as itself; and one without cells is the same as no other, whatever its pointers name.
+pub fn same_relates_cells()
+    ensures itself { (g : Graph) → Same g g }
+    ensures without_cells { (g h : Graph) → g.cells ≡ [] → Same g h → g ≡ h }
 {}

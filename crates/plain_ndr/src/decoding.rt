@@ -9,7 +9,7 @@ ghost use Rattle.plain_ndr.specs.Decoding.{IsFault};
 
 use crate::numbers::{NumbersFault, read_numbers};
 use crate::primitives::primitives;
-use nd_base::Order;
+use nd_base::{Memory, Order};
 use nd_grammar::Reason;
 use nd_graph::{Cells, Fit, Graph};
 use nd_types::{Interface, Side};
@@ -37,6 +37,17 @@ pub enum DecodeFault {
     Bad { place: u32, reason: Reason },
 }
 
+impl From<Memory> for DecodeFault {
+    ghost use Rattle.std.specs.Prelude.{◌≡◌};
+    ghost use Rattle.plain_ndr.specs.declared.decoding.DecodeFault.TheVariants as fault;
+
+    ghost from_gives = { λ _ e. e ≡ fault.Memory };
+
+    fn from(_: Memory) -> DecodeFault {
+        DecodeFault::Memory
+    }
+}
+
 /// Decodes the values of a side of an operation from the front of octets, which begin at the beginning of its stream (C706, 14.2 and
 /// 14.4): one number for each root, each at the next multiple of its width.
 ///
@@ -60,10 +71,7 @@ pub fn decode(
     ensures refused { IfErr result (λ e. (o : Operation) → slice_get interface.now.operations op ≡ Some o
         → IsFault (setting_of interface.now o side) order octets.now e) }
 {
-    let prims = match primitives(alloc, interface, op, side) {
-        Ok(prims) => prims,
-        Err(_) => return Err(DecodeFault::Memory),
-    };
+    let prims = primitives(alloc, interface, op, side)?;
     match read_numbers(alloc, order, prims.as_slice(), octets) {
         Ok((roots, taken)) => {
             let cells = Cells::new(alloc);

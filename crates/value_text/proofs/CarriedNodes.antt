@@ -1,10 +1,10 @@
 -- For graphs that are the same up to the numbers of their cells: where one conforms, the nodes of the other have the forms of a text.
 -- `d` is a node's type, `l` its label, `ks` are its children, `m` carries numbers of cells.
-use Rattle.std.proofs.Common.{◌≡◌, ℕ, zero, suc, ◌+◌, ◌-◌, ◌<◌, ◌≤◌, ◌^◌, ℤ, pos, negsuc, Bool, true, false, not, ◌&&◌, ◌||◌, eqb, ltb, List, [], ◌∷◌, ◌++◌, length, map, Option, Some, None, refl, ap, sym, ◌∙◌, subst, arith, lit<, int_le, unsigned_abs, inl, inr}
+use Rattle.std.proofs.Common.{◌≡◌, ℕ, ◌+◌, ◌-◌, ◌<◌, ◌≤◌, ◌^◌, ℤ, pos, negsuc, Bool, true, false, not, ◌&&◌, ◌||◌, eqb, List, [], ◌∷◌, length, Option, Some, None, refl, ap, sym, ◌∙◌, subst, arith, lit<, int_le, unsigned_abs}
 use Rattle.std.specs.Ordering.{int_eq}
 use Rattle.std.specs.List.{list_all, list_any, AllByRecursion}
 use Rattle.std.proofs.lemmas.Int.{ints}
-use Rattle.std.proofs.lemmas.Bool.{and_parts, and_from, eqb-true, eq-eqb, ltb-true, lt-ltb, both_ways}
+use Rattle.std.proofs.lemmas.Bool.{and_parts, and_from, eqb-true, eq-eqb, ltb-true, lt-ltb}
 use Rattle.std.proofs.lemmas.Bool.Decides.{nat_tests, Decides-int_eq}
 use Rattle.nd_types.specs.declared.types.TypeDef.{TypeDef}
 use Rattle.nd_types.specs.declared.types.TypeDef.TheVariants as def
@@ -24,7 +24,7 @@ use Rattle.nd_graph.specs.Misfit.{has_shape, has_range, has_counts, has_arm, arm
 use Rattle.nd_graph.specs.Same.{renumbered, renumbered_label}
 use Rattle.nd_graph.proofs.Apart.{all_left, all_right, all_append}
 use Rattle.nd_graph.proofs.NodeFacts.{IsFit}
-use Rattle.nd_grammar.proofs.RenumberedEntries.{count_same, nodes_same, child_types_same}
+use Rattle.nd_grammar.proofs.RenumberedEntries.{count_same, child_types_same}
 use Rattle.value_text.specs.Readable.{has_text_form}
 use Rattle.value_text.proofs.GraphLines.{IsTextLabel}
 
@@ -186,6 +186,7 @@ module _ (table : Table) (small : list_all has_small_values table ≡ true) wher
         let c : (b : ℕ) → l ≡ tree.Ptr (Some b) → (0 < m b) × (m b < 2 ^ 32) = cells_within l f.cell in
         let kids : AllByRecursion Stands K' =
         subst (λ (u : List ℕ). AllByRecursion Stands (nodes_of table u (child_agreements d (renumbered m ks)) (n' + 1) (renumbered m ks))) (sym (child_types_same m d l ks))
-        (nodes_carried (child_types d l ks) (child_agreements d ks) (child_agreements d (renumbered m ks)) (n + 1) (n' + 1) ks (all_left Fine K R a.1)) in
-        ((form_carried m d l ks f.shape f.counts f.arm a.0.1 c, label_carried m t l ks f.shape f.range a.0.1 c),
-          all_append Stands K' R' kids (nodes_carried types (rest_agreements ags) (rest_agreements ags') (n + 1 + node_count ks) (n' + 1 + node_count (renumbered m ks)) ts (all_right Fine K R a.1)))
+        (nodes_carried (child_types d l ks) (child_agreements d ks) (child_agreements d (renumbered m ks)) (n + 1) (n' + 1) ks (all_left Fine K R a.1)) in (
+          (form_carried m d l ks f.shape f.counts f.arm a.0.1 c, label_carried m t l ks f.shape f.range a.0.1 c),
+          all_append Stands K' R' kids (nodes_carried types (rest_agreements ags) (rest_agreements ags') (n + 1 + node_count ks) (n' + 1 + node_count (renumbered m ks)) ts (all_right Fine K R a.1)),
+        )

@@ -1,9 +1,9 @@
 -- Which octets can begin what.
-use Rattle.std.proofs.Common.{◌≡◌, ◌≢◌, ℕ, ◌+◌, ◌-◌, ◌<◌, ◌≤◌, Bool, true, false, List, [], ◌∷◌, arith, eqb, not}
+use Rattle.std.proofs.Common.{◌≡◌, ℕ, ◌≤◌, true, arith}
 use Rattle.std.proofs.lemmas.Bool.Decides.{nat_tests}
 use Rattle.std.proofs.lemmas.Bool.{or_left, or_right}
 use Rattle.nd_base.specs.Text.{is_letter, is_digit, is_word_octet}
-use Rattle.value_text.specs.Tokens.{is_blank, is_mark}
+use Rattle.value_text.specs.Tokens.{is_mark}
 
 pub digit_word : (c : ℕ) → is_digit c ≡ true → is_word_octet c ≡ true
 digit_word c h = or_right (is_letter c) (is_digit c) h

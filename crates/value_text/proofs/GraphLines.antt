@@ -1,6 +1,6 @@
 -- The lines of a graph's text are kept: their tokens are tokens of a text, and a UUID stands exactly where one is due.
 -- `d` is a node's type, `l` its label, `values` are the pieces of values.
-use Rattle.std.proofs.Common.{◌≡◌, ℕ, suc, ◌+◌, ◌<◌, ◌≤◌, ◌^◌, ℤ, Bool, true, false, not, eqb, List, [], ◌∷◌, ◌++◌, length, map, Option, Some, None, refl, ap, sym, ◌∙◌, subst, arith, codes, lit<, unsigned_abs}
+use Rattle.std.proofs.Common.{◌≡◌, ℕ, ◌+◌, ◌<◌, ◌≤◌, ◌^◌, Bool, true, false, not, eqb, List, [], ◌∷◌, ◌++◌, length, map, Option, Some, None, refl, sym, subst, arith, codes, lit<, unsigned_abs}
 use Rattle.std.specs.Prelude.{pos}
 use Rattle.std.specs.List.{list_all, AllByRecursion}
 use Rattle.std.proofs.lemmas.List.{map-append}
@@ -27,12 +27,12 @@ use Rattle.nd_graph.specs.Misfit.{is_octet}
 use Rattle.nd_graph.proofs.Apart.{all_left, all_right}
 use Rattle.nd_graph.specs.Tree.{node_count}
 use Rattle.value_text.specs.declared.TheConstants.{TEXT_LIMIT}
-use Rattle.value_text.specs.Tokens.{Token, Word, Number, Cell, Str, Uuid, Mark, is_mark, skip}
-use Rattle.value_text.specs.Written.{Piece, Name, Other, token_of, separated, enclosed, named, members, node_pieces, values_pieces, value_pieces, side_word, root_name, root_lines, cell_lines, graph_lines}
+use Rattle.value_text.specs.Tokens.{Token, Word, Number, Cell, Str, Mark, is_mark}
+use Rattle.value_text.specs.Written.{Piece, Other, token_of, separated, enclosed, named, members, node_pieces, values_pieces, value_pieces, side_word, root_name, root_lines, cell_lines, graph_lines}
 use Rattle.value_text.specs.Printed.{graph_text}
 use Rattle.value_text.specs.Readable.{IsReadable}
 use Rattle.value_text.specs.Reads.{ReadsAs}
-use Rattle.value_text.proofs.KeptTokens.{Kept, KeptPieces, kept_none, kept_more, kept_both, kept_context, lines_read, AreRead, IsCalm, is_simple}
+use Rattle.value_text.proofs.KeptTokens.{Kept, KeptPieces, kept_none, kept_more, kept_both, kept_context, lines_read, is_simple}
 use Rattle.value_text.proofs.SpelledTokens.{IsToken}
 
 -- the numbers and octets of a label stand in a text
@@ -141,10 +141,11 @@ module _ (table : Table) (words : (t : ℕ) → HasWords (type_at table t)) wher
   values_kept (t ∷ types) agreements n (more (node l ks) ts) h =
       let P : TypedNode → Type 0 = λ (x : TypedNode). IsTextLabel x.label in
       let below : List TypedNode = nodes_of table (child_types (type_at table t) l ks) (child_agreements (type_at table t) ks) (n + 1) ks in
-      let later : List TypedNode = nodes_of table types (rest_agreements agreements) (n + 1 + node_count ks) ts in
-      (node_kept (type_at table t) l _ h.0 (words t)
-        (values_kept (child_types (type_at table t) l ks) (child_agreements (type_at table t) ks) (n + 1) ks (all_left P below later h.1)),
-        values_kept types (rest_agreements agreements) (n + 1 + node_count ks) ts (all_right P below later h.1))
+      let later : List TypedNode = nodes_of table types (rest_agreements agreements) (n + 1 + node_count ks) ts in (
+        node_kept (type_at table t) l _ h.0 (words t)
+            (values_kept (child_types (type_at table t) l ks) (child_agreements (type_at table t) ks) (n + 1) ks (all_left P below later h.1)),
+        values_kept types (rest_agreements agreements) (n + 1 + node_count ks) ts (all_right P below later h.1),
+      )
 
   value_kept : (t : ℕ) (agreements : List (List Agreement)) (v : Tree) → AllByRecursion (λ (x : TypedNode). IsTextLabel x.label) (nodes_of table (t ∷ []) agreements 0 (more v none)) → KeptPieces (value_pieces table t v)
   value_kept t agreements (node l ks) h = (values_kept (t ∷ []) agreements 0 (more (node l ks) none) h).0
@@ -173,20 +174,22 @@ module _ (w : Setting) (g : Graph) (h : HasTokens w g) where
   roots_kept i (r ∷ rs) [] n a = tt
   roots_kept i (r ∷ rs) (v ∷ vs) n a =
       let here : List TypedNode = governed_nodes w.table r.of (root_agreements w g r.vars) v in
-      let later : List HomeNode = root_nodes w g (i + 1) rs vs in
-      (named_kept (root_name w.op.params r) (value_pieces w.table r.of v) n.0
-        (value_kept w.table h.members r.of (root_agreements w g r.vars ∷ []) v (at_home (home.Root i) here (all_left HasTextLabel (map (in_home (home.Root i)) here) later a))),
-        roots_kept (i + 1) rs vs n.1 (all_right HasTextLabel (map (in_home (home.Root i)) here) later a))
+      let later : List HomeNode = root_nodes w g (i + 1) rs vs in (
+        named_kept (root_name w.op.params r) (value_pieces w.table r.of v) n.0
+            (value_kept w.table h.members r.of (root_agreements w g r.vars ∷ []) v (at_home (home.Root i) here (all_left HasTextLabel (map (in_home (home.Root i)) here) later a))),
+        roots_kept (i + 1) rs vs n.1 (all_right HasTextLabel (map (in_home (home.Root i)) here) later a),
+      )
 
   cells_kept : (c : ℕ) (xs : List Referent) → 0 < c → c + length xs ≤ 2 ^ 32 → AllByRecursion HasTextLabel (cell_nodes w.table c xs) → AllKept (cell_lines w.table c xs)
   cells_kept c [] some few a = tt
   cells_kept c (x ∷ xs) some few a =
       let here : List TypedNode = home_nodes w.table x.of x.val in
       let later : List HomeNode = cell_nodes w.table (c + 1) xs in
-      let value : List Token = map token_of (value_pieces w.table x.of x.val) in
-      (kept_more (Cell c) (Mark 61 ∷ value) (some, omega (arith, few)) refl
-        (kept_more (Mark 61) value refl refl (value_kept w.table h.members x.of [] x.val (at_home (cell_home c) here (all_left HasTextLabel (map (in_home (cell_home c)) here) later a)))),
-        cells_kept (c + 1) xs (omega arith) (omega (arith, few)) (all_right HasTextLabel (map (in_home (cell_home c)) here) later a))
+      let value : List Token = map token_of (value_pieces w.table x.of x.val) in (
+        kept_more (Cell c) (Mark 61 ∷ value) (some, omega (arith, few)) refl
+            (kept_more (Mark 61) value refl refl (value_kept w.table h.members x.of [] x.val (at_home (cell_home c) here (all_left HasTextLabel (map (in_home (cell_home c)) here) later a)))),
+        cells_kept (c + 1) xs (omega arith) (omega (arith, few)) (all_right HasTextLabel (map (in_home (cell_home c)) here) later a),
+      )
 
   side_is_word : (s : Side) → is_word (side_word s) ≡ true
   side_is_word side.In = refl
@@ -199,12 +202,15 @@ module _ (w : Setting) (g : Graph) (h : HasTokens w g) where
   lines_kept : AllKept (graph_lines w g)
   lines_kept =
       let roots : List HomeNode = root_nodes w g 0 (root_list w) g.roots in
-      let cells : List HomeNode = cell_nodes w.table 1 g.cells in
-      (kept_more (Word (codes "values")) (Number (pos 1) ∷ []) refl refl (one_kept (Number (pos 1)) (lit< tt) refl),
-        (kept_more (Word (codes "op")) (Word w.op.name ∷ Word (side_word w.side) ∷ []) refl refl (kept_more (Word w.op.name) (Word (side_word w.side) ∷ []) h.operation refl (one_kept (Word (side_word w.side)) (side_is_word w.side) refl)),
+      let cells : List HomeNode = cell_nodes w.table 1 g.cells in (
+        kept_more (Word (codes "values")) (Number (pos 1) ∷ []) refl refl (one_kept (Number (pos 1)) (lit< tt) refl),
+        (
+          kept_more (Word (codes "op")) (Word w.op.name ∷ Word (side_word w.side) ∷ []) refl refl (kept_more (Word w.op.name) (Word (side_word w.side) ∷ []) h.operation refl (one_kept (Word (side_word w.side)) (side_is_word w.side) refl)),
           both_kept (root_lines w.table w.op.params (root_list w) g.roots) (cell_lines w.table 1 g.cells)
-          (roots_kept 0 (root_list w) g.roots h.roots (all_left HasTextLabel roots cells h.labels))
-          (cells_kept 1 g.cells (omega arith) (omega (arith, h.few)) (all_right HasTextLabel roots cells h.labels))))
+              (roots_kept 0 (root_list w) g.roots h.roots (all_left HasTextLabel roots cells h.labels))
+              (cells_kept 1 g.cells (omega arith) (omega (arith, h.few)) (all_right HasTextLabel roots cells h.labels)),
+        ),
+      )
 
   -- What is printed of such a graph is read as it, where it stands in a text.
   pub text_reads : IsReadable w g → length (graph_text w g) ≤ TEXT_LIMIT → ReadsAs w (graph_text w g) g

@@ -1,6 +1,6 @@
 -- Printed tokens are read, one after the other: those of which each is a token, and a UUID exactly where one is due.
 -- `t` and `u` are tokens, `ts` and `us` lists of them, `before` are those before, the last first.
-use Rattle.std.proofs.Common.{◌≡◌, ◌≢◌, ℕ, zero, suc, ◌+◌, ◌<◌, ◌^◌, ℤ, Bool, true, false, not, ◌&&◌, ◌||◌, cond, eqb, List, [], ◌∷◌, ◌++◌, length, take, refl, ap, ap₂, sym, ◌∙◌, subst, append_assoc, append-nil, arith, codes}
+use Rattle.std.proofs.Common.{◌≡◌, ℕ, ◌<◌, ◌^◌, ℤ, Bool, true, false, not, ◌&&◌, ◌||◌, cond, eqb, List, [], ◌∷◌, ◌++◌, length, take, refl, ap, sym, ◌∙◌, subst, append_assoc, arith, codes}
 use Rattle.std.specs.Prelude.{map, flat_map, pos}
 use Rattle.std.specs.List.{list_all, AllByRecursion}
 use Rattle.std.specs.Str.{bytes_eq}
@@ -122,9 +122,10 @@ kept_both ts us j k before c =
 -- `ctx ( NUMBER , UUID )`
 pub kept_context : (n : ℕ) (id : List ℕ) → n < 2 ^ 32 → length id ≡ 16 → list_all is_octet id ≡ true
     → Kept (Word (codes "ctx") ∷ Mark 40 ∷ Number (pos n) ∷ Mark 44 ∷ Uuid id ∷ Mark 41 ∷ [])
-kept_context n id few long octets before c =
-    ((refl, c.now, (refl, refl, (omega (arith, few), refl, (refl, refl, ((long, octets), refl, (refl, refl, tt)))))),
-      record { now = refl; comma = refl; number = λ z. refl })
+kept_context n id few long octets before c = (
+  (refl, c.now, (refl, refl, (omega (arith, few), refl, (refl, refl, ((long, octets), refl, (refl, refl, tt)))))),
+  record { now = refl; comma = refl; number = λ z. refl },
+)
 
 -- ## What follows a token
 

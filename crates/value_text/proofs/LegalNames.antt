@@ -1,6 +1,6 @@
 -- The names of a legal interface are words.
-use Rattle.std.proofs.Common.{◌≡◌, ℕ, zero, suc, ◌+◌, Bool, true, false, ◌&&◌, not, List, [], ◌∷◌, ◌++◌, length, Option, Some, None, refl, ap, sym, ◌∙◌, subst, add-one}
-use Rattle.std.specs.Prelude.{◌⊎◌, filter, cond, eqb, nat_le}
+use Rattle.std.proofs.Common.{◌≡◌, ℕ, ◌+◌, Bool, true, false, ◌&&◌, not, List, [], ◌∷◌, ◌++◌, length, Option, Some, None, refl, ap, sym, ◌∙◌, subst, add-one}
+use Rattle.std.specs.Prelude.{filter, cond, eqb, nat_le}
 use Rattle.std.proofs.Common.{inl, inr}
 use Rattle.std.specs.List.{list_all, slice_get, AllByRecursion}
 use Rattle.std.proofs.lemmas.Bool.{and_parts}
@@ -10,7 +10,6 @@ use Rattle.nd_types.specs.declared.types.TypeDef.TheVariants as def
 use Rattle.nd_types.specs.declared.types.TypeId.{TypeId}
 use Rattle.nd_types.specs.declared.types.Field.{Field}
 use Rattle.nd_types.specs.declared.types.Param.{Param}
-use Rattle.nd_types.specs.declared.types.Operation.{Operation}
 use Rattle.nd_types.specs.declared.types.Side.{Side}
 use Rattle.nd_types.specs.declared.types.Side.TheVariants as side
 use Rattle.nd_types.specs.declared.TheConstants.{HANDLE}
@@ -74,7 +73,6 @@ roots_words w n =
     both_all (HasWord all) (filter (λ r. not r.is_pipe) ps ++ result_root w.side w.op.result) (filter (λ r. r.is_pipe) ps)
     (both_all (HasWord all) (filter (λ r. not r.is_pipe) ps) (result_root w.side w.op.result) (kept_all (HasWord all) (λ r. not r.is_pipe) ps h) (result_word all w.side w.op.result))
     (kept_all (HasWord all) (λ r. r.is_pipe) ps h)
-
 
 identifier_word : (name : List ℕ) → is_identifier name ≡ true → is_word name ≡ true
 identifier_word name h = (and_parts (is_word name) (nat_le (length name) 31) h).0

@@ -11,6 +11,8 @@ pub mod KeptTokens
 pub mod GraphLines
 pub mod LegalNames
 pub mod CarriedNodes
+pub mod NamedBefore
+pub mod CanonReadable
 pub mod OneText
 pub mod PlainGraphs
 pub mod PlainTexts
@@ -23,3 +25,4 @@ pub mod PrintedReads
 pub mod OneOfTwo
 pub mod Tested
 pub mod WorkedTexts
+pub mod WorkedPrinted

@@ -1,10 +1,10 @@
 -- Decimal numbers: what `decimal` writes is read, and what is read is what `decimal` writes.
-use Rattle.std.proofs.Common.{◌≡◌, ◌≢◌, ℕ, zero, suc, ◌+◌, ◌-◌, ◌*◌, ◌/◌, ◌%◌, ◌^◌, ◌<◌, ◌≤◌, Bool, true, false, ◌&&◌, not, cond, eqb, List, [], ◌∷◌, ◌++◌, length, Option, Some, None, refl, sym, ap, ap₂, subst, ◌∙◌, arith, inl, inr, append_assoc, append-nil, length-append, nat_le}
+use Rattle.std.proofs.Common.{◌≡◌, ◌≢◌, ℕ, zero, suc, ◌+◌, ◌-◌, ◌*◌, ◌/◌, ◌%◌, ◌^◌, ◌<◌, ◌≤◌, Bool, true, false, ◌&&◌, not, cond, eqb, List, [], ◌∷◌, ◌++◌, length, Some, None, refl, sym, ap, ap₂, subst, ◌∙◌, arith, inl, inr, append_assoc, append-nil, nat_le}
 use Rattle.std.specs.List.{list_all}
-use Rattle.std.specs.Fmt.{decimal, signed_decimal}
+use Rattle.std.specs.Fmt.{decimal}
 use Rattle.std.proofs.lemmas.Fmt.{decimal_digit, decimal_step_wide, decimal_by_steps_wide, length-decimal-le_wide}
 use Rattle.std.proofs.lemmas.List.Folds.{list_all-append}
-use Rattle.std.proofs.lemmas.Bool.{cond-true, cond-false, and_parts, and_from, both_ways, cases_lt, ne_eqb, eqb-true, eq-eqb, le-leb, leb-true}
+use Rattle.std.proofs.lemmas.Bool.{cond-true, and_parts, and_from, both_ways, cases_lt, ne_eqb, eqb-true, eq-eqb, le-leb, leb-true}
 use Rattle.std.proofs.lemmas.Option.{same_Some}
 use Rattle.nd_base.specs.Text.{is_digit, is_word_octet}
 use Rattle.value_text.specs.Scan.{value_from, is_number, number_of}

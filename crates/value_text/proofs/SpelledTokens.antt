@@ -1,10 +1,10 @@
 -- What is printed of a token is that token: its octets spell it, and begin with no blank.
-use Rattle.std.proofs.Common.{◌≡◌, ◌≢◌, ℕ, zero, suc, ◌+◌, ◌-◌, ◌*◌, ◌/◌, ◌%◌, ◌^◌, ◌<◌, ◌≤◌, ℤ, pos, negsuc, Bool, true, false, not, ◌&&◌, ◌||◌, cond, eqb, List, [], ◌∷◌, ◌++◌, length, take, drop, Option, Some, None, refl, ap, ap₂, sym, ◌∙◌, subst, append_assoc, arith, codes, unsigned_abs, nat_le}
+use Rattle.std.proofs.Common.{◌≡◌, ℕ, suc, ◌+◌, ◌-◌, ◌*◌, ◌/◌, ◌%◌, ◌^◌, ◌<◌, ◌≤◌, pos, negsuc, Bool, true, false, not, ◌&&◌, ◌||◌, cond, eqb, List, [], ◌∷◌, ◌++◌, length, take, drop, Some, None, refl, ap, ap₂, sym, ◌∙◌, subst, append_assoc, arith, unsigned_abs, nat_le}
 use Rattle.std.specs.Prelude.{filter, flat_map}
 use Rattle.std.specs.List.{list_all}
-use Rattle.std.specs.Fmt.{decimal, signed_decimal}
+use Rattle.std.specs.Fmt.{decimal}
 use Rattle.std.proofs.lemmas.List.{take_at}
-use Rattle.std.proofs.lemmas.Bool.{and_parts, and_from, cond-true, cond-false, both_ways, ltb-true, leb-true}
+use Rattle.std.proofs.lemmas.Bool.{and_parts, and_from, cond-true, cond-false, ltb-true, leb-true}
 use Rattle.std.proofs.lemmas.Bool.Decides.{nat_tests}
 use Rattle.nd_base.specs.Text.{is_word, is_letter, is_digit, is_word_octet, is_hex_digit, hex_value, has_form, uuid_form, hex_digit}
 use Rattle.nd_graph.specs.Misfit.{is_octet}
@@ -12,7 +12,7 @@ use Rattle.value_text.specs.Tokens.{Token, Word, Number, Cell, Str, Uuid, Mark, 
 use Rattle.value_text.specs.Tokens as tokens
 use Rattle.value_text.specs.Printed.{hex_octet, hex_octets, uuid_text, fill, escaped, spelled, is_run}
 use Rattle.value_text.proofs.Classes.{range_digit}
-use Rattle.value_text.proofs.Numerals.{Written, written}
+use Rattle.value_text.proofs.Numerals.{written}
 
 -- ## Hexadecimal digits
 

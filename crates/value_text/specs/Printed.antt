@@ -1,6 +1,6 @@
 -- The text that is printed of a graph: the tokens of its lines, with the canonical blanks between them.
 -- `t` and `u` are tokens, `b` is an octet, `n` a number below 16.
-use Rattle.std.specs.Prelude.{◌≡◌, ℕ, ◌+◌, ◌/◌, ◌%◌, Bool, true, false, ◌==◌, ◌&&◌, ◌||◌, nat_le, if◌then◌else◌, List, [], ◌∷◌, ◌++◌, take, drop, map, flat_map, codes, decimal}
+use Rattle.std.specs.Prelude.{◌≡◌, ℕ, ◌/◌, ◌%◌, Bool, true, false, ◌==◌, ◌&&◌, ◌||◌, nat_le, if◌then◌else◌, List, [], ◌∷◌, ◌++◌, take, drop, map, flat_map, codes, decimal}
 use Rattle.std.specs.Fmt.{signed_decimal}
 use Rattle.nd_base.specs.Text.{uuid_form, hex_digit}
 use Rattle.nd_graph.specs.declared.value.Graph.{Graph}

@@ -38,7 +38,7 @@ has_text_form (Some def.Context) (tree.Context attributes id) none = is_count at
 has_text_form (Some (def.Pipe elem)) tree.Pipe ks = true
 has_text_form _ _ ks = false
 
-abbrev is_cell : Option ℕ → ℕ → Bool
+abbrev pub is_cell : Option ℕ → ℕ → Bool
 is_cell None c = false
 is_cell (Some d) c = d == c
 

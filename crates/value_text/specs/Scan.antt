@@ -1,5 +1,5 @@
 -- What the functions of the reader give, on lists.
-use Rattle.std.specs.Prelude.{◌≡◌, ◌≢◌, ℕ, ◌+◌, ◌-◌, ◌*◌, ◌^◌, ◌<◌, ◌≤◌, ℤ, pos, Bool, true, false, ◌==◌, not, ◌&&◌, ◌||◌, nat_le, if◌then◌else◌, List, [], ◌∷◌, ◌++◌, length, Option, None, Some, option_map, decimal}
+use Rattle.std.specs.Prelude.{◌≡◌, ◌≢◌, ℕ, ◌+◌, ◌-◌, ◌*◌, ◌^◌, ◌<◌, ℤ, Bool, true, false, ◌==◌, not, ◌&&◌, ◌||◌, nat_le, if◌then◌else◌, List, [], ◌∷◌, ◌++◌, length, Option, None, Some, option_map, decimal}
 use Rattle.std.specs.List.{list_all}
 use Rattle.nd_base.specs.Text.{is_word_octet, is_letter, is_digit}
 use Rattle.value_text.specs.declared.lexeme.Lexeme as shown

@@ -11,10 +11,10 @@ ghost use Rattle.value_text.specs.Printed.{IsText};
 ghost use Rattle.value_text.specs.PlainSide.{IsPlainSide};
 ghost use Rattle.value_text.specs.Reads.{ReadsAs, IsTextFault};
 
-/// What is printed of a graph is read as its canonical form: of a plain side of a legal interface, within the limit.
+/// What is printed of a graph that conforms is read as its canonical form: of each side of a legal interface, within the limit.
 pub fn reading_after_printing()
     ensures { (w : Setting) (g : Graph) (text : List ℕ) (t : IsText w g text)
-        → IsPlainSide w → IsLegalSide w → Conforms w g → length text ≤ TEXT_LIMIT
+        → IsLegalSide w → Conforms w g → length text ≤ TEXT_LIMIT
         → ReadsAs w text t.canonical }
 {}
 

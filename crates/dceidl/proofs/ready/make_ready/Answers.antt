@@ -1,22 +1,22 @@
-use Rattle.std.specs.Prelude.{option_map}
 use Rattle.std.proofs.lemmas.Result.{err_from_is_err_and}
-use Rattle.dceidl.specs.Outside.{files_seen}
-use Rattle.dceidl.proofs.Causes.{ready_is, find_refused, idl_refused}
+use Rattle.nd_base.specs.Over.{files_seen}
+use Rattle.dceidl.specs.Commands.{subject_of}
+use Rattle.dceidl.proofs.Causes.{found_is, find_refused, idl_refused}
 use Rattle.dceidl.proofs.ready.make_ready.Goals as goal
 
 pub returns-in_err-interface-clause-refused : goal.returns-in_err-interface-clause-refused
 returns-in_err-interface-clause-refused g c =
     let p = err_from_is_err_and c.from_residual.result c.from_residual.ensures.1 in
     rw (p.1, p.2)
-    (idl_refused (files_seen g.F.Files.held g.F.Files.absences g.F.Files.faults c.args.files.now c.compile.new.files) c.args.idl.now (option_map (λ a. a.now) c.args.acf) c.args.op.now c.args.side _
+    (idl_refused (files_seen g.F.Files.held g.F.Files.absences g.F.Files.faults g.F.Files.asked c.args.files.now c.compile.new.files) (subject_of c.args.of) _
     c.in_err-interface.ensures.err)
 
 pub returns-clause-ready : goal.returns-clause-ready
 returns-clause-ready g c =
-    ready_is (files_seen g.F.Files.held g.F.Files.absences g.F.Files.faults c.args.files.now c.compile.new.files) c.args.idl.now (option_map (λ a. a.now) c.args.acf) c.args.op.now c.args.side
+    found_is (files_seen g.F.Files.held g.F.Files.absences g.F.Files.faults g.F.Files.asked c.args.files.now c.compile.new.files) (subject_of c.args.of)
     c.in_ok-interface.interface c.in_ok-interface.ensures.ok c.find.result c.find.ensures.interface c.find.ensures.found c.find.ensures.side c.find.ensures.known c.find.ensures.built
 
 pub returns-clause-refused : goal.returns-clause-refused
 returns-clause-refused g c =
-    find_refused (files_seen g.F.Files.held g.F.Files.absences g.F.Files.faults c.args.files.now c.compile.new.files) c.args.idl.now (option_map (λ a. a.now) c.args.acf) c.args.op.now c.args.side
+    find_refused (files_seen g.F.Files.held g.F.Files.absences g.F.Files.faults g.F.Files.asked c.args.files.now c.compile.new.files) (subject_of c.args.of)
     c.in_ok-interface.interface c.in_ok-interface.ensures.ok c.find.result c.find.ensures.refused

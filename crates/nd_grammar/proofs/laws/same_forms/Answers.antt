@@ -1,5 +1,5 @@
 use Rattle.nd_grammar.proofs.ChosenRepresents.{chosen_apart}
-use Rattle.nd_grammar.proofs.SameForms.{same_written}
+use Rattle.nd_grammar.proofs.written.SameForms.{same_written}
 use Rattle.nd_grammar.proofs.laws.same_forms.Goals as goal
 
 pub returns : goal.returns

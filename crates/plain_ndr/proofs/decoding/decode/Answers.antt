@@ -11,22 +11,22 @@ adopt-fit-requires c =
     let (o, there) = item_at i.operations c.args.op c.requires.known in
     fits_by i c.args.op o c.args.side c.args.order c.args.octets.now c.as_slice.result.now (c.requires.numbers o there)
     there (octets_by_index c.args.octets.now (λ k. omega (arith, c.type_inv.octets k)))
-    (c.as_slice.ensures.value ∙ c.in-Ok.ensures o there) c.tie.result _ _ c.in-Ok-read_numbers.ensures.read c.new-cells.ensures c.tie.ensures
+    (c.as_slice.ensures.value ∙ c.in_ok-prims.ensures o there) c.tie.result _ _ c.in-Ok.ensures.read c.new-cells.ensures c.tie.ensures
 
-pub returns-in-Ok-read_numbers-clause-decoded : goal.returns-in-Ok-read_numbers-clause-decoded
-returns-in-Ok-read_numbers-clause-decoded c o there =
+pub returns-in-Ok-clause-decoded : goal.returns-in-Ok-clause-decoded
+returns-in-Ok-clause-decoded c o there =
     let i = c.args.interface.now in
-    subst (λ g. BeginsWith (setting_of i o c.args.side) c.args.order c.args.octets.now c.in-Ok-read_numbers.taken g)
-    (ap (λ cs. record { roots = c.in-Ok-read_numbers.roots; cells = cs }) (sym c.new-cells.ensures) ∙ sym (ap (λ f. f.graph) c.adopt-fit.ensures))
+    subst (λ g. BeginsWith (setting_of i o c.args.side) c.args.order c.args.octets.now c.in-Ok.taken g)
+    (ap (λ cs. record { roots = c.in-Ok.roots; cells = cs }) (sym c.new-cells.ensures) ∙ sym (ap (λ f. f.graph) c.adopt-fit.ensures))
     (decoded i c.args.op o c.args.side c.args.order c.args.octets.now c.as_slice.result.now (c.requires.numbers o there) there
     (octets_by_index c.args.octets.now (λ k. omega (arith, c.type_inv.octets k)))
-    (c.as_slice.ensures.value ∙ c.in-Ok.ensures o there)
-    _ _ c.in-Ok-read_numbers.ensures.read c.in-Ok-read_numbers.ensures.taken)
+    (c.as_slice.ensures.value ∙ c.in_ok-prims.ensures o there)
+    _ _ c.in-Ok.ensures.read c.in-Ok.ensures.taken)
 
 pub returns-clause-refused : goal.returns-clause-refused
 returns-clause-refused c o there =
     let i = c.args.interface.now in
     cut_short i c.args.op o c.args.side c.args.order c.args.octets.now c.as_slice.result.now (c.requires.numbers o there) there
     (octets_by_index c.args.octets.now (λ k. omega (arith, c.type_inv.octets k)))
-    (c.as_slice.ensures.value ∙ c.in-Ok.ensures o there)
+    (c.as_slice.ensures.value ∙ c.in_ok-prims.ensures o there)
     (c.in-Err-Short.ensures.short (ap (λ e. Err e) c.in-Err-Short.field-0-is))

@@ -1,0 +1,36 @@
+-- Which octets of an input are read, where it tells them.
+use Rattle.std.proofs.Common.{◌≡◌, ℕ, ◌+◌, ◌<◌, ◌≤◌, List, [], ◌++◌, length, Option, Some, None, refl, sym, ◌∙◌, ap, subst, take, arith}
+use Rattle.std.proofs.lemmas.Option.{same_Some}
+use Rattle.std.proofs.lemmas.List.{append-nil}
+use Rattle.std.proofs.Math.Seq.{take-append_seam}
+use Rattle.std.proofs.lemmas.Bool.{leb-true, leb-false}
+use Rattle.std.specs.Prelude.{leb, Bool, true, false}
+use Rattle.std.specs.Io.KnownBytes.{Consumes, IsAtEnd}
+use Rattle.nd_base.specs.Over.{SourceSeen}
+use Rattle.dceidl.specs.Input.{AreRead}
+use Rattle.dceidl.specs.Rows.{IsInput}
+use Rattle.dceidl.proofs.Causes.{take_whole}
+
+take_front : (n : ℕ) (xs ys : List ℕ) → length xs ≡ n → take n (xs ++ ys) ≡ xs
+take_front n xs ys e = ap (λ k. take k (xs ++ ys)) (sym e) ∙ take-append_seam xs ys
+
+-- the octets that were read are those of the input that count
+module _ (s : SourceSeen) (limit : ℕ) (octets others : List ℕ) (input : IsInput s limit octets) (read : AreRead s limit others) where
+  by_length : (ys : List ℕ) → input.all ≡ others ++ ys → (length others < limit + 1 → ys ≡ []) → (t : Bool)
+      → leb (limit + 1) (length others) ≡ t → others ≡ octets
+  by_length ys whole over true e =
+      let low = leb-true (limit + 1) (length others) e in
+      let full : length others ≡ limit + 1 = omega (arith, low, read.few) in
+      sym (take_front (limit + 1) others ys full) ∙ ap (take (limit + 1)) (sym whole) ∙ sym input.counted
+  by_length ys whole over false e =
+      let none : ys ≡ [] = over (leb-false (limit + 1) (length others) e) in
+      let all : input.all ≡ others = whole ∙ ap (λ u. others ++ u) none ∙ append-nil others in
+      sym all ∙ sym (take_whole (limit + 1) input.all (subst (λ xs. length xs ≤ limit + 1) (sym all) read.few)) ∙ sym input.counted
+
+  by_left : (left now : Option (List ℕ)) → left ≡ Some input.all → Consumes left now others → (length others < limit + 1 → IsAtEnd now) → others ≡ octets
+  by_left None now e taken none = cc
+  by_left (Some xs) None e taken none = absurd taken
+  by_left (Some xs) (Some ys) e taken none = by_length ys (sym (same_Some _ _ e) ∙ taken) none (leb (limit + 1) (length others)) refl
+
+  pub same_octets : others ≡ octets
+  same_octets = by_left s.left s.left_now input.left read.taken read.none_left

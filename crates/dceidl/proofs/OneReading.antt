@@ -1,0 +1,65 @@
+-- What octets come to: they are decoded, or refused at one place, or memory runs out.
+use Rattle.std.proofs.Common.{◌≡◌, ℕ, List, length, refl, ap, ap₂, inl, inr, ◌⊎◌, arith}
+use Rattle.nd_base.specs.declared.octets.Order.{Order}
+use Rattle.nd_graph.specs.declared.value.Graph.{Graph}
+use Rattle.nd_graph.specs.Setting.{Setting}
+use Rattle.nd_graph.specs.Conforms.{Conforms}
+use Rattle.nd_grammar.specs.LegalSide.{IsLegalSide}
+use Rattle.nd_grammar.specs.Represents.{Represents}
+use Rattle.nd_grammar.proofs.ReaderLaws.{never_both, one_beginning}
+use Rattle.nd_grammar.proofs.OneRefusal.{one_bad}
+use Rattle.dceidl.specs.declared.refusal.Refusal.{Refusal}
+use Rattle.dceidl.specs.declared.refusal.Refusal.TheVariants.{Memory, Absent, FileFailed, BadIdl, NoOperation, NotBuilt, ReadFault, BadOctets, BadText, BadValue}
+use Rattle.dceidl.specs.declared.refusal.OctetsFault.{OctetsFault}
+use Rattle.dceidl.specs.declared.refusal.OctetsFault.TheVariants as fault
+use Rattle.dceidl.specs.Decode.{IsDecoding, IsRefusedAt, IsOctetsCause}
+use Rattle.dceidl.proofs.Sides.{whole_begins}
+
+module _ (w : Setting) (side : IsLegalSide w) (order : Order) (octets : List ℕ) where
+  -- octets that represent a graph that conforms are not refused
+  pub decoded_cause : (g : Graph) → Represents w order octets g → Conforms w g → (r : Refusal) → IsOctetsCause w order octets r → r ≡ Memory
+  decoded_cause g represents conforms Memory cause = refl
+  decoded_cause g represents conforms (BadOctets place (fault.Refused reason)) bad =
+      absurd (never_both w side order octets (length octets) g place reason (whole_begins w order octets g represents conforms) bad)
+  decoded_cause g represents conforms (BadOctets place fault.Trailing) trailing =
+      let same = (one_beginning w side order octets place (length octets) trailing.graph g trailing.begins (whole_begins w order octets g represents conforms)).0 in
+      absurd (omega (arith, same, trailing.follows))
+  decoded_cause g represents conforms (Absent other) cause = absurd cause
+  decoded_cause g represents conforms (FileFailed other) cause = absurd cause
+  decoded_cause g represents conforms (BadIdl file line column reason) cause = absurd cause
+  decoded_cause g represents conforms NoOperation cause = absurd cause
+  decoded_cause g represents conforms NotBuilt cause = absurd cause
+  decoded_cause g represents conforms ReadFault cause = absurd cause
+  decoded_cause g represents conforms (BadText line column reason) cause = absurd cause
+  decoded_cause g represents conforms (BadValue path reason) cause = absurd cause
+
+  -- octets that are refused are not decoded
+  pub refused_made : (place : ℕ) (why : OctetsFault) → IsRefusedAt w order octets place why → (made : List ℕ) → IsDecoding w order octets made → ⊥
+  refused_made place (fault.Refused reason) bad made d =
+      never_both w side order octets (length octets) d.graph place reason (whole_begins w order octets d.graph d.represents d.conforms) bad
+  refused_made place fault.Trailing trailing made d =
+      let same = (one_beginning w side order octets place (length octets) trailing.graph d.graph trailing.begins (whole_begins w order octets d.graph d.represents d.conforms)).0 in
+      omega (arith, same, trailing.follows)
+
+  -- and they are refused at one place for one reason
+  one_place : (place other : ℕ) (why because : OctetsFault) → IsRefusedAt w order octets place why → IsRefusedAt w order octets other because
+      → BadOctets other because ≡ BadOctets place why
+  one_place place other (fault.Refused why) (fault.Refused because) x y =
+      let same = one_bad w side order octets other place because why y x in ap₂ (λ p q. BadOctets p (fault.Refused q)) same.0 same.1
+  one_place place other (fault.Refused why) fault.Trailing x y = absurd (never_both w side order octets other y.graph place why y.begins x)
+  one_place place other fault.Trailing (fault.Refused because) x y = absurd (never_both w side order octets place x.graph other because x.begins y)
+  one_place place other fault.Trailing fault.Trailing x y =
+      ap (λ p. BadOctets p fault.Trailing) (one_beginning w side order octets other place y.graph x.graph y.begins x.begins).0
+
+  pub refused_cause : (place : ℕ) (why : OctetsFault) → IsRefusedAt w order octets place why → (r : Refusal) → IsOctetsCause w order octets r
+      → (r ≡ Memory) ⊎ (r ≡ BadOctets place why)
+  refused_cause place why refused Memory cause = inl refl
+  refused_cause place why refused (BadOctets other because) cause = inr (one_place place other why because refused cause)
+  refused_cause place why refused (Absent other) cause = absurd cause
+  refused_cause place why refused (FileFailed other) cause = absurd cause
+  refused_cause place why refused (BadIdl file line column reason) cause = absurd cause
+  refused_cause place why refused NoOperation cause = absurd cause
+  refused_cause place why refused NotBuilt cause = absurd cause
+  refused_cause place why refused ReadFault cause = absurd cause
+  refused_cause place why refused (BadText line column reason) cause = absurd cause
+  refused_cause place why refused (BadValue path reason) cause = absurd cause

@@ -1,0 +1,11 @@
+use Rattle.dceidl.proofs.Within.{fault_within}
+use Rattle.dceidl.proofs.Compiled.{unparsed_main}
+use Rattle.dceidl.proofs.compile.tree_of.Goals as goal
+
+pub no_file-requires : goal.no_file-requires
+no_file-requires c = fault_within c.in-Ok.tokens c.in-Err-parse.fault c.in-Err-parse.ensures.answer
+
+pub returns-clause-fault : goal.returns-clause-fault
+returns-clause-fault c =
+    unparsed_main c.args.text.now c.in-Ok.tokens c.in-Ok.ensures.text c.in-Ok.ensures.tokens c.in-Err-parse.fault c.in-Err-parse.ensures.answer
+    c.no_file.result c.no_file.ensures

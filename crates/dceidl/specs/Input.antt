@@ -1,0 +1,55 @@
+-- What commands make of the input, and why it is refused.
+use Rattle.std.specs.Prelude.{◌≡◌, ℕ, ◌+◌, ◌<◌, ◌≤◌, true, List, length, ⊤}
+use Rattle.std.specs.Io.KnownBytes.{Consumes, IsAtEnd}
+use Rattle.nd_base.specs.declared.TheConstants.{STREAM_LIMIT}
+use Rattle.nd_base.specs.declared.octets.Order.{Order}
+use Rattle.nd_base.specs.Over.{SourceSeen, HasRisen}
+use Rattle.value_text.specs.declared.TheConstants.{TEXT_LIMIT}
+use Rattle.nd_graph.specs.Setting.{Setting}
+use Rattle.dceidl.specs.Decode.{IsDecoding, IsOctetsCause}
+use Rattle.dceidl.specs.Encode.{IsEncoding, IsTextCause}
+use Rattle.dceidl.specs.declared.words.Reading.{Reading}
+use Rattle.dceidl.specs.declared.words.Reading.TheVariants.{Decode}
+use Rattle.dceidl.specs.declared.refusal.Refusal.{Refusal}
+use Rattle.dceidl.specs.declared.refusal.Refusal.TheVariants.{Memory, ReadFault}
+
+-- These octets were read: the whole input, or its first octets to one past a limit.
+pub record AreRead (s : SourceSeen) (limit : ℕ) (octets : List ℕ) : Type 0 where
+  pub taken : Consumes s.left s.left_now octets
+  pub few : length octets ≤ limit + 1
+  pub whole : length octets < limit + 1 → s.ended ≡ true
+  pub none_left : length octets < limit + 1 → IsAtEnd s.left_now
+
+-- why the input was not read; of memory no more is said
+abbrev pub IsFetchCause : SourceSeen → Refusal → Type 0
+IsFetchCause s Memory = ⊤
+IsFetchCause s ReadFault = HasRisen s.faults
+IsFetchCause s _ = ⊥
+
+-- what is made of octets, by how they are read
+abbrev pub IsShown : Reading → Setting → Order → List ℕ → List ℕ → Type 0
+IsShown Decode w order octets made = IsDecoding w order octets made
+
+-- The input was read to its end, and this was made of its octets.
+pub record IsRead (s : SourceSeen) (how : Reading) (w : Setting) (order : Order) (made : List ℕ) : Type 0 where
+  pub octets : List ℕ
+  pub read : AreRead s STREAM_LIMIT octets
+  pub shown : IsShown how w order octets made
+
+-- why the octets of the input are refused
+abbrev pub IsReadCause : SourceSeen → Reading → Setting → Order → Refusal → Type 0
+IsReadCause s how w order ReadFault = HasRisen s.faults
+IsReadCause s how w order Memory = ⊤
+IsReadCause s how w order refusal = (octets : List ℕ) × AreRead s STREAM_LIMIT octets × IsOctetsCause w order octets refusal
+
+-- The input was read to its end, and its text was encoded.
+pub record IsEncoded (s : SourceSeen) (w : Setting) (order : Order) (chunk : ℕ) (made : List ℕ) : Type 0 where
+  pub text : List ℕ
+  pub read : AreRead s TEXT_LIMIT text
+  pub encoding : IsEncoding w order chunk text made
+
+-- why the text of the input is refused
+abbrev pub IsEncodeCause : SourceSeen → Setting → Refusal → Type 0
+IsEncodeCause s w ReadFault = HasRisen s.faults
+IsEncodeCause s w Memory = ⊤
+IsEncodeCause s w refusal = (text : List ℕ) × AreRead s TEXT_LIMIT text × IsTextCause w text refusal

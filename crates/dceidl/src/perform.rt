@@ -1,0 +1,142 @@
+// What each command does.
+ghost use Rattle.std.specs.Prelude.{◌≡◌, ◌<◌, ◌≤◌, length, Some, IfOk, IfErr};
+ghost use Rattle.std.specs.List.{slice_get};
+ghost use Rattle.nd_base.specs.Over.{files_seen, source_seen};
+ghost use Rattle.nd_types.specs.declared.types.Operation.{Operation};
+ghost use Rattle.nd_types.specs.Numbers.{IsNumberSide};
+ghost use Rattle.nd_graph.specs.Fitting.{setting_of};
+ghost use Rattle.dceidl.specs.Asked.{AsksFor};
+ghost use Rattle.dceidl.specs.Causes.{IsMade, IsCause};
+ghost use Rattle.dceidl.specs.Commands.{command_of, subject_of, HasChunk};
+ghost use Rattle.dceidl.specs.Input.{IsRead, IsReadCause, IsEncoded, IsEncodeCause};
+ghost use Rattle.dceidl.specs.Seen.{seen_over};
+ghost use Rattle.dceidl.specs.Words.{Read, Encode as EncodeCommand, order_in};
+
+use crate::decode::decode;
+use crate::encode::encode;
+use crate::input::read_input;
+use crate::compile::list;
+use crate::ready::{Ready, make_ready};
+use crate::refusal::Refusal;
+use crate::words::{Command, OrderWord, Reading, Subject};
+use crate::{HELP, VERSION};
+use nd_base::{Files, Octets, STREAM_LIMIT, Source};
+use std::alloc::Global;
+use value_text::TEXT_LIMIT;
+
+// Does a command.
+pub(crate) fn perform<F: Files, S: Source>(
+    alloc: Global,
+    command: Command<'_>,
+    files: &mut F,
+    input: &mut S,
+) -> Result<Octets, Refusal>
+    requires { HasChunk command }
+    ensures asked { AsksFor
+        (seen_over (files_seen F.held F.absences F.faults F.asked files.old files.new) (source_seen S.left S.ended S.faults input.old input.new))
+        (command_of command.entry) }
+    ensures done { IfOk result (IsMade
+        (seen_over (files_seen F.held F.absences F.faults F.asked files.old files.new) (source_seen S.left S.ended S.faults input.old input.new))
+        (command_of command.entry)) }
+    ensures refused { IfErr result (IsCause
+        (seen_over (files_seen F.held F.absences F.faults F.asked files.old files.new) (source_seen S.left S.ended S.faults input.old input.new))
+        (command_of command.entry)) }
+{
+    match command {
+        Command::Read { how, of, order } => read_values(alloc, how, of, order, files, input),
+        Command::Encode { of, order, chunk } => encode_values(
+            alloc, of, order, chunk, files, input,
+        ),
+        Command::Compile { idl, acf } => list(alloc, idl, acf, files),
+        Command::Help => Ok(Octets::copy(alloc, HELP.as_bytes())?),
+        Command::Version => Ok(Octets::copy(alloc, VERSION.as_bytes())?),
+    }
+}
+
+// Reads the octets of the input, once what the command speaks of is ready.
+fn read_values<F: Files, S: Source>(
+    alloc: Global,
+    how: Reading,
+    of: Subject<'_>,
+    order: OrderWord,
+    files: &mut F,
+    input: &mut S,
+) -> Result<Octets, Refusal>
+    ensures asked { AsksFor
+        (seen_over (files_seen F.held F.absences F.faults F.asked files.old files.new) (source_seen S.left S.ended S.faults input.old input.new))
+        (Read how (subject_of of.entry) order) }
+    ensures done { IfOk result (IsMade
+        (seen_over (files_seen F.held F.absences F.faults F.asked files.old files.new) (source_seen S.left S.ended S.faults input.old input.new))
+        (Read how (subject_of of.entry) order)) }
+    ensures refused { IfErr result (IsCause
+        (seen_over (files_seen F.held F.absences F.faults F.asked files.old files.new) (source_seen S.left S.ended S.faults input.old input.new))
+        (Read how (subject_of of.entry) order)) }
+{
+    let ready = make_ready(alloc, of, files)?;
+    read_octets(alloc, &ready, how, order, input)
+}
+
+// Reads the octets of the input.
+fn read_octets<S: Source>(
+    alloc: Global,
+    ready: &Ready,
+    how: Reading,
+    order: OrderWord,
+    input: &mut S,
+) -> Result<Octets, Refusal>
+    requires built { IsNumberSide ready.now.interface.types ready.now.interface.operations ready.now.number ready.now.side }
+    requires known { ready.now.number < length ready.now.interface.operations }
+    ensures done { (o : Operation) → slice_get ready.now.interface.operations ready.now.number ≡ Some o
+        → IfOk result (IsRead (source_seen S.left S.ended S.faults input.old input.new) how (setting_of ready.now.interface o ready.now.side) (order_in order)) }
+    ensures refused { (o : Operation) → slice_get ready.now.interface.operations ready.now.number ≡ Some o
+        → IfErr result (IsReadCause (source_seen S.left S.ended S.faults input.old input.new) how (setting_of ready.now.interface o ready.now.side) (order_in order)) }
+{
+    let octets = read_input(alloc, input, STREAM_LIMIT)?;
+    match how {
+        Reading::Decode => decode(alloc, ready, order.order(), octets.as_slice()),
+    }
+}
+
+// Encodes the text of the input, once what the command speaks of is ready.
+fn encode_values<F: Files, S: Source>(
+    alloc: Global,
+    of: Subject<'_>,
+    order: OrderWord,
+    chunk: u32,
+    files: &mut F,
+    input: &mut S,
+) -> Result<Octets, Refusal>
+    requires { 1 ≤ chunk }
+    ensures asked { AsksFor
+        (seen_over (files_seen F.held F.absences F.faults F.asked files.old files.new) (source_seen S.left S.ended S.faults input.old input.new))
+        (EncodeCommand (subject_of of.entry) order chunk) }
+    ensures done { IfOk result (IsMade
+        (seen_over (files_seen F.held F.absences F.faults F.asked files.old files.new) (source_seen S.left S.ended S.faults input.old input.new))
+        (EncodeCommand (subject_of of.entry) order chunk)) }
+    ensures refused { IfErr result (IsCause
+        (seen_over (files_seen F.held F.absences F.faults F.asked files.old files.new) (source_seen S.left S.ended S.faults input.old input.new))
+        (EncodeCommand (subject_of of.entry) order chunk)) }
+{
+    let ready = make_ready(alloc, of, files)?;
+    encode_input(alloc, &ready, order, chunk, input)
+}
+
+// Encodes the text of the input.
+fn encode_input<S: Source>(
+    alloc: Global,
+    ready: &Ready,
+    order: OrderWord,
+    chunk: u32,
+    input: &mut S,
+) -> Result<Octets, Refusal>
+    requires built { IsNumberSide ready.now.interface.types ready.now.interface.operations ready.now.number ready.now.side }
+    requires known { ready.now.number < length ready.now.interface.operations }
+    requires chunk { 1 ≤ chunk }
+    ensures done { (o : Operation) → slice_get ready.now.interface.operations ready.now.number ≡ Some o
+        → IfOk result (IsEncoded (source_seen S.left S.ended S.faults input.old input.new) (setting_of ready.now.interface o ready.now.side) (order_in order) chunk) }
+    ensures refused { (o : Operation) → slice_get ready.now.interface.operations ready.now.number ≡ Some o
+        → IfErr result (IsEncodeCause (source_seen S.left S.ended S.faults input.old input.new) (setting_of ready.now.interface o ready.now.side)) }
+{
+    let text = read_input(alloc, input, TEXT_LIMIT)?;
+    encode(alloc, ready, order.order(), chunk, text.as_slice())
+}

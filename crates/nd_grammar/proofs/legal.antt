@@ -1,0 +1,3 @@
+pub mod LegalPipes
+pub mod LegalReadable
+pub mod LegalUsable

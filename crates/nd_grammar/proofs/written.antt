@@ -1,0 +1,4 @@
+pub mod CanonNumbers
+pub mod SameForms
+pub mod WritableTrees
+pub mod WrittenEntries

@@ -1,0 +1,5 @@
+pub mod Examples
+pub mod ExamplesPlain
+pub mod ExamplesPointers
+pub mod ExamplesArrays
+pub mod ExamplesUnions
