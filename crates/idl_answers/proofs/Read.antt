@@ -26,12 +26,30 @@ module _ (text : List ℕ) (tokens : List Token) (are : AreTokens text tokens) w
 
   read_as : (answer : Result Tree Fault) → Answers grammar.file (lexemes lexed) answer → IsReadAs text
   read_as (Ok t) h = AsFile t (record { lexed = lexed; read = record { text_is = refl; tokens = are; answered = h } })
-  read_as (Err (Syntax k)) h = AsNoFile (place_of lexed k) (syntax.Syntax k) (record { lexed = lexed; told = Syntax k; token = k; is_told = (refl, refl);
-    read = record { text_is = refl; tokens = are; answered = h }; octet = refl })
-  read_as (Err (Passes Depth k)) h = AsNoFile (place_of lexed k) (syntax.Deep k) (record { lexed = lexed; told = Passes Depth k; token = k; is_told = (refl, refl);
-    read = record { text_is = refl; tokens = are; answered = h }; octet = refl })
-  read_as (Err (Passes Ban k)) h = AsNoFile (place_of lexed k) (syntax.Banned k) (record { lexed = lexed; told = Passes Ban k; token = k; is_told = (refl, refl);
-    read = record { text_is = refl; tokens = are; answered = h }; octet = refl })
+  read_as (Err (Syntax k)) h = AsNoFile (place_of lexed k) (syntax.Syntax k) (record {
+    lexed = lexed;
+    told = Syntax k;
+    token = k;
+    is_told = (refl, refl);
+    read = record { text_is = refl; tokens = are; answered = h };
+    octet = refl;
+  })
+  read_as (Err (Passes Depth k)) h = AsNoFile (place_of lexed k) (syntax.Deep k) (record {
+    lexed = lexed;
+    told = Passes Depth k;
+    token = k;
+    is_told = (refl, refl);
+    read = record { text_is = refl; tokens = are; answered = h };
+    octet = refl;
+  })
+  read_as (Err (Passes Ban k)) h = AsNoFile (place_of lexed k) (syntax.Banned k) (record {
+    lexed = lexed;
+    told = Passes Ban k;
+    token = k;
+    is_told = (refl, refl);
+    read = record { text_is = refl; tokens = are; answered = h };
+    octet = refl;
+  })
 
   tokens_read : IsReadAs text
   tokens_read = let a = each_file (lexemes lexed) (lexemes_real lexed) in read_as a.answer a.right

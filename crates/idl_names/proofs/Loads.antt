@@ -185,7 +185,7 @@ pub last_filled : {A : Type 0} (f : A → Source) (xs : List A) (i : ℕ) (old n
     → map f xs ≡ and_source before name [] → old ≡ get_or xs i old → (f new).name ≡ (f old).name → (f new).text ≡ text → map f (set xs i new) ≡ and_source before name text
 last_filled f xs i old new before name text at is item same filled =
     let here : f old ≡ record { name = name; text = [] } =
-        ap f item ∙ (sym (get_or-map f xs i old) ∙ (ap (λ l. get_or l i (f old)) is ∙ last_is before i (record { name = name; text = [] }) (f old) at)) in
+    ap f item ∙ (sym (get_or-map f xs i old) ∙ (ap (λ l. get_or l i (f old)) is ∙ last_is before i (record { name = name; text = [] }) (f old) at)) in
     let now : f new ≡ record { name = name; text = text } =
-        ap (λ n. record { name = n; text = (f new).text }) (same ∙ ap (λ s. s.name) here) ∙ ap (λ t. record { name = name; text = t }) filled in
+    ap (λ n. record { name = n; text = (f new).text }) (same ∙ ap (λ s. s.name) here) ∙ ap (λ t. record { name = name; text = t }) filled in
     map-set f xs i new ∙ (ap (λ l. set l i (f new)) is ∙ (last_set before i (record { name = name; text = [] }) (f new) at ∙ ap (λ y. before ++ y ∷ []) now))
