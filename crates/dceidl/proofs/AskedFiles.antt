@@ -199,10 +199,14 @@ module _ (held : Option (List ℕ → Option (List ℕ))) (idl text : List ℕ) 
             → IsNext held idl (Some name) (take n (front ++ name ∷ [])) other
         by n other e true is =
             let r = only front name n other (leb-true (length front) n is) e in
-            inr (text, content, inr (record {
-              due = record { state = state; resolved = resolved; named = ap Some r.1 };
-              earlier_are = ap (λ k. take k (front ++ name ∷ [])) r.0 ∙ take_seam front (name ∷ []);
-            }))
+            inr (
+              text,
+              content,
+              inr (record {
+                due = record { state = state; resolved = resolved; named = ap Some r.1 };
+                earlier_are = ap (λ k. take k (front ++ name ∷ [])) r.0 ∙ take_seam front (name ∷ []);
+              }),
+            )
         by n other e false is =
             let below : n < length front = leb-false (length front) n is in
             subst (λ l. IsNext held idl (Some name) l other) (sym (take_front front (name ∷ []) n (omega (arith, below))))

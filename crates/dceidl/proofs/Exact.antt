@@ -132,8 +132,8 @@ module _ (x : Seen) (loads : HasRisen x.files.faults → ⊥) where
   settled (Read how of order) (BadOctets place why) (w, octets, a, input, refused) = (
     λ made m. refused_made w (legal_of x.files of w a) (order_in order) octets place why refused made (read_made how of order w a octets input made m),
     of_read how of order w a (λ q. (q ≡ Memory) ⊎ (q ≡ BadOctets place why)) (inl refl)
-    (λ q k. read_causes x.input how w (order_in order) octets input (λ p. (p ≡ Memory) ⊎ (p ≡ BadOctets place why)) (inl refl)
-    (refused_cause w (legal_of x.files of w a) (order_in order) octets place why refused) q k),
+        (λ q k. read_causes x.input how w (order_in order) octets input (λ p. (p ≡ Memory) ⊎ (p ≡ BadOctets place why)) (inl refl)
+        (refused_cause w (legal_of x.files of w a) (order_in order) octets place why refused) q k),
   )
   settled (Read how of order) Memory must = read_unready how of order Memory must
   settled (Read how of order) (Absent other) must = read_unready how of order (Absent other) must
@@ -147,14 +147,14 @@ module _ (x : Seen) (loads : HasRisen x.files.faults → ⊥) where
   settled (Encode of order chunk) (BadText line column why) (w, text, a, input, fault) = (
     λ made m. fault_made w (plain_of x.files of w a) text line column why fault (order_in order) chunk made (encode_made of order chunk w a text input made m),
     of_encode of order chunk w a (λ q. (q ≡ Memory) ⊎ (q ≡ BadText line column why)) (inl refl)
-    (λ q k. encode_causes x.input w text input (λ p. (p ≡ Memory) ⊎ (p ≡ BadText line column why)) (inl refl)
-    (fault_cause w (plain_of x.files of w a) text line column why fault) q k),
+        (λ q k. encode_causes x.input w text input (λ p. (p ≡ Memory) ⊎ (p ≡ BadText line column why)) (inl refl)
+        (fault_cause w (plain_of x.files of w a) text line column why fault) q k),
   )
   settled (Encode of order chunk) (BadValue path why) (w, text, g, a, input, reads, misfit) = (
     λ made m. misfit_made w (plain_of x.files of w a) text g path why reads misfit (order_in order) chunk made (encode_made of order chunk w a text input made m),
     of_encode of order chunk w a (λ q. (q ≡ Memory) ⊎ (q ≡ BadValue path why)) (inl refl)
-    (λ q k. encode_causes x.input w text input (λ p. (p ≡ Memory) ⊎ (p ≡ BadValue path why)) (inl refl)
-    (misfit_cause w (plain_of x.files of w a) text g path why reads misfit) q k),
+        (λ q k. encode_causes x.input w text input (λ p. (p ≡ Memory) ⊎ (p ≡ BadValue path why)) (inl refl)
+        (misfit_cause w (plain_of x.files of w a) text g path why reads misfit) q k),
   )
   settled (Encode of order chunk) Memory must = encode_unready of order chunk Memory must
   settled (Encode of order chunk) (Absent other) must = encode_unready of order chunk (Absent other) must

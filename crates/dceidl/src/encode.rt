@@ -100,13 +100,7 @@ fn encode_fit(
 {
     // A fit's graph conforms.
     let _conforming = fit.graph();
-    Ok(plain_ndr::encode(
-        alloc,
-        &ready.interface,
-        fit,
-        order,
-        chunk,
-    )?)
+    Ok(plain_ndr::encode(alloc, &ready.interface, fit, order, chunk)?)
 }
 
 // A misfit with the path of its home.

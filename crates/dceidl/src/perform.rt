@@ -12,10 +12,10 @@ ghost use Rattle.dceidl.specs.Input.{IsRead, IsReadCause, IsEncoded, IsEncodeCau
 ghost use Rattle.dceidl.specs.Seen.{seen_over};
 ghost use Rattle.dceidl.specs.Words.{Read, Encode as EncodeCommand, order_in};
 
+use crate::compile::list;
 use crate::decode::decode;
 use crate::encode::encode;
 use crate::input::read_input;
-use crate::compile::list;
 use crate::ready::{Ready, make_ready};
 use crate::refusal::Refusal;
 use crate::words::{Command, OrderWord, Reading, Subject};

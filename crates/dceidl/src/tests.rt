@@ -91,7 +91,10 @@ const NO_COMMAND: Case = Case {
 };
 
 // A run that is refused.
-const REFUSED: Case = Case { out: b"", ..DECODED };
+const REFUSED: Case = Case {
+    out: b"",
+    ..DECODED
+};
 
 fn run_case(alloc: Global, case: &Case) -> Result<Ran, Memory> {
     let mut words = Words::new(alloc);
@@ -119,11 +122,7 @@ fn expect_all(rt: &impl Abort, alloc: Global, cases: &[Case]) {
             Ok(ran) => {
                 assert_eq!(rt; ran.status, case.status, "{name}: status");
                 assert_eq!(rt; ran.out.written(), case.out, "{name}: out");
-                assert_eq!(rt;
-                    ran.notes.written(),
-                    case.notes.as_bytes(),
-                    "{name}: notes"
-                );
+                assert_eq!(rt; ran.notes.written(), case.notes.as_bytes(), "{name}: notes");
             }
             Err(_) => assert!(rt; false, "{name}: out of memory"),
         }
