@@ -12,8 +12,8 @@ use Rattle.nd_types.specs.Operations.{operation_named}
 use Rattle.nd_types.specs.Numbers.{has_number_roots}
 use Rattle.nd_graph.specs.Setting.{Setting}
 use Rattle.nd_graph.specs.Fitting.{setting_of}
-use Rattle.idl_rules.specs.Meaning.{Meant}
-use Rattle.idl_rules.specs.Answers.{meant_by}
+use Rattle.nd_types.specs.Meant.{Meant}
+use Rattle.nd_types.specs.Meant.{meant_by}
 use Rattle.dceidl.specs.declared.refusal.IdlReason.{IdlReason}
 use Rattle.dceidl.specs.declared.refusal.Refusal.{Refusal}
 use Rattle.dceidl.specs.declared.refusal.Refusal.TheVariants.{Memory, Absent, FileFailed, BadIdl, NoOperation, NotBuilt, ReadFault, BadOctets, BadText, BadValue}

@@ -12,7 +12,7 @@ use Rattle.idl_parser.specs.declared.fault.SyntaxFault.{SyntaxFault}
 use Rattle.idl_parser.specs.declared.fault.SyntaxFault.TheVariants as parser
 use Rattle.idl_names.specs.Sources.{Source}
 use Rattle.idl_names.specs.Walk.{State}
-use Rattle.idl_rules.specs.Rules.{breach}
+use Rattle.idl_language.specs.Rules.{breach}
 use Rattle.acf_reader.specs.Tree.{Acf}
 use Rattle.acf_reader.specs.Lexemes.{lexemes}
 use Rattle.acf_reader.specs.Answers.{IsAnswer}

@@ -9,11 +9,11 @@ use Rattle.nd_types.specs.declared.layouts.Layout.{Layout}
 use Rattle.nd_types.specs.declared.types.Operation.{Operation}
 use Rattle.nd_types.specs.Table.{Table}
 use Rattle.nd_types.specs.Legal.{IsLegal}
-use Rattle.idl_rules.specs.World.{World}
-use Rattle.idl_rules.specs.Rules.{Breach, breaches}
-use Rattle.idl_rules.specs.FirstBroken.{first_of}
-use Rattle.idl_rules.specs.Meaning.{Meant}
-use Rattle.idl_rules.specs.Answers.{meant_by}
+use Rattle.idl_language.specs.World.{World}
+use Rattle.idl_language.specs.Rules.{Breach, breaches}
+use Rattle.idl_language.specs.FirstBroken.{first_of}
+use Rattle.nd_types.specs.Meant.{Meant}
+use Rattle.nd_types.specs.Meant.{meant_by}
 use Rattle.acf_reader.specs.Tree.{Acf}
 use Rattle.idl_check.specs.AcfRules.{acf_breaches, first_of_all}
 use Rattle.dceidl.specs.AcfFile.{AcfFile, IsLoadedAcf}

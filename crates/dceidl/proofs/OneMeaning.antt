@@ -15,9 +15,9 @@ use Rattle.idl_names.specs.Files.{IsFile, IsNoFile}
 use Rattle.idl_names.specs.Known.{first_undefined}
 use Rattle.idl_names.specs.Sources.{Source, and_source}
 use Rattle.idl_names.specs.Walk.{State, Due, Ending, Done, Stopped, Walk, IsUndefinedFault, start, all_of, goes_on, faults, ends, again, absent, failed, enters}
-use Rattle.idl_rules.specs.Rules.{Breach, breach}
-use Rattle.idl_rules.specs.Meaning.{meaning}
-use Rattle.idl_rules.specs.Answers.{meant_by}
+use Rattle.idl_language.specs.Rules.{Breach, breach}
+use Rattle.idl_language.specs.Meaning.{meaning}
+use Rattle.nd_types.specs.Meant.{meant_by}
 use Rattle.idl_check.specs.AcfRules.{first_of_all}
 use Rattle.nd_base.specs.Text.{position_of}
 use Rattle.dceidl.specs.declared.refusal.IdlReason.{IdlReason}

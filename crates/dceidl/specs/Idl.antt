@@ -15,8 +15,8 @@ use Rattle.idl_parser.specs.declared.fault.SyntaxFault.TheVariants as syntax
 use Rattle.idl_names.specs.Files.{IsFile, IsNoFile}
 use Rattle.idl_names.specs.Sources.{Source, source, and_source, file_name, file_text}
 use Rattle.idl_names.specs.Walk.{State, Walk, start, all_of, Stopped, IsResolved, IsRefused}
-use Rattle.idl_rules.specs.World.{World}
-use Rattle.idl_rules.specs.Rules.{breach}
+use Rattle.idl_language.specs.World.{World}
+use Rattle.idl_language.specs.Rules.{breach}
 use Rattle.idl_check.specs.AcfRules.{acf_file, first_of_all}
 use Rattle.idl_check.specs.SeenAcf.{IsMeaningBeside}
 use Rattle.nd_base.specs.Text.{position_of}

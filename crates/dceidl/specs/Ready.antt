@@ -10,8 +10,8 @@ use Rattle.nd_types.specs.Operations.{operation_named}
 use Rattle.nd_types.specs.Numbers.{has_number_roots}
 use Rattle.nd_graph.specs.Fitting.{setting_of}
 use Rattle.nd_graph.specs.Setting.{Setting}
-use Rattle.idl_rules.specs.Answers.{meant_by}
-use Rattle.idl_check.specs.Listing.{listing}
+use Rattle.nd_types.specs.Meant.{meant_by}
+use Rattle.idl_listing.specs.Listing.{listing}
 use Rattle.dceidl.specs.Asked.{all_due}
 use Rattle.dceidl.specs.Idl.{Means, IsIdlFault, IsDueAfter, IsDueFile}
 use Rattle.dceidl.specs.Words.{Subject}

@@ -1,11 +1,5 @@
-mod Listed
-mod WordLists
-mod ListedLines
-mod ListedRoots
-mod ListedWhole
-mod AcfJudged
-mod AcfLast
-mod AcfAnswers
-mod AcfOperations
-mod AcfNotes
-mod AcfWhole
+pub mod AcfLast
+pub mod AcfAnswers
+pub mod AcfOperations
+pub mod AcfNotes
+pub mod AcfWhole

@@ -121,7 +121,7 @@ fn parameters_in(export: Option<&Export>) -> Option<&[Parameter]>
 
 /// The operations of a file by their names.
 #[derive(Drop)]
-pub(crate) struct NamedOperations<'t> {
+pub struct NamedOperations<'t> {
     exports: &'t [Export],
     numbers: Table<usize>,
     ghost operations: { AreOperations 0 (map seen_export exports.now) numbers },

@@ -8,7 +8,7 @@ use acf_reader::{Attribute, AttributeKind, Attributes};
 
 /// What an attribute is said of.
 #[derive(Clone, Copy, Debug, PartialEq, Eq)]
-pub(crate) enum Spot {
+pub enum Spot {
     Interface,
     Type,
     Operation,

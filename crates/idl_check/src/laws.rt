@@ -1,37 +1,16 @@
-//! Laws over the definitions, and worked examples.
+//! Laws over the definitions.
 
-ghost use Rattle.std.specs.Prelude.{◌≡◌, ℕ, [], ◌∷◌, map, Option, None, Ok, Err};
+ghost use Rattle.std.specs.Prelude.{◌≡◌, ℕ, Option, None, Ok, Err};
 ghost use Rattle.nd_base.specs.declared.octets.Place.{Place};
 ghost use Rattle.nd_types.specs.declared.interface.Interface.{Interface};
 ghost use Rattle.acf_reader.specs.Tree.{Acf};
-ghost use Rattle.idl_rules.specs.World.{World};
-ghost use Rattle.idl_rules.specs.declared.fault.RuleFault.TheVariants as fault;
-ghost use Rattle.idl_rules.specs.Answers.{meant_by};
-ghost use Rattle.idl_rules.specs.FirstBroken.{first_of, first_broken, IsLeast};
-ghost use Rattle.idl_rules.specs.Rules.{breach};
-ghost use Rattle.idl_rules.specs.Texts.{no_rule, rule_at};
-ghost use Rattle.idl_check.specs.Listings.{listing_of, listing_beside, sum_file, sum_listing, base_file, directory_file, directory_listing, forms_file, forms_listing};
+ghost use Rattle.idl_language.specs.World.{World};
+ghost use Rattle.idl_language.specs.declared.fault.RuleFault.TheVariants as fault;
+ghost use Rattle.nd_types.specs.Meant.{meant_by};
+ghost use Rattle.idl_language.specs.FirstBroken.{first_of, first_broken, IsLeast};
+ghost use Rattle.idl_language.specs.Rules.{breach};
 ghost use Rattle.idl_check.specs.AcfRules.{acf_breaches, all_breaches, first_of_all, or_else};
 ghost use Rattle.idl_check.specs.SeenAcf.{AnswersBeside};
-ghost use Rattle.idl_check.specs.AcfTexts.{told_with, acf_rule_at, told_of_directory, directory_acf, other_acf, small_idl, broken_idl, acf_names, acf_places};
-
-/// Three texts and how what they mean is listed: a struct that ends with a conformant array, a directory whose kinds another file declares, and all
-/// other forms of types and roots.
-pub fn listings_are_as_worked()
-    ensures sum { listing_of sum_file ≡ sum_listing ∷ [] }
-    ensures directory { listing_beside base_file directory_file ≡ directory_listing ∷ [] }
-    ensures forms { listing_of forms_file ≡ forms_listing ∷ [] }
-{}
-
-/// Attribute configuration files beside files of IDL: the directory's own and one of another interface, names that the IDL has and that it lacks,
-/// each attribute at each place, and a file beside IDL that breaks a rule itself, which is told.
-pub fn attribute_files_are_judged()
-    ensures directory { told_of_directory directory_acf ≡ no_rule }
-    ensures other { told_of_directory other_acf ≡ acf_rule_at 0 }
-    ensures names { map (λ e. told_with small_idl e.text) acf_names ≡ map (λ e. e.told) acf_names }
-    ensures places { map (λ e. told_with small_idl e.text) acf_places ≡ map (λ e. e.told) acf_places }
-    ensures lesser { told_with broken_idl other_acf ≡ rule_at 30 29 }
-{}
 
 /// The rule on attribute configuration files is told where no other is: all rules together have as their first one that of the others, and where these
 /// have none its own. No lesser one is broken, and none at an earlier place. Without such a file the others stand alone.

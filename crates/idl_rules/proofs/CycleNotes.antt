@@ -4,24 +4,25 @@ use Rattle.std.specs.List.{flat_map}
 use Rattle.std.proofs.lemmas.Bool.Decides.{nat_tests}
 use Rattle.std.proofs.lemmas.List.Concat.{flat_map-cons}
 use Rattle.std.proofs.lemmas.Grind.{flat_map-append}
-use Rattle.idl_rules.specs.World.{World}
-use Rattle.idl_rules.specs.Nodes.{Construct, Node, HeaderNode, AttributeNode, SwitchNode, TagNode, BodyNode, EnumeratorNode, LabelNode, EmptyArmNode, DeclaratorNode, ConstantNode, TypeNode, OperationNode}
-use Rattle.idl_rules.specs.Types.{Names}
-use Rattle.idl_rules.specs.Scene.{Scene, Scoped, Body, body_by}
-use Rattle.idl_rules.specs.TypeRules.{contains_itself, is_deep_body}
-use Rattle.idl_rules.specs.DeclarationRules.{lacks_switch_type}
-use Rattle.idl_rules.specs.Rules.{Breach, broken_in, breaches_at, breaches_of_body}
-use Rattle.idl_rules.specs.FirstBroken.{comes_before, rank, earlier, first_of}
-use Rattle.idl_rules.specs.Noted.{later, noted, of_others}
-use Rattle.idl_rules.specs.OtherBreaches.{other_breaches_at, other_breaches}
-use Rattle.idl_rules.specs.RestBreaches.{but_cycles, cycles_alone, rest_breaches_at, rest_breaches, cycle_of, cycle_breaches}
-use Rattle.idl_rules.proofs.Noted.{noted_all}
-use Rattle.idl_rules.proofs.OtherNotes.{three_kept}
+use Rattle.idl_language.specs.World.{World}
+use Rattle.idl_language.specs.Nodes.{Construct, Node, HeaderNode, AttributeNode, SwitchNode, TagNode, BodyNode, EnumeratorNode, LabelNode, EmptyArmNode, DeclaratorNode, ConstantNode, TypeNode, OperationNode}
+use Rattle.idl_language.specs.Types.{Names}
+use Rattle.idl_language.specs.Scene.{Scene, Scoped, Body, body_by}
+use Rattle.idl_language.specs.TypeRules.{contains_itself, is_deep_body}
+use Rattle.idl_language.specs.DeclarationRules.{lacks_switch_type}
+use Rattle.idl_language.specs.Rules.{Breach, broken_in, breaches_at, breaches_of_body}
+use Rattle.idl_language.specs.FirstBroken.{comes_before, rank, earlier, first_of}
+use Rattle.idl_language.specs.Noted.{later, noted, of_others}
+use Rattle.idl_language.specs.OtherBreaches.{other_breaches_at, other_breaches}
+use Rattle.idl_values.specs.RestBreaches.{but_cycles, cycles_alone, rest_breaches_at, rest_breaches, cycle_of, cycle_breaches}
+use Rattle.idl_language.proofs.Noted.{noted_all}
+use Rattle.idl_language.proofs.OtherNotes.{three_kept}
 use Rattle.idl_rules.proofs.UseNotes.{cycles_append}
 use Rattle.idl_rules.proofs.RestNotes.{node_rest}
+use Rattle.idl_language.specs.declared.rule.TheConstants as Rule
 
 abbrev is_cycle : Breach → Bool
-is_cycle b = eqb b.rule 11
+is_cycle b = eqb b.rule Rule.NO_TYPE_IN_ITSELF
 
 alone_more : (b : Breach) (bs : List Breach) (t : Bool) → is_cycle b ≡ t → cycles_alone (b ∷ bs) ≡ elim t [ true ↦ b ∷ cycles_alone bs | false ↦ cycles_alone bs ]
 alone_more b bs t e = ap (λ t. elim t [ true ↦ b ∷ cycles_alone bs | false ↦ cycles_alone bs ]) e
@@ -115,22 +116,22 @@ none_alone bs h =
 body_alone : (s : Scene) (b : Body) → cycles_alone (of_others (breaches_of_body s b)) ≡ cycle_of s b
 body_alone s b =
     let c = b.construct in
-    let own = broken_in c 11 (contains_itself s b) in
-    let deep = broken_in c 12 (is_deep_body s b) in
-    let lacks = broken_in c 23 (lacks_switch_type c b.body) in
+    let own = broken_in c Rule.NO_TYPE_IN_ITSELF (contains_itself s b) in
+    let deep = broken_in c Rule.NESTING (is_deep_body s b) in
+    let lacks = broken_in c Rule.CASES (lacks_switch_type c b.body) in
     ap cycles_alone (three_kept c c.at 11 12 23 (contains_itself s b) (is_deep_body s b) (lacks_switch_type c b.body) refl refl refl)
     ∙ alone_append (own ++ deep) lacks
     ∙ ap₂ (λ l m. l ++ m) (alone_append own deep ∙ ap₂ (λ l m. l ++ m) (there (contains_itself s b)) (gone_12 (is_deep_body s b))) (gone_23 (lacks_switch_type c b.body))
     ∙ append-nil (own ++ []) ∙ append-nil own where
-      there : (t : Bool) → cycles_alone (broken_in b.construct 11 t) ≡ broken_in b.construct 11 t
+      there : (t : Bool) → cycles_alone (broken_in b.construct Rule.NO_TYPE_IN_ITSELF t) ≡ broken_in b.construct Rule.NO_TYPE_IN_ITSELF t
       there true = refl
       there false = refl
 
-      gone_12 : (t : Bool) → cycles_alone (broken_in b.construct 12 t) ≡ []
+      gone_12 : (t : Bool) → cycles_alone (broken_in b.construct Rule.NESTING t) ≡ []
       gone_12 true = refl
       gone_12 false = refl
 
-      gone_23 : (t : Bool) → cycles_alone (broken_in b.construct 23 t) ≡ []
+      gone_23 : (t : Bool) → cycles_alone (broken_in b.construct Rule.CASES t) ≡ []
       gone_23 true = refl
       gone_23 false = refl
 

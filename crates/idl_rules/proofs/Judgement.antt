@@ -2,24 +2,25 @@
 use Rattle.std.proofs.Common.{◌≡◌, ◌∙◌, ℕ, List, [], ◌∷◌, ◌++◌, map, Option, Some, None, Result, Ok, Err, refl, ap, sym, subst}
 use Rattle.std.specs.Result.{IsErrAnd}
 use Rattle.nd_types.specs.declared.interface.Interface.{Interface}
-use Rattle.idl_rules.specs.declared.fault.RuleFault.{RuleFault}
-use Rattle.idl_rules.specs.declared.fault.RuleFault.TheVariants as faults
-use Rattle.idl_rules.specs.Answers.{Answers}
+use Rattle.idl_language.specs.declared.fault.RuleFault.{RuleFault}
+use Rattle.idl_language.specs.declared.fault.RuleFault.TheVariants as faults
+use Rattle.idl_language.specs.Answers.{Answers}
 use Rattle.std.specs.List.{flat_map}
 use Rattle.idl_names.specs.Known.{Known}
-use Rattle.idl_rules.specs.World.{World}
-use Rattle.idl_rules.specs.Nodes.{Node, nodes, file_nodes, place_in}
-use Rattle.idl_rules.specs.Types.{Names}
-use Rattle.idl_rules.specs.Scene.{Scene, Scoped, scoped_from, names_behind, scene_of}
-use Rattle.idl_rules.specs.Rules.{Breach, breach, breaches, breaches_in}
-use Rattle.idl_rules.specs.FirstBroken.{first_of, first_broken, IsLeast}
-use Rattle.idl_rules.specs.CountRules.{too_many}
-use Rattle.idl_rules.specs.Noted.{noted, of_lists, of_others}
-use Rattle.idl_rules.specs.ListBreaches.{list_breaches}
-use Rattle.idl_rules.specs.OtherBreaches.{other_breaches}
-use Rattle.idl_rules.proofs.Order.{least}
-use Rattle.idl_rules.proofs.Noted.{noted_more, noted_all, or_else, in_two}
+use Rattle.idl_language.specs.World.{World}
+use Rattle.idl_language.specs.Nodes.{Node, nodes, file_nodes, place_in}
+use Rattle.idl_language.specs.Types.{Names}
+use Rattle.idl_language.specs.Scene.{Scene, Scoped, scoped_from, names_behind, scene_of}
+use Rattle.idl_language.specs.Rules.{Breach, breach, breaches, breaches_in}
+use Rattle.idl_language.specs.FirstBroken.{first_of, first_broken, IsLeast}
+use Rattle.idl_language.specs.CountRules.{too_many}
+use Rattle.idl_language.specs.Noted.{noted, of_lists, of_others}
+use Rattle.idl_nodes.specs.ListBreaches.{list_breaches}
+use Rattle.idl_language.specs.OtherBreaches.{other_breaches}
+use Rattle.idl_language.proofs.Order.{least}
+use Rattle.idl_language.proofs.Noted.{noted_more, noted_all, or_else, in_two}
 use Rattle.idl_rules.proofs.Split.{lists_in, others_in}
+use Rattle.idl_language.specs.declared.rule.TheConstants as Rule
 
 nodes_of : (known : Known) (names : Names) (ns : List Node) → map (λ n. n.node) (scoped_from known names ns) ≡ ns
 nodes_of known names [] = refl
@@ -41,10 +42,10 @@ told_by_lists w ns b is told =
 
 -- where no rule on lists is told, the others tell the first of all
 pub told_by_others : (w : World) (ns : List Node) (before last : Option Breach) → ns ≡ nodes w → None ≡ noted w None (list_breaches ns)
-    → before ≡ noted w None (other_breaches (scene_of w)) → last ≡ noted w before (map (λ c. breach 39 (place_in c c.at)) (too_many (scene_of w))) → last ≡ first_broken w
+    → before ≡ noted w None (other_breaches (scene_of w)) → last ≡ noted w before (map (λ c. breach Rule.COUNTS (place_in c c.at)) (too_many (scene_of w))) → last ≡ first_broken w
 unfolding breaches
 told_by_others w ns before last is none others counts =
-    let rest = map (λ c. breach 39 (place_in c c.at)) (too_many (scene_of w)) in
+    let rest = map (λ c. breach Rule.COUNTS (place_in c c.at)) (too_many (scene_of w)) in
     counts ∙ ap (λ o. noted w o rest) others ∙ sym (noted_more w None (other_breaches (scene_of w)) rest) ∙ noted_all w (other_breaches (scene_of w) ++ rest)
     ∙ ap (first_of w) (sym (others_in (scene_of w)))
     ∙ sym (in_two w (breaches w) ∙ ap (λ o. or_else o (first_of w (of_others (breaches w)))) (sym (none ∙ lists_told w ns is)))
@@ -60,10 +61,10 @@ unfolding nodes
 nodes_are w = refl
 
 pub told_over : (w : World) (s : Scene) (ns : List Node) (last : Option Breach) → s ≡ scene_of w → ns ≡ nodes w → None ≡ noted w None (list_breaches ns)
-    → last ≡ noted w (noted w None (other_breaches s)) (map (λ c. breach 39 (place_in c c.at)) (too_many s)) → last ≡ first_broken w
+    → last ≡ noted w (noted w None (other_breaches s)) (map (λ c. breach Rule.COUNTS (place_in c c.at)) (too_many s)) → last ≡ first_broken w
 told_over w s ns last same is none told =
     told_by_others w ns (noted w None (other_breaches (scene_of w))) last is none refl
-    (told ∙ ap (λ t. noted w (noted w None (other_breaches t)) (map (λ c. breach 39 (place_in c c.at)) (too_many t))) same)
+    (told ∙ ap (λ t. noted w (noted w None (other_breaches t)) (map (λ c. breach Rule.COUNTS (place_in c c.at)) (too_many t))) same)
 
 -- want of memory is an answer
 pub memory_answers : (w : World) (r : Result Interface RuleFault) → IsErrAnd r (λ e. e ≡ faults.Memory) → Answers w r

@@ -7,31 +7,33 @@ use Rattle.idl_grammar.specs.Seen.{seen_type, seen_enumerator, seen_init}
 use Rattle.idl_grammar.specs.Tree.{Attribute, TypeSpec}
 use Rattle.idl_grammar.specs.Tree as tree
 use Rattle.idl_names.specs.Known.{Known}
-use Rattle.idl_rules.specs.declared.nodes.Declared as declared
-use Rattle.idl_rules.specs.declared.nodes.Node as program_node
-use Rattle.idl_rules.specs.declared.nodes.Node.TheVariants as node
-use Rattle.idl_rules.specs.declared.nodes.Nodes as program_nodes
-use Rattle.idl_rules.specs.World.{World}
-use Rattle.idl_rules.specs.AttributeRules.{is_out_of_place, is_repeated, is_large_version, is_second_class, lacks_uuid_and_local}
-use Rattle.idl_rules.specs.DeclarationRules.{has_no_body}
-use Rattle.idl_rules.specs.ValueRules.{is_large_enumerator, is_bad_label, is_wrong_constant, is_void_constant, is_handle_constant}
-use Rattle.idl_rules.specs.Nodes.{Construct, ArmLabel, Node, HeaderNode, AttributeNode, SwitchNode, TagNode, BodyNode, EnumeratorNode, LabelNode, EmptyArmNode, DeclaratorNode, ConstantNode, TypeNode, OperationNode, attribute_nodes_from, label_nodes, labels_of}
-use Rattle.idl_rules.specs.Types.{Names, switch_type}
-use Rattle.idl_rules.specs.Scene.{Scene, Scoped, Body, body_by, scoped_from, names_behind, use_of, tag_type}
-use Rattle.idl_rules.specs.Rules.{Breach, broken_at, broken_in, breaches_at, breaches_of_use, breaches_of_body}
-use Rattle.idl_rules.specs.TypeRules.{contains_itself, is_deep_body}
-use Rattle.idl_rules.specs.DeclarationRules.{lacks_switch_type}
-use Rattle.idl_rules.specs.SeenNodes.{seen_construct, seen_declared, seen_result, list_at, seen_node}
-use Rattle.idl_rules.specs.SeenTypes.{names_at, scoped_front}
-use Rattle.idl_rules.specs.Noted.{noted, of_others}
-use Rattle.idl_rules.specs.OthersOf.{others_of}
-use Rattle.idl_rules.specs.OtherBreaches.{other_breaches_at}
+use Rattle.idl_nodes.specs.declared.nodes.Declared as declared
+use Rattle.idl_nodes.specs.declared.nodes.Node as program_node
+use Rattle.idl_nodes.specs.declared.nodes.Node.TheVariants as node
+use Rattle.idl_nodes.specs.declared.nodes.Nodes as program_nodes
+use Rattle.idl_language.specs.World.{World}
+use Rattle.idl_language.specs.AttributeRules.{is_out_of_place, is_repeated, is_large_version, is_second_class, lacks_uuid_and_local}
+use Rattle.idl_language.specs.DeclarationRules.{has_no_body}
+use Rattle.idl_language.specs.ValueRules.{is_large_enumerator, is_bad_label, is_wrong_constant, is_void_constant, is_handle_constant}
+use Rattle.idl_language.specs.Nodes.{Construct, ArmLabel, Node, HeaderNode, AttributeNode, SwitchNode, TagNode, BodyNode, EnumeratorNode, LabelNode, EmptyArmNode, DeclaratorNode, ConstantNode, TypeNode, OperationNode, attribute_nodes_from, label_nodes, labels_of}
+use Rattle.idl_language.specs.Types.{Names, switch_type}
+use Rattle.idl_language.specs.Scene.{Scene, Scoped, Body, body_by, scoped_from, names_behind, use_of, tag_type}
+use Rattle.idl_language.specs.Rules.{Breach, broken_at, broken_in, breaches_at, breaches_of_use, breaches_of_body}
+use Rattle.idl_language.specs.TypeRules.{contains_itself, is_deep_body}
+use Rattle.idl_language.specs.DeclarationRules.{lacks_switch_type}
+use Rattle.idl_nodes.specs.SeenNodes.{seen_construct, seen_declared, seen_result, list_at, seen_node}
+use Rattle.idl_types.specs.SeenTypes.{names_at, scoped_front}
+use Rattle.idl_language.specs.Noted.{noted, of_others}
+use Rattle.idl_language.specs.OthersOf.{others_of}
+use Rattle.idl_language.specs.OtherBreaches.{other_breaches_at}
 use Rattle.idl_rules.specs.Asked.{body_breaches, switch_breaches, empty_arm_breaches}
-use Rattle.idl_rules.specs.RestBreaches.{but_cycles, rest_breaches_at, rest_breaches, program_breaches}
-use Rattle.idl_rules.proofs.Fronts.{scoped_front_next}
-use Rattle.idl_rules.proofs.Noted.{noted_more}
-use Rattle.idl_rules.proofs.OtherNotes.{others_append, kept, dropped, other_cons, other_one, three_kept, last_kept}
+use Rattle.idl_values.specs.RestBreaches.{but_cycles, rest_breaches_at, rest_breaches}
+use Rattle.idl_rules.specs.Asked.{program_breaches}
+use Rattle.idl_types.proofs.Fronts.{scoped_front_next}
+use Rattle.idl_language.proofs.Noted.{noted_more}
+use Rattle.idl_language.proofs.OtherNotes.{others_append, kept, dropped, other_cons, other_one, three_kept, last_kept}
 use Rattle.idl_rules.proofs.UseNotes.{use_kept, body_kept, switch_kept, arm_kept, cycles_append, no_cycle, more_others, more_rest}
+use Rattle.idl_language.specs.declared.rule.TheConstants as Rule
 
 -- ## One node
 
@@ -42,22 +44,22 @@ same_part bs others e f = ap but_cycles e ∙ f ∙ sym e
 pub body_rest : (s : Scene) (b : Body) → but_cycles (of_others (breaches_of_body s b)) ≡ body_breaches s b
 body_rest s b =
     let c = b.construct in
-    let own = broken_in c 11 (contains_itself s b) in
-    let deep = broken_in c 12 (is_deep_body s b) in
-    let lacks = broken_in c 23 (lacks_switch_type c b.body) in
+    let own = broken_in c Rule.NO_TYPE_IN_ITSELF (contains_itself s b) in
+    let deep = broken_in c Rule.NESTING (is_deep_body s b) in
+    let lacks = broken_in c Rule.CASES (lacks_switch_type c b.body) in
     ap but_cycles (three_kept c c.at 11 12 23 (contains_itself s b) (is_deep_body s b) (lacks_switch_type c b.body) refl refl refl)
     ∙ cycles_append (own ++ deep) lacks
     ∙ ap₂ (λ l m. l ++ m)
     (cycles_append own deep ∙ ap₂ (λ l m. l ++ m) (gone (contains_itself s b)) (no_cycle c 12 c.at (is_deep_body s b) refl))
     (no_cycle c 23 c.at (lacks_switch_type c b.body) refl) where
-      gone : (t : Bool) → but_cycles (broken_in b.construct 11 t) ≡ []
+      gone : (t : Bool) → but_cycles (broken_in b.construct Rule.NO_TYPE_IN_ITSELF t) ≡ []
       gone true = refl
       gone false = refl
 
 attribute_rest : (s : Scene) (names : Names) (c : Construct) (before : List Attribute) (a : Attribute)
     → but_cycles (of_others (breaches_at s names (AttributeNode c before a))) ≡ of_others (breaches_at s names (AttributeNode c before a))
 attribute_rest s names c before a =
-    same_part (breaches_at s names (AttributeNode c before a)) (broken_in c 26 (is_second_class before a))
+    same_part (breaches_at s names (AttributeNode c before a)) (broken_in c Rule.CLASSES_ON_POINTERS (is_second_class before a))
     (last_kept c a.at c.at 1 2 4 26 (is_out_of_place c.position a) (is_repeated before a) (is_large_version a) (is_second_class before a) refl refl refl refl)
     (no_cycle c 26 c.at (is_second_class before a) refl)
 
@@ -66,11 +68,11 @@ one_rest : (c : Construct) (rule at : ℕ) (t : Bool) → of_others (broken_at c
 one_rest c rule at t e f = same_part (broken_at c rule at t) (broken_at c rule at t) e f
 
 constant_rest : (c : Construct) (a b d : Bool)
-    → but_cycles (of_others (broken_in c 6 a ++ broken_in c 7 b ++ broken_in c 38 d)) ≡ of_others (broken_in c 6 a ++ broken_in c 7 b ++ broken_in c 38 d)
+    → but_cycles (of_others (broken_in c Rule.VOID a ++ broken_in c Rule.HANDLE b ++ broken_in c Rule.CONSTANTS d)) ≡ of_others (broken_in c Rule.VOID a ++ broken_in c Rule.HANDLE b ++ broken_in c Rule.CONSTANTS d)
 constant_rest c a b d =
-    same_part (broken_in c 6 a ++ broken_in c 7 b ++ broken_in c 38 d) (broken_in c 6 a ++ broken_in c 7 b ++ broken_in c 38 d)
+    same_part (broken_in c Rule.VOID a ++ broken_in c Rule.HANDLE b ++ broken_in c Rule.CONSTANTS d) (broken_in c Rule.VOID a ++ broken_in c Rule.HANDLE b ++ broken_in c Rule.CONSTANTS d)
     (three_kept c c.at 6 7 38 a b d refl refl refl)
-    (more_rest (broken_in c 6 a ++ broken_in c 7 b) c 38 d (more_rest (broken_in c 6 a) c 7 b (no_cycle c 6 c.at a refl) refl) refl)
+    (more_rest (broken_in c Rule.VOID a ++ broken_in c Rule.HANDLE b) c 38 d (more_rest (broken_in c Rule.VOID a) c 7 b (no_cycle c 6 c.at a refl) refl) refl)
 
 -- ## Nodes side by side
 
@@ -120,7 +122,7 @@ alone s names n e =
 pub node_rest : (s : Scene) (names : Names) (n : Node) → body_by names n ≡ [] → but_cycles (of_others (breaches_at s names n)) ≡ of_others (breaches_at s names n)
 node_rest s names (HeaderNode c at) h =
     let lacks = lacks_uuid_and_local c in
-    same_part (broken_at c 3 at lacks) [] (dropped c 3 at lacks refl) refl
+    same_part (broken_at c Rule.UUID_OR_LOCAL at lacks) [] (dropped c 3 at lacks refl) refl
 node_rest s names (AttributeNode c before a) h = attribute_rest s names c before a
 node_rest s names (SwitchNode c of) h =
     let t = switch_type names of in

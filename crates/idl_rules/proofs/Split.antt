@@ -2,22 +2,23 @@
 use Rattle.std.proofs.Common.{◌≡◌, ◌∙◌, ℕ, Bool, true, false, ltb, List, [], ◌∷◌, ◌++◌, map, append_assoc, append-nil, refl, ap, ap₂, sym}
 use Rattle.std.specs.List.{flat_map}
 use Rattle.std.proofs.lemmas.List.Concat.{flat_map-cons}
-use Rattle.idl_rules.specs.World.{World}
-use Rattle.idl_rules.specs.Nodes.{Construct, place_in, Node, HeaderNode, AttributeNode, SwitchNode, TagNode, BodyNode, EnumeratorNode, LabelNode, EmptyArmNode, DeclaratorNode, ConstantNode, TypeNode, OperationNode}
-use Rattle.idl_rules.specs.Types.{Names, switch_type, is_void, is_handle, is_pipe, is_context}
-use Rattle.idl_rules.specs.Scene.{Scene, Scoped, Use, Body, use_of, tag_type}
-use Rattle.idl_rules.specs.Rules.{Breach, breach, broken_at, broken_in, breaches_at, breaches_of_use, breaches_of_body, breaches_in}
-use Rattle.idl_rules.specs.AttributeRules.{is_out_of_place, is_repeated, lacks_uuid_and_local, is_large_version, is_second_class}
-use Rattle.idl_rules.specs.DeclarationRules.{has_no_body, lacks_switch_type, is_wrongly_cased, has_class, has_string, lacks_direction}
-use Rattle.idl_rules.specs.ValueRules.{is_large_enumerator, has_lower_bounds, is_bad_label, is_wrong_constant, is_void_constant, is_handle_constant}
-use Rattle.idl_rules.specs.TypeRules.{holds_void, holds_handle, holds_pipe, is_no_context_handle, holds_context_handle, in_tag, contains_itself, is_deep_body, holds_deep_array, is_wrong_result}
-use Rattle.idl_rules.specs.ArrayRules.{has_wrong_counts, has_wrong_dimensions, has_wrong_elements, hoists_before_last, is_hoisting_arm, holds_wrong_pipe}
-use Rattle.idl_rules.specs.PointerRules.{has_class_without_pointer, holds_pointer_without_class, holds_pointer_to_reference, is_nullable_out, is_wrong_out}
-use Rattle.idl_rules.specs.VariableRules.{may_not_be_switched, holds_nonencapsulated_union, has_wrong_switch, is_wrong_text, is_wrongly_sized, is_wrongly_varying, has_no_variable, has_wrong_variable}
-use Rattle.idl_rules.specs.CountRules.{too_many}
-use Rattle.idl_rules.specs.Noted.{is_of_lists, of_lists, of_others}
-use Rattle.idl_rules.specs.ListBreaches.{list_breaches_at, list_breaches}
-use Rattle.idl_rules.specs.OtherBreaches.{other_breaches_at, other_breaches}
+use Rattle.idl_language.specs.World.{World}
+use Rattle.idl_language.specs.Nodes.{Construct, place_in, Node, HeaderNode, AttributeNode, SwitchNode, TagNode, BodyNode, EnumeratorNode, LabelNode, EmptyArmNode, DeclaratorNode, ConstantNode, TypeNode, OperationNode}
+use Rattle.idl_language.specs.Types.{Names, switch_type, is_void, is_handle, is_pipe, is_context}
+use Rattle.idl_language.specs.Scene.{Scene, Scoped, Use, Body, use_of, tag_type}
+use Rattle.idl_language.specs.Rules.{Breach, breach, broken_at, broken_in, breaches_at, breaches_of_use, breaches_of_body, breaches_in}
+use Rattle.idl_language.specs.AttributeRules.{is_out_of_place, is_repeated, lacks_uuid_and_local, is_large_version, is_second_class}
+use Rattle.idl_language.specs.DeclarationRules.{has_no_body, lacks_switch_type, is_wrongly_cased, has_class, has_string, lacks_direction}
+use Rattle.idl_language.specs.ValueRules.{is_large_enumerator, has_lower_bounds, is_bad_label, is_wrong_constant, is_void_constant, is_handle_constant}
+use Rattle.idl_language.specs.TypeRules.{holds_void, holds_handle, holds_pipe, is_no_context_handle, holds_context_handle, in_tag, contains_itself, is_deep_body, holds_deep_array, is_wrong_result}
+use Rattle.idl_language.specs.ArrayRules.{has_wrong_counts, has_wrong_dimensions, has_wrong_elements, hoists_before_last, is_hoisting_arm, holds_wrong_pipe}
+use Rattle.idl_language.specs.PointerRules.{has_class_without_pointer, holds_pointer_without_class, holds_pointer_to_reference, is_nullable_out, is_wrong_out}
+use Rattle.idl_language.specs.VariableRules.{may_not_be_switched, holds_nonencapsulated_union, has_wrong_switch, is_wrong_text, is_wrongly_sized, is_wrongly_varying, has_no_variable, has_wrong_variable}
+use Rattle.idl_language.specs.CountRules.{too_many}
+use Rattle.idl_language.specs.Noted.{is_of_lists, of_lists, of_others}
+use Rattle.idl_nodes.specs.ListBreaches.{list_breaches_at, list_breaches}
+use Rattle.idl_language.specs.OtherBreaches.{other_breaches_at, other_breaches}
+use Rattle.idl_language.specs.declared.rule.TheConstants as Rule
 
 -- ## Two parts of a list
 
@@ -51,13 +52,13 @@ others_of_all f (n ∷ ns) =
 
 -- ## Rule 39 is no rule on lists
 
-no_lists_39 : (cs : List Construct) → of_lists (map (λ c. breach 39 (place_in c c.at)) cs) ≡ []
+no_lists_39 : (cs : List Construct) → of_lists (map (λ c. breach Rule.COUNTS (place_in c c.at)) cs) ≡ []
 no_lists_39 [] = refl
 no_lists_39 (c ∷ cs) = no_lists_39 cs
 
-others_39 : (cs : List Construct) → of_others (map (λ c. breach 39 (place_in c c.at)) cs) ≡ map (λ c. breach 39 (place_in c c.at)) cs
+others_39 : (cs : List Construct) → of_others (map (λ c. breach Rule.COUNTS (place_in c c.at)) cs) ≡ map (λ c. breach Rule.COUNTS (place_in c c.at)) cs
 others_39 [] = refl
-others_39 (c ∷ cs) = ap (λ l. breach 39 (place_in c c.at) ∷ l) (others_39 cs)
+others_39 (c ∷ cs) = ap (λ l. breach Rule.COUNTS (place_in c c.at) ∷ l) (others_39 cs)
 
 -- ## What a node breaks of the rules on lists
 
@@ -66,12 +67,12 @@ record IsPart (bs part : List Breach) : Type 0 where
   is : of_lists bs ≡ part
 
 -- a rule that is none of these
-other : (c : Construct) (rule at : ℕ) (b : Bool) → ltb rule 5 ≡ false → IsPart (broken_at c rule at b) []
+other : (c : Construct) (rule at : ℕ) (b : Bool) → ltb rule Rule.BODY ≡ false → IsPart (broken_at c rule at b) []
 other c rule at false e = record { is = refl }
 other c rule at true e = record { is = ap (λ t. elim t [ true ↦ breach rule (place_in c at) ∷ [] | false ↦ [] ]) e }
 
 -- a rule on lists
-own : (c : Construct) (rule at : ℕ) (b : Bool) → ltb rule 5 ≡ true → IsPart (broken_at c rule at b) (broken_at c rule at b)
+own : (c : Construct) (rule at : ℕ) (b : Bool) → ltb rule Rule.BODY ≡ true → IsPart (broken_at c rule at b) (broken_at c rule at b)
 own c rule at false e = record { is = refl }
 own c rule at true e = record { is = ap (λ t. elim t [ true ↦ breach rule (place_in c at) ∷ [] | false ↦ [] ]) e }
 
@@ -154,11 +155,11 @@ all_lists s (n ∷ ns) =
 
 pub lists_in : (s : Scene) → of_lists (breaches_in s) ≡ list_breaches (map (λ n. n.node) s.nodes)
 lists_in s =
-    lists_append (flat_map (λ n. breaches_at s n.names n.node) s.nodes) (map (λ c. breach 39 (place_in c c.at)) (too_many s))
+    lists_append (flat_map (λ n. breaches_at s n.names n.node) s.nodes) (map (λ c. breach Rule.COUNTS (place_in c c.at)) (too_many s))
     ∙ ap₂ (λ a b. a ++ b) (lists_of_all (λ n. breaches_at s n.names n.node) s.nodes ∙ all_lists s s.nodes) (no_lists_39 (too_many s))
     ∙ append-nil (list_breaches (map (λ n. n.node) s.nodes))
 
-pub others_in : (s : Scene) → of_others (breaches_in s) ≡ other_breaches s ++ map (λ c. breach 39 (place_in c c.at)) (too_many s)
+pub others_in : (s : Scene) → of_others (breaches_in s) ≡ other_breaches s ++ map (λ c. breach Rule.COUNTS (place_in c c.at)) (too_many s)
 others_in s =
-    others_append (flat_map (λ n. breaches_at s n.names n.node) s.nodes) (map (λ c. breach 39 (place_in c c.at)) (too_many s))
+    others_append (flat_map (λ n. breaches_at s n.names n.node) s.nodes) (map (λ c. breach Rule.COUNTS (place_in c c.at)) (too_many s))
     ∙ ap₂ (λ a b. a ++ b) (others_of_all (λ n. breaches_at s n.names n.node) s.nodes) (others_39 (too_many s))

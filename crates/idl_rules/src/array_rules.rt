@@ -2,21 +2,22 @@
 ghost use Rattle.std.specs.Prelude.{◌≡◌, ◌&&◌, not, map, List, Option, option_map};
 ghost use Rattle.idl_names.specs.Seen.{seen_files};
 ghost use Rattle.idl_grammar.specs.Seen.{seen_attribute};
-ghost use Rattle.idl_rules.specs.World.{World};
-ghost use Rattle.idl_rules.specs.Scene.{Scene, Use};
-ghost use Rattle.idl_rules.specs.Rules.{Breach};
-ghost use Rattle.idl_rules.specs.ArrayRules as rules;
-ghost use Rattle.idl_rules.specs.Kinds.{type_at};
-ghost use Rattle.idl_rules.specs.SeenNodes.{seen_position, seen_construct};
-ghost use Rattle.idl_rules.specs.SeenMarks.{AreMarks};
-ghost use Rattle.idl_rules.specs.Noted.{noted};
-ghost use Rattle.idl_rules.specs.Found.{seen_breach};
-ghost use Rattle.idl_rules.specs.Asked.{Holds, asked_use, IsAsked, is_followed, with_arrays};
+ghost use Rattle.idl_language.specs.World.{World};
+ghost use Rattle.idl_language.specs.Scene.{Scene, Use};
+ghost use Rattle.idl_language.specs.Rules.{Breach};
+ghost use Rattle.idl_language.specs.ArrayRules as rules;
+ghost use Rattle.idl_kinds.specs.Kinds.{type_at};
+ghost use Rattle.idl_nodes.specs.SeenNodes.{seen_position, seen_construct};
+ghost use Rattle.idl_marks.specs.SeenMarks.{AreMarks};
+ghost use Rattle.idl_language.specs.Noted.{noted};
+ghost use Rattle.idl_language.specs.Found.{seen_breach};
+ghost use Rattle.idl_marks.specs.SeenMarks.{Holds};
+ghost use Rattle.idl_rules.specs.Asked.{asked_use, IsAsked, is_followed, with_arrays};
 
 use crate::asked::{Asked, Judge, note};
-use crate::finder::Finder;
-use crate::nodes::Position;
-use crate::words::{Word, has, has_length};
+use idl_language::{Finder, rule};
+use idl_nodes::nodes::Position;
+use idl_nodes::words::{Word, has, has_length};
 
 /// Rule 16: whether an array of more than one dimension is not fixed in each, or has length_is, first_is, last_is or `string`.
 fn has_wrong_dimensions(judge: &Judge<'_>, asked: &Asked<'_>) -> bool
@@ -59,13 +60,38 @@ pub(crate) fn note_arrays(finder: &mut Finder<'_>, judge: &Judge<'_>, asked: &As
     note(
         finder,
         construct,
-        14,
+        rule::ELEMENTS,
         judge.mark(asked.typed.declared_as).holds_wrong_count,
     );
-    note(finder, construct, 15, asked.lower_bounds);
-    note(finder, construct, 16, has_wrong_dimensions(judge, asked));
-    note(finder, construct, 17, of.holds_wrong_element);
-    note(finder, construct, 18, hoists_before_last(judge, asked));
-    note(finder, construct, 19, is_hoisting_arm(judge, asked));
-    note(finder, construct, 20, of.holds_wrong_pipe);
+    note(finder, construct, rule::LOWER_BOUNDS, asked.lower_bounds);
+    note(
+        finder,
+        construct,
+        rule::SEVERAL_DIMENSIONS,
+        has_wrong_dimensions(judge, asked),
+    );
+    note(
+        finder,
+        construct,
+        rule::ELEMENTS_OF_ARRAYS,
+        of.holds_wrong_element,
+    );
+    note(
+        finder,
+        construct,
+        rule::MEMBERS_THAT_HOIST,
+        hoists_before_last(judge, asked),
+    );
+    note(
+        finder,
+        construct,
+        rule::ARMS_THAT_HOIST,
+        is_hoisting_arm(judge, asked),
+    );
+    note(
+        finder,
+        construct,
+        rule::ELEMENTS_OF_PIPES,
+        of.holds_wrong_pipe,
+    );
 }

@@ -1,43 +1,43 @@
 // What the rules ask of a declarator where it stands.
 ghost use Rattle.std.specs.Prelude.{◌≡◌, ◌++◌, Bool, List, Option, option_map};
 ghost use Rattle.idl_names.specs.Seen.{seen_files};
-ghost use Rattle.idl_rules.specs.World.{World};
-ghost use Rattle.idl_rules.specs.Nodes as rules;
-ghost use Rattle.idl_rules.specs.Rules.{Breach, broken_in};
-ghost use Rattle.idl_rules.specs.Scene.{Scene, chain, below};
-ghost use Rattle.idl_rules.specs.TypeRules.{below_reference};
-ghost use Rattle.idl_rules.specs.VariableRules.{below_pointer};
-ghost use Rattle.idl_rules.specs.Kinds.{type_by, type_at, seen_types};
-ghost use Rattle.idl_rules.specs.SeenNodes.{seen_construct};
-ghost use Rattle.idl_rules.specs.SeenMarks.{IsMark, AreMarks};
-ghost use Rattle.idl_rules.specs.Noted.{noted};
-ghost use Rattle.idl_rules.specs.Found.{seen_breach};
-ghost use Rattle.idl_rules.specs.Asked.{Holds};
+ghost use Rattle.idl_language.specs.World.{World};
+ghost use Rattle.idl_language.specs.Nodes as rules;
+ghost use Rattle.idl_language.specs.Rules.{Breach, broken_in};
+ghost use Rattle.idl_language.specs.Scene.{Scene, chain, below};
+ghost use Rattle.idl_language.specs.TypeRules.{below_reference};
+ghost use Rattle.idl_language.specs.VariableRules.{below_pointer};
+ghost use Rattle.idl_kinds.specs.Kinds.{type_by, type_at, seen_types};
+ghost use Rattle.idl_nodes.specs.SeenNodes.{seen_construct};
+ghost use Rattle.idl_marks.specs.SeenMarks.{IsMark, AreMarks};
+ghost use Rattle.idl_language.specs.Noted.{noted};
+ghost use Rattle.idl_language.specs.Found.{seen_breach};
+ghost use Rattle.idl_marks.specs.SeenMarks.{Holds};
 
-use crate::finder::Finder;
-use crate::kinds::{Kind, Kinds};
-use crate::marks::{Mark, Marks};
-use crate::nodes::Construct;
-use crate::types::Typed;
+use idl_kinds::kinds::{Kind, Kinds};
+use idl_language::Finder;
+use idl_marks::marks::{Mark, Marks};
+use idl_nodes::nodes::Construct;
+use idl_types::types::Typed;
 
 /// A declarator where it stands, with the numbers of its types.
 #[derive(Clone, Copy)]
-pub(crate) struct Asked<'t> {
-    pub(crate) construct: Construct<'t>,
-    pub(crate) typed: Typed,
+pub struct Asked<'t> {
+    pub construct: Construct<'t>,
+    pub typed: Typed,
     /// Others stand behind it in its list.
-    pub(crate) followed: bool,
+    pub followed: bool,
     /// A dimension has a lower bound other than 0.
-    pub(crate) lower_bounds: bool,
+    pub lower_bounds: bool,
     /// A variable of its attributes is no other member or parameter of its list.
-    pub(crate) no_variable: bool,
+    pub no_variable: bool,
 }
 
 /// The types of the program with their marks.
 #[derive(Clone, Copy)]
-pub(crate) struct Judge<'j> {
-    pub(crate) kinds: &'j Kinds,
-    pub(crate) marks: &'j Marks,
+pub struct Judge<'j> {
+    pub kinds: &'j Kinds,
+    pub marks: &'j Marks,
 }
 
 /// Of no types.
@@ -62,7 +62,7 @@ const NOTHING: Mark = Mark {
 
 impl<'j> Judge<'j> {
     /// The kind of a type.
-    pub(crate) fn kind(&self, number: u32) -> Kind
+    pub fn kind(&self, number: u32) -> Kind
         ensures { type_by (seen_types self.now.kinds.now) result ≡ type_at self.now.kinds.now number }
     {
         self.kinds.kind(number)

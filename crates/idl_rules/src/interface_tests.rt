@@ -217,17 +217,6 @@ fn assert_told(
 }
 
 #[test]
-fn a_struct_that_ends_with_an_array(rt: HostRuntime) -> Result<(), Fail> {
-    assert_told(
-        &rt,
-        rt.alloc(),
-        b"[uuid(00112233-4455-6677-8899-aAbBcCdDeEfF), version(1.0)] interface t { typedef struct { short n; [size_is(n)] hyper a[*]; } s; void sum([in] s *p); union u switch (long k) v { case 1: case -2: char c; default: ; case 7: long d; }; void f([in, out] union u *p); }",
-        Some(0x0011_2233_4455_6677_8899_aabb_ccdd_eeff),
-        b"t 1.0\nstruct n:5 a:13s0\narray 9[]\nref 12\nencapsulated 7 1=c:1 -2=c:1 7=d:7 default 0=\nref 15\nsum in p:14\nf in_out p:16",
-    )
-}
-
-#[test]
 fn a_directory(rt: HostRuntime) -> Result<(), Fail> {
     assert_told(
         &rt,
@@ -235,16 +224,5 @@ fn a_directory(rt: HostRuntime) -> Result<(), Fail> {
         b"[local, version(2.1), pointer_default(unique)] interface dir { typedef enum { FILE_KIND, FOLDER_KIND = 4 } kind_t; typedef [switch_type(kind_t)] union { [case(FILE_KIND)] unsigned long size; [case(FOLDER_KIND)] ; } detail_t; typedef struct entry { kind_t kind; [switch_is(kind)] detail_t detail; [string] char name[16]; [ptr] struct entry *parent; struct entry *next; } entry; unsigned long list([in, string] char *path, [out] entry *first); void put([in] handle_t h, [in, unique] entry *e, [in] unsigned long n, [in, size_is(n)] byte data[*]); }",
         None,
         b"dir 2.1\nenum 0 4\nunion 12 0=size:8 4=\nstruct kind:12 detail:13w0 name:15 parent:16 next:17\ntext 1[16]\nptr 14\nunique 14\ntext 1[]\nref 18\nref 14\narray 2[]\nlist in path:19 out first:20 -> 8\nput in h:4294967295 in e:17 in n:8 in data:21s2",
-    )
-}
-
-#[test]
-fn pipes_and_context_handles(rt: HostRuntime) -> Result<(), Fail> {
-    assert_told(
-        &rt,
-        rt.alloc(),
-        b"[local] interface p { typedef pipe long longs; typedef [context_handle] void *ctx; typedef [unique] long *some; void f([in] longs a, [out] ctx *c, [in, size_is(n), first_is(m), last_is(*l)] char *d, [in] long n, [in] short m, [in] small *l, [in, ref] some e, [in, max_is(n), length_is(m)] byte g[*]); boolean h([in, out] long a[2][3], [in, length_is(n)] char b[4], [in] unsigned small n); }",
-        None,
-        b"p 0.0\npipe 7\nunique 7\nref 11\nvarying 1[]\nref 15\nref 3\nref 7\nvarying 2[]\narray 7[3]\narray 20[2]\nvarying 1[4]\nf in a:12 out c:14 in d:16s3f4a5* in n:7 in m:5 in l:17 in e:18 in g:19m3l4\nh in_out a:21 in b:22l2 in n:4 -> 0",
     )
 }

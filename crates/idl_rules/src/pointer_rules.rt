@@ -2,25 +2,26 @@
 ghost use Rattle.std.specs.Prelude.{◌≡◌, ◌&&◌, not, map, List, Option, option_map};
 ghost use Rattle.idl_names.specs.Seen.{seen_files};
 ghost use Rattle.idl_grammar.specs.Seen.{seen_attribute};
-ghost use Rattle.idl_rules.specs.World.{World};
-ghost use Rattle.idl_rules.specs.Scene.{Scene, Use};
-ghost use Rattle.idl_rules.specs.Rules.{Breach};
-ghost use Rattle.idl_rules.specs.PointerRules as rules;
-ghost use Rattle.idl_rules.specs.Attributes.{has, out_word};
-ghost use Rattle.idl_rules.specs.DeclarationRules.{is_parameter};
-ghost use Rattle.idl_rules.specs.Kinds.{type_at};
-ghost use Rattle.idl_rules.specs.SeenNodes.{seen_position, seen_construct};
-ghost use Rattle.idl_rules.specs.SeenMarks.{AreMarks};
-ghost use Rattle.idl_rules.specs.Noted.{noted};
-ghost use Rattle.idl_rules.specs.Found.{seen_breach};
-ghost use Rattle.idl_rules.specs.Asked.{Holds, asked_use, IsAsked, with_pointers};
+ghost use Rattle.idl_language.specs.World.{World};
+ghost use Rattle.idl_language.specs.Scene.{Scene, Use};
+ghost use Rattle.idl_language.specs.Rules.{Breach};
+ghost use Rattle.idl_language.specs.PointerRules as rules;
+ghost use Rattle.idl_language.specs.Attributes.{has, out_word};
+ghost use Rattle.idl_language.specs.DeclarationRules.{is_parameter};
+ghost use Rattle.idl_kinds.specs.Kinds.{type_at};
+ghost use Rattle.idl_nodes.specs.SeenNodes.{seen_position, seen_construct};
+ghost use Rattle.idl_marks.specs.SeenMarks.{AreMarks};
+ghost use Rattle.idl_language.specs.Noted.{noted};
+ghost use Rattle.idl_language.specs.Found.{seen_breach};
+ghost use Rattle.idl_marks.specs.SeenMarks.{Holds};
+ghost use Rattle.idl_rules.specs.Asked.{asked_use, IsAsked, with_pointers};
 
 use crate::asked::{Asked, Judge, note};
 use crate::declaration_rules::lacks_direction;
-use crate::finder::Finder;
-use crate::nodes::{Construct, Position};
 use crate::type_rules::is_wrong_result;
-use crate::words::{Word, has as has_word, has_class};
+use idl_language::{Finder, rule};
+use idl_nodes::nodes::{Construct, Position};
+use idl_nodes::words::{Word, has as has_word, has_class};
 
 /// Rule 26: whether it has a class and is no pointer.
 fn has_class_without_pointer(judge: &Judge<'_>, asked: &Asked<'_>) -> bool
@@ -66,23 +67,43 @@ pub(crate) fn note_pointers(finder: &mut Finder<'_>, judge: &Judge<'_>, asked: &
     note(
         finder,
         construct,
-        26,
+        rule::CLASSES_ON_POINTERS,
         has_class_without_pointer(judge, asked),
     );
     note(
         finder,
         construct,
-        27,
+        rule::CLASS_OF_EACH_POINTER,
         judge.mark(asked.typed.declared_as).holds_classless,
     );
     note(
         finder,
         construct,
-        28,
+        rule::NO_POINTER_TO_REFERENCE,
         judge.mark(asked.typed.of).holds_reference_behind,
     );
-    note(finder, construct, 29, is_nullable_out(judge, asked));
-    note(finder, construct, 30, lacks_direction(construct));
-    note(finder, construct, 31, is_wrong_out(judge, asked));
-    note(finder, construct, 32, is_wrong_result(judge, asked));
+    note(
+        finder,
+        construct,
+        rule::OUT_POINTERS,
+        is_nullable_out(judge, asked),
+    );
+    note(
+        finder,
+        construct,
+        rule::DIRECTIONS,
+        lacks_direction(construct),
+    );
+    note(
+        finder,
+        construct,
+        rule::OUT_PARAMETERS,
+        is_wrong_out(judge, asked),
+    );
+    note(
+        finder,
+        construct,
+        rule::RESULTS,
+        is_wrong_result(judge, asked),
+    );
 }

@@ -2,23 +2,24 @@
 ghost use Rattle.std.specs.Prelude.{◌≡◌, ◌&&◌, not, map, List, Option, option_map};
 ghost use Rattle.idl_names.specs.Seen.{seen_files};
 ghost use Rattle.idl_grammar.specs.Seen.{seen_attribute};
-ghost use Rattle.idl_rules.specs.World.{World};
-ghost use Rattle.idl_rules.specs.Scene.{Scene, Use};
-ghost use Rattle.idl_rules.specs.Rules.{Breach};
-ghost use Rattle.idl_rules.specs.TypeRules as rules;
-ghost use Rattle.idl_rules.specs.Kinds.{type_at};
-ghost use Rattle.idl_rules.specs.SeenNodes.{seen_position, seen_construct};
-ghost use Rattle.idl_rules.specs.SeenMarks.{AreMarks};
-ghost use Rattle.idl_rules.specs.Noted.{noted};
-ghost use Rattle.idl_rules.specs.Found.{seen_breach};
-ghost use Rattle.idl_rules.specs.Asked.{Holds, asked_use, IsAsked, with_types};
-ghost use Rattle.idl_rules.specs.Attributes.{has, in_word, out_word};
+ghost use Rattle.idl_language.specs.World.{World};
+ghost use Rattle.idl_language.specs.Scene.{Scene, Use};
+ghost use Rattle.idl_language.specs.Rules.{Breach};
+ghost use Rattle.idl_language.specs.TypeRules as rules;
+ghost use Rattle.idl_kinds.specs.Kinds.{type_at};
+ghost use Rattle.idl_nodes.specs.SeenNodes.{seen_position, seen_construct};
+ghost use Rattle.idl_marks.specs.SeenMarks.{AreMarks};
+ghost use Rattle.idl_language.specs.Noted.{noted};
+ghost use Rattle.idl_language.specs.Found.{seen_breach};
+ghost use Rattle.idl_marks.specs.SeenMarks.{Holds};
+ghost use Rattle.idl_rules.specs.Asked.{asked_use, IsAsked, with_types};
+ghost use Rattle.idl_language.specs.Attributes.{has, in_word, out_word};
 
 use crate::asked::{Asked, Judge, note};
-use crate::finder::Finder;
-use crate::marks::Mark;
-use crate::nodes::Position;
-use crate::words::{Word, has as has_word};
+use idl_language::{Finder, rule};
+use idl_marks::marks::Mark;
+use idl_nodes::nodes::Position;
+use idl_nodes::words::{Word, has as has_word};
 
 /// The types of a declarator in which no `void` may stand.
 fn without_void(judge: &Judge<'_>, asked: &Asked<'_>) -> Mark
@@ -83,21 +84,36 @@ pub(crate) fn note_types(finder: &mut Finder<'_>, judge: &Judge<'_>, asked: &Ask
         → option_map seen_breach finder.new.first ≡ noted w first (with_types s u before) }
 {
     let construct = &asked.construct;
-    note(finder, construct, 6, without_void(judge, asked).holds_void);
     note(
         finder,
         construct,
-        7,
+        rule::VOID,
+        without_void(judge, asked).holds_void,
+    );
+    note(
+        finder,
+        construct,
+        rule::HANDLE,
         without_handle(judge, asked).holds_handle,
     );
     let within = without_pipe(judge, asked);
-    note(finder, construct, 8, within.holds_pipe);
-    note(finder, construct, 9, is_no_context_handle(judge, asked));
-    note(finder, construct, 10, within.holds_context);
+    note(finder, construct, rule::PIPES, within.holds_pipe);
     note(
         finder,
         construct,
-        12,
+        rule::CONTEXT_HANDLE,
+        is_no_context_handle(judge, asked),
+    );
+    note(
+        finder,
+        construct,
+        rule::CONTEXT_HANDLES,
+        within.holds_context,
+    );
+    note(
+        finder,
+        construct,
+        rule::NESTING,
         judge.mark(asked.typed.of).holds_deep_array,
     );
 }

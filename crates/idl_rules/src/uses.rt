@@ -3,37 +3,38 @@ ghost use Rattle.std.specs.Prelude.{◌≡◌, ◌+◌, ltb, List, [], Option, S
 ghost use Rattle.std.specs.List.{slice_get};
 ghost use Rattle.idl_grammar.specs.Seen.{seen_type};
 ghost use Rattle.idl_names.specs.Seen.{seen_files, known_in};
-ghost use Rattle.idl_rules.specs.declared.kinds.Kind as kind;
-ghost use Rattle.idl_rules.specs.World.{World};
-ghost use Rattle.idl_rules.specs.Types.{Names};
-ghost use Rattle.idl_rules.specs.Scene.{Scene, Use, Body, use_of, type_of_body};
-ghost use Rattle.idl_rules.specs.Rules.{Breach, breaches_of_use};
-ghost use Rattle.idl_rules.specs.Kinds.{type_at};
-ghost use Rattle.idl_rules.specs.SeenNodes.{seen_construct, seen_declared, seen_result, list_at};
-ghost use Rattle.idl_rules.specs.SeenTypes.{scene_seen, names_at, IsTypedUse, IsTyped, IsTypes};
-ghost use Rattle.idl_rules.specs.SeenMarks.{AreMarks};
-ghost use Rattle.idl_rules.specs.Noted.{noted};
-ghost use Rattle.idl_rules.specs.Found.{seen_breach};
+ghost use Rattle.idl_kinds.specs.declared.kinds.Kind as kind;
+ghost use Rattle.idl_language.specs.World.{World};
+ghost use Rattle.idl_language.specs.Types.{Names};
+ghost use Rattle.idl_language.specs.Scene.{Scene, Use, Body, use_of, type_of_body};
+ghost use Rattle.idl_language.specs.Rules.{Breach, breaches_of_use};
+ghost use Rattle.idl_kinds.specs.Kinds.{type_at};
+ghost use Rattle.idl_nodes.specs.SeenNodes.{seen_construct, seen_declared, seen_result, list_at};
+ghost use Rattle.idl_types.specs.SeenTypes.{scene_seen, names_at, IsTypedUse, IsTyped, IsTypes};
+ghost use Rattle.idl_marks.specs.SeenMarks.{AreMarks};
+ghost use Rattle.idl_language.specs.Noted.{noted};
+ghost use Rattle.idl_language.specs.Found.{seen_breach};
 ghost use Rattle.idl_rules.specs.Asked.{IsAsked, body_breaches, switch_breaches, empty_arm_breaches};
-ghost use Rattle.idl_rules.specs.OtherBreaches.{other_breaches};
-ghost use Rattle.idl_rules.specs.RestBreaches.{rest_breaches, program_breaches};
+ghost use Rattle.idl_language.specs.OtherBreaches.{other_breaches};
+ghost use Rattle.idl_values.specs.RestBreaches.{rest_breaches};
+ghost use Rattle.idl_rules.specs.Asked.{program_breaches};
 
 use crate::array_rules::note_arrays;
 use crate::asked::{Asked, Judge, note};
-use crate::cycle_rule::note_cycles;
 use crate::declaration_rules::{has_no_body, is_wrongly_cased, lacks_switch_type};
-use crate::finder::Finder;
-use crate::label_rule::labels;
-use crate::marks::Marks;
-use crate::nodes::{Construct, Declared, Node, Nodes, Returned};
 use crate::pointer_rules::note_pointers;
 use crate::type_rules::note_types;
-use crate::types::{Typed, Types};
-use crate::values::{constant, enumerators, has_lower_bounds, second_classes};
 use crate::variable_rules::{may_not_be_switched, note_unions, note_variables};
-use crate::words::{Word, has, has_class};
 use idl_grammar::TypeSpec;
+use idl_language::{Finder, rule};
+use idl_marks::marks::Marks;
 use idl_names::Scope;
+use idl_nodes::nodes::{Construct, Declared, Node, Nodes, Returned};
+use idl_nodes::words::{Word, has, has_class};
+use idl_types::types::{Typed, Types};
+use idl_values::cycle_rule::note_cycles;
+use idl_values::label_rule::labels;
+use idl_values::values::{constant, enumerators, has_lower_bounds, second_classes};
 use nd_base::Memory;
 use std::alloc::Global;
 
@@ -112,11 +113,16 @@ fn note_switch(finder: &mut Finder<'_>, judge: &Judge<'_>, construct: &Construct
         ≡ noted w (option_map seen_breach finder.old.first) (switch_breaches (seen_construct construct.now) (type_at judge.now.kinds.now of)) }
 {
     let mark = judge.mark(of);
-    note(finder, construct, 6, mark.holds_void);
-    note(finder, construct, 7, mark.holds_handle);
-    note(finder, construct, 8, mark.holds_pipe);
-    note(finder, construct, 10, mark.holds_context);
-    note(finder, construct, 21, may_not_be_switched(judge, of));
+    note(finder, construct, rule::VOID, mark.holds_void);
+    note(finder, construct, rule::HANDLE, mark.holds_handle);
+    note(finder, construct, rule::PIPES, mark.holds_pipe);
+    note(finder, construct, rule::CONTEXT_HANDLES, mark.holds_context);
+    note(
+        finder,
+        construct,
+        rule::SWITCH_TYPES,
+        may_not_be_switched(judge, of),
+    );
 }
 
 /// The rules on a struct, union or enum with its body, but for rule 11.
@@ -132,8 +138,13 @@ fn note_body(
         → seen_construct construct.now ≡ b.construct → seen_type body.now ≡ b.body → type_at judge.now.kinds.now of ≡ type_of_body b
         → option_map seen_breach finder.new.first ≡ noted w (option_map seen_breach finder.old.first) (body_breaches s b) }
 {
-    note(finder, construct, 12, judge.mark(of).too_deep);
-    note(finder, construct, 23, lacks_switch_type(construct, body));
+    note(finder, construct, rule::NESTING, judge.mark(of).too_deep);
+    note(
+        finder,
+        construct,
+        rule::CASES,
+        lacks_switch_type(construct, body),
+    );
 }
 
 /// The rules on an arm that holds nothing.
@@ -143,12 +154,17 @@ fn note_empty_arm(finder: &mut Finder<'_>, construct: &Construct<'_>)
         → option_map seen_breach finder.new.first
         ≡ noted w (option_map seen_breach finder.old.first) (empty_arm_breaches (seen_construct construct.now)) }
 {
-    note(finder, construct, 23, is_wrongly_cased(construct));
-    note(finder, construct, 26, has_class(construct.attributes));
+    note(finder, construct, rule::CASES, is_wrongly_cased(construct));
     note(
         finder,
         construct,
-        33,
+        rule::CLASSES_ON_POINTERS,
+        has_class(construct.attributes),
+    );
+    note(
+        finder,
+        construct,
+        rule::TEXTS,
         has(construct.attributes, Word::String),
     );
 }
@@ -197,7 +213,7 @@ fn node<'t>(
             star,
             value,
         } => { constant(finder, scope, construct, *of, *star, value) }
-        Node::Type { construct, of } => note(finder, construct, 5, has_no_body(of)),
+        Node::Type { construct, of } => note(finder, construct, rule::BODY, has_no_body(of)),
         Node::Operation { .. } => {}
     }
     Ok(())

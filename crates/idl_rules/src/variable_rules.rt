@@ -2,26 +2,27 @@
 ghost use Rattle.std.specs.Prelude.{◌≡◌, ◌&&◌, not, map, List, Option, option_map};
 ghost use Rattle.idl_names.specs.Seen.{seen_files};
 ghost use Rattle.idl_grammar.specs.Seen.{seen_attribute};
-ghost use Rattle.idl_rules.specs.World.{World};
-ghost use Rattle.idl_rules.specs.Scene.{Scene, Use};
-ghost use Rattle.idl_rules.specs.Rules.{Breach};
-ghost use Rattle.idl_rules.specs.VariableRules as rules;
-ghost use Rattle.idl_rules.specs.Kinds.{type_at};
-ghost use Rattle.idl_rules.specs.SeenNodes.{seen_position, seen_construct};
-ghost use Rattle.idl_rules.specs.SeenMarks.{AreMarks};
-ghost use Rattle.idl_rules.specs.Noted.{noted};
-ghost use Rattle.idl_rules.specs.Found.{seen_breach};
-ghost use Rattle.idl_rules.specs.Asked.{Holds, asked_use, IsAsked, with_unions, with_variables};
-ghost use Rattle.idl_rules.specs.Attributes.{has, switch_is_word};
-ghost use Rattle.idl_rules.specs.SeenTypes.{has_wrong_switch_variable};
+ghost use Rattle.idl_language.specs.World.{World};
+ghost use Rattle.idl_language.specs.Scene.{Scene, Use};
+ghost use Rattle.idl_language.specs.Rules.{Breach};
+ghost use Rattle.idl_language.specs.VariableRules as rules;
+ghost use Rattle.idl_kinds.specs.Kinds.{type_at};
+ghost use Rattle.idl_nodes.specs.SeenNodes.{seen_position, seen_construct};
+ghost use Rattle.idl_marks.specs.SeenMarks.{AreMarks};
+ghost use Rattle.idl_language.specs.Noted.{noted};
+ghost use Rattle.idl_language.specs.Found.{seen_breach};
+ghost use Rattle.idl_marks.specs.SeenMarks.{Holds};
+ghost use Rattle.idl_rules.specs.Asked.{asked_use, IsAsked, with_unions, with_variables};
+ghost use Rattle.idl_language.specs.Attributes.{has, switch_is_word};
+ghost use Rattle.idl_types.specs.SeenTypes.{has_wrong_switch_variable};
 
 use crate::asked::{Asked, Judge, note};
 use crate::declaration_rules::is_wrongly_cased;
-use crate::finder::Finder;
-use crate::kinds::Kind;
-use crate::marks::Mark;
-use crate::nodes::Position;
-use crate::words::{Word, has as has_word, has_length, has_size};
+use idl_kinds::kinds::Kind;
+use idl_language::{Finder, rule};
+use idl_marks::marks::Mark;
+use idl_nodes::nodes::Position;
+use idl_nodes::words::{Word, has as has_word, has_length, has_size};
 
 /// Rule 21: whether a type may not tell the arms of a union apart.
 pub(crate) fn may_not_be_switched(judge: &Judge<'_>, number: u32) -> bool
@@ -81,14 +82,19 @@ pub(crate) fn note_unions(finder: &mut Finder<'_>, judge: &Judge<'_>, asked: &As
         → option_map seen_breach finder.new.first ≡ noted w first (with_unions s u before) }
 {
     let construct = &asked.construct;
-    note(finder, construct, 23, is_wrongly_cased(construct));
+    note(finder, construct, rule::CASES, is_wrongly_cased(construct));
     note(
         finder,
         construct,
-        24,
+        rule::USES_OF_UNIONS,
         without_union(judge, asked).holds_nonencapsulated,
     );
-    note(finder, construct, 25, has_wrong_switch(judge, asked));
+    note(
+        finder,
+        construct,
+        rule::SWITCH_IS,
+        has_wrong_switch(judge, asked),
+    );
 }
 
 /// Whether `string` may stand on a type.
@@ -161,9 +167,24 @@ pub(crate) fn note_variables(finder: &mut Finder<'_>, judge: &Judge<'_>, asked: 
         → option_map seen_breach finder.new.first ≡ noted w first (with_variables s u before) }
 {
     let construct = &asked.construct;
-    note(finder, construct, 33, is_wrong_text(judge, asked));
-    note(finder, construct, 34, is_wrongly_sized(judge, asked));
-    note(finder, construct, 35, is_wrongly_varying(judge, asked));
-    note(finder, construct, 36, asked.no_variable);
-    note(finder, construct, 37, asked.typed.wrong_variable);
+    note(finder, construct, rule::TEXTS, is_wrong_text(judge, asked));
+    note(
+        finder,
+        construct,
+        rule::SIZES,
+        is_wrongly_sized(judge, asked),
+    );
+    note(
+        finder,
+        construct,
+        rule::LENGTHS,
+        is_wrongly_varying(judge, asked),
+    );
+    note(finder, construct, rule::VARIABLES, asked.no_variable);
+    note(
+        finder,
+        construct,
+        rule::INTEGER_VARIABLES,
+        asked.typed.wrong_variable,
+    );
 }

@@ -5,9 +5,9 @@ use Rattle.nd_base.specs.Over.{files_seen}
 use Rattle.acf_reader.specs.Seen.{seen_acf}
 use Rattle.acf_reader.specs.Tree.{Acf}
 use Rattle.idl_names.specs.Seen.{seen_scope}
-use Rattle.idl_rules.specs.Checked.{world_of}
+use Rattle.idl_language.specs.Checked.{world_of}
 use Rattle.idl_check.specs.SeenAcf.{AnswersBeside, IsMeaningBeside}
-use Rattle.idl_rules.specs.declared.fault.RuleFault.TheVariants as fault
+use Rattle.idl_language.specs.declared.fault.RuleFault.TheVariants as fault
 use Rattle.dceidl.specs.Idl.{reported_beside}
 use Rattle.dceidl.specs.Loaded.{seen_beside}
 use Rattle.dceidl.proofs.Judged.{broken, means_beside, beside_refused}

@@ -1,6 +1,6 @@
 use Rattle.std.proofs.Common.{◌≡◌, ◌∙◌, [], ◌∷◌, sym}
 use Rattle.std.proofs.lemmas.Option.{same_Some}
-use Rattle.idl_rules.specs.Answers.{meant_by}
+use Rattle.nd_types.specs.Meant.{meant_by}
 use Rattle.idl_check.proofs.laws.one_answer_is_right.Goals as goal
 
 pub returns-clause-told : goal.returns-clause-told

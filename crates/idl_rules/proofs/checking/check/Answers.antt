@@ -1,17 +1,17 @@
 use Rattle.std.proofs.Common.{◌≡◌, ◌∙◌, Option, Some, None, Err, option_map, refl, ap, sym, subst}
 use Rattle.idl_names.specs.Seen.{known_in}
-use Rattle.idl_rules.specs.declared.fault.RuleFault.{RuleFault}
-use Rattle.idl_rules.specs.Answers.{Answers}
-use Rattle.idl_rules.specs.Checked.{world_of}
-use Rattle.idl_rules.specs.FirstBroken.{first_broken}
-use Rattle.idl_rules.specs.Found.{seen_breach}
-use Rattle.idl_rules.specs.Nodes.{nodes}
-use Rattle.idl_rules.specs.Scene.{Scene, scene_of}
-use Rattle.idl_rules.specs.SeenNodes.{seen_nodes}
-use Rattle.idl_rules.specs.SeenNumbers.{AreNumbers}
-use Rattle.idl_rules.specs.SeenOperations.{HasTags, HasOperations}
-use Rattle.idl_rules.specs.SeenTypes.{scene_seen, IsTypes}
-use Rattle.idl_rules.proofs.Fronts.{scene_is}
+use Rattle.idl_language.specs.declared.fault.RuleFault.{RuleFault}
+use Rattle.idl_language.specs.Answers.{Answers}
+use Rattle.idl_language.specs.Checked.{world_of}
+use Rattle.idl_language.specs.FirstBroken.{first_broken}
+use Rattle.idl_language.specs.Found.{seen_breach}
+use Rattle.idl_language.specs.Nodes.{nodes}
+use Rattle.idl_language.specs.Scene.{Scene, scene_of}
+use Rattle.idl_nodes.specs.SeenNodes.{seen_nodes}
+use Rattle.idl_types.specs.SeenNumbers.{AreNumbers}
+use Rattle.idl_types.specs.SeenOperations.{HasTags, HasOperations}
+use Rattle.idl_types.specs.SeenTypes.{scene_seen, IsTypes}
+use Rattle.idl_types.proofs.Fronts.{scene_is}
 use Rattle.idl_rules.proofs.Judgement.{nodes_are, told_by_lists, told_over, none_broken, memory_answers}
 use Rattle.idl_rules.proofs.checking.check.Goals as goal
 

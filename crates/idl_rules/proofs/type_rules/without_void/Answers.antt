@@ -1,8 +1,8 @@
 use Rattle.std.proofs.Common.{sym, subst}
-use Rattle.idl_rules.specs.Kinds.{type_at}
-use Rattle.idl_rules.specs.TypeRules.{without_void}
-use Rattle.idl_rules.specs.SeenNodes.{seen_position}
-use Rattle.idl_rules.specs.Asked.{Holds}
+use Rattle.idl_kinds.specs.Kinds.{type_at}
+use Rattle.idl_language.specs.TypeRules.{without_void}
+use Rattle.idl_nodes.specs.SeenNodes.{seen_position}
+use Rattle.idl_marks.specs.SeenMarks.{Holds}
 use Rattle.idl_rules.proofs.type_rules.without_void.Goals as goal
 
 pub returns-in-Operation : goal.returns-in-Operation

@@ -1,12 +1,12 @@
 use Rattle.std.proofs.Common.{◌≡◌, option_map}
 use Rattle.idl_names.specs.Seen.{seen_files, known_in}
-use Rattle.idl_rules.specs.World.{World}
-use Rattle.idl_rules.specs.Scene.{Scene}
-use Rattle.idl_rules.specs.SeenTypes.{scene_seen, scoped_front, IsTypes}
-use Rattle.idl_rules.specs.SeenMarks.{AreMarks}
-use Rattle.idl_rules.specs.Noted.{noted}
-use Rattle.idl_rules.specs.Found.{seen_breach}
-use Rattle.idl_rules.specs.RestBreaches.{rest_breaches}
+use Rattle.idl_language.specs.World.{World}
+use Rattle.idl_language.specs.Scene.{Scene}
+use Rattle.idl_types.specs.SeenTypes.{scene_seen, scoped_front, IsTypes}
+use Rattle.idl_marks.specs.SeenMarks.{AreMarks}
+use Rattle.idl_language.specs.Noted.{noted}
+use Rattle.idl_language.specs.Found.{seen_breach}
+use Rattle.idl_values.specs.RestBreaches.{rest_breaches}
 use Rattle.idl_rules.proofs.uses.each_node.Given as goal
 
 -- the rules on the nodes so far

@@ -1,0 +1,4 @@
+pub mod SmallTexts
+pub mod Interfaces
+pub mod Listings
+pub mod AcfTexts

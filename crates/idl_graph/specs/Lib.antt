@@ -1,0 +1,4 @@
+pub mod Graph
+pub mod GraphRows
+pub mod GraphRounds
+pub mod GraphCycles

@@ -1,0 +1,5 @@
+pub mod LabelValues
+pub mod Kinds
+pub mod Places
+pub mod SeenNames
+pub mod KindTests

@@ -1,0 +1,10 @@
+pub mod FromNodes
+pub mod Standing
+pub mod Fields
+pub mod Words
+pub mod Alike
+pub mod Counts
+pub mod Variables
+pub mod Parameters
+pub mod Limits
+pub mod Facts

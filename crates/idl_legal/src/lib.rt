@@ -1,0 +1,4 @@
+//! Files that break no rule of IDL mean a legal interface.
+#![tactic(auto)]
+
+pub mod laws;

@@ -1,0 +1,4 @@
+pub mod WordLists
+pub mod ListedLines
+pub mod ListedRoots
+pub mod ListedWhole

@@ -1,0 +1,5 @@
+pub mod Below
+pub mod Bridges
+pub mod MarkSums
+pub mod MarkLists
+pub mod CountedTypes

@@ -1,0 +1,4 @@
+pub mod SeenMarks
+pub mod OwnMarks
+pub mod Counted
+pub mod TypeProperties

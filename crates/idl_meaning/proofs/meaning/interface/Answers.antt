@@ -1,0 +1,59 @@
+use Rattle.std.proofs.Common.{◌≡◌, ◌∙◌, ◌≤◌, ℕ, true, List, [], ◌∷◌, map, sym, ap, subst, subst₂}
+use Rattle.std.specs.List.{list_all}
+use Rattle.nd_base.specs.Text.{is_identifier}
+use Rattle.nd_types.specs.Table.{Table}
+use Rattle.nd_types.specs.declared.types.Operation.{Operation}
+use Rattle.nd_types.specs.Legal.{IsLegal, has_named_parts, has_names}
+use Rattle.idl_grammar.specs.declared.attributes.Attribute as attributes
+use Rattle.idl_grammar.specs.Seen.{seen_attribute, seen_tree}
+use Rattle.idl_language.specs.Attributes.{first_said}
+use Rattle.idl_language.specs.Checked.{world_of}
+use Rattle.idl_language.specs.Scene.{scene_of}
+use Rattle.nd_types.specs.Meant.{Meant}
+use Rattle.idl_language.specs.Meaning.{meaning, header_meant, types_of, uuid_said, major_said, minor_said, or_none}
+use Rattle.idl_legal.proofs.Scenes.{kept}
+use Rattle.idl_legal.proofs.legal.Counts as counts
+use Rattle.idl_meaning.proofs.MainFile.{meant_is, small_major, small_minor, small_version}
+use Rattle.idl_meaning.proofs.meaning.interface.Goals as goal
+
+pub invariant_of-result : goal.invariant_of-result
+invariant_of-result c =
+    let w = world_of c.args.scope.now in
+    record {
+      named = subst (λ (n : List ℕ). is_identifier n ≡ true) (sym c.in_ok-name.ensures.same) c.in_ok-name.ensures.named;
+      legal = subst₂ IsLegal (sym c.in_ok-types.ensures.made) (sym c.in_ok-operations.ensures.made)
+          (c.meaning_is_legal.ensures.tables w c.requires.kept (record {
+            part_names = subst (λ (t : Table). list_all has_named_parts t ≡ true) c.in_ok-types.ensures.made c.in_ok-types.ensures.named;
+            operation_names = subst (λ (o : List Operation). list_all has_names o ≡ true) c.in_ok-operations.ensures.made c.in_ok-operations.ensures.named;
+          }));
+      laid_out = c.in_ok-layouts.ensures;
+    }
+
+pub type_table-requires-clause-bounds : goal.type_table-requires-clause-bounds
+type_table-requires-clause-bounds c =
+    let w = world_of c.args.scope.now in
+    counts.bounds (scene_of w) (kept w c.requires.kept)
+
+pub major-major-requires : goal.major-major-requires
+major-major-requires c =
+    subst (λ (l : List attributes.Attribute). or_none (first_said major_said (map seen_attribute l)) ≤ 65535) (sym c.as_slice-list.ensures.value)
+    (small_version major_said small_major (world_of c.args.scope.now) (seen_tree c.in_ok-tree.tree.now) c.requires.kept c.in_ok-tree.ensures)
+
+pub minor-minor-requires : goal.minor-minor-requires
+minor-minor-requires c =
+    subst (λ (l : List attributes.Attribute). or_none (first_said minor_said (map seen_attribute l)) ≤ 65535) (sym c.as_slice-list.ensures.value)
+    (small_version minor_said small_minor (world_of c.args.scope.now) (seen_tree c.in_ok-tree.tree.now) c.requires.kept c.in_ok-tree.ensures)
+
+pub returns : goal.returns
+unfolding meaning
+returns c =
+    let w = world_of c.args.scope.now in
+    let s = scene_of w in
+    let same = c.as_slice-list.ensures.value in
+    ap (map (header_meant s)) c.in_ok-tree.ensures
+    ∙ ap (λ (m : Meant). m ∷ [])
+    (meant_is s (seen_tree c.in_ok-tree.tree.now) _ c.in_ok-name.ensures.same
+    (c.uuid-uuid.ensures ∙ ap (λ l. first_said uuid_said (map seen_attribute l)) same)
+    (c.major-major.ensures ∙ ap (λ l. or_none (first_said major_said (map seen_attribute l))) same)
+    (c.minor-minor.ensures ∙ ap (λ l. or_none (first_said minor_said (map seen_attribute l))) same)
+    c.in_ok-types.ensures.made c.in_ok-operations.ensures.made)

@@ -1,0 +1,83 @@
+// The interface that files mean which break no rule.
+ghost use Rattle.std.specs.Prelude.{◌≡◌, [], ◌∷◌, IfOk};
+ghost use Rattle.idl_names.specs.Seen.{seen_files};
+ghost use Rattle.idl_grammar.specs.Seen.{seen_tree};
+ghost use Rattle.idl_language.specs.Checked.{world_of};
+ghost use Rattle.idl_language.specs.Rules.{breaches};
+ghost use Rattle.idl_language.specs.Scene.{scene_of};
+ghost use Rattle.idl_language.specs.Meaning as of;
+ghost use Rattle.nd_types.specs.Meant.{meant_by};
+ghost use Rattle.idl_types.specs.SeenTypes.{IsTypes};
+ghost use Rattle.idl_types.specs.SeenOperations.{HasTags, HasOperations};
+ghost use Rattle.idl_types.specs.SeenNumbers.{AreNumbers};
+
+use crate::definitions::{Program, type_table};
+use crate::header::{major, minor, uuid};
+use crate::members::name_of;
+use crate::operations::all_operations;
+use idl_grammar::Tree;
+use idl_legal::laws::meaning_is_legal;
+use idl_names::{FileTrees, Scope};
+use idl_nodes::nodes::Nodes;
+use idl_types::numbering::Numbers;
+use idl_types::types::Types;
+use nd_base::Memory;
+use nd_types::Interface;
+use std::alloc::Global;
+
+/// The main file, which is number 0. Files that are resolved have it; where it is missing, want of memory is told.
+pub fn main_tree(files: &FileTrees) -> Result<&Tree, Memory>
+    ensures { IfOk result (λ t. of.main_among (seen_files files.now) ≡ seen_tree t.now ∷ []) }
+{
+    for at in 0..files.len() {
+        let Some(file) = files.get(at) else {
+            return Err(Memory);
+        };
+        if file.file == 0 {
+            return Ok(&file.tree);
+        }
+    }
+    Err(Memory)
+}
+
+/// The interface that files mean which break no rule. Takes memory for it.
+pub fn interface(
+    alloc: Global,
+    scope: &Scope,
+    nodes: &Nodes<'_>,
+    types: &Types,
+    numbers: &Numbers,
+) -> Result<Interface, Memory>
+    requires kept { breaches (world_of scope.now) ≡ [] }
+    requires types { IsTypes (scene_of (world_of scope.now)) nodes.now types.now }
+    requires tags { HasTags (scene_of (world_of scope.now)) types.now }
+    requires operations { HasOperations (scene_of (world_of scope.now)) nodes.now types.now }
+    requires numbers { AreNumbers (scene_of (world_of scope.now)) types.now.kinds numbers.now }
+    ensures { IfOk result (λ i. of.meaning (world_of scope.now) ≡ meant_by i ∷ []) }
+{
+    let tree = main_tree(&scope.files)?;
+    let name = name_of(alloc, &tree.name)?;
+    let list = tree.attributes.list.as_slice();
+    let uuid = uuid(list);
+    let major = major(list);
+    let minor = minor(list);
+    let program = Program {
+        scope,
+        nodes,
+        types,
+        numbers,
+    };
+    let types = type_table(alloc, &program)?;
+    let layouts = types.layouts(alloc)?;
+    let operations = all_operations(alloc, &program)?;
+    meaning_is_legal();
+    Ok(Interface {
+        name,
+        uuid,
+        major,
+        minor,
+        types,
+        layouts,
+        operations,
+    })
+}

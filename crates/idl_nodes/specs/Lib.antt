@@ -1,0 +1,4 @@
+pub mod SeenNodes
+pub mod Spelled
+pub mod ListBreaches
+pub mod Growing

@@ -1,0 +1,11 @@
+pub mod ValueNotes
+pub mod CycleFirst
+pub mod CycleGraph
+pub mod CycleLoops
+pub mod CycleChosen
+pub mod CycleLeast
+pub mod CycleKeys
+pub mod CycleLower
+pub mod CountedNodes
+pub mod CountedLabels
+pub mod Passes

@@ -1,0 +1,4 @@
+pub mod RestBreaches
+pub mod Cycles
+pub mod SeenCounts
+pub mod AcceptedLabels

@@ -1,0 +1,9 @@
+//! The rules on values, on labels, on what contains itself, and on how many there are.
+#![tactic(auto)]
+
+pub mod counts;
+pub mod cycle_rule;
+#[cfg(test)]
+mod cycle_tests;
+pub mod label_rule;
+pub mod values;
