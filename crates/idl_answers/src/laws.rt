@@ -10,10 +10,11 @@ ghost use Rattle.idl_grammar.specs.Tree.{Tree};
 ghost use Rattle.idl_names.specs.declared.name_fault.NameFault.TheVariants.{Absent};
 ghost use Rattle.idl_names.specs.Decided.{is_decided, HasEnding};
 ghost use Rattle.idl_names.specs.Sources.{Source, source};
-ghost use Rattle.idl_names.specs.Walk.{State, Due, Load, Ending, Stopped, Walk, start};
+ghost use Rattle.idl_names.specs.Walk.{State, Due, Load, Ending, Stopped, Walk, IsResolved, start};
 ghost use Rattle.acf_reader.specs.Grammar.{acf};
 ghost use Rattle.idl_answers.specs.Read.{HasAnswer, IsReadAs};
 ghost use Rattle.idl_answers.specs.Named.{Comes};
+ghost use Rattle.idl_answers.specs.Judged.{IsJudged, HasOutcome, world};
 
 /// Each text has tokens, or a first place at which nothing can be cut, or it is too long.
 #[tactic(auto, using(idl_lexer::proofs::Answered::each_text))]
@@ -46,4 +47,11 @@ pub fn walks_end()
 /// load.
 pub fn names_are_resolved()
     ensures { (held : Option (List ℕ → Option (List ℕ))) (main : List Source) (t : Tree) → Comes held main t }
+{}
+
+/// Files whose names are resolved mean a legal interface, or break a rule. So each main file, with all that it imports, means an interface or is
+/// refused: for a rule, for names, for a file that it imports (which is absent, or has a fault of its own), for its syntax or for its tokens.
+pub fn files_are_judged()
+    ensures resolved { (held : Option (List ℕ → Option (List ℕ))) (main : List Source) (t : Tree) (s : State) → IsResolved held main t s → IsJudged (world s) }
+    ensures outcome { (held : Option (List ℕ → Option (List ℕ))) (name text : List ℕ) → HasOutcome held name text }
 {}

@@ -1,6 +1,7 @@
 use Rattle.std.proofs.Common.{◌∙◌, ap, ap₂, sym, refl, arith, option_map}
 use Rattle.idl_names.specs.Seen.{seen_files}
 use Rattle.idl_language.specs.ValueRules.{is_large_enumerator}
+use Rattle.idl_language.specs.Nodes.{place_in}
 use Rattle.idl_nodes.specs.SeenNodes.{seen_construct}
 use Rattle.idl_language.specs.Noted.{noted, if_broken}
 use Rattle.idl_language.specs.Found.{seen_breach}
@@ -19,7 +20,7 @@ loop-one-preserved c =
       c.note.ensures.files ∙ c.loop-one.invariant.0,
       (λ w s names files known. item_noted (enumerator_breach s k) (enumerator_breaches s names k) (enumerators_cons s names k) refl c.args.list.now w c.loop-one.one-index e _ _ _ (omega arith) c.one-item.is
           (c.note.ensures.first w (files ∙ ap seen_files (sym c.loop-one.invariant.0))
-          ∙ ap₂ (λ p b. noted w (option_map seen_breach c.loop-one.finder.first) (if_broken 13 p b)) c.place.ensures
+          ∙ ap₂ (λ p b. noted w (option_map seen_breach c.loop-one.finder.first) (if_broken 13 p b)) (c.place.ensures ∙ ap (place_in k) c.at.ensures)
           (c.is_large_enumerator-broken.ensures ∙ ap (λ n. is_large_enumerator n e.name) (sym known))
           ∙ ap (λ l. noted w (option_map seen_breach c.loop-one.finder.first) l) (if_broken_is k 13 e.name.at (is_large_enumerator s.known e.name)))
           (c.loop-one.invariant.1 w s names files known)),
