@@ -32,7 +32,7 @@ sys.dont_write_bytecode = True
 from case import ROOT, Begins, Case, Check, Command, Folder, LinkTo, OneAtATime, Sparse, Stream, Unreadable, printable
 
 AnyCase = Union[Case, Command, Check]
-SECONDS = 60
+SECONDS = 300
 SHOWN = 400  # octets of a long text that a failure shows
 
 
