@@ -13,17 +13,17 @@ use Rattle.nd_types.specs.Legal.{IsLegal}
 use Rattle.idl_language.specs.World.{World}
 use Rattle.idl_language.specs.Rules.{Breach}
 use Rattle.idl_language.specs.FirstBroken.{first_broken}
-use Rattle.idl_language.specs.Meaning.{Meant, meaning}
+use Rattle.idl_language.specs.Meaning.{Meant, meaning, HasIdentifiers}
 
 -- files that are resolved, as the rules speak of them
 abbrev pub world : State → World
 world s = record { files = s.ended; known = s.known }
 
--- No rule is broken, and the files mean this legal interface.
+-- No rule is broken, and the files mean this interface, which is legal if its names are identifiers, as those of every text are.
 pub record MeansLegal (w : World) (m : Meant) : Type 0 where
   pub keeps : first_broken w ≡ None
   pub means : meaning w ≡ m ∷ []
-  pub legal : IsLegal m.types m.operations
+  pub legal : HasIdentifiers m.types m.operations → IsLegal m.types m.operations
 
 pub data IsJudged (w : World) : Type 0 where
   Means : (m : Meant) → MeansLegal w m → IsJudged w

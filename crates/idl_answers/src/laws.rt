@@ -49,8 +49,8 @@ pub fn names_are_resolved()
     ensures { (held : Option (List ℕ → Option (List ℕ))) (main : List Source) (t : Tree) → Comes held main t }
 {}
 
-/// Files whose names are resolved mean a legal interface, or break a rule. So each main file, with all that it imports, means an interface or is
-/// refused: for a rule, for names, for a file that it imports (which is absent, or has a fault of its own), for its syntax or for its tokens.
+/// Files whose names are resolved mean an interface, which is legal if its names are identifiers, or break a rule. So each main file, with all that
+/// it imports, means an interface or is refused: for a rule, for names, for a file that it imports (which is absent, or has a fault of its own), for its syntax or for its tokens.
 pub fn files_are_judged()
     ensures resolved { (held : Option (List ℕ → Option (List ℕ))) (main : List Source) (t : Tree) (s : State) → IsResolved held main t s → IsJudged (world s) }
     ensures outcome { (held : Option (List ℕ → Option (List ℕ))) (name text : List ℕ) → HasOutcome held name text }
