@@ -1,4 +1,4 @@
--- What a run may ask for: files only when they are due, and each for once; and the input only if the command reads it. `held` tells the contents of
+-- What a run may ask for: files only when they are due, and each once; and the input only if the command reads it. `held` tells the contents of
 -- files, `idl` is the name of the main file, `acf` that of the attribute configuration file, if one is named.
 use Rattle.std.specs.Prelude.{◌≡◌, ◌⊎◌, ℕ, Bool, true, false, List, [], ◌∷◌, ◌++◌, take, slice_get, option_to_list, Option, None, Some, ⊤}
 use Rattle.nd_base.specs.Outside.{IsContent}

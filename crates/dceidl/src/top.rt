@@ -82,7 +82,8 @@ pub fn run<F: Files, S: Source, K: Sink, N: Sink>(
         (seen_over (files_seen F.held F.absences F.faults F.asked files.old files.new) (source_seen S.left S.ended S.faults input.old input.new))
         (sink_seen K.written K.faults out.old out.new)
         (sink_seen N.written N.faults notes.old notes.new) result }
-    // What a run asks for: files only when they are due and each for once, the input only if the command reads it.
+    // What a run asks for: files only when they are due and each once (an attribute file that is a file of IDL too is loaded again), the input only
+    // if the command reads it.
     ensures asked { Asks (seen_over (files_seen F.held F.absences F.faults F.asked files.old files.new) (source_seen S.left S.ended S.faults input.old input.new)) (command words.now) }
     // What each status says.
     ensures statuses { (c : Wanted) → command words.now ≡ Some c → IsOneOf (statuses_of c) result }

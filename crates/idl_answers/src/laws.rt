@@ -34,8 +34,8 @@ pub fn texts_are_read()
     ensures { (text : List ℕ) → IsReadAs text }
 {}
 
-/// A walk over files ends in some way other than for want of memory or for a failed load, whatever is due and whatever files hold: a file that is
-/// held is loaded, and one that is not ends the walk as absent. `idl_names: walks_have_one_ending` says that it ends in one such way alone.
+/// A walk over files ends in some way other than for want of memory or for a failed load, whatever is due and whatever files hold. Where no file is
+/// held, a walk that comes to an import ends as absent there. `idl_names: walks_have_one_ending` says that a walk ends in one such way alone.
 #[tactic(auto, using(crate::proofs::Ends::each_walk, crate::proofs::Instances::nothing_held))]
 pub fn walks_end()
     ensures ends { (held : Option (List ℕ → Option (List ℕ))) (s : State) (dues : List Due) → HasEnding held s dues }
