@@ -4,7 +4,7 @@ use Rattle.std.specs.List.{flat_map, slice_get, list_any, list_all}
 use Rattle.std.specs.Prelude.{Result, IfOk, nat_le}
 use Rattle.std.proofs.lemmas.Result.{IfOk-weaker}
 use Rattle.std.specs.Option.{option_and_then}
-use Rattle.std.proofs.lemmas.Option.{slice_get_within, slice_get_cases, slice_get_past, slice_get_read, slice_get-map, same_Some}
+use Rattle.std.proofs.lemmas.Option.{slice_get_within, slice_get_cases, slice_get_past, slice_get-get_or, slice_get-map, same_Some}
 use Rattle.std.proofs.lemmas.List.Folds.{list_all-append}
 use Rattle.std.proofs.lemmas.Bool.{leb-true, lt-ltb}
 use Rattle.nd_base.specs.declared.octets.Place.{Place}
@@ -295,14 +295,14 @@ narrow_bound (Some n) h =
 
 -- each of them has a small bound, where all types of the table have
 pub own_bound : (s : Scene) (ks : List Kind) (t : Numbers) → AreNumbers s ks t → list_all has_small_bound (types_of s) ≡ true → (xs : List Own) → xs ≡ t.own.items
-    → (i : ℕ) (o : Own) → i < length xs → o ≡ get_or xs i o → has_small_bound (definition s (type_at ks o.kind)) ≡ true
-own_bound s ks t h all xs same i o below is =
+    → (i : ℕ) (o : Own) → i < length xs → has_small_bound (definition s (type_at ks (get_or xs i o).kind)) ≡ true
+own_bound s ks t h all xs same i o below =
     let d : Own → TypeDef = λ o. definition s (type_at ks o.kind) in
     let own : list_all has_small_bound (map (λ n. definition s n.type) (own_types s)) ≡ true =
     second_true (list_all has_small_bound basic_types) (list_all has_small_bound (map (λ n. definition s n.type) (own_types s)))
     (sym (list_all-append has_small_bound basic_types (map (λ n. definition s n.type) (own_types s))) ∙ all) in
     let here : list_all has_small_bound (map d xs) ≡ true = ap (λ (l : List Own). list_all has_small_bound (map d l)) same ∙ ap (list_all has_small_bound) (own_made s ks t h) ∙ own in
-    passes_at has_small_bound (map d xs) i (d o) here (slice_get-map d xs i ∙ ap (option_map d) (slice_get_read xs (length xs) i o refl below is))
+    passes_at has_small_bound (map d xs) i (d (get_or xs i o)) here (slice_get-map d xs i ∙ ap (option_map d) (slice_get-get_or xs i o below))
 
 -- ## Bodies
 
