@@ -14,7 +14,8 @@ use Rattle.idl_language.specs.World.{World}
 use Rattle.idl_language.specs.Rules.{Breach, breaches}
 use Rattle.idl_language.specs.Scene.{scene_of}
 use Rattle.idl_language.specs.FirstBroken.{first_broken, first_of}
-use Rattle.idl_language.specs.Meaning.{Meant, meaning, main_among, header_meant}
+use Rattle.nd_types.specs.Meant.{Meant}
+use Rattle.idl_language.specs.Meaning.{meaning, main_among, header_meant}
 use Rattle.idl_answers.specs.Read.{IsReadAs, AsFile, AsNoFile, AsUncut}
 use Rattle.idl_answers.specs.Named.{Comes, ToNames, ToFault}
 use Rattle.idl_answers.specs.Judged.{world, MeansLegal, IsJudged, Means, Breaks, main_file, HasOutcome, Interface, Broken, Unnamed, NoFile, Uncut}

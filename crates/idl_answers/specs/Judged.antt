@@ -13,7 +13,8 @@ use Rattle.nd_types.specs.Legal.{IsLegal}
 use Rattle.idl_language.specs.World.{World}
 use Rattle.idl_language.specs.Rules.{Breach}
 use Rattle.idl_language.specs.FirstBroken.{first_broken}
-use Rattle.idl_language.specs.Meaning.{Meant, meaning, HasIdentifiers}
+use Rattle.nd_types.specs.Meant.{Meant}
+use Rattle.idl_language.specs.Meaning.{meaning, HasIdentifiers}
 
 -- files that are resolved, as the rules speak of them
 abbrev pub world : State → World

@@ -1,5 +1,6 @@
 pub mod Listing
 pub mod Making
+pub mod EachTyped
 pub mod Defining
 pub mod Operating
 pub mod MainFile

@@ -17,9 +17,9 @@ use Rattle.idl_language.specs.Nodes.{Construct, Node, attribute_nodes, attribute
 use Rattle.idl_language.specs.Noted.{of_lists}
 use Rattle.idl_language.specs.Rules.{broken_at, breaches}
 use Rattle.idl_language.specs.Scene.{Scene, scene_of}
-use Rattle.idl_rules.proofs.Judgement.{scene_nodes, nodes_are}
+use Rattle.idl_nodes.proofs.Judgement.{scene_nodes, nodes_are}
 use Rattle.idl_laws.proofs.Kept.{neither}
-use Rattle.idl_rules.proofs.Split.{lists_in}
+use Rattle.idl_nodes.proofs.Split.{lists_in}
 use Rattle.nd_types.specs.Meant.{Meant}
 use Rattle.idl_language.specs.Meaning.{main_among, header_meant, uuid_said, major_said, minor_said, or_none, types_of, operations_of}
 

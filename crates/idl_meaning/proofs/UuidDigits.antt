@@ -4,7 +4,7 @@ use Rattle.std.proofs.lemmas.Bool.{eqb-true, leb-true, leb-false}
 use Rattle.std.proofs.lemmas.List.{length-drop}
 use Rattle.phrases.proofs.Parts.{clash}
 use Rattle.phrases.proofs.Sequences.{both}
-use Rattle.idl_lexer.specs.Classes.{is_hex_digit}
+use Rattle.nd_base.specs.Text.{is_hex_digit}
 use Rattle.idl_lexer.specs.Numbers.{digit_value}
 use Rattle.idl_lexer.specs.Pieces.{is_dash_place, fits_uuid, IsUuid}
 use Rattle.idl_language.specs.Meaning.{uuid_from}

@@ -6,3 +6,5 @@ pub mod Adding
 pub mod Gathering
 pub mod Rests
 pub mod Bodies
+pub mod Split
+pub mod Judgement

@@ -1,5 +1,3 @@
-pub mod Split
-pub mod Judgement
 pub mod AskedUses
 pub mod UseNotes
 pub mod RestNotes

@@ -2,7 +2,7 @@ use Rattle.std.proofs.Common.{map, drop, length, sym}
 use Rattle.std.proofs.lemmas.Bool.{ltb-false}
 use Rattle.idl_nodes.specs.SeenNodes.{seen_declared}
 use Rattle.idl_meaning.specs.Made.{parameter_by}
-use Rattle.idl_nodes.proofs.Gathering.{each_end}
+use Rattle.idl_meaning.proofs.EachTyped.{each_end}
 use Rattle.idl_meaning.proofs.members.parameters_by.Goals as goal
 
 pub returns-in_default-clause-made : goal.returns-in_default-clause-made

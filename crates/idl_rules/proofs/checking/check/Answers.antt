@@ -12,7 +12,7 @@ use Rattle.idl_types.specs.SeenNumbers.{AreNumbers}
 use Rattle.idl_types.specs.SeenOperations.{HasTags, HasOperations}
 use Rattle.idl_types.specs.SeenTypes.{scene_seen, IsTypes}
 use Rattle.idl_types.proofs.Fronts.{scene_is}
-use Rattle.idl_rules.proofs.Judgement.{nodes_are, told_by_lists, told_over, none_broken, memory_answers}
+use Rattle.idl_nodes.proofs.Judgement.{nodes_are, told_by_lists, told_over, none_broken, memory_answers}
 use Rattle.idl_rules.proofs.checking.check.Goals as goal
 
 pub returns-in-Some : goal.returns-in-Some

@@ -19,7 +19,7 @@ use Rattle.idl_nodes.specs.ListBreaches.{list_breaches}
 use Rattle.idl_language.specs.OtherBreaches.{other_breaches}
 use Rattle.idl_language.proofs.Order.{least}
 use Rattle.idl_language.proofs.Noted.{noted_more, noted_all, or_else, in_two}
-use Rattle.idl_rules.proofs.Split.{lists_in, others_in}
+use Rattle.idl_nodes.proofs.Split.{lists_in, others_in}
 use Rattle.idl_language.specs.declared.rule.TheConstants as Rule
 
 nodes_of : (known : Known) (names : Names) (ns : List Node) → map (λ n. n.node) (scoped_from known names ns) ≡ ns
