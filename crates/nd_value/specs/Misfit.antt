@@ -101,18 +101,21 @@ abbrev pub unless : Bool → MisfitReason → Option MisfitReason → Option Mis
 unless true r o = o
 unless false r o = Some r
 
--- the first reason for which a node cannot stand in a graph, or none
+-- the first reason for which a node of a type cannot stand in a graph, or none
+abbrev pub misfit_by : Table → Graph → Option TypeDef → Label → Trees → Option MisfitReason
+misfit_by table g d l ks =
+    unless (has_shape d l ks) misfit.Shape
+    (unless (has_range is_value table d l) misfit.Range
+    (unless (is_no_null_ref d l) misfit.NullRef
+    (unless (names_cell g l) misfit.NoCell
+    (unless (names_pointee g d l) misfit.CellType
+    (unless (has_counts d l ks && is_within l ks) misfit.Bound
+    (unless (has_no_zero l) misfit.Zero
+    (unless (has_arm d l) misfit.NoArm None)))))))
+
+-- the same of a node as it stands
 abbrev pub misfit_of : Table → Graph → TypedNode → Option MisfitReason
-misfit_of table g x =
-    let d = type_at table x.of in
-    unless (has_shape d x.label x.kids) misfit.Shape
-    (unless (has_range is_value table d x.label) misfit.Range
-    (unless (is_no_null_ref d x.label) misfit.NullRef
-    (unless (names_cell g x.label) misfit.NoCell
-    (unless (names_pointee g d x.label) misfit.CellType
-    (unless (has_counts d x.label x.kids && is_within x.label x.kids) misfit.Bound
-    (unless (has_no_zero x.label) misfit.Zero
-    (unless (has_arm d x.label) misfit.NoArm None)))))))
+misfit_of table g x = misfit_by table g (type_at table x.of) x.label x.kids
 
 -- a value that is not read: it has no children
 abbrev pub is_unread : Label → Trees → Bool

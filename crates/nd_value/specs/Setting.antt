@@ -50,6 +50,17 @@ cell_at g c = cell_tree (cell_of_number g c)
 abbrev pub root_at : Graph → ℕ → Tree
 root_at g i = or_unread (slice_get g.roots i)
 
+-- cells with the value of one of them, by its place from 0
+abbrev pub set_nth : ℕ → Tree → List Referent → List Referent
+set_nth i t [] = []
+set_nth zero t (x ∷ xs) = record { of = x.of; val = t } ∷ xs
+set_nth (suc i) t (x ∷ xs) = x ∷ set_nth i t xs
+
+-- the same by its number from 1
+abbrev pub set_cell : ℕ → Tree → List Referent → List Referent
+set_cell zero t xs = xs
+set_cell (suc i) t xs = set_nth i t xs
+
 -- a cell as a home of nodes
 abbrev pub cell_home : ℕ → Home
 cell_home c = home.Cell (record { 0 = c })

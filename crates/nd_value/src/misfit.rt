@@ -1,5 +1,6 @@
 // Why a graph does not conform.
 use crate::Home;
+use nd_base::Memory;
 use thiserror::Error;
 
 /// Why a graph does not conform at a place.
@@ -43,6 +44,17 @@ pub enum Misfit {
         node: u32,
         reason: MisfitReason,
     },
+}
+
+impl From<Memory> for Misfit {
+    ghost use Rattle.std.specs.Prelude.{◌≡◌};
+    ghost use Rattle.nd_value.specs.declared.misfit.Misfit.TheVariants as answer;
+
+    ghost from_gives = { λ _ e. e ≡ answer.Memory };
+
+    fn from(_: Memory) -> Misfit {
+        Misfit::Memory
+    }
 }
 
 /// A misfit in a home: the number of its node, counted depth first from 0, and why.

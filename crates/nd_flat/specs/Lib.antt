@@ -1,0 +1,5 @@
+pub mod Forest
+pub mod FlatForm
+pub mod Building
+pub mod Store
+pub mod Keepable
