@@ -130,6 +130,7 @@ abbrev pub IsKeepable : Label → Type 0
 IsKeepable (tree.Num z) = IsKeepableNumber z
 IsKeepable (tree.Union z) = IsKeepableNumber z
 IsKeepable (tree.Text max octets) = length octets < 2 ^ 32
+IsKeepable tree.Unread = ⊥
 IsKeepable _ = Unit {0}
 
 -- the octets of a text
