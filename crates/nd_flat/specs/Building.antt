@@ -28,6 +28,11 @@ abbrev pub home_tree : Graph → Home → Tree
 home_tree g (home.Root i) = root_at g i
 home_tree g (home.Cell c) = cell_at g c.0
 
+-- the type of a cell; 0 where there is none
+abbrev pub referent_type : Option Referent → ℕ
+referent_type (Some x) = x.of
+referent_type None = 0
+
 -- A graph as it is built: its roots and cells, which are unread as long as they are not built, the home that is open, and the nodes of
 -- it that are there so far.
 pub record Building : Type 0 where

@@ -12,29 +12,31 @@ use crate::given::Given;
 use crate::node::{Node, kept_node, kept_row};
 use crate::{Fit, Row, Seen};
 use nd_base::{Ledger, Memory, Octets, Steps};
-use nd_value::CellId;
 use nd_types::{Side, Tie, TypeId};
+use nd_value::CellId;
 use std::alloc::Global;
 use std::marker::Model;
 
-// Which home is open: none before the first.
+// Which home is open: none before the first one.
 #[derive(Clone, Copy, Drop)]
 pub enum OpenHome {
     NoHome,
     Root(usize),
-    // by its place, the cell's number less one
+    // by its place, which is the cell's number less one
     Cell(usize),
 }
 
-/// Builds a graph home by home. Contracts see the roots and cells, those that are not built yet unread, the home that is open, and
-/// its nodes so far.
+/// Builds a graph, one root or cell at a time and in any order: a home is opened, and its nodes are added depth first, each with the
+/// number of its children. Contracts see the graph so far, in which homes that are not built are unread, the home that is open, and
+/// its nodes so far. After want of memory a builder is as it was before the call.
 #[derive(Drop)]
 pub struct Builder {
     nodes: Vec<Node>,
     octets: Octets,
     roots: Vec<Span>,
     cells: Vec<CellSpan>,
-    at: OpenHome,
+    home: OpenHome,
+    // where the nodes of the open home begin
     from: usize,
     op: u32,
     side: Side,
@@ -57,29 +59,25 @@ impl Model for Builder {
 }
 
 impl Builder {
-    /// Begins a graph for a side of an operation, beside a request or beside none. It allocates nothing.
+    /// Begins a graph for a side of an operation of the tie's interface, beside a request or beside none. It allocates nothing.
     pub fn begin(alloc: Global, tie: Tie, op: u32, side: Side, given: Option<&Fit>) -> Builder
         ensures { result ≡ start tie op side (option_map (λ f. f.now.graph) given.entry) }
     {
-        let given = match given {
-            None => Given::nothing(),
-            Some(fit) => Given::of(&fit.graph),
-        };
         Builder {
             nodes: Vec::new(alloc),
             octets: Octets::new(alloc),
             roots: Vec::new(alloc),
             cells: Vec::new(alloc),
-            at: OpenHome::NoHome,
+            home: OpenHome::NoHome,
             from: 0,
             op,
             side,
             tie,
-            given,
+            given: Given::beside(given),
         }
     }
 
-    /// The next root is the home. Want of memory is the only refusal, and changes nothing.
+    /// Opens the next root, which takes memory. The home that was open must be whole. Want of memory is the only refusal.
     pub fn root(&mut self) -> Result<(), Memory>
         requires { CanClose self.old }
         ensures ok { OnOk result (self.new ≡ opened (home.Root (length self.old.graph.roots)) (with_root (closed self.old)) self.old) }
@@ -100,7 +98,8 @@ impl Builder {
         Ok(())
     }
 
-    /// The number of a cell more, which is not built yet, and one tick. Want of memory is the only refusal, and changes nothing.
+    /// Gives the next cell its number, from 1, and counts one step. The cell is of this type, and is not built yet. The home that is
+    /// open stays open. It takes memory; want of memory is the only refusal, and counts nothing.
     pub fn reserve<L: Ledger>(&mut self, of: TypeId, steps: &mut Steps<L>) -> Result<CellId, Memory>
         requires few { length self.old.graph.cells < 2 ^ 32 - 1 }
         ensures cell { IfOk result (λ c. c.0 ≡ length self.old.graph.cells + 1) }
@@ -117,9 +116,9 @@ impl Builder {
         Ok(cell)
     }
 
-    /// A cell is the home. Takes no memory.
+    /// Opens a cell that has its number; what it held before is gone. The home that was open must be whole. Takes no memory.
     pub fn fill(&mut self, cell: CellId)
-        requires shut { CanClose self.old }
+        requires whole { CanClose self.old }
         requires there { (0 < cell.0) × (cell.0 ≤ length self.old.graph.cells) }
         ensures { self.new ≡ opened (cell_home cell.0) (closed self.old) self.old }
     {
@@ -133,7 +132,8 @@ impl Builder {
         self.from = to;
     }
 
-    /// The next node of the home. Want of memory is the only refusal, and changes nothing.
+    /// Adds the next node of the open home. A number or tag must be from -2^64 to 2^64 - 1, and a text have fewer than 2^32 octets. It
+    /// takes memory; want of memory is the only refusal.
     pub fn add(&mut self, node: &Seen<'_>) -> Result<(), Memory>
         requires { IsKeepable (flat_seen node.now).0 }
         ensures ok { OnOk result (self.new ≡ with_node (flat_seen node.now) self.old) }
@@ -146,7 +146,8 @@ impl Builder {
         Ok(())
     }
 
-    /// The next numbers of the home, side by side. Want of memory is the only refusal, and changes nothing.
+    /// Adds numbers of the open home as its next nodes, which are kept side by side as they are. There must be one at least. It takes
+    /// memory for the octets and one node; want of memory is the only refusal.
     pub fn row(&mut self, row: &Row<'_>) -> Result<(), Memory>
         requires whole { IsRow row.now }
         requires some { 0 < row.now.count }
@@ -160,7 +161,8 @@ impl Builder {
         Ok(())
     }
 
-    /// So many elements more are to come of the home's pipe. Takes no memory.
+    /// Raises the number of elements of the pipe that is the open home: so many more are to be added. The sum must be below 2^32.
+    /// Takes no memory.
     pub fn chunk(&mut self, more: u32)
         requires { IsPipe more self.old.nodes }
         ensures { self.new ≡ with_nodes (raised more self.old.nodes) self.old }
@@ -168,9 +170,9 @@ impl Builder {
         raise(&mut self.nodes, self.from, more);
     }
 
-    /// The graph, of which no home is unread. Takes no memory.
+    /// The graph, whether it conforms or not. The open home must be whole, and each root and each cell built. Takes no memory.
     pub fn into_graph(self) -> FlatGraph
-        requires shut { CanClose self }
+        requires whole { CanClose self }
         requires read { HasNoUnread (closed self) }
         ensures { result ≡ closed self }
     {
@@ -179,7 +181,7 @@ impl Builder {
             octets,
             mut roots,
             mut cells,
-            at,
+            home,
             from,
             op: _op,
             side: _side,
@@ -191,7 +193,7 @@ impl Builder {
             from,
             len: to - from,
         };
-        close(at, span, &mut roots, &mut cells);
+        close(home, span, &mut roots, &mut cells);
         FlatGraph {
             nodes,
             octets,
@@ -200,9 +202,9 @@ impl Builder {
         }
     }
 
-    /// The graph, which conforms. Takes no memory.
+    /// The graph as a fit. The open home must be whole, and the graph conform to the side of the operation. Takes no memory.
     pub fn finish(self) -> Fit
-        requires shut { CanClose self }
+        requires whole { CanClose self }
         requires fits { IsFit (fitting self) }
         ensures { result ≡ fitting self }
     {
@@ -211,7 +213,7 @@ impl Builder {
             octets,
             mut roots,
             mut cells,
-            at,
+            home,
             from,
             op,
             side,
@@ -223,7 +225,7 @@ impl Builder {
             from,
             len: to - from,
         };
-        close(at, span, &mut roots, &mut cells);
+        close(home, span, &mut roots, &mut cells);
         let graph = FlatGraph {
             nodes,
             octets,
@@ -238,13 +240,13 @@ const EMPTY: Span = Span { from: 0, len: 0 };
 
 ghost use Rattle.nd_flat.specs.Store.{IsPlace, closed_roots, closed_cells, IsPipeAt, raised_at};
 
-// Notes where the home stands that was open.
-fn close(at: OpenHome, span: Span, roots: &mut Vec<Span>, cells: &mut Vec<CellSpan>)
-    requires { IsPlace roots.old.items cells.old.items at }
-    ensures roots { roots.new.items ≡ closed_roots at span roots.old.items }
-    ensures cells { cells.new.items ≡ closed_cells at span cells.old.items }
+// Notes the span of the home that was open.
+fn close(home: OpenHome, span: Span, roots: &mut Vec<Span>, cells: &mut Vec<CellSpan>)
+    requires { IsPlace roots.old.items cells.old.items home }
+    ensures roots { roots.new.items ≡ closed_roots home span roots.old.items }
+    ensures cells { cells.new.items ≡ closed_cells home span cells.old.items }
 {
-    match at {
+    match home {
         OpenHome::NoHome => {}
         OpenHome::Root(at) => roots[at] = span,
         OpenHome::Cell(at) => {
@@ -254,7 +256,7 @@ fn close(at: OpenHome, span: Span, roots: &mut Vec<Span>, cells: &mut Vec<CellSp
     }
 }
 
-// The node at a place, which is a pipe, has so many elements more.
+// Raises the number of elements of the pipe at a place.
 fn raise(nodes: &mut Vec<Node>, at: usize, more: u32)
     requires { IsPipeAt more (drop at nodes.old.items) }
     ensures { nodes.new.items ≡ raised_at at more nodes.old.items }

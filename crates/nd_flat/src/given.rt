@@ -1,10 +1,11 @@
-// The request beside which a response is read, for contracts alone.
-ghost use Rattle.std.specs.Prelude.{◌≡◌, None, Some};
+// The request beside which a response is judged, for contracts alone.
+ghost use Rattle.std.specs.Prelude.{◌≡◌, option_map};
 
-use crate::FlatGraph;
+use crate::{Fit, FlatGraph};
 use std::marker::Model;
 use std::snapshot::Snapshot;
 
+/// The request beside which a response is judged, or none. It takes no memory: contracts alone see the graph of the request.
 #[derive(Drop)]
 pub struct Given {
     graph: Option<Snapshot<FlatGraph>>,
@@ -24,17 +25,15 @@ impl Model for Given {
 }
 
 impl Given {
-    pub(crate) fn nothing() -> Given
-        ensures { result ≡ None }
+    /// The request that is given, if one is. Takes no memory.
+    pub fn beside(request: Option<&Fit>) -> Given
+        ensures { result ≡ option_map (λ f. f.now.graph) request.entry }
     {
-        Given { graph: None }
-    }
-
-    pub(crate) fn of(graph: &FlatGraph) -> Given
-        ensures { result ≡ Some graph.now }
-    {
-        Given {
-            graph: Some(Snapshot::of(graph)),
+        match request {
+            None => Given { graph: None },
+            Some(fit) => Given {
+                graph: Some(Snapshot::of(fit.flat())),
+            },
         }
     }
 }

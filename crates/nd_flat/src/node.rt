@@ -1,4 +1,4 @@
-// Nodes of values: as they are first_seen, and as they are kept.
+// Nodes of values: as callers see them, and as they are kept.
 ghost use Rattle.std.specs.Prelude.{◌≡◌, ℕ, List, [], ◌∷◌, ◌++◌, ◌<◌, ◌≤◌, ◌*◌, ◌^◌, length, OnOk, OnErr, IfOk};
 ghost use Rattle.nd_value.specs.Tree as tree;
 ghost use Rattle.nd_value.specs.Seen.{cell_number};

@@ -16,7 +16,7 @@ invariant_of-self c =
     fill_built_as s.octets s.nodes.items s.from s.roots.items s.cells.items s.home s.op s.side s.tie s.given c.self.invariant
     c.as_slice-to.result.now c.close.new.roots.items c.close.new.cells.items c.args.cell.0 e er ec c.requires.there.0
     (subst (λ (b : Building). c.args.cell.0 ≤ length b.graph.cells) (sym c.self.view_is) c.requires.there.1)
-    (subst CanClose (sym c.self.view_is) c.requires.shut)
+    (subst CanClose (sym c.self.view_is) c.requires.whole)
 
 pub returns : goal.returns
 returns c =

@@ -14,7 +14,7 @@ invariant_of-graph c =
     let ec : c.close.new.cells.items ≡ closed_cells s.home (last_span s.nodes.items s.from) s.cells.items =
     c.close.ensures.cells ∙ ap (λ zs. closed_cells s.home (last_span zs s.from) s.cells.items) e in
     finished_kept s.octets s.nodes.items s.from s.roots.items s.cells.items s.home s.op s.side s.tie s.given c.self.invariant
-    c.close.new.roots.items c.close.new.cells.items er ec (subst CanClose (sym c.self.view_is) c.requires.shut)
+    c.close.new.roots.items c.close.new.cells.items er ec (subst CanClose (sym c.self.view_is) c.requires.whole)
     (subst (λ (b : Building). IsFit (fitting b)) (sym c.self.view_is) c.requires.fits)
 
 pub of-requires : goal.of-requires

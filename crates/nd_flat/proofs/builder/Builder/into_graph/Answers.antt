@@ -13,7 +13,7 @@ invariant_of-result c =
     let ec : c.close.new.cells.items ≡ closed_cells s.home (last_span s.nodes.items s.from) s.cells.items =
     c.close.ensures.cells ∙ ap (λ zs. closed_cells s.home (last_span zs s.from) s.cells.items) e in
     kept_read s.octets s.nodes.items s.from s.roots.items s.cells.items s.home s.op s.side s.tie s.given c.self.invariant
-    c.close.new.roots.items c.close.new.cells.items er ec (subst CanClose (sym c.self.view_is) c.requires.shut)
+    c.close.new.roots.items c.close.new.cells.items er ec (subst CanClose (sym c.self.view_is) c.requires.whole)
     (subst (λ (b : Building). HasNoUnread (closed b)) (sym c.self.view_is) c.requires.read)
 
 pub returns : goal.returns
