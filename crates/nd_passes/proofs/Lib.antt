@@ -6,3 +6,8 @@ pub mod NumberRanges
 pub mod PointerWalk
 pub mod Sharing
 pub mod Walkable
+pub mod AgreementWalk
+pub mod Numbered
+pub mod Disagreements
+pub mod Attributes
+pub mod SmallNumbers

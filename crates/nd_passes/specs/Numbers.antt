@@ -22,10 +22,15 @@ use Rattle.nd_passes.specs.Disagreeing.{is_small_or_none}
 abbrev pub number_at : Graph → Tree → ParamNumber
 number_at g t = record { own = starred g false t; referent = starred g true t }
 
--- the roots of a graph as variables, in order
+-- no variable
+abbrev pub no_number : ParamNumber
+no_number = record { own = None; referent = None }
+
+-- the roots of a graph as variables, in order; one that is not there has no number
 abbrev pub numbers_of : Graph → List NamedRoot → List Tree → List RootNumber
+numbers_of g [] ts = []
+numbers_of g (r ∷ rs) [] = record { param = r.param; number = no_number } ∷ numbers_of g rs []
 numbers_of g (r ∷ rs) (t ∷ ts) = record { param = r.param; number = number_at g t } ∷ numbers_of g rs ts
-numbers_of g _ _ = []
 
 -- a home as a variable
 abbrev pub home_number : Graph → HomeTree → RootNumber
@@ -35,10 +40,6 @@ home_number g h = record { param = h.param; number = number_at g h.val }
 abbrev pub given_numbers : Table → Operation → Option Graph → List RootNumber
 given_numbers table o None = []
 given_numbers table o (Some q) = numbers_of q (named_roots table side.In o) q.roots
-
--- no variable
-abbrev pub no_number : ParamNumber
-no_number = record { own = None; referent = None }
 
 -- the parameter that a root is
 abbrev pub is_param : Option ℕ → ℕ → Bool

@@ -1,7 +1,7 @@
 // Whether the attributes of a member or a parameter hold (C706, 4.2.18 to 4.2.20).
 ghost use Rattle.std.specs.Prelude.{◌≡◌, ◌+◌, ◌<◌, ◌^◌, pos, true, [], ◌∷◌, Some};
 ghost use Rattle.nd_value.specs.Tree as tree;
-ghost use Rattle.nd_value.specs.Tree.{trees};
+ghost use Rattle.nd_value.specs.Tree.{trees, count};
 ghost use Rattle.nd_value.specs.Setting.{unread};
 ghost use Rattle.nd_value.specs.Seen.{tree_of, cell_number};
 ghost use Rattle.nd_value.specs.Agreement.{number_in, agreement, member_agreements, wanted_by, found_in, max_of, offset_of, actual, tag_of};
@@ -28,9 +28,8 @@ pub(crate) fn member(
         let Some(var) = vars.get(at) else {
             unreachable!()
         };
-        let failed = attribute(graph, var.attr, number_in(vals, var.var), val);
-        if failed.is_some() {
-            return failed;
+        if let Some(reason) = attribute(graph, var.attr, number_in(vals, var.var), val) {
+            return Some(reason);
         }
     }
     None
@@ -50,9 +49,8 @@ pub(crate) fn parameter(
         let Some(var) = vars.get(at) else {
             unreachable!()
         };
-        let failed = attribute(graph, var.attr, value_in(numbers, var), val);
-        if failed.is_some() {
-            return failed;
+        if let Some(reason) = attribute(graph, var.attr, value_in(numbers, var), val) {
+            return Some(reason);
         }
     }
     None
@@ -217,8 +215,18 @@ fn actual(val: &Val) -> i128
 {
     match val {
         Val::Text { octets, .. } => octets.as_slice().len() as i128 + 1,
-        Val::Rec(items) | Val::Arr { items, .. } | Val::Pipe(items) => items.len() as i128,
+        Val::Rec(items) => count(items),
+        Val::Arr { items, .. } => count(items),
+        Val::Pipe(items) => count(items),
         Val::Union { arm, .. } => i128::from(arm.get().is_some()),
         Val::Num(_) | Val::Ptr(_) | Val::Context { .. } => 0,
     }
+}
+
+// How many values there are.
+fn count(vals: &Vals) -> i128
+    ensures exact { result ≡ pos (count (trees vals.now)) }
+    ensures few { count (trees vals.now) < 2 ^ 64 }
+{
+    vals.len() as i128
 }

@@ -6,6 +6,7 @@ mod agreement;
 mod compared;
 mod disagreeing;
 mod homes;
+pub mod laws;
 mod local;
 mod node;
 mod nodes;

@@ -84,9 +84,10 @@ pub(crate) fn roots_as_numbers(
 {
     let mut numbers = Vec::new(alloc);
     for at in 0..homes.len() {
+        let home = homes[at];
         let root = RootNumber {
-            param: homes[at].param,
-            number: number_at(graph, homes[at].val),
+            param: home.param,
+            number: number_at(graph, home.val),
         };
         let Ok(()) = numbers.push(root) else {
             return Err(Memory);

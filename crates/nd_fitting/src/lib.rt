@@ -1,0 +1,8 @@
+//! Whether a graph conforms to a side of an operation, beside a request or beside none, and if not, which misfit is its first.
+#![tactic(auto)]
+
+mod fitting;
+mod given;
+mod reach;
+
+pub use fitting::fit;
