@@ -104,7 +104,7 @@ closed_count cs at.NoHome s = refl
 closed_count cs (at.Root i) s = refl
 closed_count cs (at.Cell i) s = length_set_span cs i s
 
--- A root more is put without_first the others before the open home is closed.
+-- A root more is put after the others before the open home is closed.
 root_behind : (rs : List Span) (cs : List CellSpan) (a : OpenHome) (s e : Span) → IsPlace rs cs a → closed_roots a s (rs ++ e ∷ []) ≡ closed_roots a s rs ++ e ∷ []
 root_behind rs cs at.NoHome s e h = refl
 root_behind rs cs (at.Root i) s e h = set-append_left rs (e ∷ []) i s h

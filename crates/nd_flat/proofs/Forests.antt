@@ -41,19 +41,19 @@ flat-unflat f fs =
 tail_same : {A : Type 0} (x y : A) (xs ys : List A) → x ∷ xs ≡ y ∷ ys → xs ≡ ys
 tail_same x y xs ys e = cc
 
--- without_first the first node of trees stand trees
+-- after the first node of trees are trees
 pub forest-rest : (f : Flat) (fs : List Flat) → IsForest (f ∷ fs) → IsForest fs
 forest-rest f fs h = tail_same _ f _ fs (sym (flat-unflat f fs) ∙ h)
 
 pub forest-first : (f : Flat) (fs : List Flat) → IsForest (f ∷ fs) → flat (unflat (f ∷ fs)) ≡ f ∷ flat (unflat fs)
 forest-first f fs h = h ∙ ap (λ gs. f ∷ gs) (sym (forest-rest f fs h))
 
--- without_first the first nodes of trees stand trees
-pub forest-without_first : (fs gs : List Flat) → IsForest (fs ++ gs) → IsForest gs
-forest-without_first [] gs h = h
-forest-without_first (f ∷ fs) gs h = forest-without_first fs gs (forest-rest f (fs ++ gs) h)
+-- after the first nodes of trees are trees
+pub forest-rest-of : (fs gs : List Flat) → IsForest (fs ++ gs) → IsForest gs
+forest-rest-of [] gs h = h
+forest-rest-of (f ∷ fs) gs h = forest-rest-of fs gs (forest-rest f (fs ++ gs) h)
 
--- Walking on: what is left without_first a node is its children, and then what followed.
+-- Walking on: what is left after a node is its children, and then what followed.
 pub walked : (old new : Trees) (f : Flat) → flat old ≡ f ∷ flat new
     → old ≡ more (node f.0 (take_trees f.1 new)) (drop_trees f.1 new)
 walked old new f e =

@@ -1,4 +1,4 @@
--- What stands below a place stays as it was.
+-- What is below a place stays as it was.
 -- `os` and `ps` are octets, `ns` and `ms` nodes, `n` is a node, `s` a span, `to` a place, `rs` are spans, `cs` cells.
 use Rattle.std.proofs.Common.{◌≡◌, ◌⊎◌, inl, inr, ℕ, ◌+◌, ◌*◌, ◌<◌, ◌≤◌, zero, suc, List, [], ◌∷◌, ◌++◌, length, take, drop, map, get_or, Some, refl, ap, ap₂, sym, ◌∙◌, subst, arith, length-append}
 use Rattle.std.specs.List.{AllByRecursion, slice_get}

@@ -32,7 +32,7 @@ pub value_closes : (b : Building) (h : Home) (g : Graph) (t : Tree) (new : Build
     → new ≡ with_nodes ((opened h g b).nodes ++ flat (more t none)) (opened h g b) → CanClose new
 value_closes b h g t new e = subst CanClose (sym e) (whole-of t (flat (more t none)) refl)
 
--- a root was opened and read: it stands without_first the roots
+-- a root was opened and read: it comes after the roots
 pub root_closed : (b : Building) (t : Tree) (new : Building)
     → (let o : Building = opened (home.Root (length b.graph.roots)) (with_root (closed b)) b in new ≡ with_nodes (o.nodes ++ flat (more t none)) o)
     → closed new ≡ record { roots = (closed b).roots ++ t ∷ []; cells = (closed b).cells }

@@ -5,12 +5,13 @@ use Rattle.std.proofs.lemmas.List.{length-map}
 use Rattle.nd_value.specs.declared.item.Home.{Home}
 use Rattle.nd_value.specs.declared.item.Home.TheVariants as home
 use Rattle.nd_value.specs.Tree.{more, none, unflat}
-use Rattle.nd_value.specs.Setting.{or_unread, cell_tree, cell_at}
+use Rattle.nd_value.specs.Setting.{or_unread, cell_tree, cell_at, cell_home}
+use Rattle.nd_value.specs.declared.value.Graph.{Graph}
 use Rattle.nd_flat.specs.declared.node.Node.{Node}
 use Rattle.nd_flat.specs.declared.flat.Span.{Span}
 use Rattle.nd_flat.specs.declared.flat.CellSpan.{CellSpan}
 use Rattle.nd_flat.specs.FlatForm.{flats, HasOctets, WalkParts, no_row}
-use Rattle.nd_flat.specs.Building.{HasHome, home_tree}
+use Rattle.nd_flat.specs.Building.{HasHome, home_tree, referent_type}
 use Rattle.nd_flat.specs.Store.{span_nodes, span_flats, span_tree, span_cell, seen_graph, IsHome, IsKept, HasSpan, chosen_span, no_span, no_cell}
 use Rattle.nd_flat.proofs.RowLaws.{no_row_there}
 use Rattle.nd_flat.proofs.Forests.{whole-forest, whole-is-forest}
@@ -64,3 +65,14 @@ pub part_is : (ns : List Node) (rs : List Span) (cs : List CellSpan) (h : Home) 
 part_is ns rs cs h ns' rs' cs' s e1 e2 e3 e4 =
     let n : s.from + s.len - s.from ≡ s.len = omega arith in
     ap₂ (λ k xs. take k (drop s.from xs)) n e1 ∙ ap (span_nodes ns) (e4 ∙ ap₂ (λ x y. chosen_span x y h) e2 e3)
+
+-- a cell by its place from 0
+pub cell_there : (i : ℕ) (g : Graph) → i < length g.cells → HasHome g (cell_home (suc i))
+cell_there i g l = (omega arith, omega (arith, l))
+
+pub place_span : (rs : List Span) (cs : List CellSpan) (i : ℕ) → (get_or cs i no_cell).span ≡ chosen_span rs cs (cell_home (suc i))
+place_span rs cs i = let e : i ≡ suc i - 1 = omega arith in ap (λ n. (get_or cs n no_cell).span) e
+
+pub place_type : (os : List ℕ) (ns : List Node) (cs : List CellSpan) (i : ℕ) → i < length cs
+    → (get_or cs i no_cell).of.0 ≡ referent_type (slice_get (map (span_cell os ns) cs) i)
+place_type os ns cs i l = sym (ap referent_type (cell_get os ns cs i l))

@@ -1,5 +1,5 @@
 -- Laws of rows of numbers.
--- `o` is an order, `p` a primitive, `os`, `ps`, `xs` are octets, `n`, `k`, `m` numbers of numbers, `r` is a run.
+-- `o` is an order, `p` a primitive, `os`, `ps`, `xs` are octets, `n`, `k`, `m` numbers of numbers, `r` is a row.
 use Rattle.std.proofs.Common.{◌≡◌, ℕ, ◌+◌, ◌-◌, ◌*◌, ◌<◌, ◌≤◌, zero, suc, List, [], ◌∷◌, ◌++◌, length, take, drop, refl, ap, ap₂, sym, ◌∙◌, arith, length-append, append_assoc}
 use Rattle.std.proofs.Math.Seq.{drop-append_seam}
 use Rattle.std.proofs.lemmas.List.{map-append, drop-drop, length-drop, drop-append-le, take-append-le, take-append-drop}
@@ -30,7 +30,7 @@ row_parts o p (suc n) (suc k) m os e =
     (row_parts o p n k m (drop (width p) os) (omega (arith, e))
     ∙ ap (λ zs. row_values o p k (drop (width p) os) ++ row_values o p m zs) (drop-drop (k * width p) (width p) os ∙ ap (λ i. drop i os) size))
 
--- octets without_first those of a row change nothing
+-- octets after those of a row change nothing
 pub row_grow : (o : Order) (p : Primitive) (n : ℕ) (xs ps : List ℕ) → n * width p ≤ length xs → row_values o p n (xs ++ ps) ≡ row_values o p n xs
 row_grow o p zero xs ps h = refl
 row_grow o p (suc n) xs ps h =
@@ -58,7 +58,7 @@ kept_row_grow os ps r h =
     let d : length (drop r.from os) ≡ length os - r.from = length-drop r.from os in
     ap num_flats (ap (row_values r.order r.of r.count) (drop-append-le r.from os ps start) ∙ row_grow r.order r.of r.count (drop r.from os) ps (omega (arith, d, there)))
 
--- the first numbers of a run, and what is without_first them
+-- the first numbers of a row, and what follows them
 pub kept_row_parts : (os : List ℕ) (r : KeptRow) (k : ℕ) → k ≤ r.count
     → row_flats os r ≡ num_flats (row_values r.order r.of k (drop r.from os)) ++ row_flats os (without_first k r)
 kept_row_parts os r k le =
@@ -75,7 +75,7 @@ kept_row_first os r some = kept_row_parts os r 1 (omega (arith, some))
 mul_sum : (a b w : ℕ) → (a + b) * w ≡ a * w + b * w
 mul_sum a b w = omega arith
 
--- what is without_first the first numbers of a run is there too
+-- what follows the first numbers of a row is there too
 pub rest_there : (os : List ℕ) (r : KeptRow) (k : ℕ) → k ≤ r.count → HasRow os r → HasRow os (without_first k r)
 rest_there os r k le h =
     let there : r.from + r.count * width r.of ≤ length os = h in
@@ -86,7 +86,7 @@ rest_there os r k le h =
 pub no_row_there : (os : List ℕ) → HasRow os no_row
 no_row_there os = omega arith
 
--- octets that are put without_first others are a run there
+-- octets that are put after others are a row there
 pub kept_row_there : (os ps : List ℕ) (r : KeptRow) → r.from ≡ length os → length ps ≡ r.count * width r.of → HasRow (os ++ ps) r
 kept_row_there os ps r e h = omega (arith, e, h, length-append os ps)
 

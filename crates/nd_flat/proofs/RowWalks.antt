@@ -1,5 +1,5 @@
 -- Walks over nodes and rows.
--- `os` are octets, `r` is what is left of the run in which a walk stands, `ns` are the nodes without_first, `fs` nodes that are taken.
+-- `os` are octets, `r` is what is left of the row in which a walk is, `ns` are the nodes after, `fs` nodes that are taken.
 use Rattle.std.proofs.Common.{◌≡◌, ℕ, ◌<◌, ◌≤◌, suc, ℤ, List, [], ◌∷◌, ◌++◌, length, drop, refl, ap, ap₂, sym, ◌∙◌, subst, arith, append_assoc}
 use Rattle.std.proofs.lemmas.List.{append-nil}
 use Rattle.nd_value.specs.Tree.{Trees, Flat, flat, unflat, joined, unflat-of, take_trees, drop_trees, count}
@@ -8,12 +8,12 @@ use Rattle.nd_flat.specs.declared.node.Node.TheVariants as kept
 use Rattle.nd_flat.specs.declared.row.KeptRow.{KeptRow}
 use Rattle.nd_flat.specs.Forest.{IsForest}
 use Rattle.nd_flat.specs.FlatForm.{no_row, row_values, num_flat, num_flats, num_trees, row_flats, without_first, left_of, left_flats, seen_nodes, flats, HasRow, HasOctets, HaveOctets, WalkParts}
-use Rattle.nd_flat.proofs.Forests.{forest-without_first, flat-joined, take-joined, drop-joined}
+use Rattle.nd_flat.proofs.Forests.{forest-rest-of, flat-joined, take-joined, drop-joined}
 use Rattle.nd_flat.specs.Building.{Building, with_nodes, with_numbers}
 use Rattle.nd_flat.specs.Keepable.{Adds}
 use Rattle.nd_flat.proofs.RowLaws.{kept_row_parts, rest_there, no_row_there}
 
--- nodes were taken, and the walk stands without_first them
+-- nodes were taken, and the walk is after them
 pub record Takes (os : List ℕ) (r : KeptRow) (ns : List Node) (fs : List Flat) (r' : KeptRow) (ns' : List Node) : Type 0 where
   pub parts : WalkParts os r' ns'
   pub nodes : flat (unflat (left_flats os r ns)) ≡ fs ++ flat (unflat (left_flats os r' ns'))
@@ -21,10 +21,10 @@ pub record Takes (os : List ℕ) (r : KeptRow) (ns : List Node) (fs : List Flat)
 takes : (os : List ℕ) (r : KeptRow) (ns : List Node) (fs : List Flat) (r' : KeptRow) (ns' : List Node) → left_flats os r ns ≡ fs ++ left_flats os r' ns'
     → HaveOctets os ns' → HasRow os r' → WalkParts os r ns → Takes os r ns fs r' ns'
 takes os r ns fs r' ns' e t h w =
-    let f : IsForest (left_flats os r' ns') = forest-without_first fs (left_flats os r' ns') (subst IsForest e w.forest) in
+    let f : IsForest (left_flats os r' ns') = forest-rest-of fs (left_flats os r' ns') (subst IsForest e w.forest) in
     record { parts = record { texts = t; row = h; forest = f }; nodes = w.forest ∙ e ∙ ap (λ gs. fs ++ gs) (sym f) }
 
--- the first numbers of the run in which the walk stands
+-- the first numbers of the row in which the walk is
 pub takes_left : (os : List ℕ) (r : KeptRow) (ns : List Node) (k : ℕ) (r' : KeptRow) (zs : List ℤ) → k ≤ r.count → r' ≡ without_first k r
     → zs ≡ row_values r.order r.of k (drop r.from os) → WalkParts os r ns → Takes os r ns (num_flats zs) r' ns
 takes_left os r ns k r' zs le e n w =
@@ -84,7 +84,7 @@ row_taken_first old new zs e =
     let j : old ≡ joined (num_trees zs) new = rowed old new zs e in
     (ap₂ take_trees (sym (nums_count zs)) j ∙ take-joined (num_trees zs) new, ap₂ drop_trees (sym (nums_count zs)) j ∙ drop-joined (num_trees zs) new)
 
--- numbers that are put without_first the nodes of the open home are these trees
+-- numbers that are put after the nodes of the open home are these trees
 pub numbers_added : (zs : List ℤ) (old new : Building) → new ≡ with_numbers zs old → Adds (num_trees zs) old new
 numbers_added zs old new e = e ∙ ap (λ fs. with_nodes (old.nodes ++ fs) old) (sym (nums_flat zs))
 

@@ -14,7 +14,7 @@ count_take (suc k) (more t ts) = let h : count (take_trees k ts) ≤ count ts = 
 head_same : {A : Type 0} (x y : A) (xs ys : List A) → x ∷ xs ≡ y ∷ ys → x ≡ y
 head_same x y xs ys e = cc
 
--- without_first a node its children are left, all of them
+-- after a node its children are left, all of them
 pub walked_count : (old new : Trees) (f : Flat) → flat old ≡ f ∷ flat new → count (take_trees f.1 new) ≡ f.1
 walked_count old new f e =
     let g : flat (unflat (f ∷ flat new)) ≡ f ∷ flat new = ap (λ fs. flat (unflat fs)) (sym e) ∙ ap flat (unflat-of old) ∙ e in
@@ -42,10 +42,10 @@ module _ (here : ℕ → Label → Trees → List ℕ) (types_in : ℕ → Label
       sym (append_assoc (here t l ks) (give (types_in t l ks) ks) (give types vs))
       ∙ ap (λ xs. (here t l ks ++ xs) ++ give types vs) (sym (append-nil (give (types_in t l ks) ks)))
 
-  -- So many values of a walk, of these types, are left to give without_first what was given: then the walk will stand at `rest`, and all will be given.
+  -- So many values of a walk, of these types, are left to give after what was given: then the walk will be at `rest`, and all will be given.
   pub record Left (types : List ℕ) (k : ℕ) (now : Trees) (given : List ℕ) (rest : Trees) (all : List ℕ) : Type 0 where
     pub some : k ≤ count now
-    pub without_first : drop_trees k now ≡ rest
+    pub left : drop_trees k now ≡ rest
     pub total : given ++ give types (take_trees k now) ≡ all
 
   -- one value was given
@@ -55,11 +55,11 @@ module _ (here : ℕ → Label → Trees → List ℕ) (types_in : ℕ → Label
   left_on t types m none given rest all next gs h e f = let s : suc m ≤ 0 = h.some in absurd (omega arith)
   left_on t types m (more v vs) given rest all next gs h e f = record {
     some = let s : suc m ≤ suc (count vs) = h.some in let c : count next ≡ count vs = ap count e in omega (arith, s, c);
-    without_first = ap (drop_trees m) e ∙ h.without_first;
+    left = ap (drop_trees m) e ∙ h.left;
     total =
         ap₂ (λ xs us. xs ++ give types (take_trees m us)) f e ∙ append_assoc given (give (t ∷ []) (more v none)) (give types (take_trees m vs))
         ∙ ap (λ xs. given ++ xs) (sym (give-more t types v (take_trees m vs))) ∙ h.total;
   }
 
   pub left_end : (now : Trees) (given : List ℕ) (rest : Trees) (all : List ℕ) → Left [] 0 now given rest all → (now ≡ rest) × (given ≡ all)
-  left_end now given rest all h = (h.without_first, sym (append-nil given) ∙ h.total)
+  left_end now given rest all h = (h.left, sym (append-nil given) ∙ h.total)

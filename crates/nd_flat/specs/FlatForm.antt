@@ -35,7 +35,7 @@ flat_seen (seen.Ptr cell) = (tree.Ptr (cell_number cell), 0)
 flat_seen (seen.Context attributes id) = (tree.Context attributes id, 0)
 flat_seen (seen.Pipe k) = (tree.Pipe, k)
 
--- so many numbers that octets hold, one without_first the other
+-- so many numbers that octets hold, one after the other
 abbrev pub row_values : Order → Primitive → ℕ → List ℕ → List ℤ
 row_values o p zero os = []
 row_values o p (suc n) os = value_of_octets o p (take (width p) os) ∷ row_values o p n (drop (width p) os)
@@ -61,23 +61,23 @@ row_numbers r = row_values r.order r.of r.count r.octets.now
 abbrev pub IsRow : Row → Type 0
 IsRow r = length r.octets.now ≡ r.count * width r.of
 
--- the nodes of a run of numbers among the octets
+-- the nodes of a row of numbers among the octets
 abbrev pub row_flats : List ℕ → KeptRow → List Flat
 row_flats os r = num_flats (row_values r.order r.of r.count (drop r.from os))
 
--- the octets of a run are there
+-- the octets of a row are there
 abbrev pub HasRow : List ℕ → KeptRow → Type 0
 HasRow os r = r.from + r.count * width r.of ≤ length os
 
--- a run without its first numbers
+-- a row without its first numbers
 abbrev pub without_first : ℕ → KeptRow → KeptRow
 without_first k r = record { order = r.order; of = r.of; count = r.count - k; from = r.from + k * width r.of }
 
--- a run of no numbers
+-- a row of no numbers
 abbrev pub no_row : KeptRow
 no_row = record { order = Little; of = Byte; count = 0; from = 0 }
 
--- The same as it is kept: one node, but of a run as many as it has numbers.
+-- The same as it is kept: one node, but of a row as many as it has numbers.
 abbrev pub seen_nodes : List ℕ → Node → List Flat
 seen_nodes os (kept.Num n) = (tree.Num (pos n), 0) ∷ []
 seen_nodes os (kept.Negative n) = (tree.Num (negsuc n), 0) ∷ []
@@ -92,7 +92,7 @@ seen_nodes os (kept.Context attributes id) = (tree.Context attributes id, 0) ∷
 seen_nodes os (kept.Pipe k) = (tree.Pipe, k) ∷ []
 seen_nodes os (kept.Row r) = row_flats os r
 
--- what is left of a node without_first its first number
+-- what is left of a node after its first number
 abbrev pub left_of : Node → KeptRow
 left_of (kept.Row r) = without_first 1 r
 left_of _ = no_row
@@ -102,7 +102,7 @@ abbrev pub flats : List ℕ → List Node → List Flat
 flats os [] = []
 flats os (n ∷ ns) = seen_nodes os n ++ flats os ns
 
--- the octets of a text, or of a run of some numbers, are there
+-- the octets of a text, or of a row of some numbers, are there
 abbrev pub HasOctets : List ℕ → Node → Type 0
 HasOctets os (kept.Text max len from) = from + len ≤ length os
 HasOctets os (kept.Row r) = HasRow os r × (0 < r.count)
@@ -111,11 +111,11 @@ HasOctets os _ = Unit {0}
 abbrev pub HaveOctets : List ℕ → List Node → Type 0
 HaveOctets os ns = AllByRecursion (HasOctets os) ns
 
--- what is left of a walk: the rest of the run in which it stands, and the nodes without_first
+-- what is left of a walk: the rest of the row in which it is, and the nodes after
 abbrev pub left_flats : List ℕ → KeptRow → List Node → List Flat
 left_flats os r ns = row_flats os r ++ flats os ns
 
--- what a walk takes over: whole values, and the octets of their texts and runs
+-- what a walk takes over: whole values, and the octets of their texts and rows
 pub record WalkParts (os : List ℕ) (r : KeptRow) (ns : List Node) : Type 0 where
   pub texts : HaveOctets os ns
   pub row : HasRow os r

@@ -13,7 +13,7 @@ abbrev pub AreKeepable : Trees → Type 0
 AreKeepable none = Unit {0}
 AreKeepable (more (node l ks) ts) = IsKeepable l × (AreKeepable ks × AreKeepable ts)
 
--- the nodes of trees were put without_first those of the open home
+-- the nodes of trees were put after those of the open home
 abbrev pub Adds : Trees → Building → Building → Type 0
 Adds ts old new = new ≡ with_nodes (old.nodes ++ flat ts) old
 

@@ -12,7 +12,7 @@ use Rattle.nd_flat.proofs.node.first_seen.Goals as goal
 pub returns-in-Row : goal.returns-in-Row
 returns-in-Row c =
     let os = c.args.octets.now in
-    let r = c.in-Row.run' in
+    let r = c.in-Row.row in
     let z = c.first_number.result in
     let fits : SFits w128 z = search rules in
     let v = value_of_octets r.order r.of (take (width r.of) (drop r.from os)) in
