@@ -15,7 +15,7 @@ use Rattle.nd_value.specs.Homes.{root_pointers}
 use Rattle.nd_value.specs.Conforms.{Reached, by_root, by_cell}
 use Rattle.nd_value.specs.FirstMisfit.{IsFirstUnreached}
 use Rattle.nd_value.specs.Canon.{target}
-use Rattle.nd_fitting.specs.Reach.{named_by, Reach, root_names, cell_names, TellsReach}
+use Rattle.nd_fitting.specs.Reach.{named_by, Reach, root_names, cell_names, TellsReach, RootsFormed, CellsFormed}
 use Rattle.nd_passes.specs.Pointers.{are_formed}
 use Rattle.nd_fitting.proofs.Bridge.{cells_named, home_names}
 
@@ -56,15 +56,6 @@ named_from (q ∷ ps) c a =
       | inl b ↦ (q, inl refl, target_is q.cell c b)
       | inr b ↦ let f : (p : Pending) × (Among ps p) × (p.cell ≡ Some c) = named_from ps c b in (f.0, inr f.1, f.2)
     ]
-
--- each root has the form of its type, and there are as many values as roots
-abbrev pub RootsFormed : Table → List Root → List Tree → Type 0
-RootsFormed table (r ∷ rs) (v ∷ vs) = (are_formed table (r.of ∷ []) (more v none) ≡ true) × RootsFormed table rs vs
-RootsFormed table [] [] = Unit {0}
-RootsFormed table _ _ = ⊥
-
-abbrev pub CellsFormed : Table → List Referent → Type 0
-CellsFormed table xs = AllByRecursion (λ x. are_formed table (x.of ∷ []) (more x.val none) ≡ true) xs
 
 module _ (w : Setting) (g : Graph) (roots : RootsFormed w.table (root_list w) g.roots) (cells : CellsFormed w.table g.cells) where
   from_root : (i : ℕ) (rs : List Root) (vs : List Tree) (p : Pending) (c : ℕ) → RootsFormed w.table rs vs → Among (root_pointers w.table i rs vs) p → p.cell ≡ Some c

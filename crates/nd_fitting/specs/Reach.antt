@@ -4,7 +4,10 @@ use Rattle.std.specs.Prelude.{◌≡◌, ℕ, suc, ◌+◌, ◌<◌, ◌≤◌, 
 use Rattle.std.specs.List.{AllByRecursion}
 use Rattle.nd_value.specs.declared.value.Graph.{Graph}
 use Rattle.nd_value.specs.declared.value.CellId.{CellId}
-use Rattle.nd_value.specs.Tree.{Tree, Trees, none, more, flat, cell_in}
+use Rattle.nd_types.specs.Table.{Table}
+use Rattle.nd_types.specs.Roots.{Root}
+use Rattle.nd_value.specs.Tree.{Tree, Trees, none, more, flat, cell_in, Referent}
+use Rattle.nd_passes.specs.Pointers.{are_formed}
 use Rattle.nd_value.specs.Canon.{target}
 use Rattle.nd_value.specs.Setting.{Among, cell_at}
 
@@ -78,6 +81,16 @@ pub record Searching (g : Graph) (rs : List Tree) (s : Search) (at : ℕ) : Type
   pub closed : (i : ℕ) → i < at → AreMarked s (named_by (cell_at g (get_or s.queue i 0)))
   pub marks : length s.marks ≡ suc (length g.cells)
   pub few : length s.queue + unmarked s.marks ≡ suc (length g.cells)
+
+-- each root has the form of its type, and there are as many values as roots
+abbrev pub RootsFormed : Table → List Root → List Tree → Type 0
+RootsFormed table (r ∷ rs) (v ∷ vs) = (are_formed table (r.of ∷ []) (more v none) ≡ true) × RootsFormed table rs vs
+RootsFormed table [] [] = Unit {0}
+RootsFormed table _ _ = ⊥
+
+-- the same of each cell
+abbrev pub CellsFormed : Table → List Referent → Type 0
+CellsFormed table xs = AllByRecursion (λ x. are_formed table (x.of ∷ []) (more x.val none) ≡ true) xs
 
 -- the first cell that is not reached, if one is not
 abbrev pub TellsReach : Graph → Option CellId → Type 0

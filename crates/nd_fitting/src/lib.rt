@@ -3,6 +3,7 @@
 
 mod fitting;
 mod given;
+pub mod laws;
 mod reach;
 
 pub use fitting::fit;

@@ -18,7 +18,7 @@ use Rattle.nd_value.proofs.LocalPass.{drop-get, drop-past}
 use Rattle.nd_passes.specs.Disagreeing.{subject_of, subject_in, disagreeing_in, Compared}
 use Rattle.nd_passes.proofs.FormWalk.{Counted, next_counted, end_counted}
 
-or_next-none : (o : Option NodeMisfit) → or_next o None ≡ o
+pub or_next-none : (o : Option NodeMisfit) → or_next o None ≡ o
 or_next-none None = refl
 or_next-none (Some m) = refl
 
@@ -29,9 +29,9 @@ none_stated (t ∷ ts) = refl
 
 rest_drop : (ags : List (List Agreement)) (i : ℕ) → rest_agreements (drop i ags) ≡ drop (i + 1) ags
 rest_drop [] zero = refl
-rest_drop [] (suc i) = refl
+rest_drop [] (suc i) = let m : suc (i + 1) ≡ suc i + 1 = omega arith in ap (λ k. drop {A = List Agreement} k []) m
 rest_drop (a ∷ ags) zero = refl
-rest_drop (a ∷ ags) (suc i) = rest_drop ags i
+rest_drop (a ∷ ags) (suc i) = let m : suc (i + 1) ≡ suc i + 1 = omega arith in rest_drop ags i ∙ ap (λ k. drop k (a ∷ ags)) m
 
 -- what governs the i-th of values
 abbrev pub governs : List (List Agreement) → ℕ → List Agreement
@@ -71,7 +71,7 @@ module _ (table : Table) (g : Graph) where
   or_next-three a None c = refl
   or_next-three a (Some m) c = refl
 
-  one_more : (t : ℕ) (types : List ℕ) (ags : List (List Agreement)) (n : ℕ) (v : Tree) (vs : Trees)
+  pub one_more : (t : ℕ) (types : List ℕ) (ags : List (List Agreement)) (n : ℕ) (v : Tree) (vs : Trees)
       → disagreeing_in table g (t ∷ types) ags n (more v vs)
       ≡ or_next (own n (first_agreements ags) v)
       (or_next (disagreeing_in table g (t ∷ []) [] n (more v none)) (disagreeing_in table g types (rest_agreements ags) (n + node_count (more v none)) vs))
@@ -99,8 +99,8 @@ module _ (table : Table) (g : Graph) where
     here =
         w.first ∙ ap₂ (λ ts us. disagreeing_in table g ts (drop i ags) now (trees us)) (drop-get types i t typed) (drop-get vs i v there)
         ∙ one_more t (drop (i + 1) types) (drop i ags) now v (trees (drop (i + 1) vs))
-        ∙ ap (λ as. or_next (own now (governs ags i) v) (or_next (disagreeing_in table g (t ∷ []) [] now (more v none))
-        (disagreeing_in table g (drop (i + 1) types) as (now + node_count (more v none)) (trees (drop (i + 1) vs))))) (rest_drop ags i)
+        ∙ ap (λ xs. or_next (own now (governs ags i) v) (or_next (disagreeing_in table g (t ∷ []) [] now (more v none))
+        (disagreeing_in table g (drop (i + 1) types) xs (now + node_count (more v none)) (trees (drop (i + 1) vs))))) (rest_drop ags i)
 
     -- the value's own attributes do not all hold
     pub compare_here : (r : MisfitReason) → disagreement_of (subject_in g v) (governs ags i) ≡ Some r

@@ -1,7 +1,7 @@
 -- The fourth pass, as it goes over the homes of a graph, finds the first disagreement.
-use Rattle.std.proofs.Common.{◌≡◌, ℕ, ◌+◌, List, [], ◌∷◌, ◌++◌, length, Option, Some, None, refl, ap, ap₂, sym, ◌∙◌, map}
+use Rattle.std.proofs.Common.{◌≡◌, ℕ, ◌+◌, ◌<◌, ◌≤◌, get_or, drop, List, [], ◌∷◌, ◌++◌, length, Option, Some, None, refl, ap, ap₂, sym, ◌∙◌, map}
 use Rattle.std.specs.List.{AllByRecursion}
-use Rattle.std.proofs.lemmas.List.{map-append}
+use Rattle.std.proofs.lemmas.List.{map-append, drop_more}
 use Rattle.nd_types.specs.Table.{Table, type_at}
 use Rattle.nd_types.specs.Roots.{Root}
 use Rattle.nd_types.specs.Walk.{NamedRoot, named_root}
@@ -20,8 +20,11 @@ use Rattle.nd_value.specs.Homes.{HomeNode, in_home, root_nodes, cell_nodes}
 use Rattle.nd_value.specs.Conforms.{subject}
 use Rattle.nd_value.specs.FirstMisfit.{MisfitAt, or_later, at_node, first_node, disagreement_of, first_disagreeing}
 use Rattle.nd_value.specs.Passes.{or_next, at_number, at_home}
-use Rattle.nd_passes.specs.HomeList.{HomeTree, root_homes, cell_homes, homes_of}
-use Rattle.nd_passes.specs.Disagreeing.{subject_of, disagreeing_in, home_vars, disagreeing_home, disagreeing_homes}
+use Rattle.nd_value.proofs.LocalPass.{drop-past}
+use Rattle.nd_passes.specs.declared.homes.HomeValue.{HomeValue}
+use Rattle.nd_passes.specs.HomeList.{HomeTree, home_tree, root_homes, cell_homes, homes_of}
+use Rattle.nd_passes.specs.Disagreeing.{subject_of, disagreeing_in, home_vars, own_disagreement, disagreeing_home, disagreeing_homes}
+use Rattle.nd_passes.proofs.AgreementWalk.{one_more, or_next-none}
 use Rattle.nd_passes.proofs.Numbered.{IsOfParam, roots_own}
 
 or_later-assoc : (a b c : Option MisfitAt) → or_later (or_later a b) c ≡ or_later a (or_later b c)
@@ -116,3 +119,36 @@ module _ (w : Setting) (g : Graph) where
       first-append (test g) (root_nodes w g 0 (root_list w) g.roots) (cell_nodes w.table 1 g.cells)
       ∙ ap₂ or_later (roots_first 0 (root_list w) g.roots (roots_own w.table w.side w.op)) (cells_first 1 g.cells)
       ∙ sym (homes_append rs cs)
+
+  module _ (h : HomeTree) where
+    split : disagreeing_home w g h
+        ≡ at_home h.home (or_next (at_number 0 (own_disagreement w g h)) (disagreeing_in w.table g (h.of ∷ []) [] 0 (more h.val none)))
+    split =
+        ap (at_home h.home)
+        (one_more w.table g h.of [] (root_agreements w g (home_vars w.op h.param) ∷ []) 0 h.val none
+        ∙ ap (or_next (at_number 0 (own_disagreement w g h))) (or_next-none (disagreeing_in w.table g (h.of ∷ []) [] 0 (more h.val none))))
+
+    -- the home's own value disagrees
+    pub home_own : (r : MisfitReason) → own_disagreement w g h ≡ Some r → disagreeing_home w g h ≡ Some (record { home = h.home; node = 0; reason = r })
+    home_own r e = split ∙ ap (λ o. at_home h.home (or_next (at_number 0 o) (disagreeing_in w.table g (h.of ∷ []) [] 0 (more h.val none)))) e
+
+    -- a value within it does
+    pub home_inside : (m : NodeMisfit) → own_disagreement w g h ≡ None → disagreeing_in w.table g (h.of ∷ []) [] 0 (more h.val none) ≡ Some m
+        → disagreeing_home w g h ≡ Some (record { home = h.home; node = m.node; reason = m.reason })
+    home_inside m e f =
+        split ∙ ap (λ o. at_home h.home (or_next (at_number 0 o) (disagreeing_in w.table g (h.of ∷ []) [] 0 (more h.val none)))) e ∙ ap (at_home h.home) f
+
+    -- none does
+    pub home_agrees : own_disagreement w g h ≡ None → disagreeing_in w.table g (h.of ∷ []) [] 0 (more h.val none) ≡ None → disagreeing_home w g h ≡ None
+    home_agrees e f =
+        split ∙ ap (λ o. at_home h.home (or_next (at_number 0 o) (disagreeing_in w.table g (h.of ∷ []) [] 0 (more h.val none)))) e ∙ ap (at_home h.home) f
+
+  -- the homes that are left
+  pub homes_left : (hs : List HomeValue) (i : ℕ) (x : HomeValue) → x ≡ get_or hs i x → i < length hs
+      → disagreeing_homes w g (map home_tree (drop i hs)) ≡ or_later (disagreeing_home w g (home_tree x)) (disagreeing_homes w g (map home_tree (drop (i + 1) hs)))
+  homes_left hs i x e h =
+      ap (λ xs. disagreeing_homes w g (map home_tree xs)) (drop_more hs i x h)
+      ∙ ap (λ (y : HomeValue). disagreeing_homes w g (map home_tree (y ∷ drop (i + 1) hs))) (sym e)
+
+  pub homes_end : (hs : List HomeValue) (i : ℕ) → length hs ≤ i → disagreeing_homes w g (map home_tree (drop i hs)) ≡ None
+  homes_end hs i h = ap (λ xs. disagreeing_homes w g (map home_tree xs)) (drop-past hs i h)

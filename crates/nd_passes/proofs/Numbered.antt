@@ -195,22 +195,22 @@ module _ (w : Setting) (g : Graph) where
 
 -- Numbers are put to the places of parameters, from the last root to the first.
 pub record PlacedFrom (roots : List RootNumber) (before now : List ParamNumber) : Type 0 where
-  pub length : length now ≡ length before
+  pub many : length now ≡ length before
   pub placed : (j : ℕ) → j < length before → get_or now j no_number ≡ number_among roots j (get_or before j no_number)
 
 pub placed_begin : (roots : List RootNumber) (n : ℕ) (numbers : List ParamNumber) → length roots ≤ n → PlacedFrom (drop n roots) numbers numbers
 placed_begin roots n numbers h =
     let e : drop n roots ≡ [] = drop-past roots n h in
-    record { length = refl; placed = λ j l. ap (λ rs. number_among rs j (get_or numbers j no_number)) (sym e) }
+    record { many = refl; placed = λ j l. ap (λ rs. number_among rs j (get_or numbers j no_number)) (sym e) }
 
 pub placed_on : (roots : List RootNumber) (at i : ℕ) (r : RootNumber) (before now after : List ParamNumber) → at ≡ i + 1 → slice_get roots i ≡ Some r
     → PlacedFrom (drop at roots) before now → length after ≡ length now
     → ((j : ℕ) → j < length now → get_or after j no_number ≡ replaced r j (get_or now j no_number))
     → PlacedFrom (drop i roots) before after
 placed_on roots at i r before now after e there w n one = record {
-  length = n ∙ w.length;
+  many = n ∙ w.many;
   placed = λ j l.
-      one j (let m : length now ≡ length before = w.length in omega (arith, m, l))
+      one j (let m : length now ≡ length before = w.many in omega (arith, m, l))
       ∙ ap (λ x. elim (is_param r.param j) [ true ↦ r.number | false ↦ x ])
       (w.placed j l ∙ ap (λ k. number_among (drop k roots) j (get_or before j no_number)) e)
       ∙ ap (λ rs. number_among rs j (get_or before j no_number)) (sym (drop-get roots i r there));

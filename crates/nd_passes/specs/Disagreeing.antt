@@ -60,6 +60,10 @@ abbrev pub home_vars : Operation → Option ℕ → List AttrVar
 home_vars o None = []
 home_vars o (Some i) = vars_of (slice_get o.params i)
 
+-- the first disagreement of a home's own value
+abbrev pub own_disagreement : Setting → Graph → HomeTree → Option MisfitReason
+own_disagreement w g h = disagreement_of (subject_in g h.val) (root_agreements w g (home_vars w.op h.param))
+
 -- the first disagreement in a home
 abbrev pub disagreeing_home : Setting → Graph → HomeTree → Option MisfitAt
 disagreeing_home w g h =

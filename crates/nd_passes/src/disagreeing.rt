@@ -1,5 +1,5 @@
 // The fourth pass: attributes that state other numbers than are there (C706, 4.2.18 to 4.2.20).
-ghost use Rattle.std.specs.Prelude.{◌≡◌, ◌<◌, ◌^◌, true, [], length, map, slice_get, Option, Some, None, OnOk, IfErr};
+ghost use Rattle.std.specs.Prelude.{◌≡◌, ◌+◌, ◌<◌, ◌^◌, true, [], length, map, slice_get, Option, Some, None, OnOk, IfErr, IfSome, IfNone};
 ghost use Rattle.std.specs.List.{AllByRecursion};
 ghost use Rattle.nd_types.specs.declared.types.Operation.{Operation as OperationValue};
 ghost use Rattle.nd_value.specs.declared.value.Graph.{Graph as GraphValue};
@@ -12,7 +12,7 @@ ghost use Rattle.nd_value.specs.FirstMisfit.{first_local, first_disagreeing};
 ghost use Rattle.nd_value.specs.Passes.{Tells};
 ghost use Rattle.nd_passes.specs.HomeList.{home_tree};
 ghost use Rattle.nd_passes.specs.Pointers.{IsWalkable};
-ghost use Rattle.nd_passes.specs.Disagreeing.{disagreeing_home, disagreeing_homes, home_vars};
+ghost use Rattle.nd_passes.specs.Disagreeing.{disagreeing_home, disagreeing_homes, home_vars, own_disagreement};
 ghost use Rattle.nd_passes.specs.Numbers.{given_numbers, are_small_roots, are_small_numbers, AreNumbers};
 
 use crate::agreement::parameter;
@@ -21,7 +21,7 @@ use crate::homes::{HomeValue, homes};
 use crate::numbers::{ParamNumber, RootNumber, numbers, roots_as_numbers};
 use nd_base::Memory;
 use nd_types::{AttrVars, Interface, Operation, Side, Types};
-use nd_value::{Graph, Misfit, NodeMisfit};
+use nd_value::{Graph, Misfit, MisfitReason, NodeMisfit};
 use std::alloc::Global;
 
 /// The first node whose attributes do not all hold, as the misfit Disagrees, if there is one. `given` are the inputs of the request
@@ -90,16 +90,14 @@ fn one(
     graph: &Graph,
     home: HomeValue<'_>,
 ) -> Result<(), Misfit>
-    requires walkable { IsWalkable types.now (length graph.now.cells + 1) (home_tree home.entry) }
+    requires walkable { IsWalkable types.now (length graph.now.cells + 1) (home_tree home) }
     requires small { are_small_numbers numbers.now ≡ true }
     ensures none { OnOk result ((w : Setting) → w.table ≡ types.now → w.op ≡ operation.now → AreNumbers w graph.now numbers.now
         → disagreeing_home w graph.now (home_tree home.entry) ≡ None) }
     ensures first { IfErr result (λ e. (w : Setting) → w.table ≡ types.now → w.op ≡ operation.now → AreNumbers w graph.now numbers.now
         → Tells (disagreeing_home w graph.now (home_tree home.entry)) e) }
 {
-    if let Some(vars) = attributes(operation, home.param)
-        && let Some(reason) = parameter(graph, numbers, vars, home.val)
-    {
+    if let Some(reason) = own(operation, numbers, graph, home) {
         return Err(Misfit::At {
             home: home.home,
             node: 0,
@@ -113,6 +111,23 @@ fn one(
             node,
             reason,
         }),
+    }
+}
+
+// The first attribute of a home's parameter that does not hold.
+fn own(
+    operation: &Operation,
+    numbers: &[ParamNumber],
+    graph: &Graph,
+    home: HomeValue<'_>,
+) -> Option<MisfitReason>
+    requires small { are_small_numbers numbers.now ≡ true }
+    ensures { (w : Setting) → w.op ≡ operation.now → AreNumbers w graph.now numbers.now
+        → result ≡ own_disagreement w graph.now (home_tree home.entry) }
+{
+    match attributes(operation, home.param) {
+        Some(vars) => parameter(graph, numbers, vars, home.val),
+        None => None,
     }
 }
 
