@@ -47,7 +47,7 @@ unfolding roots_of
 own_size =
     passed_conforms (sized_by_own (Some asked_by_pointer)) one_back refl refl
     (λ c low high. subst (Reached (sized_by_own (Some asked_by_pointer)) one_back) (omega (arith, low, high)) (by_root {c = 1} (root_pointer 8) (inl refl) refl))
-    refl refl (omega arith) (omega arith, omega arith, omega arith, tt)
+    refl refl (omega arith) (omega arith, (omega arith, (omega arith, tt)))
 
 pub rings_differ : ¬ Same ring_of_one ring_of_two
 rings_differ s = let e : 1 ≡ 2 = s.as_many in absurd (omega (arith, e))
