@@ -27,7 +27,7 @@ flat-joined (more (node l ks) ts) us =
     ap (λ fs. (l, count ks) ∷ (flat ks ++ fs)) (flat-joined ts us)
     ∙ ap (λ fs. (l, count ks) ∷ fs) (sym (append_assoc (flat ks) (flat ts) (flat us)))
 
--- the nodes of the first of trees stand before those of the others
+-- the nodes of the first of trees come before those of the others
 pub flat-more : (t : Tree) (ts : Trees) → flat (more t ts) ≡ flat (more t none) ++ flat ts
 flat-more t ts = flat-joined (more t none) ts
 

@@ -43,7 +43,7 @@ module _ (os : List ℕ) (ns : List Node) where
   chosen_tree rs cs (home.Root i) l = sym (ap or_unread (get_map (span_tree os ns) rs i no_span l))
   chosen_tree rs cs (home.Cell c) l = sym (cell_tree_at rs cs c.0 l.0 l.1)
 
-  -- what a walk takes over, and what it is seen as
+  -- what a walk goes over, and what it is seen as
   pub walk_parts : (rs : List Span) (cs : List CellSpan) (h : Home) → IsKept os ns rs cs → HasSpan rs cs h → WalkParts os no_row (span_nodes ns (chosen_span rs cs h))
   walk_parts rs cs h k l = home_walk (chosen_span rs cs h) k.texts (chosen rs cs h k l)
 

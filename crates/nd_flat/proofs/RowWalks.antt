@@ -10,7 +10,7 @@ use Rattle.nd_flat.specs.Forest.{IsForest}
 use Rattle.nd_flat.specs.FlatForm.{no_row, row_values, num_flat, num_flats, num_trees, row_flats, without_first, left_of, left_flats, seen_nodes, flats, HasRow, HasOctets, HaveOctets, WalkParts}
 use Rattle.nd_flat.proofs.Forests.{forest-rest-of, flat-joined, take-joined, drop-joined}
 use Rattle.nd_flat.specs.Building.{Building, with_nodes, with_numbers}
-use Rattle.nd_flat.specs.Keepable.{Adds}
+use Rattle.nd_flat.specs.Built.{Adds}
 use Rattle.nd_flat.proofs.RowLaws.{kept_row_parts, rest_there, no_row_there}
 
 -- nodes were taken, and the walk is after them

@@ -1,4 +1,4 @@
--- Walks by type. What a function gives of values of these types, one after the other, takes value by value: `give` stands for what an
+-- Walks by type. What a function gives of values of these types, one after the other, goes value by value: `give` is what an
 -- encoder writes, or a printer, in the form of the definitions: something of the node, then its children, then the other values.
 -- `t` is a type's number, `f` a node, `k` a number of values that are left of this list, `old` and `new` are what is left of a walk.
 use Rattle.std.proofs.Common.{◌≡◌, ℕ, ◌≤◌, zero, suc, List, [], ◌∷◌, ◌++◌, ap, ap₂, sym, ◌∙◌, arith, append_assoc}

@@ -24,7 +24,7 @@ abbrev pub armed_count : Bool → ℕ
 armed_count true = 1
 armed_count false = 0
 
--- a node with the number of its children, as it is first_seen
+-- a node with the number of its children, as callers see it
 abbrev pub flat_seen : Seen → Flat
 flat_seen (seen.Num z) = (tree.Num z, 0)
 flat_seen (seen.Rec k) = (tree.Rec, k)
@@ -115,7 +115,7 @@ HaveOctets os ns = AllByRecursion (HasOctets os) ns
 abbrev pub left_flats : List ℕ → KeptRow → List Node → List Flat
 left_flats os r ns = row_flats os r ++ flats os ns
 
--- what a walk takes over: whole values, and the octets of their texts and rows
+-- what a walk goes over: whole values, and the octets of their texts and rows
 pub record WalkParts (os : List ℕ) (r : KeptRow) (ns : List Node) : Type 0 where
   pub texts : HaveOctets os ns
   pub row : HasRow os r
@@ -130,6 +130,7 @@ abbrev pub IsKeepable : Label → Type 0
 IsKeepable (tree.Num z) = IsKeepableNumber z
 IsKeepable (tree.Union z) = IsKeepableNumber z
 IsKeepable (tree.Text max octets) = length octets < 2 ^ 32
+IsKeepable tree.Unread = ⊥
 IsKeepable _ = Unit {0}
 
 -- the octets of a text

@@ -3,3 +3,4 @@ pub mod FlatForm
 pub mod Building
 pub mod Store
 pub mod Keepable
+pub mod Built

@@ -6,7 +6,7 @@ ghost use Rattle.nd_types.specs.Table.{width};
 ghost use Rattle.nd_value.specs.Tree.{Trees, Flat, flat, count, take_trees, drop_trees};
 ghost use Rattle.nd_flat.specs.FlatForm.{row_values, num_flats, num_trees};
 ghost use Rattle.nd_flat.specs.Building.{Building, with_numbers};
-ghost use Rattle.nd_flat.specs.Keepable.{Adds};
+ghost use Rattle.nd_flat.specs.Built.{Adds};
 
 /// After a node of a walk at least its children are left.
 pub fn children_are_left()

@@ -32,7 +32,7 @@ pub enum Seen<'a> {
 }
 
 // A node as it is kept: numbers and tags from 0 on apart from those below 0, the octets of a text by where they begin among all
-// octets that are kept, and numbers of a primitive that stand side by side as one node.
+// octets that are kept, and numbers of a primitive side by side as one node.
 #[derive(Clone, Copy, Drop)]
 pub enum Node {
     Num(u64),

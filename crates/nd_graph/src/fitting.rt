@@ -9,8 +9,8 @@ ghost use Rattle.nd_value.specs.Fitting.{setting_of};
 ghost use Rattle.nd_value.specs.FirstMisfit.{IsMisfit, IsOfNoFit, first_shared, first_disagreeing};
 ghost use Rattle.nd_value.specs.Passes.{Tells, TellsUnreached, AreReached};
 
-use crate::local::local;
 use crate::Fit;
+use crate::local::local;
 use nd_types::{Interface, Side};
 use nd_value::{CellId, Graph, Home, Misfit, MisfitReason};
 use std::alloc::Global;

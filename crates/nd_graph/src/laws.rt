@@ -30,4 +30,3 @@ pub fn plain_exact()
         → slice_get i.operations op ≡ Some o → ((m : MisfitAt) → ¬ IsFirstMisfit (setting_of i o s) g m)
         → length g.cells < 2 ^ 32 → HasFewNodes g → Conforms (setting_of i o s) g }
 {}
-

@@ -22,7 +22,7 @@ abbrev pub log_seen : Option (Vec Item Global) → Logged
 log_seen None = record { keeps = false; items = [] }
 log_seen (Some v) = record { keeps = true; items = v.items }
 
--- the log behind one item more
+-- the log after one item more
 abbrev pub noted_by : Bool → Item → List Item → Logged
 noted_by true x xs = record { keeps = true; items = xs ++ x ∷ [] }
 noted_by false x xs = record { keeps = false; items = xs }
