@@ -20,5 +20,5 @@ returns-in-Ok-clause-none c w table op are =
 
 pub returns-in-Err-clause-first : goal.returns-in-Err-clause-first
 returns-in-Err-clause-first c w table op are =
-    home_inside w c.args.graph.now (home_tree c.args.home) _ (sym (c.in_default.ensures w op are))
-    (subst (λ t. disagreeing_in t c.args.graph.now (c.args.home.of.0 ∷ []) [] 0 (more (tree_of c.args.home.val.now) none) ≡ Some _) (sym table) c.in-Err.ensures)
+    home_inside w c.args.graph.now (home_tree c.args.home) c.in-Err.field-0 (sym (c.in_default.ensures w op are))
+    (subst (λ t. disagreeing_in t c.args.graph.now (c.args.home.of.0 ∷ []) [] 0 (more (tree_of c.args.home.val.now) none) ≡ Some c.in-Err.field-0) (sym table) c.in-Err.ensures)
