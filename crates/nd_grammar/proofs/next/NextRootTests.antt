@@ -11,7 +11,8 @@ use Rattle.nd_graph.specs.Tree as tree
 use Rattle.nd_graph.specs.Tree.{Tree, Trees, node, none, more, Label, is_pointer, cell_in}
 use Rattle.nd_graph.specs.Agreement.{Agreement, agreement, number_of}
 use Rattle.nd_graph.specs.Setting.{Setting, root_list, root_at, cell_at, cell_home}
-use Rattle.nd_graph.specs.Variables.{variable, starred, root_index, given_value, root_agreements}
+use Rattle.nd_types.specs.Roots.{root_index}
+use Rattle.nd_graph.specs.Variables.{variable, starred, given_value, root_agreements}
 use Rattle.nd_graph.proofs.Apart.{all_among}
 use Rattle.nd_grammar.specs.Entry.{Entry}
 use Rattle.nd_grammar.specs.InPlace.{tests}

@@ -12,7 +12,8 @@ use Rattle.nd_graph.specs.Tree as tree
 use Rattle.nd_graph.specs.Tree.{Tree, Trees, node, none, more}
 use Rattle.nd_graph.specs.Agreement.{Agreement, agreement, number_of, found_in}
 use Rattle.nd_graph.specs.Setting.{Setting, root_list, root_at, cell_at, cell_home, unread}
-use Rattle.nd_graph.specs.Variables.{root_index, starred, given_value, variable, root_agreements}
+use Rattle.nd_types.specs.Roots.{root_index}
+use Rattle.nd_graph.specs.Variables.{starred, given_value, variable, root_agreements}
 use Rattle.nd_graph.proofs.Apart.{all_append}
 use Rattle.nd_grammar.specs.Entry.{Entry, Test}
 use Rattle.nd_grammar.specs.InPlace.{tests}

@@ -1,0 +1,3 @@
+pub mod TypeRuns
+pub mod SideRuns
+pub mod Worked

@@ -1,0 +1,70 @@
+-- Where the runs of an operation's side stand.
+use Rattle.std.proofs.Common.{◌≡◌, ℕ, ◌+◌, ◌*◌, zero, suc, Bool, true, false, List, [], ◌∷◌, ◌++◌, length, take, drop, flat_map, Option, Some, None, refl, ap, ap₂, sym, ◌∙◌, subst, arith, append_assoc, length-append, drop-drop}
+use Rattle.std.specs.List.{slice_get}
+use Rattle.std.proofs.Math.Seq.{drop-append-add}
+use Rattle.std.proofs.lemmas.Option.{same_Some}
+use Rattle.nd_types.specs.declared.types.Operation.{Operation}
+use Rattle.nd_types.specs.declared.types.Side.{Side}
+use Rattle.nd_types.specs.declared.types.Side.TheVariants as side
+use Rattle.nd_types.specs.Table.{Table}
+use Rattle.nd_types.specs.Roots.{Root, roots_of}
+use Rattle.ndr_code.specs.declared.instr.Instr.{Instr}
+use Rattle.ndr_code.specs.declared.instr.Instr.TheVariants as op
+use Rattle.ndr_code.specs.Code.{table_code, operations_code, code_of, side_code, side_at, before_side, root_at, checks_at, root_run, pipe_run, root_checks, value_roots, pipe_roots}
+use Rattle.ndr_code.specs.Runs.{IsRunAt}
+use Rattle.ndr_code.proofs.TypeRuns.{behind_at, part_at, longer_at}
+
+-- what stands in the last part of a code
+last_at : (xs ys : List Instr) (n : ℕ) (run : List Instr) → IsRunAt ys n run → IsRunAt (xs ++ ys) (length xs + n) run
+last_at xs ys n run h = (h.0, drop-append-add xs ys n ∙ h.1)
+
+-- what stands in a run stands in the code
+pub within_at : (code : List Instr) (a k : ℕ) (xs run : List Instr) → IsRunAt code a xs → IsRunAt xs k run → IsRunAt code (a + k) run
+within_at code a k xs run h g =
+    let long : IsRunAt (xs ++ h.0) k run = longer_at xs h.0 k run g in
+    (long.0, ap (λ n. drop n code) (omega arith) ∙ sym (drop-drop k a code) ∙ ap (drop k) h.1 ∙ long.1)
+
+-- the run of the i-th of things, behind those of the things before it
+flat_at : {X : Type 0} (f : X → List Instr) (xs : List X) (i : ℕ) (x : X) → slice_get xs i ≡ Some x
+    → IsRunAt (flat_map f xs) (length (flat_map f (take i xs))) (f x)
+flat_at f [] i x e = cc
+flat_at f (y ∷ ys) zero x e = (flat_map f ys, ap (λ z. f z ++ flat_map f ys) (same_Some y x e))
+flat_at f (y ∷ ys) (suc i) x e =
+    subst (λ n. IsRunAt (flat_map f (y ∷ ys)) n (f x)) (sym (length-append (f y) (flat_map f (take i ys))))
+    (last_at (f y) (flat_map f ys) (length (flat_map f (take i ys))) (f x) (flat_at f ys i x e))
+
+-- where each has three instructions
+threes : (table : Table) (rs : List Root) (i : ℕ) (r : Root) → slice_get rs i ≡ Some r → length (flat_map (root_run table) (take i rs)) ≡ 3 * i
+threes table [] i r e = cc
+threes table (x ∷ rs) zero r e = refl
+threes table (x ∷ rs) (suc i) r e =
+    let h : length (flat_map (root_run table) (take i rs)) ≡ 3 * i = threes table rs i r e in
+    length-append (root_run table x) (flat_map (root_run table) (take i rs)) ∙ omega (arith, h)
+
+module _ (table : Table) (operations : List Operation) (n : ℕ) (o : Operation) (is : slice_get operations n ≡ Some o) where
+  both : IsRunAt (code_of table operations) (length (table_code table ++ operations_code table (take n operations))) (side_code table o side.In ++ side_code table o side.Out)
+  both =
+      subst (λ k. IsRunAt (code_of table operations) k (side_code table o side.In ++ side_code table o side.Out))
+      (sym (length-append (table_code table) (operations_code table (take n operations))))
+      (last_at (table_code table) (operations_code table operations) (length (operations_code table (take n operations))) (side_code table o side.In ++ side_code table o side.Out)
+      (flat_at (λ p. side_code table p side.In ++ side_code table p side.Out) operations n o is))
+
+  -- a side of an operation stands at its place
+  pub side_code_at : (s : Side) → IsRunAt (code_of table operations) (side_at table operations n o s) (side_code table o s)
+  unfolding side_at
+  side_code_at side.In =
+      let z : length (table_code table ++ operations_code table (take n operations)) ≡ length (table_code table ++ operations_code table (take n operations)) + 0 = omega arith in
+      subst (λ k. IsRunAt (code_of table operations) k (side_code table o side.In)) z
+      (part_at (code_of table operations) (length (table_code table ++ operations_code table (take n operations))) (side_code table o side.In) (side_code table o side.Out) both)
+  side_code_at side.Out =
+      behind_at (code_of table operations) (length (table_code table ++ operations_code table (take n operations))) (side_code table o side.In) (side_code table o side.Out) both
+
+  -- the run of the i-th root that is no pipe
+  pub root_run_at : (s : Side) (i : ℕ) (r : Root) → slice_get (value_roots (roots_of table s o)) i ≡ Some r
+      → IsRunAt (code_of table operations) (root_at table operations n o s i) (root_run table r)
+  root_run_at s i r e =
+      let rs : List Root = value_roots (roots_of table s o) in
+      subst (λ k. IsRunAt (code_of table operations) (side_at table operations n o s + k) (root_run table r)) (threes table rs i r e)
+      (within_at (code_of table operations) (side_at table operations n o s) (length (flat_map (root_run table) (take i rs))) (side_code table o s) (root_run table r)
+      (side_code_at s)
+      (longer_at (flat_map (root_run table) rs) _ (length (flat_map (root_run table) (take i rs))) (root_run table r) (flat_at (root_run table) rs i r e)))
