@@ -1,4 +1,4 @@
--- How an engine looks up what stands at an address.
+-- Where the runs of types are.
 use Rattle.std.proofs.Common.{◌≡◌, ℕ, ◌+◌, zero, suc, Bool, true, false, List, [], ◌∷◌, ◌++◌, length, take, drop, map, Option, Some, None, refl, ap, ap₂, sym, ◌∙◌, arith, append_assoc, length-append, drop-drop, subst}
 use Rattle.std.specs.Prelude.{eqb}
 use Rattle.std.specs.List.{slice_get}
@@ -86,7 +86,7 @@ pub same_run : (p w p' w' : ℕ → ℕ) (table : Table) (t : ℕ) (d : TypeDef)
 same_run p w p' w' table t d =
     same_joined (whole_run (hoists table t) (p t)) (whole_run (hoists table t) (p' t)) _ _ (same_whole (hoists table t) (p t) (p' t)) (same_length p w p' w' table t d)
 
--- the run of the i-th of these types stands behind those before it
+-- the run of the i-th of these types is behind those before it
 runs_from : (p w : ℕ → ℕ) (table : Table) (t : ℕ) (ds : List TypeDef) (i : ℕ) (d : TypeDef) → slice_get ds i ≡ Some d
     → IsRunAt (type_runs p w table t ds) (types_length table t (take i ds)) (type_run p w table (i + t) d)
 runs_from p w table t [] i d e = cc
@@ -106,12 +106,12 @@ runs_from p w table t (x ∷ ds) (suc i) d e =
           ∙ h.1 ∙ ap (λ k. type_run p w table k d ++ h.0) n,
     )
 
--- what stands behind a front of two instructions
+-- what is behind the end of a list, which is nothing
 no_run : (run rest ys : List Instr) (n : ℕ) → [] ≡ run ++ rest → (x : List Instr) × (drop n ys ≡ run ++ x)
 no_run [] rest ys n e = (drop n ys, refl)
 no_run (i ∷ run) rest ys n e = cc
 
--- what stands in a code stands there whatever follows the code
+-- a run of a code is there whatever follows the code
 pub longer_at : (xs ys : List Instr) (n : ℕ) (run : List Instr) → IsRunAt xs n run → IsRunAt (xs ++ ys) n run
 longer_at xs ys zero run h = (h.0 ++ ys, ap (λ zs. zs ++ ys) h.1 ∙ append_assoc run h.0 ys)
 longer_at [] ys (suc n) run h = no_run run h.0 ys (suc n) h.1
@@ -136,7 +136,7 @@ module _ (table : Table) (operations : List Operation) (t : ℕ) (d : TypeDef) (
   unfolding whole_at
   type_runs_at = behind_two op.Void op.Ret _ (operations_code table operations) (types_length table 0 (take t table)) _ own_runs_at
 
-  -- the place run of a type stands at its place
+  -- the place run of a type is at its place address
   pub place_run_at : IsRunAt (code_of table operations) (place_at table t) (place_run (place_at table) (whole_at table) table t d)
   unfolding whole_at place_at
   place_run_at =

@@ -48,24 +48,21 @@ impl Model for Code {
 }
 
 impl Code {
+    /// Appends a run, which may take memory. Memory is the only refusal, and changes nothing.
+    pub fn append(&mut self, run: &[Instr]) -> Result<(), Memory>
+        ensures ok { OnOk result (self.new ≡ self.old ++ run.now) }
+        ensures err { OnErr result (self.new ≡ self.old) }
+    {
+        self.items.extend_from_slice(run)?;
+        Ok(())
+    }
+
     /// An empty list. It allocates nothing.
     pub fn new(alloc: Global) -> Code
         ensures { result ≡ [] }
     {
         Code {
             items: Vec::new(alloc),
-        }
-    }
-
-    /// Appends an item, which may take memory. If there is none the item is handed back, and nothing has changed.
-    pub fn push(&mut self, item: Instr) -> Result<(), (Memory, Instr)>
-        ensures ok { OnOk result (self.new ≡ self.old ++ item ∷ []) }
-        ensures err { OnErr result (self.new ≡ self.old) }
-        ensures back { IfErr result (λ e. e.1 ≡ item) }
-    {
-        match self.items.push(item) {
-            Ok(()) => Ok(()),
-            Err(failed) => Err((Memory, failed.value)),
         }
     }
 

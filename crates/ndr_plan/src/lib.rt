@@ -1,8 +1,22 @@
-//! How the types of an interface are laid out in a stream (C706, 14.2 and 14.3).
+//! How the types of an interface are laid out in a stream (C706, 14.2 and 14.3), as a flat plan, and the listing of a plan.
 #![tactic(auto)]
 
 ghost use Rattle.std.specs.Prelude.{◌≡◌, ◌<◌, length};
 ghost use Rattle.nd_types.specs.Layout.{align_of};
+
+mod addresses;
+mod instr_words;
+mod making;
+mod plan_lines;
+mod side_code;
+mod type_code;
+mod type_lengths;
+
+pub use making::make;
+pub use ndr_code::{
+    ADDRESS_LIMIT, Code, EnumList, EnumLists, Instr, Plan, PlanLine, PlanLines, SideStarts,
+};
+pub use plan_lines::listing;
 
 use nd_types::{Interface, TypeId};
 
