@@ -66,17 +66,22 @@ abbrev pub text_bound : Option ℕ → ℕ
 text_bound None = 0
 text_bound (Some n) = n
 
+-- a struct, behind its gap
+abbrev pub struct_run : (ℕ → ℕ) → List Field → List Instr
+struct_run place members = op.Record (length members) ∷ (member_calls place members ++ (member_checks 0 members ++ (op.Close ∷ op.Ret ∷ [])))
+
+-- a union, behind its gap
+abbrev pub union_run : (ℕ → ℕ) → TypeId → List Arm → Option Arm → List Instr
+union_run place tag arms default = op.Tag tag ∷ (arms_code place arms ++ default_code place default)
+
 -- The place run of a type.
 abbrev pub place_run : (ℕ → ℕ) → (ℕ → ℕ) → Table → ℕ → TypeDef → List Instr
 place_run place whole table t (def.Prim p) = gap_run (align_of table t) ++ (op.Num (id t) ∷ op.Ret ∷ [])
 place_run place whole table t (def.Enum values) = op.Align 2 ∷ op.Enum (id t) ∷ op.Ret ∷ []
-place_run place whole table t (def.Struct members) =
-    gap_run (align_of table t)
-    ++ (op.Record (length members) ∷ (member_calls place members ++ (member_checks 0 members ++ (op.Close ∷ op.Ret ∷ []))))
+place_run place whole table t (def.Struct members) = gap_run (align_of table t) ++ struct_run place members
 place_run place whole table t (def.Array elem bound varying) = array_run (place elem.0) bound varying
 place_run place whole table t (def.Text elem bound) = op.Align 4 ∷ op.Text (text_bound bound) ∷ op.Ret ∷ []
-place_run place whole table t (def.Union tag encapsulated arms default) =
-    gap_run (align_of table tag.0) ++ (op.Tag tag ∷ (arms_code place arms ++ default_code place default))
+place_run place whole table t (def.Union tag encapsulated arms default) = gap_run (align_of table tag.0) ++ union_run place tag arms default
 place_run place whole table t (def.Pointer class to) = op.Align 4 ∷ op.Pointer class to (whole to.0) ∷ op.Ret ∷ []
 place_run place whole table t def.Context = op.Align 4 ∷ op.Context ∷ op.Ret ∷ []
 place_run place whole table t (def.Pipe elem) = op.Pipe (place elem.0) ∷ op.Ret ∷ []

@@ -8,9 +8,9 @@ mod addresses;
 mod instr_words;
 mod making;
 mod plan_lines;
+mod root_numbers;
 mod side_code;
 mod type_code;
-mod type_lengths;
 
 pub use making::make;
 pub use ndr_code::{

@@ -2,7 +2,7 @@
 ghost use Rattle.std.specs.Prelude.{◌≡◌, ◌++◌, ◌∷◌, [], OnOk, IfOk};
 ghost use Rattle.nd_types.specs.declared.types.TypeDef.TheVariants as def;
 ghost use Rattle.nd_types.specs.Layout.{hoists};
-ghost use Rattle.ndr_code.specs.Code.{gap_run, arm_run, arms_code, default_code, member_calls, field_checks, member_checks, array_run, text_bound, place_run, whole_run, type_run};
+ghost use Rattle.ndr_code.specs.Code.{gap_run, arm_run, arms_code, default_code, member_calls, field_checks, member_checks, struct_run, array_run, union_run, text_bound, place_run, whole_run, type_run};
 ghost use Rattle.ndr_plan.specs.Addresses.{place_in, whole_in};
 
 use crate::addresses::Addresses;
@@ -146,6 +146,21 @@ fn push_default(
     }
 }
 
+// A union, behind its gap.
+fn push_union(
+    code: &mut Code,
+    addresses: &Addresses,
+    tag: TypeId,
+    arms: &Arms,
+    default: &Option<Arm>,
+) -> Result<(), Memory>
+    ensures { OnOk result (code.new ≡ code.old ++ union_run (place_in addresses.now) tag arms.now default.now) }
+{
+    code.append(&[Instr::Tag { of: tag }])?;
+    push_arms(code, addresses, arms)?;
+    push_default(code, addresses, default)
+}
+
 // The place run of a type.
 pub(crate) fn push_place(
     code: &mut Code,
@@ -186,9 +201,7 @@ pub(crate) fn push_place(
             tag, arms, default, ..
         } => {
             push_gap(code, interface.align(*tag))?;
-            code.append(&[Instr::Tag { of: *tag }])?;
-            push_arms(code, addresses, arms)?;
-            push_default(code, addresses, default)
+            push_union(code, addresses, *tag, arms, default)
         }
         TypeDef::Pointer { class, to } => code.append(&[
             Instr::Align { to: 4 },
