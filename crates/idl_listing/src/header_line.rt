@@ -4,8 +4,8 @@ ghost use Rattle.idl_listing.specs.Listing.{hex_digit, hex_digits, uuid_text, uu
 ghost use Rattle.line_words.specs.Lines.{behind};
 ghost use Rattle.nd_types.specs.Meant.{meant_by};
 
-use line_words::{number, word};
 use itoa::Buffer;
+use line_words::{number, word};
 use nd_base::{Memory, Octets};
 use nd_types::Interface;
 

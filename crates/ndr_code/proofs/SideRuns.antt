@@ -12,26 +12,7 @@ use Rattle.ndr_code.specs.declared.instr.Instr.{Instr}
 use Rattle.ndr_code.specs.declared.instr.Instr.TheVariants as op
 use Rattle.ndr_code.specs.Code.{table_code, operation_code, operations_code, code_of, side_code, side_at, before_side, root_at, checks_at, pipe_at, root_run, checks_run, pipe_run, value_roots, pipe_roots}
 use Rattle.ndr_code.specs.Runs.{IsRunAt}
-use Rattle.ndr_code.proofs.TypeRuns.{behind_at, part_at, longer_at}
-
--- a run of the last part of a code
-pub last_at : (xs ys : List Instr) (n : ℕ) (run : List Instr) → IsRunAt ys n run → IsRunAt (xs ++ ys) (length xs + n) run
-last_at xs ys n run h = (h.0, drop-append-add xs ys n ∙ h.1)
-
--- a run of a run is one of the code
-pub within_at : (code : List Instr) (a k : ℕ) (xs run : List Instr) → IsRunAt code a xs → IsRunAt xs k run → IsRunAt code (a + k) run
-within_at code a k xs run h g =
-    let long : IsRunAt (xs ++ h.0) k run = longer_at xs h.0 k run g in
-    (long.0, ap (λ n. drop n code) (omega arith) ∙ sym (drop-drop k a code) ∙ ap (drop k) h.1 ∙ long.1)
-
--- the run of the i-th of things, behind those of the things before it
-pub flat_at : {X : Type 0} (f : X → List Instr) (xs : List X) (i : ℕ) (x : X) → slice_get xs i ≡ Some x
-    → IsRunAt (flat_map f xs) (length (flat_map f (take i xs))) (f x)
-flat_at f [] i x e = cc
-flat_at f (y ∷ ys) zero x e = (flat_map f ys, ap (λ z. f z ++ flat_map f ys) (same_Some y x e))
-flat_at f (y ∷ ys) (suc i) x e =
-    subst (λ n. IsRunAt (flat_map f (y ∷ ys)) n (f x)) (sym (length-append (f y) (flat_map f (take i ys))))
-    (last_at (f y) (flat_map f ys) (length (flat_map f (take i ys))) (f x) (flat_at f ys i x e))
+use Rattle.ndr_code.proofs.Runs.{behind_at, part_at, longer_at, last_at, within_at, flat_at}
 
 -- roots that are no pipes have three instructions each
 threes : (table : Table) (rs : List Root) (i : ℕ) (r : Root) → slice_get rs i ≡ Some r → length (flat_map (root_run table) (take i rs)) ≡ 3 * i

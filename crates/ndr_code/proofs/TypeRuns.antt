@@ -16,30 +16,7 @@ use Rattle.ndr_code.specs.declared.instr.Instr.{Instr}
 use Rattle.ndr_code.specs.declared.instr.Instr.TheVariants as op
 use Rattle.ndr_code.specs.Code.{place_run, gap_run, arm_run, arms_code, default_code, member_calls, member_checks, array_run, whole_run, type_run, type_runs, types_length, no_address, whole_at, place_at, table_code, operations_code, code_of}
 use Rattle.ndr_code.specs.Runs.{IsRunAt}
-
-get_from_drop : (code : List Instr) (a : ℕ) (i : Instr) (is : List Instr) → drop a code ≡ i ∷ is → slice_get code a ≡ Some i
-get_from_drop [] zero i is e = let h : slice_get [] zero ≡ Some i = ap (λ xs. slice_get xs zero) e in h
-get_from_drop [] (suc a) i is e = let h : slice_get [] zero ≡ Some i = ap (λ xs. slice_get xs zero) e in h
-get_from_drop (x ∷ code) zero i is e = ap (λ xs. slice_get xs zero) e
-get_from_drop (x ∷ code) (suc a) i is e = get_from_drop code a i is e
-
--- the instruction at an address
-pub first_at : (code : List Instr) (a : ℕ) (i : Instr) (is : List Instr) → IsRunAt code a (i ∷ is) → slice_get code a ≡ Some i
-first_at code a i is h = get_from_drop code a i (is ++ h.0) h.1
-
--- the run behind the first part of a run
-pub behind_at : (code : List Instr) (a : ℕ) (xs ys : List Instr) → IsRunAt code a (xs ++ ys) → IsRunAt code (a + length xs) ys
-behind_at code a xs ys h = (
-  h.0,
-  ap (λ n. drop n code) (omega arith) ∙ sym (drop-drop (length xs) a code) ∙ ap (drop (length xs)) h.1 ∙ ap (drop (length xs)) (append_assoc xs ys h.0)
-      ∙ ap (λ n. drop n (xs ++ (ys ++ h.0))) (omega arith) ∙ drop-append-add xs (ys ++ h.0) 0,
-)
-
-pub next_at : (code : List Instr) (a : ℕ) (i : Instr) (is : List Instr) → IsRunAt code a (i ∷ is) → IsRunAt code (a + 1) is
-next_at code a i is h = behind_at code a (i ∷ []) is h
-
-pub part_at : (code : List Instr) (a : ℕ) (xs ys : List Instr) → IsRunAt code a (xs ++ ys) → IsRunAt code a xs
-part_at code a xs ys h = (ys ++ h.0, h.1 ∙ append_assoc xs ys h.0)
+use Rattle.ndr_code.proofs.Runs.{behind_at, part_at, longer_at, behind_two}
 
 same_calls : (p q : ℕ → ℕ) (fs : List Field) → length (member_calls p fs) ≡ length (member_calls q fs)
 same_calls p q [] = refl
@@ -105,23 +82,6 @@ runs_from p w table t (x ∷ ds) (suc i) d e =
           ∙ drop-append-add (type_run p w table t x) (type_runs p w table (suc t) ds) (types_length table (suc t) (take i ds))
           ∙ h.1 ∙ ap (λ k. type_run p w table k d ++ h.0) n,
     )
-
--- what is behind the end of a list, which is nothing
-no_run : (run rest ys : List Instr) (n : ℕ) → [] ≡ run ++ rest → (x : List Instr) × (drop n ys ≡ run ++ x)
-no_run [] rest ys n e = (drop n ys, refl)
-no_run (i ∷ run) rest ys n e = cc
-
--- a run of a code is there whatever follows the code
-pub longer_at : (xs ys : List Instr) (n : ℕ) (run : List Instr) → IsRunAt xs n run → IsRunAt (xs ++ ys) n run
-longer_at xs ys zero run h = (h.0 ++ ys, ap (λ zs. zs ++ ys) h.1 ∙ append_assoc run h.0 ys)
-longer_at [] ys (suc n) run h = no_run run h.0 ys (suc n) h.1
-longer_at (x ∷ xs) ys (suc n) run h = longer_at xs ys n run h
-
-behind_two : (a b : Instr) (xs ys : List Instr) (n : ℕ) (run : List Instr) → IsRunAt xs n run → IsRunAt (a ∷ b ∷ (xs ++ ys)) (2 + n) run
-behind_two a b xs ys n run h =
-    let k : IsRunAt (xs ++ ys) n run = longer_at xs ys n run h in
-    let two : 2 + n ≡ suc (suc n) = omega arith in
-    (k.0, ap (λ m. drop m (a ∷ b ∷ (xs ++ ys))) two ∙ k.1)
 
 module _ (table : Table) (operations : List Operation) (t : ℕ) (d : TypeDef) (is : type_at table t ≡ Some d) where
   own_runs_at : IsRunAt (type_runs (place_at table) (whole_at table) table 0 table) (types_length table 0 (take t table)) (type_run (place_at table) (whole_at table) table t d)

@@ -1,7 +1,6 @@
--- That a run is in a plan's code at an address.
+-- That a run is in the code of a plan at an address; and the same of any list.
 use Rattle.std.specs.Prelude.{◌≡◌, ℕ, List, ◌++◌, drop}
-use Rattle.ndr_code.specs.declared.instr.Instr.{Instr}
 
--- from this address on the code is this run, and then any rest
-abbrev pub IsRunAt : List Instr → ℕ → List Instr → Type 0
-IsRunAt code at run = (rest : List Instr) × (drop at code ≡ run ++ rest)
+-- from this place on the list is this run, and then any rest
+abbrev pub IsRunAt : {X : Type 0} → List X → ℕ → List X → Type 0
+IsRunAt {X} list at run = (rest : List X) × (drop at list ≡ run ++ rest)

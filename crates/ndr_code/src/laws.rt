@@ -62,7 +62,7 @@ pub fn lines_of_sides()
     ensures pipe { (table : Table) (operations : List Operation) (n : ℕ) (o : Operation) → slice_get operations n ≡ Some o
         → (s : Side) (i : ℕ) (r : Root) → slice_get (pipe_roots (roots_of table s o)) i ≡ Some r
         → slice_get (entries_of table operations) (line_at table operations n o s + length (value_roots (roots_of table s o)) + 1 + i)
-            ≡ Some (Entry n s (root_name o r.param) (pipe_at table operations n o s i)) }
+        ≡ Some (Entry n s (root_name o r.param) (pipe_at table operations n o s i)) }
 {}
 
 /// The list of an enumerated type has the values of its enumerators.

@@ -13,12 +13,11 @@ mod side_code;
 mod type_code;
 
 pub use making::make;
+use nd_types::{Interface, TypeId};
 pub use ndr_code::{
     ADDRESS_LIMIT, Code, EnumList, EnumLists, Instr, Plan, PlanLine, PlanLines, SideStarts,
 };
 pub use plan_lines::listing;
-
-use nd_types::{Interface, TypeId};
 
 #[cfg(test)]
 mod tests;

@@ -131,11 +131,7 @@ fn push_arms(code: &mut Code, addresses: &Addresses, arms: &Arms) -> Result<(), 
 }
 
 // The default of a union, or that it has none.
-fn push_default(
-    code: &mut Code,
-    addresses: &Addresses,
-    default: &Option<Arm>,
-) -> Result<(), Memory>
+fn push_default(code: &mut Code, addresses: &Addresses, default: &Option<Arm>) -> Result<(), Memory>
     ensures { OnOk result (code.new ≡ code.old ++ default_code (place_in addresses.now) default.now) }
 {
     match default {
@@ -198,7 +194,10 @@ pub(crate) fn push_place(
             Instr::Ret,
         ]),
         TypeDef::Union {
-            tag, arms, default, ..
+            tag,
+            arms,
+            default,
+            ..
         } => {
             push_gap(code, interface.align(*tag))?;
             push_union(code, addresses, *tag, arms, default)
