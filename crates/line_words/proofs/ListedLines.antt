@@ -4,7 +4,7 @@ use Rattle.std.specs.List.{flat_map, enumerate_from, slice_get}
 use Rattle.std.proofs.lemmas.List.{drop_more, drop_all}
 use Rattle.std.proofs.lemmas.Option.{slice_get_within, get_or_from_slice_get}
 use Rattle.line_words.specs.Lines.{behind}
-use Rattle.line_words.proofs.Words.{behind_more}
+use Rattle.line_words.proofs.WordByWord.{behind_more}
 
 -- what is left begins with the next item
 pub left_is : {X : Type 0} (xs : List X) (i : ℕ) (x : X) → slice_get xs i ≡ Some x → x ∷ drop (i + 1) xs ≡ drop i xs

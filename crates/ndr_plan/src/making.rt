@@ -1,7 +1,8 @@
 // The plan of an interface.
 ghost use Rattle.std.specs.Prelude.{◌≡◌, ◌++◌, ◌∷◌, [], IfOk, OnOk, take};
 ghost use Rattle.ndr_code.specs.Code.{place_at, whole_at, type_runs, table_code, operations_code, code_of};
-ghost use Rattle.ndr_code.specs.Lines.{values_of, entries_of, sides_of};
+ghost use Rattle.ndr_code.specs.Lines.{enum_list_by, values_of, entries_of, sides_of};
+ghost use Rattle.ndr_code.specs.Plan.{IsPlanOf};
 ghost use Rattle.ndr_code.specs.declared.instr.Instr.TheVariants.{Void, Ret};
 ghost use Rattle.ndr_plan.specs.Addresses.{AreAddresses, place_in, whole_in};
 
@@ -106,7 +107,14 @@ fn push_operations(
     parts: &mut Parts,
     interface: &Interface,
     addresses: &Addresses,
-) -> Result<(), Memory> {
+) -> Result<(), Memory>
+    requires { AreAddresses interface.now.types addresses.now }
+    ensures { parts.old ≡ record { code = table_code interface.now.types; entries = []; sides = [] }
+        → OnOk result (parts.new ≡ record {
+            code = code_of interface.now.types interface.now.operations;
+            entries = entries_of interface.now.types interface.now.operations;
+            sides = sides_of interface.now.types interface.now.operations }) }
+{
     for at in 0..interface.operations.len() {
         let Some(operation) = interface.operations.get(at) else {
             unreachable!()
@@ -118,7 +126,7 @@ fn push_operations(
             operation,
             side: Side::In,
         };
-        parts.push_side(alloc, request)?;
+        parts.push_side(alloc, &request)?;
         let response = SideOf {
             interface,
             addresses,
@@ -126,7 +134,7 @@ fn push_operations(
             operation,
             side: Side::Out,
         };
-        parts.push_side(alloc, response)?;
+        parts.push_side(alloc, &response)?;
     }
     Ok(())
 }
@@ -151,8 +159,11 @@ pub fn make(alloc: Global, interface: &Interface) -> Result<Plan, Memory>
     plan_of(parts, values, interface)
 }
 
-// The plan of its parts, if its addresses are those of a plan.
-fn plan_of(parts: Parts, values: EnumLists, interface: &Interface) -> Result<Plan, Memory> {
+// The plan of its parts, if it is not too long.
+fn plan_of(parts: Parts, values: EnumLists, interface: &Interface) -> Result<Plan, Memory>
+    requires { IsPlanOf parts.code parts.entries values parts.sides interface.now }
+    ensures { IfOk result (λ plan. plan.tie ≡ interface.now) }
+{
     let Parts {
         code,
         entries,

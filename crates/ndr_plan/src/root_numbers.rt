@@ -1,8 +1,8 @@
 // The numbers of the parameters of an operation among the roots of a side.
 ghost use Rattle.std.specs.Prelude.{◌≡◌, ◌<◌, length, slice_get, Some, IfOk};
 ghost use Rattle.nd_types.specs.declared.types.Operation.{Operation as OperationValue};
-ghost use Rattle.nd_types.specs.Roots.{roots_of, root_index};
-ghost use Rattle.ndr_plan.specs.Numbers.{number_in};
+ghost use Rattle.nd_types.specs.Roots.{roots_of};
+ghost use Rattle.ndr_plan.specs.Numbers.{number_in, numbered, AreNumbers};
 
 use crate::type_code::narrow;
 use nd_base::Memory;
@@ -37,7 +37,7 @@ pub(crate) fn root_numbers(
 ) -> Result<RootNumbers, Memory>
     requires { op < length interface.now.operations }
     ensures { (o : OperationValue) → slice_get interface.now.operations op ≡ Some o → params ≡ length o.params
-        → IfOk result (λ n. (j : ℕ) → number_in n.items j ≡ root_index (roots_of interface.now.types side o) j 0) }
+        → IfOk result (λ n. AreNumbers (roots_of interface.now.types side o) n.items) }
 {
     let mut items = Vec::with_capacity(alloc, params)?;
     for _param in 0..params {
@@ -53,8 +53,10 @@ pub(crate) fn root_numbers(
     Ok(RootNumbers { items })
 }
 
-// Gives a parameter its number.
-fn put(items: &mut [Option<u32>], param: Option<u32>, number: u32) {
+// Gives a parameter its number, if it has none.
+fn put(items: &mut [Option<u32>], param: Option<u32>, number: u32)
+    ensures { items.new ≡ numbered items.old param number }
+{
     let Some(param) = param else {
         return;
     };

@@ -1,13 +1,22 @@
 // The runs of a side of an operation, with their lines.
-ghost use Rattle.std.specs.Prelude.{◌≡◌, ◌<◌, ◌++◌, ◌∷◌, [], length, slice_get, Some, OnOk, IfOk};
-ghost use Rattle.nd_types.specs.declared.types.Operation.{Operation as OperationValue};
+ghost use Rattle.std.specs.Prelude.{◌≡◌, ◌+◌, ◌*◌, ◌++◌, ◌∷◌, [], List, length, slice_get, Some, OnOk, IfOk, IsTrue};
+ghost use Rattle.std.specs.List.{flat_map};
+ghost use Rattle.nd_types.specs.Table.{type_at};
+ghost use Rattle.nd_types.specs.Roots.{Root, roots_of, root_index};
+ghost use Rattle.nd_types.specs.Walk.{root_name};
+ghost use Rattle.ndr_code.specs.Code.{value_roots, pipe_roots, root_by, root_run, pipe_run, root_check, vars_checks, checks_run, side_code, side_at};
+ghost use Rattle.ndr_code.specs.Lines.{entry_lines, side_lines};
+ghost use Rattle.ndr_code.specs.declared.lists.PlanLine.TheVariants.{Entry};
+ghost use Rattle.ndr_plan.specs.Addresses.{AreAddresses};
+ghost use Rattle.ndr_plan.specs.Numbers.{AreNumbers};
+ghost use Rattle.ndr_plan.specs.Parts.{IsLonger, HasSide, is_param};
 
 use crate::addresses::Addresses;
 use crate::root_numbers::{RootNumbers, root_numbers};
 use crate::type_code::narrow;
 use nd_base::{Memory, Name};
-use nd_types::{AttrVar, AttrVars, Class, Interface, Operation, RootDef, Side, TypeDef, TypeId};
-use ndr_code::{Code, Instr, Plan, PlanLine, PlanLines, SideStarts};
+use nd_types::{AttrVar, AttrVars, Class, Interface, Operation, Side, TypeDef, TypeId};
+use ndr_code::{Code, Instr, PlanLine, PlanLines, SideStarts};
 use std::alloc::Global;
 
 // What is made of a plan so far.
@@ -18,18 +27,23 @@ pub(crate) struct Parts {
     pub(crate) sides: SideStarts,
 }
 
-// A side of an operation, with the addresses of the runs of types.
-#[derive(Clone, Copy)]
+// A side of an operation, by its number, with the addresses of the runs of types.
+#[derive(Drop)]
 pub(crate) struct SideOf<'a> {
     pub(crate) interface: &'a Interface,
     pub(crate) addresses: &'a Addresses,
     pub(crate) op: u32,
     pub(crate) operation: &'a Operation,
     pub(crate) side: Side,
+    pub(crate) ghost known: { slice_get interface.now.operations op ≡ Some operation.now },
+    pub(crate) ghost addressed: { AreAddresses interface.now.types addresses.now },
 }
 
 // The name of a root: that of its parameter, or `return`.
-fn root_name(alloc: Global, operation: &Operation, param: Option<u32>) -> Result<Name, Memory> {
+fn root_name(alloc: Global, operation: &Operation, param: Option<u32>) -> Result<Name, Memory>
+    requires { IsTrue (is_param operation.now param) }
+    ensures { IfOk result (λ name. name ≡ root_name operation.now param) }
+{
     let Some(index) = param else {
         return Name::copy(alloc, b"return");
     };
@@ -40,7 +54,10 @@ fn root_name(alloc: Global, operation: &Operation, param: Option<u32>) -> Result
 }
 
 // The instruction of a root that is no pipe.
-fn root_instr(interface: &Interface, addresses: &Addresses, of: TypeId) -> Instr {
+fn root_instr(interface: &Interface, addresses: &Addresses, of: TypeId) -> Instr
+    requires { AreAddresses interface.now.types addresses.now }
+    ensures { result ≡ root_by interface.now.types of.0 (type_at interface.now.types of.0) }
+{
     match interface.types.get(of.0 as usize) {
         Some(
             TypeDef::Pointer {
@@ -62,9 +79,12 @@ impl Parts {
     fn push_entry(
         &mut self,
         alloc: Global,
-        side: SideOf<'_>,
+        side: &SideOf<'_>,
         param: Option<u32>,
-    ) -> Result<(), Memory> {
+    ) -> Result<(), Memory>
+        requires { IsTrue (is_param side.now.operation.now param) }
+        ensures { OnOk result (IsLonger self.old self.new [] (Entry side.now.op side.now.side (root_name side.now.operation.now param) (length self.old.code) ∷ [])) }
+    {
         let line = PlanLine::Entry {
             op: side.op,
             side: side.side,
@@ -78,7 +98,11 @@ impl Parts {
     }
 
     // The runs of the roots that are no pipes.
-    fn push_roots(&mut self, alloc: Global, side: SideOf<'_>) -> Result<(), Memory> {
+    fn push_roots(&mut self, alloc: Global, side: &SideOf<'_>) -> Result<(), Memory>
+        ensures { let rs = value_roots (roots_of side.now.interface.now.types side.now.side side.now.operation.now) in
+            OnOk result (IsLonger self.old self.new (flat_map (root_run side.now.interface.now.types) rs)
+                (entry_lines side.now.op side.now.operation.now side.now.side (λ i. length self.old.code + 3 * i) rs)) }
+    {
         for root in side.interface.params(side.op, side.side) {
             if root.pipe {
                 continue;
@@ -91,7 +115,11 @@ impl Parts {
     }
 
     // The runs of the pipes.
-    fn push_pipes(&mut self, alloc: Global, side: SideOf<'_>) -> Result<(), Memory> {
+    fn push_pipes(&mut self, alloc: Global, side: &SideOf<'_>) -> Result<(), Memory>
+        ensures { let rs = pipe_roots (roots_of side.now.interface.now.types side.now.side side.now.operation.now) in
+            OnOk result (IsLonger self.old self.new (flat_map (pipe_run side.now.interface.now.types) rs)
+                (entry_lines side.now.op side.now.operation.now side.now.side (λ i. length self.old.code + 2 * i) rs)) }
+    {
         for root in side.interface.params(side.op, side.side) {
             if !root.pipe {
                 continue;
@@ -110,7 +138,10 @@ impl Parts {
         numbers: &Numbers,
         field: u32,
         var: AttrVar,
-    ) -> Result<(), Memory> {
+    ) -> Result<(), Memory>
+        ensures { (here asked : List Root) → AreNumbers here numbers.now.here.items → AreNumbers asked numbers.now.asked.items
+            → OnOk result (IsLonger self.old self.new (root_check side asked field var (root_index here var.var 0)) []) }
+    {
         if let Some(variable) = numbers.here.find(var.var) {
             return self.code.append(&[Instr::Check {
                 attr: var.attr,
@@ -140,7 +171,10 @@ impl Parts {
         numbers: &Numbers,
         field: u32,
         vars: &AttrVars,
-    ) -> Result<(), Memory> {
+    ) -> Result<(), Memory>
+        ensures { (here asked : List Root) → AreNumbers here numbers.now.here.items → AreNumbers asked numbers.now.asked.items
+            → OnOk result (IsLonger self.old self.new (vars_checks side here asked field vars.now) []) }
+    {
         for at in 0..vars.len() {
             let Some(var) = vars.get(at) else {
                 unreachable!()
@@ -151,7 +185,9 @@ impl Parts {
     }
 
     // The agreements of all roots.
-    fn push_all_checks(&mut self, alloc: Global, side: SideOf<'_>) -> Result<(), Memory> {
+    fn push_all_checks(&mut self, alloc: Global, side: &SideOf<'_>) -> Result<(), Memory>
+        ensures { OnOk result (IsLonger self.old self.new (checks_run side.now.interface.now.types side.now.operation.now side.now.side) []) }
+    {
         let params = side.operation.params.len();
         let numbers = Numbers {
             here: root_numbers(alloc, side.interface, side.op, side.side, params)?,
@@ -170,7 +206,10 @@ impl Parts {
     }
 
     // The runs of a side, with their lines and where these begin.
-    pub(crate) fn push_side(&mut self, alloc: Global, side: SideOf<'_>) -> Result<(), Memory> {
+    pub(crate) fn push_side(&mut self, alloc: Global, side: &SideOf<'_>) -> Result<(), Memory>
+        ensures { length self.old.code ≡ side_at side.now.interface.now.types side.now.interface.now.operations side.now.op side.now.operation.now side.now.side
+            → OnOk result (HasSide self.old self.new side.now.interface.now.types side.now.interface.now.operations side.now.op side.now.operation.now side.now.side) }
+    {
         let Ok(()) = self.sides.push(narrow(self.entries.len())?) else {
             return Err(Memory);
         };

@@ -3,7 +3,7 @@ use Rattle.nd_types.specs.Fields.{param_fields}
 use Rattle.idl_listing.specs.Worded.{vars_at}
 use Rattle.line_words.specs.Lines.{side_word}
 use Rattle.idl_listing.specs.Listing.{attrs_words}
-use Rattle.line_words.proofs.Words.{first_word, then_words, then_end}
+use Rattle.line_words.proofs.WordByWord.{first_word, then_words, then_end}
 use Rattle.idl_listing.proofs.operation_lines.root_line.Goals as goal
 
 pub returns : goal.returns

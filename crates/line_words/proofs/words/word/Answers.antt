@@ -1,5 +1,5 @@
 use Rattle.std.proofs.Common.{◌∙◌, ap, ◌++◌}
-use Rattle.line_words.proofs.Words.{one_behind}
+use Rattle.line_words.proofs.WordByWord.{one_behind}
 use Rattle.line_words.proofs.words.word.Goals as goal
 
 pub returns : goal.returns
