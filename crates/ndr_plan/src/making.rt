@@ -111,9 +111,10 @@ fn push_operations(
     requires { AreAddresses interface.now.types addresses.now }
     ensures { parts.old ≡ record { code = table_code interface.now.types; entries = []; sides = [] }
         → OnOk result (parts.new ≡ record {
-            code = code_of interface.now.types interface.now.operations;
-            entries = entries_of interface.now.types interface.now.operations;
-            sides = sides_of interface.now.types interface.now.operations }) }
+          code = code_of interface.now.types interface.now.operations;
+          entries = entries_of interface.now.types interface.now.operations;
+          sides = sides_of interface.now.types interface.now.operations;
+        }) }
 {
     for at in 0..interface.operations.len() {
         let Some(operation) = interface.operations.get(at) else {

@@ -101,7 +101,7 @@ impl Parts {
     fn push_roots(&mut self, alloc: Global, side: &SideOf<'_>) -> Result<(), Memory>
         ensures { let rs = value_roots (roots_of side.now.interface.now.types side.now.side side.now.operation.now) in
             OnOk result (IsLonger self.old self.new (flat_map (root_run side.now.interface.now.types) rs)
-                (entry_lines side.now.op side.now.operation.now side.now.side (λ i. length self.old.code + 3 * i) rs)) }
+            (entry_lines side.now.op side.now.operation.now side.now.side (λ i. length self.old.code + 3 * i) rs)) }
     {
         for root in side.interface.params(side.op, side.side) {
             if root.pipe {
@@ -118,7 +118,7 @@ impl Parts {
     fn push_pipes(&mut self, alloc: Global, side: &SideOf<'_>) -> Result<(), Memory>
         ensures { let rs = pipe_roots (roots_of side.now.interface.now.types side.now.side side.now.operation.now) in
             OnOk result (IsLonger self.old self.new (flat_map (pipe_run side.now.interface.now.types) rs)
-                (entry_lines side.now.op side.now.operation.now side.now.side (λ i. length self.old.code + 2 * i) rs)) }
+            (entry_lines side.now.op side.now.operation.now side.now.side (λ i. length self.old.code + 2 * i) rs)) }
     {
         for root in side.interface.params(side.op, side.side) {
             if !root.pipe {
