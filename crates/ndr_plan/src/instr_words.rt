@@ -2,6 +2,7 @@
 ghost use Rattle.std.specs.Prelude.{◌≡◌, ◌++◌, ◌∷◌, [], OnOk, decimal};
 ghost use Rattle.std.specs.Fmt.{signed_decimal};
 ghost use Rattle.line_words.specs.Lines.{behind, class_word};
+ghost use Rattle.ndr_code.specs.declared.instr.Instr.TheVariants.{Arm, Pointer};
 ghost use Rattle.ndr_plan.specs.Listing.{attr_word, star_digit, check_words, instr_words};
 
 use line_words::{class_word, number, signed, word};

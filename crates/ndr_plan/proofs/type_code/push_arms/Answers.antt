@@ -1,4 +1,7 @@
-use Rattle.std.proofs.Common.{◌≡◌, ◌∙◌, ◌+◌, ◌++◌, [], ◌∷◌, ap, sym, map, drop, arith}
+use Rattle.std.proofs.Common.{◌≡◌, ◌∙◌, ◌+◌, ◌++◌, [], ◌∷◌, ap, sym, map, drop, arith, rules}
+use Rattle.std.proofs.lemmas.Int.{to_z-of_z}
+use mir.Val.{SFits}
+use mir.Syntax.{w128}
 use Rattle.ndr_code.specs.declared.instr.Instr.TheVariants as op
 use Rattle.ndr_plan.specs.Addresses.{place_in}
 use Rattle.nd_types.specs.declared.types.Arm.{Arm}
@@ -10,7 +13,9 @@ pub loop-at-preserved : goal.loop-at-preserved
 loop-at-preserved c =
     let l = c.loop-at in
     let xs = c.args.arms.now in
-    ap (λ t. t ++ map (λ (a : Arm). op.Arm a.label (arm_run (place_in c.args.addresses.now) a.of)) (drop (l.at + 1) xs)) (c.in_ok-append.ensures.ok ∙ ap (λ r. l.code ++ op.Arm c.in-Some.arm.now.label r ∷ []) c.arm_run.ensures)
+    let fits : SFits w128 c.in-Some.arm.now.label = search rules in
+    ap (λ t. t ++ map (λ (a : Arm). op.Arm a.label (arm_run (place_in c.args.addresses.now) a.of)) (drop (l.at + 1) xs)) (c.in_ok-append.ensures.ok ∙ ap (λ z. l.code ++ op.Arm z c.arm_run.result ∷ []) (to_z-of_z w128 _ fits)
+    ∙ ap (λ r. l.code ++ op.Arm c.in-Some.arm.now.label r ∷ []) c.arm_run.ensures)
     ∙ map_more (λ (a : Arm). op.Arm a.label (arm_run (place_in c.args.addresses.now) a.of)) xs l.at c.in-Some.arm.now l.code c.in-Some.ensures.some ∙ l.invariant
 
 pub returns : goal.returns
