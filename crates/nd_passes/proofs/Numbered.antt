@@ -19,7 +19,8 @@ use Rattle.nd_value.specs.declared.value.Graph.{Graph}
 use Rattle.nd_value.specs.Tree.{Tree}
 use Rattle.nd_value.specs.Agreement.{agreement}
 use Rattle.nd_value.specs.Setting.{Setting, root_list, root_at, or_unread, unread}
-use Rattle.nd_value.specs.Variables.{root_index, starred, given_value, variable, root_agreements}
+use Rattle.nd_types.specs.Roots.{root_index}
+use Rattle.nd_value.specs.Variables.{starred, given_value, variable, root_agreements}
 use Rattle.nd_value.proofs.Apart.{all_append}
 use Rattle.nd_value.proofs.LocalPass.{drop-get, drop-past}
 use Rattle.nd_passes.specs.declared.numbers.ParamNumber.{ParamNumber}

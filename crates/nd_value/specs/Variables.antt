@@ -4,17 +4,12 @@
 use Rattle.std.specs.Prelude.{ℕ, ◌+◌, ℤ, Bool, true, false, eqb, List, [], ◌∷◌, ◌++◌, Option, Some, None}
 use Rattle.nd_types.specs.declared.types.AttrVar.{AttrVar}
 use Rattle.nd_types.specs.declared.types.Side.TheVariants as side
-use Rattle.nd_types.specs.Roots.{Root, roots_of}
+use Rattle.nd_types.specs.Roots.{roots_of, root_index}
 use Rattle.nd_value.specs.declared.value.Graph.{Graph}
 use Rattle.nd_value.specs.Tree as tree
 use Rattle.nd_value.specs.Tree.{Tree, node}
 use Rattle.nd_value.specs.Agreement.{Agreement, agreement, number_of}
 use Rattle.nd_value.specs.Setting.{Setting, root_list, root_at, cell_at}
-
--- the place of a parameter among roots, where it is one of them
-abbrev pub root_index : List Root → ℕ → ℕ → Option ℕ
-root_index [] j i = None
-root_index (r ∷ rs) j i = elim r.param [ None ↦ root_index rs j (i + 1) | Some k ↦ elim (eqb k j) [ true ↦ Some i | false ↦ root_index rs j (i + 1) ] ]
 
 -- the number that a variable is, or with `*` the number in the cell that it names
 abbrev pub starred : Graph → Bool → Tree → Option ℤ
