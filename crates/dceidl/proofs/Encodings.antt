@@ -6,14 +6,15 @@ use Rattle.nd_types.specs.declared.interface.Interface.{Interface}
 use Rattle.nd_types.specs.declared.types.Operation.{Operation}
 use Rattle.nd_types.specs.declared.types.Side.{Side}
 use Rattle.nd_types.specs.declared.types.Primitive.{Primitive}
-use Rattle.nd_graph.specs.declared.misfit.Misfit.{Misfit}
-use Rattle.nd_graph.specs.declared.misfit.Misfit.TheVariants as misfit
-use Rattle.nd_graph.specs.declared.misfit.MisfitReason.{MisfitReason}
-use Rattle.nd_graph.specs.declared.value.Graph.{Graph}
-use Rattle.nd_graph.specs.Setting.{Setting}
-use Rattle.nd_graph.specs.Conforms.{Conforms}
-use Rattle.nd_graph.specs.FirstMisfit.{IsMisfit, IsFirstMisfit}
-use Rattle.nd_graph.specs.Fitting.{Fitting, setting_of}
+use Rattle.nd_value.specs.declared.misfit.Misfit.{Misfit}
+use Rattle.nd_value.specs.declared.misfit.Misfit.TheVariants as misfit
+use Rattle.nd_value.specs.declared.misfit.MisfitReason.{MisfitReason}
+use Rattle.nd_value.specs.declared.value.Graph.{Graph}
+use Rattle.nd_value.specs.Setting.{Setting}
+use Rattle.nd_value.specs.Conforms.{Conforms}
+use Rattle.nd_value.specs.FirstMisfit.{IsMisfit, IsFirstMisfit}
+use Rattle.nd_value.specs.Fitting.{setting_of}
+use Rattle.nd_graph.specs.Fitting.{Fitting}
 use Rattle.nd_grammar.specs.Chosen.{Chosen}
 use Rattle.nd_grammar.specs.Plain.{IsPlain}
 use Rattle.value_text.specs.declared.fault.TextReason.{TextReason}

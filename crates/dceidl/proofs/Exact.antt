@@ -3,7 +3,7 @@ use Rattle.std.proofs.Common.{◌≡◌, ℕ, List, Option, refl, sym, ◌∙◌
 use Rattle.nd_base.specs.declared.octets.Order.{Order}
 use Rattle.nd_base.specs.declared.TheConstants.{STREAM_LIMIT}
 use Rattle.nd_base.specs.Over.{FilesSeen, SourceSeen, SinkSeen, HasRisen, Got}
-use Rattle.nd_graph.specs.Setting.{Setting}
+use Rattle.nd_value.specs.Setting.{Setting}
 use Rattle.value_text.specs.declared.TheConstants.{TEXT_LIMIT}
 use Rattle.value_text.specs.PlainSide.{IsPlainSide}
 use Rattle.nd_grammar.specs.LegalSide.{IsLegalSide}

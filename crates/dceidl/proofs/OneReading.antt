@@ -1,9 +1,9 @@
 -- What octets come to: they are decoded, or refused at one place, or memory runs out.
 use Rattle.std.proofs.Common.{◌≡◌, ℕ, List, length, refl, ap, ap₂, inl, inr, ◌⊎◌, arith}
 use Rattle.nd_base.specs.declared.octets.Order.{Order}
-use Rattle.nd_graph.specs.declared.value.Graph.{Graph}
-use Rattle.nd_graph.specs.Setting.{Setting}
-use Rattle.nd_graph.specs.Conforms.{Conforms}
+use Rattle.nd_value.specs.declared.value.Graph.{Graph}
+use Rattle.nd_value.specs.Setting.{Setting}
+use Rattle.nd_value.specs.Conforms.{Conforms}
 use Rattle.nd_grammar.specs.LegalSide.{IsLegalSide}
 use Rattle.nd_grammar.specs.Represents.{Represents}
 use Rattle.nd_grammar.proofs.ReaderLaws.{never_both, one_beginning}

@@ -1,11 +1,11 @@
 -- What a text comes to: it is encoded, or refused at one place, or its values are refused at one path, or memory runs out.
 use Rattle.std.proofs.Common.{◌≡◌, ℕ, List, refl, sym, ◌∙◌, ap, ap₂, subst, inl, inr, ◌⊎◌}
 use Rattle.nd_base.specs.declared.octets.Order.{Order}
-use Rattle.nd_graph.specs.declared.misfit.MisfitReason.{MisfitReason}
-use Rattle.nd_graph.specs.declared.value.Graph.{Graph}
-use Rattle.nd_graph.specs.Setting.{Setting}
-use Rattle.nd_graph.specs.Conforms.{Conforms}
-use Rattle.nd_graph.proofs.Misfits.{misfit_is_no_fit, one_first_misfit}
+use Rattle.nd_value.specs.declared.misfit.MisfitReason.{MisfitReason}
+use Rattle.nd_value.specs.declared.value.Graph.{Graph}
+use Rattle.nd_value.specs.Setting.{Setting}
+use Rattle.nd_value.specs.Conforms.{Conforms}
+use Rattle.nd_value.proofs.Misfits.{misfit_is_no_fit, one_first_misfit}
 use Rattle.value_text.specs.declared.fault.TextReason.{TextReason}
 use Rattle.value_text.specs.PlainSide.{IsPlainSide}
 use Rattle.value_text.specs.Reads.{ReadsAs, IsTextFault}

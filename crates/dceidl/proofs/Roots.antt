@@ -12,7 +12,7 @@ use Rattle.nd_types.specs.Roots.{Root}
 use Rattle.nd_types.specs.Walk.{NamedRoot, named_root}
 use Rattle.nd_types.specs.Numbers.{is_number_root}
 use Rattle.nd_types.proofs.LegalLaws.{passes_at}
-use Rattle.nd_graph.proofs.LocalPass.{given_root}
+use Rattle.nd_value.proofs.LocalPass.{given_root}
 
 abbrev pub is_number : NamedRoot → Bool
 is_number r = nat_lt r.of 11

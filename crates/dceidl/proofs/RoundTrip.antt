@@ -2,10 +2,10 @@
 use Rattle.std.proofs.Common.{◌≡◌, ℕ, ℤ, List, [], ◌∷◌, ◌≤◌, length, map, refl, sym, ◌∙◌, ap, ap₂, subst}
 use Rattle.nd_base.specs.declared.octets.Order.{Order}
 use Rattle.nd_types.specs.declared.types.Primitive.{Primitive}
-use Rattle.nd_graph.specs.declared.value.Graph.{Graph}
-use Rattle.nd_graph.specs.Tree.{Tree, Referent, more, trees}
-use Rattle.nd_graph.specs.Setting.{Setting}
-use Rattle.nd_graph.specs.Same.{Same, renumbered}
+use Rattle.nd_value.specs.declared.value.Graph.{Graph}
+use Rattle.nd_value.specs.Tree.{Tree, Referent, more, trees}
+use Rattle.nd_value.specs.Setting.{Setting}
+use Rattle.nd_value.specs.Same.{Same, renumbered}
 use Rattle.nd_grammar.specs.Represents.{Represents}
 use Rattle.nd_grammar.specs.Plain.{IsPlain, number, plain_graph}
 use Rattle.nd_grammar.proofs.PlainChosen.{chosen_read, chosen_represents}

@@ -8,10 +8,10 @@ use Rattle.nd_types.specs.declared.types.Operation.{Operation}
 use Rattle.nd_types.specs.declared.types.Side.{Side}
 use Rattle.nd_types.specs.Roots.{roots_of}
 use Rattle.nd_types.specs.Numbers.{has_number_roots}
-use Rattle.nd_graph.specs.declared.value.Graph.{Graph}
-use Rattle.nd_graph.specs.Setting.{Setting, Among}
-use Rattle.nd_graph.specs.Conforms.{Conforms}
-use Rattle.nd_graph.specs.Fitting.{setting_of}
+use Rattle.nd_value.specs.declared.value.Graph.{Graph}
+use Rattle.nd_value.specs.Setting.{Setting, Among}
+use Rattle.nd_value.specs.Conforms.{Conforms}
+use Rattle.nd_value.specs.Fitting.{setting_of}
 use Rattle.nd_grammar.specs.LegalSide.{IsLegalSide}
 use Rattle.nd_grammar.specs.Represents.{Represents}
 use Rattle.nd_grammar.specs.Prefix.{BeginsWith}

@@ -5,15 +5,15 @@ use Rattle.std.specs.List.{AllByRecursion}
 use Rattle.std.proofs.lemmas.Option.{same_Some}
 use Rattle.nd_types.specs.declared.types.Primitive.{Primitive}
 use Rattle.nd_types.specs.Roots.{Root}
-use Rattle.nd_graph.specs.declared.value.Graph.{Graph}
-use Rattle.nd_graph.specs.declared.item.Home.TheVariants as home
-use Rattle.nd_graph.specs.declared.misfit.MisfitReason.{MisfitReason}
-use Rattle.nd_graph.specs.Nodes.{TypedNode}
-use Rattle.nd_graph.specs.Setting.{Setting, root_list}
-use Rattle.nd_graph.specs.Deferral.{Pending, home_pointers}
-use Rattle.nd_graph.specs.Homes.{HomeNode, root_nodes, root_pointers}
-use Rattle.nd_graph.specs.FirstMisfit.{MisfitAt, IsFirstMisfit, is_local, is_shared, is_unreached, is_disagreeing, or_later, at_node, first_node, root_count, first_shared}
-use Rattle.nd_graph.specs.Misfit.{misfit_of}
+use Rattle.nd_value.specs.declared.value.Graph.{Graph}
+use Rattle.nd_value.specs.declared.item.Home.TheVariants as home
+use Rattle.nd_value.specs.declared.misfit.MisfitReason.{MisfitReason}
+use Rattle.nd_value.specs.Nodes.{TypedNode}
+use Rattle.nd_value.specs.Setting.{Setting, root_list}
+use Rattle.nd_value.specs.Deferral.{Pending, home_pointers}
+use Rattle.nd_value.specs.Homes.{HomeNode, root_nodes, root_pointers}
+use Rattle.nd_value.specs.FirstMisfit.{MisfitAt, IsFirstMisfit, is_local, is_shared, is_unreached, is_disagreeing, or_later, at_node, first_node, root_count, first_shared}
+use Rattle.nd_value.specs.Misfit.{misfit_of}
 use Rattle.nd_grammar.specs.Plain.{ArePlain, IsPlain, number, plain_graph}
 
 -- all stand first in their homes

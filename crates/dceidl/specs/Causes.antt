@@ -1,7 +1,7 @@
 -- What each command makes, and why it is refused: a line for each command in each of these tables.
 use Rattle.std.specs.Prelude.{◌≡◌, ◌⊎◌, ℕ, List, [], ◌∷◌}
 use Rattle.nd_base.specs.Over.{IsUntouched}
-use Rattle.nd_graph.specs.Setting.{Setting}
+use Rattle.nd_value.specs.Setting.{Setting}
 use Rattle.dceidl.specs.Input.{IsRead, IsReadCause, IsEncoded, IsEncodeCause}
 use Rattle.dceidl.specs.Ready.{IsListed, IsIdlCause, IsReady, IsReadyCause}
 use Rattle.dceidl.specs.Seen.{Seen}

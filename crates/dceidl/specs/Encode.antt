@@ -3,15 +3,15 @@ use Rattle.std.specs.Prelude.{◌≡◌, ◌⊎◌, ℕ, List, [], ◌∷◌, Op
 use Rattle.std.specs.List.{slice_get}
 use Rattle.nd_base.specs.declared.octets.Order.{Order}
 use Rattle.nd_types.specs.Walk.{NamedRoot, named_roots}
-use Rattle.nd_graph.specs.declared.item.Home.{Home}
-use Rattle.nd_graph.specs.declared.item.Home.TheVariants as home
-use Rattle.nd_graph.specs.declared.misfit.Misfit.{Misfit}
-use Rattle.nd_graph.specs.declared.misfit.Misfit.TheVariants as misfit
-use Rattle.nd_graph.specs.declared.misfit.MisfitReason.{MisfitReason}
-use Rattle.nd_graph.specs.declared.value.Graph.{Graph}
-use Rattle.nd_graph.specs.Setting.{Setting}
-use Rattle.nd_graph.specs.Conforms.{Conforms}
-use Rattle.nd_graph.specs.FirstMisfit.{IsFirstMisfit}
+use Rattle.nd_value.specs.declared.item.Home.{Home}
+use Rattle.nd_value.specs.declared.item.Home.TheVariants as home
+use Rattle.nd_value.specs.declared.misfit.Misfit.{Misfit}
+use Rattle.nd_value.specs.declared.misfit.Misfit.TheVariants as misfit
+use Rattle.nd_value.specs.declared.misfit.MisfitReason.{MisfitReason}
+use Rattle.nd_value.specs.declared.value.Graph.{Graph}
+use Rattle.nd_value.specs.Setting.{Setting}
+use Rattle.nd_value.specs.Conforms.{Conforms}
+use Rattle.nd_value.specs.FirstMisfit.{IsFirstMisfit}
 use Rattle.nd_grammar.specs.Chosen.{Chosen}
 use Rattle.nd_base.specs.Text.{joined}
 use Rattle.value_text.specs.Reads.{ReadsAs, IsTextFault}

@@ -5,7 +5,7 @@ use Rattle.nd_base.specs.declared.TheConstants.{STREAM_LIMIT}
 use Rattle.nd_base.specs.declared.octets.Order.{Order}
 use Rattle.nd_base.specs.Over.{SourceSeen, HasRisen}
 use Rattle.value_text.specs.declared.TheConstants.{TEXT_LIMIT}
-use Rattle.nd_graph.specs.Setting.{Setting}
+use Rattle.nd_value.specs.Setting.{Setting}
 use Rattle.dceidl.specs.Decode.{IsDecoding, IsOctetsCause}
 use Rattle.dceidl.specs.Encode.{IsEncoding, IsTextCause}
 use Rattle.dceidl.specs.declared.words.Reading.{Reading}

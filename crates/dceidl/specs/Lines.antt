@@ -5,8 +5,8 @@ use Rattle.idl_lexer.specs.declared.tokens.LexKind.{LexKind}
 use Rattle.idl_lexer.specs.declared.tokens.LexKind.TheVariants as kind
 use Rattle.idl_names.specs.declared.fault.ConstFault.{ConstFault}
 use Rattle.idl_names.specs.declared.fault.ConstFault.TheVariants as const_fault
-use Rattle.nd_graph.specs.declared.misfit.MisfitReason.{MisfitReason}
-use Rattle.nd_graph.specs.declared.misfit.MisfitReason.TheVariants as misfit
+use Rattle.nd_value.specs.declared.misfit.MisfitReason.{MisfitReason}
+use Rattle.nd_value.specs.declared.misfit.MisfitReason.TheVariants as misfit
 use Rattle.nd_grammar.specs.declared.reason.Reason.{Reason}
 use Rattle.nd_grammar.specs.declared.reason.Reason.TheVariants as reason
 use Rattle.value_text.specs.declared.fault.TextReason.{TextReason}

@@ -8,8 +8,8 @@ use Rattle.nd_types.specs.declared.types.Operation.{Operation}
 use Rattle.nd_types.specs.declared.types.Side.{Side}
 use Rattle.nd_types.specs.Operations.{operation_named}
 use Rattle.nd_types.specs.Numbers.{has_number_roots}
-use Rattle.nd_graph.specs.Fitting.{setting_of}
-use Rattle.nd_graph.specs.Setting.{Setting}
+use Rattle.nd_value.specs.Fitting.{setting_of}
+use Rattle.nd_value.specs.Setting.{Setting}
 use Rattle.nd_types.specs.Meant.{meant_by}
 use Rattle.idl_listing.specs.Listing.{listing}
 use Rattle.dceidl.specs.Asked.{all_due}

@@ -7,10 +7,10 @@ use Rattle.nd_types.specs.declared.interface.Interface.{Interface}
 use Rattle.nd_types.specs.declared.types.Operation.{Operation}
 use Rattle.nd_types.specs.Operations.{operation_named}
 use Rattle.nd_types.specs.Numbers.{has_number_roots}
-use Rattle.nd_graph.specs.declared.value.Graph.{Graph}
-use Rattle.nd_graph.specs.Setting.{Setting}
-use Rattle.nd_graph.specs.Conforms.{Conforms}
-use Rattle.nd_graph.specs.Fitting.{setting_of}
+use Rattle.nd_value.specs.declared.value.Graph.{Graph}
+use Rattle.nd_value.specs.Setting.{Setting}
+use Rattle.nd_value.specs.Conforms.{Conforms}
+use Rattle.nd_value.specs.Fitting.{setting_of}
 use Rattle.nd_grammar.specs.Represents.{Represents}
 use Rattle.value_text.specs.declared.TheConstants.{TEXT_LIMIT}
 use Rattle.value_text.specs.Reads.{ReadsAs, IsTextFault}

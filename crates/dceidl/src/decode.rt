@@ -3,7 +3,7 @@ ghost use Rattle.std.specs.Prelude.{◌≡◌, ◌<◌, ◌≤◌, ◌^◌, leng
 ghost use Rattle.std.specs.List.{slice_get};
 ghost use Rattle.nd_types.specs.declared.types.Operation.{Operation};
 ghost use Rattle.nd_types.specs.Numbers.{IsNumberSide};
-ghost use Rattle.nd_graph.specs.Fitting.{setting_of};
+ghost use Rattle.nd_value.specs.Fitting.{setting_of};
 ghost use Rattle.value_text.specs.Printed.{IsText};
 ghost use Rattle.dceidl.specs.Decode.{IsOctetsCause, IsDecoding, IsLeftOver};
 

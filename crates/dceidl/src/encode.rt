@@ -4,9 +4,9 @@ ghost use Rattle.std.specs.List.{slice_get};
 ghost use Rattle.nd_types.specs.declared.types.Operation.{Operation};
 ghost use Rattle.nd_types.specs.Numbers.{IsNumberSide};
 ghost use Rattle.nd_types.specs.Walk.{named_roots};
-ghost use Rattle.nd_graph.specs.Conforms.{Conforms, HasFewNodes};
+ghost use Rattle.nd_value.specs.Conforms.{Conforms, HasFewNodes};
 ghost use Rattle.nd_grammar.specs.Chosen.{Chosen};
-ghost use Rattle.nd_graph.specs.Fitting.{setting_of};
+ghost use Rattle.nd_value.specs.Fitting.{setting_of};
 ghost use Rattle.nd_base.specs.Text.{joined};
 ghost use Rattle.dceidl.specs.Encode.{IsEncoding, IsTextCause, IsValueCause, IsReportedAsValue, home_path, root_path as name_of};
 

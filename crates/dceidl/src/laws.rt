@@ -7,7 +7,7 @@ ghost use Rattle.nd_types.specs.declared.types.Operation.{Operation};
 ghost use Rattle.nd_types.specs.declared.types.Side.{Side};
 ghost use Rattle.nd_types.specs.Numbers.{has_number_roots};
 ghost use Rattle.nd_grammar.specs.Represents.{Represents};
-ghost use Rattle.nd_graph.specs.Fitting.{setting_of};
+ghost use Rattle.nd_value.specs.Fitting.{setting_of};
 ghost use Rattle.value_text.specs.declared.TheConstants.{TEXT_LIMIT};
 ghost use Rattle.value_text.specs.Reads.{ReadsAs};
 ghost use Rattle.value_text.specs.Printed.{IsText};

@@ -4,7 +4,7 @@ ghost use Rattle.std.specs.List.{slice_get};
 ghost use Rattle.nd_base.specs.Over.{files_seen, source_seen};
 ghost use Rattle.nd_types.specs.declared.types.Operation.{Operation};
 ghost use Rattle.nd_types.specs.Numbers.{IsNumberSide};
-ghost use Rattle.nd_graph.specs.Fitting.{setting_of};
+ghost use Rattle.nd_value.specs.Fitting.{setting_of};
 ghost use Rattle.dceidl.specs.Asked.{AsksFor};
 ghost use Rattle.dceidl.specs.Causes.{IsMade, IsCause};
 ghost use Rattle.dceidl.specs.Commands.{command_of, subject_of, HasChunk};

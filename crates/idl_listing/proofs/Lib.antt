@@ -1,4 +1,3 @@
 pub mod WordLists
-pub mod ListedLines
 pub mod ListedRoots
 pub mod ListedWhole

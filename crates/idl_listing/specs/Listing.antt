@@ -12,8 +12,6 @@ use Rattle.nd_types.specs.declared.types.Arm.{Arm}
 use Rattle.nd_types.specs.declared.types.AttrVar.{AttrVar}
 use Rattle.nd_types.specs.declared.types.Attr.{Attr}
 use Rattle.nd_types.specs.declared.types.Attr.TheVariants as attr
-use Rattle.nd_types.specs.declared.types.Class.{Class}
-use Rattle.nd_types.specs.declared.types.Class.TheVariants as class
 use Rattle.nd_types.specs.declared.types.Operation.{Operation}
 use Rattle.nd_types.specs.declared.types.Side.{Side}
 use Rattle.nd_types.specs.declared.types.Side.TheVariants as side
@@ -24,23 +22,7 @@ use Rattle.nd_types.specs.Fields.{param_fields}
 use Rattle.nd_types.specs.Roots.{Root, roots_of}
 use Rattle.nd_types.specs.Walk.{root_name}
 use Rattle.nd_types.specs.Meant.{Meant}
-
--- ## Lines
-
--- words with a space between each two
-abbrev pub spaced : List (List ℕ) → List ℕ
-spaced [] = []
-spaced (word ∷ []) = word
-spaced (word ∷ next ∷ words) = word ++ codes " " ++ spaced (next ∷ words)
-
--- a line of words
-abbrev pub line : List (List ℕ) → List ℕ
-line words = spaced words ++ codes "\n"
-
--- a word, where the test holds
-abbrev pub word_if : Bool → List ℕ → List (List ℕ)
-word_if true word = word ∷ []
-word_if false word = []
+use Rattle.line_words.specs.Lines.{line, word_if, class_word, side_word}
 
 -- ## The header
 
@@ -101,11 +83,6 @@ attrs_words list vars = flat_map (attr_words list) vars
 
 -- ## Types
 
-abbrev pub class_word : Class → List ℕ
-class_word class.Ref = codes "ref"
-class_word class.Unique = codes "unique"
-class_word class.Full = codes "ptr"
-
 -- what a type is; basic types have no lines
 abbrev pub form : TypeDef → List (List ℕ)
 form (Enum values) = codes "enum" ∷ map signed_decimal values
@@ -161,10 +138,6 @@ abbrev pub own_types : Table → List (ℕ × TypeDef)
 own_types types = enumerate_from (length basic_types) (drop (length basic_types) types)
 
 -- ## Operations
-
-abbrev pub side_word : Side → List ℕ
-side_word side.In = codes "in"
-side_word side.Out = codes "out"
 
 -- in NAME T, out NAME T
 abbrev pub root_line : Operation → Side → Root → List ℕ

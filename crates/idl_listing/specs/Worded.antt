@@ -1,4 +1,4 @@
--- The words of a line behind its first one, and the line of a root by its number of a parameter.
+-- The line of a root by its number of a parameter.
 -- `o` is an operation, `p` a parameter, `i` its index, `r` a root.
 use Rattle.std.specs.Prelude.{ℕ, List, [], ◌∷◌, ◌++◌, slice_get, Option, Some, None, codes, decimal}
 use Rattle.nd_types.specs.declared.types.AttrVar.{AttrVar}
@@ -7,12 +7,8 @@ use Rattle.nd_types.specs.declared.types.Operation.{Operation}
 use Rattle.nd_types.specs.declared.types.Side.{Side}
 use Rattle.nd_types.specs.Fields.{param_fields}
 use Rattle.nd_types.specs.Walk.{NamedRoot}
-use Rattle.idl_listing.specs.Listing.{line, side_word, attrs_words}
-
--- words, each behind a space
-abbrev pub behind : List (List ℕ) → List ℕ
-behind [] = []
-behind (word ∷ words) = codes " " ++ word ++ behind words
+use Rattle.line_words.specs.Lines.{line, side_word}
+use Rattle.idl_listing.specs.Listing.{attrs_words}
 
 -- the attributes of a parameter; the result and what is no parameter have none
 abbrev pub vars_in : Option Param → List AttrVar

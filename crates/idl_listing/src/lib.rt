@@ -4,7 +4,6 @@
 mod attribute_words;
 mod header_line;
 mod interface_lines;
-mod line_words;
 mod operation_lines;
 mod type_lines;
 

@@ -4,23 +4,14 @@ ghost use Rattle.std.specs.List.{flat_map, enumerate_from};
 ghost use Rattle.nd_types.specs.declared.types.Operation.{Operation as OperationValue};
 ghost use Rattle.nd_types.specs.Fields.{param_fields};
 ghost use Rattle.nd_types.specs.Walk.{root_value};
-ghost use Rattle.idl_listing.specs.Listing.{line, attrs_words, side_word, side_lines, operation_lines, field_name};
-ghost use Rattle.idl_listing.specs.Worded.{behind, vars_at, named_line};
+ghost use Rattle.line_words.specs.Lines.{line, behind};
+ghost use Rattle.idl_listing.specs.Listing.{attrs_words, side_lines, operation_lines, field_name};
+ghost use Rattle.idl_listing.specs.Worded.{vars_at, named_line};
 
 use crate::attribute_words::attribute;
-use crate::line_words::{number, word};
+use line_words::{number, side_word, word};
 use nd_base::{Memory, Octets};
 use nd_types::{AttrVars, Interface, Operation, RootDef, Side};
-
-/// The word of a side.
-fn side_word(side: Side) -> &'static [u8]
-    ensures { result.now ≡ side_word side }
-{
-    match side {
-        Side::In => b"in",
-        Side::Out => b"out",
-    }
-}
 
 /// The name of a parameter, by its index.
 fn param_name(operation: &Operation, index: u32) -> &[u8]

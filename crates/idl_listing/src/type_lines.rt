@@ -3,13 +3,13 @@ ghost use Rattle.std.specs.Prelude.{◌≡◌, ◌++◌, ◌∷◌, [], map, sli
 ghost use Rattle.std.specs.Fmt.{signed_decimal};
 ghost use Rattle.std.specs.List.{flat_map};
 ghost use Rattle.nd_types.specs.declared.types.TypeDef.TheVariants as def;
-ghost use Rattle.idl_listing.specs.Listing.{attrs_words, class_word, form, type_line, member_line, arm_name, arm_type, arm_line, default_line, part_lines, type_lines, own_types, field_name};
-ghost use Rattle.idl_listing.specs.Worded.{behind};
+ghost use Rattle.line_words.specs.Lines.{behind};
+ghost use Rattle.idl_listing.specs.Listing.{attrs_words, form, type_line, member_line, arm_name, arm_type, arm_line, default_line, part_lines, type_lines, own_types, field_name};
 
 use crate::attribute_words::attribute;
-use crate::line_words::{number, signed, word, word_if};
+use line_words::{class_word, number, signed, word, word_if};
 use nd_base::{Memory, Name, Octets};
-use nd_types::{Arm, Arms, AttrVars, Class, Field, Fields, Interface, Numbers, TypeDef, TypeId};
+use nd_types::{Arm, Arms, AttrVars, Field, Fields, Interface, Numbers, TypeDef, TypeId};
 
 /// How many types each interface has that none declares: the primitives and the context handle.
 const BASIC_TYPES: usize = 12;
@@ -51,17 +51,6 @@ fn string(text: &mut Octets, elem: TypeId, bound: Option<u32>) -> Result<(), Mem
     match bound {
         Some(count) => counted(text, b"text", elem, count),
         None => of_type(text, b"conftext", elem),
-    }
-}
-
-/// The word of a class of pointers.
-fn class_word(class: Class) -> &'static [u8]
-    ensures { result.now ≡ class_word class }
-{
-    match class {
-        Class::Ref => b"ref",
-        Class::Unique => b"unique",
-        Class::Full => b"ptr",
     }
 }
 

@@ -12,15 +12,15 @@ use Rattle.nd_types.specs.declared.types.Primitive.TheVariants.{Short}
 use Rattle.nd_types.specs.Table.{Table, type_at, is_value, fits_octets, in_range}
 use Rattle.nd_types.specs.Legal.{IsLegal, has_small_values}
 use Rattle.nd_types.proofs.LegalLaws.{passes_at}
-use Rattle.nd_graph.specs.declared.value.Graph.{Graph}
-use Rattle.nd_graph.specs.Tree as tree
-use Rattle.nd_graph.specs.Tree.{Trees, Label, count}
-use Rattle.nd_graph.specs.Setting.{Setting}
-use Rattle.nd_graph.specs.Nodes.{TypedNode, child_types}
-use Rattle.nd_graph.specs.Homes.{HomeNode, all_nodes}
-use Rattle.nd_graph.specs.Misfit.{misfit_of, is_partial_node, is_unread, has_range}
-use Rattle.nd_graph.specs.Conforms.{Conforms, IsPartial}
-use Rattle.nd_graph.proofs.NodeFacts.{IsFit, IsRead, fit_node, fit_is_read}
+use Rattle.nd_value.specs.declared.value.Graph.{Graph}
+use Rattle.nd_value.specs.Tree as tree
+use Rattle.nd_value.specs.Tree.{Trees, Label, count}
+use Rattle.nd_value.specs.Setting.{Setting}
+use Rattle.nd_value.specs.Nodes.{TypedNode, child_types}
+use Rattle.nd_value.specs.Homes.{HomeNode, all_nodes}
+use Rattle.nd_value.specs.Misfit.{misfit_of, is_partial_node, is_unread, has_range}
+use Rattle.nd_value.specs.Conforms.{Conforms, IsPartial}
+use Rattle.nd_value.proofs.NodeFacts.{IsFit, IsRead, fit_node, fit_is_read}
 use Rattle.nd_grammar.specs.LegalSide.{IsLegalSide}
 
 -- an enumerator is a short

@@ -8,19 +8,19 @@ use Rattle.nd_base.specs.declared.octets.Order.{Order}
 use Rattle.nd_types.specs.declared.types.TypeId.{TypeId}
 use Rattle.nd_types.specs.Table.{Table, type_at}
 use Rattle.nd_types.specs.Roots.{Root}
-use Rattle.nd_graph.specs.declared.value.Graph.{Graph}
-use Rattle.nd_graph.specs.declared.item.Home.TheVariants as home
-use Rattle.nd_graph.specs.Tree as tree
-use Rattle.nd_graph.specs.Tree.{Tree, Trees, Referent, node, none, more}
-use Rattle.nd_graph.specs.Setting.{Setting, Among, root_list, root_at, or_unread}
-use Rattle.nd_graph.specs.Deferral.{Pending, home_pointers, due_root, due_roots, before_pipes, Step, Deferral, standing_root, standing_by, direct, root_type}
-use Rattle.nd_graph.specs.Homes.{root_pointers}
+use Rattle.nd_value.specs.declared.value.Graph.{Graph}
+use Rattle.nd_value.specs.declared.item.Home.TheVariants as home
+use Rattle.nd_value.specs.Tree as tree
+use Rattle.nd_value.specs.Tree.{Tree, Trees, Referent, node, none, more}
+use Rattle.nd_value.specs.Setting.{Setting, Among, root_list, root_at, or_unread}
+use Rattle.nd_value.specs.Deferral.{Pending, home_pointers, due_root, due_roots, before_pipes, Step, Deferral, standing_root, standing_by, direct, root_type}
+use Rattle.nd_value.specs.Homes.{root_pointers}
 use Rattle.nd_types.specs.declared.types.Class.TheVariants.{Ref}
-use Rattle.nd_graph.specs.Agreement.{Agreement}
-use Rattle.nd_graph.specs.Variables.{root_agreements}
-use Rattle.nd_graph.specs.Conforms.{Conforms, Reached, by_root, by_cell}
-use Rattle.nd_graph.proofs.DeferralBridge.{some_before}
-use Rattle.nd_graph.proofs.DeferralExists.{direct_is, direct_pointer}
+use Rattle.nd_value.specs.Agreement.{Agreement}
+use Rattle.nd_value.specs.Variables.{root_agreements}
+use Rattle.nd_value.specs.Conforms.{Conforms, Reached, by_root, by_cell}
+use Rattle.nd_value.proofs.DeferralBridge.{some_before}
+use Rattle.nd_value.proofs.DeferralExists.{direct_is, direct_pointer}
 use Rattle.nd_grammar.specs.Entry.{Entry, end_of}
 use Rattle.nd_grammar.specs.FewItems.{item_count}
 use Rattle.nd_grammar.specs.LegalSide.{IsLegalSide}

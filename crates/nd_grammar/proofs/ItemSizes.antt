@@ -8,13 +8,13 @@ use Rattle.nd_types.specs.declared.types.Primitive.{Primitive}
 use Rattle.nd_types.specs.declared.types.Primitive.TheVariants.{Boolean, Char, Byte, Small, UnsignedSmall, Short, UnsignedShort, Long, UnsignedLong, Hyper, UnsignedHyper}
 use Rattle.nd_types.specs.Table.{Table, type_at, width}
 use Rattle.nd_types.specs.Layout.{hoists}
-use Rattle.nd_graph.specs.declared.item.Home.{Home}
-use Rattle.nd_graph.specs.declared.item.Item.{Item}
-use Rattle.nd_graph.specs.Tree as tree
-use Rattle.nd_graph.specs.Tree.{Tree, Trees, node, none, more, Label, node_count, is_pointer, cell_in}
-use Rattle.nd_graph.specs.Agreement.{Agreement}
-use Rattle.nd_graph.specs.Nodes.{TypedNode, nodes_of, child_types, child_agreements, first_agreements, rest_agreements}
-use Rattle.nd_graph.specs.Deferral.{Pending, pointer, pointer_by, home_pointers}
+use Rattle.nd_value.specs.declared.item.Home.{Home}
+use Rattle.nd_value.specs.declared.item.Item.{Item}
+use Rattle.nd_value.specs.Tree as tree
+use Rattle.nd_value.specs.Tree.{Tree, Trees, node, none, more, Label, node_count, is_pointer, cell_in}
+use Rattle.nd_value.specs.Agreement.{Agreement}
+use Rattle.nd_value.specs.Nodes.{TypedNode, nodes_of, child_types, child_agreements, first_agreements, rest_agreements}
+use Rattle.nd_value.specs.Deferral.{Pending, pointer, pointer_by, home_pointers}
 use Rattle.std.proofs.lemmas.Grind.{flat_map-append}
 use Rattle.nd_grammar.specs.Entry.{Kind, Entry, Align, Max, Offset, Actual, Chunk, Number, Num, Tag, Text, Context, Test, Unread, size_at, end_to_end, end_of}
 use Rattle.nd_grammar.specs.FewItems.{is_gap, but_gaps}

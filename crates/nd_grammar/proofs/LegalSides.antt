@@ -28,12 +28,12 @@ use Rattle.nd_types.specs.Kinds.{pointee, pointee_by, is_conformant_array, is_co
 use Rattle.nd_types.specs.Roots.{Root, roots_of, params_from, root_of, root_by, pipe_of, pipe_by, result_root, travels, pipe_referent}
 use Rattle.nd_types.proofs.LayoutLaws.{hoists-legal}
 use Rattle.nd_types.proofs.LegalLaws.{passes_at}
-use Rattle.nd_graph.specs.Setting.{Setting, Among, root_list}
-use Rattle.nd_graph.specs.Nodes.{selected_types}
-use Rattle.nd_graph.specs.Deferral.{before_pipes}
-use Rattle.nd_graph.specs.Fitting.{setting_of}
-use Rattle.nd_graph.proofs.NodeFacts.{all_of_list}
-use Rattle.nd_graph.proofs.Apart.{all_append, all_left, all_right, all_weaker}
+use Rattle.nd_value.specs.Setting.{Setting, Among, root_list}
+use Rattle.nd_value.specs.Nodes.{selected_types}
+use Rattle.nd_value.specs.Deferral.{before_pipes}
+use Rattle.nd_value.specs.Fitting.{setting_of}
+use Rattle.nd_value.proofs.NodeFacts.{all_of_list}
+use Rattle.nd_value.proofs.Apart.{all_append, all_left, all_right, all_weaker}
 use Rattle.nd_grammar.specs.LegalSide.{IsLegalSide}
 use Rattle.nd_grammar.proofs.next.HoistedMaxes.{OnlyLast, HoistsLast}
 use Rattle.nd_grammar.proofs.next.NextStream.{IsPipeRoot, IsLaidOut, FitsPipes}

@@ -2,11 +2,11 @@
 use Rattle.std.proofs.Common.{◌≡◌, ℕ, ◌<◌, ◌≤◌, List, [], ◌∷◌, ◌++◌, length, refl, sym, ◌∙◌, arith, length-append}
 use Rattle.std.specs.List.{AllByRecursion}
 use Rattle.nd_base.specs.declared.octets.Order.{Order}
-use Rattle.nd_graph.specs.declared.value.Graph.{Graph}
-use Rattle.nd_graph.specs.Setting.{Setting}
-use Rattle.nd_graph.specs.Conforms.{Conforms, Reached}
-use Rattle.nd_graph.specs.Same.{Same}
-use Rattle.nd_graph.proofs.NodeFacts.{IsSound, sound_conforming}
+use Rattle.nd_value.specs.declared.value.Graph.{Graph}
+use Rattle.nd_value.specs.Setting.{Setting}
+use Rattle.nd_value.specs.Conforms.{Conforms, Reached}
+use Rattle.nd_value.specs.Same.{Same}
+use Rattle.nd_value.proofs.NodeFacts.{IsSound, sound_conforming}
 use Rattle.nd_grammar.specs.Entry.{Entry, end_to_end, end_of, full_cells}
 use Rattle.nd_grammar.specs.Stream.{Stream}
 use Rattle.nd_grammar.specs.LegalSide.{IsLegalSide}

@@ -8,9 +8,9 @@ use Rattle.nd_base.specs.declared.octets.Order.{Order}
 use Rattle.nd_base.specs.declared.TheConstants.{STREAM_LIMIT}
 use Rattle.nd_types.specs.declared.types.Primitive.{Primitive}
 use Rattle.nd_types.specs.Table.{width}
-use Rattle.nd_graph.specs.declared.value.Graph.{Graph}
-use Rattle.nd_graph.specs.declared.item.Home.TheVariants as home
-use Rattle.nd_graph.specs.Setting.{Setting, root_list, Among, or_unread}
+use Rattle.nd_value.specs.declared.value.Graph.{Graph}
+use Rattle.nd_value.specs.declared.item.Home.TheVariants as home
+use Rattle.nd_value.specs.Setting.{Setting, root_list, Among, or_unread}
 use Rattle.nd_grammar.specs.Entry.{Entry, Align, Num, end_to_end, end_of, gap, full_cells}
 use Rattle.nd_grammar.specs.InPlace.{entries}
 use Rattle.nd_types.specs.Number.{value_of_octets}

@@ -7,16 +7,16 @@ use Rattle.nd_types.specs.declared.types.Primitive.{Primitive}
 use Rattle.nd_types.specs.declared.types.TypeDef.TheVariants as def
 use Rattle.nd_types.specs.Table.{Table, type_at, in_range}
 use Rattle.nd_types.specs.Roots.{Root}
-use Rattle.nd_graph.specs.declared.value.Graph.{Graph}
-use Rattle.nd_graph.specs.declared.item.Home.TheVariants as home
-use Rattle.nd_graph.specs.Tree as tree
-use Rattle.nd_graph.specs.Tree.{Tree, Trees, node, none, more, node_count, Label, Referent}
-use Rattle.nd_graph.specs.Setting.{Setting, root_list, root_at, Among, or_unread}
-use Rattle.nd_graph.specs.Nodes.{TypedNode, governed_nodes}
-use Rattle.nd_graph.specs.Variables.{root_agreements}
-use Rattle.nd_graph.specs.Homes.{HomeNode, all_nodes, all_pointers, root_nodes, cell_nodes, root_pointers}
-use Rattle.nd_graph.specs.Misfit.{misfit_of, has_machine_values, is_partial_node}
-use Rattle.nd_graph.specs.Conforms.{Conforms, IsPartial, AllEarlier, ShareOnlyIfFull, Reached, by_root, by_cell, AgreesAt}
+use Rattle.nd_value.specs.declared.value.Graph.{Graph}
+use Rattle.nd_value.specs.declared.item.Home.TheVariants as home
+use Rattle.nd_value.specs.Tree as tree
+use Rattle.nd_value.specs.Tree.{Tree, Trees, node, none, more, node_count, Label, Referent}
+use Rattle.nd_value.specs.Setting.{Setting, root_list, root_at, Among, or_unread}
+use Rattle.nd_value.specs.Nodes.{TypedNode, governed_nodes}
+use Rattle.nd_value.specs.Variables.{root_agreements}
+use Rattle.nd_value.specs.Homes.{HomeNode, all_nodes, all_pointers, root_nodes, cell_nodes, root_pointers}
+use Rattle.nd_value.specs.Misfit.{misfit_of, has_machine_values, is_partial_node}
+use Rattle.nd_value.specs.Conforms.{Conforms, IsPartial, AllEarlier, ShareOnlyIfFull, Reached, by_root, by_cell, AgreesAt}
 use Rattle.nd_grammar.specs.Plain.{ArePlain, AreInRange, number, plain_graph}
 use Rattle.nd_grammar.proofs.PlainStreams.{label_of, no_pointers, plain_length, Suffix, suffix_first, suffix_next, suffix_whole}
 

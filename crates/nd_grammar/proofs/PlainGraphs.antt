@@ -6,17 +6,17 @@ use Rattle.nd_types.specs.declared.types.Primitive.{Primitive}
 use Rattle.nd_types.specs.declared.types.TypeDef.TheVariants as def
 use Rattle.nd_types.specs.Table.{type_at, in_range}
 use Rattle.nd_types.specs.Roots.{Root}
-use Rattle.nd_graph.specs.declared.value.Graph.{Graph}
-use Rattle.nd_graph.specs.declared.item.Home.TheVariants as home
-use Rattle.nd_graph.specs.declared.misfit.MisfitReason.{MisfitReason}
-use Rattle.nd_graph.specs.Tree as tree
-use Rattle.nd_graph.specs.Tree.{Tree, node, none, more, Referent}
-use Rattle.nd_graph.specs.Setting.{Setting, root_list}
-use Rattle.nd_graph.specs.Nodes.{TypedNode, governed_nodes}
-use Rattle.nd_graph.specs.Variables.{root_agreements}
-use Rattle.nd_graph.specs.Homes.{HomeNode, root_nodes, cell_nodes}
-use Rattle.nd_graph.specs.Misfit.{misfit_of, unless}
-use Rattle.nd_graph.specs.Conforms.{Conforms}
+use Rattle.nd_value.specs.declared.value.Graph.{Graph}
+use Rattle.nd_value.specs.declared.item.Home.TheVariants as home
+use Rattle.nd_value.specs.declared.misfit.MisfitReason.{MisfitReason}
+use Rattle.nd_value.specs.Tree as tree
+use Rattle.nd_value.specs.Tree.{Tree, node, none, more, Referent}
+use Rattle.nd_value.specs.Setting.{Setting, root_list}
+use Rattle.nd_value.specs.Nodes.{TypedNode, governed_nodes}
+use Rattle.nd_value.specs.Variables.{root_agreements}
+use Rattle.nd_value.specs.Homes.{HomeNode, root_nodes, cell_nodes}
+use Rattle.nd_value.specs.Misfit.{misfit_of, unless}
+use Rattle.nd_value.specs.Conforms.{Conforms}
 use Rattle.nd_grammar.specs.Plain.{ArePlain, AreInRange, number, plain_graph}
 use Rattle.nd_grammar.proofs.PlainConforms.{all_left, all_right, no_cells}
 use Rattle.nd_grammar.proofs.PlainStreams.{plain_length}

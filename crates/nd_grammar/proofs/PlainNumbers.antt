@@ -6,12 +6,12 @@ use Rattle.std.specs.List.{AllByRecursion}
 use Rattle.nd_base.specs.declared.octets.Order.{Order}
 use Rattle.nd_base.specs.declared.TheConstants.{STREAM_LIMIT}
 use Rattle.nd_types.specs.declared.types.Primitive.{Primitive}
-use Rattle.nd_graph.specs.declared.value.Graph.{Graph}
-use Rattle.nd_graph.specs.declared.item.Home.TheVariants as home
-use Rattle.nd_graph.specs.Tree as tree
-use Rattle.nd_graph.specs.Tree.{Label}
-use Rattle.nd_graph.specs.Setting.{Setting, root_list, root_at}
-use Rattle.nd_graph.specs.Conforms.{Conforms}
+use Rattle.nd_value.specs.declared.value.Graph.{Graph}
+use Rattle.nd_value.specs.declared.item.Home.TheVariants as home
+use Rattle.nd_value.specs.Tree as tree
+use Rattle.nd_value.specs.Tree.{Label}
+use Rattle.nd_value.specs.Setting.{Setting, root_list, root_at}
+use Rattle.nd_value.specs.Conforms.{Conforms}
 use Rattle.nd_grammar.specs.Entry.{Entry, end_to_end, end_of}
 use Rattle.nd_grammar.specs.InPlace.{entries}
 use Rattle.nd_types.specs.Number.{AreOctets}

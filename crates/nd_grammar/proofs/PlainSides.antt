@@ -22,8 +22,8 @@ use Rattle.nd_types.specs.Roots.{Root, roots_of}
 use Rattle.nd_types.specs.Walk.{named_root}
 use Rattle.nd_types.specs.Numbers.{has_number_roots, IsPrimitiveRoot}
 use Rattle.nd_types.proofs.NumberRoots.{primitive_roots}
-use Rattle.nd_graph.specs.Fitting.{setting_of}
-use Rattle.nd_graph.proofs.FewRoots.{few_named_roots}
+use Rattle.nd_value.specs.Fitting.{setting_of}
+use Rattle.nd_value.proofs.FewRoots.{few_named_roots}
 
 prim_is : (d : Option TypeDef) → is_plain_type d ≡ true → d ≡ Some (def.Prim (primitive_of d))
 prim_is None e = cc

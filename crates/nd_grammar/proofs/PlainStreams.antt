@@ -9,16 +9,16 @@ use Rattle.nd_types.specs.declared.types.TypeDef.TheVariants as def
 use Rattle.nd_types.specs.Table.{Table, type_at, width}
 use Rattle.nd_types.specs.Roots.{Root}
 use Rattle.nd_types.proofs.LayoutLaws.{hoists_prim}
-use Rattle.nd_graph.specs.declared.value.Graph.{Graph}
-use Rattle.nd_graph.specs.declared.item.Home.{Home}
-use Rattle.nd_graph.specs.declared.item.Home.TheVariants as home
-use Rattle.nd_graph.specs.Tree as tree
-use Rattle.nd_graph.specs.Tree.{Tree, Trees, node, none, more, node_count, Label, is_pointer, cell_in}
-use Rattle.nd_graph.specs.Agreement.{Agreement}
-use Rattle.nd_graph.specs.Setting.{Setting, root_list, root_at}
-use Rattle.nd_graph.specs.Nodes.{nodes_of, child_types, child_agreements}
-use Rattle.nd_graph.specs.Deferral.{Due, due_root, due_referent, Step, root_stands, Deferral, none_due, at_root, at_null, at_standing, at_referent, Standing, Placed_cells, standing_root, standing_by, direct, root_type, due_of, due_roots, before_pipes, home_pointers, pointer, pointer_by, root_cell, AreFree}
-use Rattle.nd_graph.specs.Variables.{root_agreements}
+use Rattle.nd_value.specs.declared.value.Graph.{Graph}
+use Rattle.nd_value.specs.declared.item.Home.{Home}
+use Rattle.nd_value.specs.declared.item.Home.TheVariants as home
+use Rattle.nd_value.specs.Tree as tree
+use Rattle.nd_value.specs.Tree.{Tree, Trees, node, none, more, node_count, Label, is_pointer, cell_in}
+use Rattle.nd_value.specs.Agreement.{Agreement}
+use Rattle.nd_value.specs.Setting.{Setting, root_list, root_at}
+use Rattle.nd_value.specs.Nodes.{nodes_of, child_types, child_agreements}
+use Rattle.nd_value.specs.Deferral.{Due, due_root, due_referent, Step, root_stands, Deferral, none_due, at_root, at_null, at_standing, at_referent, Standing, Placed_cells, standing_root, standing_by, direct, root_type, due_of, due_roots, before_pipes, home_pointers, pointer, pointer_by, root_cell, AreFree}
+use Rattle.nd_value.specs.Variables.{root_agreements}
 use Rattle.nd_grammar.specs.Entry.{Kind, Entry, Align, Num, Unread}
 use Rattle.nd_grammar.specs.InPlace.{before_children, entries, in_place, own_tests, child_tests, hoisted, hoisted_max, whole_value}
 use Rattle.nd_grammar.specs.Stream.{Stream, representation, step_entries, standing_entries, AllCut, root_tests, root_test, pipes_entries}

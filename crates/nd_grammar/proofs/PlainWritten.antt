@@ -8,10 +8,10 @@ use Rattle.nd_types.specs.declared.types.Primitive.{Primitive}
 use Rattle.nd_types.specs.Table.{width, in_range}
 use Rattle.nd_types.specs.Number.{AreOctets, value_of_octets, written}
 use Rattle.nd_types.proofs.NumberLaws.{octets-append, read_after_write, written-length, written-octets}
-use Rattle.nd_graph.specs.declared.value.Graph.{Graph}
-use Rattle.nd_graph.specs.Setting.{Setting, root_list}
-use Rattle.nd_graph.specs.Deferral.{Step, before_pipes}
-use Rattle.nd_graph.specs.Canon.{canonical_number, named_cells}
+use Rattle.nd_value.specs.declared.value.Graph.{Graph}
+use Rattle.nd_value.specs.Setting.{Setting, root_list}
+use Rattle.nd_value.specs.Deferral.{Step, before_pipes}
+use Rattle.nd_value.specs.Canon.{canonical_number, named_cells}
 use Rattle.nd_grammar.specs.Entry.{Entry, gap}
 use Rattle.nd_grammar.specs.Stream.{Stream, representation, AllCut}
 use Rattle.nd_grammar.specs.Chosen.{Chosen, octets_from, pipe_cuts}

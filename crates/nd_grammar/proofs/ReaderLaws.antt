@@ -4,13 +4,13 @@ use Rattle.std.specs.List.{AllByRecursion}
 use Rattle.std.proofs.lemmas.List.{take-append-drop, append-nil}
 use Rattle.nd_base.specs.declared.octets.Order.{Order}
 use Rattle.nd_types.specs.Number.{AreOctets}
-use Rattle.nd_graph.specs.declared.value.Graph.{Graph}
-use Rattle.nd_graph.proofs.NodeFacts.{sound_partial}
-use Rattle.nd_graph.specs.Setting.{Setting}
-use Rattle.nd_graph.specs.Homes.{HomeNode, all_nodes}
-use Rattle.nd_graph.specs.Misfit.{misfit_of}
-use Rattle.nd_graph.specs.Conforms.{Conforms, AgreesAt, Reached}
-use Rattle.nd_graph.proofs.Apart.{all_weaker}
+use Rattle.nd_value.specs.declared.value.Graph.{Graph}
+use Rattle.nd_value.proofs.NodeFacts.{sound_partial}
+use Rattle.nd_value.specs.Setting.{Setting}
+use Rattle.nd_value.specs.Homes.{HomeNode, all_nodes}
+use Rattle.nd_value.specs.Misfit.{misfit_of}
+use Rattle.nd_value.specs.Conforms.{Conforms, AgreesAt, Reached}
+use Rattle.nd_value.proofs.Apart.{all_weaker}
 use Rattle.nd_grammar.specs.LegalSide.{IsLegalSide}
 use Rattle.nd_grammar.specs.declared.reason.Reason.{Reason}
 use Rattle.nd_grammar.specs.Entry.{Entry, size_at, end_to_end, end_of}
@@ -24,7 +24,7 @@ use Rattle.nd_grammar.proofs.agreements.TestedAt.{tests_found}
 use Rattle.nd_grammar.proofs.conforming.Passed.{PassedAll, all_passed, least_end}
 use Rattle.nd_grammar.proofs.conforming.StreamConforming.{NodeGood, all_good, few_nodes}
 use Rattle.nd_grammar.proofs.reader.ReaderStream.{Pipes, G, ms, numbering, is_partial, is_stream, numbered, goes_over, ends_within, ends_in_octets, graph_is, head, cells_fit, roots_all_made, all_roots, all_reached, few_cells}
-use Rattle.nd_graph.specs.Same.{Same}
+use Rattle.nd_value.specs.Same.{Same}
 use Rattle.nd_grammar.proofs.conforming.StreamConforms.{le_or}
 use Rattle.nd_grammar.proofs.OneGraph.{one_graph}
 use Rattle.nd_grammar.proofs.Excluded.{excluded}

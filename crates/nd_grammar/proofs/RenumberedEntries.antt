@@ -10,16 +10,16 @@ use Rattle.nd_types.specs.declared.types.TypeDef.TheVariants as def
 use Rattle.nd_types.specs.Table.{Table, type_at}
 use Rattle.nd_types.specs.Layout.{hoists}
 use Rattle.nd_types.specs.Number.{spelling}
-use Rattle.nd_graph.specs.declared.value.Graph.{Graph}
-use Rattle.nd_graph.specs.declared.item.Home.{Home}
-use Rattle.nd_graph.specs.Tree as tree
-use Rattle.nd_graph.specs.Tree.{Tree, Trees, node, none, more, Label, count, node_count, is_pointer, cell_in, take_trees, drop_trees}
-use Rattle.nd_graph.specs.Agreement.{Agreement, number_in}
-use Rattle.nd_graph.specs.Nodes.{TypedNode, nodes_of, child_types, child_agreements, first_agreements, rest_agreements}
-use Rattle.nd_graph.specs.Deferral.{Pending, pointer, pointer_by, home_pointers}
-use Rattle.nd_graph.specs.Canon.{target}
-use Rattle.nd_graph.specs.Same.{renumbered, renumbered_label}
-use Rattle.nd_graph.proofs.Apart.{all_left, all_right}
+use Rattle.nd_value.specs.declared.value.Graph.{Graph}
+use Rattle.nd_value.specs.declared.item.Home.{Home}
+use Rattle.nd_value.specs.Tree as tree
+use Rattle.nd_value.specs.Tree.{Tree, Trees, node, none, more, Label, count, node_count, is_pointer, cell_in, take_trees, drop_trees}
+use Rattle.nd_value.specs.Agreement.{Agreement, number_in}
+use Rattle.nd_value.specs.Nodes.{TypedNode, nodes_of, child_types, child_agreements, first_agreements, rest_agreements}
+use Rattle.nd_value.specs.Deferral.{Pending, pointer, pointer_by, home_pointers}
+use Rattle.nd_value.specs.Canon.{target}
+use Rattle.nd_value.specs.Same.{renumbered, renumbered_label}
+use Rattle.nd_value.proofs.Apart.{all_left, all_right}
 use Rattle.nd_grammar.specs.Entry.{Kind, Entry, size_at}
 use Rattle.nd_grammar.specs.InPlace.{before_children, entries, counts, tag_entries, in_place, tests, own_tests, child_tests, hoisted, hoisted_max, own_max, whole_value}
 use Rattle.nd_grammar.specs.Chosen.{octets_of, octets_from}

@@ -3,11 +3,11 @@
 -- a cell, `k` the count of a chunk, `n` that of the elements.
 use Rattle.std.specs.Prelude.{drop, ◌≡◌, ℕ, ◌+◌, ◌-◌, suc, zero, true, false, ltb, List, [], ◌∷◌, ◌++◌, replicate, Option, Some, None}
 use Rattle.nd_base.specs.declared.octets.Order.{Order}
-use Rattle.nd_graph.specs.declared.value.Graph.{Graph}
-use Rattle.nd_graph.specs.Setting.{Setting, root_list}
-use Rattle.nd_graph.specs.Tree.{Tree, count}
-use Rattle.nd_graph.specs.Deferral.{Step, Deferral, due_roots, before_pipes}
-use Rattle.nd_graph.specs.Canon.{canonical_number, named_cells}
+use Rattle.nd_value.specs.declared.value.Graph.{Graph}
+use Rattle.nd_value.specs.Setting.{Setting, root_list}
+use Rattle.nd_value.specs.Tree.{Tree, count}
+use Rattle.nd_value.specs.Deferral.{Step, Deferral, due_roots, before_pipes}
+use Rattle.nd_value.specs.Canon.{canonical_number, named_cells}
 use Rattle.nd_grammar.specs.Stream.{representation, kids_of}
 use Rattle.nd_types.specs.Number.{spelling, written}
 use Rattle.nd_grammar.specs.Entry.{Kind, Entry, Align, Max, Offset, Actual, Chunk, Number, Num, Tag, Text, Context, Test, Unread, size_at, gap}

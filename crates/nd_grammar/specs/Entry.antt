@@ -8,7 +8,7 @@ use Rattle.nd_types.specs.declared.types.Class.{Class}
 use Rattle.nd_types.specs.declared.types.Class.TheVariants.{Full}
 use Rattle.nd_types.specs.declared.types.Primitive.{Primitive}
 use Rattle.nd_types.specs.Table.{width}
-use Rattle.nd_graph.specs.declared.item.Home.{Home}
+use Rattle.nd_value.specs.declared.item.Home.{Home}
 
 -- What an entry is, with all that is needed to judge its octets.
 pub data Kind : Type 0 where

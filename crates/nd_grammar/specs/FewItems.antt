@@ -1,9 +1,9 @@
 -- How many items a stream has.
 use Rattle.std.specs.Prelude.{ℕ, Bool, true, false, not, List, length, filter}
 use Rattle.nd_base.specs.declared.octets.Order.{Order}
-use Rattle.nd_graph.specs.declared.item.Item.{Item}
-use Rattle.nd_graph.specs.declared.item.ItemKind.{ItemKind}
-use Rattle.nd_graph.specs.declared.item.ItemKind.TheVariants as item
+use Rattle.nd_value.specs.declared.item.Item.{Item}
+use Rattle.nd_value.specs.declared.item.ItemKind.{ItemKind}
+use Rattle.nd_value.specs.declared.item.ItemKind.TheVariants as item
 use Rattle.nd_grammar.specs.Entry.{Entry, end_to_end}
 use Rattle.nd_grammar.specs.Items.{items}
 

@@ -1,7 +1,7 @@
 -- The cells to which a stream comes, entry by entry.
 -- `m` is an entry, `c` the number of a cell.
 use Rattle.std.specs.Prelude.{ℕ, List, ◌++◌, flat_map}
-use Rattle.nd_graph.specs.Canon.{own_cell, target}
+use Rattle.nd_value.specs.Canon.{own_cell, target}
 use Rattle.nd_grammar.specs.Entry.{Entry}
 use Rattle.nd_grammar.specs.NextMark.{named_cell}
 

@@ -12,11 +12,11 @@ use Rattle.nd_types.specs.declared.types.Primitive.TheVariants.{Short}
 use Rattle.nd_types.specs.Table.{Table, type_at, width}
 use Rattle.nd_types.specs.Layout.{align_of, hoists}
 use Rattle.nd_types.specs.Number.{unsigned, value_of_octets, in_order}
-use Rattle.nd_graph.specs.declared.item.Home.{Home}
-use Rattle.nd_graph.specs.Tree as tree
-use Rattle.nd_graph.specs.Tree.{Tree, Trees, node, none, more, Label, Referent, count, node_count}
-use Rattle.nd_graph.specs.Setting.{unread}
-use Rattle.nd_graph.specs.Nodes.{child_types, child_agreements}
+use Rattle.nd_value.specs.declared.item.Home.{Home}
+use Rattle.nd_value.specs.Tree as tree
+use Rattle.nd_value.specs.Tree.{Tree, Trees, node, none, more, Label, Referent, count, node_count}
+use Rattle.nd_value.specs.Setting.{unread}
+use Rattle.nd_value.specs.Nodes.{child_types, child_agreements}
 use Rattle.nd_grammar.specs.declared.reason.Reason.{Reason}
 use Rattle.nd_grammar.specs.Entry.{Kind, Entry, Align, Max, Offset, Actual, Number, Num, Tag, Text, Context, size_at, EntryAt}
 use Rattle.nd_grammar.specs.InPlace.{child_tests}

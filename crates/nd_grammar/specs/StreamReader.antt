@@ -8,13 +8,13 @@ use Rattle.nd_types.specs.declared.types.Class.{Class}
 use Rattle.nd_types.specs.declared.types.Class.TheVariants.{Ref, Full}
 use Rattle.nd_types.specs.Table.{type_at}
 use Rattle.nd_types.specs.Roots.{Root}
-use Rattle.nd_graph.specs.declared.value.Graph.{Graph}
-use Rattle.nd_graph.specs.declared.item.Home.{Home}
-use Rattle.nd_graph.specs.declared.item.Home.TheVariants as home
-use Rattle.nd_graph.specs.Tree as tree
-use Rattle.nd_graph.specs.Tree.{Tree, Trees, node, none, more, Referent, node_count, joined}
-use Rattle.nd_graph.specs.Setting.{Setting, root_list, unread, cell_at, cell_home}
-use Rattle.nd_graph.specs.Deferral.{Pending, Due, due_root, due_referent, due_roots, before_pipes, Placed_cells, due_of, root_type}
+use Rattle.nd_value.specs.declared.value.Graph.{Graph}
+use Rattle.nd_value.specs.declared.item.Home.{Home}
+use Rattle.nd_value.specs.declared.item.Home.TheVariants as home
+use Rattle.nd_value.specs.Tree as tree
+use Rattle.nd_value.specs.Tree.{Tree, Trees, node, none, more, Referent, node_count, joined}
+use Rattle.nd_value.specs.Setting.{Setting, root_list, unread, cell_at, cell_home, set_cell}
+use Rattle.nd_value.specs.Deferral.{Pending, Due, due_root, due_referent, due_roots, before_pipes, Placed_cells, due_of, root_type}
 use Rattle.nd_grammar.specs.Entry.{Kind, Entry, Align, Chunk}
 use Rattle.nd_grammar.specs.InPlace.{tests}
 use Rattle.nd_grammar.specs.Stream.{root_tests}
@@ -28,18 +28,9 @@ pub record Reading : Type 0 where
   pub progress : Progress
   pub names : Names
 
-abbrev pub set_nth : ℕ → Tree → List Referent → List Referent
-set_nth i v [] = []
-set_nth zero v (x ∷ xs) = record { of = x.of; val = v } ∷ xs
-set_nth (suc i) v (x ∷ xs) = x ∷ set_nth i v xs
-
-abbrev set_from : ℕ → Tree → List Referent → List Referent
-set_from zero v xs = xs
-set_from (suc i) v xs = set_nth i v xs
-
 -- the names with the value of a cell: cells are numbered from 1
 abbrev pub with_value : ℕ → Tree → Names → Names
-with_value c v s = record { cells = set_from c v s.cells; numbers = s.numbers }
+with_value c v s = record { cells = set_cell c v s.cells; numbers = s.numbers }
 
 -- the graph of these roots and cells
 abbrev pub graph_of : List Tree → Names → Graph

@@ -4,7 +4,7 @@
 use Rattle.std.specs.Prelude.{◌≡◌, ℕ, ◌+◌, ℤ, pos, ◌-ℤ◌}
 use Rattle.nd_types.specs.declared.types.Attr.{Attr}
 use Rattle.nd_types.specs.declared.types.Attr.TheVariants as attr
-use Rattle.nd_graph.specs.declared.item.Home.{Home}
+use Rattle.nd_value.specs.declared.item.Home.{Home}
 use Rattle.nd_grammar.specs.Entry.{Kind, Max, Offset, Actual, Tag, Unread, EntryAt}
 
 -- An entry is the count or tag that an attribute speaks of, and holds what was found: size_is and max_is speak of the maximum count,

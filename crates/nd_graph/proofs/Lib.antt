@@ -1,15 +1,4 @@
-pub mod Apart
-pub mod DeferralBridge
-pub mod DeferralExists
-pub mod DeferralLaws
-pub mod FewRoots
-pub mod LocalPass
-pub mod Misfits
-pub mod NodeFacts
-pub mod Orderly
 pub mod PlainFit
-pub mod SameCells
 pub mod SimpleCells
 pub mod Told
-pub mod Waiting
 pub mod WorkedFit

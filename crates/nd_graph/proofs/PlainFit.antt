@@ -19,24 +19,24 @@ use Rattle.nd_types.specs.Walk.{NamedRoot, named_root, named_roots}
 use Rattle.nd_types.proofs.LegalLaws.{passes_at}
 use Rattle.nd_types.proofs.NumberRoots.{primitive_roots}
 use Rattle.nd_graph.specs.Simple.{is_simple}
-use Rattle.nd_graph.specs.declared.value.Graph.{Graph}
-use Rattle.nd_graph.specs.declared.item.Home.{Home}
-use Rattle.nd_graph.specs.declared.item.Home.TheVariants as home
-use Rattle.nd_graph.specs.declared.misfit.MisfitReason.{MisfitReason}
-use Rattle.nd_graph.specs.Tree as tree
-use Rattle.nd_graph.specs.Tree.{Tree, Trees, node, none, more, node_count, Label, Referent}
-use Rattle.nd_graph.specs.Agreement.{Agreement}
-use Rattle.nd_graph.specs.Setting.{Setting, root_list, cell_home, Among}
-use Rattle.nd_graph.specs.Nodes.{TypedNode, child_types, child_agreements, first_agreements, rest_agreements, nodes_of, governed_nodes, home_nodes}
-use Rattle.nd_graph.specs.Deferral.{Pending, pointer_by, pointer, home_pointers}
-use Rattle.nd_graph.specs.Variables.{root_agreements}
-use Rattle.nd_graph.specs.Homes.{HomeNode, in_home, root_nodes, cell_nodes, all_nodes, all_pointers, root_pointers, cell_pointers}
-use Rattle.nd_graph.specs.Misfit.{misfit_of, has_shape, has_machine_values}
-use Rattle.nd_graph.specs.Conforms.{Conforms, HasFewNodes, Reached, by_root, by_cell, subject}
-use Rattle.nd_graph.specs.FirstMisfit.{MisfitAt, first_local, first_shared, IsFirstUnreached, disagreement_of, first_disagreeing, IsFirstMisfit, is_local, is_unreached}
-use Rattle.nd_graph.specs.Fitting.{setting_of}
-use Rattle.nd_graph.proofs.NodeFacts.{fit_node}
-use Rattle.nd_graph.proofs.Misfits.{all_left, all_both, all_weaker, Without, first-none, none-local, passed_conforms}
+use Rattle.nd_value.specs.declared.value.Graph.{Graph}
+use Rattle.nd_value.specs.declared.item.Home.{Home}
+use Rattle.nd_value.specs.declared.item.Home.TheVariants as home
+use Rattle.nd_value.specs.declared.misfit.MisfitReason.{MisfitReason}
+use Rattle.nd_value.specs.Tree as tree
+use Rattle.nd_value.specs.Tree.{Tree, Trees, node, none, more, node_count, Label, Referent}
+use Rattle.nd_value.specs.Agreement.{Agreement}
+use Rattle.nd_value.specs.Setting.{Setting, root_list, cell_home, Among}
+use Rattle.nd_value.specs.Nodes.{TypedNode, child_types, child_agreements, first_agreements, rest_agreements, nodes_of, governed_nodes, home_nodes}
+use Rattle.nd_value.specs.Deferral.{Pending, pointer_by, pointer, home_pointers}
+use Rattle.nd_value.specs.Variables.{root_agreements}
+use Rattle.nd_value.specs.Homes.{HomeNode, in_home, root_nodes, cell_nodes, all_nodes, all_pointers, root_pointers, cell_pointers}
+use Rattle.nd_value.specs.Misfit.{misfit_of, has_shape, has_machine_values}
+use Rattle.nd_value.specs.Conforms.{Conforms, HasFewNodes, Reached, by_root, by_cell, subject}
+use Rattle.nd_value.specs.FirstMisfit.{MisfitAt, first_local, first_shared, IsFirstUnreached, disagreement_of, first_disagreeing, IsFirstMisfit, is_local, is_unreached}
+use Rattle.nd_value.specs.Fitting.{setting_of}
+use Rattle.nd_value.proofs.NodeFacts.{fit_node}
+use Rattle.nd_value.proofs.Misfits.{all_left, all_both, all_weaker, Without, first-none, none-local, passed_conforms}
 
 no_pointer_by : (d : Option TypeDef) → is_simple d ≡ true → (b : Bool) (c : Option ℕ) (h : Home) (n : ℕ) (ags : List Agreement) → pointer_by d b c h n ags ≡ []
 no_pointer_by (Some (def.Pointer k to)) e b c h n ags = cc

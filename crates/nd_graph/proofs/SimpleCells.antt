@@ -8,8 +8,8 @@ use Rattle.nd_types.specs.declared.types.Operation.{Operation}
 use Rattle.nd_types.specs.Table.{Table, type_at}
 use Rattle.nd_types.specs.Kinds.{basic_types, is_basic}
 use Rattle.nd_types.specs.Plain.{IsPlainInterface}
-use Rattle.nd_graph.specs.declared.value.Graph.{Graph}
-use Rattle.nd_graph.specs.Tree.{Referent}
+use Rattle.nd_value.specs.declared.value.Graph.{Graph}
+use Rattle.nd_value.specs.Tree.{Referent}
 use Rattle.nd_graph.specs.Simple.{is_simple, has_simple_cells}
 
 simple_get : (ds : List TypeDef) (t : ℕ) → list_all is_basic ds ≡ true → is_simple (slice_get ds t) ≡ true

@@ -1,15 +1,15 @@
 -- What the passes tell is the first misfit.
 use Rattle.std.proofs.Common.{◌≡◌, ℕ, [], None, ap, sym, ◌∙◌, subst}
-use Rattle.nd_graph.specs.declared.value.Graph.{Graph}
-use Rattle.nd_graph.specs.declared.item.Home.{Home}
-use Rattle.nd_graph.specs.declared.misfit.MisfitReason.{MisfitReason}
-use Rattle.nd_graph.specs.declared.misfit.Misfit.{Misfit}
-use Rattle.nd_graph.specs.declared.misfit.Misfit.TheVariants as answer
-use Rattle.nd_graph.specs.Setting.{Setting, cell_home}
-use Rattle.nd_graph.specs.Homes.{all_pointers}
-use Rattle.nd_graph.specs.FirstMisfit.{MisfitAt, first_local, first_shared, first_disagreeing, IsFirstMisfit, is_local, is_shared, is_unreached, is_disagreeing, IsMisfit, IsOfNoFit}
-use Rattle.nd_graph.specs.Passes.{Tells, TellsUnreached, AreReached}
-use Rattle.nd_graph.proofs.Misfits.{misfit_is_no_fit}
+use Rattle.nd_value.specs.declared.value.Graph.{Graph}
+use Rattle.nd_value.specs.declared.item.Home.{Home}
+use Rattle.nd_value.specs.declared.misfit.MisfitReason.{MisfitReason}
+use Rattle.nd_value.specs.declared.misfit.Misfit.{Misfit}
+use Rattle.nd_value.specs.declared.misfit.Misfit.TheVariants as answer
+use Rattle.nd_value.specs.Setting.{Setting, cell_home}
+use Rattle.nd_value.specs.Homes.{all_pointers}
+use Rattle.nd_value.specs.FirstMisfit.{MisfitAt, first_local, first_shared, first_disagreeing, IsFirstMisfit, is_local, is_shared, is_unreached, is_disagreeing, IsMisfit, IsOfNoFit}
+use Rattle.nd_value.specs.Passes.{Tells, TellsUnreached, AreReached}
+use Rattle.nd_value.proofs.Misfits.{misfit_is_no_fit}
 
 module _ (w : Setting) (g : Graph) where
   pub told_local : (e : Misfit) → Tells (first_local w g) e → IsMisfit w g e

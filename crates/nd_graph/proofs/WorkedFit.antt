@@ -15,12 +15,13 @@ use Rattle.nd_types.specs.Roots.{roots_of}
 use Rattle.nd_types.specs.Table.{Table}
 use Rattle.nd_types.proofs.NumberSides.{plain_numbers}
 use Rattle.nd_types.proofs.PlainLaws.{plain_is_legal}
-use Rattle.nd_graph.specs.declared.value.Graph.{Graph}
-use Rattle.nd_graph.specs.Tree as tree
-use Rattle.nd_graph.specs.Tree.{Tree, node, none, Referent}
-use Rattle.nd_graph.specs.Setting.{Setting}
-use Rattle.nd_graph.specs.Conforms.{Conforms}
-use Rattle.nd_graph.specs.Fitting.{setting_of, IsFit}
+use Rattle.nd_value.specs.declared.value.Graph.{Graph}
+use Rattle.nd_value.specs.Tree as tree
+use Rattle.nd_value.specs.Tree.{Tree, node, none, Referent}
+use Rattle.nd_value.specs.Setting.{Setting}
+use Rattle.nd_value.specs.Conforms.{Conforms}
+use Rattle.nd_value.specs.Fitting.{setting_of}
+use Rattle.nd_graph.specs.Fitting.{IsFit}
 use Rattle.nd_graph.specs.WorkedFit.{add_params, add, one_two_three}
 
 abbrev only : {X : Type 0} (P : X → Type 0) → (x : X) → P x → All P (x ∷ [])

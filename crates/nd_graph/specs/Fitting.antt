@@ -1,6 +1,6 @@
 -- What a fit is seen as: a graph that conforms to an operation's side, under an interface.
 -- `f` is a fitting, `i` an interface, `o` an operation, `s` a side.
-use Rattle.std.specs.Prelude.{◌≡◌, ℕ, List, Option, Some, None, refl}
+use Rattle.std.specs.Prelude.{◌≡◌, ℕ, List, Some, refl}
 use Rattle.std.specs.List.{slice_get}
 use Rattle.std.specs.Coded.{Coded, code_by, coded×, coded_list, coded_ℕ}
 use Rattle.nd_types.specs.declared.interface.Interface.{Interface}
@@ -8,14 +8,10 @@ use Rattle.nd_types.specs.declared.types.Operation.{Operation}
 use Rattle.nd_types.specs.declared.types.Side.{Side}
 use Rattle.nd_types.specs.contracts.types.Side as side
 use Rattle.nd_types.specs.contracts.interface.Interface as interface
-use Rattle.nd_graph.specs.declared.value.Graph.{Graph}
-use Rattle.nd_graph.specs.Setting.{Setting}
-use Rattle.nd_graph.specs.Conforms.{Conforms}
-use Rattle.nd_graph.specs.Tree.{Tree, Referent, tree_code, referent_code}
-
--- an operation's side under an interface, beside no request
-abbrev pub setting_of : Interface → Operation → Side → Setting
-setting_of i o s = record { table = i.types; op = o; side = s; given = None }
+use Rattle.nd_value.specs.declared.value.Graph.{Graph}
+use Rattle.nd_value.specs.Fitting.{setting_of}
+use Rattle.nd_value.specs.Conforms.{Conforms}
+use Rattle.nd_value.specs.Tree.{Tree, Referent, tree_code, referent_code}
 
 -- a graph, the number of an operation, a side, and their interface
 pub record Fitting : Type 0 where

@@ -4,7 +4,7 @@ use Rattle.std.specs.List.{list_all}
 use Rattle.nd_types.specs.declared.types.TypeDef.{TypeDef}
 use Rattle.nd_types.specs.Table.{Table, type_at}
 use Rattle.nd_types.specs.Kinds.{is_basic}
-use Rattle.nd_graph.specs.declared.value.Graph.{Graph}
+use Rattle.nd_value.specs.declared.value.Graph.{Graph}
 
 -- a primitive, a context handle, or nothing
 abbrev pub is_simple : Option TypeDef → Bool

@@ -3,8 +3,8 @@ use Rattle.std.specs.Prelude.{pos, List, [], ◌∷◌, None, codes}
 use Rattle.nd_types.specs.declared.types.Param.{Param}
 use Rattle.nd_types.specs.declared.types.Operation.{Operation}
 use Rattle.nd_types.specs.Plain.{plain_param}
-use Rattle.nd_graph.specs.Tree as tree
-use Rattle.nd_graph.specs.Tree.{Tree, node, none}
+use Rattle.nd_value.specs.Tree as tree
+use Rattle.nd_value.specs.Tree.{Tree, node, none}
 
 abbrev pub add_params : List Param
 add_params = plain_param (codes "a") 7 ∷ plain_param (codes "b") 5 ∷ plain_param (codes "c") 9 ∷ []

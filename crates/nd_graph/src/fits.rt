@@ -2,8 +2,8 @@
 ghost use Rattle.std.specs.Prelude.{◌≡◌};
 ghost use Rattle.nd_graph.specs.Fitting.{IsFit};
 
-use crate::Graph;
 use nd_types::{Side, Tie};
+use nd_value::Graph;
 use std::marker::Model;
 
 /// A graph that conforms to a side of an operation of an interface. Contracts see the graph, the operation's number, the side and

@@ -3,15 +3,16 @@ ghost use Rattle.std.specs.Prelude.{◌≡◌, ◌<◌, ◌^◌, [], length, sli
 ghost use Rattle.nd_types.specs.declared.types.Operation.{Operation};
 ghost use Rattle.nd_types.specs.Numbers.{IsNumberSide};
 ghost use Rattle.nd_graph.specs.Simple.{has_simple_cells};
-ghost use Rattle.nd_graph.specs.Homes.{all_pointers};
-ghost use Rattle.nd_graph.specs.Conforms.{Conforms, HasFewNodes};
-ghost use Rattle.nd_graph.specs.Fitting.{setting_of};
-ghost use Rattle.nd_graph.specs.FirstMisfit.{IsMisfit, IsOfNoFit, first_shared, first_disagreeing};
-ghost use Rattle.nd_graph.specs.Passes.{Tells, TellsUnreached, AreReached};
+ghost use Rattle.nd_value.specs.Homes.{all_pointers};
+ghost use Rattle.nd_value.specs.Conforms.{Conforms, HasFewNodes};
+ghost use Rattle.nd_value.specs.Fitting.{setting_of};
+ghost use Rattle.nd_value.specs.FirstMisfit.{IsMisfit, IsOfNoFit, first_shared, first_disagreeing};
+ghost use Rattle.nd_value.specs.Passes.{Tells, TellsUnreached, AreReached};
 
+use crate::Fit;
 use crate::local::local;
-use crate::{CellId, Fit, Graph, Home, Misfit, MisfitReason};
 use nd_types::{Interface, Side};
+use nd_value::{CellId, Graph, Home, Misfit, MisfitReason};
 use std::alloc::Global;
 
 /// Takes over a graph that conforms to a side of an operation, or hands it back unchanged with its first misfit.

@@ -6,23 +6,16 @@ ghost use Rattle.nd_types.specs.Table.{Table, type_at, in_range, least, greatest
 ghost use Rattle.nd_types.specs.Walk.{named_roots};
 ghost use Rattle.nd_types.specs.Numbers.{IsNumberSide};
 ghost use Rattle.nd_graph.specs.Simple.{is_simple, has_simple_cells};
-ghost use Rattle.nd_graph.specs.declared.value.Graph.{Graph as GraphValue};
-ghost use Rattle.nd_graph.specs.Tree.{more, none};
-ghost use Rattle.nd_graph.specs.Seen.{tree_of};
-ghost use Rattle.nd_graph.specs.Misfit.{misfit_of};
-ghost use Rattle.nd_graph.specs.Fitting.{setting_of};
-ghost use Rattle.nd_graph.specs.FirstMisfit.{first_local};
-ghost use Rattle.nd_graph.specs.Passes.{Tells, lone_node, first_in, first_in_home, first_in_roots, first_in_cells};
+ghost use Rattle.nd_value.specs.declared.value.Graph.{Graph as GraphValue};
+ghost use Rattle.nd_value.specs.Tree.{more, none};
+ghost use Rattle.nd_value.specs.Seen.{tree_of};
+ghost use Rattle.nd_value.specs.Misfit.{misfit_of};
+ghost use Rattle.nd_value.specs.Fitting.{setting_of};
+ghost use Rattle.nd_value.specs.FirstMisfit.{first_local};
+ghost use Rattle.nd_value.specs.Passes.{Tells, lone_node, first_in, first_in_home, first_in_roots, first_in_cells};
 
-use crate::{CellId, Graph, Home, Misfit, MisfitReason, Val};
 use nd_types::{Interface, Prim, Side, TypeDef, TypeId, Types};
-
-// A misfit in a home: the number of its node, and why.
-#[derive(Clone, Copy, Debug, PartialEq, Eq)]
-struct NodeMisfit {
-    node: u32,
-    reason: MisfitReason,
-}
+use nd_value::{CellId, Graph, Home, Misfit, MisfitReason, NodeMisfit, Val};
 
 // The first node that has a misfit by itself. A root that is missing or too many comes behind the roots that are there.
 pub(crate) fn local(interface: &Interface, op: u32, side: Side, graph: &Graph) -> Result<(), Misfit>

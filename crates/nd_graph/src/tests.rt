@@ -5,7 +5,7 @@ ghost use Rattle.nd_types.specs.Numbers.{IsNumberSide};
 ghost use Rattle.nd_types.specs.Plain.{plain_param};
 ghost use Rattle.nd_graph.specs.WorkedFit.{add_params, add, one_two_three};
 
-use crate::{ArmVal, Cell, CellId, Cells, Fit, Graph, Val, Vals, fit};
+use crate::{Cells, Fit, Graph, Val, Vals, fit};
 use nd_base::{Memory, Name};
 use nd_types::{
     AttrVars, Field, Interface, Operation, Operations, Param, Params, Side, TypeId, Types, Way,
@@ -119,42 +119,6 @@ fn fits_are_adopted(rt: HostRuntime) -> Result<(), Fail> {
     assert!(rt; is_number(graph.roots.get(1), 2));
     assert!(rt; is_number(graph.roots.get(2), 3));
     assert!(rt; graph.roots.get(3).is_none());
-    Ok(())
-}
-
-// p = @1, @1 = {v = 7, next = @1}: a node that points to itself.
-#[test]
-fn cells_are_kept(rt: HostRuntime) -> Result<(), Fail> {
-    let alloc = rt.alloc();
-    let mut members = Vals::new(alloc);
-    assert!(rt; members.push(Val::Num(7)).is_ok());
-    assert!(rt; members.push(Val::Ptr(Some(CellId(1)))).is_ok());
-    let mut cells = Cells::new(alloc);
-    let node = Cell {
-        of: TypeId(12),
-        val: Val::Rec(members),
-    };
-    assert!(rt; cells.push(node).is_ok());
-    assert_eq!(rt; cells.len(), 1);
-    assert!(rt; cells.get(1).is_none());
-    let node = cells.get(0).ok_or("node")?;
-    assert_eq!(rt; node.of, TypeId(12));
-    match &node.val {
-        Val::Rec(members) => {
-            assert!(rt; is_number(members.get(0), 7));
-            assert!(rt; matches!(members.get(1), Some(Val::Ptr(Some(CellId(1))))));
-        }
-        _ => assert!(rt; false),
-    }
-    Ok(())
-}
-
-// 9:1 and 9:void, unions whose tag is 9.
-#[test]
-fn arms_are_kept(rt: HostRuntime) -> Result<(), Fail> {
-    let arm = ArmVal::of(Box::new(rt.alloc(), Val::Num(1))?);
-    assert!(rt; is_number(arm.get(), 1));
-    assert!(rt; ArmVal::none().get().is_none());
     Ok(())
 }
 

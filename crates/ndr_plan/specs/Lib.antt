@@ -1,0 +1,4 @@
+pub mod Addresses
+pub mod Listing
+pub mod Numbers
+pub mod Parts

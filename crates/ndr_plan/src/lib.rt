@@ -1,10 +1,23 @@
-//! How the types of an interface are laid out in a stream (C706, 14.2 and 14.3).
+//! How the types of an interface are laid out in a stream (C706, 14.2 and 14.3), as a flat plan, and the listing of a plan.
 #![tactic(auto)]
 
 ghost use Rattle.std.specs.Prelude.{◌≡◌, ◌<◌, length};
 ghost use Rattle.nd_types.specs.Layout.{align_of};
 
+mod addresses;
+mod instr_words;
+mod making;
+mod plan_lines;
+mod root_numbers;
+mod side_code;
+mod type_code;
+
+pub use making::make;
 use nd_types::{Interface, TypeId};
+pub use ndr_code::{
+    ADDRESS_LIMIT, Code, EnumList, EnumLists, Instr, Plan, PlanLine, PlanLines, SideStarts,
+};
+pub use plan_lines::listing;
 
 #[cfg(test)]
 mod tests;

@@ -1,5 +1,5 @@
-// The alignments of the basic types.
-use crate::align_of;
+// The alignments of the basic types, and the plan of an interface without operations.
+use crate::{align_of, listing, make};
 use nd_base::{Memory, Name};
 use nd_types::{Interface, Operations, TypeId, Types};
 use std::alloc::Global;
@@ -32,5 +32,21 @@ fn basic_types_are_aligned(rt: HostRuntime) -> Result<(), Fail> {
             assert_eq!(rt; align_of(&interface, TypeId(of)), *align);
         }
     }
+    Ok(())
+}
+
+// The plan of the basic types, with which each plan begins.
+const BASIC: &[u8] = b"0 void\n1 ret\n2 num 0\n3 ret\n4 num 1\n5 ret\n6 num 2\n7 ret\n8 num 3\n\
+    9 ret\n10 num 4\n11 ret\n12 align 2\n13 num 5\n14 ret\n15 align 2\n16 num 6\n17 ret\n\
+    18 align 4\n19 num 7\n20 ret\n21 align 4\n22 num 8\n23 ret\n24 align 8\n25 num 9\n26 ret\n\
+    27 align 8\n28 num 10\n29 ret\n30 align 4\n31 context\n32 ret\n";
+
+#[test]
+fn basic_types_are_planned(rt: HostRuntime) -> Result<(), Fail> {
+    let interface = interface(rt.alloc())?;
+    let plan = make(rt.alloc(), &interface)?;
+    assert_eq!(rt; plan.code.len(), 33);
+    let text = listing(rt.alloc(), &plan)?;
+    assert_eq!(rt; text.as_slice(), BASIC);
     Ok(())
 }

@@ -3,13 +3,13 @@ use Rattle.std.proofs.Common.{◌≡◌, ℕ, List, [], ◌∷◌, refl, inl, li
 use Rattle.nd_base.specs.declared.octets.Order.TheVariants.{Little}
 use Rattle.nd_types.specs.Layout.{hoists}
 use Rattle.nd_types.specs.Legal.{IsLegal, is_shallow, element_count, fits_pipes}
-use Rattle.nd_graph.specs.declared.value.Graph.{Graph}
-use Rattle.nd_graph.specs.Setting.{root_list}
-use Rattle.nd_graph.specs.Conforms.{Conforms}
-use Rattle.nd_graph.specs.Deferral.{Deferral, Step, due_roots, before_pipes}
-use Rattle.nd_graph.specs.Same.{Same}
-use Rattle.nd_graph.proofs.DeferralBridge.{deferral_is}
-use Rattle.nd_graph.proofs.NodeFacts.{sound_conforming}
+use Rattle.nd_value.specs.declared.value.Graph.{Graph}
+use Rattle.nd_value.specs.Setting.{root_list}
+use Rattle.nd_value.specs.Conforms.{Conforms}
+use Rattle.nd_value.specs.Deferral.{Deferral, Step, due_roots, before_pipes}
+use Rattle.nd_value.specs.Same.{Same}
+use Rattle.nd_value.proofs.DeferralBridge.{deferral_is}
+use Rattle.nd_value.proofs.NodeFacts.{sound_conforming}
 use Rattle.nd_grammar.specs.LegalSide.{IsLegalSide}
 use Rattle.nd_grammar.specs.Represents.{Represents}
 use Rattle.nd_grammar.specs.Bad.{Bad}

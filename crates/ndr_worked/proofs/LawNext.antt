@@ -6,10 +6,10 @@ use Rattle.nd_base.specs.declared.octets.Order.{Order}
 use Rattle.nd_base.specs.declared.octets.Order.TheVariants.{Little}
 use Rattle.nd_types.specs.Layout.{align_of, hoists}
 use Rattle.nd_types.specs.Roots.{roots_of}
-use Rattle.nd_graph.specs.declared.value.Graph.{Graph}
-use Rattle.nd_graph.specs.Conforms.{IsPartial}
-use Rattle.nd_graph.specs.Setting.{Setting, Among}
-use Rattle.nd_graph.proofs.NodeFacts.{sound_partial}
+use Rattle.nd_value.specs.declared.value.Graph.{Graph}
+use Rattle.nd_value.specs.Conforms.{IsPartial}
+use Rattle.nd_value.specs.Setting.{Setting, Among}
+use Rattle.nd_value.proofs.NodeFacts.{sound_partial}
 use Rattle.nd_grammar.specs.Bad.{Bad}
 use Rattle.nd_grammar.specs.Entry.{Entry, size_at, end_to_end}
 use Rattle.nd_grammar.specs.Represents.{IsRendered}

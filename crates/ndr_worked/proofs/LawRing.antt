@@ -6,13 +6,13 @@ use Rattle.nd_types.specs.declared.types.TypeDef.TheVariants as def
 use Rattle.nd_types.specs.declared.types.Class.TheVariants.{Full}
 use Rattle.nd_types.specs.Layout.{align_of, hoists}
 use Rattle.nd_types.specs.Roots.{roots_of}
-use Rattle.nd_graph.specs.declared.value.Graph.{Graph}
-use Rattle.nd_graph.specs.declared.item.Home.TheVariants as home
-use Rattle.nd_graph.specs.Tree.{Referent}
-use Rattle.nd_graph.specs.Setting.{Setting, unread, cell_home}
-use Rattle.nd_graph.specs.Deferral.{Pending}
-use Rattle.nd_graph.specs.Homes.{all_pointers}
-use Rattle.nd_graph.specs.Conforms.{Conforms, Reached, by_root, by_cell}
+use Rattle.nd_value.specs.declared.value.Graph.{Graph}
+use Rattle.nd_value.specs.declared.item.Home.TheVariants as home
+use Rattle.nd_value.specs.Tree.{Referent}
+use Rattle.nd_value.specs.Setting.{Setting, unread, cell_home}
+use Rattle.nd_value.specs.Deferral.{Pending}
+use Rattle.nd_value.specs.Homes.{all_pointers}
+use Rattle.nd_value.specs.Conforms.{Conforms, Reached, by_root, by_cell}
 use Rattle.nd_grammar.specs.declared.reason.Reason.TheVariants as reason
 use Rattle.nd_grammar.specs.Represents.{Represents}
 use Rattle.nd_grammar.specs.Bad.{Bad}

@@ -9,11 +9,11 @@ use Rattle.nd_types.specs.declared.types.Way.TheVariants as way
 use Rattle.nd_types.specs.Layout.{align_of, hoists}
 use Rattle.nd_types.specs.Roots.{roots_of}
 use Rattle.nd_types.proofs.LegalExamples.{sums, sums_are_legal, operation, param, taking}
-use Rattle.nd_graph.specs.declared.value.Graph.{Graph}
-use Rattle.nd_graph.specs.Canon.{canonical_number, named_cells}
-use Rattle.nd_graph.specs.Conforms.{Conforms, IsPartial}
-use Rattle.nd_graph.specs.Setting.{Setting, Among, cell_home}
-use Rattle.nd_graph.proofs.NodeFacts.{sound_conforming, sound_partial}
+use Rattle.nd_value.specs.declared.value.Graph.{Graph}
+use Rattle.nd_value.specs.Canon.{canonical_number, named_cells}
+use Rattle.nd_value.specs.Conforms.{Conforms, IsPartial}
+use Rattle.nd_value.specs.Setting.{Setting, Among, cell_home}
+use Rattle.nd_value.proofs.NodeFacts.{sound_conforming, sound_partial}
 use Rattle.nd_grammar.specs.declared.reason.Reason.TheVariants as reason
 use Rattle.nd_grammar.specs.Bad.{Bad}
 use Rattle.nd_grammar.specs.Entry.{Entry, EntryAt, end_to_end}

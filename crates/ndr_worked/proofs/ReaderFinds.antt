@@ -1,6 +1,6 @@
 -- What the reader finds.
 use Rattle.std.proofs.Common.{◌≡◌, ℕ, Some, None}
-use Rattle.nd_graph.specs.declared.value.Graph.{Graph}
+use Rattle.nd_value.specs.declared.value.Graph.{Graph}
 use Rattle.nd_grammar.specs.declared.reason.Reason.{Reason}
 use Rattle.nd_grammar.specs.StreamReader.{Found}
 

@@ -7,15 +7,15 @@ use Rattle.nd_types.specs.declared.types.Attr.TheVariants as attr
 use Rattle.nd_types.specs.declared.types.Class.TheVariants.{Ref}
 use Rattle.nd_types.specs.Layout.{align_of, hoists}
 use Rattle.nd_types.specs.Roots.{roots_of}
-use Rattle.nd_graph.specs.declared.value.Graph.{Graph}
-use Rattle.nd_graph.specs.declared.item.Item.{Item}
-use Rattle.nd_graph.specs.declared.item.ItemKind.{ItemKind}
-use Rattle.nd_graph.specs.declared.item.ItemKind.TheVariants as item
-use Rattle.nd_graph.specs.declared.misfit.MisfitReason.TheVariants as misfit
-use Rattle.nd_graph.specs.Tree as tree
-use Rattle.nd_graph.specs.Tree.{Tree, node, none, more}
-use Rattle.nd_graph.specs.Setting.{Setting, unread, cell_home}
-use Rattle.nd_graph.specs.FirstMisfit.{IsFirstMisfit, is_local}
+use Rattle.nd_value.specs.declared.value.Graph.{Graph}
+use Rattle.nd_value.specs.declared.item.Item.{Item}
+use Rattle.nd_value.specs.declared.item.ItemKind.{ItemKind}
+use Rattle.nd_value.specs.declared.item.ItemKind.TheVariants as item
+use Rattle.nd_value.specs.declared.misfit.MisfitReason.TheVariants as misfit
+use Rattle.nd_value.specs.Tree as tree
+use Rattle.nd_value.specs.Tree.{Tree, node, none, more}
+use Rattle.nd_value.specs.Setting.{Setting, unread, cell_home}
+use Rattle.nd_value.specs.FirstMisfit.{IsFirstMisfit, is_local}
 use Rattle.nd_grammar.specs.declared.reason.Reason.TheVariants as reason
 use Rattle.nd_grammar.specs.Entry.{Entry, end_to_end}
 use Rattle.nd_grammar.specs.Stream.{representation}

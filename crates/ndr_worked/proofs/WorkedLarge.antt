@@ -12,17 +12,17 @@ use Rattle.nd_types.specs.declared.types.Class.TheVariants.{Ref}
 use Rattle.nd_types.specs.Number.{unsigned}
 use Rattle.nd_types.specs.Layout.{align_of, hoists}
 use Rattle.nd_types.specs.Roots.{roots_of}
-use Rattle.nd_graph.specs.declared.value.Graph.{Graph}
-use Rattle.nd_graph.specs.declared.item.Home.{Home}
-use Rattle.nd_graph.specs.declared.item.Home.TheVariants as home
-use Rattle.nd_graph.specs.Tree as tree
-use Rattle.nd_graph.specs.Tree.{Tree, Trees, node, none, more, trees, count}
-use Rattle.nd_graph.specs.Setting.{Setting, unread, cell_home}
-use Rattle.nd_graph.specs.Nodes.{TypedNode, nodes_of}
-use Rattle.nd_graph.specs.Homes.{HomeNode}
-use Rattle.nd_graph.specs.Deferral.{root_stands, Deferral, none_due, at_root, due_referent, pointer, Pending}
-use Rattle.nd_graph.specs.Conforms.{IsPartial, AllEarlier, ShareOnlyIfFull}
-use Rattle.nd_graph.specs.Misfit.{has_machine_values, is_partial_node}
+use Rattle.nd_value.specs.declared.value.Graph.{Graph}
+use Rattle.nd_value.specs.declared.item.Home.{Home}
+use Rattle.nd_value.specs.declared.item.Home.TheVariants as home
+use Rattle.nd_value.specs.Tree as tree
+use Rattle.nd_value.specs.Tree.{Tree, Trees, node, none, more, trees, count}
+use Rattle.nd_value.specs.Setting.{Setting, unread, cell_home}
+use Rattle.nd_value.specs.Nodes.{TypedNode, nodes_of}
+use Rattle.nd_value.specs.Homes.{HomeNode}
+use Rattle.nd_value.specs.Deferral.{root_stands, Deferral, none_due, at_root, due_referent, pointer, Pending}
+use Rattle.nd_value.specs.Conforms.{IsPartial, AllEarlier, ShareOnlyIfFull}
+use Rattle.nd_value.specs.Misfit.{has_machine_values, is_partial_node}
 use Rattle.nd_grammar.specs.declared.reason.Reason.TheVariants as reason
 use Rattle.nd_grammar.specs.Entry.{Entry, EntryAt, Text, Test, end_to_end, full_cells, size_at}
 use Rattle.nd_grammar.specs.InPlace.{in_place, child_tests}

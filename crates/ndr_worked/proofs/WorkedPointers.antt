@@ -9,18 +9,18 @@ use Rattle.nd_types.specs.declared.types.Attr.TheVariants as attr
 use Rattle.nd_types.specs.declared.types.Class.TheVariants.{Full}
 use Rattle.nd_types.specs.Layout.{align_of, hoists}
 use Rattle.nd_types.specs.Roots.{roots_of}
-use Rattle.nd_graph.specs.declared.value.Graph.{Graph}
-use Rattle.nd_graph.specs.declared.item.Home.TheVariants as home
-use Rattle.nd_graph.specs.declared.misfit.MisfitReason.TheVariants as misfit
-use Rattle.nd_graph.specs.Tree as tree
-use Rattle.nd_graph.specs.Tree.{Tree, node, none, more, Referent}
-use Rattle.nd_graph.specs.Setting.{Setting, unread, cell_home, cell_of_number, Among}
-use Rattle.nd_graph.specs.Deferral.{Pending, home_pointers}
-use Rattle.nd_graph.specs.Homes.{all_pointers}
-use Rattle.nd_graph.specs.Same.{renumbered}
-use Rattle.nd_graph.specs.Canon.{IsCanon, canonical_number}
-use Rattle.nd_graph.specs.Conforms.{Conforms, Reached, by_root, by_cell}
-use Rattle.nd_graph.specs.FirstMisfit.{IsFirstMisfit, is_local, is_shared, is_unreached}
+use Rattle.nd_value.specs.declared.value.Graph.{Graph}
+use Rattle.nd_value.specs.declared.item.Home.TheVariants as home
+use Rattle.nd_value.specs.declared.misfit.MisfitReason.TheVariants as misfit
+use Rattle.nd_value.specs.Tree as tree
+use Rattle.nd_value.specs.Tree.{Tree, node, none, more, Referent}
+use Rattle.nd_value.specs.Setting.{Setting, unread, cell_home, cell_of_number, Among}
+use Rattle.nd_value.specs.Deferral.{Pending, home_pointers}
+use Rattle.nd_value.specs.Homes.{all_pointers}
+use Rattle.nd_value.specs.Same.{renumbered}
+use Rattle.nd_value.specs.Canon.{IsCanon, canonical_number}
+use Rattle.nd_value.specs.Conforms.{Conforms, Reached, by_root, by_cell}
+use Rattle.nd_value.specs.FirstMisfit.{IsFirstMisfit, is_local, is_shared, is_unreached}
 use Rattle.nd_grammar.specs.declared.reason.Reason.TheVariants as reason
 use Rattle.nd_grammar.specs.Represents.{Represents}
 use Rattle.nd_grammar.specs.Bad.{Bad}

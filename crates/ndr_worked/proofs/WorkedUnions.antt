@@ -6,13 +6,13 @@ use Rattle.nd_types.specs.declared.types.TypeDef.TheVariants as def
 use Rattle.nd_types.specs.declared.types.Attr.TheVariants as attr
 use Rattle.nd_types.specs.Layout.{align_of, hoists}
 use Rattle.nd_types.specs.Roots.{roots_of}
-use Rattle.nd_graph.specs.declared.value.Graph.{Graph}
-use Rattle.nd_graph.specs.declared.item.Home.TheVariants as home
-use Rattle.nd_graph.specs.declared.misfit.MisfitReason.TheVariants as misfit
-use Rattle.nd_graph.specs.Tree as tree
-use Rattle.nd_graph.specs.Tree.{Tree, Trees, node, none, more}
-use Rattle.nd_graph.specs.Setting.{Setting, unread}
-use Rattle.nd_graph.specs.FirstMisfit.{IsFirstMisfit, is_local, is_disagreeing}
+use Rattle.nd_value.specs.declared.value.Graph.{Graph}
+use Rattle.nd_value.specs.declared.item.Home.TheVariants as home
+use Rattle.nd_value.specs.declared.misfit.MisfitReason.TheVariants as misfit
+use Rattle.nd_value.specs.Tree as tree
+use Rattle.nd_value.specs.Tree.{Tree, Trees, node, none, more}
+use Rattle.nd_value.specs.Setting.{Setting, unread}
+use Rattle.nd_value.specs.FirstMisfit.{IsFirstMisfit, is_local, is_disagreeing}
 use Rattle.nd_grammar.specs.declared.reason.Reason.TheVariants as reason
 use Rattle.nd_grammar.specs.Represents.{Represents}
 use Rattle.nd_grammar.specs.Bad.{Bad}

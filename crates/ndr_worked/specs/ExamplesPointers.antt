@@ -2,8 +2,8 @@
 use Rattle.std.specs.Prelude.{ℕ, pos, List, [], ◌∷◌}
 use Rattle.nd_types.specs.declared.types.TypeDef.TheVariants as def
 use Rattle.nd_types.specs.declared.types.Class.TheVariants.{Ref, Unique, Full}
-use Rattle.nd_graph.specs.declared.value.Graph.{Graph}
-use Rattle.nd_graph.specs.Setting.{Setting}
+use Rattle.nd_value.specs.declared.value.Graph.{Graph}
+use Rattle.nd_value.specs.Setting.{Setting}
 use Rattle.nd_grammar.specs.ExampleParts.{request, param, field, id, num, pointer_to, null, one, two, struct_of, cell, four}
 
 -- struct leaf { long v; } (12), a full pointer to it (13), struct x { leaf *y; leaf *z; } (14), a full pointer to it (15),

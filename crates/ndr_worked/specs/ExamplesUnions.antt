@@ -3,10 +3,10 @@ use Rattle.std.specs.Prelude.{ℕ, true, pos, List, [], ◌∷◌, Option, Some}
 use Rattle.nd_types.specs.declared.types.TypeDef.TheVariants as def
 use Rattle.nd_types.specs.declared.types.Arm.{Arm}
 use Rattle.nd_types.specs.declared.types.Class.TheVariants.{Ref}
-use Rattle.nd_graph.specs.declared.value.Graph.{Graph}
-use Rattle.nd_graph.specs.Tree as tree
-use Rattle.nd_graph.specs.Tree.{Tree, Trees, node, none, more, Referent}
-use Rattle.nd_graph.specs.Setting.{Setting}
+use Rattle.nd_value.specs.declared.value.Graph.{Graph}
+use Rattle.nd_value.specs.Tree as tree
+use Rattle.nd_value.specs.Tree.{Tree, Trees, node, none, more, Referent}
+use Rattle.nd_value.specs.Setting.{Setting}
 use Rattle.nd_grammar.specs.ExampleParts.{request, param, arm, id, num, pointer_to, three, cell, four}
 
 -- union u switch (short k) { case 1: long a; .. } (12), with a default or without, and void pick(u *p) by a reference pointer (13)

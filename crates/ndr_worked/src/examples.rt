@@ -4,12 +4,12 @@
 
 ghost use Rattle.std.specs.Prelude.{[], ◌∷◌, pos, Some, None};
 ghost use Rattle.nd_base.specs.declared.octets.Order.TheVariants.{Big, Little};
-ghost use Rattle.nd_graph.specs.declared.item.Home.TheVariants as home;
-ghost use Rattle.nd_graph.specs.declared.misfit.MisfitReason.TheVariants as misfit;
-ghost use Rattle.nd_graph.specs.Setting.{cell_home};
-ghost use Rattle.nd_graph.specs.Conforms.{Conforms};
-ghost use Rattle.nd_graph.specs.Canon.{IsCanon};
-ghost use Rattle.nd_graph.specs.FirstMisfit.{IsFirstMisfit};
+ghost use Rattle.nd_value.specs.declared.item.Home.TheVariants as home;
+ghost use Rattle.nd_value.specs.declared.misfit.MisfitReason.TheVariants as misfit;
+ghost use Rattle.nd_value.specs.Setting.{cell_home};
+ghost use Rattle.nd_value.specs.Conforms.{Conforms};
+ghost use Rattle.nd_value.specs.Canon.{IsCanon};
+ghost use Rattle.nd_value.specs.FirstMisfit.{IsFirstMisfit};
 ghost use Rattle.nd_grammar.specs.Represents.{Represents};
 ghost use Rattle.nd_grammar.specs.Bad.{Bad};
 ghost use Rattle.nd_grammar.specs.Chosen.{Chosen};

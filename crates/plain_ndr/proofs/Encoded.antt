@@ -10,10 +10,11 @@ use Rattle.nd_types.specs.declared.types.Primitive.{Primitive}
 use Rattle.nd_types.specs.declared.types.Side.{Side}
 use Rattle.nd_types.specs.Roots.{roots_of}
 use Rattle.nd_types.specs.Numbers.{has_number_roots, IsNumberSide}
-use Rattle.nd_graph.specs.declared.value.Graph.{Graph}
-use Rattle.nd_graph.specs.Tree.{Tree, Referent}
-use Rattle.nd_graph.specs.Fitting.{Fitting, IsFit, setting_of}
-use Rattle.nd_graph.specs.Conforms.{Conforms}
+use Rattle.nd_value.specs.declared.value.Graph.{Graph}
+use Rattle.nd_value.specs.Tree.{Tree, Referent}
+use Rattle.nd_value.specs.Fitting.{setting_of}
+use Rattle.nd_graph.specs.Fitting.{Fitting, IsFit}
+use Rattle.nd_value.specs.Conforms.{Conforms}
 use Rattle.nd_grammar.specs.Chosen.{Chosen}
 use Rattle.nd_grammar.specs.Plain.{IsPlain, plain_graph}
 use Rattle.nd_grammar.specs.Primitives.{root_primitive}

@@ -14,7 +14,7 @@ use Rattle.nd_types.specs.declared.types.Primitive.TheVariants.{Boolean}
 use Rattle.nd_types.specs.Table.{width, in_range}
 use Rattle.nd_types.specs.Number.{written}
 use Rattle.nd_types.proofs.NumberLaws.{written-length}
-use Rattle.nd_graph.specs.Tree.{Tree}
+use Rattle.nd_value.specs.Tree.{Tree}
 use Rattle.nd_grammar.specs.Entry.{gap}
 use Rattle.nd_grammar.specs.Plain.{AreInRange, number, numbers_written, plain_end}
 use Rattle.nd_grammar.proofs.PlainSteps.{start_of, end_of_number, end_small}

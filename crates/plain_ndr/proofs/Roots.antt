@@ -6,7 +6,7 @@ use Rattle.nd_types.specs.declared.types.Operation.{Operation}
 use Rattle.nd_types.specs.Table.{Table, type_at}
 use Rattle.nd_types.specs.Roots.{Root}
 use Rattle.nd_types.specs.Walk.{NamedRoot, named_root}
-use Rattle.nd_graph.proofs.LocalPass.{given_root}
+use Rattle.nd_value.proofs.LocalPass.{given_root}
 use Rattle.nd_grammar.specs.Primitives.{primitive_of, root_primitive}
 use Rattle.plain_ndr.proofs.Mapped.{next_mapped}
 

@@ -8,12 +8,13 @@ use Rattle.nd_types.specs.Roots.{roots_of}
 use Rattle.nd_types.specs.Numbers.{has_number_roots}
 use Rattle.nd_grammar.proofs.PlainSides.{number_side_plain}
 use Rattle.nd_types.specs.Number.{AreOctets}
-use Rattle.nd_graph.specs.Fitting.{IsFit, setting_of}
+use Rattle.nd_value.specs.Fitting.{setting_of}
+use Rattle.nd_graph.specs.Fitting.{IsFit}
 use Rattle.nd_grammar.specs.Plain.{IsPlain}
 use Rattle.nd_base.specs.declared.octets.Order.{Order}
 use Rattle.nd_types.specs.declared.types.Primitive.{Primitive}
 use Rattle.std.proofs.Common.{ℤ}
-use Rattle.nd_graph.specs.Tree.{Tree, Referent}
+use Rattle.nd_value.specs.Tree.{Tree, Referent}
 use Rattle.nd_grammar.specs.declared.reason.Reason.TheVariants.{Truncated}
 use Rattle.nd_grammar.specs.Bad.{Bad}
 use Rattle.nd_grammar.specs.Prefix.{BeginsWith}

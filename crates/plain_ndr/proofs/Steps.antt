@@ -5,7 +5,7 @@ use Rattle.nd_types.specs.declared.types.Primitive.{Primitive}
 use Rattle.nd_types.specs.declared.types.Primitive.TheVariants.{Boolean}
 use Rattle.nd_types.specs.Table.{width}
 use Rattle.nd_types.specs.Number.{value_of_octets}
-use Rattle.nd_graph.specs.Tree.{Tree}
+use Rattle.nd_value.specs.Tree.{Tree}
 use Rattle.nd_grammar.specs.Entry.{gap}
 use Rattle.nd_grammar.specs.Plain.{number}
 use Rattle.nd_grammar.proofs.PlainSteps.{IsRead, number_next, number_there, start_of, end_of_number}

@@ -1,7 +1,7 @@
 -- What decoding gives.
 use Rattle.std.specs.Prelude.{ℕ, List, ⊤}
 use Rattle.nd_base.specs.declared.octets.Order.{Order}
-use Rattle.nd_graph.specs.Setting.{Setting}
+use Rattle.nd_value.specs.Setting.{Setting}
 use Rattle.nd_grammar.specs.Bad.{Bad}
 use Rattle.plain_ndr.specs.declared.decoding.DecodeFault.{DecodeFault}
 use Rattle.plain_ndr.specs.declared.decoding.DecodeFault.TheVariants as fault

@@ -2,7 +2,7 @@
 use Rattle.std.specs.Prelude.{◌≡◌, ℕ, ℤ, List, map}
 use Rattle.nd_base.specs.declared.octets.Order.{Order}
 use Rattle.nd_types.specs.declared.types.Primitive.{Primitive}
-use Rattle.nd_graph.specs.Tree.{Tree}
+use Rattle.nd_value.specs.Tree.{Tree}
 use Rattle.nd_grammar.specs.Plain.{AreInRange, number, numbers_written}
 
 -- the values are numbers in the ranges of these primitives

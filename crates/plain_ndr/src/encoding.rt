@@ -4,7 +4,7 @@ ghost use Rattle.std.specs.List.{slice_get};
 ghost use Rattle.nd_base.specs.declared.TheConstants.{STREAM_LIMIT};
 ghost use Rattle.nd_types.specs.declared.types.Operation.{Operation};
 ghost use Rattle.nd_types.specs.Numbers.{IsNumberSide};
-ghost use Rattle.nd_graph.specs.Fitting.{setting_of};
+ghost use Rattle.nd_value.specs.Fitting.{setting_of};
 ghost use Rattle.nd_grammar.specs.Chosen.{Chosen};
 
 use crate::primitives::primitives;

@@ -8,23 +8,23 @@ use Rattle.std.proofs.lemmas.Option.{same_Some, slice_get-get_or, slice_get_with
 use Rattle.nd_types.specs.Table.{type_at}
 use Rattle.nd_types.specs.Legal.{has_small_values}
 use Rattle.nd_types.specs.Roots.{Root}
-use Rattle.nd_graph.specs.declared.value.Graph.{Graph}
-use Rattle.nd_graph.specs.declared.item.Home.{Home}
-use Rattle.nd_graph.specs.declared.item.Home.TheVariants as home
-use Rattle.nd_graph.specs.Tree as tree
-use Rattle.nd_graph.specs.Tree.{Tree, Trees, node, none, more, Label, Referent, trees, count}
-use Rattle.nd_graph.specs.Setting.{Setting, Among, root_list, cell_home, cell_of_number}
-use Rattle.nd_graph.specs.Nodes.{TypedNode, nodes_of, governed_nodes, home_nodes}
-use Rattle.nd_graph.specs.Variables.{root_agreements}
-use Rattle.nd_graph.specs.Deferral.{Pending, pointer, home_pointers}
-use Rattle.nd_graph.specs.Homes.{HomeNode, in_home, root_nodes, cell_nodes, all_nodes, root_pointers}
-use Rattle.nd_graph.specs.Canon.{IsCanon, canonical_number, named_cells}
-use Rattle.nd_graph.specs.Conforms.{Conforms}
-use Rattle.nd_graph.specs.Misfit.{misfit_of, has_machine_values}
-use Rattle.nd_graph.specs.Same.{renumbered}
-use Rattle.nd_graph.proofs.Apart.{all_weaker, all_left, all_right, all_append, all_map, all_among, among_left, among_right}
-use Rattle.nd_graph.proofs.NodeFacts.{fit_node, all_of_list}
-use Rattle.nd_graph.proofs.Orderly.{Pointee, PointerFits, pointees}
+use Rattle.nd_value.specs.declared.value.Graph.{Graph}
+use Rattle.nd_value.specs.declared.item.Home.{Home}
+use Rattle.nd_value.specs.declared.item.Home.TheVariants as home
+use Rattle.nd_value.specs.Tree as tree
+use Rattle.nd_value.specs.Tree.{Tree, Trees, node, none, more, Label, Referent, trees, count}
+use Rattle.nd_value.specs.Setting.{Setting, Among, root_list, cell_home, cell_of_number}
+use Rattle.nd_value.specs.Nodes.{TypedNode, nodes_of, governed_nodes, home_nodes}
+use Rattle.nd_value.specs.Variables.{root_agreements}
+use Rattle.nd_value.specs.Deferral.{Pending, pointer, home_pointers}
+use Rattle.nd_value.specs.Homes.{HomeNode, in_home, root_nodes, cell_nodes, all_nodes, root_pointers}
+use Rattle.nd_value.specs.Canon.{IsCanon, canonical_number, named_cells}
+use Rattle.nd_value.specs.Conforms.{Conforms}
+use Rattle.nd_value.specs.Misfit.{misfit_of, has_machine_values}
+use Rattle.nd_value.specs.Same.{renumbered}
+use Rattle.nd_value.proofs.Apart.{all_weaker, all_left, all_right, all_append, all_map, all_among, among_left, among_right}
+use Rattle.nd_value.proofs.NodeFacts.{fit_node, all_of_list}
+use Rattle.nd_value.proofs.Orderly.{Pointee, PointerFits, pointees}
 use Rattle.nd_grammar.specs.LegalSide.{IsLegalSide}
 use Rattle.nd_grammar.proofs.next.Counting.{Distinct, no_longer, down, among_down}
 use Rattle.nd_grammar.proofs.RenumberedEntries.{count_same, carried, PendLike, AllPend, pointers_alike}

@@ -15,15 +15,15 @@ use Rattle.nd_types.specs.declared.TheConstants.{ENUMERATOR_LIMIT}
 use Rattle.nd_types.specs.Table.{Table, type_at, in_range, is_value, selected}
 use Rattle.nd_types.specs.Legal.{has_small_values}
 use Rattle.nd_types.proofs.LegalLaws.{passes_at}
-use Rattle.nd_graph.specs.declared.value.Graph.{Graph}
-use Rattle.nd_graph.specs.Tree as tree
-use Rattle.nd_graph.specs.Tree.{Tree, Trees, node, none, more, count, node_count, Label}
-use Rattle.nd_graph.specs.Agreement.{Agreement}
-use Rattle.nd_graph.specs.Nodes.{TypedNode, nodes_of, child_types, child_agreements, rest_agreements, selected_types}
-use Rattle.nd_graph.specs.Misfit.{has_shape, has_range, has_counts, has_arm, arm_fits, selects, names_cell, has_machine_values, is_octet, is_count}
-use Rattle.nd_graph.specs.Same.{renumbered, renumbered_label}
-use Rattle.nd_graph.proofs.Apart.{all_left, all_right, all_append}
-use Rattle.nd_graph.proofs.NodeFacts.{IsFit}
+use Rattle.nd_value.specs.declared.value.Graph.{Graph}
+use Rattle.nd_value.specs.Tree as tree
+use Rattle.nd_value.specs.Tree.{Tree, Trees, node, none, more, count, node_count, Label}
+use Rattle.nd_value.specs.Agreement.{Agreement}
+use Rattle.nd_value.specs.Nodes.{TypedNode, nodes_of, child_types, child_agreements, rest_agreements, selected_types}
+use Rattle.nd_value.specs.Misfit.{has_shape, has_range, has_counts, has_arm, arm_fits, selects, names_cell, has_machine_values, is_octet, is_count}
+use Rattle.nd_value.specs.Same.{renumbered, renumbered_label}
+use Rattle.nd_value.proofs.Apart.{all_left, all_right, all_append}
+use Rattle.nd_value.proofs.NodeFacts.{IsFit}
 use Rattle.nd_grammar.proofs.RenumberedEntries.{count_same, child_types_same}
 use Rattle.value_text.specs.Readable.{has_text_form}
 use Rattle.value_text.proofs.GraphLines.{IsTextLabel}

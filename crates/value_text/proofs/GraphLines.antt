@@ -13,19 +13,19 @@ use Rattle.nd_types.specs.declared.types.Side.TheVariants as side
 use Rattle.nd_types.specs.declared.types.TypeId.{TypeId}
 use Rattle.nd_types.specs.Table.{Table, type_at}
 use Rattle.nd_types.specs.Roots.{Root}
-use Rattle.nd_graph.specs.declared.value.Graph.{Graph}
-use Rattle.nd_graph.specs.declared.item.Home.{Home}
-use Rattle.nd_graph.specs.declared.item.Home.TheVariants as home
-use Rattle.nd_graph.specs.Tree as tree
-use Rattle.nd_graph.specs.Tree.{Tree, Trees, node, none, more, Label, Referent}
-use Rattle.nd_graph.specs.Setting.{Setting, root_list, cell_home}
-use Rattle.nd_graph.specs.Agreement.{Agreement}
-use Rattle.nd_graph.specs.Nodes.{TypedNode, nodes_of, child_types, child_agreements, rest_agreements, governed_nodes, home_nodes}
-use Rattle.nd_graph.specs.Homes.{HomeNode, in_home, root_nodes, cell_nodes, all_nodes}
-use Rattle.nd_graph.specs.Variables.{root_agreements}
-use Rattle.nd_graph.specs.Misfit.{is_octet}
-use Rattle.nd_graph.proofs.Apart.{all_left, all_right}
-use Rattle.nd_graph.specs.Tree.{node_count}
+use Rattle.nd_value.specs.declared.value.Graph.{Graph}
+use Rattle.nd_value.specs.declared.item.Home.{Home}
+use Rattle.nd_value.specs.declared.item.Home.TheVariants as home
+use Rattle.nd_value.specs.Tree as tree
+use Rattle.nd_value.specs.Tree.{Tree, Trees, node, none, more, Label, Referent}
+use Rattle.nd_value.specs.Setting.{Setting, root_list, cell_home}
+use Rattle.nd_value.specs.Agreement.{Agreement}
+use Rattle.nd_value.specs.Nodes.{TypedNode, nodes_of, child_types, child_agreements, rest_agreements, governed_nodes, home_nodes}
+use Rattle.nd_value.specs.Homes.{HomeNode, in_home, root_nodes, cell_nodes, all_nodes}
+use Rattle.nd_value.specs.Variables.{root_agreements}
+use Rattle.nd_value.specs.Misfit.{is_octet}
+use Rattle.nd_value.proofs.Apart.{all_left, all_right}
+use Rattle.nd_value.specs.Tree.{node_count}
 use Rattle.value_text.specs.declared.TheConstants.{TEXT_LIMIT}
 use Rattle.value_text.specs.Tokens.{Token, Word, Number, Cell, Str, Mark, is_mark}
 use Rattle.value_text.specs.Written.{Piece, Other, token_of, separated, enclosed, named, members, node_pieces, values_pieces, value_pieces, side_word, root_name, root_lines, cell_lines, graph_lines}

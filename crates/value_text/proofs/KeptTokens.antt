@@ -8,7 +8,7 @@ use Rattle.std.proofs.lemmas.List.{map-append}
 use Rattle.std.proofs.lemmas.Bool.{and_left, eqb-true, not-true}
 use Rattle.std.proofs.lemmas.Bool.Decides.{nat_tests}
 use Rattle.nd_base.specs.Text.{is_word_octet, has_form, uuid_form}
-use Rattle.nd_graph.specs.Misfit.{is_octet}
+use Rattle.nd_value.specs.Misfit.{is_octet}
 use Rattle.value_text.specs.Tokens.{Token, Word, Number, Cell, Str, Uuid, Mark, Spells, IsCut, Begins, is_uuid, skip, is_mark, ends_run, uuid_due, behind}
 use Rattle.value_text.specs.Written.{Piece, token_of}
 use Rattle.value_text.specs.Printed.{is_equals, is_comma, is_run, space, spelled, line_text}

@@ -17,7 +17,7 @@ use Rattle.nd_types.specs.Table.{Table, type_at}
 use Rattle.nd_types.specs.Legal.{has_named_parts, has_names}
 use Rattle.nd_types.specs.Roots.{Root, roots_of, params_from, result_root, root_of, root_by, pipe_of, travels}
 use Rattle.nd_types.proofs.LegalLaws.{passes_at}
-use Rattle.nd_graph.specs.Setting.{Setting, root_list, Among}
+use Rattle.nd_value.specs.Setting.{Setting, root_list, Among}
 use Rattle.nd_grammar.specs.LegalSide.{IsLegalSide}
 use Rattle.nd_grammar.proofs.PlainStreams.{Suffix, suffix_next, suffix_first, suffix_whole}
 use Rattle.value_text.specs.Written.{root_name, parameter_name}

@@ -9,8 +9,8 @@ use Rattle.std.proofs.lemmas.Bool.{both_ways, eqb-true, eq-eqb, cases_lt}
 use Rattle.std.proofs.lemmas.Bool.Decides.{Decides-int_eq}
 use Rattle.nd_base.specs.Text.{is_letter, position_of}
 use Rattle.nd_types.specs.declared.types.Primitive.{Primitive}
-use Rattle.nd_graph.specs.declared.value.Graph.{Graph}
-use Rattle.nd_graph.specs.Setting.{Setting}
+use Rattle.nd_value.specs.declared.value.Graph.{Graph}
+use Rattle.nd_value.specs.Setting.{Setting}
 use Rattle.nd_grammar.specs.Plain.{IsPlain, plain_graph}
 use Rattle.value_text.specs.declared.fault.TextReason.{TextReason}
 use Rattle.value_text.specs.declared.fault.TextReason.TheVariants as reason

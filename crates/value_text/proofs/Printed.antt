@@ -16,19 +16,20 @@ use Rattle.nd_types.specs.Roots.{Root, roots_of}
 use Rattle.nd_types.specs.declared.types.Side.{Side}
 use Rattle.nd_types.specs.Walk as walk
 use Rattle.nd_types.specs.Walk.{NamedRoot, named_root}
-use Rattle.nd_graph.specs.declared.value.Graph.{Graph}
-use Rattle.nd_graph.specs.declared.item.Home.TheVariants as home
-use Rattle.nd_graph.specs.Tree as tree
-use Rattle.nd_graph.specs.Tree.{Tree, Trees, node, none, more, Referent, trees}
-use Rattle.nd_graph.specs.Setting.{Setting, root_list}
-use Rattle.nd_graph.specs.Nodes.{governed_nodes, TypedNode}
-use Rattle.nd_graph.specs.Homes.{HomeNode, root_nodes, cell_nodes}
-use Rattle.nd_graph.specs.Variables.{root_agreements}
-use Rattle.nd_graph.specs.Misfit.{misfit_of}
-use Rattle.nd_graph.specs.Conforms.{Conforms}
-use Rattle.nd_graph.specs.Same.{renumbered}
-use Rattle.nd_graph.specs.Fitting.{Fitting, IsFit, setting_of}
-use Rattle.nd_graph.specs.Canon.{IsCanon}
+use Rattle.nd_value.specs.declared.value.Graph.{Graph}
+use Rattle.nd_value.specs.declared.item.Home.TheVariants as home
+use Rattle.nd_value.specs.Tree as tree
+use Rattle.nd_value.specs.Tree.{Tree, Trees, node, none, more, Referent, trees}
+use Rattle.nd_value.specs.Setting.{Setting, root_list}
+use Rattle.nd_value.specs.Nodes.{governed_nodes, TypedNode}
+use Rattle.nd_value.specs.Homes.{HomeNode, root_nodes, cell_nodes}
+use Rattle.nd_value.specs.Variables.{root_agreements}
+use Rattle.nd_value.specs.Misfit.{misfit_of}
+use Rattle.nd_value.specs.Conforms.{Conforms}
+use Rattle.nd_value.specs.Same.{renumbered}
+use Rattle.nd_value.specs.Fitting.{setting_of}
+use Rattle.nd_graph.specs.Fitting.{Fitting, IsFit}
+use Rattle.nd_value.specs.Canon.{IsCanon}
 use Rattle.nd_grammar.specs.Plain.{ArePlain, IsPlain, number, plain_graph}
 use Rattle.nd_grammar.proofs.PlainStreams.{plain_stream, plain_length, label_of}
 use Rattle.nd_grammar.proofs.PlainConforms.{all_left, all_right, no_cells}

@@ -1,8 +1,8 @@
 -- What is printed of a graph that conforms to a side of a legal interface is read as its canonical form.
 use Rattle.std.proofs.Common.{ℕ, ◌≤◌, List, length, sym, subst}
-use Rattle.nd_graph.specs.declared.value.Graph.{Graph}
-use Rattle.nd_graph.specs.Setting.{Setting}
-use Rattle.nd_graph.specs.Conforms.{Conforms}
+use Rattle.nd_value.specs.declared.value.Graph.{Graph}
+use Rattle.nd_value.specs.Setting.{Setting}
+use Rattle.nd_value.specs.Conforms.{Conforms}
 use Rattle.nd_grammar.specs.LegalSide.{IsLegalSide}
 use Rattle.value_text.specs.declared.TheConstants.{TEXT_LIMIT}
 use Rattle.value_text.specs.Printed.{IsText}

@@ -7,7 +7,7 @@ use Rattle.std.proofs.lemmas.List.{take_at}
 use Rattle.std.proofs.lemmas.Bool.{and_parts, and_from, cond-true, cond-false, ltb-true, leb-true}
 use Rattle.std.proofs.lemmas.Bool.Decides.{nat_tests}
 use Rattle.nd_base.specs.Text.{is_word, is_letter, is_digit, is_word_octet, is_hex_digit, hex_value, has_form, uuid_form, hex_digit}
-use Rattle.nd_graph.specs.Misfit.{is_octet}
+use Rattle.nd_value.specs.Misfit.{is_octet}
 use Rattle.value_text.specs.Tokens.{Token, Word, Number, Cell, Str, Uuid, Mark, Spells, IsCut, is_uuid, IsString, character, escape, hex_pair, is_plain, skip, is_blank, is_mark, ends_run, uuid_octets}
 use Rattle.value_text.specs.Tokens as tokens
 use Rattle.value_text.specs.Printed.{hex_octet, hex_octets, uuid_text, fill, escaped, spelled, is_run}

@@ -1,7 +1,7 @@
 -- The settings whose texts are read yet.
 use Rattle.std.specs.Prelude.{List}
 use Rattle.nd_types.specs.declared.types.Primitive.{Primitive}
-use Rattle.nd_graph.specs.Setting.{Setting}
+use Rattle.nd_value.specs.Setting.{Setting}
 use Rattle.nd_grammar.specs.Plain.{IsPlain}
 
 -- a side whose roots are numbers

@@ -5,14 +5,14 @@ use Rattle.std.specs.List.{list_all}
 use Rattle.nd_types.specs.declared.types.TypeDef.{TypeDef}
 use Rattle.nd_types.specs.declared.types.TypeDef.TheVariants as def
 use Rattle.nd_types.specs.Table.{Table, type_at, selected}
-use Rattle.nd_graph.specs.declared.value.Graph.{Graph}
-use Rattle.nd_graph.specs.Tree as tree
-use Rattle.nd_graph.specs.Tree.{Trees, none, count, Label, Referent}
-use Rattle.nd_graph.specs.Setting.{Setting, root_list, cell_home}
-use Rattle.nd_graph.specs.Nodes.{selected_types}
-use Rattle.nd_graph.specs.Misfit.{is_octet, is_count}
-use Rattle.nd_graph.specs.Deferral.{Pending, home_pointers}
-use Rattle.nd_graph.specs.Homes.{all_nodes, root_pointers}
+use Rattle.nd_value.specs.declared.value.Graph.{Graph}
+use Rattle.nd_value.specs.Tree as tree
+use Rattle.nd_value.specs.Tree.{Trees, none, count, Label, Referent}
+use Rattle.nd_value.specs.Setting.{Setting, root_list, cell_home}
+use Rattle.nd_value.specs.Nodes.{selected_types}
+use Rattle.nd_value.specs.Misfit.{is_octet, is_count}
+use Rattle.nd_value.specs.Deferral.{Pending, home_pointers}
+use Rattle.nd_value.specs.Homes.{all_nodes, root_pointers}
 
 -- an array that does not vary has offset 0
 abbrev has_offset : Bool → ℕ → Bool

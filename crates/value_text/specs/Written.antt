@@ -10,11 +10,11 @@ use Rattle.nd_types.specs.declared.types.Side.{Side}
 use Rattle.nd_types.specs.declared.types.Side.TheVariants as side
 use Rattle.nd_types.specs.Table.{Table, type_at}
 use Rattle.nd_types.specs.Roots.{Root}
-use Rattle.nd_graph.specs.declared.value.Graph.{Graph}
-use Rattle.nd_graph.specs.Tree as tree
-use Rattle.nd_graph.specs.Tree.{Tree, Trees, node, none, more, Label, Referent}
-use Rattle.nd_graph.specs.Setting.{Setting, root_list}
-use Rattle.nd_graph.specs.Nodes.{child_types}
+use Rattle.nd_value.specs.declared.value.Graph.{Graph}
+use Rattle.nd_value.specs.Tree as tree
+use Rattle.nd_value.specs.Tree.{Tree, Trees, node, none, more, Label, Referent}
+use Rattle.nd_value.specs.Setting.{Setting, root_list}
+use Rattle.nd_value.specs.Nodes.{child_types}
 use Rattle.value_text.specs.Tokens.{Token, Word, Number, Cell, Str, Uuid, Mark}
 
 -- a token of a graph's text: the name of an operation, a side, a root or a member, or another

@@ -1,9 +1,9 @@
 //! Laws of value texts, each the contract of a function that does nothing.
 
 ghost use Rattle.std.specs.Prelude.{◌≡◌, ◌≤◌, ◌⊎◌, ℕ, List, length};
-ghost use Rattle.nd_graph.specs.declared.value.Graph.{Graph};
-ghost use Rattle.nd_graph.specs.Setting.{Setting};
-ghost use Rattle.nd_graph.specs.Conforms.{Conforms};
+ghost use Rattle.nd_value.specs.declared.value.Graph.{Graph};
+ghost use Rattle.nd_value.specs.Setting.{Setting};
+ghost use Rattle.nd_value.specs.Conforms.{Conforms};
 ghost use Rattle.nd_grammar.specs.LegalSide.{IsLegalSide};
 ghost use Rattle.value_text.specs.declared.fault.TextReason.{TextReason};
 ghost use Rattle.value_text.specs.declared.TheConstants.{TEXT_LIMIT};

@@ -9,17 +9,17 @@ use Rattle.nd_types.specs.declared.types.TypeDef.TheVariants as def
 use Rattle.nd_types.specs.Table.{Table, type_at}
 use Rattle.nd_types.specs.Layout.{hoists}
 use Rattle.nd_types.specs.Roots.{Root}
-use Rattle.nd_graph.specs.declared.value.Graph.{Graph}
-use Rattle.nd_graph.specs.declared.item.Home.{Home}
-use Rattle.nd_graph.specs.declared.item.Home.TheVariants as home
-use Rattle.nd_graph.specs.Tree as tree
-use Rattle.nd_graph.specs.Tree.{Tree, Trees, node, none, more, Label, Flat, flat, count, node_count, take_trees, drop_trees, is_pointer}
-use Rattle.nd_graph.specs.Agreement.{Agreement, offset_of, tag_of}
-use Rattle.nd_graph.specs.Setting.{Setting, root_list, root_at, or_unread, cell_at, cell_home}
-use Rattle.nd_graph.specs.Nodes.{child_types, child_agreements, first_agreements, rest_agreements}
-use Rattle.nd_graph.specs.Deferral.{Step, root_stands, referent_stands, stands_already, standing_root, standing_by, standing_cell, direct, root_type, before_pipes}
-use Rattle.nd_graph.specs.Variables.{root_agreements}
-use Rattle.nd_graph.proofs.Apart.{all_append}
+use Rattle.nd_value.specs.declared.value.Graph.{Graph}
+use Rattle.nd_value.specs.declared.item.Home.{Home}
+use Rattle.nd_value.specs.declared.item.Home.TheVariants as home
+use Rattle.nd_value.specs.Tree as tree
+use Rattle.nd_value.specs.Tree.{Tree, Trees, node, none, more, Label, Flat, flat, count, node_count, take_trees, drop_trees, is_pointer}
+use Rattle.nd_value.specs.Agreement.{Agreement, offset_of, tag_of}
+use Rattle.nd_value.specs.Setting.{Setting, root_list, root_at, or_unread, cell_at, cell_home}
+use Rattle.nd_value.specs.Nodes.{child_types, child_agreements, first_agreements, rest_agreements}
+use Rattle.nd_value.specs.Deferral.{Step, root_stands, referent_stands, stands_already, standing_root, standing_by, standing_cell, direct, root_type, before_pipes}
+use Rattle.nd_value.specs.Variables.{root_agreements}
+use Rattle.nd_value.proofs.Apart.{all_append}
 use Rattle.nd_grammar.specs.Entry.{Kind, Entry, Align, Max, Offset, Actual, Chunk, Number, Num, Tag, Text, Context, Test, Unread}
 use Rattle.nd_grammar.specs.InPlace.{before_children, entries, in_place, tag_entries, counts, tests, own_tests, child_tests, hoisted_max, hoisted, whole_value}
 use Rattle.nd_grammar.specs.Stream.{Stream, step_entries, root_test, root_tests, chunk_entries, chunks, pipe_entries, pipes_entries}

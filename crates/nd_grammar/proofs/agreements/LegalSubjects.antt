@@ -21,8 +21,8 @@ use Rattle.nd_types.specs.Fields.{FieldAt, attr_rank, has_attr, has_size, has_ra
 use Rattle.nd_types.specs.Kinds.{pointee, is_conformant_array, is_conformant_text, is_varying_array}
 use Rattle.nd_types.specs.Roots.{Root, roots_of, params_from, root_of, root_by, pipe_of, result_root, travels}
 use Rattle.nd_types.proofs.LegalLaws.{passes_at}
-use Rattle.nd_graph.specs.Setting.{Setting, Among, root_list}
-use Rattle.nd_graph.proofs.Apart.{all_append}
+use Rattle.nd_value.specs.Setting.{Setting, Among, root_list}
+use Rattle.nd_value.proofs.Apart.{all_append}
 use Rattle.nd_grammar.specs.LegalSide.{IsLegalSide}
 use Rattle.nd_grammar.proofs.LegalSides.{AllPass, test_in, test_all, bare_params, pipe_is}
 use Rattle.nd_grammar.proofs.agreements.TestsFind.{AttrFits, HasSubjects}

@@ -16,20 +16,20 @@ use Rattle.nd_types.specs.Table.{Table, type_at}
 use Rattle.nd_types.specs.Layout.{hoists}
 use Rattle.nd_types.specs.Kinds.{pointee, pointee_by}
 use Rattle.nd_types.specs.Roots.{Root}
-use Rattle.nd_graph.specs.declared.value.Graph.{Graph}
-use Rattle.nd_graph.specs.declared.item.Home.{Home}
-use Rattle.nd_graph.specs.declared.item.Home.TheVariants as home
-use Rattle.nd_graph.specs.Tree as tree
-use Rattle.nd_graph.specs.Tree.{Tree, Trees, node, none, more, Label, Referent, count, node_count, is_pointer, cell_in, take_trees, drop_trees}
-use Rattle.nd_graph.specs.Agreement.{Agreement, agreement}
-use Rattle.nd_graph.specs.Setting.{Setting, Among, root_list, root_at, or_unread, cell_at, cell_tree, cell_of_number, cell_home}
-use Rattle.nd_graph.specs.Nodes.{TypedNode, nodes_of, child_types, child_agreements, first_agreements, rest_agreements}
-use Rattle.nd_graph.specs.Deferral.{Pending, pointer, pointer_by, home_pointers, Due, due_root, due_referent, due_roots, before_pipes, Step, Deferral, none_due, at_root, at_null, at_standing, at_referent, Placed_cells, IsPlacedFull, Standing, standing_root, standing_by, standing_cell, root_type, root_cell, direct, due_of}
-use Rattle.nd_graph.specs.Variables.{root_agreements, variable}
-use Rattle.nd_graph.proofs.Apart.{all_append, all_left, all_right, among_left, among_right}
-use Rattle.nd_graph.proofs.NodeFacts.{IsSound}
-use Rattle.nd_graph.proofs.DeferralExists.{direct_is}
-use Rattle.nd_graph.proofs.DeferralBridge.{some_before}
+use Rattle.nd_value.specs.declared.value.Graph.{Graph}
+use Rattle.nd_value.specs.declared.item.Home.{Home}
+use Rattle.nd_value.specs.declared.item.Home.TheVariants as home
+use Rattle.nd_value.specs.Tree as tree
+use Rattle.nd_value.specs.Tree.{Tree, Trees, node, none, more, Label, Referent, count, node_count, is_pointer, cell_in, take_trees, drop_trees}
+use Rattle.nd_value.specs.Agreement.{Agreement, agreement}
+use Rattle.nd_value.specs.Setting.{Setting, Among, root_list, root_at, or_unread, cell_at, cell_tree, cell_of_number, cell_home}
+use Rattle.nd_value.specs.Nodes.{TypedNode, nodes_of, child_types, child_agreements, first_agreements, rest_agreements}
+use Rattle.nd_value.specs.Deferral.{Pending, pointer, pointer_by, home_pointers, Due, due_root, due_referent, due_roots, before_pipes, Step, Deferral, none_due, at_root, at_null, at_standing, at_referent, Placed_cells, IsPlacedFull, Standing, standing_root, standing_by, standing_cell, root_type, root_cell, direct, due_of}
+use Rattle.nd_value.specs.Variables.{root_agreements, variable}
+use Rattle.nd_value.proofs.Apart.{all_append, all_left, all_right, among_left, among_right}
+use Rattle.nd_value.proofs.NodeFacts.{IsSound}
+use Rattle.nd_value.proofs.DeferralExists.{direct_is}
+use Rattle.nd_value.proofs.DeferralBridge.{some_before}
 use Rattle.nd_grammar.specs.Entry.{Kind, Entry, Align, Chunk, Unread}
 use Rattle.nd_grammar.specs.InPlace.{entries, in_place, tests, before_children}
 use Rattle.nd_grammar.specs.Stream.{Stream, step_entries, standing_entries, step_tests, root_test, root_tests, chunk_entries, chunks, Cuts, pipe_entries, pipes_entries, AllCut, head_entries}

@@ -7,16 +7,16 @@ use Rattle.std.proofs.lemmas.List.{append-nil}
 use Rattle.nd_base.specs.declared.octets.Order.{Order}
 use Rattle.nd_types.specs.declared.types.Attr.{Attr}
 use Rattle.nd_types.specs.declared.types.Attr.TheVariants as attr
-use Rattle.nd_graph.specs.declared.value.Graph.{Graph}
-use Rattle.nd_graph.specs.declared.value.CellId.{CellId}
-use Rattle.nd_graph.specs.declared.item.Home.{Home}
-use Rattle.nd_graph.specs.declared.item.Home.TheVariants as home
-use Rattle.nd_graph.specs.Agreement.{offset_of, tag_of}
-use Rattle.nd_graph.specs.Tree.{Flat, flat, more, none}
-use Rattle.nd_graph.specs.Setting.{Setting, Among}
-use Rattle.nd_graph.specs.Conforms.{IsPartial}
-use Rattle.nd_graph.proofs.Apart.{all_append, all_among, among_left, among_right}
-use Rattle.nd_graph.proofs.NodeFacts.{IsSound, sound_partial}
+use Rattle.nd_value.specs.declared.value.Graph.{Graph}
+use Rattle.nd_value.specs.declared.value.CellId.{CellId}
+use Rattle.nd_value.specs.declared.item.Home.{Home}
+use Rattle.nd_value.specs.declared.item.Home.TheVariants as home
+use Rattle.nd_value.specs.Agreement.{offset_of, tag_of}
+use Rattle.nd_value.specs.Tree.{Flat, flat, more, none}
+use Rattle.nd_value.specs.Setting.{Setting, Among}
+use Rattle.nd_value.specs.Conforms.{IsPartial}
+use Rattle.nd_value.proofs.Apart.{all_append, all_among, among_left, among_right}
+use Rattle.nd_value.proofs.NodeFacts.{IsSound, sound_partial}
 use Rattle.nd_grammar.specs.Entry.{Kind, Entry, Align, Max, Offset, Actual, Chunk, Number, Num, Tag, Text, Context, Test, Unread, size_at, EntryAt, end_to_end}
 use Rattle.nd_grammar.specs.InPlace.{hoisted_max}
 use Rattle.nd_grammar.specs.LegalSide.{IsLegalSide}

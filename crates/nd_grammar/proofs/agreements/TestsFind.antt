@@ -14,14 +14,14 @@ use Rattle.nd_types.specs.declared.types.TypeDef.TheVariants as def
 use Rattle.nd_types.specs.Table.{Table, type_at}
 use Rattle.nd_types.specs.Layout.{hoists, hoists_by}
 use Rattle.nd_types.specs.Kinds.{pointee, pointee_by, is_conformant_array, is_conformant_text, is_varying_array, is_nonencapsulated}
-use Rattle.nd_graph.specs.declared.value.Graph.{Graph}
-use Rattle.nd_graph.specs.declared.item.Home.{Home}
-use Rattle.nd_graph.specs.Tree as tree
-use Rattle.nd_graph.specs.Tree.{Tree, Trees, node, none, more, Label, count, node_count, is_pointer}
-use Rattle.nd_graph.specs.Agreement.{Agreement, agreement, number_in, found_in, member_agreements}
-use Rattle.nd_graph.specs.Setting.{Among}
-use Rattle.nd_graph.specs.Nodes.{child_types, child_agreements, first_agreements, rest_agreements}
-use Rattle.nd_graph.proofs.Apart.{all_left, all_right, all_append, among_left, among_right}
+use Rattle.nd_value.specs.declared.value.Graph.{Graph}
+use Rattle.nd_value.specs.declared.item.Home.{Home}
+use Rattle.nd_value.specs.Tree as tree
+use Rattle.nd_value.specs.Tree.{Tree, Trees, node, none, more, Label, count, node_count, is_pointer}
+use Rattle.nd_value.specs.Agreement.{Agreement, agreement, number_in, found_in, member_agreements}
+use Rattle.nd_value.specs.Setting.{Among}
+use Rattle.nd_value.specs.Nodes.{child_types, child_agreements, first_agreements, rest_agreements}
+use Rattle.nd_value.proofs.Apart.{all_left, all_right, all_append, among_left, among_right}
 use Rattle.nd_grammar.specs.Entry.{Kind, Entry, Align, Max, Offset, Actual, Chunk, Number, Num, Tag, Text, Context, Test, Unread}
 use Rattle.nd_grammar.specs.InPlace.{before_children, entries, in_place, tag_entries, counts, tests, own_tests, child_tests, own_max, hoisted_max, hoisted, whole_value}
 use Rattle.nd_grammar.specs.Tested.{HoldsFound, node_of}

@@ -10,20 +10,20 @@ use Rattle.nd_types.specs.declared.types.Class.TheVariants.{Ref, Unique, Full}
 use Rattle.nd_types.specs.declared.types.Arm.{Arm}
 use Rattle.nd_types.specs.Table.{Table, type_at, selected, is_value}
 use Rattle.nd_types.specs.Layout.{hoists}
-use Rattle.nd_graph.specs.declared.value.Graph.{Graph}
-use Rattle.nd_graph.specs.declared.item.Home.{Home}
-use Rattle.nd_graph.specs.Tree as tree
-use Rattle.nd_graph.specs.Tree.{Tree, Trees, node, none, more, Label, Referent, count, node_count, is_pointer}
-use Rattle.nd_graph.specs.Agreement.{Agreement}
-use Rattle.nd_graph.specs.Setting.{cell_of_number}
-use Rattle.nd_graph.specs.Nodes.{child_types, child_agreements, first_agreements, rest_agreements}
-use Rattle.nd_graph.specs.Conforms.{IsAgreed}
+use Rattle.nd_value.specs.declared.value.Graph.{Graph}
+use Rattle.nd_value.specs.declared.item.Home.{Home}
+use Rattle.nd_value.specs.Tree as tree
+use Rattle.nd_value.specs.Tree.{Tree, Trees, node, none, more, Label, Referent, count, node_count, is_pointer}
+use Rattle.nd_value.specs.Agreement.{Agreement}
+use Rattle.nd_value.specs.Setting.{cell_of_number}
+use Rattle.nd_value.specs.Nodes.{child_types, child_agreements, first_agreements, rest_agreements}
+use Rattle.nd_value.specs.Conforms.{IsAgreed}
 use Rattle.nd_types.specs.declared.types.TypeId.{TypeId}
 use Rattle.nd_types.specs.Kinds.{is_pipe, referent_type}
-use Rattle.nd_graph.specs.Misfit.{selects, has_shape, has_range, names_cell, names_pointee, is_within, has_no_zero, has_arm}
-use Rattle.nd_graph.proofs.Apart.{all_append}
-use Rattle.nd_graph.proofs.Orderly.{pointee_of_cell}
-use Rattle.nd_graph.proofs.NodeFacts.{IsFit}
+use Rattle.nd_value.specs.Misfit.{selects, has_shape, has_range, names_cell, names_pointee, is_within, has_no_zero, has_arm}
+use Rattle.nd_value.proofs.Apart.{all_append}
+use Rattle.nd_value.proofs.Orderly.{pointee_of_cell}
+use Rattle.nd_value.proofs.NodeFacts.{IsFit}
 use Rattle.nd_grammar.specs.Entry.{Kind, Entry, Offset, Actual, Number, Num, Tag, Text, Test, Unread}
 use Rattle.nd_grammar.specs.InPlace.{before_children, entries, counts, tag_entries, in_place, tests, own_tests, child_tests, hoisted, hoisted_max, whole_value}
 use Rattle.nd_grammar.specs.Refusal.{is_enumerator, is_selected}

@@ -9,8 +9,8 @@ use Rattle.nd_base.specs.declared.octets.Order.{Order}
 use Rattle.nd_base.specs.declared.TheConstants.{STREAM_LIMIT}
 use Rattle.nd_types.specs.Number.{unsigned, value_of_octets}
 use Rattle.nd_types.specs.Table.{selected, width}
-use Rattle.nd_graph.proofs.Apart.{all_left, all_right}
-use Rattle.nd_graph.proofs.Waiting.{not_equal}
+use Rattle.nd_value.proofs.Apart.{all_left, all_right}
+use Rattle.nd_value.proofs.Waiting.{not_equal}
 use Rattle.nd_grammar.specs.declared.reason.Reason.{Reason}
 use Rattle.nd_grammar.specs.declared.reason.Reason.TheVariants as reason
 use Rattle.nd_grammar.specs.Entry.{Kind, Entry, Align, Max, Offset, Actual, Chunk, Number, Num, Tag, Text, Context, Test, Unread, size_at, EntryAt, end_to_end, end_of}

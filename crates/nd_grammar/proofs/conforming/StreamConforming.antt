@@ -11,21 +11,21 @@ use Rattle.nd_types.specs.declared.types.Class.TheVariants.{Ref}
 use Rattle.nd_types.specs.Table.{Table, type_at}
 use Rattle.nd_types.specs.Layout.{hoists}
 use Rattle.nd_types.specs.Roots.{Root}
-use Rattle.nd_graph.specs.declared.value.Graph.{Graph}
-use Rattle.nd_graph.specs.declared.item.Home.{Home}
-use Rattle.nd_graph.specs.declared.item.Home.TheVariants as home
-use Rattle.nd_graph.specs.Tree as tree
-use Rattle.nd_graph.specs.Tree.{Tree, Trees, node, none, more, Label, Referent, count, node_count, is_pointer, cell_in, take_trees, drop_trees}
-use Rattle.nd_graph.specs.Agreement.{Agreement}
-use Rattle.nd_graph.specs.Setting.{Setting, Among, root_list, or_unread, cell_home, cell_at, cell_of_number}
-use Rattle.nd_graph.specs.Nodes.{TypedNode, nodes_of, child_types, child_agreements, governed_nodes, home_nodes}
-use Rattle.nd_graph.specs.Deferral.{Pending, pointer, pointer_by, home_pointers, due_root, due_roots, before_pipes, Step, Deferral, Standing, standing_root, standing_by, direct, root_type}
-use Rattle.nd_graph.specs.Variables.{root_agreements}
-use Rattle.nd_graph.specs.Homes.{HomeNode, in_home, root_nodes, cell_nodes, all_nodes, all_pointers}
-use Rattle.nd_graph.specs.Misfit.{misfit_of}
-use Rattle.nd_graph.specs.Conforms.{Reached, by_root, by_cell, AgreesAt, IsAgreed}
-use Rattle.nd_graph.proofs.Apart.{all_append, all_left, all_right, all_among}
-use Rattle.nd_graph.proofs.DeferralExists.{direct_is, direct_pointer}
+use Rattle.nd_value.specs.declared.value.Graph.{Graph}
+use Rattle.nd_value.specs.declared.item.Home.{Home}
+use Rattle.nd_value.specs.declared.item.Home.TheVariants as home
+use Rattle.nd_value.specs.Tree as tree
+use Rattle.nd_value.specs.Tree.{Tree, Trees, node, none, more, Label, Referent, count, node_count, is_pointer, cell_in, take_trees, drop_trees}
+use Rattle.nd_value.specs.Agreement.{Agreement}
+use Rattle.nd_value.specs.Setting.{Setting, Among, root_list, or_unread, cell_home, cell_at, cell_of_number}
+use Rattle.nd_value.specs.Nodes.{TypedNode, nodes_of, child_types, child_agreements, governed_nodes, home_nodes}
+use Rattle.nd_value.specs.Deferral.{Pending, pointer, pointer_by, home_pointers, due_root, due_roots, before_pipes, Step, Deferral, Standing, standing_root, standing_by, direct, root_type}
+use Rattle.nd_value.specs.Variables.{root_agreements}
+use Rattle.nd_value.specs.Homes.{HomeNode, in_home, root_nodes, cell_nodes, all_nodes, all_pointers}
+use Rattle.nd_value.specs.Misfit.{misfit_of}
+use Rattle.nd_value.specs.Conforms.{Reached, by_root, by_cell, AgreesAt, IsAgreed}
+use Rattle.nd_value.proofs.Apart.{all_append, all_left, all_right, all_among}
+use Rattle.nd_value.proofs.DeferralExists.{direct_is, direct_pointer}
 use Rattle.nd_grammar.specs.LegalSide.{IsLegalSide}
 use Rattle.nd_grammar.specs.Entry.{Entry}
 use Rattle.nd_grammar.specs.InPlace.{in_place, own_tests}
@@ -44,12 +44,12 @@ use Rattle.nd_grammar.proofs.reader.ReaderCells.{CellMade}
 use Rattle.nd_grammar.proofs.reader.ReaderStates.{RootsMade}
 use Rattle.nd_grammar.proofs.legal.LegalUsable.{Usable, UsablePointer, usable_readable, root_usable, element_usable, pointers_usable}
 use Rattle.nd_grammar.proofs.conforming.StreamConforms.{one_few, le_or, due_all, due_at, all_of, root_pointer, no_child_tests, whole_all, least_chunks, passed_chunks}
-use Rattle.nd_graph.proofs.DeferralExists.{no_nodes}
+use Rattle.nd_value.proofs.DeferralExists.{no_nodes}
 use Rattle.nd_grammar.proofs.reader.MadeTrees.{made_count}
 use Rattle.nd_grammar.proofs.conforming.PassedTrees.{Rest}
 use Rattle.nd_grammar.proofs.reader.FewNodes.{ones}
 use Rattle.nd_grammar.proofs.next.HoistedMaxes.{HoistsLast}
-use Rattle.nd_graph.specs.Misfit.{has_shape}
+use Rattle.nd_value.specs.Misfit.{has_shape}
 
 some_before : (rs : List Root) → before_pipes rs ≤ length rs
 some_before [] = omega arith

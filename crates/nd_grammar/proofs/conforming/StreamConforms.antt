@@ -5,13 +5,13 @@ use Rattle.std.specs.List.{AllByRecursion, slice_get}
 use Rattle.nd_types.specs.Table.{Table, type_at}
 use Rattle.nd_types.specs.Layout.{hoists}
 use Rattle.nd_types.specs.Roots.{Root}
-use Rattle.nd_graph.specs.declared.item.Home.{Home}
-use Rattle.nd_graph.specs.declared.item.Home.TheVariants as home
-use Rattle.nd_graph.specs.Tree.{Tree, Trees, node, none, more, count, node_count, is_pointer, take_trees, drop_trees}
-use Rattle.nd_graph.specs.Setting.{Among}
-use Rattle.nd_graph.specs.Deferral.{Pending, home_pointers, Due, due_root, due_roots}
-use Rattle.nd_graph.specs.Homes.{root_pointers}
-use Rattle.nd_graph.proofs.Apart.{all_append, all_left, all_right}
+use Rattle.nd_value.specs.declared.item.Home.{Home}
+use Rattle.nd_value.specs.declared.item.Home.TheVariants as home
+use Rattle.nd_value.specs.Tree.{Tree, Trees, node, none, more, count, node_count, is_pointer, take_trees, drop_trees}
+use Rattle.nd_value.specs.Setting.{Among}
+use Rattle.nd_value.specs.Deferral.{Pending, home_pointers, Due, due_root, due_roots}
+use Rattle.nd_value.specs.Homes.{root_pointers}
+use Rattle.nd_value.proofs.Apart.{all_append, all_left, all_right}
 use Rattle.nd_grammar.specs.Entry.{Entry}
 use Rattle.nd_grammar.specs.InPlace.{entries, in_place, own_tests, child_tests, hoisted, hoisted_max, whole_value}
 use Rattle.nd_grammar.specs.Stream.{chunk_entries, chunks}

@@ -8,19 +8,19 @@ use Rattle.nd_types.specs.declared.types.TypeDef.TheVariants as def
 use Rattle.nd_types.specs.declared.types.Class.TheVariants.{Ref, Unique, Full}
 use Rattle.nd_types.specs.Table.{Table, type_at}
 use Rattle.nd_types.specs.Roots.{Root}
-use Rattle.nd_graph.specs.declared.value.Graph.{Graph}
-use Rattle.nd_graph.specs.declared.item.Home.{Home}
-use Rattle.nd_graph.specs.declared.item.Home.TheVariants as home
-use Rattle.nd_graph.specs.Tree as tree
-use Rattle.nd_graph.specs.Tree.{Tree, Trees, node, none, more, Label, Referent}
-use Rattle.nd_graph.specs.Setting.{Setting, Among, root_list, root_at, or_unread, cell_home, cell_at, cell_tree, cell_of_number}
-use Rattle.nd_graph.specs.Deferral.{Pending, home_pointers, Due, due_root, due_referent, Step, root_stands, referent_stands, stands_already, Deferral, none_due, at_root, at_null, at_standing, at_referent, IsPlaced, Placed_cells, Standing, standing_root, standing_by, standing_cell, direct, root_type, due_of, root_cell}
-use Rattle.nd_graph.specs.Homes.{root_pointers, cell_pointers, all_pointers}
-use Rattle.nd_graph.specs.Misfit.{is_no_null_ref}
-use Rattle.nd_graph.specs.Conforms.{IsAgreed}
-use Rattle.nd_graph.proofs.Apart.{all_append, all_left, all_right, among_left}
-use Rattle.nd_graph.proofs.DeferralExists.{direct_is, direct_pointer}
-use Rattle.nd_graph.proofs.DeferralLaws.{full_stands}
+use Rattle.nd_value.specs.declared.value.Graph.{Graph}
+use Rattle.nd_value.specs.declared.item.Home.{Home}
+use Rattle.nd_value.specs.declared.item.Home.TheVariants as home
+use Rattle.nd_value.specs.Tree as tree
+use Rattle.nd_value.specs.Tree.{Tree, Trees, node, none, more, Label, Referent}
+use Rattle.nd_value.specs.Setting.{Setting, Among, root_list, root_at, or_unread, cell_home, cell_at, cell_tree, cell_of_number}
+use Rattle.nd_value.specs.Deferral.{Pending, home_pointers, Due, due_root, due_referent, Step, root_stands, referent_stands, stands_already, Deferral, none_due, at_root, at_null, at_standing, at_referent, IsPlaced, Placed_cells, Standing, standing_root, standing_by, standing_cell, direct, root_type, due_of, root_cell}
+use Rattle.nd_value.specs.Homes.{root_pointers, cell_pointers, all_pointers}
+use Rattle.nd_value.specs.Misfit.{is_no_null_ref}
+use Rattle.nd_value.specs.Conforms.{IsAgreed}
+use Rattle.nd_value.proofs.Apart.{all_append, all_left, all_right, among_left}
+use Rattle.nd_value.proofs.DeferralExists.{direct_is, direct_pointer}
+use Rattle.nd_value.proofs.DeferralLaws.{full_stands}
 use Rattle.nd_grammar.specs.Entry.{Entry}
 use Rattle.nd_grammar.specs.InPlace.{whole_value}
 use Rattle.nd_grammar.specs.Stream.{step_entries, standing_entries, step_tests}

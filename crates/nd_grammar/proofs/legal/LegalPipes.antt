@@ -20,12 +20,12 @@ use Rattle.nd_types.specs.Kinds.{is_pipe, is_reference, referent_type, reference
 use Rattle.nd_types.specs.Legal.{IsLegal, is_or_refers, stands_alone, tag_of, nullable_pointee_of, refers_to_no_reference, result_passes, is_result_type}
 use Rattle.nd_types.specs.Roots.{Root, roots_of, params_from, root_of, root_by, pipe_of, pipe_by, pipe_referent, result_root, travels}
 use Rattle.nd_types.proofs.LegalLaws.{passes_at}
-use Rattle.nd_graph.specs.Tree.{Trees, Label}
-use Rattle.nd_graph.specs.Setting.{Setting, Among, root_list}
-use Rattle.nd_graph.specs.Nodes.{child_types}
-use Rattle.nd_graph.specs.Deferral.{before_pipes}
-use Rattle.nd_graph.proofs.NodeFacts.{all_of_list}
-use Rattle.nd_graph.proofs.Apart.{all_append, all_left, all_weaker}
+use Rattle.nd_value.specs.Tree.{Trees, Label}
+use Rattle.nd_value.specs.Setting.{Setting, Among, root_list}
+use Rattle.nd_value.specs.Nodes.{child_types}
+use Rattle.nd_value.specs.Deferral.{before_pipes}
+use Rattle.nd_value.proofs.NodeFacts.{all_of_list}
+use Rattle.nd_value.proofs.Apart.{all_append, all_left, all_weaker}
 use Rattle.nd_grammar.specs.LegalSide.{IsLegalSide}
 use Rattle.nd_grammar.proofs.next.Mapped.{in_parts}
 use Rattle.nd_grammar.proofs.conforming.GoodEntries.{IsNoPipe, HoldsNoPipe}

@@ -16,8 +16,8 @@ use Rattle.nd_types.specs.Kinds.{is_pipe, is_switch_type}
 use Rattle.nd_types.specs.Legal.{IsLegal, named_types, is_in_table, has_switch_tag, tag_of, pointee_of}
 use Rattle.nd_types.proofs.LegalLaws.{passes_at}
 use Rattle.nd_types.proofs.LayoutLaws.{shallow_all}
-use Rattle.nd_graph.proofs.NodeFacts.{all_of_list}
-use Rattle.nd_graph.proofs.Apart.{all_left, all_weaker}
+use Rattle.nd_value.proofs.NodeFacts.{all_of_list}
+use Rattle.nd_value.proofs.Apart.{all_left, all_weaker}
 use Rattle.nd_grammar.proofs.conforming.GoodEntries.{IsNoPipe}
 use Rattle.nd_grammar.proofs.legal.LegalPipes.{parts_alone, holds_no_pipe}
 use Rattle.nd_grammar.proofs.reader.ReaderInPlace.{Fine, Readable}

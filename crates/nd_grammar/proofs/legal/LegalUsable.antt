@@ -19,13 +19,13 @@ use Rattle.nd_types.specs.Layout.{parts}
 use Rattle.nd_types.specs.Legal.{IsLegal, has_small_bound, pointee_of, tag_of, is_in_table, is_handle, result_passes}
 use Rattle.nd_types.specs.Roots.{Root, roots_of, params_from, root_of, root_by, pipe_of, pipe_by, pipe_referent, result_root, travels}
 use Rattle.nd_types.proofs.LegalLaws.{passes_at}
-use Rattle.nd_graph.specs.declared.item.Home.{Home}
-use Rattle.nd_graph.specs.Tree.{Tree, Trees, node, none, more, Label, node_count, is_pointer, cell_in}
-use Rattle.nd_graph.specs.Agreement.{Agreement}
-use Rattle.nd_graph.specs.Setting.{Setting, Among, root_list}
-use Rattle.nd_graph.specs.Nodes.{TypedNode, nodes_of, child_types, child_agreements, first_agreements, rest_agreements}
-use Rattle.nd_graph.specs.Deferral.{Pending, pointer, pointer_by, home_pointers, before_pipes}
-use Rattle.nd_graph.proofs.Apart.{all_append, all_left}
+use Rattle.nd_value.specs.declared.item.Home.{Home}
+use Rattle.nd_value.specs.Tree.{Tree, Trees, node, none, more, Label, node_count, is_pointer, cell_in}
+use Rattle.nd_value.specs.Agreement.{Agreement}
+use Rattle.nd_value.specs.Setting.{Setting, Among, root_list}
+use Rattle.nd_value.specs.Nodes.{TypedNode, nodes_of, child_types, child_agreements, first_agreements, rest_agreements}
+use Rattle.nd_value.specs.Deferral.{Pending, pointer, pointer_by, home_pointers, before_pipes}
+use Rattle.nd_value.proofs.Apart.{all_append, all_left}
 use Rattle.nd_grammar.specs.LegalSide.{IsLegalSide}
 use Rattle.nd_grammar.proofs.next.Mapped.{in_parts}
 use Rattle.nd_grammar.proofs.conforming.GoodEntries.{IsNoPipe}

@@ -6,15 +6,15 @@ use Rattle.nd_types.specs.declared.types.TypeDef.{TypeDef}
 use Rattle.nd_types.specs.declared.types.TypeDef.TheVariants as def
 use Rattle.nd_types.specs.declared.types.Class.{Class}
 use Rattle.nd_types.specs.Table.{Table, type_at}
-use Rattle.nd_graph.specs.declared.value.Graph.{Graph}
-use Rattle.nd_graph.specs.declared.item.Home.{Home}
-use Rattle.nd_graph.specs.Tree as tree
-use Rattle.nd_graph.specs.Tree.{Tree, Trees, node, none, more, count, node_count, Label, Referent, is_pointer, cell_in}
-use Rattle.nd_graph.specs.Agreement.{Agreement}
-use Rattle.nd_graph.specs.Setting.{Among}
-use Rattle.nd_graph.specs.Misfit.{has_shape, has_counts}
-use Rattle.nd_graph.specs.Nodes.{child_types, child_agreements, first_agreements, rest_agreements, nodes_of, TypedNode}
-use Rattle.nd_graph.specs.Deferral.{Pending, pointer, pointer_by}
+use Rattle.nd_value.specs.declared.value.Graph.{Graph}
+use Rattle.nd_value.specs.declared.item.Home.{Home}
+use Rattle.nd_value.specs.Tree as tree
+use Rattle.nd_value.specs.Tree.{Tree, Trees, node, none, more, count, node_count, Label, Referent, is_pointer, cell_in}
+use Rattle.nd_value.specs.Agreement.{Agreement}
+use Rattle.nd_value.specs.Setting.{Among}
+use Rattle.nd_value.specs.Misfit.{has_shape, has_counts}
+use Rattle.nd_value.specs.Nodes.{child_types, child_agreements, first_agreements, rest_agreements, nodes_of, TypedNode}
+use Rattle.nd_value.specs.Deferral.{Pending, pointer, pointer_by}
 use Rattle.nd_grammar.proofs.next.Matching.{bare, class_of, Matched, NodeKnown, Known, matched_count, through, pointer_bare}
 use Rattle.nd_grammar.proofs.next.Next.{Pair}
 use Rattle.nd_grammar.proofs.next.NextPending.{types_same}

@@ -2,8 +2,8 @@
 use Rattle.std.proofs.Common.{◌≡◌, ℕ, ◌+◌, ◌<◌, ◌≤◌, zero, suc, List, [], ◌∷◌, ◌++◌, length, refl, ap, sym, ◌∙◌, inl, inr, ◌⊎◌, arith, subst, length-append}
 use Rattle.std.specs.List.{AllByRecursion}
 use Rattle.std.proofs.lemmas.Bool.{cases_lt}
-use Rattle.nd_graph.specs.Setting.{Among}
-use Rattle.nd_graph.proofs.Apart.{all_among}
+use Rattle.nd_value.specs.Setting.{Among}
+use Rattle.nd_value.proofs.Apart.{all_among}
 
 abbrev pub Distinct : List ℕ → Type 0
 Distinct [] = Unit {0}

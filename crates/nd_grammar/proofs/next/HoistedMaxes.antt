@@ -10,12 +10,12 @@ use Rattle.nd_types.specs.declared.types.Arm.{Arm}
 use Rattle.nd_types.specs.declared.types.TypeDef.TheVariants as def
 use Rattle.nd_types.specs.Table.{Table, type_at, selected}
 use Rattle.nd_types.specs.Layout.{hoists, hoists_by}
-use Rattle.nd_graph.specs.declared.value.Graph.{Graph}
-use Rattle.nd_graph.specs.Tree as tree
-use Rattle.nd_graph.specs.Tree.{Tree, Trees, node, none, more, Label, count}
-use Rattle.nd_graph.specs.Nodes.{child_types, selected_types}
-use Rattle.nd_graph.specs.Agreement.{max_of}
-use Rattle.nd_graph.specs.Misfit.{has_shape, has_counts}
+use Rattle.nd_value.specs.declared.value.Graph.{Graph}
+use Rattle.nd_value.specs.Tree as tree
+use Rattle.nd_value.specs.Tree.{Tree, Trees, node, none, more, Label, count}
+use Rattle.nd_value.specs.Nodes.{child_types, selected_types}
+use Rattle.nd_value.specs.Agreement.{max_of}
+use Rattle.nd_value.specs.Misfit.{has_shape, has_counts}
 use Rattle.nd_grammar.specs.InPlace.{hoisted_max, own_max}
 use Rattle.nd_grammar.proofs.next.Matching.{Known, Maxes, SameMax}
 use Rattle.nd_grammar.proofs.next.NextWhole.{MaxesFrom}

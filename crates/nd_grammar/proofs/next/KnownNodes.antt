@@ -7,19 +7,19 @@ use Rattle.nd_types.specs.declared.types.TypeDef.{TypeDef}
 use Rattle.nd_types.specs.declared.types.TypeDef.TheVariants as def
 use Rattle.nd_types.specs.Table.{Table, type_at}
 use Rattle.nd_types.specs.Roots.{Root}
-use Rattle.nd_graph.specs.declared.value.Graph.{Graph}
-use Rattle.nd_graph.specs.declared.item.Home.TheVariants as home
-use Rattle.nd_graph.specs.Tree as tree
-use Rattle.nd_graph.specs.Tree.{Tree, Trees, node, none, more, Label, Referent, count, node_count, cell_in}
-use Rattle.nd_graph.specs.Agreement.{Agreement}
-use Rattle.nd_graph.specs.Setting.{Setting, root_list, root_at, or_unread, cell_of_number, cell_home}
-use Rattle.nd_graph.specs.Nodes.{TypedNode, nodes_of, child_types, child_agreements, rest_agreements}
-use Rattle.nd_graph.specs.Variables.{root_agreements}
-use Rattle.nd_graph.specs.Homes.{HomeNode, in_home, all_nodes, root_nodes, cell_nodes}
-use Rattle.nd_graph.specs.Misfit.{has_shape, has_counts, names_cell, names_pointee, has_machine_values}
-use Rattle.nd_graph.proofs.Apart.{all_left, all_right, all_map}
-use Rattle.nd_graph.proofs.Orderly.{PointerFits, pointee_of_cell}
-use Rattle.nd_graph.proofs.NodeFacts.{IsReadOrNot, IsSound, pointer_of_read}
+use Rattle.nd_value.specs.declared.value.Graph.{Graph}
+use Rattle.nd_value.specs.declared.item.Home.TheVariants as home
+use Rattle.nd_value.specs.Tree as tree
+use Rattle.nd_value.specs.Tree.{Tree, Trees, node, none, more, Label, Referent, count, node_count, cell_in}
+use Rattle.nd_value.specs.Agreement.{Agreement}
+use Rattle.nd_value.specs.Setting.{Setting, root_list, root_at, or_unread, cell_of_number, cell_home}
+use Rattle.nd_value.specs.Nodes.{TypedNode, nodes_of, child_types, child_agreements, rest_agreements}
+use Rattle.nd_value.specs.Variables.{root_agreements}
+use Rattle.nd_value.specs.Homes.{HomeNode, in_home, all_nodes, root_nodes, cell_nodes}
+use Rattle.nd_value.specs.Misfit.{has_shape, has_counts, names_cell, names_pointee, has_machine_values}
+use Rattle.nd_value.proofs.Apart.{all_left, all_right, all_map}
+use Rattle.nd_value.proofs.Orderly.{PointerFits, pointee_of_cell}
+use Rattle.nd_value.proofs.NodeFacts.{IsReadOrNot, IsSound, pointer_of_read}
 use Rattle.nd_grammar.proofs.next.Matching.{CountsKnown, PointeeKnown, NodeKnown, Known}
 
 counts_known : (d : Option TypeDef) (l : Label) (ks : Trees) → has_counts d l ks ≡ true → CountsKnown d l ks

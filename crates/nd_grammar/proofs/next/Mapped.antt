@@ -11,18 +11,18 @@ use Rattle.nd_types.specs.declared.types.Class.{Class}
 use Rattle.nd_types.specs.Table.{Table, type_at}
 use Rattle.nd_types.specs.Layout.{parts}
 use Rattle.nd_types.specs.Legal.{has_none_within, is_barred_in_pipes}
-use Rattle.nd_graph.specs.declared.value.Graph.{Graph}
-use Rattle.nd_graph.specs.declared.item.Home.{Home}
-use Rattle.nd_graph.specs.Tree as tree
-use Rattle.nd_graph.specs.Tree.{Tree, Trees, node, none, more, Label, is_pointer, cell_in, count, node_count}
-use Rattle.nd_graph.specs.Agreement.{Agreement}
-use Rattle.nd_graph.specs.Setting.{Among}
-use Rattle.nd_graph.specs.Nodes.{TypedNode, nodes_of, child_types, child_agreements, first_agreements, rest_agreements}
-use Rattle.nd_graph.specs.Deferral.{Pending, pointer, pointer_by, home_pointers}
-use Rattle.nd_graph.specs.Same.{renumbered, renumbered_label}
-use Rattle.nd_graph.proofs.NodeFacts.{all_of_list}
-use Rattle.nd_graph.proofs.Apart.{all_among, all_weaker}
-use Rattle.nd_graph.proofs.Waiting.{not_equal}
+use Rattle.nd_value.specs.declared.value.Graph.{Graph}
+use Rattle.nd_value.specs.declared.item.Home.{Home}
+use Rattle.nd_value.specs.Tree as tree
+use Rattle.nd_value.specs.Tree.{Tree, Trees, node, none, more, Label, is_pointer, cell_in, count, node_count}
+use Rattle.nd_value.specs.Agreement.{Agreement}
+use Rattle.nd_value.specs.Setting.{Among}
+use Rattle.nd_value.specs.Nodes.{TypedNode, nodes_of, child_types, child_agreements, first_agreements, rest_agreements}
+use Rattle.nd_value.specs.Deferral.{Pending, pointer, pointer_by, home_pointers}
+use Rattle.nd_value.specs.Same.{renumbered, renumbered_label}
+use Rattle.nd_value.proofs.NodeFacts.{all_of_list}
+use Rattle.nd_value.proofs.Apart.{all_among, all_weaker}
+use Rattle.nd_value.proofs.Waiting.{not_equal}
 use Rattle.nd_grammar.proofs.next.Next.{Pair, IsApart, OneToOne}
 use Rattle.nd_grammar.proofs.next.Matching.{bare, class_of, Match, Matched, through, pointer_bare}
 use Rattle.nd_grammar.proofs.next.NextPending.{AllPointers}

@@ -7,17 +7,17 @@ use Rattle.nd_types.specs.declared.types.TypeDef.TheVariants as def
 use Rattle.nd_types.specs.declared.types.Class.{Class}
 use Rattle.nd_types.specs.declared.types.Class.TheVariants.{Unique, Full}
 use Rattle.nd_types.specs.Table.{Table, type_at}
-use Rattle.nd_graph.specs.declared.value.Graph.{Graph}
-use Rattle.nd_graph.specs.Setting.{cell_of_number}
-use Rattle.nd_graph.specs.Misfit.{has_shape, has_counts, has_machine_values, is_no_null_ref}
-use Rattle.nd_graph.specs.Tree.{Referent}
-use Rattle.nd_graph.specs.Tree as tree
-use Rattle.nd_graph.specs.Tree.{Tree, Trees, node, none, more, count, node_count, Label, is_pointer, cell_in}
-use Rattle.nd_graph.specs.Nodes.{child_types, child_agreements}
+use Rattle.nd_value.specs.declared.value.Graph.{Graph}
+use Rattle.nd_value.specs.Setting.{cell_of_number}
+use Rattle.nd_value.specs.Misfit.{has_shape, has_counts, has_machine_values, is_no_null_ref}
+use Rattle.nd_value.specs.Tree.{Referent}
+use Rattle.nd_value.specs.Tree as tree
+use Rattle.nd_value.specs.Tree.{Tree, Trees, node, none, more, count, node_count, Label, is_pointer, cell_in}
+use Rattle.nd_value.specs.Nodes.{child_types, child_agreements}
 use Rattle.nd_types.specs.declared.types.Attr.{Attr}
 use Rattle.nd_types.specs.declared.types.Attr.TheVariants as attr
 use Rattle.nd_types.specs.declared.types.AttrVar.{AttrVar}
-use Rattle.nd_graph.specs.Agreement.{agreement, max_of, offset_of, tag_of, actual, found_in, number_of, number_in, member_agreements}
+use Rattle.nd_value.specs.Agreement.{agreement, max_of, offset_of, tag_of, actual, found_in, number_of, number_in, member_agreements}
 
 -- a label without its cell, and its cell
 abbrev pub bare : Label → Label

@@ -6,15 +6,15 @@ use Rattle.std.proofs.lemmas.Bool.{eqb-true, eqb-false}
 use Rattle.std.proofs.lemmas.Option.{same_Some}
 use Rattle.nd_types.specs.declared.types.Class.{Class}
 use Rattle.nd_types.specs.Number.{unsigned}
-use Rattle.nd_graph.specs.declared.value.Graph.{Graph}
-use Rattle.nd_graph.specs.declared.item.Home.{Home}
-use Rattle.nd_graph.specs.declared.item.Home.TheVariants as home
-use Rattle.nd_graph.specs.Setting.{Setting, Among}
-use Rattle.nd_graph.specs.Deferral.{Pending}
-use Rattle.nd_graph.specs.Homes.{all_pointers}
-use Rattle.nd_graph.specs.Conforms.{ShareOnlyIfFull}
-use Rattle.nd_graph.proofs.Apart.{all_append, all_among, among_left, among_right}
-use Rattle.nd_graph.proofs.NodeFacts.{IsSound}
+use Rattle.nd_value.specs.declared.value.Graph.{Graph}
+use Rattle.nd_value.specs.declared.item.Home.{Home}
+use Rattle.nd_value.specs.declared.item.Home.TheVariants as home
+use Rattle.nd_value.specs.Setting.{Setting, Among}
+use Rattle.nd_value.specs.Deferral.{Pending}
+use Rattle.nd_value.specs.Homes.{all_pointers}
+use Rattle.nd_value.specs.Conforms.{ShareOnlyIfFull}
+use Rattle.nd_value.proofs.Apart.{all_append, all_among, among_left, among_right}
+use Rattle.nd_value.proofs.NodeFacts.{IsSound}
 use Rattle.nd_grammar.specs.Entry.{Kind, EntryAt, Number}
 use Rattle.nd_grammar.specs.Represents.{IsRendered, Spells, piece}
 use Rattle.nd_grammar.specs.NextMark.{form, IsOneToOne, HomesCorrespond, AllCorrespond, named_cell, CellsCorrespond, AllNameAlike}

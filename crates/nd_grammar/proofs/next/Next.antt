@@ -3,11 +3,11 @@ use Rattle.std.proofs.Common.{◌≡◌, ℕ, ◌+◌, ◌<◌, List, [], ◌∷
 use Rattle.std.specs.Prelude.{map}
 use Rattle.nd_base.specs.declared.octets.Order.{Order}
 use Rattle.nd_types.specs.declared.types.Class.{Class}
-use Rattle.nd_graph.specs.declared.item.Home.{Home}
+use Rattle.nd_value.specs.declared.item.Home.{Home}
 use Rattle.std.specs.List.{AllByRecursion}
-use Rattle.nd_graph.specs.declared.item.Home.TheVariants as home
-use Rattle.nd_graph.specs.Setting.{Among}
-use Rattle.nd_graph.proofs.Apart.{among_right}
+use Rattle.nd_value.specs.declared.item.Home.TheVariants as home
+use Rattle.nd_value.specs.Setting.{Among}
+use Rattle.nd_value.proofs.Apart.{among_right}
 use Rattle.nd_grammar.specs.NextMark.{form}
 use Rattle.nd_grammar.specs.Entry.{Entry, Unread, size_at}
 use Rattle.nd_grammar.specs.Represents.{IsRendered}

@@ -2,20 +2,20 @@
 use Rattle.std.proofs.Common.{◌≡◌, ℕ, List, [], ◌∷◌, ◌++◌, Option, Some, None, refl, ap, ap₂, sym, ◌∙◌, inl, subst, append_assoc}
 use Rattle.std.specs.Prelude.{flat_map}
 use Rattle.nd_types.specs.declared.types.Class.{Class}
-use Rattle.nd_graph.specs.declared.value.Graph.{Graph}
-use Rattle.nd_graph.specs.Tree.{Tree, none, more, Referent}
-use Rattle.nd_graph.specs.Agreement.{Agreement}
+use Rattle.nd_value.specs.declared.value.Graph.{Graph}
+use Rattle.nd_value.specs.Tree.{Tree, none, more, Referent}
+use Rattle.nd_value.specs.Agreement.{Agreement}
 use Rattle.std.specs.List.{AllByRecursion}
-use Rattle.nd_graph.specs.Setting.{Setting, cell_home, cell_at, cell_of_number}
-use Rattle.nd_graph.specs.Deferral.{home_pointers, Due, due_root, Step, Deferral, none_due, at_root, at_null, at_standing, at_referent, due_of, standing_root, standing_cell, root_cell, Placed_cells, IsPlaced, IsPlacedFull, AreFree}
-use Rattle.nd_graph.proofs.DeferralLaws.{full_stands}
+use Rattle.nd_value.specs.Setting.{Setting, cell_home, cell_at, cell_of_number}
+use Rattle.nd_value.specs.Deferral.{home_pointers, Due, due_root, Step, Deferral, none_due, at_root, at_null, at_standing, at_referent, due_of, standing_root, standing_cell, root_cell, Placed_cells, IsPlaced, IsPlacedFull, AreFree}
+use Rattle.nd_value.proofs.DeferralLaws.{full_stands}
 use Rattle.nd_grammar.specs.Entry.{Entry}
 use Rattle.nd_grammar.specs.InPlace.{tests, whole_value}
 use Rattle.nd_grammar.specs.Stream.{step_entries, standing_entries}
-use Rattle.nd_graph.specs.Deferral.{Standing}
+use Rattle.nd_value.specs.Deferral.{Standing}
 use Rattle.nd_grammar.proofs.next.NextPending.{AllDueMatch, then_due}
-use Rattle.nd_graph.proofs.Apart.{all_append}
-use Rattle.nd_graph.proofs.NodeFacts.{IsSound}
+use Rattle.nd_value.proofs.Apart.{all_append}
+use Rattle.nd_value.proofs.NodeFacts.{IsSound}
 use Rattle.nd_grammar.proofs.next.PointerPlaces.{in_home, in_cell, in_standing}
 use Rattle.nd_grammar.proofs.next.Next.{Pair, IsApart, homes_grown, Readings, Next, grown}
 use Rattle.nd_grammar.proofs.next.Matching.{CellsMatch, Known}

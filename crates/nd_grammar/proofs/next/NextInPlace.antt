@@ -9,22 +9,22 @@ use Rattle.nd_types.specs.declared.types.Class.{Class}
 use Rattle.nd_types.specs.declared.types.Class.TheVariants.{Ref, Unique, Full}
 use Rattle.nd_types.specs.declared.types.Primitive.{Primitive}
 use Rattle.nd_types.specs.Table.{Table, type_at}
-use Rattle.nd_graph.specs.declared.item.Home.{Home}
-use Rattle.nd_graph.specs.declared.value.Graph.{Graph}
+use Rattle.nd_value.specs.declared.item.Home.{Home}
+use Rattle.nd_value.specs.declared.value.Graph.{Graph}
 use Rattle.std.proofs.lemmas.Bool.{and_parts, eqb-true}
 use Rattle.nd_grammar.proofs.next.Identifiers.{ids}
 use Rattle.nd_grammar.proofs.next.Next.{Pair, HomesMeet, Readings, Next, unread_left, unread_right}
 use Rattle.nd_grammar.proofs.next.Matching.{CellsMatch, Match, Matched, CountsKnown, Known, SameMax, Maxes, matched_nodes, matched_count, matched_number, child_agreements_same, through, pointer_bare, found_same}
-use Rattle.nd_graph.specs.Misfit.{has_machine_values, is_no_null_ref}
-use Rattle.nd_graph.specs.Tree.{Referent}
-use Rattle.nd_graph.specs.Tree as tree
-use Rattle.nd_graph.specs.Tree.{Tree, Trees, node, none, more, count, node_count, Label, is_pointer, cell_in}
-use Rattle.nd_graph.specs.Nodes.{child_types, child_agreements, first_agreements, rest_agreements}
+use Rattle.nd_value.specs.Misfit.{has_machine_values, is_no_null_ref}
+use Rattle.nd_value.specs.Tree.{Referent}
+use Rattle.nd_value.specs.Tree as tree
+use Rattle.nd_value.specs.Tree.{Tree, Trees, node, none, more, count, node_count, Label, is_pointer, cell_in}
+use Rattle.nd_value.specs.Nodes.{child_types, child_agreements, first_agreements, rest_agreements}
 use Rattle.nd_grammar.specs.Entry.{Entry, Actual, Text, Test, Unread}
 use Rattle.nd_grammar.specs.InPlace.{before_children, entries, in_place, tag_entries, tests, own_tests, child_tests}
 use Rattle.nd_grammar.specs.Represents.{piece, IsNumber}
 use Rattle.nd_types.specs.declared.types.Attr.{Attr}
-use Rattle.nd_graph.specs.Agreement.{Agreement, found_in}
+use Rattle.nd_value.specs.Agreement.{Agreement, found_in}
 
 -- what a type's node may say, or that it stands as one that is not read
 pub data View (table : Table) (t : ℕ) : Option TypeDef → Label → Type 0 where

@@ -2,10 +2,10 @@
 use Rattle.std.proofs.Common.{◌≡◌, ℕ, ◌+◌, ◌≤◌, zero, suc, List, [], ◌∷◌, ◌++◌, length, refl, ap, sym, inl, inr, arith, subst, take, append_assoc}
 use Rattle.std.specs.List.{AllByRecursion, slice_get}
 use Rattle.nd_base.specs.declared.octets.Order.{Order}
-use Rattle.nd_graph.specs.declared.value.Graph.{Graph}
-use Rattle.nd_graph.specs.Setting.{Setting}
-use Rattle.nd_graph.specs.Homes.{all_pointers}
-use Rattle.nd_graph.proofs.NodeFacts.{IsSound}
+use Rattle.nd_value.specs.declared.value.Graph.{Graph}
+use Rattle.nd_value.specs.Setting.{Setting}
+use Rattle.nd_value.specs.Homes.{all_pointers}
+use Rattle.nd_value.proofs.NodeFacts.{IsSound}
 use Rattle.nd_grammar.specs.Entry.{Entry, EntryAt, size_at, end_to_end, full_cells}
 use Rattle.nd_grammar.specs.LegalSide.{IsLegalSide}
 use Rattle.nd_grammar.specs.NextMark.{NextAlike, IsOneToOne, AllCorrespond, AllNameAlike, IsReadTo}

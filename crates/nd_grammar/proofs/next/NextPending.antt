@@ -6,14 +6,14 @@ use Rattle.nd_types.specs.declared.types.TypeDef.{TypeDef}
 use Rattle.nd_types.specs.declared.types.TypeDef.TheVariants as def
 use Rattle.nd_types.specs.declared.types.Class.{Class}
 use Rattle.nd_types.specs.Table.{Table, type_at}
-use Rattle.nd_graph.specs.declared.value.Graph.{Graph}
-use Rattle.nd_graph.specs.declared.item.Home.{Home}
-use Rattle.nd_graph.specs.Tree as tree
-use Rattle.nd_graph.specs.Tree.{Tree, Trees, node, none, more, count, node_count, Label, Referent, is_pointer, cell_in}
-use Rattle.nd_graph.specs.Agreement.{Agreement}
-use Rattle.nd_graph.specs.Nodes.{child_types, child_agreements, first_agreements, rest_agreements, nodes_of, TypedNode}
-use Rattle.nd_graph.specs.Deferral.{Pending, pointer, pointer_by, Due, due_root, due_referent}
-use Rattle.nd_graph.proofs.Orderly.{Pointee}
+use Rattle.nd_value.specs.declared.value.Graph.{Graph}
+use Rattle.nd_value.specs.declared.item.Home.{Home}
+use Rattle.nd_value.specs.Tree as tree
+use Rattle.nd_value.specs.Tree.{Tree, Trees, node, none, more, count, node_count, Label, Referent, is_pointer, cell_in}
+use Rattle.nd_value.specs.Agreement.{Agreement}
+use Rattle.nd_value.specs.Nodes.{child_types, child_agreements, first_agreements, rest_agreements, nodes_of, TypedNode}
+use Rattle.nd_value.specs.Deferral.{Pending, pointer, pointer_by, Due, due_root, due_referent}
+use Rattle.nd_value.proofs.Orderly.{Pointee}
 use Rattle.nd_grammar.proofs.next.Matching.{bare, class_of, Matched, PointeeKnown, Known, matched_nodes, matched_count, matched_number, child_agreements_same, through, pointer_bare}
 
 module _ (C : Class → Option ℕ → Option ℕ → Type 0) (g g' : Graph) where

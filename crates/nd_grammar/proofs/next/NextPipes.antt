@@ -9,13 +9,13 @@ use Rattle.nd_types.specs.declared.types.Class.{Class}
 use Rattle.nd_types.specs.Table.{Table, type_at}
 use Rattle.nd_types.specs.Layout.{hoists}
 use Rattle.nd_types.specs.Roots.{Root}
-use Rattle.nd_graph.specs.declared.value.Graph.{Graph}
-use Rattle.nd_graph.specs.declared.item.Home.{Home}
-use Rattle.nd_graph.specs.declared.item.Home.TheVariants as home
-use Rattle.nd_graph.specs.Tree as tree
-use Rattle.nd_graph.specs.Tree.{Tree, Trees, node, none, more, Label, count, node_count, take_trees, drop_trees, cell_in}
-use Rattle.nd_graph.specs.Misfit.{has_counts}
-use Rattle.nd_graph.specs.Nodes.{child_types}
+use Rattle.nd_value.specs.declared.value.Graph.{Graph}
+use Rattle.nd_value.specs.declared.item.Home.{Home}
+use Rattle.nd_value.specs.declared.item.Home.TheVariants as home
+use Rattle.nd_value.specs.Tree as tree
+use Rattle.nd_value.specs.Tree.{Tree, Trees, node, none, more, Label, count, node_count, take_trees, drop_trees, cell_in}
+use Rattle.nd_value.specs.Misfit.{has_counts}
+use Rattle.nd_value.specs.Nodes.{child_types}
 use Rattle.nd_grammar.specs.Entry.{Entry, Align, Chunk, Unread}
 use Rattle.nd_grammar.specs.InPlace.{entries, in_place}
 use Rattle.nd_grammar.specs.Stream.{chunks, Cuts, pipe_entries, pipes_entries, AllCut}

@@ -4,15 +4,15 @@ use Rattle.std.specs.List.{AllByRecursion}
 use Rattle.nd_types.specs.declared.types.AttrVar.{AttrVar}
 use Rattle.nd_types.specs.declared.types.Class.{Class}
 use Rattle.nd_types.specs.Table.{type_at}
-use Rattle.nd_types.specs.Roots.{Root}
-use Rattle.nd_graph.specs.declared.value.Graph.{Graph}
-use Rattle.nd_graph.specs.declared.item.Home.TheVariants as home
-use Rattle.nd_graph.specs.Tree as tree
-use Rattle.nd_graph.specs.Tree.{Tree, Trees, node, none, more, Label, is_pointer, cell_in}
-use Rattle.nd_graph.specs.Agreement.{Agreement, agreement, number_of}
-use Rattle.nd_graph.specs.Setting.{Setting, root_list, root_at, cell_at, cell_home}
-use Rattle.nd_graph.specs.Variables.{variable, starred, root_index, given_value, root_agreements}
-use Rattle.nd_graph.proofs.Apart.{all_among}
+use Rattle.nd_types.specs.Roots.{Root, root_index}
+use Rattle.nd_value.specs.declared.value.Graph.{Graph}
+use Rattle.nd_value.specs.declared.item.Home.TheVariants as home
+use Rattle.nd_value.specs.Tree as tree
+use Rattle.nd_value.specs.Tree.{Tree, Trees, node, none, more, Label, is_pointer, cell_in}
+use Rattle.nd_value.specs.Agreement.{Agreement, agreement, number_of}
+use Rattle.nd_value.specs.Setting.{Setting, root_list, root_at, cell_at, cell_home}
+use Rattle.nd_value.specs.Variables.{variable, starred, given_value, root_agreements}
+use Rattle.nd_value.proofs.Apart.{all_among}
 use Rattle.nd_grammar.specs.Entry.{Entry}
 use Rattle.nd_grammar.specs.InPlace.{tests}
 use Rattle.nd_grammar.specs.Stream.{root_test, root_tests}

@@ -2,21 +2,21 @@
 use Rattle.std.proofs.Common.{◌≡◌, ℕ, List, [], ◌∷◌, ◌++◌, Option, Some, None, refl, ap, sym, ◌∙◌, inl, inr, subst, append_assoc}
 use Rattle.std.specs.Prelude.{flat_map}
 use Rattle.nd_types.specs.declared.types.Class.{Class}
-use Rattle.nd_graph.specs.declared.value.Graph.{Graph}
-use Rattle.nd_graph.specs.declared.item.Home.{Home}
-use Rattle.nd_graph.specs.Tree.{Tree, node, none, more, Referent}
-use Rattle.nd_graph.specs.Agreement.{Agreement}
+use Rattle.nd_value.specs.declared.value.Graph.{Graph}
+use Rattle.nd_value.specs.declared.item.Home.{Home}
+use Rattle.nd_value.specs.Tree.{Tree, node, none, more, Referent}
+use Rattle.nd_value.specs.Agreement.{Agreement}
 use Rattle.std.specs.List.{AllByRecursion}
-use Rattle.nd_graph.specs.Setting.{Setting, Among, cell_at, cell_of_number}
-use Rattle.nd_graph.specs.Deferral.{Pending, home_pointers, Due, due_root, due_referent, Step, due_of, standing_cell, root_cell, AreFree}
+use Rattle.nd_value.specs.Setting.{Setting, Among, cell_at, cell_of_number}
+use Rattle.nd_value.specs.Deferral.{Pending, home_pointers, Due, due_root, due_referent, Step, due_of, standing_cell, root_cell, AreFree}
 use Rattle.nd_grammar.specs.Entry.{Entry}
 use Rattle.nd_grammar.specs.InPlace.{tests, whole_value}
 use Rattle.nd_grammar.specs.Stream.{step_entries, standing_entries}
-use Rattle.nd_graph.specs.Deferral.{Standing}
-use Rattle.nd_graph.specs.Setting.{cell_tree}
+use Rattle.nd_value.specs.Deferral.{Standing}
+use Rattle.nd_value.specs.Setting.{cell_tree}
 use Rattle.nd_grammar.proofs.next.NextPending.{AllPointers, AllDueMatch}
-use Rattle.nd_graph.proofs.Orderly.{Pointee}
-use Rattle.nd_graph.proofs.Apart.{all_append, among_left, among_right}
+use Rattle.nd_value.proofs.Orderly.{Pointee}
+use Rattle.nd_value.proofs.Apart.{all_append, among_left, among_right}
 use Rattle.nd_grammar.proofs.next.Next.{Pair, HomesMeet, Readings, Next, unread_left, unread_right, grown}
 use Rattle.nd_grammar.proofs.next.Matching.{CellsMatch, Matched, Known}
 use Rattle.nd_grammar.proofs.next.NextInPlace.{tests_next}

@@ -10,14 +10,14 @@ use Rattle.nd_types.specs.declared.types.TypeDef.TheVariants as def
 use Rattle.nd_types.specs.Table.{Table, type_at}
 use Rattle.nd_types.specs.Legal.{has_none_within, is_barred_in_pipes}
 use Rattle.nd_types.specs.Roots.{Root}
-use Rattle.nd_graph.specs.declared.value.Graph.{Graph}
-use Rattle.nd_graph.specs.Tree as tree
-use Rattle.nd_graph.specs.Tree.{Tree, Trees, node, none, more, Label}
-use Rattle.nd_graph.specs.Setting.{Setting, root_list, root_at, or_unread}
-use Rattle.nd_graph.specs.Variables.{starred}
-use Rattle.nd_graph.specs.Deferral.{due_roots, before_pipes, root_type}
-use Rattle.nd_graph.proofs.DeferralBridge.{some_before}
-use Rattle.nd_graph.proofs.NodeFacts.{IsSound}
+use Rattle.nd_value.specs.declared.value.Graph.{Graph}
+use Rattle.nd_value.specs.Tree as tree
+use Rattle.nd_value.specs.Tree.{Tree, Trees, node, none, more, Label}
+use Rattle.nd_value.specs.Setting.{Setting, root_list, root_at, or_unread}
+use Rattle.nd_value.specs.Variables.{starred}
+use Rattle.nd_value.specs.Deferral.{due_roots, before_pipes, root_type}
+use Rattle.nd_value.proofs.DeferralBridge.{some_before}
+use Rattle.nd_value.proofs.NodeFacts.{IsSound}
 use Rattle.nd_grammar.proofs.next.PointerPlaces.{root_there}
 use Rattle.nd_grammar.specs.Entry.{Entry}
 use Rattle.nd_grammar.specs.Stream.{Stream, step_entries, root_tests, pipes_entries}

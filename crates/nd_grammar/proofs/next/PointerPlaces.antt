@@ -9,22 +9,22 @@ use Rattle.nd_types.specs.declared.types.TypeDef.TheVariants as def
 use Rattle.nd_types.specs.declared.types.Class.TheVariants.{Ref}
 use Rattle.nd_types.specs.Table.{Table, type_at}
 use Rattle.nd_types.specs.Roots.{Root}
-use Rattle.nd_graph.specs.declared.value.Graph.{Graph}
-use Rattle.nd_graph.specs.declared.item.Home.{Home}
-use Rattle.nd_graph.specs.declared.item.Home.TheVariants as home
-use Rattle.nd_graph.specs.Tree as tree
-use Rattle.nd_graph.specs.Tree.{Tree, Trees, node, none, more, Label, Referent, node_count, is_pointer, cell_in}
-use Rattle.nd_graph.specs.Agreement.{Agreement}
-use Rattle.nd_graph.specs.Setting.{Setting, Among, root_list, root_at, or_unread, unread, cell_at, cell_tree, cell_of_number, cell_home}
-use Rattle.nd_graph.specs.Nodes.{TypedNode, nodes_of, child_types, child_agreements, first_agreements, rest_agreements}
-use Rattle.nd_graph.specs.Deferral.{Pending, pointer, pointer_by, home_pointers, direct, Standing, standing_by, standing_root, root_type}
-use Rattle.nd_graph.specs.Homes.{root_nodes, all_nodes, root_pointers, cell_pointers, all_pointers}
-use Rattle.nd_graph.specs.Misfit.{is_no_null_ref, names_cell, names_pointee}
-use Rattle.nd_graph.specs.Conforms.{AllEarlier}
-use Rattle.nd_graph.proofs.Apart.{all_append, all_left, all_right, all_weaker, all_among, among_left, among_right}
-use Rattle.nd_graph.proofs.Orderly.{PointerFits, pointee_of_cell}
-use Rattle.nd_graph.proofs.DeferralExists.{direct_is}
-use Rattle.nd_graph.proofs.NodeFacts.{IsSound, orderly}
+use Rattle.nd_value.specs.declared.value.Graph.{Graph}
+use Rattle.nd_value.specs.declared.item.Home.{Home}
+use Rattle.nd_value.specs.declared.item.Home.TheVariants as home
+use Rattle.nd_value.specs.Tree as tree
+use Rattle.nd_value.specs.Tree.{Tree, Trees, node, none, more, Label, Referent, node_count, is_pointer, cell_in}
+use Rattle.nd_value.specs.Agreement.{Agreement}
+use Rattle.nd_value.specs.Setting.{Setting, Among, root_list, root_at, or_unread, unread, cell_at, cell_tree, cell_of_number, cell_home}
+use Rattle.nd_value.specs.Nodes.{TypedNode, nodes_of, child_types, child_agreements, first_agreements, rest_agreements}
+use Rattle.nd_value.specs.Deferral.{Pending, pointer, pointer_by, home_pointers, direct, Standing, standing_by, standing_root, root_type}
+use Rattle.nd_value.specs.Homes.{root_nodes, all_nodes, root_pointers, cell_pointers, all_pointers}
+use Rattle.nd_value.specs.Misfit.{is_no_null_ref, names_cell, names_pointee}
+use Rattle.nd_value.specs.Conforms.{AllEarlier}
+use Rattle.nd_value.proofs.Apart.{all_append, all_left, all_right, all_weaker, all_among, among_left, among_right}
+use Rattle.nd_value.proofs.Orderly.{PointerFits, pointee_of_cell}
+use Rattle.nd_value.proofs.DeferralExists.{direct_is}
+use Rattle.nd_value.proofs.NodeFacts.{IsSound, orderly}
 
 module _ {X : Type 0} (R : X → X → Type 0) where
   pub earlier_append : (xs ys : List X) → AllEarlier R xs → AllEarlier R ys → AllByRecursion (λ x. AllByRecursion (R x) ys) xs → AllEarlier R (xs ++ ys)

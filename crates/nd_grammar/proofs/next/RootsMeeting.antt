@@ -9,17 +9,17 @@ use Rattle.nd_types.specs.declared.types.TypeDef.TheVariants as def
 use Rattle.nd_types.specs.declared.types.Class.TheVariants.{Ref, Unique, Full}
 use Rattle.nd_types.specs.Table.{type_at}
 use Rattle.nd_types.specs.Roots.{Root}
-use Rattle.nd_graph.specs.declared.value.Graph.{Graph}
-use Rattle.nd_graph.specs.Tree as tree
-use Rattle.nd_graph.specs.Tree.{Tree, Trees, node, none, more, Label, Referent, cell_in}
-use Rattle.nd_graph.specs.declared.item.Home.TheVariants as home
-use Rattle.nd_graph.specs.Setting.{Setting, Among, root_list, root_at, or_unread, unread, cell_at, cell_tree, cell_of_number}
-use Rattle.nd_graph.specs.Nodes.{child_types}
-use Rattle.nd_graph.specs.Misfit.{has_counts}
-use Rattle.nd_graph.specs.Homes.{all_pointers}
-use Rattle.nd_graph.specs.Deferral.{Pending, home_pointers, direct, Standing, standing_by, standing_root, root_type}
-use Rattle.nd_graph.proofs.DeferralExists.{direct_pointer}
-use Rattle.nd_graph.proofs.NodeFacts.{IsSound}
+use Rattle.nd_value.specs.declared.value.Graph.{Graph}
+use Rattle.nd_value.specs.Tree as tree
+use Rattle.nd_value.specs.Tree.{Tree, Trees, node, none, more, Label, Referent, cell_in}
+use Rattle.nd_value.specs.declared.item.Home.TheVariants as home
+use Rattle.nd_value.specs.Setting.{Setting, Among, root_list, root_at, or_unread, unread, cell_at, cell_tree, cell_of_number}
+use Rattle.nd_value.specs.Nodes.{child_types}
+use Rattle.nd_value.specs.Misfit.{has_counts}
+use Rattle.nd_value.specs.Homes.{all_pointers}
+use Rattle.nd_value.specs.Deferral.{Pending, home_pointers, direct, Standing, standing_by, standing_root, root_type}
+use Rattle.nd_value.proofs.DeferralExists.{direct_pointer}
+use Rattle.nd_value.proofs.NodeFacts.{IsSound}
 use Rattle.nd_grammar.proofs.next.PointerPlaces.{in_root}
 use Rattle.nd_grammar.proofs.next.Next.{Pair, Readings}
 use Rattle.nd_grammar.proofs.next.Matching.{Known, NodeKnown, Matched, PointeeKnown}

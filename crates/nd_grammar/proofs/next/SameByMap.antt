@@ -7,18 +7,18 @@ use Rattle.std.proofs.lemmas.Option.{same_Some, slice_get_within}
 use Rattle.nd_types.specs.declared.types.Class.{Class}
 use Rattle.nd_types.specs.Table.{Table}
 use Rattle.nd_types.specs.Roots.{Root}
-use Rattle.nd_graph.specs.declared.value.Graph.{Graph}
-use Rattle.nd_graph.specs.declared.item.Home.{Home}
-use Rattle.nd_graph.specs.declared.item.Home.TheVariants as home
-use Rattle.nd_graph.specs.Tree as tree
-use Rattle.nd_graph.specs.Tree.{Tree, Trees, node, none, more, Label, Referent, trees}
-use Rattle.nd_graph.specs.Setting.{Setting, Among, root_list, root_at, or_unread, cell_at, cell_tree, cell_of_number, cell_home}
-use Rattle.nd_graph.specs.Deferral.{home_pointers, before_pipes, root_type}
-use Rattle.nd_graph.specs.Homes.{root_pointers}
-use Rattle.nd_graph.specs.Conforms.{Reached, by_root, by_cell}
-use Rattle.nd_graph.specs.Same.{Same, renumbered}
-use Rattle.nd_graph.proofs.Apart.{all_among}
-use Rattle.nd_graph.proofs.NodeFacts.{IsSound}
+use Rattle.nd_value.specs.declared.value.Graph.{Graph}
+use Rattle.nd_value.specs.declared.item.Home.{Home}
+use Rattle.nd_value.specs.declared.item.Home.TheVariants as home
+use Rattle.nd_value.specs.Tree as tree
+use Rattle.nd_value.specs.Tree.{Tree, Trees, node, none, more, Label, Referent, trees}
+use Rattle.nd_value.specs.Setting.{Setting, Among, root_list, root_at, or_unread, cell_at, cell_tree, cell_of_number, cell_home}
+use Rattle.nd_value.specs.Deferral.{home_pointers, before_pipes, root_type}
+use Rattle.nd_value.specs.Homes.{root_pointers}
+use Rattle.nd_value.specs.Conforms.{Reached, by_root, by_cell}
+use Rattle.nd_value.specs.Same.{Same, renumbered}
+use Rattle.nd_value.proofs.Apart.{all_among}
+use Rattle.nd_value.proofs.NodeFacts.{IsSound}
 use Rattle.nd_grammar.proofs.next.Next.{Pair, IsApart, OneToOne, Readings}
 use Rattle.nd_grammar.proofs.next.Matching.{Known, Matched, CellsMatch}
 use Rattle.nd_grammar.proofs.next.NextPending.{AllPointers, nodes_match, both}

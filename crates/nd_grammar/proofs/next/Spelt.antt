@@ -7,8 +7,8 @@ use Rattle.nd_base.specs.declared.octets.Order.{Order}
 use Rattle.nd_types.specs.declared.types.Class.{Class}
 use Rattle.nd_types.specs.declared.types.Class.TheVariants.{Ref, Unique, Full}
 use Rattle.nd_types.specs.Number.{unsigned}
-use Rattle.nd_graph.specs.Setting.{Among}
-use Rattle.nd_graph.proofs.Apart.{among_left, among_right}
+use Rattle.nd_value.specs.Setting.{Among}
+use Rattle.nd_value.proofs.Apart.{among_left, among_right}
 use Rattle.nd_grammar.specs.Entry.{Kind, Entry, Align, Max, Offset, Actual, Chunk, Number, Num, Tag, Text, Context, Test, Unread, size_at, EntryAt, end_to_end, end_of, full_cell, full_cells}
 use Rattle.nd_grammar.specs.Represents.{piece, Spells, IsRendered, IsNumber, IsNumbering}
 use Rattle.nd_grammar.specs.NextMark.{form}

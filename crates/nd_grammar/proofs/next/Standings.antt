@@ -5,19 +5,19 @@ use Rattle.nd_types.specs.declared.types.Attr.{Attr}
 use Rattle.nd_types.specs.declared.types.Class.{Class}
 use Rattle.nd_types.specs.declared.types.Class.TheVariants.{Ref, Unique, Full}
 use Rattle.nd_types.specs.Table.{Table}
-use Rattle.nd_graph.specs.declared.value.Graph.{Graph}
-use Rattle.nd_graph.specs.declared.item.Home.{Home}
-use Rattle.nd_graph.specs.Tree as tree
-use Rattle.nd_graph.specs.Tree.{Tree, Trees, node, none, more, count, node_count, Label, Referent, is_pointer, cell_in}
-use Rattle.nd_graph.specs.Agreement.{found_in}
+use Rattle.nd_value.specs.declared.value.Graph.{Graph}
+use Rattle.nd_value.specs.declared.item.Home.{Home}
+use Rattle.nd_value.specs.Tree as tree
+use Rattle.nd_value.specs.Tree.{Tree, Trees, node, none, more, count, node_count, Label, Referent, is_pointer, cell_in}
+use Rattle.nd_value.specs.Agreement.{found_in}
 use Rattle.std.specs.List.{AllByRecursion, slice_get}
-use Rattle.nd_graph.specs.Setting.{Setting, Among, cell_at, cell_of_number, root_at, root_list}
-use Rattle.nd_graph.specs.Deferral.{Pending, home_pointers, Due, due_root, due_referent, root_cell, root_type, Placed_cells, IsPlaced, IsPlacedFull, AreFree}
-use Rattle.nd_graph.specs.Deferral.{Standing}
+use Rattle.nd_value.specs.Setting.{Setting, Among, cell_at, cell_of_number, root_at, root_list}
+use Rattle.nd_value.specs.Deferral.{Pending, home_pointers, Due, due_root, due_referent, root_cell, root_type, Placed_cells, IsPlaced, IsPlacedFull, AreFree}
+use Rattle.nd_value.specs.Deferral.{Standing}
 use Rattle.nd_grammar.proofs.next.NextPending.{PointersMatch, AllPointers, nodes_match}
 use Rattle.nd_types.specs.Roots.{Root}
-use Rattle.nd_graph.specs.Homes.{all_pointers}
-use Rattle.nd_graph.proofs.Apart.{all_append, all_weaker}
+use Rattle.nd_value.specs.Homes.{all_pointers}
+use Rattle.nd_value.proofs.Apart.{all_append, all_weaker}
 use Rattle.nd_grammar.proofs.next.Next.{Pair, IsApart, OneToOne, HomesMeet, homes_grown, Readings}
 use Rattle.nd_grammar.proofs.next.Matching.{bare, CellsMatch, Matched, Known, matched_count, found_same}
 use Rattle.nd_grammar.proofs.next.Carried.{InMap, AllInMap, carried}

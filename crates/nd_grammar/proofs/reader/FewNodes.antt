@@ -16,12 +16,12 @@ use Rattle.nd_types.specs.Table.{Table, type_at, width, selected}
 use Rattle.nd_types.specs.Layout.{parts, hoists, hoists_by}
 use Rattle.nd_types.specs.Legal.{IsLegal, has_member, has_small_bound}
 use Rattle.nd_types.proofs.LegalLaws.{passes_at}
-use Rattle.nd_graph.specs.declared.item.Home.{Home}
-use Rattle.nd_graph.specs.Tree as tree
-use Rattle.nd_graph.specs.Tree.{Tree, Trees, node, none, more, Label, count, node_count}
-use Rattle.nd_graph.specs.Nodes.{child_types, child_agreements, selected_types}
-use Rattle.nd_graph.specs.Misfit.{has_shape, has_counts}
-use Rattle.nd_graph.proofs.Apart.{all_left, all_right}
+use Rattle.nd_value.specs.declared.item.Home.{Home}
+use Rattle.nd_value.specs.Tree as tree
+use Rattle.nd_value.specs.Tree.{Tree, Trees, node, none, more, Label, count, node_count}
+use Rattle.nd_value.specs.Nodes.{child_types, child_agreements, selected_types}
+use Rattle.nd_value.specs.Misfit.{has_shape, has_counts}
+use Rattle.nd_value.proofs.Apart.{all_left, all_right}
 use Rattle.nd_grammar.specs.Entry.{Entry}
 use Rattle.nd_grammar.specs.InPlace.{before_children, entries, tag_entries, in_place, child_tests}
 use Rattle.nd_grammar.specs.Reader.{tree_nodes}

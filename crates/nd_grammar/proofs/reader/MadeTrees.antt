@@ -7,16 +7,16 @@ use Rattle.std.proofs.lemmas.Option.{slice_get_within}
 use Rattle.nd_types.specs.declared.types.TypeDef.{TypeDef}
 use Rattle.nd_types.specs.declared.types.TypeDef.TheVariants as def
 use Rattle.nd_types.specs.Table.{Table, type_at, fits_octets}
-use Rattle.nd_graph.specs.declared.value.Graph.{Graph}
-use Rattle.nd_graph.specs.declared.item.Home.{Home}
-use Rattle.nd_graph.specs.Tree as tree
-use Rattle.nd_graph.specs.Tree.{Tree, Trees, node, none, more, Label, Referent, count, node_count, is_pointer, cell_in}
-use Rattle.nd_graph.specs.Agreement.{Agreement}
-use Rattle.nd_graph.specs.Nodes.{TypedNode, nodes_of, child_types, child_agreements, first_agreements, rest_agreements}
-use Rattle.nd_graph.specs.Deferral.{Pending, pointer, pointer_by}
-use Rattle.nd_graph.specs.Misfit.{has_shape, has_range, is_no_null_ref, has_counts, has_machine_values, names_cell, names_pointee, has_type, is_partial_node, is_unread}
-use Rattle.nd_graph.proofs.Apart.{all_append, all_left, all_right}
-use Rattle.nd_graph.proofs.Waiting.{not_equal}
+use Rattle.nd_value.specs.declared.value.Graph.{Graph}
+use Rattle.nd_value.specs.declared.item.Home.{Home}
+use Rattle.nd_value.specs.Tree as tree
+use Rattle.nd_value.specs.Tree.{Tree, Trees, node, none, more, Label, Referent, count, node_count, is_pointer, cell_in}
+use Rattle.nd_value.specs.Agreement.{Agreement}
+use Rattle.nd_value.specs.Nodes.{TypedNode, nodes_of, child_types, child_agreements, first_agreements, rest_agreements}
+use Rattle.nd_value.specs.Deferral.{Pending, pointer, pointer_by}
+use Rattle.nd_value.specs.Misfit.{has_shape, has_range, is_no_null_ref, has_counts, has_machine_values, names_cell, names_pointee, has_type, is_partial_node, is_unread}
+use Rattle.nd_value.proofs.Apart.{all_append, all_left, all_right}
+use Rattle.nd_value.proofs.Waiting.{not_equal}
 
 -- what a node says by itself is of the program; that a pointer's cell is one of few is said of the graph
 abbrev pub has_own_values : Label → Bool

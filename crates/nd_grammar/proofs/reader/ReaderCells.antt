@@ -6,14 +6,14 @@ use Rattle.std.proofs.lemmas.Option.{same_Some}
 use Rattle.nd_base.specs.declared.octets.Order.{Order}
 use Rattle.nd_types.specs.Table.{Table, type_at}
 use Rattle.nd_types.specs.Roots.{Root}
-use Rattle.nd_graph.specs.declared.item.Home.{Home}
-use Rattle.nd_graph.specs.declared.item.Home.TheVariants as home
-use Rattle.nd_graph.specs.Tree.{Tree, none, more, Referent}
-use Rattle.nd_graph.specs.Setting.{unread, cell_home}
-use Rattle.nd_graph.specs.Deferral.{Pending, home_pointers}
-use Rattle.nd_graph.specs.Homes.{root_pointers, cell_pointers}
-use Rattle.nd_graph.specs.Conforms.{AllEarlier, ShareOnlyIfFull}
-use Rattle.nd_graph.proofs.Apart.{all_append, all_left, all_right, all_weaker, moved}
+use Rattle.nd_value.specs.declared.item.Home.{Home}
+use Rattle.nd_value.specs.declared.item.Home.TheVariants as home
+use Rattle.nd_value.specs.Tree.{Tree, none, more, Referent}
+use Rattle.nd_value.specs.Setting.{unread, cell_home}
+use Rattle.nd_value.specs.Deferral.{Pending, home_pointers}
+use Rattle.nd_value.specs.Homes.{root_pointers, cell_pointers}
+use Rattle.nd_value.specs.Conforms.{AllEarlier, ShareOnlyIfFull}
+use Rattle.nd_value.proofs.Apart.{all_append, all_left, all_right, all_weaker, moved}
 use Rattle.nd_grammar.specs.Entry.{EntryAt}
 use Rattle.nd_grammar.specs.Reader.{Progress, Names}
 use Rattle.nd_grammar.specs.StreamReader.{with_value}

@@ -12,10 +12,10 @@ use Rattle.nd_types.specs.declared.types.Primitive.{Primitive}
 use Rattle.nd_types.specs.declared.types.Primitive.TheVariants.{Short}
 use Rattle.nd_types.specs.Table.{Table, type_at, width, carrier}
 use Rattle.nd_types.specs.Layout.{parts, hoists, hoists_by, align_of}
-use Rattle.nd_graph.specs.declared.item.Home.{Home}
-use Rattle.nd_graph.specs.Tree as tree
-use Rattle.nd_graph.specs.Tree.{Tree, Trees, node, none, more, Label, count, node_count}
-use Rattle.nd_graph.specs.Nodes.{child_types, child_agreements}
+use Rattle.nd_value.specs.declared.item.Home.{Home}
+use Rattle.nd_value.specs.Tree as tree
+use Rattle.nd_value.specs.Tree.{Tree, Trees, node, none, more, Label, count, node_count}
+use Rattle.nd_value.specs.Nodes.{child_types, child_agreements}
 use Rattle.nd_grammar.specs.declared.reason.Reason.{Reason}
 use Rattle.nd_grammar.specs.Entry.{Kind, Entry, Align, Max, Offset, Actual, Tag}
 use Rattle.nd_grammar.specs.InPlace.{before_children, entries, tag_entries, in_place, child_tests, hoisted, hoisted_max, own_max, whole_value}

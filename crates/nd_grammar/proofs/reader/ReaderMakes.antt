@@ -16,15 +16,15 @@ use Rattle.nd_types.specs.declared.types.Primitive.TheVariants.{Short}
 use Rattle.nd_types.specs.Table.{Table, type_at, width, selected, fits_octets, in_range}
 use Rattle.nd_types.specs.Layout.{parts, hoists, hoists_by, align_of, arm_type}
 use Rattle.nd_types.specs.Number.{AreOctets}
-use Rattle.nd_graph.specs.declared.item.Home.{Home}
-use Rattle.nd_graph.specs.Tree as tree
-use Rattle.nd_graph.specs.Tree.{Tree, Trees, node, none, more, Label, count, node_count, is_pointer, cell_in}
-use Rattle.nd_graph.specs.Agreement.{Agreement}
-use Rattle.nd_graph.specs.Setting.{Among, unread}
-use Rattle.nd_graph.specs.Nodes.{nodes_of, child_types, child_agreements, first_agreements, rest_agreements, selected_types}
-use Rattle.nd_graph.specs.Deferral.{Pending, pointer, pointer_by}
-use Rattle.nd_graph.specs.Misfit.{is_no_null_ref, is_bound, arm_fits}
-use Rattle.nd_graph.proofs.Apart.{among_left, among_right}
+use Rattle.nd_value.specs.declared.item.Home.{Home}
+use Rattle.nd_value.specs.Tree as tree
+use Rattle.nd_value.specs.Tree.{Tree, Trees, node, none, more, Label, count, node_count, is_pointer, cell_in}
+use Rattle.nd_value.specs.Agreement.{Agreement}
+use Rattle.nd_value.specs.Setting.{Among, unread}
+use Rattle.nd_value.specs.Nodes.{nodes_of, child_types, child_agreements, first_agreements, rest_agreements, selected_types}
+use Rattle.nd_value.specs.Deferral.{Pending, pointer, pointer_by}
+use Rattle.nd_value.specs.Misfit.{is_no_null_ref, is_bound, arm_fits}
+use Rattle.nd_value.proofs.Apart.{among_left, among_right}
 use Rattle.nd_grammar.specs.declared.reason.Reason.{Reason}
 use Rattle.nd_grammar.specs.Entry.{Kind, Entry, Align, Max, Offset, Actual, Number, Num, Tag, Text, Context}
 use Rattle.nd_grammar.specs.InPlace.{child_tests}

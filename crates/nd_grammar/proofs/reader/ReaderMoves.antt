@@ -7,8 +7,8 @@ use Rattle.nd_base.specs.declared.octets.Order.{Order}
 use Rattle.nd_base.specs.declared.TheConstants.{STREAM_LIMIT}
 use Rattle.nd_types.specs.declared.types.Class.{Class}
 use Rattle.nd_types.specs.declared.types.Class.TheVariants.{Ref, Unique, Full}
-use Rattle.nd_graph.specs.Conforms.{AllEarlier}
-use Rattle.nd_graph.proofs.Apart.{all_weaker}
+use Rattle.nd_value.specs.Conforms.{AllEarlier}
+use Rattle.nd_value.proofs.Apart.{all_weaker}
 use Rattle.nd_grammar.specs.declared.reason.Reason.{Reason}
 use Rattle.nd_grammar.specs.declared.reason.Reason.TheVariants as reason
 use Rattle.nd_grammar.specs.Entry.{Entry, size_at}

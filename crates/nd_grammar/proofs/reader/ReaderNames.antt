@@ -6,11 +6,11 @@ use Rattle.std.proofs.lemmas.List.{append-nil}
 use Rattle.nd_base.specs.declared.octets.Order.{Order}
 use Rattle.nd_types.specs.declared.types.Class.{Class}
 use Rattle.nd_types.specs.declared.types.Class.TheVariants.{Ref, Unique, Full}
-use Rattle.nd_graph.specs.Tree.{Referent}
-use Rattle.nd_graph.specs.Setting.{Among, unread}
-use Rattle.nd_graph.specs.Deferral.{Pending}
-use Rattle.nd_graph.specs.Conforms.{AllEarlier, ShareOnlyIfFull}
-use Rattle.nd_graph.proofs.Apart.{all_append, all_weaker}
+use Rattle.nd_value.specs.Tree.{Referent}
+use Rattle.nd_value.specs.Setting.{Among, unread}
+use Rattle.nd_value.specs.Deferral.{Pending}
+use Rattle.nd_value.specs.Conforms.{AllEarlier, ShareOnlyIfFull}
+use Rattle.nd_value.proofs.Apart.{all_append, all_weaker}
 use Rattle.nd_grammar.specs.declared.reason.Reason.{Reason}
 use Rattle.nd_grammar.specs.Entry.{Entry, EntryAt}
 use Rattle.nd_grammar.specs.Refusal.{refusal, is_other}

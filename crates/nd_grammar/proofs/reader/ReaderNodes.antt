@@ -14,8 +14,8 @@ use Rattle.nd_types.specs.declared.types.Class.TheVariants.{Ref, Unique, Full}
 use Rattle.nd_types.specs.declared.types.Primitive.{Primitive}
 use Rattle.nd_types.specs.Table.{width}
 use Rattle.nd_types.specs.Number.{unsigned, in_order}
-use Rattle.nd_graph.specs.declared.item.Home.{Home}
-use Rattle.nd_graph.proofs.Apart.{all_right}
+use Rattle.nd_value.specs.declared.item.Home.{Home}
+use Rattle.nd_value.proofs.Apart.{all_right}
 use Rattle.nd_grammar.specs.declared.reason.Reason.{Reason}
 use Rattle.nd_grammar.specs.declared.reason.Reason.TheVariants as reason
 use Rattle.nd_grammar.specs.Entry.{Kind, Entry, Align, Max, Offset, Actual, Number, Num, Tag, Text, Context, size_at}

@@ -3,10 +3,10 @@ use Rattle.std.proofs.Common.{◌≡◌, ℕ, ◌^◌, ◌<◌, List, [], ◌∷
 use Rattle.std.specs.Prelude.{eqb, cond}
 use Rattle.std.specs.List.{AllByRecursion}
 use Rattle.std.proofs.lemmas.Bool.{eq-eqb}
-use Rattle.nd_graph.specs.Setting.{Among}
-use Rattle.nd_graph.specs.Conforms.{AllEarlier}
-use Rattle.nd_graph.proofs.Apart.{all_among}
-use Rattle.nd_graph.proofs.Waiting.{not_equal}
+use Rattle.nd_value.specs.Setting.{Among}
+use Rattle.nd_value.specs.Conforms.{AllEarlier}
+use Rattle.nd_value.proofs.Apart.{all_among}
+use Rattle.nd_value.proofs.Waiting.{not_equal}
 use Rattle.nd_grammar.specs.Represents.{IsNumbering}
 use Rattle.nd_grammar.specs.Reader.{Names}
 use Rattle.nd_grammar.proofs.reader.ReaderNodes.{Agree}

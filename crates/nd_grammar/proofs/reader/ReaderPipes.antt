@@ -11,15 +11,15 @@ use Rattle.nd_types.specs.declared.types.TypeDef.TheVariants as def
 use Rattle.nd_types.specs.Table.{Table, type_at}
 use Rattle.nd_types.specs.Roots.{Root}
 use Rattle.nd_types.specs.Number.{AreOctets}
-use Rattle.nd_graph.specs.declared.item.Home.{Home}
-use Rattle.nd_graph.specs.declared.item.Home.TheVariants as home
-use Rattle.nd_graph.specs.Tree as tree
-use Rattle.nd_graph.specs.Tree.{Tree, Trees, node, none, more, Label, Referent, count, node_count, take_trees, drop_trees, joined}
-use Rattle.nd_graph.specs.Setting.{Setting, unread}
-use Rattle.nd_graph.specs.Nodes.{nodes_of}
-use Rattle.nd_graph.specs.Deferral.{pointer}
-use Rattle.nd_graph.specs.Homes.{root_pointers}
-use Rattle.nd_graph.proofs.Apart.{all_append}
+use Rattle.nd_value.specs.declared.item.Home.{Home}
+use Rattle.nd_value.specs.declared.item.Home.TheVariants as home
+use Rattle.nd_value.specs.Tree as tree
+use Rattle.nd_value.specs.Tree.{Tree, Trees, node, none, more, Label, Referent, count, node_count, take_trees, drop_trees, joined}
+use Rattle.nd_value.specs.Setting.{Setting, unread}
+use Rattle.nd_value.specs.Nodes.{nodes_of}
+use Rattle.nd_value.specs.Deferral.{pointer}
+use Rattle.nd_value.specs.Homes.{root_pointers}
+use Rattle.nd_value.proofs.Apart.{all_append}
 use Rattle.nd_grammar.specs.LegalSide.{IsLegalSide}
 use Rattle.nd_grammar.specs.declared.reason.Reason.{Reason}
 use Rattle.nd_grammar.specs.Entry.{Kind, Entry, Align, Chunk, size_at}

@@ -1,13 +1,13 @@
 -- Every cell that the reader makes is reached from a root.
 use Rattle.std.proofs.Common.{◌≡◌, ℕ, ◌<◌, ◌≤◌, zero, suc, List, [], ◌∷◌, ◌++◌, length, Some, refl, ap, sym, ◌∙◌, inl, inr, ◌⊎◌, arith, subst}
 use Rattle.std.proofs.lemmas.Option.{same_Some}
-use Rattle.nd_graph.specs.declared.value.Graph.{Graph}
-use Rattle.nd_graph.specs.Tree.{Tree, Referent}
-use Rattle.nd_graph.specs.Setting.{Setting, Among, root_list, unread, cell_home, cell_of_number}
-use Rattle.nd_graph.specs.Deferral.{Pending, home_pointers}
-use Rattle.nd_graph.specs.Homes.{root_pointers}
-use Rattle.nd_graph.specs.Conforms.{Reached, by_root, by_cell}
-use Rattle.nd_graph.proofs.Apart.{among_left, among_right}
+use Rattle.nd_value.specs.declared.value.Graph.{Graph}
+use Rattle.nd_value.specs.Tree.{Tree, Referent}
+use Rattle.nd_value.specs.Setting.{Setting, Among, root_list, unread, cell_home, cell_of_number}
+use Rattle.nd_value.specs.Deferral.{Pending, home_pointers}
+use Rattle.nd_value.specs.Homes.{root_pointers}
+use Rattle.nd_value.specs.Conforms.{Reached, by_root, by_cell}
+use Rattle.nd_value.proofs.Apart.{among_left, among_right}
 use Rattle.nd_grammar.specs.Reader.{Names}
 use Rattle.nd_grammar.specs.StreamReader.{graph_of, with_value}
 use Rattle.nd_grammar.proofs.reader.ReaderNames.{cell_in, cell_kept}

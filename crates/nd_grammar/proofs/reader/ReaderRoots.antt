@@ -12,15 +12,15 @@ use Rattle.nd_types.specs.Table.{type_at}
 use Rattle.nd_types.specs.Roots.{Root}
 use Rattle.nd_types.specs.Layout.{hoists}
 use Rattle.nd_types.specs.Number.{AreOctets}
-use Rattle.nd_graph.specs.declared.value.Graph.{Graph}
-use Rattle.nd_graph.specs.declared.item.Home.TheVariants as home
-use Rattle.nd_graph.specs.Tree as tree
-use Rattle.nd_graph.specs.Tree.{Tree, Trees, node, none, more, Referent}
-use Rattle.nd_graph.specs.Setting.{Setting, root_list, root_at, or_unread, unread, cell_home, cell_at, cell_tree}
-use Rattle.nd_graph.specs.Deferral.{Pending, Due, due_root, due_referent, due_roots, before_pipes, home_pointers, IsPlaced, root_stands, Standing, standing_root, standing_by, direct, root_type}
-use Rattle.nd_graph.specs.Homes.{root_pointers, cell_pointers}
-use Rattle.nd_graph.proofs.Apart.{all_append}
-use Rattle.nd_graph.proofs.DeferralExists.{direct_pointer}
+use Rattle.nd_value.specs.declared.value.Graph.{Graph}
+use Rattle.nd_value.specs.declared.item.Home.TheVariants as home
+use Rattle.nd_value.specs.Tree as tree
+use Rattle.nd_value.specs.Tree.{Tree, Trees, node, none, more, Referent}
+use Rattle.nd_value.specs.Setting.{Setting, root_list, root_at, or_unread, unread, cell_home, cell_at, cell_tree}
+use Rattle.nd_value.specs.Deferral.{Pending, Due, due_root, due_referent, due_roots, before_pipes, home_pointers, IsPlaced, root_stands, Standing, standing_root, standing_by, direct, root_type}
+use Rattle.nd_value.specs.Homes.{root_pointers, cell_pointers}
+use Rattle.nd_value.proofs.Apart.{all_append}
+use Rattle.nd_value.proofs.DeferralExists.{direct_pointer}
 use Rattle.nd_grammar.specs.LegalSide.{IsLegalSide}
 use Rattle.nd_grammar.specs.declared.reason.Reason.{Reason}
 use Rattle.nd_grammar.specs.InPlace.{whole_value}

@@ -7,12 +7,12 @@ use Rattle.nd_types.specs.declared.types.Class.TheVariants.{Full}
 use Rattle.nd_types.specs.Table.{Table, type_at}
 use Rattle.nd_types.specs.Roots.{Root}
 use Rattle.nd_types.specs.Number.{AreOctets}
-use Rattle.nd_graph.specs.declared.item.Home.{Home}
-use Rattle.nd_graph.specs.Tree.{Tree, none, more, Referent}
-use Rattle.nd_graph.specs.Setting.{Setting, Among, root_list, unread, cell_home}
-use Rattle.nd_graph.specs.Deferral.{Pending, Due, before_pipes, home_pointers, IsPlaced, IsPlacedFull, Placed_cells}
-use Rattle.nd_graph.specs.Homes.{root_pointers, cell_pointers, all_pointers}
-use Rattle.nd_graph.proofs.Apart.{all_append, among_left, among_right}
+use Rattle.nd_value.specs.declared.item.Home.{Home}
+use Rattle.nd_value.specs.Tree.{Tree, none, more, Referent}
+use Rattle.nd_value.specs.Setting.{Setting, Among, root_list, unread, cell_home}
+use Rattle.nd_value.specs.Deferral.{Pending, Due, before_pipes, home_pointers, IsPlaced, IsPlacedFull, Placed_cells}
+use Rattle.nd_value.specs.Homes.{root_pointers, cell_pointers, all_pointers}
+use Rattle.nd_value.proofs.Apart.{all_append, among_left, among_right}
 use Rattle.nd_grammar.specs.LegalSide.{IsLegalSide}
 use Rattle.nd_grammar.specs.InPlace.{tests, whole_value}
 use Rattle.nd_grammar.specs.Reader.{Progress, Names, Read, read_whole}

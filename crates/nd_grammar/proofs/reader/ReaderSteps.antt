@@ -1,10 +1,10 @@
 -- The steps of the reader: entries that are passed, and what octets spell of them.
 use Rattle.std.proofs.Common.{◌≡◌, ℕ, ◌+◌, Bool, true, false, List, [], ◌∷◌, ◌++◌, length, Option, Some, None, refl, ap, ap₂, sym, ◌∙◌, subst, take, drop}
 use Rattle.nd_base.specs.declared.octets.Order.{Order}
-use Rattle.nd_graph.specs.declared.item.Home.{Home}
-use Rattle.nd_graph.specs.Tree.{Tree, Trees, node, none, more, node_count, is_pointer}
-use Rattle.nd_graph.specs.Agreement.{Agreement, found_in}
-use Rattle.nd_graph.specs.Nodes.{first_agreements, rest_agreements}
+use Rattle.nd_value.specs.declared.item.Home.{Home}
+use Rattle.nd_value.specs.Tree.{Tree, Trees, node, none, more, node_count, is_pointer}
+use Rattle.nd_value.specs.Agreement.{Agreement, found_in}
+use Rattle.nd_value.specs.Nodes.{first_agreements, rest_agreements}
 use Rattle.nd_types.specs.declared.types.Class.TheVariants.{Ref, Unique, Full}
 use Rattle.nd_grammar.specs.declared.reason.Reason.{Reason}
 use Rattle.nd_grammar.specs.declared.reason.Reason.TheVariants as reason

@@ -15,18 +15,18 @@ use Rattle.nd_types.specs.declared.TheConstants.{PARAM_LIMIT, HANDLE}
 use Rattle.nd_types.specs.Table.{Table}
 use Rattle.nd_types.specs.Roots.{Root, roots_of, params_from, root_of, result_root, travels}
 use Rattle.nd_types.specs.Number.{AreOctets}
-use Rattle.nd_graph.specs.declared.value.Graph.{Graph}
-use Rattle.nd_graph.specs.declared.item.Home.{Home}
-use Rattle.nd_graph.specs.declared.item.Home.TheVariants as home
-use Rattle.nd_graph.specs.Tree.{Tree, none, more, Referent}
-use Rattle.nd_graph.specs.Setting.{Setting, Among, root_list, or_unread, unread, cell_home, cell_at, cell_tree}
-use Rattle.nd_graph.specs.Nodes.{TypedNode, governed_nodes, home_nodes}
-use Rattle.nd_graph.specs.Deferral.{Pending, due_roots, before_pipes, home_pointers, Step, Deferral, none_due}
-use Rattle.nd_graph.specs.Variables.{root_agreements}
-use Rattle.nd_graph.specs.Homes.{HomeNode, in_home, root_nodes, cell_nodes, all_nodes, root_pointers, cell_pointers, all_pointers}
-use Rattle.nd_graph.specs.Misfit.{is_partial_node, has_machine_values}
-use Rattle.nd_graph.specs.Conforms.{IsPartial}
-use Rattle.nd_graph.proofs.Apart.{all_append, all_left, all_right, all_weaker}
+use Rattle.nd_value.specs.declared.value.Graph.{Graph}
+use Rattle.nd_value.specs.declared.item.Home.{Home}
+use Rattle.nd_value.specs.declared.item.Home.TheVariants as home
+use Rattle.nd_value.specs.Tree.{Tree, none, more, Referent}
+use Rattle.nd_value.specs.Setting.{Setting, Among, root_list, or_unread, unread, cell_home, cell_at, cell_tree}
+use Rattle.nd_value.specs.Nodes.{TypedNode, governed_nodes, home_nodes}
+use Rattle.nd_value.specs.Deferral.{Pending, due_roots, before_pipes, home_pointers, Step, Deferral, none_due}
+use Rattle.nd_value.specs.Variables.{root_agreements}
+use Rattle.nd_value.specs.Homes.{HomeNode, in_home, root_nodes, cell_nodes, all_nodes, root_pointers, cell_pointers, all_pointers}
+use Rattle.nd_value.specs.Misfit.{is_partial_node, has_machine_values}
+use Rattle.nd_value.specs.Conforms.{IsPartial}
+use Rattle.nd_value.proofs.Apart.{all_append, all_left, all_right, all_weaker}
 use Rattle.nd_grammar.specs.LegalSide.{IsLegalSide}
 use Rattle.nd_grammar.specs.Entry.{Entry, full_cells}
 use Rattle.nd_grammar.specs.Represents.{IsNumbering}

@@ -4,16 +4,16 @@ use Rattle.std.specs.List.{AllByRecursion}
 use Rattle.nd_base.specs.declared.octets.Order.{Order}
 use Rattle.nd_types.specs.declared.types.Attr.{Attr}
 use Rattle.nd_types.specs.declared.types.AttrVar.{AttrVar}
-use Rattle.nd_types.specs.Roots.{Root}
-use Rattle.nd_graph.specs.declared.value.Graph.{Graph}
-use Rattle.nd_graph.specs.declared.item.Home.{Home}
-use Rattle.nd_graph.specs.declared.item.Home.TheVariants as home
-use Rattle.nd_graph.specs.Tree as tree
-use Rattle.nd_graph.specs.Tree.{Tree, Trees, node, none, more}
-use Rattle.nd_graph.specs.Agreement.{Agreement, agreement, number_of, found_in}
-use Rattle.nd_graph.specs.Setting.{Setting, root_list, root_at, cell_at, cell_home, unread}
-use Rattle.nd_graph.specs.Variables.{root_index, starred, given_value, variable, root_agreements}
-use Rattle.nd_graph.proofs.Apart.{all_append}
+use Rattle.nd_types.specs.Roots.{Root, root_index}
+use Rattle.nd_value.specs.declared.value.Graph.{Graph}
+use Rattle.nd_value.specs.declared.item.Home.{Home}
+use Rattle.nd_value.specs.declared.item.Home.TheVariants as home
+use Rattle.nd_value.specs.Tree as tree
+use Rattle.nd_value.specs.Tree.{Tree, Trees, node, none, more}
+use Rattle.nd_value.specs.Agreement.{Agreement, agreement, number_of, found_in}
+use Rattle.nd_value.specs.Setting.{Setting, root_list, root_at, cell_at, cell_home, unread}
+use Rattle.nd_value.specs.Variables.{starred, given_value, variable, root_agreements}
+use Rattle.nd_value.proofs.Apart.{all_append}
 use Rattle.nd_grammar.specs.Entry.{Entry, Test}
 use Rattle.nd_grammar.specs.InPlace.{tests}
 use Rattle.nd_grammar.specs.Represents.{Spells}

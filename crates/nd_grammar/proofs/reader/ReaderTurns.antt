@@ -7,12 +7,12 @@ use Rattle.nd_base.specs.declared.octets.Order.{Order}
 use Rattle.nd_types.specs.declared.types.Class.{Class}
 use Rattle.nd_types.specs.declared.types.Class.TheVariants.{Ref, Unique, Full}
 use Rattle.nd_types.specs.Number.{AreOctets}
-use Rattle.nd_graph.specs.declared.value.Graph.{Graph}
-use Rattle.nd_graph.specs.Tree.{Tree, Referent}
-use Rattle.nd_graph.specs.Setting.{Setting, cell_home, cell_at, cell_tree}
-use Rattle.nd_graph.specs.Deferral.{Pending, Due, due_root, due_referent, due_roots, due_of, home_pointers, IsPlaced, IsPlacedFull, Placed_cells, Step, root_stands, referent_stands, stands_already, Deferral, at_root, at_null, at_standing, at_referent, Standing, standing_root, standing_cell, root_cell, AreFree}
-use Rattle.nd_graph.specs.Conforms.{ShareOnlyIfFull}
-use Rattle.nd_graph.proofs.Apart.{all_append, all_left, all_among, among_left, earlier_meets}
+use Rattle.nd_value.specs.declared.value.Graph.{Graph}
+use Rattle.nd_value.specs.Tree.{Tree, Referent}
+use Rattle.nd_value.specs.Setting.{Setting, cell_home, cell_at, cell_tree}
+use Rattle.nd_value.specs.Deferral.{Pending, Due, due_root, due_referent, due_roots, due_of, home_pointers, IsPlaced, IsPlacedFull, Placed_cells, Step, root_stands, referent_stands, stands_already, Deferral, at_root, at_null, at_standing, at_referent, Standing, standing_root, standing_cell, root_cell, AreFree}
+use Rattle.nd_value.specs.Conforms.{ShareOnlyIfFull}
+use Rattle.nd_value.proofs.Apart.{all_append, all_left, all_among, among_left, earlier_meets}
 use Rattle.nd_grammar.specs.LegalSide.{IsLegalSide}
 use Rattle.nd_grammar.specs.Entry.{Entry}
 use Rattle.nd_grammar.specs.InPlace.{tests, whole_value}

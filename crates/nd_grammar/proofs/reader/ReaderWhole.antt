@@ -3,7 +3,7 @@ use Rattle.std.proofs.Common.{ℕ, Bool, true, false, List}
 use Rattle.nd_base.specs.declared.octets.Order.{Order}
 use Rattle.nd_types.specs.Table.{Table, type_at}
 use Rattle.nd_types.specs.Layout.{hoists}
-use Rattle.nd_graph.specs.declared.item.Home.{Home}
+use Rattle.nd_value.specs.declared.item.Home.{Home}
 use Rattle.nd_grammar.specs.Entry.{Align, Max}
 use Rattle.nd_grammar.specs.Reader.{Progress, Names, is_stopped, pass, taken, number_in, read_if, read_in_place, read_hoisted, read_whole}
 use Rattle.nd_grammar.proofs.reader.ReaderInPlace.{Readable}

@@ -3,8 +3,8 @@ use Rattle.std.proofs.Common.{◌≡◌, ℕ, ◌+◌, ◌<◌, ◌≤◌, Bool,
 use Rattle.std.specs.Prelude.{eqb, cond}
 use Rattle.std.specs.List.{AllByRecursion}
 use Rattle.std.proofs.lemmas.Bool.{eqb-true, eqb-false, eq-eqb}
-use Rattle.nd_graph.specs.Setting.{Among}
-use Rattle.nd_graph.specs.Canon.{has, number_from, canonical_number}
+use Rattle.nd_value.specs.Setting.{Among}
+use Rattle.nd_value.specs.Canon.{has, number_from, canonical_number}
 use Rattle.nd_grammar.proofs.next.Counting.{Distinct, no_longer, down, length_down, among_down}
 
 pub has_among : (xs : List ℕ) (c : ℕ) → has xs c ≡ true → Among xs c

@@ -12,21 +12,21 @@ use Rattle.nd_types.specs.declared.types.Class.{Class}
 use Rattle.nd_types.specs.declared.types.Class.TheVariants.{Ref, Unique, Full}
 use Rattle.nd_types.specs.Table.{Table, type_at}
 use Rattle.nd_types.specs.Roots.{Root}
-use Rattle.nd_graph.specs.declared.value.Graph.{Graph}
-use Rattle.nd_graph.specs.declared.item.Home.{Home}
-use Rattle.nd_graph.specs.declared.item.Home.TheVariants as home
-use Rattle.nd_graph.specs.Tree as tree
-use Rattle.nd_graph.specs.Tree.{Tree, Trees, node, none, more, Label, Referent, trees, count, node_count, take_trees, drop_trees}
-use Rattle.nd_graph.specs.Setting.{Setting, Among, root_list, root_at, or_unread, cell_home, cell_at, cell_tree}
-use Rattle.nd_graph.specs.Nodes.{nodes_of}
-use Rattle.nd_graph.specs.Deferral.{Pending, pointer, home_pointers, Due, due_root, due_referent, due_roots, before_pipes, Step, Deferral, none_due, at_root, at_null, at_standing, at_referent, IsPlaced, Placed_cells, Standing, standing_root, standing_by, standing_cell, direct, root_type, due_of, root_cell}
-use Rattle.nd_graph.specs.Canon.{named, own_cell, named_cells, has, number_from, canonical_number}
-use Rattle.nd_graph.specs.Conforms.{Conforms}
-use Rattle.nd_graph.specs.Misfit.{is_no_null_ref}
-use Rattle.nd_graph.specs.Same.{Same, renumbered, renumbered_label}
-use Rattle.nd_graph.proofs.Apart.{all_append, among_left, among_right}
-use Rattle.nd_graph.proofs.DeferralLaws.{full_stands}
-use Rattle.nd_graph.proofs.Waiting.{not_equal}
+use Rattle.nd_value.specs.declared.value.Graph.{Graph}
+use Rattle.nd_value.specs.declared.item.Home.{Home}
+use Rattle.nd_value.specs.declared.item.Home.TheVariants as home
+use Rattle.nd_value.specs.Tree as tree
+use Rattle.nd_value.specs.Tree.{Tree, Trees, node, none, more, Label, Referent, trees, count, node_count, take_trees, drop_trees}
+use Rattle.nd_value.specs.Setting.{Setting, Among, root_list, root_at, or_unread, cell_home, cell_at, cell_tree}
+use Rattle.nd_value.specs.Nodes.{nodes_of}
+use Rattle.nd_value.specs.Deferral.{Pending, pointer, home_pointers, Due, due_root, due_referent, due_roots, before_pipes, Step, Deferral, none_due, at_root, at_null, at_standing, at_referent, IsPlaced, Placed_cells, Standing, standing_root, standing_by, standing_cell, direct, root_type, due_of, root_cell}
+use Rattle.nd_value.specs.Canon.{named, own_cell, named_cells, has, number_from, canonical_number}
+use Rattle.nd_value.specs.Conforms.{Conforms}
+use Rattle.nd_value.specs.Misfit.{is_no_null_ref}
+use Rattle.nd_value.specs.Same.{Same, renumbered, renumbered_label}
+use Rattle.nd_value.proofs.Apart.{all_append, among_left, among_right}
+use Rattle.nd_value.proofs.DeferralLaws.{full_stands}
+use Rattle.nd_value.proofs.Waiting.{not_equal}
 use Rattle.nd_grammar.specs.LegalSide.{IsLegalSide}
 use Rattle.nd_grammar.specs.Entry.{Entry, size_at}
 use Rattle.nd_grammar.specs.InPlace.{tests, in_place}

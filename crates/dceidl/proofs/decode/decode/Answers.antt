@@ -1,6 +1,6 @@
 use Rattle.std.proofs.Common.{ap, ◌∙◌}
 use Rattle.std.specs.List.{slice_get}
-use Rattle.nd_graph.specs.Fitting.{setting_of}
+use Rattle.nd_value.specs.Fitting.{setting_of}
 use Rattle.dceidl.proofs.Causes.{decoding_is, left_over}
 use Rattle.dceidl.proofs.decode.decode.Goals as goal
 

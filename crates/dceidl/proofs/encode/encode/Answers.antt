@@ -1,5 +1,5 @@
 use Rattle.std.proofs.Common.{subst}
-use Rattle.nd_graph.specs.Fitting.{setting_of}
+use Rattle.nd_value.specs.Fitting.{setting_of}
 use Rattle.nd_grammar.proofs.PlainSides.{number_side_plain}
 use Rattle.value_text.specs.Reads.{IsFault}
 use Rattle.dceidl.proofs.Encodings.{encoding_is, text_refused, same_fault}

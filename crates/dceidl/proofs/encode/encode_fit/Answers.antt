@@ -1,6 +1,6 @@
 use Rattle.std.proofs.Common.{subst}
-use Rattle.nd_graph.specs.Conforms.{Conforms}
-use Rattle.nd_graph.specs.Fitting.{setting_of}
+use Rattle.nd_value.specs.Conforms.{Conforms}
+use Rattle.nd_value.specs.Fitting.{setting_of}
 use Rattle.value_text.proofs.Printed.{fit_conforms}
 use Rattle.dceidl.proofs.encode.encode_fit.Goals as goal
 

@@ -1,4 +1,4 @@
-use Rattle.nd_graph.specs.Fitting.{setting_of}
+use Rattle.nd_value.specs.Fitting.{setting_of}
 use Rattle.dceidl.proofs.Encodings.{value_cause, chosen_of, conforms_of, memory_cause}
 use Rattle.dceidl.proofs.encode.encode_graph.Goals as goal
 

@@ -1,5 +1,5 @@
 use Rattle.std.proofs.Common.{◌≡◌, sym, subst, IfOk}
-use Rattle.nd_graph.specs.Fitting.{setting_of}
+use Rattle.nd_value.specs.Fitting.{setting_of}
 use Rattle.dceidl.specs.Encode.{home_path}
 use Rattle.dceidl.proofs.encode.path_of.Goals as goal
 

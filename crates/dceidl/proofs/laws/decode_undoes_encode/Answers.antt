@@ -1,4 +1,4 @@
-use Rattle.nd_graph.specs.Fitting.{setting_of}
+use Rattle.nd_value.specs.Fitting.{setting_of}
 use Rattle.nd_grammar.proofs.PlainSides.{number_side_plain}
 use Rattle.dceidl.proofs.RoundTrip.{represented, given_back, same_text}
 use Rattle.dceidl.proofs.laws.decode_undoes_encode.Goals as goal

@@ -1,4 +1,4 @@
-use Rattle.nd_graph.specs.Fitting.{setting_of}
+use Rattle.nd_value.specs.Fitting.{setting_of}
 use Rattle.nd_grammar.proofs.PlainSides.{number_side_plain}
 use Rattle.dceidl.proofs.Sides.{legal_side_of}
 use Rattle.dceidl.proofs.RoundTrip.{reads_back, represented_again}

@@ -1,7 +1,7 @@
 use Rattle.std.proofs.Common.{refl, inl}
 use Rattle.std.proofs.lemmas.Result.{err_from_is_err_and}
 use Rattle.nd_base.specs.Over.{files_seen, source_seen}
-use Rattle.nd_graph.specs.Fitting.{setting_of}
+use Rattle.nd_value.specs.Fitting.{setting_of}
 use Rattle.dceidl.specs.Commands.{subject_of}
 use Rattle.dceidl.specs.Seen.{seen_over}
 use Rattle.dceidl.proofs.Causes.{ready_is, encode_made, encode_refused}

@@ -1,5 +1,5 @@
 use Rattle.std.proofs.Common.{rules, ◌≡◌, ◌∙◌, ◌<◌, false, length, sym}
-use Rattle.nd_graph.proofs.FewRoots.{item_at}
+use Rattle.nd_value.proofs.FewRoots.{item_at}
 use Rattle.dceidl.proofs.Roots.{position_within}
 use Rattle.dceidl.proofs.ready.find.Goals as goal
 

@@ -1,8 +1,9 @@
 use Rattle.std.proofs.Common.{◌∙◌, ap, [], ◌∷◌, ◌++◌, decimal}
 use Rattle.nd_types.specs.Fields.{param_fields}
 use Rattle.idl_listing.specs.Worded.{vars_at}
-use Rattle.idl_listing.specs.Listing.{side_word, attrs_words}
-use Rattle.idl_listing.proofs.WordLists.{first_word, then_words, then_end}
+use Rattle.line_words.specs.Lines.{side_word}
+use Rattle.idl_listing.specs.Listing.{attrs_words}
+use Rattle.line_words.proofs.WordByWord.{first_word, then_words, then_end}
 use Rattle.idl_listing.proofs.operation_lines.root_line.Goals as goal
 
 pub returns : goal.returns

@@ -1,8 +1,9 @@
 use Rattle.std.proofs.Common.{◌∙◌, ap, [], ◌∷◌, ◌++◌, codes, decimal}
 use Rattle.nd_types.specs.Layout.{align_of, hoists}
-use Rattle.idl_listing.specs.Worded.{behind}
-use Rattle.idl_listing.specs.Listing.{form, word_if}
-use Rattle.idl_listing.proofs.WordLists.{first_word, then_words, then_end, type_words}
+use Rattle.line_words.specs.Lines.{behind, word_if}
+use Rattle.idl_listing.specs.Listing.{form}
+use Rattle.line_words.proofs.WordByWord.{first_word, then_words, then_end}
+use Rattle.idl_listing.proofs.WordLists.{type_words}
 use Rattle.idl_listing.proofs.type_lines.type_line.Goals as goal
 
 pub returns : goal.returns

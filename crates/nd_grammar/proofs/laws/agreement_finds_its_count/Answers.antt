@@ -1,4 +1,4 @@
-use Rattle.nd_graph.proofs.NodeFacts.{sound_partial}
+use Rattle.nd_value.proofs.NodeFacts.{sound_partial}
 use Rattle.nd_grammar.proofs.agreements.TestedAt as laws
 use Rattle.nd_grammar.proofs.laws.agreement_finds_its_count.Goals as goal
 

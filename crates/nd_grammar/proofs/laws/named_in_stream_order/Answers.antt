@@ -1,4 +1,4 @@
-use Rattle.nd_graph.proofs.NodeFacts.{sound_partial}
+use Rattle.nd_value.proofs.NodeFacts.{sound_partial}
 use Rattle.nd_grammar.proofs.NamedOrder as laws
 use Rattle.nd_grammar.proofs.laws.named_in_stream_order.Goals as goal
 

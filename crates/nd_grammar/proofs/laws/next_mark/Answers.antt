@@ -1,4 +1,4 @@
-use Rattle.nd_graph.proofs.NodeFacts.{sound_partial}
+use Rattle.nd_value.proofs.NodeFacts.{sound_partial}
 use Rattle.nd_grammar.proofs.next.NextIndex as laws
 use Rattle.nd_grammar.proofs.laws.next_mark.Goals as goal
 

@@ -1,6 +1,6 @@
-use Rattle.nd_graph.proofs.DeferralBridge.{deferral_is, deferral_not_repeated, repeated}
-use Rattle.nd_graph.proofs.DeferralLaws.{one_order}
-use Rattle.nd_graph.proofs.NodeFacts.{sound_conforming, sound_partial}
+use Rattle.nd_value.proofs.DeferralBridge.{deferral_is, deferral_not_repeated, repeated}
+use Rattle.nd_value.proofs.DeferralLaws.{one_order}
+use Rattle.nd_value.proofs.NodeFacts.{sound_conforming, sound_partial}
 use Rattle.nd_grammar.proofs.laws.one_order_of_deferral.Goals as goal
 
 pub returns : goal.returns

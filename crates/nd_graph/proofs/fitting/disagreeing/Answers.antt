@@ -1,4 +1,4 @@
-use Rattle.nd_graph.specs.Fitting.{setting_of}
+use Rattle.nd_value.specs.Fitting.{setting_of}
 use Rattle.nd_graph.proofs.PlainFit.{number_side, simple_cells, none_disagree}
 use Rattle.nd_graph.proofs.fitting.disagreeing.Goals as goal
 

@@ -1,7 +1,8 @@
 use Rattle.std.proofs.Common.{sym, subst}
-use Rattle.nd_graph.specs.Fitting.{setting_of, IsFit}
+use Rattle.nd_value.specs.Fitting.{setting_of}
+use Rattle.nd_graph.specs.Fitting.{IsFit}
 use Rattle.nd_graph.proofs.Told.{told_no_fit}
-use Rattle.nd_graph.proofs.FewRoots.{item_at}
+use Rattle.nd_value.proofs.FewRoots.{item_at}
 use Rattle.nd_graph.proofs.fitting.fit.Goals as goal
 
 pub adopt-requires : goal.adopt-requires

@@ -1,5 +1,5 @@
 use Rattle.std.proofs.lemmas.Result.{err_from_is_err_and, IfErr-weaker, on_ok_weaker}
-use Rattle.nd_graph.specs.Fitting.{setting_of}
+use Rattle.nd_value.specs.Fitting.{setting_of}
 use Rattle.nd_graph.proofs.Told.{told_local, told_shared, told_unreached, told_disagreeing}
 use Rattle.nd_graph.proofs.PlainFit.{number_side, simple_cells, plain_passed}
 use Rattle.nd_graph.proofs.fitting.passes.Goals as goal

@@ -1,6 +1,6 @@
 use Rattle.std.proofs.Common.{[], ap}
-use Rattle.nd_graph.specs.Fitting.{setting_of}
-use Rattle.nd_graph.specs.FirstMisfit.{first_shared}
+use Rattle.nd_value.specs.Fitting.{setting_of}
+use Rattle.nd_value.specs.FirstMisfit.{first_shared}
 use Rattle.nd_graph.proofs.PlainFit.{number_side, simple_cells, no_pointers_at_all}
 use Rattle.nd_graph.proofs.fitting.shared.Goals as goal
 

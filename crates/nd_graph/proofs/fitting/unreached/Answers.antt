@@ -1,6 +1,6 @@
 use Rattle.std.proofs.Common.{refl}
 use Rattle.std.proofs.lemmas.Option.{slice_get_within}
-use Rattle.nd_graph.specs.Fitting.{setting_of}
+use Rattle.nd_value.specs.Fitting.{setting_of}
 use Rattle.nd_graph.proofs.PlainFit.{number_side, simple_cells, first_unreached}
 use Rattle.nd_graph.proofs.fitting.unreached.Goals as goal
 

@@ -1,4 +1,4 @@
-use Rattle.nd_graph.specs.Fitting.{setting_of}
+use Rattle.nd_value.specs.Fitting.{setting_of}
 use Rattle.nd_graph.proofs.PlainFit as p
 use Rattle.nd_graph.proofs.laws.numbers_exact.Goals as goal
 

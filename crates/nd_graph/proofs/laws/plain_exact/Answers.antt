@@ -1,5 +1,5 @@
 use Rattle.nd_types.proofs.NumberSides.{plain_numbers}
-use Rattle.nd_graph.specs.Fitting.{setting_of}
+use Rattle.nd_value.specs.Fitting.{setting_of}
 use Rattle.nd_graph.proofs.PlainFit as p
 use Rattle.nd_graph.proofs.SimpleCells.{plain_cells}
 use Rattle.nd_graph.proofs.laws.plain_exact.Goals as goal

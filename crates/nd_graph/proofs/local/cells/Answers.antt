@@ -1,8 +1,8 @@
 use Rattle.std.proofs.Common.{◌+◌, ◌∙◌, refl, ap, arith}
 use Rattle.std.proofs.lemmas.Result.{err_from_is_err_and}
-use Rattle.nd_graph.specs.Seen.{cell_of}
-use Rattle.nd_graph.specs.Passes.{first_in_cells}
-use Rattle.nd_graph.proofs.LocalPass.{cell_next, tells_first, later_left, drop-past}
+use Rattle.nd_value.specs.Seen.{cell_of}
+use Rattle.nd_value.specs.Passes.{first_in_cells}
+use Rattle.nd_value.proofs.LocalPass.{cell_next, tells_first, later_left, drop-past}
 use Rattle.nd_graph.proofs.PlainFit.{cell_simple}
 use Rattle.nd_graph.proofs.local.cells.Goals as goal
 

@@ -1,5 +1,5 @@
 use Rattle.std.proofs.Common.{◌≡◌, ◌+◌, drop}
-use Rattle.nd_graph.specs.Passes.{first_in_cells}
+use Rattle.nd_value.specs.Passes.{first_in_cells}
 use Rattle.nd_graph.proofs.local.cells.Given as goal
 
 abbrev pub invariant-loop-at : goal.invariant-loop-at

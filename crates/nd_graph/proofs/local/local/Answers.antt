@@ -1,7 +1,7 @@
 use Rattle.std.proofs.Common.{◌∙◌}
 use Rattle.std.proofs.lemmas.Result.{err_from_is_err_and, IfErr-weaker, on_ok_weaker}
-use Rattle.nd_graph.specs.Fitting.{setting_of}
-use Rattle.nd_graph.proofs.LocalPass.{local_first, tells_first, tells_later, later_left}
+use Rattle.nd_value.specs.Fitting.{setting_of}
+use Rattle.nd_value.proofs.LocalPass.{local_first, tells_first, tells_later, later_left}
 use Rattle.nd_graph.proofs.local.local.Goals as goal
 
 pub returns-in_err-roots-clause-first : goal.returns-in_err-roots-clause-first

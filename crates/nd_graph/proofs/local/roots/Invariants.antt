@@ -1,7 +1,7 @@
 use Rattle.std.proofs.Common.{◌≡◌, Some, length, drop, slice_get}
 use Rattle.nd_types.specs.declared.types.Operation.{Operation}
 use Rattle.nd_types.specs.Walk.{named_roots}
-use Rattle.nd_graph.specs.Passes.{first_in_roots}
+use Rattle.nd_value.specs.Passes.{first_in_roots}
 use Rattle.nd_graph.proofs.local.roots.Given as goal
 
 abbrev pub invariant-loop-root : goal.invariant-loop-root

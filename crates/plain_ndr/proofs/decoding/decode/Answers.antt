@@ -1,6 +1,6 @@
 use Rattle.std.proofs.Common.{◌∙◌, sym, ap, subst, map, Err, arith}
-use Rattle.nd_graph.specs.Fitting.{setting_of}
-use Rattle.nd_graph.proofs.FewRoots.{item_at}
+use Rattle.nd_value.specs.Fitting.{setting_of}
+use Rattle.nd_value.proofs.FewRoots.{item_at}
 use Rattle.nd_grammar.specs.Prefix.{BeginsWith}
 use Rattle.plain_ndr.proofs.Sides.{decoded, cut_short, octets_by_index, fits_by}
 use Rattle.plain_ndr.proofs.decoding.decode.Goals as goal

@@ -8,9 +8,9 @@ use Rattle.std.specs.List.{slice_get}
 use Rattle.std.specs.Fmt.{signed_decimal}
 use Rattle.nd_types.specs.Walk.{NamedRoot, named_root, named_roots, root_value}
 use Rattle.nd_types.specs.Roots.{roots_of}
-use Rattle.nd_graph.specs.Seen.{tree_of}
-use Rattle.nd_graph.proofs.FewRoots.{few_named_roots, item_at, past_end}
-use Rattle.nd_graph.proofs.LocalPass.{given_root}
+use Rattle.nd_value.specs.Seen.{tree_of}
+use Rattle.nd_value.proofs.FewRoots.{few_named_roots, item_at, past_end}
+use Rattle.nd_value.proofs.LocalPass.{given_root}
 use Rattle.nd_grammar.specs.Plain.{number}
 use Rattle.value_text.specs.Dues.{walk_names}
 use Rattle.value_text.specs.Numbers.{line, number_lines}

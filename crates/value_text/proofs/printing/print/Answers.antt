@@ -2,7 +2,7 @@ use Rattle.std.proofs.Common.{◌≡◌, ◌∙◌, sym, ap, ap₂, subst, map, 
 use Rattle.std.specs.List.{slice_get}
 use Rattle.std.proofs.lemmas.Option.{same_Some, slice_get_within}
 use Rattle.nd_types.specs.Roots.{roots_of}
-use Rattle.nd_graph.specs.Fitting.{setting_of}
+use Rattle.nd_value.specs.Fitting.{setting_of}
 use Rattle.nd_grammar.proofs.PlainSides.{number_side_plain}
 use Rattle.value_text.specs.Dues.{walk_names, side_names}
 use Rattle.value_text.specs.Numbers.{number_lines, with_head}

@@ -1,7 +1,7 @@
 use Rattle.std.proofs.Common.{◌∙◌, ◌++◌, ◌≤◌, ◌≡◌, length, sym, ap, subst, arith}
 use Rattle.nd_types.specs.Roots.{roots_of}
-use Rattle.nd_graph.specs.Fitting.{setting_of}
-use Rattle.nd_graph.proofs.FewRoots.{item_at}
+use Rattle.nd_value.specs.Fitting.{setting_of}
+use Rattle.nd_value.proofs.FewRoots.{item_at}
 use Rattle.nd_grammar.proofs.PlainSides.{number_side_plain}
 use Rattle.value_text.specs.declared.TheConstants.{TEXT_LIMIT}
 use Rattle.value_text.specs.Reads.{IsFault}

@@ -6,7 +6,7 @@ use Rattle.std.proofs.lemmas.Iterator.Consumers.{YieldsList-from_first, YieldsLi
 use mir.Val.{SFits}
 use mir.Syntax.{w128}
 use Rattle.nd_types.specs.Walk.{NamedRoot, named_roots, root_value}
-use Rattle.nd_graph.proofs.LocalPass.{given_root}
+use Rattle.nd_value.proofs.LocalPass.{given_root}
 use Rattle.nd_grammar.specs.Plain.{number}
 use Rattle.value_text.specs.Dues.{walk_names}
 use Rattle.value_text.proofs.PlainSteps.{LinesCame, one_line, lines_stop, all_lines}

@@ -1,0 +1,4 @@
+pub mod Searches
+pub mod RowReach
+pub mod Bridge
+pub mod Reaching

@@ -1,0 +1,11 @@
+pub mod Forests
+pub mod Frames
+pub mod Closing
+pub mod Raising
+pub mod Kept
+pub mod NoUnread
+pub mod RowLaws
+pub mod RowWalks
+pub mod Homes
+pub mod Typed
+pub mod Rebuilding

@@ -1,0 +1,6 @@
+pub mod Forest
+pub mod FlatForm
+pub mod Building
+pub mod Store
+pub mod Keepable
+pub mod Built

@@ -1,0 +1,94 @@
+// Graphs that conform.
+ghost use Rattle.std.specs.Prelude.{◌≡◌, IfOk, IfErr};
+ghost use Rattle.nd_value.specs.Tree.{more, none};
+ghost use Rattle.nd_value.specs.Fitting.{IsFit};
+ghost use Rattle.nd_flat.specs.Building.{HasHome, home_tree};
+
+use crate::{FlatGraph, Given, Walk};
+use nd_base::Memory;
+use nd_types::{Side, Tie};
+use nd_value::{Graph, Home};
+use std::alloc::Global;
+use std::marker::Model;
+
+/// A graph that conforms to a side of an operation of an interface, beside a request or beside none. Contracts see the graph, the
+/// number of the operation, the side, the interface and the graph of the request.
+#[derive(Drop)]
+pub struct Fit {
+    graph: FlatGraph,
+    op: u32,
+    side: Side,
+    tie: Tie,
+    given: Given,
+}
+
+impl Model for Fit {
+    ghost use Rattle.nd_value.specs.Fitting.{Fitting, IsFit, fitting_code};
+
+    ghost Value = { Fitting };
+
+    ghost coded = { fitting_code };
+
+    ghost view = { λ f. record { graph = f.graph; op = f.op; side = f.side; interface = f.tie; given = f.given } };
+
+    ghost invariant = { λ f. IsFit (record { graph = f.graph; op = f.op; side = f.side; interface = f.tie; given = f.given }) };
+}
+
+impl Fit {
+    /// Takes over a graph that conforms to a side of an operation, beside this request or beside none. Takes no memory.
+    pub fn of(graph: FlatGraph, op: u32, side: Side, tie: Tie, given: Given) -> Fit
+        requires { IsFit (record { graph = graph; op = op; side = side; interface = tie; given = given }) }
+        ensures { result ≡ record { graph = graph; op = op; side = side; interface = tie; given = given } }
+    {
+        Fit {
+            graph,
+            op,
+            side,
+            tie,
+            given,
+        }
+    }
+
+    /// The number of the operation. Takes no memory.
+    pub fn op(&self) -> u32
+        ensures { result ≡ self.now.op }
+    {
+        self.op
+    }
+
+    /// The side of the operation. Takes no memory.
+    pub fn side(&self) -> Side
+        ensures { result ≡ self.now.side }
+    {
+        self.side
+    }
+
+    /// The graph as it is kept. Takes no memory.
+    pub fn flat(&self) -> &FlatGraph
+        ensures graph { result.now ≡ self.now.graph }
+        ensures conforms { IsFit self.now }
+    {
+        &self.graph
+    }
+
+    /// A walk over the nodes of a root or a cell that is there, depth first. Takes no memory.
+    pub fn walk(&self, home: Home) -> Walk<'_>
+        requires there { HasHome self.now.graph home }
+        ensures walk { result ≡ more (home_tree self.now.graph home) none }
+        ensures conforms { IsFit self.now }
+    {
+        self.graph.walk(home)
+    }
+
+    /// The graph as values that callers can take apart and change. It takes memory for each value. Want of memory is the only
+    /// refusal; then the fit is handed back unchanged.
+    pub fn graph(self, alloc: Global) -> Result<Graph, (Memory, Fit)>
+        ensures graph { IfOk result (λ g. g ≡ self.graph) }
+        ensures back { IfErr result (λ e. e.1 ≡ self) }
+    {
+        match self.graph.values(alloc) {
+            Ok(graph) => Ok(graph),
+            Err(memory) => Err((memory, self)),
+        }
+    }
+}

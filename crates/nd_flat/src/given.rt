@@ -1,0 +1,39 @@
+// The request beside which a response is judged, for contracts alone.
+ghost use Rattle.std.specs.Prelude.{◌≡◌, option_map};
+
+use crate::{Fit, FlatGraph};
+use std::marker::Model;
+use std::snapshot::Snapshot;
+
+/// The request beside which a response is judged, or none. It takes no memory: contracts alone see the graph of the request.
+#[derive(Drop)]
+pub struct Given {
+    graph: Option<Snapshot<FlatGraph>>,
+}
+
+impl Model for Given {
+    ghost use Rattle.std.specs.Prelude.{Option, option_map};
+    ghost use Rattle.std.specs.Coded.{coded_option};
+    ghost use Rattle.nd_value.specs.declared.value.Graph.{Graph};
+    ghost use Rattle.nd_value.specs.Fitting.{graph_code};
+
+    ghost Value = { Option Graph };
+
+    ghost coded = { coded_option graph_code };
+
+    ghost view = { λ g. option_map (λ s. s.value) g.graph };
+}
+
+impl Given {
+    /// The request that is given, if one is. Takes no memory.
+    pub fn beside(request: Option<&Fit>) -> Given
+        ensures { result ≡ option_map (λ f. f.now.graph) request.entry }
+    {
+        match request {
+            None => Given { graph: None },
+            Some(fit) => Given {
+                graph: Some(Snapshot::of(fit.flat())),
+            },
+        }
+    }
+}

@@ -1,0 +1,100 @@
+// Walks over values.
+ghost use Rattle.std.specs.Prelude.{◌≡◌, ◌∷◌, ◌++◌, ◌≤◌, ◌<◌, IfSome, IfNone};
+ghost use Rattle.nd_value.specs.Tree.{Trees, none, flat, unflat};
+ghost use Rattle.nd_flat.specs.FlatForm.{flat_seen, left_flats, no_row, num_flats, row_numbers, IsRow, WalkParts};
+
+use crate::node::{Node, first_seen, left_of};
+use crate::row::{KeptRow, empty_row, first_number, first_row, without_first};
+use crate::{Row, Seen};
+use std::marker::Model;
+
+/// A walk over the nodes of values, depth first. Contracts see the values that are left, as trees: of a value whose first nodes were
+/// taken, those of its parts whose nodes were not. A walk takes no memory.
+#[derive(Drop)]
+pub struct Walk<'a> {
+    nodes: &'a [Node],
+    octets: &'a [u8],
+    // what is left of the row of numbers in which the walk is; without numbers where it is in none
+    left: KeptRow,
+}
+
+impl<'a> Model for Walk<'a> {
+    ghost use Rattle.nd_value.specs.Tree.{Trees, unflat};
+    ghost use Rattle.nd_flat.specs.Forest.{forest_code, IsForest};
+
+    ghost Value = { Trees };
+
+    ghost coded = { forest_code };
+
+    ghost use Rattle.nd_flat.specs.FlatForm.{left_flats, WalkParts};
+
+    ghost view = { λ w. unflat (left_flats w.octets.now w.left w.nodes.now) };
+
+    ghost invariant = { λ w. WalkParts w.octets.now w.left w.nodes.now };
+}
+
+impl<'a> Walk<'a> {
+    pub(crate) fn over(nodes: &'a [Node], octets: &'a [u8]) -> Walk<'a>
+        requires { WalkParts octets.now no_row nodes.now }
+        ensures { result ≡ unflat (left_flats octets.now no_row nodes.now) }
+    {
+        Walk {
+            nodes,
+            octets,
+            left: empty_row(),
+        }
+    }
+
+    /// The next node, or None where none is left. Numbers that are kept side by side are given one by one. Takes no memory.
+    pub fn step(&mut self) -> Option<Seen<'a>>
+        ensures some { IfSome result (λ s. flat self.old ≡ flat_seen s ∷ flat self.new) }
+        ensures none { IfNone result (self.old ≡ none) }
+    {
+        let left = self.left;
+        if left.count > 0 {
+            self.left = without_first(left, 1, self.octets);
+            return Some(Seen::Num(first_number(left, self.octets)));
+        }
+        let (first, rest) = self.nodes.split_first()?;
+        self.nodes = rest;
+        self.left = left_of(first, self.octets);
+        Some(first_seen(first, self.octets))
+    }
+
+    /// The next numbers, at least one and at most `most`, where numbers come next that are kept side by side; their octets are
+    /// given as they are kept. None says nothing of what comes next, and the walk has not moved: `step` goes on. Takes no memory.
+    pub fn row(&mut self, most: u32) -> Option<Row<'a>>
+        ensures some { IfSome result (λ r. flat self.old ≡ num_flats (row_numbers r) ++ flat self.new) }
+        ensures row { IfSome result (λ r. IsRow r) }
+        ensures count { IfSome result (λ r. (0 < r.count) × (r.count ≤ most)) }
+        ensures none { IfNone result (self.new ≡ self.old) }
+    {
+        if most == 0 {
+            return None;
+        }
+        let left = self.left;
+        if left.count > 0 {
+            let some = least(left.count, most);
+            self.left = without_first(left, some, self.octets);
+            return Some(first_row(left, some, self.octets));
+        }
+        let (first, rest) = self.nodes.split_first()?;
+        let Node::Row(next) = first else {
+            return None;
+        };
+        let next = *next;
+        let some = least(next.count, most);
+        self.nodes = rest;
+        self.left = without_first(next, some, self.octets);
+        Some(first_row(next, some, self.octets))
+    }
+}
+
+// The lesser of two numbers.
+fn least(a: u32, b: u32) -> u32
+    ensures first { result ≤ a }
+    ensures second { result ≤ b }
+    ensures some { 0 < a → 0 < b → 0 < result }
+{
+    if a < b { a } else { b }
+}

@@ -1,0 +1,13 @@
+pub mod FormWalk
+pub mod HomeWalk
+pub mod NodeTests
+pub mod NodeWalk
+pub mod NumberRanges
+pub mod PointerWalk
+pub mod Sharing
+pub mod Walkable
+pub mod AgreementWalk
+pub mod Numbered
+pub mod Disagreements
+pub mod Attributes
+pub mod SmallNumbers

@@ -1,0 +1,81 @@
+-- What the tests of one node say of its misfit.
+use Rattle.std.proofs.Common.{◌≡◌, ℕ, ◌+◌, suc, ℤ, Bool, true, false, ◌&&◌, List, [], ◌∷◌, length, drop, Option, Some, None, refl, ap, sym, ◌∙◌}
+use Rattle.std.specs.Prelude.{◌||◌}
+use Rattle.std.specs.List.{list_any, slice_get}
+use Rattle.std.specs.Ordering.{int_eq}
+use Rattle.std.proofs.lemmas.Bool.{false_from_ne_true, eq-eqb, ne_eqb}
+use Rattle.std.proofs.lemmas.Bool.Decides.{Decides-int_eq}
+use Rattle.std.proofs.lemmas.Int.{to_z-of_z}
+use mir.Val.{SFits, of_z, to_z}
+use mir.Syntax.{w128}
+use Rattle.nd_types.specs.declared.types.Arm.{Arm}
+use Rattle.nd_types.specs.declared.types.Field.{Field}
+use Rattle.nd_types.specs.declared.types.TypeId.{TypeId}
+use Rattle.nd_types.specs.declared.types.TypeDef.TheVariants as def
+use Rattle.nd_types.specs.Table.{Table, labelled, or_else, selected}
+use Rattle.nd_value.specs.declared.value.Graph.{Graph}
+use Rattle.nd_value.specs.declared.misfit.MisfitReason.TheVariants as misfit
+use Rattle.nd_value.specs.Tree as tree
+use Rattle.nd_value.specs.Tree.{Tree, Trees, none, more, trees, count}
+use Rattle.nd_value.specs.Misfit.{has_counts, is_within, unless, misfit_by}
+use Rattle.nd_value.proofs.LocalPass.{drop-get, drop-past}
+
+pub count_trees : (ts : List Tree) → count (trees ts) ≡ length ts
+count_trees [] = refl
+count_trees (t ∷ ts) = ap suc (count_trees ts)
+
+module _ (table : Table) (g : Graph) (elem : TypeId) (bound : Option ℕ) (varying : Bool) (max offset : ℕ) (ks : Trees) (b : Bool) where
+  abbrev tested : Bool
+  tested = has_counts (Some (def.Array elem bound varying)) (tree.Arr max offset) ks && is_within (tree.Arr max offset) ks
+
+  pub array_fits : b ≡ tested → b ≡ true → None ≡ misfit_by table g (Some (def.Array elem bound varying)) (tree.Arr max offset) ks
+  array_fits e t = sym (ap (λ x. unless x misfit.Bound None) (sym e ∙ t))
+
+  pub array_bound : b ≡ tested → b ≡ false → Some misfit.Bound ≡ misfit_by table g (Some (def.Array elem bound varying)) (tree.Arr max offset) ks
+  array_bound e t = sym (ap (λ x. unless x misfit.Bound None) (sym e ∙ t))
+
+module _ (table : Table) (g : Graph) (members : List Field) (ks : Trees) where
+  pub struct_fits : count ks ≡ length members → None ≡ misfit_by table g (Some (def.Struct members)) tree.Rec ks
+  struct_fits e = sym (ap (λ x. unless x misfit.Shape None) (eq-eqb (count ks) (length members) e))
+
+  pub struct_shape : (count ks ≡ length members → ⊥) → Some misfit.Shape ≡ misfit_by table g (Some (def.Struct members)) tree.Rec ks
+  struct_shape n = sym (ap (λ x. unless x misfit.Shape None) (ne_eqb (count ks) (length members) n))
+
+-- a test of two numbers of the program
+pub same_number : (y z : ℤ) → SFits w128 z → of_z w128 y ≡ of_z w128 z → int_eq (to_z w128 (of_z w128 y)) z ≡ true
+same_number y z fits e = (Decides-int_eq (to_z w128 (of_z w128 y)) z).1 (ap (to_z w128) e ∙ to_z-of_z w128 z fits)
+
+pub other_number : (y z : ℤ) → SFits w128 y → (of_z w128 y ≡ of_z w128 z → ⊥) → int_eq (to_z w128 (of_z w128 y)) z ≡ false
+other_number y z fits n =
+    false_from_ne_true (int_eq (to_z w128 (of_z w128 y)) z)
+    (λ t. n (ap (of_z w128) (sym (to_z-of_z w128 y fits) ∙ (Decides-int_eq (to_z w128 (of_z w128 y)) z).0 t)))
+
+-- the same with the sides of the test turned round
+pub same_label : (y z : ℤ) → SFits w128 y → of_z w128 y ≡ of_z w128 z → int_eq y (to_z w128 (of_z w128 z)) ≡ true
+same_label y z fits e = (Decides-int_eq y (to_z w128 (of_z w128 z))).1 (sym (to_z-of_z w128 y fits) ∙ ap (to_z w128) e)
+
+pub other_label : (y z : ℤ) → SFits w128 z → (of_z w128 y ≡ of_z w128 z → ⊥) → int_eq y (to_z w128 (of_z w128 z)) ≡ false
+other_label y z fits n =
+    false_from_ne_true (int_eq y (to_z w128 (of_z w128 z)))
+    (λ t. n (ap (of_z w128) ((Decides-int_eq y (to_z w128 (of_z w128 z))).0 t ∙ to_z-of_z w128 z fits)))
+
+module _ (z : ℤ) where
+  -- one number further
+  pub any_found : (vs : List ℤ) (i : ℕ) (v : ℤ) → slice_get vs i ≡ Some v → int_eq z v ≡ true → list_any (int_eq z) (drop i vs) ≡ true
+  any_found vs i v e h = ap (list_any (int_eq z)) (drop-get vs i v e) ∙ ap (λ b. b || list_any (int_eq z) (drop (i + 1) vs)) h
+
+  pub any_next : (vs : List ℤ) (i : ℕ) (v : ℤ) → slice_get vs i ≡ Some v → int_eq z v ≡ false
+      → list_any (int_eq z) (drop i vs) ≡ list_any (int_eq z) (drop (i + 1) vs)
+  any_next vs i v e h = ap (list_any (int_eq z)) (drop-get vs i v e) ∙ ap (λ b. b || list_any (int_eq z) (drop (i + 1) vs)) h
+
+module _ (default : Option Arm) (tag : ℤ) where
+  abbrev rest : Arm → List Arm → Bool → Option Arm
+  rest a arms b = or_else (elim b [ true ↦ Some a | false ↦ labelled arms tag ]) default
+
+  -- one arm further
+  pub arm_found : (arms : List Arm) (i : ℕ) (a : Arm) → slice_get arms i ≡ Some a → int_eq a.label tag ≡ true → selected (drop i arms) default tag ≡ Some a
+  arm_found arms i a e h = ap (λ xs. selected xs default tag) (drop-get arms i a e) ∙ ap (rest a (drop (i + 1) arms)) h
+
+  pub arm_next : (arms : List Arm) (i : ℕ) (a : Arm) → slice_get arms i ≡ Some a → int_eq a.label tag ≡ false
+      → selected (drop i arms) default tag ≡ selected (drop (i + 1) arms) default tag
+  arm_next arms i a e h = ap (λ xs. selected xs default tag) (drop-get arms i a e) ∙ ap (rest a (drop (i + 1) arms)) h

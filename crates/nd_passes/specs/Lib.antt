@@ -1,0 +1,5 @@
+pub mod Searched
+pub mod HomeList
+pub mod Pointers
+pub mod Disagreeing
+pub mod Numbers

@@ -1,0 +1,11 @@
+pub mod Apart
+pub mod DeferralBridge
+pub mod DeferralExists
+pub mod DeferralLaws
+pub mod FewRoots
+pub mod LocalPass
+pub mod Misfits
+pub mod NodeFacts
+pub mod Orderly
+pub mod SameCells
+pub mod Waiting

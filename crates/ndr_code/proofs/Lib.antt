@@ -1,0 +1,5 @@
+pub mod Runs
+pub mod TypeRuns
+pub mod SideRuns
+pub mod SideLines
+pub mod Worked

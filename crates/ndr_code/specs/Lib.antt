@@ -1,0 +1,4 @@
+pub mod Code
+pub mod Lines
+pub mod Plan
+pub mod Runs
