@@ -76,6 +76,17 @@ module _ (table : Table) (limit : ℕ) (g : Graph) (cells : AllByRecursion (IsWa
       (both_true (small_alone table x.of x.val h.0.formed) (referent_small x.val))
       (homes_small hs h.1)
 
+  -- the same of the roots alone
+  none_small : (rs : List NamedRoot) → are_small_roots (numbers_of g rs []) ≡ true
+  none_small [] = refl
+  none_small (r ∷ rs) = none_small rs
+
+  pub roots_small : (i : ℕ) (rs : List NamedRoot) (vs : List Tree) → AllByRecursion (IsWalkable table limit) (root_homes i rs vs)
+      → are_small_roots (numbers_of g rs vs) ≡ true
+  roots_small i [] vs h = refl
+  roots_small i (r ∷ rs) [] h = none_small rs
+  roots_small i (r ∷ rs) (v ∷ vs) h = both_true (both_true (small_alone table r.of v h.0.formed) (referent_small v)) (roots_small (i + 1) rs vs h.1)
+
 -- a number among roots is small where theirs are, and another one
 among_small : (rs : List RootNumber) (j : ℕ) (other : ParamNumber) → are_small_roots rs ≡ true → is_small_number other ≡ true
     → is_small_number (number_among rs j other) ≡ true
