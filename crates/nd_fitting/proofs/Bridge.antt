@@ -14,7 +14,7 @@ use Rattle.nd_value.specs.Nodes.{TypedNode, nodes_of, child_types, child_agreeme
 use Rattle.nd_value.specs.Deferral.{Pending, pointer, pointer_by, home_pointers}
 use Rattle.nd_value.specs.Misfit.{has_shape, has_range, has_arm}
 use Rattle.nd_value.specs.Canon.{target}
-use Rattle.nd_fitting.specs.Reach.{cells_in, named_by}
+use Rattle.nd_value.specs.Names.{cells_in, named_by}
 use Rattle.nd_passes.specs.Pointers.{are_formed}
 
 pub and_left : (a b : Bool) → (a && b) ≡ true → a ≡ true
