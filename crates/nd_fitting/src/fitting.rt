@@ -83,8 +83,8 @@ fn passes(
     shared_cell(alloc, interface, op, side, graph)?;
     let flat = flattened(alloc, interface.tie(), op, side, graph)?;
     unreached_cell(alloc, interface, op, side, &flat)?;
-    let given = given_numbers(alloc, interface, op, side, given)?;
-    disagreeing_attribute(alloc, interface, op, side, given.as_slice(), graph)?;
+    let numbers = given_numbers(alloc, interface, op, given)?;
+    disagreeing_attribute(alloc, interface, op, side, numbers.as_slice(), graph)?;
     Ok(flat)
 }
 
