@@ -3,15 +3,15 @@
 use Rattle.std.specs.Prelude.{◌≡◌, ℕ, Option, Some, None}
 use Rattle.nd_types.specs.declared.interface.Interface.{Interface}
 use Rattle.nd_types.specs.declared.types.Side.{Side}
-use Rattle.nd_types.specs.declared.types.Side.TheVariants as side
+use Rattle.nd_types.specs.declared.types.Side.TheVariants.{In, Out}
 use Rattle.nd_value.specs.Fitting.{Fitting}
 
 -- A fit of the inputs of this operation, where outputs are judged.
 pub record IsRequest (i : Interface) (n : ℕ) (s : Side) (f : Fitting) : Type 0 where
   pub interface : f.interface ≡ i
   pub op : f.op ≡ n
-  pub side : f.side ≡ side.In
-  pub judged : s ≡ side.Out
+  pub side : f.side ≡ In
+  pub judged : s ≡ Out
 
 -- the same, if a fit is given
 abbrev pub IsRequestOf : Interface → ℕ → Side → Option Fitting → Type 0

@@ -1,4 +1,4 @@
-use Rattle.std.proofs.Common.{None, subst, refl}
+use Rattle.std.proofs.Common.{None, Some, subst, refl}
 use Rattle.nd_value.specs.Fitting.{setting_beside}
 use Rattle.nd_value.proofs.FewRoots.{item_at}
 use Rattle.nd_fitting.specs.Reach.{TellsReach}
@@ -21,7 +21,7 @@ pub returns-in-Some-clause-first : goal.returns-in-Some-clause-first
 returns-in-Some-clause-first c o q there =
     let i = c.args.interface.now in
     let g = c.args.flat.now in
-    let told : TellsReach g _ = subst (TellsReach g) c.in-Some.is c.in_ok-cell.ensures in (
+    let told : TellsReach g (Some c.in-Some.cell) = subst (TellsReach g) c.in-Some.is c.in_ok-cell.ensures in (
       c.in-Some.cell.0,
       passed_unreached (setting_beside i o c.args.side q) g (c.requires.local o q there) i.legal.enumerators c.requires.few_nodes c.in-Some.cell told,
       refl,
