@@ -5,3 +5,4 @@ pub mod Reaching
 pub mod Told
 pub mod ProgramValues
 pub mod Inputs
+pub mod Passed

@@ -68,9 +68,9 @@ nodes_values table h (t ∷ types) ags n (more (node l ks) ts) e =
     let rest : List TypedNode = nodes_of table types (rest_agreements ags) (n + 1 + node_count ks) ts in (
       s.0,
       subst (AllByRecursion HasValue) (sym (map-append (in_home h) kids rest))
-      (all_both HasValue (map (in_home h) kids) (map (in_home h) rest)
-      (nodes_values table h (child_types (type_at table t) l ks) (child_agreements (type_at table t) ks) (n + 1) ks s.1)
-      (nodes_values table h types (rest_agreements ags) (n + 1 + node_count ks) ts s.2)),
+          (all_both HasValue (map (in_home h) kids) (map (in_home h) rest)
+          (nodes_values table h (child_types (type_at table t) l ks) (child_agreements (type_at table t) ks) (n + 1) ks s.1)
+          (nodes_values table h types (rest_agreements ags) (n + 1 + node_count ks) ts s.2)),
     )
 
 module _ (w : Setting) (g : Graph) where

@@ -43,7 +43,7 @@ pub home_none : (h : Home) (o : Option NodeMisfit) → at_home h o ≡ None → 
 home_none h None e = refl
 home_none h (Some m) e = cc
 
-positive : (c : ℕ) → not (eqb c 0) ≡ true → 0 < c
+pub positive : (c : ℕ) → not (eqb c 0) ≡ true → 0 < c
 positive zero e = cc
 positive (suc c) e = omega arith
 
