@@ -65,6 +65,18 @@ addresses_more f k (x ∷ ds) (suc i) d e =
     let z : k + suc i ≡ k + 1 + i = omega arith in
     ap (λ j. f (k, x) ∷ (map f (enumerate_from (k + 1) (take i ds)) ++ (f (j, d) ∷ []))) z ∙ ap (λ xs. f (k, x) ∷ xs) (addresses_more f (k + 1) ds i d e)
 
+-- the same of what is kept
+pub kept_more : (table : Table) (t : ℕ) (d : TypeDef) (I I' : List Address) (whole place : ℕ) → type_at table t ≡ Some d
+    → I ≡ map (address_at table) (enumerate_from 0 (take t table)) → I' ≡ I ++ (record { whole = whole; place = place } ∷ [])
+    → whole ≡ whole_at table t → place ≡ place_at table t → I' ≡ map (address_at table) (enumerate_from 0 (take (t + 1) table))
+kept_more table t d I I' whole place is kept e w p =
+    let z : t ≡ 0 + t = omega arith in
+    let y : suc t ≡ t + 1 = omega arith in
+    e ∙ ap (λ xs. xs ++ (record { whole = whole; place = place } ∷ [])) kept
+    ∙ ap₂ (λ a b. map (address_at table) (enumerate_from 0 (take t table)) ++ (record { whole = a; place = b } ∷ [])) w p
+    ∙ ap (λ j. map (address_at table) (enumerate_from 0 (take t table)) ++ (address_at table (j, d) ∷ [])) z
+    ∙ addresses_more (address_at table) 0 table t d is ∙ ap (λ k. map (address_at table) (enumerate_from 0 (take k table))) y
+
 found_at : (f : ℕ × TypeDef → Address) (k : ℕ) (ds : List TypeDef) (i : ℕ) → slice_get (map f (enumerate_from k ds)) i ≡ option_map (λ d. f (k + i, d)) (slice_get ds i)
 found_at f k [] i = refl
 found_at f k (x ∷ ds) zero = let z : k ≡ k + 0 = omega arith in ap (λ j. Some (f (j, x))) z
@@ -114,6 +126,12 @@ module _ (table : Table) (a : Addresses) (items : a.items.items ≡ map (address
         places = λ t. ap (place_found a.end) (found t) ∙ place_is t (type_at table t) refl;
         wholes = λ t. ap (whole_found a.end) (found t) ∙ whole_is t (type_at table t) refl;
       }
+
+-- all types are before a number of no type
+pub whole_past : (table : Table) (t : ℕ) → length table ≤ t → whole_at table t ≡ whole_at table (length table)
+unfolding whole_at
+whole_past table t past =
+    ap (λ ds. 2 + types_length table 0 ds) (take_all t table past ∙ sym (take_all (length table) table (omega arith)))
 
 -- with the right addresses the runs of the types are those of the plan
 pub runs_are : (table : Table) (a : Addresses) → AreAddresses table a → (C : List Instr) → C ≡ op.Void ∷ op.Ret ∷ type_runs (place_in a) (whole_in a) table 0 table → C ≡ table_code table

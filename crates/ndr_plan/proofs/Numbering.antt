@@ -3,7 +3,7 @@
 use Rattle.std.proofs.Common.{◌≡◌, ◌∙◌, ℕ, zero, suc, ◌+◌, ◌<◌, Bool, true, false, List, [], ◌∷◌, length, Option, Some, None, refl, ap, sym, map, cond, arith, replicate, get_or}
 use Rattle.std.specs.Prelude.{eqb, slice_set}
 use Rattle.std.specs.List.{slice_get}
-use Rattle.std.proofs.lemmas.Bool.{eqb-true}
+use Rattle.std.proofs.lemmas.Bool.{eqb-true, eqb-false}
 use Rattle.std.proofs.lemmas.List.{length-replicate}
 use Rattle.std.proofs.lemmas.Option.{slice_get-get_or}
 use Rattle.nd_types.specs.declared.types.Operation.{Operation}
@@ -25,12 +25,12 @@ set_here [] i x h = absurd (omega (arith, h))
 set_here (y ∷ items) zero x h = refl
 set_here (y ∷ items) (suc i) x h = let k : i < length items = omega (arith, h) in set_here items i x k
 
-set_other : (items : List (Option ℕ)) (i j : ℕ) (x : Option ℕ) → eqb i j ≡ false → slice_get (slice_set items i x) j ≡ slice_get items j
+set_other : (items : List (Option ℕ)) (i j : ℕ) (x : Option ℕ) → (i ≡ j → ⊥) → slice_get (slice_set items i x) j ≡ slice_get items j
 set_other [] i j x h = refl
-set_other (y ∷ items) zero zero x h = cc
+set_other (y ∷ items) zero zero x h = absurd (h refl)
 set_other (y ∷ items) zero (suc j) x h = refl
 set_other (y ∷ items) (suc i) zero x h = refl
-set_other (y ∷ items) (suc i) (suc j) x h = set_other items i j x h
+set_other (y ∷ items) (suc i) (suc j) x h = set_other items i j x (λ e. h (ap suc e))
 
 set_length : (items : List (Option ℕ)) (i : ℕ) (x : Option ℕ) → length (slice_set items i x) ≡ length items
 set_length [] i x = refl
@@ -64,7 +64,7 @@ kept_in items i n j h (Some None) e true t =
     let there : slice_get items j ≡ Some None = ap (slice_get items) (sym (eqb-true i j t)) ∙ e in
     ap (λ k. number_in (slice_set items i (Some n)) k) (sym (eqb-true i j t)) ∙ ap found (set_here items i (Some n) h)
     ∙ sym (ap (λ o. or_later (found o) (Some n)) there)
-kept_in items i n j h (Some None) e false t = ap found (set_other items i j (Some n) t) ∙ sym (later_none (number_in items j))
+kept_in items i n j h (Some None) e false t = ap found (set_other items i j (Some n) (eqb-false i j t)) ∙ sym (later_none (number_in items j))
 
 -- one more root
 one_more : (o : Operation) (j n : ℕ) (items : List (Option ℕ)) (rest : List NamedRoot) (later : Option ℕ)

@@ -1,6 +1,6 @@
 -- The roots of a side are parameters of the operation, or its result: so their attributes and numbers can be found by what a walk over them gives.
 -- `o` is an operation, `s` a side, `r` a root, `p` a parameter, `i` its index.
-use Rattle.std.proofs.Common.{◌≡◌, ◌∙◌, ℕ, suc, ◌+◌, ◌<◌, Bool, true, false, not, List, [], ◌∷◌, ◌++◌, length, Option, Some, None, refl, ap, ap₂, sym, map, cond, arith}
+use Rattle.std.proofs.Common.{◌≡◌, ◌∙◌, ℕ, zero, suc, ◌+◌, ◌<◌, Bool, true, false, not, List, [], ◌∷◌, ◌++◌, length, Option, Some, None, refl, ap, ap₂, sym, map, cond, arith}
 use Rattle.std.specs.Prelude.{filter, ◌&&◌, eqb}
 use Rattle.std.specs.List.{flat_map, slice_get}
 use Rattle.std.proofs.lemmas.Option.{slice_get_within}
@@ -13,9 +13,10 @@ use Rattle.nd_types.specs.declared.types.Side.TheVariants as side
 use Rattle.nd_types.specs.declared.TheConstants.{HANDLE}
 use Rattle.nd_types.specs.Table.{Table}
 use Rattle.nd_types.specs.Roots.{Root, roots_of, root_of, root_by, root_index, pipe_of, params_from, result_root, travels}
-use Rattle.nd_types.specs.Walk.{NamedRoot, named_root, named_roots}
+use Rattle.nd_types.specs.Walk.{NamedRoot, named_root, named_roots, root_name, param_name}
 use Rattle.ndr_code.specs.declared.instr.Instr.{Instr}
 use Rattle.ndr_code.specs.Code.{root_checks, root_check, vars_checks}
+use Rattle.ndr_plan.specs.Parts.{name_by, own_name}
 use Rattle.ndr_plan.specs.Checks.{check_by, check_found, checks_by, vars_in, vars_at}
 
 -- it is a parameter of the operation, or the result
@@ -100,3 +101,13 @@ module _ (s : Side) (o : Operation) (here asked : List Root) where
       let z : i + 1 ≡ suc i = omega arith in
       ap₂ (λ xs ys. xs ++ ys) (ap (λ vs. flat_map (by_roots i) vs) (sym h.0) ∙ same_vars i r.vars)
       (same_checks (i + 1) rs h.2 ∙ ap (λ k. root_checks s here asked k rs) z)
+
+-- so each root has the name that is found by its parameter
+same_name : (ps : List Param) (i : ℕ) → i < length ps → name_by (slice_get ps i) ≡ param_name (slice_get ps i)
+same_name [] i h = absurd (omega (arith, h))
+same_name (p ∷ ps) zero h = refl
+same_name (p ∷ ps) (suc i) h = let k : i < length ps = omega (arith, h) in same_name ps i k
+
+pub own_name_is : (o : Operation) (param : Option ℕ) → IsOwn o param → own_name o param ≡ root_name o param
+own_name_is o None h = refl
+own_name_is o (Some i) h = same_name o.params i h

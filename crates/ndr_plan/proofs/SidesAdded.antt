@@ -21,6 +21,7 @@ use Rattle.ndr_code.specs.Lines.{entry_lines, side_lines, operation_lines, entri
 use Rattle.ndr_code.proofs.Runs.{numbered}
 use Rattle.ndr_plan.specs.Parts.{value_run, value_line, pipe_run, pipe_line, lines_from, HasOperation}
 use Rattle.ndr_plan.specs.declared.side_code.Parts.{Parts}
+use Rattle.ndr_plan.proofs.OwnParams.{roots_own}
 use Rattle.ndr_plan.proofs.Walked.{values_coded, pipes_coded, value_lines, pipe_lines}
 
 threes : (table : Table) (rs : List Root) → length (flat_map (root_run table) rs) ≡ 3 * length rs
@@ -58,23 +59,23 @@ module _ (table : Table) (operations : List Operation) (n : ℕ) (o : Operation)
         ∙ append_assoc (C ++ V) B P ∙ append_assoc C V (B ++ P)
 
     module _ (here : length C ≡ side_at table operations n o s) (E E1 E2 E3 : List PlanLine)
-        (e1 : E1 ≡ E ++ lines_from (value_run table) (value_line n s) (length C) named)
+        (e1 : E1 ≡ E ++ lines_from (value_run table) (value_line n o s) (length C) named)
         (e2 : E2 ≡ E1 ++ (line.Checks n s (length C1) ∷ []))
-        (e3 : E3 ≡ E2 ++ lines_from (pipe_run table) (pipe_line n s) (length C2) named) where
+        (e3 : E3 ≡ E2 ++ lines_from (pipe_run table) (pipe_line n o s) (length C2) named) where
       checks_here : length C1 ≡ checks_at table operations n o s
       checks_here = ap length behind_values ∙ length-append C V ∙ ap₂ (λ k l. k + l) here (threes table vs)
 
       pipes_here : length C2 ≡ checks_at table operations n o s + length B
       pipes_here = ap length c2 ∙ length-append C1 B ∙ ap (λ k. k + length B) checks_here
 
-      value_entries : lines_from (value_run table) (value_line n s) (length C) named ≡ entry_lines n o s (root_at table operations n o s) vs
+      value_entries : lines_from (value_run table) (value_line n o s) (length C) named ≡ entry_lines n o s (root_at table operations n o s) vs
       value_entries =
-          value_lines table o n s (length C) (roots_of table s o)
+          value_lines table o n s (length C) (roots_of table s o) (roots_own table s o)
           ∙ ap (λ at. entry_lines n o s at vs) (fun_ext {f = λ i. length C + 3 * i} {g = root_at table operations n o s} (λ i. ap (λ k. k + 3 * i) here))
 
-      pipe_entries : lines_from (pipe_run table) (pipe_line n s) (length C2) named ≡ entry_lines n o s (pipe_at table operations n o s) ps
+      pipe_entries : lines_from (pipe_run table) (pipe_line n o s) (length C2) named ≡ entry_lines n o s (pipe_at table operations n o s) ps
       pipe_entries =
-          pipe_lines table o n s (length C2) (roots_of table s o)
+          pipe_lines table o n s (length C2) (roots_of table s o) (roots_own table s o)
           ∙ ap (λ at. entry_lines n o s at ps) (fun_ext {f = λ i. length C2 + 2 * i} {g = pipe_at table operations n o s} (λ i. ap (λ k. k + 2 * i) pipes_here))
 
       -- and their lines are the lines of the side

@@ -21,7 +21,8 @@ use Rattle.ndr_code.specs.Code.{value_roots, pipe_roots, root_run, root_checks, 
 use Rattle.ndr_code.specs.Code as code
 use Rattle.ndr_plan.specs.Numbers.{all_numbered, numbered}
 use Rattle.ndr_plan.specs.Checks.{check_by, check_found, checks_by, vars_in, vars_at}
-use Rattle.ndr_plan.specs.Parts.{value_run, value_line, pipe_run, pipe_line, lines_from, HasRuns}
+use Rattle.ndr_plan.proofs.OwnParams.{IsOwn, AreOwn, own_name_is}
+use Rattle.ndr_plan.specs.Parts.{own_name, value_run, value_line, pipe_run, pipe_line, lines_from, HasRuns}
 use Rattle.ndr_plan.specs.declared.side_code.Parts.{Parts}
 
 -- the lines of one more root
@@ -89,42 +90,42 @@ module _ (table : Table) (o : Operation) where
     abbrev entries : ℕ → ℕ → List Root → List PlanLine
     entries size k rs = map (entry size) (enumerate_from k rs)
 
-    value_listed : (r : Root) (k : ℕ) (b : Bool) (rest : ℕ → List PlanLine) (rs : List Root) → ((j : ℕ) → rest (at + 3 * j) ≡ entries 3 j rs)
-        → elim b [ true ↦ [] | false ↦ line.Entry n s (root_name o r.param) (at + 3 * k) ∷ [] ] ++ rest (at + 3 * k + length (elim b [ true ↦ [] | false ↦ root_run table r ]))
+    value_listed : (r : Root) → IsOwn o r.param → (k : ℕ) (b : Bool) (rest : ℕ → List PlanLine) (rs : List Root) → ((j : ℕ) → rest (at + 3 * j) ≡ entries 3 j rs)
+        → elim b [ true ↦ [] | false ↦ line.Entry n s (own_name o r.param) (at + 3 * k) ∷ [] ] ++ rest (at + 3 * k + length {A = Instr} (elim b [ true ↦ [] | false ↦ root_run table r ]))
         ≡ entries 3 k (cond (not b) (r ∷ rs) rs)
-    value_listed r k true rest rs h = let z : at + 3 * k + 0 ≡ at + 3 * k = omega arith in ap rest z ∙ h k
-    value_listed r k false rest rs h =
+    value_listed r own k true rest rs h = let z : at + 3 * k + 0 ≡ at + 3 * k = omega arith in ap rest z ∙ h k
+    value_listed r own k false rest rs h =
         let z : at + 3 * k + 3 ≡ at + 3 * (k + 1) = omega arith in
-        ap (λ ls. line.Entry n s (root_name o r.param) (at + 3 * k) ∷ ls) (ap rest z ∙ h (k + 1))
+        ap₂ (λ m ls. line.Entry n s m (at + 3 * k) ∷ ls) (own_name_is o r.param own) (ap rest z ∙ h (k + 1))
 
-    values_listed : (rs : List Root) (k : ℕ) → lines_from (value_run table) (value_line n s) (at + 3 * k) (map (named_root o) rs) ≡ entries 3 k (value_roots rs)
-    values_listed [] k = refl
-    values_listed (r ∷ rs) k =
-        value_listed r k r.is_pipe (λ a. lines_from (value_run table) (value_line n s) a (map (named_root o) rs)) (value_roots rs) (values_listed rs)
+    values_listed : (rs : List Root) → AreOwn o rs → (k : ℕ) → lines_from (value_run table) (value_line n o s) (at + 3 * k) (map (named_root o) rs) ≡ entries 3 k (value_roots rs)
+    values_listed [] own k = refl
+    values_listed (r ∷ rs) own k =
+        value_listed r own.1 k r.is_pipe (λ a. lines_from (value_run table) (value_line n o s) a (map (named_root o) rs)) (value_roots rs) (values_listed rs own.2)
 
-    pipe_listed : (r : Root) (k : ℕ) (b : Bool) (rest : ℕ → List PlanLine) (rs : List Root) → ((j : ℕ) → rest (at + 2 * j) ≡ entries 2 j rs)
-        → elim b [ true ↦ line.Entry n s (root_name o r.param) (at + 2 * k) ∷ [] | false ↦ [] ] ++ rest (at + 2 * k + length (elim b [ true ↦ code.pipe_run table r | false ↦ [] ]))
+    pipe_listed : (r : Root) → IsOwn o r.param → (k : ℕ) (b : Bool) (rest : ℕ → List PlanLine) (rs : List Root) → ((j : ℕ) → rest (at + 2 * j) ≡ entries 2 j rs)
+        → elim b [ true ↦ line.Entry n s (own_name o r.param) (at + 2 * k) ∷ [] | false ↦ [] ] ++ rest (at + 2 * k + length {A = Instr} (elim b [ true ↦ code.pipe_run table r | false ↦ [] ]))
         ≡ entries 2 k (cond b (r ∷ rs) rs)
-    pipe_listed r k false rest rs h = let z : at + 2 * k + 0 ≡ at + 2 * k = omega arith in ap rest z ∙ h k
-    pipe_listed r k true rest rs h =
+    pipe_listed r own k false rest rs h = let z : at + 2 * k + 0 ≡ at + 2 * k = omega arith in ap rest z ∙ h k
+    pipe_listed r own k true rest rs h =
         let z : at + 2 * k + 2 ≡ at + 2 * (k + 1) = omega arith in
-        ap (λ ls. line.Entry n s (root_name o r.param) (at + 2 * k) ∷ ls) (ap rest z ∙ h (k + 1))
+        ap₂ (λ m ls. line.Entry n s m (at + 2 * k) ∷ ls) (own_name_is o r.param own) (ap rest z ∙ h (k + 1))
 
-    pipes_listed : (rs : List Root) (k : ℕ) → lines_from (pipe_run table) (pipe_line n s) (at + 2 * k) (map (named_root o) rs) ≡ entries 2 k (pipe_roots rs)
-    pipes_listed [] k = refl
-    pipes_listed (r ∷ rs) k =
-        pipe_listed r k r.is_pipe (λ a. lines_from (pipe_run table) (pipe_line n s) a (map (named_root o) rs)) (pipe_roots rs) (pipes_listed rs)
+    pipes_listed : (rs : List Root) → AreOwn o rs → (k : ℕ) → lines_from (pipe_run table) (pipe_line n o s) (at + 2 * k) (map (named_root o) rs) ≡ entries 2 k (pipe_roots rs)
+    pipes_listed [] own k = refl
+    pipes_listed (r ∷ rs) own k =
+        pipe_listed r own.1 k r.is_pipe (λ a. lines_from (pipe_run table) (pipe_line n o s) a (map (named_root o) rs)) (pipe_roots rs) (pipes_listed rs own.2)
 
     -- the lines of the roots that are no pipes, and those of the pipes
-    pub value_lines : (rs : List Root) → lines_from (value_run table) (value_line n s) at (map (named_root o) rs) ≡ entries 3 0 (value_roots rs)
-    value_lines rs =
+    pub value_lines : (rs : List Root) → AreOwn o rs → lines_from (value_run table) (value_line n o s) at (map (named_root o) rs) ≡ entries 3 0 (value_roots rs)
+    value_lines rs own =
         let z : at ≡ at + 3 * 0 = omega arith in
-        ap (λ a. lines_from (value_run table) (value_line n s) a (map (named_root o) rs)) z ∙ values_listed rs 0
+        ap (λ a. lines_from (value_run table) (value_line n o s) a (map (named_root o) rs)) z ∙ values_listed rs own 0
 
-    pub pipe_lines : (rs : List Root) → lines_from (pipe_run table) (pipe_line n s) at (map (named_root o) rs) ≡ entries 2 0 (pipe_roots rs)
-    pipe_lines rs =
+    pub pipe_lines : (rs : List Root) → AreOwn o rs → lines_from (pipe_run table) (pipe_line n o s) at (map (named_root o) rs) ≡ entries 2 0 (pipe_roots rs)
+    pipe_lines rs own =
         let z : at ≡ at + 2 * 0 = omega arith in
-        ap (λ a. lines_from (pipe_run table) (pipe_line n s) a (map (named_root o) rs)) z ∙ pipes_listed rs 0
+        ap (λ a. lines_from (pipe_run table) (pipe_line n o s) a (map (named_root o) rs)) z ∙ pipes_listed rs own 0
 
 -- no root, and one more root
 pub runs_none : (p : Parts) (run : NamedRoot → List Instr) (line : ℕ → NamedRoot → List PlanLine) → HasRuns p p run line []

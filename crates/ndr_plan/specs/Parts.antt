@@ -1,7 +1,8 @@
 -- What the runs of roots, and one more side, add to the parts of a plan.
--- `p` and `q` are the parts before and after, `r` is a root, `n` an operation's number, `s` a side, `at` an address.
-use Rattle.std.specs.Prelude.{◌≡◌, ℕ, ◌+◌, true, false, List, [], ◌∷◌, ◌++◌, length}
+-- `p` and `q` are the parts before and after, `r` is a root, `n` an operation's number, `o` the operation, `s` a side, `at` an address.
+use Rattle.std.specs.Prelude.{◌≡◌, ℕ, ◌+◌, true, false, List, [], ◌∷◌, ◌++◌, length, Option, Some, None, slice_get, codes}
 use Rattle.std.specs.List.{flat_map}
+use Rattle.nd_types.specs.declared.types.Param.{Param}
 use Rattle.nd_types.specs.declared.types.Operation.{Operation}
 use Rattle.nd_types.specs.declared.types.Side.{Side}
 use Rattle.nd_types.specs.declared.types.Side.TheVariants as side
@@ -15,19 +16,29 @@ use Rattle.ndr_code.specs.Code.{side_code, operation_code, root_by, place_at}
 use Rattle.ndr_code.specs.Lines.{side_lines, operation_lines}
 use Rattle.ndr_plan.specs.declared.side_code.Parts.{Parts}
 
+-- the name of a parameter, or `return`
+abbrev pub name_by : Option Param → List ℕ
+name_by (Some p) = p.field.name
+name_by None = codes "return"
+
+-- the name of a root that is a parameter, or the result
+abbrev pub own_name : Operation → Option ℕ → List ℕ
+own_name o (Some i) = name_by (slice_get o.params i)
+own_name o None = codes "return"
+
 -- the run of a root that is no pipe, and its line; a pipe has neither
 abbrev pub value_run : Table → NamedRoot → List Instr
 value_run table r = elim r.is_pipe [ true ↦ [] | false ↦ root_by table r.of (type_at table r.of) ∷ op.Defer ∷ op.Ret ∷ [] ]
 
-abbrev pub value_line : ℕ → Side → ℕ → NamedRoot → List PlanLine
-value_line n s at r = elim r.is_pipe [ true ↦ [] | false ↦ line.Entry n s r.name at ∷ [] ]
+abbrev pub value_line : ℕ → Operation → Side → ℕ → NamedRoot → List PlanLine
+value_line n o s at r = elim r.is_pipe [ true ↦ [] | false ↦ line.Entry n s (own_name o r.param) at ∷ [] ]
 
 -- the run of a pipe, and its line; any other root has neither
 abbrev pub pipe_run : Table → NamedRoot → List Instr
 pipe_run table r = elim r.is_pipe [ true ↦ op.Call (place_at table r.of) ∷ op.Ret ∷ [] | false ↦ [] ]
 
-abbrev pub pipe_line : ℕ → Side → ℕ → NamedRoot → List PlanLine
-pipe_line n s at r = elim r.is_pipe [ true ↦ line.Entry n s r.name at ∷ [] | false ↦ [] ]
+abbrev pub pipe_line : ℕ → Operation → Side → ℕ → NamedRoot → List PlanLine
+pipe_line n o s at r = elim r.is_pipe [ true ↦ line.Entry n s (own_name o r.param) at ∷ [] | false ↦ [] ]
 
 -- the lines of roots whose runs begin at an address
 abbrev pub lines_from : (NamedRoot → List Instr) → (ℕ → NamedRoot → List PlanLine) → ℕ → List NamedRoot → List PlanLine

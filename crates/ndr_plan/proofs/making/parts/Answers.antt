@@ -1,10 +1,15 @@
-use Rattle.std.proofs.Common.{◌≤◌, sym, refl, length, arith, append-nil}
+use Rattle.std.proofs.Common.{◌∙◌, ◌≤◌, sym, length, arith, append-nil}
 use Rattle.ndr_code.specs.Code.{table_code}
 use Rattle.ndr_plan.proofs.SidesAdded.{HasBefore, request_at, one_operation, all_operations}
 use Rattle.ndr_plan.proofs.making.parts.Goals as goal
 
 pub loop-at-init : goal.loop-at-init
-loop-at-init c = ?
+loop-at-init c =
+    record {
+      code_is = c.in_ok-table_code.ensures ∙ sym (append-nil (table_code c.args.interface.now.types));
+      entries_are = c.new.ensures;
+      sides_are = c.new-2.ensures;
+    }
 
 pub loop-at-preserved : goal.loop-at-preserved
 loop-at-preserved c =

@@ -14,7 +14,7 @@ params-root-items-requires c =
     slice_get_within of.interface.now.operations of.op of.operation.now of.known
 
 pub loop-root-init : goal.loop-root-init
-loop-root-init c = ?
+loop-root-init c = (c.in_ok-numbers.ensures ∙ ap (λ n. replicate {A = Option ℕ} n None) c.len.ensures, refl)
 
 pub loop-root-preserved : goal.loop-root-preserved
 loop-root-preserved c =

@@ -15,14 +15,14 @@ params-root-items-requires c =
 pub loop-root-init : goal.loop-root-init
 loop-root-init c =
     let side = c.args.side.now in
-    runs_none c.args.self.now (pipe_run side.interface.now.types) (pipe_line side.op side.side)
+    runs_none c.args.self.now (pipe_run side.interface.now.types) (pipe_line side.op side.operation.now side.side)
 
 pub loop-root-preserved : goal.loop-root-preserved
 loop-root-preserved c =
     let l = c.loop-root in
     let side = c.args.side.now in
     let run = pipe_run side.interface.now.types in
-    let line = pipe_line side.op side.side in
+    let line = pipe_line side.op side.operation.now side.side in
     subst (HasRuns c.args.self.now _ run line) (sym (map-append root_value l.yielded (c.in-Some.root ∷ [])))
     (runs_more c.args.self.now l.self _ run line (map root_value l.yielded) (root_value c.in-Some.root) l.invariant c.in_ok-push_pipe.ensures)
 
@@ -33,7 +33,7 @@ returns c =
     let i = side.interface.now in
     let o = side.operation.now in
     let run = pipe_run i.types in
-    let line = pipe_line side.op side.side in
+    let line = pipe_line side.op side.operation.now side.side in
     let all = named_roots i.types side.side o in
     let walk = YieldsList-from_first root_value (λ w. w) all (c.into_iter-root-iterator.ensures.into_iter_gives ∙ c.params-root-items.ensures o side.known) in
     let end = YieldsList-end walk l.yielded _ l.yielded_by _ _ c.in-None.is c.next.ensures.steps in
