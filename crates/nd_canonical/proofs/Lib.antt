@@ -1,0 +1,4 @@
+pub mod Carried
+pub mod Complete
+pub mod Numbers
+pub mod Ordered

@@ -23,7 +23,7 @@ pub(crate) struct Order {
 }
 
 // The order of all cells of a graph.
-pub(crate) fn order(alloc: Global, graph: &FlatGraph) -> Result<Order, Memory>
+pub(crate) fn order_of(alloc: Global, graph: &FlatGraph) -> Result<Order, Memory>
     requires few_roots { length graph.now.roots < 2 ^ 32 }
     requires few_cells { length graph.now.cells < 2 ^ 32 }
     requires names { HasNames graph.now }

@@ -11,6 +11,7 @@ mod node;
 mod rebuilt;
 mod renumbered;
 mod row;
+mod shown;
 mod walk;
 
 pub use builder::Builder;
