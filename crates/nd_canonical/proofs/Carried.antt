@@ -4,7 +4,7 @@
 use Rattle.std.proofs.Common.{◌≡◌, ◌⊎◌, inl, inr, ℕ, ◌+◌, ◌<◌, ◌≤◌, ◌^◌, zero, suc, ℤ, Bool, true, false, not, ◌&&◌, eqb, List, [], ◌∷◌, ◌++◌, length, map, flat_map, Option, Some, None, option_map, refl, ap, ap₂, sym, ◌∙◌, subst, arith}
 use Rattle.std.specs.Prelude.{leb, ltb, replicate, pos, ◌-ℤ◌}
 use Rattle.std.specs.List.{AllByRecursion, slice_get, list_all}
-use Rattle.std.proofs.lemmas.Bool.{eqb-true, eqb-false, ne_eqb, leb-true, le-leb, lt-ltb, not-true, and_parts}
+use Rattle.std.proofs.lemmas.Bool.{eqb-true, eqb-false, ne_eqb, leb-true, le-leb, lt-ltb, ltb-true, ltb-false, not-true, and_parts}
 use Rattle.std.proofs.lemmas.List.{map-append}
 use Rattle.std.proofs.lemmas.Option.{same_Some}
 use Rattle.std.proofs.lemmas.Grind.{flat_map-append}
@@ -41,7 +41,7 @@ use Rattle.nd_value.specs.Same.{renumbered, renumbered_label}
 use Rattle.nd_value.proofs.Apart.{all_append, all_left, all_right, all_map, all_among, among_left, among_right}
 use Rattle.nd_value.proofs.NodeFacts.{all_of_list, fit_node}
 use Rattle.nd_flat.specs.Renumbered.{renumbered_tree}
-use Rattle.nd_canonical.proofs.Complete.{names_its_cell, has_names}
+use Rattle.nd_canonical.proofs.Complete.{names_its_cell, has_names, among_split, of_roots}
 
 -- ## Labels and children
 
@@ -591,3 +591,336 @@ module _ (w : Setting) (g h : Graph) (m : ℕ → ℕ) (r : Renumbers m g h) whe
 
   agrees : (x : TypedNode) → AgreesAt g x → AgreesAt h (carried m x)
   agrees x a = subst (AllByRecursion (λ t. AllByRecursion (IsAgreed t) x.agreements)) (sym (subjects x x.label)) (agree_all x.agreements (subject g x) a)
+
+  -- ### Shared cells
+
+  abbrev Key : Type 0
+  Key = Class × Option ℕ
+
+  abbrev key : Pending → Key
+  key p = (p.class, p.cell)
+
+  abbrev Shares : Key → Key → Type 0
+  Shares a b = (c : ℕ) → a.1 ≡ Some c → b.1 ≡ Some c → (a.0 ≡ Full) × (b.0 ≡ Full)
+
+  abbrev carried_key : Key → Key
+  carried_key a = (a.0, option_map m a.1)
+
+  -- the cell that it names is there
+  abbrev IsThere : Key → Type 0
+  IsThere a = (c : ℕ) → a.1 ≡ Some c → (0 < c) × (c ≤ length g.cells)
+
+  to_keys : (ps : List Pending) → AllEarlier ShareOnlyIfFull ps → AllEarlier Shares (map key ps)
+  to_keys [] a = tt
+  to_keys (p ∷ ps) a = (all_mapped (Shares (key p)) key ps a.0, to_keys ps a.1)
+
+  from_keys : (ps : List Pending) → AllEarlier Shares (map key ps) → AllEarlier ShareOnlyIfFull ps
+  from_keys [] a = tt
+  from_keys (p ∷ ps) a = (all_map (Shares (key p)) key ps a.0, from_keys ps a.1)
+
+  shares_turned : (a b : Key) → Shares a b → Shares b a
+  shares_turned a b f c e d = let x = f c d e in (x.1, x.0)
+
+  carried_number : (o : Option ℕ) (d : ℕ) → option_map m o ≡ Some d → (c : ℕ) × (o ≡ Some c) × (m c ≡ d)
+  carried_number None d e = cc
+  carried_number (Some c) d e = (c, refl, same_Some _ _ e)
+
+  shares_carried : (a b : Key) → IsThere a → IsThere b → Shares a b → Shares (carried_key a) (carried_key b)
+  shares_carried a b ta tb f d e e' =
+      let (c, p, q) = carried_number a.1 d e in
+      let (c', p', q') = carried_number b.1 d e' in
+      let l = ta c p in
+      let l' = tb c' p' in
+      let same : c ≡ c' = r.one c c' l.0 l.1 l'.0 l'.1 (q ∙ sym q') in
+      f c p (p' ∙ ap Some (sym same))
+
+  -- lists of lists
+  module _ (R : Key → Key → Type 0) where
+    all_of_each : (P : Key → Type 0) (xs : List Key) → ((x : Key) → Among xs x → P x) → AllByRecursion P xs
+    all_of_each P [] f = tt
+    all_of_each P (x ∷ xs) f = (f x (inl refl), all_of_each P xs (λ y a. f y (inr a)))
+
+    earlier_left : (xs ys : List Key) → AllEarlier R (xs ++ ys) → AllEarlier R xs
+    earlier_left [] ys a = tt
+    earlier_left (x ∷ xs) ys a = (all_left (R x) xs ys a.0, earlier_left xs ys a.1)
+
+    earlier_right : (xs ys : List Key) → AllEarlier R (xs ++ ys) → AllEarlier R ys
+    earlier_right [] ys a = a
+    earlier_right (x ∷ xs) ys a = earlier_right xs ys a.1
+
+    earlier_cross : (xs ys : List Key) → AllEarlier R (xs ++ ys) → (x y : Key) → Among xs x → Among ys y → R x y
+    earlier_cross [] ys a x y b c = absurd b
+    earlier_cross (z ∷ xs) ys a x y (inl e) c = subst (λ u. R u y) (sym e) (all_among (R z) (xs ++ ys) y (among_right xs ys y c) a.0)
+    earlier_cross (z ∷ xs) ys a x y (inr b) c = earlier_cross xs ys a.1 x y b c
+
+    earlier_joined : (xs ys : List Key) → AllEarlier R xs → AllEarlier R ys → ((x y : Key) → Among xs x → Among ys y → R x y) → AllEarlier R (xs ++ ys)
+    earlier_joined [] ys a b f = b
+    earlier_joined (x ∷ xs) ys a b f =
+        (all_append (R x) xs ys a.0 (all_of_each (R x) ys (λ y c. f x y (inl refl) c)), earlier_joined xs ys a.1 b (λ z y d c. f z y (inr d) c))
+
+    module _ (f : Referent → List Key) where
+      part_itself : (xs : List Referent) (i : ℕ) (x : Referent) → slice_get xs i ≡ Some x → AllEarlier R (flat_map f xs) → AllEarlier R (f x)
+      part_itself [] i x e a = cc
+      part_itself (y ∷ ys) zero x e a = subst (λ u. AllEarlier R (f u)) (same_Some _ _ e) (earlier_left (f y) (flat_map f ys) a)
+      part_itself (y ∷ ys) (suc i) x e a = part_itself ys i x e (earlier_right (f y) (flat_map f ys) a)
+
+      in_part : (xs : List Referent) (i : ℕ) (x : Referent) (p : Key) → slice_get xs i ≡ Some x → Among (f x) p → Among (flat_map f xs) p
+      in_part [] i x p e a = cc
+      in_part (y ∷ ys) zero x p e a = among_left (f y) (flat_map f ys) p (subst (λ u. Among (f u) p) (sym (same_Some _ _ e)) a)
+      in_part (y ∷ ys) (suc i) x p e a = among_right (f y) (flat_map f ys) p (in_part ys i x p e a)
+
+      parts_cross : (xs : List Referent) (i j : ℕ) (x y : Referent) → i < j → slice_get xs i ≡ Some x → slice_get xs j ≡ Some y → AllEarlier R (flat_map f xs)
+          → (p q : Key) → Among (f x) p → Among (f y) q → R p q
+      parts_cross [] i j x y l e d a p q b c = cc
+      parts_cross (z ∷ zs) i zero x y l e d a p q b c = absurd (omega (arith, l))
+      parts_cross (z ∷ zs) zero (suc j) x y l e d a p q b c =
+          earlier_cross (f z) (flat_map f zs) a p q (subst (λ u. Among (f u) p) (sym (same_Some _ _ e)) b) (in_part zs j y q d c)
+      parts_cross (z ∷ zs) (suc i) (suc j) x y l e d a p q b c = parts_cross zs i j x y (omega (arith, l)) e d (earlier_right (f z) (flat_map f zs) a) p q b c
+
+      of_part : (xs : List Referent) (q : Key) → Among (flat_map f xs) q → (j : ℕ) × (y : Referent) × (slice_get xs j ≡ Some y) × Among (f y) q
+      of_part [] q a = absurd a
+      of_part (x ∷ xs) q a =
+          elim (among_split (f x) (flat_map f xs) q a) as (λ v. (j : ℕ) × (y : Referent) × (slice_get (x ∷ xs) j ≡ Some y) × Among (f y) q) [
+            | inl b ↦ (0, x, refl, b)
+            | inr b ↦ let (j, y, e, c) = of_part xs q b in (suc j, y, e, c)
+          ]
+
+      parts_joined : (xs : List Referent) → ((i : ℕ) (x : Referent) → slice_get xs i ≡ Some x → AllEarlier R (f x))
+          → ((i j : ℕ) (x y : Referent) → i < j → slice_get xs i ≡ Some x → slice_get xs j ≡ Some y → (p q : Key) → Among (f x) p → Among (f y) q → R p q)
+          → AllEarlier R (flat_map f xs)
+      parts_joined [] self cross = tt
+      parts_joined (x ∷ xs) self cross =
+          earlier_joined (f x) (flat_map f xs) (self 0 x refl)
+          (parts_joined xs (λ i y e. self (suc i) y e) (λ i j y z l e d p q a b. cross (suc i) (suc j) y z (omega (arith, l)) e d p q a b))
+          (λ p q a b.
+              let (j, y, e, c) = of_part xs q b in
+              cross 0 (suc j) x y (omega arith) refl e p q a c)
+
+  -- the keys of a cell's pointers
+  abbrev cell_keys : Referent → List Key
+  cell_keys x = map key (home_pointers w.table (home.Root 0) x.of x.val)
+
+  pointer_keys : (d : Option TypeDef) (b : Bool) (o : Option ℕ) (a a' : Home) (k : ℕ) (us : List Agreement) → map key (pointer_by d b o a k us) ≡ map key (pointer_by d b o a' k us)
+  pointer_keys (Some (def.Pointer class to)) true o a a' k us = refl
+  pointer_keys (Some (def.Pointer class to)) false o a a' k us = refl
+  pointer_keys None b o a a' k us = refl
+  pointer_keys (Some (def.Prim p)) b o a a' k us = refl
+  pointer_keys (Some _) b o a a' k us = refl
+
+  nodes_keys : (a a' : Home) (xs : List TypedNode) → map key (flat_map (pointer w.table a) xs) ≡ map key (flat_map (pointer w.table a') xs)
+  nodes_keys a a' [] = refl
+  nodes_keys a a' (x ∷ xs) =
+      map-append key (pointer w.table a x) (flat_map (pointer w.table a) xs)
+      ∙ ap₂ (λ u v. u ++ v) (pointer_keys (type_at w.table x.of) (is_pointer x.label) (cell_in x.label) a a' x.node x.agreements) (nodes_keys a a' xs)
+      ∙ sym (map-append key (pointer w.table a' x) (flat_map (pointer w.table a') xs))
+
+  keys_carried_to : (a : Home) (ps : List Pending) → map key (map (carried_to m a) ps) ≡ map carried_key (map key ps)
+  keys_carried_to a [] = refl
+  keys_carried_to a (p ∷ ps) = ap (λ u. carried_key (key p) ∷ u) (keys_carried_to a ps)
+
+  home_keys : (a : Home) (t : ℕ) (v : Tree) → map key (home_pointers w.table a t (renumbered_tree m v)) ≡ map carried_key (map key (home_pointers w.table a t v))
+  home_keys a t v = ap (map key) (pointers_carried m w.table a a t v) ∙ keys_carried_to a (home_pointers w.table a t v)
+
+  cells_keys : (c : ℕ) (xs : List Referent) → map key (cell_pointers w.table c xs) ≡ flat_map cell_keys xs
+  cells_keys c [] = refl
+  cells_keys c (x ∷ xs) =
+      map-append key (home_pointers w.table (cell_home c) x.of x.val) (cell_pointers w.table (c + 1) xs)
+      ∙ ap₂ (λ u v. u ++ v) (nodes_keys (cell_home c) (home.Root 0) (home_nodes w.table x.of x.val)) (cells_keys (c + 1) xs)
+
+  roots_keys : (i : ℕ) (rs : List Root) (vs : List Tree) → map key (root_pointers w.table i rs (map (renumbered_tree m) vs)) ≡ map carried_key (map key (root_pointers w.table i rs vs))
+  roots_keys i [] [] = refl
+  roots_keys i [] (v ∷ vs) = refl
+  roots_keys i (q ∷ rs) [] = refl
+  roots_keys i (q ∷ rs) (v ∷ vs) =
+      let own : List Pending = home_pointers w.table (home.Root i) q.of v in
+      let others : List Pending = root_pointers w.table (i + 1) rs vs in
+      map-append key (home_pointers w.table (home.Root i) q.of (renumbered_tree m v)) (root_pointers w.table (i + 1) rs (map (renumbered_tree m) vs))
+      ∙ ap₂ (λ u v. u ++ v) (home_keys (home.Root i) q.of v) (roots_keys (i + 1) rs vs)
+      ∙ sym (ap (map carried_key) (map-append key own others) ∙ map-append carried_key (map key own) (map key others))
+
+  module _ (k : Conforms w g) where
+    there : HasNames g
+    there = has_names w g k
+
+    root_there : (a : Key) → Among (map key (root_pointers w.table 0 (root_list w) g.roots)) a → IsThere a
+    root_there a b c e =
+        let (p, d, f) = mapped_from key (root_pointers w.table 0 (root_list w) g.roots) a b in
+        let (j, l, n) = of_roots w g 0 (root_list w) g.roots p c d (sym (ap (λ (u : Key). u.1) f) ∙ e) in
+        all_among (λ c. (0 < c) × (c ≤ length g.cells)) (named_by (or_unread (slice_get g.roots j))) c n (of_roots_there g.roots j there.roots)
+      where
+        of_roots_there : (ts : List Tree) (j : ℕ) → AllByRecursion (λ t. AreThere (length g.cells) (named_by t)) ts → AreThere (length g.cells) (named_by (or_unread (slice_get ts j)))
+        of_roots_there [] j h = tt
+        of_roots_there (t ∷ ts) zero h = h.0
+        of_roots_there (t ∷ ts) (suc j) h = of_roots_there ts j h.1
+
+    cell_there : (i : ℕ) (x : Referent) → slice_get g.cells i ≡ Some x → (a : Key) → Among (cell_keys x) a → IsThere a
+    cell_there i x e a b c f =
+        let (p, d, s) = mapped_from key (home_pointers w.table (home.Root 0) x.of x.val) a b in
+        all_among (λ c. (0 < c) × (c ≤ length g.cells)) (named_by x.val) c
+        (names_its_cell w.table (home.Root 0) x.of x.val p c d (sym (ap (λ (u : Key). u.1) s) ∙ f)) (of_cells_there g.cells i there.cells e)
+      where
+        of_cells_there : (xs : List Referent) (i : ℕ) → AllByRecursion (λ x. AreThere (length g.cells) (named_by x.val)) xs → slice_get xs i ≡ Some x → AreThere (length g.cells) (named_by x.val)
+        of_cells_there [] i h e = cc
+        of_cells_there (y ∷ ys) zero h e = subst (λ (z : Referent). AreThere (length g.cells) (named_by z.val)) (same_Some _ _ e) h.0
+        of_cells_there (y ∷ ys) (suc i) h e = of_cells_there ys i h.1 e
+
+    abbrev A : List Key
+    A = map key (root_pointers w.table 0 (root_list w) g.roots)
+
+    abbrev F : List Key
+    F = flat_map cell_keys g.cells
+
+    apart : AllEarlier Shares (A ++ F)
+    apart =
+        subst (AllEarlier Shares)
+        (map-append key (root_pointers w.table 0 (root_list w) g.roots) (cell_pointers w.table 1 g.cells) ∙ ap (λ u. A ++ u) (cells_keys 1 g.cells)) (to_keys (all_pointers w g) k.unshared)
+
+    -- the keys of a cell of h
+    keys_of : (y : Referent) (x : Referent) → y ≡ carried_cell m x → cell_keys y ≡ map carried_key (cell_keys x)
+    keys_of y x e = ap cell_keys e ∙ home_keys (home.Root 0) x.of x.val
+
+    earlier_carried : (xs : List Key) → ((a : Key) → Among xs a → IsThere a) → AllEarlier Shares xs → AllEarlier Shares (map carried_key xs)
+    earlier_carried [] t a = tt
+    earlier_carried (x ∷ xs) t a = (first xs (λ b c. t b (inr c)) a.0, earlier_carried xs (λ b c. t b (inr c)) a.1)
+      where
+        first : (ys : List Key) → ((b : Key) → Among ys b → IsThere b) → AllByRecursion (Shares x) ys → AllByRecursion (Shares (carried_key x)) (map carried_key ys)
+        first [] u b = tt
+        first (y ∷ ys) u b = (shares_carried x y (t x (inl refl)) (u y (inl refl)) b.0, first ys (λ z c. u z (inr c)) b.1)
+
+    place_of : (c : ℕ) (x : Referent) → cell_of_number g c ≡ Some x → (i : ℕ) × (c ≡ suc i) × (slice_get g.cells i ≡ Some x)
+    place_of zero x e = cc
+    place_of (suc i) x e = (i, refl, e)
+
+    self : (j : ℕ) (y : Referent) → slice_get h.cells j ≡ Some y → AllEarlier Shares (cell_keys y)
+    self j y e =
+        let s = source j y e in
+        let (i, f, at) = place_of s.number s.cell s.there in
+        subst (AllEarlier Shares) (sym (keys_of y s.cell s.same))
+        (earlier_carried (cell_keys s.cell) (cell_there i s.cell at) (part_itself Shares cell_keys g.cells i s.cell at (earlier_right Shares A F apart)))
+
+    differ : (i i' : ℕ) (x x' : Referent) → (i ≡ i' → ⊥) → slice_get g.cells i ≡ Some x → slice_get g.cells i' ≡ Some x' → (p q : Key) → Among (cell_keys x) p → Among (cell_keys x') q → Shares p q
+    differ i i' x x' n e e' p q a b = go (ltb i i') refl
+      where
+        go : (t : Bool) → ltb i i' ≡ t → Shares p q
+        go true f = parts_cross Shares cell_keys g.cells i i' x x' (ltb-true i i' f) e e' (earlier_right Shares A F apart) p q a b
+        go false f =
+            let l : i' ≤ i = ltb-false i i' f in
+            shares_turned q p (parts_cross Shares cell_keys g.cells i' i x' x (omega (arith, l, n)) e' e (earlier_right Shares A F apart) q p b a)
+
+    cross : (j j' : ℕ) (y y' : Referent) → j < j' → slice_get h.cells j ≡ Some y → slice_get h.cells j' ≡ Some y' → (p q : Key) → Among (cell_keys y) p → Among (cell_keys y') q → Shares p q
+    cross j j' y y' l e e' p q a b =
+        let s = source j y e in
+        let s' = source j' y' e' in
+        let (i, f, at) = place_of s.number s.cell s.there in
+        let (i', f', at') = place_of s'.number s'.cell s'.there in
+        let apart_numbers : i ≡ i' → ⊥ = λ z. (
+          let same : suc j ≡ suc j' = sym s.image ∙ ap m (f ∙ ap suc z ∙ sym f') ∙ s'.image in
+          omega (arith, same, l)) in
+        let (p', c, pe) = mapped_from carried_key (cell_keys s.cell) p (subst (λ u. Among u p) (keys_of y s.cell s.same) a) in
+        let (q', d, qe) = mapped_from carried_key (cell_keys s'.cell) q (subst (λ u. Among u q) (keys_of y' s'.cell s'.same) b) in
+        subst (λ u. Shares u q) (sym pe)
+        (subst (λ u. Shares (carried_key p') u) (sym qe)
+        (shares_carried p' q' (cell_there i s.cell at p' c) (cell_there i' s'.cell at' q' d) (differ i i' s.cell s'.cell apart_numbers at at' p' q' c d)))
+
+    root_cross : (p q : Key) → Among (map carried_key A) p → Among (flat_map cell_keys h.cells) q → Shares p q
+    root_cross p q a b =
+        let (p', c, pe) = mapped_from carried_key A p a in
+        let (j, y, e, d) = of_part Shares cell_keys h.cells q b in
+        let s = source j y e in
+        let (i, f, at) = place_of s.number s.cell s.there in
+        let (q', d', qe) = mapped_from carried_key (cell_keys s.cell) q (subst (λ u. Among u q) (keys_of y s.cell s.same) d) in
+        subst (λ u. Shares u q) (sym pe)
+        (subst (λ u. Shares (carried_key p') u) (sym qe)
+        (shares_carried p' q' (root_there p' c) (cell_there i s.cell at q' d')
+        (earlier_cross Shares A F apart p' q' c (in_part Shares cell_keys g.cells i s.cell q' at d'))))
+
+    unshared : AllEarlier ShareOnlyIfFull (all_pointers w h)
+    unshared =
+        let roots : map key (root_pointers w.table 0 (root_list w) h.roots) ≡ map carried_key A =
+        ap (λ ts. map key (root_pointers w.table 0 (root_list w) ts)) r.roots ∙ roots_keys 0 (root_list w) g.roots in
+        from_keys (all_pointers w h)
+        (subst (AllEarlier Shares)
+        (sym (map-append key (root_pointers w.table 0 (root_list w) h.roots) (cell_pointers w.table 1 h.cells) ∙ ap₂ (λ u v. u ++ v) roots (cells_keys 1 h.cells)))
+        (earlier_joined Shares (map carried_key A) (flat_map cell_keys h.cells) (earlier_carried A root_there (earlier_left Shares A F apart))
+        (parts_joined Shares cell_keys h.cells self cross) root_cross))
+
+    -- ### Each cell is reached
+
+    root_point : (i : ℕ) (rs : List Root) (vs : List Tree) (p : Pending) → Among (root_pointers w.table i rs vs) p
+        → (q : Pending) × Among (root_pointers w.table i rs (map (renumbered_tree m) vs)) q × (q.cell ≡ option_map m p.cell)
+    root_point i [] vs p a = absurd a
+    root_point i (t ∷ rs) [] p a = absurd a
+    root_point i (t ∷ rs) (v ∷ vs) p a =
+        let own : List Pending = home_pointers w.table (home.Root i) t.of v in
+        let own' : List Pending = home_pointers w.table (home.Root i) t.of (renumbered_tree m v) in
+        let others' : List Pending = root_pointers w.table (i + 1) rs (map (renumbered_tree m) vs) in
+        elim (among_split own (root_pointers w.table (i + 1) rs vs) p a)
+        as (λ x. (q : Pending) × Among (own' ++ others') q × (q.cell ≡ option_map m p.cell)) [
+          | inl b ↦
+              (
+                carried_to m (home.Root i) p,
+                among_left own' others' (carried_to m (home.Root i) p)
+                    (subst (λ u. Among u (carried_to m (home.Root i) p)) (sym (pointers_carried m w.table (home.Root i) (home.Root i) t.of v)) (among_mapped (carried_to m (home.Root i)) own p b)),
+                refl,
+              )
+          | inr b ↦ let (q, c, e) = root_point (i + 1) rs vs p b in (q, among_right own' others' q c, e)
+        ]
+
+    reached_image : {c : ℕ} → Reached w g c → Reached w h (m c)
+    reached_image (by_root {c} p a e) =
+        let (q, b, f) = root_point 0 (root_list w) g.roots p a in
+        by_root q (subst (λ ts. Among (root_pointers w.table 0 (root_list w) ts) q) (sym r.roots) b) (f ∙ ap (option_map m) e)
+    reached_image (by_cell {b} {c} x p d at a e) =
+        let there' : cell_of_number h (m b) ≡ Some (carried_cell m x) = r.cell b ∙ ap (option_map (carried_cell m)) at in
+        by_cell (carried_cell m x) (carried_to m (cell_home (m b)) p) (reached_image d) there'
+        (subst (λ u. Among u (carried_to m (cell_home (m b)) p)) (sym (pointers_carried m w.table (cell_home b) (cell_home (m b)) x.of x.val))
+        (among_mapped (carried_to m (cell_home (m b))) (home_pointers w.table (cell_home b) x.of x.val) p a)) (ap (option_map m) e)
+
+    -- ### Few nodes
+
+    few_mapped : (ts : List Tree) → FewNodes ts → FewNodes (map (renumbered_tree m) ts)
+    few_mapped [] a = tt
+    few_mapped (t ∷ ts) a = (subst (λ u. u < 2 ^ 32) (sym (tree_nodes_same m t)) a.0, few_mapped ts a.1)
+
+    abbrev IsFew : Tree → Type 0
+    IsFew t = node_count (more t none) < 2 ^ 32
+
+    few_all : (xs : List Referent) → ((i : ℕ) (x : Referent) → slice_get xs i ≡ Some x → IsFew x.val) → AllByRecursion IsFew (map (λ c. c.val) xs)
+    few_all [] f = tt
+    few_all (x ∷ xs) f = (f 0 x refl, few_all xs (λ i y e. f (suc i) y e))
+
+    few_at : (xs : List Referent) (i : ℕ) (x : Referent) → slice_get xs i ≡ Some x → AllByRecursion IsFew (map (λ c. c.val) xs) → IsFew x.val
+    few_at [] i x e a = cc
+    few_at (y ∷ ys) zero x e a = subst (λ (z : Referent). IsFew z.val) (same_Some _ _ e) a.0
+    few_at (y ∷ ys) (suc i) x e a = few_at ys i x e a.1
+
+    few : HasFewNodes h
+    few =
+        all_append IsFew h.roots (map (λ c. c.val) h.cells)
+        (subst FewNodes (sym r.roots) (few_mapped g.roots (all_left IsFew g.roots (map (λ c. c.val) g.cells) k.few_nodes)))
+        (few_all h.cells (λ j y e.
+            let s = source j y e in
+            let (i, f, at) = place_of s.number s.cell s.there in
+            subst (λ (z : Referent). IsFew z.val) (sym s.same)
+            (subst (λ u. u < 2 ^ 32) (sym (tree_nodes_same m s.cell.val)) (few_at g.cells i s.cell at (all_right IsFew g.roots (map (λ c. c.val) g.cells) k.few_nodes)))))
+
+    -- the renumbered graph conforms
+    pub conforms_as_before : Conforms w h
+    conforms_as_before =
+        let many = r.many in
+        let few_cells = k.few_cells in
+        record {
+          all_roots = ap length r.roots ∙ length_map (renumbered_tree m) g.roots ∙ k.all_roots;
+          machine_values =
+              list_of_all (λ x. has_machine_values x.typed.label) (all_nodes w h)
+              (lifted (λ x. has_machine_values x.label ≡ true) (λ x. has_machine_values x.label ≡ true) (λ x e. machine_label x.label k.few_cells e)
+              (all_of_list (λ x. has_machine_values x.typed.label) (all_nodes w g) k.machine_values));
+          local = lifted (λ x. misfit_of w.table g x ≡ None) (λ x. misfit_of w.table h x ≡ None) no_misfit k.local;
+          unshared = unshared;
+          reached = λ d lo hi. (
+              let (c, l, u, e) = r.back d lo (omega (arith, hi, many)) in
+              subst (Reached w h) e (reached_image (k.reached c l (omega (arith, u)))));
+          agreed = lifted (AgreesAt g) (AgreesAt h) agrees k.agreed;
+          few_cells = omega (arith, many, few_cells);
+          few_nodes = few;
+        }

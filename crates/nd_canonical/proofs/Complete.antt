@@ -56,7 +56,7 @@ in_target : (o : Option ℕ) (c : ℕ) → o ≡ Some c → Among (target o) c
 in_target None c e = cc
 in_target (Some d) c e = inl (sym (same_Some _ _ e))
 
-among_split : {A : Type 0} (xs ys : List A) (x : A) → Among (xs ++ ys) x → Among xs x ⊎ Among ys x
+pub among_split : {A : Type 0} (xs ys : List A) (x : A) → Among (xs ++ ys) x → Among xs x ⊎ Among ys x
 among_split [] ys x a = inr a
 among_split (y ∷ xs) ys x (inl e) = inl (inl e)
 among_split (y ∷ xs) ys x (inr b) = elim (among_split xs ys x b) as (λ v. Among (y ∷ xs) x ⊎ Among ys x) [ inl c ↦ inl (inr c) | inr d ↦ inr d ]
@@ -192,7 +192,7 @@ module _ (g : Graph) where
   cells_named ns d b a = elim (cell_names b d (inr a)) as (λ v. Names g ns (cell_at g b)) [ inl s ↦ absurd s | inr h ↦ h ]
 
 module _ (w : Setting) (g : Graph) where
-  of_roots : (i : ℕ) (rs : List Root) (vs : List Tree) (p : Pending) (c : ℕ) → Among (root_pointers w.table i rs vs) p → p.cell ≡ Some c
+  pub of_roots : (i : ℕ) (rs : List Root) (vs : List Tree) (p : Pending) (c : ℕ) → Among (root_pointers w.table i rs vs) p → p.cell ≡ Some c
       → (j : ℕ) × (j < length vs) × Among (named_by (or_unread (slice_get vs j))) c
   of_roots i [] vs p c a e = absurd a
   of_roots i (r ∷ rs) [] p c a e = absurd a

@@ -2,3 +2,4 @@ pub mod Carried
 pub mod Complete
 pub mod Numbers
 pub mod Ordered
+pub mod Walks

@@ -414,3 +414,11 @@ can_name n named s cs are small there =
       first = are.numbers 0 ∙ not_placed 1 0 s.cells (not_zero n s.cells are.there);
       few = omega (arith, few, small);
     }
+
+-- there is room for the number of a cell that has none
+pub room : (numbers cells cells' : List ℕ) (c : ℕ) → HaveNumbers numbers cells (c ∷ []) → get_or numbers c 0 ≡ 0 → cells' ≡ cells ++ c ∷ [] → length cells' < 2 ^ 32
+room numbers cells cells' c h e n =
+    let two = zeros_two numbers c h.there.0.0 h.there.0.1 h.first e in
+    let few = h.few in
+    let l : length cells' ≡ length cells + 1 = ap length n ∙ length-append cells (c ∷ []) in
+    omega (arith, two, few, l)
