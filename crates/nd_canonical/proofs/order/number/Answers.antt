@@ -1,4 +1,4 @@
-use Rattle.std.proofs.Common.{◌≡◌, ◌<◌, ◌^◌, length, get_or, ap, sym, ◌∙◌}
+use Rattle.std.proofs.Common.{rules, ◌≡◌, ◌<◌, ◌^◌, length, get_or, ap, sym, ◌∙◌}
 use Rattle.nd_canonical.proofs.Numbers.{room}
 use Rattle.nd_canonical.proofs.order.number.Goals as goal
 

@@ -11,7 +11,7 @@ loop-home-init c = record {
   ordered =
       ordered_start c.args.graph.now (ordering c.in_ok-order.order.numbers.items c.in_ok-order.order.cells.items c.in_ok-stands.stands.items c.in_ok-due.due.items) _
       c.cell_count.ensures c.in_ok-order.ensures.numbers c.in_ok-order.ensures.cells
-      (c.in_ok-stands.ensures.items ∙ ap (λ (k : ℕ). replicate k false) (c.cell_count-2.ensures ∙ sym c.cell_count.ensures))
+      (c.in_ok-stands.ensures ∙ ap (λ (k : ℕ). replicate k false) (c.cell_count-2.ensures ∙ sym c.cell_count.ensures))
       (c.in_ok-due.ensures ∙ ap (root_homes 0) c.root_count.ensures);
   met = c.new-met.ensures.items;
 }
