@@ -1,14 +1,14 @@
 // The request beside which a response is judged, for contracts alone.
 ghost use Rattle.std.specs.Prelude.{◌≡◌, option_map};
 
-use crate::shown::Shown;
 use crate::{Fit, FlatGraph};
+use nd_types::Witness;
 use std::marker::Model;
 
 /// The request beside which a response is judged, or none. It takes no memory: contracts alone see the graph of the request.
 #[derive(Drop)]
 pub struct Given {
-    graph: Option<Shown<FlatGraph>>,
+    graph: Option<Witness<FlatGraph>>,
 }
 
 impl Model for Given {
@@ -32,7 +32,7 @@ impl Given {
         match request {
             None => Given { graph: None },
             Some(fit) => Given {
-                graph: Some(Shown::of(fit.flat())),
+                graph: Some(Witness::of(fit.flat())),
             },
         }
     }
@@ -43,8 +43,8 @@ impl Given {
     {
         match &self.graph {
             None => Given { graph: None },
-            Some(shown) => Given {
-                graph: Some(shown.again()),
+            Some(graph) => Given {
+                graph: Some(graph.again()),
             },
         }
     }

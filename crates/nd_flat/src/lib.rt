@@ -11,7 +11,8 @@ mod node;
 mod rebuilt;
 mod renumbered;
 mod row;
-mod shown;
+#[cfg(test)]
+mod tests;
 mod walk;
 
 pub use builder::Builder;

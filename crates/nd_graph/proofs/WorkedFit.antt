@@ -1,18 +1,12 @@
--- The worked example: the sides of its operation are plain, and its numbers fit.
+-- The worked example: its numbers fit.
 use Rattle.std.proofs.Common.{◌≡◌, List, [], ◌∷◌, refl, sym, subst}
 use Rattle.nd_types.specs.declared.interface.Interface.{Interface}
-use Rattle.nd_types.specs.declared.types.Side.{Side}
 use Rattle.nd_types.specs.declared.types.Side.TheVariants as side
 use Rattle.nd_types.specs.Kinds.{basic_types}
-use Rattle.nd_types.specs.Numbers.{IsNumberSide}
-use Rattle.nd_types.proofs.NumberSides.{plain_numbers}
 use Rattle.nd_value.specs.Tree.{Tree, Referent}
 use Rattle.nd_value.specs.WorkedFit.{add, one_two_three}
-use Rattle.nd_value.proofs.WorkedFit.{plain, conforms}
+use Rattle.nd_value.proofs.WorkedFit.{conforms}
 use Rattle.nd_graph.specs.Fitting.{IsFit}
-
-pub numbers : (s : Side) → IsNumberSide basic_types (add ∷ []) 0 s
-numbers s = plain_numbers basic_types (add ∷ []) plain 0 s
 
 -- under an interface of this operation alone
 pub fits : (i : Interface) (roots : List Tree) (cells : List Referent) → i.types ≡ basic_types → i.operations ≡ add ∷ [] → roots ≡ one_two_three → cells ≡ []

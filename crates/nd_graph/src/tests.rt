@@ -57,7 +57,7 @@ fn operations(alloc: Global) -> Result<Operations, Memory>
 }
 
 // interface t { void add([in] long a, [in] short b, [in] hyper c); }
-#[tactic(auto, using(nd_value::proofs::WorkedFit::legal, crate::proofs::WorkedFit::numbers))]
+#[tactic(auto, using(nd_value::proofs::WorkedFit::legal, nd_value::proofs::WorkedFit::numbers))]
 fn interface(alloc: Global) -> Result<Interface, Memory>
     ensures numbers { IfOk result (λ i. (s : Side) → IsNumberSide i.types i.operations 0 s) }
     ensures types { IfOk result (λ i. i.types ≡ basic_types) }

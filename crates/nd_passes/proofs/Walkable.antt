@@ -1,9 +1,8 @@
 -- Where the first pass finds no misfit, the later passes can go over each home.
-use Rattle.std.proofs.Common.{◌≡◌, ℕ, ◌+◌, ◌^◌, ◌<◌, ◌≤◌, zero, suc, Bool, true, false, not, ◌&&◌, List, [], ◌∷◌, ◌++◌, length, Option, Some, None, refl, ap, ap₂, sym, ◌∙◌, arith, subst, map}
+use Rattle.std.proofs.Common.{◌≡◌, ℕ, ◌+◌, ◌^◌, ◌<◌, ◌≤◌, zero, suc, true, not, List, [], ◌∷◌, ◌++◌, length, Option, Some, None, refl, sym, ◌∙◌, arith, map}
 use Rattle.std.specs.Prelude.{eqb, leb}
-use Rattle.std.specs.List.{slice_get, list_all, AllByRecursion}
+use Rattle.std.specs.List.{list_all, AllByRecursion}
 use Rattle.std.proofs.lemmas.Bool.{and_parts, leb-true}
-use Rattle.std.proofs.lemmas.List.{append-nil}
 use Rattle.nd_types.specs.declared.types.TypeDef.{TypeDef}
 use Rattle.nd_types.specs.declared.types.TypeDef.TheVariants as def
 use Rattle.nd_types.specs.Legal.{has_small_values}
@@ -14,17 +13,16 @@ use Rattle.nd_value.specs.declared.item.Home.{Home}
 use Rattle.nd_value.specs.declared.item.Home.TheVariants as home
 use Rattle.nd_value.specs.declared.misfit.MisfitReason.{MisfitReason}
 use Rattle.nd_value.specs.declared.misfit.NodeMisfit.{NodeMisfit}
-use Rattle.nd_passes.specs.declared.pointers.CellPointer.{CellPointer}
 use Rattle.nd_value.specs.Tree as tree
 use Rattle.nd_value.specs.Tree.{Tree, Trees, Label, node, none, more, count, node_count, Referent}
 use Rattle.nd_value.specs.Setting.{Setting, root_list, cell_home}
 use Rattle.nd_value.specs.Nodes.{child_types}
 use Rattle.nd_value.specs.Misfit.{misfit_by, names_cell}
 use Rattle.nd_value.specs.Conforms.{FewNodes, HasFewNodes}
-use Rattle.nd_value.specs.FirstMisfit.{MisfitAt, or_later, first_local}
+use Rattle.nd_value.specs.FirstMisfit.{first_local}
 use Rattle.nd_value.specs.Passes.{or_next, at_number, first_in, at_home, first_in_home, first_in_roots, first_in_cells}
-use Rattle.nd_passes.specs.HomeList.{HomeTree, root_homes, cell_homes, homes_of}
-use Rattle.nd_passes.specs.Pointers.{are_formed, named_by, named_here, pointers_in, pointers_of_home, NamesBelow, IsWalkable}
+use Rattle.nd_passes.specs.HomeList.{root_homes, cell_homes, homes_of}
+use Rattle.nd_passes.specs.Pointers.{are_formed, named_here, pointers_in, NamesBelow, IsWalkable}
 use Rattle.nd_value.proofs.LocalPass.{local_first}
 use Rattle.nd_value.proofs.Misfits.{all_left, all_right, all_both, neither}
 use Rattle.nd_value.proofs.NodeFacts.{IsFit, fit_node, fit_children}
@@ -39,22 +37,22 @@ number_none : (n : ℕ) (o : Option MisfitReason) → at_number n o ≡ None →
 number_none n None e = refl
 number_none n (Some r) e = cc
 
-home_none : (h : Home) (o : Option NodeMisfit) → at_home h o ≡ None → o ≡ None
+pub home_none : (h : Home) (o : Option NodeMisfit) → at_home h o ≡ None → o ≡ None
 home_none h None e = refl
 home_none h (Some m) e = cc
 
-positive : (c : ℕ) → not (eqb c 0) ≡ true → 0 < c
+pub positive : (c : ℕ) → not (eqb c 0) ≡ true → 0 < c
 positive zero e = cc
 positive (suc c) e = omega arith
 
 module _ (table : Table) (g : Graph) where
   -- what holds of values in which no node has a misfit
-  record Fits (t : ℕ) (types : List ℕ) (n : ℕ) (l : Label) (ks vs : Trees) : Type 0 where
-    own : IsFit table g t l ks
-    inside : first_in table g (child_types (type_at table t) l ks) (n + 1) ks ≡ None
-    behind : first_in table g types (n + 1 + node_count ks) vs ≡ None
+  pub record Fits (t : ℕ) (types : List ℕ) (n : ℕ) (l : Label) (ks vs : Trees) : Type 0 where
+    pub own : IsFit table g t l ks
+    pub inside : first_in table g (child_types (type_at table t) l ks) (n + 1) ks ≡ None
+    pub behind : first_in table g types (n + 1 + node_count ks) vs ≡ None
 
-  fits : (t : ℕ) (types : List ℕ) (n : ℕ) (l : Label) (ks vs : Trees) → first_in table g (t ∷ types) n (more (node l ks) vs) ≡ None → Fits t types n l ks vs
+  pub fits : (t : ℕ) (types : List ℕ) (n : ℕ) (l : Label) (ks vs : Trees) → first_in table g (t ∷ types) n (more (node l ks) vs) ≡ None → Fits t types n l ks vs
   fits t types n l ks vs e =
       let (a, e1) = next_none (at_number n (misfit_by table g (type_at table t) l ks)) _ e in
       let (b, c) = next_none (first_in table g (child_types (type_at table t) l ks) (n + 1) ks) _ e1 in

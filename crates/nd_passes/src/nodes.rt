@@ -8,9 +8,9 @@ ghost use Rattle.nd_value.specs.Seen.{tree_of};
 ghost use Rattle.nd_value.specs.Misfit.{has_shape, has_arm};
 ghost use Rattle.nd_passes.specs.Searched.{Searched, label_in, kids_in};
 
-use crate::node::{selected, single};
-use nd_value::{ArmVal, Graph, NodeMisfit, Val, Vals};
+use crate::node::{selected, single, within_widths};
 use nd_types::{Fields, TypeDef, TypeId, Types};
+use nd_value::{ArmVal, Graph, NodeMisfit, Val, Vals};
 
 // Goes through the nodes of a value of a type, which are numbered from `node` on: the number behind them, or the first that has a
 // misfit by itself.
@@ -25,6 +25,7 @@ pub(crate) fn value(
     requires { node + node_count (more (tree_of val.now) none) < 2 ^ 32 }
     ensures { Searched types.now graph.now (of.0 ∷ []) node (more (tree_of val.now) none) result }
 {
+    within_widths(val);
     match single(types, graph, of, val) {
         Some(reason) => Err(NodeMisfit { node, reason }),
         None => children(types, graph, of, val, node + 1),

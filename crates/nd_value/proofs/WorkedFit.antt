@@ -9,9 +9,11 @@ use Rattle.nd_types.specs.declared.types.Side.{Side}
 use Rattle.nd_types.specs.declared.types.Side.TheVariants as side
 use Rattle.nd_types.specs.Kinds.{basic_types}
 use Rattle.nd_types.specs.Legal.{IsLegal}
+use Rattle.nd_types.specs.Numbers.{IsNumberSide}
 use Rattle.nd_types.specs.Plain.{IsPlainParam, IsPlainOperation, IsPlainInterface}
 use Rattle.nd_types.specs.Roots.{roots_of}
 use Rattle.nd_types.specs.Table.{Table}
+use Rattle.nd_types.proofs.NumberSides.{plain_numbers}
 use Rattle.nd_types.proofs.PlainLaws.{plain_is_legal}
 use Rattle.nd_value.specs.declared.value.Graph.{Graph}
 use Rattle.nd_value.specs.Tree as tree
@@ -46,6 +48,9 @@ add_is_plain = record { name = refl; params = are_plain; no_result = refl; few =
 
 pub plain : IsPlainInterface basic_types (add ∷ [])
 plain = record { basic = refl; plain = only IsPlainOperation add add_is_plain; few = lit≤ tt; distinct = λ i j d low high e. absurd (omega (arith, low, high)) }
+
+pub numbers : (s : Side) → IsNumberSide basic_types (add ∷ []) 0 s
+numbers s = plain_numbers basic_types (add ∷ []) plain 0 s
 
 pub legal : IsLegal basic_types (add ∷ [])
 legal = plain_is_legal basic_types (add ∷ []) plain
