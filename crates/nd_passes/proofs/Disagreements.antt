@@ -4,7 +4,7 @@ use Rattle.std.specs.List.{AllByRecursion}
 use Rattle.std.proofs.lemmas.List.{map-append, drop_more}
 use Rattle.nd_types.specs.Table.{Table, type_at}
 use Rattle.nd_types.specs.Roots.{Root}
-use Rattle.nd_types.specs.Walk.{NamedRoot, named_root}
+use Rattle.nd_types.specs.Walk.{named_root}
 use Rattle.nd_value.specs.declared.value.Graph.{Graph}
 use Rattle.nd_value.specs.declared.item.Home.{Home}
 use Rattle.nd_value.specs.declared.item.Home.TheVariants as home
@@ -18,7 +18,7 @@ use Rattle.nd_value.specs.Nodes.{TypedNode, child_types, child_agreements, first
 use Rattle.nd_value.specs.Variables.{root_agreements}
 use Rattle.nd_value.specs.Homes.{HomeNode, in_home, root_nodes, cell_nodes}
 use Rattle.nd_value.specs.Conforms.{subject}
-use Rattle.nd_value.specs.FirstMisfit.{MisfitAt, or_later, at_node, first_node, disagreement_of, first_disagreeing}
+use Rattle.nd_value.specs.FirstMisfit.{or_later, first_node, disagreement_of, first_disagreeing}
 use Rattle.nd_value.specs.Passes.{or_next, at_number, at_home}
 use Rattle.nd_value.proofs.LocalPass.{drop-past, or_later-assoc, at_home-or, at_home-number, first-append}
 use Rattle.nd_passes.specs.declared.homes.HomeValue.{HomeValue}

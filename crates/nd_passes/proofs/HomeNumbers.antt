@@ -1,5 +1,5 @@
 -- The roots of a graph as variables, and that their numbers are small.
-use Rattle.std.proofs.Common.{◌≡◌, ℕ, ◌+◌, ◌<◌, zero, suc, Bool, true, false, ◌&&◌, List, [], ◌∷◌, ◌++◌, length, get_or, Option, Some, None, refl, ap, sym, ◌∙◌, arith, subst, map}
+use Rattle.std.proofs.Common.{◌≡◌, ℕ, ◌+◌, ◌<◌, zero, suc, Bool, true, false, List, [], ◌∷◌, ◌++◌, length, get_or, Some, None, refl, ap, sym, ◌∙◌, arith, subst, map}
 use Rattle.std.specs.List.{slice_get, list_all, AllByRecursion}
 use Rattle.std.proofs.lemmas.Bool.{and_parts}
 use Rattle.std.specs.Cmp.Derive.{both_true}
@@ -11,7 +11,7 @@ use Rattle.nd_value.specs.declared.item.Home.TheVariants as home
 use Rattle.nd_value.specs.Tree as tree
 use Rattle.nd_value.specs.Tree.{Tree, Trees, node, none, more, Referent}
 use Rattle.nd_value.specs.Agreement.{number_of}
-use Rattle.nd_value.specs.Setting.{Setting, root_list, cell_of_number, cell_tree, cell_at}
+use Rattle.nd_value.specs.Setting.{Setting, root_list, cell_tree, cell_at}
 use Rattle.nd_value.specs.Conforms.{HasFewNodes}
 use Rattle.nd_value.specs.Variables.{starred}
 use Rattle.nd_value.specs.FirstMisfit.{first_local, first_disagreeing}

@@ -15,8 +15,8 @@ ghost use Rattle.nd_value.specs.Seen.{tree_of, cell_number};
 ghost use Rattle.nd_value.specs.Misfit.{is_bound, arm_fits, has_counts, is_within, is_octet, is_count, has_machine_values};
 ghost use Rattle.nd_passes.specs.Searched.{misfit_in, label_in};
 
-use nd_value::{ArmVal, CellId, Graph, MisfitReason, Val};
 use nd_types::{Arm, Arms, Class, Fields, Numbers, Prim, TypeDef, TypeId, Types};
+use nd_value::{ArmVal, CellId, Graph, MisfitReason, Val};
 use ndr_prim::is_in_range;
 
 // The counts and octets of a node are within the widths of their types, which a clause cannot say of a value: this reads them, and is

@@ -1,4 +1,4 @@
-use Rattle.std.proofs.Common.{◌≡◌, ◌∙◌, length, get_or, map, None, Some, refl, sym, ap, arith}
+use Rattle.std.proofs.Common.{◌∙◌, length, get_or, map, None, refl, sym, ap, arith}
 use Rattle.std.proofs.lemmas.Option.{same_Some}
 use Rattle.std.proofs.lemmas.Result.{IfErr-weaker, on_ok_weaker}
 use Rattle.nd_types.specs.declared.types.Operation.{Operation}
