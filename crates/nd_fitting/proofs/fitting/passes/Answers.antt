@@ -1,7 +1,8 @@
-use Rattle.std.proofs.Common.{◌≡◌, ◌∙◌, sym, None, Some, Option, subst, true, slice_get}
+use Rattle.std.proofs.Common.{◌≡◌, ◌∙◌, ◌<◌, ◌^◌, length, sym, None, Some, Option, subst, true, slice_get}
 use Rattle.std.proofs.lemmas.Result.{err_from_is_err_and}
 use Rattle.nd_types.specs.declared.types.Operation.{Operation}
 use Rattle.nd_value.specs.declared.value.Graph.{Graph}
+use Rattle.nd_value.specs.Conforms.{HasFewNodes}
 use Rattle.nd_value.specs.Fitting.{setting_beside}
 use Rattle.nd_value.specs.FirstMisfit.{first_local, IsMisfit}
 use Rattle.nd_value.specs.Passes.{AreReached, TellsUnreached}
@@ -19,6 +20,12 @@ flattened-requires-clause-keepable c =
     let (o, there) = item_at i.operations c.args.op c.requires.known in
     passed_kept (setting_beside i o c.args.side None) c.args.graph.now i.legal.enumerators c.requires.few_nodes (c.in_ok-local_misfit.ensures.none o None there)
     c.in_ok-local_misfit.ensures.machine
+
+pub unreached_cell-requires-clause-few_cells : goal.unreached_cell-requires-clause-few_cells
+unreached_cell-requires-clause-few_cells c = subst (λ (g : Graph). length g.cells < 2 ^ 32) (sym c.in_ok-flat.ensures) c.requires.few_cells
+
+pub unreached_cell-requires-clause-few_nodes : goal.unreached_cell-requires-clause-few_nodes
+unreached_cell-requires-clause-few_nodes c = subst HasFewNodes (sym c.in_ok-flat.ensures) c.requires.few_nodes
 
 pub unreached_cell-requires-clause-local : goal.unreached_cell-requires-clause-local
 unreached_cell-requires-clause-local c =
