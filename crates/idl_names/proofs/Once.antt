@@ -186,8 +186,8 @@ module _ (f : List ℕ → Option (List ℕ)) (fails : List ℕ → Bool) where
       let same : other ≡ text = one_text f name other text d c in
       let tree : u ≡ t = one_tree text u t (subst (λ (l : List ℕ). IsFile l u) same g) h in
       let told : Told fails (Some f) (with_source s name text) (all_of (length s.sources) t ++ rest) x =
-          subst (λ (y : Tree). Told fails (Some f) (with_source s name text) (all_of (length s.sources) y ++ rest) x) tree
-          (subst (λ (l : List ℕ). Told fails (Some f) (with_source s name l) (all_of (length s.sources) u ++ rest) x) same (v, fw.1)) in
+      subst (λ (y : Tree). Told fails (Some f) (with_source s name text) (all_of (length s.sources) y ++ rest) x) tree
+      (subst (λ (l : List ℕ). Told fails (Some f) (with_source s name l) (all_of (length s.sources) u ++ rest) x) same (v, fw.1)) in
       one_told_ending p q w told.0 fv.1 told.1
   one_told_ending p q (walk.cycle s place name rest n h d) (walk.absent _ _ _ _ due m) fv fw = known_or_new n (file_number s.sources name) h due.new
   one_told_ending p q (walk.again s place name rest e n h d w) (walk.absent _ _ _ _ due m) fv fw = known_or_new n (file_number s.sources name) h due.new
