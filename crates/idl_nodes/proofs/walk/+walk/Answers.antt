@@ -119,9 +119,18 @@ members-loop-one-preserved t c =
     let k = seen_construct c.args.construct.now in
     let xs = c.deref-one-items.result.now in
     let l = c.loop-one in
-    λ end rest. l.invariant end
-    (turn_of (rests.members_from k) (rests.one_member k) rests.count_of (rests.members_cons k) xs l.nodes c.member.new.nodes c.in_ok-number.number l.index c.in_ok-index.index
-    l.one-index c.one-item.result (omega arith) c.one-item.is c.in_ok-index.ensures.next c.in_ok-index.ensures.adds end rest)
+    record {
+      count = ?;
+      adds = λ end rest. l.invariant.adds end
+          (turn_of (rests.members_from k) (rests.one_member k) rests.count_of (rests.members_cons k) xs l.nodes c.member.new.nodes c.in_ok-number.number l.index c.in_ok-index.index
+          l.one-index c.one-item.result (omega arith) c.one-item.is c.in_ok-index.ensures.next c.in_ok-index.ensures.adds end rest);
+    }
+
+pub members-member-index-requires : goal.members-member-index-requires
+members-member-index-requires = ?
+
+pub members-loop-one-init : goal.members-loop-one-init
+members-loop-one-init = ?
 
 pub members-returns : goal.members-returns
 members-returns t c =
@@ -132,7 +141,7 @@ members-returns t c =
     let a = c.args.nodes.now in
     let b = c.push_list.new.self in
     let rest : Adds b l.nodes (rests.members_from k all 0 xs) =
-    l.invariant l.nodes
+    l.invariant.adds l.nodes
     (over_of (rests.members_from k) (rests.one_member k) rests.count_of (rests.members_cons k) xs l.nodes c.in_ok-number.number l.index l.one-index (omega arith) (λ all. refl))
     all (c.in_ok-number.ensures.number ∙ ap Some c.in_ok-declared.ensures) in
     subst (λ ys. Adds a l.nodes (rests.members_from k all 0 ys)) c.deref-one-items.ensures.value (adds_both a b l.nodes [] (rests.members_from k all 0 xs) c.in_ok-number.ensures.adds rest)
