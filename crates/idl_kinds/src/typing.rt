@@ -28,26 +28,26 @@ pub fn number(scope: &Scope, expression: &Expr) -> i128
     }
 }
 
-/// One more than the greatest index. A number past 128 bits would take more names than memory can hold.
-fn count_through(greatest: i128) -> Result<Option<i128>, Memory>
-    ensures { IfOk result (λ z. z ≡ Some (greatest +ℤ pos 1)) }
+/// One more than the greatest index.
+fn count_through(scope: &Scope, greatest: &Expr) -> i128
+    ensures { result ≡ value_in (known_in scope.now) (seen_expr greatest.now) +ℤ pos 1 }
 {
-    match greatest.checked_add(1) {
-        Some(count) => Ok(Some(count)),
-        None => Err(Memory),
+    match value(scope, greatest) {
+        Ok(number) => number + 1,
+        Err(_) => 1,
     }
 }
 
 /// The count of a dimension.
-fn count_of(scope: &Scope, bound: &Option<Bound>) -> Result<Option<i128>, Memory>
-    ensures { IfOk result (λ z. z ≡ types.count_of (known_in scope.now) (option_map seen_bound bound.now)) }
+fn count_of(scope: &Scope, bound: &Option<Bound>) -> Option<i128>
+    ensures { result ≡ types.count_of (known_in scope.now) (option_map seen_bound bound.now) }
 {
     match bound {
-        None => Ok(None),
-        Some(Bound::Star) => Ok(None),
-        Some(Bound::Count(expression)) => Ok(Some(number(scope, expression))),
-        Some(Bound::From(_)) => Ok(None),
-        Some(Bound::Between(_, greatest)) => count_through(number(scope, greatest)),
+        None => None,
+        Some(Bound::Star) => None,
+        Some(Bound::Count(expression)) => Some(number(scope, expression)),
+        Some(Bound::From(_)) => None,
+        Some(Bound::Between(_, greatest)) => Some(count_through(scope, greatest)),
     }
 }
 
@@ -90,7 +90,7 @@ fn with_dimensions(
 {
     let mut element = of;
     for done in 0..dimensions.len() {
-        let count = count_of(scope, &dimensions[dimensions.len() - 1 - done])?;
+        let count = count_of(scope, &dimensions[dimensions.len() - 1 - done]);
         element = kinds.add(Kind::Array {
             element,
             count,

@@ -9,7 +9,10 @@ mod given;
 pub mod laws;
 mod node;
 mod rebuilt;
+mod renumbered;
 mod row;
+#[cfg(test)]
+mod tests;
 mod walk;
 
 pub use builder::Builder;

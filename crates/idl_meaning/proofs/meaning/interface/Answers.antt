@@ -73,12 +73,12 @@ type_table-requires-clause-bounds c =
 pub major-major-requires : goal.major-major-requires
 major-major-requires c =
     subst (λ (l : List attributes.Attribute). or_none (first_said major_said (map seen_attribute l)) ≤ 65535) (sym c.as_slice-list.ensures.value)
-    (small_version major_said small_major (world_of c.args.scope.now) (seen_tree c.in_ok-tree.tree.now) c.requires.kept c.in_ok-tree.ensures)
+    (small_version major_said small_major (world_of c.args.scope.now) (seen_tree c.main_tree-tree.result.now) c.requires.kept c.main_tree-tree.ensures)
 
 pub minor-minor-requires : goal.minor-minor-requires
 minor-minor-requires c =
     subst (λ (l : List attributes.Attribute). or_none (first_said minor_said (map seen_attribute l)) ≤ 65535) (sym c.as_slice-list.ensures.value)
-    (small_version minor_said small_minor (world_of c.args.scope.now) (seen_tree c.in_ok-tree.tree.now) c.requires.kept c.in_ok-tree.ensures)
+    (small_version minor_said small_minor (world_of c.args.scope.now) (seen_tree c.main_tree-tree.result.now) c.requires.kept c.main_tree-tree.ensures)
 
 pub returns : goal.returns
 unfolding meaning
@@ -86,9 +86,9 @@ returns c =
     let w = world_of c.args.scope.now in
     let s = scene_of w in
     let same = c.as_slice-list.ensures.value in
-    ap (map (header_meant s)) c.in_ok-tree.ensures
+    ap (map (header_meant s)) c.main_tree-tree.ensures
     ∙ ap (λ (m : Meant). m ∷ [])
-    (meant_is s (seen_tree c.in_ok-tree.tree.now) _ c.in_ok-name.ensures.same
+    (meant_is s (seen_tree c.main_tree-tree.result.now) _ c.in_ok-name.ensures.same
     (c.uuid-uuid.ensures ∙ ap (λ l. first_said uuid_said (map seen_attribute l)) same)
     (c.major-major.ensures ∙ ap (λ l. or_none (first_said major_said (map seen_attribute l))) same)
     (c.minor-minor.ensures ∙ ap (λ l. or_none (first_said minor_said (map seen_attribute l))) same)
