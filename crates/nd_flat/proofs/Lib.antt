@@ -9,3 +9,5 @@ pub mod RowWalks
 pub mod Homes
 pub mod Typed
 pub mod Rebuilding
+pub mod Rooted
+pub mod Keepables

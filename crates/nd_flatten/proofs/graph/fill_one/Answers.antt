@@ -1,6 +1,6 @@
 use Rattle.std.proofs.lemmas.Result.{on_ok_weaker}
 use Rattle.nd_value.specs.Seen.{tree_of}
-use Rattle.nd_flatten.proofs.Homes.{filled}
+use Rattle.nd_flat.proofs.Rooted.{filled}
 use Rattle.nd_flatten.proofs.graph.fill_one.Goals as goal
 
 pub returns : goal.returns

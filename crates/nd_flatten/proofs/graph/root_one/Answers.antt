@@ -1,6 +1,6 @@
 use Rattle.std.proofs.lemmas.Result.{on_ok_weaker}
 use Rattle.nd_value.specs.Seen.{tree_of}
-use Rattle.nd_flatten.proofs.Homes.{rooted}
+use Rattle.nd_flat.proofs.Rooted.{rooted}
 use Rattle.nd_flatten.proofs.graph.root_one.Goals as goal
 
 pub returns : goal.returns
