@@ -10,6 +10,8 @@ pub mod laws;
 mod node;
 mod rebuilt;
 mod row;
+#[cfg(test)]
+mod tests;
 mod walk;
 
 pub use builder::Builder;

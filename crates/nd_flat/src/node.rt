@@ -11,7 +11,7 @@ use nd_value::CellId;
 use uuid::Uuid;
 
 /// A node of a value, with the number of its children. The children follow it, depth first.
-#[derive(Clone, Copy, Drop)]
+#[derive(Clone, Copy, PartialEq, Drop)]
 pub enum Seen<'a> {
     /// A number: a primitive, or an enumerated value.
     Num(i128),

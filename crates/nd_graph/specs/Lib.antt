@@ -1,3 +1,2 @@
 pub mod Fitting
-pub mod WorkedFit
 pub mod Simple

@@ -3,7 +3,7 @@ ghost use Rattle.std.specs.Prelude.{◌≡◌, ◌≤◌, [], ◌∷◌, length,
 ghost use Rattle.nd_types.specs.Kinds.{basic_types};
 ghost use Rattle.nd_types.specs.Numbers.{IsNumberSide};
 ghost use Rattle.nd_types.specs.Plain.{plain_param};
-ghost use Rattle.nd_graph.specs.WorkedFit.{add_params, add, one_two_three};
+ghost use Rattle.nd_value.specs.WorkedFit.{add_params, add, one_two_three};
 
 use crate::{Cells, Fit, Graph, Val, Vals, fit};
 use nd_base::{Memory, Name};
@@ -57,7 +57,7 @@ fn operations(alloc: Global) -> Result<Operations, Memory>
 }
 
 // interface t { void add([in] long a, [in] short b, [in] hyper c); }
-#[tactic(auto, using(crate::proofs::WorkedFit::legal, crate::proofs::WorkedFit::numbers))]
+#[tactic(auto, using(nd_value::proofs::WorkedFit::legal, nd_value::proofs::WorkedFit::numbers))]
 fn interface(alloc: Global) -> Result<Interface, Memory>
     ensures numbers { IfOk result (λ i. (s : Side) → IsNumberSide i.types i.operations 0 s) }
     ensures types { IfOk result (λ i. i.types ≡ basic_types) }

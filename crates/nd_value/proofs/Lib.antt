@@ -9,3 +9,4 @@ pub mod NodeFacts
 pub mod Orderly
 pub mod SameCells
 pub mod Waiting
+pub mod WorkedFit

@@ -25,19 +25,19 @@ use Rattle.nd_value.specs.Misfit.{misfit_of}
 use Rattle.nd_value.specs.FirstMisfit.{MisfitAt, or_later, at_node, first_node, root_count, first_local}
 use Rattle.nd_value.specs.Passes.{Tells, or_next, at_number, first_in, at_home, first_in_home, first_in_roots, first_in_cells}
 
-or_later-assoc : (a b c : Option MisfitAt) → or_later (or_later a b) c ≡ or_later a (or_later b c)
+pub or_later-assoc : (a b c : Option MisfitAt) → or_later (or_later a b) c ≡ or_later a (or_later b c)
 or_later-assoc None b c = refl
 or_later-assoc (Some m) b c = refl
 
-at_home-or : (h : Home) (a b : Option NodeMisfit) → at_home h (or_next a b) ≡ or_later (at_home h a) (at_home h b)
+pub at_home-or : (h : Home) (a b : Option NodeMisfit) → at_home h (or_next a b) ≡ or_later (at_home h a) (at_home h b)
 at_home-or h None b = refl
 at_home-or h (Some m) b = refl
 
-at_home-number : (h : Home) (x : TypedNode) (o : Option MisfitReason) → at_node (in_home h x) o ≡ at_home h (at_number x.node o)
+pub at_home-number : (h : Home) (x : TypedNode) (o : Option MisfitReason) → at_node (in_home h x) o ≡ at_home h (at_number x.node o)
 at_home-number h x None = refl
 at_home-number h x (Some r) = refl
 
-first-append : (test : TypedNode → Option MisfitReason) (xs ys : List HomeNode) → first_node test (xs ++ ys) ≡ or_later (first_node test xs) (first_node test ys)
+pub first-append : (test : TypedNode → Option MisfitReason) (xs ys : List HomeNode) → first_node test (xs ++ ys) ≡ or_later (first_node test xs) (first_node test ys)
 first-append test [] ys = refl
 first-append test (x ∷ xs) ys =
     ap (or_later (at_node x (test x.typed))) (first-append test xs ys)

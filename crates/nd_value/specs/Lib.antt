@@ -14,5 +14,7 @@ pub mod FirstMisfit
 pub mod Passes
 pub mod Same
 pub mod Canon
+pub mod Names
 pub mod Fitting
 pub mod Logged
+pub mod WorkedFit
