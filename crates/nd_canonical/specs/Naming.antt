@@ -1,36 +1,40 @@
 -- In which order the cells of a graph are named, by what nodes say alone. A graph that conforms has no need of types for it: a
--- reference pointer that is a root and one that is not name their cell, and then come the cells that the referent names; and pipes,
--- which come last, name none.
--- `g` is a graph, `t` a root's value, `ts` are the values of the roots that are left, `c` is a cell's number, `stands` are the cells that
--- stand, `due` those that pointers have named and whose turn comes, `ns` the cells that are named from there on.
-use Rattle.std.specs.Prelude.{◌≡◌, ℕ, ◌+◌, ◌<◌, ◌≤◌, List, [], ◌∷◌, ◌++◌, length, get_or}
+-- reference pointer that is a root names its cell, and then the cell's referent stands, as with any other pointer; and pipes, which
+-- come last, name no cell.
+-- `g` is a graph, `h` a home, `i` a root's index, `c` a cell's number, `stands` are the cells that stand, `due` the homes whose turn comes, in
+-- order, `ns` the cells that are named from there on.
+use Rattle.std.specs.Prelude.{◌≡◌, ℕ, zero, suc, List, [], ◌∷◌, ◌++◌, length, map}
 use Rattle.nd_value.specs.declared.value.Graph.{Graph}
-use Rattle.nd_value.specs.Tree.{Tree}
-use Rattle.nd_value.specs.Setting.{Among, cell_at}
-use Rattle.nd_value.specs.Canon.{canonical_number}
-use Rattle.nd_fitting.specs.Reach.{named_by}
+use Rattle.nd_value.specs.declared.item.Home.{Home}
+use Rattle.nd_value.specs.declared.item.Home.TheVariants as home
+use Rattle.nd_value.specs.Setting.{Among, root_at, cell_at, cell_home}
+use Rattle.nd_value.specs.Names.{named_by}
 
--- The cells that are named, each time that a pointer does. A root names the cells of its pointers, and these become due. The first
--- cell that is due stands if it does not stand already: it names the cells of its pointers, which become due before the others.
-pub data Naming (g : Graph) : List ℕ → List ℕ → List Tree → List ℕ → Type 0 where
-  none_left : {stands : List ℕ} → Naming g stands [] [] []
-  root_names : {stands : List ℕ} {t : Tree} {ts : List Tree} {ns : List ℕ}
-      → Naming g stands (named_by t) ts ns
-      → Naming g stands [] (t ∷ ts) (named_by t ++ ns)
-  stands_already : {stands due : List ℕ} {c : ℕ} {ts : List Tree} {ns : List ℕ}
-      → Among stands c
-      → Naming g stands due ts ns
-      → Naming g stands (c ∷ due) ts ns
-  stands_now : {stands due : List ℕ} {c : ℕ} {ts : List Tree} {ns : List ℕ}
+-- these cells as homes
+abbrev pub cell_homes : List ℕ → List Home
+cell_homes cs = map cell_home cs
+
+-- The cells that are named, each time that a pointer does. A root, or a cell that does not stand yet, stands when its turn comes: it names the
+-- cells of its pointers, whose turns come before the others. A cell that stands names nothing again.
+pub data Naming (g : Graph) : List ℕ → List Home → List ℕ → Type 0 where
+  none_due : {stands : List ℕ} → Naming g stands [] []
+  root_turn : {stands ns : List ℕ} {due : List Home} (i : ℕ)
+      → Naming g stands (cell_homes (named_by (root_at g i)) ++ due) ns
+      → Naming g stands (home.Root i ∷ due) (named_by (root_at g i) ++ ns)
+  cell_turn : {stands ns : List ℕ} {due : List Home} (c : ℕ)
       → ¬ Among stands c
-      → Naming g (c ∷ stands) (named_by (cell_at g c) ++ due) ts ns
-      → Naming g stands (c ∷ due) ts (named_by (cell_at g c) ++ ns)
+      → Naming g (c ∷ stands) (cell_homes (named_by (cell_at g c)) ++ due) ns
+      → Naming g stands (cell_home c ∷ due) (named_by (cell_at g c) ++ ns)
+  stands_already : {stands ns : List ℕ} {due : List Home} (c : ℕ)
+      → Among stands c
+      → Naming g stands due ns
+      → Naming g stands (cell_home c ∷ due) ns
 
--- The numbers of the cells of a graph in the order in which they are named, by cell (0 for one that is not named), and the cells by
--- these numbers.
-pub record IsOrder (g : Graph) (numbers cells : List ℕ) : Type 0 where
-  pub names : List ℕ
-  pub naming : Naming g [] [] g.roots names
-  pub all : length numbers ≡ length g.cells + 1
-  pub numbered : (c : ℕ) → 0 < c → c ≤ length g.cells → get_or numbers c 0 ≡ canonical_number names c
-  pub listed : (c : ℕ) → 0 < c → c ≤ length g.cells → 0 < get_or numbers c 0 → get_or cells (get_or numbers c 0) 0 ≡ c
+-- n roots as homes, from the i-th on
+abbrev pub root_homes : ℕ → ℕ → List Home
+root_homes i zero = []
+root_homes i (suc n) = home.Root i ∷ root_homes (suc i) n
+
+-- the cells of a graph in the order in which they are named
+abbrev pub AreNamed : Graph → List ℕ → Type 0
+AreNamed g ns = Naming g [] (root_homes 0 (length g.roots)) ns

@@ -3,7 +3,5 @@
 
 mod canon;
 mod order;
-mod sameness;
 
 pub use canon::canonical;
-pub use sameness::same;

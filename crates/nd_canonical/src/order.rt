@@ -1,15 +1,21 @@
 // The order in which the cells of a graph are named.
-ghost use Rattle.std.specs.Prelude.{◌≡◌, ◌<◌, ◌^◌, length, IfOk};
-ghost use Rattle.nd_fitting.specs.Reach.{HasNames};
-ghost use Rattle.nd_canonical.specs.Naming.{IsOrder};
+ghost use Rattle.std.specs.Prelude.{◌≡◌, ◌+◌, ◌-◌, ◌<◌, ◌≤◌, ◌^◌, ◌++◌, [], false, length, replicate, get_or, reverse, OnOk, IfOk, IfSome, IfNone};
+ghost use Rattle.nd_value.specs.Tree.{flat, cell_in};
+ghost use Rattle.nd_value.specs.Seen.{cell_number};
+ghost use Rattle.nd_value.specs.Canon.{target};
+ghost use Rattle.nd_value.specs.Names.{AreThere, HasNames, cells_in, named_by};
+ghost use Rattle.nd_flat.specs.FlatForm.{flat_seen};
+ghost use Rattle.nd_flat.specs.Building.{HasHome, home_tree};
+ghost use Rattle.nd_canonical.specs.Naming.{cell_homes, root_homes};
+ghost use Rattle.nd_canonical.specs.Order.{IsOrder, IsAllNamed, numbering, name, ordering, turned, has_turn, with_mark, HaveNumbers, HasMark};
 
 use nd_base::Memory;
 use nd_flat::{FlatGraph, Seen, Walk};
 use nd_value::{CellId, Home};
 use std::alloc::Global;
 
-// The numbers of cells in the order in which they are named, by cell, 0 for one that is not named yet; and the cells by these
-// numbers, of which none is 0.
+// The numbers of cells in the order in which they are named, by the cell, from 0, and 0 for one that is not named yet; and the
+// cells by these numbers, from 1.
 #[derive(Drop)]
 pub(crate) struct Order {
     pub(crate) numbers: Vec<u32>,
@@ -21,75 +27,180 @@ pub(crate) fn order(alloc: Global, graph: &FlatGraph) -> Result<Order, Memory>
     requires few_roots { length graph.now.roots < 2 ^ 32 }
     requires few_cells { length graph.now.cells < 2 ^ 32 }
     requires names { HasNames graph.now }
+    requires all { IsAllNamed graph.now }
     ensures { IfOk result (λ o. IsOrder graph.now o.numbers.items o.cells.items) }
 {
-    let mut order = Order {
-        numbers: vec![in alloc; 0; graph.cell_count() + 1]?,
-        cells: vec![in alloc; 0; 1]?,
-    };
-    let mut stands = vec![in alloc; false; graph.cell_count() + 1]?;
-    let mut due = Vec::new(alloc);
-    for at in 0..graph.root_count() {
-        let mut walk = graph.walk(Home::Root(at as u32));
-        name_all(&mut walk, &mut order, &mut due)?;
-        stand_all(graph, &mut order, &mut stands, &mut due)?;
+    let mut order = unnamed(alloc, graph.cell_count())?;
+    let mut stands = vec![in alloc; false; graph.cell_count()]?;
+    let mut met = Vec::new(alloc);
+    let mut due = roots(alloc, graph.root_count())?;
+    while let Some(home) = due.pop() {
+        turn(
+            graph,
+            home,
+            &mut order,
+            &mut stands,
+            &mut met,
+            &mut due,
+        )?;
     }
     Ok(order)
 }
 
-// Each cell that is due stands in its turn, and names others, which come before those that waited.
-fn stand_all(
+// No cell is named.
+fn unnamed(alloc: Global, count: usize) -> Result<Order, Memory>
+    requires { count < 2 ^ 32 }
+    ensures numbers { IfOk result (λ o. o.numbers.items ≡ replicate (count + 1) 0) }
+    ensures cells { IfOk result (λ o. o.cells.items ≡ []) }
+{
+    Ok(Order {
+        numbers: vec![in alloc; 0; count + 1]?,
+        cells: Vec::new(alloc),
+    })
+}
+
+// All roots, the first one last.
+fn roots(alloc: Global, count: usize) -> Result<Vec<Home>, Memory>
+    requires { count < 2 ^ 32 }
+    ensures { IfOk result (λ due. reverse due.items ≡ root_homes 0 count) }
+{
+    let mut due = Vec::new(alloc);
+    for at in (0..count).rev() {
+        let Ok(()) = due.push(Home::Root(at as u32)) else {
+            return Err(Memory);
+        };
+    }
+    Ok(due)
+}
+
+// The turn of a home: unless it stands already, it names the cells of its pointers, which become due, the first one last.
+fn turn(
     graph: &FlatGraph,
+    home: Home,
     order: &mut Order,
     stands: &mut Vec<bool>,
-    due: &mut Vec<u32>,
-) -> Result<(), Memory> {
-    while let Some(cell) = due.pop() {
-        let at = cell as usize;
-        if !stands[at] {
+    met: &mut Vec<u32>,
+    due: &mut Vec<Home>,
+) -> Result<(), Memory>
+    requires home { HasHome graph.now home }
+    requires numbers { HaveNumbers order.old.numbers.items order.old.cells.items (named_by (home_tree graph.now home)) }
+    requires mark { HasMark stands.old.items home }
+    requires met { met.old.items ≡ [] }
+    ensures turn { OnOk result (ordering order.new.numbers.items order.new.cells.items stands.new.items due.new.items
+        ≡ turned graph.now home (ordering order.old.numbers.items order.old.cells.items stands.old.items due.old.items)) }
+    ensures met { OnOk result (met.new.items ≡ []) }
+{
+    if !comes_to_stand(home, stands) {
+        return Ok(());
+    }
+    let mut walk = graph.walk(home);
+    name_all(&mut walk, order, met)?;
+    make_due(met, due)
+}
+
+// Marks a home as one that stands. Whether it did not stand before; a root never did.
+fn comes_to_stand(home: Home, stands: &mut Vec<bool>) -> bool
+    requires { HasMark stands.old.items home }
+    ensures turn { result ≡ has_turn stands.old.items home }
+    ensures mark { stands.new.items ≡ with_mark home stands.old.items }
+{
+    match home {
+        Home::Root(_at) => true,
+        Home::Cell(cell) => {
+            let at = cell.0 as usize - 1;
+            let stood = stands[at];
             stands[at] = true;
-            let mut walk = graph.walk(Home::Cell(CellId(cell)));
-            name_all(&mut walk, order, due)?;
+            !stood
         }
     }
-    Ok(())
 }
 
-// The cells that a walk meets are named in order, and become due with the first on top.
-fn name_all(walk: &mut Walk<'_>, order: &mut Order, due: &mut Vec<u32>) -> Result<(), Memory> {
-    let from = due.as_slice().len();
+// The cells that a walk meets are named in order, and listed.
+fn name_all(walk: &mut Walk<'_>, order: &mut Order, met: &mut Vec<u32>) -> Result<(), Memory>
+    requires { HaveNumbers order.old.numbers.items order.old.cells.items (cells_in walk.old) }
+    ensures order { OnOk result (numbering order.new.numbers.items order.new.cells.items
+        ≡ name (cells_in walk.old) (numbering order.old.numbers.items order.old.cells.items)) }
+    ensures met { OnOk result (met.new.items ≡ met.old.items ++ cells_in walk.old) }
+{
     while let Some(cell) = next_cell(walk) {
-        name(cell, order, due)?;
+        name_one(cell, order, met)?;
     }
-    due[from..].reverse();
     Ok(())
 }
 
-// The cell that the next node names, if it does, rows of numbers left out; None at the end.
-fn next_cell(walk: &mut Walk<'_>) -> Option<Option<CellId>> {
-    let _row = walk.row(u32::MAX);
+// Cells become due, the first one last.
+fn make_due(met: &mut Vec<u32>, due: &mut Vec<Home>) -> Result<(), Memory>
+    ensures met { OnOk result (met.new.items ≡ []) }
+    ensures due { OnOk result (due.new.items ≡ due.old.items ++ reverse (cell_homes met.old.items)) }
+{
+    while let Some(cell) = met.pop() {
+        let Ok(()) = due.push(Home::Cell(CellId(cell))) else {
+            return Err(Memory);
+        };
+    }
+    Ok(())
+}
+
+// The cell that the next node names, rows of numbers left out. None at the end.
+fn next_cell(walk: &mut Walk<'_>) -> Option<Option<CellId>>
+    ensures some { IfSome result (λ c. cells_in walk.old ≡ target (cell_number c) ++ cells_in walk.new) }
+    ensures less { IfSome result (λ c. length (flat walk.new) < length (flat walk.old)) }
+    ensures none { IfNone result (cells_in walk.old ≡ []) }
+{
+    skip_row(walk);
     match walk.step() {
-        Some(Seen::Ptr(cell)) => Some(cell),
-        Some(_) => Some(None),
+        Some(seen) => Some(named_cell(&seen)),
         None => None,
     }
 }
 
-// A cell is named: it becomes due, and has the next number unless it has one.
-fn name(cell: Option<CellId>, order: &mut Order, due: &mut Vec<u32>) -> Result<(), Memory> {
+// Past a row of numbers, if one comes next.
+fn skip_row(walk: &mut Walk<'_>)
+    ensures cells { cells_in walk.old ≡ cells_in walk.new }
+    ensures less { length (flat walk.new) ≤ length (flat walk.old) }
+{
+    let _row = walk.row(u32::MAX);
+}
+
+// The cell that a node names.
+fn named_cell(seen: &Seen<'_>) -> Option<CellId>
+    ensures { cell_number result ≡ cell_in (flat_seen seen.now).0 }
+{
+    match seen {
+        Seen::Ptr(cell) => *cell,
+        _ => None,
+    }
+}
+
+// A cell is named, if one is given: it is listed, and has the next number unless it has one.
+fn name_one(cell: Option<CellId>, order: &mut Order, met: &mut Vec<u32>) -> Result<(), Memory>
+    requires { HaveNumbers order.old.numbers.items order.old.cells.items (target (cell_number cell)) }
+    ensures order { OnOk result (numbering order.new.numbers.items order.new.cells.items
+        ≡ name (target (cell_number cell)) (numbering order.old.numbers.items order.old.cells.items)) }
+    ensures met { OnOk result (met.new.items ≡ met.old.items ++ target (cell_number cell)) }
+{
     let Some(cell) = cell else {
         return Ok(());
     };
-    let Ok(()) = due.push(cell.0) else {
+    let Ok(()) = met.push(cell.0) else {
         return Err(Memory);
     };
-    if order.numbers[cell.0 as usize] != 0 {
+    number(cell, order)
+}
+
+// A cell has the next number, unless it has one.
+fn number(cell: CellId, order: &mut Order) -> Result<(), Memory>
+    requires { HaveNumbers order.old.numbers.items order.old.cells.items (target (Some cell.0)) }
+    ensures { OnOk result (numbering order.new.numbers.items order.new.cells.items
+        ≡ name (target (Some cell.0)) (numbering order.old.numbers.items order.old.cells.items)) }
+{
+    let at = cell.0 as usize;
+    if order.numbers[at] != 0 {
         return Ok(());
     }
-    let next = order.cells.as_slice().len() as u32;
     let Ok(()) = order.cells.push(cell.0) else {
         return Err(Memory);
     };
-    order.numbers[cell.0 as usize] = next;
+    order.numbers[at] = order.cells.as_slice().len() as u32;
     Ok(())
 }

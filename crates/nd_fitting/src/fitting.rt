@@ -41,8 +41,13 @@ pub fn fit(
     requires few_cells { length graph.cells < 2 ^ 32 }
     requires few_nodes { HasFewNodes graph }
     requires request { IsRequestOf interface.now op side (option_map (λ f. f.now) given) }
-    ensures fits { IfOk result (λ f. f ≡ record { graph = graph; op = op; side = side; interface = interface.now;
-        given = option_map (λ f. f.now.graph) given.entry }) }
+    ensures fits { IfOk result (λ f. f ≡ record {
+      graph = graph;
+      op = op;
+      side = side;
+      interface = interface.now;
+      given = option_map (λ f. f.now.graph) given.entry;
+    }) }
     ensures misfit { IfErr result (λ e. (o : Operation) → slice_get interface.now.operations op ≡ Some o
         → IsMisfit (setting_beside interface.now o side (option_map (λ f. f.now.graph) given.entry)) graph e.0) }
     ensures not_conforming { IfErr result (λ e. (o : Operation) → slice_get interface.now.operations op ≡ Some o

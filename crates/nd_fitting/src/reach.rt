@@ -6,8 +6,8 @@ ghost use Rattle.nd_value.specs.Canon.{target};
 ghost use Rattle.nd_flat.specs.FlatForm.{flat_seen};
 ghost use Rattle.nd_fitting.specs.Reach.{cells_in, named_by, searched, note, note_roots, HaveMarks, HasNames, Searching, TellsReach, is_marked, Reach};
 
-use nd_flat::{FlatGraph, Seen, Walk};
 use nd_base::Memory;
+use nd_flat::{FlatGraph, Seen, Walk};
 use nd_value::{CellId, Home};
 use std::alloc::Global;
 

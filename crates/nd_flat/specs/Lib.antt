@@ -4,3 +4,5 @@ pub mod Building
 pub mod Store
 pub mod Keepable
 pub mod Built
+pub mod Renumbered
+pub mod RenumberedNodes

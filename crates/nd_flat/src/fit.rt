@@ -1,8 +1,10 @@
 // Graphs that conform.
-ghost use Rattle.std.specs.Prelude.{◌≡◌, IfOk, IfErr};
+ghost use Rattle.std.specs.Prelude.{◌≡◌, length, IfOk, IfErr};
 ghost use Rattle.nd_value.specs.Tree.{more, none};
 ghost use Rattle.nd_value.specs.Fitting.{IsFit};
+ghost use Rattle.nd_value.specs.Names.{AreThere};
 ghost use Rattle.nd_flat.specs.Building.{HasHome, home_tree};
+ghost use Rattle.nd_flat.specs.Renumbered.{renumbered_fitting};
 
 use crate::{FlatGraph, Given, Walk};
 use nd_base::Memory;
@@ -78,6 +80,24 @@ impl Fit {
         ensures conforms { IsFit self.now }
     {
         self.graph.walk(home)
+    }
+
+    /// The same with its cells renumbered: `numbers` are the new numbers by the old ones, from 0, and `cells` the old numbers in the
+    /// order of the new ones, from 1. The listed cells must be there, and the graph conform after it as before. It takes memory for
+    /// all nodes, octets, roots and cells. Want of memory is the only refusal.
+    pub fn renumbered(&self, alloc: Global, numbers: &[u32], cells: &[u32]) -> Result<Fit, Memory>
+        requires there { AreThere (length self.now.graph.cells) cells.now }
+        requires fits { IsFit (renumbered_fitting numbers.now cells.now self.now) }
+        ensures { IfOk result (λ f. f ≡ renumbered_fitting numbers.now cells.now self.now) }
+    {
+        let graph = self.graph.renumbered(alloc, numbers, cells)?;
+        Ok(Fit::of(
+            graph,
+            self.op,
+            self.side,
+            self.tie.again(),
+            self.given.again(),
+        ))
     }
 
     /// The graph as values that callers can take apart and change. It takes memory for each value. Want of memory is the only

@@ -36,4 +36,11 @@ impl Given {
             },
         }
     }
+
+    /// The same request. Takes no memory.
+    pub fn again(&self) -> Given
+        ensures { result ≡ self.now }
+    {
+        Given { graph: self.graph }
+    }
 }

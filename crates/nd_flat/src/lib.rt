@@ -9,6 +9,7 @@ mod given;
 pub mod laws;
 mod node;
 mod rebuilt;
+mod renumbered;
 mod row;
 #[cfg(test)]
 mod tests;

@@ -2,13 +2,13 @@
 ghost use Rattle.std.specs.Prelude.{◌≡◌};
 
 use crate::Interface;
-use crate::seen::Seen;
+use crate::witness::Witness;
 use std::marker::Model;
 
 /// A tie to an interface: a value without run-time content, which contracts see as that interface.
 #[derive(Drop)]
 pub struct Tie {
-    seen: Seen<Interface>,
+    witness: Witness<Interface>,
 }
 
 impl Model for Tie {
@@ -19,7 +19,7 @@ impl Model for Tie {
 
     ghost coded = { interface.the_row.coded };
 
-    ghost view = { λ t. t.seen.value };
+    ghost view = { λ t. t.witness.value };
 }
 
 impl Interface {
@@ -28,7 +28,7 @@ impl Interface {
         ensures { result ≡ self.now }
     {
         Tie {
-            seen: Seen::of(self),
+            witness: Witness::of(self),
         }
     }
 }
@@ -39,7 +39,7 @@ impl Tie {
         ensures { result ≡ self.now }
     {
         Tie {
-            seen: self.seen.again(),
+            witness: self.witness.again(),
         }
     }
 }

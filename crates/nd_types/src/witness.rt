@@ -4,37 +4,40 @@ ghost use Rattle.std.specs.Borrow.{ftrue};
 
 use std::marker::{Model, PhantomData};
 
-// A `T` as contracts see it. It has no bytes and owns nothing, so only the clauses of its makers tie `value`.
-pub(crate) struct Seen<T> {
+/// A `T` as contracts see it, which takes no memory and owns nothing.
+// Only the clauses of its makers tie `value`.
+pub struct Witness<T> {
     marker: PhantomData<T>,
-    pub(crate) ghost value: { T },
+    pub ghost value: { T },
 }
 
-impl<T> Model for Seen<T> {
+impl<T> Model for Witness<T> {
     ghost also_owns = { λ _. ftrue };
 }
 
-impl<T> Seen<T> {
-    pub(crate) fn of(x: &T) -> Seen<T>
+impl<T> Witness<T> {
+    /// The value as it is now.
+    pub fn of(x: &T) -> Witness<T>
         ensures { result.value ≡ x.now }
     {
         let _ = x;
-        Seen {
+        Witness {
             marker: PhantomData,
         }
     }
 
-    pub(crate) fn again(&self) -> Seen<T>
+    /// The same value.
+    pub fn again(&self) -> Witness<T>
         ensures { result.value ≡ self.now.value }
     {
         let _ = self;
-        Seen {
+        Witness {
             marker: PhantomData,
         }
     }
 }
 
-impl<T> Drop for Seen<T> {
+impl<T> Drop for Witness<T> {
     fn drop(self) {
         let Self { marker: _ } = self;
     }
