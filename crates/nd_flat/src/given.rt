@@ -2,13 +2,13 @@
 ghost use Rattle.std.specs.Prelude.{◌≡◌, option_map};
 
 use crate::{Fit, FlatGraph};
+use nd_types::Witness;
 use std::marker::Model;
-use std::snapshot::Snapshot;
 
 /// The request beside which a response is judged, or none. It takes no memory: contracts alone see the graph of the request.
 #[derive(Drop)]
 pub struct Given {
-    graph: Option<Snapshot<FlatGraph>>,
+    graph: Option<Witness<FlatGraph>>,
 }
 
 impl Model for Given {
@@ -32,7 +32,7 @@ impl Given {
         match request {
             None => Given { graph: None },
             Some(fit) => Given {
-                graph: Some(Snapshot::of(fit.flat())),
+                graph: Some(Witness::of(fit.flat())),
             },
         }
     }
@@ -41,6 +41,11 @@ impl Given {
     pub fn again(&self) -> Given
         ensures { result ≡ self.now }
     {
-        Given { graph: self.graph }
+        match &self.graph {
+            None => Given { graph: None },
+            Some(graph) => Given {
+                graph: Some(graph.again()),
+            },
+        }
     }
 }

@@ -5,8 +5,10 @@
 mod label;
 pub mod laws;
 mod number;
+mod range;
 #[cfg(test)]
 mod tests;
 
 pub use label::{LabelFault, read_label};
 pub use number::{read_num, width_of, write_num};
+pub use range::is_in_range;
