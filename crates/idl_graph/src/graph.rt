@@ -20,10 +20,10 @@ struct Span {
     end: usize,
 }
 
-/// The parts of each node, in order. Nodes are numbered from 0. Memory: 16 octets for each node and 4 for each part.
+/// The parts of each node, in order. Nodes are numbered from 0. Memory: 16 octets for each node and 8 for each part.
 #[derive(Drop)]
 pub struct Graph {
-    parts: Vec<u32>,
+    parts: Vec<usize>,
     spans: Vec<Span>,
 }
 
@@ -57,7 +57,7 @@ impl Graph {
     }
 
     /// Adds the next node, of these parts.
-    pub fn push(&mut self, parts: &[u32]) -> Result<(), Memory>
+    pub fn push(&mut self, parts: &[usize]) -> Result<(), Memory>
         ensures ok { OnOk result (self.new ≡ self.old ++ parts.now ∷ []) }
         ensures err { OnErr result (self.new ≡ self.old) }
     {
@@ -71,7 +71,7 @@ impl Graph {
     }
 
     /// The parts of a node; none, of a number that is no node.
-    pub fn parts(&self, node: usize) -> &[u32]
+    pub fn parts(&self, node: usize) -> &[usize]
         ensures { result.now ≡ parts_at self.now node }
     {
         let Some(span) = self.spans.get(node) else {

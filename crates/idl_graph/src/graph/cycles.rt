@@ -11,7 +11,7 @@ use nd_base::Memory;
 use std::alloc::Global;
 
 /// The least key of a node that contains itself, where node i has key i; what has no key is not asked for.
-pub fn least_key(alloc: Global, graph: &Graph, keys: &[u64]) -> Result<Option<u64>, Memory>
+pub fn least_key(alloc: Global, graph: &Graph, keys: &[u128]) -> Result<Option<u128>, Memory>
     ensures { IfOk result (λ least. IsLeast graph.now keys.now (length keys.now) least) }
 {
     let peeled = peel(alloc, graph)?;
@@ -65,10 +65,10 @@ fn peel_node(graph: &Graph, peeled: &mut [bool], node: usize) -> bool
     true
 }
 
-fn are_peeled(peeled: &[bool], parts: &[u32]) -> bool
+fn are_peeled(peeled: &[bool], parts: &[usize]) -> bool
     ensures { result ≡ list_all (is_peeled_in peeled.now) parts.now }
 {
-    parts.iter().all(|part| is_peeled(peeled, *part as usize))
+    parts.iter().all(|part| is_peeled(peeled, *part))
 }
 
 /// Whether a node is peeled; so is what is no node.
@@ -106,10 +106,10 @@ impl Search {
         &mut self,
         graph: &Graph,
         peeled: &[bool],
-        keys: &[u64],
+        keys: &[u128],
         node: usize,
-        least: Option<u64>,
-    ) -> Result<Option<u64>, Memory>
+        least: Option<u128>,
+    ) -> Result<Option<u128>, Memory>
         requires within { node < length keys.now }
         requires peeled { ArePeeled graph.now peeled.now }
         requires ready { IsReady graph.now (node + 1) self.old.seen.items }
@@ -156,11 +156,11 @@ impl Search {
     }
 
     /// Comes to each of these.
-    fn come_to_all(&mut self, parts: &[u32], number: usize) -> Result<(), Memory>
+    fn come_to_all(&mut self, parts: &[usize], number: usize) -> Result<(), Memory>
         ensures { OnOk result (Comes number parts.now self.old.seen.items self.old.queue.items self.new.seen.items self.new.queue.items) }
     {
         for part in parts {
-            self.come_to(*part as usize, number)?;
+            self.come_to(*part, number)?;
         }
         Ok(())
     }
@@ -183,13 +183,13 @@ impl Search {
     }
 }
 
-fn is_among(parts: &[u32], node: usize) -> bool
+fn is_among(parts: &[usize], node: usize) -> bool
     ensures { result ≡ list_any (λ p. eqb p node) parts.now }
 {
-    parts.iter().any(|part| *part as usize == node)
+    parts.iter().any(|part| *part == node)
 }
 
-fn is_less(key: u64, least: Option<u64>) -> bool
+fn is_less(key: u128, least: Option<u128>) -> bool
     ensures { result ≡ is_less_than key least }
 {
     least.is_none_or(|least| key < least)

@@ -56,7 +56,7 @@ fn round(graph: &Graph, rules: &[Rule], values: &[bool], next: &mut [bool])
 }
 
 /// Whether a node with these parts has the property.
-fn has(rule: Rule, values: &[bool], parts: &[u32]) -> bool
+fn has(rule: Rule, values: &[bool], parts: &[usize]) -> bool
     ensures { result ≡ has_by rule (value_in values.now) parts.now }
 {
     match rule {
@@ -68,19 +68,19 @@ fn has(rule: Rule, values: &[bool], parts: &[u32]) -> bool
     }
 }
 
-fn all_have(values: &[bool], parts: &[u32]) -> bool
+fn all_have(values: &[bool], parts: &[usize]) -> bool
     ensures { result ≡ has_by Rule.All (value_in values.now) parts.now }
 {
     parts.iter().all(|part| value(values, *part))
 }
 
-fn any_has(values: &[bool], parts: &[u32]) -> bool
+fn any_has(values: &[bool], parts: &[usize]) -> bool
     ensures { result ≡ has_by Rule.Any (value_in values.now) parts.now }
 {
     parts.iter().any(|part| value(values, *part))
 }
 
-fn last_has(values: &[bool], parts: &[u32]) -> bool
+fn last_has(values: &[bool], parts: &[usize]) -> bool
     ensures { result ≡ last_passes (value_in values.now) parts.now }
 {
     match parts.last() {
@@ -90,8 +90,8 @@ fn last_has(values: &[bool], parts: &[u32]) -> bool
 }
 
 /// The value of a part; what is no node has none.
-fn value(values: &[bool], part: u32) -> bool
+fn value(values: &[bool], part: usize) -> bool
     ensures { result ≡ value_in values.now part }
 {
-    values.get(part as usize).copied().unwrap_or(false)
+    values.get(part).copied().unwrap_or(false)
 }

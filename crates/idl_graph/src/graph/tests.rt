@@ -4,7 +4,7 @@ use super::{Graph, Rule, least_key, properties};
 use std::test::Fail;
 
 /// A graph of these lists of parts.
-fn graph_of(rt: &HostRuntime, rows: &[&[u32]]) -> Result<Graph, Fail> {
+fn graph_of(rt: &HostRuntime, rows: &[&[usize]]) -> Result<Graph, Fail> {
     let mut graph = Graph::new(rt.alloc());
     for row in rows {
         graph.push(row)?;
@@ -13,7 +13,7 @@ fn graph_of(rt: &HostRuntime, rows: &[&[u32]]) -> Result<Graph, Fail> {
 }
 
 /// Whether the first of a chain of so many nodes nests within the limit.
-fn first_of_chain(rt: &HostRuntime, nodes: u32, limit: usize) -> Result<Option<bool>, Fail> {
+fn first_of_chain(rt: &HostRuntime, nodes: usize, limit: usize) -> Result<Option<bool>, Fail> {
     let mut graph = Graph::new(rt.alloc());
     let mut rules = Vec::new(rt.alloc());
     for node in 1..nodes {
