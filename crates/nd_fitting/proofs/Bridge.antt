@@ -14,7 +14,7 @@ use Rattle.nd_value.specs.Nodes.{TypedNode, nodes_of, child_types, child_agreeme
 use Rattle.nd_value.specs.Deferral.{Pending, pointer, pointer_by, home_pointers}
 use Rattle.nd_value.specs.Misfit.{has_shape, has_range, has_arm}
 use Rattle.nd_value.specs.Canon.{target}
-use Rattle.nd_fitting.specs.Reach.{cells_in, named_by}
+use Rattle.nd_value.specs.Names.{cells_in, named_by}
 use Rattle.nd_passes.specs.Pointers.{are_formed}
 
 pub and_left : (a b : Bool) → (a && b) ≡ true → a ≡ true
@@ -66,7 +66,7 @@ node_named d (tree.Context a id) ks h n ags e = ap cells_named (no_pointer d Non
 node_named d tree.Pipe ks h n ags e = ap cells_named (no_pointer d None h n ags)
 node_named d tree.Unread ks h n ags e = ap cells_named (no_pointer d None h n ags)
 
-cells_both : (l : Label) (ks ts : Trees) → cells_in (more (node l ks) ts) ≡ target (cell_in l) ++ (cells_in ks ++ cells_in ts)
+pub cells_both : (l : Label) (ks ts : Trees) → cells_in (more (node l ks) ts) ≡ target (cell_in l) ++ (cells_in ks ++ cells_in ts)
 cells_both l ks ts = ap (λ xs. target (cell_in l) ++ xs) (flat_map-append (λ f. target (cell_in f.0)) (flat ks) (flat ts))
 
 -- the pointers among values of these types name the cells that their labels name

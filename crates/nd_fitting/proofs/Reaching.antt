@@ -15,7 +15,8 @@ use Rattle.nd_value.specs.Homes.{root_pointers}
 use Rattle.nd_value.specs.Conforms.{Reached, by_root, by_cell}
 use Rattle.nd_value.specs.FirstMisfit.{IsFirstUnreached}
 use Rattle.nd_value.specs.Canon.{target}
-use Rattle.nd_fitting.specs.Reach.{named_by, Reach, root_names, cell_names, TellsReach, RootsFormed, CellsFormed}
+use Rattle.nd_value.specs.Names.{named_by}
+use Rattle.nd_fitting.specs.Reach.{Reach, root_names, cell_names, TellsReach, RootsFormed, CellsFormed}
 use Rattle.nd_passes.specs.Pointers.{are_formed}
 use Rattle.nd_fitting.proofs.Bridge.{cells_named, home_names}
 

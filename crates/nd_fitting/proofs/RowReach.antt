@@ -9,7 +9,8 @@ use Rattle.nd_value.specs.declared.value.CellId.{CellId}
 use Rattle.nd_flat.specs.declared.row.Row.{Row}
 use Rattle.nd_flat.specs.declared.node.Seen.{Seen}
 use Rattle.nd_flat.specs.FlatForm.{num_flats, row_numbers, flat_seen}
-use Rattle.nd_fitting.specs.Reach.{Search, cells_in, note, HaveMarks}
+use Rattle.nd_value.specs.Names.{cells_in}
+use Rattle.nd_fitting.specs.Reach.{Search, note, HaveMarks}
 use Rattle.nd_fitting.proofs.Searches.{note-append, have_on, all_back, all_front}
 
 -- numbers name no cell

@@ -8,7 +8,8 @@ use Rattle.nd_value.specs.declared.value.CellId.{CellId}
 use Rattle.nd_value.specs.Tree.{Tree, Trees, Referent, Flat, none, more, flat, cell_in}
 use Rattle.nd_value.specs.Canon.{target}
 use Rattle.nd_value.specs.Setting.{Among, cell_at, cell_tree, or_unread}
-use Rattle.nd_fitting.specs.Reach.{cells_in, named_by, Reach, root_names, cell_names, AreThere, HasNames, Search, searched, is_marked, note_by, note, note_roots, HaveMarks, AreMarked, unmarked, Searching, TellsReach, TellsMark}
+use Rattle.nd_value.specs.Names.{cells_in, named_by, AreThere, HasNames}
+use Rattle.nd_fitting.specs.Reach.{Reach, root_names, cell_names, Search, searched, is_marked, note_by, note, note_roots, HaveMarks, AreMarked, unmarked, Searching, TellsReach, TellsMark}
 use Rattle.nd_flat.proofs.Frames.{all_as, all_both, all_get}
 
 -- Lists

@@ -10,28 +10,12 @@ use Rattle.nd_value.specs.Tree.{Tree, Trees, none, more, flat, cell_in, Referent
 use Rattle.nd_passes.specs.Pointers.{are_formed}
 use Rattle.nd_value.specs.Canon.{target}
 use Rattle.nd_value.specs.Setting.{Among, cell_at}
-
--- the cells that the pointers among trees name, depth first
-abbrev pub cells_in : Trees → List ℕ
-cells_in ts = flat_map (λ f. target (cell_in f.0)) (flat ts)
-
--- the cells that a home's pointers name
-abbrev pub named_by : Tree → List ℕ
-named_by t = cells_in (more t none)
+use Rattle.nd_value.specs.Names.{named_by, AreThere}
 
 -- a cell that a root, or a cell that is reached itself, names
 pub data Reach (g : Graph) : ℕ → Type 0 where
   root_names : {c : ℕ} (t : Tree) → Among g.roots t → Among (named_by t) c → Reach g c
   cell_names : {c : ℕ} (b : ℕ) → Reach g b → Among (named_by (cell_at g b)) c → Reach g c
-
--- cells that are there
-abbrev pub AreThere : ℕ → List ℕ → Type 0
-AreThere n cs = AllByRecursion (λ c. (0 < c) × (c ≤ n)) cs
-
--- each pointer names a cell that is there
-pub record HasNames (g : Graph) : Type 0 where
-  pub roots : AllByRecursion (λ t. AreThere (length g.cells) (named_by t)) g.roots
-  pub cells : AllByRecursion (λ x. AreThere (length g.cells) (named_by x.val)) g.cells
 
 -- how far a search has come: the marks of cells, by number, and the cells that were marked, in order
 pub record Search : Type 0 where

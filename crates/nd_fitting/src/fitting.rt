@@ -83,8 +83,8 @@ fn passes(
     shared_cell(alloc, interface, op, side, graph)?;
     let flat = flattened(alloc, interface.tie(), op, side, graph)?;
     unreached_cell(alloc, interface, op, side, &flat)?;
-    let given = given_numbers(alloc, interface, op, side, given)?;
-    disagreeing_attribute(alloc, interface, op, side, given.as_slice(), graph)?;
+    let numbers = given_numbers(alloc, interface, op, given)?;
+    disagreeing_attribute(alloc, interface, op, side, numbers.as_slice(), graph)?;
     Ok(flat)
 }
 
@@ -98,6 +98,7 @@ fn unreached_cell(
 ) -> Result<(), Misfit>
     requires known { op < length interface.now.operations }
     requires few_cells { length flat.now.cells < 2 ^ 32 }
+    requires few_nodes { HasFewNodes flat.now }
     requires local { (o : Operation) (q : Option GraphValue) → slice_get interface.now.operations op ≡ Some o
         → first_local (setting_beside interface.now o side q) flat.now ≡ None }
     ensures none { OnOk result ((o : Operation) (q : Option GraphValue) → slice_get interface.now.operations op ≡ Some o

@@ -1,23 +1,20 @@
-// The inputs of a request, as the variables of attributes.
-ghost use Rattle.std.specs.Prelude.{◌≡◌, ◌<◌, ◌≤◌, true, length, slice_get, option_map, Some, IfOk, IfSome, IfNone};
+// The inputs of a request, as the variables of attributes (C706, 4.2.18).
+ghost use Rattle.std.specs.Prelude.{◌≡◌, ◌<◌, true, length, slice_get, option_map, Some, IfOk, IfSome, IfNone};
 ghost use Rattle.nd_types.specs.declared.types.Operation.{Operation};
-ghost use Rattle.nd_types.specs.Walk.{named_roots};
 ghost use Rattle.nd_types.specs.declared.types.Side.TheVariants as side;
-ghost use Rattle.nd_value.specs.Setting.{root_at, cell_at};
+ghost use Rattle.nd_types.specs.Walk.{named_roots};
 ghost use Rattle.nd_value.specs.Agreement.{number_of};
-ghost use Rattle.nd_passes.specs.Numbers.{given_numbers, numbers_of, number_at, is_small_number, are_small_roots};
-ghost use Rattle.nd_passes.specs.Disagreeing.{is_small_or_none};
-ghost use Rattle.nd_value.specs.Fitting.{IsFit};
-ghost use Rattle.nd_flat.specs.Building.{HasHome, home_tree};
-ghost use Rattle.nd_flat.specs.FlatForm.{flat_seen};
+ghost use Rattle.nd_value.specs.Setting.{root_at, cell_at};
+ghost use Rattle.nd_passes.specs.Numbers.{given_numbers, numbers_of, number_at, are_small_roots};
 ghost use Rattle.nd_passes.specs.Searched.{label_in};
-ghost use Rattle.nd_fitting.specs.Request.{IsRequestOf, IsRequest};
+ghost use Rattle.nd_flat.specs.FlatForm.{flat_seen};
+ghost use Rattle.nd_fitting.specs.Request.{IsRequestOf};
 
 use nd_base::Memory;
-use nd_flat::{Fit, Seen};
+use nd_flat::{Fit, FlatGraph, Seen};
 use nd_passes::{ParamNumber, RootNumber};
 use nd_types::{Interface, Side};
-use nd_value::{CellId, Home};
+use nd_value::CellId;
 use std::alloc::Global;
 
 // The inputs of a request in order, each as a variable; none where no request is given. It takes memory for the list.
@@ -25,41 +22,37 @@ pub(crate) fn given_numbers(
     alloc: Global,
     interface: &Interface,
     op: u32,
-    side: Side,
     given: Option<&Fit>,
 ) -> Result<Vec<RootNumber>, Memory>
     requires known { op < length interface.now.operations }
-    requires request { IsRequestOf interface.now op side (option_map (λ f. f.now) given) }
+    requires request { IsRequestOf interface.now op side.Out (option_map (λ f. f.now) given) }
     ensures numbers { IfOk result (λ numbers. (o : Operation) → slice_get interface.now.operations op ≡ Some o
         → numbers.items ≡ given_numbers interface.now.types o (option_map (λ f. f.now.graph) given.entry)) }
     ensures small { IfOk result (λ numbers. are_small_roots numbers.items ≡ true) }
 {
     match given {
-        Some(fit) => inputs(alloc, interface, op, side, fit),
+        Some(fit) => inputs(alloc, interface, op, fit.flat()),
         None => Ok(Vec::new(alloc)),
     }
 }
 
-// The same of a request that is given.
+// The same of the graph of a request.
 fn inputs(
     alloc: Global,
     interface: &Interface,
     op: u32,
-    side: Side,
-    fit: &Fit,
+    graph: &FlatGraph,
 ) -> Result<Vec<RootNumber>, Memory>
     requires known { op < length interface.now.operations }
-    requires request { IsRequest interface.now op side fit.now }
-    ensures numbers { IfOk result (λ numbers. (o : Operation) → slice_get interface.now.operations op ≡ Some o
-        → numbers.items ≡ numbers_of fit.now.graph (named_roots interface.now.types side.In o) fit.now.graph.roots) }
-    ensures small { IfOk result (λ numbers. are_small_roots numbers.items ≡ true) }
+    ensures { IfOk result (λ numbers. (o : Operation) → slice_get interface.now.operations op ≡ Some o
+        → numbers.items ≡ numbers_of graph.now (named_roots interface.now.types side.In o) graph.now.roots) }
 {
     let mut numbers = Vec::new(alloc);
-    let mut at: u32 = 0;
+    let mut at = 0;
     for root in interface.params(op, Side::In) {
         let input = RootNumber {
             param: root.param,
-            number: number_at(fit, at),
+            number: root_number(graph, at),
         };
         let Ok(()) = numbers.push(input) else {
             return Err(Memory);
@@ -69,47 +62,42 @@ fn inputs(
     Ok(numbers)
 }
 
-// A root of a fit as a variable.
-fn number_at(fit: &Fit, at: u32) -> ParamNumber
-    requires there { at < length fit.now.graph.roots }
-    ensures number { result ≡ number_at fit.now.graph (root_at fit.now.graph at) }
-    ensures small { is_small_number result ≡ true }
+// A root as a variable: no variable where it is not there.
+fn root_number(graph: &FlatGraph, at: usize) -> ParamNumber
+    ensures { result ≡ number_at graph.now (root_at graph.now at) }
 {
-    match first(fit, Home::Root(at)) {
+    if at >= graph.root_count() {
+        return NO_NUMBER;
+    }
+    let mut walk = graph.root_walk(at);
+    match walk.step() {
         Some(Seen::Num(number)) => ParamNumber {
             own: Some(number),
             referent: None,
         },
         Some(Seen::Ptr(Some(cell))) => ParamNumber {
             own: None,
-            referent: number_in(fit, cell),
+            referent: number_in(graph, cell),
         },
-        _ => ParamNumber {
-            own: None,
-            referent: None,
-        },
+        _ => NO_NUMBER,
     }
 }
 
-// The number in a cell of a fit, where it holds one.
-fn number_in(fit: &Fit, cell: CellId) -> Option<i128>
-    requires there { (0 < cell.0) × (cell.0 ≤ length fit.now.graph.cells) }
-    ensures number { result ≡ number_of (cell_at fit.now.graph cell.0) }
-    ensures small { is_small_or_none result ≡ true }
+const NO_NUMBER: ParamNumber = ParamNumber {
+    own: None,
+    referent: None,
+};
+
+// The number in a cell, where it is there and holds one.
+fn number_in(graph: &FlatGraph, cell: CellId) -> Option<i128>
+    ensures { result ≡ number_of (cell_at graph.now cell.0) }
 {
-    match first(fit, Home::Cell(cell)) {
+    if cell.0 == 0 || cell.0 as usize > graph.cell_count() {
+        return None;
+    }
+    let mut walk = graph.cell_walk(cell.0 as usize - 1);
+    match walk.step() {
         Some(Seen::Num(number)) => Some(number),
         _ => None,
     }
-}
-
-// The first node of a root or a cell of a fit.
-fn first(fit: &Fit, home: Home) -> Option<Seen<'_>>
-    requires there { HasHome fit.now.graph home }
-    ensures some { IfSome result (λ seen. (flat_seen seen).0 ≡ label_in (home_tree fit.now.graph home)) }
-    ensures none { IfNone result ⊥ }
-    ensures conforms { IsFit fit.now }
-{
-    let mut walk = fit.walk(home);
-    walk.step()
 }

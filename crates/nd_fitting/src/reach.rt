@@ -4,7 +4,8 @@ ghost use Rattle.nd_value.specs.Tree.{cell_in, flat};
 ghost use Rattle.nd_value.specs.Seen.{cell_number};
 ghost use Rattle.nd_value.specs.Canon.{target};
 ghost use Rattle.nd_flat.specs.FlatForm.{flat_seen};
-ghost use Rattle.nd_fitting.specs.Reach.{cells_in, named_by, searched, note, note_roots, HaveMarks, HasNames, Searching, TellsReach, is_marked, Reach};
+ghost use Rattle.nd_value.specs.Names.{cells_in, named_by, HasNames};
+ghost use Rattle.nd_fitting.specs.Reach.{searched, note, note_roots, HaveMarks, Searching, TellsReach, is_marked, Reach};
 
 use nd_base::Memory;
 use nd_flat::{FlatGraph, Seen, Walk};

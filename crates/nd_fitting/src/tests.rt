@@ -1,61 +1,70 @@
-// Graphs that fit and graphs that do not.
+// The call with ample memory.
+ghost use Rattle.std.specs.Prelude.{◌≡◌, ◌≤◌, [], ◌∷◌, length, IfOk};
+ghost use Rattle.nd_types.specs.Kinds.{basic_types};
+ghost use Rattle.nd_types.specs.Plain.{plain_param};
+ghost use Rattle.nd_value.specs.WorkedFit.{add_params, add, one_two_three};
+
 use crate::fit;
 use nd_base::{Memory, Name};
+use nd_flat::Seen;
 use nd_types::{
-    AttrVars, Class, Field, Fields, Interface, Operation, Operations, Param, Params, Side, TypeDef,
-    TypeId, Types, Way,
+    AttrVars, Field, Interface, Operation, Operations, Param, Params, Side, TypeId, Types, Way,
 };
-use nd_value::{Cell, CellId, Cells, Graph, Home, Misfit, MisfitReason, Val, Vals};
+use nd_value::{Cells, Graph, Val, Vals};
 use std::alloc::Global;
 use std::test::Fail;
 
-fn field(alloc: Global, name: &[u8], of: u32) -> Result<Field, Memory> {
-    Ok(Field {
-        name: Name::copy(alloc, name)?,
-        of: TypeId(of),
-        vars: AttrVars::new(alloc),
+fn param(alloc: Global, name: &[u8], of: u32) -> Result<Param, Memory>
+    requires some { 1 ≤ length name.now }
+    requires few { length name.now ≤ 31 }
+    ensures { IfOk result (λ p. p ≡ plain_param name.now of) }
+{
+    Ok(Param {
+        field: Field {
+            name: Name::copy(alloc, name)?,
+            of: TypeId(of),
+            vars: AttrVars::new(alloc),
+        },
+        way: Way::In,
     })
 }
 
-fn types(alloc: Global) -> Result<Types, Memory> {
-    let mut types = Types::basic(alloc)?;
-    let mut members = Fields::new(alloc);
-    let v = field(alloc, b"v", 7)?;
-    let next = field(alloc, b"next", 13)?;
-    if members.push(v).is_err() || members.push(next).is_err() {
+fn params(alloc: Global) -> Result<Params, Memory>
+    ensures { IfOk result (λ ps. ps ≡ add_params) }
+{
+    let a = param(alloc, b"a", 7)?;
+    let b = param(alloc, b"b", 5)?;
+    let c = param(alloc, b"c", 9)?;
+    let mut params = Params::new(alloc);
+    if params.push(a).is_err() || params.push(b).is_err() || params.push(c).is_err() {
         return Err(Memory);
     }
-    let node = TypeDef::Struct { members };
-    let to = TypeDef::Pointer {
-        class: Class::Full,
-        to: TypeId(12),
-    };
-    if types.push(node).is_err() || types.push(to).is_err() {
-        return Err(Memory);
-    }
-    Ok(types)
+    Ok(params)
 }
 
-// typedef struct node { long v; [ptr] struct node *next; } node; void put([in, ptr] node *p);
-fn interface(alloc: Global) -> Result<Interface, Memory> {
-    let mut params = Params::new(alloc);
-    let p = Param {
-        field: field(alloc, b"p", 13)?,
-        way: Way::In,
-    };
-    if params.push(p).is_err() {
-        return Err(Memory);
-    }
+fn operations(alloc: Global) -> Result<Operations, Memory>
+    ensures { IfOk result (λ os. os ≡ add ∷ []) }
+{
     let operation = Operation {
-        name: Name::copy(alloc, b"put")?,
-        params,
+        name: Name::copy(alloc, b"add")?,
+        params: params(alloc)?,
         result: None,
     };
     let mut operations = Operations::new(alloc);
     if operations.push(operation).is_err() {
         return Err(Memory);
     }
-    let types = types(alloc)?;
+    Ok(operations)
+}
+
+// interface t { void add([in] long a, [in] short b, [in] hyper c); }
+#[tactic(auto, using(nd_value::proofs::WorkedFit::legal))]
+fn interface(alloc: Global) -> Result<Interface, Memory>
+    ensures types { IfOk result (λ i. i.types ≡ basic_types) }
+    ensures operations { IfOk result (λ i. i.operations ≡ add ∷ []) }
+{
+    let types = Types::basic(alloc)?;
+    let operations = operations(alloc)?;
     let layouts = types.layouts(alloc)?;
     Ok(Interface {
         name: Name::copy(alloc, b"t")?,
@@ -68,68 +77,31 @@ fn interface(alloc: Global) -> Result<Interface, Memory> {
     })
 }
 
-fn cell(alloc: Global, v: i128, next: Option<CellId>) -> Result<Cell, Memory> {
-    let mut members = Vals::new(alloc);
-    if members.push(Val::Num(v)).is_err() || members.push(Val::Ptr(next)).is_err() {
-        return Err(Memory);
-    }
-    Ok(Cell {
-        of: TypeId(12),
-        val: Val::Rec(members),
-    })
-}
-
-// Two cells: a root that names the first, which names itself or the second.
-fn graph(alloc: Global, next: u32) -> Result<Graph, Memory> {
-    let mut roots = Vals::new(alloc);
-    let mut cells = Cells::new(alloc);
-    let first = cell(alloc, 7, Some(CellId(next)))?;
-    let second = cell(alloc, 8, None)?;
-    if roots.push(Val::Ptr(Some(CellId(1)))).is_err()
-        || cells.push(first).is_err()
-        || cells.push(second).is_err()
+fn numbers(alloc: Global) -> Result<Vals, Memory>
+    ensures { IfOk result (λ vs. vs ≡ one_two_three) }
+{
+    let mut vals = Vals::new(alloc);
+    if vals.push(Val::Num(1)).is_err()
+        || vals.push(Val::Num(2)).is_err()
+        || vals.push(Val::Num(3)).is_err()
     {
         return Err(Memory);
     }
-    Ok(Graph { roots, cells })
+    Ok(vals)
 }
 
+// 1, 2 and 3 are numbers of a long, a short and a hyper.
 #[test]
-fn all_cells_are_reached(rt: HostRuntime) -> Result<(), Fail> {
+fn conforming_graphs_fit(rt: HostRuntime) -> Result<(), Fail> {
     let interface = interface(rt.alloc())?;
-    let fitted = fit(
-        rt.alloc(),
-        &interface,
-        0,
-        Side::In,
-        None,
-        graph(rt.alloc(), 2)?,
-    )
-    .map_err(|_| "no fit")?;
-    assert_eq!(rt; fitted.op(), 0);
-    assert_eq!(rt; fitted.flat().cell_count(), 2);
-    Ok(())
-}
-
-#[test]
-fn a_cell_is_not_reached(rt: HostRuntime) -> Result<(), Fail> {
-    let interface = interface(rt.alloc())?;
-    match fit(
-        rt.alloc(),
-        &interface,
-        0,
-        Side::In,
-        None,
-        graph(rt.alloc(), 1)?,
-    ) {
-        Ok(_) => assert!(rt; false),
-        Err((Misfit::At { home, node, reason }, graph)) => {
-            assert!(rt; matches!(home, Home::Cell(CellId(2))));
-            assert_eq!(rt; node, 0);
-            assert!(rt; matches!(reason, MisfitReason::Unreached));
-            assert_eq!(rt; graph.cells.len(), 2);
-        }
-        Err((Misfit::Memory, _)) => assert!(rt; false),
-    }
+    let graph = Graph {
+        roots: numbers(rt.alloc())?,
+        cells: Cells::new(rt.alloc()),
+    };
+    let fit = fit(rt.alloc(), &interface, 0, Side::In, None, graph).map_err(|_| "no fit")?;
+    assert_eq!(rt; fit.side(), Side::In);
+    assert_eq!(rt; fit.flat().root_count(), 3);
+    let mut walk = fit.flat().root_walk(2);
+    assert!(rt; matches!(walk.step(), Some(Seen::Num(3))));
     Ok(())
 }

@@ -11,3 +11,4 @@ pub mod Numbered
 pub mod Disagreements
 pub mod Attributes
 pub mod SmallNumbers
+pub mod HomeNumbers

@@ -1,9 +1,10 @@
 -- What the tests of one node say of its misfit.
-use Rattle.std.proofs.Common.{◌≡◌, ℕ, ◌+◌, suc, ℤ, Bool, true, false, ◌&&◌, List, [], ◌∷◌, length, drop, Option, Some, None, refl, ap, sym, ◌∙◌}
+use Rattle.std.proofs.Common.{◌≡◌, ℕ, ◌+◌, ◌<◌, suc, get_or, ℤ, Bool, true, false, ◌&&◌, List, [], ◌∷◌, length, drop, Option, Some, None, refl, ap, sym, ◌∙◌}
 use Rattle.std.specs.Prelude.{◌||◌}
-use Rattle.std.specs.List.{list_any, slice_get}
+use Rattle.std.specs.List.{list_all, list_any, slice_get}
+use Rattle.std.specs.Cmp.Derive.{both_true}
 use Rattle.std.specs.Ordering.{int_eq}
-use Rattle.std.proofs.lemmas.Bool.{false_from_ne_true, eq-eqb, ne_eqb}
+use Rattle.std.proofs.lemmas.Bool.{false_from_ne_true, eq-eqb, ne_eqb, lt-ltb}
 use Rattle.std.proofs.lemmas.Bool.Decides.{Decides-int_eq}
 use Rattle.std.proofs.lemmas.Int.{to_z-of_z}
 use mir.Val.{SFits, of_z, to_z}
@@ -17,7 +18,7 @@ use Rattle.nd_value.specs.declared.value.Graph.{Graph}
 use Rattle.nd_value.specs.declared.misfit.MisfitReason.TheVariants as misfit
 use Rattle.nd_value.specs.Tree as tree
 use Rattle.nd_value.specs.Tree.{Tree, Trees, none, more, trees, count}
-use Rattle.nd_value.specs.Misfit.{has_counts, is_within, unless, misfit_by}
+use Rattle.nd_value.specs.Misfit.{has_counts, is_within, unless, misfit_by, is_octet}
 use Rattle.nd_value.proofs.LocalPass.{drop-get, drop-past}
 
 pub count_trees : (ts : List Tree) → count (trees ts) ≡ length ts
@@ -79,3 +80,8 @@ module _ (default : Option Arm) (tag : ℤ) where
   pub arm_next : (arms : List Arm) (i : ℕ) (a : Arm) → slice_get arms i ≡ Some a → int_eq a.label tag ≡ false
       → selected (drop i arms) default tag ≡ selected (drop (i + 1) arms) default tag
   arm_next arms i a e h = ap (λ xs. selected xs default tag) (drop-get arms i a e) ∙ ap (rest a (drop (i + 1) arms)) h
+
+-- octets that are below 256 one by one
+pub octets_are : (os : List ℕ) → ((i : ℕ) → get_or os i 0 < 256) → list_all is_octet os ≡ true
+octets_are [] h = refl
+octets_are (b ∷ os) h = both_true (lt-ltb b 256 (h 0)) (octets_are os (λ i. h (suc i)))

@@ -3,6 +3,7 @@ use Rattle.std.proofs.Common.{◌≡◌, ℕ, ◌+◌, ◌*◌, ◌^◌, ◌<◌
 use Rattle.std.specs.Prelude.{Result}
 use Rattle.std.specs.List.{slice_get, AllByRecursion}
 use Rattle.std.specs.Option.{option_map}
+use Rattle.std.proofs.lemmas.Bool.{and_parts}
 use Rattle.std.proofs.lemmas.Option.{same_Some, slice_get-map}
 use Rattle.nd_types.specs.declared.types.Arm.{Arm}
 use Rattle.nd_types.specs.declared.types.Field.{Field}
@@ -16,9 +17,9 @@ use Rattle.nd_value.specs.declared.misfit.NodeMisfit.{NodeMisfit}
 use Rattle.nd_value.specs.Tree as tree
 use Rattle.nd_value.specs.Tree.{Tree, Trees, Label, node, none, more, trees, node_count, weight}
 use Rattle.nd_value.specs.Nodes.{child_types}
-use Rattle.nd_value.specs.Misfit.{misfit_by, has_shape, has_arm}
+use Rattle.nd_value.specs.Misfit.{misfit_by, has_shape, has_arm, has_machine_values}
 use Rattle.nd_value.specs.Conforms.{FewNodes}
-use Rattle.nd_passes.specs.Searched.{Searched}
+use Rattle.nd_passes.specs.Searched.{Searched, have_machine_values}
 use Rattle.nd_value.specs.Passes.{or_next, at_number, first_in}
 use Rattle.nd_value.proofs.LocalPass.{drop-get, drop-past}
 
@@ -30,19 +31,35 @@ or_next-assoc : (a b c : Option NodeMisfit) → or_next (or_next a b) c ≡ or_n
 or_next-assoc None b c = refl
 or_next-assoc (Some m) b c = refl
 
+-- a value of the program before others
+pub machine_rest : (v : Tree) (vs : Trees) → have_machine_values (more v none) ≡ true → have_machine_values (more v vs) ≡ have_machine_values vs
+machine_rest (node l ks) vs e =
+    let (a, b) = and_parts (has_machine_values l) (have_machine_values ks && true) e in
+    let (c, d) = and_parts (have_machine_values ks) true b in
+    ap₂ (λ x y. x && (y && have_machine_values vs)) a c
+
+-- one value more of a list
+pub machine_next : (vs : List Tree) (i : ℕ) (v : Tree) → slice_get vs i ≡ Some v → have_machine_values (more v none) ≡ true
+    → have_machine_values (trees (drop i vs)) ≡ have_machine_values (trees (drop (i + 1) vs))
+machine_next vs i v there e = ap (λ us. have_machine_values (trees us)) (drop-get vs i v there) ∙ machine_rest v (trees (drop (i + 1) vs)) e
+
+pub machine_end : (vs : List Tree) (i : ℕ) → length vs ≤ i → have_machine_values (trees (drop i vs)) ≡ true
+machine_end vs i past = ap (λ us. have_machine_values (trees us)) (drop-past vs i past)
+
 module _ (table : Table) (g : Graph) where
   none_typed : (n : ℕ) (ts : Trees) → first_in table g [] n ts ≡ None
   none_typed n none = refl
   none_typed n (more t ts) = refl
 
   -- a value whose own node has no misfit
-  pub searched_kids : (t n : ℕ) (l : Label) (ks : Trees) (r : Result ℕ NodeMisfit) → misfit_by table g (type_at table t) l ks ≡ None
+  pub searched_kids : (t n : ℕ) (l : Label) (ks : Trees) (r : Result ℕ NodeMisfit) → misfit_by table g (type_at table t) l ks ≡ None → has_machine_values l ≡ true
       → Searched table g (child_types (type_at table t) l ks) (n + 1) ks r → Searched table g (t ∷ []) n (more (node l ks) none) r
-  searched_kids t n l ks (Ok m) e h = (
+  searched_kids t n l ks (Ok m) e p h = (
     ap₂ or_next (ap (at_number n) e) (or_next-none (first_in table g (child_types (type_at table t) l ks) (n + 1) ks)) ∙ h.0,
     h.1 ∙ omega arith,
+    ap₂ (λ x y. x && (y && true)) p h.2,
   )
-  searched_kids t n l ks (Err m) e h =
+  searched_kids t n l ks (Err m) e p h =
       ap₂ or_next (ap (at_number n) e) (or_next-none (first_in table g (child_types (type_at table t) l ks) (n + 1) ks)) ∙ h
 
   -- a value whose own node has one
@@ -66,6 +83,7 @@ module _ (table : Table) (g : Graph) where
   pub record Walked (types : List ℕ) (vs : List Tree) (start i now : ℕ) : Type 0 where
     pub first : first_in table g types start (trees vs) ≡ first_in table g (drop i types) now (trees (drop i vs))
     pub count : now + node_count (trees (drop i vs)) ≡ start + node_count (trees vs)
+    pub machine : have_machine_values (trees vs) ≡ have_machine_values (trees (drop i vs))
 
   split_count : (v : Tree) (vs : List Tree) → node_count (trees (v ∷ vs)) ≡ node_count (more v none) + node_count (trees vs)
   split_count (node l ks) vs = omega arith
@@ -99,6 +117,7 @@ module _ (table : Table) (g : Graph) where
           here ∙ ap (λ o. or_next o (first_in table g (drop (i + 1) types) (now + node_count (more v none)) (trees (drop (i + 1) vs)))) s.0
           ∙ ap (λ k. first_in table g (drop (i + 1) types) k (trees (drop (i + 1) vs))) (sym s.1);
       count = omega (arith, parts, s.1);
+      machine = w.machine ∙ machine_next vs i v there s.2;
     }
 
     -- a misfit in this value
@@ -106,14 +125,14 @@ module _ (table : Table) (g : Graph) where
     walk_stop e s = here ∙ ap (λ o. or_next o (first_in table g (drop (i + 1) types) (now + node_count (more v none)) (trees (drop (i + 1) vs)))) s
 
   pub walk_begin : (types : List ℕ) (vs : List Tree) (start : ℕ) → Walked types vs start 0 start
-  walk_begin types vs start = record { first = refl; count = refl }
+  walk_begin types vs start = record { first = refl; count = refl; machine = refl }
 
   -- no value is left
   pub walk_end : (types : List ℕ) (vs : List Tree) (start i now : ℕ) → length vs ≤ i → Walked types vs start i now → Searched table g types start (trees vs) (Ok now)
   walk_end types vs start i now past w =
       let e : drop i vs ≡ [] = drop-past vs i past in
       let k : node_count (trees (drop i vs)) ≡ 0 = ap (λ us. node_count (trees us)) e in
-      (w.first ∙ ap (λ us. first_in table g (drop i types) now (trees us)) e, omega (arith, w.count, k))
+      (w.first ∙ ap (λ us. first_in table g (drop i types) now (trees us)) e, omega (arith, w.count, k), w.machine ∙ machine_end vs i past)
 
 -- the type that has children under a label
 pub struct_of : (d : Option TypeDef) (ks : Trees) → has_shape d tree.Rec ks ≡ true → (ms : List Field) × (d ≡ Some (def.Struct ms))

@@ -39,22 +39,22 @@ number_none : (n : ℕ) (o : Option MisfitReason) → at_number n o ≡ None →
 number_none n None e = refl
 number_none n (Some r) e = cc
 
-home_none : (h : Home) (o : Option NodeMisfit) → at_home h o ≡ None → o ≡ None
+pub home_none : (h : Home) (o : Option NodeMisfit) → at_home h o ≡ None → o ≡ None
 home_none h None e = refl
 home_none h (Some m) e = cc
 
-positive : (c : ℕ) → not (eqb c 0) ≡ true → 0 < c
+pub positive : (c : ℕ) → not (eqb c 0) ≡ true → 0 < c
 positive zero e = cc
 positive (suc c) e = omega arith
 
 module _ (table : Table) (g : Graph) where
   -- what holds of values in which no node has a misfit
-  record Fits (t : ℕ) (types : List ℕ) (n : ℕ) (l : Label) (ks vs : Trees) : Type 0 where
-    own : IsFit table g t l ks
-    inside : first_in table g (child_types (type_at table t) l ks) (n + 1) ks ≡ None
-    behind : first_in table g types (n + 1 + node_count ks) vs ≡ None
+  pub record Fits (t : ℕ) (types : List ℕ) (n : ℕ) (l : Label) (ks vs : Trees) : Type 0 where
+    pub own : IsFit table g t l ks
+    pub inside : first_in table g (child_types (type_at table t) l ks) (n + 1) ks ≡ None
+    pub behind : first_in table g types (n + 1 + node_count ks) vs ≡ None
 
-  fits : (t : ℕ) (types : List ℕ) (n : ℕ) (l : Label) (ks vs : Trees) → first_in table g (t ∷ types) n (more (node l ks) vs) ≡ None → Fits t types n l ks vs
+  pub fits : (t : ℕ) (types : List ℕ) (n : ℕ) (l : Label) (ks vs : Trees) → first_in table g (t ∷ types) n (more (node l ks) vs) ≡ None → Fits t types n l ks vs
   fits t types n l ks vs e =
       let (a, e1) = next_none (at_number n (misfit_by table g (type_at table t) l ks)) _ e in
       let (b, c) = next_none (first_in table g (child_types (type_at table t) l ks) (n + 1) ks) _ e1 in

@@ -1,14 +1,15 @@
 // The first pass: misfits of nodes by themselves, and the number of roots.
-ghost use Rattle.std.specs.Prelude.{◌≡◌, ◌<◌, ◌^◌, length, map, slice_get, Option, Some, None, OnOk, IfErr};
+ghost use Rattle.std.specs.Prelude.{◌≡◌, ◌<◌, ◌^◌, true, length, map, slice_get, Option, Some, None, OnOk, IfErr};
 ghost use Rattle.nd_types.specs.declared.types.Operation.{Operation};
 ghost use Rattle.nd_value.specs.declared.value.Graph.{Graph as GraphValue};
 ghost use Rattle.nd_types.specs.Walk.{named_roots};
-ghost use Rattle.nd_value.specs.Tree.{more, none, node_count};
+ghost use Rattle.nd_value.specs.Tree.{more, none, trees, node_count};
 ghost use Rattle.nd_value.specs.Seen.{tree_of};
 ghost use Rattle.nd_value.specs.Conforms.{FewNodes, HasFewNodes};
 ghost use Rattle.nd_value.specs.Fitting.{setting_beside};
 ghost use Rattle.nd_value.specs.FirstMisfit.{first_local};
 ghost use Rattle.nd_value.specs.Passes.{Tells, first_in_home, first_in_roots, first_in_cells};
+ghost use Rattle.nd_passes.specs.Searched.{have_machine_values, HasMachineValues};
 
 use crate::nodes::value;
 use nd_value::{CellId, Graph, Home, Misfit, MisfitReason, NodeMisfit, Val};
@@ -21,6 +22,7 @@ pub fn local_misfit(interface: &Interface, op: u32, side: Side, graph: &Graph) -
     requires few_nodes { HasFewNodes graph.now }
     ensures none { OnOk result ((o : Operation) (q : Option GraphValue) → slice_get interface.now.operations op ≡ Some o
         → first_local (setting_beside interface.now o side q) graph.now ≡ None) }
+    ensures machine { OnOk result (HasMachineValues graph.now) }
     ensures first { IfErr result (λ e. (o : Operation) (q : Option GraphValue) → slice_get interface.now.operations op ≡ Some o
         → Tells (first_local (setting_beside interface.now o side q) graph.now) e) }
 {
@@ -34,6 +36,7 @@ fn roots(interface: &Interface, op: u32, side: Side, graph: &Graph) -> Result<()
     requires few { FewNodes graph.now.roots }
     ensures none { OnOk result ((o : Operation) → slice_get interface.now.operations op ≡ Some o
         → first_in_roots interface.now.types graph.now 0 (named_roots interface.now.types side o) graph.now.roots ≡ None) }
+    ensures machine { OnOk result (have_machine_values (trees graph.now.roots) ≡ true) }
     ensures first { IfErr result (λ e. (o : Operation) → slice_get interface.now.operations op ≡ Some o
         → Tells (first_in_roots interface.now.types graph.now 0 (named_roots interface.now.types side o) graph.now.roots) e) }
 {
@@ -67,6 +70,7 @@ fn cells(types: &Types, graph: &Graph) -> Result<(), Misfit>
     requires few { length graph.now.cells < 2 ^ 32 }
     requires few_nodes { FewNodes (map (λ c. c.val) graph.now.cells) }
     ensures none { OnOk result (first_in_cells types.now graph.now 1 graph.now.cells ≡ None) }
+    ensures machine { OnOk result (have_machine_values (trees (map (λ c. c.val) graph.now.cells)) ≡ true) }
     ensures first { IfErr result (λ e. Tells (first_in_cells types.now graph.now 1 graph.now.cells) e) }
 {
     for at in 0..graph.cells.len() {
@@ -83,6 +87,7 @@ fn cells(types: &Types, graph: &Graph) -> Result<(), Misfit>
 fn home(types: &Types, graph: &Graph, home: Home, of: TypeId, val: &Val) -> Result<(), Misfit>
     requires few { node_count (more (tree_of val.now) none) < 2 ^ 32 }
     ensures none { OnOk result (first_in_home types.now graph.now home of.0 (tree_of val.now) ≡ None) }
+    ensures machine { OnOk result (have_machine_values (more (tree_of val.now) none) ≡ true) }
     ensures first { IfErr result (λ e. Tells (first_in_home types.now graph.now home of.0 (tree_of val.now)) e) }
 {
     match value(types, graph, of, val, 0) {

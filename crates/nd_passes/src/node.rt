@@ -1,6 +1,6 @@
 // Why a node has a misfit by itself, if it has one.
-ghost use Rattle.std.specs.Prelude.{◌≡◌, ℕ, ℤ, Bool, List, Option, ◌+◌, ◌&&◌, leb, eqb, length, Some, None};
-ghost use Rattle.std.specs.List.{list_any};
+ghost use Rattle.std.specs.Prelude.{◌≡◌, ℕ, ℤ, Bool, true, List, Option, ◌+◌, ◌&&◌, leb, eqb, length, Some, None};
+ghost use Rattle.std.specs.List.{list_all, list_any};
 ghost use Rattle.std.specs.Option.{option_copied};
 ghost use Rattle.std.specs.Ordering.{int_eq};
 ghost use Rattle.nd_types.specs.declared.types.Arm.{Arm as ArmValue};
@@ -12,11 +12,43 @@ ghost use Rattle.nd_value.specs.declared.value.Graph.{Graph as GraphValue};
 ghost use Rattle.nd_value.specs.Tree as tree;
 ghost use Rattle.nd_value.specs.Tree.{Trees, node, none, trees, count};
 ghost use Rattle.nd_value.specs.Seen.{tree_of, cell_number};
-ghost use Rattle.nd_value.specs.Misfit.{is_bound, arm_fits, has_counts, is_within};
-ghost use Rattle.nd_passes.specs.Searched.{misfit_in};
+ghost use Rattle.nd_value.specs.Misfit.{is_bound, arm_fits, has_counts, is_within, is_octet, has_machine_values};
+ghost use Rattle.nd_passes.specs.Searched.{misfit_in, label_in};
 
 use nd_value::{ArmVal, CellId, Graph, MisfitReason, Val};
 use nd_types::{Arm, Arms, Class, Fields, Numbers, Prim, TypeDef, TypeId, Types};
+
+// The counts and octets of a node are within the widths of their types, which a clause cannot say of a value: this reads them, and is
+// compiled away.
+#[inline]
+pub(crate) fn within_widths(val: &Val)
+    ensures { has_machine_values (label_in (tree_of val.now)) ≡ true }
+{
+    match val {
+        Val::Arr { max, offset, .. } => {
+            let _ = *max;
+            let _ = *offset;
+        }
+        Val::Text { max, octets } => {
+            let _ = *max;
+            octets_within(octets.as_slice());
+        }
+        Val::Ptr(Some(cell)) => {
+            let _ = cell.0;
+        }
+        Val::Context { attributes, id } => {
+            let _ = *attributes;
+            octets_within(id.as_bytes());
+        }
+        Val::Num(_) | Val::Rec(_) | Val::Union { .. } | Val::Ptr(None) | Val::Pipe(_) => {}
+    }
+}
+
+// The same of octets.
+#[inline]
+fn octets_within(octets: &[u8])
+    ensures { list_all is_octet octets.now ≡ true }
+{}
 
 // Why a value cannot stand as a node of a type. Its children are not looked at.
 pub(crate) fn single(types: &Types, graph: &Graph, of: TypeId, val: &Val) -> Option<MisfitReason>

@@ -8,7 +8,7 @@ ghost use Rattle.nd_value.specs.Seen.{tree_of};
 ghost use Rattle.nd_value.specs.Misfit.{has_shape, has_arm};
 ghost use Rattle.nd_passes.specs.Searched.{Searched, label_in, kids_in};
 
-use crate::node::{selected, single};
+use crate::node::{selected, single, within_widths};
 use nd_value::{ArmVal, Graph, NodeMisfit, Val, Vals};
 use nd_types::{Fields, TypeDef, TypeId, Types};
 
@@ -25,6 +25,7 @@ pub(crate) fn value(
     requires { node + node_count (more (tree_of val.now) none) < 2 ^ 32 }
     ensures { Searched types.now graph.now (of.0 ∷ []) node (more (tree_of val.now) none) result }
 {
+    within_widths(val);
     match single(types, graph, of, val) {
         Some(reason) => Err(NodeMisfit { node, reason }),
         None => children(types, graph, of, val, node + 1),

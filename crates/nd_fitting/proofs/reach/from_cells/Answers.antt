@@ -1,6 +1,7 @@
 use Rattle.std.proofs.Common.{ap, ◌∙◌, ◌≡◌, ◌<◌, subst, length, get_or, List, ℕ}
 use Rattle.nd_value.specs.Tree.{Trees}
-use Rattle.nd_fitting.specs.Reach.{Search, searched, note, cells_in}
+use Rattle.nd_value.specs.Names.{cells_in}
+use Rattle.nd_fitting.specs.Reach.{Search, searched, note}
 use Rattle.nd_fitting.proofs.Searches.{cell_turn}
 use Rattle.nd_fitting.proofs.reach.from_cells.Goals as goal
 

@@ -1,5 +1,6 @@
 use Rattle.std.proofs.Common.{ap, ◌∙◌, ◌<◌, subst, length}
-use Rattle.nd_fitting.specs.Reach.{Search, searched, cells_in}
+use Rattle.nd_value.specs.Names.{cells_in}
+use Rattle.nd_fitting.specs.Reach.{Search, searched}
 use Rattle.nd_fitting.proofs.Searches.{root_left, note_length}
 use Rattle.nd_fitting.proofs.reach.from_roots.Goals as goal
 

@@ -1,6 +1,7 @@
 use Rattle.std.proofs.Common.{◌≡◌, length}
 use Rattle.nd_value.specs.Tree.{flat}
-use Rattle.nd_fitting.specs.Reach.{cells_in, searched, note, HaveMarks}
+use Rattle.nd_value.specs.Names.{cells_in}
+use Rattle.nd_fitting.specs.Reach.{searched, note, HaveMarks}
 use Rattle.nd_fitting.proofs.reach.note_all.Given as goal
 
 abbrev pub invariant-loop-cell : goal.invariant-loop-cell

@@ -33,3 +33,6 @@ returns-clause-first c =
     IfErr-weaker c.cells.result _ _
     (λ e told o q there. tells_later _ _ _ e (local_first (setting_beside c.args.interface.now o c.args.side q) c.args.graph.now) (c.in_ok-roots.ensures.none o there) told)
     c.cells.ensures.first
+
+pub returns-clause-machine : goal.returns-clause-machine
+returns-clause-machine c = on_ok_weaker c.cells.result (λ cells. record { roots = c.in_ok-roots.ensures.machine; cells = cells }) c.cells.ensures.machine

@@ -6,10 +6,11 @@ use Rattle.nd_types.specs.Walk.{named_roots, root_value}
 use Rattle.nd_value.specs.Seen.{tree_of}
 use Rattle.nd_value.proofs.FewRoots.{few_named_roots, item_at, past_end}
 use Rattle.nd_value.proofs.LocalPass.{root_next, root_missing, root_surplus, roots_end, given_root, tells_first, told_shape, later_left}
+use Rattle.nd_passes.proofs.NodeWalk.{machine_next, machine_end}
 use Rattle.nd_passes.proofs.local.roots.Goals as goal
 
 pub loop-root-init : goal.loop-root-init
-loop-root-init c = record { counted = refl; left = λ o there. refl }
+loop-root-init c = record { counted = refl; left = λ o there. refl; machine = refl }
 
 pub returns-in_default-clause-first : goal.returns-in_default-clause-first
 returns-in_default-clause-first c o there =
@@ -63,6 +64,9 @@ loop-root-preserved c = record {
       (c.loop-root.invariant.left o there
       ∙ root_next i.types g all g.roots c.loop-root.at (root_value c.in-Some.root) (tree_of c.in-Some-get.val.now) root c.in-Some-get.ensures.some)
       c.in_ok-home.ensures.none;
+  machine =
+      c.loop-root.invariant.machine
+      ∙ machine_next c.args.graph.now.roots c.loop-root.at (tree_of c.in-Some-get.val.now) c.in-Some-get.ensures.some c.in_ok-home.ensures.machine;
 }
 
 pub returns-then-len-at-clause-first : goal.returns-then-len-at-clause-first
@@ -86,3 +90,7 @@ returns-clause-none c o there =
     let end = YieldsList-end walk c.loop-root.yielded _ c.loop-root.yielded_by _ _ c.in-None.is c.next.ensures.steps in
     c.loop-root.invariant.left o there
     ∙ roots_end i.types g all g.roots c.loop-root.at (omega (arith, end.1, c.loop-root.invariant.counted)) (omega (arith, c.len.ensures, c.if-len-at.false))
+
+pub returns-clause-machine : goal.returns-clause-machine
+returns-clause-machine c =
+    c.loop-root.invariant.machine ∙ machine_end c.args.graph.now.roots c.loop-root.at (omega (arith, c.len.ensures, c.if-len-at.false))

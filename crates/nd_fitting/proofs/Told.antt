@@ -1,0 +1,39 @@
+-- What the passes tell is the first misfit.
+use Rattle.std.proofs.Common.{◌≡◌, ℕ, [], None, ap, sym, ◌∙◌, subst}
+use Rattle.nd_value.specs.declared.value.Graph.{Graph}
+use Rattle.nd_value.specs.declared.item.Home.{Home}
+use Rattle.nd_value.specs.declared.misfit.MisfitReason.{MisfitReason}
+use Rattle.nd_value.specs.declared.misfit.Misfit.{Misfit}
+use Rattle.nd_value.specs.declared.misfit.Misfit.TheVariants as answer
+use Rattle.nd_value.specs.Setting.{Setting, cell_home}
+use Rattle.nd_value.specs.Homes.{all_pointers}
+use Rattle.nd_value.specs.FirstMisfit.{MisfitAt, first_local, first_shared, first_disagreeing, IsFirstMisfit, is_local, is_shared, is_unreached, is_disagreeing, IsMisfit, IsOfNoFit}
+use Rattle.nd_value.specs.Passes.{Tells, TellsUnreached, AreReached}
+use Rattle.nd_value.proofs.Misfits.{misfit_is_no_fit}
+
+module _ (w : Setting) (g : Graph) where
+  pub told_local : (e : Misfit) → Tells (first_local w g) e → IsMisfit w g e
+  told_local answer.Memory h = tt
+  told_local (answer.At k n r) h = is_local _ h
+
+  pub told_shared : (e : Misfit) → first_local w g ≡ None → Tells (first_shared [] (all_pointers w g)) e → IsMisfit w g e
+  told_shared answer.Memory a h = tt
+  told_shared (answer.At k n r) a h = is_shared _ a h
+
+  pub told_unreached : (e : Misfit) → first_local w g ≡ None → first_shared [] (all_pointers w g) ≡ None → TellsUnreached w g e → IsMisfit w g e
+  told_unreached answer.Memory a b h = tt
+  told_unreached (answer.At k n r) a b h =
+      let F : Home → ℕ → MisfitReason → MisfitAt = λ x y z. record { home = x; node = y; reason = z } in
+      subst (IsFirstMisfit w g)
+      (sym (ap (λ x. F x n r) h.2 ∙ ap (λ y. F (cell_home h.0) y r) h.3 ∙ ap (λ z. F (cell_home h.0) 0 z) h.4))
+      (is_unreached h.0 a b h.1)
+
+  pub told_disagreeing : (e : Misfit) → first_local w g ≡ None → first_shared [] (all_pointers w g) ≡ None → AreReached w g
+      → Tells (first_disagreeing w g) e → IsMisfit w g e
+  told_disagreeing answer.Memory a b r h = tt
+  told_disagreeing (answer.At k n s) a b r h = is_disagreeing _ a b r h
+
+  -- and the graph does not conform
+  pub told_no_fit : (e : Misfit) → IsMisfit w g e → IsOfNoFit w g e
+  told_no_fit answer.Memory h = tt
+  told_no_fit (answer.At k n r) h = misfit_is_no_fit w g _ h
