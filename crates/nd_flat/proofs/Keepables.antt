@@ -1,8 +1,9 @@
 -- Numbers that nodes can keep: those of all primitives.
-use Rattle.std.proofs.Common.{◌≡◌, ◌^◌, ◌-◌, ℤ, pos, negsuc, true, ◌&&◌, T, sym, subst}
+use Rattle.std.proofs.Common.{◌≡◌, ◌^◌, ◌-◌, ℤ, pos, negsuc, true, ◌&&◌, T, sym, subst, arith}
 use Rattle.std.specs.Prelude.{◌≤ℤ◌, int_le}
 use Rattle.std.proofs.lemmas.Bool.{and_parts}
-use lib.Signed.{≤ℤ_trans, le_z_yes}
+use Rattle.std.proofs.lemmas.Int.{ints}
+use lib.Signed.{le_z_yes}
 use Rattle.nd_types.specs.declared.types.Primitive.{Primitive}
 use Rattle.nd_types.specs.declared.types.Primitive.TheVariants.{Boolean, Char, Byte, Small, UnsignedSmall, Short, UnsignedShort, Long, UnsignedLong, Hyper, UnsignedHyper}
 use Rattle.nd_types.specs.Table.{in_range, least, greatest}
@@ -34,6 +35,9 @@ high UnsignedLong = le_z_yes tt
 high Hyper = le_z_yes tt
 high UnsignedHyper = le_z_yes tt
 
+in_turn : (x y z : ℤ) → x ≤ℤ y → y ≤ℤ z → x ≤ℤ z
+in_turn x y z h k = let a : x ≤ℤ y = h in let b : y ≤ℤ z = k in omega (arith, ints)
+
 at_most : (y z : ℤ) → int_le y z ≡ true → y ≤ℤ z
 at_most y z e = record { le = subst T (sym e) tt }
 
@@ -41,4 +45,4 @@ at_most y z e = record { le = subst T (sym e) tt }
 pub number_keepable : (p : Primitive) (z : ℤ) → in_range p z ≡ true → IsKeepableNumber z
 number_keepable p z h =
     let (above, below) = and_parts (int_le (least p) z) (int_le z (greatest p)) h in
-    (≤ℤ_trans (low p) (at_most (least p) z above), ≤ℤ_trans (at_most z (greatest p) below) (high p))
+    (in_turn _ _ _ (low p) (at_most (least p) z above), in_turn _ _ _ (at_most z (greatest p) below) (high p))
