@@ -35,7 +35,10 @@ BASIC_TYPES = 12
 OPERATION_LIMIT = 1_024
 MOST_TIMES = 16.0  # the time that ten times the input may take
 MOST_TIMES_OF_FOUR = 6.0  # the time that four times an interface file may take
+MOST_TIMES_OF_A_PLAN = 4.6  # the time that the plan of four times as many types may take
+MOST_SECONDS_OF_A_PLAN = 1.0  # the time that the plan of the most types may take, with its listing
 MOST_OCTETS = 100  # the memory for each octet of an interface file
+PLANNED_MEMBERS = 60_000
 NOISE = 0.001  # seconds; a difference below them is not told from none
 TIME = shutil.which("time")  # the program `time`, which tells the peak memory of what it runs
 
@@ -257,6 +260,22 @@ def listed_interface(types: int, operations: int) -> bytes:
     return "".join(f"{line}\n" for line in [*lines, "}"]).encode()
 
 
+def planned_interface(types: int, members: int) -> bytes:
+    """An interface with so many types, the basic ones among them: structs with so many members in all,
+    of which every fourth ends with an array whose size a member has, that array, and pointers. Operations take the first structs."""
+    lines = ["[uuid(11111111-2222-3333-4444-555555555555), version(1.0)] interface t {"]
+    own = types - BASIC_TYPES
+    structs = own * 9 // 10
+    each, more = divmod(members, structs)
+    for number in range(structs):
+        count = each + (number < more)
+        names = ", ".join(f"m{member}" for member in range(count - 2))
+        last = "[size_is(n)] long a[*]" if number % 4 == 0 else "hyper a"
+        lines.append(f"typedef struct {{ long n; short {names}; {last}; }} s{number};")
+    lines += [f"void f{number}([in] s{number} *a);" for number in range(own - structs - 1)]
+    return "".join(f"{line}\n" for line in [*lines, "}"]).encode()
+
+
 def numbers(seed: int) -> List[int]:
     chance = random.Random(seed)
     return [chance.randrange(-(2**63), 2**63) for _ in range(PARAMETERS)]
@@ -475,6 +494,32 @@ def measure_listing(bench: Bench, nothing: Path, start: Measured) -> None:
     check_growth(bench, "the compilation of many types and operations", *nets, times="four times", most=MOST_TIMES_OF_FOUR)
 
 
+def measure_plan(bench: Bench, nothing: Path, start: Measured) -> None:
+    """The plan of as many types as there may be, and its listing, beyond the same file without it, and that of a quarter of them."""
+    runs = []
+    for part in (4, 1):
+        types, members = TYPE_LIMIT // part, PLANNED_MEMBERS // part
+        file = bench.write(f"planned.{types}.idl", planned_interface(types, members))
+        check_listing(bench, file, types)
+        told = f"{types:,} types, {members:,} members"
+        runs.append(Run(f"no plan, {told}", bench.decode(file, "none", "little"), nothing, 6, b""))
+        runs.append(Run(f"plan, {told}", [bench.program, "plan", str(file), "-"], nothing))
+    small_base, small, large_base, large = bench.measure(runs, max(3, bench.runs // 10))
+    tell(small_base, start)
+    of_small = tell(small, small_base)
+    tell(large_base, start)
+    of_large = tell(large, large_base)
+    check_growth(bench, "the plan", of_small, of_large, times="four times", most=MOST_TIMES_OF_A_PLAN)
+    if of_large > MOST_SECONDS_OF_A_PLAN:
+        bench.fail(f"the plan of the most types takes {of_large:.2f} seconds")
+
+
+def has_plan(bench: Bench, idl: Path, nothing: Path) -> bool:
+    """Whether the program has the command: where it has not, it ends with status 2 before all else."""
+    with open(nothing, "rb") as stdin:
+        return subprocess.run([bench.program, "plan", str(idl), "-"], stdin=stdin, capture_output=True, check=False).returncode != 2
+
+
 def has_encode(bench: Bench, idl: Path, nothing: Path) -> bool:
     """Whether the program has the command: where it has not, it ends with status 2 before all else."""
     with open(nothing, "rb") as stdin:
@@ -496,6 +541,10 @@ def measure(bench: Bench, size: int) -> None:
     measure_language(bench, start)
     measure_types(bench, start)
     measure_listing(bench, nothing, start)
+    if has_plan(bench, idl, nothing):
+        measure_plan(bench, nothing, start)
+    else:
+        print("The program has no command `plan`: it is not measured.")
 
 
 def built() -> Path:

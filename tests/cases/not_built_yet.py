@@ -15,7 +15,6 @@ CASES = [
     refused(),
     Case("not built yet: no words, closed input", [], input=CLOSED, notes=lines("words refused"), status=2),
     refused("sample", "1", "2"),
-    refused("plan", "t.idl", "-"),
     refused("explain", "t.idl", "-", "f", "in", "little"),
     refused("drain", "t.idl", "-", "f", "in", "little"),
     refused("decode", "t.idl", "-", "f", "in", "label"),

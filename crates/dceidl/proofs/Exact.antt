@@ -19,7 +19,7 @@ use Rattle.dceidl.specs.Input.{AreRead, IsRead, IsReadCause, IsEncoded, IsEncode
 use Rattle.dceidl.specs.Lines.{status_of, line_of}
 use Rattle.dceidl.specs.Rows.{IsSound, IsAccepted, IsInput, MustBeUnready, CanBeDone, MustBeRefused, IsCompleted, Refuses}
 use Rattle.dceidl.specs.Seen.{Seen}
-use Rattle.dceidl.specs.Words.{Command, Subject, Read, Encode, Compile, Help, Version, idl_of, op_of, order_in}
+use Rattle.dceidl.specs.Words.{Command, Subject, Read, Encode, Compile, Plan, Help, Version, idl_of, op_of, order_in}
 use Rattle.dceidl.proofs.HeldFiles.{compiled_cause, no_idl, no_idl_cause, one_setting, accepted_cause, unready, unready_cause}
 use Rattle.dceidl.proofs.OneInput.{same_octets}
 use Rattle.dceidl.proofs.OneReading.{decoded_cause, refused_made, refused_cause}
@@ -103,6 +103,7 @@ module _ (x : Seen) (loads : HasRisen x.files.faults → ⊥) where
       (λ q k. encode_causes x.input w text input (λ p. p ≡ Memory) refl (encoded_cause w (plain_of x.files of w a) text g reads conforms) q k)
       r cause
   not_refused (Compile idl acf) (text, i, held, means) r cause = compiled_cause x.files idl acf loads text i held means r cause
+  not_refused (Plan idl acf) (text, i, held, means) r cause = compiled_cause x.files idl acf loads text i held means r cause
   not_refused Help can r cause = cause
   not_refused Version can r cause = cause
 
@@ -165,6 +166,7 @@ module _ (x : Seen) (loads : HasRisen x.files.faults → ⊥) where
   settled (Encode of order chunk) ReadFault must = encode_unready of order chunk ReadFault must
   settled (Encode of order chunk) (BadOctets place why) must = encode_unready of order chunk (BadOctets place why) must
   settled (Compile idl acf) r must = (λ made m. no_idl x.files idl acf loads r must m.interface m.compiled, no_idl_cause x.files idl acf loads r must)
+  settled (Plan idl acf) r must = (λ made m. no_idl x.files idl acf loads r must m.interface m.compiled, no_idl_cause x.files idl acf loads r must)
   settled Help r must = absurd must
   settled Version r must = absurd must
 

@@ -17,7 +17,7 @@ use Rattle.dceidl.specs.Ready.{IsIdlCause, IsReadyCause}
 use Rattle.dceidl.specs.Rows.{IsOneOf, IsDone, IsRefusedWith, ReadsInput, IsDue, IsDueOf, IsDueAndMissing, IsDueAndReported, HasNotFailed}
 use Rattle.dceidl.specs.Run.{HasRun, IsOutcome, IsCommandOutcome, IsDelivered}
 use Rattle.dceidl.specs.Seen.{Seen}
-use Rattle.dceidl.specs.Words.{Command, Subject, Read, Encode, Compile, Help, Version, command, idl_of, op_of, asks_files, asks_input}
+use Rattle.dceidl.specs.Words.{Command, FileNames, Subject, Read, Encode, Compile, Plan, Help, Version, command, idl_of, op_of, asks_files, asks_input}
 
 -- a refusal has none of the statuses 0, 2 and 4
 pub not_zero : (r : Refusal) → status_of r ≡ 0 → ⊥
@@ -117,6 +117,7 @@ refused_status : (x : Seen) (c : Command) (status : ℕ) (r : Refusal) → IsCau
 refused_status x (Read how of order) status r cause e = of_values status r e
 refused_status x (Encode of order chunk) status r cause e = of_values status r e
 refused_status x (Compile idl acf) status r cause e = of_files x.files idl acf status r cause e
+refused_status x (Plan idl acf) status r cause e = of_files x.files idl acf status r cause e
 refused_status x Help status r cause e = inr (inr (inl (e ∙ ap status_of cause)))
 refused_status x Version status r cause e = inr (inr (inl (e ∙ ap status_of cause)))
 
@@ -124,6 +125,7 @@ zero_in : (c : Command) (status : ℕ) → status ≡ 0 → IsOneOf (statuses_of
 zero_in (Read how of order) status e = inl e
 zero_in (Encode of order chunk) status e = inl e
 zero_in (Compile idl acf) status e = inl e
+zero_in (Plan idl acf) status e = inl e
 zero_in Help status e = inl e
 zero_in Version status e = inl e
 
@@ -131,6 +133,7 @@ four_in : (c : Command) (status : ℕ) → status ≡ 4 → IsOneOf (statuses_of
 four_in (Read how of order) status e = inr (inr (inr (inl e)))
 four_in (Encode of order chunk) status e = inr (inr (inr (inl e)))
 four_in (Compile idl acf) status e = inr (inl e)
+four_in (Plan idl acf) status e = inr (inl e)
 four_in Help status e = inr (inl e)
 four_in Version status e = inr (inl e)
 
@@ -138,6 +141,7 @@ five_in : (c : Command) (status : ℕ) → status ≡ 5 → IsOneOf (statuses_of
 five_in (Read how of order) status e = inr (inr (inr (inr (inl e))))
 five_in (Encode of order chunk) status e = inr (inr (inr (inr (inl e))))
 five_in (Compile idl acf) status e = inr (inr (inl e))
+five_in (Plan idl acf) status e = inr (inr (inl e))
 five_in Help status e = inr (inr (inl e))
 five_in Version status e = inr (inr (inl e))
 
@@ -198,6 +202,19 @@ of_refusal x out notes status words run n e (zero, two, four, five) = by (comman
         record { command_is = c; is = is; refusal = r.refusal; cause = r.cause; own = sym r.own_status; line = r.line }
 
 module _ (x : Seen) where
+  -- files alone are no input
+  idl_read : (idl : List ℕ) (acf : Option (List ℕ)) (r : Refusal) → IsIdlCause x.files idl acf r → status_of r ≡ 3 → ⊥
+  idl_read idl acf ReadFault cause e = absurd cause
+  idl_read idl acf Memory cause e = cc
+  idl_read idl acf (Absent file) cause e = cc
+  idl_read idl acf (FileFailed file) cause e = cc
+  idl_read idl acf (BadIdl file line column reason) cause e = cc
+  idl_read idl acf NoOperation cause e = cc
+  idl_read idl acf NotBuilt cause e = cc
+  idl_read idl acf (BadOctets place why) cause e = cc
+  idl_read idl acf (BadText line column reason) cause e = cc
+  idl_read idl acf (BadValue path reason) cause e = cc
+
   -- the input is refused only as the input
   read_fault : (c : Command) (r : Refusal) → IsCause x c r → status_of r ≡ 3 → HasRisen x.input.faults × (asks_input c ≡ true)
   read_fault (Read how of order) ReadFault (inl (cause, before)) e = absurd cause
@@ -222,18 +239,24 @@ module _ (x : Seen) where
   read_fault (Encode of order chunk) (BadOctets place why) cause e = cc
   read_fault (Encode of order chunk) (BadText line column reason) cause e = cc
   read_fault (Encode of order chunk) (BadValue path reason) cause e = cc
-  read_fault (Compile idl acf) ReadFault cause e = absurd cause
-  read_fault (Compile idl acf) Memory cause e = cc
-  read_fault (Compile idl acf) (Absent file) cause e = cc
-  read_fault (Compile idl acf) (FileFailed file) cause e = cc
-  read_fault (Compile idl acf) (BadIdl file line column reason) cause e = cc
-  read_fault (Compile idl acf) NoOperation cause e = cc
-  read_fault (Compile idl acf) NotBuilt cause e = cc
-  read_fault (Compile idl acf) (BadOctets place why) cause e = cc
-  read_fault (Compile idl acf) (BadText line column reason) cause e = cc
-  read_fault (Compile idl acf) (BadValue path reason) cause e = cc
+  read_fault (Compile idl acf) r cause e = absurd (idl_read idl acf r cause e)
+  read_fault (Plan idl acf) r cause e = absurd (idl_read idl acf r cause e)
   read_fault Help r cause e = let never : status_of Memory ≡ 3 = sym (ap status_of cause) ∙ e in cc
   read_fault Version r cause e = let never : status_of Memory ≡ 3 = sym (ap status_of cause) ∙ e in cc
+
+  -- a file of an interface that is absent is due and missing
+  idl_absent : (idl : List ℕ) (acf : Option (List ℕ)) (r : Refusal) → IsIdlCause x.files idl acf r → status_of r ≡ 7
+      → HasRisen x.files.absences × ((file : List ℕ) × (r ≡ Absent file) × IsDueOf x.files.held (Some (record { idl = idl; acf = acf })) file × IsMissing x.files.held file)
+  idl_absent idl acf (Absent file) (rose, due, missing) e = (rose, (file, refl, due, missing))
+  idl_absent idl acf Memory cause e = cc
+  idl_absent idl acf (FileFailed file) cause e = cc
+  idl_absent idl acf (BadIdl file line column reason) cause e = cc
+  idl_absent idl acf NoOperation cause e = cc
+  idl_absent idl acf NotBuilt cause e = cc
+  idl_absent idl acf ReadFault cause e = cc
+  idl_absent idl acf (BadOctets place why) cause e = cc
+  idl_absent idl acf (BadText line column reason) cause e = cc
+  idl_absent idl acf (BadValue path reason) cause e = cc
 
   -- a file that is absent is due and missing
   absent_is : (c : Command) (r : Refusal) → IsCause x c r → status_of r ≡ 7
@@ -260,18 +283,24 @@ module _ (x : Seen) where
   absent_is (Encode of order chunk) (BadOctets place why) cause e = cc
   absent_is (Encode of order chunk) (BadText line column reason) cause e = cc
   absent_is (Encode of order chunk) (BadValue path reason) cause e = cc
-  absent_is (Compile idl acf) (Absent file) (rose, due, missing) e = (rose, (file, refl, due, missing))
-  absent_is (Compile idl acf) Memory cause e = cc
-  absent_is (Compile idl acf) (FileFailed file) cause e = cc
-  absent_is (Compile idl acf) (BadIdl file line column reason) cause e = cc
-  absent_is (Compile idl acf) NoOperation cause e = cc
-  absent_is (Compile idl acf) NotBuilt cause e = cc
-  absent_is (Compile idl acf) ReadFault cause e = cc
-  absent_is (Compile idl acf) (BadOctets place why) cause e = cc
-  absent_is (Compile idl acf) (BadText line column reason) cause e = cc
-  absent_is (Compile idl acf) (BadValue path reason) cause e = cc
+  absent_is (Compile idl acf) r cause e = idl_absent idl acf r cause e
+  absent_is (Plan idl acf) r cause e = idl_absent idl acf r cause e
   absent_is Help r cause e = let never : status_of Memory ≡ 7 = sym (ap status_of cause) ∙ e in cc
   absent_is Version r cause e = let never : status_of Memory ≡ 7 = sym (ap status_of cause) ∙ e in cc
+
+  -- a file of an interface that was not read is due
+  idl_failed : (idl : List ℕ) (acf : Option (List ℕ)) (r : Refusal) → IsIdlCause x.files idl acf r → status_of r ≡ 9
+      → HasRisen x.files.faults × ((file : List ℕ) × (r ≡ FileFailed file) × IsDueOf x.files.held (Some (record { idl = idl; acf = acf })) file)
+  idl_failed idl acf (FileFailed file) (rose, due) e = (rose, (file, refl, due))
+  idl_failed idl acf Memory cause e = cc
+  idl_failed idl acf (Absent file) cause e = cc
+  idl_failed idl acf (BadIdl file line column reason) cause e = cc
+  idl_failed idl acf NoOperation cause e = cc
+  idl_failed idl acf NotBuilt cause e = cc
+  idl_failed idl acf ReadFault cause e = cc
+  idl_failed idl acf (BadOctets place why) cause e = cc
+  idl_failed idl acf (BadText line column reason) cause e = cc
+  idl_failed idl acf (BadValue path reason) cause e = cc
 
   -- a file that was not read is due
   failed_is : (c : Command) (r : Refusal) → IsCause x c r → status_of r ≡ 9
@@ -298,16 +327,8 @@ module _ (x : Seen) where
   failed_is (Encode of order chunk) (BadOctets place why) cause e = cc
   failed_is (Encode of order chunk) (BadText line column reason) cause e = cc
   failed_is (Encode of order chunk) (BadValue path reason) cause e = cc
-  failed_is (Compile idl acf) (FileFailed file) (rose, due) e = (rose, (file, refl, due))
-  failed_is (Compile idl acf) Memory cause e = cc
-  failed_is (Compile idl acf) (Absent file) cause e = cc
-  failed_is (Compile idl acf) (BadIdl file line column reason) cause e = cc
-  failed_is (Compile idl acf) NoOperation cause e = cc
-  failed_is (Compile idl acf) NotBuilt cause e = cc
-  failed_is (Compile idl acf) ReadFault cause e = cc
-  failed_is (Compile idl acf) (BadOctets place why) cause e = cc
-  failed_is (Compile idl acf) (BadText line column reason) cause e = cc
-  failed_is (Compile idl acf) (BadValue path reason) cause e = cc
+  failed_is (Compile idl acf) r cause e = idl_failed idl acf r cause e
+  failed_is (Plan idl acf) r cause e = idl_failed idl acf r cause e
   failed_is Help r cause e = let never : status_of Memory ≡ 9 = sym (ap status_of cause) ∙ e in cc
   failed_is Version r cause e = let never : status_of Memory ≡ 9 = sym (ap status_of cause) ∙ e in cc
 

@@ -12,6 +12,9 @@ use Rattle.nd_value.specs.Fitting.{setting_of}
 use Rattle.nd_value.specs.Setting.{Setting}
 use Rattle.nd_types.specs.Meant.{meant_by}
 use Rattle.idl_listing.specs.Listing.{listing}
+use Rattle.ndr_code.specs.Code.{code_of}
+use Rattle.ndr_code.specs.Lines.{entries_of, values_of}
+use Rattle.ndr_plan.specs.Listing as plan
 use Rattle.dceidl.specs.Asked.{all_due}
 use Rattle.dceidl.specs.Idl.{Means, IsIdlFault, IsDueAfter, IsDueFile}
 use Rattle.dceidl.specs.Words.{Subject}
@@ -36,6 +39,12 @@ pub record IsListed (f : FilesSeen) (idl : List ℕ) (acf : Option (List ℕ)) (
   pub interface : Interface
   pub compiled : IsCompiled f idl acf interface
   pub made_is : made ≡ listing (meant_by interface)
+
+-- The files mean an interface, and this is the listing of its plan.
+pub record IsPlanned (f : FilesSeen) (idl : List ℕ) (acf : Option (List ℕ)) (made : List ℕ) : Type 0 where
+  pub interface : Interface
+  pub compiled : IsCompiled f idl acf interface
+  pub made_is : made ≡ plan.listing (code_of interface.types interface.operations) (values_of interface.types) (entries_of interface.types interface.operations)
 
 -- The files mean an interface that has the operation, and each root of its side is a primitive.
 pub record IsFound (f : FilesSeen) (of : Subject) (i : Interface) (n : ℕ) (o : Operation) : Type 0 where

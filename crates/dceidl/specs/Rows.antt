@@ -22,7 +22,7 @@ use Rattle.dceidl.specs.Idl.{Means, IsIdlFault, IsDueFile}
 use Rattle.dceidl.specs.Lines.{status_of, line_of}
 use Rattle.dceidl.specs.Ready.{IsNamed}
 use Rattle.dceidl.specs.Seen.{Seen}
-use Rattle.dceidl.specs.Words.{Command, FileNames, Subject, Read, Encode, Compile, Help, Version, asks_files, asks_input, idl_of, op_of, order_in}
+use Rattle.dceidl.specs.Words.{Command, FileNames, Subject, Read, Encode, Compile, Plan, Help, Version, asks_files, asks_input, idl_of, op_of, order_in}
 use Rattle.dceidl.specs.declared.refusal.Refusal.{Refusal}
 use Rattle.dceidl.specs.declared.refusal.Refusal.TheVariants.{BadIdl, NoOperation, NotBuilt, BadOctets, BadText, BadValue}
 
@@ -116,6 +116,7 @@ CanBeDone x (Read how of order) =
 CanBeDone x (Encode of order chunk) =
     (w : Setting) × (text : List ℕ) × (g : Graph) × IsAccepted x.files of w × IsInput x.input TEXT_LIMIT text × ReadsAs w text g × Conforms w g
 CanBeDone x (Compile idl acf) = (text : List ℕ) × (i : Interface) × IsHeld x.files idl text × Means x.files.held idl text acf i
+CanBeDone x (Plan idl acf) = (text : List ℕ) × (i : Interface) × IsHeld x.files idl text × Means x.files.held idl text acf i
 CanBeDone x Help = ⊤
 CanBeDone x Version = ⊤
 
@@ -145,6 +146,7 @@ MustBeRefused x (Encode of order chunk) (BadValue path why) =
     (w : Setting) × (text : List ℕ) × (g : Graph) × IsAccepted x.files of w × IsInput x.input TEXT_LIMIT text × ReadsAs w text g × IsMisfitAt w g path why
 MustBeRefused x (Encode of order chunk) r = MustBeUnready x.files of r
 MustBeRefused x (Compile idl acf) r = MustBeNoIdl x.files idl acf r
+MustBeRefused x (Plan idl acf) r = MustBeNoIdl x.files idl acf r
 MustBeRefused x Help r = ⊥
 MustBeRefused x Version r = ⊥
 

@@ -32,6 +32,8 @@ pub data Command : Type 0 where
   Encode : (of : Subject) (order : OrderWord) (chunk : ℕ) → Command
   -- the listing of an interface
   Compile : (idl : List ℕ) (acf : Option (List ℕ)) → Command
+  -- the listing of its plan
+  Plan : (idl : List ℕ) (acf : Option (List ℕ)) → Command
   Help : Command
   Version : Command
 
@@ -42,6 +44,7 @@ abbrev pub asks_files : Command → Option FileNames
 asks_files (Read how of order) = Some (record { idl = of.idl; acf = of.acf })
 asks_files (Encode of order chunk) = Some (record { idl = of.idl; acf = of.acf })
 asks_files (Compile idl acf) = Some (record { idl = idl; acf = acf })
+asks_files (Plan idl acf) = Some (record { idl = idl; acf = acf })
 asks_files Help = None
 asks_files Version = None
 
@@ -56,6 +59,7 @@ abbrev pub idl_of : Command → List ℕ
 idl_of (Read how of order) = of.idl
 idl_of (Encode of order chunk) = of.idl
 idl_of (Compile idl acf) = idl
+idl_of (Plan idl acf) = idl
 idl_of _ = []
 
 abbrev pub op_of : Command → List ℕ
@@ -110,13 +114,15 @@ abbrev pub encode : List ℕ → List ℕ → List ℕ → Option Side → Optio
 encode idl acf op (Some side) (Some order) (Some chunk) = Some (Encode (subject idl acf op side) order chunk)
 encode idl acf op _ _ _ = None
 
--- The command that words are, if they are one: `compile IDL ACF`, `decode IDL ACF OP SIDE ORDER`, `encode IDL ACF OP SIDE ORDER CHUNK`, `--help`
+-- The command that words are, if they are one: `compile IDL ACF`, `plan IDL ACF`, `decode IDL ACF OP SIDE ORDER`, `encode IDL ACF OP SIDE ORDER CHUNK`, `--help`
 -- or `--version`.
 abbrev pub command : List (List ℕ) → Option Command
 command (word ∷ []) =
     if is_word word (codes "--help") then Some Help
     else if is_word word (codes "--version") then Some Version else None
-command (verb ∷ idl ∷ acf ∷ []) = if is_word verb (codes "compile") then Some (Compile idl (acf_of acf)) else None
+command (verb ∷ idl ∷ acf ∷ []) =
+    if is_word verb (codes "compile") then Some (Compile idl (acf_of acf))
+    else if is_word verb (codes "plan") then Some (Plan idl (acf_of acf)) else None
 command (verb ∷ idl ∷ acf ∷ op ∷ side ∷ order ∷ []) =
     if is_word verb (codes "decode") then decode idl acf op (side_of side) (order_of order) else None
 command (verb ∷ idl ∷ acf ∷ op ∷ side ∷ order ∷ chunk ∷ []) =

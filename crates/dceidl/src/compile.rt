@@ -14,7 +14,7 @@ ghost use Rattle.dceidl.specs.AcfFile.{tree_beside};
 ghost use Rattle.dceidl.specs.Asked.{AsksFiles};
 ghost use Rattle.dceidl.specs.Idl.{main_file, AreResolved, Means, IsMainFault, IsNameFault};
 ghost use Rattle.dceidl.specs.Loaded.{seen_beside};
-ghost use Rattle.dceidl.specs.Ready.{IsCompiled, IsListed, IsIdlCause, IsTextCause};
+ghost use Rattle.dceidl.specs.Ready.{IsCompiled, IsListed, IsPlanned, IsIdlCause, IsTextCause};
 ghost use Rattle.dceidl.specs.Reading.{IsReportedUnparsed, IsJudged, MeansAfter, AsksAfter, AsksOfImports};
 
 use crate::acf::{NamedAcf, load_beside};
@@ -30,6 +30,7 @@ use idl_names::{NameFault, Scope, Sources, SyntaxFault, resolve};
 use idl_parser::parse;
 use nd_base::{Files, Memory, Octets};
 use nd_types::Interface;
+use ndr_plan::{listing, make};
 use std::alloc::Global;
 
 // Loads and reads the files, and lists the interface that they mean.
@@ -45,6 +46,22 @@ pub(crate) fn list<F: Files>(
 {
     let interface = compile(alloc, idl, acf, files)?;
     Ok(interface_listing(alloc, &interface)?)
+}
+
+// Loads and reads the files, and lists the plan of the interface that they mean.
+pub(crate) fn list_plan<F: Files>(
+    alloc: Global,
+    idl: &str,
+    acf: Option<&str>,
+    files: &mut F,
+) -> Result<Octets, Refusal>
+    ensures asked { AsksFiles (files_seen F.held F.absences F.faults F.asked files.old files.new) (Some (record { idl = idl.now; acf = option_map (λ a. a.now) acf.entry })) }
+    ensures planned { IfOk result (IsPlanned (files_seen F.held F.absences F.faults F.asked files.old files.new) idl.now (option_map (λ a. a.now) acf.entry)) }
+    ensures refused { IfErr result (IsIdlCause (files_seen F.held F.absences F.faults F.asked files.old files.new) idl.now (option_map (λ a. a.now) acf.entry)) }
+{
+    let interface = compile(alloc, idl, acf, files)?;
+    let plan = make(alloc, &interface)?;
+    Ok(listing(alloc, &plan)?)
 }
 
 // The interface that the file of a name means with those that it imports, and an attribute configuration file if one is named.

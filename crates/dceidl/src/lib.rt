@@ -30,6 +30,7 @@ pub const CHUNK_LIMIT: u32 = 16_777_216;
 /// What `--help` prints.
 pub const HELP: &str = "\
 usage: dceidl compile IDL ACF
+       dceidl plan IDL ACF
        dceidl decode IDL ACF OP SIDE ORDER
        dceidl encode IDL ACF OP SIDE ORDER CHUNK
        dceidl --help
@@ -38,6 +39,8 @@ usage: dceidl compile IDL ACF
 compile checks a file of IDL, the files that it imports and its attribute configuration file
         (ACF) if one is named (C706, chapter 4), and writes the listing of its interface to
         standard output.
+plan    checks the same files, and writes the listing of the interface's plan to standard output:
+        the instructions by which its octets are read and written.
 decode  reads the octets of a request (SIDE `in`) or a response (SIDE `out`) from standard
         input, in NDR (C706, chapter 14), and writes their values to standard output as text.
 encode  reads such a text from standard input, and writes the octets of its values to

@@ -12,7 +12,7 @@ ghost use Rattle.dceidl.specs.Input.{IsRead, IsReadCause, IsEncoded, IsEncodeCau
 ghost use Rattle.dceidl.specs.Seen.{seen_over};
 ghost use Rattle.dceidl.specs.Words.{Read, Encode as EncodeCommand, order_in};
 
-use crate::compile::list;
+use crate::compile::{list, list_plan};
 use crate::decode::decode;
 use crate::encode::encode;
 use crate::input::read_input;
@@ -48,6 +48,7 @@ pub(crate) fn perform<F: Files, S: Source>(
             alloc, of, order, chunk, files, input,
         ),
         Command::Compile { idl, acf } => list(alloc, idl, acf, files),
+        Command::Plan { idl, acf } => list_plan(alloc, idl, acf, files),
         Command::Help => Ok(Octets::copy(alloc, HELP.as_bytes())?),
         Command::Version => Ok(Octets::copy(alloc, VERSION.as_bytes())?),
     }

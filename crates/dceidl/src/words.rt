@@ -55,7 +55,7 @@ impl Words {
     {
         match self.items.as_slice() {
             [word] => short_command(word.as_str()),
-            [verb, idl, acf] => compile_command(verb.as_str(), idl.as_str(), acf.as_str()),
+            [verb, idl, acf] => listing_command(verb.as_str(), idl.as_str(), acf.as_str()),
             [verb, idl, acf, op, side, order] => {
                 if verb.as_str() == "decode" {
                     decode_command(
@@ -137,6 +137,10 @@ pub(crate) enum Command<'a> {
         idl: &'a str,
         acf: Option<&'a str>,
     },
+    Plan {
+        idl: &'a str,
+        acf: Option<&'a str>,
+    },
     Help,
     Version,
 }
@@ -154,12 +158,17 @@ fn short_command(word: &str) -> Option<Command<'_>>
     }
 }
 
-fn compile_command<'a>(verb: &str, idl: &'a str, acf: &'a str) -> Option<Command<'a>>
+fn listing_command<'a>(verb: &str, idl: &'a str, acf: &'a str) -> Option<Command<'a>>
     ensures command { option_map command_of result ≡ command (verb.now ∷ idl.now ∷ acf.now ∷ []) }
     ensures chunk { IfSome result HasChunk }
 {
     if verb == "compile" {
         Some(Command::Compile {
+            idl,
+            acf: acf_named(acf),
+        })
+    } else if verb == "plan" {
+        Some(Command::Plan {
             idl,
             acf: acf_named(acf),
         })

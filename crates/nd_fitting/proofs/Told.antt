@@ -33,6 +33,10 @@ module _ (w : Setting) (g : Graph) where
   told_disagreeing answer.Memory a b r h = tt
   told_disagreeing (answer.At k n s) a b r h = is_disagreeing _ a b r h
 
+  -- of want of memory nothing is said
+  pub told_memory : (e : Misfit) → e ≡ answer.Memory → IsMisfit w g e
+  told_memory e is = subst (IsMisfit w g) (sym is) tt
+
   -- and the graph does not conform
   pub told_no_fit : (e : Misfit) → IsMisfit w g e → IsOfNoFit w g e
   told_no_fit answer.Memory h = tt

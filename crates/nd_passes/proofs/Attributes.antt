@@ -1,14 +1,13 @@
 -- How the attributes of one field are compared, one after the other.
-use Rattle.std.proofs.Common.{◌≡◌, ℕ, ◌+◌, ◌<◌, ◌≤◌, zero, suc, ℤ, Bool, true, false, cond, List, [], ◌∷◌, ◌++◌, length, drop, get_or, Option, Some, None, refl, ap, sym, ◌∙◌, arith, subst}
-use Rattle.std.specs.Prelude.{pos, ◌&&◌, int_le}
-use Rattle.std.specs.List.{slice_get, list_all}
+use Rattle.std.proofs.Common.{◌≡◌, ℕ, ◌+◌, ◌≤◌, zero, suc, Bool, true, false, cond, List, [], ◌∷◌, ◌++◌, length, drop, get_or, Some, None, refl, ap}
+use Rattle.std.specs.List.{slice_get}
 use Rattle.std.specs.Ordering.{int_eq}
 use Rattle.std.proofs.lemmas.Bool.{and_parts}
 use Rattle.std.proofs.lemmas.Option.{same_Some}
 use Rattle.nd_types.specs.declared.types.AttrVar.{AttrVar}
 use Rattle.nd_value.specs.declared.misfit.MisfitReason.{MisfitReason}
 use Rattle.nd_value.specs.declared.misfit.MisfitReason.TheVariants as misfit
-use Rattle.nd_value.specs.Tree.{Tree, Trees, node, none, more, trees}
+use Rattle.nd_value.specs.Tree.{Tree, Trees, trees}
 use Rattle.nd_value.specs.Agreement.{Agreement, agreement, member_agreements, number_of, number_in, found_in}
 use Rattle.nd_value.specs.FirstMisfit.{disagreement, disagreement_of}
 use Rattle.nd_value.proofs.LocalPass.{drop-get, drop-past}

@@ -4,7 +4,7 @@ use Rattle.std.specs.List.{AllByRecursion}
 use Rattle.std.proofs.lemmas.List.{map-append, drop_more}
 use Rattle.nd_types.specs.Table.{Table, type_at}
 use Rattle.nd_types.specs.Roots.{Root}
-use Rattle.nd_types.specs.Walk.{NamedRoot, named_root}
+use Rattle.nd_types.specs.Walk.{named_root}
 use Rattle.nd_value.specs.declared.value.Graph.{Graph}
 use Rattle.nd_value.specs.declared.item.Home.{Home}
 use Rattle.nd_value.specs.declared.item.Home.TheVariants as home
@@ -18,32 +18,14 @@ use Rattle.nd_value.specs.Nodes.{TypedNode, child_types, child_agreements, first
 use Rattle.nd_value.specs.Variables.{root_agreements}
 use Rattle.nd_value.specs.Homes.{HomeNode, in_home, root_nodes, cell_nodes}
 use Rattle.nd_value.specs.Conforms.{subject}
-use Rattle.nd_value.specs.FirstMisfit.{MisfitAt, or_later, at_node, first_node, disagreement_of, first_disagreeing}
+use Rattle.nd_value.specs.FirstMisfit.{or_later, first_node, disagreement_of, first_disagreeing}
 use Rattle.nd_value.specs.Passes.{or_next, at_number, at_home}
-use Rattle.nd_value.proofs.LocalPass.{drop-past}
+use Rattle.nd_value.proofs.LocalPass.{drop-past, or_later-assoc, at_home-or, at_home-number, first-append}
 use Rattle.nd_passes.specs.declared.homes.HomeValue.{HomeValue}
 use Rattle.nd_passes.specs.HomeList.{HomeTree, home_tree, root_homes, cell_homes, homes_of}
 use Rattle.nd_passes.specs.Disagreeing.{subject_of, disagreeing_in, home_vars, own_disagreement, disagreeing_home, disagreeing_homes}
 use Rattle.nd_passes.proofs.AgreementWalk.{one_more, or_next-none}
 use Rattle.nd_passes.proofs.Numbered.{IsOfParam, roots_own}
-
-or_later-assoc : (a b c : Option MisfitAt) → or_later (or_later a b) c ≡ or_later a (or_later b c)
-or_later-assoc None b c = refl
-or_later-assoc (Some m) b c = refl
-
-at_home-or : (h : Home) (a b : Option NodeMisfit) → at_home h (or_next a b) ≡ or_later (at_home h a) (at_home h b)
-at_home-or h None b = refl
-at_home-or h (Some m) b = refl
-
-at_home-number : (h : Home) (x : TypedNode) (o : Option MisfitReason) → at_node (in_home h x) o ≡ at_home h (at_number x.node o)
-at_home-number h x None = refl
-at_home-number h x (Some r) = refl
-
-first-append : (test : TypedNode → Option MisfitReason) (xs ys : List HomeNode) → first_node test (xs ++ ys) ≡ or_later (first_node test xs) (first_node test ys)
-first-append test [] ys = refl
-first-append test (x ∷ xs) ys =
-    ap (or_later (at_node x (test x.typed))) (first-append test xs ys)
-    ∙ sym (or_later-assoc (at_node x (test x.typed)) (first_node test xs) (first_node test ys))
 
 subject_same : (g : Graph) (n t : ℕ) (a : List Agreement) (l : Label) (ks : Trees)
     → subject g (record { node = n; of = t; agreements = a; label = l; kids = ks }) ≡ subject_of g l ks

@@ -1,5 +1,5 @@
 -- The roots of a graph as variables, and that their numbers are small.
-use Rattle.std.proofs.Common.{◌≡◌, ℕ, ◌+◌, ◌<◌, zero, suc, Bool, true, false, ◌&&◌, List, [], ◌∷◌, ◌++◌, length, get_or, Option, Some, None, refl, ap, sym, ◌∙◌, arith, subst, map}
+use Rattle.std.proofs.Common.{◌≡◌, ℕ, ◌+◌, ◌<◌, zero, suc, Bool, true, false, List, [], ◌∷◌, ◌++◌, length, get_or, Some, None, refl, ap, sym, ◌∙◌, arith, subst, map}
 use Rattle.std.specs.List.{slice_get, list_all, AllByRecursion}
 use Rattle.std.proofs.lemmas.Bool.{and_parts}
 use Rattle.std.specs.Cmp.Derive.{both_true}
@@ -11,7 +11,7 @@ use Rattle.nd_value.specs.declared.item.Home.TheVariants as home
 use Rattle.nd_value.specs.Tree as tree
 use Rattle.nd_value.specs.Tree.{Tree, Trees, node, none, more, Referent}
 use Rattle.nd_value.specs.Agreement.{number_of}
-use Rattle.nd_value.specs.Setting.{Setting, root_list, cell_of_number, cell_tree, cell_at}
+use Rattle.nd_value.specs.Setting.{Setting, root_list, cell_tree, cell_at}
 use Rattle.nd_value.specs.Conforms.{HasFewNodes}
 use Rattle.nd_value.specs.Variables.{starred}
 use Rattle.nd_value.specs.FirstMisfit.{first_local, first_disagreeing}
@@ -125,7 +125,7 @@ module _ (w : Setting) (g : Graph) (legal : list_all has_small_values w.table �
 
   module _ (own given : List RootNumber) (numbers : List ParamNumber) (owns : own ≡ map (λ (h : HomeValue). home_number g (home_tree h)) homes)
       (many : length numbers ≡ length w.op.params)
-      (placed : (j : ℕ) → j < length w.op.params → get_or numbers j no_number ≡ number_among own j (number_among given j no_number)) where
+      (placed : (j : ℕ) → j < length numbers → get_or numbers j no_number ≡ number_among own j (number_among given j no_number)) where
     own_homes : own ≡ map (home_number g) (homes_of roots g)
     own_homes = owns ∙ mapped g homes ∙ ap (map (home_number g)) all
 
@@ -145,7 +145,7 @@ module _ (w : Setting) (g : Graph) (legal : list_all has_small_values w.table �
     numbers_small h =
         by_place numbers
         (λ j l.
-        subst (λ n. is_small_number n ≡ true) (sym (placed j (omega (arith, l, many))))
+        subst (λ n. is_small_number n ≡ true) (sym (placed j l))
         (among_small own j (number_among given j no_number) own_small (among_small given j no_number h refl)))
 
     -- and they are the values of variables
@@ -153,5 +153,5 @@ module _ (w : Setting) (g : Graph) (legal : list_all has_small_values w.table �
     numbers_known e =
         are_numbers w g numbers many
         (λ j l.
-        placed j l ∙ own_among j (number_among given j no_number)
+        placed j (omega (arith, l, many)) ∙ own_among j (number_among given j no_number)
         ∙ ap (λ ns. number_among (numbers_of g roots g.roots) j (number_among ns j no_number)) e)

@@ -1,5 +1,5 @@
 -- How the list of the homes of a graph is made.
-use Rattle.std.proofs.Common.{◌≡◌, ℕ, ◌+◌, ◌<◌, ◌≤◌, zero, suc, get_or, subst, List, [], ◌∷◌, ◌++◌, length, drop, Option, Some, None, refl, ap, ap₂, sym, ◌∙◌, map, append_assoc}
+use Rattle.std.proofs.Common.{◌≡◌, ℕ, ◌+◌, ◌<◌, ◌≤◌, zero, suc, get_or, subst, List, [], ◌∷◌, ◌++◌, length, drop, Some, None, ap, ap₂, sym, ◌∙◌, map, append_assoc}
 use Rattle.std.specs.List.{slice_get, AllByRecursion}
 use Rattle.std.specs.Option.{option_map}
 use Rattle.std.proofs.lemmas.List.{map-append, drop_more}

@@ -19,7 +19,7 @@ use Rattle.nd_value.specs.declared.misfit.MisfitReason.TheVariants as misfit
 use Rattle.nd_value.specs.Tree as tree
 use Rattle.nd_value.specs.Tree.{Tree, Trees, none, more, trees, count}
 use Rattle.nd_value.specs.Misfit.{has_counts, is_within, unless, misfit_by, is_octet}
-use Rattle.nd_value.proofs.LocalPass.{drop-get, drop-past}
+use Rattle.nd_value.proofs.LocalPass.{drop-get}
 
 pub count_trees : (ts : List Tree) → count (trees ts) ≡ length ts
 count_trees [] = refl

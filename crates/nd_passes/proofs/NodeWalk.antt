@@ -1,13 +1,11 @@
 -- How a search goes through the nodes of values.
-use Rattle.std.proofs.Common.{◌≡◌, ℕ, ◌+◌, ◌*◌, ◌^◌, ◌<◌, ◌≤◌, zero, suc, Bool, true, false, ◌&&◌, List, [], ◌∷◌, ◌++◌, length, drop, Option, Some, None, Ok, Err, refl, ap, ap₂, sym, ◌∙◌, arith, subst, map, replicate}
+use Rattle.std.proofs.Common.{◌≡◌, ℕ, ◌+◌, ◌^◌, ◌<◌, ◌≤◌, zero, suc, true, ◌&&◌, List, [], ◌∷◌, length, drop, Option, Some, None, Ok, Err, refl, ap, ap₂, sym, ◌∙◌, arith, subst, map, replicate}
 use Rattle.std.specs.Prelude.{Result}
-use Rattle.std.specs.List.{slice_get, AllByRecursion}
+use Rattle.std.specs.List.{slice_get}
 use Rattle.std.specs.Option.{option_map}
 use Rattle.std.proofs.lemmas.Bool.{and_parts}
 use Rattle.std.proofs.lemmas.Option.{same_Some, slice_get-map}
-use Rattle.nd_types.specs.declared.types.Arm.{Arm}
 use Rattle.nd_types.specs.declared.types.Field.{Field}
-use Rattle.nd_types.specs.declared.types.TypeId.{TypeId}
 use Rattle.nd_types.specs.declared.types.TypeDef.{TypeDef}
 use Rattle.nd_types.specs.declared.types.TypeDef.TheVariants as def
 use Rattle.nd_types.specs.Table.{Table, type_at}
@@ -17,7 +15,7 @@ use Rattle.nd_value.specs.declared.misfit.NodeMisfit.{NodeMisfit}
 use Rattle.nd_value.specs.Tree as tree
 use Rattle.nd_value.specs.Tree.{Tree, Trees, Label, node, none, more, trees, node_count, weight}
 use Rattle.nd_value.specs.Nodes.{child_types}
-use Rattle.nd_value.specs.Misfit.{misfit_by, has_shape, has_arm, has_machine_values}
+use Rattle.nd_value.specs.Misfit.{misfit_by, has_shape, has_machine_values}
 use Rattle.nd_value.specs.Conforms.{FewNodes}
 use Rattle.nd_passes.specs.Searched.{Searched, have_machine_values}
 use Rattle.nd_value.specs.Passes.{or_next, at_number, first_in}

@@ -1,5 +1,5 @@
 -- A value of a type is one that the octets of the type can hold, where enumerators are small.
-use Rattle.std.proofs.Common.{◌≡◌, ℕ, ℤ, Bool, true, false, ◌&&◌, List, [], ◌∷◌, Option, Some, None, refl, sym, inl, inr, ◌⊎◌, subst}
+use Rattle.std.proofs.Common.{◌≡◌, ℕ, ℤ, true, ◌&&◌, List, [], ◌∷◌, Option, Some, None, refl, sym, inl, inr, ◌⊎◌, subst}
 use Rattle.std.specs.Prelude.{pos, negsuc, int_le}
 use Rattle.std.specs.Ordering.{int_eq}
 use Rattle.std.specs.List.{list_all, list_any}

@@ -1,7 +1,7 @@
 -- The second pass, as it goes over the pointers, finds the first that shares its cell wrongly.
 use Rattle.std.proofs.Common.{◌≡◌, ℕ, ◌+◌, ◌<◌, zero, suc, Bool, true, false, not, ◌&&◌, eqb, List, [], ◌∷◌, ◌++◌, length, Option, Some, None, refl, ap, ap₂, sym, ◌∙◌, arith, subst, map, append_assoc, cond, set, replicate}
 use Rattle.std.specs.Prelude.{◌||◌, flat_map}
-use Rattle.std.specs.List.{slice_get, list_any, AllByRecursion}
+use Rattle.std.specs.List.{list_any, AllByRecursion}
 use Rattle.std.proofs.lemmas.Bool.{eqb-true, eq-eqb, ne_eqb, eqb-false}
 use Rattle.std.proofs.lemmas.List.{append-nil, length-set, length-replicate}
 use Rattle.nd_types.specs.declared.types.TypeDef.{TypeDef}
@@ -11,7 +11,7 @@ use Rattle.nd_types.specs.declared.types.Class.TheVariants.{Ref, Unique, Full}
 use Rattle.nd_types.specs.declared.types.Operation.{Operation}
 use Rattle.nd_types.specs.Table.{Table, type_at}
 use Rattle.nd_types.specs.Roots.{Root}
-use Rattle.nd_types.specs.Walk.{NamedRoot, named_root}
+use Rattle.nd_types.specs.Walk.{named_root}
 use Rattle.nd_value.specs.declared.value.Graph.{Graph}
 use Rattle.nd_value.specs.declared.item.Home.{Home}
 use Rattle.nd_value.specs.declared.item.Home.TheVariants as home
@@ -31,7 +31,7 @@ use Rattle.nd_value.specs.Homes.{root_pointers, cell_pointers, all_pointers}
 use Rattle.nd_value.specs.FirstMisfit.{MisfitAt, is_full, same_cell, clashes, first_shared}
 use Rattle.nd_value.specs.Passes.{Tells}
 use Rattle.nd_passes.specs.HomeList.{HomeTree, root_homes, cell_homes, homes_of}
-use Rattle.nd_passes.specs.Pointers.{named_by, named_here, pointers_in, pointers_of_home, pointers_of_homes, NamesBelow, IsWalkable, naming_by, is_clash, naming_or, naming_of, first_clash}
+use Rattle.nd_passes.specs.Pointers.{named_by, named_here, pointers_in, pointers_of_home, pointers_of_homes, NamesBelow, IsWalkable, naming_by, is_clash, naming_of, first_clash}
 use Rattle.nd_value.proofs.Misfits.{all_right, all_both}
 
 pub flat-append : {X Y : Type 0} (f : X → List Y) (xs ys : List X) → flat_map f (xs ++ ys) ≡ flat_map f xs ++ flat_map f ys

@@ -1,5 +1,5 @@
 -- The numbers of values that have the form of their types are small.
-use Rattle.std.proofs.Common.{◌≡◌, ℕ, ◌+◌, ◌^◌, ◌≤◌, zero, suc, ℤ, Bool, true, false, ◌&&◌, List, [], ◌∷◌, Option, Some, None, refl, arith}
+use Rattle.std.proofs.Common.{◌≡◌, ℕ, ◌^◌, ◌≤◌, zero, suc, ℤ, true, List, [], ◌∷◌, Option, Some, None, refl, arith}
 use Rattle.std.specs.Prelude.{pos, negsuc, int_le, leb}
 use Rattle.std.proofs.lemmas.Bool.{and_parts, leb-true, le-leb}
 use Rattle.nd_types.specs.declared.types.TypeDef.{TypeDef}
@@ -9,7 +9,7 @@ use Rattle.nd_types.specs.declared.types.Primitive.TheVariants.{Boolean, Char, B
 use Rattle.nd_types.specs.Table.{Table, type_at, fits_octets, in_range, least, greatest}
 use Rattle.nd_value.specs.Tree as tree
 use Rattle.nd_value.specs.Tree.{Tree, Trees, Label, node, none, more, trees}
-use Rattle.nd_value.specs.Agreement.{number_of, number_in}
+use Rattle.nd_value.specs.Agreement.{number_of}
 use Rattle.nd_value.specs.Misfit.{has_range}
 use Rattle.nd_passes.specs.Disagreeing.{is_small, is_small_or_none, AreSmall}
 use Rattle.nd_passes.specs.Pointers.{are_formed}

@@ -1,9 +1,8 @@
 -- Where the first pass finds no misfit, the later passes can go over each home.
-use Rattle.std.proofs.Common.{◌≡◌, ℕ, ◌+◌, ◌^◌, ◌<◌, ◌≤◌, zero, suc, Bool, true, false, not, ◌&&◌, List, [], ◌∷◌, ◌++◌, length, Option, Some, None, refl, ap, ap₂, sym, ◌∙◌, arith, subst, map}
+use Rattle.std.proofs.Common.{◌≡◌, ℕ, ◌+◌, ◌^◌, ◌<◌, ◌≤◌, zero, suc, true, not, List, [], ◌∷◌, ◌++◌, length, Option, Some, None, refl, sym, ◌∙◌, arith, map}
 use Rattle.std.specs.Prelude.{eqb, leb}
-use Rattle.std.specs.List.{slice_get, list_all, AllByRecursion}
+use Rattle.std.specs.List.{list_all, AllByRecursion}
 use Rattle.std.proofs.lemmas.Bool.{and_parts, leb-true}
-use Rattle.std.proofs.lemmas.List.{append-nil}
 use Rattle.nd_types.specs.declared.types.TypeDef.{TypeDef}
 use Rattle.nd_types.specs.declared.types.TypeDef.TheVariants as def
 use Rattle.nd_types.specs.Legal.{has_small_values}
@@ -14,17 +13,16 @@ use Rattle.nd_value.specs.declared.item.Home.{Home}
 use Rattle.nd_value.specs.declared.item.Home.TheVariants as home
 use Rattle.nd_value.specs.declared.misfit.MisfitReason.{MisfitReason}
 use Rattle.nd_value.specs.declared.misfit.NodeMisfit.{NodeMisfit}
-use Rattle.nd_passes.specs.declared.pointers.CellPointer.{CellPointer}
 use Rattle.nd_value.specs.Tree as tree
 use Rattle.nd_value.specs.Tree.{Tree, Trees, Label, node, none, more, count, node_count, Referent}
 use Rattle.nd_value.specs.Setting.{Setting, root_list, cell_home}
 use Rattle.nd_value.specs.Nodes.{child_types}
 use Rattle.nd_value.specs.Misfit.{misfit_by, names_cell}
 use Rattle.nd_value.specs.Conforms.{FewNodes, HasFewNodes}
-use Rattle.nd_value.specs.FirstMisfit.{MisfitAt, or_later, first_local}
+use Rattle.nd_value.specs.FirstMisfit.{first_local}
 use Rattle.nd_value.specs.Passes.{or_next, at_number, first_in, at_home, first_in_home, first_in_roots, first_in_cells}
-use Rattle.nd_passes.specs.HomeList.{HomeTree, root_homes, cell_homes, homes_of}
-use Rattle.nd_passes.specs.Pointers.{are_formed, named_by, named_here, pointers_in, pointers_of_home, NamesBelow, IsWalkable}
+use Rattle.nd_passes.specs.HomeList.{root_homes, cell_homes, homes_of}
+use Rattle.nd_passes.specs.Pointers.{are_formed, named_here, pointers_in, NamesBelow, IsWalkable}
 use Rattle.nd_value.proofs.LocalPass.{local_first}
 use Rattle.nd_value.proofs.Misfits.{all_left, all_right, all_both, neither}
 use Rattle.nd_value.proofs.NodeFacts.{IsFit, fit_node, fit_children}

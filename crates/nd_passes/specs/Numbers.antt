@@ -1,7 +1,7 @@
 -- The numbers of parameters, which their attributes' variables name.
 -- `v` is a variable, `r` a root or a root as a variable, `j` a parameter's place, `a` an attribute with its variable, `w` a setting, `g` a
 -- graph, `q` the graph of a request, `t` a value.
-use Rattle.std.specs.Prelude.{◌≡◌, ℕ, ◌<◌, ℤ, Bool, true, false, ◌&&◌, eqb, List, [], ◌∷◌, ◌++◌, length, get_or, Option, Some, None}
+use Rattle.std.specs.Prelude.{◌≡◌, ℕ, ℤ, Bool, true, false, ◌&&◌, eqb, List, [], ◌∷◌, ◌++◌, get_or, Option, Some, None}
 use Rattle.std.specs.List.{list_all}
 use Rattle.nd_types.specs.declared.types.AttrVar.{AttrVar}
 use Rattle.nd_types.specs.declared.types.Operation.{Operation}

@@ -15,12 +15,7 @@ use nd_types::{Attr, AttrVar, AttrVars};
 use nd_value::{CellId, Graph, MisfitReason, Val, Vals};
 
 // The first attribute of a member that does not hold, the members of its struct being these.
-pub(crate) fn member(
-    graph: &Graph,
-    vals: &Vals,
-    vars: &AttrVars,
-    val: &Val,
-) -> Option<MisfitReason>
+pub(crate) fn member(graph: &Graph, vals: &Vals, vars: &AttrVars, val: &Val) -> Option<MisfitReason>
     requires small { AreSmall vals.now }
     ensures { result ≡ disagreement_of (subject_in graph.now (tree_of val.now)) (member_agreements (trees vals.now) vars.now) }
 {
@@ -86,12 +81,7 @@ fn number_in(vals: &Vals, at: u32) -> Option<i128>
 }
 
 // Whether an attribute fails whose variable is this number: one without a number fixes nothing.
-fn attribute(
-    graph: &Graph,
-    attr: Attr,
-    number: Option<i128>,
-    val: &Val,
-) -> Option<MisfitReason>
+fn attribute(graph: &Graph, attr: Attr, number: Option<i128>, val: &Val) -> Option<MisfitReason>
     requires small { is_small_or_none number ≡ true }
     ensures { result ≡ disagreement_of (subject_in graph.now (tree_of val.now)) (agreement attr number) }
 {
@@ -103,12 +93,7 @@ fn attribute(
 }
 
 // The same of a pointer's referent: a null pointer has none.
-fn referent(
-    graph: &Graph,
-    attr: Attr,
-    wanted: i128,
-    cell: Option<CellId>,
-) -> Option<MisfitReason>
+fn referent(graph: &Graph, attr: Attr, wanted: i128, cell: Option<CellId>) -> Option<MisfitReason>
     ensures { result ≡ disagreement_of (subject_of graph.now (tree.Ptr (cell_number cell)) tree.none) (record { attr = attr; wanted = wanted } ∷ []) }
 {
     match cell {

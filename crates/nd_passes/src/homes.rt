@@ -4,9 +4,9 @@ ghost use Rattle.nd_types.specs.declared.types.Operation.{Operation};
 ghost use Rattle.nd_types.specs.Walk.{named_roots};
 ghost use Rattle.nd_passes.specs.HomeList.{home_tree, root_homes, homes_of};
 
-use nd_value::{CellId, Graph, Home, Val};
 use nd_base::Memory;
 use nd_types::{Interface, Side, TypeId};
+use nd_value::{CellId, Graph, Home, Val};
 use std::alloc::Global;
 
 // A home with its type, the parameter that it is, if it is one, and its value.

@@ -12,8 +12,8 @@ ghost use Rattle.nd_value.specs.Passes.{Tells, first_in_home, first_in_roots, fi
 ghost use Rattle.nd_passes.specs.Searched.{have_machine_values, HasMachineValues};
 
 use crate::nodes::value;
-use nd_value::{CellId, Graph, Home, Misfit, MisfitReason, NodeMisfit, Val};
 use nd_types::{Interface, Side, TypeId, Types};
+use nd_value::{CellId, Graph, Home, Misfit, MisfitReason, NodeMisfit, Val};
 
 // The first node that has a misfit by itself. A root that is missing or too many comes behind the roots that are there.
 pub fn local_misfit(interface: &Interface, op: u32, side: Side, graph: &Graph) -> Result<(), Misfit>

@@ -7,16 +7,17 @@ ghost use Rattle.nd_types.specs.declared.types.Arm.{Arm as ArmValue};
 ghost use Rattle.nd_types.specs.declared.types.Class.{Class as ClassValue};
 ghost use Rattle.nd_types.specs.declared.types.TypeId.{TypeId as TypeIdValue};
 ghost use Rattle.nd_types.specs.declared.types.TypeDef.TheVariants as def;
-ghost use Rattle.nd_types.specs.Table.{Table, type_at, in_range, is_value, selected, selected as selected_arm, least, greatest};
+ghost use Rattle.nd_types.specs.Table.{Table, type_at, is_value, selected, selected as selected_arm};
 ghost use Rattle.nd_value.specs.declared.value.Graph.{Graph as GraphValue};
 ghost use Rattle.nd_value.specs.Tree as tree;
 ghost use Rattle.nd_value.specs.Tree.{Trees, node, none, trees, count};
 ghost use Rattle.nd_value.specs.Seen.{tree_of, cell_number};
-ghost use Rattle.nd_value.specs.Misfit.{is_bound, arm_fits, has_counts, is_within, is_octet, has_machine_values};
+ghost use Rattle.nd_value.specs.Misfit.{is_bound, arm_fits, has_counts, is_within, is_octet, is_count, has_machine_values};
 ghost use Rattle.nd_passes.specs.Searched.{misfit_in, label_in};
 
-use nd_value::{ArmVal, CellId, Graph, MisfitReason, Val};
 use nd_types::{Arm, Arms, Class, Fields, Numbers, Prim, TypeDef, TypeId, Types};
+use nd_value::{ArmVal, CellId, Graph, MisfitReason, Val};
+use ndr_prim::is_in_range;
 
 // The counts and octets of a node are within the widths of their types, which a clause cannot say of a value: this reads them, and is
 // compiled away.
@@ -26,21 +27,35 @@ pub(crate) fn within_widths(val: &Val)
 {
     match val {
         Val::Arr { max, offset, .. } => {
-            let _ = *max;
-            let _ = *offset;
+            count_within(*max);
+            count_within(*offset);
         }
         Val::Text { max, octets } => {
-            let _ = *max;
+            count_within(*max);
             octets_within(octets.as_slice());
         }
-        Val::Ptr(Some(cell)) => {
-            let _ = cell.0;
-        }
+        Val::Ptr(cell) => cell_within(*cell),
         Val::Context { attributes, id } => {
-            let _ = *attributes;
-            octets_within(id.as_bytes());
+            count_within(*attributes);
+            identifier_within(id.as_bytes());
         }
-        Val::Num(_) | Val::Rec(_) | Val::Union { .. } | Val::Ptr(None) | Val::Pipe(_) => {}
+        Val::Num(_) | Val::Rec(_) | Val::Union { .. } | Val::Pipe(_) => {}
+    }
+}
+
+// The same of a count.
+#[inline]
+fn count_within(_count: u32)
+    ensures { is_count _count ≡ true }
+{}
+
+// The same of a cell's number.
+#[inline]
+fn cell_within(cell: Option<CellId>)
+    ensures { has_machine_values (tree.Ptr (cell_number cell)) ≡ true }
+{
+    if let Some(cell) = cell {
+        count_within(cell.0);
     }
 }
 
@@ -49,6 +64,15 @@ pub(crate) fn within_widths(val: &Val)
 fn octets_within(octets: &[u8])
     ensures { list_all is_octet octets.now ≡ true }
 {}
+
+// The same of an identifier, which has 16 of them.
+#[inline]
+fn identifier_within(octets: &[u8; 16])
+    ensures length { eqb (length octets.now) 16 ≡ true }
+    ensures octets { list_all is_octet octets.now ≡ true }
+{
+    octets_within(octets);
+}
 
 // Why a value cannot stand as a node of a type. Its children are not looked at.
 pub(crate) fn single(types: &Types, graph: &Graph, of: TypeId, val: &Val) -> Option<MisfitReason>
@@ -332,47 +356,5 @@ fn is_bound(bound: Option<u32>, max: u32) -> bool
     match bound {
         Some(bound) => max == bound,
         None => true,
-    }
-}
-
-// Whether a primitive can hold a number.
-fn is_in_range(prim: Prim, number: i128) -> bool
-    ensures { result ≡ in_range prim number }
-{
-    least(prim) <= number && number <= greatest(prim)
-}
-// The least value of a primitive.
-fn least(prim: Prim) -> i128
-    ensures { result ≡ least prim }
-{
-    match prim {
-        Prim::Small => -0x80,
-        Prim::Short => -0x8000,
-        Prim::Long => -0x8000_0000,
-        Prim::Hyper => -0x8000_0000_0000_0000,
-        Prim::Boolean
-        | Prim::Char
-        | Prim::Byte
-        | Prim::UnsignedSmall
-        | Prim::UnsignedShort
-        | Prim::UnsignedLong
-        | Prim::UnsignedHyper => 0,
-    }
-}
-
-// The greatest value of a primitive.
-fn greatest(prim: Prim) -> i128
-    ensures { result ≡ greatest prim }
-{
-    match prim {
-        Prim::Boolean => 1,
-        Prim::Char | Prim::Byte | Prim::UnsignedSmall => 0xff,
-        Prim::Small => 0x7f,
-        Prim::Short => 0x7fff,
-        Prim::UnsignedShort => 0xffff,
-        Prim::Long => 0x7fff_ffff,
-        Prim::UnsignedLong => 0xffff_ffff,
-        Prim::Hyper => 0x7fff_ffff_ffff_ffff,
-        Prim::UnsignedHyper => 0xffff_ffff_ffff_ffff,
     }
 }

@@ -9,8 +9,8 @@ ghost use Rattle.nd_value.specs.Misfit.{has_shape, has_arm};
 ghost use Rattle.nd_passes.specs.Searched.{Searched, label_in, kids_in};
 
 use crate::node::{selected, single, within_widths};
-use nd_value::{ArmVal, Graph, NodeMisfit, Val, Vals};
 use nd_types::{Fields, TypeDef, TypeId, Types};
+use nd_value::{ArmVal, Graph, NodeMisfit, Val, Vals};
 
 // Goes through the nodes of a value of a type, which are numbered from `node` on: the number behind them, or the first that has a
 // misfit by itself.

@@ -10,9 +10,9 @@ ghost use Rattle.nd_value.specs.Seen.{tree_of, cell_number};
 ghost use Rattle.nd_passes.specs.Pointers.{are_formed, named_by, pointers_of_home, Collects};
 
 use crate::node::selected;
-use nd_value::{ArmVal, CellId, Home, Val, Vals};
 use nd_base::Memory;
 use nd_types::{Class, Fields, TypeDef, TypeId, Types};
+use nd_value::{ArmVal, CellId, Home, Val, Vals};
 use std::alloc::Global;
 
 // A pointer that names a cell: where it stands, its class, and the cell.

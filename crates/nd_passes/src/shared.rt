@@ -14,9 +14,9 @@ ghost use Rattle.nd_passes.specs.Pointers.{NamesBelow, IsWalkable, pointers_of_h
 
 use crate::homes::{HomeValue, homes};
 use crate::pointers::{CellPointer, cell_pointers};
-use nd_value::{Graph, Misfit, MisfitReason};
 use nd_base::Memory;
 use nd_types::{Class, Interface, Side, Types};
+use nd_value::{Graph, Misfit, MisfitReason};
 use std::alloc::Global;
 
 // How the pointers so far name a cell.

@@ -1,4 +1,5 @@
 pub mod Addresses
+pub mod Checks
 pub mod Listing
 pub mod Numbers
 pub mod Parts

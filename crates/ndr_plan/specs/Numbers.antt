@@ -1,7 +1,8 @@
 -- The numbers of parameters among the roots of a side as the program keeps them.
 -- `j` is the index of a parameter, `n` the number of a root.
-use Rattle.std.specs.Prelude.{◌≡◌, ℕ, List, Option, Some, None, slice_get, slice_set}
+use Rattle.std.specs.Prelude.{◌≡◌, ℕ, ◌+◌, List, [], ◌∷◌, Option, Some, None, slice_get, slice_set}
 use Rattle.nd_types.specs.Roots.{Root, root_index}
+use Rattle.nd_types.specs.Walk.{NamedRoot}
 
 -- what is found, if anything
 abbrev pub found : Option (Option ℕ) → Option ℕ
@@ -20,6 +21,11 @@ kept items j n _ = items
 abbrev pub numbered : List (Option ℕ) → Option ℕ → ℕ → List (Option ℕ)
 numbered items None n = items
 numbered items (Some j) n = kept items j n (slice_get items j)
+
+-- the parameters that are these roots have their numbers, from n on
+abbrev pub all_numbered : List (Option ℕ) → ℕ → List NamedRoot → List (Option ℕ)
+all_numbered items n [] = items
+all_numbered items n (r ∷ rs) = all_numbered (numbered items r.param n) (n + 1) rs
 
 -- These are the numbers of the parameters among roots.
 abbrev pub AreNumbers : List Root → List (Option ℕ) → Type 0

@@ -9,7 +9,9 @@ mod instr_words;
 mod making;
 mod plan_lines;
 mod root_numbers;
+mod side_checks;
 mod side_code;
+mod sides;
 mod type_code;
 
 pub use making::make;

@@ -1,16 +1,19 @@
 // The plan of an interface.
-ghost use Rattle.std.specs.Prelude.{◌≡◌, ◌++◌, ◌∷◌, [], IfOk, OnOk, take};
-ghost use Rattle.ndr_code.specs.Code.{place_at, whole_at, type_runs, table_code, operations_code, code_of};
+ghost use Rattle.std.specs.Prelude.{◌≡◌, ◌++◌, ◌∷◌, [], Some, slice_get, length, IfOk, OnOk};
+ghost use Rattle.nd_types.specs.declared.types.Side.TheVariants.{In};
+ghost use Rattle.ndr_code.specs.Code.{type_runs, table_code, code_of, side_at};
 ghost use Rattle.ndr_code.specs.Lines.{enum_list_by, values_of, entries_of, sides_of};
 ghost use Rattle.ndr_code.specs.Plan.{IsPlanOf};
 ghost use Rattle.ndr_code.specs.declared.instr.Instr.TheVariants.{Void, Ret};
 ghost use Rattle.ndr_plan.specs.Addresses.{AreAddresses, place_in, whole_in};
+ghost use Rattle.ndr_plan.specs.Parts.{HasOperation};
 
 use crate::addresses::{Address, Addresses};
-use crate::side_code::{Parts, SideOf};
+use crate::side_code::Parts;
+use crate::sides::SideOf;
 use crate::type_code::{narrow, push_place, push_whole};
 use nd_base::Memory;
-use nd_types::{Interface, Side, TypeDef, TypeId};
+use nd_types::{Interface, Operation, Side, TypeDef, TypeId};
 use ndr_code::{ADDRESS_LIMIT, Code, EnumList, EnumLists, Instr, Plan, PlanLines, SideStarts};
 use std::alloc::Global;
 
@@ -65,6 +68,16 @@ fn push_types(code: &mut Code, interface: &Interface, addresses: &Addresses) -> 
     Ok(())
 }
 
+// The code of the table of types.
+fn table_code(alloc: Global, interface: &Interface, addresses: &Addresses) -> Result<Code, Memory>
+    requires { AreAddresses interface.now.types addresses.now }
+    ensures { IfOk result (λ code. code ≡ table_code interface.now.types) }
+{
+    let mut code = first_code(alloc)?;
+    push_types(&mut code, interface, addresses)?;
+    Ok(code)
+}
+
 // The enumerated types.
 fn enum_lists(alloc: Global, interface: &Interface) -> Result<EnumLists, Memory>
     ensures { IfOk result (λ lists. lists ≡ values_of interface.now.types) }
@@ -101,43 +114,62 @@ fn push_enum(
     Ok(())
 }
 
-// The runs of all operations, behind those of the types.
-fn push_operations(
+// The runs of an operation, behind those of all before it.
+fn push_operation(
     alloc: Global,
     parts: &mut Parts,
     interface: &Interface,
     addresses: &Addresses,
+    op: u32,
+    operation: &Operation,
 ) -> Result<(), Memory>
-    requires { AreAddresses interface.now.types addresses.now }
-    ensures { parts.old ≡ record { code = table_code interface.now.types; entries = []; sides = [] }
-        → OnOk result (parts.new ≡ record {
-          code = code_of interface.now.types interface.now.operations;
-          entries = entries_of interface.now.types interface.now.operations;
-          sides = sides_of interface.now.types interface.now.operations;
-        }) }
+    requires addressed { AreAddresses interface.now.types addresses.now }
+    requires known { slice_get interface.now.operations op ≡ Some operation.now }
+    ensures { let i = interface.now in length parts.old.code ≡ side_at i.types i.operations op operation.now In
+        → OnOk result (HasOperation parts.old parts.new i.types i.operations op operation.now) }
 {
+    let request = SideOf {
+        interface,
+        addresses,
+        op,
+        operation,
+        side: Side::In,
+    };
+    parts.push_side(alloc, &request)?;
+    let response = SideOf {
+        interface,
+        addresses,
+        op,
+        operation,
+        side: Side::Out,
+    };
+    parts.push_side(alloc, &response)?;
+    Ok(())
+}
+
+// The code, the lines of all sides, and where these begin.
+fn parts(alloc: Global, interface: &Interface) -> Result<Parts, Memory>
+    ensures { IfOk result (λ p. p ≡ record {
+      code = code_of interface.now.types interface.now.operations;
+      entries = entries_of interface.now.types interface.now.operations;
+      sides = sides_of interface.now.types interface.now.operations;
+    }) }
+{
+    let addresses = addresses(alloc, interface)?;
+    let mut parts = Parts {
+        code: table_code(alloc, interface, &addresses)?,
+        entries: PlanLines::new(alloc),
+        sides: SideStarts::new(alloc),
+    };
     for at in 0..interface.operations.len() {
         let Some(operation) = interface.operations.get(at) else {
             unreachable!()
         };
-        let request = SideOf {
-            interface,
-            addresses,
-            op: at as u32,
-            operation,
-            side: Side::In,
-        };
-        parts.push_side(alloc, &request)?;
-        let response = SideOf {
-            interface,
-            addresses,
-            op: at as u32,
-            operation,
-            side: Side::Out,
-        };
-        parts.push_side(alloc, &response)?;
+        push_operation(
+            alloc, &mut parts, interface, &addresses, at as u32, operation,
+        )?;
     }
-    Ok(())
+    Ok(parts)
 }
 
 /// The plan of an interface. It takes memory for the plan, and while it runs for the code of the types once more, in time that grows with the types,
@@ -148,14 +180,7 @@ fn push_operations(
 pub fn make(alloc: Global, interface: &Interface) -> Result<Plan, Memory>
     ensures { IfOk result (λ plan. plan.tie ≡ interface.now) }
 {
-    let addresses = addresses(alloc, interface)?;
-    let mut parts = Parts {
-        code: first_code(alloc)?,
-        entries: PlanLines::new(alloc),
-        sides: SideStarts::new(alloc),
-    };
-    push_types(&mut parts.code, interface, &addresses)?;
-    push_operations(alloc, &mut parts, interface, &addresses)?;
+    let parts = parts(alloc, interface)?;
     let values = enum_lists(alloc, interface)?;
     plan_of(parts, values, interface)
 }

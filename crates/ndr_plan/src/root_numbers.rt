@@ -1,12 +1,12 @@
 // The numbers of the parameters of an operation among the roots of a side.
-ghost use Rattle.std.specs.Prelude.{◌≡◌, ◌<◌, length, slice_get, Some, IfOk};
-ghost use Rattle.nd_types.specs.declared.types.Operation.{Operation as OperationValue};
+ghost use Rattle.std.specs.Prelude.{◌≡◌, Option, None, ℕ, IfOk, replicate};
 ghost use Rattle.nd_types.specs.Roots.{roots_of};
 ghost use Rattle.ndr_plan.specs.Numbers.{number_in, numbered, AreNumbers};
 
+use crate::sides::SideOf;
 use crate::type_code::narrow;
 use nd_base::Memory;
-use nd_types::{Interface, Side};
+use nd_types::Side;
 use std::alloc::Global;
 
 // For each parameter the number of the root that it is, if it is one.
@@ -16,52 +16,56 @@ pub(crate) struct RootNumbers {
 }
 
 impl RootNumbers {
+    // So many parameters without a number.
+    fn none(alloc: Global, params: usize) -> Result<RootNumbers, Memory>
+        ensures { IfOk result (λ n. n.items.items ≡ replicate {A = Option ℕ} params None) }
+    {
+        let mut items = Vec::with_capacity(alloc, params)?;
+        for _param in 0..params {
+            let Ok(()) = items.push(None) else {
+                return Err(Memory);
+            };
+        }
+        Ok(RootNumbers { items })
+    }
+
     // The number of the root that a parameter is.
     pub(crate) fn find(&self, param: u32) -> Option<u32>
-        ensures { result ≡ number_in self.now.items param }
+        ensures { result ≡ number_in self.now.items.items param }
     {
         match self.items.get(param as usize) {
             Some(number) => *number,
             None => None,
         }
     }
+
+    // Gives a parameter its number, if it has none.
+    fn put(&mut self, param: Option<u32>, number: u32)
+        ensures { self.new.items.items ≡ numbered self.old.items.items param number }
+    {
+        let Some(param) = param else {
+            return;
+        };
+        let at = param as usize;
+        if at < self.items.len() && self.items[at].is_none() {
+            self.items[at] = Some(number);
+        }
+    }
 }
 
-// The numbers for a side of an operation. It takes memory for one of each parameter. Want of memory is the only refusal.
+// The numbers for a side of the operation. It takes memory for one of each parameter. Memory is the only refusal.
 pub(crate) fn root_numbers(
     alloc: Global,
-    interface: &Interface,
-    op: u32,
+    of: &SideOf<'_>,
     side: Side,
-    params: usize,
 ) -> Result<RootNumbers, Memory>
-    requires { op < length interface.now.operations }
-    ensures { (o : OperationValue) → slice_get interface.now.operations op ≡ Some o → params ≡ length o.params
-        → IfOk result (λ n. AreNumbers (roots_of interface.now.types side o) n.items) }
+    ensures { IfOk result (λ n. AreNumbers (roots_of of.now.interface.now.types side of.now.operation.now) n.items.items) }
 {
-    let mut items = Vec::with_capacity(alloc, params)?;
-    for _param in 0..params {
-        let Ok(()) = items.push(None) else {
-            return Err(Memory);
-        };
-    }
+    let mut numbers = RootNumbers::none(alloc, of.operation.params.len())?;
     let mut number: u32 = 0;
-    for root in interface.params(op, side) {
-        put(&mut items, root.param, number);
+    for root in of.interface.params(of.op, side) {
+        numbers.put(root.param, number);
         number = narrow(number as usize + 1)?;
     }
-    Ok(RootNumbers { items })
-}
-
-// Gives a parameter its number, if it has none.
-fn put(items: &mut [Option<u32>], param: Option<u32>, number: u32)
-    ensures { items.new ≡ numbered items.old param number }
-{
-    let Some(param) = param else {
-        return;
-    };
-    let at = param as usize;
-    if at < items.len() && items[at].is_none() {
-        items[at] = Some(number);
-    }
+    Ok(numbers)
 }

@@ -2,7 +2,8 @@
 ghost use Rattle.std.specs.Prelude.{◌≡◌, ◌++◌, ◌∷◌, [], OnOk, IfOk};
 ghost use Rattle.nd_types.specs.declared.types.TypeDef.TheVariants as def;
 ghost use Rattle.nd_types.specs.Layout.{hoists};
-ghost use Rattle.ndr_code.specs.Code.{gap_run, arm_run, arms_code, default_code, member_calls, field_checks, member_checks, struct_run, array_run, union_run, text_bound, place_run, whole_run, type_run};
+ghost use Rattle.ndr_code.specs.declared.instr.Instr.TheVariants.{Align, Num, Enum, Ret};
+ghost use Rattle.ndr_code.specs.Code.{id, gap_run, arm_run, arms_code, default_code, member_calls, field_checks, member_checks, struct_run, array_run, union_run, text_bound, place_run, whole_run, type_run};
 ghost use Rattle.ndr_plan.specs.Addresses.{place_in, whole_in};
 
 use crate::addresses::Addresses;
@@ -29,6 +30,23 @@ fn push_gap(code: &mut Code, align: u8) -> Result<(), Memory>
     } else {
         code.append(&[Instr::Align { to: align }])
     }
+}
+
+// A primitive with its gap.
+fn push_primitive(code: &mut Code, align: u8, of: TypeId) -> Result<(), Memory>
+    ensures { OnOk result (code.new ≡ code.old ++ (gap_run align ++ (Num (id of.0) ∷ Ret ∷ []))) }
+{
+    push_gap(code, align)?;
+    code.append(&[Instr::Num { of }, Instr::Ret])?;
+    Ok(())
+}
+
+// A value of an enumerated type, with its gap.
+fn push_enumerated(code: &mut Code, of: TypeId) -> Result<(), Memory>
+    ensures { OnOk result (code.new ≡ code.old ++ (Align 2 ∷ Enum (id of.0) ∷ Ret ∷ [])) }
+{
+    code.append(&[Instr::Align { to: 2 }, Instr::Enum { of }, Instr::Ret])?;
+    Ok(())
 }
 
 // A call of the place run of each member.
@@ -168,15 +186,8 @@ pub(crate) fn push_place(
     ensures { OnOk result (code.new ≡ code.old ++ place_run (place_in addresses.now) (whole_in addresses.now) interface.now.types of.0 definition.now) }
 {
     match definition {
-        TypeDef::Prim(_) => {
-            push_gap(code, interface.align(of))?;
-            code.append(&[Instr::Num { of }, Instr::Ret])
-        }
-        TypeDef::Enum { .. } => code.append(&[
-            Instr::Align { to: 2 },
-            Instr::Enum { of },
-            Instr::Ret,
-        ]),
+        TypeDef::Prim(_) => push_primitive(code, interface.align(of), of),
+        TypeDef::Enum { .. } => push_enumerated(code, of),
         TypeDef::Struct { members } => {
             push_gap(code, interface.align(of))?;
             push_struct(code, addresses, members)

@@ -1,19 +1,17 @@
-use Rattle.std.proofs.Common.{◌≡◌, ℕ, ◌+◌, ◌*◌, ◌<◌, ◌≤◌, [], ◌∷◌, true, List, length, Some, None, refl, ap, sym, ◌∙◌, map, replicate, arith}
-use Rattle.std.specs.List.{slice_get}
+use Rattle.std.proofs.Common.{[], ap, sym, ◌∙◌, map, replicate, arith}
 use Rattle.std.proofs.lemmas.Bool.{eqb-true}
 use Rattle.std.proofs.lemmas.Result.{err_from_is_err_and}
 use Rattle.nd_types.specs.declared.types.Field.{Field}
-use Rattle.nd_value.specs.Tree.{Tree, node, more, none, trees, count}
+use Rattle.nd_value.specs.Tree.{trees, count}
 use Rattle.nd_value.specs.Seen.{tree_of}
-use Rattle.nd_value.specs.Agreement.{Agreement, member_agreements}
+use Rattle.nd_value.specs.Agreement.{member_agreements}
 use Rattle.nd_value.specs.FirstMisfit.{disagreement_of}
 use Rattle.nd_value.proofs.FewRoots.{past_end}
-use Rattle.nd_passes.specs.Searched.{label_in, kids_in}
 use Rattle.nd_passes.specs.Disagreeing.{subject_in}
 use Rattle.nd_passes.proofs.NodeTests.{count_trees}
 use Rattle.nd_passes.proofs.NodeWalk.{get_replicate, get_field}
 use Rattle.nd_passes.proofs.FormWalk.{next_few, next_smaller, formed_at, tree_formed}
-use Rattle.nd_passes.proofs.AgreementWalk.{compare_on, compare_stop, compare_here, governs, governs_none, governs_found, none_stated, get_agreements}
+use Rattle.nd_passes.proofs.AgreementWalk.{compare_on, compare_stop, compare_here, governs_none, governs_found, none_stated, get_agreements}
 use Rattle.nd_passes.proofs.SmallNumbers.{small_members}
 use Rattle.nd_passes.proofs.compared.+compared.Goals as goal
 

@@ -1,5 +1,5 @@
-use Rattle.std.proofs.Common.{◌≡◌, ◌+◌, ◌<◌, ◌^◌, [], ◌∷◌, None, Some, ap, sym, subst, ◌∙◌, arith}
-use Rattle.nd_value.specs.Tree.{more, none, node_count}
+use Rattle.std.proofs.Common.{◌≡◌, [], ◌∷◌, None, Some, sym, subst, arith}
+use Rattle.nd_value.specs.Tree.{more, none}
 use Rattle.nd_value.specs.Seen.{tree_of}
 use Rattle.nd_passes.specs.HomeList.{home_tree}
 use Rattle.nd_passes.specs.Disagreeing.{disagreeing_in}

@@ -1,4 +1,4 @@
-use Rattle.std.proofs.Common.{◌≡◌, [], ap, sym, ◌∙◌}
+use Rattle.std.proofs.Common.{ap, sym, ◌∙◌}
 use Rattle.nd_value.specs.Seen.{tree_of}
 use Rattle.nd_value.specs.FirstMisfit.{disagreement_of}
 use Rattle.nd_value.specs.Variables.{root_agreements}

@@ -1,4 +1,4 @@
-use Rattle.std.proofs.Common.{◌≡◌, ◌+◌, ◌++◌, ◌∙◌, drop, map, refl, ap, sym, arith}
+use Rattle.std.proofs.Common.{◌+◌, ◌++◌, ◌∙◌, drop, map, refl, ap, sym, arith}
 use Rattle.std.proofs.lemmas.List.{append-nil}
 use Rattle.nd_value.specs.Seen.{cell_of}
 use Rattle.nd_passes.specs.HomeList.{home_tree, cell_homes}

@@ -1,4 +1,4 @@
-use Rattle.std.proofs.Common.{◌≡◌, ◌∙◌, sym}
+use Rattle.std.proofs.Common.{◌∙◌, sym}
 use Rattle.nd_value.specs.Tree.{trees}
 use Rattle.nd_passes.proofs.NodeTests.{count_trees, array_fits, array_bound}
 use Rattle.nd_passes.proofs.node.array.Goals as goal

@@ -1,10 +1,8 @@
-use Rattle.std.proofs.Common.{◌≡◌, ℕ, ◌+◌, ◌*◌, ◌<◌, ◌≤◌, [], ◌∷◌, true, List, length, Some, refl, ap, sym, ◌∙◌, map, replicate, arith}
+use Rattle.std.proofs.Common.{map, replicate, arith}
 use Rattle.std.proofs.lemmas.Bool.{eqb-true}
 use Rattle.nd_types.specs.declared.types.Field.{Field}
-use Rattle.nd_value.specs.Tree.{Tree, node, more, none, trees, count}
+use Rattle.nd_value.specs.Tree.{trees, count}
 use Rattle.nd_value.specs.Seen.{tree_of}
-use Rattle.nd_passes.specs.Searched.{label_in, kids_in}
-use Rattle.nd_passes.specs.Pointers.{are_formed}
 use Rattle.nd_value.proofs.FewRoots.{past_end}
 use Rattle.nd_passes.proofs.NodeTests.{count_trees}
 use Rattle.nd_passes.proofs.NodeWalk.{get_replicate, get_field}

@@ -1,4 +1,4 @@
-use Rattle.std.proofs.Common.{◌≡◌, ℕ, ◌+◌, ◌*◌, length, map, replicate}
+use Rattle.std.proofs.Common.{◌+◌, ◌*◌, map, replicate}
 use Rattle.nd_value.specs.Tree.{more, none, trees, node_count, count}
 use Rattle.nd_value.specs.Seen.{tree_of}
 use Rattle.nd_passes.proofs.PointerWalk.{CollectedTo}

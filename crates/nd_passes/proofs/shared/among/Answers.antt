@@ -1,4 +1,4 @@
-use Rattle.std.proofs.Common.{◌≡◌, ◌++◌, ◌+◌, ◌<◌, ◌∙◌, List, [], length, drop, map, refl, ap, sym, arith}
+use Rattle.std.proofs.Common.{◌++◌, ◌+◌, ◌∙◌, drop, map, refl, ap, sym, arith}
 use Rattle.std.proofs.lemmas.List.{drop_all}
 use Rattle.std.proofs.lemmas.Result.{err_from_is_err_and}
 use Rattle.nd_passes.specs.HomeList.{home_tree}

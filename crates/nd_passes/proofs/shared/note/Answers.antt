@@ -1,4 +1,4 @@
-use Rattle.std.proofs.Common.{◌≡◌, ◌++◌, ◌+◌, ◌<◌, ◌∙◌, List, [], length, drop, refl, ap, sym, subst, arith}
+use Rattle.std.proofs.Common.{◌++◌, ◌+◌, ◌∙◌, drop, refl, ap, arith}
 use Rattle.std.proofs.lemmas.List.{drop_more, drop_all}
 use Rattle.std.proofs.lemmas.Result.{err_from_is_err_and}
 use Rattle.nd_passes.specs.Pointers.{first_clash}

@@ -1,4 +1,4 @@
-use Rattle.std.proofs.Common.{◌≡◌, ◌+◌, ◌∙◌, length, map, replicate, None, sym, ap}
+use Rattle.std.proofs.Common.{◌+◌, ◌∙◌, length, map, replicate, None, sym, ap}
 use Rattle.nd_passes.specs.declared.shared.Naming.TheVariants.{NotYet}
 use Rattle.std.proofs.lemmas.Result.{err_from_is_err_and, IfErr-weaker, on_ok_weaker}
 use Rattle.nd_passes.specs.HomeList.{home_tree}
