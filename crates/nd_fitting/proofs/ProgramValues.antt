@@ -149,12 +149,14 @@ module _ (table : Table) where
         let f : Fits table g t types n l ks vs = fits table g t types n l ks vs e in
         let s = split_values l ks vs m in (
           label_kept (type_at table t) l ks f.own.shape (range_fits table small t (type_at table t) refl l f.own.range) f.own.within s.0,
-          values_kept (child_types (type_at table t) l ks) (n + 1) ks (fit_children (type_at table t) l ks f.own.shape f.own.arm) f.inside s.1,
-          values_kept types (n + 1 + node_count ks) vs (omega (arith, k)) f.behind s.2,
+          (
+            values_kept (child_types (type_at table t) l ks) (n + 1) ks (fit_children (type_at table t) l ks f.own.shape f.own.arm) f.inside s.1,
+            values_kept types (n + 1 + node_count ks) vs (omega (arith, k)) f.behind s.2,
+          ),
         )
 
     more_kept : (v : Tree) (vs : Trees) → AreKeepable (more v none) → AreKeepable vs → AreKeepable (more v vs)
-    more_kept (node l ks) vs a b = (a.0, a.1.0, b)
+    more_kept (node l ks) vs a b = (a.0, (a.1.0, b))
 
     home_kept : (h : Home) (t : ℕ) (v : Tree) → first_in_home table g h t v ≡ None → have_machine_values (more v none) ≡ true → AreKeepable (more v none)
     home_kept h t v e m = values_kept (t ∷ []) 0 (more v none) refl (home_none h _ e) m
