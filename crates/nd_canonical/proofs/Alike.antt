@@ -2,6 +2,7 @@
 -- `g` and `h` are graphs, `s` is a map that carries g to h, `c` and `d` are cells' numbers, `t` and `u` trees, `k` is a place.
 use Rattle.std.proofs.Common.{◌≡◌, ◌⊎◌, inl, inr, ℕ, ◌+◌, ◌-◌, ◌<◌, ◌≤◌, zero, suc, Bool, true, false, cond, eqb, List, [], ◌∷◌, ◌++◌, length, get_or, map, flat_map, Option, Some, None, option_map, refl, ap, ap₂, sym, ◌∙◌, subst, arith}
 use Rattle.std.specs.Prelude.{leb}
+use Rattle.std.specs.Bool.{Decides}
 use Rattle.std.specs.List.{AllByRecursion, slice_get}
 use Rattle.std.proofs.lemmas.Bool.{eqb-true, eqb-false, eq-eqb, ne_eqb, leb-true, leb-false}
 use Rattle.std.proofs.lemmas.List.{map-append}
@@ -13,6 +14,7 @@ use Rattle.nd_value.specs.Tree as tree
 use Rattle.nd_value.specs.Tree.{Tree, Trees, Label, node, none, more, cell_in, Referent, trees, items}
 use Rattle.nd_value.specs.Setting.{Among, root_at, or_unread, cell_at, cell_tree, cell_of_number, cell_home, unread}
 use Rattle.nd_value.specs.Canon.{target, has, number_from, canonical_number}
+use Rattle.nd_value.specs.Fitting.{Fitting, IsFit}
 use Rattle.nd_value.specs.Names.{AreThere, HasNames, cells_in, named_by}
 use Rattle.nd_value.specs.Same.{Same, renumbered, renumbered_label}
 use Rattle.nd_flat.specs.Building.{referent_type}
@@ -22,7 +24,7 @@ use Rattle.nd_canonical.specs.Order.{IsOrder}
 use Rattle.nd_canonical.specs.Alike.{AreAlike, AreSameRoots, IsSameCell, AreSameCells, number_by}
 use Rattle.nd_canonical.proofs.Carried.{carried_cell, get_map, among_mapped, mapped_from}
 use Rattle.nd_canonical.proofs.Complete.{cells_both}
-use Rattle.nd_canonical.proofs.Renumbered.{trees_on, tree_renumbered, image_of, image_inside, image_outside, roots_image, tree_image, there_at, zero_or}
+use Rattle.nd_canonical.proofs.Renumbered.{trees_on, tree_renumbered, image_of, image_inside, image_outside, roots_image, tree_image, there_at, zero_or, fit_names}
 
 -- ## One map after another
 
@@ -444,3 +446,19 @@ module _ (g h : Graph) (same : Same g h) where
           let image : get_or ds k 0 ≡ s (get_or cs k 0) = (right.cell (s (get_or cs k 0)) k (number_same (get_or cs k 0) ∙ number)).1 in
           subst (λ u. IsSameCell (number_by ns) (number_by ms) g h (get_or cs k 0) u) (sym image) (cell_same (get_or cs k 0)));
     }
+
+-- ## Fits
+
+-- what is decided of two fits
+pub same_decided : (f q : Fitting) → IsFit f → IsFit q → (g h g' h' : Graph) (ns cs ms ds : List ℕ) (r : Bool) → g ≡ f.graph → h ≡ q.graph → g' ≡ f.graph → h' ≡ q.graph
+    → IsOrder g ns cs → IsOrder h ms ds → Decides r (AreAlike (number_by ns) (number_by ms) g' h' cs ds) → Decides r (Same f.graph q.graph)
+same_decided f q kf kq g h g' h' ns cs ms ds r eg eh eg' eh' left right d =
+    let l : IsOrder f.graph ns cs = subst (λ (u : Graph). IsOrder u ns cs) eg left in
+    let k : IsOrder q.graph ms ds = subst (λ (u : Graph). IsOrder u ms ds) eh right in
+    let e : Decides r (AreAlike (number_by ns) (number_by ms) f.graph q.graph cs ds) =
+    subst (λ (u : Graph). Decides r (AreAlike (number_by ns) (number_by ms) f.graph u cs ds)) eh'
+    (subst (λ (u : Graph). Decides r (AreAlike (number_by ns) (number_by ms) u h' cs ds)) eg' d) in
+    (
+      (λ z. alike_same f.graph q.graph ns cs ms ds l k (fit_names f kf) (fit_names q kq) (e.0 z)),
+      (λ s. e.1 (same_alike f.graph q.graph s ns cs ms ds l k)),
+    )

@@ -2,13 +2,15 @@
 -- `m` and `n` are the numbers of the cells of the two graphs, `a` and `b` the nodes that are left, `f` and `e` the first of them, `t` and `u` are trees, `Q` is what is decided of all.
 use Rattle.std.proofs.Common.{◌≡◌, ◌⊎◌, inl, inr, ℕ, ◌+◌, ◌<◌, ◌≤◌, zero, suc, Bool, true, false, eqb, List, [], ◌∷◌, ◌++◌, length, map, get_or, refl, ap, ap₂, sym, ◌∙◌, subst, arith}
 use Rattle.std.specs.Bool.{Decides}
+use Rattle.std.specs.List.{slice_get}
 use Rattle.std.proofs.lemmas.Bool.{eqb-true, eqb-false}
 use Rattle.std.proofs.lemmas.List.{map-append}
 use Rattle.nd_value.specs.declared.value.Graph.{Graph}
 use Rattle.nd_value.specs.Tree as tree
 use Rattle.nd_value.specs.Tree.{Tree, Trees, Flat, node, none, more, flat, unflat, unflat-of, Unread}
-use Rattle.nd_value.specs.Setting.{root_at}
+use Rattle.nd_value.specs.Setting.{cell_at}
 use Rattle.nd_value.specs.Same.{renumbered, renumbered_label}
+use Rattle.nd_flat.specs.Building.{referent_type}
 use Rattle.nd_flat.specs.Renumbered.{renumbered_tree}
 use Rattle.nd_canonical.specs.Alike.{renumbered_flat, renumbered_flats, IsSameCell}
 use Rattle.nd_canonical.proofs.Carried.{count_same}
@@ -105,3 +107,18 @@ place_differs P n at r l unequal d = ((λ z. cc), λ h. sym unequal ∙ d.1 (h a
 -- all places
 pub places_end : (P : ℕ → Type 0) (n at : ℕ) → n ≤ at → ((i : ℕ) → i < at → P i) → Decides true ((i : ℕ) → i < n → P i)
 places_end P n at l h = ((λ z i b. h i (omega (arith, b, l))), λ x. refl)
+
+-- ## Cells
+
+pub cell_decided : (m n : ℕ → ℕ) (g h : Graph) (c d i j : ℕ) (p q : ℕ) (x y : Trees) (r : Bool) → suc i ≡ c → suc j ≡ d → p ≡ q → p ≡ referent_type (slice_get g.cells i)
+    → q ≡ referent_type (slice_get h.cells j) → x ≡ more (cell_at g (suc i)) none → y ≡ more (cell_at h (suc j)) none → Decides r (SameNodes m n (flat x) (flat y))
+    → Decides r (IsSameCell m n g h c d)
+cell_decided m n g h c d i j p q x y r ec ed e ep eq ex ey dd =
+    subst (λ u. Decides r (IsSameCell m n g h u d)) ec
+    (subst (λ u. Decides r (IsSameCell m n g h (suc i) u)) ed (
+      (λ z. record { of = sym ep ∙ e ∙ eq; val = v.0 z }),
+      (λ s. v.1 s.val),
+    ))
+  where
+    v : Decides r (renumbered_tree m (cell_at g (suc i)) ≡ renumbered_tree n (cell_at h (suc j)))
+    v = tree_decided m n r x y (cell_at g (suc i)) (cell_at h (suc j)) ex ey dd
