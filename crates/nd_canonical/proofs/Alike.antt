@@ -1,12 +1,12 @@
 -- Two graphs are the same exactly where they are alike when each cell is numbered by the order in which it is first named.
 -- `g` and `h` are graphs, `s` is a map that carries g to h, `c` and `d` are cells' numbers, `t` and `u` trees, `k` is a place.
-use Rattle.std.proofs.Common.{◌≡◌, ◌⊎◌, inl, inr, ℕ, ◌+◌, ◌-◌, ◌<◌, ◌≤◌, zero, suc, Bool, true, false, cond, eqb, List, [], ◌∷◌, ◌++◌, length, get_or, map, flat_map, Option, Some, None, option_map, refl, ap, ap₂, sym, ◌∙◌, subst, arith}
+use Rattle.std.proofs.Common.{◌≡◌, ◌⊎◌, inl, inr, ℕ, ◌+◌, ◌-◌, ◌<◌, ◌≤◌, zero, suc, Bool, true, false, cond, eqb, List, [], ◌∷◌, ◌++◌, length, get_or, map, Option, Some, None, option_map, refl, ap, ap₂, sym, ◌∙◌, subst, arith}
 use Rattle.std.specs.Prelude.{leb}
 use Rattle.std.specs.Bool.{Decides}
 use Rattle.std.specs.List.{AllByRecursion, slice_get}
 use Rattle.std.proofs.lemmas.Bool.{eqb-true, eqb-false, eq-eqb, ne_eqb, leb-true, leb-false}
 use Rattle.std.proofs.lemmas.List.{map-append}
-use Rattle.std.proofs.lemmas.Option.{same_Some, slice_get-get_or}
+use Rattle.std.proofs.lemmas.Option.{slice_get-get_or}
 use Rattle.nd_value.specs.declared.value.Graph.{Graph}
 use Rattle.nd_value.specs.declared.item.Home.{Home}
 use Rattle.nd_value.specs.declared.item.Home.TheVariants as home
@@ -21,7 +21,7 @@ use Rattle.nd_flat.specs.Building.{referent_type}
 use Rattle.nd_flat.specs.Renumbered.{renumbered_tree}
 use Rattle.nd_canonical.specs.Naming.{Naming, none_due, root_turn, cell_turn, stands_already, AreNamed, cell_homes, root_homes}
 use Rattle.nd_canonical.specs.Order.{IsOrder}
-use Rattle.nd_canonical.specs.Alike.{AreAlike, AreSameRoots, IsSameCell, AreSameCells, number_by}
+use Rattle.nd_canonical.specs.Alike.{AreAlike, IsSameCell, number_by}
 use Rattle.nd_canonical.proofs.Carried.{carried_cell, get_map, among_mapped, mapped_from}
 use Rattle.nd_canonical.proofs.Complete.{cells_both}
 use Rattle.nd_canonical.proofs.Renumbered.{trees_on, tree_renumbered, image_of, image_inside, image_outside, roots_image, tree_image, there_at, zero_or, fit_names}
@@ -206,8 +206,7 @@ module _ (g h : Graph) (ns cs ms ds : List ℕ) (left : IsOrder g ns cs) (right 
         (subst (λ u. IsSameCell (number_by ns) (number_by ms) g h (get_or cs k 0) u) (sym r ∙ moved) (a.cells k (omega (arith, l, all)))) in
         let val : renumbered_tree carry x.val ≡ y.val =
         tree_carried x.val y.val (subst (λ o. AreThere (length h.cells) (named_by (cell_tree o))) e' (cell_there (length h.cells) h.cells d hn.cells))
-        (sym (ap (λ o. renumbered_tree L (cell_tree o)) e) ∙ one.val ∙ ap (λ o. renumbered_tree R (cell_tree o)) e') in
-        (
+        (sym (ap (λ o. renumbered_tree L (cell_tree o)) e) ∙ one.val ∙ ap (λ o. renumbered_tree R (cell_tree o)) e') in (
           types_same x y (slice_get g.cells c) (slice_get h.cells d) e e' one.of,
           tree_image (length g.cells) carry x.val (subst (λ o. AreThere (length g.cells) (named_by (cell_tree o))) e (cell_there (length g.cells) g.cells c gn.cells))
               ∙ ap (λ t. more t none) val,
@@ -457,8 +456,7 @@ same_decided f q kf kq g h g' h' ns cs ms ds r eg eh eg' eh' left right d =
     let k : IsOrder q.graph ms ds = subst (λ (u : Graph). IsOrder u ms ds) eh right in
     let e : Decides r (AreAlike (number_by ns) (number_by ms) f.graph q.graph cs ds) =
     subst (λ (u : Graph). Decides r (AreAlike (number_by ns) (number_by ms) f.graph u cs ds)) eh'
-    (subst (λ (u : Graph). Decides r (AreAlike (number_by ns) (number_by ms) u h' cs ds)) eg' d) in
-    (
+    (subst (λ (u : Graph). Decides r (AreAlike (number_by ns) (number_by ms) u h' cs ds)) eg' d) in (
       (λ z. alike_same f.graph q.graph ns cs ms ds l k (fit_names f kf) (fit_names q kq) (e.0 z)),
       (λ s. e.1 (same_alike f.graph q.graph s ns cs ms ds l k)),
     )

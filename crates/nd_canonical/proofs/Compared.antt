@@ -1,12 +1,11 @@
 -- Two walks in step.
 -- `m` and `n` are the numbers of the cells of the two graphs, `a` and `b` the nodes that are left, `f` and `e` the first of them, `t` and `u` are trees, `Q` is what is decided of all.
-use Rattle.std.proofs.Common.{◌≡◌, ◌⊎◌, inl, inr, ℕ, ◌+◌, ◌<◌, ◌≤◌, zero, suc, Bool, true, false, eqb, List, [], ◌∷◌, ◌++◌, length, map, get_or, refl, ap, ap₂, sym, ◌∙◌, subst, arith}
+use Rattle.std.proofs.Common.{◌≡◌, ℕ, ◌+◌, ◌<◌, ◌≤◌, suc, Bool, true, false, eqb, List, [], ◌∷◌, ◌++◌, refl, ap, ap₂, sym, ◌∙◌, subst, arith}
 use Rattle.std.specs.Bool.{Decides}
 use Rattle.std.specs.List.{slice_get}
 use Rattle.std.proofs.lemmas.Bool.{eqb-true, eqb-false}
 use Rattle.std.proofs.lemmas.List.{map-append}
 use Rattle.nd_value.specs.declared.value.Graph.{Graph}
-use Rattle.nd_value.specs.Tree as tree
 use Rattle.nd_value.specs.Tree.{Tree, Trees, Flat, node, none, more, flat, unflat, unflat-of, Unread}
 use Rattle.nd_value.specs.Setting.{cell_at}
 use Rattle.nd_value.specs.Same.{renumbered, renumbered_label}
@@ -46,10 +45,12 @@ module _ (m n : ℕ → ℕ) (a b : List Flat) where
 
   -- the second has fewer
   pub fewer : (a' : List Flat) (f : Flat) (Q : Type 0) → a ≡ f ∷ a' → b ≡ [] → (Q → SameNodes m n a b) → Decides false Q
-  fewer a' f Q p q h =
-      ((λ z. cc), λ x.
-          let z : renumbered_flats m (f ∷ a') ≡ [] = sym (ap (renumbered_flats m) p) ∙ h x ∙ ap (renumbered_flats n) q in
-          absurd (cc))
+  fewer a' f Q p q h = (
+    (λ z. cc),
+    λ x.
+        let z : renumbered_flats m (f ∷ a') ≡ [] = sym (ap (renumbered_flats m) p) ∙ h x ∙ ap (renumbered_flats n) q in
+        absurd (cc),
+  )
 
   -- both end
   pub ended : (Q : Type 0) → a ≡ [] → b ≡ [] → (SameNodes m n a b → Q) → Decides true Q
@@ -57,10 +58,12 @@ module _ (m n : ℕ → ℕ) (a b : List Flat) where
 
   -- the second has more
   pub more_left : (b' : List Flat) (e : Flat) (Q : Type 0) → a ≡ [] → b ≡ e ∷ b' → (Q → SameNodes m n a b) → Decides false Q
-  more_left b' e Q p q h =
-      ((λ z. cc), λ x.
-          let z : [] ≡ renumbered_flats n (e ∷ b') = sym (ap (renumbered_flats m) p) ∙ h x ∙ ap (renumbered_flats n) q in
-          absurd (cc))
+  more_left b' e Q p q h = (
+    (λ z. cc),
+    λ x.
+        let z : [] ≡ renumbered_flats n (e ∷ b') = sym (ap (renumbered_flats m) p) ∙ h x ∙ ap (renumbered_flats n) q in
+        absurd (cc),
+  )
 
 -- ## Trees
 

@@ -35,14 +35,7 @@ pub(crate) fn order_of(alloc: Global, graph: &FlatGraph) -> Result<Order, Memory
     let mut met = Vec::new(alloc);
     let mut due = roots(alloc, graph.root_count())?;
     while let Some(home) = due.pop() {
-        turn(
-            graph,
-            home,
-            &mut order,
-            &mut stands,
-            &mut met,
-            &mut due,
-        )?;
+        turn(graph, home, &mut order, &mut stands, &mut met, &mut due)?;
     }
     Ok(order)
 }

@@ -1,4 +1,4 @@
-use Rattle.std.proofs.Common.{◌≡◌, ◌<◌, ◌-◌, suc, arith}
+use Rattle.std.proofs.Common.{◌<◌, ◌-◌, arith}
 use Rattle.nd_canonical.specs.Alike.{number_by}
 use Rattle.nd_canonical.proofs.Compared.{cell_decided}
 use Rattle.nd_canonical.proofs.sameness.same_cell.Goals as goal

@@ -1,6 +1,6 @@
-use Rattle.std.proofs.Common.{◌≡◌, length}
+use Rattle.std.proofs.Common.{length}
 use Rattle.nd_value.specs.Tree.{flat}
-use Rattle.nd_canonical.specs.Alike.{number_by, renumbered_flats}
+use Rattle.nd_canonical.specs.Alike.{number_by}
 use Rattle.nd_canonical.proofs.Compared.{SameNodes}
 use Rattle.nd_canonical.proofs.sameness.same_nodes.Given as goal
 
