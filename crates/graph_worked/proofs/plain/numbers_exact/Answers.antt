@@ -1,6 +1,6 @@
 use Rattle.nd_value.specs.Fitting.{setting_of}
-use Rattle.nd_graph.proofs.PlainFit as p
-use Rattle.nd_graph.proofs.laws.numbers_exact.Goals as goal
+use Rattle.graph_worked.proofs.PlainFit as p
+use Rattle.graph_worked.proofs.plain.numbers_exact.Goals as goal
 
 pub returns : goal.returns
 returns c i op o s g numbers simple there none few nodes =

@@ -10,7 +10,7 @@ use Rattle.nd_types.specs.Kinds.{basic_types, is_basic}
 use Rattle.nd_types.specs.Plain.{IsPlainInterface}
 use Rattle.nd_value.specs.declared.value.Graph.{Graph}
 use Rattle.nd_value.specs.Tree.{Referent}
-use Rattle.nd_graph.specs.Simple.{is_simple, has_simple_cells}
+use Rattle.graph_worked.specs.Simple.{is_simple, has_simple_cells}
 
 simple_get : (ds : List TypeDef) (t : ℕ) → list_all is_basic ds ≡ true → is_simple (slice_get ds t) ≡ true
 simple_get [] t e = refl

@@ -18,7 +18,7 @@ use Rattle.std.proofs.lemmas.Option.{same_Some}
 use Rattle.nd_types.specs.Walk.{NamedRoot, named_root, named_roots}
 use Rattle.nd_types.proofs.LegalLaws.{passes_at}
 use Rattle.nd_types.proofs.NumberRoots.{primitive_roots}
-use Rattle.nd_graph.specs.Simple.{is_simple}
+use Rattle.graph_worked.specs.Simple.{is_simple}
 use Rattle.nd_value.specs.declared.value.Graph.{Graph}
 use Rattle.nd_value.specs.declared.item.Home.{Home}
 use Rattle.nd_value.specs.declared.item.Home.TheVariants as home

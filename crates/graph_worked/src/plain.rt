@@ -6,7 +6,7 @@ ghost use Rattle.nd_types.specs.declared.types.Side.{Side};
 ghost use Rattle.nd_types.specs.Table.{Table};
 ghost use Rattle.nd_types.specs.Numbers.{has_number_roots};
 ghost use Rattle.nd_types.specs.Plain.{IsPlainInterface};
-ghost use Rattle.nd_graph.specs.Simple.{has_simple_cells};
+ghost use Rattle.graph_worked.specs.Simple.{has_simple_cells};
 ghost use Rattle.nd_value.specs.declared.value.Graph.{Graph};
 ghost use Rattle.nd_value.specs.Conforms.{Conforms, HasFewNodes};
 ghost use Rattle.nd_value.specs.Fitting.{setting_of};

@@ -1,8 +1,8 @@
 use Rattle.nd_types.proofs.NumberSides.{plain_numbers}
 use Rattle.nd_value.specs.Fitting.{setting_of}
-use Rattle.nd_graph.proofs.PlainFit as p
-use Rattle.nd_graph.proofs.SimpleCells.{plain_cells}
-use Rattle.nd_graph.proofs.laws.plain_exact.Goals as goal
+use Rattle.graph_worked.proofs.PlainFit as p
+use Rattle.graph_worked.proofs.SimpleCells.{plain_cells}
+use Rattle.graph_worked.proofs.plain.plain_exact.Goals as goal
 
 pub returns : goal.returns
 returns c i op o s g plain there none few nodes =
