@@ -13,8 +13,7 @@ use Rattle.nd_value.specs.declared.value.Graph.{Graph}
 use Rattle.nd_value.specs.Setting.{Setting}
 use Rattle.nd_value.specs.Conforms.{Conforms}
 use Rattle.nd_value.specs.FirstMisfit.{IsMisfit, IsFirstMisfit}
-use Rattle.nd_value.specs.Fitting.{setting_of}
-use Rattle.nd_graph.specs.Fitting.{Fitting}
+use Rattle.nd_value.specs.Fitting.{Fitting, setting_of}
 use Rattle.nd_grammar.specs.Chosen.{Chosen}
 use Rattle.nd_grammar.specs.Plain.{IsPlain}
 use Rattle.value_text.specs.declared.fault.TextReason.{TextReason}
@@ -64,7 +63,7 @@ value_cause w g (misfit.At h n reason) first e (inr told) = subst (IsValueCause 
 
 -- what was encoded of a fit was encoded of its graph
 pub chosen_of : (f : Fitting) (i : Interface) (o : Operation) (n : ℕ) (s : Side) (g : Graph) (order : Order) (chunk : ℕ) (result : Result (List ℕ) Refusal)
-    → f ≡ record { graph = g; op = n; side = s; interface = i }
+    → f ≡ record { graph = g; op = n; side = s; interface = i; given = None }
     → (slice_get i.operations f.op ≡ Some o → IfOk result (Chosen (setting_of i o s) order chunk f.graph))
     → slice_get i.operations n ≡ Some o → IfOk result (Chosen (setting_of i o s) order chunk g)
 chosen_of f i o n s g order chunk result fits chosen there =
@@ -79,7 +78,7 @@ same_fault w text line at column octet reason why a b c fault =
 
 -- the same of what conforms
 pub conforms_of : (f : Fitting) (i : Interface) (o : Operation) (n : ℕ) (s : Side) (g : Graph) (result : Result (List ℕ) Refusal)
-    → f ≡ record { graph = g; op = n; side = s; interface = i }
+    → f ≡ record { graph = g; op = n; side = s; interface = i; given = None }
     → (slice_get i.operations f.op ≡ Some o → IfOk result (λ octets. Conforms (setting_of i o s) f.graph))
     → slice_get i.operations n ≡ Some o → IfOk result (λ octets. Conforms (setting_of i o s) g)
 conforms_of f i o n s g result fits conforms there =

@@ -1,5 +1,5 @@
 // Decoding: the octets of the input are decoded, and their values printed.
-ghost use Rattle.std.specs.Prelude.{◌≡◌, ◌<◌, ◌≤◌, ◌^◌, length, Some, IfOk, IfErr};
+ghost use Rattle.std.specs.Prelude.{◌≡◌, ◌<◌, ◌≤◌, ◌^◌, length, Some, None, IfOk, IfErr};
 ghost use Rattle.std.specs.List.{slice_get};
 ghost use Rattle.nd_types.specs.declared.types.Operation.{Operation};
 ghost use Rattle.nd_types.specs.Numbers.{IsNumberSide};
@@ -57,6 +57,7 @@ fn print_whole(
     requires tied { decoded.now.fit.interface ≡ ready.now.interface }
     requires number { decoded.now.fit.op ≡ ready.now.number }
     requires side { decoded.now.fit.side ≡ ready.now.side }
+    requires beside { decoded.now.fit.given ≡ None }
     ensures text { (o : Operation) → slice_get ready.now.interface.operations decoded.now.fit.op ≡ Some o
         → IfOk result (IsText (setting_of ready.now.interface o ready.now.side) decoded.now.fit.graph) }
     ensures whole { IfOk result (λ _. given ≤ decoded.now.taken) }

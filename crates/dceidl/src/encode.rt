@@ -1,5 +1,5 @@
 // Encoding: the text of the input is read, its values are fitted to the operation, and encoded.
-ghost use Rattle.std.specs.Prelude.{◌≡◌, ◌<◌, ◌≤◌, ◌^◌, [], ◌∷◌, length, Some, IfOk, IfErr, codes, decimal};
+ghost use Rattle.std.specs.Prelude.{◌≡◌, ◌<◌, ◌≤◌, ◌^◌, [], ◌∷◌, length, Some, None, IfOk, IfErr, codes, decimal};
 ghost use Rattle.std.specs.List.{slice_get};
 ghost use Rattle.nd_types.specs.declared.types.Operation.{Operation};
 ghost use Rattle.nd_types.specs.Numbers.{IsNumberSide};
@@ -64,7 +64,6 @@ fn encode_graph(
     requires known { ready.now.number < length ready.now.interface.operations }
     requires few_cells { length graph.cells < 2 ^ 32 }
     requires few_nodes { HasFewNodes graph }
-    requires no_cells { graph.cells ≡ [] }
     requires chunk { 1 ≤ chunk }
     ensures conforms { (o : Operation) → slice_get ready.now.interface.operations ready.now.number ≡ Some o
         → IfOk result (λ _. Conforms (setting_of ready.now.interface o ready.now.side) graph) }
@@ -73,7 +72,14 @@ fn encode_graph(
     ensures refused { (o : Operation) → slice_get ready.now.interface.operations ready.now.number ≡ Some o
         → IfErr result (IsValueCause (setting_of ready.now.interface o ready.now.side) graph) }
 {
-    match fit(alloc, &ready.interface, ready.number, ready.side, graph) {
+    match fit(
+        alloc,
+        &ready.interface,
+        ready.number,
+        ready.side,
+        None,
+        graph,
+    ) {
         Ok(fit) => encode_fit(alloc, ready, order, chunk, &fit),
         Err((misfit, _)) => Err(value_refused(alloc, ready, misfit)),
     }
@@ -91,6 +97,7 @@ fn encode_fit(
     requires tied { fit.now.interface ≡ ready.now.interface }
     requires number { fit.now.op ≡ ready.now.number }
     requires side { fit.now.side ≡ ready.now.side }
+    requires beside { fit.now.given ≡ None }
     requires chunk { 1 ≤ chunk }
     ensures conforms { (o : Operation) → slice_get ready.now.interface.operations fit.now.op ≡ Some o
         → IfOk result (λ _. Conforms (setting_of ready.now.interface o ready.now.side) fit.now.graph) }
@@ -99,7 +106,7 @@ fn encode_fit(
     ensures refused { IfErr result (λ e. e ≡ Refusal.Memory) }
 {
     // A fit's graph conforms.
-    let _conforming = fit.graph();
+    let _conforming = fit.flat();
     Ok(plain_ndr::encode(alloc, &ready.interface, fit, order, chunk)?)
 }
 

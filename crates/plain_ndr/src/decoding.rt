@@ -1,5 +1,5 @@
 // Decoding of a side whose roots are primitives.
-ghost use Rattle.std.specs.Prelude.{◌≡◌, ℕ, ◌<◌, ◌^◌, List, length, Some, IfOk, IfErr};
+ghost use Rattle.std.specs.Prelude.{◌≡◌, ℕ, ◌<◌, ◌^◌, List, length, Some, None, IfOk, IfErr};
 ghost use Rattle.std.specs.List.{slice_get};
 ghost use Rattle.nd_types.specs.declared.types.Operation.{Operation};
 ghost use Rattle.nd_types.specs.Numbers.{IsNumberSide};
@@ -10,8 +10,8 @@ ghost use Rattle.plain_ndr.specs.Decoding.{IsFault};
 use crate::numbers::{NumbersFault, read_numbers};
 use crate::primitives::primitives;
 use nd_base::{Memory, Order};
+use nd_flat::{Builder, Fit};
 use nd_grammar::Reason;
-use nd_graph::{Cells, Fit, Graph};
 use nd_types::{Interface, Side};
 use std::alloc::Global;
 use thiserror::Error;
@@ -49,10 +49,10 @@ impl From<Memory> for DecodeFault {
 }
 
 /// Decodes the values of a side of an operation from the front of octets, which begin at the beginning of its stream (C706, 14.2 and
-/// 14.4): one number for each root, each at the next multiple of its width.
+/// 14.4): one number for each root, each at the next multiple of its width. The fit is beside no request: numbers have no attributes.
 ///
 /// `op` must be the number of an operation, each root of the side a primitive, of a type from 0 to 10, and the octets fewer than
-/// 2^32. Octets behind the values are let stand. Each octet is looked at once. It takes memory for the values that were read, 32
+/// 2^32. Octets after the values are left as they are. Each octet is read once. It takes memory for the values that were read, 40
 /// octets each, and for a list of the roots' types.
 pub fn decode(
     alloc: Global,
@@ -68,19 +68,17 @@ pub fn decode(
     ensures decoded { IfOk result (λ d. (o : Operation) → slice_get interface.now.operations op ≡ Some o
         → BeginsWith (setting_of interface.now o side) order octets.now d.taken d.fit.graph) }
     ensures of { IfOk result (λ d. (d.fit.op ≡ op) × (d.fit.side ≡ side) × (d.fit.interface ≡ interface.now)) }
+    ensures beside { IfOk result (λ d. d.fit.given ≡ None) }
     ensures refused { IfErr result (λ e. (o : Operation) → slice_get interface.now.operations op ≡ Some o
         → IsFault (setting_of interface.now o side) order octets.now e) }
 {
     let prims = primitives(alloc, interface, op, side)?;
-    match read_numbers(alloc, order, prims.as_slice(), octets) {
-        Ok((roots, taken)) => {
-            let cells = Cells::new(alloc);
-            let fit = Fit::adopt(interface.tie(), Graph { roots, cells }, op, side);
-            Ok(Decoded {
-                fit,
-                taken: taken as u32,
-            })
-        }
+    let mut builder = Builder::begin(alloc, interface.tie(), op, side, None);
+    match read_numbers(order, prims.as_slice(), octets, &mut builder) {
+        Ok(taken) => Ok(Decoded {
+            fit: builder.finish(),
+            taken: taken as u32,
+        }),
         Err(NumbersFault::Memory) => Err(DecodeFault::Memory),
         Err(NumbersFault::Short) => Err(DecodeFault::Bad {
             place: octets.len() as u32,

@@ -4,13 +4,13 @@ ghost use Rattle.std.specs.List.{slice_get};
 ghost use Rattle.nd_base.specs.declared.TheConstants.{STREAM_LIMIT};
 ghost use Rattle.nd_types.specs.declared.types.Operation.{Operation};
 ghost use Rattle.nd_types.specs.Numbers.{IsNumberSide};
-ghost use Rattle.nd_value.specs.Fitting.{setting_of};
+ghost use Rattle.nd_value.specs.Fitting.{setting_beside};
 ghost use Rattle.nd_grammar.specs.Chosen.{Chosen};
 
 use crate::primitives::primitives;
 use crate::writing::write_numbers;
 use nd_base::{Memory, Octets, Order};
-use nd_graph::Fit;
+use nd_flat::Fit;
 use nd_types::Interface;
 use std::alloc::Global;
 
@@ -31,10 +31,10 @@ pub fn encode(
     requires numbers { IsNumberSide interface.now.types interface.now.operations fit.now.op fit.now.side }
     requires some { 1 ≤ chunk }
     ensures chosen { IfOk result (λ octets. (o : Operation) → slice_get interface.now.operations fit.now.op ≡ Some o
-        → Chosen (setting_of interface.now o fit.now.side) order chunk fit.now.graph octets) }
+        → Chosen (setting_beside interface.now o fit.now.side fit.now.given) order chunk fit.now.graph octets) }
     ensures within { IfOk result (λ octets. length octets ≤ STREAM_LIMIT) }
 {
-    let graph = fit.graph();
+    let graph = fit.flat();
     let prims = primitives(alloc, interface, fit.op(), fit.side())?;
-    write_numbers(alloc, order, prims.as_slice(), &graph.roots)
+    write_numbers(alloc, order, prims.as_slice(), graph)
 }

@@ -1,14 +1,17 @@
-// Numbers in octets, one behind the other, each at a multiple of its width.
-ghost use Rattle.std.specs.Prelude.{◌≡◌, ℕ, ◌+◌, ◌≤◌, ◌<◌, ◌^◌, ℤ, List, length, map, IfOk, IsErrOf, Some, None};
+// Numbers in octets, one after the other, each at a multiple of its width.
+ghost use Rattle.std.specs.Prelude.{◌≡◌, ◌+◌, ◌≤◌, ◌<◌, ◌^◌, length, OnOk, IfOk, IsErrOf, None};
 ghost use Rattle.nd_types.specs.Table.{width};
 ghost use Rattle.nd_grammar.specs.Entry.{gap};
-ghost use Rattle.nd_grammar.specs.Plain.{numbers_at, number, plain_end};
+ghost use Rattle.nd_grammar.specs.Plain.{numbers_at, number as number_tree, plain_end};
+ghost use Rattle.nd_flat.specs.Building.{CanClose};
+ghost use Rattle.nd_flat.specs.Built.{Rooted};
+ghost use Rattle.nd_flat.specs.FlatForm.{IsKeepableNumber};
+ghost use Rattle.plain_ndr.specs.Decoding.{IsEmpty, HasNumbers};
 
-use nd_base::Order;
-use nd_graph::{Val, Vals};
+use nd_base::{Memory, Order};
+use nd_flat::{Builder, Seen};
 use nd_types::Prim;
 use ndr_prim::{read_num, width_of};
-use std::alloc::Global;
 
 // Why numbers were not read.
 #[derive(Clone, Copy, Debug, PartialEq, Eq)]
@@ -17,20 +20,20 @@ pub(crate) enum NumbersFault {
     Short,
 }
 
-// The numbers that octets hold, and how many octets they take up with their gaps.
+// Builds a root of each number that octets hold, and says how many octets they take up with their gaps.
 pub(crate) fn read_numbers(
-    alloc: Global,
     order: Order,
     prims: &[Prim],
     octets: &[u8],
-) -> Result<(Vals, usize), NumbersFault>
-    requires { length octets.now < 2 ^ 32 }
-    ensures read { IfOk result (λ r. (zs : List ℤ) × (numbers_at order prims.now 0 octets.now ≡ Some zs) × (r.0 ≡ map number zs)) }
-    ensures taken { IfOk result (λ r. r.1 ≡ plain_end prims.now 0) }
-    ensures within { IfOk result (λ r. r.1 ≤ length octets.now) }
+    builder: &mut Builder,
+) -> Result<usize, NumbersFault>
+    requires short { length octets.now < 2 ^ 32 }
+    requires empty { IsEmpty builder.old }
+    ensures read { OnOk result (HasNumbers order prims.now octets.now builder.old builder.new) }
+    ensures taken { IfOk result (λ taken. taken ≡ plain_end prims.now 0) }
+    ensures within { IfOk result (λ taken. taken ≤ length octets.now) }
     ensures short { IsErrOf result NumbersFault.Short → numbers_at order prims.now 0 octets.now ≡ None }
 {
-    let mut vals = Vals::new(alloc);
     let mut at = 0;
     for prim in prims {
         let wide = width_of(*prim);
@@ -40,12 +43,22 @@ pub(crate) fn read_numbers(
             return Err(NumbersFault::Short);
         }
         let value = read_num(order, *prim, &octets[start..end]);
-        match vals.push(Val::Num(value)) {
+        match build_root(builder, value) {
             Ok(()) => at = end,
             Err(_) => return Err(NumbersFault::Memory),
         }
     }
-    Ok((vals, at))
+    Ok(at)
+}
+
+// Builds the next root, which is a number.
+fn build_root(builder: &mut Builder, number: i128) -> Result<(), Memory>
+    requires whole { CanClose builder.old }
+    requires small { IsKeepableNumber number }
+    ensures { OnOk result (Rooted (number_tree number) builder.old builder.new) }
+{
+    builder.root()?;
+    builder.add(&Seen::Num(number))
 }
 
 // The length of the gap before a primitive.

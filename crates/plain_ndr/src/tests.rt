@@ -3,11 +3,11 @@ ghost use Rattle.std.specs.Prelude.{◌≡◌, ◌≤◌, [], ◌∷◌, length,
 ghost use Rattle.nd_types.specs.Kinds.{basic_types};
 ghost use Rattle.nd_types.specs.Numbers.{IsNumberSide};
 ghost use Rattle.nd_types.specs.Plain.{plain_param};
-ghost use Rattle.nd_graph.specs.WorkedFit.{add_params, add};
+ghost use Rattle.nd_value.specs.WorkedFit.{add_params, add};
 
 use crate::{decode, encode};
 use nd_base::{Memory, Name, Order};
-use nd_graph::Val;
+use nd_flat::{Fit, Seen};
 use nd_types::{
     AttrVars, Field, Interface, Operation, Operations, Param, Params, Side, TypeId, Types, Way,
 };
@@ -58,7 +58,7 @@ fn operations(alloc: Global) -> Result<Operations, Memory>
 }
 
 // interface t { void add([in] long a, [in] short b, [in] hyper c); }
-#[tactic(auto, using(nd_graph::proofs::WorkedFit::legal, nd_graph::proofs::WorkedFit::numbers))]
+#[tactic(auto, using(nd_value::proofs::WorkedFit::legal, nd_value::proofs::WorkedFit::numbers))]
 fn interface(alloc: Global) -> Result<Interface, Memory>
     ensures numbers { IfOk result (λ i. (s : Side) → IsNumberSide i.types i.operations 0 s) }
     ensures types { IfOk result (λ i. i.types ≡ basic_types) }
@@ -78,8 +78,16 @@ fn interface(alloc: Global) -> Result<Interface, Memory>
     })
 }
 
-fn is_number(val: Option<&Val>, number: i128) -> bool {
-    matches!(val, Some(Val::Num(value)) if *value == number)
+// Whether a root is this number.
+fn is_root(fit: &Fit, at: usize, number: i128) -> bool {
+    let graph = fit.flat();
+    if at >= graph.root_count() {
+        return false;
+    }
+    match graph.root_walk(at).step() {
+        Some(Seen::Num(value)) => value == number,
+        _ => false,
+    }
 }
 
 // Any octets stand in the gap before the hyper, and any after the values.
@@ -90,11 +98,10 @@ fn numbers_are_decoded(rt: HostRuntime) -> Result<(), Fail> {
     let interface = interface(rt.alloc())?;
     let decoded = decode(rt.alloc(), &interface, 0, Side::In, Order::Big, BIG)?;
     assert_eq!(rt; decoded.taken, 16);
-    let roots = &decoded.fit.graph().roots;
-    assert_eq!(rt; roots.len(), 3);
-    assert!(rt; is_number(roots.get(0), 1));
-    assert!(rt; is_number(roots.get(1), 2));
-    assert!(rt; is_number(roots.get(2), 3));
+    assert_eq!(rt; decoded.fit.flat().root_count(), 3);
+    assert!(rt; is_root(&decoded.fit, 0, 1));
+    assert!(rt; is_root(&decoded.fit, 1, 2));
+    assert!(rt; is_root(&decoded.fit, 2, 3));
     Ok(())
 }
 

@@ -8,7 +8,7 @@ use Rattle.std.proofs.lemmas.Option.{slice_get_within, get_or_from_slice_get, sa
 use Rattle.nd_value.specs.Tree as tree
 use Rattle.nd_value.specs.Tree.{Tree, node, none}
 use Rattle.nd_grammar.specs.Plain.{number}
-use Rattle.value_text.specs.Numbers.{line, number_lines, is_number}
+use Rattle.value_text.specs.Numbers.{line, number_lines}
 
 -- a number among numbers
 pub number_at : (zs : List ℤ) (i : ℕ) (t : Tree) → slice_get (map number zs) i ≡ Some t → t ≡ number (get_or zs i (pos 0))
@@ -16,8 +16,10 @@ number_at [] i t e = cc
 number_at (z ∷ zs) zero t e = sym (same_Some _ _ e)
 number_at (z ∷ zs) (suc i) t e = number_at zs i t e
 
-pub is_number_at : (zs : List ℤ) (i : ℕ) (t : Tree) → slice_get (map number zs) i ≡ Some t → is_number t ≡ true
-is_number_at zs i t e = ap is_number (number_at zs i t e)
+pub number_there : (zs : List ℤ) (i : ℕ) → i < length zs → slice_get (map number zs) i ≡ Some (number (get_or zs i (pos 0)))
+number_there [] i h = absurd (omega (arith, h))
+number_there (z ∷ zs) zero h = refl
+number_there (z ∷ zs) (suc i) h = number_there zs i (omega (arith, h))
 
 lines_more : (ps : List (List ℕ)) (zs : List ℤ) (p : List ℕ) (z : ℤ) → length ps ≡ length zs
     → number_lines (ps ++ p ∷ []) (zs ++ z ∷ []) ≡ number_lines ps zs ++ line p (signed_decimal z)

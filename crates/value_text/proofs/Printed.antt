@@ -27,8 +27,7 @@ use Rattle.nd_value.specs.Variables.{root_agreements}
 use Rattle.nd_value.specs.Misfit.{misfit_of}
 use Rattle.nd_value.specs.Conforms.{Conforms}
 use Rattle.nd_value.specs.Same.{renumbered}
-use Rattle.nd_value.specs.Fitting.{setting_of}
-use Rattle.nd_graph.specs.Fitting.{Fitting, IsFit}
+use Rattle.nd_value.specs.Fitting.{Fitting, IsFit, setting_beside, setting_of}
 use Rattle.nd_value.specs.Canon.{IsCanon}
 use Rattle.nd_grammar.specs.Plain.{ArePlain, IsPlain, number, plain_graph}
 use Rattle.nd_grammar.proofs.PlainStreams.{plain_stream, plain_length, label_of}
@@ -154,13 +153,18 @@ module _ (w : Setting) (primitives : List Primitive) (plain : IsPlain w primitiv
       let whole : plain_graph zs ≡ g = ap₂ (λ r k. record { roots = r; cells = k }) (sym same) (sym (none_there w primitives plain g c)) in
       record { canonical = g; is_canonical = is_canonical w primitives plain g c; printed = lines zs same ∙ text_is w zs ∙ ap (graph_text w) whole }
 
+-- a side of numbers is plain beside any request
+pub plain_beside : (i : Interface) (o : Operation) (s : Side) (q : Option Graph) (ps : List Primitive) → IsPlain (setting_of i o s) ps → IsPlain (setting_beside i o s q) ps
+plain_beside i o s q ps h = record { plain = h.plain; few = h.few }
+
 -- A fit conforms, its interface being this.
 pub fit_conforms : (f : Fitting) (i : Interface) (o : Operation) → IsFit f → f.interface ≡ i → slice_get i.operations f.op ≡ Some o
-    → Conforms (setting_of i o f.side) f.graph
+    → Conforms (setting_beside i o f.side f.given) f.graph
 fit_conforms f i o fit tied there =
     let found : slice_get i.operations f.op ≡ Some fit.operation = ap (λ j. slice_get j.operations f.op) (sym tied) ∙ fit.is_there in
     let same : fit.operation ≡ o = same_Some _ _ (sym found ∙ there) in
-    subst (λ p. Conforms (setting_of i p f.side) f.graph) same (subst (λ j. Conforms (setting_of j fit.operation f.side) f.graph) tied fit.conforms)
+    subst (λ p. Conforms (setting_beside i p f.side f.given) f.graph) same
+    (subst (λ j. Conforms (setting_beside j fit.operation f.side f.given) f.graph) tied fit.conforms)
 
 found_name : (p : Option Param) → walk.param_name p ≡ parameter_name p
 found_name None = refl

@@ -1,14 +1,8 @@
 -- The text of a plain side, whose roots are numbers: what the functions that print it give, on lists.
-use Rattle.std.specs.Prelude.{ℕ, ℤ, Bool, true, false, List, [], ◌∷◌, ◌++◌, codes}
+use Rattle.std.specs.Prelude.{ℕ, ℤ, List, [], ◌∷◌, ◌++◌, codes}
 use Rattle.std.specs.Fmt.{signed_decimal}
 use Rattle.nd_types.specs.declared.types.Side.{Side}
-use Rattle.nd_value.specs.Tree as tree
-use Rattle.nd_value.specs.Tree.{Tree, node, none}
 use Rattle.value_text.specs.Written.{side_word}
-
-abbrev pub is_number : Tree → Bool
-is_number (node (tree.Num z) none) = true
-is_number _ = false
 
 -- the first lines, before others
 abbrev pub with_head : List ℕ → Side → List ℕ → List ℕ

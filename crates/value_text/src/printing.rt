@@ -1,21 +1,20 @@
 // Printing of graphs. Numbers are the only values that are printed yet.
-ghost use Rattle.std.specs.Prelude.{◌≡◌, ◌++◌, [], ℤ, ◌<◌, List, length, map, true, Some, IfOk, OnOk};
+ghost use Rattle.std.specs.Prelude.{◌≡◌, ◌++◌, [], ℤ, ◌<◌, List, length, map, Some, IfOk, OnOk};
 ghost use Rattle.std.specs.Fmt.{signed_decimal};
 ghost use Rattle.std.specs.List.{slice_get};
 ghost use Rattle.nd_types.specs.declared.types.Operation.{Operation};
 ghost use Rattle.nd_types.specs.Numbers.{IsNumberSide};
 ghost use Rattle.nd_types.specs.Roots.{roots_of};
-ghost use Rattle.nd_value.specs.Fitting.{setting_of};
-ghost use Rattle.nd_value.specs.Seen.{tree_of};
+ghost use Rattle.nd_value.specs.Fitting.{setting_beside};
 ghost use Rattle.nd_grammar.specs.Plain.{number};
 ghost use Rattle.value_text.specs.Written.{side_word};
-ghost use Rattle.value_text.specs.Numbers.{is_number, line, number_lines, with_head};
+ghost use Rattle.value_text.specs.Numbers.{line, number_lines, with_head};
 ghost use Rattle.value_text.specs.Dues.{walk_names};
 ghost use Rattle.value_text.specs.Printed.{IsText};
 
 use itoa::Buffer;
 use nd_base::{Memory, Octets};
-use nd_graph::{Fit, Val, Vals};
+use nd_flat::{Fit, FlatGraph, Seen};
 use nd_types::{Interface, Side};
 use std::alloc::Global;
 
@@ -27,9 +26,9 @@ pub fn print(alloc: Global, interface: &Interface, fit: &Fit) -> Result<Octets, 
     requires tied { fit.now.interface ≡ interface.now }
     requires numbers { IsNumberSide interface.now.types interface.now.operations fit.now.op fit.now.side }
     ensures { IfOk result (λ text. (o : Operation) → slice_get interface.now.operations fit.now.op ≡ Some o
-        → IsText (setting_of interface.now o fit.now.side) fit.now.graph text) }
+        → IsText (setting_beside interface.now o fit.now.side fit.now.given) fit.now.graph text) }
 {
-    let graph = fit.graph();
+    let graph = fit.flat();
     let op = fit.op();
     let side = fit.side();
     let Some(operation) = interface.operations.get(op as usize) else {
@@ -37,7 +36,7 @@ pub fn print(alloc: Global, interface: &Interface, fit: &Fit) -> Result<Octets, 
     };
     let mut text = Octets::new(alloc);
     append_head(&mut text, operation.name.as_slice(), side)?;
-    append_roots(&mut text, interface, op, side, &graph.roots)?;
+    append_roots(&mut text, interface, op, side, graph)?;
     Ok(text)
 }
 
@@ -69,32 +68,30 @@ fn append_roots(
     interface: &Interface,
     op: u32,
     side: Side,
-    roots: &Vals,
+    graph: &FlatGraph,
 ) -> Result<(), Memory>
     requires known { op < length interface.now.operations }
-    requires numbers { (zs : List ℤ) × (roots.now ≡ map number zs) }
-    requires named { (o : Operation) → slice_get interface.now.operations op ≡ Some o → length roots.now ≡ length (roots_of interface.now.types side o) }
-    ensures { OnOk result ((o : Operation) (zs : List ℤ) → slice_get interface.now.operations op ≡ Some o → roots.now ≡ map number zs
+    requires numbers { (zs : List ℤ) × (graph.now.roots ≡ map number zs) }
+    requires named { (o : Operation) → slice_get interface.now.operations op ≡ Some o → length graph.now.roots ≡ length (roots_of interface.now.types side o) }
+    ensures { OnOk result ((o : Operation) (zs : List ℤ) → slice_get interface.now.operations op ≡ Some o → graph.now.roots ≡ map number zs
         → text.new ≡ text.old ++ number_lines (walk_names interface.now.types side o) zs) }
 {
     let mut at = 0;
     for root in interface.params(op, side) {
-        let Some(val) = roots.get(at) else {
-            unreachable!()
-        };
-        append_line(text, root.name, number_in(val))?;
+        append_line(text, root.name, number_at(graph, at))?;
         at += 1;
     }
     Ok(())
 }
 
-// The number that a value is.
-fn number_in(val: &Val) -> i128
-    requires { is_number (tree_of val.now) ≡ true }
-    ensures { tree_of val.now ≡ number result }
+// The number that a root is, by its place.
+fn number_at(graph: &FlatGraph, at: usize) -> i128
+    requires { (z : ℤ) × (slice_get graph.now.roots at ≡ Some (number z)) }
+    ensures { slice_get graph.now.roots at ≡ Some (number result) }
 {
-    match val {
-        Val::Num(value) => *value,
+    let mut walk = graph.root_walk(at);
+    match walk.step() {
+        Some(Seen::Num(value)) => value,
         _ => unreachable!(),
     }
 }

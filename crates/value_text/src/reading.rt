@@ -20,8 +20,8 @@ use crate::printing::side_name;
 use crate::steps::{end, name, number, token};
 use crate::stop::Stop;
 use nd_base::text::position;
-use nd_graph::{Cells, Graph, Val, Vals};
 use nd_types::{Interface, Operation, Side};
+use nd_value::{Cells, Graph, Val, Vals};
 use std::alloc::Global;
 
 /// `values 1`, and the operation with its side.

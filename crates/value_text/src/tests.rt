@@ -3,14 +3,15 @@ ghost use Rattle.std.specs.Prelude.{◌≡◌, ◌≤◌, [], ◌∷◌, length,
 ghost use Rattle.nd_types.specs.Kinds.{basic_types};
 ghost use Rattle.nd_types.specs.Numbers.{IsNumberSide};
 ghost use Rattle.nd_types.specs.Plain.{plain_param};
-ghost use Rattle.nd_graph.specs.WorkedFit.{add_params, add, one_two_three};
+ghost use Rattle.nd_value.specs.WorkedFit.{add_params, add};
 
 use crate::{print, read_text};
 use nd_base::{Memory, Name};
-use nd_graph::{Cells, Fit, Graph, Val, Vals};
+use nd_flat::{Builder, Fit, Seen};
 use nd_types::{
     AttrVars, Field, Interface, Operation, Operations, Param, Params, Side, TypeId, Types, Way,
 };
+use nd_value::{Graph, Val};
 use std::alloc::Global;
 use std::test::Fail;
 
@@ -58,7 +59,7 @@ fn operations(alloc: Global) -> Result<Operations, Memory>
 }
 
 // interface t { void add([in] long a, [in] short b, [in] hyper c); }
-#[tactic(auto, using(nd_graph::proofs::WorkedFit::legal, nd_graph::proofs::WorkedFit::numbers))]
+#[tactic(auto, using(nd_value::proofs::WorkedFit::legal, nd_value::proofs::WorkedFit::numbers))]
 fn interface(alloc: Global) -> Result<Interface, Memory>
     ensures numbers { IfOk result (λ i. (s : Side) → IsNumberSide i.types i.operations 0 s) }
     ensures types { IfOk result (λ i. i.types ≡ basic_types) }
@@ -78,31 +79,22 @@ fn interface(alloc: Global) -> Result<Interface, Memory>
     })
 }
 
-fn numbers(alloc: Global) -> Result<Vals, Memory>
-    ensures { IfOk result (λ vs. vs ≡ one_two_three) }
-{
-    let mut vals = Vals::new(alloc);
-    if vals.push(Val::Num(1)).is_err()
-        || vals.push(Val::Num(2)).is_err()
-        || vals.push(Val::Num(3)).is_err()
-    {
-        return Err(Memory);
-    }
-    Ok(vals)
-}
-
-#[tactic(auto, using(nd_graph::proofs::WorkedFit::fits))]
+// The numbers 1, 2 and 3 of its request.
+#[tactic(auto, using(nd_value::proofs::WorkedFit::fits))]
 fn fit(alloc: Global, interface: &Interface) -> Result<Fit, Memory>
     requires types { interface.now.types ≡ basic_types }
     requires operations { interface.now.operations ≡ add ∷ [] }
     ensures tied { IfOk result (λ f. f.interface ≡ interface.now) }
     ensures first { IfOk result (λ f. f.op ≡ 0) }
 {
-    let graph = Graph {
-        roots: numbers(alloc)?,
-        cells: Cells::new(alloc),
-    };
-    Ok(Fit::adopt(interface.tie(), graph, 0, Side::In))
+    let mut builder = Builder::begin(alloc, interface.tie(), 0, Side::In, None);
+    builder.root()?;
+    builder.add(&Seen::Num(1))?;
+    builder.root()?;
+    builder.add(&Seen::Num(2))?;
+    builder.root()?;
+    builder.add(&Seen::Num(3))?;
+    Ok(builder.finish())
 }
 
 #[test]

@@ -9,6 +9,6 @@ use Rattle.value_text.proofs.printing.append_roots.Given as goal
 abbrev pub invariant-loop-root : goal.invariant-loop-root
 invariant-loop-root l = record {
   counted : l.at ≡ length l.yielded;
-  lines : (o : Operation) (zs : List ℤ) → slice_get l.interface.operations l.op ≡ Some o → l.roots ≡ map number zs
+  lines : (o : Operation) (zs : List ℤ) → slice_get l.interface.operations l.op ≡ Some o → l.graph.roots ≡ map number zs
       → l.text ≡ l.initial.text ++ number_lines (take l.at (walk_names l.interface.types l.fn.side o)) (take l.at zs);
 }
