@@ -55,7 +55,7 @@ unmarked [] = 0
 unmarked (true ∷ ms) = unmarked ms
 unmarked (false ∷ ms) = suc (unmarked ms)
 
--- What a search keeps: what is marked is reached, and stands in the queue; what the roots and the first cells of the queue name is marked.
+-- What a search keeps: what is marked is reached and is in the queue; what the roots and the first cells of the queue name is marked.
 pub record Searching (g : Graph) (rs : List Tree) (s : Search) (at : ℕ) : Type 0 where
   pub sound : AllByRecursion (Reach g) s.queue
   pub there : AreThere (length g.cells) s.queue
