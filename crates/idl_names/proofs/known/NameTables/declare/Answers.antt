@@ -17,5 +17,5 @@ invariant_of-self-in-None c =
     let new : found c.args.name.now.octets places ≡ None = ap (λ n. found n places) (sym c.as_slice.ensures) ∙ (sym c.get.ensures ∙ c.in-None.is) in
     let there : found c.as_slice-in-None.result.now places ≡ None = ap (λ n. found n places) c.as_slice-in-None.ensures ∙ new in
     let longer : length c.put.new.self ≡ length places + 1 =
-        ap (λ (ps : List (List ℕ × Place)). length ps) c.in_ok-put-in-None.ensures ∙ put_length places c.as_slice-in-None.result.now c.place_of-place.result there in
+    ap (λ (ps : List (List ℕ × Place)). length ps) c.in_ok-put-in-None.ensures ∙ put_length places c.as_slice-in-None.result.now c.place_of-place.result there in
     all_more (length places) (length c.put.new.self) c.self.inside.meanings (omega (arith, longer)) c.self.invariant

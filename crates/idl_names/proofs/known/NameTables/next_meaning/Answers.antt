@@ -26,7 +26,7 @@ returns-in-Some-Number-clause-next c =
     let few : many ≤ 2 ^ 64 = omega (arith, c.len-count.ensures) in
     let here = sym c.get.ensures ∙ e in
     let known : found c.in-Some.previous.now.octets c.args.self.now.meanings ≡ Some (meaning.Number z) =
-        ap (λ n. found n c.args.self.now.meanings) (sym c.as_slice.ensures) ∙ ap (λ (k : Known). found c.as_slice.result.now k.meanings) (sym c.self.view_is) ∙ here in
+    ap (λ n. found n c.args.self.now.meanings) (sym c.as_slice.ensures) ∙ ap (λ (k : Known). found c.as_slice.result.now k.meanings) (sym c.self.view_is) ∙ here in
     ap (λ x. meaning.Number x) (sum_is many z few (found_below many c.as_slice.result.now c.self.inside.meanings z c.self.invariant here) fits)
     ∙ sym (ap (λ o. next_meaning c.args.self.now (option_map (λ s. s.now) o)) c.in-Some.is ∙ ap next_of known)
 
