@@ -1,4 +1,4 @@
-use Rattle.std.proofs.Common.{◌≡◌, ◌∙◌, ◌^◌, ◌+ℤ◌, ℤ, pos, ap, arith, rules}
+use Rattle.std.proofs.Common.{◌∙◌, ◌^◌, ◌+ℤ◌, ℤ, pos, ap, arith, rules}
 use mir.Val.{SFits}
 use mir.Syntax.{w128}
 use Rattle.idl_names.proofs.Small.{sum_fits, sum_is}

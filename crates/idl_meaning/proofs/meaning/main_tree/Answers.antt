@@ -1,4 +1,4 @@
-use Rattle.std.proofs.Common.{◌≡◌, ◌≤◌, ◌∙◌, sym, ap, length, option_map, eq-eqb, arith}
+use Rattle.std.proofs.Common.{◌≤◌, ◌∙◌, sym, ap, length, option_map, eq-eqb, arith}
 use Rattle.std.proofs.lemmas.Bool.{ne_eqb}
 use Rattle.std.proofs.lemmas.List.{drop_all}
 use Rattle.idl_names.specs.Seen.{seen_file, seen_files}

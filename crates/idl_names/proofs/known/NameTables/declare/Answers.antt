@@ -1,8 +1,6 @@
 use Rattle.std.proofs.Common.{◌≡◌, ◌+◌, ℕ, true, length, List, None, sym, ap, subst, ◌∙◌, arith}
 use Rattle.nd_base.specs.declared.octets.Place.{Place}
-use Rattle.idl_names.specs.declared.meaning.Meaning.{Meaning}
-use Rattle.idl_names.specs.Known.{Known}
-use Rattle.idl_names.specs.Small.{is_small, are_small}
+use Rattle.idl_names.specs.Small.{are_small}
 use Rattle.idl_names.specs.Tables.{found}
 use Rattle.idl_names.proofs.Small.{all_more, put_length}
 use Rattle.idl_names.proofs.known.NameTables.declare.Goals as goal

@@ -1,5 +1,5 @@
-use Rattle.std.proofs.Common.{◌≡◌, ◌≤◌, ◌^◌, ◌+◌, ℕ, ℤ, pos, ◌+ℤ◌, true, length, option_map, Some, sym, ap, subst, ◌∙◌, rules, arith}
-use mir.Val.{SFits, to_z, of_z}
+use Rattle.std.proofs.Common.{◌≡◌, ◌≤◌, ◌^◌, ◌+◌, ℤ, pos, ◌+ℤ◌, true, length, option_map, Some, sym, ap, subst, ◌∙◌, rules, arith}
+use mir.Val.{SFits}
 use mir.Syntax.{w128}
 use Rattle.idl_names.specs.declared.meaning.Meaning.TheVariants as meaning
 use Rattle.idl_names.specs.Known.{Known, next_meaning, next_of}
