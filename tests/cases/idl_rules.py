@@ -72,6 +72,8 @@ PLACES = [
     (15, '[local] interface t { struct s { §struct { long a[1..2]; } b[1..2]; }; }'),
     (1, '[local] interface t { struct s { long *a; }; typedef [§in] long b; typedef [ref, ref] long c; }'),
     (26, '[local] interface t { struct s { §[ref, ptr] long a; }; }'),
+    (11, '[local] interface t { §struct a { struct a x; }; struct b { struct b x; }; }'),
+    (11, '[local] interface t { struct a { struct { long x; } y; }; §struct d { union switch (long k) { case 1: struct d x; } u; }; }'),
     (11, '[local] interface t { struct a { long x; }; §struct b { struct c { struct b x; } y[3]; }; }'),
     (13, '[local] interface t { enum { A = 32767, §B }; }'),
     (27, '[local] interface t { union u switch (long k) { case 1: default: §long *a; }; }'),

@@ -15,12 +15,13 @@ use Rattle.idl_language.specs.Rules.{Breach, breaches}
 use Rattle.idl_language.specs.Scene.{scene_of}
 use Rattle.idl_language.specs.FirstBroken.{first_broken, first_of}
 use Rattle.nd_types.specs.Meant.{Meant}
-use Rattle.idl_language.specs.Meaning.{meaning, main_among, header_meant}
+use Rattle.idl_language.specs.Meaning.{meaning, main_among, header_meant, types_of, operations_of, HasIdentifiers}
 use Rattle.idl_answers.specs.Read.{IsReadAs, AsFile, AsNoFile, AsUncut}
 use Rattle.idl_answers.specs.Named.{Comes, ToNames, ToFault}
 use Rattle.idl_answers.specs.Judged.{world, MeansLegal, IsJudged, Means, Breaks, main_file, HasOutcome, Interface, Broken, Unnamed, NoFile, Uncut}
 use Rattle.idl_answers.proofs.Read.{each_read}
 use Rattle.idl_answers.proofs.Ends.{each_main}
+use Rattle.idl_answers.proofs.MeantNames.{meant_named}
 use Rattle.idl_legal.proofs.legal.All.{all_legal}
 
 -- ## The main file has ended
@@ -98,12 +99,27 @@ judged w h = by_case (first_broken w) refl
     by_case (Some b) is = Breaks b is
     by_case None is = let f = main_found w.files h in Means (header_meant (scene_of w) f.0) (means_legal w is f.0 f.1)
 
+same_meant : (a b : Meant) → ◌≡◌ {A = List Meant} (a ∷ []) (b ∷ []) → a ≡ b
+same_meant a b e = cc
+
+-- what the files mean has the types and operations of their scene
+named_by : (w : World) (trees : List Tree) (m : Meant) → map (header_meant (scene_of w)) trees ≡ m ∷ [] → HasIdentifiers (types_of (scene_of w)) (operations_of (scene_of w))
+    → HasIdentifiers m.types m.operations
+named_by w [] m e h = absurd (cc)
+named_by w (t ∷ []) m e h =
+    subst (λ (x : Meant). HasIdentifiers x.types x.operations) (same_meant (header_meant (scene_of w) t) m e) h
+named_by w (t ∷ u ∷ trees) m e h = absurd (cc)
+
+named_as : (w : World) (m : Meant) → meaning w ≡ m ∷ [] → HasIdentifiers (types_of (scene_of w)) (operations_of (scene_of w)) → HasIdentifiers m.types m.operations
+unfolding meaning
+named_as w m e h = named_by w (main_among w.files) m e h
+
 pub each_resolved : (held : Option (List ℕ → Option (List ℕ))) (main : List Source) (t : Tree) (s : State) → IsResolved held main t s → IsJudged (world s)
 each_resolved held main t s r = judged (world s) (main_ended held main t s r)
 
 module _ (held : Option (List ℕ → Option (List ℕ))) (name text : List ℕ) where
   by_judged : (t : Tree) → IsFile text t → (s : State) → IsResolved held (main_file name text) t s → IsJudged (world s) → HasOutcome held name text
-  by_judged t file s r (Means m is) = Interface t file s r m is
+  by_judged t file s r (Means m is) = Interface t file s r m is (is.legal (named_as (world s) m is.means (meant_named held (main_file name text) text t s file r)))
   by_judged t file s r (Breaks b is) = Broken t file s r b is
 
   by_names : (t : Tree) → IsFile text t → Comes held (main_file name text) t → HasOutcome held name text

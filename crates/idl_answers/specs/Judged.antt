@@ -20,7 +20,7 @@ use Rattle.idl_language.specs.Meaning.{meaning, HasIdentifiers}
 abbrev pub world : State → World
 world s = record { files = s.ended; known = s.known }
 
--- No rule is broken, and the files mean this interface, which is legal if its names are identifiers, as those of every text are.
+-- No rule is broken, and the files mean this interface, which is legal if its names are identifiers.
 pub record MeansLegal (w : World) (m : Meant) : Type 0 where
   pub keeps : first_broken w ≡ None
   pub means : meaning w ≡ m ∷ []
@@ -33,10 +33,11 @@ pub data IsJudged (w : World) : Type 0 where
 abbrev pub main_file : List ℕ → List ℕ → List Source
 main_file name text = source name text ∷ []
 
--- What a main file of this name and text comes to: an interface; a broken rule; a fault of names or of an imported file, which is absent, say, but
+-- What a main file of this name and text comes to: an interface, which is legal; a broken rule; a fault of names or of an imported file, which is absent, say, but
 -- neither for want of memory nor for a failed load; a fault of its own syntax; or one of its own tokens.
 pub data HasOutcome (held : Option (List ℕ → Option (List ℕ))) (name text : List ℕ) : Type 0 where
-  Interface : (t : Tree) → IsFile text t → (s : State) → IsResolved held (main_file name text) t s → (m : Meant) → MeansLegal (world s) m → HasOutcome held name text
+  Interface : (t : Tree) → IsFile text t → (s : State) → IsResolved held (main_file name text) t s → (m : Meant) → MeansLegal (world s) m → IsLegal m.types m.operations
+      → HasOutcome held name text
   Broken : (t : Tree) → IsFile text t → (s : State) → IsResolved held (main_file name text) t s → (b : Breach) → first_broken (world s) ≡ Some b → HasOutcome held name text
   Unnamed : (t : Tree) → IsFile text t → (sources : List Source) (f : NameFault) → is_decided (Stopped sources f) ≡ true → IsRefused held (main_file name text) t sources f
       → HasOutcome held name text

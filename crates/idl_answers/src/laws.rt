@@ -1,16 +1,19 @@
 //! Laws over the definitions.
 
-ghost use Rattle.std.specs.Prelude.{◌≡◌, ℕ, true, List, [], ◌∷◌, Option, Some, None, codes};
+ghost use Rattle.std.specs.Prelude.{◌≡◌, ℕ, Bool, true, List, [], ◌∷◌, Option, Some, None, codes};
 ghost use Rattle.phrases.specs.Text.{Text};
 ghost use Rattle.phrases.specs.Gives.{IsText};
 ghost use Rattle.nd_base.specs.declared.octets.Place.{Place};
 ghost use Rattle.idl_lexer.specs.Verdict.{HasVerdict};
 ghost use Rattle.idl_grammar.specs.Grammar.{file};
 ghost use Rattle.idl_grammar.specs.Tree.{Tree};
-ghost use Rattle.idl_names.specs.declared.name_fault.NameFault.TheVariants.{Absent};
-ghost use Rattle.idl_names.specs.Decided.{is_decided, HasEnding};
+ghost use Rattle.idl_names.specs.declared.name_fault.NameFault.TheVariants.{Absent, Failed};
+ghost use Rattle.idl_names.specs.Decided.{is_decided, HasEnding, has_memory, FailsAs, HasToldEnding};
+ghost use Rattle.idl_names.specs.Files.{IsFile};
 ghost use Rattle.idl_names.specs.Sources.{Source, source};
 ghost use Rattle.idl_names.specs.Walk.{State, Due, Load, Ending, Stopped, Walk, IsResolved, start};
+ghost use Rattle.idl_language.specs.Scene.{scene_of};
+ghost use Rattle.idl_language.specs.Meaning.{types_of, operations_of, HasIdentifiers};
 ghost use Rattle.acf_reader.specs.Grammar.{acf};
 ghost use Rattle.idl_answers.specs.Read.{HasAnswer, IsReadAs};
 ghost use Rattle.idl_answers.specs.Named.{Comes};
@@ -34,13 +37,17 @@ pub fn texts_are_read()
     ensures { (text : List ℕ) → IsReadAs text }
 {}
 
-/// A walk over files ends in some way other than for want of memory or for a failed load, whatever is due and whatever files hold. Where no file is
-/// held, a walk that comes to an import ends as absent there. `idl_names: walks_have_one_ending` says that a walk ends in one such way alone.
-#[tactic(auto, using(crate::proofs::Ends::each_walk, crate::proofs::Instances::nothing_held))]
+/// A walk over files ends in some way other than for want of memory or for a failed load, whatever is due and whatever files hold. Where it is told
+/// which loads fail, it ends in some way other than for want of memory, by a failed load where it comes to one. Where no file is held, a walk
+/// that comes to an import ends as absent there. `idl_names: walks_have_one_ending` says that a walk ends in one such way alone.
+#[tactic(auto, using(crate::proofs::Ends::each_walk, crate::proofs::Ends::each_told_walk, crate::proofs::Instances::nothing_held, crate::proofs::Instances::load_fails))]
 pub fn walks_end()
     ensures ends { (held : Option (List ℕ → Option (List ℕ))) (s : State) (dues : List Due) → HasEnding held s dues }
+    ensures told { (held : Option (List ℕ → Option (List ℕ))) (fails : List ℕ → Bool) (s : State) (dues : List Due) → HasToldEnding held fails s dues }
     ensures absent { (place : Place) (e : Ending) → is_decided e ≡ true → Walk (Some (λ name. None)) (start []) (Load place (codes "a.idl") ∷ []) e
         → e ≡ Stopped (source (codes "a.idl") [] ∷ []) (Absent 0) }
+    ensures failed { (place : Place) (e : Ending) → has_memory e ≡ true → (w : Walk (Some (λ name. None)) (start []) (Load place (codes "a.idl") ∷ []) e) → FailsAs (λ name. true) w
+        → e ≡ Stopped (source (codes "a.idl") [] ∷ []) (Failed 0) }
 {}
 
 /// Each main file has names, with all that it imports, or a first fault of the files, in some way other than for want of memory or for a failed
@@ -49,9 +56,12 @@ pub fn names_are_resolved()
     ensures { (held : Option (List ℕ → Option (List ℕ))) (main : List Source) (t : Tree) → Comes held main t }
 {}
 
-/// Files whose names are resolved mean an interface, which is legal if its names are identifiers, or break a rule. So each main file, with all that
-/// it imports, means an interface or is refused: for a rule, for names, for a file that it imports (which is absent, or has a fault of its own), for its syntax or for its tokens.
+/// Files whose names are resolved mean an interface, which is legal if its names are identifiers, or break a rule. The names of what is read from
+/// a text are identifiers: those of its members, arms, operations and parameters. So each main file, with all that it imports, means a legal
+/// interface or is refused: for a rule, for names, for a file that it imports (which is absent, or has a fault of its own), for its syntax or for its tokens.
 pub fn files_are_judged()
     ensures resolved { (held : Option (List ℕ → Option (List ℕ))) (main : List Source) (t : Tree) (s : State) → IsResolved held main t s → IsJudged (world s) }
+    ensures named { (held : Option (List ℕ → Option (List ℕ))) (main : List Source) (text : List ℕ) (t : Tree) (s : State) → IsFile text t → IsResolved held main t s
+        → HasIdentifiers (types_of (scene_of (world s))) (operations_of (scene_of (world s))) }
     ensures outcome { (held : Option (List ℕ → Option (List ℕ))) (name text : List ℕ) → HasOutcome held name text }
 {}

@@ -173,7 +173,7 @@ fn breaks_header(scope: &Scope, main: &Tree, acf: &Acf) -> bool
 pub(crate) fn acf_breach(alloc: Global, scope: &Scope, acf: &Acf) -> Result<Option<Breach>, Memory>
     ensures { IfOk result (λ b. option_map seen_breach b ≡ first_of (world_of scope.now) (acf_breaches (world_of scope.now) (Some (seen_acf acf.now)))) }
 {
-    let main = main_tree(&scope.files)?;
+    let main = main_tree(scope);
     let operations = operations_of(alloc, main.exports.as_slice())?;
     let mut finder = Finder::new(&scope.files);
     note(&mut finder, acf.at, breaks_header(scope, main, acf));

@@ -31,7 +31,7 @@ fn is_switch_primitive(of: Option<Primitive>) -> bool
 
 impl Kind {
     /// The number of the type to which this points.
-    pub fn pointee(self) -> Option<u32>
+    pub fn pointee(self) -> Option<usize>
         ensures { result ≡ pointee_of self }
     {
         match self {
@@ -41,7 +41,7 @@ impl Kind {
     }
 
     /// The number of the type to which this points, if it is a reference pointer.
-    pub fn referent(self) -> Option<u32>
+    pub fn referent(self) -> Option<usize>
         ensures { result ≡ referent_of self }
     {
         match self {

@@ -46,21 +46,21 @@ pub enum Kind {
     },
     /// Without a count it is conformant.
     Array {
-        element: u32,
+        element: usize,
         count: Option<i128>,
         varying: bool,
     },
     /// An array with `string`.
     Text {
-        element: u32,
+        element: usize,
         count: Option<i128>,
     },
     Pointer {
         class: Class,
-        to: u32,
+        to: usize,
     },
     Pipe {
-        element: u32,
+        element: usize,
     },
 }
 
@@ -99,16 +99,6 @@ fn primitive_number(of: Primitive) -> u8
         Primitive::UnsignedLong => 8,
         Primitive::Hyper => 9,
         Primitive::UnsignedHyper => 10,
-    }
-}
-
-/// A number of 32 bits. There is no memory for more types.
-pub fn narrow(number: usize) -> Result<u32, Memory>
-    ensures { IfOk result (λ n. n ≡ number) }
-{
-    match u32::try_from(number) {
-        Ok(number) => Ok(number),
-        Err(_) => Err(Memory),
     }
 }
 
@@ -160,7 +150,7 @@ impl Kind {
     }
 
     /// The number of the type that this points to or is made of as an array, text or pipe.
-    pub fn inner(self) -> Option<u32>
+    pub fn inner(self) -> Option<usize>
         ensures { result ≡ inner_of self }
     {
         match self {
@@ -192,18 +182,18 @@ impl Kinds {
     }
 
     /// The kind of a type by its number; what is no number of a type stands for `void`.
-    pub fn kind(&self, number: u32) -> Kind
+    pub fn kind(&self, number: usize) -> Kind
         ensures seen { type_by (seen_types self.now) result ≡ type_at self.now number }
         ensures inside { is_inside number result ≡ true }
     {
-        match self.entries.get_index(number as usize) {
+        match self.entries.get_index(number) {
             Some(kind) => *kind,
             None => Kind::Void,
         }
     }
 
     /// The number of a type. One that was not met yet goes last. Takes memory for it.
-    pub fn add(&mut self, kind: Kind) -> Result<u32, Memory>
+    pub fn add(&mut self, kind: Kind) -> Result<usize, Memory>
         requires { is_inside (length self.old) kind ≡ true }
         ensures stands { IfOk result (λ n. Stands self.new n (type_by (seen_types self.old) kind)) }
         ensures keeps { Keeps self.old self.new }
@@ -211,7 +201,6 @@ impl Kinds {
         let Ok((number, _)) = self.entries.insert_full(kind) else {
             return Err(Memory);
         };
-        let number = narrow(number)?;
         Ok(number)
     }
 }

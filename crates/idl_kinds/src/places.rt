@@ -17,7 +17,7 @@ struct Spot {
 /// Numbers by places, in the order in which the places came. Contracts see it as that list.
 #[derive(Drop)]
 pub struct Places {
-    entries: IndexMap<Spot, u32>,
+    entries: IndexMap<Spot, usize>,
 }
 
 impl Model for Places {
@@ -41,7 +41,7 @@ impl Places {
     }
 
     /// The number of a place, if it is there.
-    pub fn get(&self, place: Place) -> Option<u32>
+    pub fn get(&self, place: Place) -> Option<usize>
         ensures { result ≡ found_place place self.now }
     {
         let spot = Spot {
@@ -52,7 +52,7 @@ impl Places {
     }
 
     /// Gives a place that is not there its number. Takes memory for it.
-    pub fn put(&mut self, place: Place, number: u32) -> Result<(), Memory>
+    pub fn put(&mut self, place: Place, number: usize) -> Result<(), Memory>
         requires { found_place place self.old ≡ None }
         ensures { OnOk result (self.new ≡ self.old ++ (place, number) ∷ []) }
     {

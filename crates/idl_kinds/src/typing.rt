@@ -28,26 +28,26 @@ pub fn number(scope: &Scope, expression: &Expr) -> i128
     }
 }
 
-/// One more than the greatest index. A number past 128 bits would take more names than memory can hold.
-fn count_through(greatest: i128) -> Result<Option<i128>, Memory>
-    ensures { IfOk result (λ z. z ≡ Some (greatest +ℤ pos 1)) }
+/// One more than the greatest index.
+fn count_through(scope: &Scope, greatest: &Expr) -> i128
+    ensures { result ≡ value_in (known_in scope.now) (seen_expr greatest.now) +ℤ pos 1 }
 {
-    match greatest.checked_add(1) {
-        Some(count) => Ok(Some(count)),
-        None => Err(Memory),
+    match value(scope, greatest) {
+        Ok(number) => number + 1,
+        Err(_) => 1,
     }
 }
 
 /// The count of a dimension.
-fn count_of(scope: &Scope, bound: &Option<Bound>) -> Result<Option<i128>, Memory>
-    ensures { IfOk result (λ z. z ≡ types.count_of (known_in scope.now) (option_map seen_bound bound.now)) }
+fn count_of(scope: &Scope, bound: &Option<Bound>) -> Option<i128>
+    ensures { result ≡ types.count_of (known_in scope.now) (option_map seen_bound bound.now) }
 {
     match bound {
-        None => Ok(None),
-        Some(Bound::Star) => Ok(None),
-        Some(Bound::Count(expression)) => Ok(Some(number(scope, expression))),
-        Some(Bound::From(_)) => Ok(None),
-        Some(Bound::Between(_, greatest)) => count_through(number(scope, greatest)),
+        None => None,
+        Some(Bound::Star) => None,
+        Some(Bound::Count(expression)) => Some(number(scope, expression)),
+        Some(Bound::From(_)) => None,
+        Some(Bound::Between(_, greatest)) => Some(count_through(scope, greatest)),
     }
 }
 
@@ -56,9 +56,9 @@ fn with_stars(
     kinds: &mut Kinds,
     default: Class,
     outermost: Class,
-    of: u32,
+    of: usize,
     stars: &[u32],
-) -> Result<u32, Memory>
+) -> Result<usize, Memory>
     requires { of < length kinds.old }
     ensures stands { IfOk result (λ n. Stands kinds.new n (types.with_stars (seen_class default) (seen_class outermost) (type_at kinds.old of) stars.now)) }
     ensures keeps { Keeps kinds.old kinds.new }
@@ -81,16 +81,16 @@ fn with_stars(
 fn with_dimensions(
     scope: &Scope,
     kinds: &mut Kinds,
-    of: u32,
+    of: usize,
     dimensions: &[Option<Bound>],
-) -> Result<u32, Memory>
+) -> Result<usize, Memory>
     requires { of < length kinds.old }
     ensures stands { IfOk result (λ n. Stands kinds.new n (types.with_dimensions (known_in scope.now) (type_at kinds.old of) (map (option_map seen_bound) dimensions.now))) }
     ensures keeps { Keeps kinds.old kinds.new }
 {
     let mut element = of;
     for done in 0..dimensions.len() {
-        let count = count_of(scope, &dimensions[dimensions.len() - 1 - done])?;
+        let count = count_of(scope, &dimensions[dimensions.len() - 1 - done]);
         element = kinds.add(Kind::Array {
             element,
             count,
@@ -129,8 +129,8 @@ fn with_declarator(
     kinds: &mut Kinds,
     construct: &Construct,
     declarator: &Declarator,
-    of: u32,
-) -> Result<u32, Memory>
+    of: usize,
+) -> Result<usize, Memory>
     requires { of < length kinds.old }
     ensures stands { IfOk result (λ n. Stands kinds.new n (types.with_declarator (known_in scope.now) (seen_construct construct.now) (seen_declarator declarator.now) (type_at kinds.old of))) }
     ensures keeps { Keeps kinds.old kinds.new }
@@ -143,7 +143,7 @@ fn with_declarator(
 }
 
 /// Whether a declarator is one pointer to `void`, with context_handle.
-fn is_context_handle(kinds: &Kinds, declared: &Declared, of: u32) -> bool
+fn is_context_handle(kinds: &Kinds, declared: &Declared, of: usize) -> bool
     ensures { result ≡ types.is_context_handle (seen_declared declared.now) (type_at kinds.now of) }
 {
     has(declared.construct.attributes, Word::ContextHandle)
@@ -152,7 +152,7 @@ fn is_context_handle(kinds: &Kinds, declared: &Declared, of: u32) -> bool
         && is_void(kinds, of)
 }
 
-fn is_void(kinds: &Kinds, of: u32) -> bool
+fn is_void(kinds: &Kinds, of: usize) -> bool
     ensures { result ≡ types.is_void (type_at kinds.now of) }
 {
     match kinds.kind(of) {
@@ -165,9 +165,9 @@ fn is_void(kinds: &Kinds, of: u32) -> bool
 fn type_before(
     scope: &Scope,
     kinds: &mut Kinds,
-    names: &Table<u32>,
+    names: &Table<usize>,
     declared: &Declared,
-) -> Result<u32, Memory>
+) -> Result<usize, Memory>
     requires { are_within (length kinds.old) names.now ≡ true }
     ensures stands { IfOk result (λ n. Stands kinds.new n (types.type_before (known_in scope.now) (seen_names kinds.old names.now) (seen_declared declared.now))) }
     ensures keeps { Keeps kinds.old kinds.new }
@@ -184,9 +184,9 @@ fn type_before(
 pub fn declared_type(
     scope: &Scope,
     kinds: &mut Kinds,
-    names: &Table<u32>,
+    names: &Table<usize>,
     declared: &Declared,
-) -> Result<u32, Memory>
+) -> Result<usize, Memory>
     requires { are_within (length kinds.old) names.now ≡ true }
     ensures stands { IfOk result (λ n. Stands kinds.new n (types.declared_type (known_in scope.now) (seen_names kinds.old names.now) (seen_declared declared.now))) }
     ensures keeps { Keeps kinds.old kinds.new }
@@ -206,7 +206,7 @@ pub fn declared_type(
 }
 
 /// What a pointer with `string` points to.
-fn text_of(kinds: &mut Kinds, of: u32) -> Result<u32, Memory>
+fn text_of(kinds: &mut Kinds, of: usize) -> Result<usize, Memory>
     requires { of < length kinds.old }
     ensures stands { IfOk result (λ n. Stands kinds.new n (types.text_of (type_at kinds.old of))) }
     ensures keeps { Keeps kinds.old kinds.new }
@@ -222,7 +222,7 @@ fn text_of(kinds: &mut Kinds, of: u32) -> Result<u32, Memory>
 }
 
 /// What a pointer with size_is or max_is points to.
-fn sized(kinds: &mut Kinds, varying: bool, of: u32) -> Result<u32, Memory>
+fn sized(kinds: &mut Kinds, varying: bool, of: usize) -> Result<usize, Memory>
     requires { of < length kinds.old }
     ensures stands { IfOk result (λ n. Stands kinds.new n (types.sized varying (type_at kinds.old of))) }
     ensures keeps { Keeps kinds.old kinds.new }
@@ -245,7 +245,7 @@ fn sized(kinds: &mut Kinds, varying: bool, of: u32) -> Result<u32, Memory>
 }
 
 /// What a pointer with attributes points to.
-fn pointee_with(kinds: &mut Kinds, attributes: &[Attribute], of: u32) -> Result<u32, Memory>
+fn pointee_with(kinds: &mut Kinds, attributes: &[Attribute], of: usize) -> Result<usize, Memory>
     requires { of < length kinds.old }
     ensures stands { IfOk result (λ n. Stands kinds.new n (types.pointee_with (map seen_attribute attributes.now) (type_at kinds.old of))) }
     ensures keeps { Keeps kinds.old kinds.new }
@@ -263,10 +263,10 @@ fn pointee_with(kinds: &mut Kinds, attributes: &[Attribute], of: u32) -> Result<
 fn array_with(
     kinds: &mut Kinds,
     attributes: &[Attribute],
-    element: u32,
+    element: usize,
     count: Option<i128>,
     varying: bool,
-) -> Result<u32, Memory>
+) -> Result<usize, Memory>
     requires { element < length kinds.old }
     ensures stands { IfOk result (λ n. Stands kinds.new n (types.array_with (map seen_attribute attributes.now) (type_at kinds.old element) count varying)) }
     ensures keeps { Keeps kinds.old kinds.new }
@@ -297,8 +297,8 @@ fn pointer_with(
     kinds: &mut Kinds,
     attributes: &[Attribute],
     class: Class,
-    to: u32,
-) -> Result<u32, Memory>
+    to: usize,
+) -> Result<usize, Memory>
     requires { to < length kinds.old }
     ensures stands { IfOk result (λ n. Stands kinds.new n (types.with_attributes (map seen_attribute attributes.now) (Pointer (seen_class class) (type_at kinds.old to)))) }
     ensures keeps { Keeps kinds.old kinds.new }
@@ -310,7 +310,7 @@ fn pointer_with(
 }
 
 /// A type with the attributes of its declarator.
-pub fn with_attributes(kinds: &mut Kinds, attributes: &[Attribute], of: u32) -> Result<u32, Memory>
+pub fn with_attributes(kinds: &mut Kinds, attributes: &[Attribute], of: usize) -> Result<usize, Memory>
     requires { of < length kinds.old }
     ensures stands { IfOk result (λ n. Stands kinds.new n (types.with_attributes (map seen_attribute attributes.now) (type_at kinds.old of))) }
     ensures keeps { Keeps kinds.old kinds.new }

@@ -47,7 +47,7 @@ pub fn simple_kind(of: SimpleType) -> Kind
 }
 
 /// A type without parts.
-fn simple(kinds: &mut Kinds, of: SimpleType) -> Result<u32, Memory>
+fn simple(kinds: &mut Kinds, of: SimpleType) -> Result<usize, Memory>
     ensures stands { IfOk result (λ n. Stands kinds.new n (types.simple_type of)) }
     ensures keeps { Keeps kinds.old kinds.new }
 {
@@ -56,7 +56,7 @@ fn simple(kinds: &mut Kinds, of: SimpleType) -> Result<u32, Memory>
 }
 
 /// The type of a name. Each name of a type is known where it is used.
-fn named(kinds: &mut Kinds, names: &Table<u32>, name: &Identifier) -> Result<u32, Memory>
+fn named(kinds: &mut Kinds, names: &Table<usize>, name: &Identifier) -> Result<usize, Memory>
     requires { are_within (length kinds.old) names.now ≡ true }
     ensures stands { IfOk result (λ n. Stands kinds.new n (types.named_type (seen_names kinds.old names.now) name.now)) }
     ensures keeps { Keeps kinds.old kinds.new }
@@ -68,7 +68,7 @@ fn named(kinds: &mut Kinds, names: &Table<u32>, name: &Identifier) -> Result<u32
 }
 
 /// The type of what tells the arms of a union apart.
-pub fn switch(kinds: &mut Kinds, names: &Table<u32>, of: &SwitchType) -> Result<u32, Memory>
+pub fn switch(kinds: &mut Kinds, names: &Table<usize>, of: &SwitchType) -> Result<usize, Memory>
     requires { are_within (length kinds.old) names.now ≡ true }
     ensures stands { IfOk result (λ n. Stands kinds.new n (types.switch_type (seen_names kinds.old names.now) of.now)) }
     ensures keeps { Keeps kinds.old kinds.new }
@@ -109,7 +109,7 @@ pub fn tag(
     file: u16,
     kind: TagKind,
     tag: &Identifier,
-) -> Result<u32, Memory>
+) -> Result<usize, Memory>
     ensures stands { IfOk result (λ n. Stands kinds.new n (types.type_of_tag (known_in scope.now) file kind tag.now)) }
     ensures keeps { Keeps kinds.old kinds.new }
 {
@@ -135,7 +135,7 @@ fn body(
     kind: TagKind,
     at: u32,
     tag: &Option<Identifier>,
-) -> Result<u32, Memory>
+) -> Result<usize, Memory>
     ensures stands { IfOk result (λ n. Stands kinds.new n (types.tagged_type kind (types.place_of_body file at tag.now))) }
     ensures keeps { Keeps kinds.old kinds.new }
 {
@@ -148,10 +148,10 @@ fn body(
 pub fn written(
     scope: &Scope,
     kinds: &mut Kinds,
-    names: &Table<u32>,
+    names: &Table<usize>,
     file: u16,
     of: &TypeSpec,
-) -> Result<u32, Memory>
+) -> Result<usize, Memory>
     requires { are_within (length kinds.old) names.now ≡ true }
     ensures stands { IfOk result (λ n. Stands kinds.new n (types.written_type (known_in scope.now) (seen_names kinds.old names.now) file (seen_type of.now))) }
     ensures keeps { Keeps kinds.old kinds.new }

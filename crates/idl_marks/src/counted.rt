@@ -117,7 +117,7 @@ fn inner(kind: Kind, counts: &[Counted]) -> Counted
     let Some(number) = kind.inner() else {
         return Counted::plain();
     };
-    match counts.get(number as usize) {
+    match counts.get(number) {
         Some(counted) => *counted,
         None => Counted::plain(),
     }
@@ -128,11 +128,8 @@ pub(crate) fn of_kinds(alloc: Global, kinds: &Kinds) -> Result<Vec<Counted>, Mem
     ensures count { IfOk result (λ v. length v.items ≡ length kinds.now) }
     ensures each { IfOk result (λ v. (n : ℕ) (c : Counted) → slice_get v.items n ≡ Some c → IsCounted (type_at kinds.now n) c) }
 {
-    let Ok(count) = u32::try_from(kinds.len()) else {
-        return Err(Memory);
-    };
     let mut counts = Vec::new(alloc);
-    for number in 0..count {
+    for number in 0..kinds.len() {
         let kind = kinds.kind(number);
         let counted = inner(kind, counts.as_slice()).of(kind);
         let Ok(()) = counts.push(counted) else {

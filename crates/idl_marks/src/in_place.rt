@@ -21,7 +21,7 @@ use nd_types::NESTING_LIMIT;
 use std::alloc::Global;
 
 /// The number of a type, or that of `void` behind all types.
-fn node(number: u32, count: u32) -> u32
+fn node(number: usize, count: usize) -> usize
     ensures same { (ks : List Kind) → length ks ≡ count → type_at ks result ≡ type_at ks number }
     ensures within { ltb result (suc count) ≡ true }
 {
@@ -29,7 +29,7 @@ fn node(number: u32, count: u32) -> u32
 }
 
 /// Types by their nodes.
-fn nodes(alloc: Global, numbers: &[u32], count: u32) -> Result<Vec<u32>, Memory>
+fn nodes(alloc: Global, numbers: &[usize], count: usize) -> Result<Vec<usize>, Memory>
     ensures { (ks : List Kind) → length ks ≡ count → IfOk result (λ v. AreHeld ks count v.items (map (type_at ks) numbers.now)) }
 {
     let mut held = Vec::new(alloc);
@@ -42,21 +42,21 @@ fn nodes(alloc: Global, numbers: &[u32], count: u32) -> Result<Vec<u32>, Memory>
 }
 
 /// The types of the parts of a body of a place.
-fn parts_of(alloc: Global, types: &Types, place: Place, count: u32) -> Result<Vec<u32>, Memory>
+fn parts_of(alloc: Global, types: &Types, place: Place, count: usize) -> Result<Vec<usize>, Memory>
     ensures { (s : Scene) (n : program_nodes.Nodes) → IsTypes s n types.now → length types.now.kinds ≡ count
         → IfOk result (λ v. AreHeld types.now.kinds count v.items (parts_in_place s place)) }
 {
     let Some(number) = types.body_of(place) else {
         return Ok(Vec::new(alloc));
     };
-    match types.bodies.get(number as usize) {
+    match types.bodies.get(number) {
         Some(body) => nodes(alloc, body.parts.as_slice(), count),
         None => Ok(Vec::new(alloc)),
     }
 }
 
 /// The types that a type of this kind holds in its place.
-fn held(alloc: Global, types: &Types, kind: Kind, count: u32) -> Result<Vec<u32>, Memory>
+fn held(alloc: Global, types: &Types, kind: Kind, count: usize) -> Result<Vec<usize>, Memory>
     ensures { (s : Scene) (n : program_nodes.Nodes) → IsTypes s n types.now → length types.now.kinds ≡ count
         → IfOk result (λ v. AreHeld types.now.kinds count v.items (in_place s (type_by (seen_types types.now.kinds) kind))) }
 {
@@ -71,7 +71,7 @@ fn held(alloc: Global, types: &Types, kind: Kind, count: u32) -> Result<Vec<u32>
 }
 
 /// All types, and `void` behind them, with what they hold in their place.
-fn places(alloc: Global, types: &Types, count: u32) -> Result<Graph, Memory>
+fn places(alloc: Global, types: &Types, count: usize) -> Result<Graph, Memory>
     ensures { (s : Scene) (n : program_nodes.Nodes) → IsTypes s n types.now → length types.now.kinds ≡ count → IfOk result (IsPlaces s types.now.kinds count) }
 {
     let mut graph = Graph::new(alloc);
@@ -111,7 +111,7 @@ fn barred(kind: Kind) -> Rule
 }
 
 /// When types hoist, by their numbers, and `void` behind them.
-fn hoists_rules(alloc: Global, kinds: &Kinds, count: u32) -> Result<Vec<Rule>, Memory>
+fn hoists_rules(alloc: Global, kinds: &Kinds, count: usize) -> Result<Vec<Rule>, Memory>
     ensures { length kinds.now ≡ count → IfOk result (λ v. AreRules hoists_rule kinds.now count v.items) }
 {
     let mut rules = Vec::new(alloc);
@@ -127,7 +127,7 @@ fn hoists_rules(alloc: Global, kinds: &Kinds, count: u32) -> Result<Vec<Rule>, M
 }
 
 /// When types may not stand in pipes, by their numbers, and `void` behind them.
-fn barred_rules(alloc: Global, kinds: &Kinds, count: u32) -> Result<Vec<Rule>, Memory>
+fn barred_rules(alloc: Global, kinds: &Kinds, count: usize) -> Result<Vec<Rule>, Memory>
     ensures { length kinds.now ≡ count → IfOk result (λ v. AreRules barred_rule kinds.now count v.items) }
 {
     let mut rules = Vec::new(alloc);
@@ -153,13 +153,16 @@ pub struct Properties {
 }
 
 /// The properties of all types. Takes memory for each type and each part of a body.
-pub(crate) fn properties_of(alloc: Global, types: &Types, count: u32) -> Result<Properties, Memory>
+pub(crate) fn properties_of(alloc: Global, types: &Types, count: usize) -> Result<Properties, Memory>
     ensures { (s : Scene) (n : program_nodes.Nodes) → IsTypes s n types.now → length types.now.kinds ≡ count → IfOk result (AreProperties s types.now.kinds count) }
 {
     let graph = places(alloc, types, count)?;
     let hoists = hoists_rules(alloc, &types.kinds, count)?;
     let barred = barred_rules(alloc, &types.kinds, count)?;
-    let nests = vec![in alloc; Rule::All; count as usize + 1]?;
+    let mut nests = vec![in alloc; Rule::All; count]?;
+    let Ok(()) = nests.push(Rule::All) else {
+        return Err(Memory);
+    };
     Ok(Properties {
         hoists: properties(alloc, &graph, hoists.as_slice(), NESTING_LIMIT as usize)?,
         nests: properties(alloc, &graph, nests.as_slice(), NESTING_LIMIT as usize)?,

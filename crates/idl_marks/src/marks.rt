@@ -17,7 +17,7 @@ ghost use Rattle.idl_marks.specs.SeenMarks.{mark_at, IsMark, AreMarks};
 
 use crate::counted::{Counted, of_kinds};
 use crate::in_place::{Properties, properties_of};
-use idl_kinds::kinds::{Class, Kind, narrow};
+use idl_kinds::kinds::{Class, Kind};
 use idl_types::types::Types;
 use nd_base::{Memory, Place};
 use std::alloc::Global;
@@ -84,10 +84,10 @@ const OF_VOID: Mark = Mark {
 
 impl Marks {
     /// The mark of a type; what is no number of a type stands for `void`.
-    pub fn get(&self, number: u32) -> Mark
+    pub fn get(&self, number: usize) -> Mark
         ensures { result ≡ mark_at self.now number }
     {
-        match self.items.get(number as usize) {
+        match self.items.get(number) {
             Some(mark) => *mark,
             None => OF_VOID,
         }
@@ -128,7 +128,7 @@ fn is_nonencapsulated_at(types: &Types, place: Place) -> bool
     let Some(number) = types.body_of(place) else {
         return false;
     };
-    match types.bodies.get(number as usize) {
+    match types.bodies.get(number) {
         Some(body) => body.nonencapsulated,
         None => false,
     }
@@ -212,10 +212,10 @@ fn has_wrong_element(types: &Types, kind: Kind, properties: &Properties) -> bool
 }
 
 /// A property by the number of a type.
-fn holds(property: &Vec<bool>, number: u32) -> bool
+fn holds(property: &Vec<bool>, number: usize) -> bool
     ensures { result ≡ slice_index_or property.now.items number false }
 {
-    match property.get(number as usize) {
+    match property.get(number) {
         Some(value) => *value,
         None => false,
     }
@@ -243,7 +243,7 @@ fn refers_to_reference(types: &Types, kind: Kind) -> bool
 }
 
 /// What the type of a number is itself.
-fn own_of(types: &Types, number: u32, properties: &Properties) -> Own
+fn own_of(types: &Types, number: usize, properties: &Properties) -> Own
     ensures { (s : Scene) (n : program_nodes.Nodes) (count : ℕ) → IsTypes s n types.now → length types.now.kinds ≡ count → number < count
         → AreProperties s types.now.kinds count properties.now → IsOwn s (type_at types.now.kinds number) result }
 {
@@ -311,7 +311,7 @@ fn mark_of(own: &Own, counted: &Counted, below: &Mark) -> Mark
 /// The mark of the type of a number, from those of the types before it.
 fn next_mark(
     types: &Types,
-    number: u32,
+    number: usize,
     properties: &Properties,
     counted: &Counted,
     before: &Marks,
@@ -331,14 +331,14 @@ fn next_mark(
 pub fn of_types(alloc: Global, types: &Types) -> Result<Marks, Memory>
     ensures { IfOk result (λ m. (s : Scene) (n : program_nodes.Nodes) → IsTypes s n types.now → AreMarks s types.now.kinds m) }
 {
-    let count = narrow(types.kinds.len())?;
+    let count = types.kinds.len();
     let properties = properties_of(alloc, types, count)?;
     let counted = of_kinds(alloc, &types.kinds)?;
     let mut marks = Marks {
         items: Vec::new(alloc),
     };
     for number in 0..count {
-        let Some(one) = counted.get(number as usize) else {
+        let Some(one) = counted.get(number) else {
             unreachable!();
         };
         let mark = next_mark(types, number, &properties, one, &marks);

@@ -75,7 +75,7 @@ each_fields s names list [] = refl
 each_fields s names list (d ∷ ds) = ap (λ fs. field s names list d ∷ fs) (each_fields s names list ds)
 
 -- the body that was found, with what it is
-there_as : (s : Scene) (ks : List Kind) (place : Place) (f : FoundBody) (t : TypeSpec) (h : IsFound s ks place f) → seen_type f.body.now ≡ t
+pub there_as : (s : Scene) (ks : List Kind) (place : Place) (f : FoundBody) (t : TypeSpec) (h : IsFound s ks place f) → seen_type f.body.now ≡ t
     → body_of s place ≡ Some (record { construct = h.body.construct; names = h.body.names; body = t })
 there_as s ks place f t h e = h.there ∙ ap (λ b. Some (record { construct = h.body.construct; names = h.body.names; body = b })) (h.type ∙ e)
 
@@ -293,16 +293,16 @@ narrow_bound (Some n) h =
     let f : n ≤ 16777216 = leb-true n 16777216 e in
     lt-ltb n 4294967296 (omega (arith, f))
 
--- each of them has a small bound, where all types of the table have
-pub own_bound : (s : Scene) (ks : List Kind) (t : Numbers) → AreNumbers s ks t → list_all has_small_bound (types_of s) ≡ true → (xs : List Own) → xs ≡ t.own.items
-    → (i : ℕ) (o : Own) → i < length xs → has_small_bound (definition s (type_at ks (get_or xs i o).kind)) ≡ true
-own_bound s ks t h all xs same i o below =
+-- each of them passes a test, where all types of the table do
+pub own_passes : (test : TypeDef → Bool) (s : Scene) (ks : List Kind) (t : Numbers) → AreNumbers s ks t → list_all test (types_of s) ≡ true → (xs : List Own) → xs ≡ t.own.items
+    → (i : ℕ) (o : Own) → i < length xs → test (definition s (type_at ks (get_or xs i o).kind)) ≡ true
+own_passes test s ks t h all xs same i o below =
     let d : Own → TypeDef = λ o. definition s (type_at ks o.kind) in
-    let own : list_all has_small_bound (map (λ n. definition s n.type) (own_types s)) ≡ true =
-    second_true (list_all has_small_bound basic_types) (list_all has_small_bound (map (λ n. definition s n.type) (own_types s)))
-    (sym (list_all-append has_small_bound basic_types (map (λ n. definition s n.type) (own_types s))) ∙ all) in
-    let here : list_all has_small_bound (map d xs) ≡ true = ap (λ (l : List Own). list_all has_small_bound (map d l)) same ∙ ap (list_all has_small_bound) (own_made s ks t h) ∙ own in
-    passes_at has_small_bound (map d xs) i (d (get_or xs i o)) here (slice_get-map d xs i ∙ ap (option_map d) (slice_get-get_or xs i o below))
+    let own : list_all test (map (λ n. definition s n.type) (own_types s)) ≡ true =
+    second_true (list_all test basic_types) (list_all test (map (λ n. definition s n.type) (own_types s)))
+    (sym (list_all-append test basic_types (map (λ n. definition s n.type) (own_types s))) ∙ all) in
+    let here : list_all test (map d xs) ≡ true = ap (λ (l : List Own). list_all test (map d l)) same ∙ ap (list_all test) (own_made s ks t h) ∙ own in
+    passes_at test (map d xs) i (d (get_or xs i o)) here (slice_get-map d xs i ∙ ap (option_map d) (slice_get-get_or xs i o below))
 
 -- ## Bodies
 

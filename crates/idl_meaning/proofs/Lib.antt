@@ -5,4 +5,5 @@ pub mod Defining
 pub mod Operating
 pub mod MainFile
 pub mod Named
+pub mod Limits
 pub mod UuidDigits

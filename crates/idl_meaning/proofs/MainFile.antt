@@ -9,6 +9,7 @@ use Rattle.idl_lexer.specs.Numbers.{number_of}
 use Rattle.idl_grammar.specs.Tree.{Tree, Attribute, AttributeKind}
 use Rattle.idl_grammar.specs.Tree as tree
 use Rattle.idl_names.specs.Ended.{Ended}
+use Rattle.idl_names.specs.Walk.{has_ended}
 use Rattle.idl_language.specs.World.{World}
 use Rattle.idl_language.specs.Attributes.{first_said}
 use Rattle.idl_language.specs.AttributeRules.{is_out_of_place, is_repeated, is_past_65535, is_large_minor, is_large_version_in, is_large_version, lacks_uuid_and_local}
@@ -33,6 +34,15 @@ main_first fs i f h e = ap main_among (drop_is fs i f h) ∙ ap (λ b. elim b [ 
 -- it is another
 pub main_later : (fs : List Ended) (i : ℕ) (f : Ended) → slice_get fs i ≡ Some f → eqb f.file 0 ≡ false → main_among (drop i fs) ≡ main_among (drop (i + 1) fs)
 main_later fs i f h e = ap main_among (drop_is fs i f h) ∙ ap (λ b. elim b [ true ↦ f.tree ∷ [] | false ↦ main_among (drop (i + 1) fs) ]) e
+
+-- files among which number 0 is have a main file
+pub has_main : (fs : List Ended) → has_ended fs 0 ≡ true → main_among fs ≡ [] → ⊥
+has_main [] h none = cc
+has_main (f ∷ fs) h none = by (eqb f.file 0) h none
+  where
+    by : (b : Bool) → (b || has_ended fs 0) ≡ true → elim b [ true ↦ f.tree ∷ [] | false ↦ main_among fs ] ≡ [] → ⊥
+    by true h none = cc
+    by false h none = has_main fs h none
 
 -- all parts of what a header means
 pub meant_is : (s : Scene) (t : Tree) (m : Meant) → m.name ≡ t.name.octets → m.uuid ≡ first_said uuid_said t.attributes.list

@@ -1,5 +1,5 @@
 -- Members, parameters and arms over the numbers of their types, as the program makes them.
-use Rattle.std.specs.Prelude.{◌≡◌, ℕ, ◌^◌, Bool, true, false, ltb, List, [], ◌∷◌, ◌++◌, map, Option, Some, None, is_none, option_map, ℤ, pos, codes}
+use Rattle.std.specs.Prelude.{◌≡◌, ◌≤◌, ℕ, ◌^◌, Bool, true, false, ltb, nat_le, List, [], ◌∷◌, ◌++◌, map, length, Vec, Option, Some, None, is_none, option_map, ℤ, pos, codes}
 use Rattle.std.specs.List.{flat_map, list_any}
 use Rattle.nd_types.specs.declared.types.TypeId.{TypeId}
 use Rattle.nd_types.specs.declared.types.Field.{Field}
@@ -11,7 +11,8 @@ use Rattle.nd_types.specs.declared.types.Attr.{Attr}
 use Rattle.nd_types.specs.declared.types.Attr.TheVariants as attr
 use Rattle.nd_types.specs.declared.types.TypeDef.{TypeDef}
 use Rattle.nd_types.specs.declared.types.TypeDef.TheVariants as def
-use Rattle.nd_types.specs.declared.TheConstants.{HANDLE}
+use Rattle.nd_types.specs.declared.TheConstants.{HANDLE, TYPE_LIMIT, PARAM_LIMIT, MEMBER_LIMIT}
+use Rattle.nd_types.specs.Legal.{part_count}
 use Rattle.nd_types.specs.declared.types.Primitive.{Primitive}
 use Rattle.idl_grammar.specs.declared.attributes.Variable.{Variable}
 use Rattle.idl_grammar.specs.Tree.{Attribute, Label, TypeSpec}
@@ -32,11 +33,14 @@ use Rattle.idl_language.specs.Scene.{Scene, scene_of, Body, body_of, parts_of, t
 use Rattle.idl_language.specs.ValueRules.{label_value}
 use Rattle.idl_language.specs.VariableRules.{listed_from, variables}
 use Rattle.idl_kinds.specs.Kinds.{type_at}
-use Rattle.idl_nodes.specs.SeenNodes.{seen_construct}
+use Rattle.idl_nodes.specs.declared.nodes.Declared as declared
+use Rattle.idl_nodes.specs.declared.nodes.Node as program_node
+use Rattle.idl_nodes.specs.declared.nodes.Node.TheVariants as node
+use Rattle.idl_nodes.specs.SeenNodes.{seen_construct, list_at}
 use Rattle.idl_types.specs.SeenNumbers.{number_at, AreNumbers}
 use Rattle.idl_types.specs.SeenTypes.{IsTypes}
 use Rattle.idl_types.specs.SeenOperations.{HasTags, HasOperations, Called}
-use Rattle.idl_language.specs.Meaning.{field_vars, way_of, arm_for, name_of_arm, parameter, result_number}
+use Rattle.idl_language.specs.Meaning.{types_of, field_vars, way_of, arm_for, name_of_arm, parameter, result_number}
 use Rattle.nd_base.specs.declared.octets.Place.{Place}
 
 -- ## Numbers
@@ -57,6 +61,14 @@ tag_id ks t (Some k) = id (number_at ks t k)
 abbrev pub is_narrow : Option ℕ → Bool
 is_narrow None = true
 is_narrow (Some n) = ltb n (2 ^ 32)
+
+-- no more members or arms than an interface may have
+abbrev pub has_few_parts : TypeDef → Bool
+has_few_parts d = nat_le (part_count d) MEMBER_LIMIT
+
+-- no more parameters than an operation may have
+abbrev pub has_few_parameters : Operation → Bool
+has_few_parameters o = nat_le (length o.params) PARAM_LIMIT
 
 -- ## Members and parameters
 
@@ -188,11 +200,17 @@ pub record IsProgram (p : Program) : Type 0 where
   pub tags : HasTags (scene_in p) p.types.now
   pub operations : HasOperations (scene_in p) p.nodes.now p.types.now
   pub numbers : AreNumbers (scene_in p) p.types.now.kinds p.numbers.now
+  pub few : length (types_of (scene_in p)) ≤ TYPE_LIMIT
 
 -- a primitive type, or a context handle
 abbrev pub basic_made : Option Primitive → TypeDef
 basic_made (Some p) = def.Prim p
 basic_made None = def.Context
+
+-- the parameters of the operation that a node is
+abbrev pub parameters_at : {A : Type 0} → List (Vec declared.Declared A) → Option program_node.Node → List Declared
+parameters_at lists (Some (node.Operation it number)) = list_at lists number
+parameters_at lists _ = []
 
 -- an operation as an interface has it
 abbrev pub operation_made : Scene → Called → Operation

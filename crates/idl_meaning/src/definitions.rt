@@ -1,5 +1,5 @@
 // The types of an interface.
-ghost use Rattle.std.specs.Prelude.{◌≡◌, true, [], None, map, option_map, slice_get, List, MatchOption, IfOk};
+ghost use Rattle.std.specs.Prelude.{◌≡◌, ◌<◌, ◌^◌, true, [], None, length, map, option_map, slice_get, List, MatchOption, IfOk};
 ghost use Rattle.std.specs.List.{list_all};
 ghost use Rattle.nd_types.specs.declared.types.TypeDef.TheVariants as def;
 ghost use Rattle.nd_types.specs.Legal.{has_small_bound, has_named_parts};
@@ -14,7 +14,7 @@ ghost use Rattle.idl_kinds.specs.Kinds.{type_by, type_at, basic_in, seen_class};
 ghost use Rattle.idl_nodes.specs.SeenNodes.{seen_construct};
 ghost use Rattle.idl_types.specs.SeenNumbers.{number_at};
 ghost use Rattle.idl_meaning.specs.Made as made;
-ghost use Rattle.idl_meaning.specs.Made.{id, ids_of, tag_id, field_with, each_with, valued, arms_with, default_with, basic_made, is_narrow, IsFound, IsProgram, scene_in};
+ghost use Rattle.idl_meaning.specs.Made.{id, ids_of, tag_id, field_with, each_with, valued, arms_with, default_with, basic_made, is_narrow, has_few_parts, IsFound, IsProgram, scene_in};
 
 use crate::arms::{default_arm, labelled_arms, valued_arms};
 use crate::members::{fields, numbered};
@@ -47,25 +47,37 @@ struct FoundBody<'s, 't> {
     noted: &'s BodyTypes,
 }
 
+/// A number of a type, as the table has it.
+fn narrow(number: usize) -> TypeId
+    requires { number < 2 ^ 32 }
+    ensures { result ≡ id number }
+{
+    let Ok(number) = u32::try_from(number) else {
+        unreachable!();
+    };
+    TypeId(number)
+}
+
 /// The number of a type.
-pub(crate) fn number_of(program: &Program<'_, '_>, of: u32) -> TypeId
+pub(crate) fn number_of(program: &Program<'_, '_>, of: usize) -> TypeId
+    requires { IsProgram program.now }
     ensures { result ≡ id (number_at program.now.types.now.kinds program.now.numbers.now of) }
 {
-    TypeId(program.numbers.number(&program.types.kinds, of))
+    narrow(program.numbers.number(&program.types.kinds, of))
 }
 
 /// What is noted of a body, by its number.
-fn noted_at(types: &Types, number: u32) -> Option<&BodyTypes>
+fn noted_at(types: &Types, number: usize) -> Option<&BodyTypes>
     ensures { option_map (λ b. b.now) result ≡ slice_get types.now.bodies.items number }
 {
-    types.bodies.get(number as usize)
+    types.bodies.get(number)
 }
 
 /// A node, by its number.
-pub(crate) fn node_at<'s, 't>(nodes: &'s Nodes<'t>, number: u32) -> Option<&'s Node<'t>>
+pub(crate) fn node_at<'s, 't>(nodes: &'s Nodes<'t>, number: usize) -> Option<&'s Node<'t>>
     ensures { option_map (λ n. n.now) result ≡ slice_get nodes.now.items.items number }
 {
-    nodes.items.get(number as usize)
+    nodes.items.get(number)
 }
 
 /// The body of a place.
@@ -107,6 +119,8 @@ fn struct_of(
     program: &Program<'_, '_>,
     found: &FoundBody<'_, '_>,
 ) -> Result<TypeDef, Memory>
+    requires program { IsProgram program.now }
+    requires few { length (parts_declared (seen_construct found.now.construct.now) (seen_type found.now.body.now)) < 2 ^ 32 }
     ensures made { IfOk result (λ d. d ≡ meaning.struct_of (each_with
         (field_with (parts_declared (seen_construct found.now.construct.now) (seen_type found.now.body.now)))
         (parts_declared (seen_construct found.now.construct.now) (seen_type found.now.body.now))
@@ -114,12 +128,7 @@ fn struct_of(
     ensures named { IfOk result (λ d. has_named_parts d ≡ true) }
 {
     let list = parts(alloc, found.construct, found.body)?;
-    let ids = numbered(
-        alloc,
-        program.numbers,
-        &program.types.kinds,
-        found.noted.parts.as_slice(),
-    )?;
+    let ids = numbered(alloc, program, found.noted.parts.as_slice())?;
     let members = fields(alloc, list.as_slice(), ids.as_slice())?;
     if members.len() == 0 {
         return Ok(nothing(alloc));
@@ -128,7 +137,8 @@ fn struct_of(
 }
 
 /// The number of the type of a union's tag.
-fn tag_number(program: &Program<'_, '_>, tag: Option<u32>) -> TypeId
+fn tag_number(program: &Program<'_, '_>, tag: Option<usize>) -> TypeId
+    requires { IsProgram program.now }
     ensures { result ≡ tag_id program.now.types.now.kinds program.now.numbers.now tag }
 {
     match tag {
@@ -144,6 +154,7 @@ fn union_of(
     encapsulated: bool,
     found: &FoundBody<'_, '_>,
 ) -> Result<TypeDef, Memory>
+    requires { IsProgram program.now }
     ensures made { IfOk result (λ d. d ≡ def.Union
         (tag_id program.now.types.now.kinds program.now.numbers.now found.now.noted.now.tag)
         encapsulated
@@ -154,12 +165,7 @@ fn union_of(
     ensures named { IfOk result (λ d. has_named_parts d ≡ true) }
 {
     let list = valued_arms(alloc, program.scope, found.body)?;
-    let ids = numbered(
-        alloc,
-        program.numbers,
-        &program.types.kinds,
-        found.noted.parts.as_slice(),
-    )?;
+    let ids = numbered(alloc, program, found.noted.parts.as_slice())?;
     let arms = labelled_arms(alloc, list.as_slice(), ids.as_slice())?;
     let default = default_arm(alloc, list.as_slice(), ids.as_slice())?;
     Ok(TypeDef::Union {
@@ -231,7 +237,8 @@ fn is_encapsulated(body: &TypeSpec) -> bool
 
 /// What a place is as a struct. In files that are resolved its body is a struct; another is as none.
 fn struct_at(alloc: Global, program: &Program<'_, '_>, place: Place) -> Result<TypeDef, Memory>
-    requires { IsProgram program.now }
+    requires program { IsProgram program.now }
+    requires few { has_few_parts (meaning.definition (scene_in program.now) (Struct place)) ≡ true }
     ensures made { IfOk result (λ d. d ≡ meaning.definition (scene_in program.now) (Struct place)) }
     ensures named { IfOk result (λ d. has_named_parts d ≡ true) }
 {
@@ -292,8 +299,9 @@ fn bound(count: Option<i128>) -> Option<u32>
 }
 
 /// An array.
-fn array(program: &Program<'_, '_>, element: u32, count: Option<i128>, varying: bool) -> TypeDef
-    requires { is_narrow (meaning.bound count) ≡ true }
+fn array(program: &Program<'_, '_>, element: usize, count: Option<i128>, varying: bool) -> TypeDef
+    requires program { IsProgram program.now }
+    requires bound { is_narrow (meaning.bound count) ≡ true }
     ensures { result ≡ def.Array (id (number_at program.now.types.now.kinds program.now.numbers.now element)) (meaning.bound count) varying }
 {
     TypeDef::Array {
@@ -304,8 +312,9 @@ fn array(program: &Program<'_, '_>, element: u32, count: Option<i128>, varying: 
 }
 
 /// A text.
-fn text(program: &Program<'_, '_>, element: u32, count: Option<i128>) -> TypeDef
-    requires { is_narrow (meaning.bound count) ≡ true }
+fn text(program: &Program<'_, '_>, element: usize, count: Option<i128>) -> TypeDef
+    requires program { IsProgram program.now }
+    requires bound { is_narrow (meaning.bound count) ≡ true }
     ensures { result ≡ def.Text (id (number_at program.now.types.now.kinds program.now.numbers.now element)) (meaning.bound count) }
 {
     TypeDef::Text {
@@ -337,9 +346,10 @@ fn basic(kind: Kind) -> TypeDef
 }
 
 /// What a type is in the table. Takes memory for it.
-fn definition(alloc: Global, program: &Program<'_, '_>, of: u32) -> Result<TypeDef, Memory>
+fn definition(alloc: Global, program: &Program<'_, '_>, of: usize) -> Result<TypeDef, Memory>
     requires program { IsProgram program.now }
     requires bound { has_small_bound (meaning.definition (scene_in program.now) (type_at program.now.types.now.kinds of)) ≡ true }
+    requires few { has_few_parts (meaning.definition (scene_in program.now) (type_at program.now.types.now.kinds of)) ≡ true }
     ensures made { IfOk result (λ d. d ≡ meaning.definition (scene_in program.now) (type_at program.now.types.now.kinds of)) }
     ensures named { IfOk result (λ d. has_named_parts d ≡ true) }
 {
@@ -368,6 +378,7 @@ fn definition(alloc: Global, program: &Program<'_, '_>, of: u32) -> Result<TypeD
 pub(crate) fn type_table(alloc: Global, program: &Program<'_, '_>) -> Result<nd::Types, Memory>
     requires program { IsProgram program.now }
     requires bounds { list_all has_small_bound (meaning.types_of (scene_in program.now)) ≡ true }
+    requires few { list_all has_few_parts (meaning.types_of (scene_in program.now)) ≡ true }
     ensures made { IfOk result (λ t. t ≡ meaning.types_of (scene_in program.now)) }
     ensures named { IfOk result (λ t. list_all has_named_parts t ≡ true) }
 {

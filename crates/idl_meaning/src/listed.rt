@@ -1,5 +1,5 @@
 // Members and parameters by their names.
-ghost use Rattle.std.specs.Prelude.{◌≡◌, ◌++◌, [], ◌∷◌, List, length, map, OnOk, IfOk};
+ghost use Rattle.std.specs.Prelude.{◌≡◌, ◌<◌, ◌^◌, ◌++◌, [], ◌∷◌, List, length, map, OnOk, IfOk};
 ghost use Rattle.idl_language.specs.Nodes as rules;
 ghost use Rattle.idl_nodes.specs.SeenNodes.{seen_declared};
 ghost use Rattle.idl_meaning.specs.Made.{AreListed};
@@ -9,30 +9,32 @@ use idl_nodes::nodes::Declared;
 use nd_base::Memory;
 use std::alloc::Global;
 
-/// A number of 32 bits. There is no memory for more members.
-fn narrow(index: usize) -> Result<u32, Memory>
-    ensures { IfOk result (λ n. n ≡ index) }
+/// An index as a variable has it.
+fn narrow(index: usize) -> u32
+    requires { index < 2 ^ 32 }
+    ensures { result ≡ index }
 {
-    match u32::try_from(index) {
-        Ok(index) => Ok(index),
-        Err(_) => Err(Memory),
-    }
+    let Ok(index) = u32::try_from(index) else {
+        unreachable!();
+    };
+    index
 }
 
 /// Gives a name its index, where it has none.
 fn put(table: &mut Table<u32>, name: &[u8], index: usize) -> Result<(), Memory>
+    requires { index < 2 ^ 32 }
     ensures { (before : List rules.Declared) (d : rules.Declared) → AreListed before table.old → length before ≡ index → d.declarator.name.octets ≡ name.now
         → OnOk result (AreListed (before ++ d ∷ []) table.new) }
 {
     if table.get(name).is_some() {
         return Ok(());
     }
-    let index = narrow(index)?;
-    table.put(name, index)
+    table.put(name, narrow(index))
 }
 
 /// The index of each member or parameter of a list, by its name. Takes memory for them.
 pub(crate) fn indexes(alloc: Global, list: &[Declared<'_>]) -> Result<Table<u32>, Memory>
+    requires { length list.now < 2 ^ 32 }
     ensures { IfOk result (λ t. AreListed (map seen_declared list.now) t) }
 {
     let mut table = Table::new(alloc);

@@ -17,7 +17,7 @@ use crate::members::name_of;
 use crate::operations::all_operations;
 use idl_grammar::Tree;
 use idl_legal::laws::meaning_is_legal;
-use idl_names::{FileTrees, Scope};
+use idl_names::Scope;
 use idl_nodes::nodes::Nodes;
 use idl_types::numbering::Numbers;
 use idl_types::types::Types;
@@ -25,19 +25,19 @@ use nd_base::Memory;
 use nd_types::Interface;
 use std::alloc::Global;
 
-/// The main file, which is number 0. Files that are resolved have it; where it is missing, want of memory is told.
-pub fn main_tree(files: &FileTrees) -> Result<&Tree, Memory>
-    ensures { IfOk result (λ t. of.main_among (seen_files files.now) ≡ seen_tree t.now ∷ []) }
+/// The main file, which is number 0. Takes no memory.
+pub fn main_tree(scope: &Scope) -> &Tree
+    ensures { of.main_among (seen_files scope.now.files) ≡ seen_tree result.now ∷ [] }
 {
-    for at in 0..files.len() {
-        let Some(file) = files.get(at) else {
-            return Err(Memory);
+    for at in 0..scope.files.len() {
+        let Some(file) = scope.files.get(at) else {
+            unreachable!();
         };
         if file.file == 0 {
-            return Ok(&file.tree);
+            return &file.tree;
         }
     }
-    Err(Memory)
+    unreachable!()
 }
 
 /// The interface that files mean which break no rule. Takes memory for it.
@@ -55,7 +55,7 @@ pub fn interface(
     requires numbers { AreNumbers (scene_of (world_of scope.now)) types.now.kinds numbers.now }
     ensures { IfOk result (λ i. of.meaning (world_of scope.now) ≡ meant_by i ∷ []) }
 {
-    let tree = main_tree(&scope.files)?;
+    let tree = main_tree(scope);
     let name = name_of(alloc, &tree.name)?;
     let list = tree.attributes.list.as_slice();
     let uuid = uuid(list);

@@ -1,5 +1,5 @@
 // Members and parameters as an interface has them.
-ghost use Rattle.std.specs.Prelude.{◌≡◌, ◌++◌, ◌∷◌, [], map, option_map, IfOk, OnOk, true};
+ghost use Rattle.std.specs.Prelude.{◌≡◌, ◌<◌, ◌^◌, ◌++◌, ◌∷◌, [], length, map, option_map, IfOk, OnOk, true};
 ghost use Rattle.std.specs.List.{list_all};
 ghost use Rattle.nd_base.specs.Text.{is_identifier};
 ghost use Rattle.idl_grammar.specs.Seen.{seen_kind, seen_attribute};
@@ -9,15 +9,14 @@ ghost use Rattle.idl_language.specs.Attributes.{variable_word, in_word, out_word
 ghost use Rattle.idl_language.specs.VariableRules.{variable_if};
 ghost use Rattle.idl_language.specs.Meaning.{way_by};
 ghost use Rattle.idl_nodes.specs.SeenNodes.{seen_declared};
-ghost use Rattle.idl_meaning.specs.Made.{ids_of, index_or, listed_if, attr_var_by, vars_by, size_vars_by, range_vars_by, field_vars_by, field_by, field_with, parameter_by, parameter_with, each_with};
+ghost use Rattle.idl_meaning.specs.Made.{ids_of, IsProgram, index_or, listed_if, attr_var_by, vars_by, size_vars_by, range_vars_by, field_vars_by, field_by, field_with, parameter_by, parameter_with, each_with};
 
+use crate::definitions::{Program, number_of};
 use crate::listed::indexes;
 use idl_grammar::{Attribute, AttributeKind, Identifier, Variable, VariableWord};
-use idl_kinds::kinds::Kinds;
 use idl_names::Table;
 use idl_nodes::nodes::Declared;
 use idl_nodes::words::{Word, has};
-use idl_types::numbering::Numbers;
 use nd_base::{Memory, Name};
 use nd_types::{Attr, AttrVar, AttrVars, Field, Fields, Param, Params, TypeId, Way};
 use std::alloc::Global;
@@ -33,15 +32,15 @@ pub(crate) fn name_of(alloc: Global, name: &Identifier) -> Result<Name, Memory>
 /// The numbers of types. Takes memory for them.
 pub(crate) fn numbered(
     alloc: Global,
-    numbers: &Numbers,
-    kinds: &Kinds,
-    types: &[u32],
+    program: &Program<'_, '_>,
+    types: &[usize],
 ) -> Result<Vec<TypeId>, Memory>
-    ensures { IfOk result (λ v. v.items ≡ ids_of kinds.now numbers.now types.now) }
+    requires { IsProgram program.now }
+    ensures { IfOk result (λ v. v.items ≡ ids_of program.now.types.now.kinds program.now.numbers.now types.now) }
 {
     let mut ids = Vec::new(alloc);
     for of in types {
-        match ids.push(TypeId(numbers.number(kinds, *of))) {
+        match ids.push(number_of(program, *of)) {
             Ok(()) => {}
             Err(_) => return Err(Memory),
         }
@@ -226,6 +225,7 @@ pub(crate) fn fields(
     list: &[Declared<'_>],
     types: &[TypeId],
 ) -> Result<Fields, Memory>
+    requires { length list.now < 2 ^ 32 }
     ensures made { IfOk result (λ v. v ≡ each_with (field_with (map seen_declared list.now)) (map seen_declared list.now) types.now) }
     ensures named { IfOk result (λ v. list_all (λ f. is_identifier f.name) v ≡ true) }
 {
@@ -292,6 +292,7 @@ pub(crate) fn parameters(
     list: &[Declared<'_>],
     types: &[TypeId],
 ) -> Result<Params, Memory>
+    requires { length list.now < 2 ^ 32 }
     ensures made { IfOk result (λ v. v ≡ each_with (parameter_with (map seen_declared list.now)) (map seen_declared list.now) types.now) }
     ensures named { IfOk result (λ v. list_all (λ p. is_identifier p.field.name) v ≡ true) }
 {

@@ -1,5 +1,5 @@
 // The operations of an interface.
-ghost use Rattle.std.specs.Prelude.{◌≡◌, true, map, option_map, slice_get, IfOk};
+ghost use Rattle.std.specs.Prelude.{◌≡◌, ◌<◌, ◌^◌, true, length, map, option_map, slice_get, IfOk};
 ghost use Rattle.std.specs.List.{list_all};
 ghost use Rattle.nd_types.specs.Legal.{has_names};
 ghost use Rattle.idl_language.specs.Meaning.{operations_of, result_number};
@@ -8,7 +8,7 @@ ghost use Rattle.idl_nodes.specs.SeenNodes as seen;
 ghost use Rattle.idl_nodes.specs.SeenNodes.{seen_declared};
 ghost use Rattle.idl_types.specs.SeenOperations.{IsOperation, is_operation_node};
 ghost use Rattle.idl_types.specs.SeenOperations as operations_seen;
-ghost use Rattle.idl_meaning.specs.Made.{ids_of, each_with, parameter_with, IsProgram, scene_in, operation_made};
+ghost use Rattle.idl_meaning.specs.Made.{ids_of, each_with, parameter_with, parameters_at, has_few_parameters, IsProgram, scene_in, operation_made};
 
 use crate::definitions::{Program, node_at, number_of};
 use crate::members::{name_of, numbered, parameters};
@@ -20,7 +20,7 @@ use nd_types::{Operation, Operations, TypeId};
 use std::alloc::Global;
 
 /// The number of the type of a result, where it is not void.
-fn result_number(program: &Program<'_, '_>, of: u32) -> Option<TypeId>
+fn result_number(program: &Program<'_, '_>, of: usize) -> Option<TypeId>
     requires { IsProgram program.now }
     ensures { result ≡ result_number (scene_in program.now) (type_at program.now.types.now.kinds of) }
 {
@@ -48,7 +48,8 @@ fn operation_of(
     list: &[Declared<'_>],
     noted: &OperationTypes,
 ) -> Result<Operation, Memory>
-    requires { IsProgram program.now }
+    requires program { IsProgram program.now }
+    requires few { length list.now < 2 ^ 32 }
     ensures made { IfOk result (λ o. o ≡ record {
       name = it.now.name.now.octets;
       params = each_with (parameter_with (map seen_declared list.now)) (map seen_declared list.now)
@@ -58,12 +59,7 @@ fn operation_of(
     ensures named { IfOk result (λ o. has_names o ≡ true) }
 {
     let name = name_of(alloc, it.name)?;
-    let ids = numbered(
-        alloc,
-        program.numbers,
-        &program.types.kinds,
-        noted.parameters.as_slice(),
-    )?;
+    let ids = numbered(alloc, program, noted.parameters.as_slice())?;
     let params = parameters(alloc, list, ids.as_slice())?;
     Ok(Operation {
         name,
@@ -80,6 +76,7 @@ fn operation(
 ) -> Result<Operation, Memory>
     requires program { IsProgram program.now }
     requires noted { is_operation_node (slice_get program.now.nodes.now.items.items noted.now.node) ≡ true }
+    requires few { length (parameters_at program.now.nodes.now.lists.items (slice_get program.now.nodes.now.items.items noted.now.node)) < 2 ^ 32 }
     ensures made { (o : operations_seen.Called) → IsOperation (scene_in program.now) program.now.nodes.now program.now.types.now.kinds o noted.now
         → IfOk result (λ made. made ≡ operation_made (scene_in program.now) o) }
     ensures named { IfOk result (λ o. has_names o ≡ true) }
@@ -96,7 +93,8 @@ fn operation(
 
 /// The operations of the main file, in their order. Takes memory for them.
 pub(crate) fn all_operations(alloc: Global, program: &Program<'_, '_>) -> Result<Operations, Memory>
-    requires { IsProgram program.now }
+    requires program { IsProgram program.now }
+    requires few { list_all has_few_parameters (operations_of (scene_in program.now)) ≡ true }
     ensures made { IfOk result (λ o. o ≡ operations_of (scene_in program.now)) }
     ensures named { IfOk result (λ v. list_all has_names v ≡ true) }
 {

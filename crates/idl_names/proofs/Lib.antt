@@ -8,3 +8,4 @@ pub mod Loads
 pub mod Once
 pub mod Lists
 pub mod Rests
+pub mod Small

@@ -1,4 +1,4 @@
--- A walk has one ending, but for want of memory and for failed loads.
+-- A walk has one ending, except for want of memory, where it is told which loads fail.
 use Rattle.std.proofs.Common.{◌≡◌, ℕ, ◌<◌, ◌≤◌, Bool, true, false, refl, sym, ap, subst, ◌∙◌, arith, List, [], ◌∷◌, ◌++◌, length, Option, Some, None, option_map, Result, Ok, Err}
 use Rattle.std.proofs.lemmas.Option.{same_Some}
 use Rattle.phrases.specs.Text.{Depth, Ban}
@@ -26,7 +26,7 @@ use Rattle.idl_names.specs.Known.{Known, passed}
 use Rattle.idl_names.specs.Sources.{and_source, file_number}
 use Rattle.idl_names.specs.Walk.{State, Due, Pass, Load, End, Ending, Done, Stopped, Walk, IsDue, most_files, with_known, with_source, all_of}
 use Rattle.idl_names.specs.Walk as walk
-use Rattle.idl_names.specs.Decided.{is_decided}
+use Rattle.idl_names.specs.Decided.{is_decided, has_memory, FailsAs}
 
 -- ## Texts
 
@@ -115,88 +115,144 @@ undecided e = absurd (cc)
 
 -- ## Walks
 
-module _ (f : List ℕ → Option (List ℕ)) where
-  pub one_ending : {s : State} {dues : List Due} {a b : Ending} → is_decided a ≡ true → is_decided b ≡ true → Walk (Some f) s dues a → Walk (Some f) s dues b → a ≡ b
-  one_ending p q (walk.all_done s) (walk.all_done _) = refl
-  one_ending p q (walk.goes_on s file step k rest e h w) (walk.goes_on _ _ _ n _ x g v) =
-      one_ending p q w (subst (λ (m : Known). Walk (Some f) (with_known s m) rest x) (same_known n k (passed file s.known step) g h) v)
-  one_ending p q (walk.goes_on s file step k rest e h w) (walk.faults _ _ _ n _ g) = passes_or_not k n (passed file s.known step) h g
-  one_ending p q (walk.faults s file step n rest h) (walk.goes_on _ _ _ k _ x g v) = passes_or_not k n (passed file s.known step) g h
-  one_ending p q (walk.faults s file step n rest h) (walk.faults _ _ _ m _ g) = ap (λ (x : NameFault). Stopped s.sources x) (same_fault n m (passed file s.known step) h g)
-  one_ending p q (walk.ends s file t rest e w) (walk.ends _ _ _ _ x v) = one_ending p q w v
-  one_ending p q (walk.cycle s place name rest n h d) (walk.cycle _ _ _ _ m g c) = refl
-  one_ending p q (walk.cycle s place name rest n h d) (walk.again _ _ _ _ x m g c v) = ended_or_not m n (file_number s.sources name) (λ k. walk.has_ended s.ended k) g h c d
-  one_ending p q (walk.cycle s place name rest n h d) (walk.too_many _ _ _ _ g c) = known_or_new n (file_number s.sources name) h g
-  one_ending p q (walk.cycle s place name rest n h d) (walk.uncut _ _ _ _ text at kind due c v) = known_or_new n (file_number s.sources name) h due.new
-  one_ending p q (walk.cycle s place name rest n h d) (walk.no_file _ _ _ _ text at g due c v) = known_or_new n (file_number s.sources name) h due.new
-  one_ending p q (walk.cycle s place name rest n h d) (walk.enters _ _ _ _ x text t due c g v) = known_or_new n (file_number s.sources name) h due.new
-  one_ending p q (walk.again s place name rest e n h d w) (walk.cycle _ _ _ _ m g c) = ended_or_not n m (file_number s.sources name) (λ k. walk.has_ended s.ended k) h g d c
-  one_ending p q (walk.again s place name rest e n h d w) (walk.again _ _ _ _ x m g c v) = one_ending p q w v
-  one_ending p q (walk.again s place name rest e n h d w) (walk.too_many _ _ _ _ g c) = known_or_new n (file_number s.sources name) h g
-  one_ending p q (walk.again s place name rest e n h d w) (walk.uncut _ _ _ _ text at kind due c v) = known_or_new n (file_number s.sources name) h due.new
-  one_ending p q (walk.again s place name rest e n h d w) (walk.no_file _ _ _ _ text at g due c v) = known_or_new n (file_number s.sources name) h due.new
-  one_ending p q (walk.again s place name rest e n h d w) (walk.enters _ _ _ _ x text t due c g v) = known_or_new n (file_number s.sources name) h due.new
-  one_ending p q (walk.too_many s place name rest h d) (walk.cycle _ _ _ _ m g c) = known_or_new m (file_number s.sources name) g h
-  one_ending p q (walk.too_many s place name rest h d) (walk.again _ _ _ _ x m g c v) = known_or_new m (file_number s.sources name) g h
-  one_ending p q (walk.too_many s place name rest h d) (walk.too_many _ _ _ _ g c) = refl
-  one_ending p q (walk.too_many s place name rest h d) (walk.uncut _ _ _ _ text at kind due c v) = room_or_full (length s.sources) due.room d
-  one_ending p q (walk.too_many s place name rest h d) (walk.no_file _ _ _ _ text at g due c v) = room_or_full (length s.sources) due.room d
-  one_ending p q (walk.too_many s place name rest h d) (walk.enters _ _ _ _ x text t due c g v) = room_or_full (length s.sources) due.room d
-  one_ending p q (walk.uncut s place name rest text at kind due c w) (walk.cycle _ _ _ _ m g d) = known_or_new m (file_number s.sources name) g due.new
-  one_ending p q (walk.uncut s place name rest text at kind due c w) (walk.again _ _ _ _ x m g d v) = known_or_new m (file_number s.sources name) g due.new
-  one_ending p q (walk.uncut s place name rest text at kind due c w) (walk.too_many _ _ _ _ g d) = room_or_full (length s.sources) due.room d
-  one_ending p q (walk.uncut s place name rest text at kind due c w) (walk.uncut _ _ _ _ other at' kind' due' d v) =
+-- a walk with these failed loads
+abbrev Told : (List ℕ → Bool) → Option (List ℕ → Option (List ℕ)) → State → List Due → Ending → Type 0
+Told fails held s dues e = (w : Walk held s dues e) × FailsAs fails w
+
+fails_or_not : {B : Type 0} (b : Bool) → b ≡ true → b ≡ false → B
+fails_or_not b p q = absurd (cc)
+
+module _ (f : List ℕ → Option (List ℕ)) (fails : List ℕ → Bool) where
+  pub one_told_ending : {s : State} {dues : List Due} {a b : Ending} → has_memory a ≡ true → has_memory b ≡ true → (v : Walk (Some f) s dues a) (w : Walk (Some f) s dues b)
+      → FailsAs fails v → FailsAs fails w → a ≡ b
+  one_told_ending p q (walk.all_done s) (walk.all_done _) fv fw = refl
+  one_told_ending p q (walk.goes_on s file step k rest e h w) (walk.goes_on _ _ _ n _ x g v) fv fw =
+      let u : Told fails (Some f) (with_known s k) rest x = subst (λ (m : Known). Told fails (Some f) (with_known s m) rest x) (same_known n k (passed file s.known step) g h) (v, fw) in
+      one_told_ending p q w u.0 fv u.1
+  one_told_ending p q (walk.goes_on s file step k rest e h w) (walk.faults _ _ _ n _ g) fv fw = passes_or_not k n (passed file s.known step) h g
+  one_told_ending p q (walk.faults s file step n rest h) (walk.goes_on _ _ _ k _ x g v) fv fw = passes_or_not k n (passed file s.known step) g h
+  one_told_ending p q (walk.faults s file step n rest h) (walk.faults _ _ _ m _ g) fv fw = ap (λ (x : NameFault). Stopped s.sources x) (same_fault n m (passed file s.known step) h g)
+  one_told_ending p q (walk.ends s file t rest e w) (walk.ends _ _ _ _ x v) fv fw = one_told_ending p q w v fv fw
+  one_told_ending p q (walk.cycle s place name rest n h d) (walk.cycle _ _ _ _ m g c) fv fw = refl
+  one_told_ending p q (walk.cycle s place name rest n h d) (walk.again _ _ _ _ x m g c v) fv fw = ended_or_not m n (file_number s.sources name) (λ k. walk.has_ended s.ended k) g h c d
+  one_told_ending p q (walk.cycle s place name rest n h d) (walk.too_many _ _ _ _ g c) fv fw = known_or_new n (file_number s.sources name) h g
+  one_told_ending p q (walk.cycle s place name rest n h d) (walk.uncut _ _ _ _ text at kind due c v) fv fw = known_or_new n (file_number s.sources name) h due.new
+  one_told_ending p q (walk.cycle s place name rest n h d) (walk.no_file _ _ _ _ text at g due c v) fv fw = known_or_new n (file_number s.sources name) h due.new
+  one_told_ending p q (walk.cycle s place name rest n h d) (walk.enters _ _ _ _ x text t due c g v) fv fw = known_or_new n (file_number s.sources name) h due.new
+  one_told_ending p q (walk.again s place name rest e n h d w) (walk.cycle _ _ _ _ m g c) fv fw = ended_or_not n m (file_number s.sources name) (λ k. walk.has_ended s.ended k) h g d c
+  one_told_ending p q (walk.again s place name rest e n h d w) (walk.again _ _ _ _ x m g c v) fv fw = one_told_ending p q w v fv fw
+  one_told_ending p q (walk.again s place name rest e n h d w) (walk.too_many _ _ _ _ g c) fv fw = known_or_new n (file_number s.sources name) h g
+  one_told_ending p q (walk.again s place name rest e n h d w) (walk.uncut _ _ _ _ text at kind due c v) fv fw = known_or_new n (file_number s.sources name) h due.new
+  one_told_ending p q (walk.again s place name rest e n h d w) (walk.no_file _ _ _ _ text at g due c v) fv fw = known_or_new n (file_number s.sources name) h due.new
+  one_told_ending p q (walk.again s place name rest e n h d w) (walk.enters _ _ _ _ x text t due c g v) fv fw = known_or_new n (file_number s.sources name) h due.new
+  one_told_ending p q (walk.too_many s place name rest h d) (walk.cycle _ _ _ _ m g c) fv fw = known_or_new m (file_number s.sources name) g h
+  one_told_ending p q (walk.too_many s place name rest h d) (walk.again _ _ _ _ x m g c v) fv fw = known_or_new m (file_number s.sources name) g h
+  one_told_ending p q (walk.too_many s place name rest h d) (walk.too_many _ _ _ _ g c) fv fw = refl
+  one_told_ending p q (walk.too_many s place name rest h d) (walk.uncut _ _ _ _ text at kind due c v) fv fw = room_or_full (length s.sources) due.room d
+  one_told_ending p q (walk.too_many s place name rest h d) (walk.no_file _ _ _ _ text at g due c v) fv fw = room_or_full (length s.sources) due.room d
+  one_told_ending p q (walk.too_many s place name rest h d) (walk.enters _ _ _ _ x text t due c g v) fv fw = room_or_full (length s.sources) due.room d
+  one_told_ending p q (walk.uncut s place name rest text at kind due c w) (walk.cycle _ _ _ _ m g d) fv fw = known_or_new m (file_number s.sources name) g due.new
+  one_told_ending p q (walk.uncut s place name rest text at kind due c w) (walk.again _ _ _ _ x m g d v) fv fw = known_or_new m (file_number s.sources name) g due.new
+  one_told_ending p q (walk.uncut s place name rest text at kind due c w) (walk.too_many _ _ _ _ g d) fv fw = room_or_full (length s.sources) due.room d
+  one_told_ending p q (walk.uncut s place name rest text at kind due c w) (walk.uncut _ _ _ _ other at' kind' due' d v) fv fw =
       let e : other ≡ text = one_text f name other text d c in
       let r : Refused at kind ≡ Refused at' kind' = one_refusal text at at' kind kind' w (subst (λ (l : List ℕ). IsVerdict l (Refused at' kind')) e v) in
       cc
-  one_ending p q (walk.uncut s place name rest text at kind due c w) (walk.no_file _ _ _ _ other at' g due' d v) =
+  one_told_ending p q (walk.uncut s place name rest text at kind due c w) (walk.no_file _ _ _ _ other at' g due' d v) fv fw =
       cut_or_refused other at kind v.lexed.tokens (subst (λ (l : List ℕ). IsVerdict l (Refused at kind)) (one_text f name text other c d) w) v.read.tokens
-  one_ending p q (walk.uncut s place name rest text at kind due c w) (walk.enters _ _ _ _ x other t due' d g v) =
+  one_told_ending p q (walk.uncut s place name rest text at kind due c w) (walk.enters _ _ _ _ x other t due' d g v) fv fw =
       cut_or_refused other at kind g.lexed.tokens (subst (λ (l : List ℕ). IsVerdict l (Refused at kind)) (one_text f name text other c d) w) g.read.tokens
-  one_ending p q (walk.no_file s place name rest text at n due c w) (walk.cycle _ _ _ _ m g d) = known_or_new m (file_number s.sources name) g due.new
-  one_ending p q (walk.no_file s place name rest text at n due c w) (walk.again _ _ _ _ x m g d v) = known_or_new m (file_number s.sources name) g due.new
-  one_ending p q (walk.no_file s place name rest text at n due c w) (walk.too_many _ _ _ _ g d) = room_or_full (length s.sources) due.room d
-  one_ending p q (walk.no_file s place name rest text at n due c w) (walk.uncut _ _ _ _ other at' kind due' d v) =
+  one_told_ending p q (walk.no_file s place name rest text at n due c w) (walk.cycle _ _ _ _ m g d) fv fw = known_or_new m (file_number s.sources name) g due.new
+  one_told_ending p q (walk.no_file s place name rest text at n due c w) (walk.again _ _ _ _ x m g d v) fv fw = known_or_new m (file_number s.sources name) g due.new
+  one_told_ending p q (walk.no_file s place name rest text at n due c w) (walk.too_many _ _ _ _ g d) fv fw = room_or_full (length s.sources) due.room d
+  one_told_ending p q (walk.no_file s place name rest text at n due c w) (walk.uncut _ _ _ _ other at' kind due' d v) fv fw =
       cut_or_refused text at' kind w.lexed.tokens (subst (λ (l : List ℕ). IsVerdict l (Refused at' kind)) (one_text f name other text d c) v) w.read.tokens
-  one_ending p q (walk.no_file s place name rest text at n due c w) (walk.no_file _ _ _ _ other at' m due' d v) =
+  one_told_ending p q (walk.no_file s place name rest text at n due c w) (walk.no_file _ _ _ _ other at' m due' d v) fv fw =
       let e : other ≡ text = one_text f name other text d c in
       let r = one_fault text at at' n m w (subst (λ (l : List ℕ). IsNoFile l at' m) e v) in
       let r0 : n ≡ m = r.0 in
       let r1 : at ≡ at' = r.1 in
       cc
-  one_ending p q (walk.no_file s place name rest text at n due c w) (walk.enters _ _ _ _ x other t due' d g v) =
+  one_told_ending p q (walk.no_file s place name rest text at n due c w) (walk.enters _ _ _ _ x other t due' d g v) fv fw =
       file_or_fault other at n t g (subst (λ (l : List ℕ). IsNoFile l at n) (one_text f name text other c d) w)
-  one_ending p q (walk.enters s place name rest e text t due c h w) (walk.cycle _ _ _ _ m g d) = known_or_new m (file_number s.sources name) g due.new
-  one_ending p q (walk.enters s place name rest e text t due c h w) (walk.again _ _ _ _ x m g d v) = known_or_new m (file_number s.sources name) g due.new
-  one_ending p q (walk.enters s place name rest e text t due c h w) (walk.too_many _ _ _ _ g d) = room_or_full (length s.sources) due.room d
-  one_ending p q (walk.enters s place name rest e text t due c h w) (walk.uncut _ _ _ _ other at' kind due' d v) =
+  one_told_ending p q (walk.enters s place name rest e text t due c h w) (walk.cycle _ _ _ _ m g d) fv fw = known_or_new m (file_number s.sources name) g due.new
+  one_told_ending p q (walk.enters s place name rest e text t due c h w) (walk.again _ _ _ _ x m g d v) fv fw = known_or_new m (file_number s.sources name) g due.new
+  one_told_ending p q (walk.enters s place name rest e text t due c h w) (walk.too_many _ _ _ _ g d) fv fw = room_or_full (length s.sources) due.room d
+  one_told_ending p q (walk.enters s place name rest e text t due c h w) (walk.uncut _ _ _ _ other at' kind due' d v) fv fw =
       cut_or_refused text at' kind h.lexed.tokens (subst (λ (l : List ℕ). IsVerdict l (Refused at' kind)) (one_text f name other text d c) v) h.read.tokens
-  one_ending p q (walk.enters s place name rest e text t due c h w) (walk.no_file _ _ _ _ other at' m due' d v) =
+  one_told_ending p q (walk.enters s place name rest e text t due c h w) (walk.no_file _ _ _ _ other at' m due' d v) fv fw =
       file_or_fault text at' m t h (subst (λ (l : List ℕ). IsNoFile l at' m) (one_text f name other text d c) v)
-  one_ending p q (walk.enters s place name rest e text t due c h w) (walk.enters _ _ _ _ x other u due' d g v) =
+  one_told_ending p q (walk.enters s place name rest e text t due c h w) (walk.enters _ _ _ _ x other u due' d g v) fv fw =
       let same : other ≡ text = one_text f name other text d c in
       let tree : u ≡ t = one_tree text u t (subst (λ (l : List ℕ). IsFile l u) same g) h in
-      one_ending p q w
-      (subst (λ (y : Tree). Walk (Some f) (with_source s name text) (all_of (length s.sources) y ++ rest) x) tree
-      (subst (λ (l : List ℕ). Walk (Some f) (with_source s name l) (all_of (length s.sources) u ++ rest) x) same v))
-  one_ending p q (walk.cycle s place name rest n h d) (walk.absent _ _ _ _ due m) = known_or_new n (file_number s.sources name) h due.new
-  one_ending p q (walk.again s place name rest e n h d w) (walk.absent _ _ _ _ due m) = known_or_new n (file_number s.sources name) h due.new
-  one_ending p q (walk.too_many s place name rest h d) (walk.absent _ _ _ _ due m) = room_or_full (length s.sources) due.room d
-  one_ending p q (walk.uncut s place name rest text at kind due c w) (walk.absent _ _ _ _ other m) = missing_or_held f name text m c
-  one_ending p q (walk.no_file s place name rest text at n due c w) (walk.absent _ _ _ _ other m) = missing_or_held f name text m c
-  one_ending p q (walk.enters s place name rest e text t due c h w) (walk.absent _ _ _ _ other m) = missing_or_held f name text m c
-  one_ending p q (walk.absent s place name rest due m) (walk.cycle _ _ _ _ n g c) = known_or_new n (file_number s.sources name) g due.new
-  one_ending p q (walk.absent s place name rest due m) (walk.again _ _ _ _ x n g c v) = known_or_new n (file_number s.sources name) g due.new
-  one_ending p q (walk.absent s place name rest due m) (walk.too_many _ _ _ _ g c) = room_or_full (length s.sources) due.room c
-  one_ending p q (walk.absent s place name rest due m) (walk.absent _ _ _ _ other n) = refl
-  one_ending p q (walk.absent s place name rest due m) (walk.uncut _ _ _ _ text at kind other c v) = missing_or_held f name text m c
-  one_ending p q (walk.absent s place name rest due m) (walk.no_file _ _ _ _ text at n other c v) = missing_or_held f name text m c
-  one_ending p q (walk.absent s place name rest due m) (walk.enters _ _ _ _ x text t other c g v) = missing_or_held f name text m c
-  one_ending p q (walk.short s rest) v = undecided p
-  one_ending p q (walk.short_in_load s place name rest due) v = undecided p
-  one_ending p q (walk.short_after_load s place name rest text due c) v = undecided p
-  one_ending p q (walk.failed s place name rest due) v = undecided p
-  one_ending p q w (walk.short s rest) = undecided q
-  one_ending p q w (walk.short_in_load s place name rest due) = undecided q
-  one_ending p q w (walk.short_after_load s place name rest text due c) = undecided q
-  one_ending p q w (walk.failed s place name rest due) = undecided q
+      let told : Told fails (Some f) (with_source s name text) (all_of (length s.sources) t ++ rest) x =
+      subst (λ (y : Tree). Told fails (Some f) (with_source s name text) (all_of (length s.sources) y ++ rest) x) tree
+      (subst (λ (l : List ℕ). Told fails (Some f) (with_source s name l) (all_of (length s.sources) u ++ rest) x) same (v, fw.1)) in
+      one_told_ending p q w told.0 fv.1 told.1
+  one_told_ending p q (walk.cycle s place name rest n h d) (walk.absent _ _ _ _ due m) fv fw = known_or_new n (file_number s.sources name) h due.new
+  one_told_ending p q (walk.again s place name rest e n h d w) (walk.absent _ _ _ _ due m) fv fw = known_or_new n (file_number s.sources name) h due.new
+  one_told_ending p q (walk.too_many s place name rest h d) (walk.absent _ _ _ _ due m) fv fw = room_or_full (length s.sources) due.room d
+  one_told_ending p q (walk.uncut s place name rest text at kind due c w) (walk.absent _ _ _ _ other m) fv fw = missing_or_held f name text m c
+  one_told_ending p q (walk.no_file s place name rest text at n due c w) (walk.absent _ _ _ _ other m) fv fw = missing_or_held f name text m c
+  one_told_ending p q (walk.enters s place name rest e text t due c h w) (walk.absent _ _ _ _ other m) fv fw = missing_or_held f name text m c
+  one_told_ending p q (walk.absent s place name rest due m) (walk.cycle _ _ _ _ n g c) fv fw = known_or_new n (file_number s.sources name) g due.new
+  one_told_ending p q (walk.absent s place name rest due m) (walk.again _ _ _ _ x n g c v) fv fw = known_or_new n (file_number s.sources name) g due.new
+  one_told_ending p q (walk.absent s place name rest due m) (walk.too_many _ _ _ _ g c) fv fw = room_or_full (length s.sources) due.room c
+  one_told_ending p q (walk.absent s place name rest due m) (walk.absent _ _ _ _ other n) fv fw = refl
+  one_told_ending p q (walk.absent s place name rest due m) (walk.uncut _ _ _ _ text at kind other c v) fv fw = missing_or_held f name text m c
+  one_told_ending p q (walk.absent s place name rest due m) (walk.no_file _ _ _ _ text at n other c v) fv fw = missing_or_held f name text m c
+  one_told_ending p q (walk.absent s place name rest due m) (walk.enters _ _ _ _ x text t other c g v) fv fw = missing_or_held f name text m c
+  one_told_ending p q (walk.failed s place name rest due) (walk.cycle _ _ _ _ n g c) fv fw = known_or_new n (file_number s.sources name) g due.new
+  one_told_ending p q (walk.failed s place name rest due) (walk.again _ _ _ _ x n g c v) fv fw = known_or_new n (file_number s.sources name) g due.new
+  one_told_ending p q (walk.failed s place name rest due) (walk.too_many _ _ _ _ g c) fv fw = room_or_full (length s.sources) due.room c
+  one_told_ending p q (walk.failed s place name rest due) (walk.absent _ _ _ _ other m) fv fw = fails_or_not (fails name) fv fw
+  one_told_ending p q (walk.failed s place name rest due) (walk.failed _ _ _ _ other) fv fw = refl
+  one_told_ending p q (walk.failed s place name rest due) (walk.uncut _ _ _ _ text at kind other c v) fv fw = fails_or_not (fails name) fv fw
+  one_told_ending p q (walk.failed s place name rest due) (walk.no_file _ _ _ _ text at n other c v) fv fw = fails_or_not (fails name) fv fw
+  one_told_ending p q (walk.failed s place name rest due) (walk.enters _ _ _ _ x text t other c g v) fv fw = fails_or_not (fails name) fv fw.0
+  one_told_ending p q (walk.cycle s place name rest n h d) (walk.failed _ _ _ _ due) fv fw = known_or_new n (file_number s.sources name) h due.new
+  one_told_ending p q (walk.again s place name rest e n h d w) (walk.failed _ _ _ _ due) fv fw = known_or_new n (file_number s.sources name) h due.new
+  one_told_ending p q (walk.too_many s place name rest h d) (walk.failed _ _ _ _ due) fv fw = room_or_full (length s.sources) due.room d
+  one_told_ending p q (walk.absent s place name rest due m) (walk.failed _ _ _ _ other) fv fw = fails_or_not (fails name) fw fv
+  one_told_ending p q (walk.uncut s place name rest text at kind due c w) (walk.failed _ _ _ _ other) fv fw = fails_or_not (fails name) fw fv
+  one_told_ending p q (walk.no_file s place name rest text at n due c w) (walk.failed _ _ _ _ other) fv fw = fails_or_not (fails name) fw fv
+  one_told_ending p q (walk.enters s place name rest e text t due c h w) (walk.failed _ _ _ _ other) fv fw = fails_or_not (fails name) fw fv.0
+  one_told_ending p q (walk.short s rest) v fv fw = undecided p
+  one_told_ending p q (walk.short_in_load s place name rest due) v fv fw = undecided p
+  one_told_ending p q (walk.short_after_load s place name rest text due c) v fv fw = undecided p
+  one_told_ending p q w (walk.short s rest) fv fw = undecided q
+  one_told_ending p q w (walk.short_in_load s place name rest due) fv fw = undecided q
+  one_told_ending p q w (walk.short_after_load s place name rest text due c) fv fw = undecided q
+
+-- ## Walks in which no load fails
+
+decided_has_memory : (e : Ending) → is_decided e ≡ true → has_memory e ≡ true
+decided_has_memory (Done s) h = refl
+decided_has_memory (Stopped sources fault.Memory) h = undecided h
+decided_has_memory (Stopped sources (fault.Failed file)) h = undecided h
+decided_has_memory (Stopped sources _) h = refl
+
+abbrev none_fails : List ℕ → Bool
+none_fails name = false
+
+none_failed : {held : Option (List ℕ → Option (List ℕ))} {s : State} {dues : List Due} {e : Ending} → is_decided e ≡ true → (w : Walk held s dues e) → FailsAs none_fails w
+none_failed p (walk.all_done s) = tt
+none_failed p (walk.goes_on s file step k rest e is w) = none_failed p w
+none_failed p (walk.faults s file step n rest is) = tt
+none_failed p (walk.ends s file t rest e w) = none_failed p w
+none_failed p (walk.cycle s place name rest n h d) = tt
+none_failed p (walk.again s place name rest e n h d w) = none_failed p w
+none_failed p (walk.too_many s place name rest h d) = tt
+none_failed p (walk.absent s place name rest due m) = refl
+none_failed p (walk.failed s place name rest due) = undecided p
+none_failed p (walk.uncut s place name rest text at kind due c w) = refl
+none_failed p (walk.no_file s place name rest text at n due c w) = refl
+none_failed p (walk.enters s place name rest e text t due c h w) = (refl, none_failed p w)
+none_failed p (walk.short s rest) = tt
+none_failed p (walk.short_in_load s place name rest due) = tt
+none_failed p (walk.short_after_load s place name rest text due c) = tt
+
+pub one_ending : (f : List ℕ → Option (List ℕ)) {s : State} {dues : List Due} {a b : Ending} → is_decided a ≡ true → is_decided b ≡ true
+    → Walk (Some f) s dues a → Walk (Some f) s dues b → a ≡ b
+one_ending f {a = a} {b = b} p q v w =
+    one_told_ending f none_fails (decided_has_memory a p) (decided_has_memory b q) v w (none_failed p v) (none_failed q w)

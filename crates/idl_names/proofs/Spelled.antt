@@ -71,6 +71,18 @@ first_is xs i x number e same = ap (λ l. has_ended l number) e ∙ ap (λ b. b 
 pub first_is_not : (xs : List Ended) (i : ℕ) (x : Ended) (number : ℕ) → drop i xs ≡ x ∷ drop (i + 1) xs → x.file ≢ number → has_ended (drop i xs) number ≡ has_ended (drop (i + 1) xs) number
 first_is_not xs i x number e other = ap (λ l. has_ended l number) e ∙ ap (λ b. b || has_ended (drop (i + 1) xs) number) (are_not_same x.file number other)
 
+-- a file that was put last has ended
+pub last_ended : (files after : List Ended) (e : Ended) → after ≡ files ++ e ∷ [] → has_ended after e.file ≡ true
+last_ended files after e is = ap (λ l. has_ended l e.file) is ∙ put_last files
+  where
+    other : (a b : Bool) → b ≡ true → (a || b) ≡ true
+    other true b h = refl
+    other false b h = h
+
+    put_last : (fs : List Ended) → has_ended (fs ++ e ∷ []) e.file ≡ true
+    put_last [] = ap (λ b. b || false) (are_same e.file e.file refl)
+    put_last (x ∷ fs) = other (eqb x.file e.file) (has_ended (fs ++ e ∷ []) e.file) (put_last fs)
+
 -- ## Uses of tags
 
 module _ (k : Known) (us : List TagUse) (i : ℕ) (u : TagUse) (below : i < length us) (is : u ≡ get_or us i u) where

@@ -10,8 +10,10 @@ pub mod Sources
 pub mod Files
 pub mod Ended
 pub mod Walk
+pub mod SeenFiles
 pub mod Seen
 pub mod Causes
 pub mod Loads
 pub mod Decided
 pub mod Going
+pub mod Small

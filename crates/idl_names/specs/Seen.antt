@@ -1,19 +1,11 @@
 -- What the program keeps, as the definitions have it.
-use Rattle.idl_grammar.specs.Seen.{seen_tree}
-use Rattle.idl_names.specs.declared.scope.FileTree.{FileTree}
-use Rattle.idl_names.specs.declared.scope.FileTrees.{FileTrees}
+use Rattle.idl_names.specs.declared.resolving.WalkState.{WalkState}
 use Rattle.idl_names.specs.declared.scope.Scope.{Scope}
-use Rattle.idl_names.specs.Ended.{Ended, ended}
 use Rattle.idl_names.specs.Known.{Known}
 use Rattle.idl_names.specs.Sources.{Source}
 use Rattle.idl_names.specs.Walk.{State}
-use Rattle.std.specs.Prelude.{List, map}
-
-abbrev pub seen_file : FileTree → Ended
-seen_file f = ended f.file (seen_tree f.tree)
-
-abbrev pub seen_files : FileTrees → List Ended
-seen_files f = map seen_file f.items.items
+use Rattle.std.specs.Prelude.{List}
+pub use Rattle.idl_names.specs.SeenFiles.{seen_file, seen_files}
 
 -- what a scope knows of names
 abbrev pub known_in : Scope → Known
@@ -22,3 +14,7 @@ known_in scope = scope.names
 -- what a scope and the sources hold together
 abbrev pub seen_scope : List Source → Scope → State
 seen_scope sources scope = record { sources = sources; ended = seen_files scope.files; known = scope.names }
+
+-- the same on the way
+abbrev pub seen_state : List Source → WalkState → State
+seen_state sources state = record { sources = sources; ended = seen_files state.files; known = state.names }

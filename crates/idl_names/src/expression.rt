@@ -1,7 +1,8 @@
 // The value of a constant expression (C706, section 4.2.7).
-ghost use Rattle.std.specs.Prelude.{◌≡◌, ℕ, List, Option};
+ghost use Rattle.std.specs.Prelude.{◌≡◌, ℕ, true, List, Option, IfOk, IfSome};
 ghost use Rattle.idl_grammar.specs.Seen.{seen_expr};
 ghost use Rattle.idl_lexer.specs.Numbers.{number_of as number_of_octets};
+ghost use Rattle.idl_names.specs.Small.{is_below};
 ghost use Rattle.idl_names.specs.Value as values;
 
 use crate::operators::{binary_value, in_range, is_decided, unary_value};
@@ -13,13 +14,18 @@ use idl_lexer::number_of;
 /// What is known of names.
 pub trait Names {
     ghost use Rattle.idl_names.specs.declared.meaning.Meaning.{Meaning};
+    ghost use Rattle.idl_names.specs.Small.{is_small};
 
     /// What each name that is known stands for.
     ghost meanings: { Self → List ℕ → Option Meaning };
 
+    /// The numbers of names are below 2^64 and so many more.
+    ghost more: { Self → ℕ };
+
     /// What a name stands for, or None where it is not known.
     fn meaning(&self, name: &[u8]) -> Option<Meaning>
-        ensures { result ≡ meanings self.now name.now };
+        ensures meant { result ≡ meanings self.now name.now }
+        ensures small { IfSome result (λ m. is_small (more self.now) m ≡ true) };
 }
 
 /// What an escape stands for.
@@ -62,7 +68,8 @@ fn number_value(spelling: &Spelling) -> Result<i128, ValueFault>
 }
 
 fn name_value<N: Names>(names: &N, name: &Identifier) -> Result<i128, ValueFault>
-    ensures { result ≡ values.name_value name.now.at (N.meanings names.now name.now.octets) }
+    ensures value { result ≡ values.name_value name.now.at (N.meanings names.now name.now.octets) }
+    ensures small { IfOk result (λ z. is_below (N.more names.now) z ≡ true) }
 {
     match names.meaning(name.as_slice()) {
         Some(Meaning::Number(number)) => Ok(number),
@@ -74,7 +81,8 @@ fn name_value<N: Names>(names: &N, name: &Identifier) -> Result<i128, ValueFault
 }
 
 fn operand_value<N: Names>(names: &N, operand: &Operand) -> Result<i128, ValueFault>
-    ensures { result ≡ values.operand_value (N.meanings names.now) operand.now }
+    ensures value { result ≡ values.operand_value (N.meanings names.now) operand.now }
+    ensures small { IfOk result (λ z. is_below (N.more names.now) z ≡ true) }
 {
     match operand {
         Operand::Number(spelling) => number_value(spelling),
@@ -91,7 +99,8 @@ fn operand_value<N: Names>(names: &N, operand: &Operand) -> Result<i128, ValueFa
 /// leave the operand unevaluated that C leaves so. A name that is not known stands for no number. A number that is
 /// no token of IDL, which no tree of a text holds, is out of range. Takes no memory.
 pub fn value<N: Names>(names: &N, expression: &Expr) -> Result<i128, ValueFault>
-    ensures { result ≡ values.value (N.meanings names.now) (seen_expr expression.now) }
+    ensures value { result ≡ values.value (N.meanings names.now) (seen_expr expression.now) }
+    ensures small { IfOk result (λ z. is_below (N.more names.now) z ≡ true) }
 {
     match expression {
         Expr::Leaf(operand) => operand_value(names, operand),
@@ -173,7 +182,8 @@ fn first_unknown<N: Names>(names: &N, expression: &Expr) -> Option<u32>
 /// The value of an expression all of whose names are known; else the fault that stands first in the text: a name
 /// that is not known, evaluated or not, or the fault of the value. Takes no memory.
 pub fn evaluate<N: Names>(names: &N, expression: &Expr) -> Result<i128, ExpressionFault>
-    ensures { result ≡ values.evaluated (N.meanings names.now) (seen_expr expression.now) }
+    ensures value { result ≡ values.evaluated (N.meanings names.now) (seen_expr expression.now) }
+    ensures small { IfOk result (λ z. is_below (N.more names.now) z ≡ true) }
 {
     match (first_unknown(names, expression), value(names, expression)) {
         (None, Ok(value)) => Ok(value),

@@ -1,15 +1,16 @@
 // What is known of names on the way through the files, and each step of a file.
-ghost use Rattle.std.specs.Prelude.{◌≡◌, ◌++◌, [], ◌∷◌, option_map, Ok, OnOk};
+ghost use Rattle.std.specs.Prelude.{◌≡◌, ◌+◌, ◌++◌, true, [], ◌∷◌, length, option_map, IfOk, OnOk};
 ghost use Rattle.idl_grammar.specs.Seen.{seen_expr};
 ghost use Rattle.idl_names.specs.Tables.{found};
 ghost use Rattle.idl_names.specs.Known.{Known, nothing, walked, value_in, is_defined, first_undefined, next_meaning, place_in};
 ghost use Rattle.idl_names.specs.Kept.{listed, IsRight};
+ghost use Rattle.idl_names.specs.Small.{is_below, is_small};
 ghost use Rattle.idl_names.specs.Steps.{UseType, UseTag, DefineTag, Declare, Know, KnowValue, KnowNext, Evaluate, Enlist};
 
 use crate::table::Table;
 use crate::{ExpressionFault, Meaning, NameFault, Names, TagDefinition, TagUse, evaluate};
 use idl_grammar::{Expr, Identifier, TagKind};
-use nd_base::{Memory, Octets, Place};
+use nd_base::{Octets, Place};
 use std::alloc::Global;
 use std::marker::Model;
 
@@ -24,18 +25,26 @@ pub(crate) struct NameTables {
 }
 
 impl Model for NameTables {
+    ghost use Rattle.std.specs.Prelude.{◌≡◌, true, length};
     ghost use Rattle.idl_names.specs.Known.{Known};
     ghost use Rattle.idl_names.specs.Kept.{known_of};
+    ghost use Rattle.idl_names.specs.Small.{are_small};
 
     ghost Value = { Known };
 
     ghost view = { λ n. known_of n.places n.meanings n.tags n.uses.items };
+
+    ghost invariant = { λ n. are_small (length n.places) n.meanings ≡ true };
 }
 
 impl Names for NameTables {
     ghost use Rattle.idl_names.specs.Known.{meaning_in};
 
     ghost meanings = { λ k. meaning_in k };
+
+    ghost use Rattle.std.specs.Prelude.{length};
+
+    ghost more = { λ k. length k.places };
 
     fn meaning(&self, name: &[u8]) -> Option<Meaning> {
         self.meanings.get(name)
@@ -80,9 +89,17 @@ impl NameTables {
         self.tags.get(name)
     }
 
+    /// The number of names that were declared.
+    pub(crate) fn count(&self) -> usize
+        ensures { result ≡ length self.now.places }
+    {
+        self.places.len()
+    }
+
     /// The value of an expression in a file.
     pub(crate) fn value(&self, file: u16, expression: &Expr) -> Result<i128, NameFault>
-        ensures { result ≡ value_in file self.now (seen_expr expression.now) }
+        ensures value { result ≡ value_in file self.now (seen_expr expression.now) }
+        ensures small { IfOk result (λ z. is_below (length self.now.places) z ≡ true) }
     {
         match evaluate(self, expression) {
             Ok(value) => Ok(value),
@@ -175,13 +192,14 @@ impl NameTables {
         }
     }
 
-    /// From here on a name is known.
+    /// From here on a name is known, which stands for no number.
     pub(crate) fn know(
         &mut self,
         file: u16,
         name: &Identifier,
         meaning: Meaning,
     ) -> Result<(), NameFault>
+        requires { is_small 0 meaning ≡ true }
         ensures { IsRight self.new result (walked file self.old (Know name.now meaning ∷ [])) }
     {
         Ok(self.meanings.put(name.as_slice(), meaning)?)
@@ -200,32 +218,37 @@ impl NameTables {
         Ok(self.meanings.put(name.as_slice(), Meaning::Number(value))?)
     }
 
-    /// What an enumerator without a value stands for. A number past 128 bits would take more names than memory can hold.
-    fn next_meaning(&self, previous: Option<&Identifier>) -> Result<Meaning, Memory>
-        ensures { OnOk result (result ≡ Ok (next_meaning self.now (option_map (λ s. s.now) previous.entry))) }
+    /// What an enumerator without a value stands for.
+    fn next_meaning(&self, previous: Option<&Identifier>) -> Meaning
+        ensures next { result ≡ next_meaning self.now (option_map (λ s. s.now) previous.entry) }
+        ensures small { is_small (length self.now.places + 1) result ≡ true }
     {
         let Some(previous) = previous else {
-            return Ok(Meaning::Number(0));
+            return Meaning::Number(0);
         };
+        // proof: there are fewer than 2^64 names.
+        let _count = self.places.len();
         match self.meanings.get(previous.as_slice()) {
-            Some(Meaning::Number(number)) => match number.checked_add(1) {
-                Some(next) => Ok(Meaning::Number(next)),
-                None => Err(Memory),
-            },
-            _ => Ok(Meaning::Other),
+            Some(Meaning::Number(number)) => Meaning::Number(number + 1),
+            _ => Meaning::Other,
         }
     }
 
-    /// From here on an enumerator without a value is known.
-    pub(crate) fn know_next(
+    /// An enumerator without a value takes its name, and is known from here on.
+    pub(crate) fn declare_next(
         &mut self,
         file: u16,
         name: &Identifier,
         previous: Option<&Identifier>,
     ) -> Result<(), NameFault>
-        ensures { IsRight self.new result (walked file self.old (KnowNext name.now (option_map (λ s. s.now) previous.entry) ∷ [])) }
+        ensures { IsRight self.new result (walked file self.old (Declare name.now ∷ KnowNext name.now (option_map (λ s. s.now) previous.entry) ∷ [])) }
     {
-        let meaning = self.next_meaning(previous)?;
+        let place = place_of(file, name);
+        if let Some(first) = self.places.get(name.as_slice()) {
+            return Err(NameFault::Twice { place, first });
+        }
+        let meaning = self.next_meaning(previous);
+        self.places.put(name.as_slice(), place)?;
         Ok(self.meanings.put(name.as_slice(), meaning)?)
     }
 

@@ -1,13 +1,13 @@
 //! Laws over the definitions.
 
-ghost use Rattle.std.specs.Prelude.{◌≡◌, ℕ, ◌+◌, ◌-◌, ◌%◌, min, max, ℤ, List, Option, Some, Ok, true};
+ghost use Rattle.std.specs.Prelude.{◌≡◌, ℕ, ◌+◌, ◌-◌, ◌%◌, min, max, ℤ, Bool, List, Option, Some, Ok, true};
 ghost use Rattle.idl_grammar.specs.declared.expressions.BinaryOperator.{BinaryOperator};
 ghost use Rattle.idl_grammar.specs.declared.expressions.UnaryOperator.{UnaryOperator};
 ghost use Rattle.idl_grammar.specs.Tree.{Expr, Unary, Binary, Conditional};
 ghost use Rattle.idl_names.specs.Whole.{bit, complement, bits_in_both, bits_in_either, bits_in_one, is_in_range};
 ghost use Rattle.idl_names.specs.declared.meaning.Meaning.{Meaning};
 ghost use Rattle.idl_names.specs.Value.{value};
-ghost use Rattle.idl_names.specs.Decided.{is_decided};
+ghost use Rattle.idl_names.specs.Decided.{is_decided, has_memory, FailsAs};
 ghost use Rattle.idl_names.specs.Walk.{State, Due, Ending, Walk};
 
 /// The operators on bits work on two's complement of unlimited width, bit by bit, and meanings with the same bits are
@@ -29,10 +29,13 @@ pub fn operators_stay_in_range()
     ensures conditional { (meanings : List ℕ → Option Meaning) (c : Expr) (at : ℕ) (a b : Expr) (z : ℤ) → value meanings (Conditional c at a b) ≡ Ok z → is_in_range z ≡ true }
 {}
 
-/// Where the contents of files are told, a walk has one ending, also by an absent file, but for two: that memory was wanting, and that a load
-/// failed. These may come at other places in other walks over the same files.
-#[tactic(auto, using(crate::proofs::Once::one_ending))]
+/// Where the contents of files are told, a walk has one ending, also by an absent file, except for two: that memory was wanting, and that a load
+/// failed. These may come at other places in other walks over the same files. Where it is told as well which loads fail, it has one
+/// ending, also by a failed load, except that memory was wanting. `idl_answers: walks_end` says that there is one.
+#[tactic(auto, using(crate::proofs::Once::one_ending, crate::proofs::Once::one_told_ending))]
 pub fn walks_have_one_ending()
-    ensures { (held : List ℕ → Option (List ℕ)) (s : State) (dues : List Due) (a b : Ending) → is_decided a ≡ true → is_decided b ≡ true
+    ensures decided { (held : List ℕ → Option (List ℕ)) (s : State) (dues : List Due) (a b : Ending) → is_decided a ≡ true → is_decided b ≡ true
         → Walk (Some held) s dues a → Walk (Some held) s dues b → a ≡ b }
+    ensures told { (held : List ℕ → Option (List ℕ)) (fails : List ℕ → Bool) (s : State) (dues : List Due) (a b : Ending) → has_memory a ≡ true → has_memory b ≡ true
+        → (v : Walk (Some held) s dues a) (w : Walk (Some held) s dues b) → FailsAs fails v → FailsAs fails w → a ≡ b }
 {}

@@ -1,11 +1,11 @@
 // The names of all files.
-ghost use Rattle.std.specs.Prelude.{◌≡◌, ◌≤◌, ◌<◌, [], ◌∷◌, ◌++◌, map, drop, length, IfOk, IfErr};
+ghost use Rattle.std.specs.Prelude.{◌≡◌, ◌≤◌, ◌<◌, [], ◌∷◌, ◌++◌, map, drop, length, true, IfOk, IfErr, OnOk};
 ghost use Rattle.std.specs.List.{flat_map};
 ghost use Rattle.idl_grammar.specs.Seen.{seen_tree, seen_import};
 ghost use Rattle.idl_names.specs.declared.name_fault.NameFault.TheVariants as faults;
 ghost use Rattle.idl_names.specs.Causes.{IsAbsent, IsFailed};
 ghost use Rattle.idl_names.specs.Going.{point, Went};
-ghost use Rattle.idl_names.specs.Seen.{seen_files, seen_scope};
+ghost use Rattle.idl_names.specs.Seen.{seen_files, seen_scope, seen_state};
 ghost use Rattle.idl_names.specs.Sources.{file_number};
 ghost use Rattle.idl_names.specs.Walk.{IsResolved, IsRefused, AsksAlong, Load, load_of, all_of, has_ended, names_of, most_files};
 
@@ -21,6 +21,13 @@ use std::alloc::Global;
 
 /// The greatest number of files of a walk.
 const WALK_LIMIT: usize = 64;
+
+/// How far a walk has come: the files whose resolving has ended, and what is known of names.
+#[derive(Drop)]
+pub(crate) struct WalkState {
+    files: FileTrees,
+    names: NameTables,
+}
 
 /// Whether the resolving of a file has ended.
 fn has_ended(files: &FileTrees, number: usize) -> bool
@@ -43,14 +50,14 @@ fn import<F: Files>(
     alloc: Global,
     files: &mut F,
     sources: &mut Sources,
-    scope: &mut Scope,
+    state: &mut WalkState,
     file: u16,
     string: &Spelling,
 ) -> Result<(), NameFault>
     requires { length sources.old ≤ most_files }
-    ensures { Went (point (F.held files.old) (F.asked files.old) (F.absences files.old) (F.faults files.old) (seen_scope sources.old scope.old))
+    ensures { Went (point (F.held files.old) (F.asked files.old) (F.absences files.old) (F.faults files.old) (seen_state sources.old state.old))
         (load_of file string.now ∷ [])
-        (point (F.held files.new) (F.asked files.new) (F.absences files.new) (F.faults files.new) (seen_scope sources.new scope.new)) [] result }
+        (point (F.held files.new) (F.asked files.new) (F.absences files.new) (F.faults files.new) (seen_state sources.new state.new)) [] result }
 {
     let place = Place {
         file,
@@ -58,12 +65,12 @@ fn import<F: Files>(
     };
     let name = file_named(alloc, string.octets.as_slice())?;
     match sources.number(name.as_str()) {
-        Some(number) if has_ended(&scope.files, number) => Ok(()),
+        Some(number) if has_ended(&state.files, number) => Ok(()),
         Some(_) => Err(NameFault::ImportCycle { place }),
         None if sources.count() >= WALK_LIMIT => Err(NameFault::TooMany { place }),
         None => {
             let loaded = load(alloc, files, sources, name.as_str())?;
-            whole(alloc, files, sources, scope, loaded)
+            whole(alloc, files, sources, state, loaded)
         }
     }
 }
@@ -74,17 +81,17 @@ fn import_all<F: Files>(
     alloc: Global,
     files: &mut F,
     sources: &mut Sources,
-    scope: &mut Scope,
+    state: &mut WalkState,
     file: u16,
     strings: &[Spelling],
 ) -> Result<(), NameFault>
     requires { length sources.old ≤ most_files }
-    ensures { Went (point (F.held files.old) (F.asked files.old) (F.absences files.old) (F.faults files.old) (seen_scope sources.old scope.old))
+    ensures { Went (point (F.held files.old) (F.asked files.old) (F.absences files.old) (F.faults files.old) (seen_state sources.old state.old))
         (map (load_of file) strings.now)
-        (point (F.held files.new) (F.asked files.new) (F.absences files.new) (F.faults files.new) (seen_scope sources.new scope.new)) [] result }
+        (point (F.held files.new) (F.asked files.new) (F.absences files.new) (F.faults files.new) (seen_state sources.new state.new)) [] result }
 {
     for string in strings {
-        import(alloc, files, sources, scope, file, string)?;
+        import(alloc, files, sources, state, file, string)?;
     }
     Ok(())
 }
@@ -95,17 +102,17 @@ fn imports<F: Files>(
     alloc: Global,
     files: &mut F,
     sources: &mut Sources,
-    scope: &mut Scope,
+    state: &mut WalkState,
     file: u16,
     list: &[Import],
 ) -> Result<(), NameFault>
     requires { length sources.old ≤ most_files }
-    ensures { Went (point (F.held files.old) (F.asked files.old) (F.absences files.old) (F.faults files.old) (seen_scope sources.old scope.old))
+    ensures { Went (point (F.held files.old) (F.asked files.old) (F.absences files.old) (F.faults files.old) (seen_state sources.old state.old))
         (map (load_of file) (flat_map (λ m. m.files) (map seen_import list.now)))
-        (point (F.held files.new) (F.asked files.new) (F.absences files.new) (F.faults files.new) (seen_scope sources.new scope.new)) [] result }
+        (point (F.held files.new) (F.asked files.new) (F.absences files.new) (F.faults files.new) (seen_state sources.new state.new)) [] result }
 {
     for one in list {
-        import_all(alloc, files, sources, scope, file, one.files.as_slice())?;
+        import_all(alloc, files, sources, state, file, one.files.as_slice())?;
     }
     Ok(())
 }
@@ -116,19 +123,20 @@ fn whole<F: Files>(
     alloc: Global,
     files: &mut F,
     sources: &mut Sources,
-    scope: &mut Scope,
+    state: &mut WalkState,
     of: FileTree,
 ) -> Result<(), NameFault>
     requires { length sources.old ≤ most_files }
-    ensures { Went (point (F.held files.old) (F.asked files.old) (F.absences files.old) (F.faults files.old) (seen_scope sources.old scope.old))
+    ensures went { Went (point (F.held files.old) (F.asked files.old) (F.absences files.old) (F.faults files.old) (seen_state sources.old state.old))
         (all_of of.file (seen_tree of.tree))
-        (point (F.held files.new) (F.asked files.new) (F.absences files.new) (F.faults files.new) (seen_scope sources.new scope.new)) [] result }
+        (point (F.held files.new) (F.asked files.new) (F.absences files.new) (F.faults files.new) (seen_state sources.new state.new)) [] result }
+    ensures ended { OnOk result (has_ended (seen_files state.new.files) of.file ≡ true) }
 {
     let FileTree { file, tree } = of;
-    attributes(&scope.names, file, &tree.attributes)?;
-    imports(alloc, files, sources, scope, file, tree.imports.as_slice())?;
-    exports(alloc, &mut scope.names, file, file == 0, &tree.exports)?;
-    scope.files.push(FileTree { file, tree })?;
+    attributes(&state.names, file, &tree.attributes)?;
+    imports(alloc, files, sources, state, file, tree.imports.as_slice())?;
+    exports(alloc, &mut state.names, file, file == 0, &tree.exports)?;
+    state.files.push(FileTree { file, tree })?;
     Ok(())
 }
 
@@ -161,7 +169,7 @@ pub fn resolve<F: Files>(
     ensures asked { AsksAlong (F.held files.old) sources.old (seen_tree tree) (F.asked files.old) (F.asked files.new) }
     ensures all_asked { F.asked files.new ≡ F.asked files.old ++ names_of (drop (length sources.old) sources.new) }
 {
-    let mut scope = Scope {
+    let mut state = WalkState {
         files: FileTrees::new(alloc),
         names: NameTables::new(alloc),
     };
@@ -169,11 +177,18 @@ pub fn resolve<F: Files>(
         alloc,
         files,
         sources,
-        &mut scope,
+        &mut state,
         FileTree { file: 0, tree },
     )?;
-    match scope.names.first_undefined() {
-        None => Ok(scope),
+    let WalkState {
+        files: trees,
+        names,
+    } = state;
+    match names.first_undefined() {
+        None => Ok(Scope {
+            files: trees,
+            names,
+        }),
         Some(place) => Err(NameFault::Unknown { place }),
     }
 }

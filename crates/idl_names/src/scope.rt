@@ -1,7 +1,8 @@
 // What is known once all files are resolved.
-ghost use Rattle.std.specs.Prelude.{◌≡◌, [], ◌∷◌, ◌++◌, length, slice_get, option_map, OnOk};
+ghost use Rattle.std.specs.Prelude.{◌≡◌, true, [], ◌∷◌, ◌++◌, length, slice_get, option_map, OnOk};
 ghost use Rattle.idl_names.specs.Known.{place_found};
-ghost use Rattle.idl_names.specs.Seen.{seen_file, seen_files};
+ghost use Rattle.idl_names.specs.SeenFiles.{seen_file, seen_files};
+ghost use Rattle.idl_names.specs.Walk.{has_ended};
 
 use crate::known::NameTables;
 use crate::{Meaning, Names};
@@ -59,13 +60,14 @@ impl FileTrees {
     }
 }
 
-/// The files whose names are resolved, and what is known of names.
+/// The files whose names are resolved, the main one with the number 0 among them, and what is known of names.
 #[derive(Drop)]
 pub struct Scope {
     /// The files.
     pub files: FileTrees,
     /// What is known of names.
     pub(crate) names: NameTables,
+    pub ghost has_main: { has_ended (seen_files files) 0 ≡ true },
 }
 
 impl Scope {
@@ -87,7 +89,13 @@ impl Names for Scope {
 
     ghost meanings = { λ s. meaning_in s.names };
 
+    ghost use Rattle.std.specs.Prelude.{◌^◌};
+
+    ghost more = { λ s. 2 ^ 64 };
+
     fn meaning(&self, name: &[u8]) -> Option<Meaning> {
+        // proof: there are fewer than 2^64 names.
+        let _count = self.names.count();
         self.names.meaning(name)
     }
 }

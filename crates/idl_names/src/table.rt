@@ -1,5 +1,5 @@
 // Tables by names.
-ghost use Rattle.std.specs.Prelude.{◌≡◌, [], OnOk, OnErr};
+ghost use Rattle.std.specs.Prelude.{◌≡◌, [], length, OnOk, OnErr};
 ghost use Rattle.idl_names.specs.Tables.{found, put};
 
 use indexmap::IndexMap;
@@ -32,6 +32,13 @@ impl<V: Copy> Table<V> {
             alloc,
             entries: IndexMap::new(alloc),
         }
+    }
+
+    /// The number of names. Takes no memory.
+    pub fn len(&self) -> usize
+        ensures { result ≡ length self.now }
+    {
+        self.entries.len()
     }
 
     /// The value of a name, if it is there.

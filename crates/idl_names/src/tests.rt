@@ -20,6 +20,8 @@ impl Names for Example {
     ghost meanings = { λ _ name. cond (eqb (slice_index name 0) 78) (Some (meaning.Number (pos 7)))
         (cond (eqb (slice_index name 0) 77) (Some (meaning.Number (pos (2 ^ 64)))) (cond (eqb (slice_index name 0) 84) (Some meaning.Type) None)) };
 
+    ghost more = { λ _. 1 };
+
     fn meaning(&self, name: &[u8]) -> Option<Meaning> {
         match name.first() {
             Some(b'N') => Some(Meaning::Number(7)),

@@ -38,10 +38,12 @@ fn enumerator(
 ) -> Result<(), NameFault>
     ensures { IsRight names.new result (walked file names.old (enumerator_steps (option_map (λ s. s.now) previous.entry) (seen.seen_enumerator one.now ∷ []))) }
 {
-    names.declare(file, &one.name)?;
     match &one.value {
-        Some(value) => names.know_value(file, &one.name, value),
-        None => names.know_next(file, &one.name, previous),
+        Some(value) => {
+            names.declare(file, &one.name)?;
+            names.know_value(file, &one.name, value)
+        }
+        None => names.declare_next(file, &one.name, previous),
     }
 }
 

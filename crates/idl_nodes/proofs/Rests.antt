@@ -1,6 +1,7 @@
 -- What is declared, and the nodes, of the items that are left of the program's vectors.
-use Rattle.std.proofs.Common.{◌≡◌, ℕ, ◌+◌, Bool, refl, List, [], ◌∷◌, ◌++◌, length, map, append_assoc, option_map}
+use Rattle.std.proofs.Common.{◌≡◌, ℕ, ◌+◌, ◌<◌, Bool, refl, sym, ap, ◌∙◌, drop, get_or, length-append, List, [], ◌∷◌, ◌++◌, length, map, append_assoc, option_map}
 use Rattle.std.specs.List.{flat_map}
+use Rattle.std.proofs.lemmas.List.{drop_more, length-map}
 use Rattle.idl_grammar.specs.declared.types.Member.{Member}
 use Rattle.idl_grammar.specs.declared.types.Case.{Case}
 use Rattle.idl_grammar.specs.declared.types.Arm.{Arm}
@@ -95,6 +96,14 @@ count_of x = length (map seen.seen_declarator x.declarators.items)
 pub members_cons : (c : Construct) (all : List Declared) (s : ℕ) (x : Member) (more : List Member)
     → members_from c all s (x ∷ more) ≡ one_member c all s x ++ members_from c all (s + count_of x) more
 members_cons c all s x more = refl
+
+pub members_counted : (c : Construct) (xs : List Member) (i : ℕ) (x : Member) → i < length xs → x ≡ get_or xs i x
+    → length (members_declared c (drop i xs)) ≡ count_of x + length (members_declared c (drop (i + 1) xs))
+members_counted c xs i x below is =
+    let rest = members_declared c (drop (i + 1) xs) in
+    ap (λ l. length (members_declared c l)) (drop_more xs i x below ∙ ap (λ y. y ∷ drop (i + 1) xs) (sym is))
+    ∙ (length-append (member_declared c x) rest
+    ∙ ap (λ n. n + length rest) (length-map (map seen.seen_declarator x.declarators.items) (nodes.declared (in_member c x) (seen.seen_type x.of))))
 
 abbrev pub cases_from : Construct → List Case → List Node
 cases_from c xs = nodes.case_nodes c (cases_of (map seen.seen_case xs))

@@ -1,5 +1,5 @@
 // The walk through the declarations of files.
-ghost use Rattle.std.specs.Prelude.{◌≡◌, ◌+◌, [], ◌∷◌, ◌++◌, None, map, IfOk, OnOk};
+ghost use Rattle.std.specs.Prelude.{◌≡◌, [], ◌∷◌, ◌++◌, None, map, IfOk, OnOk};
 ghost use Rattle.std.specs.List.{flat_map};
 ghost use Rattle.idl_grammar.specs.Seen as seen;
 ghost use Rattle.idl_names.specs.Seen.{seen_file, seen_files};
@@ -19,17 +19,16 @@ use idl_names::{FileTree, FileTrees};
 use nd_base::Memory;
 use std::alloc::Global;
 
-/// A parameter of this index of its list; gives the next index.
+/// A parameter of this index of its list.
 fn parameter<'t>(
     alloc: Global,
     nodes: &mut Nodes<'t>,
     construct: &Construct<'t>,
-    list: u32,
-    index: u32,
+    list: usize,
+    index: usize,
     parameter: &'t Parameter,
-) -> Result<u32, Memory>
-    ensures next { IfOk result (λ next. next ≡ index + 1) }
-    ensures adds { OnOk result (AddsOf nodes.old nodes.new list (one_parameter_nodes (seen_construct construct.now) index (seen.seen_parameter parameter.now))) }
+) -> Result<(), Memory>
+    ensures { OnOk result (AddsOf nodes.old nodes.new list (one_parameter_nodes (seen_construct construct.now) index (seen.seen_parameter parameter.now))) }
 {
     let inner = construct.inside(Position::Parameter, parameter.at, &parameter.attributes);
     attributes(nodes, &inner)?;
@@ -43,14 +42,13 @@ fn parameters<'t>(
     alloc: Global,
     nodes: &mut Nodes<'t>,
     construct: &Construct<'t>,
-    list: u32,
+    list: usize,
     parameters: &'t [Parameter],
 ) -> Result<(), Memory>
     ensures { OnOk result (AddsOf nodes.old nodes.new list (λ all. rules.parameter_nodes (seen_construct construct.now) all 0 (map seen.seen_parameter parameters.now))) }
 {
-    let mut index = 0;
-    for one in parameters {
-        index = parameter(alloc, nodes, construct, list, index, one)?;
+    for (index, one) in parameters.iter().enumerate() {
+        parameter(alloc, nodes, construct, list, index, one)?;
     }
     Ok(())
 }

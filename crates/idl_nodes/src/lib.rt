@@ -4,8 +4,6 @@
 pub mod attributes;
 pub mod exports;
 pub mod lists;
-#[cfg(test)]
-mod node_tests;
 pub mod nodes;
 pub mod parts;
 mod walk;

@@ -99,8 +99,8 @@ pub enum Node<'t> {
     },
     /// A declarator. A member or parameter is number `index` of its list; others have the empty list, which is number 0.
     Declarator {
-        list: u32,
-        index: u32,
+        list: usize,
+        index: usize,
         it: Declared<'t>,
     },
     /// The result of an operation: its type as it stands, without attributes.
@@ -121,7 +121,7 @@ pub enum Node<'t> {
     /// An operation with its parameters, which are this list.
     Operation {
         it: Returned<'t>,
-        parameters: u32,
+        parameters: usize,
     },
 }
 
@@ -214,23 +214,21 @@ impl<'t> Nodes<'t> {
     }
 
     /// A list by its number, where there is one. Takes no memory.
-    pub fn list(&self, number: u32) -> Option<&[Declared<'t>]>
+    pub fn list(&self, number: usize) -> Option<&[Declared<'t>]>
         ensures { option_map (λ l. map seen_declared l.now) result ≡ list_found self.now.lists.items number }
     {
-        match self.lists.get(number as usize) {
+        match self.lists.get(number) {
             Some(list) => Some(list.as_slice()),
             None => None,
         }
     }
 
     /// Adds a list, and gives its number. Takes memory for its entry.
-    pub(crate) fn push_list(&mut self, list: Vec<Declared<'t>>) -> Result<u32, Memory>
+    pub(crate) fn push_list(&mut self, list: Vec<Declared<'t>>) -> Result<usize, Memory>
         ensures adds { OnOk result (Adds self.old self.new []) }
         ensures number { IfOk result (λ n. list_found self.new.lists.items n ≡ Some (map seen_declared list.entry.items)) }
     {
-        let Ok(number) = u32::try_from(self.lists.len()) else {
-            return Err(Memory);
-        };
+        let number = self.lists.len();
         match self.lists.push(list) {
             Ok(()) => Ok(number),
             Err(_) => Err(Memory),

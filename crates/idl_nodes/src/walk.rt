@@ -1,5 +1,5 @@
 // The walk through trees: their nodes in the order of the text.
-ghost use Rattle.std.specs.Prelude.{◌≡◌, ◌+◌, [], ◌∷◌, map, length, IfOk, OnOk};
+ghost use Rattle.std.specs.Prelude.{◌≡◌, ◌<◌, ◌+◌, ◌^◌, [], ◌∷◌, map, length, IfOk, OnOk};
 ghost use Rattle.idl_grammar.specs.Reading.{members_of, cases_of, arms_of};
 ghost use Rattle.idl_grammar.specs.Seen as seen;
 ghost use Rattle.idl_language.specs.Nodes as rules;
@@ -46,39 +46,36 @@ pub(crate) fn unlisted<'t>(nodes: &mut Nodes<'t>, it: Declared<'t>) -> Result<()
     })
 }
 
-/// A declarator of a list; gives the next index.
+/// A declarator of a list, at this index.
 pub(crate) fn listed<'t>(
     nodes: &mut Nodes<'t>,
-    list: u32,
-    index: u32,
+    list: usize,
+    index: usize,
     it: Declared<'t>,
-) -> Result<u32, Memory>
-    ensures next { IfOk result (λ next. next ≡ index + 1) }
-    ensures adds { OnOk result (AddsOf nodes.old nodes.new list (λ all. rules.DeclaratorNode all index (seen_declared it.entry) ∷ [])) }
+) -> Result<(), Memory>
+    ensures { OnOk result (AddsOf nodes.old nodes.new list (λ all. rules.DeclaratorNode all index (seen_declared it.entry) ∷ [])) }
 {
-    nodes.push(Node::Declarator { list, index, it })?;
-    match index.checked_add(1) {
-        Some(next) => Ok(next),
-        None => Err(Memory),
-    }
+    nodes.push(Node::Declarator { list, index, it })
 }
 
 /// Declarators of one type in a list, from this index on; gives the next index.
 fn declarators<'t>(
     nodes: &mut Nodes<'t>,
-    list: u32,
-    first: u32,
+    list: usize,
+    first: usize,
     construct: &Construct<'t>,
     of: &'t TypeSpec,
     declarators: &'t [Declarator],
-) -> Result<u32, Memory>
+) -> Result<usize, Memory>
+    requires { first + length declarators.now < 2 ^ 64 }
     ensures next { IfOk result (λ next. next ≡ first + length (map seen.seen_declarator declarators.now)) }
     ensures adds { OnOk result (AddsOf nodes.old nodes.new list
         (λ all. rules.declarator_nodes all first (map (rules.declared (seen_construct construct.now) (seen.seen_type of.now)) (map seen.seen_declarator declarators.now)))) }
 {
     let mut index = first;
     for declarator in declarators {
-        index = listed(nodes, list, index, construct.declared(of, declarator))?;
+        listed(nodes, list, index, construct.declared(of, declarator))?;
+        index += 1;
     }
     Ok(index)
 }
@@ -181,10 +178,11 @@ fn member<'t>(
     alloc: Global,
     nodes: &mut Nodes<'t>,
     construct: &Construct<'t>,
-    list: u32,
-    index: u32,
+    list: usize,
+    index: usize,
     member: &'t Member,
-) -> Result<u32, Memory>
+) -> Result<usize, Memory>
+    requires { index + length member.now.declarators.items < 2 ^ 64 }
     ensures next { IfOk result (λ next. next ≡ index + length (map seen.seen_declarator member.now.declarators.items)) }
     ensures adds { OnOk result (AddsOf nodes.old nodes.new list (one_member_nodes (seen_construct construct.now) index (seen.seen_member member.now))) }
 {

@@ -62,14 +62,14 @@ const NOTHING: Mark = Mark {
 
 impl<'j> Judge<'j> {
     /// The kind of a type.
-    pub fn kind(&self, number: u32) -> Kind
+    pub fn kind(&self, number: usize) -> Kind
         ensures { type_by (seen_types self.now.kinds.now) result ≡ type_at self.now.kinds.now number }
     {
         self.kinds.kind(number)
     }
 
     /// What is marked of a type.
-    pub(crate) fn mark(&self, number: u32) -> Mark
+    pub(crate) fn mark(&self, number: usize) -> Mark
         ensures is { (s : Scene) → AreMarks s self.now.kinds.now self.now.marks.now → IsMark s (type_at self.now.kinds.now number) result }
         ensures holds { (s : Scene) → AreMarks s self.now.kinds.now self.now.marks.now → Holds s (chain (type_at self.now.kinds.now number)) result }
     {
@@ -77,7 +77,7 @@ impl<'j> Judge<'j> {
     }
 
     /// What is marked of all that a type is made of, without the type itself.
-    pub(crate) fn below(&self, number: u32) -> Mark
+    pub(crate) fn below(&self, number: usize) -> Mark
         ensures { (s : Scene) → AreMarks s self.now.kinds.now self.now.marks.now → Holds s (below (type_at self.now.kinds.now number)) result }
     {
         match self.kind(number).inner() {
@@ -87,7 +87,7 @@ impl<'j> Judge<'j> {
     }
 
     /// The same without the type behind it, where it is a reference pointer.
-    pub(crate) fn below_reference(&self, number: u32) -> Mark
+    pub(crate) fn below_reference(&self, number: usize) -> Mark
         ensures { (s : Scene) → AreMarks s self.now.kinds.now self.now.marks.now → Holds s (below_reference (type_at self.now.kinds.now number)) result }
     {
         match self.kind(number).referent() {
@@ -97,7 +97,7 @@ impl<'j> Judge<'j> {
     }
 
     /// The same without the type behind it, where it is a pointer.
-    pub(crate) fn below_pointer(&self, number: u32) -> Mark
+    pub(crate) fn below_pointer(&self, number: usize) -> Mark
         ensures { (s : Scene) → AreMarks s self.now.kinds.now self.now.marks.now → Holds s (below_pointer (type_at self.now.kinds.now number)) result }
     {
         match self.kind(number).pointee() {

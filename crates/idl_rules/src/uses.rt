@@ -39,11 +39,11 @@ use nd_base::Memory;
 use std::alloc::Global;
 
 /// Whether others stand behind one in a list.
-fn is_followed(nodes: &Nodes<'_>, list: u32, index: u32) -> bool
+fn is_followed(nodes: &Nodes<'_>, list: usize, index: usize) -> bool
     ensures { result ≡ ltb (index + 1) (length (list_at nodes.now.lists.items list)) }
 {
-    match nodes.lists.get(list as usize) {
-        Some(list) => (index as usize) + 1 < list.len(),
+    match nodes.lists.get(list) {
+        Some(list) => index < list.len().saturating_sub(1),
         None => false,
     }
 }
@@ -52,8 +52,8 @@ fn is_followed(nodes: &Nodes<'_>, list: u32, index: u32) -> bool
 fn asked_listed<'t>(
     scope: &Scope,
     nodes: &Nodes<'t>,
-    list: u32,
-    index: u32,
+    list: usize,
+    index: usize,
     it: &Declared<'t>,
     typed: &Typed,
 ) -> Asked<'t>
@@ -106,7 +106,7 @@ fn note_use(finder: &mut Finder<'_>, judge: &Judge<'_>, asked: &Asked<'_>)
 }
 
 /// The rules on a type that is to tell the arms of a union apart.
-fn note_switch(finder: &mut Finder<'_>, judge: &Judge<'_>, construct: &Construct<'_>, of: u32)
+fn note_switch(finder: &mut Finder<'_>, judge: &Judge<'_>, construct: &Construct<'_>, of: usize)
     ensures files { finder.new.files.now ≡ finder.old.files.now }
     ensures first { (w : World) (s : Scene) → w.files ≡ seen_files finder.old.files.now → AreMarks s judge.now.kinds.now judge.now.marks.now
         → option_map seen_breach finder.new.first
@@ -131,7 +131,7 @@ fn note_body(
     judge: &Judge<'_>,
     construct: &Construct<'_>,
     body: &TypeSpec,
-    of: u32,
+    of: usize,
 )
     ensures files { finder.new.files.now ≡ finder.old.files.now }
     ensures first { (w : World) (s : Scene) (b : Body) → w.files ≡ seen_files finder.old.files.now → AreMarks s judge.now.kinds.now judge.now.marks.now

@@ -25,7 +25,7 @@ use idl_nodes::nodes::Position;
 use idl_nodes::words::{Word, has as has_word, has_length, has_size};
 
 /// Rule 21: whether a type may not tell the arms of a union apart.
-pub(crate) fn may_not_be_switched(judge: &Judge<'_>, number: u32) -> bool
+pub(crate) fn may_not_be_switched(judge: &Judge<'_>, number: usize) -> bool
     ensures { result ≡ rules.may_not_be_switched (type_at judge.now.kinds.now number) }
 {
     !judge.kind(number).may_be_switched()
@@ -56,7 +56,7 @@ fn without_union(judge: &Judge<'_>, asked: &Asked<'_>) -> Mark
 }
 
 /// Whether a type is a non-encapsulated union, or a pointer to one.
-fn is_switched(judge: &Judge<'_>, number: u32) -> bool
+fn is_switched(judge: &Judge<'_>, number: usize) -> bool
     ensures { (s : Scene) → AreMarks s judge.now.kinds.now judge.now.marks.now → result ≡ rules.is_switched s (type_at judge.now.kinds.now number) }
 {
     match judge.kind(number).pointee() {
@@ -98,7 +98,7 @@ pub(crate) fn note_unions(finder: &mut Finder<'_>, judge: &Judge<'_>, asked: &As
 }
 
 /// Whether `string` may stand on a type.
-fn may_be_text(judge: &Judge<'_>, number: u32) -> bool
+fn may_be_text(judge: &Judge<'_>, number: usize) -> bool
     ensures { result ≡ rules.may_be_text (type_at judge.now.kinds.now number) }
 {
     match judge.kind(number) {
@@ -138,7 +138,7 @@ fn is_wrongly_sized(judge: &Judge<'_>, asked: &Asked<'_>) -> bool
 }
 
 /// Whether length_is, first_is and last_is may stand on a type.
-fn may_vary(judge: &Judge<'_>, is_sized: bool, number: u32) -> bool
+fn may_vary(judge: &Judge<'_>, is_sized: bool, number: usize) -> bool
     ensures { result ≡ rules.may_vary is_sized (type_at judge.now.kinds.now number) }
 {
     match judge.kind(number) {

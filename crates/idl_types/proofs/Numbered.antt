@@ -1,5 +1,5 @@
 -- The numbers that the program notes, and those of the definitions.
-use Rattle.std.proofs.Common.{◌≡◌, ℕ, zero, suc, ◌+◌, ◌<◌, ◌≤◌, Bool, true, false, not, ◌||◌, ◌&&◌, eqb, ltb, List, [], ◌∷◌, ◌++◌, map, length, set, reverse, Option, Some, None, is_some, slice_get, refl, sym, ap, ap₂, ◌∙◌, subst, arith, append-nil, append_assoc, length-append, true≢false}
+use Rattle.std.proofs.Common.{◌≡◌, ℕ, zero, suc, ◌+◌, ◌<◌, ◌≤◌, Bool, true, false, not, ◌||◌, ◌&&◌, eqb, ltb, List, [], ◌∷◌, ◌++◌, map, length, set, reverse, Option, Some, None, is_some, slice_get, refl, sym, ap, ap₂, ◌∙◌, subst, arith, append-nil, append_assoc, true≢false}
 use Rattle.std.specs.List.{list_any, list_all}
 use Rattle.std.proofs.lemmas.Option.{none-some, slice_get_within, slice_get_past, slice_get-get_or, same_Some}
 use Rattle.std.proofs.lemmas.List.{map-append, length-set, reverse-append}
@@ -16,7 +16,7 @@ use Rattle.idl_language.specs.Types.{IdlType, or_void, Void, Handle, ContextHand
 use Rattle.idl_language.specs.Scene.{Scene}
 use Rattle.idl_language.specs.Numbering.{Needed, needed, needed_types, built, has_own_number, same_type, own_types, number_among, number_of_type}
 use Rattle.idl_kinds.specs.Kinds.{type_by, seen_types, type_at, inner_of, is_inside, AreOnce}
-use Rattle.idl_types.specs.SeenNumbers.{found_number, number_or, number_by, number_at, seen_own, seen_needed, AreNumbers, has_number, is_settled, IsClosed, given, Shows, Gives, grown, grown_by, along}
+use Rattle.idl_types.specs.SeenNumbers.{found_number, next_of, number_or, number_by, number_at, seen_own, seen_needed, AreNumbers, has_number, is_settled, IsClosed, given, Shows, Gives, grown, grown_by, along}
 use Rattle.idl_language.proofs.Equal.{type_is, both}
 use Rattle.idl_language.proofs.Needed.{itself, conjunction, right}
 use Rattle.idl_kinds.proofs.KindLists.{length-seen_types}
@@ -132,9 +132,8 @@ shows_next ks firsts old new c k place s at below none g = record {
       ∙ sym (map-append (seen_own ks) old.own.items (record { kind = k; place = place } ∷ []))
       ∙ ap (map (seen_own ks)) (sym g.own);
   within = ap (are_within ks) g.own ∙ all_more (λ o. ltb o.kind (length ks)) old.own.items (record { kind = k; place = place }) s.within (lt-ltb k (length ks) below);
-  count = ap length g.numbers ∙ length-set old.numbers.items k (Some old.next) ∙ s.count;
+  count = ap length g.numbers ∙ length-set old.numbers.items k (Some (next_of old)) ∙ s.count;
   numbers = λ j q. by j q (eqb k j) refl;
-  next = g.next ∙ ap (λ n. n + 1) s.next ∙ sym (ap (λ l. 12 + length l) g.own ∙ ap (λ n. 12 + n) (length-append old.own.items (record { kind = k; place = place } ∷ [])) ∙ omega arith);
 } where
   o : Own
   o = record { kind = k; place = place }
@@ -145,11 +144,10 @@ shows_next ks firsts old new c k place s at below none g = record {
   by : (j : ℕ) → j < length ks → (b : Bool) → eqb k j ≡ b → slice_get new.numbers.items j ≡ Some (given 12 new.own.items j)
   by j q true e =
       let same : k ≡ j = eqb_is k j e in
-      ap (λ l. slice_get l j) g.numbers ∙ ap (λ i. slice_get (set old.numbers.items k (Some old.next)) i) (sym same) ∙ get_set old.numbers.items k (Some old.next) room
-      ∙ ap (λ n. Some (Some n)) s.next
+      ap (λ l. slice_get l j) g.numbers ∙ ap (λ i. slice_get (set old.numbers.items k (Some (next_of old))) i) (sym same) ∙ get_set old.numbers.items k (Some (next_of old)) room
       ∙ ap (λ x. Some x) (sym (given_new 12 old.own.items (record { kind = k; place = place }) k (eqb_itself k) none) ∙ ap (given 12 (old.own.items ++ record { kind = k; place = place } ∷ [])) same ∙ ap (λ l. given 12 l j) (sym g.own))
   by j q false e =
-      ap (λ l. slice_get l j) g.numbers ∙ get_other old.numbers.items k j (Some old.next) e ∙ s.numbers j q
+      ap (λ l. slice_get l j) g.numbers ∙ get_other old.numbers.items k j (Some (next_of old)) e ∙ s.numbers j q
       ∙ ap (λ x. Some x) (sym (given_old 12 old.own.items (record { kind = k; place = place }) j e) ∙ ap (λ l. given 12 l j) (sym g.own))
 
 -- ## One type
@@ -270,19 +268,19 @@ past_all : (ks : List Kind) (k : ℕ) → length ks ≤ k → type_at ks k ≡ V
 past_all ks k h = ap or_void (slice_get_past (seen_types ks) k (omega (arith, h, length-seen_types ks)))
 
 own_number_is : (ks : List Kind) (firsts : List Needed) (t : Numbers) (k : ℕ) → Shows ks firsts t → are_own firsts ≡ true
-    → number_or t.next (found_number (slice_get t.numbers.items k)) ≡ number_among 12 firsts (type_at ks k)
+    → number_or (next_of t) (found_number (slice_get t.numbers.items k)) ≡ number_among 12 firsts (type_at ks k)
 own_number_is ks firsts t k s own = by (ltb k (length ks)) refl where
-  by : (b : Bool) → ltb k (length ks) ≡ b → number_or t.next (found_number (slice_get t.numbers.items k)) ≡ number_among 12 firsts (type_at ks k)
+  by : (b : Bool) → ltb k (length ks) ≡ b → number_or (next_of t) (found_number (slice_get t.numbers.items k)) ≡ number_among 12 firsts (type_at ks k)
   by true e =
       let below = ltb-true k (length ks) e in
-      ap (λ o. number_or t.next (found_number o)) (s.numbers k below) ∙ number_given ks s.once k below t.next 12 firsts t.own.items s.own s.within s.next
+      ap (λ o. number_or (next_of t) (found_number o)) (s.numbers k below) ∙ number_given ks s.once k below (next_of t) 12 firsts t.own.items s.own s.within refl
   by false e =
       let past : length ks ≤ k = grind (arith, nat_tests, e) in
-      ap (λ o. number_or t.next (found_number o)) (slice_get_past t.numbers.items k (omega (arith, past, s.count)))
-      ∙ s.next ∙ ap (λ n. 12 + n) (sym (as_long seen_needed (seen_own ks) firsts t.own.items s.own))
+      ap (λ o. number_or (next_of t) (found_number o)) (slice_get_past t.numbers.items k (omega (arith, past, s.count)))
+      ∙ ap (λ n. 12 + n) (sym (as_long seen_needed (seen_own ks) firsts t.own.items s.own))
       ∙ sym (ap (number_among 12 firsts) (past_all ks k past) ∙ among_none 12 firsts own)
 
-numbers_by : (s : Scene) (t : Numbers) (k : ℕ) (u : IdlType) → number_or t.next (found_number (slice_get t.numbers.items k)) ≡ number_among 12 (own_types s) u
+numbers_by : (s : Scene) (t : Numbers) (k : ℕ) (u : IdlType) → number_or (next_of t) (found_number (slice_get t.numbers.items k)) ≡ number_among 12 (own_types s) u
     → number_by t k u ≡ number_of_type s u
 numbers_by s t k Void h = h
 numbers_by s t k Handle h = refl

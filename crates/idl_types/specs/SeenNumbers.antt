@@ -22,6 +22,10 @@ abbrev pub found_number : Option (Option ℕ) → Option ℕ
 found_number (Some n) = n
 found_number None = None
 
+-- the number past the last
+abbrev pub next_of : Numbers → ℕ
+next_of t = 12 + length t.own.items
+
 -- a number, or else the one past all
 abbrev pub number_or : ℕ → Option ℕ → ℕ
 number_or past (Some n) = n
@@ -31,7 +35,7 @@ abbrev pub number_by : Numbers → ℕ → IdlType → ℕ
 number_by t k (Basic p) = prim_number p
 number_by t k ContextHandle = context_number
 number_by t k Handle = HANDLE.0
-number_by t k _ = number_or t.next (found_number (slice_get t.numbers.items k))
+number_by t k _ = number_or (next_of t) (found_number (slice_get t.numbers.items k))
 
 -- the number that the program tells of a type
 abbrev pub number_at : List Kind → Numbers → ℕ → ℕ
@@ -83,13 +87,11 @@ pub record Shows (ks : List Kind) (firsts : List Needed) (t : Numbers) : Type 0 
   pub within : list_all (λ o. ltb o.kind (length ks)) t.own.items ≡ true
   pub count : length t.numbers.items ≡ length ks
   pub numbers : (k : ℕ) → k < length ks → slice_get t.numbers.items k ≡ Some (given 12 t.own.items k)
-  pub next : t.next ≡ 12 + length t.own.items
 
 -- one more type has a number
 pub record Gives (kind : ℕ) (place : Place) (old : Numbers) (new : Numbers) : Type 0 where
   pub own : new.own.items ≡ old.own.items ++ record { kind = kind; place = place } ∷ []
-  pub numbers : new.numbers.items ≡ slice_set old.numbers.items kind (Some old.next)
-  pub next : new.next ≡ old.next + 1
+  pub numbers : new.numbers.items ≡ slice_set old.numbers.items kind (Some (next_of old))
 
 -- the types of these kinds, as a construct needs them
 abbrev pub along : List Kind → Construct → List ℕ → List Needed

@@ -9,7 +9,7 @@ ghost use Rattle.idl_language.specs.Numbering.{Needed, needed, built};
 ghost use Rattle.idl_kinds.specs.Kinds.{type_by, type_at};
 ghost use Rattle.idl_nodes.specs.SeenNodes.{seen_construct};
 ghost use Rattle.idl_types.specs.SeenTypes.{scene_seen, IsTypes};
-ghost use Rattle.idl_types.specs.SeenNumbers.{found_number, number_at, AreNumbers, along, needed_at, grown, grown_by, Gives, IsClosed, Shows};
+ghost use Rattle.idl_types.specs.SeenNumbers.{found_number, next_of, number_at, AreNumbers, along, needed_at, grown, grown_by, Gives, IsClosed, Shows};
 
 use crate::types::{Typed, Types};
 use idl_kinds::kinds::{Kind, Kinds};
@@ -21,7 +21,7 @@ use std::alloc::Global;
 /// A type with a number of its own, and where the construct begins that needs it first.
 #[derive(Clone, Copy, Debug)]
 pub struct Own {
-    pub kind: u32,
+    pub kind: usize,
     pub place: Place,
 }
 
@@ -31,9 +31,7 @@ pub struct Numbers {
     /// The types from number 12 on.
     pub own: Vec<Own>,
     /// For each kind, the number that it has of its own.
-    numbers: Vec<Option<u32>>,
-    /// The number behind the last.
-    next: u32,
+    numbers: Vec<Option<usize>>,
 }
 
 /// Whether a type has a number from 12 on where it is needed.
@@ -57,44 +55,47 @@ impl Numbers {
         Ok(Numbers {
             own: Vec::new(alloc),
             numbers,
-            next: 12,
         })
     }
 
+    /// The number past the last.
+    fn next(&self) -> usize
+        ensures { result ≡ next_of self.now }
+    {
+        12 + self.own.len()
+    }
+
     /// The number that a type has of its own.
-    fn own_number(&self, kind: u32) -> Option<u32>
+    fn own_number(&self, kind: usize) -> Option<usize>
         ensures { result ≡ found_number (slice_get self.now.numbers.items kind) }
     {
-        match self.numbers.get(kind as usize) {
+        match self.numbers.get(kind) {
             Some(number) => *number,
             None => None,
         }
     }
 
     /// The number of a type. `void`, and what the program does not need, have the one behind the last.
-    pub fn number(&self, kinds: &Kinds, kind: u32) -> u32
+    pub fn number(&self, kinds: &Kinds, kind: usize) -> usize
         ensures { result ≡ number_at kinds.now self.now kind }
     {
         match kinds.kind(kind) {
-            Kind::Basic { number } => u32::from(number),
+            Kind::Basic { number } => usize::from(number),
             Kind::ContextHandle => 11,
-            Kind::Handle => HANDLE.0,
-            _ => self.own_number(kind).unwrap_or(self.next),
+            Kind::Handle => HANDLE.0 as usize,
+            _ => self.own_number(kind).unwrap_or(self.next()),
         }
     }
 
     /// Gives a type the next number. Takes memory for its entry.
-    fn give(&mut self, kind: u32, place: Place) -> Result<(), Memory>
+    fn give(&mut self, kind: usize, place: Place) -> Result<(), Memory>
         ensures { kind < length self.old.numbers.items → OnOk result (Gives kind place self.old self.new) }
     {
-        let Some(next) = self.next.checked_add(1) else {
-            return Err(Memory);
-        };
-        let Some(number) = self.numbers.get_mut(kind as usize) else {
+        let next = self.next();
+        let Some(number) = self.numbers.get_mut(kind) else {
             return Ok(());
         };
-        *number = Some(self.next);
-        self.next = next;
+        *number = Some(next);
         match self.own.push(Own { kind, place }) {
             Ok(()) => Ok(()),
             Err(_) => Err(Memory),
@@ -102,7 +103,7 @@ impl Numbers {
     }
 
     /// Gives a type a number if it needs one and has none. Takes memory for its entry.
-    fn need_one(&mut self, kinds: &Kinds, kind: u32, place: Place) -> Result<(), Memory>
+    fn need_one(&mut self, kinds: &Kinds, kind: usize, place: Place) -> Result<(), Memory>
         ensures { (firsts : List Needed) (c : rules.Construct) → place ≡ place_in c c.at → Shows kinds.now firsts self.old
             → OnOk result (Shows kinds.now (grown_by firsts (needed c (type_at kinds.now kind))) self.new) }
     {
@@ -117,7 +118,7 @@ impl Numbers {
     }
 
     /// A type and those of which it is made, down to one that has a number. Takes memory for an entry for each.
-    fn path(&self, alloc: Global, kinds: &Kinds, of: u32) -> Result<Vec<u32>, Memory>
+    fn path(&self, alloc: Global, kinds: &Kinds, of: usize) -> Result<Vec<usize>, Memory>
         ensures { IfOk result (λ path. (firsts : List Needed) (c : rules.Construct) → Shows kinds.now firsts self.now → IsClosed firsts
             → grown firsts (along kinds.now c (reverse path.items)) ≡ grown firsts (map (needed c) (built (type_at kinds.now of)))) }
     {
@@ -136,7 +137,7 @@ impl Numbers {
     }
 
     /// Gives numbers to a type and those of which it is made, these first. Takes memory for an entry for each that has none yet.
-    fn need(&mut self, alloc: Global, kinds: &Kinds, of: u32, place: Place) -> Result<(), Memory>
+    fn need(&mut self, alloc: Global, kinds: &Kinds, of: usize, place: Place) -> Result<(), Memory>
         ensures { (firsts : List Needed) (c : rules.Construct) → place ≡ place_in c c.at → Shows kinds.now firsts self.old → IsClosed firsts
             → OnOk result (Shows kinds.now (grown firsts (map (needed c) (built (type_at kinds.now of)))) self.new) }
     {
@@ -174,7 +175,7 @@ impl Numbers {
         alloc: Global,
         kinds: &Kinds,
         construct: &Construct<'_>,
-        of: u32,
+        of: usize,
     ) -> Result<(), Memory>
         ensures { (firsts : List Needed) (c : rules.Construct) → place_in (seen_construct construct.now) construct.now.at ≡ place_in c c.at → Shows kinds.now firsts self.old → IsClosed firsts
             → OnOk result (Shows kinds.now (grown firsts (map (needed c) (built (type_at kinds.now of)))) self.new) }

@@ -20,7 +20,7 @@ use crate::variables::{
     Slot, has_no_variable, has_wrong_switch_variable, has_wrong_variable, tables,
 };
 use idl_grammar::{Identifier, SwitchType, TagKind, TypeSpec};
-use idl_kinds::kinds::{Kind, Kinds, narrow};
+use idl_kinds::kinds::{Kind, Kinds};
 use idl_kinds::places::Places;
 use idl_kinds::typing::{declared_type, with_attributes};
 use idl_kinds::value_set::ValueSet;
@@ -36,9 +36,9 @@ use std::alloc::Global;
 #[derive(Clone, Copy, Debug)]
 pub struct Typed {
     /// Of a declarator: its type, but for attributes other than a class.
-    pub declared_as: u32,
+    pub declared_as: usize,
     /// The type of a declarator, switch, tag or body; of labels, the type of the union's tag.
-    pub of: u32,
+    pub of: usize,
     /// Whether the union of these labels says its tag's type.
     pub has_tag: bool,
     /// A variable of switch_is, size_is, max_is, first_is, length_is or last_is is no other member or parameter of the same list.
@@ -54,13 +54,13 @@ pub struct Typed {
 pub struct BodyTypes {
     pub place: Place,
     /// The number of its node.
-    pub node: u32,
+    pub node: usize,
     /// Whether it is a non-encapsulated union.
     pub nonencapsulated: bool,
     /// The types of its members, or of its arms that are not empty.
-    pub parts: Vec<u32>,
+    pub parts: Vec<usize>,
     /// The type of a union's tag, where it is said.
-    pub tag: Option<u32>,
+    pub tag: Option<usize>,
     /// The values of an enum; of another body there are none.
     pub values: ValueSet,
 }
@@ -69,11 +69,11 @@ pub struct BodyTypes {
 #[derive(Drop)]
 pub struct OperationTypes {
     /// The number of its node.
-    pub node: u32,
+    pub node: usize,
     /// The types of its parameters.
-    pub parameters: Vec<u32>,
+    pub parameters: Vec<usize>,
     /// The type of its result.
-    pub result: u32,
+    pub result: usize,
 }
 
 /// The types of the nodes of a program.
@@ -92,7 +92,7 @@ pub struct Types {
 
 impl Types {
     /// The first body of a place.
-    pub fn body_of(&self, place: Place) -> Option<u32>
+    pub fn body_of(&self, place: Place) -> Option<usize>
         ensures { result ≡ found_place place self.now.by_place }
     {
         self.by_place.get(place)
@@ -140,7 +140,7 @@ fn tag_said<'t>(construct: &Construct<'t>, body: &'t TypeSpec) -> Option<&'t Swi
 }
 
 /// What is noted of a node that is no declarator.
-fn note(of: u32) -> Typed
+fn note(of: usize) -> Typed
     ensures { result ≡ record { declared_as = of; of = of; has_tag = false; no_variable = false; wrong_variable = false; wrong_switch_variable = false } }
 {
     Typed {
@@ -157,7 +157,7 @@ fn note(of: u32) -> Typed
 pub(crate) fn note_declared(
     scope: &Scope,
     kinds: &mut Kinds,
-    names: &Table<u32>,
+    names: &Table<usize>,
     it: &Declared,
 ) -> Result<Typed, Memory>
     requires { are_within (length kinds.old) names.now ≡ true }
@@ -182,9 +182,9 @@ pub(crate) fn note_declared(
 fn note_listed(
     scope: &Scope,
     kinds: &mut Kinds,
-    names: &Table<u32>,
+    names: &Table<usize>,
     nodes: &Nodes,
-    tables: &[Table<u32>],
+    tables: &[Table<usize>],
     slot: Slot,
     it: &Declared,
 ) -> Result<Typed, Memory>
@@ -214,7 +214,7 @@ fn note_listed(
 fn note_result(
     scope: &Scope,
     kinds: &mut Kinds,
-    names: &Table<u32>,
+    names: &Table<usize>,
     it: &Returned,
 ) -> Result<Typed, Memory>
     requires { are_within (length kinds.old) names.now ≡ true }
@@ -229,7 +229,7 @@ fn note_result(
 /// What is noted of labels.
 fn note_labels(
     kinds: &mut Kinds,
-    names: &Table<u32>,
+    names: &Table<usize>,
     construct: &Construct,
     body: &TypeSpec,
 ) -> Result<Typed, Memory>
@@ -257,9 +257,9 @@ fn note_labels(
 fn noted(
     scope: &Scope,
     kinds: &mut Kinds,
-    names: &Table<u32>,
+    names: &Table<usize>,
     nodes: &Nodes,
-    tables: &[Table<u32>],
+    tables: &[Table<usize>],
     node: &Node,
 ) -> Result<Typed, Memory>
     requires within { are_within (length kinds.old) names.now ≡ true }
@@ -299,7 +299,7 @@ fn note_nothing(kinds: &mut Kinds) -> Result<Typed, Memory>
 }
 
 /// What is noted of a type that is to tell the arms of a union apart.
-fn note_switch(kinds: &mut Kinds, names: &Table<u32>, of: &SwitchType) -> Result<Typed, Memory>
+fn note_switch(kinds: &mut Kinds, names: &Table<usize>, of: &SwitchType) -> Result<Typed, Memory>
     requires { are_within (length kinds.old) names.now ≡ true }
     ensures typed { IfOk result (λ t. type_at kinds.new t.of ≡ types.switch_type (seen_names kinds.old names.now) of.now) }
     ensures within { IfOk result (AreTypedWithin (length kinds.new)) }
@@ -336,7 +336,7 @@ fn note_body(kinds: &mut Kinds, construct: &Construct, body: &TypeSpec) -> Resul
 }
 
 /// Gives a name its type, unless it is there already.
-pub(crate) fn put_first(names: &mut Table<u32>, name: &Identifier, of: u32) -> Result<(), Memory>
+pub(crate) fn put_first(names: &mut Table<usize>, name: &Identifier, of: usize) -> Result<(), Memory>
     ensures { OnOk result (names.new ≡ and_name names.old name.now.octets of) }
 {
     let name = name.as_slice();
@@ -348,10 +348,10 @@ pub(crate) fn put_first(names: &mut Table<u32>, name: &Identifier, of: u32) -> R
 
 /// Gives a typedef's name its type.
 fn declare(
-    names: &mut Table<u32>,
+    names: &mut Table<usize>,
     position: Position,
     name: &Identifier,
-    of: u32,
+    of: usize,
 ) -> Result<(), Memory>
     ensures { OnOk result (names.new ≡ declared_in names.old (seen_position position) name.now.octets of) }
 {
@@ -362,7 +362,7 @@ fn declare(
 }
 
 /// Gives the name of a node its type, where the node is a typedef's.
-fn declare_node(names: &mut Table<u32>, node: &Node, of: u32) -> Result<(), Memory>
+fn declare_node(names: &mut Table<usize>, node: &Node, of: usize) -> Result<(), Memory>
     ensures { OnOk result (names.new ≡ names_with names.old node.now of) }
 {
     match node {
@@ -382,9 +382,9 @@ fn part_types(
     alloc: Global,
     scope: &Scope,
     kinds: &mut Kinds,
-    names: &Table<u32>,
+    names: &Table<usize>,
     parts: &[Declared],
-) -> Result<Vec<u32>, Memory>
+) -> Result<Vec<usize>, Memory>
     requires { are_within (length kinds.old) names.now ≡ true }
     ensures types { IfOk result (λ v. map (type_at kinds.new) v.items ≡ map (types.type_of (known_in scope.now) (seen_names kinds.old names.now)) (map seen_declared parts.now)) }
     ensures within { IfOk result (λ v. are_below (length kinds.new) v.items ≡ true) }
@@ -412,10 +412,10 @@ fn is_nonencapsulated(body: &TypeSpec) -> bool
 /// The number of the type of a union's tag, where it is said.
 fn tag_number(
     kinds: &mut Kinds,
-    names: &Table<u32>,
+    names: &Table<usize>,
     construct: &Construct,
     body: &TypeSpec,
-) -> Result<Option<u32>, Memory>
+) -> Result<Option<usize>, Memory>
     requires { are_within (length kinds.old) names.now ≡ true }
     ensures tag { IfOk result (λ o. option_map (type_at kinds.new) o ≡ tag_type (seen_construct construct.now) (seen_names kinds.old names.now) (seen_type body.now)) }
     ensures within { IfOk result (λ o. is_tag_below (length kinds.new) o ≡ true) }
@@ -433,8 +433,8 @@ fn body_types(
     alloc: Global,
     scope: &Scope,
     kinds: &mut Kinds,
-    names: &Table<u32>,
-    node: u32,
+    names: &Table<usize>,
+    node: usize,
     construct: &Construct,
     body: &TypeSpec,
 ) -> Result<BodyTypes, Memory>
@@ -487,7 +487,6 @@ fn put_place(by_place: &mut Places, place: Place, number: usize) -> Result<(), M
     if by_place.get(place).is_some() {
         return Ok(());
     }
-    let number = narrow(number)?;
     by_place.put(place, number)
 }
 
@@ -497,7 +496,7 @@ fn read_body(
     scope: &Scope,
     nodes: &Nodes,
     types: &mut Types,
-    names: &Table<u32>,
+    names: &Table<usize>,
     index: usize,
 ) -> Result<(), Memory>
     requires within { index < length nodes.now.items.items }
@@ -513,8 +512,7 @@ fn read_body(
     let Node::Body { construct, body } = &nodes.items[index] else {
         return Ok(());
     };
-    let node = narrow(index)?;
-    let noted = body_types(alloc, scope, &mut types.kinds, names, node, construct, body)?;
+    let noted = body_types(alloc, scope, &mut types.kinds, names, index, construct, body)?;
     push_body(&mut types.bodies, &mut types.by_place, noted)
 }
 
@@ -523,10 +521,10 @@ fn parameter_types(
     alloc: Global,
     scope: &Scope,
     kinds: &mut Kinds,
-    names: &Table<u32>,
+    names: &Table<usize>,
     nodes: &Nodes,
-    list: u32,
-) -> Result<Vec<u32>, Memory>
+    list: usize,
+) -> Result<Vec<usize>, Memory>
     requires { are_within (length kinds.old) names.now ≡ true }
     ensures types { IfOk result (λ v. map (type_at kinds.new) v.items ≡ map (types.type_of (known_in scope.now) (seen_names kinds.old names.now)) (list_at nodes.now.lists.items list)) }
     ensures within { IfOk result (λ v. are_below (length kinds.new) v.items ≡ true) }
@@ -544,7 +542,7 @@ fn read_operation(
     scope: &Scope,
     nodes: &Nodes,
     types: &mut Types,
-    names: &Table<u32>,
+    names: &Table<usize>,
     index: usize,
 ) -> Result<(), Memory>
     requires within { index < length nodes.now.items.items }
@@ -563,11 +561,10 @@ fn read_operation(
     else {
         return Ok(());
     };
-    let node = narrow(index)?;
     let parameters = parameter_types(alloc, scope, &mut types.kinds, names, nodes, *list)?;
     let result = written(scope, &mut types.kinds, names, it.construct.file, it.of)?;
     let noted = OperationTypes {
-        node,
+        node: index,
         parameters,
         result,
     };
@@ -582,9 +579,9 @@ fn read_node(
     alloc: Global,
     scope: &Scope,
     nodes: &Nodes,
-    tables: &[Table<u32>],
+    tables: &[Table<usize>],
     types: &mut Types,
-    names: &mut Table<u32>,
+    names: &mut Table<usize>,
     index: usize,
 ) -> Result<(), Memory>
     requires within { index < length nodes.now.items.items }

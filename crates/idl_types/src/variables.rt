@@ -20,7 +20,7 @@ ghost use Rattle.idl_types.specs.SeenTypes.{bare, has_wrong_switch_variable};
 
 use crate::types::{note_declared, put_first};
 use idl_grammar::{Attribute, AttributeKind, Variable, VariableWord};
-use idl_kinds::kinds::{Class, Kind, Kinds, narrow};
+use idl_kinds::kinds::{Class, Kind, Kinds};
 use idl_names::{Scope, Table};
 use idl_nodes::nodes::{Declared, Nodes, Position};
 use nd_base::Memory;
@@ -30,8 +30,8 @@ use std::alloc::Global;
 /// Where a declarator stands: the number of its list, and its place there.
 #[derive(Clone, Copy, Debug)]
 pub struct Slot {
-    pub list: u32,
-    pub index: u32,
+    pub list: usize,
+    pub index: usize,
 }
 
 /// What the variable of an attribute has to be.
@@ -43,30 +43,29 @@ enum Wanted {
 }
 
 /// The place of a name in a list.
-fn look_up(tables: &[Table<u32>], list: u32, name: &[u8]) -> Option<u32>
+fn look_up(tables: &[Table<usize>], list: usize, name: &[u8]) -> Option<usize>
     ensures { result ≡ found_at tables.now list name.now }
 {
-    match tables.get(list as usize) {
+    match tables.get(list) {
         Some(table) => table.get(name),
         None => None,
     }
 }
 
 /// The places of the names of a list; of a name that stands twice the first.
-fn table_of(alloc: Global, list: &[Declared]) -> Result<Table<u32>, Memory>
+fn table_of(alloc: Global, list: &[Declared]) -> Result<Table<usize>, Memory>
     ensures { IfOk result (λ t. (name : List ℕ) → found name t ≡ option_map (λ l. l.index) (listed_from 0 (map seen_declared list.now) name)) }
 {
     let mut table = Table::new(alloc);
     for index in 0..list.len() {
-        let number = narrow(index)?;
         let declarator = list[index].declarator;
-        put_first(&mut table, &declarator.name, number)?;
+        put_first(&mut table, &declarator.name, index)?;
     }
     Ok(table)
 }
 
 /// The places of the names of all lists. Takes memory for each name.
-pub(crate) fn tables(alloc: Global, nodes: &Nodes) -> Result<Vec<Table<u32>>, Memory>
+pub(crate) fn tables(alloc: Global, nodes: &Nodes) -> Result<Vec<Table<usize>>, Memory>
     ensures { IfOk result (λ v. AreTables v.items nodes.now.lists.items) }
 {
     let mut tables = Vec::new(alloc);
@@ -80,7 +79,7 @@ pub(crate) fn tables(alloc: Global, nodes: &Nodes) -> Result<Vec<Table<u32>>, Me
 }
 
 /// Whether a variable is no other member or parameter of the same list.
-fn is_no_other(nodes: &Nodes, tables: &[Table<u32>], slot: Slot, variable: &Variable) -> bool
+fn is_no_other(nodes: &Nodes, tables: &[Table<usize>], slot: Slot, variable: &Variable) -> bool
     requires { AreTables tables.now nodes.now.lists.items }
     ensures { result ≡ no_other (list_at nodes.now.lists.items slot.list) slot.index variable.now }
 {
@@ -91,7 +90,7 @@ fn is_no_other(nodes: &Nodes, tables: &[Table<u32>], slot: Slot, variable: &Vari
 }
 
 /// Whether an attribute's variable is no other member or parameter of the same list.
-fn says_no_other(nodes: &Nodes, tables: &[Table<u32>], slot: Slot, attribute: &Attribute) -> bool
+fn says_no_other(nodes: &Nodes, tables: &[Table<usize>], slot: Slot, attribute: &Attribute) -> bool
     requires { AreTables tables.now nodes.now.lists.items }
     ensures { result ≡ list_any (no_other (list_at nodes.now.lists.items slot.list) slot.index) (variable_if (switch_is_word ∷ sizes ++ lengths) (variable_said (seen_kind attribute.now.kind))) }
 {
@@ -104,7 +103,7 @@ fn says_no_other(nodes: &Nodes, tables: &[Table<u32>], slot: Slot, attribute: &A
 /// Whether a variable of a declarator's attributes is no other member or parameter of the same list.
 pub(crate) fn has_no_variable(
     nodes: &Nodes,
-    tables: &[Table<u32>],
+    tables: &[Table<usize>],
     slot: Slot,
     it: &Declared,
 ) -> bool
@@ -139,7 +138,7 @@ fn is_integer(kind: Kind) -> bool
 }
 
 /// Whether a type is what is wanted.
-fn is_wanted(kinds: &Kinds, wanted: Wanted, of: u32) -> bool
+fn is_wanted(kinds: &Kinds, wanted: Wanted, of: usize) -> bool
     ensures { result ≡ wanted_test wanted (type_at kinds.now of) }
 {
     let kind = kinds.kind(of);
@@ -150,7 +149,7 @@ fn is_wanted(kinds: &Kinds, wanted: Wanted, of: u32) -> bool
 }
 
 /// Whether what a reference pointer points to is what is wanted.
-fn is_behind(kinds: &Kinds, wanted: Wanted, of: u32) -> bool
+fn is_behind(kinds: &Kinds, wanted: Wanted, of: usize) -> bool
     ensures { result ≡ passes (wanted_test wanted) true true (type_at kinds.now of) }
 {
     match kinds.kind(of) {
@@ -163,7 +162,7 @@ fn is_behind(kinds: &Kinds, wanted: Wanted, of: u32) -> bool
 }
 
 /// Whether a variable of a type is what is wanted: with `*` it is behind a parameter that is a reference pointer.
-fn is_passed(kinds: &Kinds, wanted: Wanted, parameter: bool, star: bool, of: u32) -> bool
+fn is_passed(kinds: &Kinds, wanted: Wanted, parameter: bool, star: bool, of: usize) -> bool
     ensures { result ≡ passes (wanted_test wanted) parameter star (type_at kinds.now of) }
 {
     match (star, parameter) {
@@ -186,7 +185,7 @@ fn is_parameter(position: Position) -> bool
 fn is_right(
     scope: &Scope,
     kinds: &mut Kinds,
-    names: &Table<u32>,
+    names: &Table<usize>,
     it: &Declared,
     star: bool,
     wanted: Wanted,
@@ -209,10 +208,10 @@ fn is_right(
     Ok(is_passed(kinds, wanted, parameter, star, noted.of))
 }
 
-fn item<'n, 't>(list: &'n [Declared<'t>], place: u32) -> Option<&'n Declared<'t>>
+fn item<'n, 't>(list: &'n [Declared<'t>], place: usize) -> Option<&'n Declared<'t>>
     ensures { option_map (λ d. seen_declared d.now) result ≡ slice_get (map seen_declared list.now) place }
 {
-    match list.get(place as usize) {
+    match list.get(place) {
         Some(declared) => Some(declared),
         None => None,
     }
@@ -221,8 +220,8 @@ fn item<'n, 't>(list: &'n [Declared<'t>], place: u32) -> Option<&'n Declared<'t>
 /// The member or parameter of a name, in its list.
 fn listed<'n, 't>(
     nodes: &'n Nodes<'t>,
-    tables: &[Table<u32>],
-    list: u32,
+    tables: &[Table<usize>],
+    list: usize,
     name: &[u8],
 ) -> Option<&'n Declared<'t>>
     requires { AreTables tables.now nodes.now.lists.items }
@@ -237,7 +236,7 @@ fn listed<'n, 't>(
 fn is_found_right(
     scope: &Scope,
     kinds: &mut Kinds,
-    names: &Table<u32>,
+    names: &Table<usize>,
     found: Option<&Declared>,
     star: bool,
     wanted: Wanted,
@@ -256,10 +255,10 @@ fn is_found_right(
 fn says_wrong(
     scope: &Scope,
     kinds: &mut Kinds,
-    names: &Table<u32>,
+    names: &Table<usize>,
     nodes: &Nodes,
-    tables: &[Table<u32>],
-    list: u32,
+    tables: &[Table<usize>],
+    list: usize,
     attribute: &Attribute,
 ) -> Result<bool, Memory>
     requires within { are_within (length kinds.old) names.now ≡ true }
@@ -283,10 +282,10 @@ fn says_wrong(
 fn says_wrong_switch(
     scope: &Scope,
     kinds: &mut Kinds,
-    names: &Table<u32>,
+    names: &Table<usize>,
     nodes: &Nodes,
-    tables: &[Table<u32>],
-    list: u32,
+    tables: &[Table<usize>],
+    list: usize,
     attribute: &Attribute,
 ) -> Result<bool, Memory>
     requires within { are_within (length kinds.old) names.now ≡ true }
@@ -309,9 +308,9 @@ fn says_wrong_switch(
 pub(crate) fn has_wrong_variable(
     scope: &Scope,
     kinds: &mut Kinds,
-    names: &Table<u32>,
+    names: &Table<usize>,
     nodes: &Nodes,
-    tables: &[Table<u32>],
+    tables: &[Table<usize>],
     slot: Slot,
     it: &Declared,
 ) -> Result<bool, Memory>
@@ -332,9 +331,9 @@ pub(crate) fn has_wrong_variable(
 pub(crate) fn has_wrong_switch_variable(
     scope: &Scope,
     kinds: &mut Kinds,
-    names: &Table<u32>,
+    names: &Table<usize>,
     nodes: &Nodes,
-    tables: &[Table<u32>],
+    tables: &[Table<usize>],
     slot: Slot,
     it: &Declared,
 ) -> Result<bool, Memory>

@@ -74,11 +74,9 @@ keys_all files bs keys size each = record { count = size; each = λ i b at. one 
   one i b at (is, narrow) = let l = slice_get_within bs i b at in record { is_key = item_there keys i 0 (omega (arith, l, size)) ∙ ap (λ v. Some v) is; narrow = narrow }
 
 -- a rank and an octet as one number
-pub joined_key : (files : List Ended) (b : Body) (place : Place) (rank at : ℕ) → rank < 4294967296 → rank ≡ rank_in files place.file → at ≡ place.at
-    → place ≡ place_in b.construct b.construct.at → rank * 4294967296 % 18446744073709551616 + at ≡ key_of files b
-joined_key files b place rank at narrow same octet is =
-    let whole : rank * 4294967296 % 18446744073709551616 ≡ rank * 4294967296 = omega (arith, narrow) in
-    ap (λ n. n + at) whole
-    ∙ ap (λ n. n * 4294967296 + at) same
-    ∙ ap (λ n. rank_in files place.file * 4294967296 + n) octet
+pub joined_key : (files : List Ended) (b : Body) (place : Place) (rank key : ℕ) → key ≡ rank * 4294967296 + place.at → rank ≡ rank_in files place.file
+    → place ≡ place_in b.construct b.construct.at → key ≡ key_of files b
+joined_key files b place rank key whole same is =
+    whole
+    ∙ ap (λ n. n * 4294967296 + place.at) same
     ∙ ap (λ p. rank_in files p.file * 4294967296 + p.at) is

@@ -1,5 +1,5 @@
 // Rule 11: no struct or union contains itself in place (C706, section 4.2.8).
-ghost use Rattle.std.specs.Prelude.{◌≡◌, ℕ, List, ◌∷◌, [], map, Some, None, true, length, min, option_map, slice_get, slice_index_or, slice_set, IfOk, OnOk};
+ghost use Rattle.std.specs.Prelude.{◌≡◌, ◌+◌, ◌*◌, ℕ, List, ◌∷◌, [], map, Some, None, true, length, min, option_map, slice_get, slice_index_or, slice_set, IfOk, OnOk};
 ghost use Rattle.std.specs.List.{flat_map};
 ghost use Rattle.idl_names.specs.Seen.{seen_files, known_in};
 ghost use Rattle.idl_names.specs.Known.{Known};
@@ -26,10 +26,10 @@ use nd_base::{Memory, Place};
 use std::alloc::Global;
 
 /// The struct or union of a type, by its number.
-fn place_at(places: &[Option<Place>], number: u32) -> Option<Place>
+fn place_at(places: &[Option<Place>], number: usize) -> Option<Place>
     ensures { result ≡ slice_index_or places.now number None }
 {
-    match places.get(number as usize) {
+    match places.get(number) {
         Some(place) => *place,
         None => None,
     }
@@ -56,9 +56,6 @@ fn innermost(alloc: Global, kinds: &Kinds) -> Result<Vec<Option<Place>>, Memory>
 {
     let mut places = Vec::new(alloc);
     for number in 0..kinds.len() {
-        let Ok(number) = u32::try_from(number) else {
-            return Err(Memory);
-        };
         let place = innermost_of(kinds.kind(number), places.as_slice());
         let Ok(()) = places.push(place) else {
             return Err(Memory);
@@ -72,8 +69,8 @@ fn row(
     alloc: Global,
     types: &Types,
     places: &[Option<Place>],
-    parts: &[u32],
-) -> Result<Vec<u32>, Memory>
+    parts: &[usize],
+) -> Result<Vec<usize>, Memory>
     ensures { (ks : List kinds.Kind) → AreInnermost ks places.now
         → IfOk result (λ v. v.items ≡ numbers_of types.now (flat_map innermost (map (type_at ks) parts.now))) }
 {
@@ -98,14 +95,14 @@ fn row_of(
     types: &Types,
     places: &[Option<Place>],
     place: Place,
-) -> Result<Vec<u32>, Memory>
+) -> Result<Vec<usize>, Memory>
     ensures { (s : Scene) (n : program_nodes.Nodes) → IsTypes s n types.now → AreInnermost types.now.kinds places.now
         → IfOk result (λ v. v.items ≡ numbers_of types.now (held s place)) }
 {
     let Some(number) = types.body_of(place) else {
         return Ok(Vec::new(alloc));
     };
-    match types.bodies.get(number as usize) {
+    match types.bodies.get(number) {
         Some(body) => row(alloc, types, places, body.parts.as_slice()),
         None => Ok(Vec::new(alloc)),
     }
@@ -125,17 +122,16 @@ fn graph_of(alloc: Global, types: &Types) -> Result<Graph, Memory>
 }
 
 /// A value at a number, if it is less than what stands there.
-fn lower(least: &mut [u64], number: u32, value: u64)
+fn lower(least: &mut [u128], number: usize, value: u128)
     ensures { least.new ≡ slice_set least.old number (min (slice_index_or least.old number 0) value) }
 {
-    let number = number as usize;
     if number < least.len() {
         least[number] = least[number].min(value);
     }
 }
 
 /// The first body of the place of a body.
-fn first_of(types: &Types, number: usize) -> Option<u32>
+fn first_of(types: &Types, number: usize) -> Option<usize>
     ensures { result ≡ first_number types.now number }
 {
     match types.bodies.get(number) {
@@ -145,7 +141,7 @@ fn first_of(types: &Types, number: usize) -> Option<u32>
 }
 
 /// For the first body of each place the least value of all bodies of the place. Takes memory for each body.
-fn of_places(alloc: Global, types: &Types, values: &[u64]) -> Result<Vec<u64>, Memory>
+fn of_places(alloc: Global, types: &Types, values: &[u128]) -> Result<Vec<u128>, Memory>
     ensures { (s : Scene) (n : program_nodes.Nodes) → IsTypes s n types.now → length values.now ≡ length (bodies s)
         → IfOk result (λ v. AreOfPlaces s types.now values.now v.items) }
 {
@@ -165,8 +161,8 @@ fn least_value(
     alloc: Global,
     types: &Types,
     graph: &Graph,
-    values: &[u64],
-) -> Result<Option<u64>, Memory>
+    values: &[u128],
+) -> Result<Option<u128>, Memory>
     ensures { (s : Scene) (n : program_nodes.Nodes) → IsTypes s n types.now → AreHeldBy s types.now graph.now → length values.now ≡ length (bodies s)
         → IfOk result (λ least. IsLeastOf s values.now least) }
 {
@@ -180,10 +176,17 @@ fn place_told(nodes: &Nodes<'_>, body: &BodyTypes) -> Place
     ensures { (known : Known) (b : Body) → body_at (names_at known nodes.now body.now.node) (slice_get nodes.now.items.items body.now.node) ≡ Some b
         → result ≡ place_in b.construct b.construct.at }
 {
-    match nodes.items.get(body.node as usize) {
+    match nodes.items.get(body.node) {
         Some(Node::Body { construct, .. }) => construct.place(construct.at),
         _ => body.place,
     }
+}
+
+/// The rank of a file and an octet of it as one number, which goes by the rank first.
+fn joined(rank: usize, at: u32) -> u128
+    ensures { result ≡ rank * 4294967296 + at }
+{
+    ((rank as u128) << 32) + u128::from(at)
 }
 
 /// The keys by which the breaches of bodies go in order. Takes memory for each body.
@@ -192,17 +195,15 @@ fn keys(
     finder: &Finder<'_>,
     nodes: &Nodes<'_>,
     types: &Types,
-) -> Result<Vec<u64>, Memory>
+) -> Result<Vec<u128>, Memory>
     ensures { (s : Scene) → s ≡ scene_seen s.known nodes.now → IsTypes s nodes.now types.now
         → IfOk result (λ v. AreKeys (seen_files finder.now.files.now) (bodies s) v.items) }
 {
     let mut keys = Vec::new(alloc);
     for body in &types.bodies {
         let place = place_told(nodes, body);
-        let Ok(rank) = u32::try_from(finder.rank(place.file)) else {
-            return Err(Memory);
-        };
-        let Ok(()) = keys.push((u64::from(rank) << 32) + u64::from(place.at)) else {
+        let key = joined(finder.rank(place.file), place.at);
+        let Ok(()) = keys.push(key) else {
             return Err(Memory);
         };
     }
@@ -210,15 +211,15 @@ fn keys(
 }
 
 /// The numbers of the bodies that have a key; others get the number past all. Takes memory for each body.
-fn with_key(alloc: Global, keys: &[u64], key: u64) -> Result<Vec<u64>, Memory>
+fn with_key(alloc: Global, keys: &[u128], key: u128) -> Result<Vec<u128>, Memory>
     ensures { IfOk result (λ v. AreNumbersWith keys.now key v.items) }
 {
     let mut numbers = Vec::new(alloc);
     for (number, one) in keys.iter().enumerate() {
         let number = if *one == key {
-            number as u64
+            number as u128
         } else {
-            keys.len() as u64
+            keys.len() as u128
         };
         let Ok(()) = numbers.push(number) else {
             return Err(Memory);
@@ -228,10 +229,13 @@ fn with_key(alloc: Global, keys: &[u64], key: u64) -> Result<Vec<u64>, Memory>
 }
 
 /// Where a breach of a body is told, by the number of the body.
-fn told(nodes: &Nodes<'_>, types: &Types, number: u64) -> Option<Place>
+fn told(nodes: &Nodes<'_>, types: &Types, number: u128) -> Option<Place>
     ensures { (s : Scene) (b : Body) → IsTypes s nodes.now types.now → slice_get (bodies s) number ≡ Some b
         → result ≡ Some (place_in b.construct b.construct.at) }
 {
+    if number >= types.bodies.len() as u128 {
+        return None;
+    }
     match types.bodies.get(number as usize) {
         Some(body) => Some(place_told(nodes, body)),
         None => None,

@@ -48,7 +48,7 @@ fn accepted_in<'t>(types: &'t Types, place: Place) -> Accepted<'t>
     let Some(number) = types.body_of(place) else {
         return Accepted::Nothing;
     };
-    match types.bodies.get(number as usize) {
+    match types.bodies.get(number) {
         Some(body) => Accepted::Values(&body.values),
         None => Accepted::Nothing,
     }

@@ -3,7 +3,5 @@
 
 pub mod counts;
 pub mod cycle_rule;
-#[cfg(test)]
-mod cycle_tests;
 pub mod label_rule;
 pub mod values;

@@ -1,22 +1,19 @@
--- What is answered of a graph's canonical form, and of two graphs that are compared.
--- `f` and `g` are fits, `c` is a fit's canonical form, `o` an operation.
-use Rattle.std.specs.Prelude.{◌≡◌, Some}
-use Rattle.std.specs.List.{slice_get}
-use Rattle.nd_types.specs.declared.types.Operation.{Operation}
-use Rattle.nd_value.specs.Canon.{IsCanon}
-use Rattle.nd_value.specs.Fitting.{Fitting, setting_beside}
+-- The canonical form of a fit.
+-- `f` is a fit, `c` its canonical form, `k` a cell's number.
+use Rattle.std.specs.Prelude.{◌≡◌, ℕ, ◌<◌, ◌≤◌, List, length}
+use Rattle.nd_value.specs.Canon.{canonical_number}
+use Rattle.nd_value.specs.Fitting.{Fitting}
+use Rattle.nd_value.specs.Same.{Same}
+use Rattle.nd_canonical.specs.Naming.{AreNamed}
 
--- the same graph, of the same side and beside the same request, with its cells numbered by the first pointer to them
+-- The same graph, of the same side of the same operation and beside the same request, with its cells numbered from 1 in the order in
+-- which they are first named.
 pub record IsCanonical (f c : Fitting) : Type 0 where
   pub op : c.op ≡ f.op
   pub side : c.side ≡ f.side
   pub interface : c.interface ≡ f.interface
   pub given : c.given ≡ f.given
-  pub canon : (o : Operation) → slice_get f.interface.operations f.op ≡ Some o
-      → IsCanon (setting_beside f.interface o f.side f.given) f.graph c.graph
-
--- two fits of one side of one operation; the requests beside which they were judged may differ
-pub record IsOneSide (f g : Fitting) : Type 0 where
-  pub interface : f.interface ≡ g.interface
-  pub op : f.op ≡ g.op
-  pub side : f.side ≡ g.side
+  pub names : List ℕ
+  pub named : AreNamed f.graph names
+  pub same : Same f.graph c.graph
+  pub numbered : (k : ℕ) → 0 < k → k ≤ length f.graph.cells → same.image k ≡ canonical_number names k

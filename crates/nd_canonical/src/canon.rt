@@ -2,7 +2,7 @@
 ghost use Rattle.std.specs.Prelude.{IfOk};
 ghost use Rattle.nd_canonical.specs.Canonical.{IsCanonical};
 
-use crate::order::order;
+use crate::order::order_of;
 use nd_base::Memory;
 use nd_flat::Fit;
 use std::alloc::Global;
@@ -15,6 +15,6 @@ use std::alloc::Global;
 pub fn canonical(alloc: Global, fit: &Fit) -> Result<Fit, Memory>
     ensures { IfOk result (λ c. IsCanonical fit.now c) }
 {
-    let order = order(alloc, fit.flat())?;
+    let order = order_of(alloc, fit.flat())?;
     fit.renumbered(alloc, order.numbers.as_slice(), order.cells.as_slice())
 }

@@ -23,7 +23,7 @@ pub(crate) struct Order {
 }
 
 // The order of all cells of a graph.
-pub(crate) fn order(alloc: Global, graph: &FlatGraph) -> Result<Order, Memory>
+pub(crate) fn order_of(alloc: Global, graph: &FlatGraph) -> Result<Order, Memory>
     requires few_roots { length graph.now.roots < 2 ^ 32 }
     requires few_cells { length graph.now.cells < 2 ^ 32 }
     requires names { HasNames graph.now }
@@ -31,7 +31,7 @@ pub(crate) fn order(alloc: Global, graph: &FlatGraph) -> Result<Order, Memory>
     ensures { IfOk result (λ o. IsOrder graph.now o.numbers.items o.cells.items) }
 {
     let mut order = unnamed(alloc, graph.cell_count())?;
-    let mut stands = vec![in alloc; false; graph.cell_count()]?;
+    let mut stands = none_stands(alloc, graph.cell_count())?;
     let mut met = Vec::new(alloc);
     let mut due = roots(alloc, graph.root_count())?;
     while let Some(home) = due.pop() {
@@ -57,6 +57,13 @@ fn unnamed(alloc: Global, count: usize) -> Result<Order, Memory>
         numbers: vec![in alloc; 0; count + 1]?,
         cells: Vec::new(alloc),
     })
+}
+
+// No cell stands.
+fn none_stands(alloc: Global, count: usize) -> Result<Vec<bool>, Memory>
+    ensures { IfOk result (λ stands. stands.items ≡ replicate count false) }
+{
+    Ok(vec![in alloc; false; count]?)
 }
 
 // All roots, the first one last.

@@ -1,6 +1,5 @@
 -- A graph of values of the program: each node is one, and a node in which the first pass finds no misfit can be kept.
-use Rattle.std.proofs.Common.{◌≡◌, ℕ, ◌+◌, ◌^◌, ◌<◌, ◌≤◌, zero, suc, ℤ, Bool, true, false, ◌&&◌, List, [], ◌∷◌, ◌++◌, length, Option, Some, None, refl, ap, sym, ◌∙◌, arith, subst, map}
-use Rattle.std.specs.Prelude.{eqb, leb, ltb}
+use Rattle.std.proofs.Common.{◌≡◌, ℕ, ◌+◌, ◌^◌, ◌<◌, ◌≤◌, ℤ, Bool, true, ◌&&◌, List, [], ◌∷◌, length, Option, Some, None, refl, sym, ◌∙◌, arith, subst, map}
 use Rattle.std.specs.List.{list_all, AllByRecursion}
 use Rattle.std.specs.Cmp.Derive.{both_true}
 use Rattle.std.proofs.lemmas.Bool.{and_parts, leb-true, ltb-true}
@@ -19,11 +18,11 @@ use Rattle.nd_value.specs.Tree as tree
 use Rattle.nd_value.specs.Tree.{Tree, Trees, Label, node, none, more, count, trees, node_count, Referent}
 use Rattle.nd_value.specs.Agreement.{Agreement}
 use Rattle.nd_value.specs.Setting.{Setting, root_list, cell_home}
-use Rattle.nd_value.specs.Nodes.{TypedNode, child_types, child_agreements, first_agreements, rest_agreements, nodes_of}
+use Rattle.nd_value.specs.Nodes.{TypedNode, child_types, child_agreements, rest_agreements, nodes_of}
 use Rattle.nd_value.specs.Variables.{root_agreements}
 use Rattle.nd_value.specs.Homes.{HomeNode, in_home, root_nodes, cell_nodes, all_nodes}
 use Rattle.nd_value.specs.Misfit.{has_machine_values, is_octet, is_count, has_shape, has_range, is_within}
-use Rattle.nd_value.specs.Conforms.{FewNodes, HasFewNodes}
+use Rattle.nd_value.specs.Conforms.{HasFewNodes}
 use Rattle.nd_value.specs.FirstMisfit.{first_local}
 use Rattle.nd_value.specs.Passes.{first_in, first_in_home, first_in_roots, first_in_cells}
 use Rattle.nd_value.proofs.Apart.{all_map}
@@ -149,12 +148,14 @@ module _ (table : Table) where
         let f : Fits table g t types n l ks vs = fits table g t types n l ks vs e in
         let s = split_values l ks vs m in (
           label_kept (type_at table t) l ks f.own.shape (range_fits table small t (type_at table t) refl l f.own.range) f.own.within s.0,
-          values_kept (child_types (type_at table t) l ks) (n + 1) ks (fit_children (type_at table t) l ks f.own.shape f.own.arm) f.inside s.1,
-          values_kept types (n + 1 + node_count ks) vs (omega (arith, k)) f.behind s.2,
+          (
+            values_kept (child_types (type_at table t) l ks) (n + 1) ks (fit_children (type_at table t) l ks f.own.shape f.own.arm) f.inside s.1,
+            values_kept types (n + 1 + node_count ks) vs (omega (arith, k)) f.behind s.2,
+          ),
         )
 
     more_kept : (v : Tree) (vs : Trees) → AreKeepable (more v none) → AreKeepable vs → AreKeepable (more v vs)
-    more_kept (node l ks) vs a b = (a.0, a.1.0, b)
+    more_kept (node l ks) vs a b = (a.0, (a.1.0, b))
 
     home_kept : (h : Home) (t : ℕ) (v : Tree) → first_in_home table g h t v ≡ None → have_machine_values (more v none) ≡ true → AreKeepable (more v none)
     home_kept h t v e m = values_kept (t ∷ []) 0 (more v none) refl (home_none h _ e) m

@@ -6,7 +6,6 @@ ghost use Rattle.nd_value.specs.WorkedFit.{add_params, add, one_two_three};
 
 use crate::fit;
 use nd_base::{Memory, Name};
-use nd_flat::Seen;
 use nd_types::{
     AttrVars, Field, Interface, Operation, Operations, Param, Params, Side, TypeId, Types, Way,
 };
@@ -100,8 +99,8 @@ fn conforming_graphs_fit(rt: HostRuntime) -> Result<(), Fail> {
     };
     let fit = fit(rt.alloc(), &interface, 0, Side::In, None, graph).map_err(|_| "no fit")?;
     assert_eq!(rt; fit.side(), Side::In);
-    assert_eq!(rt; fit.flat().root_count(), 3);
-    let mut walk = fit.flat().root_walk(2);
-    assert!(rt; matches!(walk.step(), Some(Seen::Num(3))));
+    let graph = fit.graph(rt.alloc()).map_err(|_| "memory")?;
+    assert_eq!(rt; graph.roots.len(), 3);
+    assert!(rt; matches!(graph.roots.get(2), Some(Val::Num(3))));
     Ok(())
 }

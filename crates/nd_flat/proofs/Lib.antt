@@ -11,3 +11,4 @@ pub mod Typed
 pub mod Rebuilding
 pub mod Rooted
 pub mod Keepables
+pub mod Renumbering

@@ -77,7 +77,7 @@ without_first k r = record { order = r.order; of = r.of; count = r.count - k; fr
 abbrev pub no_row : KeptRow
 no_row = record { order = Little; of = Byte; count = 0; from = 0 }
 
--- The same as it is kept: one node, but of a row as many as it has numbers.
+-- The same as it is kept: one node, except a row, which is as many as it has numbers.
 abbrev pub seen_nodes : List ℕ → Node → List Flat
 seen_nodes os (kept.Num n) = (tree.Num (pos n), 0) ∷ []
 seen_nodes os (kept.Negative n) = (tree.Num (negsuc n), 0) ∷ []

@@ -9,7 +9,7 @@ use nd_types::Prim;
 use ndr_prim::{read_num, width_of};
 
 /// Numbers of one primitive side by side, as elements of an array or a pipe are: so many, the octets of each in this
-/// order. It has as many octets as its numbers are wide; each octet of a boolean but 0 is TRUE.
+/// order. It has as many octets as its numbers are wide; each octet of a boolean except 0 is TRUE.
 #[derive(Clone, Copy, Drop)]
 pub struct Row<'a> {
     pub order: Order,

@@ -1,5 +1,5 @@
 -- Runs in lists: what follows a run, and where the runs of a list are that is made of runs.
-use Rattle.std.proofs.Common.{◌≡◌, ℕ, ◌+◌, zero, suc, List, [], ◌∷◌, ◌++◌, length, take, drop, map, flat_map, Option, Some, None, refl, ap, sym, ◌∙◌, arith, append_assoc, length-append, drop-drop, subst}
+use Rattle.std.proofs.Common.{◌≡◌, ℕ, ◌+◌, zero, suc, List, [], ◌∷◌, ◌++◌, length, take, drop, map, flat_map, Some, refl, ap, sym, ◌∙◌, arith, append_assoc, length-append, drop-drop, subst}
 use Rattle.std.specs.List.{slice_get, enumerate_from}
 use Rattle.std.specs.Prelude.{option_map}
 use Rattle.std.proofs.Math.Seq.{drop-append-add}

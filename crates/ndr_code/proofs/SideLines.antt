@@ -1,5 +1,5 @@
 -- The lines of an operation's side, and the list of an enumerated type.
-use Rattle.std.proofs.Common.{◌≡◌, ℕ, ℤ, ◌+◌, ◌*◌, zero, suc, Bool, true, false, List, [], ◌∷◌, ◌++◌, length, take, drop, map, flat_map, Option, Some, None, refl, ap, sym, ◌∙◌, subst, arith, append_assoc, length-append}
+use Rattle.std.proofs.Common.{◌≡◌, ℕ, ℤ, ◌+◌, ◌*◌, zero, suc, true, false, List, [], ◌∷◌, ◌++◌, length, take, flat_map, Some, refl, ap, sym, ◌∙◌, subst, arith}
 use Rattle.std.specs.List.{slice_get, enumerate_from}
 use Rattle.std.specs.Prelude.{◌==◌, if◌then◌else◌}
 use Rattle.std.proofs.lemmas.List.{length-map}

@@ -1,16 +1,13 @@
 -- Where the runs of an operation's side are.
-use Rattle.std.proofs.Common.{◌≡◌, ℕ, ◌+◌, ◌*◌, zero, suc, Bool, true, false, List, [], ◌∷◌, ◌++◌, length, take, drop, flat_map, Option, Some, None, refl, ap, ap₂, sym, ◌∙◌, subst, arith, append_assoc, length-append, drop-drop}
+use Rattle.std.proofs.Common.{◌≡◌, ℕ, ◌+◌, ◌*◌, zero, suc, List, [], ◌∷◌, ◌++◌, length, take, flat_map, Some, refl, sym, ◌∙◌, subst, arith, length-append}
 use Rattle.std.specs.List.{slice_get}
-use Rattle.std.proofs.Math.Seq.{drop-append-add}
-use Rattle.std.proofs.lemmas.Option.{same_Some}
 use Rattle.nd_types.specs.declared.types.Operation.{Operation}
 use Rattle.nd_types.specs.declared.types.Side.{Side}
 use Rattle.nd_types.specs.declared.types.Side.TheVariants as side
 use Rattle.nd_types.specs.Table.{Table}
 use Rattle.nd_types.specs.Roots.{Root, roots_of}
 use Rattle.ndr_code.specs.declared.instr.Instr.{Instr}
-use Rattle.ndr_code.specs.declared.instr.Instr.TheVariants as op
-use Rattle.ndr_code.specs.Code.{table_code, operation_code, operations_code, code_of, side_code, side_at, before_side, root_at, checks_at, pipe_at, root_run, checks_run, pipe_run, value_roots, pipe_roots}
+use Rattle.ndr_code.specs.Code.{table_code, operation_code, operations_code, code_of, side_code, side_at, root_at, checks_at, pipe_at, root_run, checks_run, pipe_run, value_roots, pipe_roots}
 use Rattle.ndr_code.specs.Runs.{IsRunAt}
 use Rattle.ndr_code.proofs.Runs.{behind_at, part_at, longer_at, last_at, within_at, flat_at}
 

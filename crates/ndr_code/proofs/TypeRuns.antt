@@ -1,8 +1,6 @@
 -- Where the runs of types are.
-use Rattle.std.proofs.Common.{◌≡◌, ℕ, ◌+◌, zero, suc, Bool, true, false, List, [], ◌∷◌, ◌++◌, length, take, drop, map, Option, Some, None, refl, ap, ap₂, sym, ◌∙◌, arith, append_assoc, length-append, drop-drop, subst}
-use Rattle.std.specs.Prelude.{eqb}
+use Rattle.std.proofs.Common.{◌≡◌, ℕ, ◌+◌, zero, suc, Bool, true, false, List, [], ◌∷◌, ◌++◌, length, take, drop, Option, Some, None, refl, ap, ap₂, sym, ◌∙◌, arith, length-append, subst}
 use Rattle.std.specs.List.{slice_get}
-use Rattle.std.proofs.lemmas.List.{length-map}
 use Rattle.std.proofs.Math.Seq.{drop-append-add}
 use Rattle.std.proofs.lemmas.Option.{same_Some}
 use Rattle.nd_types.specs.declared.types.TypeDef.{TypeDef}
@@ -14,9 +12,9 @@ use Rattle.nd_types.specs.Table.{Table, type_at}
 use Rattle.nd_types.specs.Layout.{align_of, hoists}
 use Rattle.ndr_code.specs.declared.instr.Instr.{Instr}
 use Rattle.ndr_code.specs.declared.instr.Instr.TheVariants as op
-use Rattle.ndr_code.specs.Code.{place_run, gap_run, arm_run, arms_code, default_code, member_calls, member_checks, array_run, whole_run, type_run, type_runs, types_length, no_address, whole_at, place_at, table_code, operations_code, code_of}
+use Rattle.ndr_code.specs.Code.{place_run, gap_run, arms_code, default_code, member_calls, array_run, whole_run, type_run, type_runs, types_length, no_address, whole_at, place_at, operations_code, code_of}
 use Rattle.ndr_code.specs.Runs.{IsRunAt}
-use Rattle.ndr_code.proofs.Runs.{behind_at, part_at, longer_at, behind_two}
+use Rattle.ndr_code.proofs.Runs.{behind_at, part_at, behind_two}
 
 same_calls : (p q : ℕ → ℕ) (fs : List Field) → length (member_calls p fs) ≡ length (member_calls q fs)
 same_calls p q [] = refl

@@ -1,5 +1,5 @@
 -- The plan of a small interface, instruction by instruction: it computes.
-use Rattle.std.proofs.Common.{◌≡◌, ℕ, zero, suc, Bool, true, false, List, [], ◌∷◌, Option, Some, None, refl}
+use Rattle.std.proofs.Common.{◌≡◌, false, [], ◌∷◌, None, refl}
 use Rattle.nd_types.specs.declared.types.Attr.TheVariants.{Size}
 use Rattle.nd_types.specs.declared.types.Class.TheVariants.{Ref}
 use Rattle.nd_types.specs.declared.types.Way.TheVariants as way
@@ -10,7 +10,6 @@ use Rattle.nd_types.specs.declared.types.Operation.{Operation}
 use Rattle.nd_types.specs.declared.types.TypeDef.TheVariants.{Array}
 use Rattle.nd_types.specs.Table.{Table}
 use Rattle.nd_types.proofs.LegalExamples.{sums, taking, operation, param, with, by}
-use Rattle.ndr_code.specs.declared.instr.Instr.{Instr}
 use Rattle.ndr_code.specs.declared.instr.Instr.TheVariants.{Void, Ret, Given, Align, Num, Context, Hoist, Call, Record, Check, Close, Conf, Pointer, Direct, Defer}
 use Rattle.ndr_code.specs.Code.{code_of, id, whole_at, place_at, root_at, checks_at, side_at, side_code}
 use Rattle.ndr_code.specs.declared.lists.PlanLine.TheVariants.{Entry, Checks}

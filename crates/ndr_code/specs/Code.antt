@@ -2,7 +2,7 @@
 -- Each type has a place run, which is what a value of it has in its place, and a whole run, which begins with the maximum count of what hoists.
 -- `t` is a type's number, `d` what it is, `place` and `whole` are the addresses of the place run and the whole run of each type,
 -- `r` is a root, `i` its number, `o` an operation, `n` its number, `s` a side, `a` an attribute with its variable.
-use Rattle.std.specs.Prelude.{ℕ, ◌+◌, ◌*◌, suc, zero, ℤ, Bool, true, false, not, eqb, List, [], ◌∷◌, ◌++◌, length, map, flat_map, filter, take, Option, Some, None}
+use Rattle.std.specs.Prelude.{ℕ, ◌+◌, ◌*◌, suc, Bool, true, false, not, eqb, List, [], ◌∷◌, ◌++◌, length, map, flat_map, filter, take, Option, Some, None}
 use Rattle.nd_types.specs.declared.types.TypeId.{TypeId}
 use Rattle.nd_types.specs.declared.types.TypeDef.{TypeDef}
 use Rattle.nd_types.specs.declared.types.TypeDef.TheVariants as def

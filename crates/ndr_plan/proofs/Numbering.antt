@@ -1,6 +1,6 @@
 -- The numbers that the parameters are given are their numbers among the roots.
 -- `items` are the numbers given so far, `j` is a parameter's index, `n` a root's number.
-use Rattle.std.proofs.Common.{◌≡◌, ◌∙◌, ℕ, zero, suc, ◌+◌, ◌<◌, Bool, true, false, List, [], ◌∷◌, length, Option, Some, None, refl, ap, sym, map, cond, arith, replicate, get_or}
+use Rattle.std.proofs.Common.{◌≡◌, ◌∙◌, ℕ, zero, suc, ◌+◌, ◌<◌, Bool, true, false, List, [], ◌∷◌, length, Option, Some, None, refl, ap, sym, map, arith, replicate, get_or}
 use Rattle.std.specs.Prelude.{eqb, slice_set}
 use Rattle.std.specs.List.{slice_get}
 use Rattle.std.proofs.lemmas.Bool.{eqb-true, eqb-false}

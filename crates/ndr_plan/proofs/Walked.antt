@@ -1,26 +1,21 @@
 -- The roots of a side, one after another: their runs and lines, their agreements, and the numbers of the parameters that they are.
 -- `table` are the types, `o` is an operation, `n` its number, `s` a side, `r` a root, `p` a parameter, `i` its index.
-use Rattle.std.proofs.Common.{◌≡◌, ◌∙◌, ℕ, zero, suc, ◌+◌, ◌*◌, ◌≤◌, ◌<◌, Bool, true, false, not, List, [], ◌∷◌, ◌++◌, length, Option, Some, None, refl, ap, ap₂, sym, map, cond, arith, append_assoc, append-nil, length-append}
-use Rattle.std.specs.Prelude.{filter, ◌&&◌, eqb}
-use Rattle.std.specs.List.{flat_map, enumerate_from, slice_get}
+use Rattle.std.proofs.Common.{◌≡◌, ◌∙◌, ℕ, suc, ◌+◌, ◌*◌, Bool, true, false, not, List, [], ◌∷◌, ◌++◌, length, Option, refl, ap, ap₂, sym, map, cond, arith, append_assoc, append-nil, length-append}
+use Rattle.std.specs.List.{flat_map, enumerate_from}
 use Rattle.std.proofs.lemmas.List.{flat_map_more}
-use Rattle.nd_types.specs.declared.types.TypeId.{TypeId}
 use Rattle.nd_types.specs.declared.types.AttrVar.{AttrVar}
-use Rattle.nd_types.specs.declared.types.Param.{Param}
 use Rattle.nd_types.specs.declared.types.Operation.{Operation}
 use Rattle.nd_types.specs.declared.types.Side.{Side}
-use Rattle.nd_types.specs.declared.types.Side.TheVariants as side
-use Rattle.nd_types.specs.declared.TheConstants.{HANDLE}
-use Rattle.nd_types.specs.Table.{Table, type_at}
-use Rattle.nd_types.specs.Roots.{Root, roots_of, root_of, root_by, root_index, pipe_of, params_from, result_root, travels}
-use Rattle.nd_types.specs.Walk.{NamedRoot, named_root, named_roots, root_name}
+use Rattle.nd_types.specs.Table.{Table}
+use Rattle.nd_types.specs.Roots.{Root}
+use Rattle.nd_types.specs.Walk.{NamedRoot, named_root, root_name}
 use Rattle.ndr_code.specs.declared.instr.Instr.{Instr}
 use Rattle.ndr_code.specs.declared.lists.PlanLine.{PlanLine}
 use Rattle.ndr_code.specs.declared.lists.PlanLine.TheVariants as line
 use Rattle.ndr_code.specs.Code.{value_roots, pipe_roots, root_run, root_checks, root_check, vars_checks}
 use Rattle.ndr_code.specs.Code as code
 use Rattle.ndr_plan.specs.Numbers.{all_numbered, numbered}
-use Rattle.ndr_plan.specs.Checks.{check_by, check_found, checks_by, vars_in, vars_at}
+use Rattle.ndr_plan.specs.Checks.{checks_by, vars_at}
 use Rattle.ndr_plan.proofs.OwnParams.{IsOwn, AreOwn, own_name_is}
 use Rattle.ndr_plan.specs.Parts.{own_name, value_run, value_line, pipe_run, pipe_line, lines_from, HasRuns}
 use Rattle.ndr_plan.specs.declared.side_code.Parts.{Parts}

@@ -60,7 +60,12 @@ fn own_name(alloc: Global, operation: &Operation, param: Option<u32>) -> Result<
 
 impl Parts {
     // The line of a root whose run begins here.
-    fn push_entry(&mut self, alloc: Global, side: &SideOf<'_>, param: Option<u32>) -> Result<(), Memory>
+    fn push_entry(
+        &mut self,
+        alloc: Global,
+        side: &SideOf<'_>,
+        param: Option<u32>,
+    ) -> Result<(), Memory>
         ensures { OnOk result (self.new ≡ record {
           code = self.old.code;
           entries = self.old.entries ++ (Entry side.now.op side.now.side (own_name side.now.operation.now param) (length self.old.code) ∷ []);

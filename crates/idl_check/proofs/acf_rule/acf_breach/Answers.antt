@@ -13,9 +13,9 @@ use Rattle.idl_check.proofs.acf_rule.acf_breach.Goals as goal
 pub returns : goal.returns
 returns c =
     let w = world_of c.args.scope.now in
-    let main = of_idl.seen_tree c.in_ok-main.main.now in
+    let main = of_idl.seen_tree c.main_tree-main.result.now in
     ap (option_map seen_breach) c.first.ensures
-    ∙ acf_noted w (seen_acf c.args.acf.now) main c.in_ok-main.ensures _ _ _
+    ∙ acf_noted w (seen_acf c.args.acf.now) main c.main_tree-main.ensures _ _ _
     (ap (option_map seen_breach) c.new-finder.ensures.none)
     (c.note.ensures.first w (ap seen_files (sym c.new-finder.ensures.files))
     ∙ ap (λ b. noted w (option_map seen_breach c.new-finder.result.first) (broken_at c.args.acf.now.at b)) c.breaks_header.ensures)

@@ -35,8 +35,8 @@ loop-done-preserved c = record {
       let x = c.index-dimensions-dimensions.result in
       let within : at < length xs = omega arith in
       more c.add.new.self c.in_ok-element.element (known_in c.args.scope.now) (type_at c.args.kinds.now c.args.of) (type_at c.loop-done.kinds c.loop-done.element)
-      (option_map seen_bound) xs c.loop-done.done at x c.in_ok-count.count refl c.loop-done-test.true (slice_get_read xs (length xs) at x refl within c.index-dimensions-dimensions.is)
-      c.in_ok-count.ensures c.loop-done.invariant.is c.in_ok-element.ensures.stands;
+      (option_map seen_bound) xs c.loop-done.done at x c.count_of-count.result refl c.loop-done-test.true (slice_get_read xs (length xs) at x refl within c.index-dimensions-dimensions.is)
+      c.count_of-count.ensures c.loop-done.invariant.is c.in_ok-element.ensures.stands;
 }
 
 pub returns-clause-stands : goal.returns-clause-stands

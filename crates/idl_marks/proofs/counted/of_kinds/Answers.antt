@@ -31,9 +31,8 @@ returns-clause-count c =
     let all = c.loop-number.invariant.0 in
     let past = c.loop-number-test.false in
     let within = c.loop-number.auto.number-end in
-    let count = c.in-Ok.ensures.1 in
-    let size = c.len.ensures in
-    omega (arith, all, past, within, count, size)
+    let size = c.len-number-end.ensures.count in
+    omega (arith, all, past, within, size)
 
 pub returns-clause-each : goal.returns-clause-each
 returns-clause-each c = c.loop-number.invariant.1

@@ -12,8 +12,8 @@ pub loop-number-preserved : goal.loop-number-preserved
 loop-number-preserved c =
     let ks = c.args.types.now.kinds in
     let number = c.loop-number.number in
-    let size : length ks ≡ c.in_ok-count.count = sym (c.in_ok-count.ensures ∙ c.len.ensures.count) in
-    let below : number < c.in_ok-count.count = c.loop-number-test.true in
+    let size : length ks ≡ c.len-count.result = sym c.len-count.ensures.count in
+    let below : number < c.len-count.result = c.loop-number-test.true in
     let counted = c.in_ok-counted.counted.items in
     let sized = c.in_ok-counted.ensures.count in
     let one : slice_get counted number ≡ Some c.in-Some.one.now =
@@ -22,13 +22,13 @@ loop-number-preserved c =
       ap length c.in-Ok.ensures.items ∙ length-append c.loop-number.marks.items.items (c.next_mark-mark.result ∷ []) ∙ ap (λ k. k + 1) c.loop-number.invariant.0,
       (λ s n is. subst (λ (l : List Mark). MarksTo s ks (number + 1) l) (sym c.in-Ok.ensures.items)
           (one_more s ks number c.loop-number.marks.items.items c.next_mark-mark.result c.loop-number.invariant.0 (c.loop-number.invariant.1 s n is)
-          (c.next_mark-mark.ensures s n c.in_ok-count.count is size below (c.in_ok-properties.ensures s n is size) (c.in_ok-counted.ensures.each number c.in-Some.one.now one) (c.loop-number.invariant.1 s n is)))),
+          (c.next_mark-mark.ensures s n c.len-count.result is size below (c.in_ok-properties.ensures s n is size) (c.in_ok-counted.ensures.each number c.in-Some.one.now one) (c.loop-number.invariant.1 s n is)))),
     )
 
 pub returns : goal.returns
 returns c s n is =
     let ks = c.args.types.now.kinds in
-    let size : c.in_ok-count.count ≡ length ks = c.in_ok-count.ensures ∙ c.len.ensures.count in
+    let size : c.len-count.result ≡ length ks = c.len-count.ensures.count in
     let past = c.loop-number-test.false in
     let within = c.loop-number.auto.number-end in
     let all : c.loop-number.number ≡ length ks = omega (arith, past, within, size) in

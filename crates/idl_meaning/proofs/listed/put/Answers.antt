@@ -17,5 +17,5 @@ returns c = λ before d h n e.
     let none : found d.declarator.name.octets c.args.table.now ≡ None = lacks (found d.declarator.name.octets c.args.table.now) cc in
     on_ok_weaker c.put.result
     (λ p.
-    let made : put c.args.table.now d.declarator.name.octets (length before) ≡ c.put.new.self = cc (c.in_ok-index.ensures) in
+    let made : put c.args.table.now d.declarator.name.octets (length before) ≡ c.put.new.self = cc (c.narrow.ensures) in
     subst (λ t. AreListed (before ++ d ∷ []) t) made (listed_new before d c.args.table.now h none)) c.put.ensures

@@ -11,8 +11,12 @@ use Rattle.idl_language.specs.Checked.{world_of}
 use Rattle.idl_language.specs.Scene.{scene_of}
 use Rattle.nd_types.specs.Meant.{Meant}
 use Rattle.idl_language.specs.Meaning.{meaning, header_meant, types_of, uuid_said, major_said, minor_said, or_none}
+use Rattle.idl_laws.proofs.Few.{few_types}
+use Rattle.idl_laws.proofs.fields.Limits.{few_params, few_parts}
 use Rattle.idl_legal.proofs.Scenes.{kept}
 use Rattle.idl_legal.proofs.legal.Counts as counts
+use Rattle.nd_types.specs.declared.TheConstants.{MEMBER_LIMIT}
+use Rattle.idl_meaning.proofs.Limits.{each_few}
 use Rattle.idl_meaning.proofs.MainFile.{meant_is, small_major, small_minor, small_version}
 use Rattle.idl_meaning.proofs.meaning.interface.Goals as goal
 
@@ -29,6 +33,38 @@ invariant_of-result c =
       laid_out = c.in_ok-layouts.ensures;
     }
 
+pub type_table-requires-clause-program : goal.type_table-requires-clause-program
+type_table-requires-clause-program c =
+    let w = world_of c.args.scope.now in
+    record {
+      types = c.requires.types;
+      tags = c.requires.tags;
+      operations = c.requires.operations;
+      numbers = c.requires.numbers;
+      few = few_types (scene_of w) (kept w c.requires.kept).none;
+    }
+
+pub type_table-requires-clause-few : goal.type_table-requires-clause-few
+type_table-requires-clause-few c =
+    let w = world_of c.args.scope.now in
+    each_few MEMBER_LIMIT (types_of (scene_of w)) (few_parts w (kept w c.requires.kept).none)
+
+pub all_operations-requires-clause-program : goal.all_operations-requires-clause-program
+all_operations-requires-clause-program c =
+    let w = world_of c.args.scope.now in
+    record {
+      types = c.requires.types;
+      tags = c.requires.tags;
+      operations = c.requires.operations;
+      numbers = c.requires.numbers;
+      few = few_types (scene_of w) (kept w c.requires.kept).none;
+    }
+
+pub all_operations-requires-clause-few : goal.all_operations-requires-clause-few
+all_operations-requires-clause-few c =
+    let w = world_of c.args.scope.now in
+    few_params (scene_of w) (kept w c.requires.kept).none
+
 pub type_table-requires-clause-bounds : goal.type_table-requires-clause-bounds
 type_table-requires-clause-bounds c =
     let w = world_of c.args.scope.now in
@@ -37,12 +73,12 @@ type_table-requires-clause-bounds c =
 pub major-major-requires : goal.major-major-requires
 major-major-requires c =
     subst (λ (l : List attributes.Attribute). or_none (first_said major_said (map seen_attribute l)) ≤ 65535) (sym c.as_slice-list.ensures.value)
-    (small_version major_said small_major (world_of c.args.scope.now) (seen_tree c.in_ok-tree.tree.now) c.requires.kept c.in_ok-tree.ensures)
+    (small_version major_said small_major (world_of c.args.scope.now) (seen_tree c.main_tree-tree.result.now) c.requires.kept c.main_tree-tree.ensures)
 
 pub minor-minor-requires : goal.minor-minor-requires
 minor-minor-requires c =
     subst (λ (l : List attributes.Attribute). or_none (first_said minor_said (map seen_attribute l)) ≤ 65535) (sym c.as_slice-list.ensures.value)
-    (small_version minor_said small_minor (world_of c.args.scope.now) (seen_tree c.in_ok-tree.tree.now) c.requires.kept c.in_ok-tree.ensures)
+    (small_version minor_said small_minor (world_of c.args.scope.now) (seen_tree c.main_tree-tree.result.now) c.requires.kept c.main_tree-tree.ensures)
 
 pub returns : goal.returns
 unfolding meaning
@@ -50,9 +86,9 @@ returns c =
     let w = world_of c.args.scope.now in
     let s = scene_of w in
     let same = c.as_slice-list.ensures.value in
-    ap (map (header_meant s)) c.in_ok-tree.ensures
+    ap (map (header_meant s)) c.main_tree-tree.ensures
     ∙ ap (λ (m : Meant). m ∷ [])
-    (meant_is s (seen_tree c.in_ok-tree.tree.now) _ c.in_ok-name.ensures.same
+    (meant_is s (seen_tree c.main_tree-tree.result.now) _ c.in_ok-name.ensures.same
     (c.uuid-uuid.ensures ∙ ap (λ l. first_said uuid_said (map seen_attribute l)) same)
     (c.major-major.ensures ∙ ap (λ l. or_none (first_said major_said (map seen_attribute l))) same)
     (c.minor-minor.ensures ∙ ap (λ l. or_none (first_said minor_said (map seen_attribute l))) same)

@@ -5,4 +5,4 @@ use Rattle.idl_meaning.proofs.meaning.main_tree.Given as goal
 
 -- what is left says what all say
 abbrev pub invariant-loop-at : goal.invariant-loop-at
-invariant-loop-at l = main_among (drop l.at (seen_files l.files)) ≡ main_among (seen_files l.files)
+invariant-loop-at l = main_among (drop l.at (seen_files l.scope.files)) ≡ main_among (seen_files l.scope.files)

@@ -7,25 +7,26 @@ use Rattle.idl_names.specs.declared.name_fault.NameFault.TheVariants as fault
 use Rattle.idl_names.specs.Going.{Point, point, Went}
 use Rattle.idl_names.specs.Known.{place_in}
 use Rattle.idl_names.specs.Loads.{IsLoaded}
-use Rattle.idl_names.specs.Seen.{seen_file, seen_files, seen_scope}
+use Rattle.idl_names.specs.Seen.{seen_file, seen_files, seen_state}
 use Rattle.idl_names.specs.Sources.{file_number, file_named}
 use Rattle.idl_names.specs.Walk.{Load, End, load_of, all_of, has_ended, with_known}
 use Rattle.idl_names.specs.Steps.{imports_of}
 use Rattle.idl_names.proofs.Going as going
 use Rattle.idl_names.proofs.Going.{loads, loads_of, one_load, one_import, passed_on}
+use Rattle.idl_names.proofs.Spelled.{last_ended}
 use Rattle.idl_names.proofs.resolving.+files.Goals as goal
 
 -- ## import
 
 pub import-returns-in_err-name : goal.import-returns-in_err-name
 import-returns-in_err-name g t c =
-    let p : Point = point (g.F.Files.held c.args.files.now) (g.F.Files.asked c.args.files.now) (g.F.Files.absences c.args.files.now) (g.F.Files.faults c.args.files.now) (seen_scope c.args.sources.now c.args.scope.now) in
+    let p : Point = point (g.F.Files.held c.args.files.now) (g.F.Files.asked c.args.files.now) (g.F.Files.absences c.args.files.now) (g.F.Files.faults c.args.files.now) (seen_state c.args.sources.now c.args.state.now) in
     let dues = load_of c.args.file c.args.string.now ∷ [] in
     passed_on p p dues [] c.from_residual.result fault.Memory c.from_residual.ensures.1 (going.stops_short p dues fault.Memory refl c.requires)
 
 pub import-returns-in-Some : goal.import-returns-in-Some
 import-returns-in-Some g t c =
-    let p : Point = point (g.F.Files.held c.args.files.now) (g.F.Files.asked c.args.files.now) (g.F.Files.absences c.args.files.now) (g.F.Files.faults c.args.files.now) (seen_scope c.args.sources.now c.args.scope.now) in
+    let p : Point = point (g.F.Files.held c.args.files.now) (g.F.Files.asked c.args.files.now) (g.F.Files.absences c.args.files.now) (g.F.Files.faults c.args.files.now) (seen_state c.args.sources.now c.args.state.now) in
     let name = file_named c.args.string.now.octets in
     let is : c.as_str.result.now ≡ name = c.as_str.ensures.value ∙ (c.in_ok-name.ensures ∙ ap file_named c.as_slice.ensures) in
     going.again_went p (place_in c.args.file c.args.string.now) name c.requires c.in-Some.number tt
@@ -33,7 +34,7 @@ import-returns-in-Some g t c =
 
 pub import-returns-in-Some-2 : goal.import-returns-in-Some-2
 import-returns-in-Some-2 g t c =
-    let p : Point = point (g.F.Files.held c.args.files.now) (g.F.Files.asked c.args.files.now) (g.F.Files.absences c.args.files.now) (g.F.Files.faults c.args.files.now) (seen_scope c.args.sources.now c.args.scope.now) in
+    let p : Point = point (g.F.Files.held c.args.files.now) (g.F.Files.asked c.args.files.now) (g.F.Files.absences c.args.files.now) (g.F.Files.faults c.args.files.now) (seen_state c.args.sources.now c.args.state.now) in
     let name = file_named c.args.string.now.octets in
     let is : c.as_str.result.now ≡ name = c.as_str.ensures.value ∙ (c.in_ok-name.ensures ∙ ap file_named c.as_slice.ensures) in
     going.cycle_went p (place_in c.args.file c.args.string.now) name c.requires c.in-Some.number
@@ -41,7 +42,7 @@ import-returns-in-Some-2 g t c =
 
 pub import-returns-in-None : goal.import-returns-in-None
 import-returns-in-None g t c =
-    let p : Point = point (g.F.Files.held c.args.files.now) (g.F.Files.asked c.args.files.now) (g.F.Files.absences c.args.files.now) (g.F.Files.faults c.args.files.now) (seen_scope c.args.sources.now c.args.scope.now) in
+    let p : Point = point (g.F.Files.held c.args.files.now) (g.F.Files.asked c.args.files.now) (g.F.Files.absences c.args.files.now) (g.F.Files.faults c.args.files.now) (seen_state c.args.sources.now c.args.state.now) in
     let name = file_named c.args.string.now.octets in
     let is : c.as_str.result.now ≡ name = c.as_str.ensures.value ∙ (c.in_ok-name.ensures ∙ ap file_named c.as_slice.ensures) in
     going.too_many_went p (place_in c.args.file c.args.string.now) name c.requires
@@ -49,9 +50,9 @@ import-returns-in-None g t c =
 
 pub import-returns : goal.import-returns
 import-returns g t c =
-    let p : Point = point (g.F.Files.held c.args.files.now) (g.F.Files.asked c.args.files.now) (g.F.Files.absences c.args.files.now) (g.F.Files.faults c.args.files.now) (seen_scope c.args.sources.now c.args.scope.now) in
-    let q : Point = point (g.F.Files.held c.load.new.files) (g.F.Files.asked c.load.new.files) (g.F.Files.absences c.load.new.files) (g.F.Files.faults c.load.new.files) (seen_scope c.load.new.sources c.args.scope.now) in
-    let r : Point = point (g.F.Files.held c.whole.new.files) (g.F.Files.asked c.whole.new.files) (g.F.Files.absences c.whole.new.files) (g.F.Files.faults c.whole.new.files) (seen_scope c.whole.new.sources c.whole.new.scope) in
+    let p : Point = point (g.F.Files.held c.args.files.now) (g.F.Files.asked c.args.files.now) (g.F.Files.absences c.args.files.now) (g.F.Files.faults c.args.files.now) (seen_state c.args.sources.now c.args.state.now) in
+    let q : Point = point (g.F.Files.held c.load.new.files) (g.F.Files.asked c.load.new.files) (g.F.Files.absences c.load.new.files) (g.F.Files.faults c.load.new.files) (seen_state c.load.new.sources c.args.state.now) in
+    let r : Point = point (g.F.Files.held c.whole.new.files) (g.F.Files.asked c.whole.new.files) (g.F.Files.absences c.whole.new.files) (g.F.Files.faults c.whole.new.files) (seen_state c.whole.new.sources c.whole.new.state) in
     let name = file_named c.args.string.now.octets in
     let is : c.as_str.result.now ≡ name = c.as_str.ensures.value ∙ (c.in_ok-name.ensures ∙ ap file_named c.as_slice.ensures) in
     let same : c.as_str-in-None-2.result.now ≡ name = c.as_str-in-None-2.ensures.value ∙ (c.in_ok-name.ensures ∙ ap file_named c.as_slice.ensures) in
@@ -59,23 +60,23 @@ import-returns g t c =
     (ap (file_number c.args.sources.now) (sym is) ∙ sym c.in-None.ensures) (omega (arith, c.if-count-ge-WALK_LIMIT.false, c.count.ensures))
     (subst (λ (n : List ℕ). IsLoaded p.held p.state.sources n q.state.sources (seen_file c.in_ok-loaded-in-None-2.loaded)) same c.in_ok-loaded-in-None-2.ensures.ok)
     refl refl c.in_ok-loaded-in-None-2.ensures.same c.in_ok-loaded-in-None-2.ensures.asked c.in_ok-loaded-in-None-2.ensures.later c.in_ok-loaded-in-None-2.ensures.absences_later c.in_ok-loaded-in-None-2.ensures.more
-    c.whole.ensures
+    c.whole.ensures.went
 
 -- ## import_all
 
 pub import_all-returns-in_err-import : goal.import_all-returns-in_err-import
 import_all-returns-in_err-import g t c =
-    let p : Point = point (g.F.Files.held c.args.files.now) (g.F.Files.asked c.args.files.now) (g.F.Files.absences c.args.files.now) (g.F.Files.faults c.args.files.now) (seen_scope c.args.sources.now c.args.scope.now) in
-    let q : Point = point (g.F.Files.held c.loop-string.files) (g.F.Files.asked c.loop-string.files) (g.F.Files.absences c.loop-string.files) (g.F.Files.faults c.loop-string.files) (seen_scope c.loop-string.sources c.loop-string.scope) in
-    let r : Point = point (g.F.Files.held c.import.new.files) (g.F.Files.asked c.import.new.files) (g.F.Files.absences c.import.new.files) (g.F.Files.faults c.import.new.files) (seen_scope c.import.new.sources c.import.new.scope) in
+    let p : Point = point (g.F.Files.held c.args.files.now) (g.F.Files.asked c.args.files.now) (g.F.Files.absences c.args.files.now) (g.F.Files.faults c.args.files.now) (seen_state c.args.sources.now c.args.state.now) in
+    let q : Point = point (g.F.Files.held c.loop-string.files) (g.F.Files.asked c.loop-string.files) (g.F.Files.absences c.loop-string.files) (g.F.Files.faults c.loop-string.files) (seen_state c.loop-string.sources c.loop-string.state) in
+    let r : Point = point (g.F.Files.held c.import.new.files) (g.F.Files.asked c.import.new.files) (g.F.Files.absences c.import.new.files) (g.F.Files.faults c.import.new.files) (seen_state c.import.new.sources c.import.new.state) in
     passed_on p r (loads c.args.file c.args.strings.now) (loads c.args.file (drop (c.loop-string.string-index + 1) c.args.strings.now)) c.from_residual.result c.in_err-import.field-0.0 c.from_residual.ensures.1
     (going.next_item (loads c.args.file) (λ x. load_of c.args.file x ∷ []) refl (one_load c.args.file) c.args.strings.now p q r (loads c.args.file c.args.strings.now) c.loop-string.string-index c.string-item.result
     0 (Err c.in_err-import.field-0.0) (omega arith) c.string-item.is c.loop-string.invariant c.in_err-import.ensures)
 
 pub import_all-returns : goal.import_all-returns
 import_all-returns g t c =
-    let p : Point = point (g.F.Files.held c.args.files.now) (g.F.Files.asked c.args.files.now) (g.F.Files.absences c.args.files.now) (g.F.Files.faults c.args.files.now) (seen_scope c.args.sources.now c.args.scope.now) in
-    let q : Point = point (g.F.Files.held c.loop-string.files) (g.F.Files.asked c.loop-string.files) (g.F.Files.absences c.loop-string.files) (g.F.Files.faults c.loop-string.files) (seen_scope c.loop-string.sources c.loop-string.scope) in
+    let p : Point = point (g.F.Files.held c.args.files.now) (g.F.Files.asked c.args.files.now) (g.F.Files.absences c.args.files.now) (g.F.Files.faults c.args.files.now) (seen_state c.args.sources.now c.args.state.now) in
+    let q : Point = point (g.F.Files.held c.loop-string.files) (g.F.Files.asked c.loop-string.files) (g.F.Files.absences c.loop-string.files) (g.F.Files.faults c.loop-string.files) (seen_state c.loop-string.sources c.loop-string.state) in
     going.any_value p q (loads c.args.file c.args.strings.now) [] 0 tt
     (going.no_item (loads c.args.file) (λ x. load_of c.args.file x ∷ []) refl (one_load c.args.file) c.args.strings.now p q (loads c.args.file c.args.strings.now) c.loop-string.string-index 0 (omega arith) c.loop-string.invariant)
 
@@ -83,9 +84,9 @@ import_all-returns g t c =
 
 pub imports-returns-in_err-import_all : goal.imports-returns-in_err-import_all
 imports-returns-in_err-import_all g t c =
-    let p : Point = point (g.F.Files.held c.args.files.now) (g.F.Files.asked c.args.files.now) (g.F.Files.absences c.args.files.now) (g.F.Files.faults c.args.files.now) (seen_scope c.args.sources.now c.args.scope.now) in
-    let q : Point = point (g.F.Files.held c.loop-one.files) (g.F.Files.asked c.loop-one.files) (g.F.Files.absences c.loop-one.files) (g.F.Files.faults c.loop-one.files) (seen_scope c.loop-one.sources c.loop-one.scope) in
-    let r : Point = point (g.F.Files.held c.import_all.new.files) (g.F.Files.asked c.import_all.new.files) (g.F.Files.absences c.import_all.new.files) (g.F.Files.faults c.import_all.new.files) (seen_scope c.import_all.new.sources c.import_all.new.scope) in
+    let p : Point = point (g.F.Files.held c.args.files.now) (g.F.Files.asked c.args.files.now) (g.F.Files.absences c.args.files.now) (g.F.Files.faults c.args.files.now) (seen_state c.args.sources.now c.args.state.now) in
+    let q : Point = point (g.F.Files.held c.loop-one.files) (g.F.Files.asked c.loop-one.files) (g.F.Files.absences c.loop-one.files) (g.F.Files.faults c.loop-one.files) (seen_state c.loop-one.sources c.loop-one.state) in
+    let r : Point = point (g.F.Files.held c.import_all.new.files) (g.F.Files.asked c.import_all.new.files) (g.F.Files.absences c.import_all.new.files) (g.F.Files.faults c.import_all.new.files) (seen_state c.import_all.new.sources c.import_all.new.state) in
     passed_on p r (loads_of c.args.file c.args.list.now) (loads_of c.args.file (drop (c.loop-one.one-index + 1) c.args.list.now)) c.from_residual.result c.in_err-import_all.field-0.0 c.from_residual.ensures.1
     (going.next_item (loads_of c.args.file) (λ m. loads c.args.file m.files.items) refl (one_import c.args.file) c.args.list.now p q r (loads_of c.args.file c.args.list.now) c.loop-one.one-index c.one-item.result
     0 (Err c.in_err-import_all.field-0.0) (omega arith) c.one-item.is c.loop-one.invariant
@@ -93,25 +94,25 @@ imports-returns-in_err-import_all g t c =
 
 pub imports-returns : goal.imports-returns
 imports-returns g t c =
-    let p : Point = point (g.F.Files.held c.args.files.now) (g.F.Files.asked c.args.files.now) (g.F.Files.absences c.args.files.now) (g.F.Files.faults c.args.files.now) (seen_scope c.args.sources.now c.args.scope.now) in
-    let q : Point = point (g.F.Files.held c.loop-one.files) (g.F.Files.asked c.loop-one.files) (g.F.Files.absences c.loop-one.files) (g.F.Files.faults c.loop-one.files) (seen_scope c.loop-one.sources c.loop-one.scope) in
+    let p : Point = point (g.F.Files.held c.args.files.now) (g.F.Files.asked c.args.files.now) (g.F.Files.absences c.args.files.now) (g.F.Files.faults c.args.files.now) (seen_state c.args.sources.now c.args.state.now) in
+    let q : Point = point (g.F.Files.held c.loop-one.files) (g.F.Files.asked c.loop-one.files) (g.F.Files.absences c.loop-one.files) (g.F.Files.faults c.loop-one.files) (seen_state c.loop-one.sources c.loop-one.state) in
     going.any_value p q (loads_of c.args.file c.args.list.now) [] 0 tt
     (going.no_item (loads_of c.args.file) (λ m. loads c.args.file m.files.items) refl (one_import c.args.file) c.args.list.now p q (loads_of c.args.file c.args.list.now) c.loop-one.one-index 0 (omega arith) c.loop-one.invariant)
 
 -- ## whole
 
-pub whole-returns-in_err-attributes : goal.whole-returns-in_err-attributes
-whole-returns-in_err-attributes g t c =
-    let p : Point = point (g.F.Files.held c.args.files.now) (g.F.Files.asked c.args.files.now) (g.F.Files.absences c.args.files.now) (g.F.Files.faults c.args.files.now) (seen_scope c.args.sources.now c.args.scope.now) in
+pub whole-returns-in_err-attributes-clause-went : goal.whole-returns-in_err-attributes-clause-went
+whole-returns-in_err-attributes-clause-went g t c =
+    let p : Point = point (g.F.Files.held c.args.files.now) (g.F.Files.asked c.args.files.now) (g.F.Files.absences c.args.files.now) (g.F.Files.faults c.args.files.now) (seen_state c.args.sources.now c.args.state.now) in
     let file = c.args.of.file in
     let t = seen_tree c.args.of.tree in
     passed_on p p (all_of file t) (going.behind_attributes file t) c.from_residual.result c.in_err-attributes.field-0.0 c.from_residual.ensures.1
     (going.attributes_went p file t (Err c.in_err-attributes.field-0.0) c.requires c.in_err-attributes.ensures)
 
-pub whole-returns-in_err-imports : goal.whole-returns-in_err-imports
-whole-returns-in_err-imports g t c =
-    let p : Point = point (g.F.Files.held c.args.files.now) (g.F.Files.asked c.args.files.now) (g.F.Files.absences c.args.files.now) (g.F.Files.faults c.args.files.now) (seen_scope c.args.sources.now c.args.scope.now) in
-    let q : Point = point (g.F.Files.held c.imports.new.files) (g.F.Files.asked c.imports.new.files) (g.F.Files.absences c.imports.new.files) (g.F.Files.faults c.imports.new.files) (seen_scope c.imports.new.sources c.imports.new.scope) in
+pub whole-returns-in_err-imports-clause-went : goal.whole-returns-in_err-imports-clause-went
+whole-returns-in_err-imports-clause-went g t c =
+    let p : Point = point (g.F.Files.held c.args.files.now) (g.F.Files.asked c.args.files.now) (g.F.Files.absences c.args.files.now) (g.F.Files.faults c.args.files.now) (seen_state c.args.sources.now c.args.state.now) in
+    let q : Point = point (g.F.Files.held c.imports.new.files) (g.F.Files.asked c.imports.new.files) (g.F.Files.absences c.imports.new.files) (g.F.Files.faults c.imports.new.files) (seen_state c.imports.new.sources c.imports.new.state) in
     let file = c.args.of.file in
     let t = seen_tree c.args.of.tree in
     let strings : List Spelling = flat_map (λ m. m.files) (map seen_import c.as_slice.result.now) in
@@ -120,10 +121,10 @@ whole-returns-in_err-imports g t c =
     (going.imports_went p q file t strings c.in_ok-attributes.field-0 (Err c.in_err-imports.field-0.0) is
     (going.attributes_went p file t (Ok c.in_ok-attributes.field-0) c.requires c.in_ok-attributes.ensures) c.in_err-imports.ensures)
 
-pub whole-returns-in_err-exports : goal.whole-returns-in_err-exports
-whole-returns-in_err-exports g t c =
-    let p : Point = point (g.F.Files.held c.args.files.now) (g.F.Files.asked c.args.files.now) (g.F.Files.absences c.args.files.now) (g.F.Files.faults c.args.files.now) (seen_scope c.args.sources.now c.args.scope.now) in
-    let q : Point = point (g.F.Files.held c.imports.new.files) (g.F.Files.asked c.imports.new.files) (g.F.Files.absences c.imports.new.files) (g.F.Files.faults c.imports.new.files) (seen_scope c.imports.new.sources c.imports.new.scope) in
+pub whole-returns-in_err-exports-clause-went : goal.whole-returns-in_err-exports-clause-went
+whole-returns-in_err-exports-clause-went g t c =
+    let p : Point = point (g.F.Files.held c.args.files.now) (g.F.Files.asked c.args.files.now) (g.F.Files.absences c.args.files.now) (g.F.Files.faults c.args.files.now) (seen_state c.args.sources.now c.args.state.now) in
+    let q : Point = point (g.F.Files.held c.imports.new.files) (g.F.Files.asked c.imports.new.files) (g.F.Files.absences c.imports.new.files) (g.F.Files.faults c.imports.new.files) (seen_state c.imports.new.sources c.imports.new.state) in
     let file = c.args.of.file in
     let t = seen_tree c.args.of.tree in
     let strings : List Spelling = flat_map (λ m. m.files) (map seen_import c.as_slice.result.now) in
@@ -133,10 +134,10 @@ whole-returns-in_err-exports g t c =
     (going.imports_went p q file t strings c.in_ok-attributes.field-0 (Ok c.in_ok-imports.field-0) is
     (going.attributes_went p file t (Ok c.in_ok-attributes.field-0) c.requires c.in_ok-attributes.ensures) c.in_ok-imports.ensures) c.in_err-exports.ensures)
 
-pub whole-returns-in_err-push : goal.whole-returns-in_err-push
-whole-returns-in_err-push g t c =
-    let p : Point = point (g.F.Files.held c.args.files.now) (g.F.Files.asked c.args.files.now) (g.F.Files.absences c.args.files.now) (g.F.Files.faults c.args.files.now) (seen_scope c.args.sources.now c.args.scope.now) in
-    let q : Point = point (g.F.Files.held c.imports.new.files) (g.F.Files.asked c.imports.new.files) (g.F.Files.absences c.imports.new.files) (g.F.Files.faults c.imports.new.files) (seen_scope c.imports.new.sources c.imports.new.scope) in
+pub whole-returns-in_err-push-clause-went : goal.whole-returns-in_err-push-clause-went
+whole-returns-in_err-push-clause-went g t c =
+    let p : Point = point (g.F.Files.held c.args.files.now) (g.F.Files.asked c.args.files.now) (g.F.Files.absences c.args.files.now) (g.F.Files.faults c.args.files.now) (seen_state c.args.sources.now c.args.state.now) in
+    let q : Point = point (g.F.Files.held c.imports.new.files) (g.F.Files.asked c.imports.new.files) (g.F.Files.absences c.imports.new.files) (g.F.Files.faults c.imports.new.files) (seen_state c.imports.new.sources c.imports.new.state) in
     let file = c.args.of.file in
     let t = seen_tree c.args.of.tree in
     let strings : List Spelling = flat_map (λ m. m.files) (map seen_import c.as_slice.result.now) in
@@ -148,10 +149,10 @@ whole-returns-in_err-push g t c =
     (going.imports_went p q file t strings c.in_ok-attributes.field-0 (Ok c.in_ok-imports.field-0) is
     (going.attributes_went p file t (Ok c.in_ok-attributes.field-0) c.requires c.in_ok-attributes.ensures) c.in_ok-imports.ensures) c.in_ok-exports.ensures))
 
-pub whole-returns : goal.whole-returns
-whole-returns g t c =
-    let p : Point = point (g.F.Files.held c.args.files.now) (g.F.Files.asked c.args.files.now) (g.F.Files.absences c.args.files.now) (g.F.Files.faults c.args.files.now) (seen_scope c.args.sources.now c.args.scope.now) in
-    let q : Point = point (g.F.Files.held c.imports.new.files) (g.F.Files.asked c.imports.new.files) (g.F.Files.absences c.imports.new.files) (g.F.Files.faults c.imports.new.files) (seen_scope c.imports.new.sources c.imports.new.scope) in
+pub whole-returns-clause-went : goal.whole-returns-clause-went
+whole-returns-clause-went g t c =
+    let p : Point = point (g.F.Files.held c.args.files.now) (g.F.Files.asked c.args.files.now) (g.F.Files.absences c.args.files.now) (g.F.Files.faults c.args.files.now) (seen_state c.args.sources.now c.args.state.now) in
+    let q : Point = point (g.F.Files.held c.imports.new.files) (g.F.Files.asked c.imports.new.files) (g.F.Files.absences c.imports.new.files) (g.F.Files.faults c.imports.new.files) (seen_state c.imports.new.sources c.imports.new.state) in
     let file = c.args.of.file in
     let t = seen_tree c.args.of.tree in
     let strings : List Spelling = flat_map (λ m. m.files) (map seen_import c.as_slice.result.now) in
@@ -161,3 +162,6 @@ whole-returns g t c =
     (going.exports_went p q file t c.exports.new.names c.in_ok-imports.field-0 (Ok c.in_ok-exports.field-0)
     (going.imports_went p q file t strings c.in_ok-attributes.field-0 (Ok c.in_ok-imports.field-0) is
     (going.attributes_went p file t (Ok c.in_ok-attributes.field-0) c.requires c.in_ok-attributes.ensures) c.in_ok-imports.ensures) c.in_ok-exports.ensures)
+
+pub whole-returns-clause-ended : goal.whole-returns-clause-ended
+whole-returns-clause-ended g t c = last_ended (seen_files c.imports.new.state.files) (seen_files c.push.new.self) (seen_file c.args.of) c.in_ok-push.ensures

@@ -8,8 +8,8 @@ use Rattle.idl_nodes.proofs.Adding.{adds_as, adds_both, of_all, of_both}
 use Rattle.idl_nodes.proofs.Rests as rests
 use Rattle.idl_nodes.proofs.exports.parameter.Goals as goal
 
-pub returns-clause-adds : goal.returns-clause-adds
-returns-clause-adds c =
+pub returns : goal.returns
+returns c =
     let k = seen_construct c.args.construct.now in
     let p = c.args.parameter.now in
     let i = seen_construct c.inside-inner.result in
@@ -25,4 +25,4 @@ returns-clause-adds c =
     (ap (λ s. attribute_nodes i ++ type_nodes i of ++ (DeclaratorNode all c.args.index s ∷ [])) c.declared-it.ensures
     ∙ ap (λ j. attribute_nodes j ++ type_nodes j of ++ (DeclaratorNode all c.args.index (declared j of (seen_declarator p.declarator)) ∷ [])) c.inside-inner.ensures)
     (of_both a d f c.args.list (λ _. attribute_nodes i ++ type_nodes i of) (λ l. DeclaratorNode l c.args.index r ∷ []) (of_all a d c.args.list (attribute_nodes i ++ type_nodes i of) front) x all h))
-    c.listed.ensures.adds
+    c.listed.ensures

@@ -6,7 +6,7 @@ use Rattle.idl_nodes.proofs.Rests as rests
 use Rattle.idl_nodes.proofs.exports.parameters.Given as goal
 
 -- whatever is added by what is left, all is added
-abbrev pub invariant-loop-one : goal.invariant-loop-one
-invariant-loop-one l =
-    (end : Nodes) → AddsOf l.nodes end l.list (λ all. rests.parameters_from (seen_construct l.construct) all l.index (drop l.one-index l.parameters))
+abbrev pub invariant-loop-index : goal.invariant-loop-index
+invariant-loop-index l =
+    (end : Nodes) → AddsOf l.nodes end l.list (λ all. rests.parameters_from (seen_construct l.construct) all l.index (drop l.index l.parameters))
     → AddsOf l.initial.nodes end l.list (λ all. rests.parameters_from (seen_construct l.construct) all 0 l.parameters)

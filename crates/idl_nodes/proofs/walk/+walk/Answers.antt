@@ -1,5 +1,6 @@
-use Rattle.std.proofs.Common.{◌∙◌, [], ◌∷◌, ◌++◌, Some, map, option_map, refl, ap, subst, arith}
+use Rattle.std.proofs.Common.{◌∙◌, ◌<◌, ◌^◌, length, rules, [], ◌∷◌, ◌++◌, Some, map, option_map, refl, ap, subst, arith}
 use Rattle.std.proofs.lemmas.Result.{on_ok_weaker}
+use Rattle.std.proofs.lemmas.List.{length-map}
 use Rattle.idl_grammar.specs.Seen.{seen_type, seen_declarator, seen_enumerator, seen_attributes, seen_arm}
 use Rattle.idl_grammar.specs.Reading.{members_of, cases_of, arms_of}
 use Rattle.idl_grammar.specs.Seen as seen
@@ -119,9 +120,34 @@ members-loop-one-preserved t c =
     let k = seen_construct c.args.construct.now in
     let xs = c.deref-one-items.result.now in
     let l = c.loop-one in
-    λ end rest. l.invariant end
-    (turn_of (rests.members_from k) (rests.one_member k) rests.count_of (rests.members_cons k) xs l.nodes c.member.new.nodes c.in_ok-number.number l.index c.in_ok-index.index
-    l.one-index c.one-item.result (omega arith) c.one-item.is c.in_ok-index.ensures.next c.in_ok-index.ensures.adds end rest)
+    record {
+      count =
+          let more = rests.members_counted k xs l.one-index c.one-item.result (omega arith) c.one-item.is in
+          let before = l.invariant.count in
+          let next = c.in_ok-index.ensures.next in
+          omega (arith, more, before, next);
+      adds = λ end rest. l.invariant.adds end
+          (turn_of (rests.members_from k) (rests.one_member k) rests.count_of (rests.members_cons k) xs l.nodes c.member.new.nodes c.in_ok-number.number l.index c.in_ok-index.index
+          l.one-index c.one-item.result (omega arith) c.one-item.is c.in_ok-index.ensures.next c.in_ok-index.ensures.adds end rest);
+    }
+
+pub members-member-index-requires : goal.members-member-index-requires
+members-member-index-requires t c =
+    let k = seen_construct c.args.construct.now in
+    let xs = c.deref-one-items.result.now in
+    let l = c.loop-one in
+    let x = c.one-item.result in
+    let more = rests.members_counted k xs l.one-index x (omega arith) c.one-item.is in
+    let before = l.invariant.count in
+    let own = length-map x.declarators.items seen_declarator in
+    let same = ap (λ ys. length (rests.members_declared k ys)) c.deref-one-items.ensures.value in
+    let all = ap length c.in_ok-declared.ensures in
+    let many = length-map c.in_ok-declared.declared.items seen_declared in
+    let fits : length c.in_ok-declared.declared.items < 2 ^ 64 = search rules in
+    omega (arith, more, before, own, same, all, many, fits)
+
+pub members-loop-one-init : goal.members-loop-one-init
+members-loop-one-init t c = record { count = refl; adds = λ end rest. rest }
 
 pub members-returns : goal.members-returns
 members-returns t c =
@@ -132,7 +158,7 @@ members-returns t c =
     let a = c.args.nodes.now in
     let b = c.push_list.new.self in
     let rest : Adds b l.nodes (rests.members_from k all 0 xs) =
-    l.invariant l.nodes
+    l.invariant.adds l.nodes
     (over_of (rests.members_from k) (rests.one_member k) rests.count_of (rests.members_cons k) xs l.nodes c.in_ok-number.number l.index l.one-index (omega arith) (λ all. refl))
     all (c.in_ok-number.ensures.number ∙ ap Some c.in_ok-declared.ensures) in
     subst (λ ys. Adds a l.nodes (rests.members_from k all 0 ys)) c.deref-one-items.ensures.value (adds_both a b l.nodes [] (rests.members_from k all 0 xs) c.in_ok-number.ensures.adds rest)

@@ -1,4 +1,4 @@
-use Rattle.std.proofs.Common.{[], ◌∷◌, refl, subst, arith}
+use Rattle.std.proofs.Common.{◌+◌, [], ◌∷◌, refl, subst, arith}
 use Rattle.std.proofs.lemmas.List.{length-map}
 use Rattle.idl_grammar.specs.Seen.{seen_type, seen_declarator}
 use Rattle.idl_language.specs.Nodes.{Declared, DeclaratorNode}
@@ -14,11 +14,11 @@ loop-declarator-preserved c =
     let t = seen_type c.args.of.now in
     let l = c.loop-declarator in
     record {
-      next = omega (arith, c.in_ok-index.ensures.next, l.invariant.next);
+      next = omega (arith, l.invariant.next);
       adds = λ end rest. l.invariant.adds end
-          (turn_of (rests.declarators_from k t) (rests.one_declarator k t) rests.one_more (rests.declarators_cons k t) c.args.declarators.now l.nodes c.listed.new.nodes c.args.list l.index c.in_ok-index.index
-          l.declarator-index c.declarator-item.result (omega arith) c.declarator-item.is c.in_ok-index.ensures.next
-          (subst (λ (d : Declared). AddsOf l.nodes c.listed.new.nodes c.args.list (λ all. DeclaratorNode all l.index d ∷ [])) c.declared.ensures c.in_ok-index.ensures.adds) end rest);
+          (turn_of (rests.declarators_from k t) (rests.one_declarator k t) rests.one_more (rests.declarators_cons k t) c.args.declarators.now l.nodes c.listed.new.nodes c.args.list l.index (l.index + 1)
+          l.declarator-index c.declarator-item.result (omega arith) c.declarator-item.is refl
+          (subst (λ (d : Declared). AddsOf l.nodes c.listed.new.nodes c.args.list (λ all. DeclaratorNode all l.index d ∷ [])) c.declared.ensures c.in_ok-listed.ensures) end rest);
     }
 
 pub returns-clause-next : goal.returns-clause-next

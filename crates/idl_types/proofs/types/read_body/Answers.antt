@@ -41,7 +41,7 @@ returns-clause-bodies c =
     let here = slice_get_read n.items.items (length n.items.items) i c.index.result.now refl c.requires.within c.index.ensures in
     let body : Body = record { construct = seen_construct c.in-Body.construct; names = names; body = seen_type c.in-Body.body.now } in
     let at : body_at names (Some c.index.result.now) ≡ Some body = ap (λ o. body_at names (Some o)) c.in-Body.is in
-    let place : b.node ≡ i = c.in_ok-noted.ensures.node ∙ c.in_ok-node.ensures in
+    let place : b.node ≡ i = c.in_ok-noted.ensures.node in
     let is : IsBody (bare known) n ks body b = record {
       place = c.in_ok-noted.ensures.place;
       nonencapsulated = c.in_ok-noted.ensures.nonencapsulated;

@@ -46,7 +46,7 @@ returns-clause-operations c =
     let it = c.in-Operation.it in
     let file = it.construct.file in
     let of = seen_type it.of.now in
-    let t : OperationTypes = record { node = c.in_ok-node.node; parameters = c.in_ok-parameters.parameters; result = c.in_ok-result.result } in
+    let t : OperationTypes = record { node = i; parameters = c.in_ok-parameters.parameters; result = c.in_ok-result.result } in
     let names = names_at known n i in
     let seen = seen_names first c.args.names.now in
     let list = list_at lists c.in-Operation.list in
@@ -59,7 +59,7 @@ returns-clause-operations c =
           ∙ c.in_ok-parameters.ensures.types ∙ types_same known seen names list (λ x. sym (c.requires.names.agree x));
       result = type_at-stands ks c.in_ok-result.result (written_type known (seen_names second c.args.names.now) file of) c.in_ok-result.ensures.stands
           ∙ ap (λ m. written_type known m file of) same ∙ sym (without_attributes (written_type known seen file of)) ∙ type_same known seen names (seen_result it) (λ x. sym (c.requires.names.agree x));
-      node = ap (λ k. called_at lists (names_at known n k) (slice_get n.items.items k)) c.in_ok-node.ensures ∙ ap (λ x. called_at lists names x) here ∙ at;
+      node = ap (λ x. called_at lists names x) here ∙ at;
     } in
     let before = operations_keeps known n _ second ks c.args.types.now.operations.items c.in_ok-result.ensures.keeps
     (operations_keeps known n _ first second c.args.types.now.operations.items c.in_ok-parameters.ensures.keeps c.requires.operations) in

@@ -9,5 +9,5 @@ loop-index-preserved c =
     let ds = c.args.list.now in
     let d = c.index-list-index.result in
     let here = slice_get_read ds (length ds) c.loop-index.index d refl c.loop-index-test.true c.index-list-index.is in
-    table_next ds c.loop-index.index c.in_ok-number.number d c.loop-index.table c.put_first.new.names here c.in_ok-number.ensures c.loop-index-test.true c.loop-index.invariant
-    (c.in_ok-put_first.ensures ∙ ap (λ z. and_name c.loop-index.table z.declarator.now.name.octets c.in_ok-number.number) (sym c.index-list-index.is))
+    table_next ds c.loop-index.index c.loop-index.index d c.loop-index.table c.put_first.new.names here refl c.loop-index-test.true c.loop-index.invariant
+    (c.in_ok-put_first.ensures ∙ ap (λ z. and_name c.loop-index.table z.declarator.now.name.octets c.loop-index.index) (sym c.index-list-index.is))

@@ -1,6 +1,6 @@
 use Rattle.std.proofs.Common.{◌≡◌, ◌∙◌, ◌+◌, ◌∷◌, [], ℕ, List, Option, true, length, ap, sym, subst, arith, length-append}
 use Rattle.nd_base.specs.declared.octets.Place.{Place}
-use Rattle.idl_kinds.specs.Kinds.{is_inside, type_at}
+use Rattle.idl_kinds.specs.Kinds.{is_inside}
 use Rattle.idl_language.specs.TypeRules.{innermost}
 use Rattle.idl_values.specs.Cycles.{AreInnermostBelow}
 use Rattle.idl_values.proofs.CycleLoops.{innermost_more, all_innermost}
@@ -15,14 +15,12 @@ loop-number-preserved c =
     let number = c.loop-number.number in
     let places = c.loop-number.places.items in
     let place = c.innermost_of-place.result in
-    let is = c.in-Ok.ensures.1 in
-    let same : c.in-Ok.number ≡ number = omega (arith, is) in
     let before = subst (λ (l : List (Option Place)). AreInnermostBelow ks number l) (sym c.as_slice.ensures.value) c.loop-number.invariant.1 in
-    let inside = subst (λ (k : ℕ). is_inside k c.kind.result ≡ true) same c.kind.ensures.inside in (
-      ap length c.in-Ok-push.ensures.items ∙ length-append places (place ∷ []) ∙ ap (λ n. n + 1) c.loop-number.invariant.0,
-      subst (λ (l : List (Option Place)). AreInnermostBelow ks (number + 1) l) (sym c.in-Ok-push.ensures.items)
+    let inside : is_inside number c.kind.result ≡ true = c.kind.ensures.inside in (
+      ap length c.in-Ok.ensures.items ∙ length-append places (place ∷ []) ∙ ap (λ n. n + 1) c.loop-number.invariant.0,
+      subst (λ (l : List (Option Place)). AreInnermostBelow ks (number + 1) l) (sym c.in-Ok.ensures.items)
           (innermost_more ks number places place c.loop-number.invariant.0 c.loop-number.invariant.1
-          (c.innermost_of-place.ensures ks number before inside ∙ ap innermost (c.kind.ensures.seen ∙ ap (type_at ks) same))),
+          (c.innermost_of-place.ensures ks number before inside ∙ ap innermost c.kind.ensures.seen)),
     )
 
 pub returns : goal.returns

@@ -1,11 +1,13 @@
-use Rattle.std.proofs.Common.{◌≡◌, sym, subst, ap₂}
-use Rattle.nd_value.specs.Fitting.{setting_beside, IsFit}
+use Rattle.nd_value.specs.Fitting.{setting_beside}
 use Rattle.nd_value.proofs.FewRoots.{item_at}
-use Rattle.nd_fitting.proofs.Told.{told_no_fit}
+use Rattle.nd_fitting.proofs.Told.{told_no_fit, fits_of}
 use Rattle.nd_fitting.proofs.fitting.fit.Goals as goal
 
 pub of-requires : goal.of-requires
-of-requires c = ?
+of-requires c =
+    let (o, there) = item_at c.args.interface.now.operations c.args.op c.requires.known in
+    fits_of c.args.interface.now c.tie.result c.args.op o c.args.side _ _ c.args.graph c.in-Ok.flat there c.in-Ok.ensures.graph c.tie.ensures c.beside.ensures
+    (c.in-Ok.ensures.conforms o there)
 
 pub returns-in-Err-clause-not_conforming : goal.returns-in-Err-clause-not_conforming
 returns-in-Err-clause-not_conforming c o there =

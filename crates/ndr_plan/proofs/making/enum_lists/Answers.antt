@@ -1,4 +1,4 @@
-use Rattle.std.proofs.Common.{◌≡◌, ◌∙◌, ◌+◌, ◌++◌, [], ◌∷◌, ap, sym, map, drop, arith}
+use Rattle.std.proofs.Common.{◌∙◌, ◌+◌, ◌++◌, ap, sym, drop, arith}
 use Rattle.std.specs.List.{flat_map, enumerate_from}
 use Rattle.ndr_code.specs.Lines.{enum_list}
 use Rattle.line_words.proofs.ListedLines.{counted_more, counted_end}

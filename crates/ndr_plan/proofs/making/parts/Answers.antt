@@ -1,6 +1,6 @@
 use Rattle.std.proofs.Common.{◌∙◌, ◌≤◌, sym, length, arith, append-nil}
 use Rattle.ndr_code.specs.Code.{table_code}
-use Rattle.ndr_plan.proofs.SidesAdded.{HasBefore, request_at, one_operation, all_operations}
+use Rattle.ndr_plan.proofs.SidesAdded.{request_at, one_operation, all_operations}
 use Rattle.ndr_plan.proofs.making.parts.Goals as goal
 
 pub loop-at-init : goal.loop-at-init

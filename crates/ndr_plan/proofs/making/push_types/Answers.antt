@@ -1,4 +1,4 @@
-use Rattle.std.proofs.Common.{◌≡◌, ◌∙◌, ◌+◌, ◌++◌, [], ◌∷◌, ap, sym, map, drop, arith}
+use Rattle.std.proofs.Common.{◌∙◌, ◌+◌, ◌++◌, ap, sym, drop, arith}
 use Rattle.std.proofs.Common.{append_assoc}
 use Rattle.nd_types.specs.Layout.{hoists}
 use Rattle.ndr_code.specs.Code.{whole_run, place_run, type_runs}

@@ -1,4 +1,4 @@
-use Rattle.std.proofs.Common.{◌≡◌, ◌∙◌, ◌+◌, ◌++◌, [], ◌∷◌, ap, sym, map, drop, arith}
+use Rattle.std.proofs.Common.{◌∙◌, ◌+◌, ◌++◌, ap, sym, drop, arith}
 use Rattle.std.specs.List.{flat_map}
 use Rattle.ndr_plan.specs.Listing.{place_line}
 use Rattle.line_words.proofs.ListedLines.{line_more, line_end}

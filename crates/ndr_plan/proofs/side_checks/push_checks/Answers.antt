@@ -19,9 +19,9 @@ returns c =
     let asked = roots_of of.interface.now.types side.In o in
     let named = named_roots of.interface.now.types of.side o in
     let by_number =
-        ap₂ (λ h g. C ++ checks_by (check_by of.side h g) o 0 named)
-        (fun_ext {f = number_in c.in_ok-root_numbers.field-0.items.items} {g = λ j. root_index here j 0} c.in_ok-root_numbers.ensures)
-        (fun_ext {f = number_in c.in_ok-root_numbers-2.field-0.items.items} {g = λ j. root_index asked j 0} c.in_ok-root_numbers-2.ensures) in
+    ap₂ (λ h g. C ++ checks_by (check_by of.side h g) o 0 named)
+    (fun_ext {f = number_in c.in_ok-root_numbers.field-0.items.items} {g = λ j. root_index here j 0} c.in_ok-root_numbers.ensures)
+    (fun_ext {f = number_in c.in_ok-root_numbers-2.field-0.items.items} {g = λ j. root_index asked j 0} c.in_ok-root_numbers-2.ensures) in
     c.in_ok-append.ensures.ok
     ∙ ap (λ xs. xs ++ (op.Ret ∷ []))
     (c.in_ok-push_roots.ensures ∙ by_number ∙ ap (λ xs. C ++ xs) (same_checks of.side o here asked 0 here (roots_own of.interface.now.types of.side o)))

@@ -2,7 +2,6 @@ use Rattle.std.proofs.Common.{◌≡◌, ◌++◌, drop, map}
 use Rattle.ndr_code.specs.declared.instr.Instr.TheVariants as op
 use Rattle.ndr_plan.specs.Addresses.{place_in}
 use Rattle.nd_types.specs.declared.types.Field.{Field}
-use Rattle.ndr_code.specs.Code.{arm_run}
 use Rattle.ndr_plan.proofs.type_code.push_calls.Given as goal
 
 -- what is written, with what is left

@@ -1,4 +1,4 @@
-use Rattle.std.proofs.Common.{◌≡◌, ◌∙◌, ◌+◌, ◌++◌, [], ◌∷◌, ap, sym, map, drop, arith}
+use Rattle.std.proofs.Common.{◌∙◌, ◌+◌, ◌++◌, ap, sym, drop, arith}
 use Rattle.ndr_code.specs.Code.{field_checks, member_checks}
 use Rattle.ndr_plan.proofs.Pushed.{checks_more, checks_end}
 use Rattle.ndr_plan.proofs.type_code.push_checks.Goals as goal

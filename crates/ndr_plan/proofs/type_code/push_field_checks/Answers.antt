@@ -1,8 +1,6 @@
-use Rattle.std.proofs.Common.{◌≡◌, ◌∙◌, ◌+◌, ◌++◌, [], ◌∷◌, ap, sym, map, drop, arith}
+use Rattle.std.proofs.Common.{◌∙◌, ◌+◌, ◌++◌, ap, sym, map, drop, arith}
 use Rattle.ndr_code.specs.declared.instr.Instr.TheVariants as op
-use Rattle.ndr_plan.specs.Addresses.{place_in}
 use Rattle.nd_types.specs.declared.types.AttrVar.{AttrVar}
-use Rattle.ndr_code.specs.Code.{arm_run}
 use Rattle.ndr_plan.proofs.Pushed.{map_more, map_end}
 use Rattle.ndr_plan.proofs.type_code.push_field_checks.Goals as goal
 

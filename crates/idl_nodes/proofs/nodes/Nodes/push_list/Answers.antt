@@ -13,6 +13,6 @@ returns-clause-adds c =
 pub returns-clause-number : goal.returns-clause-number
 returns-clause-number c =
     elim c.match-push.branch [
-      | in-Ok-push w ↦ rw w.result-is (last_found c.args.self.now.lists.items c.push.new.self.items c.args.list c.in-Ok.number (omega (arith, c.in-Ok.ensures)) w.in-Ok-push.ensures.items)
+      | in-Ok-push w ↦ rw w.result-is (last_found c.args.self.now.lists.items c.push.new.self.items c.args.list c.len-number.result (omega (arith, c.len-number.ensures)) w.in-Ok-push.ensures.items)
       | in-Err w ↦ rw w.result-is (search rules)
     ]

@@ -1,0 +1,13 @@
+use Rattle.std.proofs.Common.{◌≡◌, []}
+use Rattle.nd_canonical.specs.Order.{ordering}
+use Rattle.nd_canonical.proofs.Ordered.{Ordered, turns_left}
+use Rattle.nd_canonical.proofs.order.order_of.Given as goal
+
+abbrev pub invariant-loop-home : goal.invariant-loop-home
+invariant-loop-home l = record {
+  ordered : Ordered l.graph (ordering l.order.numbers.items l.order.cells.items l.stands.items l.due.items);
+  met : l.met.items ≡ [];
+}
+
+abbrev pub decreases-loop-home : goal.decreases-loop-home
+decreases-loop-home l = turns_left l.graph (ordering l.order.numbers.items l.order.cells.items l.stands.items l.due.items)
