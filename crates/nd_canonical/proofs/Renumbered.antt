@@ -99,12 +99,12 @@ none_past [] i l = refl
 none_past (x ∷ xs) zero l = absurd (omega (arith, l))
 none_past (x ∷ xs) (suc i) l = none_past xs i (omega (arith, l))
 
-there_at : (n : ℕ) (cs : List ℕ) (k : ℕ) → k < length cs → AreThere n cs → (0 < get_or cs k 0) × (get_or cs k 0 ≤ n)
+pub there_at : (n : ℕ) (cs : List ℕ) (k : ℕ) → k < length cs → AreThere n cs → (0 < get_or cs k 0) × (get_or cs k 0 ≤ n)
 there_at n [] k l h = absurd (omega (arith, l))
 there_at n (c ∷ cs) zero l h = h.0
 there_at n (c ∷ cs) (suc k) l h = there_at n cs k (omega (arith, l)) h.1
 
-zero_or : (v : ℕ) → (v ≡ 0) ⊎ ((k : ℕ) × (v ≡ suc k))
+pub zero_or : (v : ℕ) → (v ≡ 0) ⊎ ((k : ℕ) × (v ≡ suc k))
 zero_or zero = inl refl
 zero_or (suc k) = inr (k, refl)
 

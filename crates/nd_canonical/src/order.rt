@@ -170,7 +170,7 @@ fn skip_row(walk: &mut Walk<'_>)
 }
 
 // The cell that a node names.
-fn named_cell(seen: &Seen<'_>) -> Option<CellId>
+pub(crate) fn named_cell(seen: &Seen<'_>) -> Option<CellId>
     ensures { cell_number result ≡ cell_in (flat_seen seen.now).0 }
 {
     match seen {
