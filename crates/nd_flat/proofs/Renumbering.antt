@@ -1,10 +1,9 @@
 -- What is kept of a graph whose cells are renumbered is seen as that graph.
 -- `numbers` are the new numbers of cells by the old ones, `os` octets, `ns` nodes, `fs` are nodes as they are seen, `s` is a span, `rs` are spans of roots, `cs` those of cells, `c` is
 -- a cell's number.
-use Rattle.std.proofs.Common.{◌≡◌, ℕ, ◌+◌, ◌-◌, ◌<◌, ◌≤◌, zero, suc, ℤ, List, [], ◌∷◌, ◌++◌, length, take, drop, map, get_or, Option, Some, None, refl, ap, ap₂, sym, ◌∙◌, subst, arith}
-use Rattle.std.specs.List.{AllByRecursion, slice_get}
+use Rattle.std.proofs.Common.{◌≡◌, ℕ, ◌+◌, ◌-◌, ◌<◌, ◌≤◌, zero, suc, ℤ, List, [], ◌∷◌, ◌++◌, length, take, drop, map, get_or, Option, Some, refl, ap, ap₂, sym, ◌∙◌, subst, arith}
+use Rattle.std.specs.List.{AllByRecursion}
 use Rattle.std.proofs.lemmas.List.{length-map, map-append}
-use Rattle.std.proofs.lemmas.Option.{same_Some}
 use Rattle.nd_value.specs.declared.value.Graph.{Graph}
 use Rattle.nd_value.specs.Tree as tree
 use Rattle.nd_value.specs.Tree.{Tree, Trees, Label, Flat, Referent, node, none, more, count, flat, unflat, take_trees, drop_trees}
@@ -215,12 +214,3 @@ seen_as numbers os os' ns ns' rs rs' cs cs' cells a b c d t =
     ap₂ (λ (x : List ℕ) (y : List Node). seen_graph x y rs' cs') a b
     ∙ ap₂ (λ (x : List Span) (y : List CellSpan). seen_graph os (map (renumbered_node numbers) ns) x y) c d
     ∙ graph_seen numbers os ns cs rs cells t
-
--- one more of a list that is mapped
-pub map_next : {A B : Type 0} (f : A → B) (xs : List A) (ys ys' : List B) (i : ℕ) (x : A) → ys ≡ map f (take i xs) → slice_get xs i ≡ Some x → ys' ≡ ys ++ f x ∷ [] → ys' ≡ map f (take (suc i) xs)
-map_next f xs ys ys' i x e a n = n ∙ ap (λ zs. zs ++ f x ∷ []) e ∙ sym (map-append f (take i xs) (x ∷ [])) ∙ ap (map f) (sym (taken xs i a))
-  where
-    taken : (zs : List A) (j : ℕ) → slice_get zs j ≡ Some x → take (suc j) zs ≡ take j zs ++ x ∷ []
-    taken [] j a = cc
-    taken (z ∷ zs) zero a = ap (λ u. u ∷ []) (same_Some _ _ a)
-    taken (z ∷ zs) (suc j) a = ap (λ us. z ∷ us) (taken zs j a)

@@ -1,6 +1,6 @@
 -- Graphs as they are built.
 -- `g` is a graph, `b` a builder, `h` a home, `c` a cell's number, `t` a tree, `fs` are nodes.
-use Rattle.std.specs.Prelude.{◌≡◌, ℕ, ℤ, ◌+◌, ◌<◌, ◌≤◌, ◌^◌, suc, zero, List, [], ◌∷◌, ◌++◌, length, slice_set, Option, Some, None, refl}
+use Rattle.std.specs.Prelude.{◌≡◌, ℕ, ℤ, ◌+◌, ◌<◌, ◌≤◌, ◌^◌, List, [], ◌∷◌, ◌++◌, length, slice_set, Option, Some, None, refl}
 use Rattle.std.specs.List.{AllByRecursion}
 use Rattle.std.specs.Coded.{Coded, code_by, coded×, coded_list, coded_ℕ, coded_option}
 use Rattle.nd_types.specs.declared.interface.Interface.{Interface}

@@ -1,4 +1,4 @@
-use Rattle.std.proofs.Common.{◌≤◌, length, arith}
+use Rattle.std.proofs.Common.{arith}
 use Rattle.nd_value.specs.Seen.{cell_of}
 use Rattle.nd_flat.proofs.Rebuilding.{cell_more, all_made}
 use Rattle.nd_flat.proofs.rebuilt.cells.Goals as goal

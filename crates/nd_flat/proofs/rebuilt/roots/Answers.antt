@@ -1,4 +1,4 @@
-use Rattle.std.proofs.Common.{◌≤◌, length, arith}
+use Rattle.std.proofs.Common.{arith}
 use Rattle.nd_value.specs.Seen.{tree_of}
 use Rattle.nd_flat.proofs.Rebuilding.{root_more, all_made}
 use Rattle.nd_flat.proofs.rebuilt.roots.Goals as goal

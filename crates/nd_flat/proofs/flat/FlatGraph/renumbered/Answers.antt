@@ -1,9 +1,8 @@
-use Rattle.std.proofs.Common.{ap, ◌∙◌, ◌≡◌, subst, sym, map, length, List, ℕ}
+use Rattle.std.proofs.Common.{ap, ◌∙◌, subst, sym, map, length, List}
 use Rattle.nd_value.specs.declared.value.Graph.{Graph}
 use Rattle.nd_value.specs.Names.{AreThere}
 use Rattle.nd_flat.specs.declared.node.Node.{Node}
 use Rattle.nd_flat.specs.declared.flat.CellSpan.{CellSpan}
-use Rattle.nd_flat.specs.Store.{seen_graph}
 use Rattle.nd_flat.specs.Renumbered.{renumbered_graph}
 use Rattle.nd_flat.specs.RenumberedNodes.{renumbered_node, cell_span}
 use Rattle.nd_flat.proofs.Renumbering.{kept_as, seen_as}
