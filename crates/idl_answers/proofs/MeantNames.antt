@@ -1,5 +1,5 @@
 -- What files mean whose names are identifiers has identifiers for names.
-use Rattle.std.proofs.Common.{◌≡◌, ℕ, Bool, true, false, ◌&&◌, List, [], ◌∷◌, ◌++◌, map, Option, Some, None, refl, sym, ap, ◌∙◌, ℤ}
+use Rattle.std.proofs.Common.{◌≡◌, ℕ, Bool, true, false, ◌&&◌, List, [], ◌∷◌, map, Option, Some, None, refl, ap, ◌∙◌, ℤ}
 use Rattle.std.specs.List.{list_all, flat_map}
 use Rattle.std.specs.Cmp.Derive.{both_true}
 use Rattle.std.proofs.lemmas.List.Concat.{flat_map-cons}
@@ -8,7 +8,6 @@ use Rattle.phrases.proofs.Sequences.{both}
 use Rattle.nd_base.specs.Text.{is_identifier}
 use Rattle.nd_types.specs.declared.types.Arm as arm
 use Rattle.nd_types.specs.declared.types.Field.{Field}
-use Rattle.nd_types.specs.declared.types.Operation.{Operation}
 use Rattle.nd_types.specs.Legal.{is_named, is_named_default, has_named_parts, has_names}
 use Rattle.idl_grammar.specs.Tree.{Declarator, TypeSpec, Members, Cases, Arms, Arm, Tree}
 use Rattle.idl_grammar.specs.Tree as tree
@@ -17,12 +16,12 @@ use Rattle.idl_names.specs.Sources.{Source}
 use Rattle.idl_names.specs.Walk.{State, IsResolved}
 use Rattle.idl_language.specs.Nodes.{Construct, InMember, inside, Declared, declared, declared_members, LabelledArm, arms_of_cases, arms_of_arms, arms_of, Node, HeaderNode, AttributeNode, SwitchNode, TagNode, BodyNode, EnumeratorNode, LabelNode, EmptyArmNode, DeclaratorNode, ConstantNode, TypeNode, OperationNode}
 use Rattle.idl_language.specs.Types.{IdlType, Void, Handle, ContextHandle, Basic, Struct, Union, Enum, Array, Text, Pointer, Pipe, Names}
-use Rattle.idl_language.specs.Scene.{Scoped, Scene, scene_of, Body, body_of, place_of, parts_declared}
+use Rattle.idl_language.specs.Scene.{Scoped, Scene, scene_of, Body}
 use Rattle.idl_language.specs.ValueRules.{label_value}
 use Rattle.idl_language.specs.Meaning.{field, parameter, name_of_arm, arm_by, labelled_arms, default_by, first_arm, default_arm, struct_of, defined_by, definition, types_of, operation_in, operations_of, HasIdentifiers}
 use Rattle.idl_laws.proofs.Among.{Each, each_at}
 use Rattle.idl_legal.proofs.Whole.{scope}
-use Rattle.idl_legal.proofs.Scenes.{BodyThere, is_made, Fact, table_all}
+use Rattle.idl_legal.proofs.Scenes.{is_made, table_all}
 use Rattle.idl_answers.specs.Judged.{world}
 use Rattle.idl_answers.proofs.TreeNames as named
 use Rattle.idl_answers.proofs.TreeNames.{are_named, type_named, members_named, cases_named, arms_named, arm_named}

@@ -5,7 +5,7 @@ use Rattle.std.specs.Cmp.Derive.{both_true}
 use Rattle.nd_base.specs.Text.{is_identifier}
 use Rattle.phrases.specs.Text.{Text, Lifted, many, ◌⊳◌}
 use Rattle.phrases.specs.Verdict.{strict}
-use Rattle.idl_lexer.specs.Lexed.{Lexed, AreFormed}
+use Rattle.idl_lexer.specs.Lexed.{AreFormed}
 use Rattle.idl_lexer.specs.Verdict.{AreTokens}
 use Rattle.idl_lexer.proofs.Words.{tokens_formed}
 use Rattle.idl_grammar.specs.declared.words.Spelling.{Spelling}

@@ -1,7 +1,8 @@
 // The types of declarators.
-ghost use Rattle.std.specs.Prelude.{◌≡◌, ◌<◌, ◌+ℤ◌, pos, true, length, map, option_map, IfOk};
+ghost use Rattle.std.specs.Prelude.{◌≡◌, ◌^◌, ◌<◌, ◌+ℤ◌, pos, true, length, map, option_map, IfOk};
 ghost use Rattle.idl_grammar.specs.Seen.{seen_expr, seen_bound, seen_attribute, seen_declarator};
 ghost use Rattle.idl_names.specs.Seen.{known_in};
+ghost use Rattle.idl_names.specs.Small.{is_below};
 ghost use Rattle.idl_language.specs.World.{value_in};
 ghost use Rattle.idl_language.specs.Types as types;
 ghost use Rattle.idl_language.specs.Types.{Pointer};
@@ -20,7 +21,8 @@ use nd_base::Memory;
 
 /// The value of an expression. Each expression of files that are resolved has one.
 pub fn number(scope: &Scope, expression: &Expr) -> i128
-    ensures { result ≡ value_in (known_in scope.now) (seen_expr expression.now) }
+    ensures value { result ≡ value_in (known_in scope.now) (seen_expr expression.now) }
+    ensures small { is_below (2 ^ 64) result ≡ true }
 {
     match value(scope, expression) {
         Ok(number) => number,
@@ -32,10 +34,7 @@ pub fn number(scope: &Scope, expression: &Expr) -> i128
 fn count_through(scope: &Scope, greatest: &Expr) -> i128
     ensures { result ≡ value_in (known_in scope.now) (seen_expr greatest.now) +ℤ pos 1 }
 {
-    match value(scope, greatest) {
-        Ok(number) => number + 1,
-        Err(_) => 1,
-    }
+    number(scope, greatest) + 1
 }
 
 /// The count of a dimension.
@@ -310,7 +309,11 @@ fn pointer_with(
 }
 
 /// A type with the attributes of its declarator.
-pub fn with_attributes(kinds: &mut Kinds, attributes: &[Attribute], of: usize) -> Result<usize, Memory>
+pub fn with_attributes(
+    kinds: &mut Kinds,
+    attributes: &[Attribute],
+    of: usize,
+) -> Result<usize, Memory>
     requires { of < length kinds.old }
     ensures stands { IfOk result (λ n. Stands kinds.new n (types.with_attributes (map seen_attribute attributes.now) (type_at kinds.old of))) }
     ensures keeps { Keeps kinds.old kinds.new }

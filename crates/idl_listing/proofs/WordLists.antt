@@ -1,5 +1,5 @@
 -- The words of a type's line, and the digits of base 16.
-use Rattle.std.proofs.Common.{◌≡◌, ◌∙◌, ℕ, zero, suc, ◌-◌, ◌/◌, ◌%◌, ◌≤◌, List, [], ◌∷◌, ◌++◌, refl, ap, sym, append_assoc, codes, arith}
+use Rattle.std.proofs.Common.{◌≡◌, ◌∙◌, ℕ, zero, suc, ◌-◌, ◌/◌, ◌%◌, ◌≤◌, List, [], ◌∷◌, ◌++◌, ap, sym, append_assoc, codes, arith}
 use Rattle.line_words.specs.Lines.{line}
 use Rattle.idl_listing.specs.Listing.{hex_digit, hex_digits}
 

@@ -38,11 +38,12 @@ main_later fs i f h e = ap main_among (drop_is fs i f h) ∙ ap (λ b. elim b [ 
 -- files among which number 0 is have a main file
 pub has_main : (fs : List Ended) → has_ended fs 0 ≡ true → main_among fs ≡ [] → ⊥
 has_main [] h none = cc
-has_main (f ∷ fs) h none = by (eqb f.file 0) h none
+has_main (f ∷ fs) h none = by (eqb f.file 0) h none (has_main fs)
   where
-    by : (b : Bool) → (b || has_ended fs 0) ≡ true → elim b [ true ↦ f.tree ∷ [] | false ↦ main_among fs ] ≡ [] → ⊥
-    by true h none = cc
-    by false h none = has_main fs h none
+    by : (b : Bool) → (b || has_ended fs 0) ≡ true → ◌≡◌ {A = List Tree} (elim b [ true ↦ f.tree ∷ [] | false ↦ main_among fs ]) []
+        → (has_ended fs 0 ≡ true → main_among fs ≡ [] → ⊥) → ⊥
+    by true h none more = cc
+    by false h none more = more h none
 
 -- all parts of what a header means
 pub meant_is : (s : Scene) (t : Tree) (m : Meant) → m.name ≡ t.name.octets → m.uuid ≡ first_said uuid_said t.attributes.list

@@ -14,7 +14,7 @@ use Rattle.idl_names.specs.declared.meaning.Meaning.{Meaning}
 use Rattle.idl_names.specs.Value.{value}
 
 -- a value, where there is one, is in range
-abbrev pub Keeps : Outcome → Type 0
+abbrev Keeps : Outcome → Type 0
 Keeps o = (z : ℤ) → o ≡ Ok z → is_in_range z ≡ true
 
 ok_keeps : (a : ℤ) → is_in_range a ≡ true → Keeps (Ok a)

@@ -1,24 +1,22 @@
 -- The numbers of names are small.
-use Rattle.std.proofs.Common.{◌≡◌, ℕ, ◌+◌, ◌^◌, ◌<◌, ◌≤◌, ◌&&◌, Bool, true, false, cond, refl, sym, ap, ◌∙◌, arith, List, [], ◌∷◌, ◌++◌, length, Option, Some, None, Result, Ok, Err, ℤ, pos, negsuc, ltb}
-use Rattle.std.specs.List.{list_all}
+use Rattle.std.proofs.Common.{◌≡◌, ℕ, zero, suc, ◌+◌, ◌^◌, ◌<◌, ◌≤◌, ◌&&◌, Bool, true, false, cond, refl, sym, ap, subst, ◌∙◌, arith, List, [], ◌∷◌, length, Option, Some, None, ℤ, pos, negsuc, ◌+ℤ◌}
 use Rattle.std.specs.Str.{bytes_eq}
 use Rattle.std.specs.Option.{IfSome}
-use Rattle.std.specs.Result.{IfOk}
 use Rattle.std.proofs.lemmas.Bool.{ltb-true, lt-ltb}
+use Rattle.std.proofs.lemmas.Int.{ints, to_z-of_z}
 use Rattle.std.proofs.lemmas.List.{length-append}
+use mir.Val.{SFits, hbits, to_z, of_z}
+use mir.Syntax.{w128}
 use Rattle.idl_names.specs.declared.meaning.Meaning.{Meaning}
 use Rattle.idl_names.specs.declared.meaning.Meaning.TheVariants as meaning
-use Rattle.idl_names.specs.Whole.{is_in_range}
-use Rattle.idl_names.specs.Operators.{Outcome}
 use Rattle.idl_names.specs.Small.{is_below, is_small, are_small}
 use Rattle.idl_names.specs.Tables.{found, put}
-use Rattle.idl_names.proofs.Ranges.{Keeps}
 use Rattle.idl_names.proofs.Tables.{put_new}
 
 -- ## Numbers
 
 pub below_more : (m n : ℕ) (z : ℤ) → m ≤ n → is_below m z ≡ true → is_below n z ≡ true
-below_more m n (pos a) h b = lt-ltb a (2 ^ 64 + n) (let c : a < 2 ^ 64 + m = ltb-true a (2 ^ 64 + m) b in omega arith)
+below_more m n (pos a) h b = let c : a < 2 ^ 64 + m = ltb-true a (2 ^ 64 + m) b in lt-ltb a (2 ^ 64 + n) (omega (arith, c, h))
 below_more m n (negsuc a) h b = refl
 
 pub small_more : (m n : ℕ) (x : Meaning) → m ≤ n → is_small m x ≡ true → is_small n x ≡ true
@@ -26,18 +24,27 @@ small_more m n (meaning.Number z) h b = below_more m n z h b
 small_more m n meaning.Type h b = refl
 small_more m n meaning.Other h b = refl
 
--- one that is less than 2^64
-pub below_from_lt : (m a : ℕ) → a < 2 ^ 64 → is_below m (pos a) ≡ true
-below_from_lt m a h = lt-ltb a (2 ^ 64 + m) (omega arith)
+up : (a : ℕ) → negsuc (suc a) +ℤ pos 1 ≡ negsuc a
+up a = omega (arith, ints)
 
-in_range_below : (m : ℕ) (z : ℤ) → is_in_range z ≡ true → is_below m z ≡ true
-in_range_below m (pos a) h = below_from_lt m a (ltb-true a (2 ^ 64) h)
-in_range_below m (negsuc a) h = refl
+-- the next number
+pub next_below : (m : ℕ) (z : ℤ) → is_below m z ≡ true → is_below (m + 1) (z +ℤ pos 1) ≡ true
+next_below m (pos a) b = let c : a < 2 ^ 64 + m = ltb-true a (2 ^ 64 + m) b in lt-ltb (a + 1) (2 ^ 64 + (m + 1)) (omega (arith, c))
+next_below m (negsuc zero) b = lt-ltb 0 (2 ^ 64 + (m + 1)) (omega arith)
+next_below m (negsuc (suc a)) b = ap (is_below (m + 1)) (up a)
 
--- the value of an operator
-pub keeps_below : (m : ℕ) (o r : Outcome) → r ≡ o → Keeps o → IfOk r (λ z. is_below m z ≡ true)
-keeps_below m o (Ok z) e k = in_range_below m z (k z (sym e))
-keeps_below m o (Err f) e k = tt
+-- it has 128 bits, too
+pub next_fits : (m : ℕ) (z : ℤ) → m ≤ 2 ^ 64 → is_below m z ≡ true → SFits w128 z → SFits w128 (z +ℤ pos 1)
+next_fits m (pos a) h b f = let c : a < 2 ^ 64 + m = ltb-true a (2 ^ 64 + m) b in record { sfits = omega (arith, c, h) }
+next_fits m (negsuc zero) h b f = record { sfits = omega arith }
+next_fits m (negsuc (suc a)) h b f = subst (λ z. SFits w128 z) (sym (up a)) (record { sfits = let s : suc a < 2 ^ hbits w128 = f.sfits in omega (arith, s) })
+
+-- the sum of the program
+pub sum_fits : (m : ℕ) (z : ℤ) → m ≤ 2 ^ 64 → is_below m z ≡ true → SFits w128 z → SFits w128 (to_z w128 (of_z w128 z) +ℤ pos 1)
+sum_fits m z h b f = subst (λ x. SFits w128 (x +ℤ pos 1)) (sym (to_z-of_z w128 z f)) (next_fits m z h b f)
+
+pub sum_is : (m : ℕ) (z : ℤ) → m ≤ 2 ^ 64 → is_below m z ≡ true → SFits w128 z → to_z w128 (of_z w128 (to_z w128 (of_z w128 z) +ℤ pos 1)) ≡ z +ℤ pos 1
+sum_is m z h b f = ap (λ x. to_z w128 (of_z w128 (x +ℤ pos 1))) (to_z-of_z w128 z f) ∙ to_z-of_z w128 (z +ℤ pos 1) (next_fits m z h b f)
 
 -- ## Tables
 
@@ -60,6 +67,9 @@ found_small m name (e ∷ es) s = by (bytes_eq name e.0) (is_small m e.1) (are_s
     by false true true p h more = more refl
     by false true false p h more = absurd (cc p)
     by false false b p h more = absurd (cc p)
+
+pub found_below : (m : ℕ) (name : List ℕ) (es : List (List ℕ × Meaning)) (z : ℤ) → are_small m es ≡ true → found name es ≡ Some (meaning.Number z) → is_below m z ≡ true
+found_below m name es z s e = subst (λ (o : Option Meaning). IfSome o (λ x. is_small m x ≡ true)) e (found_small m name es s)
 
 pub put_small : (m : ℕ) (name : List ℕ) (x : Meaning) (es : List (List ℕ × Meaning)) → are_small m es ≡ true → is_small m x ≡ true → are_small m (put es name x) ≡ true
 put_small m name x [] s h = ap (λ c. c && true) h

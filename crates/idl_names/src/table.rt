@@ -1,5 +1,5 @@
 // Tables by names.
-ghost use Rattle.std.specs.Prelude.{◌≡◌, [], length, OnOk, OnErr};
+ghost use Rattle.std.specs.Prelude.{◌≡◌, [], length, MatchResult};
 ghost use Rattle.idl_names.specs.Tables.{found, put};
 
 use indexmap::IndexMap;
@@ -48,9 +48,9 @@ impl<V: Copy> Table<V> {
         self.entries.get(name).copied()
     }
 
-    /// Gives a name a value. A new name goes last. Takes memory for a new name.
+    /// Gives a name a value. A new name goes last. Takes memory for a new name; where there is none, nothing changes.
     pub fn put(&mut self, name: &[u8], value: V) -> Result<(), Memory>
-        ensures { OnOk result (self.new ≡ put self.old name.now value) }
+        ensures { MatchResult result (λ _. self.new ≡ put self.old name.now value) (λ _. self.new ≡ self.old) }
     {
         let key = Vec::from_slice(self.alloc, name)?;
         match self.entries.insert(key, value) {

@@ -29,11 +29,16 @@ pub record Adds (old new : program_nodes.Nodes) (part : List Node) : Type 0 wher
 abbrev pub AddsOf : program_nodes.Nodes → program_nodes.Nodes → ℕ → (List Declared → List Node) → Type 0
 AddsOf old new number part = (all : List Declared) → list_found old.lists.items number ≡ Some all → Adds old new (part all)
 
--- the nodes of members that have one type, from this index of their list on
+-- the nodes of members that have one type, before those of their declarators
+abbrev pub member_front : Construct → MemberParts → List Node
+member_front c m = attribute_nodes (inside c InMember m.0 m.1.0) ++ type_nodes (inside c InMember m.0 m.1.0) m.1.1.0
+
+-- those of their declarators, from this index of their list on
+abbrev pub member_rest : Construct → ℕ → MemberParts → List Declared → List Node
+member_rest c index m list = declarator_nodes list index (map (declared (inside c InMember m.0 m.1.0) m.1.1.0) m.1.1.1)
+
 abbrev pub one_member_nodes : Construct → ℕ → MemberParts → List Declared → List Node
-one_member_nodes c index m list =
-    attribute_nodes (inside c InMember m.0 m.1.0) ++ type_nodes (inside c InMember m.0 m.1.0) m.1.1.0
-    ++ declarator_nodes list index (map (declared (inside c InMember m.0 m.1.0) m.1.1.0) m.1.1.1)
+one_member_nodes c index m list = member_front c m ++ member_rest c index m list
 
 -- the nodes of a parameter of this index of its list
 abbrev pub one_parameter_nodes : Construct → ℕ → tree.Parameter → List Declared → List Node

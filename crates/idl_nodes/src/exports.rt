@@ -47,8 +47,10 @@ fn parameters<'t>(
 ) -> Result<(), Memory>
     ensures { OnOk result (AddsOf nodes.old nodes.new list (λ all. rules.parameter_nodes (seen_construct construct.now) all 0 (map seen.seen_parameter parameters.now))) }
 {
-    for (index, one) in parameters.iter().enumerate() {
+    let mut index = 0;
+    for one in parameters {
         parameter(alloc, nodes, construct, list, index, one)?;
+        index += 1;
     }
     Ok(())
 }

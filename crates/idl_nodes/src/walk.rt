@@ -4,7 +4,7 @@ ghost use Rattle.idl_grammar.specs.Reading.{members_of, cases_of, arms_of};
 ghost use Rattle.idl_grammar.specs.Seen as seen;
 ghost use Rattle.idl_language.specs.Nodes as rules;
 ghost use Rattle.idl_nodes.specs.SeenNodes.{seen_construct, seen_position, seen_declared};
-ghost use Rattle.idl_nodes.specs.Growing.{Adds, AddsOf, one_member_nodes};
+ghost use Rattle.idl_nodes.specs.Growing.{Adds, AddsOf, member_front, member_rest};
 
 use crate::attributes::switch_type_in;
 use crate::nodes::{Construct, Declared, Node, Nodes, Position};
@@ -172,27 +172,38 @@ fn enumerators<'t>(
     })
 }
 
-/// Members of one type, from this index of their list on; gives the next index.
+/// The attributes and the type of members of one type.
 #[cycle(walk)]
 fn member<'t>(
     alloc: Global,
     nodes: &mut Nodes<'t>,
     construct: &Construct<'t>,
-    list: usize,
-    index: usize,
     member: &'t Member,
-) -> Result<usize, Memory>
-    requires { index + length member.now.declarators.items < 2 ^ 64 }
-    ensures next { IfOk result (λ next. next ≡ index + length (map seen.seen_declarator member.now.declarators.items)) }
-    ensures adds { OnOk result (AddsOf nodes.old nodes.new list (one_member_nodes (seen_construct construct.now) index (seen.seen_member member.now))) }
+) -> Result<(), Memory>
+    ensures { OnOk result (Adds nodes.old nodes.new (member_front (seen_construct construct.now) (seen.seen_member member.now))) }
 {
     let inner = construct.inside(Position::Member, member.at, &member.attributes);
     attributes(nodes, &inner)?;
-    type_spec(alloc, nodes, &inner, &member.of)?;
+    type_spec(alloc, nodes, &inner, &member.of)
+}
+
+/// The declarators of members of one type, from this index of their list on; gives the next index.
+fn member_declarators<'t>(
+    nodes: &mut Nodes<'t>,
+    construct: &Construct<'t>,
+    list: usize,
+    first: usize,
+    member: &'t Member,
+) -> Result<usize, Memory>
+    requires { first + length member.now.declarators.items < 2 ^ 64 }
+    ensures next { IfOk result (λ next. next ≡ first + length (map seen.seen_declarator member.now.declarators.items)) }
+    ensures adds { OnOk result (AddsOf nodes.old nodes.new list (member_rest (seen_construct construct.now) first (seen.seen_member member.now))) }
+{
+    let inner = construct.inside(Position::Member, member.at, &member.attributes);
     declarators(
         nodes,
         list,
-        index,
+        first,
         &inner,
         &member.of,
         member.declarators.as_slice(),
@@ -214,7 +225,8 @@ fn members<'t>(
     let number = nodes.push_list(declared)?;
     let mut index = 0;
     for one in list {
-        index = member(alloc, nodes, construct, number, index, one)?;
+        member(alloc, nodes, construct, one)?;
+        index = member_declarators(nodes, construct, number, index, one)?;
     }
     Ok(())
 }

@@ -1,27 +1,23 @@
 -- The inputs of a request as variables.
-use Rattle.std.proofs.Common.{◌≡◌, ℕ, ◌+◌, ◌≤◌, zero, suc, ℤ, true, false, List, [], ◌∷◌, ◌++◌, length, drop, Option, Some, None, refl, ap, ap₂, sym, ◌∙◌, arith, subst, map, append_assoc}
+use Rattle.std.proofs.Common.{◌≡◌, ℕ, ◌+◌, ◌≤◌, true, List, [], ◌∷◌, ◌++◌, length, drop, Option, Some, None, refl, ap, ap₂, sym, ◌∙◌, arith, subst, append_assoc}
 use Rattle.std.proofs.lemmas.List.{append-nil}
 use Rattle.std.proofs.lemmas.Option.{same_Some}
-use Rattle.std.specs.List.{slice_get, list_all}
+use Rattle.std.specs.List.{slice_get}
 use Rattle.nd_types.specs.declared.interface.Interface.{Interface}
 use Rattle.nd_types.specs.declared.types.Operation.{Operation}
 use Rattle.nd_types.specs.declared.types.Side.{Side}
 use Rattle.nd_types.specs.declared.types.Side.TheVariants as side
-use Rattle.nd_types.specs.Walk.{NamedRoot, named_root, named_roots}
+use Rattle.nd_types.specs.Walk.{NamedRoot, named_roots}
 use Rattle.nd_value.specs.declared.value.Graph.{Graph}
-use Rattle.nd_value.specs.Tree as tree
-use Rattle.nd_value.specs.Tree.{Tree, Trees, Label, node, none, more, count, flat}
-use Rattle.nd_value.specs.Agreement.{number_of}
-use Rattle.nd_value.specs.Setting.{Setting, root_at, or_unread}
-use Rattle.nd_value.specs.Conforms.{Conforms}
+use Rattle.nd_value.specs.Tree.{Tree, Trees, Label, node, none, more, flat}
+use Rattle.nd_value.specs.Setting.{Setting, or_unread}
 use Rattle.nd_value.specs.Fitting.{Fitting, IsFit, setting_beside}
 use Rattle.nd_value.specs.FirstMisfit.{first_local}
 use Rattle.nd_value.proofs.FewRoots.{past_end}
 use Rattle.nd_value.proofs.LocalPass.{drop-get, drop-past}
 use Rattle.nd_value.proofs.Misfits.{local-none}
-use Rattle.nd_passes.specs.declared.numbers.ParamNumber.{ParamNumber}
 use Rattle.nd_passes.specs.declared.numbers.RootNumber.{RootNumber}
-use Rattle.nd_passes.specs.Numbers.{number_at, numbers_of, given_numbers, no_number, are_small_roots}
+use Rattle.nd_passes.specs.Numbers.{number_at, numbers_of, no_number, are_small_roots}
 use Rattle.nd_passes.proofs.HomeNumbers.{roots_small}
 use Rattle.nd_passes.proofs.Walkable.{walkable_roots, walkable_cells}
 use Rattle.nd_flat.specs.declared.node.Seen.{Seen}

@@ -1,7 +1,7 @@
 -- What the search for unreached cells asks of a graph, from the first pass: where that finds no misfit, there are as many roots as the side
 -- has, each value has the form of its type, and each pointer names a cell that is there.
 -- `w` is a setting, `g` a graph, `l` a label, `ks` and `vs` are values, `rs` roots, `xs` cells, `i` is a root's place, `c` a cell's number.
-use Rattle.std.proofs.Common.{◌≡◌, ℕ, ◌+◌, ◌^◌, ◌<◌, ◌≤◌, zero, suc, true, not, List, [], ◌∷◌, ◌++◌, length, Option, Some, None, refl, ap, sym, ◌∙◌, subst, arith, map}
+use Rattle.std.proofs.Common.{◌≡◌, ℕ, ◌+◌, ◌^◌, ◌<◌, ◌≤◌, suc, true, not, List, [], ◌∷◌, ◌++◌, length, Some, None, refl, ap, sym, ◌∙◌, subst, arith, map}
 use Rattle.std.specs.Prelude.{eqb, leb, nat_le}
 use Rattle.std.specs.List.{list_all, slice_get, AllByRecursion}
 use Rattle.std.proofs.lemmas.Bool.{and_parts, leb-true}

@@ -1,6 +1,5 @@
 -- A graph of values of the program: each node is one, and a node in which the first pass finds no misfit can be kept.
-use Rattle.std.proofs.Common.{◌≡◌, ℕ, ◌+◌, ◌^◌, ◌<◌, ◌≤◌, zero, suc, ℤ, Bool, true, false, ◌&&◌, List, [], ◌∷◌, ◌++◌, length, Option, Some, None, refl, ap, sym, ◌∙◌, arith, subst, map}
-use Rattle.std.specs.Prelude.{eqb, leb, ltb}
+use Rattle.std.proofs.Common.{◌≡◌, ℕ, ◌+◌, ◌^◌, ◌<◌, ◌≤◌, ℤ, Bool, true, ◌&&◌, List, [], ◌∷◌, length, Option, Some, None, refl, sym, ◌∙◌, arith, subst, map}
 use Rattle.std.specs.List.{list_all, AllByRecursion}
 use Rattle.std.specs.Cmp.Derive.{both_true}
 use Rattle.std.proofs.lemmas.Bool.{and_parts, leb-true, ltb-true}
@@ -19,11 +18,11 @@ use Rattle.nd_value.specs.Tree as tree
 use Rattle.nd_value.specs.Tree.{Tree, Trees, Label, node, none, more, count, trees, node_count, Referent}
 use Rattle.nd_value.specs.Agreement.{Agreement}
 use Rattle.nd_value.specs.Setting.{Setting, root_list, cell_home}
-use Rattle.nd_value.specs.Nodes.{TypedNode, child_types, child_agreements, first_agreements, rest_agreements, nodes_of}
+use Rattle.nd_value.specs.Nodes.{TypedNode, child_types, child_agreements, rest_agreements, nodes_of}
 use Rattle.nd_value.specs.Variables.{root_agreements}
 use Rattle.nd_value.specs.Homes.{HomeNode, in_home, root_nodes, cell_nodes, all_nodes}
 use Rattle.nd_value.specs.Misfit.{has_machine_values, is_octet, is_count, has_shape, has_range, is_within}
-use Rattle.nd_value.specs.Conforms.{FewNodes, HasFewNodes}
+use Rattle.nd_value.specs.Conforms.{HasFewNodes}
 use Rattle.nd_value.specs.FirstMisfit.{first_local}
 use Rattle.nd_value.specs.Passes.{first_in, first_in_home, first_in_roots, first_in_cells}
 use Rattle.nd_value.proofs.Apart.{all_map}

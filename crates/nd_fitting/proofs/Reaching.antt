@@ -1,9 +1,8 @@
--- The cells that nodes reach are those that pointers reach by their types: so the third pass tells what its definition says.
+-- The cells that nodes reach are those that pointers reach by their types: so the third pass finds what its definition says.
 -- `w` is a setting, `g` a graph, `r` a root, `v` its value, `x` a cell, `b` and `c` are cells' numbers, `p` is a pointer.
 use Rattle.std.proofs.Common.{◌≡◌, ◌⊎◌, inl, inr, ℕ, ◌+◌, ◌<◌, ◌≤◌, zero, suc, true, List, [], ◌∷◌, ◌++◌, length, Option, Some, None, refl, ap, sym, ◌∙◌, subst}
-use Rattle.std.specs.List.{AllByRecursion, slice_get}
+use Rattle.std.specs.List.{slice_get}
 use Rattle.std.proofs.lemmas.Option.{same_Some}
-use Rattle.nd_types.specs.Table.{Table}
 use Rattle.nd_types.specs.Roots.{Root}
 use Rattle.nd_value.specs.declared.value.Graph.{Graph}
 use Rattle.nd_value.specs.declared.value.CellId.{CellId}

@@ -320,7 +320,7 @@ module _ (g : Graph) (names : HasNames g) where
     reach_marked (root_names {c} t a m) = all_among (λ d. is_marked s d ≡ true) (named_by t) c (all_among (λ u. AreMarked s (named_by u)) g.roots t h.roots a) m
     reach_marked (cell_names {c} b r m) = all_among (λ d. is_marked s d ≡ true) (named_by (cell_at g b)) c (closed_at b (reach_marked r)) m
 
-    -- what the marks tell
+    -- what the marks say
     pub told_reach : (o : Option CellId) → TellsMark (length g.cells) s.marks o → TellsReach g o
     told_reach None m = λ c lo hi. marked_reach c (m c lo hi)
     told_reach (Some c) m =

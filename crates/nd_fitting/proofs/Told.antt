@@ -1,4 +1,4 @@
--- What the passes tell is the first misfit.
+-- What the passes report is the first misfit.
 use Rattle.std.proofs.Common.{◌≡◌, ℕ, [], Option, Some, None, ap, sym, ◌∙◌, subst}
 use Rattle.std.specs.List.{slice_get}
 use Rattle.nd_types.specs.declared.interface.Interface.{Interface}
@@ -43,7 +43,7 @@ module _ (w : Setting) (g : Graph) where
   told_disagreeing answer.Memory a b r h = tt
   told_disagreeing (answer.At k n s) a b r h = is_disagreeing _ a b r h
 
-  -- of want of memory nothing is said
+  -- where memory runs out nothing is said
   pub told_memory : (e : Misfit) → e ≡ answer.Memory → IsMisfit w g e
   told_memory e is = subst (IsMisfit w g) (sym is) tt
 

@@ -1,14 +1,13 @@
 -- Which cells are reached, by what nodes say alone; and the search for them.
 -- `g` is a graph, `t` a tree, `b` and `c` are cells' numbers, `cs` some of them, `n` is how many cells there are, `s` how far the search has come.
-use Rattle.std.specs.Prelude.{◌≡◌, ℕ, suc, ◌+◌, ◌<◌, ◌≤◌, Bool, true, false, List, [], ◌∷◌, ◌++◌, length, flat_map, get_or, set, Option, Some, None}
+use Rattle.std.specs.Prelude.{◌≡◌, ℕ, suc, ◌+◌, ◌<◌, ◌≤◌, Bool, true, false, List, [], ◌∷◌, ◌++◌, length, get_or, set, Option, Some, None}
 use Rattle.std.specs.List.{AllByRecursion}
 use Rattle.nd_value.specs.declared.value.Graph.{Graph}
 use Rattle.nd_value.specs.declared.value.CellId.{CellId}
 use Rattle.nd_types.specs.Table.{Table}
 use Rattle.nd_types.specs.Roots.{Root}
-use Rattle.nd_value.specs.Tree.{Tree, Trees, none, more, flat, cell_in, Referent}
+use Rattle.nd_value.specs.Tree.{Tree, none, more, Referent}
 use Rattle.nd_passes.specs.Pointers.{are_formed}
-use Rattle.nd_value.specs.Canon.{target}
 use Rattle.nd_value.specs.Setting.{Among, cell_at}
 use Rattle.nd_value.specs.Names.{named_by, AreThere}
 
@@ -56,7 +55,7 @@ unmarked [] = 0
 unmarked (true ∷ ms) = unmarked ms
 unmarked (false ∷ ms) = suc (unmarked ms)
 
--- What a search keeps: what is marked is reached, and stands in the queue; what the roots and the first cells of the queue name is marked.
+-- What a search keeps: what is marked is reached and is in the queue; what the roots and the first cells of the queue name is marked.
 pub record Searching (g : Graph) (rs : List Tree) (s : Search) (at : ℕ) : Type 0 where
   pub sound : AllByRecursion (Reach g) s.queue
   pub there : AreThere (length g.cells) s.queue

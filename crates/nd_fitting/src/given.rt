@@ -1,13 +1,11 @@
 // The inputs of a request, as the variables of attributes (C706, 4.2.18).
-ghost use Rattle.std.specs.Prelude.{◌≡◌, ◌<◌, true, length, slice_get, option_map, Some, IfOk, IfSome, IfNone};
+ghost use Rattle.std.specs.Prelude.{◌≡◌, ◌<◌, true, length, slice_get, option_map, Some, IfOk};
 ghost use Rattle.nd_types.specs.declared.types.Operation.{Operation};
 ghost use Rattle.nd_types.specs.declared.types.Side.TheVariants as side;
 ghost use Rattle.nd_types.specs.Walk.{named_roots};
 ghost use Rattle.nd_value.specs.Agreement.{number_of};
 ghost use Rattle.nd_value.specs.Setting.{root_at, cell_at};
 ghost use Rattle.nd_passes.specs.Numbers.{given_numbers, numbers_of, number_at, are_small_roots};
-ghost use Rattle.nd_passes.specs.Searched.{label_in};
-ghost use Rattle.nd_flat.specs.FlatForm.{flat_seen};
 ghost use Rattle.nd_fitting.specs.Request.{IsRequestOf};
 
 use nd_base::Memory;

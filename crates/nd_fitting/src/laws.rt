@@ -1,5 +1,5 @@
 //! Laws of the passes, each the contract of a function that does nothing.
-ghost use Rattle.std.specs.Prelude.{◌≡◌, ℕ, ◌<◌, ◌≤◌, length, Some, None};
+ghost use Rattle.std.specs.Prelude.{ℕ, ◌<◌, ◌≤◌, length, Some, None};
 ghost use Rattle.nd_value.specs.declared.value.Graph.{Graph};
 ghost use Rattle.nd_value.specs.declared.value.CellId.{CellId};
 ghost use Rattle.nd_value.specs.Setting.{Setting, root_list};

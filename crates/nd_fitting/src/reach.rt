@@ -1,18 +1,18 @@
 // Which cells are reached: the third pass of a fit.
-ghost use Rattle.std.specs.Prelude.{◌≡◌, ◌+◌, ◌<◌, ◌≤◌, ◌^◌, ◌∷◌, [], Bool, true, false, length, replicate, get_or, OnOk, IfOk, IfSome, IfNone, ◌++◌, suc, ℕ, Option};
+ghost use Rattle.std.specs.Prelude.{◌≡◌, ◌+◌, ◌<◌, ◌≤◌, ◌^◌, ◌++◌, [], true, false, length, replicate, get_or, suc, Option, OnOk, IfOk, IfSome, IfNone, MatchOption};
 ghost use Rattle.nd_value.specs.Tree.{cell_in, flat};
 ghost use Rattle.nd_value.specs.Seen.{cell_number};
 ghost use Rattle.nd_value.specs.Canon.{target};
 ghost use Rattle.nd_flat.specs.FlatForm.{flat_seen};
-ghost use Rattle.nd_value.specs.Names.{cells_in, named_by, HasNames};
-ghost use Rattle.nd_fitting.specs.Reach.{searched, note, note_roots, HaveMarks, Searching, TellsReach, is_marked, Reach};
+ghost use Rattle.nd_value.specs.Names.{cells_in, HasNames};
+ghost use Rattle.nd_fitting.specs.Reach.{searched, note, note_roots, HaveMarks, Searching, TellsMark, TellsReach};
 
 use nd_base::Memory;
 use nd_flat::{FlatGraph, Seen, Walk};
 use nd_value::{CellId, Home};
 use std::alloc::Global;
 
-/// The first cell that is not reached, if one is not. It takes memory for a mark and a number for each cell, and looks at each node once.
+// The first cell that is not reached, if one is not. It takes memory for a mark and a number for each cell, and looks at each node once.
 pub(crate) fn unreached(alloc: Global, graph: &FlatGraph) -> Result<Option<CellId>, Memory>
     requires few_roots { length graph.now.roots < 2 ^ 32 }
     requires few_cells { length graph.now.cells < 2 ^ 32 }
@@ -135,9 +135,6 @@ fn note_one(cell: Option<CellId>, marks: &mut Vec<bool>, queue: &mut Vec<u32>) -
     marks[at] = true;
     Ok(())
 }
-
-ghost use Rattle.nd_fitting.specs.Reach.{TellsMark};
-ghost use Rattle.std.specs.Prelude.{MatchOption};
 
 // The first cell that is not marked.
 fn first_unmarked(count: usize, marks: &[bool]) -> Option<CellId>

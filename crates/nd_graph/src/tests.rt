@@ -1,11 +1,10 @@
 // Each call once with ample memory.
 ghost use Rattle.std.specs.Prelude.{◌≡◌, ◌≤◌, [], ◌∷◌, length, IfOk};
 ghost use Rattle.nd_types.specs.Kinds.{basic_types};
-ghost use Rattle.nd_types.specs.Numbers.{IsNumberSide};
 ghost use Rattle.nd_types.specs.Plain.{plain_param};
 ghost use Rattle.nd_value.specs.WorkedFit.{add_params, add, one_two_three};
 
-use crate::{Cells, Fit, Graph, Val, Vals, fit};
+use crate::{Cells, Graph, Val, Vals, canonical, fit, same};
 use nd_base::{Memory, Name};
 use nd_types::{
     AttrVars, Field, Interface, Operation, Operations, Param, Params, Side, TypeId, Types, Way,
@@ -57,9 +56,8 @@ fn operations(alloc: Global) -> Result<Operations, Memory>
 }
 
 // interface t { void add([in] long a, [in] short b, [in] hyper c); }
-#[tactic(auto, using(nd_value::proofs::WorkedFit::legal, nd_value::proofs::WorkedFit::numbers))]
+#[tactic(auto, using(nd_value::proofs::WorkedFit::legal))]
 fn interface(alloc: Global) -> Result<Interface, Memory>
-    ensures numbers { IfOk result (λ i. (s : Side) → IsNumberSide i.types i.operations 0 s) }
     ensures types { IfOk result (λ i. i.types ≡ basic_types) }
     ensures operations { IfOk result (λ i. i.operations ≡ add ∷ []) }
 {
@@ -90,39 +88,7 @@ fn numbers(alloc: Global) -> Result<Vals, Memory>
     Ok(vals)
 }
 
-#[tactic(auto, using(crate::proofs::WorkedFit::fits))]
-fn adopted(alloc: Global, interface: &Interface) -> Result<Fit, Memory>
-    requires types { interface.now.types ≡ basic_types }
-    requires operations { interface.now.operations ≡ add ∷ [] }
-{
-    let graph = Graph {
-        roots: numbers(alloc)?,
-        cells: Cells::new(alloc),
-    };
-    Ok(Fit::adopt(interface.tie(), graph, 0, Side::In))
-}
-
-fn is_number(val: Option<&Val>, number: i128) -> bool {
-    matches!(val, Some(Val::Num(value)) if *value == number)
-}
-
-#[test]
-fn fits_are_adopted(rt: HostRuntime) -> Result<(), Fail> {
-    let interface = interface(rt.alloc())?;
-    let fit = adopted(rt.alloc(), &interface)?;
-    assert_eq!(rt; fit.op(), 0);
-    assert_eq!(rt; fit.side(), Side::In);
-    let graph = fit.graph();
-    assert_eq!(rt; graph.cells.len(), 0);
-    assert_eq!(rt; graph.roots.len(), 3);
-    assert!(rt; is_number(graph.roots.get(0), 1));
-    assert!(rt; is_number(graph.roots.get(1), 2));
-    assert!(rt; is_number(graph.roots.get(2), 3));
-    assert!(rt; graph.roots.get(3).is_none());
-    Ok(())
-}
-
-// 1, 2 and 3 are numbers of a long, a short and a hyper.
+// 1, 2 and 3 are numbers of a long, a short and a hyper; without cells the canonical form is the same graph.
 #[test]
 fn conforming_graphs_fit(rt: HostRuntime) -> Result<(), Fail> {
     let interface = interface(rt.alloc())?;
@@ -130,8 +96,12 @@ fn conforming_graphs_fit(rt: HostRuntime) -> Result<(), Fail> {
         roots: numbers(rt.alloc())?,
         cells: Cells::new(rt.alloc()),
     };
-    let fit = fit(rt.alloc(), &interface, 0, Side::In, graph).map_err(|_| "no fit")?;
+    let fit = fit(rt.alloc(), &interface, 0, Side::In, None, graph).map_err(|_| "no fit")?;
     assert_eq!(rt; fit.side(), Side::In);
-    assert!(rt; is_number(fit.graph().roots.get(2), 3));
+    let canon = canonical(rt.alloc(), &fit)?;
+    assert!(rt; same(rt.alloc(), &fit, &canon)?);
+    let graph = canon.graph(rt.alloc()).map_err(|_| "memory")?;
+    assert_eq!(rt; graph.roots.len(), 3);
+    assert!(rt; matches!(graph.roots.get(2), Some(Val::Num(3))));
     Ok(())
 }

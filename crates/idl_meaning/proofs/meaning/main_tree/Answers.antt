@@ -1,7 +1,9 @@
-use Rattle.std.proofs.Common.{◌∙◌, sym, ap, option_map, eq-eqb}
+use Rattle.std.proofs.Common.{◌≤◌, ◌∙◌, sym, ap, length, option_map, eq-eqb, arith}
 use Rattle.std.proofs.lemmas.Bool.{ne_eqb}
+use Rattle.std.proofs.lemmas.List.{drop_all}
 use Rattle.idl_names.specs.Seen.{seen_file, seen_files}
-use Rattle.idl_meaning.proofs.MainFile.{main_first, main_later}
+use Rattle.idl_language.specs.Meaning.{main_among}
+use Rattle.idl_meaning.proofs.MainFile.{main_first, main_later, has_main}
 use Rattle.idl_meaning.proofs.meaning.main_tree.Goals as goal
 
 pub returns-then-file-eq0 : goal.returns-then-file-eq0
@@ -17,5 +19,8 @@ loop-at-preserved c =
     (ne_eqb file.file 0 c.if-file-eq0.false))
     ∙ c.loop-at.invariant
 
-pub unreachable-2-requires : goal.unreachable-2-requires
-unreachable-2-requires c = ?
+pub unreachable-requires-2 : goal.unreachable-requires-2
+unreachable-requires-2 c =
+    let files = seen_files c.args.scope.now.files in
+    let past : length files ≤ c.loop-at.at = omega arith in
+    has_main files c.args.scope.now.has_main (sym c.loop-at.invariant ∙ ap main_among (drop_all c.loop-at.at files past))

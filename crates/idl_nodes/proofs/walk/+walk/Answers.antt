@@ -7,7 +7,7 @@ use Rattle.idl_grammar.specs.Seen as seen
 use Rattle.idl_grammar.proofs.Rows.{struct_is, cases_are, arms_are}
 use Rattle.idl_language.specs.Nodes.{BodyNode, SwitchNode, EnumeratorNode, DeclaratorNode, attribute_nodes, type_nodes, member_nodes, declared_members, label_nodes, labels_of, case_nodes, arms_nodes, arm_nodes}
 use Rattle.idl_nodes.specs.SeenNodes.{seen_construct, seen_position, seen_declared}
-use Rattle.idl_nodes.specs.Growing.{Adds}
+use Rattle.idl_nodes.specs.Growing.{Adds, member_front, member_rest}
 use Rattle.idl_nodes.proofs.Adding.{adds_as, adds_both, pushed, of_all, of_both, turn, over, turn_of, over_of}
 use Rattle.idl_nodes.proofs.Bodies.{struct_nodes, switched_nodes, union_nodes, enum_nodes, typed_nodes}
 use Rattle.idl_nodes.proofs.Rests as rests
@@ -96,8 +96,8 @@ arm-returns-in_ok-type_spec-in-Typed t c =
     (adds_both a b f (attribute_nodes i) (type_nodes i of) c.in_ok-attributes-in-Typed.ensures c.in_ok-type_spec-in-Typed.ensures) x))
     c.unlisted.ensures
 
-pub member-returns-clause-adds : goal.member-returns-clause-adds
-member-returns-clause-adds t c =
+pub member-returns : goal.member-returns
+member-returns t c =
     let k = seen_construct c.args.construct.now in
     let m = c.args.member.now in
     let i = seen_construct c.inside-inner.result in
@@ -105,34 +105,35 @@ member-returns-clause-adds t c =
     let a = c.args.nodes.now in
     let b = c.attributes.new.nodes in
     let d = c.type_spec.new.nodes in
-    let f = c.declarators.new.nodes in
-    let ds = c.as_slice.result.now in
-    let front : Adds a d (attribute_nodes i ++ type_nodes i of) = adds_both a b d (attribute_nodes i) (type_nodes i of) c.in_ok-attributes.ensures c.in_ok-type_spec.ensures in
-    on_ok_weaker c.declarators.result
-    (λ x all h. adds_as a f (attribute_nodes i ++ type_nodes i of ++ rests.declarators_from i of all c.args.index ds) (rests.one_member k all c.args.index m)
-    (ap (λ xs. attribute_nodes i ++ type_nodes i of ++ rests.declarators_from i of all c.args.index xs) c.as_slice.ensures.value
-    ∙ ap (λ j. attribute_nodes j ++ type_nodes j of ++ rests.declarators_from j of all c.args.index m.declarators.items) c.inside-inner.ensures)
-    (of_both a d f c.args.list (λ _. attribute_nodes i ++ type_nodes i of) (λ l. rests.declarators_from i of l c.args.index ds) (of_all a d c.args.list (attribute_nodes i ++ type_nodes i of) front) x all h))
-    c.declarators.ensures.adds
+    on_ok_weaker c.type_spec.result
+    (λ x. adds_as a d (attribute_nodes i ++ type_nodes i of) (member_front k (seen.seen_member m)) (ap (λ j. attribute_nodes j ++ type_nodes j of) c.inside-inner.ensures)
+    (adds_both a b d (attribute_nodes i) (type_nodes i of) c.in_ok-attributes.ensures x))
+    c.type_spec.ensures
 
 pub members-loop-one-preserved : goal.members-loop-one-preserved
 members-loop-one-preserved t c =
     let k = seen_construct c.args.construct.now in
     let xs = c.deref-one-items.result.now in
     let l = c.loop-one in
+    let x = c.one-item.result in
+    let number = c.in_ok-number.number in
+    let middle = c.member.new.nodes in
+    let new = c.member_declarators.new.nodes in
+    let front = member_front k (seen.seen_member x) in
     record {
       count =
-          let more = rests.members_counted k xs l.one-index c.one-item.result (omega arith) c.one-item.is in
+          let more = rests.members_counted k xs l.one-index x (omega arith) c.one-item.is in
           let before = l.invariant.count in
           let next = c.in_ok-index.ensures.next in
           omega (arith, more, before, next);
       adds = λ end rest. l.invariant.adds end
-          (turn_of (rests.members_from k) (rests.one_member k) rests.count_of (rests.members_cons k) xs l.nodes c.member.new.nodes c.in_ok-number.number l.index c.in_ok-index.index
-          l.one-index c.one-item.result (omega arith) c.one-item.is c.in_ok-index.ensures.next c.in_ok-index.ensures.adds end rest);
+          (turn_of (rests.members_from k) (rests.one_member k) rests.count_of (rests.members_cons k) xs l.nodes new number l.index c.in_ok-index.index l.one-index x (omega arith) c.one-item.is
+          c.in_ok-index.ensures.next
+          (of_both l.nodes middle new number (λ _. front) (λ all. member_rest k l.index (seen.seen_member x) all) (of_all l.nodes middle number front c.in_ok-member.ensures) c.in_ok-index.ensures.adds) end rest);
     }
 
-pub members-member-index-requires : goal.members-member-index-requires
-members-member-index-requires t c =
+pub members-member_declarators-requires : goal.members-member_declarators-requires
+members-member_declarators-requires t c =
     let k = seen_construct c.args.construct.now in
     let xs = c.deref-one-items.result.now in
     let l = c.loop-one in
@@ -147,7 +148,7 @@ members-member-index-requires t c =
     omega (arith, more, before, own, same, all, many, fits)
 
 pub members-loop-one-init : goal.members-loop-one-init
-members-loop-one-init t c = record { count = refl; adds = λ end rest. rest }
+members-loop-one-init t c = record { count = omega arith; adds = λ end rest. rest }
 
 pub members-returns : goal.members-returns
 members-returns t c =

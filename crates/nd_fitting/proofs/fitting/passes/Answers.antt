@@ -4,7 +4,7 @@ use Rattle.nd_types.specs.declared.types.Operation.{Operation}
 use Rattle.nd_value.specs.declared.value.Graph.{Graph}
 use Rattle.nd_value.specs.Conforms.{HasFewNodes}
 use Rattle.nd_value.specs.Fitting.{setting_beside}
-use Rattle.nd_value.specs.FirstMisfit.{first_local, IsMisfit}
+use Rattle.nd_value.specs.FirstMisfit.{first_local}
 use Rattle.nd_value.specs.Passes.{AreReached}
 use Rattle.nd_value.proofs.FewRoots.{item_at}
 use Rattle.nd_value.proofs.Misfits.{passed_conforms}

@@ -15,5 +15,7 @@ returns g c = elim c.match-insert.branch [
       ∙ (ap (λ n. put (table entries) n c.args.value) c.in_ok-key.ensures.items
       ∙ ap (λ t. put t c.args.name.now c.args.value) c.self.view_is))
       )
-  | in-Err w ↦ rw w.result-is tt
+  | in-Err w ↦
+      let same = rw w.in-Err.is at c.insert.ensures.err in
+      rw w.result-is (ap (λ es. table es) same ∙ c.self.view_is)
 ]

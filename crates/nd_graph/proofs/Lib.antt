@@ -1,4 +1,0 @@
-pub mod PlainFit
-pub mod SimpleCells
-pub mod Told
-pub mod WorkedFit
