@@ -1,13 +1,12 @@
 -- A graph whose cells are renumbered conforms as before.
 -- `w` is a setting, `g` a graph, `h` the same with its cells renumbered by `m`, `c` and `d` are cells' numbers, `t` a type's number or a tree, `l` a label, `ks` are
 -- children, `x` is a node or a cell, `p` a pointer, `a` and `b` are homes.
-use Rattle.std.proofs.Common.{◌≡◌, ◌⊎◌, inl, inr, ℕ, ◌+◌, ◌<◌, ◌≤◌, ◌^◌, zero, suc, ℤ, Bool, true, false, not, ◌&&◌, eqb, List, [], ◌∷◌, ◌++◌, length, map, flat_map, Option, Some, None, option_map, refl, ap, ap₂, sym, ◌∙◌, subst, arith}
+use Rattle.std.proofs.Common.{◌≡◌, inl, inr, ℕ, ◌+◌, ◌<◌, ◌≤◌, ◌^◌, zero, suc, ℤ, Bool, true, false, not, ◌&&◌, eqb, List, [], ◌∷◌, ◌++◌, length, map, flat_map, Option, Some, None, option_map, refl, ap, ap₂, sym, ◌∙◌, subst, arith}
 use Rattle.std.specs.Prelude.{leb, ltb, replicate, pos, ◌-ℤ◌}
 use Rattle.std.specs.List.{AllByRecursion, slice_get, list_all}
-use Rattle.std.proofs.lemmas.Bool.{eqb-true, eqb-false, ne_eqb, leb-true, le-leb, lt-ltb, ltb-true, ltb-false, not-true, and_parts}
+use Rattle.std.proofs.lemmas.Bool.{eqb-false, ne_eqb, leb-true, le-leb, lt-ltb, ltb-true, ltb-false, not-true, and_parts}
 use Rattle.std.proofs.lemmas.List.{map-append}
 use Rattle.std.proofs.lemmas.Option.{same_Some}
-use Rattle.std.proofs.lemmas.Grind.{flat_map-append}
 use Rattle.nd_types.specs.declared.types.TypeDef.{TypeDef}
 use Rattle.nd_types.specs.declared.types.TypeDef.TheVariants as def
 use Rattle.nd_types.specs.declared.types.Arm.{Arm}
@@ -17,10 +16,9 @@ use Rattle.nd_types.specs.declared.types.AttrVar.{AttrVar}
 use Rattle.nd_types.specs.declared.types.Field.{Field}
 use Rattle.nd_types.specs.declared.types.Class.{Class}
 use Rattle.nd_types.specs.declared.types.Class.TheVariants.{Ref, Unique, Full}
-use Rattle.nd_types.specs.declared.types.Side.TheVariants as side
 use Rattle.nd_types.specs.Table.{Table, type_at, selected, is_value}
 use Rattle.nd_types.specs.Layout.{arm_type}
-use Rattle.nd_types.specs.Roots.{Root, root_index, roots_of}
+use Rattle.nd_types.specs.Roots.{Root, root_index}
 use Rattle.nd_value.specs.declared.value.Graph.{Graph}
 use Rattle.nd_value.specs.declared.item.Home.{Home}
 use Rattle.nd_value.specs.declared.item.Home.TheVariants as home
@@ -30,11 +28,11 @@ use Rattle.nd_value.specs.Tree as tree
 use Rattle.nd_value.specs.Tree.{Tree, Trees, Label, node, none, more, count, node_count, is_pointer, cell_in, Referent}
 use Rattle.nd_value.specs.Agreement.{Agreement, number_of, number_in, agreement, member_agreements, found_in, actual, max_of, offset_of, tag_of}
 use Rattle.nd_value.specs.Nodes.{TypedNode, nodes_of, home_nodes, governed_nodes, child_types, child_agreements, first_agreements, rest_agreements}
-use Rattle.nd_value.specs.Setting.{Setting, Among, root_list, root_at, or_unread, cell_home, cell_at, cell_tree, cell_of_number, unread}
-use Rattle.nd_value.specs.Variables.{root_agreements, variable, starred, given_value}
+use Rattle.nd_value.specs.Setting.{Setting, Among, root_list, root_at, or_unread, cell_home, cell_at, cell_tree, cell_of_number}
+use Rattle.nd_value.specs.Variables.{root_agreements, starred, given_value}
 use Rattle.nd_value.specs.Deferral.{Pending, pointer, pointer_by, home_pointers}
 use Rattle.nd_value.specs.Homes.{HomeNode, in_home, root_nodes, cell_nodes, all_nodes, root_pointers, cell_pointers, all_pointers}
-use Rattle.nd_value.specs.Misfit.{misfit_of, misfit_by, unless, has_shape, has_range, is_no_null_ref, names_cell, names_pointee, has_type, has_counts, is_within, has_no_zero, has_arm, arm_fits, is_bound, has_machine_values, is_count}
+use Rattle.nd_value.specs.Misfit.{misfit_of, unless, has_shape, has_range, is_no_null_ref, names_cell, names_pointee, has_type, has_counts, is_within, has_no_zero, has_arm, arm_fits, is_bound, has_machine_values}
 use Rattle.nd_value.specs.Conforms.{Conforms, Reached, by_root, by_cell, ShareOnlyIfFull, AllEarlier, AgreesAt, IsAgreed, subject, subject_by, HasFewNodes, FewNodes}
 use Rattle.nd_value.specs.Names.{AreThere, HasNames, named_by}
 use Rattle.nd_value.specs.Same.{renumbered, renumbered_label}
@@ -320,12 +318,12 @@ all_mapped : {A B : Type 0} (P : B → Type 0) (f : A → B) (xs : List A) → A
 all_mapped P f [] h = tt
 all_mapped P f (x ∷ xs) h = (h.0, all_mapped P f xs h.1)
 
-among_mapped : {A B : Type 0} (f : A → B) (xs : List A) (x : A) → Among xs x → Among (map f xs) (f x)
+pub among_mapped : {A B : Type 0} (f : A → B) (xs : List A) (x : A) → Among xs x → Among (map f xs) (f x)
 among_mapped f [] x a = absurd a
 among_mapped f (y ∷ xs) x (inl e) = inl (ap f e)
 among_mapped f (y ∷ xs) x (inr a) = inr (among_mapped f xs x a)
 
-mapped_from : {A B : Type 0} (f : A → B) (xs : List A) (y : B) → Among (map f xs) y → (x : A) × Among xs x × (y ≡ f x)
+pub mapped_from : {A B : Type 0} (f : A → B) (xs : List A) (y : B) → Among (map f xs) y → (x : A) × Among xs x × (y ≡ f x)
 mapped_from f [] y a = absurd a
 mapped_from f (x ∷ xs) y (inl e) = (x, inl refl, e)
 mapped_from f (x ∷ xs) y (inr a) = let (z, b, e) = mapped_from f xs y a in (z, inr b, e)
@@ -459,11 +457,11 @@ module _ (w : Setting) (g h : Graph) (m : ℕ → ℕ) (r : Renumbers m g h) whe
       (subst (AllByRecursion (λ x. Q x.typed)) (sym (ap (root_nodes w h 0 (root_list w)) r.roots ∙ roots_carried 0 (root_list w) g.roots))
       (all_mapped (λ x. Q x.typed) carried_node R (weaker R (all_left (λ x. P x.typed) R C a))))
       (cells_whole Q 1 h.cells (λ i y e.
-          let s = source i y e in
-          subst (λ (z : Referent). AllByRecursion Q (home_nodes w.table z.of z.val)) (sym s.same)
-          (subst (AllByRecursion Q) (sym (home_carried m w.table s.cell.of s.cell.val))
-          (all_mapped Q (carried m) (home_nodes w.table s.cell.of s.cell.val)
-          (weaker_nodes (home_nodes w.table s.cell.of s.cell.val) (of_number s.number s.cell s.there (all_right (λ x. P x.typed) R C a)))))))
+      let s = source i y e in
+      subst (λ (z : Referent). AllByRecursion Q (home_nodes w.table z.of z.val)) (sym s.same)
+      (subst (AllByRecursion Q) (sym (home_carried m w.table s.cell.of s.cell.val))
+      (all_mapped Q (carried m) (home_nodes w.table s.cell.of s.cell.val)
+      (weaker_nodes (home_nodes w.table s.cell.of s.cell.val) (of_number s.number s.cell s.there (all_right (λ x. P x.typed) R C a)))))))
     where
       weaker : (xs : List HomeNode) → AllByRecursion (λ x. P x.typed) xs → AllByRecursion (λ x. Q (carried m x.typed)) xs
       weaker [] a = tt
@@ -693,8 +691,8 @@ module _ (w : Setting) (g h : Graph) (m : ℕ → ℕ) (r : Renumbers m g h) whe
           earlier_joined (f x) (flat_map f xs) (self 0 x refl)
           (parts_joined xs (λ i y e. self (suc i) y e) (λ i j y z l e d p q a b. cross (suc i) (suc j) y z (omega (arith, l)) e d p q a b))
           (λ p q a b.
-              let (j, y, e, c) = of_part xs q b in
-              cross 0 (suc j) x y (omega arith) refl e p q a c)
+          let (j, y, e, c) = of_part xs q b in
+          cross 0 (suc j) x y (omega arith) refl e p q a c)
 
   -- the keys of a cell's pointers
   abbrev cell_keys : Referent → List Key
@@ -814,8 +812,8 @@ module _ (w : Setting) (g h : Graph) (m : ℕ → ℕ) (r : Renumbers m g h) whe
         let (i, f, at) = place_of s.number s.cell s.there in
         let (i', f', at') = place_of s'.number s'.cell s'.there in
         let apart_numbers : i ≡ i' → ⊥ = λ z. (
-          let same : suc j ≡ suc j' = sym s.image ∙ ap m (f ∙ ap suc z ∙ sym f') ∙ s'.image in
-          omega (arith, same, l)) in
+        let same : suc j ≡ suc j' = sym s.image ∙ ap m (f ∙ ap suc z ∙ sym f') ∙ s'.image in
+        omega (arith, same, l)) in
         let (p', c, pe) = mapped_from carried_key (cell_keys s.cell) p (subst (λ u. Among u p) (keys_of y s.cell s.same) a) in
         let (q', d, qe) = mapped_from carried_key (cell_keys s'.cell) q (subst (λ u. Among u q) (keys_of y' s'.cell s'.same) b) in
         subst (λ u. Shares u q) (sym pe)
@@ -856,13 +854,12 @@ module _ (w : Setting) (g h : Graph) (m : ℕ → ℕ) (r : Renumbers m g h) whe
         let others' : List Pending = root_pointers w.table (i + 1) rs (map (renumbered_tree m) vs) in
         elim (among_split own (root_pointers w.table (i + 1) rs vs) p a)
         as (λ x. (q : Pending) × Among (own' ++ others') q × (q.cell ≡ option_map m p.cell)) [
-          | inl b ↦
-              (
-                carried_to m (home.Root i) p,
-                among_left own' others' (carried_to m (home.Root i) p)
-                    (subst (λ u. Among u (carried_to m (home.Root i) p)) (sym (pointers_carried m w.table (home.Root i) (home.Root i) t.of v)) (among_mapped (carried_to m (home.Root i)) own p b)),
-                refl,
-              )
+          | inl b ↦ (
+            carried_to m (home.Root i) p,
+            among_left own' others' (carried_to m (home.Root i) p)
+                (subst (λ u. Among u (carried_to m (home.Root i) p)) (sym (pointers_carried m w.table (home.Root i) (home.Root i) t.of v)) (among_mapped (carried_to m (home.Root i)) own p b)),
+            refl,
+          )
           | inr b ↦ let (q, c, e) = root_point (i + 1) rs vs p b in (q, among_right own' others' q c, e)
         ]
 
@@ -899,10 +896,10 @@ module _ (w : Setting) (g h : Graph) (m : ℕ → ℕ) (r : Renumbers m g h) whe
         all_append IsFew h.roots (map (λ c. c.val) h.cells)
         (subst FewNodes (sym r.roots) (few_mapped g.roots (all_left IsFew g.roots (map (λ c. c.val) g.cells) k.few_nodes)))
         (few_all h.cells (λ j y e.
-            let s = source j y e in
-            let (i, f, at) = place_of s.number s.cell s.there in
-            subst (λ (z : Referent). IsFew z.val) (sym s.same)
-            (subst (λ u. u < 2 ^ 32) (sym (tree_nodes_same m s.cell.val)) (few_at g.cells i s.cell at (all_right IsFew g.roots (map (λ c. c.val) g.cells) k.few_nodes)))))
+        let s = source j y e in
+        let (i, f, at) = place_of s.number s.cell s.there in
+        subst (λ (z : Referent). IsFew z.val) (sym s.same)
+        (subst (λ u. u < 2 ^ 32) (sym (tree_nodes_same m s.cell.val)) (few_at g.cells i s.cell at (all_right IsFew g.roots (map (λ c. c.val) g.cells) k.few_nodes)))))
 
     -- the renumbered graph conforms
     pub conforms_as_before : Conforms w h

@@ -1,6 +1,6 @@
 -- In a graph that conforms each pointer names a cell that is there, and each cell is named.
 -- `w` is a setting, `g` a graph, `h` a home, `p` a pointer, `b` and `c` are cells' numbers, `v` is a value, `x` a node or a cell, `ns` are the cells that are named.
-use Rattle.std.proofs.Common.{◌≡◌, ◌⊎◌, inl, inr, ℕ, ◌+◌, ◌<◌, ◌≤◌, zero, suc, Bool, true, false, not, ◌&&◌, eqb, List, [], ◌∷◌, ◌++◌, length, map, flat_map, Option, Some, None, refl, ap, ap₂, sym, ◌∙◌, subst, arith}
+use Rattle.std.proofs.Common.{◌≡◌, ◌⊎◌, inl, inr, ℕ, ◌+◌, ◌<◌, ◌≤◌, zero, suc, Bool, true, false, not, eqb, List, [], ◌∷◌, ◌++◌, length, map, flat_map, Option, Some, None, refl, ap, sym, ◌∙◌, subst, arith}
 use Rattle.std.specs.Prelude.{leb}
 use Rattle.std.specs.List.{AllByRecursion, slice_get}
 use Rattle.std.proofs.lemmas.Bool.{eqb-true, eqb-false, leb-true, not-true, and_parts}
@@ -17,10 +17,10 @@ use Rattle.nd_value.specs.Tree as tree
 use Rattle.nd_value.specs.Tree.{Tree, Trees, Label, node, none, more, count, flat, node_count, is_pointer, cell_in, Referent}
 use Rattle.nd_value.specs.Agreement.{Agreement}
 use Rattle.nd_value.specs.Nodes.{TypedNode, nodes_of, home_nodes, child_types, child_agreements, first_agreements, rest_agreements}
-use Rattle.nd_value.specs.Setting.{Setting, Among, root_list, root_at, or_unread, cell_home, cell_at, cell_tree, cell_of_number}
+use Rattle.nd_value.specs.Setting.{Setting, Among, root_list, root_at, or_unread, cell_home, cell_at, cell_tree}
 use Rattle.nd_value.specs.Variables.{root_agreements}
 use Rattle.nd_value.specs.Deferral.{Pending, pointer, pointer_by, home_pointers}
-use Rattle.nd_value.specs.Homes.{HomeNode, in_home, root_nodes, cell_nodes, all_nodes, root_pointers}
+use Rattle.nd_value.specs.Homes.{HomeNode, in_home, root_nodes, cell_nodes, root_pointers}
 use Rattle.nd_value.specs.Misfit.{misfit_of, names_cell}
 use Rattle.nd_value.specs.Conforms.{Conforms, Reached, by_root, by_cell}
 use Rattle.nd_value.specs.Canon.{target}
@@ -262,8 +262,7 @@ module _ (w : Setting) (g : Graph) where
   roots_there i rs [] e a = tt
   roots_there i [] (v ∷ vs) e a = cc
   roots_there i (r ∷ rs) (v ∷ vs) e a =
-      let own : List HomeNode = map (in_home (home.Root i)) (nodes_of w.table (r.of ∷ []) (root_agreements w g r.vars ∷ []) 0 (more v none)) in
-      (
+      let own : List HomeNode = map (in_home (home.Root i)) (nodes_of w.table (r.of ∷ []) (root_agreements w g r.vars ∷ []) 0 (more v none)) in (
         trees_there (r.of ∷ []) (root_agreements w g r.vars ∷ []) 0 (more v none) refl
             (all_map IsGoodNode (in_home (home.Root i)) _ (all_left IsGoodNode own (root_nodes w g (i + 1) rs vs) a)),
         roots_there (i + 1) rs vs (omega (arith, e)) (all_right IsGoodNode own (root_nodes w g (i + 1) rs vs) a),
@@ -272,8 +271,7 @@ module _ (w : Setting) (g : Graph) where
   cells_there : (c : ℕ) (xs : List Referent) → AllByRecursion IsGoodNode (cell_nodes w.table c xs) → AllByRecursion (λ x. AreThere (length g.cells) (named_by x.val)) xs
   cells_there c [] a = tt
   cells_there c (x ∷ xs) a =
-      let own : List HomeNode = map (in_home (cell_home c)) (home_nodes w.table x.of x.val) in
-      (
+      let own : List HomeNode = map (in_home (cell_home c)) (home_nodes w.table x.of x.val) in (
         trees_there (x.of ∷ []) [] 0 (more x.val none) refl
             (all_map IsGoodNode (in_home (cell_home c)) _ (all_left IsGoodNode own (cell_nodes w.table (c + 1) xs) a)),
         cells_there (c + 1) xs (all_right IsGoodNode own (cell_nodes w.table (c + 1) xs) a),

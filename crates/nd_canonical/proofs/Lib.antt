@@ -1,4 +1,6 @@
+pub mod Alike
 pub mod Carried
+pub mod Compared
 pub mod Complete
 pub mod Numbers
 pub mod Ordered

@@ -1,11 +1,11 @@
 -- The numbers of cells by the order in which they are named.
 -- `c`, `d` and `e` are cells' numbers, `ds` named cells, `seen` those that were named before, `xs` cells of which none is twice, `n`, `k` and `v` are numbers.
-use Rattle.std.proofs.Common.{◌≡◌, ◌⊎◌, inl, inr, ℕ, ◌+◌, ◌<◌, ◌≤◌, ◌^◌, zero, suc, Bool, true, false, cond, ◌||◌, eqb, List, [], ◌∷◌, ◌++◌, length, get_or, set, refl, ap, ap₂, sym, ◌∙◌, subst, arith, append_assoc, length-append}
+use Rattle.std.proofs.Common.{◌≡◌, ◌⊎◌, inl, inr, ℕ, ◌+◌, ◌<◌, ◌≤◌, ◌^◌, zero, suc, Bool, true, false, cond, ◌||◌, eqb, List, [], ◌∷◌, ◌++◌, length, get_or, set, refl, ap, sym, ◌∙◌, subst, arith, append_assoc, length-append}
 use Rattle.std.specs.List.{AllByRecursion}
 use Rattle.std.proofs.lemmas.Bool.{eqb-true, eqb-false, eq-eqb, ne_eqb}
 use Rattle.nd_value.specs.Setting.{Among}
 use Rattle.nd_value.specs.Names.{AreThere}
-use Rattle.nd_value.specs.Canon.{has, number_from, canonical_number}
+use Rattle.nd_value.specs.Canon.{has, number_from}
 use Rattle.nd_value.proofs.Apart.{all_append}
 use Rattle.nd_canonical.specs.Order.{Numbering, name, name_by, zeros, HaveNumbers}
 

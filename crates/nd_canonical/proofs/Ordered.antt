@@ -1,6 +1,6 @@
 -- The search for the order of cells.
 -- `g` is a graph, `h` a home, `c` a cell's number, `cs` are cells that a home names, `s` is how far the search has come, `rest` are the homes that are due later.
-use Rattle.std.proofs.Common.{◌≡◌, ◌⊎◌, inl, inr, ℕ, ◌+◌, ◌-◌, ◌<◌, ◌≤◌, ◌^◌, zero, suc, Bool, true, false, not, cond, eqb, List, [], ◌∷◌, ◌++◌, length, get_or, set, replicate, map, Option, Some, None, refl, ap, ap₂, sym, ◌∙◌, subst, arith, append_assoc, length-append}
+use Rattle.std.proofs.Common.{◌≡◌, ℕ, ◌+◌, ◌-◌, ◌<◌, ◌≤◌, ◌^◌, zero, suc, Bool, true, false, not, cond, eqb, List, [], ◌∷◌, ◌++◌, length, get_or, set, replicate, refl, ap, sym, ◌∙◌, subst, arith, append_assoc}
 use Rattle.std.specs.List.{AllByRecursion, slice_get}
 use Rattle.std.proofs.lemmas.Bool.{eqb-true, eqb-false, ne_eqb}
 use Rattle.nd_value.specs.declared.value.Graph.{Graph}
@@ -13,7 +13,7 @@ use Rattle.nd_value.specs.Canon.{has}
 use Rattle.nd_value.proofs.Apart.{all_append}
 use Rattle.nd_flat.specs.Building.{HasHome, home_tree}
 use Rattle.nd_canonical.specs.Naming.{Naming, none_due, root_turn, cell_turn, stands_already, AreNamed, cell_homes, root_homes}
-use Rattle.nd_canonical.specs.Order.{Numbering, numbering, name, Ordering, turned, turned_by, has_turn, with_mark, HasMark, IsAllNamed, IsOrder, zeros, HaveNumbers}
+use Rattle.nd_canonical.specs.Order.{Numbering, name, Ordering, turned, turned_by, HasMark, IsAllNamed, IsOrder, zeros, HaveNumbers}
 use Rattle.nd_canonical.proofs.Numbers.{AreNumbers, names_step, can_name, firsts, place, number_is_place, placed, placed_at, found, has_among, among_has, firsts_have, no_zeros}
 
 -- what the search keeps
@@ -338,10 +338,10 @@ ordered_end g s all_named e o =
     let a = o.numbers in
     let cells : s.named.cells ≡ firsts [] o.names = a.listed in
     let some : (c : ℕ) → 0 < c → c ≤ length g.cells → 0 < get_or s.named.numbers c 0 = λ c lo hi. (
-      let h : has (firsts [] o.names) c ≡ true = firsts_have [] o.names c (has_among o.names c (all_named o.names named c lo hi)) refl in
-      let (k, p) = placed 0 c (firsts [] o.names) h in
-      let q : get_or s.named.numbers c 0 ≡ suc k = a.numbers c ∙ ap (place 1 c) cells ∙ p in
-      omega (arith, q)) in
+    let h : has (firsts [] o.names) c ≡ true = firsts_have [] o.names c (has_among o.names c (all_named o.names named c lo hi)) refl in
+    let (k, p) = placed 0 c (firsts [] o.names) h in
+    let q : get_or s.named.numbers c 0 ≡ suc k = a.numbers c ∙ ap (place 1 c) cells ∙ p in
+    omega (arith, q)) in
     let m = a.all in
     let none_left : zeros s.named.numbers ≡ 1 = tail_zeros s.named.numbers (length g.cells) m (λ i lo hi. some i lo hi) (first_zero (length g.cells) s.named a) in
     let few = a.few in

@@ -1,20 +1,18 @@
 -- The graph whose cells are numbered by the order in which they are named.
 -- `g` is a graph, `numbers` and `cells` its order, `c` and `d` are cells' numbers, `k` is a place, `f` a fit.
-use Rattle.std.proofs.Common.{◌≡◌, ◌⊎◌, inl, inr, ℕ, ◌+◌, ◌<◌, ◌≤◌, ◌^◌, zero, suc, Bool, true, false, not, ◌&&◌, eqb, List, [], ◌∷◌, ◌++◌, length, get_or, map, Option, Some, None, Result, Ok, Err, option_map, refl, ap, ap₂, sym, ◌∙◌, subst, arith}
+use Rattle.std.proofs.Common.{◌≡◌, ◌⊎◌, inl, inr, ℕ, ◌<◌, ◌≤◌, ◌^◌, zero, suc, Bool, true, false, not, ◌&&◌, eqb, List, [], ◌∷◌, ◌++◌, length, get_or, map, Option, Some, None, Result, Ok, Err, option_map, refl, ap, ap₂, sym, ◌∙◌, subst, arith}
 use Rattle.std.specs.Prelude.{leb, IfOk}
 use Rattle.std.specs.List.{AllByRecursion, slice_get}
-use Rattle.std.proofs.lemmas.Bool.{eqb-true, eqb-false, ne_eqb, leb-true, leb-false, le-leb, not-true, and_parts}
+use Rattle.std.proofs.lemmas.Bool.{eqb-false, ne_eqb, leb-true, leb-false, le-leb, not-true, and_parts}
 use Rattle.std.proofs.lemmas.Option.{same_Some, slice_get-get_or}
 use Rattle.std.proofs.lemmas.List.{length-map}
-use Rattle.nd_types.specs.declared.TheConstants.{PARAM_LIMIT}
-use Rattle.nd_types.specs.Roots.{Root, roots_of}
+use Rattle.nd_types.specs.Roots.{roots_of}
 use Rattle.nd_types.specs.Walk.{named_root, named_roots}
 use Rattle.nd_value.specs.declared.value.Graph.{Graph}
 use Rattle.nd_value.specs.Tree as tree
 use Rattle.nd_value.specs.Tree.{Tree, Trees, Label, node, none, more, cell_in, Referent, trees}
-use Rattle.nd_value.specs.Setting.{Setting, root_list, cell_at, cell_tree, cell_of_number}
+use Rattle.nd_value.specs.Setting.{Setting, root_list, cell_tree, cell_of_number}
 use Rattle.nd_value.specs.Canon.{target}
-use Rattle.nd_value.specs.Conforms.{Conforms}
 use Rattle.nd_value.specs.Fitting.{Fitting, IsFit, setting_beside}
 use Rattle.nd_value.specs.Names.{AreThere, HasNames, cells_in, named_by}
 use Rattle.nd_value.specs.Same.{Same, renumbered, renumbered_label}
@@ -99,12 +97,12 @@ none_past [] i l = refl
 none_past (x ∷ xs) zero l = absurd (omega (arith, l))
 none_past (x ∷ xs) (suc i) l = none_past xs i (omega (arith, l))
 
-there_at : (n : ℕ) (cs : List ℕ) (k : ℕ) → k < length cs → AreThere n cs → (0 < get_or cs k 0) × (get_or cs k 0 ≤ n)
+pub there_at : (n : ℕ) (cs : List ℕ) (k : ℕ) → k < length cs → AreThere n cs → (0 < get_or cs k 0) × (get_or cs k 0 ≤ n)
 there_at n [] k l h = absurd (omega (arith, l))
 there_at n (c ∷ cs) zero l h = h.0
 there_at n (c ∷ cs) (suc k) l h = there_at n cs k (omega (arith, l)) h.1
 
-zero_or : (v : ℕ) → (v ≡ 0) ⊎ ((k : ℕ) × (v ≡ suc k))
+pub zero_or : (v : ℕ) → (v ≡ 0) ⊎ ((k : ℕ) × (v ≡ suc k))
 zero_or zero = inl refl
 zero_or (suc k) = inr (k, refl)
 
@@ -204,8 +202,7 @@ module _ (g : Graph) (numbers cells : List ℕ) (o : IsOrder g numbers cells) wh
     cells = λ c d x y e f e'. (
         let hi : suc c ≤ length g.cells = get_below g.cells c x e in
         let number : m (suc c) ≡ suc d = sym (image_inside (length g.cells) m (suc c) (omega arith) hi) ∙ f in
-        let s : y ≡ carried_cell m x = same_Some _ _ (sym e' ∙ sym (ap (cell_of_number h) number) ∙ moved (suc c) ∙ ap (option_map (carried_cell m)) e) in
-        (
+        let s : y ≡ carried_cell m x = same_Some _ _ (sym e' ∙ sym (ap (cell_of_number h) number) ∙ moved (suc c) ∙ ap (option_map (carried_cell m)) e) in (
           sym (ap (λ (u : Referent). u.of) s),
           tree_image (length g.cells) m x.val (cell_there g.cells c x e names.cells) ∙ sym (ap (λ (u : Referent). more u.val none) s),
         ));

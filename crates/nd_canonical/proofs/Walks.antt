@@ -1,6 +1,6 @@
 -- The cells that a walk meets, rows of numbers left out, and the homes that become due.
 -- `old` and `new` are what is left of a walk before and after, `zs` are numbers, `xs` the cells that a node names, `s` and `r` numberings before and after.
-use Rattle.std.proofs.Common.{◌≡◌, ℕ, ◌+◌, ◌-◌, ◌<◌, ◌≤◌, ◌^◌, suc, zero, ℤ, Bool, List, [], ◌∷◌, ◌++◌, length, map, reverse, flat_map, get_or, Option, Some, None, refl, ap, ap₂, sym, ◌∙◌, subst, arith, length-append, append_assoc}
+use Rattle.std.proofs.Common.{◌≡◌, ℕ, ◌+◌, ◌-◌, ◌<◌, ◌≤◌, suc, zero, ℤ, List, [], ◌∷◌, ◌++◌, length, reverse, flat_map, get_or, Option, Some, None, refl, ap, sym, ◌∙◌, subst, arith, length-append, append_assoc}
 use Rattle.std.specs.Prelude.{IfSome, IfNone}
 use Rattle.std.specs.List.{AllByRecursion}
 use Rattle.std.proofs.lemmas.List.{reverse-append, reverse-reverse, append-nil, map-append}
@@ -12,12 +12,12 @@ use Rattle.nd_value.specs.Seen.{cell_number}
 use Rattle.nd_value.specs.Setting.{cell_home}
 use Rattle.nd_value.specs.Canon.{target}
 use Rattle.nd_value.specs.Names.{cells_in}
-use Rattle.nd_value.proofs.Apart.{all_left, all_right}
+use Rattle.nd_value.proofs.Apart.{all_left}
 use Rattle.nd_flat.specs.declared.row.Row.{Row}
 use Rattle.nd_flat.specs.declared.node.Seen.{Seen}
 use Rattle.nd_flat.specs.FlatForm.{num_flats, row_numbers, flat_seen}
 use Rattle.nd_canonical.specs.Naming.{cell_homes, root_homes}
-use Rattle.nd_canonical.specs.Order.{Numbering, numbering, name, name_by, HaveNumbers}
+use Rattle.nd_canonical.specs.Order.{Numbering, name, name_by, HaveNumbers}
 use Rattle.nd_canonical.proofs.Numbers.{have_next}
 
 -- numbers name no cell

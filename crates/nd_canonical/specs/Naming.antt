@@ -3,7 +3,7 @@
 -- come last, name no cell.
 -- `g` is a graph, `h` a home, `i` a root's index, `c` a cell's number, `stands` are the cells that stand, `due` the homes whose turn comes, in
 -- order, `ns` the cells that are named from there on.
-use Rattle.std.specs.Prelude.{◌≡◌, ℕ, zero, suc, List, [], ◌∷◌, ◌++◌, length, map}
+use Rattle.std.specs.Prelude.{ℕ, zero, suc, List, [], ◌∷◌, ◌++◌, length, map}
 use Rattle.nd_value.specs.declared.value.Graph.{Graph}
 use Rattle.nd_value.specs.declared.item.Home.{Home}
 use Rattle.nd_value.specs.declared.item.Home.TheVariants as home

@@ -3,5 +3,7 @@
 
 mod canon;
 mod order;
+mod sameness;
 
 pub use canon::canonical;
+pub use sameness::same;

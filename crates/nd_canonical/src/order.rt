@@ -35,14 +35,7 @@ pub(crate) fn order_of(alloc: Global, graph: &FlatGraph) -> Result<Order, Memory
     let mut met = Vec::new(alloc);
     let mut due = roots(alloc, graph.root_count())?;
     while let Some(home) = due.pop() {
-        turn(
-            graph,
-            home,
-            &mut order,
-            &mut stands,
-            &mut met,
-            &mut due,
-        )?;
+        turn(graph, home, &mut order, &mut stands, &mut met, &mut due)?;
     }
     Ok(order)
 }
@@ -170,7 +163,7 @@ fn skip_row(walk: &mut Walk<'_>)
 }
 
 // The cell that a node names.
-fn named_cell(seen: &Seen<'_>) -> Option<CellId>
+pub(crate) fn named_cell(seen: &Seen<'_>) -> Option<CellId>
     ensures { cell_number result ≡ cell_in (flat_seen seen.now).0 }
 {
     match seen {

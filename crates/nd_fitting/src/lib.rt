@@ -5,7 +5,5 @@ mod fitting;
 mod given;
 pub mod laws;
 mod reach;
-#[cfg(test)]
-mod tests;
 
 pub use fitting::fit;

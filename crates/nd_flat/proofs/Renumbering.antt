@@ -198,19 +198,19 @@ module _ (numbers os : List ℕ) where
         }
 
 -- the same as code has it
-pub kept_as : (numbers os os' : List ℕ) (ns ns' : List Node) (rs rs' : List Span) (cs cs' : List CellSpan) (cells : List ℕ)
-    → os' ≡ os → ns' ≡ map (renumbered_node numbers) ns → rs' ≡ rs → cs' ≡ map (cell_span cs) cells → AreThere (length (seen_graph os ns rs cs).cells) cells
-    → IsKept os ns rs cs → IsKept os' ns' rs' cs'
-kept_as numbers os os' ns ns' rs rs' cs cs' cells a b c d t k =
-    subst (λ (x : List ℕ). IsKept x ns' rs' cs') (sym a)
-    (subst (λ (x : List Node). IsKept os x rs' cs') (sym b)
-    (subst (λ (x : List Span). IsKept os (map (renumbered_node numbers) ns) x cs') (sym c)
+pub kept_as : (numbers os ps : List ℕ) (ns ms : List Node) (rs ss : List Span) (cs ds : List CellSpan) (cells : List ℕ)
+    → ps ≡ os → ms ≡ map (renumbered_node numbers) ns → ss ≡ rs → ds ≡ map (cell_span cs) cells → AreThere (length (seen_graph os ns rs cs).cells) cells
+    → IsKept os ns rs cs → IsKept ps ms ss ds
+kept_as numbers os ps ns ms rs ss cs ds cells a b c d t k =
+    subst (λ (x : List ℕ). IsKept x ms ss ds) (sym a)
+    (subst (λ (x : List Node). IsKept os x ss ds) (sym b)
+    (subst (λ (x : List Span). IsKept os (map (renumbered_node numbers) ns) x ds) (sym c)
     (subst (λ (x : List CellSpan). IsKept os (map (renumbered_node numbers) ns) rs x) (sym d) (graph_kept numbers os ns cs rs cells t k))))
 
-pub seen_as : (numbers os os' : List ℕ) (ns ns' : List Node) (rs rs' : List Span) (cs cs' : List CellSpan) (cells : List ℕ)
-    → os' ≡ os → ns' ≡ map (renumbered_node numbers) ns → rs' ≡ rs → cs' ≡ map (cell_span cs) cells → AreThere (length (seen_graph os ns rs cs).cells) cells
-    → seen_graph os' ns' rs' cs' ≡ renumbered_graph numbers cells (seen_graph os ns rs cs)
-seen_as numbers os os' ns ns' rs rs' cs cs' cells a b c d t =
-    ap₂ (λ (x : List ℕ) (y : List Node). seen_graph x y rs' cs') a b
+pub seen_as : (numbers os ps : List ℕ) (ns ms : List Node) (rs ss : List Span) (cs ds : List CellSpan) (cells : List ℕ)
+    → ps ≡ os → ms ≡ map (renumbered_node numbers) ns → ss ≡ rs → ds ≡ map (cell_span cs) cells → AreThere (length (seen_graph os ns rs cs).cells) cells
+    → seen_graph ps ms ss ds ≡ renumbered_graph numbers cells (seen_graph os ns rs cs)
+seen_as numbers os ps ns ms rs ss cs ds cells a b c d t =
+    ap₂ (λ (x : List ℕ) (y : List Node). seen_graph x y ss ds) a b
     ∙ ap₂ (λ (x : List Span) (y : List CellSpan). seen_graph os (map (renumbered_node numbers) ns) x y) c d
     ∙ graph_seen numbers os ns cs rs cells t

@@ -14,7 +14,7 @@ use Rattle.nd_value.proofs.LocalPass.{drop-get, drop-past}
 pub split_count : (v : Tree) (vs : List Tree) → node_count (trees (v ∷ vs)) ≡ node_count (more v none) + node_count (trees vs)
 split_count (node l ks) vs = omega arith
 
--- the number behind the nodes so far, and the nodes that are left
+-- the number after the nodes so far, and the nodes that are left
 abbrev pub Counted : List Tree → ℕ → ℕ → ℕ → Type 0
 Counted vs start i now = now + node_count (trees (drop i vs)) ≡ start + node_count (trees vs)
 

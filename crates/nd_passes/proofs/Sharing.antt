@@ -254,11 +254,11 @@ clash_all w g limit h =
     ∙ clash_shared limit (all_pointers w g) (replicate limit NotYet) [] (record { many = length-replicate limit NotYet; each = λ c l. none_named limit c })
     (subst (AllByRecursion (NamesBelow limit)) (sym (all_named w g)) h)
 
--- what is told of the rest is told of the whole
+-- what is reported of the rest is reported of the whole
 pub tells_same : (o a : Option MisfitAt) (e : Misfit) → o ≡ a → Tells a e → Tells o e
 tells_same o a e s h = subst (λ x. Tells x e) (sym s) h
 
--- of want of memory nothing is said
+-- if memory runs out nothing is said
 pub tells_memory : (o : Option MisfitAt) (e : Misfit) → e ≡ answer.Memory → Tells o e
 tells_memory o e s = subst (Tells o) (sym s) tt
 

@@ -44,7 +44,7 @@ disagreeing_in table g (t ∷ types) ags n (more (node l ks) vs) =
     (or_next (disagreeing_in table g (child_types (type_at table t) l ks) (child_agreements (type_at table t) ks) (n + 1) ks)
     (disagreeing_in table g types (rest_agreements ags) (n + 1 + node_count ks) vs))
 
--- what a search through values of these types gives: the number behind their nodes, where all agreements hold, else the first node
+-- what a search through values of these types gives: the number after their nodes, where all agreements hold, else the first node
 -- at which they do not
 abbrev pub Compared : Table → Graph → List ℕ → List (List Agreement) → ℕ → Trees → Result ℕ NodeMisfit → Type 0
 Compared table g types ags n vs (Ok m) = (disagreeing_in table g types ags n vs ≡ None) × (m ≡ n + node_count vs)

@@ -47,8 +47,8 @@ pointers_in table h (t ∷ types) n (more (node l ks) vs) =
     named_here l (type_at table t) h n
     ++ (pointers_in table h (child_types (type_at table t) l ks) (n + 1) ks ++ pointers_in table h types (n + 1 + node_count ks) vs)
 
--- What a search for pointers through values of these types gives: their pointers behind those that were found before, and the
--- number behind their nodes. Where memory is wanting nothing is said.
+-- What a search for pointers through values of these types gives: their pointers after those that were found before, and the
+-- number after their nodes. If memory runs out nothing is said.
 abbrev pub Collects : Table → Home → List ℕ → ℕ → Trees → List CellPointer → List CellPointer → Result ℕ Memory → Type 0
 Collects table h types n vs before after (Ok m) = (after ≡ before ++ pointers_in table h types n vs) × (m ≡ n + node_count vs)
 Collects table h types n vs before after (Err e) = Unit {0}

@@ -10,11 +10,11 @@ use Rattle.nd_value.specs.Tree.{Tree, Trees, node, none, more, trees, node_count
 use Rattle.nd_value.specs.Misfit.{misfit_by, has_machine_values}
 use Rattle.nd_value.specs.Passes.{first_in}
 
--- why a value cannot stand as a node of a type, or none
+-- why a value cannot be a node of a type, or none
 abbrev pub misfit_in : Table → Graph → Option TypeDef → Tree → Option MisfitReason
 misfit_in table g d (node l ks) = misfit_by table g d l ks
 
--- what a value says beside its children
+-- what a value says except its children
 abbrev pub label_in : Tree → Label
 label_in (node l ks) = l
 
@@ -32,7 +32,7 @@ pub record HasMachineValues (g : Graph) : Type 0 where
   pub roots : have_machine_values (trees g.roots) ≡ true
   pub cells : have_machine_values (trees (map (λ (x : Referent). x.val) g.cells)) ≡ true
 
--- What a search through values of these types gives: the number behind their nodes, where none has a misfit by itself, else the
+-- What a search through values of these types gives: the number after their nodes, where none has a misfit by itself, else the
 -- first that has one. All that it has seen are values of the program.
 abbrev pub Searched : Table → Graph → List ℕ → ℕ → Trees → Result ℕ NodeMisfit → Type 0
 Searched table g types n vs (Ok m) = (first_in table g types n vs ≡ None) × (m ≡ n + node_count vs) × (have_machine_values vs ≡ true)

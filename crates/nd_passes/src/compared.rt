@@ -17,7 +17,7 @@ use nd_types::{Fields, TypeDef, TypeId, Types};
 use nd_value::{ArmVal, Graph, NodeMisfit, Val, Vals};
 
 // Goes through the nodes of a value of a type, which are numbered from `node` on and of which none governs the first: the number
-// behind them, or the first node whose attributes do not all hold.
+// after them, or the first node whose attributes do not all hold.
 #[cycle(compared)]
 pub(crate) fn value(
     types: &Types,

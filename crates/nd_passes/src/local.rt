@@ -15,7 +15,8 @@ use crate::nodes::value;
 use nd_types::{Interface, Side, TypeId, Types};
 use nd_value::{CellId, Graph, Home, Misfit, MisfitReason, NodeMisfit, Val};
 
-// The first node that has a misfit by itself. A root that is missing or too many comes behind the roots that are there.
+/// The first node that has a misfit by itself, as that misfit, if there is one. A root that is missing or too many comes after the
+/// roots that are there. It looks at each node once, and goes no deeper than types nest. It takes no memory.
 pub fn local_misfit(interface: &Interface, op: u32, side: Side, graph: &Graph) -> Result<(), Misfit>
     requires known { op < length interface.now.operations }
     requires few_cells { length graph.now.cells < 2 ^ 32 }

@@ -74,7 +74,7 @@ fn identifier_within(octets: &[u8; 16])
     octets_within(octets);
 }
 
-// Why a value cannot stand as a node of a type. Its children are not looked at.
+// Why a value cannot be a node of a type. Its children are not looked at.
 pub(crate) fn single(types: &Types, graph: &Graph, of: TypeId, val: &Val) -> Option<MisfitReason>
     ensures { result ≡ misfit_in types.now graph.now (type_at types.now of.0) (tree_of val.now) }
 {

@@ -12,7 +12,7 @@ use crate::node::{selected, single, within_widths};
 use nd_types::{Fields, TypeDef, TypeId, Types};
 use nd_value::{ArmVal, Graph, NodeMisfit, Val, Vals};
 
-// Goes through the nodes of a value of a type, which are numbered from `node` on: the number behind them, or the first that has a
+// Goes through the nodes of a value of a type, which are numbered from `node` on: the number after them, or the first that has a
 // misfit by itself.
 #[cycle(nodes)]
 pub(crate) fn value(

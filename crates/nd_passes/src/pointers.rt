@@ -15,7 +15,7 @@ use nd_types::{Class, Fields, TypeDef, TypeId, Types};
 use nd_value::{ArmVal, CellId, Home, Val, Vals};
 use std::alloc::Global;
 
-// A pointer that names a cell: where it stands, its class, and the cell.
+// A pointer that names a cell: where it is, its class, and the cell.
 #[derive(Clone, Copy, Debug, PartialEq, Eq)]
 pub(crate) struct CellPointer {
     pub(crate) home: Home,
@@ -42,7 +42,7 @@ pub(crate) fn cell_pointers(
 }
 
 // Goes through the nodes of a value of a type, which are numbered from `node` on, and adds the pointers that name cells to those
-// found before: the number behind the nodes.
+// found before: the number after the nodes.
 #[cycle(pointers)]
 fn value(
     types: &Types,

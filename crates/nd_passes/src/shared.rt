@@ -27,7 +27,9 @@ enum Naming {
     ByOther,
 }
 
-// The first pointer that names a cell which an earlier pointer names, unless both are full. Looks at each node once.
+/// The first pointer that names a cell which an earlier pointer names, unless both are full, as the misfit Shared, if there is one. It
+/// looks at each node once, and takes memory for a list of the homes, for how each cell is named, and for the pointers of one home at a
+/// time.
 pub fn shared_cell(
     alloc: Global,
     interface: &Interface,

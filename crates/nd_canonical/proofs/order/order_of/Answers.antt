@@ -1,4 +1,4 @@
-use Rattle.std.proofs.Common.{rules, ◌≡◌, ◌+◌, ◌<◌, ℕ, List, [], ◌∷◌, replicate, reverse, false, ap, sym, ◌∙◌, subst}
+use Rattle.std.proofs.Common.{rules, ◌≡◌, ◌<◌, ℕ, List, [], ◌∷◌, replicate, reverse, false, ap, sym, ◌∙◌, subst}
 use Rattle.nd_value.specs.declared.item.Home.{Home}
 use Rattle.nd_canonical.specs.Naming.{root_homes}
 use Rattle.nd_canonical.specs.Order.{Ordering, ordering}

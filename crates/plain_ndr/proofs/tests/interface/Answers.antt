@@ -1,9 +1,9 @@
-use Rattle.std.proofs.Common.{List, [], ◌∷◌, sym, subst}
+use Rattle.std.proofs.Common.{List, sym, subst}
 use Rattle.nd_types.specs.declared.types.Operation.{Operation}
 use Rattle.nd_types.specs.Kinds.{basic_types}
 use Rattle.nd_types.specs.Numbers.{IsNumberSide}
 use Rattle.nd_types.specs.Table.{Table}
-use Rattle.nd_graph.proofs.WorkedFit.{numbers}
+use Rattle.nd_value.proofs.WorkedFit.{numbers}
 use Rattle.plain_ndr.proofs.tests.interface.Goals as goal
 
 pub returns-clause-numbers : goal.returns-clause-numbers

@@ -1,15 +1,14 @@
-// The call with ample memory.
+// Each call once with ample memory.
 ghost use Rattle.std.specs.Prelude.{◌≡◌, ◌≤◌, [], ◌∷◌, length, IfOk};
 ghost use Rattle.nd_types.specs.Kinds.{basic_types};
 ghost use Rattle.nd_types.specs.Plain.{plain_param};
 ghost use Rattle.nd_value.specs.WorkedFit.{add_params, add, one_two_three};
 
-use crate::fit;
+use crate::{Cells, Graph, Val, Vals, canonical, fit, same};
 use nd_base::{Memory, Name};
 use nd_types::{
     AttrVars, Field, Interface, Operation, Operations, Param, Params, Side, TypeId, Types, Way,
 };
-use nd_value::{Cells, Graph, Val, Vals};
 use std::alloc::Global;
 use std::test::Fail;
 
@@ -89,7 +88,7 @@ fn numbers(alloc: Global) -> Result<Vals, Memory>
     Ok(vals)
 }
 
-// 1, 2 and 3 are numbers of a long, a short and a hyper.
+// 1, 2 and 3 are numbers of a long, a short and a hyper; without cells the canonical form is the same graph.
 #[test]
 fn conforming_graphs_fit(rt: HostRuntime) -> Result<(), Fail> {
     let interface = interface(rt.alloc())?;
@@ -99,7 +98,9 @@ fn conforming_graphs_fit(rt: HostRuntime) -> Result<(), Fail> {
     };
     let fit = fit(rt.alloc(), &interface, 0, Side::In, None, graph).map_err(|_| "no fit")?;
     assert_eq!(rt; fit.side(), Side::In);
-    let graph = fit.graph(rt.alloc()).map_err(|_| "memory")?;
+    let canon = canonical(rt.alloc(), &fit)?;
+    assert!(rt; same(rt.alloc(), &fit, &canon)?);
+    let graph = canon.graph(rt.alloc()).map_err(|_| "memory")?;
     assert_eq!(rt; graph.roots.len(), 3);
     assert!(rt; matches!(graph.roots.get(2), Some(Val::Num(3))));
     Ok(())
