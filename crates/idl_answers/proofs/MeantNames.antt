@@ -72,7 +72,7 @@ cases_are : (cs : Cases) → cases_named cs ≡ true → list_all is_arm (arms_o
 cases_are tree.no_cases h = refl
 cases_are (tree.next_case ls a others) h = let x = both (arm_named a) (cases_named others) h in both_true (arm_is a x.0) (cases_are others x.1)
 
-arms_are : (as : Arms) → arms_named as ≡ true → list_all is_arm (arms_of_arms as) ≡ true
+arms_are : (xs : Arms) → arms_named xs ≡ true → list_all is_arm (arms_of_arms xs) ≡ true
 arms_are tree.no_arms h = refl
 arms_are (tree.next_arm a others) h = let x = both (arm_named a) (arms_named others) h in both_true (arm_is a x.0) (arms_are others x.1)
 
@@ -89,9 +89,9 @@ labelled_are s b h =
     those_flat (λ (x : arm.Arm). is_named x.name) (λ a. flat_map (λ l. arm_by s b a (label_value s.known l)) a.labels) is_arm (arms_of b.body) h
     (λ a i. each_flat (λ (x : arm.Arm). is_named x.name) (λ l. arm_by s b a (label_value s.known l)) a.labels (λ l. by_label s b a i (label_value s.known l)))
 
-first_is : (as : List arm.Arm) → list_all (λ x. is_named x.name) as ≡ true → is_named_default (first_arm as) ≡ true
+first_is : (xs : List arm.Arm) → list_all (λ x. is_named x.name) xs ≡ true → is_named_default (first_arm xs) ≡ true
 first_is [] h = refl
-first_is (a ∷ as) h = (both (is_named a.name) (list_all (λ x. is_named x.name) as) h).0
+first_is (a ∷ xs) h = (both (is_named a.name) (list_all (λ x. is_named x.name) xs) h).0
 
 default_is : (s : Scene) (b : Body) → list_all is_arm (arms_of b.body) ≡ true → is_named_default (default_arm s b) ≡ true
 default_is s b h =
@@ -106,9 +106,9 @@ body_is s c names (tree.Struct at tag ms) h =
 body_is s c names (tree.EncapsulatedUnion at tag d name cs) h =
     let b : Body = record { construct = c; names = names; body = tree.EncapsulatedUnion at tag d name cs } in
     both_true (labelled_are s b (cases_are cs h)) (default_is s b (cases_are cs h))
-body_is s c names (tree.NonEncapsulatedUnion at tag as) h =
-    let b : Body = record { construct = c; names = names; body = tree.NonEncapsulatedUnion at tag as } in
-    both_true (labelled_are s b (arms_are as h)) (default_is s b (arms_are as h))
+body_is s c names (tree.NonEncapsulatedUnion at tag xs) h =
+    let b : Body = record { construct = c; names = names; body = tree.NonEncapsulatedUnion at tag xs } in
+    both_true (labelled_are s b (arms_are xs h)) (default_is s b (arms_are xs h))
 body_is s c names (tree.Enum at tag es) h = refl
 body_is s c names (tree.Simple t) h = refl
 body_is s c names (tree.Name n) h = refl

@@ -41,9 +41,9 @@ nodes_join xs ys h i = join node_named xs ys h i
 
 -- ## Lists
 
-attributes_are : (c : Construct) (before as : List Attribute) → NodesNamed (attribute_nodes_from c before as)
+attributes_are : (c : Construct) (before xs : List Attribute) → NodesNamed (attribute_nodes_from c before xs)
 attributes_are c before [] = refl
-attributes_are c before (a ∷ as) = attributes_are c (before ++ a ∷ []) as
+attributes_are c before (a ∷ xs) = attributes_are c (before ++ a ∷ []) xs
 
 attributed : (c : Construct) → NodesNamed (attribute_nodes c)
 attributed c = attributes_are c [] c.attributes
@@ -93,11 +93,11 @@ mutual
       let here = inside c InMember at a in
       let x = both (type_named type) (are_named ds && members_named others) h in
       let y = both (are_named ds) (members_named others) x.1 in
-      let as = attribute_nodes here in
+      let xs = attribute_nodes here in
       let ts = type_nodes here type in
       let dd = declarator_nodes list index (map (declared here type) ds) in
-      nodes_join (as ++ ts ++ dd) (member_nodes c list (index + length ds) others)
-      (nodes_join (as ++ ts) dd (nodes_join as ts (attributed here) (type_is here type x.0)) (declarators_are list index (map (declared here type) ds)))
+      nodes_join (xs ++ ts ++ dd) (member_nodes c list (index + length ds) others)
+      (nodes_join (xs ++ ts) dd (nodes_join xs ts (attributed here) (type_is here type x.0)) (declarators_are list index (map (declared here type) ds)))
       (members_are c list (index + length ds) others y.1)
 
   cases_are : (c : Construct) (cases : Cases) → cases_named cases ≡ true → NodesNamed (case_nodes c cases)
@@ -118,9 +118,9 @@ mutual
   arm_is c position (tree.Typed at a type d) h =
       let here = inside c position at a in
       let x = both (type_named type) (is_named d) h in
-      let as = attribute_nodes here in
+      let xs = attribute_nodes here in
       let ts = type_nodes here type in
-      nodes_join (as ++ ts) (DeclaratorNode [] 0 (declared here type d) ∷ []) (nodes_join as ts (attributed here) (type_is here type x.0)) refl
+      nodes_join (xs ++ ts) (DeclaratorNode [] 0 (declared here type d) ∷ []) (nodes_join xs ts (attributed here) (type_is here type x.0)) refl
 
 -- ## Declarations
 
@@ -130,10 +130,10 @@ parameters_are c list index (p ∷ ps) h =
     let x = both (parameter_named p) (list_all parameter_named ps) h in
     let y = both (type_named p.type) (is_named p.declarator) x.0 in
     let here = parameter_construct c p in
-    let as = attribute_nodes here in
+    let xs = attribute_nodes here in
     let ts = type_nodes here p.type in
-    nodes_join (as ++ ts) (DeclaratorNode list index (declared here p.type p.declarator) ∷ parameter_nodes c list (index + 1) ps)
-    (nodes_join as ts (attributed here) (type_is here p.type y.0)) (parameters_are c list (index + 1) ps x.1)
+    nodes_join (xs ++ ts) (DeclaratorNode list index (declared here p.type p.declarator) ∷ parameter_nodes c list (index + 1) ps)
+    (nodes_join xs ts (attributed here) (type_is here p.type y.0)) (parameters_are c list (index + 1) ps x.1)
 
 parameters_declared : (c : Construct) (ps : List Parameter) → list_all parameter_named ps ≡ true → list_all is_declared (declared_parameters c ps) ≡ true
 parameters_declared c [] h = refl
@@ -148,30 +148,30 @@ if_main false ns h = refl
 export_is : (is_main : Bool) (header : Construct) (e : Export) → export_named e ≡ true → NodesNamed (export_nodes is_main header e)
 export_is is_main header (tree.Typedef at a pipe type ds) h =
     let here = inside header InTypedef at a in
-    let as = attribute_nodes here in
+    let xs = attribute_nodes here in
     let ss = switch_nodes here in
     let ts = type_nodes here type in
-    nodes_join (as ++ ss ++ ts) (map (typedef_node here pipe type) ds)
-    (nodes_join (as ++ ss) ts (nodes_join as ss (attributed here) (switched here)) (type_is here type h)) (typedefs_are here pipe type ds)
+    nodes_join (xs ++ ss ++ ts) (map (typedef_node here pipe type) ds)
+    (nodes_join (xs ++ ss) ts (nodes_join xs ss (attributed here) (switched here)) (type_is here type h)) (typedefs_are here pipe type ds)
 export_is is_main header (tree.Const at type star name value) h = refl
 export_is is_main header (tree.Tagged at a type) h =
     let here = inside header InTaggedType at a in
-    let as = attribute_nodes here in
+    let xs = attribute_nodes here in
     let ss = switch_nodes here in
     let ts = type_nodes here type in
-    nodes_join (as ++ ss ++ ts) (TypeNode here type ∷ [])
-    (nodes_join (as ++ ss) ts (nodes_join as ss (attributed here) (switched here)) (type_is here type h)) refl
+    nodes_join (xs ++ ss ++ ts) (TypeNode here type ∷ [])
+    (nodes_join (xs ++ ss) ts (nodes_join xs ss (attributed here) (switched here)) (type_is here type h)) refl
 export_is is_main header (tree.Operation at a result name ps) h =
     let here = inside header InOperation at a in
     let list = parameters_of ps in
     let x = both (is_identifier name.octets) (type_named result && list_all parameter_named list) h in
     let y = both (type_named result) (list_all parameter_named list) x.1 in
-    let as = attribute_nodes here in
+    let xs = attribute_nodes here in
     let ts = type_nodes here result in
     let dd = DeclaratorNode [] 0 (result_of here result name) ∷ parameter_nodes here (declared_parameters here list) 0 list in
     if_main is_main (operation_nodes here result name list)
-    (nodes_join (as ++ ts ++ dd) (OperationNode here name (declared_parameters here list) result ∷ [])
-    (nodes_join (as ++ ts) dd (nodes_join as ts (attributed here) (type_is here result y.0)) (parameters_are here (declared_parameters here list) 0 list y.1))
+    (nodes_join (xs ++ ts ++ dd) (OperationNode here name (declared_parameters here list) result ∷ [])
+    (nodes_join (xs ++ ts) dd (nodes_join xs ts (attributed here) (type_is here result y.0)) (parameters_are here (declared_parameters here list) 0 list y.1))
     (both_true (both_true x.0 (parameters_declared here list y.1)) refl))
 
 exports_are : (is_main : Bool) (header : Construct) (es : List Export) → list_all export_named es ≡ true → NodesNamed (flat_map (export_nodes is_main header) es)

@@ -116,11 +116,11 @@ module _ (x : Text) (formed : IsFormed x) (lifted : Lifted) where
     cases_are depth tree.no_cases i j ph = refl
     cases_are depth (tree.next_case ls a others) i j ph = both_true (arm_is depth a ph.0 ph.2.0 ph.2.1) (cases_are depth others ph.2.0 j ph.2.2)
 
-    some_arms_are : (depth : ℕ) (as : Arms) (i j : ℕ) → some_arms depth as lifted x i j → arms_named as ≡ true
+    some_arms_are : (depth : ℕ) (xs : Arms) (i j : ℕ) → some_arms depth xs lifted x i j → arms_named xs ≡ true
     some_arms_are depth tree.no_arms i j ph = absurd ph
     some_arms_are depth (tree.next_arm a others) i j ph = both_true (arm_is depth a i ph.0 ph.1) (arms_are depth others ph.0 j ph.2)
 
-    arms_are : (depth : ℕ) (as : Arms) (i j : ℕ) → arms depth as lifted x i j → arms_named as ≡ true
+    arms_are : (depth : ℕ) (xs : Arms) (i j : ℕ) → arms depth xs lifted x i j → arms_named xs ≡ true
     arms_are depth tree.no_arms i j ph = refl
     arms_are depth (tree.next_arm a others) i j ph = both_true (arm_is depth a i ph.0 ph.1) (arms_are depth others ph.0 j ph.2)
 

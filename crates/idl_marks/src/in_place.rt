@@ -153,7 +153,11 @@ pub struct Properties {
 }
 
 /// The properties of all types. Takes memory for each type and each part of a body.
-pub(crate) fn properties_of(alloc: Global, types: &Types, count: usize) -> Result<Properties, Memory>
+pub(crate) fn properties_of(
+    alloc: Global,
+    types: &Types,
+    count: usize,
+) -> Result<Properties, Memory>
     ensures { (s : Scene) (n : program_nodes.Nodes) → IsTypes s n types.now → length types.now.kinds ≡ count → IfOk result (AreProperties s types.now.kinds count) }
 {
     let graph = places(alloc, types, count)?;

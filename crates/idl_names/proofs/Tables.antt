@@ -1,5 +1,6 @@
 -- Tables of the program, as lists.
-use Rattle.std.proofs.Common.{◌≡◌, ℕ, Bool, true, false, cond, refl, ap, ◌∙◌, List, [], ◌∷◌, ◌++◌, Some, None, Vec, if◌then◌else◌}
+use Rattle.std.proofs.Common.{◌≡◌, ℕ, Bool, true, false, cond, refl, ap, ◌∙◌, List, [], ◌∷◌, ◌++◌, Some, None, Vec, Result, Ok, Err, if◌then◌else◌}
+use Rattle.std.specs.Result.{MatchResult, OnOk}
 use Rattle.std.specs.Str.{bytes_eq}
 use Rattle.std.specs.Map.{lookup}
 use Rattle.indexmap.specs.IndexMap.{insert_entry}
@@ -23,6 +24,11 @@ put_is {A} {X} eq k x same (e ∷ es) = by (bytes_eq k.items e.0.items) (same e.
         ≡ elim b [ true ↦ (e.0.items, x) ∷ table es | false ↦ (e.0.items, e.1) ∷ put (table es) k.items x ]
     by true h more = ap (λ c. table (if c then (e.0, x) ∷ es else e ∷ insert_entry eq es k x)) h
     by false h more = ap (λ c. table (if c then (e.0, x) ∷ es else e ∷ insert_entry eq es k x)) h ∙ ap (λ r. (e.0.items, e.1) ∷ r) more
+
+-- what is said of both answers says it of the one that is done
+pub where_put : {E : Type 0} (A B : Type 0) (r : Result (Unit {0}) E) → MatchResult r (λ _. A) (λ _. B) → OnOk r A
+where_put A B (Ok x) h = h
+where_put A B (Err e) h = tt
 
 -- a new name goes last
 pub put_new : {X : Type 0} (es : List (List ℕ × X)) (name : List ℕ) (x : X) → found name es ≡ None → put es name x ≡ es ++ (name, x) ∷ []

@@ -176,7 +176,7 @@ impl NameTables {
             }),
             None => Ok(
                 self.tags
-                    .put(tag.as_slice(), TagDefinition { kind, place })?,
+                    .insert(tag.as_slice(), TagDefinition { kind, place })?,
             ),
         }
     }
@@ -188,7 +188,7 @@ impl NameTables {
         let place = place_of(file, name);
         match self.places.get(name.as_slice()) {
             Some(first) => Err(NameFault::Twice { place, first }),
-            None => Ok(self.places.put(name.as_slice(), place)?),
+            None => Ok(self.places.insert(name.as_slice(), place)?),
         }
     }
 
@@ -202,7 +202,7 @@ impl NameTables {
         requires { is_small 0 meaning ≡ true }
         ensures { IsRight self.new result (walked file self.old (Know name.now meaning ∷ [])) }
     {
-        Ok(self.meanings.put(name.as_slice(), meaning)?)
+        Ok(self.meanings.insert(name.as_slice(), meaning)?)
     }
 
     /// From here on a name is known, and stands for the value of an expression.
@@ -215,7 +215,10 @@ impl NameTables {
         ensures { IsRight self.new result (walked file self.old (KnowValue name.now (seen_expr expression.now) ∷ [])) }
     {
         let value = self.value(file, expression)?;
-        Ok(self.meanings.put(name.as_slice(), Meaning::Number(value))?)
+        Ok(
+            self.meanings
+                .insert(name.as_slice(), Meaning::Number(value))?,
+        )
     }
 
     /// What an enumerator without a value stands for.
@@ -248,8 +251,8 @@ impl NameTables {
             return Err(NameFault::Twice { place, first });
         }
         let meaning = self.next_meaning(previous);
-        self.places.put(name.as_slice(), place)?;
-        Ok(self.meanings.put(name.as_slice(), meaning)?)
+        self.places.insert(name.as_slice(), place)?;
+        Ok(self.meanings.insert(name.as_slice(), meaning)?)
     }
 
     /// An expression is evaluated.

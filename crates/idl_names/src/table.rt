@@ -1,5 +1,5 @@
 // Tables by names.
-ghost use Rattle.std.specs.Prelude.{◌≡◌, [], length, MatchResult};
+ghost use Rattle.std.specs.Prelude.{◌≡◌, [], length, OnOk, MatchResult};
 ghost use Rattle.idl_names.specs.Tables.{found, put};
 
 use indexmap::IndexMap;
@@ -48,8 +48,15 @@ impl<V: Copy> Table<V> {
         self.entries.get(name).copied()
     }
 
-    /// Gives a name a value. A new name goes last. Takes memory for a new name; where there is none, nothing changes.
+    /// Gives a name a value. A new name goes last. Takes memory for a new name.
     pub fn put(&mut self, name: &[u8], value: V) -> Result<(), Memory>
+        ensures { OnOk result (self.new ≡ put self.old name.now value) }
+    {
+        self.insert(name, value)
+    }
+
+    /// The same; where there is no memory, nothing changes.
+    pub(crate) fn insert(&mut self, name: &[u8], value: V) -> Result<(), Memory>
         ensures { MatchResult result (λ _. self.new ≡ put self.old name.now value) (λ _. self.new ≡ self.old) }
     {
         let key = Vec::from_slice(self.alloc, name)?;

@@ -336,7 +336,11 @@ fn note_body(kinds: &mut Kinds, construct: &Construct, body: &TypeSpec) -> Resul
 }
 
 /// Gives a name its type, unless it is there already.
-pub(crate) fn put_first(names: &mut Table<usize>, name: &Identifier, of: usize) -> Result<(), Memory>
+pub(crate) fn put_first(
+    names: &mut Table<usize>,
+    name: &Identifier,
+    of: usize,
+) -> Result<(), Memory>
     ensures { OnOk result (names.new ≡ and_name names.old name.now.octets of) }
 {
     let name = name.as_slice();
@@ -512,7 +516,15 @@ fn read_body(
     let Node::Body { construct, body } = &nodes.items[index] else {
         return Ok(());
     };
-    let noted = body_types(alloc, scope, &mut types.kinds, names, index, construct, body)?;
+    let noted = body_types(
+        alloc,
+        scope,
+        &mut types.kinds,
+        names,
+        index,
+        construct,
+        body,
+    )?;
     push_body(&mut types.bodies, &mut types.by_place, noted)
 }
 

@@ -8,12 +8,12 @@ use Rattle.nd_types.specs.declared.types.Side.{Side}
 use Rattle.nd_value.specs.declared.value.Graph.{Graph}
 use Rattle.nd_value.specs.declared.item.Home.{Home}
 use Rattle.nd_value.specs.declared.item.Home.TheVariants as home
-use Rattle.nd_value.specs.Tree.{Tree, Referent, node, none, more, trees, flat}
+use Rattle.nd_value.specs.Tree.{Tree, Referent, node, none, more, trees}
 use Rattle.nd_flat.specs.Keepable.{AreKeepable, HasKeepable}
 use Rattle.nd_flat.specs.Forest.{tree_in}
-use Rattle.nd_flat.specs.Building.{Building, put, closed, opened, with_root, with_cell, with_graph, with_nodes, CanClose, HasNoUnread, start}
-use Rattle.nd_value.specs.Setting.{unread, cell_home, set_nth, set_cell}
-use Rattle.nd_flat.specs.Built.{Adds, Frame, HasGraph, Rooted, Filled}
+use Rattle.nd_flat.specs.Building.{Building, put, closed, with_cell, with_graph, CanClose, HasNoUnread, start}
+use Rattle.nd_value.specs.Setting.{unread, set_nth, set_cell}
+use Rattle.nd_flat.specs.Built.{HasGraph, Rooted, Filled}
 use Rattle.nd_flatten.specs.Steps.{AllRooted, AllFilled, AllReserved, blank}
 use Rattle.nd_flat.proofs.Rooted.{frame_same, frame_on}
 

@@ -1,6 +1,6 @@
 -- A graph put into a builder: first each cell gets its number, then the roots are built, then the cells.
 -- `old` and `new` are builders, `vs` are roots, `xs` cells.
-use Rattle.std.specs.Prelude.{◌≡◌, List, [], ◌∷◌, ◌++◌, map}
+use Rattle.std.specs.Prelude.{◌≡◌, List, ◌++◌, map}
 use Rattle.nd_value.specs.Setting.{unread}
 use Rattle.nd_value.specs.Tree.{Tree, Referent}
 use Rattle.nd_flat.specs.Building.{Building, with_graph, closed}

@@ -16,7 +16,8 @@ use nd_types::{Side, Tie};
 use nd_value::{CellId, Cells, Graph, Val, Vals};
 use std::alloc::Global;
 
-/// A graph of values as a flat graph, which is the same graph to contracts. It takes memory for nodes, texts, roots and cells. Want of
+/// A graph of values as a flat graph, which is the same graph to contracts. Arrays and pipes whose elements are numbers of one primitive
+/// are kept as rows. It takes memory for nodes, texts, rows, roots and cells, and for the octets of one row at a time. Want of
 /// memory is the only refusal. Each home must have fewer than 2^32 nodes, and each value be one that a node can keep: numbers and
 /// tags from -2^64 to 2^64 - 1, texts of fewer than 2^32 octets. The tie, the operation and the side are those for which the graph
 /// is meant; it need not conform.
@@ -34,8 +35,8 @@ pub fn flattened(
     let mut builder = Builder::begin(alloc, tie, op, side, None);
     let mut steps = Steps::new(Uncounted::new());
     reserve_all(&mut builder, &graph.cells, &mut steps)?;
-    root_all(&mut builder, &graph.roots)?;
-    fill_all(&mut builder, &graph.cells)?;
+    root_all(alloc, &mut builder, &graph.roots)?;
+    fill_all(alloc, &mut builder, &graph.cells)?;
     Ok(builder.into_graph())
 }
 
@@ -58,18 +59,18 @@ fn reserve_all<L: Ledger>(
 }
 
 // Builds a root.
-fn root_one(builder: &mut Builder, val: &Val) -> Result<(), Memory>
+fn root_one(alloc: Global, builder: &mut Builder, val: &Val) -> Result<(), Memory>
     requires whole { CanClose builder.old }
     requires few { node_count (more (tree_of val.now) none) < 2 ^ 32 }
     requires keepable { AreKeepable (more (tree_of val.now) none) }
     ensures { OnOk result (Rooted (tree_of val.now) builder.old builder.new) }
 {
     builder.root()?;
-    add_value(builder, val)
+    add_value(alloc, builder, val)
 }
 
 // Builds a cell.
-fn fill_one(builder: &mut Builder, cell: CellId, val: &Val) -> Result<(), Memory>
+fn fill_one(alloc: Global, builder: &mut Builder, cell: CellId, val: &Val) -> Result<(), Memory>
     requires whole { CanClose builder.old }
     requires there { (0 < cell.0) × (cell.0 ≤ length builder.old.graph.cells) }
     requires few { node_count (more (tree_of val.now) none) < 2 ^ 32 }
@@ -77,11 +78,11 @@ fn fill_one(builder: &mut Builder, cell: CellId, val: &Val) -> Result<(), Memory
     ensures { OnOk result (Filled cell.0 (tree_of val.now) builder.old builder.new) }
 {
     builder.fill(cell);
-    add_value(builder, val)
+    add_value(alloc, builder, val)
 }
 
 // Builds each root.
-fn root_all(builder: &mut Builder, vals: &Vals) -> Result<(), Memory>
+fn root_all(alloc: Global, builder: &mut Builder, vals: &Vals) -> Result<(), Memory>
     requires whole { CanClose builder.old }
     requires few { FewNodes vals.now }
     requires keepable { AreKeepable (trees vals.now) }
@@ -91,13 +92,13 @@ fn root_all(builder: &mut Builder, vals: &Vals) -> Result<(), Memory>
         let Some(val) = vals.get(at) else {
             unreachable!()
         };
-        root_one(builder, val)?;
+        root_one(alloc, builder, val)?;
     }
     Ok(())
 }
 
 // Builds each cell.
-fn fill_all(builder: &mut Builder, cells: &Cells) -> Result<(), Memory>
+fn fill_all(alloc: Global, builder: &mut Builder, cells: &Cells) -> Result<(), Memory>
     requires whole { CanClose builder.old }
     requires few { length cells.now < 2 ^ 32 }
     requires blank { (closed builder.old).cells ≡ map blank cells.now }
@@ -109,7 +110,7 @@ fn fill_all(builder: &mut Builder, cells: &Cells) -> Result<(), Memory>
         let Some(cell) = cells.get(at) else {
             unreachable!()
         };
-        fill_one(builder, CellId(at as u32 + 1), &cell.val)?;
+        fill_one(alloc, builder, CellId(at as u32 + 1), &cell.val)?;
     }
     Ok(())
 }

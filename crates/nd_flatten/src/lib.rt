@@ -2,6 +2,7 @@
 #![tactic(auto)]
 
 mod graph;
+mod numbers;
 mod values;
 
 pub use graph::flattened;

@@ -6,13 +6,15 @@ ghost use Rattle.nd_value.specs.Seen.{tree_of};
 ghost use Rattle.nd_flat.specs.Keepable.{AreKeepable};
 ghost use Rattle.nd_flat.specs.Built.{Adds};
 
+use crate::numbers::{add_numbers, primitive_of};
 use nd_base::Memory;
 use nd_flat::{Builder, Seen};
 use nd_value::{ArmVal, Val, Vals};
+use std::alloc::Global;
 
 // Adds the nodes of a value to those of the open home, depth first. Want of memory is the only refusal.
 #[cycle(values)]
-pub(crate) fn add_value(builder: &mut Builder, val: &Val) -> Result<(), Memory>
+pub(crate) fn add_value(alloc: Global, builder: &mut Builder, val: &Val) -> Result<(), Memory>
     requires few { node_count (more (tree_of val.now) none) < 2 ^ 32 }
     requires keepable { AreKeepable (more (tree_of val.now) none) }
     ensures { OnOk result (Adds (more (tree_of val.now) none) builder.old builder.new) }
@@ -21,7 +23,7 @@ pub(crate) fn add_value(builder: &mut Builder, val: &Val) -> Result<(), Memory>
         Val::Num(number) => builder.add(&Seen::Num(*number)),
         Val::Rec(vals) => {
             builder.add(&Seen::Rec(vals.len() as u32))?;
-            add_values(builder, vals)
+            add_values(alloc, builder, vals)
         }
         Val::Arr { max, offset, items } => {
             builder.add(&Seen::Arr {
@@ -29,7 +31,7 @@ pub(crate) fn add_value(builder: &mut Builder, val: &Val) -> Result<(), Memory>
                 offset: *offset,
                 count: items.len() as u32,
             })?;
-            add_values(builder, items)
+            add_elements(alloc, builder, items)
         }
         Val::Text { max, octets } => builder.add(&Seen::Text {
             max: *max,
@@ -40,7 +42,7 @@ pub(crate) fn add_value(builder: &mut Builder, val: &Val) -> Result<(), Memory>
                 tag: *tag,
                 armed: is_armed(value),
             })?;
-            add_arm(builder, value)
+            add_arm(alloc, builder, value)
         }
         Val::Ptr(cell) => builder.add(&Seen::Ptr(*cell)),
         Val::Context { attributes, id } => builder.add(&Seen::Context {
@@ -49,14 +51,27 @@ pub(crate) fn add_value(builder: &mut Builder, val: &Val) -> Result<(), Memory>
         }),
         Val::Pipe(vals) => {
             builder.add(&Seen::Pipe(vals.len() as u32))?;
-            add_values(builder, vals)
+            add_elements(alloc, builder, vals)
         }
+    }
+}
+
+// The same of the elements of an array or a pipe: as a row, where they are numbers of one primitive.
+#[cycle(values)]
+fn add_elements(alloc: Global, builder: &mut Builder, vals: &Vals) -> Result<(), Memory>
+    requires few { node_count (trees vals.now) < 2 ^ 32 }
+    requires keepable { AreKeepable (trees vals.now) }
+    ensures { OnOk result (Adds (trees vals.now) builder.old builder.new) }
+{
+    match primitive_of(vals) {
+        Some(prim) => add_numbers(alloc, builder, vals, prim),
+        None => add_values(alloc, builder, vals),
     }
 }
 
 // The same of several values.
 #[cycle(values)]
-fn add_values(builder: &mut Builder, vals: &Vals) -> Result<(), Memory>
+fn add_values(alloc: Global, builder: &mut Builder, vals: &Vals) -> Result<(), Memory>
     requires few { node_count (trees vals.now) < 2 ^ 32 }
     requires keepable { AreKeepable (trees vals.now) }
     ensures { OnOk result (Adds (trees vals.now) builder.old builder.new) }
@@ -65,20 +80,20 @@ fn add_values(builder: &mut Builder, vals: &Vals) -> Result<(), Memory>
         let Some(val) = vals.get(at) else {
             unreachable!()
         };
-        add_value(builder, val)?;
+        add_value(alloc, builder, val)?;
     }
     Ok(())
 }
 
 // The same of the value of an arm, where it is there.
 #[cycle(values)]
-fn add_arm(builder: &mut Builder, arm: &ArmVal) -> Result<(), Memory>
+fn add_arm(alloc: Global, builder: &mut Builder, arm: &ArmVal) -> Result<(), Memory>
     requires few { node_count (trees arm.now) < 2 ^ 32 }
     requires keepable { AreKeepable (trees arm.now) }
     ensures { OnOk result (Adds (trees arm.now) builder.old builder.new) }
 {
     match arm.get() {
-        Some(val) => add_value(builder, val),
+        Some(val) => add_value(alloc, builder, val),
         None => Ok(()),
     }
 }

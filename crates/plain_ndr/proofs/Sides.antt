@@ -1,5 +1,5 @@
 -- A side whose roots are primitives is a plain side, and its octets are octets.
-use Rattle.std.proofs.Common.{◌≡◌, ℕ, suc, ◌<◌, ◌^◌, true, List, [], ◌∷◌, length, Option, Some, None, refl, ap, ap₂, sym, ◌∙◌, subst, map, get_or}
+use Rattle.std.proofs.Common.{◌≡◌, ℕ, suc, ◌<◌, ◌^◌, true, List, [], ◌∷◌, length, Some, None, refl, ap, ap₂, sym, ◌∙◌, subst, map, get_or}
 use Rattle.std.specs.List.{slice_get}
 use Rattle.nd_types.specs.declared.types.Operation.{Operation}
 use Rattle.nd_types.specs.declared.interface.Interface.{Interface}
@@ -8,7 +8,6 @@ use Rattle.nd_types.specs.Roots.{roots_of}
 use Rattle.nd_types.specs.Numbers.{has_number_roots}
 use Rattle.nd_grammar.proofs.PlainSides.{number_side_plain}
 use Rattle.nd_types.specs.Number.{AreOctets}
-use Rattle.nd_value.specs.declared.value.Graph.{Graph}
 use Rattle.nd_value.specs.Fitting.{IsFit, setting_beside, setting_of}
 use Rattle.nd_value.specs.Conforms.{Conforms}
 use Rattle.nd_flat.specs.Building.{Building, CanClose, start, fitting, closed}

@@ -17,7 +17,7 @@ returns c s n is size =
     let places = c.in_ok-graph.ensures s n is size in
     let hoisting = subst (λ (l : List Rule). AreRules hoists_rule ks count l) (sym c.as_slice.ensures.value) (c.in_ok-hoists.ensures size) in
     let barring = subst (λ (l : List Rule). AreRules barred_rule ks count l) (sym c.as_slice-3.ensures.value) (c.in_ok-barred.ensures size) in
-    let alls : c.as_slice-2.result.now ≡ replicate (suc count) All = 
+    let alls : c.as_slice-2.result.now ≡ replicate (suc count) All =
     c.as_slice-2.ensures.value ∙ c.in-Ok.ensures.items ∙ ap (λ l. l ++ All ∷ []) (c.in_ok-nests.ensures.items_if_clones_equal (λ x e. e)) ∙ one_more count in
     let nesting : (node : ℕ) → node < suc count → rule_at c.as_slice-2.result.now node ≡ All = λ node h. ap (λ l. rule_at l node) alls ∙ all_rules count node h in
     record {

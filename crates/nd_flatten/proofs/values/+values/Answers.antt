@@ -40,18 +40,18 @@ add_value-returns-in_ok-add-in-Rec t c =
 pub add_value-returns-in_ok-add-in-Arr : goal.add_value-returns-in_ok-add-in-Arr
 add_value-returns-in_ok-add-in-Arr t c =
     let e : c.len-in-Arr.result ≡ count (trees c.in-Arr.items) = c.len-in-Arr.ensures ∙ sym (count_of c.in-Arr.items) in
-    on_ok_weaker c.add_values-in-Arr.result
-    (λ a. subst (λ (v : Val). Adds (more (tree_of v) none) c.args.builder.now c.add_values-in-Arr.new.builder) (sym c.in-Arr.is)
-    (then_kids (tree.Arr c.in-Arr.max c.in-Arr.offset) c.len-in-Arr.result (trees c.in-Arr.items) c.args.builder.now c.add-in-Arr.new.self c.add_values-in-Arr.new.builder e c.in_ok-add-in-Arr.ensures.ok a))
-    c.add_values-in-Arr.ensures
+    on_ok_weaker c.add_elements.result
+    (λ a. subst (λ (v : Val). Adds (more (tree_of v) none) c.args.builder.now c.add_elements.new.builder) (sym c.in-Arr.is)
+    (then_kids (tree.Arr c.in-Arr.max c.in-Arr.offset) c.len-in-Arr.result (trees c.in-Arr.items) c.args.builder.now c.add-in-Arr.new.self c.add_elements.new.builder e c.in_ok-add-in-Arr.ensures.ok a))
+    c.add_elements.ensures
 
 pub add_value-returns-in_ok-add-in-Pipe : goal.add_value-returns-in_ok-add-in-Pipe
 add_value-returns-in_ok-add-in-Pipe t c =
     let e : c.len-in-Pipe.result ≡ count (trees c.in-Pipe.vals) = c.len-in-Pipe.ensures ∙ sym (count_of c.in-Pipe.vals) in
-    on_ok_weaker c.add_values-in-Pipe.result
-    (λ a. subst (λ (v : Val). Adds (more (tree_of v) none) c.args.builder.now c.add_values-in-Pipe.new.builder) (sym c.in-Pipe.is)
-    (then_kids tree.Pipe c.len-in-Pipe.result (trees c.in-Pipe.vals) c.args.builder.now c.add-in-Pipe.new.self c.add_values-in-Pipe.new.builder e c.in_ok-add-in-Pipe.ensures.ok a))
-    c.add_values-in-Pipe.ensures
+    on_ok_weaker c.add_elements-in-Pipe.result
+    (λ a. subst (λ (v : Val). Adds (more (tree_of v) none) c.args.builder.now c.add_elements-in-Pipe.new.builder) (sym c.in-Pipe.is)
+    (then_kids tree.Pipe c.len-in-Pipe.result (trees c.in-Pipe.vals) c.args.builder.now c.add-in-Pipe.new.self c.add_elements-in-Pipe.new.builder e c.in_ok-add-in-Pipe.ensures.ok a))
+    c.add_elements-in-Pipe.ensures
 
 pub add_value-returns-in_ok-add-in-Union : goal.add_value-returns-in_ok-add-in-Union
 add_value-returns-in_ok-add-in-Union t c =
@@ -77,3 +77,6 @@ pub add_values-loop-at-preserved : goal.add_values-loop-at-preserved
 add_values-loop-at-preserved t c =
     added_on c.args.vals.now c.args.builder.now c.loop-at.at c.loop-at.builder c.add_value.new.builder (tree_of c.in-Some.val.now) c.in-Some.ensures.some c.loop-at.invariant
     c.in_ok-add_value.ensures
+
+pub add_elements-add_numbers-requires-clause-few : goal.add_elements-add_numbers-requires-clause-few
+add_elements-add_numbers-requires-clause-few t c = omega (arith, c.requires.few, few_values c.args.vals.now)

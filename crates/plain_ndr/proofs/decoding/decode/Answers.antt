@@ -1,4 +1,4 @@
-use Rattle.std.proofs.Common.{◌∙◌, sym, ap, subst, Err, arith, refl}
+use Rattle.std.proofs.Common.{◌∙◌, sym, ap, subst, Err, arith}
 use Rattle.nd_value.specs.Fitting.{setting_of}
 use Rattle.nd_value.proofs.FewRoots.{item_at}
 use Rattle.nd_grammar.specs.Prefix.{BeginsWith}

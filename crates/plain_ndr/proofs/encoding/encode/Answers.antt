@@ -1,4 +1,4 @@
-use Rattle.std.proofs.Common.{◌∙◌, sym, ap, subst}
+use Rattle.std.proofs.Common.{◌∙◌, sym, subst}
 use Rattle.std.proofs.lemmas.Result.{IfOk-weaker}
 use Rattle.plain_ndr.specs.Writing.{AreNumbers, AreWritten}
 use Rattle.plain_ndr.proofs.Encoded.{fit_few, fit_are, fit_within, fit_encoded}

@@ -1,4 +1,4 @@
-use Rattle.std.proofs.Common.{◌∙◌, refl, sym, ap, arith, map, ◌++◌, ◌∷◌, [], subst, length, take}
+use Rattle.std.proofs.Common.{◌∙◌, sym, ap, arith, map, take}
 use Rattle.std.proofs.lemmas.List.{length_push, take_all}
 use Rattle.std.proofs.lemmas.Iterator.Consumers.{YieldsList-from_first, YieldsList-turn, YieldsList-end}
 use Rattle.nd_types.specs.Walk.{named_roots, root_value}

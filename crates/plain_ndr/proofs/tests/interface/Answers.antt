@@ -1,4 +1,4 @@
-use Rattle.std.proofs.Common.{List, [], ◌∷◌, sym, subst}
+use Rattle.std.proofs.Common.{List, sym, subst}
 use Rattle.nd_types.specs.declared.types.Operation.{Operation}
 use Rattle.nd_types.specs.Kinds.{basic_types}
 use Rattle.nd_types.specs.Numbers.{IsNumberSide}

@@ -1,0 +1,22 @@
+//! Laws of the order in which cells are named, each the contract of a function that does nothing.
+ghost use Rattle.std.specs.Prelude.{◌≡◌, List, [], Some};
+ghost use Rattle.std.specs.List.{slice_get};
+ghost use Rattle.nd_types.specs.declared.types.Operation.{Operation};
+ghost use Rattle.nd_value.specs.declared.value.Graph.{Graph};
+ghost use Rattle.nd_value.specs.Setting.{Setting, root_list};
+ghost use Rattle.nd_value.specs.Conforms.{Conforms};
+ghost use Rattle.nd_value.specs.Deferral.{Step, Deferral, due_roots, before_pipes};
+ghost use Rattle.nd_value.specs.Canon.{IsCanon, named_cells};
+ghost use Rattle.nd_value.specs.Fitting.{Fitting, IsFit, setting_beside};
+ghost use Rattle.nd_grammar.specs.LegalSide.{IsLegalSide};
+ghost use Rattle.nd_canonical.specs.Naming.{AreNamed};
+ghost use Rattle.nd_canonical.specs.Canonical.{IsCanonical};
+
+/// In a graph that conforms the cells are named in the order of deferral: what nodes say alone gives the order in which the pointers of
+/// the stream name them. So the canonical form of a fit is canonical by the order of the stream.
+pub fn named_by_turns()
+    ensures named { (w : Setting) → IsLegalSide w → (g : Graph) → Conforms w g → (steps : List Step)
+        → Deferral w g [] (due_roots 0 (before_pipes (root_list w))) steps → AreNamed g (named_cells w g steps) }
+    ensures canon { (f c : Fitting) → IsFit f → IsCanonical f c → (o : Operation) → slice_get f.interface.operations f.op ≡ Some o
+        → IsCanon (setting_beside f.interface o f.side f.given) f.graph c.graph }
+{}
