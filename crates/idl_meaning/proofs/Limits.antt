@@ -27,6 +27,7 @@ use Rattle.idl_nodes.specs.declared.nodes.Nodes.{Nodes}
 use Rattle.idl_types.specs.declared.types.Types.{Types}
 use Rattle.idl_types.specs.declared.types.OperationTypes.{OperationTypes}
 use Rattle.idl_meaning.specs.declared.definitions.FoundBody.{FoundBody}
+use Rattle.idl_language.specs.Nodes.{Declared}
 use Rattle.idl_language.specs.Types.{IdlType, Void, Handle, ContextHandle, Basic, Struct, Union, Enum, Array, Text, Pointer, Pipe, Names}
 use Rattle.idl_language.specs.Scene.{Scene, parts_declared}
 use Rattle.idl_language.specs.Numbering.{Needed, own_types, same_type, number_among, number_of_type}
@@ -120,7 +121,7 @@ struct_few s ks place f _ h e i few = absurd (cc)
 at_called : {A : Type 0} (lists : List (Vec declared.Declared A)) (names : Names) (x : Option program_node.Node) (o : Called) → called_at lists names x ≡ Some o → parameters_at lists x ≡ o.parameters
 at_called lists names (Some (node.Operation it parameters)) o h = ap parameters_in h
   where
-    parameters_in : Option Called → List _
+    parameters_in : Option Called → List Declared
     parameters_in (Some c) = c.parameters
     parameters_in None = []
 at_called lists names _ o h = absurd (cc)

@@ -7,4 +7,4 @@ use Rattle.idl_meaning.proofs.definitions.number_of.Goals as goal
 pub narrow-requires : goal.narrow-requires
 narrow-requires c =
     let p = c.args.program.now in
-    subst (λ (n : ℕ). n < 2 ^ 32) (sym (c.number.ensures ∙ c.requires.numbers c.args.of)) (number_narrow (scene_in p) (type_at p.types.now.kinds c.args.of) c.requires.few)
+    subst (λ (n : ℕ). n < 2 ^ 32) (sym (c.number.ensures ∙ c.requires.numbers.numbers c.args.of)) (number_narrow (scene_in p) (type_at p.types.now.kinds c.args.of) c.requires.few)
