@@ -38,12 +38,19 @@ use idl_values::values::{constant, enumerators, has_lower_bounds, second_classes
 use nd_base::Memory;
 use std::alloc::Global;
 
+/// Whether others come after one of so many.
+fn is_before_last(index: usize, count: usize) -> bool
+    ensures { result ≡ ltb (index + 1) count }
+{
+    index < count.saturating_sub(1)
+}
+
 /// Whether others stand behind one in a list.
 fn is_followed(nodes: &Nodes<'_>, list: usize, index: usize) -> bool
     ensures { result ≡ ltb (index + 1) (length (list_at nodes.now.lists.items list)) }
 {
     match nodes.lists.get(list) {
-        Some(list) => index < list.len().saturating_sub(1),
+        Some(list) => is_before_last(index, list.len()),
         None => false,
     }
 }

@@ -20,8 +20,8 @@ loop-number-preserved c =
     let inside = subst (λ (n : ℕ). is_inside n kind ≡ true) (sym c.loop-number.invariant.0) c.kind-kind.ensures.inside in
     let inner = c.inner.ensures types (subst (λ (l : List Counted). AreCounted types l) (sym c.as_slice.ensures.value) c.loop-number.invariant.1)
     (subst (λ (l : List Counted). is_inside (length l) kind ≡ true) (sym c.as_slice.ensures.value) inside) in (
-      ap length c.in-Ok-push.ensures.items ∙ length-append counts (c.of-counted.result ∷ []) ∙ ap (λ n. n + 1) c.loop-number.invariant.0,
-      subst (λ (l : List Counted). AreCounted types l) (sym c.in-Ok-push.ensures.items)
+      ap length c.in-Ok.ensures.items ∙ length-append counts (c.of-counted.result ∷ []) ∙ ap (λ n. n + 1) c.loop-number.invariant.0,
+      subst (λ (l : List Counted). AreCounted types l) (sym c.in-Ok.ensures.items)
           (counted_more types counts c.of-counted.result c.loop-number.number (type_by types kind) c.loop-number.invariant.0 c.loop-number.invariant.1
           c.kind-kind.ensures.seen (c.of-counted.ensures types inner)),
     )
