@@ -6,6 +6,7 @@ ghost use Rattle.nd_value.specs.declared.item.Home.TheVariants as home;
 ghost use Rattle.nd_flat.specs.FlatForm.{flat_seen, seen_nodes, num_flats, row_numbers, HasOctets, IsKeepable, IsRow, text_of};
 ghost use Rattle.nd_flat.specs.Building.{CanClose, HasNoUnread, IsPipe, closed, opened, with_root, with_cell, with_node, with_nodes, with_numbers, with_graph, raised, fitting, start};
 ghost use Rattle.nd_value.specs.Fitting.{IsFit};
+ghost use Rattle.nd_value.specs.Request.{IsRequestOf};
 
 use crate::flat::{CellSpan, FlatGraph, Span};
 use crate::given::Given;
@@ -28,7 +29,7 @@ pub enum OpenHome {
 
 /// Builds a graph, one root or cell at a time and in any order: a home is opened, and its nodes are added depth first, each with the
 /// number of its children. Contracts see the graph so far, in which homes that are not built are unread, the home that is open, and
-/// its nodes so far. After want of memory a builder is as it was before the call.
+/// its nodes so far. Where memory is refused a builder is as it was before the call.
 #[derive(Drop)]
 pub struct Builder {
     nodes: Vec<Node>,
@@ -59,8 +60,10 @@ impl Model for Builder {
 }
 
 impl Builder {
-    /// Begins a graph for a side of an operation of the tie's interface, beside a request or beside none. It allocates nothing.
+    /// Begins a graph for a side of an operation of the tie's interface, beside a request or beside none. A request is a fit of the same
+    /// interface and operation and of the side In, and then `side` must be Out. It allocates nothing.
     pub fn begin(alloc: Global, tie: Tie, op: u32, side: Side, given: Option<&Fit>) -> Builder
+        requires request { IsRequestOf tie op side (option_map (λ f. f.now) given.entry) }
         ensures { result ≡ start tie op side (option_map (λ f. f.now.graph) given.entry) }
     {
         Builder {
@@ -202,7 +205,8 @@ impl Builder {
         }
     }
 
-    /// The graph as a fit. The open home must be whole, and the graph conform to the side of the operation. Takes no memory.
+    /// The graph as a fit. The open home must be whole, and the graph conform to the side of the operation, beside the request that was
+    /// given. Takes no memory.
     pub fn finish(self) -> Fit
         requires whole { CanClose self }
         requires fits { IsFit (fitting self) }

@@ -37,7 +37,8 @@ impl Model for Fit {
 }
 
 impl Fit {
-    /// Takes over a graph that conforms to a side of an operation, beside this request or beside none. Takes no memory.
+    /// Takes over a graph that conforms to a side of an operation, beside this request or beside none. A request conforms to the inputs
+    /// of the operation, and then `side` must be Out. Takes no memory.
     pub fn of(graph: FlatGraph, op: u32, side: Side, tie: Tie, given: Given) -> Fit
         requires { IsFit (record { graph = graph; op = op; side = side; interface = tie; given = given }) }
         ensures { result ≡ record { graph = graph; op = op; side = side; interface = tie; given = given } }
