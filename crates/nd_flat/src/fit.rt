@@ -101,8 +101,8 @@ impl Fit {
         ))
     }
 
-    /// The graph as values that callers can take apart and change. It takes memory for each value. Want of memory is the only
-    /// refusal; then the fit is handed back unchanged.
+    /// The graph as values that callers can take apart and change. It takes memory for each value, and its calls nest as deep as the types
+    /// of the operation do, which is at most 32 levels. Out of memory is the only refusal; then the fit is handed back unchanged.
     pub fn graph(self, alloc: Global) -> Result<Graph, (Memory, Fit)>
         ensures graph { IfOk result (λ g. g ≡ self.graph) }
         ensures back { IfErr result (λ e. e.1 ≡ self) }
