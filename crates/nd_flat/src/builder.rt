@@ -63,7 +63,7 @@ impl Builder {
     /// Begins a graph for a side of an operation of the tie's interface, beside a request or beside none. A request is a fit of the same
     /// interface and operation and of the side In, and then `side` must be Out. It allocates nothing.
     pub fn begin(alloc: Global, tie: Tie, op: u32, side: Side, given: Option<&Fit>) -> Builder
-        requires request { IsRequestOf tie op side (option_map (λ f. f.now) given.entry) }
+        requires request { IsRequestOf tie op side (option_map (λ f. f.now) given) }
         ensures { result ≡ start tie op side (option_map (λ f. f.now.graph) given.entry) }
     {
         Builder {
