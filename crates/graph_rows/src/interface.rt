@@ -1,6 +1,8 @@
 // The interface of the rows.
-ghost use Rattle.std.specs.Prelude.{◌≡◌, ◌≤◌, ◌++◌, [], ◌∷◌, length, IfOk};
-ghost use Rattle.graph_rows.specs.Rows.{field, sized_field, param, operation, row_types, row_operations};
+ghost use Rattle.std.specs.Prelude.{◌≡◌, ◌≤◌, ◌++◌, [], ◌∷◌, false, None, length, IfOk, OnOk};
+ghost use Rattle.nd_types.specs.declared.types.TypeDef.TheVariants as def;
+ghost use Rattle.nd_types.specs.declared.types.Way.TheVariants as way;
+ghost use Rattle.graph_rows.specs.Rows.{id, field, sized_field, param, operation, row_types, row_operations};
 
 use nd_base::{Memory, Name};
 use nd_types::{
@@ -73,107 +75,118 @@ fn sized(alloc: Global, name: &[u8], of: u32, var: u32, star: bool) -> Result<Fi
     })
 }
 
-// A struct of one member or two.
-fn structure(alloc: Global, first: Field, second: Option<Field>) -> Result<TypeDef, Memory> {
+// A struct of one member.
+fn structure_of_one(alloc: Global, member: Field) -> Result<TypeDef, Memory>
+    ensures { IfOk result (λ d. d ≡ def.Struct (member ∷ [])) }
+{
     let mut members = Fields::new(alloc);
-    let Ok(()) = members.push(first) else {
+    let Ok(()) = members.push(member) else {
         return Err(Memory);
     };
-    if let Some(second) = second {
-        let Ok(()) = members.push(second) else {
-            return Err(Memory);
-        };
+    Ok(TypeDef::Struct { members })
+}
+
+// A struct of two members.
+fn structure_of_two(alloc: Global, first: Field, second: Field) -> Result<TypeDef, Memory>
+    ensures { IfOk result (λ d. d ≡ def.Struct (first ∷ second ∷ [])) }
+{
+    let mut members = Fields::new(alloc);
+    if members.push(first).is_err() || members.push(second).is_err() {
+        return Err(Memory);
     }
     Ok(TypeDef::Struct { members })
 }
 
-fn add(types: &mut Types, def: TypeDef) -> Result<(), Memory> {
-    let Ok(()) = types.push(def) else {
+fn add(types: &mut Types, of: TypeDef) -> Result<(), Memory>
+    ensures { OnOk result (types.new ≡ types.old ++ of ∷ []) }
+{
+    let Ok(()) = types.push(of) else {
         return Err(Memory);
     };
     Ok(())
 }
 
-fn add_pointer(types: &mut Types, class: Class, to: u32) -> Result<(), Memory> {
+fn add_pointer(types: &mut Types, class: Class, to: u32) -> Result<(), Memory>
+    ensures { OnOk result (types.new ≡ types.old ++ def.Pointer class (id to) ∷ []) }
+{
     let to = TypeId(to);
     add(types, TypeDef::Pointer { class, to })
 }
 
-fn add_array(types: &mut Types, elem: u32) -> Result<(), Memory> {
+fn add_array(types: &mut Types, elem: u32) -> Result<(), Memory>
+    ensures { OnOk result (types.new ≡ types.old ++ def.Array (id elem) None false ∷ []) }
+{
     let elem = TypeId(elem);
-    add(
-        types,
-        TypeDef::Array {
-            elem,
-            bound: None,
-            varying: false,
-        },
-    )
+    let of = TypeDef::Array {
+        elem,
+        bound: None,
+        varying: false,
+    };
+    add(types, of)
 }
 
 fn types(alloc: Global) -> Result<Types, Memory>
     ensures { IfOk result (λ types. types ≡ row_types) }
 {
     let mut types = Types::basic(alloc)?;
+    let v = plain(alloc, b"v", 7)?;
     let next = plain(alloc, b"next", 13)?;
-    add(
-        &mut types,
-        structure(alloc, plain(alloc, b"v", 7)?, Some(next))?,
-    )?;
+    add(&mut types, structure_of_two(alloc, v, next)?)?;
     add_pointer(&mut types, Class::Full, 12)?;
-    add(&mut types, structure(alloc, plain(alloc, b"v", 7)?, None)?)?;
+    let v = plain(alloc, b"v", 7)?;
+    add(&mut types, structure_of_one(alloc, v)?)?;
     add_pointer(&mut types, Class::Full, 14)?;
+    let y = plain(alloc, b"y", 15)?;
     let z = plain(alloc, b"z", 15)?;
-    add(
-        &mut types,
-        structure(alloc, plain(alloc, b"y", 15)?, Some(z))?,
-    )?;
+    add(&mut types, structure_of_two(alloc, y, z)?)?;
     add_pointer(&mut types, Class::Full, 16)?;
+    let a = plain(alloc, b"a", 17)?;
     let b = plain(alloc, b"b", 15)?;
-    add(
-        &mut types,
-        structure(alloc, plain(alloc, b"a", 17)?, Some(b))?,
-    )?;
+    add(&mut types, structure_of_two(alloc, a, b)?)?;
     add_pointer(&mut types, Class::Ref, 18)?;
     add_pointer(&mut types, Class::Unique, 7)?;
     add_array(&mut types, 9)?;
+    let n = plain(alloc, b"n", 5)?;
     let a = sized(alloc, b"a", 21, 0, false)?;
-    add(
-        &mut types,
-        structure(alloc, plain(alloc, b"n", 5)?, Some(a))?,
-    )?;
+    add(&mut types, structure_of_two(alloc, n, a)?)?;
     add_pointer(&mut types, Class::Ref, 22)?;
-    add(
-        &mut types,
-        TypeDef::Text {
-            elem: TypeId(1),
-            bound: None,
-        },
-    )?;
+    let text = TypeDef::Text {
+        elem: TypeId(1),
+        bound: None,
+    };
+    add(&mut types, text)?;
     add_pointer(&mut types, Class::Ref, 24)?;
     add_array(&mut types, 2)?;
     add_pointer(&mut types, Class::Ref, 8)?;
     Ok(types)
 }
 
-// An operation of one parameter or two.
-fn taking(
-    alloc: Global,
-    name: &[u8],
-    first: Param,
-    second: Option<Param>,
-) -> Result<Operation, Memory>
+// An operation of one parameter.
+fn taking_one(alloc: Global, name: &[u8], of: Param) -> Result<Operation, Memory>
     requires some { 1 ≤ length name.now }
     requires few { length name.now ≤ 31 }
+    ensures { IfOk result (λ o. o ≡ operation name.now (of ∷ [])) }
 {
     let mut params = Params::new(alloc);
-    let Ok(()) = params.push(first) else {
+    let Ok(()) = params.push(of) else {
         return Err(Memory);
     };
-    if let Some(second) = second {
-        let Ok(()) = params.push(second) else {
-            return Err(Memory);
-        };
+    Ok(Operation {
+        name: Name::copy(alloc, name)?,
+        params,
+        result: None,
+    })
+}
+
+// An operation of two parameters.
+fn taking_two(alloc: Global, name: &[u8], first: Param, second: Param) -> Result<Operation, Memory>
+    requires some { 1 ≤ length name.now }
+    requires few { length name.now ≤ 31 }
+    ensures { IfOk result (λ o. o ≡ operation name.now (first ∷ second ∷ [])) }
+{
+    let mut params = Params::new(alloc);
+    if params.push(first).is_err() || params.push(second).is_err() {
+        return Err(Memory);
     }
     Ok(Operation {
         name: Name::copy(alloc, name)?,
@@ -182,47 +195,62 @@ fn taking(
     })
 }
 
-fn input(field: Field) -> Param {
+fn input(field: Field) -> Param
+    ensures { result ≡ param field way.In }
+{
     Param {
         field,
         way: Way::In,
     }
 }
 
-fn output(field: Field) -> Param {
+fn output(field: Field) -> Param
+    ensures { result ≡ param field way.Out }
+{
     Param {
         field,
         way: Way::Out,
     }
 }
 
+fn put(operations: &mut Operations, of: Operation) -> Result<(), Memory>
+    ensures { OnOk result (operations.new ≡ operations.old ++ of ∷ []) }
+{
+    let Ok(()) = operations.push(of) else {
+        return Err(Memory);
+    };
+    Ok(())
+}
+
 fn operations(alloc: Global) -> Result<Operations, Memory>
     ensures { IfOk result (λ operations. operations ≡ row_operations) }
 {
-    let ring = taking(alloc, b"ring", input(plain(alloc, b"p", 13)?), None)?;
-    let pair = taking(alloc, b"h", input(plain(alloc, b"p", 19)?), None)?;
+    let mut operations = Operations::new(alloc);
+    let p = plain(alloc, b"p", 13)?;
+    put(&mut operations, taking_one(alloc, b"ring", input(p))?)?;
+    let p = plain(alloc, b"p", 19)?;
+    put(&mut operations, taking_one(alloc, b"h", input(p))?)?;
+    let a = plain(alloc, b"a", 20)?;
     let b = plain(alloc, b"b", 20)?;
-    let two = taking(
-        alloc,
-        b"two",
-        input(plain(alloc, b"a", 20)?),
-        Some(input(b)),
+    put(
+        &mut operations,
+        taking_two(alloc, b"two", input(a), input(b))?,
     )?;
-    let sum = taking(alloc, b"sum", input(plain(alloc, b"p", 23)?), None)?;
-    let say = taking(alloc, b"say", input(plain(alloc, b"s", 25)?), None)?;
+    let p = plain(alloc, b"p", 23)?;
+    put(&mut operations, taking_one(alloc, b"sum", input(p))?)?;
+    let s = plain(alloc, b"s", 25)?;
+    put(&mut operations, taking_one(alloc, b"say", input(s))?)?;
+    let n = plain(alloc, b"n", 8)?;
     let a = sized(alloc, b"a", 26, 0, false)?;
-    let r = taking(alloc, b"r", input(plain(alloc, b"n", 8)?), Some(output(a)))?;
-    let a = sized(alloc, b"a", 26, 0, true)?;
+    put(
+        &mut operations,
+        taking_two(alloc, b"r", input(n), output(a))?,
+    )?;
     let n = Param {
         field: plain(alloc, b"n", 27)?,
         way: Way::InOut,
     };
-    let s2 = taking(alloc, b"s2", n, Some(output(a)))?;
-    let mut operations = Operations::new(alloc);
-    for operation in [ring, pair, two, sum, say, r, s2] {
-        let Ok(()) = operations.push(operation) else {
-            return Err(Memory);
-        };
-    }
+    let a = sized(alloc, b"a", 26, 0, true)?;
+    put(&mut operations, taking_two(alloc, b"s2", n, output(a))?)?;
     Ok(operations)
 }

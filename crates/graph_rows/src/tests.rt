@@ -1,7 +1,12 @@
 // Rows through the public calls.
+ghost use Rattle.std.specs.Prelude.{◌≡◌, ◌<◌, ◌^◌, length, IfOk, None};
+ghost use Rattle.nd_types.specs.declared.types.Side.TheVariants as side;
+ghost use Rattle.nd_value.specs.Conforms.{HasFewNodes};
+ghost use Rattle.graph_rows.specs.Graphs as rows;
+
 use crate::graphs::{
-    add_cell, miscounted, of_root, of_roots, one_back, ring_of_one, ring_of_two, to, two_back,
-    zero_within,
+    apart, asked, asked_by_pointer, miscounted, null, one_back, ring_and_leaf, ring_of_one,
+    ring_of_two, ring_swapped, shared, two_back, without_cells, zero_within,
 };
 use crate::interface::{PAIR, RING, SAY, SIZED, SIZED_BY_POINTER, SUM, TWO, interface};
 use nd_base::{Counted, Memory, Steps};
@@ -12,8 +17,13 @@ use nd_types::{Interface, Side, TypeId};
 use std::alloc::Global;
 use std::test::Fail;
 
-// A graph of the inputs of an operation as a fit.
-fn fitted(alloc: Global, interface: &Interface, op: u32, graph: Graph) -> Result<Fit, Memory> {
+// A graph of the inputs of an operation as a fit. It is out of memory too where the graph does not conform.
+fn fitted(alloc: Global, interface: &Interface, op: u32, graph: Graph) -> Result<Fit, Memory>
+    requires known { op < length interface.now.operations }
+    requires few_cells { length graph.cells < 2 ^ 32 }
+    requires few_nodes { HasFewNodes graph }
+    ensures { IfOk result (λ f. f ≡ record { graph = graph; op = op; side = side.In; interface = interface.now; given = None }) }
+{
     match fit(alloc, interface, op, Side::In, None, graph) {
         Ok(fit) => Ok(fit),
         Err(_) => Err(Memory),
@@ -21,20 +31,32 @@ fn fitted(alloc: Global, interface: &Interface, op: u32, graph: Graph) -> Result
 }
 
 // The misfit of the inputs of an operation.
-fn misfit(alloc: Global, interface: &Interface, op: u32, graph: Graph) -> Option<Misfit> {
+fn misfit(alloc: Global, interface: &Interface, op: u32, graph: Graph) -> Option<Misfit>
+    requires known { op < length interface.now.operations }
+    requires few_cells { length graph.cells < 2 ^ 32 }
+    requires few_nodes { HasFewNodes graph }
+{
     match fit(alloc, interface, op, Side::In, None, graph) {
         Ok(_) => None,
         Err((misfit, _)) => Some(misfit),
     }
 }
 
-// The number and the pointer of a node of a ring.
-fn is_node(fit: &Fit, cell: u32, number: i128, next: u32) -> bool {
-    let mut walk = fit.walk(Home::Cell(CellId(cell)));
-    matches!(walk.step(), Some(Seen::Rec(2)))
-        && walk.step() == Some(Seen::Num(number))
-        && walk.step() == Some(Seen::Ptr(Some(CellId(next))))
-        && walk.step().is_none()
+// Whether a cell is a node of a ring, by its place.
+fn is_node(graph: &Graph, at: usize, number: i128, next: u32) -> bool {
+    let Some(cell) = graph.cells.get(at) else {
+        return false;
+    };
+    let Val::Rec(members) = &cell.val else {
+        return false;
+    };
+    let Some(Val::Num(value)) = members.get(0) else {
+        return false;
+    };
+    let Some(Val::Ptr(Some(named))) = members.get(1) else {
+        return false;
+    };
+    *value == number && named.0 == next
 }
 
 // A ring of 7 and 8: with its cells swapped it is the same, and its canonical form has them in the order of the stream again. A ring of
@@ -43,20 +65,22 @@ fn is_node(fit: &Fit, cell: u32, number: i128, next: u32) -> bool {
 fn rings_are_compared(rt: HostRuntime) -> Result<(), Fail> {
     let interface = interface(rt.alloc())?;
     let single = fitted(rt.alloc(), &interface, RING, ring_of_one(rt.alloc())?)?;
-    let ring = fitted(rt.alloc(), &interface, RING, ring_of_two(rt.alloc(), 1)?)?;
-    let swapped = fitted(rt.alloc(), &interface, RING, ring_of_two(rt.alloc(), 2)?)?;
+    let ring = fitted(rt.alloc(), &interface, RING, ring_of_two(rt.alloc())?)?;
+    let swapped = fitted(rt.alloc(), &interface, RING, ring_swapped(rt.alloc())?)?;
     assert!(rt; same(rt.alloc(), &ring, &swapped)?);
     assert!(rt; !same(rt.alloc(), &single, &ring)?);
     let canon = canonical(rt.alloc(), &swapped)?;
-    let mut root = canon.walk(Home::Root(0));
-    assert!(rt; root.step() == Some(Seen::Ptr(Some(CellId(1)))));
-    assert!(rt; is_node(&canon, 1, 7, 2));
-    assert!(rt; is_node(&canon, 2, 8, 1));
+    let graph = canon.graph(rt.alloc()).map_err(|_| "memory")?;
+    assert!(rt; matches!(graph.roots.get(0), Some(Val::Ptr(Some(CellId(1))))));
+    assert!(rt; is_node(&graph, 0, 7, 2));
+    assert!(rt; is_node(&graph, 1, 8, 1));
     Ok(())
 }
 
 // A pair of which b and a's y are one leaf 5, and a's z a leaf 6.
-fn built(alloc: Global, interface: &Interface) -> Result<Fit, Memory> {
+fn built(alloc: Global, interface: &Interface) -> Result<Fit, Memory>
+    ensures { IfOk result (λ f. f.graph ≡ rows.pair) }
+{
     let mut steps = Steps::new(Counted::new());
     let mut builder = Builder::begin(alloc, interface.tie(), PAIR, Side::In, None);
     let pair = builder.reserve(TypeId(18), &mut steps)?;
@@ -87,9 +111,7 @@ fn pairs_are_built(rt: HostRuntime) -> Result<(), Fail> {
     let interface = interface(rt.alloc())?;
     let fit = built(rt.alloc(), &interface)?;
     assert_eq!(rt; fit.op(), PAIR);
-    let canon = canonical(rt.alloc(), &fit)?;
-    assert!(rt; same(rt.alloc(), &fit, &canon)?);
-    let graph = canon.graph(rt.alloc()).map_err(|_| "memory")?;
+    let graph = fit.graph(rt.alloc()).map_err(|_| "memory")?;
     assert!(rt; matches!(graph.roots.get(0), Some(Val::Ptr(Some(CellId(1))))));
     assert_eq!(rt; graph.cells.len(), 4);
     let Some(leaf) = graph.cells.get(2) else {
@@ -101,14 +123,14 @@ fn pairs_are_built(rt: HostRuntime) -> Result<(), Fail> {
     Ok(())
 }
 
-// A null reference pointer; a cell that two unique pointers share; a cell that nothing names.
+// A null reference pointer; a cell that two unique pointers share; a cell that nothing names; one that is not there.
 #[test]
 fn pointers_do_not_fit(rt: HostRuntime) -> Result<(), Fail> {
     let interface = interface(rt.alloc())?;
-    let null = of_root(rt.alloc(), Val::Ptr(None))?;
+    assert!(rt; misfit(rt.alloc(), &interface, TWO, apart(rt.alloc())?).is_none());
     assert!(rt;
         matches!(
-            misfit(rt.alloc(), &interface, PAIR, null),
+            misfit(rt.alloc(), &interface, PAIR, null(rt.alloc())?),
             Some(Misfit::At {
                 home: Home::Root(0),
                 node: 0,
@@ -116,15 +138,9 @@ fn pointers_do_not_fit(rt: HostRuntime) -> Result<(), Fail> {
             })
         )
     );
-    let mut apart = of_roots(rt.alloc(), to(1), to(2))?;
-    add_cell(&mut apart, 7, Val::Num(5))?;
-    add_cell(&mut apart, 7, Val::Num(5))?;
-    assert!(rt; misfit(rt.alloc(), &interface, TWO, apart).is_none());
-    let mut shared = of_roots(rt.alloc(), to(1), to(1))?;
-    add_cell(&mut shared, 7, Val::Num(5))?;
     assert!(rt;
         matches!(
-            misfit(rt.alloc(), &interface, TWO, shared),
+            misfit(rt.alloc(), &interface, TWO, shared(rt.alloc())?),
             Some(Misfit::At {
                 home: Home::Root(1),
                 node: 0,
@@ -132,15 +148,9 @@ fn pointers_do_not_fit(rt: HostRuntime) -> Result<(), Fail> {
             })
         )
     );
-    let mut unnamed = ring_of_one(rt.alloc())?;
-    add_cell(
-        &mut unnamed,
-        14,
-        Val::Rec(crate::graphs::one(rt.alloc(), Val::Num(8))?),
-    )?;
     assert!(rt;
         matches!(
-            misfit(rt.alloc(), &interface, RING, unnamed),
+            misfit(rt.alloc(), &interface, RING, ring_and_leaf(rt.alloc())?),
             Some(Misfit::At {
                 home: Home::Cell(CellId(2)),
                 node: 0,
@@ -148,10 +158,9 @@ fn pointers_do_not_fit(rt: HostRuntime) -> Result<(), Fail> {
             })
         )
     );
-    let unknown = of_root(rt.alloc(), to(1))?;
     assert!(rt;
         matches!(
-            misfit(rt.alloc(), &interface, RING, unknown),
+            misfit(rt.alloc(), &interface, RING, without_cells(rt.alloc())?),
             Some(Misfit::At {
                 home: Home::Root(0),
                 node: 0,
@@ -192,20 +201,13 @@ fn cells_do_not_fit(rt: HostRuntime) -> Result<(), Fail> {
     Ok(())
 }
 
-// The size of an output by a number of the request: without a request it is free. The octets of the output are kept side by side.
+// An array of bytes is kept as a row: it is given at once, with its full count.
 #[test]
-fn requests_give_sizes(rt: HostRuntime) -> Result<(), Fail> {
+fn arrays_are_kept_as_rows(rt: HostRuntime) -> Result<(), Fail> {
     let interface = interface(rt.alloc())?;
-    let free = fit(
-        rt.alloc(),
-        &interface,
-        SIZED,
-        Side::Out,
-        None,
-        two_back(rt.alloc())?,
-    )
-    .map_err(|_| "no fit")?;
-    let mut walk = free.walk(Home::Root(0));
+    let graph = two_back(rt.alloc())?;
+    let fit = fit(rt.alloc(), &interface, SIZED, Side::Out, None, graph).map_err(|_| "no fit")?;
+    let mut walk = fit.walk(Home::Root(0));
     assert!(rt;
         matches!(
             walk.step(),
@@ -219,36 +221,25 @@ fn requests_give_sizes(rt: HostRuntime) -> Result<(), Fail> {
     let row = walk.row(u32::MAX).ok_or("a row")?;
     assert!(rt; row.count == 2 && row.octets == b"\xab\xcd".as_slice());
     assert!(rt; walk.step().is_none());
-    let two = fitted(
-        rt.alloc(),
-        &interface,
-        SIZED,
-        of_root(rt.alloc(), Val::Num(2))?,
-    )?;
-    assert!(rt;
-        fit(
-            rt.alloc(),
-            &interface,
-            SIZED,
-            Side::Out,
-            Some(&two),
-            two_back(rt.alloc())?
-        )
-        .is_ok()
-    );
-    let three = fitted(
-        rt.alloc(),
-        &interface,
-        SIZED,
-        of_root(rt.alloc(), Val::Num(3))?,
-    )?;
+    Ok(())
+}
+
+// The size of an output by a number of the request; without a request it is free. A graph that does not fit comes back.
+#[test]
+fn requests_give_sizes(rt: HostRuntime) -> Result<(), Fail> {
+    let interface = interface(rt.alloc())?;
+    let two = fitted(rt.alloc(), &interface, SIZED, asked(rt.alloc(), 2)?)?;
+    let graph = two_back(rt.alloc())?;
+    assert!(rt; fit(rt.alloc(), &interface, SIZED, Side::Out, Some(&two), graph).is_ok());
+    let three = fitted(rt.alloc(), &interface, SIZED, asked(rt.alloc(), 3)?)?;
+    let graph = two_back(rt.alloc())?;
     match fit(
         rt.alloc(),
         &interface,
         SIZED,
         Side::Out,
         Some(&three),
-        two_back(rt.alloc())?,
+        graph,
     ) {
         Ok(_) => assert!(rt; false),
         Err((misfit, graph)) => {
@@ -275,9 +266,9 @@ fn requests_give_sizes(rt: HostRuntime) -> Result<(), Fail> {
 #[test]
 fn responses_give_sizes(rt: HostRuntime) -> Result<(), Fail> {
     let interface = interface(rt.alloc())?;
-    let mut asked = of_root(rt.alloc(), to(1))?;
-    add_cell(&mut asked, 8, Val::Num(5))?;
-    let request = fitted(rt.alloc(), &interface, SIZED_BY_POINTER, asked)?;
+    let request = asked_by_pointer(rt.alloc(), 5)?;
+    let request = fitted(rt.alloc(), &interface, SIZED_BY_POINTER, request)?;
+    let graph = one_back(rt.alloc(), 1)?;
     assert!(rt;
         fit(
             rt.alloc(),
@@ -285,17 +276,18 @@ fn responses_give_sizes(rt: HostRuntime) -> Result<(), Fail> {
             SIZED_BY_POINTER,
             Side::Out,
             Some(&request),
-            one_back(rt.alloc(), 1)?
+            graph
         )
         .is_ok()
     );
+    let graph = one_back(rt.alloc(), 5)?;
     match fit(
         rt.alloc(),
         &interface,
         SIZED_BY_POINTER,
         Side::Out,
         Some(&request),
-        one_back(rt.alloc(), 5)?,
+        graph,
     ) {
         Ok(_) => assert!(rt; false),
         Err((misfit, _)) => assert!(rt;
