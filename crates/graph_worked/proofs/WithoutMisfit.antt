@@ -1,6 +1,6 @@
 -- A graph of values of the program without a first misfit conforms: which cells are reached can be decided.
 -- `w` is a setting, `g` a graph, `p` a pointer, `b` and `c` are numbers of cells, `x` is a cell, `m` a misfit.
-use Rattle.std.proofs.Common.{◌≡◌, ℕ, ◌+◌, ◌<◌, ◌≤◌, ◌^◌, zero, suc, Bool, true, false, ◌||◌, eqb, List, [], ◌∷◌, length, Option, Some, None, refl, ap, sym, ◌∙◌, subst, inl, inr, ◌⊎◌, arith}
+use Rattle.std.proofs.Common.{◌≡◌, ℕ, ◌+◌, ◌<◌, ◌≤◌, ◌^◌, zero, suc, Bool, true, false, ◌||◌, eqb, ◌≢◌, List, [], ◌∷◌, length, Option, Some, None, refl, ap, sym, ◌∙◌, subst, inl, inr, ◌⊎◌, arith}
 use Rattle.std.specs.List.{list_all, slice_get}
 use Rattle.std.proofs.lemmas.Bool.{eqb-true, eq-eqb}
 use Rattle.std.proofs.lemmas.Option.{same_Some}
@@ -15,7 +15,7 @@ use Rattle.nd_value.specs.Conforms.{Conforms, HasFewNodes, Reached, by_root, by_
 use Rattle.nd_value.specs.FirstMisfit.{MisfitAt, first_local, first_shared, first_disagreeing, IsFirstUnreached, IsFirstMisfit, is_local, is_shared, is_unreached, is_disagreeing}
 use Rattle.nd_value.proofs.FewRoots.{past_end}
 use Rattle.nd_value.proofs.Misfits.{passed_conforms}
-use Rattle.graph_worked.proofs.Levels.{or_parts, level, level_on, gone_from, last_level, in_last, IsLast}
+use Rattle.graph_worked.proofs.Levels.{or_parts, level, gone, level_on, gone_from, last_level, in_last, IsLast}
 
 -- one of the pointers names the cell
 abbrev is_cell : Option ℕ → ℕ → Bool
@@ -43,22 +43,21 @@ cell_is (Some d) c h = ap Some (eqb-true d c h)
 
 names_has : (ps : List Pending) (c : ℕ) → names ps c ≡ true → (p : Pending) × Among ps p × (p.cell ≡ Some c)
 names_has [] c h = cc
-names_has (q ∷ ps) c h = go (or_parts (is_cell q.cell c) (names ps c) h)
+names_has (q ∷ ps) c h = go (or_parts (is_cell q.cell c) (names ps c) h) (names_has ps c)
   where
-    go : (is_cell q.cell c ≡ true) ⊎ (names ps c ≡ true) → (p : Pending) × Among (q ∷ ps) p × (p.cell ≡ Some c)
-    go (inl m) = (q, inl refl, cell_is q.cell c m)
-    go (inr m) = let (p, a, e) = names_has ps c m in (p, inr a, e)
+    go : (is_cell q.cell c ≡ true) ⊎ (names ps c ≡ true) → (names ps c ≡ true → (p : Pending) × Among ps p × (p.cell ≡ Some c))
+        → (p : Pending) × Among (q ∷ ps) p × (p.cell ≡ Some c)
+    go (inl m) rest = (q, inl refl, cell_is q.cell c m)
+    go (inr m) rest = let (p, a, e) = rest m in (p, inr a, e)
+
+below : (xs : List Referent) (x : Referent) (j : ℕ) → slice_get xs j ≡ Some x → j < length xs
+below [] x j h = cc
+below (y ∷ xs) x zero h = omega arith
+below (y ∷ xs) x (suc j) h = let r = below xs x j h in omega (arith, r)
 
 cell_below : (g : Graph) (b : ℕ) (x : Referent) → cell_of_number g b ≡ Some x → (0 < b) × (b ≤ length g.cells)
 cell_below g zero x e = cc
-cell_below g (suc i) x e = (omega arith, go (eqb_tells 0 0) e)
-  where
-    below : (xs : List Referent) (j : ℕ) → slice_get xs j ≡ Some x → j < length xs
-    below [] j h = cc
-    below (y ∷ xs) zero h = omega arith
-    below (y ∷ xs) (suc j) h = let r = below xs j h in omega (arith, r)
-    go : {X : Type 0} → X → slice_get g.cells i ≡ Some x → suc i ≤ length g.cells
-    go u h = let r = below g.cells i h in omega (arith, r)
+cell_below g (suc i) x e = (omega arith, (let r = below g.cells x i e in omega (arith, r)))
 
 module _ (w : Setting) (g : Graph) where
   abbrev starts : ℕ → Bool
@@ -84,16 +83,20 @@ module _ (w : Setting) (g : Graph) where
 
   reached_by : (l c : ℕ) → reached_at l c ≡ true → Reached w g c
   reached_by zero c h = let (p, a, e) = names_has (root_pointers w.table 0 (root_list w) g.roots) c h in by_root p a e
-  reached_by (suc l) c h = go (or_parts (reached_at l c) _ h)
+  reached_by (suc l) c h = go (or_parts (reached_at l c) (gone starts goes (length g.cells) (reached_at l) c (length g.cells)) h) (reached_by l)
     where
-      edge : (b : ℕ) (o : Option Referent) → cell_of_number g b ≡ o → reached_at l b ≡ true → goes_by o b c ≡ true → Reached w g c
-      edge b None there x y = cc
-      edge b (Some u) there x y =
+      edge : (b : ℕ) (o : Option Referent) → cell_of_number g b ≡ o → Reached w g b → goes_by o b c ≡ true → Reached w g c
+      edge b None there r y = cc
+      edge b (Some u) there r y =
           let (p, a, e) = names_has (home_pointers w.table (cell_home b) u.of u.val) c y in
-          by_cell u p (reached_by l b x) there a e
-      go : (reached_at l c ≡ true) ⊎ _ → Reached w g c
-      go (inl m) = reached_by l c m
-      go (inr m) = let (b, low, high, x, y) = gone_from starts goes (length g.cells) (reached_at l) c (length g.cells) m in edge b (cell_of_number g b) refl x y
+          by_cell u p r there a e
+
+      go : (reached_at l c ≡ true) ⊎ (gone starts goes (length g.cells) (reached_at l) c (length g.cells) ≡ true)
+          → ((b : ℕ) → reached_at l b ≡ true → Reached w g b) → Reached w g c
+      go (inl m) before = before c m
+      go (inr m) before =
+          let (b, low, high, x, y) = gone_from starts goes (length g.cells) (reached_at l) c (length g.cells) m in
+          edge b (cell_of_number g b) refl (before b x) y
 
   decided : (c : ℕ) → 0 < c → c ≤ length g.cells → Reached w g c ⊎ ¬ Reached w g c
   decided c low high = let (k, last) = last_level starts goes (length g.cells) in go k last (reached_at k c) refl
@@ -123,6 +126,7 @@ module _ (w : Setting) (g : Graph) where
               by (inl e) = subst (Reached w g) (sym e.1) r
               by (inr e) = all c low (omega (arith, high, e.1))
       last all (inr r) = inr (suc n, record { is_cell = (omega arith, few); unreached = r; earlier = λ d low high. all d low (omega (arith, high)) })
+
       go : AllTo n ⊎ ((c : ℕ) × IsFirstUnreached w g c) → AllTo (suc n) ⊎ ((c : ℕ) × IsFirstUnreached w g c)
       go (inl all) = last all (decided (suc n) (omega arith) few)
       go (inr first) = inr first
