@@ -85,7 +85,7 @@ impl Fit {
 
     /// The same with its cells renumbered: `numbers` are the new numbers by the old ones, from 0, and `cells` the old numbers in the
     /// order of the new ones, from 1. The listed cells must be there, and the graph conform after it as before. It takes memory for
-    /// all nodes, octets, roots and cells. Want of memory is the only refusal.
+    /// all nodes, octets, roots and cells. Out of memory is the only refusal.
     pub fn renumbered(&self, alloc: Global, numbers: &[u32], cells: &[u32]) -> Result<Fit, Memory>
         requires there { AreThere (length self.now.graph.cells) cells.now }
         requires fits { IsFit (renumbered_fitting numbers.now cells.now self.now) }
