@@ -136,7 +136,13 @@ fn write_input<S: Source>(
 {
     let text = read_input(alloc, input, TEXT_LIMIT)?;
     match how {
-        Writing::Encode { order, chunk } => encode(alloc, ready, order.order(), chunk, text.as_slice()),
+        Writing::Encode { order, chunk } => encode(
+            alloc,
+            ready,
+            order.order(),
+            chunk,
+            text.as_slice(),
+        ),
         Writing::Migrate => migrate(alloc, ready, text.as_slice()),
     }
 }

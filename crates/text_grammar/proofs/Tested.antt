@@ -103,7 +103,7 @@ token_tested (c ∷ d ∷ cs) (Bytes octets) rest e = by (eqb c 120 && eqb d 34)
   by : (b : Bool) → (eqb c 120 && eqb d 34) ≡ b → elim b as (λ _. Option (List ℕ)) [ true ↦ string_test hex_pair octets cs | false ↦ None ] ≡ Some rest
       → Spells (c ∷ d ∷ cs) (Bytes octets) rest
   by true h e = let p = and_parts (eqb c 120) (eqb d 34) h in
-    (cs, ap₂ (λ x y. x ∷ y ∷ cs) (eqb-true c 120 p.0) (eqb-true d 34 p.1), string_tested hex_pair octets cs rest e)
+      (cs, ap₂ (λ x y. x ∷ y ∷ cs) (eqb-true c 120 p.0) (eqb-true d 34 p.1), string_tested hex_pair octets cs rest e)
   by false h e = cc
 token_tested text (Uuid id) rest e =
     let g = given_true (has_form uuid_form (take 36 text) && bytes_eq id (uuid_octets (take 36 text))) (drop 36 text) rest e in
@@ -136,12 +136,12 @@ cut_tested : (how : Cutting) (text : List ℕ) (t : Token) (rest : List ℕ) →
 cut_tested how text t rest e = by (is_kind how text t) refl e where
   by : (b : Bool) → is_kind how text t ≡ b → elim b as (λ _. Option (List ℕ)) [ true ↦ token_test (skip text) t | false ↦ None ] ≡ Some rest → IsCut how text t rest
   by true h e =
-    let p = and_parts (same (is_uuid t) (how.uuid && has_form uuid_form (take 36 (skip text)))) (same (is_bytes t) (how.bytes && begins_bytes (skip text))) h in
-    record {
-      spelled = token_tested (skip text) t rest e;
-      uuid = same_true (is_uuid t) (how.uuid && has_form uuid_form (take 36 (skip text))) p.0;
-      bytes = same_true (is_bytes t) (how.bytes && begins_bytes (skip text)) p.1;
-    }
+      let p = and_parts (same (is_uuid t) (how.uuid && has_form uuid_form (take 36 (skip text)))) (same (is_bytes t) (how.bytes && begins_bytes (skip text))) h in
+      record {
+        spelled = token_tested (skip text) t rest e;
+        uuid = same_true (is_uuid t) (how.uuid && has_form uuid_form (take 36 (skip text))) p.0;
+        bytes = same_true (is_bytes t) (how.bytes && begins_bytes (skip text)) p.1;
+      }
   by false h e = cc
 
 abbrev pub begins_test : List Token → List ℕ → List Token → Option (List ℕ)

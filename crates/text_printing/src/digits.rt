@@ -32,8 +32,7 @@ pub(crate) fn append_hex(text: &mut Octets, octet: u8) -> Result<(), Memory>
 }
 
 /// The 16 octets of an identifier as a UUID is written.
-pub(crate) fn append_uuid(text: &mut Octets, id: &Uuid) -> Result<(), Memory>
-{
+pub(crate) fn append_uuid(text: &mut Octets, id: &Uuid) -> Result<(), Memory> {
     let octets = id.as_bytes();
     for at in 0..octets.len() {
         if at == 4 || at == 6 || at == 8 || at == 10 {

@@ -63,8 +63,7 @@ pub fn print_value(
 }
 
 /// `values 2`, and the operation with its side.
-fn append_head(text: &mut Octets, name: &[u8], side: Side) -> Result<(), Memory>
-{
+fn append_head(text: &mut Octets, name: &[u8], side: Side) -> Result<(), Memory> {
     text.append(b"values 2\nop ")?;
     text.append(name)?;
     text.append(match side {
@@ -79,8 +78,7 @@ fn append_roots(
     text: &mut Octets,
     interface: &Interface,
     fit: &Fit,
-) -> Result<(), Memory>
-{
+) -> Result<(), Memory> {
     let mut at = 0;
     for root in interface.params(fit.op(), fit.side()) {
         text.append(root.name)?;
@@ -101,8 +99,7 @@ fn append_cells(
     text: &mut Octets,
     interface: &Interface,
     graph: &FlatGraph,
-) -> Result<(), Memory>
-{
+) -> Result<(), Memory> {
     for at in 0..graph.cell_count() {
         text.append(b"@")?;
         append_count(text, at as u32 + 1)?;
@@ -110,7 +107,13 @@ fn append_cells(
         let mut nodes = FlatNodes {
             walk: graph.cell_walk(at),
         };
-        append_value(alloc, text, &interface.types, graph.cell_type(at), &mut nodes)?;
+        append_value(
+            alloc,
+            text,
+            &interface.types,
+            graph.cell_type(at),
+            &mut nodes,
+        )?;
         text.append(b"\n")?;
     }
     Ok(())

@@ -6,7 +6,10 @@ use nd_types::{Fields, TypeId};
 #[derive(Clone, Copy)]
 pub(crate) enum Open<'a> {
     /// A struct, with the place of its next member.
-    Struct { members: &'a Fields, next: usize },
+    Struct {
+        members: &'a Fields,
+        next: usize,
+    },
     /// An array or a pipe: the type of its elements, whether none is written yet, and how many are to come.
     List {
         elem: TypeId,
@@ -14,15 +17,16 @@ pub(crate) enum Open<'a> {
         left: usize,
     },
     /// A union whose arm has a value, which is to come.
-    Arm { of: TypeId },
+    Arm {
+        of: TypeId,
+    },
     /// The same after the value.
     Done,
 }
 
 /// The type of the next part of what is open, after what comes before it in the text; None where no part is to come, after what
 /// closes it.
-pub(crate) fn next_part(text: &mut Octets, open: &mut Open<'_>) -> Result<Option<TypeId>, Memory>
-{
+pub(crate) fn next_part(text: &mut Octets, open: &mut Open<'_>) -> Result<Option<TypeId>, Memory> {
     match *open {
         Open::Struct { members, next } => {
             let Some(member) = members.get(next) else {

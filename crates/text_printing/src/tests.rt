@@ -3,8 +3,8 @@ use crate::{path, print, print_value, quoted};
 use nd_base::{Memory, Name};
 use nd_flat::{Builder, Fit, Seen};
 use nd_types::{
-    AttrVars, Field, Fields, Interface, Operation, Operations, Param, Params, Side, TypeDef, TypeId, Types,
-    Way, Class,
+    AttrVars, Class, Field, Fields, Interface, Operation, Operations, Param, Params, Side, TypeDef,
+    TypeId, Types, Way,
 };
 use nd_value::{Cells, Graph, Home, Val, Vals};
 use std::alloc::Global;
@@ -89,14 +89,21 @@ fn a_value_is_printed(rt: HostRuntime) -> Result<(), Fail> {
     let interface = interface(rt.alloc())?;
     let val = node(rt.alloc(), -7, 3)?;
     let text = print_value(rt.alloc(), &interface, TypeId(12), &val)?;
-    assert_eq!(rt; text.as_slice(), b"{v = -7, b = x\"abcd\", next = @3}".as_slice());
+    assert_eq!(rt;
+        text.as_slice(),
+        b"{v = -7, b = x\"abcd\", next = @3}".as_slice()
+    );
     Ok(())
 }
 
 fn add_node(builder: &mut Builder, v: i128, next: u32) -> Result<(), Memory> {
     builder.add(&Seen::Rec(3))?;
     builder.add(&Seen::Num(v))?;
-    builder.add(&Seen::Arr { max: 2, offset: 0, count: 2 })?;
+    builder.add(&Seen::Arr {
+        max: 2,
+        offset: 0,
+        count: 2,
+    })?;
     builder.add(&Seen::Num(1))?;
     builder.add(&Seen::Num(2))?;
     builder.add(&Seen::Ptr(Some(nd_value::CellId(next))))
@@ -121,7 +128,10 @@ fn a_graph_is_printed(rt: HostRuntime) -> Result<(), Fail> {
     let interface = interface(rt.alloc())?;
     let fit = ring(rt.alloc(), &interface)?;
     let text = print(rt.alloc(), &interface, &fit)?;
-    assert_eq!(rt; text.as_slice(), b"values 2\nop ring in\np = @1\n@1 = {v = 7, b = x\"0102\", next = @2}\n@2 = {v = 8, b = x\"0102\", next = @1}\n".as_slice());
+    assert_eq!(rt;
+        text.as_slice(),
+        b"values 2\nop ring in\np = @1\n@1 = {v = 7, b = x\"0102\", next = @2}\n@2 = {v = 8, b = x\"0102\", next = @1}\n".as_slice()
+    );
     Ok(())
 }
 
@@ -130,13 +140,45 @@ fn nodes_have_paths(rt: HostRuntime) -> Result<(), Fail> {
     let interface = interface(rt.alloc())?;
     let fit = ring(rt.alloc(), &interface)?;
     let graph = fit.graph(rt.alloc()).map_err(|_| "memory")?;
-    let element = path(rt.alloc(), &interface, 0, Side::In, &graph, Home::Cell(nd_value::CellId(2)), 4)?;
+    let element = path(
+        rt.alloc(),
+        &interface,
+        0,
+        Side::In,
+        &graph,
+        Home::Cell(nd_value::CellId(2)),
+        4,
+    )?;
     assert_eq!(rt; element.as_slice(), b"@2.b[1]".as_slice());
-    let next = path(rt.alloc(), &interface, 0, Side::In, &graph, Home::Cell(nd_value::CellId(1)), 5)?;
+    let next = path(
+        rt.alloc(),
+        &interface,
+        0,
+        Side::In,
+        &graph,
+        Home::Cell(nd_value::CellId(1)),
+        5,
+    )?;
     assert_eq!(rt; next.as_slice(), b"@1.next".as_slice());
-    let root = path(rt.alloc(), &interface, 0, Side::In, &graph, Home::Root(0), 0)?;
+    let root = path(
+        rt.alloc(),
+        &interface,
+        0,
+        Side::In,
+        &graph,
+        Home::Root(0),
+        0,
+    )?;
     assert_eq!(rt; root.as_slice(), b"p".as_slice());
-    let other = path(rt.alloc(), &interface, 0, Side::In, &graph, Home::Root(1), 0)?;
+    let other = path(
+        rt.alloc(),
+        &interface,
+        0,
+        Side::In,
+        &graph,
+        Home::Root(1),
+        0,
+    )?;
     assert_eq!(rt; other.as_slice(), b"root".as_slice());
     Ok(())
 }

@@ -14,8 +14,7 @@ pub(crate) fn append_value<N: Nodes>(
     types: &Types,
     of: TypeId,
     nodes: &mut N,
-) -> Result<(), Memory>
-{
+) -> Result<(), Memory> {
     let mut open = Vec::new(alloc);
     let mut next = Some(of);
     while let Some(of) = next {
@@ -30,8 +29,7 @@ pub(crate) fn append_value<N: Nodes>(
 }
 
 /// The type of the next node, after what comes before it in the text; None where the value is whole.
-fn next_type(text: &mut Octets, open: &mut Vec<Open<'_>>) -> Result<Option<TypeId>, Memory>
-{
+fn next_type(text: &mut Octets, open: &mut Vec<Open<'_>>) -> Result<Option<TypeId>, Memory> {
     while let Some(parts) = open.last_mut() {
         if let Some(of) = next_part(text, parts)? {
             return Ok(Some(of));
@@ -47,8 +45,7 @@ fn append_node<'a, N: Nodes>(
     types: &'a Types,
     of: TypeId,
     nodes: &mut N,
-) -> Result<Option<Open<'a>>, Memory>
-{
+) -> Result<Option<Open<'a>>, Memory> {
     let def = types.get(of.0 as usize);
     match (nodes.next()?, def) {
         (Some(Node::Num(value)), _) => append_number(text, value)?,
@@ -58,11 +55,13 @@ fn append_node<'a, N: Nodes>(
         }
         (
             Some(Node::Arr { max, offset, count }),
-            Some(TypeDef::Array {
-                elem,
-                bound,
-                varying,
-            }),
+            Some(
+                TypeDef::Array {
+                    elem,
+                    bound,
+                    varying,
+                },
+            ),
         ) => {
             append_counts(text, *bound, *varying, max, offset)?;
             return append_list(text, types, *elem, count, nodes);
@@ -102,8 +101,7 @@ fn append_counts(
     varying: bool,
     max: u32,
     offset: u32,
-) -> Result<(), Memory>
-{
+) -> Result<(), Memory> {
     if !varying {
         return Ok(());
     }
@@ -121,8 +119,7 @@ fn append_text(
     bound: Option<u32>,
     max: u32,
     octets: &[u8],
-) -> Result<(), Memory>
-{
+) -> Result<(), Memory> {
     if bound.is_none() {
         append_count(text, max)?;
         text.append(b":")?;
@@ -137,8 +134,7 @@ fn append_list<'a, N: Nodes>(
     elem: TypeId,
     count: usize,
     nodes: &mut N,
-) -> Result<Option<Open<'a>>, Memory>
-{
+) -> Result<Option<Open<'a>>, Memory> {
     if let Some(TypeDef::Prim(Prim::Byte)) = types.get(elem.0 as usize) {
         append_bytes(text, count, nodes)?;
         return Ok(None);
@@ -152,8 +148,7 @@ fn append_list<'a, N: Nodes>(
 }
 
 /// So many bytes.
-fn append_bytes<N: Nodes>(text: &mut Octets, count: usize, nodes: &mut N) -> Result<(), Memory>
-{
+fn append_bytes<N: Nodes>(text: &mut Octets, count: usize, nodes: &mut N) -> Result<(), Memory> {
     text.append(b"x\"")?;
     for _ in 0..count {
         let Some(Node::Num(value)) = nodes.next()? else {
@@ -165,8 +160,7 @@ fn append_bytes<N: Nodes>(text: &mut Octets, count: usize, nodes: &mut N) -> Res
 }
 
 /// The value of an arm, which is to come; `void` where it has none.
-fn append_arm<'a>(text: &mut Octets, arm: Option<&Arm>) -> Result<Option<Open<'a>>, Memory>
-{
+fn append_arm<'a>(text: &mut Octets, arm: Option<&Arm>) -> Result<Option<Open<'a>>, Memory> {
     match arm.and_then(|arm| arm.of) {
         Some(of) => Ok(Some(Open::Arm { of })),
         None => {
@@ -177,8 +171,7 @@ fn append_arm<'a>(text: &mut Octets, arm: Option<&Arm>) -> Result<Option<Open<'a
 }
 
 /// The arm that a tag selects: the one with that label, or the default, if any.
-pub(crate) fn selected<'a>(arms: &'a Arms, default: &'a Option<Arm>, tag: i128) -> Option<&'a Arm>
-{
+pub(crate) fn selected<'a>(arms: &'a Arms, default: &'a Option<Arm>, tag: i128) -> Option<&'a Arm> {
     for at in 0..arms.len() {
         let Some(arm) = arms.get(at) else {
             unreachable!()

@@ -62,7 +62,13 @@ fn fault(alloc: Global, interface: &Interface, text: &[u8]) -> Option<(u32, u32,
     match read_text(alloc, interface, 0, Side::In, text) {
         Ok(_) => None,
         Err(TextFault::Memory) => None,
-        Err(TextFault::At { line, column, reason }) => Some((line, column, reason)),
+        Err(
+            TextFault::At {
+                line,
+                column,
+                reason,
+            },
+        ) => Some((line, column, reason)),
     }
 }
 
@@ -83,7 +89,8 @@ fn numbers_of(graph: &Graph, at: usize) -> Option<[i128; 3]> {
 #[test]
 fn texts_are_read(rt: HostRuntime) -> Result<(), Fail> {
     let interface = interface(rt.alloc())?;
-    let two = b"values 2\nop ring in\np = @1\n@1 = {v = -7, b = x\"aBcd\", next = @2}\n@2 = {v = 8, b = x\"0102\", next = @1}\n";
+    let two =
+        b"values 2\nop ring in\np = @1\n@1 = {v = -7, b = x\"aBcd\", next = @2}\n@2 = {v = 8, b = x\"0102\", next = @1}\n";
     let graph = read_text(rt.alloc(), &interface, 0, Side::In, two)?;
     assert_eq!(rt; numbers_of(&graph, 0), Some([-7, 171, 205]));
     assert_eq!(rt; numbers_of(&graph, 1), Some([8, 1, 2]));
@@ -96,17 +103,69 @@ fn texts_are_read(rt: HostRuntime) -> Result<(), Fail> {
 #[test]
 fn texts_are_refused(rt: HostRuntime) -> Result<(), Fail> {
     let i = interface(rt.alloc())?;
-    assert_eq!(rt; fault(rt.alloc(), &i, b"values 3"), Some((1, 8, TextReason::Expected)));
-    assert_eq!(rt; fault(rt.alloc(), &i, b"values 02"), Some((1, 8, TextReason::BadToken)));
-    assert_eq!(rt; fault(rt.alloc(), &i, b"values 2\nop rang in"), Some((2, 4, TextReason::OtherName)));
-    assert_eq!(rt; fault(rt.alloc(), &i, b"values 2\nop ring in p = @1 @2 = {"), Some((2, 19, TextReason::OutOfOrder)));
-    assert_eq!(rt; fault(rt.alloc(), &i, b"values 2\nop ring in p = null @1 = {"), Some((2, 21, TextReason::Unnamed)));
-    assert_eq!(rt; fault(rt.alloc(), &i, b"values 2\nop ring in p = @01"), Some((2, 16, TextReason::BadToken)));
-    assert_eq!(rt; fault(rt.alloc(), &i, b"values 2\nop ring in p=@1 @1={b="), Some((2, 21, TextReason::OtherName)));
-    assert_eq!(rt; fault(rt.alloc(), &i, b"values 2\nop ring in p=@1 @1={v=1,b=[1,2]"), Some((2, 27, TextReason::Expected)));
-    assert_eq!(rt; fault(rt.alloc(), &i, b"values 2\nop ring in p=@1 @1={v=1,b=x\"0\""), Some((2, 27, TextReason::BadToken)));
-    assert_eq!(rt; fault(rt.alloc(), &i, b"values 1\nop ring in p=@1 @1={v=1,b=x\"00\""), Some((2, 27, TextReason::Expected)));
-    assert_eq!(rt; fault(rt.alloc(), &i, b"values 2\nop ring in p=@1 @1={v=1,b=x\"00\",next=null}\n\n"), None);
-    assert_eq!(rt; fault(rt.alloc(), &i, b"values 2\nop ring in p=@1 @1={v=1,b=x\"00\",next=\n\n"), Some((4, 1, TextReason::Expected)));
+    assert_eq!(rt;
+        fault(rt.alloc(), &i, b"values 3"),
+        Some((1, 8, TextReason::Expected))
+    );
+    assert_eq!(rt;
+        fault(rt.alloc(), &i, b"values 02"),
+        Some((1, 8, TextReason::BadToken))
+    );
+    assert_eq!(rt;
+        fault(rt.alloc(), &i, b"values 2\nop rang in"),
+        Some((2, 4, TextReason::OtherName))
+    );
+    assert_eq!(rt;
+        fault(rt.alloc(), &i, b"values 2\nop ring in p = @1 @2 = {"),
+        Some((2, 19, TextReason::OutOfOrder))
+    );
+    assert_eq!(rt;
+        fault(rt.alloc(), &i, b"values 2\nop ring in p = null @1 = {"),
+        Some((2, 21, TextReason::Unnamed))
+    );
+    assert_eq!(rt;
+        fault(rt.alloc(), &i, b"values 2\nop ring in p = @01"),
+        Some((2, 16, TextReason::BadToken))
+    );
+    assert_eq!(rt;
+        fault(rt.alloc(), &i, b"values 2\nop ring in p=@1 @1={b="),
+        Some((2, 21, TextReason::OtherName))
+    );
+    assert_eq!(rt;
+        fault(rt.alloc(), &i, b"values 2\nop ring in p=@1 @1={v=1,b=[1,2]"),
+        Some((2, 27, TextReason::Expected))
+    );
+    assert_eq!(rt;
+        fault(
+            rt.alloc(),
+            &i,
+            b"values 2\nop ring in p=@1 @1={v=1,b=x\"0\""
+        ),
+        Some((2, 27, TextReason::BadToken))
+    );
+    assert_eq!(rt;
+        fault(
+            rt.alloc(),
+            &i,
+            b"values 1\nop ring in p=@1 @1={v=1,b=x\"00\""
+        ),
+        Some((2, 27, TextReason::Expected))
+    );
+    assert_eq!(rt;
+        fault(
+            rt.alloc(),
+            &i,
+            b"values 2\nop ring in p=@1 @1={v=1,b=x\"00\",next=null}\n\n"
+        ),
+        None
+    );
+    assert_eq!(rt;
+        fault(
+            rt.alloc(),
+            &i,
+            b"values 2\nop ring in p=@1 @1={v=1,b=x\"00\",next=\n\n"
+        ),
+        Some((4, 1, TextReason::Expected))
+    );
     Ok(())
 }

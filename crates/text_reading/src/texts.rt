@@ -84,7 +84,11 @@ fn whole_text(
 }
 
 /// `values`, the version, and the operation with its side.
-fn head<'a>(text: &'a [u8], operation: &Operation, side: Side) -> Result<(Version, &'a [u8]), Stop> {
+fn head<'a>(
+    text: &'a [u8],
+    operation: &Operation,
+    side: Side,
+) -> Result<(Version, &'a [u8]), Stop> {
     let rest = word(Version::One, text, b"values")?;
     let (of, rest) = version(rest)?;
     let rest = word(of, rest, b"op")?;

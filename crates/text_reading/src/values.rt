@@ -34,11 +34,13 @@ pub(crate) fn value<'a>(
             Ok((Val::Num(value), rest))
         }
         Some(TypeDef::Struct { members }) => structure(under, names, members, text),
-        Some(TypeDef::Array {
-            elem,
-            bound,
-            varying,
-        }) => array(under, names, *elem, *bound, *varying, text),
+        Some(
+            TypeDef::Array {
+                elem,
+                bound,
+                varying,
+            },
+        ) => array(under, names, *elem, *bound, *varying, text),
         Some(TypeDef::Text { bound, .. }) => string(under, *bound, text),
         Some(TypeDef::Union { arms, default, .. }) => union(under, names, arms, default, text),
         Some(TypeDef::Pointer { to, .. }) => pointer(under, names, *to, text),
@@ -218,12 +220,7 @@ fn selected<'a>(arms: &'a Arms, default: &'a Option<Arm>, tag: i128) -> Option<&
 }
 
 /// `null`, or the number of a cell, which is noted.
-fn pointer<'a>(
-    under: Grammar<'_>,
-    names: &mut Names,
-    to: TypeId,
-    text: &'a [u8],
-) -> Read<'a> {
+fn pointer<'a>(under: Grammar<'_>, names: &mut Names, to: TypeId, text: &'a [u8]) -> Read<'a> {
     let next = next(under.version, text);
     match next.lexeme {
         Lexeme::Word(octets) if octets == b"null".as_slice() => Ok((Val::Ptr(None), next.rest)),
