@@ -1,0 +1,6 @@
+pub mod Continuing
+pub mod FlatNodes
+pub mod ChildPlaces
+pub mod Worklist
+pub mod FromPoint
+pub mod HomePointers
