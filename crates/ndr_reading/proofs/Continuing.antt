@@ -1,25 +1,23 @@
 -- What is left to be read stays the same as reading goes on: at the beginning of a node, from child to child, at its end; and where reading has stopped
 -- it stays so.
-use Rattle.std.proofs.Common.{◌≡◌, ℕ, ◌+◌, zero, suc, Bool, true, false, List, [], ◌∷◌, ◌++◌, length, Option, Some, None, refl, ap, sym, ◌∙◌}
-use Rattle.std.specs.Prelude.{pos, cond, ◌&&◌, not, map, replicate}
+use Rattle.std.proofs.Common.{◌≡◌, ℕ, ◌+◌, zero, suc, Bool, true, false, List, [], ◌∷◌, ◌++◌, Option, Some, None, refl, ap, sym, ◌∙◌}
+use Rattle.std.specs.Prelude.{pos, ◌&&◌, not, map, replicate}
 use Rattle.nd_base.specs.declared.octets.Order.{Order}
 use Rattle.nd_types.specs.declared.types.TypeDef.{TypeDef}
 use Rattle.nd_types.specs.declared.types.TypeDef.TheVariants as def
 use Rattle.nd_types.specs.declared.types.Arm.{Arm}
-use Rattle.nd_types.specs.declared.types.Class.{Class}
-use Rattle.nd_types.specs.declared.types.Class.TheVariants.{Ref, Unique, Full}
-use Rattle.nd_types.specs.Table.{Table, type_at, width}
-use Rattle.nd_types.specs.Layout.{align_of, hoists}
+use Rattle.nd_types.specs.Table.{Table, type_at}
+use Rattle.nd_types.specs.Layout.{hoists}
 use Rattle.nd_value.specs.declared.item.Home.{Home}
 use Rattle.nd_value.specs.Tree as tree
 use Rattle.nd_value.specs.Tree.{Tree, Trees, node, none, more, joined, Label, Flat, flat, count}
 use Rattle.nd_value.specs.Nodes.{child_agreements, child_types}
 use Rattle.nd_grammar.specs.InPlace.{child_tests}
 use Rattle.nd_grammar.specs.declared.reason.Reason.{Reason}
-use Rattle.nd_grammar.specs.Entry.{Entry, EntryAt, size_at, Align}
+use Rattle.nd_grammar.specs.Entry.{Entry, EntryAt, size_at}
 use Rattle.nd_grammar.specs.Refusal.{refusal}
-use Rattle.nd_grammar.specs.Reader.{Progress, Names, Read, ReadAll, here, advanced, pass, pass_all, taken, read_list, read_in_place, read_children, read_array, read_tagged, read_union, read_by, read_if, tree_nodes, is_stopped, bound_or}
-use Rattle.ndr_reading.specs.Halves.{gap_of, past_gap, after_gap, tagged_after, array_gap, tag_gap}
+use Rattle.nd_grammar.specs.Reader.{Progress, Names, Read, ReadAll, advanced, pass, pass_all, read_list, read_in_place, read_children, read_tagged, read_by, read_if, tree_nodes, bound_or}
+use Rattle.ndr_reading.specs.Halves.{gap_of, past_gap, after_gap, tagged_after, tag_gap}
 use Rattle.ndr_reading.specs.Around.{Around, going, stopped, opened, moved, with_left, closed, continue, go_on, finish}
 
 module _ (order : Order) (octets : List ℕ) where

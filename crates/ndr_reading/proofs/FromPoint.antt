@@ -1,6 +1,6 @@
 -- From point to point within a value: what is left to be read at a point is what is left at the next one, after the entry between them. One law for each
 -- form of types.
-use Rattle.std.proofs.Common.{◌≡◌, ℕ, ◌+◌, ◌-◌, zero, suc, Bool, true, false, List, [], ◌∷◌, ◌++◌, Option, Some, None, refl, ap, sym, ◌∙◌, arith}
+use Rattle.std.proofs.Common.{◌≡◌, ℕ, ◌+◌, ◌-◌, suc, Bool, true, false, List, [], ◌∷◌, ◌++◌, Option, Some, None, refl, ap, sym, ◌∙◌, arith}
 use Rattle.std.specs.Prelude.{ℤ, pos, replicate}
 use Rattle.nd_base.specs.declared.octets.Order.{Order}
 use Rattle.nd_types.specs.declared.types.Attr.{Attr}
@@ -14,7 +14,7 @@ use Rattle.nd_value.specs.Tree as tree
 use Rattle.nd_value.specs.Tree.{Tree, Trees, node, none, more, joined, Label}
 use Rattle.nd_value.specs.Agreement.{Agreement}
 use Rattle.nd_value.specs.Nodes.{child_types, child_agreements}
-use Rattle.nd_grammar.specs.Entry.{Entry, EntryAt, Align, Max, Offset, Actual, Tag, Text, Test}
+use Rattle.nd_grammar.specs.Entry.{Entry, EntryAt, Align, Offset, Actual, Tag, Text, Test}
 use Rattle.nd_grammar.specs.InPlace.{child_tests}
 use Rattle.nd_grammar.specs.Refusal.{refusal}
 use Rattle.nd_grammar.specs.Reader.{Progress, Names, Read, pass, pass_all, taken, number_in, value_in, text_in, bound_or, entry, read_children, read_by, read_in_place, read_hoisted}

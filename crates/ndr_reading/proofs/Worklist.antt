@@ -1,5 +1,5 @@
 -- What is due to the plain reader: the first of it, the end, and that where reading has stopped it stays so to the end of the stream.
-use Rattle.std.proofs.Common.{◌≡◌, ℕ, ◌+◌, zero, suc, Bool, true, false, List, [], ◌∷◌, ◌++◌, length, Option, Some, None, refl, ap, sym, ◌∙◌, drop, replicate}
+use Rattle.std.proofs.Common.{◌≡◌, ℕ, ◌+◌, zero, suc, Bool, true, false, List, [], ◌∷◌, ◌++◌, length, Option, Some, None, refl, ap, ◌∙◌, drop, replicate}
 use Rattle.std.specs.List.{slice_get}
 use Rattle.nd_base.specs.declared.octets.Order.{Order}
 use Rattle.nd_types.specs.declared.types.TypeDef.{TypeDef}
@@ -8,15 +8,15 @@ use Rattle.nd_types.specs.declared.types.Class.{Class}
 use Rattle.nd_types.specs.declared.types.Class.TheVariants.{Ref, Unique, Full}
 use Rattle.nd_types.specs.Table.{type_at}
 use Rattle.nd_types.specs.Roots.{Root}
-use Rattle.nd_value.specs.Tree.{Tree, Trees, node, none, more}
+use Rattle.nd_value.specs.Tree.{Tree}
 use Rattle.nd_value.specs.Setting.{Setting, root_list, unread, cell_home, cell_at}
 use Rattle.nd_value.specs.Deferral.{Pending, Due, due_root, due_referent, before_pipes, root_type}
 use Rattle.nd_grammar.specs.declared.reason.Reason.{Reason}
 use Rattle.nd_grammar.specs.Entry.{EntryAt}
 use Rattle.nd_grammar.specs.InPlace.{tests}
 use Rattle.nd_grammar.specs.Stream.{root_tests}
-use Rattle.nd_grammar.specs.Reader.{Progress, Names, Read, pass_all, read_whole, is_stopped}
-use Rattle.nd_grammar.specs.StreamReader.{Reading, ReadPipe, ReadPipes, Found, read_root, read_placed, read_direct, read_referent, read_pending, read_first, read_next, read_due, read_pipe, read_pipes, read_start, read_stream, graph_of, stood}
+use Rattle.nd_grammar.specs.Reader.{Progress, Names, pass_all, is_stopped}
+use Rattle.nd_grammar.specs.StreamReader.{Reading, ReadPipe, read_root, read_referent, read_pending, read_next, read_due, read_pipe, read_pipes, read_start, read_stream, graph_of, stood}
 use Rattle.ndr_reading.specs.Around.{stopped}
 use Rattle.ndr_reading.proofs.Continuing.{all_stay}
 

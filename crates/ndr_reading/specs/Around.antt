@@ -1,5 +1,5 @@
 -- What the plain reader has still to do in the midst of a value: the nodes whose children are being read, from the innermost on.
-use Rattle.std.specs.Prelude.{flat_map, ◌≡◌, ℕ, ◌+◌, suc, zero, List, [], ◌∷◌, ◌++◌, length, Option, Some, None}
+use Rattle.std.specs.Prelude.{flat_map, ◌≡◌, ℕ, ◌+◌, suc, List, [], ◌∷◌, ◌++◌, length, Option, Some, None}
 use Rattle.nd_base.specs.declared.octets.Order.{Order}
 use Rattle.nd_types.specs.declared.types.TypeDef.{TypeDef}
 use Rattle.nd_types.specs.Table.{Table}

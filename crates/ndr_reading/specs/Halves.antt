@@ -2,7 +2,7 @@
 -- parts are those of `read_by` (nd_grammar: specs/Reader).
 -- `d` is what a type is, `n` a node's number, `p` the progress, `s` the names, `m` the maximum count before the whole value, `read` the reader of
 -- the children, `o` an offset, `c` an actual count less the terminator, `z` a tag.
-use Rattle.std.specs.Prelude.{ℕ, ◌+◌, ◌-◌, ℤ, pos, Bool, true, false, List, [], ◌∷◌, map, replicate, Option, Some, None}
+use Rattle.std.specs.Prelude.{ℕ, ◌+◌, ◌-◌, ℤ, pos, Bool, true, false, List, [], map, replicate, Option, Some, None}
 use Rattle.nd_base.specs.declared.octets.Order.{Order}
 use Rattle.nd_types.specs.declared.types.TypeDef.{TypeDef}
 use Rattle.nd_types.specs.declared.types.TypeDef.TheVariants as def

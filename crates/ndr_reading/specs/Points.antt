@@ -1,19 +1,19 @@
 -- The points within a home's value at which reading goes on, for every form of types; what is still to be read of the innermost value at each;
 -- and the nodes and the pointers that were read by then.
-use Rattle.std.specs.Prelude.{◌≡◌, ℕ, ◌+◌, ◌-◌, zero, suc, ℤ, true, List, [], ◌∷◌, ◌++◌, length, Option, Some, None}
+use Rattle.std.specs.Prelude.{◌≡◌, ℕ, ◌+◌, zero, suc, ℤ, true, List, [], ◌∷◌, ◌++◌, length, Option, Some, None}
 use Rattle.nd_base.specs.declared.octets.Order.{Order}
 use Rattle.nd_types.specs.declared.types.TypeDef.{TypeDef}
 use Rattle.nd_types.specs.declared.types.TypeDef.TheVariants as def
 use Rattle.nd_types.specs.declared.types.Arm.{Arm}
 use Rattle.nd_types.specs.declared.types.Primitive.{Primitive}
 use Rattle.nd_types.specs.declared.types.Primitive.TheVariants.{Short}
-use Rattle.nd_types.specs.Table.{Table, type_at, width}
+use Rattle.nd_types.specs.Table.{Table, width}
 use Rattle.nd_value.specs.declared.item.Home.{Home}
 use Rattle.nd_value.specs.Agreement.{Agreement}
 use Rattle.nd_value.specs.Deferral.{Pending}
-use Rattle.nd_value.specs.Tree.{Tree, Trees, none, more, Label, Flat, flat, count}
+use Rattle.nd_value.specs.Tree.{Tree, none, more, Flat, flat}
 use Rattle.nd_grammar.specs.Entry.{Entry}
-use Rattle.nd_grammar.specs.Reader.{Progress, Names, Read, read_in_place, read_hoisted, bound_or}
+use Rattle.nd_grammar.specs.Reader.{Progress, Names, Read, read_in_place, read_hoisted}
 use Rattle.ndr_reading.specs.Halves.{after_gap, array_after_offset, text_after_offset, text_after_count, union_tagged, hoisted_after}
 use Rattle.ndr_reading.specs.Around.{Around, continue, tried, nodes_around, nodes_between, pointers, governed_pointers, pointers_around, Numbered, Tied}
 
