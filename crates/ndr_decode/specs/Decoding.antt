@@ -4,7 +4,7 @@
 -- follow them.
 use Rattle.std.specs.Prelude.{◌≡◌, ◌≤◌, ℕ, ◌+◌, Bool, true, false, if◌then◌else◌, ◌||◌, eqb, List, [], ◌∷◌, ◌++◌, length, filter, flat_map, Option, Some, None}
 use Rattle.std.specs.List.{AllByRecursion}
-use Rattle.std.specs.Io.KnownBytes.{Consumes}
+use Rattle.std.specs.Io.KnownBytes.{Consumes, IsAtEnd}
 use Rattle.nd_base.specs.declared.octets.Order.{Order}
 use Rattle.nd_base.specs.Over.{SourceSeen}
 use Rattle.nd_types.specs.declared.interface.Interface.{Interface}
@@ -156,7 +156,9 @@ pub record IsRefusedAt (w : Setting) (order : Order) (place : ℕ) (why : Reason
 pub record IsRefused (w : Setting) (order : Order) (s : SourceSeen) (place : ℕ) (why : Reason) (t : DecodingSeen) : Type 0 where
   pub fetched : List ℕ
   pub left : Consumes s.left s.left_now fetched
+  -- Truncated is answered only where the source has ended, and has nothing left
   pub ended : why ≡ reason.Truncated → s.ended ≡ true
+  pub none_left : why ≡ reason.Truncated → IsAtEnd s.left_now
   pub refused : (more : List ℕ) → MayFollow why more → IsRefusedAt w order place why fetched more t
   -- no first part of them represents a graph that conforms, whatever follows them
   pub no_graph : (more : List ℕ) → MayFollow why more → (part rest : List ℕ) → fetched ++ more ≡ part ++ rest → (g : Graph) → Conforms w g

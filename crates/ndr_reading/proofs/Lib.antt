@@ -4,3 +4,4 @@ pub mod ChildPlaces
 pub mod Worklist
 pub mod FromPoint
 pub mod HomePointers
+pub mod Fetched

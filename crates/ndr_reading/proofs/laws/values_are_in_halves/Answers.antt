@@ -2,4 +2,4 @@ use Rattle.ndr_reading.proofs.Continuing.{in_halves}
 use Rattle.ndr_reading.proofs.laws.values_are_in_halves.Goals as goal
 
 pub returns : goal.returns
-returns _ order octets table h read m t d n p s = in_halves order octets table h read m t d n p s
+returns c = in_halves
