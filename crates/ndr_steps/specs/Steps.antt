@@ -73,7 +73,7 @@ pub record State : Type 0 where
   pub stack : List Frame
   -- the home's nodes so far; for each the place of its offset or tag, if it has one; the members that were read of the structs that are open
   pub nodes : List Flat
-  pub places : List ℕ
+  pub places : List (Option ℕ)
   pub members : List Member
   -- the home's pending referents so far
   pub fresh : List Owed
@@ -186,7 +186,7 @@ past n phase s = record {
 }
 
 -- a node more, and the place of its offset or tag
-abbrev pub with_node : Flat → ℕ → State → State
+abbrev pub with_node : Flat → Option ℕ → State → State
 with_node x place s = record {
   pc = s.pc;
   phase = s.phase;
@@ -342,8 +342,8 @@ elements (suc n) run s = jumped run (pushed (frame.Elements n run (s.pc + 1)) s)
 
 -- the arm of a run, of which address 0 is the empty one; after an arm comes address 1, a `ret`
 abbrev pub arm_taken : Bool → ℕ → State → State
-arm_taken true run s = jumped 0 (with_node (tree.Union s.tag, 0) s.at (past (width s.form.prim) begun s))
-arm_taken false run s = jumped run (pushed (frame.Elements 0 run 1) (with_node (tree.Union s.tag, 1) s.at (past (width s.form.prim) begun s)))
+arm_taken true run s = jumped 0 (with_node (tree.Union s.tag, 0) (Some s.at) (past (width s.form.prim) begun s))
+arm_taken false run s = jumped run (pushed (frame.Elements 0 run 1) (with_node (tree.Union s.tag, 1) (Some s.at) (past (width s.form.prim) begun s)))
 
 -- in a struct a call is of the next member, and comes back; else what is called ends as its caller does
 abbrev pub call_from : Frame → ℕ → State → State
@@ -367,7 +367,7 @@ close_of _ s = next (popped s)
 -- the pointer names this cell, or none; its referent is pending
 abbrev pub owing : Class → TypeId → ℕ → Option ℕ → State → State
 owing class to run c s =
-    with_fresh (s.fresh ++ record { class = class; to = to.0; run = run; cell = c; agreements = [] } ∷ []) (with_node (tree.Ptr c, 0) s.at s)
+    with_fresh (s.fresh ++ record { class = class; to = to.0; run = run; cell = c; agreements = [] } ∷ []) (with_node (tree.Ptr c, 0) None s)
 
 abbrev pub new_cell : Class → TypeId → ℕ → State → State
 new_cell class to run s = owing class to run (Some (length s.cells + 1)) (with_names (s.cells ++ to.0 ∷ []) s.numbers s)
@@ -410,9 +410,9 @@ abbrev pub number_at : Option Flat → Option ℤ
 number_at None = None
 number_at (Some x) = flat_number x
 
-abbrev pub or_zero : Option ℕ → ℕ
-or_zero None = 0
-or_zero (Some n) = n
+abbrev pub or_zero : Option (Option ℕ) → ℕ
+or_zero (Some (Some n)) = n
+or_zero _ = 0
 
 abbrev pub try_all : List Agreement → Flat → ℕ → ℕ → State → Outcome
 try_all [] x place max_at s = goes (next s)
@@ -436,7 +436,7 @@ check_in _ a f v s = goes (next s)
 
 -- a text's octets with its terminator
 abbrev pub text_done : Option (ℕ × Reason) → ℕ → List ℕ → State → Outcome
-text_done None limit os s = goes (done_after (length os) (with_node (tree.Text limit (take (length os - 1) os), 0) (s.at - 8) s))
+text_done None limit os s = goes (done_after (length os) (with_node (tree.Text limit (take (length os - 1) os), 0) (Some (s.at - 8)) s))
 text_done (Some r) limit os s = refused r.0 r.1
 
 -- a bound of 0 means the maximum count
@@ -448,12 +448,12 @@ module _ (values : List EnumList) (order : Order) (os : List ℕ) where
   abbrev pub number_step : Primitive → Option (List ℤ) → State → Outcome
   number_step p enums s =
       let z : ℤ = value_of_octets order p os in
-      if is_enumerator enums z then goes (done_after (width p) (with_node (tree.Num z, 0) 0 s)) else refused s.at reason.EnumValue
+      if is_enumerator enums z then goes (done_after (width p) (with_node (tree.Num z, 0) None s)) else refused s.at reason.EnumValue
 
   abbrev pub vary_by : Phase → ℕ → ℕ → State → Outcome
   vary_by (offset_read o) limit run s =
       let c : ℕ = unsigned order os in
-      if ltb limit (o + c) then refused s.at reason.PastBound else goes (elements c run (with_node (tree.Arr limit o, c) (s.at - 4) (past 4 begun s)))
+      if ltb limit (o + c) then refused s.at reason.PastBound else goes (elements c run (with_node (tree.Arr limit o, c) (Some (s.at - 4)) (past 4 begun s)))
   vary_by _ limit run s = goes (past 4 (offset_read (unsigned order os)) s)
 
   abbrev pub text_by : Phase → ℕ → State → Outcome
@@ -479,10 +479,10 @@ module _ (values : List EnumList) (order : Order) (os : List ℕ) where
   step (op.Align n) s = goes (done_after (length os) s)
   step (op.Num of) s = number_step (prim_of of.0) None s
   step (op.Enum of) s = number_step Short (enumerators values of.0) s
-  step (op.Record n) s = goes (next (pushed (frame.Record 0 (length s.members)) (with_node (tree.Rec, n) 0 s)))
+  step (op.Record n) s = goes (next (pushed (frame.Record 0 (length s.members)) (with_node (tree.Rec, n) None s)))
   step op.Close s = goes (close_of s.top s)
-  step (op.Fixed n run) s = goes (elements n run (with_node (tree.Arr n 0, n) 0 s))
-  step (op.Conf run) s = goes (elements s.max run (with_node (tree.Arr s.max 0, s.max) 0 s))
+  step (op.Fixed n run) s = goes (elements n run (with_node (tree.Arr n 0, n) None s))
+  step (op.Conf run) s = goes (elements s.max run (with_node (tree.Arr s.max 0, s.max) None s))
   step (op.Vary bound run) s = vary_by s.phase bound run s
   step (op.Confvary run) s = vary_by s.phase s.max run s
   step (op.Text bound) s = text_by s.phase (limit_of bound s) s
@@ -493,7 +493,7 @@ module _ (values : List EnumList) (order : Order) (os : List ℕ) where
   step op.Noarm s = refused s.at reason.NoArm
   step (op.Pointer class to run) s = pointer_step class to run (unsigned order os) s
   step op.Context s =
-      goes (done_after 20 (with_node (tree.Context (unsigned order (take 4 os)) (identifier order (drop 4 os)), 0) 0 s))
+      goes (done_after 20 (with_node (tree.Context (unsigned order (take 4 os)) (identifier order (drop 4 os)), 0) None s))
   step (op.Check a f v star) s = check_in s.top a f v s
   step (op.Call run) s = goes (call_from s.top run s)
   step _ s = whole s
