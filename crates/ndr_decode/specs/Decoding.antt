@@ -38,7 +38,7 @@ use Rattle.ndr_decode.specs.declared.decoding.DecodeFault.TheVariants as fault
 -- a fit is a request of an operation of an interface
 pub record IsRequest (i : Interface) (op : ℕ) (f : Fitting) : Type 0 where
   pub interface : f.interface ≡ i
-  pub op : f.op ≡ op
+  pub operation : f.op ≡ op
   pub side : f.side ≡ In
 
 -- ## The log and the steps

@@ -83,8 +83,8 @@ pub fn decode<S: Source, L: Ledger>(
     steps: &mut Steps<L>,
 ) -> Result<Decoded, DecodeFault>
     requires known { op < length plan.now.tie.operations }
-    requires request { IfSome given.entry (λ f. IsRequest plan.now.tie op f.now) }
-    requires response { IfSome given.entry (λ f. side ≡ Out) }
+    requires request { IfSome given (λ f. IsRequest plan.now.tie op f.now) }
+    requires response { IfSome given (λ f. side ≡ Out) }
     ensures decoded { IfOk result (λ d. (o : Operation) → slice_get plan.now.tie.operations op ≡ Some o
         → IsDecoded (setting_beside plan.now.tie o side (option_map (λ f. f.now.graph) given.entry)) order
         (source_seen S.Source.left S.Source.ended S.Source.faults source.old source.new) d.taken d.fit.graph

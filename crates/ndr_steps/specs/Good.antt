@@ -152,9 +152,9 @@ pub record Good (order : Order) (fetched : List ℕ) (code : List Instr) (table 
   pub reached : length fetched ≡ s.at + held point
   pub lie_within : AllByRecursion (λ (x : EntryAt). x.at + size_at x.at x.entry.kind ≤ length fetched) seen
   -- whatever follows, the plain reader comes from here to what it comes to from the beginning
-  pub rest : (rest : List ℕ)
-      → finish order (fetched ++ rest) table h s.max depth fs (read_at order (fetched ++ rest) table h s.max depth point (length (nodes_around fs)) (going s.at seen) names)
-      ≡ target (fetched ++ rest)
+  pub rest : (later : List ℕ)
+      → finish order (fetched ++ later) table h s.max depth fs (read_at order (fetched ++ later) table h s.max depth point (length (nodes_around fs)) (going s.at seen) names)
+      ≡ target (fetched ++ later)
 
 -- The home's value is whole: this is what the plain reader gives, whatever follows.
 pub record Whole (order : Order) (fetched : List ℕ) (table : Table) (h : Home) (own : ℕ) (target : List ℕ → Read) (s : State) : Type 0 where
@@ -167,10 +167,10 @@ pub record Whole (order : Order) (fetched : List ℕ) (table : Table) (h : Home)
   pub numbers : (v : ℕ) → 0 < v → IsKnownAs order fetched seen names v (known v s.numbers)
   pub reached : length fetched ≡ s.at
   pub lie_within : AllByRecursion (λ (x : EntryAt). x.at + size_at x.at x.entry.kind ≤ length fetched) seen
-  pub is : (rest : List ℕ) → record { tree = v; progress = going s.at seen; names = names } ≡ target (fetched ++ rest)
+  pub is : (later : List ℕ) → record { tree = v; progress = going s.at seen; names = names } ≡ target (fetched ++ later)
 
 -- what a step comes to is right; a refusal is that of the plain reader, whatever follows
 abbrev pub IsRight : Order → List ℕ → List Instr → Table → Home → ℕ → ℕ → (List ℕ → Read) → Outcome → Type 0
 IsRight order fetched code table h own limit target (goes s) = Good order fetched code table h own limit target s
-IsRight order fetched code table h own limit target (refused place why) = (rest : List ℕ) → (target (fetched ++ rest)).progress.stop ≡ Some (place, why)
+IsRight order fetched code table h own limit target (refused place why) = (later : List ℕ) → (target (fetched ++ later)).progress.stop ≡ Some (place, why)
 IsRight order fetched code table h own limit target (whole s) = Whole order fetched table h own target s
