@@ -98,6 +98,6 @@ pub fn decode<S: Source, L: Ledger>(
     ensures read_fault { IsErrOf result ReadFault → HasRisen (count S.Source.faults source.old source.new) }
     ensures later { S.Source.faults source.old ≤ S.Source.faults source.new }
 {
-    // UNFINISHED: no octet is read yet. This body stands for nothing but the check that the clauses are well formed.
+    // UNFINISHED: no octet is read yet, and the clauses are not met: the check does not pass this body.
     Err(DecodeFault::Memory)
 }

@@ -1,6 +1,6 @@
 //! The decoder's stack, and where it is in the code of a plan at each point within a value.
 //!
-//! UNFINISHED: definitions of the points in the code; the steps of the instructions and their laws are not written yet.
+//! UNFINISHED: the definitions are here; the laws that each step keeps what a state means are not written yet.
 #![tactic(auto)]
 
 mod frame;
