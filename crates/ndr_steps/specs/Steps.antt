@@ -493,7 +493,7 @@ module _ (values : List EnumList) (order : Order) (os : List ℕ) where
   step op.Noarm s = refused s.at reason.NoArm
   step (op.Pointer class to run) s = pointer_step class to run (unsigned order os) s
   step op.Context s =
-      goes (done_after 20 (with_node (tree.Context (unsigned order (take 4 os)) (identifier order (drop 4 os)), 0) None s))
+      goes (done_after 20 (with_node (tree.Context (unsigned order (take 4 os)) (identifier order os (drop 4 os)), 0) None s))
   step (op.Check a f v star) s = check_in s.top a f v s
   step (op.Call run) s = goes (call_from s.top run s)
   step _ s = whole s
