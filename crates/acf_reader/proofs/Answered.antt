@@ -21,7 +21,7 @@ use Rattle.acf_reader.specs.Answers.{acf_answer}
 use Rattle.acf_reader.specs.Told.{Told}
 use Rattle.acf_reader.proofs.AcfExact.{acf_exact}
 
--- ## a refusal stands within the text
+-- ## a refusal is within the text
 
 fault_within : (f : Fault) (n : ℕ) → front f ≤ n → (e : Refusal) → Fails {Y = tree.Acf} e (Err f) → IsWithin e n
 fault_within f n h refusal.Memory x = tt

@@ -186,7 +186,7 @@ module _ (depth : ℕ) where
       (bracketed_exact depth symbol.OpenRound symbol.CloseRound (parameters (depth + 1)) refl refl closing (stops []) t i in_text (before_meets symbol.CloseRound) (parameters_has (depth + 1))
       (parameters_read t (depth + 1)) (λ room o after in_o. parameters_exact (depth + 1) t o in_o))
 
-  -- names behind `typedef`
+  -- names after `typedef`
   abbrev names_line : Rel (List Spelling)
   names_line = commas (ident false) ⊲ symbol.Semicolon
 
@@ -222,7 +222,7 @@ module _ (depth : ℕ) where
       pair_exact (attributes depth) names_line (stops []) (stops []) (λ lifted x m j b ph stop. refl) names_line_has t m (attributes_read t depth m) (λ a o. line_read t (commas_read t (ident_read false t) o))
       (attributes_exact t depth m in_m) (λ a o found. names_line_exact t o found.within)))
 
-  -- strings behind `include`
+  -- strings after `include`
   abbrev strings_line : Rel (List Spelling)
   strings_line = commas (spelled symbol.Quoted) ⊲ symbol.Semicolon
 

@@ -1,4 +1,4 @@
--- A name stands in the text; `code`, or a banned word in its place.
+-- A name is in the text; `code`, or a banned word in its place.
 use Rattle.std.proofs.Common.{◌≡◌, ℕ, ◌+◌, ◌<◌, Bool, true, false, ◌||◌, cond, length, refl, ap, ◌∙◌, Ok, Err}
 use Rattle.phrases.specs.Text.{Text, symbol_at, is, is_in, Ban}
 use Rattle.phrases.specs.Reading.{Read, Syntax, Passes, mark_read}

@@ -64,7 +64,7 @@ include_behind_attributes = record {
       piece token.Mark 19 20 ∷ piece token.Word 21 28 ∷ piece token.Str 29 32 ∷ piece token.Mark 32 33 ∷ piece token.Mark 34 35 ∷ [];
 }
 
--- a word with which an attribute begins, where a name stands in attribute brackets
+-- a word with which an attribute begins, where a name is in attribute brackets
 abbrev pub attribute_name : Lexed
 attribute_name = record {
   text = codes "[implicit_handle(handle_t code)] interface a { }";

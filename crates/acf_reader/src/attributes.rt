@@ -73,7 +73,7 @@ fn one_word_of(symbol: u8) -> Option<AttributeKind>
     }
 }
 
-/// Whether a name stands at a place, inside attribute brackets or outside.
+/// Whether a name is at a place, inside attribute brackets or outside.
 #[tactic(auto, unfolding(crate::specs::Symbols::names))]
 pub(crate) fn is_name(parser: &Parser<'_>, inside: bool, at: usize) -> bool
     ensures { result ≡ is_in (names inside) (symbol_at parser.now at) }
@@ -207,7 +207,7 @@ fn attribute(parser: &Parser<'_>, depth: usize, at: usize) -> Result<(Attribute,
     Ok((Attribute { at: octet, kind }, next))
 }
 
-/// An attribute behind a comma.
+/// An attribute after a comma.
 fn next_attribute(
     parser: &Parser<'_>,
     depth: usize,

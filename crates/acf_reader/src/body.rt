@@ -38,7 +38,7 @@ fn parameter(parser: &Parser<'_>, depth: usize, at: usize) -> Result<(Parameter,
     ))
 }
 
-/// A parameter behind a comma.
+/// A parameter after a comma.
 fn next_parameter(
     parser: &Parser<'_>,
     depth: usize,
@@ -109,7 +109,7 @@ fn signature(
     Ok((parameters, next))
 }
 
-/// A name behind a comma.
+/// A name after a comma.
 fn next_name(parser: &Parser<'_>, at: usize) -> Result<(Identifier, usize), Refusal>
     requires { at ≤ length parser.now }
     ensures gives { Gives (λ x. x) result (behind_read symbols.Comma parser.now (ident_read false parser.now) at) }

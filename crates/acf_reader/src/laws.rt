@@ -39,7 +39,7 @@ pub fn small_file_has_its_tree()
     ensures { IsAnswer (lexemes small_file) (Ok small_tree) }
 {}
 
-/// Texts that are refused, each at its token: one that ends too early, a string behind attributes and `include`, a word with which an
+/// Texts that are refused, each at its token: one that ends too early, a string after attributes and `include`, a word with which an
 /// attribute begins where a name should stand in attribute brackets, a banned attribute, and a word that is banned anywhere.
 pub fn refused_texts_are_refused()
     ensures unended { IsAnswer (lexemes unended) (Err (Syntax 3)) }

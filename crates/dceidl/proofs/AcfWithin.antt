@@ -26,7 +26,7 @@ module _ (l : Lexed) where
   token_count : length (lexemes l) ≡ length l.tokens
   token_count = simp length-map refl
 
-  -- a word that is banned anywhere stands in the text
+  -- a word that is banned anywhere is in the text
   banned_within : (k : ℕ) → is_banned (lexemes l) k ≡ true → k < length (lexemes l)
   unfolding is_banned
   banned_within k h = mark_within (lexemes l) k symbol.Banned refl h

@@ -54,7 +54,7 @@ module _ (w : Setting) (primitives : List Primitive) (plain : IsPlain w primitiv
   text_refused (Ok octets) cause = tt
   text_refused (Err e) cause = text_cause e cause
 
--- a misfit that is told is the cause
+-- a misfit that is reported is the cause
 pub value_cause : (w : Setting) (g : Graph) (m : Misfit) → IsMisfit w g m → (e : Refusal) → IsReportedAsValue w m e → IsValueCause w g e
 value_cause w g misfit.Memory first e told = subst (IsValueCause w g) (sym told) tt
 value_cause w g (misfit.At h n reason) first e (inl told) =
@@ -84,7 +84,7 @@ pub conforms_of : (f : Fitting) (i : Interface) (o : Operation) (n : ℕ) (s : S
 conforms_of f i o n s g result fits conforms there =
     subst (λ (x : Fitting). slice_get i.operations x.op ≡ Some o → IfOk result (λ octets. Conforms (setting_of i o s) x.graph)) fits conforms there
 
--- want of memory is a cause
+-- running out of memory is a cause
 pub memory_cause : (w : Setting) (g : Graph) (result : Result (List ℕ) Refusal) → IfErr result (λ e. e ≡ Memory) → IfErr result (IsValueCause w g)
 memory_cause w g (Ok octets) is = tt
 memory_cause w g (Err e) is = subst (IsValueCause w g) (sym is) tt

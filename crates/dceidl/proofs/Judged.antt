@@ -32,7 +32,7 @@ use Rattle.dceidl.specs.Reading.{IsLoadCause, IsOrMemory, IsReportedAcf, IsRepor
 
 -- ## The text of an attribute configuration file
 
--- a fault of a text that is told, or that memory was wanting
+-- a fault of a text that is reported, or that memory was wanting
 fault_told : (name text : List ℕ) (at : ℕ) (why : IdlReason) (r : Refusal) → IsAcfFault text at why → IsOrMemory (reported_by name (position_of text at) why) r
     → IsReportedAcf name text r
 fault_told name text at why r fault (inl is) = subst (IsReportedAcf name text) (sym is) (at, fault, refl)
@@ -43,7 +43,7 @@ pub uncut_told : (name text : List ℕ) (at : ℕ) (kind : LexKind) (r : Refusal
     → IsOrMemory (reported_by name (position_of text at) (reason.Lexical kind)) r → IsReportedAcf name text r
 uncut_told name text at kind r uncut told = fault_told name text at (reason.Lexical kind) r uncut told
 
--- what is told of a fault of tokens, by where its token begins
+-- what is reported of a fault of tokens, by where its token begins
 module _ (name text : List ℕ) (l : Lexed) (k at : ℕ) (same : at ≡ place_of l k) (f : SyntaxFault) (r : Refusal) where
   by_reason : (why : ℕ → IdlReason) → IsOrMemory (reported_by name (position_of text at) (why at)) r
       → IsOrMemory (reported_by name (position_of text (place_of l k)) (why (place_of l k))) r

@@ -1,4 +1,4 @@
--- A walk ends in one way, but for want of memory and loads that fail.
+-- A walk ends in one way, except where memory runs out or a load fails.
 use Rattle.std.proofs.Common.{◌≡◌, ◌∙◌, ℕ, true, false, List, ◌++◌, length, Option, Some, None, Result, Ok, Err, refl, sym, ap, subst, arith}
 use Rattle.std.proofs.lemmas.Option.{same_Some}
 use Rattle.std.specs.Prelude.{option_map}

@@ -1,4 +1,4 @@
--- The first misfit of a graph that stands in the text of a plain side is that of a whole value: its node is 0.
+-- The first misfit of a graph that is in the text of a plain side is that of a whole value: its node is 0.
 use Rattle.std.proofs.Common.{◌≡◌, ℕ, ◌+◌, ℤ, Bool, true, false, List, [], ◌∷◌, ◌++◌, length, map, Option, Some, None, refl, sym, ◌∙◌, ap, ap₂, subst, append-nil}
 use Rattle.std.specs.Prelude.{cond, eqb}
 use Rattle.std.specs.List.{AllByRecursion}

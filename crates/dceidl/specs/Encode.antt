@@ -41,7 +41,7 @@ IsValueCause w g Memory = ⊤
 IsValueCause w g (BadValue path reason) = IsMisfitAt w g path reason
 IsValueCause w g _ = ⊥
 
--- a misfit is told at the path of its home, unless memory was wanting
+-- a misfit is reported at the path of its home, unless memory was wanting
 abbrev pub IsReportedAsValue : Setting → Misfit → Refusal → Type 0
 IsReportedAsValue w misfit.Memory refusal = refusal ≡ Memory
 IsReportedAsValue w (misfit.At h n reason) refusal = (refusal ≡ BadValue (home_path w h) reason) ⊎ (refusal ≡ Memory)

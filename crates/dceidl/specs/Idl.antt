@@ -65,7 +65,7 @@ IsNameFault held idl text sources f =
     ((sources ≡ main_file idl text) × IsMainFault text f)
     ⊎ ((tree : Tree) × IsFile text tree × IsRefused held (main_file idl text) tree sources f)
 
--- The names are resolved, the attribute configuration file is read, and this is the rule that is told, at its place.
+-- The names are resolved, the attribute configuration file is read, and this is the rule that is reported, at its place.
 pub record IsBroken (held : Option (List ℕ → Option (List ℕ))) (idl text : List ℕ) (acf : Option (List ℕ)) (sources : List Source) (beside : Option AcfFile) (rule : ℕ) (place : Place) : Type 0 where
   pub state : State
   pub resolved : AreResolved held idl text state
@@ -73,7 +73,7 @@ pub record IsBroken (held : Option (List ℕ → Option (List ℕ))) (idl text :
   pub read : IsBeside held acf beside
   pub first : first_of_all (resolved_world state) (tree_beside beside) ≡ Some (breach rule place)
 
--- ## How faults are told
+-- ## How faults are reported
 
 abbrev or_empty : Option (List ℕ) → List ℕ
 or_empty None = []
@@ -131,7 +131,7 @@ reported_fault s (names.Syntax file at f) = reported_if s (place_of file at) (sy
 abbrev pub reported_rule : List Source → ℕ → Place → Refusal
 reported_rule s rule place = reported_at s place (reason.Rule rule)
 
--- A broken rule as a refusal. It is told under the name of the file that breaks it: that of the attribute configuration file where the place is one
+-- A broken rule as a refusal. It is reported under the name of the file that breaks it: that of the attribute configuration file where the place is one
 -- of that file.
 abbrev pub reported_beside : List Source → Option AcfFile → ℕ → Place → Refusal
 reported_beside s None rule place = reported_rule s rule place
@@ -160,8 +160,8 @@ pub record IsBadAcf (held : Option (List ℕ → Option (List ℕ))) (idl text :
 
 -- ## How the files are refused
 
--- The files are refused in this way: for the first fault of their names; behind that for the first fault of the attribute configuration file, which is
--- told by its name and by line and column of its text; and behind that for the first rule that is broken.
+-- The files are refused in this way: for the first fault of their names; after that for the first fault of the attribute configuration file, which is
+-- told by its name and by line and column of its text; and after that for the first rule that is broken.
 pub data IsIdlFault (held : Option (List ℕ → Option (List ℕ))) (idl text : List ℕ) (acf : Option (List ℕ)) (r : Refusal) : Type 0 where
   by_names : (sources : List Source) (f : NameFault) → IsNameFault held idl text sources f → r ≡ reported_fault sources f → IsIdlFault held idl text acf r
   by_acf : (name body : List ℕ) (at : ℕ) (why : IdlReason) → IsBadAcf held idl text acf name body at why → r ≡ reported_by name (position_of body at) why
@@ -185,10 +185,10 @@ pub record IsDueAcf (held : Option (List ℕ → Option (List ℕ))) (idl text :
   pub resolved : AreResolved held idl text state
   pub named : acf ≡ Some file
 
--- the load of a file is due behind that of the main file: of an import, or of the attribute configuration file
+-- the load of a file is due after that of the main file: of an import, or of the attribute configuration file
 abbrev pub IsDueAfter : Option (List ℕ → Option (List ℕ)) → List ℕ → List ℕ → Option (List ℕ) → List ℕ → Type 0
 IsDueAfter held idl text acf file = IsDueImport held idl text file ⊎ IsDueAcf held idl text acf file
 
--- the load of a file is due: of the main file, or of one behind it
+-- the load of a file is due: of the main file, or of one after it
 abbrev pub IsDueFile : Option (List ℕ → Option (List ℕ)) → List ℕ → Option (List ℕ) → List ℕ → Type 0
 IsDueFile held idl acf file = (file ≡ idl) ⊎ ((text : List ℕ) × IsContent held idl text × IsDueAfter held idl text acf file)

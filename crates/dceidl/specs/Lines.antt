@@ -97,7 +97,7 @@ misfit_name misfit.Shared = codes "Shared"
 misfit_name misfit.Unreached = codes "Unreached"
 misfit_name (misfit.Disagrees wanted found) = codes "Disagrees"
 
--- a disagreement is told with its two numbers
+-- a disagreement is reported with its two numbers
 abbrev pub disagreement : ℤ → ℤ → List ℕ
 disagreement wanted found = joined (codes "Disagrees wanted " ∷ signed_decimal wanted ∷ codes " found " ∷ signed_decimal found ∷ [])
 

@@ -34,7 +34,7 @@ abbrev pub main_file : List ℕ → List ℕ → List Source
 main_file name text = source name text ∷ []
 
 -- What a main file of this name and text comes to: an interface, which is legal; a broken rule; a fault of names or of an imported file, which is absent, say, but
--- neither for want of memory nor for a failed load; a fault of its own syntax; or one of its own tokens.
+-- neither by running out of memory nor by a failed load; a fault of its own syntax; or one of its own tokens.
 pub data HasOutcome (held : Option (List ℕ → Option (List ℕ))) (name text : List ℕ) : Type 0 where
   Interface : (t : Tree) → IsFile text t → (s : State) → IsResolved held (main_file name text) t s → (m : Meant) → MeansLegal (world s) m → IsLegal m.types m.operations
       → HasOutcome held name text

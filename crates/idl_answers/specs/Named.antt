@@ -6,7 +6,7 @@ use Rattle.idl_names.specs.Decided.{is_decided}
 use Rattle.idl_names.specs.Sources.{Source}
 use Rattle.idl_names.specs.Walk.{State, Stopped, IsResolved, IsRefused}
 
--- The names of the files are resolved, or there is a first fault of the files, neither for want of memory nor for a failed load.
+-- The names of the files are resolved, or there is a first fault of the files, neither by running out of memory nor by a failed load.
 pub data Comes (held : Option (List ℕ → Option (List ℕ))) (main : List Source) (t : Tree) : Type 0 where
   ToNames : (s : State) → IsResolved held main t s → Comes held main t
   ToFault : (sources : List Source) (f : NameFault) → is_decided (Stopped sources f) ≡ true → IsRefused held main t sources f → Comes held main t

@@ -37,8 +37,8 @@ pub fn texts_are_read()
     ensures { (text : List ℕ) → IsReadAs text }
 {}
 
-/// A walk over files ends in some way other than for want of memory or for a failed load, whatever is due and whatever files hold. Where it is told
-/// which loads fail, it ends in some way other than for want of memory, by a failed load where it comes to one. Where no file is held, a walk
+/// A walk over files ends in some way other than by running out of memory or by a failed load, whatever is due and whatever files hold. Where it is known
+/// which loads fail, it ends in some way other than by running out of memory, by a failed load where it comes to one. Where no file is held, a walk
 /// that comes to an import ends as absent there. `idl_names: walks_have_one_ending` says that a walk ends in one such way alone.
 #[tactic(auto, using(crate::proofs::Ends::each_walk, crate::proofs::Ends::each_told_walk, crate::proofs::Instances::nothing_held, crate::proofs::Instances::load_fails))]
 pub fn walks_end()
@@ -50,7 +50,7 @@ pub fn walks_end()
         → e ≡ Stopped (source (codes "a.idl") [] ∷ []) (Failed 0) }
 {}
 
-/// Each main file has names, with all that it imports, or a first fault of the files, in some way other than for want of memory or for a failed
+/// Each main file has names, with all that it imports, or a first fault of the files, in some way other than by running out of memory or by a failed
 /// load.
 pub fn names_are_resolved()
     ensures { (held : Option (List ℕ → Option (List ℕ))) (main : List Source) (t : Tree) → Comes held main t }

@@ -1,4 +1,4 @@
-//! Every text has an answer: laws over the definitions of the language alone. No code stands on them.
+//! Every text has an answer: laws over the definitions of the language alone. No code is on them.
 #![tactic(auto)]
 
 pub mod laws;

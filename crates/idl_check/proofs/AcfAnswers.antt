@@ -14,7 +14,7 @@ use Rattle.idl_check.specs.AcfRules.{acf_breaches, first_of_all, or_else}
 use Rattle.idl_check.specs.SeenAcf.{AnswersBeside, IsMeaningBeside}
 use Rattle.idl_check.proofs.AcfLast.{acf_behind, none_beside}
 
--- a rule that is told without the file is told beside it
+-- a rule that is reported without the file is reported beside it
 pub told_beside : (w : World) (f : Option Acf) (e : RuleFault) → Answers w (Err e) → AnswersBeside w f (Err e)
 told_beside w f fault.Memory h = tt
 told_beside w f (fault.Broken rule place) h = acf_behind w f ∙ ap (λ b. or_else b (first_of w (acf_breaches w f))) h
@@ -28,7 +28,7 @@ told_on w f e (Err x) h a = subst (λ (y : RuleFault). AnswersBeside w f (Err y)
 pub alone : (w : World) (i : Interface) → IsMeaning w i → IsMeaningBeside w None i
 alone w i h = record { keeps = none_beside w ∙ h.keeps; means = h.means }
 
--- the rule on the file is told
+-- the rule on the file is reported
 pub last_told : (w : World) (f : Acf) (b : Breach) (i : Interface) → IsMeaning w i → first_of w (acf_breaches w (Some f)) ≡ Some b → first_of_all w (Some f) ≡ Some b
 last_told w f b i h e = acf_behind w (Some f) ∙ ap (λ a. or_else a (first_of w (acf_breaches w (Some f)))) h.keeps ∙ e
 

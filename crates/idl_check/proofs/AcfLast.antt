@@ -1,4 +1,4 @@
--- The fortieth rule comes behind all others: the first of all is the first of those, and where there is none the first of its own.
+-- The fortieth rule comes after all others: the first of all is the first of those, and where there is none the first of its own.
 use Rattle.std.proofs.Common.{◌≡◌, ◌∙◌, ℕ, Bool, true, false, not, ◌&&◌, ◌||◌, eqb, ltb, List, [], ◌∷◌, ◌++◌, map, Option, Some, None, refl, ap, sym, subst, arith}
 use Rattle.std.specs.Prelude.{⊤}
 use Rattle.std.specs.List.{flat_map, list_any}

@@ -15,7 +15,7 @@ pub if_acf_broken : (at : ℕ) (b : Bool) → if_broken 40 (record { file = acf_
 if_acf_broken at true = refl
 if_acf_broken at false = refl
 
--- one part behind another
+-- one part after another
 pub then_noted : (w : World) (first second third : Option Breach) (xs ys : List Breach) → second ≡ noted w first xs → third ≡ noted w second ys → third ≡ noted w first (xs ++ ys)
 then_noted w first second third xs ys e f = f ∙ ap (λ o. noted w o ys) e ∙ sym (noted_more w first xs ys)
 

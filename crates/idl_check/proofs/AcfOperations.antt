@@ -56,7 +56,7 @@ operation_named i left table e n is h = record {
   by name true = refl
   by name false = h.found name
 
--- the same, where want of memory may be told
+-- the same, where running out of memory may be reported
 pub operation_put : (i : ℕ) (left : List Export) (old new : List (List ℕ × ℕ)) (e : Export) (n : Spelling) (octets : List ℕ) (r : Result (Unit {0}) Memory)
     → Some n ≡ operation_name e → octets ≡ n.octets → OnOk r (new ≡ put old octets i) → AreOperations (suc i) left old → OnOk r (AreOperations i (e ∷ left) new)
 operation_put i left old new e n octets (Ok done) is same h are =

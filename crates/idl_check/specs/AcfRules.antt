@@ -1,5 +1,5 @@
 -- The rule on attribute configuration files (C706, section 4.3): their interface, types, operations and parameters are names of the IDL, and their
--- attributes stand in their places. It is the fortieth. It is told where the file, the element of its body or the parameter begins in which it is
+-- attributes stand in their places. It is the fortieth. It is reported where the file, the element of its body or the parameter begins in which it is
 -- broken.
 -- `f` is an attribute configuration file, `e` an element of its body, `a` an attribute, `p` a parameter in it, `q` one in the IDL.
 use Rattle.std.specs.Prelude.{ℕ, Bool, true, false, not, ◌||◌, List, [], ◌∷◌, ◌++◌, Option, Some, None}
@@ -98,7 +98,7 @@ is_no_parameter ps name = not (list_any (λ q. bytes_eq name.octets q.declarator
 
 -- ## Breaches
 
--- the number by which an attribute configuration file is told; no file of IDL has it
+-- the number by which an attribute configuration file is reported; no file of IDL has it
 abbrev pub acf_file : ℕ
 acf_file = 65535
 
@@ -140,7 +140,7 @@ acf_breaches w (Some f) = flat_map (breaches_beside w.known f) (main_among w.fil
 abbrev pub all_breaches : World → Option Acf → List Breach
 all_breaches w acf = breaches w ++ acf_breaches w acf
 
--- the rule that is told, and where: as the others are, with the fortieth behind them
+-- the rule that is reported, and where: as the others are, with the fortieth after them
 abbrev pub first_of_all : World → Option Acf → Option Breach
 first_of_all w acf = first_of w (all_breaches w acf)
 

@@ -55,7 +55,7 @@ pub record IsMeaningBeside (w : World) (acf : Option Acf) (i : Interface) : Type
   pub keeps : first_of_all w acf ≡ None
   pub means : meaning w ≡ meant_by i ∷ []
 
--- A rule is told exactly where it is the first broken one, the fortieth behind all others.
+-- A rule is reported exactly where it is the first broken one, the fortieth after all others.
 abbrev pub AnswersBeside : World → Option Acf → Result Interface RuleFault → Type 0
 AnswersBeside w acf (Ok i) = IsMeaningBeside w acf i
 AnswersBeside w acf (Err fault.Memory) = Unit {0}

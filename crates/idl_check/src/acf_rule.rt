@@ -1,5 +1,5 @@
 // The rule on attribute configuration files (C706, section 4.3): their interface, types, operations and parameters are names of the IDL, and their
-// attributes stand in their places. It is the fortieth, and is told where the file, the element of its body or the parameter begins in which it is
+// attributes stand in their places. It is the fortieth, and is reported where the file, the element of its body or the parameter begins in which it is
 // broken.
 ghost use Rattle.std.specs.Prelude.{◌≡◌, ◌||◌, Some, map, option_map, IfOk};
 ghost use Rattle.std.specs.List.{flat_map, list_any};
@@ -32,7 +32,7 @@ use std::alloc::Global;
 /// The number of the rule.
 const RULE: u8 = 40;
 
-/// The number by which an attribute configuration file is told. No file of IDL has it.
+/// The number by which an attribute configuration file is reported. No file of IDL has it.
 pub const ACF_FILE: u16 = 65_535;
 
 /// A place in the file.

@@ -1,4 +1,4 @@
-// What is told of attribute configuration files.
+// What is reported of attribute configuration files.
 use crate::{ACF_FILE, RuleFault, check};
 use acf_reader::{Acf, read_acf};
 use idl_lexer::lex;
@@ -30,7 +30,7 @@ fn acf_of(alloc: Global, text: &[u8]) -> Result<Acf, Fail> {
     Ok(read_acf(alloc, &tokens)?)
 }
 
-/// The rule that is told, the number of the file, and the octet. None where no rule is broken.
+/// The rule that is reported, the number of the file, and the octet. None where no rule is broken.
 fn told(alloc: Global, idl: &[u8], acf: &[u8]) -> Result<Option<(u8, u16, u32)>, Fail> {
     let scope = scope_of(alloc, idl)?;
     let acf = acf_of(alloc, acf)?;
@@ -41,7 +41,7 @@ fn told(alloc: Global, idl: &[u8], acf: &[u8]) -> Result<Option<(u8, u16, u32)>,
     }
 }
 
-/// The rule is told at an octet of the attribute configuration file, or nowhere.
+/// The rule is reported at an octet of the attribute configuration file, or nowhere.
 fn assert_told(
     rt: &impl Abort,
     alloc: Global,

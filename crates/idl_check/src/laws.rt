@@ -12,7 +12,7 @@ ghost use Rattle.idl_language.specs.Rules.{breach};
 ghost use Rattle.idl_check.specs.AcfRules.{acf_breaches, all_breaches, first_of_all, or_else};
 ghost use Rattle.idl_check.specs.SeenAcf.{AnswersBeside};
 
-/// The rule on attribute configuration files is told where no other is: all rules together have as their first one that of the others, and where these
+/// The rule on attribute configuration files is reported where no other is: all rules together have as their first one that of the others, and where these
 /// have none its own. No lesser one is broken, and none at an earlier place. Without such a file the others stand alone.
 pub fn attribute_files_come_last()
     ensures behind { (w : World) (f : Option Acf) → first_of_all w f ≡ or_else (first_broken w) (first_of w (acf_breaches w f)) }
@@ -20,7 +20,7 @@ pub fn attribute_files_come_last()
     ensures alone { (w : World) → first_of_all w None ≡ first_broken w }
 {}
 
-/// No two answers are right of the same files and one attribute configuration file, but for want of memory. Where two such files are accepted beside
+/// No two answers are right of the same files and one attribute configuration file, except when out of memory. Where two such files are accepted beside
 /// them, or one and none, they mean the same interface.
 pub fn one_answer_is_right()
     ensures told { (w : World) (f : Option Acf) (rule other : ℕ) (place elsewhere : Place)

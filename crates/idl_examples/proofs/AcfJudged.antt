@@ -1,4 +1,4 @@
--- What is told of attribute configuration files.
+-- What is reported of attribute configuration files.
 use Rattle.std.proofs.Common.{◌≡◌, refl}
 use Rattle.std.specs.Prelude.{map, [], ◌∷◌, Some}
 use Rattle.idl_grammar.specs.Lexemes.{words, symbol_of}

@@ -24,7 +24,7 @@ abbrev pub told_of_trees : Result Tree Fault → Result Acf Fault → Option (Op
 told_of_trees (Ok t) f = told_in (alone t) f
 told_of_trees (Err e) f = None
 
--- the rule that is told of a text of IDL and an attribute configuration file, or that none is; nothing where one is no file
+-- the rule that is reported of a text of IDL and an attribute configuration file, or that none is; nothing where one is no file
 abbrev pub told_with : List ℕ → List ℕ → Option (Option Breach)
 told_with text acf = told_of_trees (tree_of text) (acf_of acf)
 
@@ -36,7 +36,7 @@ told_beside _ _ f = None
 abbrev pub acf_rule_at : ℕ → Option (Option Breach)
 acf_rule_at at = Some (Some (breach 40 (record { file = acf_file; at = at })))
 
--- an attribute configuration file, with what is told of it
+-- an attribute configuration file, with what is reported of it
 pub record AcfExample : Type 0 where
   pub text : List ℕ
   pub told : Option (Option Breach)

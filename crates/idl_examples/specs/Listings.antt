@@ -121,8 +121,8 @@ directory_listing = lines (
     ∷ []
     )
 
--- ## The other forms: no uuid and no version, arrays of two dimensions and varying ones, a default before another arm, pipes behind all else, a
--- pipe behind a reference pointer, `*`, and a parameter on both sides
+-- ## The other forms: no uuid and no version, arrays of two dimensions and varying ones, a default before another arm, pipes after all else, a
+-- pipe after a reference pointer, `*`, and a parameter on both sides
 
 abbrev pub forms_file : List ℕ
 forms_file = lines (

@@ -1,4 +1,4 @@
--- For each rule a small text that breaks it, with the octet that is told, and one near it that is accepted.
+-- For each rule a small text that breaks it, with the octet that is reported, and one near it that is accepted.
 use Rattle.std.specs.Prelude.{List, [], ◌∷◌, codes}
 use Rattle.idl_language.specs.Texts.{Example, breaks, keeps}
 

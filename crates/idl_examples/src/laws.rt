@@ -7,7 +7,7 @@ ghost use Rattle.idl_examples.specs.SmallTexts.{texts_that_break, texts_that_kee
 ghost use Rattle.idl_examples.specs.Listings.{listing_of, listing_beside, sum_file, sum_listing, base_file, directory_file, directory_listing, forms_file, forms_listing};
 ghost use Rattle.idl_examples.specs.AcfTexts.{told_with, acf_rule_at, told_of_directory, directory_acf, other_acf, small_idl, broken_idl, acf_names, acf_places};
 
-/// For each rule a small text that breaks it, with the octet that is told, and one near it that is accepted.
+/// For each rule a small text that breaks it, with the octet that is reported, and one near it that is accepted.
 pub fn small_texts_are_judged()
     ensures broken { map (λ e. told_of e.text) texts_that_break ≡ map (λ e. e.told) texts_that_break }
     ensures kept { map (λ e. told_of e.text) texts_that_keep ≡ map (λ e. e.told) texts_that_keep }
@@ -35,7 +35,7 @@ pub fn listings_are_as_worked()
 {}
 
 /// Attribute configuration files beside files of IDL: the directory's own and one of another interface, names that the IDL has and that it lacks,
-/// each attribute at each place, and a file beside IDL that breaks a rule itself, which is told.
+/// each attribute at each place, and a file beside IDL that breaks a rule itself, which is reported.
 pub fn attribute_files_are_judged()
     ensures directory { told_of_directory directory_acf ≡ no_rule }
     ensures other { told_of_directory other_acf ≡ acf_rule_at 0 }

@@ -20,7 +20,7 @@ use Rattle.idl_grammar.proofs.SimpleExact.{simple_ends, switch_type_exact, switc
 
 -- ## in brackets
 
--- what stands in round brackets, behind a word
+-- what is in round brackets, after a word
 module _ {A : Type 0} (depth : ℕ) (P : Rel A) (ends : List ℕ) (has : HasPhrase P) (closes : is_in ends symbol.CloseRound ≡ false) where
   pub round_exact : (t : Text) (i : ℕ) → i ≤ length t → (item : ℕ → Read A) → (depth < 64 → (m : ℕ) → i < m → m ≤ length t → Exact P (stops ends) t m (item m))
       → Exact (in_round depth P) (stops []) t i (in_round_read depth t item i)

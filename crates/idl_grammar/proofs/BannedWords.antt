@@ -16,7 +16,7 @@ use Rattle.idl_grammar.specs.Grammar.{file}
 use Rattle.idl_grammar.specs.Answers.{is_banned, Answers}
 use Rattle.idl_grammar.proofs.CleanFile.{no_banned_word}
 
--- the end behind a text changes nothing at a place
+-- the end after a text changes nothing at a place
 ended : (x : Text) (i : ℕ) → lexeme_at (x ++ the_end ∷ []) i ≡ lexeme_at x i
 ended x i = elim (dec_lt i (length x)) as (λ _. lexeme_at (x ++ the_end ∷ []) i ≡ lexeme_at x i) [
   | yes lt ↦ get_or-append x (the_end ∷ []) the_end i lt

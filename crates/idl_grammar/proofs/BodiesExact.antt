@@ -1,4 +1,4 @@
--- What stands in the bodies of types, but for types: enumerators, labels and discriminants are read exactly.
+-- What is in the bodies of types, but for types: enumerators, labels and discriminants are read exactly.
 use Rattle.std.proofs.Common.{◌≡◌, ℕ, ◌+◌, ◌≤◌, true, false, List, [], ◌∷◌, length, refl, arith, ◌⊎◌, inl, inr, Option}
 use Rattle.phrases.specs.Text.{Text, is_in, Lifted, Rel, optional, ◌⊗◌, ◌⊳◌, ◌⊲◌, ◌∣◌}
 use Rattle.phrases.specs.Reading.{mark_read, end_with, option_read, behind_read}

@@ -229,7 +229,7 @@ module _ {A : Type 0} (P : Rel A) (firsts : List ℕ) (begins : Begins P firsts)
       (optional_exact P (λ a. not (is a.symbol s)) before (λ lifted x i j a ph. ap (λ (b : Bool). not b) (not_first firsts s (symbol_at x i) apart_is (begins lifted x i j a ph)))
       (λ x j stop. ap (λ (b : Bool). not b) stop) t i in_text item (stopped_exact P StopP before t i less (item i) exact))
 
--- the closing mark is what stands before it
+-- the closing mark is what is before it
 pub before_meets : (s : ℕ) → Meets (Unit {0}) (λ x j. is (symbol_at x j) s ≡ true) (marked s) (stops [])
 before_meets s lifted x m j u ph stop = eq-eqb (symbol_at x m) s ph.0
 

@@ -1,4 +1,4 @@
--- An expression of a level is one of the next level with operators of this level behind it.
+-- An expression of a level is one of the next level with operators of this level after it.
 use Rattle.std.proofs.Common.{◌≡◌, ℕ, ◌+◌, ◌≤◌, Bool, true, false, List, [], ◌∷◌, ◌++◌, refl, sym, ap, subst, arith, ◌∙◌, leb, eqb, cond, ◌⊎◌, inl, inr, eq-eqb}
 use Rattle.std.proofs.lemmas.Bool.{leb-true, le-leb, eqb-true}
 use Rattle.std.proofs.lemmas.Bool.Decides.{eqb_tells}

@@ -76,7 +76,7 @@ module _ (depth : ℕ) where
         (declarator_has depth) t m (type_read fuel nesting t depth m) (λ c o. declarator_read nesting t depth o) (type_exact nesting enough t fuel depth m shallow fueled found.within)
         (λ c o found_c. declarator_exact nesting enough t depth o found_c.within))))
 
-    -- the parameters behind the first one
+    -- the parameters after the first one
     pub more_exact : (i : ℕ) → i ≤ length t → Exact (many (symbol.Comma ⊳ parameter depth)) (stops declarators_ends) t i (more_parameters_read fuel nesting t depth i)
     unfolding more_parameters_read
     more_exact i in_text =

@@ -1,4 +1,4 @@
--- What stands between the brackets of an operation is read exactly.
+-- What is between the brackets of an operation is read exactly.
 use Rattle.std.proofs.Common.{◌≡◌, ℕ, ◌+◌, ◌≤◌, Bool, true, false, List, [], ◌∷◌, cond, length, refl, sym, ap, subst, ◌∙◌, Option, Some, None, Ok, ◌||◌, eq-eqb}
 use Rattle.std.proofs.lemmas.Bool.{eqb-true}
 use Rattle.phrases.specs.Text.{Lexeme, Text, lexeme_at, symbol_at, is, is_in, Lifted, Rel, nothing, mark, many, optional, located, separated, made, ◌▹◌, ◌⊗◌, ◌⊳◌}

@@ -37,7 +37,7 @@ width_begins : Begins width width_symbols
 unfolding width
 width_begins lifted x i j w ph = ph.0
 
--- ## behind `unsigned`
+-- ## after `unsigned`
 
 abbrev unsigned_rest : Rel SimpleType
 unsigned_rest (types.Char true) = mark symbol.Char

@@ -118,7 +118,7 @@ module _ (R : Rel TypeSpec) (R_has : HasPhrase R) (R_begins : Begins R type_firs
   pub member_has : HasPhrase member_line
   member_has = located_has member_tail (pair_has _ _ (optional_has (attributes depth)) declared_has)
 
-  -- an arm behind its attributes
+  -- an arm after its attributes
   abbrev pub arm_tail : Rel (Option (TypeSpec × Declarator))
   arm_tail None = mark symbol.Semicolon
   arm_tail (Some f) = (R ⊗ (declarator depth ⊲ symbol.Semicolon)) f

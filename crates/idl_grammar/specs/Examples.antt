@@ -101,7 +101,7 @@ banned_word = record {
       piece token.Mark 33 34 ∷ [];
 }
 
--- a word with which an attribute begins, where a name stands in attribute brackets
+-- a word with which an attribute begins, where a name is in attribute brackets
 abbrev pub attribute_name : Lexed
 attribute_name = record {
   text = codes "[local] interface a { struct s { [size_is(in)] long a[]; }; }";

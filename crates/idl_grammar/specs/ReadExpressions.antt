@@ -56,7 +56,7 @@ question_read start t i = ruled_read Depth (many_operators start) (λ a. is a.sy
 
 -- ## Expressions
 
--- operands behind an expression, joined to it from the left
+-- operands after an expression, joined to it from the left
 abbrev pub fold : Expr → List ((ℕ × BinaryOperator) × Expr) → Expr
 fold e [] = e
 fold e (o ∷ others) = fold (Binary e o.0.0 o.0.1 o.1) others

@@ -58,7 +58,7 @@ in_curly_read depth t item i = bracketed_read depth symbol.OpenCurly symbol.Clos
 abbrev pub commas_read : {A : Type 0} → Text → (ℕ → Read A) → ℕ → Read (List A)
 commas_read t item i = separated_read symbol.Comma t item i
 
--- a value, and `;` behind it
+-- a value, and `;` after it
 abbrev pub line_read : {A : Type 0} → Text → Read A → Read A
 line_read t r = end_with r (λ m. mark_read symbol.Semicolon t m)
 
@@ -77,7 +77,7 @@ simple_firsts =
 unfoldable pub width_read : Text → ℕ → Read Width
 width_read t i = one_of_read widths.Small width_words t i
 
--- behind `unsigned`
+-- after `unsigned`
 unfoldable pub unsigned_read : Text → ℕ → Read SimpleType
 unsigned_read t i =
     branch_read (symbol.Char ∷ []) t i
@@ -158,7 +158,7 @@ switch_attribute_read t depth i = behind_read symbol.SwitchType t (in_round_read
 unfoldable pub case_attribute_read : ℕ → Text → ℕ → ℕ → Read (List Expr)
 case_attribute_read nesting t depth i = behind_read symbol.Case t (in_round_read depth t (commas_read t (outer_read nesting true t (depth + 1)))) i
 
--- an attribute with brackets behind its word
+-- an attribute with brackets after its word
 unfoldable pub bracket_attribute_read : ℕ → Text → ℕ → ℕ → Read AttributeKind
 bracket_attribute_read nesting t depth i =
     branch_read (symbol.Uuid ∷ []) t i (turned tree.Uuid (uuid_read t depth i))
@@ -332,13 +332,13 @@ tagged_read firsts t alone body i =
     (bind_read (ident_read false t i) (λ tag m. branch_read firsts t m (body (Some tag) m) (Ok (alone tag, m))))
     (body None i)
 
--- what stands behind `struct`, which begins at an octet
+-- what stands after `struct`, which begins at an octet
 unfoldable pub struct_read : ℕ → Text → ℕ → (ℕ → Read TypeSpec) → ℕ → ℕ → Read TypeSpec
 struct_read nesting t depth again at i =
     tagged_read (symbol.OpenCurly ∷ []) t (λ tag. tree.Tag at tags.Struct tag)
     (λ tag m. turned (λ ms. tree.Struct at tag (members_of ms)) (struct_body_read nesting t depth again m)) i
 
--- the body of a union, behind its tag where it has one
+-- the body of a union, after its tag where it has one
 unfoldable pub union_body_read : ℕ → Text → ℕ → (ℕ → Read TypeSpec) → ℕ → Option Spelling → ℕ → Read TypeSpec
 union_body_read nesting t depth again at tag i =
     branch_read (symbol.Switch ∷ []) t i
@@ -376,11 +376,11 @@ parameter_read fuel nesting t depth i =
     turned parameter_of
     (located_read t i (then (maybe_attributes_read nesting t depth i) (λ a m. then (type_read fuel nesting t depth m) (λ c o. declarator_read nesting t depth o))))
 
--- the parameters behind the first one
+-- the parameters after the first one
 unfoldable pub more_parameters_read : ℕ → ℕ → Text → ℕ → ℕ → Read (List Parameter)
 more_parameters_read fuel nesting t depth i = list_read (symbol.Comma ∷ []) t (behind_read symbol.Comma t (parameter_read fuel nesting t depth)) i
 
--- a first parameter of the type void that begins at an octet, and those behind it
+-- a first parameter of the type void that begins at an octet, and those after it
 unfoldable pub void_parameters_read : ℕ → ℕ → Text → ℕ → ℕ → ℕ → Read Parameters
 void_parameters_read fuel nesting t depth at i =
     turned (λ p. tree.Listed (parameter_of (at, (None, (tree.Simple types.Void, p.0))) ∷ p.1))

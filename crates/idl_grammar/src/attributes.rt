@@ -34,7 +34,7 @@ pub enum VariableWord {
 /// The variable of an attribute: a name, or `*` and a name.
 #[derive(Debug, Drop)]
 pub struct Variable {
-    /// Whether a `*` stands before the name.
+    /// Whether a `*` is before the name.
     pub star: bool,
     /// The name.
     pub name: Identifier,

@@ -2,7 +2,7 @@
 use crate::expressions::Expr;
 use crate::words::{Identifier, Spelling};
 
-/// What stands between the square brackets of a dimension.
+/// What is between the square brackets of a dimension.
 #[derive(Debug, Drop)]
 pub enum Bound {
     /// `*`

@@ -24,7 +24,7 @@ pub struct Parameter {
     pub declarator: Declarator,
 }
 
-/// What stands between the brackets of an operation.
+/// What is between the brackets of an operation.
 #[derive(Debug, Drop)]
 pub enum Parameters {
     /// Nothing.

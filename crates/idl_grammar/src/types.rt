@@ -63,7 +63,7 @@ impl IntegerType {
 pub enum SimpleType {
     /// An integer.
     Integer(IntegerType),
-    /// `char`, perhaps behind `unsigned`.
+    /// `char`, perhaps after `unsigned`.
     Char { unsigned: bool },
     /// `boolean`
     Boolean,
@@ -150,7 +150,7 @@ pub enum TypeSpec {
         name: Option<Identifier>,
         cases: Vec<Case>,
     },
-    /// A union whose discriminant stands elsewhere (C706, section 4.2.11.2).
+    /// A union whose discriminant is elsewhere (C706, section 4.2.11.2).
     NonEncapsulatedUnion {
         at: u32,
         tag: Option<Identifier>,
@@ -184,7 +184,7 @@ pub struct Member {
 pub struct Case {
     /// At least one label.
     pub labels: Vec<Label>,
-    /// What stands there.
+    /// What is there.
     pub arm: Arm,
 }
 

@@ -57,7 +57,7 @@ impl Identifier {
         self.spelling.octets.as_slice()
     }
 
-    /// A copy of its octets, which are an identifier. Takes memory for them, and want of memory is the only refusal.
+    /// A copy of its octets, which are an identifier. Takes memory for them, and running out of memory is the only refusal.
     #[tactic(auto, using(crate::proofs::Identifiers::identifier_length))]
     pub fn to_name(&self, alloc: Global) -> Result<Name, Memory>
         ensures same { IfOk result (λ n. n ≡ self.now.octets) }

@@ -7,7 +7,7 @@ use Rattle.idl_graph.specs.Graph.{parts_at, contains_within}
 use Rattle.idl_graph.specs.GraphCycles.{reaches_within}
 use Rattle.idl_graph.proofs.GraphTests.{or_cases, or_left, or_right, first_of, second_of, is_not, never_true, any_weaker, any_of_all}
 
--- nothing stands in what is no node
+-- nothing is in what is no node
 pub no_parts : (graph : List (List ℕ)) (node : ℕ) → length graph ≤ node → parts_at graph node ≡ []
 no_parts graph node h = get_or_past graph node [] h
 

@@ -246,7 +246,7 @@ ready_none graph seen e = record {
   zeros : (n node : ℕ) → get_or (replicate {A = ℕ} n 0) node 0 ≡ 0
   zeros n node = elim (cases_lt node n) [ inl l ↦ get_or-replicate n node 0 0 l | inr g ↦ get_or_past (replicate {A = ℕ} n 0) node 0 (omega (arith, length-replicate {A = ℕ} n 0)) ]
 
--- what stands at a place, or that none does
+-- what is at a place, or that none does
 pub place_within : (xs : List ℕ) (k x : ℕ) → Some x ≡ slice_get xs k → (k < length xs) × (get_or xs k 0 ≡ x)
 place_within xs k x e = (slice_get_within xs k x (sym e), get_or_from_slice_get xs k x 0 (sym e))
 

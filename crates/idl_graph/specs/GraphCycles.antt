@@ -11,7 +11,7 @@ is_peeled_in peeled node = slice_index_or peeled node true
 
 pub record ArePeeled (graph : List (List ℕ)) (peeled : List Bool) : Type 0 where
   pub count : length peeled ≡ length graph
-  -- what stands in them is peeled
+  -- what is in them is peeled
   pub closed : (node : ℕ) → is_peeled_in peeled node ≡ true → list_all (is_peeled_in peeled) (parts_at graph node) ≡ true
   -- none contains itself
   pub apart : (node n : ℕ) → is_peeled_in peeled node ≡ true → contains_within n graph node node ≡ false
@@ -26,12 +26,12 @@ reaches_within n graph from to = eqb from to || contains_within n graph from to
 abbrev pub is_marked : ℕ → List ℕ → ℕ → Bool
 is_marked number seen node = eqb (slice_index_or seen node number) number
 
--- how often a number stands in a list
+-- how often a number is in a list
 abbrev pub times_in : ℕ → List ℕ → ℕ
 times_in number [] = 0
 times_in number (x ∷ xs) = cond (eqb x number) 1 0 + times_in number xs
 
--- a node stands in the queue, at a place from this one on
+-- a node is in the queue, at a place from this one on
 pub record Waits (queue : List ℕ) (from node : ℕ) : Type 0 where
   pub place : ℕ
   pub behind : from ≤ place
@@ -59,7 +59,7 @@ pub record IsReady (graph : List (List ℕ)) (number : ℕ) (seen : List ℕ) : 
 abbrev pub is_done : List (List ℕ) → ℕ → ℕ → List ℕ → ℕ → Bool
 is_done graph start number seen node = list_all (λ p. not (eqb p start) && is_marked number seen p) (parts_at graph node)
 
--- the search of this number from a start, as it has done with what stands in the queue before the head
+-- the search of this number from a start, as it has done with what is in the queue before the head
 pub record Searches (graph : List (List ℕ)) (start number head : ℕ) (seen queue : List ℕ) : Type 0 where
   pub same : length seen ≡ length graph
   pub counts : length queue ≡ times_in number seen

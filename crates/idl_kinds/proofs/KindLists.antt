@@ -64,7 +64,7 @@ pub length-seen_types : (ks : List Kind) → length (seen_types ks) ≡ length k
 unfolding seen_types
 length-seen_types ks = omega (arith, length-types_from ks [])
 
--- what stands in ordered kinds, by its number
+-- what is in ordered kinds, by its number
 at_from : (ks : List Kind) (done : List IdlType) (n i m : ℕ) (k : Kind) → n ≡ length done → m ≡ n + i → are_ordered n ks ≡ true → slice_get ks i ≡ Some k
     → (slice_get (types_from done ks) m ≡ Some (type_by (types_from done ks) k)) × (is_inside m k ≡ true)
 at_from [] done n i m k size place ordered h = absurd (none-some k h)

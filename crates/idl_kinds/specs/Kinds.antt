@@ -44,7 +44,7 @@ type_by types (kind.Text element count) = Text (or_void (slice_get types element
 type_by types (kind.Pointer class to) = Pointer (seen_class class) (or_void (slice_get types to))
 type_by types (kind.Pipe element) = Pipe (or_void (slice_get types element))
 
--- behind types that are known
+-- after types that are known
 abbrev pub types_from : List IdlType → List Kind → List IdlType
 types_from done [] = done
 types_from done (k ∷ ks) = types_from (done ++ type_by done k ∷ []) ks
@@ -84,7 +84,7 @@ abbrev pub are_ordered : ℕ → List Kind → Bool
 are_ordered n [] = true
 are_ordered n (k ∷ ks) = is_inside n k && are_ordered (suc n) ks
 
--- a type stands at a number
+-- a type is at a number
 abbrev pub Stands : List Kind → ℕ → IdlType → Type 0
 Stands ks n t = slice_get (seen_types ks) n ≡ Some t
 

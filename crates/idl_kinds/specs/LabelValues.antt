@@ -29,7 +29,7 @@ abbrev pub accepts_value : (ℤ → Bool) → Option ℤ → Bool
 accepts_value test None = true
 accepts_value test (Some z) = test z
 
--- labels behind these values, where a label has to pass a test
+-- labels after these values, where a label has to pass a test
 abbrev pub value_breaches : (ℤ → Bool) → Construct → List (Option ℤ) → List Valued → List Breach
 value_breaches test c before [] = []
 value_breaches test c before (v ∷ vs) =

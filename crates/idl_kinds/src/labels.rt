@@ -14,7 +14,7 @@ use idl_nodes::attributes::attribute_list;
 use nd_base::Memory;
 use std::alloc::Global;
 
-/// A label, and the octet where it is told. A default has no value.
+/// A label, and the octet where it is reported. A default has no value.
 #[derive(Clone, Copy, Debug, PartialEq, Eq)]
 pub struct Valued {
     pub at: u32,
@@ -114,7 +114,7 @@ fn labels_of_cases(alloc: Global, scope: &Scope, cases: &Vec<Case>) -> Result<Ve
     Ok(list)
 }
 
-/// The labels of the arms of a union whose discriminant stands elsewhere.
+/// The labels of the arms of a union whose discriminant is elsewhere.
 fn labels_of_arms(alloc: Global, scope: &Scope, arms: &Vec<Arm>) -> Result<Vec<Valued>, Memory>
     ensures { IfOk result (λ v. v.items ≡ map (valued (known_in scope.now)) (flat_map (λ a. a.labels) (rules.arms_of_arms (arms_of (map seen_arm arms.now.items))))) }
 {

@@ -92,7 +92,7 @@ pub fn tagged_kind(kind: TagKind, place: Place) -> Kind
     }
 }
 
-/// Where the body of a tag is told.
+/// Where the body of a tag is reported.
 fn place_of_tag(scope: &Scope, file: u16, tag: &Identifier) -> Place
     ensures { result ≡ types.place_of_tag (found tag.now.octets (known_in scope.now).tags) (record { file = file; at = tag.now.at }) }
 {
@@ -118,7 +118,7 @@ pub fn tag(
     Ok(number)
 }
 
-/// By which place a struct, union or enum is told that begins at an octet.
+/// By which place a struct, union or enum is reported that begins at an octet.
 pub fn place_of_body(file: u16, at: u32, tag: &Option<Identifier>) -> Place
     ensures { result ≡ types.place_of_body file at tag.now }
 {

@@ -68,7 +68,7 @@ here before n ns t e own false h =
     (inr (subst (λ u. (same_type n.type u || is_among (first_needed (n.type ∷ before) ns) u) ≡ true) e
     (ap (λ b. b || is_among (first_needed (n.type ∷ before) ns) n.type) (itself n.type))))
 
--- it stands further on, behind one that was kept
+-- it stands further on, after one that was kept
 behind_kept : (before : List IdlType) (n : Needed) (ns : List Needed) (t : IdlType) (same : Bool) → same_type t n.type ≡ same
     → ((same || list_any (same_type t) before) ≡ true) ⊎ (is_among (first_needed (n.type ∷ before) ns) t ≡ true) → KnownBy true before n ns t
 behind_kept before n ns t true e h =

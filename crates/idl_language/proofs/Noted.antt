@@ -12,7 +12,7 @@ use Rattle.idl_language.proofs.Order.{not_before_next, behind_not}
 trans : {X : Type 0} {a b c : X} → a ≡ b → b ≡ c → a ≡ c
 trans p q = p ∙ q
 
--- the first of what is first before and what is first behind
+-- the first of what is first before and what is first after
 abbrev joined : World → Option Breach → Option Breach → Option Breach
 joined w None behind = behind
 joined w (Some a) behind = Some (earlier w a behind)

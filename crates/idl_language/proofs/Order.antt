@@ -7,7 +7,7 @@ use Rattle.idl_language.specs.World.{World}
 use Rattle.idl_language.specs.Rules.{Breach}
 use Rattle.idl_language.specs.FirstBroken.{comes_before, same_breach, rank, earlier, first_of, IsFirstOf, IsLeast}
 
--- three numbers, compared one behind the other
+-- three numbers, compared one after the other
 abbrev before : ℕ → ℕ → ℕ → ℕ → ℕ → ℕ → Bool
 before r k p s l q = ltb r s || eqb r s && (ltb k l || eqb k l && ltb p q)
 

@@ -1,4 +1,4 @@
--- Where a file stands in a list.
+-- Where a file is in a list.
 use Rattle.std.proofs.Common.{◌≡◌, ◌∙◌, ℕ, zero, suc, ◌+◌, ◌<◌, ◌≤◌, Bool, true, false, List, [], ◌∷◌, drop, length, refl, ap, sym, arith, eqb, add-one}
 use Rattle.std.proofs.lemmas.List.{drop_all}
 use Rattle.idl_names.specs.Ended.{Ended}

@@ -1,4 +1,4 @@
--- What is answered on files that are resolved: their interface, or the rule that is told.
+-- What is answered on files that are resolved: their interface, or the rule that is reported.
 use Rattle.std.specs.Prelude.{◌≡◌, [], ◌∷◌, Some, None, Result, Ok, Err}
 use Rattle.nd_types.specs.declared.interface.Interface.{Interface}
 use Rattle.idl_language.specs.declared.fault.RuleFault.{RuleFault}
@@ -14,7 +14,7 @@ pub record IsMeaning (w : World) (i : Interface) : Type 0 where
   pub keeps : first_broken w ≡ None
   pub means : meaning w ≡ meant_by i ∷ []
 
--- A rule is told exactly where it is the first broken one.
+-- A rule is reported exactly where it is the first broken one.
 abbrev pub Answers : World → Result Interface RuleFault → Type 0
 Answers w (Ok i) = IsMeaning w i
 Answers w (Err fault.Memory) = Unit {0}

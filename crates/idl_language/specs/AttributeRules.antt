@@ -52,8 +52,8 @@ is_large_version_in _ = false
 abbrev pub is_large_version : Attribute → Bool
 is_large_version a = is_large_version_in a.kind
 
--- Rule 26: at most one class stands in a list (the rest is in `PointerRules`).
+-- Rule 26: at most one class is in a list (the rest is in `PointerRules`).
 
--- a class behind another
+-- a class after another
 abbrev pub is_second_class : List Attribute → Attribute → Bool
 is_second_class before a = is_class a && has_one_of classes before

@@ -1,4 +1,4 @@
--- What stands in a list of attributes (C706, sections 4.2.4, 4.2.9 and 4.2.12 to 4.2.14).
+-- What is in a list of attributes (C706, sections 4.2.4, 4.2.9 and 4.2.12 to 4.2.14).
 -- `a` is an attribute, `attributes` a list of them, `word` the word with which one begins.
 use Rattle.std.specs.Prelude.{ℕ, Bool, List, [], ◌∷◌, Option, Some, None, codes}
 use Rattle.std.specs.List.{list_any}
@@ -70,11 +70,11 @@ out_word = codes "out"
 abbrev pub is_word : List ℕ → Attribute → Bool
 is_word word a = bytes_eq word (word_of a.kind)
 
--- the attribute of this word stands in the list
+-- the attribute of this word is in the list
 abbrev pub has : List ℕ → List Attribute → Bool
 has word attributes = list_any (is_word word) attributes
 
--- one of these words stands in the list
+-- one of these words is in the list
 abbrev pub has_one_of : List (List ℕ) → List Attribute → Bool
 has_one_of words attributes = list_any (λ word. has word attributes) words
 

@@ -6,7 +6,7 @@ use Rattle.idl_language.specs.Attributes.{has, has_one_of, in_word, out_word, st
 use Rattle.idl_language.specs.Nodes.{Construct, Position, InParameter, InCasedArm}
 use Rattle.idl_language.specs.Scene.{tag_written}
 
--- Rule 5: a declaration that ends behind its type has a struct, union or enum with its body.
+-- Rule 5: a declaration that ends after its type has a struct, union or enum with its body.
 
 abbrev pub has_no_body : TypeSpec → Bool
 has_no_body (tree.Simple s) = true

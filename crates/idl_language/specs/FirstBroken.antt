@@ -1,4 +1,4 @@
--- The rule that is told: the least broken one, at its first place. Places go by the files in the order in which their resolving ended, then by octets.
+-- The rule that is reported: the least broken one, at its first place. Places go by the files in the order in which their resolving ended, then by octets.
 use Rattle.std.specs.Prelude.{◌≡◌, ℕ, ◌+◌, Bool, true, false, ◌&&◌, ◌||◌, eqb, ltb, List, [], ◌∷◌, Option, Some, None}
 use Rattle.std.specs.List.{list_any}
 use Rattle.nd_base.specs.declared.octets.Place.{Place}
@@ -33,7 +33,7 @@ abbrev pub first_of : World → List Breach → Option Breach
 first_of w [] = None
 first_of w (b ∷ bs) = Some (earlier w b (first_of w bs))
 
--- The rule that is told, and where; none where no rule is broken.
+-- The rule that is reported, and where; none where no rule is broken.
 abbrev pub first_broken : World → Option Breach
 first_broken w = first_of w (breaches w)
 
@@ -42,7 +42,7 @@ first_broken w = first_of w (breaches w)
 abbrev pub same_breach : Breach → Breach → Bool
 same_breach a b = eqb a.rule b.rule && same_place a.place b.place
 
--- one stands in a list, and none in it comes before it
+-- one is in a list, and none in it comes before it
 pub record IsFirstOf (w : World) (bs : List Breach) (b : Breach) : Type 0 where
   pub broken : list_any (same_breach b) bs ≡ true
   pub first : list_any (λ a. comes_before w a b) bs ≡ false

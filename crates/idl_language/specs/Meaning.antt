@@ -48,7 +48,7 @@ index_in (Some d) = d.index
 abbrev pub attr_var : List Declared → Attr → Variable → AttrVar
 attr_var list a v = record { attr = a; var = index_in (listed_from 0 list v.name.octets); star = v.star }
 
--- an attribute of a member or parameter, if it stands there
+-- an attribute of a member or parameter, if it is there
 abbrev pub vars_of : List Declared → List Attribute → List ℕ → Attr → List AttrVar
 vars_of list attributes word a = map (attr_var list a) (variables (word ∷ []) attributes)
 
@@ -214,7 +214,7 @@ pub record HasIdentifiers (types : Table) (operations : List Operation) : Type 0
 
 -- ## The header
 
--- the number of a UUID's digits, behind those of n
+-- the number of a UUID's digits, after those of n
 abbrev pub uuid_from : ℕ → List ℕ → ℕ
 uuid_from n [] = n
 uuid_from n (c ∷ cs) = elim (eqb c 45) [ true ↦ uuid_from n cs | false ↦ uuid_from (16 * n + digit_value c) cs ]

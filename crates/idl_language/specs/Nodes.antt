@@ -66,7 +66,7 @@ pub record ArmLabel : Type 0 where
 pub data Node : Type 0 where
   -- the header of a file, with the octet of its attribute list
   HeaderNode : (c : Construct) (at : ℕ) → Node
-  -- an attribute, behind these of its list
+  -- an attribute, after these of its list
   AttributeNode : (c : Construct) (before : List Attribute) (attribute : Attribute) → Node
   -- a type that is to tell the arms of a union apart
   SwitchNode : (c : Construct) (type : SwitchType) → Node
@@ -75,7 +75,7 @@ pub data Node : Type 0 where
   -- a struct, union or enum with its body
   BodyNode : (c : Construct) (body : TypeSpec) → Node
   EnumeratorNode : (c : Construct) (name : Spelling) → Node
-  -- a label of a union with this body, behind these of its labels
+  -- a label of a union with this body, after these of its labels
   LabelNode : (c : Construct) (body : TypeSpec) (before : List ArmLabel) (label : ArmLabel) → Node
   EmptyArmNode : (c : Construct) → Node
   -- A declarator, or the result of an operation. A member or parameter is number `index` of its list; other lists are empty.
@@ -87,7 +87,7 @@ pub data Node : Type 0 where
 
 -- ## Lists
 
--- the attributes of a list, behind these
+-- the attributes of a list, after these
 abbrev pub attribute_nodes_from : Construct → List Attribute → List Attribute → List Node
 attribute_nodes_from c before [] = []
 attribute_nodes_from c before (a ∷ more) = AttributeNode c before a ∷ attribute_nodes_from c (before ++ a ∷ []) more
@@ -103,7 +103,7 @@ switch_node c (Some s) = SwitchNode c s ∷ []
 abbrev pub switch_nodes : Construct → List Node
 switch_nodes c = switch_node c (switch_type_in c.attributes)
 
--- the members of a struct that stands in a construct
+-- the members of a struct that is in a construct
 abbrev pub declared_members : Construct → Members → List Declared
 declared_members c tree.no_members = []
 declared_members c (tree.next_member at a type ds others) = map (declared (inside c InMember at a) type) ds ++ declared_members c others
@@ -165,7 +165,7 @@ arms_of _ = []
 abbrev pub labels_of : TypeSpec → List ArmLabel
 labels_of body = flat_map (λ a. a.labels) (arms_of body)
 
--- labels of a union, behind these
+-- labels of a union, after these
 abbrev pub label_nodes : Construct → TypeSpec → List ArmLabel → List ArmLabel → List Node
 label_nodes c body before [] = []
 label_nodes c body before (l ∷ ls) = LabelNode c body before l ∷ label_nodes c body (before ++ l ∷ []) ls
@@ -173,7 +173,7 @@ label_nodes c body before (l ∷ ls) = LabelNode c body before l ∷ label_nodes
 -- ## Types
 
 abbrev mutual
-  -- a type, with all that stands in it
+  -- a type, with all that is in it
   pub type_nodes : Construct → TypeSpec → List Node
   type_nodes c (tree.Simple s) = []
   type_nodes c (tree.Name n) = []

@@ -6,12 +6,12 @@ use Rattle.idl_language.specs.Rules.{Breach, breach}
 use Rattle.idl_language.specs.FirstBroken.{comes_before}
 use Rattle.idl_language.specs.declared.rule.TheConstants as Rule
 
--- the first, with one more behind those before
+-- the first, with one more after those before
 abbrev pub later : World → Breach → Option Breach → Option Breach
 later w b None = Some b
 later w b (Some a) = elim (comes_before w b a) [ true ↦ Some b | false ↦ Some a ]
 
--- the first, with others behind those before
+-- the first, with others after those before
 abbrev pub noted : World → Option Breach → List Breach → Option Breach
 noted w first [] = first
 noted w first (b ∷ bs) = noted w (later w b first) bs

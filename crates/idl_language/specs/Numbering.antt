@@ -1,5 +1,5 @@
 -- The numbers of types. 0 to 11 are the basic types. From 12 on they stand in the order of the text: a struct, union or enum at the first place of its tag,
--- or where it has none of its first word; a pointer, array, text or pipe at the first declarator that needs it, behind the types of which it is made.
+-- or where it has none of its first word; a pointer, array, text or pipe at the first declarator that needs it, after the types of which it is made.
 -- Equal types have one number.
 use Rattle.std.specs.Prelude.{ℕ, ◌+◌, Bool, true, false, not, ◌&&◌, eqb, List, [], ◌∷◌, ◌++◌, map, length, Option, Some, None, ℤ}
 use Rattle.std.specs.List.{list_any, flat_map}
@@ -55,7 +55,7 @@ pub record Needed : Type 0 where
 abbrev pub needed : Construct → IdlType → Needed
 needed c t = record { construct = c; type = t }
 
--- a type behind those of which it is made
+-- a type after those of which it is made
 abbrev pub built : IdlType → List IdlType
 built (Array t count varying) = built t ++ Array t count varying ∷ []
 built (Text t count) = built t ++ Text t count ∷ []
@@ -63,7 +63,7 @@ built (Pointer class to) = built to ++ Pointer class to ∷ []
 built (Pipe t) = built t ++ Pipe t ∷ []
 built t = t ∷ []
 
--- the types that a node needs, each behind those of which it is made
+-- the types that a node needs, each after those of which it is made
 abbrev pub needed_by : Known → Names → Node → List Needed
 needed_by known names (TagNode c kind tag) = needed c (type_of_tag known c.file kind tag) ∷ []
 needed_by known names (BodyNode c body) = needed c (type_of_body (record { construct = c; names = names; body = body })) ∷ []
@@ -78,7 +78,7 @@ has_own_number ContextHandle = false
 has_own_number (Basic p) = false
 has_own_number _ = true
 
--- each type with a number of its own where it is needed first, behind these
+-- each type with a number of its own where it is needed first, after these
 abbrev pub first_needed : List IdlType → List Needed → List Needed
 first_needed before [] = []
 first_needed before (n ∷ ns) =

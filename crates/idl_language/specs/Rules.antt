@@ -1,4 +1,4 @@
--- Which rules of the language are broken, and where. Each kind of node has the rules that speak of it; a rule is told at the octet where the attribute, the
+-- Which rules of the language are broken, and where. Each kind of node has the rules that speak of it; a rule is reported at the octet where the attribute, the
 -- attribute list or the label begins that breaks it, and else where the innermost declaration, member, parameter, arm or enumerator begins in which it is broken.
 use Rattle.std.specs.Prelude.{ℕ, Bool, true, false, List, [], ◌∷◌, ◌++◌, map}
 use Rattle.std.specs.List.{flat_map}

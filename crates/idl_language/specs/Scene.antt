@@ -1,5 +1,5 @@
 -- The nodes of all files, each with the names of types that are declared before it.
--- `t` is a type, `u` a declarator with its type, `b` a body, `place` the one by which a struct, union or enum is told.
+-- `t` is a type, `u` a declarator with its type, `b` a body, `place` the one by which a struct, union or enum is reported.
 use Rattle.std.specs.Prelude.{ℕ, suc, zero, Bool, true, false, eqb, ◌&&◌, List, [], ◌∷◌, ◌++◌, map, Option, Some, None, is_none, option_map}
 use Rattle.std.specs.List.{list_all, flat_map}
 use Rattle.nd_base.specs.declared.octets.Place.{Place}
@@ -85,7 +85,7 @@ type_defined place _ = Union place
 abbrev pub type_of_body : Body → IdlType
 type_of_body b = type_defined (place_of b) b.body
 
--- ## What stands in a body
+-- ## What is in a body
 
 abbrev pub arm_declared : Construct → Position → Arm → List Declared
 arm_declared c position (tree.Empty at a) = []
@@ -135,7 +135,7 @@ abbrev pub switch_where : Bool → Construct → Option SwitchType
 switch_where true c = switch_type_in c.attributes
 switch_where false c = None
 
--- The type of a union's tag: it stands in the union itself, or in the switch_type of the declaration whose type the union is.
+-- The type of a union's tag: it is in the union itself, or in the switch_type of the declaration whose type the union is.
 abbrev pub tag_written : Construct → TypeSpec → Option SwitchType
 tag_written c (tree.EncapsulatedUnion at tag d name cases) = Some d.of
 tag_written c (tree.NonEncapsulatedUnion at tag arms) = switch_where (names_its_tag c.position) c

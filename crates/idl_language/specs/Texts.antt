@@ -73,13 +73,13 @@ tokens_from at zero (c ∷ cs) =
 abbrev pub cut : List ℕ → Lexed
 cut text = record { text = text; tokens = tokens_from 0 0 text }
 
--- ## What is told of a text
+-- ## What is reported of a text
 
 abbrev pub told_of_tree : Result Tree Fault → Option (Option Breach)
 told_of_tree (Ok t) = Some (first_broken (alone t))
 told_of_tree (Err f) = None
 
--- the rule that is told of a text, or that none is; nothing where the text is no file
+-- the rule that is reported of a text, or that none is; nothing where the text is no file
 abbrev pub told_of : List ℕ → Option (Option Breach)
 told_of text = told_of_tree (file_answer 64 129 (lexemes (cut text)))
 
@@ -89,7 +89,7 @@ rule_at rule at = Some (Some (breach rule (record { file = 0; at = at })))
 abbrev pub no_rule : Option (Option Breach)
 no_rule = Some None
 
--- a text with what is told of it
+-- a text with what is reported of it
 pub record Example : Type 0 where
   pub text : List ℕ
   pub told : Option (Option Breach)

@@ -10,7 +10,7 @@ use Rattle.idl_language.specs.Nodes.{Position, InTypedef, InParameter, InOperati
 use Rattle.idl_language.specs.Types.{IdlType, Void, Basic, Struct, Union, Enum, Array, Text, Pointer, Pipe, is_void, is_handle, is_pipe, is_context}
 use Rattle.idl_language.specs.Scene.{Scene, Use, Body, bodies, place_of, type_of_body, same_place, parts_of, chain, below, nests}
 
--- what stands in a type below the reference pointer that it is, or else below itself
+-- what is in a type below the reference pointer that it is, or else below itself
 abbrev pub below_reference : IdlType → List IdlType
 below_reference (Pointer (Some class.Reference) to) = below to
 below_reference t = below t

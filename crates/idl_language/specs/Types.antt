@@ -25,7 +25,7 @@ use Rattle.idl_language.specs.World.{value_in}
 use Rattle.idl_language.specs.Attributes.{has, has_one_of, class_in, sizes, lengths, context_handle_word, string_word}
 use Rattle.idl_language.specs.Nodes.{Construct, Position, InParameter, Declared}
 
--- A type. Names of types are resolved. A struct, union or enum is told by the place of its tag, or where it has none by that of its first word.
+-- A type. Names of types are resolved. A struct, union or enum is identified by the place of its tag, or where it has none by that of its first word.
 pub data IdlType : Type 0 where
   Void : IdlType
   -- `handle_t`
@@ -81,7 +81,7 @@ or_void None = Void
 abbrev pub named_type : Names → Spelling → IdlType
 named_type names name = or_void (found name.octets names)
 
--- by which place a struct, union or enum is told that begins at an octet
+-- by which place a struct, union or enum is reported that begins at an octet
 abbrev pub place_of_body : ℕ → ℕ → Option Spelling → Place
 place_of_body file at None = record { file = file; at = at }
 place_of_body file at (Some tag) = record { file = file; at = tag.at }

@@ -38,7 +38,7 @@ has_lower_bound known _ = false
 abbrev pub has_lower_bounds : Known → Declared → Bool
 has_lower_bounds known d = list_any (has_lower_bound known) d.declarator.dimensions
 
--- Rule 22: labels are in the switch type's range, or one of its enumerators' values, and distinct, and default stands at most once.
+-- Rule 22: labels are in the switch type's range, or one of its enumerators' values, and distinct, and default is at most once.
 
 abbrev pub same_value : Option ℤ → Option ℤ → Bool
 same_value None None = true

@@ -30,7 +30,7 @@ listed_from index (d ∷ ds) name =
 abbrev pub variable_of : Use → Variable → Option Listed
 variable_of u v = listed_from 0 u.list v.name.octets
 
--- a type that a variable may have: with `*` it is behind a parameter that is a reference pointer
+-- a type that a variable may have: with `*` it is after a parameter that is a reference pointer
 abbrev pub passes : (IdlType → Bool) → Bool → Bool → IdlType → Bool
 passes test is_param false t = test t
 passes test true true (Pointer (Some class.Reference) to) = test to

@@ -2,7 +2,7 @@
 use nd_base::{Memory, Place};
 use thiserror::Error;
 
-/// The rule that is broken, or want of memory.
+/// The rule that is broken, or being out of memory.
 #[derive(Clone, Copy, Debug, PartialEq, Eq, Error)]
 pub enum RuleFault {
     /// No memory was left.

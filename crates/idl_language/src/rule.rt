@@ -50,7 +50,7 @@ pub const CASES: u8 = 23;
 pub const USES_OF_UNIONS: u8 = 24;
 /// Where `switch_is` may stand, and with which variable.
 pub const SWITCH_IS: u8 = 25;
-/// At most one class stands in a list, and only on a pointer.
+/// At most one class is in a list, and only on a pointer.
 pub const CLASSES_ON_POINTERS: u8 = 26;
 /// Each pointer has a class.
 pub const CLASS_OF_EACH_POINTER: u8 = 27;

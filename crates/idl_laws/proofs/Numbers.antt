@@ -1,4 +1,4 @@
--- What stands in the table at a type's number.
+-- What is in the table at a type's number.
 use Rattle.std.proofs.Common.{◌≡◌, ℕ, suc, ◌+◌, Bool, true, false, ◌||◌, List, [], ◌∷◌, ◌++◌, map, Some, refl, ap, arith, ◌∙◌}
 use Rattle.std.specs.List.{list_any, slice_get}
 use Rattle.nd_types.specs.declared.types.TypeDef.{TypeDef}
@@ -12,7 +12,7 @@ use Rattle.idl_language.specs.Numbering.{Needed, own_types, same_type, number_am
 use Rattle.idl_language.specs.Meaning.{definition, types_of}
 use Rattle.idl_language.proofs.Equal.{type_is}
 
--- a type that stands among those that are needed, from this number on
+-- a type that is among those that are needed, from this number on
 record Stands (f : IdlType → TypeDef) (n : ℕ) (ms : List Needed) (t : IdlType) : Type 0 where
   index : ℕ
   number : number_among n ms t ≡ n + index

@@ -14,7 +14,7 @@ ghost use Rattle.idl_language.specs.Meaning.{types_of, operations_of, definition
 ghost use Rattle.idl_language.specs.Rules.{breaches, breaches_in, breaches_of_use};
 ghost use Rattle.idl_language.specs.FirstBroken.{first_broken, IsLeast};
 
-/// The rule that is told is broken at its place, no lesser rule is broken anywhere, and this one at no earlier place. Where none is told, none is
+/// The rule that is reported is broken at its place, no lesser rule is broken anywhere, and this one at no earlier place. Where none is reported, none is
 /// broken.
 pub fn least_rule_is_told()
     ensures { (w : World) → IsLeast w (breaches w) (first_broken w) }

@@ -218,7 +218,7 @@ in_bodies b [] h = absurd h
 in_bodies b (n ∷ ns) h =
     elim (among_one b (body_by n.names n.node) (flat_map (λ m. body_by m.names m.node) ns) h) [ inl i ↦ inl (sym (body_node b n.names n.node i)) | inr i ↦ inr (in_bodies b ns i) ]
 
--- a body that is found stands in the scene
+-- a body that is found is in the scene
 pub found_there : (s : Scene) (place : Place) (b : Body) → body_of s place ≡ Some b → BodyThere s b
 found_there s place b h = in_bodies b s.nodes (found_among (bodies s) place b h).0
 

@@ -1,4 +1,4 @@
--- What stands beside the bodies and the operations of files, with the same names.
+-- What is beside the bodies and the operations of files, with the same names.
 use Rattle.std.proofs.Common.{◌≡◌, ℕ, ◌+◌, Bool, true, false, inl, inr, List, [], ◌∷◌, ◌++◌, map, length, Option, Some, None, refl, sym, ap, arith, ◌∙◌, subst}
 use Rattle.std.specs.Prelude.{eqb}
 use Rattle.std.specs.List.{flat_map}
@@ -17,9 +17,9 @@ use Rattle.idl_language.specs.Types.{IdlType, Names, type_of}
 use Rattle.idl_language.specs.Scene.{Scoped, scene_of, is_typedef, names_behind, scoped_from, parts_declared, tag_written}
 use Rattle.idl_laws.proofs.Among.{Among, among_left, among_right, Sub, sub_left, sub_right, sub_join, sub_map, Each, each_join}
 
--- ## What stands beside a node
+-- ## What is beside a node
 
--- the type of a tag that stands before the body
+-- the type of a tag that is before the body
 abbrev pub switch_of : Construct → TypeSpec → List Node
 switch_of c (tree.NonEncapsulatedUnion at tag arms) = switch_node c (tag_written c (tree.NonEncapsulatedUnion at tag arms))
 switch_of c _ = []
@@ -55,7 +55,7 @@ beside _ = []
 abbrev Quiet : Node → Type 0
 Quiet n = (known : Known) (names : Names) → names_behind known names n ≡ names
 
--- a node declares no name of a type, and what stands beside it is in the list
+-- a node declares no name of a type, and what is beside it is in the list
 abbrev Fine : List Node → Node → Type 0
 Fine all n = Quiet n × Sub (beside n) all
 
@@ -249,14 +249,14 @@ mutual
 abbrev pub scope : Names → Node → Scoped
 scope names n = record { names = names; node = n }
 
--- what stands beside a node stands in the scene, with the same names
+-- what is beside a node is in the scene, with the same names
 abbrev pub Good : List Scoped → Scoped → Type 0
 Good total n = Sub (map (scope n.names) (beside n.node)) total
 
 abbrev Whole : List Node → Type 0
 Whole ns = (known : Known) (names : Names) (total : List Scoped) → Sub (scoped_from known names ns) total → Each (Good total) (scoped_from known names ns)
 
--- the names behind a list
+-- the names after a list
 abbrev behind_all : Known → Names → List Node → Names
 behind_all known names [] = names
 behind_all known names (n ∷ ns) = behind_all known (names_behind known names n) ns
@@ -291,13 +291,13 @@ good_all : (all : List Node) (names : Names) (total : List Scoped) → Sub (map 
 good_all all names total sub [] h = tt
 good_all all names total sub (x ∷ xs) h = (λ n i. sub n (sub_map (scope names) (beside x) all h.0.1 n i), good_all all names total sub xs h.1)
 
--- a list within which all stands beside
+-- a list within which all is beside
 whole_fine : (xs : List Node) → Each (Fine xs) xs → Whole xs
 whole_fine xs h known names total sub =
     let e = same_names xs known names xs h in
     subst (Each (Good total)) (sym e) (good_all xs names total (subst (λ ns. Sub ns total) e sub) xs h)
 
--- a list of which nothing stands beside any
+-- a list of which nothing is beside any
 abbrev Bare : Node → Type 0
 Bare n = beside n ≡ []
 
@@ -406,7 +406,7 @@ file_whole f =
     (whole_fine xs ((λ known names. refl, λ x i. absurd i), attributes_fine xs c [] c.attributes))
     (whole_flat (export_nodes (eqb f.file 0) c) (export_whole (eqb f.file 0) c) f.tree.exports)
 
--- what stands beside a node of files stands in their scene, with the same names
+-- what is beside a node of files is in their scene, with the same names
 pub whole : (w : World) → Each (Good (scene_of w).nodes) (scene_of w).nodes
 unfolding scene_of nodes
 whole w = whole_flat file_nodes file_whole w.files w.known [] (scoped_from w.known [] (nodes w)) (λ n i. i)

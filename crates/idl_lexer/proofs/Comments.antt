@@ -5,7 +5,7 @@ use Rattle.idl_lexer.specs.Pieces.{IsComment}
 use Rattle.idl_lexer.specs.Cut.{OpensComment}
 use Rattle.idl_lexer.proofs.Ranges.{range_at, range_length, range_first}
 
--- no `*/` stands between two places
+-- no `*/` is between two places
 abbrev pub NoEnd : List ℕ → ℕ → ℕ → Type 0
 NoEnd text from to = (k : ℕ) → from ≤ k → k < to → slice_index text k ≡ 42 → slice_index text (k + 1) ≡ 47 → ⊥
 

@@ -1,4 +1,4 @@
--- What stands at a place is the longest piece there.
+-- What is at a place is the longest piece there.
 use Rattle.std.proofs.Common.{◌≡◌, ℕ, ◌+◌, ◌-◌, ◌<◌, ◌≤◌, Bool, true, false, inl, inr, List, [], ◌∷◌, ◌++◌, length, refl, sym, ap, subst, arith, ◌∙◌}
 use Rattle.std.proofs.Math.Decide.{dec_lt}
 use Rattle.std.specs.Prelude.{slice_index, slice_range, eqb, IsSome, is_some, Option, Some, None}
@@ -17,11 +17,11 @@ use Rattle.idl_lexer.specs.Cut.{IsLongest, IsCut, OpensComment, IsRefused}
 use Rattle.idl_lexer.proofs.Ranges.{range_at, range_length, range_first, range_empty, range_cons, range_one}
 use Rattle.idl_lexer.proofs.FirstOctets.{clash, may_begin, begins, is_some as has_octets, word_kind, space_kind, mark_kind, nothing_begins, hex_word, equal_octets, IsRunKind}
 
--- what stands there begins with the octet there
+-- what is there begins with the octet there
 pub begins_at : (text : List ℕ) (from to : ℕ) (kind : PieceKind) → from < to → IsOf kind (slice_range text from to) → may_begin kind (slice_index text from) ≡ true
 begins_at text from to kind lt is = ap (may_begin kind) (sym (range_first text from to lt)) ∙ begins kind (slice_range text from to) is
 
--- nothing stands in an empty place
+-- nothing is in an empty place
 pub none_empty : (text : List ℕ) (from to : ℕ) (kind : PieceKind) → to ≤ from → IsOf kind (slice_range text from to) → ⊥
 none_empty text from to kind le is =
     let some = has_octets kind (slice_range text from to) is in

@@ -35,7 +35,7 @@ range_split text from mid to h g =
 pub range_one : (text : List ℕ) (at : ℕ) → at < length text → slice_range text at (at + 1) ≡ slice_index text at ∷ []
 range_one text at h = range_cons text at (at + 1) (omega arith) (omega arith) ∙ ap (λ (l : List ℕ). slice_index text at ∷ l) (range_empty text (at + 1) (at + 1) (omega arith))
 
--- one octet more, and others behind it
+-- one octet more, and others after it
 pub range_more : (text : List ℕ) (from at : ℕ) (rest : List ℕ) → from ≤ at → at < length text
     → slice_range text from (at + 1) ++ rest ≡ slice_range text from at ++ (slice_index text at ∷ rest)
 range_more text from at rest h lt =

@@ -17,7 +17,7 @@ use Rattle.idl_lexer.specs.Cut.{IsCut}
 use Rattle.idl_lexer.specs.Verdict.{AreCut, token_of, AreTokens}
 use Rattle.idl_lexer.proofs.Ranges.{range_length}
 
--- a token that stands in the text; if it is a word it has the form of one and is no longer than 31 octets, and if it is a UUID it has its form
+-- a token that is in the text; if it is a word it has the form of one and is no longer than 31 octets, and if it is a UUID it has its form
 pub record IsFit (text : List ℕ) (t : Token) : Type 0 where
   pub some : t.from < t.to
   pub within : t.to ≤ length text

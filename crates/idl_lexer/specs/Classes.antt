@@ -10,7 +10,7 @@ is_space c = (eqb c 32 || eqb c 9) || (eqb c 10 || (eqb c 12 || eqb c 13))
 abbrev pub is_one_of : List ℕ → ℕ → Bool
 is_one_of octets c = list_any (λ d. eqb c d) octets
 
--- what stands in a literal for itself: 0x20 to 0x7E, but for its quote and the backslash
+-- what is in a literal for itself: 0x20 to 0x7E, but for its quote and the backslash
 abbrev pub is_plain : ℕ → ℕ → Bool
 is_plain quote c = (leb 32 c && leb c 126) && (not (eqb c quote) && not (eqb c 92))
 

@@ -9,14 +9,14 @@ use Rattle.idl_lexer.specs.declared.cut.Piece.{Piece}
 use Rattle.idl_lexer.specs.declared.cut.PieceKind.{PieceKind}
 use Rattle.idl_lexer.specs.declared.cut.PieceKind.TheVariants as piece
 
--- a piece of a kind stands there, and no longer piece of any kind begins there
+-- a piece of a kind is there, and no longer piece of any kind begins there
 pub record IsLongest (text : List ℕ) (kind : PieceKind) (from to : ℕ) : Type 0 where
   pub forward : from < to
   pub within : to ≤ length text
   pub is : IsOf kind (slice_range text from to)
   pub longest : (other : PieceKind) (n : ℕ) → n ≤ length text → IsOf other (slice_range text from n) → n ≤ to
 
--- `/*` stands there
+-- `/*` is there
 abbrev pub OpensComment : List ℕ → ℕ → Type 0
 OpensComment text from = (slice_index text from ≡ 47) × (slice_index text (from + 1) ≡ 42)
 
@@ -32,11 +32,11 @@ pub record IsCut (text : List ℕ) (cut : Piece) : Type 0 where
 abbrev pub Begins : List ℕ → Type 0
 Begins octets = (kind : PieceKind) × (rest : List ℕ) × IsOf kind (octets ++ rest)
 
--- no piece stands there
+-- no piece is there
 abbrev pub IsStuck : List ℕ → ℕ → Type 0
 IsStuck text from = (kind : PieceKind) (to : ℕ) → to ≤ length text → IsOf kind (slice_range text from to) → ⊥
 
--- No piece stands at from: the octets up to `at` begin one, and with the one at `at` they begin none. No line
+-- No piece is at from: the octets up to `at` begin one, and with the one at `at` they begin none. No line
 -- feed comes before.
 pub record IsBadOctet (text : List ℕ) (from at : ℕ) : Type 0 where
   pub stuck : IsStuck text from
@@ -46,7 +46,7 @@ pub record IsBadOctet (text : List ℕ) (from at : ℕ) : Type 0 where
   pub ends : Begins (slice_range text from (at + 1)) → ⊥
   pub one_line : (k : ℕ) → from ≤ k → k ≤ at → slice_index text k ≢ 10
 
--- No piece stands at from: the octets up to a line feed or to the text's end begin one.
+-- No piece is at from: the octets up to a line feed or to the text's end begin one.
 pub record IsOpenText (text : List ℕ) (from : ℕ) : Type 0 where
   pub stuck : IsStuck text from
   pub stop : ℕ

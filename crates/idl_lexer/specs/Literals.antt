@@ -24,7 +24,7 @@ abbrev pub is_empty : List ℕ → Bool
 is_empty [] = true
 is_empty (c ∷ cs) = false
 
--- the octets that complete a literal behind an octet
+-- the octets that complete a literal after an octet
 abbrev pub completes_after : Step → List ℕ → Bool
 completes_after (step.Goes next) octets = completes next octets
 completes_after step.Closed octets = is_empty octets

@@ -7,7 +7,7 @@ use Rattle.nd_base.specs.Text.{is_digit, is_hex_digit}
 abbrev pub digit_value : ℕ → ℕ
 digit_value c = cond (leb c 57) (c - 48) (cond (leb c 70) (c - 55) (c - 87))
 
--- the value of digits to a base, behind others that have a value so far
+-- the value of digits to a base, after others that have a value so far
 abbrev pub value_from : ℕ → ℕ → List ℕ → ℕ
 value_from base so_far [] = so_far
 value_from base so_far (c ∷ cs) = value_from base (so_far * base + digit_value c) cs

@@ -33,7 +33,7 @@ pub record IsComment (octets : List ℕ) : Type 0 where
   pub closes : (slice_index octets (length octets - 2) ≡ 42) × (slice_index octets (length octets - 1) ≡ 47)
   pub first : (k : ℕ) → 2 ≤ k → k + 2 < length octets → slice_index octets k ≡ 42 → slice_index octets (k + 1) ≡ 47 → ⊥
 
--- ## Literals: what may follow so far, and nothing behind it
+-- ## Literals: what may follow so far, and nothing after it
 
 -- the closing quote
 abbrev pub closes : ℕ → List ℕ → Bool
@@ -47,12 +47,12 @@ abbrev mutual
   string_goes_on [] = false
   string_goes_on (c ∷ cs) = cond (eqb c 34) (closes 34 (c ∷ cs)) (cond (eqb c 92) (string_escape_goes_on cs) (is_plain 34 c && string_goes_on cs))
 
-  -- the same, behind a backslash
+  -- the same, after a backslash
   pub string_escape_goes_on : List ℕ → Bool
   string_escape_goes_on [] = false
   string_escape_goes_on (c ∷ cs) = is_escape c && string_goes_on cs
 
--- behind a backslash: the rest of the one character, and the closing quote
+-- after a backslash: the rest of the one character, and the closing quote
 abbrev pub char_escape_goes_on : List ℕ → Bool
 char_escape_goes_on [] = false
 char_escape_goes_on (c ∷ cs) = is_escape c && closes 39 cs

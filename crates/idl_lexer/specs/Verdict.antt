@@ -15,7 +15,7 @@ use Rattle.idl_lexer.specs.declared.cut.PieceKind.TheVariants as piece
 abbrev pub text_limit : ℕ
 text_limit = 1048576
 
--- pieces one behind the other, from a place to another
+-- pieces one after the other, from a place to another
 abbrev pub AreCut : List ℕ → ℕ → List Piece → ℕ → Type 0
 AreCut text from [] to = to ≡ from
 AreCut text from (p ∷ ps) to = (p.from ≡ from) × IsCut text p × AreCut text p.to ps to

@@ -105,7 +105,7 @@ fn refuse_literal(unended: Unended, from: usize) -> Refusal
     }
 }
 
-/// A literal, whose opening quote stands at `from`.
+/// A literal, whose opening quote is at `from`.
 fn cut_literal(text: &[u8], kind: TokenKind, due: Due, from: usize) -> Result<Piece, Refusal>
     requires within { from < length text.now }
     requires opens { Opens kind due (slice_index text.now from) }
@@ -117,7 +117,7 @@ fn cut_literal(text: &[u8], kind: TokenKind, due: Due, from: usize) -> Result<Pi
     }
 }
 
-/// A comment, whose `/*` stands at `from`.
+/// A comment, whose `/*` is at `from`.
 fn cut_comment(text: &[u8], from: usize) -> Result<Piece, Refusal>
     requires within { from + 2 ≤ length text.now }
     requires opens { OpensComment text.now from }
@@ -133,7 +133,7 @@ fn cut_comment(text: &[u8], from: usize) -> Result<Piece, Refusal>
     }
 }
 
-/// Whether a mark of two octets stands at a place.
+/// Whether a mark of two octets is at a place.
 fn pair_stands(text: &[u8], from: usize) -> bool
     requires { from < length text.now }
     ensures pair { result ≡ true → (from + 1 < length text.now) × (classes.are_mark (slice_index text.now from) (slice_index text.now (from + 1)) ≡ true) }
@@ -170,7 +170,7 @@ fn cut_space(text: &[u8], from: usize) -> Piece
     }
 }
 
-/// Whether `/*` stands at a place.
+/// Whether `/*` is at a place.
 fn opens_comment(text: &[u8], from: usize) -> bool
     requires { from < length text.now }
     ensures { MatchBool result (OpensComment text.now from × (from + 2 ≤ length text.now)) (OpensComment text.now from → ⊥) }

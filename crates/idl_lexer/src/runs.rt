@@ -50,7 +50,7 @@ fn is_uuid(octets: &[u8]) -> bool
     true
 }
 
-/// Whether a UUID stands at a place of a text.
+/// Whether a UUID is at a place of a text.
 pub(crate) fn uuid_stands(text: &[u8], from: usize) -> bool
     requires { from ≤ length text.now }
     ensures found { result ≡ true → (from + 36 ≤ length text.now) × IsUuid (slice_range text.now from (from + 36)) }

@@ -124,7 +124,7 @@ abbrev pub default_line : Option Arm → List ℕ
 default_line None = []
 default_line (Some a) = line (codes "default" ∷ arm_name a.name ∷ arm_type a.of ∷ [])
 
--- the lines of the members of a struct, or of the arms of a union; the default stands behind all others, wherever it is written
+-- the lines of the members of a struct, or of the arms of a union; the default stands after all others, wherever it is written
 abbrev pub part_lines : TypeDef → List ℕ
 part_lines (Struct members) = flat_map (member_line members) members
 part_lines (Union tag encapsulated arms default) = flat_map arm_line arms ++ default_line default

@@ -21,7 +21,7 @@ fn attr_word(attr: Attr) -> &'static [u8]
     }
 }
 
-/// What stands before the variable: `*` or nothing.
+/// What is before the variable: `*` or nothing.
 fn star(stands: bool) -> &'static [u8]
     ensures { result.now ≡ star stands }
 {

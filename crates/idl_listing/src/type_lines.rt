@@ -222,7 +222,7 @@ fn default_line(text: &mut Octets, default: &Option<Arm>) -> Result<(), Memory>
     Ok(())
 }
 
-/// The lines of the members of a struct or the arms of a union. The default stands behind all others, wherever it is written.
+/// The lines of the members of a struct or the arms of a union. The default stands after all others, wherever it is written.
 fn part_lines(text: &mut Octets, definition: &TypeDef) -> Result<(), Memory>
     ensures { OnOk result (text.new ≡ text.old ++ part_lines definition.now) }
 {

@@ -7,7 +7,7 @@ use Rattle.idl_language.specs.ArrayRules.{is_barred_in_pipes}
 use Rattle.nd_types.specs.declared.TheConstants.{NESTING_LIMIT}
 use Rattle.idl_kinds.specs.Kinds.{type_at}
 
--- these are the properties of all types, and of `void` behind them
+-- these are the properties of all types, and of `void` after them
 pub record AreProperties (s : Scene) (ks : List Kind) (count : ℕ) (p : Properties) : Type 0 where
   pub hoists : (node : ℕ) → node < suc count → slice_index_or p.hoists.items node false ≡ hoists s (type_at ks node)
   pub nests : (node : ℕ) → node < suc count → slice_index_or p.nests.items node false ≡ nests NESTING_LIMIT s (type_at ks node)

@@ -20,7 +20,7 @@ use nd_base::{Memory, Place};
 use nd_types::NESTING_LIMIT;
 use std::alloc::Global;
 
-/// The number of a type, or that of `void` behind all types.
+/// The number of a type, or that of `void` after all types.
 fn node(number: usize, count: usize) -> usize
     ensures same { (ks : List Kind) → length ks ≡ count → type_at ks result ≡ type_at ks number }
     ensures within { ltb result (suc count) ≡ true }
@@ -70,7 +70,7 @@ fn held(alloc: Global, types: &Types, kind: Kind, count: usize) -> Result<Vec<us
     }
 }
 
-/// All types, and `void` behind them, with what they hold in their place.
+/// All types, and `void` after them, with what they hold in their place.
 fn places(alloc: Global, types: &Types, count: usize) -> Result<Graph, Memory>
     ensures { (s : Scene) (n : program_nodes.Nodes) → IsTypes s n types.now → length types.now.kinds ≡ count → IfOk result (IsPlaces s types.now.kinds count) }
 {
@@ -110,7 +110,7 @@ fn barred(kind: Kind) -> Rule
     }
 }
 
-/// When types hoist, by their numbers, and `void` behind them.
+/// When types hoist, by their numbers, and `void` after them.
 fn hoists_rules(alloc: Global, kinds: &Kinds, count: usize) -> Result<Vec<Rule>, Memory>
     ensures { length kinds.now ≡ count → IfOk result (λ v. AreRules hoists_rule kinds.now count v.items) }
 {
@@ -126,7 +126,7 @@ fn hoists_rules(alloc: Global, kinds: &Kinds, count: usize) -> Result<Vec<Rule>,
     Ok(rules)
 }
 
-/// When types may not stand in pipes, by their numbers, and `void` behind them.
+/// When types may not stand in pipes, by their numbers, and `void` after them.
 fn barred_rules(alloc: Global, kinds: &Kinds, count: usize) -> Result<Vec<Rule>, Memory>
     ensures { length kinds.now ≡ count → IfOk result (λ v. AreRules barred_rule kinds.now count v.items) }
 {
@@ -142,7 +142,7 @@ fn barred_rules(alloc: Global, kinds: &Kinds, count: usize) -> Result<Vec<Rule>,
     Ok(rules)
 }
 
-/// What follows from what types hold in their place, by their numbers; behind them the same of `void`.
+/// What follows from what types hold in their place, by their numbers; after them the same of `void`.
 #[derive(Drop)]
 pub struct Properties {
     pub hoists: Vec<bool>,

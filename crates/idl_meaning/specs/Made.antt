@@ -152,7 +152,7 @@ abbrev pub type_for : Option (List ℕ) → List TypeId → Option TypeId
 type_for None ts = None
 type_for (Some name) ts = first_of ts
 
--- the types of the arms behind it
+-- the types of the arms after it
 abbrev pub types_past : Option (List ℕ) → List TypeId → List TypeId
 types_past None ts = ts
 types_past (Some name) ts = past_first ts

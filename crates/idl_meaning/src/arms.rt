@@ -145,7 +145,7 @@ fn valued_cases<'t>(
     Ok(list)
 }
 
-/// The arms of a union whose discriminant stands elsewhere.
+/// The arms of a union whose discriminant is elsewhere.
 fn valued_each<'t>(
     alloc: Global,
     scope: &Scope,
@@ -187,7 +187,7 @@ fn type_for(name: Option<&Identifier>, types: &[TypeId]) -> Option<TypeId>
     }
 }
 
-/// The types of the arms behind this one.
+/// The types of the arms after this one.
 fn types_past<'s>(name: Option<&Identifier>, types: &'s [TypeId]) -> &'s [TypeId]
     ensures { result.now ≡ made.types_past (option_map (λ s. s.now.octets) name.entry) types.now }
 {

@@ -58,7 +58,7 @@ fault_front {A = A} P t (Ok a) x f e = by_case (eqb a.1 (length t)) e where
 -- ## The token of a fault is one of the text, or its end
 
 module _ (l : Lexed) where
-  -- a word that is banned anywhere stands in the text
+  -- a word that is banned anywhere is in the text
   pub banned_within : (k : ℕ) → is_banned (lexemes l) k ≡ true → k < length (lexemes l)
   unfolding is_banned
   banned_within k h = mark_within (lexemes l) k symbol.Banned refl h
@@ -93,7 +93,7 @@ module _ (l : Lexed) where
   fault_within (syntax.Deep k) h = let p : k + 1 ≤ length l.tokens = answer_front 64 129 (omega arith) (omega arith) (Passes Depth k) h in omega (arith, p)
   fault_within (syntax.Banned k) h = let p : k + 1 ≤ length l.tokens = answer_front 64 129 (omega arith) (omega arith) (Passes Ban k) h in omega (arith, p)
 
-  -- ## What is told of a file
+  -- ## What is reported of a file
 
   pub told_is : (text : List ℕ) (file : ℕ) (f : SyntaxFault) → l.text ≡ text → AreTokens text l.tokens → Told (λ a. Answers grammar.file (lexemes l) a) (Err f)
       → IsFaultOf file text (told_syntax file l f)

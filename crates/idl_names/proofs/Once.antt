@@ -1,4 +1,4 @@
--- A walk has one ending, except for want of memory, where it is told which loads fail.
+-- A walk has one ending, except when out of memory, where it is told which loads fail.
 use Rattle.std.proofs.Common.{◌≡◌, ℕ, ◌<◌, ◌≤◌, Bool, true, false, refl, sym, ap, subst, ◌∙◌, arith, List, [], ◌∷◌, ◌++◌, length, Option, Some, None, option_map, Result, Ok, Err}
 use Rattle.std.proofs.lemmas.Option.{same_Some}
 use Rattle.phrases.specs.Text.{Depth, Ban}

@@ -27,7 +27,7 @@ pub record Known : Type 0 where
   pub meanings : List (List ℕ × Meaning)
   -- the tags that have their bodies
   pub tags : List (List ℕ × TagDefinition)
-  -- tags behind pointers that had no body of their kind where they were used
+  -- tags after pointers that had no body of their kind where they were used
   pub uses : List TagUse
 
 abbrev pub nothing : Known
@@ -110,12 +110,12 @@ abbrev pub where_valued : Result ℤ NameFault → (ℤ → Known) → Result Kn
 where_valued (Ok z) next = Ok (next z)
 where_valued (Err f) next = Err f
 
--- a tag without a body of its kind: behind pointers it waits for one
+-- a tag without a body of its kind: after pointers it waits for one
 abbrev pub tag_used : ℕ → Known → TagKind → Spelling → Bool → Result Known NameFault
 tag_used file k kind tag true = Ok (with_use k (record { kind = kind; tag = tag.octets; place = place_in file tag }))
 tag_used file k kind tag false = Err (fault.Unknown (place_in file tag))
 
--- where a name stands in a list of members or parameters
+-- where a name is in a list of members or parameters
 abbrev pub place_in_list : ℕ → List Spelling → List ℕ → Option Place
 place_in_list file [] name = None
 place_in_list file (s ∷ before) name = cond (bytes_eq name s.octets) (Some (place_in file s)) (place_in_list file before name)
@@ -158,7 +158,7 @@ abbrev pub first_undefined : Known → List TagUse → Option Place
 first_undefined k [] = None
 first_undefined k (u ∷ uses) = elim (is_defined k u.kind u.tag) [ true ↦ first_undefined k uses | false ↦ Some u.place ]
 
--- where a name was declared, or where a tag stands before its body
+-- where a name was declared, or where a tag is before its body
 abbrev pub place_found : Known → Bool → List ℕ → Option Place
 place_found k true tag = tag_place k tag
 place_found k false name = found name k.places

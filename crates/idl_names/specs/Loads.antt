@@ -30,7 +30,7 @@ IsOfText l (syntax.Syntax k) = k ≤ length l.tokens
 IsOfText l (syntax.Deep k) = k < length l.tokens
 IsOfText l (syntax.Banned k) = k < length l.tokens
 
--- a parser's fault, as it is told of a file
+-- a parser's fault, as it is reported of a file
 abbrev pub told_syntax : ℕ → Lexed → SyntaxFault → NameFault
 told_syntax file l syntax.Memory = fault.Memory
 told_syntax file l (syntax.Syntax k) = fault.Syntax file (place_of l k) (syntax.Syntax k)
@@ -43,7 +43,7 @@ pub record IsRead (before : List Source) (name text : List ℕ) (after : List So
   pub number : e.file ≡ length before
   pub sources : after ≡ and_source before name text
 
--- the fault of a load, as it is told of a file
+-- the fault of a load, as it is reported of a file
 abbrev pub told_load : ℕ → FileFault → NameFault
 told_load file file_fault.Absent = fault.Absent file
 told_load file file_fault.Failed = fault.Failed file

@@ -10,7 +10,7 @@ use Rattle.idl_names.specs.declared.fault.ConstFault.TheVariants.{OutOfRange, Ze
 use Rattle.idl_names.specs.declared.fault.ValueFault.{ValueFault}
 use Rattle.idl_names.specs.Whole.{is_in_range, is_zero, truth, are_equal, complement, bits_in_both, bits_in_either, bits_in_one}
 
--- a value, or a fault and the octet where it is told
+-- a value, or a fault and the octet where it is reported
 abbrev pub Outcome : Type 0
 Outcome = Result ℤ ValueFault
 

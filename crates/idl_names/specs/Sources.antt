@@ -24,7 +24,7 @@ file_text sources file = option_map (λ s. s.text) (slice_get sources file)
 abbrev pub backslash : ℕ
 backslash = 92
 
--- what stands before the closing quote, its escapes read
+-- what is before the closing quote, its escapes read
 abbrev pub before_quote : List ℕ → List ℕ
 before_quote [] = []
 before_quote (c ∷ []) = []

@@ -14,7 +14,7 @@ use Rattle.idl_names.specs.declared.meaning.Meaning.TheVariants as meaning
 pub data Step : Type 0 where
   -- a type is named
   UseType : (name : Spelling) → Step
-  -- A tag is used without its body. Behind pointers its body may come later.
+  -- A tag is used without its body. After pointers its body may come later.
   UseTag : (kind : TagKind) (tag : Spelling) (behind_pointers : Bool) → Step
   -- a tag with its body
   DefineTag : (kind : TagKind) (tag : Spelling) → Step
@@ -157,13 +157,13 @@ parameters_of tree.Absent = []
 parameters_of tree.Void = []
 parameters_of (tree.Listed ps) = ps
 
--- An operation is not known in its own parameters. Its result has no declarator, so that a tag there is behind no pointer.
+-- An operation is not known in its own parameters. Its result has no declarator, so that a tag there is after no pointer.
 abbrev pub operation_steps : Option Attributes → TypeSpec → Spelling → Parameters → List Step
 operation_steps a result name ps =
     optional_attribute_steps a ++ type_steps false result ++ Declare name ∷ parameter_steps [] (parameters_of ps) ++ Know name meaning.Other ∷ []
 
 -- A declaration. The operations of files other than the main one are passed over. The stars of a typedef with `pipe` belong to the pipe,
--- which is this project's own choice: its element is behind no pointer. Nor is a tag without a declarator.
+-- which is this project's own choice: its element is after no pointer. Nor is a tag without a declarator.
 abbrev pub export_steps : Bool → Export → List Step
 export_steps is_main (tree.Typedef at a pipe type ds) =
     optional_attribute_steps a ++ type_steps (not pipe && list_all is_pointer ds) type ++ flat_map typedef_steps ds

@@ -1,4 +1,4 @@
--- Tables by names: lists of names with what stands there.
+-- Tables by names: lists of names with what is there.
 use Rattle.std.specs.Prelude.{ℕ, true, false, List, [], ◌∷◌, Option, map, Vec}
 use Rattle.std.specs.Str.{bytes_eq}
 use Rattle.std.specs.Map.{lookup}

@@ -14,7 +14,7 @@ use Rattle.idl_names.specs.declared.meaning.Meaning.TheVariants as meaning
 use Rattle.idl_names.specs.Whole.{is_zero, truth}
 use Rattle.idl_names.specs.Operators.{Outcome, fails, with_value, in_range, unary_value, binary_value, is_decided}
 
--- what C's escapes \a \b \f \n \r \t \v stand for; any other character behind a backslash stands for itself
+-- what C's escapes \a \b \f \n \r \t \v stand for; any other character after a backslash stands for itself
 abbrev pub escaped : ℕ → ℕ
 escaped c =
     cond (eqb c 97) 7 (cond (eqb c 98) 8 (cond (eqb c 102) 12 (cond (eqb c 110) 10 (cond (eqb c 114) 13 (cond (eqb c 116) 9 (cond (eqb c 118) 11 c))))))

@@ -110,7 +110,7 @@ pub data Walk (held : Option (List ℕ → Option (List ℕ))) : State → List 
   enters : (s : State) (place : Place) (name : List ℕ) (rest : List Due) (e : Ending) (text : List ℕ) (t : Tree) → IsDue s.sources name
       → IsContent held name text → IsFile text t
       → Walk held (with_source s name text) (all_of (length s.sources) t ++ rest) e → Walk held s (Load place name ∷ rest) e
-  -- Want of memory may stop a walk anywhere, also in a load or after it.
+  -- Running out of memory may stop a walk anywhere, also in a load or after it.
   short : (s : State) (rest : List Due) → Walk held s rest (Stopped s.sources fault.Memory)
   short_in_load : (s : State) (place : Place) (name : List ℕ) (rest : List Due) → IsDue s.sources name
       → Walk held s (Load place name ∷ rest) (Stopped (and_source s.sources name []) fault.Memory)
@@ -126,7 +126,7 @@ pub record IsResolved (held : Option (List ℕ → Option (List ℕ))) (main : L
   pub walk : Walk held (start main) (all_of 0 t) (Done s)
   pub whole : first_undefined s.known s.known.uses ≡ None
 
--- The whole walk is done, and the first tag behind pointers that has no body of its kind stands there.
+-- The whole walk is done, and the first tag after pointers that has no body of its kind is there.
 pub record IsUndefined (held : Option (List ℕ → Option (List ℕ))) (main : List Source) (t : Tree) (sources : List Source) (place : Place) : Type 0 where
   pub state : State
   pub walk : Walk held (start main) (all_of 0 t) (Done state)
@@ -137,7 +137,7 @@ abbrev pub IsUndefinedFault : Option (List ℕ → Option (List ℕ)) → List S
 IsUndefinedFault held main t sources (fault.Unknown place) = IsUndefined held main t sources place
 IsUndefinedFault held main t sources _ = ⊥
 
--- The first fault: of the walk, else of a tag behind pointers.
+-- The first fault: of the walk, else of a tag after pointers.
 abbrev pub IsRefused : Option (List ℕ → Option (List ℕ)) → List Source → Tree → List Source → NameFault → Type 0
 IsRefused held main t sources f = Walk held (start main) (all_of 0 t) (Stopped sources f) ⊎ IsUndefinedFault held main t sources f
 

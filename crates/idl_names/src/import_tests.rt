@@ -6,7 +6,7 @@ use nd_base::{MemFiles, Octets, Place};
 use std::alloc::Global;
 use std::test::Fail;
 
-/// A file with a constant: its name stands at octet 33.
+/// A file with a constant: its name is at octet 33.
 const BASE: &[u8] = b"[local] interface b { const long A = 2; }";
 
 /// The files of a walk, and what was answered.

@@ -267,7 +267,7 @@ impl NameTables {
 }
 
 impl NameTables {
-    /// Where the first use of a tag behind pointers stands that has no body of its kind.
+    /// Where the first use of a tag after pointers stands that has no body of its kind.
     pub(crate) fn first_undefined(&self) -> Option<Place>
         ensures { result ≡ first_undefined self.now self.now.uses }
     {
@@ -280,7 +280,7 @@ impl NameTables {
     }
 }
 
-/// A member or parameter comes behind those of its list.
+/// A member or parameter comes after those of its list.
 pub(crate) fn enlist(file: u16, list: &mut Table<u32>, name: &Identifier) -> Result<(), NameFault>
     ensures told { (k : Known) → IsRight k result (walked file k (Enlist (listed list.old) name.now ∷ [])) }
     ensures more { OnOk result (listed list.new ≡ listed list.old ++ name.now ∷ []) }

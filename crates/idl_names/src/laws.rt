@@ -29,8 +29,8 @@ pub fn operators_stay_in_range()
     ensures conditional { (meanings : List ℕ → Option Meaning) (c : Expr) (at : ℕ) (a b : Expr) (z : ℤ) → value meanings (Conditional c at a b) ≡ Ok z → is_in_range z ≡ true }
 {}
 
-/// Where the contents of files are told, a walk has one ending, also by an absent file, except for two: that memory was wanting, and that a load
-/// failed. These may come at other places in other walks over the same files. Where it is told as well which loads fail, it has one
+/// Where the contents of files are known, a walk has one ending, also by an absent file, except for two: that memory was wanting, and that a load
+/// failed. These may come at other places in other walks over the same files. Where it is known as well which loads fail, it has one
 /// ending, also by a failed load, except that memory was wanting. `idl_answers: walks_end` says that there is one.
 #[tactic(auto, using(crate::proofs::Once::one_ending, crate::proofs::Once::one_told_ending))]
 pub fn walks_have_one_ending()

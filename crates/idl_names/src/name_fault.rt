@@ -11,7 +11,7 @@ pub enum NameFault {
     /// Memory was wanting.
     #[error("out of memory")]
     Memory,
-    /// No such name is known there, or none of its kind; or a tag behind pointers has no body of its kind in any file.
+    /// No such name is known there, or none of its kind; or a tag after pointers has no body of its kind in any file.
     #[error("unknown name")]
     Unknown {
         place: Place,

@@ -141,7 +141,7 @@ fn whole<F: Files>(
 }
 
 /// Reads each name of a file and of the files that it imports by the declarations before it, but the variable of an attribute, which is looked
-/// up in its own list later; and a tag behind pointers by those of all files (C706, section 4.2). The files are walked depth first, each by
+/// up in its own list later; and a tag after pointers by those of all files (C706, section 4.2). The files are walked depth first, each by
 /// its attributes, its imports and its declarations; one that is imported again is loaded once. Only the main file's operations are read. That
 /// all files have one space of names is this project's own choice.
 ///

@@ -71,7 +71,7 @@ pub struct Scope {
 }
 
 impl Scope {
-    /// Where a name stands at its declaration, as a type, constant, enumerator or operation of the main file; or, of a tag, before its body.
+    /// Where a name is at its declaration, as a type, constant, enumerator or operation of the main file; or, of a tag, before its body.
     /// None exactly where there is none: operations of imported files are not declared. Takes no memory.
     pub fn find(&self, tag: bool, name: &[u8]) -> Option<Place>
         ensures { result ≡ place_found self.now.names tag name.now }

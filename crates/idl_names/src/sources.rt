@@ -50,7 +50,7 @@ impl Sources {
         }
     }
 
-    /// Adds a file, and tells its number. Takes memory for it, and want of memory is the only refusal: the text is handed back then, and
+    /// Adds a file, and tells its number. Takes memory for it, and running out of memory is the only refusal: the text is handed back then, and
     /// nothing has changed.
     pub fn add(&mut self, name: &str, text: Octets) -> Result<u16, (Memory, Octets)>
         requires { length self.old < FILES_LIMIT }

@@ -7,11 +7,11 @@ use nd_base::{Octets, Place};
 pub struct TagDefinition {
     /// What it names.
     pub kind: TagKind,
-    /// Where the tag stands before its body.
+    /// Where the tag is before its body.
     pub place: Place,
 }
 
-/// A tag that is used behind pointers before its body.
+/// A tag that is used after pointers before its body.
 #[derive(Debug, Drop)]
 pub struct TagUse {
     /// What it names.

@@ -7,7 +7,7 @@ use nd_base::Octets;
 use std::alloc::Global;
 use std::test::Fail;
 
-/// What stands before an expression.
+/// What is before an expression.
 const FRONT: &[u8] = b"[local] interface t { const long A = ";
 
 /// Names that begin with `N` are 7, with `M` 2^64; with `T` they are types. No others are known.

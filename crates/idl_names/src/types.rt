@@ -201,7 +201,7 @@ fn cases(
     Ok(())
 }
 
-/// The arms of a union whose discriminant stands elsewhere.
+/// The arms of a union whose discriminant is elsewhere.
 #[cycle(types)]
 fn arms(alloc: Global, names: &mut NameTables, file: u16, list: &Vec<Arm>) -> Result<(), NameFault>
     ensures { IsRight names.new result (walked file names.old (arms_steps (arms_of (map seen.seen_arm list.now.items)))) }

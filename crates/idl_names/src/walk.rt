@@ -66,7 +66,7 @@ pub(crate) fn optional_attributes(
     }
 }
 
-/// What stands between the brackets of a dimension.
+/// What is between the brackets of a dimension.
 fn bound(names: &NameTables, file: u16, bound: &Option<Bound>) -> Result<(), NameFault>
     ensures { IsRight names.now result (walked file names.now (bound_steps (option_map seen.seen_bound bound.now))) }
 {

@@ -35,12 +35,12 @@ pub lists_told : (w : World) (ns : List Node) → ns ≡ nodes w → noted w Non
 unfolding breaches
 lists_told w ns is = noted_all w (list_breaches ns) ∙ ap (λ l. first_of w (list_breaches l)) (is ∙ sym (scene_nodes w)) ∙ ap (first_of w) (sym (lists_in (scene_of w)))
 
--- a rule on lists that is told is the first of all
+-- a rule on lists that is reported is the first of all
 pub told_by_lists : (w : World) (ns : List Node) (b : Breach) → ns ≡ nodes w → Some b ≡ noted w None (list_breaches ns) → first_broken w ≡ Some b
 told_by_lists w ns b is told =
     in_two w (breaches w) ∙ ap (λ o. or_else o (first_of w (of_others (breaches w)))) (sym (told ∙ lists_told w ns is))
 
--- where no rule on lists is told, the others tell the first of all
+-- where no rule on lists is reported, the others tell the first of all
 pub told_by_others : (w : World) (ns : List Node) (before last : Option Breach) → ns ≡ nodes w → None ≡ noted w None (list_breaches ns)
     → before ≡ noted w None (other_breaches (scene_of w)) → last ≡ noted w before (map (λ c. breach Rule.COUNTS (place_in c c.at)) (too_many (scene_of w))) → last ≡ first_broken w
 unfolding breaches
@@ -50,7 +50,7 @@ told_by_others w ns before last is none others counts =
     ∙ ap (first_of w) (sym (others_in (scene_of w)))
     ∙ sym (in_two w (breaches w) ∙ ap (λ o. or_else o (first_of w (of_others (breaches w)))) (sym (none ∙ lists_told w ns is)))
 
--- no rule is broken where none is told
+-- no rule is broken where none is reported
 pub none_broken : (w : World) → first_broken w ≡ None → breaches w ≡ []
 none_broken w none = subst (λ o. IsLeast w (breaches w) o) none (least w (breaches w))
 
@@ -66,7 +66,7 @@ told_over w s ns last same is none told =
     told_by_others w ns (noted w None (other_breaches (scene_of w))) last is none refl
     (told ∙ ap (λ t. noted w (noted w None (other_breaches t)) (map (λ c. breach Rule.COUNTS (place_in c c.at)) (too_many t))) same)
 
--- want of memory is an answer
+-- running out of memory is an answer
 pub memory_answers : (w : World) (r : Result Interface RuleFault) → IsErrAnd r (λ e. e ≡ faults.Memory) → Answers w r
 memory_answers w (Ok i) h = absurd h
 memory_answers w (Err f) h = subst (λ (e : RuleFault). Answers w (Err e)) (sym h) tt

@@ -22,7 +22,7 @@ pub if_broken_is : (c : Construct) (rule at : ℕ) (b : Bool) → if_broken rule
 if_broken_is c rule at true = refl
 if_broken_is c rule at false = refl
 
--- three rules, one behind the other
+-- three rules, one after the other
 pub three : (w : World) (c : Construct) (at i j k : ℕ) (a b d : Bool) (first second third last : Option Breach)
     → second ≡ noted w first (if_broken i (place_in c at) a) → third ≡ noted w second (if_broken j (place_in c at) b) → last ≡ noted w third (if_broken k (place_in c at) d)
     → last ≡ noted w first (broken_at c i at a ++ broken_at c j at b ++ broken_at c k at d)
@@ -62,7 +62,7 @@ no_word_more words before a word are is among x =
           there ∙ sym (ap (λ b. b || bytes_eq x (word_of a.kind)) there)
       by false e = sym (ap (λ b. has x before || b) e ∙ or_false (has x before))
 
--- ## The attributes that are left, behind those before them
+-- ## The attributes that are left, after those before them
 
 abbrev pub left : Construct → List program.Attribute → ℕ → List Breach
 left c xs i = list_breaches (attribute_nodes_from c (map seen_attribute (take i xs)) (map seen_attribute (drop i xs)))

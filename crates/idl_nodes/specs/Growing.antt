@@ -1,4 +1,4 @@
--- How the nodes of the program grow: nodes and lists are only ever put behind those that stand, so that the number of a list stands for it for ever.
+-- How the nodes of the program grow: nodes and lists are only ever put after those that stand, so that the number of a list stands for it for ever.
 use Rattle.std.specs.Prelude.{◌≡◌, ℕ, List, [], ◌∷◌, ◌++◌, map, Some, Vec}
 use Rattle.std.specs.List.{flat_map}
 use Rattle.std.specs.declared.alloc.Global.{Global}

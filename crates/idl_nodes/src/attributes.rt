@@ -1,4 +1,4 @@
-// What stands in a list of attributes, as the first attribute of its kind says it.
+// What is in a list of attributes, as the first attribute of its kind says it.
 ghost use Rattle.std.specs.Prelude.{◌≡◌, map, option_map};
 ghost use Rattle.idl_grammar.specs.Seen.{seen_attribute, seen_attributes, seen_kind};
 ghost use Rattle.idl_language.specs.Attributes.{attribute_list, class_in, class_said, default_class_in, default_said, switch_type_in, switch_said};

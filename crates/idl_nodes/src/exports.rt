@@ -86,7 +86,7 @@ fn operation<'t>(
     })
 }
 
-/// An operation with what stands between its brackets.
+/// An operation with what is between its brackets.
 fn exported<'t>(
     alloc: Global,
     nodes: &mut Nodes<'t>,
@@ -148,7 +148,7 @@ fn typedefs<'t>(
     Ok(())
 }
 
-/// The attributes of a declaration and its type, with all that stands in it.
+/// The attributes of a declaration and its type, with all that is in it.
 fn declaration<'t>(
     alloc: Global,
     nodes: &mut Nodes<'t>,

@@ -125,7 +125,7 @@ fn enlist(words: &mut Vec<Word>, word: Word) -> Result<(), Memory>
     }
 }
 
-/// The rules on an attribute, behind attributes with these words.
+/// The rules on an attribute, after attributes with these words.
 fn attribute(
     finder: &mut Finder<'_>,
     construct: &Construct<'_>,

@@ -113,7 +113,7 @@ fn cases_declared<'t>(
     Ok(list)
 }
 
-/// The arms of a union whose discriminant stands elsewhere.
+/// The arms of a union whose discriminant is elsewhere.
 fn arms_declared<'t>(
     alloc: Global,
     construct: &Construct<'t>,

@@ -35,7 +35,7 @@ pub(crate) fn switch<'t>(nodes: &mut Nodes<'t>, construct: &Construct<'t>) -> Re
     }
 }
 
-/// A declarator that stands in no list.
+/// A declarator that is in no list.
 pub(crate) fn unlisted<'t>(nodes: &mut Nodes<'t>, it: Declared<'t>) -> Result<(), Memory>
     ensures { OnOk result (Adds nodes.old nodes.new (rules.DeclaratorNode [] 0 (seen_declared it.entry) ∷ [])) }
 {
@@ -80,7 +80,7 @@ fn declarators<'t>(
     Ok(index)
 }
 
-/// A type, with all that stands in it.
+/// A type, with all that is in it.
 #[cycle(walk)]
 pub(crate) fn type_spec<'t>(
     alloc: Global,
@@ -247,7 +247,7 @@ fn cases<'t>(
     Ok(())
 }
 
-/// The arms of a union whose discriminant stands elsewhere.
+/// The arms of a union whose discriminant is elsewhere.
 #[cycle(walk)]
 fn arms<'t>(
     alloc: Global,

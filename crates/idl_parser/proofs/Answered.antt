@@ -19,7 +19,7 @@ use Rattle.idl_parser.specs.declared.fault.SyntaxFault.{SyntaxFault}
 use Rattle.idl_parser.specs.declared.fault.SyntaxFault.TheVariants as errors
 use Rattle.idl_parser.specs.Answered.{Told, IsWithin, IsNamed}
 
--- ## a refusal stands within the text
+-- ## a refusal is within the text
 
 fault_within : (f : Fault) (n : ℕ) → front f ≤ n → (e : Refusal) → Fails {Y = tree.Tree} e (Err f) → IsWithin e n
 fault_within f n h refusal.Memory x = tt

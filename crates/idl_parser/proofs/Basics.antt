@@ -1,4 +1,4 @@
--- A name stands in the text; a word that stands for a value is read.
+-- A name is in the text; a word that stands for a value is read.
 use Rattle.std.proofs.Common.{◌≡◌, ℕ, ◌+◌, ◌<◌, ◌≤◌, Bool, true, false, ◌||◌, cond, eqb, length, refl, sym, ap, arith, ◌∙◌, List, [], ◌∷◌, Ok, Err, Option, Some, None}
 use Rattle.phrases.specs.Text.{Lexeme, Text, lexeme_at, symbol_at, is_in}
 use Rattle.phrases.specs.Reading.{Read, Syntax}

@@ -1,4 +1,4 @@
--- What is read behind tags and in brackets.
+-- What is read after tags and in brackets.
 use Rattle.std.proofs.Common.{◌≡◌, ℕ, Bool, true, false, not, List, [], ◌∷◌, cond, refl, ap, ◌∙◌, Ok, Err, Option, Some, None}
 use Rattle.phrases.specs.declared.Refusal.{Refusal}
 use Rattle.phrases.specs.Text.{Text, symbol_at, is_in}

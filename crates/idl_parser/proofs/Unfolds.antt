@@ -40,7 +40,7 @@ operand_read start t unary k i = operation_read (11 - k) start t (level_read sta
 abbrev pub ops_read : ℕ → Text → (ℕ → Read Expr) → ℕ → ℕ → ℕ → Read (List ((ℕ × BinaryOperator) × Expr))
 ops_read start t unary k n i = many_read (λ a. eqb (symbol_level a.symbol) (11 - k)) (operand_read start t unary k) t n i
 
--- what is read behind a left side
+-- what is read after a left side
 abbrev pub behind : ℕ → Text → (ℕ → Read Expr) → ℕ → Expr → ℕ → ℕ → Read Expr
 behind start t unary k e n i = turned (fold e) (ops_read start t unary k n i)
 
@@ -64,7 +64,7 @@ level_begins start t unary k i e m h low first =
     ∙ (ap (λ (r : Read Expr). turned (λ p. fold p.0 p.1) (then r (λ e m. ops_read start t unary k (suc (length t)) m))) first
     ∙ fold_join e (ops_read start t unary k (suc (length t)) m))
 
--- A loop over the operators of a rank: what is read from the start is what is read behind the left side.
+-- A loop over the operators of a rank: what is read from the start is what is read after the left side.
 pub record Behind (start : ℕ) (t : Text) (unary : ℕ → Read Expr) (k i : ℕ) (e : Expr) (m : ℕ) : Type 0 where
   pub fuel : ℕ
   pub enough : length t < fuel + m
@@ -73,7 +73,7 @@ pub record Behind (start : ℕ) (t : Text) (unary : ℕ → Read Expr) (k i : �
   pub is : level_read start t unary k i ≡ behind start t unary k e fuel m
 
 module _ (start : ℕ) (t : Text) (unary : ℕ → Read Expr) (k i : ℕ) (e : Expr) (m : ℕ) (b : Behind start t unary k i e m) where
-  -- the operators behind, where one stands here
+  -- the operators after, where one stands here
   abbrev here_read : ℕ → Read ((ℕ × BinaryOperator) × Expr) → Read Expr
   here_read n r = turned (fold e) (turned (λ p. p.0 ∷ p.1) (then r (λ a p. ops_read start t unary k n p)))
 

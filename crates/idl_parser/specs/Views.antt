@@ -10,6 +10,6 @@ use Rattle.idl_parser.specs.declared.expression.Branches.{Branches}
 abbrev pub seen_operation : Operation → (ℕ × BinaryOperator) × tree.Expr
 seen_operation o = ((o.at, o.operator), seen_expr o.right)
 
--- what stands behind a condition
+-- what stands after a condition
 abbrev pub seen_branches : Branches → ℕ × (tree.Expr × tree.Expr)
 seen_branches b = (b.at, (seen_expr b.then, seen_expr b.otherwise))

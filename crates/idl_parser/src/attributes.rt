@@ -118,7 +118,7 @@ impl Parser<'_> {
         }
     }
 
-    /// A name, perhaps behind `*`.
+    /// A name, perhaps after `*`.
     #[tactic(auto, unfolding(idl_grammar::specs::Reading::variable_name_read))]
     fn variable_name(&self, at: usize) -> Result<(Variable, usize), Refusal>
         requires { at ≤ length self.now }
@@ -170,7 +170,7 @@ impl Parser<'_> {
         Ok((uuid, next))
     }
 
-    /// A major version, and a minor one behind a dot where it stands.
+    /// A major version, and a minor one after a dot where it stands.
     #[tactic(auto, unfolding(idl_grammar::specs::Reading::version_numbers_read))]
     fn version_numbers(&self, at: usize) -> Result<((Spelling, Option<Spelling>), usize), Refusal>
         requires { at ≤ length self.now }
@@ -204,7 +204,7 @@ impl Parser<'_> {
         Ok((numbers, next))
     }
 
-    /// A string behind a comma.
+    /// A string after a comma.
     fn next_string(&self, at: usize) -> Result<(Spelling, usize), Refusal>
         requires within { at ≤ length self.now }
         ensures gives { Gives (λ x. x) result (behind_read symbols.Comma self.now (spelled_read symbols.Quoted self.now) at) }
@@ -292,7 +292,7 @@ impl Parser<'_> {
         Ok((of, next))
     }
 
-    /// An expression behind a comma, inside attribute brackets.
+    /// An expression after a comma, inside attribute brackets.
     fn next_value(&self, nesting: usize, depth: usize, at: usize) -> Result<(Expr, usize), Refusal>
         requires within { at ≤ length self.now }
         requires shallow { depth ≤ 64 }
@@ -346,7 +346,7 @@ impl Parser<'_> {
         Ok((values, next))
     }
 
-    /// An attribute with brackets behind its word.
+    /// An attribute with brackets after its word.
     #[tactic(auto, unfolding(idl_grammar::specs::Reading::bracket_attribute_read))]
     fn bracket_attribute(
         &self,
@@ -429,7 +429,7 @@ impl Parser<'_> {
         Ok((Attribute { at: octet, kind }, next))
     }
 
-    /// An attribute behind a comma.
+    /// An attribute after a comma.
     fn next_attribute(
         &self,
         nesting: usize,

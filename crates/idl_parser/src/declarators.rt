@@ -171,7 +171,7 @@ impl Parser<'_> {
         ))
     }
 
-    /// A declarator behind a comma.
+    /// A declarator after a comma.
     fn next_declarator(
         &self,
         nesting: usize,

@@ -39,7 +39,7 @@ impl Parser<'_> {
         Ok((Enumerator { name, value }, next))
     }
 
-    /// An enumerator behind a comma.
+    /// An enumerator after a comma.
     fn next_enumerator(
         &self,
         nesting: usize,
@@ -98,7 +98,7 @@ impl Parser<'_> {
         Ok((enumerators, next))
     }
 
-    /// The enumerators of a type, behind its tag where it has one.
+    /// The enumerators of a type, after its tag where it has one.
     fn enum_body(
         &self,
         nesting: usize,
@@ -123,7 +123,7 @@ impl Parser<'_> {
         ))
     }
 
-    /// What stands behind `enum`, which begins at an octet.
+    /// What stands after `enum`, which begins at an octet.
     #[tactic(auto, unfolding(idl_grammar::specs::Reading::enum_read))]
     pub(crate) fn enumeration(
         &self,

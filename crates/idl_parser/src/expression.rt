@@ -22,7 +22,7 @@ pub(crate) struct Operation {
     right: Expr,
 }
 
-/// What stands behind the condition of `?:`, and the octet of the `?`.
+/// What stands after the condition of `?:`, and the octet of the `?`.
 #[derive(Drop)]
 pub(crate) struct Branches {
     at: u32,

@@ -41,7 +41,7 @@ impl Parser<'_> {
         ))
     }
 
-    /// A parameter behind a comma.
+    /// A parameter after a comma.
     fn next_parameter(
         &self,
         fuel: usize,
@@ -59,7 +59,7 @@ impl Parser<'_> {
         Ok((parameter, next))
     }
 
-    /// A first parameter, and those behind it.
+    /// A first parameter, and those after it.
     #[tactic(auto, unfolding(idl_grammar::specs::Reading::more_parameters_read))]
     fn parameters_from(
         &self,
@@ -85,7 +85,7 @@ impl Parser<'_> {
         Ok((list, here))
     }
 
-    /// A first parameter of the type void that begins at an octet, and those behind it.
+    /// A first parameter of the type void that begins at an octet, and those after it.
     #[tactic(auto, unfolding(idl_grammar::specs::Reading::void_parameters_read))]
     fn void_parameters(
         &self,
@@ -129,7 +129,7 @@ impl Parser<'_> {
         self.parameters_from(fuel, nesting, depth, first, next)
     }
 
-    /// What stands between the brackets of an operation.
+    /// What is between the brackets of an operation.
     #[tactic(auto, unfolding(idl_grammar::specs::Reading::parameters_read))]
     pub(crate) fn parameters(
         &self,

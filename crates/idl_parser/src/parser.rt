@@ -22,7 +22,7 @@ use std::marker::Model;
 /// How many brackets may be open.
 const DEPTH_LIMIT: usize = 64;
 
-/// What the functions of the parser read. Each goes from a place, the number of a token, to what stands there and
+/// What the functions of the parser read. Each goes from a place, the number of a token, to what is there and
 /// the place past it.
 #[derive(Drop)]
 pub struct Parser<'a> {
@@ -125,14 +125,14 @@ impl Parser<'_> {
         }
     }
 
-    /// Whether a symbol stands at a place.
+    /// Whether a symbol is at a place.
     pub fn stands(&self, wanted: u8, at: usize) -> bool
         ensures { result ≡ is (symbol_at self.now at) wanted }
     {
         self.symbol(at) == wanted
     }
 
-    /// Whether one of these symbols stands at a place.
+    /// Whether one of these symbols is at a place.
     pub fn begins(&self, symbols: &[u8], at: usize) -> bool
         ensures { result ≡ is_in symbols.now (symbol_at self.now at) }
     {
@@ -279,7 +279,7 @@ impl Parser<'_> {
         Ok((UuidText::new(spelling), self.past(at)))
     }
 
-    /// Whether a name stands at a place, inside attribute brackets or outside.
+    /// Whether a name is at a place, inside attribute brackets or outside.
     pub fn is_name(&self, inside: bool, at: usize) -> bool
         ensures { result ≡ is_in (names inside) (symbol_at self.now at) }
     {

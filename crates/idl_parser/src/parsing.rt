@@ -45,7 +45,7 @@ fn whole(parser: &Parser<'_>, fuel: usize, nesting: usize) -> Result<Tree, Refus
     Ok(tree)
 }
 
-/// Whether a word stands at a place that is banned anywhere.
+/// Whether a word is at a place that is banned anywhere.
 #[tactic(auto, unfolding(idl_grammar::specs::Answers::is_banned))]
 fn stands_banned(parser: &Parser<'_>, at: usize) -> bool
     ensures { result ≡ is_banned parser.now at }

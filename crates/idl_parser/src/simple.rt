@@ -58,7 +58,7 @@ fn simple_of(symbol: u8) -> Option<SimpleType>
 }
 
 impl Parser<'_> {
-    /// Whether a word or a mark stands there, and the place past it.
+    /// Whether a word or a mark is there, and the place past it.
     #[tactic(auto, using(phrases::proofs::Within::mark_within))]
     pub(crate) fn flag(&self, wanted: u8, at: usize) -> (bool, usize)
         requires real { is 0 wanted ≡ false }
@@ -86,7 +86,7 @@ impl Parser<'_> {
         }
     }
 
-    /// What stands behind `unsigned`.
+    /// What stands after `unsigned`.
     #[tactic(auto, unfolding(idl_grammar::specs::Reading::unsigned_read))]
     fn unsigned(&self, at: usize) -> Result<(SimpleType, usize), Refusal>
         requires { at ≤ length self.now }

@@ -98,7 +98,7 @@ impl Parser<'_> {
         Ok((TypeSpec::Name(name), next))
     }
 
-    /// What stands behind `struct`, which begins at an octet.
+    /// What stands after `struct`, which begins at an octet.
     #[cycle(types)]
     #[tactic(auto, unfolding(idl_grammar::specs::Reading::struct_read))]
     fn structure(
@@ -132,7 +132,7 @@ impl Parser<'_> {
         self.struct_body(fuel, nesting, depth, octet, None, at)
     }
 
-    /// The members of a struct in curly brackets, behind its tag where it has one.
+    /// The members of a struct in curly brackets, after its tag where it has one.
     #[cycle(types)]
     #[tactic(auto, using(idl_grammar::proofs::Rows::struct_is), unfolding(idl_grammar::specs::Reading::struct_body_read))]
     fn struct_body(
@@ -219,7 +219,7 @@ impl Parser<'_> {
         ))
     }
 
-    /// What stands behind `union`, which begins at an octet.
+    /// What stands after `union`, which begins at an octet.
     #[cycle(types)]
     #[tactic(auto, unfolding(idl_grammar::specs::Reading::union_read))]
     fn tagged_union(
@@ -253,7 +253,7 @@ impl Parser<'_> {
         self.union_body(fuel, nesting, depth, octet, None, at)
     }
 
-    /// The body of a union, behind its tag where it has one.
+    /// The body of a union, after its tag where it has one.
     #[cycle(types)]
     #[tactic(auto, using(idl_grammar::proofs::Rows::cases_are, idl_grammar::proofs::Rows::arms_are), unfolding(idl_grammar::specs::Reading::union_body_read))]
     fn union_body(

@@ -54,7 +54,7 @@ swapped w a b None h i = noted_all w (b ∷ a ∷ []) ∙ ap (λ x. Some x) (eit
 swapped w a b (Some x) h i =
     noted_all w (x ∷ b ∷ a ∷ []) ∙ ap (λ y. Some (earlier w x (Some y))) (either_order w a b h i) ∙ sym (noted_all w (x ∷ a ∷ b ∷ []))
 
--- another breach may be noted behind those of rule 11
+-- another breach may be noted after those of rule 11
 behind_cycles : (w : World) (b : Breach) (o : Option Breach) (bs : List Breach) → is_cycle b ≡ false
     → noted w (later w b o) (cycles_alone bs) ≡ later w b (noted w o (cycles_alone bs))
 behind_cycles w b o [] i = refl

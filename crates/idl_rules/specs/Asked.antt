@@ -28,7 +28,7 @@ use Rattle.idl_language.specs.declared.rule.TheConstants as Rule
 
 -- ## Declarators
 
--- others stand behind it in its list
+-- others stand after it in its list
 abbrev pub is_followed : Use → Bool
 is_followed u = ltb (u.index + 1) (length u.list)
 
@@ -44,7 +44,7 @@ pub record IsAsked (s : Scene) (ks : List Kind) (u : Use) (a : Asked) : Type 0 w
   pub lower_bounds : a.lower_bounds ≡ has_lower_bounds s.known u.it
   pub no_variable : a.no_variable ≡ has_no_variable u
 
--- ## The breaches of a declarator, topic by topic, behind others
+-- ## The breaches of a declarator, topic by topic, after others
 
 abbrev pub with_types : Scene → Use → List Breach → List Breach
 with_types s u before =

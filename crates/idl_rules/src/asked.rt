@@ -25,7 +25,7 @@ use idl_types::types::Typed;
 pub struct Asked<'t> {
     pub construct: Construct<'t>,
     pub typed: Typed,
-    /// Others stand behind it in its list.
+    /// Others stand after it in its list.
     pub followed: bool,
     /// A dimension has a lower bound other than 0.
     pub lower_bounds: bool,
@@ -86,7 +86,7 @@ impl<'j> Judge<'j> {
         }
     }
 
-    /// The same without the type behind it, where it is a reference pointer.
+    /// The same without the type after it, where it is a reference pointer.
     pub(crate) fn below_reference(&self, number: usize) -> Mark
         ensures { (s : Scene) → AreMarks s self.now.kinds.now self.now.marks.now → Holds s (below_reference (type_at self.now.kinds.now number)) result }
     {
@@ -96,7 +96,7 @@ impl<'j> Judge<'j> {
         }
     }
 
-    /// The same without the type behind it, where it is a pointer.
+    /// The same without the type after it, where it is a pointer.
     pub(crate) fn below_pointer(&self, number: usize) -> Mark
         ensures { (s : Scene) → AreMarks s self.now.kinds.now self.now.marks.now → Holds s (below_pointer (type_at self.now.kinds.now number)) result }
     {

@@ -27,7 +27,7 @@ use nd_base::Memory;
 use nd_types::Interface;
 use std::alloc::Global;
 
-/// A rule that is told.
+/// A rule that is reported.
 pub fn broken(first: Breach) -> RuleFault
     ensures { result ≡ faults.Broken first.rule first.place }
 {

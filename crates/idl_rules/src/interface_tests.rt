@@ -22,7 +22,7 @@ fn interface_of(alloc: Global, text: &[u8]) -> Result<Interface, Fail> {
     Ok(check(alloc, &scope)?)
 }
 
-/// The word of an attribute in what is told.
+/// The word of an attribute in what is reported.
 fn attr_word(attr: Attr) -> &'static str {
     match attr {
         Attr::Size => "s",
@@ -123,7 +123,7 @@ fn tell_type(out: &mut Octets, alloc: Global, it: &TypeDef) -> Result<(), Fail> 
     Ok(())
 }
 
-/// What stands in an enumerated type or a struct, and the bound of an array or text.
+/// What is in an enumerated type or a struct, and the bound of an array or text.
 fn tell_parts(out: &mut Octets, alloc: Global, it: &TypeDef) -> Result<(), Fail> {
     match it {
         TypeDef::Enum { values } => {

@@ -15,7 +15,7 @@ ghost use Rattle.nd_types.specs.declared.interface.Interface.{Interface};
 ghost use Rattle.idl_language.specs.declared.fault.RuleFault.TheVariants as fault;
 ghost use Rattle.idl_language.specs.Answers.{Answers};
 
-/// No two answers are right of the same files, but for want of memory.
+/// No two answers are right of the same files, except when out of memory.
 pub fn one_answer_is_right()
     ensures told { (w : World) (rule other : ℕ) (place elsewhere : Place) → Answers w (Err (fault.Broken rule place)) → Answers w (Err (fault.Broken other elsewhere))
         → breach rule place ≡ breach other elsewhere }

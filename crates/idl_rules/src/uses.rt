@@ -45,7 +45,7 @@ fn is_before_last(index: usize, count: usize) -> bool
     index < count.saturating_sub(1)
 }
 
-/// Whether others stand behind one in a list.
+/// Whether others stand after one in a list.
 fn is_followed(nodes: &Nodes<'_>, list: usize, index: usize) -> bool
     ensures { result ≡ ltb (index + 1) (length (list_at nodes.now.lists.items list)) }
 {

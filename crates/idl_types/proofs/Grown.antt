@@ -118,7 +118,7 @@ nothing_all firsts c (t ∷ ts) h =
     let e = both (is_settled firsts t) (list_all (is_settled firsts) ts) h in
     ap (λ l. grown l (map (needed c) ts)) (nothing_more firsts (needed c t) e.0) ∙ nothing_all firsts c ts e.1
 
--- ## A type behind those of which it is made
+-- ## A type after those of which it is made
 
 settled_now : (firsts : List Needed) (n : Needed) → is_settled (grown_by firsts n) n.type ≡ true
 settled_now firsts n = by (has_own_number n.type) (has_number firsts n.type) refl refl where

@@ -87,7 +87,7 @@ closed_node ks firsts (node.Declarator list index it) t h = closed_behind firsts
 closed_node ks firsts (node.Result it) t h = closed_behind firsts (seen_result it).construct (type_at ks t.of) h
 closed_node ks firsts _ t h = h
 
--- the types with numbers behind the first i nodes
+-- the types with numbers after the first i nodes
 abbrev pub numbered : Known → program_nodes.Nodes → ℕ → List Needed
 numbered known n i = grown [] (flat_map (λ x. needed_by known x.names x.node) (scoped_front known n i))
 

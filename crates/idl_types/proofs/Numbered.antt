@@ -192,7 +192,7 @@ gets_one ks firsts old new c k place s at own none g =
 
 -- ## Down a type
 
--- a type behind those of which it is made, by the number of one of these
+-- a type after those of which it is made, by the number of one of these
 abbrev pub built_at : List Kind → Option ℕ → List IdlType
 built_at ks None = []
 built_at ks (Some k) = built (type_at ks k)

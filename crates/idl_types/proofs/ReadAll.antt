@@ -58,7 +58,7 @@ body_in : (known : Known) (nodes : List Scoped) (n : program_nodes.Nodes) (ks : 
     → IsBody (record { known = known; nodes = nodes }) n ks body b
 body_in known nodes n ks body b h = record { place = h.place; nonencapsulated = h.nonencapsulated; parts = h.parts; values = h.values; node = h.node }
 
--- behind the last node
+-- after the last node
 pub all_read : (known : Known) (n : program_nodes.Nodes) (i : ℕ) (t : Types) (names : List (List ℕ × ℕ)) → i ≡ length n.items.items → AreRead known n i t names
     → IsTypes (scene_seen known n) n t
 all_read known n i t names end h =

@@ -74,7 +74,7 @@ enumerators_leave : (known : Known) (names : Names) (c : Construct) (es : List E
 enumerators_leave known names c [] = refl
 enumerators_leave known names c (e ∷ es) = enumerators_leave known names c es
 
--- the names behind one node of the program
+-- the names after one node of the program
 abbrev pub names_behind_node : Known → Names → program_node.Node → Names
 names_behind_node known names (node.Declarator list index d) = names_behind known names (DeclaratorNode [] 0 (seen_declared d))
 names_behind_node known names (node.Result r) = names_behind known names (DeclaratorNode [] 0 (seen_result r))

@@ -159,7 +159,7 @@ later (d ∷ ds) k name i h = go (bytes_eq name d.declarator.name.octets) h (λ 
     go true f next = omega (arith, same_Some k i f)
     go false f next = omega (arith, next f)
 
--- the item of a name stands at its place
+-- the item of a name is at its place
 pub listed_at : (ds : List Declared) (k : ℕ) (name : List ℕ) (i : ℕ) → index_of (listed_from k ds name) ≡ Some i → (j : ℕ) → i ≡ k + j
     → option_map (λ (l : Listed). l.it) (listed_from k ds name) ≡ slice_get ds j
 listed_at [] k name i h j e = refl

@@ -1,4 +1,4 @@
--- For the code: what types hold in their place, as a graph of their numbers with `void` behind them.
+-- For the code: what types hold in their place, as a graph of their numbers with `void` after them.
 use Rattle.std.specs.Prelude.{◌≡◌, ℕ, suc, ◌<◌, Bool, true, ltb, List, map, Option, Some, None}
 use Rattle.std.specs.List.{list_all}
 use Rattle.nd_base.specs.declared.octets.Place.{Place}
@@ -14,7 +14,7 @@ use Rattle.idl_graph.specs.Graph.{parts_at, rule_at}
 abbrev pub parts_in_place : Scene → Place → List IdlType
 parts_in_place s place = in_place s (Struct place)
 
--- the numbers of types, each one of a type or that of `void` behind them
+-- the numbers of types, each one of a type or that of `void` after them
 pub record AreHeld (ks : List Kind) (count : ℕ) (numbers : List ℕ) (types : List IdlType) : Type 0 where
   pub seen : map (type_at ks) numbers ≡ types
   pub within : list_all (λ p. ltb p (suc count)) numbers ≡ true
@@ -40,6 +40,6 @@ barred_rule (Array t None varying) = Always
 barred_rule (Array t (Some count) true) = Always
 barred_rule _ = Any
 
--- the rule of each type, and of `void` behind all types
+-- the rule of each type, and of `void` after all types
 abbrev pub AreRules : (IdlType → Rule) → List Kind → ℕ → List Rule → Type 0
 AreRules rule_of ks count rules = (node : ℕ) → node < suc count → rule_at rules node ≡ rule_of (type_at ks node)

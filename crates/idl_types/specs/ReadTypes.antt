@@ -88,7 +88,7 @@ pub record OperationsOver (known : Known) (n : program_nodes.Nodes) (front : Lis
 abbrev pub OperationsRead : Known → program_nodes.Nodes → ℕ → List Kind → List OperationTypes → Type 0
 OperationsRead known n i ks noted = OperationsOver known n (called_front known n i) ks noted
 
--- all that is noted of the first i nodes, and the names behind them
+-- all that is noted of the first i nodes, and the names after them
 pub record AreRead (known : Known) (n : program_nodes.Nodes) (i : ℕ) (t : Types) (names : List (List ℕ × ℕ)) : Type 0 where
   pub names_read : NamesRead known n i t.kinds names
   pub typed_read : TypedRead known n i t.kinds t.typed.items

@@ -17,7 +17,7 @@ use Rattle.idl_language.specs.Scene.{Scene}
 use Rattle.idl_language.specs.Numbering.{Needed, needed, built, has_own_number, same_type, own_types, number_of_type}
 use Rattle.idl_kinds.specs.Kinds.{type_at, AreOnce}
 
--- the number that stands at a kind's, if one does
+-- the number that is at a kind's, if one does
 abbrev pub found_number : Option (Option ℕ) → Option ℕ
 found_number (Some n) = n
 found_number None = None
@@ -97,7 +97,7 @@ pub record Gives (kind : ℕ) (place : Place) (old : Numbers) (new : Numbers) : 
 abbrev pub along : List Kind → Construct → List ℕ → List Needed
 along ks c path = map (λ k. needed c (type_at ks k)) path
 
--- a type that a construct needs, behind those of which it is made
+-- a type that a construct needs, after those of which it is made
 abbrev pub built_in : List Kind → Construct → Typed → List Needed
 built_in ks c t = map (needed c) (built (type_at ks t.of))
 

@@ -75,7 +75,7 @@ impl Numbers {
         }
     }
 
-    /// The number of a type. `void`, and what the program does not need, have the one behind the last.
+    /// The number of a type. `void`, and what the program does not need, have the one after the last.
     pub fn number(&self, kinds: &Kinds, kind: usize) -> usize
         ensures { result ≡ number_at kinds.now self.now kind }
     {

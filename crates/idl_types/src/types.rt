@@ -99,7 +99,7 @@ impl Types {
     }
 }
 
-/// By which place a struct, union or enum is told.
+/// By which place a struct, union or enum is reported.
 fn place_of(construct: &Construct, body: &TypeSpec) -> Place
     ensures { result ≡ place_of_type construct.now.file (seen_type body.now) }
 {
@@ -468,7 +468,7 @@ fn body_types(
     })
 }
 
-/// Keeps what is noted of a body, and its number under its place, unless one stands there already.
+/// Keeps what is noted of a body, and its number under its place, unless one is there already.
 fn push_body(
     bodies: &mut Vec<BodyTypes>,
     by_place: &mut Places,
@@ -484,7 +484,7 @@ fn push_body(
     Ok(())
 }
 
-/// Gives a place a number, unless one stands there already.
+/// Gives a place a number, unless one is there already.
 fn put_place(by_place: &mut Places, place: Place, number: usize) -> Result<(), Memory>
     ensures { OnOk result (by_place.new ≡ and_place by_place.old place number) }
 {

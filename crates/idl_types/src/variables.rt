@@ -161,7 +161,7 @@ fn is_behind(kinds: &Kinds, wanted: Wanted, of: usize) -> bool
     }
 }
 
-/// Whether a variable of a type is what is wanted: with `*` it is behind a parameter that is a reference pointer.
+/// Whether a variable of a type is what is wanted: with `*` it is after a parameter that is a reference pointer.
 fn is_passed(kinds: &Kinds, wanted: Wanted, parameter: bool, star: bool, of: usize) -> bool
     ensures { result ≡ passes (wanted_test wanted) parameter star (type_at kinds.now of) }
 {

@@ -1,4 +1,4 @@
--- The body with the least key, and of these the first, is the one that is told.
+-- The body with the least key, and of these the first, is the one that is reported.
 use Rattle.std.proofs.Common.{◌≡◌, ◌∙◌, ◌⊎◌, inl, inr, ℕ, ◌+◌, ◌*◌, ◌<◌, ◌≤◌, Bool, true, false, ◌&&◌, ◌||◌, eqb, ltb, List, length, Option, Some, None, slice_get, refl, ap, sym, subst, arith}
 use Rattle.std.proofs.lemmas.Bool.Decides.{nat_tests}
 use Rattle.std.proofs.lemmas.Option.{none-some, same_Some, slice_get_within}
@@ -73,7 +73,7 @@ module _ (w : World) (s : Scene) (keys numbers : List ℕ) (key : ℕ) (all : Ar
           let l = one.least i x (key_of w.files x) at (all.each i x at).is_key has in
           not_before_by b x number i there at (subst (λ (k : ℕ). k ≤ key_of w.files x) (sym own) l)
 
-  -- the body that is told
+  -- the body that is reported
   pub body_told : (number : ℕ) → IsLeastValue s numbers number → (b : Body) × (slice_get (bodies s) number ≡ Some b)
   body_told number two = by (with.others two.number (key_of w.files two.body) number (all.each two.number two.body two.there).is_key two.is_value) where
     by : (key_of w.files two.body ≡ key) × (number ≡ two.number) ⊎ (number ≡ length keys) → (b : Body) × (slice_get (bodies s) number ≡ Some b)

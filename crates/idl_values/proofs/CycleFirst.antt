@@ -76,7 +76,7 @@ pub none_noted : (w : World) (s : Scene) (o : Option Breach) → ((i : ℕ) (x :
     → o ≡ noted w o (cycle_breaches s)
 none_noted w s o h = sym (none_from w s o (bodies s) h)
 
--- behind the first
+-- after the first
 behind_from : (w : World) (s : Scene) (c : Breach) (o : Option Breach) (bs : List Body)
     → ((i : ℕ) (x : Body) → slice_get bs i ≡ Some x → contains_itself s x ≡ true → comes_before w (cycle_at x) c ≡ false)
     → noted w (later w c o) (flat_map (cycle_of s) bs) ≡ later w c o

@@ -92,7 +92,7 @@ or_three false false false false true g = refl
 or_three false false false false false true = refl
 or_three false false false false false false = refl
 
--- a class stands in the list, or at its end
+-- a class is in the list, or at its end
 pub classes_more : (before : List Attribute) (a : Attribute) → has_one_of classes (before ++ a ∷ []) ≡ (has_one_of classes before || is_class a)
 classes_more before a =
     ap₂ (λ x y. x || y) (any_last (is_word (codes "ref")) before a)

@@ -121,7 +121,7 @@ fn graph_of(alloc: Global, types: &Types) -> Result<Graph, Memory>
     Ok(graph)
 }
 
-/// A value at a number, if it is less than what stands there.
+/// A value at a number, if it is less than what is there.
 fn lower(least: &mut [u128], number: usize, value: u128)
     ensures { least.new ≡ slice_set least.old number (min (slice_index_or least.old number 0) value) }
 {
@@ -228,7 +228,7 @@ fn with_key(alloc: Global, keys: &[u128], key: u128) -> Result<Vec<u128>, Memory
     Ok(numbers)
 }
 
-/// Where a breach of a body is told, by the number of the body.
+/// Where a breach of a body is reported, by the number of the body.
 fn told(nodes: &Nodes<'_>, types: &Types, number: u128) -> Option<Place>
     ensures { (s : Scene) (b : Body) → IsTypes s nodes.now types.now → slice_get (bodies s) number ≡ Some b
         → result ≡ Some (place_in b.construct b.construct.at) }

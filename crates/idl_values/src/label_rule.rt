@@ -92,7 +92,7 @@ fn accepts(accepted: &Accepted<'_>, value: Option<i128>) -> bool
     }
 }
 
-/// The rule on a label, behind others with the values of a set.
+/// The rule on a label, after others with the values of a set.
 fn label(
     finder: &mut Finder<'_>,
     construct: &Construct<'_>,

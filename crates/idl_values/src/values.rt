@@ -127,7 +127,7 @@ fn is_class(attribute: &Attribute) -> bool
     }
 }
 
-/// The rule on classes in a list: at most one stands there.
+/// The rule on classes in a list: at most one is there.
 pub fn second_classes(finder: &mut Finder<'_>, construct: &Construct<'_>)
     ensures files { finder.new.files.now ≡ finder.old.files.now }
     ensures first { (w : World) (s : Scene) (names : Names) → w.files ≡ seen_files finder.old.files.now

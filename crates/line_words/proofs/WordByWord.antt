@@ -3,7 +3,7 @@ use Rattle.std.proofs.Common.{◌≡◌, ◌∙◌, ℕ, List, [], ◌∷◌, �
 use Rattle.std.proofs.lemmas.List.{append-nil}
 use Rattle.line_words.specs.Lines.{spaced, line, behind}
 
--- a line is its first word with the others behind it
+-- a line is its first word with the others after it
 pub spaced_first : (word : List ℕ) (words : List (List ℕ)) → spaced (word ∷ words) ≡ word ++ behind words
 spaced_first word [] = sym (append-nil word)
 spaced_first word (next ∷ words) =
@@ -15,11 +15,11 @@ pub behind_more : (xs ys : List (List ℕ)) → behind (xs ++ ys) ≡ behind xs 
 behind_more [] ys = refl
 behind_more (x ∷ xs) ys = ap (λ t. codes " " ++ x ++ t) (behind_more xs ys) ∙ sym (append_assoc (codes " " ++ x) (behind xs) (behind ys))
 
--- a word behind a text
+-- a word after a text
 pub one_behind : (t word : List ℕ) → (t ++ codes " ") ++ word ≡ t ++ behind (word ∷ [])
 one_behind t word = append_assoc t (codes " ") word ∙ ap (λ u. t ++ u) (sym (append-nil (codes " " ++ word)))
 
--- words behind words
+-- words after words
 pub then_words : (base t : List ℕ) (xs ys : List (List ℕ)) → t ≡ base ++ behind xs → t ++ behind ys ≡ base ++ behind (xs ++ ys)
 then_words base t xs ys e = ap (λ u. u ++ behind ys) e ∙ append_assoc base (behind xs) (behind ys) ∙ ap (λ u. base ++ u) (sym (behind_more xs ys))
 
@@ -40,6 +40,6 @@ goes_on t word more =
 pub first_word : (base first : List ℕ) → base ++ first ≡ (base ++ first) ++ behind []
 first_word base first = sym (append-nil (base ++ first))
 
--- a piece behind pieces
+-- a piece after pieces
 pub then_piece : {X : Type 0} (base t xs ys : List X) → t ≡ base ++ xs → t ++ ys ≡ base ++ (xs ++ ys)
 then_piece base t xs ys e = ap (λ u. u ++ ys) e ∙ append_assoc base xs ys

@@ -20,7 +20,7 @@ abbrev pub word_if : Bool → List ℕ → List (List ℕ)
 word_if true word = word ∷ []
 word_if false word = []
 
--- words, each behind a space
+-- words, each after a space
 abbrev pub behind : List (List ℕ) → List ℕ
 behind [] = []
 behind (word ∷ words) = codes " " ++ word ++ behind words

@@ -1,4 +1,4 @@
-// Words of a line, each behind a space, and the words of classes and sides.
+// Words of a line, each after a space, and the words of classes and sides.
 ghost use Rattle.std.specs.Prelude.{◌≡◌, ◌++◌, ◌∷◌, [], OnOk, codes, decimal};
 ghost use Rattle.std.specs.Fmt.{signed_decimal};
 ghost use Rattle.line_words.specs.Lines.{word_if, behind, class_word, side_word};
@@ -7,7 +7,7 @@ use itoa::Buffer;
 use nd_base::{Memory, Octets};
 use nd_types::{Class, Side};
 
-/// Adds a word to a text, behind a space. Memory is the only refusal.
+/// Adds a word to a text, after a space. Memory is the only refusal.
 pub fn word(text: &mut Octets, word: &[u8]) -> Result<(), Memory>
     ensures { OnOk result (text.new ≡ text.old ++ behind (word.now ∷ [])) }
 {

@@ -12,7 +12,7 @@ failing_calls c = c.fails.items
 abbrev pub calls_done : Calls → ℕ
 calls_done c = c.done
 
--- whether the next call is to fail: its number stands in the list
+-- whether the next call is to fail: its number is in the list
 abbrev pub fails_next : Calls → Bool
 fails_next c = list_any (λ number. number == next_count c.done) c.fails.items
 

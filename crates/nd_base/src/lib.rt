@@ -1,5 +1,5 @@
 //! Octets and names, and the traits of what stands outside: sources, sinks and files. Each of these is known
-//! by what it tells of itself, and by counts of its faults. Want of memory is an answer of each call that takes
+//! by what it tells of itself, and by counts of its faults. Running out of memory is an answer of each call that takes
 //! memory, and has no cause that a contract could name.
 #![tactic(auto)]
 

@@ -62,7 +62,7 @@ pub fn position(octets: &[u8]) -> (u64, u64)
     (line, column)
 }
 
-/// The octets of all pieces, one after the other. Takes memory for them, and want of memory is the only refusal.
+/// The octets of all pieces, one after the other. Takes memory for them, and running out of memory is the only refusal.
 pub fn join(alloc: Global, pieces: &[&[u8]]) -> Result<Octets, Memory>
     ensures { IfOk result (λ joined. joined ≡ text.joined (map (λ p. p.now) pieces.now)) }
 {

@@ -14,7 +14,7 @@ use nd_value::CellId;
 use std::alloc::Global;
 
 /// Whether a one-to-one map of cell numbers carries the graph of `a` to the graph of `b`. It takes memory for two numbers and a mark for
-/// each cell, and two numbers for each pointer that is due, of each graph. Want of memory is the only refusal. It takes time in
+/// each cell, and two numbers for each pointer that is due, of each graph. Running out of memory is the only refusal. It takes time in
 /// proportion to nodes and cells, and no call is nested deeper for a longer chain.
 pub fn same(alloc: Global, a: &Fit, b: &Fit) -> Result<bool, Memory>
     ensures { IfOk result (λ same. Decides same (Same a.now.graph b.now.graph)) }

@@ -28,7 +28,7 @@ pub enum OpenHome {
 
 /// Builds a graph, one root or cell at a time and in any order: a home is opened, and its nodes are added depth first, each with the
 /// number of its children. Contracts see the graph so far, in which homes that are not built are unread, the home that is open, and
-/// its nodes so far. After want of memory a builder is as it was before the call.
+/// its nodes so far. After running out of memory a builder is as it was before the call.
 #[derive(Drop)]
 pub struct Builder {
     nodes: Vec<Node>,
@@ -77,7 +77,7 @@ impl Builder {
         }
     }
 
-    /// Opens the next root, which takes memory. The home that was open must be whole. Want of memory is the only refusal.
+    /// Opens the next root, which takes memory. The home that was open must be whole. Running out of memory is the only refusal.
     pub fn root(&mut self) -> Result<(), Memory>
         requires { CanClose self.old }
         ensures ok { OnOk result (self.new ≡ opened (home.Root (length self.old.graph.roots)) (with_root (closed self.old)) self.old) }
@@ -99,7 +99,7 @@ impl Builder {
     }
 
     /// Gives the next cell its number, from 1, and counts one step. The cell is of this type, and is not built yet. The home that is
-    /// open stays open. It takes memory; want of memory is the only refusal, and counts nothing.
+    /// open stays open. It takes memory; running out of memory is the only refusal, and counts nothing.
     pub fn reserve<L: Ledger>(&mut self, of: TypeId, steps: &mut Steps<L>) -> Result<CellId, Memory>
         requires few { length self.old.graph.cells < 2 ^ 32 - 1 }
         ensures cell { IfOk result (λ c. c.0 ≡ length self.old.graph.cells + 1) }
@@ -133,7 +133,7 @@ impl Builder {
     }
 
     /// Adds the next node of the open home. A number or tag must be from -2^64 to 2^64 - 1, and a text have fewer than 2^32 octets. It
-    /// takes memory; want of memory is the only refusal.
+    /// takes memory; running out of memory is the only refusal.
     pub fn add(&mut self, node: &Seen<'_>) -> Result<(), Memory>
         requires { IsKeepable (flat_seen node.now).0 }
         ensures ok { OnOk result (self.new ≡ with_node (flat_seen node.now) self.old) }
@@ -147,7 +147,7 @@ impl Builder {
     }
 
     /// Adds numbers of the open home as its next nodes, which are kept side by side as they are. There must be one at least. It takes
-    /// memory for the octets and one node; want of memory is the only refusal.
+    /// memory for the octets and one node; running out of memory is the only refusal.
     pub fn row(&mut self, row: &Row<'_>) -> Result<(), Memory>
         requires whole { IsRow row.now }
         requires some { 0 < row.now.count }

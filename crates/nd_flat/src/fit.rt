@@ -84,7 +84,7 @@ impl Fit {
 
     /// The same with its cells renumbered: `numbers` are the new numbers by the old ones, from 0, and `cells` the old numbers in the
     /// order of the new ones, from 1. The listed cells must be there, and the graph conform after it as before. It takes memory for
-    /// all nodes, octets, roots and cells. Want of memory is the only refusal.
+    /// all nodes, octets, roots and cells. Running out of memory is the only refusal.
     pub fn renumbered(&self, alloc: Global, numbers: &[u32], cells: &[u32]) -> Result<Fit, Memory>
         requires there { AreThere (length self.now.graph.cells) cells.now }
         requires fits { IsFit (renumbered_fitting numbers.now cells.now self.now) }
@@ -100,7 +100,7 @@ impl Fit {
         ))
     }
 
-    /// The graph as values that callers can take apart and change. It takes memory for each value. Want of memory is the only
+    /// The graph as values that callers can take apart and change. It takes memory for each value. Running out of memory is the only
     /// refusal; then the fit is handed back unchanged.
     pub fn graph(self, alloc: Global) -> Result<Graph, (Memory, Fit)>
         ensures graph { IfOk result (λ g. g ≡ self.graph) }

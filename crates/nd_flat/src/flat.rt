@@ -115,7 +115,7 @@ impl FlatGraph {
         type_in(self.cells.as_slice(), at)
     }
 
-    /// The graph as values that callers can take apart and change. It takes memory for each value; want of memory is the only
+    /// The graph as values that callers can take apart and change. It takes memory for each value; running out of memory is the only
     /// refusal.
     pub fn values(&self, alloc: Global) -> Result<Graph, Memory>
         ensures { IfOk result (λ g. g ≡ self.now) }

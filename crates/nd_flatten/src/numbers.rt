@@ -75,7 +75,7 @@ fn is_number_of(val: &Val, prim: Prim) -> bool
     }
 }
 
-// Adds numbers of a primitive to the nodes of the open home, as a row. Want of memory is the only refusal.
+// Adds numbers of a primitive to the nodes of the open home, as a row. Running out of memory is the only refusal.
 pub(crate) fn add_numbers(
     alloc: Global,
     builder: &mut Builder,

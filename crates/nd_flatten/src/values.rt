@@ -12,7 +12,7 @@ use nd_flat::{Builder, Seen};
 use nd_value::{ArmVal, Val, Vals};
 use std::alloc::Global;
 
-// Adds the nodes of a value to those of the open home, depth first. Want of memory is the only refusal.
+// Adds the nodes of a value to those of the open home, depth first. Running out of memory is the only refusal.
 #[cycle(values)]
 pub(crate) fn add_value(alloc: Global, builder: &mut Builder, val: &Val) -> Result<(), Memory>
     requires few { node_count (more (tree_of val.now) none) < 2 ^ 32 }

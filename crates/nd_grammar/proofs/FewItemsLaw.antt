@@ -46,7 +46,7 @@ roots_length : (i n : ℕ) → length (due_roots i n) ≡ n
 roots_length i zero = refl
 roots_length i (suc n) = ap suc (roots_length (suc i) n)
 
--- a pointer of the roots stands in one of them
+-- a pointer of the roots is in one of them
 root_pointer : (table : Table) (i : ℕ) (rs : List Root) (vs : List Tree) (p : Pending) → Among (root_pointers table i rs vs) p
     → (j : ℕ) × (r : Root) × (slice_get rs j ≡ Some r) × Among (home_pointers table (home.Root (i + j)) r.of (or_unread (slice_get vs j))) p
 root_pointer table i [] vs p a = absurd a

@@ -294,7 +294,7 @@ no_result_pipe side.Out None = tt
 no_result_pipe side.In (Some t) = tt
 no_result_pipe side.In None = tt
 
--- where pipes come last, those behind the first are the pipes
+-- where pipes come last, those after the first are the pipes
 abbrev count_from : Bool → ℕ → ℕ
 count_from b n = elim b [ true ↦ 0 | false ↦ suc n ]
 

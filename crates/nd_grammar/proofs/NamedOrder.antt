@@ -201,7 +201,7 @@ module _ (table : Table) (h : Home) where
       (then_repeats known [] (cells_met O) [] (cells_met R) (own_repeat known k (is_pointer l) n (node l ks) (first_agreements ags))
       (λ later w v. child_repeat later (more_known known later w k) (rest_agreements ags) (n + 1 + node_count ks) ts))
 
-  -- the pointers of a value and of those behind it, and their entries, part by part
+  -- the pointers of a value and of those after it, and their entries, part by part
   abbrev pointers_of : List ℕ → List (List Agreement) → ℕ → Trees → List Pending
   pointers_of types ags n ts = flat_map (pointer table h) (nodes_of table types ags n ts)
 

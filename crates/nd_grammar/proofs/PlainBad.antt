@@ -90,7 +90,7 @@ module _ (order : Order) (nums : ℕ → ℕ) (os : List ℕ)
   two : (xs : List EntryAt) (a b : EntryAt) (ys : List EntryAt) → ((xs ++ a ∷ []) ++ b ∷ []) ++ ys ≡ xs ++ (a ∷ b ∷ ys)
   two xs a b ys = simp append_assoc
 
-  -- an entry that is whole, and what comes behind it
+  -- an entry that is whole, and what comes after it
   whole_then : (ahead : List EntryAt) (i at : ℕ) (p : Primitive) (ps : List Primitive) (z : ℤ) (zs : List ℤ)
       → at + gap at (width p) + width p ≤ length os → at + gap at (width p) + width p ≤ STREAM_LIMIT → value_of_octets order p (take (width p) (drop (at + gap at (width p)) os)) ≡ z
       → IsShort ((ahead ++ gap_entry i at p ∷ []) ++ num_entry i at p z ∷ []) (suc i) (at + gap at (width p) + width p) ps zs

@@ -1,5 +1,5 @@
 -- Reading plain numbers one by one: what each further number adds. A loop over the primitives keeps the numbers that it has read
--- and the place behind them.
+-- and the place after them.
 use Rattle.std.proofs.Common.{◌≡◌, ℕ, ◌+◌, ◌*◌, ◌<◌, ◌≤◌, zero, suc, ℤ, Bool, true, false, cond, leb, List, [], ◌∷◌, ◌++◌, length, Option, Some, None, refl, ap, ap₂, sym, ◌∙◌, arith, take, drop, append_assoc, get_or, add-one, length-append, length-drop}
 use Rattle.std.proofs.lemmas.Bool.{le-leb, leb-true}
 use Rattle.std.proofs.lemmas.Bool.Decides.{nat_tests}
@@ -13,7 +13,7 @@ use Rattle.nd_grammar.specs.Entry.{gap}
 use Rattle.nd_types.specs.Number.{value_of_octets}
 use Rattle.nd_grammar.specs.Plain.{numbers_at, plain_end, with}
 
--- the place where a number of a primitive begins, and the place behind it
+-- the place where a number of a primitive begins, and the place after it
 abbrev pub start_of : Primitive → ℕ → ℕ
 start_of p at = at + gap at (width p)
 

@@ -80,7 +80,7 @@ module _ (table : Table) (h : Home) (t : ℕ) (p : Primitive) (prim : type_at ta
       ap (λ d. pointer_by d (is_pointer l) (cell_in l) h 0 [] ++ flat_map (pointer table h) (nodes_of table (child_types d l ks) (child_agreements d ks) 1 ks ++ [])) prim
       ∙ ap (λ x. flat_map (pointer table h) (x ++ [])) (no_nodes table [] 1 ks)
 
--- what stands in a list from the i-th on
+-- what is in a list from the i-th on
 abbrev pub Suffix : {X : Type 0} → List X → ℕ → List X → Type 0
 Suffix whole i rest = (k : ℕ) → slice_get whole (k + i) ≡ slice_get rest k
 
@@ -118,7 +118,7 @@ module _ (w : Setting) (g : Graph) where
   all_entries (p ∷ ps) (r ∷ rs) i a s =
       ap₂ (λ x y. x ++ y) (entries_are i r p (suffix_first _ i r rs s) a.2) (all_entries ps rs (suc i) a.3 (suffix_next _ i r rs s))
 
-  -- the roots stand one behind the other
+  -- the roots stand one after the other
   plain_deferral : (ps : List Primitive) (rs : List Root) (i : ℕ) → ArePlain w.table rs ps → Suffix (root_list w) i rs
       → Deferral w g [] (due_roots i (length ps)) (root_steps i (length ps))
   plain_deferral [] rs i a s = none_due

@@ -61,7 +61,7 @@ module _ (order : Order) where
   numbers_octets (p ∷ ps) at (z ∷ zs) =
       octets-append _ _ (zeros (gap at (width p))) (octets-append _ _ (written-octets order p z) (numbers_octets ps (end_of_number p at) zs))
 
--- what stands behind a list, and what stands in it
+-- what stands after a list, and what is in it
 past : (xs ys : List ℕ) (n : ℕ) → length xs ≡ n → drop n (xs ++ ys) ≡ ys
 past [] ys zero e = refl
 past [] ys (suc n) e = cc
@@ -75,7 +75,7 @@ front (x ∷ xs) ys zero e = cc
 front (x ∷ xs) ys (suc n) e = let e' : length xs ≡ n = cc in ap (λ u. x ∷ u) (front xs ys n e')
 
 module _ (order : Order) where
-  -- a value that was written behind other octets and a gap is read there
+  -- a value that was written after other octets and a gap is read there
   value_there : (p : Primitive) (z : ℤ) (at : ℕ) (before behind : List ℕ) → length before ≡ at → in_range p z ≡ true
       → number_there order p at (before ++ (replicate (gap at (width p)) 0 ++ (written order p z ++ behind))) ≡ z
   value_there p z at before behind e range =
@@ -89,7 +89,7 @@ module _ (order : Order) where
       ∙ ap (value_of_octets order p) (front value behind (width p) (written-length order p z))
       ∙ read_after_write order p z range
 
-  -- what was written behind other octets is read
+  -- what was written after other octets is read
   pub written_read : (ps : List Primitive) (at : ℕ) (zs : List ℤ) (before : List ℕ) → length before ≡ at → AreInRange ps zs
       → numbers_at order ps at (before ++ numbers_written order ps at zs) ≡ Some zs
   written_read [] at [] before e b = refl

@@ -13,7 +13,7 @@ use Rattle.nd_grammar.specs.Represents.{IsRendered, IsNumbering}
 use Rattle.nd_grammar.specs.Refusal.{Accepts, refusal}
 
 -- The octets are refused at a place: the stream of some partial graph has an entry that they refuse there for this reason, and
--- every entry before it they spell and do not refuse. (Behind an unread value nothing is reached: none is ever spelled.)
+-- every entry before it they spell and do not refuse. (After an unread value nothing is reached: none is ever spelled.)
 pub record Bad (w : Setting) (order : Order) (octets : List ℕ) (place : ℕ) (why : Reason) : Type 0 where
   pub partial : Graph
   pub is_partial : IsPartial w partial

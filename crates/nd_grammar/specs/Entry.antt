@@ -1,4 +1,4 @@
--- The entries of a stream: what stands in it, entry by entry, and at which place.
+-- The entries of a stream: what is in it, entry by entry, and at which place.
 -- `m` is an entry, `at` its place, `h` a home, `n` a number of octets, `v` a count, `t` whether a count is a text's, `p` a
 -- primitive, `z` its value, `c` the number of a cell.
 use Rattle.std.specs.Prelude.{ℕ, ◌+◌, ◌-◌, ◌%◌, ℤ, Bool, List, [], ◌∷◌, ◌++◌, length, Option, Some}
@@ -30,7 +30,7 @@ pub data Kind : Type 0 where
   Context : (attributes : ℕ) (id : List ℕ) → Kind
   -- an agreement that is tried here, as an entry of its subject's home and node; it has no octets
   Test : (attr : Attr) (wanted found : ℤ) → Kind
-  -- a value that is not read: nothing stands here, nor behind it
+  -- a value that is not read: nothing stands here, nor after it
   Unread : Kind
 
 -- an entry of a node of a home
@@ -68,7 +68,7 @@ abbrev pub end_to_end : ℕ → List Entry → List EntryAt
 end_to_end at [] = []
 end_to_end at (m ∷ ms) = record { at = at; entry = m } ∷ end_to_end (at + size_at at m.kind) ms
 
--- the place behind them
+-- the place after them
 abbrev pub end_of : ℕ → List Entry → ℕ
 end_of at [] = at
 end_of at (m ∷ ms) = end_of (at + size_at at m.kind) ms

@@ -1,7 +1,7 @@
 -- The entries of a value in its place (C706 14.3.3 to 14.3.11), and of a value as a whole. Where C706 leaves it open the
 -- choice is this project's: a union has no gap of its own, since its tag and its arm are each aligned by their own types; and
 -- no gap stands for an array that has no elements.
--- `t` is a type's number, `h` a home, `n` a node's number, `l` its label, `ks` are its children, `ts` the values behind it,
+-- `t` is a type's number, `h` a home, `n` a node's number, `l` its label, `ks` are its children, `ts` the values after it,
 -- `z` is a number, `v` a tag, `c` the number of a cell, `a` an agreement.
 use Rattle.std.specs.Prelude.{ℕ, ◌+◌, ℤ, Bool, true, false, List, [], ◌∷◌, ◌++◌, length, Option, Some, None}
 use Rattle.nd_types.specs.declared.types.TypeDef.{TypeDef}
@@ -63,7 +63,7 @@ child_tests h agreements n none = []
 child_tests h agreements n (more (node l ks) ts) =
     own_tests (is_pointer l) h n (node l ks) (first_agreements agreements) ++ child_tests h (rest_agreements agreements) (n + 1 + node_count ks) ts
 
--- Values of these types, from node n on: what stands before the children, the children, the agreements of the children, the next
+-- Values of these types, from node n on: what is before the children, the children, the agreements of the children, the next
 -- value.
 abbrev pub in_place : Table → Home → List ℕ → ℕ → Trees → List Entry
 in_place table h types n none = []
@@ -81,12 +81,12 @@ own_max (tree.Text max octets) inner = max
 own_max _ inner = inner
 
 -- The maximum count of the last of trees, or of its last child, and so on. `m` is that of the trees which were passed already: 0 at
--- the beginning, and what is left of it behind the last.
+-- the beginning, and what is left of it after the last.
 abbrev pub hoisted_max : ℕ → Trees → ℕ
 hoisted_max m none = m
 hoisted_max m (more (node l ks) ts) = hoisted_max (own_max l (hoisted_max 0 ks)) ts
 
--- a maximum count stands before the whole value, aligned as itself
+-- a maximum count is before the whole value, aligned as itself
 abbrev pub hoisted : Bool → Label → ℕ → List Kind
 hoisted true tree.Unread m = []
 hoisted true l m = Align 4 ∷ Max m ∷ []

@@ -35,7 +35,7 @@ pub record AreAlike (x y : EntryAt) : Type 0 where
 abbrev pub StandsUnread : EntryAt → Type 0
 StandsUnread x = x.entry.kind ≡ Unread
 
--- Two next entries agree, or there is none in both; but behind an unread value nothing is known.
+-- Two next entries agree, or there is none in both; but after an unread value nothing is known.
 abbrev pub NextAlike : Option EntryAt → Option EntryAt → Type 0
 NextAlike None None = Unit {0}
 NextAlike (Some x) None = StandsUnread x

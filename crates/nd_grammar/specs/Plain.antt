@@ -54,7 +54,7 @@ numbers_at order (p ∷ ps) at octets =
     cond (leb (a + width p) (length octets))
     (with (value_of_octets order p (take (width p) (drop a octets))) (numbers_at order ps (a + width p) octets)) None
 
--- the place behind the last of them
+-- the place after the last of them
 abbrev pub plain_end : List Primitive → ℕ → ℕ
 plain_end [] at = at
 plain_end (p ∷ ps) at = plain_end ps (at + gap at (width p) + width p)

@@ -224,7 +224,7 @@ module _ (order : Order) (octets : List ℕ) (table : Table) (h : Home) where
       let id : List ℕ = identifier_in order octets os in
       record { tree = node (tree.Context a id) none; progress = pass order octets (entry n (Context a id)) gap; names = s }
 
-  -- a value of a type, by the readers of its children, where m is the maximum count that stands before the whole value
+  -- a value of a type, by the readers of its children, where m is the maximum count that is before the whole value
   abbrev pub read_by : (ℕ → ℕ → Progress → Names → Read) → ℕ → ℕ → Option TypeDef → ℕ → Progress → Names → Read
   read_by read m t (Some (def.Prim prim)) n p s = read_number n prim None p s
   read_by read m t (Some (def.Enum values)) n p s = read_number n Short (Some values) p s

@@ -66,7 +66,7 @@ same_home (home.Cell c) (home.Cell d) = eqb c.0 d.0
 same_home _ _ = false
 
 -- The place of the count or tag that an attribute speaks of, among earlier entries. A home has at most one maximum count before
--- it, which stands at node 0.
+-- it, which is at node 0.
 abbrev pub tested_at : List EntryAt → Attr → Home → ℕ → Option ℕ
 tested_at [] a h n = None
 tested_at (x ∷ xs) a h n =
@@ -112,7 +112,7 @@ kind_refusal order octets earlier at m (Test a wanted found) os =
     cond (int_eq wanted found) None (option_map (λ place. (place, reason.Disagrees wanted found)) (tested_at earlier a m.home m.node))
 kind_refusal order octets earlier at m _ os = None
 
--- The place and the reason for which octets refuse an entry that stands behind earlier ones, or none. First TooLong, at the limit;
+-- The place and the reason for which octets refuse an entry that stands after earlier ones, or none. First TooLong, at the limit;
 -- then Truncated, at the octets' end; then by its kind.
 abbrev pub refusal : Order → List ℕ → List EntryAt → EntryAt → Option (ℕ × Reason)
 refusal order octets earlier x =
@@ -120,7 +120,7 @@ refusal order octets earlier x =
     (refused_if (ltb (length octets) (x.at + size_at x.at x.entry.kind)) (length octets, reason.Truncated)
     (kind_refusal order octets earlier x.at x.entry x.entry.kind (piece octets x.at x.entry.kind)))
 
--- none of these entries is refused, each behind the earlier ones
+-- none of these entries is refused, each after the earlier ones
 abbrev pub Accepts : Order → List ℕ → List EntryAt → List EntryAt → Type 0
 Accepts order octets earlier [] = Unit {0}
 Accepts order octets earlier (x ∷ xs) = (refusal order octets earlier x ≡ None) × Accepts order octets (earlier ++ x ∷ []) xs

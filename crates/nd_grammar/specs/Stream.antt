@@ -82,7 +82,7 @@ AllCut [] [] = Unit {0}
 AllCut (v ∷ vs) (cut ∷ cuts) = Cuts (count (kids_of v)) cut × AllCut vs cuts
 AllCut _ _ = ⊥
 
--- what stands before the pipes, by these steps of deferral: the roots and referents, and the agreements of the parameters
+-- what is before the pipes, by these steps of deferral: the roots and referents, and the agreements of the parameters
 abbrev pub head_entries : Setting → Graph → List Step → List Entry
 head_entries w g steps = flat_map (step_entries w g) steps ++ root_tests w g 0 (root_list w) g.roots
 

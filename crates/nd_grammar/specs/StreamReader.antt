@@ -67,7 +67,7 @@ pub record Found : Type 0 where
   pub progress : Progress
 
 module _ (w : Setting) (order : Order) (octets : List ℕ) where
-  -- the referent of a top-level reference pointer stands in the pointer's place: a cell of its own
+  -- the referent of a top-level reference pointer is in the pointer's place: a cell of its own
   abbrev pub read_direct : ℕ → List Due → Reading → Reading
   read_direct to due s =
       let c : ℕ = fresh to s.names in

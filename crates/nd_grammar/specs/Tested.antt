@@ -19,7 +19,7 @@ HoldsFound attr.Last found (Actual of_text offset limit v) = found ≡ pos (offs
 HoldsFound attr.Switch found (Tag p values arms default v) = found ≡ v
 HoldsFound _ found _ = ⊥
 
--- where it stands in its home: a maximum count in front of the home's value, all else at the subject's node
+-- where it is in its home: a maximum count in front of the home's value, all else at the subject's node
 abbrev pub node_of : Attr → ℕ → ℕ
 node_of attr.Size n = 0
 node_of attr.Max n = 0

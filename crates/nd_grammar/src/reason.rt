@@ -1,6 +1,6 @@
 // Why octets are refused.
 
-/// Why octets are no stream of the operation's values. The first that applies along the stream is told.
+/// Why octets are no stream of the operation's values. The first that applies along the stream is reported.
 #[derive(Clone, Copy, Debug, PartialEq, Eq)]
 pub enum Reason {
     /// The octets end before the next gap or primitive is whole.

@@ -72,6 +72,6 @@ arm_before n align some = sym (max_assoc n 1 align ∙ ap (max n) (one_max align
 pub no_default : (f : ℕ → ℕ) (xs : List ℕ) → largest (map f xs) ≡ largest (map f (xs ++ []))
 no_default f xs = ap (λ l. largest (map f l)) (sym (append-nil xs))
 
--- a default behind other arms
+-- a default after other arms
 pub default_behind : (f : ℕ → ℕ) (xs ys : List ℕ) → max (largest (map f ys)) (largest (map f xs)) ≡ largest (map f (xs ++ ys))
 default_behind f xs ys = max_comm (largest (map f ys)) (largest (map f xs)) ∙ sym (types_both f xs ys)

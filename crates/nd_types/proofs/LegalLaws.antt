@@ -94,7 +94,7 @@ context_is (def.Prim q) h = absurd (no_prim_is_context q (sym (eqb-true context_
 context_is _ h = cc
 
 module _ (types : Table) (operations : List Operation) (legal : IsLegal types operations) where
-  -- each primitive stands under its number
+  -- each primitive is under its number
   pub prim_at : (p : Primitive) → type_at types (prim_number p) ≡ Some (def.Prim p)
   prim_at p =
       let found = agree_at is_same_basic basic_types (take (length basic_types) types) (prim_number p) (def.Prim p) legal.basic (basic_prim_at p) in

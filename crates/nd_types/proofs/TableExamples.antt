@@ -41,7 +41,7 @@ pub put_out : types_of directory side.Out put ≡ []
 unfolding roots_of
 put_out = refl
 
--- stream([in] pipe 12, [in, out] reference pointer 17 to it, [in] long, [in, out] 19), which gives a long: pipes stand last, behind the result
+-- stream([in] pipe 12, [in, out] reference pointer 17 to it, [in] long, [in, out] 19), which gives a long: pipes stand last, after the result
 abbrev stream : Operation
 stream = operation (param way.In 12 [] ∷ param way.InOut 17 [] ∷ param way.In 7 [] ∷ param way.InOut 19 [] ∷ []) (Some (id 7))
 

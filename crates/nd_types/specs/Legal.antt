@@ -302,7 +302,7 @@ pub record IsLegal (types : Table) (operations : List Operation) : Type 0 where
   pub one_length : all_fields (λ p. not (has_attr Length p.field && has_attr Last p.field)) types operations ≡ true
   -- The variable of any of these five is an integer, or with a star a parameter that is a reference pointer to one.
   pub count_variables : all_fields (all_variables (λ a. not (is_switch_attr a)) is_integer types) types operations ≡ true
-  -- switch_is stands on each field that is a non-encapsulated union or a pointer to one, and on no other.
+  -- switch_is is on each field that is a non-encapsulated union or a pointer to one, and on no other.
   pub switched : all_fields (λ p. implies (is_switched types p.field.of.0) (has_attr Switch p.field)) types operations ≡ true
   pub switches : all_fields (λ p. implies (has_attr Switch p.field) (is_switched types p.field.of.0)) types operations ≡ true
   -- Its variable is of a type that a tag may have, or with a star a parameter that is a reference pointer to one.

@@ -27,7 +27,7 @@ layout_by table ls d = record { align = align_by table (align_in ls) (Some d); h
 abbrev pub round : Table → List Layout → List Layout
 round table ls = map (layout_by table ls) table
 
--- what stands before the first round
+-- what is before the first round
 abbrev pub unknown : TypeDef → Layout
 unknown d = record { align = 1; hoists = false }
 

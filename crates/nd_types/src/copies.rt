@@ -7,12 +7,12 @@ use std::alloc::Global;
 
 // An item of a list that owns memory.
 pub(crate) trait Item {
-    // An equal item. It takes memory for what the item owns. Want of memory is the only refusal.
+    // An equal item. It takes memory for what the item owns. Running out of memory is the only refusal.
     fn copy(&self, alloc: Global) -> Result<Self, Memory>
         ensures { IfOk result (λ c. c ≡ self.now) };
 }
 
-// Equal items in the same order. It takes memory for exactly as many, and for what they own. Want of memory is the only
+// Equal items in the same order. It takes memory for exactly as many, and for what they own. Running out of memory is the only
 // refusal.
 pub(crate) fn copy_items<T: Item + Drop>(alloc: Global, items: &[T]) -> Result<Vec<T>, Memory>
     ensures { IfOk result (λ c. c.items ≡ items.now) }
@@ -28,7 +28,7 @@ pub(crate) fn copy_items<T: Item + Drop>(alloc: Global, items: &[T]) -> Result<V
 
 impl Interface {
     /// An equal interface. It takes memory for exactly the items of its lists and the octets of its names, in time that grows with
-    /// them. Want of memory is the only refusal.
+    /// them. Running out of memory is the only refusal.
     pub fn copy(&self, alloc: Global) -> Result<Interface, Memory>
         ensures { IfOk result (λ c. c ≡ self.now) }
     {

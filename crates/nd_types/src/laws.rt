@@ -52,7 +52,7 @@ pub fn hoists_legal()
         (t : ℕ) → hoists types t ≡ hoists_by (hoists types) (type_at types t) }
 {}
 
-/// Each primitive type of a legal interface stands under its number.
+/// Each primitive type of a legal interface is under its number.
 pub fn prim_at()
     ensures { (types : Table) (operations : List Operation) → IsLegal types operations →
         (p : Primitive) → type_at types (prim_number p) ≡ Some (Prim p) }

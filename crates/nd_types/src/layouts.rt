@@ -15,7 +15,7 @@ use std::marker::Model;
 pub struct Layout {
     /// Its alignment: 1, 2, 4 or 8 (C706, 14.2.2).
     pub align: u8,
-    /// Whether a maximum count stands before its values.
+    /// Whether a maximum count is before its values.
     pub hoists: bool,
 }
 
@@ -35,7 +35,7 @@ impl Model for Layouts {
 }
 
 impl Layouts {
-    /// An equal list. It takes memory for exactly its items. Want of memory is the only refusal.
+    /// An equal list. It takes memory for exactly its items. Running out of memory is the only refusal.
     pub(crate) fn copy(&self, alloc: Global) -> Result<Layouts, Memory>
         ensures { IfOk result (λ c. c ≡ self.now) }
     {
@@ -54,7 +54,7 @@ impl Layouts {
 
 impl Types {
     /// How the types are laid out: the alignment of each, and whether it hoists a maximum count. It takes memory for two entries of
-    /// each type, in time that grows with them and their members and arms. Want of memory is the only refusal.
+    /// each type, in time that grows with them and their members and arms. Running out of memory is the only refusal.
     pub fn layouts(&self, alloc: Global) -> Result<Layouts, Memory>
         ensures { IfOk result (λ l. l ≡ layouts_of self.now) }
     {
@@ -72,7 +72,7 @@ impl Interface {
         align_in(self.layouts.as_slice(), of)
     }
 
-    /// Whether a maximum count stands before the values of a type, by its number (C706, 14.3). None stands before those of no
+    /// Whether a maximum count is before the values of a type, by its number (C706, 14.3). None is before those of no
     /// type. It takes no memory.
     pub fn hoists(&self, of: TypeId) -> bool
         ensures { result ≡ hoists self.now.types of.0 }

@@ -58,7 +58,7 @@ impl<'a> SideRoots<'a> {
         })
     }
 
-    // The next parameter that is a pipe, or that is none, from a parameter on, and the place behind it.
+    // The next parameter that is a pipe, or that is none, from a parameter on, and the place after it.
     fn next_param(&self, pipes: bool, from: usize) -> Option<(RootDef<'a>, usize)>
         ensures { let rest = params_left self.now.types.now self.now.side self.now.operation.now pipes in
             MatchOption result (rest from ≡ []) (λ r. rest from ≡ root_value r.0 ∷ rest r.1) }
@@ -89,7 +89,7 @@ impl<'a> SideRoots<'a> {
         }
     }
 
-    // The next root in a stage, and the stage behind it.
+    // The next root in a stage, and the stage after it.
     fn next(&self, stage: Stage) -> Option<(RootDef<'a>, Stage)>
         ensures { let rest = left self.now.types.now self.now.side self.now.operation.now in
             MatchOption result (rest stage ≡ []) (λ r. rest stage ≡ root_value r.0 ∷ rest r.1) }

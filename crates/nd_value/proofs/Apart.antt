@@ -71,7 +71,7 @@ module _ {X : Type 0} (R : X → X → Type 0) where
         let r = one_to_front us x (xs ++ vs) a in
         (all_moved (R x) us xs vs r.0, to_front us xs vs r.1)
 
-    -- behind a first part, a part is moved before another
+    -- after a first part, a part is moved before another
     pub moved : (ts us xs vs : List X) → AllEarlier R (ts ++ (us ++ (xs ++ vs))) → AllEarlier R (ts ++ (xs ++ (us ++ vs)))
     moved [] us xs vs a = to_front us xs vs a
     moved (t ∷ ts) us xs vs a = (

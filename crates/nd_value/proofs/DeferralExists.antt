@@ -246,7 +246,7 @@ module _ (w : Setting) (g : Graph) (cells_fit : AllByRecursion (Fits g w.table) 
       own_pointees : AllByRecursion (Pointee g) own
       own_pointees = pointees g w.table (home.Root i) (r.of ∷ []) (root_agreements w g r.vars ∷ []) [] 0 (more v none) own_fit
 
-      -- a root that stands in its own place
+      -- a root that is in its own place
       plain_step : direct (type_at w.table r.of) v ≡ None → Steps done [] i (suc n)
       plain_step e =
           let (steps, d) = less done taken own (suc i) n rs vs own_pointees apart named enough as_many next_roots next_fit (omega arith) in
@@ -256,7 +256,7 @@ module _ (w : Setting) (g : Graph) (cells_fit : AllByRecursion (Fits g w.table) 
         abbrev its_pointer : Pending
         its_pointer = record { home = home.Root i; node = 0; class = Ref; to = to.0; cell = Some c; agreements = [] }
 
-        -- a reference pointer: its referent stands in its place
+        -- a reference pointer: its referent is in its place
         direct_step : own ≡ its_pointer ∷ [] → Steps done [] i (suc n)
         direct_step eo = by_standing (stands done c) refl
           where

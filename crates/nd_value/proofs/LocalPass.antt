@@ -160,17 +160,17 @@ module _ (table : Table) (g : Graph) where
       ≡ or_later (first_in_home table g (cell_home (i + 1)) x.of x.val) (first_in_cells table g (i + 1 + 1) (drop (i + 1) xs))
   cell_next xs i x e = ap (first_in_cells table g (i + 1)) (drop-get xs i x e)
 
--- what is told of the first is told of both
+-- what is reported of the first is reported of both
 pub tells_first : (o a b : Option MisfitAt) (e : Misfit) → o ≡ or_later a b → Tells a e → Tells o e
 tells_first o a b answer.Memory s h = tt
 tells_first o a b (answer.At k n r) s h = s ∙ ap (λ x. or_later x b) h
 
--- what is told of the later is told of both, where the first has none
+-- what is reported of the later is reported of both, where the first has none
 pub tells_later : (o a b : Option MisfitAt) (e : Misfit) → o ≡ or_later a b → a ≡ None → Tells b e → Tells o e
 tells_later o a b answer.Memory s n h = tt
 tells_later o a b (answer.At k i r) s n h = s ∙ ap (λ x. or_later x b) n ∙ h
 
--- a wrong root is told
+-- a wrong root is reported
 pub told_shape : (o : Option MisfitAt) (i : ℕ) (e : Misfit) → e ≡ answer.At (home.Root i) 0 misfit.Shape → o ≡ shape_at i → Tells o e
 told_shape o i e s h = subst (Tells o) (sym s) h
 

@@ -1,7 +1,7 @@
 -- In which order the referents of a graph stand in a stream (C706 14.3.12: deferral of referents). C706 has a referent stand
--- behind the outermost array, struct or union that its pointer is embedded in, and a shared one stand once. The order is this
+-- after the outermost array, struct or union that its pointer is embedded in, and a shared one stand once. The order is this
 -- project's choice: left to right and depth first, a referent followed at once by its own; and a referent that full pointers
--- share stands at the first of its pointers in this order.
+-- share is at the first of its pointers in this order.
 -- `w` is a setting, `g` a graph, `h` a home, `n` a node's number, `p` a pointer, `c` a cell's number, `i` the index of a root,
 -- `t` a type's number, `x` a node or a value that stands, `v` a value, `d` a cell that stands, or a cell and its type.
 use Rattle.std.specs.Prelude.{◌≡◌, ◌⊎◌, ℕ, ◌+◌, suc, zero, Bool, true, false, List, [], ◌∷◌, ◌++◌, Option, Some, None, map, flat_map}
@@ -56,7 +56,7 @@ pub data Step : Type 0 where
   referent_stands : (p : Pending) (c : ℕ) → Step
   stands_already : (p : Pending) (c : ℕ) → Step
 
--- A top-level reference pointer has no representation: its referent stands in its place. Its cell and the referent's type;
+-- A top-level reference pointer has no representation: its referent is in its place. Its cell and the referent's type;
 -- of a null one, which no graph that conforms has, a cell that is none.
 abbrev pub direct : Option TypeDef → Tree → Option (ℕ × ℕ)
 direct (Some (def.Pointer Ref to)) (node (tree.Ptr (Some c)) ks) = Some (c, to.0)
@@ -112,14 +112,14 @@ abbrev pub root_cell : Home → Placed_cells
 root_cell (home.Root i) = []
 root_cell (home.Cell c) = (Ref, c.0) ∷ []
 
--- none of the first stands among the second
+-- none of the first is among the second
 abbrev pub AreFree : Placed_cells → Placed_cells → Type 0
 AreFree [] done = Unit {0}
 AreFree (d ∷ ds) done = ¬ IsPlaced done d.1 × AreFree ds done
 
 -- The steps for what is due, in order, where some cells stand already. A value that stands makes the referents of its pointers
 -- due at once, before whatever waited: so referents stand left to right and depth first, each followed by its own. The referent
--- of a full pointer stands at the first of its pointers in this order, whichever stands first in place; at the later ones nothing
+-- of a full pointer is at the first of its pointers in this order, whichever stands first in place; at the later ones nothing
 -- stands again. (Both are this project's choice.) No cell stands twice: a cell that stands is met again by full pointers alone,
 -- which is so in every graph whose cells are shared by full pointers alone.
 pub data Deferral (w : Setting) (g : Graph) : Placed_cells → List Due → List Step → Type 0 where

@@ -49,7 +49,7 @@ abbrev pub root_count : ℕ → ℕ → Option MisfitAt
 root_count has due =
     cond (eqb has due) None (Some (record { home = home.Root (cond (ltb has due) has due); node = 0; reason = misfit.Shape }))
 
--- the first pass: a node that has a misfit by itself. A wrong number of roots comes behind the roots that are there.
+-- the first pass: a node that has a misfit by itself. A wrong number of roots comes after the roots that are there.
 abbrev pub first_local : Setting → Graph → Option MisfitAt
 first_local w g =
     or_later (first_node (misfit_of w.table g) (root_nodes w g 0 (root_list w) g.roots))
@@ -105,13 +105,13 @@ pub data IsFirstMisfit (w : Setting) (g : Graph) : MisfitAt → Type 0 where
   is_disagreeing : (m : MisfitAt) → first_local w g ≡ None → first_shared [] (all_pointers w g) ≡ None
       → ((c : ℕ) → 0 < c → c ≤ length g.cells → Reached w g c) → first_disagreeing w g ≡ Some m → IsFirstMisfit w g m
 
--- what is answered of a graph is its first misfit; of want of memory nothing is said
+-- what is answered of a graph is its first misfit; of running out of memory nothing is said
 abbrev pub IsMisfit : Setting → Graph → Misfit → Type 0
 IsMisfit w g answer.Memory = Unit {0}
 IsMisfit w g (answer.At h n r) = IsFirstMisfit w g (record { home = h; node = n; reason = r })
 
 -- a place is answered only of a graph that does not conform: with the other clauses, `fit` is Ok exactly where the graph conforms,
--- but for want of memory
+-- except when out of memory
 abbrev pub IsOfNoFit : Setting → Graph → Misfit → Type 0
 IsOfNoFit w g answer.Memory = Unit {0}
 IsOfNoFit w g (answer.At h n r) = ¬ Conforms w g

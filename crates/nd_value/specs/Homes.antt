@@ -13,7 +13,7 @@ use Rattle.nd_value.specs.Nodes.{TypedNode, governed_nodes, home_nodes}
 use Rattle.nd_value.specs.Deferral.{Pending, home_pointers}
 use Rattle.nd_value.specs.Variables.{root_agreements}
 
--- a node with the home that it stands in
+-- a node with the home that it is in
 pub record HomeNode : Type 0 where
   pub home : Home
   pub typed : TypedNode

@@ -20,7 +20,7 @@ use Rattle.nd_value.specs.Misfit.{misfit_of}
 use Rattle.nd_value.specs.Conforms.{Reached}
 use Rattle.nd_value.specs.FirstMisfit.{MisfitAt, or_later, IsFirstUnreached}
 
--- an answer tells what a pass has found, with its place and reason; of want of memory nothing is said
+-- an answer tells what a pass has found, with its place and reason; of running out of memory nothing is said
 abbrev pub Tells : Option MisfitAt → Misfit → Type 0
 Tells o answer.Memory = Unit {0}
 Tells o (answer.At h n r) = o ≡ Some (record { home = h; node = n; reason = r })

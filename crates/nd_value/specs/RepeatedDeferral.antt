@@ -1,5 +1,5 @@
 -- The order of deferral by the rule for full pointers alone, as C706 words it (14.3.12): the referent of a full pointer that
--- stands already does not stand again; the referent of any other pointer stands at each pointer to it.
+-- stands already does not stand again; the referent of any other pointer is at each pointer to it.
 use Rattle.std.specs.Prelude.{◌≡◌, ℕ, List, [], ◌∷◌, ◌++◌, Option, Some, None}
 use Rattle.nd_types.specs.declared.types.Class.{Class}
 use Rattle.nd_types.specs.declared.types.Class.TheVariants.{Ref, Unique, Full}

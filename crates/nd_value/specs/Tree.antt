@@ -74,7 +74,7 @@ abbrev pub unflat : List Flat → Trees
 unflat [] = none
 unflat (f ∷ fs) = more (node f.0 (take_trees f.1 (unflat fs))) (drop_trees f.1 (unflat fs))
 
--- the trees of two lists, one list behind the other
+-- the trees of two lists, one list after the other
 abbrev pub joined : Trees → Trees → Trees
 joined none us = us
 joined (more t ts) us = more t (joined ts us)

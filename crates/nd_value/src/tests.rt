@@ -44,7 +44,7 @@ fn arms_are_kept(rt: HostRuntime) -> Result<(), Fail> {
     Ok(())
 }
 
-// A number of 7 in four octets behind a gap of two.
+// A number of 7 in four octets after a gap of two.
 fn item(kind: ItemKind, at: u32, len: u32, value: i128) -> Item {
     Item {
         at,

@@ -16,7 +16,7 @@ get_from_drop (x ∷ code) (suc a) i is e = get_from_drop code a i is e
 pub first_at : {X : Type 0} (code : List X) (a : ℕ) (i : X) (is : List X) → IsRunAt code a (i ∷ is) → slice_get code a ≡ Some i
 first_at code a i is h = get_from_drop code a i (is ++ h.0) h.1
 
--- the run behind the first part of a run
+-- the run after the first part of a run
 pub behind_at : {X : Type 0} (code : List X) (a : ℕ) (xs ys : List X) → IsRunAt code a (xs ++ ys) → IsRunAt code (a + length xs) ys
 behind_at code a xs ys h = (
   h.0,
@@ -30,7 +30,7 @@ next_at code a i is h = behind_at code a (i ∷ []) is h
 pub part_at : {X : Type 0} (code : List X) (a : ℕ) (xs ys : List X) → IsRunAt code a (xs ++ ys) → IsRunAt code a xs
 part_at code a xs ys h = (ys ++ h.0, h.1 ∙ append_assoc xs ys h.0)
 
--- what is behind the end of a list, which is nothing
+-- what is after the end of a list, which is nothing
 no_run : {X : Type 0} (run rest ys : List X) (n : ℕ) → [] ≡ run ++ rest → (x : List X) × (drop n ys ≡ run ++ x)
 no_run [] rest ys n e = (drop n ys, refl)
 no_run (i ∷ run) rest ys n e = cc
@@ -57,7 +57,7 @@ within_at code a k xs run h g =
     let long : IsRunAt (xs ++ h.0) k run = longer_at xs h.0 k run g in
     (long.0, ap (λ n. drop n code) (omega arith) ∙ sym (drop-drop k a code) ∙ ap (drop k) h.1 ∙ long.1)
 
--- the run of the i-th of things, behind those of the things before it
+-- the run of the i-th of things, after those of the things before it
 pub flat_at : {Y : Type 0} {X : Type 0} (f : Y → List X) (xs : List Y) (i : ℕ) (x : Y) → slice_get xs i ≡ Some x
     → IsRunAt (flat_map f xs) (length (flat_map f (take i xs))) (f x)
 flat_at f [] i x e = cc

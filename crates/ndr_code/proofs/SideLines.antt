@@ -55,7 +55,7 @@ module _ (table : Table) (operations : List Operation) (n : ℕ) (o : Operation)
         item_at (entries_of table operations) (line_at table operations n o s) (side_lines table operations n o s) i _ (side_lines_at s)
         (item_before own more i _ (mapped (λ e. line.Entry n s (root_name o e.1.param) (root_at table operations n o s e.0)) rs i r e))
 
-    -- the lines behind those of the roots
+    -- the lines after those of the roots
     behind_roots : IsRunAt (entries_of table operations) (line_at table operations n o s + length (value_roots (roots_of table s o)))
         (line.Checks n s (checks_at table operations n o s) ∷ entry_lines n o s (pipe_at table operations n o s) (pipe_roots (roots_of table s o)))
     behind_roots =

@@ -63,7 +63,7 @@ module _ (table : Table) (operations : List Operation) (n : ℕ) (o : Operation)
         (side_code_at s)
         (longer_at (flat_map (root_run table) rs) rest (length (flat_map (root_run table) (take i rs))) (root_run table r) (flat_at (root_run table) rs i r e)))
 
-    -- the agreements and the pipes behind the roots
+    -- the agreements and the pipes after the roots
     behind_roots : IsRunAt (code_of table operations) (checks_at table operations n o s) (checks_run table o s ++ flat_map (pipe_run table) (pipe_roots (roots_of table s o)))
     behind_roots =
         let rs : List Root = value_roots (roots_of table s o) in

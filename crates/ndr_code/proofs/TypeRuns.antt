@@ -61,7 +61,7 @@ pub same_run : (p w p' w' : ℕ → ℕ) (table : Table) (t : ℕ) (d : TypeDef)
 same_run p w p' w' table t d =
     same_joined (whole_run (hoists table t) (p t)) (whole_run (hoists table t) (p' t)) _ _ (same_whole (hoists table t) (p t) (p' t)) (same_length p w p' w' table t d)
 
--- the run of the i-th of these types is behind those before it
+-- the run of the i-th of these types is after those before it
 runs_from : (p w : ℕ → ℕ) (table : Table) (t : ℕ) (ds : List TypeDef) (i : ℕ) (d : TypeDef) → slice_get ds i ≡ Some d
     → IsRunAt (type_runs p w table t ds) (types_length table t (take i ds)) (type_run p w table (i + t) d)
 runs_from p w table t [] i d e = cc
@@ -89,7 +89,7 @@ module _ (table : Table) (operations : List Operation) (t : ℕ) (d : TypeDef) (
       let n : t + 0 ≡ t = omega arith in
       (h.0, h.1 ∙ ap (λ k. type_run (place_at table) (whole_at table) table k d ++ h.0) n)
 
-  -- the whole run of a type and its place run behind it
+  -- the whole run of a type and its place run after it
   type_runs_at : IsRunAt (code_of table operations) (whole_at table t) (type_run (place_at table) (whole_at table) table t d)
   unfolding whole_at
   type_runs_at = behind_two op.Void op.Ret _ (operations_code table operations) (types_length table 0 (take t table)) _ own_runs_at

@@ -66,11 +66,11 @@ abbrev pub text_bound : Option ℕ → ℕ
 text_bound None = 0
 text_bound (Some n) = n
 
--- a struct, behind its gap
+-- a struct, after its gap
 abbrev pub struct_run : (ℕ → ℕ) → List Field → List Instr
 struct_run place members = op.Record (length members) ∷ (member_calls place members ++ (member_checks 0 members ++ (op.Close ∷ op.Ret ∷ [])))
 
--- a union, behind its gap
+-- a union, after its gap
 abbrev pub union_run : (ℕ → ℕ) → TypeId → List Arm → Option Arm → List Instr
 union_run place tag arms default = op.Tag tag ∷ (arms_code place arms ++ default_code place default)
 

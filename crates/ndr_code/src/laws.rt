@@ -16,7 +16,7 @@ ghost use Rattle.ndr_code.specs.Lines.{entries_of, line_at, sides_of, side_numbe
 ghost use Rattle.ndr_code.specs.Runs.{IsRunAt};
 
 /// A run that is at an address begins with the instruction at that address, and is followed from the next address on. What comes after the first part of
-/// a run is as far behind as that part is long.
+/// a run is as far after as that part is long.
 pub fn runs_are_followed()
     ensures first { (code : List Instr) (at : ℕ) (i : Instr) (is : List Instr) → IsRunAt code at (i ∷ is) → slice_get code at ≡ Some i }
     ensures next { (code : List Instr) (at : ℕ) (i : Instr) (is : List Instr) → IsRunAt code at (i ∷ is) → IsRunAt code (at + 1) is }

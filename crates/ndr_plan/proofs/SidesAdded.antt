@@ -89,7 +89,7 @@ module _ (table : Table) (operations : List Operation) (n : ℕ) (o : Operation)
           (e2 ∙ ap₂ (λ xs k. xs ++ (line.Checks n s k ∷ [])) (e1 ∙ ap (λ xs. E ++ xs) value_entries) checks_here) pipe_entries
           ∙ append_assoc (E ++ values) (checks ∷ []) pipes ∙ append_assoc E values (checks ∷ pipes)
 
--- a response is behind its request
+-- a response is after its request
 pub response_at : (table : Table) (operations : List Operation) (n : ℕ) (o : Operation) (C C' : List Instr) → length C ≡ side_at table operations n o side.In
     → C' ≡ C ++ side_code table o side.In → length C' ≡ side_at table operations n o side.Out
 unfolding side_at

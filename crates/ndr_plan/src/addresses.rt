@@ -11,7 +11,7 @@ pub(crate) struct Address {
     pub(crate) place: u32,
 }
 
-// The addresses of the types by their numbers, and the address behind the runs of all types, which is that of a number of no type.
+// The addresses of the types by their numbers, and the address after the runs of all types, which is that of a number of no type.
 #[derive(Drop)]
 pub(crate) struct Addresses {
     pub(crate) items: Vec<Address>,

@@ -114,7 +114,7 @@ fn push_enum(
     Ok(())
 }
 
-// The runs of an operation, behind those of all before it.
+// The runs of an operation, after those of all before it.
 fn push_operation(
     alloc: Global,
     parts: &mut Parts,

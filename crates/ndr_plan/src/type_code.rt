@@ -95,7 +95,7 @@ fn push_checks(code: &mut Code, members: &Fields) -> Result<(), Memory>
     Ok(())
 }
 
-// A struct, behind its gap.
+// A struct, after its gap.
 fn push_struct(code: &mut Code, addresses: &Addresses, members: &Fields) -> Result<(), Memory>
     ensures { OnOk result (code.new ≡ code.old ++ struct_run (place_in addresses.now) members.now) }
 {
@@ -160,7 +160,7 @@ fn push_default(code: &mut Code, addresses: &Addresses, default: &Option<Arm>) -
     }
 }
 
-// A union, behind its gap.
+// A union, after its gap.
 fn push_union(
     code: &mut Code,
     addresses: &Addresses,

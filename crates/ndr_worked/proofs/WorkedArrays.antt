@@ -27,7 +27,7 @@ use Rattle.nd_grammar.specs.ExampleParts.{request, param, governed, field, attri
 use Rattle.ndr_worked.specs.ExamplesArrays.{sized, sized_graph, sized_octets, nested, nested_graph, nested_octets}
 use Rattle.ndr_worked.proofs.Check.{represents_so, bad_so, partial_so, chosen_so, steps_of}
 
--- the maximum count stands before the struct
+-- the maximum count is before the struct
 pub count_in_front : Represents sized Little (sized_octets 2) (sized_graph (pos 2))
 unfolding align_of hoists roots_of
 count_in_front = represents_so sized Little (sized_octets 2) (sized_graph (pos 2)) [] 20 refl tt refl refl refl refl
@@ -49,14 +49,14 @@ pub sized_items : items Little (sized_octets 2) (end_to_end 0 sized_entries)
 unfolding align_of hoists roots_of
 sized_items = refl
 
--- the size that a member states is the maximum count, else the refusal stands at the count
+-- the size that a member states is the maximum count, else the refusal is at the count
 pub size_disagrees : Bad sized Little (sized_octets 3) 0 (reason.Disagrees (pos 3) (pos 2))
 unfolding align_of hoists roots_of
 size_disagrees =
     bad_so sized Little (sized_octets 3) 0 (reason.Disagrees (pos 3) (pos 2)) (sized_graph (pos 3)) [] 20 9 _ _ (partial_so sized (sized_graph (pos 3)) refl refl refl refl) refl tt
     refl refl refl refl refl
 
--- a maximum count of 5, and octets that end behind the first element: the others are unread
+-- a maximum count of 5, and octets that end after the first element: the others are unread
 abbrev pub five_claimed : Graph
 five_claimed = record {
   roots = pointer_to 1 ∷ [];

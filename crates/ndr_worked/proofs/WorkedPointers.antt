@@ -238,7 +238,7 @@ pub shared_leaf_written : Chosen pairs Little 1 shared_leaf shared_leaf_octets
 unfolding align_of hoists roots_of
 shared_leaf_written = chosen_so pairs Little 1 shared_leaf shared_leaf_octets 20 refl refl
 
--- where y is null, z's leaf stands before b's
+-- where y is null, z's leaf is before b's
 pub null_before : Represents pairs Little null_y_octets null_y
 unfolding align_of hoists roots_of
 null_before = represents_so pairs Little null_y_octets null_y [] 20 refl tt refl refl refl refl

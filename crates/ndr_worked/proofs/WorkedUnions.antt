@@ -72,7 +72,7 @@ pub chunks_written : Chosen pipe_of_longs Little 2 three_piped chunks_of_two
 unfolding align_of hoists roots_of
 chunks_written = chosen_so pipe_of_longs Little 2 three_piped chunks_of_two 20 refl refl
 
--- cut behind the second chunk's count
+-- cut after the second chunk's count
 abbrev pub third_cut : Graph
 third_cut = record { roots = node tree.Pipe (three (num (pos 1)) (num (pos 2)) (num (pos 0))) ∷ []; cells = [] }
 
@@ -82,7 +82,7 @@ pipe_cut =
     bad_so pipe_of_longs Little first_chunk 16 reason.Truncated third_cut ((2 ∷ 1 ∷ []) ∷ []) 20 9 _ _ (partial_so pipe_of_longs third_cut refl refl refl refl) refl
     ((refl, (lit< tt, (lit< tt, tt))), tt) refl refl refl refl refl
 
--- cut behind the first count
+-- cut after the first count
 abbrev pub none_read : Graph
 none_read = record { roots = node tree.Pipe (two (num (pos 0)) unread) ∷ []; cells = [] }
 

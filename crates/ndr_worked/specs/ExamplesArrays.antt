@@ -23,7 +23,7 @@ sized_graph n = record {
   cells = cell 12 (struct_of (two (num n) (node (tree.Arr 2 0) (two (num (pos 1)) (num (pos 2)))))) ∷ [];
 }
 
--- the maximum count, 2, stands before the struct and its gap
+-- the maximum count, 2, is before the struct and its gap
 abbrev pub sized_octets : ℕ → List ℕ
 sized_octets n = four 2 (four 0 (n ∷ 0 ∷ 0 ∷ 0 ∷ 0 ∷ 0 ∷ 0 ∷ 0 ∷ four 1 (four 0 (four 2 (four 0 [])))))
 
@@ -42,6 +42,6 @@ nested_graph = record {
   cells = cell 14 (struct_of (two (num (pos 9)) (struct_of (two (num (pos 1)) (node (tree.Arr 1 0) (one (num (pos 5)))))))) ∷ [];
 }
 
--- the maximum count, 1, stands before the outer struct
+-- the maximum count, 1, is before the outer struct
 abbrev pub nested_octets : List ℕ
 nested_octets = four 1 (9 ∷ 0 ∷ 0 ∷ 0 ∷ four 1 (5 ∷ 0 ∷ []))

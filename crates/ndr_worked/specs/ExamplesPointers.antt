@@ -27,7 +27,7 @@ shared_leaf = record {
 abbrev pub shared_leaf_octets : List ℕ
 shared_leaf_octets = four 2 (four 3 (four 3 (four 4 (four 5 (four 6 [])))))
 
--- the same with y null: z's leaf, 5, stands before b's, 6
+-- the same with y null: z's leaf, 5, is before b's, 6
 abbrev pub null_y : Graph
 null_y = record {
   roots = pointer_to 1 ∷ [];

@@ -1,6 +1,6 @@
 //! Worked examples, each a theorem over the definitions: which octets are streams of which graphs, where octets are refused, and
 //! which graphs conform. The types, graphs and octets stand in specs/, in the files whose names begin with Examples; there the types
-//! of an example are numbered from 12 on, behind the basic types.
+//! of an example are numbered from 12 on, after the basic types.
 
 ghost use Rattle.std.specs.Prelude.{[], ◌∷◌, pos, Some, None};
 ghost use Rattle.nd_base.specs.declared.octets.Order.TheVariants.{Big, Little};
@@ -74,14 +74,14 @@ pub fn one_full_number()
     ensures other_type { Bad long_and_short Little one_five_one 8 Reason.OtherType }
 {}
 
-/// The maximum count of a struct that ends in a conformant array stands in front of the struct, and agrees with the member that
-/// states it, else the refusal stands at the count.
+/// The maximum count of a struct that ends in a conformant array is in front of the struct, and agrees with the member that
+/// states it, else the refusal is at the count.
 pub fn maximum_count_in_front()
     ensures stands { Represents sized Little (sized_octets 2) (sized_graph (pos 2)) }
     ensures disagrees { Bad sized Little (sized_octets 3) 0 (Reason.Disagrees (pos 3) (pos 2)) }
 {}
 
-/// The maximum count stands in front of the outermost struct.
+/// The maximum count is in front of the outermost struct.
 pub fn maximum_count_through_structs()
     ensures { Represents nested Little nested_octets nested_graph }
 {}
@@ -91,7 +91,7 @@ pub fn union_default()
     ensures { Represents choice_of_hyper Little choice_octets (default_chosen (one (num (pos 1)))) }
 {}
 
-/// A pipe is chunks, each behind its count, and the count 0. Octets that end behind a chunk's count are refused at their end.
+/// A pipe is chunks, each after its count, and the count 0. Octets that end after a chunk's count are refused at their end.
 pub fn pipe_in_chunks()
     ensures chunks { Represents pipe_of_longs Little chunks_of_two three_piped }
     ensures written { Chosen pipe_of_longs Little 2 three_piped chunks_of_two }

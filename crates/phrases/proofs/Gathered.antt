@@ -7,7 +7,7 @@ use Rattle.phrases.specs.Reading.{Read, then, join, turned, many_read}
 use Rattle.phrases.specs.Gives.{Fails}
 use Rattle.phrases.proofs.Fails.{fails_equal, fails_is}
 
--- what is read in all is what stands in front, and what is read from here on
+-- what is read in all is what is in front, and what is read from here on
 pub record Gathered {A : Type 0} (go : Lexeme → Bool) (item : ℕ → Read A) (t : Text) (all : Read (List A)) (in_front : List A) (m : ℕ) : Type 0 where
   pub fuel : ℕ
   pub enough : length t < fuel + m

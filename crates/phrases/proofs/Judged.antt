@@ -22,7 +22,7 @@ same_list (x ∷ xs) (y ∷ ys) l same =
     let d = same_list xs ys (omega (arith, l)) (λ i h. same (suc i) (omega arith)) in
     cc
 
--- the end behind a text changes nothing at a place
+-- the end after a text changes nothing at a place
 ended : (x : Text) (i : ℕ) → lexeme_at (x ++ the_end ∷ []) i ≡ lexeme_at x i
 ended x i = elim (dec_lt i (length x)) as (λ _. lexeme_at (x ++ the_end ∷ []) i ≡ lexeme_at x i) [
   | yes lt ↦ get_or-append x (the_end ∷ []) the_end i lt

@@ -30,7 +30,7 @@ cut_drop t k z h = drop_at (take k t) z k (cut_length t k h)
 cut_rest : (t : Text) (k : ℕ) (z : Text) → k ≤ length t → Rest (cut t k z) k z
 cut_rest t k z h = (simp length-append (let e : length (take k t) ≡ k = cut_length t k h in omega arith), cut_drop t k z h)
 
--- what stands at a place whose rest is known
+-- what is at a place whose rest is known
 pub at_rest : (x : Text) (j : ℕ) (a : Lexeme) (z : Text) → Rest x j (a ∷ z) → lexeme_at x j ≡ a
 at_rest x j a z h = sym (rw add-zero at (get_or-drop j x 0 the_end)) ∙ ap (λ (l : Text). lexeme_at l 0) h.1
 

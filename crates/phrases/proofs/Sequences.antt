@@ -75,7 +75,7 @@ fewer_stops P ends all t i s (Err e) f = record {
   never = λ lifted r x agrees b j ph stop. f.never lifted r x agrees b j ph (smaller ends all (symbol_at x j) s stop);
 }
 
--- ## marks before and behind
+-- ## marks before and after
 
 skip_is : {A : Type 0} (r : Read (Unit {0})) (g : ℕ → Read A) → turned (λ (p : Unit {0} × A). p.1) (then r (λ u m. g m)) ≡ skip r g
 skip_is (Err f) g = refl

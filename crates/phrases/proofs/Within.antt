@@ -1,4 +1,4 @@
--- A token that is no end stands in the text.
+-- A token that is no end is in the text.
 use Rattle.std.proofs.Common.{◌≡◌, ℕ, ◌<◌, ◌≤◌, Bool, true, false, length, ap, arith, ◌∙◌}
 use Rattle.std.proofs.Math.Decide.{dec_lt}
 use Rattle.std.proofs.lemmas.List.{get_or_past}

@@ -57,7 +57,7 @@ abbrev pub skip : {B : Type 0} → Read (Unit {0}) → (ℕ → Read B) → Read
 skip (Err f) g = Err f
 skip (Ok x) g = g x.1
 
--- a value, and a mark behind it
+-- a value, and a mark after it
 abbrev pub ended : {A : Type 0} → A → Read (Unit {0}) → Read A
 ended a (Err f) = Err f
 ended a (Ok y) = Ok (a, y.1)

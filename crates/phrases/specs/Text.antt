@@ -96,7 +96,7 @@ abbrev pub ◌⊳◌ : {A : Type 0} → ℕ → Rel A → Rel A
 (s ⊳ P) a = mark s ▹ P a
 
 infixl 9 ◌⊲◌
--- a phrase, and a mark behind it
+-- a phrase, and a mark after it
 abbrev pub ◌⊲◌ : {A : Type 0} → Rel A → ℕ → Rel A
 (P ⊲ s) a = P a ▹ mark s
 

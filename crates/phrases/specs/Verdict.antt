@@ -36,7 +36,7 @@ limits_before_but Depth k rule i = limits_before k rule i
 limits_before_but Ban k Depth i = leb k i
 limits_before_but Ban k Ban i = eqb i k
 
--- one rule stands at one token alone
+-- one rule is at one token alone
 abbrev pub all_but : Rule → ℕ → Lifted
 all_but rule k other i = not (is_rule other rule && eqb i k)
 

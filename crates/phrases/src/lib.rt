@@ -2,7 +2,7 @@
 //!
 //! A grammar is a relation of texts of tokens, places in them and trees, put together from a few combinators
 //! (specs/Text). What a parser's function gives is a reading (specs/Reading). The laws of proofs/ say when a reading
-//! is exact: its value is the only one, and its fault stands at the first token with which no text of the grammar
+//! is exact: its value is the only one, and its fault is at the first token with which no text of the grammar
 //! goes on (specs/Verdict). They are proved once, for any grammar.
 #![tactic(auto)]
 

@@ -32,7 +32,7 @@ range_there (p ∷ ps) [] i b h = absurd b
 range_there (p ∷ ps) (z ∷ zs) zero b h = b.0
 range_there (p ∷ ps) (z ∷ zs) (suc i) b h = range_there ps zs i b.1 (omega arith)
 
--- so a number that stands there is it
+-- so a number that is there is it
 pub same_number : (values : List Tree) (zs : List ℤ) (i : ℕ) (z : ℤ) → values ≡ map number zs → i < length zs → slice_get values i ≡ Some (number z)
     → z ≡ get_or zs i (pos 0)
 same_number values zs i z same h given =
@@ -64,7 +64,7 @@ all_ended ps i at n h e = ap (λ q. plain_end q at) (sym (drop_all i ps h)) ∙ 
 pub within_limit : (ps : List Primitive) → 16 * length ps ≤ STREAM_LIMIT → plain_end ps 0 ≤ STREAM_LIMIT
 within_limit ps few = omega (arith, few, (end_small ps 0).1)
 
--- The first i numbers are written, up to a place, and zeros stand behind it.
+-- The first i numbers are written, up to a place, and zeros stand after it.
 pub record IsFilled (order : Order) (ps : List Primitive) (zs : List ℤ) (os : List ℕ) (i at : ℕ) : Type 0 where
   pub long : length os ≡ plain_end ps 0
   pub ends : plain_end (drop i ps) at ≡ plain_end ps 0

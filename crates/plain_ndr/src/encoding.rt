@@ -19,7 +19,7 @@ use std::alloc::Global;
 /// the same for each.
 ///
 /// The fit must be of an operation of the interface, and each root of its side a primitive, of a type from 0 to 10. Each value is looked
-/// at once. It takes memory for exactly the octets, at one time, and for a list of the roots' types; want of memory is the only refusal.
+/// at once. It takes memory for exactly the octets, at one time, and for a list of the roots' types; running out of memory is the only refusal.
 pub fn encode(
     alloc: Global,
     interface: &Interface,

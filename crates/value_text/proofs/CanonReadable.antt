@@ -1,4 +1,4 @@
--- The canonical form of a graph that conforms stands in a text: its nodes have the forms of a text, and each cell is named before its line.
+-- The canonical form of a graph that conforms is in a text: its nodes have the forms of a text, and each cell is named before its line.
 -- `w` is a setting, `g` a graph that conforms, `h` its canonical form, `m` carries the numbers of g's cells to those of h.
 use Rattle.std.proofs.Common.{◌≡◌, ◌⊎◌, inl, inr, ℕ, zero, suc, ◌+◌, ◌<◌, ◌≤◌, ◌^◌, Bool, true, false, eqb, List, [], ◌∷◌, ◌++◌, length, map, Option, Some, None, refl, ap, sym, ◌∙◌, subst, arith, get_or}
 use Rattle.std.specs.Prelude.{flat_map}
@@ -333,7 +333,7 @@ module _ (w : Setting) (side : IsLegalSide w) (g h : Graph) (c : Conforms w g) (
   abbrev L : List ℕ
   L = named_cells w g canon.steps
 
-  -- what stands before the line of the j-th cell
+  -- what is before the line of the j-th cell
   record AreBefore (j : ℕ) (before : List Pending) : Type 0 where
     pub roots : (q : Pending) → Among root_qs q → Among before q
     pub cells : (e : ℕ) (y : Referent) (q : Pending) → e < j → slice_get h.cells e ≡ Some y → Among (home_pointers w.table (cell_home (suc e)) y.of y.val) q → Among before q

@@ -159,7 +159,7 @@ module _ (table : Table) (small : list_all has_small_values table ≡ true) wher
     abbrev pub Fine : TypedNode → Type 0
     Fine x = IsFit table g x.of x.label x.kids × (has_machine_values x.label ≡ true)
 
-    -- a node that stands in a text
+    -- a node that is in a text
     abbrev pub Stands : TypedNode → Type 0
     Stands x = (has_text_form (type_at table x.of) x.label x.kids ≡ true) × IsTextLabel x.label
 

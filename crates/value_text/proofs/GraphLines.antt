@@ -212,7 +212,7 @@ module _ (w : Setting) (g : Graph) (h : HasTokens w g) where
         ),
       )
 
-  -- What is printed of such a graph is read as it, where it stands in a text.
+  -- What is printed of such a graph is read as it, where it is in a text.
   pub text_reads : IsReadable w g → length (graph_text w g) ≤ TEXT_LIMIT → ReadsAs w (graph_text w g) g
   text_reads r short =
       let read = lines_read [] (graph_lines w g) (record { now = refl; comma = refl; number = λ z. refl }) lines_kept in

@@ -57,11 +57,11 @@ next_line ps zs i p t z before old new same param root value e n =
     ∙ ap (λ u. before ++ u) (sym (lines_more (take i ps) (take i zs) p z (take_length i ps zs same)))
     ∙ ap₂ (λ u v. before ++ number_lines u v) (sym q) (sym r)
 
--- three pieces behind a text
+-- three pieces after a text
 pub three_pieces : (t a b c : List ℕ) → ((t ++ a) ++ b) ++ c ≡ t ++ (a ++ (b ++ c))
 three_pieces t a b c = append_assoc (t ++ a) b c ∙ append_assoc t a (b ++ c)
 
--- five pieces behind a text
+-- five pieces after a text
 pub five_pieces : (t a b c d e : List ℕ) → ((((t ++ a) ++ b) ++ c) ++ d) ++ e ≡ t ++ (a ++ (b ++ (c ++ (d ++ e))))
 five_pieces t a b c d e =
     append_assoc (((t ++ a) ++ b) ++ c) d e ∙ append_assoc ((t ++ a) ++ b) c (d ++ e) ∙ append_assoc (t ++ a) b (c ++ (d ++ e)) ∙ append_assoc t a (b ++ (c ++ (d ++ e)))

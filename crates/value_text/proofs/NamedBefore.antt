@@ -178,7 +178,7 @@ module _ (w : Setting) (side : IsLegalSide w) (g : Graph) (c : Conforms w g) whe
       let z : i ≡ 0 + i = omega arith in
       root_among w.table 0 (root_list w) g.roots c.all_roots i r e p (subst (λ u. Among (home_pointers w.table (home.Root u) r.of (root_at g i)) p) z m)
 
-  -- the cell that a root names where its referent stands in its place
+  -- the cell that a root names where its referent is in its place
   own_named : (i : ℕ) (r : Root) → slice_get (root_list w) i ≡ Some r → (L : List ℕ) (k : ℕ) → Among (own_cell (standing_root w g i).home) k → IsSource L k
   own_named i r e L k m = by (root_stands_as i r e) m where
     by : RootStands i r.of (root_at g i) (standing_root w g i) → Among (own_cell (standing_root w g i).home) k → IsSource L k

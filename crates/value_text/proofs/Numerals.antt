@@ -99,7 +99,7 @@ value_grows : (n : ℕ) (ds : List ℕ) → n ≤ value_from n ds
 value_grows n [] = omega arith
 value_grows n (c ∷ cs) = omega (arith, value_grows (n * 10 + (c - 48)) cs)
 
--- digits behind those of a number are those of their value
+-- digits after those of a number are those of their value
 value_after : (n : ℕ) (ds : List ℕ) → 0 < n → list_all is_digit ds ≡ true → value_from n ds < 10 ^ 64 → decimal (value_from n ds) ≡ decimal n ++ ds
 value_after n [] some d small = sym (append-nil (decimal n))
 value_after n (c ∷ cs) some d small =

@@ -89,7 +89,7 @@ one_next due text Bad Bad a b = refl
 
 -- ## One way to cut a text
 
--- tokens that a text begins with go on behind others
+-- tokens that a text begins with go on after others
 pub record IsLonger (before ts us : List Token) (text : List ℕ) : Type 0 where
   pub next : Token
   pub others : List Token
@@ -146,7 +146,7 @@ no_fault w text g place why r f = by (compare [] text f.tokens (graph_tokens w g
   by (shorter h) = f.stuck (goes_on w f.tokens (graph_tokens w g) f.rest h (whole_goes w g text r) f.next f.is_next)
   by (longer h) = some_octets (uuid_due (behind [] (graph_tokens w g))) r.rest h.next h.after h.cut r.ended
 
--- Two first faults of a text stand behind the same tokens, and what comes next is the same.
+-- Two first faults of a text stand after the same tokens, and what comes next is the same.
 pub record AreOne (w : Setting) (text : List ℕ) (place place' : ℕ) (why why' : TextReason) : Type 0 where
   pub places : place ≡ place'
   pub tokens : List Token

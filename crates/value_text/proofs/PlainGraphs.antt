@@ -117,7 +117,7 @@ module _ (w : Setting) (primitives : List Primitive) (plain : IsPlain w primitiv
     named = tt;
   }
 
-  -- ## A graph that stands in a text is plain
+  -- ## A graph that is in a text is plain
 
   abbrev value_of : Tree → ℤ
   value_of (node (tree.Num z) ks) = z
@@ -168,7 +168,7 @@ module _ (w : Setting) (primitives : List Primitive) (plain : IsPlain w primitiv
   no_cells [] n = refl
   no_cells (x ∷ xs) n = let e = n.0 in cc
 
-  -- a graph that stands in a text, as numbers
+  -- a graph that is in a text, as numbers
   pub record IsPlainGraph (g : Graph) : Type 0 where
     pub numbers : List ℤ
     pub as_many : length numbers ≡ length (names_of w)

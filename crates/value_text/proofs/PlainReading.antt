@@ -34,7 +34,7 @@ pub named_followed : (w : Setting) → walk_names w.table w.side w.op ≡ side_n
 named_followed w same text g (zs, rest, is, follows, ended) =
     (zs, rest, is, subst (λ ns. Follows (head_dues w.op w.side ++ name_dues ns) text zs rest) same follows, ended)
 
--- behind the lines of the roots nothing is due
+-- after the lines of the roots nothing is due
 pub stops_at_end : (hs ls : List Due) (text mid rest : List ℕ) (zs : List ℤ) (e : Stop) → Follows hs text [] mid → Follows ls mid zs rest → Stops [] rest e
     → Stops (hs ++ ls) text e
 stops_at_end hs ls text mid rest zs e f g s =

@@ -53,7 +53,7 @@ follows_begins before (AnyNumber ∷ ds) text (z ∷ zs) rest u n f =
     let r = follows_begins (Number z ∷ before) ds f.0 zs rest refl n.1 f.2 in
     ((f.0, subst (λ b. IsCut b text (Number z) f.0) (sym u) f.1, r.0), r.1)
 
--- one list of what is due behind another
+-- one list of what is due after another
 pub follows_both : (ds es : List Due) (text mid : List ℕ) (zs ys : List ℤ) (rest : List ℕ) → Follows ds text zs mid → Follows es mid ys rest → Follows (ds ++ es) text (zs ++ ys) rest
 follows_both [] es text mid zs ys rest f g =
     subst (λ (l : List ℤ). Follows es text (l ++ ys) rest) (sym f.0) (subst (λ (l : List ℕ). Follows es l ys rest) (sym f.1) g)
@@ -61,7 +61,7 @@ follows_both (Exactly p ∷ ds) es text mid zs ys rest f g = (f.0, f.1, follows_
 follows_both (AnyNumber ∷ ds) es text mid [] ys rest f g = absurd f
 follows_both (AnyNumber ∷ ds) es text mid (z ∷ zs) ys rest f g = (f.0, f.1, follows_both ds es f.0 mid zs ys rest f.2 g)
 
--- a stop behind what followed
+-- a stop after what followed
 pub stops_behind : (ds es : List Due) (text mid : List ℕ) (zs : List ℤ) (left : ℕ) (why : TextReason) → Follows ds text zs mid → StopsAt es mid left why → StopsAt (ds ++ es) text left why
 stops_behind [] es text mid zs left why f s = subst (λ (l : List ℕ). StopsAt es l left why) (sym f.1) s
 stops_behind (Exactly p ∷ ds) es text mid zs left why f s = inr (token_of p, f.0, refl, f.1, stops_behind ds es f.0 mid zs left why f.2 s)
@@ -130,7 +130,7 @@ module _ (w : Setting) (primitives : List Primitive) (h : IsPlain w primitives) 
   rest_pieces : (zs : List ℤ) → graph_pieces w (rest_graph zs) ≡ filled (dues_of w) zs
   rest_pieces zs = plain_pieces w primitives h (padded (dues_of w) zs) (padded_length w zs) ∙ filled_padded (dues_of w) zs
 
-  -- the pieces of a graph that stands in a text
+  -- the pieces of a graph that is in a text
   record HasPieces (g : Graph) : Type 0 where
     pub numbers : List ℤ
     pub cells : g.cells ≡ []
@@ -234,7 +234,7 @@ module _ (w : Setting) (primitives : List Primitive) (h : IsPlain w primitives) 
           reason = reason_at ds es d rest c m.next why m.reason;
         }
 
-    -- ## Behind a whole graph
+    -- ## After a whole graph
 
     end_length : (ds : List Due) (rest : List ℕ) (c : HasCome ds [] rest) → length (so_far ds [] rest c) ≡ length (dues_of w)
     end_length ds rest c = omega (arith, far_length ds [] rest c, due_length ds [] rest c)

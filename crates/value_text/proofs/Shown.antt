@@ -238,7 +238,7 @@ module _ (s rest : List ℕ) where
         reason = why_other AnyNumber l c.next c.is_that no_number_name;
       }
 
-  -- ## Behind the end
+  -- ## After the end
 
   why_surplus : (l : shown.Lexeme) (n : Lexeme) → IsThat l n → (n ≡ End → ⊥) → IsSurplus n (surplus_reason l)
   why_surplus (lexeme.Word word) n t o = (λ e. let k = sym t ∙ e in cc, o, λ c e. let k = sym t ∙ e in cc)

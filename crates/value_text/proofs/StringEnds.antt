@@ -13,7 +13,7 @@ pub record Reaches (body rest : List ℕ) : Type 0 where
 pub begun : (body : List ℕ) → Reaches body body
 begun body = record { forth = λ octets after s. (octets, s); back = λ octets after s. (octets, s) }
 
--- a character stands there
+-- a character is there
 record HasCharacter (text after : List ℕ) : Type 0 where
   pub octet : ℕ
   pub is : character text ≡ Some (octet, after)
@@ -51,7 +51,7 @@ one_more body rest after r e =
 pub closed : (body after : List ℕ) → Reaches body (34 ∷ after) → HasString body after
 closed body after r = r.forth [] after refl
 
--- neither a character nor the closing quote stands there
+-- neither a character nor the closing quote is there
 pub unclosed : (body rest : List ℕ) → Reaches body rest → behind_character rest ≡ None → ((after : List ℕ) → rest ≡ 34 ∷ after → ⊥) → (octets after : List ℕ) → IsString body octets after → ⊥
 unclosed body rest r none other octets after s = let h = r.back octets after s in by h.0 h.1 where
   by : (os : List ℕ) → IsString rest os after → ⊥

@@ -100,7 +100,7 @@ StopsAt [] text left why = GoesOnBehind text left why
 StopsAt (d ∷ ds) text left why =
     IsMismatch d text left why ⊎ ((t : Token) × (after : List ℕ) × Fits d t × IsCut false text t after × StopsAt ds after left why)
 
--- where reading stopped, if not for want of memory
+-- where reading stopped, if not for being out of memory
 abbrev pub Stops : List Due → List ℕ → Stop → Type 0
 Stops ds text stop.Memory = Unit {0}
 Stops ds text (stop.At left why) = StopsAt ds text left why

@@ -47,14 +47,14 @@ abbrev pub first_type : List Pending → ℕ → Option ℕ
 first_type [] c = None
 first_type (p ∷ ps) c = elim (is_cell p.cell c) [ true ↦ Some p.to | false ↦ first_type ps c ]
 
--- Each cell from number c on is named by a pointer that stands before its line, and has the pointee type of the first that names
+-- Each cell from number c on is named by a pointer that is before its line, and has the pointee type of the first that names
 -- it. Those before are the pointers of the roots and of the cells before.
 abbrev pub AreNamed : Table → List Pending → ℕ → List Referent → Type 0
 AreNamed table before c [] = Unit {0}
 AreNamed table before c (x ∷ xs) =
     (first_type before c ≡ Some x.of) × AreNamed table (before ++ home_pointers table (cell_home c) x.of x.val) (c + 1) xs
 
--- a graph that stands in a text
+-- a graph that is in a text
 pub record IsReadable (w : Setting) (g : Graph) : Type 0 where
   pub all_roots : length g.roots ≡ length (root_list w)
   pub forms : list_all (λ x. has_text_form (type_at w.table x.typed.of) x.typed.label x.typed.kids) (all_nodes w g) ≡ true

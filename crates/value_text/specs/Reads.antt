@@ -13,7 +13,7 @@ use Rattle.value_text.specs.Tokens.{Token, Word, Cell, skip, uuid_due, behind, I
 use Rattle.value_text.specs.Written.{Piece, Name, token_of, graph_pieces, graph_tokens}
 use Rattle.value_text.specs.Readable.{IsReadable}
 
--- the text is within its limit, and is the tokens of this graph, one behind the other, with blanks
+-- the text is within its limit, and is the tokens of this graph, one after the other, with blanks
 pub record ReadsAs (w : Setting) (text : List ℕ) (g : Graph) : Type 0 where
   pub short : length text ≤ TEXT_LIMIT
   pub readable : IsReadable w g
@@ -35,7 +35,7 @@ IsNext due text (Cut t) = (rest : List ℕ) × IsCut due text t rest
 IsNext due text End = skip text ≡ []
 IsNext due text Bad = (skip text ≢ []) × ((t : Token) (rest : List ℕ) → IsCut due text t rest → ⊥)
 
--- ## What the grammar has behind tokens
+-- ## What the grammar has after tokens
 
 -- the tokens of some graph begin with these
 pub record CanGoOn (w : Setting) (ts : List Token) : Type 0 where
@@ -55,7 +55,7 @@ GoesOn w ts (Cut t) = CanGoOn w (ts ++ t ∷ [])
 GoesOn w ts End = (g : Graph) × IsWhole w ts g
 GoesOn w ts Bad = ⊥
 
--- a graph has a name behind these tokens
+-- a graph has a name after these tokens
 pub record IsNameDue (w : Setting) (ts : List Token) : Type 0 where
   pub graph : Graph
   pub readable : IsReadable w graph
@@ -80,7 +80,7 @@ IsReason w ts next reason.Expected =
     × ((c : ℕ) (g : Graph) → next ≡ Cut (Cell c) → IsWhole w ts g → ⊥)
 
 -- The first fault of a text within its limit, at a place: the text begins with tokens with which those of some graph begin, and
--- with what comes next there is no graph. The place is that of what comes next, behind the blanks.
+-- with what comes next there is no graph. The place is that of what comes next, after the blanks.
 pub record IsFirstFault (w : Setting) (text : List ℕ) (place : ℕ) (why : TextReason) : Type 0 where
   pub short : length text ≤ TEXT_LIMIT
   pub tokens : List Token
@@ -93,7 +93,7 @@ pub record IsFirstFault (w : Setting) (text : List ℕ) (place : ℕ) (why : Tex
   pub stuck : GoesOn w tokens next → ⊥
   pub reason : IsReason w tokens next why
 
--- A text is refused, at a line and a column: it is too long, which is tried first and told at its first octet, or it has a fault.
+-- A text is refused, at a line and a column: it is too long, which is tried first and reported at its first octet, or it has a fault.
 abbrev pub IsTextFault : Setting → List ℕ → ℕ → ℕ → TextReason → Type 0
 IsTextFault w text line column reason.TooLong = (TEXT_LIMIT < length text) × (line ≡ 1) × (column ≡ 1)
 IsTextFault w text line column why = (place : ℕ) × IsFirstFault w text place why × (position_of text place ≡ (line, column))

@@ -25,7 +25,7 @@ after_run (c ∷ cs) = if is_word_octet c then after_run cs else c ∷ cs
 abbrev pub behind_character : List ℕ → Option (List ℕ)
 behind_character text = option_map (λ x. x.1) (character text)
 
--- a string whose opening quote stands before, and what follows it
+-- a string whose opening quote is before, and what follows it
 abbrev pub HasString : List ℕ → List ℕ → Type 0
 HasString body rest = (octets : List ℕ) × IsString body octets rest
 
@@ -36,7 +36,7 @@ behind_quote (c ∷ cs) = if c == 34 then Some cs else None
 
 -- ## Numbers
 
--- the value of digits, behind others that have a value
+-- the value of digits, after others that have a value
 abbrev pub value_from : ℕ → List ℕ → ℕ
 value_from n [] = n
 value_from n (c ∷ cs) = value_from (n * 10 + (c - 48)) cs
@@ -45,7 +45,7 @@ abbrev is_empty : List ℕ → Bool
 is_empty [] = true
 is_empty (c ∷ cs) = false
 
--- 0 with more behind it
+-- 0 with more after it
 abbrev pub leading_zero : List ℕ → Bool
 leading_zero (c ∷ d ∷ ds) = c == 48
 leading_zero run = false
@@ -123,7 +123,7 @@ name_reason (lexeme.Word word) = reason.OtherName
 name_reason lexeme.Bad = reason.BadToken
 name_reason l = reason.Expected
 
--- why a lexeme cannot stand behind a whole graph without cells
+-- why a lexeme cannot stand after a whole graph without cells
 abbrev pub surplus_reason : shown.Lexeme → TextReason
 surplus_reason lexeme.Bad = reason.BadToken
 surplus_reason (lexeme.Cell c) = if c == 1 then reason.Unnamed else reason.OutOfOrder

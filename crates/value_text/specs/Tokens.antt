@@ -44,7 +44,7 @@ abbrev pub hex_pair : List ℕ → Option (ℕ × List ℕ)
 hex_pair (high ∷ low ∷ cs) = if is_hex_digit high && is_hex_digit low then Some (16 * hex_value high + hex_value low, cs) else None
 hex_pair _ = None
 
--- behind a backslash: quote, backslash, or `x` and two hexadecimal digits
+-- after a backslash: quote, backslash, or `x` and two hexadecimal digits
 abbrev pub escape : List ℕ → Option (ℕ × List ℕ)
 escape [] = None
 escape (c ∷ cs) = if c == 34 || c == 92 then Some (c, cs) else (if c == 120 then hex_pair cs else None)
@@ -54,7 +54,7 @@ abbrev pub character : List ℕ → Option (ℕ × List ℕ)
 character [] = None
 character (c ∷ cs) = if c == 92 then escape cs else (if is_plain c then Some (c, cs) else None)
 
--- behind an opening quote: characters that stand for these octets, the closing quote, and what follows
+-- after an opening quote: characters that stand for these octets, the closing quote, and what follows
 abbrev pub IsString : List ℕ → List ℕ → List ℕ → Type 0
 IsString text [] rest = text ≡ 34 ∷ rest
 IsString text (b ∷ bs) rest = (after : List ℕ) × (character text ≡ Some (b, after)) × IsString after bs rest
@@ -86,23 +86,23 @@ abbrev pub is_uuid : Token → Bool
 is_uuid (Uuid id) = true
 is_uuid t = false
 
--- A token is cut from a text, whose blanks are skipped. It is a UUID exactly where one is due and stands there: `due` says whether
+-- A token is cut from a text, whose blanks are skipped. It is a UUID exactly where one is due and is there: `due` says whether
 -- one is.
 pub record IsCut (due : Bool) (text : List ℕ) (t : Token) (rest : List ℕ) : Type 0 where
   pub spelled : Spells (skip text) t rest
   pub uuid : is_uuid t ≡ (due && has_form uuid_form (take 36 (skip text)))
 
--- a UUID is due behind `ctx ( NUMBER ,`; of the tokens before the last comes first
+-- a UUID is due after `ctx ( NUMBER ,`; of the tokens before the last comes first
 abbrev pub uuid_due : List Token → Bool
 uuid_due (Mark comma ∷ Number z ∷ Mark parenthesis ∷ Word word ∷ before) = comma == 44 && (parenthesis == 40 && bytes_eq word (codes "ctx"))
 uuid_due _ = false
 
--- tokens behind others, the last first
+-- tokens after others, the last first
 abbrev pub behind : List Token → List Token → List Token
 behind before [] = before
 behind before (t ∷ ts) = behind (t ∷ before) ts
 
--- The text begins with these tokens, one behind the other, and the rest follows them. Those before come last first.
+-- The text begins with these tokens, one after the other, and the rest follows them. Those before come last first.
 abbrev pub Begins : List Token → List ℕ → List Token → List ℕ → Type 0
 Begins before text [] rest = text ≡ rest
 Begins before text (t ∷ ts) rest = (after : List ℕ) × IsCut (uuid_due before) text t after × Begins (t ∷ before) after ts rest

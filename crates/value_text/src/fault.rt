@@ -4,7 +4,7 @@ use thiserror::Error;
 /// Why a text is that of no graph.
 #[derive(Clone, Copy, Debug, PartialEq, Eq)]
 pub enum TextReason {
-    /// The text has more than 536,870,912 octets. It is tried before all else, and told at line 1, column 1.
+    /// The text has more than 536,870,912 octets. It is tried before all else, and reported at line 1, column 1.
     TooLong,
     /// No token is there.
     BadToken,
@@ -24,7 +24,7 @@ pub enum TextFault {
     /// Memory was wanting.
     #[error("out of memory")]
     Memory,
-    /// The first token that stands in no text of a graph, or the end where the text ends too early: its line and its column, both
+    /// The first token that is in no text of a graph, or the end where the text ends too early: its line and its column, both
     /// from 1. Columns count octets, and only a line feed ends a line.
     #[error("{reason:?} at {line}:{column}")]
     At {

@@ -25,7 +25,7 @@ pub fn one_graph()
 {}
 
 /// A text that is read as a graph has no fault, of any side. So `read_text` answers a graph exactly where there is one, and a fault
-/// exactly where the text has it, but for want of memory.
+/// exactly where the text has it, except when out of memory.
 pub fn never_both()
     ensures { (w : Setting) (text : List ℕ) (g : Graph) (line column : ℕ) (why : TextReason)
         → ReadsAs w text g → ¬ IsTextFault w text line column why }

@@ -22,7 +22,7 @@ fn value_of(digits: &[u8]) -> u128
     value
 }
 
-/// `0` with more behind it.
+/// `0` with more after it.
 fn has_leading_zero(run: &[u8]) -> bool
     ensures { result ≡ leading_zero run.now }
 {

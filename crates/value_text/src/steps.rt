@@ -54,7 +54,7 @@ fn why_no_name(lexeme: Lexeme) -> TextReason
     }
 }
 
-/// Why a lexeme cannot stand behind a whole graph without cells; not asked of the end.
+/// Why a lexeme cannot stand after a whole graph without cells; not asked of the end.
 fn why_surplus(lexeme: Lexeme) -> TextReason
     ensures { result ≡ surplus_reason lexeme.entry }
 {
@@ -115,7 +115,7 @@ pub(crate) fn number(text: &[u8]) -> Result<(i128, &[u8]), Stop>
     }
 }
 
-/// The end of the text, where a whole graph stands before it that has no cells.
+/// The end of the text, where a whole graph is before it that has no cells.
 pub(crate) fn end(text: &[u8]) -> Result<(), Stop>
     ensures ok { IfOk result (λ _. skip text.now ≡ []) }
     ensures err { IfErr result (λ e. Stops [] text.now e) }

@@ -7,7 +7,7 @@ use nd_base::Memory;
 pub(crate) enum Stop {
     /// Memory was wanting.
     Memory,
-    /// What stands there is wrong, and with it only so many octets are left.
+    /// What is there is wrong, and with it only so many octets are left.
     At { left: usize, reason: TextReason },
 }
 

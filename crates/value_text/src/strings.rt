@@ -38,7 +38,7 @@ fn behind_quote(text: &[u8]) -> Option<&[u8]>
     }
 }
 
-/// What follows a string, behind its opening quote; none where it is not ended as a string is.
+/// What follows a string, after its opening quote; none where it is not ended as a string is.
 pub(crate) fn behind_string(body: &[u8]) -> Option<&[u8]>
     ensures { MatchOption result ((octets rest : List ℕ) → IsString body.now octets rest → ⊥) (λ rest. HasString body.now rest.now) }
 {

@@ -148,7 +148,7 @@ impl Search {
         Ok(false)
     }
 
-    /// What stands in the queue at a place.
+    /// What is in the queue at a place.
     fn node_at(&self, place: usize) -> Option<usize>
         ensures { result ≡ slice_get self.now.queue.items place }
     {

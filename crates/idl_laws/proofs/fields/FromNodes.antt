@@ -81,7 +81,7 @@ line q names list c type p a (d ∷ ds) index rest h i =
     (conjunction (list_all (q names) (attribute_nodes c)) (stands_in false c.position) a p))
     (line q names list c type p a ds (index + 1) rest x.1 (subst (λ n. they_pass q names false list n rest ≡ true) e i))
 
--- what stands in a line of members
+-- what is in a line of members
 record Line (p : Node → Bool) (c : Construct) (type : TypeSpec) (list : List Declared) (index : ℕ) (ds : List Declarator) (more : List Node) : Type 0 where
   attributes : list_all p (attribute_nodes c) ≡ true
   types : list_all p (type_nodes c type) ≡ true

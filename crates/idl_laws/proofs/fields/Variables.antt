@@ -139,7 +139,7 @@ listed_at : (name : List ℕ) (k : ℕ) (list : List Declared) (l : Listed) → 
 listed_at name k [] l h = absurd (let e : None ≡ Some l = h in cc)
 listed_at name k (x ∷ xs) l h = at_by name k x xs l (bytes_eq name x.declarator.name.octets) h (listed_at name (k + 1) xs l)
 
--- what stands at a place of a list of which all stand
+-- what is at a place of a list of which all stand
 standing : (s : Scene) (names : Names) (is_param : Bool) (list : List Declared) (index : ℕ) (ds : List Declared) → they_pass (node_keeps s) names is_param list index ds ≡ true
     → (place : ℕ) (d : Declared) → slice_get ds place ≡ Some d → Stands s names is_param list (index + place) d
 standing s names is_param list index [] h place d e = absurd (let f : None ≡ Some d = e in cc)
@@ -278,7 +278,7 @@ switch_right true true x e h = (refl, h)
 switch_right true false x e h = absurd (let f : true ≡ false = h in cc)
 switch_right false m x e h = absurd (let f : false ≡ true = e in cc)
 
--- the variable of switch_is, if it stands there
+-- the variable of switch_is, if it is there
 switched_by : (s : Scene) (names : Names) (is_param : Bool) (list : List Declared) (index : ℕ) (d : Declared) → Stands s names is_param list index d
     → (b : Bool) → has switch_is_word d.construct.attributes ≡ b
     → list_all (is_right_variable s (use_of s.known names list index d) may_be_switched) (variables (switch_is_word ∷ []) d.construct.attributes) ≡ true
@@ -306,7 +306,7 @@ switched_place true InParameter b h = refl
 switched_place false InMember b h = refl
 switched_place _ _ b h = absurd (let e : false ≡ true = h in cc)
 
--- a pointee that passes stands in the chain
+-- a pointee that passes is in the chain
 referent_first : (p : IdlType → Bool) (t : IdlType) → list_any p (chain t) ≡ false → p (referent t) ≡ false
 referent_first p (Pointer c t) h = first_of p t (none_of (p (Pointer c t)) (list_any p (chain t)) h).1
 referent_first p (Array t m v) h = first_of p (Array t m v) h

@@ -114,7 +114,7 @@ or_any : {X : Type 0} (xs ys : List X) → is_any (xs ++ ys) ≡ (is_any xs || i
 or_any [] ys = refl
 or_any (x ∷ xs) ys = refl
 
--- a word stands in a list exactly if it has variables
+-- a word is in a list exactly if it has variables
 pub has_is : (word : List ℕ) → HasVariables word → (marks : List Attribute) → is_any (variables (word ∷ []) marks) ≡ has word marks
 has_is word w [] = refl
 has_is word w (a ∷ more) =
@@ -147,7 +147,7 @@ pub none_is : {X : Type 0} (xs : List X) → is_any xs ≡ false → xs ≡ []
 none_is [] h = refl
 none_is (x ∷ xs) h = absurd (let e : true ≡ false = h in cc)
 
--- a word of a list stands nowhere behind
+-- a word of a list stands nowhere after
 gone_by : (word : List ℕ) (before : List Attribute) (a : Attribute) (more : List Attribute) → has word before ≡ true → has (word_of a.kind) before ≡ false
     → (b : Bool) → bytes_eq word (word_of a.kind) ≡ b → has word more ≡ false → (b || has word more) ≡ false
 gone_by word before a more h i true e next =
@@ -263,7 +263,7 @@ other_rank list k b h (v ∷ vs) = ap (λ t. t || list_any (λ x. attr_rank x.at
 abbrev one_of_six : Bool → Bool → Bool → Bool → Bool → Bool → Bool
 one_of_six a b c d e f = a || b || c || d || e || f
 
--- the six lists, one behind the other
+-- the six lists, one after the other
 abbrev six : (AttrVar → Bool) → List AttrVar → List AttrVar → List AttrVar → List AttrVar → List AttrVar → List AttrVar → Bool
 six p a b c d e f = list_any p a || list_any p b || list_any p c || list_any p d || list_any p e || list_any p f
 

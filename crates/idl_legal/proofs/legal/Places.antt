@@ -1,4 +1,4 @@
--- What stands in arrays, pipes, structs and unions of the table.
+-- What is in arrays, pipes, structs and unions of the table.
 use Rattle.std.proofs.Common.{◌≡◌, ℕ, zero, suc, ◌+◌, Bool, true, false, not, ◌||◌, ◌&&◌, List, [], ◌∷◌, map, length, Option, Some, None, ℤ, refl, ap, arith, ◌∙◌, subst}
 use Rattle.std.specs.Prelude.{ltb, is_none}
 use Rattle.std.specs.List.{list_all}

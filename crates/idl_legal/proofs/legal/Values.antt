@@ -167,7 +167,7 @@ labels_have s b tag h =
     (each_then (λ l. is_label_of s (tag_type b.construct b.names b.body) (label_value s.known l) ≡ true) (λ l. Each (HasValue s b) (arm_by s b a (label_value s.known l))) (λ l j. one_label s b tag a (label_value s.known l) j) a.labels i))
     (arms_of b.body) (each_unflat (λ l. is_label_of s (tag_type b.construct b.names b.body) (label_value s.known l) ≡ true) (λ a. a.labels) (arms_of b.body) h)))
 
--- the labels of a union, each behind those before it
+-- the labels of a union, each after those before it
 pub labels_there : (s : Scene) → IsKept s → (names : Names) (c : Construct) (body : TypeSpec) → is_union body ≡ true → There s names (BodyNode c body)
     → Each (There s names) (label_nodes c body [] (labels_of body))
 labels_there s k names c (tree.EncapsulatedUnion at tag d name cases) u h =

@@ -1,4 +1,4 @@
--- Each agreement that a stream of a sound graph tries stands behind the count or tag that it speaks of.
+-- Each agreement that a stream of a sound graph tries stands after the count or tag that it speaks of.
 use Rattle.std.proofs.Common.{◌≡◌, ℕ, ◌+◌, ◌<◌, ◌≤◌, ◌-◌, zero, suc, Bool, true, false, List, [], ◌∷◌, ◌++◌, length, Option, Some, None, refl, ap, sym, ◌∙◌, inl, inr, ◌⊎◌, arith, subst, replicate, append_assoc, drop}
 use Rattle.std.specs.Prelude.{flat_map, map, sum, cond, not, eqb, ◌||◌, ◌&&◌, filter, ◌==◌}
 use Rattle.std.specs.List.{AllByRecursion, slice_get, list_any, list_all, enumerate_from}

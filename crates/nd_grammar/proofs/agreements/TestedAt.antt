@@ -219,7 +219,7 @@ module _ (w : Setting) (side : IsLegalSide w) (g : Graph) (s : IsSound w g) (ms 
   pub tests_found : (order : Order) (nums : ℕ → ℕ) (octets : List ℕ) → AllByRecursion (IsRendered order nums octets) (end_to_end 0 ms) → AllFound [] 0 ms
   tests_found order nums octets r = all_found g order nums octets [] [] 0 ms (λ x m. absurd m) tt (stream_tells w g ms a) all_find r
 
-  -- an agreement behind entries that were read
+  -- an agreement after entries that were read
   pub test_finds : (earlier : List EntryAt) (here : EntryAt) (later : List EntryAt) → end_to_end 0 ms ≡ earlier ++ here ∷ later → AllByRecursion IsReadAt earlier
       → (attribute : Attr) (wanted found : ℤ) → here.entry.kind ≡ Test attribute wanted found
       → (x : EntryAt) × Among earlier x × IsSpokenOf attribute here.entry.home here.entry.node found x

@@ -1,4 +1,4 @@
--- Over values in their places: each agreement that is tried stands behind the count or tag that it speaks of.
+-- Over values in their places: each agreement that is tried stands after the count or tag that it speaks of.
 use Rattle.std.proofs.Common.{◌≡◌, ℕ, ◌+◌, ℤ, Bool, true, false, List, [], ◌∷◌, ◌++◌, length, Option, Some, None, refl, ap, sym, ◌∙◌, inl, inr, ◌⊎◌, subst, replicate}
 use Rattle.std.specs.Prelude.{pos, ◌||◌, map, flat_map}
 use Rattle.std.specs.List.{AllByRecursion}
@@ -48,7 +48,7 @@ abbrev pub Found : List Entry → Entry → Kind → Type 0
 Found seen m (Test a wanted found) = (x : Entry) × Among seen x × Spoken a m.home m.node found x
 Found seen m _ = Unit {0}
 
--- Behind earlier entries, the latest first, each agreement of these finds what it speaks of; but behind an unread value nothing is said.
+-- After earlier entries, the latest first, each agreement of these finds what it speaks of; but after an unread value nothing is said.
 abbrev pub Finds : List Entry → List Entry → Type 0
 Finds seen [] = Unit {0}
 Finds seen (m ∷ ms) = (m.kind ≡ Unread) ⊎ (IsReadKind m.kind × Found seen m m.kind × Finds (m ∷ seen) ms)
@@ -172,7 +172,7 @@ module _ (table : Table) (seen : List Entry) (h : Home) (t n : ℕ) where
   tag_by (Some _) arms default v b r = absurd r.0
 
   module _ (H : ℕ → Bool) where
-    -- by a type and a label, from what stands before the children
+    -- by a type and a label, from what is before the children
     spoken_by : (a : Attr) (d : Option TypeDef) (l : Label) (ks : Trees) → AttrFits a d → ((x : Kind) → Among (before_children table t d l ks) x → Seen x)
         → AllByRecursion IsReadKind (before_children table t d l ks) → (hoists_by H d ≡ true → HasMax seen h (own_max l (hoisted_max 0 ks)))
         → Has a (found_in a (node l ks))
@@ -215,7 +215,7 @@ module _ (table : Table) (seen : List Entry) (h : Home) (t n : ℕ) where
     spoken_by attr.Switch None l ks f b r x = cc
     spoken_by attr.Switch (Some _) l ks f b r x = cc
 
--- What is among earlier entries of a node that stands: what stands before its children, and its home's maximum count where it hoists.
+-- What is among earlier entries of a node that stands: what is before its children, and its home's maximum count where it hoists.
 pub record StandsAt (table : Table) (seen : List Entry) (h : Home) (t n : ℕ) (l : Label) (ks : Trees) : Type 0 where
   pub before : (x : Kind) → Among (before_children table t (type_at table t) l ks) x → Among seen (record { home = h; node = n; kind = x })
   pub read : AllByRecursion IsReadKind (before_children table t (type_at table t) l ks)

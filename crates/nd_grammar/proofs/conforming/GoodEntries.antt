@@ -34,7 +34,7 @@ pub record IsNoPipe (table : Table) (t : ℕ) : Type 0 where
   pub itself : is_pipe (type_at table t) ≡ false
   pub referent : is_pipe (referent_type table t) ≡ false
 
--- what stands in place holds no pipe
+-- what is in place holds no pipe
 pub record HoldsNoPipe (table : Table) : Type 0 where
   pub children : (t : ℕ) (l : Label) (ks : Trees) → IsNoPipe table t → AllByRecursion (IsNoPipe table) (child_types (type_at table t) l ks)
   pub pointee : (t : ℕ) (k : Class) (to : TypeId) → type_at table t ≡ Some (def.Pointer k to) → IsNoPipe table t → IsNoPipe table to.0
@@ -83,7 +83,7 @@ good_number g Full to (Some c) a b = pointee_of_cell g Full to c a b
 good_number g Ref to (Some c) a b = tt
 good_number g Unique to (Some c) a b = tt
 
--- what stands before the children of a node that fits
+-- what is before the children of a node that fits
 good_before : (table : Table) (g : Graph) (t : ℕ) (d : Option TypeDef) (l : Label) (ks : Trees)
     → has_shape d l ks ≡ true → has_range is_value table d l ≡ true → names_cell g l ≡ true → names_pointee g d l ≡ true
     → is_within l ks ≡ true → has_no_zero l ≡ true → has_arm d l ≡ true

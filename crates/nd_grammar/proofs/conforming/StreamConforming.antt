@@ -143,7 +143,7 @@ module _ (w : Setting) (side : IsLegalSide w) (g : Graph) (typed : AllByRecursio
       ap₂ (λ t u. standing_by g j t u (direct (type_at w.table t) u)) (ap root_type er) (ap or_unread ev) in
       subst Standing_met e a
 
-  -- a root stands before the pipes, or is one
+  -- a root is before the pipes, or is one
   root_kind : (j : ℕ) (r : Root) → slice_get rl j ≡ Some r → (j < n) ⊎ IsPipeRoot w.table r
   root_kind j r e = go (le_or j n)
     where
@@ -332,7 +332,7 @@ module _ (w : Setting) (side : IsLegalSide w) (g : Graph) (typed : AllByRecursio
   pointer_kids : (d : Option TypeDef) (to : TypeId) (c : Option ℕ) (ks : Trees) → d ≡ Some (def.Pointer Ref to) → child_types d (tree.Ptr c) ks ≡ []
   pointer_kids d to c ks e = ap (λ u. child_types u (tree.Ptr c) ks) e
 
-  -- a root whose referent stands in its place
+  -- a root whose referent is in its place
   direct_good : (j : ℕ) (r : Root) (to : TypeId) (c : ℕ) (ks : Trees) → slice_get rl j ≡ Some r → slice_get g.roots j ≡ Some (node (tree.Ptr (Some c)) ks)
       → type_at w.table r.of ≡ Some (def.Pointer Ref to) → HomeGood (governed_nodes w.table r.of (root_agreements w g r.vars) (node (tree.Ptr (Some c)) ks)) (node (tree.Ptr (Some c)) ks)
   direct_good j r to c ks er ev ed =

@@ -43,7 +43,7 @@ pub record IsPipeRoot (table : Table) (r : Root) : Type 0 where
 abbrev pub FitsPipes : Table → ℕ → Type 0
 FitsPipes table t = (depth : ℕ) × (has_none_within depth is_barred_in_pipes table t ≡ true)
 
--- What the laws need of a side: where maximum counts stand, what stands in a pipe's element, and that pipes come last.
+-- What the laws need of a side: where maximum counts stand, what is in a pipe's element, and that pipes come last.
 pub record IsLaidOut (w : Setting) : Type 0 where
   pub hoisting : HoistsLast w.table
   pub elements : (t : ℕ) (e : TypeId) → type_at w.table t ≡ Some (def.Pipe e) → FitsPipes w.table e.0
@@ -96,7 +96,7 @@ module _ (two : Readings) (w : Setting) (g g' : Graph) where
     abbrev W : List Pair → Type 0
     W = IsMap two w g g'
 
-    -- a root behind the first pipe
+    -- a root after the first pipe
     pub pipe_root : (i : ℕ) (r : Root) → slice_get (root_list w) i ≡ Some r → n ≤ i → IsPipeRoot w.table r
     pipe_root i r e h =
         let k : n + (i - n) ≡ i = omega arith in

@@ -43,7 +43,7 @@ module _ {X : Type 0} (R : X → X → Type 0) where
 abbrev pub IsElsewhere : Pending → Pending → Type 0
 IsElsewhere p q = p.home ≡ q.home → p.node ≡ q.node → ⊥
 
--- a pointer stands at one of the nodes from one number up to another
+-- a pointer is at one of the nodes from one number up to another
 abbrev pub IsWithin : ℕ → ℕ → Pending → Type 0
 IsWithin low high p = (low ≤ p.node) × (p.node < high)
 

@@ -1,4 +1,4 @@
--- Entries of two streams that are alike, behind earlier ones that are, are refused alike.
+-- Entries of two streams that are alike, after earlier ones that are, are refused alike.
 use Rattle.std.proofs.Common.{◌≡◌, ℕ, ◌+◌, Bool, true, false, ◌&&◌, List, [], ◌∷◌, ◌++◌, length, Some, None, refl, ap, ap₂, sym, ◌∙◌, inl, inr, take, drop}
 use Rattle.std.specs.Prelude.{option_map, eqb, ltb, cond, not, ◌||◌}
 use Rattle.std.specs.Ordering.{int_eq}
@@ -178,7 +178,7 @@ module _ (order : Order) (octets : List ℕ) (map : List Pair) (one : OneToOne m
     kind_alike (Context a i) os = refl
     kind_alike Unread os = refl
 
-  -- entries that are alike in one place, behind entries that are, are refused alike
+  -- entries that are alike in one place, after entries that are, are refused alike
   pub refusals_alike : (xs ys : List EntryAt) → AllSeenAlike map xs ys → (at : ℕ) (m n : Entry) → Alike m n → HomesMeet map m.home n.home
       → refusal order octets xs (record { at = at; entry = m }) ≡ refusal order octets ys (record { at = at; entry = n })
   refusals_alike xs ys seen at m n alike homes =

@@ -244,7 +244,7 @@ module _ (two : Readings) (w : Setting) (g g' : Graph) where
   pub in_map : (ys : List Pair) (p q : Pending) (o o' : Option ℕ) → p.cell ≡ o → q.cell ≡ o' → InMap ys p.class o o' → InMap ys p.class p.cell q.cell
   in_map ys p q o o' e f m = subst (λ x. InMap ys p.class x q.cell) (sym e) (subst (λ x. InMap ys p.class o x) (sym f) m)
 
-  -- the pointers of a home are carried, and so is what was due behind them
+  -- the pointers of a home are carried, and so is what was due after them
   pub carried_parts : (ys : List Pair) (ps qs : List Pending) (ts ts' : List Due) → AllPointers Numbers g g' ps qs
       → AllCarried ys (map due_referent ps ++ ts) (map due_referent qs ++ ts') → AllInMap ys ps qs × AllCarried ys ts ts'
   carried_parts ys [] [] ts ts' a b = (tt, b)

@@ -144,7 +144,7 @@ module _ (table : Table) (h : Home) (laid : HoistsLast table) (members : (t : �
   abbrev I : ℕ → TypeDef → Label → Trees → List Entry
   I n d l ks = in_place table h (child_types (Some d) l ks) (n + 1) ks
 
-  -- a node, by what stands before its children
+  -- a node, by what is before its children
   closes : (depth t n : ℕ) (d : TypeDef) (l : Label) (ks : Trees) → AllFew depth (child_types (Some d) l ks) (n + 1) ks → ones (child_types (Some d) l ks) ≤ one (hoists table t)
       → 1 ≤ least (B t n d l ks) + (least (I n d l ks) + one (hoists table t))
       → Bound (suc depth) (least (node_entries table h t (Some d) n (node l ks)) + one (hoists table t)) (tree_nodes (node l ks))

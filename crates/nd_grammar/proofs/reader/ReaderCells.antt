@@ -210,7 +210,7 @@ module _ (c : ℕ) (v : Tree) (s : Names) where
     pub linked_kept : (p : Progress) → Linked order octets p s → Linked order octets p (with_value c v s)
     linked_kept p l = record { all = links_kept p.seen s.numbers l.all }
 
--- a cell among cells with blank ones behind them
+-- a cell among cells with blank ones after them
 pub old_or_blank : (cells new : List Referent) → AllByRecursion (λ x. x.val ≡ unread) new → (c : ℕ) (x : Referent) → cell_in (cells ++ new) c ≡ Some x
     → (cell_in cells c ≡ Some x) ⊎ (x.val ≡ unread)
 old_or_blank cells new a zero x e = cc

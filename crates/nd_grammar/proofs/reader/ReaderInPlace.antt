@@ -25,7 +25,7 @@ use Rattle.nd_grammar.proofs.next.Mapped.{in_parts}
 use Rattle.nd_grammar.proofs.reader.ReaderSteps.{Follows, follows_append, follows_stopped, follows_child_tests}
 use Rattle.nd_grammar.proofs.reader.ReaderNodes.{Agree, Grown, grown_agree, grown_twice, named_grown, follows_number, follows_tag, follows_counts, follows_max, follows_text, follows_context, follows_pointer}
 
--- a type that can be read in place: a pipe never stands there, and a tag is a number
+-- a type that can be read in place: a pipe never is there, and a tag is a number
 abbrev pub Fine : Table → TypeDef → Type 0
 Fine table (def.Pipe e) = ⊥
 Fine table (def.Union tag enc arms default) = (p : Primitive) × (carrier (type_at table tag.0) ≡ Some p)
@@ -36,7 +36,7 @@ abbrev pub Readable : Table → ℕ → ℕ → Type 0
 Readable table zero t = ⊥
 Readable table (suc depth) t = (d : TypeDef) × (type_at table t ≡ Some d) × Fine table d × AllByRecursion (Readable table depth) (parts (Some d))
 
--- the entries of one value: what stands before its children, the children, their agreements
+-- the entries of one value: what is before its children, the children, their agreements
 abbrev pub node_entries : Table → Home → ℕ → Option TypeDef → ℕ → Tree → List Entry
 node_entries table h t d n (node l ks) =
     entries h n (before_children table t d l ks) ++ (in_place table h (child_types d l ks) (n + 1) ks ++ child_tests h (child_agreements d ks) (n + 1) ks)
@@ -93,7 +93,7 @@ module _ (order : Order) (octets : List ℕ) (table : Table) (h : Home) where
         as_many = ap suc b.as_many;
       }
 
-  -- a value with children, once what stands before them is known to be gone over
+  -- a value with children, once what is before them is known to be gone over
   children_read : (read : ℕ → ℕ → Progress → Names → Read) (t : ℕ) (d : Option TypeDef) (n : ℕ) (l : Label) (types : List ℕ) (p0 p : Progress) (s : Names)
       → AllByRecursion (Reads read) types
       → child_types d l (read_list table read types (n + 1) p s).trees ≡ types

@@ -80,7 +80,7 @@ module _ (order : Order) (octets : List ℕ) (all : AreOctets octets) (table : T
   abbrev T : ℕ → Kind → Progress → Option (List ℕ)
   T n k p = taken order octets (E n k) p
 
-  -- what pointers tell of the names before and behind them, and of what was paid
+  -- what pointers tell of the names before and after them, and of what was paid
   pub record Costs (p : Progress) (s : Names) (q : Progress) (s' : Names) (ps : List Pending) : Type 0 where
     pub cost : 4 * length ps + paid p ≤ paid q
     pub cells : length s'.cells ≤ length s.cells + length ps

@@ -151,7 +151,7 @@ in_range low high [] a c m = absurd m
 in_range low high (x ∷ xs) a c (inl e) = subst (λ u. low < u) (sym e) a.0.0
 in_range low high (x ∷ xs) a c (inr m) = in_range low high xs a.1 c m
 
--- a pointer stays such a one while the names grow behind it
+-- a pointer stays such a one while the names grow after it
 pub pointer_later : (a b c : Names) → Extends b c → (p : Pending) → PointerOk a b p → PointerOk a c p
 pointer_later a b c e p ok k h =
     let q = ok k h in

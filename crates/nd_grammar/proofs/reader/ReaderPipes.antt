@@ -168,7 +168,7 @@ module _ (w : Setting) (side : IsLegalSide w) (order : Order) (octets : List ℕ
         let gap : Progress = pass order octets (E (Align 4)) p in
         moves_twice order octets p gap (pass order octets (E (Chunk k)) gap) (pass_moves order octets (E (Align 4)) p) (pass_moves order octets (E (Chunk k)) gap)
 
-    -- a chunk and those behind it
+    -- a chunk and those after it
     more_chunks : (n k : ℕ) (p q : Progress) (s : Names) (kids : ReadAll) (others : ReadPipe) → (k ≡ 0 → ⊥)
         → Moves order octets p q → ((nums : ℕ → ℕ) → Follows order octets nums p (E (Align 4) ∷ E (Chunk k) ∷ []) q)
         → ChunkRead h e k n q s kids → PipeRead (n + node_count kids.trees) kids.progress kids.names others

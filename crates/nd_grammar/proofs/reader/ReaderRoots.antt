@@ -138,7 +138,7 @@ module _ (w : Setting) (side : IsLegalSide w) (order : Order) (octets : List ℕ
             paid_for = omega (arith, z, R_reads.cost);
           }
 
-    -- a top-level reference pointer's referent stands in its place
+    -- a top-level reference pointer's referent is in its place
     module _ (to : TypeId) (is_reference : type_at w.table r.of ≡ Some (def.Pointer Ref to)) where
       abbrev c : ℕ
       c = fresh to.0 s.names

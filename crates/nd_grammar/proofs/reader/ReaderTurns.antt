@@ -1,4 +1,4 @@
--- One step of the reader over what is due: the state behind it, and the step of deferral that it is.
+-- One step of the reader over what is due: the state after it, and the step of deferral that it is.
 use Rattle.std.proofs.Common.{◌≡◌, ℕ, ◌+◌, ◌*◌, ◌≤◌, zero, suc, Bool, true, false, List, [], ◌∷◌, ◌++◌, length, Option, Some, None, refl, ap, sym, ◌∙◌, inl, inr, arith, subst, append_assoc, length-append}
 use Rattle.std.specs.Prelude.{map, flat_map, eqb, ◌||◌}
 use Rattle.std.specs.List.{AllByRecursion, slice_get}
@@ -114,7 +114,7 @@ module _ (w : Setting) (side : IsLegalSide w) (order : Order) (octets : List ℕ
   abbrev S : Reading → List Pending → List Pending → ℕ → Type 0
   S = State w side order octets all
 
-  -- a step: the state behind it, what is due then, how it goes, and that each pointer that is due was paid
+  -- a step: the state after it, what is due then, how it goes, and that each pointer that is due was paid
   pub record Turn (due : List Due) (s : Reading) (ps : List Pending) (n : ℕ) (s' : Reading) : Type 0 where
     pub taken' : List Pending
     pub ps' : List Pending

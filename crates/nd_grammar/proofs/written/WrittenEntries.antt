@@ -105,7 +105,7 @@ module _ (order : Order) (nums : ℕ → ℕ) where
   octets_spell at (Test a x y) h = tt
   octets_spell at Unread h = absurd h
 
-  -- entries that are written behind other octets are spelt there
+  -- entries that are written after other octets are spelt there
   pub record AreWritten (whole : List ℕ) (at : ℕ) (ms : List Entry) : Type 0 where
     pub rendered : AllByRecursion (IsRendered order nums whole) (end_to_end at ms)
     pub ends : length whole ≡ end_of at ms

@@ -7,7 +7,7 @@ use nd_base::Memory;
 use std::alloc::Global;
 
 impl Numbers {
-    /// An equal list. It takes memory for exactly its items. Want of memory is the only refusal.
+    /// An equal list. It takes memory for exactly its items. Running out of memory is the only refusal.
     pub fn copy(&self, alloc: Global) -> Result<Numbers, Memory>
         ensures { IfOk result (λ c. c ≡ self.now) }
     {
@@ -18,7 +18,7 @@ impl Numbers {
 }
 
 impl AttrVars {
-    /// An equal list. It takes memory for exactly its items. Want of memory is the only refusal.
+    /// An equal list. It takes memory for exactly its items. Running out of memory is the only refusal.
     pub fn copy(&self, alloc: Global) -> Result<AttrVars, Memory>
         ensures { IfOk result (λ c. c ≡ self.now) }
     {
@@ -29,7 +29,7 @@ impl AttrVars {
 }
 
 impl Fields {
-    /// An equal list. It takes memory for exactly its items, with their names and attributes. Want of memory is the only refusal.
+    /// An equal list. It takes memory for exactly its items, with their names and attributes. Running out of memory is the only refusal.
     pub fn copy(&self, alloc: Global) -> Result<Fields, Memory>
         ensures { IfOk result (λ c. c ≡ self.now) }
     {
@@ -40,7 +40,7 @@ impl Fields {
 }
 
 impl Arms {
-    /// An equal list. It takes memory for exactly its items, with their names. Want of memory is the only refusal.
+    /// An equal list. It takes memory for exactly its items, with their names. Running out of memory is the only refusal.
     pub fn copy(&self, alloc: Global) -> Result<Arms, Memory>
         ensures { IfOk result (λ c. c ≡ self.now) }
     {
@@ -51,7 +51,7 @@ impl Arms {
 }
 
 impl Params {
-    /// An equal list. It takes memory for exactly its items, with their names and attributes. Want of memory is the only refusal.
+    /// An equal list. It takes memory for exactly its items, with their names and attributes. Running out of memory is the only refusal.
     pub fn copy(&self, alloc: Global) -> Result<Params, Memory>
         ensures { IfOk result (λ c. c ≡ self.now) }
     {
@@ -62,7 +62,7 @@ impl Params {
 }
 
 impl Types {
-    /// An equal list. It takes memory for exactly its items, with their members, arms and enumerators. Want of memory is the only
+    /// An equal list. It takes memory for exactly its items, with their members, arms and enumerators. Running out of memory is the only
     /// refusal.
     pub fn copy(&self, alloc: Global) -> Result<Types, Memory>
         ensures { IfOk result (λ c. c ≡ self.now) }
@@ -74,7 +74,7 @@ impl Types {
 }
 
 impl Operations {
-    /// An equal list. It takes memory for exactly its items, with their names and parameters. Want of memory is the only refusal.
+    /// An equal list. It takes memory for exactly its items, with their names and parameters. Running out of memory is the only refusal.
     pub fn copy(&self, alloc: Global) -> Result<Operations, Memory>
         ensures { IfOk result (λ c. c ≡ self.now) }
     {

@@ -2,7 +2,7 @@ use Rattle.std.proofs.Common.{◌∙◌, codes}
 use Rattle.line_words.proofs.WordByWord.{then_piece}
 use Rattle.idl_listing.proofs.header_line.uuid_digits.Goals as goal
 
--- nine pieces, one behind the other
+-- nine pieces, one after the other
 pub returns : goal.returns
 returns c =
     let t = c.args.text.now in

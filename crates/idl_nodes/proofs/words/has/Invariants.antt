@@ -5,6 +5,6 @@ use Rattle.idl_nodes.specs.Spelled.{spelled}
 use Rattle.idl_nodes.proofs.AnyFrom.{any_from}
 use Rattle.idl_nodes.proofs.words.has.Given as goal
 
--- the word stands among the attributes that are left, or nowhere
+-- the word is among the attributes that are left, or nowhere
 abbrev pub invariant-loop-attribute : goal.invariant-loop-attribute
 invariant-loop-attribute l = any_from seen_attribute (is_word (spelled l.word)) l.attributes l.attribute-index ≡ has (spelled l.word) (map seen_attribute l.attributes)

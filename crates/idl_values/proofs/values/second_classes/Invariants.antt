@@ -11,7 +11,7 @@ use Rattle.idl_language.specs.Found.{seen_breach}
 use Rattle.idl_values.proofs.ValueNotes.{class_breaches, has_class_before}
 use Rattle.idl_values.proofs.values.second_classes.Given as goal
 
--- whether a class stands before, and with the attributes that are left it comes to what all come to
+-- whether a class is before, and with the attributes that are left it comes to what all come to
 abbrev pub invariant-loop-one : goal.invariant-loop-one
 invariant-loop-one l =
     (l.finder.files.now ≡ l.fn.finder.files.now)

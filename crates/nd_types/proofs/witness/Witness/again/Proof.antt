@@ -1,4 +1,4 @@
--- `again` makes a value of no bytes, whose ghost field is that of the value behind the reference.
+-- `again` makes a value of no bytes, whose ghost field is that of the value after the reference.
 use mathlib.Core.Path.{refl, sym, subst}
 use Prim.Native.Nat.{ℕ}
 use mathlib.Core.List.{List, [], ◌∷◌, ◌++◌}
