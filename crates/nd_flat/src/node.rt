@@ -31,6 +31,18 @@ pub enum Seen<'a> {
     Pipe(u32),
 }
 
+impl<'a> Seen<'a> {
+    /// The cell that the node names, if it is a pointer that is not null. Takes no memory.
+    pub fn named_cell(&self) -> Option<CellId>
+        ensures { cell_number result ≡ tree.cell_in (flat_seen self.now).0 }
+    {
+        match self {
+            Seen::Ptr(cell) => *cell,
+            _ => None,
+        }
+    }
+}
+
 // A node as it is kept: numbers and tags from 0 on apart from those below 0, the octets of a text by where they begin among all
 // octets that are kept, and numbers of a primitive side by side as one node.
 #[derive(Clone, Copy, Drop)]
@@ -106,7 +118,7 @@ pub(crate) fn first_seen<'a>(node: &Node, octets: &'a [u8]) -> Seen<'a>
     }
 }
 
-// A node as it is kept. The octets of a text are appended to those that are kept; running out of memory changes nothing.
+// A node as it is kept. The octets of a text are appended to those that are kept; where memory is refused nothing changes.
 pub(crate) fn kept_node(octets: &mut Octets, node: &Seen<'_>) -> Result<Node, Memory>
     requires small { IsKeepable (flat_seen node.now).0 }
     ensures octets { OnOk result (octets.new ≡ octets.old ++ text_of (flat_seen node.now).0) }
@@ -189,7 +201,7 @@ fn kept_text(octets: &mut Octets, max: u32, text: &[u8]) -> Result<Node, Memory>
     })
 }
 
-// A row of numbers as it is kept: its octets are appended to those that are kept; running out of memory changes nothing.
+// A row of numbers as it is kept: its octets are appended to those that are kept; where memory is refused nothing changes.
 pub(crate) fn kept_row(octets: &mut Octets, row: &Row<'_>) -> Result<Node, Memory>
     requires whole { IsRow row.now }
     requires some { 0 < row.now.count }

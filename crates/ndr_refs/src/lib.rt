@@ -1,0 +1,6 @@
+//! The numbers of full pointers in a stream, and the cells that they name.
+#![tactic(auto)]
+
+mod referents;
+
+pub use referents::{RefFault, Referents};
