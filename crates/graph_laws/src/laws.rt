@@ -12,9 +12,9 @@ ghost use Rattle.nd_grammar.specs.LegalSide.{IsLegalSide};
 ghost use Rattle.nd_canonical.specs.Naming.{AreNamed};
 ghost use Rattle.nd_canonical.specs.Canonical.{IsCanonical};
 
-/// In a graph that conforms the cells are named in the order of deferral: what nodes say alone gives the order in which the pointers of
-/// the stream name them. So the canonical form of a fit is canonical by the order of the stream.
-pub fn named_by_turns()
+/// In a graph that conforms the cells are named in the order of deferral (C706 14.3.12): what nodes say alone gives the order in which the
+/// pointers of the stream name them. So the canonical form of a fit is canonical by the order of the stream.
+pub fn named_in_deferral_order()
     ensures named { (w : Setting) → IsLegalSide w → (g : Graph) → Conforms w g → (steps : List Step)
         → Deferral w g [] (due_roots 0 (before_pipes (root_list w))) steps → AreNamed g (named_cells w g steps) }
     ensures canon { (f c : Fitting) → IsFit f → IsCanonical f c → (o : Operation) → slice_get f.interface.operations f.op ≡ Some o

@@ -1,6 +1,7 @@
-//! Worked examples of graphs, each a theorem over the definitions: which conform, beside a request or beside none, and which misfit is
+//! A law of graphs without a misfit, and worked examples, each a theorem over the definitions: which graphs conform, beside a request or
+//! beside none, and which misfit is
 //! the first of those that do not.
 #![tactic(auto)]
 
 pub mod examples;
-pub mod plain;
+pub mod laws;

@@ -19,7 +19,7 @@ use Rattle.nd_value.specs.Names.{AreThere, HasNames, cells_in, named_by}
 use Rattle.nd_value.specs.Same.{Same, renumbered, renumbered_label}
 use Rattle.nd_flat.specs.Building.{referent_type}
 use Rattle.nd_flat.specs.Renumbered.{renumbered_tree}
-use Rattle.nd_canonical.specs.Naming.{Naming, none_due, root_turn, cell_turn, stands_already, AreNamed, cell_homes, root_homes}
+use Rattle.nd_canonical.specs.Naming.{Naming, none_due, root_due, cell_due, stands_already, AreNamed, cell_homes, root_homes}
 use Rattle.nd_canonical.specs.Order.{IsOrder}
 use Rattle.nd_canonical.specs.Alike.{AreAlike, IsSameCell, number_by}
 use Rattle.nd_canonical.proofs.Carried.{carried_cell, get_map, among_mapped, mapped_from}
@@ -218,10 +218,10 @@ module _ (g h : Graph) (ns cs ms ds : List ℕ) (left : IsOrder g ns cs) (right 
 module _ (g : Graph) where
   pub one_naming : {st : List ℕ} {due : List Home} {xs ys : List ℕ} → Naming g st due xs → Naming g st due ys → xs ≡ ys
   one_naming none_due none_due = refl
-  one_naming (root_turn i a) (root_turn _ b) = ap (λ u. named_by (root_at g i) ++ u) (one_naming a b)
-  one_naming (cell_turn c n a) (cell_turn _ m b) = ap (λ u. named_by (cell_at g c) ++ u) (one_naming a b)
-  one_naming (cell_turn c n a) (stands_already _ s b) = absurd (n s)
-  one_naming (stands_already c s a) (cell_turn _ n b) = absurd (n s)
+  one_naming (root_due i a) (root_due _ b) = ap (λ u. named_by (root_at g i) ++ u) (one_naming a b)
+  one_naming (cell_due c n a) (cell_due _ m b) = ap (λ u. named_by (cell_at g c) ++ u) (one_naming a b)
+  one_naming (cell_due c n a) (stands_already _ s b) = absurd (n s)
+  one_naming (stands_already c s a) (cell_due _ n b) = absurd (n s)
   one_naming (stands_already c s a) (stands_already _ t b) = one_naming a b
 
 -- ## Graphs that are the same are alike
@@ -359,21 +359,21 @@ module _ (g h : Graph) (same : Same g h) where
 
   naming_carried : {st : List ℕ} {due : List Home} {ns : List ℕ} → Naming g st due ns → Naming h (map s st) (map home_carried due) (map s ns)
   naming_carried none_due = none_due
-  naming_carried (root_turn {stands = st} {ns = ns} {due = due} i d) =
+  naming_carried (root_due {stands = st} {ns = ns} {due = due} i d) =
       let cs : List ℕ = named_by (root_at g i) in
       let names : named_by (root_at h i) ≡ map s cs = ap named_by (root_is i) ∙ names_carried (root_at g i) in
       let d' : Naming h (map s st) (cell_homes (named_by (root_at h i)) ++ map home_carried due) (map s ns) =
       subst (λ u. Naming h (map s st) (cell_homes u ++ map home_carried due) (map s ns)) (sym names)
       (subst (λ u. Naming h (map s st) u (map s ns)) (due_carried cs due) (naming_carried d)) in
-      subst (λ u. Naming h (map s st) (home.Root i ∷ map home_carried due) u) (ap (λ u. u ++ map s ns) names ∙ sym (map-append s cs ns)) (root_turn i d')
-  naming_carried (cell_turn {stands = st} {ns = ns} {due = due} c n d) =
+      subst (λ u. Naming h (map s st) (home.Root i ∷ map home_carried due) u) (ap (λ u. u ++ map s ns) names ∙ sym (map-append s cs ns)) (root_due i d')
+  naming_carried (cell_due {stands = st} {ns = ns} {due = due} c n d) =
       let cs : List ℕ = named_by (cell_at g c) in
       let names : named_by (cell_at h (s c)) ≡ map s cs = ap named_by (value_is c) ∙ names_carried (cell_at g c) in
       let d' : Naming h (s c ∷ map s st) (cell_homes (named_by (cell_at h (s c))) ++ map home_carried due) (map s ns) =
       subst (λ u. Naming h (s c ∷ map s st) (cell_homes u ++ map home_carried due) (map s ns)) (sym names)
       (subst (λ u. Naming h (s c ∷ map s st) u (map s ns)) (due_carried cs due) (naming_carried d)) in
       subst (λ u. Naming h (map s st) (cell_home (s c) ∷ map home_carried due) u) (ap (λ u. u ++ map s ns) names ∙ sym (map-append s cs ns))
-      (cell_turn (s c) (free st c n) d')
+      (cell_due (s c) (free st c n) d')
   naming_carried (stands_already {stands = st} c b d) = stands_already (s c) (among_mapped s st c b) (naming_carried d)
 
   roots_carried : (i n : ℕ) → map home_carried (root_homes i n) ≡ root_homes i n

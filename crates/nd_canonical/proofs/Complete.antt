@@ -27,7 +27,7 @@ use Rattle.nd_value.specs.Canon.{target}
 use Rattle.nd_value.specs.Names.{AreThere, HasNames, cells_in, named_by}
 use Rattle.nd_value.proofs.Apart.{all_append, all_left, all_right, all_map, among_left, among_right}
 use Rattle.nd_value.proofs.NodeFacts.{fit_node, fit_children}
-use Rattle.nd_canonical.specs.Naming.{Naming, none_due, root_turn, cell_turn, stands_already, AreNamed, cell_homes, root_homes}
+use Rattle.nd_canonical.specs.Naming.{Naming, none_due, root_due, cell_due, stands_already, AreNamed, cell_homes, root_homes}
 use Rattle.nd_canonical.specs.Order.{IsAllNamed}
 
 -- ## The cells of pointers
@@ -97,7 +97,7 @@ abbrev number_in : Home → ℕ
 number_in (home.Root i) = i
 number_in (home.Cell c) = c.0
 
--- a root whose turn comes, or a cell that stands or whose turn comes, names its cells
+-- a root that is due, or a cell that stands or is due, names its cells
 abbrev Names : Graph → List ℕ → Tree → Type 0
 Names g ns t = (c : ℕ) → Among (named_by t) c → Among ns c
 
@@ -116,13 +116,13 @@ module _ (g : Graph) where
   -- a root that is due names its cells
   root_names : {stands ns : List ℕ} {due : List Home} (i : ℕ) → Naming g stands due ns → Among due (home.Root i) → Names g ns (root_at g i)
   root_names i none_due a c m = absurd a
-  root_names i (root_turn {ns = ns} j d) (inl e) c m =
+  root_names i (root_due {ns = ns} j d) (inl e) c m =
       let same : i ≡ j = cc in
       among_left (named_by (root_at g j)) ns c (subst (λ k. Among (named_by (root_at g k)) c) same m)
-  root_names i (root_turn {ns = ns} {due = due} j d) (inr a) c m =
+  root_names i (root_due {ns = ns} {due = due} j d) (inr a) c m =
       among_right (named_by (root_at g j)) ns c (root_names i d (among_right (cell_homes (named_by (root_at g j))) due (home.Root i) a) c m)
-  root_names i (cell_turn b n d) (inl e) c m = cc
-  root_names i (cell_turn {ns = ns} {due = due} b n d) (inr a) c m =
+  root_names i (cell_due b n d) (inl e) c m = cc
+  root_names i (cell_due {ns = ns} {due = due} b n d) (inr a) c m =
       among_right (named_by (cell_at g b)) ns c (root_names i d (among_right (cell_homes (named_by (cell_at g b))) due (home.Root i) a) c m)
   root_names i (stands_already b n d) (inl e) c m = cc
   root_names i (stands_already b n d) (inr a) c m = root_names i d a c m
@@ -131,7 +131,7 @@ module _ (g : Graph) where
   cell_names : {stands ns : List ℕ} {due : List Home} (b : ℕ) → Naming g stands due ns → Among due (cell_home b) ⊎ Among ns b → Among stands b ⊎ Names g ns (cell_at g b)
   cell_names b none_due (inl a) = absurd a
   cell_names b none_due (inr a) = absurd a
-  cell_names b (root_turn {stands = stands} {ns = ns} {due = due} j d) a =
+  cell_names b (root_due {stands = stands} {ns = ns} {due = due} j d) a =
       let cs : List ℕ = named_by (root_at g j) in
       let onward : Among (cell_homes cs ++ due) (cell_home b) ⊎ Among ns b = on_root a in
       elim (cell_names b d onward) as (λ v. Among stands b ⊎ Names g (cs ++ ns) (cell_at g b)) [ inl s ↦ inl s | inr h ↦ inr (later cs ns (cell_at g b) h) ]
@@ -145,7 +145,7 @@ module _ (g : Graph) where
             | inl k ↦ inl (among_left (cell_homes (named_by (root_at g j))) due (cell_home b) (cell_among (named_by (root_at g j)) b k))
             | inr k ↦ inr k
           ]
-  cell_names b (cell_turn {stands = stands} {ns = ns} {due = due} j n d) a =
+  cell_names b (cell_due {stands = stands} {ns = ns} {due = due} j n d) a =
       by_case (cell_names b d) a
     where
       cs : List ℕ

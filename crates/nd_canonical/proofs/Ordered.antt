@@ -12,8 +12,8 @@ use Rattle.nd_value.specs.Names.{AreThere, HasNames, named_by}
 use Rattle.nd_value.specs.Canon.{has}
 use Rattle.nd_value.proofs.Apart.{all_append}
 use Rattle.nd_flat.specs.Building.{HasHome, home_tree}
-use Rattle.nd_canonical.specs.Naming.{Naming, none_due, root_turn, cell_turn, stands_already, AreNamed, cell_homes, root_homes}
-use Rattle.nd_canonical.specs.Order.{Numbering, name, Ordering, turned, turned_by, HasMark, IsAllNamed, IsOrder, zeros, HaveNumbers}
+use Rattle.nd_canonical.specs.Naming.{Naming, none_due, root_due, cell_due, stands_already, AreNamed, cell_homes, root_homes}
+use Rattle.nd_canonical.specs.Order.{Numbering, name, Ordering, visited, visited_by, HasMark, IsAllNamed, IsOrder, zeros, HaveNumbers}
 use Rattle.nd_canonical.proofs.Numbers.{AreNumbers, names_step, can_name, firsts, place, number_is_place, placed, placed_at, found, has_among, among_has, firsts_have, no_zeros}
 
 -- what the search keeps
@@ -70,13 +70,13 @@ homes_there : (g : Graph) (cs : List ℕ) → AreThere (length g.cells) cs → A
 homes_there g [] h = tt
 homes_there g (c ∷ cs) h = (h.0, homes_there g cs h.1)
 
--- ## A turn
+-- ## A visit
 
 module _ (g : Graph) (names : HasNames g) (s : Ordering) (rest : List Home) where
   abbrev popped : Ordering
   popped = record { named = s.named; stands = s.stands; due = rest }
 
-  root_step : (i : ℕ) → s.due ≡ home.Root i ∷ rest → Ordered g s → Ordered g (turned_by true g (home.Root i) popped)
+  root_step : (i : ℕ) → s.due ≡ home.Root i ∷ rest → Ordered g s → Ordered g (visited_by true g (home.Root i) popped)
   root_step i e o =
       let cs : List ℕ = named_by (root_at g i) in
       let there : AreThere (length g.cells) cs = home_there g names (home.Root i) in
@@ -84,7 +84,7 @@ module _ (g : Graph) (names : HasNames g) (s : Ordering) (rest : List Home) wher
         names = o.names ++ cs;
         placed = o.placed;
         follows = λ ns d.
-            subst (AreNamed g) (sym (append_assoc o.names cs ns)) (o.follows (cs ++ ns) (subst (λ u. Naming g o.placed u (cs ++ ns)) (sym e) (root_turn i d)));
+            subst (AreNamed g) (sym (append_assoc o.names cs ns)) (o.follows (cs ++ ns) (subst (λ u. Naming g o.placed u (cs ++ ns)) (sym e) (root_due i d)));
         numbers = names_step (length g.cells) o.names s.named cs o.numbers there;
         marks = o.marks;
         all = o.all;
@@ -141,7 +141,7 @@ module _ (g : Graph) (names : HasNames g) (s : Ordering) (rest : List Home) wher
           names = o.names ++ cs;
           placed = c ∷ o.placed;
           follows = λ ns d.
-              subst (AreNamed g) (sym (append_assoc o.names cs ns)) (o.follows (cs ++ ns) (subst (λ u. Naming g o.placed u (cs ++ ns)) (sym e) (cell_turn c free d)));
+              subst (AreNamed g) (sym (append_assoc o.names cs ns)) (o.follows (cs ++ ns) (subst (λ u. Naming g o.placed u (cs ++ ns)) (sym e) (cell_due c free d)));
           numbers = names_step (length g.cells) o.names s.named cs o.numbers there;
           marks = new_marks;
           all = mark_length s.stands j ∙ o.all;
@@ -168,21 +168,21 @@ module _ (g : Graph) (names : HasNames g) (s : Ordering) (rest : List Home) wher
     cell_step k e true t = subst (λ i. Ordered g (old_at i)) e (stood (ap (λ i. get_or s.stands i false) e ∙ t))
     cell_step k e false f = subst (λ i. Ordered g (new_at i)) e (stands_new (ap (λ i. get_or s.stands i false) e ∙ f))
 
-    by_mark : (b : Bool) → get_or s.stands (c - 1) false ≡ b → Ordered g (turned_by (not b) g (cell_home c) popped)
+    by_mark : (b : Bool) → get_or s.stands (c - 1) false ≡ b → Ordered g (visited_by (not b) g (cell_home c) popped)
     by_mark true t = cell_step (c - 1) (omega arith) true t
     by_mark false f = cell_step (c - 1) (omega arith) false f
 
   no_cell : s.due ≡ cell_home 0 ∷ rest → Ordered g s → ⊥
   no_cell e o = let l : 0 < 0 = (subst (AllByRecursion (HasHome g)) e o.there).0.0 in omega (arith, l)
 
-  number_step : (c : ℕ) → s.due ≡ cell_home c ∷ rest → Ordered g s → Ordered g (turned g (cell_home c) popped)
+  number_step : (c : ℕ) → s.due ≡ cell_home c ∷ rest → Ordered g s → Ordered g (visited g (cell_home c) popped)
   number_step zero e o = absurd (no_cell e o)
   number_step (suc j) e o = by_mark j e o (get_or s.stands (suc j - 1) false) refl
 
-  -- the turn of the next home
-  pub turn_step : (h : Home) → s.due ≡ h ∷ rest → Ordered g s → Ordered g (turned g h popped)
-  turn_step (home.Root i) e o = root_step i e o
-  turn_step (home.Cell c) e o = number_step c.0 e o
+  -- the next home is visited
+  pub visit_step : (h : Home) → s.due ≡ h ∷ rest → Ordered g s → Ordered g (visited g h popped)
+  visit_step (home.Root i) e o = root_step i e o
+  visit_step (home.Cell c) e o = number_step c.0 e o
 
   -- the next home can be named, and marked
   pub next_there : (h : Home) → s.due ≡ h ∷ rest → Ordered g s → HasHome g h
@@ -202,7 +202,7 @@ module _ (g : Graph) (names : HasNames g) (s : Ordering) (rest : List Home) wher
 
 -- ## How much is left
 
--- the turns that a home that is due may take
+-- the visits that a home that is due may take
 abbrev pub weight_of : Graph → Home → ℕ
 weight_of g (home.Root i) = suc (length (named_by (root_at g i)))
 weight_of g (home.Cell c) = 1
@@ -218,8 +218,8 @@ unmet [] (x ∷ xs) = 0
 unmet (true ∷ ms) (x ∷ xs) = unmet ms xs
 unmet (false ∷ ms) (x ∷ xs) = length (named_by x.val) + unmet ms xs
 
-abbrev pub turns_left : Graph → Ordering → ℕ
-turns_left g s = weight g s.due + unmet s.stands g.cells
+abbrev pub visits_left : Graph → Ordering → ℕ
+visits_left g s = weight g s.due + unmet s.stands g.cells
 
 weight_cells : (g : Graph) (cs : List ℕ) (rest : List Home) → weight g (cell_homes cs ++ rest) ≡ length cs + weight g rest
 weight_cells g [] rest = omega arith
@@ -246,14 +246,14 @@ module _ (g : Graph) (s : Ordering) (rest : List Home) where
   abbrev after : Ordering
   after = record { named = s.named; stands = s.stands; due = rest }
 
-  root_less : (i : ℕ) → s.due ≡ home.Root i ∷ rest → turns_left g (turned_by true g (home.Root i) after) < turns_left g s
+  root_less : (i : ℕ) → s.due ≡ home.Root i ∷ rest → visits_left g (visited_by true g (home.Root i) after) < visits_left g s
   root_less i e =
       let a : weight g s.due ≡ suc (length (named_by (root_at g i))) + weight g rest = ap (weight g) e in
       let b = weight_cells g (named_by (root_at g i)) rest in
       omega (arith, a, b)
 
   cell_less : (j k : ℕ) → j ≡ k → s.due ≡ cell_home (suc j) ∷ rest → k < length s.stands → k < length g.cells → (b : Bool) → get_or s.stands k false ≡ b
-      → weight g (elim (not b) [ true ↦ cell_homes (named_by (cell_at g (suc j))) ++ rest | false ↦ rest ]) + unmet (set s.stands k true) g.cells < turns_left g s
+      → weight g (elim (not b) [ true ↦ cell_homes (named_by (cell_at g (suc j))) ++ rest | false ↦ rest ]) + unmet (set s.stands k true) g.cells < visits_left g s
   cell_less j k same e l m true f =
       let a : weight g s.due ≡ 1 + weight g rest = ap (weight g) e in
       let u = unmet_same s.stands g.cells k f in
@@ -266,21 +266,21 @@ module _ (g : Graph) (s : Ordering) (rest : List Home) where
       omega (arith, a, b, u)
 
   by_mark_less : (j : ℕ) → s.due ≡ cell_home (suc j) ∷ rest → suc j - 1 < length s.stands → suc j - 1 < length g.cells → (b : Bool) → get_or s.stands (suc j - 1) false ≡ b
-      → turns_left g (turned_by (not b) g (cell_home (suc j)) after) < turns_left g s
+      → visits_left g (visited_by (not b) g (cell_home (suc j)) after) < visits_left g s
   by_mark_less j e l m true f = cell_less j (suc j - 1) (omega arith) e l m true f
   by_mark_less j e l m false f = cell_less j (suc j - 1) (omega arith) e l m false f
 
-  number_less : (c : ℕ) → s.due ≡ cell_home c ∷ rest → Ordered g s → turns_left g (turned g (cell_home c) after) < turns_left g s
+  number_less : (c : ℕ) → s.due ≡ cell_home c ∷ rest → Ordered g s → visits_left g (visited g (cell_home c) after) < visits_left g s
   number_less zero e o = absurd (let l : 0 < 0 = (subst (AllByRecursion (HasHome g)) e o.there).0.0 in omega (arith, l))
   number_less (suc j) e o =
       let m : suc j ≤ length g.cells = (subst (AllByRecursion (HasHome g)) e o.there).0.1 in
       let a = o.all in
       by_mark_less j e (omega (arith, m, a)) (omega (arith, m)) (get_or s.stands (suc j - 1) false) refl
 
-  -- each turn is one less
-  pub turn_less : (h : Home) → s.due ≡ h ∷ rest → Ordered g s → turns_left g (turned g h after) < turns_left g s
-  turn_less (home.Root i) e o = root_less i e
-  turn_less (home.Cell c) e o = number_less c.0 e o
+  -- each visit is one less
+  pub visit_less : (h : Home) → s.due ≡ h ∷ rest → Ordered g s → visits_left g (visited g h after) < visits_left g s
+  visit_less (home.Root i) e o = root_less i e
+  visit_less (home.Cell c) e o = number_less c.0 e o
 
 -- ## Start and end
 

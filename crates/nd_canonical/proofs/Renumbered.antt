@@ -233,6 +233,7 @@ module _ (f : Fitting) (k : IsFit f) (numbers cells : List ℕ) (o : IsOrder f.g
     conforms =
         conforms_as_before (setting_beside f.interface k.operation f.side f.given) f.graph (renumbered_graph numbers cells f.graph) (λ c. get_or numbers c 0)
         (renumbers f.graph numbers cells o) k.conforms;
+    request = k.request;
   }
 
   pub is_canonical : IsCanonical f (renumbered_fitting numbers cells f)

@@ -93,9 +93,9 @@ last_first xs x = reverse-append xs (x ∷ [])
 pub due_on : (met met' : List ℕ) (c : ℕ) (due due' all : List Home) → met ≡ met' ++ c ∷ [] → due' ≡ due ++ cell_home c ∷ []
     → due ++ reverse (cell_homes met) ≡ all → due' ++ reverse (cell_homes met') ≡ all
 due_on met met' c due due' all e n h =
-    let turned : reverse (cell_homes met) ≡ cell_home c ∷ reverse (cell_homes met') =
+    let reversed : reverse (cell_homes met) ≡ cell_home c ∷ reverse (cell_homes met') =
     ap (λ u. reverse (cell_homes u)) e ∙ ap reverse (map-append cell_home met' (c ∷ [])) ∙ last_first (cell_homes met') (cell_home c) in
-    ap (λ u. u ++ reverse (cell_homes met')) n ∙ append_assoc due (cell_home c ∷ []) (reverse (cell_homes met')) ∙ ap (λ u. due ++ u) (sym turned) ∙ h
+    ap (λ u. u ++ reverse (cell_homes met')) n ∙ append_assoc due (cell_home c ∷ []) (reverse (cell_homes met')) ∙ ap (λ u. due ++ u) (sym reversed) ∙ h
 
 pub due_end : (met : List ℕ) (due all : List Home) → met ≡ [] → due ++ reverse (cell_homes met) ≡ all → due ≡ all
 due_end met due all e h = sym (append-nil due) ∙ ap (λ u. due ++ reverse (cell_homes u)) (sym e) ∙ h

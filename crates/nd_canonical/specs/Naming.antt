@@ -1,7 +1,7 @@
 -- In which order the cells of a graph are named, by what nodes say alone. A graph that conforms has no need of types for it: a
 -- reference pointer that is a root names its cell, and then the cell's referent stands, as with any other pointer; and pipes, which
 -- come last, name no cell.
--- `g` is a graph, `h` a home, `i` a root's index, `c` a cell's number, `stands` are the cells that stand, `due` the homes whose turn comes, in
+-- `g` is a graph, `h` a home, `i` a root's index, `c` a cell's number, `stands` are the cells that stand, `due` the homes that are deferred, in
 -- order, `ns` the cells that are named from there on.
 use Rattle.std.specs.Prelude.{ℕ, zero, suc, List, [], ◌∷◌, ◌++◌, length, map}
 use Rattle.nd_value.specs.declared.value.Graph.{Graph}
@@ -14,14 +14,14 @@ use Rattle.nd_value.specs.Names.{named_by}
 abbrev pub cell_homes : List ℕ → List Home
 cell_homes cs = map cell_home cs
 
--- The cells that are named, each time that a pointer does. A root, or a cell that does not stand yet, stands when its turn comes: it names the
--- cells of its pointers, whose turns come before the others. A cell that stands names nothing again.
+-- The cells that are named, each time that a pointer does. A root, or a cell that does not stand yet, stands once it is the first that is
+-- deferred: it names the cells of its pointers, which are deferred in their order before the others. A cell that stands names nothing again.
 pub data Naming (g : Graph) : List ℕ → List Home → List ℕ → Type 0 where
   none_due : {stands : List ℕ} → Naming g stands [] []
-  root_turn : {stands ns : List ℕ} {due : List Home} (i : ℕ)
+  root_due : {stands ns : List ℕ} {due : List Home} (i : ℕ)
       → Naming g stands (cell_homes (named_by (root_at g i)) ++ due) ns
       → Naming g stands (home.Root i ∷ due) (named_by (root_at g i) ++ ns)
-  cell_turn : {stands ns : List ℕ} {due : List Home} (c : ℕ)
+  cell_due : {stands ns : List ℕ} {due : List Home} (c : ℕ)
       → ¬ Among stands c
       → Naming g (c ∷ stands) (cell_homes (named_by (cell_at g c)) ++ due) ns
       → Naming g stands (cell_home c ∷ due) (named_by (cell_at g c) ++ ns)

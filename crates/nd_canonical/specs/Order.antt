@@ -41,10 +41,10 @@ pub record HaveNumbers (numbers cells cs : List ℕ) : Type 0 where
   pub first : get_or numbers 0 0 ≡ 0
   pub few : length cells + zeros numbers ≤ 2 ^ 32
 
--- the home is a root, or a cell that does not stand yet
-abbrev pub has_turn : List Bool → Home → Bool
-has_turn stands (home.Root i) = true
-has_turn stands (home.Cell c) = not (get_or stands (c.0 - 1) false)
+-- the home is deferred still: a root, or a cell that does not stand yet
+abbrev pub is_deferred : List Bool → Home → Bool
+is_deferred stands (home.Root i) = true
+is_deferred stands (home.Cell c) = not (get_or stands (c.0 - 1) false)
 
 -- the marks of the cells that stand, with this home
 abbrev pub with_mark : Home → List Bool → List Bool
@@ -66,17 +66,17 @@ pub record Ordering : Type 0 where
 abbrev pub ordering : List ℕ → List ℕ → List Bool → List Home → Ordering
 ordering numbers cells stands due = record { named = numbering numbers cells; stands = stands; due = reverse due }
 
--- the turn of a home: unless it stands already, the cells of its pointers are named and become due before the others
-abbrev pub turned_by : Bool → Graph → Home → Ordering → Ordering
-turned_by false g h s = record { named = s.named; stands = with_mark h s.stands; due = s.due }
-turned_by true g h s = record {
+-- a home that is due is visited: unless it stands already, the cells of its pointers are named and become due before the others
+abbrev pub visited_by : Bool → Graph → Home → Ordering → Ordering
+visited_by false g h s = record { named = s.named; stands = with_mark h s.stands; due = s.due }
+visited_by true g h s = record {
   named = name (named_by (home_tree g h)) s.named;
   stands = with_mark h s.stands;
   due = cell_homes (named_by (home_tree g h)) ++ s.due;
 }
 
-abbrev pub turned : Graph → Home → Ordering → Ordering
-turned g h s = turned_by (has_turn s.stands h) g h s
+abbrev pub visited : Graph → Home → Ordering → Ordering
+visited g h s = visited_by (is_deferred s.stands h) g h s
 
 -- each cell is named
 abbrev pub IsAllNamed : Graph → Type 0

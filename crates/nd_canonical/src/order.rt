@@ -7,7 +7,7 @@ ghost use Rattle.nd_value.specs.Names.{AreThere, HasNames, cells_in, named_by};
 ghost use Rattle.nd_flat.specs.FlatForm.{flat_seen};
 ghost use Rattle.nd_flat.specs.Building.{HasHome, home_tree};
 ghost use Rattle.nd_canonical.specs.Naming.{cell_homes, root_homes};
-ghost use Rattle.nd_canonical.specs.Order.{IsOrder, IsAllNamed, numbering, name, ordering, turned, has_turn, with_mark, HaveNumbers, HasMark};
+ghost use Rattle.nd_canonical.specs.Order.{IsOrder, IsAllNamed, numbering, name, ordering, visited, is_deferred, with_mark, HaveNumbers, HasMark};
 
 use nd_base::Memory;
 use nd_flat::{FlatGraph, Seen, Walk};
@@ -35,7 +35,7 @@ pub(crate) fn order_of(alloc: Global, graph: &FlatGraph) -> Result<Order, Memory
     let mut met = Vec::new(alloc);
     let mut due = roots(alloc, graph.root_count())?;
     while let Some(home) = due.pop() {
-        turn(graph, home, &mut order, &mut stands, &mut met, &mut due)?;
+        visit(graph, home, &mut order, &mut stands, &mut met, &mut due)?;
     }
     Ok(order)
 }
@@ -73,8 +73,8 @@ fn roots(alloc: Global, count: usize) -> Result<Vec<Home>, Memory>
     Ok(due)
 }
 
-// The turn of a home: unless it stands already, it names the cells of its pointers, which become due, the first one last.
-fn turn(
+// Visits a home that is due: unless it stands already, it names the cells of its pointers, which become due, the first one last.
+fn visit(
     graph: &FlatGraph,
     home: Home,
     order: &mut Order,
@@ -86,8 +86,8 @@ fn turn(
     requires numbers { HaveNumbers order.old.numbers.items order.old.cells.items (named_by (home_tree graph.now home)) }
     requires mark { HasMark stands.old.items home }
     requires met { met.old.items ≡ [] }
-    ensures turn { OnOk result (ordering order.new.numbers.items order.new.cells.items stands.new.items due.new.items
-        ≡ turned graph.now home (ordering order.old.numbers.items order.old.cells.items stands.old.items due.old.items)) }
+    ensures visited { OnOk result (ordering order.new.numbers.items order.new.cells.items stands.new.items due.new.items
+        ≡ visited graph.now home (ordering order.old.numbers.items order.old.cells.items stands.old.items due.old.items)) }
     ensures met { OnOk result (met.new.items ≡ []) }
 {
     if !comes_to_stand(home, stands) {
@@ -101,7 +101,7 @@ fn turn(
 // Marks a home as one that stands. Whether it did not stand before; a root never did.
 fn comes_to_stand(home: Home, stands: &mut Vec<bool>) -> bool
     requires { HasMark stands.old.items home }
-    ensures turn { result ≡ has_turn stands.old.items home }
+    ensures deferred { result ≡ is_deferred stands.old.items home }
     ensures mark { stands.new.items ≡ with_mark home stands.old.items }
 {
     match home {

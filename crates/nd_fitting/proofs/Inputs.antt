@@ -1,5 +1,5 @@
 -- The inputs of a request as variables.
-use Rattle.std.proofs.Common.{◌≡◌, ℕ, ◌+◌, ◌≤◌, true, List, [], ◌∷◌, ◌++◌, length, drop, Option, Some, None, refl, ap, ap₂, sym, ◌∙◌, arith, subst, append_assoc}
+use Rattle.std.proofs.Common.{◌≡◌, ℕ, option_map, ◌+◌, ◌≤◌, true, List, [], ◌∷◌, ◌++◌, length, drop, Option, Some, None, refl, ap, ap₂, sym, ◌∙◌, arith, subst, append_assoc}
 use Rattle.std.proofs.lemmas.List.{append-nil}
 use Rattle.std.proofs.lemmas.Option.{same_Some}
 use Rattle.std.specs.List.{slice_get}
@@ -11,7 +11,8 @@ use Rattle.nd_types.specs.Walk.{NamedRoot, named_roots}
 use Rattle.nd_value.specs.declared.value.Graph.{Graph}
 use Rattle.nd_value.specs.Tree.{Tree, Trees, Label, node, none, more, flat}
 use Rattle.nd_value.specs.Setting.{Setting, or_unread}
-use Rattle.nd_value.specs.Fitting.{Fitting, IsFit, setting_beside}
+use Rattle.nd_value.specs.Conforms.{Conforms}
+use Rattle.nd_value.specs.Fitting.{Fitting, IsFit, IsGiven, IsGivenRequest, setting_beside, setting_of}
 use Rattle.nd_value.specs.FirstMisfit.{first_local}
 use Rattle.nd_value.proofs.FewRoots.{past_end}
 use Rattle.nd_value.proofs.LocalPass.{drop-get, drop-past}
@@ -22,7 +23,7 @@ use Rattle.nd_passes.proofs.HomeNumbers.{roots_small}
 use Rattle.nd_passes.proofs.Walkable.{walkable_roots, walkable_cells}
 use Rattle.nd_flat.specs.declared.node.Seen.{Seen}
 use Rattle.nd_flat.specs.FlatForm.{flat_seen}
-use Rattle.nd_fitting.specs.Request.{IsRequest, IsRequestOf}
+use Rattle.nd_value.specs.Request.{IsRequest, IsRequestOf, ConformsIfGiven}
 
 -- one input more
 number_there : (g : Graph) (rs : List NamedRoot) (ts : List Tree) (i : ℕ) (r : NamedRoot) → slice_get rs i ≡ Some r
@@ -65,6 +66,26 @@ first_label (node l ks) s left e m f = (ks, ap (λ x. node x ks) (ap (λ fs. (he
 pub of_request : (i : Interface) (op : ℕ) (s : Side) (q : Option Fitting) → IsRequestOf i op s q → IsRequestOf i op side.Out q
 of_request i op s None h = tt
 of_request i op s (Some f) h = record { interface = h.interface; op = h.op; side = h.side; judged = refl }
+
+-- what is judged beside no request has none
+no_request : (i : Interface) (o : Operation) (q : Option Graph) → IsGiven i o side.In q → q ≡ None
+no_request i o None h = refl
+no_request i o (Some g) h = let e = h.judged in cc
+
+-- a fit of a request gives one
+given_fit : (i : Interface) (op : ℕ) (o : Operation) (s : Side) (f : Fitting) → slice_get i.operations op ≡ Some o → IsFit f → IsRequest i op s f
+    → IsGivenRequest i o s f.graph
+given_fit i op o s f there fit h =
+    let same : fit.operation ≡ o = same_Some _ _ (sym fit.is_there ∙ ap₂ (λ (j : Interface) n. slice_get j.operations n) h.interface h.op ∙ there) in
+    let none : f.given ≡ None = no_request f.interface fit.operation f.given (subst (λ s. IsGiven f.interface fit.operation s f.given) h.side fit.request) in
+    let setting : setting_beside f.interface fit.operation f.side f.given ≡ setting_of i o side.In = λ k. setting_beside (h.interface k) (same k) (h.side k) (none k) in
+    record { judged = h.judged; inputs = subst (λ w. Conforms w f.graph) setting fit.conforms }
+
+-- the same of what holds a fit, if it is given
+pub given_request : {R : Type 0} (i : Interface) (op : ℕ) (o : Operation) (s : Side) (q : Option R) (held : R → Fitting) → slice_get i.operations op ≡ Some o
+    → ConformsIfGiven (option_map held q) → IsRequestOf i op s (option_map held q) → IsGiven i o s (option_map (λ r. (held r).graph) q)
+given_request i op o s None held there fit h = tt
+given_request i op o s (Some r) held there fit h = given_fit i op o s (held r) there fit h
 
 -- the roots of a fit are small numbers, read as those of an operation's side
 abbrev AreSmall : Fitting → Interface → Side → Operation → Type 0

@@ -12,7 +12,7 @@ use Rattle.nd_value.specs.declared.misfit.Misfit.TheVariants as answer
 use Rattle.nd_value.specs.Setting.{Setting, cell_home}
 use Rattle.nd_value.specs.Homes.{all_pointers}
 use Rattle.nd_value.specs.Conforms.{Conforms}
-use Rattle.nd_value.specs.Fitting.{setting_beside, IsFit}
+use Rattle.nd_value.specs.Fitting.{setting_beside, IsFit, IsGiven}
 use Rattle.nd_value.specs.FirstMisfit.{MisfitAt, first_local, first_shared, first_disagreeing, IsFirstMisfit, is_local, is_shared, is_unreached, is_disagreeing, IsMisfit, IsOfNoFit}
 use Rattle.nd_value.specs.Passes.{Tells, TellsUnreached, AreReached}
 use Rattle.nd_value.proofs.Misfits.{misfit_is_no_fit}
@@ -54,9 +54,9 @@ module _ (w : Setting) (g : Graph) where
 
 -- a graph that conforms is that of a fit
 pub fits_of : (i j : Interface) (n : ℕ) (o : Operation) (s : Side) (q p : Option Graph) (g f : Graph) → slice_get i.operations n ≡ Some o → f ≡ g → j ≡ i → p ≡ q
-    → Conforms (setting_beside i o s q) g → IsFit (record { graph = f; op = n; side = s; interface = j; given = p })
-fits_of i j n o s q p g f there same tied given h =
+    → Conforms (setting_beside i o s q) g → IsGiven i o s q → IsFit (record { graph = f; op = n; side = s; interface = j; given = p })
+fits_of i j n o s q p g f there same tied given h request =
     subst (λ x. IsFit (record { graph = f; op = n; side = s; interface = j; given = x })) (sym given)
     (subst (λ x. IsFit (record { graph = f; op = n; side = s; interface = x; given = q })) (sym tied)
     (subst (λ x. IsFit (record { graph = x; op = n; side = s; interface = i; given = q })) (sym same)
-    (record { operation = o; is_there = there; conforms = h })))
+    (record { operation = o; is_there = there; conforms = h; request = request })))

@@ -6,7 +6,7 @@ ghost use Rattle.nd_value.specs.Conforms.{Conforms, HasFewNodes};
 ghost use Rattle.nd_value.specs.Fitting.{setting_beside};
 ghost use Rattle.nd_value.specs.FirstMisfit.{first_local, IsMisfit, IsOfNoFit};
 ghost use Rattle.nd_value.specs.Passes.{TellsUnreached, AreReached};
-ghost use Rattle.nd_fitting.specs.Request.{IsRequestOf};
+ghost use Rattle.nd_value.specs.Request.{IsRequestOf};
 
 use crate::given::given_numbers;
 use crate::reach::unreached;

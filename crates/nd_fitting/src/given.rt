@@ -6,7 +6,7 @@ ghost use Rattle.nd_types.specs.Walk.{named_roots};
 ghost use Rattle.nd_value.specs.Agreement.{number_of};
 ghost use Rattle.nd_value.specs.Setting.{root_at, cell_at};
 ghost use Rattle.nd_passes.specs.Numbers.{given_numbers, numbers_of, number_at, are_small_roots};
-ghost use Rattle.nd_fitting.specs.Request.{IsRequestOf};
+ghost use Rattle.nd_value.specs.Request.{IsRequestOf};
 
 use nd_base::Memory;
 use nd_flat::{Fit, FlatGraph, Seen};

@@ -105,10 +105,10 @@ closed_count cs (at.Root i) s = refl
 closed_count cs (at.Cell i) s = length_set_span cs i s
 
 -- A root more is put after the others before the open home is closed.
-root_behind : (rs : List Span) (cs : List CellSpan) (a : OpenHome) (s e : Span) → IsPlace rs cs a → closed_roots a s (rs ++ e ∷ []) ≡ closed_roots a s rs ++ e ∷ []
-root_behind rs cs at.NoHome s e h = refl
-root_behind rs cs (at.Root i) s e h = set-append_left rs (e ∷ []) i s h
-root_behind rs cs (at.Cell i) s e h = refl
+root_after : (rs : List Span) (cs : List CellSpan) (a : OpenHome) (s e : Span) → IsPlace rs cs a → closed_roots a s (rs ++ e ∷ []) ≡ closed_roots a s rs ++ e ∷ []
+root_after rs cs at.NoHome s e h = refl
+root_after rs cs (at.Root i) s e h = set-append_left rs (e ∷ []) i s h
+root_after rs cs (at.Cell i) s e h = refl
 
 count_set : {A : Type 0} (xs : List A) (i : ℕ) (y : A) → length (set xs i y) ≡ length xs
 count_set [] zero y = refl
@@ -137,7 +137,7 @@ module _ (os : List ℕ) (ns : List Node) (from : ℕ) (rs : List Span) (cs : Li
   root_seen =
       let g : Graph = seen_graph os ns (closed_roots a (last_span ns from) rs) (closed_cells a (last_span ns from) cs) in
       let roots : map (span_tree os ns) (closed_roots a (last_span ns from) (rs ++ no_span ∷ [])) ≡ g.roots ++ unread ∷ [] =
-      ap (map (span_tree os ns)) (root_behind rs cs a (last_span ns from) no_span h.place)
+      ap (map (span_tree os ns)) (root_after rs cs a (last_span ns from) no_span h.place)
       ∙ map-append (span_tree os ns) (closed_roots a (last_span ns from) rs) (no_span ∷ []) in
       let graph : seen_graph os ns (closed_roots a (last_span ns from) (rs ++ no_span ∷ [])) (closed_cells a (last_span ns from) cs) ≡ with_root (closed seen) =
       ap (λ ts. let x : Graph = record { roots = ts; cells = g.cells } in x) roots ∙ ap with_root (closed_graph os ns from rs cs a) in
@@ -150,7 +150,7 @@ module _ (os : List ℕ) (ns : List Node) (from : ℕ) (rs : List Span) (cs : Li
     texts = h.texts;
     start = omega arith;
     roots =
-        subst (AllByRecursion (IsSound os ns (length ns))) (sym (root_behind rs cs a (last_span ns from) no_span h.place))
+        subst (AllByRecursion (IsSound os ns (length ns))) (sym (root_after rs cs a (last_span ns from) no_span h.place))
         (all_both (IsSound os ns (length ns)) (closed_roots a (last_span ns from) rs) (no_span ∷ [])
         (closed_sound_roots os ns from h.start rs a w h.roots) (empty_sound os ns (length ns), tt));
     cells = closed_sound_cells os ns from h.start cs a w h.cells;

@@ -4,7 +4,7 @@ use Rattle.std.specs.Prelude.{◌≡◌, List}
 use Rattle.std.specs.Coded.{Coded, code_by, coded_list, coded×, coded_ℕ}
 use Rattle.nd_value.specs.Tree.{Tree, Trees, node, none, more, Unread, Flat, flat, unflat, unflat-of, label_code}
 
--- one list of trees is told apart from another by its nodes
+-- one list of trees differs from another by its nodes
 abbrev pub forest_code : Coded Trees
 forest_code = code_by (List Flat) (coded_list (coded× label_code coded_ℕ)) flat unflat unflat-of
 

@@ -6,6 +6,7 @@ ghost use Rattle.nd_value.specs.declared.item.Home.TheVariants as home;
 ghost use Rattle.nd_flat.specs.FlatForm.{flat_seen, seen_nodes, num_flats, row_numbers, HasOctets, IsKeepable, IsRow, text_of};
 ghost use Rattle.nd_flat.specs.Building.{CanClose, HasNoUnread, IsPipe, closed, opened, with_root, with_cell, with_node, with_nodes, with_numbers, with_graph, raised, fitting, start};
 ghost use Rattle.nd_value.specs.Fitting.{IsFit};
+ghost use Rattle.nd_value.specs.Request.{IsRequestOf};
 
 use crate::flat::{CellSpan, FlatGraph, Span};
 use crate::given::Given;
@@ -28,7 +29,7 @@ pub enum OpenHome {
 
 /// Builds a graph, one root or cell at a time and in any order: a home is opened, and its nodes are added depth first, each with the
 /// number of its children. Contracts see the graph so far, in which homes that are not built are unread, the home that is open, and
-/// its nodes so far. After running out of memory a builder is as it was before the call.
+/// its nodes so far. Where memory is refused a builder is as it was before the call.
 #[derive(Drop)]
 pub struct Builder {
     nodes: Vec<Node>,
@@ -59,8 +60,10 @@ impl Model for Builder {
 }
 
 impl Builder {
-    /// Begins a graph for a side of an operation of the tie's interface, beside a request or beside none. It allocates nothing.
+    /// Begins a graph for a side of an operation of the tie's interface, beside a request or beside none. A request is a fit of the same
+    /// interface and operation and of the side In, and then `side` must be Out. It allocates nothing.
     pub fn begin(alloc: Global, tie: Tie, op: u32, side: Side, given: Option<&Fit>) -> Builder
+        requires request { IsRequestOf tie op side (option_map (λ f. f.now) given) }
         ensures { result ≡ start tie op side (option_map (λ f. f.now.graph) given.entry) }
     {
         Builder {
@@ -77,7 +80,7 @@ impl Builder {
         }
     }
 
-    /// Opens the next root, which takes memory. The home that was open must be whole. Running out of memory is the only refusal.
+    /// Opens the next root, which takes memory. The home that was open must be whole. Out of memory is the only refusal.
     pub fn root(&mut self) -> Result<(), Memory>
         requires { CanClose self.old }
         ensures ok { OnOk result (self.new ≡ opened (home.Root (length self.old.graph.roots)) (with_root (closed self.old)) self.old) }
@@ -99,7 +102,7 @@ impl Builder {
     }
 
     /// Gives the next cell its number, from 1, and counts one step. The cell is of this type, and is not built yet. The home that is
-    /// open stays open. It takes memory; running out of memory is the only refusal, and counts nothing.
+    /// open stays open. It takes memory; out of memory is the only refusal, and counts nothing.
     pub fn reserve<L: Ledger>(&mut self, of: TypeId, steps: &mut Steps<L>) -> Result<CellId, Memory>
         requires few { length self.old.graph.cells < 2 ^ 32 - 1 }
         ensures cell { IfOk result (λ c. c.0 ≡ length self.old.graph.cells + 1) }
@@ -133,7 +136,7 @@ impl Builder {
     }
 
     /// Adds the next node of the open home. A number or tag must be from -2^64 to 2^64 - 1, and a text have fewer than 2^32 octets. It
-    /// takes memory; running out of memory is the only refusal.
+    /// takes memory; out of memory is the only refusal.
     pub fn add(&mut self, node: &Seen<'_>) -> Result<(), Memory>
         requires { IsKeepable (flat_seen node.now).0 }
         ensures ok { OnOk result (self.new ≡ with_node (flat_seen node.now) self.old) }
@@ -147,7 +150,7 @@ impl Builder {
     }
 
     /// Adds numbers of the open home as its next nodes, which are kept side by side as they are. There must be one at least. It takes
-    /// memory for the octets and one node; running out of memory is the only refusal.
+    /// memory for the octets and one node; out of memory is the only refusal.
     pub fn row(&mut self, row: &Row<'_>) -> Result<(), Memory>
         requires whole { IsRow row.now }
         requires some { 0 < row.now.count }
@@ -202,7 +205,8 @@ impl Builder {
         }
     }
 
-    /// The graph as a fit. The open home must be whole, and the graph conform to the side of the operation. Takes no memory.
+    /// The graph as a fit. The open home must be whole, and the graph conform to the side of the operation, beside the request that was
+    /// given. Takes no memory.
     pub fn finish(self) -> Fit
         requires whole { CanClose self }
         requires fits { IsFit (fitting self) }

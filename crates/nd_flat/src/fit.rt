@@ -37,7 +37,8 @@ impl Model for Fit {
 }
 
 impl Fit {
-    /// Takes over a graph that conforms to a side of an operation, beside this request or beside none. Takes no memory.
+    /// Takes over a graph that conforms to a side of an operation, beside this request or beside none. A request conforms to the inputs
+    /// of the operation, and then `side` must be Out. Takes no memory.
     pub fn of(graph: FlatGraph, op: u32, side: Side, tie: Tie, given: Given) -> Fit
         requires { IsFit (record { graph = graph; op = op; side = side; interface = tie; given = given }) }
         ensures { result ≡ record { graph = graph; op = op; side = side; interface = tie; given = given } }
@@ -84,7 +85,7 @@ impl Fit {
 
     /// The same with its cells renumbered: `numbers` are the new numbers by the old ones, from 0, and `cells` the old numbers in the
     /// order of the new ones, from 1. The listed cells must be there, and the graph conform after it as before. It takes memory for
-    /// all nodes, octets, roots and cells. Running out of memory is the only refusal.
+    /// all nodes, octets, roots and cells. Out of memory is the only refusal.
     pub fn renumbered(&self, alloc: Global, numbers: &[u32], cells: &[u32]) -> Result<Fit, Memory>
         requires there { AreThere (length self.now.graph.cells) cells.now }
         requires fits { IsFit (renumbered_fitting numbers.now cells.now self.now) }
@@ -100,8 +101,8 @@ impl Fit {
         ))
     }
 
-    /// The graph as values that callers can take apart and change. It takes memory for each value. Running out of memory is the only
-    /// refusal; then the fit is handed back unchanged.
+    /// The graph as values that callers can take apart and change. It takes memory for each value, and its calls nest as deep as the types
+    /// of the operation do, which is at most 32 levels. Out of memory is the only refusal; then the fit is handed back unchanged.
     pub fn graph(self, alloc: Global) -> Result<Graph, (Memory, Fit)>
         ensures graph { IfOk result (λ g. g ≡ self.graph) }
         ensures back { IfErr result (λ e. e.1 ≡ self) }

@@ -115,9 +115,9 @@ impl FlatGraph {
         type_in(self.cells.as_slice(), at)
     }
 
-    /// The graph as values that callers can take apart and change. It takes memory for each value; running out of memory is the only
-    /// refusal.
-    pub fn values(&self, alloc: Global) -> Result<Graph, Memory>
+    // The graph as values. It takes memory for each value, and calls itself for the parts of a value: so its calls nest as deep as the
+    // values do. Out of memory is the only refusal.
+    pub(crate) fn values(&self, alloc: Global) -> Result<Graph, Memory>
         ensures { IfOk result (λ g. g ≡ self.now) }
     {
         Ok(Graph {

@@ -1,5 +1,6 @@
 // The request beside which a response is judged, for contracts alone.
 ghost use Rattle.std.specs.Prelude.{◌≡◌, option_map};
+ghost use Rattle.nd_value.specs.Request.{ConformsIfGiven};
 
 use crate::{Fit, FlatGraph};
 use nd_types::Witness;
@@ -25,9 +26,10 @@ impl Model for Given {
 }
 
 impl Given {
-    /// The request that is given, if one is. Takes no memory.
+    /// The graph of the fit that is given, if one is. `Fit::of` asks that it is a request. Takes no memory.
     pub fn beside(request: Option<&Fit>) -> Given
-        ensures { result ≡ option_map (λ f. f.now.graph) request.entry }
+        ensures graph { result ≡ option_map (λ f. f.now.graph) request.entry }
+        ensures conforms { ConformsIfGiven (option_map (λ f. f.now) request.entry) }
     {
         match request {
             None => Given { graph: None },

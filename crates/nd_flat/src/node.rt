@@ -106,7 +106,7 @@ pub(crate) fn first_seen<'a>(node: &Node, octets: &'a [u8]) -> Seen<'a>
     }
 }
 
-// A node as it is kept. The octets of a text are appended to those that are kept; running out of memory changes nothing.
+// A node as it is kept. The octets of a text are appended to those that are kept; where memory is refused nothing changes.
 pub(crate) fn kept_node(octets: &mut Octets, node: &Seen<'_>) -> Result<Node, Memory>
     requires small { IsKeepable (flat_seen node.now).0 }
     ensures octets { OnOk result (octets.new ≡ octets.old ++ text_of (flat_seen node.now).0) }
@@ -189,7 +189,7 @@ fn kept_text(octets: &mut Octets, max: u32, text: &[u8]) -> Result<Node, Memory>
     })
 }
 
-// A row of numbers as it is kept: its octets are appended to those that are kept; running out of memory changes nothing.
+// A row of numbers as it is kept: its octets are appended to those that are kept; where memory is refused nothing changes.
 pub(crate) fn kept_row(octets: &mut Octets, row: &Row<'_>) -> Result<Node, Memory>
     requires whole { IsRow row.now }
     requires some { 0 < row.now.count }

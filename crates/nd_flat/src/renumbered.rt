@@ -14,7 +14,7 @@ use std::alloc::Global;
 impl FlatGraph {
     /// The graph with its cells renumbered: `numbers` are the new numbers by the old ones, from 0, and `cells` the old numbers in the
     /// order of the new ones, from 1. The listed cells must be there; a pointer to a cell that has no number gets 0. It takes memory
-    /// for all nodes, octets, roots and cells. Running out of memory is the only refusal.
+    /// for all nodes, octets, roots and cells. Out of memory is the only refusal.
     pub fn renumbered(
         &self,
         alloc: Global,

@@ -17,8 +17,9 @@ use nd_value::{CellId, Cells, Graph, Val, Vals};
 use std::alloc::Global;
 
 /// A graph of values as a flat graph, which is the same graph to contracts. Arrays and pipes whose elements are numbers of one primitive
-/// are kept as rows. It takes memory for nodes, texts, rows, roots and cells, and for the octets of one row at a time. Want of
-/// memory is the only refusal. Each home must have fewer than 2^32 nodes, and each value be one that a node can keep: numbers and
+/// are kept as rows. It takes memory for nodes, texts, rows, roots and cells, and for the octets of one row at a time. Out of
+/// memory is the only refusal. Its calls nest as deep as the values of one home do: at most 32 levels where each value has the form
+/// of its type. Each home must have fewer than 2^32 nodes, and each value be one that a node can keep: numbers and
 /// tags from -2^64 to 2^64 - 1, texts of fewer than 2^32 octets. The tie, the operation and the side are those for which the graph
 /// is meant; it need not conform.
 pub fn flattened(

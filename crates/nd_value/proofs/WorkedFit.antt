@@ -75,4 +75,4 @@ pub fits : (i : Interface) (roots : List Tree) (cells : List Referent) → i.typ
 fits i roots cells types operations r c =
     subst (λ (rs : List Tree). IsFit (record { graph = record { roots = rs; cells = cells }; op = 0; side = side.In; interface = i; given = None })) (sym r)
     (subst (λ (cs : List Referent). IsFit (record { graph = record { roots = one_two_three; cells = cs }; op = 0; side = side.In; interface = i; given = None })) (sym c)
-    (record { operation = add; is_there = rw operations refl; conforms = conforms i types }))
+    (record { operation = add; is_there = rw operations refl; conforms = conforms i types; request = tt }))

@@ -6,6 +6,7 @@ use Rattle.std.specs.Coded.{Coded, code_by, coded×, coded_list, coded_ℕ, code
 use Rattle.nd_types.specs.declared.interface.Interface.{Interface}
 use Rattle.nd_types.specs.declared.types.Operation.{Operation}
 use Rattle.nd_types.specs.declared.types.Side.{Side}
+use Rattle.nd_types.specs.declared.types.Side.TheVariants.{In, Out}
 use Rattle.nd_types.specs.contracts.types.Side as side
 use Rattle.nd_types.specs.contracts.interface.Interface as interface
 use Rattle.nd_value.specs.declared.value.Graph.{Graph}
@@ -30,11 +31,22 @@ pub record Fitting : Type 0 where
   pub interface : Interface
   pub given : Option Graph
 
--- the graph conforms to that operation's side
+-- A request beside which a graph is judged: outputs alone are judged beside one, and it conforms to the inputs of the operation.
+pub record IsGivenRequest (i : Interface) (o : Operation) (s : Side) (q : Graph) : Type 0 where
+  pub judged : s ≡ Out
+  pub inputs : Conforms (setting_of i o In) q
+
+-- the same, if one is given
+abbrev pub IsGiven : Interface → Operation → Side → Option Graph → Type 0
+IsGiven i o s None = Unit {0}
+IsGiven i o s (Some q) = IsGivenRequest i o s q
+
+-- the graph conforms to that operation's side, and what is given is a request of that operation
 pub record IsFit (f : Fitting) : Type 0 where
   pub operation : Operation
   pub is_there : slice_get f.interface.operations f.op ≡ Some operation
   pub conforms : Conforms (setting_beside f.interface operation f.side f.given) f.graph
+  pub request : IsGiven f.interface operation f.side f.given
 
 -- one graph is told from another by its roots and cells
 abbrev pub graph_code : Coded Graph

@@ -16,5 +16,6 @@ pub mod Same
 pub mod Canon
 pub mod Names
 pub mod Fitting
+pub mod Request
 pub mod Logged
 pub mod WorkedFit

@@ -8,7 +8,7 @@ use Rattle.nd_types.specs.Roots.{roots_of}
 use Rattle.nd_types.specs.Numbers.{has_number_roots}
 use Rattle.nd_grammar.proofs.PlainSides.{number_side_plain}
 use Rattle.nd_types.specs.Number.{AreOctets}
-use Rattle.nd_value.specs.Fitting.{IsFit, setting_beside, setting_of}
+use Rattle.nd_value.specs.Fitting.{IsFit, IsGiven, setting_beside, setting_of}
 use Rattle.nd_value.specs.Conforms.{Conforms}
 use Rattle.nd_flat.specs.Building.{Building, CanClose, start, fitting, closed}
 use Rattle.nd_grammar.specs.Plain.{IsPlain}
@@ -61,4 +61,5 @@ module _ (i : Interface) (n : ℕ) (o : Operation) (s : Side) (order : Order) (o
         operation = o;
         is_there = ap₂ (λ (t : Interface) k. slice_get t.operations k) tied_is op_is ∙ there;
         conforms = subst (λ w. Conforms w (closed new)) (sym setting) (decoded old new (plain_end ps 0) h refl).conforms;
+        request = subst (IsGiven new.interface o new.side) (sym beside) tt;
       }

@@ -2,7 +2,7 @@ use Rattle.std.proofs.Common.{rules, ◌≡◌, ◌<◌, ℕ, List, [], ◌∷�
 use Rattle.nd_value.specs.declared.item.Home.{Home}
 use Rattle.nd_canonical.specs.Naming.{root_homes}
 use Rattle.nd_canonical.specs.Order.{Ordering, ordering}
-use Rattle.nd_canonical.proofs.Ordered.{Ordered, ordered_start, ordered_end, turn_step, turn_less, turns_left, next_named}
+use Rattle.nd_canonical.proofs.Ordered.{Ordered, ordered_start, ordered_end, visit_step, visit_less, visits_left, next_named}
 use Rattle.nd_canonical.proofs.Walks.{popped}
 use Rattle.nd_canonical.proofs.order.order_of.Goals as goal
 
@@ -16,8 +16,8 @@ loop-home-init c = record {
   met = c.new-met.ensures.items;
 }
 
-pub turn-requires-clause-numbers : goal.turn-requires-clause-numbers
-turn-requires-clause-numbers c =
+pub visit-requires-clause-numbers : goal.visit-requires-clause-numbers
+visit-requires-clause-numbers c =
     next_named c.args.graph.now c.requires.names
     (ordering c.loop-home.order.numbers.items c.loop-home.order.cells.items c.loop-home.stands.items c.loop-home.due.items) (reverse c.pop.new.self.items)
     c.requires.few_cells c.in-Some.home c.loop-home.invariant.ordered
@@ -26,8 +26,8 @@ pub loop-home-smaller : goal.loop-home-smaller
 loop-home-smaller c =
     let s : Ordering = ordering c.loop-home.order.numbers.items c.loop-home.order.cells.items c.loop-home.stands.items c.loop-home.due.items in
     let next : s.due ≡ c.in-Some.home ∷ reverse c.pop.new.self.items = popped c.loop-home.due.items c.pop.new.self.items c.in-Some.home c.in-Some.ensures.items in
-    subst (λ (u : Ordering). turns_left c.args.graph.now u < turns_left c.args.graph.now s) (sym c.in_ok-turn.ensures.turn)
-    (turn_less c.args.graph.now s (reverse c.pop.new.self.items) c.in-Some.home next c.loop-home.invariant.ordered)
+    subst (λ (u : Ordering). visits_left c.args.graph.now u < visits_left c.args.graph.now s) (sym c.in_ok-visit.ensures.visited)
+    (visit_less c.args.graph.now s (reverse c.pop.new.self.items) c.in-Some.home next c.loop-home.invariant.ordered)
 
 pub loop-home-preserved : goal.loop-home-preserved
 loop-home-preserved c =
@@ -35,9 +35,9 @@ loop-home-preserved c =
     let next : s.due ≡ c.in-Some.home ∷ reverse c.pop.new.self.items = popped c.loop-home.due.items c.pop.new.self.items c.in-Some.home c.in-Some.ensures.items in
     record {
       ordered =
-          subst (Ordered c.args.graph.now) (sym c.in_ok-turn.ensures.turn)
-          (turn_step c.args.graph.now c.requires.names s (reverse c.pop.new.self.items) c.in-Some.home next c.loop-home.invariant.ordered);
-      met = c.in_ok-turn.ensures.met;
+          subst (Ordered c.args.graph.now) (sym c.in_ok-visit.ensures.visited)
+          (visit_step c.args.graph.now c.requires.names s (reverse c.pop.new.self.items) c.in-Some.home next c.loop-home.invariant.ordered);
+      met = c.in_ok-visit.ensures.met;
     }
 
 pub returns : goal.returns

@@ -1,6 +1,6 @@
 use Rattle.std.proofs.Common.{◌≡◌, []}
 use Rattle.nd_canonical.specs.Order.{ordering}
-use Rattle.nd_canonical.proofs.Ordered.{Ordered, turns_left}
+use Rattle.nd_canonical.proofs.Ordered.{Ordered, visits_left}
 use Rattle.nd_canonical.proofs.order.order_of.Given as goal
 
 abbrev pub invariant-loop-home : goal.invariant-loop-home
@@ -10,4 +10,4 @@ invariant-loop-home l = record {
 }
 
 abbrev pub decreases-loop-home : goal.decreases-loop-home
-decreases-loop-home l = turns_left l.graph (ordering l.order.numbers.items l.order.cells.items l.stands.items l.due.items)
+decreases-loop-home l = visits_left l.graph (ordering l.order.numbers.items l.order.cells.items l.stands.items l.due.items)

@@ -38,7 +38,7 @@ use Rattle.nd_grammar.specs.LegalSide.{IsLegalSide}
 use Rattle.nd_grammar.proofs.LegalSides.{laid_out}
 use Rattle.nd_grammar.proofs.next.Mapped.{pipe_pointers}
 use Rattle.nd_grammar.proofs.next.NextStream.{IsLaidOut, IsPipeRoot, drop_at, all_at}
-use Rattle.nd_canonical.specs.Naming.{Naming, none_due as nothing_due, root_turn, cell_turn, stands_already as stood, AreNamed, cell_homes, root_homes}
+use Rattle.nd_canonical.specs.Naming.{Naming, none_due as nothing_due, root_due, cell_due, stands_already as stood, AreNamed, cell_homes, root_homes}
 use Rattle.nd_canonical.specs.Canonical.{IsCanonical}
 use Rattle.nd_canonical.proofs.Alike.{one_naming}
 use Rattle.nd_canonical.proofs.Complete.{cells_both}
@@ -134,7 +134,7 @@ module _ (w : Setting) (g : Graph) where
       let own : List HomeNode = map (in_home (cell_home c)) (home_nodes w.table y.of y.val) in
       cell_named (c + 1) ys j x e (all_right IsGoodNode own (cell_nodes w.table (c + 1) ys) a) h
 
-  -- ## Turns
+  -- ## NamingOrder
 
   module _ (k : Conforms w g) where
     roots_good : AllByRecursion IsGoodNode (root_nodes w g 0 (root_list w) g.roots)
@@ -240,20 +240,20 @@ module _ (w : Setting) (g : Graph) where
         abbrev Now : Standing → Type 0
         Now x = Naming g (cells_done done) (home.Root i ∷ homes_due due) ((own_cell x.home ++ named w.table x) ++ ns)
 
-        abbrev Turn : Standing → Type 0
-        Turn x = AreFree (root_cell x.home) done → Later x → Now x
+        abbrev StandsNow : Standing → Type 0
+        StandsNow x = AreFree (root_cell x.home) done → Later x → Now x
 
-        plain_turn : Turn (standing_by g i r.of v None)
-        plain_turn free later =
+        plain_stands : StandsNow (standing_by g i r.of v None)
+        plain_stands free later =
             let ps : List Pending = home_pointers w.table (home.Root i) r.of v in
             let d : Naming g (cells_done done) (homes_due (map due_referent ps ++ due)) ns = later (are_due ps due (its_due (home.Root i)).0 a) in
             let names : cells_named ps ≡ named_by (root_at g i) = names_are (home.Root i) ∙ ap named_by (sym value_is) in
             let d' : Naming g (cells_done done) (cell_homes (named_by (root_at g i)) ++ homes_due due) ns =
             subst (λ u. Naming g (cells_done done) u ns) (referents_due ps due ∙ ap (λ u. cell_homes u ++ homes_due due) names) d in
-            subst (λ u. Naming g (cells_done done) (home.Root i ∷ homes_due due) (u ++ ns)) (sym names) (root_turn i d')
+            subst (λ u. Naming g (cells_done done) (home.Root i ∷ homes_due due) (u ++ ns)) (sym names) (root_due i d')
 
-        direct_turn : (c t : ℕ) → direct (type_at w.table r.of) v ≡ Some (c, t) → Turn (standing_by g i r.of v (Some (c, t)))
-        direct_turn c t e free later = by_value v refl
+        direct_stands : (c t : ℕ) → direct (type_at w.table r.of) v ≡ Some (c, t) → StandsNow (standing_by g i r.of v (Some (c, t)))
+        direct_stands c t e free later = by_value v refl
           where
             by_value : (u : Tree) → v ≡ u → Now (standing_by g i r.of v (Some (c, t)))
             by_value (node l ks) eu =
@@ -272,42 +272,42 @@ module _ (w : Setting) (g : Graph) where
                 later (are_due qs due (subst (AllByRecursion (Pointee g)) (sym qs_are) (referent_due p c fit refl)) a) in
                 let d' : Naming g (c ∷ cells_done done) (cell_homes (named_by (cell_at g c)) ++ homes_due due) ns =
                 subst (λ u. Naming g (c ∷ cells_done done) u ns) (referents_due qs due ∙ ap (λ u. cell_homes u ++ homes_due due) names) d in
-                let turn : Naming g (cells_done done) (cell_home c ∷ homes_due due) (named_by (cell_at g c) ++ ns) = cell_turn c (λ m. free.0 (among_placed done c m)) d' in
+                let next : Naming g (cells_done done) (cell_home c ∷ homes_due due) (named_by (cell_at g c) ++ ns) = cell_due c (λ m. free.0 (among_placed done c m)) d' in
                 let whole : Naming g (cells_done done) (home.Root i ∷ homes_due due) (named_by (root_at g i) ++ (named_by (cell_at g c) ++ ns)) =
-                root_turn i (subst (λ u. Naming g (cells_done done) (cell_homes u ++ homes_due due) (named_by (cell_at g c) ++ ns)) (sym one) turn) in
+                root_due i (subst (λ u. Naming g (cells_done done) (cell_homes u ++ homes_due due) (named_by (cell_at g c) ++ ns)) (sym one) next) in
                 subst (λ u. Naming g (cells_done done) (home.Root i ∷ homes_due due) u) (ap₂ (λ x y. x ++ (y ++ ns)) one (sym names)) whole
 
-        root_stands_now : Turn (standing_root w g i)
-        root_stands_now = subst Turn (sym stands_as) (by_direct (direct (type_at w.table r.of) v) refl)
+        root_stands_now : StandsNow (standing_root w g i)
+        root_stands_now = subst StandsNow (sym stands_as) (by_direct (direct (type_at w.table r.of) v) refl)
           where
-            by_direct : (o : Option (ℕ × ℕ)) → direct (type_at w.table r.of) v ≡ o → Turn (standing_by g i r.of v o)
-            by_direct None e = plain_turn
-            by_direct (Some q) e = direct_turn q.0 q.1 e
+            by_direct : (o : Option (ℕ × ℕ)) → direct (type_at w.table r.of) v ≡ o → StandsNow (standing_by g i r.of v o)
+            by_direct None e = plain_stands
+            by_direct (Some q) e = direct_stands q.0 q.1 e
 
     -- the order of deferral is the order of naming
-    turns : {done : Placed_cells} {due : List Due} {steps : List Step} → Deferral w g done due steps → AllByRecursion IsDue due
+    naming : {done : Placed_cells} {due : List Due} {steps : List Step} → Deferral w g done due steps → AllByRecursion IsDue due
         → Naming g (cells_done done) (homes_due due) (named_cells w g steps)
-    turns none_due a = nothing_due
-    turns (at_root {done = done} {i = i} {due = due} {steps = steps} free d) a =
+    naming none_due a = nothing_due
+    naming (at_root {done = done} {i = i} {due = due} {steps = steps} free d) a =
         let (r, er) = item_at (root_list w) i a.0 in
         let all = k.all_roots in
         let l = a.0 in
         let (v, ev) = item_at g.roots i (omega (arith, all, l)) in
-        root_stands_now i r v er ev done due (named_cells w g steps) a.1 free (λ b. turns d b)
-    turns (at_null {done = done} {p = p} {due = due} {steps = steps} e d) a =
-        subst (λ o. Naming g (cells_done done) (cell_homes (target o) ++ homes_due due) (named_cells w g steps)) (sym e) (turns d a.1)
-    turns (at_standing {done = done} {p = p} {due = due} {steps = steps} c e full there d) a =
+        root_stands_now i r v er ev done due (named_cells w g steps) a.1 free (λ b. naming d b)
+    naming (at_null {done = done} {p = p} {due = due} {steps = steps} e d) a =
+        subst (λ o. Naming g (cells_done done) (cell_homes (target o) ++ homes_due due) (named_cells w g steps)) (sym e) (naming d a.1)
+    naming (at_standing {done = done} {p = p} {due = due} {steps = steps} c e full there d) a =
         subst (λ o. Naming g (cells_done done) (cell_homes (target o) ++ homes_due due) (named_cells w g steps)) (sym e)
-        (stood c (placed_among done c (full_stands done c there)) (turns d a.1))
-    turns (at_referent {done = done} {p = p} {due = due} {steps = steps} c e free d) a =
+        (stood c (placed_among done c (full_stands done c there)) (naming d a.1))
+    naming (at_referent {done = done} {p = p} {due = due} {steps = steps} c e free d) a =
         let ns : List ℕ = named_cells w g steps in
         let qs : List Pending = home_pointers w.table (cell_home c) p.to (cell_at g c) in
         let names : cells_named qs ≡ named_by (cell_at g c) = referent_named p c a.0 e in
         let d' : Naming g (c ∷ cells_done done) (cell_homes (named_by (cell_at g c)) ++ homes_due due) ns =
         subst (λ u. Naming g (c ∷ cells_done done) u ns) (referents_due qs due ∙ ap (λ u. cell_homes u ++ homes_due due) names)
-        (turns d (are_due qs due (referent_due p c a.0 e) a.1)) in
+        (naming d (are_due qs due (referent_due p c a.0 e) a.1)) in
         subst (λ o. Naming g (cells_done done) (cell_homes (target o) ++ homes_due due) (cells_named qs ++ ns)) (sym e)
-        (subst (λ u. Naming g (cells_done done) (cell_home c ∷ homes_due due) (u ++ ns)) (sym names) (cell_turn c (λ m. free (among_placed done c m)) d'))
+        (subst (λ u. Naming g (cells_done done) (cell_home c ∷ homes_due due) (u ++ ns)) (sym names) (cell_due c (λ m. free (among_placed done c m)) d'))
 
     roots_due : (i n : ℕ) → i + n ≤ length (root_list w) → AllByRecursion IsDue (due_roots i n)
     roots_due i zero l = tt
@@ -321,10 +321,10 @@ module _ (w : Setting) (g : Graph) where
 
     later_homes : {st ns : List ℕ} {due : List Home} (extra : List Home) → Naming g st due ns → ((s : List ℕ) → Naming g s extra []) → Naming g st (due ++ extra) ns
     later_homes {st = st} extra nothing_due f = f st
-    later_homes {st = st} extra (root_turn {ns = ns} {due = due} i d) f =
-        root_turn i (subst (λ u. Naming g st u ns) (append_assoc (cell_homes (named_by (root_at g i))) due extra) (later_homes extra d f))
-    later_homes {st = st} extra (cell_turn {ns = ns} {due = due} c n d) f =
-        cell_turn c n (subst (λ u. Naming g (c ∷ st) u ns) (append_assoc (cell_homes (named_by (cell_at g c))) due extra) (later_homes extra d f))
+    later_homes {st = st} extra (root_due {ns = ns} {due = due} i d) f =
+        root_due i (subst (λ u. Naming g st u ns) (append_assoc (cell_homes (named_by (root_at g i))) due extra) (later_homes extra d f))
+    later_homes {st = st} extra (cell_due {ns = ns} {due = due} c n d) f =
+        cell_due c n (subst (λ u. Naming g (c ∷ st) u ns) (append_assoc (cell_homes (named_by (cell_at g c))) due extra) (later_homes extra d f))
     later_homes extra (stood c m d) f = stood c m (later_homes extra d f)
 
     module _ (side : IsLegalSide w) where
@@ -352,7 +352,7 @@ module _ (w : Setting) (g : Graph) where
           let none_named : named_by (root_at g i) ≡ [] = pipe_names_none i lo (omega (arith, hi)) in
           let d : Naming g s (cell_homes (named_by (root_at g i)) ++ root_homes (suc i) n) [] =
           subst (λ u. Naming g s (cell_homes u ++ root_homes (suc i) n) []) (sym none_named) (pipes_name_none (suc i) n s (omega (arith, lo)) (omega (arith, hi))) in
-          subst (λ u. Naming g s (home.Root i ∷ root_homes (suc i) n) (u ++ [])) none_named (root_turn i d)
+          subst (λ u. Naming g s (home.Root i ∷ root_homes (suc i) n) (u ++ [])) none_named (root_due i d)
 
       parted : (i a b n : ℕ) → n ≡ a + b → root_homes i n ≡ root_homes i a ++ root_homes (i + a) b
       parted i zero b n e = ap₂ root_homes (omega arith) (e ∙ omega arith)
@@ -368,13 +368,13 @@ module _ (w : Setting) (g : Graph) where
           let rest : ℕ = length (root_list w) - n in
           let whole : length g.roots ≡ n + rest = omega (arith, all, few) in
           let first : Naming g [] (root_homes 0 n) (named_cells w g steps) =
-          subst (λ u. Naming g [] u (named_cells w g steps)) (roots_homes 0 n) (turns d (roots_due 0 n (omega (arith, few)))) in
+          subst (λ u. Naming g [] u (named_cells w g steps)) (roots_homes 0 n) (naming d (roots_due 0 n (omega (arith, few)))) in
           subst (λ u. Naming g [] u (named_cells w g steps)) (sym (parted 0 n rest (length g.roots) whole))
           (later_homes (root_homes (0 + n) rest) first (λ s. pipes_name_none (0 + n) rest s (omega arith) (omega (arith, few))))
 
-pub named_in_turns : (w : Setting) → IsLegalSide w → (g : Graph) → Conforms w g → (steps : List Step) → Deferral w g [] (due_roots 0 (before_pipes (root_list w))) steps
+pub named_in_order : (w : Setting) → IsLegalSide w → (g : Graph) → Conforms w g → (steps : List Step) → Deferral w g [] (due_roots 0 (before_pipes (root_list w))) steps
     → AreNamed g (named_cells w g steps)
-named_in_turns w side g k steps d = named_all w g k side steps d
+named_in_order w side g k steps d = named_all w g k side steps d
 
 get_among : {X : Type 0} (xs : List X) (i : ℕ) (x : X) → slice_get xs i ≡ Some x → Among xs x
 get_among [] i x e = cc
@@ -389,7 +389,7 @@ canon_of_fit f c k d o there =
     let conforms : Conforms w f.graph = subst (λ p. Conforms (setting_beside f.interface p f.side f.given) f.graph) same_operation k.conforms in
     let side : IsLegalSide w = record { operations = f.interface.operations; legal = f.interface.legal; operation = get_among f.interface.operations f.op o there } in
     let (steps, deferral) = deferral_is w f.graph (sound_conforming w f.graph conforms) in
-    let names : d.names ≡ named_cells w f.graph steps = one_naming f.graph d.named (named_in_turns w side f.graph conforms steps deferral) in
+    let names : d.names ≡ named_cells w f.graph steps = one_naming f.graph d.named (named_in_order w side f.graph conforms steps deferral) in
     record {
       steps = steps;
       deferral = deferral;

@@ -1,0 +1,72 @@
+-- The interface of the list is legal, and the list has few nodes.
+use Rattle.std.proofs.Common.{◌≡◌, ℕ, List, [], ◌∷◌, ◌++◌, map, Option, refl, sym, subst, arith, lit≤, lit<}
+use Rattle.nd_types.specs.Layout.{hoists}
+use Rattle.nd_types.specs.Legal.{IsLegal, is_shallow, element_count, fits_pipes}
+use Rattle.nd_value.specs.declared.value.Graph.{Graph}
+use Rattle.nd_value.specs.Tree as tree
+use Rattle.nd_value.specs.Tree.{Referent, node, none, more, node_count}
+use Rattle.nd_value.specs.Conforms.{FewNodes, HasFewNodes}
+use Rattle.graph_bench.specs.List.{list_types, list_operations, IsNode, AreNodes}
+
+pub legal : IsLegal list_types list_operations
+unfolding hoists is_shallow element_count fits_pipes
+legal = record {
+  basic = refl;
+  no_later_basic = refl;
+  types_known = refl;
+  params_known = refl;
+  results_known = refl;
+  nesting = refl;
+  members = refl;
+  enumerators = refl;
+  bounds = refl;
+  elements = refl;
+  dimensions = refl;
+  array_elements = refl;
+  text_elements = refl;
+  pipe_elements = refl;
+  hoisting_members = refl;
+  hoisting_arms = refl;
+  pipes = refl;
+  contexts = refl;
+  tags = refl;
+  labels = refl;
+  distinct_labels = refl;
+  switched_types = refl;
+  referents = refl;
+  ordered = refl;
+  variables = refl;
+  sized = refl;
+  one_size = refl;
+  conformant_sized = refl;
+  varying = refl;
+  varying_sized = refl;
+  one_length = refl;
+  count_variables = refl;
+  switched = refl;
+  switches = refl;
+  switch_variables = refl;
+  handles = refl;
+  out_pointers = refl;
+  out_types = refl;
+  results = refl;
+  part_names = refl;
+  operation_names = refl;
+  few_types = lit≤ tt;
+  few_operations = lit≤ tt;
+  few_params = refl;
+  few_parts = lit≤ tt;
+}
+
+-- a node more
+pub more_nodes : (xs : List Referent) (x : Referent) → AreNodes xs → IsNode x → AreNodes (xs ++ x ∷ [])
+more_nodes [] x h n = (n, tt)
+more_nodes (y ∷ xs) x h n = (h.0, more_nodes xs x h.1 n)
+
+few_cells : (xs : List Referent) → AreNodes xs → FewNodes (map (λ c. c.val) xs)
+few_cells [] h = tt
+few_cells (x ∷ xs) h = (let e : node_count (more x.val none) ≡ 3 = h.0 in omega (arith, e), few_cells xs h.1)
+
+-- a list of nodes by a pointer to the first has few nodes
+pub few_nodes : (g : Graph) (c : Option ℕ) → g.roots ≡ node (tree.Ptr c) none ∷ [] → AreNodes g.cells → HasFewNodes g
+few_nodes g c e h = subst (λ rs. FewNodes (rs ++ map (λ x. x.val) g.cells)) (sym e) (lit< tt, few_cells g.cells h)

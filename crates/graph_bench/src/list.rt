@@ -1,0 +1,100 @@
+// The graphs that are measured.
+ghost use Rattle.std.specs.Prelude.{◌≡◌, ◌+◌, ◌≤◌, ◌<◌, ◌^◌, length, IfOk};
+ghost use Rattle.nd_value.specs.Conforms.{HasFewNodes};
+ghost use Rattle.nd_value.specs.Seen.{cell_of};
+ghost use Rattle.graph_bench.specs.List.{IsNode, AreNodes};
+
+use nd_base::Memory;
+use nd_graph::{Cell, CellId, Cells, Graph, Val, Vals};
+use nd_types::TypeId;
+use std::alloc::Global;
+
+// A list of cells: so many, of which each of the first `named` names the next, and the last has this number.
+#[derive(Clone, Copy)]
+pub(crate) struct Form {
+    pub(crate) count: u32,
+    pub(crate) named: u32,
+    pub(crate) last: i128,
+}
+
+// A pointer to the first cell, and a list of this form.
+pub(crate) fn list(alloc: Global, form: Form) -> Result<Graph, Memory>
+    ensures cells { IfOk result (λ g. length g.cells ≡ form.count) }
+    ensures few { IfOk result (λ g. HasFewNodes g) }
+{
+    let mut roots = Vals::new(alloc);
+    let Ok(()) = roots.push(Val::Ptr(Some(CellId(1)))) else {
+        return Err(Memory);
+    };
+    Ok(Graph {
+        roots,
+        cells: cells(alloc, form)?,
+    })
+}
+
+fn cells(alloc: Global, form: Form) -> Result<Cells, Memory>
+    ensures count { IfOk result (λ cs. length cs ≡ form.count) }
+    ensures nodes { IfOk result (λ cs. AreNodes cs) }
+{
+    let mut cells = Cells::new(alloc);
+    for at in 0..form.count {
+        let cell = cell(alloc, at, form)?;
+        let Ok(()) = cells.push(cell) else {
+            return Err(Memory);
+        };
+    }
+    Ok(cells)
+}
+
+// The cell at a place, from 0.
+fn cell(alloc: Global, at: u32, form: Form) -> Result<Cell, Memory>
+    requires { at < form.count }
+    ensures { IfOk result (λ c. IsNode (cell_of c)) }
+{
+    let next = if at + 1 < form.named {
+        Some(CellId(at + 2))
+    } else {
+        None
+    };
+    let value = if at + 1 < form.count { 1 } else { form.last };
+    let mut members = Vals::new(alloc);
+    if members.push(Val::Num(value)).is_err() || members.push(Val::Ptr(next)).is_err() {
+        return Err(Memory);
+    }
+    Ok(Cell {
+        of: TypeId(12),
+        val: Val::Rec(members),
+    })
+}
+
+// So many pointers to one cell.
+pub(crate) fn pointers(alloc: Global, count: u32) -> Result<Graph, Memory>
+    requires { count < 2 ^ 31 }
+    ensures cells { IfOk result (λ g. length g.cells ≡ 1) }
+    ensures few { IfOk result (λ g. HasFewNodes g) }
+{
+    let mut items = Vals::new(alloc);
+    for _at in 0..count {
+        let Ok(()) = items.push(Val::Ptr(Some(CellId(1)))) else {
+            return Err(Memory);
+        };
+    }
+    let array = Val::Arr {
+        max: count,
+        offset: 0,
+        items,
+    };
+    let mut roots = Vals::new(alloc);
+    if roots.push(Val::Num(i128::from(count))).is_err() || roots.push(array).is_err() {
+        return Err(Memory);
+    }
+    let cell = Cell {
+        of: TypeId(7),
+        val: Val::Num(5),
+    };
+    let mut cells = Cells::new(alloc);
+    let Ok(()) = cells.push(cell) else {
+        return Err(Memory);
+    };
+    Ok(Graph { roots, cells })
+}
