@@ -16,7 +16,7 @@ import sys
 ROOT = os.path.dirname(os.path.dirname(os.path.abspath(__file__)))
 CRATE = os.path.join(ROOT, "crates", "graph_bench")
 PROGRAM = os.path.join(CRATE, "out", "graph_bench")
-# a node of a fit has 24 octets, and its root or cell a span
+# a node of a fit has 24 octets, and so has a cell
 NODE_OCTETS = 24
 FORMS = ("list", "unnamed", "misfit", "pointers")
 MOST_GROWTH = 12.0
@@ -28,7 +28,7 @@ def built():
 
 
 def run(form, count):
-    """The lines of a run by their names, the number of nodes, and the peak memory in octets."""
+    """The text of a run, the octets of its nodes and cells, its nodes, the nanoseconds of each line, and the peak memory in octets."""
     child = subprocess.Popen([PROGRAM, form, str(count)], stdout=subprocess.PIPE, text=True)
     text = child.stdout.read()
     _, status, usage = os.wait4(child.pid, 0)
@@ -36,8 +36,9 @@ def run(form, count):
     if child.returncode != 0:
         raise SystemExit(f"{form} {count}: status {child.returncode}")
     nodes = int(re.search(r"(\d+) nodes", text).group(1))
+    kept = (nodes + int(re.search(r"(\d+) cells?,", text).group(1))) * NODE_OCTETS
     spent = {name: int(ns) for name, ns in re.findall(r"^(.*): (\d+) ns a node$", text, re.M)}
-    return text, nodes, spent, usage.ru_maxrss * 1024
+    return text, kept, nodes, spent, usage.ru_maxrss * 1024
 
 
 def main():
@@ -46,11 +47,13 @@ def main():
     cells = parser.parse_args().cells
     built()
     status = 0
+    _, kept, _, _, peak = run("graph", cells)
+    print(f"the values of a list of {cells} cells: peak {peak / kept:.1f} times the nodes and cells of a fit")
     for form in FORMS:
-        _, few, small, _ = run(form, cells // 10)
-        text, nodes, large, peak = run(form, cells)
+        _, _, few, small, _ = run(form, cells // 10)
+        text, kept, nodes, large, peak = run(form, cells)
         place = re.search(r"^misfit: .*, .*$", text, re.M)
-        print(f"{form}: {cells} cells or pointers, {nodes} nodes, peak {peak / (nodes * NODE_OCTETS):.1f} times the nodes of a fit")
+        print(f"{form}: {cells} cells or pointers, {nodes} nodes, peak {peak / kept:.1f} times the nodes and cells of a fit")
         for name, ns in large.items():
             growth = ns * nodes / max(1, small[name] * few)
             slow = growth > MOST_GROWTH and name != "copy of the nodes"

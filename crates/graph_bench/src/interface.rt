@@ -11,7 +11,7 @@ use nd_types::{
 use std::alloc::Global;
 
 // The interface of the list that is measured.
-#[tactic(auto, using(crate::proofs::List::legal))]
+#[tactic(auto, using(crate::proofs::ListNodes::legal))]
 pub(crate) fn list_interface(alloc: Global) -> Result<Interface, Memory>
     ensures types { IfOk result (λ i. i.types ≡ list_types) }
     ensures operations { IfOk result (λ i. i.operations ≡ list_operations) }

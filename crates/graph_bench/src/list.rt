@@ -18,7 +18,7 @@ pub(crate) struct Form {
 }
 
 // A pointer to the first cell, and a list of this form.
-#[tactic(auto, using(crate::proofs::List::few_nodes))]
+#[tactic(auto, using(crate::proofs::ListNodes::few_nodes))]
 pub(crate) fn list(alloc: Global, form: Form) -> Result<Graph, Memory>
     ensures cells { IfOk result (λ g. length g.cells ≡ form.count) }
     ensures few { IfOk result (λ g. HasFewNodes g) }
@@ -33,7 +33,7 @@ pub(crate) fn list(alloc: Global, form: Form) -> Result<Graph, Memory>
     })
 }
 
-#[tactic(auto, using(crate::proofs::List::more_nodes))]
+#[tactic(auto, using(crate::proofs::ListNodes::more_nodes))]
 fn cells(alloc: Global, form: Form) -> Result<Cells, Memory>
     ensures count { IfOk result (λ cs. length cs ≡ form.count) }
     ensures nodes { IfOk result (λ cs. AreNodes cs) }
@@ -70,7 +70,7 @@ fn cell(alloc: Global, at: u32, form: Form) -> Result<Cell, Memory>
 }
 
 // So many pointers to one cell.
-#[tactic(auto, using(crate::proofs::List::few_leaves))]
+#[tactic(auto, using(crate::proofs::ListNodes::few_leaves))]
 pub(crate) fn pointers(alloc: Global, count: u32) -> Result<Graph, Memory>
     requires { count < 2 ^ 31 }
     ensures cells { IfOk result (λ g. length g.cells ≡ 1) }
@@ -97,7 +97,7 @@ pub(crate) fn pointers(alloc: Global, count: u32) -> Result<Graph, Memory>
 }
 
 // So many pointers to the first cell, as elements.
-#[tactic(auto, using(crate::proofs::List::more_leaves))]
+#[tactic(auto, using(crate::proofs::ListNodes::more_leaves))]
 fn leaves(alloc: Global, count: u32) -> Result<Vals, Memory>
     ensures { IfOk result (λ vs. AreLeaves vs count) }
 {

@@ -7,13 +7,14 @@ mod list;
 mod measure;
 
 use list::Form;
-use measure::{measured_list, measured_pointers};
+use measure::{made_list, measured_list, measured_pointers};
 use std::{env, io};
 
 const MOST: u32 = 100_000_000;
 
 // The words of the command line are pairs: what is measured, and how many cells or pointers it has. `list` is a list, `unnamed` one of
-// which all cells but the first are named by nothing, `misfit` one whose last number is out of range, `pointers` pointers to one cell.
+// which all cells but the first are named by nothing, `misfit` one whose last number is out of range, `pointers` pointers to one cell, and
+// `graph` the list alone, which is made and not fitted.
 fn main(rt: HostRuntime) -> io::Result<()> {
     let mut form = 0;
     for word in env::args(&rt)?.skip(1) {
@@ -22,6 +23,7 @@ fn main(rt: HostRuntime) -> io::Result<()> {
             "unnamed" => form = 1,
             "misfit" => form = 2,
             "pointers" => form = 3,
+            "graph" => form = 4,
             number => {
                 let count = number.parse::<u32>().unwrap_or(0);
                 if count > 0 && count < MOST {
@@ -63,6 +65,14 @@ fn measured(rt: &HostRuntime, form: u32, count: u32) -> io::Result<()> {
                 last: 4_294_967_296,
             },
         ),
-        _ => measured_pointers(rt, count),
+        3 => measured_pointers(rt, count),
+        _ => made_list(
+            rt,
+            Form {
+                count,
+                named: count,
+                last: 1,
+            },
+        ),
     }
 }

@@ -14,35 +14,43 @@ const NODE_SIZE: u64 = 24;
 
 // Measures a list.
 pub(crate) fn measured_list(rt: &HostRuntime, name: &str, form: Form) -> io::Result<()> {
+    let nodes = u64::from(form.count) * 3 + 1;
+    println!(rt; "{name}: {} cells, {nodes} nodes", form.count)?;
+    copied(rt, nodes)?;
     let Ok(graph) = list(rt.alloc(), form) else {
         return Err(out_of_memory());
     };
-    let nodes = u64::from(form.count) * 3 + 1;
-    println!(rt; "{name}: {} cells, {nodes} nodes", form.count)?;
     measured(rt, 0, graph, nodes)
+}
+
+// Makes a list, and nothing more of it: what it takes is what the caller of `fit` has before the call.
+pub(crate) fn made_list(rt: &HostRuntime, form: Form) -> io::Result<()> {
+    let Ok(_graph) = list(rt.alloc(), form) else {
+        return Err(out_of_memory());
+    };
+    let nodes = u64::from(form.count) * 3 + 1;
+    println!(rt; "graph: {} cells, {nodes} nodes", form.count)
 }
 
 // Measures pointers to one cell.
 pub(crate) fn measured_pointers(rt: &HostRuntime, count: u32) -> io::Result<()>
     requires { count < 2 ^ 31 }
 {
+    let nodes = u64::from(count) + 3;
+    println!(rt; "pointers: 1 cell, {nodes} nodes")?;
+    copied(rt, nodes)?;
     let Ok(graph) = pointers(rt.alloc(), count) else {
         return Err(out_of_memory());
     };
-    let nodes = u64::from(count) + 3;
-    println!(rt; "pointers: 1 cell, {nodes} nodes")?;
     measured(rt, 1, graph, nodes)
 }
 
-// Fits a graph of so many nodes to an operation, makes it canonical and compares the two; and copies as many octets as its nodes take.
+// Fits a graph of so many nodes to an operation, makes it canonical and compares the two.
 fn measured(rt: &HostRuntime, op: u32, graph: Graph, nodes: u64) -> io::Result<()>
     requires known { op < 2 }
     requires few_cells { length graph.cells < 2 ^ 32 }
     requires few_nodes { HasFewNodes graph }
-    requires nodes { nodes < 2 ^ 34 }
 {
-    let spent = copied(rt, (nodes * NODE_SIZE) as usize)?;
-    println!(rt; "copy of the nodes: {} ns a node", per_node(spent, nodes))?;
     let Ok(interface) = list_interface(rt.alloc()) else {
         return Err(out_of_memory());
     };
@@ -103,11 +111,15 @@ fn out_of_memory() -> io::Error {
     io::Error::from(io::ErrorKind::OutOfMemory)
 }
 
-// The time in which so many octets are copied.
-fn copied(rt: &HostRuntime, size: usize) -> io::Result<Duration> {
+// Copies as many octets as so many nodes take, before there is a graph, and says the time.
+fn copied(rt: &HostRuntime, nodes: u64) -> io::Result<()>
+    requires { nodes < 2 ^ 34 }
+{
+    let size = (nodes * NODE_SIZE) as usize;
     let octets = vec![in rt.alloc(); 7u8; size]?;
     let mut copy = vec![in rt.alloc(); 0u8; size]?;
     let start = Instant::now(rt)?;
     copy.as_mut_slice().copy_from_slice(octets.as_slice());
-    start.elapsed(rt)
+    let spent = start.elapsed(rt)?;
+    println!(rt; "copy of the nodes: {} ns a node", per_node(spent, nodes))
 }

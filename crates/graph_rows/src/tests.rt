@@ -1,6 +1,9 @@
 // Rows through the public calls.
-ghost use Rattle.std.specs.Prelude.{◌≡◌, ◌<◌, IfOk, None};
+ghost use Rattle.std.specs.Prelude.{◌≡◌, ◌<◌, ◌≤◌, length, IfOk, OnOk, None};
 ghost use Rattle.nd_types.specs.declared.types.Side.TheVariants as side;
+ghost use Rattle.nd_flat.specs.FlatForm.{IsKeepableNumber};
+ghost use Rattle.nd_flat.specs.Building.{CanClose};
+ghost use Rattle.graph_rows.specs.Filled as filled;
 ghost use Rattle.graph_rows.specs.Graphs as rows;
 ghost use Rattle.graph_rows.specs.Graphs.{IsSmall};
 ghost use Rattle.graph_rows.specs.Rows.{row_types, row_operations};
@@ -117,33 +120,80 @@ fn rings_are_compared(rt: HostRuntime) -> Result<(), Fail> {
     Ok(())
 }
 
-// A ring of 7 alone.
-#[tactic(auto, using(crate::proofs::Built::ring_fits))]
+// Builds a cell that is a leaf of this number.
+fn fill_leaf(builder: &mut Builder, cell: CellId, number: i128) -> Result<(), Memory>
+    requires number { IsKeepableNumber number }
+    requires whole { CanClose builder.old }
+    requires there { (0 < cell.0) × (cell.0 ≤ length builder.old.graph.cells) }
+    ensures { OnOk result (builder.new ≡ filled.with_cell cell.0 (filled.leaf_nodes number) builder.old) }
+{
+    builder.fill(cell);
+    builder.add(&Seen::Rec(1))?;
+    builder.add(&Seen::Num(number))
+}
+
+// Builds a cell that is a struct of two pointers.
+fn fill_pair(
+    builder: &mut Builder,
+    cell: CellId,
+    first: CellId,
+    second: CellId,
+) -> Result<(), Memory>
+    requires whole { CanClose builder.old }
+    requires there { (0 < cell.0) × (cell.0 ≤ length builder.old.graph.cells) }
+    ensures { OnOk result (builder.new ≡ filled.with_cell cell.0 (filled.pair_nodes first.0 second.0) builder.old) }
+{
+    builder.fill(cell);
+    builder.add(&Seen::Rec(2))?;
+    builder.add(&Seen::Ptr(Some(first)))?;
+    builder.add(&Seen::Ptr(Some(second)))
+}
+
+// A pair of which b and a's y are one leaf 5, and a's z a leaf 6.
+#[tactic(auto, using(crate::proofs::Built::pair_fits))]
 fn built(alloc: Global, interface: &Interface) -> Result<Fit, Memory>
     requires types { interface.now.types ≡ row_types }
     requires operations { interface.now.operations ≡ row_operations }
-    ensures { IfOk result (λ f. f.graph ≡ rows.ring_of_one) }
+    ensures { IfOk result (λ f. f.graph ≡ rows.pair) }
 {
     let mut steps = Steps::new(Counted::new());
-    let mut builder = Builder::begin(alloc, interface.tie(), RING, Side::In, None);
+    let mut builder = Builder::begin(alloc, interface.tie(), PAIR, Side::In, None);
     builder.root()?;
-    let node = builder.reserve(TypeId(12), &mut steps)?;
-    builder.add(&Seen::Ptr(Some(node)))?;
-    builder.fill(node);
-    builder.add(&Seen::Rec(2))?;
-    builder.add(&Seen::Num(7))?;
-    builder.add(&Seen::Ptr(Some(node)))?;
+    let pair = builder.reserve(TypeId(18), &mut steps)?;
+    builder.add(&Seen::Ptr(Some(pair)))?;
+    let x = builder.reserve(TypeId(16), &mut steps)?;
+    let shared = builder.reserve(TypeId(14), &mut steps)?;
+    let other = builder.reserve(TypeId(14), &mut steps)?;
+    fill_pair(&mut builder, pair, x, shared)?;
+    fill_leaf(&mut builder, shared, 5)?;
+    fill_leaf(&mut builder, other, 6)?;
+    fill_pair(&mut builder, x, shared, other)?;
     Ok(builder.finish())
 }
 
 #[test]
-fn rings_are_built(rt: HostRuntime) -> Result<(), Fail> {
+fn pairs_are_built(rt: HostRuntime) -> Result<(), Fail> {
     let interface = interface(rt.alloc())?;
     let fit = built(rt.alloc(), &interface)?;
-    assert_eq!(rt; fit.op(), RING);
+    assert_eq!(rt; fit.op(), PAIR);
     let graph = fit.graph(rt.alloc()).map_err(|_| "memory")?;
-    assert!(rt; is_node(&graph, 0, 7, 1));
+    assert!(rt; is_leaf(&graph, 2, 5));
+    assert!(rt; is_leaf(&graph, 3, 6));
     Ok(())
+}
+
+// Whether a cell is a leaf, by its place.
+fn is_leaf(graph: &Graph, at: usize, number: i128) -> bool {
+    let Some(cell) = graph.cells.get(at) else {
+        return false;
+    };
+    let Val::Rec(members) = &cell.val else {
+        return false;
+    };
+    let Some(Val::Num(value)) = members.get(0) else {
+        return false;
+    };
+    *value == number
 }
 
 // A null reference pointer; a cell that is not there.
