@@ -1,0 +1,7 @@
+pub mod Classes
+pub mod Runs
+pub mod Numerals
+pub mod Scanned
+mod Tested
+mod WorkedTexts
+mod WorkedPrinted
