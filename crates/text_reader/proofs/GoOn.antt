@@ -228,34 +228,34 @@ module _ (table : Table) (known : KnowsTypes table) where
     finish (d ∷ fs) h v nb k =
         by d h (λ u. finish fs (and_parts (may_come table d) (list_all (may_come table) fs) h).1 u nb k)
       where
-      filled : (d : Due) → is_good table d ≡ true → Ended table (reading v (fs ++ ACellLine ∷ []) nb k) → Ended table (reading v (d ∷ (fs ++ ACellLine ∷ [])) nb k)
-      filled d g r =
-          let f = fill_due table v known n shallow d g in
-          record {
-            others = f.tokens ++ r.others;
-            real = list_all-append is_real f.tokens r.others ∙ and_from (list_all is_real f.tokens) (list_all is_real r.others) f.real r.real;
-            y = r.y;
-            read = f.reads (fs ++ ACellLine ∷ []) nb k r.others ∙ r.read;
-            ends = r.ends;
-          }
+        filled : (d : Due) → is_good table d ≡ true → Ended table (reading v (fs ++ ACellLine ∷ []) nb k) → Ended table (reading v (d ∷ (fs ++ ACellLine ∷ [])) nb k)
+        filled d g r =
+            let f = fill_due table v known n shallow d g in
+            record {
+              others = f.tokens ++ r.others;
+              real = list_all-append is_real f.tokens r.others ∙ and_from (list_all is_real f.tokens) (list_all is_real r.others) f.real r.real;
+              y = r.y;
+              read = f.reads (fs ++ ACellLine ∷ []) nb k r.others ∙ r.read;
+              ends = r.ends;
+            }
 
-      version_first : Ended table (reading version.One (fs ++ ACellLine ∷ []) nb k) → Ended table (reading v (AVersion ∷ (fs ++ ACellLine ∷ [])) nb k)
-      version_first r = record { others = Number (pos 1) ∷ r.others; real = r.real; y = r.y; read = r.read; ends = r.ends }
+        version_first : Ended table (reading version.One (fs ++ ACellLine ∷ []) nb k) → Ended table (reading v (AVersion ∷ (fs ++ ACellLine ∷ [])) nb k)
+        version_first r = record { others = Number (pos 1) ∷ r.others; real = r.real; y = r.y; read = r.read; ends = r.ends }
 
-      by : (d : Due) → list_all (may_come table) (d ∷ fs) ≡ true → ((u : Version) → Ended table (reading u (fs ++ ACellLine ∷ []) nb k)) → Ended table (reading v (d ∷ (fs ++ ACellLine ∷ [])) nb k)
-      by AVersion h r = version_first (r version.One)
-      by ACellLine h r = cc
-      by (This q) h r = filled (This q) (and_parts (is_good table (This q)) (list_all (may_come table) fs) h).0 (r v)
-      by ANumber h r = filled ANumber (and_parts (is_good table ANumber) (list_all (may_come table) fs) h).0 (r v)
-      by ACount h r = filled ACount (and_parts (is_good table ACount) (list_all (may_come table) fs) h).0 (r v)
-      by AString h r = filled AString (and_parts (is_good table AString) (list_all (may_come table) fs) h).0 (r v)
-      by SomeBytes h r = filled SomeBytes (and_parts (is_good table SomeBytes) (list_all (may_come table) fs) h).0 (r v)
-      by AUuid h r = filled AUuid (and_parts (is_good table AUuid) (list_all (may_come table) fs) h).0 (r v)
-      by (ATag arms default) h r = filled (ATag arms default) (and_parts (is_good table (ATag arms default)) (list_all (may_come table) fs) h).0 (r v)
-      by (APointer to) h r = filled (APointer to) (and_parts (is_good table (APointer to)) (list_all (may_come table) fs) h).0 (r v)
-      by (FirstElement t) h r = filled (FirstElement t) (and_parts (is_good table (FirstElement t)) (list_all (may_come table) fs) h).0 (r v)
-      by (NextElement t) h r = filled (NextElement t) (and_parts (is_good table (NextElement t)) (list_all (may_come table) fs) h).0 (r v)
-      by (AValue t) h r = filled (AValue t) (and_parts (is_good table (AValue t)) (list_all (may_come table) fs) h).0 (r v)
+        by : (d : Due) → list_all (may_come table) (d ∷ fs) ≡ true → ((u : Version) → Ended table (reading u (fs ++ ACellLine ∷ []) nb k)) → Ended table (reading v (d ∷ (fs ++ ACellLine ∷ [])) nb k)
+        by AVersion h r = version_first (r version.One)
+        by ACellLine h r = cc
+        by (This q) h r = filled (This q) (and_parts (is_good table (This q)) (list_all (may_come table) fs) h).0 (r v)
+        by ANumber h r = filled ANumber (and_parts (is_good table ANumber) (list_all (may_come table) fs) h).0 (r v)
+        by ACount h r = filled ACount (and_parts (is_good table ACount) (list_all (may_come table) fs) h).0 (r v)
+        by AString h r = filled AString (and_parts (is_good table AString) (list_all (may_come table) fs) h).0 (r v)
+        by SomeBytes h r = filled SomeBytes (and_parts (is_good table SomeBytes) (list_all (may_come table) fs) h).0 (r v)
+        by AUuid h r = filled AUuid (and_parts (is_good table AUuid) (list_all (may_come table) fs) h).0 (r v)
+        by (ATag arms default) h r = filled (ATag arms default) (and_parts (is_good table (ATag arms default)) (list_all (may_come table) fs) h).0 (r v)
+        by (APointer to) h r = filled (APointer to) (and_parts (is_good table (APointer to)) (list_all (may_come table) fs) h).0 (r v)
+        by (FirstElement t) h r = filled (FirstElement t) (and_parts (is_good table (FirstElement t)) (list_all (may_come table) fs) h).0 (r v)
+        by (NextElement t) h r = filled (NextElement t) (and_parts (is_good table (NextElement t)) (list_all (may_come table) fs) h).0 (r v)
+        by (AValue t) h r = filled (AValue t) (and_parts (is_good table (AValue t)) (list_all (may_come table) fs) h).0 (r v)
 
     pub go_to_end : (x : Reading) → Sound table x → Ended table x
     go_to_end x s =

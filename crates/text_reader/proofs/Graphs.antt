@@ -24,9 +24,10 @@ AreTyped table nb k (x ∷ xs) = (named_type nb k ≡ Some x.of) × AreTyped tab
 
 pub typed_named : (table : Table) (before : List Pending) (nb : List (ℕ × ℕ)) → Knows before nb → (k : ℕ) (xs : List Referent) → AreTyped table nb k xs → AreNamed table before k xs
 typed_named table before nb kn k [] h = tt
-typed_named table before nb kn k (x ∷ xs) h =
-    (sym (kn.same k) ∙ h.0,
-      typed_named table (before ++ home_pointers table (cell_home k) x.of x.val) (noted table (x.of ∷ []) (more x.val none) nb) (home_knows table (cell_home k) x.of x.val before nb kn) (k + 1) xs h.1)
+typed_named table before nb kn k (x ∷ xs) h = (
+  sym (kn.same k) ∙ h.0,
+  typed_named table (before ++ home_pointers table (cell_home k) x.of x.val) (noted table (x.of ∷ []) (more x.val none) nb) (home_knows table (cell_home k) x.of x.val before nb kn) (k + 1) xs h.1,
+)
 
 pub graph_read : (w : Setting) (v : Version) (g : Graph) (text rest : List ℕ) → RootsFormed v w.table (root_list w) g.roots → CellsFormed v w.table g.cells
     → AreTyped w.table (roots_noted w.table (root_list w) g.roots []) 1 g.cells → length text ≤ TEXT_LIMIT → Begins [] text (graph_tokens v w g) rest → skip rest ≡ [] → ReadsAs w text g

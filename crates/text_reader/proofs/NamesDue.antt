@@ -124,9 +124,9 @@ module _ (w : Setting) where
       flat_map-append (λ (l : List Piece). l) head (roots ++ cells) ∙ ap (λ (l : List Piece). flat head ++ l) (flat_map-append (λ (l : List Piece). l) roots cells) in (
         reading v (ACellLine ∷ []) (cells_noted w.table g.cells (roots_noted w.table (root_list w) g.roots [])) (0 + length g.cells),
         ap (all_pieces w.table (nothing_read w)) split
-        ∙ head_read v (flat roots ++ flat cells)
-        ∙ roots_read v w.table w.op.params (root_list w) g.roots f.0 (ACellLine ∷ []) [] 0 (flat cells)
-        ∙ cells_read v w.table 0 g.cells f.1 (root_pointers w.table 0 (root_list w) g.roots) (roots_noted w.table (root_list w) g.roots []) kn r.named,
+            ∙ head_read v (flat roots ++ flat cells)
+            ∙ roots_read v w.table w.op.params (root_list w) g.roots f.0 (ACellLine ∷ []) [] 0 (flat cells)
+            ∙ cells_read v w.table 0 g.cells f.1 (root_pointers w.table 0 (root_list w) g.roots) (roots_noted w.table (root_list w) g.roots []) kn r.named,
       )
 
   agreed : (a b : Bool) → agree a b ≡ true → a ≡ b

@@ -28,7 +28,6 @@ use Rattle.text_grammar.specs.Dues.{Due, This, ANumber, ACount, AString, SomeByt
 use Rattle.text_reader.specs.Values.{reading, have_forms, noted_node, noted}
 use Rattle.text_reader.proofs.Alike.{next_open, next_element, shut}
 use Rattle.text_reader.proofs.Forms.{Form, form_of, a_number, an_enum, a_struct, an_array, a_bound_text, a_text, a_union, a_null, a_pointer, a_context, a_pipe}
-
 use Rattle.text_reader.proofs.ValuesRead.{tail, separated_tail, member_due, member_tail, separated_members}
 
 -- ## Pieces
