@@ -1,5 +1,5 @@
 -- One token: what is due after the first does not matter, and a value is what its type consists of.
-use Rattle.std.proofs.Common.{◌≡◌, ℕ, ◌+◌, ℤ, pos, Bool, true, false, cond, eqb, List, [], ◌∷◌, ◌++◌, Option, Some, None, Result, Ok, Err, refl, ap, sym, ◌∙◌, codes}
+use Rattle.std.proofs.Common.{◌≡◌, ℕ, ◌+◌, pos, Bool, true, false, cond, eqb, List, [], ◌∷◌, ◌++◌, Option, Some, None, Result, Ok, Err, refl, ap, sym, ◌∙◌, codes}
 use Rattle.std.specs.Str.{bytes_eq}
 use Rattle.std.proofs.lemmas.Slice.Eq.{bytes_eq-Decides}
 use Rattle.nd_types.specs.declared.types.TypeDef.{TypeDef}
@@ -8,9 +8,9 @@ use Rattle.nd_types.specs.Table.{Table, type_at}
 use Rattle.text_grammar.specs.declared.version.Version.{Version}
 use Rattle.text_grammar.specs.declared.fault.TextReason.{TextReason}
 use Rattle.text_grammar.specs.declared.fault.TextReason.TheVariants as reason
-use Rattle.text_grammar.specs.Tokens.{Token, Word, Number, Cell, Str, Bytes, Uuid, Mark}
-use Rattle.text_grammar.specs.Written.{Piece, Name, Other, writes_octets, equals, comma, colon}
-use Rattle.text_grammar.specs.Dues.{Due, This, AVersion, ANumber, ACount, AString, SomeBytes, AUuid, ATag, APointer, FirstElement, NextElement, AValue, ACellLine, Reading, taken, taken_first, went_on_if, with_version, with_line, is_this, why_not, is_count_token, version_of, named_type, value_dues, count_dues, list_dues, due_at, opened, closes, next_read, all_read}
+use Rattle.text_grammar.specs.Tokens.{Token, Word, Number, Cell, Mark}
+use Rattle.text_grammar.specs.Written.{Name, Other, writes_octets, equals}
+use Rattle.text_grammar.specs.Dues.{Due, This, AVersion, ACount, APointer, FirstElement, NextElement, AValue, ACellLine, Reading, taken, taken_first, went_on_if, with_version, with_line, is_this, why_not, is_count_token, version_of, named_type, value_dues, list_dues, due_at, opened, closes, next_read, all_read}
 use Rattle.text_reader.specs.Values.{reading}
 
 -- what comes of more tokens, after what came of one

@@ -1,7 +1,7 @@
 -- Tokens that are read to the end are those of a graph.
 -- `y` is what has been read at the end, `w` a setting, `v` a version, `r` a root, `x` a value or a cell, `nb` are the cells that have a type,
 -- `k` is how many have a line, `ts` are tokens.
-use Rattle.std.proofs.Common.{◌≡◌, ℕ, zero, suc, ◌+◌, ◌≤◌, ◌<◌, ℤ, pos, Bool, true, false, ◌&&◌, cond, eqb, List, [], ◌∷◌, ◌++◌, length, map, Option, Some, None, Result, Ok, Err, refl, ap, ap₂, sym, subst, ◌∙◌, append_assoc, append-nil, arith, length-append, codes}
+use Rattle.std.proofs.Common.{◌≡◌, ℕ, zero, suc, ◌+◌, ◌≤◌, pos, Bool, true, false, cond, eqb, List, [], ◌∷◌, ◌++◌, length, Option, Some, None, Ok, Err, refl, ap, ap₂, sym, ◌∙◌, append-nil, arith, codes}
 use Rattle.std.specs.List.{list_all}
 use Rattle.std.proofs.lemmas.Bool.{and_parts, and_from, eqb-true}
 use Rattle.std.proofs.lemmas.Option.{same_Some}
@@ -10,9 +10,8 @@ use Rattle.nd_types.specs.declared.types.TypeDef.TheVariants as def
 use Rattle.nd_types.specs.declared.types.Param.{Param}
 use Rattle.nd_types.specs.Table.{Table, type_at}
 use Rattle.nd_types.specs.Roots.{Root}
-use Rattle.nd_types.specs.Legal.{is_in_table, pointee_of}
+use Rattle.nd_types.specs.Legal.{is_in_table}
 use Rattle.nd_value.specs.declared.value.Graph.{Graph}
-use Rattle.nd_value.specs.declared.item.Home.TheVariants as home
 use Rattle.nd_value.specs.Tree as tree
 use Rattle.nd_value.specs.Tree.{Tree, Trees, node, none, more, Label, Referent}
 use Rattle.nd_value.specs.Nodes.{child_types}
@@ -21,19 +20,18 @@ use Rattle.nd_value.specs.Deferral.{Pending, home_pointers}
 use Rattle.nd_value.specs.Homes.{root_pointers}
 use Rattle.text_grammar.specs.declared.version.Version.{Version}
 use Rattle.text_grammar.specs.declared.version.Version.TheVariants as version
-use Rattle.text_grammar.specs.declared.fault.TextReason.{TextReason}
 use Rattle.text_grammar.specs.declared.fault.TextReason.TheVariants as reason
-use Rattle.text_grammar.specs.Tokens.{Token, Word, Number, Cell, Str, Bytes, Uuid, Mark}
-use Rattle.text_grammar.specs.Written.{Piece, Name, Other, token_of, named, word, equals, value_pieces, version_number, side_word, root_name, head_lines, root_lines, cell_lines, graph_tokens}
-use Rattle.text_grammar.specs.Readable.{first_type, AreNamed, IsReadable}
-use Rattle.text_grammar.specs.Dues.{Due, This, AVersion, AValue, ACellLine, Reading, named_due, root_dues, nothing_read, named_type, with_name, with_line, next_read, may_end, all_read}
-use Rattle.text_reader.specs.Values.{reading, have_forms, noted_node, noted, value_tokens}
+use Rattle.text_grammar.specs.Tokens.{Token, Word, Number, Cell, Mark}
+use Rattle.text_grammar.specs.Written.{Piece, Name, Other, named, word, equals, value_pieces, version_number, side_word, root_name, head_lines, root_lines, cell_lines, graph_tokens}
+use Rattle.text_grammar.specs.Readable.{AreNamed, IsReadable}
+use Rattle.text_grammar.specs.Dues.{Due, This, AVersion, AValue, ACellLine, Reading, root_dues, nothing_read, named_type, with_name, with_line, may_end, all_read}
+use Rattle.text_reader.specs.Values.{reading, noted_node, noted, value_tokens}
 use Rattle.text_reader.specs.Real.{is_real}
 use Rattle.text_reader.proofs.Alike.{go_on}
 use Rattle.text_reader.proofs.Nodes.{RootsFormed, CellsFormed, formed_readable, Knows, knows_none, home_knows}
 use Rattle.text_reader.proofs.GraphRead.{lines_tokens, lines_more, parts_both, roots_noted, roots_know}
-use Rattle.text_reader.proofs.Steps.{real_rest, not_yet, this_taken, version_taken}
-use Rattle.text_reader.proofs.Taken.{KnowsTypes, pointee_known, Taken, takes, after_value, after_real, after_short}
+use Rattle.text_reader.proofs.Steps.{real_rest, this_taken, version_taken}
+use Rattle.text_reader.proofs.Taken.{KnowsTypes, pointee_known, takes, after_value, after_real, after_short}
 
 -- ## The types of cells are of the table
 

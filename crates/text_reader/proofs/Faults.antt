@@ -1,9 +1,8 @@
 -- Where a text stops it has its first fault.
 -- `w` is a setting, `ts` are the tokens before, `x` what has been read of them, `t` is the token that comes next, `text` what is left, `whole` the whole text.
-use Rattle.std.proofs.Common.{◌≡◌, ◌≢◌, ◌⊎◌, inl, inr, ℕ, zero, suc, ◌+◌, ◌-◌, ◌≤◌, ◌<◌, ℤ, pos, negsuc, Bool, true, false, ◌&&◌, cond, eqb, List, [], ◌∷◌, ◌++◌, length, map, take, drop, Option, Some, None, Result, Ok, Err, refl, ap, ap₂, sym, subst, ◌∙◌, append_assoc, append-nil, arith, length-append, take-append-drop, codes, get_or}
+use Rattle.std.proofs.Common.{◌≡◌, ℕ, ◌+◌, ◌-◌, ◌≤◌, Bool, true, false, cond, eqb, List, [], ◌∷◌, ◌++◌, length, map, Option, Some, None, Ok, Err, refl, ap, ap₂, sym, subst, ◌∙◌, append_assoc, append-nil, arith, codes, get_or}
 use Rattle.std.specs.List.{list_all, AllByRecursion}
 use Rattle.std.specs.Str.{bytes_eq}
-use Rattle.std.proofs.lemmas.List.{length-map, map-append}
 use Rattle.std.proofs.lemmas.Bool.{and_parts, and_from, both_ways, lt-ltb, eqb-true, eq-eqb}
 use Rattle.std.proofs.lemmas.Option.{slice_get_within}
 use Rattle.std.proofs.lemmas.List.Folds.{list_all-append}
@@ -27,9 +26,9 @@ use Rattle.text_grammar.specs.declared.TheConstants.{TEXT_LIMIT}
 use Rattle.text_grammar.specs.Tokens.{Token, Word, Number, Cell, Str, Bytes, Uuid, Mark, skip, cutting, after, IsCut, Begins}
 use Rattle.text_grammar.specs.Written.{Piece, Name, Other, token_of, comma, writes_octets, graph_pieces, graph_tokens}
 use Rattle.text_grammar.specs.Readable.{IsReadable}
-use Rattle.text_grammar.specs.Reads.{ReadsAs, Lexeme, Cut, End, Bad, IsNext, Writing, CanGoOn, IsWhole, GoesOn, IsNameDue, IsReason, IsFirstFault}
-use Rattle.text_grammar.specs.Dues.{Due, This, AVersion, ANumber, ACount, AString, SomeBytes, AUuid, ATag, APointer, FirstElement, NextElement, AValue, ACellLine, Reading, value_dues, list_dues, nothing_read, named_type, is_this, why_not, is_count_token, version_of, went_on_if, with_version, with_line, taken_first, due_at, opened, closes, next_read, may_end, all_read}
-use Rattle.text_grammar.specs.Reader.{Ending, Whole, Stopped, at_end, ComesTo, goes_on, refused, no_token, ended}
+use Rattle.text_grammar.specs.Reads.{Lexeme, Cut, End, Bad, IsNext, CanGoOn, IsWhole, GoesOn, IsNameDue, IsReason, IsFirstFault}
+use Rattle.text_grammar.specs.Dues.{Due, This, AVersion, ANumber, ACount, AString, SomeBytes, AUuid, ATag, APointer, FirstElement, NextElement, AValue, ACellLine, Reading, value_dues, list_dues, nothing_read, named_type, is_this, is_count_token, version_of, went_on_if, with_version, with_line, taken_first, due_at, opened, closes, next_read, may_end, all_read}
+use Rattle.text_grammar.specs.Reader.{Ending, Whole, Stopped, ComesTo, goes_on, refused, no_token, ended}
 use Rattle.text_reader.specs.Values.{reading}
 use Rattle.text_reader.specs.Real.{is_real}
 use Rattle.text_reader.proofs.Alike.{go_on}
@@ -38,9 +37,8 @@ use Rattle.text_reader.proofs.NamesRead.{is_name, name_due}
 use Rattle.text_reader.proofs.NamesDue.{name_there}
 use Rattle.text_reader.proofs.Real.{begins_real}
 use Rattle.text_reader.proofs.Taken.{KnowsTypes, known_type}
-use Rattle.text_reader.proofs.Back.{Written, back}
-use Rattle.text_reader.proofs.Fills.{is_good}
-use Rattle.text_reader.proofs.GoOn.{may_come, Sound, sound_all, sound_start, Ended, go_to_end}
+use Rattle.text_reader.proofs.Back.{back}
+use Rattle.text_reader.proofs.GoOn.{may_come, Sound, sound_all, sound_start, go_to_end}
 
 -- ## Legal sides
 

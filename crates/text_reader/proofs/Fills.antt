@@ -1,12 +1,10 @@
 -- Each due has tokens: of a value whose type is in the table and nests so many types deep, the least.
 -- `v` is a version, `t` a type's number, `d` a type, `ds` are dues, `nb` the cells that have a type, `k` how many have a line, `ts` are tokens.
-use Rattle.std.proofs.Common.{◌≡◌, ℕ, zero, suc, ◌+◌, ℤ, pos, Bool, true, false, ◌&&◌, cond, eqb, List, [], ◌∷◌, ◌++◌, length, map, get_or, Option, Some, None, Result, Ok, Err, refl, ap, ap₂, sym, subst, ◌∙◌, append_assoc, append-nil, codes}
+use Rattle.std.proofs.Common.{◌≡◌, ℕ, zero, suc, pos, Bool, true, false, ◌&&◌, List, [], ◌∷◌, ◌++◌, map, get_or, Option, Some, None, refl, ap, ap₂, subst, ◌∙◌, append_assoc, codes}
 use Rattle.std.specs.List.{list_all}
-use Rattle.std.specs.Str.{bytes_eq}
 use Rattle.std.proofs.lemmas.Slice.Eq.{bytes_eq-Decides}
 use Rattle.std.proofs.lemmas.Bool.{and_parts, and_from, eq-eqb}
 use Rattle.std.proofs.lemmas.List.Folds.{list_all-append}
-use Rattle.nd_types.specs.declared.types.TypeId.{TypeId}
 use Rattle.nd_types.specs.declared.types.TypeDef.{TypeDef}
 use Rattle.nd_types.specs.declared.types.TypeDef.TheVariants as def
 use Rattle.nd_types.specs.declared.types.Field.{Field}
@@ -16,9 +14,9 @@ use Rattle.nd_types.specs.Table.{Table, type_at, selected}
 use Rattle.nd_types.specs.Legal.{is_in_table}
 use Rattle.nd_value.specs.Nodes.{selected_types}
 use Rattle.text_grammar.specs.declared.version.Version.{Version}
-use Rattle.text_grammar.specs.Tokens.{Token, Word, Number, Cell, Str, Bytes, Uuid, Mark}
-use Rattle.text_grammar.specs.Written.{Piece, Name, Other, token_of, comma, colon, equals, word, writes_octets}
-use Rattle.text_grammar.specs.Dues.{Due, This, AVersion, ANumber, ACount, AString, SomeBytes, AUuid, ATag, APointer, FirstElement, NextElement, AValue, ACellLine, Reading, separated_dues, count_due, count_dues, list_dues, arm_dues, tag_dues, value_dues, is_this, why_not, went_on_if, next_read, all_read}
+use Rattle.text_grammar.specs.Tokens.{Token, Word, Number, Str, Bytes, Uuid, Mark}
+use Rattle.text_grammar.specs.Written.{Piece, Name, Other, token_of, comma, word, writes_octets}
+use Rattle.text_grammar.specs.Dues.{Due, This, AVersion, ANumber, ACount, AString, SomeBytes, AUuid, ATag, APointer, FirstElement, NextElement, AValue, ACellLine, separated_dues, count_dues, list_dues, arm_dues, value_dues, is_this, why_not, went_on_if, all_read}
 use Rattle.text_reader.specs.Values.{reading}
 use Rattle.text_reader.specs.Real.{is_real}
 use Rattle.text_reader.proofs.Alike.{go_on, all_open, name_read}

@@ -1,15 +1,14 @@
 -- What a token begins with, and that one token stands first in a text.
-use Rattle.std.proofs.Common.{◌≡◌, ◌≢◌, ℕ, zero, suc, ◌+◌, ◌<◌, ◌^◌, ℤ, pos, negsuc, Bool, true, false, not, ◌&&◌, ◌||◌, cond, eqb, List, [], ◌∷◌, ◌++◌, length, refl, sym, ap, ap₂, subst, ◌∙◌, arith, unsigned_abs, length-append, ◌*◌, ◌≤◌, Option, Some, None}
-use Rattle.std.proofs.lemmas.Option.{same_Some}
+use Rattle.std.proofs.Common.{◌≡◌, ℕ, suc, ◌<◌, ◌^◌, ℤ, pos, negsuc, true, false, ◌||◌, cond, eqb, List, [], ◌∷◌, ◌++◌, length, refl, sym, ap, subst, ◌∙◌, arith, unsigned_abs, length-append}
 use Rattle.std.specs.List.{list_all}
 use Rattle.std.specs.Fmt.{decimal, signed_decimal}
-use Rattle.std.proofs.lemmas.Bool.{cond-true, cond-false, and_parts, and_from, both_ways, or_left, or_right, eqb-true, eq-eqb}
+use Rattle.std.proofs.lemmas.Bool.{cond-true, and_parts, and_from, both_ways}
 use Rattle.std.proofs.lemmas.Bool.Decides.{nat_tests}
 use Rattle.nd_base.specs.Text.{is_word, is_word_octet, is_letter, is_digit, has_form, uuid_form}
 use Rattle.text_grammar.specs.Tokens.{Token, Word, Number, Cell, Str, Bytes, Uuid, Mark, Spells, is_uuid, is_bytes, is_mark, ends_run, IsString, IsByteString, character, hex_pair}
-use Rattle.text_grammar.proofs.Classes.{letter_no_digit, letter_no_mark, digit_no_mark, letter_word}
+use Rattle.text_grammar.proofs.Classes.{letter_word}
 use Rattle.text_grammar.proofs.Runs.{one_run}
-use Rattle.text_grammar.proofs.Numerals.{Written, written, decimal_digits, digits_are_words, one_decimal}
+use Rattle.text_grammar.proofs.Numerals.{written, decimal_digits, digits_are_words, one_decimal}
 use Rattle.text_reader.proofs.Quoted.{character_quote, pair_quote, character_less, pair_less, one_quoted, quoted_less}
 
 -- what an octet can begin: a word, a number, a cell's mark, a string, a mark

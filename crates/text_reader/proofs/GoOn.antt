@@ -1,20 +1,18 @@
 -- Every reading that is reached can go on to an end.
 -- `x` and `y` are what has been read, `d` is a due, `ds` are dues, `nb` the cells that have a type, `k` is how many have a line, `tok` is a token, `ts` are tokens.
-use Rattle.std.proofs.Common.{◌≡◌, ℕ, zero, suc, ◌+◌, ℤ, pos, negsuc, Bool, true, false, ◌&&◌, cond, eqb, List, [], ◌∷◌, ◌++◌, length, map, get_or, Option, Some, None, Result, Ok, Err, refl, ap, ap₂, sym, subst, ◌∙◌, append_assoc, append-nil, codes}
+use Rattle.std.proofs.Common.{◌≡◌, ℕ, ◌+◌, pos, Bool, true, false, ◌&&◌, cond, eqb, List, [], ◌∷◌, ◌++◌, map, Option, Some, None, Result, Ok, Err, refl, ap, sym, subst, ◌∙◌, append_assoc, codes}
 use Rattle.std.specs.List.{list_all}
 use Rattle.std.specs.Str.{bytes_eq}
 use Rattle.std.proofs.lemmas.Bool.{and_parts, and_from}
 use Rattle.std.proofs.lemmas.List.Folds.{list_all-append}
-use Rattle.nd_types.specs.declared.types.TypeId.{TypeId}
 use Rattle.nd_types.specs.declared.types.TypeDef.{TypeDef}
 use Rattle.nd_types.specs.declared.types.TypeDef.TheVariants as def
 use Rattle.nd_types.specs.declared.types.Field.{Field}
-use Rattle.nd_types.specs.declared.types.Arm.{Arm}
 use Rattle.nd_types.specs.declared.types.Param.{Param}
-use Rattle.nd_types.specs.Layout.{parts, nests, arm_types, default_type}
+use Rattle.nd_types.specs.Layout.{nests, arm_types, default_type}
 use Rattle.nd_types.specs.Table.{Table, type_at, selected}
 use Rattle.nd_types.specs.Roots.{Root}
-use Rattle.nd_types.specs.Legal.{is_in_table, pointee_of}
+use Rattle.nd_types.specs.Legal.{is_in_table}
 use Rattle.nd_value.specs.Nodes.{selected_types}
 use Rattle.nd_value.specs.Setting.{Setting, root_list}
 use Rattle.text_grammar.specs.declared.version.Version.{Version}
@@ -22,15 +20,15 @@ use Rattle.text_grammar.specs.declared.version.Version.TheVariants as version
 use Rattle.text_grammar.specs.declared.fault.TextReason.{TextReason}
 use Rattle.text_grammar.specs.declared.fault.TextReason.TheVariants as reason
 use Rattle.text_grammar.specs.Tokens.{Token, Word, Number, Cell, Str, Bytes, Uuid, Mark}
-use Rattle.text_grammar.specs.Written.{Piece, Name, Other, comma, colon, equals, word, side_word, root_name, writes_octets}
-use Rattle.text_grammar.specs.Dues.{Due, This, AVersion, ANumber, ACount, AString, SomeBytes, AUuid, ATag, APointer, FirstElement, NextElement, AValue, ACellLine, Reading, separated_dues, count_dues, list_dues, arm_dues, tag_dues, value_dues, root_dues, text_dues, nothing_read, named_type, with_name, opened, begun, due_at, closes, is_this, why_not, is_count_token, version_of, went_on_if, with_version, with_line, taken, taken_first, next_read, may_end, all_read}
+use Rattle.text_grammar.specs.Written.{Name, Other, comma, colon, equals, word, side_word, writes_octets}
+use Rattle.text_grammar.specs.Dues.{Due, This, AVersion, ANumber, ACount, AString, SomeBytes, AUuid, ATag, APointer, FirstElement, NextElement, AValue, ACellLine, Reading, separated_dues, count_dues, list_dues, arm_dues, value_dues, root_dues, nothing_read, named_type, with_name, opened, due_at, closes, is_this, why_not, is_count_token, version_of, went_on_if, with_version, with_line, taken_first, next_read, may_end, all_read}
 use Rattle.text_reader.specs.Values.{reading}
 use Rattle.text_reader.specs.Real.{is_real}
 use Rattle.text_reader.proofs.Alike.{go_on}
 use Rattle.text_reader.proofs.ValuesRead.{member_due}
 use Rattle.text_reader.proofs.Taken.{KnowsTypes, parts_known, pointee_known, selected_passes}
 use Rattle.text_reader.proofs.Back.{NamesKnown, type_known, with_known}
-use Rattle.text_reader.proofs.Fills.{Filled, is_fixed, is_good, fill_due}
+use Rattle.text_reader.proofs.Fills.{is_fixed, is_good, fill_due}
 
 -- a due that comes before the lines of cells
 abbrev pub may_come : Table → Due → Bool

@@ -1,6 +1,6 @@
 -- The tokens of a graph that a text can name are read one after the other, to the end.
 -- `v` is a version, `w` a setting, `g` a graph, `r` a root, `x` a value or a cell, `nb` are the cells that have a type, `k` is how many have a line.
-use Rattle.std.proofs.Common.{◌≡◌, ℕ, suc, ◌+◌, ℤ, pos, Bool, true, false, ◌&&◌, cond, eqb, List, [], ◌∷◌, ◌++◌, length, map, Option, Some, None, Result, Ok, Err, refl, ap, ap₂, sym, subst, ◌∙◌, append_assoc, append-nil, codes, arith}
+use Rattle.std.proofs.Common.{◌≡◌, ℕ, ◌+◌, Bool, true, cond, List, [], ◌∷◌, ◌++◌, length, map, Option, Some, Result, Ok, Err, refl, ap, sym, subst, ◌∙◌, append_assoc, append-nil, arith}
 use Rattle.std.specs.Prelude.{flat_map}
 use Rattle.std.specs.Str.{bytes_eq}
 use Rattle.std.proofs.lemmas.Slice.Eq.{bytes_eq-Decides}
@@ -19,10 +19,10 @@ use Rattle.text_grammar.specs.declared.version.Version.{Version}
 use Rattle.text_grammar.specs.declared.version.Version.TheVariants as version
 use Rattle.text_grammar.specs.declared.fault.TextReason.{TextReason}
 use Rattle.text_grammar.specs.declared.fault.TextReason.TheVariants as reason
-use Rattle.text_grammar.specs.Tokens.{Token, Word, Number, Cell, Mark}
-use Rattle.text_grammar.specs.Written.{Piece, Name, Other, token_of, named, equals, value_pieces, version_number, side_word, root_name, head_lines, root_lines, cell_lines, graph_lines, graph_tokens}
-use Rattle.text_grammar.specs.Readable.{first_type, AreNamed, IsReadable}
-use Rattle.text_grammar.specs.Dues.{Due, This, AVersion, AValue, ACellLine, Reading, root_dues, text_dues, nothing_read, named_type, with_line, went_on_if, why_not, next_read, all_read}
+use Rattle.text_grammar.specs.Tokens.{Token, Word, Cell, Mark}
+use Rattle.text_grammar.specs.Written.{Piece, Name, Other, token_of, named, equals, value_pieces, side_word, root_name, head_lines, root_lines, cell_lines, graph_tokens}
+use Rattle.text_grammar.specs.Readable.{AreNamed, IsReadable}
+use Rattle.text_grammar.specs.Dues.{Due, This, AValue, ACellLine, Reading, root_dues, nothing_read, named_type, with_line, went_on_if, why_not, next_read, all_read}
 use Rattle.text_reader.specs.Values.{reading, have_forms, noted, value_tokens}
 use Rattle.text_reader.proofs.Alike.{go_on, name_read}
 use Rattle.text_reader.proofs.Nodes.{RootsFormed, CellsFormed, readable_formed, Knows, knows_none, home_knows}

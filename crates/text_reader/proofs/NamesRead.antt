@@ -1,7 +1,6 @@
 -- Where a name is due a graph has a name, and nowhere else: a value's tokens are read as pieces.
 -- `v` is a version, `t` a type's number, `l` a node's label, `ks` are its children, `ds` are dues, `p` is a piece, `ps` are pieces.
-use Rattle.std.proofs.Common.{◌≡◌, ℕ, suc, ◌+◌, ℤ, pos, Bool, true, false, cond, eqb, List, [], ◌∷◌, ◌++◌, length, map, replicate, Option, Some, None, Result, Ok, Err, refl, ap, sym, subst, ◌∙◌, append_assoc, codes}
-use Rattle.std.specs.Str.{bytes_eq}
+use Rattle.std.proofs.Common.{◌≡◌, ℕ, pos, Bool, true, false, List, [], ◌∷◌, ◌++◌, map, replicate, Option, Some, None, Result, Ok, Err, refl, ap, sym, subst, ◌∙◌, append_assoc, codes}
 use Rattle.std.proofs.lemmas.Slice.Eq.{bytes_eq-Decides}
 use Rattle.std.proofs.lemmas.Bool.{and_parts}
 use Rattle.nd_types.specs.declared.types.TypeId.{TypeId}
@@ -21,12 +20,12 @@ use Rattle.text_grammar.specs.declared.version.Version.{Version}
 use Rattle.text_grammar.specs.declared.version.Version.TheVariants as version
 use Rattle.text_grammar.specs.declared.fault.TextReason.{TextReason}
 use Rattle.text_grammar.specs.declared.fault.TextReason.TheVariants as reason
-use Rattle.text_grammar.specs.Tokens.{Token, Word, Number, Cell, Str, Bytes, Uuid, Mark}
-use Rattle.text_grammar.specs.Written.{Piece, Name, Other, token_of, comma, colon, equals, separated, members, named, octets_in, writes_octets, list_pieces, array_counts, text_pieces, arm_pieces, pointer_pieces, node_pieces, values_pieces, value_pieces}
+use Rattle.text_grammar.specs.Tokens.{Word, Number, Cell, Str, Bytes, Uuid, Mark}
+use Rattle.text_grammar.specs.Written.{Piece, Name, Other, token_of, comma, colon, equals, separated, members, named, octets_in, writes_octets, list_pieces, array_counts, arm_pieces, node_pieces, values_pieces, value_pieces}
 use Rattle.text_grammar.specs.Readable.{has_offset, has_maximum, has_text_form}
-use Rattle.text_grammar.specs.Dues.{Due, This, ANumber, ACount, AString, SomeBytes, AUuid, ATag, APointer, FirstElement, NextElement, AValue, Reading, opening_bracket, separated_dues, named_due, count_dues, list_dues, value_dues, arm_dues, tag_dues, closes, next_read, all_read, why_not, is_count_token, went_on_if, with_name}
+use Rattle.text_grammar.specs.Dues.{Due, This, ACount, AString, AUuid, FirstElement, NextElement, AValue, Reading, separated_dues, count_dues, list_dues, value_dues, arm_dues, closes, next_read, why_not, is_count_token, went_on_if}
 use Rattle.text_reader.specs.Values.{reading, have_forms, noted_node, noted}
-use Rattle.text_reader.proofs.Alike.{next_open, next_element, shut}
+use Rattle.text_reader.proofs.Alike.{next_open, next_element}
 use Rattle.text_reader.proofs.Forms.{Form, form_of, a_number, an_enum, a_struct, an_array, a_bound_text, a_text, a_union, a_null, a_pointer, a_context, a_pipe}
 use Rattle.text_reader.proofs.ValuesRead.{tail, separated_tail, member_due, member_tail, separated_members}
 

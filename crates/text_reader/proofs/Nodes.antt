@@ -1,6 +1,6 @@
 -- The nodes of a graph and the pointers among them, by one recursion over lists of values.
 -- `t` is a type's number, `l` a node's label, `ks` are its children, `h` is a home, `n` a node's number, `c` a cell's number, `r` a root.
-use Rattle.std.proofs.Common.{◌≡◌, ℕ, zero, suc, ◌+◌, Bool, true, false, ◌&&◌, eqb, List, [], ◌∷◌, ◌++◌, length, map, replicate, Option, Some, None, refl, ap, sym, subst, ◌∙◌, append_assoc, append-nil}
+use Rattle.std.proofs.Common.{◌≡◌, ℕ, zero, suc, ◌+◌, Bool, true, false, eqb, List, [], ◌∷◌, ◌++◌, length, map, replicate, Option, Some, None, refl, ap, sym, subst, ◌∙◌, append_assoc, append-nil}
 use Rattle.std.specs.Prelude.{flat_map}
 use Rattle.std.specs.List.{list_all}
 use Rattle.std.proofs.lemmas.List.{length-map}
@@ -20,7 +20,7 @@ use Rattle.nd_value.specs.Agreement.{Agreement}
 use Rattle.nd_value.specs.Nodes.{TypedNode, child_types, child_agreements, first_agreements, rest_agreements, nodes_of, governed_nodes, home_nodes}
 use Rattle.nd_value.specs.Setting.{Setting, root_list, cell_home}
 use Rattle.nd_value.specs.Deferral.{Pending, pointer_by, pointer, home_pointers}
-use Rattle.nd_value.specs.Homes.{HomeNode, in_home, root_nodes, cell_nodes, all_nodes, root_pointers}
+use Rattle.nd_value.specs.Homes.{HomeNode, in_home, root_nodes, cell_nodes, root_pointers}
 use Rattle.nd_value.specs.Variables.{root_agreements}
 use Rattle.text_grammar.specs.declared.version.Version.{Version}
 use Rattle.text_grammar.specs.Readable.{has_text_form, is_readable_node, is_cell, first_type, AreNamed, IsReadable}

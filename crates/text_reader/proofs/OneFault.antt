@@ -1,14 +1,14 @@
 -- A text has one fault at most.
-use Rattle.std.proofs.Common.{◌≡◌, ◌≢◌, ℕ, suc, ◌+◌, ◌-◌, ◌<◌, ◌≤◌, List, [], ◌∷◌, ◌++◌, length, refl, ap, ap₂, sym, ◌∙◌, subst, arith}
+use Rattle.std.proofs.Common.{◌≡◌, ℕ, ◌<◌, List, length, refl, ap, sym, ◌∙◌, arith}
 use Rattle.nd_base.specs.Text.{position_of}
 use Rattle.nd_value.specs.declared.value.Graph.{Graph}
 use Rattle.nd_value.specs.Setting.{Setting}
 use Rattle.text_grammar.specs.declared.fault.TextReason.{TextReason}
 use Rattle.text_grammar.specs.declared.fault.TextReason.TheVariants as reason
 use Rattle.text_grammar.specs.declared.TheConstants.{TEXT_LIMIT}
-use Rattle.text_grammar.specs.Tokens.{Token, Word, Number, Cell}
-use Rattle.text_grammar.specs.Reads.{ReadsAs, Lexeme, Cut, End, Bad, IsWhole, IsReason, IsFirstFault, IsTextFault}
-use Rattle.text_reader.proofs.OneText.{AreOne, one_fault}
+use Rattle.text_grammar.specs.Tokens.{Token, Cell}
+use Rattle.text_grammar.specs.Reads.{Lexeme, Cut, IsWhole, IsReason, IsFirstFault, IsTextFault}
+use Rattle.text_reader.proofs.OneText.{one_fault}
 use Rattle.text_reader.proofs.OneGraph.{tokens_one}
 
 -- a fault that is not TooLong

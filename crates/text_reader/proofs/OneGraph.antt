@@ -1,6 +1,6 @@
 -- A text is read as one graph at most.
 -- `v` is a version, `w` a setting, `g` and `h` are graphs, `r` is a root, `x` and `y` are values or cells.
-use Rattle.std.proofs.Common.{◌≡◌, ℕ, ◌+◌, pos, Bool, true, List, [], ◌∷◌, ◌++◌, map, Option, Some, None, refl, ap, ap₂, sym, subst, ◌∙◌, codes}
+use Rattle.std.proofs.Common.{◌≡◌, ℕ, ◌+◌, true, List, [], ◌∷◌, ◌++◌, map, refl, ap, ap₂, sym, subst, ◌∙◌}
 use Rattle.std.proofs.lemmas.Option.{same_Some}
 use Rattle.nd_types.specs.declared.types.Param.{Param}
 use Rattle.nd_types.specs.Table.{Table}
@@ -12,9 +12,9 @@ use Rattle.nd_value.specs.Deferral.{Pending, home_pointers}
 use Rattle.nd_value.specs.Homes.{root_pointers}
 use Rattle.text_grammar.specs.declared.version.Version.{Version}
 use Rattle.text_grammar.specs.declared.version.Version.TheVariants as version
-use Rattle.text_grammar.specs.Tokens.{Token, Word, Number, Cell, Mark, cutting, after}
+use Rattle.text_grammar.specs.Tokens.{Token, Cell, cutting, after}
 use Rattle.text_grammar.specs.Written.{Piece, Other, token_of, named, equals, value_pieces, version_number, root_name, head_lines, root_lines, cell_lines, graph_tokens}
-use Rattle.text_grammar.specs.Readable.{first_type, AreNamed, IsReadable}
+use Rattle.text_grammar.specs.Readable.{AreNamed, IsReadable}
 use Rattle.text_grammar.specs.Reads.{ReadsAs}
 use Rattle.text_reader.specs.Values.{have_forms, value_tokens}
 use Rattle.text_reader.proofs.Nodes.{RootsFormed, CellsFormed, readable_formed}

@@ -3,7 +3,7 @@
 use Rattle.std.proofs.Common.{◌≡◌, ℕ, ◌+◌, ◌*◌, ◌<◌, ◌≤◌, Bool, true, false, ◌&&◌, ◌||◌, cond, eqb, List, [], ◌∷◌, length, Option, Some, None, refl, sym, ap, ap₂, subst, ◌∙◌, arith}
 use Rattle.std.proofs.lemmas.Option.{same_Some}
 use Rattle.nd_base.specs.Text.{hex_value, is_hex_digit}
-use Rattle.text_grammar.specs.Tokens.{character, escape, hex_pair, is_plain, IsQuoted, IsString, IsByteString}
+use Rattle.text_grammar.specs.Tokens.{character, escape, hex_pair, is_plain, IsQuoted}
 
 abbrev pub First : Type 0
 First = List ℕ → Option (ℕ × List ℕ)

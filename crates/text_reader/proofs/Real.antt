@@ -1,5 +1,5 @@
 -- The tokens of a text: octets are below 256, and identifiers have 16 of them.
-use Rattle.std.proofs.Common.{◌≡◌, ℕ, suc, ◌+◌, ◌-◌, ◌*◌, ◌<◌, ◌≤◌, ◌^◌, Bool, true, false, not, ◌&&◌, ◌||◌, cond, eqb, List, [], ◌∷◌, ◌++◌, length, Option, Some, None, refl, ap, ap₂, sym, subst, ◌∙◌, arith, nat_le}
+use Rattle.std.proofs.Common.{◌≡◌, ℕ, suc, ◌+◌, ◌-◌, ◌*◌, ◌<◌, ◌≤◌, ◌^◌, Bool, true, false, not, ◌&&◌, ◌||◌, cond, eqb, List, [], ◌∷◌, length, Option, Some, None, refl, ap, sym, subst, ◌∙◌, arith, nat_le}
 use Rattle.std.specs.Prelude.{filter}
 use Rattle.std.specs.List.{list_all}
 use Rattle.std.proofs.lemmas.Bool.{and_parts, and_from, cond-true, cond-false, lt-ltb, leb-true, eqb-true, eq-eqb, ne_eqb}
@@ -7,7 +7,7 @@ use Rattle.std.proofs.lemmas.Bool.Decides.{nat_tests}
 use Rattle.std.proofs.lemmas.Option.{same_Some}
 use Rattle.nd_base.specs.Text.{is_digit, is_hex_digit, hex_value, has_form, uuid_form}
 use Rattle.nd_value.specs.Misfit.{is_octet, is_count}
-use Rattle.text_grammar.specs.Tokens.{Token, Word, Number, Cell, Str, Bytes, Uuid, Mark, Spells, Cutting, cutting, IsCut, Begins, skip, character, escape, hex_pair, is_plain, IsQuoted, hex_octets, uuid_octets}
+use Rattle.text_grammar.specs.Tokens.{Token, Word, Number, Cell, Str, Bytes, Uuid, Mark, Spells, Cutting, IsCut, Begins, skip, character, escape, hex_pair, is_plain, IsQuoted, hex_octets, uuid_octets}
 use Rattle.text_grammar.proofs.Classes.{digit_range}
 use Rattle.text_reader.specs.Real.{is_real}
 use Rattle.text_reader.proofs.Quoted.{First}

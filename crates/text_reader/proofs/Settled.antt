@@ -1,13 +1,12 @@
 -- What the tokens before say of the next one, where a text is read on in the middle.
-use Rattle.std.proofs.Common.{◌≡◌, ℕ, ℤ, Bool, true, false, not, ◌&&◌, ◌||◌, eqb, List, [], ◌∷◌, ◌++◌, refl, ap, ap₂, sym, ◌∙◌, subst, codes}
+use Rattle.std.proofs.Common.{◌≡◌, ℕ, ℤ, Bool, true, false, ◌&&◌, ◌||◌, eqb, List, [], ◌∷◌, refl, ap, ap₂, sym, ◌∙◌, subst, codes}
 use Rattle.std.specs.List.{list_all}
 use Rattle.std.specs.Str.{bytes_eq}
-use Rattle.std.specs.Ordering.{int_eq}
 use Rattle.std.specs.Prelude.{pos}
 use Rattle.std.proofs.lemmas.Bool.{and_left, and_parts, eqb-true, not-true}
 use Rattle.text_grammar.specs.declared.version.Version.{Version}
 use Rattle.text_grammar.specs.declared.version.Version.TheVariants as version
-use Rattle.text_grammar.specs.Tokens.{Token, Word, Number, Cell, Str, Bytes, Uuid, Mark, Cutting, cutting, uuid_due, is_version_two, is_second_version, after}
+use Rattle.text_grammar.specs.Tokens.{Token, Word, Number, Cell, Str, Bytes, Uuid, Mark, cutting, uuid_due, is_version_two, after}
 use Rattle.text_grammar.specs.Written.{version_number}
 use Rattle.text_grammar.specs.Printed.{is_comma}
 use Rattle.text_reader.specs.Settled.{is_two, IsCalm, has_two, IsSettled, is_simple}

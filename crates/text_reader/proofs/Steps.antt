@@ -1,6 +1,6 @@
 -- Where reading comes to its end, each due has taken its tokens: one due of one token.
 -- `y` is what has been read at the end, `ds` are dues, `nb` the cells that have a type, `k` how many have a line, `tok` is a token, `ts` are tokens.
-use Rattle.std.proofs.Common.{◌≡◌, ◌⊎◌, inl, inr, ℕ, suc, ◌+◌, ℤ, pos, negsuc, Bool, true, false, ◌&&◌, cond, eqb, List, [], ◌∷◌, ◌++◌, length, Option, Some, None, Result, Ok, Err, refl, ap, sym, subst, ◌∙◌, codes}
+use Rattle.std.proofs.Common.{◌≡◌, ◌⊎◌, inl, inr, ℕ, ℤ, pos, Bool, true, false, cond, eqb, List, [], ◌∷◌, ◌++◌, Option, Some, None, Ok, Err, refl, ap, sym, ◌∙◌, codes}
 use Rattle.std.specs.List.{list_all}
 use Rattle.std.specs.Str.{bytes_eq}
 use Rattle.std.specs.Ordering.{int_eq}
@@ -12,11 +12,10 @@ use Rattle.nd_types.specs.Table.{Table}
 use Rattle.nd_value.specs.Misfit.{is_count}
 use Rattle.text_grammar.specs.declared.version.Version.{Version}
 use Rattle.text_grammar.specs.declared.version.Version.TheVariants as version
-use Rattle.text_grammar.specs.declared.fault.TextReason.{TextReason}
 use Rattle.text_grammar.specs.declared.fault.TextReason.TheVariants as reason
 use Rattle.text_grammar.specs.Tokens.{Token, Word, Number, Cell, Str, Bytes, Uuid, Mark}
 use Rattle.text_grammar.specs.Written.{Piece, Name, Other, token_of, comma, version_number}
-use Rattle.text_grammar.specs.Dues.{Due, This, AVersion, ANumber, ACount, AString, SomeBytes, AUuid, ATag, APointer, FirstElement, NextElement, AValue, ACellLine, Reading, tag_dues, is_this, why_not, went_on_if, with_version, version_of, with_name, opened, closes, taken_first, next_read, may_end, all_read}
+use Rattle.text_grammar.specs.Dues.{Due, This, AVersion, ANumber, ACount, AString, SomeBytes, AUuid, ATag, APointer, NextElement, AValue, Reading, tag_dues, is_this, why_not, went_on_if, with_version, version_of, opened, taken_first, may_end, all_read}
 use Rattle.text_reader.specs.Values.{reading}
 use Rattle.text_reader.specs.Real.{is_real}
 use Rattle.text_reader.proofs.Alike.{go_on}

@@ -1,6 +1,6 @@
 -- The tokens of a value are those of no other value of its type, whatever follows them.
 -- `t` is a type's number, `l` and `m` are labels, `ks` and `us` lists of values, `ts` and `rs` tokens.
-use Rattle.std.proofs.Common.{◌≡◌, ℕ, suc, ◌+◌, ℤ, pos, negsuc, Bool, true, false, ◌&&◌, cond, eqb, List, [], ◌∷◌, ◌++◌, length, map, replicate, Option, Some, None, refl, ap, ap₂, sym, subst, ◌∙◌, append_assoc, codes}
+use Rattle.std.proofs.Common.{◌≡◌, ℕ, ℤ, pos, negsuc, Bool, true, false, cond, List, [], ◌∷◌, ◌++◌, map, replicate, Option, Some, None, refl, ap, ap₂, sym, subst, ◌∙◌}
 use Rattle.std.proofs.lemmas.Bool.{and_parts, and_from, both_ways, eqb-true}
 use Rattle.nd_types.specs.declared.types.TypeId.{TypeId}
 use Rattle.nd_types.specs.declared.types.TypeDef.{TypeDef}
@@ -16,8 +16,8 @@ use Rattle.nd_value.specs.Tree.{Tree, Trees, node, none, more, count, Label}
 use Rattle.nd_value.specs.Nodes.{child_types, selected_types}
 use Rattle.text_grammar.specs.declared.version.Version.{Version}
 use Rattle.text_grammar.specs.declared.version.Version.TheVariants as version
-use Rattle.text_grammar.specs.Tokens.{Token, Word, Number, Cell, Str, Bytes, Uuid, Mark}
-use Rattle.text_grammar.specs.Written.{Piece, Name, Other, token_of, comma, separated, members, named, octet_in, octets_in, writes_octets, list_pieces, array_counts, arm_pieces, node_pieces, values_pieces, value_pieces}
+use Rattle.text_grammar.specs.Tokens.{Token, Mark}
+use Rattle.text_grammar.specs.Written.{Piece, Other, token_of, separated, members, named, octet_in, octets_in, writes_octets, list_pieces, array_counts, arm_pieces, node_pieces, values_pieces, value_pieces}
 use Rattle.text_grammar.specs.Readable.{has_offset, has_maximum, may_be_elements, is_octet_number, are_octets, has_text_form}
 use Rattle.text_grammar.specs.Dues.{closes}
 use Rattle.text_reader.specs.Values.{have_forms, value_tokens}

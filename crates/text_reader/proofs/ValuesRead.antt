@@ -1,7 +1,6 @@
 -- Where a value is due, its tokens are read, and then what is due after it.
 -- `v` is a version, `t` a type's number, `l` a node's label, `ks` are its children, `ds` are dues, `ts` tokens.
-use Rattle.std.proofs.Common.{◌≡◌, ℕ, suc, ◌+◌, ℤ, pos, Bool, true, false, cond, eqb, List, [], ◌∷◌, ◌++◌, length, map, replicate, Option, Some, None, Result, Ok, Err, refl, ap, sym, subst, ◌∙◌, append_assoc, codes}
-use Rattle.std.specs.Str.{bytes_eq}
+use Rattle.std.proofs.Common.{◌≡◌, ℕ, pos, Bool, true, false, List, [], ◌∷◌, ◌++◌, map, replicate, Option, Some, None, refl, ap, sym, subst, ◌∙◌, append_assoc, codes}
 use Rattle.std.proofs.lemmas.Bool.{and_parts}
 use Rattle.std.proofs.lemmas.List.{map-append}
 use Rattle.nd_types.specs.declared.types.TypeId.{TypeId}
@@ -19,14 +18,12 @@ use Rattle.nd_value.specs.Nodes.{child_types, selected_types}
 use Rattle.nd_value.specs.Misfit.{is_count}
 use Rattle.text_grammar.specs.declared.version.Version.{Version}
 use Rattle.text_grammar.specs.declared.version.Version.TheVariants as version
-use Rattle.text_grammar.specs.declared.fault.TextReason.{TextReason}
-use Rattle.text_grammar.specs.declared.fault.TextReason.TheVariants as reason
 use Rattle.text_grammar.specs.Tokens.{Token, Word, Number, Cell, Str, Bytes, Uuid, Mark}
-use Rattle.text_grammar.specs.Written.{Piece, Name, Other, token_of, comma, colon, equals, separated, members, named, octets_in, writes_octets, list_pieces, array_counts, text_pieces, arm_pieces, pointer_pieces, node_pieces, values_pieces, value_pieces}
+use Rattle.text_grammar.specs.Written.{Piece, Name, Other, token_of, comma, colon, equals, separated, members, named, octets_in, writes_octets, list_pieces, array_counts, arm_pieces, node_pieces, values_pieces, value_pieces}
 use Rattle.text_grammar.specs.Readable.{has_offset, has_maximum, has_text_form}
-use Rattle.text_grammar.specs.Dues.{Due, This, ANumber, ACount, AString, SomeBytes, AUuid, ATag, APointer, FirstElement, NextElement, AValue, Reading, opening_bracket, separated_dues, named_due, count_dues, list_dues, value_dues, arm_dues, tag_dues, closes, all_read, went_on_if, with_name}
+use Rattle.text_grammar.specs.Dues.{Due, This, ACount, AString, AUuid, FirstElement, NextElement, AValue, separated_dues, named_due, count_dues, list_dues, value_dues, arm_dues, closes, all_read}
 use Rattle.text_reader.specs.Values.{reading, have_forms, noted_node, noted, value_tokens}
-use Rattle.text_reader.proofs.Alike.{go_on, all_open, all_element, name_read, count_read}
+use Rattle.text_reader.proofs.Alike.{all_open, all_element, name_read, count_read}
 use Rattle.text_reader.proofs.Forms.{Form, form_of, a_number, an_enum, a_struct, an_array, a_bound_text, a_text, a_union, a_null, a_pointer, a_context, a_pipe}
 
 -- ## Lists with a comma between each two, from their second item on

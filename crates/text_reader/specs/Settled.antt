@@ -1,6 +1,6 @@
 -- Where a text is read on in the middle: its version is known, and no UUID is due.
 -- `v` is a version, `t` a token, `before` are the tokens before, the last first.
-use Rattle.std.specs.Prelude.{◌≡◌, ℕ, ℤ, Bool, true, false, not, ◌==◌, List, [], ◌∷◌}
+use Rattle.std.specs.Prelude.{◌≡◌, ℤ, Bool, true, false, not, ◌==◌, List, ◌∷◌}
 use Rattle.text_grammar.specs.declared.version.Version.{Version}
 use Rattle.text_grammar.specs.declared.version.Version.TheVariants as version
 use Rattle.text_grammar.specs.Tokens.{Token, Word, Number, Cell, Str, Bytes, Uuid, Mark, uuid_due, is_version_two}

@@ -1,6 +1,6 @@
 -- Values as they are read: their forms and the pointers among them, by one recursion over lists of values.
 -- `v` is a version, `d` a type, `t` a type's number, `l` a node's label, `ks` are its children, `ds` are dues, `c` is a cell's number.
-use Rattle.std.specs.Prelude.{ℕ, Bool, true, false, ◌&&◌, List, [], ◌∷◌, map, Option, Some, None}
+use Rattle.std.specs.Prelude.{ℕ, Bool, true, false, ◌&&◌, List, [], ◌∷◌, map, Option, Some}
 use Rattle.nd_types.specs.declared.types.TypeDef.{TypeDef}
 use Rattle.nd_types.specs.declared.types.TypeDef.TheVariants as def
 use Rattle.nd_types.specs.Table.{Table, type_at}
