@@ -6,7 +6,8 @@
 
 The lines of `rt ci` carry no times, and it says when a proof ends but not when it begins. So `--stamp` puts the seconds since
 its start before each line, and every two seconds adds a line on the checks that run: `CRATE proof`, `CRATE tests` or
-`CRATE edits`. It looks at the processes of its own pipeline only. bench/README.md says how to read the table.
+`CRATE edits`, each with the seconds of a processor that it has used since the line before. It looks at the processes of its own
+pipeline only. bench/README.md says how to read the table.
 """
 
 from __future__ import annotations
@@ -19,7 +20,7 @@ import threading
 import time
 from dataclasses import dataclass, field
 from pathlib import Path
-from typing import Dict, Iterator, List, Optional, Tuple
+from typing import Dict, Iterable, List, Optional, Tuple
 
 ROOT = Path(__file__).resolve().parent.parent
 SECONDS = 2.0
@@ -41,6 +42,7 @@ class Process:
     parent: int
     group: int
     words: List[str]
+    seconds: float  # of a processor, with those of its children that have ended
 
 
 def processes() -> Dict[int, Process]:
@@ -54,7 +56,8 @@ def processes() -> Dict[int, Process]:
             words = Path(f"/proc/{name}/cmdline").read_bytes().decode("utf-8", "replace").split("\0")
         except (OSError, ValueError):
             continue  # it has ended
-        found[int(name)] = Process(int(rest[1]), int(rest[2]), words)
+        seconds = sum(map(int, rest[11:15])) / os.sysconf("SC_CLK_TCK")
+        found[int(name)] = Process(int(rest[1]), int(rest[2]), words, seconds)
     return found
 
 
@@ -72,18 +75,34 @@ def is_ours(found: Dict[int, Process], number: int) -> bool:
     return False
 
 
-def checks() -> Iterator[Tuple[str, str]]:
-    """The checks of this pipeline that run: crate and work, each as often as it runs."""
+def root_check(found: Dict[int, Process], number: int) -> Optional[int]:
+    """The check that a process is a part of: the prover above it that no prover has started."""
+    root = None
+    while number in found and number > 1:
+        root = number if is_prover(found[number]) else root
+        number = found[number].parent
+    return root
+
+
+def checks() -> Dict[int, Tuple[str, float]]:
+    """The checks of this pipeline that run, by process: crate and work, and the seconds of a processor that its processes have used."""
     found = processes()
+    running: Dict[int, Tuple[str, float]] = {}
     for number, process in found.items():
-        if not is_prover(process) or is_prover(found.get(process.parent)) or not is_ours(found, number):
+        root = root_check(found, number)
+        if root is None or not is_ours(found, root):
             continue
-        crate = process.words[process.words.index("--crate-name") + 1]
-        try:
-            folder = os.path.basename(os.readlink(f"/proc/{number}/cwd"))
-        except OSError:
-            continue  # it has ended
-        yield crate, "edits" if folder.startswith("rt-edit") else "tests" if "--test" in process.words else "proof"
+        if root not in running:
+            words = found[root].words
+            try:
+                folder = os.path.basename(os.readlink(f"/proc/{root}/cwd"))
+            except OSError:
+                continue  # it has ended
+            work = "edits" if folder.startswith("rt-edit") else "tests" if "--test" in words else "proof"
+            running[root] = (f"{words[words.index('--crate-name') + 1]} {work}", 0.0)
+        name, seconds = running[root]
+        running[root] = (name, seconds + process.seconds)
+    return running
 
 
 def stamp() -> None:
@@ -95,12 +114,13 @@ def stamp() -> None:
             print(f"{time.monotonic() - began:9.1f} {text}", flush=True)
 
     def watch() -> None:
-        last = time.monotonic()
+        last, before = time.monotonic(), {}
         while not ended.wait(SECONDS):
-            running, now = [f"{crate} {work}" for crate, work in checks()], time.monotonic()
+            running, now = checks(), time.monotonic()
+            used = {number: max(seconds - before.get(number, ("", 0.0))[1], 0.0) for number, (_, seconds) in running.items()}
             if running:
-                tell(f"[running {now - last:.1f}] {', '.join(sorted(running))}")
-            last = now
+                tell(f"[running {now - last:.1f}] {', '.join(sorted(f'{name} {used[it]:.1f}' for it, (name, _) in running.items()))}")
+            last, before = now, running
 
     watcher = threading.Thread(target=watch, daemon=True)
     watcher.start()
@@ -119,6 +139,7 @@ class Times:
     """What a log says of a crate: seconds of each work, and what `rt ci` answered."""
 
     seconds: Dict[str, float] = field(default_factory=dict)  # while at least one check of this work ran
+    used: Dict[str, float] = field(default_factory=dict)  # seconds of a processor that its checks used
     edits: int = 0  # must-fail edits that were tried, in this run or an earlier one
     proved_at: Optional[float] = None
     state: str = ""  # kept, NOT PROVED, or nothing
@@ -135,10 +156,12 @@ def read_log(lines: List[str]) -> Tuple[Dict[str, Times], float]:
         end, text = float(stamped["at"]), stamped["text"]
         running, proved, kept, tried = (form.match(text) for form in (RUNNING, PROVED, KEPT, TRIED))
         if running:
-            for check in sorted(set(running["checks"].split(", "))):
-                crate, _, work = check.partition(" ")
+            parts = [check.split(" ") for check in running["checks"].split(", ")]
+            for crate, work in sorted({(part[0], part[1]) for part in parts}):
                 seconds = crates.setdefault(crate, Times()).seconds
                 seconds[work] = seconds.get(work, 0.0) + float(running["seconds"])
+            for crate, work, used in (part for part in parts if len(part) == 3):
+                crates[crate].used[work] = crates[crate].used.get(work, 0.0) + float(used)
         elif proved:
             times = crates.setdefault(proved["crate"], Times())
             times.state = "NOT PROVED" if proved["not"] else times.state
@@ -177,22 +200,29 @@ def minutes(seconds: Optional[float]) -> str:
     return "-" if seconds is None else f"{seconds / 60:.1f}"
 
 
+def totals(times: Iterable[Dict[str, float]]) -> List[float]:
+    """The sum of each work."""
+    every = list(times)
+    return [sum(it.get(work, 0.0) for it in every) for work in WORKS]
+
+
 def report(crates: Dict[str, Times], uses: Dict[str, List[str]], end: float) -> None:
     """Prints the table and the chain."""
-    print("| Crate | Proof | Tests | Must-fail edits | Number | State |\n|---|---:|---:|---:|---:|---|")
+    print("| Crate | Proof | Tests | Must-fail edits | Proof, processor | Tests, processor | Edits, processor | Number | State |")
+    print("|---|---:|---:|---:|---:|---:|---:|---:|---|")
     for name in sorted(crates, key=lambda it: [*uses, it].index(it)):
         times = crates[name]
-        cells = [minutes(times.seconds.get(work)) for work in WORKS]
+        cells = [minutes(of.get(work)) for of in (times.seconds, times.used) for work in WORKS]
         print(f"| `{name}` | {' | '.join(cells)} | {times.edits or '-'} | {times.state} |")
-    sums = [sum(times.seconds.get(work, 0.0) for times in crates.values()) for work in WORKS]
+    sums = totals(it.seconds for it in crates.values()) + totals(it.used for it in crates.values())
     print(f"| all | {' | '.join(map(minutes, sums))} | {sum(times.edits for times in crates.values()) or '-'} | |")
-    proofs = {name: times.seconds.get("proof", 0.0) for name, times in crates.items()}
+    proofs = {name: times.used.get("proof", times.seconds.get("proof", 0.0)) for name, times in crates.items()}
     chain = longest_chain(uses, proofs)
     if not chain:
         return
     print(f"\nThe whole run: {minutes(end)} minutes.")
     steps = " -> ".join(f"{name} {minutes(proofs.get(name, 0.0))}" for name in chain)
-    print(f"The longest chain of proofs: {steps}: {minutes(sum(proofs.get(name, 0.0) for name in chain))} minutes.")
+    print(f"The longest chain of proofs: {steps}: {minutes(sum(proofs.get(name, 0.0) for name in chain))} minutes of a processor.")
     rest = {(name, work): crates[name].seconds.get(work, 0.0) for name in crates for work in WORKS[1:]}
     (name, work), longest = max(rest.items(), key=lambda it: it[1])
     print(f"The longest work beside the proofs: {work} of {name}, {minutes(longest)} minutes.")

@@ -8,27 +8,27 @@ from pathlib import Path
 from case import ROOT, Check
 
 LOG = """\
-      2.0 [running 60.0] nd_base proof
+      2.0 [running 60.0] nd_base proof 45.0
      62.0 rt: nd_base proved
-     64.0 [running 120.0] idl_lexer proof, nd_base tests
+     64.0 [running 120.0] idl_lexer proof 90.0, nd_base tests 60.0
     184.0 rt: idl_lexer proved
     185.0 rt: nd_base: its tests are proved
     186.0 rt: phrases is kept: an earlier run on this machine proved the same files over the same libraries
-    190.0 [running 30.0] idl_lexer edits, idl_lexer edits
+    190.0 [running 30.0] idl_lexer edits 24.0, idl_lexer edits 30.0
     220.0 rt: must-fail idl_lexer/any_escape.edit: refused, as it must be
     221.0 rt: idl_parser NOT PROVED
 """
 TABLE = """\
-| Crate | Proof | Tests | Must-fail edits | Number | State |
-|---|---:|---:|---:|---:|---|
-| `nd_base` | 1.0 | 2.0 | - | - |  |
-| `idl_lexer` | 2.0 | - | 0.5 | 1 |  |
-| `phrases` | - | - | - | - | kept |
-| `idl_parser` | - | - | - | - | NOT PROVED |
-| all | 3.0 | 2.0 | 0.5 | 1 | |
+| Crate | Proof | Tests | Must-fail edits | Proof, processor | Tests, processor | Edits, processor | Number | State |
+|---|---:|---:|---:|---:|---:|---:|---:|---|
+| `nd_base` | 1.0 | 2.0 | - | 0.8 | 1.0 | - | - |  |
+| `idl_lexer` | 2.0 | - | 0.5 | 1.5 | - | 0.9 | 1 |  |
+| `phrases` | - | - | - | - | - | - | - | kept |
+| `idl_parser` | - | - | - | - | - | - | - | NOT PROVED |
+| all | 3.0 | 2.0 | 0.5 | 2.2 | 1.0 | 0.9 | 1 | |
 
 The whole run: 3.7 minutes.
-The longest chain of proofs: nd_base 1.0 -> idl_lexer 2.0: 3.0 minutes.
+The longest chain of proofs: nd_base 0.8 -> idl_lexer 1.5: 2.2 minutes of a processor.
 The longest work beside the proofs: tests of nd_base, 2.0 minutes.
 """
 
