@@ -1,6 +1,6 @@
 -- A list: struct node { long value; [unique] node *next; } under an operation take([in, unique] node *head); and pointers to one cell, under
 -- point([in] unsigned long n, [in, size_is(n)] leaf a[*]), where leaf is [ptr] long *.
-use Rattle.std.specs.Prelude.{◌≡◌, ℕ, false, List, [], ◌∷◌, ◌++◌, None, codes}
+use Rattle.std.specs.Prelude.{◌≡◌, ℕ, pos, false, List, [], ◌∷◌, ◌++◌, Some, None, codes}
 use Rattle.std.specs.List.{AllByRecursion}
 use Rattle.nd_types.specs.declared.types.TypeId.{TypeId}
 use Rattle.nd_types.specs.declared.types.TypeDef.{TypeDef}
@@ -12,6 +12,7 @@ use Rattle.nd_types.specs.declared.types.Way.TheVariants as way
 use Rattle.nd_types.specs.declared.types.Operation.{Operation}
 use Rattle.nd_types.specs.Table.{Table}
 use Rattle.nd_types.specs.Kinds.{basic_types}
+use Rattle.nd_value.specs.Tree as tree
 use Rattle.nd_value.specs.Tree.{Tree, Referent, more, none, node_count, trees}
 
 abbrev pub id : ℕ → TypeId
@@ -52,3 +53,15 @@ AreNodes xs = AllByRecursion IsNode xs
 -- so many values of one node each
 abbrev pub AreLeaves : List Tree → ℕ → Type 0
 AreLeaves ts n = node_count (trees ts) ≡ n
+
+abbrev pub to_first : Tree
+to_first = tree.node (tree.Ptr (Some 1)) none
+
+abbrev pub number : ℕ → Tree
+number n = tree.node (tree.Num (pos n)) none
+
+abbrev pub array : ℕ → List Tree → Tree
+array n ts = tree.node (tree.Arr n 0) (trees ts)
+
+abbrev pub one_leaf : Referent
+one_leaf = record { of = 7; val = number 5 }

@@ -1,8 +1,8 @@
 // The graphs that are measured.
-ghost use Rattle.std.specs.Prelude.{◌≡◌, ◌+◌, ◌≤◌, ◌<◌, ◌^◌, length, IfOk};
+ghost use Rattle.std.specs.Prelude.{◌≡◌, ◌<◌, ◌^◌, [], ◌∷◌, length, IfOk};
 ghost use Rattle.nd_value.specs.Conforms.{HasFewNodes};
 ghost use Rattle.nd_value.specs.Seen.{cell_of};
-ghost use Rattle.graph_bench.specs.List.{IsNode, AreNodes, AreLeaves};
+ghost use Rattle.graph_bench.specs.List.{IsNode, AreNodes, AreLeaves, to_first, number, array, one_leaf};
 
 use nd_base::Memory;
 use nd_graph::{Cell, CellId, Cells, Graph, Val, Vals};
@@ -23,14 +23,20 @@ pub(crate) fn list(alloc: Global, form: Form) -> Result<Graph, Memory>
     ensures cells { IfOk result (λ g. length g.cells ≡ form.count) }
     ensures few { IfOk result (λ g. HasFewNodes g) }
 {
-    let mut roots = Vals::new(alloc);
-    let Ok(()) = roots.push(Val::Ptr(Some(CellId(1)))) else {
+    let roots = head(alloc)?;
+    let cells = cells(alloc, form)?;
+    Ok(Graph { roots, cells })
+}
+
+// A pointer to the first cell.
+fn head(alloc: Global) -> Result<Vals, Memory>
+    ensures { IfOk result (λ vs. vs ≡ to_first ∷ []) }
+{
+    let mut vals = Vals::new(alloc);
+    let Ok(()) = vals.push(Val::Ptr(Some(CellId(1)))) else {
         return Err(Memory);
     };
-    Ok(Graph {
-        roots,
-        cells: cells(alloc, form)?,
-    })
+    Ok(vals)
 }
 
 #[tactic(auto, using(crate::proofs::ListNodes::more_nodes))]
@@ -76,15 +82,32 @@ pub(crate) fn pointers(alloc: Global, count: u32) -> Result<Graph, Memory>
     ensures cells { IfOk result (λ g. length g.cells ≡ 1) }
     ensures few { IfOk result (λ g. HasFewNodes g) }
 {
+    let items = leaves(alloc, count)?;
+    let roots = counted(alloc, count, items)?;
+    let cells = leaf(alloc)?;
+    Ok(Graph { roots, cells })
+}
+
+// A count, and an array of as many elements.
+fn counted(alloc: Global, count: u32, items: Vals) -> Result<Vals, Memory>
+    ensures { IfOk result (λ vs. vs ≡ number count ∷ array count items ∷ []) }
+{
     let array = Val::Arr {
         max: count,
         offset: 0,
-        items: leaves(alloc, count)?,
+        items,
     };
-    let mut roots = Vals::new(alloc);
-    if roots.push(Val::Num(i128::from(count))).is_err() || roots.push(array).is_err() {
+    let mut vals = Vals::new(alloc);
+    if vals.push(Val::Num(i128::from(count))).is_err() || vals.push(array).is_err() {
         return Err(Memory);
     }
+    Ok(vals)
+}
+
+// One cell, a number.
+fn leaf(alloc: Global) -> Result<Cells, Memory>
+    ensures { IfOk result (λ cs. cs ≡ one_leaf ∷ []) }
+{
     let cell = Cell {
         of: TypeId(7),
         val: Val::Num(5),
@@ -93,7 +116,7 @@ pub(crate) fn pointers(alloc: Global, count: u32) -> Result<Graph, Memory>
     let Ok(()) = cells.push(cell) else {
         return Err(Memory);
     };
-    Ok(Graph { roots, cells })
+    Ok(cells)
 }
 
 // So many pointers to the first cell, as elements.

@@ -2,6 +2,8 @@
 //! each takes for a node, and how many a copy of as many octets as the nodes take.
 #![tactic(auto)]
 
+ghost use Rattle.std.specs.Prelude.{◌<◌, ◌^◌};
+
 mod interface;
 mod list;
 mod measure;
@@ -36,7 +38,9 @@ fn main(rt: HostRuntime) -> io::Result<()> {
 }
 
 // Measures one graph.
-fn measured(rt: &HostRuntime, form: u32, count: u32) -> io::Result<()> {
+fn measured(rt: &HostRuntime, form: u32, count: u32) -> io::Result<()>
+    requires { count < 2 ^ 31 }
+{
     match form {
         0 => measured_list(
             rt,

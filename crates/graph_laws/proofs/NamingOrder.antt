@@ -202,11 +202,11 @@ module _ (w : Setting) (g : Graph) where
         (subst (λ u. AllByRecursion (Pointee g) (home_pointers w.table (cell_home (suc j)) u x.val)) s
         (cell_pointees g w.table 1 g.cells j x t fit_cells (cell_home (suc j))))
 
-    root_due : (i : ℕ) (rs : List Root) (vs : List Tree) (j : ℕ) (r : Root) (v : Tree) → slice_get rs j ≡ Some r → slice_get vs j ≡ Some v
+    value_due : (i : ℕ) (rs : List Root) (vs : List Tree) (j : ℕ) (r : Root) (v : Tree) → slice_get rs j ≡ Some r → slice_get vs j ≡ Some v
         → AllByRecursion (Fits g w.table) (root_nodes w g i rs vs) → (h : Home) → AllByRecursion (Pointee g) (home_pointers w.table h r.of v) × PointerFits w.table g r.of (label_of v)
-    root_due i [] vs j r v e f a h = cc
-    root_due i (q ∷ rs) [] j r v e f a h = cc
-    root_due i (q ∷ rs) (u ∷ vs) zero r v e f a h =
+    value_due i [] vs j r v e f a h = cc
+    value_due i (q ∷ rs) [] j r v e f a h = cc
+    value_due i (q ∷ rs) (u ∷ vs) zero r v e f a h =
         let own : List HomeNode = map (in_home (home.Root i)) (nodes_of w.table (q.of ∷ []) (root_agreements w g q.vars ∷ []) 0 (more u none)) in
         let b = all_map (Fits g w.table) (in_home (home.Root i)) _ (all_left (Fits g w.table) own (root_nodes w g (i + 1) rs vs) a) in
         subst (λ (x : Root). AllByRecursion (Pointee g) (home_pointers w.table h x.of v) × PointerFits w.table g x.of (label_of v)) (same_Some _ _ e)
@@ -215,9 +215,9 @@ module _ (w : Setting) (g : Graph) where
       where
         first_fits : (u : Tree) → AllByRecursion (λ x. PointerFits w.table g x.of x.label) (nodes_of w.table (q.of ∷ []) (root_agreements w g q.vars ∷ []) 0 (more u none)) → PointerFits w.table g q.of (label_of u)
         first_fits (node l ks) b = b.0
-    root_due i (q ∷ rs) (u ∷ vs) (suc j) r v e f a h =
+    value_due i (q ∷ rs) (u ∷ vs) (suc j) r v e f a h =
         let own : List HomeNode = map (in_home (home.Root i)) (nodes_of w.table (q.of ∷ []) (root_agreements w g q.vars ∷ []) 0 (more u none)) in
-        root_due (i + 1) rs vs j r v e f (all_right (Fits g w.table) own (root_nodes w g (i + 1) rs vs) a) h
+        value_due (i + 1) rs vs j r v e f (all_right (Fits g w.table) own (root_nodes w g (i + 1) rs vs) a) h
 
     -- the root of an index, and its value
     module _ (i : ℕ) (r : Root) (v : Tree) (er : slice_get (root_list w) i ≡ Some r) (ev : slice_get g.roots i ≡ Some v) where
@@ -231,7 +231,7 @@ module _ (w : Setting) (g : Graph) where
       names_are h = root_named 0 (root_list w) g.roots i r v er ev roots_good h
 
       its_due : (h : Home) → AllByRecursion (Pointee g) (home_pointers w.table h r.of v) × PointerFits w.table g r.of (label_of v)
-      its_due h = root_due 0 (root_list w) g.roots i r v er ev fit_roots h
+      its_due h = value_due 0 (root_list w) g.roots i r v er ev fit_roots h
 
       module _ (done : Placed_cells) (due : List Due) (ns : List ℕ) (a : AllByRecursion IsDue due) where
         abbrev Later : Standing → Type 0

@@ -1,4 +1,3 @@
-use Rattle.std.proofs.Common.{◌≡◌}
 use Rattle.graph_bench.specs.List.{AreLeaves}
 use Rattle.graph_bench.proofs.list.leaves.Given as goal
 
