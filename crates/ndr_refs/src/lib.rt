@@ -2,7 +2,5 @@
 #![tactic(auto)]
 
 mod referents;
-#[cfg(test)]
-mod tests;
 
 pub use referents::{RefFault, Referents};
