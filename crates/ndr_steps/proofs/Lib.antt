@@ -16,3 +16,4 @@ pub mod Lacking
 pub mod PlanRuns
 pub mod Begins
 pub mod Worked
+pub mod Bounds

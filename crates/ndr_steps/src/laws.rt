@@ -1,5 +1,5 @@
 //! Laws of the steps, each the contract of a function that does nothing.
-ghost use Rattle.std.specs.Prelude.{◌≡◌, ℕ, true, false, List, [], ◌∷◌, ◌++◌, length, slice_get, Some};
+ghost use Rattle.std.specs.Prelude.{◌≡◌, ◌≤◌, ◌<◌, ℕ, suc, true, false, List, [], ◌∷◌, ◌++◌, length, slice_get, Some};
 ghost use Rattle.nd_base.specs.declared.octets.Order.{Order};
 ghost use Rattle.nd_base.specs.declared.TheConstants.{STREAM_LIMIT};
 ghost use Rattle.nd_types.specs.declared.types.Operation.{Operation};
@@ -54,4 +54,12 @@ pub fn homes_begin()
     ensures hoisting { (order : Order) (fetched : List ℕ) (code : List Instr) (values : List EnumList) (table : Table) (h : Home) (own : ℕ) → IsPlanned code values table
         → (s : State) (seen : List EntryAt) (names : Names) → IsFine table 32 own → IsBegun order fetched h seen names s → hoists table own ≡ true
         → IsRunAt code s.pc (Hoist ∷ Call (place_at table own) ∷ Ret ∷ []) → Good order fetched code table h own 32 (λ octets. read_whole order octets table h own (going s.at seen) names) s }
+{}
+
+/// A state that means something is at an address of the code, and at most one frame more is open than values nest.
+pub fn states_are_within()
+    ensures address { (order : Order) (fetched : List ℕ) (code : List Instr) (table : Table) (h : Home) (own limit : ℕ) (target : List ℕ → Read) (s : State) → Good order fetched code table h own limit target s
+        → s.pc < length code }
+    ensures frames { (order : Order) (fetched : List ℕ) (code : List Instr) (table : Table) (h : Home) (own limit : ℕ) (target : List ℕ → Read) (s : State) → Good order fetched code table h own limit target s
+        → length s.stack ≤ suc limit }
 {}
