@@ -1,0 +1,4 @@
+pub mod FirstTokens
+pub mod Scanning
+pub mod Shown
+pub mod OneStep
