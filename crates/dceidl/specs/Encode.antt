@@ -14,6 +14,7 @@ use Rattle.nd_value.specs.Conforms.{Conforms}
 use Rattle.nd_value.specs.FirstMisfit.{IsFirstMisfit}
 use Rattle.nd_grammar.specs.Chosen.{Chosen}
 use Rattle.nd_base.specs.Text.{joined}
+use Rattle.value_text.specs.Printed.{IsText}
 use Rattle.value_text.specs.Reads.{ReadsAs, IsTextFault}
 use Rattle.dceidl.specs.declared.refusal.Refusal.{Refusal}
 use Rattle.dceidl.specs.declared.refusal.Refusal.TheVariants.{Memory, BadText, BadValue}
@@ -67,3 +68,10 @@ pub record IsEncoding (w : Setting) (order : Order) (chunk : ℕ) (text octets :
   pub reads : ReadsAs w text graph
   pub conforms : Conforms w graph
   pub chosen : Chosen w order chunk graph octets
+
+-- The text reads as a graph that conforms, and what is made is that graph's text as it is printed.
+pub record IsMigration (w : Setting) (text made : List ℕ) : Type 0 where
+  pub graph : Graph
+  pub reads : ReadsAs w text graph
+  pub conforms : Conforms w graph
+  pub printed : IsText w graph made

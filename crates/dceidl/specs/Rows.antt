@@ -22,7 +22,7 @@ use Rattle.dceidl.specs.Idl.{Means, IsIdlFault, IsDueFile}
 use Rattle.dceidl.specs.Lines.{status_of, line_of}
 use Rattle.dceidl.specs.Ready.{IsNamed}
 use Rattle.dceidl.specs.Seen.{Seen}
-use Rattle.dceidl.specs.Words.{Command, FileNames, Subject, Read, Encode, Compile, Plan, Help, Version, asks_files, asks_input, idl_of, op_of, order_in}
+use Rattle.dceidl.specs.Words.{Command, FileNames, Subject, Read, Write, Compile, Plan, Help, Version, asks_files, asks_input, idl_of, op_of, order_in}
 use Rattle.dceidl.specs.declared.refusal.Refusal.{Refusal}
 use Rattle.dceidl.specs.declared.refusal.Refusal.TheVariants.{BadIdl, NoOperation, NotBuilt, BadOctets, BadText, BadValue}
 
@@ -113,7 +113,7 @@ abbrev pub CanBeDone : Seen → Command → Type 0
 CanBeDone x (Read how of order) =
     (w : Setting) × (octets : List ℕ) × (g : Graph) × IsAccepted x.files of w × IsInput x.input STREAM_LIMIT octets
     × Represents w (order_in order) octets g × Conforms w g
-CanBeDone x (Encode of order chunk) =
+CanBeDone x (Write how of) =
     (w : Setting) × (text : List ℕ) × (g : Graph) × IsAccepted x.files of w × IsInput x.input TEXT_LIMIT text × ReadsAs w text g × Conforms w g
 CanBeDone x (Compile idl acf) = (text : List ℕ) × (i : Interface) × IsHeld x.files idl text × Means x.files.held idl text acf i
 CanBeDone x (Plan idl acf) = (text : List ℕ) × (i : Interface) × IsHeld x.files idl text × Means x.files.held idl text acf i
@@ -140,11 +140,11 @@ abbrev pub MustBeRefused : Seen → Command → Refusal → Type 0
 MustBeRefused x (Read how of order) (BadOctets place why) =
     (w : Setting) × (octets : List ℕ) × IsAccepted x.files of w × IsInput x.input STREAM_LIMIT octets × IsRefusedAt w (order_in order) octets place why
 MustBeRefused x (Read how of order) r = MustBeUnready x.files of r
-MustBeRefused x (Encode of order chunk) (BadText line column why) =
+MustBeRefused x (Write how of) (BadText line column why) =
     (w : Setting) × (text : List ℕ) × IsAccepted x.files of w × IsInput x.input TEXT_LIMIT text × IsTextFault w text line column why
-MustBeRefused x (Encode of order chunk) (BadValue path why) =
+MustBeRefused x (Write how of) (BadValue path why) =
     (w : Setting) × (text : List ℕ) × (g : Graph) × IsAccepted x.files of w × IsInput x.input TEXT_LIMIT text × ReadsAs w text g × IsMisfitAt w g path why
-MustBeRefused x (Encode of order chunk) r = MustBeUnready x.files of r
+MustBeRefused x (Write how of) r = MustBeUnready x.files of r
 MustBeRefused x (Compile idl acf) r = MustBeNoIdl x.files idl acf r
 MustBeRefused x (Plan idl acf) r = MustBeNoIdl x.files idl acf r
 MustBeRefused x Help r = ⊥

@@ -1,14 +1,17 @@
 // Encoding: the text of the input is read, its values are fitted to the operation, and encoded.
-ghost use Rattle.std.specs.Prelude.{◌≡◌, ◌<◌, ◌≤◌, ◌^◌, [], ◌∷◌, length, Some, None, IfOk, IfErr, codes, decimal};
+ghost use Rattle.std.specs.Prelude.{◌≡◌, ℕ, ◌<◌, ◌≤◌, ◌^◌, List, [], ◌∷◌, length, Some, None, IfOk, IfErr, codes, decimal};
 ghost use Rattle.std.specs.List.{slice_get};
 ghost use Rattle.nd_types.specs.declared.types.Operation.{Operation};
 ghost use Rattle.nd_types.specs.Numbers.{IsNumberSide};
 ghost use Rattle.nd_types.specs.Walk.{named_roots};
 ghost use Rattle.nd_value.specs.Conforms.{Conforms, HasFewNodes};
+ghost use Rattle.nd_value.specs.Setting.{Setting};
 ghost use Rattle.nd_grammar.specs.Chosen.{Chosen};
+ghost use Rattle.value_text.specs.Printed.{IsText};
+ghost use Rattle.value_text.specs.Reads.{IsFault};
 ghost use Rattle.nd_value.specs.Fitting.{setting_of};
 ghost use Rattle.nd_base.specs.Text.{joined};
-ghost use Rattle.dceidl.specs.Encode.{IsEncoding, IsTextCause, IsValueCause, IsReportedAsValue, home_path, root_path as name_of};
+ghost use Rattle.dceidl.specs.Encode.{IsEncoding, IsMigration, IsTextCause, IsValueCause, IsReportedAsValue, home_path, root_path as name_of};
 
 use crate::ready::Ready;
 use crate::refusal::Refusal;
@@ -17,7 +20,7 @@ use nd_base::text::join;
 use nd_base::{Memory, Octets, Order};
 use nd_graph::{CellId, Fit, Graph, Home, Misfit, fit};
 use std::alloc::Global;
-use value_text::{TextFault, read_text};
+use value_text::{TextFault, print, read_text};
 
 // The octets of the values that a text states.
 pub(crate) fn encode(
@@ -37,18 +40,66 @@ pub(crate) fn encode(
 {
     match read_text(alloc, &ready.interface, ready.number, ready.side, text) {
         Ok(graph) => encode_graph(alloc, ready, order, chunk, graph),
-        Err(TextFault::Memory) => Err(Refusal::Memory),
-        Err(
-            TextFault::At {
-                line,
-                column,
-                reason,
-            },
-        ) => Err(Refusal::BadText {
+        Err(fault) => Err(text_refused(fault)),
+    }
+}
+
+// The values that a text states, as they are printed.
+pub(crate) fn migrate(alloc: Global, ready: &Ready, text: &[u8]) -> Result<Octets, Refusal>
+    requires built { IsNumberSide ready.now.interface.types ready.now.interface.operations ready.now.number ready.now.side }
+    requires known { ready.now.number < length ready.now.interface.operations }
+    ensures done { (o : Operation) → slice_get ready.now.interface.operations ready.now.number ≡ Some o
+        → IfOk result (IsMigration (setting_of ready.now.interface o ready.now.side) text.now) }
+    ensures refused { (o : Operation) → slice_get ready.now.interface.operations ready.now.number ≡ Some o
+        → IfErr result (IsTextCause (setting_of ready.now.interface o ready.now.side) text.now) }
+{
+    match read_text(alloc, &ready.interface, ready.number, ready.side, text) {
+        Ok(graph) => print_graph(alloc, ready, graph),
+        Err(fault) => Err(text_refused(fault)),
+    }
+}
+
+// Why a text was not read, as a refusal.
+fn text_refused(fault: TextFault) -> Refusal
+    ensures { (w : Setting) (text : List ℕ) → IsFault w text fault → IsTextCause w text result }
+{
+    match fault {
+        TextFault::Memory => Refusal::Memory,
+        TextFault::At {
             line,
             column,
             reason,
-        }),
+        } => Refusal::BadText {
+            line,
+            column,
+            reason,
+        },
+    }
+}
+
+// The text of a graph, where it conforms.
+fn print_graph(alloc: Global, ready: &Ready, graph: Graph) -> Result<Octets, Refusal>
+    requires built { IsNumberSide ready.now.interface.types ready.now.interface.operations ready.now.number ready.now.side }
+    requires known { ready.now.number < length ready.now.interface.operations }
+    requires few_cells { length graph.cells < 2 ^ 32 }
+    requires few_nodes { HasFewNodes graph }
+    ensures conforms { (o : Operation) → slice_get ready.now.interface.operations ready.now.number ≡ Some o
+        → IfOk result (λ _. Conforms (setting_of ready.now.interface o ready.now.side) graph) }
+    ensures printed { (o : Operation) → slice_get ready.now.interface.operations ready.now.number ≡ Some o
+        → IfOk result (IsText (setting_of ready.now.interface o ready.now.side) graph) }
+    ensures refused { (o : Operation) → slice_get ready.now.interface.operations ready.now.number ≡ Some o
+        → IfErr result (IsValueCause (setting_of ready.now.interface o ready.now.side) graph) }
+{
+    match fit(
+        alloc,
+        &ready.interface,
+        ready.number,
+        ready.side,
+        None,
+        graph,
+    ) {
+        Ok(fit) => Ok(print(alloc, &ready.interface, &fit)?),
+        Err((misfit, _)) => Err(value_refused(alloc, ready, misfit)),
     }
 }
 

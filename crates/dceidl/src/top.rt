@@ -173,7 +173,7 @@ fn command_line(alloc: Global, command: Command<'_>, refusal: &Refusal) -> Resul
 {
     match command {
         Command::Read { of, .. } => line(alloc, of.idl, of.op, refusal),
-        Command::Encode { of, .. } => line(alloc, of.idl, of.op, refusal),
+        Command::Write { of, .. } => line(alloc, of.idl, of.op, refusal),
         Command::Compile { idl, .. } => line(alloc, idl, "", refusal),
         Command::Plan { idl, .. } => line(alloc, idl, "", refusal),
         Command::Help => line(alloc, "", "", refusal),

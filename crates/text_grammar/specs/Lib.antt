@@ -1,0 +1,11 @@
+pub mod Tokens
+pub mod Written
+pub mod Printed
+pub mod Readable
+pub mod Reads
+pub mod Dues
+pub mod Reader
+pub mod Runs
+pub mod Examples
+pub mod Paths
+pub mod Sound

@@ -1,0 +1,183 @@
+-- The lines of a graph's text in either version, each of so many tokens: how a graph is written.
+-- `v` is a version, `d` a type, `t` a type's number or a token, `l` a node's label, `ks` are its children.
+use Rattle.std.specs.Prelude.{ℕ, ◌+◌, ℤ, pos, Bool, true, false, if◌then◌else◌, List, [], ◌∷◌, ◌++◌, map, flat_map, Option, None, Some, codes}
+use Rattle.std.specs.List.{slice_get}
+use Rattle.nd_types.specs.declared.types.TypeDef.{TypeDef}
+use Rattle.nd_types.specs.declared.types.TypeDef.TheVariants as def
+use Rattle.nd_types.specs.declared.types.Primitive.TheVariants.{Byte}
+use Rattle.nd_types.specs.declared.types.Field.{Field}
+use Rattle.nd_types.specs.declared.types.Param.{Param}
+use Rattle.nd_types.specs.declared.types.Side.{Side}
+use Rattle.nd_types.specs.declared.types.Side.TheVariants as side
+use Rattle.nd_types.specs.Table.{Table, type_at}
+use Rattle.nd_types.specs.Roots.{Root}
+use Rattle.nd_value.specs.declared.value.Graph.{Graph}
+use Rattle.nd_value.specs.Tree as tree
+use Rattle.nd_value.specs.Tree.{Tree, Trees, node, none, more, Label, Referent}
+use Rattle.nd_value.specs.Setting.{Setting, root_list}
+use Rattle.nd_value.specs.Nodes.{child_types}
+use Rattle.text_grammar.specs.declared.version.Version.{Version}
+use Rattle.text_grammar.specs.declared.version.Version.TheVariants as version
+use Rattle.text_grammar.specs.Tokens.{Token, Word, Number, Cell, Str, Bytes, Uuid, Mark}
+
+-- a token of a graph's text: the name of an operation, a side, a root or a member, or another
+pub data Piece : Type 0 where
+  Name : (octets : List ℕ) → Piece
+  Other : Token → Piece
+
+abbrev pub token_of : Piece → Token
+token_of (Name name) = Word name
+token_of (Other t) = t
+
+abbrev pub word : List ℕ → Piece
+word octets = Other (Word octets)
+
+abbrev pub number_piece : ℤ → Piece
+number_piece z = Other (Number z)
+
+abbrev pub count_piece : ℕ → Piece
+count_piece n = number_piece (pos n)
+
+abbrev pub equals : Piece
+equals = Other (Mark 61)
+
+abbrev pub colon : Piece
+colon = Other (Mark 58)
+
+abbrev pub comma : Piece
+comma = Other (Mark 44)
+
+-- values with a comma between each two
+abbrev pub separated : List (List Piece) → List Piece
+separated [] = []
+separated (value ∷ []) = value
+separated (value ∷ next ∷ values) = value ++ comma ∷ separated (next ∷ values)
+
+-- values between two marks
+abbrev pub enclosed : ℕ → List (List Piece) → ℕ → List Piece
+enclosed opening values closing = Other (Mark opening) ∷ (separated values ++ Other (Mark closing) ∷ [])
+
+-- a name with its value
+abbrev pub named : List ℕ → List Piece → List Piece
+named name value = Name name ∷ equals ∷ value
+
+-- the members of a struct, each with its name
+abbrev pub members : List Field → List (List Piece) → List (List Piece)
+members (f ∷ fs) (value ∷ values) = named f.name value ∷ members fs values
+members _ _ = []
+
+-- ## Lists of elements
+
+-- in version 2 elements of type byte are written as octets
+abbrev pub writes_octets : Version → Option TypeDef → Bool
+writes_octets version.Two (Some (def.Prim Byte)) = true
+writes_octets _ _ = false
+
+-- the octet that a number from 0 on is; not asked of what is none
+abbrev pub octet_in : Label → ℕ
+octet_in (tree.Num (pos b)) = b
+octet_in _ = 0
+
+-- the octets that values are
+abbrev pub octets_in : Trees → List ℕ
+octets_in none = []
+octets_in (more (node l ks) ts) = octet_in l ∷ octets_in ts
+
+-- the elements of an array or a pipe: values in brackets, or their octets
+abbrev pub list_pieces : Bool → Trees → List (List Piece) → List Piece
+list_pieces true ks values = Other (Bytes (octets_in ks)) ∷ []
+list_pieces false ks values = enclosed 91 values 93
+
+-- the counts of an array before its elements
+abbrev pub array_counts : Option ℕ → Bool → ℕ → ℕ → List Piece
+array_counts bound false max offset = []
+array_counts (Some bound) true max offset = count_piece offset ∷ colon ∷ []
+array_counts None true max offset = count_piece max ∷ colon ∷ count_piece offset ∷ colon ∷ []
+
+-- ## Values
+
+abbrev pub text_pieces : Option ℕ → ℕ → List ℕ → List Piece
+text_pieces (Some bound) max octets = Other (Str octets) ∷ []
+text_pieces None max octets = count_piece max ∷ colon ∷ Other (Str octets) ∷ []
+
+abbrev pub arm_pieces : List (List Piece) → List Piece
+arm_pieces [] = word (codes "void") ∷ []
+arm_pieces (value ∷ values) = value
+
+abbrev pub pointer_pieces : Option ℕ → List Piece
+pointer_pieces None = word (codes "null") ∷ []
+pointer_pieces (Some cell) = Other (Cell cell) ∷ []
+
+-- the tokens of a node by its type, from those of its children
+abbrev pub node_pieces : Version → Table → Option TypeDef → Label → Trees → List (List Piece) → List Piece
+node_pieces v table d (tree.Num z) ks values = number_piece z ∷ []
+node_pieces v table (Some (def.Struct fields)) tree.Rec ks values = enclosed 123 (members fields values) 125
+node_pieces v table (Some (def.Array elem bound varying)) (tree.Arr max offset) ks values =
+    array_counts bound varying max offset ++ list_pieces (writes_octets v (type_at table elem.0)) ks values
+node_pieces v table (Some (def.Text elem bound)) (tree.Text max octets) ks values = text_pieces bound max octets
+node_pieces v table d (tree.Union tag) ks values = number_piece tag ∷ colon ∷ arm_pieces values
+node_pieces v table d (tree.Ptr cell) ks values = pointer_pieces cell
+node_pieces v table d (tree.Context attributes id) ks values =
+    word (codes "ctx") ∷ enclosed 40 ((count_piece attributes ∷ []) ∷ (Other (Uuid id) ∷ []) ∷ []) 41
+node_pieces v table (Some (def.Pipe elem)) tree.Pipe ks values = list_pieces (writes_octets v (type_at table elem.0)) ks values
+node_pieces v table d _ ks values = []
+
+-- the tokens of values of these types
+abbrev pub values_pieces : Version → Table → List ℕ → Trees → List (List Piece)
+values_pieces v table types none = []
+values_pieces v table [] (more t ts) = []
+values_pieces v table (t ∷ types) (more (node l ks) ts) =
+    node_pieces v table (type_at table t) l ks (values_pieces v table (child_types (type_at table t) l ks) ks) ∷ values_pieces v table types ts
+
+abbrev pub first_pieces : List (List Piece) → List Piece
+first_pieces [] = []
+first_pieces (value ∷ values) = value
+
+-- the tokens of one value
+abbrev pub value_pieces : Version → Table → ℕ → Tree → List Piece
+value_pieces v table t value = first_pieces (values_pieces v table (t ∷ []) (more value none))
+
+-- ## Lines
+
+abbrev pub version_number : Version → ℕ
+version_number version.One = 1
+version_number version.Two = 2
+
+abbrev pub side_word : Side → List ℕ
+side_word side.In = codes "in"
+side_word side.Out = codes "out"
+
+abbrev pub parameter_name : Option Param → List ℕ
+parameter_name None = []
+parameter_name (Some p) = p.field.name
+
+-- the name of a root: its parameter's, or `return` for the result of a function
+abbrev pub root_name : List Param → Root → List ℕ
+root_name params r = elim r.param [ None ↦ codes "return" | Some i ↦ parameter_name (slice_get params i) ]
+
+-- `values 1` or `values 2`, then `op NAME SIDE`
+abbrev pub head_lines : Version → Setting → List (List Piece)
+head_lines v w =
+    (word (codes "values") ∷ count_piece (version_number v) ∷ []) ∷ (word (codes "op") ∷ Name w.op.name ∷ Name (side_word w.side) ∷ []) ∷ []
+
+-- the roots in order, each with its name
+abbrev pub root_lines : Version → Table → List Param → List Root → List Tree → List (List Piece)
+root_lines v table params (r ∷ rs) (value ∷ values) =
+    named (root_name params r) (value_pieces v table r.of value) ∷ root_lines v table params rs values
+root_lines v table params _ _ = []
+
+-- the cells in order, each with its number
+abbrev pub cell_lines : Version → Table → ℕ → List Referent → List (List Piece)
+cell_lines v table c [] = []
+cell_lines v table c (x ∷ xs) = (Other (Cell c) ∷ equals ∷ value_pieces v table x.of x.val) ∷ cell_lines v table (c + 1) xs
+
+-- the lines of a graph's text: the version, the operation and its side, the roots, the cells
+abbrev pub graph_lines : Version → Setting → Graph → List (List Piece)
+graph_lines v w g = head_lines v w ++ (root_lines v w.table w.op.params (root_list w) g.roots ++ cell_lines v w.table 1 g.cells)
+
+-- all tokens of a graph's text, one after the other
+abbrev pub graph_pieces : Version → Setting → Graph → List Piece
+graph_pieces v w g = flat_map (λ line. line) (graph_lines v w g)
+
+abbrev pub graph_tokens : Version → Setting → Graph → List Token
+graph_tokens v w g = map token_of (graph_pieces v w g)

@@ -1,0 +1,16 @@
+//! How graphs and values are written for people: version 2 of the value text.
+#![tactic(auto)]
+
+mod digits;
+mod graphs;
+mod nodes;
+mod open;
+mod paths;
+mod quoting;
+#[cfg(test)]
+mod tests;
+mod values;
+
+pub use graphs::{print, print_value};
+pub use paths::path;
+pub use quoting::quoted;

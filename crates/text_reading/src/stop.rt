@@ -1,0 +1,18 @@
+// Where reading stops.
+use nd_base::Memory;
+use text_grammar::TextReason;
+
+/// Why a text was not read on.
+#[derive(Clone, Copy, Debug)]
+pub(crate) enum Stop {
+    /// Out of memory.
+    Memory,
+    /// What comes there is wrong, and with it only so many octets are left.
+    At { left: usize, reason: TextReason },
+}
+
+impl From<Memory> for Stop {
+    fn from(_: Memory) -> Stop {
+        Stop::Memory
+    }
+}
