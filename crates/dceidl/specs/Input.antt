@@ -4,7 +4,7 @@ use Rattle.std.specs.Io.KnownBytes.{Consumes, IsAtEnd}
 use Rattle.nd_base.specs.declared.TheConstants.{STREAM_LIMIT}
 use Rattle.nd_base.specs.declared.octets.Order.{Order}
 use Rattle.nd_base.specs.Over.{SourceSeen, HasRisen}
-use Rattle.value_text.specs.declared.TheConstants.{TEXT_LIMIT}
+use Rattle.text_grammar.specs.declared.TheConstants.{TEXT_LIMIT}
 use Rattle.nd_value.specs.Setting.{Setting}
 use Rattle.dceidl.specs.Decode.{IsDecoding, IsOctetsCause}
 use Rattle.dceidl.specs.Encode.{IsEncoding, IsMigration, IsTextCause}

@@ -13,6 +13,8 @@ use Rattle.dceidl.specs.declared.words.Reading.{Reading}
 use Rattle.dceidl.specs.declared.words.Reading.TheVariants.{Decode}
 use Rattle.dceidl.specs.declared.words.Writing.{Writing}
 use Rattle.dceidl.specs.declared.words.Writing.TheVariants.{Encode, Migrate}
+use Rattle.dceidl.specs.declared.words.Values.{Values}
+use Rattle.dceidl.specs.declared.words.Values.TheVariants.{All, Primitives}
 
 -- the files of a command: a file of IDL, and an attribute configuration file if one is named
 pub record FileNames : Type 0 where
@@ -69,6 +71,14 @@ op_of (Read how of order) = of.op
 op_of (Write how of) = of.op
 op_of _ = []
 
+-- the values that octets are read as, and those of which something is made: the engine knows primitives alone so far
+abbrev pub values_read : Reading → Values
+values_read Decode = Primitives
+
+abbrev pub values_written : Writing → Values
+values_written (Encode order chunk) = Primitives
+values_written Migrate = All
+
 -- the order of octets that a command names
 abbrev pub order_in : OrderWord → Order
 order_in (Fixed order) = order
@@ -121,8 +131,8 @@ abbrev pub migrate : List ℕ → List ℕ → List ℕ → Option Side → Opti
 migrate idl acf op (Some side) = Some (Write Migrate (subject idl acf op side))
 migrate idl acf op None = None
 
--- The command that words are, if they are one: `compile IDL ACF`, `plan IDL ACF`, `migrate IDL ACF OP SIDE`, `decode IDL ACF OP SIDE ORDER`, `encode IDL ACF OP SIDE ORDER CHUNK`, `--help`
--- or `--version`.
+-- The command that words are, if they are one: `compile IDL ACF`, `plan IDL ACF`, `migrate IDL ACF OP SIDE`, `decode IDL ACF OP SIDE ORDER`,
+-- `encode IDL ACF OP SIDE ORDER CHUNK`, `--help` or `--version`.
 abbrev pub command : List (List ℕ) → Option Command
 command (word ∷ []) =
     if is_word word (codes "--help") then Some Help

@@ -3,14 +3,14 @@ ghost use Rattle.std.specs.Prelude.{◌≡◌, ◌<◌, ◌≤◌, length, Some,
 ghost use Rattle.std.specs.List.{slice_get};
 ghost use Rattle.nd_base.specs.Over.{files_seen, source_seen};
 ghost use Rattle.nd_types.specs.declared.types.Operation.{Operation};
-ghost use Rattle.nd_types.specs.Numbers.{IsNumberSide};
 ghost use Rattle.nd_value.specs.Fitting.{setting_of};
 ghost use Rattle.dceidl.specs.Asked.{AsksFor};
 ghost use Rattle.dceidl.specs.Causes.{IsMade, IsCause};
 ghost use Rattle.dceidl.specs.Commands.{command_of, subject_of, HasChunk, WritesChunks};
 ghost use Rattle.dceidl.specs.Input.{IsRead, IsReadCause, IsWritten, IsWriteCause};
+ghost use Rattle.dceidl.specs.Ready.{IsSideOf};
 ghost use Rattle.dceidl.specs.Seen.{seen_over};
-ghost use Rattle.dceidl.specs.Words.{Read, Write, order_in};
+ghost use Rattle.dceidl.specs.Words.{Read, Write, order_in, values_read, values_written};
 
 use crate::compile::{list, list_plan};
 use crate::decode::decode;
@@ -71,7 +71,7 @@ fn read_values<F: Files, S: Source>(
         (seen_over (files_seen F.held F.absences F.faults F.asked files.old files.new) (source_seen S.left S.ended S.faults input.old input.new))
         (Read how (subject_of of.entry) order)) }
 {
-    let ready = make_ready(alloc, of, files)?;
+    let ready = make_ready(alloc, of, how.values(), files)?;
     read_octets(alloc, &ready, how, order, input)
 }
 
@@ -83,7 +83,7 @@ fn read_octets<S: Source>(
     order: OrderWord,
     input: &mut S,
 ) -> Result<Octets, Refusal>
-    requires built { IsNumberSide ready.now.interface.types ready.now.interface.operations ready.now.number ready.now.side }
+    requires built { IsSideOf (values_read how) ready.now.interface.types ready.now.interface.operations ready.now.number ready.now.side }
     requires known { ready.now.number < length ready.now.interface.operations }
     ensures done { (o : Operation) → slice_get ready.now.interface.operations ready.now.number ≡ Some o
         → IfOk result (IsRead (source_seen S.left S.ended S.faults input.old input.new) how (setting_of ready.now.interface o ready.now.side) (order_in order)) }
@@ -115,7 +115,7 @@ fn write_values<F: Files, S: Source>(
         (seen_over (files_seen F.held F.absences F.faults F.asked files.old files.new) (source_seen S.left S.ended S.faults input.old input.new))
         (Write how (subject_of of.entry))) }
 {
-    let ready = make_ready(alloc, of, files)?;
+    let ready = make_ready(alloc, of, how.values(), files)?;
     write_input(alloc, &ready, how, input)
 }
 
@@ -126,7 +126,7 @@ fn write_input<S: Source>(
     how: Writing,
     input: &mut S,
 ) -> Result<Octets, Refusal>
-    requires built { IsNumberSide ready.now.interface.types ready.now.interface.operations ready.now.number ready.now.side }
+    requires built { IsSideOf (values_written how) ready.now.interface.types ready.now.interface.operations ready.now.number ready.now.side }
     requires known { ready.now.number < length ready.now.interface.operations }
     requires chunk { WritesChunks how }
     ensures done { (o : Operation) → slice_get ready.now.interface.operations ready.now.number ≡ Some o

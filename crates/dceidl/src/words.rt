@@ -1,6 +1,6 @@
 // The words of a command line, and the command that they are.
 ghost use Rattle.std.specs.Prelude.{◌≡◌, ◌≤◌, [], ◌∷◌, ◌++◌, OnOk, OnErr, IfSome, option_map};
-ghost use Rattle.dceidl.specs.Words.{command, acf_of, order_in, order_of, side_of, chunk_of, chunk_by, decode as decode_of, encode as encode_of, migrate as migrate_of, subject as subject_by};
+ghost use Rattle.dceidl.specs.Words.{command, acf_of, order_in, values_read, values_written, order_of, side_of, chunk_of, chunk_by, decode as decode_of, encode as encode_of, migrate as migrate_of, subject as subject_by};
 ghost use Rattle.dceidl.specs.Commands.{command_of, subject_of, HasChunk};
 
 use crate::CHUNK_LIMIT;
@@ -107,6 +107,17 @@ pub(crate) enum Reading {
     Decode,
 }
 
+impl Reading {
+    // The values that octets are read as.
+    pub(crate) fn values(self) -> Values
+        ensures { result ≡ values_read self }
+    {
+        match self {
+            Reading::Decode => Values::Primitives,
+        }
+    }
+}
+
 // What is made of the text of the input.
 #[derive(Clone, Copy, Debug, PartialEq, Eq)]
 pub(crate) enum Writing {
@@ -114,6 +125,27 @@ pub(crate) enum Writing {
     Encode { order: OrderWord, chunk: u32 },
     // The text that is printed of them.
     Migrate,
+}
+
+impl Writing {
+    // The values of which something is made.
+    pub(crate) fn values(self) -> Values
+        ensures { result ≡ values_written self }
+    {
+        match self {
+            Writing::Encode { .. } => Values::Primitives,
+            Writing::Migrate => Values::All,
+        }
+    }
+}
+
+// The values of a side that a command can do something with.
+#[derive(Clone, Copy, Debug, PartialEq, Eq)]
+pub(crate) enum Values {
+    // Those of every type.
+    All,
+    // Those of sides whose roots are primitives. The octets of no others are built yet.
+    Primitives,
 }
 
 // The order of octets that a command names.
