@@ -1,0 +1,5 @@
+pub mod Quoted
+pub mod Firsts
+pub mod OneText
+pub mod Settled
+pub mod Alike
