@@ -207,12 +207,9 @@ module _ (v : Version) (table : Table) where
   arm_read None none each ds nb cells ts = refl
   arm_read None (more k ks) each ds nb cells ts = absurd each
   arm_read (Some a) ks each ds nb cells ts = by a.of ks each where
-    abbrev listed : Option TypeId → List ℕ
-    listed o = type_list o
-
-    by : (o : Option TypeId) (ks : Trees) → EachReads (listed o) ks
-        → all_read table (reading v (arm_dues (listed o) ++ ds) nb cells) (map token_of (arm_pieces (pieces_of (listed o) ks)) ++ ts)
-        ≡ all_read table (reading v ds (noted table (listed o) ks nb) cells) ts
+    by : (o : Option TypeId) (ks : Trees) → EachReads (type_list o) ks
+        → all_read table (reading v (arm_dues (type_list o) ++ ds) nb cells) (map token_of (arm_pieces (pieces_of (type_list o) ks)) ++ ts)
+        ≡ all_read table (reading v ds (noted table (type_list o) ks nb) cells) ts
     by None none each = refl
     by None (more k ks) each = absurd each
     by (Some t) none each = absurd each
@@ -257,15 +254,15 @@ module _ (v : Version) (table : Table) where
   opening first others h = record { first = first; others = others; is = refl; opens = h }
 
   by_form : (t : ℕ) (d : Option TypeDef) (l : Label) (ks : Trees) → type_at table t ≡ d → Form v table d l ks → EachReads (child_types d l ks) ks → Reads t (node l ks)
-  by_form t (Some (def.Prim p)) (tree.Num z) none e (a_number p z) each =
+  by_form t _ _ _ e (a_number p z) each =
       node_read t (def.Prim p) (tree.Num z) none e (opening (Number z) [] refl) (λ ds nb cells ts. refl)
-  by_form t (Some (def.Enum values)) (tree.Num z) none e (an_enum values z) each =
+  by_form t _ _ _ e (an_enum values z) each =
       node_read t (def.Enum values) (tree.Num z) none e (opening (Number z) [] refl) (λ ds nb cells ts. refl)
-  by_form t (Some (def.Struct fs)) tree.Rec ks e (a_struct fs ks) each =
+  by_form t _ _ _ e (a_struct fs ks) each =
       node_read t (def.Struct fs) tree.Rec ks e
       (opening (Mark 123) (map token_of (separated (members fs (pieces_of (types_of fs) ks)) ++ Other (Mark 125) ∷ [])) refl)
       (λ ds nb cells ts. members_read fs ks each ds nb cells ts)
-  by_form t (Some (def.Array elem bound varying)) (tree.Arr max offset) ks e (an_array elem bound varying max offset ks m o b) each =
+  by_form t _ _ _ e (an_array elem bound varying max offset ks m o b) each =
       let values : List (List Piece) = pieces_of (replicate (count ks) elem.0) ks in
       let w : Bool = writes_octets v (type_at table elem.0) in
       node_read t (def.Array elem bound varying) (tree.Arr max offset) ks e (array_opens bound varying max offset (list_pieces w ks values) (list_opens w ks values))
@@ -275,25 +272,25 @@ module _ (v : Version) (table : Table) where
       ∙ ap (λ (l : List Token). all_read table (reading v (count_dues bound varying ++ (list_dues w elem.0 ++ ds)) nb cells) l) (map_both (array_counts bound varying max offset) (list_pieces w ks values) ts)
       ∙ counts_read bound varying max offset ks m o (list_dues w elem.0 ++ ds) nb cells (map token_of (list_pieces w ks values) ++ ts)
       ∙ list_read elem.0 ks each ds nb cells ts)
-  by_form t (Some (def.Text elem (Some bound))) (tree.Text bound octets) none e (a_bound_text elem bound octets o) each =
+  by_form t _ _ _ e (a_bound_text elem bound octets o) each =
       node_read t (def.Text elem (Some bound)) (tree.Text bound octets) none e (opening (Str octets) [] refl) (λ ds nb cells ts. refl)
-  by_form t (Some (def.Text elem None)) (tree.Text max octets) none e (a_text elem max octets m o) each =
+  by_form t _ _ _ e (a_text elem max octets m o) each =
       node_read t (def.Text elem None) (tree.Text max octets) none e (opening (Number (pos max)) (Mark 58 ∷ Str octets ∷ []) refl)
       (λ ds nb cells ts. counted max (AString ∷ ds) nb cells (Str octets ∷ ts) m)
-  by_form t (Some (def.Union tag encapsulated arms default)) (tree.Union z) ks e (a_union tag encapsulated arms default z ks) each =
+  by_form t _ _ _ e (a_union tag encapsulated arms default z ks) each =
       node_read t (def.Union tag encapsulated arms default) (tree.Union z) ks e
       (opening (Number z) (Mark 58 ∷ map token_of (arm_pieces (pieces_of (selected_types (selected arms default z)) ks))) refl)
       (λ ds nb cells ts. arm_read (selected arms default z) ks each ds nb cells ts)
-  by_form t (Some (def.Pointer class to)) (tree.Ptr None) none e (a_null class to) each =
+  by_form t _ _ _ e (a_null class to) each =
       node_read t (def.Pointer class to) (tree.Ptr None) none e (opening (Word (codes "null")) [] refl) (λ ds nb cells ts. refl)
-  by_form t (Some (def.Pointer class to)) (tree.Ptr (Some c)) none e (a_pointer class to c z h) each =
+  by_form t _ _ _ e (a_pointer class to c z h) each =
       node_read t (def.Pointer class to) (tree.Ptr (Some c)) none e (opening (Cell c) [] refl) (λ ds nb cells ts. refl)
-  by_form t (Some def.Context) (tree.Context attributes id) none e (a_context attributes id h long o) each =
+  by_form t _ _ _ e (a_context attributes id h long o) each =
       node_read t def.Context (tree.Context attributes id) none e
       (opening (Word (codes "ctx")) (Mark 40 ∷ Number (pos attributes) ∷ Mark 44 ∷ Uuid id ∷ Mark 41 ∷ []) refl)
       (λ ds nb cells ts.
       count_read v table nb cells attributes (This comma ∷ AUuid ∷ This (Other (Mark 41)) ∷ ds) (Mark 44 ∷ Uuid id ∷ Mark 41 ∷ ts) h)
-  by_form t (Some (def.Pipe elem)) tree.Pipe ks e (a_pipe elem ks b) each =
+  by_form t _ _ _ e (a_pipe elem ks b) each =
       node_read t (def.Pipe elem) tree.Pipe ks e (list_opens (writes_octets v (type_at table elem.0)) ks (pieces_of (replicate (count ks) elem.0) ks))
       (λ ds nb cells ts. list_read elem.0 ks each ds nb cells ts)
 
