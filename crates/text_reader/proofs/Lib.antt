@@ -5,3 +5,8 @@ pub mod Settled
 pub mod Alike
 pub mod Forms
 pub mod ValuesRead
+pub mod Nodes
+pub mod Unique
+pub mod GraphRead
+pub mod OneGraph
+pub mod Real

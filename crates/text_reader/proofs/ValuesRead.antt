@@ -258,7 +258,7 @@ module _ (v : Version) (table : Table) where
       node_read t (def.Prim p) (tree.Num z) none e (opening (Number z) [] refl) (λ ds nb cells ts. refl)
   by_form t _ _ _ e (an_enum values z) each =
       node_read t (def.Enum values) (tree.Num z) none e (opening (Number z) [] refl) (λ ds nb cells ts. refl)
-  by_form t _ _ _ e (a_struct fs ks) each =
+  by_form t _ _ _ e (a_struct fs ks many) each =
       node_read t (def.Struct fs) tree.Rec ks e
       (opening (Mark 123) (map token_of (separated (members fs (pieces_of (types_of fs) ks)) ++ Other (Mark 125) ∷ [])) refl)
       (λ ds nb cells ts. members_read fs ks each ds nb cells ts)
@@ -277,7 +277,7 @@ module _ (v : Version) (table : Table) where
   by_form t _ _ _ e (a_text elem max octets m o) each =
       node_read t (def.Text elem None) (tree.Text max octets) none e (opening (Number (pos max)) (Mark 58 ∷ Str octets ∷ []) refl)
       (λ ds nb cells ts. counted max (AString ∷ ds) nb cells (Str octets ∷ ts) m)
-  by_form t _ _ _ e (a_union tag encapsulated arms default z ks) each =
+  by_form t _ _ _ e (a_union tag encapsulated arms default z ks many) each =
       node_read t (def.Union tag encapsulated arms default) (tree.Union z) ks e
       (opening (Number z) (Mark 58 ∷ map token_of (arm_pieces (pieces_of (selected_types (selected arms default z)) ks))) refl)
       (λ ds nb cells ts. arm_read (selected arms default z) ks each ds nb cells ts)
