@@ -10,3 +10,5 @@ pub mod Unique
 pub mod GraphRead
 pub mod OneGraph
 pub mod Real
+pub mod Steps
+pub mod Taken
