@@ -12,3 +12,4 @@ pub mod OneGraph
 pub mod Real
 pub mod Steps
 pub mod Taken
+pub mod Back
