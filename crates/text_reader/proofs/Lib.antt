@@ -13,3 +13,5 @@ pub mod Real
 pub mod Steps
 pub mod Taken
 pub mod Back
+pub mod Fills
+pub mod GoOn

@@ -122,9 +122,6 @@ module _ (table : Table) (y : Reading) (ends : may_end y ≡ true) where
     -- after an element the closing bracket comes, or a comma
     pub bracket_or_comma : (t : ℕ) (tok : Token) (rest : List Token) → all_read table (reading v (NextElement t ∷ ds) nb k) (tok ∷ rest) ≡ Ok y → (tok ≡ Mark 93) ⊎ (tok ≡ Mark 44)
     bracket_or_comma t (Mark c) rest e = by (eqb c 93) refl (eqb c 44) refl where
-      x : Reading
-      x = reading v (NextElement t ∷ ds) nb k
-
       by : (a : Bool) → eqb c 93 ≡ a → (b : Bool) → eqb c 44 ≡ b → (Mark c ≡ Mark 93) ⊎ (Mark c ≡ Mark 44)
       by true f b g = inl (ap (λ (n : ℕ). Mark n) (eqb-true c 93 f))
       by false f true g = inr (ap (λ (n : ℕ). Mark n) (eqb-true c 44 g))
