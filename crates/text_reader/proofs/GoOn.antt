@@ -37,6 +37,9 @@ abbrev pub may_come : Table → Due → Bool
 may_come table AVersion = true
 may_come table d = is_good table d
 
+abbrev fine : Reading → Result Reading TextReason
+fine y = Ok y
+
 -- dues that can come, and then the lines of cells
 pub record Sound (table : Table) (x : Reading) : Type 0 where
   pub front : List Due
@@ -160,7 +163,7 @@ module _ (table : Table) (known : KnowsTypes table) where
     at_token tok (ACellLine ∷ fs) h = cc
 
     module _ (due : List Due) where
-      goes : (fs : List Due) (u : Version) (y : Reading) → list_all (may_come table) fs ≡ true → Ok {E = TextReason} (reading u (fs ++ ACellLine ∷ []) nb k) ≡ Ok y → Sound table y
+      goes : (fs : List Due) (u : Version) (y : Reading) → list_all (may_come table) fs ≡ true → fine (reading u (fs ++ ACellLine ∷ []) nb k) ≡ Ok y → Sound table y
       goes fs u y h e = let f : reading u (fs ++ ACellLine ∷ []) nb k ≡ y = cc in subst (Sound table) f (record { front = fs; is = refl; good = h; names = names })
 
       goes_if : (b : Bool) (fs : List Due) (why : TextReason) (y : Reading) → list_all (may_come table) fs ≡ true → went_on_if b (reading v due nb k) (fs ++ ACellLine ∷ []) why ≡ Ok y → Sound table y
@@ -192,7 +195,7 @@ module _ (table : Table) (known : KnowsTypes table) where
           let p = and_parts (list_all (is_in_table table) (arm_types arms ++ default_type default)) (list_all (may_come table) fs) h in
           let arm : List Due = arm_dues (selected_types (selected arms default z)) in
           let g = good_more arm fs (arm_good (selected_types (selected arms default z)) (selected_passes (is_in_table table) arms default z p.0)) p.1 in
-          goes (This colon ∷ (arm ++ fs)) v y g (ap (λ (l : List Due). Ok (reading v (This colon ∷ l) nb k)) (append_assoc arm fs (ACellLine ∷ [])) ∙ e)
+          goes (This colon ∷ (arm ++ fs)) v y g (ap (λ (l : List Due). fine (reading v (This colon ∷ l) nb k)) (append_assoc arm fs (ACellLine ∷ [])) ∙ e)
       took (Word octets) (APointer to ∷ fs) h y e = goes_if (bytes_eq octets (codes "null")) fs reason.Expected y (and_parts (is_in_table table to) (list_all (may_come table) fs) h).1 e
       took (Cell c) (APointer to ∷ fs) h y e =
           let p = and_parts (is_in_table table to) (list_all (may_come table) fs) h in

@@ -15,3 +15,5 @@ pub mod Taken
 pub mod Back
 pub mod Fills
 pub mod GoOn
+pub mod NamesRead
+pub mod NamesDue
