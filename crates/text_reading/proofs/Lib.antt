@@ -1,0 +1,4 @@
+pub mod Scanned
+pub mod Scanning
+pub mod Shown
+pub mod Steps

@@ -1,105 +1,267 @@
 // One token of what is due at a time.
-use crate::identifiers::uuid;
-use crate::lexeme::{Lexeme, Next, next};
-use crate::octets::skip_blanks;
+ghost use Rattle.std.specs.Prelude.{◌≡◌, ◌×◌, ◌<◌, ℕ, List, pos, IfOk, IfErr, IfNone, IfSome, length, Some, None, option_map};
+ghost use Rattle.text_grammar.specs.Tokens.{Word, Number, Mark, Str, Bytes, IsString, IsByteString, IsCut};
+ghost use Rattle.text_grammar.specs.declared.version.Version.TheVariants as versions;
+ghost use Rattle.text_grammar.specs.Written.{Name, Other, version_number};
+ghost use Rattle.text_grammar.specs.Dues as due;
+ghost use Rattle.text_reading.specs.declared.stop.Stop.TheVariants as stop;
+ghost use Rattle.text_reading.specs.Lexemes as shown;
+ghost use Rattle.text_reading.specs.Lexemes.{plain, reference_token, reference_fits};
+ghost use Rattle.text_reading.specs.Passing.{Misses};
+
+use crate::lexeme::{Lexeme, Scanned, scan};
 use crate::stop::Stop;
 use text_grammar::{TextReason, Version};
-use uuid::Uuid;
 
-/// The grammar has another token there.
-pub(crate) fn unexpected(next: &Next<'_>) -> Stop {
-    let reason = match next.lexeme {
+/// Whether a lexeme is this mark.
+fn is_mark(lexeme: Lexeme<'_>, due: u8) -> bool
+    ensures { result ≡ shown.is_this_mark lexeme.entry due }
+{
+    match lexeme {
+        Lexeme::Mark(octet) => octet == due,
+        _ => false,
+    }
+}
+
+/// Whether a lexeme is this word.
+fn is_word(lexeme: Lexeme<'_>, due: &[u8]) -> bool
+    ensures { result ≡ shown.is_this_word lexeme.entry due.now }
+{
+    match lexeme {
+        Lexeme::Word(octets) => octets == due,
+        _ => false,
+    }
+}
+
+/// The number that a lexeme is, if it is one.
+fn number_in(lexeme: Lexeme<'_>) -> Option<i128>
+    ensures { result ≡ shown.number_shown lexeme.entry }
+{
+    match lexeme {
+        Lexeme::Number(value) => Some(value),
+        _ => None,
+    }
+}
+
+/// The number of the cell that a lexeme is, if it is one.
+fn cell_in(lexeme: Lexeme<'_>) -> Option<u32>
+    ensures { result ≡ shown.cell_shown lexeme.entry }
+{
+    match lexeme {
+        Lexeme::Cell(cell) => Some(cell),
+        _ => None,
+    }
+}
+
+/// The text after the opening quote of the string that a lexeme is, if it is one.
+fn string_in(lexeme: Lexeme<'_>) -> Option<&[u8]>
+    ensures { option_map (λ body. body.now) result ≡ shown.string_shown lexeme.entry }
+{
+    match lexeme {
+        Lexeme::Str(body) => Some(body),
+        _ => None,
+    }
+}
+
+/// The text after the opening quote of the bytes that a lexeme is, if it is some.
+fn bytes_in(lexeme: Lexeme<'_>) -> Option<&[u8]>
+    ensures { option_map (λ body. body.now) result ≡ shown.bytes_shown lexeme.entry }
+{
+    match lexeme {
+        Lexeme::Bytes(body) => Some(body),
+        _ => None,
+    }
+}
+
+/// Why a lexeme is not the due one, which is no name.
+fn why_other(lexeme: Lexeme<'_>) -> TextReason
+    ensures { result ≡ shown.other_reason lexeme.entry }
+{
+    match lexeme {
         Lexeme::Bad => TextReason::BadToken,
         _ => TextReason::Expected,
-    };
-    Stop::At {
-        left: next.here.len(),
-        reason,
+    }
+}
+
+/// Why a lexeme is not the due name.
+fn why_no_name(lexeme: Lexeme<'_>) -> TextReason
+    ensures { result ≡ shown.name_reason lexeme.entry }
+{
+    match lexeme {
+        Lexeme::Word(_) => TextReason::OtherName,
+        Lexeme::Bad => TextReason::BadToken,
+        _ => TextReason::Expected,
     }
 }
 
 /// A reason at what comes next.
-pub(crate) fn refused(next: &Next<'_>, reason: TextReason) -> Stop {
+pub(crate) fn refused(next: &Scanned<'_>, reason: TextReason) -> Stop
+    ensures { result ≡ stop.At (length next.now.here.now) reason }
+{
     Stop::At {
         left: next.here.len(),
         reason,
     }
 }
 
+/// The grammar has another token there.
+fn unexpected(next: &Scanned<'_>) -> Stop
+    ensures { result ≡ stop.At (length next.now.here.now) (shown.other_reason next.now.lexeme) }
+{
+    refused(next, why_other(next.lexeme))
+}
+
 /// A mark.
-pub(crate) fn mark<'a>(version: Version, text: &'a [u8], due: u8) -> Result<&'a [u8], Stop> {
-    let next = next(version, text);
-    match next.lexeme {
-        Lexeme::Mark(octet) if octet == due => Ok(next.rest),
-        _ => Err(unexpected(&next)),
+pub(crate) fn mark<'a>(version: Version, text: &'a [u8], due: u8) -> Result<&'a [u8], Stop>
+    ensures ok { IfOk result (λ rest. IsCut (plain version) text.now (Mark due) rest.now) }
+    ensures less { IfOk result (λ rest. length rest.now < length text.now) }
+    ensures err { IfErr result (λ e. Misses version (due.This (Other (Mark due))) text.now e) }
+{
+    let next = scan(version, text);
+    if is_mark(next.lexeme, due) {
+        return Ok(next.rest);
     }
+    Err(unexpected(&next))
+}
+
+/// What follows a mark, if it comes next.
+pub(crate) fn after_mark<'a>(version: Version, text: &'a [u8], due: u8) -> Option<&'a [u8]>
+    ensures some { IfSome result (λ rest. IsCut (plain version) text.now (Mark due) rest.now) }
+    ensures less { IfSome result (λ rest. length rest.now < length text.now) }
+    ensures none { IfNone result ((rest : List ℕ) → IsCut (plain version) text.now (Mark due) rest → ⊥) }
+{
+    let next = scan(version, text);
+    if is_mark(next.lexeme, due) {
+        return Some(next.rest);
+    }
+    None
 }
 
 /// A word of the grammar.
-pub(crate) fn word<'a>(version: Version, text: &'a [u8], due: &[u8]) -> Result<&'a [u8], Stop> {
-    let next = next(version, text);
-    match next.lexeme {
-        Lexeme::Word(octets) if octets == due => Ok(next.rest),
-        _ => Err(unexpected(&next)),
+pub(crate) fn word<'a>(version: Version, text: &'a [u8], due: &[u8]) -> Result<&'a [u8], Stop>
+    ensures ok { IfOk result (λ rest. IsCut (plain version) text.now (Word due.now) rest.now) }
+    ensures less { IfOk result (λ rest. length rest.now < length text.now) }
+    ensures err { IfErr result (λ e. Misses version (due.This (Other (Word due.now))) text.now e) }
+{
+    let next = scan(version, text);
+    if is_word(next.lexeme, due) {
+        return Ok(next.rest);
     }
+    Err(unexpected(&next))
 }
 
 /// The name of an operation, a side, a root or a member.
-pub(crate) fn name<'a>(version: Version, text: &'a [u8], due: &[u8]) -> Result<&'a [u8], Stop> {
-    let next = next(version, text);
-    match next.lexeme {
-        Lexeme::Word(octets) if octets == due => Ok(next.rest),
-        Lexeme::Word(_) => Err(refused(&next, TextReason::OtherName)),
-        _ => Err(unexpected(&next)),
+pub(crate) fn name<'a>(version: Version, text: &'a [u8], due: &[u8]) -> Result<&'a [u8], Stop>
+    ensures ok { IfOk result (λ rest. IsCut (plain version) text.now (Word due.now) rest.now) }
+    ensures less { IfOk result (λ rest. length rest.now < length text.now) }
+    ensures err { IfErr result (λ e. Misses version (due.This (Name due.now)) text.now e) }
+{
+    let next = scan(version, text);
+    if is_word(next.lexeme, due) {
+        return Ok(next.rest);
     }
-}
-
-/// A name and the mark `=`.
-pub(crate) fn named<'a>(version: Version, text: &'a [u8], due: &[u8]) -> Result<&'a [u8], Stop> {
-    let rest = name(version, text, due)?;
-    mark(version, rest, b'=')
+    Err(refused(&next, why_no_name(next.lexeme)))
 }
 
 /// A number.
-pub(crate) fn number(version: Version, text: &[u8]) -> Result<(i128, &[u8]), Stop> {
-    let next = next(version, text);
-    match next.lexeme {
-        Lexeme::Number(value) => Ok((value, next.rest)),
-        _ => Err(unexpected(&next)),
+pub(crate) fn number(version: Version, text: &[u8]) -> Result<(i128, &[u8]), Stop>
+    ensures ok { IfOk result (λ x. IsCut (plain version) text.now (Number x.0) x.1.now) }
+    ensures less { IfOk result (λ x. length x.1.now < length text.now) }
+    ensures err { IfErr result (λ e. Misses version due.ANumber text.now e) }
+{
+    let next = scan(version, text);
+    match number_in(next.lexeme) {
+        Some(value) => Ok((value, next.rest)),
+        None => Err(unexpected(&next)),
+    }
+}
+
+/// The count that a lexeme is, a number from 0 to 4,294,967,295, if it is one.
+fn count_in(lexeme: Lexeme<'_>) -> Option<u32>
+    ensures { option_map (λ n. pos n) result ≡ shown.count_shown lexeme.entry }
+{
+    match lexeme {
+        Lexeme::Number(value) if 0 <= value && value <= i128::from(u32::MAX) => Some(value as u32),
+        _ => None,
     }
 }
 
 /// A number from 0 to 4,294,967,295.
-pub(crate) fn count(version: Version, text: &[u8]) -> Result<(u32, &[u8]), Stop> {
-    let next = next(version, text);
-    match next.lexeme {
-        Lexeme::Number(value) if 0 <= value && value <= i128::from(u32::MAX) => {
-            Ok((value as u32, next.rest))
-        }
-        _ => Err(unexpected(&next)),
+pub(crate) fn count(version: Version, text: &[u8]) -> Result<(u32, &[u8]), Stop>
+    ensures ok { IfOk result (λ x. IsCut (plain version) text.now (Number (pos x.0)) x.1.now) }
+    ensures less { IfOk result (λ x. length x.1.now < length text.now) }
+    ensures err { IfErr result (λ e. Misses version due.ACount text.now e) }
+{
+    let next = scan(version, text);
+    match count_in(next.lexeme) {
+        Some(value) => Ok((value, next.rest)),
+        None => Err(unexpected(&next)),
     }
 }
 
-/// A count and the mark `:`.
-pub(crate) fn count_colon(version: Version, text: &[u8]) -> Result<(u32, &[u8]), Stop> {
-    let (value, rest) = count(version, text)?;
-    Ok((value, mark(version, rest, b':')?))
+/// A string: the text after its opening quote, and what follows it.
+pub(crate) fn string<'a>(version: Version, text: &'a [u8]) -> Result<(&'a [u8], &'a [u8]), Stop>
+    ensures ok { IfOk result (λ x. (octets : List ℕ) × IsString x.0.now octets x.1.now × IsCut (plain version) text.now (Str octets) x.1.now) }
+    ensures less { IfOk result (λ x. length x.1.now < length text.now) }
+    ensures err { IfErr result (λ e. Misses version due.AString text.now e) }
+{
+    let next = scan(version, text);
+    match string_in(next.lexeme) {
+        Some(body) => Ok((body, next.rest)),
+        None => Err(unexpected(&next)),
+    }
+}
+
+/// Bytes: the text after their opening quote, and what follows them.
+pub(crate) fn bytes<'a>(version: Version, text: &'a [u8]) -> Result<(&'a [u8], &'a [u8]), Stop>
+    ensures ok { IfOk result (λ x. (octets : List ℕ) × IsByteString x.0.now octets x.1.now × IsCut (plain version) text.now (Bytes octets) x.1.now) }
+    ensures less { IfOk result (λ x. length x.1.now < length text.now) }
+    ensures err { IfErr result (λ e. Misses version due.SomeBytes text.now e) }
+{
+    let next = scan(version, text);
+    match bytes_in(next.lexeme) {
+        Some(body) => Ok((body, next.rest)),
+        None => Err(unexpected(&next)),
+    }
+}
+
+/// The version that a lexeme is the number of, if it is one.
+fn version_in(lexeme: Lexeme<'_>) -> Option<Version>
+    ensures { result ≡ shown.version_shown lexeme.entry }
+{
+    match lexeme {
+        Lexeme::Number(1) => Some(Version::One),
+        Lexeme::Number(2) => Some(Version::Two),
+        _ => None,
+    }
 }
 
 /// The number of a version.
-pub(crate) fn version(text: &[u8]) -> Result<(Version, &[u8]), Stop> {
-    let next = next(Version::One, text);
-    match next.lexeme {
-        Lexeme::Number(1) => Ok((Version::One, next.rest)),
-        Lexeme::Number(2) => Ok((Version::Two, next.rest)),
-        _ => Err(unexpected(&next)),
+pub(crate) fn version(text: &[u8]) -> Result<(Version, &[u8]), Stop>
+    ensures ok { IfOk result (λ x. IsCut (plain versions.One) text.now (Number (pos (version_number x.0))) x.1.now) }
+    ensures less { IfOk result (λ x. length x.1.now < length text.now) }
+    ensures err { IfErr result (λ e. Misses versions.One due.AVersion text.now e) }
+{
+    let next = scan(Version::One, text);
+    match version_in(next.lexeme) {
+        Some(version) => Ok((version, next.rest)),
+        None => Err(unexpected(&next)),
     }
 }
 
-/// A UUID, which is a token here alone.
-pub(crate) fn identifier(of: Version, text: &[u8]) -> Result<(Uuid, &[u8]), Stop> {
-    match uuid(skip_blanks(text)) {
-        Some(found) => Ok(found),
-        None => Err(unexpected(&next(of, text))),
+/// What a pointer is: null, or the number of a cell.
+pub(crate) fn reference(version: Version, text: &[u8]) -> Result<(Option<u32>, &[u8]), Stop>
+    ensures ok { IfOk result (λ x. IsCut (plain version) text.now (reference_token x.0) x.1.now) }
+    ensures range { IfOk result (λ x. reference_fits x.0 ≡ true) }
+    ensures less { IfOk result (λ x. length x.1.now < length text.now) }
+    ensures err { IfErr result (λ e. (to : ℕ) → Misses version (due.APointer to) text.now e) }
+{
+    let next = scan(version, text);
+    if is_word(next.lexeme, b"null") {
+        return Ok((None, next.rest));
+    }
+    match cell_in(next.lexeme) {
+        Some(cell) => Ok((Some(cell), next.rest)),
+        None => Err(unexpected(&next)),
     }
 }

@@ -12,6 +12,11 @@ pub(crate) enum Stop {
 }
 
 impl From<Memory> for Stop {
+    ghost use Rattle.std.specs.Prelude.{◌≡◌};
+    ghost use Rattle.text_reading.specs.declared.stop.Stop.TheVariants as stop;
+
+    ghost from_gives = { λ _ e. e ≡ stop.Memory };
+
     fn from(_: Memory) -> Stop {
         Stop::Memory
     }

@@ -1,6 +1,9 @@
 // Strings and bytes of a value text.
-ghost use Rattle.std.specs.Prelude.{◌≡◌};
+ghost use Rattle.std.specs.Prelude.{◌≡◌, ◌<◌, ◌×◌, true, List, ℕ, length, IfOk, IfSome, MatchOption, option_map};
+ghost use Rattle.nd_base.specs.Text as octets;
 ghost use Rattle.text_grammar.specs.Tokens as tokens;
+ghost use Rattle.text_grammar.specs.Tokens.{IsString, IsByteString};
+ghost use Rattle.text_grammar.specs.Runs.{after_quote as after_quote_by};
 
 use nd_base::text::is_hex_digit;
 use nd_base::{Memory, Octets};
@@ -14,74 +17,100 @@ fn is_plain(octet: u8) -> bool
 }
 
 /// The value of a hexadecimal digit in either case.
-fn hex_value(digit: u8) -> u8 {
+fn hex_value(digit: u8) -> u8
+    requires { octets.is_hex_digit digit ≡ true }
+    ensures is { result ≡ octets.hex_value digit }
+    ensures low { result < 16 }
+{
     if digit <= b'9' {
         digit - b'0'
     } else if digit <= b'F' {
-        digit - b'A' + 10
+        digit - (b'A' - 10)
     } else {
-        digit - b'a' + 10
+        digit - (b'a' - 10)
     }
 }
 
 /// Two hexadecimal digits, as an octet and what follows.
-fn hex_pair(text: &[u8]) -> Option<(u8, &[u8])> {
+pub(crate) fn hex_pair(text: &[u8]) -> Option<(u8, &[u8])>
+    ensures is { option_map (λ x. (x.0, x.1.now)) result ≡ tokens.hex_pair text.now }
+    ensures less { IfSome result (λ x. length x.1.now < length text.now) }
+{
     match text {
         [high, low, rest @ ..] if is_hex_digit(*high) && is_hex_digit(*low) => {
-            Some((hex_value(*high) * 16 + hex_value(*low), rest))
+            Some((16 * hex_value(*high) + hex_value(*low), rest))
         }
         _ => None,
     }
 }
 
-/// The first character of a string, as an octet and what follows; none where no character comes.
-fn character(text: &[u8]) -> Option<(u8, &[u8])> {
+/// What follows a backslash.
+fn escape(text: &[u8]) -> Option<(u8, &[u8])>
+    ensures is { option_map (λ x. (x.0, x.1.now)) result ≡ tokens.escape text.now }
+    ensures less { IfSome result (λ x. length x.1.now < length text.now) }
+{
     match text {
-        [b'\\', octet, rest @ ..] if *octet == b'"' || *octet == b'\\' => Some((*octet, rest)),
-        [b'\\', b'x', rest @ ..] => hex_pair(rest),
+        [octet, rest @ ..] if *octet == b'"' || *octet == b'\\' => Some((*octet, rest)),
+        [b'x', rest @ ..] => hex_pair(rest),
+        _ => None,
+    }
+}
+
+/// The first character of a string, as an octet and what follows; none where no character comes.
+pub(crate) fn character(text: &[u8]) -> Option<(u8, &[u8])>
+    ensures is { option_map (λ x. (x.0, x.1.now)) result ≡ tokens.character text.now }
+    ensures less { IfSome result (λ x. length x.1.now < length text.now) }
+{
+    match text {
+        [b'\\', rest @ ..] => escape(rest),
         [octet, rest @ ..] if is_plain(*octet) => Some((*octet, rest)),
         _ => None,
     }
 }
 
-/// The content of what is quoted, after the opening quote, and what follows the closing one; none where it does not end as it should.
-fn split_quote<'a>(body: &'a [u8], rest: &'a [u8]) -> Option<(&'a [u8], &'a [u8])> {
-    match rest {
-        [b'"', after @ ..] => Some((&body[..body.len() - rest.len()], after)),
+/// What follows a closing quote.
+fn after_quote(text: &[u8]) -> Option<&[u8]>
+    ensures { option_map (λ rest. rest.now) result ≡ after_quote_by text.now }
+{
+    match text {
+        [b'"', rest @ ..] => Some(rest),
         _ => None,
     }
 }
 
-/// The characters of a string after its opening quote, as they are written, and what follows its closing quote.
-pub(crate) fn string(body: &[u8]) -> Option<(&[u8], &[u8])> {
+/// What follows a string, after its opening quote; none where it does not end as a string does.
+pub(crate) fn after_string(body: &[u8]) -> Option<&[u8]>
+    ensures { MatchOption result ((octets rest : List ℕ) → IsString body.now octets rest → ⊥)
+        (λ rest. (octets : List ℕ) × IsString body.now octets rest.now) }
+{
     let mut rest = body;
     while let Some((_, after)) = character(rest) {
         rest = after;
     }
-    split_quote(body, rest)
+    after_quote(rest)
 }
 
-/// The digits of bytes after their opening quote, and what follows their closing quote.
-pub(crate) fn bytes(body: &[u8]) -> Option<(&[u8], &[u8])> {
+/// What follows bytes, after their opening quote; none where they do not end as bytes do.
+pub(crate) fn after_bytes(body: &[u8]) -> Option<&[u8]>
+    ensures { MatchOption result ((octets rest : List ℕ) → IsByteString body.now octets rest → ⊥)
+        (λ rest. (octets : List ℕ) × IsByteString body.now octets rest.now) }
+{
     let mut rest = body;
     while let Some((_, after)) = hex_pair(rest) {
         rest = after;
     }
-    split_quote(body, rest)
+    after_quote(rest)
 }
 
-/// The octets that the characters of a string stand for.
-pub(crate) fn octets_of(alloc: Global, characters: &[u8]) -> Result<Octets, Memory> {
+/// The octets that the characters of a string stand for, after its opening quote.
+pub(crate) fn string_octets(alloc: Global, body: &[u8]) -> Result<Octets, Memory>
+    ensures { IfOk result (λ o. (octets rest : List ℕ) → IsString body.now octets rest → o ≡ octets) }
+{
     let mut octets = Octets::new(alloc);
-    let mut rest = characters;
+    let mut rest = body;
     while let Some((octet, after)) = character(rest) {
         octets.append(&[octet])?;
         rest = after;
     }
     Ok(octets)
-}
-
-/// The octet that two digits at the front write, and the digits after them.
-pub(crate) fn next_octet(digits: &[u8]) -> Option<(u8, &[u8])> {
-    hex_pair(digits)
 }

@@ -1,0 +1,2 @@
+pub mod QuoteEnds
+pub mod Firsts
