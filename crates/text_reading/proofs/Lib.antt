@@ -1,4 +1,4 @@
 pub mod Scanned
 pub mod Scanning
 pub mod Shown
-pub mod Steps
+pub mod OneStep

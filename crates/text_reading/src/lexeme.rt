@@ -1,5 +1,5 @@
 // What comes first in a value text.
-ghost use Rattle.std.specs.Prelude.{◌≡◌, ◌∷◌, ◌×◌, ◌&&◌, ◌≤◌, true, false, length, MatchOption};
+ghost use Rattle.std.specs.Prelude.{◌≡◌, ◌∷◌, ◌&&◌, ◌≤◌, true, false, length, MatchOption};
 ghost use Rattle.nd_base.specs.Text as octets;
 ghost use Rattle.text_grammar.specs.Tokens.{begins_bytes, skip};
 ghost use Rattle.text_grammar.specs.Runs.{begins};

@@ -1,9 +1,9 @@
 // One token of what is due at a time.
-ghost use Rattle.std.specs.Prelude.{◌≡◌, ◌×◌, ◌<◌, ℕ, List, pos, IfOk, IfErr, IfNone, IfSome, length, Some, None, option_map};
+ghost use Rattle.std.specs.Prelude.{◌≡◌, ◌<◌, ℕ, List, pos, true, codes, IfOk, IfErr, IfNone, IfSome, length, Some, None, option_map};
 ghost use Rattle.text_grammar.specs.Tokens.{Word, Number, Mark, Str, Bytes, IsString, IsByteString, IsCut};
 ghost use Rattle.text_grammar.specs.declared.version.Version.TheVariants as versions;
 ghost use Rattle.text_grammar.specs.Written.{Name, Other, version_number};
-ghost use Rattle.text_grammar.specs.Dues as due;
+ghost use Rattle.text_grammar.specs.Dues.{This, AVersion, ANumber, ACount, AString, SomeBytes, APointer};
 ghost use Rattle.text_reading.specs.declared.stop.Stop.TheVariants as stop;
 ghost use Rattle.text_reading.specs.Lexemes as shown;
 ghost use Rattle.text_reading.specs.Lexemes.{plain, reference_token, reference_fits};
@@ -115,7 +115,7 @@ fn unexpected(next: &Scanned<'_>) -> Stop
 pub(crate) fn mark<'a>(version: Version, text: &'a [u8], due: u8) -> Result<&'a [u8], Stop>
     ensures ok { IfOk result (λ rest. IsCut (plain version) text.now (Mark due) rest.now) }
     ensures less { IfOk result (λ rest. length rest.now < length text.now) }
-    ensures err { IfErr result (λ e. Misses version (due.This (Other (Mark due))) text.now e) }
+    ensures err { IfErr result (λ e. Misses version (This (Other (Mark due))) text.now e) }
 {
     let next = scan(version, text);
     if is_mark(next.lexeme, due) {
@@ -141,7 +141,7 @@ pub(crate) fn after_mark<'a>(version: Version, text: &'a [u8], due: u8) -> Optio
 pub(crate) fn word<'a>(version: Version, text: &'a [u8], due: &[u8]) -> Result<&'a [u8], Stop>
     ensures ok { IfOk result (λ rest. IsCut (plain version) text.now (Word due.now) rest.now) }
     ensures less { IfOk result (λ rest. length rest.now < length text.now) }
-    ensures err { IfErr result (λ e. Misses version (due.This (Other (Word due.now))) text.now e) }
+    ensures err { IfErr result (λ e. Misses version (This (Other (Word due.now))) text.now e) }
 {
     let next = scan(version, text);
     if is_word(next.lexeme, due) {
@@ -154,7 +154,7 @@ pub(crate) fn word<'a>(version: Version, text: &'a [u8], due: &[u8]) -> Result<&
 pub(crate) fn name<'a>(version: Version, text: &'a [u8], due: &[u8]) -> Result<&'a [u8], Stop>
     ensures ok { IfOk result (λ rest. IsCut (plain version) text.now (Word due.now) rest.now) }
     ensures less { IfOk result (λ rest. length rest.now < length text.now) }
-    ensures err { IfErr result (λ e. Misses version (due.This (Name due.now)) text.now e) }
+    ensures err { IfErr result (λ e. Misses version (This (Name due.now)) text.now e) }
 {
     let next = scan(version, text);
     if is_word(next.lexeme, due) {
@@ -167,7 +167,7 @@ pub(crate) fn name<'a>(version: Version, text: &'a [u8], due: &[u8]) -> Result<&
 pub(crate) fn number(version: Version, text: &[u8]) -> Result<(i128, &[u8]), Stop>
     ensures ok { IfOk result (λ x. IsCut (plain version) text.now (Number x.0) x.1.now) }
     ensures less { IfOk result (λ x. length x.1.now < length text.now) }
-    ensures err { IfErr result (λ e. Misses version due.ANumber text.now e) }
+    ensures err { IfErr result (λ e. Misses version ANumber text.now e) }
 {
     let next = scan(version, text);
     match number_in(next.lexeme) {
@@ -190,7 +190,7 @@ fn count_in(lexeme: Lexeme<'_>) -> Option<u32>
 pub(crate) fn count(version: Version, text: &[u8]) -> Result<(u32, &[u8]), Stop>
     ensures ok { IfOk result (λ x. IsCut (plain version) text.now (Number (pos x.0)) x.1.now) }
     ensures less { IfOk result (λ x. length x.1.now < length text.now) }
-    ensures err { IfErr result (λ e. Misses version due.ACount text.now e) }
+    ensures err { IfErr result (λ e. Misses version ACount text.now e) }
 {
     let next = scan(version, text);
     match count_in(next.lexeme) {
@@ -203,7 +203,7 @@ pub(crate) fn count(version: Version, text: &[u8]) -> Result<(u32, &[u8]), Stop>
 pub(crate) fn string<'a>(version: Version, text: &'a [u8]) -> Result<(&'a [u8], &'a [u8]), Stop>
     ensures ok { IfOk result (λ x. (octets : List ℕ) × IsString x.0.now octets x.1.now × IsCut (plain version) text.now (Str octets) x.1.now) }
     ensures less { IfOk result (λ x. length x.1.now < length text.now) }
-    ensures err { IfErr result (λ e. Misses version due.AString text.now e) }
+    ensures err { IfErr result (λ e. Misses version AString text.now e) }
 {
     let next = scan(version, text);
     match string_in(next.lexeme) {
@@ -216,7 +216,7 @@ pub(crate) fn string<'a>(version: Version, text: &'a [u8]) -> Result<(&'a [u8], 
 pub(crate) fn bytes<'a>(version: Version, text: &'a [u8]) -> Result<(&'a [u8], &'a [u8]), Stop>
     ensures ok { IfOk result (λ x. (octets : List ℕ) × IsByteString x.0.now octets x.1.now × IsCut (plain version) text.now (Bytes octets) x.1.now) }
     ensures less { IfOk result (λ x. length x.1.now < length text.now) }
-    ensures err { IfErr result (λ e. Misses version due.SomeBytes text.now e) }
+    ensures err { IfErr result (λ e. Misses version SomeBytes text.now e) }
 {
     let next = scan(version, text);
     match bytes_in(next.lexeme) {
@@ -240,7 +240,7 @@ fn version_in(lexeme: Lexeme<'_>) -> Option<Version>
 pub(crate) fn version(text: &[u8]) -> Result<(Version, &[u8]), Stop>
     ensures ok { IfOk result (λ x. IsCut (plain versions.One) text.now (Number (pos (version_number x.0))) x.1.now) }
     ensures less { IfOk result (λ x. length x.1.now < length text.now) }
-    ensures err { IfErr result (λ e. Misses versions.One due.AVersion text.now e) }
+    ensures err { IfErr result (λ e. Misses versions.One AVersion text.now e) }
 {
     let next = scan(Version::One, text);
     match version_in(next.lexeme) {
@@ -254,7 +254,7 @@ pub(crate) fn reference(version: Version, text: &[u8]) -> Result<(Option<u32>, &
     ensures ok { IfOk result (λ x. IsCut (plain version) text.now (reference_token x.0) x.1.now) }
     ensures range { IfOk result (λ x. reference_fits x.0 ≡ true) }
     ensures less { IfOk result (λ x. length x.1.now < length text.now) }
-    ensures err { IfErr result (λ e. (to : ℕ) → Misses version (due.APointer to) text.now e) }
+    ensures err { IfErr result (λ e. (to : ℕ) → Misses version (APointer to) text.now e) }
 {
     let next = scan(version, text);
     if is_word(next.lexeme, b"null") {

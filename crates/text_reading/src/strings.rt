@@ -1,5 +1,5 @@
 // Strings and bytes of a value text.
-ghost use Rattle.std.specs.Prelude.{◌≡◌, ◌<◌, ◌×◌, true, List, ℕ, length, IfOk, IfSome, MatchOption, option_map};
+ghost use Rattle.std.specs.Prelude.{◌≡◌, ◌<◌, true, List, ℕ, length, IfOk, IfSome, MatchOption, option_map};
 ghost use Rattle.nd_base.specs.Text as octets;
 ghost use Rattle.text_grammar.specs.Tokens as tokens;
 ghost use Rattle.text_grammar.specs.Tokens.{IsString, IsByteString};
