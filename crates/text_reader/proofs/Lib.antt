@@ -1,2 +1,7 @@
-pub mod QuoteEnds
+pub mod Quoted
 pub mod Firsts
+pub mod OneText
+pub mod Settled
+pub mod Alike
+pub mod Forms
+pub mod ValuesRead
