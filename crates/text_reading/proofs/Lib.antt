@@ -1,4 +1,8 @@
-pub mod Scanned
-pub mod Scanning
-pub mod Shown
-pub mod OneStep
+pub mod Passages
+pub mod Parts
+pub mod OpenedValues
+pub mod Arms
+pub mod SmallParts
+pub mod ListParts
+pub mod Members
+pub mod ValueForms

@@ -1,2 +1,4 @@
-pub mod Lexemes
 pub mod Passing
+pub mod NamedCells
+pub mod Known
+pub mod ValueParts

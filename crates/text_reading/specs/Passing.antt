@@ -6,37 +6,21 @@ use Rattle.nd_value.specs.Tree.{Tree, Trees, more, none, count, node_count}
 use Rattle.text_grammar.specs.declared.version.Version.{Version}
 use Rattle.text_grammar.specs.declared.fault.TextReason.{TextReason}
 use Rattle.text_grammar.specs.declared.fault.TextReason.TheVariants as reason
-use Rattle.text_grammar.specs.Tokens.{Token, Begins, after, skip}
+use Rattle.text_grammar.specs.Tokens.{Token, Cutting, Begins, after, skip}
 use Rattle.text_grammar.specs.Written.{token_of, writes_octets, list_pieces, values_pieces}
 use Rattle.text_grammar.specs.Readable.{may_be_elements}
 use Rattle.text_grammar.specs.Reads.{Lexeme, Cut, End, Bad, IsNext}
-use Rattle.text_grammar.specs.Dues.{Due, AValue, Reading, taken, all_read, list_dues}
+use Rattle.text_grammar.specs.Dues.{Due, AUuid, AValue, Reading, taken, all_read, list_dues}
 use Rattle.text_grammar.specs.Reader.{ComesTo, Stopped}
 use Rattle.text_reader.specs.Settled.{IsSettled}
 use Rattle.text_reader.specs.Values.{reading, have_forms, noted, value_tokens}
-use Rattle.text_reading.specs.declared.stop.Stop.{Stop}
-use Rattle.text_reading.specs.declared.stop.Stop.TheVariants as stop
-use Rattle.text_reading.specs.Lexemes.{plain}
+use Rattle.text_lexing.specs.declared.stop.Stop.{Stop}
+use Rattle.text_lexing.specs.declared.stop.Stop.TheVariants as stop
+use Rattle.text_lexing.specs.Lexemes.{plain, for_uuid}
 
 -- the cells that pointers have named, each with its type, the last first
 abbrev pub Named : Type 0
 Named = List (ℕ × ℕ)
-
--- what comes next is not the token that is due
-abbrev pub IsWrong : Due → Lexeme → TextReason → Type 0
-IsWrong d (Cut t) why = (x : Reading) (ds : List Due) → taken x d t ds ≡ Err why
-IsWrong d End why = why ≡ reason.Expected
-IsWrong d Bad why = why ≡ reason.BadToken
-
-pub record MissesAt (v : Version) (d : Due) (text : List ℕ) (left : ℕ) (why : TextReason) : Type 0 where
-  pub left_is : left ≡ length (skip text)
-  pub next : Lexeme
-  pub is_next : IsNext (plain v) text next
-  pub wrong : IsWrong d next why
-
-abbrev pub Misses : Version → Due → List ℕ → Stop → Type 0
-Misses v d text stop.Memory = Unit {0}
-Misses v d text (stop.At left why) = MissesAt v d text left why
 
 -- The tokens come first in the text, wherever it is read on in the middle, and by them what is due becomes something else.
 pub record Passes (v : Version) (table : Table) (ds : List Due) (ns : Named) (text : List ℕ) (ts : List Token) (es : List Due) (ms : Named) (rest : List ℕ) : Type 0 where
