@@ -1,7 +1,7 @@
-mod Classes
-mod Runs
-mod Numerals
-mod Scanned
+pub mod Classes
+pub mod Runs
+pub mod Numerals
+pub mod Scanned
 mod Tested
 mod WorkedTexts
 mod WorkedPrinted

@@ -1,0 +1,4 @@
+pub mod Passing
+pub mod NamedCells
+pub mod Known
+pub mod ValueParts

@@ -1,14 +1,9 @@
 //! How texts of values are read: version 1 and version 2 of the value text.
 #![tactic(auto)]
 
-mod identifiers;
-mod lexeme;
+mod grammar;
 mod names;
-mod numbers;
-mod octets;
-mod steps;
-mod stop;
-mod strings;
+mod parts;
 #[cfg(test)]
 mod tests;
 mod texts;

@@ -1,38 +1,50 @@
 // Values of a text, read by their types.
-use crate::lexeme::{Lexeme, next};
-use crate::names::Names;
-use crate::steps::{count, count_colon, identifier, mark, named, number, unexpected, word};
-use crate::stop::Stop;
-use crate::strings::{next_octet, octets_of};
-use nd_types::{Arm, Arms, Fields, Prim, TypeDef, TypeId, Types};
-use nd_value::{ArmVal, CellId, Val, Vals};
-use std::alloc::Global;
-use text_grammar::Version;
+ghost use Rattle.std.specs.Prelude.{◌≡◌, ◌<◌, ◌^◌, [], ◌∷◌, ◌++◌, ℕ, List, Bool, Some, true, false, IfOk, IfErr, length, slice_get};
+ghost use Rattle.nd_types.specs.declared.types.TypeId.{TypeId as TypeNumber};
+ghost use Rattle.nd_types.specs.declared.types.TypeDef.TheVariants as def;
+ghost use Rattle.nd_types.specs.declared.types.Field.{Field};
+ghost use Rattle.nd_types.specs.declared.types.Class.{Class};
+ghost use Rattle.nd_types.specs.Layout.{type_list};
+ghost use Rattle.nd_types.specs.Table.{type_at};
+ghost use Rattle.nd_value.specs.Seen.{tree_of};
+ghost use Rattle.nd_value.specs.Tree.{trees};
+ghost use Rattle.text_grammar.specs.Tokens.{Mark, IsByteString, IsCut};
+ghost use Rattle.text_grammar.specs.Written.{writes_octets};
+ghost use Rattle.text_grammar.specs.Dues.{AValue, FirstElement, arm_dues, list_dues, named_due};
+ghost use Rattle.text_lexing.specs.Lexemes.{plain};
+ghost use Rattle.text_lexing.specs.declared.stop.Stop.TheVariants as stop;
+ghost use Rattle.text_reading.specs.Passing.{Named, Halts, IsValue, AreElements};
+ghost use Rattle.text_reading.specs.Known.{IsType, IsUnion, AreOf, is_numeral};
+ghost use Rattle.text_reading.specs.ValueParts.{comma_dues, byte_trees, IsMember, HaveCome, IsArm};
 
-/// What values are read under: the version of the text, and the types of the interface.
-#[derive(Clone, Copy)]
-pub(crate) struct Grammar<'a> {
-    pub(crate) alloc: Global,
-    pub(crate) version: Version,
-    pub(crate) types: &'a Types,
-}
+use crate::grammar::Grammar;
+use crate::names::Names;
+use crate::parts::{
+    are_bytes, cell_of, is_unbound, maximum_before, maximum_is_written, maximum_of,
+    maximum_or, named, note_reference, selected_type, separator, written_count,
+};
+use nd_types::{Arm, Arms, Fields, TypeDef, TypeId};
+use nd_value::{ArmVal, Val, Vals};
+use std::alloc::Global;
+use text_lexing::{
+    Stop, after_mark, bytes, count, hex_pair, identifier, mark, number, reference, string,
+    string_octets, word,
+};
 
 /// A value and what follows it.
 type Read<'a> = Result<(Val, &'a [u8]), Stop>;
 
 /// A value of a type. The calls are nested as deep as the type is.
 #[cycle(values)]
-pub(crate) fn value<'a>(
-    under: Grammar<'_>,
-    names: &mut Names,
-    of: TypeId,
-    text: &'a [u8],
-) -> Read<'a> {
+pub(crate) fn value<'a>(under: Grammar<'_>, names: &mut Names, of: TypeId, text: &'a [u8]) -> Read<'a>
+    requires known { of.0 < length under.entry.types.now }
+    requires short { length text.now < 2 ^ 32 }
+    ensures ok { IfOk result (λ x. IsValue under.entry.version under.entry.types.now of.0 names.old text.now (tree_of x.0) names.new x.1.now) }
+    ensures err { IfErr result (λ e. Halts under.entry.version under.entry.types.now (AValue of.0 ∷ []) names.old text.now e) }
+{
     match under.types.get(of.0 as usize) {
-        Some(TypeDef::Prim(_) | TypeDef::Enum { .. }) => {
-            let (value, rest) = number(under.version, text)?;
-            Ok((Val::Num(value), rest))
-        }
+        Some(TypeDef::Prim(_)) => numeral(under, text),
+        Some(TypeDef::Enum { .. }) => numeral(under, text),
         Some(TypeDef::Struct { members }) => structure(under, names, members, text),
         Some(
             TypeDef::Array {
@@ -41,204 +53,258 @@ pub(crate) fn value<'a>(
                 varying,
             },
         ) => array(under, names, *elem, *bound, *varying, text),
-        Some(TypeDef::Text { bound, .. }) => string(under, *bound, text),
+        Some(TypeDef::Text { bound, .. }) => characters(under, *bound, text),
         Some(TypeDef::Union { arms, default, .. }) => union(under, names, arms, default, text),
         Some(TypeDef::Pointer { to, .. }) => pointer(under, names, *to, text),
         Some(TypeDef::Context) => context(under, text),
-        Some(TypeDef::Pipe { elem }) => {
-            let (vals, rest) = elements(under, names, *elem, text)?;
-            Ok((Val::Pipe(vals), rest))
-        }
+        Some(TypeDef::Pipe { elem }) => pipe(under, names, *elem, text),
         None => unreachable!(),
     }
 }
 
-/// A list of values with another after it.
-fn with(mut vals: Vals, val: Val) -> Result<Vals, Stop> {
-    match vals.push(val) {
-        Ok(()) => Ok(vals),
-        Err((memory, _)) => Err(Stop::from(memory)),
-    }
+/// A number of a primitive or an enumerated type.
+fn numeral<'a>(under: Grammar<'_>, text: &'a [u8]) -> Read<'a>
+    ensures ok { IfOk result (λ x. (t : ℕ) (ns : Named) → is_numeral (type_at under.entry.types.now t) ≡ true
+        → IsValue under.entry.version under.entry.types.now t ns text.now (tree_of x.0) ns x.1.now) }
+    ensures err { IfErr result (λ e. (t : ℕ) (ns : Named) → is_numeral (type_at under.entry.types.now t) ≡ true
+        → Halts under.entry.version under.entry.types.now (AValue t ∷ []) ns text.now e) }
+{
+    let (value, rest) = number(under.version, text)?;
+    Ok((Val::Num(value), rest))
 }
 
 /// The members of a struct between braces.
 #[cycle(values)]
-fn structure<'a>(
-    under: Grammar<'_>,
-    names: &mut Names,
-    members: &Fields,
-    text: &'a [u8],
-) -> Read<'a> {
+fn structure<'a>(under: Grammar<'_>, names: &mut Names, members: &Fields, text: &'a [u8]) -> Read<'a>
+    requires known { IsType under.entry.types.now (def.Struct members.now) }
+    requires short { length text.now < 2 ^ 32 }
+    ensures ok { IfOk result (λ x. (t : ℕ) → type_at under.entry.types.now t ≡ Some (def.Struct members.now)
+        → IsValue under.entry.version under.entry.types.now t names.old text.now (tree_of x.0) names.new x.1.now) }
+    ensures err { IfErr result (λ e. (t : ℕ) → type_at under.entry.types.now t ≡ Some (def.Struct members.now)
+        → Halts under.entry.version under.entry.types.now (AValue t ∷ []) names.old text.now e) }
+{
     let mut rest = mark(under.version, text, b'{')?;
     let mut vals = Vals::new(under.alloc);
     for at in 0..members.len() {
-        let Some(member) = members.get(at) else {
-            unreachable!()
+        let (val, after) = member(under, names, members, at, rest)?;
+        let Ok(()) = vals.push(val) else {
+            return Err(Stop::Memory);
         };
-        if at > 0 {
-            rest = mark(under.version, rest, b',')?;
-        }
-        rest = named(under.version, rest, member.name.as_slice())?;
-        let (val, after) = value(under, names, member.of, rest)?;
-        vals = with(vals, val)?;
         rest = after;
     }
-    Ok((Val::Rec(vals), mark(under.version, rest, b'}')?))
+    let end = mark(under.version, rest, b'}')?;
+    Ok((Val::Rec(vals), end))
+}
+
+/// A member of a struct, by its place: the comma before it, its name and its value.
+#[cycle(values)]
+fn member<'a>(under: Grammar<'_>, names: &mut Names, members: &Fields, at: usize, text: &'a [u8]) -> Read<'a>
+    requires known { IsType under.entry.types.now (def.Struct members.now) }
+    requires there { at < length members.now }
+    requires short { length text.now < 2 ^ 32 }
+    ensures ok { IfOk result (λ x. (f : Field) → slice_get members.now at ≡ Some f
+        → IsMember under.entry.version under.entry.types.now f at names.old text.now (tree_of x.0) names.new x.1.now) }
+    ensures err { IfErr result (λ e. (f : Field) → slice_get members.now at ≡ Some f
+        → Halts under.entry.version under.entry.types.now (comma_dues at ++ named_due f.name f.of.0) names.old text.now e) }
+{
+    let Some(member) = members.get(at) else {
+        unreachable!()
+    };
+    let start = separator(under.version, at, text)?;
+    let rest = named(under.version, start, member.name.as_slice())?;
+    value(under, names, member.of, rest)
 }
 
 /// An array, with the counts that its type has no rule for.
 #[cycle(values)]
-fn array<'a>(
-    under: Grammar<'_>,
-    names: &mut Names,
-    elem: TypeId,
-    bound: Option<u32>,
-    varying: bool,
-    text: &'a [u8],
-) -> Read<'a> {
-    let (max, rest) = match bound {
-        None if varying => {
-            let (max, rest) = count_colon(under.version, text)?;
-            (Some(max), rest)
-        }
-        _ => (bound, text),
-    };
-    let (offset, rest) = if varying {
-        count_colon(under.version, rest)?
-    } else {
-        (0, rest)
-    };
+fn array<'a>(under: Grammar<'_>, names: &mut Names, elem: TypeId, bound: Option<u32>, varying: bool, text: &'a [u8]) -> Read<'a>
+    requires known { elem.0 < length under.entry.types.now }
+    requires short { length text.now < 2 ^ 32 }
+    ensures ok { IfOk result (λ x. (t : ℕ) → type_at under.entry.types.now t ≡ Some (def.Array elem bound varying)
+        → IsValue under.entry.version under.entry.types.now t names.old text.now (tree_of x.0) names.new x.1.now) }
+    ensures err { IfErr result (λ e. (t : ℕ) → type_at under.entry.types.now t ≡ Some (def.Array elem bound varying)
+        → Halts under.entry.version under.entry.types.now (AValue t ∷ []) names.old text.now e) }
+{
+    let (written, rest) = written_count(under.version, maximum_is_written(bound, varying), text)?;
+    let (offset, rest) = written_count(under.version, varying, rest)?;
     let (items, rest) = elements(under, names, elem, rest)?;
-    let max = match max {
-        Some(max) => max,
-        None => items.len() as u32,
-    };
+    let max = maximum_of(maximum_before(bound, varying, written), &items);
     Ok((Val::Arr { max, offset, items }, rest))
 }
 
-/// The elements of an array or a pipe: in version 2 bytes by their digits, all else between brackets.
+/// All elements of a pipe.
 #[cycle(values)]
-fn elements<'a>(
-    under: Grammar<'_>,
-    names: &mut Names,
-    elem: TypeId,
-    text: &'a [u8],
-) -> Result<(Vals, &'a [u8]), Stop> {
-    if under.version == Version::Two
-        && let Some(TypeDef::Prim(Prim::Byte)) = under.types.get(elem.0 as usize)
-    {
-        return bytes(under, text);
-    }
-    let mut rest = mark(under.version, text, b'[')?;
-    let mut vals = Vals::new(under.alloc);
-    if let Some(after) = closed(under, rest) {
-        return Ok((vals, after));
-    }
-    loop {
-        let (val, after) = value(under, names, elem, rest)?;
-        vals = with(vals, val)?;
-        if let Some(end) = closed(under, after) {
-            return Ok((vals, end));
-        }
-        rest = mark(under.version, after, b',')?;
-    }
+fn pipe<'a>(under: Grammar<'_>, names: &mut Names, elem: TypeId, text: &'a [u8]) -> Read<'a>
+    requires known { elem.0 < length under.entry.types.now }
+    requires short { length text.now < 2 ^ 32 }
+    ensures ok { IfOk result (λ x. (t : ℕ) → type_at under.entry.types.now t ≡ Some (def.Pipe elem)
+        → IsValue under.entry.version under.entry.types.now t names.old text.now (tree_of x.0) names.new x.1.now) }
+    ensures err { IfErr result (λ e. (t : ℕ) → type_at under.entry.types.now t ≡ Some (def.Pipe elem)
+        → Halts under.entry.version under.entry.types.now (AValue t ∷ []) names.old text.now e) }
+{
+    let (items, rest) = elements(under, names, elem, text)?;
+    Ok((Val::Pipe(items), rest))
 }
 
-/// What follows a closing bracket, if one comes next.
-fn closed<'a>(under: Grammar<'_>, text: &'a [u8]) -> Option<&'a [u8]> {
-    let next = next(under.version, text);
-    match next.lexeme {
-        Lexeme::Mark(b']') => Some(next.rest),
-        _ => None,
+/// The elements of an array or a pipe: bytes in version 2 by their digits, all else between brackets.
+#[cycle(values)]
+fn elements<'a>(under: Grammar<'_>, names: &mut Names, elem: TypeId, text: &'a [u8]) -> Result<(Vals, &'a [u8]), Stop>
+    requires known { elem.0 < length under.entry.types.now }
+    requires short { length text.now < 2 ^ 32 }
+    ensures ok { IfOk result (λ x. AreElements under.entry.version under.entry.types.now elem.0 names.old text.now (trees x.0) names.new x.1.now) }
+    ensures err { IfErr result (λ e. Halts under.entry.version under.entry.types.now
+        (list_dues (writes_octets under.entry.version (type_at under.entry.types.now elem.0)) elem.0) names.old text.now e) }
+{
+    if are_bytes(under, elem) {
+        return byte_elements(under, elem, text);
     }
+    listed(under, names, elem, text)
+}
+
+/// Elements between brackets.
+#[cycle(values)]
+fn listed<'a>(under: Grammar<'_>, names: &mut Names, elem: TypeId, text: &'a [u8]) -> Result<(Vals, &'a [u8]), Stop>
+    requires known { elem.0 < length under.entry.types.now }
+    requires short { length text.now < 2 ^ 32 }
+    requires values { writes_octets under.entry.version (type_at under.entry.types.now elem.0) ≡ false }
+    ensures ok { IfOk result (λ x. AreElements under.entry.version under.entry.types.now elem.0 names.old text.now (trees x.0) names.new x.1.now) }
+    ensures err { IfErr result (λ e. Halts under.entry.version under.entry.types.now (list_dues false elem.0) names.old text.now e) }
+{
+    let start = mark(under.version, text, b'[')?;
+    if let Some(end) = after_mark(under.version, start, b']') {
+        return Ok((Vals::new(under.alloc), end));
+    }
+    let (vals, rest) = items(under, names, elem, start)?;
+    let end = mark(under.version, rest, b']')?;
+    Ok((vals, end))
+}
+
+/// One or more elements, with a comma between each two.
+#[cycle(values)]
+fn items<'a>(under: Grammar<'_>, names: &mut Names, elem: TypeId, text: &'a [u8]) -> Result<(Vals, &'a [u8]), Stop>
+    requires known { elem.0 < length under.entry.types.now }
+    requires short { length text.now < 2 ^ 32 }
+    requires more { (rest : List ℕ) → IsCut (plain under.entry.version) text.now (Mark 93) rest → ⊥ }
+    ensures ok { IfOk result (λ x. HaveCome under.entry.version under.entry.types.now elem.0 names.old text.now x.0 names.new x.1.now) }
+    ensures last { IfOk result (λ x. (rest : List ℕ) → IsCut (plain under.entry.version) x.1.now (Mark 44) rest → ⊥) }
+    ensures err { IfErr result (λ e. Halts under.entry.version under.entry.types.now (FirstElement elem.0 ∷ []) names.old text.now e) }
+{
+    let mut vals = Vals::new(under.alloc);
+    let (val, after) = value(under, names, elem, text)?;
+    let Ok(()) = vals.push(val) else {
+        return Err(Stop::Memory);
+    };
+    let mut rest = after;
+    while let Some(next) = after_mark(under.version, rest, b',') {
+        let (val, after) = value(under, names, elem, next)?;
+        let Ok(()) = vals.push(val) else {
+            return Err(Stop::Memory);
+        };
+        rest = after;
+    }
+    Ok((vals, rest))
 }
 
 /// Bytes by their digits.
-fn bytes<'a>(under: Grammar<'_>, text: &'a [u8]) -> Result<(Vals, &'a [u8]), Stop> {
-    let next = next(under.version, text);
-    let Lexeme::Bytes(digits) = next.lexeme else {
-        return Err(unexpected(&next));
-    };
-    let mut vals = Vals::new(under.alloc);
-    let mut left = digits;
-    while let Some((octet, after)) = next_octet(left) {
-        vals = with(vals, Val::Num(i128::from(octet)))?;
-        left = after;
+fn byte_elements<'a>(under: Grammar<'_>, elem: TypeId, text: &'a [u8]) -> Result<(Vals, &'a [u8]), Stop>
+    requires octets { writes_octets under.entry.version (type_at under.entry.types.now elem.0) ≡ true }
+    ensures ok { IfOk result (λ x. (ns : Named) → AreElements under.entry.version under.entry.types.now elem.0 ns text.now (trees x.0) ns x.1.now) }
+    ensures err { IfErr result (λ e. (ns : Named) → Halts under.entry.version under.entry.types.now (list_dues true elem.0) ns text.now e) }
+{
+    let (body, rest) = bytes(under.version, text)?;
+    let vals = byte_values(under.alloc, body)?;
+    Ok((vals, rest))
+}
+
+/// The values of bytes, after their opening quote.
+fn byte_values(alloc: Global, body: &[u8]) -> Result<Vals, Stop>
+    ensures ok { IfOk result (λ vals. (octets rest : List ℕ) → IsByteString body.now octets rest → vals ≡ byte_trees octets) }
+    ensures err { IfErr result (λ e. e ≡ stop.Memory) }
+{
+    let mut vals = Vals::new(alloc);
+    let mut rest = body;
+    while let Some((octet, after)) = hex_pair(rest) {
+        let Ok(()) = vals.push(Val::Num(i128::from(octet))) else {
+            return Err(Stop::Memory);
+        };
+        rest = after;
     }
-    Ok((vals, next.rest))
+    Ok(vals)
 }
 
 /// A string, after its maximum count where the type has none.
-fn string<'a>(under: Grammar<'_>, bound: Option<u32>, text: &'a [u8]) -> Read<'a> {
-    let (max, rest) = match bound {
-        Some(bound) => (bound, text),
-        None => count_colon(under.version, text)?,
-    };
-    let next = next(under.version, rest);
-    let Lexeme::Str(characters) = next.lexeme else {
-        return Err(unexpected(&next));
-    };
-    let octets = octets_of(under.alloc, characters)?;
-    Ok((Val::Text { max, octets }, next.rest))
+fn characters<'a>(under: Grammar<'_>, bound: Option<u32>, text: &'a [u8]) -> Read<'a>
+    ensures ok { IfOk result (λ x. (t : ℕ) (ns : Named) (elem : TypeNumber) → type_at under.entry.types.now t ≡ Some (def.Text elem bound)
+        → IsValue under.entry.version under.entry.types.now t ns text.now (tree_of x.0) ns x.1.now) }
+    ensures err { IfErr result (λ e. (t : ℕ) (ns : Named) (elem : TypeNumber) → type_at under.entry.types.now t ≡ Some (def.Text elem bound)
+        → Halts under.entry.version under.entry.types.now (AValue t ∷ []) ns text.now e) }
+{
+    let (written, rest) = written_count(under.version, is_unbound(bound), text)?;
+    let (body, rest) = string(under.version, rest)?;
+    let octets = string_octets(under.alloc, body)?;
+    let max = maximum_or(bound, written);
+    Ok((Val::Text { max, octets }, rest))
 }
 
 /// A tag, and the value of the arm that it selects.
 #[cycle(values)]
-fn union<'a>(
-    under: Grammar<'_>,
-    names: &mut Names,
-    arms: &Arms,
-    default: &Option<Arm>,
-    text: &'a [u8],
-) -> Read<'a> {
+fn union<'a>(under: Grammar<'_>, names: &mut Names, arms: &Arms, default: &Option<Arm>, text: &'a [u8]) -> Read<'a>
+    requires known { IsUnion under.entry.types.now arms.now default.now }
+    requires short { length text.now < 2 ^ 32 }
+    ensures ok { IfOk result (λ x. (t : ℕ) (tag : TypeNumber) (own : Bool) → type_at under.entry.types.now t ≡ Some (def.Union tag own arms.now default.now)
+        → IsValue under.entry.version under.entry.types.now t names.old text.now (tree_of x.0) names.new x.1.now) }
+    ensures err { IfErr result (λ e. (t : ℕ) (tag : TypeNumber) (own : Bool) → type_at under.entry.types.now t ≡ Some (def.Union tag own arms.now default.now)
+        → Halts under.entry.version under.entry.types.now (AValue t ∷ []) names.old text.now e) }
+{
     let (tag, rest) = number(under.version, text)?;
     let rest = mark(under.version, rest, b':')?;
-    let Some(of) = selected(arms, default, tag).and_then(|arm| arm.of) else {
-        let rest = word(under.version, rest, b"void")?;
-        let arm = ArmVal::none();
-        return Ok((Val::Union { tag, arm }, rest));
-    };
-    let (val, rest) = value(under, names, of, rest)?;
-    let Ok(val) = Box::new(under.alloc, val) else {
-        return Err(Stop::Memory);
-    };
-    let arm = ArmVal::of(val);
+    let (arm, rest) = arm(under, names, selected_type(arms, default, tag), rest)?;
     Ok((Val::Union { tag, arm }, rest))
 }
 
-/// The arm that a tag selects: the one with that label, or the default, if any.
-fn selected<'a>(arms: &'a Arms, default: &'a Option<Arm>, tag: i128) -> Option<&'a Arm> {
-    for at in 0..arms.len() {
-        let Some(arm) = arms.get(at) else {
-            unreachable!()
-        };
-        if arm.label == tag {
-            return Some(arm);
-        }
-    }
-    default.as_ref()
+/// The value of an arm of a type, or `void` where it has none.
+#[cycle(values)]
+fn arm<'a>(under: Grammar<'_>, names: &mut Names, of: Option<TypeId>, text: &'a [u8]) -> Result<(ArmVal, &'a [u8]), Stop>
+    requires known { AreOf under.entry.types.now of }
+    requires short { length text.now < 2 ^ 32 }
+    ensures ok { IfOk result (λ x. IsArm under.entry.version under.entry.types.now (type_list of) names.old text.now x.0 names.new x.1.now) }
+    ensures err { IfErr result (λ e. Halts under.entry.version under.entry.types.now (arm_dues (type_list of)) names.old text.now e) }
+{
+    let Some(of) = of else {
+        let rest = word(under.version, text, b"void")?;
+        return Ok((ArmVal::none(), rest));
+    };
+    let (val, rest) = value(under, names, of, text)?;
+    let Ok(val) = Box::new(under.alloc, val) else {
+        return Err(Stop::Memory);
+    };
+    Ok((ArmVal::of(val), rest))
 }
 
 /// `null`, or the number of a cell, which is noted.
-fn pointer<'a>(under: Grammar<'_>, names: &mut Names, to: TypeId, text: &'a [u8]) -> Read<'a> {
-    let next = next(under.version, text);
-    match next.lexeme {
-        Lexeme::Word(octets) if octets == b"null".as_slice() => Ok((Val::Ptr(None), next.rest)),
-        Lexeme::Cell(cell) => {
-            names.note(cell, to)?;
-            Ok((Val::Ptr(Some(CellId(cell))), next.rest))
-        }
-        _ => Err(unexpected(&next)),
-    }
+fn pointer<'a>(under: Grammar<'_>, names: &mut Names, to: TypeId, text: &'a [u8]) -> Read<'a>
+    ensures ok { IfOk result (λ x. (t : ℕ) (class : Class) → type_at under.entry.types.now t ≡ Some (def.Pointer class to)
+        → IsValue under.entry.version under.entry.types.now t names.old text.now (tree_of x.0) names.new x.1.now) }
+    ensures err { IfErr result (λ e. (t : ℕ) (class : Class) → type_at under.entry.types.now t ≡ Some (def.Pointer class to)
+        → Halts under.entry.version under.entry.types.now (AValue t ∷ []) names.old text.now e) }
+{
+    let (cell, rest) = reference(under.version, text)?;
+    note_reference(names, cell, to)?;
+    Ok((Val::Ptr(cell_of(cell)), rest))
 }
 
 /// A context handle.
-fn context<'a>(under: Grammar<'_>, text: &'a [u8]) -> Read<'a> {
+fn context<'a>(under: Grammar<'_>, text: &'a [u8]) -> Read<'a>
+    ensures ok { IfOk result (λ x. (t : ℕ) (ns : Named) → type_at under.entry.types.now t ≡ Some def.Context
+        → IsValue under.entry.version under.entry.types.now t ns text.now (tree_of x.0) ns x.1.now) }
+    ensures err { IfErr result (λ e. (t : ℕ) (ns : Named) → type_at under.entry.types.now t ≡ Some def.Context
+        → Halts under.entry.version under.entry.types.now (AValue t ∷ []) ns text.now e) }
+{
     let rest = word(under.version, text, b"ctx")?;
     let rest = mark(under.version, rest, b'(')?;
     let (attributes, rest) = count(under.version, rest)?;
     let rest = mark(under.version, rest, b',')?;
-    let (id, rest) = identifier(under.version, rest)?;
+    let (id, rest) = identifier(under.alloc, under.version, rest)?;
     let rest = mark(under.version, rest, b')')?;
     Ok((Val::Context { attributes, id }, rest))
 }

@@ -4,7 +4,7 @@ use text_grammar::TextReason;
 
 /// Why a text was not read on.
 #[derive(Clone, Copy, Debug)]
-pub(crate) enum Stop {
+pub enum Stop {
     /// Out of memory.
     Memory,
     /// What comes there is wrong, and with it only so many octets are left.
@@ -12,6 +12,11 @@ pub(crate) enum Stop {
 }
 
 impl From<Memory> for Stop {
+    ghost use Rattle.std.specs.Prelude.{◌≡◌};
+    ghost use Rattle.text_lexing.specs.declared.stop.Stop.TheVariants as stop;
+
+    ghost from_gives = { λ _ e. e ≡ stop.Memory };
+
     fn from(_: Memory) -> Stop {
         Stop::Memory
     }

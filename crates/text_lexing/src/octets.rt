@@ -6,21 +6,21 @@ ghost use Rattle.text_grammar.specs.Runs.{run, after_run};
 use nd_base::text::is_word_octet;
 
 /// Space, tab, carriage return or line feed.
-pub(crate) fn is_blank(octet: u8) -> bool
+pub fn is_blank(octet: u8) -> bool
     ensures { result ≡ tokens.is_blank octet }
 {
     octet == b' ' || octet == b'\t' || octet == b'\r' || octet == b'\n'
 }
 
 /// One of the marks `= { } [ ] , : ( )`.
-pub(crate) fn is_mark(octet: u8) -> bool
+pub fn is_mark(octet: u8) -> bool
     ensures { result ≡ tokens.is_mark octet }
 {
     b"={}[],:()".iter().any(|mark| octet == *mark)
 }
 
 /// The text without the blanks at its front.
-pub(crate) fn skip_blanks(text: &[u8]) -> &[u8]
+pub fn skip_blanks(text: &[u8]) -> &[u8]
     ensures { result.now ≡ tokens.skip text.now }
 {
     let mut rest = text;
@@ -34,7 +34,7 @@ pub(crate) fn skip_blanks(text: &[u8]) -> &[u8]
 }
 
 /// Where the letters, digits and `_` at the front of a text end.
-pub(crate) fn run_end(text: &[u8]) -> usize
+pub fn run_end(text: &[u8]) -> usize
     ensures within { result ≤ length text.now }
     ensures run { take result text.now ≡ run text.now }
     ensures after { drop result text.now ≡ after_run text.now }

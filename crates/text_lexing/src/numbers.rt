@@ -54,7 +54,7 @@ fn number_of(run: &[u8]) -> Option<u128>
 }
 
 /// The number at the front of a text, and what follows it.
-pub(crate) fn natural(text: &[u8]) -> Option<(u128, &[u8])>
+pub fn natural(text: &[u8]) -> Option<(u128, &[u8])>
     ensures { MatchOption result ((n : ℕ) (rest : List ℕ) → IsNatural text.now n rest → ⊥) (λ x. IsNatural text.now x.0 x.1.now) }
 {
     let end = run_end(text);

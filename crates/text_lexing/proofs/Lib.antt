@@ -1,0 +1,5 @@
+pub mod FirstTokens
+pub mod Scanning
+pub mod Shown
+pub mod OneStep
+pub mod Uuids

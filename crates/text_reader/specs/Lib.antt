@@ -1,0 +1,3 @@
+pub mod Real
+pub mod Settled
+pub mod Values

@@ -1,0 +1,37 @@
+-- Where a text is read on in the middle: its version is known, and no UUID is due.
+-- `v` is a version, `t` a token, `before` are the tokens before, the last first.
+use Rattle.std.specs.Prelude.{◌≡◌, ℕ, ℤ, Bool, true, false, not, ◌==◌, List, [], ◌∷◌}
+use Rattle.text_grammar.specs.declared.version.Version.{Version}
+use Rattle.text_grammar.specs.declared.version.Version.TheVariants as version
+use Rattle.text_grammar.specs.Tokens.{Token, Word, Number, Cell, Str, Bytes, Uuid, Mark, uuid_due, is_version_two}
+
+abbrev pub is_two : Version → Bool
+is_two version.One = false
+is_two version.Two = true
+
+-- no UUID is due after these tokens, nor with a comma more, nor with a number and a comma more
+pub record IsCalm (before : List Token) : Type 0 where
+  pub now : uuid_due before ≡ false
+  pub comma : uuid_due (Mark 44 ∷ before) ≡ false
+  pub number : (z : ℤ) → uuid_due (Mark 44 ∷ Number z ∷ before) ≡ false
+
+-- at least two tokens
+abbrev pub has_two : List Token → Bool
+has_two (t ∷ u ∷ before) = true
+has_two before = false
+
+-- the version was read, and no UUID is due
+pub record IsSettled (v : Version) (before : List Token) : Type 0 where
+  pub many : has_two before ≡ true
+  pub version : is_version_two before ≡ is_two v
+  pub calm : IsCalm before
+
+-- neither a UUID nor the parenthesis that may come before one
+abbrev pub is_simple : Token → Bool
+is_simple (Word octets) = true
+is_simple (Number z) = true
+is_simple (Cell c) = true
+is_simple (Str octets) = true
+is_simple (Bytes octets) = true
+is_simple (Uuid id) = false
+is_simple (Mark m) = not (m == 40)
