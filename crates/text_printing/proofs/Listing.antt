@@ -1,9 +1,11 @@
 -- Loops over values that are written one after the other.
-use Rattle.std.proofs.Common.{◌≡◌, ℕ, ◌+◌, zero, suc, add-one, List, [], ◌∷◌, ◌++◌, length, drop, map, replicate, Some, None, codes, refl, ap, ap₂, sym, ◌∙◌, subst, append_assoc, append-nil, ◌≤◌}
+use Rattle.std.proofs.Common.{◌≡◌, ℕ, ◌+◌, zero, suc, add-one, List, [], ◌∷◌, ◌++◌, length, take, drop, map, replicate, Some, None, codes, refl, ap, ap₂, sym, ◌∙◌, subst, append_assoc, append-nil, ◌≤◌, arith}
 use Rattle.std.specs.List.{slice_get}
+use Rattle.std.proofs.lemmas.List.{take_all}
+use Rattle.std.proofs.lemmas.Option.{same_Some}
 use Rattle.nd_types.specs.declared.types.Field.{Field}
 use Rattle.nd_types.specs.Table.{Table}
-use Rattle.nd_value.specs.Tree.{Tree, Trees, node, none, more, trees, count}
+use Rattle.nd_value.specs.Tree.{Tree, Trees, node, none, more, trees, count, node_count}
 use Rattle.nd_value.proofs.LocalPass.{drop-get, drop-past}
 use Rattle.text_printing.specs.Texts.{separator, listed, member_texts, texts_of, text_of, bytes_text, byte_of}
 
@@ -98,3 +100,29 @@ byte_next vs i v is = ap (λ ys. bytes_text (trees ys)) (drop-get vs i v is)
 
 pub bytes_past : (vs : List Tree) (i : ℕ) → length vs ≤ i → bytes_text (trees (drop i vs)) ≡ []
 bytes_past vs i past = ap (λ ys. bytes_text (trees ys)) (drop-past vs i past)
+
+-- ## Sizes
+
+-- a value has no more nodes than all values
+pub smaller_at : (vs : List Tree) (i : ℕ) (v : Tree) → slice_get vs i ≡ Some v → node_count (more v none) ≤ node_count (trees vs)
+smaller_at [] i v e = cc
+smaller_at (node l ks ∷ vs) zero v e =
+    let s : node l ks ≡ v = same_Some (node l ks) v e in
+    let m : node_count (more (node l ks) none) ≤ node_count (trees (node l ks ∷ vs)) = omega arith in
+    subst (λ t. node_count (more t none) ≤ node_count (trees (node l ks ∷ vs))) s m
+smaller_at (node l ks ∷ vs) (suc i) v e = let m : node_count (more v none) ≤ node_count (trees vs) = smaller_at vs i v e in omega arith
+
+-- the nodes of the first values, with the next one
+pub nodes_more : (vs : List Tree) (i : ℕ) (v : Tree) → slice_get vs i ≡ Some v → node_count (trees (take (i + 1) vs)) ≡ node_count (trees (take i vs)) + node_count (more v none)
+nodes_more [] i v e = cc
+nodes_more (node l ks ∷ vs) zero v e =
+    let s : node l ks ≡ v = same_Some (node l ks) v e in
+    let m : node_count (trees (take (0 + 1) (node l ks ∷ vs))) ≡ 0 + node_count (more (node l ks) none) = let k : suc (node_count ks + 0) ≡ 0 + suc (node_count ks + 0) = omega arith in k in
+    subst (λ t. node_count (trees (take (0 + 1) (node l ks ∷ vs))) ≡ 0 + node_count (more t none)) s m
+nodes_more (node l ks ∷ vs) (suc i) v e =
+    let h : node_count (trees (take (i + 1) vs)) ≡ node_count (trees (take i vs)) + node_count (more v none) = nodes_more vs i v e in
+    ap (λ n. node_count (trees (take n (node l ks ∷ vs)))) (let k : suc i + 1 ≡ suc (i + 1) = omega arith in k)
+    ∙ (let k : suc (node_count ks + node_count (trees (take (i + 1) vs))) ≡ suc (node_count ks + node_count (trees (take i vs))) + node_count (more v none) = omega (arith, h) in k)
+
+pub nodes_all : (vs : List Tree) (i : ℕ) → length vs ≤ i → node_count (trees (take i vs)) ≡ node_count (trees vs)
+nodes_all vs i past = ap (λ xs. node_count (trees xs)) (take_all i vs past)

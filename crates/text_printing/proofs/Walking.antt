@@ -213,3 +213,139 @@ members_written table fs i start text first walk past m ks ts is h =
             → IsWritten (left_members table 0 fs ks) ts start text walk
         by_rest none is h c = record { text = comes_all text _ start _ c refl; walk = is }
         by_rest (more v rest) is h c = absurd h
+
+-- ## Elements
+
+abbrev pub left_elements : Table → ℕ → ℕ → ℕ → Trees → List ℕ
+left_elements table elem i n ks = listed i (texts_of table (replicate n elem) ks)
+
+-- how far so many elements have been written
+abbrev pub ElementsWritten : Table → ℕ → ℕ → ℕ → List ℕ → List ℕ → Trees → Trees → Type 0
+ElementsWritten table elem n i start text walk walk' =
+    (ks ts : Trees) → walk ≡ joined ks ts → HaveTypes table (replicate n elem) ks
+    → Left (replicate (n - i) elem) table ts walk' (left_elements table elem i (n - i)) text start (left_elements table elem 0 n ks)
+
+pub elements_start : (table : Table) (elem n : ℕ) (text : List ℕ) (walk : Trees) → ElementsWritten table elem n 0 text text walk walk
+elements_start table elem n text walk ks ts is h = record { rest = ks; walk = is; typed = h; text = refl }
+
+element_on : (table : Table) (elem k i : ℕ) (ts walk walk' : Trees) (text text' text'' start all : List ℕ)
+    → Left (elem ∷ replicate k elem) table ts walk (λ ks. listed i (texts_of table (elem ∷ replicate k elem) ks)) text start all → text' ≡ text ++ separator i
+    → Writes table (elem ∷ []) (first_of table elem) text' text'' walk walk' → Left (replicate k elem) table ts walk' (left_elements table elem (i + 1) k) text'' start all
+element_on table elem k i ts walk walk' text text' text'' start all l e w = by_rest l.rest l.walk l.typed l.text
+  where
+    by_rest : (rest : Trees) → walk ≡ joined rest ts → HaveTypes table (elem ∷ replicate k elem) rest → Comes text (listed i (texts_of table (elem ∷ replicate k elem) rest)) start all
+        → Left (replicate k elem) table ts walk' (left_elements table elem (i + 1) k) text'' start all
+    by_rest none is h c = absurd h
+    by_rest (more (node l' ks) rest) is h c =
+        let x = w (more (node l' ks) none) (joined rest ts) is (h.0, tt) in
+        let v = text_of table elem (node l' ks) in
+        let front : listed i (texts_of table (elem ∷ replicate k elem) (more (node l' ks) rest)) ≡ (separator i ++ v) ++ left_elements table elem (i + 1) k rest =
+        sym (append_assoc (separator i) v (left_elements table elem (suc i) k rest))
+        ∙ ap (λ n. (separator i ++ v) ++ left_elements table elem n k rest) (sym (add-one i)) in
+        record {
+          rest = rest;
+          walk = x.walk;
+          typed = h.1;
+          text =
+              comes_on text text'' (separator i ++ v) _ (left_elements table elem (i + 1) k rest) start all c front
+              (x.text ∙ ap (λ y. y ++ v) e ∙ append_assoc text (separator i) v);
+        }
+
+pub element_written : (table : Table) (elem n i : ℕ) (start text text' text'' : List ℕ) (first walk walk' : Trees) → i < n → ElementsWritten table elem n i start text first walk
+    → text' ≡ text ++ separator i → Writes table (elem ∷ []) (first_of table elem) text' text'' walk walk' → ElementsWritten table elem n (i + 1) start text'' first walk'
+element_written table elem n i start text text' text'' first walk walk' below m e w ks ts is h =
+    let more_left : n - i ≡ suc (n - (i + 1)) = omega (arith, below) in
+    element_on table elem (n - (i + 1)) i ts walk walk' text text' text'' start (left_elements table elem 0 n ks)
+    (subst (λ (k : ℕ). Left (replicate k elem) table ts walk (left_elements table elem i k) text start (left_elements table elem 0 n ks)) more_left (m ks ts is h)) e w
+
+pub elements_written : (table : Table) (elem n i : ℕ) (start text : List ℕ) (first walk : Trees) → n ≤ i → ElementsWritten table elem n i start text first walk
+    → Writes table (replicate n elem) (left_elements table elem 0 n) start text first walk
+elements_written table elem n i start text first walk past m ks ts is h =
+    let nothing_left : n - i ≡ 0 = omega (arith, past) in
+    ended (subst (λ (k : ℕ). Left (replicate k elem) table ts walk (left_elements table elem i k) text start (left_elements table elem 0 n ks)) nothing_left (m ks ts is h))
+  where
+    ended : Left [] table ts walk (left_elements table elem i 0) text start (left_elements table elem 0 n ks) → IsWritten (left_elements table elem 0 n ks) ts start text walk
+    ended l = by_rest l.rest l.walk l.typed l.text
+      where
+        by_rest : (rest : Trees) → walk ≡ joined rest ts → HaveTypes table [] rest → Comes text (left_elements table elem i 0 rest) start (left_elements table elem 0 n ks)
+            → IsWritten (left_elements table elem 0 n ks) ts start text walk
+        by_rest none is h c = record { text = comes_all text _ start _ c refl; walk = is }
+        by_rest (more v rest) is h c = absurd h
+
+-- ## Bytes
+
+pub record BytesLeft (n : ℕ) (ts walk : Trees) (text start all : List ℕ) : Type 0 where
+  pub rest : Trees
+  pub walk : walk ≡ joined rest ts
+  pub leaves : AreLeaves n rest
+  pub text : Comes text (bytes_text rest) start all
+
+abbrev pub BytesWritten : ℕ → ℕ → List ℕ → List ℕ → Trees → Trees → Type 0
+BytesWritten n i start text walk walk' =
+    (ks ts : Trees) → walk ≡ joined ks ts → AreLeaves n ks → BytesLeft (n - i) ts walk' text start (bytes_text ks)
+
+pub bytes_start : (n : ℕ) (text : List ℕ) (walk : Trees) → BytesWritten n 0 text text walk walk
+bytes_start n text walk ks ts is h = record { rest = ks; walk = is; leaves = h; text = refl }
+
+byte_on : (k : ℕ) (ts walk walk' : Trees) (text text' start all : List ℕ) → BytesLeft (suc k) ts walk text start all → WritesBytes 1 text text' walk walk'
+    → BytesLeft k ts walk' text' start all
+byte_on k ts walk walk' text text' start all l w = by_rest l.rest l.walk l.leaves l.text
+  where
+    by_rest : (rest : Trees) → walk ≡ joined rest ts → AreLeaves (suc k) rest → Comes text (bytes_text rest) start all → BytesLeft k ts walk' text' start all
+    by_rest none is h c = absurd h
+    by_rest (more (node l' (more v ks)) rest) is h c = absurd h
+    by_rest (more (node l' none) rest) is h c =
+        let x = w (more (node l' none) none) (joined rest ts) is tt in
+        record {
+          rest = rest;
+          walk = x.walk;
+          leaves = h;
+          text = comes_on text text' (byte_text l') _ (bytes_text rest) start all c refl (x.text ∙ ap (λ y. text ++ y) (append-nil (byte_text l')));
+        }
+
+pub byte_written : (n i : ℕ) (start text text' : List ℕ) (first walk walk' : Trees) → i < n → BytesWritten n i start text first walk → WritesBytes 1 text text' walk walk'
+    → BytesWritten n (i + 1) start text' first walk'
+byte_written n i start text text' first walk walk' below m w ks ts is h =
+    let more_left : n - i ≡ suc (n - (i + 1)) = omega (arith, below) in
+    byte_on (n - (i + 1)) ts walk walk' text text' start (bytes_text ks) (subst (λ (k : ℕ). BytesLeft k ts walk text start (bytes_text ks)) more_left (m ks ts is h)) w
+
+pub bytes_written : (n i : ℕ) (start text : List ℕ) (first walk : Trees) → n ≤ i → BytesWritten n i start text first walk → WritesBytes n start text first walk
+bytes_written n i start text first walk past m ks ts is h =
+    let nothing_left : n - i ≡ 0 = omega (arith, past) in
+    ended (subst (λ (k : ℕ). BytesLeft k ts walk text start (bytes_text ks)) nothing_left (m ks ts is h))
+  where
+    ended : BytesLeft 0 ts walk text start (bytes_text ks) → IsWritten (bytes_text ks) ts start text walk
+    ended l = by_rest l.rest l.walk l.leaves l.text
+      where
+        by_rest : (rest : Trees) → walk ≡ joined rest ts → AreLeaves 0 rest → Comes text (bytes_text rest) start (bytes_text ks) → IsWritten (bytes_text ks) ts start text walk
+        by_rest none is h c = record { text = comes_all text _ start _ c refl; walk = is }
+        by_rest (more v rest) is h c = absurd h
+
+-- one byte of a walk
+pub one_byte : (f : Flat) (text text' : List ℕ) (old new : Trees) → flat old ≡ f ∷ flat new → text' ≡ text ++ byte_text f.0 → WritesBytes 1 text text' old new
+one_byte f text text' old new e s none ts is h = absurd h
+one_byte f text text' old new e s (more (node l' (more v ks)) us) ts is h = absurd h
+one_byte f text text' old new e s (more (node l' none) (more v us)) ts is h = absurd h
+one_byte f text text' old new e s (more (node l' none) none) ts is h =
+    let (a, b) = stepped f old new l' none ts e is in
+    record { text = s ∙ ap (λ y. text ++ y) (ap (λ g. byte_text g.0) a ∙ sym (append-nil (byte_text l'))); walk = b }
+
+-- no byte is left where one is due
+pub no_byte : (text text' : List ℕ) (walk walk' : Trees) → walk ≡ none → WritesBytes 1 text text' walk walk'
+no_byte text text' walk walk' e none ts is h = absurd h
+no_byte text text' walk walk' e (more v ks) ts is h = absurd (not_none v (joined ks ts) (sym e ∙ is))
+  where
+    not_none : (v : Tree) (ts : Trees) → none ≡ more v ts → ⊥
+    not_none v ts e = cc
+
+-- elements of type byte have no parts
+pub byte_leaves : (table : Table) (elem n : ℕ) (ks : Trees) → ((l : Label) (us : Trees) → child_types (type_at table elem) l us ≡ []) → HaveTypes table (replicate n elem) ks
+    → AreLeaves n ks
+byte_leaves table elem zero none c h = tt
+byte_leaves table elem zero (more v ks) c h = absurd h
+byte_leaves table elem (suc n) none c h = absurd h
+byte_leaves table elem (suc n) (more (node l none) ks) c h = byte_leaves table elem n ks c h.1
+byte_leaves table elem (suc n) (more (node l (more v us)) ks) c h = absurd (no_parts v us (subst (λ (xs : List ℕ). HaveTypes table xs (more v us)) (c l (more v us)) h.0))
+  where
+    no_parts : (v : Tree) (us : Trees) → HaveTypes table [] (more v us) → ⊥
+    no_parts v us h = h

@@ -206,8 +206,11 @@ fn append_next_byte(text: &mut Octets, walk: &mut Walk<'_>) -> Result<(), Memory
     ensures fewer { node_count walk.new ≤ node_count walk.old }
     ensures written { OnOk result (WritesBytes 1 text.old text.new walk.old walk.new) }
 {
-    match walk.step() {
-        Some(Seen::Num(value)) => append_byte(text, value),
+    let Some(seen) = walk.step() else {
+        return Ok(());
+    };
+    match seen {
+        Seen::Num(value) => append_byte(text, value),
         _ => Ok(()),
     }
 }
