@@ -3,14 +3,16 @@
 use Rattle.std.proofs.Common.{◌≡◌, ℕ, ◌+◌, ◌<◌, ◌≤◌, ◌⊎◌, inl, inr, zero, suc, List, [], ◌∷◌, ◌++◌, length, map, take, replicate, Option, None, Some, refl, ap, ap₂, sym, ◌∙◌, subst, append-nil, add-zero, arith}
 use Rattle.std.specs.List.{slice_get}
 use Rattle.std.proofs.lemmas.Option.{same_Some}
-use Rattle.nd_types.specs.declared.types.Field.{Field}
+use Rattle.nd_types.specs.declared.types.Arm.{Arm}
+use Rattle.nd_types.specs.declared.types.TypeDef.{TypeDef}
+use Rattle.nd_types.specs.declared.types.TypeDef.TheVariants as def
 use Rattle.nd_types.specs.Table.{Table, type_at}
+use Rattle.nd_value.specs.Tree as tree
 use Rattle.nd_value.specs.Tree.{Tree, Trees, Label, node, none, more, trees, count, node_count}
 use Rattle.nd_value.specs.Nodes.{child_types}
 use Rattle.nd_value.specs.Setting.{Among}
-use Rattle.text_grammar.specs.Paths.{node_paths, child_paths, element_path, element_paths, member_path}
-use Rattle.text_printing.specs.Steps.{HasPath, HaveChildPath, IsChildStep, IsChildAt}
-use Rattle.text_printing.proofs.Listing.{types_of}
+use Rattle.text_grammar.specs.Paths.{node_paths, child_paths, arm_paths, element_path, element_paths, member_path}
+use Rattle.text_printing.specs.Steps.{HasPath, HaveChildPath, IsChildStep, IsStep, IsChildAt, arm_path, elem_types}
 
 pub among_parts : {X : Type 0} (xs ys : List X) (x : X) → Among (xs ++ ys) x → Among xs x ⊎ Among ys x
 among_parts [] ys x h = inr h
@@ -191,3 +193,79 @@ element_path_at p o [] i v e = cc
 element_path_at p o (x ∷ vs) zero v e = ap (λ n. Some (element_path p n)) (sym (add-zero o))
 element_path_at p o (x ∷ vs) (suc i) v e =
     element_path_at p (o + 1) vs i v e ∙ ap (λ n. Some (element_path p n)) (let k : o + 1 + i ≡ o + suc i = omega arith in k)
+
+-- ## Steps of each form
+
+-- no type is there for a child
+pub no_types : (table : Table) (types : List ℕ) (paths : List (List ℕ)) (ks : Trees) (n : ℕ) (p : List ℕ) → types ≡ [] → IsChildStep table types paths ks n p None
+no_types table types paths ks n p e q a = subst (λ (ts : List ℕ). HaveChildPath table ts paths ks n q) e a
+
+-- no child is there
+pub no_values : (table : Table) (types : List ℕ) (paths : List (List ℕ)) (vs : List Tree) (n : ℕ) (p : List ℕ) → vs ≡ [] → IsChildStep table types paths (trees vs) n p None
+no_values table types paths vs n p e =
+    no_child table types paths vs n p (let k : node_count (trees vs) ≡ 0 = ap (λ us. node_count (trees us)) e in omega (arith, k))
+
+-- the only child
+pub only_child : (table : Table) (types : List ℕ) (paths : List (List ℕ)) (vs : List Tree) (n t : ℕ) (p : List ℕ) (v : Tree) → types ≡ t ∷ [] → paths ≡ p ∷ [] → vs ≡ v ∷ []
+    → IsChildStep table types paths (trees vs) n p (Some (t, v, n))
+only_child table types paths vs n t p v et ep ev =
+    (λ q a.
+        shifted table (t ∷ []) (p ∷ []) 1 0 (more v none) (suc n) n q (omega arith)
+        (subst (λ (us : List Tree). HaveChildPath table (t ∷ []) (p ∷ []) (trees us) n q) ev
+        (subst (λ (ps : List (List ℕ)). HaveChildPath table (t ∷ []) ps (trees vs) n q) ep (subst (λ (ts : List ℕ). HaveChildPath table ts paths (trees vs) n q) et a))),
+    omega arith)
+
+pub arm_paths_are : (p : List ℕ) (a : Arm) → arm_paths p (Some a) ≡ arm_path p a.name ∷ []
+arm_paths_are p a = by_name a.name
+  where
+    by_name : (n : Option (List ℕ)) → elim n [ None ↦ p ∷ [] | Some name ↦ member_path p name ∷ [] ] ≡ arm_path p n ∷ []
+    by_name None = refl
+    by_name (Some name) = refl
+
+-- from a value to a child
+pub value_step : (table : Table) (t : ℕ) (l : Label) (ks : Trees) (n : ℕ) (p p' : List ℕ) (s : Option (ℕ × Tree × ℕ))
+    → IsChildStep table (child_types (type_at table t) l ks) (child_paths (type_at table t) l p ks) ks n p' s → IsStep table t (node l ks) n p p' s
+value_step table t l ks n p p' None h q a = h q (to_children table t p l ks n q a)
+value_step table t l ks n p p' (Some s) h = (λ q a. h.0 q (to_children table t p l ks n q a), h.1)
+
+no_step : (table : Table) (paths : List (List ℕ)) (ks : Trees) (n : ℕ) (p : List ℕ) (s : Option (ℕ × Tree × ℕ)) → IsChildStep table [] paths ks n p s → IsChildStep table [] [] ks n p s
+no_step table paths ks n p None h q a = a
+no_step table paths ks n p (Some s) h = (λ q a. absurd a, h.1)
+
+abbrev ElementStep : Table → Option ℕ → ℕ → List ℕ → Trees → ℕ → List ℕ → Option (ℕ × Tree × ℕ) → Type 0
+ElementStep table e o p ks n p' s = IsChildStep table (elem_types e (count ks)) (element_paths p o ks) ks n p' s
+
+-- a step to an element of an array
+array_child : (table : Table) (d : Option TypeDef) (m o : ℕ) (p : List ℕ) (ks : Trees) (e : Option ℕ) (n : ℕ) (p' : List ℕ) (s : Option (ℕ × Tree × ℕ))
+    → child_types d (tree.Arr m o) ks ≡ elem_types e (count ks) → ElementStep table e o p ks n p' s
+    → IsChildStep table (child_types d (tree.Arr m o) ks) (child_paths d (tree.Arr m o) p ks) ks n p' s
+array_child table (Some (def.Array elem bound varying)) m o p ks e n p' s et h = subst (λ (ts : List ℕ). IsChildStep table ts (element_paths p o ks) ks n p' s) (sym et) h
+array_child table _ m o p ks e n p' s et h = no_step table (element_paths p o ks) ks n p' s (subst (λ (ts : List ℕ). IsChildStep table ts (element_paths p o ks) ks n p' s) (sym et) h)
+
+-- a step to an element of a pipe
+pipe_child : (table : Table) (d : Option TypeDef) (p : List ℕ) (ks : Trees) (e : Option ℕ) (n : ℕ) (p' : List ℕ) (s : Option (ℕ × Tree × ℕ))
+    → child_types d tree.Pipe ks ≡ elem_types e (count ks) → ElementStep table e 0 p ks n p' s
+    → IsChildStep table (child_types d tree.Pipe ks) (child_paths d tree.Pipe p ks) ks n p' s
+pipe_child table (Some (def.Pipe elem)) p ks e n p' s et h = subst (λ (ts : List ℕ). IsChildStep table ts (element_paths p 0 ks) ks n p' s) (sym et) h
+pipe_child table _ p ks e n p' s et h = no_step table (element_paths p 0 ks) ks n p' s (subst (λ (ts : List ℕ). IsChildStep table ts (element_paths p 0 ks) ks n p' s) (sym et) h)
+
+pub array_step : (table : Table) (t m o : ℕ) (p : List ℕ) (ks : Trees) (e : Option ℕ) (n : ℕ) (p' : List ℕ) (s : Option (ℕ × Tree × ℕ))
+    → child_types (type_at table t) (tree.Arr m o) ks ≡ elem_types e (count ks) → ElementStep table e o p ks n p' s → IsStep table t (node (tree.Arr m o) ks) n p p' s
+array_step table t m o p ks e n p' s et h = value_step table t (tree.Arr m o) ks n p p' s (array_child table (type_at table t) m o p ks e n p' s et h)
+
+pub pipe_step : (table : Table) (t : ℕ) (p : List ℕ) (ks : Trees) (e : Option ℕ) (n : ℕ) (p' : List ℕ) (s : Option (ℕ × Tree × ℕ))
+    → child_types (type_at table t) tree.Pipe ks ≡ elem_types e (count ks) → ElementStep table e 0 p ks n p' s → IsStep table t (node tree.Pipe ks) n p p' s
+pipe_step table t p ks e n p' s et h = value_step table t tree.Pipe ks n p p' s (pipe_child table (type_at table t) p ks e n p' s et h)
+
+-- a value without parts
+pub no_parts : (table : Table) (t : ℕ) (l : Label) (n : ℕ) (p p' : List ℕ) → IsStep table t (node l none) n p p' None
+no_parts table t l n p p' =
+    value_step table t l none n p p' None (no_values table (child_types (type_at table t) l none) (child_paths (type_at table t) l p none) [] n p' refl)
+
+-- a step goes on
+pub step_on : (table : Table) (t n t' n' : ℕ) (p p' : List ℕ) (v v' : Tree) (k : ℕ) → n ≡ suc k → IsStep table t v k p p' (Some (t', v', n')) → (q : List ℕ) → HasPath table t p v n q
+    → HasPath table t' p' v' n' q
+step_on table t n t' n' p p' v v' k e s q h = s.0 q (subst (λ (m : ℕ). HasPath table t p v m q) e h)
+
+pub step_ends : (table : Table) (t n : ℕ) (p p' : List ℕ) (v : Tree) (k : ℕ) → n ≡ suc k → IsStep table t v k p p' None → (q : List ℕ) → HasPath table t p v n q → ⊥
+step_ends table t n p p' v k e s q h = s q (subst (λ (m : ℕ). HasPath table t p v m q) e h)

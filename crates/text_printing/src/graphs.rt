@@ -35,14 +35,18 @@ pub fn print(alloc: Global, interface: &Interface, fit: &Fit) -> Result<Octets, 
     ensures { IfOk result (λ text. (o : Operation) → slice_get interface.now.operations fit.now.op ≡ Some o
         → IsText (setting_beside interface.now o fit.now.side fit.now.given) fit.now.graph text) }
 {
-    let fit = canonical(alloc, fit)?;
-    let Some(operation) = interface.operations.get(fit.op() as usize) else {
+    let _conforming = fit.flat();
+    let op = fit.op();
+    let side = fit.side();
+    let Some(operation) = interface.operations.get(op as usize) else {
         unreachable!()
     };
+    let numbered = canonical(alloc, fit)?;
+    let graph = numbered.flat();
     let mut text = Octets::new(alloc);
-    append_head(&mut text, operation.name.as_slice(), fit.side())?;
-    append_roots(&mut text, interface, fit.op(), fit.side(), fit.flat())?;
-    append_cells(&mut text, &interface.types, fit.flat())?;
+    append_head(&mut text, operation.name.as_slice(), side)?;
+    append_roots(&mut text, interface, op, side, graph)?;
+    append_cells(&mut text, &interface.types, graph)?;
     Ok(text)
 }
 
