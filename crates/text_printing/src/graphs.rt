@@ -1,20 +1,26 @@
 // Graphs and values, written.
-ghost use Rattle.std.specs.Prelude.{◌≡◌, Some, IfOk};
+ghost use Rattle.std.specs.Prelude.{◌≡◌, ◌<◌, ◌^◌, suc, [], ◌∷◌, ◌++◌, Some, IfOk, OnOk, length};
 ghost use Rattle.std.specs.List.{slice_get};
 ghost use Rattle.nd_types.specs.declared.types.Operation.{Operation};
+ghost use Rattle.nd_types.specs.Walk.{named_roots, root_value};
+ghost use Rattle.nd_value.specs.Tree.{more, none, Referent};
+ghost use Rattle.nd_value.specs.Setting.{root_at};
 ghost use Rattle.nd_value.specs.Fitting.{setting_beside};
 ghost use Rattle.nd_value.specs.Seen.{tree_of};
 ghost use Rattle.text_grammar.specs.declared.version.Version.TheVariants as version;
 ghost use Rattle.text_grammar.specs.Printed.{IsText, value_text};
+ghost use Rattle.text_grammar.specs.Written.{side_word};
 ghost use Rattle.text_grammar.specs.Sound.{IsSound};
+ghost use Rattle.text_printing.specs.Texts.{head_text, root_text, roots_text, cell_text, cells_text};
+ghost use Rattle.text_printing.specs.Walks.{HaveTypes, RootsHaveTypes, CellsHaveTypes};
 
 use crate::digits::append_count;
-use crate::nodes::{FlatNodes, ValNodes};
 use crate::values::append_value;
+use crate::walked::append_next;
 use nd_base::{Memory, Octets};
 use nd_canonical::canonical;
 use nd_flat::{Fit, FlatGraph};
-use nd_types::{Interface, Side, TypeId};
+use nd_types::{Interface, RootDef, Side, TypeId, Types};
 use nd_value::Val;
 use std::alloc::Global;
 
@@ -22,21 +28,25 @@ use std::alloc::Global;
 /// cell. It is the canonical graph that is printed, whose cells are numbered in the order in which the stream names them: so two
 /// graphs of one side have one text exactly if they are the same up to the numbers of their cells.
 ///
-/// The interface must be the one that the fit is tied to. It takes memory for the text, for the canonical graph, and for one entry for each
-/// level of nesting; out of memory is the only error. The time is in proportion to the graph and the text.
+/// The interface must be the one that the fit is tied to. It takes memory for the text and for the canonical graph; out of memory is the
+/// only error. The time is in proportion to the graph and the text, and calls nest as deep as types do, at most 32 levels.
 pub fn print(alloc: Global, interface: &Interface, fit: &Fit) -> Result<Octets, Memory>
     requires tied { fit.now.interface ≡ interface.now }
     ensures { IfOk result (λ text. (o : Operation) → slice_get interface.now.operations fit.now.op ≡ Some o
         → IsText (setting_beside interface.now o fit.now.side fit.now.given) fit.now.graph text) }
 {
-    let fit = canonical(alloc, fit)?;
-    let Some(operation) = interface.operations.get(fit.op() as usize) else {
+    let _conforming = fit.flat();
+    let op = fit.op();
+    let side = fit.side();
+    let Some(operation) = interface.operations.get(op as usize) else {
         unreachable!()
     };
+    let numbered = canonical(alloc, fit)?;
+    let graph = numbered.flat();
     let mut text = Octets::new(alloc);
-    append_head(&mut text, operation.name.as_slice(), fit.side())?;
-    append_roots(alloc, &mut text, interface, &fit)?;
-    append_cells(alloc, &mut text, interface, fit.flat())?;
+    append_head(&mut text, operation.name.as_slice(), side)?;
+    append_roots(&mut text, interface, op, side, graph)?;
+    append_cells(&mut text, &interface.types, graph)?;
     Ok(text)
 }
 
@@ -46,7 +56,7 @@ pub fn print(alloc: Global, interface: &Interface, fit: &Fit) -> Result<Octets, 
 /// within their bounds, no text has a zero, and each tag selects an arm. Which cells pointers name is not asked, and numbers of cells
 /// are printed as they are.
 ///
-/// It takes memory for the text, and for two entries for each level of nesting; out of memory is the only error.
+/// It takes memory for the text alone; out of memory is the only error. Calls nest as deep as the value does.
 pub fn print_value(
     alloc: Global,
     interface: &Interface,
@@ -57,64 +67,98 @@ pub fn print_value(
     ensures { IfOk result (λ text. text ≡ value_text version.Two interface.now.types of.0 (tree_of val.now)) }
 {
     let mut text = Octets::new(alloc);
-    let mut nodes = ValNodes::of(alloc, val);
-    append_value(alloc, &mut text, &interface.types, of, &mut nodes)?;
+    append_value(&mut text, &interface.types, of, val)?;
     Ok(text)
 }
 
 /// `values 2`, and the operation with its side.
-fn append_head(text: &mut Octets, name: &[u8], side: Side) -> Result<(), Memory> {
+fn append_head(text: &mut Octets, name: &[u8], side: Side) -> Result<(), Memory>
+    ensures { OnOk result (text.new ≡ text.old ++ head_text name.now side) }
+{
     text.append(b"values 2\nop ")?;
     text.append(name)?;
-    text.append(match side {
-        Side::In => b" in\n",
-        Side::Out => b" out\n",
-    })
+    text.append(b" ")?;
+    text.append(side_name(side))?;
+    text.append(b"\n")
+}
+
+/// `in` or `out`.
+fn side_name(side: Side) -> &'static [u8]
+    ensures { result.now ≡ side_word side }
+{
+    match side {
+        Side::In => b"in",
+        Side::Out => b"out",
+    }
 }
 
 /// A line for each root.
 fn append_roots(
-    alloc: Global,
     text: &mut Octets,
     interface: &Interface,
-    fit: &Fit,
-) -> Result<(), Memory> {
+    op: u32,
+    side: Side,
+    graph: &FlatGraph,
+) -> Result<(), Memory>
+    requires known { op < length interface.now.operations }
+    requires typed { (o : Operation) → slice_get interface.now.operations op ≡ Some o
+        → RootsHaveTypes interface.now.types (named_roots interface.now.types side o) graph.now.roots }
+    ensures { OnOk result ((o : Operation) → slice_get interface.now.operations op ≡ Some o
+        → text.new ≡ text.old ++ roots_text interface.now.types (named_roots interface.now.types side o) graph.now.roots) }
+{
     let mut at = 0;
-    for root in interface.params(fit.op(), fit.side()) {
-        text.append(root.name)?;
-        text.append(b" = ")?;
-        let mut nodes = FlatNodes {
-            walk: fit.flat().root_walk(at),
-        };
-        append_value(alloc, text, &interface.types, root.of, &mut nodes)?;
-        text.append(b"\n")?;
+    for root in interface.params(op, side) {
+        append_root(text, &interface.types, root, graph, at)?;
         at += 1;
     }
     Ok(())
 }
 
-/// A line for each cell.
-fn append_cells(
-    alloc: Global,
+/// The line of a root, by its place.
+fn append_root(
     text: &mut Octets,
-    interface: &Interface,
+    types: &Types,
+    root: RootDef<'_>,
     graph: &FlatGraph,
-) -> Result<(), Memory> {
+    at: usize,
+) -> Result<(), Memory>
+    requires there { at < length graph.now.roots }
+    requires typed { HaveTypes types.now (root.entry.of.0 ∷ []) (more (root_at graph.now at) none) }
+    ensures { OnOk result (text.new ≡ text.old ++ root_text types.now (root_value root.entry) (root_at graph.now at)) }
+{
+    text.append(root.name)?;
+    text.append(b" = ")?;
+    append_next(text, types, root.of, &mut graph.root_walk(at))?;
+    text.append(b"\n")
+}
+
+/// A line for each cell.
+fn append_cells(text: &mut Octets, types: &Types, graph: &FlatGraph) -> Result<(), Memory>
+    requires few { length graph.now.cells < 2 ^ 32 }
+    requires typed { CellsHaveTypes types.now graph.now.cells }
+    ensures { OnOk result (text.new ≡ text.old ++ cells_text types.now 1 graph.now.cells) }
+{
     for at in 0..graph.cell_count() {
-        text.append(b"@")?;
-        append_count(text, at as u32 + 1)?;
-        text.append(b" = ")?;
-        let mut nodes = FlatNodes {
-            walk: graph.cell_walk(at),
-        };
-        append_value(
-            alloc,
-            text,
-            &interface.types,
-            graph.cell_type(at),
-            &mut nodes,
-        )?;
-        text.append(b"\n")?;
+        append_cell(text, types, graph, at)?;
     }
     Ok(())
+}
+
+/// The line of a cell, by its place.
+fn append_cell(
+    text: &mut Octets,
+    types: &Types,
+    graph: &FlatGraph,
+    at: usize,
+) -> Result<(), Memory>
+    requires there { at < length graph.now.cells }
+    requires few { length graph.now.cells < 2 ^ 32 }
+    requires typed { (x : Referent) → slice_get graph.now.cells at ≡ Some x → HaveTypes types.now (x.of ∷ []) (more x.val none) }
+    ensures { OnOk result ((x : Referent) → slice_get graph.now.cells at ≡ Some x → text.new ≡ text.old ++ cell_text types.now (suc at) x) }
+{
+    text.append(b"@")?;
+    append_count(text, at as u32 + 1)?;
+    text.append(b" = ")?;
+    append_next(text, types, graph.cell_type(at), &mut graph.cell_walk(at))?;
+    text.append(b"\n")
 }

@@ -2,14 +2,14 @@
 #![tactic(auto)]
 
 mod digits;
+mod forms;
 mod graphs;
-mod nodes;
-mod open;
 mod paths;
 mod quoting;
 #[cfg(test)]
 mod tests;
 mod values;
+mod walked;
 
 pub use graphs::{print, print_value};
 pub use paths::path;

@@ -1,184 +1,215 @@
-// Values, written node by node.
-use crate::digits::{append_count, append_hex, append_number, append_uuid};
-use crate::nodes::{Node, Nodes};
-use crate::open::{Open, next_part};
-use crate::quoting::append_quoted;
-use nd_base::{Memory, Octets};
-use nd_types::{Arm, Arms, Prim, TypeDef, TypeId, Types};
-use std::alloc::Global;
+// Values of the caller, written with the values in them.
+ghost use Rattle.std.specs.Prelude.{◌≡◌, ◌++◌, [], ◌∷◌, OnOk, codes, map, replicate, option_map, option_to_list};
+ghost use Rattle.nd_types.specs.Table.{type_at};
+ghost use Rattle.nd_value.specs.Tree as tree;
+ghost use Rattle.nd_value.specs.Tree.{trees, count};
+ghost use Rattle.nd_value.specs.Nodes.{child_types};
+ghost use Rattle.nd_value.specs.Seen.{tree_of};
+ghost use Rattle.text_grammar.specs.declared.version.Version.TheVariants as version;
+ghost use Rattle.text_grammar.specs.Written.{writes_octets};
+ghost use Rattle.text_printing.specs.Texts.{text_of, texts_of, listed, member_texts, bytes_text, byte_of, list_text, struct_text, array_text, pipe_text, arm_text};
 
-/// The text of a value of a type, whose nodes come next.
-pub(crate) fn append_value<N: Nodes>(
-    alloc: Global,
+use crate::digits::{append_byte, append_number};
+use crate::forms::{
+    append_context, append_counts, append_name, append_pointer, append_separator, append_string,
+    are_bytes, arm_type,
+};
+use nd_base::{Memory, Octets};
+use nd_types::{Fields, TypeDef, TypeId, Types};
+use nd_value::{ArmVal, Val, Vals};
+
+/// The text of a value of a type. A value in it that has not the form of its type has no text.
+#[cycle(values)]
+pub(crate) fn append_value(
     text: &mut Octets,
     types: &Types,
     of: TypeId,
-    nodes: &mut N,
-) -> Result<(), Memory> {
-    let mut open = Vec::new(alloc);
-    let mut next = Some(of);
-    while let Some(of) = next {
-        if let Some(parts) = append_node(text, types, of, nodes)? {
-            let Ok(()) = open.push(parts) else {
-                return Err(Memory);
-            };
+    val: &Val,
+) -> Result<(), Memory>
+    ensures { OnOk result (text.new ≡ text.old ++ text_of types.now of.0 (tree_of val.now)) }
+{
+    match val {
+        Val::Num(value) => append_number(text, *value),
+        Val::Rec(vals) => append_struct(text, types, of, vals),
+        Val::Arr { max, offset, items } => append_array(text, types, of, *max, *offset, items),
+        Val::Text { max, octets } => append_string(text, types, of, *max, octets.as_slice()),
+        Val::Union { tag, arm } => {
+            append_number(text, *tag)?;
+            text.append(b":")?;
+            append_arm(text, types, arm_type(types, of, *tag), arm)
         }
-        next = next_type(text, &mut open)?;
+        Val::Ptr(cell) => append_pointer(text, *cell),
+        Val::Context { attributes, id } => append_context(text, *attributes, id),
+        Val::Pipe(vals) => append_pipe(text, types, of, vals),
+    }
+}
+
+/// The members of a struct, each with its name.
+#[cycle(values)]
+fn append_struct(
+    text: &mut Octets,
+    types: &Types,
+    of: TypeId,
+    vals: &Vals,
+) -> Result<(), Memory>
+    ensures { let d = type_at types.now of.0 in
+        OnOk result (text.new ≡ text.old ++ struct_text d (texts_of types.now (child_types d tree.Rec (trees vals.now)) (trees vals.now))) }
+{
+    match types.get(of.0 as usize) {
+        Some(TypeDef::Struct { members }) => {
+            text.append(b"{")?;
+            append_members(text, types, members, vals)?;
+            text.append(b"}")
+        }
+        _ => Ok(()),
+    }
+}
+
+/// Members, each with its name.
+#[cycle(values)]
+fn append_members(
+    text: &mut Octets,
+    types: &Types,
+    members: &Fields,
+    vals: &Vals,
+) -> Result<(), Memory>
+    ensures { OnOk result (text.new ≡ text.old
+        ++ listed 0 (member_texts members.now (texts_of types.now (map (λ f. f.of.0) members.now) (trees vals.now)))) }
+{
+    for at in 0..members.len() {
+        let Some(member) = members.get(at) else {
+            unreachable!()
+        };
+        let Some(val) = vals.get(at) else {
+            return Ok(());
+        };
+        append_name(text, at, member.name.as_slice())?;
+        append_value(text, types, member.of, val)?;
     }
     Ok(())
 }
 
-/// The type of the next node, after what comes before it in the text; None where the value is whole.
-fn next_type(text: &mut Octets, open: &mut Vec<Open<'_>>) -> Result<Option<TypeId>, Memory> {
-    while let Some(parts) = open.last_mut() {
-        if let Some(of) = next_part(text, parts)? {
-            return Ok(Some(of));
-        }
-        open.pop();
-    }
-    Ok(None)
-}
-
-/// What a node of a type says itself, and the parts that are to come after it, if it has parts.
-fn append_node<'a, N: Nodes>(
+/// The elements of an array, after its counts.
+#[cycle(values)]
+fn append_array(
     text: &mut Octets,
-    types: &'a Types,
+    types: &Types,
     of: TypeId,
-    nodes: &mut N,
-) -> Result<Option<Open<'a>>, Memory> {
-    let def = types.get(of.0 as usize);
-    match (nodes.next()?, def) {
-        (Some(Node::Num(value)), _) => append_number(text, value)?,
-        (Some(Node::Rec), Some(TypeDef::Struct { members })) => {
-            text.append(b"{")?;
-            return Ok(Some(Open::Struct { members, next: 0 }));
-        }
-        (
-            Some(Node::Arr { max, offset, count }),
-            Some(
-                TypeDef::Array {
-                    elem,
-                    bound,
-                    varying,
-                },
-            ),
-        ) => {
-            append_counts(text, *bound, *varying, max, offset)?;
-            return append_list(text, types, *elem, count, nodes);
-        }
-        (Some(Node::Text { max, octets }), Some(TypeDef::Text { bound, .. })) => {
-            append_text(text, *bound, max, octets)?
-        }
-        (Some(Node::Union { tag }), Some(TypeDef::Union { arms, default, .. })) => {
-            append_number(text, tag)?;
-            text.append(b":")?;
-            return append_arm(text, selected(arms, default, tag));
-        }
-        (Some(Node::Ptr(None)), _) => text.append(b"null")?,
-        (Some(Node::Ptr(Some(cell))), _) => {
-            text.append(b"@")?;
-            append_count(text, cell.0)?
-        }
-        (Some(Node::Context { attributes, id }), _) => {
-            text.append(b"ctx(")?;
-            append_count(text, attributes)?;
-            text.append(b", ")?;
-            append_uuid(text, &id)?;
-            text.append(b")")?
-        }
-        (Some(Node::Pipe(count)), Some(TypeDef::Pipe { elem })) => {
-            return append_list(text, types, *elem, count, nodes);
-        }
-        _ => unreachable!(),
-    }
-    Ok(None)
-}
-
-/// The counts of an array before its elements.
-fn append_counts(
-    text: &mut Octets,
-    bound: Option<u32>,
-    varying: bool,
     max: u32,
     offset: u32,
-) -> Result<(), Memory> {
-    if !varying {
-        return Ok(());
+    vals: &Vals,
+) -> Result<(), Memory>
+    ensures { let d = type_at types.now of.0 in
+        OnOk result (text.new ≡ text.old ++ array_text types.now d max offset (trees vals.now)
+        (texts_of types.now (child_types d (tree.Arr max offset) (trees vals.now)) (trees vals.now))) }
+{
+    match types.get(of.0 as usize) {
+        Some(
+            TypeDef::Array {
+                elem,
+                bound,
+                varying,
+            },
+        ) => {
+            append_counts(text, *bound, *varying, max, offset)?;
+            append_list(text, types, *elem, vals)
+        }
+        _ => Ok(()),
     }
-    if bound.is_none() {
-        append_count(text, max)?;
-        text.append(b":")?;
-    }
-    append_count(text, offset)?;
-    text.append(b":")
 }
 
-/// A string, after its maximum count where the type gives none.
-fn append_text(
-    text: &mut Octets,
-    bound: Option<u32>,
-    max: u32,
-    octets: &[u8],
-) -> Result<(), Memory> {
-    if bound.is_none() {
-        append_count(text, max)?;
-        text.append(b":")?;
+/// The elements of a pipe.
+#[cycle(values)]
+fn append_pipe(text: &mut Octets, types: &Types, of: TypeId, vals: &Vals) -> Result<(), Memory>
+    ensures { let d = type_at types.now of.0 in
+        OnOk result (text.new ≡ text.old ++ pipe_text types.now d (trees vals.now)
+        (texts_of types.now (child_types d tree.Pipe (trees vals.now)) (trees vals.now))) }
+{
+    match types.get(of.0 as usize) {
+        Some(TypeDef::Pipe { elem }) => append_list(text, types, *elem, vals),
+        _ => Ok(()),
     }
-    append_quoted(text, octets)
 }
 
-/// What opens the elements of an array or a pipe; of bytes all elements.
-fn append_list<'a, N: Nodes>(
+/// Elements of an array or a pipe: in brackets, or bytes as digits.
+#[cycle(values)]
+fn append_list(
     text: &mut Octets,
-    types: &'a Types,
+    types: &Types,
     elem: TypeId,
-    count: usize,
-    nodes: &mut N,
-) -> Result<Option<Open<'a>>, Memory> {
-    if let Some(TypeDef::Prim(Prim::Byte)) = types.get(elem.0 as usize) {
-        append_bytes(text, count, nodes)?;
-        return Ok(None);
+    vals: &Vals,
+) -> Result<(), Memory>
+    ensures { OnOk result (text.new ≡ text.old ++ list_text (writes_octets version.Two (type_at types.now elem.0)) (trees vals.now)
+        (texts_of types.now (replicate (count (trees vals.now)) elem.0) (trees vals.now))) }
+{
+    if are_bytes(types, elem) {
+        text.append(b"x\"")?;
+        append_bytes(text, vals)?;
+        return text.append(b"\"");
     }
     text.append(b"[")?;
-    Ok(Some(Open::List {
-        elem,
-        first: true,
-        left: count,
-    }))
+    append_elements(text, types, elem, vals)?;
+    text.append(b"]")
 }
 
-/// So many bytes.
-fn append_bytes<N: Nodes>(text: &mut Octets, count: usize, nodes: &mut N) -> Result<(), Memory> {
-    text.append(b"x\"")?;
-    for _ in 0..count {
-        let Some(Node::Num(value)) = nodes.next()? else {
+/// Elements, with a comma between each two.
+#[cycle(values)]
+fn append_elements(
+    text: &mut Octets,
+    types: &Types,
+    elem: TypeId,
+    vals: &Vals,
+) -> Result<(), Memory>
+    ensures { OnOk result (text.new ≡ text.old ++ listed 0 (texts_of types.now (replicate (count (trees vals.now)) elem.0) (trees vals.now))) }
+{
+    for at in 0..vals.len() {
+        let Some(val) = vals.get(at) else {
             unreachable!()
         };
-        append_hex(text, value as u8)?;
+        append_separator(text, at)?;
+        append_value(text, types, elem, val)?;
     }
-    text.append(b"\"")
+    Ok(())
 }
 
-/// The value of an arm, which is to come; `void` where it has none.
-fn append_arm<'a>(text: &mut Octets, arm: Option<&Arm>) -> Result<Option<Open<'a>>, Memory> {
-    match arm.and_then(|arm| arm.of) {
-        Some(of) => Ok(Some(Open::Arm { of })),
-        None => {
-            text.append(b"void")?;
-            Ok(None)
-        }
-    }
-}
-
-/// The arm that a tag selects: the one with that label, or the default, if any.
-pub(crate) fn selected<'a>(arms: &'a Arms, default: &'a Option<Arm>, tag: i128) -> Option<&'a Arm> {
-    for at in 0..arms.len() {
-        let Some(arm) = arms.get(at) else {
+/// Bytes as digits.
+fn append_bytes(text: &mut Octets, vals: &Vals) -> Result<(), Memory>
+    ensures { OnOk result (text.new ≡ text.old ++ bytes_text (trees vals.now)) }
+{
+    for at in 0..vals.len() {
+        let Some(val) = vals.get(at) else {
             unreachable!()
         };
-        if arm.label == tag {
-            return Some(arm);
-        }
+        append_byte_of(text, val)?;
     }
-    default.as_ref()
+    Ok(())
+}
+
+/// The digits of a value that is a byte; another has none.
+fn append_byte_of(text: &mut Octets, val: &Val) -> Result<(), Memory>
+    ensures { OnOk result (text.new ≡ text.old ++ byte_of (tree_of val.now)) }
+{
+    match val {
+        Val::Num(value) => append_byte(text, *value),
+        _ => Ok(()),
+    }
+}
+
+/// The value of an arm of this type; `void` where it has none.
+#[cycle(values)]
+fn append_arm(
+    text: &mut Octets,
+    types: &Types,
+    of: Option<TypeId>,
+    arm: &ArmVal,
+) -> Result<(), Memory>
+    ensures { OnOk result (text.new ≡ text.old ++ arm_text (texts_of types.now (option_to_list (option_map (λ t. t.0) of)) (trees arm.now))) }
+{
+    let Some(of) = of else {
+        return text.append(b"void");
+    };
+    let Some(val) = arm.get() else {
+        return text.append(b"void");
+    };
+    append_value(text, types, of, val)
 }
