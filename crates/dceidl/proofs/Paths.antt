@@ -71,6 +71,13 @@ map_length f (x ∷ xs) = ap suc (map_length f xs)
 -- ## Paths of nodes
 
 module _ (table : Table) where
+  -- the nodes of the children of a node, and of the values after it
+  abbrev kid_paths : ℕ → List ℕ → ℕ → Label → Trees → List (ℕ × List ℕ)
+  kid_paths t q n l ks = node_paths table (child_types (type_at table t) l ks) (child_paths (type_at table t) l q ks) (n + 1) ks
+
+  abbrev next_paths : List ℕ → List (List ℕ) → ℕ → Trees → Trees → List (ℕ × List ℕ)
+  next_paths types paths n ks ts = node_paths table types paths (n + 1 + node_count ks) ts
+
   -- the numbers of nodes with paths count the nodes
   pub within : (types : List ℕ) (paths : List (List ℕ)) (n : ℕ) (ts : Trees) (m : ℕ) (p : List ℕ)
       → Among (node_paths table types paths n ts) (m, p) → (n ≤ m) × (m < n + node_count ts)
@@ -80,17 +87,31 @@ module _ (table : Table) where
   within (t ∷ types) (q ∷ paths) n (more (node l ks) ts) m p (inl e) =
       let same : m ≡ n = ap (λ (x : ℕ × List ℕ). x.0) e in
       (omega (arith, same), omega (arith, same))
-  within (t ∷ types) (q ∷ paths) n (more (node l ks) ts) m p (inr a) =
-      by (parted (node_paths table (child_types (type_at table t) l ks) (child_paths (type_at table t) l q ks) (n + 1) ks) (node_paths table types paths (n + 1 + node_count ks) ts) (m, p) a)
+  within (t ∷ types) (q ∷ paths) n (more (node l ks) ts) m p (inr a) = by (parted (kid_paths t q n l ks) (next_paths types paths n ks ts) (m, p) a)
     where
-      by : Among (node_paths table (child_types (type_at table t) l ks) (child_paths (type_at table t) l q ks) (n + 1) ks) (m, p)
-          ⊎ Among (node_paths table types paths (n + 1 + node_count ks) ts) (m, p) → (n ≤ m) × (m < n + node_count (more (node l ks) ts))
+      by : Among (kid_paths t q n l ks) (m, p) ⊎ Among (next_paths types paths n ks ts) (m, p) → (n ≤ m) × (m < n + suc (node_count ks + node_count ts))
       by (inl b) =
-          let (low, high) = within (child_types (type_at table t) l ks) (child_paths (type_at table t) l q ks) (n + 1) ks m p b in
-          (omega (arith, low), omega (arith, high))
+          let k = within (child_types (type_at table t) l ks) (child_paths (type_at table t) l q ks) (n + 1) ks m p b in
+          (omega (arith, k.0), omega (arith, k.1))
       by (inr b) =
-          let (low, high) = within types paths (n + 1 + node_count ks) ts m p b in
-          (omega (arith, low), omega (arith, high))
+          let k = within types paths (n + 1 + node_count ks) ts m p b in
+          (omega (arith, k.0), omega (arith, k.1))
+
+  -- a node after the first has a greater number
+  deeper : (t : ℕ) (types : List ℕ) (q : List ℕ) (paths : List (List ℕ)) (n : ℕ) (l : Label) (ks ts : Trees) (m : ℕ) (p : List ℕ)
+      → Among (kid_paths t q n l ks) (m, p) ⊎ Among (next_paths types paths n ks ts) (m, p) → n + 1 ≤ m
+  deeper t types q paths n l ks ts m p (inl b) = (within (child_types (type_at table t) l ks) (child_paths (type_at table t) l q ks) (n + 1) ks m p b).0
+  deeper t types q paths n l ks ts m p (inr b) =
+      let low = (within types paths (n + 1 + node_count ks) ts m p b).0 in
+      omega (arith, low)
+
+  -- no number is one of a child's nodes and of a later value's
+  apart : {B : Type 0} (t : ℕ) (types : List ℕ) (q : List ℕ) (paths : List (List ℕ)) (n : ℕ) (l : Label) (ks ts : Trees) (m : ℕ) (p r : List ℕ)
+      → Among (kid_paths t q n l ks) (m, p) → Among (next_paths types paths n ks ts) (m, r) → B
+  apart t types q paths n l ks ts m p r b c =
+      let high = (within (child_types (type_at table t) l ks) (child_paths (type_at table t) l q ks) (n + 1) ks m p b).1 in
+      let low = (within types paths (n + 1 + node_count ks) ts m r c).0 in
+      absurd (omega (arith, high, low))
 
   -- so a number has one path
   pub one : (types : List ℕ) (paths : List (List ℕ)) (n : ℕ) (ts : Trees) (m : ℕ) (p q : List ℕ)
@@ -98,41 +119,24 @@ module _ (table : Table) where
   one [] paths n ts m p q a b = absurd a
   one (t ∷ types) [] n ts m p q a b = absurd a
   one (t ∷ types) (r ∷ paths) n none m p q a b = absurd a
-  one (t ∷ types) (r ∷ paths) n (more (node l ks) ts) m p q a b = by a b
+  one (t ∷ types) (r ∷ paths) n (more (node l ks) ts) m p q (inl e) (inl f) = ap (λ (x : ℕ × List ℕ). x.1) e ∙ sym (ap (λ (x : ℕ × List ℕ). x.1) f)
+  one (t ∷ types) (r ∷ paths) n (more (node l ks) ts) m p q (inl e) (inr b) =
+      let same : m ≡ n = ap (λ (x : ℕ × List ℕ). x.0) e in
+      let low = deeper t types r paths n l ks ts m q (parted (kid_paths t r n l ks) (next_paths types paths n ks ts) (m, q) b) in
+      absurd (omega (arith, same, low))
+  one (t ∷ types) (r ∷ paths) n (more (node l ks) ts) m p q (inr a) (inl f) =
+      let same : m ≡ n = ap (λ (x : ℕ × List ℕ). x.0) f in
+      let low = deeper t types r paths n l ks ts m p (parted (kid_paths t r n l ks) (next_paths types paths n ks ts) (m, p) a) in
+      absurd (omega (arith, same, low))
+  one (t ∷ types) (r ∷ paths) n (more (node l ks) ts) m p q (inr a) (inr b) =
+      by (parted (kid_paths t r n l ks) (next_paths types paths n ks ts) (m, p) a) (parted (kid_paths t r n l ks) (next_paths types paths n ks ts) (m, q) b)
     where
-      kids : List (ℕ × List ℕ)
-      kids = node_paths table (child_types (type_at table t) l ks) (child_paths (type_at table t) l r ks) (n + 1) ks
-
-      rest : List (ℕ × List ℕ)
-      rest = node_paths table types paths (n + 1 + node_count ks) ts
-
-      kid : (s : List ℕ) → Among kids (m, s) → (n + 1 ≤ m) × (m < n + 1 + node_count ks)
-      kid s c = within (child_types (type_at table t) l ks) (child_paths (type_at table t) l r ks) (n + 1) ks m s c
-
-      other : (s : List ℕ) → Among rest (m, s) → n + 1 + node_count ks ≤ m
-      other s c = (within types paths (n + 1 + node_count ks) ts m s c).0
-
-      deeper : (s : List ℕ) → Among kids (m, s) ⊎ Among rest (m, s) → n + 1 ≤ m
-      deeper s (inl c) = (kid s c).0
-      deeper s (inr c) = let low = other s c in omega (arith, low)
-
-      both : Among kids (m, p) ⊎ Among rest (m, p) → Among kids (m, q) ⊎ Among rest (m, q) → p ≡ q
-      both (inl c) (inl d) = one (child_types (type_at table t) l ks) (child_paths (type_at table t) l r ks) (n + 1) ks m p q c d
-      both (inl c) (inr d) = let high = (kid p c).1 in let low = other q d in absurd (omega (arith, high, low))
-      both (inr c) (inl d) = let high = (kid q d).1 in let low = other p c in absurd (omega (arith, high, low))
-      both (inr c) (inr d) = one types paths (n + 1 + node_count ks) ts m p q c d
-
-      by : ((m, p) ≡ (n, r)) ⊎ Among (kids ++ rest) (m, p) → ((m, q) ≡ (n, r)) ⊎ Among (kids ++ rest) (m, q) → p ≡ q
-      by (inl e) (inl f) = ap (λ (x : ℕ × List ℕ). x.1) e ∙ sym (ap (λ (x : ℕ × List ℕ). x.1) f)
-      by (inl e) (inr d) =
-          let same : m ≡ n = ap (λ (x : ℕ × List ℕ). x.0) e in
-          let low = deeper q (parted kids rest (m, q) d) in
-          absurd (omega (arith, same, low))
-      by (inr c) (inl f) =
-          let same : m ≡ n = ap (λ (x : ℕ × List ℕ). x.0) f in
-          let low = deeper p (parted kids rest (m, p) c) in
-          absurd (omega (arith, same, low))
-      by (inr c) (inr d) = both (parted kids rest (m, p) c) (parted kids rest (m, q) d)
+      by : Among (kid_paths t r n l ks) (m, p) ⊎ Among (next_paths types paths n ks ts) (m, p)
+          → Among (kid_paths t r n l ks) (m, q) ⊎ Among (next_paths types paths n ks ts) (m, q) → p ≡ q
+      by (inl c) (inl d) = one (child_types (type_at table t) l ks) (child_paths (type_at table t) l r ks) (n + 1) ks m p q c d
+      by (inl c) (inr d) = apart t types r paths n l ks ts m p q c d
+      by (inr c) (inl d) = apart t types r paths n l ks ts m q p d c
+      by (inr c) (inr d) = one types paths (n + 1 + node_count ks) ts m p q c d
 
   -- the node that is first has the first path
   pub first_is : (types : List ℕ) (name : List ℕ) (v : Tree) (m : ℕ) (q : List ℕ) → m ≡ 0
@@ -140,16 +144,8 @@ module _ (table : Table) where
   first_is [] name v m q zero a = absurd a
   first_is (t ∷ types) name (node l ks) m q zero (inl e) = ap (λ (x : ℕ × List ℕ). x.1) e
   first_is (t ∷ types) name (node l ks) m q zero (inr a) =
-      by (parted (node_paths table (child_types (type_at table t) l ks) (child_paths (type_at table t) l name ks) (0 + 1) ks) (node_paths table types [] (0 + 1 + node_count ks) none) (m, q) a)
-    where
-      by : Among (node_paths table (child_types (type_at table t) l ks) (child_paths (type_at table t) l name ks) (0 + 1) ks) (m, q)
-          ⊎ Among (node_paths table types [] (0 + 1 + node_count ks) none) (m, q) → q ≡ name
-      by (inl b) =
-          let low = (within (child_types (type_at table t) l ks) (child_paths (type_at table t) l name ks) (0 + 1) ks m q b).0 in
-          absurd (omega (arith, low, zero))
-      by (inr b) =
-          let low = (within types [] (0 + 1 + node_count ks) none m q b).0 in
-          absurd (omega (arith, low, zero))
+      let low = deeper t types name [] 0 l ks none m q (parted (kid_paths t name 0 l ks) (next_paths types [] 0 ks none) (m, q) a) in
+      absurd (omega (arith, low, zero))
 
 -- each node has one path at most
 pub one_path : (w : Setting) (g : Graph) (h : Home) (n : ℕ) (p q : List ℕ) → IsPath w g h n p → IsPath w g h n q → p ≡ q
@@ -218,22 +214,16 @@ module _ (table : Table) where
   has_path (t ∷ types) agreements (q ∷ paths) n (more (node l ks) ts) few x (inr a) =
       by (parted (nodes_of table (child_types (type_at table t) l ks) (child_agreements (type_at table t) ks) (n + 1) ks) (nodes_of table types (rest_agreements agreements) (n + 1 + node_count ks) ts) x a)
     where
-      kids : List (ℕ × List ℕ)
-      kids = node_paths table (child_types (type_at table t) l ks) (child_paths (type_at table t) l q ks) (n + 1) ks
-
-      rest : List (ℕ × List ℕ)
-      rest = node_paths table types paths (n + 1 + node_count ks) ts
-
       by : Among (nodes_of table (child_types (type_at table t) l ks) (child_agreements (type_at table t) ks) (n + 1) ks) x
           ⊎ Among (nodes_of table types (rest_agreements agreements) (n + 1 + node_count ks) ts) x
           → Pathed table (t ∷ types) (q ∷ paths) n (more (node l ks) ts) x.node
       by (inl b) =
           let k = has_path (child_types (type_at table t) l ks) (child_agreements (type_at table t) ks) (child_paths (type_at table t) l q ks) (n + 1) ks
           (covered (type_at table t) l q ks) x b in
-          record { path = k.path; among = inr (among_left kids rest (x.node, k.path) k.among) }
+          record { path = k.path; among = inr (among_left (kid_paths table t q n l ks) (next_paths table types paths n ks ts) (x.node, k.path) k.among) }
       by (inr b) =
           let k = has_path types (rest_agreements agreements) paths (n + 1 + node_count ks) ts (omega (arith, few)) x b in
-          record { path = k.path; among = inr (among_right kids rest (x.node, k.path) k.among) }
+          record { path = k.path; among = inr (among_right (kid_paths table t q n l ks) (next_paths table types paths n ks ts) (x.node, k.path) k.among) }
 
 -- ## The first misfit
 
