@@ -10,7 +10,7 @@ pub mod Rows
 pub mod Sides
 pub mod OneInput
 pub mod OneReading
-pub mod WholeMisfits
+pub mod Paths
 pub mod OneWriting
 pub mod RoundTrip
 pub mod AcfWithin

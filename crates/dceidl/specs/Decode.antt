@@ -7,7 +7,7 @@ use Rattle.nd_value.specs.Conforms.{Conforms}
 use Rattle.nd_grammar.specs.Represents.{Represents}
 use Rattle.nd_grammar.specs.Prefix.{BeginsWith}
 use Rattle.nd_grammar.specs.Bad.{Bad}
-use Rattle.value_text.specs.Printed.{IsText}
+use Rattle.text_grammar.specs.Printed.{IsText}
 use Rattle.dceidl.specs.declared.refusal.Refusal.{Refusal}
 use Rattle.dceidl.specs.declared.refusal.Refusal.TheVariants.{Memory, BadOctets}
 use Rattle.dceidl.specs.declared.refusal.OctetsFault.{OctetsFault}

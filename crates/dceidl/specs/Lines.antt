@@ -9,8 +9,8 @@ use Rattle.nd_value.specs.declared.misfit.MisfitReason.{MisfitReason}
 use Rattle.nd_value.specs.declared.misfit.MisfitReason.TheVariants as misfit
 use Rattle.nd_grammar.specs.declared.reason.Reason.{Reason}
 use Rattle.nd_grammar.specs.declared.reason.Reason.TheVariants as reason
-use Rattle.value_text.specs.declared.fault.TextReason.{TextReason}
-use Rattle.value_text.specs.declared.fault.TextReason.TheVariants as text
+use Rattle.text_grammar.specs.declared.fault.TextReason.{TextReason}
+use Rattle.text_grammar.specs.declared.fault.TextReason.TheVariants as text
 use Rattle.nd_base.specs.Text.{joined}
 use Rattle.dceidl.specs.declared.refusal.Refusal.{Refusal}
 use Rattle.dceidl.specs.declared.refusal.Refusal.TheVariants.{Memory, Absent, FileFailed, BadIdl, NoOperation, NotBuilt, ReadFault, BadOctets, BadText, BadValue}

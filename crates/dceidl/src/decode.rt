@@ -4,7 +4,7 @@ ghost use Rattle.std.specs.List.{slice_get};
 ghost use Rattle.nd_types.specs.declared.types.Operation.{Operation};
 ghost use Rattle.nd_types.specs.Numbers.{IsNumberSide};
 ghost use Rattle.nd_value.specs.Fitting.{setting_of};
-ghost use Rattle.value_text.specs.Printed.{IsText};
+ghost use Rattle.text_grammar.specs.Printed.{IsText};
 ghost use Rattle.dceidl.specs.Decode.{IsOctetsCause, IsDecoding, IsLeftOver};
 
 use crate::ready::Ready;
@@ -53,7 +53,6 @@ fn print_whole(
     decoded: &Decoded,
     given: usize,
 ) -> Result<Octets, Refusal>
-    requires built { IsNumberSide ready.now.interface.types ready.now.interface.operations ready.now.number ready.now.side }
     requires tied { decoded.now.fit.interface ≡ ready.now.interface }
     requires number { decoded.now.fit.op ≡ ready.now.number }
     requires side { decoded.now.fit.side ≡ ready.now.side }

@@ -33,6 +33,7 @@ usage: dceidl compile IDL ACF
        dceidl plan IDL ACF
        dceidl decode IDL ACF OP SIDE ORDER
        dceidl encode IDL ACF OP SIDE ORDER CHUNK
+       dceidl migrate IDL ACF OP SIDE
        dceidl --help
        dceidl --version
 
@@ -46,6 +47,7 @@ decode  reads the octets of a request (SIDE `in`) or a response (SIDE `out`) fro
 encode  reads such a text from standard input, and writes the octets of its values to
         standard output. CHUNK is the number of elements in a chunk of a pipe, 1 to 16777216;
         it has no effect unless the operation has pipes.
+migrate reads such a text of either version, and writes it as `decode` prints it.
 
 IDL is the path of a file of IDL, ACF is the path of an attribute configuration file or `-`
 for none, and OP is the name of an operation. SIDE `in` has the [in] parameters, `out` the

@@ -99,7 +99,8 @@ pub enum Refusal {
         column: u32,
         reason: TextReason,
     },
-    /// The values of the text do not conform to the operation. The first misfit is at a path: a root's name or `@k`, in octets.
+    /// The values of the text do not conform to the operation. The first misfit is at a path, in octets: a root's name or `@k`, then
+    /// `.NAME` for each member and arm and `[I]` for each element on the way.
     #[error("value refused")]
     BadValue {
         path: Octets,

@@ -1,0 +1,2 @@
+pub mod HomePaths
+pub mod Nodes
