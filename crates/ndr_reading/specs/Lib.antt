@@ -1,0 +1,4 @@
+pub mod Halves
+pub mod Around
+pub mod Points
+pub mod ChildNodes

@@ -1,0 +1,176 @@
+-- What a state of the decoder means to the plain reader: from this state on, whatever octets follow those that were fetched, it comes to the same as from
+-- the beginning of the home.
+-- `fetched` are the octets so far, `own` the type of the home `h`, `target` what the plain reader gives for the home, by all octets, `limit` how many values
+-- nest in place: 32, and one more within a pipe.
+use Rattle.std.specs.Prelude.{◌≡◌, ◌≤◌, ◌<◌, ℕ, ◌+◌, zero, suc, Bool, true, false, not, eqb, List, [], ◌∷◌, ◌++◌, length, map, Option, Some, None}
+use Rattle.std.specs.List.{AllByRecursion, slice_get}
+use Rattle.nd_base.specs.declared.octets.Order.{Order}
+use Rattle.nd_types.specs.declared.types.Attr.{Attr}
+use Rattle.nd_types.specs.declared.types.Attr.TheVariants as attr
+use Rattle.nd_types.specs.Table.{Table}
+use Rattle.nd_types.specs.Layout.{hoists}
+use Rattle.nd_value.specs.declared.item.Home.{Home}
+use Rattle.nd_value.specs.Deferral.{Pending, home_pointers}
+use Rattle.nd_value.specs.Tree as tree
+use Rattle.nd_value.specs.Tree.{Tree, Trees, node, none, more, Flat, flat, Label}
+use Rattle.nd_grammar.specs.declared.reason.Reason.{Reason}
+use Rattle.nd_grammar.specs.Entry.{EntryAt, size_at}
+use Rattle.nd_grammar.specs.Reader.{Names, Read, numbered, tree_nodes}
+use Rattle.nd_grammar.specs.Refusal.{is_other, tested_at}
+use Rattle.ndr_code.specs.declared.instr.Instr.{Instr}
+use Rattle.ndr_code.specs.Code.{whole_at}
+use Rattle.ndr_refs.specs.declared.referents.Known.{Known}
+use Rattle.ndr_refs.specs.Known.{known}
+use Rattle.ndr_reading.specs.Around.{Around, going, finish, nodes_around, pointers, pointers_around}
+use Rattle.ndr_reading.specs.Points.{Point, hoisting, counting, offset_read as at_offset, text_offset, text_counted, tagged, between, checking, read_at, held, nodes_at, pointers_at, NumberedAt, TiedAt}
+use Rattle.ndr_steps.specs.declared.frame.Frame.{Frame}
+use Rattle.ndr_steps.specs.declared.frame.Frame.TheVariants as frame
+use Rattle.ndr_steps.specs.Spots.{Spot, InsideAt, FitsAt}
+use Rattle.ndr_steps.specs.Steps.{State, Outcome, goes, refused, whole, Owed, Member, Phase, begun, gap_read, offset_read, count_read, place_of}
+
+-- a pending referent as the decoder keeps it
+abbrev pub owed : Table → Pending → Owed
+owed table p = record { class = p.class; to = p.to; run = whole_at table p.to; cell = p.cell; agreements = p.agreements }
+
+-- ## The members of open structs
+
+-- members of these types, from a node on: their first nodes, and how many pointers come before each
+abbrev pub members_of : Table → Home → ℕ → List ℕ → ℕ → Trees → List Member
+members_of table h pending types n none = []
+members_of table h pending [] n (more t ts) = []
+members_of table h pending (u ∷ us) n (more t ts) =
+    record { node = n; pending = pending } ∷ members_of table h (pending + length (pointers table h (u ∷ []) n (more t none))) us (n + tree_nodes t) ts
+
+abbrev pub read_members : Table → Home → Label → Around → List Around → List Member
+read_members table h tree.Rec f fs = members_of table h (length (pointers_around table h fs)) f.before (f.node + 1) f.done
+read_members table h l f fs = []
+
+-- the member that is being read
+abbrev pub open_member : Table → Home → Label → Around → List Around → List Member
+open_member table h tree.Rec f fs = record { node = f.next; pending = length (pointers_around table h (f ∷ fs)) } ∷ []
+open_member table h l f fs = []
+
+abbrev pub members_around : Table → Home → List Around → List Member
+members_around table h [] = []
+members_around table h (f ∷ fs) = members_around table h fs ++ (read_members table h f.label f fs ++ open_member table h f.label f fs)
+
+abbrev pub members_at : Table → Home → Point → List Around → List Member
+members_at table h (between f) fs = members_around table h fs ++ read_members table h f.label f fs
+members_at table h (checking f so_far tests) fs = members_around table h fs ++ read_members table h f.label f fs
+members_at table h _ fs = members_around table h fs
+
+-- the frame of a struct says where its members begin
+abbrev pub BeginsAt : ℕ → Frame → Type 0
+BeginsAt n (frame.Record back first) = first ≡ n
+BeginsAt n _ = Unit {0}
+
+abbrev pub Begin : Table → Home → Frame → List Frame → List Around → Type 0
+Begin table h top stack [] = Unit {0}
+Begin table h top [] (f ∷ fs) = ⊥
+Begin table h top (outer ∷ under) (f ∷ fs) = BeginsAt (length (members_around table h fs)) top × Begin table h outer under fs
+
+abbrev pub BeginStruct : Table → Home → Frame → List Frame → List Around → Type 0
+BeginStruct table h top [] fs = ⊥
+BeginStruct table h top (outer ∷ under) fs = BeginsAt (length (members_around table h fs)) top × Begin table h outer under fs
+
+abbrev pub BeginAt : Table → Home → Point → Frame → List Frame → List Around → Type 0
+BeginAt table h (between f) top stack fs = BeginStruct table h top stack fs
+BeginAt table h (checking f so_far tests) top stack fs = BeginStruct table h top stack fs
+BeginAt table h _ top stack fs = Begin table h top stack fs
+
+-- ## Registers
+
+abbrev pub phase_at : Point → Phase
+phase_at (counting t) = gap_read
+phase_at (at_offset t d max elem o) = offset_read o
+phase_at (text_offset t max) = offset_read 0
+phase_at (text_counted t max c) = count_read c
+phase_at _ = begun
+
+abbrev pub HasTag : Point → State → Type 0
+HasTag (tagged t d form arms default z) s = (s.tag ≡ z) × (s.form ≡ form)
+HasTag _ s = Unit {0}
+
+-- the maximum count was read, if the home's type hoists one
+abbrev pub max_known : Bool → Point → Bool
+max_known b (hoisting t) = false
+max_known b (counting t) = false
+max_known b _ = b
+
+-- an attribute speaks of a node that has such a count or tag: the maximum count is that of the home, the others are the node's own
+abbrev pub Speaks : Bool → Attr → Option ℕ → Type 0
+Speaks max attr.Size place = max ≡ true
+Speaks max attr.Max place = max ≡ true
+Speaks max a (Some place) = Unit {0}
+Speaks max a None = ⊥
+
+abbrev pub place_or : Option ℕ → ℕ
+place_or None = 0
+place_or (Some n) = n
+
+-- the attribute may govern such a node: a tag is a union's, the others are those of an array or a text
+abbrev pub Governs : Attr → Label → Type 0
+Governs attr.Switch (tree.Union tag) = Unit {0}
+Governs attr.Switch l = ⊥
+Governs a (tree.Arr max offset) = Unit {0}
+Governs a (tree.Text max octets) = Unit {0}
+Governs a l = ⊥
+
+-- Numbers of full pointers: the table has for each what the plain reader's names and its search through earlier entries say.
+abbrev pub IsKnownAs : Order → List ℕ → List EntryAt → Names → ℕ → Option Known → Type 0
+IsKnownAs order octets seen names v None = (numbered names.numbers v ≡ None) × ((to : ℕ) → is_other order octets seen v to ≡ false)
+IsKnownAs order octets seen names v (Some k) = (numbered names.numbers v ≡ Some k.cell.0) × ((to : ℕ) → is_other order octets seen v to ≡ not (eqb k.of.0 to))
+
+-- ## The state
+
+pub record Good (order : Order) (fetched : List ℕ) (code : List Instr) (table : Table) (h : Home) (own limit : ℕ) (target : List ℕ → Read) (s : State) : Type 0 where
+  pub depth : ℕ
+  pub fs : List Around
+  pub point : Point
+  pub seen : List EntryAt
+  pub names : Names
+  pub deep : depth + length fs ≡ limit
+  -- where the code and the stack are
+  pub spot : Spot code table h depth s.pc point
+  pub phase : s.phase ≡ phase_at point
+  pub tag : HasTag point s
+  pub inside : InsideAt code table point s.top s.stack fs
+  pub begin : BeginAt table h point s.top s.stack fs
+  pub fits : FitsAt code table depth point fs
+  pub tied : TiedAt own point fs
+  -- what was read
+  pub nodes : s.nodes ≡ nodes_at point fs
+  pub numbered : NumberedAt point fs
+  pub members : s.members ≡ members_at table h point fs
+  pub pending : s.fresh ≡ map (owed table) (pointers_at table h point fs)
+  pub cells : s.cells ≡ map (λ c. c.of) names.cells
+  pub numbers : (v : ℕ) → 0 < v → IsKnownAs order fetched seen names v (known v s.numbers)
+  pub as_many : length s.places ≡ length s.nodes
+  pub places : (i : ℕ) (x : Flat) (place : Option ℕ) → slice_get s.nodes i ≡ Some x → slice_get s.places i ≡ Some place → (a : Attr)
+      → Governs a x.0 → Speaks (max_known (hoists table own) point) a place → tested_at seen a h i ≡ Some (place_of a s.max_at (place_or place))
+  -- the octets: those fetched end where the state is, but for a tag that is not passed yet; the entries seen lie within them
+  pub reached : length fetched ≡ s.at + held point
+  pub lie_within : AllByRecursion (λ (x : EntryAt). x.at + size_at x.at x.entry.kind ≤ length fetched) seen
+  -- whatever follows, the plain reader comes from here to what it comes to from the beginning
+  pub rest : (later : List ℕ)
+      → finish order (fetched ++ later) table h s.max depth fs (read_at order (fetched ++ later) table h s.max depth point (length (nodes_around fs)) (going s.at seen) names)
+      ≡ target (fetched ++ later)
+
+-- The home's value is whole: this is what the plain reader gives, whatever follows.
+pub record Whole (order : Order) (fetched : List ℕ) (table : Table) (h : Home) (own : ℕ) (target : List ℕ → Read) (s : State) : Type 0 where
+  pub v : Tree
+  pub seen : List EntryAt
+  pub names : Names
+  pub nodes : s.nodes ≡ flat (more v none)
+  pub pending : s.fresh ≡ map (owed table) (home_pointers table h own v)
+  pub cells : s.cells ≡ map (λ c. c.of) names.cells
+  pub numbers : (v : ℕ) → 0 < v → IsKnownAs order fetched seen names v (known v s.numbers)
+  pub reached : length fetched ≡ s.at
+  pub lie_within : AllByRecursion (λ (x : EntryAt). x.at + size_at x.at x.entry.kind ≤ length fetched) seen
+  pub is : (later : List ℕ) → record { tree = v; progress = going s.at seen; names = names } ≡ target (fetched ++ later)
+
+-- what a step comes to is right; a refusal is that of the plain reader, whatever follows
+abbrev pub IsRight : Order → List ℕ → List Instr → Table → Home → ℕ → ℕ → (List ℕ → Read) → Outcome → Type 0
+IsRight order fetched code table h own limit target (goes s) = Good order fetched code table h own limit target s
+IsRight order fetched code table h own limit target (refused place why) = (later : List ℕ) → (target (fetched ++ later)).progress.stop ≡ Some (place, why)
+IsRight order fetched code table h own limit target (whole s) = Whole order fetched table h own target s

@@ -1,0 +1,499 @@
+-- What each instruction of a plan does to the state of the decoder, as functions on lists. A step handles one gap, one item or none: `wants` says which, and
+-- `step` gets the octets of it, all fetched. Where they are not all there, or would end past the limit of a stream, no step is taken.
+-- `s` is a state, `i` an instruction, `os` the octets of the step, `z` a value, `o` an offset, `c` a count, `v` a pointer's number.
+use Rattle.std.specs.Prelude.{◌≡◌, ℕ, ◌+◌, ◌-◌, zero, suc, ℤ, pos, Bool, true, false, not, ◌&&◌, cond, eqb, ltb, if◌then◌else◌, List, [], ◌∷◌, ◌++◌, length, take, drop, Option, Some, None}
+use Rattle.std.specs.List.{slice_get}
+use Rattle.std.specs.Ordering.{int_eq}
+use Rattle.nd_base.specs.declared.octets.Order.{Order}
+use Rattle.nd_types.specs.declared.types.Attr.{Attr}
+use Rattle.nd_types.specs.declared.types.Attr.TheVariants as attr
+use Rattle.nd_types.specs.declared.types.Class.{Class}
+use Rattle.nd_types.specs.declared.types.Class.TheVariants.{Ref, Unique, Full}
+use Rattle.nd_types.specs.declared.types.Primitive.{Primitive}
+use Rattle.nd_types.specs.declared.types.Primitive.TheVariants.{Boolean, Char, Byte, Small, UnsignedSmall, Short, UnsignedShort, Long, UnsignedLong, Hyper, UnsignedHyper}
+use Rattle.nd_types.specs.declared.types.TypeId.{TypeId}
+use Rattle.nd_types.specs.Number.{unsigned, value_of_octets}
+use Rattle.nd_types.specs.Table.{width}
+use Rattle.nd_value.specs.declared.value.CellId.{CellId}
+use Rattle.nd_value.specs.Agreement.{Agreement, agreement, wanted_by}
+use Rattle.nd_value.specs.Tree as tree
+use Rattle.nd_value.specs.Tree.{Flat, Label, is_pointer}
+use Rattle.nd_grammar.specs.declared.reason.Reason.{Reason}
+use Rattle.nd_grammar.specs.declared.reason.Reason.TheVariants as reason
+use Rattle.nd_grammar.specs.Entry.{gap}
+use Rattle.nd_grammar.specs.Reader.{identifier}
+use Rattle.nd_grammar.specs.Refusal.{is_enumerator, text_refusal}
+use Rattle.ndr_code.specs.declared.instr.Instr.{Instr}
+use Rattle.ndr_code.specs.declared.instr.Instr.TheVariants as op
+use Rattle.ndr_code.specs.declared.lists.EnumList.{EnumList}
+use Rattle.ndr_code.specs.Lines.{enumerators}
+use Rattle.ndr_refs.specs.declared.referents.Known.{Known}
+use Rattle.ndr_refs.specs.Known.{known, first_met}
+use Rattle.ndr_reading.specs.ChildNodes.{flat_number, flat_found}
+use Rattle.ndr_reading.specs.Points.{TagForm}
+use Rattle.ndr_steps.specs.declared.frame.Frame.{Frame}
+use Rattle.ndr_steps.specs.declared.frame.Frame.TheVariants as frame
+
+-- ## The state
+
+-- which item of an instruction comes next: its first one; the maximum count, after its gap; the actual count, after this offset; the octets of a text, of
+-- this length without the terminator
+pub data Phase : Type 0 where
+  begun : Phase
+  gap_read : Phase
+  offset_read : (o : ℕ) → Phase
+  count_read : (c : ℕ) → Phase
+
+-- a pending referent: its type, its whole run, the cell that the pointer names, and the agreements of the pointer
+pub record Owed : Type 0 where
+  pub class : Class
+  pub to : ℕ
+  pub run : ℕ
+  pub cell : Option ℕ
+  pub agreements : List Agreement
+
+-- a member that was read: its first node, and how many referents were pending before it
+pub record Member : Type 0 where
+  pub node : ℕ
+  pub pending : ℕ
+
+pub record State : Type 0 where
+  -- the address of the instruction, which item of it is next, and the place in the stream
+  pub pc : ℕ
+  pub phase : Phase
+  pub at : ℕ
+  -- the maximum count before the home's value, and its place
+  pub max : ℕ
+  pub max_at : ℕ
+  -- the tag that was read last, and how it is carried; its entry is not passed yet
+  pub tag : ℤ
+  pub form : TagForm
+  -- what is around the value that is being read, from the innermost on
+  pub top : Frame
+  pub stack : List Frame
+  -- the home's nodes so far; for each the place of its offset or tag, if it has one; the members that were read of the structs that are open
+  pub nodes : List Flat
+  pub places : List (Option ℕ)
+  pub members : List Member
+  -- the home's pending referents so far
+  pub fresh : List Owed
+  -- the types of all cells, and the numbers of full pointers
+  pub cells : List ℕ
+  pub numbers : List (ℕ × Known)
+
+-- what a step comes to: it goes on, the octets are refused, or the home's value is whole
+pub data Outcome : Type 0 where
+  goes : (s : State) → Outcome
+  refused : (place : ℕ) (why : Reason) → Outcome
+  whole : (s : State) → Outcome
+
+-- ## What a step wants
+
+-- the primitive of a type's number
+abbrev pub prim_of : ℕ → Primitive
+prim_of n =
+    cond (eqb n 0) Boolean (
+    cond (eqb n 1) Char (
+    cond (eqb n 2) Byte (
+    cond (eqb n 3) Small (
+    cond (eqb n 4) UnsignedSmall (
+    cond (eqb n 5) Short (
+    cond (eqb n 6) UnsignedShort (
+    cond (eqb n 7) Long (
+    cond (eqb n 8) UnsignedLong (
+    cond (eqb n 9) Hyper (
+    UnsignedHyper))))))))))
+
+-- how a tag of a type is carried: an enumerated one as a short
+abbrev pub form_by : ℕ → Option (List ℤ) → TagForm
+form_by t None = record { prim = prim_of t; values = None }
+form_by t (Some values) = record { prim = Short; values = Some values }
+
+-- nothing, a gap of so many octets, or an item of so many
+pub data Want : Type 0 where
+  no_octets : Want
+  gap_of : (n : ℕ) → Want
+  item_of : (n : ℕ) → Want
+
+module _ (values : List EnumList) where
+  abbrev pub tag_form : TypeId → TagForm
+  tag_form of = form_by of.0 (enumerators values of.0)
+
+  abbrev pub text_want : Phase → Want
+  text_want (count_read c) = item_of (c + 1)
+  text_want _ = item_of 4
+
+  abbrev pub hoist_want : Phase → ℕ → Want
+  hoist_want gap_read at = item_of 4
+  hoist_want _ at = gap_of (gap at 4)
+
+  abbrev pub wants : Instr → State → Want
+  wants (op.Align n) s = gap_of (gap s.at n)
+  wants (op.Num of) s = item_of (width (prim_of of.0))
+  wants (op.Enum of) s = item_of 2
+  wants (op.Vary bound run) s = item_of 4
+  wants (op.Confvary run) s = item_of 4
+  wants (op.Text bound) s = text_want s.phase
+  wants op.Hoist s = hoist_want s.phase s.at
+  wants (op.Tag of) s = item_of (width (tag_form of).prim)
+  wants (op.Pointer class to run) s = item_of 4
+  wants op.Context s = item_of 20
+  wants _ s = no_octets
+
+-- ## Changes of the state
+
+abbrev pub jumped : ℕ → State → State
+jumped a s = record {
+  pc = a;
+  phase = begun;
+  at = s.at;
+  max = s.max;
+  max_at = s.max_at;
+  tag = s.tag;
+  form = s.form;
+  top = s.top;
+  stack = s.stack;
+  nodes = s.nodes;
+  places = s.places;
+  members = s.members;
+  fresh = s.fresh;
+  cells = s.cells;
+  numbers = s.numbers;
+}
+
+-- the next instruction, where nothing is read
+abbrev pub next : State → State
+next s = jumped (s.pc + 1) s
+
+-- past so many octets, at the same instruction in this phase
+abbrev pub past : ℕ → Phase → State → State
+past n phase s = record {
+  pc = s.pc;
+  phase = phase;
+  at = s.at + n;
+  max = s.max;
+  max_at = s.max_at;
+  tag = s.tag;
+  form = s.form;
+  top = s.top;
+  stack = s.stack;
+  nodes = s.nodes;
+  places = s.places;
+  members = s.members;
+  fresh = s.fresh;
+  cells = s.cells;
+  numbers = s.numbers;
+}
+
+-- a node more, and the place of its offset or tag
+abbrev pub with_node : Flat → Option ℕ → State → State
+with_node x place s = record {
+  pc = s.pc;
+  phase = s.phase;
+  at = s.at;
+  max = s.max;
+  max_at = s.max_at;
+  tag = s.tag;
+  form = s.form;
+  top = s.top;
+  stack = s.stack;
+  nodes = s.nodes ++ x ∷ [];
+  places = s.places ++ place ∷ [];
+  members = s.members;
+  fresh = s.fresh;
+  cells = s.cells;
+  numbers = s.numbers;
+}
+
+abbrev pub with_frames : Frame → List Frame → State → State
+with_frames top stack s = record {
+  pc = s.pc;
+  phase = s.phase;
+  at = s.at;
+  max = s.max;
+  max_at = s.max_at;
+  tag = s.tag;
+  form = s.form;
+  top = top;
+  stack = stack;
+  nodes = s.nodes;
+  places = s.places;
+  members = s.members;
+  fresh = s.fresh;
+  cells = s.cells;
+  numbers = s.numbers;
+}
+
+abbrev pub pushed : Frame → State → State
+pushed f s = with_frames f (s.top ∷ s.stack) s
+
+abbrev pub popped_to : List Frame → State → State
+popped_to [] s = with_frames frame.Home [] s
+popped_to (f ∷ fs) s = with_frames f fs s
+
+abbrev pub popped : State → State
+popped s = popped_to s.stack s
+
+abbrev pub with_members : List Member → State → State
+with_members ms s = record {
+  pc = s.pc;
+  phase = s.phase;
+  at = s.at;
+  max = s.max;
+  max_at = s.max_at;
+  tag = s.tag;
+  form = s.form;
+  top = s.top;
+  stack = s.stack;
+  nodes = s.nodes;
+  places = s.places;
+  members = ms;
+  fresh = s.fresh;
+  cells = s.cells;
+  numbers = s.numbers;
+}
+
+abbrev pub with_fresh : List Owed → State → State
+with_fresh owed s = record {
+  pc = s.pc;
+  phase = s.phase;
+  at = s.at;
+  max = s.max;
+  max_at = s.max_at;
+  tag = s.tag;
+  form = s.form;
+  top = s.top;
+  stack = s.stack;
+  nodes = s.nodes;
+  places = s.places;
+  members = s.members;
+  fresh = owed;
+  cells = s.cells;
+  numbers = s.numbers;
+}
+
+abbrev pub with_names : List ℕ → List (ℕ × Known) → State → State
+with_names cells numbers s = record {
+  pc = s.pc;
+  phase = s.phase;
+  at = s.at;
+  max = s.max;
+  max_at = s.max_at;
+  tag = s.tag;
+  form = s.form;
+  top = s.top;
+  stack = s.stack;
+  nodes = s.nodes;
+  places = s.places;
+  members = s.members;
+  fresh = s.fresh;
+  cells = cells;
+  numbers = numbers;
+}
+
+abbrev pub with_max : ℕ → State → State
+with_max m s = record {
+  pc = s.pc;
+  phase = s.phase;
+  at = s.at;
+  max = m;
+  max_at = s.at;
+  tag = s.tag;
+  form = s.form;
+  top = s.top;
+  stack = s.stack;
+  nodes = s.nodes;
+  places = s.places;
+  members = s.members;
+  fresh = s.fresh;
+  cells = s.cells;
+  numbers = s.numbers;
+}
+
+abbrev pub with_tag : ℤ → TagForm → State → State
+with_tag z form s = record {
+  pc = s.pc;
+  phase = s.phase;
+  at = s.at;
+  max = s.max;
+  max_at = s.max_at;
+  tag = z;
+  form = form;
+  top = s.top;
+  stack = s.stack;
+  nodes = s.nodes;
+  places = s.places;
+  members = s.members;
+  fresh = s.fresh;
+  cells = s.cells;
+  numbers = s.numbers;
+}
+
+-- an item that is the last of its instruction: past its octets, and the next instruction
+abbrev pub done_after : ℕ → State → State
+done_after n s = next (past n begun s)
+
+-- ## Elements, arms, calls and ends
+
+-- so many elements by the run; where there is none, the next instruction
+abbrev pub elements : ℕ → ℕ → State → State
+elements zero run s = next s
+elements (suc n) run s = jumped run (pushed (frame.Elements n run (s.pc + 1)) s)
+
+-- the arm of a run, of which address 0 is the empty one; after an arm comes address 1, a `ret`
+abbrev pub arm_taken : Bool → ℕ → State → State
+arm_taken true run s = jumped 0 (with_node (tree.Union s.tag, 0) (Some s.at) (past (width s.form.prim) begun s))
+arm_taken false run s = jumped run (pushed (frame.Elements 0 run 1) (with_node (tree.Union s.tag, 1) (Some s.at) (past (width s.form.prim) begun s)))
+
+-- in a struct a call is of the next member, and comes back; else what is called ends as its caller does
+abbrev pub call_from : Frame → ℕ → State → State
+call_from (frame.Record back first) run s =
+    jumped run (with_frames (frame.Record (s.pc + 1) first) s.stack (with_members (s.members ++ record { node = length s.nodes; pending = length s.fresh } ∷ []) s))
+call_from _ run s = jumped run s
+
+abbrev pub back_to : Frame → State → Outcome
+back_to frame.Home s = whole s
+back_to (frame.Record back first) s = goes (jumped back s)
+back_to (frame.Elements zero run back) s = goes (jumped back (popped s))
+back_to (frame.Elements (suc left) run back) s = goes (jumped run (with_frames (frame.Elements left run back) s.stack s))
+
+-- a struct ends: its members are forgotten
+abbrev pub close_of : Frame → State → State
+close_of (frame.Record back first) s = next (popped (with_members (take first s.members) s))
+close_of _ s = next (popped s)
+
+-- ## Pointers
+
+-- the pointer names this cell, or none; its referent is pending
+abbrev pub owing : Class → TypeId → ℕ → Option ℕ → State → State
+owing class to run c s =
+    with_fresh (s.fresh ++ record { class = class; to = to.0; run = run; cell = c; agreements = [] } ∷ []) (with_node (tree.Ptr c, 0) None s)
+
+abbrev pub new_cell : Class → TypeId → ℕ → State → State
+new_cell class to run s = owing class to run (Some (length s.cells + 1)) (with_names (s.cells ++ to.0 ∷ []) s.numbers s)
+
+abbrev pub full_by : Option Known → ℕ → TypeId → ℕ → State → Outcome
+full_by None v to run s =
+    goes (done_after 4
+    (owing Full to run (Some (length s.cells + 1))
+    (with_names (s.cells ++ to.0 ∷ []) (s.numbers ++ (v, first_met to (record { 0 = length s.cells + 1 })) ∷ []) s)))
+full_by (Some k) v to run s = if eqb k.of.0 to.0 then goes (done_after 4 (owing Full to run (Some k.cell.0) s)) else refused s.at reason.OtherType
+
+-- an embedded reference pointer has a cell of its own, whatever its number; 0 is null; a unique pointer has a cell of its own
+abbrev pub pointer_step : Class → TypeId → ℕ → ℕ → State → Outcome
+pointer_step Ref to run v s = goes (done_after 4 (new_cell Ref to run s))
+pointer_step Unique to run v s = goes (done_after 4 (if eqb v 0 then owing Unique to run None s else new_cell Unique to run s))
+pointer_step Full to run v s = if eqb v 0 then goes (done_after 4 (owing Full to run None s)) else full_by (known v s.numbers) v to run s
+
+-- ## Agreements
+
+-- where the count or tag is that an attribute of a node speaks of
+abbrev pub place_of : Attr → ℕ → ℕ → ℕ
+place_of attr.Size max_at place = max_at
+place_of attr.Max max_at place = max_at
+place_of attr.First max_at place = place
+place_of attr.Length max_at place = place + 4
+place_of attr.Last max_at place = place + 4
+place_of attr.Switch max_at place = place
+
+-- agreements join a pending referent
+abbrev pub joined_by : List Agreement → List Owed → ℕ → List Owed
+joined_by ws [] n = []
+joined_by ws (o ∷ os) zero = record { class = o.class; to = o.to; run = o.run; cell = o.cell; agreements = o.agreements ++ ws } ∷ os
+joined_by ws (o ∷ os) (suc n) = o ∷ joined_by ws os n
+
+abbrev pub node_at : List Flat → Option Member → Option Flat
+node_at nodes None = None
+node_at nodes (Some m) = slice_get nodes m.node
+
+abbrev pub number_at : Option Flat → Option ℤ
+number_at None = None
+number_at (Some x) = flat_number x
+
+abbrev pub or_zero : Option (Option ℕ) → ℕ
+or_zero (Some (Some n)) = n
+or_zero _ = 0
+
+abbrev pub try_all : List Agreement → Flat → ℕ → ℕ → State → Outcome
+try_all [] x place max_at s = goes (next s)
+try_all (w ∷ ws) x place max_at s =
+    if int_eq w.wanted (flat_found w.attr x) then try_all ws x place max_at s
+    else refused (place_of w.attr max_at place) (reason.Disagrees w.wanted (flat_found w.attr x))
+
+-- the agreements of a member, by its first node: those of a pointer join its pending referent, those of any other are tried
+abbrev pub checked : List Agreement → Option Member → Option Flat → State → Outcome
+checked ws (Some m) (Some x) s =
+    if is_pointer x.0 then goes (next (with_fresh (joined_by ws s.fresh m.pending) s)) else try_all ws x (or_zero (slice_get s.places m.node)) s.max_at s
+checked ws _ _ s = goes (next s)
+
+abbrev pub check_in : Frame → Attr → ℕ → ℕ → State → Outcome
+check_in (frame.Record back first) a f v s =
+    let of : ℕ → Option Member = λ i. slice_get s.members (first + i) in
+    checked (agreement a (number_at (node_at s.nodes (of v)))) (of f) (node_at s.nodes (of f)) s
+check_in _ a f v s = goes (next s)
+
+-- ## The steps
+
+-- a text's octets with its terminator
+abbrev pub text_done : Option (ℕ × Reason) → ℕ → List ℕ → State → Outcome
+text_done None limit os s = goes (done_after (length os) (with_node (tree.Text limit (take (length os - 1) os), 0) (Some (s.at - 8)) s))
+text_done (Some r) limit os s = refused r.0 r.1
+
+-- a bound of 0 means the maximum count
+abbrev pub limit_of : ℕ → State → ℕ
+limit_of zero s = s.max
+limit_of (suc n) s = suc n
+
+module _ (values : List EnumList) (order : Order) (os : List ℕ) where
+  abbrev pub number_step : Primitive → Option (List ℤ) → State → Outcome
+  number_step p enums s =
+      let z : ℤ = value_of_octets order p os in
+      if is_enumerator enums z then goes (done_after (width p) (with_node (tree.Num z, 0) None s)) else refused s.at reason.EnumValue
+
+  abbrev pub vary_by : Phase → ℕ → ℕ → State → Outcome
+  vary_by (offset_read o) limit run s =
+      let c : ℕ = unsigned order os in
+      if ltb limit (o + c) then refused s.at reason.PastBound else goes (elements c run (with_node (tree.Arr limit o, c) (Some (s.at - 4)) (past 4 begun s)))
+  vary_by _ limit run s = goes (past 4 (offset_read (unsigned order os)) s)
+
+  abbrev pub text_by : Phase → ℕ → State → Outcome
+  text_by (count_read c) limit s = text_done (text_refusal s.at os) limit os s
+  text_by (offset_read o) limit s =
+      let c : ℕ = unsigned order os in
+      if eqb c 0 then refused s.at reason.TextEmpty else if ltb limit c then refused s.at reason.PastBound else goes (past 4 (count_read (c - 1)) s)
+  text_by _ limit s = if eqb (unsigned order os) 0 then goes (past 4 (offset_read 0) s) else refused s.at reason.TextOffset
+
+  abbrev pub hoist_by : Phase → State → Outcome
+  hoist_by gap_read s = goes (done_after 4 (with_max (unsigned order os) s))
+  hoist_by _ s = goes (past (length os) gap_read s)
+
+  abbrev pub tag_step : TagForm → State → Outcome
+  tag_step form s =
+      let z : ℤ = value_of_octets order form.prim os in
+      if is_enumerator form.values z then goes (next (with_tag z form s)) else refused s.at reason.EnumValue
+
+  -- what an instruction of a home's value does; those of roots, pipes and parameters are not among them
+  abbrev pub step : Instr → State → Outcome
+  step op.Void s = goes (next s)
+  step op.Ret s = back_to s.top s
+  step (op.Align n) s = goes (done_after (length os) s)
+  step (op.Num of) s = number_step (prim_of of.0) None s
+  step (op.Enum of) s = number_step Short (enumerators values of.0) s
+  step (op.Record n) s = goes (next (pushed (frame.Record 0 (length s.members)) (with_node (tree.Rec, n) None s)))
+  step op.Close s = goes (close_of s.top s)
+  step (op.Fixed n run) s = goes (elements n run (with_node (tree.Arr n 0, n) None s))
+  step (op.Conf run) s = goes (elements s.max run (with_node (tree.Arr s.max 0, s.max) None s))
+  step (op.Vary bound run) s = vary_by s.phase bound run s
+  step (op.Confvary run) s = vary_by s.phase s.max run s
+  step (op.Text bound) s = text_by s.phase (limit_of bound s) s
+  step op.Hoist s = hoist_by s.phase s
+  step (op.Tag of) s = tag_step (tag_form values of) s
+  step (op.Arm label run) s = goes (if int_eq label s.tag then arm_taken (eqb run 0) run s else next s)
+  step (op.Other run) s = goes (arm_taken (eqb run 0) run s)
+  step op.Noarm s = refused s.at reason.NoArm
+  step (op.Pointer class to run) s = pointer_step class to run (unsigned order os) s
+  step op.Context s =
+      goes (done_after 20 (with_node (tree.Context (unsigned order (take 4 os)) (identifier order os (drop 4 os)), 0) None s))
+  step (op.Check a f v star) s = check_in s.top a f v s
+  step (op.Call run) s = goes (call_from s.top run s)
+  step _ s = whole s

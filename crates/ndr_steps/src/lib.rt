@@ -1,0 +1,8 @@
+//! The decoder's stack, and where it is in the code of a plan at each point within a value.
+//!
+//! UNFINISHED: the definitions are here; the laws that each step keeps what a state means are not written yet.
+#![tactic(auto)]
+
+mod frame;
+
+pub use frame::Frame;
