@@ -1,0 +1,3 @@
+mod CellNumbers
+mod NamedCells
+mod NamedInTurn
