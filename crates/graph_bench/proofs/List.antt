@@ -1,12 +1,12 @@
 -- The interface of the list is legal, and the list has few nodes.
-use Rattle.std.proofs.Common.{◌≡◌, ℕ, List, [], ◌∷◌, ◌++◌, map, Option, refl, sym, subst, arith, lit≤, lit<}
+use Rattle.std.proofs.Common.{◌≡◌, ℕ, ◌+◌, ◌<◌, ◌^◌, suc, ℤ, List, [], ◌∷◌, ◌++◌, map, Option, refl, ap, sym, ◌∙◌, subst, arith, lit≤, lit<}
 use Rattle.nd_types.specs.Layout.{hoists}
 use Rattle.nd_types.specs.Legal.{IsLegal, is_shallow, element_count, fits_pipes}
 use Rattle.nd_value.specs.declared.value.Graph.{Graph}
 use Rattle.nd_value.specs.Tree as tree
-use Rattle.nd_value.specs.Tree.{Referent, node, none, more, node_count}
+use Rattle.nd_value.specs.Tree.{Tree, Referent, node, none, more, node_count, trees}
 use Rattle.nd_value.specs.Conforms.{FewNodes, HasFewNodes}
-use Rattle.graph_bench.specs.List.{list_types, list_operations, IsNode, AreNodes}
+use Rattle.graph_bench.specs.List.{list_types, list_operations, IsNode, AreNodes, AreLeaves}
 
 pub legal : IsLegal list_types list_operations
 unfolding hoists is_shallow element_count fits_pipes
@@ -70,3 +70,20 @@ few_cells (x ∷ xs) h = (let e : node_count (more x.val none) ≡ 3 = h.0 in om
 -- a list of nodes by a pointer to the first has few nodes
 pub few_nodes : (g : Graph) (c : Option ℕ) → g.roots ≡ node (tree.Ptr c) none ∷ [] → AreNodes g.cells → HasFewNodes g
 few_nodes g c e h = subst (λ rs. FewNodes (rs ++ map (λ x. x.val) g.cells)) (sym e) (lit< tt, few_cells g.cells h)
+
+-- a pointer more
+pub more_leaves : (ts : List Tree) (n : ℕ) (c : Option ℕ) → AreLeaves ts n → AreLeaves (ts ++ node (tree.Ptr c) none ∷ []) (n + 1)
+more_leaves ts n c e = counted ts ∙ ap (λ k. k + 1) e
+  where
+    counted : (ts : List Tree) → node_count (trees (ts ++ node (tree.Ptr c) none ∷ [])) ≡ node_count (trees ts) + 1
+    counted [] = refl
+    counted (node l ks ∷ ts) =
+        let h : node_count (trees (ts ++ node (tree.Ptr c) none ∷ [])) ≡ node_count (trees ts) + 1 = counted ts in
+        omega (arith, h)
+
+-- a number, and an array of pointers to one cell
+pub few_leaves : (g : Graph) (ts : List Tree) (n : ℕ) (z y : ℤ) (m : ℕ) → AreLeaves ts n → n < 2 ^ 31
+    → g.roots ≡ node (tree.Num z) none ∷ node (tree.Arr m 0) (trees ts) ∷ [] → g.cells ≡ record { of = 7; val = node (tree.Num y) none } ∷ [] → HasFewNodes g
+few_leaves g ts n z y m e few roots cells =
+    subst (λ rs. FewNodes (rs ++ map (λ x. x.val) g.cells)) (sym roots)
+    (subst (λ xs. FewNodes ((node (tree.Num z) none ∷ node (tree.Arr m 0) (trees ts) ∷ []) ++ map (λ x. x.val) xs)) (sym cells) (lit< tt, (omega (arith, e, few), (lit< tt, tt))))

@@ -12,7 +12,7 @@ use Rattle.nd_types.specs.declared.types.Way.TheVariants as way
 use Rattle.nd_types.specs.declared.types.Operation.{Operation}
 use Rattle.nd_types.specs.Table.{Table}
 use Rattle.nd_types.specs.Kinds.{basic_types}
-use Rattle.nd_value.specs.Tree.{Referent, more, none, node_count}
+use Rattle.nd_value.specs.Tree.{Tree, Referent, more, none, node_count, trees}
 
 abbrev pub id : ℕ → TypeId
 id t = record { 0 = t }
@@ -48,3 +48,7 @@ IsNode x = node_count (more x.val none) ≡ 3
 
 abbrev pub AreNodes : List Referent → Type 0
 AreNodes xs = AllByRecursion IsNode xs
+
+-- so many values of one node each
+abbrev pub AreLeaves : List Tree → ℕ → Type 0
+AreLeaves ts n = node_count (trees ts) ≡ n

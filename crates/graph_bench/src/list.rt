@@ -2,7 +2,7 @@
 ghost use Rattle.std.specs.Prelude.{◌≡◌, ◌+◌, ◌≤◌, ◌<◌, ◌^◌, length, IfOk};
 ghost use Rattle.nd_value.specs.Conforms.{HasFewNodes};
 ghost use Rattle.nd_value.specs.Seen.{cell_of};
-ghost use Rattle.graph_bench.specs.List.{IsNode, AreNodes};
+ghost use Rattle.graph_bench.specs.List.{IsNode, AreNodes, AreLeaves};
 
 use nd_base::Memory;
 use nd_graph::{Cell, CellId, Cells, Graph, Val, Vals};
@@ -18,6 +18,7 @@ pub(crate) struct Form {
 }
 
 // A pointer to the first cell, and a list of this form.
+#[tactic(auto, using(crate::proofs::List::few_nodes))]
 pub(crate) fn list(alloc: Global, form: Form) -> Result<Graph, Memory>
     ensures cells { IfOk result (λ g. length g.cells ≡ form.count) }
     ensures few { IfOk result (λ g. HasFewNodes g) }
@@ -32,6 +33,7 @@ pub(crate) fn list(alloc: Global, form: Form) -> Result<Graph, Memory>
     })
 }
 
+#[tactic(auto, using(crate::proofs::List::more_nodes))]
 fn cells(alloc: Global, form: Form) -> Result<Cells, Memory>
     ensures count { IfOk result (λ cs. length cs ≡ form.count) }
     ensures nodes { IfOk result (λ cs. AreNodes cs) }
@@ -68,21 +70,16 @@ fn cell(alloc: Global, at: u32, form: Form) -> Result<Cell, Memory>
 }
 
 // So many pointers to one cell.
+#[tactic(auto, using(crate::proofs::List::few_leaves))]
 pub(crate) fn pointers(alloc: Global, count: u32) -> Result<Graph, Memory>
     requires { count < 2 ^ 31 }
     ensures cells { IfOk result (λ g. length g.cells ≡ 1) }
     ensures few { IfOk result (λ g. HasFewNodes g) }
 {
-    let mut items = Vals::new(alloc);
-    for _at in 0..count {
-        let Ok(()) = items.push(Val::Ptr(Some(CellId(1)))) else {
-            return Err(Memory);
-        };
-    }
     let array = Val::Arr {
         max: count,
         offset: 0,
-        items,
+        items: leaves(alloc, count)?,
     };
     let mut roots = Vals::new(alloc);
     if roots.push(Val::Num(i128::from(count))).is_err() || roots.push(array).is_err() {
@@ -97,4 +94,18 @@ pub(crate) fn pointers(alloc: Global, count: u32) -> Result<Graph, Memory>
         return Err(Memory);
     };
     Ok(Graph { roots, cells })
+}
+
+// So many pointers to the first cell, as elements.
+#[tactic(auto, using(crate::proofs::List::more_leaves))]
+fn leaves(alloc: Global, count: u32) -> Result<Vals, Memory>
+    ensures { IfOk result (λ vs. AreLeaves vs count) }
+{
+    let mut items = Vals::new(alloc);
+    for _at in 0..count {
+        let Ok(()) = items.push(Val::Ptr(Some(CellId(1)))) else {
+            return Err(Memory);
+        };
+    }
+    Ok(items)
 }

@@ -1,4 +1,7 @@
 // What is measured.
+ghost use Rattle.std.specs.Prelude.{◌<◌, ◌^◌, length};
+ghost use Rattle.nd_value.specs.Conforms.{HasFewNodes};
+
 use crate::interface::list_interface;
 use crate::list::{Form, list, pointers};
 use nd_graph::{Fit, Graph, Home, Misfit, canonical, fit, same};
@@ -20,7 +23,9 @@ pub(crate) fn measured_list(rt: &HostRuntime, name: &str, form: Form) -> io::Res
 }
 
 // Measures pointers to one cell.
-pub(crate) fn measured_pointers(rt: &HostRuntime, count: u32) -> io::Result<()> {
+pub(crate) fn measured_pointers(rt: &HostRuntime, count: u32) -> io::Result<()>
+    requires { count < 2 ^ 31 }
+{
     let Ok(graph) = pointers(rt.alloc(), count) else {
         return Err(out_of_memory());
     };
@@ -30,7 +35,12 @@ pub(crate) fn measured_pointers(rt: &HostRuntime, count: u32) -> io::Result<()> 
 }
 
 // Fits a graph of so many nodes to an operation, makes it canonical and compares the two; and copies as many octets as its nodes take.
-fn measured(rt: &HostRuntime, op: u32, graph: Graph, nodes: u64) -> io::Result<()> {
+fn measured(rt: &HostRuntime, op: u32, graph: Graph, nodes: u64) -> io::Result<()>
+    requires known { op < 2 }
+    requires few_cells { length graph.cells < 2 ^ 32 }
+    requires few_nodes { HasFewNodes graph }
+    requires nodes { nodes < 2 ^ 34 }
+{
     let spent = copied(rt, (nodes * NODE_SIZE) as usize)?;
     println!(rt; "copy of the nodes: {} ns a node", per_node(spent, nodes))?;
     let Ok(interface) = list_interface(rt.alloc()) else {

@@ -1,8 +1,9 @@
 -- The graphs of the rows.
-use Rattle.std.specs.Prelude.{ℕ, ℤ, pos, List, [], ◌∷◌, Some, None}
+use Rattle.std.specs.Prelude.{ℕ, ℤ, ◌<◌, ◌^◌, pos, List, [], ◌∷◌, length, Some, None}
 use Rattle.nd_value.specs.declared.value.Graph.{Graph}
 use Rattle.nd_value.specs.Tree as tree
 use Rattle.nd_value.specs.Tree.{Tree, Trees, node, none, more, Referent}
+use Rattle.nd_value.specs.Conforms.{HasFewNodes}
 
 abbrev pub num : ℤ → Tree
 num z = node (tree.Num z) none
@@ -41,16 +42,6 @@ ring_swapped = graph (pointer_to 2 ∷ []) (cell 12 (of_two (num (pos 8)) (point
 abbrev pub ring_and_leaf : Graph
 ring_and_leaf = graph (pointer_to 1 ∷ []) (cell 12 (of_two (num (pos 7)) (pointer_to 1)) ∷ cell 14 (of_one (num (pos 8))) ∷ [])
 
--- a pair of which b and a's y are one leaf 5, and a's z a leaf 6
-abbrev pub pair : Graph
-pair =
-    graph (pointer_to 1 ∷ [])
-    (cell 18 (of_two (pointer_to 2) (pointer_to 3))
-    ∷ cell 16 (of_two (pointer_to 3) (pointer_to 4))
-    ∷ cell 14 (of_one (num (pos 5)))
-    ∷ cell 14 (of_one (num (pos 6)))
-    ∷ [])
-
 -- two pointers to cells of their own, and to one cell
 abbrev pub apart : Graph
 apart = graph (pointer_to 1 ∷ pointer_to 2 ∷ []) (cell 7 (num (pos 5)) ∷ cell 7 (num (pos 5)) ∷ [])
@@ -81,3 +72,8 @@ asked n = graph (num (pos n) ∷ []) []
 
 abbrev pub asked_by_pointer : ℕ → Graph
 asked_by_pointer n = graph (pointer_to 1 ∷ []) (cell 8 (num (pos n)) ∷ [])
+
+-- what `fit` asks of a graph
+pub record IsSmall (g : Graph) : Type 0 where
+  pub few_cells : length g.cells < 2 ^ 32
+  pub few_nodes : HasFewNodes g

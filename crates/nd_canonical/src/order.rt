@@ -1,16 +1,14 @@
 // The order in which the cells of a graph are named.
-ghost use Rattle.std.specs.Prelude.{◌≡◌, ◌+◌, ◌-◌, ◌<◌, ◌≤◌, ◌^◌, ◌++◌, [], false, length, replicate, get_or, reverse, OnOk, IfOk, IfSome, IfNone};
-ghost use Rattle.nd_value.specs.Tree.{flat, cell_in};
+ghost use Rattle.std.specs.Prelude.{◌≡◌, ◌+◌, ◌-◌, ◌<◌, ◌^◌, ◌++◌, [], false, length, replicate, reverse, OnOk, IfOk};
 ghost use Rattle.nd_value.specs.Seen.{cell_number};
 ghost use Rattle.nd_value.specs.Canon.{target};
-ghost use Rattle.nd_value.specs.Names.{AreThere, HasNames, cells_in, named_by};
-ghost use Rattle.nd_flat.specs.FlatForm.{flat_seen};
+ghost use Rattle.nd_value.specs.Names.{HasNames, cells_in, named_by};
 ghost use Rattle.nd_flat.specs.Building.{HasHome, home_tree};
 ghost use Rattle.nd_canonical.specs.Naming.{cell_homes, root_homes};
 ghost use Rattle.nd_canonical.specs.Order.{IsOrder, IsAllNamed, numbering, name, ordering, visited, is_deferred, with_mark, HaveNumbers, HasMark};
 
 use nd_base::Memory;
-use nd_flat::{FlatGraph, Seen, Walk};
+use nd_flat::{FlatGraph, Walk};
 use nd_value::{CellId, Home};
 use std::alloc::Global;
 
@@ -122,7 +120,7 @@ fn name_all(walk: &mut Walk<'_>, order: &mut Order, met: &mut Vec<u32>) -> Resul
         ≡ name (cells_in walk.old) (numbering order.old.numbers.items order.old.cells.items)) }
     ensures met { OnOk result (met.new.items ≡ met.old.items ++ cells_in walk.old) }
 {
-    while let Some(cell) = next_cell(walk) {
+    while let Some(cell) = walk.next_cell() {
         name_one(cell, order, met)?;
     }
     Ok(())
@@ -139,37 +137,6 @@ fn make_due(met: &mut Vec<u32>, due: &mut Vec<Home>) -> Result<(), Memory>
         };
     }
     Ok(())
-}
-
-// The cell that the next node names, rows of numbers left out. None at the end.
-fn next_cell(walk: &mut Walk<'_>) -> Option<Option<CellId>>
-    ensures some { IfSome result (λ c. cells_in walk.old ≡ target (cell_number c) ++ cells_in walk.new) }
-    ensures less { IfSome result (λ c. length (flat walk.new) < length (flat walk.old)) }
-    ensures none { IfNone result (cells_in walk.old ≡ []) }
-{
-    skip_row(walk);
-    match walk.step() {
-        Some(seen) => Some(named_cell(&seen)),
-        None => None,
-    }
-}
-
-// Past a row of numbers, if one comes next.
-fn skip_row(walk: &mut Walk<'_>)
-    ensures cells { cells_in walk.old ≡ cells_in walk.new }
-    ensures less { length (flat walk.new) ≤ length (flat walk.old) }
-{
-    let _row = walk.row(u32::MAX);
-}
-
-// The cell that a node names.
-pub(crate) fn named_cell(seen: &Seen<'_>) -> Option<CellId>
-    ensures { cell_number result ≡ cell_in (flat_seen seen.now).0 }
-{
-    match seen {
-        Seen::Ptr(cell) => *cell,
-        _ => None,
-    }
 }
 
 // A cell is named, if one is given: it is listed, and has the next number unless it has one.

@@ -7,7 +7,7 @@ ghost use Rattle.nd_flat.specs.FlatForm.{flat_seen};
 ghost use Rattle.nd_canonical.specs.Order.{IsOrder};
 ghost use Rattle.nd_canonical.specs.Alike.{AreAlike, AreSameRoots, AreSameCells, IsSameCell, number_by as numbers_by, renumbered_flat, renumbered_flats};
 
-use crate::order::{Order, named_cell, order_of};
+use crate::order::{Order, order_of};
 use nd_base::Memory;
 use nd_flat::{Fit, FlatGraph, Seen, Walk};
 use nd_value::CellId;
@@ -120,10 +120,10 @@ fn same_node(a: &Seen<'_>, b: &Seen<'_>, left: &Order, right: &Order) -> bool
     ensures { Decides result (renumbered_flat (numbers_by left.now.numbers.items) (flat_seen a.now)
         ≡ renumbered_flat (numbers_by right.now.numbers.items) (flat_seen b.now)) }
 {
-    let Some(mine) = named_cell(a) else {
+    let Some(mine) = a.named_cell() else {
         return a == b;
     };
-    let Some(other) = named_cell(b) else {
+    let Some(other) = b.named_cell() else {
         return false;
     };
     number_of(left, mine) == number_of(right, other)

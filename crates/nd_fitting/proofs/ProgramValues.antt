@@ -30,7 +30,7 @@ use Rattle.nd_value.proofs.LocalPass.{local_first}
 use Rattle.nd_value.proofs.Misfits.{all_left, all_right, all_both, neither}
 use Rattle.nd_value.proofs.NodeFacts.{fit_children}
 use Rattle.nd_passes.specs.Searched.{have_machine_values, HasMachineValues}
-use Rattle.nd_passes.proofs.NumberRanges.{range_fits}
+use Rattle.nd_value.proofs.ValueRanges.{range_fits}
 use Rattle.nd_passes.proofs.Walkable.{Fits, fits, home_none}
 use Rattle.nd_flat.specs.FlatForm.{IsKeepable, IsKeepableNumber}
 use Rattle.nd_flat.specs.Keepable.{AreKeepable, HasKeepable}

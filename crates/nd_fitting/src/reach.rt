@@ -1,14 +1,12 @@
 // Which cells are reached: the third pass of a fit.
-ghost use Rattle.std.specs.Prelude.{◌≡◌, ◌+◌, ◌<◌, ◌≤◌, ◌^◌, ◌++◌, [], true, false, length, replicate, get_or, suc, Option, OnOk, IfOk, IfSome, IfNone, MatchOption};
-ghost use Rattle.nd_value.specs.Tree.{cell_in, flat};
+ghost use Rattle.std.specs.Prelude.{◌≡◌, ◌+◌, ◌<◌, ◌≤◌, ◌^◌, true, false, length, replicate, get_or, suc, Option, OnOk, IfOk, MatchOption};
 ghost use Rattle.nd_value.specs.Seen.{cell_number};
 ghost use Rattle.nd_value.specs.Canon.{target};
-ghost use Rattle.nd_flat.specs.FlatForm.{flat_seen};
 ghost use Rattle.nd_value.specs.Names.{cells_in, HasNames};
 ghost use Rattle.nd_fitting.specs.Reach.{searched, note, note_roots, HaveMarks, Searching, TellsMark, TellsReach};
 
 use nd_base::Memory;
-use nd_flat::{FlatGraph, Seen, Walk};
+use nd_flat::{FlatGraph, Walk};
 use nd_value::{CellId, Home};
 use std::alloc::Global;
 
@@ -80,41 +78,10 @@ fn note_all(walk: &mut Walk<'_>, marks: &mut Vec<bool>, queue: &mut Vec<u32>) ->
     requires { HaveMarks marks.old.items (cells_in walk.old) }
     ensures { OnOk result (searched marks.new.items queue.new.items ≡ note (cells_in walk.old) (searched marks.old.items queue.old.items)) }
 {
-    while let Some(cell) = next_cell(walk) {
+    while let Some(cell) = walk.next_cell() {
         note_one(cell, marks, queue)?;
     }
     Ok(())
-}
-
-// The cell that the next node names, rows of numbers left out.
-fn next_cell(walk: &mut Walk<'_>) -> Option<Option<CellId>>
-    ensures some { IfSome result (λ c. cells_in walk.old ≡ target (cell_number c) ++ cells_in walk.new) }
-    ensures less { IfSome result (λ c. length (flat walk.new) < length (flat walk.old)) }
-    ensures none { IfNone result (cells_in walk.old ≡ []) }
-{
-    skip_row(walk);
-    match walk.step() {
-        Some(seen) => Some(named_cell(&seen)),
-        None => None,
-    }
-}
-
-// Past a row of numbers, if one comes next.
-fn skip_row(walk: &mut Walk<'_>)
-    ensures cells { cells_in walk.old ≡ cells_in walk.new }
-    ensures less { length (flat walk.new) ≤ length (flat walk.old) }
-{
-    let _row = walk.row(u32::MAX);
-}
-
-// The cell that a node names.
-fn named_cell(seen: &Seen<'_>) -> Option<CellId>
-    ensures { cell_number result ≡ cell_in (flat_seen seen.now).0 }
-{
-    match seen {
-        Seen::Ptr(cell) => *cell,
-        _ => None,
-    }
 }
 
 // Marks a cell, if one is given.

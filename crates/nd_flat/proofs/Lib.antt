@@ -6,6 +6,7 @@ pub mod Kept
 pub mod NoUnread
 pub mod RowLaws
 pub mod RowWalks
+pub mod NamedCells
 pub mod Homes
 pub mod Typed
 pub mod Rebuilding

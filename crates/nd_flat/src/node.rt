@@ -31,6 +31,18 @@ pub enum Seen<'a> {
     Pipe(u32),
 }
 
+impl<'a> Seen<'a> {
+    /// The cell that the node names, if it is a pointer that is not null. Takes no memory.
+    pub fn named_cell(&self) -> Option<CellId>
+        ensures { cell_number result ≡ tree.cell_in (flat_seen self.now).0 }
+    {
+        match self {
+            Seen::Ptr(cell) => *cell,
+            _ => None,
+        }
+    }
+}
+
 // A node as it is kept: numbers and tags from 0 on apart from those below 0, the octets of a text by where they begin among all
 // octets that are kept, and numbers of a primitive side by side as one node.
 #[derive(Clone, Copy, Drop)]

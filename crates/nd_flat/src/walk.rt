@@ -1,11 +1,15 @@
 // Walks over values.
-ghost use Rattle.std.specs.Prelude.{◌≡◌, ◌∷◌, ◌++◌, ◌≤◌, ◌<◌, IfSome, IfNone};
+ghost use Rattle.std.specs.Prelude.{◌≡◌, [], ◌∷◌, ◌++◌, ◌≤◌, ◌<◌, length, IfSome, IfNone};
 ghost use Rattle.nd_value.specs.Tree.{Trees, none, flat, unflat};
+ghost use Rattle.nd_value.specs.Seen.{cell_number};
+ghost use Rattle.nd_value.specs.Canon.{target};
+ghost use Rattle.nd_value.specs.Names.{cells_in};
 ghost use Rattle.nd_flat.specs.FlatForm.{flat_seen, left_flats, no_row, num_flats, row_numbers, IsRow, WalkParts};
 
 use crate::node::{Node, first_seen, left_of};
 use crate::row::{KeptRow, empty_row, first_number, first_row, without_first};
 use crate::{Row, Seen};
+use nd_value::CellId;
 use std::marker::Model;
 
 /// A walk over the nodes of values, depth first. Contracts see the values that are left, as trees: of a value whose first nodes were
@@ -87,6 +91,28 @@ impl<'a> Walk<'a> {
         self.nodes = rest;
         self.left = without_first(next, some, self.octets);
         Some(first_row(next, some, self.octets))
+    }
+
+    /// The cell that the next node names, and `Some(None)` where that node names none; None where no node is left. Numbers that are kept
+    /// side by side are passed over, as they name no cells. Takes no memory.
+    pub fn next_cell(&mut self) -> Option<Option<CellId>>
+        ensures some { IfSome result (λ c. cells_in self.old ≡ target (cell_number c) ++ cells_in self.new) }
+        ensures less { IfSome result (λ c. length (flat self.new) < length (flat self.old)) }
+        ensures none { IfNone result (cells_in self.old ≡ []) }
+    {
+        self.skip_row();
+        match self.step() {
+            Some(seen) => Some(seen.named_cell()),
+            None => None,
+        }
+    }
+
+    // Past a row of numbers, if one comes next.
+    fn skip_row(&mut self)
+        ensures cells { cells_in self.old ≡ cells_in self.new }
+        ensures less { length (flat self.new) ≤ length (flat self.old) }
+    {
+        let _row = self.row(u32::MAX);
     }
 }
 

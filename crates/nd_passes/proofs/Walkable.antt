@@ -26,7 +26,7 @@ use Rattle.nd_passes.specs.Pointers.{are_formed, named_here, pointers_in, NamesB
 use Rattle.nd_value.proofs.LocalPass.{local_first}
 use Rattle.nd_value.proofs.Misfits.{all_left, all_right, all_both, neither}
 use Rattle.nd_value.proofs.NodeFacts.{IsFit, fit_node, fit_children}
-use Rattle.nd_passes.proofs.NumberRanges.{range_fits}
+use Rattle.nd_value.proofs.ValueRanges.{range_fits}
 use Rattle.nd_passes.proofs.FormWalk.{HasForm, from_form}
 
 next_none : (a b : Option NodeMisfit) → or_next a b ≡ None → (a ≡ None) × (b ≡ None)

@@ -8,5 +8,6 @@ pub mod Misfits
 pub mod NodeFacts
 pub mod Orderly
 pub mod SameCells
+pub mod ValueRanges
 pub mod Waiting
 pub mod WorkedFit

@@ -1,5 +1,5 @@
--- The lines of an operation's side, and the list of an enumerated type.
-use Rattle.std.proofs.Common.{◌≡◌, ℕ, ℤ, ◌+◌, ◌*◌, zero, suc, true, false, List, [], ◌∷◌, ◌++◌, length, take, flat_map, Some, refl, ap, sym, ◌∙◌, subst, arith}
+-- The lines of an operation's side, and the lists of enumerated types.
+use Rattle.std.proofs.Common.{◌≡◌, ◌<◌, ◌≤◌, ℕ, ℤ, ◌+◌, ◌*◌, zero, suc, true, false, List, [], ◌∷◌, ◌++◌, length, take, flat_map, None, Some, refl, ap, sym, ◌∙◌, subst, arith}
 use Rattle.std.specs.List.{slice_get, enumerate_from}
 use Rattle.std.specs.Prelude.{◌==◌, if◌then◌else◌}
 use Rattle.std.proofs.lemmas.List.{length-map}
@@ -9,6 +9,7 @@ use Rattle.std.proofs.lemmas.Option.{same_Some}
 use Rattle.nd_types.specs.declared.types.TypeDef.{TypeDef}
 use Rattle.nd_types.specs.declared.types.TypeDef.TheVariants as def
 use Rattle.nd_types.specs.declared.types.Operation.{Operation}
+use Rattle.nd_types.specs.declared.types.Primitive.{Primitive}
 use Rattle.nd_types.specs.declared.types.Side.{Side}
 use Rattle.nd_types.specs.declared.types.Side.TheVariants as side
 use Rattle.nd_types.specs.Table.{Table, type_at}
@@ -17,7 +18,7 @@ use Rattle.nd_types.specs.Walk.{root_name}
 use Rattle.ndr_code.specs.declared.lists.PlanLine.{PlanLine}
 use Rattle.ndr_code.specs.declared.lists.PlanLine.TheVariants as line
 use Rattle.ndr_code.specs.declared.lists.EnumList.{EnumList}
-use Rattle.ndr_code.specs.Code.{value_roots, pipe_roots, root_at, checks_at, pipe_at}
+use Rattle.ndr_code.specs.Code.{id, value_roots, pipe_roots, root_at, checks_at, pipe_at}
 use Rattle.ndr_code.specs.Lines.{entry_lines, side_lines, operation_lines, entries_of, line_at, sides_of, side_number, enum_list, enum_list_by, values_of, enumerators}
 use Rattle.ndr_code.specs.Runs.{IsRunAt}
 use Rattle.ndr_code.proofs.Runs.{behind_at, part_at, first_at, item_at, item_before, flat_at, numbered, mapped}
@@ -136,3 +137,48 @@ listed k (d ∷ table) (suc i) vs e =
 
 pub type_listed : (table : Table) (t : ℕ) (vs : List ℤ) → type_at table t ≡ Some (def.Enum vs) → enumerators (values_of table) t ≡ Some vs
 type_listed table t vs e = let z : 0 + t ≡ t = omega arith in ap (λ j. enumerators (values_of table) j) (sym z) ∙ listed 0 table t vs e
+
+-- no list of types from number k on is of one before
+none_below : (k t : ℕ) (table : Table) → t < k → enumerators (flat_map enum_list (enumerate_from k table)) t ≡ None
+none_below k t [] h = refl
+none_below k t (d ∷ table) h =
+    let other : (k == t) ≡ false = ne_eqb k t (λ e. omega (arith, h, e)) in
+    passed k t d (flat_map enum_list (enumerate_from (k + 1) table)) other ∙ none_below (k + 1) t table (omega (arith, h))
+
+-- nor of a primitive
+unlisted : (k : ℕ) (table : Table) (i : ℕ) (p : Primitive) → slice_get table i ≡ Some (def.Prim p)
+    → enumerators (flat_map enum_list (enumerate_from k table)) (k + i) ≡ None
+unlisted k [] i p e = cc
+unlisted k (d ∷ table) zero p e =
+    ap (λ x. enumerators (enum_list_by k x ++ flat_map enum_list (enumerate_from (k + 1) table)) (k + 0)) (same_Some d (def.Prim p) e)
+    ∙ none_below (k + 1) (k + 0) table (omega arith)
+unlisted k (d ∷ table) (suc i) p e =
+    let z : k + 1 + i ≡ k + suc i = omega arith in
+    let other : (k == (k + suc i)) ≡ false = ne_eqb k (k + suc i) (λ h. omega (arith, h)) in
+    passed k (k + suc i) d (flat_map enum_list (enumerate_from (k + 1) table)) other
+    ∙ ap (λ j. enumerators (flat_map enum_list (enumerate_from (k + 1) table)) j) (sym z)
+    ∙ unlisted (k + 1) table i p e
+
+pub primitive_unlisted : (table : Table) (t : ℕ) (p : Primitive) → type_at table t ≡ Some (def.Prim p) → enumerators (values_of table) t ≡ None
+primitive_unlisted table t p e = let z : 0 + t ≡ t = omega arith in ap (λ j. enumerators (values_of table) j) (sym z) ∙ unlisted 0 table t p e
+
+-- the lists of types from number k on are of these types
+listed_from : (k : ℕ) (table : Table) (j : ℕ) (b : EnumList) → slice_get (flat_map enum_list (enumerate_from k table)) j ≡ Some b → k ≤ b.of.0
+listed_from k [] j b e = cc
+listed_from k (def.Enum vs ∷ table) zero b e =
+    let z : k ≡ b.of.0 = ap (λ x. x.of.0) (same_Some (record { of = id k; values = vs }) b e) in omega (arith, z)
+listed_from k (def.Enum vs ∷ table) (suc j) b e = let h : k + 1 ≤ b.of.0 = listed_from (k + 1) table j b e in omega (arith, h)
+listed_from k (_ ∷ table) j b e = let h : k + 1 ≤ b.of.0 = listed_from (k + 1) table j b e in omega (arith, h)
+
+in_order : (k : ℕ) (table : Table) (i j : ℕ) (a b : EnumList) → slice_get (flat_map enum_list (enumerate_from k table)) i ≡ Some a
+    → slice_get (flat_map enum_list (enumerate_from k table)) j ≡ Some b → i < j → a.of.0 < b.of.0
+in_order k [] i j a b ea eb h = cc
+in_order k (def.Enum vs ∷ table) i zero a b ea eb h = absurd (omega (arith, h))
+in_order k (def.Enum vs ∷ table) zero (suc j) a b ea eb h =
+    let z : k ≡ a.of.0 = ap (λ x. x.of.0) (same_Some (record { of = id k; values = vs }) a ea) in
+    let le : k + 1 ≤ b.of.0 = listed_from (k + 1) table j b eb in omega (arith, z, le)
+in_order k (def.Enum vs ∷ table) (suc i) (suc j) a b ea eb h = in_order (k + 1) table i j a b ea eb (omega (arith, h))
+in_order k (_ ∷ table) i j a b ea eb h = in_order (k + 1) table i j a b ea eb h
+
+pub lists_in_order : (table : Table) (i j : ℕ) (a b : EnumList) → slice_get (values_of table) i ≡ Some a → slice_get (values_of table) j ≡ Some b → i < j → a.of.0 < b.of.0
+lists_in_order table i j a b ea eb h = in_order 0 table i j a b ea eb h

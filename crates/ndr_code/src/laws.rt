@@ -1,7 +1,8 @@
 //! What those who run a plan look up, as laws: each is the contract of a function that does nothing.
-ghost use Rattle.std.specs.Prelude.{◌≡◌, ℕ, ◌+◌, ◌*◌, ℤ, true, false, List, [], ◌∷◌, ◌++◌, length, slice_get, Some};
+ghost use Rattle.std.specs.Prelude.{◌≡◌, ◌<◌, ℕ, ◌+◌, ◌*◌, ℤ, true, false, List, [], ◌∷◌, ◌++◌, length, slice_get, None, Some};
 ghost use Rattle.nd_types.specs.declared.types.TypeDef.{TypeDef};
-ghost use Rattle.nd_types.specs.declared.types.TypeDef.TheVariants.{Enum};
+ghost use Rattle.nd_types.specs.declared.types.TypeDef.TheVariants.{Enum, Prim};
+ghost use Rattle.nd_types.specs.declared.types.Primitive.{Primitive};
 ghost use Rattle.nd_types.specs.declared.types.Operation.{Operation};
 ghost use Rattle.nd_types.specs.declared.types.Side.{Side};
 ghost use Rattle.nd_types.specs.Table.{Table, type_at};
@@ -10,6 +11,7 @@ ghost use Rattle.nd_types.specs.Roots.{Root, roots_of};
 ghost use Rattle.nd_types.specs.Walk.{root_name};
 ghost use Rattle.ndr_code.specs.declared.instr.Instr.{Instr};
 ghost use Rattle.ndr_code.specs.declared.instr.Instr.TheVariants.{Hoist, Call, Ret};
+ghost use Rattle.ndr_code.specs.declared.lists.EnumList.{EnumList};
 ghost use Rattle.ndr_code.specs.declared.lists.PlanLine.TheVariants.{Entry, Checks};
 ghost use Rattle.ndr_code.specs.Code.{place_run, whole_run, place_at, whole_at, code_of, value_roots, pipe_roots, root_run, checks_run, pipe_run, side_code, side_at, root_at, checks_at, pipe_at};
 ghost use Rattle.ndr_code.specs.Lines.{entries_of, line_at, sides_of, side_number, values_of, enumerators};
@@ -65,7 +67,10 @@ pub fn lines_of_sides()
         ≡ Some (Entry n s (root_name o r.param) (pipe_at table operations n o s i)) }
 {}
 
-/// The list of an enumerated type has the values of its enumerators.
+/// The list of an enumerated type has the values of its enumerators. A primitive has no list. The lists are in the order of the types' numbers.
 pub fn lists_of_enumerated_types()
-    ensures { (table : Table) (t : ℕ) (values : List ℤ) → type_at table t ≡ Some (Enum values) → enumerators (values_of table) t ≡ Some values }
+    ensures listed { (table : Table) (t : ℕ) (values : List ℤ) → type_at table t ≡ Some (Enum values) → enumerators (values_of table) t ≡ Some values }
+    ensures unlisted { (table : Table) (t : ℕ) (p : Primitive) → type_at table t ≡ Some (Prim p) → enumerators (values_of table) t ≡ None }
+    ensures in_order { (table : Table) (i j : ℕ) (a b : EnumList) → slice_get (values_of table) i ≡ Some a → slice_get (values_of table) j ≡ Some b
+        → i < j → a.of.0 < b.of.0 }
 {}

@@ -1,5 +1,6 @@
 // A plan.
 ghost use Rattle.std.specs.Prelude.{◌≤◌, length};
+ghost use Rattle.nd_types.specs.Legal.{IsLegal};
 ghost use Rattle.ndr_code.specs.Plan.{IsPlanOf};
 ghost use Rattle.ndr_code.specs.declared.TheConstants.{ADDRESS_LIMIT};
 
@@ -7,7 +8,7 @@ use crate::{Code, EnumLists, PlanLines, SideStarts};
 use nd_types::Tie;
 
 /// A plan of an interface: how its values are laid out in a stream (C706, 14.2 to 14.4), as flat code. It has no table of types; its interface is that
-/// of its tie. Each plan is the plan of that interface.
+/// of its tie. Each plan is the plan of that interface, which is legal.
 #[derive(Drop)]
 pub struct Plan {
     /// The instructions.
@@ -21,5 +22,6 @@ pub struct Plan {
     /// The interface, for contracts only.
     pub tie: Tie,
     pub ghost planned: { IsPlanOf code entries values sides tie },
+    pub ghost legal: { IsLegal tie.types tie.operations },
     pub ghost short: { length code ≤ ADDRESS_LIMIT },
 }
