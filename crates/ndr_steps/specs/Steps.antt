@@ -1,7 +1,7 @@
 -- What each instruction of a plan does to the state of the decoder, as functions on lists. A step handles one gap, one item or none: `wants` says which, and
 -- `step` gets the octets of it, all fetched. Where they are not all there, or would end past the limit of a stream, no step is taken.
 -- `s` is a state, `i` an instruction, `os` the octets of the step, `z` a value, `o` an offset, `c` a count, `v` a pointer's number.
-use Rattle.std.specs.Prelude.{◌≡◌, ℕ, ◌+◌, ◌-◌, zero, suc, ℤ, pos, Bool, true, false, not, ◌&&◌, cond, eqb, ltb, if◌then◌else◌, List, [], ◌∷◌, ◌++◌, length, take, drop, Option, Some, None}
+use Rattle.std.specs.Prelude.{◌≡◌, ℕ, ◌+◌, ◌-◌, ◌-ℤ◌, zero, suc, ℤ, pos, Bool, true, false, not, ◌&&◌, cond, eqb, ltb, if◌then◌else◌, List, [], ◌∷◌, ◌++◌, length, take, drop, Option, Some, None}
 use Rattle.std.specs.List.{slice_get}
 use Rattle.std.specs.Ordering.{int_eq}
 use Rattle.nd_base.specs.declared.octets.Order.{Order}
@@ -17,7 +17,7 @@ use Rattle.nd_types.specs.Table.{width}
 use Rattle.nd_value.specs.declared.value.CellId.{CellId}
 use Rattle.nd_value.specs.Agreement.{Agreement, agreement, wanted_by}
 use Rattle.nd_value.specs.Tree as tree
-use Rattle.nd_value.specs.Tree.{Flat, Label, is_pointer}
+use Rattle.nd_value.specs.Tree.{Flat}
 use Rattle.nd_grammar.specs.declared.reason.Reason.{Reason}
 use Rattle.nd_grammar.specs.declared.reason.Reason.TheVariants as reason
 use Rattle.nd_grammar.specs.Entry.{gap}
@@ -29,10 +29,11 @@ use Rattle.ndr_code.specs.declared.lists.EnumList.{EnumList}
 use Rattle.ndr_code.specs.Lines.{enumerators}
 use Rattle.ndr_refs.specs.declared.referents.Known.{Known}
 use Rattle.ndr_refs.specs.Known.{known, first_met}
-use Rattle.ndr_reading.specs.ChildNodes.{flat_number, flat_found}
 use Rattle.ndr_reading.specs.Points.{TagForm}
 use Rattle.ndr_steps.specs.declared.frame.Frame.{Frame}
 use Rattle.ndr_steps.specs.declared.frame.Frame.TheVariants as frame
+use Rattle.ndr_steps.specs.declared.first.First.{First}
+use Rattle.ndr_steps.specs.declared.first.First.TheVariants as first
 
 -- ## The state
 
@@ -52,10 +53,19 @@ pub record Owed : Type 0 where
   pub cell : Option ℕ
   pub agreements : List Agreement
 
--- a member that was read: its first node, and how many referents were pending before it
+-- a member that was read or is being read: its first node's number, and how many referents were pending before it
 pub record Member : Type 0 where
   pub node : ℕ
   pub pending : ℕ
+
+-- what is kept of a node for the agreements that speak of it, and the place of its offset or tag, if it has one
+abbrev pub first_of : Flat → Option ℕ → First
+first_of (tree.Num z, k) place = first.Number z
+first_of (tree.Ptr cell, k) place = first.Pointer
+first_of (tree.Arr max offset, k) place = first.Counted max offset k place
+first_of (tree.Text max octets, k) place = first.Counted max 0 (length octets + 1) place
+first_of (tree.Union tag, k) place = first.Tag tag place
+first_of (l, k) place = first.Other
 
 pub record State : Type 0 where
   -- the address of the instruction, which item of it is next, and the place in the stream
@@ -71,10 +81,12 @@ pub record State : Type 0 where
   -- what is around the value that is being read, from the innermost on
   pub top : Frame
   pub stack : List Frame
-  -- the home's nodes so far; for each the place of its offset or tag, if it has one; the members that were read of the structs that are open
+  -- the home's nodes so far, and what is kept of the first
   pub nodes : List Flat
-  pub places : List (Option ℕ)
+  pub own : Option First
+  -- of the structs that are open the members that were read and those that are being read, and what is kept of the first node of each, as it comes
   pub members : List Member
+  pub firsts : List First
   -- the home's pending referents so far
   pub fresh : List Owed
   -- the types of all cells, and the numbers of full pointers
@@ -154,8 +166,9 @@ jumped a s = record {
   top = s.top;
   stack = s.stack;
   nodes = s.nodes;
-  places = s.places;
+  own = s.own;
   members = s.members;
+  firsts = s.firsts;
   fresh = s.fresh;
   cells = s.cells;
   numbers = s.numbers;
@@ -178,12 +191,22 @@ past n phase s = record {
   top = s.top;
   stack = s.stack;
   nodes = s.nodes;
-  places = s.places;
+  own = s.own;
   members = s.members;
+  firsts = s.firsts;
   fresh = s.fresh;
   cells = s.cells;
   numbers = s.numbers;
 }
+
+-- what is kept of a node that is added: it is the first one of the home, or of a member, or none of these
+abbrev pub own_by : Frame → First → Option First → Option First
+own_by frame.Home x own = Some x
+own_by _ x own = own
+
+abbrev pub firsts_by : Frame → First → List First → List First
+firsts_by (frame.Record back first) x xs = xs ++ x ∷ []
+firsts_by _ x xs = xs
 
 -- a node more, and the place of its offset or tag
 abbrev pub with_node : Flat → Option ℕ → State → State
@@ -198,8 +221,9 @@ with_node x place s = record {
   top = s.top;
   stack = s.stack;
   nodes = s.nodes ++ x ∷ [];
-  places = s.places ++ place ∷ [];
+  own = own_by s.top (first_of x place) s.own;
   members = s.members;
+  firsts = firsts_by s.top (first_of x place) s.firsts;
   fresh = s.fresh;
   cells = s.cells;
   numbers = s.numbers;
@@ -217,8 +241,9 @@ with_frames top stack s = record {
   top = top;
   stack = stack;
   nodes = s.nodes;
-  places = s.places;
+  own = s.own;
   members = s.members;
+  firsts = s.firsts;
   fresh = s.fresh;
   cells = s.cells;
   numbers = s.numbers;
@@ -234,8 +259,8 @@ popped_to (f ∷ fs) s = with_frames f fs s
 abbrev pub popped : State → State
 popped s = popped_to s.stack s
 
-abbrev pub with_members : List Member → State → State
-with_members ms s = record {
+abbrev pub with_members : List Member → List First → State → State
+with_members ms xs s = record {
   pc = s.pc;
   phase = s.phase;
   at = s.at;
@@ -246,8 +271,9 @@ with_members ms s = record {
   top = s.top;
   stack = s.stack;
   nodes = s.nodes;
-  places = s.places;
+  own = s.own;
   members = ms;
+  firsts = xs;
   fresh = s.fresh;
   cells = s.cells;
   numbers = s.numbers;
@@ -265,8 +291,9 @@ with_fresh owed s = record {
   top = s.top;
   stack = s.stack;
   nodes = s.nodes;
-  places = s.places;
+  own = s.own;
   members = s.members;
+  firsts = s.firsts;
   fresh = owed;
   cells = s.cells;
   numbers = s.numbers;
@@ -284,8 +311,9 @@ with_names cells numbers s = record {
   top = s.top;
   stack = s.stack;
   nodes = s.nodes;
-  places = s.places;
+  own = s.own;
   members = s.members;
+  firsts = s.firsts;
   fresh = s.fresh;
   cells = cells;
   numbers = numbers;
@@ -303,8 +331,9 @@ with_max m s = record {
   top = s.top;
   stack = s.stack;
   nodes = s.nodes;
-  places = s.places;
+  own = s.own;
   members = s.members;
+  firsts = s.firsts;
   fresh = s.fresh;
   cells = s.cells;
   numbers = s.numbers;
@@ -322,8 +351,9 @@ with_tag z form s = record {
   top = s.top;
   stack = s.stack;
   nodes = s.nodes;
-  places = s.places;
+  own = s.own;
   members = s.members;
+  firsts = s.firsts;
   fresh = s.fresh;
   cells = s.cells;
   numbers = s.numbers;
@@ -348,7 +378,7 @@ arm_taken false run s = jumped run (pushed (frame.Elements 0 run 1) (with_node (
 -- in a struct a call is of the next member, and comes back; else what is called ends as its caller does
 abbrev pub call_from : Frame → ℕ → State → State
 call_from (frame.Record back first) run s =
-    jumped run (with_frames (frame.Record (s.pc + 1) first) s.stack (with_members (s.members ++ record { node = length s.nodes; pending = length s.fresh } ∷ []) s))
+    jumped run (with_frames (frame.Record (s.pc + 1) first) s.stack (with_members (s.members ++ record { node = length s.nodes; pending = length s.fresh } ∷ []) s.firsts s))
 call_from _ run s = jumped run s
 
 abbrev pub back_to : Frame → State → Outcome
@@ -359,7 +389,7 @@ back_to (frame.Elements (suc left) run back) s = goes (jumped run (with_frames (
 
 -- a struct ends: its members are forgotten
 abbrev pub close_of : Frame → State → State
-close_of (frame.Record back first) s = next (popped (with_members (take first s.members) s))
+close_of (frame.Record back first) s = next (popped (with_members (take first s.members) (take first s.firsts) s))
 close_of _ s = next (popped s)
 
 -- ## Pointers
@@ -402,34 +432,62 @@ joined_by ws [] n = []
 joined_by ws (o ∷ os) zero = record { class = o.class; to = o.to; run = o.run; cell = o.cell; agreements = o.agreements ++ ws } ∷ os
 joined_by ws (o ∷ os) (suc n) = o ∷ joined_by ws os n
 
-abbrev pub node_at : List Flat → Option Member → Option Flat
-node_at nodes None = None
-node_at nodes (Some m) = slice_get nodes m.node
+-- what an attribute finds in the first node of a member, and the number that this is
+abbrev pub first_number : Option First → Option ℤ
+first_number (Some (first.Number z)) = Some z
+first_number _ = None
 
-abbrev pub number_at : Option Flat → Option ℤ
-number_at None = None
-number_at (Some x) = flat_number x
+abbrev pub max_in : First → ℕ
+max_in (first.Counted max offset actual place) = max
+max_in _ = 0
 
-abbrev pub or_zero : Option (Option ℕ) → ℕ
-or_zero (Some (Some n)) = n
-or_zero _ = 0
+abbrev pub offset_in : First → ℕ
+offset_in (first.Counted max offset actual place) = offset
+offset_in _ = 0
 
-abbrev pub try_all : List Agreement → Flat → ℕ → ℕ → State → Outcome
-try_all [] x place max_at s = goes (next s)
-try_all (w ∷ ws) x place max_at s =
-    if int_eq w.wanted (flat_found w.attr x) then try_all ws x place max_at s
-    else refused (place_of w.attr max_at place) (reason.Disagrees w.wanted (flat_found w.attr x))
+abbrev pub actual_in : First → ℕ
+actual_in (first.Counted max offset actual place) = actual
+actual_in _ = 0
 
--- the agreements of a member, by its first node: those of a pointer join its pending referent, those of any other are tried
-abbrev pub checked : List Agreement → Option Member → Option Flat → State → Outcome
-checked ws (Some m) (Some x) s =
-    if is_pointer x.0 then goes (next (with_fresh (joined_by ws s.fresh m.pending) s)) else try_all ws x (or_zero (slice_get s.places m.node)) s.max_at s
+abbrev pub tag_in : First → ℤ
+tag_in (first.Tag tag place) = tag
+tag_in _ = pos 0
+
+abbrev pub first_found : Attr → First → ℤ
+first_found attr.Size x = pos (max_in x)
+first_found attr.Max x = pos (max_in x)
+first_found attr.First x = pos (offset_in x)
+first_found attr.Length x = pos (actual_in x)
+first_found attr.Last x = pos (offset_in x + actual_in x) -ℤ pos 1
+first_found attr.Switch x = tag_in x
+
+abbrev pub or_zero : Option ℕ → ℕ
+or_zero (Some n) = n
+or_zero None = 0
+
+abbrev pub place_in : First → ℕ
+place_in (first.Counted max offset actual place) = or_zero place
+place_in (first.Tag tag place) = or_zero place
+place_in _ = 0
+
+abbrev pub is_owing : First → Bool
+is_owing first.Pointer = true
+is_owing _ = false
+
+abbrev pub try_all : List Agreement → First → State → Outcome
+try_all [] x s = goes (next s)
+try_all (w ∷ ws) x s =
+    if int_eq w.wanted (first_found w.attr x) then try_all ws x s
+    else refused (place_of w.attr s.max_at (place_in x)) (reason.Disagrees w.wanted (first_found w.attr x))
+
+-- the agreements of a member: those of a pointer join its pending referent, those of any other are tried in its first node
+abbrev pub checked : List Agreement → Option Member → Option First → State → Outcome
+checked ws (Some m) (Some x) s = if is_owing x then goes (next (with_fresh (joined_by ws s.fresh m.pending) s)) else try_all ws x s
 checked ws _ _ s = goes (next s)
 
 abbrev pub check_in : Frame → Attr → ℕ → ℕ → State → Outcome
 check_in (frame.Record back first) a f v s =
-    let of : ℕ → Option Member = λ i. slice_get s.members (first + i) in
-    checked (agreement a (number_at (node_at s.nodes (of v)))) (of f) (node_at s.nodes (of f)) s
+    checked (agreement a (first_number (slice_get s.firsts (first + v)))) (slice_get s.members (first + f)) (slice_get s.firsts (first + f)) s
 check_in _ a f v s = goes (next s)
 
 -- ## The steps
