@@ -1,9 +1,9 @@
 // Octets that are fetched as they are wanted.
-ghost use Rattle.std.specs.Prelude.{◌≡◌, ℕ, ◌+◌, ◌<◌, ◌≤◌, ◌^◌, [], length, Option, List, IfOk, IfErr, OnErr};
+ghost use Rattle.std.specs.Prelude.{◌≡◌, ℕ, ◌+◌, ◌<◌, ◌≤◌, ◌^◌, [], length, true, Option, List, IfOk, IfErr, OnErr};
 ghost use Rattle.std.specs.Io.KnownBytes.{Consumes, IsAtEnd};
-ghost use Rattle.nd_base.specs.Over.{source_seen, SourceSeen};
-ghost use Rattle.nd_base.specs.Counts.{Rose};
-ghost use Rattle.ndr_intake.specs.Intake.{IsItemFault, IsGapFault};
+ghost use Rattle.nd_base.specs.Over.{source_seen};
+ghost use Rattle.nd_base.specs.declared.TheConstants.{STREAM_LIMIT};
+ghost use Rattle.ndr_intake.specs.Intake.{IsItemFault, IsGapFault, IsFailed};
 
 use crate::PIECE;
 use nd_base::{Memory, STREAM_LIMIT, Source};
@@ -145,6 +145,3 @@ impl Intake {
         Ok(came as u32)
     }
 }
-
-ghost use Rattle.std.specs.Prelude.{true, ◌×◌};
-ghost use Rattle.ndr_intake.specs.Intake.{IsFailed};

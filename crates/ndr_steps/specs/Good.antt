@@ -26,7 +26,8 @@ use Rattle.ndr_reading.specs.Points.{Point, hoisting, counting, offset_read as a
 use Rattle.ndr_steps.specs.declared.frame.Frame.{Frame}
 use Rattle.ndr_steps.specs.declared.frame.Frame.TheVariants as frame
 use Rattle.ndr_steps.specs.Spots.{Spot, InsideAt, FitsAt}
-use Rattle.ndr_steps.specs.Steps.{State, Outcome, goes, refused, whole, Owed, Member, Phase, begun, gap_read, offset_read, count_read, place_of}
+use Rattle.ndr_steps.specs.declared.first.Member.{Member}
+use Rattle.ndr_steps.specs.Steps.{State, Outcome, goes, refused, whole, Owed, Phase, begun, gap_read, offset_read, count_read, place_of}
 
 -- a pending referent as the decoder keeps it
 abbrev pub owed : Table → Pending → Owed
@@ -88,7 +89,7 @@ phase_at (text_counted t max c) = count_read c
 phase_at _ = begun
 
 abbrev pub HasTag : Point → State → Type 0
-HasTag (tagged t d form arms default z) s = (s.tag ≡ z) × (s.form ≡ form)
+HasTag (tagged t d form arms default z) s = (s.tag ≡ z) × (s.carrier ≡ form.prim)
 HasTag _ s = Unit {0}
 
 -- the maximum count was read, if the home's type hoists one

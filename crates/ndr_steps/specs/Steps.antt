@@ -34,6 +34,7 @@ use Rattle.ndr_steps.specs.declared.frame.Frame.{Frame}
 use Rattle.ndr_steps.specs.declared.frame.Frame.TheVariants as frame
 use Rattle.ndr_steps.specs.declared.first.First.{First}
 use Rattle.ndr_steps.specs.declared.first.First.TheVariants as first
+use Rattle.ndr_steps.specs.declared.first.Member.{Member}
 
 -- ## The state
 
@@ -53,11 +54,6 @@ pub record Owed : Type 0 where
   pub cell : Option ℕ
   pub agreements : List Agreement
 
--- a member that was read or is being read: its first node's number, and how many referents were pending before it
-pub record Member : Type 0 where
-  pub node : ℕ
-  pub pending : ℕ
-
 -- what is kept of a node for the agreements that speak of it, and the place of its offset or tag, if it has one
 abbrev pub first_of : Flat → Option ℕ → First
 first_of (tree.Num z, k) place = first.Number z
@@ -75,9 +71,9 @@ pub record State : Type 0 where
   -- the maximum count before the home's value, and its place
   pub max : ℕ
   pub max_at : ℕ
-  -- the tag that was read last, and how it is carried; its entry is not passed yet
+  -- the tag that was read last, and the primitive that carries it; its entry is not passed yet
   pub tag : ℤ
-  pub form : TagForm
+  pub carrier : Primitive
   -- what is around the value that is being read, from the innermost on
   pub top : Frame
   pub stack : List Frame
@@ -162,7 +158,7 @@ jumped a s = record {
   max = s.max;
   max_at = s.max_at;
   tag = s.tag;
-  form = s.form;
+  carrier = s.carrier;
   top = s.top;
   stack = s.stack;
   nodes = s.nodes;
@@ -187,7 +183,7 @@ past n phase s = record {
   max = s.max;
   max_at = s.max_at;
   tag = s.tag;
-  form = s.form;
+  carrier = s.carrier;
   top = s.top;
   stack = s.stack;
   nodes = s.nodes;
@@ -217,7 +213,7 @@ with_node x place s = record {
   max = s.max;
   max_at = s.max_at;
   tag = s.tag;
-  form = s.form;
+  carrier = s.carrier;
   top = s.top;
   stack = s.stack;
   nodes = s.nodes ++ x ∷ [];
@@ -237,7 +233,7 @@ with_frames top stack s = record {
   max = s.max;
   max_at = s.max_at;
   tag = s.tag;
-  form = s.form;
+  carrier = s.carrier;
   top = top;
   stack = stack;
   nodes = s.nodes;
@@ -267,7 +263,7 @@ with_members ms xs s = record {
   max = s.max;
   max_at = s.max_at;
   tag = s.tag;
-  form = s.form;
+  carrier = s.carrier;
   top = s.top;
   stack = s.stack;
   nodes = s.nodes;
@@ -287,7 +283,7 @@ with_fresh owed s = record {
   max = s.max;
   max_at = s.max_at;
   tag = s.tag;
-  form = s.form;
+  carrier = s.carrier;
   top = s.top;
   stack = s.stack;
   nodes = s.nodes;
@@ -307,7 +303,7 @@ with_names cells numbers s = record {
   max = s.max;
   max_at = s.max_at;
   tag = s.tag;
-  form = s.form;
+  carrier = s.carrier;
   top = s.top;
   stack = s.stack;
   nodes = s.nodes;
@@ -327,7 +323,7 @@ with_max m s = record {
   max = m;
   max_at = s.at;
   tag = s.tag;
-  form = s.form;
+  carrier = s.carrier;
   top = s.top;
   stack = s.stack;
   nodes = s.nodes;
@@ -339,15 +335,15 @@ with_max m s = record {
   numbers = s.numbers;
 }
 
-abbrev pub with_tag : ℤ → TagForm → State → State
-with_tag z form s = record {
+abbrev pub with_tag : ℤ → Primitive → State → State
+with_tag z p s = record {
   pc = s.pc;
   phase = s.phase;
   at = s.at;
   max = s.max;
   max_at = s.max_at;
   tag = z;
-  form = form;
+  carrier = p;
   top = s.top;
   stack = s.stack;
   nodes = s.nodes;
@@ -372,8 +368,8 @@ elements (suc n) run s = jumped run (pushed (frame.Elements n run (s.pc + 1)) s)
 
 -- the arm of a run, of which address 0 is the empty one; after an arm comes address 1, a `ret`
 abbrev pub arm_taken : Bool → ℕ → State → State
-arm_taken true run s = jumped 0 (with_node (tree.Union s.tag, 0) (Some s.at) (past (width s.form.prim) begun s))
-arm_taken false run s = jumped run (pushed (frame.Elements 0 run 1) (with_node (tree.Union s.tag, 1) (Some s.at) (past (width s.form.prim) begun s)))
+arm_taken true run s = jumped 0 (with_node (tree.Union s.tag, 0) (Some s.at) (past (width s.carrier) begun s))
+arm_taken false run s = jumped run (pushed (frame.Elements 0 run 1) (with_node (tree.Union s.tag, 1) (Some s.at) (past (width s.carrier) begun s)))
 
 -- in a struct a call is of the next member, and comes back; else what is called ends as its caller does
 abbrev pub call_from : Frame → ℕ → State → State
@@ -528,7 +524,7 @@ module _ (values : List EnumList) (order : Order) (os : List ℕ) where
   abbrev pub tag_step : TagForm → State → Outcome
   tag_step form s =
       let z : ℤ = value_of_octets order form.prim os in
-      if is_enumerator form.values z then goes (next (with_tag z form s)) else refused s.at reason.EnumValue
+      if is_enumerator form.values z then goes (next (with_tag z form.prim s)) else refused s.at reason.EnumValue
 
   -- what an instruction of a home's value does; those of roots, pipes and parameters are not among them
   abbrev pub step : Instr → State → Outcome

@@ -1,4 +1,4 @@
-// What is kept of the first node of a member.
+// Members of structs that are open.
 
 /// What the agreements of a struct find in the first node of a member. `place` is where its offset or tag is in the stream, if it has one; an actual
 /// count comes four octets after the offset.
@@ -19,4 +19,11 @@ pub enum First {
     Tag { tag: i128, place: Option<u32> },
     /// Any other: no agreement speaks of it.
     Other,
+}
+
+/// A member that was read or is being read: the number of its first node, and how many referents were pending before it.
+#[derive(Clone, Copy, Debug, PartialEq, Eq)]
+pub struct Member {
+    pub node: u32,
+    pub pending: usize,
 }

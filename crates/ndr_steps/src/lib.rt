@@ -6,5 +6,5 @@
 mod first;
 mod frame;
 
-pub use first::First;
+pub use first::{First, Member};
 pub use frame::Frame;
