@@ -1,5 +1,5 @@
 -- Octets that were taken piece by piece.
-use Rattle.std.proofs.Common.{◌≡◌, ℕ, List, ◌++◌, take, Option}
+use Rattle.std.proofs.Common.{ℕ, List, ◌++◌, take, Option}
 use Rattle.std.proofs.KnownBytes.{Consumes-trans}
 use Rattle.std.specs.Io.KnownBytes.{Consumes}
 

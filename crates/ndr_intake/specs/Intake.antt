@@ -18,7 +18,7 @@ IsFailed s (fault.Truncated place) = ⊥
 pub record HasEnded (s : SourceSeen) (at place : ℕ) (os : List ℕ) : Type 0 where
   pub ended : s.ended ≡ true
   pub none_left : IsAtEnd s.left_now
-  pub place : place ≡ at + length os
+  pub there : place ≡ at + length os
 
 abbrev pub GapFaultBy : SourceSeen → ℕ → List ℕ → IntakeFault → Type 0
 GapFaultBy s at os (fault.Truncated place) = HasEnded s at place os

@@ -1,8 +1,9 @@
 // Octets that are fetched as they are wanted.
-ghost use Rattle.std.specs.Prelude.{◌≡◌, ℕ, ◌+◌, ◌<◌, ◌≤◌, ◌^◌, [], length, true, Option, List, IfOk, IfErr, OnErr};
+ghost use Rattle.std.specs.Prelude.{◌≡◌, ℕ, ◌+◌, ◌<◌, ◌≤◌, ◌^◌, [], length, true, Option, List, IfOk, IfErr, OnErr, IsErrOf};
 ghost use Rattle.std.specs.Io.KnownBytes.{Consumes, IsAtEnd};
 ghost use Rattle.nd_base.specs.Over.{source_seen};
 ghost use Rattle.nd_base.specs.declared.TheConstants.{STREAM_LIMIT};
+ghost use Rattle.ndr_intake.specs.declared.intake.IntakeFault.TheVariants.{TooLong};
 ghost use Rattle.ndr_intake.specs.Intake.{IsItemFault, IsGapFault, IsFailed};
 
 use crate::PIECE;
@@ -79,16 +80,22 @@ impl Intake {
         ensures later { S.Source.faults source.old ≤ S.Source.faults source.new }
     {
         self.held.clear();
-        self.fetch(source, at, count)
+        fetch(source, &mut self.piece, &mut self.held, at, count)
     }
 
     /// Fetches the octets of a primitive, which begins at a place of the stream, as `gap` does. `TooLong` is answered exactly if they would end
     /// past the limit of a stream, and before anything is fetched.
-    pub fn item<S: Source>(&mut self, source: &mut S, at: u32, count: u32) -> Result<(), IntakeFault>
+    pub fn item<S: Source>(
+        &mut self,
+        source: &mut S,
+        at: u32,
+        count: u32,
+    ) -> Result<(), IntakeFault>
         requires small { at ≤ STREAM_LIMIT }
         ensures octets { Consumes (S.Source.left source.old) (S.Source.left source.new) self.new }
         ensures all { IfOk result (λ _. length self.new ≡ count) }
         ensures within { IfOk result (λ _. at + count ≤ STREAM_LIMIT) }
+        ensures too_long { STREAM_LIMIT < at + count → IsErrOf result TooLong }
         ensures fault { IfErr result (IsItemFault (source_seen S.Source.left S.Source.ended S.Source.faults source.old source.new) at count self.new) }
         ensures later { S.Source.faults source.old ≤ S.Source.faults source.new }
     {
@@ -96,52 +103,68 @@ impl Intake {
         if STREAM_LIMIT - at < count {
             return Err(IntakeFault::TooLong);
         }
-        self.fetch(source, at, count)
+        fetch(source, &mut self.piece, &mut self.held, at, count)
     }
+}
 
-    // Fetches so many octets, piece by piece.
-    fn fetch<S: Source>(&mut self, source: &mut S, at: u32, count: u32) -> Result<(), IntakeFault>
-        requires none { self.old ≡ [] }
-        requires small { at + count < 2 ^ 32 }
-        ensures octets { Consumes (S.Source.left source.old) (S.Source.left source.new) self.new }
-        ensures all { IfOk result (λ _. length self.new ≡ count) }
-        ensures fault { IfErr result (IsGapFault (source_seen S.Source.left S.Source.ended S.Source.faults source.old source.new) at count self.new) }
-        ensures later { S.Source.faults source.old ≤ S.Source.faults source.new }
-    {
-        let mut lacking = count;
-        while lacking > 0 {
-            let came = self.some(source, lacking)?;
-            if came == 0 {
-                return Err(IntakeFault::Truncated {
-                    place: at + (count - lacking),
-                });
-            }
-            lacking -= came;
+// Fetches so many octets, piece by piece.
+fn fetch<S: Source>(
+    source: &mut S,
+    piece: &mut [u8],
+    held: &mut Vec<u8>,
+    at: u32,
+    count: u32,
+) -> Result<(), IntakeFault>
+    requires none { held.old.items ≡ [] }
+    requires room { 0 < length piece.old }
+    requires small { at + count < 2 ^ 32 }
+    ensures octets { Consumes (S.Source.left source.old) (S.Source.left source.new) held.new.items }
+    ensures all { IfOk result (λ _. length held.new.items ≡ count) }
+    ensures fault { IfErr result (IsGapFault (source_seen S.Source.left S.Source.ended S.Source.faults source.old source.new) at count held.new.items) }
+    ensures later { S.Source.faults source.old ≤ S.Source.faults source.new }
+    ensures wide { length piece.new ≡ length piece.old }
+{
+    let mut lacking = count;
+    while lacking > 0 {
+        let came = fetch_some(source, piece, held, lacking)?;
+        if came == 0 {
+            return Err(IntakeFault::Truncated {
+                place: at + (count - lacking),
+            });
         }
-        Ok(())
+        lacking -= came;
     }
+    Ok(())
+}
 
-    // Fetches some octets more, a piece and so many at most: none only if the source has ended.
-    fn some<S: Source>(&mut self, source: &mut S, most: u32) -> Result<u32, IntakeFault>
-        requires some { 0 < most }
-        ensures octets { (start : Option (List ℕ)) → Consumes start (S.Source.left source.old) self.old → Consumes start (S.Source.left source.new) self.new }
-        ensures count { IfOk result (λ n. length self.new ≡ length self.old + n) }
-        ensures bound { IfOk result (λ n. n ≤ most) }
-        ensures end { IfOk result (λ n. n ≡ 0 → (S.Source.ended source.new ≡ true) × IsAtEnd (S.Source.left source.new)) }
-        ensures fault { IfErr result (IsFailed (source_seen S.Source.left S.Source.ended S.Source.faults source.old source.new)) }
-        ensures same { OnErr result (self.new ≡ self.old) }
-        ensures later { S.Source.faults source.old ≤ S.Source.faults source.new }
-    {
-        let room = most.min(PIECE) as usize;
-        if self.held.reserve(room).is_err() {
-            return Err(IntakeFault::Memory);
-        }
-        let Ok(came) = source.fetch(&mut self.piece[..room]) else {
-            return Err(IntakeFault::ReadFault);
-        };
-        let Ok(()) = self.held.extend_from_slice(&self.piece[..came]) else {
-            unreachable!();
-        };
-        Ok(came as u32)
+// Fetches some octets more, a piece and so many at most: none only if the source has ended.
+#[tactic(auto, using(crate::proofs::Taken::more_taken))]
+fn fetch_some<S: Source>(
+    source: &mut S,
+    piece: &mut [u8],
+    held: &mut Vec<u8>,
+    most: u32,
+) -> Result<u32, IntakeFault>
+    requires some { 0 < most }
+    requires room { 0 < length piece.old }
+    ensures octets { (start : Option (List ℕ)) → Consumes start (S.Source.left source.old) held.old.items → Consumes start (S.Source.left source.new) held.new.items }
+    ensures count { IfOk result (λ n. length held.new.items ≡ length held.old.items + n) }
+    ensures bound { IfOk result (λ n. n ≤ most) }
+    ensures end { IfOk result (λ n. n ≡ 0 → (S.Source.ended source.new ≡ true) × IsAtEnd (S.Source.left source.new)) }
+    ensures fault { IfErr result (IsFailed (source_seen S.Source.left S.Source.ended S.Source.faults source.old source.new)) }
+    ensures same { OnErr result (held.new.items ≡ held.old.items) }
+    ensures later { S.Source.faults source.old ≤ S.Source.faults source.new }
+    ensures wide { length piece.new ≡ length piece.old }
+{
+    let room = piece.len().min(most as usize);
+    if held.reserve(room).is_err() {
+        return Err(IntakeFault::Memory);
     }
+    let Ok(came) = source.fetch(&mut piece[..room]) else {
+        return Err(IntakeFault::ReadFault);
+    };
+    let Ok(()) = held.extend_from_slice(&piece[..came]) else {
+        unreachable!();
+    };
+    Ok(came as u32)
 }

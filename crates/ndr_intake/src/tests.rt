@@ -12,7 +12,10 @@ fn octets_come_as_they_are_wanted(rt: HostRuntime) -> Result<(), Fail> {
     assert_eq!(rt; intake.item(&mut source, 2, 4), Ok(()));
     assert_eq!(rt; intake.octets(), b"cdef".as_slice());
     let past = STREAM_LIMIT - 1;
-    assert_eq!(rt; intake.item(&mut source, past, 2), Err(IntakeFault::TooLong));
+    assert_eq!(rt;
+        intake.item(&mut source, past, 2),
+        Err(IntakeFault::TooLong)
+    );
     let end = IntakeFault::Truncated { place: 10 };
     assert_eq!(rt; intake.item(&mut source, 6, 8), Err(end));
     Ok(())

@@ -46,6 +46,14 @@ pub data Phase : Type 0 where
   offset_read : (o : ℕ) → Phase
   count_read : (c : ℕ) → Phase
 
+-- Where the counts or the tag of a node are in the stream: nowhere; the place of the actual count, which comes right after the offset, where the offset
+-- alone was read, and where both were; the place of a union's tag.
+pub data Place : Type 0 where
+  no_place : Place
+  offset_before : (place : ℕ) → Place
+  counts_at : (place : ℕ) → Place
+  tag_at : (place : ℕ) → Place
+
 -- a pending referent: its type, its whole run, the cell that the pointer names, and the agreements of the pointer
 pub record Owed : Type 0 where
   pub class : Class
@@ -54,7 +62,7 @@ pub record Owed : Type 0 where
   pub cell : Option ℕ
   pub agreements : List Agreement
 
--- what is kept of a node for the agreements that speak of it, and the place of its offset or tag, if it has one
+-- what is kept of a node for the agreements that speak of it, and the place of its actual count or tag, if it has one
 abbrev pub first_of : Flat → Option ℕ → First
 first_of (tree.Num z, k) place = first.Number z
 first_of (tree.Ptr cell, k) place = first.Pointer
@@ -68,9 +76,9 @@ pub record State : Type 0 where
   pub pc : ℕ
   pub phase : Phase
   pub at : ℕ
-  -- the maximum count before the home's value, and its place
+  -- the maximum count before the home's value, 0 where none was read, and its place
   pub max : ℕ
-  pub max_at : ℕ
+  pub max_at : Option ℕ
   -- the tag that was read last, and the primitive that carries it; its entry is not passed yet
   pub tag : ℤ
   pub carrier : Primitive
@@ -204,7 +212,7 @@ abbrev pub firsts_by : Frame → First → List First → List First
 firsts_by (frame.Record back first) x xs = xs ++ x ∷ []
 firsts_by _ x xs = xs
 
--- a node more, and the place of its offset or tag
+-- a node more, and the place of its actual count or tag
 abbrev pub with_node : Flat → Option ℕ → State → State
 with_node x place s = record {
   pc = s.pc;
@@ -321,7 +329,7 @@ with_max m s = record {
   phase = s.phase;
   at = s.at;
   max = m;
-  max_at = s.at;
+  max_at = Some s.at;
   tag = s.tag;
   carrier = s.carrier;
   top = s.top;
@@ -413,14 +421,16 @@ pointer_step Full to run v s = if eqb v 0 then goes (done_after 4 (owing Full to
 
 -- ## Agreements
 
--- where the count or tag is that an attribute of a node speaks of
-abbrev pub place_of : Attr → ℕ → ℕ → ℕ
+-- the place of the count or tag that an attribute of a node speaks of, if there is one: the maximum count is that of the home
+abbrev pub place_of : Attr → Option ℕ → Place → Option ℕ
 place_of attr.Size max_at place = max_at
 place_of attr.Max max_at place = max_at
-place_of attr.First max_at place = place
-place_of attr.Length max_at place = place + 4
-place_of attr.Last max_at place = place + 4
-place_of attr.Switch max_at place = place
+place_of attr.First max_at (offset_before n) = Some (n - 4)
+place_of attr.First max_at (counts_at n) = Some (n - 4)
+place_of attr.Length max_at (counts_at n) = Some n
+place_of attr.Last max_at (counts_at n) = Some n
+place_of attr.Switch max_at (tag_at n) = Some n
+place_of _ max_at place = None
 
 -- agreements join a pending referent
 abbrev pub joined_by : List Agreement → List Owed → ℕ → List Owed
@@ -457,24 +467,25 @@ first_found attr.Length x = pos (actual_in x)
 first_found attr.Last x = pos (offset_in x + actual_in x) -ℤ pos 1
 first_found attr.Switch x = tag_in x
 
-abbrev pub or_zero : Option ℕ → ℕ
-or_zero (Some n) = n
-or_zero None = 0
-
-abbrev pub place_in : First → ℕ
-place_in (first.Counted max offset actual place) = or_zero place
-place_in (first.Tag tag place) = or_zero place
-place_in _ = 0
+abbrev pub place_in : First → Place
+place_in (first.Counted max offset actual (Some place)) = counts_at place
+place_in (first.Tag tag (Some place)) = tag_at place
+place_in _ = no_place
 
 abbrev pub is_owing : First → Bool
 is_owing first.Pointer = true
 is_owing _ = false
 
+-- an agreement that does not hold is refused at that place; what comes later, where there is none
+abbrev pub disagreed : Option ℕ → ℤ → ℤ → Outcome → Outcome
+disagreed None wanted found later = later
+disagreed (Some place) wanted found later = refused place (reason.Disagrees wanted found)
+
 abbrev pub try_all : List Agreement → First → State → Outcome
 try_all [] x s = goes (next s)
 try_all (w ∷ ws) x s =
-    if int_eq w.wanted (first_found w.attr x) then try_all ws x s
-    else refused (place_of w.attr s.max_at (place_in x)) (reason.Disagrees w.wanted (first_found w.attr x))
+    let later : Outcome = try_all ws x s in
+    if int_eq w.wanted (first_found w.attr x) then later else disagreed (place_of w.attr s.max_at (place_in x)) w.wanted (first_found w.attr x) later
 
 -- the agreements of a member: those of a pointer join its pending referent, those of any other are tried in its first node
 abbrev pub checked : List Agreement → Option Member → Option First → State → Outcome
@@ -490,7 +501,7 @@ check_in _ a f v s = goes (next s)
 
 -- a text's octets with its terminator
 abbrev pub text_done : Option (ℕ × Reason) → ℕ → List ℕ → State → Outcome
-text_done None limit os s = goes (done_after (length os) (with_node (tree.Text limit (take (length os - 1) os), 0) (Some (s.at - 8)) s))
+text_done None limit os s = goes (done_after (length os) (with_node (tree.Text limit (take (length os - 1) os), 0) (Some (s.at - 4)) s))
 text_done (Some r) limit os s = refused r.0 r.1
 
 -- a bound of 0 means the maximum count
@@ -507,7 +518,7 @@ module _ (values : List EnumList) (order : Order) (os : List ℕ) where
   abbrev pub vary_by : Phase → ℕ → ℕ → State → Outcome
   vary_by (offset_read o) limit run s =
       let c : ℕ = unsigned order os in
-      if ltb limit (o + c) then refused s.at reason.PastBound else goes (elements c run (with_node (tree.Arr limit o, c) (Some (s.at - 4)) (past 4 begun s)))
+      if ltb limit (o + c) then refused s.at reason.PastBound else goes (elements c run (with_node (tree.Arr limit o, c) (Some s.at) (past 4 begun s)))
   vary_by _ limit run s = goes (past 4 (offset_read (unsigned order os)) s)
 
   abbrev pub text_by : Phase → ℕ → State → Outcome
