@@ -187,4 +187,4 @@ impl Machine {
 
 ghost use Rattle.std.specs.Prelude.{IfErr};
 ghost use Rattle.ndr_machine.specs.declared.fault.DecodeFault.TheVariants as fault;
-ghost use Rattle.ndr_machine.specs.Seen.{actual_read, IsHoisted};
+ghost use Rattle.ndr_machine.specs.Parts.{actual_read, IsHoisted};

@@ -1,8 +1,8 @@
 // Agreements of the members of a struct.
-ghost use Rattle.std.specs.Prelude.{◌≡◌, ◌<◌, ◌+◌, ◌^◌, ℤ, Option, Some, None, length, map, IfErr};
-ghost use Rattle.nd_value.specs.Agreement.{agreement, wanted_by};
-ghost use Rattle.ndr_steps.specs.Steps.{goes, next, check_in, checked, first_number, first_found, place_by, with_fresh, joined_by};
-ghost use Rattle.ndr_machine.specs.Seen.{state_of, Does};
+ghost use Rattle.std.specs.Prelude.{◌≡◌, ◌<◌, ◌+◌, ◌-◌, ◌^◌, ◌∷◌, [], slice_get, option_map};
+ghost use Rattle.nd_value.specs.Agreement.{wanted_by};
+ghost use Rattle.ndr_steps.specs.Steps.{goes, next, check_in, first_found, with_fresh, joined_by, try_all};
+ghost use Rattle.ndr_machine.specs.Seen.{state_of, Does, wanted_of};
 
 use crate::{DecodeFault, Machine, Wanted};
 use nd_grammar::Reason;
@@ -40,6 +40,7 @@ impl Machine {
 
     // What is kept of the first node of a member of the struct whose members begin at `first`.
     fn first(&self, first: usize, member: u32) -> Option<First>
+        ensures { result ≡ slice_get self.now.firsts.items (first + member) }
     {
         self.firsts.get(first + member as usize).copied()
     }
@@ -47,26 +48,32 @@ impl Machine {
     // Tries an agreement in the first node of its member.
     fn try_one(&mut self, wanted: Wanted, of: First) -> Result<(), DecodeFault>
         requires code { self.old.pc < 2 ^ 32 }
+        ensures does { Does (try_all (wanted_of wanted ∷ []) of (state_of self.old)) result (state_of self.new) }
+        ensures home { self.new.home ≡ self.old.home }
     {
         let found = found_in(wanted.attr, of);
-        if found != wanted.wanted {
-            if let Some(place) = place_of(wanted.attr, self.max_at, of) {
-                return Err(DecodeFault::Bad {
-                    place,
-                    reason: Reason::Disagrees {
-                        wanted: wanted.wanted,
-                        found,
-                    },
-                });
-            }
+        if wanted.wanted == found {
+            self.skip();
+            return Ok(());
         }
-        self.skip();
-        Ok(())
+        let Some(place) = place_of(wanted.attr, self.max_at, of) else {
+            self.skip();
+            return Ok(());
+        };
+        Err(DecodeFault::Bad {
+            place,
+            reason: Reason::Disagrees {
+                wanted: wanted.wanted,
+                found,
+            },
+        })
     }
 
     // Joins an agreement of a pointer to its pending referent.
     fn join(&mut self, first: usize, member: u32, wanted: Wanted) -> Result<(), DecodeFault>
         requires code { self.old.pc < 2 ^ 32 }
+        ensures does { Does (goes (next (member_joined (slice_get self.old.members.items (first + member)) (wanted_of wanted) (state_of self.old)))) result (state_of self.new) }
+        ensures home { self.new.home ≡ self.old.home }
     {
         let Some(of) = self.members.get(first + member as usize) else {
             self.skip();
@@ -80,6 +87,9 @@ impl Machine {
 
     // Joins an agreement to the pending referent of this number. The agreements of one pointer are kept side by side.
     fn join_to(&mut self, pending: usize, wanted: Wanted) -> Result<(), DecodeFault>
+        ensures does { Does (goes (with_fresh (joined_by (wanted_of wanted ∷ []) (state_of self.old).fresh pending) (state_of self.old))) result (state_of self.new) }
+        ensures pc { self.new.pc ≡ self.old.pc }
+        ensures home { self.new.home ≡ self.old.home }
     {
         if pending >= self.fresh.len() {
             return Ok(());
@@ -168,20 +178,31 @@ fn tag_in(of: First) -> i128
     }
 }
 
-// The place of the count or tag that an attribute speaks of.
-pub(crate) fn place_of(attr: Attr, max_at: Option<u32>, of: First) -> Option<u32>
+// The place of the count or tag that an attribute speaks of, if there is one. An offset is before the actual count.
+fn place_of(attr: Attr, max_at: Option<u32>, of: First) -> Option<u32>
+    ensures { result ≡ place_of attr max_at (place_in of) }
 {
     match attr {
         Attr::Size | Attr::Max => max_at,
-        Attr::First => match place_in(of) {
-            Some(place) => Some(place.saturating_sub(4)),
-            None => None,
-        },
-        Attr::Length | Attr::Last | Attr::Switch => place_in(of),
+        Attr::First => offset_before(count_place(of)),
+        Attr::Length | Attr::Last => count_place(of),
+        Attr::Switch => tag_place(of),
     }
 }
 
-fn place_in(of: First) -> Option<u32>
+// The place of the offset before an actual count.
+fn offset_before(place: Option<u32>) -> Option<u32>
+    ensures { result ≡ option_map (λ n. n - 4) place }
+{
+    match place {
+        Some(place) => Some(place.saturating_sub(4)),
+        None => None,
+    }
+}
+
+// The place of an actual count.
+fn count_place(of: First) -> Option<u32>
+    ensures { result ≡ count_place of }
 {
     match of {
         First::Counted {
@@ -190,9 +211,27 @@ fn place_in(of: First) -> Option<u32>
             actual: _,
             place,
         } => place,
-        First::Tag { tag: _, place } => place,
-        First::Number(_) | First::Pointer | First::Other => None,
+        First::Number(_) | First::Pointer | First::Tag { tag: _, place: _ } | First::Other => None,
     }
 }
 
-ghost use Rattle.ndr_steps.specs.Steps.{max_in, offset_in, actual_in, tag_in};
+// The place of a tag.
+fn tag_place(of: First) -> Option<u32>
+    ensures { result ≡ tag_place of }
+{
+    match of {
+        First::Tag { tag: _, place } => place,
+        First::Number(_)
+        | First::Pointer
+        | First::Counted {
+            max: _,
+            offset: _,
+            actual: _,
+            place: _,
+        }
+        | First::Other => None,
+    }
+}
+
+ghost use Rattle.ndr_steps.specs.Steps.{max_in, offset_in, actual_in, tag_in, place_of, place_in, disagreed};
+ghost use Rattle.ndr_machine.specs.Parts.{count_place, tag_place, member_joined};

@@ -1,8 +1,6 @@
 // Runs, frames and structs.
 ghost use Rattle.std.specs.Prelude.{◌≡◌, ◌<◌, ◌+◌, ◌^◌, OnOk, IfErr, Ok};
-ghost use Rattle.ndr_steps.specs.declared.frame.Frame.{Frame as AFrame};
-ghost use Rattle.ndr_steps.specs.Steps.{goes, done_after, next, pushed, popped, with_node, call_from, back_to, close_of};
-ghost use Rattle.nd_value.specs.Tree as tree;
+ghost use Rattle.ndr_steps.specs.Steps.{goes, done_after, next, pushed, popped, call_from, back_to, close_of};
 ghost use Rattle.ndr_machine.specs.Seen.{state_of, Does, Comes};
 ghost use Rattle.ndr_machine.specs.declared.fault.DecodeFault.TheVariants as fault;
 
@@ -171,4 +169,4 @@ impl Machine {
 }
 
 ghost use Rattle.ndr_steps.specs.Steps.{jumped};
-ghost use Rattle.ndr_machine.specs.Seen.{record_begun, member_called, elements_frame};
+ghost use Rattle.ndr_machine.specs.Parts.{record_begun, member_called, elements_frame};

@@ -15,6 +15,7 @@ mod octets;
 mod pointers;
 mod rows;
 mod running;
+mod starting;
 mod steps;
 #[cfg(test)]
 mod tests;
@@ -24,3 +25,4 @@ mod unions;
 pub use fault::{DecodeFault, Turn};
 pub use machine::{Machine, Owed, Phase, Wanted};
 pub use running::run;
+pub use steps::Want;

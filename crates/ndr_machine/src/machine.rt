@@ -60,6 +60,7 @@ pub struct Machine {
     pub stack: Vec<Frame>,
     /// How many nodes the home has so far, and what is kept of the first.
     pub count: u32,
+    pub ghost counted: { count ≡ length builder.nodes },
     pub own: Option<First>,
     /// The members of the structs that are open, and what is kept of the first node of each.
     pub members: Vec<Member>,
@@ -69,5 +70,8 @@ pub struct Machine {
     pub wanted: Vec<Wanted>,
     /// The graph so far, and the numbers of full pointers.
     pub builder: Builder,
+    /// How many cells have their numbers.
+    pub cells: u32,
+    pub ghost numbered: { cells ≡ length builder.graph.cells },
     pub referents: Referents,
 }

@@ -1,5 +1,5 @@
 // Nodes of the value that is being read.
-ghost use Rattle.std.specs.Prelude.{◌≡◌, ◌<◌, ◌+◌, ◌^◌, OnOk, IfErr, option_map};
+ghost use Rattle.std.specs.Prelude.{◌≡◌, ◌<◌, ◌+◌, ◌^◌, ◌++◌, ◌∷◌, [], OnOk, IfErr, option_map};
 ghost use Rattle.nd_flat.specs.FlatForm.{flat_seen, IsKeepable};
 ghost use Rattle.ndr_steps.specs.Steps.{first_of, with_node};
 ghost use Rattle.ndr_machine.specs.Seen.{state_of};
@@ -43,7 +43,7 @@ impl Machine {
 
     // Keeps what agreements find in the first node of a member.
     fn push_first(&mut self, first: First) -> Result<(), DecodeFault>
-        ensures ok { OnOk result (state_of self.new ≡ with_first first (state_of self.old)) }
+        ensures ok { OnOk result (state_of self.new ≡ with_members (state_of self.old).members ((state_of self.old).firsts ++ first ∷ []) (state_of self.old)) }
         ensures count { self.new.count ≡ self.old.count }
         ensures top { self.new.top ≡ self.old.top }
         ensures home { self.new.home ≡ self.old.home }
@@ -56,7 +56,8 @@ impl Machine {
     }
 }
 
-ghost use Rattle.ndr_machine.specs.Seen.{kept, with_first};
+ghost use Rattle.ndr_steps.specs.Steps.{with_members};
+ghost use Rattle.ndr_machine.specs.Parts.{kept};
 
 // What agreements find in a node.
 fn first_seen(node: &Seen<'_>, place: Option<u32>) -> First

@@ -1,7 +1,7 @@
 // Items as they are read.
 ghost use Rattle.std.specs.Prelude.{◌≡◌, ◌+◌, ◌*◌, ◌<◌, ◌^◌, OnOk, OnErr, IfErr};
 ghost use Rattle.nd_value.specs.Logged.{noted, ticks_of};
-ghost use Rattle.ndr_machine.specs.Seen.{item_of, gap_noted, number_ahead};
+ghost use Rattle.ndr_machine.specs.Seen.{next_item, gap_noted, number_ahead};
 ghost use Rattle.ndr_machine.specs.declared.fault.DecodeFault.TheVariants as fault;
 
 use crate::{DecodeFault, Machine};
@@ -11,7 +11,7 @@ use nd_value::{Item, ItemKind, ItemLog};
 impl Machine {
     // Notes an item at the place where the machine is: it belongs to the node that comes next, a gap to the home as a whole.
     pub(crate) fn note<L: Ledger>(&self, kind: ItemKind, len: u32, value: i128, items: &mut ItemLog, steps: &mut Steps<L>) -> Result<(), DecodeFault>
-        ensures ok { OnOk result (items.new ≡ noted (item_of self.now kind len value) items.old) }
+        ensures ok { OnOk result (items.new ≡ noted (next_item self.now kind len value) items.old) }
         ensures ticks { OnOk result (L.number steps.new ≡ L.number steps.old + ticks_of kind) }
         ensures err { OnErr result (items.new ≡ items.old) }
         ensures idle { OnErr result (steps.new ≡ steps.old) }

@@ -1,9 +1,9 @@
 // Primitives, enumerated values and context handles.
-ghost use Rattle.std.specs.Prelude.{◌≡◌, ◌<◌, ◌+◌, ◌^◌, None, length, IfErr};
+ghost use Rattle.std.specs.Prelude.{◌≡◌, ◌<◌, ◌+◌, ◌^◌, None, length};
 ghost use Rattle.nd_types.specs.Table.{width};
 ghost use Rattle.nd_types.specs.declared.types.Primitive.TheVariants.{Short};
 ghost use Rattle.ndr_code.specs.Lines.{enumerators};
-ghost use Rattle.ndr_steps.specs.Steps.{number_step, context_step};
+ghost use Rattle.ndr_steps.specs.Steps.{number_step};
 ghost use Rattle.ndr_machine.specs.Seen.{state_of, Does};
 
 use crate::enumerators::is_enumerator;
@@ -79,7 +79,7 @@ impl Machine {
         requires code { self.old.pc < 2 ^ 32 }
         requires fits { self.old.at + 20 < 2 ^ 32 }
         requires few { self.old.count + 1 < 2 ^ 32 }
-        ensures does { Does (context_step order octets.now (state_of self.old)) result (state_of self.new) }
+        ensures does { Does (context_read order octets.now (state_of self.old)) result (state_of self.new) }
         ensures home { self.new.home ≡ self.old.home }
     {
         self.note(ItemKind::Context, 20, 0, items, steps)?;
@@ -92,5 +92,6 @@ impl Machine {
 }
 
 ghost use Rattle.nd_flat.specs.FlatForm.{IsKeepableNumber};
+ghost use Rattle.ndr_machine.specs.Parts.{context_read};
 ghost use Rattle.nd_value.specs.Tree as tree;
 ghost use Rattle.ndr_steps.specs.Steps.{goes, done_after, with_node};

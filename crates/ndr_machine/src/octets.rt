@@ -24,7 +24,7 @@ pub(crate) fn read_count(order: Order, from: &[u8]) -> u32
 // The identifier of a context handle in 16 octets.
 pub(crate) fn identifier(order: Order, from: &[u8]) -> Uuid
     requires { length from.now ≡ 16 }
-    ensures { result ≡ identifier order from.now }
+    ensures { result ≡ identifier order from.now from.now }
 {
     let octets = [
         from[0], from[1], from[2], from[3], from[4], from[5], from[6], from[7], from[8], from[9],
@@ -39,7 +39,7 @@ pub(crate) fn identifier(order: Order, from: &[u8]) -> Uuid
 // The octets of a gap to a multiple of so many octets.
 pub(crate) fn gap_before(at: u32, to: u8) -> u32
     requires some { 0 < to }
-    ensures { result ≡ gap at to }
+    ensures is { result ≡ gap at to }
     ensures few { result < to }
 {
     let to = to as u32;

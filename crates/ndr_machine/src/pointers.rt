@@ -1,5 +1,5 @@
 // Pointers.
-ghost use Rattle.std.specs.Prelude.{◌≡◌, ◌<◌, ◌+◌, ◌^◌, Some, None, length, eqb, option_map};
+ghost use Rattle.std.specs.Prelude.{◌≡◌, ◌<◌, ◌+◌, ◌^◌, length};
 ghost use Rattle.nd_types.specs.Number.{unsigned};
 ghost use Rattle.ndr_steps.specs.Steps.{pointer_step, owing};
 ghost use Rattle.ndr_machine.specs.Seen.{state_of, Does};
@@ -28,7 +28,7 @@ impl Machine {
         requires code { self.old.pc < 2 ^ 32 }
         requires fits { self.old.at + 4 < 2 ^ 32 }
         requires few { self.old.count + 1 < 2 ^ 32 }
-        requires cells { length self.old.builder.graph.cells + 1 < 2 ^ 32 }
+        requires cells { self.old.cells + 1 < 2 ^ 32 }
         ensures does { Does (pointer_step to.class to.to to.run (unsigned order octets.now) (state_of self.old)) result (state_of self.new) }
         ensures home { self.new.home ≡ self.old.home }
     {
@@ -45,7 +45,7 @@ impl Machine {
         requires code { self.old.pc < 2 ^ 32 }
         requires fits { self.old.at + 4 < 2 ^ 32 }
         requires few { self.old.count + 1 < 2 ^ 32 }
-        requires cells { length self.old.builder.graph.cells + 1 < 2 ^ 32 }
+        requires cells { self.old.cells + 1 < 2 ^ 32 }
         ensures does { Does (unique_read to.class to.to to.run number (state_of self.old)) result (state_of self.new) }
         ensures home { self.new.home ≡ self.old.home }
     {
@@ -60,17 +60,22 @@ impl Machine {
         requires code { self.old.pc < 2 ^ 32 }
         requires fits { self.old.at + 4 < 2 ^ 32 }
         requires few { self.old.count + 1 < 2 ^ 32 }
-        requires cells { length self.old.builder.graph.cells + 1 < 2 ^ 32 }
+        requires cells { self.old.cells + 1 < 2 ^ 32 }
         ensures does { Does (full_read to.to to.run number (state_of self.old)) result (state_of self.new) }
         ensures home { self.new.home ≡ self.old.home }
     {
         if number == 0 {
             return self.name(0, to, None, items, steps);
         }
-        let next = CellId(self.builder.cells() as u32 + 1);
+        let known = self.referents.len();
+        let next = CellId(self.cells + 1);
         match self.referents.meet(number, to.to, next) {
-            Ok(cell) if cell == next => self.name_new(number, to, items, steps),
-            Ok(cell) => self.name(number, to, Some(cell), items, steps),
+            Ok(cell) => {
+                if known < self.referents.len() {
+                    return self.name_new(number, to, items, steps);
+                }
+                self.name(number, to, Some(cell), items, steps)
+            }
             Err(RefFault::Memory) => Err(DecodeFault::Memory),
             Err(RefFault::OtherType { first: _, second: _ }) => Err(DecodeFault::Bad {
                 place: self.at,
@@ -84,12 +89,13 @@ impl Machine {
         requires code { self.old.pc < 2 ^ 32 }
         requires fits { self.old.at + 4 < 2 ^ 32 }
         requires few { self.old.count + 1 < 2 ^ 32 }
-        requires cells { length self.old.builder.graph.cells + 1 < 2 ^ 32 }
+        requires cells { self.old.cells + 1 < 2 ^ 32 }
         ensures does { Does (goes (done_after 4 (new_cell to.class to.to to.run (state_of self.old)))) result (state_of self.new) }
         ensures home { self.new.home ≡ self.old.home }
     {
         self.note(ItemKind::Number, 4, i128::from(number), items, steps)?;
         let cell = self.builder.reserve(to.to, steps)?;
+        self.cells = cell.0;
         self.owe(to, Some(cell))?;
         self.pass(4);
         Ok(())
@@ -135,4 +141,4 @@ impl Machine {
 
 ghost use Rattle.nd_value.specs.Seen.{cell_number};
 ghost use Rattle.ndr_steps.specs.Steps.{goes, done_after, new_cell};
-ghost use Rattle.ndr_machine.specs.Seen.{unique_read, full_read};
+ghost use Rattle.ndr_machine.specs.Parts.{unique_read, full_read};

@@ -91,9 +91,9 @@ impl Machine {
 }
 
 // What a fault of the intake says of a stream.
-fn fetched(result: Result<(), IntakeFault>) -> Result<(), DecodeFault>
+fn fetched(answer: Result<(), IntakeFault>) -> Result<(), DecodeFault>
 {
-    match result {
+    match answer {
         Ok(()) => Ok(()),
         Err(IntakeFault::Memory) => Err(DecodeFault::Memory),
         Err(IntakeFault::ReadFault) => Err(DecodeFault::ReadFault),

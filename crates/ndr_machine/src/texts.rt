@@ -1,8 +1,8 @@
 // Strings.
-ghost use Rattle.std.specs.Prelude.{◌≡◌, ◌<◌, ◌+◌, ◌^◌, ◌≤◌, Some, None, length, IfSome, IfNone, option_map};
+ghost use Rattle.std.specs.Prelude.{◌≡◌, ◌<◌, ◌+◌, ◌^◌, length};
 ghost use Rattle.nd_grammar.specs.Refusal.{text_refusal};
 ghost use Rattle.ndr_steps.specs.Steps.{text_by, text_done};
-ghost use Rattle.ndr_machine.specs.Seen.{state_of, Does, phase_of, TextWanted, refusal_of};
+ghost use Rattle.ndr_machine.specs.Seen.{state_of, Does, phase_of};
 
 use crate::octets::read_count;
 use crate::{DecodeFault, Machine, Phase};
@@ -88,7 +88,7 @@ impl Machine {
     }
 }
 
-ghost use Rattle.ndr_machine.specs.Seen.{text_offset_read, text_count_read};
+ghost use Rattle.ndr_machine.specs.Parts.{text_offset_read, text_count_read, TextWanted};
 
 // Where the octets of a string with the terminator are refused: at the first zero before the last octet, or at a last octet that is not zero.
 fn refused_text(at: u32, octets: &[u8]) -> Option<(u32, Reason)>
@@ -109,7 +109,7 @@ fn refused_text(at: u32, octets: &[u8]) -> Option<(u32, Reason)>
 
 // The place of the first zero octet, or the number of octets.
 fn first_zero(octets: &[u8]) -> usize
-    ensures is { IsFirstZero result octets.now }
+    ensures is { result ≡ first_zero octets.now }
 {
     for at in 0..octets.len() {
         if octets[at] == 0 {
@@ -119,4 +119,4 @@ fn first_zero(octets: &[u8]) -> usize
     octets.len()
 }
 
-ghost use Rattle.ndr_machine.specs.Seen.{IsFirstZero};
+ghost use Rattle.ndr_machine.specs.Parts.{first_zero};

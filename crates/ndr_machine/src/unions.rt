@@ -75,4 +75,4 @@ impl Machine {
 }
 
 ghost use Rattle.nd_flat.specs.FlatForm.{IsKeepableNumber};
-ghost use Rattle.ndr_machine.specs.Seen.{arm_entered};
+ghost use Rattle.ndr_machine.specs.Parts.{arm_entered};
