@@ -1,5 +1,5 @@
 // Cells by the numbers of full pointers.
-ghost use Rattle.std.specs.Prelude.{◌≡◌, ◌<◌, [], not};
+ghost use Rattle.std.specs.Prelude.{◌≡◌, ◌<◌, [], not, length};
 ghost use Rattle.ndr_refs.specs.Known.{IsKnown, IsMet, IsTurn};
 
 use indexmap::IndexMap;
@@ -53,6 +53,13 @@ impl Referents {
         Referents {
             entries: IndexMap::new(alloc),
         }
+    }
+
+    /// How many numbers were met. Takes no memory.
+    pub fn len(&self) -> usize
+        ensures { result ≡ length self.now }
+    {
+        self.entries.len()
     }
 
     /// The cell of a full pointer's number, which must not be 0, for a referent of a type. A number that is not known yet is kept with

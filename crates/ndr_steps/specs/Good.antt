@@ -2,13 +2,12 @@
 -- the beginning of the home.
 -- `fetched` are the octets so far, `own` the type of the home `h`, `target` what the plain reader gives for the home, by all octets, `limit` how many values
 -- nest in place: 32, and one more within a pipe.
-use Rattle.std.specs.Prelude.{◌≡◌, ◌≤◌, ◌<◌, ℕ, ◌+◌, zero, suc, Bool, true, false, not, eqb, List, [], ◌∷◌, ◌++◌, length, map, Option, Some, None}
+use Rattle.std.specs.Prelude.{◌≡◌, ◌≤◌, ◌<◌, ℕ, ◌+◌, ◌-◌, zero, suc, false, not, eqb, List, [], ◌∷◌, ◌++◌, length, map, Option, Some, None}
 use Rattle.std.specs.List.{AllByRecursion, slice_get}
 use Rattle.nd_base.specs.declared.octets.Order.{Order}
+use Rattle.nd_base.specs.declared.TheConstants.{STREAM_LIMIT}
 use Rattle.nd_types.specs.declared.types.Attr.{Attr}
-use Rattle.nd_types.specs.declared.types.Attr.TheVariants as attr
 use Rattle.nd_types.specs.Table.{Table}
-use Rattle.nd_types.specs.Layout.{hoists}
 use Rattle.nd_value.specs.declared.item.Home.{Home}
 use Rattle.nd_value.specs.Deferral.{Pending, home_pointers}
 use Rattle.nd_value.specs.Tree as tree
@@ -26,7 +25,9 @@ use Rattle.ndr_reading.specs.Points.{Point, hoisting, counting, offset_read as a
 use Rattle.ndr_steps.specs.declared.frame.Frame.{Frame}
 use Rattle.ndr_steps.specs.declared.frame.Frame.TheVariants as frame
 use Rattle.ndr_steps.specs.Spots.{Spot, InsideAt, FitsAt}
-use Rattle.ndr_steps.specs.Steps.{State, Outcome, goes, refused, whole, Owed, Member, Phase, begun, gap_read, offset_read, count_read, place_of}
+use Rattle.ndr_steps.specs.declared.first.First.{First}
+use Rattle.ndr_steps.specs.declared.first.Member.{Member}
+use Rattle.ndr_steps.specs.Steps.{State, Outcome, goes, refused, whole, Owed, Phase, Place, Want, no_octets, gap_of, item_of, begun, gap_read, offset_read, count_read, no_place, offset_before, counts_at, place_of, place_in, first_of}
 
 -- a pending referent as the decoder keeps it
 abbrev pub owed : Table → Pending → Owed
@@ -88,33 +89,47 @@ phase_at (text_counted t max c) = count_read c
 phase_at _ = begun
 
 abbrev pub HasTag : Point → State → Type 0
-HasTag (tagged t d form arms default z) s = (s.tag ≡ z) × (s.form ≡ form)
+HasTag (tagged t d form arms default z) s = (s.tag ≡ z) × (s.carrier ≡ form.prim)
 HasTag _ s = Unit {0}
 
--- the maximum count was read, if the home's type hoists one
-abbrev pub max_known : Bool → Point → Bool
-max_known b (hoisting t) = false
-max_known b (counting t) = false
-max_known b _ = b
+-- where the counts are of the node that is being read, where a part of them was read
+abbrev pub half_at : Point → ℕ → List Place
+half_at (at_offset t d max elem o) at = offset_before at ∷ []
+half_at (text_offset t max) at = offset_before at ∷ []
+half_at (text_counted t max c) at = counts_at (at - 4) ∷ []
+half_at _ at = []
 
--- an attribute speaks of a node that has such a count or tag: the maximum count is that of the home, the others are the node's own
-abbrev pub Speaks : Bool → Attr → Option ℕ → Type 0
-Speaks max attr.Size place = max ≡ true
-Speaks max attr.Max place = max ≡ true
-Speaks max a (Some place) = Unit {0}
-Speaks max a None = ⊥
+abbrev pub place_at : List Place → ℕ → Place
+place_at [] n = no_place
+place_at (p ∷ ps) zero = p
+place_at (p ∷ ps) (suc n) = no_place
 
-abbrev pub place_or : Option ℕ → ℕ
-place_or None = 0
-place_or (Some n) = n
+-- How many members have no first node yet: the one that is due in the innermost struct.
+abbrev pub due_member : Frame → ℕ
+due_member (frame.Record back first) = 1
+due_member _ = 0
 
--- the attribute may govern such a node: a tag is a union's, the others are those of an array or a text
-abbrev pub Governs : Attr → Label → Type 0
-Governs attr.Switch (tree.Union tag) = Unit {0}
-Governs attr.Switch l = ⊥
-Governs a (tree.Arr max offset) = Unit {0}
-Governs a (tree.Text max octets) = Unit {0}
-Governs a l = ⊥
+abbrev pub unread_at : Point → Frame → ℕ
+unread_at (between f) top = 0
+unread_at (checking f so_far tests) top = 0
+unread_at (has t v) top = 0
+unread_at _ top = due_member top
+
+-- What is kept of a node is right: it is what that node says, and the place of its count or tag is where agreements find it.
+pub record Kept (h : Home) (seen : List EntryAt) (max_at : Option ℕ) (nodes : List Flat) (n : ℕ) (x : First) : Type 0 where
+  pub is : Flat
+  pub place : Option ℕ
+  pub there : slice_get nodes n ≡ Some is
+  pub kept : x ≡ first_of is place
+  pub found : (a : Attr) → tested_at seen a h n ≡ place_of a max_at (place_in x)
+
+-- the home's own first node is kept, where it was read
+abbrev pub OwnAt : Point → List Around → Type 0 → Type 0
+OwnAt (between f) fs kept = kept
+OwnAt (checking f so_far tests) fs kept = kept
+OwnAt (has t v) fs kept = kept
+OwnAt _ [] kept = Unit {0}
+OwnAt _ (f ∷ fs) kept = kept
 
 -- Numbers of full pointers: the table has for each what the plain reader's names and its search through earlier entries say.
 abbrev pub IsKnownAs : Order → List ℕ → List EntryAt → Names → ℕ → Option Known → Type 0
@@ -122,6 +137,14 @@ IsKnownAs order octets seen names v None = (numbered names.numbers v ≡ None) �
 IsKnownAs order octets seen names v (Some k) = (numbered names.numbers v ≡ Some k.cell.0) × ((to : ℕ) → is_other order octets seen v to ≡ not (eqb k.of.0 to))
 
 -- ## The state
+
+-- What the state keeps of the entries seen: the types of the cells and the numbers of full pointers. All of them lie within the octets fetched. Of nodes
+-- from number `n` on they have no count or tag but these.
+pub record Told (order : Order) (fetched : List ℕ) (h : Home) (seen : List EntryAt) (names : Names) (cells : List ℕ) (numbers : List (ℕ × Known)) (max_at : Option ℕ) (n : ℕ) (half : List Place) : Type 0 where
+  pub cells : cells ≡ map (λ c. c.of) names.cells
+  pub numbers : (v : ℕ) → 0 < v → IsKnownAs order fetched seen names v (known v numbers)
+  pub ahead : (a : Attr) (j : ℕ) → tested_at seen a h (n + j) ≡ place_of a max_at (place_at half j)
+  pub lie_within : AllByRecursion (λ (x : EntryAt). x.at + size_at x.at x.entry.kind ≤ length fetched) seen
 
 pub record Good (order : Order) (fetched : List ℕ) (code : List Instr) (table : Table) (h : Home) (own limit : ℕ) (target : List ℕ → Read) (s : State) : Type 0 where
   pub depth : ℕ
@@ -131,7 +154,7 @@ pub record Good (order : Order) (fetched : List ℕ) (code : List Instr) (table 
   pub names : Names
   pub deep : depth + length fs ≡ limit
   -- where the code and the stack are
-  pub spot : Spot code table h depth s.pc point
+  pub spot : Spot code table h s.max depth s.pc point
   pub phase : s.phase ≡ phase_at point
   pub tag : HasTag point s
   pub inside : InsideAt code table point s.top s.stack fs
@@ -143,14 +166,13 @@ pub record Good (order : Order) (fetched : List ℕ) (code : List Instr) (table 
   pub numbered : NumberedAt point fs
   pub members : s.members ≡ members_at table h point fs
   pub pending : s.fresh ≡ map (owed table) (pointers_at table h point fs)
-  pub cells : s.cells ≡ map (λ c. c.of) names.cells
-  pub numbers : (v : ℕ) → 0 < v → IsKnownAs order fetched seen names v (known v s.numbers)
-  pub as_many : length s.places ≡ length s.nodes
-  pub places : (i : ℕ) (x : Flat) (place : Option ℕ) → slice_get s.nodes i ≡ Some x → slice_get s.places i ≡ Some place → (a : Attr)
-      → Governs a x.0 → Speaks (max_known (hoists table own) point) a place → tested_at seen a h i ≡ Some (place_of a s.max_at (place_or place))
-  -- the octets: those fetched end where the state is, but for a tag that is not passed yet; the entries seen lie within them
+  -- what is kept of first nodes
+  pub many : length s.firsts + unread_at point s.top ≡ length s.members
+  pub kept : (i : ℕ) (m : Member) (x : First) → slice_get s.members i ≡ Some m → slice_get s.firsts i ≡ Some x → Kept h seen s.max_at s.nodes m.node x
+  pub first : OwnAt point fs ((x : First) × (s.own ≡ Some x) × Kept h seen s.max_at s.nodes 0 x)
+  -- the octets fetched end where the state is, but for a tag that is not passed yet
   pub reached : length fetched ≡ s.at + held point
-  pub lie_within : AllByRecursion (λ (x : EntryAt). x.at + size_at x.at x.entry.kind ≤ length fetched) seen
+  pub told : Told order fetched h seen names s.cells s.numbers s.max_at (length s.nodes) (half_at point s.at)
   -- whatever follows, the plain reader comes from here to what it comes to from the beginning
   pub rest : (later : List ℕ)
       → finish order (fetched ++ later) table h s.max depth fs (read_at order (fetched ++ later) table h s.max depth point (length (nodes_around fs)) (going s.at seen) names)
@@ -163,10 +185,9 @@ pub record Whole (order : Order) (fetched : List ℕ) (table : Table) (h : Home)
   pub names : Names
   pub nodes : s.nodes ≡ flat (more v none)
   pub pending : s.fresh ≡ map (owed table) (home_pointers table h own v)
-  pub cells : s.cells ≡ map (λ c. c.of) names.cells
-  pub numbers : (v : ℕ) → 0 < v → IsKnownAs order fetched seen names v (known v s.numbers)
+  pub first : (x : First) × (s.own ≡ Some x) × Kept h seen s.max_at s.nodes 0 x
   pub reached : length fetched ≡ s.at
-  pub lie_within : AllByRecursion (λ (x : EntryAt). x.at + size_at x.at x.entry.kind ≤ length fetched) seen
+  pub told : Told order fetched h seen names s.cells s.numbers s.max_at (length s.nodes) []
   pub is : (later : List ℕ) → record { tree = v; progress = going s.at seen; names = names } ≡ target (fetched ++ later)
 
 -- what a step comes to is right; a refusal is that of the plain reader, whatever follows
@@ -174,3 +195,9 @@ abbrev pub IsRight : Order → List ℕ → List Instr → Table → Home → �
 IsRight order fetched code table h own limit target (goes s) = Good order fetched code table h own limit target s
 IsRight order fetched code table h own limit target (refused place why) = (later : List ℕ) → (target (fetched ++ later)).progress.stop ≡ Some (place, why)
 IsRight order fetched code table h own limit target (whole s) = Whole order fetched table h own target s
+
+-- The octets that a step wants, where they are all there: so many, and of an item not past the limit of a stream.
+abbrev pub HasOctets : Want → List ℕ → ℕ → Type 0
+HasOctets no_octets os at = os ≡ []
+HasOctets (gap_of n) os at = length os ≡ n
+HasOctets (item_of n) os at = (length os ≡ n) × (at + n ≤ STREAM_LIMIT)

@@ -8,6 +8,7 @@ use Rattle.nd_types.specs.declared.types.TypeDef.TheVariants as def
 use Rattle.nd_types.specs.declared.types.Arm.{Arm}
 use Rattle.nd_types.specs.declared.types.AttrVar.{AttrVar}
 use Rattle.nd_types.specs.declared.types.Field.{Field}
+use Rattle.nd_types.specs.declared.types.Primitive.{Primitive}
 use Rattle.nd_types.specs.Table.{Table, type_at, selected}
 use Rattle.nd_types.specs.Layout.{parts}
 use Rattle.nd_types.specs.Kinds.{prim_number}
@@ -22,7 +23,9 @@ use Rattle.nd_grammar.specs.Reader.{bound_or, tree_nodes}
 use Rattle.ndr_code.specs.declared.instr.Instr.{Instr}
 use Rattle.ndr_code.specs.declared.instr.Instr.TheVariants as op
 use Rattle.ndr_code.specs.Code.{place_at, whole_at, id, array_run, text_bound, struct_run, union_run, arms_code, default_code, member_calls, member_checks, field_checks, place_run}
+use Rattle.ndr_code.specs.Lines.{enumerators}
 use Rattle.ndr_code.specs.Runs.{IsRunAt}
+use Rattle.ndr_code.specs.declared.lists.EnumList.{EnumList}
 use Rattle.ndr_reading.specs.Halves.{gap_of}
 use Rattle.ndr_reading.specs.Around.{Around}
 use Rattle.ndr_reading.specs.Points.{Point, TagForm, IsTagForm, hoisting, counting, called, due, opened, offset_read, text_offset, text_counted, tagged, between, checking, has}
@@ -31,11 +34,9 @@ use Rattle.ndr_steps.specs.declared.frame.Frame.TheVariants as frame
 
 -- ## Types that may be read in place
 
--- what a legal table says of a type that is read in place: a primitive has its own number, a struct has members, the tag of a union is carried by a
--- primitive; a pipe is never in place
+-- what a legal table says of a type that is read in place: a string's bound is not 0, the tag of a union is carried by a primitive; a pipe is never in place
 abbrev pub IsFormed : Table → ℕ → TypeDef → Type 0
-IsFormed table t (def.Prim p) = t ≡ prim_number p
-IsFormed table t (def.Struct members) = members ≢ []
+IsFormed table t (def.Text elem bound) = bound ≢ Some 0
 IsFormed table t (def.Union tag encapsulated arms default) = (form : TagForm) × IsTagForm (type_at table tag.0) form
 IsFormed table t (def.Pipe elem) = ⊥
 IsFormed table t d = Unit {0}
@@ -50,6 +51,16 @@ pub record IsDue (fine : ℕ → Type 0) (table : Table) (t : ℕ) : Type 0 wher
 abbrev pub IsFine : Table → ℕ → ℕ → Type 0
 IsFine table zero t = ⊥
 IsFine table (suc n) t = IsDue (IsFine table n) table t
+
+-- ## The code
+
+-- The code and the lists of enumerators are those of a plan of this table: the place run of each type is at its address, an empty arm and a `ret` are at
+-- address 0, each enumerated type has its list and a primitive none, and a primitive has its own number.
+pub record IsPlanned (code : List Instr) (values : List EnumList) (table : Table) : Type 0 where
+  pub place : (t : ℕ) (d : TypeDef) → type_at table t ≡ Some d → IsRunAt code (place_at table t) (place_run (place_at table) (whole_at table) table t d)
+  pub empty_arm : IsRunAt code 0 (op.Void ∷ op.Ret ∷ [])
+  pub enumerated : (t : ℕ) (zs : List ℤ) → type_at table t ≡ Some (def.Enum zs) → enumerators values t ≡ Some zs
+  pub carried : (t : ℕ) (p : Primitive) → type_at table t ≡ Some (def.Prim p) → (enumerators values t ≡ None) × (t ≡ prim_number p)
 
 -- ## Runs from a point on
 
@@ -177,24 +188,32 @@ module _ (code : List Instr) (table : Table) where
       (passed : List Arm) × (left : List Arm) × (arms ≡ passed ++ left) × AllByRecursion (λ (a : Arm). a.label ≢ z) passed
       × IsRunAt code pc (arms_code (place_at table) left ++ default_code (place_at table) default)
 
-  abbrev pub Spot : Home → ℕ → ℕ → Point → Type 0
-  Spot h depth pc (hoisting t) = IsFine table 32 t × IsRunAt code pc (op.Hoist ∷ op.Call (place_at table t) ∷ op.Ret ∷ [])
-  Spot h depth pc (counting t) = IsFine table 32 t × IsRunAt code pc (op.Hoist ∷ op.Call (place_at table t) ∷ op.Ret ∷ [])
-  Spot h depth pc (called t) = IsFine table depth t × IsRunAt code pc (op.Call (place_at table t) ∷ op.Ret ∷ [])
-  Spot h depth pc (due t) =
+  -- at the end of a value; after an empty arm that is address 0
+  pub data AtEnd (pc : ℕ) : Type 0 where
+    at_ret : IsRunAt code pc (op.Ret ∷ []) → AtEnd pc
+    at_void : IsRunAt code pc (op.Void ∷ op.Ret ∷ []) → AtEnd pc
+
+  -- where the code is at a point, `m` being the maximum count before the home's value
+  abbrev pub Spot : Home → ℕ → ℕ → ℕ → Point → Type 0
+  Spot h m depth pc (hoisting t) = IsFine table 32 t × IsRunAt code pc (op.Hoist ∷ op.Call (place_at table t) ∷ op.Ret ∷ [])
+  Spot h m depth pc (counting t) = IsFine table 32 t × IsRunAt code pc (op.Hoist ∷ op.Call (place_at table t) ∷ op.Ret ∷ [])
+  Spot h m depth pc (called t) = IsFine table depth t × IsRunAt code pc (op.Call (place_at table t) ∷ op.Ret ∷ [])
+  Spot h m depth pc (due t) =
       IsFine table depth t × ((a : ℕ) × ((d : TypeDef) × (type_at table t ≡ Some d) × (gap_of table t (Some d) ≡ Some a) × IsRunAt code pc (op.Align a ∷ body_run t d)))
-  Spot h depth pc (opened t d) = IsFine table depth t × (type_at table t ≡ Some d) × IsRunAt code pc (body_run t d)
-  Spot h depth pc (offset_read t d max elem o) =
-      IsFine table depth t × ((e : TypeId) × (bound : Option ℕ) × (d ≡ def.Array e bound true) × (type_at table t ≡ Some d) × (elem ≡ e.0) × IsRunAt code pc (body_run t d))
-  Spot h depth pc (text_offset t max) = (elem : TypeId) × (bound : Option ℕ) × (type_at table t ≡ Some (def.Text elem bound)) × IsRunAt code pc (body_run t (def.Text elem bound))
-  Spot h depth pc (text_counted t max c) = (elem : TypeId) × (bound : Option ℕ) × (type_at table t ≡ Some (def.Text elem bound)) × IsRunAt code pc (body_run t (def.Text elem bound))
-  Spot h depth pc (tagged t d form arms default z) =
+  Spot h m depth pc (opened t d) = IsFine table depth t × (type_at table t ≡ Some d) × IsRunAt code pc (body_run t d)
+  Spot h m depth pc (offset_read t d max elem o) =
+      IsFine table depth t × ((e : TypeId) × (bound : Option ℕ) × (d ≡ def.Array e bound true) × (type_at table t ≡ Some d) × (elem ≡ e.0) × (max ≡ bound_or bound m) × IsRunAt code pc (body_run t d))
+  Spot h m depth pc (text_offset t max) =
+      (elem : TypeId) × (bound : Option ℕ) × (type_at table t ≡ Some (def.Text elem bound)) × (bound ≢ Some 0) × (max ≡ bound_or bound m) × IsRunAt code pc (body_run t (def.Text elem bound))
+  Spot h m depth pc (text_counted t max c) =
+      (elem : TypeId) × (bound : Option ℕ) × (type_at table t ≡ Some (def.Text elem bound)) × (bound ≢ Some 0) × (max ≡ bound_or bound m) × IsRunAt code pc (body_run t (def.Text elem bound))
+  Spot h m depth pc (tagged t d form arms default z) =
       IsFine table depth t
       × ((tag : TypeId) × (encapsulated : Bool) × (d ≡ def.Union tag encapsulated arms default) × (type_at table t ≡ Some d) × IsTagForm (type_at table tag.0) form × ArmsLeft arms default z pc)
-  Spot h depth pc (between f) = (members : List Field) × (fields : List Field) × IsStruct f f.left members fields × IsRunAt code pc (rest_run members fields)
-  Spot h depth pc (checking f so_far tests) =
+  Spot h m depth pc (between f) = (members : List Field) × (fields : List Field) × IsStruct f f.left members fields × IsRunAt code pc (rest_run members fields)
+  Spot h m depth pc (checking f so_far tests) =
       (members : List Field) × (checks : List Instr) × IsStruct f [] members [] × ChecksLeft h f members so_far tests checks × IsRunAt code pc (checks ++ (op.Close ∷ op.Ret ∷ []))
-  Spot h depth pc (has t v) = IsRunAt code pc (op.Ret ∷ [])
+  Spot h m depth pc (has t v) = AtEnd pc
 
   -- ## Depth
 

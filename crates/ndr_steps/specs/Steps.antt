@@ -1,7 +1,7 @@
 -- What each instruction of a plan does to the state of the decoder, as functions on lists. A step handles one gap, one item or none: `wants` says which, and
 -- `step` gets the octets of it, all fetched. Where they are not all there, or would end past the limit of a stream, no step is taken.
 -- `s` is a state, `i` an instruction, `os` the octets of the step, `z` a value, `o` an offset, `c` a count, `v` a pointer's number.
-use Rattle.std.specs.Prelude.{◌≡◌, ℕ, ◌+◌, ◌-◌, zero, suc, ℤ, pos, Bool, true, false, not, ◌&&◌, cond, eqb, ltb, if◌then◌else◌, List, [], ◌∷◌, ◌++◌, length, take, drop, Option, Some, None}
+use Rattle.std.specs.Prelude.{◌≡◌, ℕ, ◌+◌, ◌-◌, ◌-ℤ◌, zero, suc, ℤ, pos, Bool, true, false, not, ◌&&◌, cond, eqb, ltb, if◌then◌else◌, List, [], ◌∷◌, ◌++◌, length, take, drop, Option, Some, None}
 use Rattle.std.specs.List.{slice_get}
 use Rattle.std.specs.Ordering.{int_eq}
 use Rattle.nd_base.specs.declared.octets.Order.{Order}
@@ -17,7 +17,7 @@ use Rattle.nd_types.specs.Table.{width}
 use Rattle.nd_value.specs.declared.value.CellId.{CellId}
 use Rattle.nd_value.specs.Agreement.{Agreement, agreement, wanted_by}
 use Rattle.nd_value.specs.Tree as tree
-use Rattle.nd_value.specs.Tree.{Flat, Label, is_pointer}
+use Rattle.nd_value.specs.Tree.{Flat}
 use Rattle.nd_grammar.specs.declared.reason.Reason.{Reason}
 use Rattle.nd_grammar.specs.declared.reason.Reason.TheVariants as reason
 use Rattle.nd_grammar.specs.Entry.{gap}
@@ -29,10 +29,12 @@ use Rattle.ndr_code.specs.declared.lists.EnumList.{EnumList}
 use Rattle.ndr_code.specs.Lines.{enumerators}
 use Rattle.ndr_refs.specs.declared.referents.Known.{Known}
 use Rattle.ndr_refs.specs.Known.{known, first_met}
-use Rattle.ndr_reading.specs.ChildNodes.{flat_number, flat_found}
 use Rattle.ndr_reading.specs.Points.{TagForm}
 use Rattle.ndr_steps.specs.declared.frame.Frame.{Frame}
 use Rattle.ndr_steps.specs.declared.frame.Frame.TheVariants as frame
+use Rattle.ndr_steps.specs.declared.first.First.{First}
+use Rattle.ndr_steps.specs.declared.first.First.TheVariants as first
+use Rattle.ndr_steps.specs.declared.first.Member.{Member}
 
 -- ## The state
 
@@ -44,6 +46,14 @@ pub data Phase : Type 0 where
   offset_read : (o : ℕ) → Phase
   count_read : (c : ℕ) → Phase
 
+-- Where the counts or the tag of a node are in the stream: nowhere; the place of the actual count, which comes right after the offset, where the offset
+-- alone was read, and where both were; the place of a union's tag.
+pub data Place : Type 0 where
+  no_place : Place
+  offset_before : (place : ℕ) → Place
+  counts_at : (place : ℕ) → Place
+  tag_at : (place : ℕ) → Place
+
 -- a pending referent: its type, its whole run, the cell that the pointer names, and the agreements of the pointer
 pub record Owed : Type 0 where
   pub class : Class
@@ -52,29 +62,35 @@ pub record Owed : Type 0 where
   pub cell : Option ℕ
   pub agreements : List Agreement
 
--- a member that was read: its first node, and how many referents were pending before it
-pub record Member : Type 0 where
-  pub node : ℕ
-  pub pending : ℕ
+-- what is kept of a node for the agreements that speak of it, and the place of its actual count or tag, if it has one
+abbrev pub first_of : Flat → Option ℕ → First
+first_of (tree.Num z, k) place = first.Number z
+first_of (tree.Ptr cell, k) place = first.Pointer
+first_of (tree.Arr max offset, k) place = first.Counted max offset k place
+first_of (tree.Text max octets, k) place = first.Counted max 0 (length octets + 1) place
+first_of (tree.Union tag, k) place = first.Tag tag place
+first_of (l, k) place = first.Other
 
 pub record State : Type 0 where
   -- the address of the instruction, which item of it is next, and the place in the stream
   pub pc : ℕ
   pub phase : Phase
   pub at : ℕ
-  -- the maximum count before the home's value, and its place
+  -- the maximum count before the home's value, 0 where none was read, and its place
   pub max : ℕ
-  pub max_at : ℕ
-  -- the tag that was read last, and how it is carried; its entry is not passed yet
+  pub max_at : Option ℕ
+  -- the tag that was read last, and the primitive that carries it; its entry is not passed yet
   pub tag : ℤ
-  pub form : TagForm
+  pub carrier : Primitive
   -- what is around the value that is being read, from the innermost on
   pub top : Frame
   pub stack : List Frame
-  -- the home's nodes so far; for each the place of its offset or tag, if it has one; the members that were read of the structs that are open
+  -- the home's nodes so far, and what is kept of the first
   pub nodes : List Flat
-  pub places : List (Option ℕ)
+  pub own : Option First
+  -- of the structs that are open the members that were read and those that are being read, and what is kept of the first node of each, as it comes
   pub members : List Member
+  pub firsts : List First
   -- the home's pending referents so far
   pub fresh : List Owed
   -- the types of all cells, and the numbers of full pointers
@@ -150,12 +166,13 @@ jumped a s = record {
   max = s.max;
   max_at = s.max_at;
   tag = s.tag;
-  form = s.form;
+  carrier = s.carrier;
   top = s.top;
   stack = s.stack;
   nodes = s.nodes;
-  places = s.places;
+  own = s.own;
   members = s.members;
+  firsts = s.firsts;
   fresh = s.fresh;
   cells = s.cells;
   numbers = s.numbers;
@@ -174,18 +191,28 @@ past n phase s = record {
   max = s.max;
   max_at = s.max_at;
   tag = s.tag;
-  form = s.form;
+  carrier = s.carrier;
   top = s.top;
   stack = s.stack;
   nodes = s.nodes;
-  places = s.places;
+  own = s.own;
   members = s.members;
+  firsts = s.firsts;
   fresh = s.fresh;
   cells = s.cells;
   numbers = s.numbers;
 }
 
--- a node more, and the place of its offset or tag
+-- what is kept of a node that is added: it is the first one of the home, or of a member, or none of these
+abbrev pub own_by : Frame → First → Option First → Option First
+own_by frame.Home x own = Some x
+own_by _ x own = own
+
+abbrev pub firsts_by : Frame → First → List First → List First
+firsts_by (frame.Record back first) x xs = xs ++ x ∷ []
+firsts_by _ x xs = xs
+
+-- a node more, and the place of its actual count or tag
 abbrev pub with_node : Flat → Option ℕ → State → State
 with_node x place s = record {
   pc = s.pc;
@@ -194,12 +221,13 @@ with_node x place s = record {
   max = s.max;
   max_at = s.max_at;
   tag = s.tag;
-  form = s.form;
+  carrier = s.carrier;
   top = s.top;
   stack = s.stack;
   nodes = s.nodes ++ x ∷ [];
-  places = s.places ++ place ∷ [];
+  own = own_by s.top (first_of x place) s.own;
   members = s.members;
+  firsts = firsts_by s.top (first_of x place) s.firsts;
   fresh = s.fresh;
   cells = s.cells;
   numbers = s.numbers;
@@ -213,12 +241,13 @@ with_frames top stack s = record {
   max = s.max;
   max_at = s.max_at;
   tag = s.tag;
-  form = s.form;
+  carrier = s.carrier;
   top = top;
   stack = stack;
   nodes = s.nodes;
-  places = s.places;
+  own = s.own;
   members = s.members;
+  firsts = s.firsts;
   fresh = s.fresh;
   cells = s.cells;
   numbers = s.numbers;
@@ -234,20 +263,21 @@ popped_to (f ∷ fs) s = with_frames f fs s
 abbrev pub popped : State → State
 popped s = popped_to s.stack s
 
-abbrev pub with_members : List Member → State → State
-with_members ms s = record {
+abbrev pub with_members : List Member → List First → State → State
+with_members ms xs s = record {
   pc = s.pc;
   phase = s.phase;
   at = s.at;
   max = s.max;
   max_at = s.max_at;
   tag = s.tag;
-  form = s.form;
+  carrier = s.carrier;
   top = s.top;
   stack = s.stack;
   nodes = s.nodes;
-  places = s.places;
+  own = s.own;
   members = ms;
+  firsts = xs;
   fresh = s.fresh;
   cells = s.cells;
   numbers = s.numbers;
@@ -261,12 +291,13 @@ with_fresh owed s = record {
   max = s.max;
   max_at = s.max_at;
   tag = s.tag;
-  form = s.form;
+  carrier = s.carrier;
   top = s.top;
   stack = s.stack;
   nodes = s.nodes;
-  places = s.places;
+  own = s.own;
   members = s.members;
+  firsts = s.firsts;
   fresh = owed;
   cells = s.cells;
   numbers = s.numbers;
@@ -280,12 +311,13 @@ with_names cells numbers s = record {
   max = s.max;
   max_at = s.max_at;
   tag = s.tag;
-  form = s.form;
+  carrier = s.carrier;
   top = s.top;
   stack = s.stack;
   nodes = s.nodes;
-  places = s.places;
+  own = s.own;
   members = s.members;
+  firsts = s.firsts;
   fresh = s.fresh;
   cells = cells;
   numbers = numbers;
@@ -297,33 +329,35 @@ with_max m s = record {
   phase = s.phase;
   at = s.at;
   max = m;
-  max_at = s.at;
+  max_at = Some s.at;
   tag = s.tag;
-  form = s.form;
+  carrier = s.carrier;
   top = s.top;
   stack = s.stack;
   nodes = s.nodes;
-  places = s.places;
+  own = s.own;
   members = s.members;
+  firsts = s.firsts;
   fresh = s.fresh;
   cells = s.cells;
   numbers = s.numbers;
 }
 
-abbrev pub with_tag : ℤ → TagForm → State → State
-with_tag z form s = record {
+abbrev pub with_tag : ℤ → Primitive → State → State
+with_tag z p s = record {
   pc = s.pc;
   phase = s.phase;
   at = s.at;
   max = s.max;
   max_at = s.max_at;
   tag = z;
-  form = form;
+  carrier = p;
   top = s.top;
   stack = s.stack;
   nodes = s.nodes;
-  places = s.places;
+  own = s.own;
   members = s.members;
+  firsts = s.firsts;
   fresh = s.fresh;
   cells = s.cells;
   numbers = s.numbers;
@@ -342,13 +376,13 @@ elements (suc n) run s = jumped run (pushed (frame.Elements n run (s.pc + 1)) s)
 
 -- the arm of a run, of which address 0 is the empty one; after an arm comes address 1, a `ret`
 abbrev pub arm_taken : Bool → ℕ → State → State
-arm_taken true run s = jumped 0 (with_node (tree.Union s.tag, 0) (Some s.at) (past (width s.form.prim) begun s))
-arm_taken false run s = jumped run (pushed (frame.Elements 0 run 1) (with_node (tree.Union s.tag, 1) (Some s.at) (past (width s.form.prim) begun s)))
+arm_taken true run s = jumped 0 (with_node (tree.Union s.tag, 0) (Some s.at) (past (width s.carrier) begun s))
+arm_taken false run s = jumped run (pushed (frame.Elements 0 run 1) (with_node (tree.Union s.tag, 1) (Some s.at) (past (width s.carrier) begun s)))
 
 -- in a struct a call is of the next member, and comes back; else what is called ends as its caller does
 abbrev pub call_from : Frame → ℕ → State → State
 call_from (frame.Record back first) run s =
-    jumped run (with_frames (frame.Record (s.pc + 1) first) s.stack (with_members (s.members ++ record { node = length s.nodes; pending = length s.fresh } ∷ []) s))
+    jumped run (with_frames (frame.Record (s.pc + 1) first) s.stack (with_members (s.members ++ record { node = length s.nodes; pending = length s.fresh } ∷ []) s.firsts s))
 call_from _ run s = jumped run s
 
 abbrev pub back_to : Frame → State → Outcome
@@ -359,7 +393,7 @@ back_to (frame.Elements (suc left) run back) s = goes (jumped run (with_frames (
 
 -- a struct ends: its members are forgotten
 abbrev pub close_of : Frame → State → State
-close_of (frame.Record back first) s = next (popped (with_members (take first s.members) s))
+close_of (frame.Record back first) s = next (popped (with_members (take first s.members) (take first s.firsts) s))
 close_of _ s = next (popped s)
 
 -- ## Pointers
@@ -387,14 +421,16 @@ pointer_step Full to run v s = if eqb v 0 then goes (done_after 4 (owing Full to
 
 -- ## Agreements
 
--- where the count or tag is that an attribute of a node speaks of
-abbrev pub place_of : Attr → ℕ → ℕ → ℕ
+-- the place of the count or tag that an attribute of a node speaks of, if there is one: the maximum count is that of the home
+abbrev pub place_of : Attr → Option ℕ → Place → Option ℕ
 place_of attr.Size max_at place = max_at
 place_of attr.Max max_at place = max_at
-place_of attr.First max_at place = place
-place_of attr.Length max_at place = place + 4
-place_of attr.Last max_at place = place + 4
-place_of attr.Switch max_at place = place
+place_of attr.First max_at (offset_before n) = Some (n - 4)
+place_of attr.First max_at (counts_at n) = Some (n - 4)
+place_of attr.Length max_at (counts_at n) = Some n
+place_of attr.Last max_at (counts_at n) = Some n
+place_of attr.Switch max_at (tag_at n) = Some n
+place_of _ max_at place = None
 
 -- agreements join a pending referent
 abbrev pub joined_by : List Agreement → List Owed → ℕ → List Owed
@@ -402,41 +438,70 @@ joined_by ws [] n = []
 joined_by ws (o ∷ os) zero = record { class = o.class; to = o.to; run = o.run; cell = o.cell; agreements = o.agreements ++ ws } ∷ os
 joined_by ws (o ∷ os) (suc n) = o ∷ joined_by ws os n
 
-abbrev pub node_at : List Flat → Option Member → Option Flat
-node_at nodes None = None
-node_at nodes (Some m) = slice_get nodes m.node
+-- what an attribute finds in the first node of a member, and the number that this is
+abbrev pub first_number : Option First → Option ℤ
+first_number (Some (first.Number z)) = Some z
+first_number _ = None
 
-abbrev pub number_at : Option Flat → Option ℤ
-number_at None = None
-number_at (Some x) = flat_number x
+abbrev pub max_in : First → ℕ
+max_in (first.Counted max offset actual place) = max
+max_in _ = 0
 
-abbrev pub or_zero : Option (Option ℕ) → ℕ
-or_zero (Some (Some n)) = n
-or_zero _ = 0
+abbrev pub offset_in : First → ℕ
+offset_in (first.Counted max offset actual place) = offset
+offset_in _ = 0
 
-abbrev pub try_all : List Agreement → Flat → ℕ → ℕ → State → Outcome
-try_all [] x place max_at s = goes (next s)
-try_all (w ∷ ws) x place max_at s =
-    if int_eq w.wanted (flat_found w.attr x) then try_all ws x place max_at s
-    else refused (place_of w.attr max_at place) (reason.Disagrees w.wanted (flat_found w.attr x))
+abbrev pub actual_in : First → ℕ
+actual_in (first.Counted max offset actual place) = actual
+actual_in _ = 0
 
--- the agreements of a member, by its first node: those of a pointer join its pending referent, those of any other are tried
-abbrev pub checked : List Agreement → Option Member → Option Flat → State → Outcome
-checked ws (Some m) (Some x) s =
-    if is_pointer x.0 then goes (next (with_fresh (joined_by ws s.fresh m.pending) s)) else try_all ws x (or_zero (slice_get s.places m.node)) s.max_at s
+abbrev pub tag_in : First → ℤ
+tag_in (first.Tag tag place) = tag
+tag_in _ = pos 0
+
+abbrev pub first_found : Attr → First → ℤ
+first_found attr.Size x = pos (max_in x)
+first_found attr.Max x = pos (max_in x)
+first_found attr.First x = pos (offset_in x)
+first_found attr.Length x = pos (actual_in x)
+first_found attr.Last x = pos (offset_in x + actual_in x) -ℤ pos 1
+first_found attr.Switch x = tag_in x
+
+abbrev pub place_in : First → Place
+place_in (first.Counted max offset actual (Some place)) = counts_at place
+place_in (first.Tag tag (Some place)) = tag_at place
+place_in _ = no_place
+
+abbrev pub is_owing : First → Bool
+is_owing first.Pointer = true
+is_owing _ = false
+
+-- an agreement that does not hold is refused at that place; what comes later, where there is none
+abbrev pub disagreed : Option ℕ → ℤ → ℤ → Outcome → Outcome
+disagreed None wanted found later = later
+disagreed (Some place) wanted found later = refused place (reason.Disagrees wanted found)
+
+abbrev pub try_all : List Agreement → First → State → Outcome
+try_all [] x s = goes (next s)
+try_all (w ∷ ws) x s =
+    let later : Outcome = try_all ws x s in
+    if int_eq w.wanted (first_found w.attr x) then later else disagreed (place_of w.attr s.max_at (place_in x)) w.wanted (first_found w.attr x) later
+
+-- the agreements of a member: those of a pointer join its pending referent, those of any other are tried in its first node
+abbrev pub checked : List Agreement → Option Member → Option First → State → Outcome
+checked ws (Some m) (Some x) s = if is_owing x then goes (next (with_fresh (joined_by ws s.fresh m.pending) s)) else try_all ws x s
 checked ws _ _ s = goes (next s)
 
 abbrev pub check_in : Frame → Attr → ℕ → ℕ → State → Outcome
 check_in (frame.Record back first) a f v s =
-    let of : ℕ → Option Member = λ i. slice_get s.members (first + i) in
-    checked (agreement a (number_at (node_at s.nodes (of v)))) (of f) (node_at s.nodes (of f)) s
+    checked (agreement a (first_number (slice_get s.firsts (first + v)))) (slice_get s.members (first + f)) (slice_get s.firsts (first + f)) s
 check_in _ a f v s = goes (next s)
 
 -- ## The steps
 
 -- a text's octets with its terminator
 abbrev pub text_done : Option (ℕ × Reason) → ℕ → List ℕ → State → Outcome
-text_done None limit os s = goes (done_after (length os) (with_node (tree.Text limit (take (length os - 1) os), 0) (Some (s.at - 8)) s))
+text_done None limit os s = goes (done_after (length os) (with_node (tree.Text limit (take (length os - 1) os), 0) (Some (s.at - 4)) s))
 text_done (Some r) limit os s = refused r.0 r.1
 
 -- a bound of 0 means the maximum count
@@ -453,7 +518,7 @@ module _ (values : List EnumList) (order : Order) (os : List ℕ) where
   abbrev pub vary_by : Phase → ℕ → ℕ → State → Outcome
   vary_by (offset_read o) limit run s =
       let c : ℕ = unsigned order os in
-      if ltb limit (o + c) then refused s.at reason.PastBound else goes (elements c run (with_node (tree.Arr limit o, c) (Some (s.at - 4)) (past 4 begun s)))
+      if ltb limit (o + c) then refused s.at reason.PastBound else goes (elements c run (with_node (tree.Arr limit o, c) (Some s.at) (past 4 begun s)))
   vary_by _ limit run s = goes (past 4 (offset_read (unsigned order os)) s)
 
   abbrev pub text_by : Phase → ℕ → State → Outcome
@@ -470,7 +535,7 @@ module _ (values : List EnumList) (order : Order) (os : List ℕ) where
   abbrev pub tag_step : TagForm → State → Outcome
   tag_step form s =
       let z : ℤ = value_of_octets order form.prim os in
-      if is_enumerator form.values z then goes (next (with_tag z form s)) else refused s.at reason.EnumValue
+      if is_enumerator form.values z then goes (next (with_tag z form.prim s)) else refused s.at reason.EnumValue
 
   -- what an instruction of a home's value does; those of roots, pipes and parameters are not among them
   abbrev pub step : Instr → State → Outcome

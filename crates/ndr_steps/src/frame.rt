@@ -7,8 +7,8 @@ pub enum Frame {
     /// Nothing: the value is that of a root or a cell.
     Home,
     /// A struct: its next instruction is at `back`. Its members' first nodes are listed from `first` on.
-    Record { back: u32, first: u32 },
+    Record { back: usize, first: usize },
     /// An array, the arm of a union or the elements of a chunk: so many more elements are left after the one that is being read, each by the run; then the
     /// instruction at `back`.
-    Elements { left: u32, run: u32, back: u32 },
+    Elements { left: u32, run: u32, back: usize },
 }

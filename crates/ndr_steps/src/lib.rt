@@ -3,6 +3,8 @@
 //! UNFINISHED: the definitions are here; the laws that each step keeps what a state means are not written yet.
 #![tactic(auto)]
 
+mod first;
 mod frame;
 
+pub use first::{First, Member};
 pub use frame::Frame;

@@ -1,0 +1,13 @@
+use Rattle.std.proofs.Common.{◌≡◌, ◌≤◌, ◌+◌, length}
+use Rattle.std.specs.Io.KnownBytes.{Consumes}
+use Rattle.ndr_intake.proofs.intake.fetch.Given as goal
+
+abbrev pub invariant-loop-lacking : goal.invariant-loop-lacking
+invariant-loop-lacking g l =
+    (length l.held.items + l.lacking ≡ l.count)
+    × (Consumes (g.S.Source.left l.initial.source) (g.S.Source.left l.source) l.held.items
+    × ((g.S.Source.faults l.initial.source ≤ g.S.Source.faults l.source)
+    × (length l.piece ≡ length l.initial.piece)))
+
+abbrev pub decreases-loop-lacking : goal.decreases-loop-lacking
+decreases-loop-lacking g l = l.lacking

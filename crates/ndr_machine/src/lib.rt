@@ -1,0 +1,28 @@
+//! The machine of the decoder: it follows the code of a plan over the octets of a source, with an explicit stack, and builds the value of one home at a
+//! time.
+#![tactic(auto)]
+
+mod arrays;
+mod checks;
+mod enumerators;
+mod fault;
+mod flow;
+mod machine;
+mod nodes;
+mod noting;
+mod numbers;
+mod octets;
+mod pointers;
+mod rows;
+mod running;
+mod starting;
+mod steps;
+#[cfg(test)]
+mod tests;
+mod texts;
+mod unions;
+
+pub use fault::{DecodeFault, Turn};
+pub use machine::{Machine, Owed, Phase, Wanted};
+pub use running::run;
+pub use steps::Want;
