@@ -1,22 +1,22 @@
 // Decoding of a side of an operation.
-ghost use Rattle.std.specs.Prelude.{◌≡◌, ℕ, ◌+◌, ◌≤◌, ◌<◌, Some, length, option_map, IfOk, IfErr, IfSome, IsErrOf};
+ghost use Rattle.std.specs.Prelude.{◌≡◌, ℕ, ◌+◌, ◌≤◌, ◌<◌, Some, length, option_map, IfOk, IfErr, IsErrOf};
 ghost use Rattle.std.specs.List.{slice_get};
 ghost use Rattle.nd_base.specs.Over.{source_seen, HasRisen, count};
 ghost use Rattle.nd_types.specs.declared.types.Operation.{Operation};
-ghost use Rattle.nd_types.specs.declared.types.Side.TheVariants.{In, Out};
 ghost use Rattle.nd_value.specs.Fitting.{setting_beside};
-ghost use Rattle.nd_value.specs.Setting.{root_list};
-ghost use Rattle.ndr_decode.specs.Decoding.{IsDecoded, IsFault, IsRequest, decoding_seen};
-ghost use Rattle.ndr_decode.specs.declared.decoding.DecodeFault.TheVariants.{ReadFault};
+ghost use Rattle.nd_value.specs.Request.{IsRequestOf};
+ghost use Rattle.ndr_machine.specs.declared.fault.DecodeFault.TheVariants.{ReadFault};
+ghost use Rattle.ndr_verdict.specs.Verdict.{IsDecoded, decoding_seen};
+ghost use Rattle.ndr_decode.specs.Decoding.{IsFault};
 
-use nd_base::{Ledger, Memory, Order, Source, Steps};
-use nd_flat::Fit;
-use nd_grammar::Reason;
+use crate::stream::Stream;
+use nd_base::{Ledger, Order, Source, Steps};
+use nd_flat::{Builder, Fit};
 use nd_types::Side;
 use nd_value::ItemLog;
 use ndr_code::Plan;
+use ndr_machine::DecodeFault;
 use std::alloc::Global;
-use thiserror::Error;
 
 /// What a stream was decoded to.
 #[derive(Drop)]
@@ -25,31 +25,6 @@ pub struct Decoded {
     pub fit: Fit,
     /// How many octets of the source the values took, with the gaps between them.
     pub taken: u32,
-}
-
-/// Why a stream was not decoded.
-#[derive(Clone, Copy, Debug, PartialEq, Eq, Error)]
-pub enum DecodeFault {
-    /// An allocation failed.
-    #[error("out of memory")]
-    Memory,
-    /// The source failed.
-    #[error("read failed")]
-    ReadFault,
-    /// No stream of the operation's values begins the octets. `place` is counted from 0 at the beginning of the stream.
-    #[error("refused at {place}")]
-    Bad { place: u32, reason: Reason },
-}
-
-impl From<Memory> for DecodeFault {
-    ghost use Rattle.std.specs.Prelude.{◌≡◌};
-    ghost use Rattle.ndr_decode.specs.declared.decoding.DecodeFault.TheVariants as fault;
-
-    ghost from_gives = { λ _ e. e ≡ fault.Memory };
-
-    fn from(_: Memory) -> DecodeFault {
-        DecodeFault::Memory
-    }
 }
 
 /// Decodes the values of a side of an operation from the octets that a source has left, which begin at the beginning of the stream (C706,
@@ -62,7 +37,7 @@ impl From<Memory> for DecodeFault {
 /// up to the numbers of cells, and no shorter part of them represents one. The source has the octets after them left.
 ///
 /// At `Bad` the octets are refused at the first faulty place, for the one reason that applies there; no octets that begin with those fetched
-/// represent a conforming graph, but at `Truncated`, where the source has ended. The octets fetched end with the item that is refused; at `TooLong`
+/// represent a conforming graph, except at `Truncated`, where the source has ended. The octets fetched end with the item that is refused; at `TooLong`
 /// where that item would begin, at a failed agreement with the last item before it. `ReadFault` is answered only if the source's count of faults
 /// rose, or is at the greatest value of a `u64`.
 ///
@@ -83,8 +58,7 @@ pub fn decode<S: Source, L: Ledger>(
     steps: &mut Steps<L>,
 ) -> Result<Decoded, DecodeFault>
     requires known { op < length plan.now.tie.operations }
-    requires request { IfSome given (λ f. IsRequest plan.now.tie op f.now) }
-    requires response { IfSome given (λ f. side ≡ Out) }
+    requires request { IsRequestOf plan.now.tie op side (option_map (λ f. f.now) given) }
     ensures decoded { IfOk result (λ d. (o : Operation) → slice_get plan.now.tie.operations op ≡ Some o
         → IsDecoded (setting_beside plan.now.tie o side (option_map (λ f. f.now.graph) given.entry)) order
         (source_seen S.Source.left S.Source.ended S.Source.faults source.old source.new) d.taken d.fit.graph
@@ -98,6 +72,21 @@ pub fn decode<S: Source, L: Ledger>(
     ensures read_fault { IsErrOf result ReadFault → HasRisen (count S.Source.faults source.old source.new) }
     ensures later { S.Source.faults source.old ≤ S.Source.faults source.new }
 {
-    // UNFINISHED: no octet is read yet, and the clauses are not met: the check does not pass this body.
-    Err(DecodeFault::Memory)
+    let builder = Builder::begin(alloc, plan.tie.again(), op, side, given);
+    let mut stream = Stream::new(alloc, order, builder)?;
+    let mut line = first_line(plan, op, side);
+    let lines = plan.entries.as_slice();
+    let checks = stream.read_roots(plan, lines, &mut line, source, items, steps)?;
+    stream.check_parameters(plan.code.as_slice(), checks as usize, given)?;
+    stream.read_pipes(plan, lines, line, op, side, source, items, steps)?;
+    Ok(stream.finish())
+}
+
+// The number of the first line of a side.
+fn first_line(plan: &Plan, op: u32, side: Side) -> usize {
+    let of = match side {
+        Side::In => 0,
+        Side::Out => 1,
+    };
+    plan.sides.as_slice()[op as usize * 2 + of] as usize
 }

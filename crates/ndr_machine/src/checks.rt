@@ -51,22 +51,9 @@ impl Machine {
         ensures does { Does (try_all (wanted_of wanted ∷ []) of (state_of self.old)) result (state_of self.new) }
         ensures home { self.new.home ≡ self.old.home }
     {
-        let found = found_in(wanted.attr, of);
-        if wanted.wanted == found {
-            self.skip();
-            return Ok(());
-        }
-        let Some(place) = place_of(wanted.attr, self.max_at, of) else {
-            self.skip();
-            return Ok(());
-        };
-        Err(DecodeFault::Bad {
-            place,
-            reason: Reason::Disagrees {
-                wanted: wanted.wanted,
-                found,
-            },
-        })
+        try_in(wanted, of, self.max_at)?;
+        self.skip();
+        Ok(())
     }
 
     // Joins an agreement of a pointer to its pending referent.
@@ -114,8 +101,28 @@ impl Machine {
     }
 }
 
-// The number that an attribute states, by the value of its variable: max_is states the greatest index.
-fn wanted_of(attr: Attr, value: i128) -> i128
+/// Tries an agreement in a node of which this is kept, in a home whose maximum count is at `max_at`, if it has one. One that finds nothing to speak of is
+/// passed over. Takes no memory.
+pub fn try_in(wanted: Wanted, of: First, max_at: Option<u32>) -> Result<(), DecodeFault>
+{
+    let found = found_in(wanted.attr, of);
+    if wanted.wanted == found {
+        return Ok(());
+    }
+    let Some(place) = place_of(wanted.attr, max_at, of) else {
+        return Ok(());
+    };
+    Err(DecodeFault::Bad {
+        place,
+        reason: Reason::Disagrees {
+            wanted: wanted.wanted,
+            found,
+        },
+    })
+}
+
+/// The number that an attribute states, by the value of its variable: max_is states the greatest index. Takes no memory.
+pub fn wanted_of(attr: Attr, value: i128) -> i128
     requires { IsKeepableNumber value }
     ensures { result ≡ wanted_by attr value }
 {

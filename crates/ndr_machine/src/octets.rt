@@ -9,8 +9,8 @@ use nd_base::Order;
 use nd_types::Prim;
 use uuid::Uuid;
 
-// The unsigned number in four octets.
-pub(crate) fn read_count(order: Order, from: &[u8]) -> u32
+/// The unsigned number in four octets. Takes no memory.
+pub fn read_count(order: Order, from: &[u8]) -> u32
     requires { length from.now ≡ 4 }
     ensures { result ≡ unsigned order from.now }
 {
@@ -36,8 +36,8 @@ pub(crate) fn identifier(order: Order, from: &[u8]) -> Uuid
     }
 }
 
-// The octets of a gap to a multiple of so many octets.
-pub(crate) fn gap_before(at: u32, to: u8) -> u32
+/// The octets of a gap to a multiple of so many octets. Takes no memory.
+pub fn gap_before(at: u32, to: u8) -> u32
     requires some { 0 < to }
     ensures is { result ≡ gap at to }
     ensures few { result < to }
