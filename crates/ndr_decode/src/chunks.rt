@@ -25,14 +25,30 @@ impl Stream {
         let mut number = self.roots.len() as u32;
         for next in line..lines.len() {
             match &lines[next] {
-                PlanLine::Entry { op: of, side: on, name: _, at } => {
+                PlanLine::Entry {
+                    op: of,
+                    side: on,
+                    name: _,
+                    at,
+                } => {
                     if *of != op || *on != side {
                         return Ok(());
                     }
-                    self.read_pipe(plan, number, element_run(plan.code.as_slice(), *at as usize), source, items, steps)?;
+                    self.read_pipe(
+                        plan,
+                        number,
+                        element_run(plan.code.as_slice(), *at as usize),
+                        source,
+                        items,
+                        steps,
+                    )?;
                     number += 1;
                 }
-                PlanLine::Checks { op: _, side: _, at: _ } => return Ok(()),
+                PlanLine::Checks {
+                    op: _,
+                    side: _,
+                    at: _,
+                } => return Ok(()),
             }
         }
         Ok(())
@@ -104,7 +120,14 @@ impl Stream {
     }
 
     // Notes an item of a pipe as a whole, and passes it; an empty gap is no item.
-    fn note_chunk<L: Ledger>(&mut self, kind: ItemKind, len: u32, value: i128, items: &mut ItemLog, steps: &mut Steps<L>) -> Result<(), DecodeFault> {
+    fn note_chunk<L: Ledger>(
+        &mut self,
+        kind: ItemKind,
+        len: u32,
+        value: i128,
+        items: &mut ItemLog,
+        steps: &mut Steps<L>,
+    ) -> Result<(), DecodeFault> {
         if len == 0 {
             return Ok(());
         }

@@ -10,11 +10,26 @@ use ndr_steps::First;
 
 impl Stream {
     /// Tries the agreements of the parameters, by the run at an address.
-    pub(crate) fn check_parameters(&mut self, code: &[Instr], at: usize, given: Option<&Fit>) -> Result<(), DecodeFault> {
+    pub(crate) fn check_parameters(
+        &mut self,
+        code: &[Instr],
+        at: usize,
+        given: Option<&Fit>,
+    ) -> Result<(), DecodeFault> {
         for pc in at..code.len() {
             match code[pc] {
-                Instr::Check { attr, field, var, star } => self.check_root(attr, field, self.number_of(var, star))?,
-                Instr::Given { attr, field, var, star } => self.check_root(attr, field, given_number(given, var, star))?,
+                Instr::Check {
+                    attr,
+                    field,
+                    var,
+                    star,
+                } => self.check_root(attr, field, self.number_of(var, star))?,
+                Instr::Given {
+                    attr,
+                    field,
+                    var,
+                    star,
+                } => self.check_root(attr, field, given_number(given, var, star))?,
                 _ => return Ok(()),
             }
         }
@@ -63,10 +78,12 @@ impl Stream {
 
 fn number_in(kept: Option<Kept>) -> Option<i128> {
     match kept {
-        Some(Kept {
-            first: First::Number(number),
-            max_at: _,
-        }) => Some(number),
+        Some(
+            Kept {
+                first: First::Number(number),
+                max_at: _,
+            },
+        ) => Some(number),
         _ => None,
     }
 }

@@ -46,7 +46,11 @@ const POINTER: Kept = Kept {
 
 impl Stream {
     /// A stream of which nothing was read. It takes memory for the octets of one piece.
-    pub(crate) fn new(alloc: Global, order: Order, builder: Builder) -> Result<Stream, DecodeFault> {
+    pub(crate) fn new(
+        alloc: Global,
+        order: Order,
+        builder: Builder,
+    ) -> Result<Stream, DecodeFault> {
         Ok(Stream {
             order,
             machine: Machine::new(alloc, builder),
@@ -74,7 +78,12 @@ impl Stream {
                     *line = number + 1;
                     return Ok(*at);
                 }
-                PlanLine::Entry { op: _, side: _, name: _, at } => {
+                PlanLine::Entry {
+                    op: _,
+                    side: _,
+                    name: _,
+                    at,
+                } => {
                     self.read_root(plan, *at, source, items, steps)?;
                     self.defer(plan, source, items, steps)?;
                 }
