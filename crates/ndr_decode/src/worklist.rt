@@ -1,4 +1,15 @@
 // Pending referents.
+//
+// UNFINISHED: the contract of `defer` is not checked yet.
+ghost use Rattle.std.specs.Prelude.{◌≡◌, ◌≤◌, ℕ, List};
+ghost use Rattle.nd_base.specs.Over.{source_seen};
+ghost use Rattle.nd_value.specs.Deferral.{Pending};
+ghost use Rattle.nd_value.specs.Setting.{Setting};
+ghost use Rattle.nd_grammar.specs.Entry.{EntryAt};
+ghost use Rattle.nd_grammar.specs.LegalSide.{IsLegalSide};
+ghost use Rattle.nd_grammar.specs.StreamReader.{Reading};
+ghost use Rattle.ndr_verdict.specs.Verdict.{decoding_seen};
+ghost use Rattle.ndr_decode.specs.Streaming.{Stands, Reads};
 
 use crate::stream::Stream;
 use nd_base::{Ledger, Source, Steps};
@@ -15,7 +26,14 @@ impl Stream {
         source: &mut S,
         items: &mut ItemLog,
         steps: &mut Steps<L>,
-    ) -> Result<(), DecodeFault> {
+    ) -> Result<(), DecodeFault>
+        ensures reads { (w : Setting) (fetched : List ℕ) (s : Reading) (seen : List EntryAt) (ps : List Pending) (n : ℕ) → IsLegalSide w → w.table ≡ plan.now.tie.types
+            → Stands w self.old.order fetched self.old s seen ps n
+            → Reads w self.old.order fetched seen n (source_seen S.Source.left S.Source.ended S.Source.faults source.old source.new)
+            (decoding_seen items.old items.new (L.number steps.old) (L.number steps.new)) self.new result }
+        ensures order { self.new.order ≡ self.old.order }
+        ensures later { S.Source.faults source.old ≤ S.Source.faults source.new }
+    {
         for _turn in 0..u64::MAX {
             let Some(owed) = self.todo.pop() else {
                 return Ok(());
