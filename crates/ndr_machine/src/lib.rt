@@ -22,7 +22,9 @@ mod tests;
 mod texts;
 mod unions;
 
+pub use checks::{try_in, wanted_of};
 pub use fault::{DecodeFault, Turn};
 pub use machine::{Machine, Owed, Phase, Wanted};
-pub use running::run;
+pub use octets::{gap_before, read_count};
+pub use running::{fetched, run};
 pub use steps::Want;

@@ -7,7 +7,7 @@ ghost use Rattle.ndr_steps.specs.Steps.{number_step};
 ghost use Rattle.ndr_machine.specs.Seen.{state_of, Does};
 
 use crate::enumerators::is_enumerator;
-use crate::octets::{identifier, read_count};
+use crate::octets::{identifier, read_count, read_value};
 use crate::{DecodeFault, Machine};
 use nd_base::{Ledger, Order, Steps};
 use nd_flat::Seen;
@@ -15,7 +15,6 @@ use nd_grammar::Reason;
 use nd_types::{Prim, TypeId};
 use nd_value::{ItemKind, ItemLog};
 use ndr_code::EnumLists;
-use ndr_prim::read_num;
 
 impl Machine {
     // `num`
@@ -27,7 +26,7 @@ impl Machine {
         ensures does { Does (number_step order octets.now prim None (state_of self.old)) result (state_of self.new) }
         ensures home { self.new.home ≡ self.old.home }
     {
-        let value = read_num(order, prim, octets);
+        let value = read_value(order, prim, octets);
         self.leaf(octets.len() as u32, value, items, steps)
     }
 
@@ -48,7 +47,7 @@ impl Machine {
         ensures does { Does (number_step order octets.now Short (enumerators values.now of.0) (state_of self.old)) result (state_of self.new) }
         ensures home { self.new.home ≡ self.old.home }
     {
-        let value = read_num(order, Prim::Short, octets);
+        let value = read_value(order, Prim::Short, octets);
         if !is_enumerator(values, of, value) {
             return Err(DecodeFault::Bad {
                 place: self.at,

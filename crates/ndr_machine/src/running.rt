@@ -90,8 +90,8 @@ impl Machine {
     }
 }
 
-// What a fault of the intake says of a stream.
-fn fetched(answer: Result<(), IntakeFault>) -> Result<(), DecodeFault>
+/// What a fault of the intake says of a stream. Takes no memory.
+pub fn fetched(answer: Result<(), IntakeFault>) -> Result<(), DecodeFault>
 {
     match answer {
         Ok(()) => Ok(()),

@@ -6,6 +6,7 @@ ghost use Rattle.ndr_steps.specs.Steps.{goes, arm_taken, tag_step, form_by};
 ghost use Rattle.ndr_machine.specs.Seen.{state_of, Does};
 
 use crate::enumerators::{carrier_of, is_enumerator};
+use crate::octets::read_value;
 use crate::{DecodeFault, Machine};
 use nd_base::{Ledger, Order, Steps};
 use nd_flat::Seen;
@@ -13,7 +14,7 @@ use nd_grammar::Reason;
 use nd_types::TypeId;
 use nd_value::{ItemKind, ItemLog};
 use ndr_code::EnumLists;
-use ndr_prim::{read_num, width_of};
+use ndr_prim::width_of;
 use ndr_steps::Frame;
 
 impl Machine {
@@ -25,7 +26,7 @@ impl Machine {
         ensures home { self.new.home ≡ self.old.home }
     {
         let carrier = carrier_of(values, of);
-        let value = read_num(order, carrier, octets);
+        let value = read_value(order, carrier, octets);
         if !is_enumerator(values, of, value) {
             return Err(DecodeFault::Bad {
                 place: self.at,
@@ -42,7 +43,6 @@ impl Machine {
     pub(crate) fn arm<L: Ledger>(&mut self, run: u32, items: &mut ItemLog, steps: &mut Steps<L>) -> Result<(), DecodeFault>
         requires fits { self.old.at + 8 < 2 ^ 32 }
         requires few { self.old.count + 1 < 2 ^ 32 }
-        requires keepable { IsKeepableNumber self.old.tag }
         ensures does { Does (goes (arm_taken (eqb run 0) run (state_of self.old))) result (state_of self.new) }
         ensures home { self.new.home ≡ self.old.home }
     {
@@ -74,5 +74,4 @@ impl Machine {
     }
 }
 
-ghost use Rattle.nd_flat.specs.FlatForm.{IsKeepableNumber};
 ghost use Rattle.ndr_machine.specs.Parts.{arm_entered};
