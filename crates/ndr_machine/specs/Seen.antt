@@ -1,6 +1,6 @@
 -- What contracts see of a machine, and what a step comes to.
 -- `m` is a machine, `s` its state, `o` what a step comes to, `w` what octets it wants.
-use Rattle.std.specs.Prelude.{◌≡◌, ◌<◌, ℕ, ◌+◌, ◌*◌, ◌-◌, ◌^◌, min, ℤ, pos, Bool, if◌then◌else◌, ◌==◌, List, length, take, drop, map, reverse, Option, Some, None, Result, Ok, Err, option_map}
+use Rattle.std.specs.Prelude.{◌≡◌, ◌<◌, ℕ, ◌+◌, ◌*◌, ◌-◌, ◌^◌, min, ℤ, pos, Bool, if◌then◌else◌, ◌==◌, List, ◌++◌, length, take, drop, map, reverse, Option, Some, None, Result, Ok, Err, option_map}
 use Rattle.nd_grammar.specs.declared.reason.Reason.{Reason}
 use Rattle.nd_value.specs.Agreement.{Agreement}
 use Rattle.nd_value.specs.Logged.{Logged, noted}
@@ -42,6 +42,10 @@ owed_of ws o = record {
   cell = cell_number o.cell;
   agreements = map agreement_of (take o.len (drop o.from ws));
 }
+
+-- agreements are kept after those that were
+abbrev pub HasGrown : List Wanted → List Wanted → Type 0
+HasGrown old new = (more : List Wanted) × (new ≡ old ++ more)
 
 abbrev pub state_of : Machine → State
 state_of m = record {

@@ -1,9 +1,10 @@
 // Agreements of the members of a struct.
-ghost use Rattle.std.specs.Prelude.{◌≡◌, ◌<◌, ◌+◌, ◌-◌, ◌^◌, ◌∷◌, [], slice_get, option_map, IfSome};
+ghost use Rattle.std.specs.Prelude.{◌≡◌, ◌<◌, ◌≤◌, ◌+◌, ◌-◌, ◌^◌, ◌∷◌, [], length, slice_get, option_map, IfSome, IfOk, IfErr, OnOk};
 ghost use Rattle.nd_value.specs.Agreement.{wanted_by};
 ghost use Rattle.nd_flat.specs.FlatForm.{IsKeepableNumber};
 ghost use Rattle.ndr_steps.specs.Steps.{goes, check_in, checked, first_found, first_number, with_fresh, joined_by, is_owing, max_in, offset_in, actual_in, tag_in, place_of, place_in};
-ghost use Rattle.ndr_machine.specs.Seen.{state_of, Does, agreement_of};
+ghost use Rattle.ndr_machine.specs.Seen.{state_of, Does, agreement_of, owed_of, HasGrown};
+ghost use Rattle.ndr_machine.specs.declared.fault.DecodeFault.TheVariants as fault;
 ghost use Rattle.ndr_machine.specs.Parts.{IsTried, disagreement, member_checked, count_place, tag_place};
 
 use crate::{DecodeFault, Machine, Owed, Wanted};
@@ -141,6 +142,15 @@ impl Machine {
 
     // A pending referent with its agreements at the end of those that are kept.
     fn gather(&mut self, owed: Owed) -> Result<Owed, DecodeFault>
+        requires within { owed.from + owed.len ≤ length self.old.wanted.items }
+        ensures last { IfOk result (λ o. o.from + o.len ≡ length self.new.wanted.items) }
+        ensures same { IfOk result (λ o. owed_of self.new.wanted.items o ≡ owed_of self.old.wanted.items owed) }
+        ensures state { OnOk result (state_of self.new ≡ state_of self.old) }
+        ensures fresh { OnOk result (self.new.fresh.items ≡ self.old.fresh.items) }
+        ensures grown { OnOk result (HasGrown self.old.wanted.items self.new.wanted.items) }
+        ensures pc { self.new.pc ≡ self.old.pc }
+        ensures home { self.new.home ≡ self.old.home }
+        ensures memory { IfErr result (λ e. e ≡ fault.Memory) }
     {
         if owed.from + owed.len == self.wanted.len() {
             return Ok(owed);

@@ -1,5 +1,5 @@
 // The state of a decoder.
-ghost use Rattle.std.specs.Prelude.{◌≡◌, length};
+ghost use Rattle.std.specs.Prelude.{◌≡◌, ◌≤◌, ◌+◌, length};
 ghost use Rattle.std.specs.List.{AllByRecursion};
 ghost use Rattle.nd_flat.specs.FlatForm.{IsKeepableNumber};
 ghost use Rattle.ndr_machine.specs.Small.{IsSmall};
@@ -73,6 +73,7 @@ pub struct Machine {
     /// The referents that are pending since the home's beginning, and the agreements of all pointers.
     pub fresh: Vec<Owed>,
     pub wanted: Vec<Wanted>,
+    pub ghost spans: { AllByRecursion (λ o. o.from + o.len ≤ length wanted.items) fresh.items },
     /// The graph so far, and the numbers of full pointers.
     pub builder: Builder,
     /// How many cells have their numbers.

@@ -112,7 +112,10 @@ fn first_zero(octets: &[u8]) -> usize
     ensures is { result ≡ first_zero octets.now }
 {
     for at in 0..octets.len() {
-        if octets[at] == 0 {
+        let Some(octet) = octets.get(at) else {
+            unreachable!()
+        };
+        if *octet == 0 {
             return at;
         }
     }
