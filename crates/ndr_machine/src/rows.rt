@@ -1,5 +1,5 @@
 // Runs of numbers of one primitive, fetched and built in one go.
-ghost use Rattle.std.specs.Prelude.{◌≡◌, ◌<◌, ◌≤◌, ◌+◌, ◌-◌, ◌*◌, ◌^◌, length, true, Some, slice_get, IfErr};
+ghost use Rattle.std.specs.Prelude.{◌≡◌, ◌<◌, ◌≤◌, ◌+◌, ◌-◌, ◌*◌, ◌%◌, ◌^◌, length, true, Some, slice_get, IfErr};
 ghost use Rattle.nd_types.specs.Table.{width};
 ghost use Rattle.nd_base.specs.declared.TheConstants.{STREAM_LIMIT};
 ghost use Rattle.ndr_intake.specs.declared.TheConstants.{PIECE};
@@ -28,13 +28,14 @@ impl Machine {
         ensures some { 0 < result }
         ensures piece { result * width prim ≤ PIECE }
         ensures within { 1 < result → self.now.at + result * width prim ≤ STREAM_LIMIT }
+        ensures aligned { 1 < result → self.now.at % width prim ≡ 0 }
         ensures row { 1 < result → IsInRow code.now (result - 1) self.now.pc prim self.now.top }
     {
         let Frame::Elements { left, run, back: _ } = self.top else {
             return 1;
         };
         let wide = width_of(prim) as u32;
-        if left == 0 || !is_row(code, run as usize, self.pc, prim) {
+        if left == 0 || self.at % wide != 0 || !is_row(code, run as usize, self.pc, prim) {
             return 1;
         }
         let room = STREAM_LIMIT.saturating_sub(self.at).min(PIECE) / wide;
