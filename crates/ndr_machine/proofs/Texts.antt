@@ -15,7 +15,6 @@ zero_within : (b : Bool) (at c : ℕ) (bs : List ℕ) → (if b then 0 else firs
 zero_within true at c bs h = ap (λ (k : ℕ). Some (k, reason.TextZero)) (omega arith)
 zero_within false at c bs h =
     zero_before (at + 1) (c ∷ bs) (omega (arith, h)) ∙ ap (λ (k : ℕ). Some (k, reason.TextZero)) (omega arith)
-
 zero_before at [] h = absurd (omega (arith, h))
 zero_before at (b ∷ []) h = absurd (omega (arith, h))
 zero_before at (b ∷ c ∷ bs) h = zero_within (eqb b 0) at c bs h
@@ -32,7 +31,6 @@ last_within false at c bs h = zero_last (at + 1) (c ∷ bs) (omega (arith, h))
 last_alone : (b : Bool) (at : ℕ) → (if b then 0 else 1) + 1 ≡ 1 → cond b None (Some (at, reason.TextUnended)) ≡ None
 last_alone true at h = refl
 last_alone false at h = absurd (omega (arith, h))
-
 zero_last at [] h = refl
 zero_last at (b ∷ []) h = last_alone (eqb b 0) at h
 zero_last at (b ∷ c ∷ bs) h = last_within (eqb b 0) at c bs h
@@ -50,7 +48,6 @@ missing_within false at c bs h =
 missing_alone : (b : Bool) (at : ℕ) → 1 ≤ (if b then 0 else 1) → cond b None (Some (at, reason.TextUnended)) ≡ Some (at + 0, reason.TextUnended)
 missing_alone true at h = absurd (omega (arith, h))
 missing_alone false at h = ap (λ (k : ℕ). Some (k, reason.TextUnended)) (omega arith)
-
 zero_missing at [] some h = absurd (omega (arith, some))
 zero_missing at (b ∷ []) some h = missing_alone (eqb b 0) at h
 zero_missing at (b ∷ c ∷ bs) some h = missing_within (eqb b 0) at c bs h

@@ -41,7 +41,12 @@ impl Machine {
     {
         match self.top {
             Frame::Record { back: _, first } => self.check_member(first, attr, field, var),
-            Frame::Home | Frame::Elements { left: _, run: _, back: _ } => {
+            Frame::Home
+            | Frame::Elements {
+                left: _,
+                run: _,
+                back: _,
+            } => {
                 self.skip();
                 Ok(())
             }
@@ -49,7 +54,13 @@ impl Machine {
     }
 
     // An agreement of a member of the struct whose members begin at `first`.
-    fn check_member(&mut self, first: usize, attr: Attr, field: u32, var: u32) -> Result<(), DecodeFault>
+    fn check_member(
+        &mut self,
+        first: usize,
+        attr: Attr,
+        field: u32,
+        var: u32,
+    ) -> Result<(), DecodeFault>
         requires code { self.old.pc < 2 ^ 32 }
         ensures does { Does (member_checked first attr field var (state_of self.old)) result (state_of self.new) }
         ensures home { self.new.home ≡ self.old.home }
@@ -80,7 +91,10 @@ impl Machine {
         requires few { first < 2 ^ 63 }
         ensures { result ≡ slice_get self.now.members.items (first + member) }
     {
-        self.members.as_slice().get(first + member as usize).copied()
+        self.members
+            .as_slice()
+            .get(first + member as usize)
+            .copied()
     }
 
     // The number that a member is, if it is one.
@@ -93,7 +107,12 @@ impl Machine {
     }
 
     // An agreement of a member, by what is kept of its first node.
-    fn check_wanted(&mut self, wanted: Wanted, member: Option<Member>, of: Option<First>) -> Result<(), DecodeFault>
+    fn check_wanted(
+        &mut self,
+        wanted: Wanted,
+        member: Option<Member>,
+        of: Option<First>,
+    ) -> Result<(), DecodeFault>
         requires code { self.old.pc < 2 ^ 32 }
         ensures does { Does (checked (agreement_of wanted ∷ []) member of (state_of self.old)) result (state_of self.new) }
         ensures home { self.new.home ≡ self.old.home }
@@ -180,12 +199,14 @@ fn number_in(of: Option<First>) -> Option<i128>
     match of {
         Some(First::Number(number)) => Some(number),
         Some(First::Pointer)
-        | Some(First::Counted {
-            max: _,
-            offset: _,
-            actual: _,
-            place: _,
-        })
+        | Some(
+            First::Counted {
+                max: _,
+                offset: _,
+                actual: _,
+                place: _,
+            },
+        )
         | Some(First::Tag { tag: _, place: _ })
         | Some(First::Other)
         | None => None,
@@ -250,7 +271,9 @@ fn counts_in(of: First) -> (u32, u32, u32)
             actual,
             place: _,
         } => (max, offset, actual),
-        First::Number(_) | First::Pointer | First::Tag { tag: _, place: _ } | First::Other => (0, 0, 0),
+        First::Number(_) | First::Pointer | First::Tag { tag: _, place: _ } | First::Other => (
+            0, 0, 0,
+        ),
     }
 }
 

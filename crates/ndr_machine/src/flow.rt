@@ -91,7 +91,12 @@ impl Machine {
     {
         match self.top {
             Frame::Record { back: _, first } => self.call_member(first, run),
-            Frame::Home | Frame::Elements { left: _, run: _, back: _ } => {
+            Frame::Home
+            | Frame::Elements {
+                left: _,
+                run: _,
+                back: _,
+            } => {
                 self.jump(run as usize);
                 Ok(())
             }
@@ -127,7 +132,12 @@ impl Machine {
     {
         match self.top {
             Frame::Record { back: _, first } => self.close_record(first),
-            Frame::Home | Frame::Elements { left: _, run: _, back: _ } => self.close_other(),
+            Frame::Home
+            | Frame::Elements {
+                left: _,
+                run: _,
+                back: _,
+            } => self.close_other(),
         }
     }
 

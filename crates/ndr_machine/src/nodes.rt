@@ -40,7 +40,11 @@ impl Machine {
                 Ok(())
             }
             Frame::Record { back: _, first: _ } => self.push_first(first),
-            Frame::Elements { left: _, run: _, back: _ } => Ok(()),
+            Frame::Elements {
+                left: _,
+                run: _,
+                back: _,
+            } => Ok(()),
         }
     }
 
@@ -87,6 +91,11 @@ fn first_seen(node: &Seen<'_>, place: Option<u32>) -> First
             place,
         },
         Seen::Union { tag, armed: _ } => First::Tag { tag: *tag, place },
-        Seen::Rec(_) | Seen::Context { attributes: _, id: _ } | Seen::Pipe(_) => First::Other,
+        Seen::Rec(_)
+        | Seen::Context {
+            attributes: _,
+            id: _,
+        }
+        | Seen::Pipe(_) => First::Other,
     }
 }

@@ -8,6 +8,7 @@ ghost use Rattle.ndr_steps.specs.Steps.{goes};
 ghost use Rattle.ndr_machine.specs.declared.fault.DecodeFault.TheVariants as fault;
 ghost use Rattle.ndr_machine.specs.Seen.{state_of, Does};
 ghost use Rattle.ndr_machine.specs.Parts.{row_read, HasLeft, with_fewer, IsNumberRun, IsInRow};
+ghost use Rattle.ndr_machine.specs.Notes.{Noted, notes_seen, row_items};
 
 use crate::octets::prim_of;
 use crate::{DecodeFault, Machine, Phase};
@@ -60,6 +61,7 @@ impl Machine {
         requires fits { self.old.at + length octets.now < 2 ^ 32 }
         requires few { self.old.count + count < 2 ^ 32 }
         ensures does { Does (goes (row_read order prim count octets.now (state_of self.old))) result (state_of self.new) }
+        ensures noted { Noted (row_items order prim self.old 0 count octets.now) (notes_seen items.old items.new (L.number steps.old) (L.number steps.new) self.old.cells self.new.cells) result }
         ensures home { self.new.home ≡ self.old.home }
     {
         self.note_row(order, octets, prim, count, items, steps)?;
@@ -90,11 +92,18 @@ impl Machine {
         requires wide { length octets.now ≡ count * width prim }
         requires fits { self.now.at + length octets.now < 2 ^ 32 }
         requires few { self.now.count + count < 2 ^ 32 }
+        ensures noted { Noted (row_items order prim self.now 0 count octets.now) (notes_seen items.old items.new (L.number steps.old) (L.number steps.new) self.now.cells self.now.cells) result }
         ensures memory { IfErr result (λ e. e ≡ fault.Memory) }
     {
         let wide = width_of(prim);
         let kept = items.len();
-        self.note_ahead(0, wide as u32, read_num(order, prim, &octets[..wide]), items, steps)?;
+        self.note_ahead(
+            0,
+            wide as u32,
+            read_num(order, prim, &octets[..wide]),
+            items,
+            steps,
+        )?;
         if items.len() == kept {
             count_more(count - 1, steps);
             return Ok(());

@@ -60,8 +60,7 @@ impl Machine {
         source: &mut S,
         items: &mut ItemLog,
         steps: &mut Steps<L>,
-    ) -> Result<Turn, DecodeFault>
-    {
+    ) -> Result<Turn, DecodeFault> {
         if let Instr::Num { of } = instr {
             let prim = prim_of(of.0);
             let count = self.row_len(code, prim);
@@ -86,8 +85,7 @@ impl Machine {
         source: &mut S,
         items: &mut ItemLog,
         steps: &mut Steps<L>,
-    ) -> Result<Turn, DecodeFault>
-    {
+    ) -> Result<Turn, DecodeFault> {
         let wide = width_of(prim) as u32;
         match fetched(intake.item(source, self.at, count * wide)) {
             Ok(()) => {}
@@ -105,8 +103,7 @@ impl Machine {
 }
 
 /// What a fault of the intake says of a stream. Takes no memory.
-pub fn fetched(answer: Result<(), IntakeFault>) -> Result<(), DecodeFault>
-{
+pub fn fetched(answer: Result<(), IntakeFault>) -> Result<(), DecodeFault> {
     match answer {
         Ok(()) => Ok(()),
         Err(IntakeFault::Memory) => Err(DecodeFault::Memory),
