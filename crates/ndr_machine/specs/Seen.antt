@@ -1,6 +1,6 @@
 -- What contracts see of a machine, and what a step comes to.
 -- `m` is a machine, `s` its state, `o` what a step comes to, `w` what octets it wants.
-use Rattle.std.specs.Prelude.{◌≡◌, ◌<◌, ℕ, ◌+◌, ◌*◌, ℤ, pos, Bool, if◌then◌else◌, ◌==◌, List, length, take, drop, map, reverse, Option, Some, None, Result, Ok, Err, option_map}
+use Rattle.std.specs.Prelude.{◌≡◌, ◌<◌, ℕ, ◌+◌, ◌*◌, ◌-◌, ◌^◌, min, ℤ, pos, Bool, if◌then◌else◌, ◌==◌, List, ◌++◌, length, take, drop, map, reverse, Option, Some, None, Result, Ok, Err, option_map}
 use Rattle.nd_grammar.specs.declared.reason.Reason.{Reason}
 use Rattle.nd_value.specs.Agreement.{Agreement}
 use Rattle.nd_value.specs.Logged.{Logged, noted}
@@ -31,8 +31,8 @@ phase_of (at.OffsetRead o) = steps.offset_read o
 phase_of (at.CountRead c) = steps.count_read c
 
 -- a pending referent, whose agreements are some of those that are kept
-abbrev pub wanted_of : Wanted → Agreement
-wanted_of w = record { attr = w.attr; wanted = w.wanted }
+abbrev pub agreement_of : Wanted → Agreement
+agreement_of w = record { attr = w.attr; wanted = w.wanted }
 
 abbrev pub owed_of : List Wanted → Owed → steps.Owed
 owed_of ws o = record {
@@ -40,8 +40,12 @@ owed_of ws o = record {
   to = o.to.0;
   run = o.run;
   cell = cell_number o.cell;
-  agreements = map wanted_of (take o.len (drop o.from ws));
+  agreements = map agreement_of (take o.len (drop o.from ws));
 }
+
+-- agreements are kept after those that were
+abbrev pub HasGrown : List Wanted → List Wanted → Type 0
+HasGrown old new = (more : List Wanted) × (new ≡ old ++ more)
 
 abbrev pub state_of : Machine → State
 state_of m = record {
@@ -80,11 +84,11 @@ Does o (Err (fault.Bad place why)) s = o ≡ refused place why
 Does o (Err fault.ReadFault) s = ⊥
 Does o (Err fault.Memory) s = Unit {0}
 
--- the octets that a step wants: none are an empty gap
+-- The octets that a step wants: none are an empty gap. More than a number of 32 bits can say are too many for a stream.
 abbrev pub Wants : Want → code.Want → Type 0
 Wants no_octets w = w ≡ want.Gap 0
 Wants (gap_of n) w = w ≡ want.Gap n
-Wants (item_of n) w = w ≡ want.Item n
+Wants (item_of n) w = w ≡ want.Item (min n (2 ^ 32 - 1))
 
 -- ## Items
 

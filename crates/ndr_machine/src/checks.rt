@@ -1,109 +1,20 @@
 // Agreements of the members of a struct.
-ghost use Rattle.std.specs.Prelude.{◌≡◌, ◌<◌, ◌+◌, ◌-◌, ◌^◌, ◌∷◌, [], slice_get, option_map};
+ghost use Rattle.std.specs.Prelude.{◌≡◌, ◌<◌, ◌≤◌, ◌+◌, ◌-◌, ◌^◌, ◌∷◌, [], length, slice_get, option_map, IfSome, IfOk, IfErr, OnOk};
 ghost use Rattle.nd_value.specs.Agreement.{wanted_by};
-ghost use Rattle.ndr_steps.specs.Steps.{goes, next, check_in, first_found, with_fresh, joined_by, try_all};
-ghost use Rattle.ndr_machine.specs.Seen.{state_of, Does, wanted_of};
+ghost use Rattle.nd_flat.specs.FlatForm.{IsKeepableNumber};
+ghost use Rattle.ndr_steps.specs.Steps.{goes, check_in, checked, first_found, first_number, with_fresh, joined_by, is_owing, max_in, offset_in, actual_in, tag_in, place_of, place_in};
+ghost use Rattle.ndr_machine.specs.Seen.{state_of, Does, agreement_of, owed_of, HasGrown};
+ghost use Rattle.ndr_machine.specs.declared.fault.DecodeFault.TheVariants as fault;
+ghost use Rattle.ndr_machine.specs.Parts.{IsTried, disagreement, member_checked, count_place, tag_place};
 
-use crate::{DecodeFault, Machine, Wanted};
+use crate::{DecodeFault, Machine, Owed, Wanted};
 use nd_grammar::Reason;
 use nd_types::Attr;
-use ndr_steps::{First, Frame};
+use ndr_steps::{First, Frame, Member};
 
-impl Machine {
-    // `check`: an agreement of a member with another of the same struct, both by their numbers.
-    pub(crate) fn check(&mut self, attr: Attr, field: u32, var: u32) -> Result<(), DecodeFault>
-        requires code { self.old.pc < 2 ^ 32 }
-        ensures does { Does (check_in self.old.top attr field var (state_of self.old)) result (state_of self.new) }
-        ensures home { self.new.home ≡ self.old.home }
-    {
-        let Frame::Record { back: _, first } = self.top else {
-            self.skip();
-            return Ok(());
-        };
-        let Some(First::Number(number)) = self.first(first, var) else {
-            self.skip();
-            return Ok(());
-        };
-        let wanted = Wanted {
-            attr,
-            wanted: wanted_of(attr, number),
-        };
-        match self.first(first, field) {
-            None => {
-                self.skip();
-                Ok(())
-            }
-            Some(First::Pointer) => self.join(first, field, wanted),
-            Some(of) => self.try_one(wanted, of),
-        }
-    }
-
-    // What is kept of the first node of a member of the struct whose members begin at `first`.
-    fn first(&self, first: usize, member: u32) -> Option<First>
-        ensures { result ≡ slice_get self.now.firsts.items (first + member) }
-    {
-        self.firsts.get(first + member as usize).copied()
-    }
-
-    // Tries an agreement in the first node of its member.
-    fn try_one(&mut self, wanted: Wanted, of: First) -> Result<(), DecodeFault>
-        requires code { self.old.pc < 2 ^ 32 }
-        ensures does { Does (try_all (wanted_of wanted ∷ []) of (state_of self.old)) result (state_of self.new) }
-        ensures home { self.new.home ≡ self.old.home }
-    {
-        try_in(wanted, of, self.max_at)?;
-        self.skip();
-        Ok(())
-    }
-
-    // Joins an agreement of a pointer to its pending referent.
-    fn join(&mut self, first: usize, member: u32, wanted: Wanted) -> Result<(), DecodeFault>
-        requires code { self.old.pc < 2 ^ 32 }
-        ensures does { Does (goes (next (member_joined (slice_get self.old.members.items (first + member)) (wanted_of wanted) (state_of self.old)))) result (state_of self.new) }
-        ensures home { self.new.home ≡ self.old.home }
-    {
-        let Some(of) = self.members.get(first + member as usize) else {
-            self.skip();
-            return Ok(());
-        };
-        let pending = of.pending;
-        self.join_to(pending, wanted)?;
-        self.skip();
-        Ok(())
-    }
-
-    // Joins an agreement to the pending referent of this number. The agreements of one pointer are kept side by side.
-    fn join_to(&mut self, pending: usize, wanted: Wanted) -> Result<(), DecodeFault>
-        ensures does { Does (goes (with_fresh (joined_by (wanted_of wanted ∷ []) (state_of self.old).fresh pending) (state_of self.old))) result (state_of self.new) }
-        ensures pc { self.new.pc ≡ self.old.pc }
-        ensures home { self.new.home ≡ self.old.home }
-    {
-        if pending >= self.fresh.len() {
-            return Ok(());
-        }
-        let mut owed = self.fresh[pending];
-        if owed.from + owed.len != self.wanted.len() {
-            let from = self.wanted.len();
-            for at in 0..owed.len {
-                let one = self.wanted[owed.from + at];
-                let Ok(()) = self.wanted.push(one) else {
-                    return Err(DecodeFault::Memory);
-                };
-            }
-            owed.from = from;
-        }
-        let Ok(()) = self.wanted.push(wanted) else {
-            return Err(DecodeFault::Memory);
-        };
-        owed.len += 1;
-        self.fresh[pending] = owed;
-        Ok(())
-    }
-}
-
-/// Tries an agreement in a node of which this is kept, in a home whose maximum count is at `max_at`, if it has one. One that finds nothing to speak of is
-/// passed over. Takes no memory.
+/// Tries an agreement in a node of a home whose maximum count is at a place, if it has one. Takes no memory.
 pub fn try_in(wanted: Wanted, of: First, max_at: Option<u32>) -> Result<(), DecodeFault>
+    ensures { IsTried (disagreement (agreement_of wanted) of max_at) result }
 {
     let found = found_in(wanted.attr, of);
     if wanted.wanted == found {
@@ -121,6 +32,205 @@ pub fn try_in(wanted: Wanted, of: First, max_at: Option<u32>) -> Result<(), Deco
     })
 }
 
+impl Machine {
+    // `check`: an agreement of a member with another of the same struct, both by their numbers.
+    pub(crate) fn check(&mut self, attr: Attr, field: u32, var: u32) -> Result<(), DecodeFault>
+        requires code { self.old.pc < 2 ^ 32 }
+        ensures does { Does (check_in self.old.top attr field var (state_of self.old)) result (state_of self.new) }
+        ensures home { self.new.home ≡ self.old.home }
+    {
+        match self.top {
+            Frame::Record { back: _, first } => self.check_member(first, attr, field, var),
+            Frame::Home
+            | Frame::Elements {
+                left: _,
+                run: _,
+                back: _,
+            } => {
+                self.skip();
+                Ok(())
+            }
+        }
+    }
+
+    // An agreement of a member of the struct whose members begin at `first`.
+    fn check_member(
+        &mut self,
+        first: usize,
+        attr: Attr,
+        field: u32,
+        var: u32,
+    ) -> Result<(), DecodeFault>
+        requires code { self.old.pc < 2 ^ 32 }
+        ensures does { Does (member_checked first attr field var (state_of self.old)) result (state_of self.new) }
+        ensures home { self.new.home ≡ self.old.home }
+    {
+        let member = self.member(first, field);
+        let of = self.first(first, field);
+        let Some(number) = self.number_at(first, var) else {
+            self.skip();
+            return Ok(());
+        };
+        let wanted = Wanted {
+            attr,
+            wanted: wanted_of(attr, number),
+        };
+        self.check_wanted(wanted, member, of)
+    }
+
+    // What is kept of the first node of a member of the struct whose members begin at `first`.
+    fn first(&self, first: usize, member: u32) -> Option<First>
+        requires few { first < 2 ^ 60 }
+        ensures { result ≡ slice_get self.now.firsts.items (first + member) }
+    {
+        self.firsts.as_slice().get(first + member as usize).copied()
+    }
+
+    // A member of the struct whose members begin at `first`.
+    fn member(&self, first: usize, member: u32) -> Option<Member>
+        requires few { first < 2 ^ 63 }
+        ensures { result ≡ slice_get self.now.members.items (first + member) }
+    {
+        self.members
+            .as_slice()
+            .get(first + member as usize)
+            .copied()
+    }
+
+    // The number that a member is, if it is one.
+    fn number_at(&self, first: usize, member: u32) -> Option<i128>
+        requires few { first < 2 ^ 63 }
+        ensures is { result ≡ first_number (slice_get self.now.firsts.items (first + member)) }
+        ensures keepable { IfSome result IsKeepableNumber }
+    {
+        number_in(self.first(first, member))
+    }
+
+    // An agreement of a member, by what is kept of its first node.
+    fn check_wanted(
+        &mut self,
+        wanted: Wanted,
+        member: Option<Member>,
+        of: Option<First>,
+    ) -> Result<(), DecodeFault>
+        requires code { self.old.pc < 2 ^ 32 }
+        ensures does { Does (checked (agreement_of wanted ∷ []) member of (state_of self.old)) result (state_of self.new) }
+        ensures home { self.new.home ≡ self.old.home }
+    {
+        let Some(member) = member else {
+            self.skip();
+            return Ok(());
+        };
+        let Some(of) = of else {
+            self.skip();
+            return Ok(());
+        };
+        if is_owing(of) {
+            self.join(member.pending, wanted)?;
+        } else {
+            try_in(wanted, of, self.max_at)?;
+        }
+        self.skip();
+        Ok(())
+    }
+
+    // Joins an agreement to the pending referent of this number. The agreements of one pointer are kept side by side.
+    fn join(&mut self, pending: usize, wanted: Wanted) -> Result<(), DecodeFault>
+        ensures does { Does (goes (with_fresh (joined_by (agreement_of wanted ∷ []) (state_of self.old).fresh pending) (state_of self.old))) result (state_of self.new) }
+        ensures pc { self.new.pc ≡ self.old.pc }
+        ensures home { self.new.home ≡ self.old.home }
+    {
+        if pending >= self.fresh.len() {
+            return Ok(());
+        }
+        let owed = self.fresh[pending];
+        let owed = self.gather(owed)?;
+        let Ok(()) = self.wanted.push(wanted) else {
+            return Err(DecodeFault::Memory);
+        };
+        self.fresh[pending] = Owed {
+            class: owed.class,
+            to: owed.to,
+            run: owed.run,
+            cell: owed.cell,
+            from: owed.from,
+            len: owed.len + 1,
+        };
+        Ok(())
+    }
+
+    // A pending referent with its agreements at the end of those that are kept.
+    fn gather(&mut self, owed: Owed) -> Result<Owed, DecodeFault>
+        requires within { owed.from + owed.len ≤ length self.old.wanted.items }
+        ensures last { IfOk result (λ o. o.from + o.len ≡ length self.new.wanted.items) }
+        ensures same { IfOk result (λ o. owed_of self.new.wanted.items o ≡ owed_of self.old.wanted.items owed) }
+        ensures state { OnOk result (state_of self.new ≡ state_of self.old) }
+        ensures fresh { OnOk result (self.new.fresh.items ≡ self.old.fresh.items) }
+        ensures grown { OnOk result (HasGrown self.old.wanted.items self.new.wanted.items) }
+        ensures pc { self.new.pc ≡ self.old.pc }
+        ensures home { self.new.home ≡ self.old.home }
+        ensures memory { IfErr result (λ e. e ≡ fault.Memory) }
+    {
+        if owed.from + owed.len == self.wanted.len() {
+            return Ok(owed);
+        }
+        let from = self.wanted.len();
+        for at in owed.from..owed.from + owed.len {
+            let one = self.wanted[at];
+            let Ok(()) = self.wanted.push(one) else {
+                return Err(DecodeFault::Memory);
+            };
+        }
+        Ok(Owed {
+            class: owed.class,
+            to: owed.to,
+            run: owed.run,
+            cell: owed.cell,
+            from,
+            len: owed.len,
+        })
+    }
+}
+
+// The number that a node is, if it is one.
+fn number_in(of: Option<First>) -> Option<i128>
+    ensures { result ≡ first_number of }
+{
+    match of {
+        Some(First::Number(number)) => Some(number),
+        Some(First::Pointer)
+        | Some(
+            First::Counted {
+                max: _,
+                offset: _,
+                actual: _,
+                place: _,
+            },
+        )
+        | Some(First::Tag { tag: _, place: _ })
+        | Some(First::Other)
+        | None => None,
+    }
+}
+
+// Whether a node is a pointer.
+fn is_owing(of: First) -> bool
+    ensures { result ≡ is_owing of }
+{
+    match of {
+        First::Pointer => true,
+        First::Number(_)
+        | First::Counted {
+            max: _,
+            offset: _,
+            actual: _,
+            place: _,
+        }
+        | First::Tag { tag: _, place: _ }
+        | First::Other => false,
+    }
+}
+
 /// The number that an attribute states, by the value of its variable: max_is states the greatest index. Takes no memory.
 pub fn wanted_of(attr: Attr, value: i128) -> i128
     requires { IsKeepableNumber value }
@@ -131,8 +241,6 @@ pub fn wanted_of(attr: Attr, value: i128) -> i128
         Attr::Size | Attr::First | Attr::Length | Attr::Last | Attr::Switch => value,
     }
 }
-
-ghost use Rattle.nd_flat.specs.FlatForm.{IsKeepableNumber};
 
 // What an attribute finds in a node.
 fn found_in(attr: Attr, of: First) -> i128
@@ -163,7 +271,9 @@ fn counts_in(of: First) -> (u32, u32, u32)
             actual,
             place: _,
         } => (max, offset, actual),
-        First::Number(_) | First::Pointer | First::Tag { tag: _, place: _ } | First::Other => (0, 0, 0),
+        First::Number(_) | First::Pointer | First::Tag { tag: _, place: _ } | First::Other => (
+            0, 0, 0,
+        ),
     }
 }
 
@@ -239,6 +349,3 @@ fn tag_place(of: First) -> Option<u32>
         | First::Other => None,
     }
 }
-
-ghost use Rattle.ndr_steps.specs.Steps.{max_in, offset_in, actual_in, tag_in, place_of, place_in, disagreed};
-ghost use Rattle.ndr_machine.specs.Parts.{count_place, tag_place, member_joined};

@@ -1,5 +1,5 @@
 // Values of enumerated types.
-ghost use Rattle.std.specs.Prelude.{◌≡◌, ◌<◌, length, list_any, Some, None, get_or};
+ghost use Rattle.std.specs.Prelude.{◌≡◌, list_any};
 ghost use Rattle.std.specs.Ordering.{int_eq};
 ghost use Rattle.nd_grammar.specs.Refusal.{is_enumerator as is_one_of};
 ghost use Rattle.ndr_code.specs.Lines.{enumerators};
@@ -13,8 +13,11 @@ use ndr_code::EnumLists;
 pub(crate) fn is_enumerator(values: &EnumLists, of: TypeId, value: i128) -> bool
     ensures { result ≡ is_one_of (enumerators values.now of.0) value }
 {
-    for list in values.as_slice() {
-        if list.of == of {
+    for at in 0..values.len() {
+        let Some(list) = values.get(at) else {
+            unreachable!()
+        };
+        if list.of.0 == of.0 {
             return contains(&list.values, value);
         }
     }
@@ -25,8 +28,11 @@ pub(crate) fn is_enumerator(values: &EnumLists, of: TypeId, value: i128) -> bool
 pub(crate) fn carrier_of(values: &EnumLists, of: TypeId) -> Prim
     ensures { result ≡ (form_by of.0 (enumerators values.now of.0)).prim }
 {
-    for list in values.as_slice() {
-        if list.of == of {
+    for at in 0..values.len() {
+        let Some(list) = values.get(at) else {
+            unreachable!()
+        };
+        if list.of.0 == of.0 {
             return Prim::Short;
         }
     }

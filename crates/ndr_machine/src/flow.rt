@@ -89,11 +89,18 @@ impl Machine {
         ensures does { Does (goes (call_from self.old.top run (state_of self.old))) result (state_of self.new) }
         ensures home { self.new.home ≡ self.old.home }
     {
-        if let Frame::Record { back: _, first } = self.top {
-            return self.call_member(first, run);
+        match self.top {
+            Frame::Record { back: _, first } => self.call_member(first, run),
+            Frame::Home
+            | Frame::Elements {
+                left: _,
+                run: _,
+                back: _,
+            } => {
+                self.jump(run as usize);
+                Ok(())
+            }
         }
-        self.jump(run as usize);
-        Ok(())
     }
 
     // A call of the next member of the struct whose members begin at `first`.
@@ -123,10 +130,35 @@ impl Machine {
         ensures is { state_of self.new ≡ close_of self.old.top (state_of self.old) }
         ensures home { self.new.home ≡ self.old.home }
     {
-        if let Frame::Record { back: _, first } = self.top {
-            self.members.truncate(first);
-            self.firsts.truncate(first);
+        match self.top {
+            Frame::Record { back: _, first } => self.close_record(first),
+            Frame::Home
+            | Frame::Elements {
+                left: _,
+                run: _,
+                back: _,
+            } => self.close_other(),
         }
+    }
+
+    // The end of the struct whose members begin at `first`.
+    fn close_record(&mut self, first: usize)
+        requires code { self.old.pc < 2 ^ 32 }
+        ensures is { state_of self.new ≡ record_closed first (state_of self.old) }
+        ensures home { self.new.home ≡ self.old.home }
+    {
+        self.members.truncate(first);
+        self.firsts.truncate(first);
+        self.pop();
+        self.skip();
+    }
+
+    // The end of what is no struct.
+    fn close_other(&mut self)
+        requires code { self.old.pc < 2 ^ 32 }
+        ensures is { state_of self.new ≡ next (popped (state_of self.old)) }
+        ensures home { self.new.home ≡ self.old.home }
+    {
         self.pop();
         self.skip();
     }
@@ -169,4 +201,4 @@ impl Machine {
 }
 
 ghost use Rattle.ndr_steps.specs.Steps.{jumped};
-ghost use Rattle.ndr_machine.specs.Parts.{record_begun, member_called, elements_frame};
+ghost use Rattle.ndr_machine.specs.Parts.{record_begun, record_closed, member_called, elements_frame};

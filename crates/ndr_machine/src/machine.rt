@@ -1,5 +1,8 @@
 // The state of a decoder.
-ghost use Rattle.std.specs.Prelude.{◌≡◌, length};
+ghost use Rattle.std.specs.Prelude.{◌≡◌, ◌≤◌, ◌+◌, length};
+ghost use Rattle.std.specs.List.{AllByRecursion};
+ghost use Rattle.nd_flat.specs.FlatForm.{IsKeepableNumber};
+ghost use Rattle.ndr_machine.specs.Small.{IsSmall};
 
 use nd_flat::Builder;
 use nd_types::{Attr, Class, Prim, TypeId};
@@ -54,6 +57,7 @@ pub struct Machine {
     pub max_at: Option<u32>,
     /// The tag that was read last, and the primitive that carries it.
     pub tag: i128,
+    pub ghost keepable: { IsKeepableNumber tag },
     pub carrier: Prim,
     /// What is around the value that is being read: the innermost, and the others, of which the last is the next.
     pub top: Frame,
@@ -65,9 +69,11 @@ pub struct Machine {
     /// The members of the structs that are open, and what is kept of the first node of each.
     pub members: Vec<Member>,
     pub firsts: Vec<First>,
+    pub ghost small: { AllByRecursion IsSmall firsts.items },
     /// The referents that are pending since the home's beginning, and the agreements of all pointers.
     pub fresh: Vec<Owed>,
     pub wanted: Vec<Wanted>,
+    pub ghost spans: { AllByRecursion (λ o. o.from + o.len ≤ length wanted.items) fresh.items },
     /// The graph so far, and the numbers of full pointers.
     pub builder: Builder,
     /// How many cells have their numbers.

@@ -9,8 +9,16 @@ use nd_base::{Ledger, Steps};
 use nd_value::{Item, ItemKind, ItemLog};
 
 impl Machine {
-    /// Notes an item at the place where the machine is: it belongs to the node that comes next, a gap to the home as a whole.
-    pub fn note<L: Ledger>(&self, kind: ItemKind, len: u32, value: i128, items: &mut ItemLog, steps: &mut Steps<L>) -> Result<(), DecodeFault>
+    /// Notes an item at the place where the machine is: it belongs to the node that comes next, a gap to the home as a whole. It takes memory, if the
+    /// log keeps items; then neither the log nor the count has changed.
+    pub fn note<L: Ledger>(
+        &self,
+        kind: ItemKind,
+        len: u32,
+        value: i128,
+        items: &mut ItemLog,
+        steps: &mut Steps<L>,
+    ) -> Result<(), DecodeFault>
         ensures ok { OnOk result (items.new ≡ noted (next_item self.now kind len value) items.old) }
         ensures ticks { OnOk result (L.number steps.new ≡ L.number steps.old + ticks_of kind) }
         ensures err { OnErr result (items.new ≡ items.old) }
@@ -29,8 +37,13 @@ impl Machine {
         Ok(())
     }
 
-    /// Notes a gap of so many octets; an empty one is no item.
-    pub fn note_gap<L: Ledger>(&self, len: u32, items: &mut ItemLog, steps: &mut Steps<L>) -> Result<(), DecodeFault>
+    /// Notes a gap of so many octets as `note` does; an empty one is no item.
+    pub fn note_gap<L: Ledger>(
+        &self,
+        len: u32,
+        items: &mut ItemLog,
+        steps: &mut Steps<L>,
+    ) -> Result<(), DecodeFault>
         ensures ok { OnOk result (items.new ≡ gap_noted self.now len items.old) }
         ensures ticks { OnOk result (L.number steps.new ≡ L.number steps.old) }
         ensures err { OnErr result (items.new ≡ items.old) }
@@ -44,7 +57,14 @@ impl Machine {
     }
 
     // Notes the number that comes so many numbers after the next one in a row.
-    pub(crate) fn note_ahead<L: Ledger>(&self, ahead: u32, wide: u32, value: i128, items: &mut ItemLog, steps: &mut Steps<L>) -> Result<(), DecodeFault>
+    pub(crate) fn note_ahead<L: Ledger>(
+        &self,
+        ahead: u32,
+        wide: u32,
+        value: i128,
+        items: &mut ItemLog,
+        steps: &mut Steps<L>,
+    ) -> Result<(), DecodeFault>
         requires fits { self.now.at + ahead * wide < 2 ^ 32 }
         requires few { self.now.count + ahead < 2 ^ 32 }
         ensures ok { OnOk result (items.new ≡ noted (number_ahead self.now ahead wide value) items.old) }

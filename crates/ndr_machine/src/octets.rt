@@ -1,13 +1,25 @@
 // Counts and identifiers in octets.
-ghost use Rattle.std.specs.Prelude.{◌≡◌, ◌<◌, ◌≤◌, ◌+◌, ◌%◌, length};
-ghost use Rattle.nd_types.specs.Number.{unsigned};
+ghost use Rattle.std.specs.Prelude.{◌≡◌, ◌<◌, ◌%◌, length};
+ghost use Rattle.nd_types.specs.Number.{unsigned, value_of_octets};
+ghost use Rattle.nd_types.specs.Table.{width};
+ghost use Rattle.nd_flat.specs.FlatForm.{IsKeepableNumber};
 ghost use Rattle.nd_grammar.specs.Entry.{gap};
 ghost use Rattle.nd_grammar.specs.Reader.{identifier};
 ghost use Rattle.ndr_steps.specs.Steps.{prim_of};
 
 use nd_base::Order;
 use nd_types::Prim;
+use ndr_prim::read_num;
 use uuid::Uuid;
+
+// The value that the octets of a primitive hold: a node can keep it.
+pub(crate) fn read_value(order: Order, prim: Prim, octets: &[u8]) -> i128
+    requires wide { length octets.now ≡ width prim }
+    ensures value { result ≡ value_of_octets order prim octets.now }
+    ensures keepable { IsKeepableNumber result }
+{
+    read_num(order, prim, octets)
+}
 
 /// The unsigned number in four octets. Takes no memory.
 pub fn read_count(order: Order, from: &[u8]) -> u32

@@ -3,6 +3,7 @@ ghost use Rattle.std.specs.Prelude.{◌≡◌, ◌<◌, ◌+◌, ◌^◌, length
 ghost use Rattle.nd_types.specs.Number.{unsigned};
 ghost use Rattle.ndr_steps.specs.Steps.{pointer_step, owing};
 ghost use Rattle.ndr_machine.specs.Seen.{state_of, Does};
+ghost use Rattle.ndr_machine.specs.Notes.{Noted, notes_seen, pointer_items};
 
 use crate::octets::read_count;
 use crate::{DecodeFault, Machine, Owed};
@@ -23,13 +24,21 @@ pub(crate) struct To {
 
 impl Machine {
     // `pointer`
-    pub(crate) fn pointer<L: Ledger>(&mut self, order: Order, octets: &[u8], to: To, items: &mut ItemLog, steps: &mut Steps<L>) -> Result<(), DecodeFault>
+    pub(crate) fn pointer<L: Ledger>(
+        &mut self,
+        order: Order,
+        octets: &[u8],
+        to: To,
+        items: &mut ItemLog,
+        steps: &mut Steps<L>,
+    ) -> Result<(), DecodeFault>
         requires wide { length octets.now ≡ 4 }
         requires code { self.old.pc < 2 ^ 32 }
         requires fits { self.old.at + 4 < 2 ^ 32 }
         requires few { self.old.count + 1 < 2 ^ 32 }
         requires cells { self.old.cells + 1 < 2 ^ 32 }
         ensures does { Does (pointer_step to.class to.to to.run (unsigned order octets.now) (state_of self.old)) result (state_of self.new) }
+        ensures noted { Noted (pointer_items (unsigned order octets.now) self.old) (notes_seen items.old items.new (L.number steps.old) (L.number steps.new) self.old.cells self.new.cells) result }
         ensures home { self.new.home ≡ self.old.home }
     {
         let number = read_count(order, octets);
@@ -41,12 +50,19 @@ impl Machine {
     }
 
     // A unique pointer of this number.
-    fn unique<L: Ledger>(&mut self, number: u32, to: To, items: &mut ItemLog, steps: &mut Steps<L>) -> Result<(), DecodeFault>
+    fn unique<L: Ledger>(
+        &mut self,
+        number: u32,
+        to: To,
+        items: &mut ItemLog,
+        steps: &mut Steps<L>,
+    ) -> Result<(), DecodeFault>
         requires code { self.old.pc < 2 ^ 32 }
         requires fits { self.old.at + 4 < 2 ^ 32 }
         requires few { self.old.count + 1 < 2 ^ 32 }
         requires cells { self.old.cells + 1 < 2 ^ 32 }
         ensures does { Does (unique_read to.class to.to to.run number (state_of self.old)) result (state_of self.new) }
+        ensures noted { Noted (pointer_items number self.old) (notes_seen items.old items.new (L.number steps.old) (L.number steps.new) self.old.cells self.new.cells) result }
         ensures home { self.new.home ≡ self.old.home }
     {
         if number == 0 {
@@ -56,12 +72,19 @@ impl Machine {
     }
 
     // A full pointer of this number.
-    fn full<L: Ledger>(&mut self, number: u32, to: To, items: &mut ItemLog, steps: &mut Steps<L>) -> Result<(), DecodeFault>
+    fn full<L: Ledger>(
+        &mut self,
+        number: u32,
+        to: To,
+        items: &mut ItemLog,
+        steps: &mut Steps<L>,
+    ) -> Result<(), DecodeFault>
         requires code { self.old.pc < 2 ^ 32 }
         requires fits { self.old.at + 4 < 2 ^ 32 }
         requires few { self.old.count + 1 < 2 ^ 32 }
         requires cells { self.old.cells + 1 < 2 ^ 32 }
         ensures does { Does (full_read to.to to.run number (state_of self.old)) result (state_of self.new) }
+        ensures noted { Noted (pointer_items number self.old) (notes_seen items.old items.new (L.number steps.old) (L.number steps.new) self.old.cells self.new.cells) result }
         ensures home { self.new.home ≡ self.old.home }
     {
         if number == 0 {
@@ -77,7 +100,12 @@ impl Machine {
                 self.name(number, to, Some(cell), items, steps)
             }
             Err(RefFault::Memory) => Err(DecodeFault::Memory),
-            Err(RefFault::OtherType { first: _, second: _ }) => Err(DecodeFault::Bad {
+            Err(
+                RefFault::OtherType {
+                    first: _,
+                    second: _,
+                },
+            ) => Err(DecodeFault::Bad {
                 place: self.at,
                 reason: Reason::OtherType,
             }),
@@ -85,12 +113,19 @@ impl Machine {
     }
 
     // A pointer to a cell of its own.
-    fn name_new<L: Ledger>(&mut self, number: u32, to: To, items: &mut ItemLog, steps: &mut Steps<L>) -> Result<(), DecodeFault>
+    fn name_new<L: Ledger>(
+        &mut self,
+        number: u32,
+        to: To,
+        items: &mut ItemLog,
+        steps: &mut Steps<L>,
+    ) -> Result<(), DecodeFault>
         requires code { self.old.pc < 2 ^ 32 }
         requires fits { self.old.at + 4 < 2 ^ 32 }
         requires few { self.old.count + 1 < 2 ^ 32 }
         requires cells { self.old.cells + 1 < 2 ^ 32 }
         ensures does { Does (goes (done_after 4 (new_cell to.class to.to to.run (state_of self.old)))) result (state_of self.new) }
+        ensures noted { Noted (pointer_items number self.old) (notes_seen items.old items.new (L.number steps.old) (L.number steps.new) self.old.cells self.new.cells) result }
         ensures home { self.new.home ≡ self.old.home }
     {
         self.note(ItemKind::Number, 4, i128::from(number), items, steps)?;
@@ -102,11 +137,19 @@ impl Machine {
     }
 
     // A pointer that names this cell, or none.
-    fn name<L: Ledger>(&mut self, number: u32, to: To, cell: Option<CellId>, items: &mut ItemLog, steps: &mut Steps<L>) -> Result<(), DecodeFault>
+    fn name<L: Ledger>(
+        &mut self,
+        number: u32,
+        to: To,
+        cell: Option<CellId>,
+        items: &mut ItemLog,
+        steps: &mut Steps<L>,
+    ) -> Result<(), DecodeFault>
         requires code { self.old.pc < 2 ^ 32 }
         requires fits { self.old.at + 4 < 2 ^ 32 }
         requires few { self.old.count + 1 < 2 ^ 32 }
         ensures does { Does (goes (done_after 4 (owing to.class to.to to.run (cell_number cell) (state_of self.old)))) result (state_of self.new) }
+        ensures noted { Noted (pointer_items number self.old) (notes_seen items.old items.new (L.number steps.old) (L.number steps.new) self.old.cells self.new.cells) result }
         ensures home { self.new.home ≡ self.old.home }
     {
         self.note(ItemKind::Number, 4, i128::from(number), items, steps)?;

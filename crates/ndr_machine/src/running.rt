@@ -1,4 +1,9 @@
 // The value of a home, from its first octet to its last.
+ghost use Rattle.std.specs.Prelude.{◌≡◌, ◌≤◌, ℕ, List};
+ghost use Rattle.nd_base.specs.Over.{source_seen};
+ghost use Rattle.ndr_steps.specs.Steps.{State};
+ghost use Rattle.ndr_machine.specs.Seen.{state_of};
+ghost use Rattle.ndr_machine.specs.Reaching.{Reaches, IsSafe, Ends};
 
 use crate::octets::prim_of;
 use crate::steps::Want;
@@ -11,7 +16,12 @@ use ndr_code::{EnumLists, Instr};
 use ndr_intake::{Intake, IntakeFault};
 use ndr_prim::width_of;
 
-/// Reads the value of a home from the instruction at which the machine is.
+/// Reads the value of a home from the instruction at which the machine is. Each state that the code can reach from here must be safe.
+///
+/// At `Ok` the steps of the code have come to the end of the value. At `Bad` the last of them is refused by its octets, or its octets end past the limit
+/// of a stream, or the source has ended before the last of them. `ReadFault` is answered only if the source's count of faults rose. In each case the
+/// octets of the steps, and of those alone, were taken from the source. A row of numbers is fetched and built in one go. It takes memory for what was
+/// read; the time is linear in the steps.
 pub fn run<S: Source, L: Ledger>(
     order: Order,
     code: &[Instr],
@@ -22,6 +32,10 @@ pub fn run<S: Source, L: Ledger>(
     items: &mut ItemLog,
     steps: &mut Steps<L>,
 ) -> Result<(), DecodeFault>
+    requires safe { (fetched : List ℕ) (s : State) → Reaches values.now order code.now (state_of machine.old) fetched s → IsSafe code.now s }
+    ensures ends { Ends values.now order code.now (state_of machine.old) (source_seen S.Source.left S.Source.ended S.Source.faults source.old source.new) (state_of machine.new) result }
+    ensures home { machine.new.home ≡ machine.old.home }
+    ensures later { S.Source.faults source.old ≤ S.Source.faults source.new }
 {
     for _turn in 0..u64::MAX {
         let instr = code[machine.pc];
@@ -46,8 +60,7 @@ impl Machine {
         source: &mut S,
         items: &mut ItemLog,
         steps: &mut Steps<L>,
-    ) -> Result<Turn, DecodeFault>
-    {
+    ) -> Result<Turn, DecodeFault> {
         if let Instr::Num { of } = instr {
             let prim = prim_of(of.0);
             let count = self.row_len(code, prim);
@@ -72,8 +85,7 @@ impl Machine {
         source: &mut S,
         items: &mut ItemLog,
         steps: &mut Steps<L>,
-    ) -> Result<Turn, DecodeFault>
-    {
+    ) -> Result<Turn, DecodeFault> {
         let wide = width_of(prim) as u32;
         match fetched(intake.item(source, self.at, count * wide)) {
             Ok(()) => {}
@@ -91,8 +103,7 @@ impl Machine {
 }
 
 /// What a fault of the intake says of a stream. Takes no memory.
-pub fn fetched(answer: Result<(), IntakeFault>) -> Result<(), DecodeFault>
-{
+pub fn fetched(answer: Result<(), IntakeFault>) -> Result<(), DecodeFault> {
     match answer {
         Ok(()) => Ok(()),
         Err(IntakeFault::Memory) => Err(DecodeFault::Memory),

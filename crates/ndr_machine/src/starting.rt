@@ -1,5 +1,5 @@
 // A machine before its first home, and at the beginning of each.
-ghost use Rattle.std.specs.Prelude.{◌≡◌, [], None, length};
+ghost use Rattle.std.specs.Prelude.{◌≡◌, [], None};
 ghost use Rattle.ndr_machine.specs.Seen.{state_of};
 ghost use Rattle.ndr_machine.specs.Parts.{started};
 

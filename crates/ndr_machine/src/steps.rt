@@ -1,7 +1,9 @@
 // What each instruction does.
 ghost use Rattle.std.specs.Prelude.{◌≡◌, ◌<◌, ◌+◌, ◌^◌, length};
-ghost use Rattle.ndr_steps.specs.Steps.{step, wants};
-ghost use Rattle.ndr_machine.specs.Seen.{state_of, Comes, want_of};
+ghost use Rattle.ndr_steps.specs.Steps.{step, wants, text_want, hoist_want, limit_of};
+ghost use Rattle.ndr_machine.specs.Seen.{state_of, phase_of, Comes, Does, Wants};
+ghost use Rattle.ndr_machine.specs.Parts.{HasWanted, IsInner, arm_tried};
+ghost use Rattle.ndr_machine.specs.Notes.{Noted, notes_seen, step_items, tried_items};
 
 use crate::enumerators::carrier_of;
 use crate::octets::{gap_before, prim_of};
@@ -21,8 +23,9 @@ pub enum Want {
 }
 
 impl Machine {
-    // The octets that an instruction wants next.
-    pub(crate) fn wants(&self, instr: Instr, values: &EnumLists) -> Want
+    /// The octets that an instruction wants next. Takes no memory.
+    pub fn wants(&self, instr: Instr, values: &EnumLists) -> Want
+        requires inner { IsInner instr }
         ensures { Wants (wants values.now instr (state_of self.now)) result }
     {
         match instr {
@@ -34,7 +37,11 @@ impl Machine {
             Instr::Text { bound: _ } => self.text_want(),
             Instr::Hoist => self.hoist_want(),
             Instr::Tag { of } => Want::Item(width_of(carrier_of(values, of)) as u32),
-            Instr::Pointer { class: _, to: _, run: _ } => Want::Item(4),
+            Instr::Pointer {
+                class: _,
+                to: _,
+                run: _,
+            } => Want::Item(4),
             Instr::Context => Want::Item(20),
             Instr::Void
             | Instr::Ret
@@ -46,32 +53,50 @@ impl Machine {
             | Instr::Other { run: _ }
             | Instr::Noarm
             | Instr::Direct { to: _, run: _ }
-            | Instr::Check { attr: _, field: _, var: _, star: _ }
-            | Instr::Given { attr: _, field: _, var: _, star: _ }
+            | Instr::Check {
+                attr: _,
+                field: _,
+                var: _,
+                star: _,
+            }
+            | Instr::Given {
+                attr: _,
+                field: _,
+                var: _,
+                star: _,
+            }
             | Instr::Pipe { run: _ }
             | Instr::Defer
             | Instr::Call { run: _ } => Want::Gap(0),
         }
     }
 
+    // The octets that a string wants next.
     fn text_want(&self) -> Want
+        ensures { Wants (text_want (phase_of self.now.phase)) result }
     {
         match self.phase {
-            Phase::CountRead(count) => Want::Item(count + 1),
+            Phase::CountRead(count) => Want::Item(count.saturating_add(1)),
             Phase::Begun | Phase::GapRead | Phase::OffsetRead(_) => Want::Item(4),
         }
     }
 
+    // The octets that a maximum count wants next.
     fn hoist_want(&self) -> Want
+        ensures { Wants (hoist_want (phase_of self.now.phase) self.now.at) result }
     {
         match self.phase {
             Phase::GapRead => Want::Item(4),
-            Phase::Begun | Phase::OffsetRead(_) | Phase::CountRead(_) => Want::Gap(gap_before(self.at, 4)),
+            Phase::Begun | Phase::OffsetRead(_) | Phase::CountRead(_) => Want::Gap(gap_before(
+                self.at, 4,
+            )),
         }
     }
 
-    // What an instruction of a home's value does with the octets that it wanted.
-    pub(crate) fn step<L: Ledger>(
+    /// What an instruction of a home's value does with the octets that it wanted, all fetched. The item that they are is noted, if they are not
+    /// refused; each item but a gap, and each cell that gets its number, is counted as a step. It takes memory for what was read; after `Memory` nothing
+    /// is known of the machine.
+    pub fn step<L: Ledger>(
         &mut self,
         order: Order,
         octets: &[u8],
@@ -80,6 +105,15 @@ impl Machine {
         items: &mut ItemLog,
         steps: &mut Steps<L>,
     ) -> Result<Turn, DecodeFault>
+        requires inner { IsInner instr }
+        requires wanted { HasWanted (wants values.now instr (state_of self.old)) octets.now }
+        requires code { self.old.pc < 2 ^ 32 }
+        requires fits { self.old.at + length octets.now + 8 < 2 ^ 32 }
+        requires few { self.old.count + 1 < 2 ^ 32 }
+        requires cells { self.old.cells + 1 < 2 ^ 32 }
+        ensures does { Comes (step values.now order octets.now instr (state_of self.old)) result (state_of self.new) }
+        ensures noted { Noted (step_items order octets.now instr self.old) (notes_seen items.old items.new (L.number steps.old) (L.number steps.new) self.old.cells self.new.cells) result }
+        ensures home { self.new.home ≡ self.old.home }
     {
         match instr {
             Instr::Void => self.skip(),
@@ -104,12 +138,28 @@ impl Machine {
                     reason: Reason::NoArm,
                 });
             }
-            Instr::Pointer { class, to, run } => self.pointer(order, octets, To { class, to, run }, items, steps)?,
+            Instr::Pointer { class, to, run } => self.pointer(
+                order,
+                octets,
+                To { class, to, run },
+                items,
+                steps,
+            )?,
             Instr::Context => self.context(order, octets, items, steps)?,
-            Instr::Check { attr, field, var, star: _ } => self.check(attr, field, var)?,
+            Instr::Check {
+                attr,
+                field,
+                var,
+                star: _,
+            } => self.check(attr, field, var)?,
             Instr::Call { run } => self.call(run)?,
             Instr::Direct { to: _, run: _ }
-            | Instr::Given { attr: _, field: _, var: _, star: _ }
+            | Instr::Given {
+                attr: _,
+                field: _,
+                var: _,
+                star: _,
+            }
             | Instr::Pipe { run: _ }
             | Instr::Defer => unreachable!(),
         }
@@ -117,7 +167,19 @@ impl Machine {
     }
 
     // `arm`
-    fn try_arm<L: Ledger>(&mut self, label: i128, run: u32, items: &mut ItemLog, steps: &mut Steps<L>) -> Result<(), DecodeFault>
+    fn try_arm<L: Ledger>(
+        &mut self,
+        label: i128,
+        run: u32,
+        items: &mut ItemLog,
+        steps: &mut Steps<L>,
+    ) -> Result<(), DecodeFault>
+        requires code { self.old.pc < 2 ^ 32 }
+        requires fits { self.old.at + 8 < 2 ^ 32 }
+        requires few { self.old.count + 1 < 2 ^ 32 }
+        ensures does { Does (arm_tried label run (state_of self.old)) result (state_of self.new) }
+        ensures noted { Noted (tried_items label self.old) (notes_seen items.old items.new (L.number steps.old) (L.number steps.new) self.old.cells self.new.cells) result }
+        ensures home { self.new.home ≡ self.old.home }
     {
         if label != self.tag {
             self.skip();
@@ -128,11 +190,8 @@ impl Machine {
 
     // A bound of a string, of which 0 means the maximum count.
     fn limit(&self, bound: u32) -> u32
+        ensures { result ≡ limit_of bound (state_of self.now) }
     {
-        if bound == 0 {
-            self.max
-        } else {
-            bound
-        }
+        if bound == 0 { self.max } else { bound }
     }
 }

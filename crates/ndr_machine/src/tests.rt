@@ -2,7 +2,10 @@
 use crate::{DecodeFault, Machine, run};
 use nd_base::{Ledger, MemSource, Memory, Name, Order, Steps, Uncounted};
 use nd_flat::{Builder, Seen};
-use nd_types::{AttrVars, Class, Field, Interface, Operation, Operations, Param, Params, Side, TypeId, Types, Way};
+use nd_types::{
+    AttrVars, Class, Field, Interface, Operation, Operations, Param, Params, Side, TypeId, Types,
+    Way,
+};
 use nd_value::{Home, ItemLog};
 use ndr_code::{EnumLists, Instr};
 use ndr_intake::Intake;
@@ -62,7 +65,16 @@ fn a_struct_with_an_array_is_read(rt: HostRuntime) -> Result<(), Fail> {
     let octets = b"\xff\xff\0\0\x05\0\0\0\x06\0\0\0\xfe\xff\xff\xff\x41\x42\x43";
     let mut source = MemSource::new(rt.alloc(), octets, 3, &[])?;
     let values = EnumLists::new(rt.alloc());
-    let result = run(Order::Little, &CODE, &values, &mut machine, &mut intake, &mut source, &mut items, &mut steps);
+    let result = run(
+        Order::Little,
+        &CODE,
+        &values,
+        &mut machine,
+        &mut intake,
+        &mut source,
+        &mut items,
+        &mut steps,
+    );
     assert_eq!(rt; result, Ok(()));
     assert_eq!(rt; machine.at, 18);
     assert_eq!(rt; source.left(), b"\x43".as_slice());
@@ -72,11 +84,29 @@ fn a_struct_with_an_array_is_read(rt: HostRuntime) -> Result<(), Fail> {
     let mut walk = graph.walk(Home::Root(0));
     assert!(rt; matches!(walk.step(), Some(Seen::Rec(3))));
     assert!(rt; matches!(walk.step(), Some(Seen::Num(-1))));
-    assert!(rt; matches!(walk.step(), Some(Seen::Arr { max: 3, offset: 0, count: 3 })));
+    assert!(rt;
+        matches!(
+            walk.step(),
+            Some(Seen::Arr {
+                max: 3,
+                offset: 0,
+                count: 3
+            })
+        )
+    );
     assert!(rt; matches!(walk.step(), Some(Seen::Num(5))));
     assert!(rt; matches!(walk.step(), Some(Seen::Num(6))));
     assert!(rt; matches!(walk.step(), Some(Seen::Num(-2))));
-    assert!(rt; matches!(walk.step(), Some(Seen::Arr { max: 2, offset: 0, count: 2 })));
+    assert!(rt;
+        matches!(
+            walk.step(),
+            Some(Seen::Arr {
+                max: 2,
+                offset: 0,
+                count: 2
+            })
+        )
+    );
     assert!(rt; matches!(walk.step(), Some(Seen::Num(65))));
     assert!(rt; matches!(walk.step(), Some(Seen::Num(66))));
     assert!(rt; walk.step().is_none());
