@@ -1,9 +1,0 @@
-pub mod Read
-pub mod Ends
-pub mod Instances
-pub mod AttributeFiles
-pub mod TreeNames
-pub mod EndedNames
-pub mod NodeNames
-pub mod MeantNames
-pub mod Judged

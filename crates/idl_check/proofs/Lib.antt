@@ -1,5 +1,0 @@
-pub mod AcfLast
-pub mod AcfAnswers
-pub mod AcfOperations
-pub mod AcfNotes
-pub mod AcfWhole

@@ -1,2 +1,0 @@
-pub mod AcfRules
-pub mod SeenAcf

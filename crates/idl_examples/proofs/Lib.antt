@@ -1,4 +1,0 @@
-pub mod Judged
-pub mod Listed
-pub mod AcfJudged
-pub mod LegalTexts

@@ -1,4 +1,0 @@
-pub mod SmallTexts
-pub mod Interfaces
-pub mod Listings
-pub mod AcfTexts

@@ -1,4 +1,0 @@
-pub mod Graph
-pub mod GraphRows
-pub mod GraphRounds
-pub mod GraphCycles

@@ -1,3 +1,0 @@
-pub mod WordLists
-pub mod ListedRoots
-pub mod ListedWhole

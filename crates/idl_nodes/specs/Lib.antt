@@ -1,4 +1,0 @@
-pub mod SeenNodes
-pub mod Spelled
-pub mod ListBreaches
-pub mod Growing

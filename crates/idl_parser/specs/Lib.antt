@@ -1,4 +1,0 @@
-pub mod Lexemes
-pub mod Found
-pub mod Views
-pub mod Answered

@@ -1,4 +1,0 @@
-pub mod AskedUses
-pub mod UseNotes
-pub mod RestNotes
-pub mod CycleNotes

@@ -1,4 +1,0 @@
-pub mod RestBreaches
-pub mod Cycles
-pub mod SeenCounts
-pub mod AcceptedLabels

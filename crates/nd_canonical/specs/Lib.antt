@@ -1,4 +1,0 @@
-pub mod Naming
-pub mod Order
-pub mod Canonical
-pub mod Alike

@@ -1,9 +1,0 @@
-pub mod Accepted
-pub mod GoodEntries
-pub mod GoodStream
-pub mod GoodTrees
-pub mod Passed
-pub mod PassedTrees
-pub mod StreamConforming
-pub mod StreamConforms
-pub mod StreamMet

@@ -1,3 +1,0 @@
-pub mod LegalPipes
-pub mod LegalReadable
-pub mod LegalUsable

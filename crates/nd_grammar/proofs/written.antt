@@ -1,4 +1,0 @@
-pub mod CanonNumbers
-pub mod SameForms
-pub mod WritableTrees
-pub mod WrittenEntries

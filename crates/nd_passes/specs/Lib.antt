@@ -1,5 +1,0 @@
-pub mod Searched
-pub mod HomeList
-pub mod Pointers
-pub mod Disagreeing
-pub mod Numbers

@@ -1,6 +1,0 @@
--- Invariant of `copy_items`: the copies so far are the items before the next one.
-use Rattle.std.proofs.Common.{◌≡◌, take}
-use Rattle.nd_types.proofs.copies.copy_items.Given as goal
-
-abbrev pub invariant-loop-item : goal.invariant-loop-item
-invariant-loop-item g l = l.copies.items ≡ take l.item-index l.items

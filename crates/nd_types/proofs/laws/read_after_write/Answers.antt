@@ -1,5 +1,0 @@
-use Rattle.nd_types.proofs.NumberLaws as numbers
-use Rattle.nd_types.proofs.laws.read_after_write.Goals as goal
-
-pub returns : goal.returns
-returns c = numbers.read_after_write

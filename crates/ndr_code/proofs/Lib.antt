@@ -1,5 +1,0 @@
-pub mod Runs
-pub mod TypeRuns
-pub mod SideRuns
-pub mod SideLines
-pub mod Worked

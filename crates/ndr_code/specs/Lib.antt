@@ -1,4 +1,0 @@
-pub mod Code
-pub mod Lines
-pub mod Plan
-pub mod Runs

@@ -1,5 +1,0 @@
-pub mod Addresses
-pub mod Checks
-pub mod Listing
-pub mod Numbers
-pub mod Parts

@@ -1,5 +1,0 @@
-pub mod Examples
-pub mod ExamplesPlain
-pub mod ExamplesPointers
-pub mod ExamplesArrays
-pub mod ExamplesUnions
