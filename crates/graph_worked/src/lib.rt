@@ -1,7 +1,7 @@
-//! A law of graphs without a misfit, and worked examples, each a theorem over the definitions: which graphs conform, beside a request or
-//! beside none, and which misfit is
-//! the first of those that do not.
+//! Laws of graphs without a misfit, and worked examples, each a theorem over the definitions: which graphs conform, beside a request or
+//! beside none, and which misfit is the first of those that do not.
 #![tactic(auto)]
 
 pub mod examples;
 pub mod laws;
+pub mod plain;
