@@ -1,0 +1,14 @@
+mod NextToken
+pub mod Endings
+pub mod Spelled
+pub mod Kept
+mod LegalNames
+pub mod Lines
+mod NamedBefore
+mod Images
+mod CarriedNodes
+mod CanonReadable
+pub mod PrintedReads
+mod CarriedNumbers
+mod OneCanonical
+mod SameTexts

@@ -1,0 +1,4 @@
+//! Laws of value texts, over the definitions alone.
+#![tactic(auto)]
+
+pub mod laws;

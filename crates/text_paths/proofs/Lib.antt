@@ -1,0 +1,3 @@
+pub mod HomePaths
+pub mod Nodes
+pub mod Worked

@@ -1,0 +1,8 @@
+//! Where a node of a graph is, in words: the path from its root or cell.
+#![tactic(auto)]
+
+mod paths;
+#[cfg(test)]
+mod tests;
+
+pub use paths::path;

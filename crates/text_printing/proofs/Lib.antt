@@ -1,0 +1,9 @@
+pub mod Canonical
+pub mod Fits
+pub mod GraphLines
+pub mod Identifiers
+pub mod Items
+pub mod Lines
+pub mod Listing
+pub mod Sound
+pub mod Walking

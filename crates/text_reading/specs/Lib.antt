@@ -1,0 +1,6 @@
+pub mod Passing
+pub mod Identifiers
+pub mod NamedCells
+pub mod Known
+pub mod ValueParts
+pub mod Lines
