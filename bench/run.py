@@ -286,7 +286,7 @@ def octets_of(values: Sequence[int], order: str) -> bytes:
 
 
 def text_of(values: Sequence[int]) -> bytes:
-    lines = ["values 1", "op many in"] + [f"{name} = {value}" for name, value in zip(names(len(values)), values)]
+    lines = ["values 2", "op many in"] + [f"{name} = {value}" for name, value in zip(names(len(values)), values)]
     return "".join(f"{line}\n" for line in lines).encode()
 
 
@@ -354,7 +354,7 @@ def measure_calls(bench: Bench, idl: Path, nothing: Path, encodes: bool) -> Meas
     text = bench.write("values", text_of(values))
     runs = [
         Run("start-up (--version)", [bench.program, "--version"], nothing),
-        Run("decode, no parameters, same file", bench.decode(idl, "none", "little"), nothing, 0, b"values 1\nop none in\n"),
+        Run("decode, no parameters, same file", bench.decode(idl, "none", "little"), nothing, 0, b"values 2\nop none in\n"),
     ]
     for order in ("little", "big"):
         octets = bench.write(f"octets.{order}", octets_of(values, order))
@@ -412,7 +412,7 @@ def measure_files(bench: Bench, nothing: Path, start: Measured) -> None:
     """Large interface files, and an operation that takes nothing."""
     small = bench.write("small.idl", large_interface(FILE_LIMIT // 10))
     large = bench.write("large.idl", large_interface(FILE_LIMIT))
-    out = b"values 1\nop none in\n"
+    out = b"values 2\nop none in\n"
     of_small, of_large = bench.large(
         [
             Run("decode, a tenth of the largest file", bench.decode(small, "none", "little"), nothing, 0, out),

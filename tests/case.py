@@ -3,6 +3,7 @@
 from __future__ import annotations
 
 import os
+import re
 from dataclasses import dataclass, field
 from enum import Enum
 from pathlib import Path
@@ -119,8 +120,14 @@ def lines(*texts: str) -> bytes:
     return "".join(text + "\n" for text in texts).encode()
 
 
+def blocks(page: str) -> List[str]:
+    """The blocks of a page that are indented by four spaces."""
+    found = re.findall(r"(?:^    .*\n)+", (ROOT / page).read_text(encoding="utf-8"), flags=re.MULTILINE)
+    return ["".join(line[4:] for line in block.splitlines(keepends=True)) for block in found]
+
+
 def commands(page: str) -> List[Command]:
-    """The lines of a page that begin with `$`, in blocks of four spaces, each with the lines that it shows behind it."""
+    """The lines of a page that begin with `$`, in blocks of four spaces, each with the lines that it shows after it."""
     found: List[Tuple[str, List[str]]] = []
     open_block = False
     for text in (ROOT / page).read_text(encoding="utf-8").splitlines():

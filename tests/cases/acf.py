@@ -252,7 +252,7 @@ def at_places():
 ADD = {"t.idl": b"[local] interface t { void add([in] long a, [in] short b, [in] hyper c); void many([in, unique] long *a); }"}
 ACF = {"t.acf": b'[code] interface t { include "none.h"; add([heap] a); }'}
 OTHER = {"t.acf": b"interface u { }"}
-VALUES = lines("values 1", "op add in", "a = 1", "b = 2", "c = 3")
+VALUES = lines("values 2", "op add in", "a = 1", "b = 2", "c = 3")
 STREAM = octets("01000000 0200 0000 0300000000000000")
 DECODE = ["decode", "t.idl", "t.acf", "add", "in", "little"]
 ENCODE = ["encode", "t.idl", "t.acf", "add", "in", "little", "1"]

@@ -4,7 +4,7 @@ from case import ENDLESS, Case, OneAtATime, Sparse, example, interface, lines, o
 
 ADD = interface("void add([in] long a, [in] short b, [in] hyper c);")
 ADD_OCTETS = octets("01000000 0200 0000 0300000000000000")
-ADD_TEXT = lines("values 1", "op add in", "a = 1", "b = 2", "c = 3")
+ADD_TEXT = lines("values 2", "op add in", "a = 1", "b = 2", "c = 3")
 PING = interface("void ping();")
 ONE_OF_EACH = interface("void each([in] small a, [in] short b, [in] long c, [in] hyper d);")
 
@@ -12,7 +12,7 @@ ONE_OF_EACH = interface("void each([in] small a, [in] short b, [in] long c, [in]
 def decode(name, file, operation, input, *values, **wanted):
     """A case that decodes an operation of the file; with values it is accepted, and prints them."""
     if values:
-        wanted["out"] = lines("values 1", f"op {operation} in", *values)
+        wanted["out"] = lines("values 2", f"op {operation} in", *values)
     words = ["decode", "t.idl", "-", operation, "in", "little"]
     return Case(f"decode: {name}", words, {"t.idl": file}, input, **wanted)
 
@@ -34,7 +34,7 @@ VALUES = [
     decode("gap octets have any values", ADD, "add", octets("01000000 0200 AAFF 0300000000000000"), "a = 1", "b = 2", "c = 3"),
     decode("each octet by itself", ADD, "add", OneAtATime(ADD_OCTETS), "a = 1", "b = 2", "c = 3"),
     Case("decode: no parameters", ["decode", "t.idl", "-", "ping", "in", "little"], {"t.idl": PING}, b"",
-         lines("values 1", "op ping in")),
+         lines("values 2", "op ping in")),
     one("small", "zero", "00", 0),
     one("small", "least", "80", -128),
     one("small", "greatest", "7F", 127),

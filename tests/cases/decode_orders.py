@@ -3,7 +3,7 @@
 from case import CLOSED, Case, OneAtATime, interface, lines, octets
 
 ADD = interface("void add([in] long a, [in] short b, [in] hyper c);")
-ADD_TEXT = lines("values 1", "op add in", "a = 1", "b = 2", "c = 3")
+ADD_TEXT = lines("values 2", "op add in", "a = 1", "b = 2", "c = 3")
 ADD_LITTLE = octets("01000000 0200 0000 0300000000000000")
 ADD_BIG = octets("00000001 0002 0000 0000000000000003")
 
@@ -16,7 +16,7 @@ def decode(name, file, operation, input, order, **wanted):
 
 def both(type, name, value, big):
     """One value, decoded in both orders; `big` is its octets in big order."""
-    file, text = interface(f"void f([in] {type} x);"), lines("values 1", "op f in", f"x = {value}")
+    file, text = interface(f"void f([in] {type} x);"), lines("values 2", "op f in", f"x = {value}")
     big, little = octets(big), octets(big)[::-1]
     return [
         decode(f"{type}, {name}, big", file, "f", big, "big", out=text),

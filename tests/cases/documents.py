@@ -6,7 +6,7 @@ docs/BRINGING-YOUR-IDL.md has bringing.py, and README.md has readme.py.
 import re
 from typing import Dict, Iterator, List, Tuple
 
-from case import ROOT, Begins, Case, Check, commands, lines
+from case import ROOT, Begins, Case, Check, blocks, commands, lines
 
 SPAN = re.compile(r"`([^`]+)`")
 RULES = 40
@@ -29,12 +29,6 @@ def table(text: str, *header: str) -> Iterator[List[str]]:
         if not row.startswith("|"):
             return
         yield [cell.strip().replace("\\|", "|") for cell in re.split(r"(?<!\\)\|", row)[1:-1]]
-
-
-def blocks(text: str) -> List[str]:
-    """The blocks of a text that are set in by four spaces."""
-    found = re.findall(r"(?:^    .*\n)+", text, flags=re.MULTILINE)
-    return ["".join(line[4:] for line in block.splitlines(keepends=True)) for block in found]
 
 
 def compiled(name: str, files: Dict[str, str], acf: str = "-", **wanted) -> Case:
@@ -127,18 +121,48 @@ def of_expressions() -> Iterator[Case]:
 
 def of_listing() -> Case:
     """The example of the listing: the first block lists the second."""
-    listing, text = blocks(page("LISTING.md"))[:2]
+    listing, text = blocks("docs/LISTING.md")[:2]
     return compiled("docs/LISTING.md: the example", {"t.idl": text}, out=listing.encode())
 
 
 def of_acf() -> List[str]:
     """The example of an attribute file is the one that the examples have."""
-    return [] if (ROOT / "examples" / "letters.acf").read_text() in blocks(page("ACF.md")) else ["the page has another text than examples/letters.acf"]
+    return [] if (ROOT / "examples" / "letters.acf").read_text() in blocks("docs/ACF.md") else ["the page has another text than examples/letters.acf"]
+
+
+TEXT = page("TEXT.md")
+DECLARATIONS = blocks("docs/TEXT.md")[1]
+
+
+def text_of(version: int, shown: str) -> bytes:
+    """A text of `f` with the lines that a cell of the page has."""
+    return lines(f"values {version}", "op f in", *SPAN.findall(shown))
+
+
+def migrated(name: str, parameters: str, given: bytes, **wanted) -> Case:
+    """A text of an operation `f` with these parameters and the page's declarations."""
+    files = {"t.idl": within(f"{DECLARATIONS} void f({SPAN.findall(parameters)[0]});").encode()}
+    return Case(f"docs/TEXT.md, {name}", ["migrate", "t.idl", "-", "f", "in"], files, given, **wanted)
+
+
+def of_forms() -> Iterator[Case]:
+    """The values of each form of type on the page, read in both versions, and printed as the page shows them."""
+    rows = [(form, parameters, shown, shown) for form, _, parameters, shown in table(TEXT, "Type", "How a value is written", "Such parameters", "Their lines")]
+    rows += table(TEXT, "Type", "Such parameters", "Version 2", "Version 1")
+    for form, parameters, second, first in rows:
+        for version, given in ((1, first), (2, second)):
+            yield migrated(f"{form}, version {version}", parameters, text_of(version, given), out=text_of(2, second))
+
+
+def of_misfits() -> Iterator[Case]:
+    """The values of the page that do not conform, with their paths and reasons."""
+    for reason, _, parameters, shown, path in table(TEXT, "Reason", "When", "Such parameters", "Their lines", "Its path"):
+        yield migrated(reason, parameters, text_of(2, shown), notes=lines(f"refused: value at {SPAN.findall(path)[0]}: {reason}"), status=1)
 
 
 def of_texts() -> Iterator[Case]:
     """The value texts of the page that are refused, and where."""
-    for reason, _, text, place in table(page("TEXT.md"), "Reason", "When", "Such a text", "Its place"):
+    for reason, _, text, place in table(TEXT, "Reason", "When", "Such a text", "Its place"):
         if SPAN.findall(text):
             yield Case(f"docs/TEXT.md, {reason}: {text}", ["encode", "t.idl", "-", "f", "in", "little", "1"],
                        {"t.idl": within("void f([in] long a);").encode()}, SPAN.findall(text)[0].encode(),
@@ -157,7 +181,7 @@ def named_in(path: str, name: str) -> bool:
 
 
 def wrong_places(text: str) -> Iterator[str]:
-    """The definitions that a page names and that are not there: `crate: specs/File, name`, and further names behind it."""
+    """The definitions that a page names and that are not there: `crate: specs/File, name`, and further names after it."""
     for crate, folder, file, first, more in PLACE.findall(text):
         path = f"crates/{crate}/{folder}/**/{file}.*"
         if not any(ROOT.glob(path)):
@@ -192,5 +216,7 @@ CASES = [
     of_listing(),
     *commands("docs/LISTING.md"),
     Check("docs/ACF.md: the example", of_acf),
+    *of_forms(),
+    *of_misfits(),
     *of_texts(),
 ]

@@ -5,7 +5,7 @@ import os
 from case import CLOSED, Case, Folder, LinkTo, Unreadable, interface, lines, octets
 
 PLAIN = interface("void f([in] small x);")
-TEXT = lines("values 1", "op f in", "x = 1")
+TEXT = lines("values 2", "op f in", "x = 1")
 
 
 def decode(name, file, files, input=octets("01"), **wanted):

@@ -50,7 +50,7 @@ def table():
 def stamps():
     """A line that is stamped: its time, and the line."""
     found = run("--stamp", given="rt: nd_base proved\n")
-    return [] if found.strip().endswith(" rt: nd_base proved") and found.split()[0] == "0.0" else [f"found {found!r}"]
+    return [] if found.strip().endswith(" rt: nd_base proved") and 0 <= float(found.split()[0]) < 60 else [f"found {found!r}"]
 
 
 CASES = [Check("gate: the minutes of a log", table), Check("gate: lines get their times", stamps)]

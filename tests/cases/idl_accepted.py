@@ -8,7 +8,7 @@ HEADER = "[uuid(11111111-2222-3333-4444-555555555555)]"
 def accepted(name, file, operation="f", parameter="x"):
     """A file in which the operation has one small parameter."""
     return Case(f"plain: {name}", ["decode", "t.idl", "-", operation, "in", "little"], {"t.idl": file}, octets("01"),
-                lines("values 1", f"op {operation} in", f"{parameter} = 1"))
+                lines("values 2", f"op {operation} in", f"{parameter} = 1"))
 
 
 def named(name, word):

@@ -25,7 +25,7 @@ def accepted(name: str, main: str, **files: str) -> Case:
     """Files of which the main one has an operation of one small."""
     contents = {f"{file}.idl": text.encode() for file, text in {"t": main, **files}.items()}
     return Case(f"names: {name}", ["decode", "t.idl", "-", "f", "in", "little"], contents, octets("01"),
-                lines("values 1", "op f in", "x = 1"))
+                lines("values 2", "op f in", "x = 1"))
 
 
 def with_import(*exports: str) -> str:
@@ -139,11 +139,11 @@ def side_by_side(count: int) -> Dict[str, bytes]:
 WIDE, WIDE_PLACE = marked(main_with(64))
 LAST, PLACE = marked(f'{HEADER} interface u63 {{ import §"u64.idl"; }}')
 COUNTS = [
-    Case("import, 64 files", ["decode", "t.idl", "-", "f", "in", "little"], chain(MANY), octets("01"), lines("values 1", "op f in", "x = 1")),
+    Case("import, 64 files", ["decode", "t.idl", "-", "f", "in", "little"], chain(MANY), octets("01"), lines("values 2", "op f in", "x = 1")),
     Case("import, 65 files", ["decode", "t.idl", "-", "f", "in", "little"], {**chain(MANY), "u63.idl": LAST}, octets("01"),
          notes=lines(f"idl u63.idl:{PLACE}: TooMany"), status=6),
     Case("import, 63 files beside the main file", ["decode", "t.idl", "-", "f", "in", "little"], {**side_by_side(63), "t.idl": main_with(63).encode()},
-         octets("01"), lines("values 1", "op f in", "x = 1")),
+         octets("01"), lines("values 2", "op f in", "x = 1")),
     Case("import, 64 files beside the main file", ["decode", "t.idl", "-", "f", "in", "little"], {**side_by_side(64), "t.idl": WIDE}, octets("01"),
          notes=lines(f"idl t.idl:{WIDE_PLACE}: TooMany"), status=6),
 ]

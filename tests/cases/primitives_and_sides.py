@@ -24,22 +24,22 @@ def refused(name, declarations, operation, side, line):
 ALL = "void f([in] boolean a, [in] char b, [in] byte c, [in] small d, [in] unsigned small e, [in] short g, [in] unsigned short h, [in] long i, " \
       "[in] unsigned long j, [in] hyper k, [in] unsigned hyper l);"
 ALL_OCTETS = "01 41 FF FF FF AA FFFF FFFF AAAA FFFFFFFF FFFFFFFF AAAAAAAA FFFFFFFFFFFFFFFF FFFFFFFFFFFFFFFF"
-ALL_TEXT = lines("values 1", "op f in", "a = 1", "b = 65", "c = 255", "d = -1", "e = 255", "g = -1", "h = 65535", "i = -1", "j = 4294967295", "k = -1",
+ALL_TEXT = lines("values 2", "op f in", "a = 1", "b = 65", "c = 255", "d = -1", "e = 255", "g = -1", "h = 65535", "i = -1", "j = 4294967295", "k = -1",
                  "l = 18446744073709551615")
 
 CASES = [
     decode("a result", ["unsigned hyper top();"], "top", "out", "big", "FFFFFFFFFFFFFFFF",
-           lines("values 1", "op top out", "return = 18446744073709551615")),
+           lines("values 2", "op top out", "return = 18446744073709551615")),
     encode("a result", ["unsigned hyper top();"], "top", "out", "big", lines("values 1", "op top out", "return = 18446744073709551615"),
            "FFFFFFFFFFFFFFFF"),
-    decode("no result", ["void f([in] long x);"], "f", "out", "little", "", lines("values 1", "op f out")),
+    decode("no result", ["void f([in] long x);"], "f", "out", "little", "", lines("values 2", "op f out")),
     decode("each primitive", [ALL], "f", "in", "little", ALL_OCTETS, ALL_TEXT),
-    decode("any octet is true", ["void f([in] boolean b);"], "f", "in", "little", "FF", lines("values 1", "op f in", "b = 1")),
+    decode("any octet is true", ["void f([in] boolean b);"], "f", "in", "little", "FF", lines("values 2", "op f in", "b = 1")),
     encode("a boolean", ["void f([in] boolean b);"], "f", "in", "little", lines("values 1", "op f in", "b = 1"), "01"),
-    decode("a handle takes no octets", ["void f([in] handle_t h, [in] small x);"], "f", "in", "little", "05", lines("values 1", "op f in", "x = 5")),
-    decode("a typedef of a primitive", ["typedef long n;", "n f([in] n x);"], "f", "in", "little", "05000000", lines("values 1", "op f in", "x = 5")),
-    decode("types beside it", [NODE, "void f([in] small x);"], "f", "in", "little", "05", lines("values 1", "op f in", "x = 5")),
-    decode("one side is built, the other is not", ["void f([in] small x, [out] long *y);"], "f", "in", "little", "05", lines("values 1", "op f in", "x = 5")),
+    decode("a handle takes no octets", ["void f([in] handle_t h, [in] small x);"], "f", "in", "little", "05", lines("values 2", "op f in", "x = 5")),
+    decode("a typedef of a primitive", ["typedef long n;", "n f([in] n x);"], "f", "in", "little", "05000000", lines("values 2", "op f in", "x = 5")),
+    decode("types beside it", [NODE, "void f([in] small x);"], "f", "in", "little", "05", lines("values 2", "op f in", "x = 5")),
+    decode("one side is built, the other is not", ["void f([in] small x, [out] long *y);"], "f", "in", "little", "05", lines("values 2", "op f in", "x = 5")),
     refused("the other side", ["void f([in] small x, [out] long *y);"], "f", "out", "idl t.idl: NotBuilt f"),
     refused("a pointer", [NODE, "void f([in, ptr] node *p);"], "f", "in", "idl t.idl: NotBuilt f"),
     refused("an enumerated type", ["typedef enum { A, B } kind;", "void f([in] kind k);"], "f", "in", "idl t.idl: NotBuilt f"),

@@ -1,4 +1,4 @@
-"""README.md: each line that begins with `$` is run, and prints what the page shows behind it."""
+"""README.md: each line that begins with `$` is run, and prints what the page shows after it."""
 
 from case import Check, commands
 

@@ -8,7 +8,7 @@ DECODE = ["decode", "t.idl", "-", "f", "in", "little"]
 PING = ["decode", "t.idl", "-", "ping", "in", "little"]
 UNKNOWN = ["decode", "t.idl", "-", "g", "in", "little"]
 ONE = octets("01")
-TEXT = lines("values 1", "op f in", "x = 1")
+TEXT = lines("values 2", "op f in", "x = 1")
 
 INPUT = [
     Case("streams: closed input", DECODE, PLAIN, CLOSED, notes=lines("read fault"), status=3),

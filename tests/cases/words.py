@@ -17,7 +17,7 @@ def changed(at, word):
 
 
 CASES = [
-    Case("words: decode", DECODE, {"t.idl": PLAIN}, octets("01"), lines("values 1", "op f in", "x = 1")),
+    Case("words: decode", DECODE, {"t.idl": PLAIN}, octets("01"), lines("values 2", "op f in", "x = 1")),
     Case("words: --help", ["--help"], out=Begins(b"usage: dceidl compile IDL ACF\n")),
     Case("words: --help reads no input", ["--help"], input=CLOSED, out=Begins(b"usage: dceidl")),
     Case("words: --version", ["--version"], out=lines("dceidl 0.1.0")),

@@ -1,35 +1,40 @@
 -- What the commands on values answer, from what their steps answer.
-use Rattle.std.proofs.Common.{◌≡◌, ◌∙◌, ℕ, zero, suc, ◌<◌, ◌≤◌, true, List, [], ◌∷◌, length, Option, Some, Result, Ok, Err, IfOk, IfErr, refl, sym, ap, subst, inr, take, arith}
+use Rattle.std.proofs.Common.{◌≡◌, ◌∙◌, ℕ, zero, suc, ◌<◌, ◌≤◌, true, List, [], ◌∷◌, length, Option, Some, None, Result, Ok, Err, IfOk, IfErr, refl, sym, ap, subst, inr, take, arith}
 use Rattle.std.specs.List.{slice_get}
 use Rattle.nd_base.specs.declared.octets.Order.{Order}
 use Rattle.nd_types.specs.declared.interface.Interface.{Interface}
 use Rattle.nd_types.specs.declared.types.Operation.{Operation}
 use Rattle.nd_types.specs.Operations.{operation_named}
+use Rattle.nd_types.specs.Numbers.{IsNumberSide}
+use Rattle.nd_types.specs.Table.{Table}
 use Rattle.nd_value.specs.declared.value.Graph.{Graph}
 use Rattle.nd_value.specs.Setting.{Setting}
 use Rattle.nd_grammar.specs.Represents.{Represents}
 use Rattle.nd_grammar.specs.Prefix.{BeginsWith}
 use Rattle.nd_types.specs.declared.types.Side.{Side}
-use Rattle.nd_types.specs.Numbers.{has_number_roots, IsNumberSide}
-use Rattle.nd_value.specs.Fitting.{setting_of}
-use Rattle.value_text.specs.Printed.{IsText}
+use Rattle.nd_value.specs.Fitting.{setting_of, setting_beside}
+use Rattle.text_grammar.specs.Printed.{IsText}
 use Rattle.dceidl.specs.declared.ready.Ready.{Ready}
 use Rattle.nd_base.specs.declared.TheConstants.{STREAM_LIMIT}
-use Rattle.value_text.specs.declared.TheConstants.{TEXT_LIMIT}
+use Rattle.text_grammar.specs.declared.TheConstants.{TEXT_LIMIT}
 use Rattle.dceidl.specs.declared.words.Reading.{Reading}
 use Rattle.dceidl.specs.declared.words.Reading.TheVariants.{Decode}
 use Rattle.dceidl.specs.declared.words.OrderWord.{OrderWord}
+use Rattle.dceidl.specs.declared.words.Writing.{Writing}
+use Rattle.dceidl.specs.declared.words.Writing.TheVariants.{Encode, Migrate}
+use Rattle.dceidl.specs.declared.words.Values.{Values}
 use Rattle.dceidl.specs.Seen.{Seen}
-use Rattle.dceidl.specs.Words.{Subject, Read, Encode, order_in}
+use Rattle.dceidl.specs.Words.{Subject, Read, Write, order_in, values_read, values_written}
 use Rattle.dceidl.specs.Causes.{IsMade, IsCause}
-use Rattle.dceidl.specs.Encode.{IsEncoding, IsTextCause}
-use Rattle.dceidl.specs.declared.refusal.Refusal.{Refusal}
-use Rattle.dceidl.specs.declared.refusal.Refusal.TheVariants.{Memory, Absent, FileFailed, BadIdl, NoOperation, NotBuilt, ReadFault, BadOctets, BadText, BadValue}
+use Rattle.dceidl.specs.Encode.{IsEncoding, IsMigration, IsTextCause}
+use Rattle.refusals.specs.declared.refusal.Refusal.{Refusal}
+use Rattle.refusals.specs.declared.refusal.Refusal.TheVariants.{Memory, Absent, FileFailed, BadIdl, NoOperation, NotBuilt, ReadFault, BadOctets, BadText, BadValue}
 use Rattle.nd_base.specs.Over.{FilesSeen, SourceSeen}
-use Rattle.dceidl.specs.Ready.{IsFound, IsReady, IsCompiled, IsReadyCause, IsIdlCause, IsNotFound}
-use Rattle.dceidl.specs.declared.refusal.OctetsFault.TheVariants as fault
+use Rattle.dceidl.specs.Ready.{is_among, IsSideOf, IsFound, IsReady, IsReadyCause, IsNotFound}
+use Rattle.idl_compiler.specs.Compiled.{IsCompiled, IsIdlCause}
+use Rattle.refusals.specs.declared.refusal.OctetsFault.TheVariants as fault
 use Rattle.dceidl.specs.Decode.{IsDecoding, IsLeftOver, IsOctetsCause}
-use Rattle.dceidl.specs.Input.{AreRead, IsRead, IsReadCause, IsEncoded, IsEncodeCause}
+use Rattle.dceidl.specs.Input.{AreRead, IsRead, IsReadCause, IsWritten, IsWriteCause}
 
 item_at : {X : Type 0} (xs : List X) (i : ℕ) → i < length xs → (x : X) × (slice_get xs i ≡ Some x)
 item_at [] i h = absurd (omega (arith, h))
@@ -37,58 +42,65 @@ item_at (x ∷ xs) zero h = (x, refl)
 item_at (x ∷ xs) (suc i) h = item_at xs i (omega (arith, h))
 
 -- an interface that files mean, and its operation, are ready
-pub found_is : (f : FilesSeen) (of : Subject) (i : Interface) → IsCompiled f of.idl of.acf i → (result : Result Ready Refusal)
+pub found_is : (values : Values) (f : FilesSeen) (of : Subject) (i : Interface) → IsCompiled f of.idl of.acf i → (result : Result Ready Refusal)
     → IfOk result (λ r. r.interface ≡ i) → IfOk result (λ r. operation_named i.operations of.op ≡ Some r.number) → IfOk result (λ r. r.side ≡ of.side)
     → IfOk result (λ r. r.number < length r.interface.operations)
-    → IfOk result (λ r. IsNumberSide r.interface.types r.interface.operations r.number r.side)
-    → IfOk result (λ r. (o : Operation) × IsFound f of r.interface r.number o)
-found_is f of i compiled (Ok r) same named sided known built =
+    → IfOk result (λ r. IsSideOf values r.interface.types r.interface.operations r.number r.side)
+    → IfOk result (λ r. (o : Operation) × IsFound values f of r.interface r.number o)
+found_is values f of i compiled (Ok r) same named sided known built =
     let (o, there) = item_at r.interface.operations r.number known in (
       o,
       record {
         compiled = subst (IsCompiled f of.idl of.acf) (sym same) compiled;
         named = record { found = ap (λ (j : Interface). operation_named j.operations of.op) same ∙ named; is_there = there };
-        built = subst (λ s. has_number_roots r.interface.types s o ≡ true) sided (built o there);
+        built = subst (λ s. is_among values r.interface.types s o ≡ true) sided (built o there);
       },
     )
-found_is f of i compiled (Err e) same named sided known built = tt
+found_is values f of i compiled (Err e) same named sided known built = tt
 
-not_found : (f : FilesSeen) (of : Subject) (i : Interface) → IsCompiled f of.idl of.acf i → (e : Refusal) → IsNotFound i of.op of.side e → IsReadyCause f of e
-not_found f of i compiled NoOperation cause = (i, compiled, cause)
-not_found f of i compiled NotBuilt (n, o, named, unbuilt) = (i, n, o, compiled, named, unbuilt)
-not_found f of i compiled Memory cause = absurd cause
-not_found f of i compiled (Absent file) cause = absurd cause
-not_found f of i compiled (FileFailed file) cause = absurd cause
-not_found f of i compiled (BadIdl file line column reason) cause = absurd cause
-not_found f of i compiled ReadFault cause = absurd cause
-not_found f of i compiled (BadOctets place why) cause = absurd cause
-not_found f of i compiled (BadText line column reason) cause = absurd cause
-not_found f of i compiled (BadValue path reason) cause = absurd cause
+not_found : (values : Values) (f : FilesSeen) (of : Subject) (i : Interface) → IsCompiled f of.idl of.acf i → (e : Refusal) → IsNotFound values i of.op of.side e
+    → IsReadyCause values f of e
+not_found values f of i compiled NoOperation cause = (i, compiled, cause)
+not_found values f of i compiled NotBuilt (n, o, named, unbuilt) = (i, n, o, compiled, named, unbuilt)
+not_found values f of i compiled Memory cause = absurd cause
+not_found values f of i compiled (Absent file) cause = absurd cause
+not_found values f of i compiled (FileFailed file) cause = absurd cause
+not_found values f of i compiled (BadIdl file line column reason) cause = absurd cause
+not_found values f of i compiled ReadFault cause = absurd cause
+not_found values f of i compiled (BadOctets place why) cause = absurd cause
+not_found values f of i compiled (BadText line column reason) cause = absurd cause
+not_found values f of i compiled (BadValue path reason) cause = absurd cause
 
 -- an operation that is not found or not built is the cause
-pub find_refused : (f : FilesSeen) (of : Subject) (i : Interface) → IsCompiled f of.idl of.acf i → (result : Result Ready Refusal)
-    → IfErr result (IsNotFound i of.op of.side) → IfErr result (IsReadyCause f of)
-find_refused f of i compiled (Ok r) cause = tt
-find_refused f of i compiled (Err e) cause = not_found f of i compiled e cause
+pub find_refused : (values : Values) (f : FilesSeen) (of : Subject) (i : Interface) → IsCompiled f of.idl of.acf i → (result : Result Ready Refusal)
+    → IfErr result (IsNotFound values i of.op of.side) → IfErr result (IsReadyCause values f of)
+find_refused values f of i compiled (Ok r) cause = tt
+find_refused values f of i compiled (Err e) cause = not_found values f of i compiled e cause
 
 -- why the files mean no interface is why they are refused
-pub idl_refused : (f : FilesSeen) (of : Subject) (e : Refusal) → IsIdlCause f of.idl of.acf e → IsReadyCause f of e
-idl_refused f of Memory cause = tt
-idl_refused f of (Absent file) cause = cause
-idl_refused f of (FileFailed file) cause = cause
-idl_refused f of (BadIdl file line column reason) cause = cause
-idl_refused f of NoOperation cause = absurd cause
-idl_refused f of NotBuilt cause = absurd cause
-idl_refused f of ReadFault cause = absurd cause
-idl_refused f of (BadOctets place why) cause = absurd cause
-idl_refused f of (BadText line column reason) cause = absurd cause
-idl_refused f of (BadValue path reason) cause = absurd cause
+pub idl_refused : (values : Values) (f : FilesSeen) (of : Subject) (e : Refusal) → IsIdlCause f of.idl of.acf e → IsReadyCause values f of e
+idl_refused values f of Memory cause = tt
+idl_refused values f of (Absent file) cause = cause
+idl_refused values f of (FileFailed file) cause = cause
+idl_refused values f of (BadIdl file line column reason) cause = cause
+idl_refused values f of NoOperation cause = absurd cause
+idl_refused values f of NotBuilt cause = absurd cause
+idl_refused values f of ReadFault cause = absurd cause
+idl_refused values f of (BadOctets place why) cause = absurd cause
+idl_refused values f of (BadText line column reason) cause = absurd cause
+idl_refused values f of (BadValue path reason) cause = absurd cause
 
 pub take_whole : (n : ℕ) (xs : List ℕ) → length xs ≤ n → take n xs ≡ xs
 take_whole zero [] h = refl
 take_whole zero (x ∷ xs) h = absurd (omega (arith, h))
 take_whole (suc n) [] h = refl
 take_whole (suc n) (x ∷ xs) h = ap (λ u. x ∷ u) (take_whole n xs (omega (arith, h)))
+
+-- the text of a fit's graph, beside no request and on this side
+pub text_is : (i : Interface) (o : Operation) (s side : Side) (given : Option Graph) (g : Graph) (text : List ℕ) → side ≡ s → given ≡ None
+    → IsText (setting_beside i o side given) g text → IsText (setting_of i o s) g text
+text_is i o s side given g text same alone printed =
+    subst (λ q. IsText (setting_beside i o s q) g text) alone (subst (λ k. IsText (setting_beside i o k given) g text) same printed)
 
 -- a graph that took all octets, and its text
 pub decoding_is : (w : Setting) (order : Order) (octets : List ℕ) (taken : ℕ) (g : Graph) → BeginsWith w order octets taken g → (result : Result (List ℕ) Refusal)
@@ -101,6 +113,15 @@ decoding_is w order octets taken g begins (Ok text) is_text whole = record {
 }
 decoding_is w order octets taken g begins (Err e) is_text whole = tt
 
+-- the sides whose octets are read and written are those of primitives
+pub read_numbers : (how : Reading) (types : Table) (operations : List Operation) (n : ℕ) (s : Side) → IsSideOf (values_read how) types operations n s
+    → IsNumberSide types operations n s
+read_numbers Decode types operations n s built = built
+
+pub encoded_numbers : (how : Writing) (order : OrderWord) (chunk : ℕ) → how ≡ Encode order chunk → (types : Table) (operations : List Operation) (n : ℕ) (s : Side)
+    → IsSideOf (values_written how) types operations n s → IsNumberSide types operations n s
+encoded_numbers how order chunk is types operations n s built = subst (λ h. IsSideOf (values_written h) types operations n s) is built
+
 -- the input was read, and something made of it
 pub read_is : (s : SourceSeen) (how : Reading) (w : Setting) (order named : Order) (octets : List ℕ) → AreRead s STREAM_LIMIT octets → named ≡ order
     → (result : Result (List ℕ) Refusal) → IfOk result (IsDecoding w named octets) → IfOk result (IsRead s how w order)
@@ -108,11 +129,16 @@ read_is s Decode w order named octets read same (Ok made) decoding =
     record { octets = octets; read = read; shown = subst (λ o. IsDecoding w o octets made) same decoding }
 read_is s how w order named octets read same (Err e) decoding = tt
 
-pub encoded_is : (s : SourceSeen) (w : Setting) (order named : Order) (chunk : ℕ) (text : List ℕ) → AreRead s TEXT_LIMIT text → named ≡ order
-    → (result : Result (List ℕ) Refusal) → IfOk result (IsEncoding w named chunk text) → IfOk result (IsEncoded s w order chunk)
-encoded_is s w order named chunk text read same (Ok made) encoding =
-    record { text = text; read = read; encoding = subst (λ o. IsEncoding w o chunk text made) same encoding }
-encoded_is s w order named chunk text read same (Err e) encoding = tt
+pub encoded_is : (s : SourceSeen) (how : Writing) (w : Setting) (order : OrderWord) (named : Order) (chunk : ℕ) (text : List ℕ) → AreRead s TEXT_LIMIT text → how ≡ Encode order chunk
+    → named ≡ order_in order → (result : Result (List ℕ) Refusal) → IfOk result (IsEncoding w named chunk text) → IfOk result (IsWritten s how w)
+encoded_is s how w order named chunk text read is same (Ok made) encoding =
+    subst (λ h. IsWritten s h w made) (sym is) (record { text = text; read = read; made_of = subst (λ o. IsEncoding w o chunk text made) same encoding })
+encoded_is s how w order named chunk text read is same (Err e) encoding = tt
+
+pub migrated_is : (s : SourceSeen) (how : Writing) (w : Setting) (text : List ℕ) → AreRead s TEXT_LIMIT text → how ≡ Migrate → (result : Result (List ℕ) Refusal)
+    → IfOk result (IsMigration w text) → IfOk result (IsWritten s how w)
+migrated_is s how w text read is (Ok made) migration = subst (λ h. IsWritten s h w made) (sym is) (record { text = text; read = read; made_of = migration })
+migrated_is s how w text read is (Err e) migration = tt
 
 -- octets that are refused are an input that is refused
 octets_cause : (s : SourceSeen) (how : Reading) (w : Setting) (order : Order) (octets : List ℕ) → AreRead s STREAM_LIMIT octets → (e : Refusal) → IsOctetsCause w order octets e
@@ -133,7 +159,7 @@ pub octets_refused : (s : SourceSeen) (how : Reading) (w : Setting) (order : Ord
 octets_refused s how w order octets read (Ok made) cause = tt
 octets_refused s how w order octets read (Err e) cause = octets_cause s how w order octets read e cause
 
-text_cause : (s : SourceSeen) (w : Setting) (text : List ℕ) → AreRead s TEXT_LIMIT text → (e : Refusal) → IsTextCause w text e → IsEncodeCause s w e
+text_cause : (s : SourceSeen) (w : Setting) (text : List ℕ) → AreRead s TEXT_LIMIT text → (e : Refusal) → IsTextCause w text e → IsWriteCause s w e
 text_cause s w text read Memory cause = tt
 text_cause s w text read ReadFault cause = absurd cause
 text_cause s w text read (Absent file) cause = (text, read, cause)
@@ -146,32 +172,45 @@ text_cause s w text read (BadText line column reason) cause = (text, read, cause
 text_cause s w text read (BadValue path reason) cause = (text, read, cause)
 
 pub text_refused : (s : SourceSeen) (w : Setting) (text : List ℕ) → AreRead s TEXT_LIMIT text → (result : Result (List ℕ) Refusal)
-    → IfErr result (IsTextCause w text) → IfErr result (IsEncodeCause s w)
+    → IfErr result (IsTextCause w text) → IfErr result (IsWriteCause s w)
 text_refused s w text read (Ok made) cause = tt
 text_refused s w text read (Err e) cause = text_cause s w text read e cause
 
 -- ## What a command on values answers
 
 -- what it speaks of is ready, with the side of the code
-pub ready_is : (f : FilesSeen) (of : Subject) (i : Interface) (n : ℕ) (o : Operation) (side : Side) → IsFound f of i n o → side ≡ of.side → IsReady f of (setting_of i o side)
-ready_is f of i n o side found same = record { interface = i; number = n; operation = o; found = found; setting_is = ap (setting_of i o) same }
+pub ready_is : (values named : Values) (f : FilesSeen) (of : Subject) (i : Interface) (n : ℕ) (o : Operation) (side : Side) → named ≡ values → IsFound named f of i n o → side ≡ of.side
+    → IsReady values f of (setting_of i o side)
+ready_is values named f of i n o side are found same = record {
+  interface = i;
+  number = n;
+  operation = o;
+  found = subst (λ v. IsFound v f of i n o) are found;
+  setting_is = ap (setting_of i o) same;
+}
 
-module _ (x : Seen) (of : Subject) (order : OrderWord) (w : Setting) (ready : IsReady x.files of w) where
-  pub read_made : (how : Reading) (result : Result (List ℕ) Refusal) → IfOk result (IsRead x.input how w (order_in order)) → IfOk result (IsMade x (Read how of order))
-  read_made how (Ok made) is = (w, ready, is)
-  read_made how (Err e) is = tt
+-- why it is not, where the code's values are those of the command
+pub not_ready : (values named : Values) (f : FilesSeen) (of : Subject) (r : Refusal) → named ≡ values → IsReadyCause named f of r → IsReadyCause values f of r
+not_ready values named f of r are cause = subst (λ v. IsReadyCause v f of r) are cause
 
-  pub read_refused : (how : Reading) (result : Result (List ℕ) Refusal) → IfErr result (IsReadCause x.input how w (order_in order)) → IfErr result (IsCause x (Read how of order))
-  read_refused how (Ok made) cause = tt
-  read_refused how (Err e) cause = inr (w, ready, cause)
+module _ (x : Seen) (of : Subject) (w : Setting) where
+  module _ (how : Reading) (order : OrderWord) (ready : IsReady (values_read how) x.files of w) where
+    pub read_made : (result : Result (List ℕ) Refusal) → IfOk result (IsRead x.input how w (order_in order)) → IfOk result (IsMade x (Read how of order))
+    read_made (Ok made) is = (w, ready, is)
+    read_made (Err e) is = tt
 
-  pub encode_made : (chunk : ℕ) (result : Result (List ℕ) Refusal) → IfOk result (IsEncoded x.input w (order_in order) chunk) → IfOk result (IsMade x (Encode of order chunk))
-  encode_made chunk (Ok made) is = (w, ready, is)
-  encode_made chunk (Err e) is = tt
+    pub read_refused : (result : Result (List ℕ) Refusal) → IfErr result (IsReadCause x.input how w (order_in order)) → IfErr result (IsCause x (Read how of order))
+    read_refused (Ok made) cause = tt
+    read_refused (Err e) cause = inr (w, ready, cause)
 
-  pub encode_refused : (chunk : ℕ) (result : Result (List ℕ) Refusal) → IfErr result (IsEncodeCause x.input w) → IfErr result (IsCause x (Encode of order chunk))
-  encode_refused chunk (Ok made) cause = tt
-  encode_refused chunk (Err e) cause = inr (w, ready, cause)
+  module _ (how : Writing) (ready : IsReady (values_written how) x.files of w) where
+    pub write_made : (result : Result (List ℕ) Refusal) → IfOk result (IsWritten x.input how w) → IfOk result (IsMade x (Write how of))
+    write_made (Ok made) is = (w, ready, is)
+    write_made (Err e) is = tt
+
+    pub write_refused : (result : Result (List ℕ) Refusal) → IfErr result (IsWriteCause x.input w) → IfErr result (IsCause x (Write how of))
+    write_refused (Ok made) cause = tt
+    write_refused (Err e) cause = inr (w, ready, cause)
 
 -- octets after a graph that conforms are what is left over
 pub left_over : (w : Setting) (order : Order) (octets : List ℕ) (taken : ℕ) (g : Graph) → BeginsWith w order octets taken g → (result : Result (List ℕ) Refusal)

@@ -1,5 +1,5 @@
 -- What files that are held mean, and how what a command speaks of is refused where no load fails.
-use Rattle.std.proofs.Common.{◌≡◌, ℕ, List, [], Option, Some, None, refl, sym, ◌∙◌, ap, subst, inl, inr, ◌⊎◌}
+use Rattle.std.proofs.Common.{◌≡◌, ℕ, List, Option, Some, None, refl, sym, ◌∙◌, ap, subst, inl, inr, ◌⊎◌}
 use Rattle.std.specs.List.{slice_get}
 use Rattle.std.specs.Prelude.{option_map, true, false}
 use Rattle.std.proofs.lemmas.Option.{same_Some}
@@ -9,19 +9,20 @@ use Rattle.nd_types.specs.declared.interface.Interface.{Interface}
 use Rattle.nd_types.specs.declared.types.Operation.{Operation}
 use Rattle.nd_types.specs.declared.types.Side.{Side}
 use Rattle.nd_types.specs.Operations.{operation_named}
-use Rattle.nd_types.specs.Numbers.{has_number_roots}
 use Rattle.nd_value.specs.Setting.{Setting}
 use Rattle.nd_value.specs.Fitting.{setting_of}
 use Rattle.nd_types.specs.Meant.{Meant}
 use Rattle.nd_types.specs.Meant.{meant_by}
-use Rattle.dceidl.specs.declared.refusal.IdlReason.{IdlReason}
-use Rattle.dceidl.specs.declared.refusal.Refusal.{Refusal}
-use Rattle.dceidl.specs.declared.refusal.Refusal.TheVariants.{Memory, Absent, FileFailed, BadIdl, NoOperation, NotBuilt, ReadFault, BadOctets, BadText, BadValue}
+use Rattle.refusals.specs.declared.refusal.IdlReason.{IdlReason}
+use Rattle.refusals.specs.declared.refusal.Refusal.{Refusal}
+use Rattle.refusals.specs.declared.refusal.Refusal.TheVariants.{Memory, Absent, FileFailed, BadIdl, NoOperation, NotBuilt, ReadFault, BadOctets, BadText, BadValue}
 use Rattle.dceidl.specs.Words.{Subject}
-use Rattle.dceidl.specs.Idl.{Means, IsIdlFault, IsDueAfter, IsDueFile}
-use Rattle.dceidl.specs.Ready.{IsNamed, IsCompiled, IsReady, IsReadyCause, IsIdlCause}
+use Rattle.dceidl.specs.declared.words.Values.{Values}
+use Rattle.idl_compiler.specs.Idl.{Means, IsIdlFault, IsDueAfter, IsDueFile}
+use Rattle.dceidl.specs.Ready.{IsNamed, is_among, IsReady, IsReadyCause}
+use Rattle.idl_compiler.specs.Compiled.{IsCompiled, IsIdlCause}
 use Rattle.dceidl.specs.Rows.{IsHeld, IsAccepted, MustBeNoIdl, MustBeUnready}
-use Rattle.dceidl.proofs.OneMeaning.{IsBad, means_one, never_both, one_bad, absent_or_means, absent_or_bad}
+use Rattle.idl_compiler.proofs.OneMeaning.{IsBad, means_one, never_both, one_bad, absent_or_means, absent_or_bad}
 
 abbrev Contents : Type 0
 Contents = Option (List ℕ → Option (List ℕ))
@@ -94,11 +95,11 @@ unknown_or_named i j op n o e none named =
     let gone : None ≡ Some n = sym none ∙ ap (λ (z : Meant). operation_named z.operations op) e ∙ named.found in
     absurd (cc)
 
-built_or_not : {B : Type 0} (i j : Interface) (op : List ℕ) (side : Side) (n m : ℕ) (o q : Operation) → meant_by i ≡ meant_by j → IsNamed i op n o → IsNamed j op m q
-    → has_number_roots i.types side o ≡ false → has_number_roots j.types side q ≡ true → B
-built_or_not i j op side n m o q e x y unbuilt built =
+built_or_not : {B : Type 0} (values : Values) (i j : Interface) (op : List ℕ) (side : Side) (n m : ℕ) (o q : Operation) → meant_by i ≡ meant_by j → IsNamed i op n o → IsNamed j op m q
+    → is_among values i.types side o ≡ false → is_among values j.types side q ≡ true → B
+built_or_not values i j op side n m o q e x y unbuilt built =
     let both : false ≡ true =
-    sym unbuilt ∙ ap (λ (z : Meant). has_number_roots z.types side o) e ∙ ap (has_number_roots j.types side) (same_operation i j op n m o q e x y) ∙ built in
+    sym unbuilt ∙ ap (λ (z : Meant). is_among values z.types side o) e ∙ ap (is_among values j.types side) (same_operation i j op n m o q e x y) ∙ built in
     absurd (cc)
 
 -- ## The files of a command
@@ -160,9 +161,9 @@ module _ (f : FilesSeen) (idl : List ℕ) (acf : Option (List ℕ)) (loads : Has
 
 -- ## What a command on values speaks of
 
-module _ (f : FilesSeen) (of : Subject) where
+module _ (values : Values) (f : FilesSeen) (of : Subject) where
   -- what is accepted is ready in one way
-  pub one_setting : (w v : Setting) → IsAccepted f of w → IsReady f of v → v ≡ w
+  pub one_setting : (w v : Setting) → IsAccepted values f of w → IsReady values f of v → v ≡ w
   one_setting w v a r = r.setting_is ∙ same (ap (λ (z : Meant). z.types) meant) (same_operation r.interface a.interface of.op r.number a.number r.operation a.operation meant r.found.named a.named) ∙ sym a.setting_is
     where
       meant : meant_by r.interface ≡ meant_by a.interface
@@ -174,12 +175,12 @@ module _ (f : FilesSeen) (of : Subject) where
 
   module _ (loads : HasRisen f.faults → ⊥) where
     -- and it is not refused
-    pub accepted_cause : (w : Setting) → IsAccepted f of w → (r : Refusal) → IsReadyCause f of r → r ≡ Memory
+    pub accepted_cause : (w : Setting) → IsAccepted values f of w → (r : Refusal) → IsReadyCause values f of r → r ≡ Memory
     accepted_cause w a NoOperation (j, compiled, none) =
         unknown_or_named j a.interface of.op a.number a.operation
         (one_meaning f of.idl a.file of.acf a.held j a.interface (means_here f of.idl a.file of.acf a.held j compiled) a.means) none a.named
     accepted_cause w a NotBuilt (j, m, q, compiled, named, unbuilt) =
-        built_or_not j a.interface of.op of.side m a.number q a.operation
+        built_or_not values j a.interface of.op of.side m a.number q a.operation
         (one_meaning f of.idl a.file of.acf a.held j a.interface (means_here f of.idl a.file of.acf a.held j compiled) a.means) named a.named unbuilt a.built
     accepted_cause w a Memory cause = compiled_cause f of.idl of.acf loads a.file a.interface a.held a.means Memory cause
     accepted_cause w a (Absent other) cause = compiled_cause f of.idl of.acf loads a.file a.interface a.held a.means (Absent other) cause
@@ -191,12 +192,12 @@ module _ (f : FilesSeen) (of : Subject) where
     accepted_cause w a (BadValue path reason) cause = compiled_cause f of.idl of.acf loads a.file a.interface a.held a.means (BadValue path reason) cause
 
     -- what is refused is not ready
-    pub unready : (r : Refusal) → MustBeUnready f of r → (w : Setting) → IsReady f of w → ⊥
+    pub unready : (r : Refusal) → MustBeUnready values f of r → (w : Setting) → IsReady values f of w → ⊥
     unready NoOperation (text, i, held, means, none) w ready =
         unknown_or_named i ready.interface of.op ready.number ready.operation
         (one_meaning f of.idl text of.acf held i ready.interface means (means_here f of.idl text of.acf held ready.interface ready.found.compiled)) none ready.found.named
     unready NotBuilt (text, i, n, o, held, means, named, unbuilt) w ready =
-        built_or_not i ready.interface of.op of.side n ready.number o ready.operation
+        built_or_not values i ready.interface of.op of.side n ready.number o ready.operation
         (one_meaning f of.idl text of.acf held i ready.interface means (means_here f of.idl text of.acf held ready.interface ready.found.compiled)) named ready.found.named unbuilt
         ready.found.built
     unready Memory must w ready = no_idl f of.idl of.acf loads Memory must ready.interface ready.found.compiled
@@ -209,7 +210,7 @@ module _ (f : FilesSeen) (of : Subject) where
     unready (BadValue path reason) must w ready = no_idl f of.idl of.acf loads (BadValue path reason) must ready.interface ready.found.compiled
 
     -- an interface without the operation is refused as that alone
-    only_unknown : MustBeUnready f of NoOperation → (r : Refusal) → IsReadyCause f of r → (r ≡ Memory) ⊎ (r ≡ NoOperation)
+    only_unknown : MustBeUnready values f of NoOperation → (r : Refusal) → IsReadyCause values f of r → (r ≡ Memory) ⊎ (r ≡ NoOperation)
     only_unknown must NoOperation cause = inr refl
     only_unknown (text, i, held, means, none) NotBuilt (j, n, o, compiled, named, unbuilt) =
         unknown_or_named i j of.op n o (one_meaning f of.idl text of.acf held i j means (means_here f of.idl text of.acf held j compiled)) none named
@@ -223,7 +224,7 @@ module _ (f : FilesSeen) (of : Subject) where
     only_unknown (text, i, held, means, none) (BadValue path reason) cause = inl (compiled_cause f of.idl of.acf loads text i held means (BadValue path reason) cause)
 
     -- an operation with a root that is not a primitive is refused as that alone
-    only_unbuilt : MustBeUnready f of NotBuilt → (r : Refusal) → IsReadyCause f of r → (r ≡ Memory) ⊎ (r ≡ NotBuilt)
+    only_unbuilt : MustBeUnready values f of NotBuilt → (r : Refusal) → IsReadyCause values f of r → (r ≡ Memory) ⊎ (r ≡ NotBuilt)
     only_unbuilt must NotBuilt cause = inr refl
     only_unbuilt (text, i, n, o, held, means, named, unbuilt) NoOperation (j, compiled, none) =
         unknown_or_named j i of.op n o (one_meaning f of.idl text of.acf held j i (means_here f of.idl text of.acf held j compiled) means) none named
@@ -236,7 +237,7 @@ module _ (f : FilesSeen) (of : Subject) where
     only_unbuilt (text, i, n, o, held, means, named, unbuilt) (BadText line column reason) cause = inl (compiled_cause f of.idl of.acf loads text i held means (BadText line column reason) cause)
     only_unbuilt (text, i, n, o, held, means, named, unbuilt) (BadValue path reason) cause = inl (compiled_cause f of.idl of.acf loads text i held means (BadValue path reason) cause)
 
-    only_no_idl : (r : Refusal) → MustBeNoIdl f of.idl of.acf r → (q : Refusal) → IsReadyCause f of q → (q ≡ Memory) ⊎ (q ≡ r)
+    only_no_idl : (r : Refusal) → MustBeNoIdl f of.idl of.acf r → (q : Refusal) → IsReadyCause values f of q → (q ≡ Memory) ⊎ (q ≡ r)
     only_no_idl r must NoOperation (i, compiled, none) = absurd (no_idl f of.idl of.acf loads r must i compiled)
     only_no_idl r must NotBuilt (i, n, o, compiled, named, unbuilt) = absurd (no_idl f of.idl of.acf loads r must i compiled)
     only_no_idl r must Memory cause = no_idl_cause f of.idl of.acf loads r must Memory cause
@@ -249,7 +250,7 @@ module _ (f : FilesSeen) (of : Subject) where
     only_no_idl r must (BadValue path reason) cause = no_idl_cause f of.idl of.acf loads r must (BadValue path reason) cause
 
     -- it is refused in one way
-    pub unready_cause : (r : Refusal) → MustBeUnready f of r → (q : Refusal) → IsReadyCause f of q → (q ≡ Memory) ⊎ (q ≡ r)
+    pub unready_cause : (r : Refusal) → MustBeUnready values f of r → (q : Refusal) → IsReadyCause values f of q → (q ≡ Memory) ⊎ (q ≡ r)
     unready_cause NoOperation must q cause = only_unknown must q cause
     unready_cause NotBuilt must q cause = only_unbuilt must q cause
     unready_cause Memory must q cause = only_no_idl Memory must q cause

@@ -8,10 +8,10 @@ use Rattle.nd_grammar.specs.LegalSide.{IsLegalSide}
 use Rattle.nd_grammar.specs.Represents.{Represents}
 use Rattle.nd_grammar.proofs.ReaderLaws.{never_both, one_beginning}
 use Rattle.nd_grammar.proofs.OneRefusal.{one_bad}
-use Rattle.dceidl.specs.declared.refusal.Refusal.{Refusal}
-use Rattle.dceidl.specs.declared.refusal.Refusal.TheVariants.{Memory, Absent, FileFailed, BadIdl, NoOperation, NotBuilt, ReadFault, BadOctets, BadText, BadValue}
-use Rattle.dceidl.specs.declared.refusal.OctetsFault.{OctetsFault}
-use Rattle.dceidl.specs.declared.refusal.OctetsFault.TheVariants as fault
+use Rattle.refusals.specs.declared.refusal.Refusal.{Refusal}
+use Rattle.refusals.specs.declared.refusal.Refusal.TheVariants.{Memory, Absent, FileFailed, BadIdl, NoOperation, NotBuilt, ReadFault, BadOctets, BadText, BadValue}
+use Rattle.refusals.specs.declared.refusal.OctetsFault.{OctetsFault}
+use Rattle.refusals.specs.declared.refusal.OctetsFault.TheVariants as fault
 use Rattle.dceidl.specs.Decode.{IsDecoding, IsRefusedAt, IsOctetsCause}
 use Rattle.dceidl.proofs.Sides.{whole_begins}
 

@@ -10,13 +10,13 @@ use Rattle.nd_grammar.specs.Represents.{Represents}
 use Rattle.nd_grammar.specs.Plain.{IsPlain, number, plain_graph}
 use Rattle.nd_grammar.proofs.PlainChosen.{chosen_read, chosen_represents}
 use Rattle.nd_grammar.proofs.PlainGraphs.{conforming_numbers}
-use Rattle.value_text.specs.declared.TheConstants.{TEXT_LIMIT}
+use Rattle.text_grammar.specs.declared.TheConstants.{TEXT_LIMIT}
 use Rattle.nd_grammar.specs.LegalSide.{IsLegalSide}
-use Rattle.value_text.specs.PlainSide.{IsPlainSide}
-use Rattle.value_text.specs.Reads.{ReadsAs}
-use Rattle.value_text.specs.Printed.{IsText, graph_text}
-use Rattle.value_text.proofs.OneFault.{one_graph}
-use Rattle.value_text.proofs.PrintedReads.{printed_reads}
+use Rattle.text_grammar.specs.Reads.{ReadsAs}
+use Rattle.text_grammar.specs.Printed.{IsText, graph_text}
+use Rattle.text_grammar.specs.declared.version.Version.TheVariants as version
+use Rattle.text_reader.proofs.Stated.{one_graph}
+use Rattle.text_laws.proofs.PrintedReads.{printed_reads}
 use Rattle.dceidl.specs.Decode.{IsDecoding}
 use Rattle.dceidl.specs.Encode.{IsEncoding}
 use Rattle.dceidl.proofs.Sides.{whole_begins}
@@ -48,7 +48,7 @@ same_numbers zs h s =
 -- so they have one text
 text_of_numbers : (w : Setting) (zs : List ℤ) (a b : List ℕ) → IsText w (plain_graph zs) a → IsText w (plain_graph zs) b → a ≡ b
 text_of_numbers w zs a b s t =
-    s.printed ∙ ap (graph_text w) (same_numbers zs s.canonical s.is_canonical.same ∙ sym (same_numbers zs t.canonical t.is_canonical.same)) ∙ sym t.printed
+    s.printed ∙ ap (graph_text version.Two w) (same_numbers zs s.canonical s.is_canonical.same ∙ sym (same_numbers zs t.canonical t.is_canonical.same)) ∙ sym t.printed
 
 module _ (w : Setting) (order : Order) (ps : List Primitive) (plain : IsPlain w ps) (chunk : ℕ) (text octets : List ℕ) (e : IsEncoding w order chunk text octets) where
   pub represented : Represents w order octets e.graph
@@ -69,9 +69,6 @@ module _ (w : Setting) (order : Order) (ps : List Primitive) (plain : IsPlain w 
 
 -- what is encoded of a text that decoding gave represents the graph that was decoded, in any order
 module _ (w : Setting) (order : Order) (ps : List Primitive) (plain : IsPlain w ps) (legal : IsLegalSide w) (octets text : List ℕ) (d : IsDecoding w order octets text) where
-  side : IsPlainSide w
-  side = record { primitives = ps; plain = plain }
-
   canonical_is : d.is_text.canonical ≡ d.graph
   canonical_is =
       let (zs, numbers, range, many) = conforming_numbers w d.graph ps plain.plain d.conforms in
@@ -82,5 +79,5 @@ module _ (w : Setting) (order : Order) (ps : List Primitive) (plain : IsPlain w 
 
   pub represented_again : (other : Order) (chunk : ℕ) (made : List ℕ) → IsEncoding w other chunk text made → Represents w other made d.graph
   represented_again other chunk made e =
-      subst (Represents w other made) (one_graph w text e.graph d.graph side e.reads (reads_back e.reads.short))
+      subst (Represents w other made) (one_graph w text e.graph d.graph legal e.reads (reads_back e.reads.short))
       (represented w other ps plain chunk text made e)

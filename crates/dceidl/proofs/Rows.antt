@@ -1,23 +1,19 @@
 -- The rows of a run follow from the whole of it: each goes by the way in which the run ended.
-use Rattle.std.proofs.Common.{◌≡◌, ◌∙◌, ℕ, List, [], ◌∷◌, Option, Some, None, refl, sym, ap, subst, inl, inr, ◌⊎◌}
+use Rattle.std.proofs.Common.{◌≡◌, ◌∙◌, ℕ, List, [], ◌∷◌, Option, Some, None, refl, sym, ap, subst, inl, inr}
 use Rattle.std.specs.Prelude.{◌≢◌, true}
 use Rattle.nd_base.specs.Outside.{IsMissing}
-use Rattle.nd_base.specs.Over.{FilesSeen, SourceSeen, SinkSeen, HasRisen, Got}
+use Rattle.nd_base.specs.Over.{FilesSeen, SinkSeen, HasRisen, Got}
 use Rattle.dceidl.specs.declared.outcome.Outcome.{Outcome}
 use Rattle.dceidl.specs.declared.outcome.Outcome.TheVariants.{Done, Refused, Wanting}
-use Rattle.dceidl.specs.declared.refusal.Refusal.{Refusal}
-use Rattle.dceidl.specs.declared.refusal.Refusal.TheVariants.{Memory, Absent, FileFailed, BadIdl, NoOperation, NotBuilt, ReadFault, BadOctets, BadText, BadValue}
-use Rattle.dceidl.specs.declared.words.Reading.{Reading}
-use Rattle.dceidl.specs.Asked.{Asks}
+use Rattle.refusals.specs.declared.refusal.Refusal.{Refusal}
+use Rattle.refusals.specs.declared.refusal.Refusal.TheVariants.{Memory, Absent, FileFailed, BadIdl, NoOperation, NotBuilt, ReadFault, BadOctets, BadText, BadValue}
 use Rattle.dceidl.specs.Causes.{IsMade, IsCause, statuses_of}
-use Rattle.dceidl.specs.Idl.{IsDueFile}
-use Rattle.dceidl.specs.Input.{IsReadCause, IsEncodeCause}
-use Rattle.dceidl.specs.Lines.{status_of, line_of}
-use Rattle.dceidl.specs.Ready.{IsIdlCause, IsReadyCause}
-use Rattle.dceidl.specs.Rows.{IsOneOf, IsDone, IsRefusedWith, ReadsInput, IsDue, IsDueOf, IsDueAndMissing, IsDueAndReported, HasNotFailed}
+use Rattle.refusals.specs.Lines.{status_of, line_of}
+use Rattle.idl_compiler.specs.Compiled.{IsIdlCause}
+use Rattle.dceidl.specs.Rows.{IsOneOf, IsDone, IsRefusedWith, ReadsInput, IsDueOf, IsDueAndMissing, IsDueAndReported, HasNotFailed}
 use Rattle.dceidl.specs.Run.{HasRun, IsOutcome, IsCommandOutcome, IsDelivered}
 use Rattle.dceidl.specs.Seen.{Seen}
-use Rattle.dceidl.specs.Words.{Command, FileNames, Subject, Read, Encode, Compile, Plan, Help, Version, command, idl_of, op_of, asks_files, asks_input}
+use Rattle.dceidl.specs.Words.{Command, Read, Write, Compile, Plan, Help, Version, command, idl_of, op_of, asks_files, asks_input}
 
 -- a refusal has none of the statuses 0, 2 and 4
 pub not_zero : (r : Refusal) → status_of r ≡ 0 → ⊥
@@ -115,7 +111,7 @@ of_files f idl acf status (BadValue path reason) cause e = absurd cause
 
 refused_status : (x : Seen) (c : Command) (status : ℕ) (r : Refusal) → IsCause x c r → status ≡ status_of r → IsOneOf (statuses_of c) status
 refused_status x (Read how of order) status r cause e = of_values status r e
-refused_status x (Encode of order chunk) status r cause e = of_values status r e
+refused_status x (Write how of) status r cause e = of_values status r e
 refused_status x (Compile idl acf) status r cause e = of_files x.files idl acf status r cause e
 refused_status x (Plan idl acf) status r cause e = of_files x.files idl acf status r cause e
 refused_status x Help status r cause e = inr (inr (inl (e ∙ ap status_of cause)))
@@ -123,7 +119,7 @@ refused_status x Version status r cause e = inr (inr (inl (e ∙ ap status_of ca
 
 zero_in : (c : Command) (status : ℕ) → status ≡ 0 → IsOneOf (statuses_of c) status
 zero_in (Read how of order) status e = inl e
-zero_in (Encode of order chunk) status e = inl e
+zero_in (Write how of) status e = inl e
 zero_in (Compile idl acf) status e = inl e
 zero_in (Plan idl acf) status e = inl e
 zero_in Help status e = inl e
@@ -131,7 +127,7 @@ zero_in Version status e = inl e
 
 four_in : (c : Command) (status : ℕ) → status ≡ 4 → IsOneOf (statuses_of c) status
 four_in (Read how of order) status e = inr (inr (inr (inl e)))
-four_in (Encode of order chunk) status e = inr (inr (inr (inl e)))
+four_in (Write how of) status e = inr (inr (inr (inl e)))
 four_in (Compile idl acf) status e = inr (inl e)
 four_in (Plan idl acf) status e = inr (inl e)
 four_in Help status e = inr (inl e)
@@ -139,7 +135,7 @@ four_in Version status e = inr (inl e)
 
 five_in : (c : Command) (status : ℕ) → status ≡ 5 → IsOneOf (statuses_of c) status
 five_in (Read how of order) status e = inr (inr (inr (inr (inl e))))
-five_in (Encode of order chunk) status e = inr (inr (inr (inr (inl e))))
+five_in (Write how of) status e = inr (inr (inr (inr (inl e))))
 five_in (Compile idl acf) status e = inr (inr (inl e))
 five_in (Plan idl acf) status e = inr (inr (inl e))
 five_in Help status e = inr (inr (inl e))
@@ -228,17 +224,17 @@ module _ (x : Seen) where
   read_fault (Read how of order) (BadOctets place why) cause e = cc
   read_fault (Read how of order) (BadText line column reason) cause e = cc
   read_fault (Read how of order) (BadValue path reason) cause e = cc
-  read_fault (Encode of order chunk) ReadFault (inl (cause, before)) e = absurd cause
-  read_fault (Encode of order chunk) ReadFault (inr (w, ready, rose)) e = (rose, refl)
-  read_fault (Encode of order chunk) Memory cause e = cc
-  read_fault (Encode of order chunk) (Absent file) cause e = cc
-  read_fault (Encode of order chunk) (FileFailed file) cause e = cc
-  read_fault (Encode of order chunk) (BadIdl file line column reason) cause e = cc
-  read_fault (Encode of order chunk) NoOperation cause e = cc
-  read_fault (Encode of order chunk) NotBuilt cause e = cc
-  read_fault (Encode of order chunk) (BadOctets place why) cause e = cc
-  read_fault (Encode of order chunk) (BadText line column reason) cause e = cc
-  read_fault (Encode of order chunk) (BadValue path reason) cause e = cc
+  read_fault (Write how of) ReadFault (inl (cause, before)) e = absurd cause
+  read_fault (Write how of) ReadFault (inr (w, ready, rose)) e = (rose, refl)
+  read_fault (Write how of) Memory cause e = cc
+  read_fault (Write how of) (Absent file) cause e = cc
+  read_fault (Write how of) (FileFailed file) cause e = cc
+  read_fault (Write how of) (BadIdl file line column reason) cause e = cc
+  read_fault (Write how of) NoOperation cause e = cc
+  read_fault (Write how of) NotBuilt cause e = cc
+  read_fault (Write how of) (BadOctets place why) cause e = cc
+  read_fault (Write how of) (BadText line column reason) cause e = cc
+  read_fault (Write how of) (BadValue path reason) cause e = cc
   read_fault (Compile idl acf) r cause e = absurd (idl_read idl acf r cause e)
   read_fault (Plan idl acf) r cause e = absurd (idl_read idl acf r cause e)
   read_fault Help r cause e = let never : status_of Memory ≡ 3 = sym (ap status_of cause) ∙ e in cc
@@ -272,17 +268,17 @@ module _ (x : Seen) where
   absent_is (Read how of order) (BadOctets place why) cause e = cc
   absent_is (Read how of order) (BadText line column reason) cause e = cc
   absent_is (Read how of order) (BadValue path reason) cause e = cc
-  absent_is (Encode of order chunk) (Absent file) (inl ((rose, due, missing), before)) e = (rose, (file, refl, due, missing))
-  absent_is (Encode of order chunk) (Absent file) (inr (w, ready, (octets, read, cause))) e = absurd cause
-  absent_is (Encode of order chunk) Memory cause e = cc
-  absent_is (Encode of order chunk) (FileFailed file) cause e = cc
-  absent_is (Encode of order chunk) (BadIdl file line column reason) cause e = cc
-  absent_is (Encode of order chunk) NoOperation cause e = cc
-  absent_is (Encode of order chunk) NotBuilt cause e = cc
-  absent_is (Encode of order chunk) ReadFault cause e = cc
-  absent_is (Encode of order chunk) (BadOctets place why) cause e = cc
-  absent_is (Encode of order chunk) (BadText line column reason) cause e = cc
-  absent_is (Encode of order chunk) (BadValue path reason) cause e = cc
+  absent_is (Write how of) (Absent file) (inl ((rose, due, missing), before)) e = (rose, (file, refl, due, missing))
+  absent_is (Write how of) (Absent file) (inr (w, ready, (octets, read, cause))) e = absurd cause
+  absent_is (Write how of) Memory cause e = cc
+  absent_is (Write how of) (FileFailed file) cause e = cc
+  absent_is (Write how of) (BadIdl file line column reason) cause e = cc
+  absent_is (Write how of) NoOperation cause e = cc
+  absent_is (Write how of) NotBuilt cause e = cc
+  absent_is (Write how of) ReadFault cause e = cc
+  absent_is (Write how of) (BadOctets place why) cause e = cc
+  absent_is (Write how of) (BadText line column reason) cause e = cc
+  absent_is (Write how of) (BadValue path reason) cause e = cc
   absent_is (Compile idl acf) r cause e = idl_absent idl acf r cause e
   absent_is (Plan idl acf) r cause e = idl_absent idl acf r cause e
   absent_is Help r cause e = let never : status_of Memory ≡ 7 = sym (ap status_of cause) ∙ e in cc
@@ -316,17 +312,17 @@ module _ (x : Seen) where
   failed_is (Read how of order) (BadOctets place why) cause e = cc
   failed_is (Read how of order) (BadText line column reason) cause e = cc
   failed_is (Read how of order) (BadValue path reason) cause e = cc
-  failed_is (Encode of order chunk) (FileFailed file) (inl ((rose, due), before)) e = (rose, (file, refl, due))
-  failed_is (Encode of order chunk) (FileFailed file) (inr (w, ready, (octets, read, cause))) e = absurd cause
-  failed_is (Encode of order chunk) Memory cause e = cc
-  failed_is (Encode of order chunk) (Absent file) cause e = cc
-  failed_is (Encode of order chunk) (BadIdl file line column reason) cause e = cc
-  failed_is (Encode of order chunk) NoOperation cause e = cc
-  failed_is (Encode of order chunk) NotBuilt cause e = cc
-  failed_is (Encode of order chunk) ReadFault cause e = cc
-  failed_is (Encode of order chunk) (BadOctets place why) cause e = cc
-  failed_is (Encode of order chunk) (BadText line column reason) cause e = cc
-  failed_is (Encode of order chunk) (BadValue path reason) cause e = cc
+  failed_is (Write how of) (FileFailed file) (inl ((rose, due), before)) e = (rose, (file, refl, due))
+  failed_is (Write how of) (FileFailed file) (inr (w, ready, (octets, read, cause))) e = absurd cause
+  failed_is (Write how of) Memory cause e = cc
+  failed_is (Write how of) (Absent file) cause e = cc
+  failed_is (Write how of) (BadIdl file line column reason) cause e = cc
+  failed_is (Write how of) NoOperation cause e = cc
+  failed_is (Write how of) NotBuilt cause e = cc
+  failed_is (Write how of) ReadFault cause e = cc
+  failed_is (Write how of) (BadOctets place why) cause e = cc
+  failed_is (Write how of) (BadText line column reason) cause e = cc
+  failed_is (Write how of) (BadValue path reason) cause e = cc
   failed_is (Compile idl acf) r cause e = idl_failed idl acf r cause e
   failed_is (Plan idl acf) r cause e = idl_failed idl acf r cause e
   failed_is Help r cause e = let never : status_of Memory ≡ 9 = sym (ap status_of cause) ∙ e in cc

@@ -1,13 +1,11 @@
--- The sides of the operations of an interface are legal, those whose roots are primitives are plain, and what represents a graph begins with it.
-use Rattle.std.proofs.Common.{◌≡◌, ℕ, zero, suc, true, List, [], ◌∷◌, length, map, Some, inl, inr, sym, subst, arith}
+-- The sides of the operations of an interface are legal, and what represents a graph begins with it.
+use Rattle.std.proofs.Common.{◌≡◌, ℕ, zero, suc, List, [], ◌∷◌, length, Some, inl, inr, sym, subst, arith}
 use Rattle.std.proofs.lemmas.Option.{same_Some}
 use Rattle.std.specs.List.{slice_get}
 use Rattle.nd_base.specs.declared.octets.Order.{Order}
 use Rattle.nd_types.specs.declared.interface.Interface.{Interface}
 use Rattle.nd_types.specs.declared.types.Operation.{Operation}
 use Rattle.nd_types.specs.declared.types.Side.{Side}
-use Rattle.nd_types.specs.Roots.{roots_of}
-use Rattle.nd_types.specs.Numbers.{has_number_roots}
 use Rattle.nd_value.specs.declared.value.Graph.{Graph}
 use Rattle.nd_value.specs.Setting.{Setting, Among}
 use Rattle.nd_value.specs.Conforms.{Conforms}
@@ -15,9 +13,6 @@ use Rattle.nd_value.specs.Fitting.{setting_of}
 use Rattle.nd_grammar.specs.LegalSide.{IsLegalSide}
 use Rattle.nd_grammar.specs.Represents.{Represents}
 use Rattle.nd_grammar.specs.Prefix.{BeginsWith}
-use Rattle.nd_grammar.specs.Primitives.{root_primitive}
-use Rattle.nd_grammar.proofs.PlainSides.{number_side_plain}
-use Rattle.value_text.specs.PlainSide.{IsPlainSide}
 use Rattle.dceidl.proofs.Causes.{take_whole}
 
 pub whole_begins : (w : Setting) (order : Order) (octets : List ℕ) (g : Graph) → Represents w order octets g → Conforms w g
@@ -27,12 +22,6 @@ whole_begins w order octets g r c = record {
   represented = subst (λ os. Represents w order os g) (sym (take_whole (length octets) octets (omega arith))) r;
   conforms = c;
 }
-
--- a side whose roots are primitives is plain
-pub plain_side_of : (i : Interface) (n : ℕ) (o : Operation) (side : Side) → has_number_roots i.types side o ≡ true → slice_get i.operations n ≡ Some o
-    → IsPlainSide (setting_of i o side)
-plain_side_of i n o side numbers there =
-    record { primitives = map (root_primitive i.types) (roots_of i.types side o); plain = number_side_plain i n o side numbers there }
 
 -- an item of a list is among its items
 among_at : {X : Type 0} (xs : List X) (n : ℕ) (x : X) → slice_get xs n ≡ Some x → Among xs x

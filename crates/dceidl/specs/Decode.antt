@@ -7,11 +7,11 @@ use Rattle.nd_value.specs.Conforms.{Conforms}
 use Rattle.nd_grammar.specs.Represents.{Represents}
 use Rattle.nd_grammar.specs.Prefix.{BeginsWith}
 use Rattle.nd_grammar.specs.Bad.{Bad}
-use Rattle.value_text.specs.Printed.{IsText}
-use Rattle.dceidl.specs.declared.refusal.Refusal.{Refusal}
-use Rattle.dceidl.specs.declared.refusal.Refusal.TheVariants.{Memory, BadOctets}
-use Rattle.dceidl.specs.declared.refusal.OctetsFault.{OctetsFault}
-use Rattle.dceidl.specs.declared.refusal.OctetsFault.TheVariants.{Refused, Trailing}
+use Rattle.text_grammar.specs.Printed.{IsText}
+use Rattle.refusals.specs.declared.refusal.Refusal.{Refusal}
+use Rattle.refusals.specs.declared.refusal.Refusal.TheVariants.{Memory, BadOctets}
+use Rattle.refusals.specs.declared.refusal.OctetsFault.{OctetsFault}
+use Rattle.refusals.specs.declared.refusal.OctetsFault.TheVariants.{Refused, Trailing}
 
 -- The octets before a place are a stream of a graph that conforms, and an octet follows.
 pub record IsTrailing (w : Setting) (order : Order) (octets : List ℕ) (place : ℕ) : Type 0 where

@@ -1,39 +1,25 @@
--- What a text is encoded to, and for which causes it is refused.
-use Rattle.std.specs.Prelude.{◌≡◌, ◌⊎◌, ℕ, List, [], ◌∷◌, Option, None, Some, codes, decimal, ⊤}
-use Rattle.std.specs.List.{slice_get}
+-- What is made of a text, and for which causes it is refused.
+use Rattle.std.specs.Prelude.{ℕ, List, ⊤}
 use Rattle.nd_base.specs.declared.octets.Order.{Order}
-use Rattle.nd_types.specs.Walk.{NamedRoot, named_roots}
 use Rattle.nd_value.specs.declared.item.Home.{Home}
-use Rattle.nd_value.specs.declared.item.Home.TheVariants as home
-use Rattle.nd_value.specs.declared.misfit.Misfit.{Misfit}
-use Rattle.nd_value.specs.declared.misfit.Misfit.TheVariants as misfit
 use Rattle.nd_value.specs.declared.misfit.MisfitReason.{MisfitReason}
 use Rattle.nd_value.specs.declared.value.Graph.{Graph}
 use Rattle.nd_value.specs.Setting.{Setting}
 use Rattle.nd_value.specs.Conforms.{Conforms}
 use Rattle.nd_value.specs.FirstMisfit.{IsFirstMisfit}
 use Rattle.nd_grammar.specs.Chosen.{Chosen}
-use Rattle.nd_base.specs.Text.{joined}
-use Rattle.value_text.specs.Reads.{ReadsAs, IsTextFault}
-use Rattle.dceidl.specs.declared.refusal.Refusal.{Refusal}
-use Rattle.dceidl.specs.declared.refusal.Refusal.TheVariants.{Memory, BadText, BadValue}
-
--- the name of a root, where it is there
-abbrev pub root_path : Option NamedRoot → List ℕ
-root_path None = []
-root_path (Some r) = r.name
-
--- the path of a value as a whole: the name of a root, or `@k` for the cell k
-abbrev pub home_path : Setting → Home → List ℕ
-home_path w (home.Root i) = root_path (slice_get (named_roots w.table w.side w.op) i)
-home_path w (home.Cell c) = joined (codes "@" ∷ decimal c.0 ∷ [])
+use Rattle.text_grammar.specs.Paths.{IsPath}
+use Rattle.text_grammar.specs.Printed.{IsText}
+use Rattle.text_grammar.specs.Reads.{ReadsAs, IsTextFault}
+use Rattle.refusals.specs.declared.refusal.Refusal.{Refusal}
+use Rattle.refusals.specs.declared.refusal.Refusal.TheVariants.{Memory, BadText, BadValue}
 
 -- A graph does not conform, and this is the path of its first misfit, with the reason.
 pub record IsMisfitAt (w : Setting) (g : Graph) (path : List ℕ) (reason : MisfitReason) : Type 0 where
   pub home : Home
   pub node : ℕ
   pub first : IsFirstMisfit w g (record { home = home; node = node; reason = reason })
-  pub path_is : path ≡ home_path w home
+  pub path_is : IsPath w g home node path
 
 -- why a graph is refused; where memory was wanting no more is said
 abbrev pub IsValueCause : Setting → Graph → Refusal → Type 0
@@ -41,18 +27,11 @@ IsValueCause w g Memory = ⊤
 IsValueCause w g (BadValue path reason) = IsMisfitAt w g path reason
 IsValueCause w g _ = ⊥
 
--- a misfit is reported at the path of its home, unless memory was wanting
-abbrev pub IsReportedAsValue : Setting → Misfit → Refusal → Type 0
-IsReportedAsValue w misfit.Memory refusal = refusal ≡ Memory
-IsReportedAsValue w (misfit.At h n reason) refusal = (refusal ≡ BadValue (home_path w h) reason) ⊎ (refusal ≡ Memory)
-
 -- The text reads as a graph that does not conform.
 pub record IsBadValue (w : Setting) (text path : List ℕ) (reason : MisfitReason) : Type 0 where
   pub graph : Graph
   pub reads : ReadsAs w text graph
   pub misfit : IsMisfitAt w graph path reason
-  -- so far each value is a number, which is its home's only node
-  pub whole : misfit.node ≡ 0
 
 -- why a text is refused; where memory was wanting no more is said
 abbrev pub IsTextCause : Setting → List ℕ → Refusal → Type 0
@@ -67,3 +46,10 @@ pub record IsEncoding (w : Setting) (order : Order) (chunk : ℕ) (text octets :
   pub reads : ReadsAs w text graph
   pub conforms : Conforms w graph
   pub chosen : Chosen w order chunk graph octets
+
+-- The text reads as a graph that conforms, and what is made is that graph's text as it is printed.
+pub record IsMigration (w : Setting) (text made : List ℕ) : Type 0 where
+  pub graph : Graph
+  pub reads : ReadsAs w text graph
+  pub conforms : Conforms w graph
+  pub printed : IsText w graph made

@@ -4,14 +4,17 @@ use Rattle.std.specs.Io.KnownBytes.{Consumes, IsAtEnd}
 use Rattle.nd_base.specs.declared.TheConstants.{STREAM_LIMIT}
 use Rattle.nd_base.specs.declared.octets.Order.{Order}
 use Rattle.nd_base.specs.Over.{SourceSeen, HasRisen}
-use Rattle.value_text.specs.declared.TheConstants.{TEXT_LIMIT}
+use Rattle.text_grammar.specs.declared.TheConstants.{TEXT_LIMIT}
 use Rattle.nd_value.specs.Setting.{Setting}
 use Rattle.dceidl.specs.Decode.{IsDecoding, IsOctetsCause}
-use Rattle.dceidl.specs.Encode.{IsEncoding, IsTextCause}
+use Rattle.dceidl.specs.Encode.{IsEncoding, IsMigration, IsTextCause}
 use Rattle.dceidl.specs.declared.words.Reading.{Reading}
 use Rattle.dceidl.specs.declared.words.Reading.TheVariants.{Decode}
-use Rattle.dceidl.specs.declared.refusal.Refusal.{Refusal}
-use Rattle.dceidl.specs.declared.refusal.Refusal.TheVariants.{Memory, ReadFault}
+use Rattle.dceidl.specs.declared.words.Writing.{Writing}
+use Rattle.dceidl.specs.declared.words.Writing.TheVariants.{Encode, Migrate}
+use Rattle.dceidl.specs.Words.{order_in}
+use Rattle.refusals.specs.declared.refusal.Refusal.{Refusal}
+use Rattle.refusals.specs.declared.refusal.Refusal.TheVariants.{Memory, ReadFault}
 
 -- These octets were read: the whole input, or its first octets to one past a limit.
 pub record AreRead (s : SourceSeen) (limit : ℕ) (octets : List ℕ) : Type 0 where
@@ -42,14 +45,19 @@ IsReadCause s how w order ReadFault = HasRisen s.faults
 IsReadCause s how w order Memory = ⊤
 IsReadCause s how w order refusal = (octets : List ℕ) × AreRead s STREAM_LIMIT octets × IsOctetsCause w order octets refusal
 
--- The input was read to its end, and its text was encoded.
-pub record IsEncoded (s : SourceSeen) (w : Setting) (order : Order) (chunk : ℕ) (made : List ℕ) : Type 0 where
+-- what is made of a text, by what is asked
+abbrev pub IsMadeOf : Writing → Setting → List ℕ → List ℕ → Type 0
+IsMadeOf (Encode order chunk) w text made = IsEncoding w (order_in order) chunk text made
+IsMadeOf Migrate w text made = IsMigration w text made
+
+-- The input was read to its end, and this was made of its text.
+pub record IsWritten (s : SourceSeen) (how : Writing) (w : Setting) (made : List ℕ) : Type 0 where
   pub text : List ℕ
   pub read : AreRead s TEXT_LIMIT text
-  pub encoding : IsEncoding w order chunk text made
+  pub made_of : IsMadeOf how w text made
 
 -- why the text of the input is refused
-abbrev pub IsEncodeCause : SourceSeen → Setting → Refusal → Type 0
-IsEncodeCause s w ReadFault = HasRisen s.faults
-IsEncodeCause s w Memory = ⊤
-IsEncodeCause s w refusal = (text : List ℕ) × AreRead s TEXT_LIMIT text × IsTextCause w text refusal
+abbrev pub IsWriteCause : SourceSeen → Setting → Refusal → Type 0
+IsWriteCause s w ReadFault = HasRisen s.faults
+IsWriteCause s w Memory = ⊤
+IsWriteCause s w refusal = (text : List ℕ) × AreRead s TEXT_LIMIT text × IsTextCause w text refusal

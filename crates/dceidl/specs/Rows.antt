@@ -6,25 +6,26 @@ use Rattle.nd_base.specs.Over.{FilesSeen, SourceSeen, SinkSeen, HasRisen, Got, I
 use Rattle.nd_types.specs.declared.interface.Interface.{Interface}
 use Rattle.nd_types.specs.declared.types.Operation.{Operation}
 use Rattle.nd_types.specs.Operations.{operation_named}
-use Rattle.nd_types.specs.Numbers.{has_number_roots}
 use Rattle.nd_value.specs.declared.value.Graph.{Graph}
 use Rattle.nd_value.specs.Setting.{Setting}
 use Rattle.nd_value.specs.Conforms.{Conforms}
 use Rattle.nd_value.specs.Fitting.{setting_of}
 use Rattle.nd_grammar.specs.Represents.{Represents}
-use Rattle.value_text.specs.declared.TheConstants.{TEXT_LIMIT}
-use Rattle.value_text.specs.Reads.{ReadsAs, IsTextFault}
+use Rattle.text_grammar.specs.declared.TheConstants.{TEXT_LIMIT}
+use Rattle.text_grammar.specs.Reads.{ReadsAs, IsTextFault}
 use Rattle.nd_base.specs.Text.{joined}
 use Rattle.dceidl.specs.Causes.{IsMade, IsCause}
 use Rattle.dceidl.specs.Decode.{IsRefusedAt}
 use Rattle.dceidl.specs.Encode.{IsMisfitAt}
-use Rattle.dceidl.specs.Idl.{Means, IsIdlFault, IsDueFile}
-use Rattle.dceidl.specs.Lines.{status_of, line_of}
-use Rattle.dceidl.specs.Ready.{IsNamed}
+use Rattle.idl_compiler.specs.Idl.{Means, IsIdlFault, IsDueFile}
+use Rattle.refusals.specs.Lines.{status_of, line_of}
+use Rattle.dceidl.specs.Ready.{IsNamed, is_among}
 use Rattle.dceidl.specs.Seen.{Seen}
-use Rattle.dceidl.specs.Words.{Command, FileNames, Subject, Read, Encode, Compile, Plan, Help, Version, asks_files, asks_input, idl_of, op_of, order_in}
-use Rattle.dceidl.specs.declared.refusal.Refusal.{Refusal}
-use Rattle.dceidl.specs.declared.refusal.Refusal.TheVariants.{BadIdl, NoOperation, NotBuilt, BadOctets, BadText, BadValue}
+use Rattle.dceidl.specs.Words.{Command, Subject, Read, Write, Compile, Plan, Help, Version, asks_files, asks_input, idl_of, op_of, order_in, values_read, values_written}
+use Rattle.idl_compiler.specs.Asked.{FileNames}
+use Rattle.dceidl.specs.declared.words.Values.{Values}
+use Rattle.refusals.specs.declared.refusal.Refusal.{Refusal}
+use Rattle.refusals.specs.declared.refusal.Refusal.TheVariants.{BadIdl, NoOperation, NotBuilt, BadOctets, BadText, BadValue}
 
 -- a status is one of these
 abbrev pub IsOneOf : List ℕ → ℕ → Type 0
@@ -89,8 +90,8 @@ pub record IsSound (x : Seen) (notes : SinkSeen) : Type 0 where
 abbrev pub IsHeld : FilesSeen → List ℕ → List ℕ → Type 0
 IsHeld f name file = (held : List ℕ → Option (List ℕ)) × (f.held ≡ Some held) × (option_map loaded (held name) ≡ Some file)
 
--- The main file is held, the files mean this interface, it has the operation, each root of the side is a primitive, and this is its setting.
-pub record IsAccepted (f : FilesSeen) (of : Subject) (w : Setting) : Type 0 where
+-- The main file is held, the files mean this interface, it has the operation, the values of its side are among these, and this is its setting.
+pub record IsAccepted (values : Values) (f : FilesSeen) (of : Subject) (w : Setting) : Type 0 where
   pub file : List ℕ
   pub interface : Interface
   pub number : ℕ
@@ -98,7 +99,7 @@ pub record IsAccepted (f : FilesSeen) (of : Subject) (w : Setting) : Type 0 wher
   pub held : IsHeld f of.idl file
   pub means : Means f.held of.idl file of.acf interface
   pub named : IsNamed interface of.op number operation
-  pub built : has_number_roots interface.types of.side operation ≡ true
+  pub built : is_among values interface.types of.side operation ≡ true
   pub setting_is : w ≡ setting_of interface operation of.side
 
 -- The octets of the input are known, and these count under a limit: all of them, or one more than the limit. No fetch failed.
@@ -111,10 +112,11 @@ pub record IsInput (s : SourceSeen) (limit : ℕ) (octets : List ℕ) : Type 0 w
 -- Where no load fails and notes do not, a command of which this holds is done, unless it runs out of memory or out fails.
 abbrev pub CanBeDone : Seen → Command → Type 0
 CanBeDone x (Read how of order) =
-    (w : Setting) × (octets : List ℕ) × (g : Graph) × IsAccepted x.files of w × IsInput x.input STREAM_LIMIT octets
+    (w : Setting) × (octets : List ℕ) × (g : Graph) × IsAccepted (values_read how) x.files of w × IsInput x.input STREAM_LIMIT octets
     × Represents w (order_in order) octets g × Conforms w g
-CanBeDone x (Encode of order chunk) =
-    (w : Setting) × (text : List ℕ) × (g : Graph) × IsAccepted x.files of w × IsInput x.input TEXT_LIMIT text × ReadsAs w text g × Conforms w g
+CanBeDone x (Write how of) =
+    (w : Setting) × (text : List ℕ) × (g : Graph) × IsAccepted (values_written how) x.files of w × IsInput x.input TEXT_LIMIT text × ReadsAs w text g
+    × Conforms w g
 CanBeDone x (Compile idl acf) = (text : List ℕ) × (i : Interface) × IsHeld x.files idl text × Means x.files.held idl text acf i
 CanBeDone x (Plan idl acf) = (text : List ℕ) × (i : Interface) × IsHeld x.files idl text × Means x.files.held idl text acf i
 CanBeDone x Help = ⊤
@@ -127,24 +129,26 @@ MustBeNoIdl f idl acf (BadIdl file line column why) =
 MustBeNoIdl f idl acf _ = ⊥
 
 -- what a command on values speaks of is refused in this way
-abbrev pub MustBeUnready : FilesSeen → Subject → Refusal → Type 0
-MustBeUnready f of NoOperation =
+abbrev pub MustBeUnready : Values → FilesSeen → Subject → Refusal → Type 0
+MustBeUnready values f of NoOperation =
     (text : List ℕ) × (i : Interface) × IsHeld f of.idl text × Means f.held of.idl text of.acf i × (operation_named i.operations of.op ≡ None)
-MustBeUnready f of NotBuilt =
+MustBeUnready values f of NotBuilt =
     (text : List ℕ) × (i : Interface) × (n : ℕ) × (o : Operation) × IsHeld f of.idl text × Means f.held of.idl text of.acf i × IsNamed i of.op n o
-    × (has_number_roots i.types of.side o ≡ false)
-MustBeUnready f of r = MustBeNoIdl f of.idl of.acf r
+    × (is_among values i.types of.side o ≡ false)
+MustBeUnready values f of r = MustBeNoIdl f of.idl of.acf r
 
 -- Where no load fails and notes do not, a command of which this holds is refused in this way, unless it runs out of memory.
 abbrev pub MustBeRefused : Seen → Command → Refusal → Type 0
 MustBeRefused x (Read how of order) (BadOctets place why) =
-    (w : Setting) × (octets : List ℕ) × IsAccepted x.files of w × IsInput x.input STREAM_LIMIT octets × IsRefusedAt w (order_in order) octets place why
-MustBeRefused x (Read how of order) r = MustBeUnready x.files of r
-MustBeRefused x (Encode of order chunk) (BadText line column why) =
-    (w : Setting) × (text : List ℕ) × IsAccepted x.files of w × IsInput x.input TEXT_LIMIT text × IsTextFault w text line column why
-MustBeRefused x (Encode of order chunk) (BadValue path why) =
-    (w : Setting) × (text : List ℕ) × (g : Graph) × IsAccepted x.files of w × IsInput x.input TEXT_LIMIT text × ReadsAs w text g × IsMisfitAt w g path why
-MustBeRefused x (Encode of order chunk) r = MustBeUnready x.files of r
+    (w : Setting) × (octets : List ℕ) × IsAccepted (values_read how) x.files of w × IsInput x.input STREAM_LIMIT octets
+    × IsRefusedAt w (order_in order) octets place why
+MustBeRefused x (Read how of order) r = MustBeUnready (values_read how) x.files of r
+MustBeRefused x (Write how of) (BadText line column why) =
+    (w : Setting) × (text : List ℕ) × IsAccepted (values_written how) x.files of w × IsInput x.input TEXT_LIMIT text × IsTextFault w text line column why
+MustBeRefused x (Write how of) (BadValue path why) =
+    (w : Setting) × (text : List ℕ) × (g : Graph) × IsAccepted (values_written how) x.files of w × IsInput x.input TEXT_LIMIT text × ReadsAs w text g
+    × IsMisfitAt w g path why
+MustBeRefused x (Write how of) r = MustBeUnready (values_written how) x.files of r
 MustBeRefused x (Compile idl acf) r = MustBeNoIdl x.files idl acf r
 MustBeRefused x (Plan idl acf) r = MustBeNoIdl x.files idl acf r
 MustBeRefused x Help r = ⊥

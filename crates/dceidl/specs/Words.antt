@@ -11,11 +11,11 @@ use Rattle.dceidl.specs.declared.words.OrderWord.{OrderWord}
 use Rattle.dceidl.specs.declared.words.OrderWord.TheVariants.{Fixed}
 use Rattle.dceidl.specs.declared.words.Reading.{Reading}
 use Rattle.dceidl.specs.declared.words.Reading.TheVariants.{Decode}
-
--- the files of a command: a file of IDL, and an attribute configuration file if one is named
-pub record FileNames : Type 0 where
-  pub idl : List ℕ
-  pub acf : Option (List ℕ)
+use Rattle.dceidl.specs.declared.words.Writing.{Writing}
+use Rattle.dceidl.specs.declared.words.Writing.TheVariants.{Encode, Migrate}
+use Rattle.dceidl.specs.declared.words.Values.{Values}
+use Rattle.dceidl.specs.declared.words.Values.TheVariants.{All, Primitives}
+use Rattle.idl_compiler.specs.Asked.{FileNames}
 
 -- what a command on values speaks of: the files, an operation of their interface, and a side of it
 pub record Subject : Type 0 where
@@ -28,8 +28,8 @@ pub record Subject : Type 0 where
 pub data Command : Type 0 where
   -- the octets of the input are read
   Read : (how : Reading) (of : Subject) (order : OrderWord) → Command
-  -- the text of the input is encoded
-  Encode : (of : Subject) (order : OrderWord) (chunk : ℕ) → Command
+  -- the text of the input is read
+  Write : (how : Writing) (of : Subject) → Command
   -- the listing of an interface
   Compile : (idl : List ℕ) (acf : Option (List ℕ)) → Command
   -- the listing of its plan
@@ -42,7 +42,7 @@ pub data Command : Type 0 where
 -- the files that it asks for, if it asks for any
 abbrev pub asks_files : Command → Option FileNames
 asks_files (Read how of order) = Some (record { idl = of.idl; acf = of.acf })
-asks_files (Encode of order chunk) = Some (record { idl = of.idl; acf = of.acf })
+asks_files (Write how of) = Some (record { idl = of.idl; acf = of.acf })
 asks_files (Compile idl acf) = Some (record { idl = idl; acf = acf })
 asks_files (Plan idl acf) = Some (record { idl = idl; acf = acf })
 asks_files Help = None
@@ -51,21 +51,29 @@ asks_files Version = None
 -- whether it reads the input
 abbrev pub asks_input : Command → Bool
 asks_input (Read how of order) = true
-asks_input (Encode of order chunk) = true
+asks_input (Write how of) = true
 asks_input _ = false
 
 -- the file of IDL and the operation that the line of a refusal names
 abbrev pub idl_of : Command → List ℕ
 idl_of (Read how of order) = of.idl
-idl_of (Encode of order chunk) = of.idl
+idl_of (Write how of) = of.idl
 idl_of (Compile idl acf) = idl
 idl_of (Plan idl acf) = idl
 idl_of _ = []
 
 abbrev pub op_of : Command → List ℕ
 op_of (Read how of order) = of.op
-op_of (Encode of order chunk) = of.op
+op_of (Write how of) = of.op
 op_of _ = []
+
+-- the values that octets are read as, and those of which something is made: the engine knows primitives alone so far
+abbrev pub values_read : Reading → Values
+values_read Decode = Primitives
+
+abbrev pub values_written : Writing → Values
+values_written (Encode order chunk) = Primitives
+values_written Migrate = All
 
 -- the order of octets that a command names
 abbrev pub order_in : OrderWord → Order
@@ -111,11 +119,16 @@ decode idl acf op _ _ = None
 
 -- `encode`, if its words are a side, an order and the number of elements of a chunk
 abbrev pub encode : List ℕ → List ℕ → List ℕ → Option Side → Option OrderWord → Option ℕ → Option Command
-encode idl acf op (Some side) (Some order) (Some chunk) = Some (Encode (subject idl acf op side) order chunk)
+encode idl acf op (Some side) (Some order) (Some chunk) = Some (Write (Encode order chunk) (subject idl acf op side))
 encode idl acf op _ _ _ = None
 
--- The command that words are, if they are one: `compile IDL ACF`, `plan IDL ACF`, `decode IDL ACF OP SIDE ORDER`, `encode IDL ACF OP SIDE ORDER CHUNK`, `--help`
--- or `--version`.
+-- `migrate`, if its word is a side
+abbrev pub migrate : List ℕ → List ℕ → List ℕ → Option Side → Option Command
+migrate idl acf op (Some side) = Some (Write Migrate (subject idl acf op side))
+migrate idl acf op None = None
+
+-- The command that words are, if they are one: `compile IDL ACF`, `plan IDL ACF`, `migrate IDL ACF OP SIDE`, `decode IDL ACF OP SIDE ORDER`,
+-- `encode IDL ACF OP SIDE ORDER CHUNK`, `--help` or `--version`.
 abbrev pub command : List (List ℕ) → Option Command
 command (word ∷ []) =
     if is_word word (codes "--help") then Some Help
@@ -123,6 +136,8 @@ command (word ∷ []) =
 command (verb ∷ idl ∷ acf ∷ []) =
     if is_word verb (codes "compile") then Some (Compile idl (acf_of acf))
     else if is_word verb (codes "plan") then Some (Plan idl (acf_of acf)) else None
+command (verb ∷ idl ∷ acf ∷ op ∷ side ∷ []) =
+    if is_word verb (codes "migrate") then migrate idl acf op (side_of side) else None
 command (verb ∷ idl ∷ acf ∷ op ∷ side ∷ order ∷ []) =
     if is_word verb (codes "decode") then decode idl acf op (side_of side) (order_of order) else None
 command (verb ∷ idl ∷ acf ∷ op ∷ side ∷ order ∷ chunk ∷ []) =

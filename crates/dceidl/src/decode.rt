@@ -4,13 +4,13 @@ ghost use Rattle.std.specs.List.{slice_get};
 ghost use Rattle.nd_types.specs.declared.types.Operation.{Operation};
 ghost use Rattle.nd_types.specs.Numbers.{IsNumberSide};
 ghost use Rattle.nd_value.specs.Fitting.{setting_of};
-ghost use Rattle.value_text.specs.Printed.{IsText};
+ghost use Rattle.text_grammar.specs.Printed.{IsText};
 ghost use Rattle.dceidl.specs.Decode.{IsOctetsCause, IsDecoding, IsLeftOver};
 
 use crate::ready::Ready;
-use crate::refusal::{OctetsFault, Refusal};
 use nd_base::{Octets, Order};
 use plain_ndr::{DecodeFault, Decoded};
+use refusals::{OctetsFault, Refusal};
 use std::alloc::Global;
 use value_text::print;
 
@@ -53,7 +53,6 @@ fn print_whole(
     decoded: &Decoded,
     given: usize,
 ) -> Result<Octets, Refusal>
-    requires built { IsNumberSide ready.now.interface.types ready.now.interface.operations ready.now.number ready.now.side }
     requires tied { decoded.now.fit.interface ≡ ready.now.interface }
     requires number { decoded.now.fit.op ≡ ready.now.number }
     requires side { decoded.now.fit.side ≡ ready.now.side }

@@ -8,16 +8,16 @@ ghost use Rattle.nd_types.specs.declared.types.Side.{Side};
 ghost use Rattle.nd_types.specs.Numbers.{has_number_roots};
 ghost use Rattle.nd_grammar.specs.Represents.{Represents};
 ghost use Rattle.nd_value.specs.Fitting.{setting_of};
-ghost use Rattle.value_text.specs.declared.TheConstants.{TEXT_LIMIT};
-ghost use Rattle.value_text.specs.Reads.{ReadsAs};
-ghost use Rattle.value_text.specs.Printed.{IsText};
+ghost use Rattle.text_grammar.specs.declared.TheConstants.{TEXT_LIMIT};
+ghost use Rattle.text_grammar.specs.Reads.{ReadsAs};
+ghost use Rattle.text_grammar.specs.Printed.{IsText};
 ghost use Rattle.dceidl.specs.Decode.{IsDecoding};
 ghost use Rattle.dceidl.specs.Encode.{IsEncoding};
 ghost use Rattle.idl_check.specs.AcfRules.{acf_breaches};
-ghost use Rattle.dceidl.specs.AcfFile.{AcfFile, IsLoadedAcf};
-ghost use Rattle.dceidl.specs.Idl.{Means, IsIdlFault, resolved_world};
-ghost use Rattle.dceidl.specs.declared.refusal.IdlReason.{IdlReason};
-ghost use Rattle.dceidl.specs.declared.refusal.Refusal.TheVariants as refusal;
+ghost use Rattle.idl_compiler.specs.AcfFile.{AcfFile, IsLoadedAcf};
+ghost use Rattle.idl_compiler.specs.Idl.{Means, IsIdlFault, resolved_world};
+ghost use Rattle.refusals.specs.declared.refusal.IdlReason.{IdlReason};
+ghost use Rattle.refusals.specs.declared.refusal.Refusal.TheVariants as refusal;
 
 /// Where the contents of files are known, a main file means one interface at most with those that it imports, with an attribute configuration file
 /// if one is named, or is refused at one line and column of one file for one reason at most, and never both.

@@ -1,26 +1,26 @@
 // What each command does.
-ghost use Rattle.std.specs.Prelude.{◌≡◌, ◌<◌, ◌≤◌, length, Some, IfOk, IfErr};
+ghost use Rattle.std.specs.Prelude.{◌≡◌, ◌<◌, length, Some, IfOk, IfErr};
 ghost use Rattle.std.specs.List.{slice_get};
 ghost use Rattle.nd_base.specs.Over.{files_seen, source_seen};
 ghost use Rattle.nd_types.specs.declared.types.Operation.{Operation};
-ghost use Rattle.nd_types.specs.Numbers.{IsNumberSide};
 ghost use Rattle.nd_value.specs.Fitting.{setting_of};
 ghost use Rattle.dceidl.specs.Asked.{AsksFor};
 ghost use Rattle.dceidl.specs.Causes.{IsMade, IsCause};
-ghost use Rattle.dceidl.specs.Commands.{command_of, subject_of, HasChunk};
-ghost use Rattle.dceidl.specs.Input.{IsRead, IsReadCause, IsEncoded, IsEncodeCause};
+ghost use Rattle.dceidl.specs.Commands.{command_of, subject_of, HasChunk, WritesChunks};
+ghost use Rattle.dceidl.specs.Input.{IsRead, IsReadCause, IsWritten, IsWriteCause};
+ghost use Rattle.dceidl.specs.Ready.{IsSideOf};
 ghost use Rattle.dceidl.specs.Seen.{seen_over};
-ghost use Rattle.dceidl.specs.Words.{Read, Encode as EncodeCommand, order_in};
+ghost use Rattle.dceidl.specs.Words.{Read, Write, order_in, values_read, values_written};
 
-use crate::compile::{list, list_plan};
 use crate::decode::decode;
-use crate::encode::encode;
+use crate::encode::{encode, migrate};
 use crate::input::read_input;
 use crate::ready::{Ready, make_ready};
-use crate::refusal::Refusal;
-use crate::words::{Command, OrderWord, Reading, Subject};
+use crate::words::{Command, OrderWord, Reading, Subject, Writing};
 use crate::{HELP, VERSION};
+use idl_compiler::{list, list_plan};
 use nd_base::{Files, Octets, STREAM_LIMIT, Source};
+use refusals::Refusal;
 use std::alloc::Global;
 use value_text::TEXT_LIMIT;
 
@@ -44,9 +44,7 @@ pub(crate) fn perform<F: Files, S: Source>(
 {
     match command {
         Command::Read { how, of, order } => read_values(alloc, how, of, order, files, input),
-        Command::Encode { of, order, chunk } => encode_values(
-            alloc, of, order, chunk, files, input,
-        ),
+        Command::Write { how, of } => write_values(alloc, how, of, files, input),
         Command::Compile { idl, acf } => list(alloc, idl, acf, files),
         Command::Plan { idl, acf } => list_plan(alloc, idl, acf, files),
         Command::Help => Ok(Octets::copy(alloc, HELP.as_bytes())?),
@@ -73,7 +71,7 @@ fn read_values<F: Files, S: Source>(
         (seen_over (files_seen F.held F.absences F.faults F.asked files.old files.new) (source_seen S.left S.ended S.faults input.old input.new))
         (Read how (subject_of of.entry) order)) }
 {
-    let ready = make_ready(alloc, of, files)?;
+    let ready = make_ready(alloc, of, how.values(), files)?;
     read_octets(alloc, &ready, how, order, input)
 }
 
@@ -85,7 +83,7 @@ fn read_octets<S: Source>(
     order: OrderWord,
     input: &mut S,
 ) -> Result<Octets, Refusal>
-    requires built { IsNumberSide ready.now.interface.types ready.now.interface.operations ready.now.number ready.now.side }
+    requires built { IsSideOf (values_read how) ready.now.interface.types ready.now.interface.operations ready.now.number ready.now.side }
     requires known { ready.now.number < length ready.now.interface.operations }
     ensures done { (o : Operation) → slice_get ready.now.interface.operations ready.now.number ≡ Some o
         → IfOk result (IsRead (source_seen S.left S.ended S.faults input.old input.new) how (setting_of ready.now.interface o ready.now.side) (order_in order)) }
@@ -98,46 +96,53 @@ fn read_octets<S: Source>(
     }
 }
 
-// Encodes the text of the input, once what the command speaks of is ready.
-fn encode_values<F: Files, S: Source>(
+// Reads the text of the input, once what the command speaks of is ready.
+fn write_values<F: Files, S: Source>(
     alloc: Global,
+    how: Writing,
     of: Subject<'_>,
-    order: OrderWord,
-    chunk: u32,
     files: &mut F,
     input: &mut S,
 ) -> Result<Octets, Refusal>
-    requires { 1 ≤ chunk }
+    requires { WritesChunks how }
     ensures asked { AsksFor
         (seen_over (files_seen F.held F.absences F.faults F.asked files.old files.new) (source_seen S.left S.ended S.faults input.old input.new))
-        (EncodeCommand (subject_of of.entry) order chunk) }
+        (Write how (subject_of of.entry)) }
     ensures done { IfOk result (IsMade
         (seen_over (files_seen F.held F.absences F.faults F.asked files.old files.new) (source_seen S.left S.ended S.faults input.old input.new))
-        (EncodeCommand (subject_of of.entry) order chunk)) }
+        (Write how (subject_of of.entry))) }
     ensures refused { IfErr result (IsCause
         (seen_over (files_seen F.held F.absences F.faults F.asked files.old files.new) (source_seen S.left S.ended S.faults input.old input.new))
-        (EncodeCommand (subject_of of.entry) order chunk)) }
+        (Write how (subject_of of.entry))) }
 {
-    let ready = make_ready(alloc, of, files)?;
-    encode_input(alloc, &ready, order, chunk, input)
+    let ready = make_ready(alloc, of, how.values(), files)?;
+    write_input(alloc, &ready, how, input)
 }
 
-// Encodes the text of the input.
-fn encode_input<S: Source>(
+// Reads the text of the input.
+fn write_input<S: Source>(
     alloc: Global,
     ready: &Ready,
-    order: OrderWord,
-    chunk: u32,
+    how: Writing,
     input: &mut S,
 ) -> Result<Octets, Refusal>
-    requires built { IsNumberSide ready.now.interface.types ready.now.interface.operations ready.now.number ready.now.side }
+    requires built { IsSideOf (values_written how) ready.now.interface.types ready.now.interface.operations ready.now.number ready.now.side }
     requires known { ready.now.number < length ready.now.interface.operations }
-    requires chunk { 1 ≤ chunk }
+    requires chunk { WritesChunks how }
     ensures done { (o : Operation) → slice_get ready.now.interface.operations ready.now.number ≡ Some o
-        → IfOk result (IsEncoded (source_seen S.left S.ended S.faults input.old input.new) (setting_of ready.now.interface o ready.now.side) (order_in order) chunk) }
+        → IfOk result (IsWritten (source_seen S.left S.ended S.faults input.old input.new) how (setting_of ready.now.interface o ready.now.side)) }
     ensures refused { (o : Operation) → slice_get ready.now.interface.operations ready.now.number ≡ Some o
-        → IfErr result (IsEncodeCause (source_seen S.left S.ended S.faults input.old input.new) (setting_of ready.now.interface o ready.now.side)) }
+        → IfErr result (IsWriteCause (source_seen S.left S.ended S.faults input.old input.new) (setting_of ready.now.interface o ready.now.side)) }
 {
     let text = read_input(alloc, input, TEXT_LIMIT)?;
-    encode(alloc, ready, order.order(), chunk, text.as_slice())
+    match how {
+        Writing::Encode { order, chunk } => encode(
+            alloc,
+            ready,
+            order.order(),
+            chunk,
+            text.as_slice(),
+        ),
+        Writing::Migrate => migrate(alloc, ready, text.as_slice()),
+    }
 }

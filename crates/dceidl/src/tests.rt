@@ -58,7 +58,7 @@ const DECODED: Case = Case {
     failing_notes: &[],
     room: 2000,
     status: 0,
-    out: b"values 1\nop add in\na = 1\nb = 2\nc = 3\n",
+    out: b"values 2\nop add in\na = 1\nb = 2\nc = 3\n",
     notes: "",
 };
 
@@ -68,6 +68,14 @@ const ENCODED: Case = Case {
     words: &["encode", "add.idl", "-", "add", "in", "little", "1"],
     input: b"values 1\nop add in\na = 1\nb = 2\nc = 3\n",
     out: b"\x01\0\0\0\x02\0\0\0\x03\0\0\0\0\0\0\0",
+    ..DECODED
+};
+
+// The text that is printed of the same values, from one of version 1.
+const MIGRATED: Case = Case {
+    name: "migrate",
+    words: &["migrate", "add.idl", "-", "add", "in"],
+    input: b"values 1 op add in a = 1 b = 2 c = 3",
     ..DECODED
 };
 
@@ -134,6 +142,7 @@ fn commands_are_done(rt: HostRuntime) {
     let cases = [
         DECODED,
         ENCODED,
+        MIGRATED,
         LISTED,
         NO_COMMAND,
         Case {
@@ -288,7 +297,7 @@ fn puts_fail(rt: HostRuntime) {
             name: "out is full",
             room: 12,
             status: 4,
-            out: b"values 1\nop ",
+            out: b"values 2\nop ",
             notes: "write fault\n",
             ..DECODED
         },

@@ -1,42 +1,24 @@
 // The top call: what the words ask for is done, and what it comes to is written.
-ghost use Rattle.std.specs.Prelude.{◌≡◌, ◌≢◌, ◌⊎◌, [], ◌∷◌, codes, ℕ, List, Option, Some, None, IfOk};
+ghost use Rattle.std.specs.Prelude.{◌≡◌, ◌≢◌, ◌⊎◌, [], ◌∷◌, codes, Some, None, IfOk};
 ghost use Rattle.std.specs.Io.KnownBytes.{Appends};
 ghost use Rattle.nd_base.specs.Counts.{Rose};
 ghost use Rattle.nd_base.specs.Over.{files_seen, source_seen, sink_seen};
-ghost use Rattle.dceidl.specs.declared.refusal.Refusal.{Refusal as Why};
+ghost use Rattle.refusals.specs.declared.refusal.Refusal.{Refusal as Why};
 ghost use Rattle.dceidl.specs.Asked.{Asks};
 ghost use Rattle.dceidl.specs.Causes.{statuses_of};
 ghost use Rattle.dceidl.specs.Commands.{command_of};
-ghost use Rattle.dceidl.specs.Lines.{status_of, line_of};
+ghost use Rattle.refusals.specs.Lines.{status_of, line_of};
 ghost use Rattle.dceidl.specs.Rows.{IsOneOf, IsDone, IsRefusedWith, ReadsInput, IsDueAndMissing, IsDueAndReported, HasNotFailed, IsSound, CanBeDone, MustBeRefused, IsCompleted, Refuses};
 ghost use Rattle.dceidl.specs.Run.{IsOutcome, IsDelivered, HasRun, IsReported};
 ghost use Rattle.dceidl.specs.Seen.{seen_over};
 ghost use Rattle.dceidl.specs.Words.{Command as Wanted, command, idl_of, op_of};
 
-use crate::lines::{line, status};
 use crate::outcome::Outcome;
 use crate::perform::perform;
-use crate::refusal::Refusal;
 use crate::words::{Command, Words};
 use nd_base::{Files, Memory, Octets, Sink, Source};
+use refusals::{Refusal, Status, line, status};
 use std::alloc::Global;
-
-/// The exit status of the program.
-///
-/// | Status | Meaning |
-/// |---|---|
-/// | 0 | success |
-/// | 1 | the octets, the text or the values of the input are refused |
-/// | 2 | the command line is not valid |
-/// | 3 | the input failed |
-/// | 4 | standard output or standard error failed; this status replaces any other |
-/// | 5 | out of memory |
-/// | 6 | an interface file or the attribute configuration file is refused, or the interface has no operation of that name, or its values are not built yet |
-/// | 7 | the interface file, an imported file or the attribute configuration file does not exist |
-/// | 9 | the interface file, an imported file or the attribute configuration file could not be read |
-///
-/// No run ends with status 8.
-pub type Status = u8;
 
 /// A command is done.
 pub(crate) const DONE: Status = 0;
@@ -52,12 +34,12 @@ pub(crate) const OUT_OF_MEMORY: Status = 5;
 
 /// Runs a command line and returns the exit status.
 ///
-/// `--help` and `--version` write their text to `out`. `compile`, `decode` and `encode` load the interface file, the files that it
-/// imports, and then the attribute configuration file if one is named (C706, chapter 4), and check the rules of the language.
-/// `compile` writes the listing of the interface to `out`. `decode` and `encode` read the input to its end, or to one octet past
+/// `--help` and `--version` write their text to `out`. The other commands load the interface file, the files that it imports, and then
+/// the attribute configuration file if one is named (C706, chapter 4), and check the rules of the language. `compile` writes the
+/// listing of the interface to `out`, `plan` that of its plan. `decode`, `encode` and `migrate` read the input to its end, or to one octet past
 /// their limit: [`STREAM_LIMIT`](nd_base::STREAM_LIMIT) octets of a stream, [`TEXT_LIMIT`](value_text::TEXT_LIMIT) octets of a text.
 /// `decode` writes the values of one side of the operation as text to `out`: its `[in]` parameters, or its `[out]` parameters and its
-/// result (C706, chapter 14). `encode` reads such a text and writes the octets of its values.
+/// result (C706, chapter 14). `encode` reads such a text and writes the octets of its values, and `migrate` writes it as it is printed.
 ///
 /// Nothing is requested before it is needed, and no file more than once: no file for an invalid command line, `--help` or
 /// `--version`, an import when its declaration is reached, the attribute configuration file when all names are resolved (it is loaded
@@ -173,7 +155,7 @@ fn command_line(alloc: Global, command: Command<'_>, refusal: &Refusal) -> Resul
 {
     match command {
         Command::Read { of, .. } => line(alloc, of.idl, of.op, refusal),
-        Command::Encode { of, .. } => line(alloc, of.idl, of.op, refusal),
+        Command::Write { of, .. } => line(alloc, of.idl, of.op, refusal),
         Command::Compile { idl, .. } => line(alloc, idl, "", refusal),
         Command::Plan { idl, .. } => line(alloc, idl, "", refusal),
         Command::Help => line(alloc, "", "", refusal),

@@ -1,6 +1,6 @@
 // The words of a command line, and the command that they are.
 ghost use Rattle.std.specs.Prelude.{◌≡◌, ◌≤◌, [], ◌∷◌, ◌++◌, OnOk, OnErr, IfSome, option_map};
-ghost use Rattle.dceidl.specs.Words.{command, acf_of, order_in, order_of, side_of, chunk_of, chunk_by, decode as decode_of, encode as encode_of, subject as subject_by};
+ghost use Rattle.dceidl.specs.Words.{command, acf_of, order_in, values_read, values_written, order_of, side_of, chunk_of, chunk_by, decode as decode_of, encode as encode_of, migrate as migrate_of, subject as subject_by};
 ghost use Rattle.dceidl.specs.Commands.{command_of, subject_of, HasChunk};
 
 use crate::CHUNK_LIMIT;
@@ -56,6 +56,18 @@ impl Words {
         match self.items.as_slice() {
             [word] => short_command(word.as_str()),
             [verb, idl, acf] => listing_command(verb.as_str(), idl.as_str(), acf.as_str()),
+            [verb, idl, acf, op, side] => {
+                if verb.as_str() == "migrate" {
+                    migrate_command(
+                        idl.as_str(),
+                        acf.as_str(),
+                        op.as_str(),
+                        side_named(side.as_str()),
+                    )
+                } else {
+                    None
+                }
+            }
             [verb, idl, acf, op, side, order] => {
                 if verb.as_str() == "decode" {
                     decode_command(
@@ -95,6 +107,47 @@ pub(crate) enum Reading {
     Decode,
 }
 
+impl Reading {
+    // The values that octets are read as.
+    pub(crate) fn values(self) -> Values
+        ensures { result ≡ values_read self }
+    {
+        match self {
+            Reading::Decode => Values::Primitives,
+        }
+    }
+}
+
+// What is made of the text of the input.
+#[derive(Clone, Copy, Debug, PartialEq, Eq)]
+pub(crate) enum Writing {
+    // The octets of its values.
+    Encode { order: OrderWord, chunk: u32 },
+    // The text that is printed of them.
+    Migrate,
+}
+
+impl Writing {
+    // The values of which something is made.
+    pub(crate) fn values(self) -> Values
+        ensures { result ≡ values_written self }
+    {
+        match self {
+            Writing::Encode { .. } => Values::Primitives,
+            Writing::Migrate => Values::All,
+        }
+    }
+}
+
+// The values of a side that a command can do something with.
+#[derive(Clone, Copy, Debug, PartialEq, Eq)]
+pub(crate) enum Values {
+    // Those of every type.
+    All,
+    // Those of sides whose roots are primitives. The octets of no others are built yet.
+    Primitives,
+}
+
 // The order of octets that a command names.
 #[derive(Clone, Copy, Debug, PartialEq, Eq)]
 pub(crate) enum OrderWord {
@@ -128,10 +181,9 @@ pub(crate) enum Command<'a> {
         of: Subject<'a>,
         order: OrderWord,
     },
-    Encode {
+    Write {
+        how: Writing,
         of: Subject<'a>,
-        order: OrderWord,
-        chunk: u32,
     },
     Compile {
         idl: &'a str,
@@ -212,12 +264,30 @@ fn encode_command<'a>(
     ensures chunk { IfSome result HasChunk }
 {
     match (side, order, chunk) {
-        (Some(side), Some(order), Some(chunk)) => Some(Command::Encode {
+        (Some(side), Some(order), Some(chunk)) => Some(Command::Write {
+            how: Writing::Encode { order, chunk },
             of: subject_named(idl, acf, op, side),
-            order,
-            chunk,
         }),
         _ => None,
+    }
+}
+
+// `migrate`, if its word is a side.
+fn migrate_command<'a>(
+    idl: &'a str,
+    acf: &'a str,
+    op: &'a str,
+    side: Option<Side>,
+) -> Option<Command<'a>>
+    ensures command { option_map command_of result ≡ migrate_of idl.now acf.now op.now side }
+    ensures chunk { IfSome result HasChunk }
+{
+    match side {
+        Some(side) => Some(Command::Write {
+            how: Writing::Migrate,
+            of: subject_named(idl, acf, op, side),
+        }),
+        None => None,
     }
 }
 

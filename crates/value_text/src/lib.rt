@@ -1,26 +1,12 @@
-//! The text of values: how graphs are printed for people, and read.
+//! The text of values: how graphs are written for people, and read.
 //!
-//! `print` writes the text of a graph that conforms. `read_text` reads a text, and gives the graph or the first fault with its
-//! line and column.
+//! `print` writes the text of a graph that conforms, and `print_value` that of one value. `read_text` reads a text, and gives the graph
+//! or the first fault with its line and column. `path` says where a node of a graph is. All of it is declared in the crates below, and
+//! passed on here, with the laws of texts.
 #![tactic(auto)]
 
-pub mod examples;
-mod fault;
-pub mod laws;
-mod lexeme;
-mod numbers;
-mod octets;
-mod printing;
-mod reading;
-mod steps;
-mod stop;
-mod strings;
-#[cfg(test)]
-mod tests;
-
-pub use fault::{TextFault, TextReason};
-pub use printing::print;
-pub use reading::read_text;
-
-/// The greatest number of octets of a value text.
-pub const TEXT_LIMIT: u32 = 536_870_912;
+pub use text_grammar::{TEXT_LIMIT, TextFault, TextReason, Version};
+pub use text_laws::laws;
+pub use text_paths::path;
+pub use text_printing::{print, print_value, quoted};
+pub use text_reading::read_text;

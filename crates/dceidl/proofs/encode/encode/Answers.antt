@@ -1,22 +1,16 @@
-use Rattle.std.proofs.Common.{subst}
-use Rattle.nd_value.specs.Fitting.{setting_of}
-use Rattle.nd_grammar.proofs.PlainSides.{number_side_plain}
-use Rattle.value_text.specs.Reads.{IsFault}
-use Rattle.dceidl.proofs.Encodings.{encoding_is, text_refused, same_fault}
+use Rattle.std.proofs.lemmas.Result.{err_from_is_err_and}
+use Rattle.dceidl.proofs.Encodings.{IsOfSide, its_operation, encoding_is}
 use Rattle.dceidl.proofs.encode.encode.Goals as goal
 
-pub returns-in-Ok-clause-done : goal.returns-in-Ok-clause-done
-returns-in-Ok-clause-done c o there =
-    encoding_is (setting_of c.args.ready.now.interface o c.args.ready.now.side) c.args.order c.args.chunk c.args.text.now c.in-Ok.graph (c.in-Ok.ensures.read o there)
-    c.encode_graph.result (c.encode_graph.ensures.conforms o there) (c.encode_graph.ensures.chosen o there)
+pub returns-clause-done : goal.returns-clause-done
+returns-clause-done c o there =
+    let i = c.args.ready.now.interface in
+    let f = c.in_ok-fit.fit in
+    let of : IsOfSide f i c.args.ready.now.number c.args.ready.now.side = record { tied = c.in_ok-fit.ensures.tied; number = c.in_ok-fit.ensures.number; side = c.in_ok-fit.ensures.side; beside = c.in_ok-fit.ensures.beside } in
+    encoding_is f i c.args.ready.now.number c.args.ready.now.side of o there c.args.order c.args.chunk c.args.text.now c.in_ok-octets.octets
+    (c.in_ok-fit.ensures.read o there) c.flat-conforming.ensures.conforms (c.in_ok-octets.ensures.chosen o (its_operation f i c.args.ready.now.number c.args.ready.now.side of o there))
 
-pub returns-in-Ok-clause-refused : goal.returns-in-Ok-clause-refused
-returns-in-Ok-clause-refused c o there =
-    text_refused (setting_of c.args.ready.now.interface o c.args.ready.now.side) _
-    (number_side_plain c.args.ready.now.interface c.args.ready.now.number o c.args.ready.now.side (c.requires.built o there) there) c.args.text.now c.in-Ok.graph (c.in-Ok.ensures.read o there)
-    c.encode_graph.result (c.encode_graph.ensures.refused o there)
-
-pub returns-in-Err-At-clause-refused : goal.returns-in-Err-At-clause-refused
-returns-in-Err-At-clause-refused c o there =
-    same_fault (setting_of c.args.ready.now.interface o c.args.ready.now.side) c.args.text.now _ _ _ _ _ _ c.in-Err-At.line-is c.in-Err-At.column-is c.in-Err-At.reason-is
-    (subst (IsFault (setting_of c.args.ready.now.interface o c.args.ready.now.side) c.args.text.now) c.in-Err-At.field-0-is (c.in-Err-At.ensures.refused o there))
+pub returns-in_err-octets-clause-refused : goal.returns-in_err-octets-clause-refused
+returns-in_err-octets-clause-refused c o there =
+    let p = err_from_is_err_and c.from_residual-in_err-octets.result c.from_residual-in_err-octets.ensures.1 in
+    rw (p.1, p.2) tt

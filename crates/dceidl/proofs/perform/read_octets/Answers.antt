@@ -4,8 +4,13 @@ use Rattle.nd_base.specs.Over.{source_seen}
 use Rattle.nd_value.specs.Fitting.{setting_of}
 use Rattle.dceidl.specs.Input.{AreRead}
 use Rattle.dceidl.specs.Words.{order_in}
-use Rattle.dceidl.proofs.Causes.{read_is}
+use Rattle.dceidl.proofs.Causes.{read_is, read_numbers}
 use Rattle.dceidl.proofs.perform.read_octets.Goals as goal
+
+pub decode-requires-clause-built : goal.decode-requires-clause-built
+decode-requires-clause-built g c =
+    let r = c.args.ready.now in
+    read_numbers c.args.how r.interface.types r.interface.operations r.number r.side c.requires.built
 
 pub returns-clause-done : goal.returns-clause-done
 returns-clause-done g c o there =

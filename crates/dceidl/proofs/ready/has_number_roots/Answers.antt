@@ -1,4 +1,4 @@
-use Rattle.std.proofs.Common.{◌∙◌, refl, sym, ap, arith, length, take}
+use Rattle.std.proofs.Common.{◌∙◌, sym, ap, arith, length, take}
 use Rattle.std.specs.List.{list_all}
 use Rattle.std.proofs.lemmas.List.{length_push, take_all}
 use Rattle.std.proofs.lemmas.Iterator.Consumers.{YieldsList-from_first, YieldsList-turn, YieldsList-end}

@@ -2,7 +2,7 @@ use Rattle.std.proofs.Common.{◌≡◌, subst, sym}
 use Rattle.std.specs.Prelude.{IfOk}
 use Rattle.dceidl.specs.Commands.{command_of}
 use Rattle.dceidl.specs.Words.{idl_of, op_of}
-use Rattle.dceidl.specs.Lines.{line_of}
+use Rattle.refusals.specs.Lines.{line_of}
 use Rattle.dceidl.specs.declared.words.Command as words
 use Rattle.dceidl.proofs.top.command_line.Goals as goal
 

@@ -1,0 +1,10 @@
+pub mod Walks
+pub mod AskedFiles
+pub mod Compiled
+pub mod Judged
+pub mod AcfWithin
+pub mod OneFile
+pub mod OneAcf
+pub mod OneWalk
+pub mod OneMeaning
+pub mod OneInterface

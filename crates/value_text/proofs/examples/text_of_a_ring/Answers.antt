@@ -1,9 +1,0 @@
-use Rattle.value_text.proofs.WorkedTexts.{ring_read}
-use Rattle.value_text.proofs.WorkedPrinted.{ring_printed}
-use Rattle.value_text.proofs.examples.text_of_a_ring.Goals as goal
-
-pub returns-clause-read : goal.returns-clause-read
-returns-clause-read c = ring_read
-
-pub returns-clause-printed : goal.returns-clause-printed
-returns-clause-printed c = ring_printed

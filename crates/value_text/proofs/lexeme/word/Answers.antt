@@ -1,9 +1,0 @@
-use Rattle.std.proofs.Common.{◌∙◌, ◌-◌, length, take, drop}
-use Rattle.value_text.proofs.Scanned.{word_first, rest_is}
-use Rattle.value_text.proofs.lexeme.word.Goals as goal
-
-pub returns : goal.returns
-returns c =
-    let text = c.args.text.now in
-    let end = c.run_end-end.result in
-    word_first text (take end text) (take (length text - end) (drop end text)) c.requires c.run_end-end.ensures.run (rest_is end text ∙ c.run_end-end.ensures.after)
