@@ -9,9 +9,9 @@ use Rattle.phrases.specs.Verdict.{whole_read}
 use Rattle.phrases.proofs.Exact.{Exact, front}
 use Rattle.phrases.proofs.Sequences.{stops}
 use Rattle.idl_grammar.specs.Answers.{is_banned, named}
-use Rattle.idl_parser.specs.declared.fault.SyntaxFault.{SyntaxFault}
-use Rattle.idl_parser.specs.declared.fault.SyntaxFault.TheVariants as errors
-use Rattle.idl_parser.specs.Answered.{IsWithin, IsNamed}
+use Rattle.idl_tokens.specs.declared.fault.SyntaxFault.{SyntaxFault}
+use Rattle.idl_tokens.specs.declared.fault.SyntaxFault.TheVariants as errors
+use Rattle.idl_tokens.specs.Refused.{IsWithin, IsNamed}
 use Rattle.acf_reader.specs.declared.tree.Acf.{Acf}
 use Rattle.acf_reader.specs.Tree as tree
 use Rattle.acf_reader.specs.Grammar.{acf}

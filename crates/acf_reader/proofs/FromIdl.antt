@@ -15,12 +15,12 @@ use Rattle.idl_grammar.specs.Symbols.{Spelled, reserved_words, attribute_words, 
 use Rattle.idl_grammar.specs.Symbols as symbol
 use Rattle.idl_grammar.specs.Lexemes.{symbol_among}
 use Rattle.idl_grammar.specs.Lexemes as idl
-use Rattle.idl_parser.specs.declared.lexemes.Lexeme as program
-use Rattle.idl_parser.specs.Lexemes.{text_of, seen_lexeme}
+use Rattle.idl_tokens.specs.declared.lexemes.Lexeme as program
+use Rattle.idl_tokens.specs.Lexemes.{text_of, seen_lexeme}
 use Rattle.acf_reader.specs.Symbols.{own_words}
 use Rattle.acf_reader.specs.Lexemes.{words, symbol_of, lexeme_of, lexemes}
 use Rattle.acf_reader.specs.FromIdl.{names_of_idl, symbol_from, lexeme_from}
-use Rattle.idl_parser.proofs.Tables.{drop_here}
+use Rattle.idl_tokens.proofs.Tables.{drop_here}
 
 -- ## words
 

@@ -5,7 +5,7 @@ ghost use Rattle.phrases.specs.Reading.{behind_read};
 ghost use Rattle.phrases.specs.Gives.{Gives, GivesPlace};
 ghost use Rattle.idl_grammar.specs.Symbols as symbols;
 ghost use Rattle.idl_grammar.specs.Reading.{one_of_read, commas_read};
-ghost use Rattle.idl_parser.specs.Found.{found};
+ghost use Rattle.idl_tokens.specs.Found.{found};
 ghost use Rattle.acf_reader.specs.declared.tree.AttributeKind.TheVariants as kinds;
 ghost use Rattle.acf_reader.specs.Symbols.{names};
 ghost use Rattle.acf_reader.specs.Seen.{seen_attributes};
@@ -14,8 +14,8 @@ ghost use Rattle.acf_reader.specs.Reading.{ident_read, handle_type_read, variabl
 use crate::tree::{Attribute, AttributeKind, Attributes, HandleType};
 use crate::words;
 use idl_grammar::Identifier;
-use idl_parser::parser::Parser;
-use idl_parser::symbol;
+use idl_tokens::parser::Parser;
+use idl_tokens::symbol;
 use phrases::Refusal;
 
 /// The symbols of names inside attribute brackets.
@@ -148,7 +148,7 @@ fn implicit_handle(
 }
 
 /// An attribute of one word.
-#[tactic(auto, using(idl_parser::proofs::Basics::one_of_found, idl_parser::proofs::Basics::one_of_none, idl_parser::proofs::Basics::found_within))]
+#[tactic(auto, using(idl_tokens::proofs::Basics::one_of_found, idl_tokens::proofs::Basics::one_of_none, idl_tokens::proofs::Basics::found_within))]
 fn one_word_attribute(parser: &Parser<'_>, at: usize) -> Result<(AttributeKind, usize), Refusal>
     requires { at ≤ length parser.now }
     ensures gives { Gives (λ x. x) result (one_of_read kinds.Heap one_word_attributes parser.now at) }

@@ -14,8 +14,8 @@ use crate::attributes::{attributes, ident, is_name, maybe_attributes};
 use crate::tree::{Acf, BodyElement, Parameter};
 use crate::words;
 use idl_grammar::{Identifier, Spelling};
-use idl_parser::parser::Parser;
-use idl_parser::symbol;
+use idl_tokens::parser::Parser;
+use idl_tokens::symbol;
 use phrases::Refusal;
 
 /// A parameter.

@@ -2,14 +2,14 @@
 ghost use Rattle.std.specs.Prelude.{◌≡◌, map, IfOk};
 ghost use Rattle.phrases.specs.Text.{is_in};
 ghost use Rattle.idl_grammar.specs.Lexemes.{symbol_among, IsFormed};
-ghost use Rattle.idl_parser.specs.Lexemes.{text_of};
+ghost use Rattle.idl_tokens.specs.Lexemes.{text_of};
 ghost use Rattle.acf_reader.specs.FromIdl.{names_of_idl, symbol_from};
 ghost use Rattle.acf_reader.specs.Lexemes.{lexemes as grammar_lexemes};
 
 use crate::words::OWN_WORDS;
 use idl_lexer::Tokens;
-use idl_parser::lexemes::{Lexeme, among, lexemes as idl_lexemes};
-use idl_parser::symbol;
+use idl_tokens::lexemes::{Lexeme, among, lexemes as idl_lexemes};
+use idl_tokens::symbol;
 use std::alloc::{AllocError, Global};
 
 /// The symbols of names of IDL, and of words with which its attributes begin: all of them are names here, but for the file's own words.

@@ -14,8 +14,8 @@ use crate::body::acf;
 use crate::lexemes::lexemes;
 use crate::tree::Acf;
 use idl_lexer::Tokens;
-use idl_parser::parser::Parser;
-use idl_parser::{SyntaxFault, fault_of};
+use idl_tokens::parser::Parser;
+use idl_tokens::{SyntaxFault, fault_of};
 use phrases::Refusal;
 use std::alloc::Global;
 

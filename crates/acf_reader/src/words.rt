@@ -1,5 +1,5 @@
 // The words that are an attribute configuration file's own, and their symbols.
-use idl_parser::words::Entry;
+use idl_tokens::words::Entry;
 
 /// `auto_handle`
 pub(crate) const AUTO_HANDLE: u8 = 110;

@@ -8,7 +8,7 @@ use Rattle.idl_lexer.specs.declared.tokens.LexKind.{LexKind}
 use Rattle.idl_lexer.specs.declared.tokens.LexFault.TheVariants as lexical
 use Rattle.idl_lexer.specs.Verdict.{IsVerdict, Refused}
 use Rattle.idl_grammar.specs.Tree.{Tree}
-use Rattle.idl_parser.specs.declared.fault.SyntaxFault.{SyntaxFault}
+use Rattle.idl_tokens.specs.declared.fault.SyntaxFault.{SyntaxFault}
 use Rattle.idl_names.specs.declared.name_fault.NameFault.{NameFault}
 use Rattle.idl_names.specs.declared.name_fault.NameFault.TheVariants as names
 use Rattle.idl_names.specs.Files.{IsFile, IsNoFile}

@@ -10,8 +10,8 @@ use Rattle.idl_lexer.specs.Verdict.{IsFault, IsVerdict, Refused}
 use Rattle.idl_grammar.specs.Tree.{Tree}
 use Rattle.idl_names.specs.declared.name_fault.NameFault.{NameFault}
 use Rattle.idl_names.specs.declared.name_fault.NameFault.TheVariants as names
-use Rattle.idl_parser.specs.declared.fault.SyntaxFault.{SyntaxFault}
-use Rattle.idl_parser.specs.declared.fault.SyntaxFault.TheVariants as syntax
+use Rattle.idl_tokens.specs.declared.fault.SyntaxFault.{SyntaxFault}
+use Rattle.idl_tokens.specs.declared.fault.SyntaxFault.TheVariants as syntax
 use Rattle.idl_names.specs.Files.{IsFile, IsNoFile}
 use Rattle.idl_names.specs.Sources.{Source, source, and_source, file_name, file_text}
 use Rattle.idl_names.specs.Walk.{State, Walk, start, all_of, Stopped, IsResolved, IsRefused}

@@ -24,8 +24,8 @@ use Rattle.idl_grammar.specs.Answers.{is_banned, Answers, named_fault, named, fi
 use Rattle.idl_grammar.proofs.FileExact as grammar_exact
 use Rattle.idl_grammar.proofs.FileLaws.{file_answered_alone}
 use Rattle.idl_grammar.proofs.RealTokens.{lexemes_real}
-use Rattle.idl_parser.specs.declared.fault.SyntaxFault.{SyntaxFault}
-use Rattle.idl_parser.specs.declared.fault.SyntaxFault.TheVariants as syntax
+use Rattle.idl_tokens.specs.declared.fault.SyntaxFault.{SyntaxFault}
+use Rattle.idl_tokens.specs.declared.fault.SyntaxFault.TheVariants as syntax
 use Rattle.idl_parser.specs.Answered.{Told}
 use Rattle.idl_names.specs.declared.name_fault.NameFault.{NameFault}
 use Rattle.idl_names.specs.declared.name_fault.NameFault.TheVariants as fault

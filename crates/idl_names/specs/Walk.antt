@@ -10,7 +10,7 @@ use Rattle.idl_grammar.specs.declared.words.Spelling.{Spelling}
 use Rattle.idl_grammar.specs.Tree.{Tree}
 use Rattle.idl_names.specs.declared.name_fault.NameFault.{NameFault}
 use Rattle.idl_names.specs.declared.name_fault.NameFault.TheVariants as fault
-use Rattle.idl_parser.specs.declared.fault.SyntaxFault.{SyntaxFault}
+use Rattle.idl_tokens.specs.declared.fault.SyntaxFault.{SyntaxFault}
 use Rattle.idl_names.specs.Steps.{Step, attribute_steps, imports_of, declaration_steps}
 use Rattle.idl_names.specs.Known.{Known, nothing, passed, place_in, first_undefined}
 use Rattle.idl_names.specs.Sources.{Source, file_number, file_named, and_source}

@@ -1,4 +1,1 @@
-pub mod Lexemes
-pub mod Found
-pub mod Views
 pub mod Answered

@@ -3,20 +3,20 @@ ghost use Rattle.std.specs.Prelude.{◌≡◌, ◌≤◌, ◌<◌, length, Resul
 ghost use Rattle.phrases.specs.Reading.{Fault};
 ghost use Rattle.phrases.specs.Gives.{GivesWhole};
 ghost use Rattle.phrases.specs.Verdict.{whole_read};
-ghost use Rattle.idl_grammar.specs.Answers.{is_banned, Answers, file_answer};
+ghost use Rattle.idl_grammar.specs.Answers.{Answers, file_answer};
 ghost use Rattle.idl_grammar.specs.Grammar.{file as grammar_file};
 ghost use Rattle.idl_grammar.specs.Lexemes.{lexemes as grammar_lexemes};
 ghost use Rattle.idl_grammar.specs.Reading.{file_read};
 ghost use Rattle.idl_grammar.specs.Seen.{seen_tree};
 ghost use Rattle.idl_grammar.specs.Tree as tree;
-ghost use Rattle.idl_parser.specs.Answered.{Told, IsWithin, IsNamed};
+ghost use Rattle.idl_parser.specs.Answered.{Told};
 
-use crate::fault::SyntaxFault;
-use crate::lexemes::lexemes;
-use crate::parser::Parser;
-use crate::symbol;
+use crate::file::file;
 use idl_grammar::Tree;
 use idl_lexer::Tokens;
+use idl_tokens::lexemes::lexemes;
+use idl_tokens::parser::Parser;
+use idl_tokens::{SyntaxFault, fault_of};
 use phrases::Refusal;
 use std::alloc::Global;
 
@@ -38,40 +38,11 @@ fn fuel() -> usize
 fn whole(parser: &Parser<'_>, fuel: usize, nesting: usize) -> Result<Tree, Refusal>
     ensures { GivesWhole seen_tree result (whole_read (file_read fuel nesting parser.now 0) parser.now) }
 {
-    let (tree, at) = parser.file(fuel, nesting, 0)?;
+    let (tree, at) = file(parser, fuel, nesting, 0)?;
     if at != parser.count() {
         return Err(Refusal::Syntax(at));
     }
     Ok(tree)
-}
-
-/// Whether a word is at a place that is banned anywhere.
-#[tactic(auto, unfolding(idl_grammar::specs::Answers::is_banned))]
-fn stands_banned(parser: &Parser<'_>, at: usize) -> bool
-    ensures { result ≡ is_banned parser.now at }
-{
-    parser.stands(symbol::BANNED, at)
-}
-
-/// The fault of a refusal: a word that is banned anywhere is named as such. Takes no memory.
-pub fn fault_of(parser: &Parser<'_>, refusal: Refusal) -> SyntaxFault
-    requires few { length parser.now < 4294967296 }
-    requires within { IsWithin refusal (length parser.now) }
-    ensures { IsNamed parser.now refusal result }
-{
-    match refusal {
-        Refusal::Memory => SyntaxFault::Memory,
-        Refusal::Syntax(at) => {
-            let token = at as u32;
-            if stands_banned(parser, at) {
-                SyntaxFault::Banned { token }
-            } else {
-                SyntaxFault::Syntax { token }
-            }
-        }
-        Refusal::Deep(at) => SyntaxFault::Deep { token: at as u32 },
-        Refusal::Banned(at) => SyntaxFault::Banned { token: at as u32 },
-    }
 }
 
 /// The tree of a file, or its first fault.

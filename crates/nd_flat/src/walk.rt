@@ -49,10 +49,11 @@ impl<'a> Walk<'a> {
         }
     }
 
-    /// The next node, or None where none is left. Numbers that are kept side by side are given one by one. Takes no memory.
+    /// The next node, or None if none is left, and then the walk has not moved. Numbers that are kept side by side are given one by one. Takes no memory.
     pub fn step(&mut self) -> Option<Seen<'a>>
         ensures some { IfSome result (λ s. flat self.old ≡ flat_seen s ∷ flat self.new) }
         ensures none { IfNone result (self.old ≡ none) }
+        ensures stays { IfNone result (self.new ≡ self.old) }
     {
         let left = self.left;
         if left.count > 0 {

@@ -50,7 +50,7 @@ module _ (order : Order) (octets more : List ℕ) where
   kind_stays seen a at m _ os = refl
 
   -- an entry whose octets are all there is judged alike
-  judged_alike : (seen : List EntryAt) → AllByRecursion Within seen → (x : EntryAt) → Within x → refusal order longer seen x ≡ refusal order octets seen x
+  pub judged_alike : (seen : List EntryAt) → AllByRecursion Within seen → (x : EntryAt) → Within x → refusal order longer seen x ≡ refusal order octets seen x
   judged_alike seen a x h =
       ap (λ b. refused_if (is_long x.at x.entry.kind) (STREAM_LIMIT, reason.TooLong)
       (refused_if b (length longer, reason.Truncated) (kind_refusal order longer seen x.at x.entry x.entry.kind (piece longer x.at x.entry.kind))))

@@ -26,7 +26,7 @@ use Rattle.nd_grammar.specs.StreamReader.{read_stream}
 use Rattle.nd_grammar.proofs.Excluded.{excluded}
 use Rattle.nd_grammar.proofs.OneRefusal.{one_bad}
 use Rattle.nd_grammar.proofs.ReaderLaws.{reader_refuses}
-use Rattle.nd_grammar.proofs.StaysBad.{stays_bad}
+use Rattle.nd_grammar.proofs.StaysBad.{stays_bad, judged_alike}
 use Rattle.nd_grammar.proofs.next.Spelt.{piece_left}
 use Rattle.nd_grammar.proofs.reader.ReaderStream.{Pipes, G, ms, numbering, is_partial, is_stream, numbered, ends_in_octets}
 use Rattle.ndr_verdict.specs.Needed.{IsNeeded}
@@ -42,39 +42,10 @@ module _ (order : Order) (octets more : List ℕ) where
   abbrev Within : EntryAt → Type 0
   Within x = x.at + size_at x.at x.entry.kind ≤ length octets
 
-  others_alike : (seen : List EntryAt) → AllByRecursion Within seen → (v to : ℕ) → is_other order longer seen v to ≡ is_other order octets seen v to
-  others_alike [] a v to = refl
-  others_alike (x ∷ xs) a v to =
-      ap₂ (λ os b. other_pointee x.entry.kind to && eqb (unsigned order os) v || b) (piece_left x.at (size_at x.at x.entry.kind) octets more a.0)
-      (others_alike xs a.1 v to)
-
-  kind_alike : (seen : List EntryAt) → AllByRecursion Within seen → (at : ℕ) (m : Entry) (k : Kind) (os : List ℕ)
-      → kind_refusal order longer seen at m k os ≡ kind_refusal order octets seen at m k os
-  kind_alike seen a at m (Number Full to c) os =
-      ap (λ b. refused_if (not (eqb (unsigned order os) 0) && b) (at, reason.OtherType) None) (others_alike seen a (unsigned order os) to)
-  kind_alike seen a at m (Number Ref to c) os = refl
-  kind_alike seen a at m (Number Unique to c) os = refl
-  kind_alike seen a at m (Offset true v) os = refl
-  kind_alike seen a at m (Offset false v) os = refl
-  kind_alike seen a at m _ os = refl
-
-  judged_alike : (seen : List EntryAt) → AllByRecursion Within seen → (x : EntryAt) → Within x → refusal order longer seen x ≡ refusal order octets seen x
-  judged_alike seen a x h =
-      let few : x.at + size_at x.at x.entry.kind ≤ length longer = omega (arith, h, length-append octets more) in
-      ap (λ b. refused_if (is_long x.at x.entry.kind) (STREAM_LIMIT, reason.TooLong)
-      (refused_if b (length longer, reason.Truncated) (kind_refusal order longer seen x.at x.entry x.entry.kind (piece longer x.at x.entry.kind))))
-      (le-ltb (length longer) (x.at + size_at x.at x.entry.kind) few)
-      ∙ ap (λ o. refused_if (is_long x.at x.entry.kind) (STREAM_LIMIT, reason.TooLong) o)
-      (kind_alike seen a x.at x.entry x.entry.kind (piece longer x.at x.entry.kind)
-      ∙ ap (kind_refusal order octets seen x.at x.entry x.entry.kind) (piece_left x.at (size_at x.at x.entry.kind) octets more h))
-      ∙ sym (ap (λ b. refused_if (is_long x.at x.entry.kind) (STREAM_LIMIT, reason.TooLong)
-      (refused_if b (length octets, reason.Truncated) (kind_refusal order octets seen x.at x.entry x.entry.kind (piece octets x.at x.entry.kind))))
-      (le-ltb (length octets) (x.at + size_at x.at x.entry.kind) h))
-
   accepted_before : (seen ys : List EntryAt) → AllByRecursion Within seen → AllByRecursion Within ys → Accepts order longer seen ys → Accepts order octets seen ys
   accepted_before seen [] a b c = tt
   accepted_before seen (y ∷ ys) a b c = (
-    sym (judged_alike seen a y b.0) ∙ c.0,
+    sym (judged_alike order octets more seen a y b.0) ∙ c.0,
     accepted_before (seen ++ y ∷ []) ys (all_append Within seen (y ∷ []) a (b.0, tt)) b.1 c.1,
   )
 

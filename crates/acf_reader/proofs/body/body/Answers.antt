@@ -6,7 +6,7 @@ use Rattle.std.proofs.lemmas.Result.{err_from_is_err_and}
 use Rattle.std.proofs.lemmas.List.{map_push}
 use Rattle.acf_reader.specs.Reading.{element_read, body_read, element_firsts}
 use Rattle.acf_reader.specs.Seen.{seen_element}
-use Rattle.idl_parser.proofs.Lists.{list_begins}
+use Rattle.idl_tokens.proofs.Lists.{list_begins}
 use Rattle.acf_reader.proofs.body.body.Goals as goal
 
 pub loop-list-init : goal.loop-list-init

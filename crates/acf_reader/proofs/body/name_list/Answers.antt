@@ -5,7 +5,7 @@ use Rattle.phrases.proofs.Gathered.{gathers, gathering_fails, gathered}
 use Rattle.idl_grammar.specs.Symbols as symbol
 use Rattle.std.proofs.lemmas.Result.{err_from_is_err_and}
 use Rattle.acf_reader.specs.Reading.{ident_read}
-use Rattle.idl_parser.proofs.Lists.{alone, separated_begins}
+use Rattle.idl_tokens.proofs.Lists.{alone, separated_begins}
 use Rattle.acf_reader.proofs.body.name_list.Goals as goal
 
 pub loop-list-init : goal.loop-list-init

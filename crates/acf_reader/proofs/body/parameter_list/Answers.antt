@@ -7,7 +7,7 @@ use Rattle.std.proofs.lemmas.Result.{err_from_is_err_and}
 use Rattle.std.proofs.lemmas.List.{map_push}
 use Rattle.acf_reader.specs.Reading.{parameter_read}
 use Rattle.acf_reader.specs.Seen.{seen_parameter}
-use Rattle.idl_parser.proofs.Lists.{alone, separated_begins}
+use Rattle.idl_tokens.proofs.Lists.{alone, separated_begins}
 use Rattle.acf_reader.proofs.body.parameter_list.Goals as goal
 
 pub loop-list-init : goal.loop-list-init

@@ -1,7 +1,7 @@
 use Rattle.std.proofs.Common.{refl, sym, ap, subst, ◌∙◌, map, List}
 use Rattle.std.proofs.lemmas.List.{map_push}
-use Rattle.idl_parser.specs.declared.lexemes.Lexeme.{Lexeme}
-use Rattle.idl_parser.specs.Lexemes.{text_of, seen_lexeme}
+use Rattle.idl_tokens.specs.declared.lexemes.Lexeme.{Lexeme}
+use Rattle.idl_tokens.specs.Lexemes.{text_of, seen_lexeme}
 use Rattle.acf_reader.specs.FromIdl.{lexeme_from}
 use Rattle.idl_grammar.specs.Lexemes.{IsFormed}
 use Rattle.acf_reader.proofs.Formed.{formed_from}

@@ -1,5 +1,5 @@
 use Rattle.std.proofs.Common.{◌≡◌, ◌++◌, drop, map}
-use Rattle.idl_parser.specs.Lexemes.{text_of}
+use Rattle.idl_tokens.specs.Lexemes.{text_of}
 use Rattle.acf_reader.specs.FromIdl.{lexeme_from}
 use Rattle.acf_reader.proofs.lexemes.lexemes.Given as goal
 

@@ -3,7 +3,7 @@ use Rattle.std.proofs.lemmas.List.{length-map}
 use Rattle.phrases.specs.Text.{Text}
 use Rattle.phrases.specs.Reading.{Fault}
 use Rattle.idl_grammar.specs.Lexemes.{IsFormed}
-use Rattle.idl_parser.specs.Lexemes.{text_of}
+use Rattle.idl_tokens.specs.Lexemes.{text_of}
 use Rattle.acf_reader.specs.Answers.{IsAnswer, acf_answer}
 use Rattle.acf_reader.specs.Lexemes.{lexemes, lexeme_of}
 use Rattle.acf_reader.specs.Tree as tree

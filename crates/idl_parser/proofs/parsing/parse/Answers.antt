@@ -7,7 +7,7 @@ use Rattle.idl_grammar.specs.Grammar.{file}
 use Rattle.idl_grammar.specs.Lexemes.{lexemes, lexeme_of, IsFormed}
 use Rattle.idl_grammar.specs.Tree as tree
 use Rattle.idl_grammar.proofs.FileLaws.{file_answered, file_answered_alone}
-use Rattle.idl_parser.specs.Lexemes.{text_of}
+use Rattle.idl_tokens.specs.Lexemes.{text_of}
 use Rattle.idl_parser.proofs.Answered.{told_for}
 use Rattle.idl_grammar.proofs.RealTokens.{lexemes_real}
 use Rattle.idl_parser.proofs.parsing.parse.Goals as goal

@@ -1,6 +1,0 @@
-use Rattle.idl_grammar.specs.Limits.{names}
-use Rattle.idl_parser.proofs.parser.is_name_symbol.Goals as goal
-
-pub returns-else-inside : goal.returns-else-inside
-unfolding names
-returns-else-inside c = rw c.if-inside.false c.is_among-else-inside.ensures

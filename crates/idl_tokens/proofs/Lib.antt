@@ -1,0 +1,4 @@
+pub mod Basics
+pub mod Lists
+pub mod Tables
+mod Taken

@@ -1,0 +1,61 @@
+// Tokens as the grammar sees them.
+ghost use Rattle.std.specs.Prelude.{◌≡◌, ◌≤◌, length, map, IfOk};
+ghost use Rattle.idl_grammar.specs.Lexemes.{symbol_among, symbol_of as grammar_symbol, lexemes as grammar_lexemes, IsFormed};
+ghost use Rattle.idl_tokens.specs.Lexemes.{text_of, seen_entry};
+
+use crate::symbol;
+use crate::words::{Entry, MARKS, WORDS};
+use idl_lexer::{TokenKind, Tokens};
+use std::alloc::{AllocError, Global};
+
+/// A token: its symbol, the octet where it begins, and its octets.
+#[derive(Clone, Copy)]
+pub struct Lexeme<'a> {
+    pub symbol: u8,
+    pub at: u32,
+    pub octets: &'a [u8],
+}
+
+/// The symbol that is spelled so, or another where the table has none. Takes no memory.
+pub fn among(table: &[Entry], otherwise: u8, octets: &[u8]) -> u8
+    ensures { result ≡ symbol_among (map seen_entry table.now) otherwise octets.now }
+{
+    for entry in table {
+        if octets == entry.octets {
+            return entry.symbol;
+        }
+    }
+    otherwise
+}
+
+/// The symbol of a token.
+#[tactic(auto, unfolding(idl_grammar::specs::Lexemes::symbol_of, idl_grammar::specs::Lexemes::words))]
+fn symbol_of(kind: TokenKind, octets: &[u8]) -> u8
+    ensures { result ≡ grammar_symbol kind octets.now }
+{
+    match kind {
+        TokenKind::Word => among(&WORDS, symbol::NAME, octets),
+        TokenKind::Uuid => symbol::UUID_VALUE,
+        TokenKind::Number => symbol::NUMBER,
+        TokenKind::Char => symbol::CHARACTER,
+        TokenKind::Str => symbol::QUOTED,
+        TokenKind::Mark => among(&MARKS, symbol::UNKNOWN, octets),
+    }
+}
+
+/// The tokens of a text as the grammar sees them, in one pass. Their words are identifiers, and their UUIDs have their form.
+pub fn lexemes(alloc: Global, tokens: &Tokens) -> Result<Vec<Lexeme<'_>>, AllocError>
+    ensures formed { IfOk result (λ v. IsFormed (text_of v.items)) }
+    ensures text { IfOk result (λ v. text_of v.items ≡ grammar_lexemes tokens.now) }
+{
+    let mut list = Vec::with_capacity(alloc, tokens.count() as usize)?;
+    for token in 0..tokens.count() {
+        let octets = tokens.text(token);
+        list.push(Lexeme {
+            symbol: symbol_of(tokens.kind(token), octets),
+            at: tokens.at(token),
+            octets,
+        })?;
+    }
+    Ok(list)
+}
