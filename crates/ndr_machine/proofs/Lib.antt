@@ -1,0 +1,5 @@
+mod Values
+mod Agreements
+mod Texts
+mod Searches
+mod Pending

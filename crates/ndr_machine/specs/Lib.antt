@@ -1,0 +1,5 @@
+pub mod Small
+pub mod Seen
+pub mod Parts
+pub mod Notes
+pub mod Reaching

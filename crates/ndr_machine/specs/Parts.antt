@@ -1,0 +1,227 @@
+-- Parts of steps, as the code has functions for them.
+-- `s` is a state, `x` what is kept of a node, `n` an offset or a pointer's number, `c` a count.
+use Rattle.std.specs.Prelude.{◌≡◌, ◌≤◌, ◌<◌, ◌⊎◌, ℕ, ◌+◌, ◌-◌, ℤ, pos, Bool, true, false, eqb, ltb, if◌then◌else◌, List, [], ◌∷◌, ◌++◌, length, take, drop, slice_get, Option, Some, None, Result, Ok, Err, option_map}
+use Rattle.std.specs.Ordering.{int_eq}
+use Rattle.nd_base.specs.declared.octets.Order.{Order}
+use Rattle.nd_types.specs.declared.types.Attr.{Attr}
+use Rattle.nd_types.specs.declared.types.Class.{Class}
+use Rattle.nd_types.specs.declared.types.Class.TheVariants.{Full}
+use Rattle.nd_types.specs.declared.types.TypeId.{TypeId}
+use Rattle.nd_types.specs.declared.types.Primitive.{Primitive}
+use Rattle.nd_types.specs.Number.{unsigned}
+use Rattle.nd_types.specs.Table.{width}
+use Rattle.nd_value.specs.Agreement.{Agreement, agreement}
+use Rattle.nd_value.specs.Tree as tree
+use Rattle.nd_value.specs.Tree.{Flat}
+use Rattle.nd_flat.specs.FlatForm.{row_values, num_flats}
+use Rattle.nd_grammar.specs.declared.reason.Reason.{Reason}
+use Rattle.nd_grammar.specs.declared.reason.Reason.TheVariants as reason
+use Rattle.nd_grammar.specs.Reader.{identifier}
+use Rattle.ndr_code.specs.declared.instr.Instr.{Instr}
+use Rattle.ndr_code.specs.declared.instr.Instr.TheVariants as op
+use Rattle.ndr_refs.specs.Known.{known}
+use Rattle.ndr_steps.specs.declared.first.First.{First}
+use Rattle.ndr_steps.specs.declared.first.First.TheVariants as first
+use Rattle.ndr_machine.specs.declared.fault.DecodeFault.{DecodeFault}
+use Rattle.ndr_machine.specs.declared.fault.DecodeFault.TheVariants as fault
+use Rattle.ndr_steps.specs.declared.frame.Frame.{Frame}
+use Rattle.ndr_steps.specs.declared.frame.Frame.TheVariants as frame
+use Rattle.ndr_steps.specs.Steps.{State, Outcome, goes, refused, next, jumped, past, pushed, popped, with_node, with_frames, with_members, checked, first_number, first_found, place_of, place_in, done_after, elements, own_by, firsts_by, arm_taken, Want, no_octets, gap_of, item_of, owing, new_cell, full_by, Phase, begun, gap_read, offset_read, count_read}
+
+-- ## Octets and instructions
+
+-- the octets of a step
+abbrev pub HasWanted : Want → List ℕ → Type 0
+HasWanted no_octets os = os ≡ []
+HasWanted (gap_of n) os = length os ≡ n
+HasWanted (item_of n) os = length os ≡ n
+
+-- an instruction of a home's value
+abbrev pub IsInner : Instr → Type 0
+IsInner (op.Align n) = 0 < n
+IsInner (op.Direct to run) = ⊥
+IsInner (op.Given a f v star) = ⊥
+IsInner (op.Pipe run) = ⊥
+IsInner op.Defer = ⊥
+IsInner _ = Unit {0}
+
+-- ## Homes
+
+-- at the beginning of a home that was just opened, at this run
+abbrev pub started : ℕ → State → State
+started run s = record {
+  pc = run;
+  phase = begun;
+  at = s.at;
+  max = 0;
+  max_at = None;
+  tag = s.tag;
+  carrier = s.carrier;
+  top = frame.Home;
+  stack = [];
+  nodes = [];
+  own = None;
+  members = [];
+  firsts = [];
+  fresh = [];
+  cells = s.cells;
+  numbers = s.numbers;
+}
+
+-- ## Nodes
+
+-- what is kept of a node that was added
+abbrev pub kept : First → State → State
+kept x s = record {
+  pc = s.pc;
+  phase = s.phase;
+  at = s.at;
+  max = s.max;
+  max_at = s.max_at;
+  tag = s.tag;
+  carrier = s.carrier;
+  top = s.top;
+  stack = s.stack;
+  nodes = s.nodes;
+  own = own_by s.top x s.own;
+  members = s.members;
+  firsts = firsts_by s.top x s.firsts;
+  fresh = s.fresh;
+  cells = s.cells;
+  numbers = s.numbers;
+}
+
+-- ## Structs and elements
+
+abbrev pub record_begun : ℕ → State → State
+record_begun n s = next (pushed (frame.Record 0 (length s.members)) (with_node (tree.Rec, n) None s))
+
+abbrev pub record_closed : ℕ → State → State
+record_closed first s = next (popped (with_members (take first s.members) (take first s.firsts) s))
+
+abbrev pub member_called : ℕ → ℕ → State → State
+member_called first run s =
+    jumped run (with_frames (frame.Record (s.pc + 1) first) s.stack (with_members (s.members ++ record { node = length s.nodes; pending = length s.fresh } ∷ []) s.firsts s))
+
+abbrev pub elements_frame : ℕ → ℕ → ℕ → Frame
+elements_frame left run back = frame.Elements left run back
+
+abbrev pub actual_read : ℕ → ℕ → ℕ → ℕ → State → Outcome
+actual_read o c limit run s =
+    if ltb limit (o + c) then refused s.at reason.PastBound else goes (elements c run (with_node (tree.Arr limit o, c) (Some s.at) (past 4 begun s)))
+
+-- a maximum count is four octets, after its gap
+abbrev pub IsHoisted : Phase → List ℕ → Type 0
+IsHoisted gap_read os = length os ≡ 4
+IsHoisted _ os = Unit {0}
+
+-- ## Strings
+
+abbrev pub text_offset_read : ℕ → State → Outcome
+text_offset_read n s = if eqb n 0 then goes (past 4 (offset_read 0) s) else refused s.at reason.TextOffset
+
+abbrev pub text_count_read : ℕ → ℕ → State → Outcome
+text_count_read c limit s =
+    if eqb c 0 then refused s.at reason.TextEmpty else if ltb limit c then refused s.at reason.PastBound else goes (past 4 (count_read (c - 1)) s)
+
+-- so many octets are those that a string wants next: its offset and its actual count have four
+abbrev pub TextWanted : Phase → ℕ → Type 0
+TextWanted (count_read c) n = n ≡ c + 1
+TextWanted _ n = n ≡ 4
+
+-- the first zero among octets is at this place; their number where none is
+abbrev pub first_zero : List ℕ → ℕ
+first_zero [] = 0
+first_zero (b ∷ bs) = if eqb b 0 then 0 else first_zero bs + 1
+
+-- ## Agreements
+
+-- the place of an actual count, and of a tag
+abbrev pub count_place : First → Option ℕ
+count_place (first.Counted max offset actual place) = place
+count_place _ = None
+
+abbrev pub tag_place : First → Option ℕ
+tag_place (first.Tag tag place) = place
+tag_place _ = None
+
+-- why an agreement does not hold in a node: nothing, where it does, or where the node has no such count or tag
+abbrev pub disagreement : Agreement → First → Option ℕ → Option (ℕ × Reason)
+disagreement w x max_at =
+    if int_eq w.wanted (first_found w.attr x) then None
+    else option_map (λ place. (place, reason.Disagrees w.wanted (first_found w.attr x))) (place_of w.attr max_at (place_in x))
+
+abbrev pub IsTried : Option (ℕ × Reason) → Result (Unit {0}) DecodeFault → Type 0
+IsTried why (Ok u) = why ≡ None
+IsTried why (Err (fault.Bad place reason)) = why ≡ Some (place, reason)
+IsTried why (Err _) = ⊥
+
+-- the agreement of a member of the struct whose members begin at `first`
+abbrev pub member_checked : ℕ → Attr → ℕ → ℕ → State → Outcome
+member_checked first a f v s =
+    checked (agreement a (first_number (slice_get s.firsts (first + v)))) (slice_get s.members (first + f)) (slice_get s.firsts (first + f)) s
+
+-- ## Arms, pointers and context handles
+
+abbrev pub arm_entered : ℕ → State → State
+arm_entered run s = if eqb run 0 then jumped 0 s else jumped run (pushed (frame.Elements 0 run 1) s)
+
+abbrev pub arm_tried : ℤ → ℕ → State → Outcome
+arm_tried label run s = goes (if int_eq label s.tag then arm_taken (eqb run 0) run s else next s)
+
+abbrev pub unique_read : Class → TypeId → ℕ → ℕ → State → Outcome
+unique_read class to run n s = goes (done_after 4 (if eqb n 0 then owing class to run None s else new_cell class to run s))
+
+abbrev pub full_read : TypeId → ℕ → ℕ → State → Outcome
+full_read to run n s = if eqb n 0 then goes (done_after 4 (owing Full to run None s)) else full_by (known n s.numbers) n to run s
+
+abbrev pub context_read : Order → List ℕ → State → Outcome
+context_read order os s =
+    goes (done_after 20 (with_node (tree.Context (unsigned order (take 4 os)) (identifier order os (drop 4 os)), 0) None s))
+
+-- ## Rows of numbers
+
+-- so many elements fewer are left
+abbrev pub with_fewer : ℕ → Frame → Frame
+with_fewer n (frame.Elements left run back) = frame.Elements (left - n) run back
+with_fewer n f = f
+
+-- so many elements are left after the one that is being read
+abbrev pub HasLeft : ℕ → Frame → Type 0
+HasLeft n (frame.Elements left run back) = n ≤ left
+HasLeft n f = ⊥
+
+-- nodes more, of elements of which so many fewer are left
+abbrev pub with_row : List Flat → Frame → State → State
+with_row xs top s = record {
+  pc = s.pc;
+  phase = s.phase;
+  at = s.at;
+  max = s.max;
+  max_at = s.max_at;
+  tag = s.tag;
+  carrier = s.carrier;
+  top = top;
+  stack = s.stack;
+  nodes = s.nodes ++ xs;
+  own = s.own;
+  members = s.members;
+  firsts = s.firsts;
+  fresh = s.fresh;
+  cells = s.cells;
+  numbers = s.numbers;
+}
+
+-- a row of so many numbers, of which the last is at its `ret`
+abbrev pub row_read : Order → Primitive → ℕ → List ℕ → State → State
+row_read order p n os s = done_after (length os) (with_row (num_flats (row_values order p n os)) (with_fewer (n - 1) s.top) s)
+
+-- the elements of an array are numbers of this primitive, of which none but the first has a gap: `pc` is the address of their `num`
+abbrev pub IsNumberRun : List Instr → ℕ → ℕ → Primitive → Type 0
+IsNumberRun code run pc p =
+    (slice_get code (pc + 1) ≡ Some op.Ret)
+    × (((run ≡ pc) × (width p ≡ 1)) ⊎ ((run + 1 ≡ pc) × (slice_get code run ≡ Some (op.Align (width p)))))
+
+abbrev pub IsInRow : List Instr → ℕ → ℕ → Primitive → Frame → Type 0
+IsInRow code n pc p (frame.Elements left run back) = (n ≤ left) × IsNumberRun code run pc p
+IsInRow code n pc p f = ⊥

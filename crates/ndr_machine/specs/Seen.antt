@@ -1,0 +1,111 @@
+-- What contracts see of a machine, and what a step comes to.
+-- `m` is a machine, `s` its state, `o` what a step comes to, `w` what octets it wants.
+use Rattle.std.specs.Prelude.{◌≡◌, ◌<◌, ℕ, ◌+◌, ◌*◌, ◌-◌, ◌^◌, min, ℤ, pos, Bool, if◌then◌else◌, ◌==◌, List, ◌++◌, length, take, drop, map, reverse, Option, Some, None, Result, Ok, Err, option_map}
+use Rattle.nd_grammar.specs.declared.reason.Reason.{Reason}
+use Rattle.nd_value.specs.Agreement.{Agreement}
+use Rattle.nd_value.specs.Logged.{Logged, noted}
+use Rattle.nd_value.specs.Seen.{cell_number}
+use Rattle.nd_value.specs.declared.item.Item.{Item}
+use Rattle.nd_value.specs.declared.item.ItemKind.{ItemKind}
+use Rattle.nd_value.specs.declared.item.ItemKind.TheVariants as item
+use Rattle.ndr_steps.specs.Steps as steps
+use Rattle.ndr_steps.specs.Steps.{State, Outcome, goes, refused, whole, Want, no_octets, gap_of, item_of}
+use Rattle.ndr_machine.specs.declared.fault.DecodeFault.{DecodeFault}
+use Rattle.ndr_machine.specs.declared.fault.DecodeFault.TheVariants as fault
+use Rattle.ndr_machine.specs.declared.fault.Turn.{Turn}
+use Rattle.ndr_machine.specs.declared.fault.Turn.TheVariants as turn
+use Rattle.ndr_machine.specs.declared.machine.Machine.{Machine}
+use Rattle.ndr_machine.specs.declared.machine.Owed.{Owed}
+use Rattle.ndr_machine.specs.declared.machine.Wanted.{Wanted}
+use Rattle.ndr_machine.specs.declared.machine.Phase.{Phase}
+use Rattle.ndr_machine.specs.declared.machine.Phase.TheVariants as at
+use Rattle.ndr_machine.specs.declared.steps.Want as code
+use Rattle.ndr_machine.specs.declared.steps.Want.TheVariants as want
+
+-- ## The state
+
+abbrev pub phase_of : Phase → steps.Phase
+phase_of at.Begun = steps.begun
+phase_of at.GapRead = steps.gap_read
+phase_of (at.OffsetRead o) = steps.offset_read o
+phase_of (at.CountRead c) = steps.count_read c
+
+-- a pending referent, whose agreements are some of those that are kept
+abbrev pub agreement_of : Wanted → Agreement
+agreement_of w = record { attr = w.attr; wanted = w.wanted }
+
+abbrev pub owed_of : List Wanted → Owed → steps.Owed
+owed_of ws o = record {
+  class = o.class;
+  to = o.to.0;
+  run = o.run;
+  cell = cell_number o.cell;
+  agreements = map agreement_of (take o.len (drop o.from ws));
+}
+
+-- agreements are kept after those that were
+abbrev pub HasGrown : List Wanted → List Wanted → Type 0
+HasGrown old new = (more : List Wanted) × (new ≡ old ++ more)
+
+abbrev pub state_of : Machine → State
+state_of m = record {
+  pc = m.pc;
+  phase = phase_of m.phase;
+  at = m.at;
+  max = m.max;
+  max_at = m.max_at;
+  tag = m.tag;
+  carrier = m.carrier;
+  top = m.top;
+  stack = reverse m.stack.items;
+  nodes = m.builder.nodes;
+  own = m.own;
+  members = m.members.items;
+  firsts = m.firsts.items;
+  fresh = map (owed_of m.wanted.items) m.fresh.items;
+  cells = map (λ c. c.of) m.builder.graph.cells;
+  numbers = m.referents;
+}
+
+-- ## Outcomes
+
+-- the machine did what this outcome says; out of memory says nothing
+abbrev pub Comes : Outcome → Result Turn DecodeFault → State → Type 0
+Comes o (Ok turn.Goes) s = o ≡ goes s
+Comes o (Ok turn.Whole) s = o ≡ whole s
+Comes o (Err (fault.Bad place why)) s = o ≡ refused place why
+Comes o (Err fault.ReadFault) s = ⊥
+Comes o (Err fault.Memory) s = Unit {0}
+
+-- the same of an instruction after which there is more
+abbrev pub Does : Outcome → Result (Unit {0}) DecodeFault → State → Type 0
+Does o (Ok u) s = o ≡ goes s
+Does o (Err (fault.Bad place why)) s = o ≡ refused place why
+Does o (Err fault.ReadFault) s = ⊥
+Does o (Err fault.Memory) s = Unit {0}
+
+-- The octets that a step wants: none are an empty gap. More than a number of 32 bits can say are too many for a stream.
+abbrev pub Wants : Want → code.Want → Type 0
+Wants no_octets w = w ≡ want.Gap 0
+Wants (gap_of n) w = w ≡ want.Gap n
+Wants (item_of n) w = w ≡ want.Item (min n (2 ^ 32 - 1))
+
+-- ## Items
+
+-- a gap belongs to the home as a whole
+abbrev pub item_node : ItemKind → ℕ → ℕ
+item_node item.Gap next = 0
+item_node kind next = next
+
+-- the item at the place where the machine is, of the node that comes next
+abbrev pub next_item : Machine → ItemKind → ℕ → ℤ → Item
+next_item m kind len value = record { at = m.at; len = len; kind = kind; home = m.home; node = item_node kind m.count; value = value }
+
+-- an empty gap is no item
+abbrev pub gap_noted : Machine → ℕ → Logged → Logged
+gap_noted m len g = if len == 0 then g else noted (next_item m item.Gap len (pos 0)) g
+
+-- the number that comes so many numbers after the next one
+abbrev pub number_ahead : Machine → ℕ → ℕ → ℤ → Item
+number_ahead m ahead wide value =
+    record { at = m.at + ahead * wide; len = wide; kind = item.Num; home = m.home; node = m.count + ahead; value = value }

@@ -1,0 +1,204 @@
+// Runs, frames and structs.
+ghost use Rattle.std.specs.Prelude.{◌≡◌, ◌<◌, ◌+◌, ◌^◌, OnOk, IfErr, Ok};
+ghost use Rattle.ndr_steps.specs.Steps.{goes, done_after, next, pushed, popped, call_from, back_to, close_of};
+ghost use Rattle.ndr_machine.specs.Seen.{state_of, Does, Comes};
+ghost use Rattle.ndr_machine.specs.declared.fault.DecodeFault.TheVariants as fault;
+
+use crate::{DecodeFault, Machine, Phase, Turn};
+use nd_flat::Seen;
+use ndr_steps::{Frame, Member};
+
+impl Machine {
+    // Goes past octets to the next instruction.
+    pub(crate) fn pass(&mut self, len: u32)
+        requires code { self.old.pc < 2 ^ 32 }
+        requires few { self.old.at + len < 2 ^ 32 }
+        ensures is { state_of self.new ≡ done_after len (state_of self.old) }
+        ensures count { self.new.count ≡ self.old.count }
+        ensures home { self.new.home ≡ self.old.home }
+    {
+        self.at += len;
+        self.phase = Phase::Begun;
+        self.pc += 1;
+    }
+
+    // Goes to an instruction.
+    pub(crate) fn jump(&mut self, to: usize)
+        ensures is { state_of self.new ≡ jumped to (state_of self.old) }
+        ensures count { self.new.count ≡ self.old.count }
+        ensures home { self.new.home ≡ self.old.home }
+    {
+        self.phase = Phase::Begun;
+        self.pc = to;
+    }
+
+    // Goes to the next instruction.
+    pub(crate) fn skip(&mut self)
+        requires code { self.old.pc < 2 ^ 32 }
+        ensures is { state_of self.new ≡ next (state_of self.old) }
+        ensures count { self.new.count ≡ self.old.count }
+        ensures home { self.new.home ≡ self.old.home }
+    {
+        self.jump(self.pc + 1);
+    }
+
+    // Opens a frame around the value that is read next.
+    pub(crate) fn push(&mut self, frame: Frame) -> Result<(), DecodeFault>
+        ensures ok { OnOk result (state_of self.new ≡ pushed frame (state_of self.old)) }
+        ensures count { self.new.count ≡ self.old.count }
+        ensures home { self.new.home ≡ self.old.home }
+        ensures memory { IfErr result (λ e. e ≡ fault.Memory) }
+    {
+        let top = self.top;
+        let Ok(()) = self.stack.push(top) else {
+            return Err(DecodeFault::Memory);
+        };
+        self.top = frame;
+        Ok(())
+    }
+
+    // Closes a frame.
+    pub(crate) fn pop(&mut self)
+        ensures is { state_of self.new ≡ popped (state_of self.old) }
+        ensures count { self.new.count ≡ self.old.count }
+        ensures home { self.new.home ≡ self.old.home }
+    {
+        self.top = match self.stack.pop() {
+            Some(frame) => frame,
+            None => Frame::Home,
+        };
+    }
+
+    // `record`
+    pub(crate) fn record(&mut self, members: u32) -> Result<(), DecodeFault>
+        requires code { self.old.pc < 2 ^ 32 }
+        requires few { self.old.count + 1 < 2 ^ 32 }
+        ensures does { Does (goes (record_begun members (state_of self.old))) result (state_of self.new) }
+        ensures home { self.new.home ≡ self.old.home }
+    {
+        self.add(&Seen::Rec(members), None)?;
+        let first = self.members.len();
+        self.push(Frame::Record { back: 0, first })?;
+        self.skip();
+        Ok(())
+    }
+
+    // `call`
+    pub(crate) fn call(&mut self, run: u32) -> Result<(), DecodeFault>
+        requires code { self.old.pc < 2 ^ 32 }
+        ensures does { Does (goes (call_from self.old.top run (state_of self.old))) result (state_of self.new) }
+        ensures home { self.new.home ≡ self.old.home }
+    {
+        match self.top {
+            Frame::Record { back: _, first } => self.call_member(first, run),
+            Frame::Home
+            | Frame::Elements {
+                left: _,
+                run: _,
+                back: _,
+            } => {
+                self.jump(run as usize);
+                Ok(())
+            }
+        }
+    }
+
+    // A call of the next member of the struct whose members begin at `first`.
+    fn call_member(&mut self, first: usize, run: u32) -> Result<(), DecodeFault>
+        requires code { self.old.pc < 2 ^ 32 }
+        ensures does { Does (goes (member_called first run (state_of self.old))) result (state_of self.new) }
+        ensures home { self.new.home ≡ self.old.home }
+    {
+        let member = Member {
+            node: self.count,
+            pending: self.fresh.len(),
+        };
+        let Ok(()) = self.members.push(member) else {
+            return Err(DecodeFault::Memory);
+        };
+        self.top = Frame::Record {
+            back: self.pc + 1,
+            first,
+        };
+        self.jump(run as usize);
+        Ok(())
+    }
+
+    // `close`
+    pub(crate) fn close(&mut self)
+        requires code { self.old.pc < 2 ^ 32 }
+        ensures is { state_of self.new ≡ close_of self.old.top (state_of self.old) }
+        ensures home { self.new.home ≡ self.old.home }
+    {
+        match self.top {
+            Frame::Record { back: _, first } => self.close_record(first),
+            Frame::Home
+            | Frame::Elements {
+                left: _,
+                run: _,
+                back: _,
+            } => self.close_other(),
+        }
+    }
+
+    // The end of the struct whose members begin at `first`.
+    fn close_record(&mut self, first: usize)
+        requires code { self.old.pc < 2 ^ 32 }
+        ensures is { state_of self.new ≡ record_closed first (state_of self.old) }
+        ensures home { self.new.home ≡ self.old.home }
+    {
+        self.members.truncate(first);
+        self.firsts.truncate(first);
+        self.pop();
+        self.skip();
+    }
+
+    // The end of what is no struct.
+    fn close_other(&mut self)
+        requires code { self.old.pc < 2 ^ 32 }
+        ensures is { state_of self.new ≡ next (popped (state_of self.old)) }
+        ensures home { self.new.home ≡ self.old.home }
+    {
+        self.pop();
+        self.skip();
+    }
+
+    // `ret`
+    pub(crate) fn ret(&mut self) -> Turn
+        ensures does { Comes (back_to self.old.top (state_of self.old)) (Ok result) (state_of self.new) }
+        ensures home { self.new.home ≡ self.old.home }
+    {
+        match self.top {
+            Frame::Home => Turn::Whole,
+            Frame::Record { back, first: _ } => {
+                self.jump(back);
+                Turn::Goes
+            }
+            Frame::Elements { left, run, back } => {
+                self.next_element(left, run, back);
+                Turn::Goes
+            }
+        }
+    }
+
+    // The next of the elements of which so many are left, or what comes after them.
+    fn next_element(&mut self, left: u32, run: u32, back: usize)
+        ensures is { goes (state_of self.new) ≡ back_to (elements_frame left run back) (state_of self.old) }
+        ensures home { self.new.home ≡ self.old.home }
+    {
+        if left == 0 {
+            self.pop();
+            self.jump(back);
+        } else {
+            self.top = Frame::Elements {
+                left: left - 1,
+                run,
+                back,
+            };
+            self.jump(run as usize);
+        }
+    }
+}
+
+ghost use Rattle.ndr_steps.specs.Steps.{jumped};
+ghost use Rattle.ndr_machine.specs.Parts.{record_begun, record_closed, member_called, elements_frame};

@@ -1,0 +1,78 @@
+// Counts and identifiers in octets.
+ghost use Rattle.std.specs.Prelude.{◌≡◌, ◌<◌, ◌%◌, length};
+ghost use Rattle.nd_types.specs.Number.{unsigned, value_of_octets};
+ghost use Rattle.nd_types.specs.Table.{width};
+ghost use Rattle.nd_flat.specs.FlatForm.{IsKeepableNumber};
+ghost use Rattle.nd_grammar.specs.Entry.{gap};
+ghost use Rattle.nd_grammar.specs.Reader.{identifier};
+ghost use Rattle.ndr_steps.specs.Steps.{prim_of};
+
+use nd_base::Order;
+use nd_types::Prim;
+use ndr_prim::read_num;
+use uuid::Uuid;
+
+// The value that the octets of a primitive hold: a node can keep it.
+pub(crate) fn read_value(order: Order, prim: Prim, octets: &[u8]) -> i128
+    requires wide { length octets.now ≡ width prim }
+    ensures value { result ≡ value_of_octets order prim octets.now }
+    ensures keepable { IsKeepableNumber result }
+{
+    read_num(order, prim, octets)
+}
+
+/// The unsigned number in four octets. Takes no memory.
+pub fn read_count(order: Order, from: &[u8]) -> u32
+    requires { length from.now ≡ 4 }
+    ensures { result ≡ unsigned order from.now }
+{
+    let octets = [from[0], from[1], from[2], from[3]];
+    match order {
+        Order::Big => u32::from_be_bytes(octets),
+        Order::Little => u32::from_le_bytes(octets),
+    }
+}
+
+// The identifier of a context handle in 16 octets.
+pub(crate) fn identifier(order: Order, from: &[u8]) -> Uuid
+    requires { length from.now ≡ 16 }
+    ensures { result ≡ identifier order from.now from.now }
+{
+    let octets = [
+        from[0], from[1], from[2], from[3], from[4], from[5], from[6], from[7], from[8], from[9],
+        from[10], from[11], from[12], from[13], from[14], from[15],
+    ];
+    match order {
+        Order::Big => Uuid::from_bytes(octets),
+        Order::Little => Uuid::from_bytes_le(octets),
+    }
+}
+
+/// The octets of a gap to a multiple of so many octets. Takes no memory.
+pub fn gap_before(at: u32, to: u8) -> u32
+    requires some { 0 < to }
+    ensures is { result ≡ gap at to }
+    ensures few { result < to }
+{
+    let to = to as u32;
+    (to - at % to) % to
+}
+
+// The primitive of a type's number.
+pub(crate) fn prim_of(of: u32) -> Prim
+    ensures { result ≡ prim_of of }
+{
+    match of {
+        0 => Prim::Boolean,
+        1 => Prim::Char,
+        2 => Prim::Byte,
+        3 => Prim::Small,
+        4 => Prim::UnsignedSmall,
+        5 => Prim::Short,
+        6 => Prim::UnsignedShort,
+        7 => Prim::Long,
+        8 => Prim::UnsignedLong,
+        9 => Prim::Hyper,
+        _ => Prim::UnsignedHyper,
+    }
+}
