@@ -2,8 +2,8 @@
 use Rattle.nd_base.specs.declared.octets.Order.{Order}
 use Rattle.nd_base.specs.Over.{SourceSeen}
 use Rattle.nd_value.specs.Setting.{Setting}
-use Rattle.ndr_machine.specs.declared.fault.DecodeFault.{DecodeFault}
-use Rattle.ndr_machine.specs.declared.fault.DecodeFault.TheVariants as fault
+use Rattle.ndr_state.specs.declared.fault.DecodeFault.{DecodeFault}
+use Rattle.ndr_state.specs.declared.fault.DecodeFault.TheVariants as fault
 use Rattle.ndr_verdict.specs.Verdict.{DecodingSeen, IsRefused, IsCutOff}
 
 abbrev pub IsFault : Setting → Order → SourceSeen → DecodeFault → DecodingSeen → Type 0

@@ -21,9 +21,9 @@ use Rattle.nd_grammar.specs.Items.{items}
 use Rattle.nd_grammar.specs.StreamReader.{Reading, graph_of, read_stream}
 use Rattle.ndr_reading.specs.Around.{going, stopped}
 use Rattle.ndr_steps.specs.Good.{Kept as IsKept, Told, owed}
-use Rattle.ndr_machine.specs.Seen.{owed_of}
-use Rattle.ndr_machine.specs.declared.fault.DecodeFault.{DecodeFault}
-use Rattle.ndr_machine.specs.declared.fault.DecodeFault.TheVariants as fault
+use Rattle.ndr_state.specs.Seen.{owed_of}
+use Rattle.ndr_state.specs.declared.fault.DecodeFault.{DecodeFault}
+use Rattle.ndr_state.specs.declared.fault.DecodeFault.TheVariants as fault
 use Rattle.ndr_verdict.specs.Needed.{IsNeeded}
 use Rattle.ndr_verdict.specs.Verdict.{DecodingSeen, HasNoted}
 use Rattle.ndr_verdict.proofs.CellsSeen.{CellsSeen}

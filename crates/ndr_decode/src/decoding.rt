@@ -5,7 +5,7 @@ ghost use Rattle.nd_base.specs.Over.{source_seen, HasRisen, count};
 ghost use Rattle.nd_types.specs.declared.types.Operation.{Operation};
 ghost use Rattle.nd_value.specs.Fitting.{setting_beside};
 ghost use Rattle.nd_value.specs.Request.{IsRequestOf};
-ghost use Rattle.ndr_machine.specs.declared.fault.DecodeFault.TheVariants.{ReadFault};
+ghost use Rattle.ndr_state.specs.declared.fault.DecodeFault.TheVariants.{ReadFault};
 ghost use Rattle.ndr_verdict.specs.Verdict.{IsDecoded, decoding_seen};
 ghost use Rattle.ndr_decode.specs.Decoding.{IsFault};
 

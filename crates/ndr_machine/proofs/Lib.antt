@@ -1,5 +1,4 @@
-mod Values
 mod Agreements
-mod Texts
+mod Zeros
 mod Searches
 mod Pending

@@ -6,9 +6,9 @@ use Rattle.std.proofs.lemmas.List.{take-append-le, drop-append-le, map-append}
 use Rattle.nd_value.specs.Agreement.{Agreement}
 use Rattle.ndr_steps.specs.Steps as steps
 use Rattle.ndr_steps.specs.Steps.{joined_by}
-use Rattle.ndr_machine.specs.declared.machine.Owed.{Owed}
-use Rattle.ndr_machine.specs.declared.machine.Wanted.{Wanted}
-use Rattle.ndr_machine.specs.Seen.{owed_of, agreement_of}
+use Rattle.ndr_state.specs.declared.machine.Owed.{Owed}
+use Rattle.ndr_state.specs.declared.machine.Wanted.{Wanted}
+use Rattle.ndr_state.specs.Seen.{owed_of, agreement_of}
 
 -- the agreements of a referent are within these
 abbrev pub IsWithin : List Wanted → Owed → Type 0

@@ -1,5 +1,4 @@
-pub mod Small
-pub mod Seen
 pub mod Parts
+pub mod Wanting
 pub mod Notes
 pub mod Reaching

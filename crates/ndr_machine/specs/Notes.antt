@@ -13,12 +13,12 @@ use Rattle.nd_value.specs.declared.item.ItemKind.TheVariants as item
 use Rattle.ndr_code.specs.declared.instr.Instr.{Instr}
 use Rattle.ndr_code.specs.declared.instr.Instr.TheVariants as op
 use Rattle.ndr_steps.specs.Steps.{prim_of}
-use Rattle.ndr_machine.specs.declared.fault.DecodeFault.{DecodeFault}
-use Rattle.ndr_machine.specs.declared.fault.DecodeFault.TheVariants as fault
-use Rattle.ndr_machine.specs.declared.machine.Machine.{Machine}
-use Rattle.ndr_machine.specs.declared.machine.Phase.{Phase}
-use Rattle.ndr_machine.specs.declared.machine.Phase.TheVariants as at
-use Rattle.ndr_machine.specs.Seen.{next_item, number_ahead}
+use Rattle.ndr_state.specs.declared.fault.DecodeFault.{DecodeFault}
+use Rattle.ndr_state.specs.declared.fault.DecodeFault.TheVariants as fault
+use Rattle.ndr_state.specs.declared.machine.Machine.{Machine}
+use Rattle.ndr_state.specs.declared.machine.Phase.{Phase}
+use Rattle.ndr_state.specs.declared.machine.Phase.TheVariants as at
+use Rattle.ndr_state.specs.Seen.{next_item, number_ahead}
 
 -- ## Over a call
 

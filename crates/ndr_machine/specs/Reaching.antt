@@ -1,32 +1,37 @@
 -- What a run of the code over octets comes to, from a state on, by its steps.
--- `s0` is the state at the beginning, `s` one that was reached, `fetched` are the octets of the steps so far, `os` those of one step, `i` is an instruction.
+-- `s0` is the state at the beginning, `s` one that was reached, `fetched` are the octets of the steps so far and `noted` their items, `os` the octets of
+-- one step, `i` is an instruction.
 use Rattle.std.specs.Prelude.{◌≡◌, ◌≤◌, ◌<◌, ℕ, ◌+◌, ◌^◌, true, List, [], ◌++◌, length, slice_get, Option, Some, Result, Ok, Err}
 use Rattle.std.specs.Io.KnownBytes.{Consumes, IsAtEnd}
 use Rattle.nd_base.specs.declared.octets.Order.{Order}
 use Rattle.nd_base.specs.declared.TheConstants.{STREAM_LIMIT}
 use Rattle.nd_base.specs.Over.{SourceSeen, HasRisen}
+use Rattle.nd_value.specs.declared.item.Home.{Home}
+use Rattle.nd_value.specs.declared.item.Item.{Item}
 use Rattle.nd_grammar.specs.declared.reason.Reason.{Reason}
 use Rattle.nd_grammar.specs.declared.reason.Reason.TheVariants as reason
 use Rattle.ndr_code.specs.declared.instr.Instr.{Instr}
 use Rattle.ndr_code.specs.declared.lists.EnumList.{EnumList}
-use Rattle.ndr_steps.specs.Steps.{State, Want, no_octets, gap_of, item_of, goes, refused, whole, wants, step}
-use Rattle.ndr_machine.specs.declared.fault.DecodeFault.{DecodeFault}
-use Rattle.ndr_machine.specs.declared.fault.DecodeFault.TheVariants as fault
-use Rattle.ndr_machine.specs.Parts.{HasWanted, IsInner}
+use Rattle.ndr_intake.specs.declared.intake.IntakeFault.{IntakeFault}
+use Rattle.ndr_intake.specs.declared.intake.IntakeFault.TheVariants as intake
+use Rattle.ndr_steps.specs.Steps.{State, goes, refused, whole, wants, step}
+use Rattle.ndr_steps.specs.StepItems.{step_items}
+use Rattle.ndr_steps.specs.Good.{HasOctets, IsCut, IsTooLong}
+use Rattle.ndr_state.specs.declared.fault.DecodeFault.{DecodeFault}
+use Rattle.ndr_state.specs.declared.fault.DecodeFault.TheVariants as fault
+use Rattle.ndr_state.specs.declared.fault.Progress.{Progress}
+use Rattle.ndr_state.specs.declared.fault.Progress.TheVariants as progress
+use Rattle.ndr_machine.specs.Parts.{IsInner}
+use Rattle.ndr_machine.specs.Notes.{NotesSeen, all_noted, ticks}
 
 -- ## States that are reached
 
--- a primitive ends within the limit of a stream
-abbrev pub IsInLimit : ℕ → Want → Type 0
-IsInLimit at (item_of n) = at + n ≤ STREAM_LIMIT
-IsInLimit at _ = Unit {0}
-
-module _ (values : List EnumList) (order : Order) (code : List Instr) (s0 : State) where
+module _ (values : List EnumList) (order : Order) (code : List Instr) (h : Home) (s0 : State) where
   -- each step gets the octets that it wants, and is not refused
-  pub data Reaches : List ℕ → State → Type 0 where
-    begins : Reaches [] s0
-    steps_to : (fetched os : List ℕ) (s next : State) (i : Instr) → Reaches fetched s → slice_get code s.pc ≡ Some i → IsInLimit s.at (wants values i s)
-        → HasWanted (wants values i s) os → step values order os i s ≡ goes next → Reaches (fetched ++ os) next
+  pub data Reaches : List ℕ → List Item → State → Type 0 where
+    begins : Reaches [] [] s0
+    steps_to : (fetched os : List ℕ) (noted : List Item) (s next : State) (i : Instr) → Reaches fetched noted s → slice_get code s.pc ≡ Some i
+        → HasOctets (wants values i s) os s.at → step values order os i s ≡ goes next → Reaches (fetched ++ os) (noted ++ step_items order h os i s) next
 
 -- A state at which the code can go on: it is at an instruction of a home's value, and its counts fit in 32 bits.
 pub record IsSafe (code : List Instr) (s : State) : Type 0 where
@@ -39,44 +44,75 @@ pub record IsSafe (code : List Instr) (s : State) : Type 0 where
 
 -- ## Ends
 
--- some of the octets that a step wants came, and not all
-abbrev pub IsPartOf : Want → List ℕ → Type 0
-IsPartOf no_octets os = ⊥
-IsPartOf (gap_of n) os = length os < n
-IsPartOf (item_of n) os = length os < n
+-- the items were logged; each of them but the gaps is counted, and each cell that got its number
+abbrev pub IsLogged : List Item → NotesSeen → Type 0
+IsLogged noted n = (n.log_now ≡ all_noted noted n.log) × (n.steps_now + n.cells ≡ n.steps + ticks noted + n.cells_now)
 
--- a primitive would end past the limit of a stream
-abbrev pub IsPast : ℕ → Want → Type 0
-IsPast at (item_of n) = STREAM_LIMIT < at + n
-IsPast at _ = ⊥
+-- the same where memory or the source failed: fewer may be counted
+abbrev pub IsLoggedPart : List Item → NotesSeen → Type 0
+IsLoggedPart noted n = (n.log_now ≡ all_noted noted n.log) × (n.steps_now + n.cells ≤ n.steps + ticks noted + n.cells_now)
 
--- where a run ends: after so many octets, at this state and this instruction
-pub record End (values : List EnumList) (order : Order) (code : List Instr) (s0 : State) (source : SourceSeen) : Type 0 where
+-- so many octets were taken from the source by steps, and their items were noted
+pub record Moves (values : List EnumList) (order : Order) (code : List Instr) (h : Home) (s0 : State) (source : SourceSeen) (notes : NotesSeen) (s1 : State) : Type 0 where
   pub fetched : List ℕ
+  pub noted : List Item
+  pub reached : Reaches values order code h s0 fetched noted s1
+  pub left : Consumes source.left source.left_now fetched
+  pub logged : IsLogged noted notes
+
+-- where a run ends: after so many octets, at this state and this instruction, of which some octets came
+pub record End (values : List EnumList) (order : Order) (code : List Instr) (h : Home) (s0 : State) (source : SourceSeen) : Type 0 where
+  pub fetched : List ℕ
+  pub noted : List Item
   pub os : List ℕ
   pub s : State
   pub i : Instr
-  pub reached : Reaches values order code s0 fetched s
+  pub reached : Reaches values order code h s0 fetched noted s
   pub there : slice_get code s.pc ≡ Some i
   pub left : Consumes source.left source.left_now (fetched ++ os)
 
-module _ (values : List EnumList) (order : Order) (code : List Instr) (s0 : State) (source : SourceSeen) (s1 : State) where
+module _ (values : List EnumList) (order : Order) (code : List Instr) (h : Home) (s0 : State) (source : SourceSeen) (notes : NotesSeen) (s1 : State) where
   -- the value is whole
   abbrev pub EndsWhole : Type 0
-  EndsWhole = (e : End values order code s0 source) × (HasWanted (wants values e.i e.s) e.os × (step values order e.os e.i e.s ≡ whole s1))
+  EndsWhole =
+      (e : End values order code h s0 source)
+      × (HasOctets (wants values e.i e.s) e.os e.s.at × ((step values order e.os e.i e.s ≡ whole s1) × IsLogged e.noted notes))
 
-  -- the octets are refused: the last step is, or there is no step for want of octets
+  -- the octets are refused: the last step is, or there is no step because its octets do not come, or would end past the limit of a stream
   abbrev pub EndsBad : ℕ → Reason → Type 0
-  EndsBad place reason.TooLong = (e : End values order code s0 source) × (IsPast e.s.at (wants values e.i e.s) × ((e.os ≡ []) × (place ≡ STREAM_LIMIT)))
+  EndsBad place reason.TooLong =
+      (e : End values order code h s0 source) × (IsTooLong (wants values e.i e.s) e.s.at × ((e.os ≡ []) × ((place ≡ STREAM_LIMIT) × IsLogged e.noted notes)))
   EndsBad place reason.Truncated =
-      (e : End values order code s0 source)
-      × (IsPartOf (wants values e.i e.s) e.os × ((place ≡ e.s.at + length e.os) × ((source.ended ≡ true) × IsAtEnd source.left_now)))
+      (e : End values order code h s0 source)
+      × (IsCut (wants values e.i e.s) e.os e.s.at × ((place ≡ e.s.at + length e.os) × ((source.ended ≡ true) × (IsAtEnd source.left_now × IsLogged e.noted notes))))
   EndsBad place why =
-      (e : End values order code s0 source) × (HasWanted (wants values e.i e.s) e.os × (step values order e.os e.i e.s ≡ refused place why))
+      (e : End values order code h s0 source)
+      × (HasOctets (wants values e.i e.s) e.os e.s.at × ((step values order e.os e.i e.s ≡ refused place why) × IsLogged e.noted notes))
 
-  -- what a run comes to: at a failure of the source or of memory it has come through some steps
+  -- at a failure of the source or of memory it has come through some steps
+  abbrev pub EndsCutOff : Type 0
+  EndsCutOff = (e : End values order code h s0 source) × IsLoggedPart e.noted notes
+
+  abbrev pub EndsFault : DecodeFault → Type 0
+  EndsFault (fault.Bad place why) = EndsBad place why
+  EndsFault fault.ReadFault = EndsCutOff × HasRisen source.faults
+  EndsFault fault.Memory = EndsCutOff
+
+  -- what one turn comes to, which is a step, or the steps of a row of numbers
+  abbrev pub Turns : Result Progress DecodeFault → Type 0
+  Turns (Ok progress.More) = Moves values order code h s0 source notes s1
+  Turns (Ok progress.Whole) = EndsWhole
+  Turns (Err e) = EndsFault e
+
+  -- what a run comes to
   abbrev pub Ends : Result (Unit {0}) DecodeFault → Type 0
   Ends (Ok u) = EndsWhole
-  Ends (Err (fault.Bad place why)) = EndsBad place why
-  Ends (Err fault.ReadFault) = End values order code s0 source × HasRisen source.faults
-  Ends (Err fault.Memory) = End values order code s0 source
+  Ends (Err e) = EndsFault e
+
+-- what a fault of the intake says of a stream
+abbrev pub stream_answer : Result (Unit {0}) IntakeFault → Result (Unit {0}) DecodeFault
+stream_answer (Ok u) = Ok u
+stream_answer (Err intake.Memory) = Err fault.Memory
+stream_answer (Err intake.ReadFault) = Err fault.ReadFault
+stream_answer (Err intake.TooLong) = Err (fault.Bad STREAM_LIMIT reason.TooLong)
+stream_answer (Err (intake.Truncated place)) = Err (fault.Bad place reason.Truncated)

@@ -4,9 +4,9 @@ ghost use Rattle.nd_types.specs.Number.{unsigned};
 ghost use Rattle.nd_value.specs.Tree as tree;
 ghost use Rattle.ndr_steps.specs.Steps.{goes, elements, with_node, past, vary_by, hoist_by, with_max, done_after};
 ghost use Rattle.ndr_steps.specs.Steps as phase;
-ghost use Rattle.ndr_machine.specs.Seen.{state_of, Does, phase_of};
+ghost use Rattle.ndr_state.specs.Seen.{state_of, Does, phase_of};
 ghost use Rattle.ndr_machine.specs.Notes.{Noted, gap_items, hoist_items, notes_seen, vary_items};
-ghost use Rattle.ndr_machine.specs.Seen.{next_item};
+ghost use Rattle.ndr_state.specs.Seen.{next_item};
 ghost use Rattle.nd_value.specs.declared.item.ItemKind.TheVariants as item;
 
 use crate::octets::read_count;
@@ -227,5 +227,5 @@ impl Machine {
 }
 
 ghost use Rattle.std.specs.Prelude.{IfErr};
-ghost use Rattle.ndr_machine.specs.declared.fault.DecodeFault.TheVariants as fault;
+ghost use Rattle.ndr_state.specs.declared.fault.DecodeFault.TheVariants as fault;
 ghost use Rattle.ndr_machine.specs.Parts.{actual_read, IsHoisted};

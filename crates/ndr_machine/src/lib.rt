@@ -23,7 +23,7 @@ mod texts;
 mod unions;
 
 pub use checks::{try_in, wanted_of};
-pub use fault::{DecodeFault, Turn};
+pub use fault::{DecodeFault, Progress};
 pub use machine::{Machine, Owed, Phase, Wanted};
 pub use octets::{gap_before, read_count};
 pub use running::{fetched, run};

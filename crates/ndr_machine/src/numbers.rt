@@ -4,9 +4,9 @@ ghost use Rattle.nd_types.specs.Table.{width};
 ghost use Rattle.nd_types.specs.declared.types.Primitive.TheVariants.{Short};
 ghost use Rattle.ndr_code.specs.Lines.{enumerators};
 ghost use Rattle.ndr_steps.specs.Steps.{number_step};
-ghost use Rattle.ndr_machine.specs.Seen.{state_of, Does};
+ghost use Rattle.ndr_state.specs.Seen.{state_of, Does};
 ghost use Rattle.ndr_machine.specs.Notes.{Noted, notes_seen, number_items};
-ghost use Rattle.ndr_machine.specs.Seen.{next_item};
+ghost use Rattle.ndr_state.specs.Seen.{next_item};
 ghost use Rattle.nd_value.specs.declared.item.ItemKind.TheVariants as item;
 
 use crate::enumerators::is_enumerator;

@@ -2,7 +2,7 @@
 ghost use Rattle.std.specs.Prelude.{◌≡◌, ◌<◌, ◌+◌, ◌^◌, length};
 ghost use Rattle.nd_types.specs.Number.{unsigned};
 ghost use Rattle.ndr_steps.specs.Steps.{pointer_step, owing};
-ghost use Rattle.ndr_machine.specs.Seen.{state_of, Does};
+ghost use Rattle.ndr_state.specs.Seen.{state_of, Does};
 ghost use Rattle.ndr_machine.specs.Notes.{Noted, notes_seen, pointer_items};
 
 use crate::octets::read_count;

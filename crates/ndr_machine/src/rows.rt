@@ -5,8 +5,8 @@ ghost use Rattle.nd_base.specs.declared.TheConstants.{STREAM_LIMIT};
 ghost use Rattle.ndr_intake.specs.declared.TheConstants.{PIECE};
 ghost use Rattle.ndr_code.specs.declared.instr.Instr.TheVariants as op;
 ghost use Rattle.ndr_steps.specs.Steps.{goes};
-ghost use Rattle.ndr_machine.specs.declared.fault.DecodeFault.TheVariants as fault;
-ghost use Rattle.ndr_machine.specs.Seen.{state_of, Does};
+ghost use Rattle.ndr_state.specs.declared.fault.DecodeFault.TheVariants as fault;
+ghost use Rattle.ndr_state.specs.Seen.{state_of, Does};
 ghost use Rattle.ndr_machine.specs.Parts.{row_read, HasLeft, with_fewer, IsNumberRun, IsInRow};
 ghost use Rattle.ndr_machine.specs.Notes.{Noted, notes_seen, row_items};
 

@@ -1,16 +1,23 @@
 // The value of a home, from its first octet to its last.
-ghost use Rattle.std.specs.Prelude.{◌≡◌, ◌≤◌, ℕ, List};
+ghost use Rattle.std.specs.Prelude.{◌≡◌, ◌<◌, ◌≤◌, ◌^◌, ◌%◌, ◌*◌, ◌+◌, ◌-◌, ℕ, List, Some, length, slice_get};
 ghost use Rattle.nd_base.specs.Over.{source_seen};
-ghost use Rattle.ndr_steps.specs.Steps.{State};
-ghost use Rattle.ndr_machine.specs.Seen.{state_of};
-ghost use Rattle.ndr_machine.specs.Reaching.{Reaches, IsSafe, Ends};
+ghost use Rattle.nd_base.specs.declared.TheConstants.{STREAM_LIMIT};
+ghost use Rattle.nd_types.specs.Table.{width};
+ghost use Rattle.nd_value.specs.declared.item.Item.{Item};
+ghost use Rattle.ndr_intake.specs.declared.TheConstants.{PIECE};
+ghost use Rattle.ndr_code.specs.declared.instr.Instr.TheVariants as op;
+ghost use Rattle.ndr_steps.specs.Steps.{State, prim_of};
+ghost use Rattle.ndr_state.specs.Seen.{state_of};
+ghost use Rattle.ndr_machine.specs.Parts.{IsInRow};
+ghost use Rattle.ndr_machine.specs.Notes.{notes_seen};
+ghost use Rattle.ndr_machine.specs.Reaching.{Reaches, IsSafe, Ends, Turns, stream_answer};
 
 use crate::octets::prim_of;
 use crate::steps::Want;
-use crate::{DecodeFault, Machine, Turn};
+use crate::{DecodeFault, Machine, Progress};
 use nd_base::{Ledger, Order, STREAM_LIMIT, Source, Steps};
 use nd_grammar::Reason;
-use nd_types::Prim;
+use nd_types::TypeId;
 use nd_value::ItemLog;
 use ndr_code::{EnumLists, Instr};
 use ndr_intake::{Intake, IntakeFault};
@@ -32,16 +39,17 @@ pub fn run<S: Source, L: Ledger>(
     items: &mut ItemLog,
     steps: &mut Steps<L>,
 ) -> Result<(), DecodeFault>
-    requires safe { (fetched : List ℕ) (s : State) → Reaches values.now order code.now (state_of machine.old) fetched s → IsSafe code.now s }
-    ensures ends { Ends values.now order code.now (state_of machine.old) (source_seen S.Source.left S.Source.ended S.Source.faults source.old source.new) (state_of machine.new) result }
+    requires short { length code.now < 2 ^ 32 }
+    requires safe { (fetched : List ℕ) (noted : List Item) (s : State) → Reaches values.now order code.now machine.old.home (state_of machine.old) fetched noted s → IsSafe code.now s }
+    ensures ends { Ends values.now order code.now machine.old.home (state_of machine.old) (source_seen S.Source.left S.Source.ended S.Source.faults source.old source.new) (notes_seen items.old items.new (L.number steps.old) (L.number steps.new) machine.old.cells machine.new.cells) (state_of machine.new) result }
     ensures home { machine.new.home ≡ machine.old.home }
     ensures later { S.Source.faults source.old ≤ S.Source.faults source.new }
 {
     for _turn in 0..u64::MAX {
         let instr = code[machine.pc];
         match machine.turn(order, code, instr, values, intake, source, items, steps) {
-            Ok(Turn::Goes) => {}
-            Ok(Turn::Whole) => return Ok(()),
+            Ok(Progress::More) => {}
+            Ok(Progress::Whole) => return Ok(()),
             Err(fault) => return Err(fault),
         }
     }
@@ -60,12 +68,19 @@ impl Machine {
         source: &mut S,
         items: &mut ItemLog,
         steps: &mut Steps<L>,
-    ) -> Result<Turn, DecodeFault> {
+    ) -> Result<Progress, DecodeFault>
+        requires short { length code.now < 2 ^ 32 }
+        requires here { slice_get code.now self.old.pc ≡ Some instr }
+        requires safe { (fetched : List ℕ) (noted : List Item) (s : State) → Reaches values.now order code.now self.old.home (state_of self.old) fetched noted s → IsSafe code.now s }
+        ensures turns { Turns values.now order code.now self.old.home (state_of self.old) (source_seen S.Source.left S.Source.ended S.Source.faults source.old source.new) (notes_seen items.old items.new (L.number steps.old) (L.number steps.new) self.old.cells self.new.cells) (state_of self.new) result }
+        ensures home { self.new.home ≡ self.old.home }
+        ensures later { S.Source.faults source.old ≤ S.Source.faults source.new }
+    {
         if let Instr::Num { of } = instr {
             let prim = prim_of(of.0);
             let count = self.row_len(code, prim);
             if count > 1 {
-                return self.turn_row(order, prim, count, intake, source, items, steps);
+                return self.turn_row(order, code, values, of, count, intake, source, items, steps);
             }
         }
         match self.wants(instr, values) {
@@ -79,13 +94,28 @@ impl Machine {
     fn turn_row<S: Source, L: Ledger>(
         &mut self,
         order: Order,
-        prim: Prim,
+        code: &[Instr],
+        values: &EnumLists,
+        of: TypeId,
         count: u32,
         intake: &mut Intake,
         source: &mut S,
         items: &mut ItemLog,
         steps: &mut Steps<L>,
-    ) -> Result<Turn, DecodeFault> {
+    ) -> Result<Progress, DecodeFault>
+        requires short { length code.now < 2 ^ 32 }
+        requires many { 1 < count }
+        requires piece { count * width (prim_of of.0) ≤ PIECE }
+        requires within { self.old.at + count * width (prim_of of.0) ≤ STREAM_LIMIT }
+        requires aligned { self.old.at % width (prim_of of.0) ≡ 0 }
+        requires row { IsInRow code.now (count - 1) self.old.pc (prim_of of.0) self.old.top }
+        requires here { slice_get code.now self.old.pc ≡ Some (op.Num of) }
+        requires safe { (fetched : List ℕ) (noted : List Item) (s : State) → Reaches values.now order code.now self.old.home (state_of self.old) fetched noted s → IsSafe code.now s }
+        ensures turns { Turns values.now order code.now self.old.home (state_of self.old) (source_seen S.Source.left S.Source.ended S.Source.faults source.old source.new) (notes_seen items.old items.new (L.number steps.old) (L.number steps.new) self.old.cells self.new.cells) (state_of self.new) result }
+        ensures home { self.new.home ≡ self.old.home }
+        ensures later { S.Source.faults source.old ≤ S.Source.faults source.new }
+    {
+        let prim = prim_of(of.0);
         let wide = width_of(prim) as u32;
         match fetched(intake.item(source, self.at, count * wide)) {
             Ok(()) => {}
@@ -98,12 +128,14 @@ impl Machine {
             }
         }
         self.row(order, intake.octets(), prim, count, items, steps)?;
-        Ok(Turn::Goes)
+        Ok(Progress::More)
     }
 }
 
 /// What a fault of the intake says of a stream. Takes no memory.
-pub fn fetched(answer: Result<(), IntakeFault>) -> Result<(), DecodeFault> {
+pub fn fetched(answer: Result<(), IntakeFault>) -> Result<(), DecodeFault>
+    ensures { result ≡ stream_answer answer }
+{
     match answer {
         Ok(()) => Ok(()),
         Err(IntakeFault::Memory) => Err(DecodeFault::Memory),

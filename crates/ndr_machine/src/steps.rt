@@ -1,14 +1,14 @@
 // What each instruction does.
 ghost use Rattle.std.specs.Prelude.{◌≡◌, ◌<◌, ◌+◌, ◌^◌, length};
 ghost use Rattle.ndr_steps.specs.Steps.{step, wants, text_want, hoist_want, limit_of};
-ghost use Rattle.ndr_machine.specs.Seen.{state_of, phase_of, Comes, Does, Wants};
+ghost use Rattle.ndr_state.specs.Seen.{state_of, phase_of, Comes, Does, Wants};
 ghost use Rattle.ndr_machine.specs.Parts.{HasWanted, IsInner, arm_tried};
 ghost use Rattle.ndr_machine.specs.Notes.{Noted, notes_seen, step_items, tried_items};
 
 use crate::enumerators::carrier_of;
 use crate::octets::{gap_before, prim_of};
 use crate::pointers::To;
-use crate::{DecodeFault, Machine, Phase, Turn};
+use crate::{DecodeFault, Machine, Phase, Progress};
 use nd_base::{Ledger, Order, Steps};
 use nd_grammar::Reason;
 use nd_value::ItemLog;
@@ -104,7 +104,7 @@ impl Machine {
         values: &EnumLists,
         items: &mut ItemLog,
         steps: &mut Steps<L>,
-    ) -> Result<Turn, DecodeFault>
+    ) -> Result<Progress, DecodeFault>
         requires inner { IsInner instr }
         requires wanted { HasWanted (wants values.now instr (state_of self.old)) octets.now }
         requires code { self.old.pc < 2 ^ 32 }
@@ -163,7 +163,7 @@ impl Machine {
             | Instr::Pipe { run: _ }
             | Instr::Defer => unreachable!(),
         }
-        Ok(Turn::Goes)
+        Ok(Progress::More)
     }
 
     // `arm`

@@ -2,9 +2,9 @@
 ghost use Rattle.std.specs.Prelude.{◌≡◌, ◌<◌, ◌+◌, ◌^◌, length, pos, [], ◌∷◌};
 ghost use Rattle.nd_grammar.specs.Refusal.{text_refusal};
 ghost use Rattle.ndr_steps.specs.Steps.{text_by, text_done};
-ghost use Rattle.ndr_machine.specs.Seen.{state_of, Does, phase_of};
+ghost use Rattle.ndr_state.specs.Seen.{state_of, Does, phase_of};
 ghost use Rattle.ndr_machine.specs.Notes.{Noted, notes_seen, text_items};
-ghost use Rattle.ndr_machine.specs.Seen.{next_item};
+ghost use Rattle.ndr_state.specs.Seen.{next_item};
 ghost use Rattle.nd_value.specs.declared.item.ItemKind.TheVariants as item;
 
 use crate::octets::read_count;

@@ -3,7 +3,7 @@ ghost use Rattle.std.specs.Prelude.{◌≡◌, ◌<◌, ◌+◌, ◌^◌, eqb, l
 ghost use Rattle.nd_types.specs.Table.{width};
 ghost use Rattle.ndr_code.specs.Lines.{enumerators};
 ghost use Rattle.ndr_steps.specs.Steps.{goes, arm_taken, tag_step, form_by};
-ghost use Rattle.ndr_machine.specs.Seen.{state_of, Does};
+ghost use Rattle.ndr_state.specs.Seen.{state_of, Does};
 ghost use Rattle.ndr_machine.specs.Notes.{Noted, arm_items, notes_seen};
 
 use crate::enumerators::{carrier_of, is_enumerator};

@@ -10,6 +10,7 @@ use Rattle.nd_types.specs.declared.types.TypeDef.{TypeDef}
 use Rattle.nd_types.specs.declared.types.TypeDef.TheVariants as def
 use Rattle.nd_types.specs.Table.{Table, type_at}
 use Rattle.nd_value.specs.declared.item.Home.{Home}
+use Rattle.nd_value.specs.declared.item.Item.{Item}
 use Rattle.nd_value.specs.Agreement.{Agreement}
 use Rattle.nd_grammar.specs.Entry.{Entry}
 use Rattle.nd_grammar.specs.Reader.{Read}
@@ -112,7 +113,7 @@ waiting_at code table (text_counted t max c) top stack fs inside = at_most (leng
 waiting_at code table (tagged t d form arms default z) top stack fs inside = at_most (length stack) (length fs) (waiting code table top stack fs inside)
 waiting_at code table (has t v) top stack fs inside = at_most (length stack) (length fs) (waiting code table top stack fs inside)
 
-module _ (order : Order) (fetched : List ℕ) (code : List Instr) (table : Table) (h : Home) (own limit : ℕ) (target : List ℕ → Read) (s : State) (g : Good order fetched code table h own limit target s) where
+module _ (order : Order) (fetched : List ℕ) (code : List Instr) (table : Table) (h : Home) (own limit : ℕ) (noted : List Item) (target : List ℕ → Read) (s : State) (g : Good order fetched code table h own limit noted target s) where
   pub address_within : s.pc < length code
   address_within = at_point code table h s.max s.pc g.depth g.point g.spot
 

@@ -1,6 +1,6 @@
 -- The maximum count before a home's value: its gap, the count, and the call of the value.
 use Rattle.std.proofs.Common.{◌≡◌, ◌≤◌, ◌<◌, ◌⊎◌, inl, inr, ℕ, ◌+◌, zero, suc, Bool, true, false, ◌&&◌, List, [], ◌∷◌, ◌++◌, length, Option, Some, None, refl, ap, ap₂, sym, ◌∙◌, subst, arith, append_assoc, length-append, map}
-use Rattle.std.specs.Prelude.{◌||◌, eqb}
+use Rattle.std.specs.Prelude.{pos, ◌||◌, eqb}
 use Rattle.std.specs.List.{slice_get}
 use Rattle.nd_base.specs.declared.octets.Order.{Order}
 use Rattle.nd_base.specs.declared.TheConstants.{STREAM_LIMIT}
@@ -9,6 +9,8 @@ use Rattle.nd_types.specs.declared.types.Attr.TheVariants as attr
 use Rattle.nd_types.specs.Number.{unsigned}
 use Rattle.nd_types.specs.Table.{Table}
 use Rattle.nd_value.specs.declared.item.Home.{Home}
+use Rattle.nd_value.specs.declared.item.Item.{Item}
+use Rattle.nd_value.specs.declared.item.ItemKind.TheVariants as item
 use Rattle.nd_grammar.specs.declared.reason.Reason.{Reason}
 use Rattle.nd_grammar.specs.Entry.{Kind, Entry, EntryAt, size_at, gap, Align, Max}
 use Rattle.nd_grammar.specs.Refusal.{refusal, tested_at, same_home}
@@ -31,7 +33,8 @@ use Rattle.ndr_steps.specs.declared.frame.Frame.TheVariants as frame
 use Rattle.ndr_steps.specs.Spots.{IsFine, IsPlanned}
 use Rattle.ndr_steps.specs.Steps.{State, Outcome, goes, begun, gap_read, past, done_after, with_max, call_from, place_of, no_place}
 use Rattle.ndr_steps.specs.Good.{Told, Kept, Good, IsRight, place_at as place_of_node}
-use Rattle.ndr_steps.proofs.Passing.{onward, no_less, silent, told_passed, known_joined, lie_joined, lie_longer, judged, taken_it, lies_it, same_homes, tested_now, tested_passed}
+use Rattle.ndr_steps.specs.StepItems.{item_here, gap_items, count_items}
+use Rattle.ndr_steps.proofs.Passing.{items_it, gap_noted, noted_joined, onward, no_less, silent, told_passed, known_joined, lie_joined, lie_longer, judged, taken_it, lies_it, same_homes, tested_now, tested_passed}
 use Rattle.ndr_steps.proofs.Arriving.{Within, parts_of, within_passed, arrives}
 use Rattle.ndr_steps.proofs.Adding.{stop_by, Stops}
 
@@ -55,11 +58,11 @@ module _ (order : Order) (octets : List ℕ) (table : Table) (h : Home) (m at : 
       (ap (λ p. (read_in_place order octets table h 32 v t 0 p names).progress) (stops_at order octets e at seen why r)
       ∙ in_place_stays order octets table h at seen why 32 v t 0 names) rest
 
-module _ (order : Order) (fetched os : List ℕ) (code : List Instr) (values : List EnumList) (table : Table) (h : Home) (own limit : ℕ) (target : List ℕ → Read) (planned : IsPlanned code values table)
+module _ (order : Order) (fetched os : List ℕ) (code : List Instr) (values : List EnumList) (table : Table) (h : Home) (own limit : ℕ) (noted : List Item) (target : List ℕ → Read) (planned : IsPlanned code values table)
     (s : State) (seen : List EntryAt) (names : Names) (t : ℕ) (fine : IsFine table 32 t) (w : Within code table h own limit seen 32 [] t (parts_of s)) (reached : length fetched ≡ s.at)
-    (run : IsRunAt code s.pc (op.Hoist ∷ op.Call (place_at table t) ∷ op.Ret ∷ [])) (told : Told order fetched h seen names s.cells s.numbers s.max_at (length s.nodes) []) (no_max : s.max_at ≡ None) where
-  abbrev Right : Outcome → Type 0
-  Right o = IsRight order (fetched ++ os) code table h own limit target s.at seen o
+    (run : IsRunAt code s.pc (op.Hoist ∷ op.Call (place_at table t) ∷ op.Ret ∷ [])) (told : Told noted order fetched h seen names s.cells s.numbers s.max_at (length s.nodes) []) (no_max : s.max_at ≡ None) where
+  abbrev Right : List Item → Outcome → Type 0
+  Right news o = IsRight order (fetched ++ os) code table h own limit (noted ++ news) target s.at seen o
 
   further : (size : ℕ) → length os ≡ size → length (fetched ++ os) ≡ s.at + size
   further size e = let l : length (fetched ++ os) ≡ length fetched + length os = length-append fetched os in omega (arith, l, reached, e)
@@ -67,7 +70,7 @@ module _ (order : Order) (fetched os : List ℕ) (code : List Instr) (values : L
   -- the gap
   pub hoist_gap_right : length os ≡ gap s.at 4
       → ((later : List ℕ) → finish order (fetched ++ later) table h s.max 32 [] (read_hoisted order (fetched ++ later) table h true t (going s.at seen) names) ≡ target (fetched ++ later))
-      → Right (goes (past (length os) gap_read s))
+      → Right (gap_items h s.at os) (goes (past (length os) gap_read s))
   hoist_gap_right size rest =
       let m : Entry = record { home = h; node = 0; kind = Align 4 } in
       let x : EntryAt = record { at = s.at; entry = m } in
@@ -95,7 +98,8 @@ module _ (order : Order) (fetched os : List ℕ) (code : List Instr) (values : L
         first = w'.first;
         reached = let r : length (fetched ++ os) ≡ s.at + length os = further (length os) refl in omega (arith, r);
         holds = tt;
-        told = told_passed order fetched os h seen names s.cells s.numbers s.max_at (length s.nodes) [] x tt tt (lies_it order fetched os [] s.at reached m seen (sym size)) told;
+        told = told_passed (gap_items h s.at os) order fetched os h seen names s.cells s.numbers s.max_at (length s.nodes) [] x
+            (items_it order fetched os [] s.at reached m seen (sym size) ∙ gap_noted order h 0 4 s.at os (sym size)) tt tt (lies_it order fetched os [] s.at reached m seen (sym size)) told;
         rest = λ later.
             let octets : List ℕ = (fetched ++ os) ++ later in
             let r : refusal order octets seen x ≡ None = judged order fetched os later s.at reached m seen (sym size) refl in
@@ -108,7 +112,7 @@ module _ (order : Order) (fetched os : List ℕ) (code : List Instr) (values : L
   -- the count
   pub hoist_count_right : length os ≡ 4 → s.at + 4 ≤ STREAM_LIMIT
       → ((later : List ℕ) → finish order (fetched ++ later) table h s.max 32 [] (hoisted_after order (fetched ++ later) table h t (going s.at seen) names) ≡ target (fetched ++ later))
-      → Right (goes (done_after 4 (with_max (unsigned order os) s)))
+      → Right (count_items order h os item.Max s) (goes (done_after 4 (with_max (unsigned order os) s)))
   hoist_count_right size short rest =
       record {
         depth = 32;
@@ -134,6 +138,8 @@ module _ (order : Order) (fetched os : List ℕ) (code : List Instr) (values : L
         reached = let r : length (fetched ++ os) ≡ s.at + 4 = further 4 size in omega (arith, r);
         holds = tt;
         told = record {
+          noted_are = noted_joined order fetched os seen x noted (count_items order h os item.Max s) told.lie_within
+              (items_it order fetched os [] s.at reached x.entry seen (sym size) ∙ ap (λ j. item_here h s.at item.Max 4 (pos (unsigned order os)) j ∷ []) (sym (ap length w.nodes))) told.noted_are;
           cells_are = told.cells_are;
           numbers_are = λ u p. known_joined order fetched os seen names x told.lie_within u (λ to. refl) _ (told.numbers_are u p);
           ahead = ahead;
@@ -176,14 +182,14 @@ module _ (order : Order) (fetched os : List ℕ) (code : List Instr) (values : L
       ahead attr.Switch j = tested_passed seen x attr.Switch h (length s.nodes + j) refl ∙ none_yet attr.Switch j refl
 
 -- the call of a home's value
-pub jump_right : (order : Order) (fetched : List ℕ) (code : List Instr) (values : List EnumList) (table : Table) (h : Home) (own limit : ℕ) (target : List ℕ → Read) → IsPlanned code values table
+pub jump_right : (order : Order) (fetched : List ℕ) (code : List Instr) (values : List EnumList) (table : Table) (h : Home) (own limit : ℕ) (noted : List Item) (target : List ℕ → Read) → IsPlanned code values table
     → (s : State) (depth : ℕ) (seen : List EntryAt) (names : Names) (t : ℕ) → IsFine table depth t → Within code table h own limit seen depth [] t (parts_of s) → length fetched ≡ s.at
-    → Told order fetched h seen names s.cells s.numbers s.max_at (length s.nodes) []
+    → Told noted order fetched h seen names s.cells s.numbers s.max_at (length s.nodes) []
     → ((later : List ℕ) → finish order (fetched ++ later) table h s.max depth [] (read_in_place order (fetched ++ later) table h depth s.max t 0 (going s.at seen) names) ≡ target (fetched ++ later))
-    → IsRight order fetched code table h own limit target s.at seen (goes (call_from s.top (place_at table t) s))
-jump_right order fetched code values table h own limit target planned s depth seen names t fine w reached told rest =
-    subst (λ x. IsRight order fetched code table h own limit target s.at seen (goes (call_from x (place_at table t) s))) (sym w.inside.0)
-    (arrives order fetched code values table h own limit target planned (call_from frame.Home (place_at table t) s) depth [] seen names t fine refl refl
+    → IsRight order fetched code table h own limit noted target s.at seen (goes (call_from s.top (place_at table t) s))
+jump_right order fetched code values table h own limit noted target planned s depth seen names t fine w reached told rest =
+    subst (λ x. IsRight order fetched code table h own limit noted target s.at seen (goes (call_from x (place_at table t) s))) (sym w.inside.0)
+    (arrives order fetched code values table h own limit noted target planned (call_from frame.Home (place_at table t) s) depth [] seen names t fine refl refl
     (record {
       deep = w.deep;
       inside = w.inside;

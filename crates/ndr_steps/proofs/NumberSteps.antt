@@ -12,6 +12,8 @@ use Rattle.nd_types.specs.Kinds.{prim_number}
 use Rattle.nd_types.specs.Number.{unsigned, value_of_octets}
 use Rattle.nd_types.specs.Table.{Table, type_at, width}
 use Rattle.nd_value.specs.declared.item.Home.{Home}
+use Rattle.nd_value.specs.declared.item.Item.{Item}
+use Rattle.nd_value.specs.declared.item.ItemKind.TheVariants as item
 use Rattle.nd_value.specs.Tree as tree
 use Rattle.nd_value.specs.Tree.{Tree, Trees, node, none, more}
 use Rattle.nd_grammar.specs.declared.reason.Reason.{Reason}
@@ -33,7 +35,8 @@ use Rattle.ndr_reading.proofs.HomePointers.{of_context}
 use Rattle.ndr_steps.specs.Spots.{IsFine, IsDue, body_run, at_ret}
 use Rattle.ndr_steps.specs.Steps.{State, Outcome, goes, refused, begun, done_after, with_node, number_step, prim_of}
 use Rattle.ndr_steps.specs.Good.{Told, IsRight, owed}
-use Rattle.ndr_steps.proofs.Passing.{onward, no_less, silent, told_passed, judged, taken_it, lies_it}
+use Rattle.ndr_steps.specs.StepItems.{item_here, next_item, gap_items, number_items}
+use Rattle.ndr_steps.proofs.Passing.{items_it, gap_noted, onward, no_less, silent, told_passed, judged, taken_it, lies_it}
 use Rattle.ndr_steps.proofs.Arriving.{Within, parts_of, within_passed, plain_good}
 use Rattle.ndr_steps.proofs.Adding.{leaf_good, none_found, no_pointer, stop_by, Stops}
 
@@ -76,27 +79,28 @@ module _ (order : Order) (octets : List ℕ) (table : Table) (h : Home) (k m : �
       ∙ ap (λ p. read_at order octets table h m (suc k') (opened t d) n p names) (stops_at order octets x at seen why r))
       ∙ after_gap_stays order octets table h at seen why k' m t (Some d) n names)) rest
 
-module _ (order : Order) (fetched os : List ℕ) (code : List Instr) (values : List EnumList) (table : Table) (h : Home) (own limit : ℕ) (target : List ℕ → Read) where
-  abbrev Right : ℕ → List EntryAt → Outcome → Type 0
-  Right at seen o = IsRight order (fetched ++ os) code table h own limit target at seen o
+module _ (order : Order) (fetched os : List ℕ) (code : List Instr) (values : List EnumList) (table : Table) (h : Home) (own limit : ℕ) (noted : List Item) (target : List ℕ → Read) where
+  abbrev Right : List Item → ℕ → List EntryAt → Outcome → Type 0
+  Right news at seen o = IsRight order (fetched ++ os) code table h own limit (noted ++ news) target at seen o
 
   -- `align`: the gap before a value
   pub gap_right : (s : State) (k : ℕ) (fs : List Around) (seen : List EntryAt) (names : Names) (t a : ℕ) (d : TypeDef) → IsDue (IsFine table k) table t → type_at table t ≡ Some d → gap_of table t (Some d) ≡ Some a
-      → IsRunAt code s.pc (op.Align a ∷ body_run code table t d) → Within code table h own limit seen (suc k) fs t (parts_of s) → Told order fetched h seen names s.cells s.numbers s.max_at (length s.nodes) []
+      → IsRunAt code s.pc (op.Align a ∷ body_run code table t d) → Within code table h own limit seen (suc k) fs t (parts_of s) → Told noted order fetched h seen names s.cells s.numbers s.max_at (length s.nodes) []
       → length fetched ≡ s.at → length os ≡ gap s.at a
       → ((later : List ℕ) → finish order (fetched ++ later) table h s.max (suc k) fs
       (read_in_place order (fetched ++ later) table h (suc k) s.max t (length (nodes_around fs)) (going s.at seen) names) ≡ target (fetched ++ later))
-      → Right s.at seen (goes (done_after (length os) s))
+      → Right (gap_items h s.at os) s.at seen (goes (done_after (length os) s))
   gap_right s k fs seen names t a d fine e ea run w told reached size rest =
       let n : ℕ = length (nodes_around fs) in
       let m : Entry = record { home = h; node = n; kind = Align a } in
       let x : EntryAt = record { at = s.at; entry = m } in
-      plain_good order (fetched ++ os) code table h own limit target (opened t d) tt (done_after (length os) s) (suc k) fs (seen ++ x ∷ []) names
+      plain_good order (fetched ++ os) code table h own limit (noted ++ gap_items h s.at os) target (opened t d) tt (done_after (length os) s) (suc k) fs (seen ++ x ∷ []) names
       (within_passed code table h own limit seen (suc k) fs t (parts_of s) x (λ c j l. silent c h j x tt) w)
       (fine, e, next_at code s.pc (op.Align a) (body_run code table t d) run) refl tt
       (let l : length (fetched ++ os) ≡ length fetched + length os = length-append fetched os in omega (arith, l, reached))
       tt
-      (told_passed order fetched os h seen names s.cells s.numbers s.max_at (length s.nodes) [] x tt tt (lies_it order fetched os [] s.at reached m seen (sym size)) told)
+      (told_passed (gap_items h s.at os) order fetched os h seen names s.cells s.numbers s.max_at (length s.nodes) [] x
+      (items_it order fetched os [] s.at reached m seen (sym size) ∙ gap_noted order h n a s.at os (sym size)) tt tt (lies_it order fetched os [] s.at reached m seen (sym size)) told)
       (λ later.
       let octets : List ℕ = (fetched ++ os) ++ later in
       let r : refusal order octets seen x ≡ None = judged order fetched os later s.at reached m seen (sym size) refl in
@@ -109,16 +113,19 @@ module _ (order : Order) (fetched os : List ℕ) (code : List Instr) (values : L
 
   -- `num` and `enum`: the octets of a primitive
   pub number_right : (s : State) (depth : ℕ) (fs : List Around) (seen : List EntryAt) (names : Names) (t : ℕ) (i : Instr) (p : Primitive) (zs : Option (List ℤ))
-      → Within code table h own limit seen depth fs t (parts_of s) → Told order fetched h seen names s.cells s.numbers s.max_at (length s.nodes) [] → length fetched ≡ s.at
+      → Within code table h own limit seen depth fs t (parts_of s) → Told noted order fetched h seen names s.cells s.numbers s.max_at (length s.nodes) [] → length fetched ≡ s.at
       → IsRunAt code s.pc (i ∷ op.Ret ∷ []) → ((z : ℤ) → pointers table h (t ∷ []) (length (nodes_around fs)) (more (node (tree.Num z) none) none) ≡ [])
       → length os ≡ width p → s.at + width p ≤ STREAM_LIMIT
       → ((later : List ℕ) → finish order (fetched ++ later) table h s.max depth fs
       (number_after order (fetched ++ later) table h (length (nodes_around fs)) p zs (going s.at seen) names) ≡ target (fetched ++ later))
-      → Right s.at seen (number_step values order os p zs s)
+      → Right (number_items order h os p s) s.at seen (number_step values order os p zs s)
   number_right s depth fs seen names t i p zs w told reached run none_of size short rest = by_test (is_enumerator zs z) refl
     where
       n : ℕ
       n = length (nodes_around fs)
+
+      same_count : length s.nodes ≡ n
+      same_count = ap length w.nodes
 
       z : ℤ
       z = value_of_octets order p os
@@ -139,13 +146,14 @@ module _ (order : Order) (fetched os : List ℕ) (code : List Instr) (values : L
           → finish order ((fetched ++ os) ++ later) table h s.max depth fs (number_after order ((fetched ++ os) ++ later) table h n p zs (going s.at seen) names) ≡ target ((fetched ++ os) ++ later)
       go_on = onward fetched os (λ o. finish order o table h s.max depth fs (number_after order o table h n p zs (going s.at seen) names) ≡ target o) rest
 
-      by_test : (b : Bool) → is_enumerator zs z ≡ b → Right s.at seen (if b then goes (done_after (width p) (with_node (tree.Num z, 0) None s)) else refused s.at reason.EnumValue)
+      by_test : (b : Bool) → is_enumerator zs z ≡ b → Right (number_items order h os p s) s.at seen (if b then goes (done_after (width p) (with_node (tree.Num z, 0) None s)) else refused s.at reason.EnumValue)
       by_test false e = λ later.
           (number_next order ((fetched ++ os) ++ later) table h depth s.max fs n s.at seen names (target ((fetched ++ os) ++ later)) p zs (go_on later)) (s.at, reason.EnumValue) (judge false e later (pos 0))
       by_test true e =
-          let told' : Told order (fetched ++ os) h (seen ++ x ∷ []) names s.cells s.numbers s.max_at (length s.nodes) [] =
-          told_passed order fetched os h seen names s.cells s.numbers s.max_at (length s.nodes) [] x tt tt (lies_it order fetched os [] s.at reached (m z) seen (sym size)) told in
-          leaf_good order (fetched ++ os) code table h own limit target (parts_of s) (s.pc + 1) (s.at + width p) s.max s.tag s.carrier s.fresh s.cells s.numbers (tree.Num z) None [] (seen ++ x ∷ []) names depth fs t
+          let told' : Told (noted ++ number_items order h os p s) order (fetched ++ os) h (seen ++ x ∷ []) names s.cells s.numbers s.max_at (length s.nodes) [] =
+          told_passed (number_items order h os p s) order fetched os h seen names s.cells s.numbers s.max_at (length s.nodes) [] x
+          (items_it order fetched os [] s.at reached (m z) seen (sym size) ∙ ap (λ j. item_here h s.at item.Num (width p) z j ∷ []) (sym same_count)) tt tt (lies_it order fetched os [] s.at reached (m z) seen (sym size)) told in
+          leaf_good order (fetched ++ os) code table h own limit (noted ++ number_items order h os p s) target (parts_of s) (s.pc + 1) (s.at + width p) s.max s.tag s.carrier s.fresh s.cells s.numbers (tree.Num z) None [] (seen ++ x ∷ []) names depth fs t
           (within_passed code table h own limit seen depth fs t (parts_of s) x (λ a j l. silent a h j x tt) w)
           (none_found order (fetched ++ os) h (seen ++ x ∷ []) names s.cells s.numbers s.max_at (length s.nodes) [] told')
           told'
@@ -164,11 +172,11 @@ module _ (order : Order) (fetched os : List ℕ) (code : List Instr) (values : L
 
   -- `context`
   pub context_right : (s : State) (depth : ℕ) (fs : List Around) (seen : List EntryAt) (names : Names) (t : ℕ) → type_at table t ≡ Some def.Context
-      → Within code table h own limit seen depth fs t (parts_of s) → Told order fetched h seen names s.cells s.numbers s.max_at (length s.nodes) [] → length fetched ≡ s.at
+      → Within code table h own limit seen depth fs t (parts_of s) → Told noted order fetched h seen names s.cells s.numbers s.max_at (length s.nodes) [] → length fetched ≡ s.at
       → IsRunAt code s.pc (op.Context ∷ op.Ret ∷ []) → length os ≡ 20 → s.at + 20 ≤ STREAM_LIMIT
       → ((later : List ℕ) → finish order (fetched ++ later) table h s.max depth fs
       (context_after order (fetched ++ later) table h (length (nodes_around fs)) (going s.at seen) names) ≡ target (fetched ++ later))
-      → Right s.at seen (goes (done_after 20 (with_node (tree.Context (unsigned order (take 4 os)) (identifier order os (drop 4 os)), 0) None s)))
+      → Right (next_item h s item.Context 20 (pos 0) ∷ []) s.at seen (goes (done_after 20 (with_node (tree.Context (unsigned order (take 4 os)) (identifier order os (drop 4 os)), 0) None s)))
   context_right s depth fs seen names t et w told reached run size short rest =
       let n : ℕ = length (nodes_around fs) in
       let a : ℕ = unsigned order (take 4 os) in
@@ -177,9 +185,10 @@ module _ (order : Order) (fetched os : List ℕ) (code : List Instr) (values : L
       let x : EntryAt = record { at = s.at; entry = m a id } in
       let judge : (later : List ℕ) (b : ℕ) (c : List ℕ) → refusal order ((fetched ++ os) ++ later) seen (record { at = s.at; entry = m b c }) ≡ None =
       λ later b c. judged order fetched os later s.at reached (m b c) seen (sym size) (no_less STREAM_LIMIT (s.at + 20) short) in
-      let told' : Told order (fetched ++ os) h (seen ++ x ∷ []) names s.cells s.numbers s.max_at (length s.nodes) [] =
-      told_passed order fetched os h seen names s.cells s.numbers s.max_at (length s.nodes) [] x tt tt (lies_it order fetched os [] s.at reached (m a id) seen (sym size)) told in
-      leaf_good order (fetched ++ os) code table h own limit target (parts_of s) (s.pc + 1) (s.at + 20) s.max s.tag s.carrier s.fresh s.cells s.numbers (tree.Context a id) None [] (seen ++ x ∷ []) names depth fs t
+      let told' : Told (noted ++ next_item h s item.Context 20 (pos 0) ∷ []) order (fetched ++ os) h (seen ++ x ∷ []) names s.cells s.numbers s.max_at (length s.nodes) [] =
+      told_passed (next_item h s item.Context 20 (pos 0) ∷ []) order fetched os h seen names s.cells s.numbers s.max_at (length s.nodes) [] x
+      (items_it order fetched os [] s.at reached (m a id) seen (sym size) ∙ ap (λ j. item_here h s.at item.Context 20 (pos 0) j ∷ []) (sym (ap length w.nodes))) tt tt (lies_it order fetched os [] s.at reached (m a id) seen (sym size)) told in
+      leaf_good order (fetched ++ os) code table h own limit (noted ++ next_item h s item.Context 20 (pos 0) ∷ []) target (parts_of s) (s.pc + 1) (s.at + 20) s.max s.tag s.carrier s.fresh s.cells s.numbers (tree.Context a id) None [] (seen ++ x ∷ []) names depth fs t
       (within_passed code table h own limit seen depth fs t (parts_of s) x (λ c j l. silent c h j x tt) w)
       (none_found order (fetched ++ os) h (seen ++ x ∷ []) names s.cells s.numbers s.max_at (length s.nodes) [] told')
       told'

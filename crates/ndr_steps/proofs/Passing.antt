@@ -1,8 +1,9 @@
 -- What the state keeps of the entries seen, as one entry more is passed.
 -- `x` is the entry at its place, `os` are the octets that were fetched for it, `y` is a node, `h` the home, `a` an attribute.
 use Rattle.std.proofs.Common.{◌≡◌, ◌≤◌, ◌<◌, ◌⊎◌, inl, inr, ℕ, ◌+◌, zero, suc, Bool, true, false, ◌&&◌, List, [], ◌∷◌, ◌++◌, length, Option, Some, None, refl, ap, ap₂, sym, ◌∙◌, subst, arith, append_assoc, length-append}
-use Rattle.std.specs.Prelude.{cond, eqb, ltb, not, ◌||◌, map}
+use Rattle.std.specs.Prelude.{pos, cond, eqb, ltb, not, ◌||◌, map}
 use Rattle.std.specs.List.{AllByRecursion, slice_get}
+use Rattle.std.proofs.lemmas.List.{append-nil}
 use Rattle.std.proofs.lemmas.Bool.Decides.{nat_tests}
 use Rattle.nd_base.specs.declared.octets.Order.{Order}
 use Rattle.nd_types.specs.declared.types.Attr.{Attr}
@@ -10,20 +11,25 @@ use Rattle.nd_types.specs.declared.types.Attr.TheVariants as attr
 use Rattle.nd_types.specs.declared.types.Class.TheVariants.{Ref, Unique, Full}
 use Rattle.nd_types.specs.Number.{unsigned}
 use Rattle.nd_value.specs.declared.item.Home.{Home}
+use Rattle.nd_value.specs.declared.item.Item.{Item}
+use Rattle.nd_value.specs.declared.item.ItemKind.TheVariants as item
 use Rattle.nd_value.specs.declared.item.Home.TheVariants as home
 use Rattle.nd_value.specs.Tree.{Flat}
 use Rattle.nd_grammar.specs.declared.reason.Reason.{Reason}
-use Rattle.nd_grammar.specs.Entry.{Kind, Entry, EntryAt, size_at, Align, Max, Offset, Actual, Chunk, Number, Num, Tag, Text, Context, Test, Unread}
+use Rattle.nd_grammar.specs.Entry.{Kind, Entry, EntryAt, size_at, gap, Align, Max, Offset, Actual, Chunk, Number, Num, Tag, Text, Context, Test, Unread}
+use Rattle.nd_grammar.specs.Items.{items, item_at, item_of as item_in}
 use Rattle.nd_grammar.specs.Represents.{piece}
 use Rattle.nd_grammar.specs.Reader.{Names, Progress, pass, taken}
 use Rattle.nd_grammar.specs.Refusal.{is_other, tested_at, kind_agrees, same_home, is_max, other_pointee, refusal, kind_refusal, is_long}
 use Rattle.ndr_code.proofs.Runs.{item_before}
 use Rattle.ndr_refs.specs.declared.referents.Known.{Known}
 use Rattle.ndr_reading.specs.Around.{going, Around}
-use Rattle.ndr_reading.proofs.Fetched.{others_stay, judged_fetched, taken_fetched}
+use Rattle.nd_grammar.proofs.next.Spelt.{piece_left}
+use Rattle.ndr_reading.proofs.Fetched.{others_stay, judged_fetched, taken_fetched, piece_fetched}
 use Rattle.ndr_steps.specs.declared.first.First.{First}
 use Rattle.ndr_steps.specs.declared.first.Member.{Member}
 use Rattle.ndr_steps.specs.Steps.{Place, no_place, place_of, place_in, first_of}
+use Rattle.ndr_steps.specs.StepItems.{item_here, gap_items}
 use Rattle.ndr_steps.specs.Good.{Told, Kept, IsKnownAs, OwnIn, place_at}
 
 -- what holds of all octets that begin with those fetched holds of all that begin with a step's octets too
@@ -98,6 +104,28 @@ pub known_longer : (order : Order) (fetched os : List ℕ) (seen : List EntryAt)
     → (v : ℕ) (o : Option Known) → IsKnownAs order fetched seen names v o → IsKnownAs order (fetched ++ os) seen names v o
 known_longer order fetched os seen names lies v None k = (k.0, λ to. others_stay order fetched os seen lies v to ∙ k.1 to)
 known_longer order fetched os seen names lies v (Some o) k = (k.0, λ to. others_stay order fetched os seen lies v to ∙ k.1 to)
+
+-- ## Items
+
+-- entries that lie within what was fetched are items whatever follows it
+pub items_stay : (order : Order) (fetched os : List ℕ) (seen : List EntryAt) → AllByRecursion (Lies fetched) seen → items order (fetched ++ os) seen ≡ items order fetched seen
+items_stay order fetched os [] a = refl
+items_stay order fetched os (x ∷ xs) a =
+    ap₂ (λ p ys. item_at x (item_in order x.entry.kind p) ++ ys) (piece_left x.at (size_at x.at x.entry.kind) fetched os a.0) (items_stay order fetched os xs a.1)
+
+abbrev pub own_items : Order → List ℕ → EntryAt → List Item
+own_items order octets x = item_at x (item_in order x.entry.kind (piece octets x.at x.entry.kind))
+
+items_joined : (order : Order) (octets : List ℕ) (seen : List EntryAt) (x : EntryAt) → items order octets (seen ++ x ∷ []) ≡ items order octets seen ++ own_items order octets x
+items_joined order octets [] x = append-nil (own_items order octets x)
+items_joined order octets (y ∷ ys) x =
+    ap (λ zs. own_items order octets y ++ zs) (items_joined order octets ys x) ∙ sym (append_assoc (own_items order octets y) (items order octets ys) (own_items order octets x))
+
+-- an entry more adds its own items
+pub noted_joined : (order : Order) (fetched os : List ℕ) (seen : List EntryAt) (x : EntryAt) (noted own : List Item) → AllByRecursion (Lies fetched) seen → own_items order (fetched ++ os) x ≡ own
+    → items order fetched seen ≡ noted → items order (fetched ++ os) (seen ++ x ∷ []) ≡ noted ++ own
+noted_joined order fetched os seen x noted own lies e n =
+    items_joined order (fetched ++ os) seen x ∙ ap₂ (λ ys zs. ys ++ zs) (items_stay order fetched os seen lies ∙ n) e
 
 -- ## Counts and tags
 
@@ -254,10 +282,11 @@ own_map [] g o = tt
 own_map (f ∷ fs) g o = g o
 
 -- an entry that is no count, no tag and no number of a full pointer
-pub told_passed : (order : Order) (fetched os : List ℕ) (h : Home) (seen : List EntryAt) (names : Names) (cells : List ℕ) (numbers : List (ℕ × Known)) (max_at : Option ℕ) (n : ℕ) (half : List Place) (x : EntryAt)
-    → NoCount x.entry.kind → NotFull x.entry.kind → Lies (fetched ++ os) x → Told order fetched h seen names cells numbers max_at n half
-    → Told order (fetched ++ os) h (seen ++ x ∷ []) names cells numbers max_at n half
-told_passed order fetched os h seen names cells numbers max_at n half x c f lies t = record {
+pub told_passed : {noted : List Item} (own : List Item) (order : Order) (fetched os : List ℕ) (h : Home) (seen : List EntryAt) (names : Names) (cells : List ℕ) (numbers : List (ℕ × Known)) (max_at : Option ℕ) (n : ℕ) (half : List Place) (x : EntryAt)
+    → own_items order (fetched ++ os) x ≡ own → NoCount x.entry.kind → NotFull x.entry.kind → Lies (fetched ++ os) x → Told noted order fetched h seen names cells numbers max_at n half
+    → Told (noted ++ own) order (fetched ++ os) h (seen ++ x ∷ []) names cells numbers max_at n half
+told_passed {noted = noted} own order fetched os h seen names cells numbers max_at n half x e c f lies t = record {
+  noted_are = noted_joined order fetched os seen x noted own t.lie_within e t.noted_are;
   cells_are = t.cells_are;
   numbers_are = λ v p. known_joined order fetched os seen names x t.lie_within v
       (λ to. ap (λ b. b && eqb (unsigned order (piece (fetched ++ os) x.at x.entry.kind)) v) (not_full x.entry.kind f to)) _ (t.numbers_are v p);
@@ -266,9 +295,10 @@ told_passed order fetched os h seen names cells numbers max_at n half x c f lies
 }
 
 -- octets that are fetched and not passed yet
-pub told_longer : (order : Order) (fetched os : List ℕ) (h : Home) (seen : List EntryAt) (names : Names) (cells : List ℕ) (numbers : List (ℕ × Known)) (max_at : Option ℕ) (n : ℕ) (half : List Place)
-    → Told order fetched h seen names cells numbers max_at n half → Told order (fetched ++ os) h seen names cells numbers max_at n half
+pub told_longer : {noted : List Item} (order : Order) (fetched os : List ℕ) (h : Home) (seen : List EntryAt) (names : Names) (cells : List ℕ) (numbers : List (ℕ × Known)) (max_at : Option ℕ) (n : ℕ) (half : List Place)
+    → Told noted order fetched h seen names cells numbers max_at n half → Told noted order (fetched ++ os) h seen names cells numbers max_at n half
 told_longer order fetched os h seen names cells numbers max_at n half t = record {
+  noted_are = items_stay order fetched os seen t.lie_within ∙ t.noted_are;
   cells_are = t.cells_are;
   numbers_are = λ v p. known_longer order fetched os seen names t.lie_within v _ (t.numbers_are v p);
   ahead = t.ahead;
@@ -295,16 +325,30 @@ module _ (order : Order) (fetched os later : List ℕ) (at : ℕ) (reached : len
       subst (λ k. size_at k m.kind ≡ length os → refusal order octets seen (record { at = k; entry = m }) ≡ None → taken order octets m (going k seen) ≡ Some os) reached
       (λ s r. taken_fetched order fetched os later m seen s r) size
 
+  -- the entry's own octets are those fetched for it
+  pub own_octets : piece (fetched ++ os) at m.kind ≡ os
+  own_octets =
+      ap (λ xs. piece xs at m.kind) (sym (append-nil (fetched ++ os)))
+      ∙ subst (λ k. size_at k m.kind ≡ length os → piece ((fetched ++ os) ++ []) k m.kind ≡ os) reached (λ s. piece_fetched order fetched os [] m s) size
+
+  pub items_it : own_items order (fetched ++ os) here_it ≡ item_at here_it (item_in order m.kind os)
+  items_it = ap (λ xs. item_at here_it (item_in order m.kind xs)) own_octets
+
   -- the entry lies within what was fetched with it
   pub lies_it : Lies (fetched ++ os) here_it
   lies_it = omega (arith, reached, size, length-append fetched os)
+
+-- the item of a gap, which is none where it is empty
+pub gap_noted : (order : Order) (h : Home) (n a at : ℕ) (os : List ℕ) → gap at a ≡ length os → item_at (record { at = at; entry = record { home = h; node = n; kind = Align a } }) (item_in order (Align a) os) ≡ gap_items h at os
+gap_noted order h n a at [] e = refl
+gap_noted order h n a at (o ∷ os) e = ap (λ l. item_here h at item.Gap l (pos 0) 0 ∷ []) e
 
 -- a count or tag of the node that is being read, which is number n
 module _ (order : Order) (fetched os : List ℕ) (h : Home) (at : ℕ) (k : Kind) (seen : List EntryAt) (names : Names) (cells : List ℕ) (numbers : List (ℕ × Known)) (max_at : Option ℕ) (n : ℕ) (half half' : List Place) where
   abbrev counted : EntryAt
   counted = record { at = at; entry = record { home = h; node = n; kind = k } }
 
-  ahead_counted : is_max k ≡ false → (a : Attr) → Change max_at half half' k at a → Told order fetched h seen names cells numbers max_at n half → (j : ℕ)
+  ahead_counted : {noted : List Item} → is_max k ≡ false → (a : Attr) → Change max_at half half' k at a → Told noted order fetched h seen names cells numbers max_at n half → (j : ℕ)
       → tested_at (seen ++ counted ∷ []) a h (n + j) ≡ place_of a max_at (place_at half' j)
   ahead_counted m a c t (suc j) =
       tested_passed seen counted a h (n + suc j) (earlier_node a h (n + suc j) counted m (omega arith)) ∙ t.ahead a (suc j)
@@ -315,9 +359,10 @@ module _ (order : Order) (fetched os : List ℕ) (h : Home) (at : ℕ) (k : Kind
   ahead_counted m a (inr c) t zero =
       tested_passed seen counted a h (n + 0) (ap (λ b. b && same_home h h && (is_max k || eqb n (n + 0))) c.0) ∙ t.ahead a 0 ∙ c.1
 
-  pub told_counted : is_max k ≡ false → NotFull k → Lies (fetched ++ os) counted → ((a : Attr) → Change max_at half half' k at a) → Told order fetched h seen names cells numbers max_at n half
-      → Told order (fetched ++ os) h (seen ++ counted ∷ []) names cells numbers max_at n half'
-  told_counted m f lies c t = record {
+  pub told_counted : {noted : List Item} (own : List Item) → own_items order (fetched ++ os) counted ≡ own → is_max k ≡ false → NotFull k → Lies (fetched ++ os) counted → ((a : Attr) → Change max_at half half' k at a)
+      → Told noted order fetched h seen names cells numbers max_at n half → Told (noted ++ own) order (fetched ++ os) h (seen ++ counted ∷ []) names cells numbers max_at n half'
+  told_counted {noted = noted} own e m f lies c t = record {
+    noted_are = noted_joined order fetched os seen counted noted own t.lie_within e t.noted_are;
     cells_are = t.cells_are;
     numbers_are = λ v p. known_joined order fetched os seen names counted t.lie_within v
         (λ to. ap (λ b. b && eqb (unsigned order (piece (fetched ++ os) at k)) v) (not_full k f to)) _ (t.numbers_are v p);

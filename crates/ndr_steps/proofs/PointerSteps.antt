@@ -1,7 +1,7 @@
 -- Pointers: their numbers, and the cells that these name.
 -- `v` is the number, `to` the type of the referent, `c` the cell.
 use Rattle.std.proofs.Common.{◌≡◌, ◌≤◌, ◌<◌, ℕ, ◌+◌, zero, suc, Bool, true, false, ◌&&◌, List, [], ◌∷◌, ◌++◌, length, Option, Some, None, refl, ap, ap₂, sym, ◌∙◌, subst, arith, append_assoc, length-append, map}
-use Rattle.std.specs.Prelude.{cond, eqb, not, nat_eq, if◌then◌else◌, ◌||◌}
+use Rattle.std.specs.Prelude.{pos, cond, eqb, not, nat_eq, if◌then◌else◌, ◌||◌}
 use Rattle.std.proofs.lemmas.Bool.{eqb-true}
 use Rattle.std.proofs.lemmas.Bool.Decides.{nat_tests}
 use Rattle.std.proofs.lemmas.List.{append-nil, map-append, length-map}
@@ -14,6 +14,8 @@ use Rattle.nd_types.specs.declared.types.TypeId.{TypeId}
 use Rattle.nd_types.specs.Number.{unsigned}
 use Rattle.nd_types.specs.Table.{Table, type_at}
 use Rattle.nd_value.specs.declared.item.Home.{Home}
+use Rattle.nd_value.specs.declared.item.Item.{Item}
+use Rattle.nd_value.specs.declared.item.ItemKind.TheVariants as item
 use Rattle.nd_value.specs.declared.value.CellId.{CellId}
 use Rattle.nd_value.specs.Setting.{unread}
 use Rattle.nd_value.specs.Tree as tree
@@ -40,7 +42,9 @@ use Rattle.ndr_reading.proofs.HomePointers.{of_pointer}
 use Rattle.ndr_steps.specs.Spots.{at_ret, FitsPointer}
 use Rattle.ndr_steps.specs.Steps.{State, Outcome, Owed, Place, goes, refused, done_after, owing, new_cell, pointer_step, full_by}
 use Rattle.ndr_steps.specs.Good.{Told, Good, IsRight, IsKnownAs, owed}
-use Rattle.ndr_steps.proofs.Passing.{onward, no_less, silent, known_joined, lie_joined, lie_longer, tested_passed, judged, taken_it, lies_it, same_eqb}
+use Rattle.nd_grammar.specs.Items.{items}
+use Rattle.ndr_steps.specs.StepItems.{item_here, count_items}
+use Rattle.ndr_steps.proofs.Passing.{items_it, noted_joined, onward, no_less, silent, known_joined, lie_joined, lie_longer, tested_passed, judged, taken_it, lies_it, same_eqb}
 use Rattle.ndr_steps.proofs.Arriving.{Within, parts_of, within_passed}
 use Rattle.ndr_steps.proofs.Adding.{leaf_good, after_leaf, none_found, stop_by, Stops}
 
@@ -82,9 +86,10 @@ one_more : (names : Names) (to : ℕ) → map (λ c. c.of) (names.cells ++ recor
 one_more names to = map-append (λ c. c.of) names.cells (record { of = to; val = unread } ∷ [])
 
 -- a cell more
-told_cell : (order : Order) (fetched : List ℕ) (h : Home) (seen : List EntryAt) (names : Names) (cells : List ℕ) (numbers : List (ℕ × Known)) (max_at : Option ℕ) (n : ℕ) (half : List Place) (to : ℕ)
-    → Told order fetched h seen names cells numbers max_at n half → Told order fetched h seen (with_cell to names) (cells ++ to ∷ []) numbers max_at n half
+told_cell : {noted : List Item} (order : Order) (fetched : List ℕ) (h : Home) (seen : List EntryAt) (names : Names) (cells : List ℕ) (numbers : List (ℕ × Known)) (max_at : Option ℕ) (n : ℕ) (half : List Place) (to : ℕ)
+    → Told noted order fetched h seen names cells numbers max_at n half → Told noted order fetched h seen (with_cell to names) (cells ++ to ∷ []) numbers max_at n half
 told_cell order fetched h seen names cells numbers max_at n half to t = record {
+  noted_are = t.noted_are;
   cells_are = ap (λ xs. xs ++ to ∷ []) t.cells_are ∙ sym (one_more names to);
   numbers_are = λ v p. known_names order fetched seen names (with_cell to names) v refl (known v numbers) (t.numbers_are v p);
   ahead = t.ahead;
@@ -125,9 +130,9 @@ module _ (order : Order) (octets : List ℕ) (table : Table) (h : Home) (k m : �
       stop_by order octets table h k m fs (pointer_after order octets table h Full to n (going at seen) names) target at seen why
       (stops_at order octets (record { home = h; node = n; kind = Number Full to (named Full to os (number_in order octets os) names).cell }) at seen why r) rest
 
-module _ (order : Order) (fetched os : List ℕ) (code : List Instr) (values : List EnumList) (table : Table) (h : Home) (own limit : ℕ) (target : List ℕ → Read)
+module _ (order : Order) (fetched os : List ℕ) (code : List Instr) (values : List EnumList) (table : Table) (h : Home) (own limit : ℕ) (noted : List Item) (target : List ℕ → Read)
     (s : State) (depth : ℕ) (fs : List Around) (seen : List EntryAt) (names : Names) (t : ℕ) (to : TypeId) (w : Within code table h own limit seen depth fs t (parts_of s))
-    (told : Told order fetched h seen names s.cells s.numbers s.max_at (length s.nodes) []) (reached : length fetched ≡ s.at) (size : length os ≡ 4) (short : s.at + 4 ≤ STREAM_LIMIT) where
+    (told : Told noted order fetched h seen names s.cells s.numbers s.max_at (length s.nodes) []) (reached : length fetched ≡ s.at) (size : length os ≡ 4) (short : s.at + 4 ≤ STREAM_LIMIT) where
   abbrev n : ℕ
   n = length (nodes_around fs)
 
@@ -143,6 +148,14 @@ module _ (order : Order) (fetched os : List ℕ) (code : List Instr) (values : L
   abbrev owed_now : Class → Option ℕ → List Owed
   owed_now class c = s.fresh ++ record { class = class; to = to.0; run = whole_at table to.0; cell = c; agreements = [] } ∷ []
 
+  -- the item of the number
+  abbrev news : List Item
+  news = count_items order h os item.Number s
+
+  noted_with : (class : Class) (c : Option ℕ) → items order (fetched ++ os) (seen ++ at_it class c ∷ []) ≡ noted ++ news
+  noted_with class c = noted_joined order fetched os seen (at_it class c) noted news told.lie_within
+      (items_it order fetched os [] s.at reached (entry_of class c) seen (sym size) ∙ ap (λ j. item_here h s.at item.Number 4 (pos v) j ∷ []) (sym (ap length w.nodes))) told.noted_are
+
   as_many : length s.cells ≡ length names.cells
   as_many = ap length told.cells_are ∙ length-map names.cells (λ c. c.of)
 
@@ -152,10 +165,10 @@ module _ (order : Order) (fetched os : List ℕ) (code : List Instr) (values : L
       → (c : Option ℕ) (names' : Names) (cells : List ℕ) (numbers : List (ℕ × Known))
       → ((later : List ℕ) (d : Option ℕ) → refusal order ((fetched ++ os) ++ later) seen (at_it class d) ≡ None)
       → named class to.0 (Some os) v names ≡ record { cell = c; names = names' }
-      → Told order (fetched ++ os) h (seen ++ at_it class c ∷ []) names' cells numbers s.max_at (length s.nodes) []
-      → Good order (fetched ++ os) code table h own limit target (after_leaf (parts_of s) (s.pc + 1) (s.at + 4) s.max s.tag s.carrier (owed_now class c) cells numbers (tree.Ptr c, 0) None)
+      → Told (noted ++ news) order (fetched ++ os) h (seen ++ at_it class c ∷ []) names' cells numbers s.max_at (length s.nodes) []
+      → Good order (fetched ++ os) code table h own limit (noted ++ news) target (after_leaf (parts_of s) (s.pc + 1) (s.at + 4) s.max s.tag s.carrier (owed_now class c) cells numbers (tree.Ptr c, 0) None)
   leaf class et run rest c names' cells numbers judge it told' =
-      leaf_good order (fetched ++ os) code table h own limit target (parts_of s) (s.pc + 1) (s.at + 4) s.max s.tag s.carrier (owed_now class c) cells numbers (tree.Ptr c) None [] (seen ++ at_it class c ∷ []) names' depth fs t
+      leaf_good order (fetched ++ os) code table h own limit (noted ++ news) target (parts_of s) (s.pc + 1) (s.at + 4) s.max s.tag s.carrier (owed_now class c) cells numbers (tree.Ptr c) None [] (seen ++ at_it class c ∷ []) names' depth fs t
       (within_passed code table h own limit seen depth fs t (parts_of s) (at_it class c) (λ a j l. silent a h j (at_it class c) tt) w)
       (none_found order (fetched ++ os) h (seen ++ at_it class c ∷ []) names' cells numbers s.max_at (length s.nodes) [] told')
       told'
@@ -182,11 +195,12 @@ module _ (order : Order) (fetched os : List ℕ) (code : List Instr) (values : L
       ∙ piece_fetched order fetched os [] (entry_of class c) (sym size)
 
   abbrev Right : Outcome → Type 0
-  Right o = IsRight order (fetched ++ os) code table h own limit target s.at seen o
+  Right o = IsRight order (fetched ++ os) code table h own limit (noted ++ news) target s.at seen o
 
   told_silent : (class : Class) (c : Option ℕ) → ((u to' : ℕ) → 0 < u → other_pointee (Number class to.0 c) to' && eqb v u ≡ false)
-      → Told order (fetched ++ os) h (seen ++ at_it class c ∷ []) names s.cells s.numbers s.max_at (length s.nodes) []
+      → Told (noted ++ news) order (fetched ++ os) h (seen ++ at_it class c ∷ []) names s.cells s.numbers s.max_at (length s.nodes) []
   told_silent class c f = record {
+    noted_are = noted_with class c;
     cells_are = told.cells_are;
     numbers_are = λ u p. known_joined order fetched os seen names (at_it class c) told.lie_within u
         (λ to'. ap (λ xs. other_pointee (Number class to.0 c) to' && eqb (unsigned order xs) u) (own_piece class c) ∙ f u to' p) (known u s.numbers) (told.numbers_are u p);
@@ -315,8 +329,9 @@ module _ (order : Order) (fetched os : List ℕ) (code : List Instr) (values : L
       -- the state's account with this entry
       told_with : (c : Option ℕ) (names' : Names) (cells : List ℕ) (numbers : List (ℕ × Known)) → cells ≡ map (λ r. r.of) names'.cells
           → ((u : ℕ) → 0 < u → IsKnownAs order (fetched ++ os) (seen ++ at_it Full c ∷ []) names' u (known u numbers))
-          → Told order (fetched ++ os) h (seen ++ at_it Full c ∷ []) names' cells numbers s.max_at (length s.nodes) []
+          → Told (noted ++ news) order (fetched ++ os) h (seen ++ at_it Full c ∷ []) names' cells numbers s.max_at (length s.nodes) []
       told_with c names' cells numbers ec ks = record {
+        noted_are = noted_with Full c;
         cells_are = ec;
         numbers_are = ks;
         ahead = λ a j. tested_passed seen (at_it Full c) a h (length s.nodes + j) (silent a h (length s.nodes + j) (at_it Full c) tt) ∙ told.ahead a j;

@@ -1,6 +1,6 @@
 -- Counts: the offset and the actual count of a varying array and of a text, and a text's octets.
 use Rattle.std.proofs.Common.{◌≡◌, ◌≤◌, ◌<◌, ◌⊎◌, inl, inr, ℕ, ◌+◌, zero, suc, Bool, true, false, List, [], ◌∷◌, ◌++◌, length, Option, Some, None, refl, ap, ap₂, sym, ◌∙◌, subst, arith, append_assoc, length-append, map}
-use Rattle.std.specs.Prelude.{◌-◌, not, eqb, ltb, take, replicate, if◌then◌else◌, ◌≢◌}
+use Rattle.std.specs.Prelude.{pos, ◌-◌, not, eqb, ltb, take, replicate, if◌then◌else◌, ◌≢◌}
 use Rattle.std.proofs.lemmas.List.{append-nil, length-replicate}
 use Rattle.nd_base.specs.declared.octets.Order.{Order}
 use Rattle.nd_base.specs.declared.TheConstants.{STREAM_LIMIT}
@@ -12,6 +12,8 @@ use Rattle.nd_types.specs.declared.types.TypeId.{TypeId}
 use Rattle.nd_types.specs.Number.{unsigned}
 use Rattle.nd_types.specs.Table.{Table, type_at}
 use Rattle.nd_value.specs.declared.item.Home.{Home}
+use Rattle.nd_value.specs.declared.item.Item.{Item}
+use Rattle.nd_value.specs.declared.item.ItemKind.TheVariants as item
 use Rattle.nd_value.specs.Tree as tree
 use Rattle.nd_value.specs.Tree.{Tree, Trees, node, none, more}
 use Rattle.nd_grammar.specs.declared.reason.Reason.{Reason}
@@ -34,7 +36,8 @@ use Rattle.ndr_reading.proofs.HomePointers.{of_text}
 use Rattle.ndr_steps.specs.Spots.{IsFine, IsPlanned, body_run, at_ret}
 use Rattle.ndr_steps.specs.Steps.{State, Outcome, goes, refused, begun, offset_read, count_read, past, elements, with_node, vary_by, text_by, text_done, limit_of, offset_before, counts_at}
 use Rattle.ndr_steps.specs.Good.{Told, IsRight, owed}
-use Rattle.ndr_steps.proofs.Passing.{onward, no_less, later_node, told_counted, told_passed, silent, judged, taken_it, lies_it, Change}
+use Rattle.ndr_steps.specs.StepItems.{item_here, next_item, count_items}
+use Rattle.ndr_steps.proofs.Passing.{items_it, onward, no_less, later_node, told_counted, told_passed, silent, judged, taken_it, lies_it, Change}
 use Rattle.ndr_steps.proofs.Arriving.{Within, parts_of, within_passed, plain_good}
 use Rattle.ndr_steps.proofs.Adding.{leaf_good, none_found, no_pointer, stop_by, Stops}
 use Rattle.ndr_steps.proofs.ArraySteps.{elements_right}
@@ -115,9 +118,9 @@ not_none None s e = refl
 not_none (Some zero) s e = absurd (e refl)
 not_none (Some (suc n)) s e = refl
 
-module _ (order : Order) (fetched os : List ℕ) (code : List Instr) (values : List EnumList) (table : Table) (h : Home) (own limit : ℕ) (target : List ℕ → Read) (planned : IsPlanned code values table) where
-  abbrev Right : ℕ → List EntryAt → Outcome → Type 0
-  Right at seen o = IsRight order (fetched ++ os) code table h own limit target at seen o
+module _ (order : Order) (fetched os : List ℕ) (code : List Instr) (values : List EnumList) (table : Table) (h : Home) (own limit : ℕ) (noted : List Item) (target : List ℕ → Read) (planned : IsPlanned code values table) where
+  abbrev Right : List Item → ℕ → List EntryAt → Outcome → Type 0
+  Right news at seen o = IsRight order (fetched ++ os) code table h own limit (noted ++ news) target at seen o
 
   module _ (s : State) (k : ℕ) (fs : List Around) (seen : List EntryAt) (names : Names) (t : ℕ) (fine : IsFine table (suc k) t) (w : Within code table h own limit seen (suc k) fs t (parts_of s)) (reached : length fetched ≡ s.at)
     where
@@ -144,18 +147,19 @@ module _ (order : Order) (fetched os : List ℕ) (code : List Instr) (values : L
 
         -- the offset of a varying array
         pub offset_right : (elem : TypeId) (bound : Option ℕ) → type_at table t ≡ Some (def.Array elem bound true) → IsRunAt code s.pc (body_run code table t (def.Array elem bound true))
-            → Told order fetched h seen names s.cells s.numbers s.max_at (length s.nodes) []
+            → Told noted order fetched h seen names s.cells s.numbers s.max_at (length s.nodes) []
             → ((later : List ℕ) → finish order (fetched ++ later) table h s.max (suc k) fs
             (read_at order (fetched ++ later) table h s.max (suc k) (opened t (def.Array elem bound true)) n (going s.at seen) names) ≡ target (fetched ++ later))
-            → Right s.at seen (goes (past 4 (offset_read v) s))
+            → Right (count_items order h os item.Offset s) s.at seen (goes (past 4 (offset_read v) s))
         offset_right elem bound et run told rest =
             let x : EntryAt = entry_of (Offset false v) in
-            let told' : Told order (fetched ++ os) h (seen ++ x ∷ []) names s.cells s.numbers s.max_at (length s.nodes) (offset_before (s.at + 4) ∷ []) =
-            subst (λ j. Told order (fetched ++ os) h (seen ++ x ∷ []) names s.cells s.numbers s.max_at j (offset_before (s.at + 4) ∷ [])) (sym same_count)
-            (told_counted order fetched os h s.at (Offset false v) seen names s.cells s.numbers s.max_at n [] (offset_before (s.at + 4) ∷ []) refl tt
+            let told' : Told (noted ++ count_items order h os item.Offset s) order (fetched ++ os) h (seen ++ x ∷ []) names s.cells s.numbers s.max_at (length s.nodes) (offset_before (s.at + 4) ∷ []) =
+            subst (λ j. Told (noted ++ count_items order h os item.Offset s) order (fetched ++ os) h (seen ++ x ∷ []) names s.cells s.numbers s.max_at j (offset_before (s.at + 4) ∷ [])) (sym same_count)
+            (told_counted order fetched os h s.at (Offset false v) seen names s.cells s.numbers s.max_at n [] (offset_before (s.at + 4) ∷ []) (count_items order h os item.Offset s)
+                (items_it order fetched os [] s.at reached x.entry seen (sym size) ∙ ap (λ j. item_here h s.at item.Offset 4 (pos v) j ∷ []) (sym same_count)) refl tt
             (lies_it order fetched os [] s.at reached x.entry seen (sym size)) (after_offset s.max_at false v s.at)
-            (subst (λ j. Told order fetched h seen names s.cells s.numbers s.max_at j []) same_count told)) in
-            plain_good order (fetched ++ os) code table h own limit target (at_offset t (def.Array elem bound true) (bound_or bound s.max) elem.0 v) tt (past 4 (offset_read v) s) (suc k) fs (seen ++ x ∷ []) names
+            (subst (λ j. Told noted order fetched h seen names s.cells s.numbers s.max_at j []) same_count told)) in
+            plain_good order (fetched ++ os) code table h own limit (noted ++ count_items order h os item.Offset s) target (at_offset t (def.Array elem bound true) (bound_or bound s.max) elem.0 v) tt (past 4 (offset_read v) s) (suc k) fs (seen ++ x ∷ []) names
             (counted_within (Offset false v) refl) (fine, (elem, bound, refl, et, refl, refl, run)) refl tt (let r : length (fetched ++ os) ≡ s.at + 4 = further 4 size in omega (arith, r)) tt told'
             (λ later.
             let octets : List ℕ = (fetched ++ os) ++ later in
@@ -169,10 +173,10 @@ module _ (order : Order) (fetched os : List ℕ) (code : List Instr) (values : L
 
         -- its actual count
         pub count_right : (elem : TypeId) (bound : Option ℕ) (max o : ℕ) → type_at table t ≡ Some (def.Array elem bound true) → IsFine table k elem.0 → IsRunAt code (s.pc + 1) (op.Ret ∷ [])
-            → Told order fetched h seen names s.cells s.numbers s.max_at (length s.nodes) (offset_before s.at ∷ [])
+            → Told noted order fetched h seen names s.cells s.numbers s.max_at (length s.nodes) (offset_before s.at ∷ [])
             → ((later : List ℕ) → finish order (fetched ++ later) table h s.max (suc k) fs
             (read_at order (fetched ++ later) table h s.max (suc k) (at_offset t (def.Array elem bound true) max elem.0 o) n (going s.at seen) names) ≡ target (fetched ++ later))
-            → Right s.at seen (vary_by values order os (offset_read o) max (place_at table elem.0) s)
+            → Right (count_items order h os item.Actual s) s.at seen (vary_by values order os (offset_read o) max (place_at table elem.0) s)
         count_right elem bound max o et inner run told rest = by_test (ltb max (o + v)) refl
           where
             x : EntryAt
@@ -188,19 +192,20 @@ module _ (order : Order) (fetched os : List ℕ) (code : List Instr) (values : L
                 (read_at order ((fetched ++ os) ++ later) table h s.max (suc k) (at_offset t (def.Array elem bound true) max elem.0 o) n (going s.at seen) names) ≡ target ((fetched ++ os) ++ later)
             on_it = onward fetched os (λ u. finish order u table h s.max (suc k) fs (read_at order u table h s.max (suc k) (at_offset t (def.Array elem bound true) max elem.0 o) n (going s.at seen) names) ≡ target u) rest
 
-            told' : Told order (fetched ++ os) h (seen ++ x ∷ []) names s.cells s.numbers s.max_at (length s.nodes) (counts_at s.at ∷ [])
+            told' : Told (noted ++ count_items order h os item.Actual s) order (fetched ++ os) h (seen ++ x ∷ []) names s.cells s.numbers s.max_at (length s.nodes) (counts_at s.at ∷ [])
             told' =
-                subst (λ j. Told order (fetched ++ os) h (seen ++ x ∷ []) names s.cells s.numbers s.max_at j (counts_at s.at ∷ [])) (sym same_count)
-                (told_counted order fetched os h s.at (Actual false o max v) seen names s.cells s.numbers s.max_at n (offset_before s.at ∷ []) (counts_at s.at ∷ []) refl tt
+                subst (λ j. Told (noted ++ count_items order h os item.Actual s) order (fetched ++ os) h (seen ++ x ∷ []) names s.cells s.numbers s.max_at j (counts_at s.at ∷ [])) (sym same_count)
+                (told_counted order fetched os h s.at (Actual false o max v) seen names s.cells s.numbers s.max_at n (offset_before s.at ∷ []) (counts_at s.at ∷ []) (count_items order h os item.Actual s)
+                (items_it order fetched os [] s.at reached x.entry seen (sym size) ∙ ap (λ j. item_here h s.at item.Actual 4 (pos v) j ∷ []) (sym same_count)) refl tt
                 (lies_it order fetched os [] s.at reached x.entry seen (sym size)) (after_count s.max_at false o max v s.at s.at refl)
-                (subst (λ j. Told order fetched h seen names s.cells s.numbers s.max_at j (offset_before s.at ∷ [])) same_count told))
+                (subst (λ j. Told noted order fetched h seen names s.cells s.numbers s.max_at j (offset_before s.at ∷ [])) same_count told))
 
             by_test : (b : Bool) → ltb max (o + v) ≡ b
-                → Right s.at seen (if b then refused s.at reason.PastBound else goes (elements v (place_at table elem.0) (with_node (tree.Arr max o, v) (Some s.at) (past 4 begun s))))
+                → Right (count_items order h os item.Actual s) s.at seen (if b then refused s.at reason.PastBound else goes (elements v (place_at table elem.0) (with_node (tree.Arr max o, v) (Some s.at) (past 4 begun s))))
             by_test true e = λ later.
                 (count_next order ((fetched ++ os) ++ later) table h k s.max fs n s.at seen names (target ((fetched ++ os) ++ later)) t max elem.0 o (def.Array elem bound true) (on_it later)) (s.at, reason.PastBound) (judge true e later 0)
             by_test false e =
-                elements_right order (fetched ++ os) code values table h own limit target planned (past 4 begun s) k fs (seen ++ x ∷ []) names t max o v elem bound true (Some s.at) (counts_at s.at ∷ []) et inner
+                elements_right order (fetched ++ os) code values table h own limit (noted ++ count_items order h os item.Actual s) target planned (past 4 begun s) k fs (seen ++ x ∷ []) names t max o v elem bound true (Some s.at) (counts_at s.at ∷ []) et inner
                 (counted_within (Actual false o max v) refl)
                 (none_found order (fetched ++ os) h (seen ++ x ∷ []) names s.cells s.numbers s.max_at (length s.nodes) (counts_at s.at ∷ []) told')
                 told' (further 4 size) run
@@ -215,10 +220,10 @@ module _ (order : Order) (fetched os : List ℕ) (code : List Instr) (values : L
 
         -- the offset of a text
         pub text_offset_right : (elem : TypeId) (bound : Option ℕ) (lim : ℕ) → type_at table t ≡ Some (def.Text elem bound) → bound ≢ Some 0 → IsRunAt code s.pc (body_run code table t (def.Text elem bound))
-            → Told order fetched h seen names s.cells s.numbers s.max_at (length s.nodes) []
+            → Told noted order fetched h seen names s.cells s.numbers s.max_at (length s.nodes) []
             → ((later : List ℕ) → finish order (fetched ++ later) table h s.max (suc k) fs
             (read_at order (fetched ++ later) table h s.max (suc k) (opened t (def.Text elem bound)) n (going s.at seen) names) ≡ target (fetched ++ later))
-            → Right s.at seen (text_by values order os begun lim s)
+            → Right (count_items order h os item.Offset s) s.at seen (text_by values order os begun lim s)
         text_offset_right elem bound lim et some_bound run told rest = by_test (eqb v 0) refl
           where
             x : EntryAt
@@ -233,18 +238,19 @@ module _ (order : Order) (fetched os : List ℕ) (code : List Instr) (values : L
                 (read_at order ((fetched ++ os) ++ later) table h s.max (suc k) (opened t (def.Text elem bound)) n (going s.at seen) names) ≡ target ((fetched ++ os) ++ later)
             on_it = onward fetched os (λ u. finish order u table h s.max (suc k) fs (read_at order u table h s.max (suc k) (opened t (def.Text elem bound)) n (going s.at seen) names) ≡ target u) rest
 
-            told' : Told order (fetched ++ os) h (seen ++ x ∷ []) names s.cells s.numbers s.max_at (length s.nodes) (offset_before (s.at + 4) ∷ [])
+            told' : Told (noted ++ count_items order h os item.Offset s) order (fetched ++ os) h (seen ++ x ∷ []) names s.cells s.numbers s.max_at (length s.nodes) (offset_before (s.at + 4) ∷ [])
             told' =
-                subst (λ j. Told order (fetched ++ os) h (seen ++ x ∷ []) names s.cells s.numbers s.max_at j (offset_before (s.at + 4) ∷ [])) (sym same_count)
-                (told_counted order fetched os h s.at (Offset true 0) seen names s.cells s.numbers s.max_at n [] (offset_before (s.at + 4) ∷ []) refl tt
+                subst (λ j. Told (noted ++ count_items order h os item.Offset s) order (fetched ++ os) h (seen ++ x ∷ []) names s.cells s.numbers s.max_at j (offset_before (s.at + 4) ∷ [])) (sym same_count)
+                (told_counted order fetched os h s.at (Offset true 0) seen names s.cells s.numbers s.max_at n [] (offset_before (s.at + 4) ∷ []) (count_items order h os item.Offset s)
+                (items_it order fetched os [] s.at reached x.entry seen (sym size) ∙ ap (λ j. item_here h s.at item.Offset 4 (pos v) j ∷ []) (sym same_count)) refl tt
                 (lies_it order fetched os [] s.at reached x.entry seen (sym size)) (after_offset s.max_at true 0 s.at)
-                (subst (λ j. Told order fetched h seen names s.cells s.numbers s.max_at j []) same_count told))
+                (subst (λ j. Told noted order fetched h seen names s.cells s.numbers s.max_at j []) same_count told))
 
-            by_test : (b : Bool) → eqb v 0 ≡ b → Right s.at seen (if b then goes (past 4 (offset_read 0) s) else refused s.at reason.TextOffset)
+            by_test : (b : Bool) → eqb v 0 ≡ b → Right (count_items order h os item.Offset s) s.at seen (if b then goes (past 4 (offset_read 0) s) else refused s.at reason.TextOffset)
             by_test false e = λ later.
                 (text_offset_next order ((fetched ++ os) ++ later) table h k s.max fs n s.at seen names (target ((fetched ++ os) ++ later)) t elem bound (on_it later)) (s.at, reason.TextOffset) (judge false e later)
             by_test true e =
-                plain_good order (fetched ++ os) code table h own limit target (text_offset t (bound_or bound s.max)) tt (past 4 (offset_read 0) s) (suc k) fs (seen ++ x ∷ []) names
+                plain_good order (fetched ++ os) code table h own limit (noted ++ count_items order h os item.Offset s) target (text_offset t (bound_or bound s.max)) tt (past 4 (offset_read 0) s) (suc k) fs (seen ++ x ∷ []) names
                 (counted_within (Offset true 0) refl) (fine, (elem, bound, et, some_bound, refl, run)) refl tt (let r : length (fetched ++ os) ≡ s.at + 4 = further 4 size in omega (arith, r)) tt told'
                 (λ later.
                 let octets : List ℕ = (fetched ++ os) ++ later in
@@ -255,10 +261,10 @@ module _ (order : Order) (fetched os : List ℕ) (code : List Instr) (values : L
 
         -- its actual count
         pub text_count_right : (elem : TypeId) (bound : Option ℕ) (max : ℕ) → type_at table t ≡ Some (def.Text elem bound) → bound ≢ Some 0 → max ≡ bound_or bound s.max → IsRunAt code s.pc (body_run code table t (def.Text elem bound))
-            → Told order fetched h seen names s.cells s.numbers s.max_at (length s.nodes) (offset_before s.at ∷ [])
+            → Told noted order fetched h seen names s.cells s.numbers s.max_at (length s.nodes) (offset_before s.at ∷ [])
             → ((later : List ℕ) → finish order (fetched ++ later) table h s.max (suc k) fs
             (read_at order (fetched ++ later) table h s.max (suc k) (text_offset t max) n (going s.at seen) names) ≡ target (fetched ++ later))
-            → Right s.at seen (text_by values order os (offset_read 0) max s)
+            → Right (count_items order h os item.Actual s) s.at seen (text_by values order os (offset_read 0) max s)
         text_count_right elem bound max et some_bound em run told rest = by_zero (eqb v 0) refl
           where
             x : EntryAt
@@ -277,20 +283,21 @@ module _ (order : Order) (fetched os : List ℕ) (code : List Instr) (values : L
                 (read_at order ((fetched ++ os) ++ later) table h s.max (suc k) (text_offset t max) n (going s.at seen) names) ≡ target ((fetched ++ os) ++ later)
             on_it = onward fetched os (λ u. finish order u table h s.max (suc k) fs (read_at order u table h s.max (suc k) (text_offset t max) n (going s.at seen) names) ≡ target u) rest
 
-            told' : Told order (fetched ++ os) h (seen ++ x ∷ []) names s.cells s.numbers s.max_at (length s.nodes) (counts_at (s.at + 4 - 4) ∷ [])
+            told' : Told (noted ++ count_items order h os item.Actual s) order (fetched ++ os) h (seen ++ x ∷ []) names s.cells s.numbers s.max_at (length s.nodes) (counts_at (s.at + 4 - 4) ∷ [])
             told' =
-                subst (λ j. Told order (fetched ++ os) h (seen ++ x ∷ []) names s.cells s.numbers s.max_at j (counts_at (s.at + 4 - 4) ∷ [])) (sym same_count)
-                (told_counted order fetched os h s.at (Actual true 0 max (v - 1 + 1)) seen names s.cells s.numbers s.max_at n (offset_before s.at ∷ []) (counts_at (s.at + 4 - 4) ∷ []) refl tt
+                subst (λ j. Told (noted ++ count_items order h os item.Actual s) order (fetched ++ os) h (seen ++ x ∷ []) names s.cells s.numbers s.max_at j (counts_at (s.at + 4 - 4) ∷ [])) (sym same_count)
+                (told_counted order fetched os h s.at (Actual true 0 max (v - 1 + 1)) seen names s.cells s.numbers s.max_at n (offset_before s.at ∷ []) (counts_at (s.at + 4 - 4) ∷ []) (count_items order h os item.Actual s)
+                (items_it order fetched os [] s.at reached x.entry seen (sym size) ∙ ap (λ j. item_here h s.at item.Actual 4 (pos v) j ∷ []) (sym same_count)) refl tt
                 (lies_it order fetched os [] s.at reached x.entry seen (sym size)) (after_count s.max_at true 0 max (v - 1 + 1) s.at (s.at + 4 - 4) (back_four s.at))
-                (subst (λ j. Told order fetched h seen names s.cells s.numbers s.max_at j (offset_before s.at ∷ [])) same_count told))
+                (subst (λ j. Told noted order fetched h seen names s.cells s.numbers s.max_at j (offset_before s.at ∷ [])) same_count told))
 
             stops_it : (later : List ℕ) (why : ℕ × Reason) → refusal order ((fetched ++ os) ++ later) seen (entry_of (Actual true 0 max 0)) ≡ Some why → (target ((fetched ++ os) ++ later)).progress ≡ stopped s.at seen why
             stops_it later = text_count_next order ((fetched ++ os) ++ later) table h k s.max fs n s.at seen names (target ((fetched ++ os) ++ later)) t max (on_it later)
 
-            by_bound : (b : Bool) → eqb v 0 ≡ false → ltb max v ≡ b → Right s.at seen (if b then refused s.at reason.PastBound else goes (past 4 (count_read (v - 1)) s))
+            by_bound : (b : Bool) → eqb v 0 ≡ false → ltb max v ≡ b → Right (count_items order h os item.Actual s) s.at seen (if b then refused s.at reason.PastBound else goes (past 4 (count_read (v - 1)) s))
             by_bound true z e = λ later. stops_it later (s.at, reason.PastBound) (judge false true z e later 0)
             by_bound false z e =
-                plain_good order (fetched ++ os) code table h own limit target (text_counted t max (v - 1)) tt (past 4 (count_read (v - 1)) s) (suc k) fs (seen ++ x ∷ []) names
+                plain_good order (fetched ++ os) code table h own limit (noted ++ count_items order h os item.Actual s) target (text_counted t max (v - 1)) tt (past 4 (count_read (v - 1)) s) (suc k) fs (seen ++ x ∷ []) names
                 (counted_within (Actual true 0 max (v - 1 + 1)) refl) (fine, (elem, bound, et, some_bound, em, run)) refl tt (let r : length (fetched ++ os) ≡ s.at + 4 = further 4 size in omega (arith, r)) tt told'
                 (λ later.
                 let octets : List ℕ = (fetched ++ os) ++ later in
@@ -301,17 +308,17 @@ module _ (order : Order) (fetched os : List ℕ) (code : List Instr) (values : L
                 ∙ on_it later)
 
             by_zero : (b : Bool) → eqb v 0 ≡ b
-                → Right s.at seen (if b then refused s.at reason.TextEmpty else (if ltb max v then refused s.at reason.PastBound else goes (past 4 (count_read (v - 1)) s)))
+                → Right (count_items order h os item.Actual s) s.at seen (if b then refused s.at reason.TextEmpty else (if ltb max v then refused s.at reason.PastBound else goes (past 4 (count_read (v - 1)) s)))
             by_zero true e = λ later. stops_it later (s.at, reason.TextEmpty) (judge true (ltb max v) e refl later 0)
             by_zero false e = by_bound (ltb max v) e refl
 
       -- its octets
       pub text_right : (elem : TypeId) (bound : Option ℕ) (max c : ℕ) → type_at table t ≡ Some (def.Text elem bound) → IsRunAt code (s.pc + 1) (op.Ret ∷ [])
           → length os ≡ c + 1 → s.at + (c + 1) ≤ STREAM_LIMIT
-          → Told order fetched h seen names s.cells s.numbers s.max_at (length s.nodes) (counts_at (s.at - 4) ∷ [])
+          → Told noted order fetched h seen names s.cells s.numbers s.max_at (length s.nodes) (counts_at (s.at - 4) ∷ [])
           → ((later : List ℕ) → finish order (fetched ++ later) table h s.max (suc k) fs
           (read_at order (fetched ++ later) table h s.max (suc k) (text_counted t max c) n (going s.at seen) names) ≡ target (fetched ++ later))
-          → Right s.at seen (text_by values order os (count_read c) max s)
+          → Right (next_item h s item.Text (length os) (pos (length os)) ∷ []) s.at seen (text_by values order os (count_read c) max s)
       text_right elem bound max c et run size short told rest = by_refusal (text_refusal s.at os) refl
         where
           zeros : List ℕ
@@ -345,13 +352,14 @@ module _ (order : Order) (fetched os : List ℕ) (code : List Instr) (values : L
               (read_at order ((fetched ++ os) ++ later) table h s.max (suc k) (text_counted t max c) n (going s.at seen) names) ≡ target ((fetched ++ os) ++ later)
           on_it = onward fetched os (λ u. finish order u table h s.max (suc k) fs (read_at order u table h s.max (suc k) (text_counted t max c) n (going s.at seen) names) ≡ target u) rest
 
-          by_refusal : (r : Option (ℕ × Reason)) → text_refusal s.at os ≡ r → Right s.at seen (text_done r max os s)
+          by_refusal : (r : Option (ℕ × Reason)) → text_refusal s.at os ≡ r → Right (next_item h s item.Text (length os) (pos (length os)) ∷ []) s.at seen (text_done r max os s)
           by_refusal (Some why) e = λ later.
               (text_next order ((fetched ++ os) ++ later) table h k s.max fs n s.at seen names (target ((fetched ++ os) ++ later)) t max c (on_it later)) why (judge (Some why) e later zeros zeros_size)
           by_refusal None e =
-              let told' : Told order (fetched ++ os) h (seen ++ x ∷ []) names s.cells s.numbers s.max_at (length s.nodes) (counts_at (s.at - 4) ∷ []) =
-              told_passed order fetched os h seen names s.cells s.numbers s.max_at (length s.nodes) (counts_at (s.at - 4) ∷ []) x tt tt (lies_it order fetched os [] s.at reached x.entry seen text_size) told in
-              leaf_good order (fetched ++ os) code table h own limit target (parts_of s) (s.pc + 1) (s.at + length os) s.max s.tag s.carrier s.fresh s.cells s.numbers (tree.Text max text) (Some (s.at - 4)) (counts_at (s.at - 4) ∷ []) (seen ++ x ∷ []) names (suc k) fs t
+              let told' : Told (noted ++ next_item h s item.Text (length os) (pos (length os)) ∷ []) order (fetched ++ os) h (seen ++ x ∷ []) names s.cells s.numbers s.max_at (length s.nodes) (counts_at (s.at - 4) ∷ []) =
+              told_passed (next_item h s item.Text (length os) (pos (length os)) ∷ []) order fetched os h seen names s.cells s.numbers s.max_at (length s.nodes) (counts_at (s.at - 4) ∷ []) x
+              (items_it order fetched os [] s.at reached x.entry seen text_size ∙ ap₂ (λ l j. item_here h s.at item.Text l (pos (length os)) j ∷ []) text_size (sym same_count)) tt tt (lies_it order fetched os [] s.at reached x.entry seen text_size) told in
+              leaf_good order (fetched ++ os) code table h own limit (noted ++ next_item h s item.Text (length os) (pos (length os)) ∷ []) target (parts_of s) (s.pc + 1) (s.at + length os) s.max s.tag s.carrier s.fresh s.cells s.numbers (tree.Text max text) (Some (s.at - 4)) (counts_at (s.at - 4) ∷ []) (seen ++ x ∷ []) names (suc k) fs t
               (within_passed code table h own limit seen (suc k) fs t (parts_of s) x (λ a j l. silent a h j x tt) w)
               (none_found order (fetched ++ os) h (seen ++ x ∷ []) names s.cells s.numbers s.max_at (length s.nodes) (counts_at (s.at - 4) ∷ []) told')
               told'

@@ -10,6 +10,8 @@ use Rattle.nd_types.specs.declared.types.TypeDef.TheVariants as def
 use Rattle.nd_types.specs.Kinds.{basic_types}
 use Rattle.nd_types.specs.Layout.{align_of, hoists}
 use Rattle.nd_value.specs.declared.item.Home.{Home}
+use Rattle.nd_value.specs.declared.item.Item.{Item}
+use Rattle.nd_value.specs.declared.item.ItemKind.TheVariants as item
 use Rattle.nd_value.specs.Tree as tree
 use Rattle.nd_grammar.specs.Reader.{Names, Read, read_whole}
 use Rattle.nd_grammar.specs.Refusal.{tested_at}
@@ -83,6 +85,10 @@ module _ (h : Home) where
   abbrev target : List ℕ → Read
   target octets = read_whole Little octets basic_types h 5 (going 0 []) no_names
 
+  -- two octets at the place 0, of the home's first node
+  abbrev short_item : List Item
+  short_item = record { at = 0; len = 2; kind = item.Num; home = h; node = 0; value = pos 258 } ∷ []
+
   nothing_found : (a : Attr) (j : ℕ) → tested_at [] a h (0 + j) ≡ place_of a None no_place
   nothing_found attr.Size j = refl
   nothing_found attr.Max j = refl
@@ -91,7 +97,7 @@ module _ (h : Home) where
   nothing_found attr.Last j = refl
   nothing_found attr.Switch j = refl
 
-  begins : IsBegun Little [] h [] no_names at_first
+  begins : IsBegun [] Little [] h [] no_names at_first
   begins = record {
     phase = refl;
     max = refl;
@@ -103,25 +109,25 @@ module _ (h : Home) where
     firsts = refl;
     fresh = refl;
     reached = refl;
-    told = record { cells_are = refl; numbers_are = λ v p. (refl, λ to. refl); ahead = nothing_found; lie_within = tt };
+    told = record { noted_are = refl; cells_are = refl; numbers_are = λ v p. (refl, λ to. refl); ahead = nothing_found; lie_within = tt };
   }
 
-  good_first : Good Little [] code basic_types h 5 32 target at_first
-  good_first = begins_plain Little [] code values basic_types h 5 plan at_first [] no_names fine begins not_hoisting refl
+  good_first : Good Little [] code basic_types h 5 32 [] target at_first
+  good_first = begins_plain Little [] code values basic_types h 5 [] plan at_first [] no_names fine begins not_hoisting refl
 
-  good_after_gap : Good Little [] code basic_types h 5 32 target after_gap
-  good_after_gap = step_right Little [] [] code values basic_types h 5 32 target plan at_first good_first (op.Align 2) (first_at code (place_at basic_types 5) (op.Align 2) (op.Num (id 5) ∷ op.Ret ∷ []) run) refl
+  good_after_gap : Good Little [] code basic_types h 5 32 [] target after_gap
+  good_after_gap = step_right Little [] [] code values basic_types h 5 32 [] target plan at_first good_first (op.Align 2) (first_at code (place_at basic_types 5) (op.Align 2) (op.Num (id 5) ∷ op.Ret ∷ []) run) refl
 
   run_short : IsRunAt code (place_at basic_types 5 + 1) (op.Num (id 5) ∷ op.Ret ∷ [])
   run_short = next_at code (place_at basic_types 5) (op.Align 2) (op.Num (id 5) ∷ op.Ret ∷ []) run
 
-  good_after_short : Good Little (2 ∷ 1 ∷ []) code basic_types h 5 32 target after_short
+  good_after_short : Good Little (2 ∷ 1 ∷ []) code basic_types h 5 32 short_item target after_short
   good_after_short =
-      step_right Little [] (2 ∷ 1 ∷ []) code values basic_types h 5 32 target plan after_gap good_after_gap (op.Num (id 5))
+      step_right Little [] (2 ∷ 1 ∷ []) code values basic_types h 5 32 [] target plan after_gap good_after_gap (op.Num (id 5))
       (first_at code (place_at basic_types 5 + 1) (op.Num (id 5)) (op.Ret ∷ []) run_short) (refl, lit≤ tt)
 
-  -- after the octets 2 and 1 the value is 258
-  pub short_is_read : Whole Little (2 ∷ 1 ∷ []) basic_types h 5 target after_short
+  -- after the octets 2 and 1 the value is 258, and the only item is the short
+  pub short_is_read : Whole Little (2 ∷ 1 ∷ []) basic_types h 5 short_item target after_short
   short_is_read =
-      step_right Little (2 ∷ 1 ∷ []) [] code values basic_types h 5 32 target plan after_short good_after_short op.Ret
+      step_right Little (2 ∷ 1 ∷ []) [] code values basic_types h 5 32 short_item target plan after_short good_after_short op.Ret
       (first_at code (place_at basic_types 5 + 1 + 1) op.Ret [] (next_at code (place_at basic_types 5 + 1) (op.Num (id 5)) (op.Ret ∷ []) run_short)) refl

@@ -2,8 +2,8 @@
 ghost use Rattle.std.specs.Prelude.{◌≡◌, ◌<◌, ◌+◌, ◌^◌, ◌++◌, ◌∷◌, [], length, OnOk, IfErr};
 ghost use Rattle.nd_flat.specs.FlatForm.{flat_seen, IsKeepable, text_of};
 ghost use Rattle.ndr_steps.specs.Steps.{first_of, with_node};
-ghost use Rattle.ndr_machine.specs.Seen.{state_of};
-ghost use Rattle.ndr_machine.specs.declared.fault.DecodeFault.TheVariants as fault;
+ghost use Rattle.ndr_state.specs.Seen.{state_of};
+ghost use Rattle.ndr_state.specs.declared.fault.DecodeFault.TheVariants as fault;
 
 use crate::{DecodeFault, Machine};
 use nd_flat::Seen;
@@ -11,7 +11,7 @@ use ndr_steps::{First, Frame};
 
 impl Machine {
     // Adds a node. `place` is where its actual count or its tag is, if it has one.
-    pub(crate) fn add(&mut self, node: &Seen<'_>, place: Option<u32>) -> Result<(), DecodeFault>
+    pub fn add(&mut self, node: &Seen<'_>, place: Option<u32>) -> Result<(), DecodeFault>
         requires keepable { IsKeepable (flat_seen node.now).0 }
         requires short { length (text_of (flat_seen node.now).0) + 1 < 2 ^ 32 }
         requires few { self.old.count + 1 < 2 ^ 32 }
@@ -65,8 +65,8 @@ impl Machine {
 }
 
 ghost use Rattle.ndr_steps.specs.Steps.{with_members};
-ghost use Rattle.ndr_machine.specs.Parts.{kept};
-ghost use Rattle.ndr_machine.specs.Small.{IsSmall};
+ghost use Rattle.ndr_state.specs.Parts.{kept};
+ghost use Rattle.ndr_state.specs.Small.{IsSmall};
 
 // What agreements find in a node.
 fn first_seen(node: &Seen<'_>, place: Option<u32>) -> First

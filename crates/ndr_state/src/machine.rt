@@ -2,7 +2,7 @@
 ghost use Rattle.std.specs.Prelude.{◌≡◌, ◌≤◌, ◌+◌, length};
 ghost use Rattle.std.specs.List.{AllByRecursion};
 ghost use Rattle.nd_flat.specs.FlatForm.{IsKeepableNumber};
-ghost use Rattle.ndr_machine.specs.Small.{IsSmall};
+ghost use Rattle.ndr_state.specs.Small.{IsSmall};
 
 use nd_flat::Builder;
 use nd_types::{Attr, Class, Prim, TypeId};

@@ -13,7 +13,7 @@ use ndr_prim::read_num;
 use uuid::Uuid;
 
 // The value that the octets of a primitive hold: a node can keep it.
-pub(crate) fn read_value(order: Order, prim: Prim, octets: &[u8]) -> i128
+pub fn read_value(order: Order, prim: Prim, octets: &[u8]) -> i128
     requires wide { length octets.now ≡ width prim }
     ensures value { result ≡ value_of_octets order prim octets.now }
     ensures keepable { IsKeepableNumber result }
@@ -34,7 +34,7 @@ pub fn read_count(order: Order, from: &[u8]) -> u32
 }
 
 // The identifier of a context handle in 16 octets.
-pub(crate) fn identifier(order: Order, from: &[u8]) -> Uuid
+pub fn identifier(order: Order, from: &[u8]) -> Uuid
     requires { length from.now ≡ 16 }
     ensures { result ≡ identifier order from.now from.now }
 {
@@ -59,7 +59,7 @@ pub fn gap_before(at: u32, to: u8) -> u32
 }
 
 // The primitive of a type's number.
-pub(crate) fn prim_of(of: u32) -> Prim
+pub fn prim_of(of: u32) -> Prim
     ensures { result ≡ prim_of of }
 {
     match of {

@@ -1,16 +1,16 @@
 // Runs, frames and structs.
 ghost use Rattle.std.specs.Prelude.{◌≡◌, ◌<◌, ◌+◌, ◌^◌, OnOk, IfErr, Ok};
 ghost use Rattle.ndr_steps.specs.Steps.{goes, done_after, next, pushed, popped, call_from, back_to, close_of};
-ghost use Rattle.ndr_machine.specs.Seen.{state_of, Does, Comes};
-ghost use Rattle.ndr_machine.specs.declared.fault.DecodeFault.TheVariants as fault;
+ghost use Rattle.ndr_state.specs.Seen.{state_of, Does, Comes};
+ghost use Rattle.ndr_state.specs.declared.fault.DecodeFault.TheVariants as fault;
 
-use crate::{DecodeFault, Machine, Phase, Turn};
+use crate::{DecodeFault, Machine, Phase, Progress};
 use nd_flat::Seen;
 use ndr_steps::{Frame, Member};
 
 impl Machine {
     // Goes past octets to the next instruction.
-    pub(crate) fn pass(&mut self, len: u32)
+    pub fn pass(&mut self, len: u32)
         requires code { self.old.pc < 2 ^ 32 }
         requires few { self.old.at + len < 2 ^ 32 }
         ensures is { state_of self.new ≡ done_after len (state_of self.old) }
@@ -23,7 +23,7 @@ impl Machine {
     }
 
     // Goes to an instruction.
-    pub(crate) fn jump(&mut self, to: usize)
+    pub fn jump(&mut self, to: usize)
         ensures is { state_of self.new ≡ jumped to (state_of self.old) }
         ensures count { self.new.count ≡ self.old.count }
         ensures home { self.new.home ≡ self.old.home }
@@ -33,7 +33,7 @@ impl Machine {
     }
 
     // Goes to the next instruction.
-    pub(crate) fn skip(&mut self)
+    pub fn skip(&mut self)
         requires code { self.old.pc < 2 ^ 32 }
         ensures is { state_of self.new ≡ next (state_of self.old) }
         ensures count { self.new.count ≡ self.old.count }
@@ -43,7 +43,7 @@ impl Machine {
     }
 
     // Opens a frame around the value that is read next.
-    pub(crate) fn push(&mut self, frame: Frame) -> Result<(), DecodeFault>
+    pub fn push(&mut self, frame: Frame) -> Result<(), DecodeFault>
         ensures ok { OnOk result (state_of self.new ≡ pushed frame (state_of self.old)) }
         ensures count { self.new.count ≡ self.old.count }
         ensures home { self.new.home ≡ self.old.home }
@@ -58,7 +58,7 @@ impl Machine {
     }
 
     // Closes a frame.
-    pub(crate) fn pop(&mut self)
+    pub fn pop(&mut self)
         ensures is { state_of self.new ≡ popped (state_of self.old) }
         ensures count { self.new.count ≡ self.old.count }
         ensures home { self.new.home ≡ self.old.home }
@@ -70,7 +70,7 @@ impl Machine {
     }
 
     // `record`
-    pub(crate) fn record(&mut self, members: u32) -> Result<(), DecodeFault>
+    pub fn record(&mut self, members: u32) -> Result<(), DecodeFault>
         requires code { self.old.pc < 2 ^ 32 }
         requires few { self.old.count + 1 < 2 ^ 32 }
         ensures does { Does (goes (record_begun members (state_of self.old))) result (state_of self.new) }
@@ -84,7 +84,7 @@ impl Machine {
     }
 
     // `call`
-    pub(crate) fn call(&mut self, run: u32) -> Result<(), DecodeFault>
+    pub fn call(&mut self, run: u32) -> Result<(), DecodeFault>
         requires code { self.old.pc < 2 ^ 32 }
         ensures does { Does (goes (call_from self.old.top run (state_of self.old))) result (state_of self.new) }
         ensures home { self.new.home ≡ self.old.home }
@@ -125,7 +125,7 @@ impl Machine {
     }
 
     // `close`
-    pub(crate) fn close(&mut self)
+    pub fn close(&mut self)
         requires code { self.old.pc < 2 ^ 32 }
         ensures is { state_of self.new ≡ close_of self.old.top (state_of self.old) }
         ensures home { self.new.home ≡ self.old.home }
@@ -164,19 +164,19 @@ impl Machine {
     }
 
     // `ret`
-    pub(crate) fn ret(&mut self) -> Turn
+    pub fn ret(&mut self) -> Progress
         ensures does { Comes (back_to self.old.top (state_of self.old)) (Ok result) (state_of self.new) }
         ensures home { self.new.home ≡ self.old.home }
     {
         match self.top {
-            Frame::Home => Turn::Whole,
+            Frame::Home => Progress::Whole,
             Frame::Record { back, first: _ } => {
                 self.jump(back);
-                Turn::Goes
+                Progress::More
             }
             Frame::Elements { left, run, back } => {
                 self.next_element(left, run, back);
-                Turn::Goes
+                Progress::More
             }
         }
     }
@@ -201,4 +201,4 @@ impl Machine {
 }
 
 ghost use Rattle.ndr_steps.specs.Steps.{jumped};
-ghost use Rattle.ndr_machine.specs.Parts.{record_begun, record_closed, member_called, elements_frame};
+ghost use Rattle.ndr_state.specs.Parts.{record_begun, record_closed, member_called, elements_frame};

@@ -1,7 +1,7 @@
 // A machine before its first home, and at the beginning of each.
 ghost use Rattle.std.specs.Prelude.{◌≡◌, [], None};
-ghost use Rattle.ndr_machine.specs.Seen.{state_of};
-ghost use Rattle.ndr_machine.specs.Parts.{started};
+ghost use Rattle.ndr_state.specs.Seen.{state_of};
+ghost use Rattle.ndr_state.specs.Parts.{started};
 
 use crate::{Machine, Phase};
 use nd_flat::Builder;

@@ -1,6 +1,6 @@
 -- What contracts see of a machine, and what a step comes to.
--- `m` is a machine, `s` its state, `o` what a step comes to, `w` what octets it wants.
-use Rattle.std.specs.Prelude.{◌≡◌, ◌<◌, ℕ, ◌+◌, ◌*◌, ◌-◌, ◌^◌, min, ℤ, pos, Bool, if◌then◌else◌, ◌==◌, List, ◌++◌, length, take, drop, map, reverse, Option, Some, None, Result, Ok, Err, option_map}
+-- `m` is a machine, `s` its state, `o` what a step comes to.
+use Rattle.std.specs.Prelude.{◌≡◌, ℕ, ◌+◌, ◌*◌, ℤ, pos, Bool, if◌then◌else◌, ◌==◌, List, ◌++◌, length, take, drop, map, reverse, Option, Some, None, Result, Ok, Err, option_map}
 use Rattle.nd_grammar.specs.declared.reason.Reason.{Reason}
 use Rattle.nd_value.specs.Agreement.{Agreement}
 use Rattle.nd_value.specs.Logged.{Logged, noted}
@@ -9,18 +9,16 @@ use Rattle.nd_value.specs.declared.item.Item.{Item}
 use Rattle.nd_value.specs.declared.item.ItemKind.{ItemKind}
 use Rattle.nd_value.specs.declared.item.ItemKind.TheVariants as item
 use Rattle.ndr_steps.specs.Steps as steps
-use Rattle.ndr_steps.specs.Steps.{State, Outcome, goes, refused, whole, Want, no_octets, gap_of, item_of}
-use Rattle.ndr_machine.specs.declared.fault.DecodeFault.{DecodeFault}
-use Rattle.ndr_machine.specs.declared.fault.DecodeFault.TheVariants as fault
-use Rattle.ndr_machine.specs.declared.fault.Turn.{Turn}
-use Rattle.ndr_machine.specs.declared.fault.Turn.TheVariants as turn
-use Rattle.ndr_machine.specs.declared.machine.Machine.{Machine}
-use Rattle.ndr_machine.specs.declared.machine.Owed.{Owed}
-use Rattle.ndr_machine.specs.declared.machine.Wanted.{Wanted}
-use Rattle.ndr_machine.specs.declared.machine.Phase.{Phase}
-use Rattle.ndr_machine.specs.declared.machine.Phase.TheVariants as at
-use Rattle.ndr_machine.specs.declared.steps.Want as code
-use Rattle.ndr_machine.specs.declared.steps.Want.TheVariants as want
+use Rattle.ndr_steps.specs.Steps.{State, Outcome, goes, refused, whole}
+use Rattle.ndr_state.specs.declared.fault.DecodeFault.{DecodeFault}
+use Rattle.ndr_state.specs.declared.fault.DecodeFault.TheVariants as fault
+use Rattle.ndr_state.specs.declared.fault.Progress.{Progress}
+use Rattle.ndr_state.specs.declared.fault.Progress.TheVariants as progress
+use Rattle.ndr_state.specs.declared.machine.Machine.{Machine}
+use Rattle.ndr_state.specs.declared.machine.Owed.{Owed}
+use Rattle.ndr_state.specs.declared.machine.Wanted.{Wanted}
+use Rattle.ndr_state.specs.declared.machine.Phase.{Phase}
+use Rattle.ndr_state.specs.declared.machine.Phase.TheVariants as at
 
 -- ## The state
 
@@ -70,9 +68,9 @@ state_of m = record {
 -- ## Outcomes
 
 -- the machine did what this outcome says; out of memory says nothing
-abbrev pub Comes : Outcome → Result Turn DecodeFault → State → Type 0
-Comes o (Ok turn.Goes) s = o ≡ goes s
-Comes o (Ok turn.Whole) s = o ≡ whole s
+abbrev pub Comes : Outcome → Result Progress DecodeFault → State → Type 0
+Comes o (Ok progress.More) s = o ≡ goes s
+Comes o (Ok progress.Whole) s = o ≡ whole s
 Comes o (Err (fault.Bad place why)) s = o ≡ refused place why
 Comes o (Err fault.ReadFault) s = ⊥
 Comes o (Err fault.Memory) s = Unit {0}
@@ -83,12 +81,6 @@ Does o (Ok u) s = o ≡ goes s
 Does o (Err (fault.Bad place why)) s = o ≡ refused place why
 Does o (Err fault.ReadFault) s = ⊥
 Does o (Err fault.Memory) s = Unit {0}
-
--- The octets that a step wants: none are an empty gap. More than a number of 32 bits can say are too many for a stream.
-abbrev pub Wants : Want → code.Want → Type 0
-Wants no_octets w = w ≡ want.Gap 0
-Wants (gap_of n) w = w ≡ want.Gap n
-Wants (item_of n) w = w ≡ want.Item (min n (2 ^ 32 - 1))
 
 -- ## Items
 

@@ -21,7 +21,7 @@ pub enum DecodeFault {
 
 impl From<Memory> for DecodeFault {
     ghost use Rattle.std.specs.Prelude.{◌≡◌};
-    ghost use Rattle.ndr_machine.specs.declared.fault.DecodeFault.TheVariants as fault;
+    ghost use Rattle.ndr_state.specs.declared.fault.DecodeFault.TheVariants as fault;
 
     ghost from_gives = { λ _ e. e ≡ fault.Memory };
 
@@ -32,9 +32,9 @@ impl From<Memory> for DecodeFault {
 
 /// What a step that was not refused comes to.
 #[derive(Clone, Copy, Debug, PartialEq, Eq)]
-pub enum Turn {
+pub enum Progress {
     /// There is more of the value.
-    Goes,
+    More,
     /// The value of the home is whole.
     Whole,
 }

@@ -1,8 +1,8 @@
 // Items as they are read.
 ghost use Rattle.std.specs.Prelude.{◌≡◌, ◌+◌, ◌*◌, ◌<◌, ◌^◌, OnOk, OnErr, IfErr};
 ghost use Rattle.nd_value.specs.Logged.{noted, ticks_of};
-ghost use Rattle.ndr_machine.specs.Seen.{next_item, gap_noted, number_ahead};
-ghost use Rattle.ndr_machine.specs.declared.fault.DecodeFault.TheVariants as fault;
+ghost use Rattle.ndr_state.specs.Seen.{next_item, gap_noted, number_ahead};
+ghost use Rattle.ndr_state.specs.declared.fault.DecodeFault.TheVariants as fault;
 
 use crate::{DecodeFault, Machine};
 use nd_base::{Ledger, Steps};
@@ -57,7 +57,7 @@ impl Machine {
     }
 
     // Notes the number that comes so many numbers after the next one in a row.
-    pub(crate) fn note_ahead<L: Ledger>(
+    pub fn note_ahead<L: Ledger>(
         &self,
         ahead: u32,
         wide: u32,
@@ -86,7 +86,7 @@ impl Machine {
     }
 }
 
-ghost use Rattle.ndr_machine.specs.Seen.{item_node};
+ghost use Rattle.ndr_state.specs.Seen.{item_node};
 
 // The node of an item: a gap belongs to the home as a whole.
 fn node_of(kind: ItemKind, next: u32) -> u32

@@ -1,6 +1,6 @@
 use Rattle.std.proofs.Common.{rules, ◌≡◌, ◌<◌, ◌^◌, arith}
-use Rattle.ndr_machine.proofs.Values.{value_keepable}
-use Rattle.ndr_machine.proofs.octets.read_value.Goals as goal
+use Rattle.ndr_state.proofs.Values.{value_keepable}
+use Rattle.ndr_state.proofs.octets.read_value.Goals as goal
 
 pub returns-clause-keepable : goal.returns-clause-keepable
 returns-clause-keepable c =
