@@ -6,7 +6,8 @@ use nd_flat::Seen;
 use nd_types::Side;
 use nd_value::{Home, Item, ItemKind, ItemLog};
 use ndr_code::{Instr, Plan, PlanLine};
-use ndr_machine::{DecodeFault, fetched, gap_before, read_count, run};
+use ndr_machine::{fetched, run};
+use ndr_state::{DecodeFault, gap_before, read_count};
 use ndr_steps::Frame;
 
 impl Stream {

@@ -15,7 +15,7 @@ use nd_flat::{Builder, Fit};
 use nd_types::Side;
 use nd_value::ItemLog;
 use ndr_code::Plan;
-use ndr_machine::DecodeFault;
+use ndr_state::DecodeFault;
 use std::alloc::Global;
 
 /// What a stream was decoded to.

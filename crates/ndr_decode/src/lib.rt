@@ -13,4 +13,4 @@ mod tests;
 mod worklist;
 
 pub use decoding::{Decoded, decode};
-pub use ndr_machine::DecodeFault;
+pub use ndr_state::DecodeFault;

@@ -5,7 +5,8 @@ use nd_flat::{Fit, Seen};
 use nd_types::Attr;
 use nd_value::{CellId, Home};
 use ndr_code::Instr;
-use ndr_machine::{DecodeFault, Wanted, try_in, wanted_of};
+use ndr_machine::{try_in, wanted_of};
+use ndr_state::{DecodeFault, Wanted};
 use ndr_steps::First;
 
 impl Stream {

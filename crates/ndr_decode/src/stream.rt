@@ -7,7 +7,8 @@ use nd_types::TypeId;
 use nd_value::{CellId, Home, ItemLog};
 use ndr_code::{Instr, Plan, PlanLine};
 use ndr_intake::Intake;
-use ndr_machine::{DecodeFault, Machine, Owed, run};
+use ndr_machine::run;
+use ndr_state::{DecodeFault, Machine, Owed};
 use ndr_steps::First;
 use std::alloc::Global;
 

@@ -16,7 +16,8 @@ use nd_base::{Ledger, Source, Steps};
 use nd_types::Class;
 use nd_value::{CellId, Home, ItemLog};
 use ndr_code::Plan;
-use ndr_machine::{DecodeFault, Owed, try_in};
+use ndr_machine::try_in;
+use ndr_state::{DecodeFault, Owed};
 
 impl Stream {
     /// Reads what is pending, one referent after the other, each followed by those that it makes due.

@@ -7,10 +7,10 @@ ghost use Rattle.ndr_state.specs.Seen.{state_of, Does, agreement_of, owed_of, Ha
 ghost use Rattle.ndr_state.specs.declared.fault.DecodeFault.TheVariants as fault;
 ghost use Rattle.ndr_machine.specs.Parts.{IsTried, disagreement, member_checked, count_place, tag_place};
 
-use crate::{DecodeFault, Machine, Owed, Wanted};
 use nd_grammar::Reason;
 use nd_types::Attr;
 use ndr_steps::{First, Frame, Member};
+use ndr_state::{DecodeFault, Machine, Owed, Wanted};
 
 /// Tries an agreement in a node of a home whose maximum count is at a place, if it has one. Takes no memory.
 pub fn try_in(wanted: Wanted, of: First, max_at: Option<u32>) -> Result<(), DecodeFault>
@@ -20,7 +20,7 @@ pub fn try_in(wanted: Wanted, of: First, max_at: Option<u32>) -> Result<(), Deco
     if wanted.wanted == found {
         return Ok(());
     }
-    let Some(place) = place_of(wanted.attr, max_at, of) else {
+    let Some(place) = place_in_stream(wanted.attr, max_at, of) else {
         return Ok(());
     };
     Err(DecodeFault::Bad {
@@ -32,164 +32,162 @@ pub fn try_in(wanted: Wanted, of: First, max_at: Option<u32>) -> Result<(), Deco
     })
 }
 
-impl Machine {
-    // `check`: an agreement of a member with another of the same struct, both by their numbers.
-    pub(crate) fn check(&mut self, attr: Attr, field: u32, var: u32) -> Result<(), DecodeFault>
-        requires code { self.old.pc < 2 ^ 32 }
-        ensures does { Does (check_in self.old.top attr field var (state_of self.old)) result (state_of self.new) }
-        ensures home { self.new.home ≡ self.old.home }
-    {
-        match self.top {
-            Frame::Record { back: _, first } => self.check_member(first, attr, field, var),
-            Frame::Home
-            | Frame::Elements {
-                left: _,
-                run: _,
-                back: _,
-            } => {
-                self.skip();
-                Ok(())
-            }
+// `check`: an agreement of a member with another of the same struct, both by their numbers.
+pub(crate) fn check(machine: &mut Machine, attr: Attr, field: u32, var: u32) -> Result<(), DecodeFault>
+    requires code { machine.old.pc < 2 ^ 32 }
+    ensures does { Does (check_in machine.old.top attr field var (state_of machine.old)) result (state_of machine.new) }
+    ensures home { machine.new.home ≡ machine.old.home }
+{
+    match machine.top {
+        Frame::Record { back: _, first } => check_member(machine, first, attr, field, var),
+        Frame::Home
+        | Frame::Elements {
+            left: _,
+            run: _,
+            back: _,
+        } => {
+            machine.skip();
+            Ok(())
         }
     }
+}
 
-    // An agreement of a member of the struct whose members begin at `first`.
-    fn check_member(
-        &mut self,
-        first: usize,
-        attr: Attr,
-        field: u32,
-        var: u32,
-    ) -> Result<(), DecodeFault>
-        requires code { self.old.pc < 2 ^ 32 }
-        ensures does { Does (member_checked first attr field var (state_of self.old)) result (state_of self.new) }
-        ensures home { self.new.home ≡ self.old.home }
-    {
-        let member = self.member(first, field);
-        let of = self.first(first, field);
-        let Some(number) = self.number_at(first, var) else {
-            self.skip();
-            return Ok(());
-        };
-        let wanted = Wanted {
-            attr,
-            wanted: wanted_of(attr, number),
-        };
-        self.check_wanted(wanted, member, of)
+// An agreement of a member of the struct whose members begin at `first`.
+fn check_member(
+    machine: &mut Machine,
+    first: usize,
+    attr: Attr,
+    field: u32,
+    var: u32,
+) -> Result<(), DecodeFault>
+    requires code { machine.old.pc < 2 ^ 32 }
+    ensures does { Does (member_checked first attr field var (state_of machine.old)) result (state_of machine.new) }
+    ensures home { machine.new.home ≡ machine.old.home }
+{
+    let member = member_at(machine, first, field);
+    let of = first_at(machine, first, field);
+    let Some(number) = number_at(machine, first, var) else {
+        machine.skip();
+        return Ok(());
+    };
+    let wanted = Wanted {
+        attr,
+        wanted: wanted_of(attr, number),
+    };
+    check_wanted(machine, wanted, member, of)
+}
+
+// What is kept of the first node of a member of the struct whose members begin at `first`.
+fn first_at(machine: &Machine, first: usize, member: u32) -> Option<First>
+    requires few { first < 2 ^ 60 }
+    ensures { result ≡ slice_get machine.now.firsts.items (first + member) }
+{
+    machine.firsts.as_slice().get(first + member as usize).copied()
+}
+
+// A member of the struct whose members begin at `first`.
+fn member_at(machine: &Machine, first: usize, member: u32) -> Option<Member>
+    requires few { first < 2 ^ 63 }
+    ensures { result ≡ slice_get machine.now.members.items (first + member) }
+{
+    machine.members
+        .as_slice()
+        .get(first + member as usize)
+        .copied()
+}
+
+// The number that a member is, if it is one.
+fn number_at(machine: &Machine, first: usize, member: u32) -> Option<i128>
+    requires few { first < 2 ^ 63 }
+    ensures is { result ≡ first_number (slice_get machine.now.firsts.items (first + member)) }
+    ensures keepable { IfSome result IsKeepableNumber }
+{
+    number_in(first_at(machine, first, member))
+}
+
+// An agreement of a member, by what is kept of its first node.
+fn check_wanted(
+    machine: &mut Machine,
+    wanted: Wanted,
+    member: Option<Member>,
+    of: Option<First>,
+) -> Result<(), DecodeFault>
+    requires code { machine.old.pc < 2 ^ 32 }
+    ensures does { Does (checked (agreement_of wanted ∷ []) member of (state_of machine.old)) result (state_of machine.new) }
+    ensures home { machine.new.home ≡ machine.old.home }
+{
+    let Some(member) = member else {
+        machine.skip();
+        return Ok(());
+    };
+    let Some(of) = of else {
+        machine.skip();
+        return Ok(());
+    };
+    if is_pointer(of) {
+        join(machine, member.pending, wanted)?;
+    } else {
+        try_in(wanted, of, machine.max_at)?;
     }
+    machine.skip();
+    Ok(())
+}
 
-    // What is kept of the first node of a member of the struct whose members begin at `first`.
-    fn first(&self, first: usize, member: u32) -> Option<First>
-        requires few { first < 2 ^ 60 }
-        ensures { result ≡ slice_get self.now.firsts.items (first + member) }
-    {
-        self.firsts.as_slice().get(first + member as usize).copied()
+// Joins an agreement to the pending referent of this number. The agreements of one pointer are kept side by side.
+fn join(machine: &mut Machine, pending: usize, wanted: Wanted) -> Result<(), DecodeFault>
+    ensures does { Does (goes (with_fresh (joined_by (agreement_of wanted ∷ []) (state_of machine.old).fresh pending) (state_of machine.old))) result (state_of machine.new) }
+    ensures pc { machine.new.pc ≡ machine.old.pc }
+    ensures home { machine.new.home ≡ machine.old.home }
+{
+    if pending >= machine.fresh.len() {
+        return Ok(());
     }
+    let owed = machine.fresh[pending];
+    let owed = gather(machine, owed)?;
+    let Ok(()) = machine.wanted.push(wanted) else {
+        return Err(DecodeFault::Memory);
+    };
+    machine.fresh[pending] = Owed {
+        class: owed.class,
+        to: owed.to,
+        run: owed.run,
+        cell: owed.cell,
+        from: owed.from,
+        len: owed.len + 1,
+    };
+    Ok(())
+}
 
-    // A member of the struct whose members begin at `first`.
-    fn member(&self, first: usize, member: u32) -> Option<Member>
-        requires few { first < 2 ^ 63 }
-        ensures { result ≡ slice_get self.now.members.items (first + member) }
-    {
-        self.members
-            .as_slice()
-            .get(first + member as usize)
-            .copied()
+// A pending referent with its agreements at the end of those that are kept.
+fn gather(machine: &mut Machine, owed: Owed) -> Result<Owed, DecodeFault>
+    requires within { owed.from + owed.len ≤ length machine.old.wanted.items }
+    ensures last { IfOk result (λ o. o.from + o.len ≡ length machine.new.wanted.items) }
+    ensures same { IfOk result (λ o. owed_of machine.new.wanted.items o ≡ owed_of machine.old.wanted.items owed) }
+    ensures state { OnOk result (state_of machine.new ≡ state_of machine.old) }
+    ensures fresh { OnOk result (machine.new.fresh.items ≡ machine.old.fresh.items) }
+    ensures grown { OnOk result (HasGrown machine.old.wanted.items machine.new.wanted.items) }
+    ensures pc { machine.new.pc ≡ machine.old.pc }
+    ensures home { machine.new.home ≡ machine.old.home }
+    ensures memory { IfErr result (λ e. e ≡ fault.Memory) }
+{
+    if owed.from + owed.len == machine.wanted.len() {
+        return Ok(owed);
     }
-
-    // The number that a member is, if it is one.
-    fn number_at(&self, first: usize, member: u32) -> Option<i128>
-        requires few { first < 2 ^ 63 }
-        ensures is { result ≡ first_number (slice_get self.now.firsts.items (first + member)) }
-        ensures keepable { IfSome result IsKeepableNumber }
-    {
-        number_in(self.first(first, member))
-    }
-
-    // An agreement of a member, by what is kept of its first node.
-    fn check_wanted(
-        &mut self,
-        wanted: Wanted,
-        member: Option<Member>,
-        of: Option<First>,
-    ) -> Result<(), DecodeFault>
-        requires code { self.old.pc < 2 ^ 32 }
-        ensures does { Does (checked (agreement_of wanted ∷ []) member of (state_of self.old)) result (state_of self.new) }
-        ensures home { self.new.home ≡ self.old.home }
-    {
-        let Some(member) = member else {
-            self.skip();
-            return Ok(());
-        };
-        let Some(of) = of else {
-            self.skip();
-            return Ok(());
-        };
-        if is_owing(of) {
-            self.join(member.pending, wanted)?;
-        } else {
-            try_in(wanted, of, self.max_at)?;
-        }
-        self.skip();
-        Ok(())
-    }
-
-    // Joins an agreement to the pending referent of this number. The agreements of one pointer are kept side by side.
-    fn join(&mut self, pending: usize, wanted: Wanted) -> Result<(), DecodeFault>
-        ensures does { Does (goes (with_fresh (joined_by (agreement_of wanted ∷ []) (state_of self.old).fresh pending) (state_of self.old))) result (state_of self.new) }
-        ensures pc { self.new.pc ≡ self.old.pc }
-        ensures home { self.new.home ≡ self.old.home }
-    {
-        if pending >= self.fresh.len() {
-            return Ok(());
-        }
-        let owed = self.fresh[pending];
-        let owed = self.gather(owed)?;
-        let Ok(()) = self.wanted.push(wanted) else {
+    let from = machine.wanted.len();
+    for at in owed.from..owed.from + owed.len {
+        let one = machine.wanted[at];
+        let Ok(()) = machine.wanted.push(one) else {
             return Err(DecodeFault::Memory);
         };
-        self.fresh[pending] = Owed {
-            class: owed.class,
-            to: owed.to,
-            run: owed.run,
-            cell: owed.cell,
-            from: owed.from,
-            len: owed.len + 1,
-        };
-        Ok(())
     }
-
-    // A pending referent with its agreements at the end of those that are kept.
-    fn gather(&mut self, owed: Owed) -> Result<Owed, DecodeFault>
-        requires within { owed.from + owed.len ≤ length self.old.wanted.items }
-        ensures last { IfOk result (λ o. o.from + o.len ≡ length self.new.wanted.items) }
-        ensures same { IfOk result (λ o. owed_of self.new.wanted.items o ≡ owed_of self.old.wanted.items owed) }
-        ensures state { OnOk result (state_of self.new ≡ state_of self.old) }
-        ensures fresh { OnOk result (self.new.fresh.items ≡ self.old.fresh.items) }
-        ensures grown { OnOk result (HasGrown self.old.wanted.items self.new.wanted.items) }
-        ensures pc { self.new.pc ≡ self.old.pc }
-        ensures home { self.new.home ≡ self.old.home }
-        ensures memory { IfErr result (λ e. e ≡ fault.Memory) }
-    {
-        if owed.from + owed.len == self.wanted.len() {
-            return Ok(owed);
-        }
-        let from = self.wanted.len();
-        for at in owed.from..owed.from + owed.len {
-            let one = self.wanted[at];
-            let Ok(()) = self.wanted.push(one) else {
-                return Err(DecodeFault::Memory);
-            };
-        }
-        Ok(Owed {
-            class: owed.class,
-            to: owed.to,
-            run: owed.run,
-            cell: owed.cell,
-            from,
-            len: owed.len,
-        })
-    }
+    Ok(Owed {
+        class: owed.class,
+        to: owed.to,
+        run: owed.run,
+        cell: owed.cell,
+        from,
+        len: owed.len,
+    })
 }
 
 // The number that a node is, if it is one.
@@ -214,7 +212,7 @@ fn number_in(of: Option<First>) -> Option<i128>
 }
 
 // Whether a node is a pointer.
-fn is_owing(of: First) -> bool
+fn is_pointer(of: First) -> bool
     ensures { result ≡ is_owing of }
 {
     match of {
@@ -254,7 +252,7 @@ fn found_in(attr: Attr, of: First) -> i128
             let (_, offset, actual) = counts_in(of);
             i128::from(offset) + i128::from(actual) - 1
         }
-        Attr::Switch => tag_in(of),
+        Attr::Switch => tag_of(of),
     }
 }
 
@@ -278,7 +276,7 @@ fn counts_in(of: First) -> (u32, u32, u32)
 }
 
 // The tag of a node.
-fn tag_in(of: First) -> i128
+fn tag_of(of: First) -> i128
     ensures { result ≡ tag_in of }
 {
     match of {
@@ -296,14 +294,14 @@ fn tag_in(of: First) -> i128
 }
 
 // The place of the count or tag that an attribute speaks of, if there is one. An offset is before the actual count.
-fn place_of(attr: Attr, max_at: Option<u32>, of: First) -> Option<u32>
+fn place_in_stream(attr: Attr, max_at: Option<u32>, of: First) -> Option<u32>
     ensures { result ≡ place_of attr max_at (place_in of) }
 {
     match attr {
         Attr::Size | Attr::Max => max_at,
-        Attr::First => offset_before(count_place(of)),
-        Attr::Length | Attr::Last => count_place(of),
-        Attr::Switch => tag_place(of),
+        Attr::First => offset_before(place_of_count(of)),
+        Attr::Length | Attr::Last => place_of_count(of),
+        Attr::Switch => place_of_tag(of),
     }
 }
 
@@ -318,7 +316,7 @@ fn offset_before(place: Option<u32>) -> Option<u32>
 }
 
 // The place of an actual count.
-fn count_place(of: First) -> Option<u32>
+fn place_of_count(of: First) -> Option<u32>
     ensures { result ≡ count_place of }
 {
     match of {
@@ -333,7 +331,7 @@ fn count_place(of: First) -> Option<u32>
 }
 
 // The place of a tag.
-fn tag_place(of: First) -> Option<u32>
+fn place_of_tag(of: First) -> Option<u32>
     ensures { result ≡ tag_place of }
 {
     match of {

@@ -5,9 +5,9 @@ ghost use Rattle.nd_grammar.specs.Refusal.{is_enumerator as is_one_of};
 ghost use Rattle.ndr_code.specs.Lines.{enumerators};
 ghost use Rattle.ndr_steps.specs.Steps.{form_by};
 
-use crate::octets::prim_of;
 use nd_types::{Numbers, Prim, TypeId};
 use ndr_code::EnumLists;
+use ndr_state::prim_of;
 
 // Whether a number is a value of a type: any is if the type is not enumerated.
 pub(crate) fn is_enumerator(values: &EnumLists, of: TypeId, value: i128) -> bool

@@ -5,17 +5,10 @@
 mod arrays;
 mod checks;
 mod enumerators;
-mod fault;
-mod flow;
-mod machine;
-mod nodes;
-mod noting;
 mod numbers;
-mod octets;
 mod pointers;
 mod rows;
 mod running;
-mod starting;
 mod steps;
 #[cfg(test)]
 mod tests;
@@ -23,8 +16,5 @@ mod texts;
 mod unions;
 
 pub use checks::{try_in, wanted_of};
-pub use fault::{DecodeFault, Progress};
-pub use machine::{Machine, Owed, Phase, Wanted};
-pub use octets::{gap_before, read_count};
 pub use running::{fetched, run};
 pub use steps::Want;

@@ -10,8 +10,6 @@ ghost use Rattle.ndr_state.specs.Seen.{state_of, Does};
 ghost use Rattle.ndr_machine.specs.Parts.{row_read, HasLeft, with_fewer, IsNumberRun, IsInRow};
 ghost use Rattle.ndr_machine.specs.Notes.{Noted, notes_seen, row_items};
 
-use crate::octets::prim_of;
-use crate::{DecodeFault, Machine, Phase};
 use nd_base::{Ledger, Order, STREAM_LIMIT, Steps};
 use nd_flat::Row;
 use nd_types::{Prim, TypeId};
@@ -20,100 +18,99 @@ use ndr_code::Instr;
 use ndr_intake::PIECE;
 use ndr_prim::{read_num, width_of};
 use ndr_steps::Frame;
+use ndr_state::{DecodeFault, Machine, Phase, prim_of};
 
-impl Machine {
-    /// How many numbers may be read in one go at a `num`: as many elements as are left of an array whose elements are all of this primitive, and as a
-    /// piece and the limit of a stream have room for; one anywhere else. Takes no memory.
-    pub fn row_len(&self, code: &[Instr], prim: Prim) -> u32
-        requires code { self.now.pc < 2 ^ 32 }
-        ensures some { 0 < result }
-        ensures piece { result * width prim ≤ PIECE }
-        ensures within { 1 < result → self.now.at + result * width prim ≤ STREAM_LIMIT }
-        ensures aligned { 1 < result → self.now.at % width prim ≡ 0 }
-        ensures row { 1 < result → IsInRow code.now (result - 1) self.now.pc prim self.now.top }
-    {
-        let Frame::Elements { left, run, back: _ } = self.top else {
-            return 1;
-        };
-        let wide = width_of(prim) as u32;
-        if left == 0 || self.at % wide != 0 || !is_row(code, run as usize, self.pc, prim) {
-            return 1;
-        }
-        let room = STREAM_LIMIT.saturating_sub(self.at).min(PIECE) / wide;
-        room.min(left).max(1)
+/// How many numbers may be read in one go at a `num`: as many elements as are left of an array whose elements are all of this primitive, and as a
+/// piece and the limit of a stream have room for; one anywhere else. Takes no memory.
+pub fn row_len(machine: &Machine, code: &[Instr], prim: Prim) -> u32
+    requires code { machine.now.pc < 2 ^ 32 }
+    ensures some { 0 < result }
+    ensures piece { result * width prim ≤ PIECE }
+    ensures within { 1 < result → machine.now.at + result * width prim ≤ STREAM_LIMIT }
+    ensures aligned { 1 < result → machine.now.at % width prim ≡ 0 }
+    ensures row { 1 < result → IsInRow code.now (result - 1) machine.now.pc prim machine.now.top }
+{
+    let Frame::Elements { left, run, back: _ } = machine.top else {
+        return 1;
+    };
+    let wide = width_of(prim) as u32;
+    if left == 0 || machine.at % wide != 0 || !is_row(code, run as usize, machine.pc, prim) {
+        return 1;
     }
+    let room = STREAM_LIMIT.saturating_sub(machine.at).min(PIECE) / wide;
+    room.min(left).max(1)
+}
 
-    /// So many numbers in a row, more than one, as `row_len` says. Each is noted and counted as one. It takes memory; after `Memory` nothing is known
-    /// of the machine.
-    pub fn row<L: Ledger>(
-        &mut self,
-        order: Order,
-        octets: &[u8],
-        prim: Prim,
-        count: u32,
-        items: &mut ItemLog,
-        steps: &mut Steps<L>,
-    ) -> Result<(), DecodeFault>
-        requires some { 0 < count }
-        requires wide { length octets.now ≡ count * width prim }
-        requires left { HasLeft (count - 1) self.old.top }
-        requires code { self.old.pc < 2 ^ 32 }
-        requires fits { self.old.at + length octets.now < 2 ^ 32 }
-        requires few { self.old.count + count < 2 ^ 32 }
-        ensures does { Does (goes (row_read order prim count octets.now (state_of self.old))) result (state_of self.new) }
-        ensures noted { Noted (row_items order prim self.old 0 count octets.now) (notes_seen items.old items.new (L.number steps.old) (L.number steps.new) self.old.cells self.new.cells) result }
-        ensures home { self.new.home ≡ self.old.home }
-    {
-        self.note_row(order, octets, prim, count, items, steps)?;
-        let row = Row {
-            order,
-            of: prim,
-            count,
-            octets,
-        };
-        self.builder.row(&row)?;
-        self.count += count;
-        self.top = with_fewer(count - 1, self.top);
-        self.pass(octets.len() as u32);
-        Ok(())
-    }
+/// So many numbers in a row, more than one, as `row_len` says. Each is noted and counted as one. It takes memory; after `Memory` nothing is known
+/// of the machine.
+pub fn read_row<L: Ledger>(
+    machine: &mut Machine,
+    order: Order,
+    octets: &[u8],
+    prim: Prim,
+    count: u32,
+    items: &mut ItemLog,
+    steps: &mut Steps<L>,
+) -> Result<(), DecodeFault>
+    requires some { 0 < count }
+    requires wide { length octets.now ≡ count * width prim }
+    requires left { HasLeft (count - 1) machine.old.top }
+    requires code { machine.old.pc < 2 ^ 32 }
+    requires fits { machine.old.at + length octets.now < 2 ^ 32 }
+    requires few { machine.old.count + count < 2 ^ 32 }
+    ensures does { Does (goes (row_read order prim count octets.now (state_of machine.old))) result (state_of machine.new) }
+    ensures noted { Noted (row_items order prim machine.old 0 count octets.now) (notes_seen items.old items.new (L.number steps.old) (L.number steps.new) machine.old.cells machine.new.cells) result }
+    ensures home { machine.new.home ≡ machine.old.home }
+{
+    note_row(machine, order, octets, prim, count, items, steps)?;
+    let row = Row {
+        order,
+        of: prim,
+        count,
+        octets,
+    };
+    machine.builder.row(&row)?;
+    machine.count += count;
+    machine.top = fewer_left(count - 1, machine.top);
+    machine.pass(octets.len() as u32);
+    Ok(())
+}
 
-    /// Notes so many numbers in a row.
-    pub fn note_row<L: Ledger>(
-        &self,
-        order: Order,
-        octets: &[u8],
-        prim: Prim,
-        count: u32,
-        items: &mut ItemLog,
-        steps: &mut Steps<L>,
-    ) -> Result<(), DecodeFault>
-        requires some { 0 < count }
-        requires wide { length octets.now ≡ count * width prim }
-        requires fits { self.now.at + length octets.now < 2 ^ 32 }
-        requires few { self.now.count + count < 2 ^ 32 }
-        ensures noted { Noted (row_items order prim self.now 0 count octets.now) (notes_seen items.old items.new (L.number steps.old) (L.number steps.new) self.now.cells self.now.cells) result }
-        ensures memory { IfErr result (λ e. e ≡ fault.Memory) }
-    {
-        let wide = width_of(prim);
-        let kept = items.len();
-        self.note_ahead(
-            0,
-            wide as u32,
-            read_num(order, prim, &octets[..wide]),
-            items,
-            steps,
-        )?;
-        if items.len() == kept {
-            count_more(count - 1, steps);
-            return Ok(());
-        }
-        for i in 1..count as usize {
-            let value = read_num(order, prim, &octets[i * wide..i * wide + wide]);
-            self.note_ahead(i as u32, wide as u32, value, items, steps)?;
-        }
-        Ok(())
+/// Notes so many numbers in a row.
+pub fn note_row<L: Ledger>(
+    machine: &Machine,
+    order: Order,
+    octets: &[u8],
+    prim: Prim,
+    count: u32,
+    items: &mut ItemLog,
+    steps: &mut Steps<L>,
+) -> Result<(), DecodeFault>
+    requires some { 0 < count }
+    requires wide { length octets.now ≡ count * width prim }
+    requires fits { machine.now.at + length octets.now < 2 ^ 32 }
+    requires few { machine.now.count + count < 2 ^ 32 }
+    ensures noted { Noted (row_items order prim machine.now 0 count octets.now) (notes_seen items.old items.new (L.number steps.old) (L.number steps.new) machine.now.cells machine.now.cells) result }
+    ensures memory { IfErr result (λ e. e ≡ fault.Memory) }
+{
+    let wide = width_of(prim);
+    let kept = items.len();
+    machine.note_ahead(
+        0,
+        wide as u32,
+        read_num(order, prim, &octets[..wide]),
+        items,
+        steps,
+    )?;
+    if items.len() == kept {
+        count_more(count - 1, steps);
+        return Ok(());
     }
+    for i in 1..count as usize {
+        let value = read_num(order, prim, &octets[i * wide..i * wide + wide]);
+        machine.note_ahead(i as u32, wide as u32, value, items, steps)?;
+    }
+    Ok(())
 }
 
 // Counts so many steps.
@@ -126,7 +123,7 @@ fn count_more<L: Ledger>(more: u32, steps: &mut Steps<L>)
 }
 
 // The frame of elements of which so many fewer are left.
-fn with_fewer(fewer: u32, top: Frame) -> Frame
+fn fewer_left(fewer: u32, top: Frame) -> Frame
     requires { HasLeft fewer top }
     ensures { result ≡ with_fewer fewer top }
 {

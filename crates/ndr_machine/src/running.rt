@@ -12,9 +12,8 @@ ghost use Rattle.ndr_machine.specs.Parts.{IsInRow};
 ghost use Rattle.ndr_machine.specs.Notes.{notes_seen};
 ghost use Rattle.ndr_machine.specs.Reaching.{Reaches, IsSafe, Ends, Turns, stream_answer};
 
-use crate::octets::prim_of;
-use crate::steps::Want;
-use crate::{DecodeFault, Machine, Progress};
+use crate::rows::{note_row, read_row, row_len};
+use crate::steps::{Want, take_step, wanted};
 use nd_base::{Ledger, Order, STREAM_LIMIT, Source, Steps};
 use nd_grammar::Reason;
 use nd_types::TypeId;
@@ -22,6 +21,7 @@ use nd_value::ItemLog;
 use ndr_code::{EnumLists, Instr};
 use ndr_intake::{Intake, IntakeFault};
 use ndr_prim::width_of;
+use ndr_state::{DecodeFault, Machine, Progress, prim_of};
 
 /// Reads the value of a home from the instruction at which the machine is. Each state that the code can reach from here must be safe.
 ///
@@ -56,80 +56,78 @@ pub fn run<S: Source, L: Ledger>(
     Err(DecodeFault::Memory)
 }
 
-impl Machine {
-    // One step: a row of numbers where there is one.
-    fn turn<S: Source, L: Ledger>(
-        &mut self,
-        order: Order,
-        code: &[Instr],
-        instr: Instr,
-        values: &EnumLists,
-        intake: &mut Intake,
-        source: &mut S,
-        items: &mut ItemLog,
-        steps: &mut Steps<L>,
-    ) -> Result<Progress, DecodeFault>
-        requires short { length code.now < 2 ^ 32 }
-        requires here { slice_get code.now self.old.pc ≡ Some instr }
-        requires safe { (fetched : List ℕ) (noted : List Item) (s : State) → Reaches values.now order code.now self.old.home (state_of self.old) fetched noted s → IsSafe code.now s }
-        ensures turns { Turns values.now order code.now self.old.home (state_of self.old) (source_seen S.Source.left S.Source.ended S.Source.faults source.old source.new) (notes_seen items.old items.new (L.number steps.old) (L.number steps.new) self.old.cells self.new.cells) (state_of self.new) result }
-        ensures home { self.new.home ≡ self.old.home }
-        ensures later { S.Source.faults source.old ≤ S.Source.faults source.new }
-    {
-        if let Instr::Num { of } = instr {
-            let prim = prim_of(of.0);
-            let count = self.row_len(code, prim);
-            if count > 1 {
-                return self.turn_row(order, code, values, of, count, intake, source, items, steps);
-            }
-        }
-        match self.wants(instr, values) {
-            Want::Gap(count) => fetched(intake.gap(source, self.at, count))?,
-            Want::Item(count) => fetched(intake.item(source, self.at, count))?,
-        }
-        self.step(order, intake.octets(), instr, values, items, steps)
-    }
-
-    // So many numbers in a row.
-    fn turn_row<S: Source, L: Ledger>(
-        &mut self,
-        order: Order,
-        code: &[Instr],
-        values: &EnumLists,
-        of: TypeId,
-        count: u32,
-        intake: &mut Intake,
-        source: &mut S,
-        items: &mut ItemLog,
-        steps: &mut Steps<L>,
-    ) -> Result<Progress, DecodeFault>
-        requires short { length code.now < 2 ^ 32 }
-        requires many { 1 < count }
-        requires piece { count * width (prim_of of.0) ≤ PIECE }
-        requires within { self.old.at + count * width (prim_of of.0) ≤ STREAM_LIMIT }
-        requires aligned { self.old.at % width (prim_of of.0) ≡ 0 }
-        requires row { IsInRow code.now (count - 1) self.old.pc (prim_of of.0) self.old.top }
-        requires here { slice_get code.now self.old.pc ≡ Some (op.Num of) }
-        requires safe { (fetched : List ℕ) (noted : List Item) (s : State) → Reaches values.now order code.now self.old.home (state_of self.old) fetched noted s → IsSafe code.now s }
-        ensures turns { Turns values.now order code.now self.old.home (state_of self.old) (source_seen S.Source.left S.Source.ended S.Source.faults source.old source.new) (notes_seen items.old items.new (L.number steps.old) (L.number steps.new) self.old.cells self.new.cells) (state_of self.new) result }
-        ensures home { self.new.home ≡ self.old.home }
-        ensures later { S.Source.faults source.old ≤ S.Source.faults source.new }
-    {
+// One step: a row of numbers where there is one.
+fn take_turn<S: Source, L: Ledger>(
+    machine: &mut Machine,
+    order: Order,
+    code: &[Instr],
+    instr: Instr,
+    values: &EnumLists,
+    intake: &mut Intake,
+    source: &mut S,
+    items: &mut ItemLog,
+    steps: &mut Steps<L>,
+) -> Result<Progress, DecodeFault>
+    requires short { length code.now < 2 ^ 32 }
+    requires here { slice_get code.now machine.old.pc ≡ Some instr }
+    requires safe { (fetched : List ℕ) (noted : List Item) (s : State) → Reaches values.now order code.now machine.old.home (state_of machine.old) fetched noted s → IsSafe code.now s }
+    ensures turns { Turns values.now order code.now machine.old.home (state_of machine.old) (source_seen S.Source.left S.Source.ended S.Source.faults source.old source.new) (notes_seen items.old items.new (L.number steps.old) (L.number steps.new) machine.old.cells machine.new.cells) (state_of machine.new) result }
+    ensures home { machine.new.home ≡ machine.old.home }
+    ensures later { S.Source.faults source.old ≤ S.Source.faults source.new }
+{
+    if let Instr::Num { of } = instr {
         let prim = prim_of(of.0);
-        let wide = width_of(prim) as u32;
-        match fetched(intake.item(source, self.at, count * wide)) {
-            Ok(()) => {}
-            Err(fault) => {
-                let came = intake.octets().len() as u32 / wide;
-                if came > 0 {
-                    self.note_row(order, intake.octets(), prim, came, items, steps)?;
-                }
-                return Err(fault);
-            }
+        let count = row_len(machine, code, prim);
+        if count > 1 {
+            return take_row(machine, order, code, values, of, count, intake, source, items, steps);
         }
-        self.row(order, intake.octets(), prim, count, items, steps)?;
-        Ok(Progress::More)
     }
+    match wanted(machine, instr, values) {
+        Want::Gap(count) => fetched(intake.gap(source, machine.at, count))?,
+        Want::Item(count) => fetched(intake.item(source, machine.at, count))?,
+    }
+    take_step(machine, order, intake.octets(), instr, values, items, steps)
+}
+
+// So many numbers in a row.
+fn take_row<S: Source, L: Ledger>(
+    machine: &mut Machine,
+    order: Order,
+    code: &[Instr],
+    values: &EnumLists,
+    of: TypeId,
+    count: u32,
+    intake: &mut Intake,
+    source: &mut S,
+    items: &mut ItemLog,
+    steps: &mut Steps<L>,
+) -> Result<Progress, DecodeFault>
+    requires short { length code.now < 2 ^ 32 }
+    requires many { 1 < count }
+    requires piece { count * width (prim_of of.0) ≤ PIECE }
+    requires within { machine.old.at + count * width (prim_of of.0) ≤ STREAM_LIMIT }
+    requires aligned { machine.old.at % width (prim_of of.0) ≡ 0 }
+    requires row { IsInRow code.now (count - 1) machine.old.pc (prim_of of.0) machine.old.top }
+    requires here { slice_get code.now machine.old.pc ≡ Some (op.Num of) }
+    requires safe { (fetched : List ℕ) (noted : List Item) (s : State) → Reaches values.now order code.now machine.old.home (state_of machine.old) fetched noted s → IsSafe code.now s }
+    ensures turns { Turns values.now order code.now machine.old.home (state_of machine.old) (source_seen S.Source.left S.Source.ended S.Source.faults source.old source.new) (notes_seen items.old items.new (L.number steps.old) (L.number steps.new) machine.old.cells machine.new.cells) (state_of machine.new) result }
+    ensures home { machine.new.home ≡ machine.old.home }
+    ensures later { S.Source.faults source.old ≤ S.Source.faults source.new }
+{
+    let prim = prim_of(of.0);
+    let wide = width_of(prim) as u32;
+    match fetched(intake.item(source, machine.at, count * wide)) {
+        Ok(()) => {}
+        Err(fault) => {
+            let came = intake.octets().len() as u32 / wide;
+            if came > 0 {
+                note_row(machine, order, intake.octets(), prim, came, items, steps)?;
+            }
+            return Err(fault);
+        }
+    }
+    read_row(machine, order, intake.octets(), prim, count, items, steps)?;
+    Ok(Progress::More)
 }
 
 /// What a fault of the intake says of a stream. Takes no memory.

@@ -1,5 +1,5 @@
 // A struct with an array, and one with a unique pointer, through the machine.
-use crate::{DecodeFault, Machine, run};
+use crate::run;
 use nd_base::{Ledger, MemSource, Memory, Name, Order, Steps, Uncounted};
 use nd_flat::{Builder, Seen};
 use nd_types::{
@@ -11,6 +11,7 @@ use ndr_code::{EnumLists, Instr};
 use ndr_intake::Intake;
 use std::alloc::Global;
 use std::test::Fail;
+use ndr_state::{DecodeFault, Machine};
 
 fn interface(alloc: Global) -> Result<Interface, Memory> {
     let types = Types::basic(alloc)?;

@@ -4,15 +4,16 @@ ghost use Rattle.nd_types.specs.Number.{unsigned, value_of_octets};
 ghost use Rattle.nd_types.specs.Table.{width};
 ghost use Rattle.nd_flat.specs.FlatForm.{IsKeepableNumber};
 ghost use Rattle.nd_grammar.specs.Entry.{gap};
-ghost use Rattle.nd_grammar.specs.Reader.{identifier};
-ghost use Rattle.ndr_steps.specs.Steps.{prim_of};
+ghost use Rattle.nd_grammar.specs.Reader.{identifier as identifier_of};
+ghost use Rattle.ndr_steps.specs.Steps.{prim_of as primitive_of};
 
+use byteorder::{BigEndian, ByteOrder, LittleEndian};
 use nd_base::Order;
 use nd_types::Prim;
 use ndr_prim::read_num;
 use uuid::Uuid;
 
-// The value that the octets of a primitive hold: a node can keep it.
+/// The value that the octets of a primitive hold: a node can keep it. Takes no memory.
 pub fn read_value(order: Order, prim: Prim, octets: &[u8]) -> i128
     requires wide { length octets.now ≡ width prim }
     ensures value { result ≡ value_of_octets order prim octets.now }
@@ -26,17 +27,16 @@ pub fn read_count(order: Order, from: &[u8]) -> u32
     requires { length from.now ≡ 4 }
     ensures { result ≡ unsigned order from.now }
 {
-    let octets = [from[0], from[1], from[2], from[3]];
     match order {
-        Order::Big => u32::from_be_bytes(octets),
-        Order::Little => u32::from_le_bytes(octets),
+        Order::Big => BigEndian::read_u32(from),
+        Order::Little => LittleEndian::read_u32(from),
     }
 }
 
-// The identifier of a context handle in 16 octets.
+/// The identifier of a context handle in 16 octets. Takes no memory.
 pub fn identifier(order: Order, from: &[u8]) -> Uuid
     requires { length from.now ≡ 16 }
-    ensures { result ≡ identifier order from.now from.now }
+    ensures { result ≡ identifier_of order from.now from.now }
 {
     let octets = [
         from[0], from[1], from[2], from[3], from[4], from[5], from[6], from[7], from[8], from[9],
@@ -58,9 +58,9 @@ pub fn gap_before(at: u32, to: u8) -> u32
     (to - at % to) % to
 }
 
-// The primitive of a type's number.
+/// The primitive of a type's number. Takes no memory.
 pub fn prim_of(of: u32) -> Prim
-    ensures { result ≡ prim_of of }
+    ensures { result ≡ primitive_of of }
 {
     match of {
         0 => Prim::Boolean,
