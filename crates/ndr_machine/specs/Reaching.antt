@@ -22,7 +22,7 @@ use Rattle.ndr_state.specs.declared.fault.DecodeFault.TheVariants as fault
 use Rattle.ndr_state.specs.declared.fault.Progress.{Progress}
 use Rattle.ndr_state.specs.declared.fault.Progress.TheVariants as progress
 use Rattle.ndr_machine.specs.Parts.{IsInner}
-use Rattle.ndr_machine.specs.Notes.{NotesSeen, all_noted, ticks}
+use Rattle.ndr_state.specs.Notes.{NotesSeen, all_noted, ticks}
 
 -- ## States that are reached
 

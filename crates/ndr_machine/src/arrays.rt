@@ -5,9 +5,9 @@ ghost use Rattle.nd_value.specs.Tree as tree;
 ghost use Rattle.ndr_steps.specs.Steps.{goes, elements, with_node, past, vary_by, hoist_by, with_max, done_after};
 ghost use Rattle.ndr_steps.specs.Steps as phase;
 ghost use Rattle.ndr_state.specs.Seen.{state_of, Does, phase_of};
-ghost use Rattle.ndr_machine.specs.Notes.{Noted, gap_items, hoist_items, notes_seen, vary_items};
-ghost use Rattle.ndr_state.specs.Seen.{next_item};
 ghost use Rattle.nd_value.specs.declared.item.ItemKind.TheVariants as item;
+ghost use Rattle.ndr_steps.specs.StepItems.{next_item, gap_items, vary_items, hoist_items};
+ghost use Rattle.ndr_state.specs.Notes.{Noted, notes_seen};
 
 use nd_base::{Ledger, Order, Steps};
 use nd_flat::Seen;
@@ -67,14 +67,15 @@ pub(crate) fn varying<L: Ledger>(
     requires fits { machine.old.at + 4 < 2 ^ 32 }
     requires few { machine.old.count + 1 < 2 ^ 32 }
     ensures does { Does (vary_by order octets.now (phase_of machine.old.phase) limit run (state_of machine.old)) result (state_of machine.new) }
-    ensures noted { Noted (vary_items machine.old.phase (unsigned order octets.now) machine.old) (notes_seen items.old items.new (L.number steps.old) (L.number steps.new) machine.old.cells machine.new.cells) result }
+    ensures noted { Noted (vary_items order machine.old.home octets.now (phase_of machine.old.phase) (state_of machine.old)) (notes_seen items.old items.new (L.number steps.old) (L.number steps.new) machine.old.cells machine.new.cells) result }
     ensures home { machine.new.home ≡ machine.old.home }
 {
     let number = read_count(order, octets);
     match machine.phase {
         Phase::OffsetRead(offset) => actual(machine, offset, number, limit, run, items, steps),
         Phase::Begun | Phase::GapRead | Phase::CountRead(_) => {
-            count_read(machine, 
+            count_read(
+            machine,
                 ItemKind::Offset,
                 number,
                 Phase::OffsetRead(number),
@@ -96,7 +97,7 @@ pub(crate) fn count_read<L: Ledger>(
 ) -> Result<(), DecodeFault>
     requires fits { machine.old.at + 4 < 2 ^ 32 }
     ensures does { Does (goes (past 4 (phase_of phase) (state_of machine.old))) result (state_of machine.new) }
-    ensures noted { Noted (next_item machine.old kind 4 (pos number) ∷ []) (notes_seen items.old items.new (L.number steps.old) (L.number steps.new) machine.old.cells machine.new.cells) result }
+    ensures noted { Noted (next_item machine.old.home (state_of machine.old) kind 4 (pos number) ∷ []) (notes_seen items.old items.new (L.number steps.old) (L.number steps.new) machine.old.cells machine.new.cells) result }
     ensures home { machine.new.home ≡ machine.old.home }
     ensures count { machine.new.count ≡ machine.old.count }
     ensures pc { machine.new.pc ≡ machine.old.pc }
@@ -122,7 +123,7 @@ fn actual<L: Ledger>(
     requires fits { machine.old.at + 4 < 2 ^ 32 }
     requires few { machine.old.count + 1 < 2 ^ 32 }
     ensures does { Does (actual_read offset count limit run (state_of machine.old)) result (state_of machine.new) }
-    ensures noted { Noted (next_item machine.old item.Actual 4 (pos count) ∷ []) (notes_seen items.old items.new (L.number steps.old) (L.number steps.new) machine.old.cells machine.new.cells) result }
+    ensures noted { Noted (next_item machine.old.home (state_of machine.old) item.Actual 4 (pos count) ∷ []) (notes_seen items.old items.new (L.number steps.old) (L.number steps.new) machine.old.cells machine.new.cells) result }
     ensures home { machine.new.home ≡ machine.old.home }
 {
     if u64::from(limit) < u64::from(offset) + u64::from(count) {
@@ -154,33 +155,29 @@ pub(crate) fn hoist<L: Ledger>(
     requires code { machine.old.pc < 2 ^ 32 }
     requires fits { machine.old.at + length octets.now < 2 ^ 32 }
     ensures does { Does (hoist_by order octets.now (phase_of machine.old.phase) (state_of machine.old)) result (state_of machine.new) }
-    ensures noted { Noted (hoist_items machine.old.phase order octets.now machine.old) (notes_seen items.old items.new (L.number steps.old) (L.number steps.new) machine.old.cells machine.new.cells) result }
+    ensures noted { Noted (hoist_items order machine.old.home octets.now (phase_of machine.old.phase) (state_of machine.old)) (notes_seen items.old items.new (L.number steps.old) (L.number steps.new) machine.old.cells machine.new.cells) result }
     ensures home { machine.new.home ≡ machine.old.home }
 {
     match machine.phase {
         Phase::GapRead => maximum(machine, read_count(order, octets), items, steps),
-        Phase::Begun | Phase::OffsetRead(_) | Phase::CountRead(_) => hoist_gap(machine, 
-            octets.len() as u32,
-            items,
-            steps,
-        ),
+        Phase::Begun | Phase::OffsetRead(_) | Phase::CountRead(_) => hoist_gap(machine, octets, items, steps),
     }
 }
 
 // The gap before a maximum count.
 fn hoist_gap<L: Ledger>(
     machine: &mut Machine,
-    len: u32,
+    octets: &[u8],
     items: &mut ItemLog,
     steps: &mut Steps<L>,
 ) -> Result<(), DecodeFault>
-    requires fits { machine.old.at + len < 2 ^ 32 }
-    ensures does { Does (goes (past len phase.gap_read (state_of machine.old))) result (state_of machine.new) }
-    ensures noted { Noted (gap_items machine.old len) (notes_seen items.old items.new (L.number steps.old) (L.number steps.new) machine.old.cells machine.new.cells) result }
+    requires fits { machine.old.at + length octets.now < 2 ^ 32 }
+    ensures does { Does (goes (past (length octets.now) phase.gap_read (state_of machine.old))) result (state_of machine.new) }
+    ensures noted { Noted (gap_items machine.old.home machine.old.at octets.now) (notes_seen items.old items.new (L.number steps.old) (L.number steps.new) machine.old.cells machine.new.cells) result }
     ensures home { machine.new.home ≡ machine.old.home }
 {
-    machine.note_gap(len, items, steps)?;
-    machine.at += len;
+    machine.note_gap(octets, items, steps)?;
+    machine.at += octets.len() as u32;
     machine.phase = Phase::GapRead;
     Ok(())
 }
@@ -195,7 +192,7 @@ fn maximum<L: Ledger>(
     requires code { machine.old.pc < 2 ^ 32 }
     requires fits { machine.old.at + 4 < 2 ^ 32 }
     ensures does { Does (goes (done_after 4 (with_max max (state_of machine.old)))) result (state_of machine.new) }
-    ensures noted { Noted (next_item machine.old item.Max 4 (pos max) ∷ []) (notes_seen items.old items.new (L.number steps.old) (L.number steps.new) machine.old.cells machine.new.cells) result }
+    ensures noted { Noted (next_item machine.old.home (state_of machine.old) item.Max 4 (pos max) ∷ []) (notes_seen items.old items.new (L.number steps.old) (L.number steps.new) machine.old.cells machine.new.cells) result }
     ensures home { machine.new.home ≡ machine.old.home }
 {
     machine.note(ItemKind::Max, 4, i128::from(max), items, steps)?;
@@ -208,18 +205,18 @@ fn maximum<L: Ledger>(
 // `align`
 pub(crate) fn align<L: Ledger>(
     machine: &mut Machine,
-    len: u32,
+    octets: &[u8],
     items: &mut ItemLog,
     steps: &mut Steps<L>,
 ) -> Result<(), DecodeFault>
     requires code { machine.old.pc < 2 ^ 32 }
-    requires fits { machine.old.at + len < 2 ^ 32 }
-    ensures does { Does (goes (done_after len (state_of machine.old))) result (state_of machine.new) }
-    ensures noted { Noted (gap_items machine.old len) (notes_seen items.old items.new (L.number steps.old) (L.number steps.new) machine.old.cells machine.new.cells) result }
+    requires fits { machine.old.at + length octets.now < 2 ^ 32 }
+    ensures does { Does (goes (done_after (length octets.now) (state_of machine.old))) result (state_of machine.new) }
+    ensures noted { Noted (gap_items machine.old.home machine.old.at octets.now) (notes_seen items.old items.new (L.number steps.old) (L.number steps.new) machine.old.cells machine.new.cells) result }
     ensures home { machine.new.home ≡ machine.old.home }
 {
-    machine.note_gap(len, items, steps)?;
-    machine.pass(len);
+    machine.note_gap(octets, items, steps)?;
+    machine.pass(octets.len() as u32);
     Ok(())
 }
 

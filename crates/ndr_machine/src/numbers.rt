@@ -5,9 +5,9 @@ ghost use Rattle.nd_types.specs.declared.types.Primitive.TheVariants.{Short};
 ghost use Rattle.ndr_code.specs.Lines.{enumerators};
 ghost use Rattle.ndr_steps.specs.Steps.{number_step};
 ghost use Rattle.ndr_state.specs.Seen.{state_of, Does};
-ghost use Rattle.ndr_machine.specs.Notes.{Noted, notes_seen, number_items};
-ghost use Rattle.ndr_state.specs.Seen.{next_item};
 ghost use Rattle.nd_value.specs.declared.item.ItemKind.TheVariants as item;
+ghost use Rattle.ndr_steps.specs.StepItems.{next_item, number_items};
+ghost use Rattle.ndr_state.specs.Notes.{Noted, notes_seen};
 
 use crate::enumerators::is_enumerator;
 use nd_base::{Ledger, Order, Steps};
@@ -16,6 +16,7 @@ use nd_grammar::Reason;
 use nd_types::{Prim, TypeId};
 use nd_value::{ItemKind, ItemLog};
 use ndr_code::EnumLists;
+use ndr_prim::width_of;
 use ndr_state::{DecodeFault, Machine, identifier, read_count, read_value};
 
 // `num`
@@ -32,11 +33,11 @@ pub(crate) fn number<L: Ledger>(
     requires fits { machine.old.at + length octets.now < 2 ^ 32 }
     requires few { machine.old.count + 1 < 2 ^ 32 }
     ensures does { Does (number_step order octets.now prim None (state_of machine.old)) result (state_of machine.new) }
-    ensures noted { Noted (number_items order octets.now prim machine.old) (notes_seen items.old items.new (L.number steps.old) (L.number steps.new) machine.old.cells machine.new.cells) result }
+    ensures noted { Noted (number_items order machine.old.home octets.now prim (state_of machine.old)) (notes_seen items.old items.new (L.number steps.old) (L.number steps.new) machine.old.cells machine.new.cells) result }
     ensures home { machine.new.home ≡ machine.old.home }
 {
     let value = read_value(order, prim, octets);
-    leaf(machine, octets.len() as u32, value, items, steps)
+    leaf(machine, width_of(prim) as u32, value, items, steps)
 }
 
 // `enum`
@@ -54,7 +55,7 @@ pub(crate) fn enumerated<L: Ledger>(
     requires fits { machine.old.at + length octets.now < 2 ^ 32 }
     requires few { machine.old.count + 1 < 2 ^ 32 }
     ensures does { Does (number_step order octets.now Short (enumerators values.now of.0) (state_of machine.old)) result (state_of machine.new) }
-    ensures noted { Noted (number_items order octets.now Short machine.old) (notes_seen items.old items.new (L.number steps.old) (L.number steps.new) machine.old.cells machine.new.cells) result }
+    ensures noted { Noted (number_items order machine.old.home octets.now Short (state_of machine.old)) (notes_seen items.old items.new (L.number steps.old) (L.number steps.new) machine.old.cells machine.new.cells) result }
     ensures home { machine.new.home ≡ machine.old.home }
 {
     let value = read_value(order, Prim::Short, octets);
@@ -64,7 +65,7 @@ pub(crate) fn enumerated<L: Ledger>(
             reason: Reason::EnumValue,
         });
     }
-    leaf(machine, octets.len() as u32, value, items, steps)
+    leaf(machine, 2, value, items, steps)
 }
 
 // A number of so many octets that is not refused.
@@ -80,7 +81,7 @@ fn leaf<L: Ledger>(
     requires fits { machine.old.at + len < 2 ^ 32 }
     requires few { machine.old.count + 1 < 2 ^ 32 }
     ensures does { Does (goes (done_after len (with_node (tree.Num value, 0) None (state_of machine.old)))) result (state_of machine.new) }
-    ensures noted { Noted (next_item machine.old item.Num len value ∷ []) (notes_seen items.old items.new (L.number steps.old) (L.number steps.new) machine.old.cells machine.new.cells) result }
+    ensures noted { Noted (next_item machine.old.home (state_of machine.old) item.Num len value ∷ []) (notes_seen items.old items.new (L.number steps.old) (L.number steps.new) machine.old.cells machine.new.cells) result }
     ensures home { machine.new.home ≡ machine.old.home }
 {
     machine.note(ItemKind::Num, len, value, items, steps)?;
@@ -102,7 +103,7 @@ pub(crate) fn context<L: Ledger>(
     requires fits { machine.old.at + 20 < 2 ^ 32 }
     requires few { machine.old.count + 1 < 2 ^ 32 }
     ensures does { Does (context_read order octets.now (state_of machine.old)) result (state_of machine.new) }
-    ensures noted { Noted (next_item machine.old item.Context 20 (pos 0) ∷ []) (notes_seen items.old items.new (L.number steps.old) (L.number steps.new) machine.old.cells machine.new.cells) result }
+    ensures noted { Noted (next_item machine.old.home (state_of machine.old) item.Context 20 (pos 0) ∷ []) (notes_seen items.old items.new (L.number steps.old) (L.number steps.new) machine.old.cells machine.new.cells) result }
     ensures home { machine.new.home ≡ machine.old.home }
 {
     machine.note(ItemKind::Context, 20, 0, items, steps)?;

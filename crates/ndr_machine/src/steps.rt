@@ -3,7 +3,8 @@ ghost use Rattle.std.specs.Prelude.{◌≡◌, ◌<◌, ◌+◌, ◌^◌, length
 ghost use Rattle.ndr_steps.specs.Steps.{step, wants, text_want, hoist_want, limit_of};
 ghost use Rattle.ndr_state.specs.Seen.{state_of, phase_of, Comes, Does, Wants};
 ghost use Rattle.ndr_machine.specs.Parts.{HasWanted, IsInner, arm_tried};
-ghost use Rattle.ndr_machine.specs.Notes.{Noted, notes_seen, step_items, tried_items};
+ghost use Rattle.ndr_steps.specs.StepItems.{arm_items, step_items};
+ghost use Rattle.ndr_state.specs.Notes.{Noted, notes_seen};
 
 use crate::enumerators::carrier_of;
 use crate::arrays::{align, array, hoist, varying};
@@ -115,13 +116,13 @@ pub fn take_step<L: Ledger>(
     requires few { machine.old.count + 1 < 2 ^ 32 }
     requires cells { machine.old.cells + 1 < 2 ^ 32 }
     ensures does { Comes (step values.now order octets.now instr (state_of machine.old)) result (state_of machine.new) }
-    ensures noted { Noted (step_items order octets.now instr machine.old) (notes_seen items.old items.new (L.number steps.old) (L.number steps.new) machine.old.cells machine.new.cells) result }
+    ensures noted { Noted (step_items order machine.old.home octets.now instr (state_of machine.old)) (notes_seen items.old items.new (L.number steps.old) (L.number steps.new) machine.old.cells machine.new.cells) result }
     ensures home { machine.new.home ≡ machine.old.home }
 {
     match instr {
         Instr::Void => machine.skip(),
         Instr::Ret => return Ok(machine.ret()),
-        Instr::Align { to: _ } => align(machine, octets.len() as u32, items, steps)?,
+        Instr::Align { to: _ } => align(machine, octets, items, steps)?,
         Instr::Num { of } => number(machine, order, octets, prim_of(of.0), items, steps)?,
         Instr::Enum { of } => enumerated(machine, order, octets, values, of, items, steps)?,
         Instr::Record { members } => machine.record(members)?,
@@ -191,7 +192,7 @@ fn try_arm<L: Ledger>(
     requires fits { machine.old.at + 8 < 2 ^ 32 }
     requires few { machine.old.count + 1 < 2 ^ 32 }
     ensures does { Does (arm_tried label run (state_of machine.old)) result (state_of machine.new) }
-    ensures noted { Noted (tried_items label machine.old) (notes_seen items.old items.new (L.number steps.old) (L.number steps.new) machine.old.cells machine.new.cells) result }
+    ensures noted { Noted (arm_items machine.old.home label (state_of machine.old)) (notes_seen items.old items.new (L.number steps.old) (L.number steps.new) machine.old.cells machine.new.cells) result }
     ensures home { machine.new.home ≡ machine.old.home }
 {
     if label != machine.tag {

@@ -3,9 +3,9 @@ ghost use Rattle.std.specs.Prelude.{◌≡◌, ◌<◌, ◌+◌, ◌^◌, length
 ghost use Rattle.nd_grammar.specs.Refusal.{text_refusal};
 ghost use Rattle.ndr_steps.specs.Steps.{text_by, text_done};
 ghost use Rattle.ndr_state.specs.Seen.{state_of, Does, phase_of};
-ghost use Rattle.ndr_machine.specs.Notes.{Noted, notes_seen, text_items};
-ghost use Rattle.ndr_state.specs.Seen.{next_item};
 ghost use Rattle.nd_value.specs.declared.item.ItemKind.TheVariants as item;
+ghost use Rattle.ndr_steps.specs.StepItems.{next_item, text_items};
+ghost use Rattle.ndr_state.specs.Notes.{Noted, notes_seen};
 
 use crate::arrays::count_read;
 use nd_base::{Ledger, Order, Steps};
@@ -28,13 +28,14 @@ pub(crate) fn text<L: Ledger>(
     requires fits { machine.old.at + length octets.now < 2 ^ 32 }
     requires few { machine.old.count + 1 < 2 ^ 32 }
     ensures does { Does (text_by order octets.now (phase_of machine.old.phase) limit (state_of machine.old)) result (state_of machine.new) }
-    ensures noted { Noted (text_items machine.old.phase order octets.now machine.old) (notes_seen items.old items.new (L.number steps.old) (L.number steps.new) machine.old.cells machine.new.cells) result }
+    ensures noted { Noted (text_items order machine.old.home octets.now (phase_of machine.old.phase) (state_of machine.old)) (notes_seen items.old items.new (L.number steps.old) (L.number steps.new) machine.old.cells machine.new.cells) result }
     ensures home { machine.new.home ≡ machine.old.home }
 {
     match machine.phase {
         Phase::CountRead(_) => text_octets(machine, octets, limit, items, steps),
         Phase::OffsetRead(_) => text_count(machine, read_count(order, octets), limit, items, steps),
-        Phase::Begun | Phase::GapRead => text_offset(machine, 
+        Phase::Begun | Phase::GapRead => text_offset(
+            machine,
             read_count(order, octets),
             items,
             steps,
@@ -51,7 +52,7 @@ fn text_offset<L: Ledger>(
 ) -> Result<(), DecodeFault>
     requires fits { machine.old.at + 4 < 2 ^ 32 }
     ensures does { Does (text_offset_read offset (state_of machine.old)) result (state_of machine.new) }
-    ensures noted { Noted (next_item machine.old item.Offset 4 (pos offset) ∷ []) (notes_seen items.old items.new (L.number steps.old) (L.number steps.new) machine.old.cells machine.new.cells) result }
+    ensures noted { Noted (next_item machine.old.home (state_of machine.old) item.Offset 4 (pos offset) ∷ []) (notes_seen items.old items.new (L.number steps.old) (L.number steps.new) machine.old.cells machine.new.cells) result }
     ensures home { machine.new.home ≡ machine.old.home }
 {
     if offset != 0 {
@@ -73,7 +74,7 @@ fn text_count<L: Ledger>(
 ) -> Result<(), DecodeFault>
     requires fits { machine.old.at + 4 < 2 ^ 32 }
     ensures does { Does (text_count_read count limit (state_of machine.old)) result (state_of machine.new) }
-    ensures noted { Noted (next_item machine.old item.Actual 4 (pos count) ∷ []) (notes_seen items.old items.new (L.number steps.old) (L.number steps.new) machine.old.cells machine.new.cells) result }
+    ensures noted { Noted (next_item machine.old.home (state_of machine.old) item.Actual 4 (pos count) ∷ []) (notes_seen items.old items.new (L.number steps.old) (L.number steps.new) machine.old.cells machine.new.cells) result }
     ensures home { machine.new.home ≡ machine.old.home }
 {
     if count == 0 {
@@ -88,7 +89,8 @@ fn text_count<L: Ledger>(
             reason: Reason::PastBound,
         });
     }
-    count_read(machine, 
+    count_read(
+            machine,
         ItemKind::Actual,
         count,
         Phase::CountRead(count - 1),
@@ -110,7 +112,7 @@ fn text_octets<L: Ledger>(
     requires fits { machine.old.at + length octets.now < 2 ^ 32 }
     requires few { machine.old.count + 1 < 2 ^ 32 }
     ensures does { Does (text_done (text_refusal machine.old.at octets.now) limit octets.now (state_of machine.old)) result (state_of machine.new) }
-    ensures noted { Noted (next_item machine.old item.Text (length octets.now) (pos (length octets.now)) ∷ []) (notes_seen items.old items.new (L.number steps.old) (L.number steps.new) machine.old.cells machine.new.cells) result }
+    ensures noted { Noted (next_item machine.old.home (state_of machine.old) item.Text (length octets.now) (pos (length octets.now)) ∷ []) (notes_seen items.old items.new (L.number steps.old) (L.number steps.new) machine.old.cells machine.new.cells) result }
     ensures home { machine.new.home ≡ machine.old.home }
 {
     if let Some((place, reason)) = refused_text(machine.at, octets) {

@@ -4,7 +4,8 @@ ghost use Rattle.nd_types.specs.Table.{width};
 ghost use Rattle.ndr_code.specs.Lines.{enumerators};
 ghost use Rattle.ndr_steps.specs.Steps.{goes, arm_taken, tag_step, form_by};
 ghost use Rattle.ndr_state.specs.Seen.{state_of, Does};
-ghost use Rattle.ndr_machine.specs.Notes.{Noted, arm_items, notes_seen};
+ghost use Rattle.ndr_steps.specs.StepItems.{tag_items};
+ghost use Rattle.ndr_state.specs.Notes.{Noted, notes_seen};
 
 use crate::enumerators::{carrier_of, is_enumerator};
 use nd_base::{Ledger, Order, Steps};
@@ -54,7 +55,7 @@ pub(crate) fn arm<L: Ledger>(
     requires fits { machine.old.at + 8 < 2 ^ 32 }
     requires few { machine.old.count + 1 < 2 ^ 32 }
     ensures does { Does (goes (arm_taken (eqb run 0) run (state_of machine.old))) result (state_of machine.new) }
-    ensures noted { Noted (arm_items machine.old) (notes_seen items.old items.new (L.number steps.old) (L.number steps.new) machine.old.cells machine.new.cells) result }
+    ensures noted { Noted (tag_items machine.old.home (state_of machine.old)) (notes_seen items.old items.new (L.number steps.old) (L.number steps.new) machine.old.cells machine.new.cells) result }
     ensures home { machine.new.home ≡ machine.old.home }
 {
     let len = width_of(machine.carrier) as u32;

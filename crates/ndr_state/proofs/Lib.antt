@@ -1,2 +1,4 @@
 mod Values
 mod Identifiers
+mod Kept
+mod Frames

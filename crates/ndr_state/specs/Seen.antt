@@ -1,13 +1,9 @@
 -- What contracts see of a machine, and what a step comes to.
 -- `m` is a machine, `s` its state, `o` what a step comes to.
-use Rattle.std.specs.Prelude.{◌≡◌, ℕ, ◌+◌, ◌*◌, ℤ, pos, Bool, if◌then◌else◌, ◌==◌, List, ◌++◌, length, take, drop, map, reverse, Option, Some, None, Result, Ok, Err, option_map}
+use Rattle.std.specs.Prelude.{◌≡◌, List, ◌++◌, take, drop, map, reverse, Result, Ok, Err}
 use Rattle.nd_grammar.specs.declared.reason.Reason.{Reason}
 use Rattle.nd_value.specs.Agreement.{Agreement}
-use Rattle.nd_value.specs.Logged.{Logged, noted}
 use Rattle.nd_value.specs.Seen.{cell_number}
-use Rattle.nd_value.specs.declared.item.Item.{Item}
-use Rattle.nd_value.specs.declared.item.ItemKind.{ItemKind}
-use Rattle.nd_value.specs.declared.item.ItemKind.TheVariants as item
 use Rattle.ndr_steps.specs.Steps as steps
 use Rattle.ndr_steps.specs.Steps.{State, Outcome, goes, refused, whole}
 use Rattle.ndr_state.specs.declared.fault.DecodeFault.{DecodeFault}
@@ -81,23 +77,3 @@ Does o (Ok u) s = o ≡ goes s
 Does o (Err (fault.Bad place why)) s = o ≡ refused place why
 Does o (Err fault.ReadFault) s = ⊥
 Does o (Err fault.Memory) s = Unit {0}
-
--- ## Items
-
--- a gap belongs to the home as a whole
-abbrev pub item_node : ItemKind → ℕ → ℕ
-item_node item.Gap next = 0
-item_node kind next = next
-
--- the item at the place where the machine is, of the node that comes next
-abbrev pub next_item : Machine → ItemKind → ℕ → ℤ → Item
-next_item m kind len value = record { at = m.at; len = len; kind = kind; home = m.home; node = item_node kind m.count; value = value }
-
--- an empty gap is no item
-abbrev pub gap_noted : Machine → ℕ → Logged → Logged
-gap_noted m len g = if len == 0 then g else noted (next_item m item.Gap len (pos 0)) g
-
--- the number that comes so many numbers after the next one
-abbrev pub number_ahead : Machine → ℕ → ℕ → ℤ → Item
-number_ahead m ahead wide value =
-    record { at = m.at + ahead * wide; len = wide; kind = item.Num; home = m.home; node = m.count + ahead; value = value }

@@ -9,7 +9,7 @@ use nd_flat::Seen;
 use ndr_steps::{Frame, Member};
 
 impl Machine {
-    // Goes past octets to the next instruction.
+    /// Goes past octets to the next instruction. Takes no memory.
     pub fn pass(&mut self, len: u32)
         requires code { self.old.pc < 2 ^ 32 }
         requires few { self.old.at + len < 2 ^ 32 }
@@ -22,7 +22,7 @@ impl Machine {
         self.pc += 1;
     }
 
-    // Goes to an instruction.
+    /// Goes to an instruction. Takes no memory.
     pub fn jump(&mut self, to: usize)
         ensures is { state_of self.new ≡ jumped to (state_of self.old) }
         ensures count { self.new.count ≡ self.old.count }
@@ -32,7 +32,7 @@ impl Machine {
         self.pc = to;
     }
 
-    // Goes to the next instruction.
+    /// Goes to the next instruction. Takes no memory.
     pub fn skip(&mut self)
         requires code { self.old.pc < 2 ^ 32 }
         ensures is { state_of self.new ≡ next (state_of self.old) }
@@ -42,7 +42,7 @@ impl Machine {
         self.jump(self.pc + 1);
     }
 
-    // Opens a frame around the value that is read next.
+    /// Opens a frame around the value that is read next, which takes memory. Out of memory is the only refusal.
     pub fn push(&mut self, frame: Frame) -> Result<(), DecodeFault>
         ensures ok { OnOk result (state_of self.new ≡ pushed frame (state_of self.old)) }
         ensures count { self.new.count ≡ self.old.count }
@@ -57,7 +57,7 @@ impl Machine {
         Ok(())
     }
 
-    // Closes a frame.
+    /// Closes the innermost frame. Takes no memory.
     pub fn pop(&mut self)
         ensures is { state_of self.new ≡ popped (state_of self.old) }
         ensures count { self.new.count ≡ self.old.count }
@@ -69,7 +69,8 @@ impl Machine {
         };
     }
 
-    // `record`
+    /// The instruction `record`: a struct of so many members begins. It takes memory, and out of memory is the only refusal; then nothing is known of
+    /// the machine.
     pub fn record(&mut self, members: u32) -> Result<(), DecodeFault>
         requires code { self.old.pc < 2 ^ 32 }
         requires few { self.old.count + 1 < 2 ^ 32 }
@@ -83,7 +84,8 @@ impl Machine {
         Ok(())
     }
 
-    // `call`
+    /// The instruction `call`: in a struct a run is that of the next member, else it takes the place of the one that is followed. It takes memory for a
+    /// member, and out of memory is the only refusal; then nothing is known of the machine.
     pub fn call(&mut self, run: u32) -> Result<(), DecodeFault>
         requires code { self.old.pc < 2 ^ 32 }
         ensures does { Does (goes (call_from self.old.top run (state_of self.old))) result (state_of self.new) }
@@ -124,7 +126,7 @@ impl Machine {
         Ok(())
     }
 
-    // `close`
+    /// The instruction `close`: a struct ends. Takes no memory.
     pub fn close(&mut self)
         requires code { self.old.pc < 2 ^ 32 }
         ensures is { state_of self.new ≡ close_of self.old.top (state_of self.old) }
@@ -163,7 +165,7 @@ impl Machine {
         self.skip();
     }
 
-    // `ret`
+    /// The instruction `ret`: a value ends, and what is around it goes on. Takes no memory.
     pub fn ret(&mut self) -> Progress
         ensures does { Comes (back_to self.old.top (state_of self.old)) (Ok result) (state_of self.new) }
         ensures home { self.new.home ≡ self.old.home }

@@ -64,7 +64,6 @@ pub struct Machine {
     pub stack: Vec<Frame>,
     /// How many nodes the home has so far, and what is kept of the first.
     pub count: u32,
-    pub ghost counted: { count ≡ length builder.nodes },
     pub own: Option<First>,
     /// The members of the structs that are open, and what is kept of the first node of each.
     pub members: Vec<Member>,
@@ -76,6 +75,7 @@ pub struct Machine {
     pub ghost spans: { AllByRecursion (λ o. o.from + o.len ≤ length wanted.items) fresh.items },
     /// The graph so far, and the numbers of full pointers.
     pub builder: Builder,
+    pub ghost counted: { count ≡ length builder.nodes },
     /// How many cells have their numbers.
     pub cells: u32,
     pub ghost numbered: { cells ≡ length builder.graph.cells },

@@ -10,7 +10,8 @@ use nd_flat::Seen;
 use ndr_steps::{First, Frame};
 
 impl Machine {
-    // Adds a node. `place` is where its actual count or its tag is, if it has one.
+    /// Adds a node. `place` is where its actual count or its tag is in the stream, if it has one. A number or tag must be from -2^64 to 2^64 - 1, and a
+    /// text have fewer than 2^32 octets with its terminator. It takes memory, and out of memory is the only refusal; then nothing is known of the machine.
     pub fn add(&mut self, node: &Seen<'_>, place: Option<u32>) -> Result<(), DecodeFault>
         requires keepable { IsKeepable (flat_seen node.now).0 }
         requires short { length (text_of (flat_seen node.now).0) + 1 < 2 ^ 32 }

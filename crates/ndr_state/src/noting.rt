@@ -1,7 +1,9 @@
 // Items as they are read.
-ghost use Rattle.std.specs.Prelude.{◌≡◌, ◌+◌, ◌*◌, ◌<◌, ◌^◌, OnOk, OnErr, IfErr};
+ghost use Rattle.std.specs.Prelude.{◌≡◌, ◌+◌, ◌*◌, ◌<◌, ◌^◌, length, OnOk, OnErr, IfErr};
 ghost use Rattle.nd_value.specs.Logged.{noted, ticks_of};
-ghost use Rattle.ndr_state.specs.Seen.{next_item, gap_noted, number_ahead};
+ghost use Rattle.ndr_steps.specs.StepItems.{next_item, gap_items};
+ghost use Rattle.ndr_state.specs.Seen.{state_of};
+ghost use Rattle.ndr_state.specs.Notes.{all_noted, number_ahead};
 ghost use Rattle.ndr_state.specs.declared.fault.DecodeFault.TheVariants as fault;
 
 use crate::{DecodeFault, Machine};
@@ -9,8 +11,8 @@ use nd_base::{Ledger, Steps};
 use nd_value::{Item, ItemKind, ItemLog};
 
 impl Machine {
-    /// Notes an item at the place where the machine is: it belongs to the node that comes next, a gap to the home as a whole. It takes memory, if the
-    /// log keeps items; then neither the log nor the count has changed.
+    /// Notes an item of the node that comes next, at the place where the machine is. It takes memory, if the log keeps items; then neither the log nor
+    /// the count has changed. Out of memory is the only refusal.
     pub fn note<L: Ledger>(
         &self,
         kind: ItemKind,
@@ -19,7 +21,7 @@ impl Machine {
         items: &mut ItemLog,
         steps: &mut Steps<L>,
     ) -> Result<(), DecodeFault>
-        ensures ok { OnOk result (items.new ≡ noted (next_item self.now kind len value) items.old) }
+        ensures ok { OnOk result (items.new ≡ noted (next_item self.now.home (state_of self.now) kind len value) items.old) }
         ensures ticks { OnOk result (L.number steps.new ≡ L.number steps.old + ticks_of kind) }
         ensures err { OnErr result (items.new ≡ items.old) }
         ensures idle { OnErr result (steps.new ≡ steps.old) }
@@ -30,33 +32,43 @@ impl Machine {
             len,
             kind,
             home: self.home,
-            node: node_of(kind, self.count),
+            node: self.count,
             value,
         };
         items.note(item, steps)?;
         Ok(())
     }
 
-    /// Notes a gap of so many octets as `note` does; an empty one is no item.
+    /// Notes the gap of these octets as `note` does, as an item of the home as a whole; an empty gap is no item. A gap has fewer than 2^32 octets.
     pub fn note_gap<L: Ledger>(
         &self,
-        len: u32,
+        octets: &[u8],
         items: &mut ItemLog,
         steps: &mut Steps<L>,
     ) -> Result<(), DecodeFault>
-        ensures ok { OnOk result (items.new ≡ gap_noted self.now len items.old) }
+        requires short { length octets.now < 2 ^ 32 }
+        ensures ok { OnOk result (items.new ≡ all_noted (gap_items self.now.home self.now.at octets.now) items.old) }
         ensures ticks { OnOk result (L.number steps.new ≡ L.number steps.old) }
         ensures err { OnErr result (items.new ≡ items.old) }
         ensures idle { OnErr result (steps.new ≡ steps.old) }
         ensures memory { IfErr result (λ e. e ≡ fault.Memory) }
     {
-        if len == 0 {
+        if octets.is_empty() {
             return Ok(());
         }
-        self.note(ItemKind::Gap, len, 0, items, steps)
+        let item = Item {
+            at: self.at,
+            len: octets.len() as u32,
+            kind: ItemKind::Gap,
+            home: self.home,
+            node: 0,
+            value: 0,
+        };
+        items.note(item, steps)?;
+        Ok(())
     }
 
-    // Notes the number that comes so many numbers after the next one in a row.
+    /// Notes the number that comes so many numbers after the next one in a row, each so wide, as `note` does.
     pub fn note_ahead<L: Ledger>(
         &self,
         ahead: u32,
@@ -67,7 +79,7 @@ impl Machine {
     ) -> Result<(), DecodeFault>
         requires fits { self.now.at + ahead * wide < 2 ^ 32 }
         requires few { self.now.count + ahead < 2 ^ 32 }
-        ensures ok { OnOk result (items.new ≡ noted (number_ahead self.now ahead wide value) items.old) }
+        ensures ok { OnOk result (items.new ≡ noted (number_ahead self.now.home (state_of self.now) ahead wide value) items.old) }
         ensures ticks { OnOk result (L.number steps.new ≡ L.number steps.old + 1) }
         ensures err { OnErr result (items.new ≡ items.old) }
         ensures idle { OnErr result (steps.new ≡ steps.old) }
@@ -83,17 +95,5 @@ impl Machine {
         };
         items.note(item, steps)?;
         Ok(())
-    }
-}
-
-ghost use Rattle.ndr_state.specs.Seen.{item_node};
-
-// The node of an item: a gap belongs to the home as a whole.
-fn node_of(kind: ItemKind, next: u32) -> u32
-    ensures { result ≡ item_node kind next }
-{
-    match kind {
-        ItemKind::Gap => 0,
-        _ => next,
     }
 }

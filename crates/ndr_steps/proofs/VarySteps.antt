@@ -156,7 +156,7 @@ module _ (order : Order) (fetched os : List ℕ) (code : List Instr) (values : L
             let told' : Told (noted ++ count_items order h os item.Offset s) order (fetched ++ os) h (seen ++ x ∷ []) names s.cells s.numbers s.max_at (length s.nodes) (offset_before (s.at + 4) ∷ []) =
             subst (λ j. Told (noted ++ count_items order h os item.Offset s) order (fetched ++ os) h (seen ++ x ∷ []) names s.cells s.numbers s.max_at j (offset_before (s.at + 4) ∷ [])) (sym same_count)
             (told_counted order fetched os h s.at (Offset false v) seen names s.cells s.numbers s.max_at n [] (offset_before (s.at + 4) ∷ []) (count_items order h os item.Offset s)
-                (items_it order fetched os [] s.at reached x.entry seen (sym size) ∙ ap (λ j. item_here h s.at item.Offset 4 (pos v) j ∷ []) (sym same_count)) refl tt
+            (items_it order fetched os [] s.at reached x.entry seen (sym size) ∙ ap (λ j. item_here h s.at item.Offset 4 (pos v) j ∷ []) (sym same_count)) refl tt
             (lies_it order fetched os [] s.at reached x.entry seen (sym size)) (after_offset s.max_at false v s.at)
             (subst (λ j. Told noted order fetched h seen names s.cells s.numbers s.max_at j []) same_count told)) in
             plain_good order (fetched ++ os) code table h own limit (noted ++ count_items order h os item.Offset s) target (at_offset t (def.Array elem bound true) (bound_or bound s.max) elem.0 v) tt (past 4 (offset_read v) s) (suc k) fs (seen ++ x ∷ []) names
