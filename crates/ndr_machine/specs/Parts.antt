@@ -13,7 +13,6 @@ use Rattle.nd_types.specs.Table.{width}
 use Rattle.nd_value.specs.Agreement.{Agreement, agreement}
 use Rattle.nd_value.specs.Tree as tree
 use Rattle.nd_value.specs.Tree.{Flat}
-use Rattle.nd_flat.specs.FlatForm.{row_values, num_flats}
 use Rattle.nd_grammar.specs.declared.reason.Reason.{Reason}
 use Rattle.nd_grammar.specs.declared.reason.Reason.TheVariants as reason
 use Rattle.nd_grammar.specs.Reader.{identifier}
@@ -117,50 +116,3 @@ full_read to run n s = if eqb n 0 then goes (done_after 4 (owing Full to run Non
 abbrev pub context_read : Order → List ℕ → State → Outcome
 context_read order os s =
     goes (done_after 20 (with_node (tree.Context (unsigned order (take 4 os)) (identifier order os (drop 4 os)), 0) None s))
-
--- ## Rows of numbers
-
--- so many elements fewer are left
-abbrev pub with_fewer : ℕ → Frame → Frame
-with_fewer n (frame.Elements left run back) = frame.Elements (left - n) run back
-with_fewer n f = f
-
--- so many elements are left after the one that is being read
-abbrev pub HasLeft : ℕ → Frame → Type 0
-HasLeft n (frame.Elements left run back) = n ≤ left
-HasLeft n f = ⊥
-
--- nodes more, of elements of which so many fewer are left
-abbrev pub with_row : List Flat → Frame → State → State
-with_row xs top s = record {
-  pc = s.pc;
-  phase = s.phase;
-  at = s.at;
-  max = s.max;
-  max_at = s.max_at;
-  tag = s.tag;
-  carrier = s.carrier;
-  top = top;
-  stack = s.stack;
-  nodes = s.nodes ++ xs;
-  own = s.own;
-  members = s.members;
-  firsts = s.firsts;
-  fresh = s.fresh;
-  cells = s.cells;
-  numbers = s.numbers;
-}
-
--- a row of so many numbers, of which the last is at its `ret`
-abbrev pub row_read : Order → Primitive → ℕ → List ℕ → State → State
-row_read order p n os s = done_after (length os) (with_row (num_flats (row_values order p n os)) (with_fewer (n - 1) s.top) s)
-
--- the elements of an array are numbers of this primitive, of which none but the first has a gap: `pc` is the address of their `num`
-abbrev pub IsNumberRun : List Instr → ℕ → ℕ → Primitive → Type 0
-IsNumberRun code run pc p =
-    (slice_get code (pc + 1) ≡ Some op.Ret)
-    × (((run ≡ pc) × (width p ≡ 1)) ⊎ ((run + 1 ≡ pc) × (slice_get code run ≡ Some (op.Align (width p)))))
-
-abbrev pub IsInRow : List Instr → ℕ → ℕ → Primitive → Frame → Type 0
-IsInRow code n pc p (frame.Elements left run back) = (n ≤ left) × IsNumberRun code run pc p
-IsInRow code n pc p f = ⊥

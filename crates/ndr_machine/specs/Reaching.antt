@@ -1,4 +1,4 @@
--- What a run of the code over octets comes to, from a state on, by its steps.
+-- What a run of the code over octets comes to, from a state on, by its steps (`ndr_runs: specs/Reaching`).
 -- `s0` is the state at the beginning, `s` one that was reached, `fetched` are the octets of the steps so far and `noted` their items, `os` the octets of
 -- one step, `i` is an instruction.
 use Rattle.std.specs.Prelude.{◌≡◌, ◌≤◌, ◌<◌, ℕ, ◌+◌, ◌^◌, true, List, [], ◌++◌, length, slice_get, Option, Some, Result, Ok, Err}
@@ -14,9 +14,9 @@ use Rattle.ndr_code.specs.declared.instr.Instr.{Instr}
 use Rattle.ndr_code.specs.declared.lists.EnumList.{EnumList}
 use Rattle.ndr_intake.specs.declared.intake.IntakeFault.{IntakeFault}
 use Rattle.ndr_intake.specs.declared.intake.IntakeFault.TheVariants as intake
-use Rattle.ndr_steps.specs.Steps.{State, goes, refused, whole, wants, step}
-use Rattle.ndr_steps.specs.StepItems.{step_items}
+use Rattle.ndr_steps.specs.Steps.{State, refused, whole, wants, step}
 use Rattle.ndr_steps.specs.Good.{HasOctets, IsCut, IsTooLong}
+use Rattle.ndr_runs.specs.Reaching.{Reaches}
 use Rattle.ndr_state.specs.declared.fault.DecodeFault.{DecodeFault}
 use Rattle.ndr_state.specs.declared.fault.DecodeFault.TheVariants as fault
 use Rattle.ndr_state.specs.declared.fault.Progress.{Progress}
@@ -24,14 +24,7 @@ use Rattle.ndr_state.specs.declared.fault.Progress.TheVariants as progress
 use Rattle.ndr_machine.specs.Parts.{IsInner}
 use Rattle.ndr_state.specs.Notes.{NotesSeen, all_noted, ticks}
 
--- ## States that are reached
-
-module _ (values : List EnumList) (order : Order) (code : List Instr) (h : Home) (s0 : State) where
-  -- each step gets the octets that it wants, and is not refused
-  pub data Reaches : List ℕ → List Item → State → Type 0 where
-    begins : Reaches [] [] s0
-    steps_to : (fetched os : List ℕ) (noted : List Item) (s next : State) (i : Instr) → Reaches fetched noted s → slice_get code s.pc ≡ Some i
-        → HasOctets (wants values i s) os s.at → step values order os i s ≡ goes next → Reaches (fetched ++ os) (noted ++ step_items order h os i s) next
+-- ## States
 
 -- A state at which the code can go on: it is at an instruction of a home's value, and its counts fit in 32 bits.
 pub record IsSafe (code : List Instr) (s : State) : Type 0 where

@@ -8,8 +8,9 @@ ghost use Rattle.ndr_intake.specs.declared.TheConstants.{PIECE};
 ghost use Rattle.ndr_code.specs.declared.instr.Instr.TheVariants as op;
 ghost use Rattle.ndr_steps.specs.Steps.{State, prim_of};
 ghost use Rattle.ndr_state.specs.Seen.{state_of};
-ghost use Rattle.ndr_machine.specs.Parts.{IsInRow};
-ghost use Rattle.ndr_machine.specs.Reaching.{Reaches, IsSafe, Ends, Turns, stream_answer};
+ghost use Rattle.ndr_runs.specs.Rows.{IsInRow};
+ghost use Rattle.ndr_machine.specs.Reaching.{IsSafe, Ends, Turns, stream_answer};
+ghost use Rattle.ndr_runs.specs.Reaching.{Reaches};
 ghost use Rattle.ndr_state.specs.Notes.{notes_seen};
 
 use crate::rows::{note_row, read_row, row_len};
