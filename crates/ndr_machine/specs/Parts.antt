@@ -35,15 +35,6 @@ HasWanted no_octets os = os ≡ []
 HasWanted (gap_of n) os = length os ≡ n
 HasWanted (item_of n) os = length os ≡ n
 
--- an instruction of a home's value
-abbrev pub IsInner : Instr → Type 0
-IsInner (op.Align n) = 0 < n
-IsInner (op.Direct to run) = ⊥
-IsInner (op.Given a f v star) = ⊥
-IsInner (op.Pipe run) = ⊥
-IsInner op.Defer = ⊥
-IsInner _ = Unit {0}
-
 abbrev pub actual_read : ℕ → ℕ → ℕ → ℕ → State → Outcome
 actual_read o c limit run s =
     if ltb limit (o + c) then refused s.at reason.PastBound else goes (elements c run (with_node (tree.Arr limit o, c) (Some s.at) (past 4 begun s)))

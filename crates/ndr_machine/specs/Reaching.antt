@@ -14,14 +14,13 @@ use Rattle.ndr_code.specs.declared.instr.Instr.{Instr}
 use Rattle.ndr_code.specs.declared.lists.EnumList.{EnumList}
 use Rattle.ndr_intake.specs.declared.intake.IntakeFault.{IntakeFault}
 use Rattle.ndr_intake.specs.declared.intake.IntakeFault.TheVariants as intake
-use Rattle.ndr_steps.specs.Steps.{State, refused, whole, wants, step}
+use Rattle.ndr_steps.specs.Steps.{State, IsInner, refused, whole, wants, step}
 use Rattle.ndr_steps.specs.Good.{HasOctets, IsCut, IsTooLong}
 use Rattle.ndr_runs.specs.Reaching.{Reaches}
 use Rattle.ndr_state.specs.declared.fault.DecodeFault.{DecodeFault}
 use Rattle.ndr_state.specs.declared.fault.DecodeFault.TheVariants as fault
 use Rattle.ndr_state.specs.declared.fault.Progress.{Progress}
 use Rattle.ndr_state.specs.declared.fault.Progress.TheVariants as progress
-use Rattle.ndr_machine.specs.Parts.{IsInner}
 use Rattle.ndr_state.specs.Notes.{NotesSeen, all_noted, ticks}
 
 -- ## States

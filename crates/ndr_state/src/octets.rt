@@ -48,13 +48,15 @@ pub fn identifier(order: Order, from: &[u8]) -> Uuid
     }
 }
 
-/// The octets of a gap to a multiple of so many octets. Takes no memory.
+/// How many octets a gap to the next multiple of a number has: none where the number is 0, which is the alignment of no type. Takes no memory.
 pub fn gap_before(at: u32, to: u8) -> u32
-    requires some { 0 < to }
     ensures is { result ≡ gap at to }
-    ensures few { result < to }
+    ensures few { result < 256 }
 {
     let to = to as u32;
+    if to == 0 {
+        return 0;
+    }
     (to - at % to) % to
 }
 

@@ -19,7 +19,7 @@ ghost use Rattle.ndr_code.specs.Runs.{IsRunAt};
 ghost use Rattle.ndr_code.specs.Lines.{values_of};
 ghost use Rattle.ndr_reading.specs.Around.{going, stopped};
 ghost use Rattle.ndr_steps.specs.Spots.{IsFine, IsPlanned};
-ghost use Rattle.ndr_steps.specs.Steps.{State, wants, step};
+ghost use Rattle.ndr_steps.specs.Steps.{State, IsInner, wants, step};
 ghost use Rattle.ndr_steps.specs.StepItems.{step_items};
 ghost use Rattle.ndr_steps.specs.Good.{Good, IsBegun, IsRight, HasOctets, IsCut, IsTooLong};
 
@@ -58,10 +58,12 @@ pub fn homes_begin()
         → IsRunAt code s.pc (Hoist ∷ Call (place_at table own) ∷ Ret ∷ []) → Good order fetched code table h own 32 noted (λ octets. read_whole order octets table h own (going s.at seen) names) s }
 {}
 
-/// A state that means something is at an address of the code, and at most one frame more is open than values nest.
+/// A state that means something is at an address of the code, at an instruction of a home's value, and at most one frame more is open than values nest.
 pub fn states_are_within()
     ensures address { (order : Order) (fetched : List ℕ) (code : List Instr) (table : Table) (h : Home) (own limit : ℕ) (noted : List Item) (target : List ℕ → Read) (s : State) → Good order fetched code table h own limit noted target s
         → s.pc < length code }
+    ensures inner { (order : Order) (fetched : List ℕ) (code : List Instr) (table : Table) (h : Home) (own limit : ℕ) (noted : List Item) (target : List ℕ → Read) (s : State) → Good order fetched code table h own limit noted target s
+        → (i : Instr) → slice_get code s.pc ≡ Some i → IsInner i }
     ensures frames { (order : Order) (fetched : List ℕ) (code : List Instr) (table : Table) (h : Home) (own limit : ℕ) (noted : List Item) (target : List ℕ → Read) (s : State) → Good order fetched code table h own limit noted target s
         → length s.stack ≤ suc limit }
 {}
