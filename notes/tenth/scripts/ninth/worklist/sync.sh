@@ -1,0 +1,2 @@
+cd /work/c/tmp/worklist/try/r
+for c in $(grep -o '^[a-z_0-9]*' crates.txt | grep -v decode_try); do mkdir -p crates/$c; rsync -a --delete --exclude out /work/c/worklist/crates/$c/ crates/$c/ 2>/dev/null || { rm -rf crates/$c/src crates/$c/specs crates/$c/proofs; cp -r /work/c/worklist/crates/$c/src crates/$c/; cp -r /work/c/worklist/crates/$c/specs /work/c/worklist/crates/$c/proofs crates/$c/ 2>/dev/null; }; done
