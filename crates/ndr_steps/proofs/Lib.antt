@@ -1,3 +1,4 @@
+pub mod CountedCells
 pub mod Passing
 pub mod Arriving
 pub mod Adding
@@ -17,3 +18,5 @@ pub mod PlanRuns
 pub mod Begins
 pub mod Worked
 pub mod Bounds
+mod Alignments
+pub mod ChunkBegins

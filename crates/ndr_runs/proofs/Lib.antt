@@ -1,0 +1,11 @@
+pub mod RowSteps
+pub mod Joining
+pub mod GoodRuns
+pub mod PaidSteps
+pub mod TreeNodes
+pub mod FrameNodes
+pub mod Within
+pub mod Safe
+pub mod EndRuns
+pub mod ChunkSafe
+mod Worked

@@ -1,0 +1,5 @@
+mod Values
+mod Identifiers
+mod Empty
+mod Frames
+pub mod Outside
