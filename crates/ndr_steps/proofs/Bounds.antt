@@ -1,4 +1,4 @@
--- A state that means something is at an address of the code, and few frames are open.
+-- A state that means something is at an address of the code, at an instruction of a home's value, and few frames are open.
 use Rattle.std.proofs.Common.{◌≡◌, ◌≤◌, ◌<◌, ℕ, ◌+◌, zero, suc, true, false, List, [], ◌∷◌, ◌++◌, length, Option, Some, None, refl, ap, sym, ◌∙◌, subst, arith}
 use Rattle.std.specs.List.{slice_get}
 use Rattle.std.proofs.lemmas.Option.{same_Some, slice_get_within}
@@ -23,58 +23,62 @@ use Rattle.ndr_reading.specs.Around.{Around}
 use Rattle.ndr_reading.specs.Points.{Point, hoisting, counting, called, due, opened, offset_read, text_offset, text_counted, tagged, between, checking, has}
 use Rattle.ndr_steps.specs.declared.frame.Frame.{Frame}
 use Rattle.ndr_steps.specs.Spots.{IsFine, IsFormed, Inside, InsideAt, Spot, ChecksLeft, no_check, at_member, AtEnd, at_ret, at_void, rest_run, body_run}
-use Rattle.ndr_steps.specs.Steps.{State}
+use Rattle.ndr_steps.specs.Steps.{State, IsInner}
 use Rattle.ndr_steps.specs.Good.{Good}
 
 module _ (code : List Instr) (table : Table) (h : Home) (m pc : ℕ) where
-  at_run : (j : Instr) (is : List Instr) → IsRunAt code pc (j ∷ is) → pc < length code
-  at_run j is run = slice_get_within code pc j (first_at code pc j is run)
+  -- an instruction of a home's value is here
+  abbrev IsHere : Type 0
+  IsHere = (i : Instr) × (slice_get code pc ≡ Some i) × IsInner i
 
-  at_body : (t : ℕ) (d : TypeDef) → IsFormed table t d → IsRunAt code pc (body_run code table t d) → pc < length code
-  at_body t (def.Prim p) f run = at_run (op.Num (id t)) (op.Ret ∷ []) run
-  at_body t (def.Enum zs) f run = at_run (op.Enum (id t)) (op.Ret ∷ []) run
-  at_body t (def.Struct members) f run = at_run (op.Record (length members)) (rest_run code table members members) run
-  at_body t (def.Array elem (Some n) false) f run = at_run (op.Fixed n (place_at table elem.0)) (op.Ret ∷ []) run
-  at_body t (def.Array elem None false) f run = at_run (op.Conf (place_at table elem.0)) (op.Ret ∷ []) run
-  at_body t (def.Array elem (Some n) true) f run = at_run (op.Vary n (place_at table elem.0)) (op.Ret ∷ []) run
-  at_body t (def.Array elem None true) f run = at_run (op.Confvary (place_at table elem.0)) (op.Ret ∷ []) run
-  at_body t (def.Text elem bound) f run = at_run (op.Text (text_bound bound)) (op.Ret ∷ []) run
-  at_body t (def.Union tag enc arms default) f run = at_run (op.Tag tag) (arms_code (place_at table) arms ++ default_code (place_at table) default) run
-  at_body t (def.Pointer class to) f run = at_run (op.Pointer class to (whole_at table to.0)) (op.Ret ∷ []) run
-  at_body t def.Context f run = at_run op.Context (op.Ret ∷ []) run
+  at_run : (j : Instr) (is : List Instr) → IsInner j → IsRunAt code pc (j ∷ is) → IsHere
+  at_run j is inner run = (j, first_at code pc j is run, inner)
+
+  at_body : (t : ℕ) (d : TypeDef) → IsFormed table t d → IsRunAt code pc (body_run code table t d) → IsHere
+  at_body t (def.Prim p) f run = at_run (op.Num (id t)) (op.Ret ∷ []) tt run
+  at_body t (def.Enum zs) f run = at_run (op.Enum (id t)) (op.Ret ∷ []) tt run
+  at_body t (def.Struct members) f run = at_run (op.Record (length members)) (rest_run code table members members) tt run
+  at_body t (def.Array elem (Some n) false) f run = at_run (op.Fixed n (place_at table elem.0)) (op.Ret ∷ []) tt run
+  at_body t (def.Array elem None false) f run = at_run (op.Conf (place_at table elem.0)) (op.Ret ∷ []) tt run
+  at_body t (def.Array elem (Some n) true) f run = at_run (op.Vary n (place_at table elem.0)) (op.Ret ∷ []) tt run
+  at_body t (def.Array elem None true) f run = at_run (op.Confvary (place_at table elem.0)) (op.Ret ∷ []) tt run
+  at_body t (def.Text elem bound) f run = at_run (op.Text (text_bound bound)) (op.Ret ∷ []) tt run
+  at_body t (def.Union tag enc arms default) f run = at_run (op.Tag tag) (arms_code (place_at table) arms ++ default_code (place_at table) default) tt run
+  at_body t (def.Pointer class to) f run = at_run (op.Pointer class to (whole_at table to.0)) (op.Ret ∷ []) tt run
+  at_body t def.Context f run = at_run op.Context (op.Ret ∷ []) tt run
   at_body t (def.Pipe elem) f run = absurd f
 
-  at_array : (t : ℕ) (d : TypeDef) (e : TypeDef) → d ≡ e → IsFormed table t e → IsRunAt code pc (body_run code table t d) → pc < length code
+  at_array : (t : ℕ) (d : TypeDef) (e : TypeDef) → d ≡ e → IsFormed table t e → IsRunAt code pc (body_run code table t d) → IsHere
   at_array t d e ed f run = at_body t e f (subst (λ y. IsRunAt code pc (body_run code table t y)) ed run)
 
-  at_checks : (n : ℕ) (left : List AttrVar) (k : ℕ) (later : List Field) → IsRunAt code pc ((field_checks n left ++ member_checks k later) ++ (op.Close ∷ op.Ret ∷ [])) → pc < length code
-  at_checks n (a ∷ left) k later run = at_run (op.Check a.attr n a.var a.star) ((field_checks n left ++ member_checks k later) ++ (op.Close ∷ op.Ret ∷ [])) run
-  at_checks n [] k [] run = at_run op.Close (op.Ret ∷ []) run
+  at_checks : (n : ℕ) (left : List AttrVar) (k : ℕ) (later : List Field) → IsRunAt code pc ((field_checks n left ++ member_checks k later) ++ (op.Close ∷ op.Ret ∷ [])) → IsHere
+  at_checks n (a ∷ left) k later run = at_run (op.Check a.attr n a.var a.star) ((field_checks n left ++ member_checks k later) ++ (op.Close ∷ op.Ret ∷ [])) tt run
+  at_checks n [] k [] run = at_run op.Close (op.Ret ∷ []) tt run
   at_checks n [] k (g ∷ later) run = at_checks k g.vars (suc k) later run
 
   at_left : (f : Around) (members : List Field) (so_far : List (List Agreement)) (tests : List Entry) (checks : List Instr) → ChecksLeft code table h f members so_far tests checks
-      → IsRunAt code pc (checks ++ (op.Close ∷ op.Ret ∷ [])) → pc < length code
+      → IsRunAt code pc (checks ++ (op.Close ∷ op.Ret ∷ [])) → IsHere
   at_left f members so_far tests checks no_check run = at_checks 0 [] 0 [] run
   at_left f members so_far tests checks (at_member xs ys x done later g tried left em ed ec ev) run = at_checks (length done) left (length done + 1) later run
 
-  at_members : (members fields : List Field) → IsRunAt code pc (rest_run code table members fields) → pc < length code
-  at_members members (y ∷ ys) run = at_run (op.Call (place_at table y.of.0)) (rest_run code table members ys) run
+  at_members : (members fields : List Field) → IsRunAt code pc (rest_run code table members fields) → IsHere
+  at_members members (y ∷ ys) run = at_run (op.Call (place_at table y.of.0)) (rest_run code table members ys) tt run
   at_members members [] run = at_checks 0 [] 0 members run
 
-  at_arms : (left : List Arm) (default : Option Arm) → IsRunAt code pc (arms_code (place_at table) left ++ default_code (place_at table) default) → pc < length code
-  at_arms (a ∷ left) default run = at_run (op.Arm a.label (arm_run (place_at table) a.of)) (arms_code (place_at table) left ++ default_code (place_at table) default) run
-  at_arms [] (Some a) run = at_run (op.Other (arm_run (place_at table) a.of)) [] run
-  at_arms [] None run = at_run op.Noarm [] run
+  at_arms : (left : List Arm) (default : Option Arm) → IsRunAt code pc (arms_code (place_at table) left ++ default_code (place_at table) default) → IsHere
+  at_arms (a ∷ left) default run = at_run (op.Arm a.label (arm_run (place_at table) a.of)) (arms_code (place_at table) left ++ default_code (place_at table) default) tt run
+  at_arms [] (Some a) run = at_run (op.Other (arm_run (place_at table) a.of)) [] tt run
+  at_arms [] None run = at_run op.Noarm [] tt run
 
-  at_the_end : AtEnd code table pc → pc < length code
-  at_the_end (at_ret run) = at_run op.Ret [] run
-  at_the_end (at_void run) = at_run op.Void (op.Ret ∷ []) run
+  at_the_end : AtEnd code table pc → IsHere
+  at_the_end (at_ret run) = at_run op.Ret [] tt run
+  at_the_end (at_void run) = at_run op.Void (op.Ret ∷ []) tt run
 
-  at_point : (depth : ℕ) (p : Point) → Spot code table h m depth pc p → pc < length code
-  at_point depth (hoisting t) spot = at_run op.Hoist (op.Call (place_at table t) ∷ op.Ret ∷ []) spot.1
-  at_point depth (counting t) spot = at_run op.Hoist (op.Call (place_at table t) ∷ op.Ret ∷ []) spot.1
-  at_point depth (called t) spot = at_run (op.Call (place_at table t)) (op.Ret ∷ []) spot.1
-  at_point depth (due t) spot = at_run (op.Align spot.1.0) (body_run code table t spot.1.1.0) spot.1.1.3
+  at_point : (depth : ℕ) (p : Point) → Spot code table h m depth pc p → IsHere
+  at_point depth (hoisting t) spot = at_run op.Hoist (op.Call (place_at table t) ∷ op.Ret ∷ []) tt spot.1
+  at_point depth (counting t) spot = at_run op.Hoist (op.Call (place_at table t) ∷ op.Ret ∷ []) tt spot.1
+  at_point depth (called t) spot = at_run (op.Call (place_at table t)) (op.Ret ∷ []) tt spot.1
+  at_point depth (due t) spot = at_run (op.Align spot.1.0) (body_run code table t spot.1.1.0) tt spot.1.1.3
   at_point zero (opened t d) spot = absurd spot.0
   at_point (suc k) (opened t d) spot =
       let fine : IsFine table (suc k) t = spot.0 in
@@ -115,7 +119,11 @@ waiting_at code table (has t v) top stack fs inside = at_most (length stack) (le
 
 module _ (order : Order) (fetched : List ℕ) (code : List Instr) (table : Table) (h : Home) (own limit : ℕ) (noted : List Item) (target : List ℕ → Read) (s : State) (g : Good order fetched code table h own limit noted target s) where
   pub address_within : s.pc < length code
-  address_within = at_point code table h s.max s.pc g.depth g.point g.spot
+  address_within = let here_it = at_point code table h s.max s.pc g.depth g.point g.spot in slice_get_within code s.pc here_it.0 here_it.1
+
+  -- the instruction is one of a home's value
+  pub inner_there : (i : Instr) → slice_get code s.pc ≡ Some i → IsInner i
+  inner_there i e = let here_it = at_point code table h s.max s.pc g.depth g.point g.spot in subst IsInner (same_Some here_it.0 i (sym here_it.1 ∙ e)) here_it.2
 
   pub few_frames : length s.stack ≤ suc limit
   few_frames =

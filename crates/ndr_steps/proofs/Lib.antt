@@ -17,3 +17,4 @@ pub mod PlanRuns
 pub mod Begins
 pub mod Worked
 pub mod Bounds
+mod FewNodes

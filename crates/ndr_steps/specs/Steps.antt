@@ -509,6 +509,14 @@ abbrev pub limit_of : ℕ → State → ℕ
 limit_of zero s = s.max
 limit_of (suc n) s = suc n
 
+-- an instruction of a home's value; those of roots, pipes and parameters are not among them
+abbrev pub IsInner : Instr → Type 0
+IsInner (op.Direct to run) = ⊥
+IsInner (op.Given a f v star) = ⊥
+IsInner (op.Pipe run) = ⊥
+IsInner op.Defer = ⊥
+IsInner _ = Unit {0}
+
 module _ (values : List EnumList) (order : Order) (os : List ℕ) where
   abbrev pub number_step : Primitive → Option (List ℤ) → State → Outcome
   number_step p enums s =
@@ -537,7 +545,7 @@ module _ (values : List EnumList) (order : Order) (os : List ℕ) where
       let z : ℤ = value_of_octets order form.prim os in
       if is_enumerator form.values z then goes (next (with_tag z form.prim s)) else refused s.at reason.EnumValue
 
-  -- what an instruction of a home's value does; those of roots, pipes and parameters are not among them
+  -- what an instruction of a home's value does
   abbrev pub step : Instr → State → Outcome
   step op.Void s = goes (next s)
   step op.Ret s = back_to s.top s

@@ -9,7 +9,7 @@ ghost use Rattle.nd_types.specs.Layout.{hoists};
 ghost use Rattle.nd_value.specs.declared.item.Home.{Home};
 ghost use Rattle.nd_value.specs.declared.item.Item.{Item};
 ghost use Rattle.nd_grammar.specs.declared.reason.Reason.TheVariants.{Truncated, TooLong};
-ghost use Rattle.nd_grammar.specs.Reader.{Names, Read, read_whole};
+ghost use Rattle.nd_grammar.specs.Reader.{Names, Read, read_whole, tree_nodes};
 ghost use Rattle.nd_grammar.specs.Entry.{EntryAt};
 ghost use Rattle.ndr_code.specs.declared.instr.Instr.{Instr};
 ghost use Rattle.ndr_code.specs.declared.instr.Instr.TheVariants.{Hoist, Call, Ret};
@@ -19,7 +19,7 @@ ghost use Rattle.ndr_code.specs.Runs.{IsRunAt};
 ghost use Rattle.ndr_code.specs.Lines.{values_of};
 ghost use Rattle.ndr_reading.specs.Around.{going, stopped};
 ghost use Rattle.ndr_steps.specs.Spots.{IsFine, IsPlanned};
-ghost use Rattle.ndr_steps.specs.Steps.{State, wants, step};
+ghost use Rattle.ndr_steps.specs.Steps.{State, IsInner, wants, step};
 ghost use Rattle.ndr_steps.specs.StepItems.{step_items};
 ghost use Rattle.ndr_steps.specs.Good.{Good, IsBegun, IsRight, HasOctets, IsCut, IsTooLong};
 
@@ -58,10 +58,18 @@ pub fn homes_begin()
         → IsRunAt code s.pc (Hoist ∷ Call (place_at table own) ∷ Ret ∷ []) → Good order fetched code table h own 32 noted (λ octets. read_whole order octets table h own (going s.at seen) names) s }
 {}
 
-/// A state that means something is at an address of the code, and at most one frame more is open than values nest.
+/// A state that means something is at an address of the code, at an instruction of a home's value, and at most one frame more is open than values nest.
 pub fn states_are_within()
     ensures address { (order : Order) (fetched : List ℕ) (code : List Instr) (table : Table) (h : Home) (own limit : ℕ) (noted : List Item) (target : List ℕ → Read) (s : State) → Good order fetched code table h own limit noted target s
         → s.pc < length code }
+    ensures inner { (order : Order) (fetched : List ℕ) (code : List Instr) (table : Table) (h : Home) (own limit : ℕ) (noted : List Item) (target : List ℕ → Read) (s : State) → Good order fetched code table h own limit noted target s
+        → (i : Instr) → slice_get code s.pc ≡ Some i → IsInner i }
     ensures frames { (order : Order) (fetched : List ℕ) (code : List Instr) (table : Table) (h : Home) (own limit : ℕ) (noted : List Item) (target : List ℕ → Read) (s : State) → Good order fetched code table h own limit noted target s
         → length s.stack ≤ suc limit }
+{}
+
+/// The nodes so far are no more than those of the value that the plain reader gives, whatever octets follow.
+pub fn nodes_are_few()
+    ensures { (order : Order) (fetched : List ℕ) (code : List Instr) (table : Table) (h : Home) (own limit : ℕ) (noted : List Item) (target : List ℕ → Read) (s : State)
+        → Good order fetched code table h own limit noted target s → (later : List ℕ) → length s.nodes ≤ tree_nodes (target (fetched ++ later)).tree }
 {}

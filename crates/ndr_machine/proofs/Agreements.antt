@@ -1,0 +1,87 @@
+-- Agreements that are tried, and agreements of pointers.
+use Rattle.std.proofs.Common.{◌≡◌, ℕ, ◌-◌, zero, suc, ℤ, Bool, true, false, List, [], ◌∷◌, ◌++◌, Option, Some, None, refl, ap, append-nil}
+use Rattle.std.specs.Prelude.{if◌then◌else◌, option_map}
+use Rattle.nd_types.specs.declared.types.Attr.TheVariants as attr
+use Rattle.nd_value.specs.Agreement.{Agreement}
+use Rattle.nd_grammar.specs.declared.reason.Reason.{Reason}
+use Rattle.nd_grammar.specs.declared.reason.Reason.TheVariants as reason
+use Rattle.ndr_steps.specs.declared.first.First.{First}
+use Rattle.ndr_steps.specs.declared.first.First.TheVariants as first
+use Rattle.ndr_steps.specs.declared.first.Member.{Member}
+use Rattle.ndr_steps.specs.Steps.{State, Outcome, goes, refused, next, Owed, with_fresh, joined_by, checked, try_all, disagreed, place_of, place_in}
+use Rattle.ndr_machine.specs.Parts.{disagreement, count_place, tag_place}
+
+-- ## Places
+
+pub offset_is : (x : First) (max_at : Option ℕ) → place_of attr.First max_at (place_in x) ≡ option_map (λ n. n - 4) (count_place x)
+offset_is (first.Number z) max_at = refl
+offset_is first.Pointer max_at = refl
+offset_is (first.Counted max offset actual None) max_at = refl
+offset_is (first.Counted max offset actual (Some p)) max_at = refl
+offset_is (first.Tag tag None) max_at = refl
+offset_is (first.Tag tag (Some p)) max_at = refl
+offset_is first.Other max_at = refl
+
+pub length_is : (x : First) (max_at : Option ℕ) → place_of attr.Length max_at (place_in x) ≡ count_place x
+length_is (first.Number z) max_at = refl
+length_is first.Pointer max_at = refl
+length_is (first.Counted max offset actual None) max_at = refl
+length_is (first.Counted max offset actual (Some p)) max_at = refl
+length_is (first.Tag tag None) max_at = refl
+length_is (first.Tag tag (Some p)) max_at = refl
+length_is first.Other max_at = refl
+
+pub last_is : (x : First) (max_at : Option ℕ) → place_of attr.Last max_at (place_in x) ≡ count_place x
+last_is (first.Number z) max_at = refl
+last_is first.Pointer max_at = refl
+last_is (first.Counted max offset actual None) max_at = refl
+last_is (first.Counted max offset actual (Some p)) max_at = refl
+last_is (first.Tag tag None) max_at = refl
+last_is (first.Tag tag (Some p)) max_at = refl
+last_is first.Other max_at = refl
+
+pub switch_is : (x : First) (max_at : Option ℕ) → place_of attr.Switch max_at (place_in x) ≡ tag_place x
+switch_is (first.Number z) max_at = refl
+switch_is first.Pointer max_at = refl
+switch_is (first.Counted max offset actual None) max_at = refl
+switch_is (first.Counted max offset actual (Some p)) max_at = refl
+switch_is (first.Tag tag None) max_at = refl
+switch_is (first.Tag tag (Some p)) max_at = refl
+switch_is first.Other max_at = refl
+
+-- ## One agreement
+
+held_by : (b : Bool) (p : Option ℕ) (z y : ℤ) (o : Outcome) → (if b then None else option_map (λ (place : ℕ). (place, reason.Disagrees z y)) p) ≡ None
+    → (if b then o else disagreed p z y o) ≡ o
+held_by true p z y o h = refl
+held_by false None z y o h = refl
+held_by false (Some p) z y o h = cc
+
+failed_by : (b : Bool) (p : Option ℕ) (z y : ℤ) (o : Outcome) (place : ℕ) (why : Reason)
+    → (if b then None else option_map (λ (place : ℕ). (place, reason.Disagrees z y)) p) ≡ Some (place, why) → (if b then o else disagreed p z y o) ≡ refused place why
+failed_by true p z y o place why h = cc
+failed_by false None z y o place why h = cc
+failed_by false (Some p) z y o place why h = cc
+
+pub tried_held : (w : Agreement) (x : First) (s : State) → disagreement w x s.max_at ≡ None → try_all (w ∷ []) x s ≡ goes (next s)
+tried_held w x s h = held_by _ (place_of w.attr s.max_at (place_in x)) w.wanted _ (goes (next s)) h
+
+pub tried_failed : (w : Agreement) (x : First) (s : State) (place : ℕ) (why : Reason) → disagreement w x s.max_at ≡ Some (place, why)
+    → try_all (w ∷ []) x s ≡ refused place why
+tried_failed w x s place why h = failed_by _ (place_of w.attr s.max_at (place_in x)) w.wanted _ (goes (next s)) place why h
+
+-- ## No agreement
+
+pub joined_none : (os : List Owed) (n : ℕ) → joined_by [] os n ≡ os
+joined_none [] n = refl
+joined_none (o ∷ os) zero = ap (λ (a : List Agreement). record { class = o.class; to = o.to; run = o.run; cell = o.cell; agreements = a } ∷ os) (append-nil o.agreements)
+joined_none (o ∷ os) (suc n) = ap (λ (l : List Owed). o ∷ l) (joined_none os n)
+
+pub none_checked : (m : Option Member) (x : Option First) (s : State) → checked [] m x s ≡ goes (next s)
+none_checked None x s = refl
+none_checked (Some m) None s = refl
+none_checked (Some m) (Some (first.Number z)) s = refl
+none_checked (Some m) (Some first.Pointer) s = ap (λ (os : List Owed). goes (next (with_fresh os s))) (joined_none s.fresh m.pending)
+none_checked (Some m) (Some (first.Counted max offset actual place)) s = refl
+none_checked (Some m) (Some (first.Tag tag place)) s = refl
+none_checked (Some m) (Some first.Other) s = refl

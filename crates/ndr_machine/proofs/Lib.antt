@@ -1,0 +1,4 @@
+mod Agreements
+mod Zeros
+mod Searches
+mod Pending

@@ -1,0 +1,4 @@
+pub mod Parts
+pub mod Wanting
+pub mod Notes
+pub mod Reaching

@@ -1,0 +1,210 @@
+// What each instruction does.
+ghost use Rattle.std.specs.Prelude.{◌≡◌, ◌<◌, ◌+◌, ◌^◌, length};
+ghost use Rattle.ndr_steps.specs.Steps.{IsInner, step, wants, text_want, hoist_want, limit_of};
+ghost use Rattle.ndr_state.specs.Seen.{state_of, phase_of, Comes, Does, Wants};
+ghost use Rattle.ndr_machine.specs.Parts.{HasWanted, arm_tried};
+ghost use Rattle.ndr_steps.specs.StepItems.{arm_items, step_items};
+ghost use Rattle.ndr_state.specs.Notes.{Noted, notes_seen};
+
+use crate::enumerators::carrier_of;
+use crate::arrays::{align, array, hoist, varying};
+use crate::checks::check;
+use crate::numbers::{context, enumerated, number};
+use crate::pointers::{To, pointer};
+use crate::texts::text;
+use crate::unions::{arm, tag};
+use nd_base::{Ledger, Order, Steps};
+use nd_grammar::Reason;
+use nd_value::ItemLog;
+use ndr_code::{EnumLists, Instr};
+use ndr_prim::width_of;
+use ndr_state::{DecodeFault, Machine, Phase, Progress, gap_before, prim_of};
+
+/// What octets a step wants: those of a gap, or of a primitive.
+#[derive(Clone, Copy, Debug, PartialEq, Eq)]
+pub enum Want {
+    Gap(u32),
+    Item(u32),
+}
+
+/// The octets that an instruction wants next. Takes no memory.
+pub fn wanted(machine: &Machine, instr: Instr, values: &EnumLists) -> Want
+    requires inner { IsInner instr }
+    ensures { Wants (wants values.now instr (state_of machine.now)) result }
+{
+    match instr {
+        Instr::Align { to } => Want::Gap(gap_before(machine.at, to)),
+        Instr::Num { of } => Want::Item(width_of(prim_of(of.0)) as u32),
+        Instr::Enum { of: _ } => Want::Item(2),
+        Instr::Vary { bound: _, run: _ } => Want::Item(4),
+        Instr::Confvary { run: _ } => Want::Item(4),
+        Instr::Text { bound: _ } => text_wanted(machine),
+        Instr::Hoist => hoist_wanted(machine),
+        Instr::Tag { of } => Want::Item(width_of(carrier_of(values, of)) as u32),
+        Instr::Pointer {
+            class: _,
+            to: _,
+            run: _,
+        } => Want::Item(4),
+        Instr::Context => Want::Item(20),
+        Instr::Void
+        | Instr::Ret
+        | Instr::Record { members: _ }
+        | Instr::Close
+        | Instr::Fixed { count: _, run: _ }
+        | Instr::Conf { run: _ }
+        | Instr::Arm { label: _, run: _ }
+        | Instr::Other { run: _ }
+        | Instr::Noarm
+        | Instr::Direct { to: _, run: _ }
+        | Instr::Check {
+            attr: _,
+            field: _,
+            var: _,
+            star: _,
+        }
+        | Instr::Given {
+            attr: _,
+            field: _,
+            var: _,
+            star: _,
+        }
+        | Instr::Pipe { run: _ }
+        | Instr::Defer
+        | Instr::Call { run: _ } => Want::Gap(0),
+    }
+}
+
+// The octets that a string wants next.
+fn text_wanted(machine: &Machine) -> Want
+    ensures { Wants (text_want (phase_of machine.now.phase)) result }
+{
+    match machine.phase {
+        Phase::CountRead(count) => Want::Item(count.saturating_add(1)),
+        Phase::Begun | Phase::GapRead | Phase::OffsetRead(_) => Want::Item(4),
+    }
+}
+
+// The octets that a maximum count wants next.
+fn hoist_wanted(machine: &Machine) -> Want
+    ensures { Wants (hoist_want (phase_of machine.now.phase) machine.now.at) result }
+{
+    match machine.phase {
+        Phase::GapRead => Want::Item(4),
+        Phase::Begun | Phase::OffsetRead(_) | Phase::CountRead(_) => Want::Gap(gap_before(
+            machine.at, 4,
+        )),
+    }
+}
+
+/// What an instruction of a home's value does with the octets that it wanted, all fetched. The item that they are is noted, if they are not
+/// refused; each item but a gap, and each cell that gets its number, is counted as a step. It takes memory for what was read; after `Memory` nothing
+/// is known of the machine.
+pub fn take_step<L: Ledger>(
+    machine: &mut Machine,
+    order: Order,
+    octets: &[u8],
+    instr: Instr,
+    values: &EnumLists,
+    items: &mut ItemLog,
+    steps: &mut Steps<L>,
+) -> Result<Progress, DecodeFault>
+    requires inner { IsInner instr }
+    requires wanted { HasWanted (wants values.now instr (state_of machine.old)) octets.now }
+    requires code { machine.old.pc < 2 ^ 32 }
+    requires fits { machine.old.at + length octets.now + 8 < 2 ^ 32 }
+    requires few { machine.old.count + 1 < 2 ^ 32 }
+    requires cells { machine.old.cells + 1 < 2 ^ 32 }
+    ensures does { Comes (step values.now order octets.now instr (state_of machine.old)) result (state_of machine.new) }
+    ensures noted { Noted (step_items order machine.old.home octets.now instr (state_of machine.old)) (notes_seen items.old items.new (L.number steps.old) (L.number steps.new) machine.old.cells machine.new.cells) result }
+    ensures home { machine.new.home ≡ machine.old.home }
+{
+    match instr {
+        Instr::Void => machine.skip(),
+        Instr::Ret => return Ok(machine.ret()),
+        Instr::Align { to: _ } => align(machine, octets, items, steps)?,
+        Instr::Num { of } => number(machine, order, octets, prim_of(of.0), items, steps)?,
+        Instr::Enum { of } => enumerated(machine, order, octets, values, of, items, steps)?,
+        Instr::Record { members } => machine.record(members)?,
+        Instr::Close => machine.close(),
+        Instr::Fixed { count, run } => array(machine, count, run)?,
+        Instr::Conf { run } => {
+            let max = machine.max;
+            array(machine, max, run)?
+        }
+        Instr::Vary { bound, run } => varying(machine, order, octets, bound, run, items, steps)?,
+        Instr::Confvary { run } => {
+            let max = machine.max;
+            varying(machine, order, octets, max, run, items, steps)?
+        }
+        Instr::Text { bound } => {
+            let max = limit(machine, bound);
+            text(machine, order, octets, max, items, steps)?
+        }
+        Instr::Hoist => hoist(machine, order, octets, items, steps)?,
+        Instr::Tag { of } => tag(machine, order, octets, values, of)?,
+        Instr::Arm { label, run } => try_arm(machine, label, run, items, steps)?,
+        Instr::Other { run } => arm(machine, run, items, steps)?,
+        Instr::Noarm => {
+            return Err(DecodeFault::Bad {
+                place: machine.at,
+                reason: Reason::NoArm,
+            });
+        }
+        Instr::Pointer { class, to, run } => pointer(
+            machine,
+            order,
+            octets,
+            To { class, to, run },
+            items,
+            steps,
+        )?,
+        Instr::Context => context(machine, order, octets, items, steps)?,
+        Instr::Check {
+            attr,
+            field,
+            var,
+            star: _,
+        } => check(machine, attr, field, var)?,
+        Instr::Call { run } => machine.call(run)?,
+        Instr::Direct { to: _, run: _ }
+        | Instr::Given {
+            attr: _,
+            field: _,
+            var: _,
+            star: _,
+        }
+        | Instr::Pipe { run: _ }
+        | Instr::Defer => unreachable!(),
+    }
+    Ok(Progress::More)
+}
+
+// `arm`
+fn try_arm<L: Ledger>(
+    machine: &mut Machine,
+    label: i128,
+    run: u32,
+    items: &mut ItemLog,
+    steps: &mut Steps<L>,
+) -> Result<(), DecodeFault>
+    requires code { machine.old.pc < 2 ^ 32 }
+    requires fits { machine.old.at + 8 < 2 ^ 32 }
+    requires few { machine.old.count + 1 < 2 ^ 32 }
+    ensures does { Does (arm_tried label run (state_of machine.old)) result (state_of machine.new) }
+    ensures noted { Noted (arm_items machine.old.home label (state_of machine.old)) (notes_seen items.old items.new (L.number steps.old) (L.number steps.new) machine.old.cells machine.new.cells) result }
+    ensures home { machine.new.home ≡ machine.old.home }
+{
+    if label != machine.tag {
+        machine.skip();
+        return Ok(());
+    }
+    arm(machine, run, items, steps)
+}
+
+// A bound of a string, of which 0 means the maximum count.
+fn limit(machine: &Machine, bound: u32) -> u32
+    ensures { result ≡ limit_of bound (state_of machine.now) }
+{
+    if bound == 0 { machine.max } else { bound }
+}

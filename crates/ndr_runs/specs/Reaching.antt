@@ -1,0 +1,19 @@
+-- What is reached by steps.
+-- `s0` is the state at the beginning, `s` one that was reached, `fetched` are the octets of the steps so far and `noted` their items, `os` the octets of
+-- one step, `i` is an instruction.
+use Rattle.std.specs.Prelude.{◌≡◌, ℕ, List, [], ◌++◌, slice_get, Option, Some}
+use Rattle.nd_base.specs.declared.octets.Order.{Order}
+use Rattle.nd_value.specs.declared.item.Home.{Home}
+use Rattle.nd_value.specs.declared.item.Item.{Item}
+use Rattle.ndr_code.specs.declared.instr.Instr.{Instr}
+use Rattle.ndr_code.specs.declared.lists.EnumList.{EnumList}
+use Rattle.ndr_steps.specs.Steps.{State, goes, wants, step}
+use Rattle.ndr_steps.specs.StepItems.{step_items}
+use Rattle.ndr_steps.specs.Good.{HasOctets}
+
+module _ (values : List EnumList) (order : Order) (code : List Instr) (h : Home) (s0 : State) where
+  -- each step gets the octets that it wants, and is not refused
+  pub data Reaches : List ℕ → List Item → State → Type 0 where
+    begins : Reaches [] [] s0
+    steps_to : (fetched os : List ℕ) (noted : List Item) (s next : State) (i : Instr) → Reaches fetched noted s → slice_get code s.pc ≡ Some i
+        → HasOctets (wants values i s) os s.at → step values order os i s ≡ goes next → Reaches (fetched ++ os) (noted ++ step_items order h os i s) next

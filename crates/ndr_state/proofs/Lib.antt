@@ -1,0 +1,4 @@
+mod Values
+mod Identifiers
+mod Kept
+mod Frames

@@ -1,0 +1,4 @@
+pub mod Small
+pub mod Seen
+pub mod Notes
+pub mod Parts

@@ -1,0 +1,80 @@
+// Counts and identifiers in octets.
+ghost use Rattle.std.specs.Prelude.{◌≡◌, ◌<◌, ◌%◌, length};
+ghost use Rattle.nd_types.specs.Number.{unsigned, value_of_octets};
+ghost use Rattle.nd_types.specs.Table.{width};
+ghost use Rattle.nd_flat.specs.FlatForm.{IsKeepableNumber};
+ghost use Rattle.nd_grammar.specs.Entry.{gap};
+ghost use Rattle.nd_grammar.specs.Reader.{identifier as identifier_of};
+ghost use Rattle.ndr_steps.specs.Steps.{prim_of as primitive_of};
+
+use byteorder::{BigEndian, ByteOrder, LittleEndian};
+use nd_base::Order;
+use nd_types::Prim;
+use ndr_prim::read_num;
+use uuid::Uuid;
+
+/// The value that the octets of a primitive hold: a node can keep it. Takes no memory.
+pub fn read_value(order: Order, prim: Prim, octets: &[u8]) -> i128
+    requires wide { length octets.now ≡ width prim }
+    ensures value { result ≡ value_of_octets order prim octets.now }
+    ensures keepable { IsKeepableNumber result }
+{
+    read_num(order, prim, octets)
+}
+
+/// The unsigned number in four octets. Takes no memory.
+pub fn read_count(order: Order, from: &[u8]) -> u32
+    requires { length from.now ≡ 4 }
+    ensures { result ≡ unsigned order from.now }
+{
+    match order {
+        Order::Big => BigEndian::read_u32(from),
+        Order::Little => LittleEndian::read_u32(from),
+    }
+}
+
+/// The identifier of a context handle in 16 octets. Takes no memory.
+pub fn identifier(order: Order, from: &[u8]) -> Uuid
+    requires { length from.now ≡ 16 }
+    ensures { result ≡ identifier_of order from.now from.now }
+{
+    let octets = [
+        from[0], from[1], from[2], from[3], from[4], from[5], from[6], from[7], from[8], from[9],
+        from[10], from[11], from[12], from[13], from[14], from[15],
+    ];
+    match order {
+        Order::Big => Uuid::from_bytes(octets),
+        Order::Little => Uuid::from_bytes_le(octets),
+    }
+}
+
+/// How many octets a gap to the next multiple of a number has: none where the number is 0, which is the alignment of no type. Takes no memory.
+pub fn gap_before(at: u32, to: u8) -> u32
+    ensures is { result ≡ gap at to }
+    ensures few { result < 256 }
+{
+    let to = to as u32;
+    if to == 0 {
+        return 0;
+    }
+    (to - at % to) % to
+}
+
+/// The primitive of a type's number. Takes no memory.
+pub fn prim_of(of: u32) -> Prim
+    ensures { result ≡ primitive_of of }
+{
+    match of {
+        0 => Prim::Boolean,
+        1 => Prim::Char,
+        2 => Prim::Byte,
+        3 => Prim::Small,
+        4 => Prim::UnsignedSmall,
+        5 => Prim::Short,
+        6 => Prim::UnsignedShort,
+        7 => Prim::Long,
+        8 => Prim::UnsignedLong,
+        9 => Prim::Hyper,
+        _ => Prim::UnsignedHyper,
+    }
+}
