@@ -1,0 +1,10 @@
+mod Growing
+mod StateAdds
+mod FineTypes
+mod Others
+mod Needing
+mod Due
+mod Graphs
+mod KeptRoots
+mod Homes
+mod RootEnds

@@ -1,0 +1,8 @@
+use Rattle.std.proofs.Common.{refl}
+use Rattle.ndr_stream.proofs.laws.trial.Goals as goal
+use Rattle.ndr_stream.proofs.RootEnds as a
+use Rattle.ndr_stream.proofs.Others as b
+use Rattle.ndr_stream.proofs.Needing as d
+
+pub returns : goal.returns
+returns c = λ n. refl
