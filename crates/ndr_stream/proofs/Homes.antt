@@ -16,7 +16,6 @@ use Rattle.nd_value.specs.Tree.{Tree}
 use Rattle.nd_grammar.specs.declared.reason.Reason.{Reason}
 use Rattle.nd_grammar.specs.declared.reason.Reason.TheVariants as reason
 use Rattle.nd_grammar.specs.Entry.{EntryAt}
-use Rattle.nd_grammar.specs.LegalSide.{IsLegalSide}
 use Rattle.nd_grammar.specs.Reader.{Names, Progress, Read, read_whole}
 use Rattle.nd_grammar.specs.StreamReader.{Reading}
 use Rattle.ndr_reading.specs.Around.{going, stopped}
@@ -25,7 +24,7 @@ use Rattle.ndr_steps.specs.Good.{Kept as IsKept}
 use Rattle.ndr_steps.specs.declared.first.First.{First}
 use Rattle.ndr_steps.specs.Steps.{State}
 use Rattle.ndr_stream.specs.Added.{Added}
-use Rattle.ndr_stream.specs.Between.{Between, Agrees, IsUnread, IsKeptOf, AreKept}
+use Rattle.ndr_stream.specs.Between.{Between, Keeps, IsUnread, IsKeptOf, AreKept}
 use Rattle.ndr_stream.specs.declared.kept.Kept.{Kept}
 use Rattle.ndr_stream.proofs.Growing.{whole_adds}
 use Rattle.ndr_stream.proofs.Others.{AreSilent, others_silent, kept_later, roots_later, told_other}
@@ -39,8 +38,8 @@ pub not_cell : (s : Reading) (h : Home) → IsUnread s h → (c : ℕ) → IsPla
 not_cell s (home.Root j) u c p e = cc
 not_cell s (home.Cell d) u c p e = let f : c ≡ d.0 = cc in u (subst (IsPlaced s.done) f p)
 
-module _ (w : Setting) (side : IsLegalSide w) (order : Order) (fetched more : List ℕ) (noted noted' : List Item) (b : Between) (s : Reading) (seen : List EntryAt) (ps : List Pending) (n : ℕ)
-    (ag : Agrees w side order fetched noted b s seen ps n) (h : Home) (unread : IsUnread s h) (t : ℕ) (names : Names) (x : State)
+module _ (w : Setting) (order : Order) (fetched more : List ℕ) (noted noted' : List Item) (b : Between) (s : Reading) (seen : List EntryAt) (ps : List Pending)
+    (ag : Keeps w order fetched noted b s seen ps) (h : Home) (unread : IsUnread s h) (t : ℕ) (names : Names) (x : State)
     (is : Whole order (fetched ++ more) w.table h t noted' (λ octets. read_whole order octets w.table h t (going b.at seen) names) x) where
   pub its : Added h (going b.at seen) (going x.at is.seen)
   its =
@@ -76,7 +75,7 @@ module _ (w : Setting) (side : IsLegalSide w) (order : Order) (fetched more : Li
   -- what is kept of the home itself
   pub own_then : (k : Kept) → x.own ≡ Some k.first → k.max_at ≡ x.max_at → IsKeptOf is.seen h is.v k
   own_then k e m =
-      let (y, (f, z)) = is.first in
+      let (y, f, z) = is.first in
       let g : Some y ≡ Some k.first = sym f ∙ e in
       let same : y ≡ k.first = cc in
       subst (λ u. IsKept h is.seen u (tree.flat (tree.more is.v tree.none)) 0 k.first) (sym m)

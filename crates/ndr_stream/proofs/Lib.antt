@@ -8,3 +8,9 @@ mod Graphs
 mod KeptRoots
 mod Homes
 mod RootEnds
+mod Tested
+mod Cells
+mod CellEnds
+mod Taken
+mod ReferentEnds
+mod OtherTurns

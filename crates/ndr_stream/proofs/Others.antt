@@ -1,5 +1,5 @@
 -- What is kept of a home stays as it is while entries of other homes, and agreements, are passed.
-use Rattle.std.proofs.Common.{◌≡◌, ◌≤◌, ℕ, ◌+◌, zero, suc, Bool, true, false, List, [], ◌∷◌, ◌++◌, length, Option, Some, None, refl, ap, sym, ◌∙◌, subst, append_assoc, arith}
+use Rattle.std.proofs.Common.{◌≡◌, ◌≤◌, ◌<◌, ℕ, ◌+◌, zero, suc, Bool, true, false, List, [], ◌∷◌, ◌++◌, length, Option, Some, None, refl, ap, sym, ◌∙◌, subst, append_assoc, arith}
 use Rattle.std.specs.Prelude.{◌&&◌, ◌||◌, eqb, map}
 use Rattle.std.specs.List.{AllByRecursion}
 use Rattle.std.proofs.lemmas.List.{append-nil}
@@ -66,17 +66,23 @@ pub roots_later : (seen xs : List EntryAt) (i : ℕ) (vs : List Tree) (ks : List
 roots_later seen xs i [] [] s a = tt
 roots_later seen xs i [] (k ∷ ks) s a = absurd a
 roots_later seen xs i (v ∷ vs) [] s a = absurd a
-roots_later seen xs i (v ∷ vs) (k ∷ ks) s (x, (c, rest)) =
-    (kept_later (home.Root i) v k.own seen xs (s i (omega arith)) x, (c, roots_later seen xs (suc i) vs ks (λ j l. s j (omega arith)) rest))
+roots_later seen xs i (v ∷ vs) (k ∷ ks) s (x, c, rest) =
+    (kept_later (home.Root i) v k.own seen xs (s i (omega arith)) x, c, roots_later seen xs (suc i) vs ks (λ j l. s j (omega arith)) rest)
+
+no_more : (i : ℕ) → i + 0 ≡ i
+no_more i = omega arith
+
+one_later : (i n : ℕ) → i + suc n ≡ suc i + n
+one_later i n = omega arith
 
 -- a root more
 pub root_more : (seen : List EntryAt) (i : ℕ) (vs : List Tree) (ks : List KeptRoot) (v : Tree) (k : KeptRoot) → AreKept seen i vs ks
     → IsKeptOf seen (home.Root (i + length vs)) v k.own → cell_number k.cell ≡ pointer_cell v → AreKept seen i (vs ++ v ∷ []) (ks ++ k ∷ [])
-root_more seen i [] [] v k a x e = (subst (λ j. IsKeptOf seen (home.Root j) v k.own) (omega arith) x, (e, tt))
+root_more seen i [] [] v k a x e = (subst (λ j. IsKeptOf seen (home.Root j) v k.own) (no_more i) x, e, tt)
 root_more seen i [] (y ∷ ks) v k a x e = absurd a
 root_more seen i (u ∷ vs) [] v k a x e = absurd a
-root_more seen i (u ∷ vs) (y ∷ ks) v k (z, (c, rest)) x e =
-    (z, (c, root_more seen (suc i) vs ks v k rest (subst (λ j. IsKeptOf seen (home.Root j) v k.own) (omega arith) x) e))
+root_more seen i (u ∷ vs) (y ∷ ks) v k (z, c, rest) x e =
+    (z, c, root_more seen (suc i) vs ks v k rest (subst (λ j. IsKeptOf seen (home.Root j) v k.own) (one_later i (length vs)) x) e)
 
 -- What is told of a home of which nothing was read stays so, where what is told of another home goes on.
 pub told_other : {noted noted' : List Item} (order : Order) (fetched fetched' : List ℕ) (h k : Home) (seen xs : List EntryAt) (names names' : Names) (cells cells' : List ℕ) (numbers numbers' : List (ℕ × Known))

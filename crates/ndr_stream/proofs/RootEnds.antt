@@ -151,8 +151,8 @@ module _ (w : Setting) (side : IsLegalSide w) (order : Order) (fetched : List �
 
     graph_then : (g : Graph) → RootAdded is.v x.cells b.graph g → g ≡ graph_of after.roots is.names
     graph_then g a =
-        graph_is g (s.roots ++ is.v ∷ []) is.names (a.roots ∙ ap (λ (u : Graph). u.roots ++ is.v ∷ []) ag.graph) (a.types_are ∙ is.told.cells_are)
-        (λ j. a.values (suc j) ∙ ap (λ (u : Graph). value_at u.cells j) ag.graph ∙ sym (values_stay s.names is.names wholly.extends j))
+        graph_is g (s.roots ++ is.v ∷ []) is.names (a.roots ∙ ap (λ (u : Graph). u.roots ++ is.v ∷ []) ag.keeps.graph) (a.types_are ∙ is.told.cells_are)
+        (λ j. a.values (suc j) ∙ ap (λ (u : Graph). value_at u.cells j) ag.keeps.graph ∙ sym (values_stay s.names is.names wholly.extends j))
 
     needed_then : NeededAfter w order fetched more
     needed_then part last e =
@@ -163,25 +163,27 @@ module _ (w : Setting) (side : IsLegalSide w) (order : Order) (fetched : List �
     pub root_ends : (g : Graph) → RootAdded is.v x.cells b.graph g → (k : KeptRoot) → IsKeptRoot x k
         → Agrees w side order (fetched ++ more) noted' (root_read b x k g) after is.seen new n
     root_ends g a k kept =
-        let own : IsKeptOf is.seen h is.v k.own = own_then w side order fetched more noted noted' b s seen [] (suc n) ag h unread_root r.of s.names x is k.own kept.first kept.max_at in
+        let own : IsKeptOf is.seen h is.v k.own = own_then w order fetched more noted noted' b s seen [] ag.keeps h unread_root r.of s.names x is k.own kept.own.first kept.own.max_at in
         record {
           octets = octets;
           reached = turns w side order fetched more ag.octets all_more s after (due_root i) later_due ag.reached due_is next_then;
           progress = refl;
-          at = is.reached;
           due = due_then;
           state = state_then;
-          pending = ap (λ u. u ++ b.pending) is.pending ∙ ap (λ u. map (owed w.table) new ++ u) ag.pending ∙ append-nil (map (owed w.table) new);
-          told = λ k u. (let (v, f) = unread_before k u in told_then w side order fetched more noted noted' b s seen [] (suc n) ag h unread_root r.of s.names x is k v f);
-          roots = root_more is.seen 0 s.roots b.roots is.v k
-              (roots_then w side order fetched more noted noted' b s seen [] (suc n) ag h unread_root r.of s.names x is)
-              (subst (λ j. IsKeptOf is.seen (home.Root j) is.v k.own) (zero_plus i) own)
-              (kept.cell ∙ ap (named_by k.own.first) is.pending ∙ cell_named w.table h r.of is.seen k.own.max_at is.v k.own.first wholly.made own);
-          read = λ c p. (
-              let (y, e, z) = ag.read c p in
-              (y, e, subst (λ u. IsKeptOf is.seen (cell_home c) u y) (sym (cell_stays c))
-              (cell_then w side order fetched more noted noted' b s seen [] (suc n) ag h unread_root r.of s.names x is c p (cell_at (graph_of s.roots s.names) c) y z)));
-          not_read = ag.not_read;
-          graph = graph_then g a;
           needed = needed_more w order fetched more ag.needed needed_then;
+          keeps = record {
+            at = is.reached;
+            pending = ap (λ u. u ++ b.pending) is.pending ∙ ap (λ u. map (owed w.table) new ++ u) ag.keeps.pending ∙ append-nil (map (owed w.table) new);
+            told = λ k u. (let (v, f) = unread_before k u in told_then w order fetched more noted noted' b s seen [] ag.keeps h unread_root r.of s.names x is k v f);
+            roots = root_more is.seen 0 s.roots b.roots is.v k
+                (roots_then w order fetched more noted noted' b s seen [] ag.keeps h unread_root r.of s.names x is)
+                (subst (λ j. IsKeptOf is.seen (home.Root j) is.v k.own) (zero_plus i) own)
+                (kept.cell ∙ ap (named_by k.own.first) is.pending ∙ cell_named w.table h r.of is.seen k.own.max_at is.v k.own.first wholly.made own);
+            read = λ c p. (
+                let (y, e, z) = ag.keeps.read c p in
+                (y, e, subst (λ u. IsKeptOf is.seen (cell_home c) u y) (sym (cell_stays c))
+                (cell_then w order fetched more noted noted' b s seen [] ag.keeps h unread_root r.of s.names x is c p (cell_at (graph_of s.roots s.names) c) y z)));
+            not_read = ag.keeps.not_read;
+            graph = graph_then g a;
+          };
         }

@@ -47,6 +47,14 @@ pub record Between : Type 0 where
   -- the graph so far, in which what was not read is unread
   pub graph : Graph
 
+-- without the next of the pending referents
+abbrev pub others_of : List Owed → List Owed
+others_of [] = []
+others_of (o ∷ os) = os
+
+abbrev pub taken : Between → Between
+taken b = record { at = b.at; pending = others_of b.pending; cells = b.cells; numbers = b.numbers; roots = b.roots; read = b.read; graph = b.graph }
+
 -- of a value its first node is kept, as the agreements see it, with the places where they find what they are about
 abbrev pub IsKeptOf : List EntryAt → Home → Tree → Kept → Type 0
 IsKeptOf seen h v k = IsKept h seen k.max_at (flat (more v none)) 0 k.first
@@ -71,15 +79,19 @@ abbrev pub kept_at : List (Option Kept) → ℕ → Option Kept
 kept_at read zero = None
 kept_at read (suc i) = or_none (slice_get read i)
 
--- what is kept of the home whose value ends at a state: of a pointer also the cell that it names
+-- the cell that a home names that is a pointer: its own pointer is the first of those that it makes due
 abbrev pub named_by : First → List Owed → Option ℕ
 named_by first.Pointer (o ∷ os) = o.cell
 named_by x os = None
 
+-- what is kept of the home whose value ends at a state
+pub record IsKeptHome (x : State) (k : Kept) : Type 0 where
+  pub first : x.own ≡ Some k.first
+  pub max_at : k.max_at ≡ x.max_at
+
 -- what is kept of a root, whose value ends at a state
 pub record IsKeptRoot (x : State) (k : KeptRoot) : Type 0 where
-  pub first : x.own ≡ Some k.own.first
-  pub max_at : k.own.max_at ≡ x.max_at
+  pub own : IsKeptHome x k.own
   pub cell : cell_number k.cell ≡ named_by k.own.first x.fresh
 
 -- what is kept after a root that was read in its place, whose value ends at this state
@@ -99,6 +111,16 @@ pub record CellFilled (roots : List Tree) (c : ℕ) (v : Tree) (types : List ℕ
   pub value : cell_at g' c ≡ v
   pub others : (d : ℕ) → (d ≡ c → ⊥) → cell_at g' d ≡ cell_at g d
 
+-- what is kept of cells, with that of one more
+pub record CellKept (c : ℕ) (k : Kept) (old new : List (Option Kept)) : Type 0 where
+  pub is : kept_at new c ≡ Some k
+  pub others : (d : ℕ) → (d ≡ c → ⊥) → kept_at new d ≡ kept_at old d
+
+-- what is kept after a cell that was read, whose value ends at this state
+abbrev pub cell_read : Between → State → List KeptRoot → List (Option Kept) → Graph → Between
+cell_read b x roots read g =
+    record { at = x.at; pending = x.fresh ++ b.pending; cells = x.cells; numbers = x.numbers; roots = roots; read = read; graph = g }
+
 -- ## What it means
 
 -- nothing of this home was read
@@ -106,18 +128,22 @@ abbrev pub IsUnread : Reading → Home → Type 0
 IsUnread s (home.Root i) = length s.roots ≤ i
 IsUnread s (home.Cell c) = ¬ IsPlaced s.done c.0
 
--- What is kept is right: whatever octets follow, the plain reader comes to this state, in which these referents and roots are due.
-pub record Agrees (w : Setting) (side : IsLegalSide w) (order : Order) (fetched : List ℕ) (noted : List Item) (b : Between) (s : Reading) (seen : List EntryAt) (ps : List Pending) (n : ℕ) : Type 0 where
-  pub octets : AreOctets fetched
-  pub reached : Reached w order fetched s
-  pub progress : s.progress ≡ going b.at seen
+-- What is kept is right: of these roots, cells and names of the reader, of the entries that it passed, and of the pointers that are due.
+pub record Keeps (w : Setting) (order : Order) (fetched : List ℕ) (noted : List Item) (b : Between) (s : Reading) (seen : List EntryAt) (ps : List Pending) : Type 0 where
   pub at : length fetched ≡ b.at
-  pub due : s.due ≡ map due_referent ps ++ due_roots (length s.roots) n
-  pub state : (later : List ℕ) (all : AreOctets (fetched ++ later)) → (taken : List Pending) × IsReading w side order (fetched ++ later) all s taken ps n
   pub pending : b.pending ≡ map (owed w.table) ps
   pub told : (h : Home) → IsUnread s h → Told noted order fetched h seen s.names b.cells b.numbers None 0 []
   pub roots : AreKept seen 0 s.roots b.roots
   pub read : (c : ℕ) → IsPlaced s.done c → (k : Kept) × (kept_at b.read c ≡ Some k) × IsKeptOf seen (cell_home c) (cell_at (graph_of s.roots s.names) c) k
   pub not_read : (c : ℕ) → ¬ IsPlaced s.done c → kept_at b.read c ≡ None
   pub graph : b.graph ≡ graph_of s.roots s.names
+
+-- And whatever octets follow, the plain reader comes to this state, in which these referents and so many roots are due.
+pub record Agrees (w : Setting) (side : IsLegalSide w) (order : Order) (fetched : List ℕ) (noted : List Item) (b : Between) (s : Reading) (seen : List EntryAt) (ps : List Pending) (n : ℕ) : Type 0 where
+  pub octets : AreOctets fetched
+  pub reached : Reached w order fetched s
+  pub progress : s.progress ≡ going b.at seen
+  pub due : s.due ≡ map due_referent ps ++ due_roots (length s.roots) n
+  pub state : (later : List ℕ) (all : AreOctets (fetched ++ later)) → (taken : List Pending) × IsReading w side order (fetched ++ later) all s taken ps n
+  pub keeps : Keeps w order fetched noted b s seen ps
   pub needed : IsNeeded w order fetched
