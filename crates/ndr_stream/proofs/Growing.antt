@@ -90,7 +90,7 @@ module _ (order : Order) (octets : List ℕ) where
     if_adds read k true t n p s = none_added h p
     if_adds read k false t n p s = k t n p s
 
-    list_adds : (read : Reader) → Adds read → (types : List ℕ) (n : ℕ) (p : Progress) (s : Names) → Added h p (read_list table read types n p s).progress
+    pub list_adds : (read : Reader) → Adds read → (types : List ℕ) (n : ℕ) (p : Progress) (s : Names) → Added h p (read_list table read types n p s).progress
     list_adds read k [] n p s = none_added h p
     list_adds read k (t ∷ types) n p s =
         let first : Read = read_if (is_stopped p.stop && not (hoists table t)) (read t n) p s in

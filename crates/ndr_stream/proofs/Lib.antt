@@ -14,3 +14,6 @@ mod CellEnds
 mod Taken
 mod ReferentEnds
 mod OtherTurns
+mod HomeBegins
+mod DirectEnds
+mod StreamGrows

@@ -11,3 +11,8 @@ pub record Added (h : Home) (p q : Progress) : Type 0 where
   pub added : List EntryAt
   pub seen : q.seen ≡ p.seen ++ added
   pub own : AllByRecursion (λ x. x.entry.home ≡ h) added
+
+-- Entries, of whatever home, were added.
+pub record Goes (p q : Progress) : Type 0 where
+  pub added : List EntryAt
+  pub seen : q.seen ≡ p.seen ++ added

@@ -23,7 +23,8 @@ use Rattle.ndr_refs.specs.declared.referents.Known.{Known}
 use Rattle.ndr_reading.specs.Around.{going}
 use Rattle.ndr_steps.specs.declared.first.First.{First}
 use Rattle.ndr_steps.specs.declared.first.First.TheVariants as first
-use Rattle.ndr_steps.specs.Steps.{State, Owed}
+use Rattle.ndr_steps.specs.declared.frame.Frame.TheVariants as frame
+use Rattle.ndr_steps.specs.Steps.{State, Owed, begun}
 use Rattle.ndr_steps.specs.Good.{Told, owed}
 use Rattle.ndr_steps.specs.Good.{Kept as IsKept}
 use Rattle.ndr_verdict.specs.Needed.{IsNeeded}
@@ -78,6 +79,22 @@ or_none (Some k) = k
 abbrev pub kept_at : List (Option Kept) → ℕ → Option Kept
 kept_at read zero = None
 kept_at read (suc i) = or_none (slice_get read i)
+
+-- A home's value begins at this run, with cells of these types: nothing of it was read.
+pub record Opens (run : ℕ) (b : Between) (types : List ℕ) (x : State) : Type 0 where
+  pub pc : x.pc ≡ run
+  pub phase : x.phase ≡ begun
+  pub at : x.at ≡ b.at
+  pub max : x.max ≡ 0
+  pub max_at : x.max_at ≡ None
+  pub top : x.top ≡ frame.Home
+  pub stack : x.stack ≡ []
+  pub nodes : x.nodes ≡ []
+  pub members : x.members ≡ []
+  pub firsts : x.firsts ≡ []
+  pub fresh : x.fresh ≡ []
+  pub cells : x.cells ≡ types
+  pub numbers : x.numbers ≡ b.numbers
 
 -- the cell that a home names that is a pointer: its own pointer is the first of those that it makes due
 abbrev pub named_by : First → List Owed → Option ℕ
