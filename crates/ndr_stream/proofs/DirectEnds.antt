@@ -35,7 +35,7 @@ use Rattle.ndr_steps.specs.declared.first.First.TheVariants as first
 use Rattle.ndr_steps.specs.Good.{Told, Whole}
 use Rattle.ndr_steps.specs.Steps.{State}
 use Rattle.ndr_worklist.proofs.Turns.{turns, refused}
-use Rattle.ndr_stream.specs.Between.{Between, Keeps, Agrees, IsUnread, IsKeptOf, IsKeptHome, CellKept, CellFilled, cell_read}
+use Rattle.ndr_stream.specs.Between.{AreNeeded, Between, Keeps, Agrees, IsUnread, IsKeptOf, IsKeptHome, CellKept, CellFilled, cell_read}
 use Rattle.ndr_stream.specs.declared.kept.Kept.{Kept}
 use Rattle.ndr_stream.specs.declared.kept.KeptRoot.{KeptRoot}
 use Rattle.ndr_stream.proofs.CellEnds.{keeps_cell}
@@ -117,7 +117,7 @@ module _ (w : Setting) (side : IsLegalSide w) (order : Order) (fetched : List �
       refused w side order fetched ag.octets s (due_root i) later_due ag.reached due_is more a at seen' why (ap (λ (u : Reading). u.progress) (next_is (fetched ++ more)) ∙ e)
 
   module _ (more : List ℕ) (all_more : AreOctets more) (noted' : List Item) (x : State) (is : Whole order (fetched ++ more) w.table (cell_home (length s.names.cells + 1)) to.0 noted' target x)
-      (needs : (part : List ℕ) (last : ℕ) → more ≡ part ++ last ∷ [] → (at : ℕ) × (seen' : List EntryAt) × ((target (fetched ++ part)).progress ≡ stopped at seen' (length (fetched ++ part), reason.Truncated))) where
+      (needs : AreNeeded target fetched more) where
     abbrev pub made : List Pending
     made = home_pointers w.table (cell_home (length s.names.cells + 1)) to.0 is.v
 

@@ -1,5 +1,5 @@
 -- The turns at which nothing is read: at a null pointer, and at a full pointer whose referent was read.
-use Rattle.std.proofs.Common.{◌≡◌, ℕ, ◌+◌, Bool, true, false, List, [], ◌∷◌, ◌++◌, length, Option, Some, None, refl, ap, sym, ◌∙◌, inl, inr, subst, append_assoc, map}
+use Rattle.std.proofs.Common.{◌≡◌, ℕ, ◌+◌, ◌≤◌, Bool, true, false, List, [], ◌∷◌, ◌++◌, length, Option, Some, None, refl, ap, sym, ◌∙◌, inl, inr, subst, append_assoc, arith, map}
 use Rattle.std.specs.Prelude.{◌||◌, eqb}
 use Rattle.std.proofs.lemmas.Bool.{eq-eqb}
 use Rattle.std.proofs.lemmas.List.{append-nil}
@@ -8,6 +8,7 @@ use Rattle.nd_base.specs.declared.octets.Order.{Order}
 use Rattle.nd_types.specs.declared.types.Class.{Class}
 use Rattle.nd_types.specs.declared.types.Class.TheVariants.{Full}
 use Rattle.nd_types.specs.Number.{AreOctets}
+use Rattle.nd_value.specs.declared.item.Home.TheVariants as home
 use Rattle.nd_value.specs.declared.item.Item.{Item}
 use Rattle.nd_value.specs.Agreement.{Agreement}
 use Rattle.nd_value.specs.Setting.{Setting, cell_home, cell_at}
@@ -25,6 +26,7 @@ use Rattle.ndr_worklist.specs.Reached.{Reached}
 use Rattle.ndr_worklist.proofs.Turns.{turns, refused}
 use Rattle.ndr_stream.specs.Between.{Between, Keeps, Agrees, IsKeptOf, kept_at}
 use Rattle.ndr_stream.specs.Between.{taken}
+use Rattle.ndr_stream.specs.Report.{IsRefusedAfter}
 use Rattle.ndr_stream.specs.Tests.{disagreement, AllAgree, all_at}
 use Rattle.ndr_stream.specs.declared.kept.Kept.{Kept}
 use Rattle.ndr_stream.proofs.Due.{pending_state}
@@ -32,7 +34,7 @@ use Rattle.ndr_stream.proofs.ReferentEnds.{among_placed}
 use Rattle.ndr_stream.proofs.Taken.{kept_taken}
 use Rattle.ndr_stream.proofs.Tested.{tests_pass, tests_stop, keeps_tests}
 
-is_among : (done : Placed_cells) (c : ℕ) → IsPlaced done c → stands_among done c ≡ true
+pub is_among : (done : Placed_cells) (c : ℕ) → IsPlaced done c → stands_among done c ≡ true
 is_among [] c p = absurd p
 is_among (d ∷ ds) c (inl e) = ap (λ b. b || stands_among ds c) (eq-eqb c d.1 e)
 is_among (d ∷ ds) c (inr q) = go (eqb c d.1) (is_among ds c q)
@@ -81,6 +83,9 @@ module _ (w : Setting) (side : IsLegalSide w) (order : Order) (fetched : List �
       (λ later. ap (λ o. read_pending w order (fetched ++ later) o p later_due s) e ∙ ap passed_by ag.progress)
       (kept_taken w order fetched noted b s seen p ps ag.keeps)
 
+  pub passes_null : p.cell ≡ None → (then : Reading) × Agrees w side order fetched noted (taken b) then seen ps n
+  passes_null e = (passed_by (going b.at seen), null_ends e)
+
   module _ (c : ℕ) (is_cell : p.cell ≡ Some c) (full : p.class ≡ Full) (k : Kept) (known : kept_at b.read c ≡ Some k) where
     abbrev its_tree : Tree
     its_tree = cell_at (graph_of s.roots s.names) c
@@ -126,3 +131,20 @@ module _ (w : Setting) (side : IsLegalSide w) (order : Order) (fetched : List �
         ∙ ap (λ (u : Reading). u.progress) (first_is (fetched ++ later))
         ∙ ap (λ u. pass_all order (fetched ++ later) (tests (cell_home c) 0 its_tree u) (going b.at seen)) split
         ∙ tests_stop order fetched w.table (cell_home c) b.at ag.keeps.at its_tree k ws a others why seen kept_it agree e later)
+
+    pub passes_read : AllAgree k p.agreements → (then : Reading) × (so : List EntryAt) × Agrees w side order fetched noted (taken b) then so ps n
+    passes_read agree =
+        let so : List EntryAt = seen ++ all_at b.at (tests (cell_home c) 0 its_tree p.agreements) in
+        (passed_by (going b.at so), so, stood_ends agree)
+
+    pub disagrees : (ws : List Agreement) (a : Agreement) (others : List Agreement) (why : ℕ × Reason) → p.agreements ≡ ws ++ a ∷ others → AllAgree k ws
+        → disagreement a k.first k.max_at ≡ Some why → IsRefusedAfter w order fetched noted b.at why
+    disagrees ws a others why split agree e =
+        let so : List EntryAt = seen ++ all_at b.at (tests (cell_home c) 0 its_tree ws) in
+        let keeps : Keeps w order fetched noted b s so (p ∷ ps) = keeps_tests order fetched w.table (cell_home c) b.at ag.keeps.at its_tree k w noted b s seen (p ∷ ps) ws ag.keeps in
+        record {
+          seen = so;
+          stops = stood_refused ws a others why split agree e;
+          items_are = (keeps.told (home.Root (length s.roots)) (omega arith)).noted_are;
+          needed = ag.needed;
+        }

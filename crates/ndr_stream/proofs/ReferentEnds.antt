@@ -33,8 +33,9 @@ use Rattle.ndr_reading.proofs.Continuing.{all_stay}
 use Rattle.ndr_steps.specs.Good.{Whole}
 use Rattle.ndr_steps.specs.Steps.{State}
 use Rattle.ndr_worklist.proofs.Turns.{turns, refused}
-use Rattle.ndr_stream.specs.Between.{Between, Keeps, Agrees, IsUnread, IsKeptOf, IsKeptHome, CellKept, CellFilled, cell_read, kept_at}
+use Rattle.ndr_stream.specs.Between.{AreNeeded, Between, Keeps, Agrees, IsUnread, IsKeptOf, IsKeptHome, CellKept, CellFilled, cell_read, kept_at}
 use Rattle.ndr_stream.specs.Between.{taken}
+use Rattle.ndr_stream.specs.Report.{IsRefusedAfter}
 use Rattle.ndr_stream.specs.Tests.{disagreement, AllAgree, all_at}
 use Rattle.ndr_stream.specs.declared.kept.Kept.{Kept}
 use Rattle.ndr_stream.proofs.CellEnds.{keeps_cell}
@@ -42,7 +43,7 @@ use Rattle.ndr_stream.proofs.Due.{StateOver, same_octets, pending_state}
 use Rattle.ndr_stream.proofs.Homes.{own_then, roots_then}
 use Rattle.ndr_stream.proofs.Needing.{NeededAfter, needed_more}
 use Rattle.ndr_stream.proofs.Taken.{kept_taken}
-use Rattle.ndr_stream.proofs.Tested.{tests_pass, tests_stop, keeps_tests}
+use Rattle.ndr_stream.proofs.Tested.{tests_pass, tests_stop, told_tests, keeps_tests}
 
 pub among_placed : (done : Placed_cells) (c : ℕ) → stands_among done c ≡ true → IsPlaced done c
 among_placed [] c e = cc
@@ -125,7 +126,7 @@ module _ (w : Setting) (side : IsLegalSide w) (order : Order) (fetched : List �
         (ap (λ (u : Reading). u.progress) (next_is octets) ∙ ap (pass_all order octets ms) e ∙ all_stay order octets ms at seen' why)
 
     module _ (more : List ℕ) (all_more : AreOctets more) (noted' : List Item) (x : State) (is : Whole order (fetched ++ more) w.table (cell_home c) p.to noted' target x)
-        (needs : (part : List ℕ) (last : ℕ) → more ≡ part ++ last ∷ [] → (at : ℕ) × (seen' : List EntryAt) × ((target (fetched ++ part)).progress ≡ stopped at seen' (length (fetched ++ part), reason.Truncated))) where
+        (needs : AreNeeded target fetched more) where
       abbrev pub made : List Pending
       made = home_pointers w.table (cell_home c) p.to is.v
 
@@ -206,6 +207,15 @@ module _ (w : Setting) (side : IsLegalSide w) (order : Order) (fetched : List �
             (refused w side order fetched ag.octets s (due_referent p) later_due ag.reached due_is (more ++ later) (all_append (λ b. b < 256) more later all_more al) x.at so why
             (subst (λ u. (read_next w order u s.due s).progress ≡ stopped x.at so why) same stop))
 
+        pub disagrees : (ws : List Agreement) (a : Agreement) (others : List Agreement) (why : ℕ × Reason) → p.agreements ≡ ws ++ a ∷ others → AllAgree k ws
+            → disagreement a k.first k.max_at ≡ Some why → IsRefusedAfter w order (fetched ++ more) noted' x.at why
+        disagrees ws a others why split agree e = record {
+          seen = is.seen ++ all_at x.at (tests (cell_home c) 0 is.v ws);
+          stops = agreement_refused ws a others why split agree e;
+          items_are = (told_tests order (fetched ++ more) w.table (cell_home c) x.at is.reached is.v k ws (cell_home c) is.seen is.names x.cells x.numbers x.max_at (length x.nodes) [] is.told).noted_are;
+          needed = needed_more w order fetched more ag.needed needed_then;
+        }
+
         module _ (agree : AllAgree k p.agreements) where
           abbrev pub seen_then : List EntryAt
           seen_then = is.seen ++ all_at x.at (tests (cell_home c) 0 is.v p.agreements)
@@ -230,3 +240,8 @@ module _ (w : Setting) (side : IsLegalSide w) (order : Order) (fetched : List �
                 (roots_then w order fetched more noted noted' (taken b) s seen ps kept_now (cell_home c) free p.to s.names x is)
                 p.class (after (going x.at seen_then)).due (going x.at seen_then) k own read is_read g filled);
           }
+
+          -- the same, as the law says it
+          pub ends : (read : List (Option Kept)) → CellKept c k b.read read → (g : Graph) → CellFilled s.roots c is.v x.cells b.graph g
+              → (then : Reading) × (so : List EntryAt) × (qs : List Pending) × Agrees w side order (fetched ++ more) noted' (cell_read (taken b) x b.roots read g) then so qs n
+          ends read is_read g filled = (after (going x.at seen_then), seen_then, made ++ ps, referent_ends read is_read g filled)

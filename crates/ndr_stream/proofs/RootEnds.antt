@@ -31,7 +31,7 @@ use Rattle.ndr_steps.specs.Good.{Told, Whole, owed}
 use Rattle.ndr_steps.specs.Steps.{State}
 use Rattle.ndr_verdict.specs.Verdict.{is_direct}
 use Rattle.ndr_worklist.proofs.Turns.{turns, refused}
-use Rattle.ndr_stream.specs.Between.{Between, Agrees, IsUnread, IsKeptOf, AreKept, IsKeptRoot, RootAdded, named_by, root_read}
+use Rattle.ndr_stream.specs.Between.{AreNeeded, Between, Agrees, IsUnread, IsKeptOf, AreKept, IsKeptRoot, RootAdded, named_by, root_read}
 use Rattle.ndr_stream.specs.declared.kept.Kept.{Kept}
 use Rattle.ndr_stream.specs.declared.kept.KeptRoot.{KeptRoot}
 use Rattle.ndr_stream.proofs.Due.{StateOver, same_octets, in_its_place, root_state}
@@ -87,7 +87,7 @@ module _ (w : Setting) (side : IsLegalSide w) (order : Order) (fetched : List �
       refused w side order fetched ag.octets s (due_root i) later_due ag.reached due_is more a at seen' why (ap (λ (u : Reading). u.progress) (next_is (fetched ++ more)) ∙ e)
 
   module _ (more : List ℕ) (all_more : AreOctets more) (noted' : List Item) (x : State) (is : Whole order (fetched ++ more) w.table (home.Root (length s.roots)) r.of noted' target x)
-      (needs : (part : List ℕ) (last : ℕ) → more ≡ part ++ last ∷ [] → (at : ℕ) × (seen' : List EntryAt) × ((target (fetched ++ part)).progress ≡ stopped at seen' (length (fetched ++ part), reason.Truncated))) where
+      (needs : AreNeeded target fetched more) where
     abbrev pub new : List Pending
     new = home_pointers w.table (home.Root (length s.roots)) r.of is.v
 

@@ -15,7 +15,7 @@ use Rattle.nd_value.specs.declared.item.Home.{Home}
 use Rattle.nd_value.specs.declared.item.Home.TheVariants as home
 use Rattle.nd_value.specs.Deferral.{Pending, Due, due_root, due_referent, before_pipes, root_type}
 use Rattle.nd_value.specs.Setting.{Setting, root_list, unread, cell_at, cell_home}
-use Rattle.nd_value.specs.Tree.{Tree, node_count}
+use Rattle.nd_value.specs.Tree.{Tree, none, joined, node_count}
 use Rattle.nd_value.proofs.Apart.{all_append}
 use Rattle.nd_grammar.specs.declared.reason.Reason.{Reason}
 use Rattle.nd_grammar.specs.Entry.{Kind, Entry, EntryAt, Align, Chunk}
@@ -44,6 +44,13 @@ advanced_goes : (o r : Option (ℕ × Reason)) (p : Progress) (m : Entry) → Go
 advanced_goes (Some x) r p m = goes_nowhere p
 advanced_goes None (Some x) p m = record { added = []; seen = sym (append-nil p.seen) }
 advanced_goes None None p m = record { added = here p m ∷ []; seen = refl }
+
+abbrev chosen : Bool → ReadPipe → ReadPipe → ReadPipe
+chosen b t u = elim b [ true ↦ t | false ↦ u ]
+
+by_count : (p : Progress) (b : Bool) (t u : ReadPipe) → Goes p t.progress → Goes p u.progress → Goes p (chosen b t u).progress
+by_count p true t u f g = f
+by_count p false t u f g = g
 
 module _ (order : Order) (octets : List ℕ) where
   pass_goes : (m : Entry) (p : Progress) → Goes p (pass order octets m p)
@@ -108,11 +115,9 @@ module _ (w : Setting) (order : Order) (octets : List ℕ) where
       let elements : Goes q kids.progress =
       goes_by h q kids.progress (list_adds order octets w.table h (read_in_place order octets w.table h 32 0) (in_place_adds order octets w.table h 32 0) (replicate k elem) n q s) in
       let rest : Goes kids.progress others.progress = chunks_go more h elem (n + node_count kids.trees) kids.progress kids.names in
-      by_count (eqb k 0) refl first (goes_twice p kids.progress others.progress (goes_twice p q kids.progress first elements) rest)
-    where
-      by_count : {q r : Progress} (b : Bool) {t u : ReadPipe} → q ≡ t.progress → Goes p q → Goes p u.progress → Goes p (elim b [ true ↦ t | false ↦ u ]).progress
-      by_count true e f g = subst (Goes p) e f
-      by_count false e f g = g
+      by_count p (eqb k 0) (record { trees = none; cut = []; progress = q; names = s })
+      (record { trees = joined kids.trees others.trees; cut = k ∷ others.cut; progress = others.progress; names = others.names }) first
+      (goes_twice p kids.progress others.progress (goes_twice p q kids.progress first elements) rest)
 
   pipe_goes : (d : Option TypeDef) (b : Bool) (i : ℕ) (p : Progress) (s : Names) → Goes p (read_pipe w order octets d b i p s).progress
   pipe_goes (Some (def.Pipe elem)) false i p s = chunks_go (length octets + 1) (home.Root i) elem.0 1 p s

@@ -16,11 +16,13 @@ use Rattle.nd_value.specs.Tree.{Tree, node, none, more, flat}
 use Rattle.nd_value.specs.Setting.{Setting, cell_home, cell_at}
 use Rattle.nd_value.specs.Deferral.{Pending, due_referent, due_roots, IsPlaced}
 use Rattle.nd_grammar.specs.Entry.{EntryAt}
+use Rattle.nd_grammar.specs.declared.reason.Reason.TheVariants as reason
 use Rattle.nd_grammar.specs.LegalSide.{IsLegalSide}
+use Rattle.nd_grammar.specs.Reader.{Names, Read, read_whole}
 use Rattle.nd_grammar.specs.StreamReader.{Reading, graph_of}
 use Rattle.nd_grammar.proofs.reader.ReaderStates.{State as IsReading}
 use Rattle.ndr_refs.specs.declared.referents.Known.{Known}
-use Rattle.ndr_reading.specs.Around.{going}
+use Rattle.ndr_reading.specs.Around.{going, stopped}
 use Rattle.ndr_steps.specs.declared.first.First.{First}
 use Rattle.ndr_steps.specs.declared.first.First.TheVariants as first
 use Rattle.ndr_steps.specs.declared.frame.Frame.TheVariants as frame
@@ -47,6 +49,16 @@ pub record Between : Type 0 where
   pub read : List (Option Kept)
   -- the graph so far, in which what was not read is unread
   pub graph : Graph
+
+-- nothing is kept at the beginning of a stream
+pub record Begins (b : Between) : Type 0 where
+  pub at : b.at ≡ 0
+  pub pending : b.pending ≡ []
+  pub cells : b.cells ≡ []
+  pub numbers : b.numbers ≡ []
+  pub roots : b.roots ≡ []
+  pub read : b.read ≡ []
+  pub graph : b.graph ≡ record { roots = []; cells = [] }
 
 -- without the next of the pending referents
 abbrev pub others_of : List Owed → List Owed
@@ -116,6 +128,10 @@ abbrev pub root_read : Between → State → KeptRoot → Graph → Between
 root_read b x k g =
     record { at = x.at; pending = x.fresh ++ b.pending; cells = x.cells; numbers = x.numbers; roots = b.roots ++ k ∷ []; read = b.read; graph = g }
 
+-- the roots with a reference pointer more, whose referent is in its place
+abbrev pub with_pointer : ℕ → List Tree → List Tree
+with_pointer c roots = roots ++ node (tree.Ptr (Some c)) none ∷ []
+
 -- The graph after a home was read: it has cells of these types. A root was added; or the value of a cell. What was read before is as it was.
 pub record RootAdded (v : Tree) (types : List ℕ) (g g' : Graph) : Type 0 where
   pub roots : g'.roots ≡ g.roots ++ v ∷ []
@@ -137,6 +153,15 @@ pub record CellKept (c : ℕ) (k : Kept) (old new : List (Option Kept)) : Type 0
 abbrev pub cell_read : Between → State → List KeptRoot → List (Option Kept) → Graph → Between
 cell_read b x roots read g =
     record { at = x.at; pending = x.fresh ++ b.pending; cells = x.cells; numbers = x.numbers; roots = roots; read = read; graph = g }
+
+-- Each of these octets that a home took is needed: without the last one, and those after it, the reader finds the octets cut short where they end.
+abbrev pub AreNeeded : (List ℕ → Read) → List ℕ → List ℕ → Type 0
+AreNeeded target fetched added =
+    (part : List ℕ) (last : ℕ) → added ≡ part ++ last ∷ [] → (at : ℕ) × (seen : List EntryAt) × ((target (fetched ++ part)).progress ≡ stopped at seen (length (fetched ++ part), reason.Truncated))
+
+-- what the reader gives of a home, by all octets, after these entries
+abbrev pub home_target : Setting → Order → Between → List EntryAt → Home → ℕ → Names → List ℕ → Read
+home_target w order b seen h t names octets = read_whole order octets w.table h t (going b.at seen) names
 
 -- ## What it means
 
