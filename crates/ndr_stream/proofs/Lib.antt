@@ -20,3 +20,4 @@ mod ReferentEnds
 mod OtherTurns
 mod Reports
 mod Parameters
+mod HeadEnds

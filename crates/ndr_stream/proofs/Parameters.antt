@@ -104,7 +104,7 @@ pub record RootAt (seen : List EntryAt) (i : ℕ) (v : Tree) (k : KeptRoot) : Ty
 
 abbrev Found : List EntryAt → ℕ → List Tree → List KeptRoot → ℕ → Type 0
 Found seen i vs ks j =
-    ((slice_get vs j ≡ None) × (slice_get ks j ≡ None)) ⊎ ((v : Tree) × ((k : KeptRoot) × (slice_get vs j ≡ Some v) × (slice_get ks j ≡ Some k) × RootAt seen (i + j) v k))
+    ((slice_get vs j ≡ None) × (slice_get ks j ≡ None)) ⊎ ((v : Tree) × (k : KeptRoot) × (slice_get vs j ≡ Some v) × (slice_get ks j ≡ Some k) × RootAt seen (i + j) v k)
 
 no_more : (i : ℕ) → i ≡ i + 0
 no_more i = omega arith
@@ -193,7 +193,7 @@ module _ (w : Setting) (side : IsLegalSide w) (order : Order) (fetched : List �
   -- the number of a home
   number_known : (h : Home) (v : Tree) (o : Option Kept) → Known h v o → kept_number o ≡ number_of v
   number_known h v None (not_known f e) = ap number_of (sym e)
-  number_known h v (Some k) (is_known k x) = kept_is_number seen h v k x
+  number_known h v (Some _) (is_known k x) = kept_is_number seen h v k x
 
   named_number : (c : Option ℕ) → kept_number (kept_named b.read c) ≡ elim c [ None ↦ None | Some d ↦ number_of (cell_at g d) ]
   named_number None = refl
@@ -259,7 +259,7 @@ module _ (w : Setting) (side : IsLegalSide w) (order : Order) (fetched : List �
     goes = λ later. silent_pass h v f ws seen f later;
     keeps = keeps_tests order fetched w.table h b.at kp.at v any_kept w noted b s seen [] ws kp;
   }
-  home_passes h v (Some k) (is_known k x) ws agree = record {
+  home_passes h v (Some _) (is_known k x) ws agree = record {
     after = seen ++ all_at b.at (tests h 0 v ws);
     goes = λ later. tests_pass order fetched w.table h b.at kp.at v k ws seen x (agree k refl) later;
     keeps = keeps_tests order fetched w.table h b.at kp.at v k w noted b s seen [] ws kp;
@@ -268,7 +268,7 @@ module _ (w : Setting) (side : IsLegalSide w) (order : Order) (fetched : List �
   home_stops : (h : Home) (v : Tree) (o : Option Kept) → Known h v o → (a : Agreement) (k : Kept) → o ≡ Some k → (why : ℕ × Reason) → disagreement a k.first k.max_at ≡ Some why
       → Stops (tests h 0 v (a ∷ [])) why
   home_stops h v None (not_known f e) a k is why d = cc
-  home_stops h v (Some y) (is_known y x) a k is why d =
+  home_stops h v (Some _) (is_known y x) a k is why d =
       let same : y ≡ k = same_Some y k is in
       let z : IsKeptOf seen h v k = subst (IsKeptOf seen h v) same x in
       record {

@@ -54,7 +54,7 @@ none_if : (b : Bool) (o : Option (ℕ × Reason)) → o ≡ None → (if b then 
 none_if true o e = refl
 none_if false o e = e
 
-top_is : (v : Tree) (x : Flat) → slice_get (flat (more v none)) 0 ≡ Some x → x ≡ top v
+pub top_is : (v : Tree) (x : Flat) → slice_get (flat (more v none)) 0 ≡ Some x → x ≡ top v
 top_is (node l ks) x e = sym (same_Some (l, count ks) x e)
 
 module _ (order : Order) (fetched : List ℕ) (table : Table) (h : Home) (at : ℕ) (reached : length fetched ≡ at) (v : Tree) (k : Kept) where

@@ -27,7 +27,7 @@ ghost use Rattle.nd_grammar.specs.Entry.{EntryAt};
 ghost use Rattle.nd_grammar.specs.FewItems.{but_gaps};
 ghost use Rattle.nd_grammar.specs.Items.{items};
 ghost use Rattle.nd_grammar.specs.LegalSide.{IsLegalSide};
-ghost use Rattle.nd_grammar.specs.Reader.{Names, Progress, Read, read_whole, with_cell};
+ghost use Rattle.nd_grammar.specs.Reader.{Names, Progress, Read, pass_all, read_whole, with_cell};
 ghost use Rattle.nd_grammar.specs.Stream.{root_test};
 ghost use Rattle.nd_grammar.specs.StreamReader.{Reading, read_next, read_start, read_stream};
 ghost use Rattle.nd_grammar.proofs.legal.LegalUsable.{Usable};
@@ -44,7 +44,7 @@ ghost use Rattle.ndr_stream.specs.declared.kept.Kept.{Kept};
 ghost use Rattle.ndr_stream.specs.declared.kept.KeptRoot.{KeptRoot};
 ghost use Rattle.ndr_stream.specs.Added.{Added, Goes};
 ghost use Rattle.ndr_stream.specs.Between.{Agrees, AreNeeded, Begins, Between, CellFilled, CellKept, IsKeptHome, IsKeptRoot, Keeps, Opens, RootAdded, cell_read, home_target, kept_at, root_read, taken, with_pointer};
-ghost use Rattle.ndr_stream.specs.Parameters.{TestsPass, TestsStop, root_number, root_subject, with_pipes};
+ghost use Rattle.ndr_stream.specs.Parameters.{TestsPass, TestsStop, parameter_tests, pipes_from, root_number, root_subject, with_pipes};
 ghost use Rattle.ndr_stream.specs.Report.{IsRefusedAfter, StreamCut, StreamRefused};
 ghost use Rattle.ndr_stream.specs.Tests.{AllAgree, disagreement};
 
@@ -149,6 +149,16 @@ pub fn parameters_are_tried()
         → Agrees w side order fetched noted b s before [] n → (seen : List EntryAt) → Keeps w order fetched noted b s seen [] → (i : ℕ) (a : Agreement) (k : Kept)
         → root_subject b.read (slice_get b.roots i) ≡ Some k → (why : ℕ × Reason) → disagreement a k.first k.max_at ≡ Some why
         → TestsStop w order fetched noted b s seen (root_test (with_pipes s pipes) i (root_at (with_pipes s pipes) i) (a ∷ [])) why }
+{}
+
+/// Where nothing is due any more: if all agreements of the parameters hold, the pipes come next; if one of them is refused, so is the stream.
+pub fn parameters_end()
+    ensures pass { (w : Setting) (side : IsLegalSide w) (order : Order) (fetched : List ℕ) (noted : List Item) (b : Between) (s : Reading) (seen : List EntryAt) → Agrees w side order fetched noted b s seen [] 0
+        → (after : List EntryAt) → ((later : List ℕ) → pass_all order (fetched ++ later) (parameter_tests w s) (going b.at seen) ≡ going b.at after)
+        → (later : List ℕ) → AreOctets later → read_stream w order (fetched ++ later) ≡ pipes_from w order (fetched ++ later) s (going b.at after) }
+    ensures stop { (w : Setting) (side : IsLegalSide w) (order : Order) (fetched : List ℕ) (noted : List Item) (b : Between) (s : Reading) (seen : List EntryAt) → Agrees w side order fetched noted b s seen [] 0
+        → (after : List EntryAt) (why : ℕ × Reason) → ((later : List ℕ) → pass_all order (fetched ++ later) (parameter_tests w s) (going b.at seen) ≡ stopped b.at after why)
+        → (later : List ℕ) → AreOctets later → (read_stream w order (fetched ++ later)).progress ≡ stopped b.at after why }
 {}
 
 /// What is reported of octets that the plain reader reads to their end, that it refuses, or of which it passes some entries.
