@@ -1,3 +1,4 @@
+pub mod CountedCells
 pub mod Passing
 pub mod Arriving
 pub mod Adding
