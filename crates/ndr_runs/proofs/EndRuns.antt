@@ -81,9 +81,11 @@ module _ (values : List EnumList) (order : Order) (code : List Instr) (table : T
   short_of fetched noted s r i there mid c =
       let g : Good order (f0 ++ fetched) code table h own limit (n0 ++ noted) target s = good fetched noted s r in (
         s.at,
-        (g.seen,
-            subst (λ k. (target k).progress ≡ stopped s.at g.seen (length k, reason.Truncated)) (append_assoc f0 fetched mid)
-            (cut_right order (f0 ++ fetched) code values table h own limit (n0 ++ noted) target planned s g i there mid c)),
+        (
+          g.seen,
+          subst (λ k. (target k).progress ≡ stopped s.at g.seen (length k, reason.Truncated)) (append_assoc f0 fetched mid)
+              (cut_right order (f0 ++ fetched) code values table h own limit (n0 ++ noted) target planned s g i there mid c),
+        ),
       )
 
   abbrev Needed : List ℕ → Type 0

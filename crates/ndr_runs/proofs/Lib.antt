@@ -1,4 +1,4 @@
-mod RowSteps
+pub mod RowSteps
 pub mod Joining
 pub mod GoodRuns
 pub mod PaidSteps

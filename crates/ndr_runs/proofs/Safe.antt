@@ -90,7 +90,7 @@ module _ (w : Setting) (side : IsLegalSide w) (values : List EnumList) (order : 
       let within : s.at ≤ STREAM_LIMIT = at_within order fetched code w.table h own limit noted target s g short in
       let whole : MadeTree w.table (type_at w.table own) (target (fetched ++ [])).tree = made (fetched ++ []) (subst AreOctets (sym (append-nil fetched)) octets) in
       let inner : MadeTree w.table (type_at w.table own)
-          (finish order (fetched ++ []) w.table h s.max g.depth g.fs (read_at order (fetched ++ []) w.table h s.max g.depth g.point (length (nodes_around g.fs)) (going s.at g.seen) g.names)).tree =
+      (finish order (fetched ++ []) w.table h s.max g.depth g.fs (read_at order (fetched ++ []) w.table h s.max g.depth g.point (length (nodes_around g.fs)) (going s.at g.seen) g.names)).tree =
       subst (λ r. MadeTree w.table (type_at w.table own) r.tree) (sym (g.rest [])) whole in
       let few : length (nodes_at g.point g.fs) ≤ 32 * paid (nodes_at g.point g.fs) + 33 * suc (length g.fs) =
       few_at w side order (fetched ++ []) h s.max g.depth g.point g.fs (length (nodes_around g.fs)) (going s.at g.seen) g.names (own, inner) (subst AllRead g.nodes pays.read) in
