@@ -19,3 +19,4 @@ pub mod Begins
 pub mod Worked
 pub mod Bounds
 mod Alignments
+pub mod ChunkBegins

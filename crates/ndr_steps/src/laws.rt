@@ -3,11 +3,14 @@ ghost use Rattle.std.specs.Prelude.{◌≡◌, ◌≤◌, ◌<◌, ℕ, suc, tru
 ghost use Rattle.nd_base.specs.declared.octets.Order.{Order};
 ghost use Rattle.nd_base.specs.declared.TheConstants.{STREAM_LIMIT};
 ghost use Rattle.nd_types.specs.declared.types.Operation.{Operation};
-ghost use Rattle.nd_types.specs.Table.{Table};
+ghost use Rattle.nd_types.specs.declared.types.TypeId.{TypeId};
+ghost use Rattle.nd_types.specs.declared.types.TypeDef.TheVariants.{Pipe};
+ghost use Rattle.nd_types.specs.Table.{Table, type_at};
 ghost use Rattle.nd_types.specs.Legal.{IsLegal};
 ghost use Rattle.nd_types.specs.Layout.{hoists};
 ghost use Rattle.nd_value.specs.declared.item.Home.{Home};
 ghost use Rattle.nd_value.specs.declared.item.Item.{Item};
+ghost use Rattle.nd_value.specs.Tree.{Trees};
 ghost use Rattle.nd_grammar.specs.declared.reason.Reason.TheVariants.{Truncated, TooLong};
 ghost use Rattle.nd_grammar.specs.Reader.{Names, Read, read_whole};
 ghost use Rattle.nd_grammar.specs.Entry.{EntryAt};
@@ -21,6 +24,7 @@ ghost use Rattle.ndr_reading.specs.Around.{going, stopped};
 ghost use Rattle.ndr_steps.specs.Spots.{IsFine, IsPlanned};
 ghost use Rattle.ndr_steps.specs.Steps.{State, IsInner, wants, step};
 ghost use Rattle.ndr_steps.specs.StepItems.{step_items};
+ghost use Rattle.ndr_steps.specs.Chunks.{IsChunkBegun, chunk_read};
 ghost use Rattle.ndr_steps.specs.Good.{Good, IsBegun, IsRight, HasOctets, IsCut, IsTooLong};
 
 /// One step is right: from a state that means something to the plain reader, at the instruction where the decoder is and with the octets that this
@@ -56,6 +60,14 @@ pub fn homes_begin()
     ensures hoisting { (order : Order) (fetched : List ℕ) (code : List Instr) (values : List EnumList) (table : Table) (h : Home) (own : ℕ) (noted : List Item) (direct : ℕ) → IsPlanned code values table
         → (s : State) (seen : List EntryAt) (names : Names) → IsFine table 32 own → IsBegun noted direct order fetched h seen names s → hoists table own ≡ true
         → IsRunAt code s.pc (Hoist ∷ Call (place_at table own) ∷ Ret ∷ []) → Good order fetched code table h own 32 noted direct (λ octets. read_whole order octets table h own (going s.at seen) names) s }
+{}
+
+/// At the beginning of a chunk's elements the state means these elements, after those of the chunks before.
+pub fn chunks_begin()
+    ensures { (order : Order) (fetched : List ℕ) (code : List Instr) (values : List EnumList) (table : Table) (h : Home) (pipe : ℕ) (elem : TypeId) (noted : List Item) (direct : ℕ) → IsPlanned code values table
+        → (s : State) (done : Trees) (n : ℕ) (seen : List EntryAt) (names : Names) → type_at table pipe ≡ Some (Pipe elem) → IsFine table 32 elem.0
+        → IsChunkBegun noted direct order fetched table h elem done n seen names s → s.pc ≡ place_at table elem.0
+        → Good order fetched code table h pipe 33 noted direct (chunk_read order table h elem done (suc n) (going s.at seen) names) s }
 {}
 
 /// A state that means something is at an address of the code, at an instruction of a home's value, and at most one frame more is open than values nest.
