@@ -45,7 +45,7 @@ module _ (w : Setting) (order : Order) (octets : List ℕ) (at : ℕ) (seen : Li
       let first : Progress → ReadPipe = λ q. read_pipe w order octets (type_at w.table r.of) (is_stopped q.stop) i q s in
       pipes_stay (i + 1) rs (first p).progress (first p).names (ap (λ q. (first q).progress) e ∙ pipe_stays (type_at w.table r.of) i s)
 
-module _ (w : Setting) (side : IsLegalSide w) (order : Order) (fetched : List ℕ) (noted : List Item) (b : Between) (s : Reading) (seen : List EntryAt) (ag : Agrees w side order fetched noted b s seen [] 0) where
+module _ (w : Setting) (side : IsLegalSide w) (order : Order) (fetched : List ℕ) (noted : List Item) (direct : ℕ) (b : Between) (s : Reading) (seen : List EntryAt) (ag : Agrees w side order fetched noted direct b s seen [] 0) where
   over_now : (later : List ℕ) → AreOctets later → read_stream w order (fetched ++ later) ≡ stream_after w order (fetched ++ later) s
   over_now later a = over w order fetched s ag.reached ag.due later a
 

@@ -138,8 +138,8 @@ get_past [] j e = omega arith
 get_past (v ∷ vs) zero e = cc
 get_past (v ∷ vs) (suc j) e = let l = get_past vs j e in omega (arith, l)
 
-module _ (w : Setting) (side : IsLegalSide w) (order : Order) (fetched : List ℕ) (noted : List Item) (b : Between) (s : Reading) (seen0 : List EntryAt) (n unread_roots : ℕ)
-    (ag : Agrees w side order fetched noted b s seen0 [] n) (seen : List EntryAt) (kp : Keeps w order fetched noted b s seen []) where
+module _ (w : Setting) (side : IsLegalSide w) (order : Order) (fetched : List ℕ) (noted : List Item) (direct : ℕ) (b : Between) (s : Reading) (seen0 : List EntryAt) (n unread_roots : ℕ)
+    (ag : Agrees w side order fetched noted direct b s seen0 [] n) (seen : List EntryAt) (kp : Keeps w order fetched noted direct b s seen []) where
   abbrev pub g : Graph
   g = graph_of (s.roots ++ replicate unread_roots unread) s.names
 
@@ -222,10 +222,10 @@ module _ (w : Setting) (side : IsLegalSide w) (order : Order) (fetched : List �
   -- ## The tests of a root
 
   abbrev Passes : List Entry → Type 0
-  Passes ms = TestsPass w order fetched noted b s seen ms
+  Passes ms = TestsPass w order fetched noted direct b s seen ms
 
   abbrev Stops : List Entry → ℕ × Reason → Type 0
-  Stops ms why = TestsStop w order fetched noted b s seen ms why
+  Stops ms why = TestsStop w order fetched noted direct b s seen ms why
 
   nothing_passes : Passes []
   nothing_passes = record { after = seen; goes = λ later. refl; keeps = kp }
@@ -257,12 +257,12 @@ module _ (w : Setting) (side : IsLegalSide w) (order : Order) (fetched : List �
   home_passes h v None (not_known f e) ws agree = record {
     after = seen ++ all_at b.at (tests h 0 v ws);
     goes = λ later. silent_pass h v f ws seen f later;
-    keeps = keeps_tests order fetched w.table h b.at kp.at v any_kept w noted b s seen [] ws kp;
+    keeps = keeps_tests order fetched w.table h b.at kp.at v any_kept w noted direct b s seen [] ws kp;
   }
   home_passes h v (Some _) (is_known k x) ws agree = record {
     after = seen ++ all_at b.at (tests h 0 v ws);
     goes = λ later. tests_pass order fetched w.table h b.at kp.at v k ws seen x (agree k refl) later;
-    keeps = keeps_tests order fetched w.table h b.at kp.at v k w noted b s seen [] ws kp;
+    keeps = keeps_tests order fetched w.table h b.at kp.at v k w noted direct b s seen [] ws kp;
   }
 
   home_stops : (h : Home) (v : Tree) (o : Option Kept) → Known h v o → (a : Agreement) (k : Kept) → o ≡ Some k → (why : ℕ × Reason) → disagreement a k.first k.max_at ≡ Some why
@@ -274,7 +274,7 @@ module _ (w : Setting) (side : IsLegalSide w) (order : Order) (fetched : List �
       record {
         after = seen ++ [];
         stops = λ later. tests_stop order fetched w.table h b.at kp.at v k [] a [] why seen z tt d later;
-        keeps = subst (λ u. Keeps w order fetched noted b s u []) (sym (append-nil seen)) kp;
+        keeps = subst (λ u. Keeps w order fetched noted direct b s u []) (sym (append-nil seen)) kp;
       }
 
   -- what is tried of a root
@@ -335,7 +335,7 @@ module _ (w : Setting) (side : IsLegalSide w) (order : Order) (fetched : List �
 
   -- the agreement of a root holds, or there is nothing that it is about
   pub root_passes : (i : ℕ) (ws : List Agreement) → ((k : Kept) → root_subject b.read (slice_get b.roots i) ≡ Some k → AllAgree k ws)
-      → TestsPass w order fetched noted b s seen (root_test g i (root_at g i) ws)
+      → TestsPass w order fetched noted direct b s seen (root_test g i (root_at g i) ws)
   root_passes i ws agree = go (subject i ws)
     where
       go : ((tried_of i ws ≡ []) × (root_subject b.read (slice_get b.roots i) ≡ None)) ⊎ Subject i ws (root_subject b.read (slice_get b.roots i)) → Passes (tried_of i ws)
@@ -344,7 +344,7 @@ module _ (w : Setting) (side : IsLegalSide w) (order : Order) (fetched : List �
 
   -- it does not
   pub root_stops : (i : ℕ) (a : Agreement) (k : Kept) → root_subject b.read (slice_get b.roots i) ≡ Some k → (why : ℕ × Reason) → disagreement a k.first k.max_at ≡ Some why
-      → TestsStop w order fetched noted b s seen (root_test g i (root_at g i) (a ∷ [])) why
+      → TestsStop w order fetched noted direct b s seen (root_test g i (root_at g i) (a ∷ [])) why
   root_stops i a k is why d = go (subject i (a ∷ []))
     where
       go : ((tried_of i (a ∷ []) ≡ []) × (root_subject b.read (slice_get b.roots i) ≡ None)) ⊎ Subject i (a ∷ []) (root_subject b.read (slice_get b.roots i)) → Stops (tried_of i (a ∷ [])) why

@@ -51,9 +51,9 @@ module _ (order : Order) (octets : List ℕ) (code : List Instr) (table : Table)
   own_at (checking f so_far tests) (members, checks, is, left, run) = checks_own code table h f members so_far tests checks left
   own_at (has t v) s = tt
 
-pub state_adds : (order : Order) (fetched : List ℕ) (code : List Instr) (table : Table) (h : Home) (own limit : ℕ) (noted : List Item) (target : List ℕ → Read) (s : State)
-    → (g : Good order fetched code table h own limit noted target s) → (later : List ℕ) → Added h (going s.at g.seen) (target (fetched ++ later)).progress
-state_adds order fetched code table h own limit noted target s g later =
+pub state_adds : (order : Order) (fetched : List ℕ) (code : List Instr) (table : Table) (h : Home) (own limit : ℕ) (noted : List Item) (direct : ℕ) (target : List ℕ → Read) (s : State)
+    → (g : Good order fetched code table h own limit noted direct target s) → (later : List ℕ) → Added h (going s.at g.seen) (target (fetched ++ later)).progress
+state_adds order fetched code table h own limit noted direct target s g later =
     let octets : List ℕ = fetched ++ later in
     let n : ℕ = length (nodes_around g.fs) in
     let r : Read = read_at order octets table h s.max g.depth g.point n (going s.at g.seen) g.names in

@@ -45,10 +45,10 @@ advanced_goes (Some x) r p m = goes_nowhere p
 advanced_goes None (Some x) p m = record { added = []; seen = sym (append-nil p.seen) }
 advanced_goes None None p m = record { added = here p m ∷ []; seen = refl }
 
-abbrev chosen : Bool → ReadPipe → ReadPipe → ReadPipe
+abbrev pub chosen : Bool → ReadPipe → ReadPipe → ReadPipe
 chosen b t u = elim b [ true ↦ t | false ↦ u ]
 
-by_count : (p : Progress) (b : Bool) (t u : ReadPipe) → Goes p t.progress → Goes p u.progress → Goes p (chosen b t u).progress
+pub by_count : (p : Progress) (b : Bool) (t u : ReadPipe) → Goes p t.progress → Goes p u.progress → Goes p (chosen b t u).progress
 by_count p true t u f g = f
 by_count p false t u f g = g
 
@@ -103,7 +103,7 @@ module _ (w : Setting) (order : Order) (octets : List ℕ) where
       let q : Reading = read_next w order octets s.due s in
       goes_twice s.progress q.progress (read_due w order octets k q).progress (next_goes s.due s) (due_goes k q)
 
-  chunks_go : (k : ℕ) (h : Home) (elem n : ℕ) (p : Progress) (s : Names) → Goes p (read_chunks w order octets k h elem n p s).progress
+  pub chunks_go : (k : ℕ) (h : Home) (elem n : ℕ) (p : Progress) (s : Names) → Goes p (read_chunks w order octets k h elem n p s).progress
   chunks_go zero h elem n p s = goes_nowhere p
   chunks_go (suc more) h elem n p s =
       let gap : Progress = pass order octets (record { home = h; node = 0; kind = Align 4 }) p in

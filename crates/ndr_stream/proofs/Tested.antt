@@ -121,23 +121,23 @@ module _ (order : Order) (fetched : List ℕ) (table : Table) (h : Home) (at : �
       ∙ tests_stop ws w others why (seen ++ t ∷ []) (kept_later h v k seen (t ∷ []) (test_silent h x) kept) a.1 e after
       ∙ ap (λ u. stopped at u why) (append_assoc seen (t ∷ []) (all_at at (tests h 0 v ws)))
 
-  pub told_tests : {noted : List Item} (ws : List Agreement) (g : Home) (seen : List EntryAt) (names : Names) (cells : List ℕ) (numbers : List (ℕ × Known)) (max_at : Option ℕ) (n : ℕ) (half : List Place)
-      → Told noted order fetched g seen names cells numbers max_at n half → Told noted order fetched g (seen ++ all_at at (tests h 0 v ws)) names cells numbers max_at n half
-  told_tests {noted = noted} [] g seen names cells numbers max_at n half t = subst (λ u. Told noted order fetched g u names cells numbers max_at n half) (sym (append-nil seen)) t
-  told_tests {noted = noted} (w ∷ ws) g seen names cells numbers max_at n half t =
+  pub told_tests : {noted : List Item} {direct : ℕ} (ws : List Agreement) (g : Home) (seen : List EntryAt) (names : Names) (cells : List ℕ) (numbers : List (ℕ × Known)) (max_at : Option ℕ) (n : ℕ) (half : List Place)
+      → Told noted direct order fetched g seen names cells numbers max_at n half → Told noted direct order fetched g (seen ++ all_at at (tests h 0 v ws)) names cells numbers max_at n half
+  told_tests {noted = noted} {direct = direct} [] g seen names cells numbers max_at n half t = subst (λ u. Told noted direct order fetched g u names cells numbers max_at n half) (sym (append-nil seen)) t
+  told_tests {noted = noted} {direct = direct} (w ∷ ws) g seen names cells numbers max_at n half t =
       let x : EntryAt = test_at w in
       let lies : Lies (fetched ++ []) x = let i : length (fetched ++ []) ≡ length fetched + 0 = length-append fetched [] in omega (arith, i, reached) in
-      let one : Told noted order fetched g (seen ++ x ∷ []) names cells numbers max_at n half =
-      subst (λ ns. Told ns order fetched g (seen ++ x ∷ []) names cells numbers max_at n half) (append-nil noted)
-      (subst (λ os. Told (noted ++ []) order os g (seen ++ x ∷ []) names cells numbers max_at n half) (append-nil fetched)
-      (told_passed [] order fetched [] g seen names cells numbers max_at n half x refl tt tt lies t)) in
-      subst (λ u. Told noted order fetched g u names cells numbers max_at n half) (append_assoc seen (x ∷ []) (all_at at (tests h 0 v ws)))
+      let one : Told noted direct order fetched g (seen ++ x ∷ []) names cells numbers max_at n half =
+      subst (λ ns. Told ns direct order fetched g (seen ++ x ∷ []) names cells numbers max_at n half) (append-nil noted)
+      (subst (λ os. Told (noted ++ []) direct order os g (seen ++ x ∷ []) names cells numbers max_at n half) (append-nil fetched)
+      (told_passed [] order fetched [] g seen names cells numbers max_at n half x refl tt tt refl lies t)) in
+      subst (λ u. Told noted direct order fetched g u names cells numbers max_at n half) (append_assoc seen (x ∷ []) (all_at at (tests h 0 v ws)))
       (told_tests ws g (seen ++ x ∷ []) names cells numbers max_at n half one)
 
   -- what is kept stays right while agreements are tried
-  pub keeps_tests : (w : Setting) (noted : List Item) (b : Between) (s : Reading) (seen : List EntryAt) (ps : List Pending) (ws : List Agreement)
-      → Keeps w order fetched noted b s seen ps → Keeps w order fetched noted b s (seen ++ all_at at (tests h 0 v ws)) ps
-  keeps_tests w noted b s seen ps ws x = record {
+  pub keeps_tests : (w : Setting) (noted : List Item) (direct : ℕ) (b : Between) (s : Reading) (seen : List EntryAt) (ps : List Pending) (ws : List Agreement)
+      → Keeps w order fetched noted direct b s seen ps → Keeps w order fetched noted direct b s (seen ++ all_at at (tests h 0 v ws)) ps
+  keeps_tests w noted direct b s seen ps ws x = record {
     at = x.at;
     pending = x.pending;
     told = λ g u. told_tests ws g seen s.names b.cells b.numbers None 0 [] (x.told g u);
