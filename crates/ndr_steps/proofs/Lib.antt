@@ -1,3 +1,4 @@
+pub mod CountedCells
 pub mod Passing
 pub mod Arriving
 pub mod Adding
@@ -17,4 +18,5 @@ pub mod PlanRuns
 pub mod Begins
 pub mod Worked
 pub mod Bounds
-mod FewNodes
+mod Alignments
+pub mod ChunkBegins
