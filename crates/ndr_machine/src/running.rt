@@ -48,7 +48,7 @@ pub fn run<S: Source, L: Ledger>(
 {
     for _turn in 0..u64::MAX {
         let instr = code[machine.pc];
-        match machine.turn(order, code, instr, values, intake, source, items, steps) {
+        match take_turn(machine, order, code, instr, values, intake, source, items, steps) {
             Ok(Progress::More) => {}
             Ok(Progress::Whole) => return Ok(()),
             Err(fault) => return Err(fault),

@@ -1,7 +1,8 @@
 // What each instruction does.
 ghost use Rattle.std.specs.Prelude.{◌≡◌, ◌<◌, ◌+◌, ◌^◌, length};
 ghost use Rattle.ndr_steps.specs.Steps.{IsInner, step, wants, text_want, hoist_want, limit_of};
-ghost use Rattle.ndr_state.specs.Seen.{state_of, phase_of, Comes, Does, Wants};
+ghost use Rattle.ndr_state.specs.Seen.{state_of, phase_of, Comes, Does};
+ghost use Rattle.ndr_machine.specs.Wanting.{Wants};
 ghost use Rattle.ndr_machine.specs.Parts.{HasWanted, arm_tried};
 ghost use Rattle.ndr_steps.specs.StepItems.{arm_items, step_items};
 ghost use Rattle.ndr_state.specs.Notes.{Noted, notes_seen};
