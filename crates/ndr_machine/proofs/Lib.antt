@@ -3,3 +3,4 @@ mod Zeros
 mod Searches
 mod Pending
 mod Noting
+mod Outcomes
