@@ -2,5 +2,4 @@ mod Agreements
 mod Zeros
 mod Searches
 mod Pending
-mod Noting
 mod Outcomes
