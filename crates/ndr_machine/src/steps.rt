@@ -1,7 +1,8 @@
 // What each instruction does.
 ghost use Rattle.std.specs.Prelude.{◌≡◌, ◌<◌, ◌+◌, ◌^◌, length};
 ghost use Rattle.ndr_steps.specs.Steps.{IsInner, step, wants, text_want, hoist_want, limit_of};
-ghost use Rattle.ndr_state.specs.Seen.{state_of, phase_of, Comes, Does, Wants};
+ghost use Rattle.ndr_state.specs.Seen.{state_of, phase_of, Comes, Does};
+ghost use Rattle.ndr_machine.specs.Wanting.{Wants, IsFewGap};
 ghost use Rattle.ndr_machine.specs.Parts.{HasWanted, arm_tried};
 ghost use Rattle.ndr_steps.specs.StepItems.{arm_items, step_items};
 ghost use Rattle.ndr_state.specs.Notes.{Noted, notes_seen};
@@ -30,7 +31,8 @@ pub enum Want {
 /// The octets that an instruction wants next. Takes no memory.
 pub fn wanted(machine: &Machine, instr: Instr, values: &EnumLists) -> Want
     requires inner { IsInner instr }
-    ensures { Wants (wants values.now instr (state_of machine.now)) result }
+    ensures wants { Wants (wants values.now instr (state_of machine.now)) result }
+    ensures few { IsFewGap result }
 {
     match instr {
         Instr::Align { to } => Want::Gap(gap_before(machine.at, to)),
@@ -77,7 +79,8 @@ pub fn wanted(machine: &Machine, instr: Instr, values: &EnumLists) -> Want
 
 // The octets that a string wants next.
 fn text_wanted(machine: &Machine) -> Want
-    ensures { Wants (text_want (phase_of machine.now.phase)) result }
+    ensures wants { Wants (text_want (phase_of machine.now.phase)) result }
+    ensures few { IsFewGap result }
 {
     match machine.phase {
         Phase::CountRead(count) => Want::Item(count.saturating_add(1)),
@@ -87,7 +90,8 @@ fn text_wanted(machine: &Machine) -> Want
 
 // The octets that a maximum count wants next.
 fn hoist_wanted(machine: &Machine) -> Want
-    ensures { Wants (hoist_want (phase_of machine.now.phase) machine.now.at) result }
+    ensures wants { Wants (hoist_want (phase_of machine.now.phase) machine.now.at) result }
+    ensures few { IsFewGap result }
 {
     match machine.phase {
         Phase::GapRead => Want::Item(4),
@@ -116,7 +120,7 @@ pub fn take_step<L: Ledger>(
     requires few { machine.old.count + 1 < 2 ^ 32 }
     requires cells { machine.old.cells + 1 < 2 ^ 32 }
     ensures does { Comes (step values.now order octets.now instr (state_of machine.old)) result (state_of machine.new) }
-    ensures noted { Noted (step_items order machine.old.home octets.now instr (state_of machine.old)) (notes_seen items.old items.new (L.number steps.old) (L.number steps.new) machine.old.cells machine.new.cells) result }
+    ensures noted { Noted (step values.now order octets.now instr (state_of machine.old)) (step_items order machine.old.home octets.now instr (state_of machine.old)) (notes_seen items.old items.new (L.number steps.old) (L.number steps.new) machine.old.cells machine.new.cells) result }
     ensures home { machine.new.home ≡ machine.old.home }
 {
     match instr {
@@ -192,7 +196,7 @@ fn try_arm<L: Ledger>(
     requires fits { machine.old.at + 8 < 2 ^ 32 }
     requires few { machine.old.count + 1 < 2 ^ 32 }
     ensures does { Does (arm_tried label run (state_of machine.old)) result (state_of machine.new) }
-    ensures noted { Noted (arm_items machine.old.home label (state_of machine.old)) (notes_seen items.old items.new (L.number steps.old) (L.number steps.new) machine.old.cells machine.new.cells) result }
+    ensures noted { Noted (arm_tried label run (state_of machine.old)) (arm_items machine.old.home label (state_of machine.old)) (notes_seen items.old items.new (L.number steps.old) (L.number steps.new) machine.old.cells machine.new.cells) result }
     ensures home { machine.new.home ≡ machine.old.home }
 {
     if label != machine.tag {

@@ -28,7 +28,7 @@ pub(crate) fn text<L: Ledger>(
     requires fits { machine.old.at + length octets.now < 2 ^ 32 }
     requires few { machine.old.count + 1 < 2 ^ 32 }
     ensures does { Does (text_by order octets.now (phase_of machine.old.phase) limit (state_of machine.old)) result (state_of machine.new) }
-    ensures noted { Noted (text_items order machine.old.home octets.now (phase_of machine.old.phase) (state_of machine.old)) (notes_seen items.old items.new (L.number steps.old) (L.number steps.new) machine.old.cells machine.new.cells) result }
+    ensures noted { Noted (text_by order octets.now (phase_of machine.old.phase) limit (state_of machine.old)) (text_items order machine.old.home octets.now (phase_of machine.old.phase) (state_of machine.old)) (notes_seen items.old items.new (L.number steps.old) (L.number steps.new) machine.old.cells machine.new.cells) result }
     ensures home { machine.new.home ≡ machine.old.home }
 {
     match machine.phase {
@@ -52,7 +52,7 @@ fn text_offset<L: Ledger>(
 ) -> Result<(), DecodeFault>
     requires fits { machine.old.at + 4 < 2 ^ 32 }
     ensures does { Does (text_offset_read offset (state_of machine.old)) result (state_of machine.new) }
-    ensures noted { Noted (next_item machine.old.home (state_of machine.old) item.Offset 4 (pos offset) ∷ []) (notes_seen items.old items.new (L.number steps.old) (L.number steps.new) machine.old.cells machine.new.cells) result }
+    ensures noted { Noted (text_offset_read offset (state_of machine.old)) (next_item machine.old.home (state_of machine.old) item.Offset 4 (pos offset) ∷ []) (notes_seen items.old items.new (L.number steps.old) (L.number steps.new) machine.old.cells machine.new.cells) result }
     ensures home { machine.new.home ≡ machine.old.home }
 {
     if offset != 0 {
@@ -74,7 +74,7 @@ fn text_count<L: Ledger>(
 ) -> Result<(), DecodeFault>
     requires fits { machine.old.at + 4 < 2 ^ 32 }
     ensures does { Does (text_count_read count limit (state_of machine.old)) result (state_of machine.new) }
-    ensures noted { Noted (next_item machine.old.home (state_of machine.old) item.Actual 4 (pos count) ∷ []) (notes_seen items.old items.new (L.number steps.old) (L.number steps.new) machine.old.cells machine.new.cells) result }
+    ensures noted { Noted (text_count_read count limit (state_of machine.old)) (next_item machine.old.home (state_of machine.old) item.Actual 4 (pos count) ∷ []) (notes_seen items.old items.new (L.number steps.old) (L.number steps.new) machine.old.cells machine.new.cells) result }
     ensures home { machine.new.home ≡ machine.old.home }
 {
     if count == 0 {
@@ -112,7 +112,7 @@ fn text_octets<L: Ledger>(
     requires fits { machine.old.at + length octets.now < 2 ^ 32 }
     requires few { machine.old.count + 1 < 2 ^ 32 }
     ensures does { Does (text_done (text_refusal machine.old.at octets.now) limit octets.now (state_of machine.old)) result (state_of machine.new) }
-    ensures noted { Noted (next_item machine.old.home (state_of machine.old) item.Text (length octets.now) (pos (length octets.now)) ∷ []) (notes_seen items.old items.new (L.number steps.old) (L.number steps.new) machine.old.cells machine.new.cells) result }
+    ensures noted { Noted (text_done (text_refusal machine.old.at octets.now) limit octets.now (state_of machine.old)) (next_item machine.old.home (state_of machine.old) item.Text (length octets.now) (pos (length octets.now)) ∷ []) (notes_seen items.old items.new (L.number steps.old) (L.number steps.new) machine.old.cells machine.new.cells) result }
     ensures home { machine.new.home ≡ machine.old.home }
 {
     if let Some((place, reason)) = refused_text(machine.at, octets) {

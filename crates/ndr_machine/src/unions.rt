@@ -55,7 +55,7 @@ pub(crate) fn arm<L: Ledger>(
     requires fits { machine.old.at + 8 < 2 ^ 32 }
     requires few { machine.old.count + 1 < 2 ^ 32 }
     ensures does { Does (goes (arm_taken (eqb run 0) run (state_of machine.old))) result (state_of machine.new) }
-    ensures noted { Noted (tag_items machine.old.home (state_of machine.old)) (notes_seen items.old items.new (L.number steps.old) (L.number steps.new) machine.old.cells machine.new.cells) result }
+    ensures noted { Noted (goes (arm_taken (eqb run 0) run (state_of machine.old))) (tag_items machine.old.home (state_of machine.old)) (notes_seen items.old items.new (L.number steps.old) (L.number steps.new) machine.old.cells machine.new.cells) result }
     ensures home { machine.new.home ≡ machine.old.home }
 {
     let len = width_of(machine.carrier) as u32;
