@@ -1,6 +1,6 @@
 -- Items of rows of numbers, noted one after the other.
 -- `o` is an order, `p` a primitive, `h` a home, `os` are octets, `n`, `k`, `i` numbers of numbers, `g` is a log.
-use Rattle.std.proofs.Common.{◌≡◌, ◌<◌, ◌≤◌, ℕ, ◌+◌, ◌-◌, ◌*◌, zero, suc, ℤ, Bool, true, false, List, [], ◌∷◌, ◌++◌, length, take, drop, refl, sym, ap, ap₂, ◌∙◌, arith, length-append}
+use Rattle.std.proofs.Common.{◌≡◌, ◌<◌, ◌≤◌, ℕ, ◌+◌, ◌-◌, ◌*◌, zero, suc, ℤ, Bool, true, false, List, [], ◌∷◌, ◌++◌, length, take, drop, Result, IsErrAnd, refl, sym, ap, ap₂, ◌∙◌, subst, arith, length-append}
 use Rattle.std.proofs.lemmas.List.{drop-drop}
 use Rattle.nd_base.specs.declared.octets.Order.{Order}
 use Rattle.nd_types.specs.declared.types.Primitive.{Primitive}
@@ -14,7 +14,11 @@ use Rattle.nd_flat.specs.FlatForm.{row_values, num_flats}
 use Rattle.ndr_steps.specs.Steps.{State}
 use Rattle.ndr_steps.specs.StepItems.{item_here}
 use Rattle.ndr_runs.specs.Rows.{row_items}
-use Rattle.ndr_state.specs.Notes.{NotesSeen, notes_seen, all_noted, ticks, IsNotedPart, Noted, number_ahead}
+use Rattle.ndr_state.specs.Notes.{notes_seen, all_noted, number_ahead}
+use Rattle.ndr_state.specs.declared.fault.DecodeFault.{DecodeFault}
+use Rattle.ndr_state.specs.declared.fault.DecodeFault.TheVariants as fault
+use Rattle.ndr_machine.specs.Notes.{IsRowPart, RowNoted}
+use Rattle.ndr_machine.proofs.Noting.{memory_on}
 
 -- ## Logs
 
@@ -61,17 +65,6 @@ module _ (o : Order) (p : Primitive) (h : Home) where
       ∙ ap (λ i. first ++ number_item (at + width p + k * width p) (node + 1 + k) i ∷ []) (drop-drop (k * width p) (width p) os ∙ ap (λ i. drop i os) d)
       ∙ ap₂ (λ x y. first ++ number_item x y (drop (suc k * width p) os) ∷ []) a j)
 
-  -- the first ones
-  pub row_items_taken : (at node n k : ℕ) (os : List ℕ) → k ≤ n → take k (row_items o p h at node n os) ≡ row_items o p h at node k os
-  row_items_taken at node n zero os le = refl
-  row_items_taken at node zero (suc k) os le = absurd (omega (arith, le))
-  row_items_taken at node (suc n) (suc k) os le =
-      ap (λ xs. number_item at node os ∷ xs) (row_items_taken (at + width p) (node + 1) n k (drop (width p) os) (omega (arith, le)))
-
-  pub row_ticks : (at node n : ℕ) (os : List ℕ) → ticks (row_items o p h at node n os) ≡ n
-  row_ticks at node zero os = refl
-  row_ticks at node (suc n) os = let e = row_ticks (at + width p) (node + 1) n (drop (width p) os) in omega (arith, e)
-
   -- ## So many of them noted
 
   module _ (at node : ℕ) (os : List ℕ) where
@@ -103,24 +96,18 @@ module _ (o : Order) (p : Primitive) (h : Home) where
     }
 
     -- all of them
-    pub row_noted : (i n : ℕ) (log log' : Logged) (steps steps' k : ℕ) → i ≡ n → IsRowNoted i log log' steps steps'
-        → (log' ≡ all_noted (row_items o p h at node n os) log) × (steps' + k ≡ steps + ticks (row_items o p h at node n os) + k)
-    row_noted i n log log' steps steps' k e r =
-        (r.log_is ∙ ap (λ j. all_noted (row_items o p h at node j os) log) e, let s = r.steps_are in let t = row_ticks at node n os in omega (arith, s, t, e))
+    pub row_noted : (i n : ℕ) (log log' : Logged) (steps steps' : ℕ) → i ≡ n → IsRowNoted i log log' steps steps'
+        → (log' ≡ all_noted (row_items o p h at node n os) log) × (steps' ≡ steps + n)
+    row_noted i n log log' steps steps' e r =
+        (r.log_is ∙ ap (λ j. all_noted (row_items o p h at node j os) log) e, let s = r.steps_are in omega (arith, s, e))
 
     -- memory was refused at the next
-    pub row_part : (i n : ℕ) (log log' log'' : Logged) (steps steps' steps'' k k' : ℕ) → i ≤ n → log'' ≡ log' → steps'' ≡ steps' → IsRowNoted i log log' steps steps'
-        → IsNotedPart (row_items o p h at node n os) (notes_seen log log'' steps steps'' k k')
-    row_part i n log log' log'' steps steps' steps'' k k' le el es r =
-        let taken : take i (row_items o p h at node n os) ≡ row_items o p h at node i os = row_items_taken at node n i os le in
-        record {
-          some = i;
-          log = el ∙ r.log_is ∙ ap (λ xs. all_noted xs log) (sym taken);
-          steps =
-              let t : ticks (take i (row_items o p h at node n os)) ≡ i = ap ticks taken ∙ row_ticks at node i os in
-              let s = r.steps_are in
-              omega (arith, t, s, es);
-        }
+    pub row_stopped : (i n : ℕ) (log log' log'' : Logged) (steps steps' steps'' k k' : ℕ) (r : Result (Unit {0}) DecodeFault) (e : DecodeFault)
+        → IsErrAnd r (λ y. y ≡ e) → e ≡ fault.Memory → i ≤ n → log'' ≡ log' → steps'' ≡ steps' → IsRowNoted i log log' steps steps'
+        → RowNoted o p h at node n os (notes_seen log log'' steps steps'' k k') r
+    row_stopped i n log log' log'' steps steps' steps'' k k' r e h m le el es row =
+        subst (λ (y : Result (Unit {0}) DecodeFault). RowNoted o p h at node n os (notes_seen log log'' steps steps'' k k') y) (sym (memory_on r e h m))
+        (record { some = i; few = le; log = el ∙ row.log_is; steps = let s = row.steps_are in omega (arith, s, es) })
 
     -- nothing is kept, and the others are counted
     pub row_counted : (n more : ℕ) (log log' : Logged) (steps steps' steps'' : ℕ) → n ≡ more + 1 → length log'.items ≡ length log.items
