@@ -3,7 +3,7 @@ ghost use Rattle.std.specs.Prelude.{◌≡◌, ◌<◌, ◌≤◌, ◌+◌, ◌-
 ghost use Rattle.nd_value.specs.Agreement.{wanted_by};
 ghost use Rattle.nd_flat.specs.FlatForm.{IsKeepableNumber};
 ghost use Rattle.ndr_steps.specs.Steps.{goes, check_in, checked, first_found, first_number, with_fresh, joined_by, is_owing, max_in, offset_in, actual_in, tag_in, place_of, place_in};
-ghost use Rattle.ndr_state.specs.Seen.{state_of, Does, agreement_of, owed_of, HasGrown};
+ghost use Rattle.ndr_state.specs.Seen.{state_of, Does, agreement_of, owed_of, HasGrown, outside};
 ghost use Rattle.ndr_state.specs.declared.fault.DecodeFault.TheVariants as fault;
 ghost use Rattle.ndr_machine.specs.Parts.{IsTried, disagreement, member_checked, count_place, tag_place};
 
@@ -36,7 +36,7 @@ pub fn try_in(wanted: Wanted, of: First, max_at: Option<u32>) -> Result<(), Deco
 pub(crate) fn check(machine: &mut Machine, attr: Attr, field: u32, var: u32) -> Result<(), DecodeFault>
     requires code { machine.old.pc < 2 ^ 32 }
     ensures does { Does (check_in machine.old.top attr field var (state_of machine.old)) result (state_of machine.new) }
-    ensures home { machine.new.home ≡ machine.old.home }
+    ensures outside { OnOk result (outside machine.new ≡ outside machine.old) }
 {
     match machine.top {
         Frame::Record { back: _, first } => check_member(machine, first, attr, field, var),
@@ -62,7 +62,7 @@ fn check_member(
 ) -> Result<(), DecodeFault>
     requires code { machine.old.pc < 2 ^ 32 }
     ensures does { Does (member_checked first attr field var (state_of machine.old)) result (state_of machine.new) }
-    ensures home { machine.new.home ≡ machine.old.home }
+    ensures outside { OnOk result (outside machine.new ≡ outside machine.old) }
 {
     let member = member_at(machine, first, field);
     let of = first_at(machine, first, field);
@@ -114,7 +114,7 @@ fn check_wanted(
 ) -> Result<(), DecodeFault>
     requires code { machine.old.pc < 2 ^ 32 }
     ensures does { Does (checked (agreement_of wanted ∷ []) member of (state_of machine.old)) result (state_of machine.new) }
-    ensures home { machine.new.home ≡ machine.old.home }
+    ensures outside { OnOk result (outside machine.new ≡ outside machine.old) }
 {
     let Some(member) = member else {
         machine.skip();
@@ -137,7 +137,7 @@ fn check_wanted(
 fn join(machine: &mut Machine, pending: usize, wanted: Wanted) -> Result<(), DecodeFault>
     ensures does { Does (goes (with_fresh (joined_by (agreement_of wanted ∷ []) (state_of machine.old).fresh pending) (state_of machine.old))) result (state_of machine.new) }
     ensures pc { machine.new.pc ≡ machine.old.pc }
-    ensures home { machine.new.home ≡ machine.old.home }
+    ensures outside { OnOk result (outside machine.new ≡ outside machine.old) }
 {
     if pending >= machine.fresh.len() {
         return Ok(());
@@ -167,7 +167,7 @@ fn gather(machine: &mut Machine, owed: Owed) -> Result<Owed, DecodeFault>
     ensures fresh { OnOk result (machine.new.fresh.items ≡ machine.old.fresh.items) }
     ensures grown { OnOk result (HasGrown machine.old.wanted.items machine.new.wanted.items) }
     ensures pc { machine.new.pc ≡ machine.old.pc }
-    ensures home { machine.new.home ≡ machine.old.home }
+    ensures outside { OnOk result (outside machine.new ≡ outside machine.old) }
     ensures memory { IfErr result (λ e. e ≡ fault.Memory) }
 {
     if owed.from + owed.len == machine.wanted.len() {

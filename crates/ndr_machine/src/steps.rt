@@ -1,7 +1,7 @@
 // What each instruction does.
-ghost use Rattle.std.specs.Prelude.{◌≡◌, ◌<◌, ◌+◌, ◌^◌, length};
+ghost use Rattle.std.specs.Prelude.{◌≡◌, ◌<◌, ◌+◌, ◌^◌, length, OnOk};
 ghost use Rattle.ndr_steps.specs.Steps.{IsInner, step, wants, text_want, hoist_want, limit_of};
-ghost use Rattle.ndr_state.specs.Seen.{state_of, phase_of, Comes, Does};
+ghost use Rattle.ndr_state.specs.Seen.{state_of, phase_of, Comes, Does, outside};
 ghost use Rattle.ndr_machine.specs.Wanting.{Wants, IsFewGap};
 ghost use Rattle.ndr_machine.specs.Parts.{HasWanted, arm_tried};
 ghost use Rattle.ndr_steps.specs.StepItems.{arm_items, step_items};
@@ -121,7 +121,7 @@ pub fn take_step<L: Ledger>(
     requires cells { machine.old.cells + 1 < 2 ^ 32 }
     ensures does { Comes (step values.now order octets.now instr (state_of machine.old)) result (state_of machine.new) }
     ensures noted { Noted (step values.now order octets.now instr (state_of machine.old)) (step_items order machine.old.home octets.now instr (state_of machine.old)) (notes_seen items.old items.new (L.number steps.old) (L.number steps.new) machine.old.cells machine.new.cells) result }
-    ensures home { machine.new.home ≡ machine.old.home }
+    ensures outside { OnOk result (outside machine.new ≡ outside machine.old) }
 {
     match instr {
         Instr::Void => machine.skip(),
@@ -197,7 +197,7 @@ fn try_arm<L: Ledger>(
     requires few { machine.old.count + 1 < 2 ^ 32 }
     ensures does { Does (arm_tried label run (state_of machine.old)) result (state_of machine.new) }
     ensures noted { Noted (arm_tried label run (state_of machine.old)) (arm_items machine.old.home label (state_of machine.old)) (notes_seen items.old items.new (L.number steps.old) (L.number steps.new) machine.old.cells machine.new.cells) result }
-    ensures home { machine.new.home ≡ machine.old.home }
+    ensures outside { OnOk result (outside machine.new ≡ outside machine.old) }
 {
     if label != machine.tag {
         machine.skip();

@@ -1,9 +1,9 @@
 // Unions.
-ghost use Rattle.std.specs.Prelude.{◌≡◌, ◌<◌, ◌+◌, ◌^◌, eqb, length};
+ghost use Rattle.std.specs.Prelude.{◌≡◌, ◌<◌, ◌+◌, ◌^◌, eqb, length, OnOk};
 ghost use Rattle.nd_types.specs.Table.{width};
 ghost use Rattle.ndr_code.specs.Lines.{enumerators};
 ghost use Rattle.ndr_steps.specs.Steps.{goes, arm_taken, tag_step, form_by};
-ghost use Rattle.ndr_state.specs.Seen.{state_of, Does};
+ghost use Rattle.ndr_state.specs.Seen.{state_of, Does, outside};
 ghost use Rattle.ndr_steps.specs.StepItems.{tag_items};
 ghost use Rattle.ndr_state.specs.Notes.{Noted, notes_seen};
 
@@ -29,7 +29,7 @@ pub(crate) fn tag(
     requires wide { length octets.now ≡ width (form_by of.0 (enumerators values.now of.0)).prim }
     requires code { machine.old.pc < 2 ^ 32 }
     ensures does { Does (tag_step order octets.now (form_by of.0 (enumerators values.now of.0)) (state_of machine.old)) result (state_of machine.new) }
-    ensures home { machine.new.home ≡ machine.old.home }
+    ensures outside { OnOk result (outside machine.new ≡ outside machine.old) }
 {
     let carrier = carrier_of(values, of);
     let value = read_value(order, carrier, octets);
@@ -56,7 +56,7 @@ pub(crate) fn arm<L: Ledger>(
     requires few { machine.old.count + 1 < 2 ^ 32 }
     ensures does { Does (goes (arm_taken (eqb run 0) run (state_of machine.old))) result (state_of machine.new) }
     ensures noted { Noted (goes (arm_taken (eqb run 0) run (state_of machine.old))) (tag_items machine.old.home (state_of machine.old)) (notes_seen items.old items.new (L.number steps.old) (L.number steps.new) machine.old.cells machine.new.cells) result }
-    ensures home { machine.new.home ≡ machine.old.home }
+    ensures outside { OnOk result (outside machine.new ≡ outside machine.old) }
 {
     let len = width_of(machine.carrier) as u32;
     machine.note(ItemKind::Tag, len, machine.tag, items, steps)?;
@@ -72,7 +72,7 @@ pub(crate) fn arm<L: Ledger>(
 // Goes to the run of an arm, if it is not the empty one.
 fn enter_arm(machine: &mut Machine, run: u32) -> Result<(), DecodeFault>
     ensures does { Does (goes (arm_entered run (state_of machine.old))) result (state_of machine.new) }
-    ensures home { machine.new.home ≡ machine.old.home }
+    ensures outside { OnOk result (outside machine.new ≡ outside machine.old) }
 {
     if run != 0 {
         machine.push(Frame::Elements {
