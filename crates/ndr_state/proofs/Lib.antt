@@ -2,3 +2,4 @@ mod Values
 mod Identifiers
 mod Kept
 mod Frames
+pub mod Outside
