@@ -2,3 +2,4 @@ mod Agreements
 mod Zeros
 mod Searches
 mod Pending
+mod Outcomes

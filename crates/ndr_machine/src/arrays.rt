@@ -1,6 +1,5 @@
 // Arrays, and maximum counts before a home's value.
-ghost use Rattle.std.specs.Prelude.{◌≡◌, ◌<◌, ◌+◌, ◌^◌, Some, None, length, pos, [], ◌∷◌, OnOk};
-ghost use Rattle.nd_types.specs.Number.{unsigned};
+ghost use Rattle.std.specs.Prelude.{◌≡◌, ◌<◌, ◌+◌, ◌^◌, None, length, pos, [], ◌∷◌, OnOk};
 ghost use Rattle.nd_value.specs.Tree as tree;
 ghost use Rattle.ndr_steps.specs.Steps.{goes, elements, with_node, past, vary_by, hoist_by, with_max, done_after};
 ghost use Rattle.ndr_steps.specs.Steps as phase;

@@ -1,5 +1,6 @@
 // Pointers.
 ghost use Rattle.std.specs.Prelude.{◌≡◌, ◌<◌, ◌+◌, ◌^◌, length, OnOk};
+ghost use Rattle.nd_types.specs.declared.types.Class.TheVariants.{Full};
 ghost use Rattle.nd_types.specs.Number.{unsigned};
 ghost use Rattle.ndr_steps.specs.Steps.{pointer_step, owing};
 ghost use Rattle.ndr_state.specs.Seen.{state_of, Does, outside};
@@ -78,6 +79,7 @@ fn full<L: Ledger>(
     items: &mut ItemLog,
     steps: &mut Steps<L>,
 ) -> Result<(), DecodeFault>
+    requires class { to.class ≡ Full }
     requires code { machine.old.pc < 2 ^ 32 }
     requires fits { machine.old.at + 4 < 2 ^ 32 }
     requires few { machine.old.count + 1 < 2 ^ 32 }

@@ -74,13 +74,15 @@ fn enter_arm(machine: &mut Machine, run: u32) -> Result<(), DecodeFault>
     ensures does { Does (goes (arm_entered run (state_of machine.old))) result (state_of machine.new) }
     ensures outside { OnOk result (outside machine.new ≡ outside machine.old) }
 {
-    if run != 0 {
-        machine.push(Frame::Elements {
-            left: 0,
-            run,
-            back: 1,
-        })?;
+    if run == 0 {
+        machine.jump(0);
+        return Ok(());
     }
+    machine.push(Frame::Elements {
+        left: 0,
+        run,
+        back: 1,
+    })?;
     machine.jump(run as usize);
     Ok(())
 }

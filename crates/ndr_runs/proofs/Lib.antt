@@ -1,1 +1,4 @@
 mod RowSteps
+pub mod Joining
+pub mod GoodRuns
+pub mod PaidSteps

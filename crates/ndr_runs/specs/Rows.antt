@@ -14,7 +14,7 @@ use Rattle.ndr_code.specs.declared.instr.Instr.{Instr}
 use Rattle.ndr_code.specs.declared.instr.Instr.TheVariants as op
 use Rattle.ndr_steps.specs.declared.frame.Frame.{Frame}
 use Rattle.ndr_steps.specs.declared.frame.Frame.TheVariants as frame
-use Rattle.ndr_steps.specs.Steps.{State, done_after}
+use Rattle.ndr_steps.specs.Steps.{State, begun, jumped, past, done_after}
 use Rattle.ndr_steps.specs.StepItems.{item_here}
 
 -- so many elements fewer are left
@@ -51,6 +51,10 @@ with_row xs top s = record {
 -- a row of so many numbers, of which the last is at its `ret`
 abbrev pub row_read : Order → Primitive → ℕ → List ℕ → State → State
 row_read order p n os s = done_after (length os) (with_row (num_flats (row_values order p n os)) (with_fewer (n - 1) s.top) s)
+
+-- a row of so many numbers, of which the last has ended: the next one is due
+abbrev pub row_passed : Order → Primitive → ℕ → List ℕ → State → State
+row_passed order p n os s = jumped s.pc (past (length os) begun (with_row (num_flats (row_values order p n os)) (with_fewer n s.top) s))
 
 -- the items of so many numbers, from a place and a node on
 abbrev pub row_items : Order → Primitive → Home → ℕ → ℕ → ℕ → List ℕ → List Item

@@ -25,6 +25,7 @@ use Rattle.ndr_steps.specs.declared.frame.Frame.{Frame}
 use Rattle.ndr_steps.specs.Spots.{IsFine, IsFormed, Inside, InsideAt, Spot, ChecksLeft, no_check, at_member, AtEnd, at_ret, at_void, rest_run, body_run}
 use Rattle.ndr_steps.specs.Steps.{State, IsInner}
 use Rattle.ndr_steps.specs.Good.{Good}
+use Rattle.ndr_steps.proofs.Alignments.{gap_alignment}
 
 module _ (code : List Instr) (table : Table) (h : Home) (m pc : ℕ) where
   -- an instruction of a home's value is here
@@ -78,7 +79,7 @@ module _ (code : List Instr) (table : Table) (h : Home) (m pc : ℕ) where
   at_point depth (hoisting t) spot = at_run op.Hoist (op.Call (place_at table t) ∷ op.Ret ∷ []) tt spot.1
   at_point depth (counting t) spot = at_run op.Hoist (op.Call (place_at table t) ∷ op.Ret ∷ []) tt spot.1
   at_point depth (called t) spot = at_run (op.Call (place_at table t)) (op.Ret ∷ []) tt spot.1
-  at_point depth (due t) spot = at_run (op.Align spot.1.0) (body_run code table t spot.1.1.0) tt spot.1.1.3
+  at_point depth (due t) spot = at_run (op.Align spot.1.0) (body_run code table t spot.1.1.0) (gap_alignment table h t spot.1.1.0 spot.1.1.1 spot.1.0 spot.1.1.2) spot.1.1.3
   at_point zero (opened t d) spot = absurd spot.0
   at_point (suc k) (opened t d) spot =
       let fine : IsFine table (suc k) t = spot.0 in

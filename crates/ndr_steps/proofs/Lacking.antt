@@ -262,7 +262,7 @@ module _ (order : Order) (fetched : List ℕ) (code : List Instr) (values : List
   point_next depth fs (has t v) spot fits phase rest = end_next spot.0
 
 -- where octets are wanted those fetched end where the state is
-wanting : (order : Order) (fetched : List ℕ) (code : List Instr) (values : List EnumList) (table : Table) (h : Home) (own limit : ℕ) (noted : List Item) (target : List ℕ → Read) (s : State) (i : Instr) (g : Good order fetched code table h own limit noted target s)
+pub wanting : (order : Order) (fetched : List ℕ) (code : List Instr) (values : List EnumList) (table : Table) (h : Home) (own limit : ℕ) (noted : List Item) (target : List ℕ → Read) (s : State) (i : Instr) (g : Good order fetched code table h own limit noted target s)
     → slice_get code s.pc ≡ Some i → (wants values i s ≡ no_octets) ⊎ (length fetched ≡ s.at)
 wanting order fetched code values table h own limit noted target s i g at_pc = by_point g.point g.depth g.spot g.reached
   where

@@ -17,4 +17,4 @@ pub mod PlanRuns
 pub mod Begins
 pub mod Worked
 pub mod Bounds
-mod FewNodes
+mod Alignments

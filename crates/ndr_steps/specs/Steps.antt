@@ -1,7 +1,7 @@
 -- What each instruction of a plan does to the state of the decoder, as functions on lists. A step handles one gap, one item or none: `wants` says which, and
 -- `step` gets the octets of it, all fetched. Where they are not all there, or would end past the limit of a stream, no step is taken.
 -- `s` is a state, `i` an instruction, `os` the octets of the step, `z` a value, `o` an offset, `c` a count, `v` a pointer's number.
-use Rattle.std.specs.Prelude.{◌≡◌, ℕ, ◌+◌, ◌-◌, ◌-ℤ◌, zero, suc, ℤ, pos, Bool, true, false, not, ◌&&◌, cond, eqb, ltb, if◌then◌else◌, List, [], ◌∷◌, ◌++◌, length, take, drop, Option, Some, None}
+use Rattle.std.specs.Prelude.{◌≡◌, ◌⊎◌, ℕ, ◌+◌, ◌-◌, ◌-ℤ◌, zero, suc, ℤ, pos, Bool, true, false, not, ◌&&◌, cond, eqb, ltb, if◌then◌else◌, List, [], ◌∷◌, ◌++◌, length, take, drop, Option, Some, None}
 use Rattle.std.specs.List.{slice_get}
 use Rattle.std.specs.Ordering.{int_eq}
 use Rattle.nd_base.specs.declared.octets.Order.{Order}
@@ -509,8 +509,13 @@ abbrev pub limit_of : ℕ → State → ℕ
 limit_of zero s = s.max
 limit_of (suc n) s = suc n
 
+-- an alignment: 1, 2, 4 or 8
+abbrev pub IsAlignment : ℕ → Type 0
+IsAlignment n = (n ≡ 1) ⊎ ((n ≡ 2) ⊎ ((n ≡ 4) ⊎ (n ≡ 8)))
+
 -- an instruction of a home's value; those of roots, pipes and parameters are not among them
 abbrev pub IsInner : Instr → Type 0
+IsInner (op.Align n) = IsAlignment n
 IsInner (op.Direct to run) = ⊥
 IsInner (op.Given a f v star) = ⊥
 IsInner (op.Pipe run) = ⊥

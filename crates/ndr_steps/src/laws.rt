@@ -9,7 +9,7 @@ ghost use Rattle.nd_types.specs.Layout.{hoists};
 ghost use Rattle.nd_value.specs.declared.item.Home.{Home};
 ghost use Rattle.nd_value.specs.declared.item.Item.{Item};
 ghost use Rattle.nd_grammar.specs.declared.reason.Reason.TheVariants.{Truncated, TooLong};
-ghost use Rattle.nd_grammar.specs.Reader.{Names, Read, read_whole, tree_nodes};
+ghost use Rattle.nd_grammar.specs.Reader.{Names, Read, read_whole};
 ghost use Rattle.nd_grammar.specs.Entry.{EntryAt};
 ghost use Rattle.ndr_code.specs.declared.instr.Instr.{Instr};
 ghost use Rattle.ndr_code.specs.declared.instr.Instr.TheVariants.{Hoist, Call, Ret};
@@ -66,10 +66,4 @@ pub fn states_are_within()
         → (i : Instr) → slice_get code s.pc ≡ Some i → IsInner i }
     ensures frames { (order : Order) (fetched : List ℕ) (code : List Instr) (table : Table) (h : Home) (own limit : ℕ) (noted : List Item) (target : List ℕ → Read) (s : State) → Good order fetched code table h own limit noted target s
         → length s.stack ≤ suc limit }
-{}
-
-/// The nodes so far are no more than those of the value that the plain reader gives, whatever octets follow.
-pub fn nodes_are_few()
-    ensures { (order : Order) (fetched : List ℕ) (code : List Instr) (table : Table) (h : Home) (own limit : ℕ) (noted : List Item) (target : List ℕ → Read) (s : State)
-        → Good order fetched code table h own limit noted target s → (later : List ℕ) → length s.nodes ≤ tree_nodes (target (fetched ++ later)).tree }
 {}
