@@ -6,3 +6,8 @@ mod Outcomes
 mod Elements
 mod Noting
 mod RowItems
+mod Moving
+mod Fetching
+mod Turning
+mod RowTurns
+mod Running
