@@ -3,3 +3,6 @@ mod Zeros
 mod Searches
 mod Pending
 mod Outcomes
+mod Elements
+mod Noting
+mod RowItems
