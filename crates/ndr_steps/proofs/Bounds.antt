@@ -122,6 +122,10 @@ module _ (order : Order) (fetched : List ℕ) (code : List Instr) (table : Table
   pub address_within : s.pc < length code
   address_within = let here_it = at_point code table h s.max s.pc g.depth g.point g.spot in slice_get_within code s.pc here_it.0 here_it.1
 
+  -- an instruction of a home's value is there
+  pub instruction_there : (i : Instr) × (slice_get code s.pc ≡ Some i) × IsInner i
+  instruction_there = at_point code table h s.max s.pc g.depth g.point g.spot
+
   -- the instruction is one of a home's value
   pub inner_there : (i : Instr) → slice_get code s.pc ≡ Some i → IsInner i
   inner_there i e = let here_it = at_point code table h s.max s.pc g.depth g.point g.spot in subst IsInner (same_Some here_it.0 i (sym here_it.1 ∙ e)) here_it.2
