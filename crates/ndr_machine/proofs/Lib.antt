@@ -6,3 +6,6 @@ mod Outcomes
 mod Elements
 mod Noting
 mod RowItems
+mod Wanted
+mod Owing
+mod Tagged
