@@ -11,3 +11,6 @@ mod Fetching
 mod Turning
 mod RowTurns
 mod Running
+mod Wanted
+mod Owing
+mod Tagged
