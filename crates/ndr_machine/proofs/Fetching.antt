@@ -91,3 +91,21 @@ item_fetched w n at s os (Err intake.ReadFault) e all within long fault = fault.
 item_fetched w n at s os (Err intake.TooLong) e all within long fault = item_long w n at s os e fault
 item_fetched w n at s os (Err (intake.Truncated place)) e all within long fault =
     (item_cut w n at os e fault.fewer (ended_within n at place long), (fault.why.there, (fault.why.ended, fault.why.none_left)))
+
+-- ## Places
+
+pub gap_fits : (n at : ℕ) (os : List ℕ) (r : Result (Unit {0}) IntakeFault) → n < 256 → at ≤ STREAM_LIMIT → IfOk r (λ _. length os ≡ n)
+    → IfOk (stream_answer r) (λ _. at + length os + 8 < 2 ^ 32)
+gap_fits n at os (Ok u) few within all = let fits : STREAM_LIMIT < 2 ^ 32 - 300 = omega arith in omega (arith, few, within, all, fits)
+gap_fits n at os (Err intake.Memory) few within all = tt
+gap_fits n at os (Err intake.ReadFault) few within all = tt
+gap_fits n at os (Err intake.TooLong) few within all = tt
+gap_fits n at os (Err (intake.Truncated place)) few within all = tt
+
+pub item_fits : (n at : ℕ) (os : List ℕ) (r : Result (Unit {0}) IntakeFault) → IfOk r (λ _. length os ≡ n) → IfOk r (λ _. at + n ≤ STREAM_LIMIT)
+    → IfOk (stream_answer r) (λ _. at + length os + 8 < 2 ^ 32)
+item_fits n at os (Ok u) all within = let fits : STREAM_LIMIT < 2 ^ 32 - 300 = omega arith in omega (arith, within, all, fits)
+item_fits n at os (Err intake.Memory) all within = tt
+item_fits n at os (Err intake.ReadFault) all within = tt
+item_fits n at os (Err intake.TooLong) all within = tt
+item_fits n at os (Err (intake.Truncated place)) all within = tt

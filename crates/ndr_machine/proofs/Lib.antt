@@ -10,7 +10,8 @@ mod Moving
 mod Fetching
 mod Turning
 mod RowTurns
-mod Running
+mod Looping
 mod Wanted
 mod Owing
 mod Tagged
+mod Taking

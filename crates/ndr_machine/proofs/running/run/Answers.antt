@@ -3,7 +3,7 @@ use Rattle.std.proofs.KnownBytes.{Consumes-nil}
 use Rattle.ndr_state.specs.declared.fault.Progress.TheVariants as progress
 use Rattle.ndr_state.specs.Seen.{state_of, outside}
 use Rattle.ndr_machine.proofs.Moving.{moves_none, given_up}
-use Rattle.ndr_machine.proofs.Running.{still_safe, goes_on, ends_whole, ends_faulty}
+use Rattle.ndr_machine.proofs.Looping.{still_safe, goes_on, ends_whole, ends_faulty}
 use Rattle.ndr_machine.proofs.running.run.Goals as goal
 
 pub loop-turn-init : goal.loop-turn-init
