@@ -36,7 +36,7 @@ use Rattle.ndr_steps.proofs.Passing.{items_it, judged, lies_it, no_less, silent,
 use Rattle.ndr_stream.specs.Added.{Goes}
 use Rattle.ndr_stream.proofs.Needing.{NeededAfter}
 use Rattle.ndr_pipes.specs.Reading.{Reads, chosen, count_then, elements_then, of_pipe}
-use Rattle.ndr_pipes.specs.Pipes.{Kept, Stands, InPipe, InPipes, ReadsPipes, at_count, at_elements}
+use Rattle.ndr_pipes.specs.Pipes.{Kept, Stands, InPipe, InPipes, ReadsPipes, at_count, at_elements, count_item, past_count}
 use Rattle.ndr_pipes.proofs.PipeEntries.{both_octets, stands_on}
 use Rattle.ndr_pipes.proofs.Staying.{count_goes, reads_go, reads_stop}
 
@@ -123,11 +123,11 @@ module _ (w : Setting) (order : Order) (fetched : List ℕ) (noted : List Item) 
     abbrev x : EntryAt
     x = record { at = k.at; entry = m v }
 
-    abbrev pub count_item : List Item
-    count_item = item_here (home.Root i) k.at item.Chunk 4 (pos (unsigned order os)) 0 ∷ []
+    abbrev its_item : List Item
+    its_item = count_item order i os k
 
-    abbrev pub past_count : Kept
-    past_count = record { at = k.at + 4; seen = k.seen ++ record { at = k.at; entry = of_pipe (home.Root i) (Chunk (unsigned order os)) } ∷ []; names = k.names; cells = k.cells; numbers = k.numbers }
+    abbrev past_it : Kept
+    past_it = past_count order i os k
 
     abbrev Before : List ℕ → Type 0
     Before z = (more : ℕ) × (length z < k.at + 4 * more + 4) × Reads w order z i rs roots done (at_count w order i elem done k z more)
@@ -147,9 +147,9 @@ module _ (w : Setting) (order : Order) (fetched : List ℕ) (noted : List Item) 
     goes_past : (later : List ℕ) → pass order ((fetched ++ os) ++ later) (m v) (going k.at k.seen) ≡ going (k.at + 4) (k.seen ++ x ∷ [])
     goes_past later = passed order ((fetched ++ os) ++ later) (m v) k.at k.seen (judge later v)
 
-    count_told : Told (noted ++ count_item) direct order (fetched ++ os) h (k.seen ++ x ∷ []) k.names k.cells k.numbers max_at n []
+    count_told : Told (noted ++ its_item) direct order (fetched ++ os) h (k.seen ++ x ∷ []) k.names k.cells k.numbers max_at n []
     count_told =
-        told_passed count_item order fetched os h k.seen k.names k.cells k.numbers max_at n [] x (items_it order fetched os [] k.at p.stands.reached (m v) k.seen (sym size)) tt tt refl
+        told_passed its_item order fetched os h k.seen k.names k.cells k.numbers max_at n [] x (items_it order fetched os [] k.at p.stands.reached (m v) k.seen (sym size)) tt tt refl
         (lies_it order fetched os [] k.at p.stands.reached (m v) k.seen (sym size)) p.told
 
     needs : NeededAfter w order fetched os
@@ -158,13 +158,13 @@ module _ (w : Setting) (order : Order) (fetched : List ℕ) (noted : List Item) 
         let octets : AreOctets part = all_left (λ b. b < 256) part (last ∷ []) (subst AreOctets e all) in
         ap (λ (q : Progress). q.stop) (count_cut part octets (omega (arith, l, size)) short)
 
-    stands_now : Stands w order (fetched ++ os) (noted ++ count_item) direct first (i + 1) past_count
+    stands_now : Stands w order (fetched ++ os) (noted ++ its_item) direct first (i + 1) past_it
     stands_now =
-        stands_on w order fetched noted direct first i k p.stands os all (noted ++ count_item) past_count (x ∷ []) refl (refl, tt)
+        stands_on w order fetched noted direct first i k p.stands os all (noted ++ its_item) past_it (x ∷ []) refl (refl, tt)
         (length-append fetched os ∙ ap₂ (λ a b. a + b) p.stands.reached size) max_at n [] count_told needs
 
     -- it is 0: the pipe ends
-    pub count_ends : unsigned order os ≡ 0 → InPipes w order (fetched ++ os) (noted ++ count_item) direct first (i + 1) rs (roots ++ node tree.Pipe done ∷ []) past_count
+    pub count_ends : unsigned order os ≡ 0 → InPipes w order (fetched ++ os) (noted ++ count_item order i os k) direct first (i + 1) rs (roots ++ node tree.Pipe done ∷ []) (past_count order i os k)
     count_ends zero_is = record { stands = stands_now; reads = reads }
       where
         none_more : eqb (unsigned order os) 0 ≡ true
@@ -187,7 +187,7 @@ module _ (w : Setting) (order : Order) (fetched : List ℕ) (noted : List Item) 
             }
 
     -- it is not: so many elements are due
-    pub count_goes_on : (c : ℕ) → unsigned order os ≡ suc c → InPipe w order (fetched ++ os) (noted ++ count_item) direct first i rs roots elem done max_at 0 (at_elements (suc c) w order i elem done past_count) past_count
+    pub count_goes_on : (c : ℕ) → unsigned order os ≡ suc c → InPipe w order (fetched ++ os) (noted ++ count_item order i os k) direct first i rs roots elem done max_at 0 (at_elements (suc c) w order i elem done (past_count order i os k)) (past_count order i os k)
     count_goes_on c some = record {
       stands = stands_now;
       told = count_told;

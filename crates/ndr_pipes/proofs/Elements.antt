@@ -24,9 +24,10 @@ use Rattle.nd_grammar.specs.Entry.{EntryAt}
 use Rattle.nd_grammar.specs.LegalSide.{IsLegalSide}
 use Rattle.nd_grammar.specs.Refusal.{tested_at}
 use Rattle.nd_grammar.specs.Reader.{Names, Progress, Read, ReadAll, read_list, read_in_place}
-use Rattle.nd_grammar.specs.StreamReader.{ReadPipe, graph_of, read_chunks, read_pipes, read_stream}
+use Rattle.nd_grammar.specs.StreamReader.{ReadPipe, ReadPipes, graph_of, read_chunks, read_pipes, read_stream}
 use Rattle.nd_grammar.proofs.LegalSides.{laid_out}
-use Rattle.nd_grammar.proofs.next.Mapped.{FitsPipes, no_pointers}
+use Rattle.nd_grammar.proofs.next.Mapped.{no_pointers}
+use Rattle.nd_grammar.proofs.next.NextStream.{FitsPipes}
 use Rattle.nd_grammar.proofs.reader.MadeTrees.{MadeTree, MadeTrees}
 use Rattle.ndr_code.specs.declared.instr.Instr.{Instr}
 use Rattle.ndr_code.specs.declared.lists.EnumList.{EnumList}
@@ -45,17 +46,13 @@ use Rattle.ndr_stream.specs.Between.{AreNeeded}
 use Rattle.ndr_stream.proofs.Growing.{list_adds, in_place_adds}
 use Rattle.ndr_stream.proofs.Needing.{NeededAfter}
 use Rattle.ndr_pipes.specs.Reading.{Reads, elements_then}
-use Rattle.ndr_pipes.specs.Pipes.{Kept, Stands, InPipe, OpensChunk, at_chunk, at_elements}
+use Rattle.ndr_pipes.specs.Pipes.{Kept, Stands, InPipe, OpensChunk, at_chunk, at_elements, kids_of, read_to}
 use Rattle.ndr_pipes.proofs.PipeEntries.{both_octets, stands_on}
 use Rattle.ndr_pipes.proofs.Staying.{chunks_go, chunks_stay, elements_go, reads_go, reads_stop}
 
 many_alike : (P : ℕ → Type 0) (t k : ℕ) → P t → AllByRecursion P (replicate k t)
 many_alike P t zero a = tt
 many_alike P t (suc k) a = (a, many_alike P t k a)
-
--- the children of a node
-abbrev pub kids_of : Tree → Trees
-kids_of (node l ks) = ks
 
 joined_nodes : (xs ys : Trees) → node_count (joined xs ys) ≡ node_count xs + node_count ys
 joined_nodes none ys = omega arith
@@ -141,10 +138,10 @@ module _ (w : Setting) (side : IsLegalSide w) (order : Order) (fetched : List �
   -- ## Their end
 
   module _ (next : List ℕ) (all : AreOctets next) (noted' : List Item) (x : State) (is : Whole order (fetched ++ next) w.table (home.Root i) pipe noted' direct target x) (needs : AreNeeded target fetched next) where
-    abbrev pub then : Kept
-    then = record { at = x.at; seen = is.seen; names = is.names; cells = x.cells; numbers = x.numbers }
+    abbrev then : Kept
+    then = read_to x is.seen is.names
 
-    abbrev pub more_done : Trees
+    abbrev more_done : Trees
     more_done = kids_of is.v
 
     octets : AreOctets (fetched ++ next)
@@ -215,50 +212,54 @@ module _ (w : Setting) (side : IsLegalSide w) (order : Order) (fetched : List �
         let b : length (fetched ++ next) ≡ x.at = is.reached in
         let l : length (fetched ++ next) ≡ length fetched + length next = length-append fetched next in omega (arith, a, b, l)
 
+    module _ (later : List ℕ) (m : ℕ) (r : Reads w order ((fetched ++ next) ++ later) i rs roots done (at_elements (suc c) w order i elem done k ((fetched ++ next) ++ later) (suc m))) where
+      abbrev z : List ℕ
+      z = (fetched ++ next) ++ later
+
+      abbrev from : ℕ → Progress → Names → ReadPipe
+      from a q s = read_chunks w order z (suc m) h elem.0 a q s
+
+      abbrev news : Trees
+      news = (kids z).trees
+
+      abbrev rest_of : ReadPipe → ReadPipe
+      rest_of o = record { trees = joined news o.trees; cut = suc c ∷ o.cut; progress = o.progress; names = o.names }
+
+      abbrev next_read : ReadPipe
+      next_read = from (1 + node_count more_done) (going x.at is.seen) is.names
+
+      abbrev pipes_then : ReadPipes
+      pipes_then = read_pipes w order z (i + 1) rs next_read.progress next_read.names
+
+      many : n + node_count news ≡ 1 + node_count more_done
+      many = let e : node_count more_done ≡ node_count done + node_count news = ap node_count (its_kids later) ∙ joined_nodes done news in omega (arith, e)
+
+      same : from (n + node_count news) (kids z).progress (kids z).names ≡ next_read
+      same =
+          ap (λ a. from a (kids z).progress (kids z).names) many
+          ∙ ap₂ (λ q s. from (1 + node_count more_done) q s) (sym (its_progress later)) (sym (its_names later))
+
+      now : Reads w order z i rs roots done (rest_of next_read)
+      now = subst (λ o. Reads w order z i rs roots done (rest_of o)) same r
+
+      trees_are : joined done (joined news next_read.trees) ≡ joined more_done next_read.trees
+      trees_are = joined_assoc done news next_read.trees ∙ ap (λ ts. joined ts next_read.trees) (sym (its_kids later))
+
+      reads_next : Reads w order z i rs roots more_done (at_chunk w order i elem more_done then z m)
+      reads_next = record {
+        progress = now.progress;
+        graph = now.graph ∙ ap (λ ts. graph_of (roots ++ node tree.Pipe ts ∷ pipes_then.roots) pipes_then.names) trees_are;
+      }
+
     reads_then : (later : List ℕ) → Before ((fetched ++ next) ++ later) → After ((fetched ++ next) ++ later)
     reads_then later (zero, few, r) =
         let a : length (fetched ++ next) ≡ x.at = is.reached in
         let l : length ((fetched ++ next) ++ later) ≡ length (fetched ++ next) + length later = length-append (fetched ++ next) later in
         absurd (omega (arith, a, l, few, nearer))
-    reads_then later (suc m, few, r) = (m, omega (arith, few, nearer), record { progress = now.progress; graph = now_graph })
-      where
-        z : List ℕ
-        z = (fetched ++ next) ++ later
-
-        abbrev from : ℕ → Progress → Names → ReadPipe
-        from a q s = read_chunks w order z (suc m) h elem.0 a q s
-
-        abbrev news : Trees
-        news = (kids z).trees
-
-        many : n + node_count news ≡ 1 + node_count more_done
-        many = let e : node_count more_done ≡ node_count done + node_count news = ap node_count (its_kids later) ∙ joined_nodes done news in omega (arith, e)
-
-        same : from (n + node_count news) (kids z).progress (kids z).names ≡ from (1 + node_count more_done) (going x.at is.seen) is.names
-        same =
-            ap (λ a. from a (kids z).progress (kids z).names) many
-            ∙ ap₂ (λ q s. from (1 + node_count more_done) q s) (sym (its_progress later)) (sym (its_names later))
-
-        abbrev rest_of : ReadPipe → ReadPipe
-        rest_of o = record { trees = joined news o.trees; cut = suc c ∷ o.cut; progress = o.progress; names = o.names }
-
-        abbrev then_read : ReadPipe
-        then_read = from (1 + node_count more_done) (going x.at is.seen) is.names
-
-        now : Reads w order z i rs roots done (rest_of then_read)
-        now = subst (λ o. Reads w order z i rs roots done (rest_of o)) same r
-
-        trees_are : joined done (joined news then_read.trees) ≡ joined more_done then_read.trees
-        trees_are = joined_assoc done news then_read.trees ∙ ap (λ ts. joined ts then_read.trees) (sym (its_kids later))
-
-        now_graph : (read_stream w order z).graph
-            ≡ graph_of (roots ++ node tree.Pipe (joined more_done then_read.trees) ∷ (read_pipes w order z (i + 1) rs then_read.progress then_read.names).roots) (read_pipes w order z (i + 1) rs then_read.progress then_read.names).names
-        now_graph =
-            now.graph
-            ∙ ap (λ ts. graph_of (roots ++ node tree.Pipe ts ∷ (read_pipes w order z (i + 1) rs then_read.progress then_read.names).roots) (read_pipes w order z (i + 1) rs then_read.progress then_read.names).names) trees_are
+    reads_then later (suc m, few, r) = (m, omega (arith, few, nearer), reads_next later m r)
 
     -- after them the next chunk is due
-    pub elements_end : IsFine w.table 32 elem.0 → InPipe w order (fetched ++ next) noted' direct first i rs roots elem more_done x.max_at 4 (at_chunk w order i elem more_done then) then
+    pub elements_end : IsFine w.table 32 elem.0 → InPipe w order (fetched ++ next) noted' direct first i rs roots elem (kids_of is.v) x.max_at 4 (at_chunk w order i elem (kids_of is.v) (read_to x is.seen is.names)) (read_to x is.seen is.names)
     elements_end fine = record {
       stands = stands_on w order fetched noted direct first i k p.stands next all noted' then its_entries.added its_entries.seen its_entries.own is.reached x.max_at (length x.nodes) [] is.told needs_stream;
       told = subst (λ a. Told noted' direct order (fetched ++ next) h is.seen is.names x.cells x.numbers x.max_at a []) as_many is.told;

@@ -29,7 +29,7 @@ use Rattle.ndr_stream.specs.Added.{Goes}
 use Rattle.ndr_stream.proofs.Needing.{NeededAfter, needed_more}
 use Rattle.ndr_stream.proofs.Others.{others_silent, told_other}
 use Rattle.ndr_pipes.specs.Reading.{Reads, count_then, of_pipe}
-use Rattle.ndr_pipes.specs.Pipes.{Kept, Stands, InPipe, Rest, at_chunk, at_count}
+use Rattle.ndr_pipes.specs.Pipes.{Kept, Stands, InPipe, at_chunk, at_count, past_gap}
 use Rattle.ndr_pipes.proofs.Staying.{chunks_go, count_goes, count_stays, reads_go, reads_stop}
 
 -- the octets of two lists
@@ -93,9 +93,6 @@ module _ (w : Setting) (order : Order) (fetched : List ℕ) (noted : List Item) 
     abbrev x : EntryAt
     x = record { at = k.at; entry = m }
 
-    abbrev pub past_gap : Kept
-    past_gap = record { at = k.at + length os; seen = k.seen ++ record { at = k.at; entry = of_pipe (home.Root i) (Align 4) } ∷ []; names = k.names; cells = k.cells; numbers = k.numbers }
-
     abbrev Before : List ℕ → Type 0
     Before z = (more : ℕ) × (length z < k.at + 4 * more + 4) × Reads w order z i rs roots done (at_chunk w order i elem done k z more)
 
@@ -110,9 +107,9 @@ module _ (w : Setting) (order : Order) (fetched : List ℕ) (noted : List Item) 
         ∙ ap (λ a. going (k.at + a) (k.seen ++ x ∷ [])) (sym size)
 
     -- after the gap the count is due
-    pub gap_passes : InPipe w order (fetched ++ os) (noted ++ gap_items (home.Root i) k.at os) direct first i rs roots elem done max_at 4 (at_count w order i elem done past_gap) past_gap
+    pub gap_passes : InPipe w order (fetched ++ os) (noted ++ gap_items (home.Root i) k.at os) direct first i rs roots elem done max_at 4 (at_count w order i elem done (past_gap i os k)) (past_gap i os k)
     gap_passes = record {
-      stands = stands_on w order fetched noted direct first i k p.stands os all (noted ++ gap_items h k.at os) past_gap (x ∷ []) refl (refl, tt)
+      stands = stands_on w order fetched noted direct first i k p.stands os all (noted ++ gap_items h k.at os) (past_gap i os k) (x ∷ []) refl (refl, tt)
           (length-append fetched os ∙ ap (λ a. a + length os) p.stands.reached) max_at n [] gap_told needs;
       told = gap_told;
       found = λ a. tested_passed k.seen x a h 0 (silent a h 0 x tt) ∙ p.found a;

@@ -2,6 +2,7 @@
 use Rattle.std.proofs.Common.{◌≡◌, ◌≤◌, ◌<◌, ℕ, ◌+◌, ◌*◌, zero, suc, Bool, true, false, List, [], ◌∷◌, ◌++◌, length, Option, Some, None, refl, ap, sym, ◌∙◌, subst, arith, append_assoc, length-append, drop, replicate}
 use Rattle.std.proofs.lemmas.List.{append-nil}
 use Rattle.nd_base.specs.declared.octets.Order.{Order}
+use Rattle.nd_types.specs.declared.types.Attr.{Attr}
 use Rattle.nd_types.specs.declared.types.TypeId.{TypeId}
 use Rattle.nd_types.specs.declared.types.TypeDef.{TypeDef}
 use Rattle.nd_types.specs.declared.types.TypeDef.TheVariants as def
@@ -18,6 +19,7 @@ use Rattle.nd_value.specs.Tree as tree
 use Rattle.nd_value.specs.Tree.{Tree, Trees, node, none}
 use Rattle.nd_grammar.specs.Entry.{EntryAt}
 use Rattle.nd_grammar.specs.LegalSide.{IsLegalSide}
+use Rattle.nd_grammar.specs.Refusal.{tested_at}
 use Rattle.nd_grammar.specs.Reader.{Names, Progress}
 use Rattle.nd_grammar.specs.StreamReader.{Reading, Found, ReadPipe, ReadPipes, graph_of, read_chunks, read_pipe, read_pipes, read_stream}
 use Rattle.nd_grammar.proofs.LegalSides.{laid_out}
@@ -31,11 +33,7 @@ use Rattle.ndr_stream.proofs.StreamGrows.{pipes_go}
 use Rattle.ndr_verdict.specs.Needed.{IsNeeded}
 use Rattle.ndr_pipes.specs.Reading.{Reads}
 use Rattle.ndr_pipes.proofs.PipeEntries.{both_octets}
-use Rattle.ndr_pipes.specs.Pipes.{Kept, Stands, ReadsPipes, InPipes, InPipe, at_chunk}
-
--- what is kept before the pipes
-abbrev pub kept_before : Between → List EntryAt → Names → Kept
-kept_before b seen names = record { at = b.at; seen = seen; names = names; cells = b.cells; numbers = b.numbers }
+use Rattle.ndr_pipes.specs.Pipes.{Kept, Stands, ReadsPipes, InPipes, InPipe, at_chunk, kept_before}
 
 -- after the agreements of the parameters
 module _ (w : Setting) (side : IsLegalSide w) (order : Order) (fetched : List ℕ) (noted : List Item) (direct : ℕ) (b : Between) (s : Reading) (after : List EntryAt) (octets : AreOctets fetched)
@@ -76,8 +74,11 @@ module _ (w : Setting) (order : Order) (fetched : List ℕ) (noted : List Item) 
 
   -- the next pipe
   module _ (r : Root) (elem : TypeId) (there : type_at w.table r.of ≡ Some (def.Pipe elem)) (p : InPipes w order fetched noted direct first i (r ∷ rs) roots k) where
+    one_on : (a : Attr) (j : ℕ) → tested_at k.seen a (home.Root i) (1 + j) ≡ tested_at k.seen a (home.Root i) (0 + (1 + j))
+    one_on a j = let z : 1 + j ≡ 0 + (1 + j) = omega arith in ap (tested_at k.seen a (home.Root i)) z
+
     told_from : Told noted direct order fetched (home.Root i) k.seen k.names k.cells k.numbers None 0 [] → Told noted direct order fetched (home.Root i) k.seen k.names k.cells k.numbers None 1 []
-    told_from t = record { noted_are = t.noted_are; cells_are = t.cells_are; cells_named = t.cells_named; numbers_are = t.numbers_are; ahead = λ a j. t.ahead a (1 + j); lie_within = t.lie_within }
+    told_from t = record { noted_are = t.noted_are; cells_are = t.cells_are; cells_named = t.cells_named; numbers_are = t.numbers_are; ahead = λ a j. one_on a j ∙ t.ahead a (1 + j); lie_within = t.lie_within }
 
     pub pipe_begins : InPipe w order fetched noted direct first i rs roots elem none None 4 (at_chunk w order i elem none k) k
     pipe_begins = record {

@@ -1,19 +1,20 @@
 -- Where a decoder is in the pipes of a stream, and what it means to the plain reader, whatever octets follow.
 -- `fetched` are the octets that were fetched, `noted` the items that were noted, `direct` is how many roots that are reference pointers were read, `i` is the
 -- number of the pipe's root, `rs` are the roots after it, `roots` the values of those before it, `first` the names before all pipes.
-use Rattle.std.specs.Prelude.{◌≡◌, ◌≤◌, ◌<◌, ℕ, ◌+◌, ◌*◌, suc, List, [], ◌∷◌, ◌++◌, length, map, replicate, Option, Some, None}
+use Rattle.std.specs.Prelude.{pos, ◌≡◌, ◌≤◌, ◌<◌, ℕ, ◌+◌, ◌*◌, suc, List, [], ◌∷◌, ◌++◌, length, map, replicate, Option, Some, None}
 use Rattle.nd_base.specs.declared.octets.Order.{Order}
 use Rattle.nd_types.specs.declared.types.Attr.{Attr}
 use Rattle.nd_types.specs.declared.types.TypeId.{TypeId}
-use Rattle.nd_types.specs.Number.{AreOctets}
+use Rattle.nd_types.specs.Number.{AreOctets, unsigned}
 use Rattle.nd_types.specs.Roots.{Root}
 use Rattle.nd_value.specs.declared.item.Home.{Home}
 use Rattle.nd_value.specs.declared.item.Home.TheVariants as home
 use Rattle.nd_value.specs.declared.item.Item.{Item}
+use Rattle.nd_value.specs.declared.item.ItemKind.TheVariants as item
 use Rattle.nd_value.specs.Setting.{Setting}
 use Rattle.nd_value.specs.Tree as tree
-use Rattle.nd_value.specs.Tree.{Tree, Trees, flat, count, node_count}
-use Rattle.nd_grammar.specs.Entry.{EntryAt}
+use Rattle.nd_value.specs.Tree.{Tree, Trees, node, flat, count, node_count}
+use Rattle.nd_grammar.specs.Entry.{EntryAt, Align, Chunk}
 use Rattle.nd_grammar.specs.Reader.{Names, Progress, Read}
 use Rattle.nd_grammar.specs.Refusal.{tested_at}
 use Rattle.nd_grammar.specs.StreamReader.{ReadPipe, graph_of, read_chunks, read_pipes, read_stream}
@@ -25,8 +26,10 @@ use Rattle.ndr_steps.specs.declared.frame.Frame.TheVariants as frame
 use Rattle.ndr_steps.specs.declared.first.First.TheVariants as first_node
 use Rattle.ndr_steps.specs.Steps.{State, begun, place_of, no_place}
 use Rattle.ndr_steps.specs.Good.{Told}
+use Rattle.ndr_steps.specs.StepItems.{item_here}
+use Rattle.ndr_stream.specs.Between.{Between}
 use Rattle.ndr_verdict.specs.Needed.{IsNeeded}
-use Rattle.ndr_pipes.specs.Reading.{Reads, count_then, elements_then}
+use Rattle.ndr_pipes.specs.Reading.{Reads, of_pipe, count_then, elements_then}
 
 -- ## What is kept
 
@@ -101,3 +104,28 @@ pub record OpensChunk (place n : ℕ) (done : Trees) (max_at : Option ℕ) (k : 
   pub fresh : x.fresh ≡ []
   pub cells : x.cells ≡ k.cells
   pub numbers : x.numbers ≡ k.numbers
+
+-- ## What is kept next
+
+-- what is kept before the pipes
+abbrev pub kept_before : Between → List EntryAt → Names → Kept
+kept_before b seen names = record { at = b.at; seen = seen; names = names; cells = b.cells; numbers = b.numbers }
+
+-- after the gap before a count, and after the count, with its item
+abbrev pub past_gap : ℕ → List ℕ → Kept → Kept
+past_gap i os k = record { at = k.at + length os; seen = k.seen ++ record { at = k.at; entry = of_pipe (home.Root i) (Align 4) } ∷ []; names = k.names; cells = k.cells; numbers = k.numbers }
+
+abbrev pub past_count : Order → ℕ → List ℕ → Kept → Kept
+past_count order i os k =
+    record { at = k.at + 4; seen = k.seen ++ record { at = k.at; entry = of_pipe (home.Root i) (Chunk (unsigned order os)) } ∷ []; names = k.names; cells = k.cells; numbers = k.numbers }
+
+abbrev pub count_item : Order → ℕ → List ℕ → Kept → List Item
+count_item order i os k = item_here (home.Root i) k.at item.Chunk 4 (pos (unsigned order os)) 0 ∷ []
+
+-- after the elements of a chunk, which end at a state
+abbrev pub read_to : State → List EntryAt → Names → Kept
+read_to x seen names = record { at = x.at; seen = seen; names = names; cells = x.cells; numbers = x.numbers }
+
+-- the children of a node
+abbrev pub kids_of : Tree → Trees
+kids_of (node l ks) = ks
