@@ -36,7 +36,7 @@ use Rattle.ndr_steps.proofs.Passing.{items_it, judged, lies_it, no_less, silent,
 use Rattle.ndr_stream.specs.Added.{Goes}
 use Rattle.ndr_stream.proofs.Needing.{NeededAfter}
 use Rattle.ndr_pipes.specs.Reading.{Reads, chosen, count_then, elements_then, of_pipe}
-use Rattle.ndr_pipes.specs.Pipes.{Kept, Stands, InPipe, InPipes, ReadsPipes, at_count, at_elements, count_item, past_count}
+use Rattle.ndr_pipes.specs.Pipes.{Position, Stands, InPipe, InPipes, ReadsPipes, at_count, at_elements, count_item, past_count}
 use Rattle.ndr_pipes.proofs.PipeEntries.{both_octets, stands_on}
 use Rattle.ndr_pipes.proofs.Staying.{count_goes, reads_go, reads_stop}
 
@@ -73,7 +73,7 @@ module _ (w : Setting) (order : Order) (z : List ℕ) (more : ℕ) (h : Home) (e
       → past (unsigned order os) ≡ q → count_then w order z more h elem n (going at seen) s ≡ by_count b (unsigned order os) q
   count_taken os t b e q f = by_taken (Some os) t ∙ ap₂ (λ c u. by_count c (unsigned order os) u) e f
 
-module _ (w : Setting) (order : Order) (fetched : List ℕ) (noted : List Item) (direct : ℕ) (first : Names) (i : ℕ) (rs : List Root) (roots : List Tree) (elem : TypeId) (done : Trees) (max_at : Option ℕ) (k : Kept)
+module _ (w : Setting) (order : Order) (fetched : List ℕ) (noted : List Item) (direct : ℕ) (first : Names) (i : ℕ) (rs : List Root) (roots : List Tree) (elem : TypeId) (done : Trees) (max_at : Option ℕ) (k : Position)
     (p : InPipe w order fetched noted direct first i rs roots elem done max_at 4 (at_count w order i elem done k) k) where
   abbrev h : Home
   h = home.Root i
@@ -126,7 +126,7 @@ module _ (w : Setting) (order : Order) (fetched : List ℕ) (noted : List Item) 
     abbrev its_item : List Item
     its_item = count_item order i os k
 
-    abbrev past_it : Kept
+    abbrev past_it : Position
     past_it = past_count order i os k
 
     abbrev Before : List ℕ → Type 0

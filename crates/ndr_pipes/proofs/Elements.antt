@@ -46,7 +46,7 @@ use Rattle.ndr_stream.specs.Between.{AreNeeded}
 use Rattle.ndr_stream.proofs.Growing.{list_adds, in_place_adds}
 use Rattle.ndr_stream.proofs.Needing.{NeededAfter}
 use Rattle.ndr_pipes.specs.Reading.{Reads, elements_then}
-use Rattle.ndr_pipes.specs.Pipes.{Kept, Stands, InPipe, OpensChunk, at_chunk, at_elements, kids_of, read_to}
+use Rattle.ndr_pipes.specs.Pipes.{Position, Stands, InPipe, OpensChunk, at_chunk, at_elements, kids_of, read_to}
 use Rattle.ndr_pipes.proofs.PipeEntries.{both_octets, stands_on}
 use Rattle.ndr_pipes.proofs.Staying.{chunks_go, chunks_stay, elements_go, reads_go, reads_stop}
 
@@ -62,7 +62,7 @@ joined_assoc : (xs ys zs : Trees) → joined xs (joined ys zs) ≡ joined (joine
 joined_assoc none ys zs = refl
 joined_assoc (more x xs) ys zs = ap (more x) (joined_assoc xs ys zs)
 
-module _ (w : Setting) (side : IsLegalSide w) (order : Order) (fetched : List ℕ) (noted : List Item) (direct : ℕ) (first : Names) (i : ℕ) (rs : List Root) (roots : List Tree) (pipe : ℕ) (elem : TypeId) (done : Trees) (max_at : Option ℕ) (c : ℕ) (k : Kept)
+module _ (w : Setting) (side : IsLegalSide w) (order : Order) (fetched : List ℕ) (noted : List Item) (direct : ℕ) (first : Names) (i : ℕ) (rs : List Root) (roots : List Tree) (pipe : ℕ) (elem : TypeId) (done : Trees) (max_at : Option ℕ) (c : ℕ) (k : Position)
     (there : type_at w.table pipe ≡ Some (def.Pipe elem)) (p : InPipe w order fetched noted direct first i rs roots elem done max_at 0 (at_elements (suc c) w order i elem done k) k) where
   abbrev h : Home
   h = home.Root i
@@ -138,7 +138,7 @@ module _ (w : Setting) (side : IsLegalSide w) (order : Order) (fetched : List �
   -- ## Their end
 
   module _ (next : List ℕ) (all : AreOctets next) (noted' : List Item) (x : State) (is : Whole order (fetched ++ next) w.table (home.Root i) pipe noted' direct target x) (needs : AreNeeded target fetched next) where
-    abbrev then : Kept
+    abbrev then : Position
     then = read_to x is.seen is.names
 
     abbrev more_done : Trees

@@ -29,7 +29,7 @@ use Rattle.ndr_stream.specs.Added.{Goes}
 use Rattle.ndr_stream.proofs.Needing.{NeededAfter, needed_more}
 use Rattle.ndr_stream.proofs.Others.{others_silent, told_other}
 use Rattle.ndr_pipes.specs.Reading.{Reads, count_then, of_pipe}
-use Rattle.ndr_pipes.specs.Pipes.{Kept, Stands, InPipe, at_chunk, at_count, past_gap}
+use Rattle.ndr_pipes.specs.Pipes.{Position, Stands, InPipe, at_chunk, at_count, past_gap}
 use Rattle.ndr_pipes.proofs.Staying.{chunks_go, count_goes, count_stays, reads_go, reads_stop}
 
 -- the octets of two lists
@@ -40,9 +40,9 @@ both_octets xs ys a b = all_append (λ o. o < 256) xs ys a b
 other_root : (i j : ℕ) → i + 1 ≤ j → home.Root j ≡ home.Root i → ⊥
 other_root i j l e = let f : j ≡ i = cc in absurd (omega (arith, f, l))
 
-module _ (w : Setting) (order : Order) (fetched : List ℕ) (noted : List Item) (direct : ℕ) (first : Names) (i : ℕ) (k : Kept) (s : Stands w order fetched noted direct first (i + 1) k) where
+module _ (w : Setting) (order : Order) (fetched : List ℕ) (noted : List Item) (direct : ℕ) (first : Names) (i : ℕ) (k : Position) (s : Stands w order fetched noted direct first (i + 1) k) where
   -- after entries of a pipe
-  pub stands_on : (more : List ℕ) → AreOctets more → (noted' : List Item) (k' : Kept) (xs : List EntryAt) → k'.seen ≡ k.seen ++ xs → AllByRecursion (λ x. x.entry.home ≡ home.Root i) xs
+  pub stands_on : (more : List ℕ) → AreOctets more → (noted' : List Item) (k' : Position) (xs : List EntryAt) → k'.seen ≡ k.seen ++ xs → AllByRecursion (λ x. x.entry.home ≡ home.Root i) xs
       → length (fetched ++ more) ≡ k'.at → (max_at : Option ℕ) (n : ℕ) (half : List Place) → Told noted' direct order (fetched ++ more) (home.Root i) k'.seen k'.names k'.cells k'.numbers max_at n half
       → NeededAfter w order fetched more → Stands w order (fetched ++ more) noted' direct first (i + 1) k'
   stands_on more all noted' k' xs e own reached max_at n half told needs = record {
@@ -60,7 +60,7 @@ module _ (w : Setting) (order : Order) (fetched : List ℕ) (noted : List Item) 
 
 -- ## The gap before a count
 
-module _ (w : Setting) (order : Order) (fetched : List ℕ) (noted : List Item) (direct : ℕ) (first : Names) (i : ℕ) (rs : List Root) (roots : List Tree) (elem : TypeId) (done : Trees) (max_at : Option ℕ) (k : Kept)
+module _ (w : Setting) (order : Order) (fetched : List ℕ) (noted : List Item) (direct : ℕ) (first : Names) (i : ℕ) (rs : List Root) (roots : List Tree) (elem : TypeId) (done : Trees) (max_at : Option ℕ) (k : Position)
     (p : InPipe w order fetched noted direct first i rs roots elem done max_at 4 (at_chunk w order i elem done k) k) where
   abbrev h : Home
   h = home.Root i

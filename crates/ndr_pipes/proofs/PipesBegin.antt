@@ -33,7 +33,7 @@ use Rattle.ndr_stream.proofs.StreamGrows.{pipes_go}
 use Rattle.ndr_verdict.specs.Needed.{IsNeeded}
 use Rattle.ndr_pipes.specs.Reading.{Reads}
 use Rattle.ndr_pipes.proofs.PipeEntries.{both_octets}
-use Rattle.ndr_pipes.specs.Pipes.{Kept, Stands, ReadsPipes, InPipes, InPipe, at_chunk, kept_before}
+use Rattle.ndr_pipes.specs.Pipes.{Position, Stands, ReadsPipes, InPipes, InPipe, at_chunk, pipes_due}
 
 -- after the agreements of the parameters
 module _ (w : Setting) (side : IsLegalSide w) (order : Order) (fetched : List ℕ) (noted : List Item) (direct : ℕ) (b : Between) (s : Reading) (after : List EntryAt) (octets : AreOctets fetched)
@@ -53,7 +53,7 @@ module _ (w : Setting) (side : IsLegalSide w) (order : Order) (fetched : List �
       (pipes_read w side order (fetched ++ later) all n left (laid_out w side).pipes (going b.at after) s.names
       (let r : length fetched ≡ b.at = keeps.at in let l : length (fetched ++ later) ≡ length fetched + length later = length-append fetched later in omega (arith, r, l))).names
 
-  pub pipes_begin : InPipes w order fetched noted direct s.names (before_pipes (root_list w)) (drop (before_pipes (root_list w)) (root_list w)) s.roots (kept_before b after s.names)
+  pub pipes_begin : InPipes w order fetched noted direct s.names (before_pipes (root_list w)) (drop (before_pipes (root_list w)) (root_list w)) s.roots (pipes_due b after s.names)
   pipes_begin = record {
     stands = record {
       octets = octets;
@@ -67,7 +67,7 @@ module _ (w : Setting) (side : IsLegalSide w) (order : Order) (fetched : List �
 
 -- ## Between two pipes
 
-module _ (w : Setting) (order : Order) (fetched : List ℕ) (noted : List Item) (direct : ℕ) (first : Names) (i : ℕ) (rs : List Root) (roots : List Tree) (k : Kept) where
+module _ (w : Setting) (order : Order) (fetched : List ℕ) (noted : List Item) (direct : ℕ) (first : Names) (i : ℕ) (rs : List Root) (roots : List Tree) (k : Position) where
   -- reading goes on from here
   pub pipes_add : InPipes w order fetched noted direct first i rs roots k → (later : List ℕ) → AreOctets later → Goes (going k.at k.seen) (read_stream w order (fetched ++ later)).progress
   pipes_add p later a = subst (Goes (going k.at k.seen)) (sym (p.reads later a).progress) (pipes_go w order (fetched ++ later) i rs (going k.at k.seen) k.names)
