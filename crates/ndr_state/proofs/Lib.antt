@@ -1,4 +1,5 @@
 mod Values
 mod Identifiers
-mod Kept
+mod Empty
 mod Frames
+pub mod Outside

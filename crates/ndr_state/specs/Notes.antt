@@ -1,11 +1,11 @@
 -- The items that a call notes, and the steps that it counts: each item but a gap, and each cell that gets its number.
--- `xs` are items, `n` is what was noted and counted over a call.
-use Rattle.std.specs.Prelude.{◌≡◌, ◌≤◌, ℕ, ◌+◌, ◌*◌, ℤ, List, [], ◌∷◌, length, take, Result, Ok, Err}
+-- `xs` are items, `n` is what was noted and counted over a call, `o` what a step comes to.
+use Rattle.std.specs.Prelude.{◌≡◌, ◌≤◌, ℕ, ◌+◌, ◌*◌, ℤ, List, [], ◌∷◌, length, Result, Ok, Err}
 use Rattle.nd_value.specs.Logged.{Logged, noted, ticks_of}
 use Rattle.nd_value.specs.declared.item.Home.{Home}
 use Rattle.nd_value.specs.declared.item.Item.{Item}
 use Rattle.nd_value.specs.declared.item.ItemKind.TheVariants as item
-use Rattle.ndr_steps.specs.Steps.{State}
+use Rattle.ndr_steps.specs.Steps.{State, Outcome, goes}
 use Rattle.ndr_steps.specs.StepItems.{item_here}
 use Rattle.ndr_state.specs.declared.fault.DecodeFault.{DecodeFault}
 use Rattle.ndr_state.specs.declared.fault.DecodeFault.TheVariants as fault
@@ -32,18 +32,17 @@ abbrev pub notes_seen : Logged → Logged → ℕ → ℕ → ℕ → ℕ → No
 notes_seen log log_now steps steps_now cells cells_now =
     record { log = log; log_now = log_now; steps = steps; steps_now = steps_now; cells = cells; cells_now = cells_now }
 
--- some of the items were noted and counted, and at most one cell more was counted
-pub record IsNotedPart (xs : List Item) (n : NotesSeen) : Type 0 where
-  pub some : ℕ
-  pub log : n.log_now ≡ all_noted (take some xs) n.log
-  pub steps : n.steps_now ≤ n.steps + ticks (take some xs) + 1
+-- Where memory failed nothing of a step was noted or counted. Or all its items were, with a cell at most: then it was not refused.
+pub data IsNotedPart (o : Outcome) (xs : List Item) (n : NotesSeen) : Type 0 where
+  nothing_noted : n.log_now ≡ n.log → n.steps_now ≤ n.steps → IsNotedPart o xs n
+  all_are_noted : (s : State) → o ≡ goes s → n.log_now ≡ all_noted xs n.log → n.steps_now + n.cells ≤ n.steps + ticks xs + length s.cells → IsNotedPart o xs n
 
--- all items were noted and counted, with the cells; nothing, where the octets are refused
-abbrev pub Noted : {T : Type 0} → List Item → NotesSeen → Result T DecodeFault → Type 0
-Noted xs n (Ok t) = (n.log_now ≡ all_noted xs n.log) × (n.steps_now + n.cells ≡ n.steps + ticks xs + n.cells_now)
-Noted xs n (Err (fault.Bad place why)) = (n.log_now ≡ n.log) × (n.steps_now ≡ n.steps)
-Noted xs n (Err fault.ReadFault) = ⊥
-Noted xs n (Err fault.Memory) = IsNotedPart xs n
+-- all items of a step that comes to this outcome were noted and counted, with the cells; nothing, where the octets are refused
+abbrev pub Noted : {T : Type 0} → Outcome → List Item → NotesSeen → Result T DecodeFault → Type 0
+Noted o xs n (Ok t) = (n.log_now ≡ all_noted xs n.log) × (n.steps_now + n.cells ≡ n.steps + ticks xs + n.cells_now)
+Noted o xs n (Err (fault.Bad place why)) = (n.log_now ≡ n.log) × (n.steps_now ≡ n.steps)
+Noted o xs n (Err fault.ReadFault) = ⊥
+Noted o xs n (Err fault.Memory) = IsNotedPart o xs n
 
 -- the number that comes so many numbers after the next one in a row, each so wide
 abbrev pub number_ahead : Home → State → ℕ → ℕ → ℤ → Item

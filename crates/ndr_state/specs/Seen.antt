@@ -1,6 +1,12 @@
 -- What contracts see of a machine, and what a step comes to.
 -- `m` is a machine, `s` its state, `o` what a step comes to.
-use Rattle.std.specs.Prelude.{◌≡◌, List, ◌++◌, take, drop, map, reverse, Result, Ok, Err}
+use Rattle.std.specs.Prelude.{◌≡◌, ℕ, List, ◌++◌, take, drop, map, reverse, Option, Result, Ok, Err}
+use Rattle.nd_types.specs.declared.interface.Interface.{Interface}
+use Rattle.nd_types.specs.declared.types.Side.{Side}
+use Rattle.nd_value.specs.declared.item.Home.{Home}
+use Rattle.nd_value.specs.declared.value.Graph.{Graph}
+use Rattle.nd_value.specs.Tree.{Tree}
+use Rattle.nd_value.specs.Setting.{cell_at}
 use Rattle.nd_grammar.specs.declared.reason.Reason.{Reason}
 use Rattle.nd_value.specs.Agreement.{Agreement}
 use Rattle.nd_value.specs.Seen.{cell_number}
@@ -59,6 +65,31 @@ state_of m = record {
   fresh = map (owed_of m.wanted.items) m.fresh.items;
   cells = map (λ c. c.of) m.builder.graph.cells;
   numbers = m.referents;
+}
+
+-- ## What stays
+
+-- what a home's value leaves as it is: the home, and of the graph the home that is open, the values that were read, and what the graph is for
+pub record Outside : Type 0 where
+  pub home : Home
+  pub open_home : Option Home
+  pub roots : List Tree
+  pub value : ℕ → Tree
+  pub op : ℕ
+  pub side : Side
+  pub interface : Interface
+  pub given : Option Graph
+
+abbrev pub outside : Machine → Outside
+outside m = record {
+  home = m.home;
+  open_home = m.builder.home;
+  roots = m.builder.graph.roots;
+  value = cell_at m.builder.graph;
+  op = m.builder.op;
+  side = m.builder.side;
+  interface = m.builder.interface;
+  given = m.builder.given;
 }
 
 -- ## Outcomes

@@ -1,7 +1,7 @@
 // Runs, frames and structs.
 ghost use Rattle.std.specs.Prelude.{◌≡◌, ◌<◌, ◌+◌, ◌^◌, OnOk, IfErr, Ok};
 ghost use Rattle.ndr_steps.specs.Steps.{goes, done_after, next, pushed, popped, call_from, back_to, close_of};
-ghost use Rattle.ndr_state.specs.Seen.{state_of, Does, Comes};
+ghost use Rattle.ndr_state.specs.Seen.{state_of, outside, Does, Comes};
 ghost use Rattle.ndr_state.specs.declared.fault.DecodeFault.TheVariants as fault;
 
 use crate::{DecodeFault, Machine, Phase, Progress};
@@ -15,7 +15,7 @@ impl Machine {
         requires few { self.old.at + len < 2 ^ 32 }
         ensures is { state_of self.new ≡ done_after len (state_of self.old) }
         ensures count { self.new.count ≡ self.old.count }
-        ensures home { self.new.home ≡ self.old.home }
+        ensures outside { outside self.new ≡ outside self.old }
     {
         self.at += len;
         self.phase = Phase::Begun;
@@ -26,7 +26,7 @@ impl Machine {
     pub fn jump(&mut self, to: usize)
         ensures is { state_of self.new ≡ jumped to (state_of self.old) }
         ensures count { self.new.count ≡ self.old.count }
-        ensures home { self.new.home ≡ self.old.home }
+        ensures outside { outside self.new ≡ outside self.old }
     {
         self.phase = Phase::Begun;
         self.pc = to;
@@ -37,7 +37,7 @@ impl Machine {
         requires code { self.old.pc < 2 ^ 32 }
         ensures is { state_of self.new ≡ next (state_of self.old) }
         ensures count { self.new.count ≡ self.old.count }
-        ensures home { self.new.home ≡ self.old.home }
+        ensures outside { outside self.new ≡ outside self.old }
     {
         self.jump(self.pc + 1);
     }
@@ -46,7 +46,7 @@ impl Machine {
     pub fn push(&mut self, frame: Frame) -> Result<(), DecodeFault>
         ensures ok { OnOk result (state_of self.new ≡ pushed frame (state_of self.old)) }
         ensures count { self.new.count ≡ self.old.count }
-        ensures home { self.new.home ≡ self.old.home }
+        ensures outside { OnOk result (outside self.new ≡ outside self.old) }
         ensures memory { IfErr result (λ e. e ≡ fault.Memory) }
     {
         let top = self.top;
@@ -61,7 +61,7 @@ impl Machine {
     pub fn pop(&mut self)
         ensures is { state_of self.new ≡ popped (state_of self.old) }
         ensures count { self.new.count ≡ self.old.count }
-        ensures home { self.new.home ≡ self.old.home }
+        ensures outside { outside self.new ≡ outside self.old }
     {
         self.top = match self.stack.pop() {
             Some(frame) => frame,
@@ -75,7 +75,7 @@ impl Machine {
         requires code { self.old.pc < 2 ^ 32 }
         requires few { self.old.count + 1 < 2 ^ 32 }
         ensures does { Does (goes (record_begun members (state_of self.old))) result (state_of self.new) }
-        ensures home { self.new.home ≡ self.old.home }
+        ensures outside { OnOk result (outside self.new ≡ outside self.old) }
     {
         self.add(&Seen::Rec(members), None)?;
         let first = self.members.len();
@@ -89,7 +89,7 @@ impl Machine {
     pub fn call(&mut self, run: u32) -> Result<(), DecodeFault>
         requires code { self.old.pc < 2 ^ 32 }
         ensures does { Does (goes (call_from self.old.top run (state_of self.old))) result (state_of self.new) }
-        ensures home { self.new.home ≡ self.old.home }
+        ensures outside { OnOk result (outside self.new ≡ outside self.old) }
     {
         match self.top {
             Frame::Record { back: _, first } => self.call_member(first, run),
@@ -109,7 +109,7 @@ impl Machine {
     fn call_member(&mut self, first: usize, run: u32) -> Result<(), DecodeFault>
         requires code { self.old.pc < 2 ^ 32 }
         ensures does { Does (goes (member_called first run (state_of self.old))) result (state_of self.new) }
-        ensures home { self.new.home ≡ self.old.home }
+        ensures outside { OnOk result (outside self.new ≡ outside self.old) }
     {
         let member = Member {
             node: self.count,
@@ -130,7 +130,7 @@ impl Machine {
     pub fn close(&mut self)
         requires code { self.old.pc < 2 ^ 32 }
         ensures is { state_of self.new ≡ close_of self.old.top (state_of self.old) }
-        ensures home { self.new.home ≡ self.old.home }
+        ensures outside { outside self.new ≡ outside self.old }
     {
         match self.top {
             Frame::Record { back: _, first } => self.close_record(first),
@@ -147,7 +147,7 @@ impl Machine {
     fn close_record(&mut self, first: usize)
         requires code { self.old.pc < 2 ^ 32 }
         ensures is { state_of self.new ≡ record_closed first (state_of self.old) }
-        ensures home { self.new.home ≡ self.old.home }
+        ensures outside { outside self.new ≡ outside self.old }
     {
         self.members.truncate(first);
         self.firsts.truncate(first);
@@ -159,7 +159,7 @@ impl Machine {
     fn close_other(&mut self)
         requires code { self.old.pc < 2 ^ 32 }
         ensures is { state_of self.new ≡ next (popped (state_of self.old)) }
-        ensures home { self.new.home ≡ self.old.home }
+        ensures outside { outside self.new ≡ outside self.old }
     {
         self.pop();
         self.skip();
@@ -168,7 +168,7 @@ impl Machine {
     /// The instruction `ret`: a value ends, and what is around it goes on. Takes no memory.
     pub fn ret(&mut self) -> Progress
         ensures does { Comes (back_to self.old.top (state_of self.old)) (Ok result) (state_of self.new) }
-        ensures home { self.new.home ≡ self.old.home }
+        ensures outside { outside self.new ≡ outside self.old }
     {
         match self.top {
             Frame::Home => Progress::Whole,
@@ -186,7 +186,7 @@ impl Machine {
     // The next of the elements of which so many are left, or what comes after them.
     fn next_element(&mut self, left: u32, run: u32, back: usize)
         ensures is { goes (state_of self.new) ≡ back_to (elements_frame left run back) (state_of self.old) }
-        ensures home { self.new.home ≡ self.old.home }
+        ensures outside { outside self.new ≡ outside self.old }
     {
         if left == 0 {
             self.pop();

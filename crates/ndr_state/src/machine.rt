@@ -2,7 +2,7 @@
 ghost use Rattle.std.specs.Prelude.{◌≡◌, ◌≤◌, ◌+◌, length};
 ghost use Rattle.std.specs.List.{AllByRecursion};
 ghost use Rattle.nd_flat.specs.FlatForm.{IsKeepableNumber};
-ghost use Rattle.ndr_state.specs.Small.{IsSmall};
+ghost use Rattle.ndr_state.specs.Small.{IsSmall, AreSmall-prop, AreWithin-prop};
 
 use nd_flat::Builder;
 use nd_types::{Attr, Class, Prim, TypeId};
@@ -68,11 +68,11 @@ pub struct Machine {
     /// The members of the structs that are open, and what is kept of the first node of each.
     pub members: Vec<Member>,
     pub firsts: Vec<First>,
-    pub ghost small: { AllByRecursion IsSmall firsts.items },
+    pub ghost small: { AllByRecursion IsSmall firsts.items } by { AreSmall-prop firsts.items },
     /// The referents that are pending since the home's beginning, and the agreements of all pointers.
     pub fresh: Vec<Owed>,
     pub wanted: Vec<Wanted>,
-    pub ghost spans: { AllByRecursion (λ o. o.from + o.len ≤ length wanted.items) fresh.items },
+    pub ghost spans: { AllByRecursion (λ o. o.from + o.len ≤ length wanted.items) fresh.items } by { AreWithin-prop (length wanted.items) fresh.items },
     /// The graph so far, and the numbers of full pointers.
     pub builder: Builder,
     pub ghost counted: { count ≡ length builder.nodes },

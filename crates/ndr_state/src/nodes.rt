@@ -2,7 +2,7 @@
 ghost use Rattle.std.specs.Prelude.{◌≡◌, ◌<◌, ◌+◌, ◌^◌, ◌++◌, ◌∷◌, [], length, OnOk, IfErr};
 ghost use Rattle.nd_flat.specs.FlatForm.{flat_seen, IsKeepable, text_of};
 ghost use Rattle.ndr_steps.specs.Steps.{first_of, with_node};
-ghost use Rattle.ndr_state.specs.Seen.{state_of};
+ghost use Rattle.ndr_state.specs.Seen.{state_of, outside};
 ghost use Rattle.ndr_state.specs.declared.fault.DecodeFault.TheVariants as fault;
 
 use crate::{DecodeFault, Machine};
@@ -18,7 +18,7 @@ impl Machine {
         requires few { self.old.count + 1 < 2 ^ 32 }
         ensures ok { OnOk result (state_of self.new ≡ with_node (flat_seen node.now) place (state_of self.old)) }
         ensures count { OnOk result (self.new.count ≡ self.old.count + 1) }
-        ensures home { self.new.home ≡ self.old.home }
+        ensures outside { OnOk result (outside self.new ≡ outside self.old) }
         ensures memory { IfErr result (λ e. e ≡ fault.Memory) }
     {
         let first = first_seen(node, place);
@@ -32,7 +32,7 @@ impl Machine {
         requires small { IsSmall first }
         ensures ok { OnOk result (state_of self.new ≡ kept first (state_of self.old)) }
         ensures count { self.new.count ≡ self.old.count }
-        ensures home { self.new.home ≡ self.old.home }
+        ensures outside { OnOk result (outside self.new ≡ outside self.old) }
         ensures memory { IfErr result (λ e. e ≡ fault.Memory) }
     {
         match self.top {
@@ -55,7 +55,7 @@ impl Machine {
         ensures ok { OnOk result (state_of self.new ≡ with_members (state_of self.old).members ((state_of self.old).firsts ++ first ∷ []) (state_of self.old)) }
         ensures count { self.new.count ≡ self.old.count }
         ensures top { self.new.top ≡ self.old.top }
-        ensures home { self.new.home ≡ self.old.home }
+        ensures outside { OnOk result (outside self.new ≡ outside self.old) }
         ensures memory { IfErr result (λ e. e ≡ fault.Memory) }
     {
         let Ok(()) = self.firsts.push(first) else {

@@ -48,6 +48,7 @@ impl Machine {
         requires none { self.old.builder.nodes ≡ [] }
         ensures is { state_of self.new ≡ started run (state_of self.old) }
         ensures home { self.new.home ≡ home }
+        ensures builder { self.new.builder ≡ self.old.builder }
     {
         self.home = home;
         self.pc = run as usize;

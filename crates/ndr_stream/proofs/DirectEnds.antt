@@ -1,5 +1,5 @@
 -- The end of a root that is a reference pointer: its referent is in its place, in a cell without a number.
-use Rattle.std.proofs.Common.{◌≡◌, ◌≤◌, ◌<◌, ℕ, ◌+◌, zero, suc, Bool, true, false, List, [], ◌∷◌, ◌++◌, length, Option, Some, None, refl, ap, sym, ◌∙◌, subst, append_assoc, length-append, arith, map}
+use Rattle.std.proofs.Common.{◌≡◌, ◌≤◌, ◌<◌, ℕ, ◌+◌, suc, List, [], ◌∷◌, ◌++◌, length, Option, Some, None, refl, ap, sym, ◌∙◌, subst, append_assoc, length-append, arith, map}
 use Rattle.std.specs.Prelude.{filter, take}
 use Rattle.std.specs.List.{slice_get}
 use Rattle.std.proofs.lemmas.List.{append-nil}
@@ -10,7 +10,6 @@ use Rattle.nd_types.specs.declared.types.TypeId.{TypeId}
 use Rattle.nd_types.specs.Number.{AreOctets}
 use Rattle.nd_types.specs.Roots.{Root}
 use Rattle.nd_types.specs.Table.{type_at}
-use Rattle.nd_value.specs.declared.item.Home.{Home}
 use Rattle.nd_value.specs.declared.item.Home.TheVariants as home
 use Rattle.nd_value.specs.declared.item.Item.{Item}
 use Rattle.nd_value.specs.declared.value.Graph.{Graph}
@@ -24,12 +23,11 @@ use Rattle.nd_grammar.specs.declared.reason.Reason.{Reason}
 use Rattle.nd_grammar.specs.declared.reason.Reason.TheVariants as reason
 use Rattle.nd_grammar.specs.Entry.{EntryAt}
 use Rattle.nd_grammar.specs.LegalSide.{IsLegalSide}
-use Rattle.nd_grammar.specs.Reader.{Names, Progress, Read, read_whole, is_stopped, fresh, with_cell}
+use Rattle.nd_grammar.specs.Reader.{Names, Progress, Read, read_whole, is_stopped, with_cell}
 use Rattle.nd_grammar.specs.StreamReader.{Reading, with_value, read_root, read_first, read_next, read_stream}
 use Rattle.nd_grammar.proofs.legal.LegalUsable.{Usable, root_usable, pointee_usable}
 use Rattle.nd_grammar.proofs.reader.ReaderNames.{Extends, extends_twice, longer}
 use Rattle.nd_grammar.proofs.reader.ReaderStates.{WholeRead, read_wholly}
-use Rattle.nd_grammar.proofs.reader.ReaderStates.{State as IsReading}
 use Rattle.nd_grammar.proofs.reader.ReaderTurns.{one_longer, placed_there}
 use Rattle.ndr_reading.specs.Around.{going, stopped}
 use Rattle.ndr_steps.specs.declared.first.First.TheVariants as first
@@ -37,7 +35,7 @@ use Rattle.ndr_steps.specs.Good.{Told, Whole}
 use Rattle.ndr_steps.specs.Steps.{State}
 use Rattle.ndr_verdict.specs.Verdict.{is_direct}
 use Rattle.ndr_worklist.proofs.Turns.{turns, refused}
-use Rattle.ndr_stream.specs.Between.{AreNeeded, Between, Keeps, Agrees, IsUnread, IsKeptOf, IsKeptHome, CellKept, CellFilled, cell_read}
+use Rattle.ndr_stream.specs.Between.{AreNeeded, Between, Keeps, Agrees, IsKeptOf, IsKeptHome, CellKept, CellFilled, cell_read}
 use Rattle.ndr_stream.specs.declared.kept.Kept.{Kept}
 use Rattle.ndr_stream.specs.declared.kept.KeptRoot.{KeptRoot}
 use Rattle.ndr_stream.proofs.CellEnds.{keeps_cell}
@@ -179,7 +177,7 @@ module _ (w : Setting) (side : IsLegalSide w) (order : Order) (fetched : List �
     direct_then : direct + 1 ≡ length (filter (λ z. is_direct (type_at w.table z.of)) (take (length (s.roots ++ its_tree ∷ [])) (root_list w)))
     direct_then =
         let e : length (filter (λ z. is_direct (type_at w.table z.of)) (take (suc i) (root_list w)))
-            ≡ length (filter (λ z. is_direct (type_at w.table z.of)) (take i (root_list w))) + one_if (is_direct (type_at w.table r.of)) =
+        ≡ length (filter (λ z. is_direct (type_at w.table z.of)) (take i (root_list w))) + one_if (is_direct (type_at w.table r.of)) =
         count_more (λ z. is_direct (type_at w.table z.of)) (root_list w) i r there in
         let f : one_if (is_direct (type_at w.table r.of)) ≡ 1 = ap (λ d. one_if (is_direct d)) refers in
         let g : direct ≡ length (filter (λ z. is_direct (type_at w.table z.of)) (take i (root_list w))) = ag.direct_are in

@@ -1,6 +1,5 @@
 -- The end of the roots and referents of a stream: the agreements of the parameters come next, and the pipes.
-use Rattle.std.proofs.Common.{◌≡◌, ℕ, ◌+◌, zero, suc, Bool, true, false, List, [], ◌∷◌, ◌++◌, length, Option, Some, None, refl, ap, sym, ◌∙◌, subst, drop}
-use Rattle.std.specs.Prelude.{replicate}
+use Rattle.std.proofs.Common.{◌≡◌, ℕ, ◌+◌, true, List, [], ◌∷◌, ◌++◌, Option, Some, None, refl, ap, ◌∙◌, drop}
 use Rattle.nd_base.specs.declared.octets.Order.{Order}
 use Rattle.nd_types.specs.declared.types.TypeDef.{TypeDef}
 use Rattle.nd_types.specs.declared.types.TypeDef.TheVariants as def
@@ -9,19 +8,17 @@ use Rattle.nd_types.specs.Roots.{Root}
 use Rattle.nd_types.specs.Table.{type_at}
 use Rattle.nd_value.specs.declared.item.Item.{Item}
 use Rattle.nd_value.specs.Deferral.{before_pipes}
-use Rattle.nd_value.specs.Setting.{Setting, root_list, unread}
+use Rattle.nd_value.specs.Setting.{Setting, root_list}
 use Rattle.nd_grammar.specs.declared.reason.Reason.{Reason}
-use Rattle.nd_grammar.specs.Entry.{Entry, EntryAt}
+use Rattle.nd_grammar.specs.Entry.{EntryAt}
 use Rattle.nd_grammar.specs.LegalSide.{IsLegalSide}
 use Rattle.nd_grammar.specs.Reader.{Progress, Names, pass_all, is_stopped}
-use Rattle.nd_grammar.specs.Stream.{root_tests}
-use Rattle.nd_grammar.specs.StreamReader.{Reading, Found, ReadPipe, ReadPipes, graph_of, read_pipe, read_pipes, read_stream}
+use Rattle.nd_grammar.specs.StreamReader.{Reading, Found, ReadPipe, read_pipe, read_pipes, read_stream}
 use Rattle.ndr_reading.specs.Around.{going, stopped}
-use Rattle.ndr_reading.proofs.Continuing.{all_stay}
 use Rattle.ndr_worklist.specs.Reached.{stream_after}
 use Rattle.ndr_worklist.proofs.Turns.{over}
 use Rattle.ndr_stream.specs.Between.{Between, Agrees}
-use Rattle.ndr_stream.specs.Parameters.{with_pipes, parameter_tests, pipes_from}
+use Rattle.ndr_stream.specs.Parameters.{parameter_tests, pipes_from}
 
 module _ (w : Setting) (order : Order) (octets : List ℕ) (at : ℕ) (seen : List EntryAt) (why : ℕ × Reason) where
   abbrev end : Progress

@@ -1,26 +1,24 @@
 -- The beginning of a home's value means the whole value to the plain reader.
-use Rattle.std.proofs.Common.{◌≡◌, ◌≤◌, ℕ, ◌+◌, suc, Bool, true, false, List, [], ◌∷◌, ◌++◌, length, Option, Some, None, refl, ap, sym, ◌∙◌, subst, arith, map}
+use Rattle.std.proofs.Common.{◌≡◌, ℕ, Bool, true, false, List, [], ◌∷◌, length, None, refl, sym, ◌∙◌, subst}
 use Rattle.nd_base.specs.declared.octets.Order.{Order}
-use Rattle.nd_types.specs.declared.types.TypeDef.{TypeDef}
 use Rattle.nd_types.specs.declared.types.Operation.{Operation}
 use Rattle.nd_types.specs.Legal.{IsLegal}
 use Rattle.nd_types.specs.Layout.{hoists}
-use Rattle.nd_types.specs.Table.{Table, type_at}
+use Rattle.nd_types.specs.Table.{Table}
 use Rattle.nd_value.specs.declared.item.Home.{Home}
 use Rattle.nd_value.specs.declared.item.Item.{Item}
 use Rattle.nd_grammar.specs.Entry.{EntryAt}
-use Rattle.nd_grammar.specs.Reader.{Names, Read, read_whole}
+use Rattle.nd_grammar.specs.Reader.{Names, read_whole}
 use Rattle.nd_grammar.proofs.legal.LegalUsable.{Usable}
 use Rattle.ndr_code.specs.declared.instr.Instr.TheVariants as op
 use Rattle.ndr_code.specs.Runs.{IsRunAt}
 use Rattle.ndr_code.specs.Code.{code_of, whole_at, place_at}
 use Rattle.ndr_code.specs.Lines.{values_of}
 use Rattle.ndr_code.proofs.TypeRuns.{hoist_run_at, whole_is_place}
-use Rattle.ndr_refs.specs.declared.referents.Known.{Known}
 use Rattle.ndr_reading.specs.Around.{going}
 use Rattle.ndr_steps.specs.Good.{Told, Good, IsBegun}
 use Rattle.ndr_steps.specs.Steps.{State}
-use Rattle.ndr_steps.specs.Spots.{IsFine, IsPlanned}
+use Rattle.ndr_steps.specs.Spots.{IsPlanned}
 use Rattle.ndr_steps.proofs.Begins.{begins_plain, begins_hoisting}
 use Rattle.ndr_steps.proofs.PlanRuns.{planned}
 use Rattle.ndr_stream.specs.Between.{Between, Opens}

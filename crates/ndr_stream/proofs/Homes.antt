@@ -1,27 +1,19 @@
 -- The end of a home's value: what is kept of all other homes is as it was.
-use Rattle.std.proofs.Common.{◌≡◌, ◌≤◌, ◌<◌, ℕ, ◌+◌, zero, suc, List, [], ◌∷◌, ◌++◌, length, Option, Some, None, refl, ap, sym, ◌∙◌, subst, append_assoc, arith, map}
-use Rattle.std.specs.List.{AllByRecursion}
-use Rattle.std.proofs.lemmas.List.{append-nil}
+use Rattle.std.proofs.Common.{◌≡◌, ◌<◌, ℕ, List, [], ◌++◌, length, Some, None, ap, sym, ◌∙◌, subst, arith}
 use Rattle.nd_base.specs.declared.octets.Order.{Order}
-use Rattle.nd_types.specs.Number.{AreOctets}
-use Rattle.nd_types.specs.Table.{Table}
 use Rattle.nd_value.specs.declared.item.Home.{Home}
 use Rattle.nd_value.specs.declared.item.Home.TheVariants as home
 use Rattle.nd_value.specs.declared.item.Item.{Item}
-use Rattle.nd_value.specs.declared.value.CellId.{CellId}
 use Rattle.nd_value.specs.Setting.{Setting, cell_home}
 use Rattle.nd_value.specs.Deferral.{Pending, IsPlaced}
 use Rattle.nd_value.specs.Tree as tree
 use Rattle.nd_value.specs.Tree.{Tree}
-use Rattle.nd_grammar.specs.declared.reason.Reason.{Reason}
-use Rattle.nd_grammar.specs.declared.reason.Reason.TheVariants as reason
 use Rattle.nd_grammar.specs.Entry.{EntryAt}
 use Rattle.nd_grammar.specs.Reader.{Names, Progress, Read, read_whole}
 use Rattle.nd_grammar.specs.StreamReader.{Reading}
-use Rattle.ndr_reading.specs.Around.{going, stopped}
+use Rattle.ndr_reading.specs.Around.{going}
 use Rattle.ndr_steps.specs.Good.{Told, Whole}
 use Rattle.ndr_steps.specs.Good.{Kept as IsKept}
-use Rattle.ndr_steps.specs.declared.first.First.{First}
 use Rattle.ndr_steps.specs.Steps.{State}
 use Rattle.ndr_stream.specs.Added.{Added}
 use Rattle.ndr_stream.specs.Between.{Between, Keeps, IsUnread, IsKeptOf, AreKept}

@@ -1,6 +1,6 @@
 -- Calls one after the other.
-use Rattle.std.proofs.Common.{◌≡◌, ◌≤◌, ℕ, ◌+◌, Bool, true, false, List, [], ◌∷◌, ◌++◌, length, Option, refl, ap, sym, ◌∙◌, subst, append_assoc, length-append, arith}
-use Rattle.std.specs.Prelude.{cond, not, filter, if◌then◌else◌}
+use Rattle.std.proofs.Common.{◌≡◌, ℕ, ◌+◌, Bool, true, false, List, [], ◌∷◌, ◌++◌, length, refl, ap, sym, ◌∙◌, subst, append_assoc, arith}
+use Rattle.std.specs.Prelude.{cond, not, if◌then◌else◌}
 use Rattle.std.specs.Io.KnownBytes.{Consumes, IsAtEnd}
 use Rattle.std.proofs.KnownBytes.{Consumes-trans}
 use Rattle.nd_base.specs.declared.octets.Order.{Order}
@@ -9,7 +9,6 @@ use Rattle.nd_value.specs.declared.item.Item.{Item}
 use Rattle.nd_value.specs.Logged.{Logged}
 use Rattle.nd_value.specs.Setting.{Setting}
 use Rattle.nd_grammar.specs.declared.reason.Reason.{Reason}
-use Rattle.nd_grammar.specs.declared.reason.Reason.TheVariants as reason
 use Rattle.nd_grammar.specs.FewItems.{is_gap, but_gaps}
 use Rattle.ndr_verdict.specs.Verdict.{DecodingSeen, HasNoted, with_items}
 use Rattle.ndr_stream.specs.Calls.{Follows, Took, TookPart, Refused, CutOff}

@@ -1,11 +1,10 @@
 -- The turns at which nothing is read: at a null pointer, and at a full pointer whose referent was read.
-use Rattle.std.proofs.Common.{◌≡◌, ℕ, ◌+◌, ◌≤◌, Bool, true, false, List, [], ◌∷◌, ◌++◌, length, Option, Some, None, refl, ap, sym, ◌∙◌, inl, inr, subst, append_assoc, arith, map}
+use Rattle.std.proofs.Common.{◌≡◌, ℕ, Bool, true, false, List, [], ◌∷◌, ◌++◌, length, Some, None, refl, ap, sym, ◌∙◌, inl, inr, subst, arith, map}
 use Rattle.std.specs.Prelude.{◌||◌, eqb}
 use Rattle.std.proofs.lemmas.Bool.{eq-eqb}
 use Rattle.std.proofs.lemmas.List.{append-nil}
 use Rattle.std.proofs.lemmas.Option.{same_Some}
 use Rattle.nd_base.specs.declared.octets.Order.{Order}
-use Rattle.nd_types.specs.declared.types.Class.{Class}
 use Rattle.nd_types.specs.declared.types.Class.TheVariants.{Full}
 use Rattle.nd_types.specs.Number.{AreOctets}
 use Rattle.nd_value.specs.declared.item.Home.TheVariants as home
@@ -15,13 +14,12 @@ use Rattle.nd_value.specs.Setting.{Setting, cell_home, cell_at}
 use Rattle.nd_value.specs.Deferral.{Pending, Due, due_referent, due_roots, IsPlaced, Placed_cells}
 use Rattle.nd_value.specs.Tree.{Tree}
 use Rattle.nd_grammar.specs.declared.reason.Reason.{Reason}
-use Rattle.nd_grammar.specs.Entry.{Entry, EntryAt}
+use Rattle.nd_grammar.specs.Entry.{EntryAt}
 use Rattle.nd_grammar.specs.InPlace.{tests}
 use Rattle.nd_grammar.specs.LegalSide.{IsLegalSide}
 use Rattle.nd_grammar.specs.Reader.{Progress, pass_all}
 use Rattle.nd_grammar.specs.StreamReader.{Reading, graph_of, stands_among, stood, read_referent, read_pending, read_first, read_next, read_stream}
 use Rattle.ndr_reading.specs.Around.{going, stopped}
-use Rattle.ndr_verdict.specs.Needed.{IsNeeded}
 use Rattle.ndr_worklist.specs.Reached.{Reached}
 use Rattle.ndr_worklist.proofs.Turns.{turns, refused}
 use Rattle.ndr_stream.specs.Between.{Between, Keeps, Agrees, IsKeptOf, kept_at}

@@ -1,6 +1,6 @@
 -- What is kept of a home stays as it is while entries of other homes, and agreements, are passed.
-use Rattle.std.proofs.Common.{◌≡◌, ◌≤◌, ◌<◌, ℕ, ◌+◌, zero, suc, Bool, true, false, List, [], ◌∷◌, ◌++◌, length, Option, Some, None, refl, ap, sym, ◌∙◌, subst, append_assoc, arith}
-use Rattle.std.specs.Prelude.{◌&&◌, ◌||◌, eqb, map}
+use Rattle.std.proofs.Common.{◌≡◌, ◌<◌, ℕ, ◌+◌, suc, Bool, true, false, List, [], ◌∷◌, ◌++◌, length, Option, None, refl, ap, sym, ◌∙◌, subst, append_assoc, arith}
+use Rattle.std.specs.Prelude.{◌&&◌, ◌||◌, eqb}
 use Rattle.std.specs.List.{AllByRecursion}
 use Rattle.std.proofs.lemmas.List.{append-nil}
 use Rattle.std.proofs.lemmas.Bool.{eqb-true}
@@ -10,20 +10,17 @@ use Rattle.nd_value.specs.declared.item.Home.{Home}
 use Rattle.nd_value.specs.declared.item.Home.TheVariants as home
 use Rattle.nd_value.specs.declared.item.Item.{Item}
 use Rattle.nd_value.specs.Seen.{cell_number}
-use Rattle.nd_value.specs.Tree.{Tree, more, none, flat}
-use Rattle.nd_value.specs.Deferral.{IsPlaced}
+use Rattle.nd_value.specs.Tree.{Tree}
 use Rattle.nd_grammar.specs.Entry.{EntryAt}
 use Rattle.nd_grammar.specs.Refusal.{tested_at, kind_agrees, is_max, same_home}
 use Rattle.nd_grammar.specs.Reader.{Names}
-use Rattle.nd_grammar.specs.StreamReader.{Reading}
 use Rattle.ndr_refs.specs.declared.referents.Known.{Known}
 use Rattle.ndr_steps.specs.Good.{Told}
-use Rattle.ndr_steps.specs.Good.{Kept as IsKept}
 use Rattle.ndr_steps.specs.Steps.{Place}
 use Rattle.ndr_steps.proofs.Passing.{speaks, tested_passed}
 use Rattle.ndr_stream.specs.declared.kept.Kept.{Kept}
 use Rattle.ndr_stream.specs.declared.kept.KeptRoot.{KeptRoot}
-use Rattle.ndr_stream.specs.Between.{IsKeptOf, AreKept, IsUnread, pointer_cell}
+use Rattle.ndr_stream.specs.Between.{IsKeptOf, AreKept, pointer_cell}
 
 same_home_is : (h k : Home) → same_home h k ≡ true → h ≡ k
 same_home_is (home.Root i) (home.Root j) e = ap home.Root (eqb-true i j e)

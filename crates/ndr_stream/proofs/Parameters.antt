@@ -1,24 +1,23 @@
 -- The agreements of a parameter: what the reader finds of them is what is found in what is kept.
-use Rattle.std.proofs.Common.{◌≡◌, ◌≤◌, ◌<◌, ℕ, ◌+◌, zero, suc, ℤ, Bool, true, false, List, [], ◌∷◌, ◌++◌, length, Option, Some, None, refl, ap, ap₂, sym, ◌∙◌, inl, inr, ◌⊎◌, subst, append_assoc, arith}
+use Rattle.std.proofs.Common.{◌≡◌, ◌≤◌, ◌<◌, ℕ, ◌+◌, zero, suc, Bool, true, false, List, [], ◌∷◌, ◌++◌, length, Option, Some, None, refl, ap, sym, ◌∙◌, inl, inr, ◌⊎◌, subst, append_assoc, arith}
 use Rattle.std.specs.Prelude.{cond, if◌then◌else◌, option_map, replicate}
-use Rattle.std.specs.List.{AllByRecursion, slice_get}
+use Rattle.std.specs.List.{slice_get}
 use Rattle.std.specs.Ordering.{int_eq}
 use Rattle.std.proofs.lemmas.List.{append-nil}
 use Rattle.std.proofs.lemmas.Option.{same_Some}
 use Rattle.nd_base.specs.declared.octets.Order.{Order}
 use Rattle.nd_types.specs.declared.types.Attr.{Attr}
 use Rattle.nd_types.specs.declared.types.Attr.TheVariants as attr
-use Rattle.nd_types.specs.Number.{AreOctets}
 use Rattle.nd_value.specs.declared.item.Home.{Home}
 use Rattle.nd_value.specs.declared.item.Home.TheVariants as home
 use Rattle.nd_value.specs.declared.item.Item.{Item}
 use Rattle.nd_value.specs.declared.value.Graph.{Graph}
-use Rattle.nd_value.specs.Agreement.{Agreement, agreement, number_of, found_in}
+use Rattle.nd_value.specs.Agreement.{Agreement, number_of, found_in}
 use Rattle.nd_value.specs.Seen.{cell_number}
 use Rattle.nd_value.specs.Setting.{Setting, unread, or_unread, root_at, cell_home, cell_at, cell_tree}
 use Rattle.nd_value.specs.Tree as tree
 use Rattle.nd_value.specs.Tree.{Tree, Referent, node, more, none, Flat, flat, count, is_pointer}
-use Rattle.nd_value.specs.Deferral.{Pending, IsPlaced, Placed_cells}
+use Rattle.nd_value.specs.Deferral.{IsPlaced}
 use Rattle.nd_value.specs.Variables.{starred}
 use Rattle.nd_value.proofs.Apart.{all_append}
 use Rattle.nd_grammar.specs.declared.reason.Reason.{Reason}
@@ -27,15 +26,14 @@ use Rattle.nd_grammar.specs.Entry.{Entry, EntryAt, Test}
 use Rattle.nd_grammar.specs.InPlace.{tests}
 use Rattle.nd_grammar.specs.LegalSide.{IsLegalSide}
 use Rattle.nd_grammar.specs.Refusal.{refusal, tested_at}
-use Rattle.nd_grammar.specs.Reader.{Names, pass_all}
+use Rattle.nd_grammar.specs.Reader.{pass_all}
 use Rattle.nd_grammar.specs.Stream.{root_test}
 use Rattle.nd_grammar.specs.StreamReader.{Reading, graph_of, stands_among}
-use Rattle.nd_grammar.proofs.reader.ReaderNames.{cell_in, get_left}
-use Rattle.ndr_reading.specs.Around.{going, stopped}
+use Rattle.nd_grammar.proofs.reader.ReaderNames.{get_left}
+use Rattle.ndr_reading.specs.Around.{going}
 use Rattle.ndr_reading.specs.ChildNodes.{top, flat_number}
 use Rattle.ndr_reading.proofs.ChildPlaces.{same_number}
 use Rattle.ndr_reading.proofs.FromPoint.{test_passed}
-use Rattle.ndr_steps.specs.declared.first.First.{First}
 use Rattle.ndr_steps.specs.declared.first.First.TheVariants as first
 use Rattle.ndr_steps.specs.Good.{place_at}
 use Rattle.ndr_steps.specs.Steps.{first_number, first_of, is_owing, place_of}
@@ -49,7 +47,7 @@ use Rattle.ndr_stream.specs.declared.kept.KeptRoot.{KeptRoot}
 use Rattle.ndr_stream.proofs.Others.{tested_later}
 use Rattle.ndr_stream.proofs.OtherTurns.{is_among}
 use Rattle.ndr_stream.proofs.ReferentEnds.{among_placed}
-use Rattle.ndr_stream.proofs.Tested.{top_is, tests_pass, tests_stop, keeps_tests, tests_silent}
+use Rattle.ndr_stream.proofs.Tested.{top_is, tests_pass, tests_stop, keeps_tests}
 
 -- ## What is kept of a home
 

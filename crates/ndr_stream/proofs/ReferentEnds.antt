@@ -1,7 +1,6 @@
 -- The end of the referent of a pointer, and its agreements.
-use Rattle.std.proofs.Common.{◌≡◌, ◌≤◌, ◌<◌, ℕ, ◌+◌, zero, suc, Bool, true, false, List, [], ◌∷◌, ◌++◌, length, Option, Some, None, refl, ap, sym, ◌∙◌, inl, inr, ◌⊎◌, subst, append_assoc, arith, map}
+use Rattle.std.proofs.Common.{◌≡◌, ◌≤◌, ◌<◌, ℕ, zero, suc, Bool, true, false, List, [], ◌∷◌, ◌++◌, length, Option, Some, None, refl, ap, sym, ◌∙◌, inl, inr, subst, append_assoc, arith, map}
 use Rattle.std.specs.Prelude.{eqb, ◌||◌}
-use Rattle.std.specs.List.{AllByRecursion}
 use Rattle.std.proofs.lemmas.Bool.{eqb-true}
 use Rattle.nd_base.specs.declared.octets.Order.{Order}
 use Rattle.nd_types.specs.declared.types.Class.{Class}
@@ -20,26 +19,25 @@ use Rattle.nd_grammar.specs.declared.reason.Reason.TheVariants as reason
 use Rattle.nd_grammar.specs.Entry.{Entry, EntryAt}
 use Rattle.nd_grammar.specs.InPlace.{tests}
 use Rattle.nd_grammar.specs.LegalSide.{IsLegalSide}
-use Rattle.nd_grammar.specs.Reader.{Names, Progress, Read, pass_all, read_whole}
+use Rattle.nd_grammar.specs.Reader.{Progress, Read, pass_all, read_whole}
 use Rattle.nd_grammar.specs.StreamReader.{Reading, stands_among, stood, with_value, read_referent, read_pending, read_first, read_next, read_stream}
 use Rattle.nd_grammar.proofs.legal.LegalUsable.{Usable}
 use Rattle.nd_grammar.proofs.reader.ReaderCells.{no_names}
 use Rattle.nd_grammar.proofs.reader.ReaderNames.{PointerAt, cell_in, longer}
 use Rattle.nd_grammar.proofs.reader.ReaderStates.{WholeRead, read_wholly, at_cell}
-use Rattle.nd_grammar.proofs.reader.ReaderStates.{State as IsReading}
 use Rattle.nd_grammar.proofs.reader.ReaderTurns.{joined_due}
 use Rattle.ndr_reading.specs.Around.{going, stopped}
 use Rattle.ndr_reading.proofs.Continuing.{all_stay}
 use Rattle.ndr_steps.specs.Good.{Told, Whole}
 use Rattle.ndr_steps.specs.Steps.{State}
 use Rattle.ndr_worklist.proofs.Turns.{turns, refused}
-use Rattle.ndr_stream.specs.Between.{AreNeeded, Between, Keeps, Agrees, IsUnread, IsKeptOf, IsKeptHome, CellKept, CellFilled, cell_read, kept_at}
+use Rattle.ndr_stream.specs.Between.{AreNeeded, Between, Keeps, Agrees, IsKeptOf, IsKeptHome, CellKept, CellFilled, cell_read, kept_at}
 use Rattle.ndr_stream.specs.Between.{taken}
 use Rattle.ndr_stream.specs.Report.{IsRefusedAfter}
 use Rattle.ndr_stream.specs.Tests.{disagreement, AllAgree, all_at}
 use Rattle.ndr_stream.specs.declared.kept.Kept.{Kept}
 use Rattle.ndr_stream.proofs.CellEnds.{keeps_cell}
-use Rattle.ndr_stream.proofs.Due.{StateOver, same_octets, pending_state}
+use Rattle.ndr_stream.proofs.Due.{same_octets, pending_state}
 use Rattle.ndr_stream.proofs.Homes.{own_then, roots_then}
 use Rattle.ndr_stream.proofs.Needing.{NeededAfter, needed_more}
 use Rattle.ndr_stream.proofs.StreamGrows.{all_go, goes_twice, next_then_stream}
@@ -222,14 +220,14 @@ module _ (w : Setting) (side : IsLegalSide w) (order : Order) (fetched : List �
         pub disagrees : (ws : List Agreement) (a : Agreement) (others : List Agreement) (why : ℕ × Reason) → p.agreements ≡ ws ++ a ∷ others → AllAgree k ws
             → disagreement a k.first k.max_at ≡ Some why → IsRefusedAfter w order (fetched ++ more) noted' (length x.cells) direct x.at why
         disagrees ws a others why split agree e =
-          let told_then : Told noted' direct order (fetched ++ more) (cell_home c) (is.seen ++ all_at x.at (tests (cell_home c) 0 is.v ws)) is.names x.cells x.numbers x.max_at (length x.nodes) [] =
-          told_tests order (fetched ++ more) w.table (cell_home c) x.at is.reached is.v k ws (cell_home c) is.seen is.names x.cells x.numbers x.max_at (length x.nodes) [] is.told in record {
-          seen = is.seen ++ all_at x.at (tests (cell_home c) 0 is.v ws);
-          stops = agreement_refused ws a others why split agree e;
-          items_are = told_then.noted_are;
-          cells_named = told_then.cells_named.named;
-          needed = needed_more w order fetched more ag.needed needed_then;
-        }
+            let told_then : Told noted' direct order (fetched ++ more) (cell_home c) (is.seen ++ all_at x.at (tests (cell_home c) 0 is.v ws)) is.names x.cells x.numbers x.max_at (length x.nodes) [] =
+            told_tests order (fetched ++ more) w.table (cell_home c) x.at is.reached is.v k ws (cell_home c) is.seen is.names x.cells x.numbers x.max_at (length x.nodes) [] is.told in record {
+              seen = is.seen ++ all_at x.at (tests (cell_home c) 0 is.v ws);
+              stops = agreement_refused ws a others why split agree e;
+              items_are = told_then.noted_are;
+              cells_named = told_then.cells_named.named;
+              needed = needed_more w order fetched more ag.needed needed_then;
+            }
 
         module _ (agree : AllAgree k p.agreements) where
           abbrev pub seen_then : List EntryAt

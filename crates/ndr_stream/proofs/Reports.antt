@@ -1,5 +1,5 @@
 -- What is reported of a stream that was decoded, refused or cut off is what the plain reader says of it.
-use Rattle.std.proofs.Common.{◌≡◌, ◌≤◌, ◌<◌, ℕ, ◌+◌, true, List, [], ◌∷◌, ◌++◌, length, Option, Some, None, refl, ap, sym, ◌∙◌, subst, arith}
+use Rattle.std.proofs.Common.{◌≡◌, ◌≤◌, ℕ, ◌+◌, true, List, [], length, Some, ap, sym, ◌∙◌, subst, arith}
 use Rattle.std.proofs.lemmas.List.{append-nil}
 use Rattle.std.specs.Io.KnownBytes.{Consumes, IsAtEnd}
 use Rattle.nd_base.specs.declared.octets.Order.{Order}
@@ -7,18 +7,17 @@ use Rattle.nd_base.specs.Over.{SourceSeen}
 use Rattle.nd_types.specs.Number.{AreOctets}
 use Rattle.nd_value.specs.declared.item.Item.{Item}
 use Rattle.nd_value.specs.declared.value.Graph.{Graph}
-use Rattle.nd_value.specs.Setting.{Setting, root_list}
+use Rattle.nd_value.specs.Setting.{Setting}
 use Rattle.nd_grammar.specs.declared.reason.Reason.{Reason}
 use Rattle.nd_grammar.specs.declared.reason.Reason.TheVariants as reason
-use Rattle.nd_grammar.specs.Bad.{Bad}
 use Rattle.nd_grammar.specs.Entry.{EntryAt, end_to_end}
 use Rattle.nd_grammar.specs.FewItems.{but_gaps}
 use Rattle.nd_grammar.specs.Items.{items}
 use Rattle.nd_grammar.specs.LegalSide.{IsLegalSide}
 use Rattle.nd_grammar.specs.Reader.{Progress}
 use Rattle.nd_grammar.specs.StreamReader.{read_stream}
-use Rattle.ndr_reading.specs.Around.{going, stopped}
-use Rattle.ndr_verdict.specs.Verdict.{DecodingSeen, HasNoted, RepresentsAlone, IsDecoded, IsReadThrough, IsCounted, IsCutOff, IsRefused, cells_named, direct_roots, fetched_to}
+use Rattle.ndr_reading.specs.Around.{going}
+use Rattle.ndr_verdict.specs.Verdict.{DecodingSeen, HasNoted, IsDecoded, IsReadThrough, IsCounted, IsCutOff, IsRefused}
 use Rattle.ndr_verdict.proofs.Alone.{represents_alone}
 use Rattle.ndr_verdict.proofs.Counted.{is_counted}
 use Rattle.ndr_verdict.proofs.ReadThrough.{read_in_part}

@@ -1,8 +1,8 @@
 -- The end of a root that is read in its place.
-use Rattle.std.proofs.Common.{◌≡◌, ◌≤◌, ◌<◌, ℕ, ◌+◌, zero, suc, Bool, true, false, List, [], ◌∷◌, ◌++◌, length, Option, Some, None, refl, ap, ap₂, sym, ◌∙◌, subst, append_assoc, length-append, arith, map}
+use Rattle.std.proofs.Common.{◌≡◌, ◌<◌, ℕ, ◌+◌, zero, suc, false, List, [], ◌∷◌, ◌++◌, length, Some, refl, ap, sym, ◌∙◌, subst, append_assoc, arith, map}
 use Rattle.std.specs.Prelude.{filter, take}
-use Rattle.std.specs.List.{AllByRecursion, slice_get}
-use Rattle.std.proofs.lemmas.List.{append-nil, map-append}
+use Rattle.std.specs.List.{slice_get}
+use Rattle.std.proofs.lemmas.List.{append-nil}
 use Rattle.nd_base.specs.declared.octets.Order.{Order}
 use Rattle.nd_types.specs.Number.{AreOctets}
 use Rattle.nd_types.specs.Roots.{Root}
@@ -11,31 +11,27 @@ use Rattle.nd_value.specs.declared.item.Home.{Home}
 use Rattle.nd_value.specs.declared.item.Home.TheVariants as home
 use Rattle.nd_value.specs.declared.item.Item.{Item}
 use Rattle.nd_value.specs.declared.value.Graph.{Graph}
-use Rattle.nd_value.specs.Seen.{cell_number}
 use Rattle.nd_value.specs.Setting.{Setting, root_list, cell_home, cell_at}
-use Rattle.nd_value.specs.Deferral.{Pending, Due, due_root, due_referent, due_roots, IsPlaced, home_pointers, root_type, before_pipes}
-use Rattle.nd_value.specs.Tree as tree
-use Rattle.nd_value.specs.Tree.{Tree}
+use Rattle.nd_value.specs.Deferral.{Pending, Due, due_root, due_referent, due_roots, home_pointers, root_type, before_pipes}
 use Rattle.nd_value.proofs.Apart.{all_append, all_left}
 use Rattle.nd_grammar.specs.declared.reason.Reason.{Reason}
 use Rattle.nd_grammar.specs.declared.reason.Reason.TheVariants as reason
 use Rattle.nd_grammar.specs.Entry.{EntryAt}
 use Rattle.nd_grammar.specs.LegalSide.{IsLegalSide}
-use Rattle.nd_grammar.specs.Reader.{Names, Progress, Read, read_whole, is_stopped}
-use Rattle.nd_grammar.specs.StreamReader.{Reading, graph_of, read_placed, read_root, read_first, read_next, read_stream}
-use Rattle.nd_grammar.proofs.legal.LegalUsable.{Usable, root_usable}
+use Rattle.nd_grammar.specs.Reader.{Progress, Read, read_whole, is_stopped}
+use Rattle.nd_grammar.specs.StreamReader.{Reading, graph_of, read_root, read_first, read_next, read_stream}
+use Rattle.nd_grammar.proofs.legal.LegalUsable.{root_usable}
 use Rattle.nd_grammar.proofs.reader.ReaderStates.{WholeRead, read_wholly}
 use Rattle.nd_grammar.proofs.reader.ReaderStates.{State as IsReading}
-use Rattle.nd_grammar.proofs.reader.ReaderTurns.{one_longer, joined_due}
+use Rattle.nd_grammar.proofs.reader.ReaderTurns.{one_longer}
 use Rattle.ndr_reading.specs.Around.{going, stopped}
-use Rattle.ndr_steps.specs.Good.{Told, Whole, owed}
+use Rattle.ndr_steps.specs.Good.{Whole, owed}
 use Rattle.ndr_steps.specs.Steps.{State}
 use Rattle.ndr_verdict.specs.Verdict.{is_direct}
 use Rattle.ndr_worklist.proofs.Turns.{turns, refused}
-use Rattle.ndr_stream.specs.Between.{AreNeeded, Between, Agrees, IsUnread, IsKeptOf, AreKept, IsKeptRoot, RootAdded, named_by, root_read}
-use Rattle.ndr_stream.specs.declared.kept.Kept.{Kept}
+use Rattle.ndr_stream.specs.Between.{AreNeeded, Between, Agrees, IsUnread, IsKeptOf, IsKeptRoot, RootAdded, named_by, root_read}
 use Rattle.ndr_stream.specs.declared.kept.KeptRoot.{KeptRoot}
-use Rattle.ndr_stream.proofs.Due.{StateOver, same_octets, in_its_place, root_state}
+use Rattle.ndr_stream.proofs.Due.{same_octets, in_its_place, root_state}
 use Rattle.ndr_stream.proofs.Graphs.{values_stay, graph_is, value_at}
 use Rattle.ndr_stream.proofs.Homes.{told_then, roots_then, cell_then, own_then}
 use Rattle.ndr_stream.proofs.KeptRoots.{cell_named}
@@ -167,7 +163,7 @@ module _ (w : Setting) (side : IsLegalSide w) (order : Order) (fetched : List �
     direct_then : direct ≡ length (filter (λ z. is_direct (type_at w.table z.of)) (take (length (s.roots ++ is.v ∷ [])) (root_list w)))
     direct_then =
         let e : length (filter (λ z. is_direct (type_at w.table z.of)) (take (suc i) (root_list w)))
-            ≡ length (filter (λ z. is_direct (type_at w.table z.of)) (take i (root_list w))) + one_if (is_direct (type_at w.table r.of)) =
+        ≡ length (filter (λ z. is_direct (type_at w.table z.of)) (take i (root_list w))) + one_if (is_direct (type_at w.table r.of)) =
         count_more (λ z. is_direct (type_at w.table z.of)) (root_list w) i r there in
         let f : one_if (is_direct (type_at w.table r.of)) ≡ 0 = ap (λ t. one_if t) plain in
         let g : direct ≡ length (filter (λ z. is_direct (type_at w.table z.of)) (take i (root_list w))) = ag.direct_are in
@@ -201,9 +197,12 @@ module _ (w : Setting) (side : IsLegalSide w) (order : Order) (fetched : List �
                 (subst (λ j. IsKeptOf is.seen (home.Root j) is.v k.own) (zero_plus i) own)
                 (kept.cell ∙ ap (named_by k.own.first) is.pending ∙ cell_named w.table h r.of is.seen k.own.max_at is.v k.own.first wholly.made own);
             read = λ c p. (
-                let (y, e, z) = ag.keeps.read c p in
-                (y, e, subst (λ u. IsKeptOf is.seen (cell_home c) u y) (sym (cell_stays c))
-                (cell_then w order fetched more noted noted' direct direct b s seen [] ag.keeps h unread_root r.of s.names x is c p (cell_at (graph_of s.roots s.names) c) y z)));
+                let (y, e, z) = ag.keeps.read c p in (
+                  y,
+                  e,
+                  subst (λ u. IsKeptOf is.seen (cell_home c) u y) (sym (cell_stays c))
+                      (cell_then w order fetched more noted noted' direct direct b s seen [] ag.keeps h unread_root r.of s.names x is c p (cell_at (graph_of s.roots s.names) c) y z),
+                ));
             not_read = ag.keeps.not_read;
             graph = graph_then g a;
           };

@@ -3,16 +3,15 @@ use Rattle.std.proofs.Common.{◌≡◌, ℕ, ◌+◌, map, List, ◌++◌, leng
 use Rattle.std.specs.List.{AllByRecursion}
 use Rattle.nd_base.specs.declared.octets.Order.{Order}
 use Rattle.nd_types.specs.declared.types.Field.{Field}
-use Rattle.nd_types.specs.declared.types.AttrVar.{AttrVar}
 use Rattle.nd_types.specs.Table.{Table}
 use Rattle.nd_value.specs.declared.item.Home.{Home}
 use Rattle.nd_value.specs.declared.item.Item.{Item}
 use Rattle.nd_value.specs.Agreement.{Agreement, member_agreements}
-use Rattle.nd_value.specs.Tree.{Tree, Trees, node, is_pointer, node_count, joined, more}
+use Rattle.nd_value.specs.Tree.{Tree, node, is_pointer, node_count}
 use Rattle.nd_value.proofs.Apart.{all_append}
 use Rattle.nd_grammar.specs.Entry.{Entry}
 use Rattle.nd_grammar.specs.InPlace.{child_tests}
-use Rattle.nd_grammar.specs.Reader.{Progress, Read, tree_nodes}
+use Rattle.nd_grammar.specs.Reader.{Read, tree_nodes}
 use Rattle.ndr_code.specs.declared.instr.Instr.{Instr}
 use Rattle.ndr_reading.specs.Around.{Around, going, finish, nodes_around}
 use Rattle.ndr_reading.specs.Points.{Point, hoisting, counting, called, due, opened, offset_read, text_offset, text_counted, tagged, between, checking, has, read_at}

@@ -1,6 +1,5 @@
 -- The beginning of a stream.
-use Rattle.std.proofs.Common.{◌≡◌, ◌<◌, ◌≤◌, ℕ, ◌+◌, zero, suc, List, [], ◌∷◌, ◌++◌, length, Option, Some, None, refl, ap, sym, ◌∙◌, subst, arith}
-use Rattle.std.specs.List.{AllByRecursion}
+use Rattle.std.proofs.Common.{◌≡◌, ℕ, zero, suc, List, [], ◌∷◌, ◌++◌, Some, None, refl, ap, sym, ◌∙◌, subst, arith}
 use Rattle.nd_base.specs.declared.octets.Order.{Order}
 use Rattle.nd_types.specs.declared.types.Attr.{Attr}
 use Rattle.nd_types.specs.declared.types.Attr.TheVariants as attr
@@ -9,22 +8,18 @@ use Rattle.nd_value.specs.declared.item.Home.{Home}
 use Rattle.nd_value.specs.Tree.{Referent}
 use Rattle.nd_value.specs.Setting.{Setting, root_list, unread}
 use Rattle.nd_value.specs.Deferral.{before_pipes}
-use Rattle.nd_grammar.specs.declared.reason.Reason.TheVariants as reason
 use Rattle.nd_grammar.specs.LegalSide.{IsLegalSide}
-use Rattle.nd_grammar.specs.Reader.{Names}
-use Rattle.nd_grammar.specs.StreamReader.{read_start, read_stream}
+use Rattle.nd_grammar.specs.StreamReader.{read_start}
 use Rattle.nd_grammar.proofs.reader.ReaderCells.{no_names, no_roots}
 use Rattle.nd_grammar.proofs.reader.ReaderNames.{PointersOk, no_pointers_ok, cell_in}
 use Rattle.nd_grammar.proofs.reader.ReaderStates.{State as IsReading}
 use Rattle.ndr_refs.specs.declared.referents.Known.{Known}
-use Rattle.ndr_refs.specs.Known.{known}
 use Rattle.ndr_reading.specs.Around.{going}
-use Rattle.ndr_steps.specs.Good.{Told, IsKnownAs, place_at}
+use Rattle.ndr_steps.specs.Good.{Told, place_at}
 use Rattle.ndr_steps.specs.Steps.{place_of}
 use Rattle.ndr_verdict.proofs.CellsSeen.{none_seen}
-use Rattle.ndr_verdict.specs.Needed.{IsNeeded}
 use Rattle.ndr_worklist.proofs.Turns.{begins}
-use Rattle.ndr_stream.specs.Between.{Between, Begins, Agrees, AreKept, IsUnread, kept_at}
+use Rattle.ndr_stream.specs.Between.{Between, Begins, Agrees, AreKept, kept_at}
 
 nothing_found : (a : Attr) (j : ℕ) → None ≡ place_of a None (place_at [] j)
 nothing_found attr.Size j = refl

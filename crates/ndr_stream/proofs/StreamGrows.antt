@@ -4,7 +4,6 @@ use Rattle.std.specs.Prelude.{eqb, replicate}
 use Rattle.std.specs.List.{slice_get}
 use Rattle.std.proofs.lemmas.List.{append-nil}
 use Rattle.nd_base.specs.declared.octets.Order.{Order}
-use Rattle.nd_types.specs.declared.types.Class.{Class}
 use Rattle.nd_types.specs.declared.types.Class.TheVariants.{Ref, Unique, Full}
 use Rattle.nd_types.specs.declared.types.TypeDef.{TypeDef}
 use Rattle.nd_types.specs.declared.types.TypeDef.TheVariants as def
@@ -18,15 +17,14 @@ use Rattle.nd_value.specs.Setting.{Setting, root_list, unread, cell_at, cell_hom
 use Rattle.nd_value.specs.Tree.{Tree, none, joined, node_count}
 use Rattle.nd_value.proofs.Apart.{all_append}
 use Rattle.nd_grammar.specs.declared.reason.Reason.{Reason}
-use Rattle.nd_grammar.specs.Entry.{Kind, Entry, EntryAt, Align, Chunk}
+use Rattle.nd_grammar.specs.Entry.{Entry, Align, Chunk}
 use Rattle.nd_grammar.specs.InPlace.{tests}
 use Rattle.nd_grammar.specs.LegalSide.{IsLegalSide}
 use Rattle.nd_grammar.specs.Refusal.{refusal}
 use Rattle.nd_grammar.specs.Reader.{Progress, Names, Read, ReadAll, is_stopped, here, advanced, pass, pass_all, taken, number_in, fresh, with_cell, read_list, read_in_place, read_whole}
 use Rattle.nd_grammar.specs.Stream.{root_tests}
-use Rattle.nd_grammar.specs.StreamReader.{Reading, ReadPipe, ReadPipes, graph_of, stood, read_direct, read_placed, read_root, read_referent, read_pending, read_first, read_next, read_due, read_start, read_chunks, read_pipe, read_pipes, read_stream}
+use Rattle.nd_grammar.specs.StreamReader.{Reading, ReadPipe, ReadPipes, graph_of, stood, read_root, read_referent, read_pending, read_next, read_due, read_chunks, read_pipe, read_pipes, read_stream}
 use Rattle.nd_grammar.proofs.reader.ReaderStream as stream
-use Rattle.ndr_reading.proofs.Worklist.{due_over}
 use Rattle.ndr_worklist.specs.Reached.{head, Comes, Reached}
 use Rattle.ndr_stream.specs.Added.{Added, Goes}
 use Rattle.ndr_stream.proofs.Growing.{whole_adds, in_place_adds, list_adds}

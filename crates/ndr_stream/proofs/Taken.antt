@@ -1,5 +1,5 @@
 -- What is kept without the next of the pending referents.
-use Rattle.std.proofs.Common.{◌≡◌, ℕ, List, ◌∷◌, ap}
+use Rattle.std.proofs.Common.{ℕ, List, ◌∷◌, ap}
 use Rattle.nd_base.specs.declared.octets.Order.{Order}
 use Rattle.nd_value.specs.declared.item.Item.{Item}
 use Rattle.nd_value.specs.Deferral.{Pending}

@@ -1,20 +1,19 @@
 -- The agreements of a home that was read: what the reader finds of them is what is found in what is kept.
-use Rattle.std.proofs.Common.{◌≡◌, ◌≤◌, ℕ, ◌+◌, zero, suc, ℤ, Bool, true, false, List, [], ◌∷◌, ◌++◌, length, Option, Some, None, refl, ap, sym, ◌∙◌, inl, inr, ◌⊎◌, subst, append_assoc, length-append, arith, map}
+use Rattle.std.proofs.Common.{◌≡◌, ℕ, ◌+◌, ℤ, Bool, true, false, List, [], ◌∷◌, ◌++◌, length, Option, Some, None, refl, ap, sym, ◌∙◌, inl, inr, subst, append_assoc, length-append, arith}
 use Rattle.std.specs.Prelude.{cond, if◌then◌else◌, option_map}
-use Rattle.std.specs.List.{AllByRecursion, slice_get}
+use Rattle.std.specs.List.{slice_get}
 use Rattle.std.specs.Ordering.{int_eq}
 use Rattle.std.proofs.lemmas.List.{append-nil}
 use Rattle.std.proofs.lemmas.Option.{same_Some}
 use Rattle.nd_base.specs.declared.octets.Order.{Order}
 use Rattle.nd_types.specs.Table.{Table}
-use Rattle.nd_types.specs.declared.types.Attr.{Attr}
 use Rattle.nd_value.specs.declared.item.Home.{Home}
 use Rattle.nd_value.specs.declared.item.Home.TheVariants as home
 use Rattle.nd_value.specs.declared.item.Item.{Item}
 use Rattle.nd_value.specs.Agreement.{Agreement, found_in}
 use Rattle.nd_value.specs.Setting.{Setting, cell_home, cell_at}
 use Rattle.nd_value.specs.Tree.{Tree, node, more, none, Flat, flat, count}
-use Rattle.nd_value.specs.Deferral.{Pending, IsPlaced}
+use Rattle.nd_value.specs.Deferral.{Pending}
 use Rattle.nd_grammar.specs.declared.reason.Reason.{Reason}
 use Rattle.nd_grammar.specs.declared.reason.Reason.TheVariants as reason
 use Rattle.nd_grammar.specs.Entry.{Entry, EntryAt, Test}
@@ -29,11 +28,10 @@ use Rattle.ndr_reading.proofs.ChildPlaces.{same_found}
 use Rattle.ndr_reading.proofs.Continuing.{refused, all_stay}
 use Rattle.ndr_reading.proofs.FromPoint.{test_passed}
 use Rattle.ndr_steps.specs.Good.{Told}
-use Rattle.ndr_steps.specs.Good.{Kept as IsKept}
 use Rattle.ndr_steps.specs.Steps.{Place, first_found, first_of, place_of, place_in}
 use Rattle.ndr_steps.proofs.MemberChecks.{SameFound, found_is}
 use Rattle.ndr_steps.proofs.Passing.{Lies, judged, silent, told_passed}
-use Rattle.ndr_stream.specs.Between.{Between, Keeps, IsUnread, IsKeptOf, AreKept}
+use Rattle.ndr_stream.specs.Between.{Between, Keeps, IsKeptOf}
 use Rattle.ndr_stream.specs.Tests.{disagreement, AllAgree, all_at}
 use Rattle.ndr_stream.specs.declared.kept.Kept.{Kept}
 use Rattle.ndr_stream.proofs.Others.{AreSilent, kept_later, roots_later}

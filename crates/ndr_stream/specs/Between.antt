@@ -3,7 +3,7 @@
 -- read, `b` is what is kept, `s` the state of the reader, `seen` are
 -- the entries that it passed, `ps` the pointers whose referents are pending, `n` is how many roots that are no pipes are still to be read, `h` is a home, `c` a
 -- cell's number.
-use Rattle.std.specs.Prelude.{◌≡◌, ◌≤◌, ℕ, ◌+◌, suc, zero, List, [], ◌∷◌, ◌++◌, length, map, filter, take, Option, Some, None}
+use Rattle.std.specs.Prelude.{◌≡◌, ◌≤◌, ℕ, suc, zero, List, [], ◌∷◌, ◌++◌, length, map, filter, take, Option, Some, None}
 use Rattle.std.specs.List.{slice_get}
 use Rattle.nd_base.specs.declared.octets.Order.{Order}
 use Rattle.nd_types.specs.Number.{AreOctets}

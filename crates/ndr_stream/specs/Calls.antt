@@ -12,7 +12,7 @@ use Rattle.nd_grammar.specs.declared.reason.Reason.{Reason}
 use Rattle.nd_grammar.specs.declared.reason.Reason.TheVariants as reason
 use Rattle.nd_grammar.specs.Entry.{EntryAt}
 use Rattle.nd_grammar.specs.FewItems.{but_gaps}
-use Rattle.nd_grammar.specs.Reader.{Progress, Read}
+use Rattle.nd_grammar.specs.Reader.{Read}
 use Rattle.nd_grammar.specs.StreamReader.{read_stream}
 use Rattle.ndr_reading.specs.Around.{stopped}
 use Rattle.ndr_verdict.specs.Verdict.{DecodingSeen, HasNoted}

@@ -1,6 +1,6 @@
 -- What the agreements of parameters are tried with, in what is kept of roots and cells.
 -- `read` is what is kept of cells, `k` what is kept of a root.
-use Rattle.std.specs.Prelude.{◌≡◌, ℕ, ℤ, Bool, true, false, ◌+◌, if◌then◌else◌, List, [], ◌++◌, length, drop, replicate, Option, Some, None}
+use Rattle.std.specs.Prelude.{◌≡◌, ℕ, ℤ, Bool, true, false, if◌then◌else◌, List, [], ◌++◌, length, drop, replicate, Option, Some, None}
 use Rattle.nd_base.specs.declared.octets.Order.{Order}
 use Rattle.nd_value.specs.declared.item.Item.{Item}
 use Rattle.nd_value.specs.Seen.{cell_number}
