@@ -1,6 +1,6 @@
 use mir.Syntax.{w128}
 use mir.Val.{SFits}
-use Rattle.std.proofs.Common.{rules, ◌≡◌, ◌<◌, ◌^◌, ◌∙◌, arith}
+use Rattle.std.proofs.Common.{rules, ◌∙◌, arith}
 use Rattle.std.proofs.lemmas.Int.{to_z-of_z}
 use Rattle.ndr_state.proofs.Values.{value_keepable}
 use Rattle.ndr_state.proofs.octets.read_value.Goals as goal

@@ -1,0 +1,5 @@
+pub mod Staying
+pub mod PipeEntries
+pub mod Counts
+pub mod Elements
+pub mod PipesBegin
