@@ -36,21 +36,15 @@ take_twice zero xs = refl
 take_twice (suc n) [] = refl
 take_twice (suc n) (x ∷ xs) = ap (λ u. x ∷ u) (take_twice n xs)
 
-take_short : {X : Type 0} (n : ℕ) (xs : List X) → length xs ≤ n → take n xs ≡ xs
-take_short zero [] l = refl
-take_short zero (x ∷ xs) l = absurd (omega (arith, l))
-take_short (suc n) [] l = refl
-take_short (suc n) (x ∷ xs) l = ap (λ u. x ∷ u) (take_short n xs (omega (arith, l)))
-
 abbrev with_agreements : code.Owed → List Agreement → Owed
-with_agreements o as = record { class = o.class; to = o.to.0; run = o.run; cell = cell_number o.cell; agreements = as }
+with_agreements o ags = record { class = o.class; to = o.to.0; run = o.run; cell = cell_number o.cell; agreements = ags }
 
 -- agreements that are kept later change nothing
 owed_stays : (ws more : List Wanted) (o : code.Owed) → o.from + o.len ≤ length ws → owed_of (ws ++ more) o ≡ owed_of ws o
 owed_stays ws more o l =
     let k : o.from ≤ length ws = omega (arith, l) in
     let e = drop_length o.from ws k in
-    ap (λ as. with_agreements o (map agreement_of as)) (ap (take o.len) (drop_in o.from ws more k) ∙ take_in o.len (drop o.from ws) more (omega (arith, l, e)))
+    ap (λ ags. with_agreements o (map agreement_of ags)) (ap (take o.len) (drop_in o.from ws more k) ∙ take_in o.len (drop o.from ws) more (omega (arith, l, e)))
 
 all_stay : (ws more : List Wanted) (os : List code.Owed) → AllByRecursion (λ (o : code.Owed). o.from + o.len ≤ length ws) os → map (owed_of (ws ++ more)) os ≡ map (owed_of ws) os
 all_stay ws more [] a = refl
@@ -72,7 +66,7 @@ next_pending ws us os o next a l e =
     let more : List Wanted = take o.len (drop o.from us) in
     let its : owed_of (ws ++ more) next ≡ owed_of us o =
     ap (owed_of (ws ++ more)) e
-    ∙ ap (λ as. with_agreements o (map agreement_of as)) (ap (take o.len) (drop_all ws more) ∙ take_twice o.len (drop o.from us)) in
+    ∙ ap (λ ags. with_agreements o (map agreement_of ags)) (ap (take o.len) (drop_all ws more) ∙ take_twice o.len (drop o.from us)) in
     ap (map (owed_of (ws ++ more))) (reverse-append os (next ∷ []))
     ∙ ap₂ (λ u us'. u ∷ us') its (all_stay ws more (reverse os) (all_back (λ (p : code.Owed). p.from + p.len ≤ length ws) os a))
 
@@ -89,3 +83,26 @@ pub one_before : {X : Type 0} (xs : List X) (n : ℕ) (x : X) → slice_get xs n
 one_before [] n x e = cc
 one_before (y ∷ ys) zero x e = ap (λ u. u ∷ ys) (same_Some y x e)
 one_before (y ∷ ys) (suc n) x e = one_before ys n x e
+
+drop_none : {X : Type 0} (xs : List X) → drop (length xs) xs ≡ []
+drop_none [] = refl
+drop_none (x ∷ xs) = drop_none xs
+
+-- none of the pointers is pending yet
+pub deferred_start : (us : List Wanted) (fresh : List code.Owed) (r : List Owed) → r ≡ map (owed_of us) (drop (length fresh - 0) fresh) ++ r
+deferred_start us fresh r =
+    let z : length fresh - 0 ≡ length fresh = omega arith in
+    sym (ap (λ n. map (owed_of us) (drop n fresh) ++ r) z ∙ ap (λ xs. map (owed_of us) xs ++ r) (drop_none fresh))
+
+-- one more is
+pub deferred_turn : (us : List Wanted) (fresh : List code.Owed) (p q r : List Owed) (at : ℕ) (o : code.Owed) → at < length fresh → slice_get fresh (length fresh - 1 - at) ≡ Some o
+    → p ≡ map (owed_of us) (drop (length fresh - at) fresh) ++ r → q ≡ owed_of us o ∷ p → q ≡ map (owed_of us) (drop (length fresh - (at + 1)) fresh) ++ r
+deferred_turn us fresh p q r at o l there e f =
+    let n : length fresh - (at + 1) ≡ length fresh - 1 - at = omega (arith, l) in
+    let m : suc (length fresh - 1 - at) ≡ length fresh - at = omega (arith, l) in
+    f ∙ ap (λ u. owed_of us o ∷ u) e
+    ∙ sym (ap (λ k. map (owed_of us) (drop k fresh) ++ r) n ∙ ap (λ xs. map (owed_of us) xs ++ r) (one_before fresh (length fresh - 1 - at) o there) ∙ ap (λ k. owed_of us o ∷ (map (owed_of us) (drop k fresh) ++ r)) m)
+
+-- all are
+pub deferred_end : (us : List Wanted) (fresh : List code.Owed) (p r : List Owed) (at : ℕ) → length fresh ≤ at → p ≡ map (owed_of us) (drop (length fresh - at) fresh) ++ r → p ≡ map (owed_of us) fresh ++ r
+deferred_end us fresh p r at l e = let z : length fresh - at ≡ 0 = omega (arith, l) in e ∙ ap (λ n. map (owed_of us) (drop n fresh) ++ r) z
