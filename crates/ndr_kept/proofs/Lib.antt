@@ -3,3 +3,4 @@ pub mod Deferred
 pub mod Opened
 pub mod KeptCells
 pub mod Ended
+pub mod Begun

@@ -22,7 +22,7 @@ pub closed_types : (b : Building) → map (λ c. c.of) (closed b).cells ≡ map 
 closed_types b = put_types b.home (tree_in b.nodes) b.graph
 
 pub closed_length : (b : Building) → length (closed b).cells ≡ length b.graph.cells
-closed_length b = sym (length-map (λ (c : Referent). c.of) (closed b).cells) ∙ ap length (closed_types b) ∙ length-map (λ (c : Referent). c.of) b.graph.cells
+closed_length b = sym (length-map (closed b).cells (λ c. c.of)) ∙ ap length (closed_types b) ∙ length-map b.graph.cells (λ c. c.of)
 
 -- a root that is a reference pointer, and its cell
 pub reference_opened : (b : Building) (c to : ℕ)

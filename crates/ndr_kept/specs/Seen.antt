@@ -4,7 +4,7 @@ use Rattle.std.specs.Prelude.{◌≡◌, ◌≤◌, ℕ, ◌+◌, length, List, 
 use Rattle.std.specs.List.{AllByRecursion}
 use Rattle.nd_value.specs.Seen.{cell_number}
 use Rattle.nd_value.specs.declared.value.CellId.{CellId}
-use Rattle.nd_flat.specs.Building.{CanClose, closed}
+use Rattle.nd_flat.specs.Building.{closed}
 use Rattle.ndr_steps.specs.declared.first.First.{First}
 use Rattle.ndr_steps.specs.declared.first.First.TheVariants as first
 use Rattle.ndr_steps.specs.Steps.{Owed}
@@ -35,11 +35,6 @@ between_of x = record {
   read = x.cells.items;
   graph = closed x.machine.builder;
 }
-
--- no home is being read: the last one is whole, and its pointers are pending
-pub record IsSettled (x : Stream) : Type 0 where
-  pub whole : CanClose x.machine.builder
-  pub none_fresh : x.machine.fresh.items ≡ []
 
 -- the same is kept as before, but in the machine
 pub record KeepsAll (x y : Stream) : Type 0 where

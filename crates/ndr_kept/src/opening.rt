@@ -7,7 +7,7 @@ ghost use Rattle.ndr_state.specs.Seen.{state_of};
 ghost use Rattle.ndr_state.specs.declared.fault.DecodeFault.TheVariants as fault;
 ghost use Rattle.ndr_stream.specs.Between.{Begins, Opens};
 ghost use Rattle.ndr_kept.specs.Ends.{with_reference};
-ghost use Rattle.ndr_kept.specs.Seen.{between_of, IsSettled, KeepsAll};
+ghost use Rattle.ndr_kept.specs.Seen.{between_of, KeepsAll};
 
 use crate::Stream;
 use nd_base::{Ledger, Steps};
@@ -24,10 +24,12 @@ impl Stream {
         requires empty { builder.graph ≡ record { roots = []; cells = [] } }
         requires no_home { builder.home ≡ None }
         ensures begins { Begins (between_of result) }
-        ensures settled { IsSettled result }
+        ensures whole { CanClose result.machine.builder }
     {
+        let mut machine = Machine::new(alloc, builder);
+        machine.at = 0;
         Stream {
-            machine: Machine::new(alloc, builder),
+            machine,
             wanted: Vec::new(alloc),
             todo: Vec::new(alloc),
             roots: Vec::new(alloc),
@@ -37,7 +39,7 @@ impl Stream {
 
     /// Opens the next root, whose value begins at a run. It takes memory, and out of memory is the only refusal.
     pub fn open_root(&mut self, run: u32) -> Result<(), DecodeFault>
-        requires settled { IsSettled self.old }
+        requires whole { CanClose self.old.machine.builder }
         requires few { length self.old.roots.items < 2 ^ 32 }
         ensures opens { OnOk result (Opens run (between_of self.old) (between_of self.old).cells (state_of self.new.machine)) }
         ensures builder { OnOk result (self.new.machine.builder ≡ opened (home.Root (length self.old.machine.builder.graph.roots)) (with_root (closed self.old.machine.builder)) self.old.machine.builder) }
@@ -53,7 +55,7 @@ impl Stream {
 
     /// Opens a cell that has its number, whose value begins at a run. Takes no memory.
     pub fn open_cell(&mut self, cell: CellId, run: u32)
-        requires settled { IsSettled self.old }
+        requires whole { CanClose self.old.machine.builder }
         requires there { (0 < cell.0) × (cell.0 ≤ length self.old.machine.builder.graph.cells) }
         ensures opens { Opens run (between_of self.old) (between_of self.old).cells (state_of self.new.machine) }
         ensures builder { self.new.machine.builder ≡ opened (cell_home cell.0) (closed self.old.machine.builder) self.old.machine.builder }
@@ -72,7 +74,7 @@ impl Stream {
         run: u32,
         steps: &mut Steps<L>,
     ) -> Result<CellId, DecodeFault>
-        requires settled { IsSettled self.old }
+        requires whole { CanClose self.old.machine.builder }
         requires few_cells { length self.old.machine.builder.graph.cells < 2 ^ 32 - 1 }
         ensures cell { IfOk result (λ c. c.0 ≡ length self.old.machine.builder.graph.cells + 1) }
         ensures opens { OnOk result (Opens run (between_of self.old) ((between_of self.old).cells ++ to.0 ∷ []) (state_of self.new.machine)) }
