@@ -1,10 +1,7 @@
 -- What is kept after a home, field by field.
-use Rattle.std.proofs.Common.{◌≡◌, ℕ, List, [], ◌∷◌, ◌++◌, Option, Some, refl, ap, sym, ◌∙◌, map}
-use Rattle.nd_value.specs.declared.value.CellId.{CellId}
-use Rattle.nd_value.specs.declared.value.Graph.{Graph}
+use Rattle.std.proofs.Common.{◌≡◌, ℕ, List, [], ◌∷◌, ◌++◌, Option, ap, ◌∙◌, map}
 use Rattle.nd_flat.specs.Building.{Building, closed}
 use Rattle.ndr_refs.specs.declared.referents.Known.{Known}
-use Rattle.ndr_state.specs.declared.machine.Machine.{Machine}
 use Rattle.ndr_state.specs.Seen.{state_of}
 use Rattle.ndr_steps.specs.Steps.{Owed}
 use Rattle.ndr_stream.specs.declared.kept.Kept.{Kept}

@@ -1,12 +1,12 @@
 -- A graph whose open home is closed has the cells that it had.
-use Rattle.std.proofs.Common.{◌≡◌, ℕ, List, [], ◌∷◌, ◌++◌, length, Option, Some, None, refl, ap, sym, ◌∙◌, map}
+use Rattle.std.proofs.Common.{◌≡◌, ℕ, [], ◌∷◌, ◌++◌, length, Option, Some, None, refl, ap, sym, ◌∙◌, map}
 use Rattle.std.proofs.lemmas.List.{length-map}
 use Rattle.nd_value.specs.declared.item.Home.{Home}
 use Rattle.nd_value.specs.declared.item.Home.TheVariants as home
 use Rattle.nd_value.specs.declared.value.Graph.{Graph}
 use Rattle.nd_value.specs.Setting.{unread, cell_home}
 use Rattle.nd_value.specs.Tree as tree
-use Rattle.nd_value.specs.Tree.{Tree, Referent, node, none, more, flat}
+use Rattle.nd_value.specs.Tree.{Tree, node, none, more, flat}
 use Rattle.nd_flat.specs.Building.{Building, closed, opened, put, with_cell, with_graph, with_node, with_nodes, with_root}
 use Rattle.nd_flat.proofs.Homes.{root_closed}
 use Rattle.ndr_kept.specs.Ends.{with_reference}

@@ -1,6 +1,6 @@
 -- What contracts see of a stream that is being decoded.
 -- `x` is a stream, `m` its machine.
-use Rattle.std.specs.Prelude.{◌≡◌, ◌≤◌, ℕ, ◌+◌, length, List, [], ◌∷◌, ◌++◌, map, reverse, Option, Some, None}
+use Rattle.std.specs.Prelude.{◌≡◌, ◌≤◌, ℕ, ◌+◌, length, List, [], ◌∷◌, ◌++◌, map, reverse, Some, None}
 use Rattle.std.specs.List.{AllByRecursion}
 use Rattle.nd_value.specs.Seen.{cell_number}
 use Rattle.nd_value.specs.declared.value.CellId.{CellId}

@@ -1,5 +1,5 @@
 // Where homes begin.
-ghost use Rattle.std.specs.Prelude.{◌≡◌, ◌≤◌, ◌<◌, ◌+◌, ◌-◌, ◌^◌, ◌++◌, ◌∷◌, [], Some, None, length, map, OnOk, OnErr, IfOk, IfErr};
+ghost use Rattle.std.specs.Prelude.{◌≡◌, ◌≤◌, ◌<◌, ◌+◌, ◌-◌, ◌^◌, ◌++◌, ◌∷◌, [], Some, None, length, OnOk, IfOk, IfErr};
 ghost use Rattle.nd_flat.specs.Building.{CanClose, closed, opened, with_root};
 ghost use Rattle.nd_value.specs.Setting.{cell_home};
 ghost use Rattle.nd_value.specs.declared.item.Home.TheVariants as home;
@@ -117,7 +117,11 @@ fn fill(machine: &mut Machine, cell: CellId)
 }
 
 // Opens the next root, which is a reference pointer, and a cell of its own for the referent.
-fn add_reference<L: Ledger>(machine: &mut Machine, to: TypeId, steps: &mut Steps<L>) -> Result<CellId, DecodeFault>
+fn add_reference<L: Ledger>(
+    machine: &mut Machine,
+    to: TypeId,
+    steps: &mut Steps<L>,
+) -> Result<CellId, DecodeFault>
     requires whole { CanClose machine.old.builder }
     requires few_cells { length machine.old.builder.graph.cells < 2 ^ 32 - 1 }
     ensures cell { IfOk result (λ c. c.0 ≡ length machine.old.builder.graph.cells + 1) }

@@ -1,6 +1,5 @@
 // Pending referents.
 ghost use Rattle.std.specs.Prelude.{◌≡◌, ◌≤◌, ◌+◌, ◌++◌, ◌∷◌, length, OnOk, IfErr};
-ghost use Rattle.std.specs.List.{AllByRecursion};
 ghost use Rattle.ndr_state.specs.Seen.{owed_of, state_of};
 ghost use Rattle.ndr_state.specs.declared.fault.DecodeFault.TheVariants as fault;
 ghost use Rattle.ndr_kept.specs.Seen.{AreSpans, IsCleared, KeepsHomes, pending_in};
@@ -32,7 +31,11 @@ fn forget(machine: &mut Machine)
 }
 
 // The pointers of a home become pending, the last first.
-fn defer_all(wanted: &mut Vec<Wanted>, todo: &mut Vec<Owed>, machine: &Machine) -> Result<(), DecodeFault>
+fn defer_all(
+    wanted: &mut Vec<Wanted>,
+    todo: &mut Vec<Owed>,
+    machine: &Machine,
+) -> Result<(), DecodeFault>
     requires spans { AreSpans wanted.old.items todo.old.items }
     ensures pending { OnOk result (pending_in wanted.new.items todo.new.items ≡ (state_of machine.now).fresh ++ pending_in wanted.old.items todo.old.items) }
     ensures still { AreSpans wanted.new.items todo.new.items }
@@ -47,7 +50,12 @@ fn defer_all(wanted: &mut Vec<Wanted>, todo: &mut Vec<Owed>, machine: &Machine) 
 }
 
 // One of the pointers, whose agreements are among these, becomes the next of the pending referents.
-fn defer(wanted: &mut Vec<Wanted>, todo: &mut Vec<Owed>, from: &[Wanted], owed: Owed) -> Result<(), DecodeFault>
+fn defer(
+    wanted: &mut Vec<Wanted>,
+    todo: &mut Vec<Owed>,
+    from: &[Wanted],
+    owed: Owed,
+) -> Result<(), DecodeFault>
     requires spans { AreSpans wanted.old.items todo.old.items }
     requires within { owed.from + owed.len ≤ length from.now }
     ensures pending { OnOk result (pending_in wanted.new.items todo.new.items ≡ owed_of from.now owed ∷ pending_in wanted.old.items todo.old.items) }

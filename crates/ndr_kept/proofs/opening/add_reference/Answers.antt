@@ -1,4 +1,4 @@
-use Rattle.std.proofs.Common.{◌<◌, ◌+◌, ◌∙◌, ap, arith}
+use Rattle.std.proofs.Common.{◌+◌, ◌∙◌, ap, arith}
 use Rattle.ndr_kept.proofs.Opened.{opened_length, reference_built}
 use Rattle.ndr_kept.proofs.opening.add_reference.Goals as goal
 

@@ -1,4 +1,4 @@
-use Rattle.std.proofs.Common.{◌≡◌, ◌≤◌, ◌-◌, ◌++◌, length, map, drop}
+use Rattle.std.proofs.Common.{◌≡◌, ◌-◌, ◌++◌, length, map, drop}
 use Rattle.ndr_state.specs.Seen.{owed_of}
 use Rattle.ndr_kept.specs.Seen.{AreSpans, pending_in}
 use Rattle.ndr_kept.proofs.pending.defer_all.Given as goal

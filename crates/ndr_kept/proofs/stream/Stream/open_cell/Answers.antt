@@ -11,5 +11,5 @@ pub returns-clause-opens : goal.returns-clause-opens
 returns-clause-opens c =
     let b = c.args.self.now.machine.builder in
     opens_by c.args.run (between_of c.args.self.now) _ (state_of c.fill.new.machine) _ c.start.ensures.is c.fill.ensures.at
-        (opened_types b c.fill.new.machine.builder (cell_home c.args.cell.0) (closed b) c.fill.ensures.builder ∙ closed_types b)
-        c.fill.ensures.referents
+    (opened_types b c.fill.new.machine.builder (cell_home c.args.cell.0) (closed b) c.fill.ensures.builder ∙ closed_types b)
+    c.fill.ensures.referents

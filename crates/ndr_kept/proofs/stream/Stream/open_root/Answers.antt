@@ -11,5 +11,5 @@ pub returns-clause-opens : goal.returns-clause-opens
 returns-clause-opens c =
     let b = c.args.self.now.machine.builder in
     opens_by c.args.run (between_of c.args.self.now) _ (state_of c.add_root.new.machine) _ c.start.ensures.is c.in_ok-add_root.ensures.at
-        (opened_types b c.add_root.new.machine.builder (home.Root (length b.graph.roots)) (with_root (closed b)) c.in_ok-add_root.ensures.builder ∙ closed_types b)
-        c.in_ok-add_root.ensures.referents
+    (opened_types b c.add_root.new.machine.builder (home.Root (length b.graph.roots)) (with_root (closed b)) c.in_ok-add_root.ensures.builder ∙ closed_types b)
+    c.in_ok-add_root.ensures.referents
