@@ -1,5 +1,6 @@
 -- The elements of a chunk: at their beginning a state means them, and at their end the pipe has so many more.
-use Rattle.std.proofs.Common.{◌≡◌, ◌≤◌, ◌<◌, ℕ, ◌+◌, ◌*◌, zero, suc, List, [], ◌∷◌, ◌++◌, length, Option, Some, None, refl, ap, ap₂, sym, ◌∙◌, subst, arith, append_assoc, length-append, map, replicate}
+use Rattle.std.proofs.Common.{◌≡◌, ◌≤◌, ◌<◌, ◌^◌, ℕ, ◌+◌, ◌-◌, ◌*◌, zero, suc, Bool, true, false, ◌&&◌, List, [], ◌∷◌, ◌++◌, length, Option, Some, None, refl, ap, ap₂, sym, ◌∙◌, subst, arith, append_assoc, length-append, map, replicate}
+use Rattle.std.specs.Prelude.{not}
 use Rattle.std.specs.List.{AllByRecursion, slice_get}
 use Rattle.std.proofs.lemmas.Option.{same_Some}
 use Rattle.nd_base.specs.declared.octets.Order.{Order}
@@ -9,12 +10,13 @@ use Rattle.nd_types.specs.declared.types.TypeDef.{TypeDef}
 use Rattle.nd_types.specs.declared.types.TypeDef.TheVariants as def
 use Rattle.nd_types.specs.Number.{AreOctets}
 use Rattle.nd_types.specs.Roots.{Root}
-use Rattle.nd_types.specs.Table.{type_at}
+use Rattle.nd_types.specs.Layout.{hoists}
+use Rattle.nd_types.specs.Table.{Table, type_at}
 use Rattle.nd_value.specs.declared.item.Home.{Home}
 use Rattle.nd_value.specs.declared.item.Home.TheVariants as home
 use Rattle.nd_value.specs.declared.item.Item.{Item}
 use Rattle.nd_value.specs.Nodes.{child_types}
-use Rattle.nd_value.specs.Setting.{Setting}
+use Rattle.nd_value.specs.Setting.{Setting, unread}
 use Rattle.nd_value.specs.Tree as tree
 use Rattle.nd_value.specs.Tree.{Tree, Trees, node, none, more, Flat, flat, count, joined, node_count}
 use Rattle.nd_value.proofs.Apart.{all_left}
@@ -23,7 +25,7 @@ use Rattle.nd_grammar.specs.declared.reason.Reason.TheVariants as reason
 use Rattle.nd_grammar.specs.Entry.{EntryAt}
 use Rattle.nd_grammar.specs.LegalSide.{IsLegalSide}
 use Rattle.nd_grammar.specs.Refusal.{tested_at}
-use Rattle.nd_grammar.specs.Reader.{Names, Progress, Read, ReadAll, read_list, read_in_place}
+use Rattle.nd_grammar.specs.Reader.{Names, Progress, Read, ReadAll, is_stopped, read_if, read_list, read_in_place, tree_nodes}
 use Rattle.nd_grammar.specs.StreamReader.{ReadPipe, ReadPipes, graph_of, read_chunks, read_pipes, read_stream}
 use Rattle.nd_grammar.proofs.LegalSides.{laid_out}
 use Rattle.nd_grammar.proofs.next.Mapped.{no_pointers}
@@ -40,19 +42,16 @@ use Rattle.ndr_steps.specs.Good.{Good, Kept as IsKept, Told, Whole, owed}
 use Rattle.ndr_steps.specs.Spots.{IsFine, IsPlanned}
 use Rattle.ndr_steps.specs.Steps.{State, first_of, place_of, place_in, no_place}
 use Rattle.ndr_steps.proofs.ChunkBegins.{begins_chunk}
-use Rattle.ndr_runs.proofs.ChunkSafe.{chunk_made}
+use Rattle.ndr_runs.proofs.ChunkSafe.{chunk_made, many_alike, more_alike}
 use Rattle.ndr_stream.specs.Added.{Added, Goes}
 use Rattle.ndr_stream.specs.Between.{AreNeeded}
 use Rattle.ndr_stream.proofs.Growing.{list_adds, in_place_adds}
 use Rattle.ndr_stream.proofs.Needing.{NeededAfter}
+use Rattle.ndr_stream.proofs.StreamGrows.{goes_by, goes_twice}
 use Rattle.ndr_pipes.specs.Reading.{Reads, elements_then}
 use Rattle.ndr_pipes.specs.Pipes.{Position, Stands, InPipe, OpensChunk, at_chunk, at_elements, kids_of, read_to}
 use Rattle.ndr_pipes.proofs.PipeEntries.{both_octets, stands_on}
 use Rattle.ndr_pipes.proofs.Staying.{chunks_go, chunks_stay, elements_go, reads_go, reads_stop}
-
-many_alike : (P : ℕ → Type 0) (t k : ℕ) → P t → AllByRecursion P (replicate k t)
-many_alike P t zero a = tt
-many_alike P t (suc k) a = (a, many_alike P t k a)
 
 joined_nodes : (xs ys : Trees) → node_count (joined xs ys) ≡ node_count xs + node_count ys
 joined_nodes none ys = omega arith
@@ -62,8 +61,48 @@ joined_assoc : (xs ys zs : Trees) → joined xs (joined ys zs) ≡ joined (joine
 joined_assoc none ys zs = refl
 joined_assoc (more x xs) ys zs = ap (more x) (joined_assoc xs ys zs)
 
-module _ (w : Setting) (side : IsLegalSide w) (order : Order) (fetched : List ℕ) (noted : List Item) (direct : ℕ) (first : Names) (i : ℕ) (rs : List Root) (roots : List Tree) (pipe : ℕ) (elem : TypeId) (done : Trees) (max_at : Option ℕ) (c : ℕ) (k : Position)
-    (there : type_at w.table pipe ≡ Some (def.Pipe elem)) (p : InPipe w order fetched noted direct first i rs roots elem done max_at 0 (at_elements (suc c) w order i elem done k) k) where
+few_trees : (ts : Trees) → count ts ≤ node_count ts
+few_trees none = omega arith
+few_trees (more (node l ks) ts) = let e : count ts ≤ node_count ts = few_trees ts in omega (arith, e)
+
+-- values one after the other, in two parts
+first_and_others : (t : Tree) (ts : Trees) → node_count (more t ts) ≡ tree_nodes t + node_count ts
+first_and_others (node l ks) ts = omega arith
+
+module _ (order : Order) (octets : List ℕ) (table : Table) (read : ℕ → ℕ → Progress → Names → Read) where
+  abbrev all_of : List ℕ → ℕ → Progress → Names → ReadAll
+  all_of types n p s = read_list table read types n p s
+
+  abbrev others_after : List ℕ → ℕ → ReadAll → ReadAll
+  others_after vs n r = all_of vs (n + node_count r.trees) r.progress r.names
+
+  list_parts : (us vs : List ℕ) (n : ℕ) (p : Progress) (s : Names) → (all_of (us ++ vs) n p s).progress ≡ (others_after vs n (all_of us n p s)).progress
+  list_parts [] vs n p s = let z : n ≡ n + 0 = omega arith in ap (λ a. (all_of vs a p s).progress) z
+  list_parts (u ∷ us) vs n p s =
+      let f : Read = read_if (is_stopped p.stop && not (hoists table u)) (read u n) p s in
+      let r : ReadAll = all_of us (n + tree_nodes f.tree) f.progress f.names in
+      let e : node_count (more f.tree r.trees) ≡ tree_nodes f.tree + node_count r.trees = first_and_others f.tree r.trees in
+      let z : (n + tree_nodes f.tree) + node_count r.trees ≡ n + node_count (more f.tree r.trees) = omega (arith, e) in
+      list_parts us vs (n + tree_nodes f.tree) f.progress f.names ∙ ap (λ a. (all_of vs a r.progress r.names).progress) z
+
+  module _ (at : ℕ) (seen : List EntryAt) (why : ℕ × Reason) (t : ℕ) (plain : hoists table t ≡ false) where
+    abbrev end : Progress
+    end = stopped at seen why
+
+    first_stays : (b : Bool) → b ≡ false → (n : ℕ) (s : Names) → read_if (not b) (read t n) end s ≡ record { tree = unread; progress = end; names = s }
+    first_stays true e n s = cc
+    first_stays false e n s = refl
+
+    alike_stay : (k n : ℕ) (s : Names) → (all_of (replicate k t) n end s).progress ≡ end
+    alike_stay zero n s = refl
+    alike_stay (suc k) n s =
+        ap (λ (f : Read). (all_of (replicate k t) (n + tree_nodes f.tree) f.progress f.names).progress) (first_stays (hoists table t) plain n s) ∙ alike_stay k (n + tree_nodes unread) s
+
+    pub alike_stop : (k n : ℕ) (p : Progress) (s : Names) → p ≡ end → (all_of (replicate k t) n p s).progress ≡ end
+    alike_stop k n p s e = ap (λ q. (all_of (replicate k t) n q s).progress) e ∙ alike_stay k n s
+
+module _ (w : Setting) (side : IsLegalSide w) (order : Order) (fetched : List ℕ) (noted : List Item) (direct : ℕ) (first : Names) (i : ℕ) (rs : List Root) (roots : List Tree) (pipe : ℕ) (elem : TypeId) (done : Trees) (max_at : Option ℕ) (c r m : ℕ) (k : Position) (parts : suc c + r ≡ m)
+    (there : type_at w.table pipe ≡ Some (def.Pipe elem)) (p : InPipe w order fetched noted direct first i rs roots elem done max_at 0 (at_elements m w order i elem done k) k) where
   abbrev h : Home
   h = home.Root i
 
@@ -73,8 +112,20 @@ module _ (w : Setting) (side : IsLegalSide w) (order : Order) (fetched : List �
   abbrev pub target : List ℕ → Read
   target octets = chunk_read order w.table (home.Root i) elem done (suc c) (going k.at k.seen) k.names octets
 
+  abbrev reader : List ℕ → ℕ → ℕ → Progress → Names → Read
+  reader z = read_in_place order z w.table h 32 0
+
+  -- the first elements of the chunk, and all of them
   abbrev kids : List ℕ → ReadAll
-  kids z = read_list w.table (read_in_place order z w.table h 32 0) (replicate (suc c) elem.0) n (going k.at k.seen) k.names
+  kids z = read_list w.table (reader z) (replicate (suc c) elem.0) n (going k.at k.seen) k.names
+
+  abbrev all_kids : List ℕ → ReadAll
+  all_kids z = read_list w.table (reader z) (replicate m elem.0) n (going k.at k.seen) k.names
+
+  others_then : (z : List ℕ) → (all_kids z).progress ≡ (read_list w.table (reader z) (replicate r elem.0) (n + node_count (kids z).trees) (kids z).progress (kids z).names).progress
+  others_then z =
+      ap (λ ts. (read_list w.table (reader z) ts n (going k.at k.seen) k.names).progress) (ap (λ a. replicate a elem.0) (sym parts) ∙ more_alike elem.0 (suc c) r)
+      ∙ list_parts order z w.table (reader z) (replicate (suc c) elem.0) (replicate r elem.0) n (going k.at k.seen) k.names
 
   -- ## Their beginning
 
@@ -112,28 +163,53 @@ module _ (w : Setting) (side : IsLegalSide w) (order : Order) (fetched : List �
           (subst (λ u. Told noted direct order fetched h k.seen k.names x.cells u max_at n []) (sym o.numbers)
           (subst (λ u. Told noted direct order fetched h k.seen k.names u k.numbers max_at n []) (sym o.cells) p.told)))
 
-  -- ## Where one of them is refused
+  -- ## Where one of the first of them is refused
 
   pub elements_refused : (later : List ℕ) → AreOctets later → (at : ℕ) (seen : List EntryAt) (why : ℕ × Reason) → (target (fetched ++ later)).progress ≡ stopped at seen why
       → (read_stream w order (fetched ++ later)).progress ≡ stopped at seen why
   elements_refused later a at seen why e =
-      let (m, few, r) = p.reads later a in
+      let (f, few, q) = p.reads later a in
       let z : List ℕ = fetched ++ later in
-      reads_stop w order z at seen why i rs roots done (at_elements (suc c) w order i elem done k z m) r
-      (chunks_stay w order z at seen why m h elem.0 (n + node_count (kids z).trees) (kids z).progress (kids z).names e)
+      let stop : (all_kids z).progress ≡ stopped at seen why =
+      others_then z
+      ∙ alike_stop order z w.table (reader z) at seen why elem.0 ((laid_out w side).hoisting.piped pipe elem there) r (n + node_count (kids z).trees) (kids z).progress (kids z).names e in
+      reads_stop w order z at seen why i rs roots done (at_elements m w order i elem done k z f) q
+      (chunks_stay w order z at seen why f h elem.0 (n + node_count (all_kids z).trees) (all_kids z).progress (all_kids z).names stop)
 
   -- reading goes on from what was read of them, and from their beginning
   pub elements_add : (later : List ℕ) → AreOctets later → Goes (target (fetched ++ later)).progress (read_stream w order (fetched ++ later)).progress
   elements_add later a =
-      let (m, few, r) = p.reads later a in
+      let (f, few, q) = p.reads later a in
       let z : List ℕ = fetched ++ later in
-      reads_go w order z i rs roots done (at_elements (suc c) w order i elem done k z m) r (kids z).progress (chunks_go w order z h elem.0 m (n + node_count (kids z).trees) (kids z).progress (kids z).names)
+      let others : Added h (kids z).progress (read_list w.table (reader z) (replicate r elem.0) (n + node_count (kids z).trees) (kids z).progress (kids z).names).progress =
+      list_adds order z w.table h (reader z) (in_place_adds order z w.table h 32 0) (replicate r elem.0) (n + node_count (kids z).trees) (kids z).progress (kids z).names in
+      let on : Goes (kids z).progress (all_kids z).progress = subst (Goes (kids z).progress) (sym (others_then z)) (goes_by h (kids z).progress _ others) in
+      let rest : ReadPipe = at_elements m w order i elem done k z f in
+      reads_go w order z i rs roots done rest q (kids z).progress
+      (goes_twice (kids z).progress (all_kids z).progress rest.progress on (chunks_go w order z h elem.0 f (n + node_count (all_kids z).trees) (all_kids z).progress (all_kids z).names))
 
   pub elements_come : (later : List ℕ) → AreOctets later → Goes (going k.at k.seen) (read_stream w order (fetched ++ later)).progress
   elements_come later a =
-      let (m, few, r) = p.reads later a in
+      let (f, few, q) = p.reads later a in
       let z : List ℕ = fetched ++ later in
-      reads_go w order z i rs roots done (at_elements (suc c) w order i elem done k z m) r (going k.at k.seen) (elements_go w order z h elem.0 m n (suc c) (going k.at k.seen) k.names)
+      reads_go w order z i rs roots done (at_elements m w order i elem done k z f) q (going k.at k.seen) (elements_go w order z h elem.0 f n m (going k.at k.seen) k.names)
+
+module _ (w : Setting) (side : IsLegalSide w) (order : Order) (fetched : List ℕ) (noted : List Item) (direct : ℕ) (first : Names) (i : ℕ) (rs : List Root) (roots : List Tree) (pipe : ℕ) (elem : TypeId) (done : Trees) (max_at : Option ℕ) (c : ℕ) (k : Position)
+    (there : type_at w.table pipe ≡ Some (def.Pipe elem)) (p : InPipe w order fetched noted direct first i rs roots elem done max_at 0 (at_elements (suc c) w order i elem done k) k) where
+  abbrev h : Home
+  h = home.Root i
+
+  abbrev n : ℕ
+  n = 1 + node_count done
+
+  abbrev target : List ℕ → Read
+  target octets = chunk_read order w.table (home.Root i) elem done (suc c) (going k.at k.seen) k.names octets
+
+  abbrev kids : List ℕ → ReadAll
+  kids z = read_list w.table (read_in_place order z w.table h 32 0) (replicate (suc c) elem.0) n (going k.at k.seen) k.names
+
+  none_left : suc c + 0 ≡ suc c
+  none_left = omega arith
 
   -- ## Their end
 
@@ -197,7 +273,7 @@ module _ (w : Setting) (side : IsLegalSide w) (order : Order) (fetched : List �
     needs_stream part last e =
         let (at, seen, stop) = needs part last e in
         let a : AreOctets part = all_left (λ b. b < 256) part (last ∷ []) (subst AreOctets e all) in
-        ap (λ (u : Progress). u.stop) (elements_refused part a at seen (length (fetched ++ part), reason.Truncated) stop)
+        ap (λ (u : Progress). u.stop) (elements_refused w side order fetched noted direct first i rs roots pipe elem done max_at c 0 (suc c) k none_left there p part a at seen (length (fetched ++ part), reason.Truncated) stop)
 
     -- what the reader has still to read
     abbrev Before : List ℕ → Type 0
@@ -267,3 +343,11 @@ module _ (w : Setting) (side : IsLegalSide w) (order : Order) (fetched : List �
       made = made_then fine;
       reads = λ later a. reads_then later (subst Before (sym (append_assoc fetched next later)) (p.reads (next ++ later) (both_octets next later all a)));
     }
+
+-- More nodes than a machine counts: then the value is not whole.
+pub not_whole : (v : Tree) (ks : Trees) (nodes : List Flat) → v ≡ node tree.Pipe ks → nodes ≡ flat (more v none) → length nodes + 4096 < 2 ^ 32 → count ks < 2 ^ 32 - 1
+not_whole v ks nodes e f few =
+    let a : length nodes ≡ length (flat (more v none)) = ap length f in
+    let b : length (flat (more v none)) ≡ node_count (more v none) = length_flat (more v none) in
+    let c : node_count (more v none) ≡ suc (node_count ks + 0) = ap (λ u. node_count (more u none)) e in
+    let d : count ks ≤ node_count ks = few_trees ks in omega (arith, a, b, c, d, few)
