@@ -4,20 +4,27 @@
 use Rattle.std.specs.Prelude.{◌≡◌, ◌≤◌, ℕ, List, [], ◌++◌, length, Result, Ok, Err}
 use Rattle.nd_base.specs.declared.octets.Order.{Order}
 use Rattle.nd_base.specs.Over.{SourceSeen, HasRisen}
+use Rattle.nd_types.specs.Number.{AreOctets}
+use Rattle.nd_types.specs.Table.{Table}
+use Rattle.nd_value.specs.declared.item.Home.{Home}
 use Rattle.nd_value.specs.declared.item.Item.{Item}
 use Rattle.nd_value.specs.Deferral.{Pending}
 use Rattle.nd_value.specs.Setting.{Setting}
 use Rattle.nd_grammar.specs.Entry.{EntryAt}
 use Rattle.nd_grammar.specs.LegalSide.{IsLegalSide}
+use Rattle.nd_grammar.specs.Reader.{Read}
 use Rattle.nd_grammar.specs.StreamReader.{Reading}
 use Rattle.ndr_code.specs.declared.plan.Plan.{Plan}
 use Rattle.ndr_state.specs.declared.fault.DecodeFault.{DecodeFault}
 use Rattle.ndr_state.specs.declared.fault.DecodeFault.TheVariants as fault
+use Rattle.ndr_steps.specs.Good.{Whole}
+use Rattle.ndr_steps.specs.Steps.{State}
 use Rattle.ndr_verdict.specs.Verdict.{DecodingSeen}
-use Rattle.ndr_stream.specs.Between.{Agrees}
+use Rattle.ndr_stream.specs.Between.{Agrees, AreNeeded}
 use Rattle.ndr_stream.specs.Calls.{Took, Refused, CutOff}
 use Rattle.ndr_kept.specs.declared.stream.Stream.{Stream}
-use Rattle.ndr_kept.specs.Seen.{IsSettled, between_of}
+use Rattle.ndr_kept.specs.Seen.{between_of}
+use Rattle.nd_flat.specs.Building.{CanClose}
 
 -- how many cells have their numbers
 abbrev pub cells_of : Stream → ℕ
@@ -26,7 +33,7 @@ cells_of x = length x.machine.builder.graph.cells
 -- What is kept of the stream is right: so many roots that are no pipes are left, and these pointers are due.
 pub record Stands (w : Setting) (side : IsLegalSide w) (order : Order) (fetched : List ℕ) (noted : List Item) (direct : ℕ) (x : Stream) (s : Reading) (seen : List EntryAt) (ps : List Pending) (n : ℕ) : Type 0 where
   pub agrees : Agrees w side order fetched noted direct (between_of x) s seen ps n
-  pub settled : IsSettled x
+  pub whole : CanClose x.machine.builder
 
 -- The stream is one of an operation of the plan's interface, and what is kept of it is right for some octets. So what is read next is there.
 pub record IsStreaming (plan : Plan) (order : Order) (x : Stream) : Type 0 where
@@ -43,6 +50,15 @@ pub record IsStreaming (plan : Plan) (order : Order) (x : Stream) : Type 0 where
   pub stands : Stands w side order fetched noted direct x s seen ps n
 
 -- ## What a call comes to
+
+-- The value of a home is whole, at this state.
+pub record HomeWhole (order : Order) (table : Table) (h : Home) (own direct : ℕ) (target : List ℕ → Read) (fetched : List ℕ) (noted : List Item) (cells : ℕ) (source : SourceSeen) (t : DecodingSeen) (s : State) : Type 0 where
+  pub octets : List ℕ
+  pub items : List Item
+  pub all : AreOctets octets
+  pub is : Whole order (fetched ++ octets) table h own (noted ++ items) direct target s
+  pub needed : AreNeeded target fetched octets
+  pub took : Took source t cells octets items (length s.cells)
 
 -- It went on over so many octets more, and what is kept is right after them, with so many roots left.
 pub record WentOn (w : Setting) (side : IsLegalSide w) (order : Order) (fetched : List ℕ) (noted : List Item) (cells : ℕ) (source : SourceSeen) (t : DecodingSeen) (x : Stream) (n : ℕ) : Type 0 where
