@@ -80,7 +80,7 @@ placed_ends w side order fetched noted direct x s1 s2 s3 s seen n st r there pla
     let nodes : m.builder.nodes ≡ flat (more v none) = hw.is.nodes in
     let added : RootAdded v (map (λ c. c.of) m.builder.graph.cells) (closed b) (closed m.builder) =
     root_ends b m.builder v (subst (λ (u : Building). HomeRan u m.builder) opens (ran s1.machine m out)) nodes in
-    let own : IsKeptHome (state_of m) re.k.own = kept_of m re.k.own hw.is.first.0 hw.is.first.1.0 re.own in
+    let own : IsKeptHome (state_of m) re.k.own = kept_of m re.k.own hw.is.first.0 hw.is.first.1 re.own in
     let is_now : between_of s3 ≡ root_read (between_of x) (state_of m) re.k (closed m.builder) =
     re.between ∙ same_root (between_of s2) (between_of x) (state_of m) re.k (closed m.builder) (same_pending x s2 keeps) keeps.roots keeps.cells in
     let after = law.after w side order fetched noted direct (between_of x) s seen n st.agrees r there plain hw.octets hw.all (noted ++ hw.items) (state_of m) hw.is hw.needed in
