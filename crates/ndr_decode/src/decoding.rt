@@ -3,10 +3,9 @@ ghost use Rattle.std.specs.Prelude.{◌≡◌, ℕ, ◌+◌, ◌≤◌, ◌<◌,
 ghost use Rattle.std.specs.List.{slice_get};
 ghost use Rattle.nd_base.specs.Over.{source_seen, HasRisen, count};
 ghost use Rattle.nd_types.specs.declared.types.Operation.{Operation};
-ghost use Rattle.nd_value.specs.Fitting.{setting_beside};
+ghost use Rattle.nd_value.specs.Fitting.{IsFit, setting_beside};
 ghost use Rattle.nd_value.specs.Request.{IsRequestOf};
 ghost use Rattle.nd_flat.specs.Building.{CanClose, fitting};
-ghost use Rattle.nd_flat.specs.Fit.{IsFit};
 ghost use Rattle.ndr_state.specs.declared.fault.DecodeFault.TheVariants.{ReadFault};
 ghost use Rattle.ndr_verdict.specs.Verdict.{IsDecoded, decoding_seen};
 ghost use Rattle.ndr_decode.specs.Decoding.{IsFault};
