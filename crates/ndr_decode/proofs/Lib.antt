@@ -1,2 +1,4 @@
 pub mod HomeComes
 pub mod Placed
+pub mod Reported
+pub mod Twice
