@@ -2,3 +2,16 @@ mod Agreements
 mod Zeros
 mod Searches
 mod Pending
+mod Outcomes
+mod Elements
+mod Noting
+mod RowItems
+mod Moving
+mod Fetching
+mod Turning
+mod RowTurns
+mod Looping
+mod Wanted
+mod Owing
+mod Tagged
+mod Taking

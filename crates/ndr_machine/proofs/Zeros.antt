@@ -1,5 +1,6 @@
 -- Where the octets of a string are refused, by the place of their first zero.
-use Rattle.std.proofs.Common.{◌≡◌, ◌<◌, ◌≤◌, ℕ, ◌+◌, ◌-◌, zero, suc, Bool, true, false, List, [], ◌∷◌, length, Option, Some, None, refl, sym, ap, ◌∙◌, arith}
+use Rattle.std.proofs.Common.{◌≡◌, ◌<◌, ◌≤◌, ℕ, ◌+◌, ◌-◌, zero, suc, Bool, true, false, List, [], ◌∷◌, length, drop, slice_get, Option, Some, None, refl, sym, ap, ◌∙◌, arith}
+use Rattle.std.proofs.lemmas.List.{at_drop_all}
 use Rattle.std.specs.Prelude.{if◌then◌else◌, cond, eqb}
 use Rattle.nd_grammar.specs.declared.reason.Reason.{Reason}
 use Rattle.nd_grammar.specs.declared.reason.Reason.TheVariants as reason
@@ -51,3 +52,39 @@ missing_alone false at h = ap (λ (k : ℕ). Some (k, reason.TextUnended)) (omeg
 zero_missing at [] some h = absurd (omega (arith, some))
 zero_missing at (b ∷ []) some h = missing_alone (eqb b 0) at h
 zero_missing at (b ∷ c ∷ bs) some h = missing_within (eqb b 0) at c bs h
+
+-- ## The search
+
+pick_zero : (b n : ℕ) → b ≡ 0 → (if eqb b 0 then 0 else n) ≡ 0
+pick_zero zero n e = refl
+pick_zero (suc b) n e = absurd (omega (arith, e))
+
+pick_other : (b n : ℕ) → (b ≡ 0 → ⊥) → (if eqb b 0 then 0 else n) ≡ n
+pick_other zero n h = absurd (h refl)
+pick_other (suc b) n h = refl
+
+zero_from : (os : List ℕ) (at b : ℕ) → slice_get os at ≡ Some b → first_zero (drop at os) ≡ (if eqb b 0 then 0 else first_zero (drop (at + 1) os) + 1)
+zero_from [] at b e = absurd (nothing e)
+  where
+    nothing : None ≡ Some b → ⊥
+    nothing h = cc
+zero_from (x ∷ xs) zero b e = let same : x ≡ b = cc in ap (λ y. if eqb y 0 then 0 else first_zero xs + 1) same
+zero_from (x ∷ xs) (suc at) b e =
+    let k : suc (at + 1) ≡ suc at + 1 = omega arith in
+    zero_from xs at b e ∙ ap (λ i. if eqb b 0 then 0 else first_zero (drop i (x ∷ xs)) + 1) k
+
+pub zero_found : (os : List ℕ) (at b : ℕ) → slice_get os at ≡ Some b → b ≡ 0 → first_zero os ≡ at + first_zero (drop at os) → first_zero os ≡ at
+zero_found os at b there e so_far =
+    let here : first_zero (drop at os) ≡ 0 = zero_from os at b there ∙ pick_zero b _ e in
+    omega (arith, so_far, here)
+
+pub zero_passed : (os : List ℕ) (at b : ℕ) → slice_get os at ≡ Some b → (b ≡ 0 → ⊥) → first_zero os ≡ at + first_zero (drop at os)
+    → first_zero os ≡ at + 1 + first_zero (drop (at + 1) os)
+zero_passed os at b there other so_far =
+    let here : first_zero (drop at os) ≡ first_zero (drop (at + 1) os) + 1 = zero_from os at b there ∙ pick_other b _ other in
+    omega (arith, so_far, here)
+
+pub zero_nowhere : (os : List ℕ) (at : ℕ) → length os ≤ at → at ≤ length os → first_zero os ≡ at + first_zero (drop at os) → first_zero os ≡ length os
+zero_nowhere os at all within so_far =
+    let none : first_zero (drop at os) ≡ 0 = at_drop_all first_zero os at all in
+    omega (arith, so_far, none, all, within)

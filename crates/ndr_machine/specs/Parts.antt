@@ -17,6 +17,11 @@ use Rattle.nd_grammar.specs.declared.reason.Reason.{Reason}
 use Rattle.nd_grammar.specs.declared.reason.Reason.TheVariants as reason
 use Rattle.nd_grammar.specs.Reader.{identifier}
 use Rattle.ndr_code.specs.declared.instr.Instr.{Instr}
+use Rattle.ndr_code.specs.declared.lists.EnumList.{EnumList}
+use Rattle.nd_value.specs.declared.item.Home.{Home}
+use Rattle.ndr_steps.specs.StepItems.{step_items}
+use Rattle.ndr_state.specs.Seen.{Does}
+use Rattle.ndr_state.specs.Notes.{Noted, NotesSeen}
 use Rattle.ndr_code.specs.declared.instr.Instr.TheVariants as op
 use Rattle.ndr_refs.specs.Known.{known}
 use Rattle.ndr_steps.specs.declared.first.First.{First}
@@ -25,7 +30,7 @@ use Rattle.ndr_state.specs.declared.fault.DecodeFault.{DecodeFault}
 use Rattle.ndr_state.specs.declared.fault.DecodeFault.TheVariants as fault
 use Rattle.ndr_steps.specs.declared.frame.Frame.{Frame}
 use Rattle.ndr_steps.specs.declared.frame.Frame.TheVariants as frame
-use Rattle.ndr_steps.specs.Steps.{State, Outcome, goes, refused, next, jumped, past, pushed, popped, with_node, with_frames, with_members, checked, first_number, first_found, place_of, place_in, done_after, elements, own_by, firsts_by, arm_taken, Want, no_octets, gap_of, item_of, owing, new_cell, full_by, Phase, begun, gap_read, offset_read, count_read}
+use Rattle.ndr_steps.specs.Steps.{State, Outcome, Owed, goes, refused, next, jumped, past, pushed, popped, with_node, with_frames, with_members, checked, first_number, first_found, place_of, place_in, done_after, elements, own_by, firsts_by, arm_taken, Want, no_octets, gap_of, item_of, owing, new_cell, full_by, Phase, begun, gap_read, offset_read, count_read, step}
 
 -- ## Octets and instructions
 
@@ -34,6 +39,20 @@ abbrev pub HasWanted : Want → List ℕ → Type 0
 HasWanted no_octets os = os ≡ []
 HasWanted (gap_of n) os = length os ≡ n
 HasWanted (item_of n) os = length os ≡ n
+
+-- whether an instruction reads octets
+abbrev pub reads : Instr → Bool
+reads (op.Align n) = true
+reads (op.Num of) = true
+reads (op.Enum of) = true
+reads (op.Vary bound run) = true
+reads (op.Confvary run) = true
+reads (op.Text bound) = true
+reads op.Hoist = true
+reads (op.Tag of) = true
+reads (op.Pointer class to run) = true
+reads op.Context = true
+reads _ = false
 
 abbrev pub actual_read : ℕ → ℕ → ℕ → ℕ → State → Outcome
 actual_read o c limit run s =
@@ -90,6 +109,10 @@ abbrev pub member_checked : ℕ → Attr → ℕ → ℕ → State → Outcome
 member_checked first a f v s =
     checked (agreement a (first_number (slice_get s.firsts (first + v)))) (slice_get s.members (first + f)) (slice_get s.firsts (first + f)) s
 
+-- a pending referent with one agreement more
+abbrev pub with_agreement : Agreement → Owed → Owed
+with_agreement a o = record { class = o.class; to = o.to; run = o.run; cell = o.cell; agreements = o.agreements ++ a ∷ [] }
+
 -- ## Arms, pointers and context handles
 
 abbrev pub arm_entered : ℕ → State → State
@@ -107,3 +130,13 @@ full_read to run n s = if eqb n 0 then goes (done_after 4 (owing Full to run Non
 abbrev pub context_read : Order → List ℕ → State → Outcome
 context_read order os s =
     goes (done_after 20 (with_node (tree.Context (unsigned order (take 4 os)) (identifier order os (drop 4 os)), 0) None s))
+
+-- ## Instructions that read nothing
+
+-- what an instruction that reads nothing does, whatever the octets, their order and the values of enumerated types
+abbrev pub Acts : Instr → State → Result (Unit {0}) DecodeFault → State → Type 0
+Acts i s r t = (values : List EnumList) (order : Order) (os : List ℕ) → Does (step values order os i s) r t
+
+-- what it notes
+abbrev pub ActNoted : Home → Instr → State → NotesSeen → Result (Unit {0}) DecodeFault → Type 0
+ActNoted h i s n r = (values : List EnumList) (order : Order) (os : List ℕ) → Noted (step values order os i s) (step_items order h os i s) n r

@@ -1,11 +1,12 @@
 -- What a run of the code over octets comes to, from a state on, by its steps (`ndr_runs: specs/Reaching`).
 -- `s0` is the state at the beginning, `s` one that was reached, `fetched` are the octets of the steps so far and `noted` their items, `os` the octets of
 -- one step, `i` is an instruction.
-use Rattle.std.specs.Prelude.{◌≡◌, ◌≤◌, ◌<◌, ℕ, ◌+◌, ◌^◌, true, List, [], ◌++◌, length, slice_get, Option, Some, Result, Ok, Err}
+use Rattle.std.specs.Prelude.{◌≡◌, ◌≤◌, ℕ, ◌+◌, true, List, [], ◌++◌, length, slice_get, Option, Some, Result, Ok, Err}
 use Rattle.std.specs.Io.KnownBytes.{Consumes, IsAtEnd}
 use Rattle.nd_base.specs.declared.octets.Order.{Order}
 use Rattle.nd_base.specs.declared.TheConstants.{STREAM_LIMIT}
 use Rattle.nd_base.specs.Over.{SourceSeen, HasRisen}
+use Rattle.nd_types.specs.Number.{AreOctets}
 use Rattle.nd_value.specs.declared.item.Home.{Home}
 use Rattle.nd_value.specs.declared.item.Item.{Item}
 use Rattle.nd_grammar.specs.declared.reason.Reason.{Reason}
@@ -14,7 +15,8 @@ use Rattle.ndr_code.specs.declared.instr.Instr.{Instr}
 use Rattle.ndr_code.specs.declared.lists.EnumList.{EnumList}
 use Rattle.ndr_intake.specs.declared.intake.IntakeFault.{IntakeFault}
 use Rattle.ndr_intake.specs.declared.intake.IntakeFault.TheVariants as intake
-use Rattle.ndr_steps.specs.Steps.{State, IsInner, refused, whole, wants, step}
+use Rattle.ndr_steps.specs.Steps.{State, Want, refused, whole, wants, step}
+use Rattle.ndr_steps.specs.StepItems.{step_items}
 use Rattle.ndr_steps.specs.Good.{HasOctets, IsCut, IsTooLong}
 use Rattle.ndr_runs.specs.Reaching.{Reaches}
 use Rattle.ndr_state.specs.declared.fault.DecodeFault.{DecodeFault}
@@ -23,26 +25,15 @@ use Rattle.ndr_state.specs.declared.fault.Progress.{Progress}
 use Rattle.ndr_state.specs.declared.fault.Progress.TheVariants as progress
 use Rattle.ndr_state.specs.Notes.{NotesSeen, all_noted, ticks}
 
--- ## States
-
--- A state at which the code can go on: it is at an instruction of a home's value, and its counts fit in 32 bits.
-pub record IsSafe (code : List Instr) (s : State) : Type 0 where
-  pub i : Instr
-  pub there : slice_get code s.pc ≡ Some i
-  pub inner : IsInner i
-  pub within : s.at ≤ STREAM_LIMIT
-  pub few_nodes : length s.nodes + 4096 < 2 ^ 32
-  pub few_cells : length s.cells + 1 < 2 ^ 32
-
 -- ## Ends
 
--- the items were logged; each of them but the gaps is counted, and each cell that got its number
-abbrev pub IsLogged : List Item → NotesSeen → Type 0
-IsLogged noted n = (n.log_now ≡ all_noted noted n.log) × (n.steps_now + n.cells ≡ n.steps + ticks noted + n.cells_now)
+-- between two states the items were logged; each of them but the gaps is counted, and each cell that got its number
+abbrev pub IsLogged : List Item → State → State → NotesSeen → Type 0
+IsLogged noted s0 s n = (n.log_now ≡ all_noted noted n.log) × (n.steps_now + length s0.cells ≡ n.steps + ticks noted + length s.cells)
 
 -- the same where memory or the source failed: fewer may be counted
-abbrev pub IsLoggedPart : List Item → NotesSeen → Type 0
-IsLoggedPart noted n = (n.log_now ≡ all_noted noted n.log) × (n.steps_now + n.cells ≤ n.steps + ticks noted + n.cells_now)
+abbrev pub IsLoggedPart : List Item → State → State → NotesSeen → Type 0
+IsLoggedPart noted s0 s n = (n.log_now ≡ all_noted noted n.log) × (n.steps_now + length s0.cells ≤ n.steps + ticks noted + length s.cells)
 
 -- so many octets were taken from the source by steps, and their items were noted
 pub record Moves (values : List EnumList) (order : Order) (code : List Instr) (h : Home) (s0 : State) (source : SourceSeen) (notes : NotesSeen) (s1 : State) : Type 0 where
@@ -50,7 +41,7 @@ pub record Moves (values : List EnumList) (order : Order) (code : List Instr) (h
   pub noted : List Item
   pub reached : Reaches values order code h s0 fetched noted s1
   pub left : Consumes source.left source.left_now fetched
-  pub logged : IsLogged noted notes
+  pub logged : IsLogged noted s0 s1 notes
 
 -- where a run ends: after so many octets, at this state and this instruction, of which some octets came
 pub record End (values : List EnumList) (order : Order) (code : List Instr) (h : Home) (s0 : State) (source : SourceSeen) : Type 0 where
@@ -61,29 +52,30 @@ pub record End (values : List EnumList) (order : Order) (code : List Instr) (h :
   pub i : Instr
   pub reached : Reaches values order code h s0 fetched noted s
   pub there : slice_get code s.pc ≡ Some i
+  pub octets : AreOctets os
   pub left : Consumes source.left source.left_now (fetched ++ os)
 
 module _ (values : List EnumList) (order : Order) (code : List Instr) (h : Home) (s0 : State) (source : SourceSeen) (notes : NotesSeen) (s1 : State) where
-  -- the value is whole
+  -- the value is whole: the last step, which is noted too, has come to it
   abbrev pub EndsWhole : Type 0
   EndsWhole =
       (e : End values order code h s0 source)
-      × (HasOctets (wants values e.i e.s) e.os e.s.at × ((step values order e.os e.i e.s ≡ whole s1) × IsLogged e.noted notes))
+      × (HasOctets (wants values e.i e.s) e.os e.s.at × ((step values order e.os e.i e.s ≡ whole s1) × IsLogged (e.noted ++ step_items order h e.os e.i e.s) s0 s1 notes))
 
   -- the octets are refused: the last step is, or there is no step because its octets do not come, or would end past the limit of a stream
   abbrev pub EndsBad : ℕ → Reason → Type 0
   EndsBad place reason.TooLong =
-      (e : End values order code h s0 source) × (IsTooLong (wants values e.i e.s) e.s.at × ((e.os ≡ []) × ((place ≡ STREAM_LIMIT) × IsLogged e.noted notes)))
+      (e : End values order code h s0 source) × (IsTooLong (wants values e.i e.s) e.s.at × ((e.os ≡ []) × ((place ≡ STREAM_LIMIT) × IsLogged e.noted s0 e.s notes)))
   EndsBad place reason.Truncated =
       (e : End values order code h s0 source)
-      × (IsCut (wants values e.i e.s) e.os e.s.at × ((place ≡ e.s.at + length e.os) × ((source.ended ≡ true) × (IsAtEnd source.left_now × IsLogged e.noted notes))))
+      × (IsCut (wants values e.i e.s) e.os e.s.at × ((place ≡ e.s.at + length e.os) × ((source.ended ≡ true) × (IsAtEnd source.left_now × IsLogged e.noted s0 e.s notes))))
   EndsBad place why =
       (e : End values order code h s0 source)
-      × (HasOctets (wants values e.i e.s) e.os e.s.at × ((step values order e.os e.i e.s ≡ refused place why) × IsLogged e.noted notes))
+      × (HasOctets (wants values e.i e.s) e.os e.s.at × ((step values order e.os e.i e.s ≡ refused place why) × IsLogged e.noted s0 e.s notes))
 
   -- at a failure of the source or of memory it has come through some steps
   abbrev pub EndsCutOff : Type 0
-  EndsCutOff = (e : End values order code h s0 source) × IsLoggedPart e.noted notes
+  EndsCutOff = (e : End values order code h s0 source) × IsLoggedPart e.noted s0 e.s notes
 
   abbrev pub EndsFault : DecodeFault → Type 0
   EndsFault (fault.Bad place why) = EndsBad place why
@@ -108,3 +100,18 @@ stream_answer (Err intake.Memory) = Err fault.Memory
 stream_answer (Err intake.ReadFault) = Err fault.ReadFault
 stream_answer (Err intake.TooLong) = Err (fault.Bad STREAM_LIMIT reason.TooLong)
 stream_answer (Err (intake.Truncated place)) = Err (fault.Bad place reason.Truncated)
+
+-- ## Octets of one step
+
+-- What fetching the octets that a step wants at a place comes to, where `os` are those that came: they would end past the limit of a stream, or the source
+-- has ended before the last of them.
+abbrev pub FetchesBad : Want → ℕ → SourceSeen → List ℕ → ℕ → Reason → Type 0
+FetchesBad w at source os place reason.TooLong = IsTooLong w at × ((os ≡ []) × (place ≡ STREAM_LIMIT))
+FetchesBad w at source os place reason.Truncated = IsCut w os at × ((place ≡ at + length os) × ((source.ended ≡ true) × IsAtEnd source.left_now))
+FetchesBad w at source os place why = ⊥
+
+abbrev pub Fetches : Want → ℕ → SourceSeen → List ℕ → Result (Unit {0}) DecodeFault → Type 0
+Fetches w at source os (Ok u) = HasOctets w os at
+Fetches w at source os (Err (fault.Bad place why)) = FetchesBad w at source os place why
+Fetches w at source os (Err fault.ReadFault) = HasRisen source.faults
+Fetches w at source os (Err fault.Memory) = Unit {0}

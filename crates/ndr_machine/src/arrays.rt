@@ -1,10 +1,9 @@
 // Arrays, and maximum counts before a home's value.
-ghost use Rattle.std.specs.Prelude.{◌≡◌, ◌<◌, ◌+◌, ◌^◌, Some, None, length, pos, [], ◌∷◌};
-ghost use Rattle.nd_types.specs.Number.{unsigned};
+ghost use Rattle.std.specs.Prelude.{◌≡◌, ◌<◌, ◌+◌, ◌^◌, None, length, pos, [], ◌∷◌, OnOk};
 ghost use Rattle.nd_value.specs.Tree as tree;
 ghost use Rattle.ndr_steps.specs.Steps.{goes, elements, with_node, past, vary_by, hoist_by, with_max, done_after};
 ghost use Rattle.ndr_steps.specs.Steps as phase;
-ghost use Rattle.ndr_state.specs.Seen.{state_of, Does, phase_of};
+ghost use Rattle.ndr_state.specs.Seen.{state_of, Does, phase_of, outside};
 ghost use Rattle.nd_value.specs.declared.item.ItemKind.TheVariants as item;
 ghost use Rattle.ndr_steps.specs.StepItems.{next_item, gap_items, vary_items, hoist_items};
 ghost use Rattle.ndr_state.specs.Notes.{Noted, notes_seen};
@@ -21,7 +20,7 @@ pub(crate) fn array(machine: &mut Machine, count: u32, run: u32) -> Result<(), D
     requires code { machine.old.pc < 2 ^ 32 }
     requires few { machine.old.count + 1 < 2 ^ 32 }
     ensures does { Does (goes (elements count run (with_node (tree.Arr count 0, count) None (state_of machine.old)))) result (state_of machine.new) }
-    ensures home { machine.new.home ≡ machine.old.home }
+    ensures outside { OnOk result (outside machine.new ≡ outside machine.old) }
 {
     let node = Seen::Arr {
         max: count,
@@ -36,7 +35,7 @@ pub(crate) fn array(machine: &mut Machine, count: u32, run: u32) -> Result<(), D
 fn begin_elements(machine: &mut Machine, count: u32, run: u32) -> Result<(), DecodeFault>
     requires code { machine.old.pc < 2 ^ 32 }
     ensures does { Does (goes (elements count run (state_of machine.old))) result (state_of machine.new) }
-    ensures home { machine.new.home ≡ machine.old.home }
+    ensures outside { OnOk result (outside machine.new ≡ outside machine.old) }
 {
     if count == 0 {
         machine.skip();
@@ -67,8 +66,8 @@ pub(crate) fn varying<L: Ledger>(
     requires fits { machine.old.at + 4 < 2 ^ 32 }
     requires few { machine.old.count + 1 < 2 ^ 32 }
     ensures does { Does (vary_by order octets.now (phase_of machine.old.phase) limit run (state_of machine.old)) result (state_of machine.new) }
-    ensures noted { Noted (vary_items order machine.old.home octets.now (phase_of machine.old.phase) (state_of machine.old)) (notes_seen items.old items.new (L.number steps.old) (L.number steps.new) machine.old.cells machine.new.cells) result }
-    ensures home { machine.new.home ≡ machine.old.home }
+    ensures noted { Noted (vary_by order octets.now (phase_of machine.old.phase) limit run (state_of machine.old)) (vary_items order machine.old.home octets.now (phase_of machine.old.phase) (state_of machine.old)) (notes_seen items.old items.new (L.number steps.old) (L.number steps.new) machine.old.cells machine.new.cells) result }
+    ensures outside { OnOk result (outside machine.new ≡ outside machine.old) }
 {
     let number = read_count(order, octets);
     match machine.phase {
@@ -97,8 +96,8 @@ pub(crate) fn count_read<L: Ledger>(
 ) -> Result<(), DecodeFault>
     requires fits { machine.old.at + 4 < 2 ^ 32 }
     ensures does { Does (goes (past 4 (phase_of phase) (state_of machine.old))) result (state_of machine.new) }
-    ensures noted { Noted (next_item machine.old.home (state_of machine.old) kind 4 (pos number) ∷ []) (notes_seen items.old items.new (L.number steps.old) (L.number steps.new) machine.old.cells machine.new.cells) result }
-    ensures home { machine.new.home ≡ machine.old.home }
+    ensures noted { Noted (goes (past 4 (phase_of phase) (state_of machine.old))) (next_item machine.old.home (state_of machine.old) kind 4 (pos number) ∷ []) (notes_seen items.old items.new (L.number steps.old) (L.number steps.new) machine.old.cells machine.new.cells) result }
+    ensures outside { OnOk result (outside machine.new ≡ outside machine.old) }
     ensures count { machine.new.count ≡ machine.old.count }
     ensures pc { machine.new.pc ≡ machine.old.pc }
     ensures memory { IfErr result (λ e. e ≡ fault.Memory) }
@@ -123,8 +122,8 @@ fn actual<L: Ledger>(
     requires fits { machine.old.at + 4 < 2 ^ 32 }
     requires few { machine.old.count + 1 < 2 ^ 32 }
     ensures does { Does (actual_read offset count limit run (state_of machine.old)) result (state_of machine.new) }
-    ensures noted { Noted (next_item machine.old.home (state_of machine.old) item.Actual 4 (pos count) ∷ []) (notes_seen items.old items.new (L.number steps.old) (L.number steps.new) machine.old.cells machine.new.cells) result }
-    ensures home { machine.new.home ≡ machine.old.home }
+    ensures noted { Noted (actual_read offset count limit run (state_of machine.old)) (next_item machine.old.home (state_of machine.old) item.Actual 4 (pos count) ∷ []) (notes_seen items.old items.new (L.number steps.old) (L.number steps.new) machine.old.cells machine.new.cells) result }
+    ensures outside { OnOk result (outside machine.new ≡ outside machine.old) }
 {
     if u64::from(limit) < u64::from(offset) + u64::from(count) {
         return Err(DecodeFault::Bad {
@@ -155,8 +154,8 @@ pub(crate) fn hoist<L: Ledger>(
     requires code { machine.old.pc < 2 ^ 32 }
     requires fits { machine.old.at + length octets.now < 2 ^ 32 }
     ensures does { Does (hoist_by order octets.now (phase_of machine.old.phase) (state_of machine.old)) result (state_of machine.new) }
-    ensures noted { Noted (hoist_items order machine.old.home octets.now (phase_of machine.old.phase) (state_of machine.old)) (notes_seen items.old items.new (L.number steps.old) (L.number steps.new) machine.old.cells machine.new.cells) result }
-    ensures home { machine.new.home ≡ machine.old.home }
+    ensures noted { Noted (hoist_by order octets.now (phase_of machine.old.phase) (state_of machine.old)) (hoist_items order machine.old.home octets.now (phase_of machine.old.phase) (state_of machine.old)) (notes_seen items.old items.new (L.number steps.old) (L.number steps.new) machine.old.cells machine.new.cells) result }
+    ensures outside { OnOk result (outside machine.new ≡ outside machine.old) }
 {
     match machine.phase {
         Phase::GapRead => maximum(machine, read_count(order, octets), items, steps),
@@ -173,8 +172,8 @@ fn hoist_gap<L: Ledger>(
 ) -> Result<(), DecodeFault>
     requires fits { machine.old.at + length octets.now < 2 ^ 32 }
     ensures does { Does (goes (past (length octets.now) phase.gap_read (state_of machine.old))) result (state_of machine.new) }
-    ensures noted { Noted (gap_items machine.old.home machine.old.at octets.now) (notes_seen items.old items.new (L.number steps.old) (L.number steps.new) machine.old.cells machine.new.cells) result }
-    ensures home { machine.new.home ≡ machine.old.home }
+    ensures noted { Noted (goes (past (length octets.now) phase.gap_read (state_of machine.old))) (gap_items machine.old.home machine.old.at octets.now) (notes_seen items.old items.new (L.number steps.old) (L.number steps.new) machine.old.cells machine.new.cells) result }
+    ensures outside { OnOk result (outside machine.new ≡ outside machine.old) }
 {
     machine.note_gap(octets, items, steps)?;
     machine.at += octets.len() as u32;
@@ -192,8 +191,8 @@ fn maximum<L: Ledger>(
     requires code { machine.old.pc < 2 ^ 32 }
     requires fits { machine.old.at + 4 < 2 ^ 32 }
     ensures does { Does (goes (done_after 4 (with_max max (state_of machine.old)))) result (state_of machine.new) }
-    ensures noted { Noted (next_item machine.old.home (state_of machine.old) item.Max 4 (pos max) ∷ []) (notes_seen items.old items.new (L.number steps.old) (L.number steps.new) machine.old.cells machine.new.cells) result }
-    ensures home { machine.new.home ≡ machine.old.home }
+    ensures noted { Noted (goes (done_after 4 (with_max max (state_of machine.old)))) (next_item machine.old.home (state_of machine.old) item.Max 4 (pos max) ∷ []) (notes_seen items.old items.new (L.number steps.old) (L.number steps.new) machine.old.cells machine.new.cells) result }
+    ensures outside { OnOk result (outside machine.new ≡ outside machine.old) }
 {
     machine.note(ItemKind::Max, 4, i128::from(max), items, steps)?;
     machine.max = max;
@@ -212,8 +211,8 @@ pub(crate) fn align<L: Ledger>(
     requires code { machine.old.pc < 2 ^ 32 }
     requires fits { machine.old.at + length octets.now < 2 ^ 32 }
     ensures does { Does (goes (done_after (length octets.now) (state_of machine.old))) result (state_of machine.new) }
-    ensures noted { Noted (gap_items machine.old.home machine.old.at octets.now) (notes_seen items.old items.new (L.number steps.old) (L.number steps.new) machine.old.cells machine.new.cells) result }
-    ensures home { machine.new.home ≡ machine.old.home }
+    ensures noted { Noted (goes (done_after (length octets.now) (state_of machine.old))) (gap_items machine.old.home machine.old.at octets.now) (notes_seen items.old items.new (L.number steps.old) (L.number steps.new) machine.old.cells machine.new.cells) result }
+    ensures outside { OnOk result (outside machine.new ≡ outside machine.old) }
 {
     machine.note_gap(octets, items, steps)?;
     machine.pass(octets.len() as u32);

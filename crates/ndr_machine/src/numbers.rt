@@ -1,10 +1,10 @@
 // Primitives, enumerated values and context handles.
-ghost use Rattle.std.specs.Prelude.{◌≡◌, ◌<◌, ◌+◌, ◌^◌, None, length, pos, [], ◌∷◌};
+ghost use Rattle.std.specs.Prelude.{◌≡◌, ◌<◌, ◌+◌, ◌^◌, None, length, pos, [], ◌∷◌, OnOk};
 ghost use Rattle.nd_types.specs.Table.{width};
 ghost use Rattle.nd_types.specs.declared.types.Primitive.TheVariants.{Short};
 ghost use Rattle.ndr_code.specs.Lines.{enumerators};
 ghost use Rattle.ndr_steps.specs.Steps.{number_step};
-ghost use Rattle.ndr_state.specs.Seen.{state_of, Does};
+ghost use Rattle.ndr_state.specs.Seen.{state_of, Does, outside};
 ghost use Rattle.nd_value.specs.declared.item.ItemKind.TheVariants as item;
 ghost use Rattle.ndr_steps.specs.StepItems.{next_item, number_items};
 ghost use Rattle.ndr_state.specs.Notes.{Noted, notes_seen};
@@ -32,9 +32,9 @@ pub(crate) fn number<L: Ledger>(
     requires code { machine.old.pc < 2 ^ 32 }
     requires fits { machine.old.at + length octets.now < 2 ^ 32 }
     requires few { machine.old.count + 1 < 2 ^ 32 }
-    ensures does { Does (number_step order octets.now prim None (state_of machine.old)) result (state_of machine.new) }
-    ensures noted { Noted (number_items order machine.old.home octets.now prim (state_of machine.old)) (notes_seen items.old items.new (L.number steps.old) (L.number steps.new) machine.old.cells machine.new.cells) result }
-    ensures home { machine.new.home ≡ machine.old.home }
+    ensures does { Does (number_step [] order octets.now prim None (state_of machine.old)) result (state_of machine.new) }
+    ensures noted { Noted (number_step [] order octets.now prim None (state_of machine.old)) (number_items order machine.old.home octets.now prim (state_of machine.old)) (notes_seen items.old items.new (L.number steps.old) (L.number steps.new) machine.old.cells machine.new.cells) result }
+    ensures outside { OnOk result (outside machine.new ≡ outside machine.old) }
 {
     let value = read_value(order, prim, octets);
     leaf(machine, width_of(prim) as u32, value, items, steps)
@@ -54,9 +54,9 @@ pub(crate) fn enumerated<L: Ledger>(
     requires code { machine.old.pc < 2 ^ 32 }
     requires fits { machine.old.at + length octets.now < 2 ^ 32 }
     requires few { machine.old.count + 1 < 2 ^ 32 }
-    ensures does { Does (number_step order octets.now Short (enumerators values.now of.0) (state_of machine.old)) result (state_of machine.new) }
-    ensures noted { Noted (number_items order machine.old.home octets.now Short (state_of machine.old)) (notes_seen items.old items.new (L.number steps.old) (L.number steps.new) machine.old.cells machine.new.cells) result }
-    ensures home { machine.new.home ≡ machine.old.home }
+    ensures does { Does (number_step values.now order octets.now Short (enumerators values.now of.0) (state_of machine.old)) result (state_of machine.new) }
+    ensures noted { Noted (number_step values.now order octets.now Short (enumerators values.now of.0) (state_of machine.old)) (number_items order machine.old.home octets.now Short (state_of machine.old)) (notes_seen items.old items.new (L.number steps.old) (L.number steps.new) machine.old.cells machine.new.cells) result }
+    ensures outside { OnOk result (outside machine.new ≡ outside machine.old) }
 {
     let value = read_value(order, Prim::Short, octets);
     if !is_enumerator(values, of, value) {
@@ -81,8 +81,8 @@ fn leaf<L: Ledger>(
     requires fits { machine.old.at + len < 2 ^ 32 }
     requires few { machine.old.count + 1 < 2 ^ 32 }
     ensures does { Does (goes (done_after len (with_node (tree.Num value, 0) None (state_of machine.old)))) result (state_of machine.new) }
-    ensures noted { Noted (next_item machine.old.home (state_of machine.old) item.Num len value ∷ []) (notes_seen items.old items.new (L.number steps.old) (L.number steps.new) machine.old.cells machine.new.cells) result }
-    ensures home { machine.new.home ≡ machine.old.home }
+    ensures noted { Noted (goes (done_after len (with_node (tree.Num value, 0) None (state_of machine.old)))) (next_item machine.old.home (state_of machine.old) item.Num len value ∷ []) (notes_seen items.old items.new (L.number steps.old) (L.number steps.new) machine.old.cells machine.new.cells) result }
+    ensures outside { OnOk result (outside machine.new ≡ outside machine.old) }
 {
     machine.note(ItemKind::Num, len, value, items, steps)?;
     machine.add(&Seen::Num(value), None)?;
@@ -103,8 +103,8 @@ pub(crate) fn context<L: Ledger>(
     requires fits { machine.old.at + 20 < 2 ^ 32 }
     requires few { machine.old.count + 1 < 2 ^ 32 }
     ensures does { Does (context_read order octets.now (state_of machine.old)) result (state_of machine.new) }
-    ensures noted { Noted (next_item machine.old.home (state_of machine.old) item.Context 20 (pos 0) ∷ []) (notes_seen items.old items.new (L.number steps.old) (L.number steps.new) machine.old.cells machine.new.cells) result }
-    ensures home { machine.new.home ≡ machine.old.home }
+    ensures noted { Noted (context_read order octets.now (state_of machine.old)) (next_item machine.old.home (state_of machine.old) item.Context 20 (pos 0) ∷ []) (notes_seen items.old items.new (L.number steps.old) (L.number steps.new) machine.old.cells machine.new.cells) result }
+    ensures outside { OnOk result (outside machine.new ≡ outside machine.old) }
 {
     machine.note(ItemKind::Context, 20, 0, items, steps)?;
     let attributes = read_count(order, &octets[..4]);

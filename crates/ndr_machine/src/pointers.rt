@@ -1,8 +1,9 @@
 // Pointers.
-ghost use Rattle.std.specs.Prelude.{◌≡◌, ◌<◌, ◌+◌, ◌^◌, length};
+ghost use Rattle.std.specs.Prelude.{◌≡◌, ◌<◌, ◌+◌, ◌^◌, length, OnOk};
+ghost use Rattle.nd_types.specs.declared.types.Class.TheVariants.{Full};
 ghost use Rattle.nd_types.specs.Number.{unsigned};
 ghost use Rattle.ndr_steps.specs.Steps.{pointer_step, owing};
-ghost use Rattle.ndr_state.specs.Seen.{state_of, Does};
+ghost use Rattle.ndr_state.specs.Seen.{state_of, Does, outside};
 ghost use Rattle.ndr_state.specs.Notes.{Noted, notes_seen};
 ghost use Rattle.ndr_machine.specs.Notes.{pointer_items};
 
@@ -37,8 +38,8 @@ pub(crate) fn pointer<L: Ledger>(
     requires few { machine.old.count + 1 < 2 ^ 32 }
     requires cells { machine.old.cells + 1 < 2 ^ 32 }
     ensures does { Does (pointer_step to.class to.to to.run (unsigned order octets.now) (state_of machine.old)) result (state_of machine.new) }
-    ensures noted { Noted (pointer_items (unsigned order octets.now) machine.old.home (state_of machine.old)) (notes_seen items.old items.new (L.number steps.old) (L.number steps.new) machine.old.cells machine.new.cells) result }
-    ensures home { machine.new.home ≡ machine.old.home }
+    ensures noted { Noted (pointer_step to.class to.to to.run (unsigned order octets.now) (state_of machine.old)) (pointer_items (unsigned order octets.now) machine.old.home (state_of machine.old)) (notes_seen items.old items.new (L.number steps.old) (L.number steps.new) machine.old.cells machine.new.cells) result }
+    ensures outside { OnOk result (outside machine.new ≡ outside machine.old) }
 {
     let number = read_count(order, octets);
     match to.class {
@@ -61,8 +62,8 @@ fn unique<L: Ledger>(
     requires few { machine.old.count + 1 < 2 ^ 32 }
     requires cells { machine.old.cells + 1 < 2 ^ 32 }
     ensures does { Does (unique_read to.class to.to to.run number (state_of machine.old)) result (state_of machine.new) }
-    ensures noted { Noted (pointer_items number machine.old.home (state_of machine.old)) (notes_seen items.old items.new (L.number steps.old) (L.number steps.new) machine.old.cells machine.new.cells) result }
-    ensures home { machine.new.home ≡ machine.old.home }
+    ensures noted { Noted (unique_read to.class to.to to.run number (state_of machine.old)) (pointer_items number machine.old.home (state_of machine.old)) (notes_seen items.old items.new (L.number steps.old) (L.number steps.new) machine.old.cells machine.new.cells) result }
+    ensures outside { OnOk result (outside machine.new ≡ outside machine.old) }
 {
     if number == 0 {
         return name(machine, 0, to, None, items, steps);
@@ -78,13 +79,14 @@ fn full<L: Ledger>(
     items: &mut ItemLog,
     steps: &mut Steps<L>,
 ) -> Result<(), DecodeFault>
+    requires class { to.class ≡ Full }
     requires code { machine.old.pc < 2 ^ 32 }
     requires fits { machine.old.at + 4 < 2 ^ 32 }
     requires few { machine.old.count + 1 < 2 ^ 32 }
     requires cells { machine.old.cells + 1 < 2 ^ 32 }
     ensures does { Does (full_read to.to to.run number (state_of machine.old)) result (state_of machine.new) }
-    ensures noted { Noted (pointer_items number machine.old.home (state_of machine.old)) (notes_seen items.old items.new (L.number steps.old) (L.number steps.new) machine.old.cells machine.new.cells) result }
-    ensures home { machine.new.home ≡ machine.old.home }
+    ensures noted { Noted (full_read to.to to.run number (state_of machine.old)) (pointer_items number machine.old.home (state_of machine.old)) (notes_seen items.old items.new (L.number steps.old) (L.number steps.new) machine.old.cells machine.new.cells) result }
+    ensures outside { OnOk result (outside machine.new ≡ outside machine.old) }
 {
     if number == 0 {
         return name(machine, 0, to, None, items, steps);
@@ -124,8 +126,8 @@ fn name_new<L: Ledger>(
     requires few { machine.old.count + 1 < 2 ^ 32 }
     requires cells { machine.old.cells + 1 < 2 ^ 32 }
     ensures does { Does (goes (done_after 4 (new_cell to.class to.to to.run (state_of machine.old)))) result (state_of machine.new) }
-    ensures noted { Noted (pointer_items number machine.old.home (state_of machine.old)) (notes_seen items.old items.new (L.number steps.old) (L.number steps.new) machine.old.cells machine.new.cells) result }
-    ensures home { machine.new.home ≡ machine.old.home }
+    ensures noted { Noted (goes (done_after 4 (new_cell to.class to.to to.run (state_of machine.old)))) (pointer_items number machine.old.home (state_of machine.old)) (notes_seen items.old items.new (L.number steps.old) (L.number steps.new) machine.old.cells machine.new.cells) result }
+    ensures outside { OnOk result (outside machine.new ≡ outside machine.old) }
 {
     machine.note(ItemKind::Number, 4, i128::from(number), items, steps)?;
     let cell = machine.builder.reserve(to.to, steps)?;
@@ -148,8 +150,8 @@ fn name<L: Ledger>(
     requires fits { machine.old.at + 4 < 2 ^ 32 }
     requires few { machine.old.count + 1 < 2 ^ 32 }
     ensures does { Does (goes (done_after 4 (owing to.class to.to to.run (cell_number cell) (state_of machine.old)))) result (state_of machine.new) }
-    ensures noted { Noted (pointer_items number machine.old.home (state_of machine.old)) (notes_seen items.old items.new (L.number steps.old) (L.number steps.new) machine.old.cells machine.new.cells) result }
-    ensures home { machine.new.home ≡ machine.old.home }
+    ensures noted { Noted (goes (done_after 4 (owing to.class to.to to.run (cell_number cell) (state_of machine.old)))) (pointer_items number machine.old.home (state_of machine.old)) (notes_seen items.old items.new (L.number steps.old) (L.number steps.new) machine.old.cells machine.new.cells) result }
+    ensures outside { OnOk result (outside machine.new ≡ outside machine.old) }
 {
     machine.note(ItemKind::Number, 4, i128::from(number), items, steps)?;
     owe(machine, to, cell)?;
@@ -163,7 +165,7 @@ fn owe(machine: &mut Machine, to: To, cell: Option<CellId>) -> Result<(), Decode
     ensures does { Does (goes (owing to.class to.to to.run (cell_number cell) (state_of machine.old))) result (state_of machine.new) }
     ensures at { machine.new.at ≡ machine.old.at }
     ensures pc { machine.new.pc ≡ machine.old.pc }
-    ensures home { machine.new.home ≡ machine.old.home }
+    ensures outside { OnOk result (outside machine.new ≡ outside machine.old) }
 {
     machine.add(&Seen::Ptr(cell), None)?;
     let owed = Owed {

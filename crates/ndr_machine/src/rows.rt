@@ -1,14 +1,15 @@
 // Runs of numbers of one primitive, fetched and built in one go.
-ghost use Rattle.std.specs.Prelude.{◌≡◌, ◌<◌, ◌≤◌, ◌+◌, ◌-◌, ◌*◌, ◌%◌, ◌^◌, length, true, Some, slice_get, IfErr};
+ghost use Rattle.std.specs.Prelude.{◌≡◌, ◌<◌, ◌≤◌, ◌+◌, ◌-◌, ◌*◌, ◌%◌, ◌^◌, length, true, Some, slice_get, IfErr, OnOk};
 ghost use Rattle.nd_types.specs.Table.{width};
 ghost use Rattle.nd_base.specs.declared.TheConstants.{STREAM_LIMIT};
 ghost use Rattle.ndr_intake.specs.declared.TheConstants.{PIECE};
 ghost use Rattle.ndr_code.specs.declared.instr.Instr.TheVariants as op;
 ghost use Rattle.ndr_steps.specs.Steps.{goes};
 ghost use Rattle.ndr_state.specs.declared.fault.DecodeFault.TheVariants as fault;
-ghost use Rattle.ndr_state.specs.Seen.{state_of, Does};
-ghost use Rattle.ndr_runs.specs.Rows.{row_read, row_items, HasLeft, with_fewer, IsNumberRun, IsInRow};
-ghost use Rattle.ndr_state.specs.Notes.{Noted, notes_seen};
+ghost use Rattle.ndr_state.specs.Seen.{state_of, Does, outside};
+ghost use Rattle.ndr_runs.specs.Rows.{row_read, HasLeft, with_fewer, IsNumberRun, IsInRow};
+ghost use Rattle.ndr_state.specs.Notes.{notes_seen};
+ghost use Rattle.ndr_machine.specs.Notes.{RowNoted};
 
 use nd_base::{Ledger, Order, STREAM_LIMIT, Steps};
 use nd_flat::Row;
@@ -59,8 +60,8 @@ pub fn read_row<L: Ledger>(
     requires fits { machine.old.at + length octets.now < 2 ^ 32 }
     requires few { machine.old.count + count < 2 ^ 32 }
     ensures does { Does (goes (row_read order prim count octets.now (state_of machine.old))) result (state_of machine.new) }
-    ensures noted { Noted (row_items order prim machine.old.home machine.old.at machine.old.count count octets.now) (notes_seen items.old items.new (L.number steps.old) (L.number steps.new) machine.old.cells machine.new.cells) result }
-    ensures home { machine.new.home ≡ machine.old.home }
+    ensures noted { RowNoted order prim machine.old.home machine.old.at machine.old.count count octets.now (notes_seen items.old items.new (L.number steps.old) (L.number steps.new) machine.old.cells machine.new.cells) result }
+    ensures outside { OnOk result (outside machine.new ≡ outside machine.old) }
 {
     note_row(machine, order, octets, prim, count, items, steps)?;
     let row = Row {
@@ -90,7 +91,7 @@ pub fn note_row<L: Ledger>(
     requires wide { length octets.now ≡ count * width prim }
     requires fits { machine.now.at + length octets.now < 2 ^ 32 }
     requires few { machine.now.count + count < 2 ^ 32 }
-    ensures noted { Noted (row_items order prim machine.now.home machine.now.at machine.now.count count octets.now) (notes_seen items.old items.new (L.number steps.old) (L.number steps.new) machine.now.cells machine.now.cells) result }
+    ensures noted { RowNoted order prim machine.now.home machine.now.at machine.now.count count octets.now (notes_seen items.old items.new (L.number steps.old) (L.number steps.new) machine.now.cells machine.now.cells) result }
     ensures memory { IfErr result (λ e. e ≡ fault.Memory) }
 {
     let wide = width_of(prim);

@@ -1,23 +1,27 @@
 // The value of a home, from its first octet to its last.
-ghost use Rattle.std.specs.Prelude.{◌≡◌, ◌<◌, ◌≤◌, ◌^◌, ◌%◌, ◌*◌, ◌+◌, ◌-◌, ℕ, List, Some, length, slice_get};
+ghost use Rattle.std.specs.Prelude.{◌≡◌, ◌<◌, ◌≤◌, ◌^◌, ◌%◌, ◌*◌, ◌/◌, ◌+◌, ◌-◌, ℕ, List, Some, length, take, slice_get, OnOk, IfOk, IfErr};
+ghost use Rattle.std.specs.Io.KnownBytes.{Consumes};
 ghost use Rattle.nd_base.specs.Over.{source_seen};
 ghost use Rattle.nd_base.specs.declared.TheConstants.{STREAM_LIMIT};
+ghost use Rattle.nd_types.specs.Number.{AreOctets};
 ghost use Rattle.nd_types.specs.Table.{width};
 ghost use Rattle.nd_value.specs.declared.item.Item.{Item};
 ghost use Rattle.ndr_intake.specs.declared.TheConstants.{PIECE};
 ghost use Rattle.ndr_code.specs.declared.instr.Instr.TheVariants as op;
-ghost use Rattle.ndr_steps.specs.Steps.{State, prim_of};
-ghost use Rattle.ndr_state.specs.Seen.{state_of};
-ghost use Rattle.ndr_runs.specs.Rows.{IsInRow};
-ghost use Rattle.ndr_machine.specs.Reaching.{IsSafe, Ends, Turns, stream_answer};
-ghost use Rattle.ndr_runs.specs.Reaching.{Reaches};
+ghost use Rattle.ndr_steps.specs.Steps.{State, IsInner, prim_of, wants};
+ghost use Rattle.ndr_state.specs.Seen.{state_of, outside};
 ghost use Rattle.ndr_state.specs.Notes.{notes_seen};
+ghost use Rattle.ndr_runs.specs.Reaching.{Reaches, IsSafe};
+ghost use Rattle.ndr_runs.specs.Rows.{IsInRow};
+ghost use Rattle.ndr_state.specs.declared.fault.DecodeFault.TheVariants as fault;
+ghost use Rattle.ndr_machine.specs.Notes.{RowNoted};
+ghost use Rattle.ndr_machine.specs.Reaching.{Ends, Turns, Fetches, stream_answer};
 
 use crate::rows::{note_row, read_row, row_len};
 use crate::steps::{Want, take_step, wanted};
 use nd_base::{Ledger, Order, STREAM_LIMIT, Source, Steps};
 use nd_grammar::Reason;
-use nd_types::TypeId;
+use nd_types::{Prim, TypeId};
 use nd_value::ItemLog;
 use ndr_code::{EnumLists, Instr};
 use ndr_intake::{Intake, IntakeFault};
@@ -43,12 +47,13 @@ pub fn run<S: Source, L: Ledger>(
     requires short { length code.now < 2 ^ 32 }
     requires safe { (fetched : List ℕ) (noted : List Item) (s : State) → Reaches values.now order code.now machine.old.home (state_of machine.old) fetched noted s → IsSafe code.now s }
     ensures ends { Ends values.now order code.now machine.old.home (state_of machine.old) (source_seen S.Source.left S.Source.ended S.Source.faults source.old source.new) (notes_seen items.old items.new (L.number steps.old) (L.number steps.new) machine.old.cells machine.new.cells) (state_of machine.new) result }
-    ensures home { machine.new.home ≡ machine.old.home }
+    ensures outside { OnOk result (outside machine.new ≡ outside machine.old) }
     ensures later { S.Source.faults source.old ≤ S.Source.faults source.new }
 {
+    // No stream within the limit has so many turns.
     for _turn in 0..u64::MAX {
         let instr = code[machine.pc];
-        match machine.turn(order, code, instr, values, intake, source, items, steps) {
+        match take_turn(machine, order, code, instr, values, intake, source, items, steps) {
             Ok(Progress::More) => {}
             Ok(Progress::Whole) => return Ok(()),
             Err(fault) => return Err(fault),
@@ -57,7 +62,7 @@ pub fn run<S: Source, L: Ledger>(
     Err(DecodeFault::Memory)
 }
 
-// One step: a row of numbers where there is one.
+// One step; a row of numbers where there is one.
 fn take_turn<S: Source, L: Ledger>(
     machine: &mut Machine,
     order: Order,
@@ -73,22 +78,69 @@ fn take_turn<S: Source, L: Ledger>(
     requires here { slice_get code.now machine.old.pc ≡ Some instr }
     requires safe { (fetched : List ℕ) (noted : List Item) (s : State) → Reaches values.now order code.now machine.old.home (state_of machine.old) fetched noted s → IsSafe code.now s }
     ensures turns { Turns values.now order code.now machine.old.home (state_of machine.old) (source_seen S.Source.left S.Source.ended S.Source.faults source.old source.new) (notes_seen items.old items.new (L.number steps.old) (L.number steps.new) machine.old.cells machine.new.cells) (state_of machine.new) result }
-    ensures home { machine.new.home ≡ machine.old.home }
+    ensures outside { OnOk result (outside machine.new ≡ outside machine.old) }
     ensures later { S.Source.faults source.old ≤ S.Source.faults source.new }
 {
-    if let Instr::Num { of } = instr {
-        let prim = prim_of(of.0);
-        let count = row_len(machine, code, prim);
-        if count > 1 {
-            return take_row(machine, order, code, values, of, count, intake, source, items, steps);
-        }
+    let Instr::Num { of } = instr else {
+        return take_one(machine, order, code, instr, values, intake, source, items, steps);
+    };
+    let count = row_len(machine, code, prim_of(of.0));
+    if count == 1 {
+        return take_one(machine, order, code, instr, values, intake, source, items, steps);
     }
-    match wanted(machine, instr, values) {
-        Want::Gap(count) => fetched(intake.gap(source, machine.at, count))?,
-        Want::Item(count) => fetched(intake.item(source, machine.at, count))?,
-    }
+    take_row(machine, order, code, values, of, count, intake, source, items, steps)
+}
+
+// One step.
+fn take_one<S: Source, L: Ledger>(
+    machine: &mut Machine,
+    order: Order,
+    code: &[Instr],
+    instr: Instr,
+    values: &EnumLists,
+    intake: &mut Intake,
+    source: &mut S,
+    items: &mut ItemLog,
+    steps: &mut Steps<L>,
+) -> Result<Progress, DecodeFault>
+    requires short { length code.now < 2 ^ 32 }
+    requires here { slice_get code.now machine.old.pc ≡ Some instr }
+    requires safe { (fetched : List ℕ) (noted : List Item) (s : State) → Reaches values.now order code.now machine.old.home (state_of machine.old) fetched noted s → IsSafe code.now s }
+    ensures turns { Turns values.now order code.now machine.old.home (state_of machine.old) (source_seen S.Source.left S.Source.ended S.Source.faults source.old source.new) (notes_seen items.old items.new (L.number steps.old) (L.number steps.new) machine.old.cells machine.new.cells) (state_of machine.new) result }
+    ensures outside { OnOk result (outside machine.new ≡ outside machine.old) }
+    ensures later { S.Source.faults source.old ≤ S.Source.faults source.new }
+{
+    let came = fetch(machine, instr, values, intake, source);
+    are_octets(intake.octets());
+    came?;
     take_step(machine, order, intake.octets(), instr, values, items, steps)
 }
+
+// Fetches the octets that a step wants.
+fn fetch<S: Source>(
+    machine: &Machine,
+    instr: Instr,
+    values: &EnumLists,
+    intake: &mut Intake,
+    source: &mut S,
+) -> Result<(), DecodeFault>
+    requires inner { IsInner instr }
+    requires within { machine.now.at ≤ STREAM_LIMIT }
+    ensures fetched { Fetches (wants values.now instr (state_of machine.now)) machine.now.at (source_seen S.Source.left S.Source.ended S.Source.faults source.old source.new) intake.new result }
+    ensures fits { IfOk result (λ _. machine.now.at + length intake.new + 8 < 2 ^ 32) }
+    ensures left { Consumes (S.Source.left source.old) (S.Source.left source.new) intake.new }
+    ensures later { S.Source.faults source.old ≤ S.Source.faults source.new }
+{
+    match wanted(machine, instr, values) {
+        Want::Gap(count) => fetched(intake.gap(source, machine.at, count)),
+        Want::Item(count) => fetched(intake.item(source, machine.at, count)),
+    }
+}
+
+// Octets are numbers below 256.
+fn are_octets(octets: &[u8])
+    ensures { AreOctets octets.now }
+{}
 
 // So many numbers in a row.
 fn take_row<S: Source, L: Ledger>(
@@ -103,32 +155,49 @@ fn take_row<S: Source, L: Ledger>(
     items: &mut ItemLog,
     steps: &mut Steps<L>,
 ) -> Result<Progress, DecodeFault>
-    requires short { length code.now < 2 ^ 32 }
     requires many { 1 < count }
     requires piece { count * width (prim_of of.0) ≤ PIECE }
     requires within { machine.old.at + count * width (prim_of of.0) ≤ STREAM_LIMIT }
     requires aligned { machine.old.at % width (prim_of of.0) ≡ 0 }
     requires row { IsInRow code.now (count - 1) machine.old.pc (prim_of of.0) machine.old.top }
+    requires short { length code.now < 2 ^ 32 }
     requires here { slice_get code.now machine.old.pc ≡ Some (op.Num of) }
     requires safe { (fetched : List ℕ) (noted : List Item) (s : State) → Reaches values.now order code.now machine.old.home (state_of machine.old) fetched noted s → IsSafe code.now s }
     ensures turns { Turns values.now order code.now machine.old.home (state_of machine.old) (source_seen S.Source.left S.Source.ended S.Source.faults source.old source.new) (notes_seen items.old items.new (L.number steps.old) (L.number steps.new) machine.old.cells machine.new.cells) (state_of machine.new) result }
-    ensures home { machine.new.home ≡ machine.old.home }
+    ensures outside { OnOk result (outside machine.new ≡ outside machine.old) }
     ensures later { S.Source.faults source.old ≤ S.Source.faults source.new }
 {
     let prim = prim_of(of.0);
-    let wide = width_of(prim) as u32;
-    match fetched(intake.item(source, machine.at, count * wide)) {
-        Ok(()) => {}
-        Err(fault) => {
-            let came = intake.octets().len() as u32 / wide;
-            if came > 0 {
-                note_row(machine, order, intake.octets(), prim, came, items, steps)?;
-            }
-            return Err(fault);
-        }
+    let came = fetched(intake.item(source, machine.at, count * width_of(prim) as u32));
+    are_octets(intake.octets());
+    if let Err(fault) = came {
+        note_whole(machine, order, intake.octets(), prim, items, steps)?;
+        return Err(fault);
     }
     read_row(machine, order, intake.octets(), prim, count, items, steps)?;
     Ok(Progress::More)
+}
+
+// Notes the numbers of a row whose octets have all come.
+fn note_whole<L: Ledger>(
+    machine: &Machine,
+    order: Order,
+    octets: &[u8],
+    prim: Prim,
+    items: &mut ItemLog,
+    steps: &mut Steps<L>,
+) -> Result<(), DecodeFault>
+    requires fits { machine.now.at + length octets.now < 2 ^ 32 }
+    requires few { machine.now.count + length octets.now < 2 ^ 32 }
+    ensures noted { RowNoted order prim machine.now.home machine.now.at machine.now.count (length octets.now / width prim) (take (length octets.now / width prim * width prim) octets.now) (notes_seen items.old items.new (L.number steps.old) (L.number steps.new) machine.now.cells machine.now.cells) result }
+    ensures memory { IfErr result (λ e. e ≡ fault.Memory) }
+{
+    let wide = width_of(prim);
+    let count = octets.len() / wide;
+    if count == 0 {
+        return Ok(());
+    }
+    note_row(machine, order, &octets[..count * wide], prim, count as u32, items, steps)
 }
 
 /// What a fault of the intake says of a stream. Takes no memory.

@@ -1,8 +1,10 @@
 // What each instruction does.
-ghost use Rattle.std.specs.Prelude.{◌≡◌, ◌<◌, ◌+◌, ◌^◌, length};
+ghost use Rattle.std.specs.Prelude.{◌≡◌, ◌≢◌, ◌<◌, ◌+◌, ◌^◌, true, false, [], length, OnOk};
+ghost use Rattle.ndr_code.specs.declared.instr.Instr.TheVariants as op;
 ghost use Rattle.ndr_steps.specs.Steps.{IsInner, step, wants, text_want, hoist_want, limit_of};
-ghost use Rattle.ndr_state.specs.Seen.{state_of, phase_of, Comes, Does, Wants};
-ghost use Rattle.ndr_machine.specs.Parts.{HasWanted, arm_tried};
+ghost use Rattle.ndr_state.specs.Seen.{state_of, phase_of, Comes, Does, outside};
+ghost use Rattle.ndr_machine.specs.Wanting.{Wants, IsFewGap};
+ghost use Rattle.ndr_machine.specs.Parts.{HasWanted, arm_tried, reads, Acts, ActNoted};
 ghost use Rattle.ndr_steps.specs.StepItems.{arm_items, step_items};
 ghost use Rattle.ndr_state.specs.Notes.{Noted, notes_seen};
 
@@ -30,7 +32,8 @@ pub enum Want {
 /// The octets that an instruction wants next. Takes no memory.
 pub fn wanted(machine: &Machine, instr: Instr, values: &EnumLists) -> Want
     requires inner { IsInner instr }
-    ensures { Wants (wants values.now instr (state_of machine.now)) result }
+    ensures wants { Wants (wants values.now instr (state_of machine.now)) result }
+    ensures few { IsFewGap result }
 {
     match instr {
         Instr::Align { to } => Want::Gap(gap_before(machine.at, to)),
@@ -77,7 +80,8 @@ pub fn wanted(machine: &Machine, instr: Instr, values: &EnumLists) -> Want
 
 // The octets that a string wants next.
 fn text_wanted(machine: &Machine) -> Want
-    ensures { Wants (text_want (phase_of machine.now.phase)) result }
+    ensures wants { Wants (text_want [] (phase_of machine.now.phase)) result }
+    ensures few { IsFewGap result }
 {
     match machine.phase {
         Phase::CountRead(count) => Want::Item(count.saturating_add(1)),
@@ -87,7 +91,8 @@ fn text_wanted(machine: &Machine) -> Want
 
 // The octets that a maximum count wants next.
 fn hoist_wanted(machine: &Machine) -> Want
-    ensures { Wants (hoist_want (phase_of machine.now.phase) machine.now.at) result }
+    ensures wants { Wants (hoist_want [] (phase_of machine.now.phase) machine.now.at) result }
+    ensures few { IsFewGap result }
 {
     match machine.phase {
         Phase::GapRead => Want::Item(4),
@@ -116,68 +121,158 @@ pub fn take_step<L: Ledger>(
     requires few { machine.old.count + 1 < 2 ^ 32 }
     requires cells { machine.old.cells + 1 < 2 ^ 32 }
     ensures does { Comes (step values.now order octets.now instr (state_of machine.old)) result (state_of machine.new) }
-    ensures noted { Noted (step_items order machine.old.home octets.now instr (state_of machine.old)) (notes_seen items.old items.new (L.number steps.old) (L.number steps.new) machine.old.cells machine.new.cells) result }
-    ensures home { machine.new.home ≡ machine.old.home }
+    ensures noted { Noted (step values.now order octets.now instr (state_of machine.old)) (step_items order machine.old.home octets.now instr (state_of machine.old)) (notes_seen items.old items.new (L.number steps.old) (L.number steps.new) machine.old.cells machine.new.cells) result }
+    ensures outside { OnOk result (outside machine.new ≡ outside machine.old) }
+{
+    if let Instr::Ret = instr {
+        return Ok(machine.ret());
+    }
+    go_on(machine, order, octets, instr, values, items, steps)?;
+    Ok(Progress::More)
+}
+
+// An instruction after which there is more.
+fn go_on<L: Ledger>(
+    machine: &mut Machine,
+    order: Order,
+    octets: &[u8],
+    instr: Instr,
+    values: &EnumLists,
+    items: &mut ItemLog,
+    steps: &mut Steps<L>,
+) -> Result<(), DecodeFault>
+    requires more { instr ≢ op.Ret }
+    requires inner { IsInner instr }
+    requires wanted { HasWanted (wants values.now instr (state_of machine.old)) octets.now }
+    requires code { machine.old.pc < 2 ^ 32 }
+    requires fits { machine.old.at + length octets.now + 8 < 2 ^ 32 }
+    requires few { machine.old.count + 1 < 2 ^ 32 }
+    requires cells { machine.old.cells + 1 < 2 ^ 32 }
+    ensures does { Does (step values.now order octets.now instr (state_of machine.old)) result (state_of machine.new) }
+    ensures noted { Noted (step values.now order octets.now instr (state_of machine.old)) (step_items order machine.old.home octets.now instr (state_of machine.old)) (notes_seen items.old items.new (L.number steps.old) (L.number steps.new) machine.old.cells machine.new.cells) result }
+    ensures outside { OnOk result (outside machine.new ≡ outside machine.old) }
+{
+    if reads_octets(instr) {
+        read_item(machine, order, octets, instr, values, items, steps)
+    } else {
+        act(machine, instr, items, steps)
+    }
+}
+
+// Whether an instruction reads octets.
+fn reads_octets(instr: Instr) -> bool
+    ensures { result ≡ reads instr }
 {
     match instr {
-        Instr::Void => machine.skip(),
-        Instr::Ret => return Ok(machine.ret()),
-        Instr::Align { to: _ } => align(machine, octets, items, steps)?,
-        Instr::Num { of } => number(machine, order, octets, prim_of(of.0), items, steps)?,
-        Instr::Enum { of } => enumerated(machine, order, octets, values, of, items, steps)?,
-        Instr::Record { members } => machine.record(members)?,
-        Instr::Close => machine.close(),
-        Instr::Fixed { count, run } => array(machine, count, run)?,
-        Instr::Conf { run } => {
-            let max = machine.max;
-            array(machine, max, run)?
+        Instr::Align { to: _ }
+        | Instr::Num { of: _ }
+        | Instr::Enum { of: _ }
+        | Instr::Vary { bound: _, run: _ }
+        | Instr::Confvary { run: _ }
+        | Instr::Text { bound: _ }
+        | Instr::Hoist
+        | Instr::Tag { of: _ }
+        | Instr::Pointer {
+            class: _,
+            to: _,
+            run: _,
         }
-        Instr::Vary { bound, run } => varying(machine, order, octets, bound, run, items, steps)?,
+        | Instr::Context => true,
+        _ => false,
+    }
+}
+
+// An instruction that reads octets.
+fn read_item<L: Ledger>(
+    machine: &mut Machine,
+    order: Order,
+    octets: &[u8],
+    instr: Instr,
+    values: &EnumLists,
+    items: &mut ItemLog,
+    steps: &mut Steps<L>,
+) -> Result<(), DecodeFault>
+    requires reads { reads instr ≡ true }
+    requires wanted { HasWanted (wants values.now instr (state_of machine.old)) octets.now }
+    requires code { machine.old.pc < 2 ^ 32 }
+    requires fits { machine.old.at + length octets.now + 8 < 2 ^ 32 }
+    requires few { machine.old.count + 1 < 2 ^ 32 }
+    requires cells { machine.old.cells + 1 < 2 ^ 32 }
+    ensures does { Does (step values.now order octets.now instr (state_of machine.old)) result (state_of machine.new) }
+    ensures noted { Noted (step values.now order octets.now instr (state_of machine.old)) (step_items order machine.old.home octets.now instr (state_of machine.old)) (notes_seen items.old items.new (L.number steps.old) (L.number steps.new) machine.old.cells machine.new.cells) result }
+    ensures outside { OnOk result (outside machine.new ≡ outside machine.old) }
+{
+    match instr {
+        Instr::Align { to: _ } => align(machine, octets, items, steps),
+        Instr::Num { of } => number(machine, order, octets, prim_of(of.0), items, steps),
+        Instr::Enum { of } => enumerated(machine, order, octets, values, of, items, steps),
+        Instr::Vary { bound, run } => varying(machine, order, octets, bound, run, items, steps),
         Instr::Confvary { run } => {
             let max = machine.max;
-            varying(machine, order, octets, max, run, items, steps)?
+            varying(machine, order, octets, max, run, items, steps)
         }
         Instr::Text { bound } => {
             let max = limit(machine, bound);
-            text(machine, order, octets, max, items, steps)?
+            text(machine, order, octets, max, items, steps)
         }
-        Instr::Hoist => hoist(machine, order, octets, items, steps)?,
-        Instr::Tag { of } => tag(machine, order, octets, values, of)?,
-        Instr::Arm { label, run } => try_arm(machine, label, run, items, steps)?,
-        Instr::Other { run } => arm(machine, run, items, steps)?,
-        Instr::Noarm => {
-            return Err(DecodeFault::Bad {
-                place: machine.at,
-                reason: Reason::NoArm,
-            });
+        Instr::Hoist => hoist(machine, order, octets, items, steps),
+        Instr::Tag { of } => tag(machine, order, octets, values, of),
+        Instr::Pointer { class, to, run } => {
+            let to = To { class, to, run };
+            pointer(machine, order, octets, to, items, steps)
         }
-        Instr::Pointer { class, to, run } => pointer(
-            machine,
-            order,
-            octets,
-            To { class, to, run },
-            items,
-            steps,
-        )?,
-        Instr::Context => context(machine, order, octets, items, steps)?,
+        Instr::Context => context(machine, order, octets, items, steps),
+        _ => unreachable!(),
+    }
+}
+
+// An instruction that reads nothing, and after which there is more.
+fn act<L: Ledger>(
+    machine: &mut Machine,
+    instr: Instr,
+    items: &mut ItemLog,
+    steps: &mut Steps<L>,
+) -> Result<(), DecodeFault>
+    requires idle { reads instr ≡ false }
+    requires more { instr ≢ op.Ret }
+    requires inner { IsInner instr }
+    requires code { machine.old.pc < 2 ^ 32 }
+    requires fits { machine.old.at + 8 < 2 ^ 32 }
+    requires few { machine.old.count + 1 < 2 ^ 32 }
+    ensures does { Acts instr (state_of machine.old) result (state_of machine.new) }
+    ensures noted { ActNoted machine.old.home instr (state_of machine.old) (notes_seen items.old items.new (L.number steps.old) (L.number steps.new) machine.old.cells machine.new.cells) result }
+    ensures outside { OnOk result (outside machine.new ≡ outside machine.old) }
+{
+    match instr {
+        Instr::Void => {
+            machine.skip();
+            Ok(())
+        }
+        Instr::Record { members } => machine.record(members),
+        Instr::Close => {
+            machine.close();
+            Ok(())
+        }
+        Instr::Fixed { count, run } => array(machine, count, run),
+        Instr::Conf { run } => {
+            let max = machine.max;
+            array(machine, max, run)
+        }
+        Instr::Arm { label, run } => try_arm(machine, label, run, items, steps),
+        Instr::Other { run } => arm(machine, run, items, steps),
+        Instr::Noarm => Err(DecodeFault::Bad {
+            place: machine.at,
+            reason: Reason::NoArm,
+        }),
         Instr::Check {
             attr,
             field,
             var,
             star: _,
-        } => check(machine, attr, field, var)?,
-        Instr::Call { run } => machine.call(run)?,
-        Instr::Direct { to: _, run: _ }
-        | Instr::Given {
-            attr: _,
-            field: _,
-            var: _,
-            star: _,
-        }
-        | Instr::Pipe { run: _ }
-        | Instr::Defer => unreachable!(),
+        } => check(machine, attr, field, var),
+        Instr::Call { run } => machine.call(run),
+        _ => unreachable!(),
     }
-    Ok(Progress::More)
 }
 
 // `arm`
@@ -192,8 +287,8 @@ fn try_arm<L: Ledger>(
     requires fits { machine.old.at + 8 < 2 ^ 32 }
     requires few { machine.old.count + 1 < 2 ^ 32 }
     ensures does { Does (arm_tried label run (state_of machine.old)) result (state_of machine.new) }
-    ensures noted { Noted (arm_items machine.old.home label (state_of machine.old)) (notes_seen items.old items.new (L.number steps.old) (L.number steps.new) machine.old.cells machine.new.cells) result }
-    ensures home { machine.new.home ≡ machine.old.home }
+    ensures noted { Noted (arm_tried label run (state_of machine.old)) (arm_items machine.old.home label (state_of machine.old)) (notes_seen items.old items.new (L.number steps.old) (L.number steps.new) machine.old.cells machine.new.cells) result }
+    ensures outside { OnOk result (outside machine.new ≡ outside machine.old) }
 {
     if label != machine.tag {
         machine.skip();

@@ -1,8 +1,8 @@
 // Strings.
-ghost use Rattle.std.specs.Prelude.{◌≡◌, ◌<◌, ◌+◌, ◌^◌, length, pos, [], ◌∷◌};
+ghost use Rattle.std.specs.Prelude.{◌≡◌, ◌<◌, ◌+◌, ◌^◌, length, pos, [], ◌∷◌, OnOk};
 ghost use Rattle.nd_grammar.specs.Refusal.{text_refusal};
 ghost use Rattle.ndr_steps.specs.Steps.{text_by, text_done};
-ghost use Rattle.ndr_state.specs.Seen.{state_of, Does, phase_of};
+ghost use Rattle.ndr_state.specs.Seen.{state_of, Does, phase_of, outside};
 ghost use Rattle.nd_value.specs.declared.item.ItemKind.TheVariants as item;
 ghost use Rattle.ndr_steps.specs.StepItems.{next_item, text_items};
 ghost use Rattle.ndr_state.specs.Notes.{Noted, notes_seen};
@@ -28,8 +28,8 @@ pub(crate) fn text<L: Ledger>(
     requires fits { machine.old.at + length octets.now < 2 ^ 32 }
     requires few { machine.old.count + 1 < 2 ^ 32 }
     ensures does { Does (text_by order octets.now (phase_of machine.old.phase) limit (state_of machine.old)) result (state_of machine.new) }
-    ensures noted { Noted (text_items order machine.old.home octets.now (phase_of machine.old.phase) (state_of machine.old)) (notes_seen items.old items.new (L.number steps.old) (L.number steps.new) machine.old.cells machine.new.cells) result }
-    ensures home { machine.new.home ≡ machine.old.home }
+    ensures noted { Noted (text_by order octets.now (phase_of machine.old.phase) limit (state_of machine.old)) (text_items order machine.old.home octets.now (phase_of machine.old.phase) (state_of machine.old)) (notes_seen items.old items.new (L.number steps.old) (L.number steps.new) machine.old.cells machine.new.cells) result }
+    ensures outside { OnOk result (outside machine.new ≡ outside machine.old) }
 {
     match machine.phase {
         Phase::CountRead(_) => text_octets(machine, octets, limit, items, steps),
@@ -52,8 +52,8 @@ fn text_offset<L: Ledger>(
 ) -> Result<(), DecodeFault>
     requires fits { machine.old.at + 4 < 2 ^ 32 }
     ensures does { Does (text_offset_read offset (state_of machine.old)) result (state_of machine.new) }
-    ensures noted { Noted (next_item machine.old.home (state_of machine.old) item.Offset 4 (pos offset) ∷ []) (notes_seen items.old items.new (L.number steps.old) (L.number steps.new) machine.old.cells machine.new.cells) result }
-    ensures home { machine.new.home ≡ machine.old.home }
+    ensures noted { Noted (text_offset_read offset (state_of machine.old)) (next_item machine.old.home (state_of machine.old) item.Offset 4 (pos offset) ∷ []) (notes_seen items.old items.new (L.number steps.old) (L.number steps.new) machine.old.cells machine.new.cells) result }
+    ensures outside { OnOk result (outside machine.new ≡ outside machine.old) }
 {
     if offset != 0 {
         return Err(DecodeFault::Bad {
@@ -74,8 +74,8 @@ fn text_count<L: Ledger>(
 ) -> Result<(), DecodeFault>
     requires fits { machine.old.at + 4 < 2 ^ 32 }
     ensures does { Does (text_count_read count limit (state_of machine.old)) result (state_of machine.new) }
-    ensures noted { Noted (next_item machine.old.home (state_of machine.old) item.Actual 4 (pos count) ∷ []) (notes_seen items.old items.new (L.number steps.old) (L.number steps.new) machine.old.cells machine.new.cells) result }
-    ensures home { machine.new.home ≡ machine.old.home }
+    ensures noted { Noted (text_count_read count limit (state_of machine.old)) (next_item machine.old.home (state_of machine.old) item.Actual 4 (pos count) ∷ []) (notes_seen items.old items.new (L.number steps.old) (L.number steps.new) machine.old.cells machine.new.cells) result }
+    ensures outside { OnOk result (outside machine.new ≡ outside machine.old) }
 {
     if count == 0 {
         return Err(DecodeFault::Bad {
@@ -112,8 +112,8 @@ fn text_octets<L: Ledger>(
     requires fits { machine.old.at + length octets.now < 2 ^ 32 }
     requires few { machine.old.count + 1 < 2 ^ 32 }
     ensures does { Does (text_done (text_refusal machine.old.at octets.now) limit octets.now (state_of machine.old)) result (state_of machine.new) }
-    ensures noted { Noted (next_item machine.old.home (state_of machine.old) item.Text (length octets.now) (pos (length octets.now)) ∷ []) (notes_seen items.old items.new (L.number steps.old) (L.number steps.new) machine.old.cells machine.new.cells) result }
-    ensures home { machine.new.home ≡ machine.old.home }
+    ensures noted { Noted (text_done (text_refusal machine.old.at octets.now) limit octets.now (state_of machine.old)) (next_item machine.old.home (state_of machine.old) item.Text (length octets.now) (pos (length octets.now)) ∷ []) (notes_seen items.old items.new (L.number steps.old) (L.number steps.new) machine.old.cells machine.new.cells) result }
+    ensures outside { OnOk result (outside machine.new ≡ outside machine.old) }
 {
     if let Some((place, reason)) = refused_text(machine.at, octets) {
         return Err(DecodeFault::Bad { place, reason });

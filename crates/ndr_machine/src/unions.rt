@@ -1,9 +1,9 @@
 // Unions.
-ghost use Rattle.std.specs.Prelude.{◌≡◌, ◌<◌, ◌+◌, ◌^◌, eqb, length};
+ghost use Rattle.std.specs.Prelude.{◌≡◌, ◌<◌, ◌+◌, ◌^◌, eqb, length, OnOk};
 ghost use Rattle.nd_types.specs.Table.{width};
 ghost use Rattle.ndr_code.specs.Lines.{enumerators};
 ghost use Rattle.ndr_steps.specs.Steps.{goes, arm_taken, tag_step, form_by};
-ghost use Rattle.ndr_state.specs.Seen.{state_of, Does};
+ghost use Rattle.ndr_state.specs.Seen.{state_of, Does, outside};
 ghost use Rattle.ndr_steps.specs.StepItems.{tag_items};
 ghost use Rattle.ndr_state.specs.Notes.{Noted, notes_seen};
 
@@ -28,8 +28,8 @@ pub(crate) fn tag(
 ) -> Result<(), DecodeFault>
     requires wide { length octets.now ≡ width (form_by of.0 (enumerators values.now of.0)).prim }
     requires code { machine.old.pc < 2 ^ 32 }
-    ensures does { Does (tag_step order octets.now (form_by of.0 (enumerators values.now of.0)) (state_of machine.old)) result (state_of machine.new) }
-    ensures home { machine.new.home ≡ machine.old.home }
+    ensures does { Does (tag_step values.now order octets.now (form_by of.0 (enumerators values.now of.0)) (state_of machine.old)) result (state_of machine.new) }
+    ensures outside { OnOk result (outside machine.new ≡ outside machine.old) }
 {
     let carrier = carrier_of(values, of);
     let value = read_value(order, carrier, octets);
@@ -55,8 +55,8 @@ pub(crate) fn arm<L: Ledger>(
     requires fits { machine.old.at + 8 < 2 ^ 32 }
     requires few { machine.old.count + 1 < 2 ^ 32 }
     ensures does { Does (goes (arm_taken (eqb run 0) run (state_of machine.old))) result (state_of machine.new) }
-    ensures noted { Noted (tag_items machine.old.home (state_of machine.old)) (notes_seen items.old items.new (L.number steps.old) (L.number steps.new) machine.old.cells machine.new.cells) result }
-    ensures home { machine.new.home ≡ machine.old.home }
+    ensures noted { Noted (goes (arm_taken (eqb run 0) run (state_of machine.old))) (tag_items machine.old.home (state_of machine.old)) (notes_seen items.old items.new (L.number steps.old) (L.number steps.new) machine.old.cells machine.new.cells) result }
+    ensures outside { OnOk result (outside machine.new ≡ outside machine.old) }
 {
     let len = width_of(machine.carrier) as u32;
     machine.note(ItemKind::Tag, len, machine.tag, items, steps)?;
@@ -72,15 +72,17 @@ pub(crate) fn arm<L: Ledger>(
 // Goes to the run of an arm, if it is not the empty one.
 fn enter_arm(machine: &mut Machine, run: u32) -> Result<(), DecodeFault>
     ensures does { Does (goes (arm_entered run (state_of machine.old))) result (state_of machine.new) }
-    ensures home { machine.new.home ≡ machine.old.home }
+    ensures outside { OnOk result (outside machine.new ≡ outside machine.old) }
 {
-    if run != 0 {
-        machine.push(Frame::Elements {
-            left: 0,
-            run,
-            back: 1,
-        })?;
+    if run == 0 {
+        machine.jump(0);
+        return Ok(());
     }
+    machine.push(Frame::Elements {
+        left: 0,
+        run,
+        back: 1,
+    })?;
     machine.jump(run as usize);
     Ok(())
 }

@@ -1,0 +1,136 @@
+-- Items of rows of numbers, noted one after the other.
+-- `o` is an order, `p` a primitive, `h` a home, `os` are octets, `n`, `k`, `i` numbers of numbers, `g` is a log.
+use Rattle.std.proofs.Common.{◌≡◌, ◌<◌, ◌≤◌, ℕ, ◌+◌, ◌-◌, ◌*◌, zero, suc, ℤ, Bool, true, false, List, [], ◌∷◌, ◌++◌, length, take, drop, Result, IsErrAnd, refl, sym, ap, ap₂, ◌∙◌, subst, arith, length-append}
+use Rattle.std.proofs.lemmas.List.{drop-drop}
+use Rattle.nd_base.specs.declared.octets.Order.{Order}
+use Rattle.nd_types.specs.declared.types.Primitive.{Primitive}
+use Rattle.nd_types.specs.Number.{value_of_octets}
+use Rattle.nd_types.specs.Table.{width}
+use Rattle.nd_value.specs.Logged.{Logged, noted, noted_by}
+use Rattle.nd_value.specs.declared.item.Home.{Home}
+use Rattle.nd_value.specs.declared.item.Item.{Item}
+use Rattle.nd_value.specs.declared.item.ItemKind.TheVariants as item
+use Rattle.nd_flat.specs.FlatForm.{row_values, num_flats}
+use Rattle.ndr_steps.specs.Steps.{State}
+use Rattle.ndr_steps.specs.StepItems.{item_here}
+use Rattle.ndr_runs.specs.Rows.{row_items}
+use Rattle.ndr_state.specs.Notes.{notes_seen, all_noted, number_ahead}
+use Rattle.ndr_state.specs.declared.fault.DecodeFault.{DecodeFault}
+use Rattle.ndr_state.specs.declared.fault.DecodeFault.TheVariants as fault
+use Rattle.ndr_machine.specs.Notes.{IsRowPart, RowNoted}
+use Rattle.ndr_machine.proofs.Noting.{memory_on}
+
+-- ## Logs
+
+pub all_noted_more : (xs : List Item) (x : Item) (g : Logged) → all_noted (xs ++ x ∷ []) g ≡ noted x (all_noted xs g)
+all_noted_more [] x g = refl
+all_noted_more (y ∷ ys) x g = all_noted_more ys x (noted y g)
+
+-- a log that keeps nothing stays as it is
+pub nothing_kept : (xs : List Item) (g : Logged) → g.keeps ≡ false → all_noted xs g ≡ g
+nothing_kept [] g e = refl
+nothing_kept (x ∷ xs) g e =
+    let same : noted x g ≡ g = ap (λ b. noted_by b x g.items) e ∙ ap (λ b. record { keeps = b; items = g.items }) (sym e) in
+    ap (all_noted xs) same ∙ nothing_kept xs g e
+
+keeps_by : (b : Bool) (x : Item) (xs : List Item) → length (noted_by b x xs).items ≡ length xs → b ≡ false
+keeps_by true x xs e = absurd (omega (arith, e, length-append xs (x ∷ [])))
+keeps_by false x xs e = refl
+
+-- a log that is as long after an item as before keeps nothing
+pub keeps_nothing : (x : Item) (g : Logged) → length (noted x g).items ≡ length g.items → g.keeps ≡ false
+keeps_nothing x g e = keeps_by g.keeps x g.items e
+
+-- ## The items of a row
+
+module _ (o : Order) (p : Primitive) (h : Home) where
+  abbrev pub number_item : ℕ → ℕ → List ℕ → Item
+  number_item at node os = item_here h at item.Num (width p) (value_of_octets o p (take (width p) os)) node
+
+  -- one more
+  pub row_items_more : (at node k : ℕ) (os : List ℕ)
+      → row_items o p h at node (suc k) os ≡ row_items o p h at node k os ++ number_item (at + k * width p) (node + k) (drop (k * width p) os) ∷ []
+  row_items_more at node zero os =
+      let a : at ≡ at + 0 * width p = omega arith in
+      let j : node ≡ node + 0 = omega arith in
+      let d : 0 ≡ 0 * width p = omega arith in
+      ap (λ x. x ∷ []) (ap₂ (λ x y. number_item x y os) a j ∙ ap (λ i. number_item (at + 0 * width p) (node + 0) (drop i os)) d)
+  row_items_more at node (suc k) os =
+      let a : at + width p + k * width p ≡ at + suc k * width p = omega arith in
+      let j : node + 1 + k ≡ node + suc k = omega arith in
+      let d : width p + k * width p ≡ suc k * width p = omega arith in
+      let first : List Item = row_items o p h (at + width p) (node + 1) k (drop (width p) os) in
+      ap (λ xs. number_item at node os ∷ xs)
+      (row_items_more (at + width p) (node + 1) k (drop (width p) os)
+      ∙ ap (λ i. first ++ number_item (at + width p + k * width p) (node + 1 + k) i ∷ []) (drop-drop (k * width p) (width p) os ∙ ap (λ i. drop i os) d)
+      ∙ ap₂ (λ x y. first ++ number_item x y (drop (suc k * width p) os) ∷ []) a j)
+
+  -- ## So many of them noted
+
+  module _ (at node : ℕ) (os : List ℕ) where
+    -- the first ones were noted and counted
+    pub record IsRowNoted (i : ℕ) (log log' : Logged) (steps steps' : ℕ) : Type 0 where
+      pub log_is : log' ≡ all_noted (row_items o p h at node i os) log
+      pub steps_are : steps' ≡ steps + i
+
+    pub row_begins : (log : Logged) (steps : ℕ) → IsRowNoted 0 log log steps steps
+    row_begins log steps = record { log_is = refl; steps_are = omega arith }
+
+    -- one more, as the code reads it
+    pub number_noted : (s : State) (i wide to : ℕ) (z z' : ℤ) (log log' log'' : Logged) (steps steps' steps'' : ℕ) → s.at ≡ at → length s.nodes ≡ node → wide ≡ width p
+        → to ≡ i * wide + wide → z ≡ value_of_octets o p (take (to - i * wide) (drop (i * wide) os)) → z' ≡ z → log'' ≡ noted (number_ahead h s i wide z') log'
+        → steps'' ≡ steps' + 1 → IsRowNoted i log log' steps steps' → IsRowNoted (i + 1) log log'' steps steps''
+    number_noted s i wide to z z' log log' log'' steps steps' steps'' ea en ew et ez ez' el es n = record {
+      log_is =
+          let k : to - i * wide ≡ width p = omega (arith, et, ew) in
+          let d : i * wide ≡ i * width p = ap (λ w. i * w) ew in
+          let value : z' ≡ value_of_octets o p (take (width p) (drop (i * width p) os)) =
+              ez' ∙ ez ∙ ap₂ (λ x y. value_of_octets o p (take x (drop y os))) k d in
+          let here : number_ahead h s i wide z' ≡ number_item (at + i * width p) (node + i) (drop (i * width p) os) =
+              ap₂ (λ x y. item_here h (x + i * wide) item.Num wide z' (y + i)) ea en
+              ∙ ap₂ (λ w z. item_here h (at + i * w) item.Num w z (node + i)) ew value in
+          let one : suc i ≡ i + 1 = omega arith in
+          el ∙ ap₂ noted here n.log_is ∙ sym (all_noted_more (row_items o p h at node i os) (number_item (at + i * width p) (node + i) (drop (i * width p) os)) log)
+          ∙ ap (λ xs. all_noted xs log) (sym (row_items_more at node i os)) ∙ ap (λ j. all_noted (row_items o p h at node j os) log) one;
+      steps_are = let e = n.steps_are in omega (arith, e, es);
+    }
+
+    -- all of them
+    pub row_noted : (i n : ℕ) (log log' : Logged) (steps steps' : ℕ) → i ≡ n → IsRowNoted i log log' steps steps'
+        → (log' ≡ all_noted (row_items o p h at node n os) log) × (steps' ≡ steps + n)
+    row_noted i n log log' steps steps' e r =
+        (r.log_is ∙ ap (λ j. all_noted (row_items o p h at node j os) log) e, let s = r.steps_are in omega (arith, s, e))
+
+    -- memory was refused at the next
+    pub row_stopped : (i n : ℕ) (log log' log'' : Logged) (steps steps' steps'' k k' : ℕ) (r : Result (Unit {0}) DecodeFault) (e : DecodeFault)
+        → IsErrAnd r (λ y. y ≡ e) → e ≡ fault.Memory → i ≤ n → log'' ≡ log' → steps'' ≡ steps' → IsRowNoted i log log' steps steps'
+        → RowNoted o p h at node n os (notes_seen log log'' steps steps'' k k') r
+    row_stopped i n log log' log'' steps steps' steps'' k k' r e h m le el es row =
+        subst (λ (y : Result (Unit {0}) DecodeFault). RowNoted o p h at node n os (notes_seen log log'' steps steps'' k k') y) (sym (memory_on r e h m))
+        (record { some = i; few = le; log = el ∙ row.log_is; steps = let s = row.steps_are in omega (arith, s, es) })
+
+    -- nothing is kept, and the others are counted
+    pub row_counted : (n more : ℕ) (log log' : Logged) (steps steps' steps'' : ℕ) → n ≡ more + 1 → length log'.items ≡ length log.items
+        → steps'' ≡ steps' + more → IsRowNoted 1 log log' steps steps' → IsRowNoted n log log' steps steps''
+    row_counted n more log log' steps steps' steps'' en el es r =
+        let x : Item = number_item at node os in
+        let keeps : log.keeps ≡ false = keeps_nothing x log (ap (λ g. length g.items) (sym r.log_is) ∙ el) in
+        let all : (xs : List Item) → all_noted xs log ≡ log = λ xs. nothing_kept xs log keeps in
+        record {
+          log_is = r.log_is ∙ all (row_items o p h at node 1 os) ∙ sym (all (row_items o p h at node n os));
+          steps_are = let s = r.steps_are in omega (arith, s, es, en);
+        }
+
+-- ## Octets and nodes
+
+within_by : (i n w d : ℕ) → n ≡ i + 1 + d → i * w + w ≤ n * w
+within_by i n w d e = let m : n * w ≡ (i + 1 + d) * w = ap (λ k. k * w) e in omega (arith, m)
+
+-- the octets of the number at a place are there
+pub number_within : (i n w : ℕ) → i < n → i * w + w ≤ n * w
+number_within i n w h = within_by i n w (n - (i + 1)) (omega (arith, h))
+
+-- a row has as many nodes as numbers
+pub row_count : (o : Order) (p : Primitive) (n : ℕ) (os : List ℕ) → length (num_flats (row_values o p n os)) ≡ n
+row_count o p zero os = refl
+row_count o p (suc n) os = ap suc (row_count o p n (drop (width p) os))
