@@ -1,5 +1,5 @@
 -- The end of a cell's value: what is kept is right with it.
-use Rattle.std.proofs.Common.{◌≡◌, ◌≤◌, ◌<◌, ℕ, ◌+◌, zero, suc, List, [], ◌∷◌, ◌++◌, length, Option, Some, None, refl, ap, sym, ◌∙◌, inl, inr, ◌⊎◌, subst, arith, map}
+use Rattle.std.proofs.Common.{◌≡◌, ◌≤◌, ◌<◌, ℕ, zero, suc, List, [], ◌∷◌, ◌++◌, length, Option, Some, None, refl, ap, sym, ◌∙◌, inl, inr, subst, arith, map}
 use Rattle.std.proofs.lemmas.List.{map-append}
 use Rattle.nd_base.specs.declared.octets.Order.{Order}
 use Rattle.nd_types.specs.declared.types.Class.{Class}
@@ -11,7 +11,7 @@ use Rattle.nd_value.specs.Setting.{Setting, cell_home, cell_at}
 use Rattle.nd_value.specs.Deferral.{Pending, Due, IsPlaced, home_pointers}
 use Rattle.nd_value.specs.Tree.{Tree}
 use Rattle.nd_grammar.specs.Entry.{EntryAt}
-use Rattle.nd_grammar.specs.Reader.{Names, Progress, Read, read_whole}
+use Rattle.nd_grammar.specs.Reader.{Names, Progress, read_whole}
 use Rattle.nd_grammar.specs.StreamReader.{Reading, graph_of, with_value}
 use Rattle.nd_grammar.proofs.reader.ReaderNames.{Extends}
 use Rattle.ndr_reading.specs.Around.{going}
@@ -21,12 +21,12 @@ use Rattle.ndr_stream.specs.Between.{Between, Keeps, IsUnread, IsKeptOf, AreKept
 use Rattle.ndr_stream.specs.declared.kept.Kept.{Kept}
 use Rattle.ndr_stream.specs.declared.kept.KeptRoot.{KeptRoot}
 use Rattle.ndr_stream.proofs.Cells.{value_same, value_other, told_valued, graph_filled}
-use Rattle.ndr_stream.proofs.Graphs.{value_at, values_stay}
+use Rattle.ndr_stream.proofs.Graphs.{values_stay}
 use Rattle.ndr_stream.proofs.Homes.{told_then, cell_then, own_then}
 
-module _ (w : Setting) (order : Order) (fetched more : List ℕ) (noted noted' : List Item) (b : Between) (s : Reading) (seen : List EntryAt) (ps : List Pending)
-    (kp : Keeps w order fetched noted b s seen ps) (c : ℕ) (free : ¬ IsPlaced s.done c) (t : ℕ) (names : Names) (x : State)
-    (is : Whole order (fetched ++ more) w.table (cell_home c) t noted' (λ octets. read_whole order octets w.table (cell_home c) t (going b.at seen) names) x)
+module _ (w : Setting) (order : Order) (fetched more : List ℕ) (noted noted' : List Item) (direct direct' : ℕ) (b : Between) (s : Reading) (seen : List EntryAt) (ps : List Pending)
+    (kp : Keeps w order fetched noted direct b s seen ps) (c : ℕ) (free : ¬ IsPlaced s.done c) (t : ℕ) (names : Names) (x : State)
+    (is : Whole order (fetched ++ more) w.table (cell_home c) t noted' direct' (λ octets. read_whole order octets w.table (cell_home c) t (going b.at seen) names) x)
     (ext : Extends s.names is.names) (above : 0 < c) (there : c ≤ length is.names.cells) where
   -- the value of a cell that was read before
   cell_stays : (d : ℕ) → cell_at (graph_of s.roots is.names) d ≡ cell_at (graph_of s.roots s.names) d
@@ -42,26 +42,32 @@ module _ (w : Setting) (order : Order) (fetched more : List ℕ) (noted noted' :
     unread_before (home.Root j) u = (omega (arith, u, longer), λ e. cc)
     unread_before (home.Cell d) u = (λ q. u (inr q), λ e. (let f : d.0 ≡ c = cc in u (inl f)))
 
-    told_after : (h : Home) → IsUnread after h → Told noted' order (fetched ++ more) h is.seen (with_value c is.v is.names) x.cells x.numbers None 0 []
+    told_after : (h : Home) → IsUnread after h → Told noted' direct' order (fetched ++ more) h is.seen (with_value c is.v is.names) x.cells x.numbers None 0 []
     told_after h u =
         let (v, f) = unread_before h u in
-        told_valued order (fetched ++ more) h is.seen is.names x.cells x.numbers None 0 [] c is.v (told_then w order fetched more noted noted' b s seen ps kp (cell_home c) free t names x is h v f)
+        told_valued order (fetched ++ more) h is.seen is.names x.cells x.numbers None 0 [] c is.v (told_then w order fetched more noted noted' direct direct' b s seen ps kp (cell_home c) free t names x is h v f)
 
     not_this : (d : ℕ) → IsPlaced s.done d → d ≡ c → ⊥
     not_this d q e = free (subst (IsPlaced s.done) e q)
 
     read_after : (d : ℕ) → IsPlaced ((class, c) ∷ s.done) d → (y : Kept) × (kept_at read d ≡ Some y) × IsKeptOf is.seen (cell_home d) (cell_at (graph_of roots (with_value c is.v is.names)) d) y
     read_after d (inl e) =
-        subst (λ u. (y : Kept) × (kept_at read u ≡ Some y) × IsKeptOf is.seen (cell_home u) (cell_at (graph_of roots (with_value c is.v is.names)) u) y) (sym e)
-        (k, is_read.is, subst (λ v. IsKeptOf is.seen (cell_home c) v k) (sym (value_same roots c is.v is.names above there))
-        (own_then w order fetched more noted noted' b s seen ps kp (cell_home c) free t names x is k own.first own.max_at))
+        subst (λ u. (y : Kept) × (kept_at read u ≡ Some y) × IsKeptOf is.seen (cell_home u) (cell_at (graph_of roots (with_value c is.v is.names)) u) y) (sym e) (
+          k,
+          is_read.is,
+          subst (λ v. IsKeptOf is.seen (cell_home c) v k) (sym (value_same roots c is.v is.names above there))
+              (own_then w order fetched more noted noted' direct direct' b s seen ps kp (cell_home c) free t names x is k own.first own.max_at),
+        )
     read_after d (inr q) =
         let (y, e, z) = kp.read d q in
-        let n : d ≡ c → ⊥ = not_this d q in
-        (y, is_read.others d n ∙ e, subst (λ v. IsKeptOf is.seen (cell_home d) v y) (sym (value_other roots s.roots c d is.v is.names n ∙ cell_stays d))
-        (cell_then w order fetched more noted noted' b s seen ps kp (cell_home c) free t names x is d q (cell_at (graph_of s.roots s.names) d) y z))
+        let n : d ≡ c → ⊥ = not_this d q in (
+          y,
+          is_read.others d n ∙ e,
+          subst (λ v. IsKeptOf is.seen (cell_home d) v y) (sym (value_other roots s.roots c d is.v is.names n ∙ cell_stays d))
+              (cell_then w order fetched more noted noted' direct direct' b s seen ps kp (cell_home c) free t names x is d q (cell_at (graph_of s.roots s.names) d) y z),
+        )
 
-    pub keeps_cell : Keeps w order (fetched ++ more) noted' (cell_read b x kept_roots read g)
+    pub keeps_cell : Keeps w order (fetched ++ more) noted' direct' (cell_read b x kept_roots read g)
         (record { roots = roots; done = (class, c) ∷ s.done; due = due; progress = p; names = with_value c is.v is.names }) is.seen (home_pointers w.table (cell_home c) t is.v ++ ps)
     keeps_cell = record {
       at = is.reached;

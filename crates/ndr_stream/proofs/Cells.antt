@@ -1,20 +1,22 @@
 -- Cells with the value of one of them.
-use Rattle.std.proofs.Common.{◌≡◌, ◌≤◌, ◌<◌, ℕ, ◌+◌, zero, suc, Bool, true, false, List, [], ◌∷◌, ◌++◌, length, Option, Some, None, refl, ap, sym, ◌∙◌, subst, arith, map}
+use Rattle.std.proofs.Common.{◌≡◌, ◌≤◌, ◌<◌, ℕ, ◌+◌, zero, suc, Bool, true, false, List, [], ◌∷◌, ◌++◌, length, Option, refl, ap, sym, ◌∙◌, subst, arith, map, length-append}
 use Rattle.std.specs.Prelude.{eqb}
-use Rattle.std.specs.List.{slice_get}
 use Rattle.std.proofs.lemmas.Bool.{eqb-true}
+use Rattle.std.proofs.lemmas.List.{map-append}
 use Rattle.std.proofs.lemmas.Bool.Decides.{nat_tests}
 use Rattle.nd_base.specs.declared.octets.Order.{Order}
 use Rattle.nd_value.specs.declared.item.Home.{Home}
 use Rattle.nd_value.specs.declared.item.Item.{Item}
 use Rattle.nd_value.specs.declared.value.Graph.{Graph}
 use Rattle.nd_value.specs.Tree.{Tree, Referent}
-use Rattle.nd_value.specs.Setting.{set_nth, set_cell, cell_at}
+use Rattle.nd_value.specs.Setting.{unread, set_nth, set_cell, cell_at}
 use Rattle.nd_grammar.specs.Entry.{EntryAt}
-use Rattle.nd_grammar.specs.Reader.{Names}
+use Rattle.nd_grammar.specs.Reader.{Names, with_cell}
 use Rattle.nd_grammar.specs.StreamReader.{graph_of, with_value}
 use Rattle.ndr_refs.specs.declared.referents.Known.{Known}
-use Rattle.ndr_steps.specs.Good.{Told}
+use Rattle.ndr_steps.specs.Good.{HasCells, Told}
+use Rattle.ndr_verdict.proofs.CellsSeen.{direct_seen}
+use Rattle.nd_value.proofs.Apart.{all_weaker}
 use Rattle.ndr_steps.specs.Steps.{Place}
 use Rattle.ndr_stream.specs.Between.{CellFilled}
 use Rattle.ndr_stream.proofs.Graphs.{value_at, graph_is}
@@ -52,10 +54,11 @@ value_other roots old c zero v s n = refl
 value_other roots old zero (suc j) v s n = refl
 value_other roots old (suc i) (suc j) v s n = nth_other i j v s.cells (λ e. n (ap suc e))
 
-pub told_valued : {noted : List Item} (order : Order) (fetched : List ℕ) (h : Home) (seen : List EntryAt) (names : Names) (cells : List ℕ) (numbers : List (ℕ × Known)) (max_at : Option ℕ) (n : ℕ) (half : List Place)
-    (c : ℕ) (v : Tree) → Told noted order fetched h seen names cells numbers max_at n half → Told noted order fetched h seen (with_value c v names) cells numbers max_at n half
+pub told_valued : {noted : List Item} {direct : ℕ} (order : Order) (fetched : List ℕ) (h : Home) (seen : List EntryAt) (names : Names) (cells : List ℕ) (numbers : List (ℕ × Known)) (max_at : Option ℕ) (n : ℕ) (half : List Place)
+    (c : ℕ) (v : Tree) → Told noted direct order fetched h seen names cells numbers max_at n half → Told noted direct order fetched h seen (with_value c v names) cells numbers max_at n half
 told_valued order fetched h seen names cells numbers max_at n half c v t = record {
   cells_are = t.cells_are ∙ sym (same_types c v names.cells);
+  cells_named = t.cells_named;
   numbers_are = t.numbers_are;
   ahead = t.ahead;
   noted_are = t.noted_are;
@@ -81,3 +84,19 @@ graph_filled g g' roots old c v types s f t same p l =
 
     each : (j : ℕ) → value_at g'.cells j ≡ value_at (with_value c v s).cells j
     each j = by_test j (eqb (suc j) c) refl
+
+-- a cell more, of a root that is a reference pointer
+pub told_reference : {noted : List Item} {direct : ℕ} (order : Order) (fetched : List ℕ) (h : Home) (seen : List EntryAt) (names : Names) (cells : List ℕ) (numbers : List (ℕ × Known)) (max_at : Option ℕ) (n : ℕ) (half : List Place)
+    (to : ℕ) → Told noted direct order fetched h seen names cells numbers max_at n half → Told noted (direct + 1) order fetched h seen (with_cell to names) (cells ++ to ∷ []) numbers max_at n half
+told_reference {direct = direct} order fetched h seen names cells numbers max_at n half to t = record {
+  cells_are = ap (λ xs. xs ++ to ∷ []) t.cells_are ∙ sym (map-append (λ (c : Referent). c.of) names.cells (record { of = to; val = unread } ∷ []));
+  cells_named = subst (λ k. HasCells seen numbers k (direct + 1)) (sym (length-append cells (to ∷ [])))
+      (record {
+        named = direct_seen seen (length cells) direct t.cells_named.named;
+        there = all_weaker (λ (x : ℕ × Known). x.1.cell.0 ≤ length cells) (λ (x : ℕ × Known). x.1.cell.0 ≤ length cells + 1) (λ x l. omega (arith, l)) numbers t.cells_named.there;
+      });
+  numbers_are = t.numbers_are;
+  ahead = t.ahead;
+  noted_are = t.noted_are;
+  lie_within = t.lie_within;
+}

@@ -1,5 +1,6 @@
 -- The end of a root that is a reference pointer: its referent is in its place, in a cell without a number.
-use Rattle.std.proofs.Common.{◌≡◌, ◌≤◌, ◌<◌, ℕ, ◌+◌, zero, suc, Bool, true, false, List, [], ◌∷◌, ◌++◌, length, Option, Some, None, refl, ap, sym, ◌∙◌, subst, append_assoc, length-append, arith, map}
+use Rattle.std.proofs.Common.{◌≡◌, ◌≤◌, ◌<◌, ℕ, ◌+◌, suc, List, [], ◌∷◌, ◌++◌, length, Option, Some, None, refl, ap, sym, ◌∙◌, subst, append_assoc, length-append, arith, map}
+use Rattle.std.specs.Prelude.{filter, take}
 use Rattle.std.specs.List.{slice_get}
 use Rattle.std.proofs.lemmas.List.{append-nil}
 use Rattle.nd_base.specs.declared.octets.Order.{Order}
@@ -9,7 +10,6 @@ use Rattle.nd_types.specs.declared.types.TypeId.{TypeId}
 use Rattle.nd_types.specs.Number.{AreOctets}
 use Rattle.nd_types.specs.Roots.{Root}
 use Rattle.nd_types.specs.Table.{type_at}
-use Rattle.nd_value.specs.declared.item.Home.{Home}
 use Rattle.nd_value.specs.declared.item.Home.TheVariants as home
 use Rattle.nd_value.specs.declared.item.Item.{Item}
 use Rattle.nd_value.specs.declared.value.Graph.{Graph}
@@ -23,19 +23,19 @@ use Rattle.nd_grammar.specs.declared.reason.Reason.{Reason}
 use Rattle.nd_grammar.specs.declared.reason.Reason.TheVariants as reason
 use Rattle.nd_grammar.specs.Entry.{EntryAt}
 use Rattle.nd_grammar.specs.LegalSide.{IsLegalSide}
-use Rattle.nd_grammar.specs.Reader.{Names, Progress, Read, read_whole, is_stopped, fresh, with_cell}
+use Rattle.nd_grammar.specs.Reader.{Names, Progress, Read, read_whole, is_stopped, with_cell}
 use Rattle.nd_grammar.specs.StreamReader.{Reading, with_value, read_root, read_first, read_next, read_stream}
 use Rattle.nd_grammar.proofs.legal.LegalUsable.{Usable, root_usable, pointee_usable}
 use Rattle.nd_grammar.proofs.reader.ReaderNames.{Extends, extends_twice, longer}
 use Rattle.nd_grammar.proofs.reader.ReaderStates.{WholeRead, read_wholly}
-use Rattle.nd_grammar.proofs.reader.ReaderStates.{State as IsReading}
 use Rattle.nd_grammar.proofs.reader.ReaderTurns.{one_longer, placed_there}
 use Rattle.ndr_reading.specs.Around.{going, stopped}
 use Rattle.ndr_steps.specs.declared.first.First.TheVariants as first
 use Rattle.ndr_steps.specs.Good.{Told, Whole}
 use Rattle.ndr_steps.specs.Steps.{State}
+use Rattle.ndr_verdict.specs.Verdict.{is_direct}
 use Rattle.ndr_worklist.proofs.Turns.{turns, refused}
-use Rattle.ndr_stream.specs.Between.{AreNeeded, Between, Keeps, Agrees, IsUnread, IsKeptOf, IsKeptHome, CellKept, CellFilled, cell_read}
+use Rattle.ndr_stream.specs.Between.{AreNeeded, Between, Keeps, Agrees, IsKeptOf, IsKeptHome, CellKept, CellFilled, cell_read}
 use Rattle.ndr_stream.specs.declared.kept.Kept.{Kept}
 use Rattle.ndr_stream.specs.declared.kept.KeptRoot.{KeptRoot}
 use Rattle.ndr_stream.proofs.CellEnds.{keeps_cell}
@@ -43,6 +43,9 @@ use Rattle.ndr_stream.proofs.Due.{same_octets, root_state}
 use Rattle.ndr_stream.proofs.Homes.{told_then, roots_then}
 use Rattle.ndr_stream.proofs.Needing.{NeededAfter, needed_more}
 use Rattle.ndr_stream.proofs.Others.{root_more}
+use Rattle.ndr_stream.proofs.StreamGrows.{next_then_stream}
+use Rattle.ndr_stream.specs.Added.{Goes}
+use Rattle.ndr_stream.proofs.References.{one_if, count_more}
 
 one_cell : (to : ℕ) (s : Names) → Extends s (with_cell to s)
 one_cell to s = record { new = record { of = to; val = unread } ∷ []; cells = refl; blank = (refl, tt); more_numbers = []; numbers = refl; of_new = tt }
@@ -50,8 +53,8 @@ one_cell to s = record { new = record { of = to; val = unread } ∷ []; cells = 
 zero_plus : (i : ℕ) → i ≡ 0 + i
 zero_plus i = omega arith
 
-module _ (w : Setting) (side : IsLegalSide w) (order : Order) (fetched : List ℕ) (noted : List Item) (b : Between) (s : Reading) (seen : List EntryAt) (n : ℕ)
-    (ag : Agrees w side order fetched noted b s seen [] (suc n)) (r : Root) (there : slice_get (root_list w) (length s.roots) ≡ Some r) (to : TypeId) (refers : type_at w.table r.of ≡ Some (def.Pointer Ref to)) where
+module _ (w : Setting) (side : IsLegalSide w) (order : Order) (fetched : List ℕ) (noted : List Item) (direct : ℕ) (b : Between) (s : Reading) (seen : List EntryAt) (n : ℕ)
+    (ag : Agrees w side order fetched noted direct b s seen [] (suc n)) (r : Root) (there : slice_get (root_list w) (length s.roots) ≡ Some r) (to : TypeId) (refers : type_at w.table r.of ≡ Some (def.Pointer Ref to)) where
   abbrev i : ℕ
   i = length s.roots
 
@@ -116,7 +119,13 @@ module _ (w : Setting) (side : IsLegalSide w) (order : Order) (fetched : List �
   direct_refused more a at seen' why e =
       refused w side order fetched ag.octets s (due_root i) later_due ag.reached due_is more a at seen' why (ap (λ (u : Reading). u.progress) (next_is (fetched ++ more)) ∙ e)
 
-  module _ (more : List ℕ) (all_more : AreOctets more) (noted' : List Item) (x : State) (is : Whole order (fetched ++ more) w.table (cell_home (length s.names.cells + 1)) to.0 noted' target x)
+  -- what is passed of the referent is passed of the stream
+  pub direct_goes : (added : List ℕ) → AreOctets added → Goes (target (fetched ++ added)).progress (read_stream w order (fetched ++ added)).progress
+  direct_goes added a =
+      subst (λ (u : Reading). Goes u.progress (read_stream w order (fetched ++ added)).progress) (next_is (fetched ++ added))
+      (next_then_stream w side order fetched ag.octets s (due_root i) later_due due_is ag.reached added a)
+
+  module _ (more : List ℕ) (all_more : AreOctets more) (noted' : List Item) (x : State) (is : Whole order (fetched ++ more) w.table (cell_home (length s.names.cells + 1)) to.0 noted' (direct + 1) target x)
       (needs : AreNeeded target fetched more) where
     abbrev pub made : List Pending
     made = home_pointers w.table (cell_home (length s.names.cells + 1)) to.0 is.v
@@ -165,6 +174,16 @@ module _ (w : Setting) (side : IsLegalSide w) (order : Order) (fetched : List �
         let m : length names.cells ≡ length s.names.cells + 1 = length-append s.names.cells (record { of = to.0; val = unread } ∷ []) in
         omega (arith, l, m)
 
+    direct_then : direct + 1 ≡ length (filter (λ z. is_direct (type_at w.table z.of)) (take (length (s.roots ++ its_tree ∷ [])) (root_list w)))
+    direct_then =
+        let e : length (filter (λ z. is_direct (type_at w.table z.of)) (take (suc i) (root_list w)))
+        ≡ length (filter (λ z. is_direct (type_at w.table z.of)) (take i (root_list w))) + one_if (is_direct (type_at w.table r.of)) =
+        count_more (λ z. is_direct (type_at w.table z.of)) (root_list w) i r there in
+        let f : one_if (is_direct (type_at w.table r.of)) ≡ 1 = ap (λ d. one_if (is_direct d)) refers in
+        let g : direct ≡ length (filter (λ z. is_direct (type_at w.table z.of)) (take i (root_list w))) = ag.direct_are in
+        let h : direct + 1 ≡ length (filter (λ z. is_direct (type_at w.table z.of)) (take (suc i) (root_list w))) = omega (arith, e, f, g) in
+        h ∙ ap (λ n. length (filter (λ z. is_direct (type_at w.table z.of)) (take n (root_list w)))) (sym more_roots)
+
     needed_then : NeededAfter w order fetched more
     needed_then part last e =
         let (at, seen', stop) = needs part last e in
@@ -174,19 +193,19 @@ module _ (w : Setting) (side : IsLegalSide w) (order : Order) (fetched : List �
     -- the root itself is a pointer, of which nothing is in the stream
     own_root : (k : KeptRoot) → k.own ≡ record { first = first.Pointer; max_at = None } → IsKeptOf is.seen (home.Root i) its_tree k.own
     own_root k e =
-        let t : Told noted' order (fetched ++ more) (home.Root i) is.seen is.names x.cells x.numbers None 0 [] =
-        told_then w order fetched more noted noted' b s seen [] ag.keeps (cell_home c) free to.0 names x is (home.Root i) (omega arith) (λ z. cc) in
+        let t : Told noted' (direct + 1) order (fetched ++ more) (home.Root i) is.seen is.names x.cells x.numbers None 0 [] =
+        told_then w order fetched more noted noted' direct (direct + 1) b s seen [] ag.keeps (cell_home c) free to.0 names x is (home.Root i) (omega arith) (λ z. cc) in
         subst (λ o. IsKeptOf is.seen (home.Root i) its_tree o) (sym e)
         (record { is = (tree.Ptr (Some c), 0); place = None; there = refl; kept = refl; found = λ a. t.ahead a 0 })
 
     pub direct_ends : (root : KeptRoot) → root.own ≡ record { first = first.Pointer; max_at = None } → cell_number root.cell ≡ Some (length s.names.cells + 1) → (k : Kept) → IsKeptHome x k
         → (read : List (Option Kept)) → CellKept (length s.names.cells + 1) k b.read read
         → (g : Graph) → CellFilled (s.roots ++ node (tree.Ptr (Some (length s.names.cells + 1))) none ∷ []) (length s.names.cells + 1) is.v x.cells b.graph g
-        → Agrees w side order (fetched ++ more) noted' (cell_read b x (b.roots ++ root ∷ []) read g) after is.seen made n
+        → Agrees w side order (fetched ++ more) noted' (direct + 1) (cell_read b x (b.roots ++ root ∷ []) read g) after is.seen made n
     direct_ends root own its_cell k kept read is_read g filled =
-        let keeps : Keeps w order (fetched ++ more) noted' (cell_read b x (b.roots ++ root ∷ []) read g) after is.seen (made ++ []) =
-        keeps_cell w order fetched more noted noted' b s seen [] ag.keeps c free to.0 names x is ext (omega arith) cell_there (s.roots ++ its_tree ∷ []) (b.roots ++ root ∷ []) (omega (arith, more_roots))
-        (root_more is.seen 0 s.roots b.roots its_tree root (roots_then w order fetched more noted noted' b s seen [] ag.keeps (cell_home c) free to.0 names x is)
+        let keeps : Keeps w order (fetched ++ more) noted' (direct + 1) (cell_read b x (b.roots ++ root ∷ []) read g) after is.seen (made ++ []) =
+        keeps_cell w order fetched more noted noted' direct (direct + 1) b s seen [] ag.keeps c free to.0 names x is ext (omega arith) cell_there (s.roots ++ its_tree ∷ []) (b.roots ++ root ∷ []) (omega (arith, more_roots))
+        (root_more is.seen 0 s.roots b.roots its_tree root (roots_then w order fetched more noted noted' direct (direct + 1) b s seen [] ag.keeps (cell_home c) free to.0 names x is)
         (subst (λ j. IsKeptOf is.seen (home.Root j) its_tree root.own) (zero_plus i) (own_root root own)) its_cell)
         Ref after.due (going x.at is.seen) k kept read is_read g filled in
         record {
@@ -199,5 +218,6 @@ module _ (w : Setting) (side : IsLegalSide w) (order : Order) (fetched : List �
               (same_octets w side order (fetched ++ (more ++ later)) ((fetched ++ more) ++ later) (sym (append_assoc fetched more later)) s [] (suc n) (ag.state (more ++ later)))
               r there (first_then later) due_then;
           needed = needed_more w order fetched more ag.needed needed_then;
-          keeps = subst (Keeps w order (fetched ++ more) noted' (cell_read b x (b.roots ++ root ∷ []) read g) after is.seen) (append-nil made) keeps;
+          direct_are = direct_then;
+          keeps = subst (Keeps w order (fetched ++ more) noted' (direct + 1) (cell_read b x (b.roots ++ root ∷ []) read g) after is.seen) (append-nil made) keeps;
         }

@@ -1,18 +1,16 @@
 -- What is due to the plain reader: pointers, then roots; and its turns.
-use Rattle.std.proofs.Common.{◌≡◌, ◌≤◌, ℕ, ◌+◌, zero, suc, Bool, true, false, List, [], ◌∷◌, ◌++◌, length, Option, Some, None, refl, ap, sym, ◌∙◌, subst, append_assoc, arith, map}
+use Rattle.std.proofs.Common.{◌≡◌, ℕ, zero, suc, Bool, false, List, [], ◌∷◌, ◌++◌, length, Option, Some, None, refl, ap, sym, ◌∙◌, subst, map}
 use Rattle.std.specs.List.{slice_get}
 use Rattle.nd_base.specs.declared.octets.Order.{Order}
 use Rattle.nd_types.specs.declared.types.TypeDef.{TypeDef}
 use Rattle.nd_types.specs.declared.types.TypeDef.TheVariants as def
-use Rattle.nd_types.specs.declared.types.TypeId.{TypeId}
 use Rattle.nd_types.specs.declared.types.Class.TheVariants.{Ref, Unique, Full}
 use Rattle.nd_types.specs.Number.{AreOctets}
 use Rattle.nd_types.specs.Roots.{Root}
-use Rattle.nd_types.specs.Table.{type_at}
 use Rattle.nd_value.specs.Deferral.{Pending, Due, due_root, due_referent, due_roots}
 use Rattle.nd_value.specs.Setting.{Setting, root_list}
 use Rattle.nd_grammar.specs.LegalSide.{IsLegalSide}
-use Rattle.nd_grammar.specs.StreamReader.{Reading, read_root, read_placed, read_direct, read_first, read_pending}
+use Rattle.nd_grammar.specs.StreamReader.{Reading, read_root, read_placed, read_first}
 use Rattle.nd_grammar.proofs.reader.ReaderStates.{State}
 use Rattle.nd_grammar.proofs.reader.ReaderTurns.{Turn, pending_turn}
 use Rattle.nd_grammar.proofs.reader.ReaderRoots.{due_root_turn}

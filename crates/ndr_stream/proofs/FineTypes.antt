@@ -1,6 +1,5 @@
 -- The types of a legal interface that hold no pipe may be read in place.
-use Rattle.std.proofs.Common.{◌≡◌, ◌≢◌, ℕ, zero, suc, true, List, [], ◌∷◌, Option, Some, None, refl, subst}
-use Rattle.std.specs.List.{AllByRecursion}
+use Rattle.std.proofs.Common.{◌≡◌, ℕ, zero, suc, true, List, Option, Some, None, refl, subst}
 use Rattle.nd_types.specs.declared.types.TypeDef.{TypeDef}
 use Rattle.nd_types.specs.declared.types.TypeDef.TheVariants as def
 use Rattle.nd_types.specs.declared.types.TypeId.{TypeId}
@@ -15,7 +14,7 @@ use Rattle.nd_value.proofs.Apart.{all_weaker}
 use Rattle.nd_grammar.proofs.legal.LegalUsable.{Usable, usable_readable}
 use Rattle.nd_grammar.proofs.reader.ReaderInPlace.{Fine, Readable}
 use Rattle.ndr_reading.specs.Points.{TagForm, IsTagForm}
-use Rattle.ndr_steps.specs.Spots.{IsFormed, IsDue, IsFine}
+use Rattle.ndr_steps.specs.Spots.{IsFormed, IsFine}
 
 tag_form : (d : Option TypeDef) (p : Primitive) → carrier d ≡ Some p → (form : TagForm) × IsTagForm d form
 tag_form (Some (def.Prim q)) p e = (record { prim = q; values = None }, refl)

@@ -1,9 +1,9 @@
 -- Graphs whose cells have the same types and the same values are the same.
-use Rattle.std.proofs.Common.{◌≡◌, ℕ, ◌+◌, zero, suc, List, [], ◌∷◌, ◌++◌, length, Option, Some, None, refl, ap, ap₂, sym, ◌∙◌, subst, map}
+use Rattle.std.proofs.Common.{◌≡◌, ℕ, zero, suc, List, [], ◌∷◌, ◌++◌, refl, ap, ap₂, ◌∙◌, map}
 use Rattle.std.specs.List.{AllByRecursion, slice_get}
 use Rattle.nd_value.specs.declared.value.Graph.{Graph}
 use Rattle.nd_value.specs.Tree.{Tree, Referent}
-use Rattle.nd_value.specs.Setting.{unread, cell_at, cell_tree}
+use Rattle.nd_value.specs.Setting.{unread, cell_tree}
 use Rattle.nd_grammar.specs.Reader.{Names}
 use Rattle.nd_grammar.specs.StreamReader.{graph_of}
 use Rattle.nd_grammar.proofs.reader.ReaderNames.{Extends}

@@ -5,7 +5,6 @@ use Rattle.std.specs.List.{AllByRecursion}
 use Rattle.std.proofs.lemmas.List.{append-nil}
 use Rattle.nd_base.specs.declared.octets.Order.{Order}
 use Rattle.nd_types.specs.declared.types.Arm.{Arm}
-use Rattle.nd_types.specs.declared.types.Class.{Class}
 use Rattle.nd_types.specs.declared.types.Primitive.{Primitive}
 use Rattle.nd_types.specs.declared.types.Primitive.TheVariants.{Short}
 use Rattle.nd_types.specs.declared.types.TypeDef.{TypeDef}
@@ -19,12 +18,12 @@ use Rattle.nd_value.specs.Tree as tree
 use Rattle.nd_value.specs.Tree.{Tree, Trees, node, none, more, joined, Label, is_pointer, node_count}
 use Rattle.nd_value.proofs.Apart.{all_append}
 use Rattle.nd_grammar.specs.declared.reason.Reason.{Reason}
-use Rattle.nd_grammar.specs.Entry.{Kind, Entry, EntryAt, Align, Max, Offset, Actual, Number, Num, Tag, Text, Context}
+use Rattle.nd_grammar.specs.Entry.{Kind, Entry, Align, Max, Offset, Actual, Number, Num, Tag, Text, Context}
 use Rattle.nd_grammar.specs.InPlace.{tests, own_tests, child_tests}
 use Rattle.nd_grammar.specs.Refusal.{refusal}
 use Rattle.nd_grammar.specs.Reader.{Progress, Names, Read, ReadAll, is_stopped, here, advanced, pass, pass_all, taken, number_in, value_in, text_in, attributes_in, identifier_in, named, read_if, read_list, read_children, read_in_place, read_hoisted, read_whole, tree_nodes, bound_or}
 use Rattle.ndr_reading.specs.Around.{Around, tried, tests_of, continue, go_on, finish}
-use Rattle.ndr_reading.specs.Halves.{Reader, gap_of, past_gap, after_gap, number_after, array_after_offset, array_after, text_after_count, text_after_offset, text_after, union_tagged, union_after, tagged_after, pointer_after, context_after, hoisted_after}
+use Rattle.ndr_reading.specs.Halves.{Reader, gap_of, past_gap, after_gap, array_after_offset, array_after, text_after_count, text_after_offset, text_after, union_tagged, tagged_after, hoisted_after}
 use Rattle.ndr_reading.specs.Points.{Point, hoisting, counting, called, due, opened, offset_read, text_offset, text_counted, tagged, between, checking, has, read_at, below, tag_taken}
 use Rattle.ndr_reading.proofs.Continuing.{in_halves}
 use Rattle.ndr_stream.specs.Added.{Added}

@@ -1,27 +1,19 @@
 -- The end of a home's value: what is kept of all other homes is as it was.
-use Rattle.std.proofs.Common.{◌≡◌, ◌≤◌, ◌<◌, ℕ, ◌+◌, zero, suc, List, [], ◌∷◌, ◌++◌, length, Option, Some, None, refl, ap, sym, ◌∙◌, subst, append_assoc, arith, map}
-use Rattle.std.specs.List.{AllByRecursion}
-use Rattle.std.proofs.lemmas.List.{append-nil}
+use Rattle.std.proofs.Common.{◌≡◌, ◌<◌, ℕ, List, [], ◌++◌, length, Some, None, ap, sym, ◌∙◌, subst, arith}
 use Rattle.nd_base.specs.declared.octets.Order.{Order}
-use Rattle.nd_types.specs.Number.{AreOctets}
-use Rattle.nd_types.specs.Table.{Table}
 use Rattle.nd_value.specs.declared.item.Home.{Home}
 use Rattle.nd_value.specs.declared.item.Home.TheVariants as home
 use Rattle.nd_value.specs.declared.item.Item.{Item}
-use Rattle.nd_value.specs.declared.value.CellId.{CellId}
 use Rattle.nd_value.specs.Setting.{Setting, cell_home}
 use Rattle.nd_value.specs.Deferral.{Pending, IsPlaced}
 use Rattle.nd_value.specs.Tree as tree
 use Rattle.nd_value.specs.Tree.{Tree}
-use Rattle.nd_grammar.specs.declared.reason.Reason.{Reason}
-use Rattle.nd_grammar.specs.declared.reason.Reason.TheVariants as reason
 use Rattle.nd_grammar.specs.Entry.{EntryAt}
 use Rattle.nd_grammar.specs.Reader.{Names, Progress, Read, read_whole}
 use Rattle.nd_grammar.specs.StreamReader.{Reading}
-use Rattle.ndr_reading.specs.Around.{going, stopped}
+use Rattle.ndr_reading.specs.Around.{going}
 use Rattle.ndr_steps.specs.Good.{Told, Whole}
 use Rattle.ndr_steps.specs.Good.{Kept as IsKept}
-use Rattle.ndr_steps.specs.declared.first.First.{First}
 use Rattle.ndr_steps.specs.Steps.{State}
 use Rattle.ndr_stream.specs.Added.{Added}
 use Rattle.ndr_stream.specs.Between.{Between, Keeps, IsUnread, IsKeptOf, AreKept}
@@ -38,9 +30,9 @@ pub not_cell : (s : Reading) (h : Home) → IsUnread s h → (c : ℕ) → IsPla
 not_cell s (home.Root j) u c p e = cc
 not_cell s (home.Cell d) u c p e = let f : c ≡ d.0 = cc in u (subst (IsPlaced s.done) f p)
 
-module _ (w : Setting) (order : Order) (fetched more : List ℕ) (noted noted' : List Item) (b : Between) (s : Reading) (seen : List EntryAt) (ps : List Pending)
-    (ag : Keeps w order fetched noted b s seen ps) (h : Home) (unread : IsUnread s h) (t : ℕ) (names : Names) (x : State)
-    (is : Whole order (fetched ++ more) w.table h t noted' (λ octets. read_whole order octets w.table h t (going b.at seen) names) x) where
+module _ (w : Setting) (order : Order) (fetched more : List ℕ) (noted noted' : List Item) (direct direct' : ℕ) (b : Between) (s : Reading) (seen : List EntryAt) (ps : List Pending)
+    (ag : Keeps w order fetched noted direct b s seen ps) (h : Home) (unread : IsUnread s h) (t : ℕ) (names : Names) (x : State)
+    (is : Whole order (fetched ++ more) w.table h t noted' direct' (λ octets. read_whole order octets w.table h t (going b.at seen) names) x) where
   pub its : Added h (going b.at seen) (going x.at is.seen)
   its =
       subst (λ (u : Progress). Added h (going b.at seen) u) (ap (λ (r : Read). r.progress) (sym (is.is [])))
@@ -55,13 +47,13 @@ module _ (w : Setting) (order : Order) (fetched more : List ℕ) (noted noted' :
   silent : (k : Home) → (k ≡ h → ⊥) → AreSilent k xs
   silent k f = others_silent k h xs its.own f
 
-  told_now : Told noted' order (fetched ++ more) h (seen ++ xs) is.names x.cells x.numbers x.max_at (length x.nodes) []
-  told_now = subst (λ u. Told noted' order (fetched ++ more) h u is.names x.cells x.numbers x.max_at (length x.nodes) []) seen_is is.told
+  told_now : Told noted' direct' order (fetched ++ more) h (seen ++ xs) is.names x.cells x.numbers x.max_at (length x.nodes) []
+  told_now = subst (λ u. Told noted' direct' order (fetched ++ more) h u is.names x.cells x.numbers x.max_at (length x.nodes) []) seen_is is.told
 
   -- of a home of which still nothing was read
-  pub told_then : (k : Home) → IsUnread s k → (k ≡ h → ⊥) → Told noted' order (fetched ++ more) k is.seen is.names x.cells x.numbers None 0 []
+  pub told_then : (k : Home) → IsUnread s k → (k ≡ h → ⊥) → Told noted' direct' order (fetched ++ more) k is.seen is.names x.cells x.numbers None 0 []
   told_then k u f =
-      subst (λ z. Told noted' order (fetched ++ more) k z is.names x.cells x.numbers None 0 []) (sym seen_is)
+      subst (λ z. Told noted' direct' order (fetched ++ more) k z is.names x.cells x.numbers None 0 []) (sym seen_is)
       (told_other order fetched (fetched ++ more) k h seen xs s.names is.names b.cells x.cells b.numbers x.numbers x.max_at (length x.nodes) [] (ag.told k u) told_now (silent k f))
 
   pub roots_then : AreKept is.seen 0 s.roots b.roots

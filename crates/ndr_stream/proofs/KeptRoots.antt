@@ -1,5 +1,5 @@
 -- What is kept of a root's first node says which cell the root names.
-use Rattle.std.proofs.Common.{◌≡◌, ℕ, ◌+◌, true, List, [], ◌∷◌, ◌++◌, Option, Some, None, refl, ap, sym, ◌∙◌, inl, inr, ◌⊎◌, subst, map}
+use Rattle.std.proofs.Common.{◌≡◌, ℕ, true, List, [], ◌∷◌, Option, Some, None, refl, sym, inl, inr, subst, map}
 use Rattle.std.specs.List.{slice_get}
 use Rattle.std.proofs.lemmas.Option.{same_Some}
 use Rattle.nd_types.specs.declared.types.Class.{Class}
@@ -11,7 +11,6 @@ use Rattle.nd_value.specs.declared.item.Home.{Home}
 use Rattle.nd_value.specs.Misfit.{has_shape}
 use Rattle.nd_value.specs.Tree as tree
 use Rattle.nd_value.specs.Tree.{Tree, Trees, node, none, more, Flat, flat}
-
 use Rattle.nd_value.specs.Deferral.{home_pointers}
 use Rattle.nd_grammar.specs.Entry.{EntryAt}
 use Rattle.nd_grammar.proofs.reader.MadeTrees.{MadeTrees, MadeNode}
@@ -19,7 +18,7 @@ use Rattle.ndr_steps.specs.declared.first.First.{First}
 use Rattle.ndr_steps.specs.declared.first.First.TheVariants as first
 use Rattle.ndr_steps.specs.Good.{owed}
 use Rattle.ndr_steps.specs.Good.{Kept as IsKept}
-use Rattle.ndr_steps.specs.Steps.{Owed, first_of}
+use Rattle.ndr_steps.specs.Steps.{first_of}
 use Rattle.ndr_stream.specs.Between.{named_by, pointer_cell}
 
 pointer_type : (d : Option TypeDef) (c : Option ℕ) (ks : Trees) → has_shape d (tree.Ptr c) ks ≡ true → (class : Class) × (to : TypeId) × (d ≡ Some (def.Pointer class to))

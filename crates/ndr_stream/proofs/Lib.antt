@@ -1,22 +1,27 @@
-mod Growing
-mod StateAdds
-mod StreamGrows
-mod FineTypes
-mod Others
-mod Needing
-mod Due
-mod Graphs
-mod KeptRoots
-mod StreamBegins
-mod HomeBegins
-mod Homes
-mod RootEnds
-mod Tested
-mod Cells
-mod CellEnds
-mod DirectEnds
-mod Taken
-mod ReferentEnds
-mod OtherTurns
-mod Reports
-mod Parameters
+pub mod Growing
+pub mod StateAdds
+pub mod StreamGrows
+pub mod FineTypes
+pub mod Others
+pub mod Needing
+pub mod Due
+pub mod Graphs
+pub mod KeptRoots
+pub mod StreamBegins
+pub mod HomeBegins
+pub mod References
+pub mod Homes
+pub mod RootEnds
+pub mod Tested
+pub mod Cells
+pub mod CellEnds
+pub mod DirectEnds
+pub mod Taken
+pub mod ReferentEnds
+pub mod OtherTurns
+pub mod Reports
+pub mod Parameters
+pub mod HeadEnds
+pub mod FewReferences
+pub mod HomeFaults
+pub mod Joined

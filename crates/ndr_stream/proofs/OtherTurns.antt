@@ -1,11 +1,10 @@
 -- The turns at which nothing is read: at a null pointer, and at a full pointer whose referent was read.
-use Rattle.std.proofs.Common.{◌≡◌, ℕ, ◌+◌, ◌≤◌, Bool, true, false, List, [], ◌∷◌, ◌++◌, length, Option, Some, None, refl, ap, sym, ◌∙◌, inl, inr, subst, append_assoc, arith, map}
+use Rattle.std.proofs.Common.{◌≡◌, ℕ, Bool, true, false, List, [], ◌∷◌, ◌++◌, length, Some, None, refl, ap, sym, ◌∙◌, inl, inr, subst, arith, map}
 use Rattle.std.specs.Prelude.{◌||◌, eqb}
 use Rattle.std.proofs.lemmas.Bool.{eq-eqb}
 use Rattle.std.proofs.lemmas.List.{append-nil}
 use Rattle.std.proofs.lemmas.Option.{same_Some}
 use Rattle.nd_base.specs.declared.octets.Order.{Order}
-use Rattle.nd_types.specs.declared.types.Class.{Class}
 use Rattle.nd_types.specs.declared.types.Class.TheVariants.{Full}
 use Rattle.nd_types.specs.Number.{AreOctets}
 use Rattle.nd_value.specs.declared.item.Home.TheVariants as home
@@ -15,13 +14,12 @@ use Rattle.nd_value.specs.Setting.{Setting, cell_home, cell_at}
 use Rattle.nd_value.specs.Deferral.{Pending, Due, due_referent, due_roots, IsPlaced, Placed_cells}
 use Rattle.nd_value.specs.Tree.{Tree}
 use Rattle.nd_grammar.specs.declared.reason.Reason.{Reason}
-use Rattle.nd_grammar.specs.Entry.{Entry, EntryAt}
+use Rattle.nd_grammar.specs.Entry.{EntryAt}
 use Rattle.nd_grammar.specs.InPlace.{tests}
 use Rattle.nd_grammar.specs.LegalSide.{IsLegalSide}
 use Rattle.nd_grammar.specs.Reader.{Progress, pass_all}
 use Rattle.nd_grammar.specs.StreamReader.{Reading, graph_of, stands_among, stood, read_referent, read_pending, read_first, read_next, read_stream}
 use Rattle.ndr_reading.specs.Around.{going, stopped}
-use Rattle.ndr_verdict.specs.Needed.{IsNeeded}
 use Rattle.ndr_worklist.specs.Reached.{Reached}
 use Rattle.ndr_worklist.proofs.Turns.{turns, refused}
 use Rattle.ndr_stream.specs.Between.{Between, Keeps, Agrees, IsKeptOf, kept_at}
@@ -43,8 +41,8 @@ is_among (d ∷ ds) c (inr q) = go (eqb c d.1) (is_among ds c q)
     go true e = refl
     go false e = e
 
-module _ (w : Setting) (side : IsLegalSide w) (order : Order) (fetched : List ℕ) (noted : List Item) (b : Between) (s : Reading) (seen : List EntryAt) (p : Pending) (ps : List Pending) (n : ℕ)
-    (ag : Agrees w side order fetched noted b s seen (p ∷ ps) n) where
+module _ (w : Setting) (side : IsLegalSide w) (order : Order) (fetched : List ℕ) (noted : List Item) (direct : ℕ) (b : Between) (s : Reading) (seen : List EntryAt) (p : Pending) (ps : List Pending) (n : ℕ)
+    (ag : Agrees w side order fetched noted direct b s seen (p ∷ ps) n) where
   abbrev later_due : List Due
   later_due = map due_referent ps ++ due_roots (length s.roots) n
 
@@ -65,7 +63,7 @@ module _ (w : Setting) (side : IsLegalSide w) (order : Order) (fetched : List �
 
   -- the state after a turn at which nothing was read
   turned : (seen' : List EntryAt) → ((later : List ℕ) → read_first w order (fetched ++ later) (due_referent p) later_due s ≡ passed_by (going b.at seen'))
-      → Keeps w order fetched noted (taken b) s seen' ps → Agrees w side order fetched noted (taken b) (passed_by (going b.at seen')) seen' ps n
+      → Keeps w order fetched noted direct (taken b) s seen' ps → Agrees w side order fetched noted direct (taken b) (passed_by (going b.at seen')) seen' ps n
   turned seen' law keeps = record {
     octets = ag.octets;
     reached = reached_by (passed_by (going b.at seen')) (λ later. ap (λ u. read_next w order (fetched ++ later) u s) due_is ∙ law later);
@@ -73,17 +71,18 @@ module _ (w : Setting) (side : IsLegalSide w) (order : Order) (fetched : List �
     due = refl;
     state = λ later all. pending_state w side order (fetched ++ later) all s (passed_by (going b.at seen')) p ps ps n (ag.state later) (law later) refl;
     needed = ag.needed;
+    direct_are = ag.direct_are;
     keeps = record { at = keeps.at; pending = keeps.pending; told = keeps.told; roots = keeps.roots; read = keeps.read; not_read = keeps.not_read; graph = keeps.graph };
   }
 
   -- a null pointer makes nothing due
-  pub null_ends : p.cell ≡ None → Agrees w side order fetched noted (taken b) (passed_by (going b.at seen)) seen ps n
+  pub null_ends : p.cell ≡ None → Agrees w side order fetched noted direct (taken b) (passed_by (going b.at seen)) seen ps n
   null_ends e =
       turned seen
       (λ later. ap (λ o. read_pending w order (fetched ++ later) o p later_due s) e ∙ ap passed_by ag.progress)
-      (kept_taken w order fetched noted b s seen p ps ag.keeps)
+      (kept_taken w order fetched noted direct b s seen p ps ag.keeps)
 
-  pub passes_null : p.cell ≡ None → (then : Reading) × Agrees w side order fetched noted (taken b) then seen ps n
+  pub passes_null : p.cell ≡ None → (then : Reading) × Agrees w side order fetched noted direct (taken b) then seen ps n
   passes_null e = (passed_by (going b.at seen), null_ends e)
 
   module _ (c : ℕ) (is_cell : p.cell ≡ Some c) (full : p.class ≡ Full) (k : Kept) (known : kept_at b.read c ≡ Some k) where
@@ -115,11 +114,11 @@ module _ (w : Setting) (side : IsLegalSide w) (order : Order) (fetched : List �
 
     -- its agreements hold
     pub stood_ends : AllAgree k p.agreements
-        → Agrees w side order fetched noted (taken b) (passed_by (going b.at (seen ++ all_at b.at (tests (cell_home c) 0 its_tree p.agreements)))) (seen ++ all_at b.at (tests (cell_home c) 0 its_tree p.agreements)) ps n
+        → Agrees w side order fetched noted direct (taken b) (passed_by (going b.at (seen ++ all_at b.at (tests (cell_home c) 0 its_tree p.agreements)))) (seen ++ all_at b.at (tests (cell_home c) 0 its_tree p.agreements)) ps n
     stood_ends agree =
         turned (seen ++ all_at b.at (tests (cell_home c) 0 its_tree p.agreements))
         (λ later. first_is (fetched ++ later) ∙ ap passed_by (tests_pass order fetched w.table (cell_home c) b.at ag.keeps.at its_tree k p.agreements seen kept_it agree later))
-        (keeps_tests order fetched w.table (cell_home c) b.at ag.keeps.at its_tree k w noted (taken b) s seen ps p.agreements (kept_taken w order fetched noted b s seen p ps ag.keeps))
+        (keeps_tests order fetched w.table (cell_home c) b.at ag.keeps.at its_tree k w noted direct (taken b) s seen ps p.agreements (kept_taken w order fetched noted direct b s seen p ps ag.keeps))
 
     -- one of them does not
     pub stood_refused : (ws : List Agreement) (a : Agreement) (others : List Agreement) (why : ℕ × Reason) → p.agreements ≡ ws ++ a ∷ others → AllAgree k ws
@@ -132,19 +131,20 @@ module _ (w : Setting) (side : IsLegalSide w) (order : Order) (fetched : List �
         ∙ ap (λ u. pass_all order (fetched ++ later) (tests (cell_home c) 0 its_tree u) (going b.at seen)) split
         ∙ tests_stop order fetched w.table (cell_home c) b.at ag.keeps.at its_tree k ws a others why seen kept_it agree e later)
 
-    pub passes_read : AllAgree k p.agreements → (then : Reading) × (so : List EntryAt) × Agrees w side order fetched noted (taken b) then so ps n
+    pub passes_read : AllAgree k p.agreements → (then : Reading) × (so : List EntryAt) × Agrees w side order fetched noted direct (taken b) then so ps n
     passes_read agree =
         let so : List EntryAt = seen ++ all_at b.at (tests (cell_home c) 0 its_tree p.agreements) in
         (passed_by (going b.at so), so, stood_ends agree)
 
     pub disagrees : (ws : List Agreement) (a : Agreement) (others : List Agreement) (why : ℕ × Reason) → p.agreements ≡ ws ++ a ∷ others → AllAgree k ws
-        → disagreement a k.first k.max_at ≡ Some why → IsRefusedAfter w order fetched noted b.at why
+        → disagreement a k.first k.max_at ≡ Some why → IsRefusedAfter w order fetched noted (length b.cells) direct b.at why
     disagrees ws a others why split agree e =
         let so : List EntryAt = seen ++ all_at b.at (tests (cell_home c) 0 its_tree ws) in
-        let keeps : Keeps w order fetched noted b s so (p ∷ ps) = keeps_tests order fetched w.table (cell_home c) b.at ag.keeps.at its_tree k w noted b s seen (p ∷ ps) ws ag.keeps in
+        let keeps : Keeps w order fetched noted direct b s so (p ∷ ps) = keeps_tests order fetched w.table (cell_home c) b.at ag.keeps.at its_tree k w noted direct b s seen (p ∷ ps) ws ag.keeps in
         record {
           seen = so;
           stops = stood_refused ws a others why split agree e;
           items_are = (keeps.told (home.Root (length s.roots)) (omega arith)).noted_are;
+          cells_named = (keeps.told (home.Root (length s.roots)) (omega arith)).cells_named.named;
           needed = ag.needed;
         }

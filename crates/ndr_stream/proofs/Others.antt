@@ -1,6 +1,6 @@
 -- What is kept of a home stays as it is while entries of other homes, and agreements, are passed.
-use Rattle.std.proofs.Common.{◌≡◌, ◌≤◌, ◌<◌, ℕ, ◌+◌, zero, suc, Bool, true, false, List, [], ◌∷◌, ◌++◌, length, Option, Some, None, refl, ap, sym, ◌∙◌, subst, append_assoc, arith}
-use Rattle.std.specs.Prelude.{◌&&◌, ◌||◌, eqb, map}
+use Rattle.std.proofs.Common.{◌≡◌, ◌<◌, ℕ, ◌+◌, suc, Bool, true, false, List, [], ◌∷◌, ◌++◌, length, Option, None, refl, ap, sym, ◌∙◌, subst, append_assoc, arith}
+use Rattle.std.specs.Prelude.{◌&&◌, ◌||◌, eqb}
 use Rattle.std.specs.List.{AllByRecursion}
 use Rattle.std.proofs.lemmas.List.{append-nil}
 use Rattle.std.proofs.lemmas.Bool.{eqb-true}
@@ -10,20 +10,17 @@ use Rattle.nd_value.specs.declared.item.Home.{Home}
 use Rattle.nd_value.specs.declared.item.Home.TheVariants as home
 use Rattle.nd_value.specs.declared.item.Item.{Item}
 use Rattle.nd_value.specs.Seen.{cell_number}
-use Rattle.nd_value.specs.Tree.{Tree, more, none, flat}
-use Rattle.nd_value.specs.Deferral.{IsPlaced}
+use Rattle.nd_value.specs.Tree.{Tree}
 use Rattle.nd_grammar.specs.Entry.{EntryAt}
 use Rattle.nd_grammar.specs.Refusal.{tested_at, kind_agrees, is_max, same_home}
 use Rattle.nd_grammar.specs.Reader.{Names}
-use Rattle.nd_grammar.specs.StreamReader.{Reading}
 use Rattle.ndr_refs.specs.declared.referents.Known.{Known}
 use Rattle.ndr_steps.specs.Good.{Told}
-use Rattle.ndr_steps.specs.Good.{Kept as IsKept}
 use Rattle.ndr_steps.specs.Steps.{Place}
 use Rattle.ndr_steps.proofs.Passing.{speaks, tested_passed}
 use Rattle.ndr_stream.specs.declared.kept.Kept.{Kept}
 use Rattle.ndr_stream.specs.declared.kept.KeptRoot.{KeptRoot}
-use Rattle.ndr_stream.specs.Between.{IsKeptOf, AreKept, IsUnread, pointer_cell}
+use Rattle.ndr_stream.specs.Between.{IsKeptOf, AreKept, pointer_cell}
 
 same_home_is : (h k : Home) → same_home h k ≡ true → h ≡ k
 same_home_is (home.Root i) (home.Root j) e = ap home.Root (eqb-true i j e)
@@ -85,12 +82,13 @@ root_more seen i (u ∷ vs) (y ∷ ks) v k (z, c, rest) x e =
     (z, c, root_more seen (suc i) vs ks v k rest (subst (λ j. IsKeptOf seen (home.Root j) v k.own) (one_later i (length vs)) x) e)
 
 -- What is told of a home of which nothing was read stays so, where what is told of another home goes on.
-pub told_other : {noted noted' : List Item} (order : Order) (fetched fetched' : List ℕ) (h k : Home) (seen xs : List EntryAt) (names names' : Names) (cells cells' : List ℕ) (numbers numbers' : List (ℕ × Known))
+pub told_other : {noted noted' : List Item} {direct direct' : ℕ} (order : Order) (fetched fetched' : List ℕ) (h k : Home) (seen xs : List EntryAt) (names names' : Names) (cells cells' : List ℕ) (numbers numbers' : List (ℕ × Known))
     (max_at : Option ℕ) (n : ℕ) (half : List Place)
-    → Told noted order fetched h seen names cells numbers None 0 [] → Told noted' order fetched' k (seen ++ xs) names' cells' numbers' max_at n half → AreSilent h xs
-    → Told noted' order fetched' h (seen ++ xs) names' cells' numbers' None 0 []
+    → Told noted direct order fetched h seen names cells numbers None 0 [] → Told noted' direct' order fetched' k (seen ++ xs) names' cells' numbers' max_at n half → AreSilent h xs
+    → Told noted' direct' order fetched' h (seen ++ xs) names' cells' numbers' None 0 []
 told_other order fetched fetched' h k seen xs names names' cells cells' numbers numbers' max_at n half t u s = record {
   cells_are = u.cells_are;
+  cells_named = u.cells_named;
   numbers_are = u.numbers_are;
   ahead = λ a j. tested_later h seen xs s a (0 + j) ∙ t.ahead a j;
   noted_are = u.noted_are;

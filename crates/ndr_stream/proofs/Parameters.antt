@@ -1,24 +1,23 @@
 -- The agreements of a parameter: what the reader finds of them is what is found in what is kept.
-use Rattle.std.proofs.Common.{◌≡◌, ◌≤◌, ◌<◌, ℕ, ◌+◌, zero, suc, ℤ, Bool, true, false, List, [], ◌∷◌, ◌++◌, length, Option, Some, None, refl, ap, ap₂, sym, ◌∙◌, inl, inr, ◌⊎◌, subst, append_assoc, arith}
+use Rattle.std.proofs.Common.{◌≡◌, ◌≤◌, ◌<◌, ℕ, ◌+◌, zero, suc, Bool, true, false, List, [], ◌∷◌, ◌++◌, length, Option, Some, None, refl, ap, sym, ◌∙◌, inl, inr, ◌⊎◌, subst, append_assoc, arith}
 use Rattle.std.specs.Prelude.{cond, if◌then◌else◌, option_map, replicate}
-use Rattle.std.specs.List.{AllByRecursion, slice_get}
+use Rattle.std.specs.List.{slice_get}
 use Rattle.std.specs.Ordering.{int_eq}
 use Rattle.std.proofs.lemmas.List.{append-nil}
 use Rattle.std.proofs.lemmas.Option.{same_Some}
 use Rattle.nd_base.specs.declared.octets.Order.{Order}
 use Rattle.nd_types.specs.declared.types.Attr.{Attr}
 use Rattle.nd_types.specs.declared.types.Attr.TheVariants as attr
-use Rattle.nd_types.specs.Number.{AreOctets}
 use Rattle.nd_value.specs.declared.item.Home.{Home}
 use Rattle.nd_value.specs.declared.item.Home.TheVariants as home
 use Rattle.nd_value.specs.declared.item.Item.{Item}
 use Rattle.nd_value.specs.declared.value.Graph.{Graph}
-use Rattle.nd_value.specs.Agreement.{Agreement, agreement, number_of, found_in}
+use Rattle.nd_value.specs.Agreement.{Agreement, number_of, found_in}
 use Rattle.nd_value.specs.Seen.{cell_number}
 use Rattle.nd_value.specs.Setting.{Setting, unread, or_unread, root_at, cell_home, cell_at, cell_tree}
 use Rattle.nd_value.specs.Tree as tree
 use Rattle.nd_value.specs.Tree.{Tree, Referent, node, more, none, Flat, flat, count, is_pointer}
-use Rattle.nd_value.specs.Deferral.{Pending, IsPlaced, Placed_cells}
+use Rattle.nd_value.specs.Deferral.{IsPlaced}
 use Rattle.nd_value.specs.Variables.{starred}
 use Rattle.nd_value.proofs.Apart.{all_append}
 use Rattle.nd_grammar.specs.declared.reason.Reason.{Reason}
@@ -27,15 +26,14 @@ use Rattle.nd_grammar.specs.Entry.{Entry, EntryAt, Test}
 use Rattle.nd_grammar.specs.InPlace.{tests}
 use Rattle.nd_grammar.specs.LegalSide.{IsLegalSide}
 use Rattle.nd_grammar.specs.Refusal.{refusal, tested_at}
-use Rattle.nd_grammar.specs.Reader.{Names, pass_all}
+use Rattle.nd_grammar.specs.Reader.{pass_all}
 use Rattle.nd_grammar.specs.Stream.{root_test}
 use Rattle.nd_grammar.specs.StreamReader.{Reading, graph_of, stands_among}
-use Rattle.nd_grammar.proofs.reader.ReaderNames.{cell_in, get_left}
-use Rattle.ndr_reading.specs.Around.{going, stopped}
+use Rattle.nd_grammar.proofs.reader.ReaderNames.{get_left}
+use Rattle.ndr_reading.specs.Around.{going}
 use Rattle.ndr_reading.specs.ChildNodes.{top, flat_number}
 use Rattle.ndr_reading.proofs.ChildPlaces.{same_number}
 use Rattle.ndr_reading.proofs.FromPoint.{test_passed}
-use Rattle.ndr_steps.specs.declared.first.First.{First}
 use Rattle.ndr_steps.specs.declared.first.First.TheVariants as first
 use Rattle.ndr_steps.specs.Good.{place_at}
 use Rattle.ndr_steps.specs.Steps.{first_number, first_of, is_owing, place_of}
@@ -49,7 +47,7 @@ use Rattle.ndr_stream.specs.declared.kept.KeptRoot.{KeptRoot}
 use Rattle.ndr_stream.proofs.Others.{tested_later}
 use Rattle.ndr_stream.proofs.OtherTurns.{is_among}
 use Rattle.ndr_stream.proofs.ReferentEnds.{among_placed}
-use Rattle.ndr_stream.proofs.Tested.{top_is, tests_pass, tests_stop, keeps_tests, tests_silent}
+use Rattle.ndr_stream.proofs.Tested.{top_is, tests_pass, tests_stop, keeps_tests}
 
 -- ## What is kept of a home
 
@@ -104,7 +102,7 @@ pub record RootAt (seen : List EntryAt) (i : ℕ) (v : Tree) (k : KeptRoot) : Ty
 
 abbrev Found : List EntryAt → ℕ → List Tree → List KeptRoot → ℕ → Type 0
 Found seen i vs ks j =
-    ((slice_get vs j ≡ None) × (slice_get ks j ≡ None)) ⊎ ((v : Tree) × ((k : KeptRoot) × (slice_get vs j ≡ Some v) × (slice_get ks j ≡ Some k) × RootAt seen (i + j) v k))
+    ((slice_get vs j ≡ None) × (slice_get ks j ≡ None)) ⊎ ((v : Tree) × (k : KeptRoot) × (slice_get vs j ≡ Some v) × (slice_get ks j ≡ Some k) × RootAt seen (i + j) v k)
 
 no_more : (i : ℕ) → i ≡ i + 0
 no_more i = omega arith
@@ -138,8 +136,8 @@ get_past [] j e = omega arith
 get_past (v ∷ vs) zero e = cc
 get_past (v ∷ vs) (suc j) e = let l = get_past vs j e in omega (arith, l)
 
-module _ (w : Setting) (side : IsLegalSide w) (order : Order) (fetched : List ℕ) (noted : List Item) (b : Between) (s : Reading) (seen0 : List EntryAt) (n unread_roots : ℕ)
-    (ag : Agrees w side order fetched noted b s seen0 [] n) (seen : List EntryAt) (kp : Keeps w order fetched noted b s seen []) where
+module _ (w : Setting) (side : IsLegalSide w) (order : Order) (fetched : List ℕ) (noted : List Item) (direct : ℕ) (b : Between) (s : Reading) (seen0 : List EntryAt) (n unread_roots : ℕ)
+    (ag : Agrees w side order fetched noted direct b s seen0 [] n) (seen : List EntryAt) (kp : Keeps w order fetched noted direct b s seen []) where
   abbrev pub g : Graph
   g = graph_of (s.roots ++ replicate unread_roots unread) s.names
 
@@ -193,7 +191,7 @@ module _ (w : Setting) (side : IsLegalSide w) (order : Order) (fetched : List �
   -- the number of a home
   number_known : (h : Home) (v : Tree) (o : Option Kept) → Known h v o → kept_number o ≡ number_of v
   number_known h v None (not_known f e) = ap number_of (sym e)
-  number_known h v (Some k) (is_known k x) = kept_is_number seen h v k x
+  number_known h v (Some _) (is_known k x) = kept_is_number seen h v k x
 
   named_number : (c : Option ℕ) → kept_number (kept_named b.read c) ≡ elim c [ None ↦ None | Some d ↦ number_of (cell_at g d) ]
   named_number None = refl
@@ -222,10 +220,10 @@ module _ (w : Setting) (side : IsLegalSide w) (order : Order) (fetched : List �
   -- ## The tests of a root
 
   abbrev Passes : List Entry → Type 0
-  Passes ms = TestsPass w order fetched noted b s seen ms
+  Passes ms = TestsPass w order fetched noted direct b s seen ms
 
   abbrev Stops : List Entry → ℕ × Reason → Type 0
-  Stops ms why = TestsStop w order fetched noted b s seen ms why
+  Stops ms why = TestsStop w order fetched noted direct b s seen ms why
 
   nothing_passes : Passes []
   nothing_passes = record { after = seen; goes = λ later. refl; keeps = kp }
@@ -257,24 +255,24 @@ module _ (w : Setting) (side : IsLegalSide w) (order : Order) (fetched : List �
   home_passes h v None (not_known f e) ws agree = record {
     after = seen ++ all_at b.at (tests h 0 v ws);
     goes = λ later. silent_pass h v f ws seen f later;
-    keeps = keeps_tests order fetched w.table h b.at kp.at v any_kept w noted b s seen [] ws kp;
+    keeps = keeps_tests order fetched w.table h b.at kp.at v any_kept w noted direct b s seen [] ws kp;
   }
-  home_passes h v (Some k) (is_known k x) ws agree = record {
+  home_passes h v (Some _) (is_known k x) ws agree = record {
     after = seen ++ all_at b.at (tests h 0 v ws);
     goes = λ later. tests_pass order fetched w.table h b.at kp.at v k ws seen x (agree k refl) later;
-    keeps = keeps_tests order fetched w.table h b.at kp.at v k w noted b s seen [] ws kp;
+    keeps = keeps_tests order fetched w.table h b.at kp.at v k w noted direct b s seen [] ws kp;
   }
 
   home_stops : (h : Home) (v : Tree) (o : Option Kept) → Known h v o → (a : Agreement) (k : Kept) → o ≡ Some k → (why : ℕ × Reason) → disagreement a k.first k.max_at ≡ Some why
       → Stops (tests h 0 v (a ∷ [])) why
   home_stops h v None (not_known f e) a k is why d = cc
-  home_stops h v (Some y) (is_known y x) a k is why d =
+  home_stops h v (Some _) (is_known y x) a k is why d =
       let same : y ≡ k = same_Some y k is in
       let z : IsKeptOf seen h v k = subst (IsKeptOf seen h v) same x in
       record {
         after = seen ++ [];
         stops = λ later. tests_stop order fetched w.table h b.at kp.at v k [] a [] why seen z tt d later;
-        keeps = subst (λ u. Keeps w order fetched noted b s u []) (sym (append-nil seen)) kp;
+        keeps = subst (λ u. Keeps w order fetched noted direct b s u []) (sym (append-nil seen)) kp;
       }
 
   -- what is tried of a root
@@ -335,7 +333,7 @@ module _ (w : Setting) (side : IsLegalSide w) (order : Order) (fetched : List �
 
   -- the agreement of a root holds, or there is nothing that it is about
   pub root_passes : (i : ℕ) (ws : List Agreement) → ((k : Kept) → root_subject b.read (slice_get b.roots i) ≡ Some k → AllAgree k ws)
-      → TestsPass w order fetched noted b s seen (root_test g i (root_at g i) ws)
+      → TestsPass w order fetched noted direct b s seen (root_test g i (root_at g i) ws)
   root_passes i ws agree = go (subject i ws)
     where
       go : ((tried_of i ws ≡ []) × (root_subject b.read (slice_get b.roots i) ≡ None)) ⊎ Subject i ws (root_subject b.read (slice_get b.roots i)) → Passes (tried_of i ws)
@@ -344,7 +342,7 @@ module _ (w : Setting) (side : IsLegalSide w) (order : Order) (fetched : List �
 
   -- it does not
   pub root_stops : (i : ℕ) (a : Agreement) (k : Kept) → root_subject b.read (slice_get b.roots i) ≡ Some k → (why : ℕ × Reason) → disagreement a k.first k.max_at ≡ Some why
-      → TestsStop w order fetched noted b s seen (root_test g i (root_at g i) (a ∷ [])) why
+      → TestsStop w order fetched noted direct b s seen (root_test g i (root_at g i) (a ∷ [])) why
   root_stops i a k is why d = go (subject i (a ∷ []))
     where
       go : ((tried_of i (a ∷ []) ≡ []) × (root_subject b.read (slice_get b.roots i) ≡ None)) ⊎ Subject i (a ∷ []) (root_subject b.read (slice_get b.roots i)) → Stops (tried_of i (a ∷ [])) why

@@ -1,7 +1,6 @@
 -- The end of the referent of a pointer, and its agreements.
-use Rattle.std.proofs.Common.{◌≡◌, ◌≤◌, ◌<◌, ℕ, ◌+◌, zero, suc, Bool, true, false, List, [], ◌∷◌, ◌++◌, length, Option, Some, None, refl, ap, sym, ◌∙◌, inl, inr, ◌⊎◌, subst, append_assoc, arith, map}
+use Rattle.std.proofs.Common.{◌≡◌, ◌≤◌, ◌<◌, ℕ, zero, suc, Bool, true, false, List, [], ◌∷◌, ◌++◌, length, Option, Some, None, refl, ap, sym, ◌∙◌, inl, inr, subst, append_assoc, arith, map}
 use Rattle.std.specs.Prelude.{eqb, ◌||◌}
-use Rattle.std.specs.List.{AllByRecursion}
 use Rattle.std.proofs.lemmas.Bool.{eqb-true}
 use Rattle.nd_base.specs.declared.octets.Order.{Order}
 use Rattle.nd_types.specs.declared.types.Class.{Class}
@@ -20,28 +19,29 @@ use Rattle.nd_grammar.specs.declared.reason.Reason.TheVariants as reason
 use Rattle.nd_grammar.specs.Entry.{Entry, EntryAt}
 use Rattle.nd_grammar.specs.InPlace.{tests}
 use Rattle.nd_grammar.specs.LegalSide.{IsLegalSide}
-use Rattle.nd_grammar.specs.Reader.{Names, Progress, Read, pass_all, read_whole}
+use Rattle.nd_grammar.specs.Reader.{Progress, Read, pass_all, read_whole}
 use Rattle.nd_grammar.specs.StreamReader.{Reading, stands_among, stood, with_value, read_referent, read_pending, read_first, read_next, read_stream}
 use Rattle.nd_grammar.proofs.legal.LegalUsable.{Usable}
 use Rattle.nd_grammar.proofs.reader.ReaderCells.{no_names}
 use Rattle.nd_grammar.proofs.reader.ReaderNames.{PointerAt, cell_in, longer}
 use Rattle.nd_grammar.proofs.reader.ReaderStates.{WholeRead, read_wholly, at_cell}
-use Rattle.nd_grammar.proofs.reader.ReaderStates.{State as IsReading}
 use Rattle.nd_grammar.proofs.reader.ReaderTurns.{joined_due}
 use Rattle.ndr_reading.specs.Around.{going, stopped}
 use Rattle.ndr_reading.proofs.Continuing.{all_stay}
-use Rattle.ndr_steps.specs.Good.{Whole}
+use Rattle.ndr_steps.specs.Good.{Told, Whole}
 use Rattle.ndr_steps.specs.Steps.{State}
 use Rattle.ndr_worklist.proofs.Turns.{turns, refused}
-use Rattle.ndr_stream.specs.Between.{AreNeeded, Between, Keeps, Agrees, IsUnread, IsKeptOf, IsKeptHome, CellKept, CellFilled, cell_read, kept_at}
+use Rattle.ndr_stream.specs.Between.{AreNeeded, Between, Keeps, Agrees, IsKeptOf, IsKeptHome, CellKept, CellFilled, cell_read, kept_at}
 use Rattle.ndr_stream.specs.Between.{taken}
 use Rattle.ndr_stream.specs.Report.{IsRefusedAfter}
 use Rattle.ndr_stream.specs.Tests.{disagreement, AllAgree, all_at}
 use Rattle.ndr_stream.specs.declared.kept.Kept.{Kept}
 use Rattle.ndr_stream.proofs.CellEnds.{keeps_cell}
-use Rattle.ndr_stream.proofs.Due.{StateOver, same_octets, pending_state}
+use Rattle.ndr_stream.proofs.Due.{same_octets, pending_state}
 use Rattle.ndr_stream.proofs.Homes.{own_then, roots_then}
 use Rattle.ndr_stream.proofs.Needing.{NeededAfter, needed_more}
+use Rattle.ndr_stream.proofs.StreamGrows.{all_go, goes_twice, next_then_stream}
+use Rattle.ndr_stream.specs.Added.{Goes}
 use Rattle.ndr_stream.proofs.Taken.{kept_taken}
 use Rattle.ndr_stream.proofs.Tested.{tests_pass, tests_stop, told_tests, keeps_tests}
 
@@ -66,8 +66,8 @@ positive : (cells : List Referent) (c : ℕ) (y : Referent) → cell_in cells c 
 positive cells zero y e = cc
 positive cells (suc i) y e = omega arith
 
-module _ (w : Setting) (side : IsLegalSide w) (order : Order) (fetched : List ℕ) (noted : List Item) (b : Between) (s : Reading) (seen : List EntryAt) (p : Pending) (ps : List Pending) (n : ℕ)
-    (ag : Agrees w side order fetched noted b s seen (p ∷ ps) n) (c : ℕ) (is_cell : p.cell ≡ Some c) where
+module _ (w : Setting) (side : IsLegalSide w) (order : Order) (fetched : List ℕ) (noted : List Item) (direct : ℕ) (b : Between) (s : Reading) (seen : List EntryAt) (p : Pending) (ps : List Pending) (n : ℕ)
+    (ag : Agrees w side order fetched noted direct b s seen (p ∷ ps) n) (c : ℕ) (is_cell : p.cell ≡ Some c) where
   abbrev later_due : List Due
   later_due = map due_referent ps ++ due_roots (length s.roots) n
 
@@ -77,8 +77,8 @@ module _ (w : Setting) (side : IsLegalSide w) (order : Order) (fetched : List �
   due_is : s.due ≡ due_referent p ∷ later_due
   due_is = ag.due
 
-  kept_now : Keeps w order fetched noted (taken b) s seen ps
-  kept_now = kept_taken w order fetched noted b s seen p ps ag.keeps
+  kept_now : Keeps w order fetched noted direct (taken b) s seen ps
+  kept_now = kept_taken w order fetched noted direct b s seen p ps ag.keeps
 
   -- a pointer to a cell that was read is full
   placed_full : IsPlaced s.done c → p.class ≡ Full
@@ -125,7 +125,17 @@ module _ (w : Setting) (side : IsLegalSide w) (order : Order) (fetched : List �
         refused w side order fetched ag.octets s (due_referent p) later_due ag.reached due_is more a at seen' why
         (ap (λ (u : Reading). u.progress) (next_is octets) ∙ ap (pass_all order octets ms) e ∙ all_stay order octets ms at seen' why)
 
-    module _ (more : List ℕ) (all_more : AreOctets more) (noted' : List Item) (x : State) (is : Whole order (fetched ++ more) w.table (cell_home c) p.to noted' target x)
+    -- what is passed of the referent is passed of the stream
+    pub referent_goes : (added : List ℕ) → AreOctets added → Goes (target (fetched ++ added)).progress (read_stream w order (fetched ++ added)).progress
+    referent_goes added a =
+        let octets : List ℕ = fetched ++ added in
+        let ms : List Entry = tests (cell_home c) 0 (target octets).tree p.agreements in
+        goes_twice (target octets).progress (pass_all order octets ms (target octets).progress) (read_stream w order octets).progress
+        (all_go order octets ms (target octets).progress)
+        (subst (λ (u : Reading). Goes u.progress (read_stream w order octets).progress) (next_is octets)
+        (next_then_stream w side order fetched ag.octets s (due_referent p) later_due due_is ag.reached added a))
+
+    module _ (more : List ℕ) (all_more : AreOctets more) (noted' : List Item) (x : State) (is : Whole order (fetched ++ more) w.table (cell_home c) p.to noted' direct target x)
         (needs : AreNeeded target fetched more) where
       abbrev pub made : List Pending
       made = home_pointers w.table (cell_home c) p.to is.v
@@ -189,7 +199,7 @@ module _ (w : Setting) (side : IsLegalSide w) (order : Order) (fetched : List �
 
       module _ (k : Kept) (own : IsKeptHome x k) where
         kept_it : IsKeptOf is.seen (cell_home c) is.v k
-        kept_it = own_then w order fetched more noted noted' (taken b) s seen ps kept_now (cell_home c) free p.to s.names x is k own.first own.max_at
+        kept_it = own_then w order fetched more noted noted' direct direct (taken b) s seen ps kept_now (cell_home c) free p.to s.names x is k own.first own.max_at
 
         -- one of the agreements is refused
         pub agreement_refused : (ws : List Agreement) (a : Agreement) (others : List Agreement) (why : ℕ × Reason) → p.agreements ≡ ws ++ a ∷ others → AllAgree k ws
@@ -208,13 +218,16 @@ module _ (w : Setting) (side : IsLegalSide w) (order : Order) (fetched : List �
             (subst (λ u. (read_next w order u s.due s).progress ≡ stopped x.at so why) same stop))
 
         pub disagrees : (ws : List Agreement) (a : Agreement) (others : List Agreement) (why : ℕ × Reason) → p.agreements ≡ ws ++ a ∷ others → AllAgree k ws
-            → disagreement a k.first k.max_at ≡ Some why → IsRefusedAfter w order (fetched ++ more) noted' x.at why
-        disagrees ws a others why split agree e = record {
-          seen = is.seen ++ all_at x.at (tests (cell_home c) 0 is.v ws);
-          stops = agreement_refused ws a others why split agree e;
-          items_are = (told_tests order (fetched ++ more) w.table (cell_home c) x.at is.reached is.v k ws (cell_home c) is.seen is.names x.cells x.numbers x.max_at (length x.nodes) [] is.told).noted_are;
-          needed = needed_more w order fetched more ag.needed needed_then;
-        }
+            → disagreement a k.first k.max_at ≡ Some why → IsRefusedAfter w order (fetched ++ more) noted' (length x.cells) direct x.at why
+        disagrees ws a others why split agree e =
+            let told_then : Told noted' direct order (fetched ++ more) (cell_home c) (is.seen ++ all_at x.at (tests (cell_home c) 0 is.v ws)) is.names x.cells x.numbers x.max_at (length x.nodes) [] =
+            told_tests order (fetched ++ more) w.table (cell_home c) x.at is.reached is.v k ws (cell_home c) is.seen is.names x.cells x.numbers x.max_at (length x.nodes) [] is.told in record {
+              seen = is.seen ++ all_at x.at (tests (cell_home c) 0 is.v ws);
+              stops = agreement_refused ws a others why split agree e;
+              items_are = told_then.noted_are;
+              cells_named = told_then.cells_named.named;
+              needed = needed_more w order fetched more ag.needed needed_then;
+            }
 
         module _ (agree : AllAgree k p.agreements) where
           abbrev pub seen_then : List EntryAt
@@ -224,7 +237,7 @@ module _ (w : Setting) (side : IsLegalSide w) (order : Order) (fetched : List �
           passes later = tests_pass order (fetched ++ more) w.table (cell_home c) x.at is.reached is.v k p.agreements is.seen kept_it agree later
 
           pub referent_ends : (read : List (Option Kept)) → CellKept c k b.read read → (g : Graph) → CellFilled s.roots c is.v x.cells b.graph g
-              → Agrees w side order (fetched ++ more) noted' (cell_read (taken b) x b.roots read g) (after (going x.at seen_then)) seen_then (made ++ ps) n
+              → Agrees w side order (fetched ++ more) noted' direct (cell_read (taken b) x b.roots read g) (after (going x.at seen_then)) seen_then (made ++ ps) n
           referent_ends read is_read g filled = record {
             octets = octets;
             reached = turns w side order fetched more ag.octets all_more s (after (going x.at seen_then)) (due_referent p) later_due ag.reached due_is (λ later a. next_then later ∙ ap after (passes later));
@@ -235,13 +248,14 @@ module _ (w : Setting) (side : IsLegalSide w) (order : Order) (fetched : List �
                 (same_octets w side order (fetched ++ (more ++ later)) ((fetched ++ more) ++ later) (sym (append_assoc fetched more later)) s (p ∷ ps) n (ag.state (more ++ later)))
                 (first_then later ∙ ap after (passes later)) (due_then (going x.at seen_then));
             needed = needed_more w order fetched more ag.needed needed_then;
-            keeps = keeps_tests order (fetched ++ more) w.table (cell_home c) x.at is.reached is.v k w noted' (cell_read (taken b) x b.roots read g) (after (going x.at seen_then)) is.seen (made ++ ps) p.agreements
-                (keeps_cell w order fetched more noted noted' (taken b) s seen ps kept_now c free p.to s.names x is wholly.extends above there s.roots b.roots (omega arith)
-                (roots_then w order fetched more noted noted' (taken b) s seen ps kept_now (cell_home c) free p.to s.names x is)
+            direct_are = ag.direct_are;
+            keeps = keeps_tests order (fetched ++ more) w.table (cell_home c) x.at is.reached is.v k w noted' direct (cell_read (taken b) x b.roots read g) (after (going x.at seen_then)) is.seen (made ++ ps) p.agreements
+                (keeps_cell w order fetched more noted noted' direct direct (taken b) s seen ps kept_now c free p.to s.names x is wholly.extends above there s.roots b.roots (omega arith)
+                (roots_then w order fetched more noted noted' direct direct (taken b) s seen ps kept_now (cell_home c) free p.to s.names x is)
                 p.class (after (going x.at seen_then)).due (going x.at seen_then) k own read is_read g filled);
           }
 
           -- the same, as the law says it
           pub ends : (read : List (Option Kept)) → CellKept c k b.read read → (g : Graph) → CellFilled s.roots c is.v x.cells b.graph g
-              → (then : Reading) × (so : List EntryAt) × (qs : List Pending) × Agrees w side order (fetched ++ more) noted' (cell_read (taken b) x b.roots read g) then so qs n
+              → (then : Reading) × (so : List EntryAt) × (qs : List Pending) × Agrees w side order (fetched ++ more) noted' direct (cell_read (taken b) x b.roots read g) then so qs n
           ends read is_read g filled = (after (going x.at seen_then), seen_then, made ++ ps, referent_ends read is_read g filled)

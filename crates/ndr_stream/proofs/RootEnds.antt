@@ -1,7 +1,8 @@
 -- The end of a root that is read in its place.
-use Rattle.std.proofs.Common.{◌≡◌, ◌≤◌, ◌<◌, ℕ, ◌+◌, zero, suc, Bool, true, false, List, [], ◌∷◌, ◌++◌, length, Option, Some, None, refl, ap, ap₂, sym, ◌∙◌, subst, append_assoc, length-append, arith, map}
-use Rattle.std.specs.List.{AllByRecursion, slice_get}
-use Rattle.std.proofs.lemmas.List.{append-nil, map-append}
+use Rattle.std.proofs.Common.{◌≡◌, ◌<◌, ℕ, ◌+◌, zero, suc, false, List, [], ◌∷◌, ◌++◌, length, Some, refl, ap, sym, ◌∙◌, subst, append_assoc, arith, map}
+use Rattle.std.specs.Prelude.{filter, take}
+use Rattle.std.specs.List.{slice_get}
+use Rattle.std.proofs.lemmas.List.{append-nil}
 use Rattle.nd_base.specs.declared.octets.Order.{Order}
 use Rattle.nd_types.specs.Number.{AreOctets}
 use Rattle.nd_types.specs.Roots.{Root}
@@ -10,42 +11,41 @@ use Rattle.nd_value.specs.declared.item.Home.{Home}
 use Rattle.nd_value.specs.declared.item.Home.TheVariants as home
 use Rattle.nd_value.specs.declared.item.Item.{Item}
 use Rattle.nd_value.specs.declared.value.Graph.{Graph}
-use Rattle.nd_value.specs.Seen.{cell_number}
 use Rattle.nd_value.specs.Setting.{Setting, root_list, cell_home, cell_at}
-use Rattle.nd_value.specs.Deferral.{Pending, Due, due_root, due_referent, due_roots, IsPlaced, home_pointers, root_type, before_pipes}
-use Rattle.nd_value.specs.Tree as tree
-use Rattle.nd_value.specs.Tree.{Tree}
+use Rattle.nd_value.specs.Deferral.{Pending, Due, due_root, due_referent, due_roots, home_pointers, root_type, before_pipes}
 use Rattle.nd_value.proofs.Apart.{all_append, all_left}
 use Rattle.nd_grammar.specs.declared.reason.Reason.{Reason}
 use Rattle.nd_grammar.specs.declared.reason.Reason.TheVariants as reason
 use Rattle.nd_grammar.specs.Entry.{EntryAt}
 use Rattle.nd_grammar.specs.LegalSide.{IsLegalSide}
-use Rattle.nd_grammar.specs.Reader.{Names, Progress, Read, read_whole, is_stopped}
-use Rattle.nd_grammar.specs.StreamReader.{Reading, graph_of, read_placed, read_root, read_first, read_next, read_stream}
-use Rattle.nd_grammar.proofs.legal.LegalUsable.{Usable, root_usable}
+use Rattle.nd_grammar.specs.Reader.{Progress, Read, read_whole, is_stopped}
+use Rattle.nd_grammar.specs.StreamReader.{Reading, graph_of, read_root, read_first, read_next, read_stream}
+use Rattle.nd_grammar.proofs.legal.LegalUsable.{root_usable}
 use Rattle.nd_grammar.proofs.reader.ReaderStates.{WholeRead, read_wholly}
 use Rattle.nd_grammar.proofs.reader.ReaderStates.{State as IsReading}
-use Rattle.nd_grammar.proofs.reader.ReaderTurns.{one_longer, joined_due}
+use Rattle.nd_grammar.proofs.reader.ReaderTurns.{one_longer}
 use Rattle.ndr_reading.specs.Around.{going, stopped}
-use Rattle.ndr_steps.specs.Good.{Told, Whole, owed}
+use Rattle.ndr_steps.specs.Good.{Whole, owed}
 use Rattle.ndr_steps.specs.Steps.{State}
 use Rattle.ndr_verdict.specs.Verdict.{is_direct}
 use Rattle.ndr_worklist.proofs.Turns.{turns, refused}
-use Rattle.ndr_stream.specs.Between.{AreNeeded, Between, Agrees, IsUnread, IsKeptOf, AreKept, IsKeptRoot, RootAdded, named_by, root_read}
-use Rattle.ndr_stream.specs.declared.kept.Kept.{Kept}
+use Rattle.ndr_stream.specs.Between.{AreNeeded, Between, Agrees, IsUnread, IsKeptOf, IsKeptRoot, RootAdded, named_by, root_read}
 use Rattle.ndr_stream.specs.declared.kept.KeptRoot.{KeptRoot}
-use Rattle.ndr_stream.proofs.Due.{StateOver, same_octets, in_its_place, root_state}
+use Rattle.ndr_stream.proofs.Due.{same_octets, in_its_place, root_state}
 use Rattle.ndr_stream.proofs.Graphs.{values_stay, graph_is, value_at}
 use Rattle.ndr_stream.proofs.Homes.{told_then, roots_then, cell_then, own_then}
 use Rattle.ndr_stream.proofs.KeptRoots.{cell_named}
 use Rattle.ndr_stream.proofs.Needing.{NeededAfter, needed_more}
 use Rattle.ndr_stream.proofs.Others.{root_more}
+use Rattle.ndr_stream.proofs.StreamGrows.{next_then_stream}
+use Rattle.ndr_stream.specs.Added.{Goes}
+use Rattle.ndr_stream.proofs.References.{one_if, count_more}
 
 zero_plus : (i : ℕ) → i ≡ 0 + i
 zero_plus i = omega arith
 
-module _ (w : Setting) (side : IsLegalSide w) (order : Order) (fetched : List ℕ) (noted : List Item) (b : Between) (s : Reading) (seen : List EntryAt) (n : ℕ)
-    (ag : Agrees w side order fetched noted b s seen [] (suc n)) (r : Root) (there : slice_get (root_list w) (length s.roots) ≡ Some r) (plain : is_direct (type_at w.table r.of) ≡ false) where
+module _ (w : Setting) (side : IsLegalSide w) (order : Order) (fetched : List ℕ) (noted : List Item) (direct : ℕ) (b : Between) (s : Reading) (seen : List EntryAt) (n : ℕ)
+    (ag : Agrees w side order fetched noted direct b s seen [] (suc n)) (r : Root) (there : slice_get (root_list w) (length s.roots) ≡ Some r) (plain : is_direct (type_at w.table r.of) ≡ false) where
   abbrev i : ℕ
   i = length s.roots
 
@@ -86,7 +86,13 @@ module _ (w : Setting) (side : IsLegalSide w) (order : Order) (fetched : List �
   root_refused more a at seen' why e =
       refused w side order fetched ag.octets s (due_root i) later_due ag.reached due_is more a at seen' why (ap (λ (u : Reading). u.progress) (next_is (fetched ++ more)) ∙ e)
 
-  module _ (more : List ℕ) (all_more : AreOctets more) (noted' : List Item) (x : State) (is : Whole order (fetched ++ more) w.table (home.Root (length s.roots)) r.of noted' target x)
+  -- what is passed of the root is passed of the stream
+  pub root_goes : (added : List ℕ) → AreOctets added → Goes (target (fetched ++ added)).progress (read_stream w order (fetched ++ added)).progress
+  root_goes added a =
+      subst (λ (u : Reading). Goes u.progress (read_stream w order (fetched ++ added)).progress) (next_is (fetched ++ added))
+      (next_then_stream w side order fetched ag.octets s (due_root i) later_due due_is ag.reached added a)
+
+  module _ (more : List ℕ) (all_more : AreOctets more) (noted' : List Item) (x : State) (is : Whole order (fetched ++ more) w.table (home.Root (length s.roots)) r.of noted' direct target x)
       (needs : AreNeeded target fetched more) where
     abbrev pub new : List Pending
     new = home_pointers w.table (home.Root (length s.roots)) r.of is.v
@@ -154,6 +160,16 @@ module _ (w : Setting) (side : IsLegalSide w) (order : Order) (fetched : List �
         graph_is g (s.roots ++ is.v ∷ []) is.names (a.roots ∙ ap (λ (u : Graph). u.roots ++ is.v ∷ []) ag.keeps.graph) (a.types_are ∙ is.told.cells_are)
         (λ j. a.values (suc j) ∙ ap (λ (u : Graph). value_at u.cells j) ag.keeps.graph ∙ sym (values_stay s.names is.names wholly.extends j))
 
+    direct_then : direct ≡ length (filter (λ z. is_direct (type_at w.table z.of)) (take (length (s.roots ++ is.v ∷ [])) (root_list w)))
+    direct_then =
+        let e : length (filter (λ z. is_direct (type_at w.table z.of)) (take (suc i) (root_list w)))
+        ≡ length (filter (λ z. is_direct (type_at w.table z.of)) (take i (root_list w))) + one_if (is_direct (type_at w.table r.of)) =
+        count_more (λ z. is_direct (type_at w.table z.of)) (root_list w) i r there in
+        let f : one_if (is_direct (type_at w.table r.of)) ≡ 0 = ap (λ t. one_if t) plain in
+        let g : direct ≡ length (filter (λ z. is_direct (type_at w.table z.of)) (take i (root_list w))) = ag.direct_are in
+        let h : direct ≡ length (filter (λ z. is_direct (type_at w.table z.of)) (take (suc i) (root_list w))) = omega (arith, e, f, g) in
+        h ∙ ap (λ n. length (filter (λ z. is_direct (type_at w.table z.of)) (take n (root_list w)))) (sym longer)
+
     needed_then : NeededAfter w order fetched more
     needed_then part last e =
         let (at, seen', stop) = needs part last e in
@@ -161,9 +177,9 @@ module _ (w : Setting) (side : IsLegalSide w) (order : Order) (fetched : List �
         ap (λ (u : Progress). u.stop) (root_refused part a at seen' (length (fetched ++ part), reason.Truncated) stop)
 
     pub root_ends : (g : Graph) → RootAdded is.v x.cells b.graph g → (k : KeptRoot) → IsKeptRoot x k
-        → Agrees w side order (fetched ++ more) noted' (root_read b x k g) after is.seen new n
+        → Agrees w side order (fetched ++ more) noted' direct (root_read b x k g) after is.seen new n
     root_ends g a k kept =
-        let own : IsKeptOf is.seen h is.v k.own = own_then w order fetched more noted noted' b s seen [] ag.keeps h unread_root r.of s.names x is k.own kept.own.first kept.own.max_at in
+        let own : IsKeptOf is.seen h is.v k.own = own_then w order fetched more noted noted' direct direct b s seen [] ag.keeps h unread_root r.of s.names x is k.own kept.own.first kept.own.max_at in
         record {
           octets = octets;
           reached = turns w side order fetched more ag.octets all_more s after (due_root i) later_due ag.reached due_is next_then;
@@ -171,18 +187,22 @@ module _ (w : Setting) (side : IsLegalSide w) (order : Order) (fetched : List �
           due = due_then;
           state = state_then;
           needed = needed_more w order fetched more ag.needed needed_then;
+          direct_are = direct_then;
           keeps = record {
             at = is.reached;
             pending = ap (λ u. u ++ b.pending) is.pending ∙ ap (λ u. map (owed w.table) new ++ u) ag.keeps.pending ∙ append-nil (map (owed w.table) new);
-            told = λ k u. (let (v, f) = unread_before k u in told_then w order fetched more noted noted' b s seen [] ag.keeps h unread_root r.of s.names x is k v f);
+            told = λ k u. (let (v, f) = unread_before k u in told_then w order fetched more noted noted' direct direct b s seen [] ag.keeps h unread_root r.of s.names x is k v f);
             roots = root_more is.seen 0 s.roots b.roots is.v k
-                (roots_then w order fetched more noted noted' b s seen [] ag.keeps h unread_root r.of s.names x is)
+                (roots_then w order fetched more noted noted' direct direct b s seen [] ag.keeps h unread_root r.of s.names x is)
                 (subst (λ j. IsKeptOf is.seen (home.Root j) is.v k.own) (zero_plus i) own)
                 (kept.cell ∙ ap (named_by k.own.first) is.pending ∙ cell_named w.table h r.of is.seen k.own.max_at is.v k.own.first wholly.made own);
             read = λ c p. (
-                let (y, e, z) = ag.keeps.read c p in
-                (y, e, subst (λ u. IsKeptOf is.seen (cell_home c) u y) (sym (cell_stays c))
-                (cell_then w order fetched more noted noted' b s seen [] ag.keeps h unread_root r.of s.names x is c p (cell_at (graph_of s.roots s.names) c) y z)));
+                let (y, e, z) = ag.keeps.read c p in (
+                  y,
+                  e,
+                  subst (λ u. IsKeptOf is.seen (cell_home c) u y) (sym (cell_stays c))
+                      (cell_then w order fetched more noted noted' direct direct b s seen [] ag.keeps h unread_root r.of s.names x is c p (cell_at (graph_of s.roots s.names) c) y z),
+                ));
             not_read = ag.keeps.not_read;
             graph = graph_then g a;
           };

@@ -3,16 +3,15 @@ use Rattle.std.proofs.Common.{◌≡◌, ℕ, ◌+◌, map, List, ◌++◌, leng
 use Rattle.std.specs.List.{AllByRecursion}
 use Rattle.nd_base.specs.declared.octets.Order.{Order}
 use Rattle.nd_types.specs.declared.types.Field.{Field}
-use Rattle.nd_types.specs.declared.types.AttrVar.{AttrVar}
 use Rattle.nd_types.specs.Table.{Table}
 use Rattle.nd_value.specs.declared.item.Home.{Home}
 use Rattle.nd_value.specs.declared.item.Item.{Item}
 use Rattle.nd_value.specs.Agreement.{Agreement, member_agreements}
-use Rattle.nd_value.specs.Tree.{Tree, Trees, node, is_pointer, node_count, joined, more}
+use Rattle.nd_value.specs.Tree.{Tree, node, is_pointer, node_count}
 use Rattle.nd_value.proofs.Apart.{all_append}
 use Rattle.nd_grammar.specs.Entry.{Entry}
 use Rattle.nd_grammar.specs.InPlace.{child_tests}
-use Rattle.nd_grammar.specs.Reader.{Progress, Read, tree_nodes}
+use Rattle.nd_grammar.specs.Reader.{Read, tree_nodes}
 use Rattle.ndr_code.specs.declared.instr.Instr.{Instr}
 use Rattle.ndr_reading.specs.Around.{Around, going, finish, nodes_around}
 use Rattle.ndr_reading.specs.Points.{Point, hoisting, counting, called, due, opened, offset_read, text_offset, text_counted, tagged, between, checking, has, read_at}
@@ -51,9 +50,9 @@ module _ (order : Order) (octets : List ℕ) (code : List Instr) (table : Table)
   own_at (checking f so_far tests) (members, checks, is, left, run) = checks_own code table h f members so_far tests checks left
   own_at (has t v) s = tt
 
-pub state_adds : (order : Order) (fetched : List ℕ) (code : List Instr) (table : Table) (h : Home) (own limit : ℕ) (noted : List Item) (target : List ℕ → Read) (s : State)
-    → (g : Good order fetched code table h own limit noted target s) → (later : List ℕ) → Added h (going s.at g.seen) (target (fetched ++ later)).progress
-state_adds order fetched code table h own limit noted target s g later =
+pub state_adds : (order : Order) (fetched : List ℕ) (code : List Instr) (table : Table) (h : Home) (own limit : ℕ) (noted : List Item) (direct : ℕ) (target : List ℕ → Read) (s : State)
+    → (g : Good order fetched code table h own limit noted direct target s) → (later : List ℕ) → Added h (going s.at g.seen) (target (fetched ++ later)).progress
+state_adds order fetched code table h own limit noted direct target s g later =
     let octets : List ℕ = fetched ++ later in
     let n : ℕ = length (nodes_around g.fs) in
     let r : Read = read_at order octets table h s.max g.depth g.point n (going s.at g.seen) g.names in

@@ -4,7 +4,6 @@ use Rattle.std.specs.Prelude.{eqb, replicate}
 use Rattle.std.specs.List.{slice_get}
 use Rattle.std.proofs.lemmas.List.{append-nil}
 use Rattle.nd_base.specs.declared.octets.Order.{Order}
-use Rattle.nd_types.specs.declared.types.Class.{Class}
 use Rattle.nd_types.specs.declared.types.Class.TheVariants.{Ref, Unique, Full}
 use Rattle.nd_types.specs.declared.types.TypeDef.{TypeDef}
 use Rattle.nd_types.specs.declared.types.TypeDef.TheVariants as def
@@ -18,15 +17,14 @@ use Rattle.nd_value.specs.Setting.{Setting, root_list, unread, cell_at, cell_hom
 use Rattle.nd_value.specs.Tree.{Tree, none, joined, node_count}
 use Rattle.nd_value.proofs.Apart.{all_append}
 use Rattle.nd_grammar.specs.declared.reason.Reason.{Reason}
-use Rattle.nd_grammar.specs.Entry.{Kind, Entry, EntryAt, Align, Chunk}
+use Rattle.nd_grammar.specs.Entry.{Entry, Align, Chunk}
 use Rattle.nd_grammar.specs.InPlace.{tests}
 use Rattle.nd_grammar.specs.LegalSide.{IsLegalSide}
 use Rattle.nd_grammar.specs.Refusal.{refusal}
 use Rattle.nd_grammar.specs.Reader.{Progress, Names, Read, ReadAll, is_stopped, here, advanced, pass, pass_all, taken, number_in, fresh, with_cell, read_list, read_in_place, read_whole}
 use Rattle.nd_grammar.specs.Stream.{root_tests}
-use Rattle.nd_grammar.specs.StreamReader.{Reading, ReadPipe, ReadPipes, graph_of, stood, read_direct, read_placed, read_root, read_referent, read_pending, read_first, read_next, read_due, read_start, read_chunks, read_pipe, read_pipes, read_stream}
+use Rattle.nd_grammar.specs.StreamReader.{Reading, ReadPipe, ReadPipes, graph_of, stood, read_root, read_referent, read_pending, read_next, read_due, read_chunks, read_pipe, read_pipes, read_stream}
 use Rattle.nd_grammar.proofs.reader.ReaderStream as stream
-use Rattle.ndr_reading.proofs.Worklist.{due_over}
 use Rattle.ndr_worklist.specs.Reached.{head, Comes, Reached}
 use Rattle.ndr_stream.specs.Added.{Added, Goes}
 use Rattle.ndr_stream.proofs.Growing.{whole_adds, in_place_adds, list_adds}
@@ -45,10 +43,10 @@ advanced_goes (Some x) r p m = goes_nowhere p
 advanced_goes None (Some x) p m = record { added = []; seen = sym (append-nil p.seen) }
 advanced_goes None None p m = record { added = here p m ∷ []; seen = refl }
 
-abbrev chosen : Bool → ReadPipe → ReadPipe → ReadPipe
+abbrev pub chosen : Bool → ReadPipe → ReadPipe → ReadPipe
 chosen b t u = elim b [ true ↦ t | false ↦ u ]
 
-by_count : (p : Progress) (b : Bool) (t u : ReadPipe) → Goes p t.progress → Goes p u.progress → Goes p (chosen b t u).progress
+pub by_count : (p : Progress) (b : Bool) (t u : ReadPipe) → Goes p t.progress → Goes p u.progress → Goes p (chosen b t u).progress
 by_count p true t u f g = f
 by_count p false t u f g = g
 
@@ -103,7 +101,7 @@ module _ (w : Setting) (order : Order) (octets : List ℕ) where
       let q : Reading = read_next w order octets s.due s in
       goes_twice s.progress q.progress (read_due w order octets k q).progress (next_goes s.due s) (due_goes k q)
 
-  chunks_go : (k : ℕ) (h : Home) (elem n : ℕ) (p : Progress) (s : Names) → Goes p (read_chunks w order octets k h elem n p s).progress
+  pub chunks_go : (k : ℕ) (h : Home) (elem n : ℕ) (p : Progress) (s : Names) → Goes p (read_chunks w order octets k h elem n p s).progress
   chunks_go zero h elem n p s = goes_nowhere p
   chunks_go (suc more) h elem n p s =
       let gap : Progress = pass order octets (record { home = h; node = 0; kind = Align 4 }) p in

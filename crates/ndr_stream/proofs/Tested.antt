@@ -1,20 +1,19 @@
 -- The agreements of a home that was read: what the reader finds of them is what is found in what is kept.
-use Rattle.std.proofs.Common.{◌≡◌, ◌≤◌, ℕ, ◌+◌, zero, suc, ℤ, Bool, true, false, List, [], ◌∷◌, ◌++◌, length, Option, Some, None, refl, ap, sym, ◌∙◌, inl, inr, ◌⊎◌, subst, append_assoc, length-append, arith, map}
+use Rattle.std.proofs.Common.{◌≡◌, ℕ, ◌+◌, ℤ, Bool, true, false, List, [], ◌∷◌, ◌++◌, length, Option, Some, None, refl, ap, sym, ◌∙◌, inl, inr, subst, append_assoc, length-append, arith}
 use Rattle.std.specs.Prelude.{cond, if◌then◌else◌, option_map}
-use Rattle.std.specs.List.{AllByRecursion, slice_get}
+use Rattle.std.specs.List.{slice_get}
 use Rattle.std.specs.Ordering.{int_eq}
 use Rattle.std.proofs.lemmas.List.{append-nil}
 use Rattle.std.proofs.lemmas.Option.{same_Some}
 use Rattle.nd_base.specs.declared.octets.Order.{Order}
 use Rattle.nd_types.specs.Table.{Table}
-use Rattle.nd_types.specs.declared.types.Attr.{Attr}
 use Rattle.nd_value.specs.declared.item.Home.{Home}
 use Rattle.nd_value.specs.declared.item.Home.TheVariants as home
 use Rattle.nd_value.specs.declared.item.Item.{Item}
 use Rattle.nd_value.specs.Agreement.{Agreement, found_in}
 use Rattle.nd_value.specs.Setting.{Setting, cell_home, cell_at}
 use Rattle.nd_value.specs.Tree.{Tree, node, more, none, Flat, flat, count}
-use Rattle.nd_value.specs.Deferral.{Pending, IsPlaced}
+use Rattle.nd_value.specs.Deferral.{Pending}
 use Rattle.nd_grammar.specs.declared.reason.Reason.{Reason}
 use Rattle.nd_grammar.specs.declared.reason.Reason.TheVariants as reason
 use Rattle.nd_grammar.specs.Entry.{Entry, EntryAt, Test}
@@ -29,11 +28,10 @@ use Rattle.ndr_reading.proofs.ChildPlaces.{same_found}
 use Rattle.ndr_reading.proofs.Continuing.{refused, all_stay}
 use Rattle.ndr_reading.proofs.FromPoint.{test_passed}
 use Rattle.ndr_steps.specs.Good.{Told}
-use Rattle.ndr_steps.specs.Good.{Kept as IsKept}
 use Rattle.ndr_steps.specs.Steps.{Place, first_found, first_of, place_of, place_in}
 use Rattle.ndr_steps.proofs.MemberChecks.{SameFound, found_is}
 use Rattle.ndr_steps.proofs.Passing.{Lies, judged, silent, told_passed}
-use Rattle.ndr_stream.specs.Between.{Between, Keeps, IsUnread, IsKeptOf, AreKept}
+use Rattle.ndr_stream.specs.Between.{Between, Keeps, IsKeptOf}
 use Rattle.ndr_stream.specs.Tests.{disagreement, AllAgree, all_at}
 use Rattle.ndr_stream.specs.declared.kept.Kept.{Kept}
 use Rattle.ndr_stream.proofs.Others.{AreSilent, kept_later, roots_later}
@@ -54,7 +52,7 @@ none_if : (b : Bool) (o : Option (ℕ × Reason)) → o ≡ None → (if b then 
 none_if true o e = refl
 none_if false o e = e
 
-top_is : (v : Tree) (x : Flat) → slice_get (flat (more v none)) 0 ≡ Some x → x ≡ top v
+pub top_is : (v : Tree) (x : Flat) → slice_get (flat (more v none)) 0 ≡ Some x → x ≡ top v
 top_is (node l ks) x e = sym (same_Some (l, count ks) x e)
 
 module _ (order : Order) (fetched : List ℕ) (table : Table) (h : Home) (at : ℕ) (reached : length fetched ≡ at) (v : Tree) (k : Kept) where
@@ -121,23 +119,23 @@ module _ (order : Order) (fetched : List ℕ) (table : Table) (h : Home) (at : �
       ∙ tests_stop ws w others why (seen ++ t ∷ []) (kept_later h v k seen (t ∷ []) (test_silent h x) kept) a.1 e after
       ∙ ap (λ u. stopped at u why) (append_assoc seen (t ∷ []) (all_at at (tests h 0 v ws)))
 
-  pub told_tests : {noted : List Item} (ws : List Agreement) (g : Home) (seen : List EntryAt) (names : Names) (cells : List ℕ) (numbers : List (ℕ × Known)) (max_at : Option ℕ) (n : ℕ) (half : List Place)
-      → Told noted order fetched g seen names cells numbers max_at n half → Told noted order fetched g (seen ++ all_at at (tests h 0 v ws)) names cells numbers max_at n half
-  told_tests {noted = noted} [] g seen names cells numbers max_at n half t = subst (λ u. Told noted order fetched g u names cells numbers max_at n half) (sym (append-nil seen)) t
-  told_tests {noted = noted} (w ∷ ws) g seen names cells numbers max_at n half t =
+  pub told_tests : {noted : List Item} {direct : ℕ} (ws : List Agreement) (g : Home) (seen : List EntryAt) (names : Names) (cells : List ℕ) (numbers : List (ℕ × Known)) (max_at : Option ℕ) (n : ℕ) (half : List Place)
+      → Told noted direct order fetched g seen names cells numbers max_at n half → Told noted direct order fetched g (seen ++ all_at at (tests h 0 v ws)) names cells numbers max_at n half
+  told_tests {noted = noted} {direct = direct} [] g seen names cells numbers max_at n half t = subst (λ u. Told noted direct order fetched g u names cells numbers max_at n half) (sym (append-nil seen)) t
+  told_tests {noted = noted} {direct = direct} (w ∷ ws) g seen names cells numbers max_at n half t =
       let x : EntryAt = test_at w in
       let lies : Lies (fetched ++ []) x = let i : length (fetched ++ []) ≡ length fetched + 0 = length-append fetched [] in omega (arith, i, reached) in
-      let one : Told noted order fetched g (seen ++ x ∷ []) names cells numbers max_at n half =
-      subst (λ ns. Told ns order fetched g (seen ++ x ∷ []) names cells numbers max_at n half) (append-nil noted)
-      (subst (λ os. Told (noted ++ []) order os g (seen ++ x ∷ []) names cells numbers max_at n half) (append-nil fetched)
-      (told_passed [] order fetched [] g seen names cells numbers max_at n half x refl tt tt lies t)) in
-      subst (λ u. Told noted order fetched g u names cells numbers max_at n half) (append_assoc seen (x ∷ []) (all_at at (tests h 0 v ws)))
+      let one : Told noted direct order fetched g (seen ++ x ∷ []) names cells numbers max_at n half =
+      subst (λ ns. Told ns direct order fetched g (seen ++ x ∷ []) names cells numbers max_at n half) (append-nil noted)
+      (subst (λ os. Told (noted ++ []) direct order os g (seen ++ x ∷ []) names cells numbers max_at n half) (append-nil fetched)
+      (told_passed [] order fetched [] g seen names cells numbers max_at n half x refl tt tt refl lies t)) in
+      subst (λ u. Told noted direct order fetched g u names cells numbers max_at n half) (append_assoc seen (x ∷ []) (all_at at (tests h 0 v ws)))
       (told_tests ws g (seen ++ x ∷ []) names cells numbers max_at n half one)
 
   -- what is kept stays right while agreements are tried
-  pub keeps_tests : (w : Setting) (noted : List Item) (b : Between) (s : Reading) (seen : List EntryAt) (ps : List Pending) (ws : List Agreement)
-      → Keeps w order fetched noted b s seen ps → Keeps w order fetched noted b s (seen ++ all_at at (tests h 0 v ws)) ps
-  keeps_tests w noted b s seen ps ws x = record {
+  pub keeps_tests : (w : Setting) (noted : List Item) (direct : ℕ) (b : Between) (s : Reading) (seen : List EntryAt) (ps : List Pending) (ws : List Agreement)
+      → Keeps w order fetched noted direct b s seen ps → Keeps w order fetched noted direct b s (seen ++ all_at at (tests h 0 v ws)) ps
+  keeps_tests w noted direct b s seen ps ws x = record {
     at = x.at;
     pending = x.pending;
     told = λ g u. told_tests ws g seen s.names b.cells b.numbers None 0 [] (x.told g u);

@@ -1,8 +1,9 @@
 -- What a decoder keeps of a stream between the values of its homes, and what it means to the plain reader.
--- `w` is a setting, `fetched` are the octets that were fetched, `noted` the items that were noted, `b` is what is kept, `s` the state of the reader, `seen` are
+-- `w` is a setting, `fetched` are the octets that were fetched, `noted` the items that were noted, `direct` is how many roots that are reference pointers were
+-- read, `b` is what is kept, `s` the state of the reader, `seen` are
 -- the entries that it passed, `ps` the pointers whose referents are pending, `n` is how many roots that are no pipes are still to be read, `h` is a home, `c` a
 -- cell's number.
-use Rattle.std.specs.Prelude.{◌≡◌, ◌≤◌, ℕ, ◌+◌, suc, zero, List, [], ◌∷◌, ◌++◌, length, map, Option, Some, None}
+use Rattle.std.specs.Prelude.{◌≡◌, ◌≤◌, ℕ, suc, zero, List, [], ◌∷◌, ◌++◌, length, map, filter, take, Option, Some, None}
 use Rattle.std.specs.List.{slice_get}
 use Rattle.nd_base.specs.declared.octets.Order.{Order}
 use Rattle.nd_types.specs.Number.{AreOctets}
@@ -13,7 +14,8 @@ use Rattle.nd_value.specs.declared.value.Graph.{Graph}
 use Rattle.nd_value.specs.Seen.{cell_number}
 use Rattle.nd_value.specs.Tree as tree
 use Rattle.nd_value.specs.Tree.{Tree, node, none, more, flat}
-use Rattle.nd_value.specs.Setting.{Setting, cell_home, cell_at}
+use Rattle.nd_types.specs.Table.{type_at}
+use Rattle.nd_value.specs.Setting.{Setting, root_list, cell_home, cell_at}
 use Rattle.nd_value.specs.Deferral.{Pending, due_referent, due_roots, IsPlaced}
 use Rattle.nd_grammar.specs.Entry.{EntryAt}
 use Rattle.nd_grammar.specs.declared.reason.Reason.TheVariants as reason
@@ -30,6 +32,7 @@ use Rattle.ndr_steps.specs.Steps.{State, Owed, begun}
 use Rattle.ndr_steps.specs.Good.{Told, owed}
 use Rattle.ndr_steps.specs.Good.{Kept as IsKept}
 use Rattle.ndr_verdict.specs.Needed.{IsNeeded}
+use Rattle.ndr_verdict.specs.Verdict.{is_direct}
 use Rattle.ndr_worklist.specs.Reached.{Reached}
 use Rattle.ndr_stream.specs.declared.kept.Kept.{Kept}
 use Rattle.ndr_stream.specs.declared.kept.KeptRoot.{KeptRoot}
@@ -171,21 +174,23 @@ IsUnread s (home.Root i) = length s.roots ≤ i
 IsUnread s (home.Cell c) = ¬ IsPlaced s.done c.0
 
 -- What is kept is right: of these roots, cells and names of the reader, of the entries that it passed, and of the pointers that are due.
-pub record Keeps (w : Setting) (order : Order) (fetched : List ℕ) (noted : List Item) (b : Between) (s : Reading) (seen : List EntryAt) (ps : List Pending) : Type 0 where
+pub record Keeps (w : Setting) (order : Order) (fetched : List ℕ) (noted : List Item) (direct : ℕ) (b : Between) (s : Reading) (seen : List EntryAt) (ps : List Pending) : Type 0 where
   pub at : length fetched ≡ b.at
   pub pending : b.pending ≡ map (owed w.table) ps
-  pub told : (h : Home) → IsUnread s h → Told noted order fetched h seen s.names b.cells b.numbers None 0 []
+  pub told : (h : Home) → IsUnread s h → Told noted direct order fetched h seen s.names b.cells b.numbers None 0 []
   pub roots : AreKept seen 0 s.roots b.roots
   pub read : (c : ℕ) → IsPlaced s.done c → (k : Kept) × (kept_at b.read c ≡ Some k) × IsKeptOf seen (cell_home c) (cell_at (graph_of s.roots s.names) c) k
   pub not_read : (c : ℕ) → ¬ IsPlaced s.done c → kept_at b.read c ≡ None
   pub graph : b.graph ≡ graph_of s.roots s.names
 
 -- And whatever octets follow, the plain reader comes to this state, in which these referents and so many roots are due.
-pub record Agrees (w : Setting) (side : IsLegalSide w) (order : Order) (fetched : List ℕ) (noted : List Item) (b : Between) (s : Reading) (seen : List EntryAt) (ps : List Pending) (n : ℕ) : Type 0 where
+pub record Agrees (w : Setting) (side : IsLegalSide w) (order : Order) (fetched : List ℕ) (noted : List Item) (direct : ℕ) (b : Between) (s : Reading) (seen : List EntryAt) (ps : List Pending) (n : ℕ) : Type 0 where
   pub octets : AreOctets fetched
   pub reached : Reached w order fetched s
   pub progress : s.progress ≡ going b.at seen
   pub due : s.due ≡ map due_referent ps ++ due_roots (length s.roots) n
   pub state : (later : List ℕ) (all : AreOctets (fetched ++ later)) → (taken : List Pending) × IsReading w side order (fetched ++ later) all s taken ps n
-  pub keeps : Keeps w order fetched noted b s seen ps
+  pub keeps : Keeps w order fetched noted direct b s seen ps
+  -- so many of the roots that were read are reference pointers
+  pub direct_are : direct ≡ length (filter (λ r. is_direct (type_at w.table r.of)) (take (length s.roots) (root_list w)))
   pub needed : IsNeeded w order fetched

@@ -3,3 +3,4 @@ pub mod Between
 pub mod Tests
 pub mod Report
 pub mod Parameters
+pub mod Calls

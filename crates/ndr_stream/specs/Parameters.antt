@@ -1,15 +1,17 @@
 -- What the agreements of parameters are tried with, in what is kept of roots and cells.
 -- `read` is what is kept of cells, `k` what is kept of a root.
-use Rattle.std.specs.Prelude.{◌≡◌, ℕ, ℤ, Bool, true, false, if◌then◌else◌, List, [], ◌++◌, replicate, Option, Some, None}
+use Rattle.std.specs.Prelude.{◌≡◌, ℕ, ℤ, Bool, true, false, if◌then◌else◌, List, [], ◌++◌, length, drop, replicate, Option, Some, None}
 use Rattle.nd_base.specs.declared.octets.Order.{Order}
 use Rattle.nd_value.specs.declared.item.Item.{Item}
 use Rattle.nd_value.specs.Seen.{cell_number}
 use Rattle.nd_value.specs.declared.value.Graph.{Graph}
-use Rattle.nd_value.specs.Setting.{Setting, unread}
+use Rattle.nd_value.specs.Deferral.{before_pipes}
+use Rattle.nd_value.specs.Setting.{Setting, root_list, unread}
 use Rattle.nd_grammar.specs.declared.reason.Reason.{Reason}
 use Rattle.nd_grammar.specs.Entry.{Entry, EntryAt}
-use Rattle.nd_grammar.specs.Reader.{pass_all}
-use Rattle.nd_grammar.specs.StreamReader.{Reading, graph_of}
+use Rattle.nd_grammar.specs.Stream.{root_tests}
+use Rattle.nd_grammar.specs.Reader.{Progress, pass_all}
+use Rattle.nd_grammar.specs.StreamReader.{Reading, Found, ReadPipes, graph_of, read_pipes}
 use Rattle.ndr_reading.specs.Around.{going, stopped}
 use Rattle.ndr_steps.specs.Steps.{first_number, is_owing}
 use Rattle.ndr_stream.specs.declared.kept.Kept.{Kept}
@@ -42,13 +44,26 @@ root_subject read None = None
 root_subject read (Some k) = if is_owing k.own.first then kept_named read (cell_number k.cell) else Some k.own
 
 -- The reader passes these agreements, whatever octets follow, and what is kept stays right.
-pub record TestsPass (w : Setting) (order : Order) (fetched : List ℕ) (noted : List Item) (b : Between) (s : Reading) (seen : List EntryAt) (ms : List Entry) : Type 0 where
+pub record TestsPass (w : Setting) (order : Order) (fetched : List ℕ) (noted : List Item) (direct : ℕ) (b : Between) (s : Reading) (seen : List EntryAt) (ms : List Entry) : Type 0 where
   pub after : List EntryAt
   pub goes : (later : List ℕ) → pass_all order (fetched ++ later) ms (going b.at seen) ≡ going b.at after
-  pub keeps : Keeps w order fetched noted b s after []
+  pub keeps : Keeps w order fetched noted direct b s after []
 
 -- It refuses one of them.
-pub record TestsStop (w : Setting) (order : Order) (fetched : List ℕ) (noted : List Item) (b : Between) (s : Reading) (seen : List EntryAt) (ms : List Entry) (why : ℕ × Reason) : Type 0 where
+pub record TestsStop (w : Setting) (order : Order) (fetched : List ℕ) (noted : List Item) (direct : ℕ) (b : Between) (s : Reading) (seen : List EntryAt) (ms : List Entry) (why : ℕ × Reason) : Type 0 where
   pub after : List EntryAt
   pub stops : (later : List ℕ) → pass_all order (fetched ++ later) ms (going b.at seen) ≡ stopped b.at after why
-  pub keeps : Keeps w order fetched noted b s after []
+  pub keeps : Keeps w order fetched noted direct b s after []
+
+-- the agreements of the parameters
+abbrev pub parameter_tests : Setting → Reading → List Entry
+parameter_tests w s =
+    let g : Graph = with_pipes s (length (drop (before_pipes (root_list w)) (root_list w))) in
+    root_tests w g 0 (root_list w) g.roots
+
+-- what the reader finds of the pipes, after these roots
+abbrev pub pipes_from : Setting → Order → List ℕ → Reading → Progress → Found
+pipes_from w order octets s p =
+    let n : ℕ = before_pipes (root_list w) in
+    let pipes : ReadPipes = read_pipes w order octets n (drop n (root_list w)) p s.names in
+    record { graph = graph_of (s.roots ++ pipes.roots) pipes.names; cuts = pipes.cuts; progress = pipes.progress }

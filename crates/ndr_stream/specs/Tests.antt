@@ -1,6 +1,6 @@
 -- The agreements of a home that was read, tried in what is kept of it.
 -- `x` is what is kept of its first node, `max_at` the place of its maximum count, `at` the place in the stream.
-use Rattle.std.specs.Prelude.{◌≡◌, ℕ, if◌then◌else◌, List, map, Option, Some, None, option_map}
+use Rattle.std.specs.Prelude.{◌≡◌, ℕ, if◌then◌else◌, List, map, Option, None, option_map}
 use Rattle.std.specs.List.{AllByRecursion}
 use Rattle.std.specs.Ordering.{int_eq}
 use Rattle.nd_value.specs.Agreement.{Agreement}
