@@ -9,3 +9,4 @@ mod RowItems
 mod Wanted
 mod Owing
 mod Tagged
+mod Meeting
