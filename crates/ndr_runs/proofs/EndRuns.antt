@@ -66,25 +66,25 @@ cut_of (gap_of n) os mid at l (inr c) = let a : length os < n = c in omega (arit
 cut_of (item_of n) os mid at l (inl e) = let a : length os ≡ n = e.0 in (omega (arith, l, a), e.1)
 cut_of (item_of n) os mid at l (inr c) = let a : length os < n = c.0 in (omega (arith, l, a), c.1)
 
-module _ (values : List EnumList) (order : Order) (code : List Instr) (table : Table) (h : Home) (own limit : ℕ) (target : List ℕ → Read) (planned : IsPlanned code values table)
-    (f0 : List ℕ) (n0 : List Item) (s0 : State) (g0 : Good order f0 code table h own limit n0 target s0) where
+module _ (values : List EnumList) (order : Order) (code : List Instr) (table : Table) (h : Home) (own limit direct : ℕ) (target : List ℕ → Read) (planned : IsPlanned code values table)
+    (f0 : List ℕ) (n0 : List Item) (s0 : State) (g0 : Good order f0 code table h own limit n0 direct target s0) where
   abbrev Comes : List ℕ → List Item → State → Type 0
   Comes fetched noted s = Reaches values order code h s0 fetched noted s
 
-  good : (fetched : List ℕ) (noted : List Item) (s : State) → Comes fetched noted s → Good order (f0 ++ fetched) code table h own limit (n0 ++ noted) target s
-  good fetched noted s r = along values order code table h own limit target planned f0 n0 s0 g0 r
+  good : (fetched : List ℕ) (noted : List Item) (s : State) → Comes fetched noted s → Good order (f0 ++ fetched) code table h own limit (n0 ++ noted) direct target s
+  good fetched noted s r = along values order code table h own limit direct target planned f0 n0 s0 g0 r
 
   -- ## Octets that are needed
 
   short_of : (fetched : List ℕ) (noted : List Item) (s : State) → Comes fetched noted s → (i : Instr) → slice_get code s.pc ≡ Some i → (mid : List ℕ) → IsCut (wants values i s) mid s.at
       → IsShort target (f0 ++ (fetched ++ mid))
   short_of fetched noted s r i there mid c =
-      let g : Good order (f0 ++ fetched) code table h own limit (n0 ++ noted) target s = good fetched noted s r in (
+      let g : Good order (f0 ++ fetched) code table h own limit (n0 ++ noted) direct target s = good fetched noted s r in (
         s.at,
         (
           g.seen,
           subst (λ k. (target k).progress ≡ stopped s.at g.seen (length k, reason.Truncated)) (append_assoc f0 fetched mid)
-              (cut_right order (f0 ++ fetched) code values table h own limit (n0 ++ noted) target planned s g i there mid c),
+              (cut_right order (f0 ++ fetched) code values table h own limit (n0 ++ noted) direct target planned s g i there mid c),
         ),
       )
 
@@ -116,12 +116,12 @@ module _ (values : List EnumList) (order : Order) (code : List Instr) (table : T
     abbrev all_octets : List ℕ
     all_octets = f0 ++ (fetched ++ os)
 
-    g : Good order (f0 ++ fetched) code table h own limit (n0 ++ noted) target s
+    g : Good order (f0 ++ fetched) code table h own limit (n0 ++ noted) direct target s
     g = good fetched noted s r
 
     step_is : HasOctets (wants values i s) os s.at
-        → IsRight order ((f0 ++ fetched) ++ os) code table h own limit ((n0 ++ noted) ++ step_items order h os i s) target s.at g.seen (step values order os i s)
-    step_is has = step_right order (f0 ++ fetched) os code values table h own limit (n0 ++ noted) target planned s g i there has
+        → IsRight order ((f0 ++ fetched) ++ os) code table h own limit ((n0 ++ noted) ++ step_items order h os i s) direct target s.at g.seen (step values order os i s)
+    step_is has = step_right order (f0 ++ fetched) os code values table h own limit (n0 ++ noted) direct target planned s g i there has
 
     items_then : items order all_octets g.seen ≡ n0 ++ noted
     items_then =
@@ -129,35 +129,36 @@ module _ (values : List EnumList) (order : Order) (code : List Instr) (table : T
         (items_stay order (f0 ++ fetched) os g.seen g.told.lie_within ∙ g.told.noted_are)
 
     pub whole_end : HasOctets (wants values i s) os s.at → (s1 : State) → step values order os i s ≡ whole s1
-        → Whole order (f0 ++ (fetched ++ os)) table h own (n0 ++ (noted ++ step_items order h os i s)) target s1
+        → Whole order (f0 ++ (fetched ++ os)) table h own (n0 ++ (noted ++ step_items order h os i s)) direct target s1
     whole_end has s1 e =
-        subst (λ k. Whole order k table h own (n0 ++ (noted ++ step_items order h os i s)) target s1) (append_assoc f0 fetched os)
-        (subst (λ k. Whole order ((f0 ++ fetched) ++ os) table h own k target s1) (append_assoc n0 noted (step_items order h os i s))
-        (subst (IsRight order ((f0 ++ fetched) ++ os) code table h own limit ((n0 ++ noted) ++ step_items order h os i s) target s.at g.seen) e (step_is has)))
+        subst (λ k. Whole order k table h own (n0 ++ (noted ++ step_items order h os i s)) direct target s1) (append_assoc f0 fetched os)
+        (subst (λ k. Whole order ((f0 ++ fetched) ++ os) table h own k direct target s1) (append_assoc n0 noted (step_items order h os i s))
+        (subst (IsRight order ((f0 ++ fetched) ++ os) code table h own limit ((n0 ++ noted) ++ step_items order h os i s) direct target s.at g.seen) e (step_is has)))
 
     pub refused_end : HasOctets (wants values i s) os s.at → (place : ℕ) (why : Reason) → step values order os i s ≡ refused place why
-        → IsRefusedHere order (f0 ++ (fetched ++ os)) (n0 ++ noted) target place why
+        → IsRefusedHere order (f0 ++ (fetched ++ os)) (n0 ++ noted) (length s.cells) direct target place why
     refused_end has place why e =
         let right : (later : List ℕ) → (target (((f0 ++ fetched) ++ os) ++ later)).progress ≡ stopped s.at g.seen (place, why) =
-        subst (IsRight order ((f0 ++ fetched) ++ os) code table h own limit ((n0 ++ noted) ++ step_items order h os i s) target s.at g.seen) e (step_is has) in
+        subst (IsRight order ((f0 ++ fetched) ++ os) code table h own limit ((n0 ++ noted) ++ step_items order h os i s) direct target s.at g.seen) e (step_is has) in
         record {
           at = s.at;
           seen = g.seen;
           stops = λ later ok. subst (λ k. (target (k ++ later)).progress ≡ stopped s.at g.seen (place, why)) (append_assoc f0 fetched os) (right later);
           items_are = items_then;
+          cells_named = g.told.cells_named.named;
         }
 
     cut_place : IsCut (wants values i s) os s.at → length ((f0 ++ fetched) ++ os) ≡ s.at + length os
-    cut_place c = by_reached (wanting order (f0 ++ fetched) code values table h own limit (n0 ++ noted) target s i g there)
+    cut_place c = by_reached (wanting order (f0 ++ fetched) code values table h own limit (n0 ++ noted) direct target s i g there)
       where
         by_reached : (wants values i s ≡ no_octets) ⊎ (length (f0 ++ fetched) ≡ s.at) → length ((f0 ++ fetched) ++ os) ≡ s.at + length os
         by_reached (inl e) = absurd (subst (λ x. IsCut x os s.at) e c)
         by_reached (inr e) = length-append (f0 ++ fetched) os ∙ ap (λ k. k + length os) e
 
-    pub cut_end : IsCut (wants values i s) os s.at → IsRefusedHere order (f0 ++ (fetched ++ os)) (n0 ++ noted) target (s.at + length os) reason.Truncated
+    pub cut_end : IsCut (wants values i s) os s.at → IsRefusedHere order (f0 ++ (fetched ++ os)) (n0 ++ noted) (length s.cells) direct target (s.at + length os) reason.Truncated
     cut_end c =
         let right : (target ((f0 ++ fetched) ++ os)).progress ≡ stopped s.at g.seen (length ((f0 ++ fetched) ++ os), reason.Truncated) =
-        cut_right order (f0 ++ fetched) code values table h own limit (n0 ++ noted) target planned s g i there os c in
+        cut_right order (f0 ++ fetched) code values table h own limit (n0 ++ noted) direct target planned s g i there os c in
         let here : (target all_octets).progress ≡ stopped s.at g.seen (s.at + length os, reason.Truncated) =
         subst (λ k. (target k).progress ≡ stopped s.at g.seen (s.at + length os, reason.Truncated)) (append_assoc f0 fetched os)
         (right ∙ ap (λ k. stopped s.at g.seen (k, reason.Truncated)) (cut_place c)) in
@@ -166,16 +167,18 @@ module _ (values : List EnumList) (order : Order) (code : List Instr) (table : T
           seen = g.seen;
           stops = λ later ok. subst (λ k. (target k).progress ≡ stopped s.at g.seen (s.at + length os, reason.Truncated)) (sym (ap (λ k. all_octets ++ k) (ok refl) ∙ append-nil all_octets)) here;
           items_are = items_then;
+          cells_named = g.told.cells_named.named;
         }
 
-    pub long_end : IsTooLong (wants values i s) s.at → os ≡ [] → IsRefusedHere order (f0 ++ (fetched ++ os)) (n0 ++ noted) target STREAM_LIMIT reason.TooLong
+    pub long_end : IsTooLong (wants values i s) s.at → os ≡ [] → IsRefusedHere order (f0 ++ (fetched ++ os)) (n0 ++ noted) (length s.cells) direct target STREAM_LIMIT reason.TooLong
     long_end c none =
         let right : (later : List ℕ) → (target ((f0 ++ fetched) ++ later)).progress ≡ stopped s.at g.seen (STREAM_LIMIT, reason.TooLong) =
-        long_right order (f0 ++ fetched) code values table h own limit (n0 ++ noted) target planned s g i there c in
+        long_right order (f0 ++ fetched) code values table h own limit (n0 ++ noted) direct target planned s g i there c in
         let same : f0 ++ fetched ≡ all_octets = ap (λ k. f0 ++ k) (sym (append-nil fetched) ∙ ap (λ k. fetched ++ k) (sym none)) in
         record {
           at = s.at;
           seen = g.seen;
           stops = λ later ok. subst (λ k. (target (k ++ later)).progress ≡ stopped s.at g.seen (STREAM_LIMIT, reason.TooLong)) same (right later);
           items_are = items_then;
+          cells_named = g.told.cells_named.named;
         }

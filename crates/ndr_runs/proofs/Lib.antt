@@ -7,3 +7,4 @@ pub mod FrameNodes
 pub mod Within
 pub mod Safe
 pub mod EndRuns
+pub mod ChunkSafe

@@ -81,13 +81,13 @@ few_enough n p at k limit a b c d e = omega (arith, a, b, c, d, e)
 few_cells : (n at : ℕ) → 4 * n ≤ at + 4096 → at ≤ STREAM_LIMIT → n + 1 < 2 ^ 32
 few_cells n at a b = omega (arith, a, b)
 
-module _ (w : Setting) (side : IsLegalSide w) (values : List EnumList) (order : Order) (code : List Instr) (h : Home) (own limit : ℕ) (target : List ℕ → Read) (planned : IsPlanned code values w.table)
+module _ (w : Setting) (side : IsLegalSide w) (values : List EnumList) (order : Order) (code : List Instr) (h : Home) (own limit direct : ℕ) (target : List ℕ → Read) (planned : IsPlanned code values w.table)
     (made : (octets : List ℕ) → AreOctets octets → MadeTree w.table (type_at w.table own) (target octets).tree) (nested : limit ≤ 33) where
   -- a state that means something has few nodes
-  pub good_safe : (fetched : List ℕ) (noted : List Item) (s : State) → Good order fetched code w.table h own limit noted target s → AreOctets fetched → length fetched ≤ STREAM_LIMIT → IsPaid s → IsSafe code s
+  pub good_safe : (fetched : List ℕ) (noted : List Item) (s : State) → Good order fetched code w.table h own limit noted direct target s → AreOctets fetched → length fetched ≤ STREAM_LIMIT → IsPaid s → IsSafe code s
   good_safe fetched noted s g octets short pays =
-      let here_it : (i : Instr) × (slice_get code s.pc ≡ Some i) × IsInner i = instruction_there order fetched code w.table h own limit noted target s g in
-      let within : s.at ≤ STREAM_LIMIT = at_within order fetched code w.table h own limit noted target s g short in
+      let here_it : (i : Instr) × (slice_get code s.pc ≡ Some i) × IsInner i = instruction_there order fetched code w.table h own limit noted direct target s g in
+      let within : s.at ≤ STREAM_LIMIT = at_within order fetched code w.table h own limit noted direct target s g short in
       let whole : MadeTree w.table (type_at w.table own) (target (fetched ++ [])).tree = made (fetched ++ []) (subst AreOctets (sym (append-nil fetched)) octets) in
       let inner : MadeTree w.table (type_at w.table own)
       (finish order (fetched ++ []) w.table h s.max g.depth g.fs (read_at order (fetched ++ []) w.table h s.max g.depth g.point (length (nodes_around g.fs)) (going s.at g.seen) g.names)).tree =
@@ -105,19 +105,19 @@ module _ (w : Setting) (side : IsLegalSide w) (values : List EnumList) (order : 
         few_cells = few_cells (length s.cells) s.at pays.cells within;
       }
 
-  pub safe_along : (f0 : List ℕ) → AreOctets f0 → length f0 ≤ STREAM_LIMIT → (n0 : List Item) (s0 : State) → Good order f0 code w.table h own limit n0 target s0 → IsPaid s0
+  pub safe_along : (f0 : List ℕ) → AreOctets f0 → length f0 ≤ STREAM_LIMIT → (n0 : List Item) (s0 : State) → Good order f0 code w.table h own limit n0 direct target s0 → IsPaid s0
       → (fetched : List ℕ) (noted : List Item) (s : State) → Reaches values order code h s0 fetched noted s → IsSafe code s
   safe_along f0 octets short n0 s0 g0 pays fetched noted s r =
-      good_safe (f0 ++ fetched) (n0 ++ noted) s (along values order code w.table h own limit target planned f0 n0 s0 g0 r)
+      good_safe (f0 ++ fetched) (n0 ++ noted) s (along values order code w.table h own limit direct target planned f0 n0 s0 g0 r)
       (all_append (λ b. b < 256) f0 fetched octets (over_octets values order code h s0 r))
-      (within_along values order code w.table h own limit target planned f0 n0 s0 g0 short r)
+      (within_along values order code w.table h own limit direct target planned f0 n0 s0 g0 short r)
       (paid_along values order code h s0 pays r)
 
 -- in a home's value
-pub safe_in_home : (w : Setting) → IsLegalSide w → (values : List EnumList) (order : Order) (code : List Instr) (h : Home) (own : ℕ) → IsPlanned code values w.table → IsFine w.table 32 own
+pub safe_in_home : (w : Setting) → IsLegalSide w → (values : List EnumList) (order : Order) (code : List Instr) (h : Home) (own direct : ℕ) → IsPlanned code values w.table → IsFine w.table 32 own
     → (p : Progress) (names : Names) (f0 : List ℕ) → AreOctets f0 → length f0 ≤ STREAM_LIMIT → (n0 : List Item) (s0 : State)
-    → Good order f0 code w.table h own 32 n0 (λ octets. read_whole order octets w.table h own p names) s0 → IsPaid s0
+    → Good order f0 code w.table h own 32 n0 direct (λ octets. read_whole order octets w.table h own p names) s0 → IsPaid s0
     → (fetched : List ℕ) (noted : List Item) (s : State) → Reaches values order code h s0 fetched noted s → IsSafe code s
-safe_in_home w side values order code h own planned fine p names f0 octets short n0 s0 g0 pays fetched noted s r =
-    safe_along w side values order code h own 32 (λ octets. read_whole order octets w.table h own p names) planned (whole_made w side order h own fine p names) (omega arith)
+safe_in_home w side values order code h own direct planned fine p names f0 octets short n0 s0 g0 pays fetched noted s r =
+    safe_along w side values order code h own 32 direct (λ octets. read_whole order octets w.table h own p names) planned (whole_made w side order h own fine p names) (omega arith)
     f0 octets short n0 s0 g0 pays fetched noted s r

@@ -90,18 +90,18 @@ step_end before os w at short has (inl e) ends =
     let l : length (before ++ os) ≡ length before + length os = length-append before os in omega (arith, n, l, short)
 step_end before os w at short has (inr e) ends = let l : length (before ++ os) ≡ length before + length os = length-append before os in omega (arith, l, e, ends)
 
-pub at_within : (order : Order) (fetched : List ℕ) (code : List Instr) (table : Table) (h : Home) (own limit : ℕ) (noted : List Item) (target : List ℕ → Read) (s : State)
-    → Good order fetched code table h own limit noted target s → length fetched ≤ STREAM_LIMIT → s.at ≤ STREAM_LIMIT
-at_within order fetched code table h own limit noted target s g short = let r : length fetched ≡ s.at + held g.point = g.reached in omega (arith, r, short)
+pub at_within : (order : Order) (fetched : List ℕ) (code : List Instr) (table : Table) (h : Home) (own limit : ℕ) (noted : List Item) (direct : ℕ) (target : List ℕ → Read) (s : State)
+    → Good order fetched code table h own limit noted direct target s → length fetched ≤ STREAM_LIMIT → s.at ≤ STREAM_LIMIT
+at_within order fetched code table h own limit noted direct target s g short = let r : length fetched ≡ s.at + held g.point = g.reached in omega (arith, r, short)
 
-module _ (values : List EnumList) (order : Order) (code : List Instr) (table : Table) (h : Home) (own limit : ℕ) (target : List ℕ → Read) (planned : IsPlanned code values table)
-    (f0 : List ℕ) (n0 : List Item) (s0 : State) (g0 : Good order f0 code table h own limit n0 target s0) (short : length f0 ≤ STREAM_LIMIT) where
+module _ (values : List EnumList) (order : Order) (code : List Instr) (table : Table) (h : Home) (own limit direct : ℕ) (target : List ℕ → Read) (planned : IsPlanned code values table)
+    (f0 : List ℕ) (n0 : List Item) (s0 : State) (g0 : Good order f0 code table h own limit n0 direct target s0) (short : length f0 ≤ STREAM_LIMIT) where
   pub within_along : {fetched : List ℕ} {noted : List Item} {s : State} → Reaches values order code h s0 fetched noted s → length (f0 ++ fetched) ≤ STREAM_LIMIT
   within_along begins = subst (λ k. length k ≤ STREAM_LIMIT) (sym (append-nil f0)) short
   within_along (steps_to fetched os noted s next i before there has octets e) =
-      let g : Good order (f0 ++ fetched) code table h own limit (n0 ++ noted) target s = along values order code table h own limit target planned f0 n0 s0 g0 before in
+      let g : Good order (f0 ++ fetched) code table h own limit (n0 ++ noted) direct target s = along values order code table h own limit direct target planned f0 n0 s0 g0 before in
       let l : length (f0 ++ fetched) ≤ STREAM_LIMIT = within_along before in
-      let inner : IsInner i = inner_there order (f0 ++ fetched) code table h own limit (n0 ++ noted) target s g i there in
-      let at_short : s.at ≤ STREAM_LIMIT = at_within order (f0 ++ fetched) code table h own limit (n0 ++ noted) target s g l in
+      let inner : IsInner i = inner_there order (f0 ++ fetched) code table h own limit (n0 ++ noted) direct target s g i there in
+      let at_short : s.at ≤ STREAM_LIMIT = at_within order (f0 ++ fetched) code table h own limit (n0 ++ noted) direct target s g l in
       subst (λ k. length k ≤ STREAM_LIMIT) (append_assoc f0 fetched os)
-      (step_end (f0 ++ fetched) os (wants values i s) s.at l has (wanting order (f0 ++ fetched) code values table h own limit (n0 ++ noted) target s i g there) (wanted_end values os s at_short i inner has))
+      (step_end (f0 ++ fetched) os (wants values i s) s.at l has (wanting order (f0 ++ fetched) code values table h own limit (n0 ++ noted) direct target s i g there) (wanted_end values os s at_short i inner has))
