@@ -10,3 +10,4 @@ mod Wanted
 mod Owing
 mod Tagged
 mod Meeting
+mod Reserving
