@@ -17,3 +17,5 @@ mod Tagged
 mod Taking
 mod Meeting
 mod Reserving
+mod OneTurn
+mod RowTaken

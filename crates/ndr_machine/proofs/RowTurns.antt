@@ -57,7 +57,7 @@ whole_numbers Hyper n count h = record { fits = omega (arith, h); rest = omega (
 whole_numbers UnsignedHyper n count h = record { fits = omega (arith, h); rest = omega (arith, h); fewer = omega (arith, h); next = omega (arith, h) }
 
 -- as many numbers take as many octets
-scaled : (p : Primitive) (m count : ℕ) → m ≤ count → m * width p ≤ count * width p
+pub scaled : (p : Primitive) (m count : ℕ) → m ≤ count → m * width p ≤ count * width p
 scaled Boolean m count h = omega (arith, h)
 scaled Char m count h = omega (arith, h)
 scaled Byte m count h = omega (arith, h)

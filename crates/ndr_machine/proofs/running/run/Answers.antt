@@ -10,7 +10,7 @@ pub loop-turn-init : goal.loop-turn-init
 loop-turn-init g c =
     (moves_none c.args.values.now c.args.order c.args.code.now c.args.machine.now.home (state_of c.args.machine.now) (g.S.Source.left c.args.source.now)
     (g.S.Source.ended c.args.source.now) (g.S.Source.faults c.args.source.now) c.args.items.now (g.L.Ledger.number c.args.steps.now) c.args.machine.now.cells
-    (Consumes-nil (g.S.Source.left c.args.source.now)), (refl, le_refl))
+    (Consumes-nil (g.S.Source.left c.args.source.now)), (refl, le_refl _))
 
 pub take_turn-requires-clause-safe : goal.take_turn-requires-clause-safe
 take_turn-requires-clause-safe g c = still_safe c.loop-turn.invariant.0 (ap (λ u. u.home) c.loop-turn.invariant.1.0) c.requires.safe
