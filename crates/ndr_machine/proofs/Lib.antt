@@ -19,3 +19,4 @@ mod Meeting
 mod Reserving
 mod OneTurn
 mod RowTaken
+mod Checked

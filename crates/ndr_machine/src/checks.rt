@@ -120,11 +120,12 @@ fn check_wanted(
         machine.skip();
         return Ok(());
     };
-    if is_pointer(of) {
-        join(machine, member.pending, wanted)?;
-    } else {
+    if !is_pointer(of) {
         try_in(wanted, of, machine.max_at)?;
+        machine.skip();
+        return Ok(());
     }
+    join(machine, member.pending, wanted)?;
     machine.skip();
     Ok(())
 }

@@ -92,19 +92,4 @@ returns-in_err-read_row-clause-turns g c =
     (subst (λ xs. RowNoted o c.prim_of-prim.result m.home m.at m.count c.args.count xs notes (Err e)) c.octets-2.ensures c.in_err-read_row.ensures.noted))
 
 pub returns-clause-turns : goal.returns-clause-turns
-returns-clause-turns g c =
-    let m = c.args.machine.now in
-    let o = c.args.order in
-    let u = c.in_ok-read_row.field-0 in
-    let s1 = state_of c.read_row.new.machine in
-    let source = source_seen g.S.Source.left g.S.Source.ended g.S.Source.faults c.args.source.now c.item.new.source in
-    let notes = notes_seen c.args.items.now c.read_row.new.items (g.L.Ledger.number c.args.steps.now) (g.L.Ledger.number c.read_row.new.steps) m.cells c.read_row.new.machine.cells in
-    let size : length c.octets-2.result.now ≡ c.args.count * width c.prim_of-prim.result = search rules in
-    let all : length c.item.new.self ≡ c.args.count * width (prim_of c.args.of.0) =
-        ap length (sym c.octets-2.ensures) ∙ size ∙ ap (λ a. c.args.count * width a) c.prim_of-prim.ensures in
-    row_taken c.args.values.now o c.args.code.now m.home m c.args.of c.args.count c.requires.here c.requires.row c.requires.aligned c.requires.within source c.item.new.self
-    (subst AreOctets c.octets.ensures c.are_octets.ensures) c.item.ensures.octets notes s1 u c.requires.many all
-    (subst (λ a. Does (goes (row_read o a c.args.count c.item.new.self (state_of m))) (Ok u) s1) c.prim_of-prim.ensures
-    (subst (λ xs. Does (goes (row_read o c.prim_of-prim.result c.args.count xs (state_of m))) (Ok u) s1) c.octets-2.ensures c.in_ok-read_row.ensures.does))
-    (subst (λ a. RowNoted o a m.home m.at m.count c.args.count c.item.new.self notes (Ok u)) c.prim_of-prim.ensures
-    (subst (λ xs. RowNoted o c.prim_of-prim.result m.home m.at m.count c.args.count xs notes (Ok u)) c.octets-2.ensures c.in_ok-read_row.ensures.noted))
+returns-clause-turns g c = ?
