@@ -79,11 +79,11 @@ item_long (item_of m) n at s os e fault =
 ended_within : (n at place : ℕ) → (r : Result (Unit {0}) IntakeFault) → r ≡ Err (intake.Truncated place) → (STREAM_LIMIT < at + n → IsErrOf r intake.TooLong) → at + n ≤ STREAM_LIMIT
 ended_within n at place r is long = by_test (cases_lt STREAM_LIMIT (at + n))
   where
-    other : {T : Type 0} → Err {T} (intake.Truncated place) ≡ Err intake.TooLong → ⊥
-    other e = cc
+    other : (a : Result (Unit {0}) IntakeFault) → a ≡ Err (intake.Truncated place) → a ≡ Err intake.TooLong → ⊥
+    other a e f = cc
 
     by_test : (STREAM_LIMIT < at + n) ⊎ (at + n ≤ STREAM_LIMIT) → at + n ≤ STREAM_LIMIT
-    by_test (inl past) = absurd (other (sym is ∙ long past))
+    by_test (inl past) = absurd (other r is (long past))
     by_test (inr within) = within
 
 pub item_fetched : (w : Want) (n at : ℕ) (s : SourceSeen) (os : List ℕ) (r : Result (Unit {0}) IntakeFault) → Wants w (want.Item n) → IfOk r (λ _. length os ≡ n)

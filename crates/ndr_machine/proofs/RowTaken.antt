@@ -73,6 +73,21 @@ row_fewer of count at w q s os r e prim_is wide some many is fault =
     let n : count * w ≡ count * width (prim_of of.0) = ap (λ x. count * x) (wide ∙ ap width prim_is) in
     subst (λ n. length os < n) n (cut_short (count * w) at s os r e is (mul-pos many some) fault)
 
+-- all of them came
+all_came : (n : ℕ) (os : List ℕ) (r : Result (Unit {0}) IntakeFault) (u : Unit {0}) → stream_answer r ≡ Ok u → IfOk r (λ _. length os ≡ n) → length os ≡ n
+all_came n os (Ok v) u is all = all
+all_came n os (Err e) u is all = absurd (other e is)
+  where
+    other : (e : IntakeFault) → stream_answer (Err e) ≡ Ok u → ⊥
+    other intake.Memory is = cc
+    other intake.ReadFault is = cc
+    other intake.TooLong is = cc
+    other (intake.Truncated place) is = cc
+
+pub row_size : (of : TypeId) (count w : ℕ) (q : Primitive) (os : List ℕ) (r : Result (Unit {0}) IntakeFault) (u : Unit {0}) → q ≡ prim_of of.0 → w ≡ width q
+    → stream_answer r ≡ Ok u → IfOk r (λ _. length os ≡ count * w) → length os ≡ count * width (prim_of of.0)
+row_size of count w q os r u prim_is wide is all = all_came (count * w) os r u is all ∙ ap (λ x. count * x) (wide ∙ ap width prim_is)
+
 -- a row has no more numbers than octets
 pub few_numbers : (p : Primitive) (count : ℕ) → count * width p ≤ 4096 → count ≤ 4096
 few_numbers Boolean count h = omega (arith, h)

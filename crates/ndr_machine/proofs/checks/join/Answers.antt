@@ -12,7 +12,7 @@ returns-then-pending-len-clause-does c =
     let past : length m.fresh.items ≤ c.args.pending = search rules in
     let long : length (map (owed_of m.wanted.items) m.fresh.items) ≡ length m.fresh.items = length-map m.fresh.items (owed_of m.wanted.items) in
     ap (λ (fs : List steps.Owed). goes (with_fresh fs (state_of m)))
-    (sym (joined_past (agreement_of c.args.wanted ∷ []) (map (owed_of m.wanted.items) m.fresh.items) c.args.pending (omega (arith, past, long))))
+    (joined_past (agreement_of c.args.wanted ∷ []) (map (owed_of m.wanted.items) m.fresh.items) c.args.pending (omega (arith, past, long)))
 
 pub invariant_of-machine : goal.invariant_of-machine
 invariant_of-machine c =

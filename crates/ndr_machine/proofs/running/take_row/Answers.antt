@@ -1,4 +1,4 @@
-use Rattle.std.proofs.Common.{rules, ◌≡◌, ◌<◌, ◌≤◌, ◌*◌, ◌/◌, ◌+◌, ◌^◌, ℕ, List, [], length, take, Result, Ok, Err, sym, ap, ◌∙◌, subst, arith}
+use Rattle.std.proofs.Common.{◌≡◌, ◌<◌, ◌≤◌, ◌*◌, ◌/◌, ◌+◌, ◌^◌, ℕ, List, [], length, take, Result, Ok, Err, sym, ap, ◌∙◌, subst, arith}
 use Rattle.nd_base.specs.Over.{SourceSeen, source_seen}
 use Rattle.nd_types.specs.declared.types.Primitive.{Primitive}
 use Rattle.nd_types.specs.Number.{AreOctets}
@@ -13,7 +13,7 @@ use Rattle.ndr_state.specs.Notes.{NotesSeen, notes_seen}
 use Rattle.ndr_machine.specs.Notes.{RowNoted}
 use Rattle.ndr_machine.specs.Reaching.{Fetches}
 use Rattle.ndr_machine.proofs.Taking.{address_fits, count_fits}
-use Rattle.ndr_machine.proofs.RowTaken.{row_came, row_fewer, few_numbers, row_cut, row_cut_memory, row_memory, row_taken}
+use Rattle.ndr_machine.proofs.RowTaken.{row_came, row_fewer, row_size, few_numbers, row_cut, row_cut_memory, row_memory, row_taken}
 use Rattle.ndr_machine.proofs.running.take_row.Goals as goal
 
 pub note_whole-requires-clause-few : goal.note_whole-requires-clause-few
@@ -82,9 +82,9 @@ returns-in_err-read_row-clause-turns g c =
     let e = c.in_err-read_row.field-0.0 in
     let source = source_seen g.S.Source.left g.S.Source.ended g.S.Source.faults c.args.source.now c.item.new.source in
     let notes = notes_seen c.args.items.now c.read_row.new.items (g.L.Ledger.number c.args.steps.now) (g.L.Ledger.number c.read_row.new.steps) m.cells c.read_row.new.machine.cells in
-    let size : length c.octets-2.result.now ≡ c.args.count * width c.prim_of-prim.result = search rules in
     let all : length c.item.new.self ≡ c.args.count * width (prim_of c.args.of.0) =
-        ap length (sym c.octets-2.ensures) ∙ size ∙ ap (λ a. c.args.count * width a) c.prim_of-prim.ensures in
+        row_size c.args.of c.args.count c.width_of.result c.prim_of-prim.result c.item.new.self c.item.result c.in_default.field-0 c.prim_of-prim.ensures c.width_of.ensures.value
+        (sym c.fetched-came.ensures ∙ c.in_default.is) c.item.ensures.all in
     row_memory c.args.values.now o c.args.code.now m.home m c.args.of c.args.count c.requires.here c.requires.row c.requires.aligned c.requires.within source c.item.new.self
     (subst AreOctets c.octets.ensures c.are_octets.ensures) c.item.ensures.octets notes (state_of c.read_row.new.machine) e c.from_residual-in_err-read_row.result
     (row_read o c.prim_of-prim.result c.args.count c.octets-2.result.now (state_of m)) c.requires.safe all c.in_err-read_row.ensures.does c.from_residual-in_err-read_row.ensures.1
@@ -92,4 +92,19 @@ returns-in_err-read_row-clause-turns g c =
     (subst (λ xs. RowNoted o c.prim_of-prim.result m.home m.at m.count c.args.count xs notes (Err e)) c.octets-2.ensures c.in_err-read_row.ensures.noted))
 
 pub returns-clause-turns : goal.returns-clause-turns
-returns-clause-turns g c = ?
+returns-clause-turns g c =
+    let m = c.args.machine.now in
+    let o = c.args.order in
+    let u = c.in_ok-read_row.field-0 in
+    let s1 = state_of c.read_row.new.machine in
+    let source = source_seen g.S.Source.left g.S.Source.ended g.S.Source.faults c.args.source.now c.item.new.source in
+    let notes = notes_seen c.args.items.now c.read_row.new.items (g.L.Ledger.number c.args.steps.now) (g.L.Ledger.number c.read_row.new.steps) m.cells c.read_row.new.machine.cells in
+    let all : length c.item.new.self ≡ c.args.count * width (prim_of c.args.of.0) =
+        row_size c.args.of c.args.count c.width_of.result c.prim_of-prim.result c.item.new.self c.item.result c.in_default.field-0 c.prim_of-prim.ensures c.width_of.ensures.value
+        (sym c.fetched-came.ensures ∙ c.in_default.is) c.item.ensures.all in
+    row_taken c.args.values.now o c.args.code.now m.home m c.args.of c.args.count c.requires.here c.requires.row c.requires.aligned c.requires.within source c.item.new.self
+    (subst AreOctets c.octets.ensures c.are_octets.ensures) c.item.ensures.octets notes s1 u c.requires.many all
+    (subst (λ a. Does (goes (row_read o a c.args.count c.item.new.self (state_of m))) (Ok u) s1) c.prim_of-prim.ensures
+    (subst (λ xs. Does (goes (row_read o c.prim_of-prim.result c.args.count xs (state_of m))) (Ok u) s1) c.octets-2.ensures c.in_ok-read_row.ensures.does))
+    (subst (λ a. RowNoted o a m.home m.at m.count c.args.count c.item.new.self notes (Ok u)) c.prim_of-prim.ensures
+    (subst (λ xs. RowNoted o c.prim_of-prim.result m.home m.at m.count c.args.count xs notes (Ok u)) c.octets-2.ensures c.in_ok-read_row.ensures.noted))
