@@ -15,3 +15,5 @@ mod Wanted
 mod Owing
 mod Tagged
 mod Taking
+mod Meeting
+mod Reserving
