@@ -11,3 +11,4 @@ mod Owing
 mod Tagged
 mod Meeting
 mod Reserving
+mod Handing
