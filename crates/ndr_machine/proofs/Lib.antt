@@ -17,3 +17,4 @@ mod Tagged
 mod Taking
 mod Meeting
 mod Reserving
+mod Handing
