@@ -47,7 +47,9 @@ module _ (ws : List Wanted) (w : Wanted) where
   last_one zero zero [] e = refl
   last_one zero zero (x ∷ xs) e = absurd (omega (arith, e))
   last_one zero (suc len) [] e = absurd (omega (arith, e))
-  last_one zero (suc len) (x ∷ xs) e = ap (λ (l : List Wanted). x ∷ l) (last_one zero len xs (omega (arith, e)))
+  last_one zero (suc len) (x ∷ xs) e =
+      let k : suc len + 1 ≡ suc (len + 1) = omega arith in
+      ap (λ (n : ℕ). take n (x ∷ (xs ++ w ∷ []))) k ∙ ap (λ (l : List Wanted). x ∷ l) (last_one zero len xs (omega (arith, e)))
   last_one (suc from) len [] e = absurd (omega (arith, e))
   last_one (suc from) len (x ∷ xs) e = last_one from len xs (omega (arith, e))
 

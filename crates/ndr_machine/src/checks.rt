@@ -2,7 +2,7 @@
 ghost use Rattle.std.specs.Prelude.{◌≡◌, ◌<◌, ◌≤◌, ◌+◌, ◌-◌, ◌^◌, ◌∷◌, [], length, take, drop, slice_get, option_map, IfSome, IfOk, IfErr, OnOk};
 ghost use Rattle.nd_value.specs.Agreement.{wanted_by};
 ghost use Rattle.nd_flat.specs.FlatForm.{IsKeepableNumber};
-ghost use Rattle.ndr_steps.specs.Steps.{goes, check_in, checked, first_found, first_number, with_fresh, joined_by, is_owing, max_in, offset_in, actual_in, tag_in, place_of, place_in};
+ghost use Rattle.ndr_steps.specs.Steps.{goes, next, check_in, checked, first_found, first_number, with_fresh, joined_by, is_owing, max_in, offset_in, actual_in, tag_in, place_of, place_in};
 ghost use Rattle.ndr_state.specs.Seen.{state_of, Does, agreement_of, owed_of, HasGrown, outside};
 ghost use Rattle.ndr_state.specs.declared.fault.DecodeFault.TheVariants as fault;
 ghost use Rattle.ndr_machine.specs.Parts.{IsTried, disagreement, member_checked, count_place, tag_place, with_agreement};
@@ -126,26 +126,27 @@ fn check_wanted(
         return Ok(());
     };
     if is_pointer(of) {
-        join(machine, member.pending, wanted)?;
-    } else {
-        try_in(wanted, of, machine.max_at)?;
+        return join(machine, member.pending, wanted);
     }
+    try_in(wanted, of, machine.max_at)?;
     machine.skip();
     Ok(())
 }
 
-// Joins an agreement to the pending referent of this number.
+// Joins an agreement to the pending referent of this number, and goes to the next instruction.
 fn join(machine: &mut Machine, pending: usize, wanted: Wanted) -> Result<(), DecodeFault>
-    ensures does { Does (goes (with_fresh (joined_by (agreement_of wanted ∷ []) (state_of machine.old).fresh pending) (state_of machine.old))) result (state_of machine.new) }
-    ensures pc { machine.new.pc ≡ machine.old.pc }
+    requires code { machine.old.pc < 2 ^ 32 }
+    ensures does { Does (goes (next (with_fresh (joined_by (agreement_of wanted ∷ []) (state_of machine.old).fresh pending) (state_of machine.old)))) result (state_of machine.new) }
     ensures outside { OnOk result (outside machine.new ≡ outside machine.old) }
 {
-    if pending >= machine.fresh.len() {
+    if pending >= machine.fresh.as_slice().len() {
+        machine.skip();
         return Ok(());
     }
     let owed = machine.fresh[pending];
     let joined = with_one(&mut machine.wanted, owed, wanted)?;
     machine.fresh[pending] = joined;
+    machine.skip();
     Ok(())
 }
 
