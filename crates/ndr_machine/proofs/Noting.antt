@@ -5,6 +5,7 @@ use Rattle.std.proofs.Common.{◌≡◌, ◌≤◌, ℕ, ◌+◌, List, [], ◌�
 use Rattle.std.proofs.lemmas.List.{length-map}
 use Rattle.nd_value.specs.Logged.{Logged, noted, ticks_of}
 use Rattle.nd_value.specs.declared.item.Item.{Item}
+use Rattle.nd_value.specs.Tree.{Referent}
 use Rattle.ndr_steps.specs.Steps.{State, Outcome, goes, refused}
 use Rattle.ndr_state.specs.Notes.{NotesSeen, notes_seen, all_noted, ticks, IsNotedPart, nothing_noted, all_are_noted, Noted}
 use Rattle.ndr_state.specs.Seen.{state_of, Does}
@@ -16,7 +17,7 @@ use Rattle.ndr_state.specs.declared.machine.Machine.{Machine}
 
 -- the cells of a machine's state are those that have their numbers
 pub cell_count : (m : Machine) → length (state_of m).cells ≡ m.cells
-cell_count m = length-map m.builder.graph.cells (λ c. c.of) ∙ sym m.numbered
+cell_count m = length-map m.builder.graph.cells (λ (c : Referent). c.of) ∙ sym m.numbered
 
 -- machines with the same cells have as many
 pub same_cells : (old new : Machine) → (state_of new).cells ≡ (state_of old).cells → new.cells ≡ old.cells
@@ -73,6 +74,6 @@ pub noted_by_result : (x : Item) (s t : State) (log log' : Logged) (n n' k k' : 
     → Does (goes s) r t → log' ≡ noted x log → n' ≡ n + ticks_of x.kind → length s.cells ≡ k → length t.cells ≡ k'
     → Noted (goes s) (x ∷ []) (notes_seen log log' n n' k k') r
 noted_by_result x s t log log' n n' k k' (Ok u) d el i c c' =
-    let e : length t.cells ≡ length s.cells = ap (λ q. length q.cells) (goes_state s t (Ok u) d) in (el, omega (arith, i, c, c', e))
+    let e : length t.cells ≡ length s.cells = ap (λ (q : State). length q.cells) (goes_state s t (Ok u) d) in (el, omega (arith, i, c, c', e))
 noted_by_result x s t log log' n n' k k' (Err e) d el i c c' =
     stopped_after x s log log' n n' k k' (Err e) e refl (goes_memory s t (Err e) d) el i c

@@ -26,11 +26,14 @@ pub all_noted_more : (xs : List Item) (x : Item) (g : Logged) → all_noted (xs 
 all_noted_more [] x g = refl
 all_noted_more (y ∷ ys) x g = all_noted_more ys x (noted y g)
 
+abbrev with_keeps : Bool → Logged → Logged
+with_keeps b g = record { keeps = b; items = g.items }
+
 -- a log that keeps nothing stays as it is
 pub nothing_kept : (xs : List Item) (g : Logged) → g.keeps ≡ false → all_noted xs g ≡ g
 nothing_kept [] g e = refl
 nothing_kept (x ∷ xs) g e =
-    let same : noted x g ≡ g = ap (λ b. noted_by b x g.items) e ∙ ap (λ b. record { keeps = b; items = g.items }) (sym e) in
+    let same : noted x g ≡ g = ap (λ (b : Bool). noted_by b x g.items) e ∙ ap (λ (b : Bool). with_keeps b g) (sym e) in
     ap (all_noted xs) same ∙ nothing_kept xs g e
 
 keeps_by : (b : Bool) (x : Item) (xs : List Item) → length (noted_by b x xs).items ≡ length xs → b ≡ false
@@ -114,7 +117,7 @@ module _ (o : Order) (p : Primitive) (h : Home) where
         → steps'' ≡ steps' + more → IsRowNoted 1 log log' steps steps' → IsRowNoted n log log' steps steps''
     row_counted n more log log' steps steps' steps'' en el es r =
         let x : Item = number_item at node os in
-        let keeps : log.keeps ≡ false = keeps_nothing x log (ap (λ g. length g.items) (sym r.log_is) ∙ el) in
+        let keeps : log.keeps ≡ false = keeps_nothing x log (ap (λ (g : Logged). length g.items) (sym r.log_is) ∙ el) in
         let all : (xs : List Item) → all_noted xs log ≡ log = λ xs. nothing_kept xs log keeps in
         record {
           log_is = r.log_is ∙ all (row_items o p h at node 1 os) ∙ sym (all (row_items o p h at node n os));

@@ -88,3 +88,15 @@ pub zero_nowhere : (os : List ℕ) (at : ℕ) → length os ≤ at → at ≤ le
 zero_nowhere os at all within so_far =
     let none : first_zero (drop at os) ≡ 0 = at_drop_all first_zero os at all in
     omega (arith, so_far, none, all, within)
+
+-- ## Where a string is refused
+
+pub refused_before : (at zero : ℕ) (os : List ℕ) → zero ≡ first_zero os → zero < length os - 1 → Some (at + zero, reason.TextZero) ≡ text_refusal at os
+refused_before at zero os e h = ap (λ (k : ℕ). Some (at + k, reason.TextZero)) e ∙ sym (zero_before at os (omega (arith, e, h)))
+
+pub refused_unended : (at zero : ℕ) (os : List ℕ) → zero ≡ first_zero os → 0 < length os → length os - 1 < zero
+    → Some (at + (length os - 1), reason.TextUnended) ≡ text_refusal at os
+refused_unended at zero os e some h = sym (zero_missing at os some (omega (arith, e, h)))
+
+pub not_refused : (at zero : ℕ) (os : List ℕ) → zero ≡ first_zero os → 0 < length os → length os - 1 ≤ zero → zero ≤ length os - 1 → None ≡ text_refusal at os
+not_refused at zero os e some h h' = sym (zero_last at os (omega (arith, e, some, h, h')))

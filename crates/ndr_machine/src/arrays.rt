@@ -65,8 +65,8 @@ pub(crate) fn varying<L: Ledger>(
     requires code { machine.old.pc < 2 ^ 32 }
     requires fits { machine.old.at + 4 < 2 ^ 32 }
     requires few { machine.old.count + 1 < 2 ^ 32 }
-    ensures does { Does (vary_by order octets.now (phase_of machine.old.phase) limit run (state_of machine.old)) result (state_of machine.new) }
-    ensures noted { Noted (vary_by order octets.now (phase_of machine.old.phase) limit run (state_of machine.old)) (vary_items order machine.old.home octets.now (phase_of machine.old.phase) (state_of machine.old)) (notes_seen items.old items.new (L.number steps.old) (L.number steps.new) machine.old.cells machine.new.cells) result }
+    ensures does { Does (vary_by [] order octets.now (phase_of machine.old.phase) limit run (state_of machine.old)) result (state_of machine.new) }
+    ensures noted { Noted (vary_by [] order octets.now (phase_of machine.old.phase) limit run (state_of machine.old)) (vary_items order machine.old.home octets.now (phase_of machine.old.phase) (state_of machine.old)) (notes_seen items.old items.new (L.number steps.old) (L.number steps.new) machine.old.cells machine.new.cells) result }
     ensures outside { OnOk result (outside machine.new ≡ outside machine.old) }
 {
     let number = read_count(order, octets);
@@ -153,8 +153,8 @@ pub(crate) fn hoist<L: Ledger>(
     requires wide { IsHoisted (phase_of machine.old.phase) octets.now }
     requires code { machine.old.pc < 2 ^ 32 }
     requires fits { machine.old.at + length octets.now < 2 ^ 32 }
-    ensures does { Does (hoist_by order octets.now (phase_of machine.old.phase) (state_of machine.old)) result (state_of machine.new) }
-    ensures noted { Noted (hoist_by order octets.now (phase_of machine.old.phase) (state_of machine.old)) (hoist_items order machine.old.home octets.now (phase_of machine.old.phase) (state_of machine.old)) (notes_seen items.old items.new (L.number steps.old) (L.number steps.new) machine.old.cells machine.new.cells) result }
+    ensures does { Does (hoist_by [] order octets.now (phase_of machine.old.phase) (state_of machine.old)) result (state_of machine.new) }
+    ensures noted { Noted (hoist_by [] order octets.now (phase_of machine.old.phase) (state_of machine.old)) (hoist_items order machine.old.home octets.now (phase_of machine.old.phase) (state_of machine.old)) (notes_seen items.old items.new (L.number steps.old) (L.number steps.new) machine.old.cells machine.new.cells) result }
     ensures outside { OnOk result (outside machine.new ≡ outside machine.old) }
 {
     match machine.phase {
