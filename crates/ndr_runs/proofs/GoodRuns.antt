@@ -15,18 +15,18 @@ use Rattle.ndr_steps.specs.Good.{Good, IsRight}
 use Rattle.ndr_steps.proofs.PointSteps.{step_right}
 use Rattle.ndr_runs.specs.Reaching.{Reaches, begins, steps_to}
 
-module _ (values : List EnumList) (order : Order) (code : List Instr) (table : Table) (h : Home) (own limit : ℕ) (target : List ℕ → Read) (planned : IsPlanned code values table)
-    (f0 : List ℕ) (n0 : List Item) (s0 : State) (g0 : Good order f0 code table h own limit n0 target s0) where
+module _ (values : List EnumList) (order : Order) (code : List Instr) (table : Table) (h : Home) (own limit direct : ℕ) (target : List ℕ → Read) (planned : IsPlanned code values table)
+    (f0 : List ℕ) (n0 : List Item) (s0 : State) (g0 : Good order f0 code table h own limit n0 direct target s0) where
   abbrev G : List ℕ → List Item → State → Type 0
-  G f n s = Good order f code table h own limit n target s
+  G f n s = Good order f code table h own limit n direct target s
 
-  pub along : {fetched : List ℕ} {noted : List Item} {s : State} → Reaches values order code h s0 fetched noted s → Good order (f0 ++ fetched) code table h own limit (n0 ++ noted) target s
+  pub along : {fetched : List ℕ} {noted : List Item} {s : State} → Reaches values order code h s0 fetched noted s → Good order (f0 ++ fetched) code table h own limit (n0 ++ noted) direct target s
   along begins = subst (λ k. G k (n0 ++ []) s0) (sym (append-nil f0)) (subst (λ k. G f0 k s0) (sym (append-nil n0)) g0)
   along (steps_to fetched os noted s next i before there has octets e) =
-      let g : Good order (f0 ++ fetched) code table h own limit (n0 ++ noted) target s = along before in
-      let right : IsRight order ((f0 ++ fetched) ++ os) code table h own limit ((n0 ++ noted) ++ step_items order h os i s) target s.at g.seen (step values order os i s) =
-      step_right order (f0 ++ fetched) os code values table h own limit (n0 ++ noted) target planned s g i there has in
+      let g : Good order (f0 ++ fetched) code table h own limit (n0 ++ noted) direct target s = along before in
+      let right : IsRight order ((f0 ++ fetched) ++ os) code table h own limit ((n0 ++ noted) ++ step_items order h os i s) direct target s.at g.seen (step values order os i s) =
+      step_right order (f0 ++ fetched) os code values table h own limit (n0 ++ noted) direct target planned s g i there has in
       let good : G ((f0 ++ fetched) ++ os) ((n0 ++ noted) ++ step_items order h os i s) next =
-      subst (IsRight order ((f0 ++ fetched) ++ os) code table h own limit ((n0 ++ noted) ++ step_items order h os i s) target s.at g.seen) e right in
+      subst (IsRight order ((f0 ++ fetched) ++ os) code table h own limit ((n0 ++ noted) ++ step_items order h os i s) direct target s.at g.seen) e right in
       subst (λ k. G k (n0 ++ (noted ++ step_items order h os i s)) next) (append_assoc f0 fetched os)
       (subst (λ k. G ((f0 ++ fetched) ++ os) k next) (append_assoc n0 noted (step_items order h os i s)) good)

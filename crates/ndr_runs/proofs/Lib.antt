@@ -1,4 +1,10 @@
-mod RowSteps
+pub mod RowSteps
 pub mod Joining
 pub mod GoodRuns
 pub mod PaidSteps
+pub mod TreeNodes
+pub mod FrameNodes
+pub mod Within
+pub mod Safe
+pub mod EndRuns
+pub mod ChunkSafe

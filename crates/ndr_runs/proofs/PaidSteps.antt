@@ -98,7 +98,7 @@ module _ (values : List EnumList) (order : Order) (os : List ℕ) (s : State) wh
   abbrev To : Outcome → Type 0
   To (goes t) = Pays s t
   To (refused place why) = Unit {0}
-  To (whole t) = Unit {0}
+  To (whole t) = Pays s t
 
   if_to : (b : Bool) (x y : Outcome) → To x → To y → To (if b then x else y)
   if_to true x y p q = p
@@ -126,7 +126,7 @@ module _ (values : List EnumList) (order : Order) (os : List ℕ) (s : State) wh
   popped_from (f ∷ fs) u p = keeps s u (popped_to (f ∷ fs) u) refl refl (omega arith) p
 
   back_pays : (top : Frame) → To (back_to top s)
-  back_pays frame.Home = tt
+  back_pays frame.Home = pays_itself s
   back_pays (frame.Record back first) = same (jumped back s) refl refl (omega arith)
   back_pays (frame.Elements zero run back) = keeps s (popped s) (jumped back (popped s)) refl refl (omega arith) (popped_pays s.stack)
   back_pays (frame.Elements (suc left) run back) = same (jumped run (with_frames (frame.Elements left run back) s.stack s)) refl refl (omega arith)
@@ -287,10 +287,10 @@ module _ (values : List EnumList) (order : Order) (os : List ℕ) (s : State) wh
       let x : Flat = (tree.Context (unsigned order (take 4 os)) (identifier order os (drop 4 os)), 0) in one_node (done_after 20 (with_node x None s)) x refl refl tt (omega arith) (omega arith)
   step_pays (op.Check a f v star) h = check_pays s.top a f v
   step_pays (op.Call run) h = call_pays s.top run
-  step_pays (op.Direct to run) h = tt
-  step_pays (op.Given a f v star) h = tt
-  step_pays (op.Pipe run) h = tt
-  step_pays op.Defer h = tt
+  step_pays (op.Direct to run) h = pays_itself s
+  step_pays (op.Given a f v star) h = pays_itself s
+  step_pays (op.Pipe run) h = pays_itself s
+  step_pays op.Defer h = pays_itself s
 
 module _ (values : List EnumList) (order : Order) (code : List Instr) (h : Home) (s0 : State) (first : IsPaid s0) where
   -- what was added is paid at each state that is reached
@@ -298,3 +298,8 @@ module _ (values : List EnumList) (order : Order) (code : List Instr) (h : Home)
   paid_along begins = first
   paid_along (steps_to fetched os noted s next i before there has octets e) =
       still_paid s next (paid_along before) (subst (To values order os s) e (step_pays values order os s i has))
+
+  -- and at the end of a value
+  pub paid_whole : (fetched : List ℕ) (noted : List Item) (s : State) → Reaches values order code h s0 fetched noted s → (i : Instr) (os : List ℕ) → HasOctets (wants values i s) os s.at
+      → (s1 : State) → step values order os i s ≡ whole s1 → IsPaid s1
+  paid_whole fetched noted s r i os has s1 e = still_paid s s1 (paid_along r) (subst (To values order os s) e (step_pays values order os s i has))

@@ -1,3 +1,4 @@
 pub mod Reaching
 pub mod Rows
 pub mod Paid
+pub mod Refusals

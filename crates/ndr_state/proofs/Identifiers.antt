@@ -1,5 +1,5 @@
 -- The octets of an identifier one by one.
-use Rattle.std.proofs.Common.{◌≡◌, ℕ, suc, List, [], ◌∷◌, length, refl, arith}
+use Rattle.std.proofs.Common.{◌≡◌, ℕ, List, [], ◌∷◌, length, refl, arith}
 use Rattle.std.specs.Prelude.{slice_index}
 use Rattle.uuid.specs.Parts.{swap_fields}
 use Rattle.nd_base.specs.declared.octets.Order.TheVariants.{Big, Little}

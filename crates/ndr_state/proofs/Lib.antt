@@ -1,5 +1,5 @@
 mod Values
 mod Identifiers
-mod Kept
+mod Empty
 mod Frames
 pub mod Outside

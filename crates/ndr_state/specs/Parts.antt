@@ -1,6 +1,6 @@
 -- Parts of steps, as the code has functions for them.
 -- `s` is a state, `x` what is kept of a node.
-use Rattle.std.specs.Prelude.{ℕ, ◌+◌, List, [], ◌∷◌, ◌++◌, length, take, Option, Some, None}
+use Rattle.std.specs.Prelude.{ℕ, ◌+◌, [], ◌∷◌, ◌++◌, length, take, None}
 use Rattle.nd_value.specs.Tree as tree
 use Rattle.ndr_steps.specs.declared.first.First.{First}
 use Rattle.ndr_steps.specs.declared.frame.Frame.{Frame}

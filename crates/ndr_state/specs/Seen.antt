@@ -7,7 +7,6 @@ use Rattle.nd_value.specs.declared.item.Home.{Home}
 use Rattle.nd_value.specs.declared.value.Graph.{Graph}
 use Rattle.nd_value.specs.Tree.{Tree}
 use Rattle.nd_value.specs.Setting.{cell_at}
-use Rattle.nd_grammar.specs.declared.reason.Reason.{Reason}
 use Rattle.nd_value.specs.Agreement.{Agreement}
 use Rattle.nd_value.specs.Seen.{cell_number}
 use Rattle.ndr_steps.specs.Steps as steps

@@ -121,11 +121,12 @@ added code table h own limit seen depth fs t q y place w found =
     (node_kept code table h seen q.max_at q.nodes y place found)
 
 -- the nodes after one that is added have no count or tag yet
-pub told_node : {noted : List Item} (order : Order) (fetched : List ℕ) (h : Home) (seen : List EntryAt) (names : Names) (cells : List ℕ) (numbers : List (ℕ × Known)) (max_at : Option ℕ) (nodes : List Flat) (y : Flat) (half : List Place)
-    → Told noted order fetched h seen names cells numbers max_at (length nodes) half → Told noted order fetched h seen names cells numbers max_at (length (nodes ++ y ∷ [])) []
+pub told_node : {noted : List Item} {direct : ℕ} (order : Order) (fetched : List ℕ) (h : Home) (seen : List EntryAt) (names : Names) (cells : List ℕ) (numbers : List (ℕ × Known)) (max_at : Option ℕ) (nodes : List Flat) (y : Flat) (half : List Place)
+    → Told noted direct order fetched h seen names cells numbers max_at (length nodes) half → Told noted direct order fetched h seen names cells numbers max_at (length (nodes ++ y ∷ [])) []
 told_node order fetched h seen names cells numbers max_at nodes y half t = record {
   noted_are = t.noted_are;
   cells_are = t.cells_are;
+  cells_named = t.cells_named;
   numbers_are = t.numbers_are;
   ahead = λ a j.
       let e : length (nodes ++ y ∷ []) + j ≡ length nodes + suc j = let n : length (nodes ++ y ∷ []) ≡ length nodes + 1 = length-append nodes (y ∷ []) in omega (arith, n) in
@@ -134,8 +135,8 @@ told_node order fetched h seen names cells numbers max_at nodes y half t = recor
 }
 
 -- what is found of a node that has no count or tag
-pub none_found : {noted : List Item} (order : Order) (fetched : List ℕ) (h : Home) (seen : List EntryAt) (names : Names) (cells : List ℕ) (numbers : List (ℕ × Known)) (max_at : Option ℕ) (n : ℕ) (half : List Place)
-    → Told noted order fetched h seen names cells numbers max_at n half → (a : Attr) → tested_at seen a h n ≡ place_of a max_at (place_at half 0)
+pub none_found : {noted : List Item} {direct : ℕ} (order : Order) (fetched : List ℕ) (h : Home) (seen : List EntryAt) (names : Names) (cells : List ℕ) (numbers : List (ℕ × Known)) (max_at : Option ℕ) (n : ℕ) (half : List Place)
+    → Told noted direct order fetched h seen names cells numbers max_at n half → (a : Attr) → tested_at seen a h n ≡ place_of a max_at (place_at half 0)
 none_found order fetched h seen names cells numbers max_at n half t a = let z : n ≡ n + 0 = omega arith in ap (tested_at seen a h) z ∙ t.ahead a 0
 
 -- a value that is no pointer has the shape of its type
@@ -172,16 +173,16 @@ after_leaf q pc at max tag carrier fresh cells numbers y place = record {
   numbers = numbers;
 }
 
-pub leaf_good : (order : Order) (fetched : List ℕ) (code : List Instr) (table : Table) (h : Home) (own limit : ℕ) (noted : List Item) (target : List ℕ → Read) (q : Parts) (pc at max : ℕ) (tag : ℤ) (carrier : Primitive)
+pub leaf_good : (order : Order) (fetched : List ℕ) (code : List Instr) (table : Table) (h : Home) (own limit : ℕ) (noted : List Item) (direct : ℕ) (target : List ℕ → Read) (q : Parts) (pc at max : ℕ) (tag : ℤ) (carrier : Primitive)
     (fresh : List Owed) (cells : List ℕ) (numbers : List (ℕ × Known)) (l : Label) (place : Option ℕ) (half : List Place) (seen : List EntryAt) (names : Names) (depth : ℕ) (fs : List Around) (t : ℕ)
     → Within code table h own limit seen depth fs t q
     → ((a : Attr) → tested_at seen a h (length q.nodes) ≡ place_of a q.max_at (place_in (first_of (l, 0) place)))
-    → Told noted order fetched h seen names cells numbers q.max_at (length q.nodes) half
+    → Told noted direct order fetched h seen names cells numbers q.max_at (length q.nodes) half
     → length fetched ≡ at → AtEnd code table pc → IsShaped table t (node l none)
     → fresh ≡ map (owed table) (pointers_around table h fs ++ pointers table h (t ∷ []) (length (nodes_around fs)) (more (node l none) none))
     → ((later : List ℕ) → finish order (fetched ++ later) table h max depth fs (record { tree = node l none; progress = going at seen; names = names }) ≡ target (fetched ++ later))
-    → Good order fetched code table h own limit noted target (after_leaf q pc at max tag carrier fresh cells numbers (l, 0) place)
-leaf_good order fetched code table h own limit noted target q pc at max tag carrier fresh cells numbers l place half seen names depth fs t w found told reached at_end shaped owes rest =
+    → Good order fetched code table h own limit noted direct target (after_leaf q pc at max tag carrier fresh cells numbers (l, 0) place)
+leaf_good order fetched code table h own limit noted direct target q pc at max tag carrier fresh cells numbers l place half seen names depth fs t w found told reached at_end shaped owes rest =
     let new = added code table h own limit seen depth fs t q (l, 0) place w found in
     record {
       depth = depth;

@@ -109,14 +109,14 @@ IsPlain (checking f so_far tests) = ⊥
 IsPlain (has t v) = ⊥
 IsPlain _ = Unit {0}
 
-module _ (order : Order) (fetched : List ℕ) (code : List Instr) (table : Table) (h : Home) (own limit : ℕ) (noted : List Item) (target : List ℕ → Read) where
+module _ (order : Order) (fetched : List ℕ) (code : List Instr) (table : Table) (h : Home) (own limit : ℕ) (noted : List Item) (direct : ℕ) (target : List ℕ → Read) where
   pub plain_good : (p : Point) → IsPlain p → (s : State) (depth : ℕ) (fs : List Around) (seen : List EntryAt) (names : Names)
       → Within code table h own limit seen depth fs (type_of p) (parts_of s) → Spot code table h s.max depth s.pc p → s.phase ≡ phase_at p → HasRegisters p s → length fetched ≡ s.at + held p → Holds order fetched s.at p
-      → Told noted order fetched h seen names s.cells s.numbers s.max_at (length s.nodes) (half_at p s.at)
+      → Told noted direct order fetched h seen names s.cells s.numbers s.max_at (length s.nodes) (half_at p s.at)
       → ((later : List ℕ)
       → finish order (fetched ++ later) table h s.max depth fs (read_at order (fetched ++ later) table h s.max depth p (length (nodes_around fs)) (going s.at seen) names)
       ≡ target (fetched ++ later))
-      → Good order fetched code table h own limit noted target s
+      → Good order fetched code table h own limit noted direct target s
   plain_good (hoisting t) u s depth fs seen names w spot phase tag reached holds told rest = absurd u
   plain_good (counting t) u s depth fs seen names w spot phase tag reached holds told rest = absurd u
   plain_good (called t) u s depth fs seen names w spot phase tag reached holds told rest = absurd u
@@ -207,7 +207,7 @@ module _ (code : List Instr) (table : Table) where
 
 -- ## The decoder is sent to the place run of a type that is due
 
-module _ (order : Order) (fetched : List ℕ) (code : List Instr) (values : List EnumList) (table : Table) (h : Home) (own limit : ℕ) (noted : List Item) (target : List ℕ → Read) (planned : IsPlanned code values table) where
+module _ (order : Order) (fetched : List ℕ) (code : List Instr) (values : List EnumList) (table : Table) (h : Home) (own limit : ℕ) (noted : List Item) (direct : ℕ) (target : List ℕ → Read) (planned : IsPlanned code values table) where
   one_gap : (at : ℕ) → gap at 1 ≡ 0
   one_gap at = omega arith
 
@@ -222,31 +222,31 @@ module _ (order : Order) (fetched : List ℕ) (code : List Instr) (values : List
       passed order octets m at seen r ∙ ap (λ a. going a (seen ++ record { at = at; entry = m } ∷ [])) z
 
   module _ (s : State) (k : ℕ) (fs : List Around) (seen : List EntryAt) (names : Names) (t : ℕ) (d : TypeDef) (fine : IsDue (IsFine table k) table t) (e : type_at table t ≡ Some d) (phase : s.phase ≡ begun)
-      (w : Within code table h own limit seen (suc k) fs t (parts_of s)) (told : Told noted order fetched h seen names s.cells s.numbers s.max_at (length s.nodes) []) (reached : length fetched ≡ s.at)
+      (w : Within code table h own limit seen (suc k) fs t (parts_of s)) (told : Told noted direct order fetched h seen names s.cells s.numbers s.max_at (length s.nodes) []) (reached : length fetched ≡ s.at)
       (rest : (later : List ℕ) → finish order (fetched ++ later) table h s.max (suc k) fs
       (read_in_place order (fetched ++ later) table h (suc k) s.max t (length (nodes_around fs)) (going s.at seen) names) ≡ target (fetched ++ later)) where
     at_zero : length fetched ≡ s.at + 0
     at_zero = omega (arith, reached)
 
-    by_entrance : Entrance code table s.pc t d → Good order fetched code table h own limit noted target s
+    by_entrance : Entrance code table s.pc t d → Good order fetched code table h own limit noted direct target s
     by_entrance (ungapped ea run) =
-        plain_good order fetched code table h own limit noted target (opened t d) tt s (suc k) fs seen names w (fine, e, run) phase tt at_zero tt told
+        plain_good order fetched code table h own limit noted direct target (opened t d) tt s (suc k) fs seen names w (fine, e, run) phase tt at_zero tt told
         (λ later.
         ap (finish order (fetched ++ later) table h s.max (suc k) fs)
         (sym (due_opens order (fetched ++ later) table h s.max k t (length (nodes_around fs)) d (going s.at seen) names e
         ∙ ap (λ g. read_at order (fetched ++ later) table h s.max (suc k) (opened t d) (length (nodes_around fs)) (past_gap order (fetched ++ later) table h (length (nodes_around fs)) g (going s.at seen)) names) ea))
         ∙ rest later)
     by_entrance (gapped a ea (inr run)) =
-        plain_good order fetched code table h own limit noted target (due t) tt s (suc k) fs seen names w (fine, (a, (d, e, ea, run))) phase tt at_zero tt told rest
+        plain_good order fetched code table h own limit noted direct target (due t) tt s (suc k) fs seen names w (fine, (a, (d, e, ea, run))) phase tt at_zero tt told rest
     by_entrance (gapped a ea (inl (one, run))) =
         let n : ℕ = length (nodes_around fs) in
         let x : EntryAt = record { at = s.at; entry = record { home = h; node = n; kind = Align 1 } } in
         let z : s.at + gap s.at 1 ≡ s.at = let g : gap s.at 1 ≡ 0 = one_gap s.at in omega (arith, g) in
         let lies : Lies (fetched ++ []) x = omega (arith, z, reached, length-append fetched []) in
-        plain_good order fetched code table h own limit noted target (opened t d) tt s (suc k) fs (seen ++ x ∷ []) names (within_passed code table h own limit seen (suc k) fs t (parts_of s) x (λ a n l. silent a h n x tt) w) (fine, e, run) phase tt at_zero tt
-        (subst (λ ns. Told ns order fetched h (seen ++ x ∷ []) names s.cells s.numbers s.max_at (length s.nodes) []) (append-nil noted)
-        (subst (λ f. Told (noted ++ []) order f h (seen ++ x ∷ []) names s.cells s.numbers s.max_at (length s.nodes) []) (append-nil fetched)
-        (told_passed [] order fetched [] h seen names s.cells s.numbers s.max_at (length s.nodes) [] x (items_it order fetched [] [] s.at reached x.entry seen (one_gap s.at)) tt tt lies told)))
+        plain_good order fetched code table h own limit noted direct target (opened t d) tt s (suc k) fs (seen ++ x ∷ []) names (within_passed code table h own limit seen (suc k) fs t (parts_of s) x (λ a n l. silent a h n x tt) w) (fine, e, run) phase tt at_zero tt
+        (subst (λ ns. Told ns direct order fetched h (seen ++ x ∷ []) names s.cells s.numbers s.max_at (length s.nodes) []) (append-nil noted)
+        (subst (λ f. Told (noted ++ []) direct order f h (seen ++ x ∷ []) names s.cells s.numbers s.max_at (length s.nodes) []) (append-nil fetched)
+        (told_passed [] order fetched [] h seen names s.cells s.numbers s.max_at (length s.nodes) [] x (items_it order fetched [] [] s.at reached x.entry seen (one_gap s.at)) tt tt refl lies told)))
         (λ later.
         let within : s.at ≤ length (fetched ++ later) = omega (arith, reached, length-append fetched later) in
         ap (finish order (fetched ++ later) table h s.max (suc k) fs)
@@ -256,10 +256,10 @@ module _ (order : Order) (fetched : List ℕ) (code : List Instr) (values : List
         ∙ rest later)
 
   pub arrives : (s : State) (depth : ℕ) (fs : List Around) (seen : List EntryAt) (names : Names) (t : ℕ) → IsFine table depth t → s.pc ≡ place_at table t → s.phase ≡ begun
-      → Within code table h own limit seen depth fs t (parts_of s) → Told noted order fetched h seen names s.cells s.numbers s.max_at (length s.nodes) [] → length fetched ≡ s.at
+      → Within code table h own limit seen depth fs t (parts_of s) → Told noted direct order fetched h seen names s.cells s.numbers s.max_at (length s.nodes) [] → length fetched ≡ s.at
       → ((later : List ℕ) → finish order (fetched ++ later) table h s.max depth fs
       (read_in_place order (fetched ++ later) table h depth s.max t (length (nodes_around fs)) (going s.at seen) names) ≡ target (fetched ++ later))
-      → Good order fetched code table h own limit noted target s
+      → Good order fetched code table h own limit noted direct target s
   arrives s zero fs seen names t fine ep phase w told reached rest = absurd fine
   arrives s (suc k) fs seen names t fine ep phase w told reached rest =
       by_entrance s k fs seen names t fine.of fine fine.is_there phase w told reached rest

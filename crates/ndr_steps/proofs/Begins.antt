@@ -22,8 +22,8 @@ use Rattle.ndr_steps.specs.Steps.{State}
 use Rattle.ndr_steps.specs.Good.{Kept, Good, IsBegun, due_member}
 use Rattle.ndr_steps.proofs.Arriving.{Within, parts_of, arrives}
 
-module _ (order : Order) (fetched : List ℕ) (code : List Instr) (values : List EnumList) (table : Table) (h : Home) (own : ℕ) (noted : List Item) (planned : IsPlanned code values table) (s : State) (seen : List EntryAt) (names : Names)
-    (fine : IsFine table 32 own) (begins : IsBegun noted order fetched h seen names s) where
+module _ (order : Order) (fetched : List ℕ) (code : List Instr) (values : List EnumList) (table : Table) (h : Home) (own : ℕ) (noted : List Item) (direct : ℕ) (planned : IsPlanned code values table) (s : State) (seen : List EntryAt) (names : Names)
+    (fine : IsFine table 32 own) (begins : IsBegun noted direct order fetched h seen names s) where
   abbrev target : List ℕ → Read
   target octets = read_whole order octets table h own (going s.at seen) names
 
@@ -52,14 +52,14 @@ module _ (order : Order) (fetched : List ℕ) (code : List Instr) (values : List
       nothing_yet : length s.firsts + due_member s.top ≡ length s.members
       nothing_yet = ap (λ xs. length xs + due_member s.top) begins.firsts ∙ ap (λ t. 0 + due_member t) begins.top ∙ ap length (sym begins.members)
 
-  pub begins_plain : hoists table own ≡ false → s.pc ≡ place_at table own → Good order fetched code table h own 32 noted target s
+  pub begins_plain : hoists table own ≡ false → s.pc ≡ place_at table own → Good order fetched code table h own 32 noted direct target s
   begins_plain plain at_pc =
-      arrives order fetched code values table h own 32 noted target planned s 32 [] seen names own fine at_pc begins.phase within begins.told begins.reached
+      arrives order fetched code values table h own 32 noted direct target planned s 32 [] seen names own fine at_pc begins.phase within begins.told begins.reached
       (λ later.
       ap (λ m. read_in_place order (fetched ++ later) table h 32 m own 0 (going s.at seen) names) begins.max
       ∙ sym (ap (λ b. read_hoisted order (fetched ++ later) table h b own (going s.at seen) names) plain))
 
-  pub begins_hoisting : hoists table own ≡ true → IsRunAt code s.pc (op.Hoist ∷ op.Call (place_at table own) ∷ op.Ret ∷ []) → Good order fetched code table h own 32 noted target s
+  pub begins_hoisting : hoists table own ≡ true → IsRunAt code s.pc (op.Hoist ∷ op.Call (place_at table own) ∷ op.Ret ∷ []) → Good order fetched code table h own 32 noted direct target s
   begins_hoisting hoisted run = record {
     depth = 32;
     fs = [];

@@ -47,7 +47,7 @@ use Rattle.ndr_steps.proofs.Adding.{stop_by}
 use Rattle.ndr_steps.proofs.MemberChecks.{first_number_is, owing_is, SameFound, found_is, get_behind, past_end, at_end, there, number_past, tree_there, member_at, member_is, joined_none, other_joins, pointer_joins}
 
 -- a struct all of whose members were read
-pub record AllRead (noted : List Item) (order : Order) (fetched : List ℕ) (code : List Instr) (table : Table) (h : Home) (own limit : ℕ) (k : ℕ) (fs : List Around) (f : Around) (members : List Field) (seen : List EntryAt) (names : Names) (s : State) : Type 0 where
+pub record AllRead (noted : List Item) (direct : ℕ) (order : Order) (fetched : List ℕ) (code : List Instr) (table : Table) (h : Home) (own limit : ℕ) (k : ℕ) (fs : List Around) (f : Around) (members : List Field) (seen : List EntryAt) (names : Names) (s : State) : Type 0 where
   pub deep : suc k + length fs ≡ limit
   pub phase : s.phase ≡ begun
   pub is : IsStruct code table f [] members []
@@ -69,7 +69,7 @@ pub record AllRead (noted : List Item) (order : Order) (fetched : List ℕ) (cod
   pub many : length s.firsts + 0 ≡ length s.members
   pub kept : KeptAll h seen s.max_at s.nodes s.members s.firsts
   pub first : KeptOwn h seen s.max_at s.nodes s.own
-  pub told : Told noted order fetched h seen names s.cells s.numbers s.max_at (length s.nodes) []
+  pub told : Told noted direct order fetched h seen names s.cells s.numbers s.max_at (length s.nodes) []
   pub reached : length fetched ≡ s.at
 
 -- how an agreement is judged, by whether it holds
@@ -95,8 +95,8 @@ shaped_at table [] u vs (more y xs) x ys e a = absurd (omega (arith, e))
 shaped_at table (w ∷ us) u vs none x ys e a = absurd (omega (arith, e))
 shaped_at table (w ∷ us) u vs (more y xs) x ys e a = shaped_at table us u vs xs x ys (omega (arith, e)) a.1
 
-module _ (order : Order) (fetched : List ℕ) (code : List Instr) (values : List EnumList) (table : Table) (h : Home) (own limit : ℕ) (noted : List Item) (target : List ℕ → Read)
-    (s : State) (k : ℕ) (fs : List Around) (f : Around) (members : List Field) (seen : List EntryAt) (names : Names) (all : AllRead noted order fetched code table h own limit k fs f members seen names s) where
+module _ (order : Order) (fetched : List ℕ) (code : List Instr) (values : List EnumList) (table : Table) (h : Home) (own limit : ℕ) (noted : List Item) (direct : ℕ) (target : List ℕ → Read)
+    (s : State) (k : ℕ) (fs : List Around) (f : Around) (members : List Field) (seen : List EntryAt) (names : Names) (all : AllRead noted direct order fetched code table h own limit k fs f members seen names s) where
   abbrev ps : ℕ
   ps = length (pointers_around table h fs)
 
@@ -211,7 +211,7 @@ module _ (order : Order) (fetched : List ℕ) (code : List Instr) (values : List
     tests_with ws = own_tests (is_pointer l) h number x ws ++ others
 
     abbrev Right : Outcome → Type 0
-    Right o = IsRight order fetched code table h own limit noted target s.at seen o
+    Right o = IsRight order fetched code table h own limit noted direct target s.at seen o
 
     -- the step is the one of this member
     outcome_is : check_in s.top a.attr (length done) a.var s ≡ checked agreed (Some (record { node = number; pending = ps + length (pointers table h (types_of done) (f.node + 1) xs) })) (Some kept_there.w) s
@@ -232,10 +232,10 @@ module _ (order : Order) (fetched : List ℕ) (code : List Instr) (values : List
 
       -- the state at the next check
       next_good : (seen' : List EntryAt) (fresh : List Owed) → KeptAll h seen' s.max_at s.nodes s.members s.firsts → KeptOwn h seen' s.max_at s.nodes s.own
-          → Told noted order fetched h seen' names s.cells s.numbers s.max_at (length s.nodes) [] → there_all fresh
+          → Told noted direct order fetched h seen' names s.cells s.numbers s.max_at (length s.nodes) [] → there_all fresh
           → ((after : List ℕ) → finish order (fetched ++ after) table h s.max (suc k) fs
           (tried order (fetched ++ after) table h f f.done (tests_with (member_agreements f.done left)) (going s.at seen') names) ≡ target (fetched ++ after))
-          → Good order fetched code table h own limit noted target (next (with_fresh fresh s))
+          → Good order fetched code table h own limit noted direct target (next (with_fresh fresh s))
       next_good seen' fresh kept first told owes' rest' = record {
         depth = suc k;
         fs = fs;
@@ -318,9 +318,9 @@ module _ (order : Order) (fetched : List ℕ) (code : List Instr) (values : List
           next_good (seen ++ t ∷ []) s.fresh
           (λ i m w c b. kept_passed h seen s.max_at s.nodes m.node w t (λ q. silent q h m.node t tt) (all.kept i m w c b))
           (all.first.0, all.first.1, kept_passed h seen s.max_at s.nodes 0 all.first.0 t (λ q. silent q h 0 t tt) all.first.2)
-          (subst (λ ns. Told ns order fetched h (seen ++ t ∷ []) names s.cells s.numbers s.max_at (length s.nodes) []) (append-nil noted)
-          (subst (λ os. Told (noted ++ []) order os h (seen ++ t ∷ []) names s.cells s.numbers s.max_at (length s.nodes) []) (append-nil fetched)
-          (told_passed [] order fetched [] h seen names s.cells s.numbers s.max_at (length s.nodes) [] t refl tt tt lies all.told)))
+          (subst (λ ns. Told ns direct order fetched h (seen ++ t ∷ []) names s.cells s.numbers s.max_at (length s.nodes) []) (append-nil noted)
+          (subst (λ os. Told (noted ++ []) direct order os h (seen ++ t ∷ []) names s.cells s.numbers s.max_at (length s.nodes) []) (append-nil fetched)
+          (told_passed [] order fetched [] h seen names s.cells s.numbers s.max_at (length s.nodes) [] t refl tt tt refl lies all.told)))
           (stays e)
           (λ after.
           ap (finish order (fetched ++ after) table h s.max (suc k) fs)

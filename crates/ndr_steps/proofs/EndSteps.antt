@@ -108,12 +108,12 @@ module _ (table : Table) (h : Home) where
       (ap₂ (λ u n. pointers table h f.before (f.node + 1) f.done ++ pointers table h (u ∷ []) n (more v none)) et (before_child f fs numbered)
       ∙ sym (pointers_moved table h f.before f.child (f.node + 1) f.done v many))
 
-module _ (order : Order) (fetched : List ℕ) (code : List Instr) (values : List EnumList) (table : Table) (h : Home) (own limit : ℕ) (noted : List Item) (target : List ℕ → Read) (planned : IsPlanned code values table) where
+module _ (order : Order) (fetched : List ℕ) (code : List Instr) (values : List EnumList) (table : Table) (h : Home) (own limit : ℕ) (noted : List Item) (direct : ℕ) (target : List ℕ → Read) (planned : IsPlanned code values table) where
   abbrev Right : ℕ → List EntryAt → Outcome → Type 0
-  Right at seen o = IsRight order fetched code table h own limit noted target at seen o
+  Right at seen o = IsRight order fetched code table h own limit noted direct target at seen o
 
   module _ (s : State) (seen : List EntryAt) (names : Names) (t : ℕ) (v : Tree) (kept : KeptAll h seen s.max_at s.nodes s.members s.firsts) (first : KeptOwn h seen s.max_at s.nodes s.own)
-      (many : length s.firsts + 0 ≡ length s.members) (told : Told noted order fetched h seen names s.cells s.numbers s.max_at (length s.nodes) []) (reached : length fetched ≡ s.at) where
+      (many : length s.firsts + 0 ≡ length s.members) (told : Told noted direct order fetched h seen names s.cells s.numbers s.max_at (length s.nodes) []) (reached : length fetched ≡ s.at) where
     -- `ret` after the home's own value
     pub end_right : s.top ≡ frame.Home → s.nodes ≡ flat (more v none) → t ≡ own → s.fresh ≡ map (owed table) (pointers table h (t ∷ []) 0 (more v none))
         → ((later : List ℕ) → record { tree = v; progress = going s.at seen; names = names } ≡ target (fetched ++ later)) → Right s.at seen (back_to s.top s)
@@ -204,7 +204,7 @@ module _ (order : Order) (fetched : List ℕ) (code : List Instr) (values : List
           ∙ sym (nodes_moved f fs v (1 + length (replicate left c))) in
           let here_it : f.next + tree_nodes v ≡ length (nodes_around (g ∷ fs)) =
           ap (λ j. j + tree_nodes v) numbered.1 ∙ sym (length_more (nodes_around (f ∷ fs)) v) ∙ ap length same in
-          arrives order fetched code values table h own limit noted target planned (jumped run (next_frame left run back)) k (g ∷ fs) seen names c fine.0 er refl
+          arrives order fetched code values table h own limit noted direct target planned (jumped run (next_frame left run back)) k (g ∷ fs) seen names c fine.0 er refl
           (record {
             deep = deeper k (length fs) limit deep;
             inside = (is, (outer, (under, es, inside)));

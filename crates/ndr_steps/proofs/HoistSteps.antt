@@ -34,6 +34,7 @@ use Rattle.ndr_steps.specs.Spots.{IsFine, IsPlanned}
 use Rattle.ndr_steps.specs.Steps.{State, Outcome, goes, begun, gap_read, past, done_after, with_max, call_from, place_of, no_place}
 use Rattle.ndr_steps.specs.Good.{Told, Kept, Good, IsRight, place_at as place_of_node}
 use Rattle.ndr_steps.specs.StepItems.{item_here, gap_items, count_items}
+use Rattle.ndr_steps.proofs.CountedCells.{none_named}
 use Rattle.ndr_steps.proofs.Passing.{items_it, gap_noted, noted_joined, onward, no_less, silent, told_passed, known_joined, lie_joined, lie_longer, judged, taken_it, lies_it, same_homes, tested_now, tested_passed}
 use Rattle.ndr_steps.proofs.Arriving.{Within, parts_of, within_passed, arrives}
 use Rattle.ndr_steps.proofs.Adding.{stop_by, Stops}
@@ -58,11 +59,11 @@ module _ (order : Order) (octets : List ℕ) (table : Table) (h : Home) (m at : 
       (ap (λ p. (read_in_place order octets table h 32 v t 0 p names).progress) (stops_at order octets e at seen why r)
       ∙ in_place_stays order octets table h at seen why 32 v t 0 names) rest
 
-module _ (order : Order) (fetched os : List ℕ) (code : List Instr) (values : List EnumList) (table : Table) (h : Home) (own limit : ℕ) (noted : List Item) (target : List ℕ → Read) (planned : IsPlanned code values table)
+module _ (order : Order) (fetched os : List ℕ) (code : List Instr) (values : List EnumList) (table : Table) (h : Home) (own limit : ℕ) (noted : List Item) (direct : ℕ) (target : List ℕ → Read) (planned : IsPlanned code values table)
     (s : State) (seen : List EntryAt) (names : Names) (t : ℕ) (fine : IsFine table 32 t) (w : Within code table h own limit seen 32 [] t (parts_of s)) (reached : length fetched ≡ s.at)
-    (run : IsRunAt code s.pc (op.Hoist ∷ op.Call (place_at table t) ∷ op.Ret ∷ [])) (told : Told noted order fetched h seen names s.cells s.numbers s.max_at (length s.nodes) []) (no_max : s.max_at ≡ None) where
+    (run : IsRunAt code s.pc (op.Hoist ∷ op.Call (place_at table t) ∷ op.Ret ∷ [])) (told : Told noted direct order fetched h seen names s.cells s.numbers s.max_at (length s.nodes) []) (no_max : s.max_at ≡ None) where
   abbrev Right : List Item → Outcome → Type 0
-  Right news o = IsRight order (fetched ++ os) code table h own limit (noted ++ news) target s.at seen o
+  Right news o = IsRight order (fetched ++ os) code table h own limit (noted ++ news) direct target s.at seen o
 
   further : (size : ℕ) → length os ≡ size → length (fetched ++ os) ≡ s.at + size
   further size e = let l : length (fetched ++ os) ≡ length fetched + length os = length-append fetched os in omega (arith, l, reached, e)
@@ -99,7 +100,7 @@ module _ (order : Order) (fetched os : List ℕ) (code : List Instr) (values : L
         reached = let r : length (fetched ++ os) ≡ s.at + length os = further (length os) refl in omega (arith, r);
         holds = tt;
         told = told_passed (gap_items h s.at os) order fetched os h seen names s.cells s.numbers s.max_at (length s.nodes) [] x
-            (items_it order fetched os [] s.at reached m seen (sym size) ∙ gap_noted order h 0 4 s.at os (sym size)) tt tt (lies_it order fetched os [] s.at reached m seen (sym size)) told;
+            (items_it order fetched os [] s.at reached m seen (sym size) ∙ gap_noted order h 0 4 s.at os (sym size)) tt tt refl (lies_it order fetched os [] s.at reached m seen (sym size)) told;
         rest = λ later.
             let octets : List ℕ = (fetched ++ os) ++ later in
             let r : refusal order octets seen x ≡ None = judged order fetched os later s.at reached m seen (sym size) refl in
@@ -141,6 +142,7 @@ module _ (order : Order) (fetched os : List ℕ) (code : List Instr) (values : L
           noted_are = noted_joined order fetched os seen x noted (count_items order h os item.Max s) told.lie_within
               (items_it order fetched os [] s.at reached x.entry seen (sym size) ∙ ap (λ j. item_here h s.at item.Max 4 (pos (unsigned order os)) j ∷ []) (sym (ap length w.nodes))) told.noted_are;
           cells_are = told.cells_are;
+          cells_named = none_named seen s.numbers (length s.cells) direct told.cells_named x refl;
           numbers_are = λ u p. known_joined order fetched os seen names x told.lie_within u (λ to. refl) _ (told.numbers_are u p);
           ahead = ahead;
           lie_within = lie_joined (fetched ++ os) seen x (lie_longer fetched os seen told.lie_within) (lies_it order fetched os [] s.at reached x.entry seen (sym size));
@@ -182,14 +184,14 @@ module _ (order : Order) (fetched os : List ℕ) (code : List Instr) (values : L
       ahead attr.Switch j = tested_passed seen x attr.Switch h (length s.nodes + j) refl ∙ none_yet attr.Switch j refl
 
 -- the call of a home's value
-pub jump_right : (order : Order) (fetched : List ℕ) (code : List Instr) (values : List EnumList) (table : Table) (h : Home) (own limit : ℕ) (noted : List Item) (target : List ℕ → Read) → IsPlanned code values table
+pub jump_right : (order : Order) (fetched : List ℕ) (code : List Instr) (values : List EnumList) (table : Table) (h : Home) (own limit : ℕ) (noted : List Item) (direct : ℕ) (target : List ℕ → Read) → IsPlanned code values table
     → (s : State) (depth : ℕ) (seen : List EntryAt) (names : Names) (t : ℕ) → IsFine table depth t → Within code table h own limit seen depth [] t (parts_of s) → length fetched ≡ s.at
-    → Told noted order fetched h seen names s.cells s.numbers s.max_at (length s.nodes) []
+    → Told noted direct order fetched h seen names s.cells s.numbers s.max_at (length s.nodes) []
     → ((later : List ℕ) → finish order (fetched ++ later) table h s.max depth [] (read_in_place order (fetched ++ later) table h depth s.max t 0 (going s.at seen) names) ≡ target (fetched ++ later))
-    → IsRight order fetched code table h own limit noted target s.at seen (goes (call_from s.top (place_at table t) s))
-jump_right order fetched code values table h own limit noted target planned s depth seen names t fine w reached told rest =
-    subst (λ x. IsRight order fetched code table h own limit noted target s.at seen (goes (call_from x (place_at table t) s))) (sym w.inside.0)
-    (arrives order fetched code values table h own limit noted target planned (call_from frame.Home (place_at table t) s) depth [] seen names t fine refl refl
+    → IsRight order fetched code table h own limit noted direct target s.at seen (goes (call_from s.top (place_at table t) s))
+jump_right order fetched code values table h own limit noted direct target planned s depth seen names t fine w reached told rest =
+    subst (λ x. IsRight order fetched code table h own limit noted direct target s.at seen (goes (call_from x (place_at table t) s))) (sym w.inside.0)
+    (arrives order fetched code values table h own limit noted direct target planned (call_from frame.Home (place_at table t) s) depth [] seen names t fine refl refl
     (record {
       deep = w.deep;
       inside = w.inside;

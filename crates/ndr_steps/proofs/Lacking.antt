@@ -262,9 +262,9 @@ module _ (order : Order) (fetched : List ℕ) (code : List Instr) (values : List
   point_next depth fs (has t v) spot fits phase rest = end_next spot.0
 
 -- where octets are wanted those fetched end where the state is
-pub wanting : (order : Order) (fetched : List ℕ) (code : List Instr) (values : List EnumList) (table : Table) (h : Home) (own limit : ℕ) (noted : List Item) (target : List ℕ → Read) (s : State) (i : Instr) (g : Good order fetched code table h own limit noted target s)
+pub wanting : (order : Order) (fetched : List ℕ) (code : List Instr) (values : List EnumList) (table : Table) (h : Home) (own limit : ℕ) (noted : List Item) (direct : ℕ) (target : List ℕ → Read) (s : State) (i : Instr) (g : Good order fetched code table h own limit noted direct target s)
     → slice_get code s.pc ≡ Some i → (wants values i s ≡ no_octets) ⊎ (length fetched ≡ s.at)
-wanting order fetched code values table h own limit noted target s i g at_pc = by_point g.point g.depth g.spot g.reached
+wanting order fetched code values table h own limit noted direct target s i g at_pc = by_point g.point g.depth g.spot g.reached
   where
     first_is : (j : Instr) (is : List Instr) → IsRunAt code s.pc (j ∷ is) → wants values j s ≡ no_octets → wants values i s ≡ no_octets
     first_is j is run e = ap (λ k. wants values k s) (sym (same_Some j i (sym (first_at code s.pc j is run) ∙ at_pc))) ∙ e
@@ -291,8 +291,8 @@ wanting order fetched code values table h own limit noted target s i g at_pc = b
 less_is : (a b : ℕ) → a < b → ltb a b ≡ true
 less_is a b l = grind (arith, nat_tests)
 
-module _ (order : Order) (fetched : List ℕ) (code : List Instr) (values : List EnumList) (table : Table) (h : Home) (own limit : ℕ) (noted : List Item) (target : List ℕ → Read) (planned : IsPlanned code values table)
-    (s : State) (g : Good order fetched code table h own limit noted target s) (i : Instr) (at_pc : slice_get code s.pc ≡ Some i) where
+module _ (order : Order) (fetched : List ℕ) (code : List Instr) (values : List EnumList) (table : Table) (h : Home) (own limit : ℕ) (noted : List Item) (direct : ℕ) (target : List ℕ → Read) (planned : IsPlanned code values table)
+    (s : State) (g : Good order fetched code table h own limit noted direct target s) (i : Instr) (at_pc : slice_get code s.pc ≡ Some i) where
   next_is : Next order fetched g.seen s.at target (wants values i s)
   next_is = point_next order fetched code values table h target planned s i at_pc g.seen g.names g.depth g.fs g.point g.spot g.fits g.phase g.rest
 
@@ -308,7 +308,7 @@ module _ (order : Order) (fetched : List ℕ) (code : List Instr) (values : List
 
   -- fewer octets came than are wanted, before the source ended
   pub cut_right : (os : List ℕ) → IsCut (wants values i s) os s.at → (target (fetched ++ os)).progress ≡ stopped s.at g.seen (length (fetched ++ os), Truncated)
-  cut_right os c = by_reached (wanting order fetched code values table h own limit noted target s i g at_pc)
+  cut_right os c = by_reached (wanting order fetched code values table h own limit noted direct target s i g at_pc)
     where
       by_want : (x : Want) → Next order fetched g.seen s.at target x → IsCut x os s.at → length fetched ≡ s.at → (target (fetched ++ os)).progress ≡ stopped s.at g.seen (length (fetched ++ os), Truncated)
       by_want no_octets w c r = absurd c
@@ -321,7 +321,7 @@ module _ (order : Order) (fetched : List ℕ) (code : List Instr) (values : List
 
   -- an item would end past the limit of a stream
   pub long_right : IsTooLong (wants values i s) s.at → (later : List ℕ) → (target (fetched ++ later)).progress ≡ stopped s.at g.seen (STREAM_LIMIT, TooLong)
-  long_right c later = by_reached (wanting order fetched code values table h own limit noted target s i g at_pc)
+  long_right c later = by_reached (wanting order fetched code values table h own limit noted direct target s i g at_pc)
     where
       at_limit : (n : ℕ) → Wanted order fetched g.seen s.at target n (ltb STREAM_LIMIT (s.at + n)) → STREAM_LIMIT < s.at + n → length fetched ≡ s.at → (target (fetched ++ later)).progress ≡ stopped s.at g.seen (STREAM_LIMIT, TooLong)
       at_limit n w past r =

@@ -1,3 +1,4 @@
+pub mod CountedCells
 pub mod Passing
 pub mod Arriving
 pub mod Adding
@@ -18,3 +19,4 @@ pub mod Begins
 pub mod Worked
 pub mod Bounds
 mod Alignments
+pub mod ChunkBegins

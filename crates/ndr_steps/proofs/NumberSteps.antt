@@ -79,13 +79,13 @@ module _ (order : Order) (octets : List ℕ) (table : Table) (h : Home) (k m : �
       ∙ ap (λ p. read_at order octets table h m (suc k') (opened t d) n p names) (stops_at order octets x at seen why r))
       ∙ after_gap_stays order octets table h at seen why k' m t (Some d) n names)) rest
 
-module _ (order : Order) (fetched os : List ℕ) (code : List Instr) (values : List EnumList) (table : Table) (h : Home) (own limit : ℕ) (noted : List Item) (target : List ℕ → Read) where
+module _ (order : Order) (fetched os : List ℕ) (code : List Instr) (values : List EnumList) (table : Table) (h : Home) (own limit : ℕ) (noted : List Item) (direct : ℕ) (target : List ℕ → Read) where
   abbrev Right : List Item → ℕ → List EntryAt → Outcome → Type 0
-  Right news at seen o = IsRight order (fetched ++ os) code table h own limit (noted ++ news) target at seen o
+  Right news at seen o = IsRight order (fetched ++ os) code table h own limit (noted ++ news) direct target at seen o
 
   -- `align`: the gap before a value
   pub gap_right : (s : State) (k : ℕ) (fs : List Around) (seen : List EntryAt) (names : Names) (t a : ℕ) (d : TypeDef) → IsDue (IsFine table k) table t → type_at table t ≡ Some d → gap_of table t (Some d) ≡ Some a
-      → IsRunAt code s.pc (op.Align a ∷ body_run code table t d) → Within code table h own limit seen (suc k) fs t (parts_of s) → Told noted order fetched h seen names s.cells s.numbers s.max_at (length s.nodes) []
+      → IsRunAt code s.pc (op.Align a ∷ body_run code table t d) → Within code table h own limit seen (suc k) fs t (parts_of s) → Told noted direct order fetched h seen names s.cells s.numbers s.max_at (length s.nodes) []
       → length fetched ≡ s.at → length os ≡ gap s.at a
       → ((later : List ℕ) → finish order (fetched ++ later) table h s.max (suc k) fs
       (read_in_place order (fetched ++ later) table h (suc k) s.max t (length (nodes_around fs)) (going s.at seen) names) ≡ target (fetched ++ later))
@@ -94,13 +94,13 @@ module _ (order : Order) (fetched os : List ℕ) (code : List Instr) (values : L
       let n : ℕ = length (nodes_around fs) in
       let m : Entry = record { home = h; node = n; kind = Align a } in
       let x : EntryAt = record { at = s.at; entry = m } in
-      plain_good order (fetched ++ os) code table h own limit (noted ++ gap_items h s.at os) target (opened t d) tt (done_after (length os) s) (suc k) fs (seen ++ x ∷ []) names
+      plain_good order (fetched ++ os) code table h own limit (noted ++ gap_items h s.at os) direct target (opened t d) tt (done_after (length os) s) (suc k) fs (seen ++ x ∷ []) names
       (within_passed code table h own limit seen (suc k) fs t (parts_of s) x (λ c j l. silent c h j x tt) w)
       (fine, e, next_at code s.pc (op.Align a) (body_run code table t d) run) refl tt
       (let l : length (fetched ++ os) ≡ length fetched + length os = length-append fetched os in omega (arith, l, reached))
       tt
       (told_passed (gap_items h s.at os) order fetched os h seen names s.cells s.numbers s.max_at (length s.nodes) [] x
-      (items_it order fetched os [] s.at reached m seen (sym size) ∙ gap_noted order h n a s.at os (sym size)) tt tt (lies_it order fetched os [] s.at reached m seen (sym size)) told)
+      (items_it order fetched os [] s.at reached m seen (sym size) ∙ gap_noted order h n a s.at os (sym size)) tt tt refl (lies_it order fetched os [] s.at reached m seen (sym size)) told)
       (λ later.
       let octets : List ℕ = (fetched ++ os) ++ later in
       let r : refusal order octets seen x ≡ None = judged order fetched os later s.at reached m seen (sym size) refl in
@@ -113,7 +113,7 @@ module _ (order : Order) (fetched os : List ℕ) (code : List Instr) (values : L
 
   -- `num` and `enum`: the octets of a primitive
   pub number_right : (s : State) (depth : ℕ) (fs : List Around) (seen : List EntryAt) (names : Names) (t : ℕ) (i : Instr) (p : Primitive) (zs : Option (List ℤ))
-      → Within code table h own limit seen depth fs t (parts_of s) → Told noted order fetched h seen names s.cells s.numbers s.max_at (length s.nodes) [] → length fetched ≡ s.at
+      → Within code table h own limit seen depth fs t (parts_of s) → Told noted direct order fetched h seen names s.cells s.numbers s.max_at (length s.nodes) [] → length fetched ≡ s.at
       → IsRunAt code s.pc (i ∷ op.Ret ∷ []) → ((z : ℤ) → pointers table h (t ∷ []) (length (nodes_around fs)) (more (node (tree.Num z) none) none) ≡ [])
       → length os ≡ width p → s.at + width p ≤ STREAM_LIMIT
       → ((later : List ℕ) → finish order (fetched ++ later) table h s.max depth fs
@@ -150,10 +150,10 @@ module _ (order : Order) (fetched os : List ℕ) (code : List Instr) (values : L
       by_test false e = λ later.
           (number_next order ((fetched ++ os) ++ later) table h depth s.max fs n s.at seen names (target ((fetched ++ os) ++ later)) p zs (go_on later)) (s.at, reason.EnumValue) (judge false e later (pos 0))
       by_test true e =
-          let told' : Told (noted ++ number_items order h os p s) order (fetched ++ os) h (seen ++ x ∷ []) names s.cells s.numbers s.max_at (length s.nodes) [] =
+          let told' : Told (noted ++ number_items order h os p s) direct order (fetched ++ os) h (seen ++ x ∷ []) names s.cells s.numbers s.max_at (length s.nodes) [] =
           told_passed (number_items order h os p s) order fetched os h seen names s.cells s.numbers s.max_at (length s.nodes) [] x
-          (items_it order fetched os [] s.at reached (m z) seen (sym size) ∙ ap (λ j. item_here h s.at item.Num (width p) z j ∷ []) (sym same_count)) tt tt (lies_it order fetched os [] s.at reached (m z) seen (sym size)) told in
-          leaf_good order (fetched ++ os) code table h own limit (noted ++ number_items order h os p s) target (parts_of s) (s.pc + 1) (s.at + width p) s.max s.tag s.carrier s.fresh s.cells s.numbers (tree.Num z) None [] (seen ++ x ∷ []) names depth fs t
+          (items_it order fetched os [] s.at reached (m z) seen (sym size) ∙ ap (λ j. item_here h s.at item.Num (width p) z j ∷ []) (sym same_count)) tt tt refl (lies_it order fetched os [] s.at reached (m z) seen (sym size)) told in
+          leaf_good order (fetched ++ os) code table h own limit (noted ++ number_items order h os p s) direct target (parts_of s) (s.pc + 1) (s.at + width p) s.max s.tag s.carrier s.fresh s.cells s.numbers (tree.Num z) None [] (seen ++ x ∷ []) names depth fs t
           (within_passed code table h own limit seen depth fs t (parts_of s) x (λ a j l. silent a h j x tt) w)
           (none_found order (fetched ++ os) h (seen ++ x ∷ []) names s.cells s.numbers s.max_at (length s.nodes) [] told')
           told'
@@ -172,7 +172,7 @@ module _ (order : Order) (fetched os : List ℕ) (code : List Instr) (values : L
 
   -- `context`
   pub context_right : (s : State) (depth : ℕ) (fs : List Around) (seen : List EntryAt) (names : Names) (t : ℕ) → type_at table t ≡ Some def.Context
-      → Within code table h own limit seen depth fs t (parts_of s) → Told noted order fetched h seen names s.cells s.numbers s.max_at (length s.nodes) [] → length fetched ≡ s.at
+      → Within code table h own limit seen depth fs t (parts_of s) → Told noted direct order fetched h seen names s.cells s.numbers s.max_at (length s.nodes) [] → length fetched ≡ s.at
       → IsRunAt code s.pc (op.Context ∷ op.Ret ∷ []) → length os ≡ 20 → s.at + 20 ≤ STREAM_LIMIT
       → ((later : List ℕ) → finish order (fetched ++ later) table h s.max depth fs
       (context_after order (fetched ++ later) table h (length (nodes_around fs)) (going s.at seen) names) ≡ target (fetched ++ later))
@@ -185,10 +185,10 @@ module _ (order : Order) (fetched os : List ℕ) (code : List Instr) (values : L
       let x : EntryAt = record { at = s.at; entry = m a id } in
       let judge : (later : List ℕ) (b : ℕ) (c : List ℕ) → refusal order ((fetched ++ os) ++ later) seen (record { at = s.at; entry = m b c }) ≡ None =
       λ later b c. judged order fetched os later s.at reached (m b c) seen (sym size) (no_less STREAM_LIMIT (s.at + 20) short) in
-      let told' : Told (noted ++ next_item h s item.Context 20 (pos 0) ∷ []) order (fetched ++ os) h (seen ++ x ∷ []) names s.cells s.numbers s.max_at (length s.nodes) [] =
+      let told' : Told (noted ++ next_item h s item.Context 20 (pos 0) ∷ []) direct order (fetched ++ os) h (seen ++ x ∷ []) names s.cells s.numbers s.max_at (length s.nodes) [] =
       told_passed (next_item h s item.Context 20 (pos 0) ∷ []) order fetched os h seen names s.cells s.numbers s.max_at (length s.nodes) [] x
-      (items_it order fetched os [] s.at reached (m a id) seen (sym size) ∙ ap (λ j. item_here h s.at item.Context 20 (pos 0) j ∷ []) (sym (ap length w.nodes))) tt tt (lies_it order fetched os [] s.at reached (m a id) seen (sym size)) told in
-      leaf_good order (fetched ++ os) code table h own limit (noted ++ next_item h s item.Context 20 (pos 0) ∷ []) target (parts_of s) (s.pc + 1) (s.at + 20) s.max s.tag s.carrier s.fresh s.cells s.numbers (tree.Context a id) None [] (seen ++ x ∷ []) names depth fs t
+      (items_it order fetched os [] s.at reached (m a id) seen (sym size) ∙ ap (λ j. item_here h s.at item.Context 20 (pos 0) j ∷ []) (sym (ap length w.nodes))) tt tt refl (lies_it order fetched os [] s.at reached (m a id) seen (sym size)) told in
+      leaf_good order (fetched ++ os) code table h own limit (noted ++ next_item h s item.Context 20 (pos 0) ∷ []) direct target (parts_of s) (s.pc + 1) (s.at + 20) s.max s.tag s.carrier s.fresh s.cells s.numbers (tree.Context a id) None [] (seen ++ x ∷ []) names depth fs t
       (within_passed code table h own limit seen depth fs t (parts_of s) x (λ c j l. silent c h j x tt) w)
       (none_found order (fetched ++ os) h (seen ++ x ∷ []) names s.cells s.numbers s.max_at (length s.nodes) [] told')
       told'

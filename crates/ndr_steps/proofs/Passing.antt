@@ -17,6 +17,7 @@ use Rattle.nd_value.specs.declared.item.Home.TheVariants as home
 use Rattle.nd_value.specs.Tree.{Flat}
 use Rattle.nd_grammar.specs.declared.reason.Reason.{Reason}
 use Rattle.nd_grammar.specs.Entry.{Kind, Entry, EntryAt, size_at, gap, Align, Max, Offset, Actual, Chunk, Number, Num, Tag, Text, Context, Test, Unread}
+use Rattle.nd_grammar.specs.NextMark.{named_cell}
 use Rattle.nd_grammar.specs.Items.{items, item_at, item_of as item_in}
 use Rattle.nd_grammar.specs.Represents.{piece}
 use Rattle.nd_grammar.specs.Reader.{Names, Progress, pass, taken}
@@ -30,6 +31,7 @@ use Rattle.ndr_steps.specs.declared.first.First.{First}
 use Rattle.ndr_steps.specs.declared.first.Member.{Member}
 use Rattle.ndr_steps.specs.Steps.{Place, no_place, place_of, place_in, first_of}
 use Rattle.ndr_steps.specs.StepItems.{item_here, gap_items}
+use Rattle.ndr_steps.proofs.CountedCells.{none_named}
 use Rattle.ndr_steps.specs.Good.{Told, Kept, IsKnownAs, OwnIn, place_at}
 
 -- what holds of all octets that begin with those fetched holds of all that begin with a step's octets too
@@ -282,12 +284,13 @@ own_map [] g o = tt
 own_map (f ∷ fs) g o = g o
 
 -- an entry that is no count, no tag and no number of a full pointer
-pub told_passed : {noted : List Item} (own : List Item) (order : Order) (fetched os : List ℕ) (h : Home) (seen : List EntryAt) (names : Names) (cells : List ℕ) (numbers : List (ℕ × Known)) (max_at : Option ℕ) (n : ℕ) (half : List Place) (x : EntryAt)
-    → own_items order (fetched ++ os) x ≡ own → NoCount x.entry.kind → NotFull x.entry.kind → Lies (fetched ++ os) x → Told noted order fetched h seen names cells numbers max_at n half
-    → Told (noted ++ own) order (fetched ++ os) h (seen ++ x ∷ []) names cells numbers max_at n half
-told_passed {noted = noted} own order fetched os h seen names cells numbers max_at n half x e c f lies t = record {
+pub told_passed : {noted : List Item} {direct : ℕ} (own : List Item) (order : Order) (fetched os : List ℕ) (h : Home) (seen : List EntryAt) (names : Names) (cells : List ℕ) (numbers : List (ℕ × Known)) (max_at : Option ℕ) (n : ℕ) (half : List Place) (x : EntryAt)
+    → own_items order (fetched ++ os) x ≡ own → NoCount x.entry.kind → NotFull x.entry.kind → named_cell x.entry.kind ≡ None → Lies (fetched ++ os) x → Told noted direct order fetched h seen names cells numbers max_at n half
+    → Told (noted ++ own) direct order (fetched ++ os) h (seen ++ x ∷ []) names cells numbers max_at n half
+told_passed {noted = noted} {direct = direct} own order fetched os h seen names cells numbers max_at n half x e c f none_there lies t = record {
   noted_are = noted_joined order fetched os seen x noted own t.lie_within e t.noted_are;
   cells_are = t.cells_are;
+  cells_named = none_named seen numbers (length cells) direct t.cells_named x none_there;
   numbers_are = λ v p. known_joined order fetched os seen names x t.lie_within v
       (λ to. ap (λ b. b && eqb (unsigned order (piece (fetched ++ os) x.at x.entry.kind)) v) (not_full x.entry.kind f to)) _ (t.numbers_are v p);
   ahead = λ a j. tested_passed seen x a h (n + j) (silent a h (n + j) x c) ∙ t.ahead a j;
@@ -295,11 +298,12 @@ told_passed {noted = noted} own order fetched os h seen names cells numbers max_
 }
 
 -- octets that are fetched and not passed yet
-pub told_longer : {noted : List Item} (order : Order) (fetched os : List ℕ) (h : Home) (seen : List EntryAt) (names : Names) (cells : List ℕ) (numbers : List (ℕ × Known)) (max_at : Option ℕ) (n : ℕ) (half : List Place)
-    → Told noted order fetched h seen names cells numbers max_at n half → Told noted order (fetched ++ os) h seen names cells numbers max_at n half
+pub told_longer : {noted : List Item} {direct : ℕ} (order : Order) (fetched os : List ℕ) (h : Home) (seen : List EntryAt) (names : Names) (cells : List ℕ) (numbers : List (ℕ × Known)) (max_at : Option ℕ) (n : ℕ) (half : List Place)
+    → Told noted direct order fetched h seen names cells numbers max_at n half → Told noted direct order (fetched ++ os) h seen names cells numbers max_at n half
 told_longer order fetched os h seen names cells numbers max_at n half t = record {
   noted_are = items_stay order fetched os seen t.lie_within ∙ t.noted_are;
   cells_are = t.cells_are;
+  cells_named = t.cells_named;
   numbers_are = λ v p. known_longer order fetched os seen names t.lie_within v _ (t.numbers_are v p);
   ahead = t.ahead;
   lie_within = lie_longer fetched os seen t.lie_within;
@@ -348,7 +352,7 @@ module _ (order : Order) (fetched os : List ℕ) (h : Home) (at : ℕ) (k : Kind
   abbrev counted : EntryAt
   counted = record { at = at; entry = record { home = h; node = n; kind = k } }
 
-  ahead_counted : {noted : List Item} → is_max k ≡ false → (a : Attr) → Change max_at half half' k at a → Told noted order fetched h seen names cells numbers max_at n half → (j : ℕ)
+  ahead_counted : {noted : List Item} {direct : ℕ} → is_max k ≡ false → (a : Attr) → Change max_at half half' k at a → Told noted direct order fetched h seen names cells numbers max_at n half → (j : ℕ)
       → tested_at (seen ++ counted ∷ []) a h (n + j) ≡ place_of a max_at (place_at half' j)
   ahead_counted m a c t (suc j) =
       tested_passed seen counted a h (n + suc j) (earlier_node a h (n + suc j) counted m (omega arith)) ∙ t.ahead a (suc j)
@@ -359,11 +363,12 @@ module _ (order : Order) (fetched os : List ℕ) (h : Home) (at : ℕ) (k : Kind
   ahead_counted m a (inr c) t zero =
       tested_passed seen counted a h (n + 0) (ap (λ b. b && same_home h h && (is_max k || eqb n (n + 0))) c.0) ∙ t.ahead a 0 ∙ c.1
 
-  pub told_counted : {noted : List Item} (own : List Item) → own_items order (fetched ++ os) counted ≡ own → is_max k ≡ false → NotFull k → Lies (fetched ++ os) counted → ((a : Attr) → Change max_at half half' k at a)
-      → Told noted order fetched h seen names cells numbers max_at n half → Told (noted ++ own) order (fetched ++ os) h (seen ++ counted ∷ []) names cells numbers max_at n half'
-  told_counted {noted = noted} own e m f lies c t = record {
+  pub told_counted : {noted : List Item} {direct : ℕ} (own : List Item) → own_items order (fetched ++ os) counted ≡ own → is_max k ≡ false → NotFull k → named_cell k ≡ None → Lies (fetched ++ os) counted → ((a : Attr) → Change max_at half half' k at a)
+      → Told noted direct order fetched h seen names cells numbers max_at n half → Told (noted ++ own) direct order (fetched ++ os) h (seen ++ counted ∷ []) names cells numbers max_at n half'
+  told_counted {noted = noted} {direct = direct} own e m f none_there lies c t = record {
     noted_are = noted_joined order fetched os seen counted noted own t.lie_within e t.noted_are;
     cells_are = t.cells_are;
+    cells_named = none_named seen numbers (length cells) direct t.cells_named counted none_there;
     numbers_are = λ v p. known_joined order fetched os seen names counted t.lie_within v
         (λ to. ap (λ b. b && eqb (unsigned order (piece (fetched ++ os) at k)) v) (not_full k f to)) _ (t.numbers_are v p);
     ahead = λ a j. ahead_counted m a (c a) t j;

@@ -41,9 +41,10 @@ use Rattle.ndr_reading.proofs.Fetched.{others_stay, piece_fetched}
 use Rattle.ndr_reading.proofs.HomePointers.{of_pointer}
 use Rattle.ndr_steps.specs.Spots.{at_ret, FitsPointer}
 use Rattle.ndr_steps.specs.Steps.{State, Outcome, Owed, Place, goes, refused, done_after, owing, new_cell, pointer_step, full_by}
-use Rattle.ndr_steps.specs.Good.{Told, Good, IsRight, IsKnownAs, owed}
+use Rattle.ndr_steps.specs.Good.{HasCells, Told, Good, IsRight, IsKnownAs, owed}
 use Rattle.nd_grammar.specs.Items.{items}
 use Rattle.ndr_steps.specs.StepItems.{item_here, count_items}
+use Rattle.ndr_steps.proofs.CountedCells.{none_named, known_named, next_named, first_named}
 use Rattle.ndr_steps.proofs.Passing.{items_it, noted_joined, onward, no_less, silent, known_joined, lie_joined, lie_longer, tested_passed, judged, taken_it, lies_it, same_eqb}
 use Rattle.ndr_steps.proofs.Arriving.{Within, parts_of, within_passed}
 use Rattle.ndr_steps.proofs.Adding.{leaf_good, after_leaf, none_found, stop_by, Stops}
@@ -85,17 +86,6 @@ known_names order octets seen names names' v e (Some o) k = (sym e ∙ k.0, k.1)
 one_more : (names : Names) (to : ℕ) → map (λ c. c.of) (names.cells ++ record { of = to; val = unread } ∷ []) ≡ map (λ c. c.of) names.cells ++ to ∷ []
 one_more names to = map-append (λ c. c.of) names.cells (record { of = to; val = unread } ∷ [])
 
--- a cell more
-told_cell : {noted : List Item} (order : Order) (fetched : List ℕ) (h : Home) (seen : List EntryAt) (names : Names) (cells : List ℕ) (numbers : List (ℕ × Known)) (max_at : Option ℕ) (n : ℕ) (half : List Place) (to : ℕ)
-    → Told noted order fetched h seen names cells numbers max_at n half → Told noted order fetched h seen (with_cell to names) (cells ++ to ∷ []) numbers max_at n half
-told_cell order fetched h seen names cells numbers max_at n half to t = record {
-  noted_are = t.noted_are;
-  cells_are = ap (λ xs. xs ++ to ∷ []) t.cells_are ∙ sym (one_more names to);
-  numbers_are = λ v p. known_names order fetched seen names (with_cell to names) v refl (known v numbers) (t.numbers_are v p);
-  ahead = t.ahead;
-  lie_within = t.lie_within;
-}
-
 or_same : (a : Bool) → (a || a) ≡ a
 or_same true = refl
 or_same false = refl
@@ -130,9 +120,9 @@ module _ (order : Order) (octets : List ℕ) (table : Table) (h : Home) (k m : �
       stop_by order octets table h k m fs (pointer_after order octets table h Full to n (going at seen) names) target at seen why
       (stops_at order octets (record { home = h; node = n; kind = Number Full to (named Full to os (number_in order octets os) names).cell }) at seen why r) rest
 
-module _ (order : Order) (fetched os : List ℕ) (code : List Instr) (values : List EnumList) (table : Table) (h : Home) (own limit : ℕ) (noted : List Item) (target : List ℕ → Read)
+module _ (order : Order) (fetched os : List ℕ) (code : List Instr) (values : List EnumList) (table : Table) (h : Home) (own limit : ℕ) (noted : List Item) (direct : ℕ) (target : List ℕ → Read)
     (s : State) (depth : ℕ) (fs : List Around) (seen : List EntryAt) (names : Names) (t : ℕ) (to : TypeId) (w : Within code table h own limit seen depth fs t (parts_of s))
-    (told : Told noted order fetched h seen names s.cells s.numbers s.max_at (length s.nodes) []) (reached : length fetched ≡ s.at) (size : length os ≡ 4) (short : s.at + 4 ≤ STREAM_LIMIT) where
+    (told : Told noted direct order fetched h seen names s.cells s.numbers s.max_at (length s.nodes) []) (reached : length fetched ≡ s.at) (size : length os ≡ 4) (short : s.at + 4 ≤ STREAM_LIMIT) where
   abbrev n : ℕ
   n = length (nodes_around fs)
 
@@ -165,10 +155,10 @@ module _ (order : Order) (fetched os : List ℕ) (code : List Instr) (values : L
       → (c : Option ℕ) (names' : Names) (cells : List ℕ) (numbers : List (ℕ × Known))
       → ((later : List ℕ) (d : Option ℕ) → refusal order ((fetched ++ os) ++ later) seen (at_it class d) ≡ None)
       → named class to.0 (Some os) v names ≡ record { cell = c; names = names' }
-      → Told (noted ++ news) order (fetched ++ os) h (seen ++ at_it class c ∷ []) names' cells numbers s.max_at (length s.nodes) []
-      → Good order (fetched ++ os) code table h own limit (noted ++ news) target (after_leaf (parts_of s) (s.pc + 1) (s.at + 4) s.max s.tag s.carrier (owed_now class c) cells numbers (tree.Ptr c, 0) None)
+      → Told (noted ++ news) direct order (fetched ++ os) h (seen ++ at_it class c ∷ []) names' cells numbers s.max_at (length s.nodes) []
+      → Good order (fetched ++ os) code table h own limit (noted ++ news) direct target (after_leaf (parts_of s) (s.pc + 1) (s.at + 4) s.max s.tag s.carrier (owed_now class c) cells numbers (tree.Ptr c, 0) None)
   leaf class et run rest c names' cells numbers judge it told' =
-      leaf_good order (fetched ++ os) code table h own limit (noted ++ news) target (parts_of s) (s.pc + 1) (s.at + 4) s.max s.tag s.carrier (owed_now class c) cells numbers (tree.Ptr c) None [] (seen ++ at_it class c ∷ []) names' depth fs t
+      leaf_good order (fetched ++ os) code table h own limit (noted ++ news) direct target (parts_of s) (s.pc + 1) (s.at + 4) s.max s.tag s.carrier (owed_now class c) cells numbers (tree.Ptr c) None [] (seen ++ at_it class c ∷ []) names' depth fs t
       (within_passed code table h own limit seen depth fs t (parts_of s) (at_it class c) (λ a j l. silent a h j (at_it class c) tt) w)
       (none_found order (fetched ++ os) h (seen ++ at_it class c ∷ []) names' cells numbers s.max_at (length s.nodes) [] told')
       told'
@@ -195,18 +185,34 @@ module _ (order : Order) (fetched os : List ℕ) (code : List Instr) (values : L
       ∙ piece_fetched order fetched os [] (entry_of class c) (sym size)
 
   abbrev Right : Outcome → Type 0
-  Right o = IsRight order (fetched ++ os) code table h own limit (noted ++ news) target s.at seen o
+  Right o = IsRight order (fetched ++ os) code table h own limit (noted ++ news) direct target s.at seen o
 
-  told_silent : (class : Class) (c : Option ℕ) → ((u to' : ℕ) → 0 < u → other_pointee (Number class to.0 c) to' && eqb v u ≡ false)
-      → Told (noted ++ news) order (fetched ++ os) h (seen ++ at_it class c ∷ []) names s.cells s.numbers s.max_at (length s.nodes) []
-  told_silent class c f = record {
+  told_silent : (class : Class) (c : Option ℕ) → ((u to' : ℕ) → 0 < u → other_pointee (Number class to.0 c) to' && eqb v u ≡ false) → (names' : Names) (cells : List ℕ)
+      → names.numbers ≡ names'.numbers → cells ≡ map (λ r. r.of) names'.cells → HasCells (seen ++ at_it class c ∷ []) s.numbers (length cells) direct
+      → Told (noted ++ news) direct order (fetched ++ os) h (seen ++ at_it class c ∷ []) names' cells s.numbers s.max_at (length s.nodes) []
+  told_silent class c f names' cells e ec counted = record {
     noted_are = noted_with class c;
-    cells_are = told.cells_are;
-    numbers_are = λ u p. known_joined order fetched os seen names (at_it class c) told.lie_within u
-        (λ to'. ap (λ xs. other_pointee (Number class to.0 c) to' && eqb (unsigned order xs) u) (own_piece class c) ∙ f u to' p) (known u s.numbers) (told.numbers_are u p);
+    cells_are = ec;
+    cells_named = counted;
+    numbers_are = λ u p. known_names order (fetched ++ os) (seen ++ at_it class c ∷ []) names names' u (ap (λ xs. numbered xs u) e) (known u s.numbers)
+        (known_joined order fetched os seen names (at_it class c) told.lie_within u
+        (λ to'. ap (λ xs. other_pointee (Number class to.0 c) to' && eqb (unsigned order xs) u) (own_piece class c) ∙ f u to' p) (known u s.numbers) (told.numbers_are u p));
     ahead = λ a j. tested_passed seen (at_it class c) a h (length s.nodes + j) (silent a h (length s.nodes + j) (at_it class c) tt) ∙ told.ahead a j;
     lie_within = lie_joined (fetched ++ os) seen (at_it class c) (lie_longer fetched os seen told.lie_within) (lies_it order fetched os [] s.at reached (entry_of class c) seen (sym size));
   }
+
+  one_cell_more : length (s.cells ++ to.0 ∷ []) ≡ length s.cells + 1
+  one_cell_more = length-append s.cells (to.0 ∷ [])
+
+  more_cells : s.cells ++ to.0 ∷ [] ≡ map (λ r. r.of) (with_cell to.0 names).cells
+  more_cells = ap (λ xs. xs ++ to.0 ∷ []) told.cells_are ∙ sym (one_more names to.0)
+
+  -- a pointer to a new cell, which has no number that is known
+  told_new : (class : Class) → ((u to' : ℕ) → 0 < u → other_pointee (Number class to.0 (Some (length s.cells + 1))) to' && eqb v u ≡ false)
+      → Told (noted ++ news) direct order (fetched ++ os) h (seen ++ at_it class (Some (length s.cells + 1)) ∷ []) (with_cell to.0 names) (s.cells ++ to.0 ∷ []) s.numbers s.max_at (length s.nodes) []
+  told_new class f =
+      told_silent class (Some (length s.cells + 1)) f (with_cell to.0 names) (s.cells ++ to.0 ∷ []) refl more_cells
+      (next_named seen s.numbers (length s.cells) direct told.cells_named (at_it class (Some (length s.cells + 1))) (length (s.cells ++ to.0 ∷ [])) one_cell_more refl)
 
   pub ref_right : type_at table t ≡ Some (def.Pointer Ref to) → IsRunAt code s.pc (op.Pointer Ref to (whole_at table to.0) ∷ op.Ret ∷ [])
       → ((later : List ℕ) → finish order (fetched ++ later) table h s.max depth fs (pointer_after order (fetched ++ later) table h Ref to.0 n (going s.at seen) names) ≡ target (fetched ++ later))
@@ -216,7 +222,7 @@ module _ (order : Order) (fetched os : List ℕ) (code : List Instr) (values : L
       (Some (length s.cells + 1)) (with_cell to.0 names) (s.cells ++ to.0 ∷ []) s.numbers
       (λ later d. judged order fetched os later s.at reached (entry_of Ref d) seen (sym size) (no_less STREAM_LIMIT (s.at + 4) short))
       (ap (λ j. record { cell = Some (j + 1); names = with_cell to.0 names }) (sym as_many))
-      (told_cell order (fetched ++ os) h (seen ++ at_it Ref (Some (length s.cells + 1)) ∷ []) names s.cells s.numbers s.max_at (length s.nodes) [] to.0 (told_silent Ref (Some (length s.cells + 1)) (λ u to' p. refl)))
+      (told_new Ref (λ u to' p. refl))
 
   pub unique_right : type_at table t ≡ Some (def.Pointer Unique to) → IsRunAt code s.pc (op.Pointer Unique to (whole_at table to.0) ∷ op.Ret ∷ [])
       → ((later : List ℕ) → finish order (fetched ++ later) table h s.max depth fs (pointer_after order (fetched ++ later) table h Unique to.0 n (going s.at seen) names) ≡ target (fetched ++ later))
@@ -233,11 +239,11 @@ module _ (order : Order) (fetched os : List ℕ) (code : List Instr) (values : L
       it b e = ap (λ c. cond c (record { cell = None; names = names }) (record { cell = Some (fresh to.0 names); names = with_cell to.0 names })) e
 
       by_null : (b : Bool) → eqb v 0 ≡ b → Right (goes (done_after 4 (if b then owing Unique to (whole_at table to.0) None s else new_cell Unique to (whole_at table to.0) s)))
-      by_null true e = leaf Unique et run on_it None names s.cells s.numbers judge (it true e) (told_silent Unique None (λ u to' p. refl))
+      by_null true e = leaf Unique et run on_it None names s.cells s.numbers judge (it true e) (told_silent Unique None (λ u to' p. refl) names s.cells refl told.cells_are (none_named seen s.numbers (length s.cells) direct told.cells_named (at_it Unique None) refl))
       by_null false e =
           leaf Unique et run on_it (Some (length s.cells + 1)) (with_cell to.0 names) (s.cells ++ to.0 ∷ []) s.numbers judge
           (it false e ∙ ap (λ j. record { cell = Some (j + 1); names = with_cell to.0 names }) (sym as_many))
-          (told_cell order (fetched ++ os) h (seen ++ at_it Unique (Some (length s.cells + 1)) ∷ []) names s.cells s.numbers s.max_at (length s.nodes) [] to.0 (told_silent Unique (Some (length s.cells + 1)) (λ u to' p. refl)))
+          (told_new Unique (λ u to' p. refl))
 
   pub full_right : type_at table t ≡ Some (def.Pointer Full to) → IsRunAt code s.pc (op.Pointer Full to (whole_at table to.0) ∷ op.Ret ∷ [])
       → ((later : List ℕ) → finish order (fetched ++ later) table h s.max depth fs (pointer_after order (fetched ++ later) table h Full to.0 n (going s.at seen) names) ≡ target (fetched ++ later))
@@ -328,11 +334,13 @@ module _ (order : Order) (fetched os : List ℕ) (code : List Instr) (values : L
 
       -- the state's account with this entry
       told_with : (c : Option ℕ) (names' : Names) (cells : List ℕ) (numbers : List (ℕ × Known)) → cells ≡ map (λ r. r.of) names'.cells
+          → HasCells (seen ++ at_it Full c ∷ []) numbers (length cells) direct
           → ((u : ℕ) → 0 < u → IsKnownAs order (fetched ++ os) (seen ++ at_it Full c ∷ []) names' u (known u numbers))
-          → Told (noted ++ news) order (fetched ++ os) h (seen ++ at_it Full c ∷ []) names' cells numbers s.max_at (length s.nodes) []
-      told_with c names' cells numbers ec ks = record {
+          → Told (noted ++ news) direct order (fetched ++ os) h (seen ++ at_it Full c ∷ []) names' cells numbers s.max_at (length s.nodes) []
+      told_with c names' cells numbers ec counted ks = record {
         noted_are = noted_with Full c;
         cells_are = ec;
+        cells_named = counted;
         numbers_are = ks;
         ahead = λ a j. tested_passed seen (at_it Full c) a h (length s.nodes + j) (silent a h (length s.nodes + j) (at_it Full c) tt) ∙ told.ahead a j;
         lie_within = lie_joined (fetched ++ os) seen (at_it Full c) (lie_longer fetched os seen told.lie_within) (lies_it order fetched os [] s.at reached (entry_of Full c) seen (sym size));
@@ -344,7 +352,7 @@ module _ (order : Order) (fetched os : List ℕ) (code : List Instr) (values : L
           let was : IsKnownAs order fetched seen names v (Some k) = subst (IsKnownAs order fetched seen names v) ek (told.numbers_are v (not_null v e)) in
           let same_type : is_other order fetched seen v to.0 ≡ false = was.1 to.0 ∙ ap not f in
           leaf Full et run on_it (Some k.cell.0) names s.cells s.numbers (judge false false e same_type) (it false (Some k.cell.0) e was.0)
-          (told_with (Some k.cell.0) names s.cells s.numbers told.cells_are (λ u p. met k ek e f u p (eqb v u) refl))
+          (told_with (Some k.cell.0) names s.cells s.numbers told.cells_are (known_named seen s.numbers (length s.cells) direct told.cells_named (at_it Full (Some k.cell.0)) v k ek refl) (λ u p. met k ek e f u p (eqb v u) refl))
       by_type k ek e false f = λ later.
           let was : IsKnownAs order fetched seen names v (Some k) = subst (IsKnownAs order fetched seen names v) ek (told.numbers_are v (not_null v e)) in
           let other_type : is_other order fetched seen v to.0 ≡ true = was.1 to.0 ∙ ap not f in
@@ -359,10 +367,11 @@ module _ (order : Order) (fetched os : List ℕ) (code : List Instr) (values : L
           leaf Full et run on_it (Some c) names' (s.cells ++ to.0 ∷ []) (s.numbers ++ (v, first_met to (record { 0 = c })) ∷ []) (judge false false e (was.1 to.0))
           (it false None e was.0 ∙ ap (λ j. record { cell = Some (j + 1); names = record { cells = (with_cell to.0 names).cells; numbers = (v, j + 1) ∷ names.numbers } }) (sym as_many))
           (told_with (Some c) names' (s.cells ++ to.0 ∷ []) (s.numbers ++ (v, first_met to (record { 0 = c })) ∷ []) (ap (λ xs. xs ++ to.0 ∷ []) told.cells_are ∙ sym (one_more names to.0))
+          (first_named seen s.numbers (length s.cells) direct told.cells_named (at_it Full (Some c)) (length (s.cells ++ to.0 ∷ [])) one_cell_more refl v (first_met to (record { 0 = c })) refl)
           (λ u p. first_time c ek e u p (eqb v u) refl))
 
       by_null : (b : Bool) → eqb v 0 ≡ b → Right (if b then goes (done_after 4 (owing Full to (whole_at table to.0) None s)) else full_by (known v s.numbers) v to (whole_at table to.0) s)
       by_null false e = by_known (known v s.numbers) refl e
       by_null true e =
           leaf Full et run on_it None names s.cells s.numbers (judge true (is_other order fetched seen v to.0) e refl) (it true (numbered names.numbers v) e refl)
-          (told_with None names s.cells s.numbers told.cells_are (λ u p. other_number None u p (not_zero v u e p)))
+          (told_with None names s.cells s.numbers told.cells_are (none_named seen s.numbers (length s.cells) direct told.cells_named (at_it Full None) refl) (λ u p. other_number None u p (not_zero v u e p)))

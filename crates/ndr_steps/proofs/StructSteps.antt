@@ -69,14 +69,14 @@ get_taken (y ∷ xs) zero i x e = cc
 get_taken (y ∷ xs) (suc n) zero x e = e
 get_taken (y ∷ xs) (suc n) (suc i) x e = get_taken xs n i x e
 
-module _ (order : Order) (fetched : List ℕ) (code : List Instr) (values : List EnumList) (table : Table) (h : Home) (own limit : ℕ) (noted : List Item) (target : List ℕ → Read) (planned : IsPlanned code values table) where
+module _ (order : Order) (fetched : List ℕ) (code : List Instr) (values : List EnumList) (table : Table) (h : Home) (own limit : ℕ) (noted : List Item) (direct : ℕ) (target : List ℕ → Read) (planned : IsPlanned code values table) where
   abbrev Right : ℕ → List EntryAt → Outcome → Type 0
-  Right at seen o = IsRight order fetched code table h own limit noted target at seen o
+  Right at seen o = IsRight order fetched code table h own limit noted direct target at seen o
 
   -- `record`: a struct begins
   pub struct_right : (s : State) (k : ℕ) (fs : List Around) (seen : List EntryAt) (names : Names) (t : ℕ) (members : List Field)
       → type_at table t ≡ Some (def.Struct members) → AllByRecursion (IsFine table k) (types_of members)
-      → Within code table h own limit seen (suc k) fs t (parts_of s) → Told noted order fetched h seen names s.cells s.numbers s.max_at (length s.nodes) [] → length fetched ≡ s.at
+      → Within code table h own limit seen (suc k) fs t (parts_of s) → Told noted direct order fetched h seen names s.cells s.numbers s.max_at (length s.nodes) [] → length fetched ≡ s.at
       → IsRunAt code s.pc (body_run code table t (def.Struct members))
       → ((later : List ℕ) → finish order (fetched ++ later) table h s.max (suc k) fs
       (read_children order (fetched ++ later) table h (read_in_place order (fetched ++ later) table h k s.max) (Some (def.Struct members)) (length (nodes_around fs)) tree.Rec (types_of members) (going s.at seen) names)
@@ -122,7 +122,7 @@ module _ (order : Order) (fetched : List ℕ) (code : List Instr) (values : List
       → s.nodes ≡ nodes_between f fs → f.node ≡ length (nodes_around fs) → f.next ≡ length (nodes_between f fs) → Numbered fs
       → s.members ≡ members_around table h fs ++ read_members table h f.label f fs → s.fresh ≡ map (owed table) (pointers_around table h (f ∷ fs))
       → length s.firsts + 0 ≡ length s.members → KeptAll h seen s.max_at s.nodes s.members s.firsts → KeptOwn h seen s.max_at s.nodes s.own
-      → Told noted order fetched h seen names s.cells s.numbers s.max_at (length s.nodes) [] → length fetched ≡ s.at
+      → Told noted direct order fetched h seen names s.cells s.numbers s.max_at (length s.nodes) [] → length fetched ≡ s.at
       → ((later : List ℕ) → finish order (fetched ++ later) table h s.max (suc k) fs (continue order (fetched ++ later) table h s.max k f (going s.at seen) names) ≡ target (fetched ++ later))
       → Right s.at seen (goes (call_from s.top (place_at table y.of.0) s))
   call_right s k fs seen names f members y ys back start outer under phase deep is run et es inside begin inner fits tied en here_it next_it numbered em owes many kept first told reached rest =
@@ -144,7 +144,7 @@ module _ (order : Order) (fetched : List ℕ) (code : List Instr) (values : List
       ∙ append_assoc (members_around table h fs) ms (last ∷ [])
       ∙ ap (λ l. members_around table h fs ++ (read_members table h l g fs ++ open_member table h l g fs)) (sym is.label) in
       subst (λ x. Right s.at seen (goes (call_from x (place_at table t) s))) (sym et)
-      (arrives order fetched code values table h own limit noted target planned (call_from (frame.Record back start) (place_at table t) s) k (g ∷ fs) seen names t fine.0 refl refl
+      (arrives order fetched code values table h own limit noted direct target planned (call_from (frame.Record back start) (place_at table t) s) k (g ∷ fs) seen names t fine.0 refl refl
       (record {
         deep = deeper k (length fs) limit deep;
         inside = (
@@ -184,7 +184,7 @@ module _ (order : Order) (fetched : List ℕ) (code : List Instr) (values : List
       → s.members ≡ members_around table h fs ++ read_members table h f.label f fs
       → s.fresh ≡ map (owed table) (pointers_around table h fs ++ governed_pointers table h f.before so_far (f.node + 1) f.done)
       → length s.firsts + 0 ≡ length s.members → KeptAll h seen s.max_at s.nodes s.members s.firsts → KeptOwn h seen s.max_at s.nodes s.own
-      → Told noted order fetched h seen names s.cells s.numbers s.max_at (length s.nodes) [] → length fetched ≡ s.at
+      → Told noted direct order fetched h seen names s.cells s.numbers s.max_at (length s.nodes) [] → length fetched ≡ s.at
       → ((later : List ℕ) → finish order (fetched ++ later) table h s.max (suc k) fs (record { tree = node f.label f.done; progress = going s.at seen; names = names }) ≡ target (fetched ++ later))
       → Right s.at seen (goes (close_of s.top s))
   close_right s k fs seen names f members so_far back start outer under deep is run es_far et es inside begin fits tied en here_it none_left numbered em owes many kept first told reached rest =

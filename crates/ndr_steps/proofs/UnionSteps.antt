@@ -164,14 +164,14 @@ module _ (order : Order) (octets : List ℕ) (table : Table) (h : Home) (k m : �
 
 -- ## The tag
 
-module _ (order : Order) (fetched os : List ℕ) (code : List Instr) (values : List EnumList) (table : Table) (h : Home) (own limit : ℕ) (noted : List Item) (target : List ℕ → Read) (planned : IsPlanned code values table)
+module _ (order : Order) (fetched os : List ℕ) (code : List Instr) (values : List EnumList) (table : Table) (h : Home) (own limit : ℕ) (noted : List Item) (direct : ℕ) (target : List ℕ → Read) (planned : IsPlanned code values table)
     (s : State) (k : ℕ) (fs : List Around) (seen : List EntryAt) (names : Names) (t : ℕ) (tag : TypeId) (encapsulated : Bool) (arms : List Arm) (default : Option Arm) (form : TagForm) where
   pub tag_right : type_at table t ≡ Some (def.Union tag encapsulated arms default) → IsTagForm (type_at table tag.0) form → IsFine table (suc k) t
-      → Within code table h own limit seen (suc k) fs t (parts_of s) → Told noted order fetched h seen names s.cells s.numbers s.max_at (length s.nodes) [] → length fetched ≡ s.at → s.phase ≡ begun
+      → Within code table h own limit seen (suc k) fs t (parts_of s) → Told noted direct order fetched h seen names s.cells s.numbers s.max_at (length s.nodes) [] → length fetched ≡ s.at → s.phase ≡ begun
       → IsRunAt code s.pc (union_run (place_at table) tag arms default) → length os ≡ width form.prim → s.at + width form.prim ≤ STREAM_LIMIT
       → ((later : List ℕ) → finish order (fetched ++ later) table h s.max (suc k) fs
       (read_at order (fetched ++ later) table h s.max (suc k) (opened t (def.Union tag encapsulated arms default)) (length (nodes_around fs)) (going s.at seen) names) ≡ target (fetched ++ later))
-      → IsRight order (fetched ++ os) code table h own limit noted target s.at seen (tag_step values order os form s)
+      → IsRight order (fetched ++ os) code table h own limit noted direct target s.at seen (tag_step values order os form s)
   tag_right et i fine w told reached phase run size short rest = by_test (is_enumerator form.values z) refl
     where
       n : ℕ
@@ -204,12 +204,12 @@ module _ (order : Order) (fetched os : List ℕ) (code : List Instr) (values : L
           sym (ap (λ o. value_in order ((fetched ++ os) ++ later) form.prim (taken_by None o (piece ((fetched ++ os) ++ later) s.at (e (pos 0)).kind))) (judge true false f g later (pos 0)))
 
       by_test : (b : Bool) → is_enumerator form.values z ≡ b
-          → IsRight order (fetched ++ os) code table h own limit noted target s.at seen (if b then goes (next (with_tag z form.prim s)) else refused s.at reason.EnumValue)
+          → IsRight order (fetched ++ os) code table h own limit noted direct target s.at seen (if b then goes (next (with_tag z form.prim s)) else refused s.at reason.EnumValue)
       by_test false f = λ later.
           (tag_next order ((fetched ++ os) ++ later) table h k s.max fs n s.at seen names (target ((fetched ++ os) ++ later)) t tag encapsulated arms default form i (on_it later)) (s.at, reason.EnumValue)
           (judge false (is_selected (selected arms default z)) f refl later (pos 0))
       by_test true f =
-          plain_good order (fetched ++ os) code table h own limit noted target (tagged t union form arms default z) tt (next (with_tag z form.prim s)) (suc k) fs seen names w
+          plain_good order (fetched ++ os) code table h own limit noted direct target (tagged t union form arms default z) tt (next (with_tag z form.prim s)) (suc k) fs seen names w
           (fine, (tag, encapsulated, refl, et, i, ([], arms, refl, tt, next_at code s.pc (op.Tag tag) (arms_code (place_at table) arms ++ default_code (place_at table) default) run)))
           refl (refl, refl)
           (let l : length (fetched ++ os) ≡ length fetched + length os = length-append fetched os in omega (arith, l, reached, size))
@@ -222,10 +222,10 @@ module _ (order : Order) (fetched os : List ℕ) (code : List Instr) (values : L
 
 -- ## The arms
 
-module _ (order : Order) (fetched : List ℕ) (code : List Instr) (values : List EnumList) (table : Table) (h : Home) (own limit : ℕ) (noted : List Item) (target : List ℕ → Read) (planned : IsPlanned code values table)
+module _ (order : Order) (fetched : List ℕ) (code : List Instr) (values : List EnumList) (table : Table) (h : Home) (own limit : ℕ) (noted : List Item) (direct : ℕ) (target : List ℕ → Read) (planned : IsPlanned code values table)
     (s : State) (k : ℕ) (fs : List Around) (seen : List EntryAt) (names : Names) (t : ℕ) (tag : TypeId) (encapsulated : Bool) (arms : List Arm) (default : Option Arm) (form : TagForm) (z : ℤ)
     (et : type_at table t ≡ Some (def.Union tag encapsulated arms default)) (i : IsTagForm (type_at table tag.0) form) (fine : IsFine table (suc k) t) (inner : AllByRecursion (IsFine table k) (arm_types arms ++ default_type default))
-    (w : Within code table h own limit seen (suc k) fs t (parts_of s)) (told : Told noted order fetched h seen names s.cells s.numbers s.max_at (length s.nodes) []) (reached : length fetched ≡ s.at + width form.prim) (phase : s.phase ≡ begun)
+    (w : Within code table h own limit seen (suc k) fs t (parts_of s)) (told : Told noted direct order fetched h seen names s.cells s.numbers s.max_at (length s.nodes) []) (reached : length fetched ≡ s.at + width form.prim) (phase : s.phase ≡ begun)
     (held : HeldTag order fetched s.at form z) (tag_is : s.tag ≡ z) (carried : s.carrier ≡ form.prim)
     (rest : (later : List ℕ) → finish order (fetched ++ later) table h s.max (suc k) fs
     (read_at order (fetched ++ later) table h s.max (suc k) (tagged t (def.Union tag encapsulated arms default) form arms default z) (length (nodes_around fs)) (going s.at seen) names) ≡ target (fetched ++ later)) where
@@ -263,13 +263,13 @@ module _ (order : Order) (fetched : List ℕ) (code : List Instr) (values : List
       ∙ ap (λ v. item_here h s.at item.Tag (width form.prim) v n ∷ []) (held.value ∙ sym tag_is)
       ∙ ap₂ (λ p j. item_here h s.at item.Tag (width p) s.tag j ∷ []) (sym carried) (sym same_count)
 
-  told' : Told (noted ++ tag_items h s) order fetched h (seen ++ x ∷ []) names s.cells s.numbers s.max_at (length s.nodes) (tag_at s.at ∷ [])
+  told' : Told (noted ++ tag_items h s) direct order fetched h (seen ++ x ∷ []) names s.cells s.numbers s.max_at (length s.nodes) (tag_at s.at ∷ [])
   told' =
-      subst (λ f. Told (noted ++ tag_items h s) order f h (seen ++ x ∷ []) names s.cells s.numbers s.max_at (length s.nodes) (tag_at s.at ∷ [])) (append-nil fetched)
-      (subst (λ j. Told (noted ++ tag_items h s) order (fetched ++ []) h (seen ++ x ∷ []) names s.cells s.numbers s.max_at j (tag_at s.at ∷ [])) (sym same_count)
-      (told_counted order fetched [] h s.at (Tag form.prim form.values arms default s.tag) seen names s.cells s.numbers s.max_at n [] (tag_at s.at ∷ []) (tag_items h s) noted_tag refl tt lies
+      subst (λ f. Told (noted ++ tag_items h s) direct order f h (seen ++ x ∷ []) names s.cells s.numbers s.max_at (length s.nodes) (tag_at s.at ∷ [])) (append-nil fetched)
+      (subst (λ j. Told (noted ++ tag_items h s) direct order (fetched ++ []) h (seen ++ x ∷ []) names s.cells s.numbers s.max_at j (tag_at s.at ∷ [])) (sym same_count)
+      (told_counted order fetched [] h s.at (Tag form.prim form.values arms default s.tag) seen names s.cells s.numbers s.max_at n [] (tag_at s.at ∷ []) (tag_items h s) noted_tag refl tt refl lies
       (after_tag s.max_at form.prim form.values arms default s.tag s.at)
-      (subst (λ j. Told noted order fetched h seen names s.cells s.numbers s.max_at j []) same_count told)))
+      (subst (λ j. Told noted direct order fetched h seen names s.cells s.numbers s.max_at j []) same_count told)))
 
   w' : Within code table h own limit (seen ++ x ∷ []) (suc k) fs t (parts_of s)
   w' = within_passed code table h own limit seen (suc k) fs t (parts_of s) x (λ a j l. later_node a h j x refl (let e : length s.nodes ≡ n = same_count in omega (arith, l, e))) w
@@ -294,9 +294,9 @@ module _ (order : Order) (fetched : List ℕ) (code : List Instr) (values : List
       ∙ ap₂ (λ ts p. read_children order octets table h rd (Some this) n (tree.Union s.tag) ts p names) types gone))
       ∙ rest later
 
-  arm_good : (a : Arm) → selected arms default z ≡ Some a → (o : Option TypeId) → a.of ≡ o → Good order fetched code table h own limit (noted ++ tag_items h s) target (arm_taken (eqb (arm_run (place_at table) o) 0) (arm_run (place_at table) o) s)
+  arm_good : (a : Arm) → selected arms default z ≡ Some a → (o : Option TypeId) → a.of ≡ o → Good order fetched code table h own limit (noted ++ tag_items h s) direct target (arm_taken (eqb (arm_run (place_at table) o) 0) (arm_run (place_at table) o) s)
   arm_good a sel None ea =
-      leaf_good order fetched code table h own limit (noted ++ tag_items h s) target (parts_of s) 0 (s.at + width s.carrier) s.max s.tag s.carrier s.fresh s.cells s.numbers (tree.Union s.tag) (Some s.at) (tag_at s.at ∷ []) (seen ++ x ∷ []) names (suc k) fs t w'
+      leaf_good order fetched code table h own limit (noted ++ tag_items h s) direct target (parts_of s) 0 (s.at + width s.carrier) s.max s.tag s.carrier s.fresh s.cells s.numbers (tree.Union s.tag) (Some s.at) (tag_at s.at ∷ []) (seen ++ x ∷ []) names (suc k) fs t w'
       (none_found order fetched h (seen ++ x ∷ []) names s.cells s.numbers s.max_at (length s.nodes) (tag_at s.at ∷ []) told')
       told' further (at_void planned.empty_arm) (no_pointer (type_at table t))
       (w.pending ∙ ap (map (owed table)) (sym (append-nil (pointers_around table h fs)) ∙ ap (λ ps. pointers_around table h fs ++ ps) (sym (of_union table h t n s.tag tag encapsulated arms default none et))))
@@ -312,8 +312,8 @@ module _ (order : Order) (fetched : List ℕ) (code : List Instr) (values : List
       let after : n + 1 ≡ length (nodes_around (f ∷ fs)) = sym (length-append (nodes_around fs) (y ∷ [])) in
       let new = added code table h own limit (seen ++ x ∷ []) (suc k) fs t (parts_of s) y (Some s.at) w'
       (none_found order fetched h (seen ++ x ∷ []) names s.cells s.numbers s.max_at (length s.nodes) (tag_at s.at ∷ []) told') in
-      subst (λ b. Good order fetched code table h own limit (noted ++ tag_items h s) target (arm_taken b run s)) (sym (not_zero table u.0))
-      (arrives order fetched code values table h own limit (noted ++ tag_items h s) target planned (arm_taken false run s) k (f ∷ fs) (seen ++ x ∷ []) names u.0 (part_of (IsFine table k) z a u ea arms default sel inner) refl refl
+      subst (λ b. Good order fetched code table h own limit (noted ++ tag_items h s) direct target (arm_taken b run s)) (sym (not_zero table u.0))
+      (arrives order fetched code values table h own limit (noted ++ tag_items h s) direct target planned (arm_taken false run s) k (f ∷ fs) (seen ++ x ∷ []) names u.0 (part_of (IsFine table k) z a u ea arms default sel inner) refl refl
       (record {
         deep = deeper k (length fs) limit w.deep;
         inside = (
@@ -354,7 +354,7 @@ module _ (order : Order) (fetched : List ℕ) (code : List Instr) (values : List
       ∙ passed_tag a sel later))
 
   abbrev Right : List Item → Outcome → Type 0
-  Right news o = IsRight order fetched code table h own limit (noted ++ news) target s.at seen o
+  Right news o = IsRight order fetched code table h own limit (noted ++ news) direct target s.at seen o
 
   -- `arm`: the next arm, if the tag is its label
   pub arm_right : (passed left : List Arm) (a : Arm) → arms ≡ passed ++ a ∷ left → AllByRecursion (λ (b : Arm). int_eq b.label z ≡ false) passed
@@ -366,7 +366,7 @@ module _ (order : Order) (fetched : List ℕ) (code : List Instr) (values : List
       by_label true e =
           arm_good a (ap (λ l. or_else l default) (ap (λ xs. labelled xs z) all ∙ arm_found z passed a left others (ap (int_eq a.label) (sym tag_is) ∙ e))) a.of refl
       by_label false e =
-          plain_good order fetched code table h own limit (noted ++ []) target (tagged t this form arms default z) tt (next s) (suc k) fs seen names w (
+          plain_good order fetched code table h own limit (noted ++ []) direct target (tagged t this form arms default z) tt (next s) (suc k) fs seen names w (
             fine,
             (
               tag,
@@ -383,7 +383,7 @@ module _ (order : Order) (fetched : List ℕ) (code : List Instr) (values : List
               ),
             ),
           )
-          refl (tag_is, carried) reached held (subst (λ ns. Told ns order fetched h seen names s.cells s.numbers s.max_at (length s.nodes) []) (sym (append-nil noted)) told) rest
+          refl (tag_is, carried) reached held (subst (λ ns. Told ns direct order fetched h seen names s.cells s.numbers s.max_at (length s.nodes) []) (sym (append-nil noted)) told) rest
 
   -- `other`: the default arm
   pub other_right : (passed : List Arm) (a : Arm) → arms ≡ passed ++ [] → default ≡ Some a → AllByRecursion (λ (b : Arm). int_eq b.label z ≡ false) passed

@@ -118,9 +118,9 @@ not_none None s e = refl
 not_none (Some zero) s e = absurd (e refl)
 not_none (Some (suc n)) s e = refl
 
-module _ (order : Order) (fetched os : List ℕ) (code : List Instr) (values : List EnumList) (table : Table) (h : Home) (own limit : ℕ) (noted : List Item) (target : List ℕ → Read) (planned : IsPlanned code values table) where
+module _ (order : Order) (fetched os : List ℕ) (code : List Instr) (values : List EnumList) (table : Table) (h : Home) (own limit : ℕ) (noted : List Item) (direct : ℕ) (target : List ℕ → Read) (planned : IsPlanned code values table) where
   abbrev Right : List Item → ℕ → List EntryAt → Outcome → Type 0
-  Right news at seen o = IsRight order (fetched ++ os) code table h own limit (noted ++ news) target at seen o
+  Right news at seen o = IsRight order (fetched ++ os) code table h own limit (noted ++ news) direct target at seen o
 
   module _ (s : State) (k : ℕ) (fs : List Around) (seen : List EntryAt) (names : Names) (t : ℕ) (fine : IsFine table (suc k) t) (w : Within code table h own limit seen (suc k) fs t (parts_of s)) (reached : length fetched ≡ s.at)
     where
@@ -147,19 +147,19 @@ module _ (order : Order) (fetched os : List ℕ) (code : List Instr) (values : L
 
         -- the offset of a varying array
         pub offset_right : (elem : TypeId) (bound : Option ℕ) → type_at table t ≡ Some (def.Array elem bound true) → IsRunAt code s.pc (body_run code table t (def.Array elem bound true))
-            → Told noted order fetched h seen names s.cells s.numbers s.max_at (length s.nodes) []
+            → Told noted direct order fetched h seen names s.cells s.numbers s.max_at (length s.nodes) []
             → ((later : List ℕ) → finish order (fetched ++ later) table h s.max (suc k) fs
             (read_at order (fetched ++ later) table h s.max (suc k) (opened t (def.Array elem bound true)) n (going s.at seen) names) ≡ target (fetched ++ later))
             → Right (count_items order h os item.Offset s) s.at seen (goes (past 4 (offset_read v) s))
         offset_right elem bound et run told rest =
             let x : EntryAt = entry_of (Offset false v) in
-            let told' : Told (noted ++ count_items order h os item.Offset s) order (fetched ++ os) h (seen ++ x ∷ []) names s.cells s.numbers s.max_at (length s.nodes) (offset_before (s.at + 4) ∷ []) =
-            subst (λ j. Told (noted ++ count_items order h os item.Offset s) order (fetched ++ os) h (seen ++ x ∷ []) names s.cells s.numbers s.max_at j (offset_before (s.at + 4) ∷ [])) (sym same_count)
+            let told' : Told (noted ++ count_items order h os item.Offset s) direct order (fetched ++ os) h (seen ++ x ∷ []) names s.cells s.numbers s.max_at (length s.nodes) (offset_before (s.at + 4) ∷ []) =
+            subst (λ j. Told (noted ++ count_items order h os item.Offset s) direct order (fetched ++ os) h (seen ++ x ∷ []) names s.cells s.numbers s.max_at j (offset_before (s.at + 4) ∷ [])) (sym same_count)
             (told_counted order fetched os h s.at (Offset false v) seen names s.cells s.numbers s.max_at n [] (offset_before (s.at + 4) ∷ []) (count_items order h os item.Offset s)
-            (items_it order fetched os [] s.at reached x.entry seen (sym size) ∙ ap (λ j. item_here h s.at item.Offset 4 (pos v) j ∷ []) (sym same_count)) refl tt
+            (items_it order fetched os [] s.at reached x.entry seen (sym size) ∙ ap (λ j. item_here h s.at item.Offset 4 (pos v) j ∷ []) (sym same_count)) refl tt refl
             (lies_it order fetched os [] s.at reached x.entry seen (sym size)) (after_offset s.max_at false v s.at)
-            (subst (λ j. Told noted order fetched h seen names s.cells s.numbers s.max_at j []) same_count told)) in
-            plain_good order (fetched ++ os) code table h own limit (noted ++ count_items order h os item.Offset s) target (at_offset t (def.Array elem bound true) (bound_or bound s.max) elem.0 v) tt (past 4 (offset_read v) s) (suc k) fs (seen ++ x ∷ []) names
+            (subst (λ j. Told noted direct order fetched h seen names s.cells s.numbers s.max_at j []) same_count told)) in
+            plain_good order (fetched ++ os) code table h own limit (noted ++ count_items order h os item.Offset s) direct target (at_offset t (def.Array elem bound true) (bound_or bound s.max) elem.0 v) tt (past 4 (offset_read v) s) (suc k) fs (seen ++ x ∷ []) names
             (counted_within (Offset false v) refl) (fine, (elem, bound, refl, et, refl, refl, run)) refl tt (let r : length (fetched ++ os) ≡ s.at + 4 = further 4 size in omega (arith, r)) tt told'
             (λ later.
             let octets : List ℕ = (fetched ++ os) ++ later in
@@ -173,7 +173,7 @@ module _ (order : Order) (fetched os : List ℕ) (code : List Instr) (values : L
 
         -- its actual count
         pub count_right : (elem : TypeId) (bound : Option ℕ) (max o : ℕ) → type_at table t ≡ Some (def.Array elem bound true) → IsFine table k elem.0 → IsRunAt code (s.pc + 1) (op.Ret ∷ [])
-            → Told noted order fetched h seen names s.cells s.numbers s.max_at (length s.nodes) (offset_before s.at ∷ [])
+            → Told noted direct order fetched h seen names s.cells s.numbers s.max_at (length s.nodes) (offset_before s.at ∷ [])
             → ((later : List ℕ) → finish order (fetched ++ later) table h s.max (suc k) fs
             (read_at order (fetched ++ later) table h s.max (suc k) (at_offset t (def.Array elem bound true) max elem.0 o) n (going s.at seen) names) ≡ target (fetched ++ later))
             → Right (count_items order h os item.Actual s) s.at seen (vary_by values order os (offset_read o) max (place_at table elem.0) s)
@@ -192,20 +192,20 @@ module _ (order : Order) (fetched os : List ℕ) (code : List Instr) (values : L
                 (read_at order ((fetched ++ os) ++ later) table h s.max (suc k) (at_offset t (def.Array elem bound true) max elem.0 o) n (going s.at seen) names) ≡ target ((fetched ++ os) ++ later)
             on_it = onward fetched os (λ u. finish order u table h s.max (suc k) fs (read_at order u table h s.max (suc k) (at_offset t (def.Array elem bound true) max elem.0 o) n (going s.at seen) names) ≡ target u) rest
 
-            told' : Told (noted ++ count_items order h os item.Actual s) order (fetched ++ os) h (seen ++ x ∷ []) names s.cells s.numbers s.max_at (length s.nodes) (counts_at s.at ∷ [])
+            told' : Told (noted ++ count_items order h os item.Actual s) direct order (fetched ++ os) h (seen ++ x ∷ []) names s.cells s.numbers s.max_at (length s.nodes) (counts_at s.at ∷ [])
             told' =
-                subst (λ j. Told (noted ++ count_items order h os item.Actual s) order (fetched ++ os) h (seen ++ x ∷ []) names s.cells s.numbers s.max_at j (counts_at s.at ∷ [])) (sym same_count)
+                subst (λ j. Told (noted ++ count_items order h os item.Actual s) direct order (fetched ++ os) h (seen ++ x ∷ []) names s.cells s.numbers s.max_at j (counts_at s.at ∷ [])) (sym same_count)
                 (told_counted order fetched os h s.at (Actual false o max v) seen names s.cells s.numbers s.max_at n (offset_before s.at ∷ []) (counts_at s.at ∷ []) (count_items order h os item.Actual s)
-                (items_it order fetched os [] s.at reached x.entry seen (sym size) ∙ ap (λ j. item_here h s.at item.Actual 4 (pos v) j ∷ []) (sym same_count)) refl tt
+                (items_it order fetched os [] s.at reached x.entry seen (sym size) ∙ ap (λ j. item_here h s.at item.Actual 4 (pos v) j ∷ []) (sym same_count)) refl tt refl
                 (lies_it order fetched os [] s.at reached x.entry seen (sym size)) (after_count s.max_at false o max v s.at s.at refl)
-                (subst (λ j. Told noted order fetched h seen names s.cells s.numbers s.max_at j (offset_before s.at ∷ [])) same_count told))
+                (subst (λ j. Told noted direct order fetched h seen names s.cells s.numbers s.max_at j (offset_before s.at ∷ [])) same_count told))
 
             by_test : (b : Bool) → ltb max (o + v) ≡ b
                 → Right (count_items order h os item.Actual s) s.at seen (if b then refused s.at reason.PastBound else goes (elements v (place_at table elem.0) (with_node (tree.Arr max o, v) (Some s.at) (past 4 begun s))))
             by_test true e = λ later.
                 (count_next order ((fetched ++ os) ++ later) table h k s.max fs n s.at seen names (target ((fetched ++ os) ++ later)) t max elem.0 o (def.Array elem bound true) (on_it later)) (s.at, reason.PastBound) (judge true e later 0)
             by_test false e =
-                elements_right order (fetched ++ os) code values table h own limit (noted ++ count_items order h os item.Actual s) target planned (past 4 begun s) k fs (seen ++ x ∷ []) names t max o v elem bound true (Some s.at) (counts_at s.at ∷ []) et inner
+                elements_right order (fetched ++ os) code values table h own limit (noted ++ count_items order h os item.Actual s) direct target planned (past 4 begun s) k fs (seen ++ x ∷ []) names t max o v elem bound true (Some s.at) (counts_at s.at ∷ []) et inner
                 (counted_within (Actual false o max v) refl)
                 (none_found order (fetched ++ os) h (seen ++ x ∷ []) names s.cells s.numbers s.max_at (length s.nodes) (counts_at s.at ∷ []) told')
                 told' (further 4 size) run
@@ -220,7 +220,7 @@ module _ (order : Order) (fetched os : List ℕ) (code : List Instr) (values : L
 
         -- the offset of a text
         pub text_offset_right : (elem : TypeId) (bound : Option ℕ) (lim : ℕ) → type_at table t ≡ Some (def.Text elem bound) → bound ≢ Some 0 → IsRunAt code s.pc (body_run code table t (def.Text elem bound))
-            → Told noted order fetched h seen names s.cells s.numbers s.max_at (length s.nodes) []
+            → Told noted direct order fetched h seen names s.cells s.numbers s.max_at (length s.nodes) []
             → ((later : List ℕ) → finish order (fetched ++ later) table h s.max (suc k) fs
             (read_at order (fetched ++ later) table h s.max (suc k) (opened t (def.Text elem bound)) n (going s.at seen) names) ≡ target (fetched ++ later))
             → Right (count_items order h os item.Offset s) s.at seen (text_by values order os begun lim s)
@@ -238,19 +238,19 @@ module _ (order : Order) (fetched os : List ℕ) (code : List Instr) (values : L
                 (read_at order ((fetched ++ os) ++ later) table h s.max (suc k) (opened t (def.Text elem bound)) n (going s.at seen) names) ≡ target ((fetched ++ os) ++ later)
             on_it = onward fetched os (λ u. finish order u table h s.max (suc k) fs (read_at order u table h s.max (suc k) (opened t (def.Text elem bound)) n (going s.at seen) names) ≡ target u) rest
 
-            told' : Told (noted ++ count_items order h os item.Offset s) order (fetched ++ os) h (seen ++ x ∷ []) names s.cells s.numbers s.max_at (length s.nodes) (offset_before (s.at + 4) ∷ [])
+            told' : Told (noted ++ count_items order h os item.Offset s) direct order (fetched ++ os) h (seen ++ x ∷ []) names s.cells s.numbers s.max_at (length s.nodes) (offset_before (s.at + 4) ∷ [])
             told' =
-                subst (λ j. Told (noted ++ count_items order h os item.Offset s) order (fetched ++ os) h (seen ++ x ∷ []) names s.cells s.numbers s.max_at j (offset_before (s.at + 4) ∷ [])) (sym same_count)
+                subst (λ j. Told (noted ++ count_items order h os item.Offset s) direct order (fetched ++ os) h (seen ++ x ∷ []) names s.cells s.numbers s.max_at j (offset_before (s.at + 4) ∷ [])) (sym same_count)
                 (told_counted order fetched os h s.at (Offset true 0) seen names s.cells s.numbers s.max_at n [] (offset_before (s.at + 4) ∷ []) (count_items order h os item.Offset s)
-                (items_it order fetched os [] s.at reached x.entry seen (sym size) ∙ ap (λ j. item_here h s.at item.Offset 4 (pos v) j ∷ []) (sym same_count)) refl tt
+                (items_it order fetched os [] s.at reached x.entry seen (sym size) ∙ ap (λ j. item_here h s.at item.Offset 4 (pos v) j ∷ []) (sym same_count)) refl tt refl
                 (lies_it order fetched os [] s.at reached x.entry seen (sym size)) (after_offset s.max_at true 0 s.at)
-                (subst (λ j. Told noted order fetched h seen names s.cells s.numbers s.max_at j []) same_count told))
+                (subst (λ j. Told noted direct order fetched h seen names s.cells s.numbers s.max_at j []) same_count told))
 
             by_test : (b : Bool) → eqb v 0 ≡ b → Right (count_items order h os item.Offset s) s.at seen (if b then goes (past 4 (offset_read 0) s) else refused s.at reason.TextOffset)
             by_test false e = λ later.
                 (text_offset_next order ((fetched ++ os) ++ later) table h k s.max fs n s.at seen names (target ((fetched ++ os) ++ later)) t elem bound (on_it later)) (s.at, reason.TextOffset) (judge false e later)
             by_test true e =
-                plain_good order (fetched ++ os) code table h own limit (noted ++ count_items order h os item.Offset s) target (text_offset t (bound_or bound s.max)) tt (past 4 (offset_read 0) s) (suc k) fs (seen ++ x ∷ []) names
+                plain_good order (fetched ++ os) code table h own limit (noted ++ count_items order h os item.Offset s) direct target (text_offset t (bound_or bound s.max)) tt (past 4 (offset_read 0) s) (suc k) fs (seen ++ x ∷ []) names
                 (counted_within (Offset true 0) refl) (fine, (elem, bound, et, some_bound, refl, run)) refl tt (let r : length (fetched ++ os) ≡ s.at + 4 = further 4 size in omega (arith, r)) tt told'
                 (λ later.
                 let octets : List ℕ = (fetched ++ os) ++ later in
@@ -261,7 +261,7 @@ module _ (order : Order) (fetched os : List ℕ) (code : List Instr) (values : L
 
         -- its actual count
         pub text_count_right : (elem : TypeId) (bound : Option ℕ) (max : ℕ) → type_at table t ≡ Some (def.Text elem bound) → bound ≢ Some 0 → max ≡ bound_or bound s.max → IsRunAt code s.pc (body_run code table t (def.Text elem bound))
-            → Told noted order fetched h seen names s.cells s.numbers s.max_at (length s.nodes) (offset_before s.at ∷ [])
+            → Told noted direct order fetched h seen names s.cells s.numbers s.max_at (length s.nodes) (offset_before s.at ∷ [])
             → ((later : List ℕ) → finish order (fetched ++ later) table h s.max (suc k) fs
             (read_at order (fetched ++ later) table h s.max (suc k) (text_offset t max) n (going s.at seen) names) ≡ target (fetched ++ later))
             → Right (count_items order h os item.Actual s) s.at seen (text_by values order os (offset_read 0) max s)
@@ -283,13 +283,13 @@ module _ (order : Order) (fetched os : List ℕ) (code : List Instr) (values : L
                 (read_at order ((fetched ++ os) ++ later) table h s.max (suc k) (text_offset t max) n (going s.at seen) names) ≡ target ((fetched ++ os) ++ later)
             on_it = onward fetched os (λ u. finish order u table h s.max (suc k) fs (read_at order u table h s.max (suc k) (text_offset t max) n (going s.at seen) names) ≡ target u) rest
 
-            told' : Told (noted ++ count_items order h os item.Actual s) order (fetched ++ os) h (seen ++ x ∷ []) names s.cells s.numbers s.max_at (length s.nodes) (counts_at (s.at + 4 - 4) ∷ [])
+            told' : Told (noted ++ count_items order h os item.Actual s) direct order (fetched ++ os) h (seen ++ x ∷ []) names s.cells s.numbers s.max_at (length s.nodes) (counts_at (s.at + 4 - 4) ∷ [])
             told' =
-                subst (λ j. Told (noted ++ count_items order h os item.Actual s) order (fetched ++ os) h (seen ++ x ∷ []) names s.cells s.numbers s.max_at j (counts_at (s.at + 4 - 4) ∷ [])) (sym same_count)
+                subst (λ j. Told (noted ++ count_items order h os item.Actual s) direct order (fetched ++ os) h (seen ++ x ∷ []) names s.cells s.numbers s.max_at j (counts_at (s.at + 4 - 4) ∷ [])) (sym same_count)
                 (told_counted order fetched os h s.at (Actual true 0 max (v - 1 + 1)) seen names s.cells s.numbers s.max_at n (offset_before s.at ∷ []) (counts_at (s.at + 4 - 4) ∷ []) (count_items order h os item.Actual s)
-                (items_it order fetched os [] s.at reached x.entry seen (sym size) ∙ ap (λ j. item_here h s.at item.Actual 4 (pos v) j ∷ []) (sym same_count)) refl tt
+                (items_it order fetched os [] s.at reached x.entry seen (sym size) ∙ ap (λ j. item_here h s.at item.Actual 4 (pos v) j ∷ []) (sym same_count)) refl tt refl
                 (lies_it order fetched os [] s.at reached x.entry seen (sym size)) (after_count s.max_at true 0 max (v - 1 + 1) s.at (s.at + 4 - 4) (back_four s.at))
-                (subst (λ j. Told noted order fetched h seen names s.cells s.numbers s.max_at j (offset_before s.at ∷ [])) same_count told))
+                (subst (λ j. Told noted direct order fetched h seen names s.cells s.numbers s.max_at j (offset_before s.at ∷ [])) same_count told))
 
             stops_it : (later : List ℕ) (why : ℕ × Reason) → refusal order ((fetched ++ os) ++ later) seen (entry_of (Actual true 0 max 0)) ≡ Some why → (target ((fetched ++ os) ++ later)).progress ≡ stopped s.at seen why
             stops_it later = text_count_next order ((fetched ++ os) ++ later) table h k s.max fs n s.at seen names (target ((fetched ++ os) ++ later)) t max (on_it later)
@@ -297,7 +297,7 @@ module _ (order : Order) (fetched os : List ℕ) (code : List Instr) (values : L
             by_bound : (b : Bool) → eqb v 0 ≡ false → ltb max v ≡ b → Right (count_items order h os item.Actual s) s.at seen (if b then refused s.at reason.PastBound else goes (past 4 (count_read (v - 1)) s))
             by_bound true z e = λ later. stops_it later (s.at, reason.PastBound) (judge false true z e later 0)
             by_bound false z e =
-                plain_good order (fetched ++ os) code table h own limit (noted ++ count_items order h os item.Actual s) target (text_counted t max (v - 1)) tt (past 4 (count_read (v - 1)) s) (suc k) fs (seen ++ x ∷ []) names
+                plain_good order (fetched ++ os) code table h own limit (noted ++ count_items order h os item.Actual s) direct target (text_counted t max (v - 1)) tt (past 4 (count_read (v - 1)) s) (suc k) fs (seen ++ x ∷ []) names
                 (counted_within (Actual true 0 max (v - 1 + 1)) refl) (fine, (elem, bound, et, some_bound, em, run)) refl tt (let r : length (fetched ++ os) ≡ s.at + 4 = further 4 size in omega (arith, r)) tt told'
                 (λ later.
                 let octets : List ℕ = (fetched ++ os) ++ later in
@@ -315,7 +315,7 @@ module _ (order : Order) (fetched os : List ℕ) (code : List Instr) (values : L
       -- its octets
       pub text_right : (elem : TypeId) (bound : Option ℕ) (max c : ℕ) → type_at table t ≡ Some (def.Text elem bound) → IsRunAt code (s.pc + 1) (op.Ret ∷ [])
           → length os ≡ c + 1 → s.at + (c + 1) ≤ STREAM_LIMIT
-          → Told noted order fetched h seen names s.cells s.numbers s.max_at (length s.nodes) (counts_at (s.at - 4) ∷ [])
+          → Told noted direct order fetched h seen names s.cells s.numbers s.max_at (length s.nodes) (counts_at (s.at - 4) ∷ [])
           → ((later : List ℕ) → finish order (fetched ++ later) table h s.max (suc k) fs
           (read_at order (fetched ++ later) table h s.max (suc k) (text_counted t max c) n (going s.at seen) names) ≡ target (fetched ++ later))
           → Right (next_item h s item.Text (length os) (pos (length os)) ∷ []) s.at seen (text_by values order os (count_read c) max s)
@@ -356,10 +356,10 @@ module _ (order : Order) (fetched os : List ℕ) (code : List Instr) (values : L
           by_refusal (Some why) e = λ later.
               (text_next order ((fetched ++ os) ++ later) table h k s.max fs n s.at seen names (target ((fetched ++ os) ++ later)) t max c (on_it later)) why (judge (Some why) e later zeros zeros_size)
           by_refusal None e =
-              let told' : Told (noted ++ next_item h s item.Text (length os) (pos (length os)) ∷ []) order (fetched ++ os) h (seen ++ x ∷ []) names s.cells s.numbers s.max_at (length s.nodes) (counts_at (s.at - 4) ∷ []) =
+              let told' : Told (noted ++ next_item h s item.Text (length os) (pos (length os)) ∷ []) direct order (fetched ++ os) h (seen ++ x ∷ []) names s.cells s.numbers s.max_at (length s.nodes) (counts_at (s.at - 4) ∷ []) =
               told_passed (next_item h s item.Text (length os) (pos (length os)) ∷ []) order fetched os h seen names s.cells s.numbers s.max_at (length s.nodes) (counts_at (s.at - 4) ∷ []) x
-              (items_it order fetched os [] s.at reached x.entry seen text_size ∙ ap₂ (λ l j. item_here h s.at item.Text l (pos (length os)) j ∷ []) text_size (sym same_count)) tt tt (lies_it order fetched os [] s.at reached x.entry seen text_size) told in
-              leaf_good order (fetched ++ os) code table h own limit (noted ++ next_item h s item.Text (length os) (pos (length os)) ∷ []) target (parts_of s) (s.pc + 1) (s.at + length os) s.max s.tag s.carrier s.fresh s.cells s.numbers (tree.Text max text) (Some (s.at - 4)) (counts_at (s.at - 4) ∷ []) (seen ++ x ∷ []) names (suc k) fs t
+              (items_it order fetched os [] s.at reached x.entry seen text_size ∙ ap₂ (λ l j. item_here h s.at item.Text l (pos (length os)) j ∷ []) text_size (sym same_count)) tt tt refl (lies_it order fetched os [] s.at reached x.entry seen text_size) told in
+              leaf_good order (fetched ++ os) code table h own limit (noted ++ next_item h s item.Text (length os) (pos (length os)) ∷ []) direct target (parts_of s) (s.pc + 1) (s.at + length os) s.max s.tag s.carrier s.fresh s.cells s.numbers (tree.Text max text) (Some (s.at - 4)) (counts_at (s.at - 4) ∷ []) (seen ++ x ∷ []) names (suc k) fs t
               (within_passed code table h own limit seen (suc k) fs t (parts_of s) x (λ a j l. silent a h j x tt) w)
               (none_found order (fetched ++ os) h (seen ++ x ∷ []) names s.cells s.numbers s.max_at (length s.nodes) (counts_at (s.at - 4) ∷ []) told')
               told'

@@ -26,6 +26,7 @@ use Rattle.ndr_reading.specs.Around.{going}
 use Rattle.ndr_steps.specs.declared.frame.Frame.TheVariants as frame
 use Rattle.ndr_steps.specs.Spots.{IsFine, IsPlanned}
 use Rattle.ndr_steps.specs.Steps.{State, begun, done_after, with_node, place_of, no_place}
+use Rattle.ndr_verdict.proofs.CellsSeen.{none_seen}
 use Rattle.ndr_steps.specs.Good.{Good, Whole, IsBegun}
 use Rattle.ndr_steps.proofs.PlanRuns.{planned_by}
 use Rattle.ndr_steps.proofs.Begins.{begins_plain}
@@ -97,7 +98,7 @@ module _ (h : Home) where
   nothing_found attr.Last j = refl
   nothing_found attr.Switch j = refl
 
-  begins : IsBegun [] Little [] h [] no_names at_first
+  begins : IsBegun [] 0 Little [] h [] no_names at_first
   begins = record {
     phase = refl;
     max = refl;
@@ -109,25 +110,25 @@ module _ (h : Home) where
     firsts = refl;
     fresh = refl;
     reached = refl;
-    told = record { noted_are = refl; cells_are = refl; numbers_are = λ v p. (refl, λ to. refl); ahead = nothing_found; lie_within = tt };
+    told = record { noted_are = refl; cells_are = refl; cells_named = record { named = none_seen; there = tt }; numbers_are = λ v p. (refl, λ to. refl); ahead = nothing_found; lie_within = tt };
   }
 
-  good_first : Good Little [] code basic_types h 5 32 [] target at_first
-  good_first = begins_plain Little [] code values basic_types h 5 [] plan at_first [] no_names fine begins not_hoisting refl
+  good_first : Good Little [] code basic_types h 5 32 [] 0 target at_first
+  good_first = begins_plain Little [] code values basic_types h 5 [] 0 plan at_first [] no_names fine begins not_hoisting refl
 
-  good_after_gap : Good Little [] code basic_types h 5 32 [] target after_gap
-  good_after_gap = step_right Little [] [] code values basic_types h 5 32 [] target plan at_first good_first (op.Align 2) (first_at code (place_at basic_types 5) (op.Align 2) (op.Num (id 5) ∷ op.Ret ∷ []) run) refl
+  good_after_gap : Good Little [] code basic_types h 5 32 [] 0 target after_gap
+  good_after_gap = step_right Little [] [] code values basic_types h 5 32 [] 0 target plan at_first good_first (op.Align 2) (first_at code (place_at basic_types 5) (op.Align 2) (op.Num (id 5) ∷ op.Ret ∷ []) run) refl
 
   run_short : IsRunAt code (place_at basic_types 5 + 1) (op.Num (id 5) ∷ op.Ret ∷ [])
   run_short = next_at code (place_at basic_types 5) (op.Align 2) (op.Num (id 5) ∷ op.Ret ∷ []) run
 
-  good_after_short : Good Little (2 ∷ 1 ∷ []) code basic_types h 5 32 short_item target after_short
+  good_after_short : Good Little (2 ∷ 1 ∷ []) code basic_types h 5 32 short_item 0 target after_short
   good_after_short =
-      step_right Little [] (2 ∷ 1 ∷ []) code values basic_types h 5 32 [] target plan after_gap good_after_gap (op.Num (id 5))
+      step_right Little [] (2 ∷ 1 ∷ []) code values basic_types h 5 32 [] 0 target plan after_gap good_after_gap (op.Num (id 5))
       (first_at code (place_at basic_types 5 + 1) (op.Num (id 5)) (op.Ret ∷ []) run_short) (refl, lit≤ tt)
 
   -- after the octets 2 and 1 the value is 258, and the only item is the short
-  pub short_is_read : Whole Little (2 ∷ 1 ∷ []) basic_types h 5 short_item target after_short
+  pub short_is_read : Whole Little (2 ∷ 1 ∷ []) basic_types h 5 short_item 0 target after_short
   short_is_read =
-      step_right Little (2 ∷ 1 ∷ []) [] code values basic_types h 5 32 short_item target plan after_short good_after_short op.Ret
+      step_right Little (2 ∷ 1 ∷ []) [] code values basic_types h 5 32 short_item 0 target plan after_short good_after_short op.Ret
       (first_at code (place_at basic_types 5 + 1 + 1) op.Ret [] (next_at code (place_at basic_types 5 + 1) (op.Num (id 5)) (op.Ret ∷ []) run_short)) refl

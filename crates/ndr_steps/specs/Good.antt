@@ -1,7 +1,8 @@
 -- What a state of the decoder means to the plain reader: from this state on, whatever octets follow those that were fetched, it comes to the same as from
 -- the beginning of the home.
 -- `fetched` are the octets so far, `own` the type of the home `h`, `target` what the plain reader gives for the home, by all octets, `limit` how many values
--- nest in place: 32, and one more within a pipe. `noted` are the items of the entries so far.
+-- nest in place: 32, and one more within a pipe. `noted` are the items of the entries so far, `direct` is how many roots that are reference pointers have
+-- their referents so far.
 use Rattle.std.specs.Prelude.{◌≡◌, ◌≤◌, ◌<◌, ℕ, ◌+◌, ◌-◌, zero, suc, ℤ, true, false, not, eqb, List, [], ◌∷◌, ◌++◌, length, map, Option, Some, None}
 use Rattle.std.specs.List.{AllByRecursion, slice_get}
 use Rattle.nd_base.specs.declared.octets.Order.{Order}
@@ -19,6 +20,7 @@ use Rattle.nd_grammar.specs.Reader.{Names, Read, numbered, tree_nodes}
 use Rattle.nd_types.specs.Table.{Table, width}
 use Rattle.nd_types.specs.Number.{value_of_octets}
 use Rattle.nd_grammar.specs.Refusal.{is_enumerator, is_other, tested_at}
+use Rattle.ndr_verdict.proofs.CellsSeen.{CellsSeen}
 use Rattle.ndr_code.specs.declared.instr.Instr.{Instr}
 use Rattle.ndr_code.specs.Code.{whole_at}
 use Rattle.ndr_refs.specs.declared.referents.Known.{Known}
@@ -160,18 +162,27 @@ abbrev pub IsKnownAs : Order → List ℕ → List EntryAt → Names → ℕ →
 IsKnownAs order octets seen names v None = (numbered names.numbers v ≡ None) × ((to : ℕ) → is_other order octets seen v to ≡ false)
 IsKnownAs order octets seen names v (Some k) = (numbered names.numbers v ≡ Some k.cell.0) × ((to : ℕ) → is_other order octets seen v to ≡ not (eqb k.of.0 to))
 
+-- ## Cells
+
+-- The cells, of which there are `n`: those that the entries seen named, and the referents of `direct` roots that are reference pointers. The numbers that are
+-- known are of cells among them.
+pub record HasCells (seen : List EntryAt) (numbers : List (ℕ × Known)) (n direct : ℕ) : Type 0 where
+  pub named : CellsSeen seen n direct
+  pub there : AllByRecursion (λ (x : ℕ × Known). x.1.cell.0 ≤ n) numbers
+
 -- ## The state
 
 -- What the state keeps of the entries seen: the types of the cells and the numbers of full pointers. All of them lie within the octets fetched, and their
 -- items are those noted. Of nodes from number `n` on they have no count or tag but these.
-pub record Told (noted : List Item) (order : Order) (fetched : List ℕ) (h : Home) (seen : List EntryAt) (names : Names) (cells : List ℕ) (numbers : List (ℕ × Known)) (max_at : Option ℕ) (n : ℕ) (half : List Place) : Type 0 where
+pub record Told (noted : List Item) (direct : ℕ) (order : Order) (fetched : List ℕ) (h : Home) (seen : List EntryAt) (names : Names) (cells : List ℕ) (numbers : List (ℕ × Known)) (max_at : Option ℕ) (n : ℕ) (half : List Place) : Type 0 where
   pub cells_are : cells ≡ map (λ c. c.of) names.cells
+  pub cells_named : HasCells seen numbers (length cells) direct
   pub numbers_are : (v : ℕ) → 0 < v → IsKnownAs order fetched seen names v (known v numbers)
   pub ahead : (a : Attr) (j : ℕ) → tested_at seen a h (n + j) ≡ place_of a max_at (place_at half j)
   pub noted_are : items order fetched seen ≡ noted
   pub lie_within : AllByRecursion (λ (x : EntryAt). x.at + size_at x.at x.entry.kind ≤ length fetched) seen
 
-pub record Good (order : Order) (fetched : List ℕ) (code : List Instr) (table : Table) (h : Home) (own limit : ℕ) (noted : List Item) (target : List ℕ → Read) (s : State) : Type 0 where
+pub record Good (order : Order) (fetched : List ℕ) (code : List Instr) (table : Table) (h : Home) (own limit : ℕ) (noted : List Item) (direct : ℕ) (target : List ℕ → Read) (s : State) : Type 0 where
   pub depth : ℕ
   pub fs : List Around
   pub point : Point
@@ -198,14 +209,14 @@ pub record Good (order : Order) (fetched : List ℕ) (code : List Instr) (table 
   -- the octets fetched end where the state is, but for a tag that is not passed yet
   pub reached : length fetched ≡ s.at + held point
   pub holds : Holds order fetched s.at point
-  pub told : Told noted order fetched h seen names s.cells s.numbers s.max_at (length s.nodes) (half_at point s.at)
+  pub told : Told noted direct order fetched h seen names s.cells s.numbers s.max_at (length s.nodes) (half_at point s.at)
   -- whatever follows, the plain reader comes from here to what it comes to from the beginning
   pub rest : (later : List ℕ)
       → finish order (fetched ++ later) table h s.max depth fs (read_at order (fetched ++ later) table h s.max depth point (length (nodes_around fs)) (going s.at seen) names)
       ≡ target (fetched ++ later)
 
 -- The home's value is whole: this is what the plain reader gives, whatever follows.
-pub record Whole (order : Order) (fetched : List ℕ) (table : Table) (h : Home) (own : ℕ) (noted : List Item) (target : List ℕ → Read) (s : State) : Type 0 where
+pub record Whole (order : Order) (fetched : List ℕ) (table : Table) (h : Home) (own : ℕ) (noted : List Item) (direct : ℕ) (target : List ℕ → Read) (s : State) : Type 0 where
   pub v : Tree
   pub seen : List EntryAt
   pub names : Names
@@ -213,15 +224,15 @@ pub record Whole (order : Order) (fetched : List ℕ) (table : Table) (h : Home)
   pub pending : s.fresh ≡ map (owed table) (home_pointers table h own v)
   pub first : (x : First) × (s.own ≡ Some x) × Kept h seen s.max_at s.nodes 0 x
   pub reached : length fetched ≡ s.at
-  pub told : Told noted order fetched h seen names s.cells s.numbers s.max_at (length s.nodes) []
+  pub told : Told noted direct order fetched h seen names s.cells s.numbers s.max_at (length s.nodes) []
   pub is : (later : List ℕ) → record { tree = v; progress = going s.at seen; names = names } ≡ target (fetched ++ later)
 
 -- What a step comes to, at this place and after these entries, is right, with these items noted after it: a refusal is that of the plain reader, whatever
 -- follows.
-abbrev pub IsRight : Order → List ℕ → List Instr → Table → Home → ℕ → ℕ → List Item → (List ℕ → Read) → ℕ → List EntryAt → Outcome → Type 0
-IsRight order fetched code table h own limit noted target at seen (goes s) = Good order fetched code table h own limit noted target s
-IsRight order fetched code table h own limit noted target at seen (refused place why) = (later : List ℕ) → (target (fetched ++ later)).progress ≡ stopped at seen (place, why)
-IsRight order fetched code table h own limit noted target at seen (whole s) = Whole order fetched table h own noted target s
+abbrev pub IsRight : Order → List ℕ → List Instr → Table → Home → ℕ → ℕ → List Item → ℕ → (List ℕ → Read) → ℕ → List EntryAt → Outcome → Type 0
+IsRight order fetched code table h own limit noted direct target at seen (goes s) = Good order fetched code table h own limit noted direct target s
+IsRight order fetched code table h own limit noted direct target at seen (refused place why) = (later : List ℕ) → (target (fetched ++ later)).progress ≡ stopped at seen (place, why)
+IsRight order fetched code table h own limit noted direct target at seen (whole s) = Whole order fetched table h own noted direct target s
 
 -- The octets that a step wants, where they are all there: so many, and of an item not past the limit of a stream.
 abbrev pub HasOctets : Want → List ℕ → ℕ → Type 0
@@ -242,7 +253,7 @@ IsTooLong (gap_of n) at = ⊥
 IsTooLong (item_of n) at = STREAM_LIMIT < at + n
 
 -- The state at the beginning of a home's value: nothing of it was read, and no entry so far is of it.
-pub record IsBegun (noted : List Item) (order : Order) (fetched : List ℕ) (h : Home) (seen : List EntryAt) (names : Names) (s : State) : Type 0 where
+pub record IsBegun (noted : List Item) (direct : ℕ) (order : Order) (fetched : List ℕ) (h : Home) (seen : List EntryAt) (names : Names) (s : State) : Type 0 where
   pub phase : s.phase ≡ begun
   pub max : s.max ≡ 0
   pub max_at : s.max_at ≡ None
@@ -253,4 +264,4 @@ pub record IsBegun (noted : List Item) (order : Order) (fetched : List ℕ) (h :
   pub firsts : s.firsts ≡ []
   pub fresh : s.fresh ≡ []
   pub reached : length fetched ≡ s.at
-  pub told : Told noted order fetched h seen names s.cells s.numbers s.max_at (length s.nodes) []
+  pub told : Told noted direct order fetched h seen names s.cells s.numbers s.max_at (length s.nodes) []

@@ -1,9 +1,9 @@
-mod Alone
+pub mod Alone
 mod CellNumbers
 pub mod CellsSeen
-mod Counted
+pub mod Counted
 mod NamedCells
 mod NamedInTurn
-mod NeverRefused
-mod ReadThrough
-mod Refused
+pub mod NeverRefused
+pub mod ReadThrough
+pub mod Refused
