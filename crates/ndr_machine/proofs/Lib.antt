@@ -8,3 +8,4 @@ mod Noting
 mod RowItems
 mod Phases
 mod RowStates
+mod Counting

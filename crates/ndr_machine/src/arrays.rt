@@ -1,5 +1,5 @@
 // Arrays, and maximum counts before a home's value.
-ghost use Rattle.std.specs.Prelude.{◌≡◌, ◌<◌, ◌+◌, ◌^◌, None, length, pos, [], ◌∷◌, OnOk};
+ghost use Rattle.std.specs.Prelude.{◌≡◌, ◌<◌, ◌+◌, ◌^◌, None, length, pos, [], ◌∷◌, OnOk, OnErr};
 ghost use Rattle.nd_value.specs.Tree as tree;
 ghost use Rattle.ndr_steps.specs.Steps.{goes, elements, with_node, past, vary_by, hoist_by, with_max, done_after};
 ghost use Rattle.ndr_steps.specs.Steps as phase;
@@ -100,6 +100,8 @@ pub(crate) fn count_read<L: Ledger>(
     ensures outside { OnOk result (outside machine.new ≡ outside machine.old) }
     ensures count { machine.new.count ≡ machine.old.count }
     ensures pc { machine.new.pc ≡ machine.old.pc }
+    ensures unnoted { OnErr result (items.new ≡ items.old) }
+    ensures idle { OnErr result (steps.new ≡ steps.old) }
     ensures memory { IfErr result (λ e. e ≡ fault.Memory) }
 {
     machine.note(kind, 4, i128::from(number), items, steps)?;
