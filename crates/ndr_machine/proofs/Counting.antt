@@ -60,4 +60,4 @@ pub text_stopped : (m : Machine) (why : Option (ℕ × Reason)) (x : Item) (limi
     → Noted (text_done why limit os (state_of m)) (x ∷ []) (notes_seen log log' n n' m.cells k') r
 text_stopped m why x limit os log log' n n' k' r e none kind h memory el i =
     subst (λ (w : Option (ℕ × Reason)). Noted (text_done w limit os (state_of m)) (x ∷ []) (notes_seen log log' n n' m.cells k') r) (sym none)
-    (stopped_after x _ log log' n n' m.cells k' r e h fault el (i ∙ ap (λ (q : ItemKind). n + ticks_of q) (sym kind)) (cell_count m))
+    (stopped_after x _ log log' n n' m.cells k' r e h memory el (i ∙ ap (λ (q : ItemKind). n + ticks_of q) (sym kind)) (cell_count m))

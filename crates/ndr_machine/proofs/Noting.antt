@@ -84,4 +84,4 @@ pub noted_by_result : (x : Item) (s t : State) (log log' : Logged) (n n' k k' : 
 noted_by_result x s t log log' n n' k k' (Ok u) d el i c c' =
     let e : length t.cells ≡ length s.cells = ap (λ (q : State). length q.cells) (goes_state s t (Ok u) d) in (el, omega (arith, i, c, c', e))
 noted_by_result x s t log log' n n' k k' (Err e) d el i c c' =
-    stopped_after x s log log' n n' k k' (Err e) e refl (goes_memory s t (Err e) d) el i c
+    stopped_after {T = Unit {0}} x s log log' n n' k k' (Err e) e refl (goes_memory s t (Err e) d) el i c

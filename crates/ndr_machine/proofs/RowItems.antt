@@ -1,6 +1,6 @@
 -- Items of rows of numbers, noted one after the other.
 -- `o` is an order, `p` a primitive, `h` a home, `os` are octets, `n`, `k`, `i` numbers of numbers, `g` is a log.
-use Rattle.std.proofs.Common.{◌≡◌, ◌<◌, ◌≤◌, ℕ, ◌+◌, ◌-◌, ◌*◌, zero, suc, ℤ, Bool, true, false, List, [], ◌∷◌, ◌++◌, length, take, drop, Result, IsErrAnd, refl, sym, ap, ap₂, ◌∙◌, subst, arith, length-append}
+use Rattle.std.proofs.Common.{◌≡◌, ◌<◌, ◌≤◌, ℕ, ◌+◌, ◌-◌, ◌*◌, zero, suc, ℤ, Bool, true, false, List, [], ◌∷◌, ◌++◌, length, take, drop, Result, Ok, Err, IsErrAnd, refl, sym, ap, ap₂, ◌∙◌, subst, arith, length-append}
 use Rattle.std.proofs.lemmas.List.{drop-drop}
 use Rattle.nd_base.specs.declared.octets.Order.{Order}
 use Rattle.nd_types.specs.declared.types.Primitive.{Primitive}
@@ -14,7 +14,7 @@ use Rattle.nd_flat.specs.FlatForm.{row_values, num_flats}
 use Rattle.ndr_steps.specs.Steps.{State}
 use Rattle.ndr_steps.specs.StepItems.{item_here}
 use Rattle.ndr_runs.specs.Rows.{row_items}
-use Rattle.ndr_state.specs.Notes.{notes_seen, all_noted, number_ahead}
+use Rattle.ndr_state.specs.Notes.{NotesSeen, notes_seen, all_noted, number_ahead}
 use Rattle.ndr_state.specs.declared.fault.DecodeFault.{DecodeFault}
 use Rattle.ndr_state.specs.declared.fault.DecodeFault.TheVariants as fault
 use Rattle.ndr_machine.specs.Notes.{IsRowPart, RowNoted}
@@ -98,6 +98,15 @@ module _ (o : Order) (p : Primitive) (h : Home) where
       steps_are = let e = n.steps_are in omega (arith, e, es);
     }
 
+    -- the first one, as the code reads it
+    pub first_noted : (s : State) (wide : ℕ) (z z' : ℤ) (log log' : Logged) (steps steps' : ℕ) → s.at ≡ at → length s.nodes ≡ node → wide ≡ width p
+        → z ≡ value_of_octets o p (take wide os) → z' ≡ z → log' ≡ noted (number_ahead h s 0 wide z') log → steps' ≡ steps + 1 → IsRowNoted 1 log log' steps steps'
+    first_noted s wide z z' log log' steps steps' ea en ew ez ez' el es =
+        let size : wide ≡ wide - 0 * wide = omega arith in
+        let from : 0 ≡ 0 * wide = omega arith in
+        number_noted s 0 wide wide z z' log log log' steps steps steps' ea en ew (omega arith)
+        (ez ∙ ap₂ (λ (x y : ℕ). value_of_octets o p (take x (drop y os))) size from) ez' el es (row_begins log steps)
+
     -- all of them
     pub row_noted : (i n : ℕ) (log log' : Logged) (steps steps' : ℕ) → i ≡ n → IsRowNoted i log log' steps steps'
         → (log' ≡ all_noted (row_items o p h at node n os) log) × (steps' ≡ steps + n)
@@ -108,9 +117,15 @@ module _ (o : Order) (p : Primitive) (h : Home) where
     pub row_stopped : (i n : ℕ) (log log' log'' : Logged) (steps steps' steps'' k k' : ℕ) (r : Result (Unit {0}) DecodeFault) (e : DecodeFault)
         → IsErrAnd r (λ y. y ≡ e) → e ≡ fault.Memory → i ≤ n → log'' ≡ log' → steps'' ≡ steps' → IsRowNoted i log log' steps steps'
         → RowNoted o p h at node n os (notes_seen log log'' steps steps'' k k') r
-    row_stopped i n log log' log'' steps steps' steps'' k k' r e h m le el es row =
-        subst (λ (y : Result (Unit {0}) DecodeFault). RowNoted o p h at node n os (notes_seen log log'' steps steps'' k k') y) (sym (memory_on r e h m))
+    row_stopped i n log log' log'' steps steps' steps'' k k' r e is m le el es row =
+        subst (λ (y : Result (Unit {0}) DecodeFault). RowNoted o p h at node n os (notes_seen log log'' steps steps'' k k') y) (sym (memory_on r e is m))
         (record { some = i; few = le; log = el ∙ row.log_is; steps = let s = row.steps_are in omega (arith, s, es) })
+
+    -- what was noted in part is what a `?` hands on
+    pub row_handed : (n : ℕ) (notes : NotesSeen) (r : Result (Unit {0}) DecodeFault) (e : DecodeFault) → IsErrAnd r (λ y. y ≡ e)
+        → RowNoted o p h at node n os notes (Err e) → RowNoted o p h at node n os notes r
+    row_handed n notes (Ok u) e is row = absurd is
+    row_handed n notes (Err y) e is row = subst (λ (x : DecodeFault). RowNoted o p h at node n os notes (Err x)) (sym is) row
 
     -- nothing is kept, and the others are counted
     pub row_counted : (n more : ℕ) (log log' : Logged) (steps steps' steps'' : ℕ) → n ≡ more + 1 → length log'.items ≡ length log.items

@@ -29,7 +29,7 @@ last_within : (b : Bool) (at c : ℕ) (bs : List ℕ) → (first_zero (c ∷ bs)
 last_within true at c bs later h = absurd (omega (arith, h))
 last_within false at c bs later h = later (omega (arith, h))
 
-last_alone : (b : Bool) (at : ℕ) → (if b then 0 else 1) + 1 ≡ 1 → cond b None (Some (at, reason.TextUnended)) ≡ None
+last_alone : (b : Bool) (at : ℕ) → (if b then 0 else 1) + 1 ≡ 1 → cond {A = Option (ℕ × Reason)} b None (Some (at, reason.TextUnended)) ≡ None
 last_alone true at h = refl
 last_alone false at h = absurd (omega (arith, h))
 
@@ -47,7 +47,7 @@ missing_within : (b : Bool) (at c : ℕ) (bs : List ℕ)
 missing_within true at c bs later h = absurd (omega (arith, h))
 missing_within false at c bs later h = later (omega arith) (omega (arith, h)) ∙ ap (λ (k : ℕ). Some (k, reason.TextUnended)) (omega arith)
 
-missing_alone : (b : Bool) (at : ℕ) → 1 ≤ (if b then 0 else 1) → cond b None (Some (at, reason.TextUnended)) ≡ Some (at + 0, reason.TextUnended)
+missing_alone : (b : Bool) (at : ℕ) → 1 ≤ (if b then 0 else 1) → cond {A = Option (ℕ × Reason)} b None (Some (at, reason.TextUnended)) ≡ Some (at + 0, reason.TextUnended)
 missing_alone true at h = absurd (omega (arith, h))
 missing_alone false at h = ap (λ (k : ℕ). Some (k, reason.TextUnended)) (omega arith)
 
