@@ -6,6 +6,5 @@ mod Outcomes
 mod Elements
 mod Noting
 mod RowItems
-mod Phases
 mod RowStates
 mod Counting

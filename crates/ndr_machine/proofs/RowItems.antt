@@ -1,6 +1,6 @@
 -- Items of rows of numbers, noted one after the other.
 -- `o` is an order, `p` a primitive, `h` a home, `os` are octets, `n`, `k`, `i` numbers of numbers, `g` is a log.
-use Rattle.std.proofs.Common.{◌≡◌, ◌<◌, ◌≤◌, ℕ, ◌+◌, ◌-◌, ◌*◌, zero, suc, ℤ, Bool, true, false, List, [], ◌∷◌, ◌++◌, length, take, drop, Result, Ok, Err, IsErrAnd, refl, sym, ap, ap₂, ◌∙◌, subst, arith, length-append}
+use Rattle.std.proofs.Common.{◌≡◌, ℕ, ◌+◌, ◌-◌, ◌*◌, zero, suc, ℤ, Bool, true, false, List, [], ◌∷◌, ◌++◌, length, take, drop, refl, sym, ap, ap₂, ◌∙◌, arith, length-append}
 use Rattle.std.proofs.lemmas.List.{drop-drop}
 use Rattle.nd_base.specs.declared.octets.Order.{Order}
 use Rattle.nd_types.specs.declared.types.Primitive.{Primitive}
@@ -10,15 +10,10 @@ use Rattle.nd_value.specs.Logged.{Logged, noted, noted_by}
 use Rattle.nd_value.specs.declared.item.Home.{Home}
 use Rattle.nd_value.specs.declared.item.Item.{Item}
 use Rattle.nd_value.specs.declared.item.ItemKind.TheVariants as item
-use Rattle.nd_flat.specs.FlatForm.{row_values, num_flats}
 use Rattle.ndr_steps.specs.Steps.{State}
 use Rattle.ndr_steps.specs.StepItems.{item_here}
 use Rattle.ndr_runs.specs.Rows.{row_items}
-use Rattle.ndr_state.specs.Notes.{NotesSeen, notes_seen, all_noted, number_ahead}
-use Rattle.ndr_state.specs.declared.fault.DecodeFault.{DecodeFault}
-use Rattle.ndr_state.specs.declared.fault.DecodeFault.TheVariants as fault
-use Rattle.ndr_machine.specs.Notes.{IsRowPart, RowNoted}
-use Rattle.ndr_machine.proofs.Noting.{memory_on}
+use Rattle.ndr_state.specs.Notes.{all_noted, number_ahead}
 
 -- ## Logs
 
@@ -113,20 +108,6 @@ module _ (o : Order) (p : Primitive) (h : Home) where
     row_noted i n log log' steps steps' e r =
         (r.log_is ∙ ap (λ j. all_noted (row_items o p h at node j os) log) e, let s = r.steps_are in omega (arith, s, e))
 
-    -- memory was refused at the next
-    pub row_stopped : (i n : ℕ) (log log' log'' : Logged) (steps steps' steps'' k k' : ℕ) (r : Result (Unit {0}) DecodeFault) (e : DecodeFault)
-        → IsErrAnd r (λ y. y ≡ e) → e ≡ fault.Memory → i ≤ n → log'' ≡ log' → steps'' ≡ steps' → IsRowNoted i log log' steps steps'
-        → RowNoted o p h at node n os (notes_seen log log'' steps steps'' k k') r
-    row_stopped i n log log' log'' steps steps' steps'' k k' r e is m le el es row =
-        subst (λ (y : Result (Unit {0}) DecodeFault). RowNoted o p h at node n os (notes_seen log log'' steps steps'' k k') y) (sym (memory_on r e is m))
-        (record { some = i; few = le; log = el ∙ row.log_is; steps = let s = row.steps_are in omega (arith, s, es) })
-
-    -- what was noted in part is what a `?` hands on
-    pub row_handed : (n : ℕ) (notes : NotesSeen) (r : Result (Unit {0}) DecodeFault) (e : DecodeFault) → IsErrAnd r (λ y. y ≡ e)
-        → RowNoted o p h at node n os notes (Err e) → RowNoted o p h at node n os notes r
-    row_handed n notes (Ok u) e is row = absurd is
-    row_handed n notes (Err y) e is row = subst (λ (x : DecodeFault). RowNoted o p h at node n os notes (Err x)) (sym is) row
-
     -- nothing is kept, and the others are counted
     pub row_counted : (n more : ℕ) (log log' : Logged) (steps steps' steps'' : ℕ) → n ≡ more + 1 → length log'.items ≡ length log.items
         → steps'' ≡ steps' + more → IsRowNoted 1 log log' steps steps' → IsRowNoted n log log' steps steps''
@@ -138,17 +119,3 @@ module _ (o : Order) (p : Primitive) (h : Home) where
           log_is = r.log_is ∙ all (row_items o p h at node 1 os) ∙ sym (all (row_items o p h at node n os));
           steps_are = let s = r.steps_are in omega (arith, s, es, en);
         }
-
--- ## Octets and nodes
-
-within_by : (i n w d : ℕ) → n ≡ i + 1 + d → i * w + w ≤ n * w
-within_by i n w d e = let m : n * w ≡ (i + 1 + d) * w = ap (λ k. k * w) e in omega (arith, m)
-
--- the octets of the number at a place are there
-pub number_within : (i n w : ℕ) → i < n → i * w + w ≤ n * w
-number_within i n w h = within_by i n w (n - (i + 1)) (omega (arith, h))
-
--- a row has as many nodes as numbers
-pub row_count : (o : Order) (p : Primitive) (n : ℕ) (os : List ℕ) → length (num_flats (row_values o p n os)) ≡ n
-row_count o p zero os = refl
-row_count o p (suc n) os = ap suc (row_count o p n (drop (width p) os))
