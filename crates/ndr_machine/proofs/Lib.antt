@@ -8,3 +8,9 @@ mod Noting
 mod RowItems
 mod RowStates
 mod Counting
+mod Wanted
+mod Owing
+mod Tagged
+mod Meeting
+mod Reserving
+mod Handing

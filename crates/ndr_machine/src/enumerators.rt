@@ -1,5 +1,6 @@
 // Values of enumerated types.
-ghost use Rattle.std.specs.Prelude.{◌≡◌, list_any};
+ghost use Rattle.std.specs.Prelude.{◌≡◌};
+ghost use Rattle.std.specs.List.{list_any};
 ghost use Rattle.std.specs.Ordering.{int_eq};
 ghost use Rattle.nd_grammar.specs.Refusal.{is_enumerator as is_one_of};
 ghost use Rattle.ndr_code.specs.Lines.{enumerators};

@@ -32,8 +32,8 @@ pub(crate) fn number<L: Ledger>(
     requires code { machine.old.pc < 2 ^ 32 }
     requires fits { machine.old.at + length octets.now < 2 ^ 32 }
     requires few { machine.old.count + 1 < 2 ^ 32 }
-    ensures does { Does (number_step order octets.now prim None (state_of machine.old)) result (state_of machine.new) }
-    ensures noted { Noted (number_step order octets.now prim None (state_of machine.old)) (number_items order machine.old.home octets.now prim (state_of machine.old)) (notes_seen items.old items.new (L.number steps.old) (L.number steps.new) machine.old.cells machine.new.cells) result }
+    ensures does { Does (number_step [] order octets.now prim None (state_of machine.old)) result (state_of machine.new) }
+    ensures noted { Noted (number_step [] order octets.now prim None (state_of machine.old)) (number_items order machine.old.home octets.now prim (state_of machine.old)) (notes_seen items.old items.new (L.number steps.old) (L.number steps.new) machine.old.cells machine.new.cells) result }
     ensures outside { OnOk result (outside machine.new ≡ outside machine.old) }
 {
     let value = read_value(order, prim, octets);
@@ -54,8 +54,8 @@ pub(crate) fn enumerated<L: Ledger>(
     requires code { machine.old.pc < 2 ^ 32 }
     requires fits { machine.old.at + length octets.now < 2 ^ 32 }
     requires few { machine.old.count + 1 < 2 ^ 32 }
-    ensures does { Does (number_step order octets.now Short (enumerators values.now of.0) (state_of machine.old)) result (state_of machine.new) }
-    ensures noted { Noted (number_step order octets.now Short (enumerators values.now of.0) (state_of machine.old)) (number_items order machine.old.home octets.now Short (state_of machine.old)) (notes_seen items.old items.new (L.number steps.old) (L.number steps.new) machine.old.cells machine.new.cells) result }
+    ensures does { Does (number_step values.now order octets.now Short (enumerators values.now of.0) (state_of machine.old)) result (state_of machine.new) }
+    ensures noted { Noted (number_step values.now order octets.now Short (enumerators values.now of.0) (state_of machine.old)) (number_items order machine.old.home octets.now Short (state_of machine.old)) (notes_seen items.old items.new (L.number steps.old) (L.number steps.new) machine.old.cells machine.new.cells) result }
     ensures outside { OnOk result (outside machine.new ≡ outside machine.old) }
 {
     let value = read_value(order, Prim::Short, octets);

@@ -1,5 +1,5 @@
 // What each instruction does.
-ghost use Rattle.std.specs.Prelude.{◌≡◌, ◌≢◌, ◌<◌, ◌+◌, ◌^◌, true, false, length, OnOk};
+ghost use Rattle.std.specs.Prelude.{◌≡◌, ◌≢◌, ◌<◌, ◌+◌, ◌^◌, true, false, [], length, OnOk};
 ghost use Rattle.ndr_code.specs.declared.instr.Instr.TheVariants as op;
 ghost use Rattle.ndr_steps.specs.Steps.{IsInner, step, wants, text_want, hoist_want, limit_of};
 ghost use Rattle.ndr_state.specs.Seen.{state_of, phase_of, Comes, Does, outside};
@@ -80,7 +80,7 @@ pub fn wanted(machine: &Machine, instr: Instr, values: &EnumLists) -> Want
 
 // The octets that a string wants next.
 fn text_wanted(machine: &Machine) -> Want
-    ensures wants { Wants (text_want (phase_of machine.now.phase)) result }
+    ensures wants { Wants (text_want [] (phase_of machine.now.phase)) result }
     ensures few { IsFewGap result }
 {
     match machine.phase {
@@ -91,7 +91,7 @@ fn text_wanted(machine: &Machine) -> Want
 
 // The octets that a maximum count wants next.
 fn hoist_wanted(machine: &Machine) -> Want
-    ensures wants { Wants (hoist_want (phase_of machine.now.phase) machine.now.at) result }
+    ensures wants { Wants (hoist_want [] (phase_of machine.now.phase) machine.now.at) result }
     ensures few { IsFewGap result }
 {
     match machine.phase {

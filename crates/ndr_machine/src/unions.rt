@@ -28,7 +28,7 @@ pub(crate) fn tag(
 ) -> Result<(), DecodeFault>
     requires wide { length octets.now ≡ width (form_by of.0 (enumerators values.now of.0)).prim }
     requires code { machine.old.pc < 2 ^ 32 }
-    ensures does { Does (tag_step order octets.now (form_by of.0 (enumerators values.now of.0)) (state_of machine.old)) result (state_of machine.new) }
+    ensures does { Does (tag_step values.now order octets.now (form_by of.0 (enumerators values.now of.0)) (state_of machine.old)) result (state_of machine.new) }
     ensures outside { OnOk result (outside machine.new ≡ outside machine.old) }
 {
     let carrier = carrier_of(values, of);
