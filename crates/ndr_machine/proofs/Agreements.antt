@@ -1,6 +1,7 @@
 -- Agreements that are tried, and agreements of pointers.
 use Rattle.std.proofs.Common.{◌≡◌, ℕ, ◌-◌, zero, suc, ℤ, Bool, true, false, List, [], ◌∷◌, ◌++◌, Option, Some, None, refl, ap, append-nil}
 use Rattle.std.specs.Prelude.{if◌then◌else◌, option_map}
+use Rattle.std.specs.Ordering.{int_eq}
 use Rattle.nd_types.specs.declared.types.Attr.TheVariants as attr
 use Rattle.nd_value.specs.Agreement.{Agreement}
 use Rattle.nd_grammar.specs.declared.reason.Reason.{Reason}
@@ -8,7 +9,7 @@ use Rattle.nd_grammar.specs.declared.reason.Reason.TheVariants as reason
 use Rattle.ndr_steps.specs.declared.first.First.{First}
 use Rattle.ndr_steps.specs.declared.first.First.TheVariants as first
 use Rattle.ndr_steps.specs.declared.first.Member.{Member}
-use Rattle.ndr_steps.specs.Steps.{State, Outcome, goes, refused, next, Owed, with_fresh, joined_by, checked, try_all, disagreed, place_of, place_in}
+use Rattle.ndr_steps.specs.Steps.{State, Outcome, goes, refused, next, Owed, with_fresh, joined_by, checked, try_all, disagreed, place_of, place_in, first_found}
 use Rattle.ndr_machine.specs.Parts.{disagreement, count_place, tag_place}
 
 -- ## Places
@@ -69,6 +70,22 @@ tried_held w x s h = held_by _ (place_of w.attr s.max_at (place_in x)) w.wanted 
 pub tried_failed : (w : Agreement) (x : First) (s : State) (place : ℕ) (why : Reason) → disagreement w x s.max_at ≡ Some (place, why)
     → try_all (w ∷ []) x s ≡ refused place why
 tried_failed w x s place why h = failed_by _ (place_of w.attr s.max_at (place_in x)) w.wanted _ (goes (next s)) place why h
+
+-- ## Where it does not hold
+
+module _ (w : Agreement) (x : First) (m : Option ℕ) where
+  abbrev why_not : Bool → Option ℕ → Option (ℕ × Reason)
+  why_not b p = if b then None else option_map (λ (place : ℕ). (place, reason.Disagrees w.wanted (first_found w.attr x))) p
+
+  pub holds : int_eq w.wanted (first_found w.attr x) ≡ true → disagreement w x m ≡ None
+  holds h = ap (λ b. why_not b (place_of w.attr m (place_in x))) h
+
+  pub has_no_place : int_eq w.wanted (first_found w.attr x) ≡ false → place_of w.attr m (place_in x) ≡ None → disagreement w x m ≡ None
+  has_no_place h p = ap (λ b. why_not b (place_of w.attr m (place_in x))) h ∙ ap (why_not false) p
+
+  pub disagrees : (place : ℕ) → int_eq w.wanted (first_found w.attr x) ≡ false → place_of w.attr m (place_in x) ≡ Some place
+      → disagreement w x m ≡ Some (place, reason.Disagrees w.wanted (first_found w.attr x))
+  disagrees place h p = ap (λ b. why_not b (place_of w.attr m (place_in x))) h ∙ ap (why_not false) p
 
 -- ## No agreement
 

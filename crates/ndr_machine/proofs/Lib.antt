@@ -8,9 +8,15 @@ mod Noting
 mod RowItems
 mod RowStates
 mod Counting
+mod Moving
+mod Fetching
+mod Turning
+mod RowTurns
+mod Looping
 mod Wanted
 mod Owing
 mod Tagged
+mod Taking
 mod Meeting
 mod Reserving
 mod Handing

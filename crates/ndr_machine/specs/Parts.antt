@@ -30,7 +30,7 @@ use Rattle.ndr_state.specs.declared.fault.DecodeFault.{DecodeFault}
 use Rattle.ndr_state.specs.declared.fault.DecodeFault.TheVariants as fault
 use Rattle.ndr_steps.specs.declared.frame.Frame.{Frame}
 use Rattle.ndr_steps.specs.declared.frame.Frame.TheVariants as frame
-use Rattle.ndr_steps.specs.Steps.{State, Outcome, goes, refused, next, jumped, past, pushed, popped, with_node, with_frames, with_members, checked, first_number, first_found, place_of, place_in, done_after, elements, own_by, firsts_by, arm_taken, Want, no_octets, gap_of, item_of, owing, new_cell, full_by, Phase, begun, gap_read, offset_read, count_read, step}
+use Rattle.ndr_steps.specs.Steps.{State, Outcome, Owed, goes, refused, next, jumped, past, pushed, popped, with_node, with_frames, with_members, checked, first_number, first_found, place_of, place_in, done_after, elements, own_by, firsts_by, arm_taken, Want, no_octets, gap_of, item_of, owing, new_cell, full_by, Phase, begun, gap_read, offset_read, count_read, step}
 
 -- ## Octets and instructions
 
@@ -108,6 +108,10 @@ IsTried why (Err _) = ⊥
 abbrev pub member_checked : ℕ → Attr → ℕ → ℕ → State → Outcome
 member_checked first a f v s =
     checked (agreement a (first_number (slice_get s.firsts (first + v)))) (slice_get s.members (first + f)) (slice_get s.firsts (first + f)) s
+
+-- a pending referent with one agreement more
+abbrev pub with_agreement : Agreement → Owed → Owed
+with_agreement a o = record { class = o.class; to = o.to; run = o.run; cell = o.cell; agreements = o.agreements ++ a ∷ [] }
 
 -- ## Arms, pointers and context handles
 

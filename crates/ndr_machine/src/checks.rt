@@ -1,11 +1,11 @@
 // Agreements of the members of a struct.
-ghost use Rattle.std.specs.Prelude.{◌≡◌, ◌<◌, ◌≤◌, ◌+◌, ◌-◌, ◌^◌, ◌∷◌, [], length, slice_get, option_map, IfSome, IfOk, IfErr, OnOk};
+ghost use Rattle.std.specs.Prelude.{◌≡◌, ◌<◌, ◌≤◌, ◌+◌, ◌-◌, ◌^◌, ◌∷◌, [], length, take, drop, slice_get, option_map, IfSome, IfOk, IfErr, OnOk};
 ghost use Rattle.nd_value.specs.Agreement.{wanted_by};
 ghost use Rattle.nd_flat.specs.FlatForm.{IsKeepableNumber};
 ghost use Rattle.ndr_steps.specs.Steps.{goes, check_in, checked, first_found, first_number, with_fresh, joined_by, is_owing, max_in, offset_in, actual_in, tag_in, place_of, place_in};
 ghost use Rattle.ndr_state.specs.Seen.{state_of, Does, agreement_of, owed_of, HasGrown, outside};
 ghost use Rattle.ndr_state.specs.declared.fault.DecodeFault.TheVariants as fault;
-ghost use Rattle.ndr_machine.specs.Parts.{IsTried, disagreement, member_checked, count_place, tag_place};
+ghost use Rattle.ndr_machine.specs.Parts.{IsTried, disagreement, member_checked, count_place, tag_place, with_agreement};
 
 use nd_grammar::Reason;
 use nd_types::Attr;
@@ -79,26 +79,22 @@ fn check_member(
 
 // What is kept of the first node of a member of the struct whose members begin at `first`.
 fn first_at(machine: &Machine, first: usize, member: u32) -> Option<First>
-    requires few { first < 2 ^ 60 }
     ensures { result ≡ slice_get machine.now.firsts.items (first + member) }
 {
-    machine.firsts.as_slice().get(first + member as usize).copied()
+    let at = first.saturating_add(member as usize);
+    machine.firsts.as_slice().get(at).copied()
 }
 
 // A member of the struct whose members begin at `first`.
 fn member_at(machine: &Machine, first: usize, member: u32) -> Option<Member>
-    requires few { first < 2 ^ 63 }
     ensures { result ≡ slice_get machine.now.members.items (first + member) }
 {
-    machine.members
-        .as_slice()
-        .get(first + member as usize)
-        .copied()
+    let at = first.saturating_add(member as usize);
+    machine.members.as_slice().get(at).copied()
 }
 
 // The number that a member is, if it is one.
 fn number_at(machine: &Machine, first: usize, member: u32) -> Option<i128>
-    requires few { first < 2 ^ 63 }
     ensures is { result ≡ first_number (slice_get machine.now.firsts.items (first + member)) }
     ensures keepable { IfSome result IsKeepableNumber }
 {
@@ -133,7 +129,7 @@ fn check_wanted(
     Ok(())
 }
 
-// Joins an agreement to the pending referent of this number. The agreements of one pointer are kept side by side.
+// Joins an agreement to the pending referent of this number.
 fn join(machine: &mut Machine, pending: usize, wanted: Wanted) -> Result<(), DecodeFault>
     ensures does { Does (goes (with_fresh (joined_by (agreement_of wanted ∷ []) (state_of machine.old).fresh pending) (state_of machine.old))) result (state_of machine.new) }
     ensures pc { machine.new.pc ≡ machine.old.pc }
@@ -143,51 +139,49 @@ fn join(machine: &mut Machine, pending: usize, wanted: Wanted) -> Result<(), Dec
         return Ok(());
     }
     let owed = machine.fresh[pending];
-    let owed = gather(machine, owed)?;
-    let Ok(()) = machine.wanted.push(wanted) else {
-        return Err(DecodeFault::Memory);
-    };
-    machine.fresh[pending] = Owed {
-        class: owed.class,
-        to: owed.to,
-        run: owed.run,
-        cell: owed.cell,
-        from: owed.from,
-        len: owed.len + 1,
-    };
+    let joined = with_one(&mut machine.wanted, owed, wanted)?;
+    machine.fresh[pending] = joined;
     Ok(())
 }
 
-// A pending referent with its agreements at the end of those that are kept.
-fn gather(machine: &mut Machine, owed: Owed) -> Result<Owed, DecodeFault>
-    requires within { owed.from + owed.len ≤ length machine.old.wanted.items }
-    ensures last { IfOk result (λ o. o.from + o.len ≡ length machine.new.wanted.items) }
-    ensures same { IfOk result (λ o. owed_of machine.new.wanted.items o ≡ owed_of machine.old.wanted.items owed) }
-    ensures state { OnOk result (state_of machine.new ≡ state_of machine.old) }
-    ensures fresh { OnOk result (machine.new.fresh.items ≡ machine.old.fresh.items) }
-    ensures grown { OnOk result (HasGrown machine.old.wanted.items machine.new.wanted.items) }
-    ensures pc { machine.new.pc ≡ machine.old.pc }
-    ensures outside { OnOk result (outside machine.new ≡ outside machine.old) }
+// A pending referent with one agreement more. The agreements of one pointer are kept side by side.
+fn with_one(kept: &mut Vec<Wanted>, owed: Owed, one: Wanted) -> Result<Owed, DecodeFault>
+    requires within { owed.from + owed.len ≤ length kept.old.items }
+    ensures is { IfOk result (λ o. owed_of kept.new.items o ≡ with_agreement (agreement_of one) (owed_of kept.old.items owed)) }
+    ensures inside { IfOk result (λ o. o.from + o.len ≤ length kept.new.items) }
+    ensures grown { HasGrown kept.old.items kept.new.items }
     ensures memory { IfErr result (λ e. e ≡ fault.Memory) }
 {
-    if owed.from + owed.len == machine.wanted.len() {
-        return Ok(owed);
-    }
-    let from = machine.wanted.len();
-    for at in owed.from..owed.from + owed.len {
-        let one = machine.wanted[at];
-        let Ok(()) = machine.wanted.push(one) else {
-            return Err(DecodeFault::Memory);
-        };
-    }
+    let from = at_end(kept, owed.from, owed.len)?;
+    let Ok(()) = kept.push(one) else {
+        return Err(DecodeFault::Memory);
+    };
     Ok(Owed {
         class: owed.class,
         to: owed.to,
         run: owed.run,
         cell: owed.cell,
         from,
-        len: owed.len,
+        len: owed.len + 1,
     })
+}
+
+// So many agreements from a place on are kept at the end too: from which place on.
+fn at_end(kept: &mut Vec<Wanted>, from: usize, len: usize) -> Result<usize, DecodeFault>
+    requires within { from + len ≤ length kept.old.items }
+    ensures last { IfOk result (λ f. f + len ≡ length kept.new.items) }
+    ensures same { IfOk result (λ f. take len (drop f kept.new.items) ≡ take len (drop from kept.old.items)) }
+    ensures grown { HasGrown kept.old.items kept.new.items }
+    ensures memory { IfErr result (λ e. e ≡ fault.Memory) }
+{
+    let end = kept.len();
+    if from + len == end {
+        return Ok(from);
+    }
+    let Ok(()) = kept.extend_from_within(from..from + len) else {
+        return Err(DecodeFault::Memory);
+    };
+    Ok(end)
 }
 
 // The number that a node is, if it is one.
@@ -259,8 +253,8 @@ fn found_in(attr: Attr, of: First) -> i128
 // The maximum count, the offset and the actual count of a node.
 fn counts_in(of: First) -> (u32, u32, u32)
     ensures max { result.0 ≡ max_in of }
-    ensures offset { result.1.0 ≡ offset_in of }
-    ensures actual { result.1.1 ≡ actual_in of }
+    ensures offset { result.1 ≡ offset_in of }
+    ensures actual { result.2 ≡ actual_in of }
 {
     match of {
         First::Counted {

@@ -1,5 +1,5 @@
 // The value of a home, from its first octet to its last.
-ghost use Rattle.std.specs.Prelude.{◌≡◌, ◌<◌, ◌≤◌, ◌^◌, ◌%◌, ◌*◌, ◌/◌, ◌+◌, ◌-◌, ℕ, List, Some, length, take, slice_get, OnOk, IfErr};
+ghost use Rattle.std.specs.Prelude.{◌≡◌, ◌<◌, ◌≤◌, ◌^◌, ◌%◌, ◌*◌, ◌/◌, ◌+◌, ◌-◌, ℕ, List, Some, length, take, slice_get, OnOk, IfOk, IfErr};
 ghost use Rattle.std.specs.Io.KnownBytes.{Consumes};
 ghost use Rattle.nd_base.specs.Over.{source_seen};
 ghost use Rattle.nd_base.specs.declared.TheConstants.{STREAM_LIMIT};
@@ -127,6 +127,7 @@ fn fetch<S: Source>(
     requires inner { IsInner instr }
     requires within { machine.now.at ≤ STREAM_LIMIT }
     ensures fetched { Fetches (wants values.now instr (state_of machine.now)) machine.now.at (source_seen S.Source.left S.Source.ended S.Source.faults source.old source.new) intake.new result }
+    ensures fits { IfOk result (λ _. machine.now.at + length intake.new + 8 < 2 ^ 32) }
     ensures left { Consumes (S.Source.left source.old) (S.Source.left source.new) intake.new }
     ensures later { S.Source.faults source.old ≤ S.Source.faults source.new }
 {

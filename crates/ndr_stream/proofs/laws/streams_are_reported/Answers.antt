@@ -1,0 +1,9 @@
+use Rattle.ndr_stream.proofs.Reports as law
+use Rattle.ndr_stream.proofs.laws.streams_are_reported.Goals as goal
+
+pub returns : goal.returns
+returns c = record {
+  decoded = λ w side order s t fetched all seen noted g count e f i left n l st. law.decoded_report w side order s t fetched all seen noted g count e f i left n l st;
+  refused = λ w side order s t fetched noted n place why r reported left ended none_left. law.refused_report w side order s t fetched noted n place why r reported left ended none_left;
+  cut_off = λ w side order s t fetched noted n r reported left. law.cut_report w side order s t fetched noted n r reported left;
+}
