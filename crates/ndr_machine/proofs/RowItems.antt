@@ -83,10 +83,10 @@ module _ (o : Order) (p : Primitive) (h : Home) where
           let k : to - i * wide ≡ width p = omega (arith, et, ew) in
           let d : i * wide ≡ i * width p = ap (λ w. i * w) ew in
           let value : z' ≡ value_of_octets o p (take (width p) (drop (i * width p) os)) =
-              ez' ∙ ez ∙ ap₂ (λ x y. value_of_octets o p (take x (drop y os))) k d in
+          ez' ∙ ez ∙ ap₂ (λ x y. value_of_octets o p (take x (drop y os))) k d in
           let here : number_ahead h s i wide z' ≡ number_item (at + i * width p) (node + i) (drop (i * width p) os) =
-              ap₂ (λ x y. item_here h (x + i * wide) item.Num wide z' (y + i)) ea en
-              ∙ ap₂ (λ w z. item_here h (at + i * w) item.Num w z (node + i)) ew value in
+          ap₂ (λ x y. item_here h (x + i * wide) item.Num wide z' (y + i)) ea en
+          ∙ ap₂ (λ w z. item_here h (at + i * w) item.Num w z (node + i)) ew value in
           let one : suc i ≡ i + 1 = omega arith in
           el ∙ ap₂ noted here n.log_is ∙ sym (all_noted_more (row_items o p h at node i os) (number_item (at + i * width p) (node + i) (drop (i * width p) os)) log)
           ∙ ap (λ xs. all_noted xs log) (sym (row_items_more at node i os)) ∙ ap (λ j. all_noted (row_items o p h at node j os) log) one;

@@ -12,8 +12,8 @@ use nd_base::{Ledger, Order, Steps};
 use nd_flat::Seen;
 use nd_grammar::Reason;
 use nd_value::{ItemKind, ItemLog};
-use ndr_steps::Frame;
 use ndr_state::{DecodeFault, Machine, Phase, read_count};
+use ndr_steps::Frame;
 
 // `fixed` and `conf`
 pub(crate) fn array(machine: &mut Machine, count: u32, run: u32) -> Result<(), DecodeFault>
@@ -74,7 +74,7 @@ pub(crate) fn varying<L: Ledger>(
         Phase::OffsetRead(offset) => actual(machine, offset, number, limit, run, items, steps),
         Phase::Begun | Phase::GapRead | Phase::CountRead(_) => {
             count_read(
-            machine,
+                machine,
                 ItemKind::Offset,
                 number,
                 Phase::OffsetRead(number),
@@ -161,7 +161,9 @@ pub(crate) fn hoist<L: Ledger>(
 {
     match machine.phase {
         Phase::GapRead => maximum(machine, read_count(order, octets), items, steps),
-        Phase::Begun | Phase::OffsetRead(_) | Phase::CountRead(_) => hoist_gap(machine, octets, items, steps),
+        Phase::Begun | Phase::OffsetRead(_) | Phase::CountRead(_) => hoist_gap(
+            machine, octets, items, steps,
+        ),
     }
 }
 

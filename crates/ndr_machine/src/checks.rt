@@ -9,8 +9,8 @@ ghost use Rattle.ndr_machine.specs.Parts.{IsTried, disagreement, member_checked,
 
 use nd_grammar::Reason;
 use nd_types::Attr;
-use ndr_steps::{First, Frame, Member};
 use ndr_state::{DecodeFault, Machine, Owed, Wanted};
+use ndr_steps::{First, Frame, Member};
 
 /// Tries an agreement in a node of a home whose maximum count is at a place, if it has one. Takes no memory.
 pub fn try_in(wanted: Wanted, of: First, max_at: Option<u32>) -> Result<(), DecodeFault>
@@ -33,7 +33,12 @@ pub fn try_in(wanted: Wanted, of: First, max_at: Option<u32>) -> Result<(), Deco
 }
 
 // `check`: an agreement of a member with another of the same struct, both by their numbers.
-pub(crate) fn check(machine: &mut Machine, attr: Attr, field: u32, var: u32) -> Result<(), DecodeFault>
+pub(crate) fn check(
+    machine: &mut Machine,
+    attr: Attr,
+    field: u32,
+    var: u32,
+) -> Result<(), DecodeFault>
     requires code { machine.old.pc < 2 ^ 32 }
     ensures does { Does (check_in machine.old.top attr field var (state_of machine.old)) result (state_of machine.new) }
     ensures outside { OnOk result (outside machine.new ≡ outside machine.old) }

@@ -61,7 +61,14 @@ fn text_offset<L: Ledger>(
             reason: Reason::TextOffset,
         });
     }
-    count_read(machine, ItemKind::Offset, offset, Phase::OffsetRead(0), items, steps)
+    count_read(
+        machine,
+        ItemKind::Offset,
+        offset,
+        Phase::OffsetRead(0),
+        items,
+        steps,
+    )
 }
 
 // The actual count of a string.
@@ -90,7 +97,7 @@ fn text_count<L: Ledger>(
         });
     }
     count_read(
-            machine,
+        machine,
         ItemKind::Actual,
         count,
         Phase::CountRead(count - 1),
