@@ -18,7 +18,7 @@ module _ (m : Machine) (b : Building) (order : Order) (p : Primitive) (n : ℕ) 
   pub row_nodes : m.count + n ≡ length b.nodes
   row_nodes =
       let e : length b.nodes ≡ length m.builder.nodes + length (num_flats (row_values order p n os)) =
-          ap (λ (x : Building). length x.nodes) eb ∙ length-append m.builder.nodes (num_flats (row_values order p n os)) in
+      ap (λ (x : Building). length x.nodes) eb ∙ length-append m.builder.nodes (num_flats (row_values order p n os)) in
       let k : length (num_flats (row_values order p n os)) ≡ n = row_count order p n os in
       let c : m.count ≡ length m.builder.nodes = m.counted in
       omega (arith, e, k, c)

@@ -8,7 +8,7 @@ returns-then-octet-eq0 c =
     let os = c.args.octets.now in
     let octet = c.in-Some.octet.now in
     let there : slice_get os c.loop-at.at ≡ Some octet =
-        slice_get_read os (length os) c.loop-at.at octet refl c.in-Some.ensures.lookup.3.0 c.in-Some.ensures.lookup.1 in
+    slice_get_read os (length os) c.loop-at.at octet refl c.in-Some.ensures.lookup.3.0 c.in-Some.ensures.lookup.1 in
     record { is = sym (zero_found os c.loop-at.at octet there c.if-octet-eq0.true c.loop-at.invariant) }
 
 pub loop-at-preserved : goal.loop-at-preserved
@@ -16,7 +16,7 @@ loop-at-preserved c =
     let os = c.args.octets.now in
     let octet = c.in-Some.octet.now in
     let there : slice_get os c.loop-at.at ≡ Some octet =
-        slice_get_read os (length os) c.loop-at.at octet refl c.in-Some.ensures.lookup.3.0 c.in-Some.ensures.lookup.1 in
+    slice_get_read os (length os) c.loop-at.at octet refl c.in-Some.ensures.lookup.3.0 c.in-Some.ensures.lookup.1 in
     zero_passed os c.loop-at.at octet there c.if-octet-eq0.false c.loop-at.invariant
 
 pub returns : goal.returns
