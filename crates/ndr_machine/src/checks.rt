@@ -258,8 +258,8 @@ fn found_in(attr: Attr, of: First) -> i128
 // The maximum count, the offset and the actual count of a node.
 fn counts_in(of: First) -> (u32, u32, u32)
     ensures max { result.0 ≡ max_in of }
-    ensures offset { result.1.0 ≡ offset_in of }
-    ensures actual { result.1.1 ≡ actual_in of }
+    ensures offset { result.1 ≡ offset_in of }
+    ensures actual { result.2 ≡ actual_in of }
 {
     match of {
         First::Counted {
