@@ -32,15 +32,15 @@ pub fault_comes : (o : Outcome) (r : Result Progress DecodeFault) (e : DecodeFau
 fault_comes o (Ok p) e t h d = absurd h
 fault_comes o (Err y) e t h d = same_fault o y t (subst (λ (q : DecodeFault). Does o (Err q) t) (sym h) d)
 
-same_part : (o : Outcome) (xs : List Item) (n : NotesSeen) (e : DecodeFault) → Noted {Unit {0}} o xs n (Err e) → Noted {Progress} o xs n (Err e)
+same_part : (o : Outcome) (xs : List Item) (n : NotesSeen) (e : DecodeFault) → Noted {T = Unit {0}} o xs n (Err e) → Noted {T = Progress} o xs n (Err e)
 same_part o xs n fault.Memory d = d
 same_part o xs n fault.ReadFault d = d
 same_part o xs n (fault.Bad place why) d = d
 
 pub fault_noted : (o : Outcome) (xs : List Item) (n : NotesSeen) (r : Result Progress DecodeFault) (e : DecodeFault) → IsErrAnd r (λ y. y ≡ e)
-    → Noted {Unit {0}} o xs n (Err e) → Noted o xs n r
+    → Noted {T = Unit {0}} o xs n (Err e) → Noted o xs n r
 fault_noted o xs n (Ok p) e h d = absurd h
-fault_noted o xs n (Err y) e h d = same_part o xs n y (subst (λ (q : DecodeFault). Noted {Unit {0}} o xs n (Err q)) (sym h) d)
+fault_noted o xs n (Err y) e h d = same_part o xs n y (subst (λ (q : DecodeFault). Noted {T = Unit {0}} o xs n (Err q)) (sym h) d)
 
 -- ## Instructions that leave the cells as they are
 

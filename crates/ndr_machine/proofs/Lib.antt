@@ -6,6 +6,8 @@ mod Outcomes
 mod Elements
 mod Noting
 mod RowItems
+mod RowStates
+mod Counting
 mod Moving
 mod Fetching
 mod Turning
