@@ -6,6 +6,8 @@ mod Outcomes
 mod Elements
 mod Noting
 mod RowItems
+mod RowStates
+mod Counting
 mod Moving
 mod Fetching
 mod Turning
@@ -19,4 +21,4 @@ mod Meeting
 mod Reserving
 mod OneTurn
 mod RowTaken
-mod Checked
+mod Handing

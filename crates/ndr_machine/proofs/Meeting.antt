@@ -137,4 +137,4 @@ pub full_other : (to : TypeId) (run v : ℕ) (s : State) → (v ≡ 0 → ⊥) �
 full_other to run v s n h =
     full_some to run v s (Some h.0) n h.1.0
     ∙ ap (λ (b : Bool). if b then goes (done_after 4 (owing Full to run (Some h.0.cell.0) s)) else refused s.at reason.OtherType)
-      (ne_eqb h.0.of.0 to.0 (λ e. h.1.1 (ap type_of e)))
+    (ne_eqb h.0.of.0 to.0 (λ e. h.1.1 (ap type_of e)))

@@ -43,22 +43,22 @@ module _ (ws : List Wanted) (w : Wanted) where
   abbrev pub with_one : Owed → Owed
   with_one o = record { class = o.class; to = o.to; run = o.run; cell = o.cell; from = o.from; len = o.len + 1 }
 
-  last_one : (from len k : ℕ) (xs : List Wanted) → k ≡ len + 1 → from + len ≡ length xs → take k (drop from (xs ++ w ∷ [])) ≡ take len (drop from xs) ++ w ∷ []
-  last_one zero zero zero xs one e = absurd (omega (arith, one))
-  last_one zero zero (suc j) [] one e = let none : j ≡ 0 = omega (arith, one) in ap (λ (i : ℕ). w ∷ take i []) none
-  last_one zero zero (suc j) (x ∷ xs) one e = absurd (omega (arith, e))
-  last_one zero (suc len) zero xs one e = absurd (omega (arith, one))
-  last_one zero (suc len) (suc j) [] one e = absurd (omega (arith, e))
-  last_one zero (suc len) (suc j) (x ∷ xs) one e = ap (λ (l : List Wanted). x ∷ l) (last_one zero len j xs (omega (arith, one)) (omega (arith, e)))
-  last_one (suc from) len k [] one e = absurd (omega (arith, e))
-  last_one (suc from) len k (x ∷ xs) one e = last_one from len k xs one (omega (arith, e))
+  last_one : (from len : ℕ) (xs : List Wanted) → from + len ≡ length xs → take (len + 1) (drop from (xs ++ w ∷ [])) ≡ take len (drop from xs) ++ w ∷ []
+  last_one zero zero [] e = refl
+  last_one zero zero (x ∷ xs) e = absurd (omega (arith, e))
+  last_one zero (suc len) [] e = absurd (omega (arith, e))
+  last_one zero (suc len) (x ∷ xs) e =
+      let k : suc len + 1 ≡ suc (len + 1) = omega arith in
+      ap (λ (n : ℕ). take n (x ∷ (xs ++ w ∷ []))) k ∙ ap (λ (l : List Wanted). x ∷ l) (last_one zero len xs (omega (arith, e)))
+  last_one (suc from) len [] e = absurd (omega (arith, e))
+  last_one (suc from) len (x ∷ xs) e = last_one from len xs (omega (arith, e))
 
   pub one_more : (o : Owed) → o.from + o.len ≡ length ws
       → owed_of (ws ++ w ∷ []) (with_one o)
       ≡ record { class = o.class; to = o.to.0; run = o.run; cell = (owed_of ws o).cell; agreements = (owed_of ws o).agreements ++ agreement_of w ∷ [] }
   one_more o e =
       ap (λ (l : List Agreement). record { class = o.class; to = o.to.0; run = o.run; cell = (owed_of ws o).cell; agreements = l })
-      (ap (map agreement_of) (last_one o.from o.len (o.len + 1) ws refl e) ∙ map-append agreement_of (take o.len (drop o.from ws)) (w ∷ []))
+      (ap (map agreement_of) (last_one o.from o.len ws e) ∙ map-append agreement_of (take o.len (drop o.from ws)) (w ∷ []))
 
 -- the referent at a place is another one, which has one agreement more
 pub joined_at : (ws more : List Wanted) (x : Agreement) (os : List Owed) (n : ℕ) (o new : Owed) → AllByRecursion (IsWithin ws) os → n < length os

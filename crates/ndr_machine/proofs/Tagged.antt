@@ -86,3 +86,8 @@ arm_is run b s t phase h e =
         → arm_taken z run s ≡ (if z then jumped 0 (past (width s.carrier) phase t) else jumped run (pushed (frame.Elements 0 run 1) (past (width s.carrier) phase t)))
     by true e = ap (λ (q : State). jumped 0 (past (width s.carrier) phase q)) e
     by false e = ap (λ (q : State). jumped run (pushed (frame.Elements 0 run 1) (past (width s.carrier) phase q))) e
+
+-- an arm leaves the cells
+pub arm_cells : (b : Bool) (run : ℕ) (s : State) → (arm_taken b run s).cells ≡ s.cells
+arm_cells true run s = refl
+arm_cells false run s = refl

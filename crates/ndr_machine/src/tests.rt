@@ -9,9 +9,9 @@ use nd_types::{
 use nd_value::{Home, ItemLog};
 use ndr_code::{EnumLists, Instr};
 use ndr_intake::Intake;
+use ndr_state::{DecodeFault, Machine};
 use std::alloc::Global;
 use std::test::Fail;
-use ndr_state::{DecodeFault, Machine};
 
 fn interface(alloc: Global) -> Result<Interface, Memory> {
     let types = Types::basic(alloc)?;

@@ -8,3 +8,4 @@ pub mod Within
 pub mod Safe
 pub mod EndRuns
 pub mod ChunkSafe
+mod Worked

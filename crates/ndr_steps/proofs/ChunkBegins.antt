@@ -3,8 +3,6 @@ use Rattle.std.proofs.Common.{◌≡◌, ℕ, ◌+◌, zero, suc, Bool, true, fa
 use Rattle.std.specs.List.{AllByRecursion, slice_get}
 use Rattle.std.proofs.lemmas.List.{length-replicate}
 use Rattle.nd_base.specs.declared.octets.Order.{Order}
-use Rattle.nd_types.specs.declared.types.Attr.{Attr}
-use Rattle.nd_types.specs.declared.types.Attr.TheVariants as attr
 use Rattle.nd_types.specs.declared.types.TypeId.{TypeId}
 use Rattle.nd_types.specs.declared.types.TypeDef.TheVariants as def
 use Rattle.nd_types.specs.Table.{Table, type_at}
@@ -28,7 +26,7 @@ use Rattle.ndr_steps.specs.declared.first.First.{First}
 use Rattle.ndr_steps.specs.declared.first.First.TheVariants as first
 use Rattle.ndr_steps.specs.declared.first.Member.{Member}
 use Rattle.ndr_steps.specs.Spots.{IsFine, IsFrame, in_pipe, IsPlanned, Inside}
-use Rattle.ndr_steps.specs.Steps.{State, place_of, no_place}
+use Rattle.ndr_steps.specs.Steps.{State}
 use Rattle.ndr_steps.specs.Good.{Kept, Good, Begin, due_member}
 use Rattle.ndr_steps.specs.Chunks.{in_chunk, chunk_read, IsChunkBegun}
 use Rattle.ndr_steps.proofs.Arriving.{Within, parts_of, arrives}
@@ -40,14 +38,6 @@ no_own_tests false h n t = refl
 no_tests : (h : Home) (n : ℕ) (ts : Trees) → child_tests h [] n ts ≡ []
 no_tests h n none = refl
 no_tests h n (more (node l ks) ts) = ap₂ (λ xs ys. xs ++ ys) (no_own_tests (is_pointer l) h n (node l ks)) (no_tests h (n + 1 + node_count ks) ts)
-
-none_at_all : (a : Attr) → place_of a None no_place ≡ None
-none_at_all attr.Size = refl
-none_at_all attr.Max = refl
-none_at_all attr.First = refl
-none_at_all attr.Length = refl
-none_at_all attr.Last = refl
-none_at_all attr.Switch = refl
 
 all_alike : (P : ℕ → Type 0) (t n : ℕ) → P t → AllByRecursion P (replicate n t)
 all_alike P t zero a = tt
@@ -97,7 +87,7 @@ module _ (order : Order) (fetched : List ℕ) (code : List Instr) (values : List
     place = None;
     there = ap (λ xs. slice_get xs 0) begins.nodes;
     kept = refl;
-    found = λ a. begins.none_found a ∙ sym (none_at_all a) ∙ ap (λ o. place_of a o no_place) (sym begins.max_at);
+    found = begins.found;
   }
 
   within : Within code table h pipe 33 seen 32 (f ∷ []) elem.0 (parts_of s)

@@ -32,20 +32,20 @@ use Rattle.ndr_steps.proofs.PlanRuns.{planned_by}
 use Rattle.ndr_steps.proofs.Begins.{begins_plain}
 use Rattle.ndr_steps.proofs.PointSteps.{step_right}
 
-abbrev code : List Instr
+abbrev pub code : List Instr
 code = code_of basic_types []
 
-abbrev values : List EnumList
+abbrev pub values : List EnumList
 values = values_of basic_types
 
 abbrev no_names : Names
 no_names = record { cells = []; numbers = [] }
 
-plan : IsPlanned code values basic_types
+pub plan : IsPlanned code values basic_types
 plan = planned_by basic_types [] refl refl
 
 -- a gap to a multiple of 2, and the short
-run : IsRunAt code (place_at basic_types 5) (op.Align 2 ∷ op.Num (id 5) ∷ op.Ret ∷ [])
+pub run : IsRunAt code (place_at basic_types 5) (op.Align 2 ∷ op.Num (id 5) ∷ op.Ret ∷ [])
 unfolding align_of
 run = plan.place 5 (def.Prim Short) refl
 
@@ -53,7 +53,7 @@ not_hoisting : hoists basic_types 5 ≡ false
 unfolding hoists
 not_hoisting = refl
 
-abbrev at_first : State
+abbrev pub at_first : State
 at_first = record {
   pc = place_at basic_types 5;
   phase = begun;
@@ -73,21 +73,21 @@ at_first = record {
   numbers = [];
 }
 
-abbrev after_gap : State
+abbrev pub after_gap : State
 after_gap = done_after 0 at_first
 
-abbrev after_short : State
+abbrev pub after_short : State
 after_short = done_after 2 (with_node (tree.Num (pos 258), 0) None after_gap)
 
 fine : IsFine basic_types 32 5
 fine = record { of = def.Prim Short; is_there = refl; formed = tt; inner = tt }
 
 module _ (h : Home) where
-  abbrev target : List ℕ → Read
+  abbrev pub target : List ℕ → Read
   target octets = read_whole Little octets basic_types h 5 (going 0 []) no_names
 
   -- two octets at the place 0, of the home's first node
-  abbrev short_item : List Item
+  abbrev pub short_item : List Item
   short_item = record { at = 0; len = 2; kind = item.Num; home = h; node = 0; value = pos 258 } ∷ []
 
   nothing_found : (a : Attr) (j : ℕ) → tested_at [] a h (0 + j) ≡ place_of a None no_place
@@ -113,13 +113,13 @@ module _ (h : Home) where
     told = record { noted_are = refl; cells_are = refl; cells_named = record { named = none_seen; there = tt }; numbers_are = λ v p. (refl, λ to. refl); ahead = nothing_found; lie_within = tt };
   }
 
-  good_first : Good Little [] code basic_types h 5 32 [] 0 target at_first
+  pub good_first : Good Little [] code basic_types h 5 32 [] 0 target at_first
   good_first = begins_plain Little [] code values basic_types h 5 [] 0 plan at_first [] no_names fine begins not_hoisting refl
 
   good_after_gap : Good Little [] code basic_types h 5 32 [] 0 target after_gap
   good_after_gap = step_right Little [] [] code values basic_types h 5 32 [] 0 target plan at_first good_first (op.Align 2) (first_at code (place_at basic_types 5) (op.Align 2) (op.Num (id 5) ∷ op.Ret ∷ []) run) refl
 
-  run_short : IsRunAt code (place_at basic_types 5 + 1) (op.Num (id 5) ∷ op.Ret ∷ [])
+  pub run_short : IsRunAt code (place_at basic_types 5 + 1) (op.Num (id 5) ∷ op.Ret ∷ [])
   run_short = next_at code (place_at basic_types 5) (op.Align 2) (op.Num (id 5) ∷ op.Ret ∷ []) run
 
   good_after_short : Good Little (2 ∷ 1 ∷ []) code basic_types h 5 32 short_item 0 target after_short

@@ -17,7 +17,7 @@ use Rattle.ndr_code.specs.Code.{place_at}
 use Rattle.ndr_reading.specs.Around.{Around, pointers}
 use Rattle.ndr_steps.specs.declared.frame.Frame.TheVariants as frame
 use Rattle.ndr_steps.specs.declared.first.First.TheVariants as first
-use Rattle.ndr_steps.specs.Steps.{State, begun}
+use Rattle.ndr_steps.specs.Steps.{State, begun, place_of, no_place}
 use Rattle.ndr_steps.specs.Good.{Told, owed}
 
 -- the pipe as a node whose children are being read
@@ -44,7 +44,6 @@ chunk_read order table h elem done k p names octets =
 pub record IsChunkBegun (noted : List Item) (direct : ℕ) (order : Order) (fetched : List ℕ) (table : Table) (h : Home) (elem : TypeId) (done : Trees) (n : ℕ) (seen : List EntryAt) (names : Names) (s : State) : Type 0 where
   pub phase : s.phase ≡ begun
   pub max : s.max ≡ 0
-  pub max_at : s.max_at ≡ None
   pub top : s.top ≡ frame.Elements n (place_at table elem.0) 1
   pub stack : s.stack ≡ frame.Home ∷ []
   pub nodes : s.nodes ≡ (tree.Pipe, count done + suc n) ∷ flat done
@@ -52,7 +51,7 @@ pub record IsChunkBegun (noted : List Item) (direct : ℕ) (order : Order) (fetc
   pub members : s.members ≡ []
   pub firsts : s.firsts ≡ []
   pub fresh : s.fresh ≡ map (owed table) (pointers table h (replicate (count done) elem.0) 1 done)
-  -- no entry so far is a count or a tag of the pipe itself
-  pub none_found : (a : Attr) → tested_at seen a h 0 ≡ None
+  -- the pipe itself has no count and no tag
+  pub found : (a : Attr) → tested_at seen a h 0 ≡ place_of a s.max_at no_place
   pub reached : length fetched ≡ s.at
   pub told : Told noted direct order fetched h seen names s.cells s.numbers s.max_at (length s.nodes) []

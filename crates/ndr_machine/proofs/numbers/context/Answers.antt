@@ -1,4 +1,5 @@
-use Rattle.std.proofs.Common.{◌∙◌, ◌∷◌, [], ℕ, List, None, ap, sym, pos, take, drop}
+use Rattle.std.proofs.Common.{◌≡◌, ◌-◌, ◌∙◌, ◌∷◌, [], ℕ, List, None, ap, sym, pos, take, drop, length, length-drop, arith}
+use Rattle.std.proofs.lemmas.List.{take_all}
 use Rattle.nd_grammar.specs.Reader.{identifier}
 use Rattle.nd_value.specs.Tree as tree
 use Rattle.nd_value.specs.declared.item.ItemKind.TheVariants as item
@@ -13,7 +14,9 @@ pub returns-clause-does : goal.returns-clause-does
 returns-clause-does g c =
     let os : List ℕ = c.args.octets.now in
     let s = state_of c.args.machine.now in
+    let rest : take (length os - 4) (drop 4 os) ≡ drop 4 os = take_all (length os - 4) (drop 4 os) (omega (arith, length-drop 4 os)) in
     ap (λ (a : ℕ). goes (done_after 20 (with_node (tree.Context a (identifier c.args.order os (drop 4 os)), 0) None s))) (sym c.read_count-attributes.ensures)
+    ∙ ap (λ (x : List ℕ). goes (done_after 20 (with_node (tree.Context c.read_count-attributes.result (identifier c.args.order os x), 0) None s))) (sym rest)
     ∙ ap (λ (i : List ℕ). goes (done_after 20 (with_node (tree.Context c.read_count-attributes.result i, 0) None s))) (sym c.identifier-id.ensures)
     ∙ ap (λ (q : State). goes (done_after 20 q)) (sym c.in_ok-add.ensures.ok)
     ∙ ap goes (sym c.pass.ensures.is)

@@ -1,0 +1,3 @@
+pub mod GraphEnds
+pub mod Deferred
+pub mod Opened

@@ -1,0 +1,78 @@
+-- What contracts see of a stream that is being decoded.
+-- `x` is a stream, `m` its machine.
+use Rattle.std.specs.Prelude.{◌≡◌, ℕ, List, [], ◌∷◌, ◌++◌, map, reverse, Option, Some, None}
+use Rattle.nd_value.specs.Seen.{cell_number}
+use Rattle.nd_flat.specs.Building.{CanClose, closed}
+use Rattle.ndr_steps.specs.declared.first.First.{First}
+use Rattle.ndr_steps.specs.Steps.{Owed}
+use Rattle.ndr_state.specs.declared.machine.Machine.{Machine}
+use Rattle.ndr_state.specs.declared.machine.Owed as code
+use Rattle.ndr_state.specs.declared.machine.Wanted.{Wanted}
+use Rattle.ndr_state.specs.Seen.{owed_of, state_of}
+use Rattle.ndr_stream.specs.declared.kept.Kept.{Kept}
+use Rattle.ndr_stream.specs.declared.kept.KeptRoot.{KeptRoot}
+use Rattle.ndr_stream.specs.Between.{Between, CellKept, named_by, root_read}
+use Rattle.ndr_kept.specs.declared.stream.Stream.{Stream}
+
+-- the pending referents, from the next on, with the agreements of their pointers
+abbrev pub pending_in : List Wanted → List code.Owed → List Owed
+pending_in ws os = map (owed_of ws) (reverse os)
+
+abbrev pub between_of : Stream → Between
+between_of x = record {
+  at = x.machine.at;
+  pending = pending_in x.wanted.items x.todo.items;
+  cells = map (λ c. c.of) x.machine.builder.graph.cells;
+  numbers = x.machine.referents;
+  roots = x.roots.items;
+  read = x.cells.items;
+  graph = closed x.machine.builder;
+}
+
+-- no home is being read: the last one is whole, and its pointers are pending
+pub record IsSettled (x : Stream) : Type 0 where
+  pub whole : CanClose x.machine.builder
+  pub none_fresh : x.machine.fresh.items ≡ []
+
+-- the same is kept as before, but in the machine
+pub record KeepsAll (x y : Stream) : Type 0 where
+  pub wanted : y.wanted.items ≡ x.wanted.items
+  pub todo : y.todo.items ≡ x.todo.items
+  pub roots : y.roots.items ≡ x.roots.items
+  pub cells : y.cells.items ≡ x.cells.items
+
+-- the same is kept as before, but of cells
+pub record KeepsOthers (x y : Stream) : Type 0 where
+  pub machine : y.machine ≡ x.machine
+  pub wanted : y.wanted.items ≡ x.wanted.items
+  pub todo : y.todo.items ≡ x.todo.items
+  pub roots : y.roots.items ≡ x.roots.items
+
+-- what a home's first node is kept as, if it was read
+abbrev pub HasOwn : Machine → Kept → Type 0
+HasOwn m k = (f : First) → m.own ≡ Some f → (k.first ≡ f) × (k.max_at ≡ m.max_at)
+
+-- the same is kept of homes
+pub record KeepsHomes (x y : Stream) : Type 0 where
+  pub roots : y.roots.items ≡ x.roots.items
+  pub cells : y.cells.items ≡ x.cells.items
+
+-- the pointers of the home are forgotten; the place, the graph and the numbers of full pointers stay
+pub record IsCleared (m n : Machine) : Type 0 where
+  pub at : n.at ≡ m.at
+  pub builder : n.builder ≡ m.builder
+  pub referents : n.referents ≡ m.referents
+  pub none_fresh : n.fresh.items ≡ []
+
+-- A root was kept, and its pointers are pending.
+pub record RootEnds (x y : Stream) : Type 0 where
+  pub k : KeptRoot
+  pub own : HasOwn x.machine k.own
+  pub cell : cell_number k.cell ≡ named_by k.own.first (state_of x.machine).fresh
+  pub between : between_of y ≡ root_read (between_of x) (state_of x.machine) k (closed x.machine.builder)
+  pub cleared : IsCleared x.machine y.machine
+
+-- A cell was kept.
+pub record CellEnds (c : ℕ) (k : Kept) (x y : Stream) : Type 0 where
+  pub kept : CellKept c k x.cells.items y.cells.items
+  pub others : KeepsOthers x y

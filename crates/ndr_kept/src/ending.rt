@@ -1,0 +1,38 @@
+// Where homes end.
+ghost use Rattle.std.specs.Prelude.{◌≡◌, ◌<◌, OnOk, IfOk, IfErr};
+ghost use Rattle.ndr_state.specs.declared.fault.DecodeFault.TheVariants as fault;
+ghost use Rattle.ndr_kept.specs.Seen.{CellEnds, RootEnds, HasOwn};
+
+use crate::Stream;
+use crate::looking::{kept_home, named_cell};
+use nd_value::CellId;
+use ndr_state::DecodeFault;
+use ndr_stream::{Kept, KeptRoot};
+
+impl Stream {
+    /// Keeps the root whose value was read in its place, and makes its pointers pending. It takes memory, and out of memory is the only refusal.
+    pub fn end_root(&mut self) -> Result<(), DecodeFault>
+        ensures ends { OnOk result (RootEnds self.old self.new) }
+        ensures memory { IfErr result (λ e. e ≡ fault.Memory) }
+    {
+        let own = kept_home(&self.machine);
+        let cell = named_cell(own.first, self.machine.fresh.as_slice());
+        let Ok(()) = self.roots.push(KeptRoot { own, cell }) else {
+            return Err(DecodeFault::Memory);
+        };
+        self.settle()
+    }
+
+    /// Keeps the cell whose value was read, and gives what is kept of it. Its pointers are not pending yet. It takes memory, and out of memory is the only
+    /// refusal.
+    pub fn end_cell(&mut self, cell: CellId) -> Result<Kept, DecodeFault>
+        requires there { 0 < cell.0 }
+        ensures own { IfOk result (λ k. HasOwn self.old.machine k) }
+        ensures ends { IfOk result (λ k. CellEnds cell.0 k self.old self.new) }
+        ensures memory { IfErr result (λ e. e ≡ fault.Memory) }
+    {
+        let kept = kept_home(&self.machine);
+        self.keep_cell(cell, kept)?;
+        Ok(kept)
+    }
+}
