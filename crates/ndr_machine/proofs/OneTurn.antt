@@ -29,8 +29,7 @@ handed_on (Ok t) e h = absurd h
 handed_on (Err y) e h = ap Err h
 
 module _ (values : List EnumList) (order : Order) (code : List Instr) (h : Home) (m : Machine) (source : SourceSeen) (i : Instr) (os : List ℕ)
-  (there : slice_get code m.pc ≡ Some i) (octets : AreOctets os) (left : Consumes source.left source.left_now os) (log : Logged) (steps : ℕ) where
-
+    (there : slice_get code m.pc ≡ Some i) (octets : AreOctets os) (left : Consumes source.left source.left_now os) (log : Logged) (steps : ℕ) where
   pub one_stopped : (m1 : Machine) (e : DecodeFault) (r : Result Progress DecodeFault) → Fetches (wants values i (state_of m)) m.at source os (Err e) → IsErrAnd r (λ y. y ≡ e)
       → Turns values order code h (state_of m) source (notes_seen log log steps steps m.cells m1.cells) (state_of m1) r
   one_stopped m1 e r f err =

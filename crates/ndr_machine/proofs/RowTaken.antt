@@ -105,8 +105,8 @@ few_numbers UnsignedHyper count h = omega (arith, h)
 -- ## What a turn comes to
 
 module _ (values : List EnumList) (order : Order) (code : List Instr) (h : Home) (m : Machine) (of : TypeId) (count : ℕ) (there : slice_get code m.pc ≡ Some (op.Num of))
-  (row : IsInRow code (count - 1) m.pc (prim_of of.0) m.top) (aligned : m.at % width (prim_of of.0) ≡ 0) (within : m.at + count * width (prim_of of.0) ≤ STREAM_LIMIT)
-  (source : SourceSeen) (os : List ℕ) (octets : AreOctets os) (left : Consumes source.left source.left_now os) (n : NotesSeen) (s1 : State) where
+    (row : IsInRow code (count - 1) m.pc (prim_of of.0) m.top) (aligned : m.at % width (prim_of of.0) ≡ 0) (within : m.at + count * width (prim_of of.0) ≤ STREAM_LIMIT)
+    (source : SourceSeen) (os : List ℕ) (octets : AreOctets os) (left : Consumes source.left source.left_now os) (n : NotesSeen) (s1 : State) where
   abbrev p : Primitive
   p = prim_of of.0
 

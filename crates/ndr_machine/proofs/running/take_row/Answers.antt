@@ -21,8 +21,8 @@ note_whole-requires-clause-few g c =
     let m = c.args.machine.now in
     let source = source_seen g.S.Source.left g.S.Source.ended g.S.Source.faults c.args.source.now c.item.new.source in
     let fewer : length c.item.new.self < c.args.count * width (prim_of c.args.of.0) =
-        row_fewer c.args.of c.args.count m.at c.width_of.result c.prim_of-prim.result source c.item.new.self c.item.result c.in-Err.fault c.prim_of-prim.ensures c.width_of.ensures.value
-        c.width_of.ensures.some (omega (arith, c.requires.many)) (sym c.fetched-came.ensures ∙ c.in-Err.is) c.item.ensures.fault in
+    row_fewer c.args.of c.args.count m.at c.width_of.result c.prim_of-prim.result source c.item.new.self c.item.result c.in-Err.fault c.prim_of-prim.ensures c.width_of.ensures.value
+    c.width_of.ensures.some (omega (arith, c.requires.many)) (sym c.fetched-came.ensures ∙ c.in-Err.is) c.item.ensures.fault in
     let size : length c.octets-in-Err.result.now ≡ length c.item.new.self = ap length c.octets-in-Err.ensures in
     let piece : c.args.count * width (prim_of c.args.of.0) ≤ 4096 = c.requires.piece in
     let few : m.count + 4096 < 2 ^ 32 = count_fits c.args.code.now m (c.requires.safe [] [] (state_of m) begins) in
@@ -36,14 +36,14 @@ returns-in_err-note_whole-clause-turns g c =
     let source = source_seen g.S.Source.left g.S.Source.ended g.S.Source.faults c.args.source.now c.item.new.source in
     let notes = notes_seen c.args.items.now c.note_whole.new.items (g.L.Ledger.number c.args.steps.now) (g.L.Ledger.number c.note_whole.new.steps) m.cells m.cells in
     let fewer : length c.item.new.self < c.args.count * width (prim_of c.args.of.0) =
-        row_fewer c.args.of c.args.count m.at c.width_of.result c.prim_of-prim.result source c.item.new.self c.item.result c.in-Err.fault c.prim_of-prim.ensures c.width_of.ensures.value
-        c.width_of.ensures.some (omega (arith, c.requires.many)) (sym c.fetched-came.ensures ∙ c.in-Err.is) c.item.ensures.fault in
+    row_fewer c.args.of c.args.count m.at c.width_of.result c.prim_of-prim.result source c.item.new.self c.item.result c.in-Err.fault c.prim_of-prim.ensures c.width_of.ensures.value
+    c.width_of.ensures.some (omega (arith, c.requires.many)) (sym c.fetched-came.ensures ∙ c.in-Err.is) c.item.ensures.fault in
     row_cut_memory c.args.values.now o c.args.code.now m.home m c.args.of c.args.count c.requires.here c.requires.row c.requires.aligned c.requires.within source c.item.new.self
     (subst AreOctets c.octets.ensures c.are_octets.ensures) c.item.ensures.octets notes (state_of m) e c.from_residual.result c.requires.safe fewer
     c.in_err-note_whole.ensures.memory c.from_residual.ensures.1
     (subst (λ a. RowNoted o a m.home m.at m.count (length c.item.new.self / width a) (take (length c.item.new.self / width a * width a) c.item.new.self) notes (Err e)) c.prim_of-prim.ensures
     (subst (λ xs. RowNoted o c.prim_of-prim.result m.home m.at m.count (length xs / width c.prim_of-prim.result)
-        (take (length xs / width c.prim_of-prim.result * width c.prim_of-prim.result) xs) notes (Err e)) c.octets-in-Err.ensures c.in_err-note_whole.ensures.noted))
+    (take (length xs / width c.prim_of-prim.result * width c.prim_of-prim.result) xs) notes (Err e)) c.octets-in-Err.ensures c.in_err-note_whole.ensures.noted))
 
 pub returns-in-Err-clause-turns : goal.returns-in-Err-clause-turns
 returns-in-Err-clause-turns g c =
@@ -54,8 +54,8 @@ returns-in-Err-clause-turns g c =
     let notes = notes_seen c.args.items.now c.note_whole.new.items (g.L.Ledger.number c.args.steps.now) (g.L.Ledger.number c.note_whole.new.steps) m.cells m.cells in
     let is = sym c.fetched-came.ensures ∙ c.in-Err.is in
     let fewer : length c.item.new.self < c.args.count * width (prim_of c.args.of.0) =
-        row_fewer c.args.of c.args.count m.at c.width_of.result c.prim_of-prim.result source c.item.new.self c.item.result c.in-Err.fault c.prim_of-prim.ensures c.width_of.ensures.value
-        c.width_of.ensures.some (omega (arith, c.requires.many)) is c.item.ensures.fault in
+    row_fewer c.args.of c.args.count m.at c.width_of.result c.prim_of-prim.result source c.item.new.self c.item.result c.in-Err.fault c.prim_of-prim.ensures c.width_of.ensures.value
+    c.width_of.ensures.some (omega (arith, c.requires.many)) is c.item.ensures.fault in
     row_cut c.args.values.now o c.args.code.now m.home m c.args.of c.args.count c.requires.here c.requires.row c.requires.aligned c.requires.within source c.item.new.self
     (subst AreOctets c.octets.ensures c.are_octets.ensures) c.item.ensures.octets notes (state_of m) u c.in-Err.fault fewer
     (subst (Fetches (item_of (c.args.count * width (prim_of c.args.of.0))) m.at source c.item.new.self) is
@@ -63,7 +63,7 @@ returns-in-Err-clause-turns g c =
     c.requires.piece c.item.ensures.all c.item.ensures.within c.item.ensures.too_long c.item.ensures.fault))
     (subst (λ a. RowNoted o a m.home m.at m.count (length c.item.new.self / width a) (take (length c.item.new.self / width a * width a) c.item.new.self) notes (Ok u)) c.prim_of-prim.ensures
     (subst (λ xs. RowNoted o c.prim_of-prim.result m.home m.at m.count (length xs / width c.prim_of-prim.result)
-        (take (length xs / width c.prim_of-prim.result * width c.prim_of-prim.result) xs) notes (Ok u)) c.octets-in-Err.ensures c.in_ok-note_whole.ensures.noted))
+    (take (length xs / width c.prim_of-prim.result * width c.prim_of-prim.result) xs) notes (Ok u)) c.octets-in-Err.ensures c.in_ok-note_whole.ensures.noted))
 
 pub read_row-requires-clause-code : goal.read_row-requires-clause-code
 read_row-requires-clause-code g c = address_fits c.args.code.now c.args.machine.now.pc (op.Num c.args.of) c.requires.here c.requires.short
@@ -83,8 +83,8 @@ returns-in_err-read_row-clause-turns g c =
     let source = source_seen g.S.Source.left g.S.Source.ended g.S.Source.faults c.args.source.now c.item.new.source in
     let notes = notes_seen c.args.items.now c.read_row.new.items (g.L.Ledger.number c.args.steps.now) (g.L.Ledger.number c.read_row.new.steps) m.cells c.read_row.new.machine.cells in
     let all : length c.item.new.self ≡ c.args.count * width (prim_of c.args.of.0) =
-        row_size c.args.of c.args.count c.width_of.result c.prim_of-prim.result c.item.new.self c.item.result c.in_default.field-0 c.prim_of-prim.ensures c.width_of.ensures.value
-        (sym c.fetched-came.ensures ∙ c.in_default.is) c.item.ensures.all in
+    row_size c.args.of c.args.count c.width_of.result c.prim_of-prim.result c.item.new.self c.item.result c.in_default.field-0 c.prim_of-prim.ensures c.width_of.ensures.value
+    (sym c.fetched-came.ensures ∙ c.in_default.is) c.item.ensures.all in
     row_memory c.args.values.now o c.args.code.now m.home m c.args.of c.args.count c.requires.here c.requires.row c.requires.aligned c.requires.within source c.item.new.self
     (subst AreOctets c.octets.ensures c.are_octets.ensures) c.item.ensures.octets notes (state_of c.read_row.new.machine) e c.from_residual-in_err-read_row.result
     (row_read o c.prim_of-prim.result c.args.count c.octets-2.result.now (state_of m)) c.requires.safe all c.in_err-read_row.ensures.does c.from_residual-in_err-read_row.ensures.1
@@ -100,8 +100,8 @@ returns-clause-turns g c =
     let source = source_seen g.S.Source.left g.S.Source.ended g.S.Source.faults c.args.source.now c.item.new.source in
     let notes = notes_seen c.args.items.now c.read_row.new.items (g.L.Ledger.number c.args.steps.now) (g.L.Ledger.number c.read_row.new.steps) m.cells c.read_row.new.machine.cells in
     let all : length c.item.new.self ≡ c.args.count * width (prim_of c.args.of.0) =
-        row_size c.args.of c.args.count c.width_of.result c.prim_of-prim.result c.item.new.self c.item.result c.in_default.field-0 c.prim_of-prim.ensures c.width_of.ensures.value
-        (sym c.fetched-came.ensures ∙ c.in_default.is) c.item.ensures.all in
+    row_size c.args.of c.args.count c.width_of.result c.prim_of-prim.result c.item.new.self c.item.result c.in_default.field-0 c.prim_of-prim.ensures c.width_of.ensures.value
+    (sym c.fetched-came.ensures ∙ c.in_default.is) c.item.ensures.all in
     row_taken c.args.values.now o c.args.code.now m.home m c.args.of c.args.count c.requires.here c.requires.row c.requires.aligned c.requires.within source c.item.new.self
     (subst AreOctets c.octets.ensures c.are_octets.ensures) c.item.ensures.octets notes s1 u c.requires.many all
     (subst (λ a. Does (goes (row_read o a c.args.count c.item.new.self (state_of m))) (Ok u) s1) c.prim_of-prim.ensures
