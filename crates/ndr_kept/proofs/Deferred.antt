@@ -1,8 +1,8 @@
 -- Pending referents and their agreements, which are kept beside those of the others.
-use Rattle.std.proofs.Common.{◌≡◌, ◌≤◌, ◌<◌, ℕ, ◌+◌, ◌-◌, zero, suc, List, [], ◌∷◌, ◌++◌, length, Option, Some, None, refl, ap, ap₂, sym, ◌∙◌, subst, arith, map, take, drop, append_assoc, length-append}
-use Rattle.std.specs.Prelude.{reverse, slice_get}
+use Rattle.std.proofs.Common.{◌≡◌, ◌≤◌, ◌<◌, ℕ, ◌+◌, ◌-◌, zero, suc, List, [], ◌∷◌, ◌++◌, length, Some, refl, ap, ap₂, sym, ◌∙◌, subst, arith, map, take, drop, length-append}
+use Rattle.std.specs.Prelude.{reverse, slice_get, slice_index_or, slice_range}
 use Rattle.std.specs.List.{AllByRecursion}
-use Rattle.std.proofs.lemmas.List.{reverse-append, append-nil}
+use Rattle.std.proofs.lemmas.List.{reverse-append}
 use Rattle.std.proofs.lemmas.Option.{same_Some}
 use Rattle.nd_value.specs.Agreement.{Agreement}
 use Rattle.nd_value.specs.Seen.{cell_number}
@@ -36,21 +36,15 @@ take_twice zero xs = refl
 take_twice (suc n) [] = refl
 take_twice (suc n) (x ∷ xs) = ap (λ u. x ∷ u) (take_twice n xs)
 
-take_short : {X : Type 0} (n : ℕ) (xs : List X) → length xs ≤ n → take n xs ≡ xs
-take_short zero [] l = refl
-take_short zero (x ∷ xs) l = absurd (omega (arith, l))
-take_short (suc n) [] l = refl
-take_short (suc n) (x ∷ xs) l = ap (λ u. x ∷ u) (take_short n xs (omega (arith, l)))
-
 abbrev with_agreements : code.Owed → List Agreement → Owed
-with_agreements o as = record { class = o.class; to = o.to.0; run = o.run; cell = cell_number o.cell; agreements = as }
+with_agreements o ags = record { class = o.class; to = o.to.0; run = o.run; cell = cell_number o.cell; agreements = ags }
 
 -- agreements that are kept later change nothing
 owed_stays : (ws more : List Wanted) (o : code.Owed) → o.from + o.len ≤ length ws → owed_of (ws ++ more) o ≡ owed_of ws o
 owed_stays ws more o l =
     let k : o.from ≤ length ws = omega (arith, l) in
     let e = drop_length o.from ws k in
-    ap (λ as. with_agreements o (map agreement_of as)) (ap (take o.len) (drop_in o.from ws more k) ∙ take_in o.len (drop o.from ws) more (omega (arith, l, e)))
+    ap (λ ags. with_agreements o (map agreement_of ags)) (ap (take o.len) (drop_in o.from ws more k) ∙ take_in o.len (drop o.from ws) more (omega (arith, l, e)))
 
 all_stay : (ws more : List Wanted) (os : List code.Owed) → AllByRecursion (λ (o : code.Owed). o.from + o.len ≤ length ws) os → map (owed_of (ws ++ more)) os ≡ map (owed_of ws) os
 all_stay ws more [] a = refl
@@ -65,16 +59,28 @@ all_back P [] a = tt
 all_back P (x ∷ xs) a = subst (AllByRecursion P) (sym (reverse-append (x ∷ []) xs)) (all_in P (reverse xs) (x ∷ []) (all_back P xs a.1) (a.0, tt))
 
 -- the next pointer, with its agreements after those that are kept
-pub next_pending : (ws us : List Wanted) (os : List code.Owed) (o next : code.Owed) → AllByRecursion (λ (p : code.Owed). p.from + p.len ≤ length ws) os → o.from + o.len ≤ length us
+next_first : (ws us : List Wanted) (os : List code.Owed) (o next : code.Owed) → AllByRecursion (λ (p : code.Owed). p.from + p.len ≤ length ws) os → o.from + o.len ≤ length us
     → next ≡ record { class = o.class; to = o.to; run = o.run; cell = o.cell; from = length ws; len = o.len }
     → pending_in (ws ++ take o.len (drop o.from us)) (os ++ next ∷ []) ≡ owed_of us o ∷ pending_in ws os
-next_pending ws us os o next a l e =
+next_first ws us os o next a l e =
     let more : List Wanted = take o.len (drop o.from us) in
     let its : owed_of (ws ++ more) next ≡ owed_of us o =
     ap (owed_of (ws ++ more)) e
-    ∙ ap (λ as. with_agreements o (map agreement_of as)) (ap (take o.len) (drop_all ws more) ∙ take_twice o.len (drop o.from us)) in
+    ∙ ap (λ ags. with_agreements o (map agreement_of ags)) (ap (take o.len) (drop_all ws more) ∙ take_twice o.len (drop o.from us)) in
     ap (map (owed_of (ws ++ more))) (reverse-append os (next ∷ []))
     ∙ ap₂ (λ u us'. u ∷ us') its (all_stay ws more (reverse os) (all_back (λ (p : code.Owed). p.from + p.len ≤ length ws) os a))
+
+-- a pointer whose agreements are kept from a place on
+abbrev kept_from : ℕ → code.Owed → code.Owed
+kept_from n o = record { class = o.class; to = o.to; run = o.run; cell = o.cell; from = n; len = o.len }
+
+joined : (ws ws' us : List Wanted) (o : code.Owed) → ws' ≡ ws ++ slice_range us o.from (o.from + o.len) → ws' ≡ ws ++ take o.len (drop o.from us)
+joined ws ws' us o e = let z : o.from + o.len - o.from ≡ o.len = omega arith in e ∙ ap (λ k. ws ++ take k (drop o.from us)) z
+
+pub next_pending : (ws ws' us : List Wanted) (os os' : List code.Owed) (o next : code.Owed) (n : ℕ) → AllByRecursion (λ (p : code.Owed). p.from + p.len ≤ length ws) os → o.from + o.len ≤ length us
+    → ws' ≡ ws ++ slice_range us o.from (o.from + o.len) → os' ≡ os ++ next ∷ [] → n ≡ length ws → next ≡ kept_from n o → pending_in ws' os' ≡ owed_of us o ∷ pending_in ws os
+next_pending ws ws' us os os' o next n a l e f m g =
+    ap (λ u. pending_in u os') (joined ws ws' us o e) ∙ ap (pending_in (ws ++ take o.len (drop o.from us))) f ∙ next_first ws us os o next a l (g ∙ ap (λ k. kept_from k o) m)
 
 -- the same fact of longer lists
 pub still_within : (ws more : List Wanted) (os : List code.Owed) → AllByRecursion (λ (p : code.Owed). p.from + p.len ≤ length ws) os → AllByRecursion (λ (p : code.Owed). p.from + p.len ≤ length (ws ++ more)) os
@@ -84,8 +90,58 @@ still_within ws more (o ∷ os) a =
     let e = length-append ws more in
     (omega (arith, l, e), still_within ws more os a.1)
 
+length_taken : (us : List Wanted) (n k : ℕ) → n + k ≤ length us → length (take k (drop n us)) ≡ k
+length_taken us zero zero l = refl
+length_taken [] zero (suc k) l = absurd (omega (arith, l))
+length_taken (u ∷ us) zero (suc k) l = ap suc (length_taken us zero k (omega (arith, l)))
+length_taken [] (suc n) k l = absurd (omega (arith, l))
+length_taken (u ∷ us) (suc n) k l = length_taken us n k (omega (arith, l))
+
+pub next_within : (ws ws' us : List Wanted) (os os' : List code.Owed) (o next : code.Owed) (n : ℕ) → AllByRecursion (λ (p : code.Owed). p.from + p.len ≤ length ws) os → o.from + o.len ≤ length us
+    → ws' ≡ ws ++ slice_range us o.from (o.from + o.len) → os' ≡ os ++ next ∷ [] → n ≡ length ws → next ≡ kept_from n o → AllByRecursion (λ (p : code.Owed). p.from + p.len ≤ length ws') os'
+next_within ws ws' us os os' o next n a l e f m g =
+    let more : List Wanted = take o.len (drop o.from us) in
+    let w : ws' ≡ ws ++ more = joined ws ws' us o e in
+    let t : length more ≡ o.len = length_taken us o.from o.len l in
+    let p = length-append ws more in
+    let x : next.from ≡ n = ap (λ (u : code.Owed). u.from) g in
+    let y : next.len ≡ o.len = ap (λ (u : code.Owed). u.len) g in
+    let last : next.from + next.len ≤ length (ws ++ more) = omega (arith, t, p, x, y, m) in
+    subst (λ us'. AllByRecursion (λ (p : code.Owed). p.from + p.len ≤ length us') os') (sym w)
+    (subst (λ ps. AllByRecursion (λ (p : code.Owed). p.from + p.len ≤ length (ws ++ more)) ps) (sym f)
+    (all_in (λ (p : code.Owed). p.from + p.len ≤ length (ws ++ more)) os (next ∷ []) (still_within ws more os a) (last, tt)))
+
 -- one pointer of a list, and those after it
 pub one_before : {X : Type 0} (xs : List X) (n : ℕ) (x : X) → slice_get xs n ≡ Some x → drop n xs ≡ x ∷ drop (suc n) xs
 one_before [] n x e = cc
 one_before (y ∷ ys) zero x e = ap (λ u. u ∷ ys) (same_Some y x e)
 one_before (y ∷ ys) (suc n) x e = one_before ys n x e
+
+drop_none : {X : Type 0} (xs : List X) → drop (length xs) xs ≡ []
+drop_none [] = refl
+drop_none (x ∷ xs) = drop_none xs
+
+-- what is read at a place that is within
+pub got : {X : Type 0} (xs : List X) (i : ℕ) (x : X) → i < length xs → x ≡ slice_index_or xs i x → slice_get xs i ≡ Some x
+got [] i x l e = absurd (omega (arith, l))
+got (y ∷ ys) zero x l e = ap Some (sym e)
+got (y ∷ ys) (suc i) x l e = got ys i x (omega (arith, l)) e
+
+-- none of the pointers is pending yet
+pub deferred_start : (us : List Wanted) (fresh : List code.Owed) (r : List Owed) → r ≡ map (owed_of us) (drop (length fresh - 0) fresh) ++ r
+deferred_start us fresh r =
+    let z : length fresh - 0 ≡ length fresh = omega arith in
+    sym (ap (λ n. map (owed_of us) (drop n fresh) ++ r) z ∙ ap (λ xs. map (owed_of us) xs ++ r) (drop_none fresh))
+
+-- one more is
+pub deferred_turn : (us : List Wanted) (fresh : List code.Owed) (p q r : List Owed) (at : ℕ) (o : code.Owed) → at < length fresh → slice_get fresh (length fresh - 1 - at) ≡ Some o
+    → p ≡ map (owed_of us) (drop (length fresh - at) fresh) ++ r → q ≡ owed_of us o ∷ p → q ≡ map (owed_of us) (drop (length fresh - (at + 1)) fresh) ++ r
+deferred_turn us fresh p q r at o l there e f =
+    let n : length fresh - (at + 1) ≡ length fresh - 1 - at = omega (arith, l) in
+    let m : suc (length fresh - 1 - at) ≡ length fresh - at = omega (arith, l) in
+    f ∙ ap (λ u. owed_of us o ∷ u) e
+    ∙ sym (ap (λ k. map (owed_of us) (drop k fresh) ++ r) n ∙ ap (λ xs. map (owed_of us) xs ++ r) (one_before fresh (length fresh - 1 - at) o there) ∙ ap (λ k. owed_of us o ∷ (map (owed_of us) (drop k fresh) ++ r)) m)
+
+-- all are
+pub deferred_end : (us : List Wanted) (fresh : List code.Owed) (p r : List Owed) (at : ℕ) → length fresh ≤ at → p ≡ map (owed_of us) (drop (length fresh - at) fresh) ++ r → p ≡ map (owed_of us) fresh ++ r
+deferred_end us fresh p r at l e = let z : length fresh - at ≡ 0 = omega (arith, l) in e ∙ ap (λ n. map (owed_of us) (drop n fresh) ++ r) z

@@ -1,11 +1,11 @@
 -- The graph at the end of a home, whose nodes are those of a value.
-use Rattle.std.proofs.Common.{◌≡◌, ◌≤◌, ◌<◌, ℕ, List, [], ◌∷◌, ◌++◌, length, Option, Some, None, refl, ap, ap₂, sym, ◌∙◌, subst, map}
+use Rattle.std.proofs.Common.{◌≡◌, ◌≤◌, ◌<◌, ℕ, [], ◌∷◌, ◌++◌, length, Some, refl, ap, ap₂, sym, ◌∙◌, map}
 use Rattle.std.specs.Prelude.{slice_set}
 use Rattle.nd_value.specs.declared.item.Home.{Home}
 use Rattle.nd_value.specs.declared.item.Home.TheVariants as home
 use Rattle.nd_value.specs.declared.value.Graph.{Graph}
-use Rattle.nd_value.specs.Setting.{unread, cell_at, cell_home, set_cell}
-use Rattle.nd_value.specs.Tree.{Tree, Referent, more, none, flat}
+use Rattle.nd_value.specs.Setting.{cell_at, cell_home, set_cell}
+use Rattle.nd_value.specs.Tree.{Tree, more, none, flat}
 use Rattle.nd_flat.specs.Building.{Building, closed, opened, put, with_nodes, with_root}
 use Rattle.nd_flat.specs.Forest.{tree_in}
 use Rattle.nd_flat.proofs.Forests.{tree-of}

@@ -1,9 +1,12 @@
 -- What contracts see of a stream that is being decoded.
 -- `x` is a stream, `m` its machine.
-use Rattle.std.specs.Prelude.{◌≡◌, ℕ, List, [], ◌∷◌, ◌++◌, map, reverse, Option, Some, None}
+use Rattle.std.specs.Prelude.{◌≡◌, ◌≤◌, ℕ, ◌+◌, length, List, [], ◌∷◌, ◌++◌, map, reverse, Some, None}
+use Rattle.std.specs.List.{AllByRecursion}
 use Rattle.nd_value.specs.Seen.{cell_number}
-use Rattle.nd_flat.specs.Building.{CanClose, closed}
+use Rattle.nd_value.specs.declared.value.CellId.{CellId}
+use Rattle.nd_flat.specs.Building.{closed}
 use Rattle.ndr_steps.specs.declared.first.First.{First}
+use Rattle.ndr_steps.specs.declared.first.First.TheVariants as first
 use Rattle.ndr_steps.specs.Steps.{Owed}
 use Rattle.ndr_state.specs.declared.machine.Machine.{Machine}
 use Rattle.ndr_state.specs.declared.machine.Owed as code
@@ -11,12 +14,16 @@ use Rattle.ndr_state.specs.declared.machine.Wanted.{Wanted}
 use Rattle.ndr_state.specs.Seen.{owed_of, state_of}
 use Rattle.ndr_stream.specs.declared.kept.Kept.{Kept}
 use Rattle.ndr_stream.specs.declared.kept.KeptRoot.{KeptRoot}
-use Rattle.ndr_stream.specs.Between.{Between, CellKept, named_by, root_read}
+use Rattle.ndr_stream.specs.Between.{Between, CellKept, cell_read, named_by, root_read}
 use Rattle.ndr_kept.specs.declared.stream.Stream.{Stream}
 
 -- the pending referents, from the next on, with the agreements of their pointers
 abbrev pub pending_in : List Wanted → List code.Owed → List Owed
 pending_in ws os = map (owed_of ws) (reverse os)
+
+-- the agreements of each of them are among those
+abbrev pub AreSpans : List Wanted → List code.Owed → Type 0
+AreSpans ws os = AllByRecursion (λ (o : code.Owed). o.from + o.len ≤ length ws) os
 
 abbrev pub between_of : Stream → Between
 between_of x = record {
@@ -28,11 +35,6 @@ between_of x = record {
   read = x.cells.items;
   graph = closed x.machine.builder;
 }
-
--- no home is being read: the last one is whole, and its pointers are pending
-pub record IsSettled (x : Stream) : Type 0 where
-  pub whole : CanClose x.machine.builder
-  pub none_fresh : x.machine.fresh.items ≡ []
 
 -- the same is kept as before, but in the machine
 pub record KeepsAll (x y : Stream) : Type 0 where
@@ -76,3 +78,14 @@ pub record RootEnds (x y : Stream) : Type 0 where
 pub record CellEnds (c : ℕ) (k : Kept) (x y : Stream) : Type 0 where
   pub kept : CellKept c k x.cells.items y.cells.items
   pub others : KeepsOthers x y
+
+-- A root that is a reference pointer was kept, and its referent, whose pointers are pending.
+pub record ReferenceEnds (cell : CellId) (x y : Stream) : Type 0 where
+  pub root : KeptRoot
+  pub pointer : root.own ≡ record { first = first.Pointer; max_at = None }
+  pub names : root.cell ≡ Some cell
+  pub k : Kept
+  pub own : HasOwn x.machine k
+  pub kept : CellKept cell.0 k x.cells.items y.cells.items
+  pub between : between_of y ≡ cell_read (between_of x) (state_of x.machine) (x.roots.items ++ root ∷ []) y.cells.items (closed x.machine.builder)
+  pub cleared : IsCleared x.machine y.machine

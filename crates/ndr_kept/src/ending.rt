@@ -1,12 +1,13 @@
 // Where homes end.
 ghost use Rattle.std.specs.Prelude.{◌≡◌, ◌<◌, OnOk, IfOk, IfErr};
 ghost use Rattle.ndr_state.specs.declared.fault.DecodeFault.TheVariants as fault;
-ghost use Rattle.ndr_kept.specs.Seen.{CellEnds, RootEnds, HasOwn};
+ghost use Rattle.ndr_kept.specs.Seen.{CellEnds, HasOwn, ReferenceEnds, RootEnds};
 
 use crate::Stream;
 use crate::looking::{kept_home, named_cell};
 use nd_value::CellId;
 use ndr_state::DecodeFault;
+use ndr_steps::First;
 use ndr_stream::{Kept, KeptRoot};
 
 impl Stream {
@@ -35,4 +36,29 @@ impl Stream {
         self.keep_cell(cell, kept)?;
         Ok(kept)
     }
+
+    /// Keeps the root that is a reference pointer, and its referent, whose value was read; its pointers become pending. It takes memory, and out of memory is
+    /// the only refusal.
+    pub fn end_reference(&mut self, cell: CellId) -> Result<(), DecodeFault>
+        requires there { 0 < cell.0 }
+        ensures ends { OnOk result (ReferenceEnds cell self.old self.new) }
+        ensures memory { IfErr result (λ e. e ≡ fault.Memory) }
+    {
+        let kept = kept_home(&self.machine);
+        self.keep_cell(cell, kept)?;
+        let root = KeptRoot {
+            own: POINTER,
+            cell: Some(cell),
+        };
+        let Ok(()) = self.roots.push(root) else {
+            return Err(DecodeFault::Memory);
+        };
+        self.settle()
+    }
 }
+
+// What is kept of a reference pointer that is a root.
+const POINTER: Kept = Kept {
+    first: First::Pointer,
+    max_at: None,
+};

@@ -61,25 +61,32 @@ impl Stream {
         ensures others { KeepsOthers self.old self.new }
         ensures memory { IfErr result (λ e. e ≡ fault.Memory) }
     {
-        let at = cell.0 as usize - 1;
-        self.reach(at)?;
-        self.cells[at] = Some(kept);
-        Ok(())
+        keep_in(&mut self.cells, cell, kept)
     }
+}
 
-    // Makes room for what is kept of the cell at a place; of those that are not read nothing is kept.
-    fn reach(&mut self, at: usize) -> Result<(), DecodeFault>
-        requires small { at < 2 ^ 32 }
-        ensures long { OnOk result (at < length self.new.cells.items) }
-        ensures same { (c : ℕ) → kept_at self.new.cells.items c ≡ kept_at self.old.cells.items c }
-        ensures others { KeepsOthers self.old self.new }
-        ensures memory { IfErr result (λ e. e ≡ fault.Memory) }
-    {
-        for _next in self.cells.len()..at + 1 {
-            let Ok(()) = self.cells.push(None) else {
-                return Err(DecodeFault::Memory);
-            };
-        }
-        Ok(())
+fn keep_in(cells: &mut Vec<Option<Kept>>, cell: CellId, kept: Kept) -> Result<(), DecodeFault>
+    requires there { 0 < cell.0 }
+    ensures kept { OnOk result (CellKept cell.0 kept cells.old.items cells.new.items) }
+    ensures memory { IfErr result (λ e. e ≡ fault.Memory) }
+{
+    let at = cell.0 as usize - 1;
+    reach(cells, at)?;
+    cells[at] = Some(kept);
+    Ok(())
+}
+
+// Makes room for what is kept of the cell at a place; of those that are not read nothing is kept.
+fn reach(cells: &mut Vec<Option<Kept>>, at: usize) -> Result<(), DecodeFault>
+    requires small { at < 2 ^ 32 }
+    ensures long { OnOk result (at < length cells.new.items) }
+    ensures same { (c : ℕ) → kept_at cells.new.items c ≡ kept_at cells.old.items c }
+    ensures memory { IfErr result (λ e. e ≡ fault.Memory) }
+{
+    for _next in cells.as_slice().len()..at + 1 {
+        let Ok(()) = cells.push(None) else {
+            return Err(DecodeFault::Memory);
+        };
     }
+    Ok(())
 }

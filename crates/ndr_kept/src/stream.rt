@@ -1,5 +1,5 @@
 // A stream that is being decoded.
-ghost use Rattle.std.specs.Prelude.{◌≡◌, ◌≤◌, ◌+◌, length};
+ghost use Rattle.std.specs.Prelude.{◌≤◌, ◌+◌, length};
 ghost use Rattle.std.specs.List.{AllByRecursion};
 ghost use Rattle.ndr_state.specs.Small.{AreWithin-prop};
 
