@@ -1,2 +1,3 @@
 pub mod HomeComes
 pub mod RootReads
+pub mod DirectReads

@@ -40,10 +40,9 @@ use Rattle.ndr_decode.specs.Streaming.{FaultOf}
 use Rattle.ndr_decode.proofs.HomeComes.{HomeWhole, whole_comes, fault_comes, decoding_of}
 
 module _ (w : Setting) (side : IsLegalSide w) (order : Order) (fetched : List ℕ) (noted : List Item) (direct : ℕ) (b : Between) (s : Reading) (seen : List EntryAt) (n : ℕ)
-  (agrees : Agrees w side order fetched noted direct b s seen [] (suc n)) (r : Root) (there : slice_get (root_list w) (length s.roots) ≡ Some r)
-  (plain : is_direct (type_at w.table r.of) ≡ false) (usable : Usable w.table r.of) (x : State) (opens : Opens (whole_at w.table r.of) b b.cells x) (values : List EnumList)
-  (planned : IsPlanned (code_of w.table side.operations) values w.table) where
-
+    (agrees : Agrees w side order fetched noted direct b s seen [] (suc n)) (r : Root) (there : slice_get (root_list w) (length s.roots) ≡ Some r)
+    (plain : is_direct (type_at w.table r.of) ≡ false) (usable : Usable w.table r.of) (x : State) (opens : Opens (whole_at w.table r.of) b b.cells x) (values : List EnumList)
+    (planned : IsPlanned (code_of w.table side.operations) values w.table) where
   abbrev code : List Instr
   code = code_of w.table side.operations
 

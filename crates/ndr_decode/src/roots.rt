@@ -74,7 +74,15 @@ fn read_direct<S: Source, L: Ledger>(
     steps: &mut Steps<L>,
 ) -> Result<(), DecodeFault> {
     let cell = stream.open_reference(to, run, steps)?;
-    read_home(plan, order, &mut stream.machine, intake, source, items, steps)?;
+    read_home(
+        plan,
+        order,
+        &mut stream.machine,
+        intake,
+        source,
+        items,
+        steps,
+    )?;
     stream.end_reference(cell)
 }
 
@@ -89,6 +97,14 @@ fn read_placed<S: Source, L: Ledger>(
     steps: &mut Steps<L>,
 ) -> Result<(), DecodeFault> {
     stream.open_root(run)?;
-    read_home(plan, order, &mut stream.machine, intake, source, items, steps)?;
+    read_home(
+        plan,
+        order,
+        &mut stream.machine,
+        intake,
+        source,
+        items,
+        steps,
+    )?;
     stream.end_root()
 }
