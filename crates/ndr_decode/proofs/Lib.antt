@@ -3,3 +3,5 @@ pub mod PaidHomes
 pub mod Placed
 pub mod Reported
 pub mod Twice
+pub mod RootReads
+pub mod DirectReads
