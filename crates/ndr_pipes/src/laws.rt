@@ -1,5 +1,5 @@
 //! Laws of pipes, each the contract of a function that does nothing.
-ghost use Rattle.std.specs.Prelude.{◌≡◌, ◌≤◌, ◌<◌, ◌+◌, ◌++◌, ◌∷◌, [], ℕ, pos, suc, drop, List, Option, Some, None, length};
+ghost use Rattle.std.specs.Prelude.{◌≡◌, ◌≤◌, ◌<◌, ◌^◌, ◌-◌, ◌+◌, ◌++◌, ◌∷◌, [], ℕ, pos, suc, drop, List, Option, Some, None, length};
 ghost use Rattle.nd_base.specs.declared.octets.Order.{Order};
 ghost use Rattle.nd_base.specs.declared.TheConstants.{STREAM_LIMIT};
 ghost use Rattle.nd_types.specs.declared.types.TypeId.{TypeId};
@@ -12,7 +12,7 @@ ghost use Rattle.nd_value.specs.declared.item.Item.{Item};
 ghost use Rattle.nd_value.specs.Deferral.{before_pipes};
 ghost use Rattle.nd_value.specs.Setting.{Setting, root_list};
 ghost use Rattle.nd_value.specs.Tree as tree;
-ghost use Rattle.nd_value.specs.Tree.{Tree, Trees, node, none};
+ghost use Rattle.nd_value.specs.Tree.{Flat, Tree, Trees, count, flat, more, node, none};
 ghost use Rattle.nd_grammar.specs.declared.reason.Reason.{Reason};
 ghost use Rattle.nd_grammar.specs.declared.reason.Reason.TheVariants.{Truncated, TooLong};
 ghost use Rattle.nd_grammar.specs.Entry.{EntryAt, gap};
@@ -76,26 +76,27 @@ pub fn counts_are_read()
         → (later : List ℕ) → AreOctets later → Goes (going k.at k.seen) (read_stream w order (fetched ++ later)).progress }
 {}
 
-/// The elements of a chunk: at their beginning the state means them. Where one of them is refused, the stream is. After them the next chunk is due, and the pipe
-/// has so many elements more.
+/// The elements of a chunk, or the first of them: at their beginning the state means these. Where one of them is refused, the stream is. After all of them the
+/// next chunk is due, and the pipe has so many elements more. A pipe of more nodes than a machine counts has no end.
 pub fn elements_are_read()
-    ensures begin { (w : Setting) → IsLegalSide w → (order : Order) (fetched : List ℕ) (noted : List Item) (direct : ℕ) (first : Names) (i : ℕ) (rs : List Root) (roots : List Tree) (pipe : ℕ) (elem : TypeId) (done : Trees) (max_at : Option ℕ) (c : ℕ) (k : Position)
-        → type_at w.table pipe ≡ Some (Pipe elem) → InPipe w order fetched noted direct first i rs roots elem done max_at 0 (at_elements (suc c) w order i elem done k) k
+    ensures begin { (w : Setting) → IsLegalSide w → (order : Order) (fetched : List ℕ) (noted : List Item) (direct : ℕ) (first : Names) (i : ℕ) (rs : List Root) (roots : List Tree) (pipe : ℕ) (elem : TypeId) (done : Trees) (max_at : Option ℕ) (c r m : ℕ) (k : Position)
+        → suc c + r ≡ m → type_at w.table pipe ≡ Some (Pipe elem) → InPipe w order fetched noted direct first i rs roots elem done max_at 0 (at_elements m w order i elem done k) k
         → (values : List EnumList) (code : List Instr) → IsPlanned code values w.table → IsFine w.table 32 elem.0 → (x : State) → OpensChunk (place_at w.table elem.0) c done max_at k x
         → Good order fetched code w.table (home.Root i) pipe 33 noted direct (chunk_read order w.table (home.Root i) elem done (suc c) (going k.at k.seen) k.names) x }
-    ensures refused { (w : Setting) → IsLegalSide w → (order : Order) (fetched : List ℕ) (noted : List Item) (direct : ℕ) (first : Names) (i : ℕ) (rs : List Root) (roots : List Tree) (pipe : ℕ) (elem : TypeId) (done : Trees) (max_at : Option ℕ) (c : ℕ) (k : Position)
-        → type_at w.table pipe ≡ Some (Pipe elem) → InPipe w order fetched noted direct first i rs roots elem done max_at 0 (at_elements (suc c) w order i elem done k) k
+    ensures refused { (w : Setting) → IsLegalSide w → (order : Order) (fetched : List ℕ) (noted : List Item) (direct : ℕ) (first : Names) (i : ℕ) (rs : List Root) (roots : List Tree) (pipe : ℕ) (elem : TypeId) (done : Trees) (max_at : Option ℕ) (c r m : ℕ) (k : Position)
+        → suc c + r ≡ m → type_at w.table pipe ≡ Some (Pipe elem) → InPipe w order fetched noted direct first i rs roots elem done max_at 0 (at_elements m w order i elem done k) k
         → (later : List ℕ) → AreOctets later → (at : ℕ) (seen : List EntryAt) (why : ℕ × Reason) → (chunk_read order w.table (home.Root i) elem done (suc c) (going k.at k.seen) k.names (fetched ++ later)).progress ≡ stopped at seen why
         → (read_stream w order (fetched ++ later)).progress ≡ stopped at seen why }
-    ensures adds { (w : Setting) → IsLegalSide w → (order : Order) (fetched : List ℕ) (noted : List Item) (direct : ℕ) (first : Names) (i : ℕ) (rs : List Root) (roots : List Tree) (pipe : ℕ) (elem : TypeId) (done : Trees) (max_at : Option ℕ) (c : ℕ) (k : Position)
-        → type_at w.table pipe ≡ Some (Pipe elem) → InPipe w order fetched noted direct first i rs roots elem done max_at 0 (at_elements (suc c) w order i elem done k) k
+    ensures adds { (w : Setting) → IsLegalSide w → (order : Order) (fetched : List ℕ) (noted : List Item) (direct : ℕ) (first : Names) (i : ℕ) (rs : List Root) (roots : List Tree) (pipe : ℕ) (elem : TypeId) (done : Trees) (max_at : Option ℕ) (c r m : ℕ) (k : Position)
+        → suc c + r ≡ m → type_at w.table pipe ≡ Some (Pipe elem) → InPipe w order fetched noted direct first i rs roots elem done max_at 0 (at_elements m w order i elem done k) k
         → (later : List ℕ) → AreOctets later → Goes (chunk_read order w.table (home.Root i) elem done (suc c) (going k.at k.seen) k.names (fetched ++ later)).progress (read_stream w order (fetched ++ later)).progress }
-    ensures come { (w : Setting) → IsLegalSide w → (order : Order) (fetched : List ℕ) (noted : List Item) (direct : ℕ) (first : Names) (i : ℕ) (rs : List Root) (roots : List Tree) (pipe : ℕ) (elem : TypeId) (done : Trees) (max_at : Option ℕ) (c : ℕ) (k : Position)
-        → type_at w.table pipe ≡ Some (Pipe elem) → InPipe w order fetched noted direct first i rs roots elem done max_at 0 (at_elements (suc c) w order i elem done k) k
+    ensures come { (w : Setting) → IsLegalSide w → (order : Order) (fetched : List ℕ) (noted : List Item) (direct : ℕ) (first : Names) (i : ℕ) (rs : List Root) (roots : List Tree) (pipe : ℕ) (elem : TypeId) (done : Trees) (max_at : Option ℕ) (c r m : ℕ) (k : Position)
+        → suc c + r ≡ m → type_at w.table pipe ≡ Some (Pipe elem) → InPipe w order fetched noted direct first i rs roots elem done max_at 0 (at_elements m w order i elem done k) k
         → (later : List ℕ) → AreOctets later → Goes (going k.at k.seen) (read_stream w order (fetched ++ later)).progress }
     ensures end { (w : Setting) → IsLegalSide w → (order : Order) (fetched : List ℕ) (noted : List Item) (direct : ℕ) (first : Names) (i : ℕ) (rs : List Root) (roots : List Tree) (pipe : ℕ) (elem : TypeId) (done : Trees) (max_at : Option ℕ) (c : ℕ) (k : Position)
         → type_at w.table pipe ≡ Some (Pipe elem) → InPipe w order fetched noted direct first i rs roots elem done max_at 0 (at_elements (suc c) w order i elem done k) k
         → (next : List ℕ) → AreOctets next → (noted' : List Item) (x : State) → (is : Whole order (fetched ++ next) w.table (home.Root i) pipe noted' direct (chunk_read order w.table (home.Root i) elem done (suc c) (going k.at k.seen) k.names) x)
         → AreNeeded (chunk_read order w.table (home.Root i) elem done (suc c) (going k.at k.seen) k.names) fetched next → IsFine w.table 32 elem.0
         → InPipe w order (fetched ++ next) noted' direct first i rs roots elem (kids_of is.v) x.max_at 4 (at_chunk w order i elem (kids_of is.v) (read_to x is.seen is.names)) (read_to x is.seen is.names) }
+    ensures few { (v : Tree) (ks : Trees) (nodes : List Flat) → v ≡ node tree.Pipe ks → nodes ≡ flat (more v none) → length nodes + 4096 < 2 ^ 32 → count ks < 2 ^ 32 - 1 }
 {}

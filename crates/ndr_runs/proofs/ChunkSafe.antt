@@ -31,11 +31,11 @@ use Rattle.ndr_runs.specs.Reaching.{Reaches, IsSafe}
 use Rattle.ndr_runs.specs.Paid.{IsPaid}
 use Rattle.ndr_runs.proofs.Safe.{fine_readable, safe_along}
 
-many_alike : (P : ℕ → Type 0) (t k : ℕ) → P t → AllByRecursion P (replicate k t)
+pub many_alike : (P : ℕ → Type 0) (t k : ℕ) → P t → AllByRecursion P (replicate k t)
 many_alike P t zero a = tt
 many_alike P t (suc k) a = (a, many_alike P t k a)
 
-more_alike : (t m n : ℕ) → replicate (m + n) t ≡ replicate m t ++ replicate n t
+pub more_alike : (t m n : ℕ) → replicate (m + n) t ≡ replicate m t ++ replicate n t
 more_alike t zero n = let z : zero + n ≡ n = omega arith in ap (λ k. replicate k t) z
 more_alike t (suc m) n =
     let z : suc m + n ≡ suc (m + n) = omega arith in
