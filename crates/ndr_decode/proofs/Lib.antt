@@ -1,1 +1,2 @@
 pub mod HomeComes
+pub mod Placed
