@@ -1,2 +1,5 @@
 pub mod HomeComes
 pub mod Placed
+pub mod Standing
+pub mod Tried
+pub mod OwedReads

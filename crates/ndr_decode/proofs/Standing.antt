@@ -1,12 +1,13 @@
 -- What is right where a call reads nothing, and calls one after the other.
 -- `x` is what is kept of the stream, `o` a source's octets, `g` a log, `k` a number of steps.
-use Rattle.std.proofs.Common.{◌≡◌, ◌≤◌, ℕ, ◌+◌, Bool, true, false, List, [], ◌∷◌, ◌++◌, length, map, Option, Some, None, Result, Ok, Err, refl, ap, sym, ◌∙◌, subst, append_assoc, arith}
+use Rattle.std.proofs.Common.{◌≡◌, ◌≤◌, ℕ, ◌+◌, ℤ, Bool, true, false, List, [], ◌∷◌, ◌++◌, length, map, Option, Some, None, Result, Ok, Err, refl, ap, sym, ◌∙◌, subst, append_assoc, arith}
 use Rattle.std.specs.Prelude.{if◌then◌else◌, option_map}
 use Rattle.std.specs.Io.KnownBytes.{Consumes}
 use Rattle.std.specs.Ordering.{int_eq}
 use Rattle.std.proofs.lemmas.List.{append-nil}
 use Rattle.std.proofs.lemmas.Option.{same_Some}
 use Rattle.nd_base.specs.declared.octets.Order.{Order}
+use Rattle.nd_base.specs.Counts.{Rose}
 use Rattle.nd_base.specs.Over.{SourceSeen, Count}
 use Rattle.nd_value.specs.Agreement.{Agreement}
 use Rattle.nd_value.specs.Deferral.{Pending}
@@ -26,14 +27,17 @@ use Rattle.ndr_steps.specs.Steps.{first_found, place_of, place_in}
 use Rattle.ndr_verdict.specs.Verdict.{DecodingSeen, with_items}
 use Rattle.ndr_stream.specs.Added.{Goes}
 use Rattle.ndr_stream.specs.Between.{Agrees, Between}
-use Rattle.ndr_stream.specs.Calls.{CutOff, Refused, Took}
+use Rattle.ndr_stream.specs.Calls.{CutOff, Follows, Refused, Took}
 use Rattle.ndr_stream.specs.Report.{AreCells, IsRefusedAfter, StreamCut, StreamRefused}
 use Rattle.ndr_stream.specs.Tests.{disagreement}
 use Rattle.ndr_stream.proofs.FewReferences.{few_now}
+use Rattle.ndr_stream.proofs.Joined.{took_twice, took_then_refused, took_then_cut}
 use Rattle.ndr_stream.proofs.StreamGrows.{stream_goes}
 use Rattle.ndr_kept.specs.declared.stream.Stream.{Stream}
 use Rattle.ndr_kept.specs.Seen.{between_of}
-use Rattle.ndr_decode.specs.Streaming.{Stands, WentOn, cells_of}
+use Rattle.ndr_state.specs.declared.fault.DecodeFault.{DecodeFault}
+use Rattle.ndr_state.specs.declared.fault.DecodeFault.TheVariants as fault
+use Rattle.ndr_decode.specs.Streaming.{FaultOf, Stands, WentOn, cells_of}
 
 -- ## Nothing is read
 
@@ -138,12 +142,42 @@ module _ (o : Option (List ℕ)) (ended : Bool) (faults : Count) (g : Logged) (k
 
 
 -- an agreement is refused for what it says, and never for octets that do not come
+abbrev why_by : Bool → Option ℕ → ℤ → ℤ → Option (ℕ × Reason)
+why_by b p z y = if b then None else option_map (λ q. (q, reason.Disagrees z y)) p
+
 pub not_cut : (a : Agreement) (f : First) (m : Option ℕ) (place : ℕ) (why : Reason) → disagreement a f m ≡ Some (place, why) → why ≡ reason.Truncated → ⊥
 not_cut a f m place why e t = go (int_eq a.wanted (first_found a.attr f)) (place_of a.attr m (place_in f)) e
   where
-    other : (q : ℕ) → (q, reason.Disagrees a.wanted (first_found a.attr f)) ≡ (place, why) → ⊥
-    other q e = let x : reason.Disagrees a.wanted (first_found a.attr f) ≡ reason.Truncated = ap (λ r. r.1) e ∙ t in cc
-    go : (b : Bool) (p : Option ℕ) → (if b then None else option_map (λ (q : ℕ). (q, reason.Disagrees a.wanted (first_found a.attr f))) p) ≡ Some (place, why) → ⊥
+    other : (q : ℕ) → ◌≡◌ {A = ℕ × Reason} (q, reason.Disagrees a.wanted (first_found a.attr f)) (place, why) → ⊥
+    other q e = let x : reason.Disagrees a.wanted (first_found a.attr f) ≡ reason.Truncated = ap (λ (r : ℕ × Reason). r.1) e ∙ t in cc
+    go : (b : Bool) (p : Option ℕ) → why_by b p a.wanted (first_found a.attr f) ≡ Some (place, why) → ⊥
     go true p e = cc
     go false None e = cc
     go false (Some q) e = other q (same_Some (q, reason.Disagrees a.wanted (first_found a.attr f)) (place, why) e)
+
+-- ## One call after the other
+
+-- what a call comes to after another one that went on
+module _ (w : Setting) (side : IsLegalSide w) (order : Order) (fetched : List ℕ) (noted : List Item) (n0 : ℕ) (a b c : SourceSeen) (s t u : DecodingSeen) (f : Follows a b c s t u)
+    (octets : List ℕ) (xs : List Item) (n1 : ℕ) (took : Took a s n0 octets xs n1) where
+  pub then_went : (x : Stream) (n : ℕ) → WentOn w side order (fetched ++ octets) (noted ++ xs) n1 b t x n → WentOn w side order fetched noted n0 c u x n
+  then_went x n g = record {
+    octets = octets ++ g.octets;
+    items = xs ++ g.items;
+    direct = g.direct;
+    s = g.s;
+    seen = g.seen;
+    ps = g.ps;
+    stands = subst (λ (z : List ℕ). Stands w side order z (noted ++ (xs ++ g.items)) g.direct x g.s g.seen g.ps n) (append_assoc fetched octets g.octets)
+        (subst (λ (z : List Item). Stands w side order ((fetched ++ octets) ++ g.octets) z g.direct x g.s g.seen g.ps n) (append_assoc noted xs g.items) g.stands);
+    took = took_twice a b c s t u f n0 n1 (cells_of x) octets g.octets xs g.items took g.took;
+  }
+
+  -- a fault, where the source's count of faults had not fallen before
+  pub then_fault : c.faults.before ≤ b.faults.before → c.faults.now ≡ b.faults.now → (e : DecodeFault) → FaultOf w order (fetched ++ octets) (noted ++ xs) n1 b t e → FaultOf w order fetched noted n0 c u e
+  then_fault l m (fault.Bad place why) x = took_then_refused a b c s t u f w order fetched noted n0 n1 octets xs took place why x
+  then_fault l m fault.ReadFault x = (took_then_cut a b c s t u f w order fetched noted n0 n1 octets xs took x.0, rose c.faults.before b.faults.before b.faults.now c.faults.now l m x.1)
+    where
+      rose : (p q r r' : ℕ) → p ≤ q → r' ≡ r → Rose q r → Rose p r'
+      rose p q r r' l m x = subst (λ k. Rose p k) (sym m) (omega (arith, l, x))
+  then_fault l m fault.Memory x = took_then_cut a b c s t u f w order fetched noted n0 n1 octets xs took x

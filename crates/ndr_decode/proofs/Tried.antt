@@ -12,7 +12,7 @@ use Rattle.ndr_state.specs.declared.machine.Wanted.{Wanted}
 use Rattle.ndr_state.specs.Seen.{agreement_of}
 use Rattle.ndr_stream.specs.declared.kept.Kept.{Kept}
 use Rattle.ndr_stream.specs.Tests.{AllAgree, disagreement}
-use Rattle.ndr_decode.specs.Trying.{AreTried, Disagrees}
+use Rattle.ndr_decode.specs.Tried.{AreTried, IsFirst}
 
 all_with : (k : Kept) (ws : List Agreement) (w : Agreement) → AllAgree k ws → disagreement w k.first k.max_at ≡ None → AllAgree k (ws ++ w ∷ [])
 all_with k [] w h e = (e, tt)
@@ -66,18 +66,18 @@ so_far_all k ws i l h = subst (λ (xs : List Wanted). AllAgree k (map agreement_
 
 -- one of them is refused
 pub one_refused : (k : Kept) (ws : List Wanted) (i : ℕ) (w : Wanted) (r : Result (Unit {0}) DecodeFault) (e : DecodeFault) → slice_get ws i ≡ Some w → SoFar k ws i
-    → IsErrAnd r (λ y. y ≡ e) → IsTried (disagreement (agreement_of w) k.first k.max_at) (Err e) → AreTried k (map agreement_of ws) r
+    → IsErrAnd r (λ y. y ≡ e) → IsTried (disagreement (agreement_of w) k.first k.max_at) (Err e) → AreTried (map agreement_of ws) k r
 one_refused k ws i w (Ok u) e there h m t = absurd m
 one_refused k ws i w (Err y) e there h m t = by y (subst (λ (q : DecodeFault). IsTried (disagreement (agreement_of w) k.first k.max_at) (Err q)) (sym m) t)
   where
-    by : (y : DecodeFault) → IsTried (disagreement (agreement_of w) k.first k.max_at) (Err y) → AreTried k (map agreement_of ws) (Err y)
+    by : (y : DecodeFault) → IsTried (disagreement (agreement_of w) k.first k.max_at) (Err y) → AreTried (map agreement_of ws) k (Err y)
     by fault.Memory t = absurd t
     by fault.ReadFault t = absurd t
     by (fault.Bad place why) t = record {
       before = map agreement_of (take i ws);
-      one = agreement_of w;
+      a = agreement_of w;
       others = map agreement_of (drop (i + 1) ws);
       split = ap (map agreement_of) (split_at ws i w there) ∙ map-append agreement_of (take i ws) (w ∷ drop (i + 1) ws);
-      hold = h;
-      fails = t;
+      agree = h;
+      is = t;
     }
