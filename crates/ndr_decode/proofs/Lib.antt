@@ -5,3 +5,6 @@ pub mod Reported
 pub mod Twice
 pub mod RootReads
 pub mod DirectReads
+pub mod Standing
+pub mod Tried
+pub mod OwedReads
