@@ -1,4 +1,5 @@
 pub mod HomeComes
+pub mod KeepableNumbers
 pub mod PaidHomes
 pub mod Placed
 pub mod Reported
