@@ -48,7 +48,7 @@ use Rattle.ndr_stream.specs.Calls.{Took, TookPart, Refused, CutOff, RefusesWith,
 use Rattle.ndr_stream.specs.Report.{AreCells, StreamRefused, StreamCut}
 use Rattle.ndr_stream.proofs.HomeFaults.{home_refused, home_cut}
 use Rattle.ndr_stream.proofs.StateAdds.{state_adds}
-use Rattle.ndr_decode.specs.Streaming.{FaultOf}
+use Rattle.ndr_decode.specs.Streaming.{FaultOf, HomeWhole}
 
 -- ## Logs
 
@@ -101,15 +101,6 @@ all_is_part : (notes : NotesSeen) (s0 s : State) (xs : List Item) → IsLogged x
 all_is_part notes s0 s xs (log, count) = (log, omega (arith, count))
 
 -- ## Homes
-
--- The home's value is whole.
-pub record HomeWhole (order : Order) (table : Table) (h : Home) (own direct : ℕ) (target : List ℕ → Read) (f0 : List ℕ) (n0 : List Item) (n : ℕ) (source : SourceSeen) (t : DecodingSeen) (s1 : State) : Type 0 where
-  pub octets : List ℕ
-  pub items : List Item
-  pub all : AreOctets octets
-  pub is : Whole order (f0 ++ octets) table h own (n0 ++ items) direct target s1
-  pub needed : AreNeeded target f0 octets
-  pub took : Took source t n octets items (length s1.cells)
 
 abbrev IsNotCut : Reason → Type 0
 IsNotCut reason.Truncated = ⊥

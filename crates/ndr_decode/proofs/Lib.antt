@@ -1,3 +1,6 @@
 pub mod HomeComes
 pub mod RootReads
 pub mod DirectReads
+pub mod Placed
+pub mod Reported
+pub mod Twice

@@ -3,19 +3,24 @@ ghost use Rattle.std.specs.Prelude.{◌≡◌, ℕ, ◌+◌, ◌≤◌, ◌<◌,
 ghost use Rattle.std.specs.List.{slice_get};
 ghost use Rattle.nd_base.specs.Over.{source_seen, HasRisen, count};
 ghost use Rattle.nd_types.specs.declared.types.Operation.{Operation};
-ghost use Rattle.nd_value.specs.Fitting.{setting_beside};
+ghost use Rattle.nd_value.specs.Fitting.{IsFit, setting_beside};
 ghost use Rattle.nd_value.specs.Request.{IsRequestOf};
+ghost use Rattle.nd_flat.specs.Building.{CanClose, fitting};
 ghost use Rattle.ndr_state.specs.declared.fault.DecodeFault.TheVariants.{ReadFault};
 ghost use Rattle.ndr_verdict.specs.Verdict.{IsDecoded, decoding_seen};
 ghost use Rattle.ndr_decode.specs.Decoding.{IsFault};
 
-use crate::stream::Stream;
+use crate::chunks::read_pipes;
+use crate::parameters::check_parameters;
+use crate::roots::read_roots;
 use nd_base::{Ledger, Order, Source, Steps};
 use nd_flat::{Builder, Fit};
 use nd_types::Side;
 use nd_value::ItemLog;
 use ndr_code::Plan;
-use ndr_state::DecodeFault;
+use ndr_intake::Intake;
+use ndr_kept::Stream;
+use ndr_state::{DecodeFault, Machine};
 use std::alloc::Global;
 
 /// What a stream was decoded to.
@@ -73,20 +78,32 @@ pub fn decode<S: Source, L: Ledger>(
     ensures later { S.Source.faults source.old ≤ S.Source.faults source.new }
 {
     let builder = Builder::begin(alloc, plan.tie.again(), op, side, given);
-    let mut stream = Stream::new(alloc, order, builder)?;
-    let mut line = first_line(plan, op, side);
-    let lines = plan.entries.as_slice();
-    let checks = stream.read_roots(plan, lines, &mut line, source, items, steps)?;
-    stream.check_parameters(plan.code.as_slice(), checks as usize, given)?;
-    stream.read_pipes(plan, lines, line, op, side, source, items, steps)?;
-    Ok(stream.finish())
+    let mut stream = Stream::begin(alloc, builder);
+    let mut intake = Intake::new(alloc)?;
+    let found = read_roots(plan, op, side, order, &mut stream, &mut intake, source, items, steps)?;
+    check_parameters(plan, found.checks, given, &stream)?;
+    read_pipes(plan, op, side, order, found.line, &mut stream, &mut intake, source, items, steps)?;
+    Ok(finish(stream))
 }
 
-// The number of the first line of a side.
-fn first_line(plan: &Plan, op: u32, side: Side) -> usize {
-    let of = match side {
-        Side::In => 0,
-        Side::Out => 1,
-    };
-    plan.sides.as_slice()[op as usize * 2 + of] as usize
+// The graph as a fit, and the octets that it took.
+fn finish(stream: Stream) -> Decoded
+    requires whole { CanClose stream.machine.builder }
+    requires fits { IsFit (fitting stream.machine.builder) }
+    ensures fit { result.fit ≡ fitting stream.machine.builder }
+    ensures taken { result.taken ≡ stream.machine.at }
+{
+    let Stream {
+        machine,
+        wanted: _wanted,
+        todo: _todo,
+        roots: _roots,
+        cells: _cells,
+    } = stream;
+    let taken = machine.at;
+    let Machine { builder, .. } = machine;
+    Decoded {
+        fit: builder.finish(),
+        taken,
+    }
 }

@@ -1,18 +1,15 @@
 // Pending referents.
-ghost use Rattle.std.specs.Prelude.{◌≡◌, ◌≤◌, ◌∷◌, ℕ, List};
+ghost use Rattle.std.specs.Prelude.{◌≡◌, ◌≤◌, ◌+◌, Some, None, length};
 ghost use Rattle.nd_base.specs.Over.{source_seen};
-ghost use Rattle.nd_base.specs.declared.octets.Order.{Order};
-ghost use Rattle.nd_value.specs.declared.item.Item.{Item};
-ghost use Rattle.nd_value.specs.Deferral.{Pending};
-ghost use Rattle.nd_value.specs.Setting.{Setting};
-ghost use Rattle.nd_grammar.specs.Entry.{EntryAt};
-ghost use Rattle.nd_grammar.specs.LegalSide.{IsLegalSide};
-ghost use Rattle.nd_grammar.specs.StreamReader.{Reading};
+ghost use Rattle.nd_types.specs.declared.types.Class.TheVariants.{Full};
+ghost use Rattle.ndr_state.specs.Seen.{owed_of};
 ghost use Rattle.ndr_verdict.specs.Verdict.{decoding_seen};
-ghost use Rattle.ndr_decode.specs.Streaming.{IsStreaming, Reads, ReadsAll, Stands, cells_of};
+ghost use Rattle.ndr_stream.specs.Between.{kept_at};
+ghost use Rattle.ndr_decode.specs.Streaming.{IsAtReferent, IsStreaming, PendingReads, ReferentReads};
+ghost use Rattle.ndr_decode.specs.Tried.{AreTried};
 
 use crate::homes::read_home;
-use nd_base::{Ledger, Order as ByteOrder, Source, Steps};
+use nd_base::{Ledger, Order, Source, Steps};
 use nd_types::Class;
 use nd_value::{CellId, ItemLog};
 use ndr_code::Plan;
@@ -25,7 +22,7 @@ use ndr_stream::Kept;
 // Reads what is pending, one referent after the other, each followed by those that it makes due.
 pub(crate) fn read_pending<S: Source, L: Ledger>(
     plan: &Plan,
-    order: ByteOrder,
+    order: Order,
     stream: &mut Stream,
     intake: &mut Intake,
     source: &mut S,
@@ -33,9 +30,7 @@ pub(crate) fn read_pending<S: Source, L: Ledger>(
     steps: &mut Steps<L>,
 ) -> Result<(), DecodeFault>
     requires streaming { IsStreaming plan.now order stream.old }
-    ensures reads { (w : Setting) (side : IsLegalSide w) (fetched : List ℕ) (noted : List Item) (direct : ℕ) (s : Reading) (seen : List EntryAt) (ps : List Pending) (n : ℕ) → w.table ≡ plan.now.tie.types
-        → Stands w side order fetched noted direct stream.old s seen ps n
-        → ReadsAll w side order fetched noted (cells_of stream.old) n (source_seen S.Source.left S.Source.ended S.Source.faults source.old source.new)
+    ensures reads { PendingReads plan.now order stream.old (source_seen S.Source.left S.Source.ended S.Source.faults source.old source.new)
         (decoding_seen items.old items.new (L.number steps.old) (L.number steps.new)) stream.new result }
     ensures later { S.Source.faults source.old ≤ S.Source.faults source.new }
 {
@@ -52,20 +47,26 @@ pub(crate) fn read_pending<S: Source, L: Ledger>(
 // The referent of a pointer that was taken from those that are pending, if it was not read yet, and the pointer's agreements. A null pointer has none.
 fn read_owed<S: Source, L: Ledger>(
     plan: &Plan,
-    order: ByteOrder,
+    order: Order,
     owed: Owed,
     stream: &mut Stream,
     intake: &mut Intake,
     source: &mut S,
     items: &mut ItemLog,
     steps: &mut Steps<L>,
-) -> Result<(), DecodeFault> {
+) -> Result<(), DecodeFault>
+    requires next { IsAtReferent plan.now order owed stream.old }
+    requires within { owed.from + owed.len ≤ length stream.old.wanted.items }
+    ensures reads { ReferentReads plan.now order owed stream.old (source_seen S.Source.left S.Source.ended S.Source.faults source.old source.new)
+        (decoding_seen items.old items.new (L.number steps.old) (L.number steps.new)) stream.new result }
+    ensures later { S.Source.faults source.old ≤ S.Source.faults source.new }
+{
     let Some(cell) = owed.cell else {
         return Ok(());
     };
     if let Class::Full = owed.class {
         if let Some(kept) = stream.kept_cell(cell) {
-            return try_all(&stream.wanted, owed, kept);
+            return try_all(stream.wanted.as_slice(), owed, kept);
         }
     }
     read_referent(
@@ -76,7 +77,7 @@ fn read_owed<S: Source, L: Ledger>(
 // The referent of a pointer, which was not read yet, and the pointer's agreements.
 fn read_referent<S: Source, L: Ledger>(
     plan: &Plan,
-    order: ByteOrder,
+    order: Order,
     owed: Owed,
     cell: CellId,
     stream: &mut Stream,
@@ -84,7 +85,15 @@ fn read_referent<S: Source, L: Ledger>(
     source: &mut S,
     items: &mut ItemLog,
     steps: &mut Steps<L>,
-) -> Result<(), DecodeFault> {
+) -> Result<(), DecodeFault>
+    requires next { IsAtReferent plan.now order owed stream.old }
+    requires within { owed.from + owed.len ≤ length stream.old.wanted.items }
+    requires cell { owed.cell ≡ Some cell }
+    requires unread { owed.class ≡ Full → kept_at stream.old.cells.items cell.0 ≡ None }
+    ensures reads { ReferentReads plan.now order owed stream.old (source_seen S.Source.left S.Source.ended S.Source.faults source.old source.new)
+        (decoding_seen items.old items.new (L.number steps.old) (L.number steps.new)) stream.new result }
+    ensures later { S.Source.faults source.old ≤ S.Source.faults source.new }
+{
     stream.open_cell(cell, owed.run);
     read_home(
         plan,
@@ -96,12 +105,15 @@ fn read_referent<S: Source, L: Ledger>(
         steps,
     )?;
     let kept = stream.end_cell(cell)?;
-    try_all(&stream.wanted, owed, kept)?;
+    try_all(stream.wanted.as_slice(), owed, kept)?;
     stream.settle()
 }
 
 // Tries the agreements of a pointer in its referent.
-fn try_all(wanted: &[Wanted], owed: Owed, kept: Kept) -> Result<(), DecodeFault> {
+fn try_all(wanted: &[Wanted], owed: Owed, kept: Kept) -> Result<(), DecodeFault>
+    requires within { owed.from + owed.len ≤ length wanted.now }
+    ensures { AreTried (owed_of wanted.now owed).agreements kept result }
+{
     for at in 0..owed.len {
         try_in(wanted[owed.from + at], kept.first, kept.max_at)?;
     }

@@ -2,5 +2,4 @@ pub mod GraphEnds
 pub mod Deferred
 pub mod Opened
 pub mod KeptCells
-pub mod Ended
 pub mod Begun
