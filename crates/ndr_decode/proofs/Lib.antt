@@ -5,3 +5,6 @@ pub mod PaidHomes
 pub mod Placed
 pub mod Reported
 pub mod Twice
+pub mod Standing
+pub mod Tried
+pub mod OwedReads

@@ -1,8 +1,8 @@
 // Pending referents.
-ghost use Rattle.std.specs.Prelude.{◌≡◌, ◌≤◌, ◌+◌, Some, None, length};
+ghost use Rattle.std.specs.Prelude.{◌≡◌, ◌≤◌, ◌+◌, Some, None, length, map};
 ghost use Rattle.nd_base.specs.Over.{source_seen};
 ghost use Rattle.nd_types.specs.declared.types.Class.TheVariants.{Full};
-ghost use Rattle.ndr_state.specs.Seen.{owed_of};
+ghost use Rattle.ndr_state.specs.Seen.{agreement_of, owed_of};
 ghost use Rattle.ndr_verdict.specs.Verdict.{decoding_seen};
 ghost use Rattle.ndr_stream.specs.Between.{kept_at};
 ghost use Rattle.ndr_decode.specs.Streaming.{IsAtReferent, IsStreaming, PendingReads, ReferentReads};
@@ -114,8 +114,16 @@ fn try_all(wanted: &[Wanted], owed: Owed, kept: Kept) -> Result<(), DecodeFault>
     requires within { owed.from + owed.len ≤ length wanted.now }
     ensures { AreTried (owed_of wanted.now owed).agreements kept result }
 {
-    for at in 0..owed.len {
-        try_in(wanted[owed.from + at], kept.first, kept.max_at)?;
+    try_each(&wanted[owed.from..owed.from + owed.len], kept)
+}
+
+// Tries agreements one after the other.
+fn try_each(wanted: &[Wanted], kept: Kept) -> Result<(), DecodeFault>
+    ensures { AreTried (map agreement_of wanted.now) kept result }
+{
+    for at in 0..wanted.len() {
+        let one = wanted[at];
+        try_in(one, kept.first, kept.max_at)?;
     }
     Ok(())
 }
