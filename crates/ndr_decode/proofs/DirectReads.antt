@@ -10,6 +10,8 @@ use Rattle.nd_base.specs.Over.{SourceSeen}
 use Rattle.nd_types.specs.declared.types.Class.TheVariants.{Ref}
 use Rattle.nd_types.specs.declared.types.TypeDef.TheVariants as def
 use Rattle.nd_types.specs.declared.types.TypeId.{TypeId}
+use Rattle.nd_types.specs.declared.types.Operation.{Operation}
+use Rattle.nd_types.specs.Legal.{IsLegal}
 use Rattle.nd_types.specs.Table.{type_at}
 use Rattle.nd_types.specs.Roots.{Root}
 use Rattle.nd_value.specs.declared.item.Home.{Home}
@@ -43,15 +45,15 @@ use Rattle.ndr_stream.proofs.Cells.{told_reference}
 use Rattle.ndr_stream.proofs.FewReferences.{few_next}
 use Rattle.ndr_stream.proofs.HomeBegins.{home_begins}
 use Rattle.ndr_stream.proofs.DirectEnds.{its_usable, free, direct_refused, direct_goes, direct_ends, after, made}
-use Rattle.ndr_decode.specs.Streaming.{FaultOf}
-use Rattle.ndr_decode.proofs.HomeComes.{HomeWhole, whole_comes, fault_comes, decoding_of}
+use Rattle.ndr_decode.specs.Streaming.{FaultOf, HomeWhole}
+use Rattle.ndr_decode.proofs.HomeComes.{whole_comes, fault_comes, decoding_of}
 
 module _ (w : Setting) (side : IsLegalSide w) (order : Order) (fetched : List ℕ) (noted : List Item) (direct : ℕ) (b : Between) (s : Reading) (seen : List EntryAt) (n : ℕ)
     (agrees : Agrees w side order fetched noted direct b s seen [] (suc n)) (r : Root) (there : slice_get (root_list w) (length s.roots) ≡ Some r) (to : TypeId)
     (refers : type_at w.table r.of ≡ Some (def.Pointer Ref to)) (x : State) (opens : Opens (whole_at w.table to.0) b (b.cells ++ to.0 ∷ []) x) (values : List EnumList)
-    (planned : IsPlanned (code_of w.table side.operations) values w.table) where
+    (operations : List Operation) (legal : IsLegal w.table operations) (planned : IsPlanned (code_of w.table operations) values w.table) where
   abbrev code : List Instr
-  code = code_of w.table side.operations
+  code = code_of w.table operations
 
   abbrev here : Home
   here = cell_home (length s.names.cells + 1)
@@ -64,7 +66,7 @@ module _ (w : Setting) (side : IsLegalSide w) (order : Order) (fetched : List �
 
   pub direct_good : Good order fetched code w.table here to.0 32 noted (direct + 1) target x
   direct_good =
-      home_begins w.table side.operations side.legal order fetched noted (direct + 1) here seen names to.0
+      home_begins w.table operations legal order fetched noted (direct + 1) here seen names to.0
       (its_usable w side order fetched noted direct b s seen n agrees r there to refers) b agrees.keeps.at (b.cells ++ to.0 ∷ []) x opens
       (told_reference order fetched here seen s.names b.cells b.numbers None 0 [] to.0 (agrees.keeps.told here (free w side order fetched noted direct b s seen n agrees r there to refers)))
 

@@ -6,6 +6,8 @@ use Rattle.nd_base.specs.declared.octets.Order.{Order}
 use Rattle.nd_base.specs.declared.TheConstants.{STREAM_LIMIT}
 use Rattle.nd_base.specs.Over.{SourceSeen}
 use Rattle.nd_grammar.proofs.legal.LegalUsable.{Usable}
+use Rattle.nd_types.specs.declared.types.Operation.{Operation}
+use Rattle.nd_types.specs.Legal.{IsLegal}
 use Rattle.nd_types.specs.Table.{type_at}
 use Rattle.nd_types.specs.Roots.{Root}
 use Rattle.nd_value.specs.declared.item.Home.{Home}
@@ -36,15 +38,15 @@ use Rattle.ndr_stream.specs.Between.{Between, Agrees, Opens, IsKeptRoot, RootAdd
 use Rattle.ndr_stream.proofs.FewReferences.{few_now}
 use Rattle.ndr_stream.proofs.HomeBegins.{home_begins}
 use Rattle.ndr_stream.proofs.RootEnds.{root_refused, root_goes, root_ends, after, new}
-use Rattle.ndr_decode.specs.Streaming.{FaultOf}
-use Rattle.ndr_decode.proofs.HomeComes.{HomeWhole, whole_comes, fault_comes, decoding_of}
+use Rattle.ndr_decode.specs.Streaming.{FaultOf, HomeWhole}
+use Rattle.ndr_decode.proofs.HomeComes.{whole_comes, fault_comes, decoding_of}
 
 module _ (w : Setting) (side : IsLegalSide w) (order : Order) (fetched : List ℕ) (noted : List Item) (direct : ℕ) (b : Between) (s : Reading) (seen : List EntryAt) (n : ℕ)
     (agrees : Agrees w side order fetched noted direct b s seen [] (suc n)) (r : Root) (there : slice_get (root_list w) (length s.roots) ≡ Some r)
     (plain : is_direct (type_at w.table r.of) ≡ false) (usable : Usable w.table r.of) (x : State) (opens : Opens (whole_at w.table r.of) b b.cells x) (values : List EnumList)
-    (planned : IsPlanned (code_of w.table side.operations) values w.table) where
+    (operations : List Operation) (legal : IsLegal w.table operations) (planned : IsPlanned (code_of w.table operations) values w.table) where
   abbrev code : List Instr
-  code = code_of w.table side.operations
+  code = code_of w.table operations
 
   abbrev here : Home
   here = home.Root (length s.roots)
@@ -54,7 +56,7 @@ module _ (w : Setting) (side : IsLegalSide w) (order : Order) (fetched : List �
 
   pub root_good : Good order fetched code w.table here r.of 32 noted direct target x
   root_good =
-      home_begins w.table side.operations side.legal order fetched noted direct here seen s.names r.of usable b agrees.keeps.at b.cells x opens (agrees.keeps.told here (omega arith))
+      home_begins w.table operations legal order fetched noted direct here seen s.names r.of usable b agrees.keeps.at b.cells x opens (agrees.keeps.told here (omega arith))
 
   pub root_safe : IsFine w.table 32 r.of → length fetched ≤ STREAM_LIMIT → IsPaid x → (more : List ℕ) (items : List Item) (y : State) → Reaches values order code here x more items y
       → IsSafe code y

@@ -16,7 +16,9 @@ use Rattle.nd_value.specs.Setting.{Setting, root_list}
 use Rattle.nd_grammar.specs.Entry.{EntryAt}
 use Rattle.nd_grammar.specs.LegalSide.{IsLegalSide}
 use Rattle.nd_grammar.specs.Reader.{Read}
-use Rattle.nd_grammar.specs.StreamReader.{Reading}
+use Rattle.nd_grammar.specs.Items.{items as items_of}
+use Rattle.nd_grammar.specs.StreamReader.{Reading, read_stream}
+use Rattle.ndr_reading.specs.Around.{going}
 use Rattle.ndr_code.specs.Code.{root_by}
 use Rattle.ndr_code.specs.declared.instr.Instr.{Instr}
 use Rattle.ndr_code.specs.declared.plan.Plan.{Plan}
@@ -32,7 +34,7 @@ use Rattle.ndr_stream.specs.Calls.{Took, Refused, CutOff}
 use Rattle.ndr_kept.specs.declared.stream.Stream.{Stream}
 use Rattle.ndr_kept.specs.Seen.{between_of}
 use Rattle.ndr_decode.specs.declared.roots.Found.{Found}
-use Rattle.nd_flat.specs.Building.{CanClose}
+use Rattle.nd_flat.specs.Building.{CanClose, closed}
 
 -- how many cells have their numbers
 abbrev pub cells_of : Stream → ℕ
@@ -119,6 +121,19 @@ pub record WentOn (w : Setting) (side : IsLegalSide w) (order : Order) (fetched 
   pub seen : List EntryAt
   pub ps : List Pending
   pub stands : Stands w side order (fetched ++ octets) (noted ++ items) direct x s seen ps n
+  pub took : Took source t cells octets items (cells_of x)
+
+-- It read the stream to its end, whose graph is built.
+pub record WasRead (w : Setting) (order : Order) (fetched : List ℕ) (noted : List Item) (cells : ℕ) (source : SourceSeen) (t : DecodingSeen) (x : Stream) : Type 0 where
+  pub octets : List ℕ
+  pub items : List Item
+  pub all : AreOctets (fetched ++ octets)
+  pub seen : List EntryAt
+  pub at : length (fetched ++ octets) ≡ x.machine.at
+  pub progress : (read_stream w order (fetched ++ octets)).progress ≡ going x.machine.at seen
+  pub graph : (read_stream w order (fetched ++ octets)).graph ≡ closed x.machine.builder
+  pub noted_are : items_of order (fetched ++ octets) seen ≡ noted ++ items
+  pub whole : CanClose x.machine.builder
   pub took : Took source t cells octets items (cells_of x)
 
 -- a refusal is that of the stream; where the source or memory failed, reading was cut off
