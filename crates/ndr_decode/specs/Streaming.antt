@@ -4,6 +4,7 @@
 use Rattle.std.specs.Prelude.{◌≡◌, ◌≤◌, ℕ, suc, List, [], ◌∷◌, ◌++◌, length, Some, Result, Ok, Err}
 use Rattle.std.specs.List.{slice_get}
 use Rattle.nd_base.specs.declared.octets.Order.{Order}
+use Rattle.nd_base.specs.declared.TheConstants.{STREAM_LIMIT}
 use Rattle.nd_base.specs.Over.{SourceSeen, HasRisen}
 use Rattle.nd_types.specs.Number.{AreOctets}
 use Rattle.nd_types.specs.declared.types.Side.{Side}
@@ -43,6 +44,7 @@ cells_of x = length x.machine.builder.graph.cells
 -- What is kept of the stream is right: so many roots that are no pipes are left, and these pointers are due.
 pub record Stands (w : Setting) (side : IsLegalSide w) (order : Order) (fetched : List ℕ) (noted : List Item) (direct : ℕ) (x : Stream) (s : Reading) (seen : List EntryAt) (ps : List Pending) (n : ℕ) : Type 0 where
   pub agrees : Agrees w side order fetched noted direct (between_of x) s seen ps n
+  pub within : x.machine.at ≤ STREAM_LIMIT
   pub whole : CanClose x.machine.builder
 
 -- No referent is due, and the next root begins with this instruction.
@@ -70,6 +72,7 @@ with_next o x =
 -- The same is right with the next of the pending referents.
 pub record StandsWith (w : Setting) (side : IsLegalSide w) (order : Order) (fetched : List ℕ) (noted : List Item) (direct : ℕ) (o : code.Owed) (x : Stream) (s : Reading) (seen : List EntryAt) (p : Pending) (ps : List Pending) (n : ℕ) : Type 0 where
   pub agrees : Agrees w side order fetched noted direct (with_next o x) s seen (p ∷ ps) n
+  pub within : x.machine.at ≤ STREAM_LIMIT
   pub whole : CanClose x.machine.builder
 
 -- The next of the pending referents is due.
@@ -111,6 +114,7 @@ pub record HomeWhole (order : Order) (table : Table) (h : Home) (own direct : �
   pub is : Whole order (fetched ++ octets) table h own (noted ++ items) direct target s
   pub needed : AreNeeded target fetched octets
   pub took : Took source t cells octets items (length s.cells)
+  pub within : s.at ≤ STREAM_LIMIT
 
 -- It went on over so many octets more, and what is kept is right after them, with so many roots left.
 pub record WentOn (w : Setting) (side : IsLegalSide w) (order : Order) (fetched : List ℕ) (noted : List Item) (cells : ℕ) (source : SourceSeen) (t : DecodingSeen) (x : Stream) (n : ℕ) : Type 0 where
