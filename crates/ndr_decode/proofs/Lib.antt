@@ -3,3 +3,5 @@ pub mod Placed
 pub mod Standing
 pub mod Tried
 pub mod OwedReads
+pub mod Reported
+pub mod Twice
