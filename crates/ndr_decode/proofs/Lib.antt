@@ -3,5 +3,7 @@ pub mod Placed
 pub mod Standing
 pub mod Tried
 pub mod OwedReads
+pub mod ReferentReads
+pub mod ReferentDone
 pub mod Reported
 pub mod Twice
