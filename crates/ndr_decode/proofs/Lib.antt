@@ -5,5 +5,6 @@ pub mod Tried
 pub mod OwedReads
 pub mod ReferentReads
 pub mod ReferentDone
+pub mod ReferentFails
 pub mod Reported
 pub mod Twice

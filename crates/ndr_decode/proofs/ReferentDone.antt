@@ -30,7 +30,9 @@ use Rattle.ndr_state.specs.declared.machine.Machine.{Machine}
 use Rattle.ndr_state.specs.declared.machine.Owed.{Owed}
 use Rattle.ndr_state.specs.Seen.{Outside, outside, owed_of, state_of}
 use Rattle.ndr_verdict.specs.Verdict.{DecodingSeen}
+use Rattle.ndr_refs.specs.declared.referents.Known.{Known}
 use Rattle.ndr_stream.specs.declared.kept.Kept.{Kept}
+use Rattle.ndr_stream.specs.declared.kept.KeptRoot.{KeptRoot}
 use Rattle.ndr_stream.specs.Between.{Agrees, Between, CellFilled, CellKept, IsKeptHome, cell_read, home_target, kept_at, taken}
 use Rattle.ndr_stream.specs.Calls.{Took}
 use Rattle.ndr_stream.specs.Tests.{AllAgree}
@@ -43,6 +45,9 @@ use Rattle.ndr_decode.specs.Streaming.{HomeWhole, StandsWith, WentOn, cells_of, 
 use Rattle.ndr_decode.proofs.OwedReads.{agreements_are, cell_is, class_is}
 use Rattle.ndr_decode.proofs.Placed.{can_close, kept_of, ran, took_by, types_length}
 use Rattle.ndr_decode.proofs.ReferentReads.{cell_there, its_usable}
+
+abbrev kept_by : ℕ → List steps.Owed → Building → List (ℕ × Known) → List KeptRoot → List (Option Kept) → Between
+kept_by at os u ns roots read = record { at = at; pending = os; cells = map (λ c. c.of) u.graph.cells; numbers = ns; roots = roots; read = read; graph = closed u }
 
 module _ (w : Setting) (side : IsLegalSide w) (order : Order) (fetched : List ℕ) (noted : List Item) (direct : ℕ) (o : Owed) (x : Stream) (s : Reading) (seen : List EntryAt) (p : Pending) (ps : List Pending) (n : ℕ)
     (st : StandsWith w side order fetched noted direct o x s seen p ps n) (c : CellId) (some : o.cell ≡ Some c) (unread : o.class ≡ Full → kept_at x.cells.items c.0 ≡ None)
@@ -58,21 +63,18 @@ module _ (w : Setting) (side : IsLegalSide w) (order : Order) (fetched : List �
   new : p.class ≡ Full → kept_at x.cells.items c.0 ≡ None
   new f = unread (class_is w side order fetched noted direct o x s seen p ps n st ∙ f)
 
-  b : Building
+  abbrev b : Building
   b = x.machine.builder
 
-  m : Machine
+  abbrev m : Machine
   m = s2.machine
 
-  v : Tree
+  abbrev v : Tree
   v = hw.is.v
 
   -- the cells have grown
   all_there : AreOctets ((fetched ++ hw.octets) ++ [])
   all_there = all_append (λ b. b < 256) (fetched ++ hw.octets) [] (all_append (λ b. b < 256) fetched hw.octets ag.octets hw.all) tt
-
-  its : Read
-  its = record { tree = hw.is.v; progress = going m.at hw.is.seen; names = hw.is.names }
 
   wholly : WholeRead w side order ((fetched ++ hw.octets) ++ []) all_there (cell_home c.0) p.to (going x.machine.at seen) s.names (record { tree = hw.is.v; progress = going m.at hw.is.seen; names = hw.is.names })
   wholly =
@@ -114,8 +116,42 @@ module _ (w : Setting) (side : IsLegalSide w) (order : Order) (fetched : List �
       built : s4.machine.builder ≡ m.builder
       built = cleared.builder ∙ ap (λ (q : Machine). q.builder) same_machine
 
-      with_all : ℕ → List steps.Owed → Building → List (ℕ × Rattle.ndr_refs.specs.declared.referents.Known.Known) → Between
-      with_all at os u ns = record { at = at; pending = os; cells = map (λ c. c.of) u.graph.cells; numbers = ns; roots = x.roots.items; read = s3.cells.items; graph = closed u }
+      now_pending : pending_in s4.wanted.items s4.todo.items ≡ (state_of m).fresh ++ pending_in x.wanted.items x.todo.items
+      now_pending =
+          pending ∙ ap (λ (q : Machine). (state_of q).fresh ++ pending_in s3.wanted.items s3.todo.items) same_machine
+          ∙ ap (λ (l : List steps.Owed). (state_of m).fresh ++ l) others
 
       is_now : between_of s4 ≡ cell_read (between_of x) (state_of m) x.roots.items s3.cells.items (closed m.builder)
-      is_now = ?
+      is_now =
+          ap (λ u. kept_by u (pending_in s4.wanted.items s4.todo.items) s4.machine.builder s4.machine.referents s4.roots.items s4.cells.items)
+          (cleared.at ∙ ap (λ (q : Machine). q.at) same_machine)
+          ∙ ap (λ u. kept_by m.at u s4.machine.builder s4.machine.referents s4.roots.items s4.cells.items) now_pending
+          ∙ ap (λ u. kept_by m.at ((state_of m).fresh ++ pending_in x.wanted.items x.todo.items) u s4.machine.referents s4.roots.items s4.cells.items) built
+          ∙ ap (λ u. kept_by m.at ((state_of m).fresh ++ pending_in x.wanted.items x.todo.items) m.builder u s4.roots.items s4.cells.items)
+            (cleared.referents ∙ ap (λ (q : Machine). q.referents) same_machine)
+          ∙ ap (λ u. kept_by m.at ((state_of m).fresh ++ pending_in x.wanted.items x.todo.items) m.builder m.referents u s4.cells.items)
+            (homes.roots ∙ ends.others.roots ∙ keeps.roots)
+          ∙ ap (λ u. kept_by m.at ((state_of m).fresh ++ pending_in x.wanted.items x.todo.items) m.builder m.referents x.roots.items u) homes.cells
+
+      all_agree : AllAgree k p.agreements
+      all_agree = subst (AllAgree k) (agreements_are w side order fetched noted direct o x s seen p ps n st) agree
+
+      pub referent_done : WentOn w side order fetched noted (cells_of x) source t s4 n
+      referent_done =
+          let (then, so, qs, agrees) =
+          law.ends w side order fetched noted direct (with_next o x) s seen p ps n ag c.0 is_cell new hw.octets hw.all (noted ++ hw.items) (state_of m) hw.is hw.needed k kept all_agree
+              s3.cells.items is_kept (closed m.builder) filled in
+          record {
+            octets = hw.octets;
+            items = hw.items;
+            direct = direct;
+            s = then;
+            seen = so;
+            ps = qs;
+            stands = record {
+              agrees = subst (λ (u : Between). Agrees w side order (fetched ++ hw.octets) (noted ++ hw.items) direct u then so qs n) (sym is_now) agrees;
+              whole = subst CanClose (sym built) (can_close m.builder v hw.is.nodes);
+            };
+            took = took_by source t (length (state_of s1.machine).cells) (cells_of x) (length (state_of m).cells) (cells_of s4) hw.octets hw.items (ap length cells ∙ types_length b)
+                (types_length m.builder ∙ sym (ap (λ (u : Building). length u.graph.cells) built)) hw.took;
+          }
