@@ -1,5 +1,5 @@
 // Pending referents.
-ghost use Rattle.std.specs.Prelude.{◌≡◌, ◌≤◌, ◌+◌, Some, None, length, map};
+ghost use Rattle.std.specs.Prelude.{◌≡◌, ◌≤◌, ◌+◌, Some, None, length, map, OnOk};
 ghost use Rattle.nd_base.specs.Over.{source_seen};
 ghost use Rattle.nd_types.specs.declared.types.Class.TheVariants.{Full};
 ghost use Rattle.ndr_state.specs.Seen.{agreement_of, owed_of};
