@@ -3,7 +3,7 @@ ghost use Rattle.std.specs.Prelude.{◌≡◌, drop, slice_get, option_map, IfSo
 ghost use Rattle.nd_flat.specs.FlatForm.{IsKeepableNumber};
 ghost use Rattle.nd_value.specs.Agreement.{agreement};
 ghost use Rattle.ndr_machine.specs.Parts.{IsTried};
-ghost use Rattle.ndr_stream.specs.Parameters.{root_number, root_subject};
+ghost use Rattle.ndr_stream.specs.Parameters.{root_subject};
 ghost use Rattle.ndr_parameters.specs.Trials.{is_check, failing, check_fails, checks_fail, AreKeepable};
 
 use crate::given::given_number;
