@@ -4,6 +4,7 @@ pub mod HomeComes
 pub mod KeepableNumbers
 pub mod OwedReads
 pub mod PaidHomes
+pub mod ParameterEnds
 pub mod Placed
 pub mod ReferentDone
 pub mod ReferentFails
