@@ -1,10 +1,12 @@
-pub mod HomeComes
-pub mod RootReads
 pub mod DirectReads
+pub mod EndsWell
+pub mod HomeComes
+pub mod KeepableNumbers
+pub mod OwedReads
 pub mod PaidHomes
 pub mod Placed
 pub mod Reported
-pub mod Twice
+pub mod RootReads
 pub mod Standing
 pub mod Tried
-pub mod OwedReads
+pub mod Twice
