@@ -14,3 +14,4 @@ pub mod RootReads
 pub mod Standing
 pub mod Tried
 pub mod Twice
+pub mod WholeStays
