@@ -6,5 +6,6 @@ pub mod OwedReads
 pub mod ReferentReads
 pub mod ReferentDone
 pub mod ReferentFails
+pub mod PendingTurns
 pub mod Reported
 pub mod Twice
