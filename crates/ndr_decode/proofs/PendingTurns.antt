@@ -1,8 +1,9 @@
 -- Turns of the loop over pending referents: the next one is taken, or none is left.
 -- `x` is what is kept of the stream before the turn, `y` the same without the next of the pending referents, `o` that referent.
-use Rattle.std.proofs.Common.{◌≡◌, ℕ, List, [], ◌∷◌, ◌++◌, length, map, reverse, Option, refl, sym, ap, ◌∙◌, subst}
+use Rattle.std.proofs.Common.{◌≡◌, ◌≤◌, ℕ, List, [], ◌∷◌, ◌++◌, length, map, reverse, Option, refl, sym, ap, ◌∙◌, subst}
 use Rattle.std.proofs.lemmas.List.{reverse-append}
 use Rattle.nd_base.specs.declared.octets.Order.{Order}
+use Rattle.nd_base.specs.declared.TheConstants.{STREAM_LIMIT}
 use Rattle.nd_types.specs.Table.{Table}
 use Rattle.nd_value.specs.declared.item.Item.{Item}
 use Rattle.nd_value.specs.Deferral.{Pending}
@@ -73,6 +74,7 @@ module _ (w : Setting) (side : IsLegalSide w) (order : Order) (fetched : List �
     stands = record {
       agrees = subst (λ (b : Between). Agrees w side order fetched noted direct b s seen (p ∷ ps) n) (next_is_with x y k o e) st.agrees;
       whole = subst (λ (m : Machine). CanClose m.builder) (sym k.machine) st.whole;
+      within = subst (λ (m : Machine). m.at ≤ STREAM_LIMIT) (sym k.machine) st.within;
     };
   }
 

@@ -129,7 +129,15 @@ fn read_direct<S: Source, L: Ledger>(
     ensures later { S.Source.faults source.old ≤ S.Source.faults source.new }
 {
     let cell = stream.open_reference(to, run, steps)?;
-    read_home(plan, order, &mut stream.machine, intake, source, items, steps)?;
+    read_home(
+        plan,
+        order,
+        &mut stream.machine,
+        intake,
+        source,
+        items,
+        steps,
+    )?;
     stream.end_reference(cell)
 }
 
@@ -149,6 +157,14 @@ fn read_placed<S: Source, L: Ledger>(
     ensures later { S.Source.faults source.old ≤ S.Source.faults source.new }
 {
     stream.open_root(run)?;
-    read_home(plan, order, &mut stream.machine, intake, source, items, steps)?;
+    read_home(
+        plan,
+        order,
+        &mut stream.machine,
+        intake,
+        source,
+        items,
+        steps,
+    )?;
     stream.end_root()
 }

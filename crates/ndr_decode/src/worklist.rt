@@ -69,7 +69,9 @@ fn read_owed<S: Source, L: Ledger>(
             return try_all(stream.wanted.as_slice(), owed, kept);
         }
     }
-    read_referent(plan, order, owed, cell, stream, intake, source, items, steps)
+    read_referent(
+        plan, order, owed, cell, stream, intake, source, items, steps,
+    )
 }
 
 // The referent of a pointer, which was not read yet, and the pointer's agreements.
@@ -93,7 +95,15 @@ fn read_referent<S: Source, L: Ledger>(
     ensures later { S.Source.faults source.old ≤ S.Source.faults source.new }
 {
     stream.open_cell(cell, owed.run);
-    read_home(plan, order, &mut stream.machine, intake, source, items, steps)?;
+    read_home(
+        plan,
+        order,
+        &mut stream.machine,
+        intake,
+        source,
+        items,
+        steps,
+    )?;
     let kept = stream.end_cell(cell)?;
     try_all(stream.wanted.as_slice(), owed, kept)?;
     stream.settle()
