@@ -5,6 +5,7 @@ pub mod KeepableNumbers
 pub mod OwedReads
 pub mod PaidHomes
 pub mod ParameterEnds
+pub mod PendingTurns
 pub mod Placed
 pub mod ReferentDone
 pub mod ReferentFails

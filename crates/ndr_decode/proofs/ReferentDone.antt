@@ -151,6 +151,7 @@ module _ (w : Setting) (side : IsLegalSide w) (order : Order) (fetched : List �
             stands = record {
               agrees = subst (λ (u : Between). Agrees w side order (fetched ++ hw.octets) (noted ++ hw.items) direct u then so qs n) (sym is_now) agrees;
               whole = subst CanClose (sym built) (can_close m.builder v hw.is.nodes);
+              within = let at : s4.machine.at ≡ m.at = cleared.at ∙ ap (λ (q : Machine). q.at) same_machine in let few = hw.within in omega (arith, at, few);
             };
             took = took_by source t (length (state_of s1.machine).cells) (cells_of x) (length (state_of m).cells) (cells_of s4) hw.octets hw.items (ap length cells ∙ types_length b)
                 (types_length m.builder ∙ sym (ap (λ (u : Building). length u.graph.cells) built)) hw.took;
