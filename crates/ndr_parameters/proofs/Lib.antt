@@ -1,2 +1,2 @@
-mod Runs
-mod Together
+pub mod Runs
+pub mod Together
