@@ -5,6 +5,9 @@ pub mod KeepableNumbers
 pub mod OwedReads
 pub mod PaidHomes
 pub mod Placed
+pub mod ReferentDone
+pub mod ReferentFails
+pub mod ReferentReads
 pub mod Reported
 pub mod RootReads
 pub mod Standing
