@@ -81,4 +81,4 @@ module _ (w : Setting) (side : IsLegalSide w) (order : Order) (fetched : List �
   variable_keepable v star z e =
       let g : Graph = with_pipes s pipes in
       starred_number w.table g star (root_at g v) z is_reading.cells_made (λ y f. roots_number w.table (root_list w) s.roots pipes v y is_reading.roots_made f)
-          (sym (variable_is w side order fetched noted direct b s before n pipes ag seen keeps v star) ∙ e)
+      (sym (variable_is w side order fetched noted direct b s before n pipes ag seen keeps v star) ∙ e)

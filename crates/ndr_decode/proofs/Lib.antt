@@ -1,3 +1,4 @@
+pub mod AtRoots
 pub mod DirectReads
 pub mod EndsWell
 pub mod HomeComes
