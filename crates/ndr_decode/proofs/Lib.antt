@@ -4,9 +4,15 @@ pub mod HomeComes
 pub mod KeepableNumbers
 pub mod OwedReads
 pub mod PaidHomes
+pub mod ParameterEnds
+pub mod PendingTurns
 pub mod Placed
+pub mod ReferentDone
+pub mod ReferentFails
+pub mod ReferentReads
 pub mod Reported
 pub mod RootReads
 pub mod Standing
 pub mod Tried
 pub mod Twice
+pub mod WholeStays

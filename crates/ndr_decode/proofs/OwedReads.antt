@@ -55,7 +55,7 @@ module _ (w : Setting) (side : IsLegalSide w) (order : Order) (fetched : List �
     pub null_reads : o.cell ≡ None → WentOn w side order fetched noted (cells_of x) (idle_source left ended faults) (idle_log g k) x n
     null_reads none =
         let (then, ag) = passes_null w side order fetched noted direct (with_next o x) s seen p ps n st.agrees (sym cell_is ∙ ap cell_number none) in
-        went_nowhere left ended faults g k w side order fetched noted direct x then seen ps n (record { agrees = ag; whole = st.whole })
+        went_nowhere left ended faults g k w side order fetched noted direct x then seen ps n (record { agrees = ag; within = st.within; whole = st.whole })
 
     -- a full pointer's referent that was read: its agreements are tried
     pub read_reads : (c : CellId) → o.cell ≡ Some c → o.class ≡ Full → (z : Kept) → kept_at x.cells.items c.0 ≡ Some z → (r : Result (Unit {0}) DecodeFault)
@@ -65,7 +65,7 @@ module _ (w : Setting) (side : IsLegalSide w) (order : Order) (fetched : List �
         let is_full : p.class ≡ Full = sym class_is ∙ full in
         let (then, so, ag) = passes_read w side order fetched noted direct (with_next o x) s seen p ps n st.agrees c.0 is_cell is_full z there
             (subst (λ (ws : List Agreement). AreTried ws z (Ok u)) agreements_are t) in
-        went_nowhere left ended faults g k w side order fetched noted direct x then so ps n (record { agrees = ag; whole = st.whole })
+        went_nowhere left ended faults g k w side order fetched noted direct x then so ps n (record { agrees = ag; within = st.within; whole = st.whole })
     read_reads c some full z there (Err (fault.Bad place why)) t =
         let is_cell : p.cell ≡ Some c.0 = sym cell_is ∙ ap cell_number some in
         let is_full : p.class ≡ Full = sym class_is ∙ full in
