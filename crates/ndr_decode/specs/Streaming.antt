@@ -1,13 +1,15 @@
 -- What a call of the decoder comes to, over the roots and referents of a stream.
 -- `plan` is a plan, `w` a setting of its interface, `fetched` are the octets that were fetched and `noted` the items that were noted before the call, `x` is what
 -- is kept of the stream after it, `source` and `t` are what was seen of the source, the log and the steps over it, `n` is how many cells there were.
-use Rattle.std.specs.Prelude.{◌≡◌, ◌≤◌, ℕ, suc, List, [], ◌∷◌, ◌++◌, length, Some, Result, Ok, Err}
+use Rattle.std.specs.Prelude.{◌≡◌, ◌≤◌, ℕ, suc, List, [], ◌∷◌, ◌++◌, length, Option, Some, Result, Ok, Err}
 use Rattle.std.specs.List.{slice_get}
 use Rattle.nd_base.specs.declared.octets.Order.{Order}
 use Rattle.nd_base.specs.declared.TheConstants.{STREAM_LIMIT}
 use Rattle.nd_base.specs.Over.{SourceSeen, HasRisen}
 use Rattle.nd_types.specs.Number.{AreOctets}
+use Rattle.nd_types.specs.declared.interface.Interface.{Interface}
 use Rattle.nd_types.specs.declared.types.Side.{Side}
+use Rattle.nd_value.specs.declared.value.Graph.{Graph}
 use Rattle.nd_types.specs.Roots.{Root}
 use Rattle.nd_types.specs.Table.{Table, type_at}
 use Rattle.nd_value.specs.declared.item.Home.{Home}
@@ -35,11 +37,21 @@ use Rattle.ndr_stream.specs.Calls.{Took, Refused, CutOff}
 use Rattle.ndr_kept.specs.declared.stream.Stream.{Stream}
 use Rattle.ndr_kept.specs.Seen.{between_of}
 use Rattle.ndr_decode.specs.declared.roots.Found.{Found}
-use Rattle.nd_flat.specs.Building.{CanClose, closed}
+use Rattle.nd_flat.specs.Building.{Building, CanClose, closed}
 
 -- how many cells have their numbers
 abbrev pub cells_of : Stream → ℕ
 cells_of x = length x.machine.builder.graph.cells
+
+-- what the graph is for
+pub record Purpose : Type 0 where
+  pub op : ℕ
+  pub side : Side
+  pub interface : Interface
+  pub given : Option Graph
+
+abbrev pub purpose_of : Stream → Purpose
+purpose_of x = let b : Building = x.machine.builder in record { op = b.op; side = b.side; interface = b.interface; given = b.given }
 
 -- What is kept of the stream is right: so many roots that are no pipes are left, and these pointers are due.
 pub record Stands (w : Setting) (side : IsLegalSide w) (order : Order) (fetched : List ℕ) (noted : List Item) (direct : ℕ) (x : Stream) (s : Reading) (seen : List EntryAt) (ps : List Pending) (n : ℕ) : Type 0 where

@@ -1,11 +1,11 @@
 // Pending referents.
-ghost use Rattle.std.specs.Prelude.{◌≡◌, ◌≤◌, ◌+◌, Some, None, length, map};
+ghost use Rattle.std.specs.Prelude.{◌≡◌, ◌≤◌, ◌+◌, Some, None, length, map, OnOk};
 ghost use Rattle.nd_base.specs.Over.{source_seen};
 ghost use Rattle.nd_types.specs.declared.types.Class.TheVariants.{Full};
 ghost use Rattle.ndr_state.specs.Seen.{agreement_of, owed_of};
 ghost use Rattle.ndr_verdict.specs.Verdict.{decoding_seen};
 ghost use Rattle.ndr_stream.specs.Between.{kept_at};
-ghost use Rattle.ndr_decode.specs.Streaming.{IsAtReferent, IsStreaming, PendingReads, ReferentReads};
+ghost use Rattle.ndr_decode.specs.Streaming.{IsAtReferent, IsStreaming, PendingReads, ReferentReads, purpose_of};
 ghost use Rattle.ndr_decode.specs.Tried.{AreTried};
 
 use crate::homes::read_home;
@@ -32,6 +32,7 @@ pub(crate) fn read_pending<S: Source, L: Ledger>(
     requires streaming { IsStreaming plan.now order stream.old }
     ensures reads { PendingReads plan.now order stream.old (source_seen S.Source.left S.Source.ended S.Source.faults source.old source.new)
         (decoding_seen items.old items.new (L.number steps.old) (L.number steps.new)) stream.new result }
+    ensures same { OnOk result (purpose_of stream.new ≡ purpose_of stream.old) }
     ensures later { S.Source.faults source.old ≤ S.Source.faults source.new }
 {
     // No stream within the limit has so many referents.
@@ -59,6 +60,7 @@ fn read_owed<S: Source, L: Ledger>(
     requires within { owed.from + owed.len ≤ length stream.old.wanted.items }
     ensures reads { ReferentReads plan.now order owed stream.old (source_seen S.Source.left S.Source.ended S.Source.faults source.old source.new)
         (decoding_seen items.old items.new (L.number steps.old) (L.number steps.new)) stream.new result }
+    ensures same { OnOk result (purpose_of stream.new ≡ purpose_of stream.old) }
     ensures later { S.Source.faults source.old ≤ S.Source.faults source.new }
 {
     let Some(cell) = owed.cell else {
@@ -92,6 +94,7 @@ fn read_referent<S: Source, L: Ledger>(
     requires unread { owed.class ≡ Full → kept_at stream.old.cells.items cell.0 ≡ None }
     ensures reads { ReferentReads plan.now order owed stream.old (source_seen S.Source.left S.Source.ended S.Source.faults source.old source.new)
         (decoding_seen items.old items.new (L.number steps.old) (L.number steps.new)) stream.new result }
+    ensures same { OnOk result (purpose_of stream.new ≡ purpose_of stream.old) }
     ensures later { S.Source.faults source.old ≤ S.Source.faults source.new }
 {
     stream.open_cell(cell, owed.run);
