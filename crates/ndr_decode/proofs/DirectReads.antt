@@ -2,7 +2,7 @@
 -- run of its code, to what is kept after it.
 -- `b` is what is kept, `s` the state of the reader, `x` the state of the decoder at the beginning of the value and `x1` at its end, `root` and `k` are what is
 -- kept of the root and of its cell.
-use Rattle.std.proofs.Common.{◌≡◌, ◌≤◌, ℕ, ◌+◌, suc, List, [], ◌∷◌, ◌++◌, length, None, Some, Option, ap}
+use Rattle.std.proofs.Common.{◌≡◌, ◌≤◌, ℕ, ◌+◌, suc, List, [], ◌∷◌, ◌++◌, length, None, Some, Option, ap, sym, subst}
 use Rattle.std.specs.Prelude.{slice_get}
 use Rattle.nd_base.specs.declared.octets.Order.{Order}
 use Rattle.nd_base.specs.declared.TheConstants.{STREAM_LIMIT}
@@ -51,10 +51,8 @@ use Rattle.ndr_decode.proofs.HomeComes.{whole_comes, fault_comes, decoding_of}
 module _ (w : Setting) (side : IsLegalSide w) (order : Order) (fetched : List ℕ) (noted : List Item) (direct : ℕ) (b : Between) (s : Reading) (seen : List EntryAt) (n : ℕ)
     (agrees : Agrees w side order fetched noted direct b s seen [] (suc n)) (r : Root) (there : slice_get (root_list w) (length s.roots) ≡ Some r) (to : TypeId)
     (refers : type_at w.table r.of ≡ Some (def.Pointer Ref to)) (x : State) (opens : Opens (whole_at w.table to.0) b (b.cells ++ to.0 ∷ []) x) (values : List EnumList)
-    (operations : List Operation) (legal : IsLegal w.table operations) (planned : IsPlanned (code_of w.table operations) values w.table) where
-  abbrev code : List Instr
-  code = code_of w.table operations
-
+    (operations : List Operation) (legal : IsLegal w.table operations) (code : List Instr) (code_is : code ≡ code_of w.table operations)
+    (planned : IsPlanned code values w.table) where
   abbrev here : Home
   here = cell_home (length s.names.cells + 1)
 
@@ -66,9 +64,10 @@ module _ (w : Setting) (side : IsLegalSide w) (order : Order) (fetched : List �
 
   pub direct_good : Good order fetched code w.table here to.0 32 noted (direct + 1) target x
   direct_good =
-      home_begins w.table operations legal order fetched noted (direct + 1) here seen names to.0
+      subst (λ c. Good order fetched c w.table here to.0 32 noted (direct + 1) target x) (sym code_is)
+      (home_begins w.table operations legal order fetched noted (direct + 1) here seen names to.0
       (its_usable w side order fetched noted direct b s seen n agrees r there to refers) b agrees.keeps.at (b.cells ++ to.0 ∷ []) x opens
-      (told_reference order fetched here seen s.names b.cells b.numbers None 0 [] to.0 (agrees.keeps.told here (free w side order fetched noted direct b s seen n agrees r there to refers)))
+      (told_reference order fetched here seen s.names b.cells b.numbers None 0 [] to.0 (agrees.keeps.told here (free w side order fetched noted direct b s seen n agrees r there to refers))))
 
   pub direct_safe : IsFine w.table 32 to.0 → length fetched ≤ STREAM_LIMIT → IsPaid x → (more : List ℕ) (items : List Item) (y : State) → Reaches values order code here x more items y
       → IsSafe code y
@@ -85,9 +84,10 @@ module _ (w : Setting) (side : IsLegalSide w) (order : Order) (fetched : List �
       (few_next w side order fetched noted direct b s seen [] (suc n) agrees r there (ap is_direct refers)) x1 e ends
 
   -- what the value is, and what is kept after it
-  module _ (source : SourceSeen) (notes : NotesSeen) (x1 : State) (ends : EndsWhole values order code here x source notes x1) where
+  module _ (source : SourceSeen) (notes : NotesSeen) (x1 : State)
+    (within : (more : List ℕ) (items : List Item) (y : State) → Reaches values order code here x more items y → y.at ≤ STREAM_LIMIT) (ends : EndsWhole values order code here x source notes x1) where
     abbrev pub read : HomeWhole order w.table here to.0 (direct + 1) target fetched noted (length x.cells) source (decoding_of notes) x1
-    read = whole_comes values order code w.table here to.0 32 (direct + 1) target planned fetched noted x direct_good source notes x1 ends
+    read = whole_comes values order code w.table here to.0 32 (direct + 1) target planned fetched noted x direct_good source notes x1 within ends
 
     pub direct_kept : (root : KeptRoot) → root.own ≡ record { first = first.Pointer; max_at = None } → cell_number root.cell ≡ Some (length s.names.cells + 1) → (k : Kept) → IsKeptHome x1 k
         → (cells : List (Option Kept)) → CellKept (length s.names.cells + 1) k b.read cells → (g : Graph)

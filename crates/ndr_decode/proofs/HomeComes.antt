@@ -48,6 +48,7 @@ use Rattle.ndr_stream.specs.Calls.{Took, TookPart, Refused, CutOff, RefusesWith,
 use Rattle.ndr_stream.specs.Report.{AreCells, StreamRefused, StreamCut}
 use Rattle.ndr_stream.proofs.HomeFaults.{home_refused, home_cut}
 use Rattle.ndr_stream.proofs.StateAdds.{state_adds}
+use Rattle.ndr_decode.proofs.WholeStays.{whole_stays}
 use Rattle.ndr_decode.specs.Streaming.{FaultOf, HomeWhole}
 
 -- ## Logs
@@ -124,8 +125,10 @@ module _ (values : List EnumList) (order : Order) (code : List Instr) (table : T
       (needed_along values order code table h own limit direct target planned f0 n0 s0 g0 e.reached) part last is in
       (x.0, x.1.0, x.1.1)
 
-  pub whole_comes : (s1 : State) → EndsWhole values order code h s0 source notes s1 → HomeWhole order table h own direct target f0 n0 (length s0.cells) source (decoding_of notes) s1
-  whole_comes s1 (e, (has, (is, logged))) = record {
+  pub whole_comes : (s1 : State) → ((more : List ℕ) (items : List Item) (y : State) → Reaches values order code h s0 more items y → y.at ≤ STREAM_LIMIT)
+      → EndsWhole values order code h s0 source notes s1 → HomeWhole order table h own direct target f0 n0 (length s0.cells) source (decoding_of notes) s1
+  whole_comes s1 within (e, (has, (is, logged))) = record {
+    within = subst (λ k. k ≤ STREAM_LIMIT) (sym (whole_stays values order e.os e.i e.s s1 is)) (within e.fetched e.noted e.s e.reached);
     octets = octets_of e;
     items = e.noted ++ step_items order h e.os e.i e.s;
     all = all_of e;

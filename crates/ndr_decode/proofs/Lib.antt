@@ -4,6 +4,7 @@ pub mod HomeComes
 pub mod KeepableNumbers
 pub mod OwedReads
 pub mod PaidHomes
+pub mod ParameterEnds
 pub mod PendingTurns
 pub mod Placed
 pub mod ReferentDone
@@ -14,3 +15,4 @@ pub mod RootReads
 pub mod Standing
 pub mod Tried
 pub mod Twice
+pub mod WholeStays

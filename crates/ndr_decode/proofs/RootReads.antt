@@ -1,6 +1,6 @@
 -- The next root, where it is no reference pointer: from what is kept of the stream before its value, through the run of its code, to what is kept after it.
 -- `b` is what is kept, `s` the state of the reader, `x` the state of the decoder at the beginning of the value and `x1` at its end, `k` what is kept of the root.
-use Rattle.std.proofs.Common.{◌≡◌, ◌≤◌, ℕ, suc, false, List, [], ◌++◌, length, Some, refl, sym, ap, ◌∙◌, arith}
+use Rattle.std.proofs.Common.{◌≡◌, ◌≤◌, ℕ, suc, false, List, [], ◌++◌, length, Some, refl, sym, ap, ◌∙◌, subst, arith}
 use Rattle.std.specs.Prelude.{slice_get}
 use Rattle.nd_base.specs.declared.octets.Order.{Order}
 use Rattle.nd_base.specs.declared.TheConstants.{STREAM_LIMIT}
@@ -44,10 +44,8 @@ use Rattle.ndr_decode.proofs.HomeComes.{whole_comes, fault_comes, decoding_of}
 module _ (w : Setting) (side : IsLegalSide w) (order : Order) (fetched : List ℕ) (noted : List Item) (direct : ℕ) (b : Between) (s : Reading) (seen : List EntryAt) (n : ℕ)
     (agrees : Agrees w side order fetched noted direct b s seen [] (suc n)) (r : Root) (there : slice_get (root_list w) (length s.roots) ≡ Some r)
     (plain : is_direct (type_at w.table r.of) ≡ false) (usable : Usable w.table r.of) (x : State) (opens : Opens (whole_at w.table r.of) b b.cells x) (values : List EnumList)
-    (operations : List Operation) (legal : IsLegal w.table operations) (planned : IsPlanned (code_of w.table operations) values w.table) where
-  abbrev code : List Instr
-  code = code_of w.table operations
-
+    (operations : List Operation) (legal : IsLegal w.table operations) (code : List Instr) (code_is : code ≡ code_of w.table operations)
+    (planned : IsPlanned code values w.table) where
   abbrev here : Home
   here = home.Root (length s.roots)
 
@@ -56,7 +54,8 @@ module _ (w : Setting) (side : IsLegalSide w) (order : Order) (fetched : List �
 
   pub root_good : Good order fetched code w.table here r.of 32 noted direct target x
   root_good =
-      home_begins w.table operations legal order fetched noted direct here seen s.names r.of usable b agrees.keeps.at b.cells x opens (agrees.keeps.told here (omega arith))
+      subst (λ c. Good order fetched c w.table here r.of 32 noted direct target x) (sym code_is)
+      (home_begins w.table operations legal order fetched noted direct here seen s.names r.of usable b agrees.keeps.at b.cells x opens (agrees.keeps.told here (omega arith)))
 
   pub root_safe : IsFine w.table 32 r.of → length fetched ≤ STREAM_LIMIT → IsPaid x → (more : List ℕ) (items : List Item) (y : State) → Reaches values order code here x more items y
       → IsSafe code y
@@ -73,14 +72,15 @@ module _ (w : Setting) (side : IsLegalSide w) (order : Order) (fetched : List �
       (few_now w side order fetched noted direct b s seen [] (suc n) agrees) x1 e ends
 
   -- what the value is
-  pub root_whole : (source : SourceSeen) (notes : NotesSeen) (x1 : State) → EndsWhole values order code here x source notes x1
+  pub root_whole : (source : SourceSeen) (notes : NotesSeen) (x1 : State) → ((more : List ℕ) (items : List Item) (y : State) → Reaches values order code here x more items y → y.at ≤ STREAM_LIMIT) → EndsWhole values order code here x source notes x1
       → HomeWhole order w.table here r.of direct target fetched noted (length x.cells) source (decoding_of notes) x1
-  root_whole source notes x1 ends = whole_comes values order code w.table here r.of 32 direct target planned fetched noted x root_good source notes x1 ends
+  root_whole source notes x1 within ends = whole_comes values order code w.table here r.of 32 direct target planned fetched noted x root_good source notes x1 within ends
 
   -- what is kept after it
-  module _ (source : SourceSeen) (notes : NotesSeen) (x1 : State) (ends : EndsWhole values order code here x source notes x1) where
+  module _ (source : SourceSeen) (notes : NotesSeen) (x1 : State)
+    (within : (more : List ℕ) (items : List Item) (y : State) → Reaches values order code here x more items y → y.at ≤ STREAM_LIMIT) (ends : EndsWhole values order code here x source notes x1) where
     abbrev pub read : HomeWhole order w.table here r.of direct target fetched noted (length x.cells) source (decoding_of notes) x1
-    read = root_whole source notes x1 ends
+    read = root_whole source notes x1 within ends
 
     pub root_kept : (g : Graph) (k : KeptRoot) → RootAdded read.is.v x1.cells b.graph g → IsKeptRoot x1 k
         → Agrees w side order (fetched ++ read.octets) (noted ++ read.items) direct (root_read b x1 k g)

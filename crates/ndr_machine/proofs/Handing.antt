@@ -1,17 +1,23 @@
 -- Results that are handed on, and instructions that read nothing.
 -- `o` is what a step comes to, `r` a result, `e` its fault, `s` the state before, `t` the one after, `n` what was noted and counted.
-use Rattle.std.proofs.Common.{◌≡◌, ℕ, ◌+◌, zero, suc, ℤ, Bool, true, false, List, [], ◌∷◌, length, Option, Some, None, Result, Ok, Err, IsErrAnd, OnOk, refl, sym, ap, ◌∙◌, subst, arith}
+use Rattle.std.proofs.Common.{◌≡◌, ℕ, ◌+◌, zero, suc, ℤ, Bool, true, false, List, [], ◌∷◌, length, take, Option, Some, None, Result, Ok, Err, IsErrAnd, OnOk, refl, sym, ap, ◌∙◌, subst, arith}
 use Rattle.std.specs.Prelude.{eqb, if◌then◌else◌, slice_get}
 use Rattle.std.specs.Ordering.{int_eq}
+use Rattle.nd_base.specs.declared.octets.Order.{Order}
 use Rattle.nd_types.specs.declared.types.Attr.{Attr}
+use Rattle.nd_types.specs.declared.types.TypeId.{TypeId}
+use Rattle.nd_types.specs.Number.{value_of_octets}
 use Rattle.nd_value.specs.Agreement.{Agreement, agreement}
 use Rattle.nd_value.specs.Logged.{Logged}
 use Rattle.nd_value.specs.declared.item.Item.{Item}
+use Rattle.nd_grammar.specs.declared.reason.Reason.TheVariants as reason
+use Rattle.nd_grammar.specs.Refusal.{is_enumerator}
+use Rattle.ndr_code.specs.declared.lists.EnumList.{EnumList}
 use Rattle.ndr_steps.specs.declared.first.First.{First}
 use Rattle.ndr_steps.specs.declared.first.Member.{Member}
 use Rattle.ndr_steps.specs.declared.frame.Frame.{Frame}
 use Rattle.ndr_steps.specs.declared.frame.Frame.TheVariants as frame
-use Rattle.ndr_steps.specs.Steps.{State, Outcome, goes, refused, whole, next, popped_to, elements, call_from, back_to, close_of, is_owing, disagreed, try_all, checked, check_in, place_of, place_in, first_found, first_number}
+use Rattle.ndr_steps.specs.Steps.{State, Outcome, goes, refused, whole, next, popped_to, with_members, with_tag, tag_form, tag_step, elements, call_from, back_to, close_of, is_owing, disagreed, try_all, checked, check_in, place_of, place_in, first_found, first_number}
 use Rattle.ndr_state.specs.declared.fault.DecodeFault.{DecodeFault}
 use Rattle.ndr_state.specs.declared.fault.DecodeFault.TheVariants as fault
 use Rattle.ndr_state.specs.declared.fault.Progress.{Progress}
@@ -66,7 +72,7 @@ back_leaves (frame.Elements (suc left) run back) s = refl
 
 pub close_leaves : (f : Frame) (s : State) → Leaves s.cells (goes (close_of f s))
 close_leaves frame.Home s = popped_cells s.stack s
-close_leaves (frame.Record back first) s = popped_cells s.stack s
+close_leaves (frame.Record back first) s = popped_cells s.stack (with_members (take first s.members) (take first s.firsts) s)
 close_leaves (frame.Elements left run back) s = popped_cells s.stack s
 
 pub call_leaves : (f : Frame) (run : ℕ) (s : State) → Leaves s.cells (goes (call_from f run s))
@@ -77,6 +83,12 @@ call_leaves (frame.Elements left r back) run s = refl
 pub elements_leave : (n run : ℕ) (s : State) → Leaves s.cells (goes (elements n run s))
 elements_leave zero run s = refl
 elements_leave (suc n) run s = refl
+
+pub tag_leaves : (values : List EnumList) (order : Order) (os : List ℕ) (of : TypeId) (s : State) → Leaves s.cells (tag_step values order os (tag_form values of) s)
+tag_leaves values order os of s =
+    let form = tag_form values of in
+    by_test s.cells (is_enumerator form.values (value_of_octets order form.prim os)) (goes (next (with_tag (value_of_octets order form.prim os) form.prim s)))
+    (refused s.at reason.EnumValue) refl tt
 
 disagreed_leaves : (cells : List ℕ) (p : Option ℕ) (z y : ℤ) (o : Outcome) → Leaves cells o → Leaves cells (disagreed p z y o)
 disagreed_leaves cells None z y o h = h
