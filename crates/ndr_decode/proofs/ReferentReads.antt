@@ -123,6 +123,8 @@ module _ (w : Setting) (side : IsLegalSide w) (order : Order) (fetched : List �
         (few_now w side order fetched noted direct (with_next o x) s seen (p ∷ ps) n ag) x1 e ends
 
     -- what the value is
-    pub referent_whole : (source : SourceSeen) (notes : NotesSeen) (x1 : State) → EndsWhole values order code (cell_home c.0) x0 source notes x1
+    pub referent_whole : (source : SourceSeen) (notes : NotesSeen) (x1 : State)
+        → ((more : List ℕ) (items : List Item) (y : State) → Reaches values order code (cell_home c.0) x0 more items y → y.at ≤ STREAM_LIMIT)
+        → EndsWhole values order code (cell_home c.0) x0 source notes x1
         → HomeWhole order w.table (cell_home c.0) p.to direct target fetched noted (length x0.cells) source (decoding_of notes) x1
-    referent_whole source notes x1 ends = whole_comes values order code w.table (cell_home c.0) p.to 32 direct target planned fetched noted x0 referent_good source notes x1 ends
+    referent_whole source notes x1 within ends = whole_comes values order code w.table (cell_home c.0) p.to 32 direct target planned fetched noted x0 referent_good source notes x1 within ends
