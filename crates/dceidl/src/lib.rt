@@ -1,7 +1,6 @@
 //! The program `dceidl` as a library: it runs a command line over sources, sinks and files that the caller makes.
 #![tactic(auto)]
 
-mod decode;
 mod encode;
 mod input;
 pub mod laws;

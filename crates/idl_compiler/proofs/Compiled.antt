@@ -34,7 +34,8 @@ use Rattle.idl_compiler.specs.Asked.{AreAsked, AsksFiles, all_due}
 use Rattle.idl_compiler.specs.Idl.{Means, AreResolved}
 use Rattle.idl_compiler.specs.Compiled.{IsCompiled}
 use Rattle.idl_compiler.proofs.AskedFiles.{reached_names, along, all_names, all_asked}
-use Rattle.idl_compiler.specs.Reading.{IsReportedUnparsed, IsOrMemory, IsLoadCause, IsJudged, MeansAfter, AsksAfter, AsksOfImports}
+use Rattle.refusals.specs.Loads.{IsLoadCause}
+use Rattle.idl_compiler.specs.Reading.{IsReportedUnparsed, IsOrMemory, IsJudged, MeansAfter, AsksAfter, AsksOfImports}
 
 -- tokens that are no file of the language are a main file that is refused
 pub unparsed_main : (text : List ℕ) (l : Lexed) → l.text ≡ text → AreTokens text l.tokens → (f : SyntaxFault)

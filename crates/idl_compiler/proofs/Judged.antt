@@ -28,7 +28,8 @@ use Rattle.idl_compiler.specs.AcfFile.{AcfFile, IsBeside, tree_beside}
 use Rattle.nd_base.specs.Over.{FilesSeen}
 use Rattle.idl_compiler.specs.Idl.{AreResolved, Means, resolved_world, IsBroken, by_acf, by_rules, reported_by, reported_rule, reported_beside, word_at, IsAcfFault}
 use Rattle.idl_compiler.specs.Compiled.{IsTextCause}
-use Rattle.idl_compiler.specs.Reading.{IsLoadCause, IsOrMemory, IsReportedAcf, IsReportedUnread, IsAcfCause, IsBesideCause, IsJudged}
+use Rattle.refusals.specs.Loads.{IsLoadCause}
+use Rattle.idl_compiler.specs.Reading.{IsOrMemory, IsReportedAcf, IsReportedUnread, IsAcfCause, IsBesideCause, IsJudged}
 
 -- ## The text of an attribute configuration file
 

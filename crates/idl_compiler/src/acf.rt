@@ -8,13 +8,12 @@ ghost use Rattle.idl_compiler.specs.AcfFile.{IsAcf, IsLoadedAcf, IsBeside};
 ghost use Rattle.idl_compiler.specs.Loaded.{seen_file, seen_beside};
 ghost use Rattle.idl_compiler.specs.Reading.{IsAcfCause, IsBesideCause, IsReportedAcf, IsReportedUnread};
 
-use crate::load::load;
 use crate::reported::{or_memory, report_banned, report_in};
 use acf_reader::{Acf, read_acf};
 use idl_lexer::{LexFault, Tokens, lex};
 use idl_names::SyntaxFault;
 use nd_base::{Files, Octets};
-use refusals::{IdlReason, Refusal};
+use refusals::{IdlReason, Refusal, load};
 use std::alloc::Global;
 
 // An attribute configuration file that was loaded and read.

@@ -18,7 +18,6 @@ ghost use Rattle.idl_compiler.specs.Compiled.{IsCompiled, IsListed, IsPlanned, I
 ghost use Rattle.idl_compiler.specs.Reading.{IsReportedUnparsed, IsJudged, MeansAfter, AsksAfter, AsksOfImports};
 
 use crate::acf::{NamedAcf, load_beside};
-use crate::load::load;
 use crate::reported::{or_memory, report_fault, report_rule};
 use acf_reader::Acf;
 use idl_check::{RuleFault, check};
@@ -30,7 +29,7 @@ use idl_parser::parse;
 use nd_base::{Files, Memory, Octets};
 use nd_types::Interface;
 use ndr_plan::{listing, make};
-use refusals::Refusal;
+use refusals::{Refusal, load};
 use std::alloc::Global;
 
 /// The listing of the interface that [`compile`] answers.
