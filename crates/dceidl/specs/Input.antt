@@ -1,12 +1,14 @@
 -- What commands make of the input, and why it is refused.
-use Rattle.std.specs.Prelude.{◌≡◌, ℕ, ◌+◌, ◌<◌, ◌≤◌, true, List, length, ⊤}
+use Rattle.std.specs.Prelude.{◌≡◌, ◌⊎◌, ℕ, ◌+◌, ◌<◌, ◌≤◌, true, List, length, ⊤}
 use Rattle.std.specs.Io.KnownBytes.{Consumes, IsAtEnd}
 use Rattle.nd_base.specs.declared.octets.Order.{Order}
-use Rattle.nd_base.specs.Over.{SourceSeen, HasRisen}
+use Rattle.nd_base.specs.Over.{FilesSeen, SourceSeen, HasRisen, IsUntouched}
 use Rattle.text_grammar.specs.declared.TheConstants.{TEXT_LIMIT}
+use Rattle.nd_value.specs.declared.value.Graph.{Graph}
 use Rattle.nd_value.specs.Setting.{Setting}
 use Rattle.ndr_printing.specs.Printed.{IsPrinted, IsInputCause}
 use Rattle.text_fitting.specs.Fitted.{IsTextCause}
+use Rattle.text_fitting.specs.Request.{beside, HoldsRequest, HoldsNoRequest}
 use Rattle.dceidl.specs.Encode.{IsEncoding, IsMigration}
 use Rattle.dceidl.specs.declared.words.Reading.{Reading}
 use Rattle.dceidl.specs.declared.words.Reading.TheVariants.{Decode}
@@ -36,6 +38,15 @@ IsRead s Decode w order made = IsPrinted s w order made
 -- why the octets of the input are refused
 abbrev pub IsReadCause : SourceSeen → Reading → Setting → Order → Refusal → Type 0
 IsReadCause s Decode w order r = IsInputCause s w order r
+
+-- the file of a name holds a request, and beside it this is made of the octets of the input
+abbrev pub IsReadBeside : FilesSeen → SourceSeen → List ℕ → Reading → Setting → Order → List ℕ → Type 0
+IsReadBeside f s name how w order made = (q : Graph) × HoldsRequest f name w q × IsRead s how (beside w q) order made
+
+-- why it is not: the request is refused before the input is touched, or the octets are
+abbrev pub IsBesideCause : FilesSeen → SourceSeen → List ℕ → Reading → Setting → Order → Refusal → Type 0
+IsBesideCause f s name how w order r =
+    (HoldsNoRequest f name w r × IsUntouched s) ⊎ ((q : Graph) × HoldsRequest f name w q × IsReadCause s how (beside w q) order r)
 
 -- what is made of a text, by what is asked
 abbrev pub IsMadeOf : Writing → Setting → List ℕ → List ℕ → Type 0

@@ -1,5 +1,5 @@
 // What each command does.
-ghost use Rattle.std.specs.Prelude.{◌≡◌, ◌<◌, length, Some, option_map, IfOk, IfErr};
+ghost use Rattle.std.specs.Prelude.{◌≡◌, ◌<◌, ◌≤◌, [], ◌∷◌, ◌++◌, length, Some, None, option_map, IfOk, IfErr};
 ghost use Rattle.std.specs.List.{slice_get};
 ghost use Rattle.nd_base.specs.Over.{files_seen, source_seen};
 ghost use Rattle.nd_types.specs.declared.types.Operation.{Operation};
@@ -8,8 +8,8 @@ ghost use Rattle.nd_value.specs.Fitting.{setting_of, setting_beside};
 ghost use Rattle.nd_value.specs.Request.{IsRequestOf};
 ghost use Rattle.dceidl.specs.Asked.{AsksFor};
 ghost use Rattle.dceidl.specs.Causes.{IsMade, IsCause};
-ghost use Rattle.dceidl.specs.Commands.{command_of, subject_of, IsJudged, IsWellFormed, WritesChunks};
-ghost use Rattle.dceidl.specs.Input.{IsRead, IsReadCause, IsWritten, IsWriteCause};
+ghost use Rattle.dceidl.specs.Commands.{command_of, subject_of, IsWellFormed, WritesChunks};
+ghost use Rattle.dceidl.specs.Input.{IsRead, IsReadCause, IsReadBeside, IsBesideCause, IsWritten, IsWriteCause};
 ghost use Rattle.dceidl.specs.Ready.{IsSideOf};
 ghost use Rattle.dceidl.specs.Seen.{seen_over};
 ghost use Rattle.dceidl.specs.Words.{Read, Write, order_in, values_written};
@@ -51,8 +51,14 @@ pub(crate) fn perform<F: Files, S: Source>(
             how,
             of,
             order,
-            given,
-        } => read_values(alloc, how, of, order, given, files, input),
+            given: None,
+        } => read_values(alloc, how, of, order, files, input),
+        Command::Read {
+            how,
+            of,
+            order,
+            given: Some(name),
+        } => read_beside(alloc, how, of, order, name, files, input),
         Command::Write { how, of } => write_values(alloc, how, of, files, input),
         Command::Compile { idl, acf } => list(alloc, idl, acf, files),
         Command::Plan { idl, acf } => list_plan(alloc, idl, acf, files),
@@ -67,30 +73,50 @@ fn read_values<F: Files, S: Source>(
     how: Reading,
     of: Subject<'_>,
     order: OrderWord,
-    given: Option<&str>,
     files: &mut F,
     input: &mut S,
 ) -> Result<Octets, Refusal>
-    requires { IsJudged of.entry.side given.entry }
     ensures asked { AsksFor
         (seen_over (files_seen F.held F.absences F.faults F.asked files.old files.new) (source_seen S.left S.ended S.faults input.old input.new))
-        (Read how (subject_of of.entry) order (option_map (λ t. t.now) given.entry)) }
+        (Read how (subject_of of.entry) order None) }
     ensures done { IfOk result (IsMade
         (seen_over (files_seen F.held F.absences F.faults F.asked files.old files.new) (source_seen S.left S.ended S.faults input.old input.new))
-        (Read how (subject_of of.entry) order (option_map (λ t. t.now) given.entry))) }
+        (Read how (subject_of of.entry) order None)) }
     ensures refused { IfErr result (IsCause
         (seen_over (files_seen F.held F.absences F.faults F.asked files.old files.new) (source_seen S.left S.ended S.faults input.old input.new))
-        (Read how (subject_of of.entry) order (option_map (λ t. t.now) given.entry))) }
+        (Read how (subject_of of.entry) order None)) }
 {
     let ready = make_ready(alloc, of, how.values(), files)?;
-    match given {
-        Some(name) => read_beside(alloc, &ready, how, order, name, files, input),
-        None => read_octets(alloc, &ready, how, order, None, input),
-    }
+    read_octets(alloc, &ready, how, order, None, input)
 }
 
-// Reads the octets of the input beside the request of a file.
+// The same beside the request of a file.
 fn read_beside<F: Files, S: Source>(
+    alloc: Global,
+    how: Reading,
+    of: Subject<'_>,
+    order: OrderWord,
+    name: &str,
+    files: &mut F,
+    input: &mut S,
+) -> Result<Octets, Refusal>
+    requires { of.side ≡ Out }
+    ensures asked { AsksFor
+        (seen_over (files_seen F.held F.absences F.faults F.asked files.old files.new) (source_seen S.left S.ended S.faults input.old input.new))
+        (Read how (subject_of of.entry) order (Some name.now)) }
+    ensures done { IfOk result (IsMade
+        (seen_over (files_seen F.held F.absences F.faults F.asked files.old files.new) (source_seen S.left S.ended S.faults input.old input.new))
+        (Read how (subject_of of.entry) order (Some name.now))) }
+    ensures refused { IfErr result (IsCause
+        (seen_over (files_seen F.held F.absences F.faults F.asked files.old files.new) (source_seen S.left S.ended S.faults input.old input.new))
+        (Read how (subject_of of.entry) order (Some name.now))) }
+{
+    let ready = make_ready(alloc, of, how.values(), files)?;
+    read_after(alloc, &ready, how, order, name, files, input)
+}
+
+// Loads the request of a file, and reads the octets of the input beside it.
+fn read_after<F: Files, S: Source>(
     alloc: Global,
     ready: &Ready,
     how: Reading,
@@ -101,6 +127,16 @@ fn read_beside<F: Files, S: Source>(
 ) -> Result<Octets, Refusal>
     requires known { ready.now.number < length ready.now.interface.operations }
     requires outputs { ready.now.side ≡ Out }
+    ensures asked { F.asked files.new ≡ F.asked files.old ++ name.now ∷ [] }
+    ensures same { F.held files.new ≡ F.held files.old }
+    ensures later { F.faults files.old ≤ F.faults files.new }
+    ensures absences_later { F.absences files.old ≤ F.absences files.new }
+    ensures done { (o : Operation) → slice_get ready.now.interface.operations ready.now.number ≡ Some o
+        → IfOk result (IsReadBeside (files_seen F.held F.absences F.faults F.asked files.old files.new) (source_seen S.left S.ended S.faults input.old input.new) name.now how
+        (setting_of ready.now.interface o ready.now.side) (order_in order)) }
+    ensures refused { (o : Operation) → slice_get ready.now.interface.operations ready.now.number ≡ Some o
+        → IfErr result (IsBesideCause (files_seen F.held F.absences F.faults F.asked files.old files.new) (source_seen S.left S.ended S.faults input.old input.new) name.now how
+        (setting_of ready.now.interface o ready.now.side) (order_in order)) }
 {
     let request = load_request(alloc, &ready.interface, ready.number, name, files)?;
     read_octets(alloc, ready, how, order, Some(&request), input)

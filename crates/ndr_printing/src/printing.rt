@@ -1,12 +1,12 @@
 // The octets of a source are decoded, and the text of their values is printed.
-ghost use Rattle.std.specs.Prelude.{◌≡◌, ◌≤◌, ◌<◌, ℕ, List, [], ◌∷◌, true, length, Option, Some, None, option_map, IfOk, IfErr};
+ghost use Rattle.std.specs.Prelude.{◌≡◌, ◌≤◌, ◌<◌, length, Some, option_map, IfOk, IfErr};
 ghost use Rattle.std.specs.List.{slice_get};
-ghost use Rattle.std.specs.Io.KnownBytes.{Consumes, IsAtEnd};
 ghost use Rattle.nd_base.specs.Over.{source_seen};
 ghost use Rattle.nd_types.specs.declared.types.Operation.{Operation};
 ghost use Rattle.nd_value.specs.Fitting.{setting_beside};
 ghost use Rattle.nd_value.specs.Request.{IsRequestOf};
-ghost use Rattle.ndr_printing.specs.Printed.{IsPrinted, IsInputCause, IsRead, IsReadCause, IsEndCause};
+ghost use Rattle.ndr_printing.specs.Printed.{IsPrinted, IsInputCause};
+ghost use Rattle.ndr_printing.specs.Taken.{IsTaken, IsEnd, IsNoEnd};
 
 use nd_base::{Octets, Order, Source, Steps, Uncounted};
 use nd_graph::{Fit, ItemLog};
@@ -60,7 +60,19 @@ fn decode<S: Source>(
     given: Option<&Fit>,
     order: Order,
     input: &mut S,
-) -> Result<Decoded, Refusal> {
+) -> Result<Decoded, Refusal>
+    requires known { op < length plan.now.tie.operations }
+    requires request { IsRequestOf plan.now.tie op side (option_map (λ f. f.now) given) }
+    ensures taken { (o : Operation) → slice_get plan.now.tie.operations op ≡ Some o
+        → IfOk result (λ d. IsTaken (source_seen S.left S.ended S.faults input.old input.new) (setting_beside plan.now.tie o side (option_map (λ f. f.now.graph) given.entry)) order d.taken d.fit.graph) }
+    ensures interface { IfOk result (λ d. d.fit.interface ≡ plan.now.tie) }
+    ensures number { IfOk result (λ d. d.fit.op ≡ op) }
+    ensures side { IfOk result (λ d. d.fit.side ≡ side) }
+    ensures beside { IfOk result (λ d. d.fit.given ≡ option_map (λ f. f.now.graph) given.entry) }
+    ensures refused { (o : Operation) → slice_get plan.now.tie.operations op ≡ Some o
+        → IfErr result (IsInputCause (source_seen S.left S.ended S.faults input.old input.new) (setting_beside plan.now.tie o side (option_map (λ f. f.now.graph) given.entry)) order) }
+    ensures later { S.faults input.old ≤ S.faults input.new }
+{
     let mut items = ItemLog::quiet();
     let mut steps = Steps::new(Uncounted::new());
     match ndr_decode::decode(
@@ -77,7 +89,10 @@ fn decode<S: Source>(
 }
 
 // The end of a source, after so many octets.
-fn end<S: Source>(input: &mut S, taken: u32) -> Result<(), Refusal> {
+fn end<S: Source>(input: &mut S, taken: u32) -> Result<(), Refusal>
+    ensures ended { IfOk result (λ _. IsEnd (source_seen S.left S.ended S.faults input.old input.new)) }
+    ensures refused { IfErr result (IsNoEnd (source_seen S.left S.ended S.faults input.old input.new) taken) }
+{
     let mut next = [0u8];
     match input.fetch(&mut next) {
         Ok(0) => Ok(()),

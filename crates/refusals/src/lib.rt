@@ -2,9 +2,9 @@
 #![tactic(auto)]
 
 mod lines;
-mod load;
+mod loading;
 mod refusal;
 
 pub use lines::{Status, line, status};
-pub use load::load;
+pub use loading::load;
 pub use refusal::{IdlReason, OctetsFault, Refusal, RequestFault};
