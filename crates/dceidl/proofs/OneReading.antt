@@ -51,7 +51,7 @@ module _ (s : SourceSeen) (octets : List ℕ) (input : AreGiven s octets) (w : S
   pub refused_here : (place : ℕ) (why : Reason) → IsRefusedInput s w order place why → Bad w order octets place why
   refused_here place why r =
       let (rest, now, whole) = split_input s octets r.octets input r.taken in
-      subst (λ l. Bad w order l place why) (sym whole) (r.bad rest (may_follow why rest (λ e. subst IsAtEnd now (r.ended e).1)))
+      subst (λ l. Bad w order l place why) (sym whole) (r.stays rest (may_follow why rest (λ e. subst IsAtEnd now (r.ended e).1)))
 
   -- an octet that follows a graph is of the input
   pub trailing_here : (place : ℕ) → IsTrailedInput s w order place → IsTrailing w order octets place

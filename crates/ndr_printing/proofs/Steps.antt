@@ -1,16 +1,20 @@
 -- The steps of printing a source, one after the other.
-use Rattle.std.proofs.Common.{◌≡◌, ◌∙◌, ℕ, zero, suc, ◌≤◌, ◌<◌, List, [], ◌∷◌, ◌++◌, length, take, Option, Some, None, Result, Ok, Err, refl, sym, ap, subst, arith}
-use Rattle.std.specs.Prelude.{Bool, true, IfOk, IfErr, option_map}
+use Rattle.std.proofs.Common.{◌≡◌, ◌∙◌, ℕ, ◌≤◌, List, [], ◌∷◌, ◌++◌, Option, sym, subst, arith}
 use Rattle.std.proofs.KnownBytes.{Consumes-trans}
 use Rattle.std.proofs.lemmas.List.{append-nil}
-use Rattle.std.specs.Io.KnownBytes.{Consumes, IsAtEnd, ReadConsumes}
+use Rattle.std.specs.Io.KnownBytes.{Consumes}
 use Rattle.nd_base.specs.declared.octets.Order.{Order}
-use Rattle.nd_base.specs.Counts.{Rose, next_count}
-use Rattle.nd_base.specs.Over.{SourceSeen, HasRisen}
+use Rattle.nd_base.specs.Counts.{Rose}
+use Rattle.nd_base.specs.Over.{SourceSeen}
+use Rattle.nd_types.specs.declared.interface.Interface.{Interface}
+use Rattle.nd_types.specs.declared.types.Operation.{Operation}
+use Rattle.nd_types.specs.declared.types.Side.{Side}
 use Rattle.nd_value.specs.declared.value.Graph.{Graph}
+use Rattle.nd_value.specs.Fitting.{setting_beside}
 use Rattle.nd_value.specs.Setting.{Setting}
 use Rattle.nd_grammar.specs.declared.reason.Reason.{Reason}
 use Rattle.ndr_verdict.specs.Verdict.{DecodingSeen, IsDecoded, IsRefused}
+use Rattle.ndr_decode.specs.Decoding.{IsFault}
 use Rattle.ndr_state.specs.declared.fault.DecodeFault.{DecodeFault}
 use Rattle.ndr_state.specs.declared.fault.DecodeFault.TheVariants as fault
 use Rattle.text_grammar.specs.Printed.{IsText}
@@ -45,9 +49,29 @@ pub refused_is : (s : SourceSeen) (w : Setting) (order : Order) (place : ℕ) (w
 refused_is s w order place why t r = record {
   octets = r.fetched;
   taken = r.left;
-  bad = r.stays;
+  bad = r.bad;
+  ends = r.ends;
+  stays = r.stays;
   ended = λ e. (r.ended e, r.none_left e);
 }
+
+-- a fault that is a refusal
+pub fault_is : (s : SourceSeen) (w : Setting) (order : Order) (e : DecodeFault) (place : ℕ) (why : Reason) (t : DecodingSeen) → e ≡ fault.Bad place why
+    → IsFault w order s e t → IsRefusedInput s w order place why
+fault_is s w order e place why t is h = refused_is s w order place why t (subst (λ x. IsFault w order s x t) is h)
+
+-- a refusal under an equal interface
+pub over_interface : (s : SourceSeen) (o : Operation) (side : Side) (q : Option Graph) (order : Order) (i j : Interface) (r : Refusal) → j ≡ i
+    → IsInputCause s (setting_beside j o side q) order r → IsInputCause s (setting_beside i o side q) order r
+over_interface s o side q order i j r is h = subst (λ (k : Interface). IsInputCause s (setting_beside k o side q) order r) is h
+
+-- ## The text
+
+-- the text of a fit's graph, on this side and beside this request
+pub text_is : (i : Interface) (o : Operation) (side own : Side) (given its : Option Graph) (g : Graph) (text : List ℕ) → own ≡ side → its ≡ given
+    → IsText (setting_beside i o own its) g text → IsText (setting_beside i o side given) g text
+text_is i o side own given its g text same alone printed =
+    subst (λ q. IsText (setting_beside i o side q) g text) alone (subst (λ k. IsText (setting_beside i o k its) g text) same printed)
 
 -- ## The end
 
@@ -88,25 +112,3 @@ module _ (s t : SourceSeen) (w : Setting) (order : Order) (taken : ℕ) (g : Gra
   no_end later same (BadText line column why) never = absurd never
   no_end later same (BadValue path why) never = absurd never
   no_end later same (BadRequest why) never = absurd never
-
--- ## One octet more
-
--- the first of a list of one octet
-one_octet : (n : ℕ) (buf : List ℕ) → length buf ≡ 1 → n ≤ length buf → (n ≡ 0 → ⊥) → (next : ℕ) × (take n buf ≡ next ∷ [])
-one_octet zero buf one most some = absurd (some refl)
-one_octet (suc zero) (x ∷ []) one most some = (x, refl)
-one_octet n [] one most some = absurd (omega (arith, one))
-one_octet n (x ∷ y ∷ ys) one most some = absurd (omega (arith, one))
-one_octet (suc (suc n)) (x ∷ []) one most some = absurd (omega (arith, most))
-
-pub one_more : {E : Type 0} (left now : Option (List ℕ)) (result : Result ℕ E) (n : ℕ) (buf : List ℕ) → result ≡ Ok n → length buf ≡ 1 → n ≤ length buf → (n ≡ 0 → ⊥)
-    → ReadConsumes left now result buf → (next : ℕ) × Consumes left now (next ∷ [])
-one_more left now result n buf is one most some taken =
-    let (next, first) = one_octet n buf one most some in
-    let there : ReadConsumes left now (Ok n) buf = subst (λ r. ReadConsumes left now r buf) is taken in
-    (next, subst (Consumes left now) first there.0)
-
-pub none_more : {E : Type 0} (left now : Option (List ℕ)) (result : Result ℕ E) (buf : List ℕ) → result ≡ Ok 0 → ReadConsumes left now result buf
-    → Consumes left now []
-none_more left now result buf is taken =
-    let there : ReadConsumes left now (Ok 0) buf = subst (λ r. ReadConsumes left now r buf) is taken in there.0

@@ -11,7 +11,7 @@ use Rattle.nd_grammar.specs.declared.reason.Reason.{Reason}
 use Rattle.nd_grammar.specs.declared.reason.Reason.TheVariants as reason
 use Rattle.nd_grammar.specs.Represents.{Represents}
 use Rattle.nd_grammar.specs.Bad.{Bad}
-use Rattle.ndr_verdict.specs.Verdict.{MayFollow}
+use Rattle.ndr_verdict.specs.Verdict.{MayFollow, fetched_to}
 use Rattle.text_grammar.specs.Printed.{IsText}
 use Rattle.refusals.specs.declared.refusal.Refusal.{Refusal}
 use Rattle.refusals.specs.declared.refusal.Refusal.TheVariants.{Memory, ReadFault, BadOctets}
@@ -36,11 +36,14 @@ pub record IsPrinted (s : SourceSeen) (w : Setting) (order : Order) (text : List
   pub whole : IsWhole s octets
   pub decoding : IsDecoding w order octets text
 
--- The octets that were taken are refused, and so are all that begin with them; where they are cut short the source gives no more.
+-- The octets that were taken are refused, and end with what is refused; so are all that begin with them, and where they are cut short the source gives
+-- no more.
 pub record IsRefusedInput (s : SourceSeen) (w : Setting) (order : Order) (place : ℕ) (why : Reason) : Type 0 where
   pub octets : List ℕ
   pub taken : Consumes s.left s.left_now octets
-  pub bad : (more : List ℕ) → MayFollow why more → Bad w order (octets ++ more) place why
+  pub bad : Bad w order octets place why
+  pub ends : length octets ≡ fetched_to why (length octets) bad.here
+  pub stays : (more : List ℕ) → MayFollow why more → Bad w order (octets ++ more) place why
   pub ended : why ≡ reason.Truncated → (s.ended ≡ true) × IsAtEnd s.left_now
 
 -- The octets that were taken are a stream of a graph that conforms, and one octet more.

@@ -48,7 +48,8 @@ pub fn print_octets<S: Source>(
     let plan = make(alloc, interface)?;
     let decoded = decode(alloc, &plan, op, side, given, order, input)?;
     end(input, decoded.taken)?;
-    Ok(print(alloc, interface, &decoded.fit)?)
+    let text = print(alloc, interface, &decoded.fit)?;
+    Ok(text)
 }
 
 // The values of the octets that a source has left.
