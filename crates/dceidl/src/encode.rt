@@ -30,13 +30,7 @@ pub(crate) fn encode(
     ensures refused { (o : Operation) → slice_get ready.now.interface.operations ready.now.number ≡ Some o
         → IfErr result (IsTextCause (setting_of ready.now.interface o ready.now.side) text.now) }
 {
-    let fit = fit_text(
-        alloc,
-        &ready.interface,
-        ready.number,
-        ready.side,
-        text,
-    )?;
+    let fit = fit_text(alloc, &ready.interface, ready.number, ready.side, text)?;
     // A fit's graph conforms.
     let _conforming = fit.flat();
     let octets = plain_ndr::encode(alloc, &ready.interface, &fit, order, chunk)?;
@@ -51,13 +45,7 @@ pub(crate) fn migrate(alloc: Global, ready: &Ready, text: &[u8]) -> Result<Octet
     ensures refused { (o : Operation) → slice_get ready.now.interface.operations ready.now.number ≡ Some o
         → IfErr result (IsTextCause (setting_of ready.now.interface o ready.now.side) text.now) }
 {
-    let fit = fit_text(
-        alloc,
-        &ready.interface,
-        ready.number,
-        ready.side,
-        text,
-    )?;
+    let fit = fit_text(alloc, &ready.interface, ready.number, ready.side, text)?;
     // A fit's graph conforms.
     let _conforming = fit.flat();
     let printed = print(alloc, &ready.interface, &fit)?;

@@ -94,7 +94,12 @@ fn request_line(alloc: Global, fault: &RequestFault) -> Result<Octets, Memory>
             reason,
         } => text_line(alloc, b"refused: given: text ", *line, *column, *reason),
         RequestFault::Value { path, reason } => {
-            value_line(alloc, b"refused: given: value at ", path.as_slice(), *reason)
+            value_line(
+                alloc,
+                b"refused: given: value at ",
+                path.as_slice(),
+                *reason,
+            )
         }
     }
 }
@@ -215,10 +220,10 @@ fn text_line(
     let line = line_digits.format(line).as_bytes();
     let mut column_digits = Buffer::new();
     let column = column_digits.format(column).as_bytes();
-    let reason = text_reason_name(reason).as_bytes();
+    let reason = Octets::copy(alloc, text_reason_name(reason).as_bytes())?;
     join(
         alloc,
-        &[what, line, b":", column, b": ", reason, b"\n"],
+        &[what, line, b":", column, b": ", reason.as_slice(), b"\n"],
     )
 }
 
@@ -232,10 +237,7 @@ fn value_line(
     ensures { IfOk result (λ line. line ≡ line_of_value what.now path.now reason) }
 {
     let reason = why_misfit(alloc, reason)?;
-    join(
-        alloc,
-        &[what, path, b": ", reason.as_slice(), b"\n"],
-    )
+    join(alloc, &[what, path, b": ", reason.as_slice(), b"\n"])
 }
 
 // Why octets are refused, as a line tells it.

@@ -29,7 +29,7 @@ module _ (f : Fitting) (i : Interface) (n : ℕ) (o : Operation) (there : slice_
   pub inputs_conform : IsFit f → Conforms (setting_of i o In) f.graph
   inputs_conform fit =
       let found : slice_get i.operations n ≡ Some fit.operation =
-          subst (λ k. slice_get i.operations k ≡ Some fit.operation) number (subst (λ (j : Interface). slice_get j.operations f.op ≡ Some fit.operation) tied fit.is_there) in
+      subst (λ k. slice_get i.operations k ≡ Some fit.operation) number (subst (λ (j : Interface). slice_get j.operations f.op ≡ Some fit.operation) tied fit.is_there) in
       let same : fit.operation ≡ o = same_Some _ _ (sym found ∙ there) in
       subst (λ q. Conforms (setting_beside i o In q) f.graph) alone
       (subst (λ s. Conforms (setting_beside i o s f.given) f.graph) side

@@ -84,18 +84,9 @@ fn fit_graph(
     ensures refused { (o : Operation) → slice_get interface.now.operations op ≡ Some o
         → IfErr result (IsValueCause (setting_of interface.now o side) graph) }
 {
-    match fit(
-        alloc,
-        interface,
-        op,
-        side,
-        None,
-        graph,
-    ) {
+    match fit(alloc, interface, op, side, None, graph) {
         Ok(fit) => Ok(fit),
-        Err((misfit, graph)) => Err(value_refused(
-            alloc, interface, op, side, &graph, misfit,
-        )),
+        Err((misfit, graph)) => Err(value_refused(alloc, interface, op, side, &graph, misfit)),
     }
 }
 
@@ -116,13 +107,7 @@ fn value_refused(
     match misfit {
         Misfit::Memory => Refusal::Memory,
         Misfit::At { home, node, reason } => match path(
-            alloc,
-            interface,
-            op,
-            side,
-            graph,
-            home,
-            node,
+            alloc, interface, op, side, graph, home, node,
         ) {
             Ok(path) => Refusal::BadValue { path, reason },
             Err(_) => Refusal::Memory,

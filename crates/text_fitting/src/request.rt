@@ -50,12 +50,7 @@ pub fn load_request<F: Files>(
 }
 
 // The request of a text.
-fn fit_request(
-    alloc: Global,
-    interface: &Interface,
-    op: u32,
-    text: &[u8],
-) -> Result<Fit, Refusal>
+fn fit_request(alloc: Global, interface: &Interface, op: u32, text: &[u8]) -> Result<Fit, Refusal>
     requires known { op < length interface.now.operations }
     ensures tied { IfOk result (λ f. f.interface ≡ interface.now) }
     ensures number { IfOk result (λ f. f.op ≡ op) }
