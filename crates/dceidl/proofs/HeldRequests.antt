@@ -86,7 +86,7 @@ module _ (values : Values) (f : FilesSeen) (of : Subject) (name : List ℕ) wher
     held_cause w own a same (BadRequest why) (text, content, fault) =
         let here : IsRequestFault a.own text why = subst (λ u. IsRequestFault u text why) same fault in
         let there : IsRequestFault a.own a.text why = subst (λ t. IsRequestFault a.own t why) (held_only f name a.text text a.held content) here in
-        request_or_fault a.own (legal_inputs a.own (legal_of values f of a.own a.accepted)) a.text a.request why a.is_request there
+        absurd (request_or_fault a.own (legal_inputs a.own (legal_of values f of a.own a.accepted)) a.text a.request why a.is_request there)
     held_cause w own a same (BadIdl file line column why) cause = absurd cause
     held_cause w own a same NoOperation cause = absurd cause
     held_cause w own a same NotBuilt cause = absurd cause

@@ -3,6 +3,7 @@
 use Rattle.std.proofs.Common.{◌≡◌, ◌∙◌, ℕ, ◌≤◌, List, [], ◌∷◌, ◌++◌, Option, Some, None, Result, Ok, Err, IfOk, IfErr, refl, sym, ap, subst, inl, inr, arith}
 use Rattle.std.proofs.lemmas.List.{append_cancel_left}
 use Rattle.nd_base.specs.Counts.{Rose}
+use Rattle.nd_base.specs.declared.octets.Order.{Order}
 use Rattle.nd_base.specs.Outside.{IsContent, IsMissing}
 use Rattle.nd_base.specs.Over.{FilesSeen, SourceSeen, HasRisen}
 use Rattle.nd_types.specs.declared.interface.Interface.{Interface}
@@ -11,14 +12,14 @@ use Rattle.nd_value.specs.declared.value.Graph.{Graph}
 use Rattle.nd_value.specs.Setting.{Setting}
 use Rattle.refusals.specs.declared.refusal.Refusal.{Refusal}
 use Rattle.refusals.specs.declared.refusal.Refusal.TheVariants.{Memory, Absent, FileFailed, BadIdl, NoOperation, NotBuilt, ReadFault, BadOctets, BadText, BadValue, BadRequest}
-use Rattle.text_fitting.specs.Request.{HoldsRequest, HoldsNoRequest}
+use Rattle.text_fitting.specs.Request.{beside, HoldsRequest, HoldsNoRequest}
 use Rattle.idl_compiler.specs.Asked.{AsksFiles, AreAsked, all_due}
 use Rattle.dceidl.specs.declared.words.OrderWord.{OrderWord}
 use Rattle.dceidl.specs.declared.words.Reading.{Reading}
 use Rattle.dceidl.specs.declared.words.Values.{Values}
 use Rattle.dceidl.specs.Asked.{AsksRequest}
 use Rattle.dceidl.specs.Causes.{IsMade, IsCause}
-use Rattle.dceidl.specs.Input.{IsReadBeside, IsBesideCause}
+use Rattle.dceidl.specs.Input.{IsRead, IsReadCause, IsReadBeside, IsBesideCause}
 use Rattle.dceidl.specs.Ready.{IsFound, IsReady, HasAsked, up_to}
 use Rattle.dceidl.specs.Seen.{seen_over}
 use Rattle.dceidl.specs.Words.{Subject, Read, order_in, values_read}
@@ -44,6 +45,16 @@ pub record Follows (f g : FilesSeen) : Type 0 where
   pub faults : g.faults.before ≡ f.faults.now
   pub later : f.faults.before ≤ f.faults.now
   pub absences_later : f.absences.before ≤ f.absences.now
+
+-- a request was loaded, and then the octets of the input were read beside it
+module _ (f : FilesSeen) (s : SourceSeen) (name : List ℕ) (how : Reading) (w : Setting) (order : Order) (q : Graph) (holds : HoldsRequest f name w q) where
+  pub after_made : (result : Result (List ℕ) Refusal) → IfOk result (IsRead s how (beside w q) order) → IfOk result (IsReadBeside f s name how w order)
+  after_made (Ok made) read = (q, holds, read)
+  after_made (Err e) read = tt
+
+  pub after_refused : (result : Result (List ℕ) Refusal) → IfErr result (IsReadCause s how (beside w q) order) → IfErr result (IsBesideCause f s name how w order)
+  after_refused (Ok made) cause = tt
+  after_refused (Err e) cause = inr (q, holds, cause)
 
 module _ (f g : FilesSeen) (follows : Follows f g) (name : List ℕ) where
   -- a request is held over both parts
@@ -118,7 +129,7 @@ module _ (f g : FilesSeen) (follows : Follows f g) (name : List ℕ) where
       pub beside_made : (result : Result (List ℕ) Refusal) → IfOk result (IsReadBeside g s name how w (order_in order))
           → IfOk result (IsMade (seen_over (both_parts f g) s) (Read how of order (Some name)))
       beside_made (Ok made) (q, holds, read) = (
-        _,
+        beside w q,
         record { own = w; has_asked = has_asked (values_read how) w ready; request = q; holds = held_over w q holds; setting_is = refl },
         read,
       )
@@ -128,7 +139,7 @@ module _ (f g : FilesSeen) (follows : Follows f g) (name : List ℕ) where
       beside_cause e (inl (cause, untouched)) =
           inl (inr (record { own = w; has_asked = has_asked (values_read how) w ready; cause = refused_over w e cause }), untouched)
       beside_cause e (inr (q, holds, cause)) = inr (
-        _,
+        beside w q,
         record { own = w; has_asked = has_asked (values_read how) w ready; request = q; holds = held_over w q holds; setting_is = refl },
         cause,
       )

@@ -113,12 +113,12 @@ module _ (w : Setting) (side : IsLegalSide (inputs w)) (text : List ℕ) where
   by_length (Value path reason) (within, bad) = inr (within, bad)
 
   -- the text of a request is not refused
-  pub request_or_fault : {B : Type 0} (q : Graph) (why : RequestFault) → IsRequestText w text q → IsRequestFault w text why → B
+  pub request_or_fault : (q : Graph) (why : RequestFault) → IsRequestText w text q → IsRequestFault w text why → ⊥
   request_or_fault q why is fault = by (by_length why fault)
     where
-      by : Verdict why → B
-      by (inl (long, e)) = let within = is.within in absurd (omega (arith, long, within))
-      by (inr (within, cause)) = absurd (not_memory why (good_cause (inputs w) side text q is.reads is.conforms (of_text why) cause))
+      by : Verdict why → ⊥
+      by (inl (long, e)) = let within = is.within in omega (arith, long, within)
+      by (inr (within, cause)) = not_memory why (good_cause (inputs w) side text q is.reads is.conforms (of_text why) cause)
 
   -- it reads as one request
   pub one_request : (q p : Graph) → IsRequestText w text q → IsRequestText w text p → q ≡ p
