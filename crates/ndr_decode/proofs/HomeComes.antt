@@ -48,6 +48,7 @@ use Rattle.ndr_stream.specs.Calls.{Took, TookPart, Refused, CutOff, RefusesWith,
 use Rattle.ndr_stream.specs.Report.{AreCells, StreamRefused, StreamCut}
 use Rattle.ndr_stream.proofs.HomeFaults.{home_refused, home_cut}
 use Rattle.ndr_stream.proofs.StateAdds.{state_adds}
+use Rattle.ndr_decode.proofs.WholeStays.{whole_stays}
 use Rattle.ndr_decode.specs.Streaming.{FaultOf, HomeWhole}
 
 -- ## Logs
@@ -121,11 +122,13 @@ module _ (values : List EnumList) (order : Order) (code : List Instr) (table : T
   needed_of e came part last is =
       let x : IsShort target (f0 ++ part) =
       needed_then values order code table h own limit direct target planned f0 n0 s0 g0 e.fetched e.noted e.s e.reached e.i e.there e.os came
-          (needed_along values order code table h own limit direct target planned f0 n0 s0 g0 e.reached) part last is in
+      (needed_along values order code table h own limit direct target planned f0 n0 s0 g0 e.reached) part last is in
       (x.0, x.1.0, x.1.1)
 
-  pub whole_comes : (s1 : State) → EndsWhole values order code h s0 source notes s1 → HomeWhole order table h own direct target f0 n0 (length s0.cells) source (decoding_of notes) s1
-  whole_comes s1 (e, (has, (is, logged))) = record {
+  pub whole_comes : (s1 : State) → ((more : List ℕ) (items : List Item) (y : State) → Reaches values order code h s0 more items y → y.at ≤ STREAM_LIMIT)
+      → EndsWhole values order code h s0 source notes s1 → HomeWhole order table h own direct target f0 n0 (length s0.cells) source (decoding_of notes) s1
+  whole_comes s1 within (e, (has, (is, logged))) = record {
+    within = subst (λ k. k ≤ STREAM_LIMIT) (sym (whole_stays values order e.os e.i e.s s1 is)) (within e.fetched e.noted e.s e.reached);
     octets = octets_of e;
     items = e.noted ++ step_items order h e.os e.i e.s;
     all = all_of e;
@@ -164,7 +167,7 @@ module _ (values : List EnumList) (order : Order) (code : List Instr) (table : T
     step_refused : (place : ℕ) (why : Reason) → IsNotCut why → StepIsRefused place why → IsRefusedIn place why
     step_refused place why other (e, (has, (is, logged))) =
         refused_of e place why (refused_end values order code table h own limit direct target planned f0 n0 s0 g0 e.fetched e.noted e.s e.reached e.i e.there e.os has place why is)
-            (needed_of e (inl has)) logged (λ u. absurd (subst IsNotCut u other)) (λ u. absurd (subst IsNotCut u other))
+        (needed_of e (inl has)) logged (λ u. absurd (subst IsNotCut u other)) (λ u. absurd (subst IsNotCut u other))
 
     pub bad_comes : (s1 : State) (place : ℕ) (why : Reason) → EndsBad values order code h s0 source notes s1 place why → IsRefusedIn place why
     bad_comes s1 place reason.TooLong (e, (long, (none, (is, logged)))) =
@@ -173,11 +176,11 @@ module _ (values : List EnumList) (order : Order) (code : List Instr) (table : T
         λ part last u. let x : IsShort target (f0 ++ part) = needed_along values order code table h own limit direct target planned f0 n0 s0 g0 e.reached part last u in (x.0, x.1.0, x.1.1) in
         subst (λ k. IsRefusedIn k reason.TooLong) (sym is)
         (refused_of e STREAM_LIMIT reason.TooLong (long_end values order code table h own limit direct target planned f0 n0 s0 g0 e.fetched e.noted e.s e.reached e.i e.there e.os long none)
-            (subst (AreNeeded target f0) (sym same) needs) logged (λ u. absurd (subst IsNotCut u tt)) (λ u. absurd (subst IsNotCut u tt)))
+        (subst (AreNeeded target f0) (sym same) needs) logged (λ u. absurd (subst IsNotCut u tt)) (λ u. absurd (subst IsNotCut u tt)))
     bad_comes s1 place reason.Truncated (e, (cut, (is, (ended, (at_end, logged))))) =
         subst (λ k. IsRefusedIn k reason.Truncated) (sym is)
         (refused_of e (e.s.at + length e.os) reason.Truncated (cut_end values order code table h own limit direct target planned f0 n0 s0 g0 e.fetched e.noted e.s e.reached e.i e.there e.os cut)
-            (needed_of e (inr cut)) logged (λ u. ended) (λ u. at_end))
+        (needed_of e (inr cut)) logged (λ u. ended) (λ u. at_end))
     bad_comes s1 place reason.EnumValue x = step_refused place reason.EnumValue tt x
     bad_comes s1 place reason.PastBound x = step_refused place reason.PastBound tt x
     bad_comes s1 place reason.TextOffset x = step_refused place reason.TextOffset tt x

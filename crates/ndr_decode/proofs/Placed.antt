@@ -1,6 +1,6 @@
 -- A root that was read in its place.
 -- `x` is what was kept before it, `s1` when its home was open, `s2` after its value, `s3` after it was kept.
-use Rattle.std.proofs.Common.{◌≡◌, ℕ, suc, List, [], ◌∷◌, ◌++◌, length, Option, Some, None, false, ap, sym, ◌∙◌, subst, map}
+use Rattle.std.proofs.Common.{◌≡◌, ◌≤◌, ℕ, suc, List, [], ◌∷◌, ◌++◌, length, Option, Some, None, false, ap, sym, ◌∙◌, subst, map, arith}
 use Rattle.std.specs.Prelude.{slice_get}
 use Rattle.std.proofs.lemmas.List.{length-map}
 use Rattle.nd_base.specs.declared.octets.Order.{Order}
@@ -96,6 +96,7 @@ placed_ends w side order fetched noted direct x s1 s2 s3 s seen n st r there pla
       ps = new;
       stands = record {
         agrees = subst (λ u. Agrees w side order (fetched ++ hw.octets) (noted ++ hw.items) direct u after hw.is.seen new n) (sym is_now) agrees;
+        within = let at = re.cleared.at in let few = hw.within in omega (arith, at, few);
         whole = subst CanClose (sym re.cleared.builder) (can_close m.builder v nodes);
       };
       took = took_by source t (length (state_of s1.machine).cells) (cells_of x) (length (state_of m).cells) (cells_of s3) hw.octets hw.items (ap length cells ∙ types_length b)

@@ -1,12 +1,15 @@
 -- What a call of the decoder comes to, over the roots and referents of a stream.
 -- `plan` is a plan, `w` a setting of its interface, `fetched` are the octets that were fetched and `noted` the items that were noted before the call, `x` is what
 -- is kept of the stream after it, `source` and `t` are what was seen of the source, the log and the steps over it, `n` is how many cells there were.
-use Rattle.std.specs.Prelude.{◌≡◌, ◌≤◌, ℕ, suc, List, [], ◌∷◌, ◌++◌, length, Some, Result, Ok, Err}
+use Rattle.std.specs.Prelude.{◌≡◌, ◌≤◌, ℕ, suc, List, [], ◌∷◌, ◌++◌, length, Option, Some, Result, Ok, Err}
 use Rattle.std.specs.List.{slice_get}
 use Rattle.nd_base.specs.declared.octets.Order.{Order}
+use Rattle.nd_base.specs.declared.TheConstants.{STREAM_LIMIT}
 use Rattle.nd_base.specs.Over.{SourceSeen, HasRisen}
 use Rattle.nd_types.specs.Number.{AreOctets}
+use Rattle.nd_types.specs.declared.interface.Interface.{Interface}
 use Rattle.nd_types.specs.declared.types.Side.{Side}
+use Rattle.nd_value.specs.declared.value.Graph.{Graph}
 use Rattle.nd_types.specs.Roots.{Root}
 use Rattle.nd_types.specs.Table.{Table, type_at}
 use Rattle.nd_value.specs.declared.item.Home.{Home}
@@ -16,7 +19,9 @@ use Rattle.nd_value.specs.Setting.{Setting, root_list}
 use Rattle.nd_grammar.specs.Entry.{EntryAt}
 use Rattle.nd_grammar.specs.LegalSide.{IsLegalSide}
 use Rattle.nd_grammar.specs.Reader.{Read}
-use Rattle.nd_grammar.specs.StreamReader.{Reading}
+use Rattle.nd_grammar.specs.Items.{items as items_of}
+use Rattle.nd_grammar.specs.StreamReader.{Reading, read_stream}
+use Rattle.ndr_reading.specs.Around.{going}
 use Rattle.ndr_code.specs.Code.{root_by}
 use Rattle.ndr_code.specs.declared.instr.Instr.{Instr}
 use Rattle.ndr_code.specs.declared.plan.Plan.{Plan}
@@ -32,15 +37,26 @@ use Rattle.ndr_stream.specs.Calls.{Took, Refused, CutOff}
 use Rattle.ndr_kept.specs.declared.stream.Stream.{Stream}
 use Rattle.ndr_kept.specs.Seen.{between_of}
 use Rattle.ndr_decode.specs.declared.roots.Found.{Found}
-use Rattle.nd_flat.specs.Building.{CanClose}
+use Rattle.nd_flat.specs.Building.{Building, CanClose, closed}
 
 -- how many cells have their numbers
 abbrev pub cells_of : Stream → ℕ
 cells_of x = length x.machine.builder.graph.cells
 
+-- what the graph is for
+pub record Purpose : Type 0 where
+  pub op : ℕ
+  pub side : Side
+  pub interface : Interface
+  pub given : Option Graph
+
+abbrev pub purpose_of : Stream → Purpose
+purpose_of x = let b : Building = x.machine.builder in record { op = b.op; side = b.side; interface = b.interface; given = b.given }
+
 -- What is kept of the stream is right: so many roots that are no pipes are left, and these pointers are due.
 pub record Stands (w : Setting) (side : IsLegalSide w) (order : Order) (fetched : List ℕ) (noted : List Item) (direct : ℕ) (x : Stream) (s : Reading) (seen : List EntryAt) (ps : List Pending) (n : ℕ) : Type 0 where
   pub agrees : Agrees w side order fetched noted direct (between_of x) s seen ps n
+  pub within : x.machine.at ≤ STREAM_LIMIT
   pub whole : CanClose x.machine.builder
 
 -- No referent is due, and the next root begins with this instruction.
@@ -68,6 +84,7 @@ with_next o x =
 -- The same is right with the next of the pending referents.
 pub record StandsWith (w : Setting) (side : IsLegalSide w) (order : Order) (fetched : List ℕ) (noted : List Item) (direct : ℕ) (o : code.Owed) (x : Stream) (s : Reading) (seen : List EntryAt) (p : Pending) (ps : List Pending) (n : ℕ) : Type 0 where
   pub agrees : Agrees w side order fetched noted direct (with_next o x) s seen (p ∷ ps) n
+  pub within : x.machine.at ≤ STREAM_LIMIT
   pub whole : CanClose x.machine.builder
 
 -- The next of the pending referents is due.
@@ -109,6 +126,7 @@ pub record HomeWhole (order : Order) (table : Table) (h : Home) (own direct : �
   pub is : Whole order (fetched ++ octets) table h own (noted ++ items) direct target s
   pub needed : AreNeeded target fetched octets
   pub took : Took source t cells octets items (length s.cells)
+  pub within : s.at ≤ STREAM_LIMIT
 
 -- It went on over so many octets more, and what is kept is right after them, with so many roots left.
 pub record WentOn (w : Setting) (side : IsLegalSide w) (order : Order) (fetched : List ℕ) (noted : List Item) (cells : ℕ) (source : SourceSeen) (t : DecodingSeen) (x : Stream) (n : ℕ) : Type 0 where
@@ -119,6 +137,19 @@ pub record WentOn (w : Setting) (side : IsLegalSide w) (order : Order) (fetched 
   pub seen : List EntryAt
   pub ps : List Pending
   pub stands : Stands w side order (fetched ++ octets) (noted ++ items) direct x s seen ps n
+  pub took : Took source t cells octets items (cells_of x)
+
+-- It read the stream to its end, whose graph is built.
+pub record WasRead (w : Setting) (order : Order) (fetched : List ℕ) (noted : List Item) (cells : ℕ) (source : SourceSeen) (t : DecodingSeen) (x : Stream) : Type 0 where
+  pub octets : List ℕ
+  pub items : List Item
+  pub all : AreOctets (fetched ++ octets)
+  pub seen : List EntryAt
+  pub at : length (fetched ++ octets) ≡ x.machine.at
+  pub progress : (read_stream w order (fetched ++ octets)).progress ≡ going x.machine.at seen
+  pub graph : (read_stream w order (fetched ++ octets)).graph ≡ closed x.machine.builder
+  pub noted_are : items_of order (fetched ++ octets) seen ≡ noted ++ items
+  pub whole : CanClose x.machine.builder
   pub took : Took source t cells octets items (cells_of x)
 
 -- a refusal is that of the stream; where the source or memory failed, reading was cut off

@@ -11,7 +11,6 @@ ghost use Rattle.ndr_verdict.specs.Verdict.{IsDecoded, decoding_seen};
 ghost use Rattle.ndr_decode.specs.Decoding.{IsFault};
 
 use crate::chunks::read_pipes;
-use crate::parameters::check_parameters;
 use crate::roots::read_roots;
 use nd_base::{Ledger, Order, Source, Steps};
 use nd_flat::{Builder, Fit};
@@ -20,6 +19,7 @@ use nd_value::ItemLog;
 use ndr_code::Plan;
 use ndr_intake::Intake;
 use ndr_kept::Stream;
+use ndr_parameters::try_parameters;
 use ndr_state::{DecodeFault, Machine};
 use std::alloc::Global;
 
@@ -81,7 +81,7 @@ pub fn decode<S: Source, L: Ledger>(
     let mut stream = Stream::begin(alloc, builder);
     let mut intake = Intake::new(alloc)?;
     let found = read_roots(plan, op, side, order, &mut stream, &mut intake, source, items, steps)?;
-    check_parameters(plan, found.checks, given, &stream)?;
+    try_parameters(plan.code.as_slice(), found.checks as usize, &stream, given)?;
     read_pipes(plan, op, side, order, found.line, &mut stream, &mut intake, source, items, steps)?;
     Ok(finish(stream))
 }

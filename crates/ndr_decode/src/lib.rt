@@ -7,7 +7,6 @@
 mod chunks;
 mod decoding;
 mod homes;
-mod parameters;
 mod roots;
 mod worklist;
 

@@ -1,5 +1,5 @@
 // The roots that are no pipes.
-ghost use Rattle.std.specs.Prelude.{◌≡◌, ◌≤◌, ◌<◌, ◌+◌, Some, length, IfOk};
+ghost use Rattle.std.specs.Prelude.{◌≡◌, ◌≤◌, ◌<◌, ◌+◌, Some, length, OnOk, IfOk};
 ghost use Rattle.std.specs.List.{slice_get};
 ghost use Rattle.nd_base.specs.Over.{source_seen};
 ghost use Rattle.nd_types.specs.declared.types.Operation.{Operation};
@@ -12,7 +12,7 @@ ghost use Rattle.ndr_code.specs.declared.instr.Instr.TheVariants as op;
 ghost use Rattle.ndr_verdict.specs.Verdict.{decoding_seen};
 ghost use Rattle.ndr_stream.specs.Between.{Begins};
 ghost use Rattle.ndr_kept.specs.Seen.{between_of};
-ghost use Rattle.ndr_decode.specs.Streaming.{IsAtRoot, RootReads, RootsRead};
+ghost use Rattle.ndr_decode.specs.Streaming.{IsAtRoot, RootReads, RootsRead, purpose_of};
 
 use crate::homes::read_home;
 use crate::worklist::read_pending;
@@ -50,6 +50,7 @@ pub(crate) fn read_roots<S: Source, L: Ledger>(
         (decoding_seen items.old items.new (L.number steps.old) (L.number steps.new)) stream.new result }
     ensures found { IfOk result (λ f. (o : Operation) → slice_get plan.now.tie.operations op ≡ Some o → (f.checks ≡ checks_at plan.now.tie.types plan.now.tie.operations op o side)
         × (f.line ≡ line_at plan.now.tie.types plan.now.tie.operations op o side + length (value_roots (roots_of plan.now.tie.types side o)) + 1)) }
+    ensures same { OnOk result (purpose_of stream.new ≡ purpose_of stream.old) }
     ensures later { S.Source.faults source.old ≤ S.Source.faults source.new }
 {
     let lines = plan.entries.as_slice();
@@ -101,6 +102,7 @@ fn read_root<S: Source, L: Ledger>(
     requires next { (i : Instr) × ((slice_get plan.now.code at ≡ Some i) × IsAtRoot plan.now order stream.old i) }
     ensures reads { (i : Instr) → slice_get plan.now.code at ≡ Some i → RootReads plan.now order i stream.old (source_seen S.Source.left S.Source.ended S.Source.faults source.old source.new)
         (decoding_seen items.old items.new (L.number steps.old) (L.number steps.new)) stream.new result }
+    ensures same { OnOk result (purpose_of stream.new ≡ purpose_of stream.old) }
     ensures later { S.Source.faults source.old ≤ S.Source.faults source.new }
 {
     match plan.code.as_slice()[at as usize] {
@@ -126,10 +128,19 @@ fn read_direct<S: Source, L: Ledger>(
     requires next { IsAtRoot plan.now order stream.old (op.Direct to run) }
     ensures reads { RootReads plan.now order (op.Direct to run) stream.old (source_seen S.Source.left S.Source.ended S.Source.faults source.old source.new)
         (decoding_seen items.old items.new (L.number steps.old) (L.number steps.new)) stream.new result }
+    ensures same { OnOk result (purpose_of stream.new ≡ purpose_of stream.old) }
     ensures later { S.Source.faults source.old ≤ S.Source.faults source.new }
 {
     let cell = stream.open_reference(to, run, steps)?;
-    read_home(plan, order, &mut stream.machine, intake, source, items, steps)?;
+    read_home(
+        plan,
+        order,
+        &mut stream.machine,
+        intake,
+        source,
+        items,
+        steps,
+    )?;
     stream.end_reference(cell)
 }
 
@@ -146,9 +157,18 @@ fn read_placed<S: Source, L: Ledger>(
     requires next { IsAtRoot plan.now order stream.old (op.Call run) }
     ensures reads { RootReads plan.now order (op.Call run) stream.old (source_seen S.Source.left S.Source.ended S.Source.faults source.old source.new)
         (decoding_seen items.old items.new (L.number steps.old) (L.number steps.new)) stream.new result }
+    ensures same { OnOk result (purpose_of stream.new ≡ purpose_of stream.old) }
     ensures later { S.Source.faults source.old ≤ S.Source.faults source.new }
 {
     stream.open_root(run)?;
-    read_home(plan, order, &mut stream.machine, intake, source, items, steps)?;
+    read_home(
+        plan,
+        order,
+        &mut stream.machine,
+        intake,
+        source,
+        items,
+        steps,
+    )?;
     stream.end_root()
 }

@@ -1,6 +1,7 @@
 -- Agreements that are tried, and agreements of pointers.
-use Rattle.std.proofs.Common.{◌≡◌, ℕ, ◌-◌, zero, suc, ℤ, Bool, true, false, List, [], ◌∷◌, ◌++◌, Option, Some, None, refl, ap, append-nil}
+use Rattle.std.proofs.Common.{◌≡◌, ℕ, ◌-◌, zero, suc, ℤ, Bool, true, false, List, [], ◌∷◌, Option, Some, None, Result, Ok, Err, IsErrAnd, refl, sym, ap, subst, ◌∙◌, append-nil}
 use Rattle.std.specs.Prelude.{if◌then◌else◌, option_map}
+use Rattle.std.proofs.lemmas.Option.{same_Some}
 use Rattle.std.specs.Ordering.{int_eq}
 use Rattle.nd_types.specs.declared.types.Attr.TheVariants as attr
 use Rattle.nd_value.specs.Agreement.{Agreement}
@@ -9,8 +10,11 @@ use Rattle.nd_grammar.specs.declared.reason.Reason.TheVariants as reason
 use Rattle.ndr_steps.specs.declared.first.First.{First}
 use Rattle.ndr_steps.specs.declared.first.First.TheVariants as first
 use Rattle.ndr_steps.specs.declared.first.Member.{Member}
-use Rattle.ndr_steps.specs.Steps.{State, Outcome, goes, refused, next, Owed, with_fresh, joined_by, checked, try_all, disagreed, place_of, place_in, first_found}
-use Rattle.ndr_machine.specs.Parts.{disagreement, count_place, tag_place}
+use Rattle.ndr_steps.specs.Steps.{State, Outcome, goes, refused, next, Owed, with_fresh, joined_by, checked, try_all, is_owing, disagreed, place_of, place_in, first_found}
+use Rattle.ndr_state.specs.declared.fault.DecodeFault.{DecodeFault}
+use Rattle.ndr_state.specs.declared.fault.DecodeFault.TheVariants as fault
+use Rattle.ndr_state.specs.Seen.{Does}
+use Rattle.ndr_machine.specs.Parts.{disagreement, count_place, tag_place, IsTried}
 
 -- ## Places
 
@@ -52,17 +56,23 @@ switch_is first.Other max_at = refl
 
 -- ## One agreement
 
-held_by : (b : Bool) (p : Option ℕ) (z y : ℤ) (o : Outcome) → (if b then None else option_map (λ (place : ℕ). (place, reason.Disagrees z y)) p) ≡ None
+-- why it does not hold at a place
+abbrev failing : ℤ → ℤ → ℕ → ℕ × Reason
+failing z y place = (place, reason.Disagrees z y)
+
+held_by : (b : Bool) (p : Option ℕ) (z y : ℤ) (o : Outcome) → (if b then None else option_map (failing z y) p) ≡ None
     → (if b then o else disagreed p z y o) ≡ o
 held_by true p z y o h = refl
 held_by false None z y o h = refl
 held_by false (Some p) z y o h = cc
 
 failed_by : (b : Bool) (p : Option ℕ) (z y : ℤ) (o : Outcome) (place : ℕ) (why : Reason)
-    → (if b then None else option_map (λ (place : ℕ). (place, reason.Disagrees z y)) p) ≡ Some (place, why) → (if b then o else disagreed p z y o) ≡ refused place why
+    → (if b then None else option_map (failing z y) p) ≡ Some (place, why) → (if b then o else disagreed p z y o) ≡ refused place why
 failed_by true p z y o place why h = cc
 failed_by false None z y o place why h = cc
-failed_by false (Some p) z y o place why h = cc
+failed_by false (Some p) z y o place why h =
+    let found : ℕ × Reason = (place, why) in
+    ap (λ (r : ℕ × Reason). refused r.0 r.1) (same_Some (failing z y p) found h)
 
 pub tried_held : (w : Agreement) (x : First) (s : State) → disagreement w x s.max_at ≡ None → try_all (w ∷ []) x s ≡ goes (next s)
 tried_held w x s h = held_by _ (place_of w.attr s.max_at (place_in x)) w.wanted _ (goes (next s)) h
@@ -102,3 +112,24 @@ none_checked (Some m) (Some first.Pointer) s = ap (λ (os : List Owed). goes (ne
 none_checked (Some m) (Some (first.Counted max offset actual place)) s = refl
 none_checked (Some m) (Some (first.Tag tag place)) s = refl
 none_checked (Some m) (Some first.Other) s = refl
+
+-- ## The agreement of a member
+
+pub pointer_checked : (w : Agreement) (m : Member) (x : First) (s : State) → is_owing x ≡ true
+    → checked (w ∷ []) (Some m) (Some x) s ≡ goes (next (with_fresh (joined_by (w ∷ []) s.fresh m.pending) s))
+pointer_checked w m x s h = ap (λ (b : Bool). if b then goes (next (with_fresh (joined_by (w ∷ []) s.fresh m.pending) s)) else try_all (w ∷ []) x s) h
+
+pub other_checked : (w : Agreement) (m : Member) (x : First) (s : State) → is_owing x ≡ false → checked (w ∷ []) (Some m) (Some x) s ≡ try_all (w ∷ []) x s
+other_checked w m x s h = ap (λ (b : Bool). if b then goes (next (with_fresh (joined_by (w ∷ []) s.fresh m.pending) s)) else try_all (w ∷ []) x s) h
+
+-- it does not hold, and that is what the member's agreement comes to
+pub tried_refused : (w : Agreement) (m : Member) (x : First) (s t : State) (e : DecodeFault) (r : Result (Unit {0}) DecodeFault) → IsErrAnd r (λ y. y ≡ e)
+    → is_owing x ≡ false → IsTried (disagreement w x s.max_at) (Err e) → Does (checked (w ∷ []) (Some m) (Some x) s) r t
+tried_refused w m x s t e (Ok u) h o d = absurd h
+tried_refused w m x s t e (Err y) h o d =
+    by y (subst (λ (z : DecodeFault). IsTried (disagreement w x s.max_at) (Err z)) (sym h) d)
+  where
+    by : (y : DecodeFault) → IsTried (disagreement w x s.max_at) (Err y) → Does (checked (w ∷ []) (Some m) (Some x) s) (Err y) t
+    by (fault.Bad place why) d = other_checked w m x s o ∙ tried_failed w x s place why d
+    by fault.ReadFault d = d
+    by fault.Memory d = absurd d

@@ -2,10 +2,7 @@
 -- `n` is their number, `s` a state, `p` and `m` are later ones.
 use Rattle.std.proofs.Common.{◌≡◌, ℕ, ◌+◌, ◌-◌, zero, suc, refl, sym, ap, ◌∙◌, arith}
 use Rattle.ndr_steps.specs.declared.frame.Frame.TheVariants as frame
-use Rattle.ndr_steps.specs.Steps.{State, goes, elements, next, jumped, pushed}
-
-pub no_elements : (n run : ℕ) (s m : State) → n ≡ 0 → m ≡ next s → goes (elements n run s) ≡ goes m
-no_elements n run s m e em = ap (λ k. goes (elements k run s)) e ∙ ap goes (sym em)
+use Rattle.ndr_steps.specs.Steps.{State, goes, elements, jumped, pushed}
 
 pub some_elements : (n run : ℕ) (s p m : State) → (n ≡ 0 → ⊥) → p ≡ pushed (frame.Elements (n - 1) run (s.pc + 1)) s → m ≡ jumped run p
     → goes (elements n run s) ≡ goes m

@@ -76,11 +76,14 @@ item_long (item_of m) n at s os e fault =
     (omega (arith, z, past), (fault.none, refl))
 
 -- a source that has ended did so within the limit
-ended_within : (n at place : ℕ) → (STREAM_LIMIT < at + n → IsErrOf {T = Unit {0}} (Err (intake.Truncated place)) intake.TooLong) → at + n ≤ STREAM_LIMIT
-ended_within n at place long = by_test (cases_lt STREAM_LIMIT (at + n))
+ended_within : (n at place : ℕ) → (r : Result (Unit {0}) IntakeFault) → r ≡ Err (intake.Truncated place) → (STREAM_LIMIT < at + n → IsErrOf r intake.TooLong) → at + n ≤ STREAM_LIMIT
+ended_within n at place r is long = by_test (cases_lt STREAM_LIMIT (at + n))
   where
+    other : (a : Result (Unit {0}) IntakeFault) → a ≡ Err (intake.Truncated place) → a ≡ Err intake.TooLong → ⊥
+    other a e f = cc
+
     by_test : (STREAM_LIMIT < at + n) ⊎ (at + n ≤ STREAM_LIMIT) → at + n ≤ STREAM_LIMIT
-    by_test (inl past) = let e : Err {T = Unit {0}} (intake.Truncated place) ≡ Err intake.TooLong = long past in cc
+    by_test (inl past) = absurd (other r is (long past))
     by_test (inr within) = within
 
 pub item_fetched : (w : Want) (n at : ℕ) (s : SourceSeen) (os : List ℕ) (r : Result (Unit {0}) IntakeFault) → Wants w (want.Item n) → IfOk r (λ _. length os ≡ n)
@@ -90,7 +93,7 @@ item_fetched w n at s os (Err intake.Memory) e all within long fault = tt
 item_fetched w n at s os (Err intake.ReadFault) e all within long fault = fault.why
 item_fetched w n at s os (Err intake.TooLong) e all within long fault = item_long w n at s os e fault
 item_fetched w n at s os (Err (intake.Truncated place)) e all within long fault =
-    (item_cut w n at os e fault.fewer (ended_within n at place long), (fault.why.there, (fault.why.ended, fault.why.none_left)))
+    (item_cut w n at os e fault.fewer (ended_within n at place (Err (intake.Truncated place)) refl long), (fault.why.there, (fault.why.ended, fault.why.none_left)))
 
 -- ## Places
 

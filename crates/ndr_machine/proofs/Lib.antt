@@ -6,6 +6,8 @@ mod Outcomes
 mod Elements
 mod Noting
 mod RowItems
+mod RowStates
+mod Counting
 mod Moving
 mod Fetching
 mod Turning
@@ -15,3 +17,8 @@ mod Wanted
 mod Owing
 mod Tagged
 mod Taking
+mod Meeting
+mod Reserving
+mod OneTurn
+mod RowTaken
+mod Handing

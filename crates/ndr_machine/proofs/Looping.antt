@@ -31,9 +31,8 @@ still_safe {values} {order} {code} {h} {h1} {src} {n} {s0} {s1} m same safe fetc
     (joined values order code h s0 s1 m.fetched m.noted m.reached (subst (λ x. Reaches values order code x s1 fetched noted s) same r))
 
 module _ {values : List EnumList} {order : Order} {code : List Instr} {h h1 : Home} {l0 l1 : Option (List ℕ)} {e1 : Bool} {f0 f1 : ℕ} {g0 g1 : Logged} {k0 k1 c0 c1 : ℕ}
-  {s0 s1 : State} (m : Moves values order code h s0 (source l0 l1 e1 f0 f1) (notes_seen g0 g1 k0 k1 c0 c1) s1) (same : h1 ≡ h)
-  (l2 : Option (List ℕ)) (e2 : Bool) (f2 : ℕ) (g2 : Logged) (k2 c2 : ℕ) (s2 : State) where
-
+    {s0 s1 : State} (m : Moves values order code h s0 (source l0 l1 e1 f0 f1) (notes_seen g0 g1 k0 k1 c0 c1) s1) (same : h1 ≡ h)
+    (l2 : Option (List ℕ)) (e2 : Bool) (f2 : ℕ) (g2 : Logged) (k2 c2 : ℕ) (s2 : State) where
   turned : (r r' : Result Progress DecodeFault) → r ≡ r' → Turns values order code h1 s1 (source l1 l2 e2 f1 f2) (notes_seen g1 g2 k1 k2 c1 c2) s2 r
       → Turns values order code h s1 (source l1 l2 e2 f1 f2) (notes_seen g1 g2 k1 k2 c1 c2) s2 r'
   turned r r' e t =

@@ -97,10 +97,17 @@ module _ (values : List EnumList) (order : Order) (code : List Instr) (h : Home)
 
   pub whole_on : (s0 s1 s2 : State) → Moved s0 s1 → EndsWhole values order code h s1 (source l1 l2 e2 f1 f2) later_notes s2
       → EndsWhole values order code h s0 (source l0 l2 e2 f0 f2) all_notes s2
-  whole_on s0 s1 s2 m w =
-      (end_on s0 s1 m w.0, (w.1.0, (w.1.1.0,
-      subst (λ xs. IsLogged xs s0 s2 all_notes) (sym (append_assoc m.noted w.0.noted (step_items order h w.0.os w.0.i w.0.s)))
-      (logged_on m.noted (w.0.noted ++ step_items order h w.0.os w.0.i w.0.s) s0 s1 s2 m.logged w.1.1.1))))
+  whole_on s0 s1 s2 m w = (
+    end_on s0 s1 m w.0,
+    (
+      w.1.0,
+      (
+        w.1.1.0,
+        subst (λ xs. IsLogged xs s0 s2 all_notes) (sym (append_assoc m.noted w.0.noted (step_items order h w.0.os w.0.i w.0.s)))
+            (logged_on m.noted (w.0.noted ++ step_items order h w.0.os w.0.i w.0.s) s0 s1 s2 m.logged w.1.1.1),
+      ),
+    ),
+  )
 
   bad_on : (s0 s1 s2 : State) → Moved s0 s1 → (place : ℕ) (why : Reason) → EndsBad values order code h s1 (source l1 l2 e2 f1 f2) later_notes s2 place why
       → EndsBad values order code h s0 (source l0 l2 e2 f0 f2) all_notes s2 place why
@@ -131,15 +138,17 @@ module _ (values : List EnumList) (order : Order) (code : List Instr) (h : Home)
 pub given_up : (values : List EnumList) (order : Order) (code : List Instr) (h : Home) (s0 s1 : State) (src : SourceSeen) (n : NotesSeen) → Moves values order code h s0 src n s1
     → ((fetched : List ℕ) (noted : List Item) (s : State) → Reaches values order code h s0 fetched noted s → IsSafe code s) → EndsCutOff values order code h s0 src n s1
 given_up values order code h s0 s1 src n m safe =
-    let safe_here : IsSafe code s1 = safe m.fetched m.noted s1 m.reached in
-    (record {
-      fetched = m.fetched;
-      noted = m.noted;
-      os = [];
-      s = s1;
-      i = safe_here.i;
-      reached = m.reached;
-      there = safe_here.there;
-      octets = tt;
-      left = subst (Consumes src.left src.left_now) (sym (append-nil m.fetched)) m.left;
-    }, let counted : n.steps_now + length s0.cells ≡ n.steps + ticks m.noted + length s1.cells = m.logged.1 in (m.logged.0, omega (arith, counted)))
+    let safe_here : IsSafe code s1 = safe m.fetched m.noted s1 m.reached in (
+      record {
+        fetched = m.fetched;
+        noted = m.noted;
+        os = [];
+        s = s1;
+        i = safe_here.i;
+        reached = m.reached;
+        there = safe_here.there;
+        octets = tt;
+        left = subst (Consumes src.left src.left_now) (sym (append-nil m.fetched)) m.left;
+      },
+      let counted : n.steps_now + length s0.cells ≡ n.steps + ticks m.noted + length s1.cells = m.logged.1 in (m.logged.0, omega (arith, counted)),
+    )

@@ -4,8 +4,11 @@
 use Rattle.std.proofs.Common.{◌≡◌, ◌≤◌, ℕ, ◌+◌, List, [], ◌∷◌, length, Result, Ok, Err, OnOk, IfErr, IsErrAnd, refl, sym, ap, ◌∙◌, subst, arith}
 use Rattle.std.proofs.lemmas.List.{length-map}
 use Rattle.nd_value.specs.Logged.{Logged, noted, ticks_of}
+use Rattle.nd_value.specs.declared.item.Home.{Home}
 use Rattle.nd_value.specs.declared.item.Item.{Item}
+use Rattle.nd_value.specs.Tree.{Referent}
 use Rattle.ndr_steps.specs.Steps.{State, Outcome, goes, refused}
+use Rattle.ndr_steps.specs.StepItems.{gap_items}
 use Rattle.ndr_state.specs.Notes.{NotesSeen, notes_seen, all_noted, ticks, IsNotedPart, nothing_noted, all_are_noted, Noted}
 use Rattle.ndr_state.specs.Seen.{state_of, Does}
 use Rattle.ndr_state.specs.declared.fault.DecodeFault.{DecodeFault}
@@ -16,7 +19,7 @@ use Rattle.ndr_state.specs.declared.machine.Machine.{Machine}
 
 -- the cells of a machine's state are those that have their numbers
 pub cell_count : (m : Machine) → length (state_of m).cells ≡ m.cells
-cell_count m = length-map m.builder.graph.cells (λ c. c.of) ∙ sym m.numbered
+cell_count m = length-map m.builder.graph.cells (λ (c : Referent). c.of) ∙ sym m.numbered
 
 -- machines with the same cells have as many
 pub same_cells : (old new : Machine) → (state_of new).cells ≡ (state_of old).cells → new.cells ≡ old.cells
@@ -34,12 +37,12 @@ goes_memory x s (Err (fault.Bad place why)) d = absurd (other d)
 goes_memory x s (Err fault.ReadFault) d = absurd d
 goes_memory x s (Err fault.Memory) d = refl
 
+pub goes_same : (x s : State) → goes x ≡ goes s → s ≡ x
+goes_same x s e = cc
+
 -- where it goes on, it comes to that state
 pub goes_state : (x s : State) (r : Result (Unit {0}) DecodeFault) → Does (goes x) r s → OnOk r (s ≡ x)
-goes_state x s (Ok u) d = same d
-  where
-    same : goes x ≡ goes s → s ≡ x
-    same e = cc
+goes_state x s (Ok u) d = goes_same x s d
 goes_state x s (Err e) d = tt
 
 -- memory is what a `?` handed on
@@ -53,6 +56,12 @@ memory_on (Err y) e h m = ap Err (h ∙ m)
 pub one_noted : (x : Item) (log log' : Logged) (n n' k k' : ℕ) → log' ≡ noted x log → n' ≡ n + ticks_of x.kind → k' ≡ k
     → (log' ≡ all_noted (x ∷ []) log) × (n' + k ≡ n + ticks (x ∷ []) + k')
 one_noted x log log' n n' k k' e i c = (e, omega (arith, i, c))
+
+-- a gap was noted, or an empty one was none
+pub gap_noted : (h : Home) (at : ℕ) (os : List ℕ) (log log' : Logged) (n n' k k' : ℕ) → log' ≡ all_noted (gap_items h at os) log → n' ≡ n → k' ≡ k
+    → (log' ≡ all_noted (gap_items h at os) log) × (n' + k ≡ n + ticks (gap_items h at os) + k')
+gap_noted h at [] log log' n n' k k' e i c = (e, omega (arith, i, c))
+gap_noted h at (o ∷ os) log log' n n' k k' e i c = (e, omega (arith, i, c))
 
 -- memory was refused before an item was noted
 pub stopped_before : {T : Type 0} (o : Outcome) (xs : List Item) (log log' : Logged) (n n' k k' : ℕ) (r : Result T DecodeFault) (e : DecodeFault)
@@ -73,6 +82,6 @@ pub noted_by_result : (x : Item) (s t : State) (log log' : Logged) (n n' k k' : 
     → Does (goes s) r t → log' ≡ noted x log → n' ≡ n + ticks_of x.kind → length s.cells ≡ k → length t.cells ≡ k'
     → Noted (goes s) (x ∷ []) (notes_seen log log' n n' k k') r
 noted_by_result x s t log log' n n' k k' (Ok u) d el i c c' =
-    let e : length t.cells ≡ length s.cells = ap (λ q. length q.cells) (goes_state s t (Ok u) d) in (el, omega (arith, i, c, c', e))
+    let e : length t.cells ≡ length s.cells = ap (λ (q : State). length q.cells) (goes_state s t (Ok u) d) in (el, omega (arith, i, c, c', e))
 noted_by_result x s t log log' n n' k k' (Err e) d el i c c' =
-    stopped_after x s log log' n n' k k' (Err e) e refl (goes_memory s t (Err e) d) el i c
+    stopped_after {T = Unit {0}} x s log log' n n' k k' (Err e) e refl (goes_memory s t (Err e) d) el i c

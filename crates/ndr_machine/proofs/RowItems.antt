@@ -1,6 +1,6 @@
 -- Items of rows of numbers, noted one after the other.
 -- `o` is an order, `p` a primitive, `h` a home, `os` are octets, `n`, `k`, `i` numbers of numbers, `g` is a log.
-use Rattle.std.proofs.Common.{◌≡◌, ◌<◌, ◌≤◌, ℕ, ◌+◌, ◌-◌, ◌*◌, zero, suc, ℤ, Bool, true, false, List, [], ◌∷◌, ◌++◌, length, take, drop, Result, IsErrAnd, refl, sym, ap, ap₂, ◌∙◌, subst, arith, length-append}
+use Rattle.std.proofs.Common.{◌≡◌, ℕ, ◌+◌, ◌-◌, ◌*◌, zero, suc, ℤ, Bool, true, false, List, [], ◌∷◌, ◌++◌, length, take, drop, refl, sym, ap, ap₂, ◌∙◌, arith, length-append}
 use Rattle.std.proofs.lemmas.List.{drop-drop}
 use Rattle.nd_base.specs.declared.octets.Order.{Order}
 use Rattle.nd_types.specs.declared.types.Primitive.{Primitive}
@@ -10,15 +10,10 @@ use Rattle.nd_value.specs.Logged.{Logged, noted, noted_by}
 use Rattle.nd_value.specs.declared.item.Home.{Home}
 use Rattle.nd_value.specs.declared.item.Item.{Item}
 use Rattle.nd_value.specs.declared.item.ItemKind.TheVariants as item
-use Rattle.nd_flat.specs.FlatForm.{row_values, num_flats}
 use Rattle.ndr_steps.specs.Steps.{State}
 use Rattle.ndr_steps.specs.StepItems.{item_here}
 use Rattle.ndr_runs.specs.Rows.{row_items}
-use Rattle.ndr_state.specs.Notes.{notes_seen, all_noted, number_ahead}
-use Rattle.ndr_state.specs.declared.fault.DecodeFault.{DecodeFault}
-use Rattle.ndr_state.specs.declared.fault.DecodeFault.TheVariants as fault
-use Rattle.ndr_machine.specs.Notes.{IsRowPart, RowNoted}
-use Rattle.ndr_machine.proofs.Noting.{memory_on}
+use Rattle.ndr_state.specs.Notes.{all_noted, number_ahead}
 
 -- ## Logs
 
@@ -26,11 +21,14 @@ pub all_noted_more : (xs : List Item) (x : Item) (g : Logged) → all_noted (xs 
 all_noted_more [] x g = refl
 all_noted_more (y ∷ ys) x g = all_noted_more ys x (noted y g)
 
+abbrev with_keeps : Bool → Logged → Logged
+with_keeps b g = record { keeps = b; items = g.items }
+
 -- a log that keeps nothing stays as it is
 pub nothing_kept : (xs : List Item) (g : Logged) → g.keeps ≡ false → all_noted xs g ≡ g
 nothing_kept [] g e = refl
 nothing_kept (x ∷ xs) g e =
-    let same : noted x g ≡ g = ap (λ b. noted_by b x g.items) e ∙ ap (λ b. record { keeps = b; items = g.items }) (sym e) in
+    let same : noted x g ≡ g = ap (λ (b : Bool). noted_by b x g.items) e ∙ ap (λ (b : Bool). with_keeps b g) (sym e) in
     ap (all_noted xs) same ∙ nothing_kept xs g e
 
 keeps_by : (b : Bool) (x : Item) (xs : List Item) → length (noted_by b x xs).items ≡ length xs → b ≡ false
@@ -85,15 +83,24 @@ module _ (o : Order) (p : Primitive) (h : Home) where
           let k : to - i * wide ≡ width p = omega (arith, et, ew) in
           let d : i * wide ≡ i * width p = ap (λ w. i * w) ew in
           let value : z' ≡ value_of_octets o p (take (width p) (drop (i * width p) os)) =
-              ez' ∙ ez ∙ ap₂ (λ x y. value_of_octets o p (take x (drop y os))) k d in
+          ez' ∙ ez ∙ ap₂ (λ x y. value_of_octets o p (take x (drop y os))) k d in
           let here : number_ahead h s i wide z' ≡ number_item (at + i * width p) (node + i) (drop (i * width p) os) =
-              ap₂ (λ x y. item_here h (x + i * wide) item.Num wide z' (y + i)) ea en
-              ∙ ap₂ (λ w z. item_here h (at + i * w) item.Num w z (node + i)) ew value in
+          ap₂ (λ x y. item_here h (x + i * wide) item.Num wide z' (y + i)) ea en
+          ∙ ap₂ (λ w z. item_here h (at + i * w) item.Num w z (node + i)) ew value in
           let one : suc i ≡ i + 1 = omega arith in
           el ∙ ap₂ noted here n.log_is ∙ sym (all_noted_more (row_items o p h at node i os) (number_item (at + i * width p) (node + i) (drop (i * width p) os)) log)
           ∙ ap (λ xs. all_noted xs log) (sym (row_items_more at node i os)) ∙ ap (λ j. all_noted (row_items o p h at node j os) log) one;
       steps_are = let e = n.steps_are in omega (arith, e, es);
     }
+
+    -- the first one, as the code reads it
+    pub first_noted : (s : State) (wide : ℕ) (z z' : ℤ) (log log' : Logged) (steps steps' : ℕ) → s.at ≡ at → length s.nodes ≡ node → wide ≡ width p
+        → z ≡ value_of_octets o p (take wide os) → z' ≡ z → log' ≡ noted (number_ahead h s 0 wide z') log → steps' ≡ steps + 1 → IsRowNoted 1 log log' steps steps'
+    first_noted s wide z z' log log' steps steps' ea en ew ez ez' el es =
+        let size : wide ≡ wide - 0 * wide = omega arith in
+        let from : 0 ≡ 0 * wide = omega arith in
+        number_noted s 0 wide wide z z' log log log' steps steps steps' ea en ew (omega arith)
+        (ez ∙ ap₂ (λ (x y : ℕ). value_of_octets o p (take x (drop y os))) size from) ez' el es (row_begins log steps)
 
     -- all of them
     pub row_noted : (i n : ℕ) (log log' : Logged) (steps steps' : ℕ) → i ≡ n → IsRowNoted i log log' steps steps'
@@ -101,36 +108,14 @@ module _ (o : Order) (p : Primitive) (h : Home) where
     row_noted i n log log' steps steps' e r =
         (r.log_is ∙ ap (λ j. all_noted (row_items o p h at node j os) log) e, let s = r.steps_are in omega (arith, s, e))
 
-    -- memory was refused at the next
-    pub row_stopped : (i n : ℕ) (log log' log'' : Logged) (steps steps' steps'' k k' : ℕ) (r : Result (Unit {0}) DecodeFault) (e : DecodeFault)
-        → IsErrAnd r (λ y. y ≡ e) → e ≡ fault.Memory → i ≤ n → log'' ≡ log' → steps'' ≡ steps' → IsRowNoted i log log' steps steps'
-        → RowNoted o p h at node n os (notes_seen log log'' steps steps'' k k') r
-    row_stopped i n log log' log'' steps steps' steps'' k k' r e h m le el es row =
-        subst (λ (y : Result (Unit {0}) DecodeFault). RowNoted o p h at node n os (notes_seen log log'' steps steps'' k k') y) (sym (memory_on r e h m))
-        (record { some = i; few = le; log = el ∙ row.log_is; steps = let s = row.steps_are in omega (arith, s, es) })
-
     -- nothing is kept, and the others are counted
     pub row_counted : (n more : ℕ) (log log' : Logged) (steps steps' steps'' : ℕ) → n ≡ more + 1 → length log'.items ≡ length log.items
         → steps'' ≡ steps' + more → IsRowNoted 1 log log' steps steps' → IsRowNoted n log log' steps steps''
     row_counted n more log log' steps steps' steps'' en el es r =
         let x : Item = number_item at node os in
-        let keeps : log.keeps ≡ false = keeps_nothing x log (ap (λ g. length g.items) (sym r.log_is) ∙ el) in
+        let keeps : log.keeps ≡ false = keeps_nothing x log (ap (λ (g : Logged). length g.items) (sym r.log_is) ∙ el) in
         let all : (xs : List Item) → all_noted xs log ≡ log = λ xs. nothing_kept xs log keeps in
         record {
           log_is = r.log_is ∙ all (row_items o p h at node 1 os) ∙ sym (all (row_items o p h at node n os));
           steps_are = let s = r.steps_are in omega (arith, s, es, en);
         }
-
--- ## Octets and nodes
-
-within_by : (i n w d : ℕ) → n ≡ i + 1 + d → i * w + w ≤ n * w
-within_by i n w d e = let m : n * w ≡ (i + 1 + d) * w = ap (λ k. k * w) e in omega (arith, m)
-
--- the octets of the number at a place are there
-pub number_within : (i n w : ℕ) → i < n → i * w + w ≤ n * w
-number_within i n w h = within_by i n w (n - (i + 1)) (omega (arith, h))
-
--- a row has as many nodes as numbers
-pub row_count : (o : Order) (p : Primitive) (n : ℕ) (os : List ℕ) → length (num_flats (row_values o p n os)) ≡ n
-row_count o p zero os = refl
-row_count o p (suc n) os = ap suc (row_count o p n (drop (width p) os))

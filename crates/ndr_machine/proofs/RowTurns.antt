@@ -57,7 +57,7 @@ whole_numbers Hyper n count h = record { fits = omega (arith, h); rest = omega (
 whole_numbers UnsignedHyper n count h = record { fits = omega (arith, h); rest = omega (arith, h); fewer = omega (arith, h); next = omega (arith, h) }
 
 -- as many numbers take as many octets
-scaled : (p : Primitive) (m count : ℕ) → m ≤ count → m * width p ≤ count * width p
+pub scaled : (p : Primitive) (m count : ℕ) → m ≤ count → m * width p ≤ count * width p
 scaled Boolean m count h = omega (arith, h)
 scaled Char m count h = omega (arith, h)
 scaled Byte m count h = omega (arith, h)
@@ -128,9 +128,8 @@ row_left code p n pc (frame.Record back first) i = i
 row_left code p n pc (frame.Elements left run back) i = i.0
 
 module _ (values : List EnumList) (order : Order) (code : List Instr) (h : Home) (s0 : State) (p : Primitive) (of : TypeId) (count : ℕ)
-  (there : slice_get code s0.pc ≡ Some (op.Num of)) (is : prim_of of.0 ≡ p) (row : IsInRow code (count - 1) s0.pc p s0.top) (aligned : s0.at % width p ≡ 0)
-  (within : s0.at + count * width p ≤ STREAM_LIMIT) where
-
+    (there : slice_get code s0.pc ≡ Some (op.Num of)) (is : prim_of of.0 ≡ p) (row : IsInRow code (count - 1) s0.pc p s0.top) (aligned : s0.at % width p ≡ 0)
+    (within : s0.at + count * width p ≤ STREAM_LIMIT) where
   abbrev Comes : List ℕ → List Item → State → Type 0
   Comes fetched noted s = Reaches values order code h s0 fetched noted s
 
@@ -209,18 +208,20 @@ module _ (values : List EnumList) (order : Order) (code : List Instr) (h : Home)
         let r : Comes front (row_noted (suc m) front) (row_read order p (suc m) front s0) = read_comes m front few (octets_taken k os octets) size in
         let safe_here : IsSafe code (row_read order p (suc m) front s0) = safe front (row_noted (suc m) front) (row_read order p (suc m) front s0) r in
         let t : ticks (row_noted (suc m) front) ≡ suc m = row_ticks order p h s0.at (length s0.nodes) (suc m) front in
-        let same : row_noted (suc m) front ≡ row_noted (suc m) os = items_taken order p h s0.at (length s0.nodes) (suc m) k os (omega arith) in
-        (record {
-          fetched = front;
-          noted = row_noted (suc m) front;
-          os = drop k os;
-          s = row_read order p (suc m) front s0;
-          i = safe_here.i;
-          reached = r;
-          there = safe_here.there;
-          octets = octets_left k os octets;
-          left = consumed k;
-        }, (log ∙ ap (λ xs. all_noted xs n.log) (sym same), omega (arith, t, steps)))
+        let same : row_noted (suc m) front ≡ row_noted (suc m) os = items_taken order p h s0.at (length s0.nodes) (suc m) k os (omega arith) in (
+          record {
+            fetched = front;
+            noted = row_noted (suc m) front;
+            os = drop k os;
+            s = row_read order p (suc m) front s0;
+            i = safe_here.i;
+            reached = r;
+            there = safe_here.there;
+            octets = octets_left k os octets;
+            left = consumed k;
+          },
+          (log ∙ ap (λ xs. all_noted xs n.log) (sym same), omega (arith, t, steps)),
+        )
 
     -- ## The octets did not all come
 
@@ -261,10 +262,13 @@ module _ (values : List EnumList) (order : Order) (code : List Instr) (h : Home)
           let left_size : length (drop (m * width p) os) ≡ length os - m * width p = length-drop (m * width p) os in
           let at_is : (due m front).at ≡ s0.at + length front = due_at m front size in
           let front_size : length front ≡ m * width p = size in
-          let place_is : place ≡ s0.at + length os = f.1.0 in
-          (stopped,
-          ((omega (arith, w_is, left_size, rest), omega (arith, w_is, at_is, front_size, next, within)),
-          (omega (arith, place_is, at_is, front_size, left_size, fit), (f.1.1.0, (f.1.1.1, logged)))))
+          let place_is : place ≡ s0.at + length os = f.1.0 in (
+            stopped,
+            (
+              (omega (arith, w_is, left_size, rest), omega (arith, w_is, at_is, front_size, next, within)),
+              (omega (arith, place_is, at_is, front_size, left_size, fit), (f.1.1.0, (f.1.1.1, logged))),
+            ),
+          )
       row_stopped fewer rest next (fault.Bad place _) f = absurd f
       row_stopped fewer rest next fault.ReadFault f = (cut_off, f)
       row_stopped fewer rest next fault.Memory f = cut_off

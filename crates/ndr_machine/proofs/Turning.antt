@@ -63,18 +63,20 @@ module _ (values : List EnumList) (order : Order) (code : List Instr) (h : Home)
         → IsNotedPart (step values order os i s0) (step_items order h os i s0) n → EndsCutOff values order code h s0 source n s1
     cut_off safe cells (nothing_noted same idle) = (here there octets left, nothing_counted same idle)
     cut_off safe cells (all_are_noted s e log counted) =
-        let safe_here : IsSafe code s = safe os (step_items order h os i s0) s (stepped s e) in
-        (record {
-          fetched = os;
-          noted = step_items order h os i s0;
-          os = [];
-          s = s;
-          i = safe_here.i;
-          reached = stepped s e;
-          there = safe_here.there;
-          octets = tt;
-          left = subst (Consumes source.left source.left_now) (sym (append-nil os)) left;
-        }, (log, omega (arith, cells, counted)))
+        let safe_here : IsSafe code s = safe os (step_items order h os i s0) s (stepped s e) in (
+          record {
+            fetched = os;
+            noted = step_items order h os i s0;
+            os = [];
+            s = s;
+            i = safe_here.i;
+            reached = stepped s e;
+            there = safe_here.there;
+            octets = tt;
+            left = subst (Consumes source.left source.left_now) (sym (append-nil os)) left;
+          },
+          (log, omega (arith, cells, counted)),
+        )
 
     pub step_taken : (r : Result Progress DecodeFault) → ((fetched : List ℕ) (noted : List Item) (s : State) → Reaches values order code h s0 fetched noted s → IsSafe code s)
         → n.cells ≡ length s0.cells → n.cells_now ≡ length s1.cells → Comes (step values order os i s0) r s1

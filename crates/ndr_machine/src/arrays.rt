@@ -1,5 +1,5 @@
 // Arrays, and maximum counts before a home's value.
-ghost use Rattle.std.specs.Prelude.{◌≡◌, ◌<◌, ◌+◌, ◌^◌, None, length, pos, [], ◌∷◌, OnOk};
+ghost use Rattle.std.specs.Prelude.{◌≡◌, ◌<◌, ◌+◌, ◌^◌, None, length, pos, [], ◌∷◌, OnOk, OnErr};
 ghost use Rattle.nd_value.specs.Tree as tree;
 ghost use Rattle.ndr_steps.specs.Steps.{goes, elements, with_node, past, vary_by, hoist_by, with_max, done_after};
 ghost use Rattle.ndr_steps.specs.Steps as phase;
@@ -12,8 +12,8 @@ use nd_base::{Ledger, Order, Steps};
 use nd_flat::Seen;
 use nd_grammar::Reason;
 use nd_value::{ItemKind, ItemLog};
-use ndr_steps::Frame;
 use ndr_state::{DecodeFault, Machine, Phase, read_count};
+use ndr_steps::Frame;
 
 // `fixed` and `conf`
 pub(crate) fn array(machine: &mut Machine, count: u32, run: u32) -> Result<(), DecodeFault>
@@ -65,8 +65,8 @@ pub(crate) fn varying<L: Ledger>(
     requires code { machine.old.pc < 2 ^ 32 }
     requires fits { machine.old.at + 4 < 2 ^ 32 }
     requires few { machine.old.count + 1 < 2 ^ 32 }
-    ensures does { Does (vary_by order octets.now (phase_of machine.old.phase) limit run (state_of machine.old)) result (state_of machine.new) }
-    ensures noted { Noted (vary_by order octets.now (phase_of machine.old.phase) limit run (state_of machine.old)) (vary_items order machine.old.home octets.now (phase_of machine.old.phase) (state_of machine.old)) (notes_seen items.old items.new (L.number steps.old) (L.number steps.new) machine.old.cells machine.new.cells) result }
+    ensures does { Does (vary_by [] order octets.now (phase_of machine.old.phase) limit run (state_of machine.old)) result (state_of machine.new) }
+    ensures noted { Noted (vary_by [] order octets.now (phase_of machine.old.phase) limit run (state_of machine.old)) (vary_items order machine.old.home octets.now (phase_of machine.old.phase) (state_of machine.old)) (notes_seen items.old items.new (L.number steps.old) (L.number steps.new) machine.old.cells machine.new.cells) result }
     ensures outside { OnOk result (outside machine.new ≡ outside machine.old) }
 {
     let number = read_count(order, octets);
@@ -74,7 +74,7 @@ pub(crate) fn varying<L: Ledger>(
         Phase::OffsetRead(offset) => actual(machine, offset, number, limit, run, items, steps),
         Phase::Begun | Phase::GapRead | Phase::CountRead(_) => {
             count_read(
-            machine,
+                machine,
                 ItemKind::Offset,
                 number,
                 Phase::OffsetRead(number),
@@ -100,6 +100,8 @@ pub(crate) fn count_read<L: Ledger>(
     ensures outside { OnOk result (outside machine.new ≡ outside machine.old) }
     ensures count { machine.new.count ≡ machine.old.count }
     ensures pc { machine.new.pc ≡ machine.old.pc }
+    ensures unnoted { OnErr result (items.new ≡ items.old) }
+    ensures idle { OnErr result (steps.new ≡ steps.old) }
     ensures memory { IfErr result (λ e. e ≡ fault.Memory) }
 {
     machine.note(kind, 4, i128::from(number), items, steps)?;
@@ -153,13 +155,15 @@ pub(crate) fn hoist<L: Ledger>(
     requires wide { IsHoisted (phase_of machine.old.phase) octets.now }
     requires code { machine.old.pc < 2 ^ 32 }
     requires fits { machine.old.at + length octets.now < 2 ^ 32 }
-    ensures does { Does (hoist_by order octets.now (phase_of machine.old.phase) (state_of machine.old)) result (state_of machine.new) }
-    ensures noted { Noted (hoist_by order octets.now (phase_of machine.old.phase) (state_of machine.old)) (hoist_items order machine.old.home octets.now (phase_of machine.old.phase) (state_of machine.old)) (notes_seen items.old items.new (L.number steps.old) (L.number steps.new) machine.old.cells machine.new.cells) result }
+    ensures does { Does (hoist_by [] order octets.now (phase_of machine.old.phase) (state_of machine.old)) result (state_of machine.new) }
+    ensures noted { Noted (hoist_by [] order octets.now (phase_of machine.old.phase) (state_of machine.old)) (hoist_items order machine.old.home octets.now (phase_of machine.old.phase) (state_of machine.old)) (notes_seen items.old items.new (L.number steps.old) (L.number steps.new) machine.old.cells machine.new.cells) result }
     ensures outside { OnOk result (outside machine.new ≡ outside machine.old) }
 {
     match machine.phase {
         Phase::GapRead => maximum(machine, read_count(order, octets), items, steps),
-        Phase::Begun | Phase::OffsetRead(_) | Phase::CountRead(_) => hoist_gap(machine, octets, items, steps),
+        Phase::Begun | Phase::OffsetRead(_) | Phase::CountRead(_) => hoist_gap(
+            machine, octets, items, steps,
+        ),
     }
 }
 

@@ -2,15 +2,15 @@
 ghost use Rattle.std.specs.Prelude.{◌≡◌, ◌<◌, ◌≤◌, ◌+◌, ◌-◌, ◌^◌, ◌∷◌, [], length, take, drop, slice_get, option_map, IfSome, IfOk, IfErr, OnOk};
 ghost use Rattle.nd_value.specs.Agreement.{wanted_by};
 ghost use Rattle.nd_flat.specs.FlatForm.{IsKeepableNumber};
-ghost use Rattle.ndr_steps.specs.Steps.{goes, check_in, checked, first_found, first_number, with_fresh, joined_by, is_owing, max_in, offset_in, actual_in, tag_in, place_of, place_in};
+ghost use Rattle.ndr_steps.specs.Steps.{goes, next, check_in, checked, first_found, first_number, with_fresh, joined_by, is_owing, max_in, offset_in, actual_in, tag_in, place_of, place_in};
 ghost use Rattle.ndr_state.specs.Seen.{state_of, Does, agreement_of, owed_of, HasGrown, outside};
 ghost use Rattle.ndr_state.specs.declared.fault.DecodeFault.TheVariants as fault;
 ghost use Rattle.ndr_machine.specs.Parts.{IsTried, disagreement, member_checked, count_place, tag_place, with_agreement};
 
 use nd_grammar::Reason;
 use nd_types::Attr;
-use ndr_steps::{First, Frame, Member};
 use ndr_state::{DecodeFault, Machine, Owed, Wanted};
+use ndr_steps::{First, Frame, Member};
 
 /// Tries an agreement in a node of a home whose maximum count is at a place, if it has one. Takes no memory.
 pub fn try_in(wanted: Wanted, of: First, max_at: Option<u32>) -> Result<(), DecodeFault>
@@ -33,7 +33,12 @@ pub fn try_in(wanted: Wanted, of: First, max_at: Option<u32>) -> Result<(), Deco
 }
 
 // `check`: an agreement of a member with another of the same struct, both by their numbers.
-pub(crate) fn check(machine: &mut Machine, attr: Attr, field: u32, var: u32) -> Result<(), DecodeFault>
+pub(crate) fn check(
+    machine: &mut Machine,
+    attr: Attr,
+    field: u32,
+    var: u32,
+) -> Result<(), DecodeFault>
     requires code { machine.old.pc < 2 ^ 32 }
     ensures does { Does (check_in machine.old.top attr field var (state_of machine.old)) result (state_of machine.new) }
     ensures outside { OnOk result (outside machine.new ≡ outside machine.old) }
@@ -121,26 +126,27 @@ fn check_wanted(
         return Ok(());
     };
     if is_pointer(of) {
-        join(machine, member.pending, wanted)?;
-    } else {
-        try_in(wanted, of, machine.max_at)?;
+        return join(machine, member.pending, wanted);
     }
+    try_in(wanted, of, machine.max_at)?;
     machine.skip();
     Ok(())
 }
 
-// Joins an agreement to the pending referent of this number.
+// Joins an agreement to the pending referent of this number, and goes to the next instruction.
 fn join(machine: &mut Machine, pending: usize, wanted: Wanted) -> Result<(), DecodeFault>
-    ensures does { Does (goes (with_fresh (joined_by (agreement_of wanted ∷ []) (state_of machine.old).fresh pending) (state_of machine.old))) result (state_of machine.new) }
-    ensures pc { machine.new.pc ≡ machine.old.pc }
+    requires code { machine.old.pc < 2 ^ 32 }
+    ensures does { Does (goes (next (with_fresh (joined_by (agreement_of wanted ∷ []) (state_of machine.old).fresh pending) (state_of machine.old)))) result (state_of machine.new) }
     ensures outside { OnOk result (outside machine.new ≡ outside machine.old) }
 {
-    if pending >= machine.fresh.len() {
+    if pending >= machine.fresh.as_slice().len() {
+        machine.skip();
         return Ok(());
     }
     let owed = machine.fresh[pending];
     let joined = with_one(&mut machine.wanted, owed, wanted)?;
     machine.fresh[pending] = joined;
+    machine.skip();
     Ok(())
 }
 
@@ -253,8 +259,8 @@ fn found_in(attr: Attr, of: First) -> i128
 // The maximum count, the offset and the actual count of a node.
 fn counts_in(of: First) -> (u32, u32, u32)
     ensures max { result.0 ≡ max_in of }
-    ensures offset { result.1.0 ≡ offset_in of }
-    ensures actual { result.1.1 ≡ actual_in of }
+    ensures offset { result.1 ≡ offset_in of }
+    ensures actual { result.2 ≡ actual_in of }
 {
     match of {
         First::Counted {

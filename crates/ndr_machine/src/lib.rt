@@ -10,8 +10,6 @@ mod pointers;
 mod rows;
 mod running;
 mod steps;
-#[cfg(test)]
-mod tests;
 mod texts;
 mod unions;
 

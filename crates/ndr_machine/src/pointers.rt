@@ -163,8 +163,8 @@ fn name<L: Ledger>(
 fn owe(machine: &mut Machine, to: To, cell: Option<CellId>) -> Result<(), DecodeFault>
     requires few { machine.old.count + 1 < 2 ^ 32 }
     ensures does { Does (goes (owing to.class to.to to.run (cell_number cell) (state_of machine.old))) result (state_of machine.new) }
-    ensures at { machine.new.at ≡ machine.old.at }
-    ensures pc { machine.new.pc ≡ machine.old.pc }
+    ensures at { OnOk result (machine.new.at ≡ machine.old.at) }
+    ensures pc { OnOk result (machine.new.pc ≡ machine.old.pc) }
     ensures outside { OnOk result (outside machine.new ≡ outside machine.old) }
 {
     machine.add(&Seen::Ptr(cell), None)?;

@@ -18,8 +18,8 @@ use nd_value::{ItemKind, ItemLog};
 use ndr_code::Instr;
 use ndr_intake::PIECE;
 use ndr_prim::{read_num, width_of};
-use ndr_steps::Frame;
 use ndr_state::{DecodeFault, Machine, Phase, prim_of};
+use ndr_steps::Frame;
 
 /// How many numbers may be read in one go at a `num`: as many elements as are left of an array whose elements are all of this primitive, and as a
 /// piece and the limit of a stream have room for; one anywhere else. Takes no memory.

@@ -53,7 +53,9 @@ pub fn run<S: Source, L: Ledger>(
     // No stream within the limit has so many turns.
     for _turn in 0..u64::MAX {
         let instr = code[machine.pc];
-        match take_turn(machine, order, code, instr, values, intake, source, items, steps) {
+        match take_turn(
+            machine, order, code, instr, values, intake, source, items, steps,
+        ) {
             Ok(Progress::More) => {}
             Ok(Progress::Whole) => return Ok(()),
             Err(fault) => return Err(fault),
@@ -82,13 +84,19 @@ fn take_turn<S: Source, L: Ledger>(
     ensures later { S.Source.faults source.old ≤ S.Source.faults source.new }
 {
     let Instr::Num { of } = instr else {
-        return take_one(machine, order, code, instr, values, intake, source, items, steps);
+        return take_one(
+            machine, order, code, instr, values, intake, source, items, steps,
+        );
     };
     let count = row_len(machine, code, prim_of(of.0));
     if count == 1 {
-        return take_one(machine, order, code, instr, values, intake, source, items, steps);
+        return take_one(
+            machine, order, code, instr, values, intake, source, items, steps,
+        );
     }
-    take_row(machine, order, code, values, of, count, intake, source, items, steps)
+    take_row(
+        machine, order, code, values, of, count, intake, source, items, steps,
+    )
 }
 
 // One step.
@@ -197,7 +205,15 @@ fn note_whole<L: Ledger>(
     if count == 0 {
         return Ok(());
     }
-    note_row(machine, order, &octets[..count * wide], prim, count as u32, items, steps)
+    note_row(
+        machine,
+        order,
+        &octets[..count * wide],
+        prim,
+        count as u32,
+        items,
+        steps,
+    )
 }
 
 /// What a fault of the intake says of a stream. Takes no memory.

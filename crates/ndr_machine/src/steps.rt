@@ -8,9 +8,9 @@ ghost use Rattle.ndr_machine.specs.Parts.{HasWanted, arm_tried, reads, Acts, Act
 ghost use Rattle.ndr_steps.specs.StepItems.{arm_items, step_items};
 ghost use Rattle.ndr_state.specs.Notes.{Noted, notes_seen};
 
-use crate::enumerators::carrier_of;
 use crate::arrays::{align, array, hoist, varying};
 use crate::checks::check;
+use crate::enumerators::carrier_of;
 use crate::numbers::{context, enumerated, number};
 use crate::pointers::{To, pointer};
 use crate::texts::text;

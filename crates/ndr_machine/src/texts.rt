@@ -27,8 +27,8 @@ pub(crate) fn text<L: Ledger>(
     requires code { machine.old.pc < 2 ^ 32 }
     requires fits { machine.old.at + length octets.now < 2 ^ 32 }
     requires few { machine.old.count + 1 < 2 ^ 32 }
-    ensures does { Does (text_by order octets.now (phase_of machine.old.phase) limit (state_of machine.old)) result (state_of machine.new) }
-    ensures noted { Noted (text_by order octets.now (phase_of machine.old.phase) limit (state_of machine.old)) (text_items order machine.old.home octets.now (phase_of machine.old.phase) (state_of machine.old)) (notes_seen items.old items.new (L.number steps.old) (L.number steps.new) machine.old.cells machine.new.cells) result }
+    ensures does { Does (text_by [] order octets.now (phase_of machine.old.phase) limit (state_of machine.old)) result (state_of machine.new) }
+    ensures noted { Noted (text_by [] order octets.now (phase_of machine.old.phase) limit (state_of machine.old)) (text_items order machine.old.home octets.now (phase_of machine.old.phase) (state_of machine.old)) (notes_seen items.old items.new (L.number steps.old) (L.number steps.new) machine.old.cells machine.new.cells) result }
     ensures outside { OnOk result (outside machine.new ≡ outside machine.old) }
 {
     match machine.phase {
@@ -61,7 +61,14 @@ fn text_offset<L: Ledger>(
             reason: Reason::TextOffset,
         });
     }
-    count_read(machine, ItemKind::Offset, offset, Phase::OffsetRead(0), items, steps)
+    count_read(
+        machine,
+        ItemKind::Offset,
+        offset,
+        Phase::OffsetRead(0),
+        items,
+        steps,
+    )
 }
 
 // The actual count of a string.
@@ -90,7 +97,7 @@ fn text_count<L: Ledger>(
         });
     }
     count_read(
-            machine,
+        machine,
         ItemKind::Actual,
         count,
         Phase::CountRead(count - 1),

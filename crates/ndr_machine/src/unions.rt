@@ -15,8 +15,8 @@ use nd_types::TypeId;
 use nd_value::{ItemKind, ItemLog};
 use ndr_code::EnumLists;
 use ndr_prim::width_of;
-use ndr_steps::Frame;
 use ndr_state::{DecodeFault, Machine, read_value};
+use ndr_steps::Frame;
 
 // `tag`: the tag is known, and its item is whole where its arm is.
 pub(crate) fn tag(

@@ -1,0 +1,23 @@
+use Rattle.std.proofs.Common.{ap, refl, sym, ◌∙◌}
+use Rattle.std.specs.Prelude.{is_ok}
+use Rattle.ndr_steps.specs.Steps.{goes}
+use Rattle.ndr_state.specs.Seen.{state_of}
+use Rattle.ndr_machine.proofs.Owing.{owing_is, spans_pushed}
+use Rattle.ndr_machine.proofs.pointers.owe.Goals as goal
+
+pub returns-clause-does : goal.returns-clause-does
+returns-clause-does c =
+    let m = c.add.new.self in
+    ap goes (owing_is (state_of c.args.machine.now) (state_of m) m.wanted.items m.fresh.items c.push.new.self.items c.args.to.class c.args.to.to c.args.to.run c.args.cell
+    c.in_ok-add.ensures.ok refl c.in-Ok.ensures.items)
+
+pub invariant_of-machine : goal.invariant_of-machine
+invariant_of-machine c =
+    let m = c.add.new.self in
+    record {
+      keepable = m.keepable;
+      small = m.small;
+      spans = spans_pushed m.wanted.items m.fresh.items c.push.new.self.items c.args.to.class c.args.to.to c.args.to.run c.args.cell (is_ok c.push.result) c.push.ensures.items m.spans;
+      counted = m.counted;
+      numbered = m.numbered;
+    }
