@@ -85,7 +85,7 @@ module _ (w : Setting) (side : IsLegalSide w) (order : Order) (fetched : List �
 
   -- what the value is, and what is kept after it
   module _ (source : SourceSeen) (notes : NotesSeen) (x1 : State)
-    (within : (more : List ℕ) (items : List Item) (y : State) → Reaches values order code here x more items y → y.at ≤ STREAM_LIMIT) (ends : EndsWhole values order code here x source notes x1) where
+      (within : (more : List ℕ) (items : List Item) (y : State) → Reaches values order code here x more items y → y.at ≤ STREAM_LIMIT) (ends : EndsWhole values order code here x source notes x1) where
     abbrev pub read : HomeWhole order w.table here to.0 (direct + 1) target fetched noted (length x.cells) source (decoding_of notes) x1
     read = whole_comes values order code w.table here to.0 32 (direct + 1) target planned fetched noted x direct_good source notes x1 within ends
 

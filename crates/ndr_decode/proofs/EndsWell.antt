@@ -24,7 +24,7 @@ decoded_told w legal order source t x r =
     let steps = r.took.steps in
     let many = closed_length x.machine.builder in
     law.decoded_report w legal order source t r.octets r.all r.seen r.items (closed x.machine.builder) x.machine.at (r.progress ∙ ap (λ k. going k r.seen) (sym r.at)) r.graph r.noted_are r.took.left r.at r.took.logged
-        (omega (arith, steps, many))
+    (omega (arith, steps, many))
 
 -- after a call that went on
 pub read_after : (w : Setting) (side : IsLegalSide w) (order : Order) (fetched : List ℕ) (noted : List Item) (cells : ℕ) (a b c : SourceSeen) (s t u : DecodingSeen) → Follows a b c s t u → (x : Stream) (n : ℕ)

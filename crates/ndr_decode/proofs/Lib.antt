@@ -1,7 +1,7 @@
+pub mod AtRoots
 pub mod DirectReads
 pub mod EndsWell
 pub mod HomeComes
-pub mod KeepableNumbers
 pub mod OwedReads
 pub mod PaidHomes
 pub mod ParameterEnds
@@ -14,5 +14,4 @@ pub mod Reported
 pub mod RootReads
 pub mod Standing
 pub mod Tried
-pub mod Twice
 pub mod WholeStays

@@ -64,13 +64,13 @@ module _ (w : Setting) (side : IsLegalSide w) (order : Order) (fetched : List �
         let is_cell : p.cell ≡ Some c.0 = sym cell_is ∙ ap cell_number some in
         let is_full : p.class ≡ Full = sym class_is ∙ full in
         let (then, so, ag) = passes_read w side order fetched noted direct (with_next o x) s seen p ps n st.agrees c.0 is_cell is_full z there
-            (subst (λ (ws : List Agreement). AreTried ws z (Ok u)) agreements_are t) in
+        (subst (λ (ws : List Agreement). AreTried ws z (Ok u)) agreements_are t) in
         went_nowhere left ended faults g k w side order fetched noted direct x then so ps n (record { agrees = ag; within = st.within; whole = st.whole })
     read_reads c some full z there (Err (fault.Bad place why)) t =
         let is_cell : p.cell ≡ Some c.0 = sym cell_is ∙ ap cell_number some in
         let is_full : p.class ≡ Full = sym class_is ∙ full in
         let after = disagrees w side order fetched noted direct (with_next o x) s seen p ps n st.agrees c.0 is_cell is_full z there
-            t.before t.a t.others (place, why) (sym agreements_are ∙ t.split) t.agree t.is in
+        t.before t.a t.others (place, why) (sym agreements_are ∙ t.split) t.agree t.is in
         refused_here left ended faults g k w side order fetched noted direct (with_next o x) s seen (p ∷ ps) n (cells_of x) x.machine.at place why
         (sym (length-map x.machine.builder.graph.cells (λ c. c.of))) st.agrees (not_cut t.a z.first z.max_at place why t.is) after
     read_reads c some full z there (Err fault.ReadFault) t = absurd t

@@ -6,7 +6,7 @@ use Rattle.std.proofs.lemmas.List.{append-nil, length-append}
 use Rattle.nd_base.specs.declared.octets.Order.{Order}
 use Rattle.nd_types.specs.declared.types.AttrVar.{AttrVar}
 use Rattle.nd_types.specs.declared.types.Side.{Side}
-use Rattle.nd_types.specs.declared.types.Side.TheVariants as side
+use Rattle.nd_types.specs.declared.types.Side.TheVariants as way
 use Rattle.nd_types.specs.Number.{AreOctets}
 use Rattle.nd_types.specs.Roots.{Root, root_index, roots_of}
 use Rattle.nd_value.specs.declared.item.Home.TheVariants as home
@@ -40,9 +40,9 @@ abbrev AreChecks : List Instr → Type 0
 AreChecks is = AllByRecursion (λ (i : Instr). is_check i ≡ true) is
 
 given_checks : (s : Side) (i : ℕ) (a : AttrVar) (v : Option ℕ) → AreChecks (given_check s i a v)
-given_checks side.Out i a (Some v) = (refl, tt)
-given_checks side.Out i a None = tt
-given_checks side.In i a v = tt
+given_checks way.Out i a (Some v) = (refl, tt)
+given_checks way.Out i a None = tt
+given_checks way.In i a v = tt
 
 one_checks : (s : Side) (asked : List Root) (i : ℕ) (a : AttrVar) (v : Option ℕ) → AreChecks (root_check s asked i a v)
 one_checks s asked i a (Some v) = (refl, tt)
@@ -87,7 +87,7 @@ module _ (w : Setting) (side : IsLegalSide w) (order : Order) (fetched : List �
   g = with_pipes s pipes
 
   abbrev checks : List Instr
-  checks = root_checks w.side (root_list w) (roots_of w.table side.In w.op) 0 (root_list w)
+  checks = root_checks w.side (root_list w) (roots_of w.table way.In w.op) 0 (root_list w)
 
   run : drop at code ≡ checks ++ op.Ret ∷ here.0
   run = here.1 ∙ append_assoc checks (op.Ret ∷ []) here.0
@@ -107,14 +107,14 @@ module _ (w : Setting) (side : IsLegalSide w) (order : Order) (fetched : List �
   pub parameters_hold : checks_fail b.read b.roots w.given (drop at code) ≡ None → TestsPass w order fetched noted direct b s seen (parameter_tests w s)
   parameters_hold e =
       subst (TestsPass w order fetched noted direct b s seen) tests
-      (run_passes w side order fetched noted direct b s seen pipes ag checks (op.Ret ∷ here.0) (all_are w.side (root_list w) (roots_of w.table side.In w.op) 0 (root_list w)) seen ag.keeps
+      (run_passes w side order fetched noted direct b s seen pipes ag checks (op.Ret ∷ here.0) (all_are w.side (root_list w) (roots_of w.table way.In w.op) 0 (root_list w)) seen ag.keeps
           (ap (checks_fail b.read b.roots w.given) (sym run) ∙ e))
 
   pub parameter_fails : (why : ℕ × Reason) → checks_fail b.read b.roots w.given (drop at code) ≡ Some why → IsRefusedAfter w order fetched noted (length b.cells) direct b.at why
   parameter_fails why e =
       let x : TestsStop w order fetched noted direct b s seen (parameter_tests w s) why =
       subst (λ ms. TestsStop w order fetched noted direct b s seen ms why) tests
-      (run_stops w side order fetched noted direct b s seen pipes ag checks (op.Ret ∷ here.0) (all_are w.side (root_list w) (roots_of w.table side.In w.op) 0 (root_list w)) refl seen ag.keeps why
+      (run_stops w side order fetched noted direct b s seen pipes ag checks (op.Ret ∷ here.0) (all_are w.side (root_list w) (roots_of w.table way.In w.op) 0 (root_list w)) refl seen ag.keeps why
           (ap (checks_fail b.read b.roots w.given) (sym run) ∙ e)) in
       let told : Told noted direct order fetched (home.Root (length s.roots)) x.after s.names b.cells b.numbers None 0 [] = x.keeps.told (home.Root (length s.roots)) (omega arith) in
       record {

@@ -128,9 +128,9 @@ module _ (w : Setting) (side : IsLegalSide w) (order : Order) (fetched : List �
           ∙ ap (λ u. kept_by m.at u s4.machine.builder s4.machine.referents s4.roots.items s4.cells.items) now_pending
           ∙ ap (λ u. kept_by m.at ((state_of m).fresh ++ pending_in x.wanted.items x.todo.items) u s4.machine.referents s4.roots.items s4.cells.items) built
           ∙ ap (λ u. kept_by m.at ((state_of m).fresh ++ pending_in x.wanted.items x.todo.items) m.builder u s4.roots.items s4.cells.items)
-            (cleared.referents ∙ ap (λ (q : Machine). q.referents) same_machine)
+          (cleared.referents ∙ ap (λ (q : Machine). q.referents) same_machine)
           ∙ ap (λ u. kept_by m.at ((state_of m).fresh ++ pending_in x.wanted.items x.todo.items) m.builder m.referents u s4.cells.items)
-            (homes.roots ∙ ends.others.roots ∙ keeps.roots)
+          (homes.roots ∙ ends.others.roots ∙ keeps.roots)
           ∙ ap (λ u. kept_by m.at ((state_of m).fresh ++ pending_in x.wanted.items x.todo.items) m.builder m.referents x.roots.items u) homes.cells
 
       all_agree : AllAgree k p.agreements
@@ -140,7 +140,7 @@ module _ (w : Setting) (side : IsLegalSide w) (order : Order) (fetched : List �
       referent_done =
           let (then, so, qs, agrees) =
           law.ends w side order fetched noted direct (with_next o x) s seen p ps n ag c.0 is_cell new hw.octets hw.all (noted ++ hw.items) (state_of m) hw.is hw.needed k kept all_agree
-              s3.cells.items is_kept (closed m.builder) filled in
+          s3.cells.items is_kept (closed m.builder) filled in
           record {
             octets = hw.octets;
             items = hw.items;

@@ -78,7 +78,7 @@ module _ (w : Setting) (side : IsLegalSide w) (order : Order) (fetched : List �
 
   -- what is kept after it
   module _ (source : SourceSeen) (notes : NotesSeen) (x1 : State)
-    (within : (more : List ℕ) (items : List Item) (y : State) → Reaches values order code here x more items y → y.at ≤ STREAM_LIMIT) (ends : EndsWhole values order code here x source notes x1) where
+      (within : (more : List ℕ) (items : List Item) (y : State) → Reaches values order code here x more items y → y.at ≤ STREAM_LIMIT) (ends : EndsWhole values order code here x source notes x1) where
     abbrev pub read : HomeWhole order w.table here r.of direct target fetched noted (length x.cells) source (decoding_of notes) x1
     read = root_whole source notes x1 within ends
 

@@ -140,7 +140,6 @@ module _ (o : Option (List ℕ)) (ended : Bool) (faults : Count) (g : Logged) (k
           none_left = λ t. absurd (other t);
         }
 
-
 -- an agreement is refused for what it says, and never for octets that do not come
 abbrev why_by : Bool → Option ℕ → ℤ → ℤ → Option (ℕ × Reason)
 why_by b p z y = if b then None else option_map (λ q. (q, reason.Disagrees z y)) p
@@ -150,6 +149,7 @@ not_cut a f m place why e t = go (int_eq a.wanted (first_found a.attr f)) (place
   where
     other : (q : ℕ) → ◌≡◌ {A = ℕ × Reason} (q, reason.Disagrees a.wanted (first_found a.attr f)) (place, why) → ⊥
     other q e = let x : reason.Disagrees a.wanted (first_found a.attr f) ≡ reason.Truncated = ap (λ (r : ℕ × Reason). r.1) e ∙ t in cc
+
     go : (b : Bool) (p : Option ℕ) → why_by b p a.wanted (first_found a.attr f) ≡ Some (place, why) → ⊥
     go true p e = cc
     go false None e = cc

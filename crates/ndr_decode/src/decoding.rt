@@ -80,9 +80,30 @@ pub fn decode<S: Source, L: Ledger>(
     let builder = Builder::begin(alloc, plan.tie.again(), op, side, given);
     let mut stream = Stream::begin(alloc, builder);
     let mut intake = Intake::new(alloc)?;
-    let found = read_roots(plan, op, side, order, &mut stream, &mut intake, source, items, steps)?;
+    let found = read_roots(
+        plan,
+        op,
+        side,
+        order,
+        &mut stream,
+        &mut intake,
+        source,
+        items,
+        steps,
+    )?;
     try_parameters(plan.code.as_slice(), found.checks as usize, &stream, given)?;
-    read_pipes(plan, op, side, order, found.line, &mut stream, &mut intake, source, items, steps)?;
+    read_pipes(
+        plan,
+        op,
+        side,
+        order,
+        found.line,
+        &mut stream,
+        &mut intake,
+        source,
+        items,
+        steps,
+    )?;
     Ok(finish(stream))
 }
 

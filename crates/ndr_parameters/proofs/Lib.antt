@@ -1,2 +1,3 @@
-mod Runs
-mod Together
+pub mod Runs
+pub mod Together
+pub mod Numbers
