@@ -458,7 +458,7 @@ not_four (BadValue path reason) e = cc
 not_four (BadRequest fault) e = cc
 
 apart : (n a b : ℕ) → n ≡ a → n ≡ b → (a ≡ b → ⊥) → ⊥
-apart n a b x y no = no (sym x ∙ y)
+apart n a b x y unlike = unlike (sym x ∙ y)
 
 module _ (x : Seen) (out notes : SinkSeen) (status : ℕ) (words : List (List ℕ)) (run : HasRun words x out notes status) where
   -- status 2 comes only for words that are no command
