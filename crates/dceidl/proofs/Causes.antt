@@ -13,6 +13,8 @@ use Rattle.nd_value.specs.Fitting.{setting_of}
 use Rattle.dceidl.specs.declared.ready.Ready.{Ready}
 use Rattle.text_grammar.specs.declared.TheConstants.{TEXT_LIMIT}
 use Rattle.dceidl.specs.declared.words.Reading.{Reading}
+use Rattle.dceidl.specs.declared.words.Reading.TheVariants.{Decode}
+use Rattle.ndr_printing.specs.Printed.{IsPrinted}
 use Rattle.dceidl.specs.declared.words.OrderWord.{OrderWord}
 use Rattle.dceidl.specs.declared.words.Writing.{Writing}
 use Rattle.dceidl.specs.declared.words.Writing.TheVariants.{Encode, Migrate}
@@ -90,6 +92,12 @@ take_whole zero [] h = refl
 take_whole zero (x ∷ xs) h = absurd (omega (arith, h))
 take_whole (suc n) [] h = refl
 take_whole (suc n) (x ∷ xs) h = ap (λ u. x ∷ u) (take_whole n xs (omega (arith, h)))
+
+-- what is printed of the octets is what the command makes of them
+pub read_is : (s : SourceSeen) (how : Reading) (w : Setting) (order : OrderWord) (named : Order) → named ≡ order_in order → (result : Result (List ℕ) Refusal)
+    → IfOk result (IsPrinted s w named) → IfOk result (IsRead s how w (order_in order))
+read_is s Decode w order named same (Ok made) printed = subst (λ o. IsPrinted s w o made) same printed
+read_is s how w order named same (Err e) printed = tt
 
 -- the sides whose octets are written are those of primitives
 pub encoded_numbers : (how : Writing) (order : OrderWord) (chunk : ℕ) → how ≡ Encode order chunk → (types : Table) (operations : List Operation) (n : ℕ) (s : Side)

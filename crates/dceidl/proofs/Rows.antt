@@ -1,6 +1,6 @@
 -- The rows of a run follow from the whole of it: each goes by the way in which the run ended.
 use Rattle.std.proofs.Common.{◌≡◌, ◌∙◌, ℕ, List, [], ◌∷◌, Option, Some, None, refl, sym, ap, subst, inl, inr, ◌⊎◌}
-use Rattle.std.specs.Prelude.{◌≢◌, true}
+use Rattle.std.specs.Prelude.{◌≢◌, true, codes}
 use Rattle.nd_base.specs.Outside.{IsMissing}
 use Rattle.nd_base.specs.Over.{FilesSeen, SinkSeen, HasRisen, Got}
 use Rattle.dceidl.specs.declared.outcome.Outcome.{Outcome}
@@ -428,3 +428,107 @@ module _ (x : Seen) (out notes : SinkSeen) (status : ℕ) (nothing : HasNotFaile
       by : (o : Option Command) → command words ≡ o → Unfailed status
       by None is = by_words words run.outcome (subst (λ o. IsOutcome x o run.outcome) is run.caused) run.delivered
       by (Some c) is = by_command c (ended x out notes c status words is run)
+
+-- ## Words that are no command, and outputs that failed
+
+not_two : (r : Refusal) → status_of r ≡ 2 → ⊥
+not_two Memory e = cc
+not_two (Absent file) e = cc
+not_two (FileFailed file) e = cc
+not_two (BadIdl file line column reason) e = cc
+not_two NoOperation e = cc
+not_two NotBuilt e = cc
+not_two ReadFault e = cc
+not_two (BadOctets place why) e = cc
+not_two (BadText line column reason) e = cc
+not_two (BadValue path reason) e = cc
+not_two (BadRequest fault) e = cc
+
+not_four : (r : Refusal) → status_of r ≡ 4 → ⊥
+not_four Memory e = cc
+not_four (Absent file) e = cc
+not_four (FileFailed file) e = cc
+not_four (BadIdl file line column reason) e = cc
+not_four NoOperation e = cc
+not_four NotBuilt e = cc
+not_four ReadFault e = cc
+not_four (BadOctets place why) e = cc
+not_four (BadText line column reason) e = cc
+not_four (BadValue path reason) e = cc
+not_four (BadRequest fault) e = cc
+
+apart : (n a b : ℕ) → n ≡ a → n ≡ b → (a ≡ b → ⊥) → ⊥
+apart n a b x y unlike = unlike (sym x ∙ y)
+
+module _ (x : Seen) (out notes : SinkSeen) (status : ℕ) (words : List (List ℕ)) (run : HasRun words x out notes status) where
+  -- status 2 comes only for words that are no command
+  pub no_command : status ≡ 2 → command words ≡ None
+  no_command e = by (command words) refl
+    where
+      by_end : (c : Command) → Ended x out notes c status → ⊥
+      by_end c (ended_done is d) = apart status 0 2 is e (λ h. cc)
+      by_end c (ended_refused r) = not_two r.refusal (sym r.own_status ∙ e)
+      by_end c (ended_wanting is) = apart status 5 2 is e (λ h. cc)
+      by_end c (ended_unwritten is rose made is_made) = apart status 4 2 is e (λ h. cc)
+      by_end c (ended_unreported is rose) = apart status 4 2 is e (λ h. cc)
+
+      by : (o : Option Command) → command words ≡ o → command words ≡ None
+      by None is = is
+      by (Some c) is = absurd (by_end c (ended x out notes c status words is run))
+
+  -- and its line is this
+  pub refused_line : status ≡ 2 → Got notes (codes "words refused\n")
+  refused_line e = by run.outcome (subst (λ o. IsOutcome x o run.outcome) (no_command e) run.caused) run.delivered
+    where
+      by : (outcome : Outcome) → IsOutcome x None outcome → IsDelivered out notes outcome status → Got notes (codes "words refused\n")
+      by (Done made) (inl is) d = cc
+      by (Done made) (inr is) d = cc
+      by (Refused own line) (inl is) (before, inl (same, told)) = let text : line ≡ codes "words refused\n" = cc in subst (Got notes) text told
+      by (Refused own line) (inl is) (before, inr (four, rose, some)) = absurd (apart status 4 2 four e (λ h. cc))
+      by (Refused own line) (inr is) d = cc
+      by Wanting is (before, inl (five, told)) = absurd (apart status 5 2 five e (λ h. cc))
+      by Wanting is (before, inr (four, rose, some)) = absurd (apart status 4 2 four e (λ h. cc))
+
+  -- status 4 comes only if an output failed
+  pub write_failed : status ≡ 4 → HasRisen out.faults ⊎ HasRisen notes.faults
+  write_failed e = by (command words) refl
+    where
+      by_end : (c : Command) → Ended x out notes c status → HasRisen out.faults ⊎ HasRisen notes.faults
+      by_end c (ended_done is d) = absurd (apart status 0 4 is e (λ h. cc))
+      by_end c (ended_refused r) = absurd (not_four r.refusal (sym r.own_status ∙ e))
+      by_end c (ended_wanting is) = absurd (apart status 5 4 is e (λ h. cc))
+      by_end c (ended_unwritten is rose made is_made) = inl rose
+      by_end c (ended_unreported is rose) = inr rose
+
+      by_outcome : (outcome : Outcome) → IsOutcome x None outcome → IsDelivered out notes outcome status → HasRisen out.faults ⊎ HasRisen notes.faults
+      by_outcome (Done made) (inl is) d = cc
+      by_outcome (Done made) (inr is) d = cc
+      by_outcome (Refused own line) (inl is) (before, inl (same, told)) = let two : own ≡ 2 = cc in absurd (apart status 2 4 (same ∙ two) e (λ h. cc))
+      by_outcome (Refused own line) (inl is) (before, inr (four, rose, some)) = inr rose
+      by_outcome (Refused own line) (inr is) d = cc
+      by_outcome Wanting is (before, inl (five, told)) = absurd (apart status 5 4 five e (λ h. cc))
+      by_outcome Wanting is (before, inr (four, rose, some)) = inr rose
+
+      by : (o : Option Command) → command words ≡ o → HasRisen out.faults ⊎ HasRisen notes.faults
+      by None is = by_outcome run.outcome (subst (λ o. IsOutcome x o run.outcome) is run.caused) run.delivered
+      by (Some c) is = by_end c (ended x out notes c status words is run)
+
+  -- with status 0 notes are as before
+  pub nothing_noted : status ≡ 0 → notes.written_now ≡ notes.written
+  nothing_noted e = by (command words) refl
+    where
+      by_end : (c : Command) → Ended x out notes c status → notes.written_now ≡ notes.written
+      by_end c (ended_done is d) = d.quiet.written
+      by_end c (ended_refused r) = absurd (not_zero r.refusal (sym r.own_status ∙ e))
+      by_end c (ended_wanting is) = absurd (apart status 5 0 is e (λ h. cc))
+      by_end c (ended_unwritten is rose made is_made) = absurd (apart status 4 0 is e (λ h. cc))
+      by_end c (ended_unreported is rose) = absurd (apart status 4 0 is e (λ h. cc))
+
+      by_idle : Idle status → notes.written_now ≡ notes.written
+      by_idle (idle_two h) = absurd (apart status 2 0 h e (λ k. cc))
+      by_idle (idle_four h) = absurd (apart status 4 0 h e (λ k. cc))
+      by_idle (idle_five h) = absurd (apart status 5 0 h e (λ k. cc))
+
+      by : (o : Option Command) → command words ≡ o → notes.written_now ≡ notes.written
+      by None is = by_idle (idle x out notes status words is run)
+      by (Some c) is = by_end c (ended x out notes c status words is run)
