@@ -37,7 +37,7 @@ use Rattle.ndr_shaped.specs.ShapedPipes.{IsShapedPipe}
 use Rattle.ndr_shaped.proofs.Forms.{shaped}
 
 module _ (w : Setting) (side : IsLegalSide w) (g : Graph) (c : Conforms w g) where
-  no_pipes : HoldsNoPipe w.table
+  pub no_pipes : HoldsNoPipe w.table
   no_pipes = holds_no_pipe w.table side.operations side.legal
 
   known_by : (t : ℕ) (o : Option TypeDef) (l : Label) (ks : Trees) → type_at w.table t ≡ o → has_shape o l ks ≡ true → Known w.table t
@@ -47,7 +47,7 @@ module _ (w : Setting) (side : IsLegalSide w) (g : Graph) (c : Conforms w g) whe
   known_of : (t : ℕ) (v : Tree) → GoodTrees w.table g (t ∷ []) [] (more v none) → Known w.table t
   known_of t (node l ks) a = known_by t (type_at w.table t) l ks refl a.0.shape
 
-  standing_shaped : (x : Standing) → StandsGood w no_pipes g x → Shaped 32 w.table (x.of ∷ []) (more x.val none)
+  pub standing_shaped : (x : Standing) → StandsGood w no_pipes g x → Shaped 32 w.table (x.of ∷ []) (more x.val none)
   standing_shaped x s =
       let usable : Usable w.table x.of = record { known = known_of x.of x.val s.trees; no_pipe = s.no_pipe } in
       shaped w.table side.operations side.legal g 32 (x.of ∷ []) [] (more x.val none) (usable_readable w.table side.operations side.legal x.of usable, tt) s.trees

@@ -1,5 +1,5 @@
 -- Elements whose run is a number alone: they are numbers of its primitive, and a row of such has their pieces.
-use Rattle.std.proofs.Common.{◌≡◌, ℕ, zero, suc, ℤ, Bool, true, false, List, [], ◌∷◌, ◌++◌, length, Option, Some, None, refl, ap, ap₂, sym, ◌∙◌, subst}
+use Rattle.std.proofs.Common.{◌≡◌, ℕ, ◌+◌, zero, suc, ℤ, Bool, true, false, List, [], ◌∷◌, ◌++◌, length, Option, Some, None, refl, ap, ap₂, sym, ◌∙◌, subst}
 use Rattle.std.specs.Prelude.{◌&&◌, ◌==◌, replicate}
 use Rattle.std.specs.List.{slice_get}
 use Rattle.std.proofs.lemmas.Option.{same_Some}
@@ -84,14 +84,14 @@ module _ (table : Table) (operations : List Operation) where
       let h : None ≡ Some p = by_two C (place_at table t) p e (op.Align 2) (op.Enum (id t)) (op.Ret ∷ []) (place_run_at table operations t (def.Enum values) is) in cc
   row_one t p e (form_struct {members = members} is) =
       absurd (struct_row C (place_at table t) p e (align_of table t == 1) (align_of table t) (length members)
-          (member_calls (place_at table) members ++ (member_checks 0 members ++ (op.Close ∷ op.Ret ∷ []))) (place_run_at table operations t (def.Struct members) is))
+      (member_calls (place_at table) members ++ (member_checks 0 members ++ (op.Close ∷ op.Ret ∷ []))) (place_run_at table operations t (def.Struct members) is))
   row_one t p e (form_array {elem = elem} {bound = bound} {varying = varying} is) =
       absurd (array_row C (place_at table t) p e (place_at table elem.0) bound varying (place_run_at table operations t (def.Array elem bound varying) is))
   row_one t p e (form_text {elem = elem} {bound = bound} is) =
       let h : None ≡ Some p = by_two C (place_at table t) p e (op.Align 4) (op.Text (text_bound bound)) (op.Ret ∷ []) (place_run_at table operations t (def.Text elem bound) is) in cc
   row_one t p e (form_union {tag = tag} {own = own} {arms = arms} {default = default} b is tagged chosen) =
       absurd (union_row C (place_at table t) p e (align_of table tag.0 == 1) (align_of table tag.0) tag (arms_code (place_at table) arms ++ default_code (place_at table) default)
-          (place_run_at table operations t (def.Union tag own arms default) is))
+      (place_run_at table operations t (def.Union tag own arms default) is))
   row_one t p e (form_pointer {class = class} {to = to} is) =
       let h : None ≡ Some p = by_two C (place_at table t) p e (op.Align 4) (op.Pointer class to (whole_at table to.0)) (op.Ret ∷ []) (place_run_at table operations t (def.Pointer class to) is) in cc
   row_one t p e (form_context is) =

@@ -87,7 +87,7 @@ module _ (code : List Instr) (m K : ℕ) where
 pub record Runs (code : List Instr) (m K : ℕ) (table : Table) (d t : ℕ) (l : Label) (ks : Trees) : Type 0 where
   pub reach : (frames : List Frame) (fs : List Flat) → length frames + d ≤ 256
       → (cost : ℕ) × (cost + 1 ≤ 8 * node_count (more (node l ks) none)) × Reach code m K cost (place_at table t) frames ((l, count ks) ∷ (flat ks ++ fs))
-        (λ n. values_pieces table (t ∷ []) (more (node l ks) none) ++ back (run code m K n) code K frames fs)
+      (λ n. values_pieces table (t ∷ []) (more (node l ks) none) ++ back (run code m K n) code K frames fs)
 
 -- each of these values runs
 abbrev pub AllRun : List Instr → ℕ → ℕ → Table → ℕ → List ℕ → Trees → Type 0
@@ -147,9 +147,12 @@ module _ (code : List Instr) (m K : ℕ) (table : Table) where
       let s1 : IsRunAt code (pc + 1) (is ++ (op.Close ∷ op.Ret ∷ [])) = next_at code pc (op.Check attr field var star) (is ++ (op.Close ∷ op.Ret ∷ [])) s in
       let past : past_checks (is ++ (op.Close ∷ (op.Ret ∷ s1.0))) (pc + 1) ≡ pc + 1 + length is = past_is is (op.Ret ∷ s1.0) (pc + 1) a in
       let goes : past_checks (drop (pc + 1) code) (pc + 1) ≡ pc + suc (length is) =
-          ap (λ l. past_checks l (pc + 1)) s1.1 ∙ ap (λ l. past_checks l (pc + 1)) (append_assoc is (op.Close ∷ op.Ret ∷ []) s1.0) ∙ past ∙ omega arith in
-      (k + 1, omega arith, by_step code m K (op.Check attr field var star) [] k pc (pc + suc (length is)) frames frames fs fs X
-          (first_at code pc (op.Check attr field var star) (is ++ (op.Close ∷ op.Ret ∷ [])) s) (λ n. ap (λ p. run code m K n p frames fs) goes) r)
+      ap (λ l. past_checks l (pc + 1)) s1.1 ∙ ap (λ l. past_checks l (pc + 1)) (append_assoc is (op.Close ∷ op.Ret ∷ []) s1.0) ∙ past ∙ omega arith in (
+        k + 1,
+        omega arith,
+        by_step code m K (op.Check attr field var star) [] k pc (pc + suc (length is)) frames frames fs fs X
+            (first_at code pc (op.Check attr field var star) (is ++ (op.Close ∷ op.Ret ∷ [])) s) (λ n. ap (λ p. run code m K n p frames fs) goes) r,
+      )
   checks_reach (i ∷ is) k pc frames fs X a s r = absurd a
 
   -- members are called one after the other
@@ -168,18 +171,20 @@ module _ (code : List Instr) (m K : ℕ) (table : Table) where
       let same : length members ≡ count us = let h : suc (length members) ≡ suc (count us) = e in omega (arith, h) in
       let there : pc + suc (length C) ≡ pc + 1 + length C = omega arith in
       let (j, few, t) = calls_reach d members us rest k (pc + 1) frames fs X same a.1 room (next_at code pc (op.Call (place_at table f.of.0)) (C ++ rest) s)
-          (subst (λ p. Reach code m K k p frames fs X) there r) in
+      (subst (λ p. Reach code m K k p frames fs X) there r) in
       let up : List Frame = frame.Call (pc + 1) ∷ frames in
       let (cost, low, first) = a.0.reach up (flat us ++ fs) (omega (arith, room)) in
       let both : Reach code m K (j + cost) (place_at table f.of.0) up ((l, count ks) ∷ (flat ks ++ (flat us ++ fs))) (λ n. P ++ (values_pieces table T us ++ X n)) =
-          then_reach code m K cost j (place_at table f.of.0) (pc + 1) up frames _ (flat us ++ fs) P _ first t in
+      then_reach code m K cost j (place_at table f.of.0) (pc + 1) up frames _ (flat us ++ fs) P _ first t in
       let stack : pushed (frame.Call (pc + 1)) frames ≡ up = pushed_room (frame.Call (pc + 1)) frames (omega (arith, room)) in
-      let nodes : (l, count ks) ∷ ((flat ks ++ flat us) ++ fs) ≡ (l, count ks) ∷ (flat ks ++ (flat us ++ fs)) = ap (λ q. (l, count ks) ∷ q) (append_assoc (flat ks) (flat us) fs) in
-      (j + cost + 1, omega (arith, few, low),
-       reach_as code m K (j + cost + 1) pc frames ((l, count ks) ∷ ((flat ks ++ flat us) ++ fs)) _ _ (λ n. values_split table f.of.0 l ks T us (X n))
-       (by_step code m K (op.Call (place_at table f.of.0)) [] (j + cost) pc (place_at table f.of.0) frames up ((l, count ks) ∷ ((flat ks ++ flat us) ++ fs)) ((l, count ks) ∷ (flat ks ++ (flat us ++ fs))) _
-        (first_at code pc (op.Call (place_at table f.of.0)) (C ++ rest) s)
-        (λ n. ap (λ q. run code m K n (place_at table f.of.0) q ((l, count ks) ∷ ((flat ks ++ flat us) ++ fs))) stack ∙ ap (run code m K n (place_at table f.of.0) up) nodes) both))
+      let nodes : (l, count ks) ∷ ((flat ks ++ flat us) ++ fs) ≡ (l, count ks) ∷ (flat ks ++ (flat us ++ fs)) = ap (λ q. (l, count ks) ∷ q) (append_assoc (flat ks) (flat us) fs) in (
+        j + cost + 1,
+        omega (arith, few, low),
+        reach_as code m K (j + cost + 1) pc frames ((l, count ks) ∷ ((flat ks ++ flat us) ++ fs)) _ _ (λ n. values_split table f.of.0 l ks T us (X n))
+            (by_step code m K (op.Call (place_at table f.of.0)) [] (j + cost) pc (place_at table f.of.0) frames up ((l, count ks) ∷ ((flat ks ++ flat us) ++ fs)) ((l, count ks) ∷ (flat ks ++ (flat us ++ fs))) _
+            (first_at code pc (op.Call (place_at table f.of.0)) (C ++ rest) s)
+            (λ n. ap (λ q. run code m K n (place_at table f.of.0) q ((l, count ks) ∷ ((flat ks ++ flat us) ++ fs))) stack ∙ ap (run code m K n (place_at table f.of.0) up) nodes) both),
+      )
 
   -- elements one after the other
   elements_reach : (d elem : ℕ) (ks : Trees) (to : ℕ) (frames : List Frame) (fs : List Flat) → AllRun code m K table d (replicate (count ks) elem) ks → length frames + suc d ≤ 256
@@ -194,13 +199,18 @@ module _ (code : List Instr) (m K : ℕ) (table : Table) where
       let (j, few, rest) = elements_reach d elem us to frames fs a.1 room in
       let (cost, low, first) = a.0.reach up (flat us ++ fs) (omega (arith, room)) in
       let stack : pushed (frame.Array (count us) E to) frames ≡ up = pushed_room (frame.Array (count us) E to) frames (omega (arith, room)) in
-      let nodes : (l, count ks) ∷ ((flat ks ++ flat us) ++ fs) ≡ (l, count ks) ∷ (flat ks ++ (flat us ++ fs)) = ap (λ q. (l, count ks) ∷ q) (append_assoc (flat ks) (flat us) fs) in
-      (j + cost, omega (arith, few, low), λ n.
-          let (i, e, w) = rest n in
-          let (k, f, v) = first i in
-          (k, omega (arith, e, f),
-           ap (λ q. run code m K k E q ((l, count ks) ∷ ((flat ks ++ flat us) ++ fs))) stack ∙ ap (run code m K k E up) nodes ∙ v ∙ ap (λ q. P ++ q) w
-           ∙ values_split table elem l ks R us (run code m K n to frames fs)))
+      let nodes : (l, count ks) ∷ ((flat ks ++ flat us) ++ fs) ≡ (l, count ks) ∷ (flat ks ++ (flat us ++ fs)) = ap (λ q. (l, count ks) ∷ q) (append_assoc (flat ks) (flat us) fs) in (
+        j + cost,
+        omega (arith, few, low),
+        λ n.
+            let (i, e, w) = rest n in
+            let (k, f, v) = first i in (
+              k,
+              omega (arith, e, f),
+              ap (λ q. run code m K k E q ((l, count ks) ∷ ((flat ks ++ flat us) ++ fs))) stack ∙ ap (run code m K k E up) nodes ∙ v ∙ ap (λ q. P ++ q) w
+                  ∙ values_split table elem l ks R us (run code m K n to frames fs),
+            ),
+      )
 
 -- the values of a legal table's types, over its plan
 module _ (table : Table) (operations : List Operation) (m K : ℕ) where
@@ -233,11 +243,14 @@ module _ (table : Table) (operations : List Operation) (m K : ℕ) where
         reach = λ frames fs room.
             let out : List Piece = Figure (carrier_of t) z ∷ [] in
             let (j, few, r) = by_gap C m K w 2 A frames ((tree.Num z, 0) ∷ fs) T (λ n. out ++ back (run C m K n) C K frames fs) s
-                (by_step C m K (op.Num (id t)) out 1 B (B + 1) frames frames ((tree.Num z, 0) ∷ fs) fs (λ n. back (run C m K n) C K frames fs)
-                    (first_at C B (op.Num (id t)) (op.Ret ∷ []) s1) (λ n. refl) (by_ret C m K (B + 1) frames fs (first_at C (B + 1) op.Ret [] s2))) in
-            (j, omega (arith, few), reach_as C m K j A frames ((tree.Num z, 0) ∷ fs) _ _
-                (λ n. as_value t (def.Prim p) (tree.Num z) none (gap_pieces w) out [] (back (run C m K n) C K frames fs) is
-                    (ap₂ (λ a q. gap_pieces a ++ (Figure q z ∷ [])) (sym (align_prim t p is)) (sym same)) refl) r);
+            (by_step C m K (op.Num (id t)) out 1 B (B + 1) frames frames ((tree.Num z, 0) ∷ fs) fs (λ n. back (run C m K n) C K frames fs)
+            (first_at C B (op.Num (id t)) (op.Ret ∷ []) s1) (λ n. refl) (by_ret C m K (B + 1) frames fs (first_at C (B + 1) op.Ret [] s2))) in (
+              j,
+              omega (arith, few),
+              reach_as C m K j A frames ((tree.Num z, 0) ∷ fs) _ _
+                  (λ n. as_value t (def.Prim p) (tree.Num z) none (gap_pieces w) out [] (back (run C m K n) C K frames fs) is
+                  (ap₂ (λ a q. gap_pieces a ++ (Figure q z ∷ [])) (sym (align_prim t p is)) (sym same)) refl) r,
+            );
       }
 
   enum_runs : (d t : ℕ) (values : List ℤ) (z : ℤ) → type_at table t ≡ Some (def.Enum values) → Runs C m K table d t (tree.Num z) none
@@ -249,13 +262,16 @@ module _ (table : Table) (operations : List Operation) (m K : ℕ) where
       record {
         reach = λ frames fs room.
             let X : ℕ → List Piece = λ n. back (run C m K n) C K frames fs in
-            let gs : List Flat = (tree.Num z, 0) ∷ fs in
-            (3, omega arith, reach_as C m K 3 A frames gs _ _
-                (λ n. as_value t (def.Enum values) (tree.Num z) none (Gap 2 ∷ []) (Figure Short z ∷ []) [] (X n) is refl refl)
-                (by_step C m K (op.Align 2) (Gap 2 ∷ []) 2 A (A + 1) frames frames gs gs (λ n. (Figure Short z ∷ []) ++ X n)
-                    (first_at C A (op.Align 2) (op.Enum (id t) ∷ op.Ret ∷ []) s) (λ n. refl)
-                    (by_step C m K (op.Enum (id t)) (Figure Short z ∷ []) 1 (A + 1) (A + 1 + 1) frames frames gs fs X
-                        (first_at C (A + 1) (op.Enum (id t)) (op.Ret ∷ []) s1) (λ n. refl) (by_ret C m K (A + 1 + 1) frames fs (first_at C (A + 1 + 1) op.Ret [] s2)))));
+            let gs : List Flat = (tree.Num z, 0) ∷ fs in (
+              3,
+              omega arith,
+              reach_as C m K 3 A frames gs _ _
+                  (λ n. as_value t (def.Enum values) (tree.Num z) none (Gap 2 ∷ []) (Figure Short z ∷ []) [] (X n) is refl refl)
+                  (by_step C m K (op.Align 2) (Gap 2 ∷ []) 2 A (A + 1) frames frames gs gs (λ n. (Figure Short z ∷ []) ++ X n)
+                  (first_at C A (op.Align 2) (op.Enum (id t) ∷ op.Ret ∷ []) s) (λ n. refl)
+                  (by_step C m K (op.Enum (id t)) (Figure Short z ∷ []) 1 (A + 1) (A + 1 + 1) frames frames gs fs X
+                  (first_at C (A + 1) (op.Enum (id t)) (op.Ret ∷ []) s1) (λ n. refl) (by_ret C m K (A + 1 + 1) frames fs (first_at C (A + 1 + 1) op.Ret [] s2)))),
+            );
       }
 
   pointer_runs : (d t : ℕ) (class : Class) (to : TypeId) (c : Option ℕ) → type_at table t ≡ Some (def.Pointer class to) → Runs C m K table d t (tree.Ptr c) none
@@ -269,13 +285,16 @@ module _ (table : Table) (operations : List Operation) (m K : ℕ) where
       record {
         reach = λ frames fs room.
             let X : ℕ → List Piece = λ n. back (run C m K n) C K frames fs in
-            let gs : List Flat = (tree.Ptr c, 0) ∷ fs in
-            (3, omega arith, reach_as C m K 3 A frames gs _ _
-                (λ n. as_value t (def.Pointer class to) (tree.Ptr c) none (Gap 4 ∷ []) out [] (X n) is refl refl)
-                (by_step C m K (op.Align 4) (Gap 4 ∷ []) 2 A (A + 1) frames frames gs gs (λ n. out ++ X n)
-                    (first_at C A (op.Align 4) (I ∷ op.Ret ∷ []) s) (λ n. refl)
-                    (by_step C m K I out 1 (A + 1) (A + 1 + 1) frames frames gs fs X
-                        (first_at C (A + 1) I (op.Ret ∷ []) s1) (λ n. refl) (by_ret C m K (A + 1 + 1) frames fs (first_at C (A + 1 + 1) op.Ret [] s2)))));
+            let gs : List Flat = (tree.Ptr c, 0) ∷ fs in (
+              3,
+              omega arith,
+              reach_as C m K 3 A frames gs _ _
+                  (λ n. as_value t (def.Pointer class to) (tree.Ptr c) none (Gap 4 ∷ []) out [] (X n) is refl refl)
+                  (by_step C m K (op.Align 4) (Gap 4 ∷ []) 2 A (A + 1) frames frames gs gs (λ n. out ++ X n)
+                  (first_at C A (op.Align 4) (I ∷ op.Ret ∷ []) s) (λ n. refl)
+                  (by_step C m K I out 1 (A + 1) (A + 1 + 1) frames frames gs fs X
+                  (first_at C (A + 1) I (op.Ret ∷ []) s1) (λ n. refl) (by_ret C m K (A + 1 + 1) frames fs (first_at C (A + 1 + 1) op.Ret [] s2)))),
+            );
       }
 
   text_runs : (d t : ℕ) (elem : TypeId) (bound : Option ℕ) (max : ℕ) (os : List ℕ) → type_at table t ≡ Some (def.Text elem bound) → Runs C m K table d t (tree.Text max os) none
@@ -289,13 +308,16 @@ module _ (table : Table) (operations : List Operation) (m K : ℕ) where
       record {
         reach = λ frames fs room.
             let X : ℕ → List Piece = λ n. back (run C m K n) C K frames fs in
-            let gs : List Flat = (tree.Text max os, 0) ∷ fs in
-            (3, omega arith, reach_as C m K 3 A frames gs _ _
-                (λ n. as_value t (def.Text elem bound) (tree.Text max os) none (Gap 4 ∷ []) out [] (X n) is refl refl)
-                (by_step C m K (op.Align 4) (Gap 4 ∷ []) 2 A (A + 1) frames frames gs gs (λ n. out ++ X n)
-                    (first_at C A (op.Align 4) (I ∷ op.Ret ∷ []) s) (λ n. refl)
-                    (by_step C m K I out 1 (A + 1) (A + 1 + 1) frames frames gs fs X
-                        (first_at C (A + 1) I (op.Ret ∷ []) s1) (λ n. refl) (by_ret C m K (A + 1 + 1) frames fs (first_at C (A + 1 + 1) op.Ret [] s2)))));
+            let gs : List Flat = (tree.Text max os, 0) ∷ fs in (
+              3,
+              omega arith,
+              reach_as C m K 3 A frames gs _ _
+                  (λ n. as_value t (def.Text elem bound) (tree.Text max os) none (Gap 4 ∷ []) out [] (X n) is refl refl)
+                  (by_step C m K (op.Align 4) (Gap 4 ∷ []) 2 A (A + 1) frames frames gs gs (λ n. out ++ X n)
+                  (first_at C A (op.Align 4) (I ∷ op.Ret ∷ []) s) (λ n. refl)
+                  (by_step C m K I out 1 (A + 1) (A + 1 + 1) frames frames gs fs X
+                  (first_at C (A + 1) I (op.Ret ∷ []) s1) (λ n. refl) (by_ret C m K (A + 1 + 1) frames fs (first_at C (A + 1 + 1) op.Ret [] s2)))),
+            );
       }
 
   context_runs : (d t attributes : ℕ) (os : List ℕ) → type_at table t ≡ Some def.Context → Runs C m K table d t (tree.Context attributes os) none
@@ -308,13 +330,16 @@ module _ (table : Table) (operations : List Operation) (m K : ℕ) where
       record {
         reach = λ frames fs room.
             let X : ℕ → List Piece = λ n. back (run C m K n) C K frames fs in
-            let gs : List Flat = (tree.Context attributes os, 0) ∷ fs in
-            (3, omega arith, reach_as C m K 3 A frames gs _ _
-                (λ n. as_value t def.Context (tree.Context attributes os) none (Gap 4 ∷ []) out [] (X n) is refl refl)
-                (by_step C m K (op.Align 4) (Gap 4 ∷ []) 2 A (A + 1) frames frames gs gs (λ n. out ++ X n)
-                    (first_at C A (op.Align 4) (op.Context ∷ op.Ret ∷ []) s) (λ n. refl)
-                    (by_step C m K op.Context out 1 (A + 1) (A + 1 + 1) frames frames gs fs X
-                        (first_at C (A + 1) op.Context (op.Ret ∷ []) s1) (λ n. refl) (by_ret C m K (A + 1 + 1) frames fs (first_at C (A + 1 + 1) op.Ret [] s2)))));
+            let gs : List Flat = (tree.Context attributes os, 0) ∷ fs in (
+              3,
+              omega arith,
+              reach_as C m K 3 A frames gs _ _
+                  (λ n. as_value t def.Context (tree.Context attributes os) none (Gap 4 ∷ []) out [] (X n) is refl refl)
+                  (by_step C m K (op.Align 4) (Gap 4 ∷ []) 2 A (A + 1) frames frames gs gs (λ n. out ++ X n)
+                  (first_at C A (op.Align 4) (op.Context ∷ op.Ret ∷ []) s) (λ n. refl)
+                  (by_step C m K op.Context out 1 (A + 1) (A + 1 + 1) frames frames gs fs X
+                  (first_at C (A + 1) op.Context (op.Ret ∷ []) s1) (λ n. refl) (by_ret C m K (A + 1 + 1) frames fs (first_at C (A + 1 + 1) op.Ret [] s2)))),
+            );
       }
 
   struct_runs : (d t : ℕ) (members : List Field) (ks : Trees) → type_at table t ≡ Some (def.Struct members) → length members ≡ count ks
@@ -341,16 +366,19 @@ module _ (table : Table) (operations : List Operation) (m K : ℕ) where
             let X : ℕ → List Piece = λ n. back (run C m K n) C K frames fs in
             let gs : List Flat = flat ks ++ fs in
             let r1 : Reach C m K 2 E frames fs X =
-                by_step C m K op.Close [] 1 E (E + 1) frames frames fs fs X (first_at C E op.Close (op.Ret ∷ []) s4) (λ n. refl)
-                (by_ret C m K (E + 1) frames fs (first_at C (E + 1) op.Ret [] s5)) in
+            by_step C m K op.Close [] 1 E (E + 1) frames frames fs fs X (first_at C E op.Close (op.Ret ∷ []) s4) (λ n. refl)
+            (by_ret C m K (E + 1) frames fs (first_at C (E + 1) op.Ret [] s5)) in
             let (j2, few2, r2) = checks_reach C m K table checks 2 D frames fs X (members_are 0 members) s3 r1 in
             let (j3, few3, r3) = calls_reach C m K table d members ks (checks ++ ends) j2 (B + 1) frames fs X many a room s2 r2 in
             let r4 : Reach C m K (j3 + 1) B frames ((tree.Rec, count ks) ∷ gs) (λ n. W ++ X n) =
-                by_step C m K (op.Record (length members)) [] j3 B (B + 1) frames frames ((tree.Rec, count ks) ∷ gs) gs (λ n. W ++ X n)
-                (first_at C B (op.Record (length members)) (calls ++ (checks ++ ends)) s1) (λ n. refl) r3 in
-            let (j5, few5, r5) = by_gap C m K w (j3 + 1) A frames ((tree.Rec, count ks) ∷ gs) T (λ n. W ++ X n) s r4 in
-            (j5, omega (arith, few2, few3, few5), reach_as C m K j5 A frames ((tree.Rec, count ks) ∷ gs) _ _
-                (λ n. as_value t (def.Struct members) tree.Rec ks (gap_pieces w) [] W (X n) is refl refl) r5);
+            by_step C m K (op.Record (length members)) [] j3 B (B + 1) frames frames ((tree.Rec, count ks) ∷ gs) gs (λ n. W ++ X n)
+            (first_at C B (op.Record (length members)) (calls ++ (checks ++ ends)) s1) (λ n. refl) r3 in
+            let (j5, few5, r5) = by_gap C m K w (j3 + 1) A frames ((tree.Rec, count ks) ∷ gs) T (λ n. W ++ X n) s r4 in (
+              j5,
+              omega (arith, few2, few3, few5),
+              reach_as C m K j5 A frames ((tree.Rec, count ks) ∷ gs) _ _
+                  (λ n. as_value t (def.Struct members) tree.Rec ks (gap_pieces w) [] W (X n) is refl refl) r5,
+            );
       }
 
   -- an array's elements after the instruction that begins them
@@ -363,7 +391,7 @@ module _ (table : Table) (operations : List Operation) (m K : ℕ) where
       → row_at C (place_at table elem) ≡ row → IsRunAt C pc (I ∷ op.Ret ∷ []) → AllRun C m K table d (replicate (count ks) elem) ks
       → Shaped d table (replicate (count ks) elem) ks → length frames + suc d ≤ 256
       → ((n : ℕ) → stepped (run C m K n) C m K pc frames ((l, count ks) ∷ (flat ks ++ fs)) (Some I)
-          ≡ pre ++ elements (run C m K n) row (count ks) (place_at table elem) (pc + 1) frames (flat ks ++ fs))
+      ≡ pre ++ elements (run C m K n) row (count ks) (place_at table elem) (pc + 1) frames (flat ks ++ fs))
       → Arrayed elem ks pc frames fs pre l
   array_by None d elem ks pc frames fs I pre l is s a shaped room e =
       let up : List Frame = frame.Array (count ks) (place_at table elem) (pc + 1) ∷ frames in
@@ -371,29 +399,39 @@ module _ (table : Table) (operations : List Operation) (m K : ℕ) where
       let s1 : IsRunAt C (pc + 1) (op.Ret ∷ []) = next_at C pc I (op.Ret ∷ []) s in
       let (j, few, r) = elements_reach C m K table d elem ks (pc + 1) frames fs a room in
       let stack : pushed (frame.Array (count ks) (place_at table elem) (pc + 1)) frames ≡ up = pushed_room (frame.Array (count ks) (place_at table elem) (pc + 1)) frames (omega (arith, room)) in
-      let ret : slice_get C 1 ≡ Some op.Ret = refl in
-      (1 + j + 2, omega (arith, few), λ n.
-          let (k, f, v) = by_ret C m K (pc + 1) frames fs (first_at C (pc + 1) op.Ret [] s1) n in
-          let (i, g, w) = r k in
-          (suc (suc i), omega (arith, f, g),
-           run_step C m K (suc i) pc frames ((l, count ks) ∷ (flat ks ++ fs)) I (first_at C pc I (op.Ret ∷ []) s) ∙ e (suc i)
-           ∙ ap (λ q. pre ++ run C m K (suc i) 1 q (flat ks ++ fs)) stack
-           ∙ ap (λ q. pre ++ q) (run_step C m K i 1 up (flat ks ++ fs) op.Ret ret ∙ w ∙ ap (λ q. W ++ q) v)))
+      let ret : slice_get C 1 ≡ Some op.Ret = refl in (
+        1 + j + 2,
+        omega (arith, few),
+        λ n.
+            let (k, f, v) = by_ret C m K (pc + 1) frames fs (first_at C (pc + 1) op.Ret [] s1) n in
+            let (i, g, w) = r k in (
+              suc (suc i),
+              omega (arith, f, g),
+              run_step C m K (suc i) pc frames ((l, count ks) ∷ (flat ks ++ fs)) I (first_at C pc I (op.Ret ∷ []) s) ∙ e (suc i)
+                  ∙ ap (λ q. pre ++ run C m K (suc i) 1 q (flat ks ++ fs)) stack
+                  ∙ ap (λ q. pre ++ q) (run_step C m K i 1 up (flat ks ++ fs) op.Ret ret ∙ w ∙ ap (λ q. W ++ q) v),
+            ),
+      )
   array_by (Some p) d elem ks pc frames fs I pre l is s a shaped room e =
       let W : List Piece = values_pieces table (replicate (count ks) elem) ks in
       let s1 : IsRunAt C (pc + 1) (op.Ret ∷ []) = next_at C pc I (op.Ret ∷ []) s in
-      let (pieces, left) = row_forms table operations elem p is ks fs d shaped in
-      (2, omega arith, λ n.
-          let (k, f, v) = by_ret C m K (pc + 1) frames fs (first_at C (pc + 1) op.Ret [] s1) n in
-          (suc k, omega (arith, f),
-           run_step C m K k pc frames ((l, count ks) ∷ (flat ks ++ fs)) I (first_at C pc I (op.Ret ∷ []) s) ∙ e k
-           ∙ ap₂ (λ u q. pre ++ (u ++ q)) (sym pieces) (ap (run C m K k (pc + 1) frames) left ∙ v)))
+      let (pieces, left) = row_forms table operations elem p is ks fs d shaped in (
+        2,
+        omega arith,
+        λ n.
+            let (k, f, v) = by_ret C m K (pc + 1) frames fs (first_at C (pc + 1) op.Ret [] s1) n in (
+              suc k,
+              omega (arith, f),
+              run_step C m K k pc frames ((l, count ks) ∷ (flat ks ++ fs)) I (first_at C pc I (op.Ret ∷ []) s) ∙ e k
+                  ∙ ap₂ (λ u q. pre ++ (u ++ q)) (sym pieces) (ap (run C m K k (pc + 1) frames) left ∙ v),
+            ),
+      )
 
   array_reach : (d elem : ℕ) (ks : Trees) (pc : ℕ) (frames : List Frame) (fs : List Flat) (I : Instr) (pre : List Piece) (l : Label)
       → IsRunAt C pc (I ∷ op.Ret ∷ []) → AllRun C m K table d (replicate (count ks) elem) ks
       → Shaped d table (replicate (count ks) elem) ks → length frames + suc d ≤ 256
       → ((n : ℕ) → stepped (run C m K n) C m K pc frames ((l, count ks) ∷ (flat ks ++ fs)) (Some I)
-          ≡ pre ++ elements (run C m K n) (row_at C (place_at table elem)) (count ks) (place_at table elem) (pc + 1) frames (flat ks ++ fs))
+      ≡ pre ++ elements (run C m K n) (row_at C (place_at table elem)) (count ks) (place_at table elem) (pc + 1) frames (flat ks ++ fs))
       → Arrayed elem ks pc frames fs pre l
   array_reach d elem ks pc frames fs I pre l s a shaped room e =
       array_by (row_at C (place_at table elem)) d elem ks pc frames fs I pre l refl s a shaped room e
@@ -406,9 +444,12 @@ module _ (table : Table) (operations : List Operation) (m K : ℕ) where
       let s : IsRunAt C A (I ∷ op.Ret ∷ []) = place_run_at table operations t (def.Array elem (Some b) false) is in
       record {
         reach = λ frames fs room.
-            let (j, few, r) = array_reach d elem.0 ks A frames fs I [] (tree.Arr max offset) s a shaped room (λ n. refl) in
-            (j, omega (arith, few), reach_as C m K j A frames ((tree.Arr max offset, count ks) ∷ (flat ks ++ fs)) _ _
-                (λ n. as_value t (def.Array elem (Some b) false) (tree.Arr max offset) ks [] [] _ (back (run C m K n) C K frames fs) is refl refl) r);
+            let (j, few, r) = array_reach d elem.0 ks A frames fs I [] (tree.Arr max offset) s a shaped room (λ n. refl) in (
+              j,
+              omega (arith, few),
+              reach_as C m K j A frames ((tree.Arr max offset, count ks) ∷ (flat ks ++ fs)) _ _
+                  (λ n. as_value t (def.Array elem (Some b) false) (tree.Arr max offset) ks [] [] _ (back (run C m K n) C K frames fs) is refl refl) r,
+            );
       }
   array_runs d t elem None false max offset ks is a shaped =
       let A : ℕ = place_at table t in
@@ -416,9 +457,12 @@ module _ (table : Table) (operations : List Operation) (m K : ℕ) where
       let s : IsRunAt C A (I ∷ op.Ret ∷ []) = place_run_at table operations t (def.Array elem None false) is in
       record {
         reach = λ frames fs room.
-            let (j, few, r) = array_reach d elem.0 ks A frames fs I [] (tree.Arr max offset) s a shaped room (λ n. refl) in
-            (j, omega (arith, few), reach_as C m K j A frames ((tree.Arr max offset, count ks) ∷ (flat ks ++ fs)) _ _
-                (λ n. as_value t (def.Array elem None false) (tree.Arr max offset) ks [] [] _ (back (run C m K n) C K frames fs) is refl refl) r);
+            let (j, few, r) = array_reach d elem.0 ks A frames fs I [] (tree.Arr max offset) s a shaped room (λ n. refl) in (
+              j,
+              omega (arith, few),
+              reach_as C m K j A frames ((tree.Arr max offset, count ks) ∷ (flat ks ++ fs)) _ _
+                  (λ n. as_value t (def.Array elem None false) (tree.Arr max offset) ks [] [] _ (back (run C m K n) C K frames fs) is refl refl) r,
+            );
       }
   array_runs d t elem (Some b) true max offset ks is a shaped =
       let A : ℕ = place_at table t in
@@ -429,10 +473,13 @@ module _ (table : Table) (operations : List Operation) (m K : ℕ) where
       record {
         reach = λ frames fs room.
             let gs : List Flat = (tree.Arr max offset, count ks) ∷ (flat ks ++ fs) in
-            let (j, few, r) = array_reach d elem.0 ks (A + 1) frames fs I out (tree.Arr max offset) s1 a shaped room (λ n. refl) in
-            (j + 1, omega (arith, few), reach_as C m K (j + 1) A frames gs _ _
-                (λ n. as_value t (def.Array elem (Some b) true) (tree.Arr max offset) ks (Gap 4 ∷ []) out _ (back (run C m K n) C K frames fs) is refl refl)
-                (by_step C m K (op.Align 4) (Gap 4 ∷ []) j A (A + 1) frames frames gs gs _ (first_at C A (op.Align 4) (I ∷ op.Ret ∷ []) s) (λ n. refl) r));
+            let (j, few, r) = array_reach d elem.0 ks (A + 1) frames fs I out (tree.Arr max offset) s1 a shaped room (λ n. refl) in (
+              j + 1,
+              omega (arith, few),
+              reach_as C m K (j + 1) A frames gs _ _
+                  (λ n. as_value t (def.Array elem (Some b) true) (tree.Arr max offset) ks (Gap 4 ∷ []) out _ (back (run C m K n) C K frames fs) is refl refl)
+                  (by_step C m K (op.Align 4) (Gap 4 ∷ []) j A (A + 1) frames frames gs gs _ (first_at C A (op.Align 4) (I ∷ op.Ret ∷ []) s) (λ n. refl) r),
+            );
       }
   array_runs d t elem None true max offset ks is a shaped =
       let A : ℕ = place_at table t in
@@ -443,10 +490,13 @@ module _ (table : Table) (operations : List Operation) (m K : ℕ) where
       record {
         reach = λ frames fs room.
             let gs : List Flat = (tree.Arr max offset, count ks) ∷ (flat ks ++ fs) in
-            let (j, few, r) = array_reach d elem.0 ks (A + 1) frames fs I out (tree.Arr max offset) s1 a shaped room (λ n. refl) in
-            (j + 1, omega (arith, few), reach_as C m K (j + 1) A frames gs _ _
-                (λ n. as_value t (def.Array elem None true) (tree.Arr max offset) ks (Gap 4 ∷ []) out _ (back (run C m K n) C K frames fs) is refl refl)
-                (by_step C m K (op.Align 4) (Gap 4 ∷ []) j A (A + 1) frames frames gs gs _ (first_at C A (op.Align 4) (I ∷ op.Ret ∷ []) s) (λ n. refl) r));
+            let (j, few, r) = array_reach d elem.0 ks (A + 1) frames fs I out (tree.Arr max offset) s1 a shaped room (λ n. refl) in (
+              j + 1,
+              omega (arith, few),
+              reach_as C m K (j + 1) A frames gs _ _
+                  (λ n. as_value t (def.Array elem None true) (tree.Arr max offset) ks (Gap 4 ∷ []) out _ (back (run C m K n) C K frames fs) is refl refl)
+                  (by_step C m K (op.Align 4) (Gap 4 ∷ []) j A (A + 1) frames frames gs gs _ (first_at C A (op.Align 4) (I ∷ op.Ret ∷ []) s) (λ n. refl) r),
+            );
       }
 
   -- the arm that a tag selects
@@ -517,11 +567,14 @@ module _ (table : Table) (operations : List Operation) (m K : ℕ) where
             let gs : List Flat = flat ks ++ fs in
             let (j, few, r) = arm_reach d b.of ks frames fs many a room in
             let (k, few2, q) = by_gap C m K w (j + 1) A frames ((tree.Union v, count ks) ∷ gs) T (λ n. out ++ X n) s
-                (by_step C m K (op.Tag tag) out j B G frames frames ((tree.Union v, count ks) ∷ gs) gs X (first_at C B (op.Tag tag) R s1)
-                    (λ n. ap (λ p. out ++ run C m K n p frames gs) goes) r) in
-            (k, omega (arith, few, few2), reach_as C m K k A frames ((tree.Union v, count ks) ∷ gs) _ _
-                (λ n. as_value t (def.Union tag own arms default) (tree.Union v) ks (gap_pieces w) out W (back (run C m K n) C K frames fs) is
-                    (tag_pieces arms default v tagged) (ap (λ x. values_pieces table (selected_types x) ks) chosen)) q);
+            (by_step C m K (op.Tag tag) out j B G frames frames ((tree.Union v, count ks) ∷ gs) gs X (first_at C B (op.Tag tag) R s1)
+            (λ n. ap (λ p. out ++ run C m K n p frames gs) goes) r) in (
+              k,
+              omega (arith, few, few2),
+              reach_as C m K k A frames ((tree.Union v, count ks) ∷ gs) _ _
+                  (λ n. as_value t (def.Union tag own arms default) (tree.Union v) ks (gap_pieces w) out W (back (run C m K n) C K frames fs) is
+                  (tag_pieces arms default v tagged) (ap (λ x. values_pieces table (selected_types x) ks) chosen)) q,
+            );
       }
 
   -- a node of the form of its type runs, if its children run
@@ -555,9 +608,10 @@ module _ (table : Table) (operations : List Operation) (m K : ℕ) where
   all_run d [] (more u us) h = tt
   all_run d (t ∷ types) none h = tt
   all_run zero (t ∷ types) (more u us) h = absurd h
-  all_run (suc d) (t ∷ types) (more (node l ks) ts) h =
-      (one_runs d h.0 (all_run d (child_types (type_at table t) l ks) ks h.1.0) h.1.0 (shaped_many d (child_types (type_at table t) l ks) ks h.1.0),
-       all_run (suc d) types ts h.1.1)
+  all_run (suc d) (t ∷ types) (more (node l ks) ts) h = (
+    one_runs d h.0 (all_run d (child_types (type_at table t) l ks) ks h.1.0) h.1.0 (shaped_many d (child_types (type_at table t) l ks) ks h.1.0),
+    all_run (suc d) types ts h.1.1,
+  )
 
   form_hoists : {t : ℕ} {l : Label} {ks : Trees} (v : ℕ) → Form table t l ks → hoisted true l v ≡ Align 4 ∷ Max v ∷ []
   form_hoists v (form_num is same) = refl
@@ -572,12 +626,15 @@ module _ (table : Table) (operations : List Operation) (m K : ℕ) where
   -- a home runs: from its whole run, its pieces are written, and nothing after them
   whole_by : (d t : ℕ) (l : Label) (ks : Trees) (b : Bool) (D : TypeDef) → type_at table t ≡ Some D → hoists table t ≡ b → Form table t l ks → Runs C m K table d t l ks → d < 256
       → (k : ℕ) × (k ≤ 3 + 8 * node_count (more (node l ks) none)) × Reach C m K k (whole_at table t) [] (flat (more (node l ks) none))
-        (λ n. kinds_pieces table (hoisted b l m) ++ values_pieces table (t ∷ []) (more (node l ks) none))
+      (λ n. kinds_pieces table (hoisted b l m) ++ values_pieces table (t ∷ []) (more (node l ks) none))
   whole_by d t l ks false D is e form r room =
       let (k, low, reach) = r.reach [] [] (omega (arith, room)) in
-      let V : List Piece = values_pieces table (t ∷ []) (more (node l ks) none) in
-      (k, omega (arith, low), subst (λ p. Reach C m K k p [] (flat (more (node l ks) none)) (λ n. V)) (whole_is_place table t e)
-          (reach_as C m K k (place_at table t) [] (flat (more (node l ks) none)) _ _ (λ n. append-nil V) reach))
+      let V : List Piece = values_pieces table (t ∷ []) (more (node l ks) none) in (
+        k,
+        omega (arith, low),
+        subst (λ p. Reach C m K k p [] (flat (more (node l ks) none)) (λ n. V)) (whole_is_place table t e)
+            (reach_as C m K k (place_at table t) [] (flat (more (node l ks) none)) _ _ (λ n. append-nil V) reach),
+      )
   whole_by d t l ks true D is e form r room =
       let W : ℕ = whole_at table t in
       let A : ℕ = place_at table t in
@@ -591,11 +648,14 @@ module _ (table : Table) (operations : List Operation) (m K : ℕ) where
       let ret : Reach C m K 1 (W + 1 + 1) [] [] (λ n. []) = by_ret C m K (W + 1 + 1) [] [] (first_at C (W + 1 + 1) op.Ret [] s2) in
       let value : Reach C m K (1 + k) A up gs (λ n. V ++ []) = then_reach C m K k 1 A (W + 1 + 1) up [] gs [] V (λ n. []) reach ret in
       let called : Reach C m K (1 + k + 1) (W + 1) [] gs (λ n. V ++ []) =
-          by_step C m K (op.Call A) [] (1 + k) (W + 1) A [] up gs gs (λ n. V ++ []) (first_at C (W + 1) (op.Call A) (op.Ret ∷ []) s1) (λ n. refl) value in
+      by_step C m K (op.Call A) [] (1 + k) (W + 1) A [] up gs gs (λ n. V ++ []) (first_at C (W + 1) (op.Call A) (op.Ret ∷ []) s1) (λ n. refl) value in
       let all : Reach C m K (1 + k + 1 + 1) W [] gs (λ n. (Gap 4 ∷ four m ∷ []) ++ (V ++ [])) =
-          by_step C m K op.Hoist (Gap 4 ∷ four m ∷ []) (1 + k + 1) W (W + 1) [] [] gs gs (λ n. V ++ []) (first_at C W op.Hoist (op.Call A ∷ op.Ret ∷ []) s) (λ n. refl) called in
-      (1 + k + 1 + 1, omega (arith, low), reach_as C m K (1 + k + 1 + 1) W [] gs _ _
-          (λ n. ap (λ q. (Gap 4 ∷ four m ∷ []) ++ q) (append-nil V) ∙ ap (λ q. kinds_pieces table q ++ V) (sym (form_hoists m form))) all)
+      by_step C m K op.Hoist (Gap 4 ∷ four m ∷ []) (1 + k + 1) W (W + 1) [] [] gs gs (λ n. V ++ []) (first_at C W op.Hoist (op.Call A ∷ op.Ret ∷ []) s) (λ n. refl) called in (
+        1 + k + 1 + 1,
+        omega (arith, low),
+        reach_as C m K (1 + k + 1 + 1) W [] gs _ _
+            (λ n. ap (λ q. (Gap 4 ∷ four m ∷ []) ++ q) (append-nil V) ∙ ap (λ q. kinds_pieces table q ++ V) (sym (form_hoists m form))) all,
+      )
 
   form_type : {t : ℕ} {l : Label} {ks : Trees} → Form table t l ks → (D : TypeDef) × (type_at table t ≡ Some D)
   form_type (form_num is same) = (_, is)
@@ -610,11 +670,11 @@ module _ (table : Table) (operations : List Operation) (m K : ℕ) where
   -- with enough steps a run of a home writes exactly its pieces
   pub home_written : (d t : ℕ) (l : Label) (ks : Trees) → Shaped (suc d) table (t ∷ []) (more (node l ks) none) → suc d < 256
       → (limit : ℕ) → 8 + 9 * node_count (more (node l ks) none) ≤ limit → (run C m K limit (whole_at table t) [] (flat (more (node l ks) none))
-        ≡ kinds_pieces table (hoisted (hoists table t) l m) ++ values_pieces table (t ∷ []) (more (node l ks) none))
+      ≡ kinds_pieces table (hoisted (hoists table t) l m) ++ values_pieces table (t ∷ []) (more (node l ks) none))
   home_written d t l ks h room limit enough =
       let a = all_run (suc d) (t ∷ []) (more (node l ks) none) h in
       let (D, is) = form_type h.0 in
       let (k, low, r) = whole_by (suc d) t l ks (hoists table t) D is refl h.0 a.0 room in
-          let (i, e, w) = r (limit - k) in
-          let same : i ≡ limit = omega (arith, e, low, enough) in
-          ap (λ q. run C m K q (whole_at table t) [] (flat (more (node l ks) none))) (sym same) ∙ w
+      let (i, e, w) = r (limit - k) in
+      let same : i ≡ limit = omega (arith, e, low, enough) in
+      ap (λ q. run C m K q (whole_at table t) [] (flat (more (node l ks) none))) (sym same) ∙ w

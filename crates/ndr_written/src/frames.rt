@@ -9,9 +9,15 @@ use std::marker::Model;
 #[derive(Clone, Copy)]
 pub enum Frame {
     /// A run that goes on at this address.
-    Call { to: usize },
+    Call {
+        to: usize,
+    },
     /// An array with so many more elements, each by the run; then the address to go on at.
-    Array { left: u32, run: u32, to: usize },
+    Array {
+        left: u32,
+        run: u32,
+        to: usize,
+    },
     /// A pipe with so many more elements in the chunk that is open, and so many after it.
     Pipe {
         left: u32,

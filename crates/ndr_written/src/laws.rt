@@ -22,7 +22,7 @@ pub fn home_written()
     ensures { (table : Table) (operations : List Operation) (d t : ℕ) (h : Home) (l : Label) (ks : Trees) → Shaped (suc d) table (t ∷ []) (more (node l ks) none)
         → suc d < 256 → (k limit : ℕ) → 8 + 9 * node_count (more (node l ks) none) ≤ limit
         → run (code_of table operations) (hoisted_max 0 (more (node l ks) none)) k limit (whole_at table t) [] (flat (more (node l ks) none))
-            ≡ shown table (whole_value table h t (node l ks)) }
+        ≡ shown table (whole_value table h t (node l ks)) }
 {}
 
 /// The run of a pipe writes exactly the pieces of its elements in chunks of k, of which the last may have fewer, and the last count.
@@ -31,5 +31,5 @@ pub fn pipe_written()
         → type_at table t ≡ Some (Pipe elem) → Shaped d table (replicate (count ks) elem.0) ks → d + 3 ≤ 256
         → (m k limit : ℕ) → 1 ≤ k → 8 + 9 * node_count ks ≤ limit
         → run (code_of table operations) m k limit at [] (flat (more (node tree.Pipe ks) none))
-            ≡ pipe_pieces table (type_at table t) (cut_of k (count ks)) (node tree.Pipe ks) }
+        ≡ pipe_pieces table (type_at table t) (cut_of k (count ks)) (node tree.Pipe ks) }
 {}
