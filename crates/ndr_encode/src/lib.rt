@@ -5,9 +5,9 @@ mod encoding;
 mod making;
 mod maximum;
 mod search;
-#[cfg(test)]
-mod tests;
+mod turn;
 mod work;
 
 pub use encoding::encode_with;
-pub use work::{EncodeFault, Turn, Work};
+pub use turn::Turn;
+pub use work::{EncodeFault, Work};

@@ -1,6 +1,11 @@
 // Works for graphs.
+ghost use Rattle.std.specs.Prelude.{◌≡◌, ◌≤◌, ℕ, Err, IfOk};
+ghost use Rattle.ndr_encode.specs.declared.work.EncodeFault.TheVariants.{TooLong};
+ghost use Rattle.ndr_encode.specs.Work.{IsWorkFor, IsTooLong};
+
 use crate::search::Search;
-use crate::work::{EncodeFault, Turn, Work};
+use crate::turn::Turn;
+use crate::work::{EncodeFault, Work};
 use nd_base::{Memory, STREAM_LIMIT};
 use nd_flat::Fit;
 use nd_types::Side;
@@ -60,7 +65,17 @@ impl Work {
     /// Prepares the encoding of a graph that conforms: the plan is of the interface of the fit, and each chunk of a pipe is to have `chunk` elements, at least one, except the last,
     /// which may have fewer (C706 chapter 14). It takes memory for 12 octets for each root and cell and 4 for each cell, which it keeps, and for a mark for each cell and 8 octets for
     /// each pending referent, which it gives back. `TooLong` exactly if the octets are more than a stream may have.
-    pub fn for_graph(alloc: Global, plan: &Plan, fit: &Fit, chunk: u32) -> Result<Work, EncodeFault> {
+    pub fn for_graph(
+        alloc: Global,
+        plan: &Plan,
+        fit: &Fit,
+        chunk: u32,
+    ) -> Result<Work, EncodeFault>
+        requires tied { plan.now.tie ≡ fit.now.interface }
+        requires some { 1 ≤ chunk }
+        ensures made { IfOk result (λ work. IsWorkFor fit.now chunk work) }
+        ensures long { (n : ℕ) → result ≡ Err (TooLong n) → IsTooLong fit.now chunk n }
+    {
         let mut search = Search::new(alloc, fit.flat().cell_count())?;
         let run = Run {
             code: plan.code.as_slice(),

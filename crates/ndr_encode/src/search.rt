@@ -1,5 +1,5 @@
 // The homes of a graph in the order of the stream, with the octets that they have.
-use crate::work::{EncodeFault, Turn};
+use crate::turn::Turn;
 use nd_base::Memory;
 use nd_flat::Fit;
 use nd_value::{CellId, Home};

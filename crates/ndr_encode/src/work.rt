@@ -1,8 +1,8 @@
 // What is prepared for the encoding of a graph.
-ghost use Rattle.std.specs.Prelude.{◌≡◌, ◌≤◌};
+ghost use Rattle.std.specs.Prelude.{◌≡◌};
 
+use crate::turn::Turn;
 use nd_base::Memory;
-use nd_value::Home;
 use std::marker::Model;
 use thiserror::Error;
 
@@ -27,17 +27,6 @@ impl From<Memory> for EncodeFault {
         EncodeFault::Memory
     }
 }
-
-/// A home, and the address of the run that writes it.
-#[derive(Clone, Copy)]
-pub struct Turn {
-    pub home: Home,
-    pub start: u32,
-}
-
-const TURN_SIZE: usize = size_of::<Turn>();
-
-const _: () = prove!(TURN_SIZE == 12);
 
 /// What is prepared for the encoding of a graph: the homes in the order of the stream, the numbers of the cells, the length of the octets, and the greatest count of
 /// a chunk. It can be used as often as needed, in either order of octets.

@@ -78,7 +78,7 @@ module _ (table : Table) (operations : List Operation) (legal : IsLegal table op
   carried t p is =
       let z : 0 + t ≡ t = omega arith in
       let e : 0 + t ≡ prim_number p =
-          own_number 0 basic_types table t p (refl, (refl, (refl, (refl, (refl, (refl, (refl, (refl, (refl, (refl, (refl, (refl, tt)))))))))))) legal.basic legal.no_later_basic is in
+      own_number 0 basic_types table t p (refl, (refl, (refl, (refl, (refl, (refl, (refl, (refl, (refl, (refl, (refl, (refl, tt)))))))))))) legal.basic legal.no_later_basic is in
       ap carrier_of (sym z ∙ e) ∙ carrier_back p
 
   -- the number of a primitive has no enumerated type
@@ -125,8 +125,11 @@ module _ (table : Table) (operations : List Operation) (legal : IsLegal table op
   shaped g depth (t ∷ types) given none r a = absurd a
   shaped g zero (t ∷ types) given (more u ts) r a = absurd r.0
   shaped g (suc depth) (t ∷ types) given (more (node l ks) ts) r a =
-      let (d, is, fine, inner) = r.0 in
-      (form_by t d l ks is fine (subst (λ o. has_shape o l ks ≡ true) is a.0.shape) (subst (λ o. has_arm o l ≡ true) is a.0.arm),
-          (shaped g depth (child_types (type_at table t) l ks) (child_agreements (type_at table t) ks) ks
+      let (d, is, fine, inner) = r.0 in (
+        form_by t d l ks is fine (subst (λ o. has_shape o l ks ≡ true) is a.0.shape) (subst (λ o. has_arm o l ≡ true) is a.0.arm),
+        (
+          shaped g depth (child_types (type_at table t) l ks) (child_agreements (type_at table t) ks) ks
               (in_parts (Readable table depth) (type_at table t) l ks (subst (λ o. AllByRecursion (Readable table depth) (parts o)) (sym is) inner)) a.2,
-              shaped g (suc depth) types (rest_agreements given) ts r.1 a.3))
+          shaped g (suc depth) types (rest_agreements given) ts r.1 a.3,
+        ),
+      )
