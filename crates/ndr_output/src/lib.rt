@@ -3,6 +3,7 @@
 
 mod count;
 mod fill;
+pub mod laws;
 mod output;
 mod row;
 

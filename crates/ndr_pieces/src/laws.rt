@@ -8,9 +8,6 @@ ghost use Rattle.nd_value.specs.Deferral.{Step};
 ghost use Rattle.nd_grammar.specs.Entry.{Entry, end_of};
 ghost use Rattle.nd_grammar.specs.Stream.{representation};
 ghost use Rattle.nd_grammar.specs.Chosen.{octets_from};
-ghost use Rattle.nd_grammar.specs.Represents.{id_octets};
-ghost use Rattle.nd_grammar.specs.Reader.{identifier};
-ghost use Rattle.ndr_prim.specs.Context.{identifier_octets, identifier as read_identifier};
 ghost use Rattle.ndr_pieces.specs.Pieces.{pieces_octets, pieces_end};
 ghost use Rattle.ndr_pieces.specs.Shown.{shown};
 ghost use Rattle.ndr_pieces.specs.Heads.{stream_pieces};
@@ -28,10 +25,4 @@ pub fn pieces_are_streams()
         → octets_from order numbering 0 (representation w g steps cuts) ≡ pieces_octets order numbering 0 (stream_pieces w g steps cuts) }
     ensures ends { (w : Setting) (g : Graph) (steps : List Step) (cuts : List (List ℕ))
         → end_of 0 (representation w g steps cuts) ≡ pieces_end 0 (stream_pieces w g steps cuts) }
-{}
-
-/// The identifier of a context handle is written and read in the octets that a stream has for it.
-pub fn identifiers_are_entries()
-    ensures written { (order : Order) (id : List ℕ) → identifier_octets order id ≡ id_octets order id }
-    ensures read { (order : Order) (octets os : List ℕ) → read_identifier order os ≡ identifier order octets os }
 {}

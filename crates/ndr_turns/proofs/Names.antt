@@ -94,9 +94,9 @@ values_names (suc d) table h (t ∷ types) given n (more (node l ks) ts) s =
     names_joined K (V ++ R)
     ∙ ap₂ (λ u v. u ++ v) (own_names table h n (first_agreements given) s.0)
     (names_joined V R
-        ∙ ap₂ (λ u v. u ++ v) (values_names d table h (child_types D l ks) (child_agreements D ks) (n + 1) ks s.1.0)
-        (values_names (suc d) table h types (rest_agreements given) (n + 1 + node_count ks) ts s.1.1)
-        ∙ sym (flat_joined (name_of table) (flat_map P A) (flat_map P B)) ∙ sym (ap (flat_map (name_of table)) (flat_joined P A B)))
+    ∙ ap₂ (λ u v. u ++ v) (values_names d table h (child_types D l ks) (child_agreements D ks) (n + 1) ks s.1.0)
+    (values_names (suc d) table h types (rest_agreements given) (n + 1 + node_count ks) ts s.1.1)
+    ∙ sym (flat_joined (name_of table) (flat_map P A) (flat_map P B)) ∙ sym (ap (flat_map (name_of table)) (flat_joined P A B)))
     ∙ sym (flat_joined (name_of table) (P x) (flat_map P (A ++ B)))
 
 hoisted_names : (table : Table) (b : Bool) (l : Label) (m : ℕ) → pieces_names (kinds_pieces table (hoisted b l m)) ≡ []

@@ -130,16 +130,16 @@ module _ (w : Setting) (side : IsLegalSide w) (g : Graph) (k : Conforms w g) whe
       let it : root_item w.table i t (type_at w.table t) ≡ root_due i (whole_at w.table t) = plain_item w.table i t (type_at w.table t) l ks shape e in
       subst (λ j. Turned C g (cells_done done) (j ∷ items due) ((x.home, whole_at w.table x.of) ∷ ts) (named w.table x ++ ns)) (sym it)
       (subst (λ u. Turned C g (cells_done done) (root_due i (whole_at w.table t) ∷ items due) ((x.home, whole_at w.table x.of) ∷ ts) (u ++ ns)) (run_cells x s (few_root i))
-          (root_turn i (whole_at w.table t) (subst (λ u. Turned C g (cells_done done) u ts ns) (run_due x s (few_root i) due) later)))
+      (root_turn i (whole_at w.table t) (subst (λ u. Turned C g (cells_done done) u ts ns) (run_due x s (few_root i) due) later)))
   root_by done due ts ns i t l ks v shape some (Some (c, u)) e s free later =
       let x : Standing = standing_by g i t (root_at g i) (Some (c, u)) in
       let (to, type_is, label_is, of_is) = direct_is (type_at w.table t) l ks c u e some in
       let it : root_item w.table i t (type_at w.table t) ≡ direct_due i (whole_at w.table u) =
-          ap (root_item w.table i t) type_is ∙ ap (λ q. direct_due i (whole_at w.table q)) (sym of_is) in
+      ap (root_item w.table i t) type_is ∙ ap (λ q. direct_due i (whole_at w.table q)) (sym of_is) in
       subst (λ j. Turned C g (cells_done done) (j ∷ items due) ((x.home, whole_at w.table x.of) ∷ ts) ((c ∷ named w.table x) ++ ns)) (sym it)
       (subst (λ q. Turned C g (cells_done done) (direct_due i (whole_at w.table u) ∷ items due) ((x.home, whole_at w.table x.of) ∷ ts) (c ∷ (q ++ ns))) (run_cells x s (few_cell c))
-          (direct_turn i (whole_at w.table u) c (v ∙ ap (λ q. node q ks) label_is) (λ m. free.0 (among_placed done c m))
-              (subst (λ q. Turned C g (c ∷ cells_done done) q ts ns) (run_due x s (few_cell c) due) later)))
+      (direct_turn i (whole_at w.table u) c (v ∙ ap (λ q. node q ks) label_is) (λ m. free.0 (among_placed done c m))
+      (subst (λ q. Turned C g (c ∷ cells_done done) q ts ns) (run_due x s (few_cell c) due) later)))
 
   root_value : (done : Placed_cells) (due : List Due) (ts : List (Home × ℕ)) (ns : List ℕ) (i t : ℕ) (r : Root) (v : Tree) → root_at g i ≡ v
       → GoodTrees w.table g (t ∷ []) (root_agreements w g r.vars ∷ []) (more v none) → Good (standing_by g i t (root_at g i) (direct (type_at w.table t) (root_at g i)))
@@ -176,10 +176,10 @@ module _ (w : Setting) (side : IsLegalSide w) (g : Graph) (k : Conforms w g) whe
       let ts : List (Home × ℕ) = home_turns w.table (standings w g steps) in
       let ns : List ℕ = named_cells w g steps in
       let later : Turned C g (c ∷ cells_done done) (items (due_of w.table x ++ due)) ts ns =
-          turns d (all_append GoodDue (due_of w.table x) due (standing_due w (no_pipes w side g k) g x s) a.1) in
+      turns d (all_append GoodDue (due_of w.table x) due (standing_due w (no_pipes w side g k) g x s) a.1) in
       subst (λ o. Turned C g (cells_done done) (cells_due (named_cell o (whole_at w.table p.to)) ++ items due) ((cell_home c, whole_at w.table p.to) ∷ ts) (named w.table x ++ ns)) (sym e)
       (subst (λ u. Turned C g (cells_done done) (cell_due c (whole_at w.table p.to) ∷ items due) ((cell_home c, whole_at w.table p.to) ∷ ts) (u ++ ns)) (run_cells x s (few_cell c))
-          (cell_turn c (whole_at w.table p.to) (λ m. free (among_placed done c m)) (subst (λ u. Turned C g (c ∷ cells_done done) u ts ns) (run_due x s (few_cell c) due) later)))
+      (cell_turn c (whole_at w.table p.to) (λ m. free (among_placed done c m)) (subst (λ u. Turned C g (c ∷ cells_done done) u ts ns) (run_due x s (few_cell c) due) later)))
 
   items_are : (i n : ℕ) → items (due_roots i n) ≡ root_items w i n
   items_are i zero = refl

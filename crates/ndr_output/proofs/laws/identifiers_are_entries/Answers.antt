@@ -1,5 +1,5 @@
 use Rattle.std.proofs.Common.{refl}
-use Rattle.ndr_pieces.proofs.laws.identifiers_are_entries.Goals as goal
+use Rattle.ndr_output.proofs.laws.identifiers_are_entries.Goals as goal
 
 pub returns-clause-written : goal.returns-clause-written
 returns-clause-written c order id = refl
