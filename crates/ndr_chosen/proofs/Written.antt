@@ -25,10 +25,9 @@ use Rattle.nd_grammar.specs.Chosen.{Chosen, octets_from, cut_of, pipe_cuts}
 use Rattle.nd_grammar.proofs.next.NextStream.{drop_at}
 use Rattle.ndr_code.specs.declared.instr.Instr.{Instr}
 use Rattle.ndr_code.specs.declared.instr.Instr.TheVariants as op
-use Rattle.ndr_code.specs.Code.{whole_at, place_at, pipe_at, code_of}
+use Rattle.ndr_code.specs.Code.{whole_at, place_at, pipe_at, code_of, pipe_roots}
 use Rattle.ndr_code.specs.Runs.{IsRunAt}
 use Rattle.ndr_code.proofs.SideRuns.{pipe_run_at}
-use Rattle.ndr_sides.proofs.Parted.{pipes_last}
 use Rattle.ndr_pieces.specs.Pieces.{Piece, pieces_octets, pieces_end}
 use Rattle.ndr_pieces.specs.Shown.{shown, pipe_pieces}
 use Rattle.ndr_pieces.specs.Heads.{standings, homes_pieces, pipes_pieces, stream_pieces}
@@ -85,7 +84,7 @@ module _ (w : Setting) (side : IsLegalSide w) (g : Graph) (c : Conforms w g) whe
   values_are (referent_stands p b ∷ steps) = (refl, values_are steps)
   values_are (stands_already p b ∷ steps) = values_are steps
 
-  module _ (k : ℕ) where
+  module _ (pipes_last : pipe_roots (root_list w) ≡ drop (before_pipes (root_list w)) (root_list w)) (k : ℕ) where
     whole_one : (h : Home) (t : ℕ) (v : Tree) → Shaped 32 w.table (t ∷ []) (more v none) → node_count (more v none) < 2 ^ 32
         → run C (hoisted_max 0 (more v none)) k STEPS (whole_at w.table t) [] (flat (more v none)) ≡ shown w.table (whole_value w.table h t v)
     whole_one h t (node l ks) s few =
@@ -145,15 +144,15 @@ module _ (w : Setting) (side : IsLegalSide w) (g : Graph) (c : Conforms w g) whe
         flat_joined (turn_pieces C k g) A P
         ∙ ap₂ (λ u v. u ++ v) (homes_all (standings w g steps) (homes_shaped w side g c steps d) (values_are steps))
         (pipes_all at first (drop first (root_list w)) (drop first g.roots) 0 some same (λ i a r e s.
-            let same_place : a ≡ i = e ∙ omega arith in
-            let there : slice_get (drop first (root_list w)) a ≡ Some r = ap (slice_get (drop first (root_list w))) same_place ∙ s in
-            let value : root_at g (first + a) ≡ or_unread (slice_get (drop first g.roots) i) =
-                ap or_unread (sym (drop_at first g.roots a)) ∙ ap (λ m. or_unread (slice_get (drop first g.roots) m)) same_place in
-            record {
-              shaped = subst (IsShapedPipe w.table r.of) value (pipes_shaped w side g c a r there);
-              its_run = pipe_run_at w.table side.operations n w.op is w.side a r (ap (λ l. slice_get l a) (pipes_last w) ∙ there);
-              value_is = value;
-            }))
+        let same_place : a ≡ i = e ∙ omega arith in
+        let there : slice_get (drop first (root_list w)) a ≡ Some r = ap (slice_get (drop first (root_list w))) same_place ∙ s in
+        let value : root_at g (first + a) ≡ or_unread (slice_get (drop first g.roots) i) =
+        ap or_unread (sym (drop_at first g.roots a)) ∙ ap (λ m. or_unread (slice_get (drop first g.roots) m)) same_place in
+        record {
+          shaped = subst (IsShapedPipe w.table r.of) value (pipes_shaped w side g c a r there);
+          its_run = pipe_run_at w.table side.operations n w.op is w.side a r (ap (λ l. slice_get l a) pipes_last ∙ there);
+          value_is = value;
+        }))
 
     -- with the canonical numbers these are the octets that are chosen
     pub chosen : (n : ℕ) → slice_get side.operations n ≡ Some w.op → (steps : List Step) → Deferral w g [] (due_roots 0 (before_pipes (root_list w))) steps → 1 ≤ k
@@ -162,7 +161,7 @@ module _ (w : Setting) (side : IsLegalSide w) (g : Graph) (c : Conforms w g) whe
     chosen n is steps d some order numbers are =
         let cuts : List (List ℕ) = pipe_cuts k (drop (before_pipes (root_list w)) g.roots) in
         let number : ℕ → ℕ = λ b. get_or numbers b 0 in
-        let same : number ≡ canonical_number (named_cells w g steps) = fun_ext are in
+        let same : number ≡ canonical_number (named_cells w g steps) = fun_ext {f = number} {g = canonical_number (named_cells w g steps)} are in
         record {
           steps = steps;
           deferral = d;
@@ -172,6 +171,6 @@ module _ (w : Setting) (side : IsLegalSide w) (g : Graph) (c : Conforms w g) whe
 
     pub ends : (n : ℕ) → slice_get side.operations n ≡ Some w.op → (steps : List Step) → Deferral w g [] (due_roots 0 (before_pipes (root_list w))) steps → 1 ≤ k
         → pieces_end 0 (turns_pieces C k g (all_turns w side.operations n g steps))
-            ≡ end_of 0 (representation w g steps (pipe_cuts k (drop (before_pipes (root_list w)) g.roots)))
+        ≡ end_of 0 (representation w g steps (pipe_cuts k (drop (before_pipes (root_list w)) g.roots)))
     ends n is steps d some =
         ap (pieces_end 0) (written n is steps d some) ∙ sym (stream_end w g steps (pipe_cuts k (drop (before_pipes (root_list w)) g.roots)))

@@ -16,12 +16,16 @@ ghost use Rattle.ndr_pieces.specs.Pieces.{pieces_octets, pieces_end};
 ghost use Rattle.ndr_pieces.specs.Heads.{stream_pieces};
 ghost use Rattle.ndr_chosen.specs.Written.{turns_pieces, all_turns};
 
+use ndr_sides::laws::roots_and_pipes;
+
 /// What the runs of all homes write, in the order of deferral, and then those of the pipes, are the pieces of the stream.
 pub fn turns_are_written()
     ensures { (w : Setting) → (side : IsLegalSide w) → (g : Graph) → Conforms w g → (k n : ℕ) → slice_get side.operations n ≡ Some w.op
         → (steps : List Step) → Deferral w g [] (due_roots 0 (before_pipes (root_list w))) steps → 1 ≤ k
         → turns_pieces (code_of w.table side.operations) k g (all_turns w side.operations n g steps) ≡ stream_pieces w g steps (pipe_cuts k (drop (before_pipes (root_list w)) g.roots)) }
-{}
+{
+    roots_and_pipes();
+}
 
 /// With the canonical numbers of the cells their octets are those that are chosen, in either order, and they end where the stream ends.
 pub fn turns_are_chosen()
@@ -32,5 +36,7 @@ pub fn turns_are_chosen()
     ensures ends { (w : Setting) → (side : IsLegalSide w) → (g : Graph) → Conforms w g → (k n : ℕ) → slice_get side.operations n ≡ Some w.op
         → (steps : List Step) → Deferral w g [] (due_roots 0 (before_pipes (root_list w))) steps → 1 ≤ k
         → pieces_end 0 (turns_pieces (code_of w.table side.operations) k g (all_turns w side.operations n g steps))
-            ≡ end_of 0 (representation w g steps (pipe_cuts k (drop (before_pipes (root_list w)) g.roots))) }
-{}
+        ≡ end_of 0 (representation w g steps (pipe_cuts k (drop (before_pipes (root_list w)) g.roots))) }
+{
+    roots_and_pipes();
+}
