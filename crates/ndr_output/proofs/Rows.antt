@@ -90,7 +90,7 @@ values_many o p (suc n) os = ap suc (values_many o p n (drop (width p) os))
 
 -- ## Gaps
 
-IsWidth : ℕ → Type 0
+abbrev IsWidth : ℕ → Type 0
 IsWidth w = (w ≡ 1) ⊎ ((w ≡ 2) ⊎ ((w ≡ 4) ⊎ (w ≡ 8)))
 
 width_is : (p : Primitive) → IsWidth (width p)

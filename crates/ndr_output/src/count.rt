@@ -1,5 +1,8 @@
 // An output that counts octets, and keeps what pointers name.
-ghost use Rattle.std.specs.Prelude.{◌≡◌, ◌<◌, ◌*◌, length};
+ghost use Rattle.std.specs.Prelude.{◌≡◌, ◌<◌, ◌*◌, ◌++◌, OnOk};
+ghost use Rattle.nd_value.specs.Seen.{cell_number};
+ghost use Rattle.ndr_pieces.specs.Pieces.{named_cell};
+ghost use Rattle.ndr_output.specs.Counting.{names_of};
 ghost use Rattle.nd_types.specs.Table.{width};
 ghost use Rattle.nd_grammar.specs.Entry.{gap};
 
@@ -39,6 +42,19 @@ fn row_length(prim: Prim, count: u32) -> u128
     ensures { result ≡ count * width prim }
 {
     u128::from(count) * width_of(prim) as u128
+}
+
+// What a pointer names, after what others named.
+fn keep(names: &mut Vec<Named>, cell: Option<CellId>, run: u32) -> Result<(), Memory>
+    ensures { OnOk result (names_of names.new.items ≡ names_of names.old.items ++ named_cell (cell_number cell) run) }
+{
+    let Some(cell) = cell else {
+        return Ok(());
+    };
+    let Ok(()) = names.push(Named { cell, run }) else {
+        return Err(Memory);
+    };
+    Ok(())
 }
 
 impl Output for Count {
@@ -81,11 +97,7 @@ impl Output for Count {
     }
 
     fn name(&mut self, cell: Option<CellId>, run: u32) -> Result<(), Memory> {
-        if let Some(cell) = cell {
-            let Ok(()) = self.names.push(Named { cell, run }) else {
-                return Err(Memory);
-            };
-        }
+        keep(&mut self.names, cell, run)?;
         self.at = self.at + 4;
         Ok(())
     }
