@@ -1,6 +1,6 @@
 -- What the intake answers, in terms of what a step wants.
 -- `w` is what it wants, `n` how many octets were asked for, `os` those that came.
-use Rattle.std.proofs.Common.{◌≡◌, ◌≤◌, ◌<◌, ℕ, ◌+◌, ◌-◌, ◌^◌, List, [], ◌∷◌, length, min, Result, Ok, Err, IfOk, IfErr, IsErrOf, ◌⊎◌, inl, inr, refl, sym, ap, ◌∙◌, subst, arith}
+use Rattle.std.proofs.Common.{◌≡◌, ◌≤◌, ◌<◌, ℕ, ◌+◌, ◌-◌, ◌^◌, List, length, min, Result, Ok, Err, IfOk, IfErr, IsErrOf, ◌⊎◌, inl, inr, refl, ◌∙◌, subst, arith}
 use Rattle.std.proofs.lemmas.Bool.{cases_lt}
 use Rattle.std.proofs.lemmas.List.{nil_from_length}
 use Rattle.nd_base.specs.declared.TheConstants.{STREAM_LIMIT}
@@ -10,7 +10,6 @@ use Rattle.ndr_intake.specs.declared.intake.IntakeFault.TheVariants as intake
 use Rattle.ndr_intake.specs.Intake.{IsGapFault, IsItemFault}
 use Rattle.ndr_steps.specs.Steps.{Want, no_octets, gap_of, item_of}
 use Rattle.ndr_steps.specs.Good.{HasOctets, IsCut}
-use Rattle.ndr_machine.specs.declared.steps.Want as code
 use Rattle.ndr_machine.specs.declared.steps.Want.TheVariants as want
 use Rattle.ndr_machine.specs.Wanting.{Wants}
 use Rattle.ndr_machine.specs.Reaching.{Fetches, stream_answer}

@@ -1,15 +1,13 @@
-use Rattle.std.proofs.Common.{◌≡◌, ◌<◌, ◌≤◌, ◌*◌, ◌/◌, ◌+◌, ◌^◌, ℕ, List, [], length, take, Result, Ok, Err, sym, ap, ◌∙◌, subst, arith}
-use Rattle.nd_base.specs.Over.{SourceSeen, source_seen}
-use Rattle.nd_types.specs.declared.types.Primitive.{Primitive}
+use Rattle.std.proofs.Common.{◌≡◌, ◌<◌, ◌≤◌, ◌*◌, ◌/◌, ◌+◌, ◌^◌, [], length, take, Ok, Err, sym, ap, ◌∙◌, subst, arith}
+use Rattle.nd_base.specs.Over.{source_seen}
 use Rattle.nd_types.specs.Number.{AreOctets}
 use Rattle.nd_types.specs.Table.{width}
 use Rattle.ndr_code.specs.declared.instr.Instr.TheVariants as op
 use Rattle.ndr_steps.specs.Steps.{goes, item_of, prim_of}
 use Rattle.ndr_runs.specs.Reaching.{begins}
 use Rattle.ndr_runs.specs.Rows.{row_read}
-use Rattle.ndr_state.specs.declared.fault.DecodeFault.{DecodeFault}
 use Rattle.ndr_state.specs.Seen.{state_of, Does}
-use Rattle.ndr_state.specs.Notes.{NotesSeen, notes_seen}
+use Rattle.ndr_state.specs.Notes.{notes_seen}
 use Rattle.ndr_machine.specs.Notes.{RowNoted}
 use Rattle.ndr_machine.specs.Reaching.{Fetches}
 use Rattle.ndr_machine.proofs.Taking.{address_fits, count_fits}
