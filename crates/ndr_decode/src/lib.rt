@@ -1,0 +1,11 @@
+//! Decoding of streams of values by the plan of their interface, from any source of octets.
+#![tactic(auto)]
+
+mod chunks;
+mod decoding;
+mod homes;
+mod roots;
+mod worklist;
+
+pub use decoding::{Decoded, decode};
+pub use ndr_state::DecodeFault;
