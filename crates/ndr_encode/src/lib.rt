@@ -1,0 +1,12 @@
+//! Encodes graphs: a work is prepared for a graph, and then its octets are written as often as needed, without memory and without failing.
+#![tactic(auto)]
+
+mod encoding;
+mod making;
+mod numbering;
+mod search;
+mod work;
+
+pub use encoding::encode_with;
+pub use ndr_homes::Turn;
+pub use work::{EncodeFault, Work};
