@@ -78,7 +78,7 @@ def rules_without_texts() -> List[str]:
     return [f"docs/IDL.md has no text of rule {number}" for number in range(1, RULES + 1) if number not in found | {39}]
 
 
-# The texts of the table of section 13 that are too long for it, or that need other files.
+# The texts of the table of section 12 that are too long for it, or that need other files.
 DEEP = f"const long A = {'(' * 64}1{')' * 64};"
 CHAIN = {f"u{at}.idl": f'[local] interface u {{ import "u{at + 1}.idl"; }}' for at in range(1, 63)}
 LONG = {
@@ -92,12 +92,12 @@ def of_refusals() -> Iterator[Case]:
     """The text for each WHAT."""
     for what, _, text, line in table(IDL, "WHAT", "When", "Such a text", "Its line"):
         kind, texts, told = SPAN.findall(what)[0], SPAN.findall(text), SPAN.findall(line)[0]
-        name = f"docs/IDL.md, section 13, {kind}"
+        name = f"docs/IDL.md, section 12, {kind}"
         files = LONG.get(kind) or {"t.idl": within(texts[0] if texts else "")}
         if kind == "Rule 40":
             yield refused(name, {"t.idl": within(""), "t.acf": texts[-1]}, told, "t.acf")
-        elif kind in ("NoOperation NAME", "NotBuilt NAME"):
-            words = ["decode", "t.idl", "-", "f", "in", "little"]
+        elif kind == "NoOperation NAME":
+            words = ["encode", "t.idl", "-", "f", "in", "little", "1"]
             yield Case(name, words, {file: content.encode() for file, content in files.items()}, notes=lines(f"idl t.idl: {told}"), status=6)
         else:
             yield refused(name, files, told if ".idl:" in told else f"t.idl:{told}")
@@ -123,6 +123,13 @@ def of_listing() -> Case:
     """The example of the listing: the first block lists the second."""
     listing, text = blocks("docs/LISTING.md")[:2]
     return compiled("docs/LISTING.md: the example", {"t.idl": text}, out=listing.encode())
+
+
+def of_decoding() -> Case:
+    """The stream of docs/DECODING.md: its octets mean its text."""
+    idl, dump, text = blocks("docs/DECODING.md")[:3]
+    stream = bytes.fromhex("".join(line.split(":")[1] for line in dump.splitlines()))
+    return Case("docs/DECODING.md: the stream", ["decode", "t.idl", "-", "put", "in", "little"], {"t.idl": idl.encode()}, stream, text.encode())
 
 
 def of_acf() -> List[str]:
@@ -216,6 +223,7 @@ CASES = [
     of_listing(),
     *commands("docs/LISTING.md"),
     Check("docs/ACF.md: the example", of_acf),
+    of_decoding(),
     *of_forms(),
     *of_misfits(),
     *of_texts(),

@@ -1,46 +1,55 @@
 -- What is made of a text, from what the steps answer.
-use Rattle.std.proofs.Common.{◌≡◌, ℕ, List, Some, None, Result, Ok, Err, IfOk, IfErr, sym, ◌∙◌, ap, subst}
+use Rattle.std.proofs.Common.{◌≡◌, ℕ, List, Option, Some, sym, ◌∙◌, ap, subst}
 use Rattle.std.proofs.lemmas.Option.{same_Some}
 use Rattle.std.specs.List.{slice_get}
 use Rattle.nd_base.specs.declared.octets.Order.{Order}
 use Rattle.nd_types.specs.declared.interface.Interface.{Interface}
 use Rattle.nd_types.specs.declared.types.Operation.{Operation}
 use Rattle.nd_types.specs.declared.types.Side.{Side}
-use Rattle.nd_value.specs.declared.item.Home.{Home}
-use Rattle.nd_value.specs.declared.misfit.MisfitReason.{MisfitReason}
 use Rattle.nd_value.specs.declared.value.Graph.{Graph}
 use Rattle.nd_value.specs.Setting.{Setting}
 use Rattle.nd_value.specs.Conforms.{Conforms}
-use Rattle.nd_value.specs.FirstMisfit.{IsFirstMisfit}
-use Rattle.nd_value.specs.Fitting.{Fitting, IsFit, setting_of, setting_beside}
-use Rattle.nd_grammar.specs.Chosen.{Chosen}
-use Rattle.text_grammar.specs.declared.fault.TextReason.{TextReason}
-use Rattle.text_grammar.specs.Paths.{IsPath}
+use Rattle.nd_value.specs.Fitting.{Fitting, IsFit, setting_beside}
+use Rattle.ndr_writing.specs.Written.{IsWritten, IsWritingCause}
+use Rattle.text_fitting.specs.Fitted.{IsTextCause}
 use Rattle.text_grammar.specs.Printed.{IsText}
-use Rattle.text_grammar.specs.Reads.{ReadsAs, IsTextFault}
+use Rattle.text_grammar.specs.Reads.{ReadsAs}
 use Rattle.refusals.specs.declared.refusal.Refusal.{Refusal}
-use Rattle.refusals.specs.declared.refusal.Refusal.TheVariants.{Memory, Absent, FileFailed, BadIdl, NoOperation, NotBuilt, ReadFault, BadOctets, BadText, BadValue}
-use Rattle.dceidl.specs.Encode.{IsEncoding, IsMigration, IsTextCause, IsValueCause, IsMisfitAt}
-use Rattle.dceidl.proofs.Paths.{misfit_path}
+use Rattle.refusals.specs.declared.refusal.Refusal.TheVariants.{Memory, Absent, FileFailed, BadIdl, NoOperation, ReadFault, BadOctets, BadText, BadValue, TooLong, BadRequest}
+use Rattle.dceidl.specs.Encode.{IsEncoding, IsEncodingCause, IsMigration}
+
+-- why a text is refused is why it is not encoded
+pub text_cause : (w : Setting) (chunk : ℕ) (text : List ℕ) (e : Refusal) → IsTextCause w text e → IsEncodingCause w chunk text e
+text_cause w chunk text Memory cause = cause
+text_cause w chunk text (Absent file) cause = cause
+text_cause w chunk text (FileFailed file) cause = cause
+text_cause w chunk text (BadIdl file line column reason) cause = cause
+text_cause w chunk text NoOperation cause = cause
+text_cause w chunk text ReadFault cause = cause
+text_cause w chunk text (BadOctets place why) cause = cause
+text_cause w chunk text (BadText line column reason) cause = cause
+text_cause w chunk text (BadValue path reason) cause = cause
+text_cause w chunk text (TooLong many) cause = absurd cause
+text_cause w chunk text (BadRequest fault) cause = cause
 
 -- ## A fit of an operation's side
 
--- a fit is of this side of this operation, beside no request
-pub record IsOfSide (f : Fitting) (i : Interface) (n : ℕ) (s : Side) : Type 0 where
+-- a fit is of this side of this operation, beside this request or none
+pub record IsOfSide (f : Fitting) (i : Interface) (n : ℕ) (s : Side) (q : Option Graph) : Type 0 where
   pub tied : f.interface ≡ i
   pub number : f.op ≡ n
   pub side : f.side ≡ s
-  pub beside : f.given ≡ None
+  pub beside : f.given ≡ q
 
-module _ (f : Fitting) (i : Interface) (n : ℕ) (s : Side) (of : IsOfSide f i n s) (o : Operation) (there : slice_get i.operations n ≡ Some o) where
+module _ (f : Fitting) (i : Interface) (n : ℕ) (s : Side) (q : Option Graph) (of : IsOfSide f i n s q) (o : Operation) (there : slice_get i.operations n ≡ Some o) where
   pub its_operation : slice_get i.operations f.op ≡ Some o
   its_operation = subst (λ k. slice_get i.operations k ≡ Some o) (sym of.number) there
 
   -- what holds of its own setting holds of the operation's
-  pub of_setting : (P : Setting → Type 0) → P (setting_beside i o f.side f.given) → P (setting_of i o s)
-  of_setting P h = subst (λ q. P (setting_beside i o s q)) of.beside (subst (λ k. P (setting_beside i o k f.given)) of.side h)
+  pub of_setting : (P : Setting → Type 0) → P (setting_beside i o f.side f.given) → P (setting_beside i o s q)
+  of_setting P h = subst (λ r. P (setting_beside i o s r)) of.beside (subst (λ k. P (setting_beside i o k f.given)) of.side h)
 
-  pub fit_conforms : IsFit f → Conforms (setting_of i o s) f.graph
+  pub fit_conforms : IsFit f → Conforms (setting_beside i o s q) f.graph
   fit_conforms fit =
       let found : slice_get i.operations f.op ≡ Some fit.operation = ap (λ (j : Interface). slice_get j.operations f.op) (sym of.tied) ∙ fit.is_there in
       let same : fit.operation ≡ o = same_Some _ _ (sym found ∙ its_operation) in
@@ -48,66 +57,39 @@ module _ (f : Fitting) (i : Interface) (n : ℕ) (s : Side) (of : IsOfSide f i n
       (subst (λ p. Conforms (setting_beside i p f.side f.given) f.graph) same
       (subst (λ (j : Interface). Conforms (setting_beside j fit.operation f.side f.given) f.graph) of.tied fit.conforms))
 
-  pub encoding_is : (order : Order) (chunk : ℕ) (text octets : List ℕ) → ReadsAs (setting_of i o s) text f.graph → IsFit f
-      → Chosen (setting_beside i o f.side f.given) order chunk f.graph octets → IsEncoding (setting_of i o s) order chunk text octets
-  encoding_is order chunk text octets reads fit chosen = record {
+  pub encoding_is : (order : Order) (chunk : ℕ) (text octets : List ℕ) → ReadsAs (setting_beside i o s q) text f.graph → IsFit f
+      → IsWritten (setting_beside i o f.side f.given) order chunk f.graph octets → IsEncoding (setting_beside i o s q) order chunk text octets
+  encoding_is order chunk text octets reads fit written = record {
     graph = f.graph;
     reads = reads;
     conforms = fit_conforms fit;
-    chosen = of_setting (λ w. Chosen w order chunk f.graph octets) chosen;
+    written = of_setting (λ w. IsWritten w order chunk f.graph octets) written;
   }
 
-  pub migration_is : (text made : List ℕ) → ReadsAs (setting_of i o s) text f.graph → IsFit f → IsText (setting_beside i o f.side f.given) f.graph made
-      → IsMigration (setting_of i o s) text made
+  -- octets that are too many are why a text is not encoded
+  cause_of : (chunk : ℕ) (text : List ℕ) → ReadsAs (setting_beside i o s q) text f.graph → IsFit f → (e : Refusal) → IsWritingCause (setting_beside i o s q) chunk f.graph e
+      → IsEncodingCause (setting_beside i o s q) chunk text e
+  cause_of chunk text reads fit (TooLong many) long = record { graph = f.graph; reads = reads; conforms = fit_conforms fit; long = long }
+  cause_of chunk text reads fit Memory cause = tt
+  cause_of chunk text reads fit (Absent file) cause = absurd cause
+  cause_of chunk text reads fit (FileFailed file) cause = absurd cause
+  cause_of chunk text reads fit (BadIdl file line column reason) cause = absurd cause
+  cause_of chunk text reads fit NoOperation cause = absurd cause
+  cause_of chunk text reads fit ReadFault cause = absurd cause
+  cause_of chunk text reads fit (BadOctets place why) cause = absurd cause
+  cause_of chunk text reads fit (BadText line column reason) cause = absurd cause
+  cause_of chunk text reads fit (BadValue path reason) cause = absurd cause
+  cause_of chunk text reads fit (BadRequest fault) cause = absurd cause
+
+  pub encoding_cause : (chunk : ℕ) (text : List ℕ) → ReadsAs (setting_beside i o s q) text f.graph → IsFit f → (e : Refusal)
+      → IsWritingCause (setting_beside i o f.side f.given) chunk f.graph e → IsEncodingCause (setting_beside i o s q) chunk text e
+  encoding_cause chunk text reads fit e cause = cause_of chunk text reads fit e (of_setting (λ w. IsWritingCause w chunk f.graph e) cause)
+
+  pub migration_is : (text made : List ℕ) → ReadsAs (setting_beside i o s q) text f.graph → IsFit f → IsText (setting_beside i o f.side f.given) f.graph made
+      → IsMigration (setting_beside i o s q) text made
   migration_is text made reads fit printed = record {
     graph = f.graph;
     reads = reads;
     conforms = fit_conforms fit;
     printed = of_setting (λ w. IsText w f.graph made) printed;
   }
-
--- ## Refusals
-
--- a graph that is refused is a text that is refused
-module _ (w : Setting) (text : List ℕ) (g : Graph) (reads : ReadsAs w text g) where
-  text_cause : (e : Refusal) → IsValueCause w g e → IsTextCause w text e
-  text_cause Memory cause = tt
-  text_cause (BadValue path reason) misfit = record { graph = g; reads = reads; misfit = misfit }
-  text_cause (BadText line column reason) cause = absurd cause
-  text_cause (BadOctets place why) cause = absurd cause
-  text_cause (Absent file) cause = absurd cause
-  text_cause (FileFailed file) cause = absurd cause
-  text_cause (BadIdl file line column reason) cause = absurd cause
-  text_cause NoOperation cause = absurd cause
-  text_cause NotBuilt cause = absurd cause
-  text_cause ReadFault cause = absurd cause
-
-  pub text_refused : (result : Result Fitting Refusal) → IfErr result (IsValueCause w g) → IfErr result (IsTextCause w text)
-  text_refused (Ok f) cause = tt
-  text_refused (Err e) cause = text_cause e cause
-
--- a fit of a graph that a text reads as is read from the text
-pub read_is : (w : Setting) (text : List ℕ) (g : Graph) (n : ℕ) (s : Side) (i : Interface) → ReadsAs w text g → (result : Result Fitting Refusal)
-    → IfOk result (λ f. f ≡ record { graph = g; op = n; side = s; interface = i; given = None }) → IfOk result (λ f. ReadsAs w text f.graph)
-read_is w text g n s i reads (Ok f) fits = subst (λ (x : Fitting). ReadsAs w text x.graph) (sym fits) reads
-read_is w text g n s i reads (Err e) fits = tt
-
-pub of_side : (g : Graph) (n : ℕ) (s : Side) (i : Interface) (result : Result Fitting Refusal)
-    → IfOk result (λ f. f ≡ record { graph = g; op = n; side = s; interface = i; given = None }) → IfOk result (λ f. IsOfSide f i n s)
-of_side g n s i (Ok f) fits =
-    record { tied = ap (λ (x : Fitting). x.interface) fits; number = ap (λ (x : Fitting). x.op) fits; side = ap (λ (x : Fitting). x.side) fits; beside = ap (λ (x : Fitting). x.given) fits }
-of_side g n s i (Err e) fits = tt
-
--- a fault by other names for its line, column and reason
-pub same_fault : (w : Setting) (text : List ℕ) (line at column octet : ℕ) (reason why : TextReason) → line ≡ at → column ≡ octet → reason ≡ why
-    → IsTextFault w text at octet why → IsTextFault w text line column reason
-same_fault w text line at column octet reason why a b c fault =
-    subst (λ l. IsTextFault w text l column reason) (sym a)
-    (subst (λ k. IsTextFault w text at k reason) (sym b) (subst (IsTextFault w text at octet) (sym c) fault))
-
--- the first misfit is reported at its path
-pub misfit_is : (w : Setting) (g : Graph) (h : Home) (n : ℕ) (reason : MisfitReason) (path : List ℕ)
-    → IsFirstMisfit w g (record { home = h; node = n; reason = reason }) → ((p : List ℕ) → IsPath w g h n p → path ≡ p) → IsMisfitAt w g path reason
-misfit_is w g h n reason path first only =
-    let own = misfit_path w g (record { home = h; node = n; reason = reason }) first in
-    record { home = h; node = n; first = first; path_is = subst (IsPath w g h n) (sym (only own.path own.is_path)) own.is_path }

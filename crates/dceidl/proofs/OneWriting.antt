@@ -1,23 +1,24 @@
--- What a text comes to: something is made of it, or it is refused at one place, or its values are refused at one path, or memory runs out.
-use Rattle.std.proofs.Common.{◌≡◌, ℕ, List, refl, ◌∙◌, ap, ap₂, subst, inl, inr, ◌⊎◌}
+-- Something is made of a text exactly if it reads as a graph that conforms, and it is encoded exactly if no more octets are chosen than a stream may have.
+use Rattle.std.proofs.Common.{◌≡◌, ℕ, List, length, refl, sym, ◌∙◌, ap, subst, inl, inr, ◌⊎◌, arith}
+use Rattle.nd_base.specs.declared.octets.Order.{Order}
+use Rattle.nd_base.specs.declared.octets.Order.TheVariants.{Little}
 use Rattle.nd_value.specs.declared.misfit.MisfitReason.{MisfitReason}
 use Rattle.nd_value.specs.declared.value.Graph.{Graph}
 use Rattle.nd_value.specs.Setting.{Setting}
 use Rattle.nd_value.specs.Conforms.{Conforms}
-use Rattle.nd_value.specs.FirstMisfit.{MisfitAt}
-use Rattle.nd_value.proofs.Misfits.{misfit_is_no_fit, one_first_misfit}
+use Rattle.nd_value.proofs.Misfits.{misfit_is_no_fit}
 use Rattle.nd_grammar.specs.LegalSide.{IsLegalSide}
+use Rattle.nd_grammar.specs.Chosen.{Chosen}
+use Rattle.nd_grammar.proofs.ChosenRepresents.{chosen_exists, chosen_alone}
+use Rattle.ndr_writing.specs.Written.{IsWritten, IsLong}
 use Rattle.text_grammar.specs.declared.fault.TextReason.{TextReason}
-use Rattle.text_grammar.specs.Paths.{IsPath}
 use Rattle.text_grammar.specs.Reads.{ReadsAs, IsTextFault}
-use Rattle.text_reader.proofs.Stated.{never_both, one_graph, one_fault}
+use Rattle.text_reader.proofs.Stated.{never_both, one_graph}
+use Rattle.text_fitting.specs.Fitted.{IsTextCause, IsMisfitAt}
+use Rattle.text_fitting.proofs.OneText.{good_cause, fault_cause, misfit_cause}
 use Rattle.refusals.specs.declared.refusal.Refusal.{Refusal}
-use Rattle.refusals.specs.declared.refusal.Refusal.TheVariants.{Memory, Absent, FileFailed, BadIdl, NoOperation, NotBuilt, ReadFault, BadOctets, BadText, BadValue}
-use Rattle.dceidl.specs.declared.words.Writing.{Writing}
-use Rattle.dceidl.specs.declared.words.Writing.TheVariants.{Encode, Migrate}
-use Rattle.dceidl.specs.Encode.{IsTextCause, IsMisfitAt}
-use Rattle.dceidl.specs.Input.{IsMadeOf}
-use Rattle.dceidl.proofs.Paths.{one_path}
+use Rattle.refusals.specs.declared.refusal.Refusal.TheVariants.{Memory, Absent, FileFailed, BadIdl, NoOperation, ReadFault, BadOctets, BadText, BadValue, TooLong, BadRequest}
+use Rattle.dceidl.specs.Encode.{IsEncoding, IsLongEncoding, IsEncodingCause, IsMigration}
 
 -- a text that reads as a graph that conforms
 pub record IsGood (w : Setting) (text : List ℕ) : Type 0 where
@@ -25,70 +26,88 @@ pub record IsGood (w : Setting) (text : List ℕ) : Type 0 where
   pub reads : ReadsAs w text graph
   pub conforms : Conforms w graph
 
--- something is made of such texts alone
-made_good : (w : Setting) (text : List ℕ) (how : Writing) (made : List ℕ) → IsMadeOf how w text made → IsGood w text
-made_good w text (Encode order chunk) made e = record { graph = e.graph; reads = e.reads; conforms = e.conforms }
-made_good w text Migrate made e = record { graph = e.graph; reads = e.reads; conforms = e.conforms }
+-- what was encoded, what is too long to be encoded, and what was migrated is such a text
+pub encoded_good : (w : Setting) (order : Order) (chunk : ℕ) (text made : List ℕ) → IsEncoding w order chunk text made → IsGood w text
+encoded_good w order chunk text made e = record { graph = e.graph; reads = e.reads; conforms = e.conforms }
+
+pub long_good : (w : Setting) (chunk : ℕ) (text : List ℕ) (many : ℕ) → IsLongEncoding w chunk text many → IsGood w text
+long_good w chunk text many e = record { graph = e.graph; reads = e.reads; conforms = e.conforms }
+
+pub migrated_good : (w : Setting) (text made : List ℕ) → IsMigration w text made → IsGood w text
+migrated_good w text made e = record { graph = e.graph; reads = e.reads; conforms = e.conforms }
 
 module _ (w : Setting) (side : IsLegalSide w) (text : List ℕ) where
-  -- a text that reads as a graph that conforms is not refused
-  pub good_cause : (g : Graph) → ReadsAs w text g → Conforms w g → (r : Refusal) → IsTextCause w text r → r ≡ Memory
-  good_cause g reads conforms Memory cause = refl
-  good_cause g reads conforms (BadText line column why) fault = absurd (never_both w text g line column why reads fault)
-  good_cause g reads conforms (BadValue path reason) bad =
-      absurd (misfit_is_no_fit w bad.graph _ bad.misfit.first (subst (Conforms w) (one_graph w text g bad.graph side reads bad.reads) conforms))
-  good_cause g reads conforms (Absent other) cause = absurd cause
-  good_cause g reads conforms (FileFailed other) cause = absurd cause
-  good_cause g reads conforms (BadIdl file line column reason) cause = absurd cause
-  good_cause g reads conforms NoOperation cause = absurd cause
-  good_cause g reads conforms NotBuilt cause = absurd cause
-  good_cause g reads conforms ReadFault cause = absurd cause
-  good_cause g reads conforms (BadOctets place why) cause = absurd cause
+  -- a text with a fault is no such text
+  pub fault_good : (line column : ℕ) (why : TextReason) → IsTextFault w text line column why → IsGood w text → ⊥
+  fault_good line column why fault good = never_both w text good.graph line column why good.reads fault
 
-  -- of a text with a fault nothing is made, and it is refused there
-  pub fault_made : (line column : ℕ) (why : TextReason) → IsTextFault w text line column why → (how : Writing) (made : List ℕ) → IsMadeOf how w text made → ⊥
-  fault_made line column why fault how made m =
-      let good = made_good w text how made m in
-      never_both w text good.graph line column why good.reads fault
-
-  pub fault_cause : (line column : ℕ) (why : TextReason) → IsTextFault w text line column why → (r : Refusal) → IsTextCause w text r
-      → (r ≡ Memory) ⊎ (r ≡ BadText line column why)
-  fault_cause line column why fault Memory cause = inl refl
-  fault_cause line column why fault (BadText row at because) other =
-      let (rows, columns, reasons) = one_fault w text row line at column because why side other fault in
-      inr (ap (λ l. BadText l at because) rows ∙ ap₂ (λ c y. BadText line c y) columns reasons)
-  fault_cause line column why fault (BadValue path reason) bad = absurd (never_both w text bad.graph line column why bad.reads fault)
-  fault_cause line column why fault (Absent other) cause = absurd cause
-  fault_cause line column why fault (FileFailed other) cause = absurd cause
-  fault_cause line column why fault (BadIdl file row at reason) cause = absurd cause
-  fault_cause line column why fault NoOperation cause = absurd cause
-  fault_cause line column why fault NotBuilt cause = absurd cause
-  fault_cause line column why fault ReadFault cause = absurd cause
-  fault_cause line column why fault (BadOctets place because) cause = absurd cause
-
-  -- of a text of values that do not conform nothing is made, and it is refused at the first misfit
-  pub misfit_made : (g : Graph) (path : List ℕ) (why : MisfitReason) → ReadsAs w text g → IsMisfitAt w g path why → (how : Writing) (made : List ℕ)
-      → IsMadeOf how w text made → ⊥
-  misfit_made g path why reads m how made e =
-      let good = made_good w text how made e in
+  -- nor is a text of values that do not conform
+  pub misfit_good : (g : Graph) (path : List ℕ) (why : MisfitReason) → ReadsAs w text g → IsMisfitAt w g path why → IsGood w text → ⊥
+  misfit_good g path why reads m good =
       misfit_is_no_fit w g _ m.first (subst (Conforms w) (one_graph w text good.graph g side good.reads reads) good.conforms)
 
-  one_place : (g : Graph) (path other : List ℕ) (why because : MisfitReason) → IsMisfitAt w g path why → IsMisfitAt w g other because → BadValue other because ≡ BadValue path why
-  one_place g path other why because x y =
-      let same = one_first_misfit w g (record { home = y.home; node = y.node; reason = because }) (record { home = x.home; node = x.node; reason = why }) y.first x.first in
-      let there : IsPath w g x.home x.node other = subst (λ (z : MisfitAt). IsPath w g z.home z.node other) same y.path_is in
-      ap₂ BadValue (one_path w g x.home x.node other path there x.path_is) (ap (λ (z : MisfitAt). z.reason) same)
+  module _ (chunk : ℕ) where
+    -- octets that are too many for one order are too many for the other
+    long_or_written : (g : Graph) (order : Order) (octets : List ℕ) (many : ℕ) → IsWritten w order chunk g octets → IsLong w chunk g many → ⊥
+    long_or_written g order octets many is long =
+        let same : length octets ≡ many = long.chosen order octets is.chosen in
+        let within = is.within in
+        let more = long.long in
+        omega (arith, same, within, more)
 
-  pub misfit_cause : (g : Graph) (path : List ℕ) (why : MisfitReason) → ReadsAs w text g → IsMisfitAt w g path why → (r : Refusal) → IsTextCause w text r
-      → (r ≡ Memory) ⊎ (r ≡ BadValue path why)
-  misfit_cause g path why reads m Memory cause = inl refl
-  misfit_cause g path why reads m (BadText line column other) fault = absurd (never_both w text g line column other reads fault)
-  misfit_cause g path why reads m (BadValue other because) bad =
-      inr (one_place g path other why because m (subst (λ h. IsMisfitAt w h other because) (one_graph w text bad.graph g side bad.reads reads) bad.misfit))
-  misfit_cause g path why reads m (Absent other) cause = absurd cause
-  misfit_cause g path why reads m (FileFailed other) cause = absurd cause
-  misfit_cause g path why reads m (BadIdl file line column reason) cause = absurd cause
-  misfit_cause g path why reads m NoOperation cause = absurd cause
-  misfit_cause g path why reads m NotBuilt cause = absurd cause
-  misfit_cause g path why reads m ReadFault cause = absurd cause
-  misfit_cause g path why reads m (BadOctets place because) cause = absurd cause
+    one_length : (g : Graph) → Conforms w g → (many other : ℕ) → IsLong w chunk g many → IsLong w chunk g other → other ≡ many
+    one_length g conforms many other x y =
+        let (octets, chosen) = chosen_exists w Little chunk g conforms in
+        sym (y.chosen Little octets chosen) ∙ x.chosen Little octets chosen
+
+    -- a text whose octets are within the limit is not refused
+    pub encodes_cause : (g : Graph) (order : Order) (octets : List ℕ) → ReadsAs w text g → Conforms w g → IsWritten w order chunk g octets → (r : Refusal)
+        → IsEncodingCause w chunk text r → r ≡ Memory
+    encodes_cause g order octets reads conforms is (TooLong many) e =
+        absurd (long_or_written g order octets many is (subst (λ h. IsLong w chunk h many) (one_graph w text e.graph g side e.reads reads) e.long))
+    encodes_cause g order octets reads conforms is Memory cause = refl
+    encodes_cause g order octets reads conforms is (Absent other) cause = absurd cause
+    encodes_cause g order octets reads conforms is (FileFailed other) cause = absurd cause
+    encodes_cause g order octets reads conforms is (BadIdl file line column reason) cause = absurd cause
+    encodes_cause g order octets reads conforms is NoOperation cause = absurd cause
+    encodes_cause g order octets reads conforms is ReadFault cause = absurd cause
+    encodes_cause g order octets reads conforms is (BadOctets place why) cause = absurd cause
+    encodes_cause g order octets reads conforms is (BadText line column why) cause = good_cause w side text g reads conforms (BadText line column why) cause
+    encodes_cause g order octets reads conforms is (BadValue path why) cause = good_cause w side text g reads conforms (BadValue path why) cause
+    encodes_cause g order octets reads conforms is (BadRequest fault) cause = absurd cause
+
+    -- what is refused as a text is refused so if it is to be encoded
+    module _ (bad : IsGood w text → ⊥) (r : Refusal) (by : (q : Refusal) → IsTextCause w text q → (q ≡ Memory) ⊎ (q ≡ r)) where
+      pub text_cause : (q : Refusal) → IsEncodingCause w chunk text q → (q ≡ Memory) ⊎ (q ≡ r)
+      text_cause (TooLong many) e = absurd (bad (long_good w chunk text many e))
+      text_cause Memory cause = inl refl
+      text_cause (Absent other) cause = absurd cause
+      text_cause (FileFailed other) cause = absurd cause
+      text_cause (BadIdl file line column reason) cause = absurd cause
+      text_cause NoOperation cause = absurd cause
+      text_cause ReadFault cause = absurd cause
+      text_cause (BadOctets place why) cause = absurd cause
+      text_cause (BadText line column why) cause = by (BadText line column why) cause
+      text_cause (BadValue path why) cause = by (BadValue path why) cause
+      text_cause (BadRequest fault) cause = absurd cause
+
+    module _ (g : Graph) (reads : ReadsAs w text g) (conforms : Conforms w g) (many : ℕ) (long : IsLong w chunk g many) where
+      -- a text whose octets are too many is refused as that alone
+      pub long_cause : (q : Refusal) → IsEncodingCause w chunk text q → (q ≡ Memory) ⊎ (q ≡ TooLong many)
+      long_cause (TooLong other) e =
+          inr (ap TooLong (one_length g conforms many other long (subst (λ h. IsLong w chunk h other) (one_graph w text e.graph g side e.reads reads) e.long)))
+      long_cause Memory cause = inl refl
+      long_cause (Absent other) cause = absurd cause
+      long_cause (FileFailed other) cause = absurd cause
+      long_cause (BadIdl file line column reason) cause = absurd cause
+      long_cause NoOperation cause = absurd cause
+      long_cause ReadFault cause = absurd cause
+      long_cause (BadOctets place why) cause = absurd cause
+      long_cause (BadText line column why) cause = inl (good_cause w side text g reads conforms (BadText line column why) cause)
+      long_cause (BadValue path why) cause = inl (good_cause w side text g reads conforms (BadValue path why) cause)
+      long_cause (BadRequest fault) cause = absurd cause
+
+      -- and is not encoded
+      pub long_made : (order : Order) (made : List ℕ) → IsEncoding w order chunk text made → ⊥
+      long_made order made e =
+          long_or_written g order made many (subst (λ h. IsWritten w order chunk h made) (one_graph w text e.graph g side e.reads reads) e.written) long
