@@ -21,6 +21,7 @@ use Rattle.idl_compiler.specs.Idl.{main_file, IsMainFault, IsNameFault, IsDueImp
 use Rattle.idl_lexer.specs.declared.tokens.LexFault.TheVariants as lexical
 use Rattle.nd_base.specs.Outside.{IsContent, IsMissing}
 use Rattle.refusals.specs.declared.refusal.Refusal.TheVariants.{Absent, FileFailed, BadIdl, NoOperation, NotBuilt, ReadFault, BadOctets, BadText, BadValue}
+use Rattle.nd_base.proofs.Rising.{rose_later}
 use Rattle.nd_base.specs.Counts.{Rose}
 use Rattle.nd_base.specs.Over.{FilesSeen, HasRisen}
 use Rattle.idl_compiler.specs.Compiled.{IsTextCause, IsIdlCause}
@@ -145,9 +146,6 @@ text_cause f idl text acf sources x h a b told (inl is) = subst (IsTextCause f i
 text_cause f idl text acf sources x h a b told (inr is) = subst (IsTextCause f idl text acf) (sym is) tt
 
 -- ## Loads
-
-rose_later : (before mid now : ℕ) → before ≤ mid → Rose mid now → Rose before now
-rose_later before mid now le rose = grind (arith, le, rose)
 
 -- what came after an earlier load
 pub after : (f g : FilesSeen) (idl text : List ℕ) (acf : Option (List ℕ)) (r : Refusal) → g.held ≡ f.held → f.absences.before ≤ g.absences.before

@@ -1,6 +1,7 @@
 -- The gap and the count of a chunk, one after the other.
 use Rattle.std.proofs.Common.{◌≡◌, ℕ, ◌+◌, List, ◌++◌, length, arith, Option, Result, Ok, Err, IsErrAnd, ap, sym, ◌∙◌, subst, append_assoc, ◌≤◌}
 use Rattle.nd_base.specs.declared.octets.Order.{Order}
+use Rattle.nd_base.proofs.Rising.{rose_later}
 use Rattle.nd_base.specs.Over.{SourceSeen}
 use Rattle.nd_base.specs.Counts.{Rose}
 use Rattle.nd_types.specs.declared.types.TypeId.{TypeId}
@@ -31,10 +32,6 @@ moved_twice m n o u v = record {
   max_at = v.max_at ∙ u.max_at;
   wanted = v.wanted ∙ u.wanted;
 }
-
--- a count that rose later has risen
-rose_later : (before mid now : ℕ) → before ≤ mid → Rose mid now → Rose before now
-rose_later before mid now low rose = omega (arith, low, rose)
 
 module _ (w : Setting) (order : Order) (fetched : List ℕ) (noted : List Item) (direct : ℕ) (first : Names) (i : ℕ) (rs : List Root) (roots : List Tree) (elem : TypeId) (done : Trees) (max_at : Option ℕ)
     (cells : ℕ) (a b c : SourceSeen) (s t u : DecodingSeen) (f : Follows a b c s t u) (m n : Machine) where

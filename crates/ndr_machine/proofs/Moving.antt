@@ -7,6 +7,7 @@ use Rattle.std.specs.Prelude.{slice_get, Bool, Some, min, ◌^◌, ◌-◌}
 use Rattle.std.specs.Io.KnownBytes.{Consumes, IsAtEnd}
 use Rattle.nd_base.specs.declared.octets.Order.{Order}
 use Rattle.nd_base.specs.Counts.{Rose}
+use Rattle.nd_base.proofs.Rising.{rose_later}
 use Rattle.nd_base.specs.Over.{SourceSeen, HasRisen}
 use Rattle.nd_value.specs.Logged.{Logged, noted}
 use Rattle.nd_value.specs.declared.item.Home.{Home}
@@ -39,10 +40,6 @@ ticks_on (x ∷ xs) ys = let e : ticks (xs ++ ys) ≡ ticks xs + ticks ys = tick
 -- a source over a call
 abbrev pub source : Option (List ℕ) → Option (List ℕ) → Bool → ℕ → ℕ → SourceSeen
 source left left_now ended before now = record { left = left; left_now = left_now; ended = ended; faults = record { before = before; now = now } }
-
--- a count that rose later has risen
-rose_later : (before mid now : ℕ) → before ≤ mid → Rose mid now → Rose before now
-rose_later before mid now low rose = omega (arith, low, rose)
 
 -- ## Turns
 

@@ -22,7 +22,7 @@ use Rattle.nd_grammar.proofs.LegalSides.{laid_out}
 use Rattle.nd_grammar.proofs.legal.LegalUsable.{Usable, usable_readable, children_usable}
 use Rattle.nd_grammar.proofs.next.HoistedMaxes.{HoistsLast, OnlyLast, last_of, struct_last}
 use Rattle.nd_grammar.proofs.next.Mapped.{in_parts}
-use Rattle.nd_grammar.proofs.reader.FewNodes.{one, Bound, some_members, some_bound}
+use Rattle.nd_grammar.proofs.reader.FewNodes.{one, Bound, some_members, some_bound, one_deeper, times_sum}
 use Rattle.nd_grammar.proofs.reader.MadeTrees.{MadeNode, MadeTrees, MadeTree}
 use Rattle.nd_grammar.proofs.reader.ReaderInPlace.{Fine, Readable}
 use Rattle.ndr_runs.specs.Paid.{array_paid, label_paid, paid, IsRead, AllRead}
@@ -58,29 +58,6 @@ flat_read (more (node l ks) ts) r = (
   flat_read ks (all_left (λ (x : Flat). IsRead x.0) (flat ks) (flat ts) r.1),
   flat_read ts (all_right (λ (x : Flat). IsRead x.0) (flat ks) (flat ts) r.1),
 )
-
-times_more : (d x y : ℕ) → x ≤ y → d * x ≤ d * y
-times_more zero x y h = omega arith
-times_more (suc d) x y h =
-    let a : d * x ≤ d * y = times_more d x y h in
-    let e : suc d * x ≡ x + d * x = omega arith in
-    let f : suc d * y ≡ y + d * y = omega arith in
-    omega arith
-
-times_sum : (d x y : ℕ) → d * (x + y) ≡ d * x + d * y
-times_sum zero x y = omega arith
-times_sum (suc d) x y =
-    let a : d * (x + y) ≡ d * x + d * y = times_sum d x y in
-    let e : suc d * (x + y) ≡ (x + y) + d * (x + y) = omega arith in
-    let f : suc d * x ≡ x + d * x = omega arith in
-    let g : suc d * y ≡ y + d * y = omega arith in
-    omega arith
-
-one_deeper : (d y x k n : ℕ) → k ≤ d * y → y ≤ x → 1 ≤ x → n ≡ suc k → Bound (suc d) x n
-one_deeper d y x k n h l s e =
-    let a : d * y ≤ d * x = times_more d y x l in
-    let f : suc d * x ≡ x + d * x = omega arith in
-    record { below = omega arith; some = s }
 
 mapped : {X Y : Type 0} (f : X → Y) (xs : List X) → length (map f xs) ≡ length xs
 mapped f [] = refl

@@ -50,7 +50,7 @@ some_width UnsignedLong = omega arith
 some_width Hyper = omega arith
 some_width UnsignedHyper = omega arith
 
-times_more : (d x y : ℕ) → x ≤ y → d * x ≤ d * y
+pub times_more : (d x y : ℕ) → x ≤ y → d * x ≤ d * y
 times_more zero x y h = omega arith
 times_more (suc d) x y h =
     let a : d * x ≤ d * y = times_more d x y h in
@@ -58,7 +58,7 @@ times_more (suc d) x y h =
     let f : suc d * y ≡ y + d * y = omega arith in
     omega arith
 
-times_sum : (d x y : ℕ) → d * (x + y) ≡ d * x + d * y
+pub times_sum : (d x y : ℕ) → d * (x + y) ≡ d * x + d * y
 times_sum zero x y = omega arith
 times_sum (suc d) x y =
     let a : d * (x + y) ≡ d * x + d * y = times_sum d x y in
@@ -72,7 +72,7 @@ pub record Bound (d x n : ℕ) : Type 0 where
   pub below : n ≤ d * x
   pub some : 1 ≤ x
 
-one_deeper : (d y x k n : ℕ) → k ≤ d * y → y ≤ x → 1 ≤ x → n ≡ suc k → Bound (suc d) x n
+pub one_deeper : (d y x k n : ℕ) → k ≤ d * y → y ≤ x → 1 ≤ x → n ≡ suc k → Bound (suc d) x n
 one_deeper d y x k n h l s e =
     let a : d * y ≤ d * x = times_more d y x l in
     let f : suc d * x ≡ x + d * x = omega arith in
