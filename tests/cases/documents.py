@@ -97,7 +97,7 @@ def of_refusals() -> Iterator[Case]:
         if kind == "Rule 40":
             yield refused(name, {"t.idl": within(""), "t.acf": texts[-1]}, told, "t.acf")
         elif kind in ("NoOperation NAME", "NotBuilt NAME"):
-            words = ["decode", "t.idl", "-", "f", "in", "little"]
+            words = ["encode", "t.idl", "-", "f", "in", "little", "1"]
             yield Case(name, words, {file: content.encode() for file, content in files.items()}, notes=lines(f"idl t.idl: {told}"), status=6)
         else:
             yield refused(name, files, told if ".idl:" in told else f"t.idl:{told}")

@@ -1,4 +1,4 @@
-"""Sides of operations: `out`, the eleven primitives, and operations of types that are not built yet."""
+"""Sides of operations: `out`, the eleven primitives, and sides that `encode` does not know yet."""
 
 from case import Case, interface, lines, octets
 
@@ -17,7 +17,7 @@ def encode(name, declarations, operation, side, order, text, out):
 
 def refused(name, declarations, operation, side, line):
     """A side that is refused before the input is asked for."""
-    return Case(f"side: {name}", ["decode", "t.idl", "-", operation, side, "little"], {"t.idl": interface(*declarations)}, octets("01"),
+    return Case(f"side: {name}", ["encode", "t.idl", "-", operation, side, "little", "1"], {"t.idl": interface(*declarations)}, b"values 3",
                 notes=lines(line), status=6)
 
 
@@ -39,7 +39,7 @@ CASES = [
     decode("a handle takes no octets", ["void f([in] handle_t h, [in] small x);"], "f", "in", "little", "05", lines("values 2", "op f in", "x = 5")),
     decode("a typedef of a primitive", ["typedef long n;", "n f([in] n x);"], "f", "in", "little", "05000000", lines("values 2", "op f in", "x = 5")),
     decode("types beside it", [NODE, "void f([in] small x);"], "f", "in", "little", "05", lines("values 2", "op f in", "x = 5")),
-    decode("one side is built, the other is not", ["void f([in] small x, [out] long *y);"], "f", "in", "little", "05", lines("values 2", "op f in", "x = 5")),
+    decode("one side is of primitives, the other is not", ["void f([in] small x, [out] long *y);"], "f", "in", "little", "05", lines("values 2", "op f in", "x = 5")),
     refused("the other side", ["void f([in] small x, [out] long *y);"], "f", "out", "idl t.idl: NotBuilt f"),
     refused("a pointer", [NODE, "void f([in, ptr] node *p);"], "f", "in", "idl t.idl: NotBuilt f"),
     refused("an enumerated type", ["typedef enum { A, B } kind;", "void f([in] kind k);"], "f", "in", "idl t.idl: NotBuilt f"),
@@ -48,6 +48,6 @@ CASES = [
     refused("a pipe", ["typedef pipe long p;", "void f([in] p x);"], "f", "in", "idl t.idl: NotBuilt f"),
     refused("an operation that is not there comes first", [NODE, "void f([in, ptr] node *p);"], "g", "in", "idl t.idl: NoOperation g"),
     Case("side: another word", ["decode", "t.idl", "-", "f", "inout", "little"], {"t.idl": interface("void f();")}, notes=lines("words refused"), status=2),
-    Case("side: not built before the input", ["decode", "t.idl", "-", "f", "in", "little"], {"t.idl": interface(NODE, "void f([in, ptr] node *p);")},
+    Case("side: not built before the input", ["encode", "t.idl", "-", "f", "in", "little", "1"], {"t.idl": interface(NODE, "void f([in, ptr] node *p);")},
          notes=lines("idl t.idl: NotBuilt f"), status=6),
 ]

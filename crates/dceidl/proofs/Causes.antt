@@ -7,18 +7,14 @@ use Rattle.nd_types.specs.declared.types.Operation.{Operation}
 use Rattle.nd_types.specs.Operations.{operation_named}
 use Rattle.nd_types.specs.Numbers.{IsNumberSide}
 use Rattle.nd_types.specs.Table.{Table}
-use Rattle.nd_value.specs.declared.value.Graph.{Graph}
 use Rattle.nd_value.specs.Setting.{Setting}
-use Rattle.nd_grammar.specs.Represents.{Represents}
-use Rattle.nd_grammar.specs.Prefix.{BeginsWith}
 use Rattle.nd_types.specs.declared.types.Side.{Side}
-use Rattle.nd_value.specs.Fitting.{setting_of, setting_beside}
-use Rattle.text_grammar.specs.Printed.{IsText}
+use Rattle.nd_value.specs.Fitting.{setting_of}
 use Rattle.dceidl.specs.declared.ready.Ready.{Ready}
-use Rattle.nd_base.specs.declared.TheConstants.{STREAM_LIMIT}
 use Rattle.text_grammar.specs.declared.TheConstants.{TEXT_LIMIT}
 use Rattle.dceidl.specs.declared.words.Reading.{Reading}
 use Rattle.dceidl.specs.declared.words.Reading.TheVariants.{Decode}
+use Rattle.ndr_printing.specs.Printed.{IsPrinted}
 use Rattle.dceidl.specs.declared.words.OrderWord.{OrderWord}
 use Rattle.dceidl.specs.declared.words.Writing.{Writing}
 use Rattle.dceidl.specs.declared.words.Writing.TheVariants.{Encode, Migrate}
@@ -26,14 +22,13 @@ use Rattle.dceidl.specs.declared.words.Values.{Values}
 use Rattle.dceidl.specs.Seen.{Seen}
 use Rattle.dceidl.specs.Words.{Subject, Read, Write, order_in, values_read, values_written}
 use Rattle.dceidl.specs.Causes.{IsMade, IsCause}
-use Rattle.dceidl.specs.Encode.{IsEncoding, IsMigration, IsTextCause}
+use Rattle.text_fitting.specs.Fitted.{IsTextCause}
+use Rattle.dceidl.specs.Encode.{IsEncoding, IsMigration}
 use Rattle.refusals.specs.declared.refusal.Refusal.{Refusal}
-use Rattle.refusals.specs.declared.refusal.Refusal.TheVariants.{Memory, Absent, FileFailed, BadIdl, NoOperation, NotBuilt, ReadFault, BadOctets, BadText, BadValue}
+use Rattle.refusals.specs.declared.refusal.Refusal.TheVariants.{Memory, Absent, FileFailed, BadIdl, NoOperation, NotBuilt, ReadFault, BadOctets, BadText, BadValue, BadRequest}
 use Rattle.nd_base.specs.Over.{FilesSeen, SourceSeen}
 use Rattle.dceidl.specs.Ready.{is_among, IsSideOf, IsFound, IsReady, IsReadyCause, IsNotFound}
 use Rattle.idl_compiler.specs.Compiled.{IsCompiled, IsIdlCause}
-use Rattle.refusals.specs.declared.refusal.OctetsFault.TheVariants as fault
-use Rattle.dceidl.specs.Decode.{IsDecoding, IsLeftOver, IsOctetsCause}
 use Rattle.dceidl.specs.Input.{AreRead, IsRead, IsReadCause, IsWritten, IsWriteCause}
 
 item_at : {X : Type 0} (xs : List X) (i : ℕ) → i < length xs → (x : X) × (slice_get xs i ≡ Some x)
@@ -70,6 +65,7 @@ not_found values f of i compiled ReadFault cause = absurd cause
 not_found values f of i compiled (BadOctets place why) cause = absurd cause
 not_found values f of i compiled (BadText line column reason) cause = absurd cause
 not_found values f of i compiled (BadValue path reason) cause = absurd cause
+not_found values f of i compiled (BadRequest fault) cause = absurd cause
 
 -- an operation that is not found or not built is the cause
 pub find_refused : (values : Values) (f : FilesSeen) (of : Subject) (i : Interface) → IsCompiled f of.idl of.acf i → (result : Result Ready Refusal)
@@ -89,6 +85,7 @@ idl_refused values f of ReadFault cause = absurd cause
 idl_refused values f of (BadOctets place why) cause = absurd cause
 idl_refused values f of (BadText line column reason) cause = absurd cause
 idl_refused values f of (BadValue path reason) cause = absurd cause
+idl_refused values f of (BadRequest fault) cause = absurd cause
 
 pub take_whole : (n : ℕ) (xs : List ℕ) → length xs ≤ n → take n xs ≡ xs
 take_whole zero [] h = refl
@@ -96,39 +93,18 @@ take_whole zero (x ∷ xs) h = absurd (omega (arith, h))
 take_whole (suc n) [] h = refl
 take_whole (suc n) (x ∷ xs) h = ap (λ u. x ∷ u) (take_whole n xs (omega (arith, h)))
 
--- the text of a fit's graph, beside no request and on this side
-pub text_is : (i : Interface) (o : Operation) (s side : Side) (given : Option Graph) (g : Graph) (text : List ℕ) → side ≡ s → given ≡ None
-    → IsText (setting_beside i o side given) g text → IsText (setting_of i o s) g text
-text_is i o s side given g text same alone printed =
-    subst (λ q. IsText (setting_beside i o s q) g text) alone (subst (λ k. IsText (setting_beside i o k given) g text) same printed)
+-- what is printed of the octets is what the command makes of them
+pub read_is : (s : SourceSeen) (how : Reading) (w : Setting) (order : OrderWord) (named : Order) → named ≡ order_in order → (result : Result (List ℕ) Refusal)
+    → IfOk result (IsPrinted s w named) → IfOk result (IsRead s how w (order_in order))
+read_is s Decode w order named same (Ok made) printed = subst (λ o. IsPrinted s w o made) same printed
+read_is s how w order named same (Err e) printed = tt
 
--- a graph that took all octets, and its text
-pub decoding_is : (w : Setting) (order : Order) (octets : List ℕ) (taken : ℕ) (g : Graph) → BeginsWith w order octets taken g → (result : Result (List ℕ) Refusal)
-    → IfOk result (IsText w g) → IfOk result (λ t. length octets ≤ taken) → IfOk result (IsDecoding w order octets)
-decoding_is w order octets taken g begins (Ok text) is_text whole = record {
-  graph = g;
-  conforms = begins.conforms;
-  represents = subst (λ os. Represents w order os g) (take_whole taken octets whole) begins.represented;
-  is_text = is_text;
-}
-decoding_is w order octets taken g begins (Err e) is_text whole = tt
-
--- the sides whose octets are read and written are those of primitives
-pub read_numbers : (how : Reading) (types : Table) (operations : List Operation) (n : ℕ) (s : Side) → IsSideOf (values_read how) types operations n s
-    → IsNumberSide types operations n s
-read_numbers Decode types operations n s built = built
-
+-- the sides whose octets are written are those of primitives
 pub encoded_numbers : (how : Writing) (order : OrderWord) (chunk : ℕ) → how ≡ Encode order chunk → (types : Table) (operations : List Operation) (n : ℕ) (s : Side)
     → IsSideOf (values_written how) types operations n s → IsNumberSide types operations n s
 encoded_numbers how order chunk is types operations n s built = subst (λ h. IsSideOf (values_written h) types operations n s) is built
 
 -- the input was read, and something made of it
-pub read_is : (s : SourceSeen) (how : Reading) (w : Setting) (order named : Order) (octets : List ℕ) → AreRead s STREAM_LIMIT octets → named ≡ order
-    → (result : Result (List ℕ) Refusal) → IfOk result (IsDecoding w named octets) → IfOk result (IsRead s how w order)
-read_is s Decode w order named octets read same (Ok made) decoding =
-    record { octets = octets; read = read; shown = subst (λ o. IsDecoding w o octets made) same decoding }
-read_is s how w order named octets read same (Err e) decoding = tt
-
 pub encoded_is : (s : SourceSeen) (how : Writing) (w : Setting) (order : OrderWord) (named : Order) (chunk : ℕ) (text : List ℕ) → AreRead s TEXT_LIMIT text → how ≡ Encode order chunk
     → named ≡ order_in order → (result : Result (List ℕ) Refusal) → IfOk result (IsEncoding w named chunk text) → IfOk result (IsWritten s how w)
 encoded_is s how w order named chunk text read is same (Ok made) encoding =
@@ -139,25 +115,6 @@ pub migrated_is : (s : SourceSeen) (how : Writing) (w : Setting) (text : List �
     → IfOk result (IsMigration w text) → IfOk result (IsWritten s how w)
 migrated_is s how w text read is (Ok made) migration = subst (λ h. IsWritten s h w made) (sym is) (record { text = text; read = read; made_of = migration })
 migrated_is s how w text read is (Err e) migration = tt
-
--- octets that are refused are an input that is refused
-octets_cause : (s : SourceSeen) (how : Reading) (w : Setting) (order : Order) (octets : List ℕ) → AreRead s STREAM_LIMIT octets → (e : Refusal) → IsOctetsCause w order octets e
-    → IsReadCause s how w order e
-octets_cause s how w order octets read Memory cause = tt
-octets_cause s how w order octets read ReadFault cause = absurd cause
-octets_cause s how w order octets read (Absent file) cause = (octets, read, cause)
-octets_cause s how w order octets read (FileFailed file) cause = (octets, read, cause)
-octets_cause s how w order octets read (BadIdl file line column reason) cause = (octets, read, cause)
-octets_cause s how w order octets read NoOperation cause = (octets, read, cause)
-octets_cause s how w order octets read NotBuilt cause = (octets, read, cause)
-octets_cause s how w order octets read (BadOctets place why) cause = (octets, read, cause)
-octets_cause s how w order octets read (BadText line column reason) cause = (octets, read, cause)
-octets_cause s how w order octets read (BadValue path reason) cause = (octets, read, cause)
-
-pub octets_refused : (s : SourceSeen) (how : Reading) (w : Setting) (order : Order) (octets : List ℕ) → AreRead s STREAM_LIMIT octets → (result : Result (List ℕ) Refusal)
-    → IfErr result (IsOctetsCause w order octets) → IfErr result (IsReadCause s how w order)
-octets_refused s how w order octets read (Ok made) cause = tt
-octets_refused s how w order octets read (Err e) cause = octets_cause s how w order octets read e cause
 
 text_cause : (s : SourceSeen) (w : Setting) (text : List ℕ) → AreRead s TEXT_LIMIT text → (e : Refusal) → IsTextCause w text e → IsWriteCause s w e
 text_cause s w text read Memory cause = tt
@@ -170,6 +127,7 @@ text_cause s w text read NotBuilt cause = (text, read, cause)
 text_cause s w text read (BadOctets place why) cause = (text, read, cause)
 text_cause s w text read (BadText line column reason) cause = (text, read, cause)
 text_cause s w text read (BadValue path reason) cause = (text, read, cause)
+text_cause s w text read (BadRequest fault) cause = (text, read, cause)
 
 pub text_refused : (s : SourceSeen) (w : Setting) (text : List ℕ) → AreRead s TEXT_LIMIT text → (result : Result (List ℕ) Refusal)
     → IfErr result (IsTextCause w text) → IfErr result (IsWriteCause s w)
@@ -195,11 +153,11 @@ not_ready values named f of r are cause = subst (λ v. IsReadyCause v f of r) ar
 
 module _ (x : Seen) (of : Subject) (w : Setting) where
   module _ (how : Reading) (order : OrderWord) (ready : IsReady (values_read how) x.files of w) where
-    pub read_made : (result : Result (List ℕ) Refusal) → IfOk result (IsRead x.input how w (order_in order)) → IfOk result (IsMade x (Read how of order))
+    pub read_made : (result : Result (List ℕ) Refusal) → IfOk result (IsRead x.input how w (order_in order)) → IfOk result (IsMade x (Read how of order None))
     read_made (Ok made) is = (w, ready, is)
     read_made (Err e) is = tt
 
-    pub read_refused : (result : Result (List ℕ) Refusal) → IfErr result (IsReadCause x.input how w (order_in order)) → IfErr result (IsCause x (Read how of order))
+    pub read_refused : (result : Result (List ℕ) Refusal) → IfErr result (IsReadCause x.input how w (order_in order)) → IfErr result (IsCause x (Read how of order None))
     read_refused (Ok made) cause = tt
     read_refused (Err e) cause = inr (w, ready, cause)
 
@@ -211,20 +169,3 @@ module _ (x : Seen) (of : Subject) (w : Setting) where
     pub write_refused : (result : Result (List ℕ) Refusal) → IfErr result (IsWriteCause x.input w) → IfErr result (IsCause x (Write how of))
     write_refused (Ok made) cause = tt
     write_refused (Err e) cause = inr (w, ready, cause)
-
--- octets after a graph that conforms are what is left over
-pub left_over : (w : Setting) (order : Order) (octets : List ℕ) (taken : ℕ) (g : Graph) → BeginsWith w order octets taken g → (result : Result (List ℕ) Refusal)
-    → IfErr result (IsLeftOver (length octets) taken) → IfErr result (IsOctetsCause w order octets)
-left_over w order octets taken g begins (Ok made) h = tt
-left_over w order octets taken g begins (Err Memory) h = tt
-left_over w order octets taken g begins (Err (BadOctets place fault.Trailing)) h =
-    record { graph = g; begins = subst (λ k. BeginsWith w order octets k g) (sym h.0) begins; follows = omega (arith, h.0, h.1) }
-left_over w order octets taken g begins (Err (BadOctets place (fault.Refused why))) h = absurd h
-left_over w order octets taken g begins (Err (Absent file)) h = absurd h
-left_over w order octets taken g begins (Err (FileFailed file)) h = absurd h
-left_over w order octets taken g begins (Err (BadIdl file line column why)) h = absurd h
-left_over w order octets taken g begins (Err NoOperation) h = absurd h
-left_over w order octets taken g begins (Err NotBuilt) h = absurd h
-left_over w order octets taken g begins (Err ReadFault) h = absurd h
-left_over w order octets taken g begins (Err (BadText line column why)) h = absurd h
-left_over w order octets taken g begins (Err (BadValue path why)) h = absurd h

@@ -15,7 +15,7 @@ use Rattle.nd_types.specs.Meant.{Meant}
 use Rattle.nd_types.specs.Meant.{meant_by}
 use Rattle.refusals.specs.declared.refusal.IdlReason.{IdlReason}
 use Rattle.refusals.specs.declared.refusal.Refusal.{Refusal}
-use Rattle.refusals.specs.declared.refusal.Refusal.TheVariants.{Memory, Absent, FileFailed, BadIdl, NoOperation, NotBuilt, ReadFault, BadOctets, BadText, BadValue}
+use Rattle.refusals.specs.declared.refusal.Refusal.TheVariants.{Memory, Absent, FileFailed, BadIdl, NoOperation, NotBuilt, ReadFault, BadOctets, BadText, BadValue, BadRequest}
 use Rattle.dceidl.specs.Words.{Subject}
 use Rattle.dceidl.specs.declared.words.Values.{Values}
 use Rattle.idl_compiler.specs.Idl.{Means, IsIdlFault, IsDueAfter, IsDueFile}
@@ -28,13 +28,13 @@ abbrev Contents : Type 0
 Contents = Option (List ℕ → Option (List ℕ))
 
 -- only the held file can have been loaded
-held_only : (f : FilesSeen) (name file other : List ℕ) → IsHeld f name file → IsContent f.held name other → other ≡ file
+pub held_only : (f : FilesSeen) (name file other : List ℕ) → IsHeld f name file → IsContent f.held name other → other ≡ file
 held_only f name file other (held, told, there) content =
     let loaded_is : option_map loaded (held name) ≡ Some other = subst (λ h. IsContent h name other) told content in
     same_Some _ _ (sym loaded_is ∙ there)
 
 -- and it is not absent
-held_there : (f : FilesSeen) (name file : List ℕ) → IsHeld f name file → IsMissing f.held name → ⊥
+pub held_there : (f : FilesSeen) (name file : List ℕ) → IsHeld f name file → IsMissing f.held name → ⊥
 held_there f name file (held, told, there) missing =
     let gone : held name ≡ None = subst (λ h. IsMissing h name) told missing in
     let none : Some file ≡ None = sym there ∙ ap (option_map loaded) gone in
@@ -118,6 +118,7 @@ module _ (f : FilesSeen) (idl : List ℕ) (acf : Option (List ℕ)) (loads : Has
   compiled_cause text i held means (BadOctets place why) cause = absurd cause
   compiled_cause text i held means (BadText line column reason) cause = absurd cause
   compiled_cause text i held means (BadValue path reason) cause = absurd cause
+  compiled_cause text i held means (BadRequest fault) cause = absurd cause
 
   -- files that are refused mean no interface, and are refused in one way
   pub no_idl : (r : Refusal) → MustBeNoIdl f idl acf r → (i : Interface) → IsCompiled f idl acf i → ⊥
@@ -132,6 +133,7 @@ module _ (f : FilesSeen) (idl : List ℕ) (acf : Option (List ℕ)) (loads : Has
   no_idl (BadOctets place why) must i compiled = absurd must
   no_idl (BadText line column reason) must i compiled = absurd must
   no_idl (BadValue path reason) must i compiled = absurd must
+  no_idl (BadRequest fault) must i compiled = absurd must
 
   only_bad : (file : List ℕ) (line column : ℕ) (why : IdlReason) → MustBeNoIdl f idl acf (BadIdl file line column why) → (r : Refusal) → IsIdlCause f idl acf r
       → (r ≡ Memory) ⊎ (r ≡ BadIdl file line column why)
@@ -146,6 +148,7 @@ module _ (f : FilesSeen) (idl : List ℕ) (acf : Option (List ℕ)) (loads : Has
   only_bad file line column why must (BadOctets place because) cause = absurd cause
   only_bad file line column why must (BadText row at reason) cause = absurd cause
   only_bad file line column why must (BadValue path reason) cause = absurd cause
+  only_bad file line column why must (BadRequest fault) cause = absurd cause
 
   pub no_idl_cause : (r : Refusal) → MustBeNoIdl f idl acf r → (q : Refusal) → IsIdlCause f idl acf q → (q ≡ Memory) ⊎ (q ≡ r)
   no_idl_cause (BadIdl a b c d) must q cause = only_bad a b c d must q cause
@@ -158,6 +161,7 @@ module _ (f : FilesSeen) (idl : List ℕ) (acf : Option (List ℕ)) (loads : Has
   no_idl_cause (BadOctets place why) must q cause = absurd must
   no_idl_cause (BadText line column reason) must q cause = absurd must
   no_idl_cause (BadValue path reason) must q cause = absurd must
+  no_idl_cause (BadRequest fault) must q cause = absurd must
 
 -- ## What a command on values speaks of
 
@@ -190,6 +194,7 @@ module _ (values : Values) (f : FilesSeen) (of : Subject) where
     accepted_cause w a (BadOctets place why) cause = compiled_cause f of.idl of.acf loads a.file a.interface a.held a.means (BadOctets place why) cause
     accepted_cause w a (BadText line column reason) cause = compiled_cause f of.idl of.acf loads a.file a.interface a.held a.means (BadText line column reason) cause
     accepted_cause w a (BadValue path reason) cause = compiled_cause f of.idl of.acf loads a.file a.interface a.held a.means (BadValue path reason) cause
+    accepted_cause w a (BadRequest fault) cause = compiled_cause f of.idl of.acf loads a.file a.interface a.held a.means (BadRequest fault) cause
 
     -- what is refused is not ready
     pub unready : (r : Refusal) → MustBeUnready values f of r → (w : Setting) → IsReady values f of w → ⊥
@@ -208,6 +213,7 @@ module _ (values : Values) (f : FilesSeen) (of : Subject) where
     unready (BadOctets place why) must w ready = no_idl f of.idl of.acf loads (BadOctets place why) must ready.interface ready.found.compiled
     unready (BadText line column reason) must w ready = no_idl f of.idl of.acf loads (BadText line column reason) must ready.interface ready.found.compiled
     unready (BadValue path reason) must w ready = no_idl f of.idl of.acf loads (BadValue path reason) must ready.interface ready.found.compiled
+    unready (BadRequest fault) must w ready = no_idl f of.idl of.acf loads (BadRequest fault) must ready.interface ready.found.compiled
 
     -- an interface without the operation is refused as that alone
     only_unknown : MustBeUnready values f of NoOperation → (r : Refusal) → IsReadyCause values f of r → (r ≡ Memory) ⊎ (r ≡ NoOperation)
@@ -222,6 +228,7 @@ module _ (values : Values) (f : FilesSeen) (of : Subject) where
     only_unknown (text, i, held, means, none) (BadOctets place why) cause = inl (compiled_cause f of.idl of.acf loads text i held means (BadOctets place why) cause)
     only_unknown (text, i, held, means, none) (BadText line column reason) cause = inl (compiled_cause f of.idl of.acf loads text i held means (BadText line column reason) cause)
     only_unknown (text, i, held, means, none) (BadValue path reason) cause = inl (compiled_cause f of.idl of.acf loads text i held means (BadValue path reason) cause)
+    only_unknown (text, i, held, means, none) (BadRequest fault) cause = inl (compiled_cause f of.idl of.acf loads text i held means (BadRequest fault) cause)
 
     -- an operation with a root that is not a primitive is refused as that alone
     only_unbuilt : MustBeUnready values f of NotBuilt → (r : Refusal) → IsReadyCause values f of r → (r ≡ Memory) ⊎ (r ≡ NotBuilt)
@@ -236,6 +243,7 @@ module _ (values : Values) (f : FilesSeen) (of : Subject) where
     only_unbuilt (text, i, n, o, held, means, named, unbuilt) (BadOctets place why) cause = inl (compiled_cause f of.idl of.acf loads text i held means (BadOctets place why) cause)
     only_unbuilt (text, i, n, o, held, means, named, unbuilt) (BadText line column reason) cause = inl (compiled_cause f of.idl of.acf loads text i held means (BadText line column reason) cause)
     only_unbuilt (text, i, n, o, held, means, named, unbuilt) (BadValue path reason) cause = inl (compiled_cause f of.idl of.acf loads text i held means (BadValue path reason) cause)
+    only_unbuilt (text, i, n, o, held, means, named, unbuilt) (BadRequest fault) cause = inl (compiled_cause f of.idl of.acf loads text i held means (BadRequest fault) cause)
 
     only_no_idl : (r : Refusal) → MustBeNoIdl f of.idl of.acf r → (q : Refusal) → IsReadyCause values f of q → (q ≡ Memory) ⊎ (q ≡ r)
     only_no_idl r must NoOperation (i, compiled, none) = absurd (no_idl f of.idl of.acf loads r must i compiled)
@@ -248,6 +256,7 @@ module _ (values : Values) (f : FilesSeen) (of : Subject) where
     only_no_idl r must (BadOctets place why) cause = no_idl_cause f of.idl of.acf loads r must (BadOctets place why) cause
     only_no_idl r must (BadText line column reason) cause = no_idl_cause f of.idl of.acf loads r must (BadText line column reason) cause
     only_no_idl r must (BadValue path reason) cause = no_idl_cause f of.idl of.acf loads r must (BadValue path reason) cause
+    only_no_idl r must (BadRequest fault) cause = no_idl_cause f of.idl of.acf loads r must (BadRequest fault) cause
 
     -- it is refused in one way
     pub unready_cause : (r : Refusal) → MustBeUnready values f of r → (q : Refusal) → IsReadyCause values f of q → (q ≡ Memory) ⊎ (q ≡ r)
@@ -261,3 +270,4 @@ module _ (values : Values) (f : FilesSeen) (of : Subject) where
     unready_cause (BadOctets place why) must q cause = only_no_idl (BadOctets place why) must q cause
     unready_cause (BadText line column reason) must q cause = only_no_idl (BadText line column reason) must q cause
     unready_cause (BadValue path reason) must q cause = only_no_idl (BadValue path reason) must q cause
+    unready_cause (BadRequest fault) must q cause = only_no_idl (BadRequest fault) must q cause

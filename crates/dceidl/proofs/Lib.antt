@@ -1,13 +1,14 @@
 pub mod Causes
 pub mod Chunks
 pub mod Encodings
+pub mod Requests
 pub mod Roots
 pub mod Rows
 pub mod Sides
 pub mod OneInput
 pub mod OneReading
-pub mod Paths
 pub mod OneWriting
 pub mod RoundTrip
 pub mod HeldFiles
+pub mod HeldRequests
 pub mod Exact

@@ -8,10 +8,10 @@ use Rattle.std.specs.Prelude.{leb, Bool, true, false}
 use Rattle.std.specs.Io.KnownBytes.{Consumes, IsAtEnd}
 use Rattle.nd_base.specs.Over.{SourceSeen}
 use Rattle.dceidl.specs.Input.{AreRead}
-use Rattle.dceidl.specs.Rows.{IsInput}
+use Rattle.dceidl.specs.Rows.{IsInput, AreGiven}
 use Rattle.dceidl.proofs.Causes.{take_whole}
 
-take_front : (n : ℕ) (xs ys : List ℕ) → length xs ≡ n → take n (xs ++ ys) ≡ xs
+pub take_front : (n : ℕ) (xs ys : List ℕ) → length xs ≡ n → take n (xs ++ ys) ≡ xs
 take_front n xs ys e = ap (λ k. take k (xs ++ ys)) (sym e) ∙ take-append_seam xs ys
 
 -- the octets that were read are those of the input that count
@@ -34,3 +34,14 @@ module _ (s : SourceSeen) (limit : ℕ) (octets others : List ℕ) (input : IsIn
 
   pub same_octets : others ≡ octets
   same_octets = by_left s.left s.left_now input.left read.taken read.none_left
+
+-- octets that were taken are the first of those of the input
+split_by : (left now : Option (List ℕ)) (octets taken : List ℕ) → left ≡ Some octets → Consumes left now taken
+    → (rest : List ℕ) × (now ≡ Some rest) × (octets ≡ taken ++ rest)
+split_by None now octets taken e c = cc
+split_by (Some xs) None octets taken e c = absurd c
+split_by (Some xs) (Some ys) octets taken e c = (ys, refl, sym (same_Some _ _ e) ∙ c)
+
+pub split_input : (s : SourceSeen) (octets taken : List ℕ) → AreGiven s octets → Consumes s.left s.left_now taken
+    → (rest : List ℕ) × (s.left_now ≡ Some rest) × (octets ≡ taken ++ rest)
+split_input s octets taken input c = split_by s.left s.left_now octets taken input.left c

@@ -1,5 +1,7 @@
 -- What octets come to: they are decoded, or refused at one place, or memory runs out.
-use Rattle.std.proofs.Common.{◌≡◌, ℕ, List, length, refl, ap, ap₂, inl, inr, ◌⊎◌, arith}
+use Rattle.std.proofs.Common.{◌≡◌, ℕ, ◌+◌, List, [], ◌∷◌, ◌++◌, length, take, refl, sym, ◌∙◌, ap, ap₂, subst, inl, inr, ◌⊎◌, arith}
+use Rattle.std.specs.Prelude.{⊤}
+use Rattle.std.proofs.lemmas.List.{append-nil, append_assoc, length-append}
 use Rattle.nd_base.specs.declared.octets.Order.{Order}
 use Rattle.nd_value.specs.declared.value.Graph.{Graph}
 use Rattle.nd_value.specs.Setting.{Setting}
@@ -9,11 +11,73 @@ use Rattle.nd_grammar.specs.Represents.{Represents}
 use Rattle.nd_grammar.proofs.ReaderLaws.{never_both, one_beginning}
 use Rattle.nd_grammar.proofs.OneRefusal.{one_bad}
 use Rattle.refusals.specs.declared.refusal.Refusal.{Refusal}
-use Rattle.refusals.specs.declared.refusal.Refusal.TheVariants.{Memory, Absent, FileFailed, BadIdl, NoOperation, NotBuilt, ReadFault, BadOctets, BadText, BadValue}
+use Rattle.refusals.specs.declared.refusal.Refusal.TheVariants.{Memory, Absent, FileFailed, BadIdl, NoOperation, NotBuilt, ReadFault, BadOctets, BadText, BadValue, BadRequest}
 use Rattle.refusals.specs.declared.refusal.OctetsFault.{OctetsFault}
 use Rattle.refusals.specs.declared.refusal.OctetsFault.TheVariants as fault
-use Rattle.dceidl.specs.Decode.{IsDecoding, IsRefusedAt, IsOctetsCause}
+use Rattle.nd_base.specs.Over.{SourceSeen, HasRisen}
+use Rattle.nd_grammar.specs.declared.reason.Reason.{Reason}
+use Rattle.nd_grammar.specs.declared.reason.Reason.TheVariants as reason
+use Rattle.nd_grammar.specs.Bad.{Bad}
+use Rattle.ndr_verdict.specs.Verdict.{MayFollow}
+use Rattle.std.specs.Io.KnownBytes.{IsAtEnd}
+use Rattle.ndr_printing.specs.Printed.{IsDecoding, IsPrinted, IsRefusedInput, IsTrailedInput}
+use Rattle.dceidl.specs.Rows.{IsRefusedAt, IsTrailing, AreGiven}
+use Rattle.dceidl.proofs.OneInput.{split_input, take_front}
 use Rattle.dceidl.proofs.Sides.{whole_begins}
+
+-- why octets are refused; where memory was wanting no more is said
+abbrev pub IsOctetsCause : Setting → Order → List ℕ → Refusal → Type 0
+IsOctetsCause w order octets Memory = ⊤
+IsOctetsCause w order octets (BadOctets place why) = IsRefusedAt w order octets place why
+IsOctetsCause w order octets _ = ⊥
+
+-- ## What was taken, where the octets of the input are known
+
+may_follow : (why : Reason) (more : List ℕ) → (why ≡ reason.Truncated → more ≡ []) → MayFollow why more
+may_follow reason.Truncated more h = h refl
+may_follow reason.TooLong more h = tt
+may_follow reason.EnumValue more h = tt
+may_follow reason.PastBound more h = tt
+may_follow reason.TextOffset more h = tt
+may_follow reason.TextEmpty more h = tt
+may_follow reason.TextUnended more h = tt
+may_follow reason.TextZero more h = tt
+may_follow reason.NoArm more h = tt
+may_follow reason.OtherType more h = tt
+may_follow (reason.Disagrees wanted found) more h = tt
+
+module _ (s : SourceSeen) (octets : List ℕ) (input : AreGiven s octets) (w : Setting) (order : Order) where
+  -- octets that were refused are those of the input
+  pub refused_here : (place : ℕ) (why : Reason) → IsRefusedInput s w order place why → Bad w order octets place why
+  refused_here place why r =
+      let (rest, now, whole) = split_input s octets r.octets input r.taken in
+      subst (λ l. Bad w order l place why) (sym whole) (r.stays rest (may_follow why rest (λ e. subst IsAtEnd now (r.ended e).1)))
+
+  -- an octet that follows a graph is of the input
+  pub trailing_here : (place : ℕ) → IsTrailedInput s w order place → IsTrailing w order octets place
+  trailing_here place r =
+      let (rest, now, whole) = split_input s octets (r.octets ++ r.next ∷ []) input r.taken in
+      let all : octets ≡ r.octets ++ (r.next ∷ [] ++ rest) = whole ∙ append_assoc r.octets (r.next ∷ []) rest in
+      let many : length octets ≡ length r.octets + length (r.next ∷ [] ++ rest) = ap length all ∙ length-append r.octets (r.next ∷ [] ++ rest) in
+      let first : take place octets ≡ r.octets = ap (take place) all ∙ take_front place r.octets (r.next ∷ [] ++ rest) (sym r.place_is) in
+      record {
+        graph = r.graph;
+        begins = record {
+          within = omega (arith, many, r.place_is);
+          represented = subst (λ l. Represents w order l r.graph) (sym first) r.represents;
+          conforms = r.conforms;
+        };
+        follows = omega (arith, many, r.place_is);
+      }
+
+  -- all octets of the input were decoded
+  pub decoded_here : (made : List ℕ) → IsPrinted s w order made → IsDecoding w order octets made
+  decoded_here made r =
+      let (rest, now, whole) = split_input s octets r.octets input r.whole.taken in
+      let none : rest ≡ [] = subst IsAtEnd now r.whole.none_left in
+      subst (λ l. IsDecoding w order l made) (sym (whole ∙ ap (λ u. r.octets ++ u) none ∙ append-nil r.octets)) r.decoding
+
+-- ## Octets
 
 module _ (w : Setting) (side : IsLegalSide w) (order : Order) (octets : List ℕ) where
   -- octets that represent a graph that conforms are not refused
@@ -32,6 +96,7 @@ module _ (w : Setting) (side : IsLegalSide w) (order : Order) (octets : List ℕ
   decoded_cause g represents conforms ReadFault cause = absurd cause
   decoded_cause g represents conforms (BadText line column reason) cause = absurd cause
   decoded_cause g represents conforms (BadValue path reason) cause = absurd cause
+  decoded_cause g represents conforms (BadRequest fault) cause = absurd cause
 
   -- octets that are refused are not decoded
   pub refused_made : (place : ℕ) (why : OctetsFault) → IsRefusedAt w order octets place why → (made : List ℕ) → IsDecoding w order octets made → ⊥
@@ -63,3 +128,4 @@ module _ (w : Setting) (side : IsLegalSide w) (order : Order) (octets : List ℕ
   refused_cause place why refused ReadFault cause = absurd cause
   refused_cause place why refused (BadText line column reason) cause = absurd cause
   refused_cause place why refused (BadValue path reason) cause = absurd cause
+  refused_cause place why refused (BadRequest fault) cause = absurd cause

@@ -17,7 +17,7 @@ use Rattle.text_grammar.specs.Printed.{IsText, graph_text}
 use Rattle.text_grammar.specs.declared.version.Version.TheVariants as version
 use Rattle.text_reader.proofs.Stated.{one_graph}
 use Rattle.text_laws.proofs.PrintedReads.{printed_reads}
-use Rattle.dceidl.specs.Decode.{IsDecoding}
+use Rattle.ndr_printing.specs.Printed.{IsDecoding}
 use Rattle.dceidl.specs.Encode.{IsEncoding}
 use Rattle.dceidl.proofs.Sides.{whole_begins}
 

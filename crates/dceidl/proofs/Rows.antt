@@ -1,19 +1,24 @@
 -- The rows of a run follow from the whole of it: each goes by the way in which the run ended.
-use Rattle.std.proofs.Common.{◌≡◌, ◌∙◌, ℕ, List, [], ◌∷◌, Option, Some, None, refl, sym, ap, subst, inl, inr}
-use Rattle.std.specs.Prelude.{◌≢◌, true}
+use Rattle.std.proofs.Common.{◌≡◌, ◌∙◌, ℕ, List, [], ◌∷◌, Option, Some, None, refl, sym, ap, subst, inl, inr, ◌⊎◌}
+use Rattle.std.specs.Prelude.{◌≢◌, true, codes}
 use Rattle.nd_base.specs.Outside.{IsMissing}
 use Rattle.nd_base.specs.Over.{FilesSeen, SinkSeen, HasRisen, Got}
 use Rattle.dceidl.specs.declared.outcome.Outcome.{Outcome}
 use Rattle.dceidl.specs.declared.outcome.Outcome.TheVariants.{Done, Refused, Wanting}
 use Rattle.refusals.specs.declared.refusal.Refusal.{Refusal}
-use Rattle.refusals.specs.declared.refusal.Refusal.TheVariants.{Memory, Absent, FileFailed, BadIdl, NoOperation, NotBuilt, ReadFault, BadOctets, BadText, BadValue}
+use Rattle.refusals.specs.declared.refusal.Refusal.TheVariants.{Memory, Absent, FileFailed, BadIdl, NoOperation, NotBuilt, ReadFault, BadOctets, BadText, BadValue, BadRequest}
 use Rattle.dceidl.specs.Causes.{IsMade, IsCause, statuses_of}
 use Rattle.refusals.specs.Lines.{status_of, line_of}
 use Rattle.idl_compiler.specs.Compiled.{IsIdlCause}
-use Rattle.dceidl.specs.Rows.{IsOneOf, IsDone, IsRefusedWith, ReadsInput, IsDueOf, IsDueAndMissing, IsDueAndReported, HasNotFailed}
+use Rattle.dceidl.specs.Asked.{IsRequestDue}
+use Rattle.dceidl.specs.Ready.{HasAsked}
+use Rattle.dceidl.specs.declared.words.Values.{Values}
+use Rattle.dceidl.specs.declared.words.Reading.TheVariants.{Decode}
+use Rattle.dceidl.specs.Rows.{IsOneOf, IsDone, IsRefusedWith, ReadsInput, IsDueOf, IsDueRequest, IsDueAndMissing, IsDueAndReported, HasNotFailed}
 use Rattle.dceidl.specs.Run.{HasRun, IsOutcome, IsCommandOutcome, IsDelivered}
 use Rattle.dceidl.specs.Seen.{Seen}
-use Rattle.dceidl.specs.Words.{Command, Read, Write, Compile, Plan, Help, Version, command, idl_of, op_of, asks_files, asks_input}
+use Rattle.nd_value.specs.Setting.{Setting}
+use Rattle.dceidl.specs.Words.{Command, Subject, Read, Write, Compile, Plan, Help, Version, command, idl_of, op_of, asks_files, asks_input, values_read}
 
 -- a refusal has none of the statuses 0, 2 and 4
 pub not_zero : (r : Refusal) → status_of r ≡ 0 → ⊥
@@ -27,6 +32,7 @@ not_zero ReadFault e = cc
 not_zero (BadOctets place why) e = cc
 not_zero (BadText line column reason) e = cc
 not_zero (BadValue path reason) e = cc
+not_zero (BadRequest fault) e = cc
 
 -- How a run of a command ends: done, refused, out of memory, or with a fault of out or notes in place of its own status.
 pub data Ended (x : Seen) (out notes : SinkSeen) (c : Command) (status : ℕ) : Type 0 where
@@ -96,6 +102,7 @@ of_values status ReadFault e = inr (inr (inl e))
 of_values status (BadOctets place why) e = inr (inl e)
 of_values status (BadText line column reason) e = inr (inl e)
 of_values status (BadValue path reason) e = inr (inl e)
+of_values status (BadRequest fault) e = inr (inl e)
 
 of_files : (f : FilesSeen) (idl : List ℕ) (acf : Option (List ℕ)) (status : ℕ) (r : Refusal) → IsIdlCause f idl acf r → status ≡ status_of r → OfFiles status
 of_files f idl acf status Memory cause e = inr (inr (inl e))
@@ -108,9 +115,10 @@ of_files f idl acf status ReadFault cause e = absurd cause
 of_files f idl acf status (BadOctets place why) cause e = absurd cause
 of_files f idl acf status (BadText line column reason) cause e = absurd cause
 of_files f idl acf status (BadValue path reason) cause e = absurd cause
+of_files f idl acf status (BadRequest fault) cause e = absurd cause
 
 refused_status : (x : Seen) (c : Command) (status : ℕ) (r : Refusal) → IsCause x c r → status ≡ status_of r → IsOneOf (statuses_of c) status
-refused_status x (Read how of order) status r cause e = of_values status r e
+refused_status x (Read how of order given) status r cause e = of_values status r e
 refused_status x (Write how of) status r cause e = of_values status r e
 refused_status x (Compile idl acf) status r cause e = of_files x.files idl acf status r cause e
 refused_status x (Plan idl acf) status r cause e = of_files x.files idl acf status r cause e
@@ -118,7 +126,7 @@ refused_status x Help status r cause e = inr (inr (inl (e ∙ ap status_of cause
 refused_status x Version status r cause e = inr (inr (inl (e ∙ ap status_of cause)))
 
 zero_in : (c : Command) (status : ℕ) → status ≡ 0 → IsOneOf (statuses_of c) status
-zero_in (Read how of order) status e = inl e
+zero_in (Read how of order given) status e = inl e
 zero_in (Write how of) status e = inl e
 zero_in (Compile idl acf) status e = inl e
 zero_in (Plan idl acf) status e = inl e
@@ -126,7 +134,7 @@ zero_in Help status e = inl e
 zero_in Version status e = inl e
 
 four_in : (c : Command) (status : ℕ) → status ≡ 4 → IsOneOf (statuses_of c) status
-four_in (Read how of order) status e = inr (inr (inr (inl e)))
+four_in (Read how of order given) status e = inr (inr (inr (inl e)))
 four_in (Write how of) status e = inr (inr (inr (inl e)))
 four_in (Compile idl acf) status e = inr (inl e)
 four_in (Plan idl acf) status e = inr (inl e)
@@ -134,7 +142,7 @@ four_in Help status e = inr (inl e)
 four_in Version status e = inr (inl e)
 
 five_in : (c : Command) (status : ℕ) → status ≡ 5 → IsOneOf (statuses_of c) status
-five_in (Read how of order) status e = inr (inr (inr (inr (inl e))))
+five_in (Read how of order given) status e = inr (inr (inr (inr (inl e))))
 five_in (Write how of) status e = inr (inr (inr (inr (inl e))))
 five_in (Compile idl acf) status e = inr (inr (inl e))
 five_in (Plan idl acf) status e = inr (inr (inl e))
@@ -210,20 +218,24 @@ module _ (x : Seen) where
   idl_read idl acf (BadOctets place why) cause e = cc
   idl_read idl acf (BadText line column reason) cause e = cc
   idl_read idl acf (BadValue path reason) cause e = cc
+  idl_read idl acf (BadRequest fault) cause e = cc
 
   -- the input is refused only as the input
   read_fault : (c : Command) (r : Refusal) → IsCause x c r → status_of r ≡ 3 → HasRisen x.input.faults × (asks_input c ≡ true)
-  read_fault (Read how of order) ReadFault (inl (cause, before)) e = absurd cause
-  read_fault (Read how of order) ReadFault (inr (w, ready, rose)) e = (rose, refl)
-  read_fault (Read how of order) Memory cause e = cc
-  read_fault (Read how of order) (Absent file) cause e = cc
-  read_fault (Read how of order) (FileFailed file) cause e = cc
-  read_fault (Read how of order) (BadIdl file line column reason) cause e = cc
-  read_fault (Read how of order) NoOperation cause e = cc
-  read_fault (Read how of order) NotBuilt cause e = cc
-  read_fault (Read how of order) (BadOctets place why) cause e = cc
-  read_fault (Read how of order) (BadText line column reason) cause e = cc
-  read_fault (Read how of order) (BadValue path reason) cause e = cc
+  read_fault (Read how of order None) ReadFault (inl (cause, before)) e = absurd cause
+  read_fault (Read how of order (Some name)) ReadFault (inl (inl cause, before)) e = absurd cause
+  read_fault (Read how of order (Some name)) ReadFault (inl (inr u, before)) e = absurd u.cause
+  read_fault (Read Decode of order given) ReadFault (inr (w, ready, rose)) e = (rose, refl)
+  read_fault (Read how of order given) Memory cause e = cc
+  read_fault (Read how of order given) (Absent file) cause e = cc
+  read_fault (Read how of order given) (FileFailed file) cause e = cc
+  read_fault (Read how of order given) (BadIdl file line column reason) cause e = cc
+  read_fault (Read how of order given) NoOperation cause e = cc
+  read_fault (Read how of order given) NotBuilt cause e = cc
+  read_fault (Read how of order given) (BadOctets place why) cause e = cc
+  read_fault (Read how of order given) (BadText line column reason) cause e = cc
+  read_fault (Read how of order given) (BadValue path reason) cause e = cc
+  read_fault (Read how of order given) (BadRequest fault) cause e = cc
   read_fault (Write how of) ReadFault (inl (cause, before)) e = absurd cause
   read_fault (Write how of) ReadFault (inr (w, ready, rose)) e = (rose, refl)
   read_fault (Write how of) Memory cause e = cc
@@ -235,6 +247,7 @@ module _ (x : Seen) where
   read_fault (Write how of) (BadOctets place why) cause e = cc
   read_fault (Write how of) (BadText line column reason) cause e = cc
   read_fault (Write how of) (BadValue path reason) cause e = cc
+  read_fault (Write how of) (BadRequest fault) cause e = cc
   read_fault (Compile idl acf) r cause e = absurd (idl_read idl acf r cause e)
   read_fault (Plan idl acf) r cause e = absurd (idl_read idl acf r cause e)
   read_fault Help r cause e = let never : status_of Memory ≡ 3 = sym (ap status_of cause) ∙ e in cc
@@ -253,22 +266,42 @@ module _ (x : Seen) where
   idl_absent idl acf (BadOctets place why) cause e = cc
   idl_absent idl acf (BadText line column reason) cause e = cc
   idl_absent idl acf (BadValue path reason) cause e = cc
+  idl_absent idl acf (BadRequest fault) cause e = cc
+
+  abbrev IsDueFor : Command → List ℕ → Type 0
+  IsDueFor c file = IsDueOf x.files.held (asks_files c) file ⊎ IsDueRequest x.files.held c file
+
+  -- the request of a file is due once what the command speaks of is ready
+  request_due : (values : Values) (of : Subject) (name : List ℕ) (w : Setting) → HasAsked values x.files of name w → IsRequestDue x.files.held of
+  request_due values of name w h = record {
+    file = h.ready.found.compiled.file;
+    interface = h.ready.interface;
+    number = h.ready.number;
+    loaded = h.ready.found.compiled.loaded;
+    means = h.ready.found.compiled.means;
+    known = h.ready.found.named.found;
+  }
 
   -- a file that is absent is due and missing
   absent_is : (c : Command) (r : Refusal) → IsCause x c r → status_of r ≡ 7
-      → HasRisen x.files.absences × ((file : List ℕ) × (r ≡ Absent file) × IsDueOf x.files.held (asks_files c) file × IsMissing x.files.held file)
-  absent_is (Read how of order) (Absent file) (inl ((rose, due, missing), before)) e = (rose, (file, refl, due, missing))
-  absent_is (Read how of order) (Absent file) (inr (w, ready, (octets, read, cause))) e = absurd cause
-  absent_is (Read how of order) Memory cause e = cc
-  absent_is (Read how of order) (FileFailed file) cause e = cc
-  absent_is (Read how of order) (BadIdl file line column reason) cause e = cc
-  absent_is (Read how of order) NoOperation cause e = cc
-  absent_is (Read how of order) NotBuilt cause e = cc
-  absent_is (Read how of order) ReadFault cause e = cc
-  absent_is (Read how of order) (BadOctets place why) cause e = cc
-  absent_is (Read how of order) (BadText line column reason) cause e = cc
-  absent_is (Read how of order) (BadValue path reason) cause e = cc
-  absent_is (Write how of) (Absent file) (inl ((rose, due, missing), before)) e = (rose, (file, refl, due, missing))
+      → HasRisen x.files.absences × ((file : List ℕ) × (r ≡ Absent file) × IsDueFor c file × IsMissing x.files.held file)
+  absent_is (Read how of order None) (Absent file) (inl ((rose, due, missing), before)) e = (rose, (file, refl, inl due, missing))
+  absent_is (Read how of order (Some name)) (Absent file) (inl (inl (rose, due, missing), before)) e = (rose, (file, refl, inl due, missing))
+  absent_is (Read how of order (Some name)) (Absent file) (inl (inr u, before)) e =
+      let (is, rose, missing) = u.cause in
+      (rose, (file, refl, inr (is, request_due (values_read how) of name u.own u.has_asked), subst (IsMissing x.files.held) (sym is) missing))
+  absent_is (Read Decode of order given) (Absent file) (inr (w, ready, cause)) e = absurd cause
+  absent_is (Read how of order given) Memory cause e = cc
+  absent_is (Read how of order given) (FileFailed file) cause e = cc
+  absent_is (Read how of order given) (BadIdl file line column reason) cause e = cc
+  absent_is (Read how of order given) NoOperation cause e = cc
+  absent_is (Read how of order given) NotBuilt cause e = cc
+  absent_is (Read how of order given) ReadFault cause e = cc
+  absent_is (Read how of order given) (BadOctets place why) cause e = cc
+  absent_is (Read how of order given) (BadText line column reason) cause e = cc
+  absent_is (Read how of order given) (BadValue path reason) cause e = cc
+  absent_is (Read how of order given) (BadRequest fault) cause e = cc
+  absent_is (Write how of) (Absent file) (inl ((rose, due, missing), before)) e = (rose, (file, refl, inl due, missing))
   absent_is (Write how of) (Absent file) (inr (w, ready, (octets, read, cause))) e = absurd cause
   absent_is (Write how of) Memory cause e = cc
   absent_is (Write how of) (FileFailed file) cause e = cc
@@ -279,8 +312,9 @@ module _ (x : Seen) where
   absent_is (Write how of) (BadOctets place why) cause e = cc
   absent_is (Write how of) (BadText line column reason) cause e = cc
   absent_is (Write how of) (BadValue path reason) cause e = cc
-  absent_is (Compile idl acf) r cause e = idl_absent idl acf r cause e
-  absent_is (Plan idl acf) r cause e = idl_absent idl acf r cause e
+  absent_is (Write how of) (BadRequest fault) cause e = cc
+  absent_is (Compile idl acf) r cause e = let (rose, (file, same, due, missing)) = idl_absent idl acf r cause e in (rose, (file, same, inl due, missing))
+  absent_is (Plan idl acf) r cause e = let (rose, (file, same, due, missing)) = idl_absent idl acf r cause e in (rose, (file, same, inl due, missing))
   absent_is Help r cause e = let never : status_of Memory ≡ 7 = sym (ap status_of cause) ∙ e in cc
   absent_is Version r cause e = let never : status_of Memory ≡ 7 = sym (ap status_of cause) ∙ e in cc
 
@@ -297,22 +331,27 @@ module _ (x : Seen) where
   idl_failed idl acf (BadOctets place why) cause e = cc
   idl_failed idl acf (BadText line column reason) cause e = cc
   idl_failed idl acf (BadValue path reason) cause e = cc
+  idl_failed idl acf (BadRequest fault) cause e = cc
 
   -- a file that was not read is due
   failed_is : (c : Command) (r : Refusal) → IsCause x c r → status_of r ≡ 9
-      → HasRisen x.files.faults × ((file : List ℕ) × (r ≡ FileFailed file) × IsDueOf x.files.held (asks_files c) file)
-  failed_is (Read how of order) (FileFailed file) (inl ((rose, due), before)) e = (rose, (file, refl, due))
-  failed_is (Read how of order) (FileFailed file) (inr (w, ready, (octets, read, cause))) e = absurd cause
-  failed_is (Read how of order) Memory cause e = cc
-  failed_is (Read how of order) (Absent file) cause e = cc
-  failed_is (Read how of order) (BadIdl file line column reason) cause e = cc
-  failed_is (Read how of order) NoOperation cause e = cc
-  failed_is (Read how of order) NotBuilt cause e = cc
-  failed_is (Read how of order) ReadFault cause e = cc
-  failed_is (Read how of order) (BadOctets place why) cause e = cc
-  failed_is (Read how of order) (BadText line column reason) cause e = cc
-  failed_is (Read how of order) (BadValue path reason) cause e = cc
-  failed_is (Write how of) (FileFailed file) (inl ((rose, due), before)) e = (rose, (file, refl, due))
+      → HasRisen x.files.faults × ((file : List ℕ) × (r ≡ FileFailed file) × IsDueFor c file)
+  failed_is (Read how of order None) (FileFailed file) (inl ((rose, due), before)) e = (rose, (file, refl, inl due))
+  failed_is (Read how of order (Some name)) (FileFailed file) (inl (inl (rose, due), before)) e = (rose, (file, refl, inl due))
+  failed_is (Read how of order (Some name)) (FileFailed file) (inl (inr u, before)) e =
+      let (is, rose) = u.cause in (rose, (file, refl, inr (is, request_due (values_read how) of name u.own u.has_asked)))
+  failed_is (Read Decode of order given) (FileFailed file) (inr (w, ready, cause)) e = absurd cause
+  failed_is (Read how of order given) Memory cause e = cc
+  failed_is (Read how of order given) (Absent file) cause e = cc
+  failed_is (Read how of order given) (BadIdl file line column reason) cause e = cc
+  failed_is (Read how of order given) NoOperation cause e = cc
+  failed_is (Read how of order given) NotBuilt cause e = cc
+  failed_is (Read how of order given) ReadFault cause e = cc
+  failed_is (Read how of order given) (BadOctets place why) cause e = cc
+  failed_is (Read how of order given) (BadText line column reason) cause e = cc
+  failed_is (Read how of order given) (BadValue path reason) cause e = cc
+  failed_is (Read how of order given) (BadRequest fault) cause e = cc
+  failed_is (Write how of) (FileFailed file) (inl ((rose, due), before)) e = (rose, (file, refl, inl due))
   failed_is (Write how of) (FileFailed file) (inr (w, ready, (octets, read, cause))) e = absurd cause
   failed_is (Write how of) Memory cause e = cc
   failed_is (Write how of) (Absent file) cause e = cc
@@ -323,8 +362,9 @@ module _ (x : Seen) where
   failed_is (Write how of) (BadOctets place why) cause e = cc
   failed_is (Write how of) (BadText line column reason) cause e = cc
   failed_is (Write how of) (BadValue path reason) cause e = cc
-  failed_is (Compile idl acf) r cause e = idl_failed idl acf r cause e
-  failed_is (Plan idl acf) r cause e = idl_failed idl acf r cause e
+  failed_is (Write how of) (BadRequest fault) cause e = cc
+  failed_is (Compile idl acf) r cause e = let (rose, (file, same, due)) = idl_failed idl acf r cause e in (rose, (file, same, inl due))
+  failed_is (Plan idl acf) r cause e = let (rose, (file, same, due)) = idl_failed idl acf r cause e in (rose, (file, same, inl due))
   failed_is Help r cause e = let never : status_of Memory ≡ 9 = sym (ap status_of cause) ∙ e in cc
   failed_is Version r cause e = let never : status_of Memory ≡ 9 = sym (ap status_of cause) ∙ e in cc
 
@@ -364,6 +404,7 @@ module _ (x : Seen) (out notes : SinkSeen) (status : ℕ) (nothing : HasNotFaile
   refused_unfailed c (BadOctets place why) cause e = inr (inl e)
   refused_unfailed c (BadText line column reason) cause e = inr (inl e)
   refused_unfailed c (BadValue path reason) cause e = inr (inl e)
+  refused_unfailed c (BadRequest fault) cause e = inr (inl e)
 
   by_command : (c : Command) → Ended x out notes c status → Unfailed status
   by_command c (ended_done is d) = inl is
@@ -387,3 +428,107 @@ module _ (x : Seen) (out notes : SinkSeen) (status : ℕ) (nothing : HasNotFaile
       by : (o : Option Command) → command words ≡ o → Unfailed status
       by None is = by_words words run.outcome (subst (λ o. IsOutcome x o run.outcome) is run.caused) run.delivered
       by (Some c) is = by_command c (ended x out notes c status words is run)
+
+-- ## Words that are no command, and outputs that failed
+
+not_two : (r : Refusal) → status_of r ≡ 2 → ⊥
+not_two Memory e = cc
+not_two (Absent file) e = cc
+not_two (FileFailed file) e = cc
+not_two (BadIdl file line column reason) e = cc
+not_two NoOperation e = cc
+not_two NotBuilt e = cc
+not_two ReadFault e = cc
+not_two (BadOctets place why) e = cc
+not_two (BadText line column reason) e = cc
+not_two (BadValue path reason) e = cc
+not_two (BadRequest fault) e = cc
+
+not_four : (r : Refusal) → status_of r ≡ 4 → ⊥
+not_four Memory e = cc
+not_four (Absent file) e = cc
+not_four (FileFailed file) e = cc
+not_four (BadIdl file line column reason) e = cc
+not_four NoOperation e = cc
+not_four NotBuilt e = cc
+not_four ReadFault e = cc
+not_four (BadOctets place why) e = cc
+not_four (BadText line column reason) e = cc
+not_four (BadValue path reason) e = cc
+not_four (BadRequest fault) e = cc
+
+apart : (n a b : ℕ) → n ≡ a → n ≡ b → (a ≡ b → ⊥) → ⊥
+apart n a b x y unlike = unlike (sym x ∙ y)
+
+module _ (x : Seen) (out notes : SinkSeen) (status : ℕ) (words : List (List ℕ)) (run : HasRun words x out notes status) where
+  -- status 2 comes only for words that are no command
+  pub no_command : status ≡ 2 → command words ≡ None
+  no_command e = by (command words) refl
+    where
+      by_end : (c : Command) → Ended x out notes c status → ⊥
+      by_end c (ended_done is d) = apart status 0 2 is e (λ h. cc)
+      by_end c (ended_refused r) = not_two r.refusal (sym r.own_status ∙ e)
+      by_end c (ended_wanting is) = apart status 5 2 is e (λ h. cc)
+      by_end c (ended_unwritten is rose made is_made) = apart status 4 2 is e (λ h. cc)
+      by_end c (ended_unreported is rose) = apart status 4 2 is e (λ h. cc)
+
+      by : (o : Option Command) → command words ≡ o → command words ≡ None
+      by None is = is
+      by (Some c) is = absurd (by_end c (ended x out notes c status words is run))
+
+  -- and its line is this
+  pub refused_line : status ≡ 2 → Got notes (codes "words refused\n")
+  refused_line e = by run.outcome (subst (λ o. IsOutcome x o run.outcome) (no_command e) run.caused) run.delivered
+    where
+      by : (outcome : Outcome) → IsOutcome x None outcome → IsDelivered out notes outcome status → Got notes (codes "words refused\n")
+      by (Done made) (inl is) d = cc
+      by (Done made) (inr is) d = cc
+      by (Refused own line) (inl is) (before, inl (same, told)) = let text : line ≡ codes "words refused\n" = cc in subst (Got notes) text told
+      by (Refused own line) (inl is) (before, inr (four, rose, some)) = absurd (apart status 4 2 four e (λ h. cc))
+      by (Refused own line) (inr is) d = cc
+      by Wanting is (before, inl (five, told)) = absurd (apart status 5 2 five e (λ h. cc))
+      by Wanting is (before, inr (four, rose, some)) = absurd (apart status 4 2 four e (λ h. cc))
+
+  -- status 4 comes only if an output failed
+  pub write_failed : status ≡ 4 → HasRisen out.faults ⊎ HasRisen notes.faults
+  write_failed e = by (command words) refl
+    where
+      by_end : (c : Command) → Ended x out notes c status → HasRisen out.faults ⊎ HasRisen notes.faults
+      by_end c (ended_done is d) = absurd (apart status 0 4 is e (λ h. cc))
+      by_end c (ended_refused r) = absurd (not_four r.refusal (sym r.own_status ∙ e))
+      by_end c (ended_wanting is) = absurd (apart status 5 4 is e (λ h. cc))
+      by_end c (ended_unwritten is rose made is_made) = inl rose
+      by_end c (ended_unreported is rose) = inr rose
+
+      by_outcome : (outcome : Outcome) → IsOutcome x None outcome → IsDelivered out notes outcome status → HasRisen out.faults ⊎ HasRisen notes.faults
+      by_outcome (Done made) (inl is) d = cc
+      by_outcome (Done made) (inr is) d = cc
+      by_outcome (Refused own line) (inl is) (before, inl (same, told)) = let two : own ≡ 2 = cc in absurd (apart status 2 4 (same ∙ two) e (λ h. cc))
+      by_outcome (Refused own line) (inl is) (before, inr (four, rose, some)) = inr rose
+      by_outcome (Refused own line) (inr is) d = cc
+      by_outcome Wanting is (before, inl (five, told)) = absurd (apart status 5 4 five e (λ h. cc))
+      by_outcome Wanting is (before, inr (four, rose, some)) = inr rose
+
+      by : (o : Option Command) → command words ≡ o → HasRisen out.faults ⊎ HasRisen notes.faults
+      by None is = by_outcome run.outcome (subst (λ o. IsOutcome x o run.outcome) is run.caused) run.delivered
+      by (Some c) is = by_end c (ended x out notes c status words is run)
+
+  -- with status 0 notes are as before
+  pub nothing_noted : status ≡ 0 → notes.written_now ≡ notes.written
+  nothing_noted e = by (command words) refl
+    where
+      by_end : (c : Command) → Ended x out notes c status → notes.written_now ≡ notes.written
+      by_end c (ended_done is d) = d.quiet.written
+      by_end c (ended_refused r) = absurd (not_zero r.refusal (sym r.own_status ∙ e))
+      by_end c (ended_wanting is) = absurd (apart status 5 0 is e (λ h. cc))
+      by_end c (ended_unwritten is rose made is_made) = absurd (apart status 4 0 is e (λ h. cc))
+      by_end c (ended_unreported is rose) = absurd (apart status 4 0 is e (λ h. cc))
+
+      by_idle : Idle status → notes.written_now ≡ notes.written
+      by_idle (idle_two h) = absurd (apart status 2 0 h e (λ k. cc))
+      by_idle (idle_four h) = absurd (apart status 4 0 h e (λ k. cc))
+      by_idle (idle_five h) = absurd (apart status 5 0 h e (λ k. cc))
+
+      by : (o : Option Command) → command words ≡ o → notes.written_now ≡ notes.written
+      by None is = by_idle (idle x out notes status words is run)
+      by (Some c) is = by_end c (ended x out notes c status words is run)

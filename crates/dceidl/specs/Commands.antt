@@ -1,5 +1,7 @@
 -- A command of the code as the command that it is.
-use Rattle.std.specs.Prelude.{◌≤◌, option_map, ⊤}
+use Rattle.std.specs.Prelude.{◌≡◌, ◌≤◌, Option, None, Some, option_map, ⊤}
+use Rattle.nd_types.specs.declared.types.Side.{Side}
+use Rattle.nd_types.specs.declared.types.Side.TheVariants.{Out}
 use Rattle.dceidl.specs.Words as words
 use Rattle.dceidl.specs.declared.words.Subject.{Subject}
 use Rattle.dceidl.specs.declared.words.Command.{Command}
@@ -11,7 +13,7 @@ abbrev pub subject_of : Subject → words.Subject
 subject_of of = record { idl = of.idl.now; acf = option_map (λ a. a.now) of.acf; op = of.op.now; side = of.side }
 
 abbrev pub command_of : Command → words.Command
-command_of (Read how of order) = words.Read how (subject_of of) order
+command_of (Read how of order given) = words.Read how (subject_of of) order (option_map (λ t. t.now) given)
 command_of (Write how of) = words.Write how (subject_of of)
 command_of (Compile idl acf) = words.Compile idl.now (option_map (λ a. a.now) acf)
 command_of (Plan idl acf) = words.Plan idl.now (option_map (λ a. a.now) acf)
@@ -23,6 +25,13 @@ abbrev pub WritesChunks : Writing → Type 0
 WritesChunks (Encode order chunk) = 1 ≤ chunk
 WritesChunks Migrate = ⊤
 
-abbrev pub HasChunk : Command → Type 0
-HasChunk (Write how of) = WritesChunks how
-HasChunk _ = ⊤
+-- outputs alone are judged beside a request
+abbrev pub IsJudged : {X : Type 0} → Side → Option X → Type 0
+IsJudged side None = ⊤
+IsJudged side (Some text) = side ≡ Out
+
+-- what its words say of the parts of a command
+abbrev pub IsWellFormed : Command → Type 0
+IsWellFormed (Read how of order given) = IsJudged of.side given
+IsWellFormed (Write how of) = WritesChunks how
+IsWellFormed _ = ⊤

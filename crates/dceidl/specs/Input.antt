@@ -1,13 +1,15 @@
 -- What commands make of the input, and why it is refused.
-use Rattle.std.specs.Prelude.{◌≡◌, ℕ, ◌+◌, ◌<◌, ◌≤◌, true, List, length, ⊤}
+use Rattle.std.specs.Prelude.{◌≡◌, ◌⊎◌, ℕ, ◌+◌, ◌<◌, ◌≤◌, true, List, length, ⊤}
 use Rattle.std.specs.Io.KnownBytes.{Consumes, IsAtEnd}
-use Rattle.nd_base.specs.declared.TheConstants.{STREAM_LIMIT}
 use Rattle.nd_base.specs.declared.octets.Order.{Order}
-use Rattle.nd_base.specs.Over.{SourceSeen, HasRisen}
+use Rattle.nd_base.specs.Over.{FilesSeen, SourceSeen, HasRisen, IsUntouched}
 use Rattle.text_grammar.specs.declared.TheConstants.{TEXT_LIMIT}
+use Rattle.nd_value.specs.declared.value.Graph.{Graph}
 use Rattle.nd_value.specs.Setting.{Setting}
-use Rattle.dceidl.specs.Decode.{IsDecoding, IsOctetsCause}
-use Rattle.dceidl.specs.Encode.{IsEncoding, IsMigration, IsTextCause}
+use Rattle.ndr_printing.specs.Printed.{IsPrinted, IsInputCause}
+use Rattle.text_fitting.specs.Fitted.{IsTextCause}
+use Rattle.text_fitting.specs.Request.{beside, HoldsRequest, HoldsNoRequest}
+use Rattle.dceidl.specs.Encode.{IsEncoding, IsMigration}
 use Rattle.dceidl.specs.declared.words.Reading.{Reading}
 use Rattle.dceidl.specs.declared.words.Reading.TheVariants.{Decode}
 use Rattle.dceidl.specs.declared.words.Writing.{Writing}
@@ -29,21 +31,22 @@ IsFetchCause s Memory = ⊤
 IsFetchCause s ReadFault = HasRisen s.faults
 IsFetchCause s _ = ⊥
 
--- what is made of octets, by how they are read
-abbrev pub IsShown : Reading → Setting → Order → List ℕ → List ℕ → Type 0
-IsShown Decode w order octets made = IsDecoding w order octets made
-
--- The input was read to its end, and this was made of its octets.
-pub record IsRead (s : SourceSeen) (how : Reading) (w : Setting) (order : Order) (made : List ℕ) : Type 0 where
-  pub octets : List ℕ
-  pub read : AreRead s STREAM_LIMIT octets
-  pub shown : IsShown how w order octets made
+-- the octets of the input are read to their end, and this is made of them, by how they are read
+abbrev pub IsRead : SourceSeen → Reading → Setting → Order → List ℕ → Type 0
+IsRead s Decode w order made = IsPrinted s w order made
 
 -- why the octets of the input are refused
 abbrev pub IsReadCause : SourceSeen → Reading → Setting → Order → Refusal → Type 0
-IsReadCause s how w order ReadFault = HasRisen s.faults
-IsReadCause s how w order Memory = ⊤
-IsReadCause s how w order refusal = (octets : List ℕ) × AreRead s STREAM_LIMIT octets × IsOctetsCause w order octets refusal
+IsReadCause s Decode w order r = IsInputCause s w order r
+
+-- the file of a name holds a request, and beside it this is made of the octets of the input
+abbrev pub IsReadBeside : FilesSeen → SourceSeen → List ℕ → Reading → Setting → Order → List ℕ → Type 0
+IsReadBeside f s name how w order made = (q : Graph) × HoldsRequest f name w q × IsRead s how (beside w q) order made
+
+-- why it is not: the request is refused before the input is touched, or the octets are
+abbrev pub IsBesideCause : FilesSeen → SourceSeen → List ℕ → Reading → Setting → Order → Refusal → Type 0
+IsBesideCause f s name how w order r =
+    (HoldsNoRequest f name w r × IsUntouched s) ⊎ ((q : Graph) × HoldsRequest f name w q × IsReadCause s how (beside w q) order r)
 
 -- what is made of a text, by what is asked
 abbrev pub IsMadeOf : Writing → Setting → List ℕ → List ℕ → Type 0

@@ -1,5 +1,5 @@
 -- When the files and the operation that a command speaks of are ready, and why they are refused.
-use Rattle.std.specs.Prelude.{◌≡◌, ℕ, Bool, true, false, List, None, Some}
+use Rattle.std.specs.Prelude.{◌≡◌, ◌⊎◌, ℕ, Bool, true, false, List, [], ◌∷◌, ◌++◌, Option, None, Some}
 use Rattle.std.specs.List.{slice_get}
 use Rattle.nd_base.specs.Over.{FilesSeen}
 use Rattle.nd_types.specs.declared.interface.Interface.{Interface}
@@ -8,6 +8,7 @@ use Rattle.nd_types.specs.declared.types.Side.{Side}
 use Rattle.nd_types.specs.Operations.{operation_named}
 use Rattle.nd_types.specs.Table.{Table}
 use Rattle.nd_types.specs.Numbers.{has_number_roots}
+use Rattle.nd_value.specs.declared.value.Graph.{Graph}
 use Rattle.nd_value.specs.Fitting.{setting_of}
 use Rattle.nd_value.specs.Setting.{Setting}
 use Rattle.dceidl.specs.Words.{Subject}
@@ -15,6 +16,7 @@ use Rattle.dceidl.specs.declared.words.Values.{Values}
 use Rattle.dceidl.specs.declared.words.Values.TheVariants.{All, Primitives}
 use Rattle.refusals.specs.declared.refusal.Refusal.{Refusal}
 use Rattle.refusals.specs.declared.refusal.Refusal.TheVariants.{NoOperation, NotBuilt}
+use Rattle.text_fitting.specs.Request.{beside, HoldsRequest, HoldsNoRequest}
 use Rattle.idl_compiler.specs.Compiled.{IsCompiled, IsIdlCause}
 
 -- the operation of a name, by its number
@@ -66,3 +68,39 @@ abbrev pub IsReadyCause : Values → FilesSeen → Subject → Refusal → Type 
 IsReadyCause values f of NoOperation = IsUnknown f of
 IsReadyCause values f of NotBuilt = IsUnbuilt values f of
 IsReadyCause values f of refusal = IsIdlCause f of.idl of.acf refusal
+
+-- ## Beside a request
+
+-- files over a part of a call: up to where these names had been asked for
+abbrev pub up_to : FilesSeen → List (List ℕ) → FilesSeen
+up_to f asked = record { held = f.held; asked = f.asked; asked_now = asked; absences = f.absences; faults = f.faults }
+
+-- What a command on these values speaks of is ready, and then the file of a name was asked for.
+pub record HasAsked (values : Values) (f : FilesSeen) (of : Subject) (name : List ℕ) (w : Setting) : Type 0 where
+  pub earlier : List (List ℕ)
+  pub ready : IsReady values (up_to f earlier) of w
+  pub asked : f.asked_now ≡ earlier ++ name ∷ []
+
+-- The file of a name holds a request, and this is the setting beside it.
+pub record IsReadyBeside (values : Values) (f : FilesSeen) (of : Subject) (name : List ℕ) (w : Setting) : Type 0 where
+  pub own : Setting
+  pub has_asked : HasAsked values f of name own
+  pub request : Graph
+  pub holds : HoldsRequest f name own request
+  pub setting_is : w ≡ beside own request
+
+-- what a command on these values speaks of is ready, with the request of a file if one is named: this is the setting
+abbrev pub IsAllReady : Values → FilesSeen → Subject → Option (List ℕ) → Setting → Type 0
+IsAllReady values f of None w = IsReady values f of w
+IsAllReady values f of (Some name) w = IsReadyBeside values f of name w
+
+-- The request of a file is refused, once all else is ready.
+pub record IsUnreadyBeside (values : Values) (f : FilesSeen) (of : Subject) (name : List ℕ) (r : Refusal) : Type 0 where
+  pub own : Setting
+  pub has_asked : HasAsked values f of name own
+  pub cause : HoldsNoRequest f name own r
+
+-- why it is not: as without a request, or the request is refused
+abbrev pub IsUnready : Values → FilesSeen → Subject → Option (List ℕ) → Refusal → Type 0
+IsUnready values f of None r = IsReadyCause values f of r
+IsUnready values f of (Some name) r = IsReadyCause values f of r ⊎ IsUnreadyBeside values f of name r

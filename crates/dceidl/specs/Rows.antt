@@ -1,6 +1,6 @@
 -- The rows of a run, each for all commands at once: what a status says by itself, and what comes where nothing fails.
-use Rattle.std.specs.Prelude.{◌≡◌, ◌⊎◌, ℕ, ◌+◌, true, false, List, [], ◌∷◌, codes, take, option_map, Option, None, Some, ⊤}
-use Rattle.nd_base.specs.declared.TheConstants.{STREAM_LIMIT}
+use Rattle.std.specs.Prelude.{◌≡◌, ◌⊎◌, ℕ, ◌+◌, ◌<◌, length, true, false, List, [], ◌∷◌, codes, take, option_map, Option, None, Some, ⊤}
+use Rattle.nd_base.specs.declared.octets.Order.{Order}
 use Rattle.nd_base.specs.Outside.{IsMissing, loaded}
 use Rattle.nd_base.specs.Over.{FilesSeen, SourceSeen, SinkSeen, HasRisen, Got, IsAsBefore}
 use Rattle.nd_types.specs.declared.interface.Interface.{Interface}
@@ -11,12 +11,15 @@ use Rattle.nd_value.specs.Setting.{Setting}
 use Rattle.nd_value.specs.Conforms.{Conforms}
 use Rattle.nd_value.specs.Fitting.{setting_of}
 use Rattle.nd_grammar.specs.Represents.{Represents}
+use Rattle.nd_grammar.specs.Prefix.{BeginsWith}
+use Rattle.nd_grammar.specs.Bad.{Bad}
 use Rattle.text_grammar.specs.declared.TheConstants.{TEXT_LIMIT}
 use Rattle.text_grammar.specs.Reads.{ReadsAs, IsTextFault}
 use Rattle.nd_base.specs.Text.{joined}
 use Rattle.dceidl.specs.Causes.{IsMade, IsCause}
-use Rattle.dceidl.specs.Decode.{IsRefusedAt}
-use Rattle.dceidl.specs.Encode.{IsMisfitAt}
+use Rattle.dceidl.specs.Asked.{IsRequestDue}
+use Rattle.text_fitting.specs.Fitted.{IsMisfitAt}
+use Rattle.text_fitting.specs.Request.{beside, IsRequestText, IsRequestFault}
 use Rattle.idl_compiler.specs.Idl.{Means, IsIdlFault, IsDueFile}
 use Rattle.refusals.specs.Lines.{status_of, line_of}
 use Rattle.dceidl.specs.Ready.{IsNamed, is_among}
@@ -25,7 +28,10 @@ use Rattle.dceidl.specs.Words.{Command, Subject, Read, Write, Compile, Plan, Hel
 use Rattle.idl_compiler.specs.Asked.{FileNames}
 use Rattle.dceidl.specs.declared.words.Values.{Values}
 use Rattle.refusals.specs.declared.refusal.Refusal.{Refusal}
-use Rattle.refusals.specs.declared.refusal.Refusal.TheVariants.{BadIdl, NoOperation, NotBuilt, BadOctets, BadText, BadValue}
+use Rattle.refusals.specs.declared.refusal.Refusal.TheVariants.{BadIdl, NoOperation, NotBuilt, BadOctets, BadText, BadValue, BadRequest}
+use Rattle.refusals.specs.declared.refusal.OctetsFault.{OctetsFault}
+use Rattle.refusals.specs.declared.refusal.OctetsFault.TheVariants.{Refused, Trailing}
+use Rattle.refusals.specs.declared.refusal.RequestFault.{RequestFault}
 
 -- a status is one of these
 abbrev pub IsOneOf : List ℕ → ℕ → Type 0
@@ -59,9 +65,14 @@ abbrev pub IsDueOf : Option (List ℕ → Option (List ℕ)) → Option FileName
 IsDueOf held None name = ⊥
 IsDueOf held (Some named) name = IsDueFile held named.idl named.acf name
 
+-- the text of a request is due for a command, and this is its name
+abbrev pub IsDueRequest : Option (List ℕ → Option (List ℕ)) → Command → List ℕ → Type 0
+IsDueRequest held (Read how of order (Some text)) name = (name ≡ text) × IsRequestDue held of
+IsDueRequest held _ name = ⊥
+
 abbrev pub IsDue : Option Command → Option (List ℕ → Option (List ℕ)) → List ℕ → Type 0
 IsDue None held name = ⊥
-IsDue (Some c) held name = IsDueOf held (asks_files c) name
+IsDue (Some c) held name = IsDueOf held (asks_files c) name ⊎ IsDueRequest held c name
 
 -- the file of a line is due and, where the contents of files are known, not held
 abbrev pub IsDueAndMissing : Option Command → Option (List ℕ → Option (List ℕ)) → SinkSeen → Type 0
@@ -102,6 +113,26 @@ pub record IsAccepted (values : Values) (f : FilesSeen) (of : Subject) (w : Sett
   pub built : is_among values interface.types of.side operation ≡ true
   pub setting_is : w ≡ setting_of interface operation of.side
 
+-- The same beside the request of a file, which is held.
+pub record IsAcceptedBeside (values : Values) (f : FilesSeen) (of : Subject) (name : List ℕ) (w : Setting) : Type 0 where
+  pub own : Setting
+  pub accepted : IsAccepted values f of own
+  pub text : List ℕ
+  pub held : IsHeld f name text
+  pub request : Graph
+  pub is_request : IsRequestText own text request
+  pub setting_is : w ≡ beside own request
+
+-- the same with the request of a file if one is named
+abbrev pub AreAccepted : Values → FilesSeen → Subject → Option (List ℕ) → Setting → Type 0
+AreAccepted values f of None w = IsAccepted values f of w
+AreAccepted values f of (Some name) w = IsAcceptedBeside values f of name w
+
+-- The octets of the input are known, and are these. No fetch failed.
+pub record AreGiven (s : SourceSeen) (octets : List ℕ) : Type 0 where
+  pub left : s.left ≡ Some octets
+  pub reads : HasRisen s.faults → ⊥
+
 -- The octets of the input are known, and these count under a limit: all of them, or one more than the limit. No fetch failed.
 pub record IsInput (s : SourceSeen) (limit : ℕ) (octets : List ℕ) : Type 0 where
   pub all : List ℕ
@@ -109,10 +140,16 @@ pub record IsInput (s : SourceSeen) (limit : ℕ) (octets : List ℕ) : Type 0 w
   pub counted : octets ≡ take (limit + 1) all
   pub reads : HasRisen s.faults → ⊥
 
+-- The octets before a place are a stream of a graph that conforms, and an octet follows.
+pub record IsTrailing (w : Setting) (order : Order) (octets : List ℕ) (place : ℕ) : Type 0 where
+  pub graph : Graph
+  pub begins : BeginsWith w order octets place graph
+  pub follows : place < length octets
+
 -- Where no load fails and notes do not, a command of which this holds is done, unless it runs out of memory or out fails.
 abbrev pub CanBeDone : Seen → Command → Type 0
-CanBeDone x (Read how of order) =
-    (w : Setting) × (octets : List ℕ) × (g : Graph) × IsAccepted (values_read how) x.files of w × IsInput x.input STREAM_LIMIT octets
+CanBeDone x (Read how of order given) =
+    (w : Setting) × (octets : List ℕ) × (g : Graph) × AreAccepted (values_read how) x.files of given w × AreGiven x.input octets
     × Represents w (order_in order) octets g × Conforms w g
 CanBeDone x (Write how of) =
     (w : Setting) × (text : List ℕ) × (g : Graph) × IsAccepted (values_written how) x.files of w × IsInput x.input TEXT_LIMIT text × ReadsAs w text g
@@ -137,12 +174,24 @@ MustBeUnready values f of NotBuilt =
     × (is_among values i.types of.side o ≡ false)
 MustBeUnready values f of r = MustBeNoIdl f of.idl of.acf r
 
+-- the octets are refused at a place, or the first of them are a stream of a graph that conforms and an octet follows
+abbrev pub IsRefusedAt : Setting → Order → List ℕ → ℕ → OctetsFault → Type 0
+IsRefusedAt w order octets place (Refused reason) = Bad w order octets place reason
+IsRefusedAt w order octets place Trailing = IsTrailing w order octets place
+
+-- the request of a file is refused in this way
+abbrev pub MustBeNoRequest : Values → FilesSeen → Subject → Option (List ℕ) → RequestFault → Type 0
+MustBeNoRequest values f of None why = ⊥
+MustBeNoRequest values f of (Some name) why =
+    (own : Setting) × (text : List ℕ) × IsAccepted values f of own × IsHeld f name text × IsRequestFault own text why
+
 -- Where no load fails and notes do not, a command of which this holds is refused in this way, unless it runs out of memory.
 abbrev pub MustBeRefused : Seen → Command → Refusal → Type 0
-MustBeRefused x (Read how of order) (BadOctets place why) =
-    (w : Setting) × (octets : List ℕ) × IsAccepted (values_read how) x.files of w × IsInput x.input STREAM_LIMIT octets
+MustBeRefused x (Read how of order given) (BadOctets place why) =
+    (w : Setting) × (octets : List ℕ) × AreAccepted (values_read how) x.files of given w × AreGiven x.input octets
     × IsRefusedAt w (order_in order) octets place why
-MustBeRefused x (Read how of order) r = MustBeUnready (values_read how) x.files of r
+MustBeRefused x (Read how of order given) (BadRequest why) = MustBeNoRequest (values_read how) x.files of given why
+MustBeRefused x (Read how of order given) r = MustBeUnready (values_read how) x.files of r
 MustBeRefused x (Write how of) (BadText line column why) =
     (w : Setting) × (text : List ℕ) × IsAccepted (values_written how) x.files of w × IsInput x.input TEXT_LIMIT text × IsTextFault w text line column why
 MustBeRefused x (Write how of) (BadValue path why) =

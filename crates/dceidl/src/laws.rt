@@ -11,7 +11,7 @@ ghost use Rattle.nd_value.specs.Fitting.{setting_of};
 ghost use Rattle.text_grammar.specs.declared.TheConstants.{TEXT_LIMIT};
 ghost use Rattle.text_grammar.specs.Reads.{ReadsAs};
 ghost use Rattle.text_grammar.specs.Printed.{IsText};
-ghost use Rattle.dceidl.specs.Decode.{IsDecoding};
+ghost use Rattle.ndr_printing.specs.Printed.{IsDecoding};
 ghost use Rattle.dceidl.specs.Encode.{IsEncoding};
 ghost use Rattle.idl_check.specs.AcfRules.{acf_breaches};
 ghost use Rattle.idl_compiler.specs.AcfFile.{AcfFile, IsLoadedAcf};

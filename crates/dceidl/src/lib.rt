@@ -1,7 +1,6 @@
 //! The program `dceidl` as a library: it runs a command line over sources, sinks and files that the caller makes.
 #![tactic(auto)]
 
-mod decode;
 mod encode;
 mod input;
 pub mod laws;
@@ -25,7 +24,7 @@ pub const CHUNK_LIMIT: u32 = 16_777_216;
 pub const HELP: &str = "\
 usage: dceidl compile IDL ACF
        dceidl plan IDL ACF
-       dceidl decode IDL ACF OP SIDE ORDER
+       dceidl decode IDL ACF OP SIDE ORDER [given TEXT]
        dceidl encode IDL ACF OP SIDE ORDER CHUNK
        dceidl migrate IDL ACF OP SIDE
        dceidl --help
@@ -37,8 +36,10 @@ compile  checks a file of IDL, the files that it imports and its attribute
 plan     checks the same files, and writes the listing of the interface's plan:
          the instructions by which its octets are read and written.
 decode   reads the octets of a request (SIDE `in`) or a response (SIDE `out`) in
-         NDR (C706, chapter 14), and writes their values as text.
-encode   reads such a text, and writes the octets of its values.
+         NDR (C706, chapter 14), and writes their values as text. With `given`
+         a response is checked against the request that it answers.
+encode   reads such a text, and writes the octets of its values; each of them
+         must be of a primitive type.
 migrate  reads such a text, in either version, and writes it as `decode` does.
 
 IDL      the path of a file of IDL
@@ -47,6 +48,7 @@ OP       the name of an operation
 SIDE     `in` for the [in] parameters, `out` for the [out] parameters and the
          result
 ORDER    the byte order: `little` or `big`
+TEXT     the path of the text of a request; with SIDE `out` only
 CHUNK    the number of elements in a chunk of a pipe, 1 to 16777216; it has no
          effect unless the operation has pipes
 
@@ -59,9 +61,14 @@ error is one line on standard error. The exit status is
 3  input error
 4  output error
 5  out of memory
-6  bad IDL or ACF, unknown operation, or values that are not built yet
-7  IDL or ACF not found
-9  IDL or ACF not readable
+6  bad IDL or ACF, unknown operation, or values that cannot be encoded yet
+7  IDL, ACF or TEXT not found
+9  IDL, ACF or TEXT not readable
+
+Examples:
+
+  dceidl compile examples/shop.idl examples/shop.acf
+  dceidl decode examples/add.idl - add in little < examples/add-1-2-3.octets
 ";
 
 /// What `--version` prints.

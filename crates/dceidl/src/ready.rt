@@ -1,5 +1,5 @@
 // What a command speaks of is made ready: the interface of the files, and the operation, if the command can do something with its values.
-ghost use Rattle.std.specs.Prelude.{◌≡◌, ◌<◌, length, Some, IfOk, IfErr};
+ghost use Rattle.std.specs.Prelude.{◌≡◌, ◌<◌, ◌≤◌, length, Some, IfOk, IfErr};
 ghost use Rattle.nd_types.specs.declared.types.Operation.{Operation};
 ghost use Rattle.nd_types.specs.Operations.{operation_named};
 ghost use Rattle.nd_types.specs.Numbers.{has_number_roots as all_roots_are_numbers};
@@ -39,6 +39,9 @@ pub(crate) fn make_ready<F: Files>(
     ensures known { IfOk result (λ r. r.number < length r.interface.operations) }
     ensures side { IfOk result (λ r. r.side ≡ (subject_of of.entry).side) }
     ensures refused { IfErr result (IsReadyCause values (files_seen F.held F.absences F.faults F.asked files.old files.new) (subject_of of.entry)) }
+    ensures same { F.held files.new ≡ F.held files.old }
+    ensures later { F.faults files.old ≤ F.faults files.new }
+    ensures absences_later { F.absences files.old ≤ F.absences files.new }
 {
     let interface = compile(alloc, of.idl, of.acf, files)?;
     find(interface, of.op, of.side, values)

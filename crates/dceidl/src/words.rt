@@ -1,7 +1,7 @@
 // The words of a command line, and the command that they are.
 ghost use Rattle.std.specs.Prelude.{◌≡◌, ◌≤◌, [], ◌∷◌, ◌++◌, OnOk, OnErr, IfSome, option_map};
-ghost use Rattle.dceidl.specs.Words.{command, acf_of, order_in, values_read, values_written, order_of, side_of, chunk_of, chunk_by, decode as decode_of, encode as encode_of, migrate as migrate_of, subject as subject_by};
-ghost use Rattle.dceidl.specs.Commands.{command_of, subject_of, HasChunk};
+ghost use Rattle.dceidl.specs.Words.{command, acf_of, order_in, values_read, values_written, order_of, side_of, chunk_of, chunk_by, decode as decode_of, decode_beside as decode_beside_of, encode as encode_of, migrate as migrate_of, subject as subject_by};
+ghost use Rattle.dceidl.specs.Commands.{command_of, subject_of, IsWellFormed};
 
 use crate::CHUNK_LIMIT;
 use itoa::Buffer;
@@ -51,7 +51,7 @@ impl Words {
     // The command that the words are, if they are one.
     pub(crate) fn command(&self) -> Option<Command<'_>>
         ensures command { option_map command_of result ≡ command self.now }
-        ensures chunk { IfSome result HasChunk }
+        ensures formed { IfSome result IsWellFormed }
     {
         match self.items.as_slice() {
             [word] => short_command(word.as_str()),
@@ -76,6 +76,20 @@ impl Words {
                         op.as_str(),
                         side_named(side.as_str()),
                         order_named(order.as_str()),
+                    )
+                } else {
+                    None
+                }
+            }
+            [verb, idl, acf, op, side, order, given, text] => {
+                if verb.as_str() == "decode" && given.as_str() == "given" {
+                    decode_beside_command(
+                        idl.as_str(),
+                        acf.as_str(),
+                        op.as_str(),
+                        side_named(side.as_str()),
+                        order_named(order.as_str()),
+                        text.as_str(),
                     )
                 } else {
                     None
@@ -113,7 +127,7 @@ impl Reading {
         ensures { result ≡ values_read self }
     {
         match self {
-            Reading::Decode => Values::Primitives,
+            Reading::Decode => Values::All,
         }
     }
 }
@@ -180,6 +194,8 @@ pub(crate) enum Command<'a> {
         how: Reading,
         of: Subject<'a>,
         order: OrderWord,
+        // The file of the request beside which a response is judged, if one is named.
+        given: Option<&'a str>,
     },
     Write {
         how: Writing,
@@ -199,7 +215,7 @@ pub(crate) enum Command<'a> {
 
 fn short_command(word: &str) -> Option<Command<'_>>
     ensures command { option_map command_of result ≡ command (word.now ∷ []) }
-    ensures chunk { IfSome result HasChunk }
+    ensures formed { IfSome result IsWellFormed }
 {
     if word == "--help" {
         Some(Command::Help)
@@ -212,7 +228,7 @@ fn short_command(word: &str) -> Option<Command<'_>>
 
 fn listing_command<'a>(verb: &str, idl: &'a str, acf: &'a str) -> Option<Command<'a>>
     ensures command { option_map command_of result ≡ command (verb.now ∷ idl.now ∷ acf.now ∷ []) }
-    ensures chunk { IfSome result HasChunk }
+    ensures formed { IfSome result IsWellFormed }
 {
     if verb == "compile" {
         Some(Command::Compile {
@@ -238,13 +254,37 @@ fn decode_command<'a>(
     order: Option<OrderWord>,
 ) -> Option<Command<'a>>
     ensures command { option_map command_of result ≡ decode_of idl.now acf.now op.now side order }
-    ensures chunk { IfSome result HasChunk }
+    ensures formed { IfSome result IsWellFormed }
 {
     match (side, order) {
         (Some(side), Some(order)) => Some(Command::Read {
             how: Reading::Decode,
             of: subject_named(idl, acf, op, side),
             order,
+            given: None,
+        }),
+        _ => None,
+    }
+}
+
+// `decode` beside a request, if its words are the side of the outputs and an order.
+fn decode_beside_command<'a>(
+    idl: &'a str,
+    acf: &'a str,
+    op: &'a str,
+    side: Option<Side>,
+    order: Option<OrderWord>,
+    text: &'a str,
+) -> Option<Command<'a>>
+    ensures command { option_map command_of result ≡ decode_beside_of idl.now acf.now op.now side order text.now }
+    ensures formed { IfSome result IsWellFormed }
+{
+    match (side, order) {
+        (Some(Side::Out), Some(order)) => Some(Command::Read {
+            how: Reading::Decode,
+            of: subject_named(idl, acf, op, Side::Out),
+            order,
+            given: Some(text),
         }),
         _ => None,
     }
@@ -261,7 +301,7 @@ fn encode_command<'a>(
 ) -> Option<Command<'a>>
     requires { IfSome chunk (λ n. 1 ≤ n) }
     ensures command { option_map command_of result ≡ encode_of idl.now acf.now op.now side order chunk }
-    ensures chunk { IfSome result HasChunk }
+    ensures formed { IfSome result IsWellFormed }
 {
     match (side, order, chunk) {
         (Some(side), Some(order), Some(chunk)) => Some(Command::Write {
@@ -280,7 +320,7 @@ fn migrate_command<'a>(
     side: Option<Side>,
 ) -> Option<Command<'a>>
     ensures command { option_map command_of result ≡ migrate_of idl.now acf.now op.now side }
-    ensures chunk { IfSome result HasChunk }
+    ensures formed { IfSome result IsWellFormed }
 {
     match side {
         Some(side) => Some(Command::Write {

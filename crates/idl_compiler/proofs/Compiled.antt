@@ -20,7 +20,7 @@ use Rattle.refusals.specs.declared.refusal.Refusal.TheVariants.{Memory}
 use Rattle.idl_compiler.specs.Idl.{main_file, IsMainFault, IsNameFault, IsDueImport, by_names, reported_fault, name_in, IsDueAfter, IsIdlFault}
 use Rattle.idl_lexer.specs.declared.tokens.LexFault.TheVariants as lexical
 use Rattle.nd_base.specs.Outside.{IsContent, IsMissing}
-use Rattle.refusals.specs.declared.refusal.Refusal.TheVariants.{Absent, FileFailed, BadIdl, NoOperation, NotBuilt, ReadFault, BadOctets, BadText, BadValue}
+use Rattle.refusals.specs.declared.refusal.Refusal.TheVariants.{Absent, FileFailed, BadIdl, NoOperation, NotBuilt, ReadFault, BadOctets, BadText, BadValue, BadRequest}
 use Rattle.nd_base.proofs.Rising.{rose_later}
 use Rattle.nd_base.specs.Counts.{Rose}
 use Rattle.nd_base.specs.Over.{FilesSeen, HasRisen}
@@ -35,7 +35,8 @@ use Rattle.idl_compiler.specs.Asked.{AreAsked, AsksFiles, all_due}
 use Rattle.idl_compiler.specs.Idl.{Means, AreResolved}
 use Rattle.idl_compiler.specs.Compiled.{IsCompiled}
 use Rattle.idl_compiler.proofs.AskedFiles.{reached_names, along, all_names, all_asked}
-use Rattle.idl_compiler.specs.Reading.{IsReportedUnparsed, IsOrMemory, IsLoadCause, IsJudged, MeansAfter, AsksAfter, AsksOfImports}
+use Rattle.refusals.specs.Loads.{IsLoadCause}
+use Rattle.idl_compiler.specs.Reading.{IsReportedUnparsed, IsOrMemory, IsJudged, MeansAfter, AsksAfter, AsksOfImports}
 
 -- tokens that are no file of the language are a main file that is refused
 pub unparsed_main : (text : List ℕ) (l : Lexed) → l.text ≡ text → AreTokens text l.tokens → (f : SyntaxFault)
@@ -167,6 +168,7 @@ after f g idl text acf ReadFault same low now low' now' cause = absurd cause
 after f g idl text acf (BadOctets place why) same low now low' now' cause = absurd cause
 after f g idl text acf (BadText line column why) same low now low' now' cause = absurd cause
 after f g idl text acf (BadValue path why) same low now low' now' cause = absurd cause
+after f g idl text acf (BadRequest fault) same low now low' now' cause = absurd cause
 
 -- why a main file that was loaded means nothing is why the files do
 loaded_cause : (f : FilesSeen) (idl text : List ℕ) (acf : Option (List ℕ)) (r : Refusal) → IsContent f.held idl text → IsTextCause f idl text acf r → IsIdlCause f idl acf r
@@ -180,6 +182,7 @@ loaded_cause f idl text acf ReadFault content cause = absurd cause
 loaded_cause f idl text acf (BadOctets place why) content cause = absurd cause
 loaded_cause f idl text acf (BadText line column why) content cause = absurd cause
 loaded_cause f idl text acf (BadValue path why) content cause = absurd cause
+loaded_cause f idl text acf (BadRequest fault) content cause = absurd cause
 
 -- what came after the load of the main file
 pub after_load : (f g : FilesSeen) (idl text : List ℕ) (acf : Option (List ℕ)) (r : Refusal) → IsContent f.held idl text → g.held ≡ f.held
@@ -199,6 +202,7 @@ main_not_loaded f idl acf ReadFault cause = absurd cause
 main_not_loaded f idl acf (BadOctets place why) cause = absurd cause
 main_not_loaded f idl acf (BadText line column why) cause = absurd cause
 main_not_loaded f idl acf (BadValue path why) cause = absurd cause
+main_not_loaded f idl acf (BadRequest fault) cause = absurd cause
 
 -- ## Names asked for
 

@@ -23,12 +23,13 @@ use Rattle.nd_base.specs.Text.{position_of}
 use Rattle.refusals.specs.declared.refusal.IdlReason.{IdlReason}
 use Rattle.refusals.specs.declared.refusal.IdlReason.TheVariants as reason
 use Rattle.refusals.specs.declared.refusal.Refusal.{Refusal}
-use Rattle.refusals.specs.declared.refusal.Refusal.TheVariants.{Memory, Absent, FileFailed, BadIdl, NoOperation, NotBuilt, ReadFault, BadOctets, BadText, BadValue}
+use Rattle.refusals.specs.declared.refusal.Refusal.TheVariants.{Memory, Absent, FileFailed, BadIdl, NoOperation, NotBuilt, ReadFault, BadOctets, BadText, BadValue, BadRequest}
 use Rattle.idl_compiler.specs.AcfFile.{AcfFile, IsBeside, tree_beside}
 use Rattle.nd_base.specs.Over.{FilesSeen}
 use Rattle.idl_compiler.specs.Idl.{AreResolved, Means, resolved_world, IsBroken, by_acf, by_rules, reported_by, reported_rule, reported_beside, word_at, IsAcfFault}
 use Rattle.idl_compiler.specs.Compiled.{IsTextCause}
-use Rattle.idl_compiler.specs.Reading.{IsLoadCause, IsOrMemory, IsReportedAcf, IsReportedUnread, IsAcfCause, IsBesideCause, IsJudged}
+use Rattle.refusals.specs.Loads.{IsLoadCause}
+use Rattle.idl_compiler.specs.Reading.{IsOrMemory, IsReportedAcf, IsReportedUnread, IsAcfCause, IsBesideCause, IsJudged}
 
 -- ## The text of an attribute configuration file
 
@@ -121,6 +122,7 @@ module _ (f : FilesSeen) (idl text : List ℕ) (state : State) (resolved : AreRe
   acf_refused name (BadOctets place why) cause = absurd cause
   acf_refused name (BadText line column why) cause = absurd cause
   acf_refused name (BadValue path why) cause = absurd cause
+  acf_refused name (BadRequest fault) cause = absurd cause
 
   pub beside_refused : (acf : Option (List ℕ)) (r : Refusal) → IsBesideCause f acf r → IsTextCause f idl text acf r
   beside_refused None r cause = absurd cause
@@ -138,6 +140,7 @@ acf_unread f name text ReadFault content cause = absurd cause
 acf_unread f name text (BadOctets place why) content cause = absurd cause
 acf_unread f name text (BadText line column why) content cause = absurd cause
 acf_unread f name text (BadValue path why) content cause = absurd cause
+acf_unread f name text (BadRequest fault) content cause = absurd cause
 
 -- nor one that is not loaded
 pub acf_unloaded : (f : FilesSeen) (name : List ℕ) (r : Refusal) → IsLoadCause f name r → IsAcfCause f name r
@@ -151,3 +154,4 @@ acf_unloaded f name ReadFault cause = absurd cause
 acf_unloaded f name (BadOctets place why) cause = absurd cause
 acf_unloaded f name (BadText line column why) cause = absurd cause
 acf_unloaded f name (BadValue path why) cause = absurd cause
+acf_unloaded f name (BadRequest fault) cause = absurd cause

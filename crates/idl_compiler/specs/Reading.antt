@@ -1,7 +1,7 @@
 -- What the steps of compiling answer: loads, the main file, the attribute configuration file, and the names asked for on the way.
 use Rattle.std.specs.Prelude.{◌≡◌, ℕ, ◌≤◌, ◌<◌, ◌⊎◌, List, [], ◌∷◌, ◌++◌, length, drop, Option, None, Some, ⊤}
-use Rattle.nd_base.specs.Outside.{IsContent, IsMissing}
-use Rattle.nd_base.specs.Over.{FilesSeen, HasRisen}
+use Rattle.nd_base.specs.Outside.{IsContent}
+use Rattle.nd_base.specs.Over.{FilesSeen}
 use Rattle.nd_types.specs.declared.interface.Interface.{Interface}
 use Rattle.idl_lexer.specs.Lexed.{Lexed, place_of}
 use Rattle.idl_tokens.specs.declared.fault.SyntaxFault.{SyntaxFault}
@@ -11,9 +11,10 @@ use Rattle.idl_names.specs.declared.name_fault.NameFault.TheVariants as names
 use Rattle.idl_names.specs.Sources.{Source}
 use Rattle.idl_names.specs.Walk.{State, names_of}
 use Rattle.nd_base.specs.Text.{position_of}
+use Rattle.refusals.specs.Loads.{IsLoadCause}
 use Rattle.refusals.specs.declared.refusal.IdlReason.TheVariants as reason
 use Rattle.refusals.specs.declared.refusal.Refusal.{Refusal}
-use Rattle.refusals.specs.declared.refusal.Refusal.TheVariants.{Memory, Absent, FileFailed, BadIdl}
+use Rattle.refusals.specs.declared.refusal.Refusal.TheVariants.{Memory, BadIdl}
 use Rattle.idl_compiler.specs.Asked.{AreAsked, all_due}
 use Rattle.idl_compiler.specs.Idl.{Means, word_at, reported_by, IsAcfFault}
 
@@ -27,13 +28,6 @@ IsReportedUnparsed l (parser.Banned k) f = f ≡ names.Syntax 0 (place_of l k) (
 -- a refusal, or that memory ran out for it
 abbrev pub IsOrMemory : Refusal → Refusal → Type 0
 IsOrMemory due reported = (reported ≡ due) ⊎ (reported ≡ Memory)
-
--- why the file of a name was not loaded; of memory no more is said
-abbrev pub IsLoadCause : FilesSeen → List ℕ → Refusal → Type 0
-IsLoadCause f name (Absent file) = (file ≡ name) × HasRisen f.absences × IsMissing f.held name
-IsLoadCause f name (FileFailed file) = (file ≡ name) × HasRisen f.faults
-IsLoadCause f name Memory = ⊤
-IsLoadCause f name _ = ⊥
 
 -- why the text of an attribute configuration file of a name is refused; of memory no more is said
 abbrev pub IsReportedAcf : List ℕ → List ℕ → Refusal → Type 0

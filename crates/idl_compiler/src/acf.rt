@@ -1,5 +1,5 @@
 // The attribute configuration file that is named beside a file of IDL (C706, section 4.3).
-ghost use Rattle.std.specs.Prelude.{◌≡◌, [], ◌∷◌, ◌++◌, option_map, option_to_list, IfOk, IfErr};
+ghost use Rattle.std.specs.Prelude.{◌≡◌, ◌≤◌, [], ◌∷◌, ◌++◌, option_map, option_to_list, IfOk, IfErr};
 ghost use Rattle.nd_base.specs.Over.{files_seen};
 ghost use Rattle.idl_lexer.specs.Verdict.{IsFault};
 ghost use Rattle.idl_names.specs.Loads.{IsOfText};
@@ -8,13 +8,12 @@ ghost use Rattle.idl_compiler.specs.AcfFile.{IsAcf, IsLoadedAcf, IsBeside};
 ghost use Rattle.idl_compiler.specs.Loaded.{seen_file, seen_beside};
 ghost use Rattle.idl_compiler.specs.Reading.{IsAcfCause, IsBesideCause, IsReportedAcf, IsReportedUnread};
 
-use crate::load::load;
 use crate::reported::{or_memory, report_banned, report_in};
 use acf_reader::{Acf, read_acf};
 use idl_lexer::{LexFault, Tokens, lex};
 use idl_names::SyntaxFault;
 use nd_base::{Files, Octets};
-use refusals::{IdlReason, Refusal};
+use refusals::{IdlReason, Refusal, load};
 use std::alloc::Global;
 
 // An attribute configuration file that was loaded and read.
@@ -34,6 +33,9 @@ pub(crate) fn load_beside<'a, F: Files>(
     ensures beside { IfOk result (λ f. IsBeside (F.held files.old) (option_map (λ n. n.now) name.entry) (seen_beside f)) }
     ensures refused { IfErr result (IsBesideCause (files_seen F.held F.absences F.faults F.asked files.old files.new) (option_map (λ n. n.now) name.entry)) }
     ensures asked { F.asked files.new ≡ F.asked files.old ++ option_to_list (option_map (λ n. n.now) name.entry) }
+    ensures later { F.faults files.old ≤ F.faults files.new }
+    ensures absences_later { F.absences files.old ≤ F.absences files.new }
+    ensures same { F.held files.new ≡ F.held files.old }
 {
     match name {
         None => Ok(None),
@@ -50,6 +52,9 @@ fn load_acf<'a, F: Files>(
     ensures file { IfOk result (λ f. IsLoadedAcf (F.held files.old) name.now (seen_file f)) }
     ensures refused { IfErr result (IsAcfCause (files_seen F.held F.absences F.faults F.asked files.old files.new) name.now) }
     ensures asked { F.asked files.new ≡ F.asked files.old ++ name.now ∷ [] }
+    ensures later { F.faults files.old ≤ F.faults files.new }
+    ensures absences_later { F.absences files.old ≤ F.absences files.new }
+    ensures same { F.held files.new ≡ F.held files.old }
 {
     let text = load(alloc, name, files)?;
     let tree = read_text(alloc, name.as_bytes(), text.as_slice())?;

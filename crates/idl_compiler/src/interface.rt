@@ -18,7 +18,6 @@ ghost use Rattle.idl_compiler.specs.Compiled.{IsCompiled, IsListed, IsPlanned, I
 ghost use Rattle.idl_compiler.specs.Reading.{IsReportedUnparsed, IsJudged, MeansAfter, AsksAfter, AsksOfImports};
 
 use crate::acf::{NamedAcf, load_beside};
-use crate::load::load;
 use crate::reported::{or_memory, report_fault, report_rule};
 use acf_reader::Acf;
 use idl_check::{RuleFault, check};
@@ -30,7 +29,7 @@ use idl_parser::parse;
 use nd_base::{Files, Memory, Octets};
 use nd_types::Interface;
 use ndr_plan::{listing, make};
-use refusals::Refusal;
+use refusals::{Refusal, load};
 use std::alloc::Global;
 
 /// The listing of the interface that [`compile`] answers.
@@ -94,6 +93,9 @@ pub fn compile<F: Files>(
     ensures asked { AsksFiles (files_seen F.held F.absences F.faults F.asked files.old files.new) (Some (record { idl = idl.now; acf = option_map (λ a. a.now) acf.entry })) }
     ensures ok { IfOk result (IsCompiled (files_seen F.held F.absences F.faults F.asked files.old files.new) idl.now (option_map (λ a. a.now) acf.entry)) }
     ensures err { IfErr result (IsIdlCause (files_seen F.held F.absences F.faults F.asked files.old files.new) idl.now (option_map (λ a. a.now) acf.entry)) }
+    ensures later { F.faults files.old ≤ F.faults files.new }
+    ensures absences_later { F.absences files.old ≤ F.absences files.new }
+    ensures same { F.held files.new ≡ F.held files.old }
 {
     let text = load(alloc, idl, files)?;
     compile_text(alloc, idl, text, acf, files)
@@ -111,6 +113,9 @@ fn compile_text<F: Files>(
     ensures asked { AsksAfter (files_seen F.held F.absences F.faults F.asked files.old files.new) idl.now (option_map (λ a. a.now) acf.entry) }
     ensures ok { IfOk result (MeansAfter (files_seen F.held F.absences F.faults F.asked files.old files.new) idl.now text (option_map (λ a. a.now) acf.entry)) }
     ensures err { IfErr result (IsTextCause (files_seen F.held F.absences F.faults F.asked files.old files.new) idl.now text (option_map (λ a. a.now) acf.entry)) }
+    ensures later { F.faults files.old ≤ F.faults files.new }
+    ensures absences_later { F.absences files.old ≤ F.absences files.new }
+    ensures same { F.held files.new ≡ F.held files.old }
 {
     let mut sources = main_sources(alloc, idl, text)?;
     match scope_of(alloc, files, &mut sources) {
@@ -211,6 +216,9 @@ fn judge<F: Files>(
         → IfOk result (IsJudged (F.held files.old) idl text (option_map (λ a. a.now) acf.entry) (seen_scope sources.now scope.now)) }
     ensures err { (idl text : List ℕ) → AreResolved (F.held files.old) idl text (seen_scope sources.now scope.now)
         → IfErr result (IsTextCause (files_seen F.held F.absences F.faults F.asked files.old files.new) idl text (option_map (λ a. a.now) acf.entry)) }
+    ensures later { F.faults files.old ≤ F.faults files.new }
+    ensures absences_later { F.absences files.old ≤ F.absences files.new }
+    ensures same { F.held files.new ≡ F.held files.old }
 {
     let beside = load_beside(alloc, acf, files)?;
     match check(alloc, scope, tree_of_beside(&beside)) {

@@ -3,7 +3,6 @@
 
 mod acf;
 mod interface;
-mod load;
 mod reported;
 
 pub use interface::{compile, list, list_plan};

@@ -1,2 +1,2 @@
 mod Parted
-mod TriedRoots
+pub mod TriedRoots

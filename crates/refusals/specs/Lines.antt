@@ -13,17 +13,20 @@ use Rattle.text_grammar.specs.declared.fault.TextReason.{TextReason}
 use Rattle.text_grammar.specs.declared.fault.TextReason.TheVariants as text
 use Rattle.nd_base.specs.Text.{joined}
 use Rattle.refusals.specs.declared.refusal.Refusal.{Refusal}
-use Rattle.refusals.specs.declared.refusal.Refusal.TheVariants.{Memory, Absent, FileFailed, BadIdl, NoOperation, NotBuilt, ReadFault, BadOctets, BadText, BadValue}
+use Rattle.refusals.specs.declared.refusal.Refusal.TheVariants.{Memory, Absent, FileFailed, BadIdl, NoOperation, NotBuilt, ReadFault, BadOctets, BadText, BadValue, BadRequest}
 use Rattle.refusals.specs.declared.refusal.IdlReason.{IdlReason}
 use Rattle.refusals.specs.declared.refusal.IdlReason.TheVariants as idl_reason
 use Rattle.refusals.specs.declared.refusal.OctetsFault.{OctetsFault}
 use Rattle.refusals.specs.declared.refusal.OctetsFault.TheVariants.{Refused, Trailing}
+use Rattle.refusals.specs.declared.refusal.RequestFault.{RequestFault}
+use Rattle.refusals.specs.declared.refusal.RequestFault.TheVariants as request
 
 -- the status of a refusal
 abbrev pub status_of : Refusal → ℕ
 status_of (BadOctets place why) = 1
 status_of (BadText line column reason) = 1
 status_of (BadValue path reason) = 1
+status_of (BadRequest fault) = 1
 status_of ReadFault = 3
 status_of Memory = 5
 status_of (BadIdl file line column reason) = 6
@@ -116,12 +119,24 @@ abbrev pub fault_text : OctetsFault → List ℕ
 fault_text (Refused reason) = reason_text reason
 fault_text Trailing = codes "Trailing"
 
+-- the line of a text of values, and that of a value, after what they are of
+abbrev pub text_line : List ℕ → ℕ → ℕ → TextReason → List ℕ
+text_line what line column reason = joined (what ∷ decimal line ∷ codes ":" ∷ decimal column ∷ codes ": " ∷ text_reason_name reason ∷ codes "\n" ∷ [])
+
+abbrev pub value_line : List ℕ → List ℕ → MisfitReason → List ℕ
+value_line what path reason = joined (what ∷ path ∷ codes ": " ∷ misfit_text reason ∷ codes "\n" ∷ [])
+
+-- the line of a request
+abbrev pub request_line : RequestFault → List ℕ
+request_line (request.Text line column reason) = text_line (codes "refused: given: text ") line column reason
+request_line (request.Value path reason) = value_line (codes "refused: given: value at ") path reason
+
 -- the line of a refusal
 abbrev pub line_of : List ℕ → List ℕ → Refusal → List ℕ
 line_of idl op (BadOctets place why) = joined (codes "refused: octets at " ∷ decimal place ∷ codes ": " ∷ fault_text why ∷ codes "\n" ∷ [])
-line_of idl op (BadText line column reason) =
-    joined (codes "refused: text " ∷ decimal line ∷ codes ":" ∷ decimal column ∷ codes ": " ∷ text_reason_name reason ∷ codes "\n" ∷ [])
-line_of idl op (BadValue path reason) = joined (codes "refused: value at " ∷ path ∷ codes ": " ∷ misfit_text reason ∷ codes "\n" ∷ [])
+line_of idl op (BadText line column reason) = text_line (codes "refused: text ") line column reason
+line_of idl op (BadValue path reason) = value_line (codes "refused: value at ") path reason
+line_of idl op (BadRequest fault) = request_line fault
 line_of idl op ReadFault = codes "read fault\n"
 line_of idl op Memory = codes "want of memory\n"
 line_of idl op (BadIdl file line column reason) =

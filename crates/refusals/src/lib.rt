@@ -1,8 +1,10 @@
-//! Why a command is refused, with the exit status and the line of each refusal.
+//! Why a command is refused, with the exit status and the line of each refusal; and loads of files, by what refuses them.
 #![tactic(auto)]
 
 mod lines;
+mod loading;
 mod refusal;
 
 pub use lines::{Status, line, status};
-pub use refusal::{IdlReason, OctetsFault, Refusal};
+pub use loading::load;
+pub use refusal::{IdlReason, OctetsFault, Refusal, RequestFault};

@@ -1,9 +1,9 @@
 // The status and the line of each refusal.
 ghost use Rattle.std.specs.Prelude.{◌≡◌, [], ◌∷◌, codes, IfOk};
 ghost use Rattle.nd_base.specs.Text.{joined};
-ghost use Rattle.refusals.specs.Lines.{status_of, line_of, idl_reason_text, lex_kind_name as name_of_lex_kind, const_fault_name as name_of_const_fault, fault_text, reason_text, misfit_text, disagreement as disagreement_text, reason_name as name_of_reason, misfit_name as name_of_misfit, text_reason_name as name_of_text_reason};
+ghost use Rattle.refusals.specs.Lines.{status_of, line_of, text_line as line_of_text, value_line as line_of_value, request_line as line_of_request, idl_reason_text, lex_kind_name as name_of_lex_kind, const_fault_name as name_of_const_fault, fault_text, reason_text, misfit_text, disagreement as disagreement_text, reason_name as name_of_reason, misfit_name as name_of_misfit, text_reason_name as name_of_text_reason};
 
-use crate::refusal::{IdlReason, OctetsFault, Refusal};
+use crate::refusal::{IdlReason, OctetsFault, Refusal, RequestFault};
 use idl_lexer::LexKind;
 use idl_names::ConstFault;
 use itoa::Buffer;
@@ -19,14 +19,14 @@ use text_grammar::TextReason;
 /// | Status | Meaning |
 /// |---|---|
 /// | 0 | success |
-/// | 1 | the octets, the text or the values of the input are refused |
+/// | 1 | the octets, the text or the values of the input are refused, or the request beside which a response is judged |
 /// | 2 | the command line is not valid |
 /// | 3 | the input failed |
 /// | 4 | standard output or standard error failed; this status replaces any other |
 /// | 5 | out of memory |
 /// | 6 | an interface file or the attribute configuration file is refused, or the interface has no operation of that name, or its values are not built yet |
-/// | 7 | the interface file, an imported file or the attribute configuration file does not exist |
-/// | 9 | the interface file, an imported file or the attribute configuration file could not be read |
+/// | 7 | the interface file, an imported file, the attribute configuration file or the text of a request does not exist |
+/// | 9 | the interface file, an imported file, the attribute configuration file or the text of a request could not be read |
 ///
 /// No run ends with status 8.
 pub type Status = u8;
@@ -41,7 +41,10 @@ pub fn status(refusal: &Refusal) -> Status
         Refusal::FileFailed { .. } => 9,
         Refusal::BadIdl { .. } | Refusal::NoOperation | Refusal::NotBuilt => 6,
         Refusal::ReadFault => 3,
-        Refusal::BadOctets { .. } | Refusal::BadText { .. } | Refusal::BadValue { .. } => 1,
+        Refusal::BadOctets { .. }
+        | Refusal::BadText { .. }
+        | Refusal::BadValue { .. }
+        | Refusal::BadRequest(_) => 1,
     }
 }
 
@@ -72,8 +75,32 @@ pub fn line(alloc: Global, idl: &str, op: &str, refusal: &Refusal) -> Result<Oct
             line,
             column,
             reason,
-        } => text_line(alloc, *line, *column, *reason),
-        Refusal::BadValue { path, reason } => value_line(alloc, path.as_slice(), *reason),
+        } => text_line(alloc, b"refused: text ", *line, *column, *reason),
+        Refusal::BadValue { path, reason } => {
+            value_line(alloc, b"refused: value at ", path.as_slice(), *reason)
+        }
+        Refusal::BadRequest(fault) => request_line(alloc, fault),
+    }
+}
+
+// A request that is refused.
+fn request_line(alloc: Global, fault: &RequestFault) -> Result<Octets, Memory>
+    ensures { IfOk result (λ told. told ≡ line_of_request fault.now) }
+{
+    match fault {
+        RequestFault::Text {
+            line,
+            column,
+            reason,
+        } => text_line(alloc, b"refused: given: text ", *line, *column, *reason),
+        RequestFault::Value { path, reason } => {
+            value_line(
+                alloc,
+                b"refused: given: value at ",
+                path.as_slice(),
+                *reason,
+            )
+        }
     }
 }
 
@@ -180,29 +207,37 @@ fn octets_line(alloc: Global, place: u32, why: OctetsFault) -> Result<Octets, Me
 }
 
 // A text that is refused at a line and column.
-fn text_line(alloc: Global, line: u32, column: u32, reason: TextReason) -> Result<Octets, Memory>
-    ensures { IfOk result (λ told. told ≡ line_of [] [] (Refusal.BadText line column reason)) }
+fn text_line(
+    alloc: Global,
+    what: &[u8],
+    line: u32,
+    column: u32,
+    reason: TextReason,
+) -> Result<Octets, Memory>
+    ensures { IfOk result (λ told. told ≡ line_of_text what.now line column reason) }
 {
     let mut line_digits = Buffer::new();
     let line = line_digits.format(line).as_bytes();
     let mut column_digits = Buffer::new();
     let column = column_digits.format(column).as_bytes();
-    let reason = text_reason_name(reason).as_bytes();
+    let reason = Octets::copy(alloc, text_reason_name(reason).as_bytes())?;
     join(
         alloc,
-        &[b"refused: text ", line, b":", column, b": ", reason, b"\n"],
+        &[what, line, b":", column, b": ", reason.as_slice(), b"\n"],
     )
 }
 
 // A value that is refused at a path.
-fn value_line(alloc: Global, path: &[u8], reason: MisfitReason) -> Result<Octets, Memory>
-    ensures { IfOk result (λ line. line ≡ line_of [] [] (Refusal.BadValue path.now reason)) }
+fn value_line(
+    alloc: Global,
+    what: &[u8],
+    path: &[u8],
+    reason: MisfitReason,
+) -> Result<Octets, Memory>
+    ensures { IfOk result (λ line. line ≡ line_of_value what.now path.now reason) }
 {
     let reason = why_misfit(alloc, reason)?;
-    join(
-        alloc,
-        &[b"refused: value at ", path, b": ", reason.as_slice(), b"\n"],
-    )
+    join(alloc, &[what, path, b": ", reason.as_slice(), b"\n"])
 }
 
 // Why octets are refused, as a line tells it.

@@ -53,13 +53,31 @@ pub enum OctetsFault {
     Trailing,
 }
 
+/// Why the request beside which a response is judged is refused.
+#[derive(Debug, Drop, Error)]
+pub enum RequestFault {
+    /// Its text is refused at a line and column, from 1, in octets; a file that is too long at 1:1.
+    #[error("text refused at {line}:{column}")]
+    Text {
+        line: u32,
+        column: u32,
+        reason: TextReason,
+    },
+    /// The values of its text do not conform to the inputs of the operation. The first misfit is at a path.
+    #[error("value refused")]
+    Value {
+        path: Octets,
+        reason: MisfitReason,
+    },
+}
+
 /// Why a task is refused.
 #[derive(Debug, Drop, Error)]
 pub enum Refusal {
     /// Memory was wanting.
     #[error("out of memory")]
     Memory,
-    /// There is no file of the name: the main file, one that is imported, or the attribute configuration file.
+    /// There is no file of the name: the main file, one that is imported, the attribute configuration file, or the text of a request.
     #[error("no such file")]
     Absent {
         file: Octets,
@@ -106,6 +124,9 @@ pub enum Refusal {
         path: Octets,
         reason: MisfitReason,
     },
+    /// The request beside which a response is to be judged is refused.
+    #[error("request refused: {0}")]
+    BadRequest(RequestFault),
 }
 
 impl From<Memory> for Refusal {

@@ -47,3 +47,23 @@ pub returns-clause-exactly : goal.returns-clause-exactly
 returns-clause-exactly g c wanted r is sound =
     exact.exactly _ _ _ wanted _ sound (rows.ended _ _ _ wanted _ c.args.words.now is
     (record { asked = c.answer-outcome.ensures.asked; outcome = c.answer-outcome.result; caused = c.answer-outcome.ensures.outcome; delivered = c.deliver.ensures })) r
+
+pub returns-clause-words : goal.returns-clause-words
+returns-clause-words g c =
+    rows.no_command _ _ _ _ c.args.words.now
+    (record { asked = c.answer-outcome.ensures.asked; outcome = c.answer-outcome.result; caused = c.answer-outcome.ensures.outcome; delivered = c.deliver.ensures })
+
+pub returns-clause-words_line : goal.returns-clause-words_line
+returns-clause-words_line g c =
+    rows.refused_line _ _ _ _ c.args.words.now
+    (record { asked = c.answer-outcome.ensures.asked; outcome = c.answer-outcome.result; caused = c.answer-outcome.ensures.outcome; delivered = c.deliver.ensures })
+
+pub returns-clause-write : goal.returns-clause-write
+returns-clause-write g c =
+    rows.write_failed _ _ _ _ c.args.words.now
+    (record { asked = c.answer-outcome.ensures.asked; outcome = c.answer-outcome.result; caused = c.answer-outcome.ensures.outcome; delivered = c.deliver.ensures })
+
+pub returns-clause-quiet : goal.returns-clause-quiet
+returns-clause-quiet g c =
+    rows.nothing_noted _ _ _ _ c.args.words.now
+    (record { asked = c.answer-outcome.ensures.asked; outcome = c.answer-outcome.result; caused = c.answer-outcome.ensures.outcome; delivered = c.deliver.ensures })

@@ -1,0 +1,150 @@
+-- What a command on values answers beside the request of a file, from what its steps answer: the interface is compiled over one part of the run, and
+-- the request is loaded over the next.
+use Rattle.std.proofs.Common.{◌≡◌, ◌∙◌, ℕ, ◌≤◌, List, [], ◌∷◌, ◌++◌, Option, Some, None, Result, Ok, Err, IfOk, IfErr, refl, sym, ap, subst, inl, inr, arith}
+use Rattle.std.proofs.lemmas.List.{append_cancel_left}
+use Rattle.nd_base.specs.Counts.{Rose}
+use Rattle.nd_base.specs.declared.octets.Order.{Order}
+use Rattle.nd_base.specs.Outside.{IsContent, IsMissing}
+use Rattle.nd_base.specs.Over.{FilesSeen, SourceSeen, HasRisen}
+use Rattle.nd_types.specs.declared.interface.Interface.{Interface}
+use Rattle.nd_types.specs.declared.types.Operation.{Operation}
+use Rattle.nd_value.specs.declared.value.Graph.{Graph}
+use Rattle.nd_value.specs.Setting.{Setting}
+use Rattle.refusals.specs.declared.refusal.Refusal.{Refusal}
+use Rattle.refusals.specs.declared.refusal.Refusal.TheVariants.{Memory, Absent, FileFailed, BadIdl, NoOperation, NotBuilt, ReadFault, BadOctets, BadText, BadValue, BadRequest}
+use Rattle.text_fitting.specs.Request.{beside, HoldsRequest, HoldsNoRequest}
+use Rattle.idl_compiler.specs.Asked.{AsksFiles, AreAsked, all_due}
+use Rattle.dceidl.specs.declared.words.OrderWord.{OrderWord}
+use Rattle.dceidl.specs.declared.words.Reading.{Reading}
+use Rattle.dceidl.specs.declared.words.Values.{Values}
+use Rattle.dceidl.specs.Asked.{AsksRequest}
+use Rattle.dceidl.specs.Causes.{IsMade, IsCause}
+use Rattle.dceidl.specs.Input.{IsRead, IsReadCause, IsReadBeside, IsBesideCause}
+use Rattle.dceidl.specs.Ready.{IsFound, IsReady, HasAsked, up_to}
+use Rattle.dceidl.specs.Seen.{seen_over}
+use Rattle.dceidl.specs.Words.{Subject, Read, order_in, values_read}
+
+rose_later : (before mid now : ℕ) → before ≤ mid → Rose mid now → Rose before now
+rose_later before mid now less rose = omega (arith, less, rose)
+
+-- files over one part of a run and then over the next
+abbrev pub both_parts : FilesSeen → FilesSeen → FilesSeen
+both_parts f g = record {
+  held = f.held;
+  asked = f.asked;
+  asked_now = g.asked_now;
+  absences = record { before = f.absences.before; now = g.absences.now };
+  faults = record { before = f.faults.before; now = g.faults.now };
+}
+
+-- the next part goes on where the first ends
+pub record Follows (f g : FilesSeen) : Type 0 where
+  pub held : g.held ≡ f.held
+  pub asked : g.asked ≡ f.asked_now
+  pub absences : g.absences.before ≡ f.absences.now
+  pub faults : g.faults.before ≡ f.faults.now
+  pub later : f.faults.before ≤ f.faults.now
+  pub absences_later : f.absences.before ≤ f.absences.now
+
+-- a request was loaded, and then the octets of the input were read beside it
+module _ (f : FilesSeen) (s : SourceSeen) (name : List ℕ) (how : Reading) (w : Setting) (order : Order) (q : Graph) (holds : HoldsRequest f name w q) where
+  pub after_made : (result : Result (List ℕ) Refusal) → IfOk result (IsRead s how (beside w q) order) → IfOk result (IsReadBeside f s name how w order)
+  after_made (Ok made) read = (q, holds, read)
+  after_made (Err e) read = tt
+
+  pub after_refused : (result : Result (List ℕ) Refusal) → IfErr result (IsReadCause s how (beside w q) order) → IfErr result (IsBesideCause f s name how w order)
+  after_refused (Ok made) cause = tt
+  after_refused (Err e) cause = inr (q, holds, cause)
+
+module _ (f g : FilesSeen) (follows : Follows f g) (name : List ℕ) where
+  -- a request is held over both parts
+  pub held_over : (w : Setting) (q : Graph) → HoldsRequest g name w q → HoldsRequest (both_parts f g) name w q
+  held_over w q (text, content, is) = (text, subst (λ h. IsContent h name text) follows.held content, is)
+
+  -- and it is refused over both
+  pub refused_over : (w : Setting) (r : Refusal) → HoldsNoRequest g name w r → HoldsNoRequest (both_parts f g) name w r
+  refused_over w (Absent file) (is, rose, missing) = (
+    is,
+    rose_later f.absences.before f.absences.now g.absences.now follows.absences_later (subst (λ n. Rose n g.absences.now) follows.absences rose),
+    subst (λ h. IsMissing h name) follows.held missing,
+  )
+  refused_over w (FileFailed file) (is, rose) =
+      (is, rose_later f.faults.before f.faults.now g.faults.now follows.later (subst (λ n. Rose n g.faults.now) follows.faults rose))
+  refused_over w (BadRequest why) (text, content, fault) = (text, subst (λ h. IsContent h name text) follows.held content, fault)
+  refused_over w Memory cause = tt
+  refused_over w (BadIdl file line column why) cause = absurd cause
+  refused_over w NoOperation cause = absurd cause
+  refused_over w NotBuilt cause = absurd cause
+  refused_over w ReadFault cause = absurd cause
+  refused_over w (BadOctets place why) cause = absurd cause
+  refused_over w (BadText line column why) cause = absurd cause
+  refused_over w (BadValue path why) cause = absurd cause
+
+  module _ (of : Subject) (asked : g.asked_now ≡ g.asked ++ name ∷ []) where
+    -- the request is asked for when it is due
+    pub asks_request : (values : Values) (i : Interface) (n : ℕ) (o : Operation) → IsFound values f of i n o
+        → AsksFiles f (Some (record { idl = of.idl; acf = of.acf })) → AsksRequest (both_parts f g) of name
+    asks_request values i n o found (names, these, each) =
+        let all = all_due found.compiled.means.state.sources of.acf in
+        let same : names ≡ all = append_cancel_left f.asked names all (sym these ∙ found.compiled.all_asked) in
+        record {
+          due = record {
+            file = found.compiled.file;
+            interface = i;
+            number = n;
+            loaded = found.compiled.loaded;
+            means = found.compiled.means;
+            known = found.named.found;
+          };
+          earlier = all;
+          earlier_are = refl;
+          each_due = subst (AreAsked f.held of.idl of.acf) same each;
+          asked = asked ∙ ap (λ u. u ++ name ∷ []) (follows.asked ∙ found.compiled.all_asked);
+        }
+
+    -- what is ready over the first part has the request asked for over both
+    pub has_asked : (values : Values) (w : Setting) → IsReady values f of w → HasAsked values (both_parts f g) of name w
+    has_asked values w ready = record {
+      earlier = f.asked_now;
+      ready = record {
+        interface = ready.interface;
+        number = ready.number;
+        operation = ready.operation;
+        found = record {
+          compiled = record {
+            file = ready.found.compiled.file;
+            loaded = ready.found.compiled.loaded;
+            means = ready.found.compiled.means;
+            all_asked = ready.found.compiled.all_asked;
+          };
+          named = ready.found.named;
+          built = ready.found.built;
+        };
+        setting_is = ready.setting_is;
+      };
+      asked = asked ∙ ap (λ u. u ++ name ∷ []) follows.asked;
+    }
+
+    module _ (s : SourceSeen) (how : Reading) (order : OrderWord) (w : Setting) (ready : IsReady (values_read how) f of w) where
+      pub beside_made : (result : Result (List ℕ) Refusal) → IfOk result (IsReadBeside g s name how w (order_in order))
+          → IfOk result (IsMade (seen_over (both_parts f g) s) (Read how of order (Some name)))
+      beside_made (Ok made) (q, holds, read) = (
+        beside w q,
+        record { own = w; has_asked = has_asked (values_read how) w ready; request = q; holds = held_over w q holds; setting_is = refl },
+        read,
+      )
+      beside_made (Err e) is = tt
+
+      beside_cause : (e : Refusal) → IsBesideCause g s name how w (order_in order) e → IsCause (seen_over (both_parts f g) s) (Read how of order (Some name)) e
+      beside_cause e (inl (cause, untouched)) =
+          inl (inr (record { own = w; has_asked = has_asked (values_read how) w ready; cause = refused_over w e cause }), untouched)
+      beside_cause e (inr (q, holds, cause)) = inr (
+        beside w q,
+        record { own = w; has_asked = has_asked (values_read how) w ready; request = q; holds = held_over w q holds; setting_is = refl },
+        cause,
+      )
+
+      pub beside_refused : (result : Result (List ℕ) Refusal) → IfErr result (IsBesideCause g s name how w (order_in order))
+          → IfErr result (IsCause (seen_over (both_parts f g) s) (Read how of order (Some name)))
+      beside_refused (Ok made) cause = tt
+      beside_refused (Err e) cause = beside_cause e cause

@@ -1,0 +1,54 @@
+use Rattle.std.proofs.Common.{refl, inl, inr}
+use Rattle.std.proofs.lemmas.Result.{err_from_is_err_and}
+use Rattle.nd_base.specs.Over.{FilesSeen, files_seen, source_seen}
+use Rattle.nd_value.specs.Fitting.{setting_of}
+use Rattle.dceidl.specs.Commands.{subject_of}
+use Rattle.dceidl.specs.Words.{values_read}
+use Rattle.dceidl.proofs.Causes.{ready_is, not_ready}
+use Rattle.dceidl.proofs.Requests.{Follows, asks_request, beside_made, beside_refused}
+use Rattle.dceidl.proofs.perform.read_beside.Goals as goal
+
+pub returns-in_err-ready-clause-asked : goal.returns-in_err-ready-clause-asked
+returns-in_err-ready-clause-asked g c = record { files = inl c.in_err-ready.ensures.asked; input = tt }
+
+pub returns-in_err-ready-clause-refused : goal.returns-in_err-ready-clause-refused
+returns-in_err-ready-clause-refused g c =
+    let p = err_from_is_err_and c.from_residual.result c.from_residual.ensures.1 in
+    let f = files_seen g.F.Files.held g.F.Files.absences g.F.Files.faults g.F.Files.asked c.args.files.now c.make_ready.new.files in
+    rw (p.1, p.2) (inl (inl (not_ready (values_read c.args.how) c.values.result f (subject_of c.args.of) _ c.values.ensures c.in_err-ready.ensures.refused), record { nothing_taken = refl; no_fault = refl }))
+
+pub returns-clause-asked : goal.returns-clause-asked
+returns-clause-asked g c =
+    let (o, found) = c.in_ok-ready.ensures.ready in
+    let f1 = files_seen g.F.Files.held g.F.Files.absences g.F.Files.faults g.F.Files.asked c.args.files.now c.make_ready.new.files in
+    let f2 = files_seen g.F.Files.held g.F.Files.absences g.F.Files.faults g.F.Files.asked c.make_ready.new.files c.read_after.new.files in
+    let follows : Follows f1 f2 = record { held = c.in_ok-ready.ensures.same; asked = refl; absences = refl; faults = refl; later = c.in_ok-ready.ensures.later; absences_later = c.in_ok-ready.ensures.absences_later } in
+    let r = c.in_ok-ready.ready in
+    record {
+      files = inr (asks_request f1 f2 follows c.args.name.now (subject_of c.args.of) c.read_after.ensures.asked c.values.result r.interface r.number o found c.in_ok-ready.ensures.asked);
+      input = tt;
+    }
+
+pub returns-clause-done : goal.returns-clause-done
+returns-clause-done g c =
+    let (o, found) = c.in_ok-ready.ensures.ready in
+    let f1 = files_seen g.F.Files.held g.F.Files.absences g.F.Files.faults g.F.Files.asked c.args.files.now c.make_ready.new.files in
+    let f2 = files_seen g.F.Files.held g.F.Files.absences g.F.Files.faults g.F.Files.asked c.make_ready.new.files c.read_after.new.files in
+    let s = source_seen g.S.Source.left g.S.Source.ended g.S.Source.faults c.args.input.now c.read_after.new.input in
+    let follows : Follows f1 f2 = record { held = c.in_ok-ready.ensures.same; asked = refl; absences = refl; faults = refl; later = c.in_ok-ready.ensures.later; absences_later = c.in_ok-ready.ensures.absences_later } in
+    let r = c.in_ok-ready.ready in
+    beside_made f1 f2 follows c.args.name.now (subject_of c.args.of) c.read_after.ensures.asked s c.args.how c.args.order (setting_of r.interface o r.side)
+    (ready_is (values_read c.args.how) c.values.result f1 (subject_of c.args.of) r.interface r.number o r.side c.values.ensures found c.in_ok-ready.ensures.side)
+    c.read_after.result (c.read_after.ensures.done o found.named.is_there)
+
+pub returns-clause-refused : goal.returns-clause-refused
+returns-clause-refused g c =
+    let (o, found) = c.in_ok-ready.ensures.ready in
+    let f1 = files_seen g.F.Files.held g.F.Files.absences g.F.Files.faults g.F.Files.asked c.args.files.now c.make_ready.new.files in
+    let f2 = files_seen g.F.Files.held g.F.Files.absences g.F.Files.faults g.F.Files.asked c.make_ready.new.files c.read_after.new.files in
+    let s = source_seen g.S.Source.left g.S.Source.ended g.S.Source.faults c.args.input.now c.read_after.new.input in
+    let follows : Follows f1 f2 = record { held = c.in_ok-ready.ensures.same; asked = refl; absences = refl; faults = refl; later = c.in_ok-ready.ensures.later; absences_later = c.in_ok-ready.ensures.absences_later } in
+    let r = c.in_ok-ready.ready in
+    beside_refused f1 f2 follows c.args.name.now (subject_of c.args.of) c.read_after.ensures.asked s c.args.how c.args.order (setting_of r.interface o r.side)
+    (ready_is (values_read c.args.how) c.values.result f1 (subject_of c.args.of) r.interface r.number o r.side c.values.ensures found c.in_ok-ready.ensures.side)
+    c.read_after.result (c.read_after.ensures.refused o found.named.is_there)

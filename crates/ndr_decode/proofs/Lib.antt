@@ -1,0 +1,17 @@
+pub mod AtRoots
+pub mod DirectReads
+pub mod EndsWell
+pub mod HomeComes
+pub mod OwedReads
+pub mod PaidHomes
+pub mod ParameterEnds
+pub mod PendingTurns
+pub mod Placed
+pub mod ReferentDone
+pub mod ReferentFails
+pub mod ReferentReads
+pub mod Reported
+pub mod RootReads
+pub mod Standing
+pub mod Tried
+pub mod WholeStays

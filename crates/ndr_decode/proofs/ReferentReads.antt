@@ -1,0 +1,130 @@
+-- The next of the pending referents, where it was not read yet: from what is kept of the stream before its value, through the run of its code, to what is kept
+-- after it and after the agreements of its pointer.
+-- `o` is the referent as code has it, `x` what is kept of the stream, `c` its cell, `x0` the state of the decoder at the beginning of the value and `x1` at its end.
+use Rattle.std.proofs.Common.{◌≡◌, ◌≤◌, ◌<◌, ℕ, zero, suc, List, [], ◌∷◌, ◌++◌, length, map, Option, Some, None, refl, sym, ap, ◌∙◌, subst, arith}
+use Rattle.std.proofs.lemmas.List.{append-nil, length-map}
+use Rattle.nd_base.specs.declared.octets.Order.{Order}
+use Rattle.nd_base.specs.declared.TheConstants.{STREAM_LIMIT}
+use Rattle.nd_base.specs.Over.{SourceSeen}
+use Rattle.nd_types.specs.declared.types.Class.TheVariants.{Full}
+use Rattle.nd_types.specs.Number.{AreOctets}
+use Rattle.nd_value.specs.declared.item.Home.{Home}
+use Rattle.nd_value.specs.declared.item.Home.TheVariants as home
+use Rattle.nd_value.specs.declared.item.Item.{Item}
+use Rattle.nd_value.specs.declared.value.CellId.{CellId}
+use Rattle.nd_value.specs.declared.value.Graph.{Graph}
+use Rattle.nd_value.specs.Agreement.{Agreement}
+use Rattle.nd_value.specs.Deferral.{Pending, due_roots, due_referent}
+use Rattle.nd_value.specs.Seen.{cell_number}
+use Rattle.nd_value.specs.Setting.{Setting, cell_home}
+use Rattle.nd_value.specs.Tree.{Referent}
+use Rattle.nd_value.proofs.Apart.{all_append}
+use Rattle.nd_grammar.specs.Entry.{EntryAt}
+use Rattle.nd_grammar.specs.LegalSide.{IsLegalSide}
+use Rattle.nd_grammar.specs.Reader.{Read}
+use Rattle.nd_grammar.specs.StreamReader.{Reading}
+use Rattle.nd_grammar.proofs.legal.LegalUsable.{Usable}
+use Rattle.nd_grammar.proofs.reader.ReaderCells.{no_names}
+use Rattle.nd_grammar.proofs.reader.ReaderNames.{PointerAt, cell_in}
+use Rattle.nd_grammar.proofs.reader.ReaderStates.{at_cell}
+use Rattle.ndr_code.specs.declared.instr.Instr.{Instr}
+use Rattle.ndr_code.specs.declared.lists.EnumList.{EnumList}
+use Rattle.ndr_code.specs.Code.{code_of, whole_at}
+use Rattle.ndr_reading.specs.Around.{going}
+use Rattle.ndr_steps.specs.Steps as steps
+use Rattle.ndr_steps.specs.Good.{Good}
+use Rattle.ndr_steps.specs.Spots.{IsFine, IsPlanned}
+use Rattle.ndr_steps.specs.Steps.{State}
+use Rattle.ndr_runs.specs.Paid.{IsPaid}
+use Rattle.ndr_runs.specs.Reaching.{IsSafe, Reaches}
+use Rattle.ndr_runs.proofs.Safe.{safe_in_home}
+use Rattle.ndr_state.specs.Notes.{NotesSeen}
+use Rattle.ndr_state.specs.declared.fault.DecodeFault.{DecodeFault}
+use Rattle.ndr_state.specs.declared.machine.Owed.{Owed}
+use Rattle.ndr_machine.specs.Reaching.{EndsWhole, EndsFault}
+use Rattle.ndr_stream.specs.declared.kept.Kept.{Kept}
+use Rattle.ndr_stream.specs.Between.{Agrees, Between, CellFilled, CellKept, IsKeptHome, Opens, cell_read, home_target, kept_at, taken}
+use Rattle.ndr_stream.specs.Tests.{AllAgree}
+use Rattle.ndr_stream.proofs.FewReferences.{few_now}
+use Rattle.ndr_stream.proofs.HomeBegins.{home_begins}
+use Rattle.ndr_stream.proofs.ReferentEnds as law
+use Rattle.ndr_kept.specs.declared.stream.Stream.{Stream}
+use Rattle.ndr_kept.specs.Seen.{between_of}
+use Rattle.ndr_decode.specs.Streaming.{FaultOf, HomeWhole, StandsWith, cells_of, with_next}
+use Rattle.ndr_decode.proofs.HomeComes.{whole_comes, fault_comes, decoding_of}
+use Rattle.ndr_decode.proofs.OwedReads.{agreements_are, cell_is, class_is, due_is}
+
+positive : (cells : List Referent) (c : ℕ) (y : Referent) → cell_in cells c ≡ Some y → 0 < c
+positive cells zero y e = cc
+positive cells (suc i) y e = omega arith
+
+module _ (w : Setting) (side : IsLegalSide w) (order : Order) (fetched : List ℕ) (noted : List Item) (direct : ℕ) (o : Owed) (x : Stream) (s : Reading) (seen : List EntryAt) (p : Pending) (ps : List Pending) (n : ℕ)
+    (st : StandsWith w side order fetched noted direct o x s seen p ps n) (c : CellId) (some : o.cell ≡ Some c) (unread : o.class ≡ Full → kept_at x.cells.items c.0 ≡ None) where
+  ag : Agrees w side order fetched noted direct (with_next o x) s seen (p ∷ ps) n
+  ag = st.agrees
+
+  is_cell : p.cell ≡ Some c.0
+  is_cell = sym (cell_is w side order fetched noted direct o x s seen p ps n st) ∙ ap cell_number some
+
+  new : p.class ≡ Full → kept_at x.cells.items c.0 ≡ None
+  new f = unread (class_is w side order fetched noted direct o x s seen p ps n st ∙ f)
+
+  pub run_is : o.run ≡ whole_at w.table p.to
+  run_is = ap (λ (q : steps.Owed). q.run) (due_is w side order fetched noted direct o x s seen p ps n st)
+
+  all_now : AreOctets (fetched ++ [])
+  all_now = all_append (λ b. b < 256) fetched [] ag.octets tt
+
+  pub its_usable : Usable w.table p.to
+  its_usable = let (passed, is) = ag.state [] all_now in is.usable.0
+
+  at_it : PointerAt no_names s.names p c.0
+  at_it =
+      let (passed, is) = ag.state [] all_now in
+      at_cell w side order (fetched ++ []) all_now s passed p ps n c.0 (map due_referent ps ++ due_roots (length s.roots) n) is is_cell
+      (law.free w side order fetched noted direct (with_next o x) s seen p ps n ag c.0 is_cell new)
+
+  -- the cell has its number
+  many : length s.names.cells ≡ cells_of x
+  many =
+      let told = ag.keeps.told (home.Root (length s.roots)) (omega arith) in
+      sym (length-map s.names.cells (λ c. c.of)) ∙ sym (ap length told.cells_are) ∙ length-map x.machine.builder.graph.cells (λ c. c.of)
+
+  pub cell_there : (0 < c.0) × (c.0 ≤ cells_of x)
+  cell_there =
+      let m : c.0 ≤ length s.names.cells = at_it.within in
+      let e : length s.names.cells ≡ cells_of x = many in
+      (positive s.names.cells c.0 at_it.there.0 at_it.there.1, omega (arith, m, e))
+
+  abbrev code : List Instr
+  code = code_of w.table side.operations
+
+  abbrev target : List ℕ → Read
+  target = home_target w order (between_of x) seen (cell_home c.0) p.to s.names
+
+  module _ (x0 : State) (opens : Opens (whole_at w.table p.to) (between_of x) (between_of x).cells x0) (values : List EnumList) (planned : IsPlanned code values w.table) where
+    pub referent_good : Good order fetched code w.table (cell_home c.0) p.to 32 noted direct target x0
+    referent_good =
+        home_begins w.table side.operations side.legal order fetched noted direct (cell_home c.0) seen s.names p.to its_usable (between_of x) ag.keeps.at (between_of x).cells x0 opens
+        (ag.keeps.told (cell_home c.0) (law.free w side order fetched noted direct (with_next o x) s seen p ps n ag c.0 is_cell new))
+
+    pub referent_safe : IsFine w.table 32 p.to → length fetched ≤ STREAM_LIMIT → IsPaid x0 → (more : List ℕ) (items : List Item) (y : State)
+        → Reaches values order code (cell_home c.0) x0 more items y → IsSafe code y
+    referent_safe fine short pays more items y reached =
+        safe_in_home w side values order code (cell_home c.0) p.to direct planned fine (going x.machine.at seen) s.names fetched ag.octets short noted x0 referent_good pays more items y reached
+
+    -- a fault within the value is one of the stream
+    pub referent_fault : (source : SourceSeen) (notes : NotesSeen) (x1 : State) (e : DecodeFault) → EndsFault values order code (cell_home c.0) x0 source notes x1 e
+        → FaultOf w order fetched noted (length x0.cells) source (decoding_of notes) e
+    referent_fault source notes x1 e ends =
+        fault_comes values order code w.table (cell_home c.0) p.to 32 direct target planned fetched noted x0 referent_good source notes w ag.octets ag.needed
+        (λ part all at so why stop. law.referent_refused w side order fetched noted direct (with_next o x) s seen p ps n ag c.0 is_cell new part all at so why stop)
+        (λ part all. law.referent_goes w side order fetched noted direct (with_next o x) s seen p ps n ag c.0 is_cell new part all)
+        (few_now w side order fetched noted direct (with_next o x) s seen (p ∷ ps) n ag) x1 e ends
+
+    -- what the value is
+    pub referent_whole : (source : SourceSeen) (notes : NotesSeen) (x1 : State)
+        → ((more : List ℕ) (items : List Item) (y : State) → Reaches values order code (cell_home c.0) x0 more items y → y.at ≤ STREAM_LIMIT)
+        → EndsWhole values order code (cell_home c.0) x0 source notes x1
+        → HomeWhole order w.table (cell_home c.0) p.to direct target fetched noted (length x0.cells) source (decoding_of notes) x1
+    referent_whole source notes x1 within ends = whole_comes values order code w.table (cell_home c.0) p.to 32 direct target planned fetched noted x0 referent_good source notes x1 within ends

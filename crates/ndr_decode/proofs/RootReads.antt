@@ -1,0 +1,89 @@
+-- The next root, where it is no reference pointer: from what is kept of the stream before its value, through the run of its code, to what is kept after it.
+-- `b` is what is kept, `s` the state of the reader, `x` the state of the decoder at the beginning of the value and `x1` at its end, `k` what is kept of the root.
+use Rattle.std.proofs.Common.{◌≡◌, ◌≤◌, ℕ, suc, false, List, [], ◌++◌, length, Some, refl, sym, ap, ◌∙◌, subst, arith}
+use Rattle.std.specs.Prelude.{slice_get}
+use Rattle.nd_base.specs.declared.octets.Order.{Order}
+use Rattle.nd_base.specs.declared.TheConstants.{STREAM_LIMIT}
+use Rattle.nd_base.specs.Over.{SourceSeen}
+use Rattle.nd_grammar.proofs.legal.LegalUsable.{Usable}
+use Rattle.nd_types.specs.declared.types.Operation.{Operation}
+use Rattle.nd_types.specs.Legal.{IsLegal}
+use Rattle.nd_types.specs.Table.{type_at}
+use Rattle.nd_types.specs.Roots.{Root}
+use Rattle.nd_value.specs.declared.item.Home.{Home}
+use Rattle.nd_value.specs.declared.item.Home.TheVariants as home
+use Rattle.nd_value.specs.declared.item.Item.{Item}
+use Rattle.nd_value.specs.declared.value.Graph.{Graph}
+use Rattle.nd_value.specs.Setting.{Setting, root_list}
+use Rattle.nd_grammar.specs.Entry.{EntryAt}
+use Rattle.nd_grammar.specs.LegalSide.{IsLegalSide}
+use Rattle.nd_grammar.specs.Reader.{Read}
+use Rattle.nd_grammar.specs.StreamReader.{Reading}
+use Rattle.ndr_code.specs.declared.instr.Instr.{Instr}
+use Rattle.ndr_code.specs.declared.lists.EnumList.{EnumList}
+use Rattle.ndr_code.specs.Code.{code_of, whole_at}
+use Rattle.ndr_reading.specs.Around.{going}
+use Rattle.ndr_steps.specs.Good.{Good}
+use Rattle.ndr_steps.specs.Spots.{IsFine, IsPlanned}
+use Rattle.ndr_steps.specs.Steps.{State}
+use Rattle.ndr_runs.specs.Paid.{IsPaid}
+use Rattle.ndr_runs.specs.Reaching.{IsSafe, Reaches}
+use Rattle.ndr_runs.proofs.Safe.{safe_in_home}
+use Rattle.ndr_state.specs.Notes.{NotesSeen}
+use Rattle.ndr_state.specs.declared.fault.DecodeFault.{DecodeFault}
+use Rattle.ndr_machine.specs.Reaching.{EndsWhole, EndsFault}
+use Rattle.ndr_verdict.specs.Verdict.{is_direct}
+use Rattle.ndr_stream.specs.declared.kept.KeptRoot.{KeptRoot}
+use Rattle.ndr_stream.specs.Between.{Between, Agrees, Opens, IsKeptRoot, RootAdded, home_target, root_read}
+use Rattle.ndr_stream.proofs.FewReferences.{few_now}
+use Rattle.ndr_stream.proofs.HomeBegins.{home_begins}
+use Rattle.ndr_stream.proofs.RootEnds.{root_refused, root_goes, root_ends, after, new}
+use Rattle.ndr_decode.specs.Streaming.{FaultOf, HomeWhole}
+use Rattle.ndr_decode.proofs.HomeComes.{whole_comes, fault_comes, decoding_of}
+
+module _ (w : Setting) (side : IsLegalSide w) (order : Order) (fetched : List ℕ) (noted : List Item) (direct : ℕ) (b : Between) (s : Reading) (seen : List EntryAt) (n : ℕ)
+    (agrees : Agrees w side order fetched noted direct b s seen [] (suc n)) (r : Root) (there : slice_get (root_list w) (length s.roots) ≡ Some r)
+    (plain : is_direct (type_at w.table r.of) ≡ false) (usable : Usable w.table r.of) (x : State) (opens : Opens (whole_at w.table r.of) b b.cells x) (values : List EnumList)
+    (operations : List Operation) (legal : IsLegal w.table operations) (code : List Instr) (code_is : code ≡ code_of w.table operations)
+    (planned : IsPlanned code values w.table) where
+  abbrev here : Home
+  here = home.Root (length s.roots)
+
+  abbrev target : List ℕ → Read
+  target = home_target w order b seen here r.of s.names
+
+  pub root_good : Good order fetched code w.table here r.of 32 noted direct target x
+  root_good =
+      subst (λ c. Good order fetched c w.table here r.of 32 noted direct target x) (sym code_is)
+      (home_begins w.table operations legal order fetched noted direct here seen s.names r.of usable b agrees.keeps.at b.cells x opens (agrees.keeps.told here (omega arith)))
+
+  pub root_safe : IsFine w.table 32 r.of → length fetched ≤ STREAM_LIMIT → IsPaid x → (more : List ℕ) (items : List Item) (y : State) → Reaches values order code here x more items y
+      → IsSafe code y
+  root_safe fine short pays more items y reached =
+      safe_in_home w side values order code here r.of direct planned fine (going b.at seen) s.names fetched agrees.octets short noted x root_good pays more items y reached
+
+  -- a fault within the value is one of the stream
+  pub root_fault : (source : SourceSeen) (notes : NotesSeen) (x1 : State) (e : DecodeFault) → EndsFault values order code here x source notes x1 e
+      → FaultOf w order fetched noted (length x.cells) source (decoding_of notes) e
+  root_fault source notes x1 e ends =
+      fault_comes values order code w.table here r.of 32 direct target planned fetched noted x root_good source notes w agrees.octets agrees.needed
+      (λ part all at so why stop. root_refused w side order fetched noted direct b s seen n agrees r there plain part all at so why stop)
+      (λ part all. root_goes w side order fetched noted direct b s seen n agrees r there plain part all)
+      (few_now w side order fetched noted direct b s seen [] (suc n) agrees) x1 e ends
+
+  -- what the value is
+  pub root_whole : (source : SourceSeen) (notes : NotesSeen) (x1 : State) → ((more : List ℕ) (items : List Item) (y : State) → Reaches values order code here x more items y → y.at ≤ STREAM_LIMIT) → EndsWhole values order code here x source notes x1
+      → HomeWhole order w.table here r.of direct target fetched noted (length x.cells) source (decoding_of notes) x1
+  root_whole source notes x1 within ends = whole_comes values order code w.table here r.of 32 direct target planned fetched noted x root_good source notes x1 within ends
+
+  -- what is kept after it
+  module _ (source : SourceSeen) (notes : NotesSeen) (x1 : State)
+      (within : (more : List ℕ) (items : List Item) (y : State) → Reaches values order code here x more items y → y.at ≤ STREAM_LIMIT) (ends : EndsWhole values order code here x source notes x1) where
+    abbrev pub read : HomeWhole order w.table here r.of direct target fetched noted (length x.cells) source (decoding_of notes) x1
+    read = root_whole source notes x1 within ends
+
+    pub root_kept : (g : Graph) (k : KeptRoot) → RootAdded read.is.v x1.cells b.graph g → IsKeptRoot x1 k
+        → Agrees w side order (fetched ++ read.octets) (noted ++ read.items) direct (root_read b x1 k g)
+        (after w side order fetched noted direct b s seen n agrees r there plain read.octets read.all (noted ++ read.items) x1 read.is read.needed) read.is.seen
+        (new w side order fetched noted direct b s seen n agrees r there plain read.octets read.all (noted ++ read.items) x1 read.is read.needed) n
+    root_kept g k added kept = root_ends w side order fetched noted direct b s seen n agrees r there plain read.octets read.all (noted ++ read.items) x1 read.is read.needed g added k kept

@@ -1,0 +1,4 @@
+pub mod Decoding
+pub mod Streaming
+pub mod Tried
+pub mod Piping

@@ -1,0 +1,130 @@
+// Decoding of a side of an operation.
+ghost use Rattle.std.specs.Prelude.{◌≡◌, ℕ, ◌+◌, ◌≤◌, ◌<◌, Some, length, option_map, IfOk, IfErr, IsErrOf};
+ghost use Rattle.std.specs.List.{slice_get};
+ghost use Rattle.nd_base.specs.Over.{source_seen, HasRisen, count};
+ghost use Rattle.nd_types.specs.declared.types.Operation.{Operation};
+ghost use Rattle.nd_value.specs.Fitting.{IsFit, setting_beside};
+ghost use Rattle.nd_value.specs.Request.{IsRequestOf};
+ghost use Rattle.nd_flat.specs.Building.{CanClose, fitting};
+ghost use Rattle.ndr_state.specs.declared.fault.DecodeFault.TheVariants.{ReadFault};
+ghost use Rattle.ndr_verdict.specs.Verdict.{IsDecoded, decoding_seen};
+ghost use Rattle.ndr_decode.specs.Decoding.{IsFault};
+
+use crate::chunks::read_pipes;
+use crate::roots::read_roots;
+use nd_base::{Ledger, Order, Source, Steps};
+use nd_flat::{Builder, Fit};
+use nd_types::Side;
+use nd_value::ItemLog;
+use ndr_code::Plan;
+use ndr_intake::Intake;
+use ndr_kept::Stream;
+use ndr_parameters::try_parameters;
+use ndr_state::{DecodeFault, Machine};
+use std::alloc::Global;
+
+/// What a stream was decoded to.
+#[derive(Drop)]
+pub struct Decoded {
+    /// The graph of the values, in its canonical form. It conforms to the side of the operation, beside the request that was given, if any.
+    pub fit: Fit,
+    /// How many octets of the source the values took, with the gaps between them.
+    pub taken: u32,
+}
+
+/// Decodes the values of a side of an operation from the octets that a source has left, which begin at the beginning of the stream (C706,
+/// chapter 14): the roots in order with the referents of their pointers, the agreements of the parameters, the pipes.
+///
+/// `op` must be the number of an operation of the plan. A request that is given beside a response must be one of the same operation and interface:
+/// then attributes of the response whose variable travels in the request alone are checked against it; without one the counts are taken as read.
+///
+/// At `Ok` the octets taken represent the graph, which conforms and is in its canonical form. It is the only conforming graph that they represent,
+/// up to the numbers of cells, and no shorter part of them represents one. The source has the octets after them left.
+///
+/// At `Bad` the octets are refused at the first faulty place, for the one reason that applies there; no octets that begin with those fetched
+/// represent a conforming graph, except at `Truncated`, where the source has ended. The octets fetched end with the item that is refused; at `TooLong`
+/// where that item would begin, at a failed agreement with the last item before it. `ReadFault` is answered only if the source's count of faults
+/// rose, or is at the greatest value of a `u64`.
+///
+/// A log that keeps items gets each item as soon as it is whole and not refused. `steps` counts each of these but the gaps, and each cell as it
+/// gets its number: never more than the octets fetched and the roots, whatever counts the octets state.
+///
+/// Each fetch asks only for what the gap or primitive that is due still lacks. The time is linear in the octets fetched. It takes memory for what
+/// was read, never for what a count claims; after `Memory` the source, the log and the steps are as after some item.
+pub fn decode<S: Source, L: Ledger>(
+    alloc: Global,
+    plan: &Plan,
+    op: u32,
+    side: Side,
+    order: Order,
+    given: Option<&Fit>,
+    source: &mut S,
+    items: &mut ItemLog,
+    steps: &mut Steps<L>,
+) -> Result<Decoded, DecodeFault>
+    requires known { op < length plan.now.tie.operations }
+    requires request { IsRequestOf plan.now.tie op side (option_map (λ f. f.now) given) }
+    ensures decoded { IfOk result (λ d. (o : Operation) → slice_get plan.now.tie.operations op ≡ Some o
+        → IsDecoded (setting_beside plan.now.tie o side (option_map (λ f. f.now.graph) given.entry)) order
+        (source_seen S.Source.left S.Source.ended S.Source.faults source.old source.new) d.taken d.fit.graph
+        (decoding_seen items.old items.new (L.number steps.old) (L.number steps.new))) }
+    ensures of { IfOk result (λ d. (d.fit.op ≡ op) × (d.fit.side ≡ side) × (d.fit.interface ≡ plan.now.tie)) }
+    ensures beside { IfOk result (λ d. d.fit.given ≡ option_map (λ f. f.now.graph) given.entry) }
+    ensures fault { IfErr result (λ e. (o : Operation) → slice_get plan.now.tie.operations op ≡ Some o
+        → IsFault (setting_beside plan.now.tie o side (option_map (λ f. f.now.graph) given.entry)) order
+        (source_seen S.Source.left S.Source.ended S.Source.faults source.old source.new) e
+        (decoding_seen items.old items.new (L.number steps.old) (L.number steps.new))) }
+    ensures read_fault { IsErrOf result ReadFault → HasRisen (count S.Source.faults source.old source.new) }
+    ensures later { S.Source.faults source.old ≤ S.Source.faults source.new }
+{
+    let builder = Builder::begin(alloc, plan.tie.again(), op, side, given);
+    let mut stream = Stream::begin(alloc, builder);
+    let mut intake = Intake::new(alloc)?;
+    let found = read_roots(
+        plan,
+        op,
+        side,
+        order,
+        &mut stream,
+        &mut intake,
+        source,
+        items,
+        steps,
+    )?;
+    try_parameters(plan.code.as_slice(), found.checks as usize, &stream, given)?;
+    read_pipes(
+        plan,
+        op,
+        side,
+        order,
+        found.line,
+        &mut stream,
+        &mut intake,
+        source,
+        items,
+        steps,
+    )?;
+    Ok(finish(stream))
+}
+
+// The graph as a fit, and the octets that it took.
+fn finish(stream: Stream) -> Decoded
+    requires whole { CanClose stream.machine.builder }
+    requires fits { IsFit (fitting stream.machine.builder) }
+    ensures fit { result.fit ≡ fitting stream.machine.builder }
+    ensures taken { result.taken ≡ stream.machine.at }
+{
+    let Stream {
+        machine,
+        wanted: _wanted,
+        todo: _todo,
+        roots: _roots,
+        cells: _cells,
+    } = stream;
+    let taken = machine.at;
+    let Machine { builder, .. } = machine;
+    Decoded {
+        fit: builder.finish(),
+        taken,
+    }
+}

@@ -1,0 +1,132 @@
+// Pending referents.
+ghost use Rattle.std.specs.Prelude.{◌≡◌, ◌≤◌, ◌+◌, Some, None, length, map, OnOk};
+ghost use Rattle.nd_base.specs.Over.{source_seen};
+ghost use Rattle.nd_types.specs.declared.types.Class.TheVariants.{Full};
+ghost use Rattle.ndr_state.specs.Seen.{agreement_of, owed_of};
+ghost use Rattle.ndr_verdict.specs.Verdict.{decoding_seen};
+ghost use Rattle.ndr_stream.specs.Between.{kept_at};
+ghost use Rattle.ndr_decode.specs.Streaming.{IsAtReferent, IsStreaming, PendingReads, ReferentReads, purpose_of};
+ghost use Rattle.ndr_decode.specs.Tried.{AreTried};
+
+use crate::homes::read_home;
+use nd_base::{Ledger, Order, Source, Steps};
+use nd_types::Class;
+use nd_value::{CellId, ItemLog};
+use ndr_code::Plan;
+use ndr_intake::Intake;
+use ndr_kept::Stream;
+use ndr_machine::try_in;
+use ndr_state::{DecodeFault, Owed, Wanted};
+use ndr_stream::Kept;
+
+// Reads what is pending, one referent after the other, each followed by those that it makes due.
+pub(crate) fn read_pending<S: Source, L: Ledger>(
+    plan: &Plan,
+    order: Order,
+    stream: &mut Stream,
+    intake: &mut Intake,
+    source: &mut S,
+    items: &mut ItemLog,
+    steps: &mut Steps<L>,
+) -> Result<(), DecodeFault>
+    requires streaming { IsStreaming plan.now order stream.old }
+    ensures reads { PendingReads plan.now order stream.old (source_seen S.Source.left S.Source.ended S.Source.faults source.old source.new)
+        (decoding_seen items.old items.new (L.number steps.old) (L.number steps.new)) stream.new result }
+    ensures same { OnOk result (purpose_of stream.new ≡ purpose_of stream.old) }
+    ensures later { S.Source.faults source.old ≤ S.Source.faults source.new }
+{
+    // No stream within the limit has so many referents.
+    for _turn in 0..u64::MAX {
+        let Some(owed) = stream.todo.pop() else {
+            return Ok(());
+        };
+        read_owed(plan, order, owed, stream, intake, source, items, steps)?;
+    }
+    Err(DecodeFault::Memory)
+}
+
+// The referent of a pointer that was taken from those that are pending, if it was not read yet, and the pointer's agreements. A null pointer has none.
+fn read_owed<S: Source, L: Ledger>(
+    plan: &Plan,
+    order: Order,
+    owed: Owed,
+    stream: &mut Stream,
+    intake: &mut Intake,
+    source: &mut S,
+    items: &mut ItemLog,
+    steps: &mut Steps<L>,
+) -> Result<(), DecodeFault>
+    requires next { IsAtReferent plan.now order owed stream.old }
+    requires within { owed.from + owed.len ≤ length stream.old.wanted.items }
+    ensures reads { ReferentReads plan.now order owed stream.old (source_seen S.Source.left S.Source.ended S.Source.faults source.old source.new)
+        (decoding_seen items.old items.new (L.number steps.old) (L.number steps.new)) stream.new result }
+    ensures same { OnOk result (purpose_of stream.new ≡ purpose_of stream.old) }
+    ensures later { S.Source.faults source.old ≤ S.Source.faults source.new }
+{
+    let Some(cell) = owed.cell else {
+        return Ok(());
+    };
+    if let Class::Full = owed.class {
+        if let Some(kept) = stream.kept_cell(cell) {
+            return try_all(stream.wanted.as_slice(), owed, kept);
+        }
+    }
+    read_referent(
+        plan, order, owed, cell, stream, intake, source, items, steps,
+    )
+}
+
+// The referent of a pointer, which was not read yet, and the pointer's agreements.
+fn read_referent<S: Source, L: Ledger>(
+    plan: &Plan,
+    order: Order,
+    owed: Owed,
+    cell: CellId,
+    stream: &mut Stream,
+    intake: &mut Intake,
+    source: &mut S,
+    items: &mut ItemLog,
+    steps: &mut Steps<L>,
+) -> Result<(), DecodeFault>
+    requires next { IsAtReferent plan.now order owed stream.old }
+    requires within { owed.from + owed.len ≤ length stream.old.wanted.items }
+    requires cell { owed.cell ≡ Some cell }
+    requires unread { owed.class ≡ Full → kept_at stream.old.cells.items cell.0 ≡ None }
+    ensures reads { ReferentReads plan.now order owed stream.old (source_seen S.Source.left S.Source.ended S.Source.faults source.old source.new)
+        (decoding_seen items.old items.new (L.number steps.old) (L.number steps.new)) stream.new result }
+    ensures same { OnOk result (purpose_of stream.new ≡ purpose_of stream.old) }
+    ensures later { S.Source.faults source.old ≤ S.Source.faults source.new }
+{
+    stream.open_cell(cell, owed.run);
+    read_home(
+        plan,
+        order,
+        &mut stream.machine,
+        intake,
+        source,
+        items,
+        steps,
+    )?;
+    let kept = stream.end_cell(cell)?;
+    try_all(stream.wanted.as_slice(), owed, kept)?;
+    stream.settle()
+}
+
+// Tries the agreements of a pointer in its referent.
+fn try_all(wanted: &[Wanted], owed: Owed, kept: Kept) -> Result<(), DecodeFault>
+    requires within { owed.from + owed.len ≤ length wanted.now }
+    ensures { AreTried (owed_of wanted.now owed).agreements kept result }
+{
+    try_each(&wanted[owed.from..owed.from + owed.len], kept)
+}
+
+// Tries agreements one after the other.
+fn try_each(wanted: &[Wanted], kept: Kept) -> Result<(), DecodeFault>
+    ensures { AreTried (map agreement_of wanted.now) kept result }
+{
+    for at in 0..wanted.len() {
+        let one = wanted[at];
+        try_in(one, kept.first, kept.max_at)?;
+    }
+    Ok(())
+}

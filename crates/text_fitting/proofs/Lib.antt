@@ -1,0 +1,4 @@
+pub mod Paths
+pub mod Fitted
+pub mod OneText
+pub mod Requests
