@@ -2,6 +2,7 @@
 -- the request is loaded over the next.
 use Rattle.std.proofs.Common.{◌≡◌, ◌∙◌, ℕ, ◌≤◌, List, [], ◌∷◌, ◌++◌, Option, Some, None, Result, Ok, Err, IfOk, IfErr, refl, sym, ap, subst, inl, inr, arith}
 use Rattle.std.proofs.lemmas.List.{append_cancel_left}
+use Rattle.nd_base.proofs.Rising.{rose_later}
 use Rattle.nd_base.specs.Counts.{Rose}
 use Rattle.nd_base.specs.declared.octets.Order.{Order}
 use Rattle.nd_base.specs.Outside.{IsContent, IsMissing}
@@ -23,9 +24,6 @@ use Rattle.dceidl.specs.Input.{IsRead, IsReadCause, IsReadBeside, IsBesideCause}
 use Rattle.dceidl.specs.Ready.{IsFound, IsReady, HasAsked, up_to}
 use Rattle.dceidl.specs.Seen.{seen_over}
 use Rattle.dceidl.specs.Words.{Subject, Read, order_in, values_read}
-
-rose_later : (before mid now : ℕ) → before ≤ mid → Rose mid now → Rose before now
-rose_later before mid now less rose = omega (arith, less, rose)
 
 -- files over one part of a run and then over the next
 abbrev pub both_parts : FilesSeen → FilesSeen → FilesSeen

@@ -3,6 +3,7 @@ use Rattle.std.proofs.Common.{◌≡◌, ◌∙◌, ℕ, ◌≤◌, List, [], �
 use Rattle.std.proofs.KnownBytes.{Consumes-trans}
 use Rattle.std.proofs.lemmas.List.{append-nil}
 use Rattle.std.specs.Io.KnownBytes.{Consumes}
+use Rattle.nd_base.proofs.Rising.{rose_later}
 use Rattle.nd_base.specs.declared.octets.Order.{Order}
 use Rattle.nd_base.specs.Counts.{Rose}
 use Rattle.nd_base.specs.Over.{SourceSeen}
@@ -27,9 +28,6 @@ use Rattle.ndr_printing.specs.Taken.{IsTaken, IsEnd, IsNoEnd}
 -- a source over one step and then over another
 abbrev pub over : SourceSeen → SourceSeen → SourceSeen
 over s t = record { left = s.left; left_now = t.left_now; ended = t.ended; faults = record { before = s.faults.before; now = t.faults.now } }
-
-pub rose_later : (before mid now : ℕ) → before ≤ mid → Rose mid now → Rose before now
-rose_later before mid now less rose = omega (arith, less, rose)
 
 -- ## Decoding
 
