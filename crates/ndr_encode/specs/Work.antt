@@ -1,0 +1,82 @@
+-- What is prepared for the encoding of a graph: the homes in the order of the stream, each with the address of its run, and the numbers of the cells.
+-- `f` is a fit, `o` its operation, `w` its setting, `x` a value as a whole, `k` the greatest count of a chunk.
+use Rattle.std.specs.Prelude.{◌≡◌, ℕ, ◌+◌, ◌≤◌, ◌<◌, suc, zero, List, [], ◌∷◌, ◌++◌, drop, length, map, get_or, Some, refl}
+use Rattle.std.specs.List.{slice_get}
+use Rattle.std.specs.Coded.{Coded, code_by, coded×, coded_list, coded_ℕ}
+use Rattle.nd_base.specs.declared.TheConstants.{STREAM_LIMIT}
+use Rattle.nd_types.specs.declared.types.Operation.{Operation}
+use Rattle.nd_types.specs.declared.types.Side.{Side}
+use Rattle.nd_types.specs.Table.{Table}
+use Rattle.nd_types.specs.Roots.{roots_of}
+use Rattle.nd_value.specs.declared.item.Home.{Home}
+use Rattle.nd_value.specs.declared.item.Home.TheVariants as home
+use Rattle.nd_value.specs.Canon.{canonical_number, named_cells}
+use Rattle.nd_value.specs.Deferral.{Step, Deferral, Standing, due_roots, before_pipes}
+use Rattle.nd_value.specs.Fitting.{Fitting, setting_beside}
+use Rattle.nd_value.specs.Setting.{Setting, root_list}
+use Rattle.nd_grammar.specs.Entry.{end_of}
+use Rattle.nd_grammar.specs.Stream.{representation}
+use Rattle.nd_base.specs.declared.octets.Order.{Order}
+use Rattle.nd_grammar.specs.Chosen.{pipe_cuts, Chosen}
+use Rattle.ndr_code.specs.Code.{whole_at, pipe_at}
+use Rattle.ndr_pieces.specs.Heads.{standings}
+use Rattle.ndr_encode.specs.declared.turn.Turn.{Turn}
+use Rattle.ndr_encode.specs.contracts.turn.Turn as turns
+
+-- a home, with the address of the run that writes it
+abbrev pub turn : Home → ℕ → Turn
+turn h at = record { home = h; start = at }
+
+-- a value as a whole is written by the whole run of its type
+abbrev pub home_turn : Table → Standing → Turn
+home_turn table x = turn x.home (whole_at table x.of)
+
+-- n pipes, from the i-th of them on, of which the first is the root `first`
+abbrev pub pipe_turns : (ℕ → ℕ) → ℕ → ℕ → ℕ → List Turn
+pipe_turns at first i zero = []
+pipe_turns at first i (suc n) = turn (home.Root (first + i)) (at i) ∷ pipe_turns at first (suc i) n
+
+-- what a work is seen as
+pub record WorkSeen : Type 0 where
+  pub turns : List Turn
+  pub numbers : List ℕ
+  pub length : ℕ
+  pub chunk : ℕ
+
+abbrev pub work_code : Coded WorkSeen
+work_code =
+    code_by (List Turn × (List ℕ × (ℕ × ℕ))) (coded× (coded_list turns.the_row.coded) (coded× (coded_list coded_ℕ) (coded× coded_ℕ coded_ℕ)))
+    (λ w. (w.turns, (w.numbers, (w.length, w.chunk)))) (λ p. record { turns = p.0; numbers = p.1.0; length = p.1.1.0; chunk = p.1.1.1 }) (λ _. refl)
+
+-- the setting of a fit
+abbrev pub setting : Fitting → Operation → Setting
+setting f o = setting_beside f.interface o f.side f.given
+
+-- A work for a fit, with chunks of k elements. Its length is that of the octets that are chosen, which does not depend on the order of octets.
+pub record IsWorkFor (f : Fitting) (k : ℕ) (work : WorkSeen) : Type 0 where
+  pub operation : Operation
+  pub is_there : slice_get f.interface.operations f.op ≡ Some operation
+  pub steps : List Step
+  pub deferral : Deferral (setting f operation) f.graph [] (due_roots 0 (before_pipes (root_list (setting f operation)))) steps
+  pub turns : work.turns
+      ≡ map (home_turn f.interface.types) (standings (setting f operation) f.graph steps)
+      ++ pipe_turns (pipe_at f.interface.types f.interface.operations f.op operation f.side) (before_pipes (root_list (setting f operation))) 0
+        (length (drop (before_pipes (root_list (setting f operation))) (root_list (setting f operation))))
+  pub numbers : (c : ℕ) → get_or work.numbers c 0 ≡ canonical_number (named_cells (setting f operation) f.graph steps) c
+  pub chunk : work.chunk ≡ k
+  pub length : work.length
+      ≡ end_of 0 (representation (setting f operation) f.graph steps (pipe_cuts k (drop (before_pipes (root_list (setting f operation))) f.graph.roots)))
+  pub within : work.length ≤ STREAM_LIMIT
+
+-- The octets that are chosen for a fit are so many, in either order, and these are more than a stream may have.
+pub record IsTooLong (f : Fitting) (k n : ℕ) : Type 0 where
+  pub operation : Operation
+  pub is_there : slice_get f.interface.operations f.op ≡ Some operation
+  pub steps : List Step
+  pub deferral : Deferral (setting f operation) f.graph [] (due_roots 0 (before_pipes (root_list (setting f operation)))) steps
+  pub long : n ≡ end_of 0 (representation (setting f operation) f.graph steps (pipe_cuts k (drop (before_pipes (root_list (setting f operation))) f.graph.roots)))
+  pub too_long : STREAM_LIMIT < n
+
+-- the octets that are chosen for a fit, with chunks of k elements
+abbrev pub IsChosen : Fitting → Order → ℕ → List ℕ → Type 0
+IsChosen f order k octets = (o : Operation) → slice_get f.interface.operations f.op ≡ Some o → Chosen (setting f o) order k f.graph octets

@@ -1,0 +1,13 @@
+//! Encodes graphs: a work is prepared for a graph, and then its octets are written as often as needed, without memory and without failing.
+#![tactic(auto)]
+
+mod encoding;
+mod making;
+mod maximum;
+mod search;
+mod turn;
+mod work;
+
+pub use encoding::encode_with;
+pub use turn::Turn;
+pub use work::{EncodeFault, Work};

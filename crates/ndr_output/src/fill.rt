@@ -1,0 +1,196 @@
+// An output that writes octets.
+ghost use Rattle.std.specs.Prelude.{◌≡◌, ◌+◌, ◌<◌, ◌≤◌, ◌^◌, [], ◌∷◌, ◌++◌, length, take, replicate, get_or, IsTrue};
+ghost use Rattle.nd_types.specs.Number.{spelling, written};
+ghost use Rattle.nd_types.specs.Table.{width, in_range};
+ghost use Rattle.nd_value.specs.Seen.{cell_number};
+ghost use Rattle.nd_grammar.specs.Entry.{gap};
+ghost use Rattle.nd_grammar.specs.Chosen.{number_of_cell};
+ghost use Rattle.ndr_prim.specs.Context.{context_octets};
+
+use crate::output::Output;
+use crate::row::write_row;
+use nd_base::{Memory, Order};
+use nd_flat::Row;
+use nd_types::Prim;
+use nd_value::CellId;
+use ndr_prim::{width_of, write_context, write_num};
+use uuid::Uuid;
+
+/// Octets that are written from the front on, up to the place `at`, in an order, and the numbers of cells by the cell, from 0.
+#[derive(Drop)]
+pub struct Fill<'a> {
+    pub order: Order,
+    pub numbers: &'a [u32],
+    pub out: &'a mut [u8],
+    pub at: usize,
+}
+
+// The length of the gap up to the next multiple.
+fn gap_at(at: usize, to: u8) -> usize
+    requires { 0 < to }
+    ensures { result ≡ gap at to }
+{
+    let to = to as usize;
+    (to - at % to) % to
+}
+
+// Zeros.
+fn write_zeros(to: &mut [u8])
+    ensures { to.new ≡ replicate (length to.old) 0 }
+{
+    to.fill(0);
+}
+
+// An unsigned long in four octets.
+fn write_long(order: Order, value: u32, to: &mut [u8])
+    requires { length to.old ≡ 4 }
+    ensures { to.new ≡ spelling order 4 value }
+{
+    write_num(order, Prim::UnsignedLong, i128::from(value), to);
+}
+
+// A context handle in 20 octets.
+fn write_handle(order: Order, attributes: u32, id: Uuid, to: &mut [u8])
+    requires { length to.old ≡ 20 }
+    ensures { to.new ≡ context_octets order attributes id }
+{
+    let Some(to) = to.first_chunk_mut::<20>() else {
+        unreachable!()
+    };
+    write_context(order, attributes, id, to);
+}
+
+// The number that is written for a pointer.
+fn number_of(numbers: &[u32], cell: Option<CellId>) -> u32
+    ensures { result ≡ number_of_cell (λ c. get_or numbers.now c 0) (cell_number cell) }
+{
+    match cell {
+        None => 0,
+        Some(id) => numbers.get(id.0 as usize).copied().unwrap_or(0),
+    }
+}
+
+// Zeros up to the next multiple, from a place on. It gives the place after them, as the functions below do.
+fn write_gap(at: usize, to: u8, out: &mut [u8]) -> usize
+    requires some { 0 < to }
+    requires room { at + gap at to ≤ length out.old }
+    ensures front { take result out.new ≡ take at out.old ++ replicate (gap at to) 0 }
+    ensures end { result ≡ at + gap at to }
+{
+    let end = at + gap_at(at, to);
+    write_zeros(&mut out[at..end]);
+    end
+}
+
+fn write_four(order: Order, value: u32, at: usize, out: &mut [u8]) -> usize
+    requires room { at + 4 ≤ length out.old }
+    ensures front { take result out.new ≡ take at out.old ++ spelling order 4 value }
+    ensures end { result ≡ at + 4 }
+{
+    let end = at + 4;
+    write_long(order, value, &mut out[at..end]);
+    end
+}
+
+pub(crate) fn write_figure(
+    order: Order,
+    prim: Prim,
+    value: i128,
+    at: usize,
+    out: &mut [u8],
+) -> usize
+    requires range { IsTrue (in_range prim value) }
+    requires room { at + width prim ≤ length out.old }
+    ensures front { take result out.new ≡ take at out.old ++ written order prim value }
+    ensures end { result ≡ at + width prim }
+{
+    let end = at + width_of(prim);
+    write_num(order, prim, value, &mut out[at..end]);
+    end
+}
+
+// These octets, as they are.
+pub(crate) fn write_raw(octets: &[u8], at: usize, out: &mut [u8]) -> usize
+    requires { at + length octets.now ≤ length out.old }
+    ensures front { take result out.new ≡ take at out.old ++ octets.now }
+    ensures end { result ≡ at + length octets.now }
+{
+    let end = at + octets.len();
+    out[at..end].copy_from_slice(octets);
+    end
+}
+
+// A terminator.
+fn write_zero(at: usize, out: &mut [u8]) -> usize
+    requires { at + 1 ≤ length out.old }
+    ensures front { take result out.new ≡ take at out.old ++ 0 ∷ [] }
+    ensures end { result ≡ at + 1 }
+{
+    let end = at + 1;
+    write_zeros(&mut out[at..end]);
+    end
+}
+
+// The octets of a text and its terminator, after their count.
+fn write_text(order: Order, octets: &[u8], at: usize, out: &mut [u8]) -> usize
+    requires room { at + 4 + (length octets.now + 1) ≤ length out.old }
+    requires few { length octets.now + 1 < 2 ^ 32 }
+    ensures front { take result out.new ≡ take at out.old ++ (spelling order 4 (length octets.now + 1) ++ (octets.now ++ 0 ∷ [])) }
+    ensures end { result ≡ at + 4 + (length octets.now + 1) }
+{
+    let start = write_four(order, octets.len() as u32 + 1, at, out);
+    let end = write_raw(octets, start, out);
+    write_zero(end, out)
+}
+
+fn write_context_at(order: Order, attributes: u32, id: Uuid, at: usize, out: &mut [u8]) -> usize
+    requires { at + 20 ≤ length out.old }
+    ensures front { take result out.new ≡ take at out.old ++ context_octets order attributes id }
+    ensures end { result ≡ at + 20 }
+{
+    let end = at + 20;
+    write_handle(order, attributes, id, &mut out[at..end]);
+    end
+}
+
+impl Output for Fill<'_> {
+    ghost use Rattle.std.specs.Prelude.{get_or, false};
+    ghost use Rattle.ndr_output.specs.Filling.{fill_whole, FillCan};
+
+    ghost can = { λ s ps. FillCan s.at s.out.now ps };
+
+    ghost whole = { λ s ps. fill_whole s.out.ghost_name s.order (λ c. get_or s.numbers.now c 0) s.at s.out.now ps };
+
+    ghost may_fail = { false };
+
+    fn gap(&mut self, to: u8) {
+        self.at = write_gap(self.at, to, self.out);
+    }
+
+    fn figure(&mut self, prim: Prim, value: i128) {
+        self.at = write_figure(self.order, prim, value, self.at, self.out);
+    }
+
+    fn four(&mut self, value: u32) {
+        self.at = write_four(self.order, value, self.at, self.out);
+    }
+
+    fn text(&mut self, octets: &[u8]) {
+        self.at = write_text(self.order, octets, self.at, self.out);
+    }
+
+    fn row(&mut self, prim: Prim, row: &Row<'_>) {
+        let start = write_gap(self.at, width_of(prim) as u8, self.out);
+        self.at = write_row(self.order, prim, row, start, self.out);
+    }
+
+    fn handle(&mut self, attributes: u32, id: Uuid) {
+        self.at = write_context_at(self.order, attributes, id, self.at, self.out);
+    }
+
+    fn name(&mut self, cell: Option<CellId>, run: u32) -> Result<(), Memory> {
+        let _ = run;
+        self.at = write_four(self.order, number_of(self.numbers, cell), self.at, self.out);
+        Ok(())
+    }
+}

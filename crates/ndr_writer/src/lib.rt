@@ -1,0 +1,10 @@
+//! Writes the value of a home to an output, by the run of a plan's code over the nodes of the value.
+#![tactic(auto)]
+
+mod arrays;
+mod lookups;
+mod nodes;
+mod numbers;
+mod writing;
+
+pub use writing::{Run, write_run};

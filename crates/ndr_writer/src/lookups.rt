@@ -1,0 +1,120 @@
+// Instructions of a plan's code: total look-ups.
+ghost use Rattle.std.specs.Prelude.{◌≡◌, ◌<◌, ◌≤◌, ◌&&◌, ◌==◌, List, Option, Some, true, drop, length, slice_get, IfSome, option_map};
+ghost use Rattle.nd_types.specs.Table.{width};
+ghost use Rattle.ndr_code.specs.declared.instr.Instr.{Instr};
+ghost use Rattle.ndr_written.specs.Run.{carrier_of as carrier, target, past_checks as past, num_type, is_ret as ends, row_if, row_at};
+
+use nd_types::{Prim, TypeId};
+use ndr_code::Instr;
+use ndr_prim::width_of;
+
+// The instruction at an address, if there is one.
+pub(crate) fn instr_at(code: &[Instr], at: usize) -> Option<Instr>
+    ensures value { result ≡ slice_get code.now at }
+    ensures below { IfSome result (λ i. at < length code.now) }
+{
+    code.get(at).copied()
+}
+
+// The primitive in whose octets a number of a type is.
+pub(crate) fn carrier_of(of: TypeId) -> Prim
+    ensures { result ≡ carrier of.0 }
+{
+    match of.0 {
+        0 => Prim::Boolean,
+        1 => Prim::Char,
+        2 => Prim::Byte,
+        3 => Prim::Small,
+        4 => Prim::UnsignedSmall,
+        5 => Prim::Short,
+        6 => Prim::UnsignedShort,
+        7 => Prim::Long,
+        8 => Prim::UnsignedLong,
+        9 => Prim::Hyper,
+        10 => Prim::UnsignedHyper,
+        _ => Prim::Short,
+    }
+}
+
+// The address of the arm of a tag, among the instructions from an address on.
+pub(crate) fn arm_at(code: &[Instr], from: usize, tag: i128) -> usize
+    ensures { result ≡ target (drop from code.now) tag }
+{
+    for at in from..code.len() {
+        match code[at] {
+            Instr::Arm { label, run } => {
+                if label == tag {
+                    return run as usize;
+                }
+            }
+            Instr::Other { run } => return run as usize,
+            _ => return 1,
+        }
+    }
+    1
+}
+
+// The address of the first instruction that is no agreement, from an address on.
+pub(crate) fn past_checks(code: &[Instr], from: usize) -> usize
+    requires { from ≤ length code.now }
+    ensures { result ≡ past (drop from code.now) from }
+{
+    for at in from..code.len() {
+        match code[at] {
+            Instr::Check { .. } => {}
+            _ => return at,
+        }
+    }
+    code.len()
+}
+
+// The type of a number.
+fn type_of_number(instr: &Option<Instr>) -> Option<TypeId>
+    ensures { option_map (λ t. t.0) result ≡ num_type instr.now }
+{
+    match instr {
+        Some(Instr::Num { of }) => Some(*of),
+        _ => None,
+    }
+}
+
+// Whether a run ends.
+fn is_ret(instr: &Option<Instr>) -> bool
+    ensures { result ≡ ends instr.now }
+{
+    match instr {
+        Some(Instr::Ret) => true,
+        _ => false,
+    }
+}
+
+// The primitive of a number after a gap to a multiple of so many octets, if the gap is its own and the run ends after it.
+fn row_after(to: u8, of: Option<TypeId>, ends: bool) -> Option<Prim>
+    ensures { result ≡ row_if to (option_map (λ t. t.0) of) ends }
+{
+    let Some(of) = of else {
+        return None;
+    };
+    let prim = carrier_of(of);
+    if ends && to as usize == width_of(prim) {
+        Some(prim)
+    } else {
+        None
+    }
+}
+
+// The primitive whose number the run at an address is, with its gap and nothing else.
+pub(crate) fn row_of(code: &[Instr], run: u32) -> Option<Prim>
+    ensures { result ≡ row_at code.now run }
+{
+    let at = run as usize;
+    let first = instr_at(code, at);
+    let second = instr_at(code, at + 1);
+    match first {
+        Some(Instr::Align { to }) => {
+            let third = instr_at(code, at + 2);
+            row_after(to, type_of_number(&second), is_ret(&third))
+        }
+        _ => row_after(1, type_of_number(&first), is_ret(&second)),
+    }
+}

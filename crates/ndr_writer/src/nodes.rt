@@ -1,0 +1,79 @@
+// The next nodes of a home, and what they say: total look-ups.
+ghost use Rattle.std.specs.Prelude.{◌≡◌};
+ghost use Rattle.nd_value.specs.Tree.{flat};
+ghost use Rattle.nd_flat.specs.FlatForm.{flat_seen};
+ghost use Rattle.ndr_written.specs.Run.{here, later, num_in, tag_in, offset_in, octets_in};
+
+use nd_flat::{Seen, Walk};
+
+// The next node; the number 0 where there is none.
+pub(crate) fn next_node<'a>(walk: &mut Walk<'a>) -> Seen<'a>
+    ensures node { flat_seen result ≡ here (flat walk.old) }
+    ensures rest { flat walk.new ≡ later (flat walk.old) }
+{
+    match walk.step() {
+        Some(seen) => seen,
+        None => Seen::Num(0),
+    }
+}
+
+// The number that a node is, or 0.
+pub(crate) fn number_of(seen: &Seen<'_>) -> i128
+    ensures { result ≡ num_in (flat_seen seen.now).0 }
+{
+    match seen {
+        Seen::Num(value) => *value,
+        _ => 0,
+    }
+}
+
+// The tag of a union, or 0.
+pub(crate) fn tag_of(seen: &Seen<'_>) -> i128
+    ensures { result ≡ tag_in (flat_seen seen.now).0 }
+{
+    match seen {
+        Seen::Union { tag, armed: _armed } => *tag,
+        _ => 0,
+    }
+}
+
+// The number of children of a node.
+pub(crate) fn count_of(seen: &Seen<'_>) -> u32
+    ensures { result ≡ (flat_seen seen.now).1 }
+{
+    match seen {
+        Seen::Rec(count) => *count,
+        Seen::Arr {
+            max: _max,
+            offset: _offset,
+            count,
+        } => *count,
+        Seen::Union { tag: _tag, armed } => u32::from(*armed),
+        Seen::Pipe(count) => *count,
+        _ => 0,
+    }
+}
+
+// The offset of an array, or 0.
+pub(crate) fn offset_of(seen: &Seen<'_>) -> u32
+    ensures { result ≡ offset_in (flat_seen seen.now).0 }
+{
+    match seen {
+        Seen::Arr {
+            max: _max,
+            offset,
+            count: _count,
+        } => *offset,
+        _ => 0,
+    }
+}
+
+// The octets of a text, or none.
+pub(crate) fn octets_of<'a>(seen: &Seen<'a>) -> &'a [u8]
+    ensures { result.now ≡ octets_in (flat_seen seen.now).0 }
+{
+    match seen {
+        Seen::Text { max: _max, octets } => octets,
+        _ => &[],
+    }
+}
