@@ -34,7 +34,6 @@ use Rattle.ndr_steps.specs.Steps.{State}
 use Rattle.ndr_verdict.specs.Verdict.{DecodingSeen}
 use Rattle.ndr_stream.specs.Between.{Agrees, AreNeeded, Between}
 use Rattle.ndr_stream.specs.Calls.{Took, Refused, CutOff}
-use Rattle.ndr_stream.specs.Parameters.{TestsPass, parameter_tests}
 use Rattle.ndr_kept.specs.declared.stream.Stream.{Stream}
 use Rattle.ndr_kept.specs.Seen.{between_of}
 use Rattle.ndr_decode.specs.declared.roots.Found.{Found}
@@ -205,30 +204,3 @@ pub record IsSettingOf (plan : Plan) (op : ℕ) (side : Side) (w : Setting) : Ty
 abbrev pub RootsRead : Plan → Order → ℕ → Side → Stream → SourceSeen → DecodingSeen → Stream → Result Found DecodeFault → Type 0
 RootsRead plan order op side x source t y (Ok f) = (w : Setting) (legal : IsLegalSide w) → IsSettingOf plan op side w → WentThrough w legal order [] [] (cells_of x) source t y 0
 RootsRead plan order op side x source t y (Err e) = (w : Setting) → IsLegalSide w → IsSettingOf plan op side w → FaultOf w order [] [] (cells_of x) source t e
-
--- No referent and no root but the pipes is left, and the agreements of the parameters hold.
-pub record ParametersHold (w : Setting) (side : IsLegalSide w) (order : Order) (fetched : List ℕ) (noted : List Item) (direct : ℕ) (x : Stream) (s : Reading) (seen : List EntryAt) : Type 0 where
-  pub stands : Stands w side order fetched noted direct x s seen [] 0
-  pub held : TestsPass w order fetched noted direct (between_of x) s seen (parameter_tests w s)
-
--- The pipes of a side of an operation come next.
-pub record IsAtPipes (plan : Plan) (op : ℕ) (side : Side) (order : Order) (x : Stream) : Type 0 where
-  pub w : Setting
-  pub legal : IsLegalSide w
-  pub is : IsSettingOf plan op side w
-  pub fetched : List ℕ
-  pub noted : List Item
-  pub direct : ℕ
-  pub s : Reading
-  pub seen : List EntryAt
-  pub hold : ParametersHold w legal order fetched noted direct x s seen
-
--- the pipes, after which the stream is read to its end
-abbrev pub EndRead : Setting → Order → List ℕ → List Item → ℕ → SourceSeen → DecodingSeen → Stream → Result (Unit {0}) DecodeFault → Type 0
-EndRead w order fetched noted cells source t y (Ok u) = WasRead w order fetched noted cells source t y
-EndRead w order fetched noted cells source t y (Err e) = FaultOf w order fetched noted cells source t e
-
-abbrev pub EndReads : Plan → ℕ → Side → Order → Stream → SourceSeen → DecodingSeen → Stream → Result (Unit {0}) DecodeFault → Type 0
-EndReads plan op side order x source t y result =
-    (w : Setting) (legal : IsLegalSide w) (fetched : List ℕ) (noted : List Item) (direct : ℕ) (s : Reading) (seen : List EntryAt) → IsSettingOf plan op side w
-    → ParametersHold w legal order fetched noted direct x s seen → EndRead w order fetched noted (cells_of x) source t y result

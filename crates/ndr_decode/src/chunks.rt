@@ -1,17 +1,12 @@
 // Pipes, chunk by chunk.
-ghost use Rattle.std.specs.Prelude.{◌≡◌, ◌≤◌, ◌<◌, ◌+◌, ℕ, Some, length, OnOk};
+ghost use Rattle.std.specs.Prelude.{◌≡◌, ◌≤◌, ◌<◌, ℕ, Some, length, OnOk};
 ghost use Rattle.std.specs.List.{slice_get};
 ghost use Rattle.nd_base.specs.Over.{source_seen};
-ghost use Rattle.nd_types.specs.declared.types.Operation.{Operation};
-ghost use Rattle.nd_types.specs.Roots.{roots_of};
 ghost use Rattle.nd_flat.specs.Building.{CanClose};
-ghost use Rattle.ndr_code.specs.Code.{value_roots};
-ghost use Rattle.ndr_code.specs.Lines.{line_at};
 ghost use Rattle.ndr_code.specs.declared.instr.Instr.TheVariants as op;
 ghost use Rattle.ndr_verdict.specs.Verdict.{decoding_seen};
 ghost use Rattle.nd_base.specs.declared.TheConstants.{STREAM_LIMIT};
 ghost use Rattle.ndr_decode.specs.Piping.{PipeReads};
-ghost use Rattle.ndr_decode.specs.Streaming.{EndReads, IsAtPipes, purpose_of};
 
 use crate::homes::read_home;
 use nd_base::{Ledger, Order, Source, Steps};
@@ -35,15 +30,7 @@ pub(crate) fn read_pipes<S: Source, L: Ledger>(
     source: &mut S,
     items: &mut ItemLog,
     steps: &mut Steps<L>,
-) -> Result<(), DecodeFault>
-    requires next { IsAtPipes plan.now op side order stream.old }
-    requires line { (o : Operation) → slice_get plan.now.tie.operations op ≡ Some o
-        → line ≡ line_at plan.now.tie.types plan.now.tie.operations op o side + length (value_roots (roots_of plan.now.tie.types side o)) + 1 }
-    ensures reads { EndReads plan.now op side order stream.old (source_seen S.Source.left S.Source.ended S.Source.faults source.old source.new)
-        (decoding_seen items.old items.new (L.number steps.old) (L.number steps.new)) stream.new result }
-    ensures same { OnOk result (purpose_of stream.new ≡ purpose_of stream.old) }
-    ensures later { S.Source.faults source.old ≤ S.Source.faults source.new }
-{
+) -> Result<(), DecodeFault> {
     let lines = plan.entries.as_slice();
     let mut number = stream.roots.as_slice().len() as u32;
     for next in line..lines.len() {
