@@ -1,0 +1,94 @@
+-- What a call of decode comes to.
+-- `o` is the operation, of this number, `way` its side, `q` the graph of the request, if one is given; `x` is what is kept at the beginning of the stream, `z` at
+-- its end; `c`, `u` are what was seen of the source, the log and the steps.
+use Rattle.std.proofs.Common.{◌≡◌, ◌≤◌, ℕ, Bool, List, [], length, map, Option, Some, None, Ok, Err, refl, ap, sym, ◌∙◌, subst}
+use Rattle.std.specs.List.{slice_get}
+use Rattle.std.proofs.lemmas.List.{length-map}
+use Rattle.nd_base.specs.declared.octets.Order.{Order}
+use Rattle.nd_base.specs.Over.{Count, HasRisen, SourceSeen}
+use Rattle.nd_types.specs.declared.types.Operation.{Operation}
+use Rattle.nd_types.specs.declared.types.Side.{Side}
+use Rattle.nd_value.specs.declared.value.Graph.{Graph}
+use Rattle.nd_value.specs.Conforms.{Conforms}
+use Rattle.nd_value.specs.Deferral.{before_pipes}
+use Rattle.nd_value.specs.Fitting.{Fitting, IsFit, IsGiven, setting_beside}
+use Rattle.nd_value.specs.Logged.{Logged}
+use Rattle.nd_value.specs.Setting.{Setting, root_list}
+use Rattle.nd_flat.specs.Building.{Building, CanClose, closed, fitting, start}
+use Rattle.nd_grammar.specs.LegalSide.{IsLegalSide}
+use Rattle.nd_grammar.specs.StreamReader.{read_start}
+use Rattle.nd_grammar.proofs.LegalSides.{operation_there}
+use Rattle.ndr_code.specs.declared.plan.Plan.{Plan}
+use Rattle.ndr_state.specs.declared.fault.DecodeFault.{DecodeFault}
+use Rattle.ndr_state.specs.declared.fault.DecodeFault.TheVariants as fault
+use Rattle.ndr_stream.specs.Between.{Begins}
+use Rattle.ndr_stream.proofs.StreamBegins.{stream_begins}
+use Rattle.ndr_verdict.specs.Verdict.{DecodingSeen, IsDecoded}
+use Rattle.ndr_kept.specs.declared.stream.Stream.{Stream}
+use Rattle.ndr_kept.specs.Seen.{between_of}
+use Rattle.ndr_decode.specs.declared.decoding.Decoded.{Decoded}
+use Rattle.ndr_decode.specs.Decoding.{IsFault}
+use Rattle.ndr_decode.specs.Piping.{EndComes}
+use Rattle.ndr_decode.specs.Streaming.{FaultOf, IsSettingOf, Purpose, WasRead, cells_of, purpose_of}
+use Rattle.ndr_decode.proofs.EndsWell.{decoded_told}
+use Rattle.ndr_decode.proofs.Reported.{fault_told}
+use Rattle.ndr_decode.proofs.Standing.{cut_off_here, idle_log, idle_source}
+
+-- what a graph is built for, by a plan
+abbrev pub purpose_by : Plan → ℕ → Side → Option Graph → Purpose
+purpose_by plan number way q = record { op = number; side = way; interface = plan.tie; given = q }
+
+-- a fit of a graph for a purpose
+abbrev fit_by : Graph → Purpose → Fitting
+fit_by g p = record { graph = g; op = p.op; side = p.side; interface = p.interface; given = p.given }
+
+-- what is kept at the beginning is for the purpose of its builder
+pub begun_for : (plan : Plan) (number : ℕ) (way : Side) (q : Option Graph) (x : Stream) (b : Building) → x.machine.builder ≡ b → b ≡ start plan.tie number way q → purpose_of x ≡ purpose_by plan number way q
+begun_for plan number way q x b e f = ap (λ (d : Building). record { op = d.op; side = d.side; interface = d.interface; given = d.given }) (e ∙ f)
+
+-- what a fit is of
+pub fit_of : (f : Fitting) (z : Stream) (p : Purpose) → f ≡ fitting z.machine.builder → purpose_of z ≡ p → (f.op ≡ p.op) × (f.side ≡ p.side) × (f.interface ≡ p.interface)
+fit_of f z p e h = (ap (λ (k : Fitting). k.op) e ∙ ap (λ (k : Purpose). k.op) h, ap (λ (k : Fitting). k.side) e ∙ ap (λ (k : Purpose). k.side) h, ap (λ (k : Fitting). k.interface) e ∙ ap (λ (k : Purpose). k.interface) h)
+
+pub fit_beside : (f : Fitting) (z : Stream) (p : Purpose) → f ≡ fitting z.machine.builder → purpose_of z ≡ p → f.given ≡ p.given
+fit_beside f z p e h = ap (λ (k : Fitting). k.given) e ∙ ap (λ (k : Purpose). k.given) h
+
+-- a fault of the source has its cause
+pub source_failed : (w : Setting) (order : Order) (n : ℕ) (c : SourceSeen) (u : DecodingSeen) (e : DecodeFault) → e ≡ fault.ReadFault → FaultOf w order [] [] n c u e → HasRisen c.faults
+source_failed w order n c u e is x = (subst (λ (k : DecodeFault). FaultOf w order [] [] n c u k) is x).1
+
+module _ (plan : Plan) (number : ℕ) (way : Side) (q : Option Graph) (o : Operation) (there : slice_get plan.tie.operations number ≡ Some o) (order : Order) where
+  abbrev pub w : Setting
+  w = setting_beside plan.tie o way q
+
+  pub legal : IsLegalSide w
+  legal = record { operations = plan.tie.operations; legal = plan.legal; operation = operation_there plan.tie.operations number o there }
+
+  pub setting : IsSettingOf plan number way w
+  setting = record { table = refl; there = there; on = refl }
+
+  pub is_fit : (z : Stream) → purpose_of z ≡ purpose_by plan number way q → Conforms w (closed z.machine.builder) → IsGiven plan.tie o way q → IsFit (fitting z.machine.builder)
+  is_fit z e conforms request =
+      subst (λ p. IsFit (fit_by (closed z.machine.builder) p)) (sym e) (record { operation = o; is_there = there; conforms = conforms; request = request })
+
+  module _ (x : Stream) (begins : Begins (between_of x)) where
+    no_cells : cells_of x ≡ 0
+    no_cells = sym (length-map x.machine.builder.graph.cells (λ c. c.of)) ∙ ap length begins.cells
+
+    -- where memory is refused before anything is read
+    pub nothing_read : (left : Option (List ℕ)) (ended : Bool) (faults : Count) (log : Logged) (steps : ℕ) → IsFault w order (idle_source left ended faults) fault.Memory (idle_log log steps)
+    nothing_read left ended faults log steps =
+        fault_told w legal order (idle_source left ended faults) (idle_log log steps) fault.Memory
+        (cut_off_here left ended faults log steps w legal order [] [] 0 (between_of x) (read_start w order []) [] [] (before_pipes (root_list w)) 0 (sym (ap length begins.cells))
+            (stream_begins w legal order (between_of x) begins))
+
+    pub side_fails : (c : SourceSeen) (u : DecodingSeen) (z : Stream) (e : DecodeFault) → EndComes w order [] [] (cells_of x) c u z (Err e) → IsFault w order c e u
+    side_fails c u z e r = fault_told w legal order c u e (subst (λ n. FaultOf w order [] [] n c u e) no_cells r)
+
+    pub side_ends : (c : SourceSeen) (u : DecodingSeen) (z : Stream) → WasRead w order [] [] (cells_of x) c u z → IsDecoded w order c z.machine.at (closed z.machine.builder) u
+    side_ends c u z r = decoded_told w legal order c u z (subst (λ n. WasRead w order [] [] n c u z) no_cells r)
+
+    pub decoded_as : (c : SourceSeen) (u : DecodingSeen) (z : Stream) (count : ℕ) (f : Fitting) → f ≡ fitting z.machine.builder → count ≡ z.machine.at → WasRead w order [] [] (cells_of x) c u z
+        → IsDecoded w order c count f.graph u
+    decoded_as c u z count f e h r =
+        subst (λ k. IsDecoded w order c k f.graph u) (sym h) (subst (λ (k : Fitting). IsDecoded w order c z.machine.at k.graph u) (sym e) (side_ends c u z r))
