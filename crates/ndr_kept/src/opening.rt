@@ -26,8 +26,7 @@ impl Stream {
         ensures begins { Begins (between_of result) }
         ensures whole { CanClose result.machine.builder }
     {
-        let mut machine = Machine::new(alloc, builder);
-        machine.at = 0;
+        let machine = Machine::new(alloc, builder);
         Stream {
             machine,
             wanted: Vec::new(alloc),
