@@ -25,6 +25,7 @@ impl Stream {
         requires no_home { builder.home ≡ None }
         ensures begins { Begins (between_of result) }
         ensures whole { CanClose result.machine.builder }
+        ensures builder { result.machine.builder ≡ builder }
     {
         let machine = Machine::new(alloc, builder);
         Stream {

@@ -18,3 +18,6 @@ returns-clause-begins c = record {
 
 pub returns-clause-whole : goal.returns-clause-whole
 returns-clause-whole c = can_close_none c.args.builder _ c.new-machine.ensures.builder c.requires.no_home
+
+pub returns-clause-builder : goal.returns-clause-builder
+returns-clause-builder c = c.new-machine.ensures.builder
