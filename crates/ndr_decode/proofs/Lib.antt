@@ -5,13 +5,16 @@ pub mod HomeComes
 pub mod OwedReads
 pub mod PaidHomes
 pub mod ParameterEnds
+pub mod PendingSoFar
 pub mod PendingTurns
 pub mod Placed
+pub mod ReferentCalls
 pub mod ReferentDone
 pub mod ReferentFails
 pub mod ReferentReads
 pub mod Reported
 pub mod RootReads
+pub mod SamePurpose
 pub mod Standing
 pub mod Tried
 pub mod WholeStays
