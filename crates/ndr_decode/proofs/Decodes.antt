@@ -1,23 +1,27 @@
 -- What a call of decode comes to.
 -- `o` is the operation, of this number, `way` its side, `q` the graph of the request, if one is given; `x` is what is kept at the beginning of the stream, `z` at
 -- its end; `c`, `u` are what was seen of the source, the log and the steps.
-use Rattle.std.proofs.Common.{◌≡◌, ◌≤◌, ℕ, Bool, List, [], length, map, Option, Some, None, Ok, Err, refl, ap, sym, ◌∙◌, subst}
+use Rattle.std.proofs.Common.{◌≡◌, ◌≤◌, ℕ, zero, suc, inl, inr, Bool, List, [], ◌∷◌, length, map, Option, Some, None, Result, Ok, Err, refl, ap, ap₂, sym, ◌∙◌, subst}
+use Rattle.std.specs.Prelude.{IfErr, IsErrAnd, IsErrOf, option_map}
 use Rattle.std.specs.List.{slice_get}
 use Rattle.std.proofs.lemmas.List.{length-map}
+use Rattle.std.proofs.lemmas.Option.{same_Some}
 use Rattle.nd_base.specs.declared.octets.Order.{Order}
 use Rattle.nd_base.specs.Over.{Count, HasRisen, SourceSeen}
 use Rattle.nd_types.specs.declared.types.Operation.{Operation}
+use Rattle.nd_types.specs.declared.interface.Interface.{Interface}
 use Rattle.nd_types.specs.declared.types.Side.{Side}
+use Rattle.nd_types.specs.declared.types.Side.TheVariants as side
 use Rattle.nd_value.specs.declared.value.Graph.{Graph}
 use Rattle.nd_value.specs.Conforms.{Conforms}
 use Rattle.nd_value.specs.Deferral.{before_pipes}
-use Rattle.nd_value.specs.Fitting.{Fitting, IsFit, IsGiven, setting_beside}
+use Rattle.nd_value.specs.Fitting.{Fitting, IsFit, IsGiven, IsGivenRequest, setting_beside, setting_of}
+use Rattle.nd_value.specs.Request.{ConformsIfGiven, IsRequest, IsRequestOf}
 use Rattle.nd_value.specs.Logged.{Logged}
-use Rattle.nd_value.specs.Setting.{Setting, root_list}
+use Rattle.nd_value.specs.Setting.{Among, Setting, root_list}
 use Rattle.nd_flat.specs.Building.{Building, CanClose, closed, fitting, start}
 use Rattle.nd_grammar.specs.LegalSide.{IsLegalSide}
 use Rattle.nd_grammar.specs.StreamReader.{read_start}
-use Rattle.nd_grammar.proofs.LegalSides.{operation_there}
 use Rattle.ndr_code.specs.declared.plan.Plan.{Plan}
 use Rattle.ndr_state.specs.declared.fault.DecodeFault.{DecodeFault}
 use Rattle.ndr_state.specs.declared.fault.DecodeFault.TheVariants as fault
@@ -53,16 +57,54 @@ fit_of f z p e h = (ap (λ (k : Fitting). k.op) e ∙ ap (λ (k : Purpose). k.op
 pub fit_beside : (f : Fitting) (z : Stream) (p : Purpose) → f ≡ fitting z.machine.builder → purpose_of z ≡ p → f.given ≡ p.given
 fit_beside f z p e h = ap (λ (k : Fitting). k.given) e ∙ ap (λ (k : Purpose). k.given) h
 
+-- ## A request
+
+no_request : (i : Interface) (o : Operation) (q : Option Graph) → IsGiven i o side.In q → q ≡ None
+no_request i o None h = refl
+no_request i o (Some g) h = let e = h.judged in cc
+
+request_fits : (i : Interface) (number : ℕ) (o : Operation) (way : Side) (f : Fitting) → slice_get i.operations number ≡ Some o → IsFit f → IsRequest i number way f
+    → IsGivenRequest i o way f.graph
+request_fits i number o way f there fit h =
+    let same : fit.operation ≡ o = same_Some _ _ (sym fit.is_there ∙ ap₂ (λ (j : Interface) n. slice_get j.operations n) h.interface h.op ∙ there) in
+    let none : f.given ≡ None = no_request f.interface fit.operation f.given (subst (λ s. IsGiven f.interface fit.operation s f.given) h.side fit.request) in
+    let setting : setting_beside f.interface fit.operation f.side f.given ≡ setting_of i o side.In = λ k. setting_beside (h.interface k) (same k) (h.side k) (none k) in
+    record { judged = h.judged; inputs = subst (λ w. Conforms w f.graph) setting fit.conforms }
+
+-- what is given is a request of the operation
+pub given_fits : {R : Type 0} (i : Interface) (number : ℕ) (o : Operation) (way : Side) (q : Option R) (fit_in : R → Fitting) → slice_get i.operations number ≡ Some o
+    → ConformsIfGiven (option_map fit_in q) → IsRequestOf i number way (option_map fit_in q) → IsGiven i o way (option_map (λ r. (fit_in r).graph) q)
+given_fits i number o way None fit_in there fit h = tt
+given_fits i number o way (Some r) fit_in there fit h = request_fits i number o way (fit_in r) there fit h
+
+-- ## Faults
+
+-- what is right of a fault is right of the answer that hands it on
+pub handed_on : {A : Type 0} (P : DecodeFault → Type 0) (r : Result A DecodeFault) (e : DecodeFault) → IsErrAnd r (λ k. k ≡ e) → P e → IfErr r P
+handed_on P (Ok a) e is p = tt
+handed_on P (Err k) e is p = subst P (sym is) p
+
+pub same_fault : {A : Type 0} (r : Result A DecodeFault) (e k : DecodeFault) → IsErrAnd r (λ j. j ≡ e) → IsErrOf r k → e ≡ k
+same_fault (Ok a) e k is h = absurd is
+same_fault (Err j) e k is h = (let x : j ≡ k = cc in sym is ∙ x)
+
 -- a fault of the source has its cause
 pub source_failed : (w : Setting) (order : Order) (n : ℕ) (c : SourceSeen) (u : DecodingSeen) (e : DecodeFault) → e ≡ fault.ReadFault → FaultOf w order [] [] n c u e → HasRisen c.faults
 source_failed w order n c u e is x = (subst (λ (k : DecodeFault). FaultOf w order [] [] n c u k) is x).1
+
+-- ## A call
+
+operation_among : (os : List Operation) (n : ℕ) (o : Operation) → slice_get os n ≡ Some o → Among os o
+operation_among [] n o e = cc
+operation_among (x ∷ os) zero o e = inl (sym (same_Some x o e))
+operation_among (x ∷ os) (suc n) o e = inr (operation_among os n o e)
 
 module _ (plan : Plan) (number : ℕ) (way : Side) (q : Option Graph) (o : Operation) (there : slice_get plan.tie.operations number ≡ Some o) (order : Order) where
   abbrev pub w : Setting
   w = setting_beside plan.tie o way q
 
   pub legal : IsLegalSide w
-  legal = record { operations = plan.tie.operations; legal = plan.legal; operation = operation_there plan.tie.operations number o there }
+  legal = record { operations = plan.tie.operations; legal = plan.legal; operation = operation_among plan.tie.operations number o there }
 
   pub setting : IsSettingOf plan number way w
   setting = record { table = refl; there = there; on = refl }

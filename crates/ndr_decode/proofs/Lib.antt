@@ -1,4 +1,5 @@
 pub mod AtRoots
+pub mod Decodes
 pub mod DirectReads
 pub mod EndsWell
 pub mod HomeComes
@@ -15,6 +16,7 @@ pub mod ReferentReads
 pub mod Reported
 pub mod RootReads
 pub mod SamePurpose
+pub mod SideReads
 pub mod Standing
 pub mod Tried
 pub mod WholeStays

@@ -2,14 +2,14 @@
 -- `x` is what is kept of the stream at its beginning, `y` after the roots, `z` after the pipes; `a`, `s` are what was seen of the source, the log and the steps
 -- over the roots, `b`, `t` over the pipes, `c`, `u` over both.
 use Rattle.std.proofs.Common.{◌≡◌, ◌≤◌, ℕ, ◌+◌, Bool, true, false, List, [], ◌∷◌, ◌++◌, length, drop, Option, Some, None, Result, Ok, Err, refl, ap, sym, ◌∙◌, subst, arith}
-use Rattle.std.specs.Prelude.{if◌then◌else◌}
+use Rattle.std.specs.Prelude.{if◌then◌else◌, IsErrAnd}
 use Rattle.std.specs.List.{slice_get}
 use Rattle.std.proofs.lemmas.Option.{same_Some}
 use Rattle.nd_base.specs.declared.octets.Order.{Order}
 use Rattle.nd_base.specs.Over.{SourceSeen}
 use Rattle.nd_types.specs.declared.types.Operation.{Operation}
 use Rattle.nd_types.specs.declared.types.Side.{Side}
-use Rattle.nd_value.specs.Agreement.{Agreement}
+use Rattle.nd_value.specs.Agreement.{Agreement, agreement}
 use Rattle.nd_value.specs.declared.item.Item.{Item}
 use Rattle.nd_value.specs.declared.value.Graph.{Graph}
 use Rattle.nd_value.specs.Setting.{Setting}
@@ -31,7 +31,8 @@ use Rattle.ndr_state.specs.declared.fault.DecodeFault.TheVariants as fault
 use Rattle.ndr_stream.specs.declared.kept.Kept.{Kept}
 use Rattle.ndr_stream.specs.declared.kept.KeptRoot.{KeptRoot}
 use Rattle.ndr_stream.specs.Calls.{Follows}
-use Rattle.ndr_stream.specs.Parameters.{TestsPass, parameter_tests}
+use Rattle.ndr_sides.specs.Tried.{given_number}
+use Rattle.ndr_stream.specs.Parameters.{TestsPass, parameter_tests, root_number, root_subject}
 use Rattle.ndr_stream.specs.Tests.{disagreement}
 use Rattle.ndr_verdict.specs.Verdict.{DecodingSeen}
 use Rattle.ndr_kept.specs.declared.stream.Stream.{Stream}
@@ -44,31 +45,42 @@ use Rattle.ndr_decode.proofs.Placed.{types_length}
 use Rattle.ndr_decode.proofs.ParameterEnds.{parameter_fails, parameters_hold}
 use Rattle.ndr_decode.proofs.Standing.{idle_log, idle_source, not_cut, refused_here, then_fault}
 
+-- ## A fault that is handed on
+
+pub end_fault : (w : Setting) (order : Order) (fetched : List ℕ) (noted : List Item) (cells : ℕ) (source : SourceSeen) (t : DecodingSeen) (z : Stream) (r : Result (Unit {0}) DecodeFault) (e : DecodeFault)
+    → IsErrAnd r (λ k. k ≡ e) → FaultOf w order fetched noted cells source t e → EndComes w order fetched noted cells source t z r
+end_fault w order fetched noted cells source t z (Ok u) e is x = absurd is
+end_fault w order fetched noted cells source t z (Err k) e is x = subst (FaultOf w order fetched noted cells source t) (sym is) x
+
 -- ## No agreement is refused for octets that do not come
 
 module _ (read : List (Option Kept)) (roots : List KeptRoot) (q : Option Graph) (place : ℕ) (why : Reason) where
+  no_reason : ◌≡◌ {A = Option (ℕ × Reason)} None (Some (place, why)) → ⊥
+  no_reason e = cc
+
   failing_other : (ags : List Agreement) (o : Option Kept) → failing ags o ≡ Some (place, why) → why ≡ reason.Truncated → ⊥
-  failing_other [] o e t = (let n : None ≡ Some (place, why) = e in cc)
-  failing_other (a ∷ others) None e t = (let n : None ≡ Some (place, why) = e in cc)
+  failing_other [] o e t = no_reason e
+  failing_other (a ∷ others) None e t = no_reason e
   failing_other (a ∷ others) (Some k) e t = not_cut a k.first k.max_at place why e t
 
   check_other : (i : Instr) → check_fails read roots q i ≡ Some (place, why) → why ≡ reason.Truncated → ⊥
-  check_other (op.Check attr i v star) e t = failing_other _ _ e t
-  check_other (op.Given attr i v star) e t = failing_other _ _ e t
-  check_other _ e t = (let n : None ≡ Some (place, why) = e in cc)
+  check_other (op.Check attr i v star) e t = failing_other (agreement attr (root_number read star (slice_get roots v))) (root_subject read (slice_get roots i)) e t
+  check_other (op.Given attr i v star) e t = failing_other (agreement attr (given_number star v q)) (root_subject read (slice_get roots i)) e t
+  check_other _ e t = no_reason e
 
   one_of : (o later : Option (ℕ × Reason)) → (o ≡ Some (place, why) → why ≡ reason.Truncated → ⊥) → (later ≡ Some (place, why) → why ≡ reason.Truncated → ⊥)
       → first_of o later ≡ Some (place, why) → why ≡ reason.Truncated → ⊥
   one_of (Some x) later own others e t = own e t
   one_of None later own others e t = others e t
 
+  where_check : (b : Bool) (i : Instr) (is : List Instr) → (checks_fail read roots q is ≡ Some (place, why) → why ≡ reason.Truncated → ⊥)
+      → (if b then first_of (check_fails read roots q i) (checks_fail read roots q is) else None) ≡ Some (place, why) → why ≡ reason.Truncated → ⊥
+  where_check true i is others e t = one_of (check_fails read roots q i) (checks_fail read roots q is) (check_other i) others e t
+  where_check false i is others e t = no_reason e
+
   pub never_cut : (is : List Instr) → checks_fail read roots q is ≡ Some (place, why) → why ≡ reason.Truncated → ⊥
-  never_cut [] e t = (let n : None ≡ Some (place, why) = e in cc)
-  never_cut (i ∷ is) e t = go (is_check i) e
-    where
-      go : (b : Bool) → (if b then first_of (check_fails read roots q i) (checks_fail read roots q is) else None) ≡ Some (place, why) → ⊥
-      go true h = one_of (check_fails read roots q i) (checks_fail read roots q is) (check_other i) (never_cut is) h t
-      go false h = (let n : None ≡ Some (place, why) = h in cc)
+  never_cut [] e t = no_reason e
+  never_cut (i ∷ is) e t = where_check (is_check i) i is (never_cut is) e t
 
 -- ## A side
 

@@ -1,6 +1,7 @@
 -- The numbers that roots of a request are, or that are in the cells that they name, can be kept: the request conforms.
 -- `t` is a type's number, `u` a value, `z` the number that it is.
-use Rattle.std.proofs.Common.{◌≡◌, ℕ, ℤ, ◌+◌, zero, suc, Bool, true, false, List, [], ◌∷◌, ◌++◌, length, map, Option, Some, None, refl, sym, ◌∙◌, subst, arith}
+use Rattle.std.proofs.Common.{◌≡◌, ℕ, ℤ, ◌+◌, zero, suc, Bool, true, false, List, [], ◌∷◌, ◌++◌, length, map, Option, Some, None, refl, ap, sym, ◌∙◌, subst, arith}
+use Rattle.std.specs.Prelude.{IfSome}
 use Rattle.std.specs.List.{AllByRecursion, list_all, slice_get}
 use Rattle.std.proofs.lemmas.Option.{same_Some}
 use Rattle.nd_types.specs.Legal.{has_small_values}
@@ -87,3 +88,10 @@ module _ (w : Setting) (small : list_all has_small_values w.table ≡ true) (g :
 -- the numbers of a fit
 pub fit_keepable : (f : Fitting) → IsFit f → (star : Bool) (v : ℕ) (z : ℤ) → starred f.graph star (root_at f.graph v) ≡ Some z → IsKeepableNumber z
 fit_keepable f k star v z is = number_kept (setting_beside f.interface k.operation f.side f.given) f.interface.legal.enumerators f.graph k.conforms star v z is
+
+pub if_keepable : (f : Fitting) (g : Graph) (o : Option ℤ) (star : Bool) (v : ℕ) → IsFit f → g ≡ f.graph → o ≡ starred g star (root_at g v) → IfSome o IsKeepableNumber
+if_keepable f g o star v k e is = go o (is ∙ ap (λ (u : Graph). starred u star (root_at u v)) e)
+  where
+    go : (o : Option ℤ) → o ≡ starred f.graph star (root_at f.graph v) → IfSome o IsKeepableNumber
+    go None h = tt
+    go (Some z) h = fit_keepable f k star v z (sym h)
