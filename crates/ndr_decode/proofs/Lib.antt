@@ -1,5 +1,7 @@
 pub mod AtRoots
+pub mod Counted
 pub mod DirectReads
+pub mod DirectRoots
 pub mod EndsWell
 pub mod HomeComes
 pub mod OwedReads
@@ -7,6 +9,7 @@ pub mod PaidHomes
 pub mod ParameterEnds
 pub mod PendingTurns
 pub mod Placed
+pub mod PlacedRoots
 pub mod ReferentDone
 pub mod ReferentFails
 pub mod ReferentReads
