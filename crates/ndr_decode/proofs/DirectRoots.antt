@@ -1,7 +1,7 @@
 -- The next root, which is a reference pointer: what a call for its referent comes to, which is read in its place.
 -- `x` is what is kept of the stream before it, `to` the type of the referent and `run` the run of its code, `c` its cell, `s1` the stream when its home is open,
 -- `s2` after its value, `s3` after it was kept; `k` is how many steps were counted before.
-use Rattle.std.proofs.Common.{◌≡◌, ◌≤◌, ◌<◌, ℕ, ◌+◌, zero, suc, Bool, List, [], ◌∷◌, ◌++◌, length, map, Option, Some, None, Result, Ok, Err, IsErrAnd, OnOk, IfErr, refl, ap, sym, ◌∙◌, subst, arith, length-append}
+use Rattle.std.proofs.Common.{◌≡◌, ◌≤◌, ◌<◌, ℕ, ◌+◌, ◌-◌, ◌*◌, ◌^◌, zero, suc, Bool, List, [], ◌∷◌, ◌++◌, length, map, Option, Some, None, Result, Ok, Err, IsErrAnd, OnOk, IfErr, refl, ap, sym, ◌∙◌, subst, arith, length-append}
 use Rattle.std.specs.Prelude.{slice_get}
 use Rattle.std.proofs.lemmas.List.{append-nil, length-map}
 use Rattle.nd_base.specs.declared.octets.Order.{Order}
@@ -18,6 +18,7 @@ use Rattle.nd_value.specs.declared.item.Home.TheVariants as home
 use Rattle.nd_value.specs.declared.item.Item.{Item}
 use Rattle.nd_value.specs.declared.value.CellId.{CellId}
 use Rattle.nd_value.specs.declared.value.Graph.{Graph}
+use Rattle.nd_value.specs.Deferral.{Pending}
 use Rattle.nd_value.specs.Logged.{Logged}
 use Rattle.nd_value.specs.Seen.{cell_number}
 use Rattle.nd_value.specs.Setting.{Setting, root_list, cell_at, cell_home, unread}
@@ -67,14 +68,27 @@ use Rattle.ndr_decode.proofs.AtRoots.{code_is, direct_is, direct_placed_safe, le
 use Rattle.ndr_decode.proofs.Counted.{fault_counted, with_steps}
 use Rattle.ndr_decode.proofs.DirectReads.{direct_fault, read}
 use Rattle.ndr_decode.proofs.HomeComes.{decoding_of}
+use Rattle.ndr_decode.proofs.PaidHomes.{paid_between, roots_within}
 use Rattle.ndr_decode.proofs.Placed.{can_close, kept_of, ran, same_pending, types_length}
-use Rattle.ndr_decode.proofs.PlacedRoots.{handed_fault, memory_fault, same_purpose}
+use Rattle.ndr_decode.proofs.PlacedRoots.{handed_fault, memory_fault}
+use Rattle.ndr_decode.proofs.SamePurpose.{same_purpose}
 use Rattle.ndr_decode.proofs.Standing.{idle_log, idle_source, took_nothing}
 
+-- what the graph is for stays as it is
 pub reference_purpose : (x s1 s2 s3 : Stream) (h : Home) (g : Graph) (c : CellId) → s1.machine.builder ≡ opened h g x.machine.builder → outside s2.machine ≡ outside s1.machine
     → (result : Result (Unit {0}) DecodeFault) → OnOk result (ReferenceEnds c s2 s3) → OnOk result (purpose_of s3 ≡ purpose_of x)
-reference_purpose x s1 s2 s3 h g c opens out (Ok u) ends = same_purpose x s1 s2 s3 h g opens out ends.cleared.builder
+reference_purpose x s1 s2 s3 h g c opens out (Ok u) ends = same_purpose h g x.machine.builder s3.machine.builder s1.machine s2.machine opens out ends.cleared.builder
 reference_purpose x s1 s2 s3 h g c opens out (Err e) ends = tt
+
+-- a cell more has its number
+pub few_cells : (w : Setting) (side : IsLegalSide w) (order : Order) (fetched : List ℕ) (noted : List Item) (direct : ℕ) (x : Stream) (s : Reading) (seen : List EntryAt) (ps : List Pending) (n : ℕ)
+    → Stands w side order fetched noted direct x s seen ps n → length x.machine.builder.graph.cells < 2 ^ 32 - 1
+few_cells w side order fetched noted direct x s seen ps n st =
+    let paid : 4 * length (between_of x).cells ≤ x.machine.at + 4 * length s.roots = paid_between w side order fetched noted direct (between_of x) s seen ps n st.agrees in
+    let roots = roots_within w side order fetched noted direct (between_of x) s seen ps n st.agrees in
+    let within = st.within in
+    let cells = types_length x.machine.builder in
+    omega (arith, paid, roots, within, cells)
 
 -- a cell that is not read changes no value
 one_cell : (to : ℕ) (s : Names) → Extends s (with_cell to s)

@@ -7,14 +7,17 @@ pub mod HomeComes
 pub mod OwedReads
 pub mod PaidHomes
 pub mod ParameterEnds
+pub mod PendingSoFar
 pub mod PendingTurns
 pub mod Placed
 pub mod PlacedRoots
+pub mod ReferentCalls
 pub mod ReferentDone
 pub mod ReferentFails
 pub mod ReferentReads
 pub mod Reported
 pub mod RootReads
+pub mod SamePurpose
 pub mod Standing
 pub mod Tried
 pub mod WholeStays

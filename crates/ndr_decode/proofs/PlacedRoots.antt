@@ -14,7 +14,7 @@ use Rattle.nd_value.specs.declared.item.Item.{Item}
 use Rattle.nd_value.specs.declared.value.Graph.{Graph}
 use Rattle.nd_value.specs.Logged.{Logged}
 use Rattle.nd_value.specs.Setting.{Setting, root_list}
-use Rattle.nd_flat.specs.Building.{Building, closed, opened, with_root}
+use Rattle.nd_flat.specs.Building.{closed, opened, with_root}
 use Rattle.nd_grammar.specs.Entry.{EntryAt}
 use Rattle.nd_grammar.specs.LegalSide.{IsLegalSide}
 use Rattle.nd_grammar.specs.Reader.{Read}
@@ -25,45 +25,32 @@ use Rattle.ndr_code.specs.Code.{root_by, whole_at}
 use Rattle.ndr_machine.specs.Reaching.{EndsFault, EndsWhole}
 use Rattle.ndr_runs.specs.Reaching.{IsSafe, Reaches}
 use Rattle.ndr_state.specs.Notes.{NotesSeen}
-use Rattle.ndr_state.specs.Seen.{Outside, outside, state_of}
+use Rattle.ndr_state.specs.Seen.{outside, state_of}
 use Rattle.ndr_state.specs.declared.fault.DecodeFault.{DecodeFault}
 use Rattle.ndr_state.specs.declared.fault.DecodeFault.TheVariants as fault
-use Rattle.ndr_state.specs.declared.machine.Machine.{Machine}
 use Rattle.ndr_steps.specs.Steps.{State}
-use Rattle.ndr_stream.specs.Between.{Between, Opens, home_target}
+use Rattle.ndr_stream.specs.Between.{Opens, home_target}
 use Rattle.ndr_stream.specs.Calls.{CutOff, TookPart}
 use Rattle.ndr_stream.specs.Report.{AreCells}
 use Rattle.ndr_stream.proofs.FewReferences.{few_now}
 use Rattle.ndr_stream.proofs.HomeFaults.{home_cut}
 use Rattle.ndr_stream.proofs.RootEnds.{root_goes}
-use Rattle.ndr_kept.specs.Seen.{IsCleared, KeepsAll, RootEnds, between_of}
+use Rattle.ndr_kept.specs.Seen.{KeepsAll, RootEnds, between_of}
 use Rattle.ndr_kept.specs.declared.stream.Stream.{Stream}
 use Rattle.ndr_verdict.specs.Verdict.{DecodingSeen, is_direct}
-use Rattle.ndr_decode.specs.Streaming.{FaultOf, HomeWhole, Purpose, Reads, Stands, cells_of, purpose_of}
+use Rattle.ndr_decode.specs.Streaming.{FaultOf, HomeWhole, Reads, Stands, cells_of, purpose_of}
 use Rattle.ndr_decode.proofs.AtRoots.{call_is, code_is, legal_is, placed_safe, planned_is, usable_is}
 use Rattle.ndr_decode.proofs.HomeComes.{decoding_of}
 use Rattle.ndr_decode.proofs.PaidHomes.{roots_kept}
 use Rattle.ndr_decode.proofs.Placed.{placed_ends, types_length}
 use Rattle.ndr_decode.proofs.RootReads.{root_fault, root_whole}
+use Rattle.ndr_decode.proofs.SamePurpose.{same_purpose}
 use Rattle.ndr_decode.proofs.Standing.{cut_off_here, idle_log, idle_source}
 
--- ## What the graph is for
-
-abbrev purpose_in : Building → Purpose
-purpose_in b = record { op = b.op; side = b.side; interface = b.interface; given = b.given }
-
-abbrev purpose_by : Outside → Purpose
-purpose_by o = record { op = o.op; side = o.side; interface = o.interface; given = o.given }
-
--- it stays the same over the value of a home
-pub same_purpose : (x s1 s2 s3 : Stream) (h : Home) (g : Graph) → s1.machine.builder ≡ opened h g x.machine.builder → outside s2.machine ≡ outside s1.machine
-    → s3.machine.builder ≡ s2.machine.builder → purpose_of s3 ≡ purpose_of x
-same_purpose x s1 s2 s3 h g opens out ends =
-    ap (λ (b : Building). purpose_in b) ends ∙ ap (λ (o : Outside). purpose_by o) out ∙ ap (λ (b : Building). purpose_in b) opens
-
+-- what the graph is for stays as it is
 pub root_purpose : (x s1 s2 s3 : Stream) (h : Home) (g : Graph) → s1.machine.builder ≡ opened h g x.machine.builder → outside s2.machine ≡ outside s1.machine
     → (result : Result (Unit {0}) DecodeFault) → OnOk result (RootEnds s2 s3) → OnOk result (purpose_of s3 ≡ purpose_of x)
-root_purpose x s1 s2 s3 h g opens out (Ok u) ends = same_purpose x s1 s2 s3 h g opens out ends.cleared.builder
+root_purpose x s1 s2 s3 h g opens out (Ok u) ends = same_purpose h g x.machine.builder s3.machine.builder s1.machine s2.machine opens out ends.cleared.builder
 root_purpose x s1 s2 s3 h g opens out (Err e) ends = tt
 
 -- ## Faults

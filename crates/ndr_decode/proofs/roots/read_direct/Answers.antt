@@ -3,14 +3,13 @@ use Rattle.nd_base.specs.Over.{count, source_seen}
 use Rattle.ndr_state.specs.Notes.{notes_seen}
 use Rattle.ndr_state.specs.Seen.{state_of}
 use Rattle.ndr_kept.specs.Seen.{between_of}
-use Rattle.ndr_decode.proofs.DirectRoots.{direct_last, direct_states, direct_stops, direct_unopened, reference_purpose}
-use Rattle.ndr_decode.proofs.PaidHomes.{few_cells}
+use Rattle.ndr_decode.proofs.DirectRoots.{few_cells, direct_last, direct_states, direct_stops, direct_unopened, reference_purpose}
 use Rattle.ndr_decode.proofs.roots.read_direct.Goals as goal
 
 pub open_reference-requires-clause-few_cells : goal.open_reference-requires-clause-few_cells
 open_reference-requires-clause-few_cells g c =
     let k = c.requires.next in
-    few_cells_of k.w k.side c.args.order k.fetched k.noted k.direct c.args.stream.now k.s k.seen [] (suc k.n) k.stands
+    few_cells k.w k.side c.args.order k.fetched k.noted k.direct c.args.stream.now k.s k.seen [] (suc k.n) k.stands
 
 pub read_home-requires : goal.read_home-requires
 read_home-requires g c =
