@@ -1,6 +1,8 @@
 pub mod AtRoots
+pub mod Counted
 pub mod Decodes
 pub mod DirectReads
+pub mod DirectRoots
 pub mod EndsWell
 pub mod HomeComes
 pub mod OwedReads
@@ -9,6 +11,7 @@ pub mod ParameterEnds
 pub mod PendingSoFar
 pub mod PendingTurns
 pub mod Placed
+pub mod PlacedRoots
 pub mod ReferentCalls
 pub mod ReferentDone
 pub mod ReferentFails
