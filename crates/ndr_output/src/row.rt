@@ -37,7 +37,16 @@ fn is_written(order: Order, prim: Prim, row: &Row<'_>) -> bool
     requires { IsRow row.now }
     ensures { result ≡ true → row.now.octets.now ≡ written_all order prim (row_numbers row.now) }
 {
-    row.of == prim && prim != Prim::Boolean && (row.order == order || width_of(prim) == 1)
+    if row.of != prim {
+        return false;
+    }
+    if prim == Prim::Boolean {
+        return false;
+    }
+    if width_of(prim) == 1 {
+        return true;
+    }
+    row.order == order
 }
 
 // The octets of the numbers of a row one by one.
