@@ -1,6 +1,6 @@
 -- Numbers side by side: their pieces, and their octets.
 use Rattle.std.proofs.Common.{◌≡◌, ◌≢◌, ◌⊎◌, inl, inr, ℕ, ◌+◌, ◌-◌, ◌*◌, ◌%◌, ◌<◌, ◌≤◌, zero, suc, ℤ, true, List, [], ◌∷◌, ◌++◌, length, take, drop, false, rules, length-append, refl, ap, ap₂, sym, ◌∙◌, subst, arith, append_assoc, append-nil, length-drop, drop-drop}
-use Rattle.std.specs.Prelude.{◌==◌, replicate}
+use Rattle.std.specs.Prelude.{◌==◌, ◌^◌, get_or, replicate}
 use Rattle.std.specs.List.{AllByRecursion}
 use Rattle.std.proofs.lemmas.List.{take_all}
 use Rattle.nd_base.specs.declared.octets.Order.{Order}
@@ -42,6 +42,10 @@ octets_dropped (suc n) (x ∷ os) h = octets_dropped n os h.1
 
 left_long : (n w : ℕ) (os : List ℕ) → length os ≡ suc n * w → length (drop w os) ≡ n * w
 left_long n w os e = length-drop w os ∙ (let h : suc n * w ≡ w + n * w = omega arith in omega (arith, e, h))
+
+pub octets_by_index : (os : List ℕ) → ((i : ℕ) → get_or os i 0 < 2 ^ 8) → AreOctets os
+octets_by_index [] h = tt
+octets_by_index (b ∷ os) h = (h 0, octets_by_index os (λ i. h (suc i)))
 
 -- what is written for numbers that were read is what they were read from
 copied : (order : Order) (p : Primitive) → p ≢ Boolean → (n : ℕ) (os : List ℕ) → length os ≡ n * width p → AreOctets os

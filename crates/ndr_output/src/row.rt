@@ -3,6 +3,7 @@ ghost use Rattle.std.specs.Prelude.{◌≡◌, ◌≢◌, ◌+◌, ◌*◌, ◌<
 ghost use Rattle.std.specs.List.{AllByRecursion};
 ghost use Rattle.nd_types.specs.declared.types.Primitive.TheVariants.{Boolean};
 ghost use Rattle.nd_types.specs.Table.{width, in_range};
+ghost use Rattle.nd_types.specs.Number.{AreOctets};
 ghost use Rattle.nd_flat.specs.FlatForm.{IsRow, row_numbers};
 ghost use Rattle.ndr_output.specs.Filling.{written_all};
 
@@ -32,11 +33,18 @@ pub(crate) fn write_row(
     write_each(order, prim, row, at, out)
 }
 
+// Octets are numbers below 256, which a clause knows only of an argument: this is compiled away.
+#[inline]
+fn are_octets(octets: &[u8])
+    ensures { AreOctets octets.now }
+{}
+
 // Whether the octets of a row are those that are written for its numbers.
 fn is_written(order: Order, prim: Prim, row: &Row<'_>) -> bool
     requires { IsRow row.now }
     ensures { result ≡ true → row.now.octets.now ≡ written_all order prim (row_numbers row.now) }
 {
+    are_octets(row.octets);
     if row.of != prim {
         return false;
     }
