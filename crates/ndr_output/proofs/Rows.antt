@@ -198,8 +198,8 @@ row_fits p [] rest h = tt
 row_fits p (z ∷ zs) rest h =
     let own : AllByRecursion FitsPiece (number_pieces p z ++ (row_pieces p zs ++ rest)) = subst (AllByRecursion FitsPiece) (append_assoc (number_pieces p z) (row_pieces p zs) rest) h in
     let figure : AllByRecursion FitsPiece (Figure p z ∷ (row_pieces p zs ++ rest)) =
-        fits_after (gap_pieces (width p)) (Figure p z ∷ (row_pieces p zs ++ rest))
-        (subst (AllByRecursion FitsPiece) (append_assoc (gap_pieces (width p)) (Figure p z ∷ []) (row_pieces p zs ++ rest)) own) in
+    fits_after (gap_pieces (width p)) (Figure p z ∷ (row_pieces p zs ++ rest))
+    (subst (AllByRecursion FitsPiece) (append_assoc (gap_pieces (width p)) (Figure p z ∷ []) (row_pieces p zs ++ rest)) own) in
     (figure.0, row_fits p zs rest figure.1)
 
 pub rest_fits : (xs ys : List Piece) → AllByRecursion FitsPiece (xs ++ ys) → AllByRecursion FitsPiece ys
@@ -223,14 +223,14 @@ module _ (o : Order) (of : Primitive) (os : List ℕ) (from next m n : ℕ) (mor
       → AllByRecursion (λ y. in_range p y ≡ true) (row_values o of n (drop from os)) → in_range p z ≡ true
   next_ranged p z is h =
       let h2 : AllByRecursion (λ y. in_range p y ≡ true) (value_of_octets o of (take (width of) (drop from os)) ∷ row_values o of m (drop next os)) =
-          subst (AllByRecursion (λ y. in_range p y ≡ true)) one_left h in
+      subst (AllByRecursion (λ y. in_range p y ≡ true)) one_left h in
       ap (in_range p) is ∙ h2.0
 
   pub rest_ranged : (p : Primitive) → AllByRecursion (λ y. in_range p y ≡ true) (row_values o of n (drop from os))
       → AllByRecursion (λ y. in_range p y ≡ true) (row_values o of m (drop next os))
   rest_ranged p h =
       let h2 : AllByRecursion (λ y. in_range p y ≡ true) (value_of_octets o of (take (width of) (drop from os)) ∷ row_values o of m (drop next os)) =
-          subst (AllByRecursion (λ y. in_range p y ≡ true)) one_left h in h2.1
+      subst (AllByRecursion (λ y. in_range p y ≡ true)) one_left h in h2.1
 
   -- the next number is written, and the others follow
   pub next_written : (order : Order) (p : Primitive) (z : ℤ) (a b whole : List ℕ) → z ≡ value_of_octets o of (take (width of) (drop from os))

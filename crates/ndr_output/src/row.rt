@@ -14,13 +14,7 @@ use nd_types::Prim;
 use ndr_prim::{read_num, width_of};
 
 // The octets of the numbers of a row as numbers of a primitive, from a place on; it gives the place after them. They are copied if they are kept as they are written.
-pub(crate) fn write_row(
-    order: Order,
-    prim: Prim,
-    row: &Row<'_>,
-    at: usize,
-    out: &mut [u8],
-) -> usize
+pub(crate) fn write_row(order: Order, prim: Prim, row: &Row<'_>, at: usize, out: &mut [u8]) -> usize
     requires whole { IsRow row.now }
     requires range { AllByRecursion (λ z. in_range prim z ≡ true) (row_numbers row.now) }
     requires room { at + row.now.count * width prim ≤ length out.old }
@@ -58,13 +52,7 @@ fn is_written(order: Order, prim: Prim, row: &Row<'_>) -> bool
 }
 
 // The octets of the numbers of a row one by one.
-fn write_each(
-    order: Order,
-    prim: Prim,
-    row: &Row<'_>,
-    at: usize,
-    out: &mut [u8],
-) -> usize
+fn write_each(order: Order, prim: Prim, row: &Row<'_>, at: usize, out: &mut [u8]) -> usize
     requires whole { IsRow row.now }
     requires range { AllByRecursion (λ z. in_range prim z ≡ true) (row_numbers row.now) }
     requires room { at + row.now.count * width prim ≤ length out.old }

@@ -19,7 +19,7 @@ write_figure-end-requires-clause-range c =
     let wide : next ≡ from + width r.of = ap (λ w. from + w) c.width_of-wide.ensures.value in
     let fits : SFits w128 c.read_num-value.result = search rules in
     let is = to_z-of_z w128 c.read_num-value.result fits ∙ c.read_num-value.ensures
-        ∙ ap (value_of_octets r.order r.of) (one_cut from next (width r.of) r.octets.now wide) in
+    ∙ ap (value_of_octets r.order r.of) (one_cut from next (width r.of) r.octets.now wide) in
     next_ranged r.order r.of r.octets.now from next m n more wide c.args.prim _ is c.loop-at.invariant.range
 
 pub loop-at-preserved : goal.loop-at-preserved
@@ -33,7 +33,7 @@ loop-at-preserved c =
     let wide : next ≡ from + width r.of = ap (λ w. from + w) c.width_of-wide.ensures.value in
     let fits : SFits w128 c.read_num-value.result = search rules in
     let is = to_z-of_z w128 c.read_num-value.result fits ∙ c.read_num-value.ensures
-        ∙ ap (value_of_octets r.order r.of) (one_cut from next (width r.of) r.octets.now wide) in
+    ∙ ap (value_of_octets r.order r.of) (one_cut from next (width r.of) r.octets.now wide) in
     let read : n * width r.of ≡ width r.of + m * width r.of = ap (λ k. k * width r.of) more ∙ omega arith in
     let room : n * width c.args.prim ≡ width c.args.prim + m * width c.args.prim = ap (λ k. k * width c.args.prim) more ∙ omega arith in
     record {

@@ -28,7 +28,7 @@ returns c = λ qs.
     let end : ℕ = at + c.gap_of.result + c.row_length.result in
     let many : length (row_numbers r) ≡ r.count = values_many r.order r.of r.count r.octets.now in
     let is : end ≡ at + gap at (width c.args.prim) + r.count * width c.args.prim =
-        ap₂ (λ g k. at + g + k) (c.gap_of.ensures ∙ ap (gap at) c.width_of.ensures.value) c.row_length.ensures in
+    ap₂ (λ g k. at + g + k) (c.gap_of.ensures ∙ ap (gap at) c.width_of.ensures.value) c.row_length.ensures in
     record {
       able = row_can c.args.prim (row_numbers r) at end r.count (names_of c.args.self.now.names.items) c.requires.some many is qs;
       same = row_same c.args.prim (row_numbers r) at end r.count (names_of c.args.self.now.names.items) c.requires.some many is qs;

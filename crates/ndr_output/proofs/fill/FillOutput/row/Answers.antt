@@ -13,7 +13,7 @@ write_gap-start-requires-clause-room c =
     let r = c.args.row.now in
     let s = c.args.self.now in
     let room = row_room c.args.prim (row_numbers r) s.at r.count c.width_of.result s.out.now _ _ c.requires.some (values_many r.order r.of r.count r.octets.now)
-        c.width_of.ensures.value c.requires.able.1.can_follow in
+    c.width_of.ensures.value c.requires.able.1.can_follow in
     omega (arith, room)
 
 pub write_row-self-requires-clause-range : goal.write_row-self-requires-clause-range
@@ -24,7 +24,7 @@ write_row-self-requires-clause-room c =
     let r = c.args.row.now in
     let s = c.args.self.now in
     let room = row_room c.args.prim (row_numbers r) s.at r.count c.width_of.result s.out.now _ _ c.requires.some (values_many r.order r.of r.count r.octets.now)
-        c.width_of.ensures.value c.requires.able.1.can_follow in
+    c.width_of.ensures.value c.requires.able.1.can_follow in
     omega (arith, room, c.write_gap-start.ensures.end, c.write_gap-start.auto.out)
 
 pub returns : goal.returns
@@ -43,7 +43,7 @@ returns c = λ qs.
     let many : length zs ≡ r.count = values_many r.order r.of r.count r.octets.now in
     let from : start ≡ s.at + gap s.at (width p) = c.write_gap-start.ensures.end ∙ ap (λ w. s.at + gap s.at w) wide in
     let zeros : take start mid ≡ take s.at os ++ replicate {A = ℕ} (gap s.at (width p)) 0 =
-        c.write_gap-start.ensures.front ∙ ap (λ w. take s.at os ++ replicate {A = ℕ} (gap s.at w) 0) wide in
+    c.write_gap-start.ensures.front ∙ ap (λ w. take s.at os ++ replicate {A = ℕ} (gap s.at w) 0) wide in
     let is = row_written s.order num p zs s.at start end r.count os mid new c.requires.some many from c.write_row-self.ensures.end zeros c.write_row-self.ensures.front in
     let long : length new ≡ length os = c.write_row-self.auto.out ∙ c.write_gap-start.auto.out in
     record {
