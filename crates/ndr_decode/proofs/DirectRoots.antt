@@ -114,9 +114,6 @@ module _ (plan : Plan) (order : Order) (to : TypeId) (run : ℕ) (x : Stream) (w
   few : direct + 1 ≤ length (direct_roots w)
   few = few_next w side order fetched noted direct (between_of x) s seen [] (suc n) st.agrees r there (ap is_direct refers)
 
-  abbrev types : List ℕ
-  types = (between_of x).cells ++ to.0 ∷ []
-
   one_more : length ((between_of x).cells ++ to.0 ∷ []) ≡ cells_of x + 1
   one_more = length-append (between_of x).cells (to.0 ∷ []) ∙ ap (λ (k : ℕ). k + 1) (types_length x.machine.builder)
 
