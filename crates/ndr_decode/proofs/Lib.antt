@@ -11,7 +11,9 @@ pub mod ReferentDone
 pub mod ReferentFails
 pub mod ReferentReads
 pub mod Reported
+pub mod RootLines
 pub mod RootReads
+pub mod RootTurns
 pub mod Standing
 pub mod Tried
 pub mod WholeStays
