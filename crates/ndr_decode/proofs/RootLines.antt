@@ -1,13 +1,14 @@
 -- The lines of a side's roots in a plan, and the instructions at the addresses in them.
 -- `plan` is a plan, `op` the number of an operation, `w` the setting of a side of it, `r` a root, `i` its number, `n` how many roots that are no pipes are left.
-use Rattle.std.proofs.Common.{◌≡◌, ◌<◌, ℕ, ◌+◌, zero, suc, Bool, true, false, List, [], ◌∷◌, length, Option, Some, None, refl, ap, sym, ◌∙◌, subst, take, arith}
+use Rattle.std.proofs.Common.{slice_index_or, ◌≡◌, ◌<◌, ℕ, ◌+◌, ◌*◌, zero, suc, Bool, true, false, List, [], ◌∷◌, length, Option, Some, None, refl, ap, sym, ◌∙◌, subst, take, arith}
 use Rattle.std.specs.List.{slice_get}
-use Rattle.std.proofs.lemmas.Option.{same_Some}
+use Rattle.std.proofs.lemmas.Option.{slice_get_read, slice_get_within}
 use Rattle.nd_types.specs.declared.types.Operation.{Operation}
 use Rattle.nd_types.specs.declared.types.Side.{Side}
-use Rattle.nd_types.specs.Roots.{Root, roots_of}
+use Rattle.nd_types.specs.Roots.{Root}
 use Rattle.nd_types.specs.Table.{Table, type_at}
 use Rattle.nd_types.specs.Walk.{root_name}
+use Rattle.nd_value.proofs.FewRoots.{item_at}
 use Rattle.nd_value.specs.Deferral.{before_pipes}
 use Rattle.nd_value.specs.Setting.{Setting, root_list}
 use Rattle.ndr_code.specs.declared.instr.Instr.{Instr}
@@ -15,10 +16,10 @@ use Rattle.ndr_code.specs.declared.instr.Instr.TheVariants as code
 use Rattle.ndr_code.specs.declared.lists.PlanLine.{PlanLine}
 use Rattle.ndr_code.specs.declared.lists.PlanLine.TheVariants as line
 use Rattle.ndr_code.specs.declared.plan.Plan.{Plan}
-use Rattle.ndr_code.specs.Code.{checks_at, code_of, root_at, root_by, root_run, value_roots}
-use Rattle.ndr_code.specs.Lines.{entries_of, line_at}
+use Rattle.ndr_code.specs.Code.{checks_at, code_of, root_at, root_by, value_roots}
+use Rattle.ndr_code.specs.Lines.{entries_of, line_at, side_number, sides_of}
 use Rattle.ndr_code.proofs.Runs.{first_at}
-use Rattle.ndr_code.proofs.SideLines.{checks_line_at, root_line_at}
+use Rattle.ndr_code.proofs.SideLines.{checks_line_at, root_line_at, start_at}
 use Rattle.ndr_code.proofs.SideRuns.{root_run_at}
 use Rattle.ndr_sides.proofs.Parted.{values_first}
 use Rattle.ndr_decode.specs.Streaming.{IsSettingOf}
@@ -145,3 +146,24 @@ module _ (plan : Plan) (op : ℕ) (side : Side) (w : Setting) (set : IsSettingOf
     none_left (suc n) e m s at is =
         let (r, there, value) = value_of i (omega (arith, e)) in
         absurd (no_checks op m _ at w.side s _ (sym (root_line i r value) ∙ ap (slice_get plan.entries) (sym here) ∙ is))
+
+-- ## What is looked up
+
+-- the first line of a side
+pub side_start : (plan : Plan) (op : ℕ) (s : Side) (k : ℕ) → k ≡ side_number s → (o : Operation) → slice_get plan.tie.operations op ≡ Some o
+    → slice_get plan.sides (op * 2 + k) ≡ Some (line_at plan.tie.types plan.tie.operations op o s)
+side_start plan op s k e o there =
+    let at : op * 2 + k ≡ 2 * op + side_number s = omega (arith, e) in
+    ap (λ (ss : List ℕ). slice_get ss (op * 2 + k)) plan.planned.sides_are
+    ∙ ap (slice_get (sides_of plan.tie.types plan.tie.operations)) at
+    ∙ start_at plan.tie.types plan.tie.operations op o there s
+
+pub side_within : (plan : Plan) (op : ℕ) (s : Side) (k : ℕ) → k ≡ side_number s → op < length plan.tie.operations → op * 2 + k < length plan.sides
+side_within plan op s k e known =
+    let (o, there) = item_at plan.tie.operations op known in
+    slice_get_within plan.sides (op * 2 + k) (line_at plan.tie.types plan.tie.operations op o s) (side_start plan op s k e o there)
+
+-- a line that was read
+pub line_read : (plan : Plan) (ls : List PlanLine) (number : ℕ) (l k : PlanLine) → ls ≡ plan.entries → number < length ls → l ≡ slice_index_or ls number l → l ≡ k
+    → slice_get plan.entries number ≡ Some k
+line_read plan ls number l k same below is e = ap (λ (xs : List PlanLine). slice_get xs number) (sym same) ∙ slice_get_read ls (length ls) number l refl below is ∙ ap Some e

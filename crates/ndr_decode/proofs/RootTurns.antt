@@ -1,11 +1,10 @@
 -- Turns of the loop over the lines of a side's roots.
 -- `cells` is how many cells had their numbers before the loop, `y` is what is kept of the stream before a turn, `z` after the root, `number` is that of the line.
-use Rattle.std.proofs.Common.{◌≡◌, ◌≤◌, ◌<◌, ℕ, ◌+◌, suc, Bool, List, [], ◌∷◌, ◌++◌, length, Option, Some, None, Result, Ok, Err, refl, ap, sym, ◌∙◌, subst, append-nil, arith}
+use Rattle.std.proofs.Common.{◌≡◌, ◌≤◌, ◌<◌, ℕ, ◌+◌, suc, Bool, List, [], ◌++◌, length, Option, Some, Result, Ok, Err, IsErrAnd, refl, ap, sym, ◌∙◌, subst, append-nil, arith}
 use Rattle.std.specs.List.{slice_get}
 use Rattle.std.proofs.lemmas.Option.{slice_get_past}
 use Rattle.nd_base.specs.declared.octets.Order.{Order}
-use Rattle.nd_base.specs.declared.TheConstants.{STREAM_LIMIT}
-use Rattle.nd_base.specs.Over.{Count, SourceSeen}
+use Rattle.nd_base.specs.Over.{Count, SourceSeen, source_seen}
 use Rattle.nd_types.specs.declared.types.Operation.{Operation}
 use Rattle.nd_types.specs.declared.types.Side.{Side}
 use Rattle.nd_types.specs.Number.{AreOctets}
@@ -28,13 +27,14 @@ use Rattle.ndr_code.specs.declared.plan.Plan.{Plan}
 use Rattle.ndr_code.specs.Code.{checks_at, root_by, value_roots}
 use Rattle.ndr_code.specs.Lines.{line_at}
 use Rattle.ndr_state.specs.declared.fault.DecodeFault.{DecodeFault}
-use Rattle.ndr_verdict.specs.Verdict.{DecodingSeen}
+use Rattle.ndr_verdict.specs.Verdict.{DecodingSeen, decoding_seen}
 use Rattle.ndr_stream.specs.Between.{Begins}
 use Rattle.ndr_stream.specs.Calls.{Follows}
 use Rattle.ndr_stream.proofs.StreamBegins.{stream_begins}
 use Rattle.ndr_kept.specs.declared.stream.Stream.{Stream}
 use Rattle.ndr_kept.specs.Seen.{between_of}
-use Rattle.ndr_decode.specs.Streaming.{FaultOf, IsAtRoot, IsSettingOf, IsStreaming, PendingReads, RootReads, Stands, WentOn, WentThrough, cells_of}
+use Rattle.ndr_decode.specs.declared.roots.Found.{Found}
+use Rattle.ndr_decode.specs.Streaming.{FaultOf, IsAtRoot, IsSettingOf, IsStreaming, PendingReads, RootReads, RootsRead, Stands, WentOn, WentThrough, cells_of}
 use Rattle.ndr_decode.proofs.RootLines.{HasNextRoot, begin_of, line_there, many_values, next_root, none_left}
 use Rattle.ndr_decode.proofs.Standing.{idle_log, idle_source, then_fault, then_went, took_nothing}
 
@@ -88,11 +88,37 @@ roots_left w legal order fetched noted direct x s seen ps n st =
     let (taken, reading) = st.agrees.state [] all in
     reading.roots_left
 
+-- a count that stays
+abbrev pub twice : ℕ → Count
+twice n = record { before = n; now = n }
+
+-- what was seen over two calls
+pub follows : {S : Type 0} (left : S → Option (List ℕ)) (ended : S → Bool) (faults : S → ℕ) (x y z : S) (f g h : Logged) (k l m : ℕ)
+    → Follows (source_seen left ended faults x y) (source_seen left ended faults y z) (source_seen left ended faults x z) (decoding_seen f g k l) (decoding_seen g h l m) (decoding_seen f h k m)
+follows left ended faults x y z f g h k l m = record {
+  before = refl;
+  middle = refl;
+  after = refl;
+  ended = refl;
+  log = refl;
+  log_middle = refl;
+  log_now = refl;
+  steps = refl;
+  steps_middle = refl;
+  steps_now = refl;
+}
+
+-- a fault that is handed on
+pub handed_on : (plan : Plan) (op : ℕ) (side : Side) (order : Order) (x : Stream) (source : SourceSeen) (t : DecodingSeen) (y : Stream) (r : Result Found DecodeFault) (e : DecodeFault) → IsErrAnd r (λ d. d ≡ e)
+    → ((w : Setting) → IsLegalSide w → IsSettingOf plan op side w → FaultOf w order [] [] (cells_of x) source t e) → RootsRead plan order op side x source t y r
+handed_on plan op side order x source t y (Ok f) e is h = absurd is
+handed_on plan op side order x source t y (Err d) e is h = λ w legal set. subst (λ (k : DecodeFault). FaultOf w order [] [] (cells_of x) source t k) (sym is) (h w legal set)
+
 module _ (plan : Plan) (op : ℕ) (side : Side) (order : Order) where
   -- at the beginning
   pub roots_begin : (x : Stream) → Begins (between_of x) → CanClose x.machine.builder → (number : ℕ)
       → ((o : Operation) → slice_get plan.tie.operations op ≡ Some o → number ≡ line_at plan.tie.types plan.tie.operations op o side)
-      → (o : Option (List ℕ)) (ended : Bool) (faults : Count) (g : Logged) (k : ℕ) → AllRest plan op side order (cells_of x) (idle_source o ended faults) (idle_log g k) x number
+      → (o : Option (List ℕ)) (ended : Bool) (faults : ℕ) (g : Logged) (k : ℕ) → AllRest plan op side order (cells_of x) (idle_source o ended (twice faults)) (idle_log g k) x number
   roots_begin x begins whole number is o ended faults g k w legal set =
       let at = begins.at in
       record {
@@ -106,7 +132,7 @@ module _ (plan : Plan) (op : ℕ) (side : Side) (order : Order) where
             seen = [];
             ps = [];
             stands = record { agrees = stream_begins w legal order (between_of x) begins; within = omega (arith, at); whole = whole };
-            took = took_nothing o ended faults g k (cells_of x);
+            took = took_nothing o ended (twice faults) g k (cells_of x);
           };
           here = ap (λ (n : ℕ). n + before_pipes (root_list w)) (begin_is plan op side w set number is);
         };
@@ -154,24 +180,26 @@ module _ (plan : Plan) (op : ℕ) (side : Side) (order : Order) where
         root_next m s name at is =
             let r = rests some.w some.legal some.set in
             let h = root_here some.w some.legal some.set r m s name at is in
-            let g = r.to.went in
-            (
+            let g = r.to.went in (
               root_by some.w.table h.r.of (type_at some.w.table h.r.of),
-              (h.instr, record {
-                w = some.w;
-                side = some.legal;
-                table = some.set.table;
-                fetched = g.octets;
-                noted = g.items;
-                direct = g.direct;
-                s = g.s;
-                seen = g.seen;
-                n = h.others;
-                stands = root_stands some.w some.legal some.set r at h;
-                r = h.r;
-                there = h.there;
-                instr = refl;
-              }),
+              (
+                h.instr,
+                record {
+                  w = some.w;
+                  side = some.legal;
+                  table = some.set.table;
+                  fetched = g.octets;
+                  noted = g.items;
+                  direct = g.direct;
+                  s = g.s;
+                  seen = g.seen;
+                  n = h.others;
+                  stands = root_stands some.w some.legal some.set r at h;
+                  r = h.r;
+                  there = h.there;
+                  instr = refl;
+                },
+              ),
             )
 
         -- no line is past the last one
