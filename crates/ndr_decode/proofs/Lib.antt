@@ -1,12 +1,17 @@
 pub mod AtRoots
+pub mod Counted
 pub mod DirectReads
+pub mod DirectRoots
 pub mod EndsWell
 pub mod HomeComes
 pub mod OwedReads
 pub mod PaidHomes
 pub mod ParameterEnds
+pub mod PendingSoFar
 pub mod PendingTurns
 pub mod Placed
+pub mod PlacedRoots
+pub mod ReferentCalls
 pub mod ReferentDone
 pub mod ReferentFails
 pub mod ReferentReads
@@ -14,6 +19,7 @@ pub mod Reported
 pub mod RootLines
 pub mod RootReads
 pub mod RootTurns
+pub mod SamePurpose
 pub mod Standing
 pub mod Tried
 pub mod WholeStays
