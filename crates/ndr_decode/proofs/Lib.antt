@@ -17,7 +17,9 @@ pub mod ReferentDone
 pub mod ReferentFails
 pub mod ReferentReads
 pub mod Reported
+pub mod RootLines
 pub mod RootReads
+pub mod RootTurns
 pub mod SamePurpose
 pub mod SideReads
 pub mod Standing
