@@ -1,4 +1,4 @@
-use Rattle.std.proofs.Common.{◌≡◌, Ok, Err, ap, sym, ◌∙◌, subst}
+use Rattle.std.proofs.Common.{◌≡◌, Ok, Err, length, ap, ◌∙◌, arith}
 use Rattle.nd_base.specs.Over.{source_seen}
 use Rattle.ndr_state.specs.Notes.{notes_seen}
 use Rattle.ndr_decode.specs.Streaming.{cells_of}
@@ -32,8 +32,8 @@ returns-in_err-read_home-clause-reads g c w side fetched noted direct s seen p p
     (home_fault c.args.plan.now c.args.order c.args.owed x c.args.cell c.requires.cell c.requires.unread c.open_cell.new.self o.opens o.builder o.home w side fetched noted
     direct s seen p ps n table st source notes _ e c.in_err-read_home.ensures.ends)
 
-pub end_cell-kept-requires : goal.end_cell-kept-requires
-end_cell-kept-requires g c =
+pub end_cell-requires : goal.end_cell-requires
+end_cell-requires g c =
     let i = c.requires.next in
     (cell_there i.w i.side c.args.order i.fetched i.noted i.direct c.args.owed c.args.stream.now i.s i.seen i.p i.ps i.n i.stands c.args.cell c.requires.cell c.requires.unread).0
 
@@ -51,7 +51,11 @@ returns-in_err-kept-clause-reads g c w side fetched noted direct s seen p ps n t
     direct s seen p ps n table st source notes m2 c.in_ok-read_home.ensures.ends e c.in_err-kept.ensures.memory)
 
 pub try_all-requires : goal.try_all-requires
-try_all-requires g c = ?
+try_all-requires g c =
+    let e : length c.as_slice.result.now ≡ length c.args.stream.now.wanted.items =
+    ap length (c.as_slice.ensures.value ∙ c.in_ok-kept.ensures.ends.others.wanted ∙ c.open_cell.ensures.kept.wanted) in
+    let l = c.requires.within in
+    omega (arith, e, l)
 
 pub returns-in_err-try_all-clause-reads : goal.returns-in_err-try_all-clause-reads
 returns-in_err-try_all-clause-reads g c w side fetched noted direct s seen p ps n table st =
