@@ -11,9 +11,9 @@ loop-turn-init g c = (
   (refl, le_refl _),
 )
 
-pub invariant_of-stream-clause-spans : goal.invariant_of-stream-clause-spans
-invariant_of-stream-clause-spans g c =
-    spans_left (length c.loop-turn.stream.wanted.items) c.loop-turn.stream.todo.items c.pop.new.self.items _ c.pop.ensures.items c.loop-turn.stream.spans
+pub invariant_of-stream : goal.invariant_of-stream
+invariant_of-stream g c =
+    record { spans = spans_left (length c.loop-turn.stream.wanted.items) c.loop-turn.stream.todo.items c.pop.new.self.items _ c.pop.ensures.items c.loop-turn.stream.spans }
 
 pub read_owed-requires-clause-next : goal.read_owed-requires-clause-next
 read_owed-requires-clause-next g c =
