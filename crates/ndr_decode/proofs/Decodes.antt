@@ -46,9 +46,12 @@ purpose_by plan number way q = record { op = number; side = way; interface = pla
 abbrev fit_by : Graph → Purpose → Fitting
 fit_by g p = record { graph = g; op = p.op; side = p.side; interface = p.interface; given = p.given }
 
--- what is kept at the beginning is for the purpose of its builder
-pub begun_for : (plan : Plan) (number : ℕ) (way : Side) (q : Option Graph) (x : Stream) (b : Building) → x.machine.builder ≡ b → b ≡ start plan.tie number way q → purpose_of x ≡ purpose_by plan number way q
-begun_for plan number way q x b e f = ap (λ (d : Building). record { op = d.op; side = d.side; interface = d.interface; given = d.given }) (e ∙ f)
+-- what is kept at the end is for the purpose of the builder at the beginning
+pub built_for : (plan : Plan) (number : ℕ) (way : Side) (q : Option Graph) (i : Interface) (x z : Stream) (b : Building) → purpose_of z ≡ purpose_of x → x.machine.builder ≡ b
+    → b ≡ start i number way q → i ≡ plan.tie → purpose_of z ≡ purpose_by plan number way q
+built_for plan number way q i x z b same e f g =
+    same ∙ ap (λ (d : Building). record { op = d.op; side = d.side; interface = d.interface; given = d.given }) (e ∙ f)
+    ∙ ap (λ (j : Interface). record { op = number; side = way; interface = j; given = q }) g
 
 -- what a fit is of
 pub fit_of : (f : Fitting) (z : Stream) (p : Purpose) → f ≡ fitting z.machine.builder → purpose_of z ≡ p → (f.op ≡ p.op) × (f.side ≡ p.side) × (f.interface ≡ p.interface)

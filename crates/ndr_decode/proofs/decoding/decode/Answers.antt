@@ -1,10 +1,9 @@
-use Rattle.std.proofs.Common.{◌≡◌, Some, refl, ap, ◌∙◌, option_map}
+use Rattle.std.proofs.Common.{◌≡◌, Some, refl, option_map}
 use Rattle.std.specs.List.{slice_get}
 use Rattle.nd_base.specs.Over.{count, source_seen}
 use Rattle.nd_types.specs.declared.types.Operation.{Operation}
 use Rattle.nd_value.proofs.FewRoots.{item_at}
 use Rattle.nd_value.specs.Fitting.{setting_beside}
-use Rattle.nd_flat.specs.Building.{start}
 use Rattle.ndr_state.specs.declared.fault.DecodeFault.TheVariants as fault
 use Rattle.ndr_verdict.specs.Verdict.{decoding_seen}
 use Rattle.ndr_decode.specs.Decoding.{IsFault}
@@ -82,7 +81,7 @@ finish-requires-clause-fits g c =
     let (o, there) = item_at p.tie.operations n c.requires.known in
     let read = c.in_ok-read_side.ensures.reads (setting_beside p.tie o s q) (call.legal p n s q o there k) (call.setting p n s q o there k) refl in
     let z = c.read_side.new.stream in
-    let purpose = c.in_ok-read_side.ensures.same ∙ call.begun_for p n s q x c.begin-builder.result c.begin-stream.ensures.builder (c.begin-builder.ensures ∙ ap (λ i. start i n s q) c.again.ensures) in
+    let purpose = call.built_for p n s q c.again.result x c.read_side.new.stream c.begin-builder.result c.in_ok-read_side.ensures.same c.begin-stream.ensures.builder c.begin-builder.ensures c.again.ensures in
     let is = call.side_ends p n s q o there k x c.begin-stream.ensures.begins a t z read in
     call.is_fit p n s q o there k z purpose is.graph.conforms (call.given_fits p.tie n o s c.args.given (λ f. f.now) there c.beside-request.ensures.conforms c.requires.request)
 
@@ -108,7 +107,7 @@ returns-clause-of g c =
     let q = option_map (λ f. f.now.graph) c.args.given in
     let k = c.args.order in
     let x = c.begin-stream.result in
-    let purpose = c.in_ok-read_side.ensures.same ∙ call.begun_for p n s q x c.begin-builder.result c.begin-stream.ensures.builder (c.begin-builder.ensures ∙ ap (λ i. start i n s q) c.again.ensures) in
+    let purpose = call.built_for p n s q c.again.result x c.read_side.new.stream c.begin-builder.result c.in_ok-read_side.ensures.same c.begin-stream.ensures.builder c.begin-builder.ensures c.again.ensures in
     call.fit_of c.finish.result.fit c.read_side.new.stream (call.purpose_by p n s q) c.finish.ensures.fit purpose
 
 pub returns-clause-beside : goal.returns-clause-beside
@@ -119,5 +118,5 @@ returns-clause-beside g c =
     let q = option_map (λ f. f.now.graph) c.args.given in
     let k = c.args.order in
     let x = c.begin-stream.result in
-    let purpose = c.in_ok-read_side.ensures.same ∙ call.begun_for p n s q x c.begin-builder.result c.begin-stream.ensures.builder (c.begin-builder.ensures ∙ ap (λ i. start i n s q) c.again.ensures) in
+    let purpose = call.built_for p n s q c.again.result x c.read_side.new.stream c.begin-builder.result c.in_ok-read_side.ensures.same c.begin-stream.ensures.builder c.begin-builder.ensures c.again.ensures in
     call.fit_beside c.finish.result.fit c.read_side.new.stream (call.purpose_by p n s q) c.finish.ensures.fit purpose

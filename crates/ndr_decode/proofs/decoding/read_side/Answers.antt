@@ -12,8 +12,8 @@ use Rattle.ndr_decode.proofs.decoding.read_side.Goals as goal
 
 pub returns-in_err-found-clause-reads : goal.returns-in_err-found-clause-reads
 returns-in_err-found-clause-reads g c w legal is beside =
-    let a = source_seen g.S.Source.left g.S.Source.ended g.S.Source.faults c.args.source.now c.read_roots-found.new.source in
-    let s = decoding_seen c.args.items.now c.read_roots-found.new.items (g.L.Ledger.number c.args.steps.now) (g.L.Ledger.number c.read_roots-found.new.steps) in
+    let a = source_seen g.S.Source.left g.S.Source.ended g.S.Source.faults c.args.source.now c.read_roots.new.source in
+    let s = decoding_seen c.args.items.now c.read_roots.new.items (g.L.Ledger.number c.args.steps.now) (g.L.Ledger.number c.read_roots.new.steps) in
     end_fault w c.args.order [] [] (cells_of c.args.stream.now) a s _ c.from_residual.result c.in_err-found.field-0.0 c.from_residual.ensures.1 (c.in_err-found.ensures.reads w legal is)
 
 pub try_parameters-requires : goal.try_parameters-requires
@@ -23,16 +23,16 @@ try_parameters-requires g c =
     let w = setting_beside p.tie o c.args.side None in
     let legal = call.legal p c.args.op c.args.side None o there c.args.order in
     let is = call.setting p c.args.op c.args.side None o there c.args.order in
-    let a = source_seen g.S.Source.left g.S.Source.ended g.S.Source.faults c.args.source.now c.read_roots-found.new.source in
-    let s = decoding_seen c.args.items.now c.read_roots-found.new.items (g.L.Ledger.number c.args.steps.now) (g.L.Ledger.number c.read_roots-found.new.steps) in
-    numbers_keepable p c.args.op c.args.side c.args.order w legal is c.args.stream.now a s c.read_roots-found.new.stream (c.in_ok-found.ensures.reads w legal is)
+    let a = source_seen g.S.Source.left g.S.Source.ended g.S.Source.faults c.args.source.now c.read_roots.new.source in
+    let s = decoding_seen c.args.items.now c.read_roots.new.items (g.L.Ledger.number c.args.steps.now) (g.L.Ledger.number c.read_roots.new.steps) in
+    numbers_keepable p c.args.op c.args.side c.args.order w legal is c.args.stream.now a s c.read_roots.new.stream (c.in_ok-found.ensures.reads w legal is)
 
 pub returns-in_err-try_parameters-clause-reads : goal.returns-in_err-try_parameters-clause-reads
 returns-in_err-try_parameters-clause-reads g c w legal is beside =
     let p = c.args.plan.now in
-    let y = c.read_roots-found.new.stream in
-    let a = source_seen g.S.Source.left g.S.Source.ended g.S.Source.faults c.args.source.now c.read_roots-found.new.source in
-    let s = decoding_seen c.args.items.now c.read_roots-found.new.items (g.L.Ledger.number c.args.steps.now) (g.L.Ledger.number c.read_roots-found.new.steps) in
+    let y = c.read_roots.new.stream in
+    let a = source_seen g.S.Source.left g.S.Source.ended g.S.Source.faults c.args.source.now c.read_roots.new.source in
+    let s = decoding_seen c.args.items.now c.read_roots.new.items (g.L.Ledger.number c.args.steps.now) (g.L.Ledger.number c.read_roots.new.steps) in
     let at = c.in_ok-found.found.checks in
     let e = c.in_err-try_parameters.field-0.0 in
     end_fault w c.args.order [] [] (cells_of c.args.stream.now) a s _ c.from_residual-in_err-try_parameters.result e c.from_residual-in_err-try_parameters.ensures.1
@@ -48,9 +48,9 @@ read_pipes-requires-clause-at g c =
     let w = setting_beside p.tie o c.args.side q in
     let legal = call.legal p c.args.op c.args.side q o there c.args.order in
     let is = call.setting p c.args.op c.args.side q o there c.args.order in
-    let y = c.read_roots-found.new.stream in
-    let a = source_seen g.S.Source.left g.S.Source.ended g.S.Source.faults c.args.source.now c.read_roots-found.new.source in
-    let s = decoding_seen c.args.items.now c.read_roots-found.new.items (g.L.Ledger.number c.args.steps.now) (g.L.Ledger.number c.read_roots-found.new.steps) in
+    let y = c.read_roots.new.stream in
+    let a = source_seen g.S.Source.left g.S.Source.ended g.S.Source.faults c.args.source.now c.read_roots.new.source in
+    let s = decoding_seen c.args.items.now c.read_roots.new.items (g.L.Ledger.number c.args.steps.now) (g.L.Ledger.number c.read_roots.new.steps) in
     let went = c.in_ok-found.ensures.reads w legal is in
     let at = c.in_ok-found.found.checks in
     at_pipes p c.args.op c.args.side c.args.order w legal is c.args.stream.now a s y went
@@ -60,12 +60,12 @@ read_pipes-requires-clause-at g c =
 pub returns-clause-reads : goal.returns-clause-reads
 returns-clause-reads g c w legal is beside =
     let p = c.args.plan.now in
-    let y = c.read_roots-found.new.stream in
-    let a = source_seen g.S.Source.left g.S.Source.ended g.S.Source.faults c.args.source.now c.read_roots-found.new.source in
-    let b = source_seen g.S.Source.left g.S.Source.ended g.S.Source.faults c.read_roots-found.new.source c.read_pipes.new.source in
+    let y = c.read_roots.new.stream in
+    let a = source_seen g.S.Source.left g.S.Source.ended g.S.Source.faults c.args.source.now c.read_roots.new.source in
+    let b = source_seen g.S.Source.left g.S.Source.ended g.S.Source.faults c.read_roots.new.source c.read_pipes.new.source in
     let z = source_seen g.S.Source.left g.S.Source.ended g.S.Source.faults c.args.source.now c.read_pipes.new.source in
-    let s = decoding_seen c.args.items.now c.read_roots-found.new.items (g.L.Ledger.number c.args.steps.now) (g.L.Ledger.number c.read_roots-found.new.steps) in
-    let t = decoding_seen c.read_roots-found.new.items c.read_pipes.new.items (g.L.Ledger.number c.read_roots-found.new.steps) (g.L.Ledger.number c.read_pipes.new.steps) in
+    let s = decoding_seen c.args.items.now c.read_roots.new.items (g.L.Ledger.number c.args.steps.now) (g.L.Ledger.number c.read_roots.new.steps) in
+    let t = decoding_seen c.read_roots.new.items c.read_pipes.new.items (g.L.Ledger.number c.read_roots.new.steps) (g.L.Ledger.number c.read_pipes.new.steps) in
     let u = decoding_seen c.args.items.now c.read_pipes.new.items (g.L.Ledger.number c.args.steps.now) (g.L.Ledger.number c.read_pipes.new.steps) in
     let went = c.in_ok-found.ensures.reads w legal is in
     let at = c.in_ok-found.found.checks in
@@ -74,4 +74,4 @@ returns-clause-reads g c w legal is beside =
     (subst (λ k. checks_fail y.cells.items y.roots.items _ (drop at k) ≡ None) c.as_slice.ensures.value c.in_ok-try_parameters.ensures)) in
     ends_after p c.args.op c.args.side c.args.order w legal is c.args.stream.now a s y went held b z t u
     (record { before = refl; middle = refl; after = refl; ended = refl; log = refl; log_middle = refl; log_now = refl; steps = refl; steps_middle = refl; steps_now = refl })
-    c.read_roots-found.ensures.later refl c.read_pipes.new.stream c.read_pipes.result c.read_pipes.ensures.reads
+    c.read_roots.ensures.later refl c.read_pipes.new.stream c.read_pipes.result c.read_pipes.ensures.reads
