@@ -114,9 +114,6 @@ module _ (plan : Plan) (order : Order) (to : TypeId) (run : ℕ) (x : Stream) (w
   few : direct + 1 ≤ length (direct_roots w)
   few = few_next w side order fetched noted direct (between_of x) s seen [] (suc n) st.agrees r there (ap is_direct refers)
 
-  abbrev types : List ℕ
-  types = (between_of x).cells ++ to.0 ∷ []
-
   one_more : length ((between_of x).cells ++ to.0 ∷ []) ≡ cells_of x + 1
   one_more = length-append (between_of x).cells (to.0 ∷ []) ∙ ap (λ (k : ℕ). k + 1) (types_length x.machine.builder)
 
@@ -185,14 +182,14 @@ module _ (plan : Plan) (order : Order) (to : TypeId) (run : ℕ) (x : Stream) (w
     so_many = ap length opens.cells ∙ one_more
 
     -- each state that is reached in its value is safe
-    pub direct_states : (more : List ℕ) (items : List Item) (y : State) → Reaches plan.values order plan.code s1.machine.home (state_of s1.machine) more items y → IsSafe plan.code y
+    pub direct_states : (added : List ℕ) (items : List Item) (y : State) → Reaches plan.values order plan.code s1.machine.home (state_of s1.machine) added items y → IsSafe plan.code y
     direct_states = direct_placed_safe plan w table side order fetched noted direct x s seen n st r there to run s1.machine instr opens at_home
 
-    within : (more : List ℕ) (items : List Item) (y : State) → Reaches plan.values order plan.code (cell_home (length s.names.cells + 1)) (state_of s1.machine) more items y
+    within : (added : List ℕ) (items : List Item) (y : State) → Reaches plan.values order plan.code (cell_home (length s.names.cells + 1)) (state_of s1.machine) added items y
         → y.at ≤ STREAM_LIMIT
-    within more items y reached =
+    within added items y reached =
         let safe : IsSafe plan.code y =
-        direct_states more items y (subst (λ (h : Home). Reaches plan.values order plan.code h (state_of s1.machine) more items y) (sym at_home) reached) in
+        direct_states added items y (subst (λ (h : Home). Reaches plan.values order plan.code h (state_of s1.machine) added items y) (sym at_home) reached) in
         safe.within
 
     -- a fault within its value
