@@ -17,6 +17,7 @@ pub mod ReferentDone
 pub mod ReferentFails
 pub mod ReferentReads
 pub mod Reported
+pub mod RootForms
 pub mod RootLines
 pub mod RootReads
 pub mod RootTurns
