@@ -6,6 +6,13 @@ pub mod OwedReads
 pub mod PaidHomes
 pub mod ParameterEnds
 pub mod PendingTurns
+pub mod PipeElements
+pub mod PipeFaults
+pub mod PipeLines
+pub mod PipeLoops
+pub mod PipeOpens
+pub mod PipeTurns
+pub mod PipesRead
 pub mod Placed
 pub mod ReferentDone
 pub mod ReferentFails
