@@ -37,11 +37,11 @@ pub record KeepsRest (x y : Stream) : Type 0 where
   pub roots : y.roots.items ≡ x.roots.items
   pub cells : y.cells.items ≡ x.cells.items
 
-abbrev kept_by : Machine → List steps.Owed → List KeptRoot → List (Option Kept) → Between
+abbrev pub kept_by : Machine → List steps.Owed → List KeptRoot → List (Option Kept) → Between
 kept_by m os roots read =
     record { at = m.at; pending = os; cells = map (λ c. c.of) m.builder.graph.cells; numbers = m.referents; roots = roots; read = read; graph = closed m.builder }
 
-same_rest : (x y : Stream) → KeepsRest x y → (os : List steps.Owed) → kept_by x.machine os x.roots.items x.cells.items ≡ kept_by y.machine os y.roots.items y.cells.items
+pub same_rest : (x y : Stream) → KeepsRest x y → (os : List steps.Owed) → kept_by x.machine os x.roots.items x.cells.items ≡ kept_by y.machine os y.roots.items y.cells.items
 same_rest x y k os =
     ap (λ (m : Machine). kept_by m os x.roots.items x.cells.items) (sym k.machine)
     ∙ ap (λ (r : List KeptRoot). kept_by y.machine os r x.cells.items) (sym k.roots)

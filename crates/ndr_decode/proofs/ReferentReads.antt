@@ -7,6 +7,8 @@ use Rattle.nd_base.specs.declared.octets.Order.{Order}
 use Rattle.nd_base.specs.declared.TheConstants.{STREAM_LIMIT}
 use Rattle.nd_base.specs.Over.{SourceSeen}
 use Rattle.nd_types.specs.declared.types.Class.TheVariants.{Full}
+use Rattle.nd_types.specs.declared.types.Operation.{Operation}
+use Rattle.nd_types.specs.Legal.{IsLegal}
 use Rattle.nd_types.specs.Number.{AreOctets}
 use Rattle.nd_value.specs.declared.item.Home.{Home}
 use Rattle.nd_value.specs.declared.item.Home.TheVariants as home
@@ -96,17 +98,16 @@ module _ (w : Setting) (side : IsLegalSide w) (order : Order) (fetched : List �
       let e : length s.names.cells ≡ cells_of x = many in
       (positive s.names.cells c.0 at_it.there.0 at_it.there.1, omega (arith, m, e))
 
-  abbrev code : List Instr
-  code = code_of w.table side.operations
-
   abbrev target : List ℕ → Read
   target = home_target w order (between_of x) seen (cell_home c.0) p.to s.names
 
-  module _ (x0 : State) (opens : Opens (whole_at w.table p.to) (between_of x) (between_of x).cells x0) (values : List EnumList) (planned : IsPlanned code values w.table) where
+  module _ (x0 : State) (opens : Opens (whole_at w.table p.to) (between_of x) (between_of x).cells x0) (values : List EnumList) (operations : List Operation)
+      (legal : IsLegal w.table operations) (code : List Instr) (code_is : code ≡ code_of w.table operations) (planned : IsPlanned code values w.table) where
     pub referent_good : Good order fetched code w.table (cell_home c.0) p.to 32 noted direct target x0
     referent_good =
-        home_begins w.table side.operations side.legal order fetched noted direct (cell_home c.0) seen s.names p.to its_usable (between_of x) ag.keeps.at (between_of x).cells x0 opens
-        (ag.keeps.told (cell_home c.0) (law.free w side order fetched noted direct (with_next o x) s seen p ps n ag c.0 is_cell new))
+        subst (λ k. Good order fetched k w.table (cell_home c.0) p.to 32 noted direct target x0) (sym code_is)
+        (home_begins w.table operations legal order fetched noted direct (cell_home c.0) seen s.names p.to its_usable (between_of x) ag.keeps.at (between_of x).cells x0 opens
+        (ag.keeps.told (cell_home c.0) (law.free w side order fetched noted direct (with_next o x) s seen p ps n ag c.0 is_cell new)))
 
     pub referent_safe : IsFine w.table 32 p.to → length fetched ≤ STREAM_LIMIT → IsPaid x0 → (more : List ℕ) (items : List Item) (y : State)
         → Reaches values order code (cell_home c.0) x0 more items y → IsSafe code y
