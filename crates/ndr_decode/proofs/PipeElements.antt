@@ -162,10 +162,10 @@ module _ (plan : Plan) (w : Setting) (legal : IsLegalSide w) (order : Order) (fe
         }
 
     -- each state that is reached is safe
-    pub elements_safe : (more : List ℕ) (xs : List Item) (y : State) → Reaches plan.values order plan.code o.home (state_of o) more xs y → IsSafe plan.code y
-    elements_safe more xs y reached =
+    pub elements_safe : (later : List ℕ) (xs : List Item) (y : State) → Reaches plan.values order plan.code o.home (state_of o) later xs y → IsSafe plan.code y
+    elements_safe later xs y reached =
         safe_in_chunk w legal plan.values order plan.code h pipe elem direct planned of_plan.there fine done after.made (suc c) (going k.at k.seen) k.names f0 after.stands.octets short n0 (state_of o) elements_good
-        pays more xs y (subst (λ u. Reaches plan.values order plan.code u (state_of o) more xs y) at_root reached)
+        pays later xs y (subst (λ u. Reaches plan.values order plan.code u (state_of o) later xs y) at_root reached)
 
     -- a fault within them is one of the stream
     pub elements_fault : (source : SourceSeen) (notes : NotesSeen) (s1 : State) (e : DecodeFault) → EndsFault plan.values order plan.code o.home (state_of o) source notes s1 e
@@ -182,12 +182,12 @@ module _ (plan : Plan) (w : Setting) (legal : IsLegalSide w) (order : Order) (fe
       ends : EndsWhole plan.values order plan.code h (state_of o) source notes (state_of z)
       ends = subst (λ u. EndsWhole plan.values order plan.code u (state_of o) source notes (state_of z)) at_root ends0
 
-      safe_here : (more : List ℕ) (xs : List Item) (y : State) → Reaches plan.values order plan.code h (state_of o) more xs y → IsSafe plan.code y
-      safe_here more xs y reached = elements_safe more xs y (subst (λ u. Reaches plan.values order plan.code u (state_of o) more xs y) (sym at_root) reached)
+      safe_here : (later : List ℕ) (xs : List Item) (y : State) → Reaches plan.values order plan.code h (state_of o) later xs y → IsSafe plan.code y
+      safe_here later xs y reached = elements_safe later xs y (subst (λ u. Reaches plan.values order plan.code u (state_of o) later xs y) (sym at_root) reached)
 
       pub read : HomeWhole order w.table h pipe direct target f0 n0 (length (state_of o).cells) source (decoding_of notes) (state_of z)
       read =
-          whole_comes plan.values order plan.code w.table h pipe 33 direct target planned f0 n0 (state_of o) elements_good source notes (state_of z) (λ more xs y reached. (safe_here more xs y reached).within) ends
+          whole_comes plan.values order plan.code w.table h pipe 33 direct target planned f0 n0 (state_of o) elements_good source notes (state_of z) (λ later xs y reached. (safe_here later xs y reached).within) ends
 
       abbrev kids : Trees
       kids = (read_list w.table (read_in_place order ((f0 ++ read.octets) ++ []) w.table h 32 0) (replicate (suc c) elem.0) (1 + node_count done) (going k.at k.seen) k.names).trees

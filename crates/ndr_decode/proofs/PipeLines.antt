@@ -1,14 +1,16 @@
 -- The lines of the pipes of a side in a plan, and the code at them.
 -- `n` is the number of the operation `o`, `s` the side, `j` the number of a pipe among the side's pipes.
-use Rattle.std.proofs.Common.{◌≡◌, ◌≤◌, ℕ, ◌+◌, zero, suc, List, [], ◌∷◌, ◌++◌, length, Option, Some, None, refl, ap, ap₂, sym, ◌∙◌, subst, arith, append_assoc, length-append, map, flat_map, take, drop, drop-drop}
-use Rattle.std.specs.Prelude.{slice_get}
+use Rattle.std.proofs.Common.{◌≡◌, ◌≤◌, ◌<◌, ℕ, ◌+◌, zero, suc, List, [], ◌∷◌, ◌++◌, length, Option, Some, None, refl, ap, ap₂, sym, ◌∙◌, subst, arith, append_assoc, length-append, map, flat_map, take, drop, drop-drop}
+use denote.Enum.Bare.{sameb}
+use Rattle.std.specs.Prelude.{false, not, slice_get, slice_index_or}
 use Rattle.std.specs.List.{AllByRecursion, enumerate_from}
 use Rattle.std.proofs.Math.Seq.{drop-append-add}
 use Rattle.std.proofs.lemmas.List.{append-nil, length-map}
 use Rattle.std.proofs.lemmas.List.FromFn.{length-enumerate_from}
-use Rattle.std.proofs.lemmas.Option.{same_Some}
+use Rattle.std.proofs.lemmas.Option.{same_Some, slice_get_read}
 use Rattle.nd_types.specs.declared.types.Operation.{Operation}
 use Rattle.nd_types.specs.declared.types.Side.{Side}
+use Rattle.nd_types.specs.contracts.types.Side as row
 use Rattle.nd_types.specs.declared.types.Side.TheVariants as way
 use Rattle.nd_types.specs.declared.types.TypeDef.TheVariants as def
 use Rattle.nd_types.specs.declared.types.TypeId.{TypeId}
@@ -218,6 +220,22 @@ module _ (plan : Plan) (n : ℕ) (s : Side) (w : Setting) (setting : IsSettingOf
   no_pipe_line name at e =
       pipes_are_all plan.tie.types plan.tie.operations n w.op setting.there s name at
       (ap (λ rs. slice_get (entries_of plan.tie.types plan.tie.operations) (first_line + length rs)) pipes_are ∙ ap (λ xs. slice_get xs (first_line + length pipes)) (sym plan.planned.entries_are) ∙ e)
+
+-- ## What the code compares
+
+-- sides that are equal by the test are the same
+pub same_side : (a b : Side) → false ≡ not (sameb row.the_type a b) → a ≡ b
+same_side way.In way.In e = refl
+same_side way.In way.Out e = cc
+same_side way.Out way.In e = cc
+same_side way.Out way.Out e = refl
+
+-- a line that was read
+pub entry_read : (plan : Plan) (ls : List PlanLine) (number : ℕ) (l : PlanLine) (n of : ℕ) (s on : Side) (name : List ℕ) (at : ℕ) → ls ≡ plan.entries → number < length plan.entries → l ≡ slice_index_or ls number l
+    → l ≡ line.Entry of on name at → of ≡ n → on ≡ s → slice_get plan.entries number ≡ Some (line.Entry n s name at)
+entry_read plan ls number l n of s on name at same below is e f g =
+    ap (λ (xs : List PlanLine). slice_get xs number) (sym same) ∙ slice_get_read ls (length plan.entries) number l (ap length (sym same)) below is
+    ∙ ap Some (e ∙ ap₂ (λ i j. line.Entry i j name at) f g)
 
 -- one instruction calls one run, and one pipe has one run of elements
 pub one_run : (code : List Instr) (at a b : ℕ) → CallsPipe code at a → CallsPipe code at b → a ≡ b

@@ -50,7 +50,7 @@ use Rattle.ndr_kept.specs.Seen.{between_of}
 use Rattle.ndr_kept.proofs.Opened.{closed_types}
 use Rattle.ndr_decode.specs.Piping.{CallsPipe, ElementsRun, EndComes, IsAtPipe, IsAtPipes, IsBefore, IsPipeBy, IsPipeLine, PipeComes}
 use Rattle.ndr_decode.specs.Streaming.{FaultOf, IsSettingOf, Stands, WasRead, cells_of}
-use Rattle.ndr_decode.proofs.PaidHomes.{paid_between, roots_within}
+use Rattle.ndr_decode.proofs.PaidHomes.{paid_between, roots_kept, roots_within}
 use Rattle.ndr_decode.proofs.PipeLines.{HasLine, first_line, no_pipe_line, one_run, pipe_line, pipes}
 use Rattle.ndr_decode.proofs.PipeOpens.{closed_roots}
 use Rattle.ndr_decode.proofs.PipeFaults.{faulty}
@@ -138,6 +138,14 @@ module _ (plan : Plan) (n : ℕ) (side : Side) (order : Order) (w : Setting) (le
       let a : length (closed x.machine.builder).roots ≡ length x.machine.builder.graph.roots = closed_roots x.machine.builder in
       let b : length (closed x.machine.builder).roots ≡ length s.roots = ap (λ (g : Graph). length g.roots) graph_now in
       let c : length s.roots + 0 ≤ 513 = roots_within w legal order fetched noted direct b0 s seen [] 0 st.agrees in
+      omega (arith, a, b, c)
+
+  -- the number of the first pipe's root
+  pub first_number : length x.roots.items ≡ length x.machine.builder.graph.roots
+  first_number =
+      let a : length (closed x.machine.builder).roots ≡ length x.machine.builder.graph.roots = closed_roots x.machine.builder in
+      let b : length (closed x.machine.builder).roots ≡ length s.roots = ap (λ (g : Graph). length g.roots) graph_now in
+      let c : length x.roots.items ≡ length s.roots = roots_kept w legal order fetched noted direct b0 s seen [] 0 st.agrees in
       omega (arith, a, b, c)
 
   before_first : IsBefore w order fetched noted direct s.names first side_pipes s.roots (pipes_due b0 hold.after s.names) x.machine
