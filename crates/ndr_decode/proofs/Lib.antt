@@ -10,6 +10,13 @@ pub mod PaidHomes
 pub mod ParameterEnds
 pub mod PendingSoFar
 pub mod PendingTurns
+pub mod PipeElements
+pub mod PipeFaults
+pub mod PipeLines
+pub mod PipeLoops
+pub mod PipeOpens
+pub mod PipeTurns
+pub mod PipesRead
 pub mod Placed
 pub mod PlacedRoots
 pub mod ReferentCalls

@@ -14,10 +14,10 @@ use Rattle.nd_types.specs.Roots.{Root}
 use Rattle.nd_types.specs.Table.{type_at}
 use Rattle.nd_value.specs.declared.item.Home.TheVariants as home
 use Rattle.nd_value.specs.declared.item.Item.{Item}
-use Rattle.nd_value.specs.Setting.{Setting, cell_at, unread}
+use Rattle.nd_value.specs.Setting.{Setting, cell_at}
 use Rattle.nd_value.specs.Tree as tree
 use Rattle.nd_value.specs.Tree.{Tree, Trees, count, flat}
-use Rattle.nd_flat.specs.Building.{Building, CanClose, closed}
+use Rattle.nd_flat.specs.Building.{Building, CanClose, closed, opened, with_root}
 use Rattle.nd_grammar.specs.Entry.{EntryAt}
 use Rattle.nd_grammar.specs.LegalSide.{IsLegalSide}
 use Rattle.nd_grammar.specs.Reader.{Names}
@@ -37,6 +37,7 @@ use Rattle.ndr_stream.specs.Parameters.{TestsPass, parameter_tests}
 use Rattle.ndr_pipes.specs.Pipes.{InPipe, InPipes, Position, at_chunk}
 use Rattle.ndr_chunks.specs.Chunks.{IsAt}
 use Rattle.ndr_kept.specs.declared.stream.Stream.{Stream}
+use Rattle.ndr_kept.specs.Ends.{HomeRan}
 use Rattle.ndr_kept.specs.Seen.{between_of}
 use Rattle.ndr_decode.specs.Streaming.{FaultOf, IsSettingOf, Purpose, Stands, WasRead, cells_of}
 
@@ -123,17 +124,18 @@ pub record IsAtPipe (plan : Plan) (order : Order) (i run : ℕ) (m : Machine) : 
 
 -- ## Within a pipe
 
--- The machine is before a chunk of the pipe that is open, of which these elements were read.
+-- The machine is before a chunk of the pipe that is open, of which these elements were read. Before the pipe, whose root is the next, this was built.
 pub record IsInPipe (w : Setting) (order : Order) (fetched : List ℕ) (noted : List Item) (direct : ℕ) (first : Names) (i : ℕ) (rs : List Root) (roots : List Tree) (elem : TypeId) (done : Trees) (k : Position) (m : Machine) : Type 0 where
   pub in_pipe : InPipe w order fetched noted direct first i rs roots elem done m.max_at 4 (at_chunk w order i elem done k) k
   pub few : direct ≤ length (direct_roots w)
   pub is_at : IsAt i k m
   pub paid : IsPaid (state_of m)
-  pub open_home : m.builder.home ≡ Some (home.Root i)
   pub nodes : m.builder.nodes ≡ (tree.Pipe, count done) ∷ flat done
-  pub many : length roots ≡ i
-  pub roots_are : m.builder.graph.roots ≡ roots ++ unread ∷ []
-  pub values : (c : ℕ) → cell_at m.builder.graph c ≡ cell_at (graph_of [] first) c
+  pub b : Building
+  pub number : length b.graph.roots ≡ i
+  pub roots_are : (closed b).roots ≡ roots
+  pub values : (c : ℕ) → cell_at (closed b) c ≡ cell_at (graph_of [] first) c
+  pub ran : HomeRan (opened (home.Root (length b.graph.roots)) (with_root (closed b)) b) m.builder
 
 -- so many elements of the pipe were read
 pub record ElementsRead (w : Setting) (order : Order) (fetched : List ℕ) (noted : List Item) (direct : ℕ) (first : Names) (i : ℕ) (rs : List Root) (roots : List Tree) (elem : TypeId) (cells : ℕ) (source : SourceSeen) (t : DecodingSeen) (m : Machine) (many : ℕ) : Type 0 where
