@@ -17,7 +17,9 @@ pub mod ReferentFails
 pub mod ReferentReads
 pub mod Reported
 pub mod RootForms
+pub mod RootLines
 pub mod RootReads
+pub mod RootTurns
 pub mod SamePurpose
 pub mod Standing
 pub mod Tried
