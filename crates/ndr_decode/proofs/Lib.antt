@@ -3,6 +3,7 @@ pub mod Counted
 pub mod DirectReads
 pub mod DirectRoots
 pub mod EndsWell
+pub mod Handed
 pub mod HomeComes
 pub mod OwedReads
 pub mod PaidHomes
