@@ -8,7 +8,7 @@ use Rattle.nd_value.specs.Setting.{Setting}
 use Rattle.ndr_state.specs.declared.fault.DecodeFault.{DecodeFault}
 use Rattle.ndr_state.specs.declared.fault.DecodeFault.TheVariants as fault
 use Rattle.ndr_verdict.specs.Verdict.{DecodingSeen}
-use Rattle.ndr_stream.specs.Calls.{CutOff, Refused, TookPart}
+use Rattle.ndr_stream.specs.Calls.{CutOff, TookPart}
 use Rattle.ndr_decode.specs.Streaming.{FaultOf}
 
 -- the same log, with so many steps counted before

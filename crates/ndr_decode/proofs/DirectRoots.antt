@@ -22,7 +22,7 @@ use Rattle.nd_value.specs.Deferral.{Pending}
 use Rattle.nd_value.specs.Logged.{Logged}
 use Rattle.nd_value.specs.Seen.{cell_number}
 use Rattle.nd_value.specs.Setting.{Setting, root_list, cell_at, cell_home, unread}
-use Rattle.nd_value.specs.Tree.{Tree, Referent, flat, more, none}
+use Rattle.nd_value.specs.Tree.{Tree}
 use Rattle.nd_value.proofs.Apart.{all_append}
 use Rattle.nd_flat.specs.Building.{Building, CanClose, closed, opened}
 use Rattle.nd_grammar.specs.Entry.{EntryAt}
@@ -67,10 +67,10 @@ use Rattle.ndr_decode.specs.Streaming.{FaultOf, HomeWhole, Reads, Stands, WentOn
 use Rattle.ndr_decode.proofs.AtRoots.{code_is, direct_is, direct_placed_safe, legal_is, planned_is}
 use Rattle.ndr_decode.proofs.Counted.{fault_counted, with_steps}
 use Rattle.ndr_decode.proofs.DirectReads.{direct_fault, read}
+use Rattle.ndr_decode.proofs.Handed.{memory_fault, reads_fault}
 use Rattle.ndr_decode.proofs.HomeComes.{decoding_of}
 use Rattle.ndr_decode.proofs.PaidHomes.{paid_between, roots_within}
 use Rattle.ndr_decode.proofs.Placed.{can_close, kept_of, ran, same_pending, types_length}
-use Rattle.ndr_decode.proofs.PlacedRoots.{handed_fault, memory_fault}
 use Rattle.ndr_decode.proofs.SamePurpose.{same_purpose}
 use Rattle.ndr_decode.proofs.Standing.{idle_log, idle_source, took_nothing}
 
@@ -146,7 +146,7 @@ module _ (plan : Plan) (order : Order) (to : TypeId) (run : ℕ) (x : Stream) (w
       let nothing : Took (idle_source o ended faults) (idle_log g k) (cells_of x) [] [] (cells_of x) = took_nothing o ended faults g k (cells_of x) in
       let part : TookPart (idle_source o ended faults) t (cells_of x) [] [] (length ((between_of x).cells ++ to.0 ∷ [])) =
       record { left = nothing.left; logged = nothing.logged; steps = omega (arith, one, m) } in
-      handed_fault w side order fetched noted (cells_of x) n (idle_source o ended faults) t y e result is
+      reads_fault w side order fetched noted (cells_of x) n (idle_source o ended faults) t y result e is
       (memory_fault w order fetched noted (cells_of x) (idle_source o ended faults) t e memory
       (record {
         octets = [];
@@ -197,7 +197,7 @@ module _ (plan : Plan) (order : Order) (to : TypeId) (run : ℕ) (x : Stream) (w
         → EndsFault plan.values order plan.code s1.machine.home (state_of s1.machine) source notes x1 e → IsErrAnd result (λ z. z ≡ e)
         → Reads w side order fetched noted (cells_of x) n source (with_steps k (decoding_of notes)) y result
     direct_stops source notes k x1 y e result one ends is =
-        handed_fault w side order fetched noted (cells_of x) n source (with_steps k (decoding_of notes)) y e result is
+        reads_fault w side order fetched noted (cells_of x) n source (with_steps k (decoding_of notes)) y result e is
         (fault_counted w order fetched noted source (decoding_of notes) k (cells_of x) one e
         (subst (λ (m : ℕ). FaultOf w order fetched noted m source (decoding_of notes) e) so_many
         (direct_fault w side order fetched noted direct (between_of x) s seen n st.agrees r there to refers (state_of s1.machine) at_whole plan.values plan.tie.operations

@@ -4,6 +4,7 @@ pub mod Decodes
 pub mod DirectReads
 pub mod DirectRoots
 pub mod EndsWell
+pub mod Handed
 pub mod HomeComes
 pub mod OwedReads
 pub mod PaidHomes

@@ -40,6 +40,7 @@ use Rattle.ndr_kept.specs.declared.stream.Stream.{Stream}
 use Rattle.ndr_verdict.specs.Verdict.{DecodingSeen, is_direct}
 use Rattle.ndr_decode.specs.Streaming.{FaultOf, HomeWhole, Reads, Stands, cells_of, purpose_of}
 use Rattle.ndr_decode.proofs.AtRoots.{call_is, code_is, legal_is, placed_safe, planned_is, usable_is}
+use Rattle.ndr_decode.proofs.Handed.{memory_fault, reads_fault}
 use Rattle.ndr_decode.proofs.HomeComes.{decoding_of}
 use Rattle.ndr_decode.proofs.PaidHomes.{roots_kept}
 use Rattle.ndr_decode.proofs.Placed.{placed_ends, types_length}
@@ -53,19 +54,6 @@ pub root_purpose : (x s1 s2 s3 : Stream) (h : Home) (g : Graph) → s1.machine.b
 root_purpose x s1 s2 s3 h g opens out (Ok u) ends = same_purpose h g x.machine.builder s3.machine.builder s1.machine s2.machine opens out ends.cleared.builder
 root_purpose x s1 s2 s3 h g opens out (Err e) ends = tt
 
--- ## Faults
-
--- what a `?` hands on
-pub handed_fault : (w : Setting) (side : IsLegalSide w) (order : Order) (fetched : List ℕ) (noted : List Item) (cells n : ℕ) (source : SourceSeen) (t : DecodingSeen) (x : Stream) (e : DecodeFault)
-    (result : Result (Unit {0}) DecodeFault) → IsErrAnd result (λ y. y ≡ e) → FaultOf w order fetched noted cells source t e → Reads w side order fetched noted cells n source t x result
-handed_fault w side order fetched noted cells n source t x e (Ok u) is f = absurd is
-handed_fault w side order fetched noted cells n source t x e (Err y) is f = subst (FaultOf w order fetched noted cells source t) (sym is) f
-
--- out of memory, where reading was cut off
-pub memory_fault : (w : Setting) (order : Order) (fetched : List ℕ) (noted : List Item) (cells : ℕ) (source : SourceSeen) (t : DecodingSeen) (e : DecodeFault) → e ≡ fault.Memory
-    → CutOff w order fetched noted cells source t → FaultOf w order fetched noted cells source t e
-memory_fault w order fetched noted cells source t e is cut = subst (FaultOf w order fetched noted cells source t) (sym is) cut
-
 -- ## The next root
 
 module _ (plan : Plan) (order : Order) (run : ℕ) (x : Stream) (w : Setting) (side : IsLegalSide w) (fetched : List ℕ) (noted : List Item) (direct : ℕ) (s : Reading) (seen : List EntryAt) (n : ℕ)
@@ -76,7 +64,7 @@ module _ (plan : Plan) (order : Order) (run : ℕ) (x : Stream) (w : Setting) (s
       → e ≡ fault.Memory → IsErrAnd result (λ z. z ≡ e)
       → Reads w side order fetched noted (cells_of x) n (idle_source o ended faults) (idle_log g k) y result
   placed_unopened o ended faults g k y e result memory is =
-      handed_fault w side order fetched noted (cells_of x) n (idle_source o ended faults) (idle_log g k) y e result is
+      reads_fault w side order fetched noted (cells_of x) n (idle_source o ended faults) (idle_log g k) y result e is
       (memory_fault w order fetched noted (cells_of x) (idle_source o ended faults) (idle_log g k) e memory
       (cut_off_here o ended faults g k w side order fetched noted direct (between_of x) s seen [] (suc n) (cells_of x) (sym (types_length x.machine.builder)) st.agrees))
 
@@ -112,7 +100,7 @@ module _ (plan : Plan) (order : Order) (run : ℕ) (x : Stream) (w : Setting) (s
         → EndsFault plan.values order plan.code s1.machine.home (state_of s1.machine) source notes x1 e → IsErrAnd result (λ z. z ≡ e)
         → Reads w side order fetched noted (cells_of x) n source (decoding_of notes) y result
     placed_fault source notes x1 y e result ends is =
-        handed_fault w side order fetched noted (cells_of x) n source (decoding_of notes) y e result is
+        reads_fault w side order fetched noted (cells_of x) n source (decoding_of notes) y result e is
         (subst (λ (k : ℕ). FaultOf w order fetched noted k source (decoding_of notes) e) so_many
         (root_fault w side order fetched noted direct (between_of x) s seen n st.agrees r there plain (usable_is plan w table side order fetched noted direct x s seen n st r there)
         (state_of s1.machine) at_whole plan.values plan.tie.operations (legal_is plan w table) plan.code (code_is plan w table) (planned_is plan w table) source notes x1 e

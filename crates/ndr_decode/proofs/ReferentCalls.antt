@@ -1,7 +1,7 @@
 -- What reading the next of the pending referents owes and comes to, by the code of a plan.
 -- `o` is the referent as code has it, `x` what was kept before it, `c` its cell, `s1` the stream when its home was open, `s2` after its value, `s3` after its cell
 -- was kept, `s4` after its pointers became pending.
-use Rattle.std.proofs.Common.{◌≡◌, ◌≤◌, ℕ, ◌+◌, ◌*◌, List, ◌∷◌, ◌++◌, length, Some, None, Result, Ok, Err, OnOk, IfErr, IsErrAnd, sym, ap, ◌∙◌, subst, arith}
+use Rattle.std.proofs.Common.{◌≡◌, ◌≤◌, ℕ, ◌+◌, ◌*◌, List, ◌∷◌, ◌++◌, length, Some, None, Result, Ok, Err, OnOk, IfErr, sym, ap, ◌∙◌, subst, arith}
 use Rattle.nd_base.specs.declared.octets.Order.{Order}
 use Rattle.nd_base.specs.declared.TheConstants.{STREAM_LIMIT}
 use Rattle.nd_base.specs.Over.{SourceSeen}
@@ -29,7 +29,6 @@ use Rattle.ndr_state.specs.declared.machine.Wanted.{Wanted}
 use Rattle.ndr_state.specs.Seen.{outside, owed_of, state_of}
 use Rattle.ndr_steps.specs.Steps.{State}
 use Rattle.ndr_machine.specs.Reaching.{EndsFault, EndsWhole}
-use Rattle.ndr_verdict.specs.Verdict.{DecodingSeen}
 use Rattle.ndr_stream.specs.declared.kept.Kept.{Kept}
 use Rattle.ndr_stream.specs.Between.{Opens, home_target, kept_at}
 use Rattle.ndr_stream.specs.Tests.{AllAgree}
@@ -46,12 +45,6 @@ use Rattle.ndr_decode.proofs.ReferentDone.{referent_done}
 use Rattle.ndr_decode.proofs.ReferentFails.{referent_cut, referent_disagrees}
 use Rattle.ndr_decode.proofs.ReferentReads.{its_usable, referent_fault, referent_safe, referent_whole, run_is}
 use Rattle.ndr_decode.proofs.SamePurpose.{same_purpose}
-
--- what is right of a fault is right of the answer that hands it on
-pub reads_fault : (w : Setting) (side : IsLegalSide w) (order : Order) (fetched : List ℕ) (noted : List Item) (cells n : ℕ) (source : SourceSeen) (t : DecodingSeen) (y : Stream)
-    (r : Result (Unit {0}) DecodeFault) (e : DecodeFault) → IsErrAnd r (λ z. z ≡ e) → FaultOf w order fetched noted cells source t e → Reads w side order fetched noted cells n source t y r
-reads_fault w side order fetched noted cells n source t y (Ok u) e is x = absurd is
-reads_fault w side order fetched noted cells n source t y (Err z) e is x = subst (λ (f : DecodeFault). FaultOf w order fetched noted cells source t f) (sym is) x
 
 module _ (plan : Plan) (order : Order) (o : Owed) (x : Stream) (c : CellId) (some : o.cell ≡ Some c) (unread : o.class ≡ Full → kept_at x.cells.items c.0 ≡ None) (s1 : Stream)
     (opens : Opens o.run (between_of x) (between_of x).cells (state_of s1.machine)) (builder : s1.machine.builder ≡ opened (cell_home c.0) (closed x.machine.builder) x.machine.builder)

@@ -4,7 +4,8 @@ use Rattle.ndr_state.specs.Notes.{notes_seen}
 use Rattle.ndr_state.specs.Seen.{state_of}
 use Rattle.ndr_decode.specs.Streaming.{cells_of}
 use Rattle.ndr_decode.proofs.HomeComes.{decoding_of}
-use Rattle.ndr_decode.proofs.ReferentCalls.{cut_then, home_fault, reads_fault, safe, same_then, settled, tried_all, tried_then}
+use Rattle.ndr_decode.proofs.Handed.{reads_fault}
+use Rattle.ndr_decode.proofs.ReferentCalls.{cut_then, home_fault, safe, same_then, settled, tried_all, tried_then}
 use Rattle.ndr_decode.proofs.ReferentReads.{cell_there}
 use Rattle.ndr_decode.proofs.worklist.read_referent.Goals as goal
 
