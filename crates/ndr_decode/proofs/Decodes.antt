@@ -125,7 +125,7 @@ module _ (plan : Plan) (number : ℕ) (way : Side) (q : Option Graph) (o : Opera
     nothing_read left ended faults log steps =
         fault_told w legal order (idle_source left ended faults) (idle_log log steps) fault.Memory
         (cut_off_here left ended faults log steps w legal order [] [] 0 (between_of x) (read_start w order []) [] [] (before_pipes (root_list w)) 0 (sym (ap length begins.cells))
-            (stream_begins w legal order (between_of x) begins))
+        (stream_begins w legal order (between_of x) begins))
 
     pub side_fails : (c : SourceSeen) (u : DecodingSeen) (z : Stream) (e : DecodeFault) → EndComes w order [] [] (cells_of x) c u z (Err e) → IsFault w order c e u
     side_fails c u z e r = fault_told w legal order c u e (subst (λ n. FaultOf w order [] [] n c u e) no_cells r)

@@ -134,8 +134,8 @@ module _ (plan : Plan) (number : ℕ) (way : Side) (order : Order) (w : Setting)
           then_fault w legal order [] [] (cells_of x) a (idle_source a.left_now a.ended a.faults) a s (idle_log s.log_now s.steps_now) s follows went.0.octets went.0.items (cells_of y) went.0.took
           none refl (fault.Bad place why)
           (refused_here a.left_now a.ended a.faults s.log_now s.steps_now w legal order went.0.octets went.0.items went.0.direct (between_of y) went.0.s went.0.seen [] 0 (cells_of y) y.machine.at place why
-              (cells_are y) ag (never_cut y.cells.items y.roots.items w.given place why (drop at plan.code) e)
-              (parameter_fails w legal order went.0.octets went.0.items went.0.direct (between_of y) went.0.s went.0.seen ag plan.code at (checks_here at here) (place, why) e))
+          (cells_are y) ag (never_cut y.cells.items y.roots.items w.given place why (drop at plan.code) e)
+          (parameter_fails w legal order went.0.octets went.0.items went.0.direct (between_of y) went.0.s went.0.seen ag plan.code at (checks_here at here) (place, why) e))
         where
           cells_are : (y : Stream) → cells_of y ≡ length (between_of y).cells
           cells_are y = sym (types_length y.machine.builder)

@@ -23,7 +23,7 @@ returns-in_err-intake-clause-fault g c =
     (source_seen g.S.Source.left g.S.Source.ended g.S.Source.faults c.args.source.now c.args.source.now) e
     (decoding_seen c.args.items.now c.args.items.now (g.L.Ledger.number c.args.steps.now) (g.L.Ledger.number c.args.steps.now))) c.from_residual.result fault.Memory c.from_residual.ensures.1
     (λ o there. call.nothing_read p n s q o there k x c.begin-stream.ensures.begins (g.S.Source.left c.args.source.now) (g.S.Source.ended c.args.source.now)
-        (count g.S.Source.faults c.args.source.now c.args.source.now) c.args.items.now (g.L.Ledger.number c.args.steps.now))
+    (count g.S.Source.faults c.args.source.now c.args.source.now) c.args.items.now (g.L.Ledger.number c.args.steps.now))
 
 pub returns-in_err-read_side-clause-fault : goal.returns-in_err-read_side-clause-fault
 returns-in_err-read_side-clause-fault g c =
@@ -39,7 +39,7 @@ returns-in_err-read_side-clause-fault g c =
     call.handed_on (λ e. (o : Operation) → slice_get p.tie.operations n ≡ Some o → IsFault (setting_beside p.tie o s q) k a e t) c.from_residual-in_err-read_side.result e
     c.from_residual-in_err-read_side.ensures.1
     (λ o there. call.side_fails p n s q o there k x c.begin-stream.ensures.begins a t c.read_side.new.stream e
-        (c.in_err-read_side.ensures.reads (setting_beside p.tie o s q) (call.legal p n s q o there k) (call.setting p n s q o there k) refl))
+    (c.in_err-read_side.ensures.reads (setting_beside p.tie o s q) (call.legal p n s q o there k) (call.setting p n s q o there k) refl))
 
 pub returns-in_err-read_side-clause-read_fault : goal.returns-in_err-read_side-clause-read_fault
 returns-in_err-read_side-clause-read_fault g c =
@@ -54,8 +54,8 @@ returns-in_err-read_side-clause-read_fault g c =
     let (o, there) = item_at p.tie.operations n c.requires.known in
     let e = c.in_err-read_side.field-0.0 in
     λ is. call.source_failed (setting_beside p.tie o s q) k (cells_of x) a t e
-        (call.same_fault c.from_residual-in_err-read_side.result e fault.ReadFault c.from_residual-in_err-read_side.ensures.1 is)
-        (c.in_err-read_side.ensures.reads (setting_beside p.tie o s q) (call.legal p n s q o there k) (call.setting p n s q o there k) refl)
+    (call.same_fault c.from_residual-in_err-read_side.result e fault.ReadFault c.from_residual-in_err-read_side.ensures.1 is)
+    (c.in_err-read_side.ensures.reads (setting_beside p.tie o s q) (call.legal p n s q o there k) (call.setting p n s q o there k) refl)
 
 pub finish-requires-clause-whole : goal.finish-requires-clause-whole
 finish-requires-clause-whole g c =
@@ -97,7 +97,7 @@ returns-clause-decoded g c =
     let t = decoding_seen c.args.items.now c.read_side.new.items (g.L.Ledger.number c.args.steps.now) (g.L.Ledger.number c.read_side.new.steps) in
     let z = c.read_side.new.stream in
     λ o there. call.decoded_as p n s q o there k x c.begin-stream.ensures.begins a t z c.finish.result.taken c.finish.result.fit c.finish.ensures.fit c.finish.ensures.taken
-        (c.in_ok-read_side.ensures.reads (setting_beside p.tie o s q) (call.legal p n s q o there k) (call.setting p n s q o there k) refl)
+    (c.in_ok-read_side.ensures.reads (setting_beside p.tie o s q) (call.legal p n s q o there k) (call.setting p n s q o there k) refl)
 
 pub returns-clause-of : goal.returns-clause-of
 returns-clause-of g c =
