@@ -25,7 +25,7 @@ try_parameters-requires g c =
     let is = call.setting p c.args.op c.args.side None o there c.args.order in
     let a = source_seen g.S.Source.left g.S.Source.ended g.S.Source.faults c.args.source.now c.read_roots.new.source in
     let s = decoding_seen c.args.items.now c.read_roots.new.items (g.L.Ledger.number c.args.steps.now) (g.L.Ledger.number c.read_roots.new.steps) in
-    numbers_keepable p c.args.op c.args.side c.args.order w legal is c.args.stream.now a s c.read_roots.new.stream (c.in_ok-found.ensures.reads w legal is)
+    record { numbers = numbers_keepable p c.args.op c.args.side c.args.order w legal is c.args.stream.now a s c.read_roots.new.stream (c.in_ok-found.ensures.reads w legal is) }
 
 pub returns-in_err-try_parameters-clause-reads : goal.returns-in_err-try_parameters-clause-reads
 returns-in_err-try_parameters-clause-reads g c w legal is beside =
@@ -38,7 +38,7 @@ returns-in_err-try_parameters-clause-reads g c w legal is beside =
     end_fault w c.args.order [] [] (cells_of c.args.stream.now) a s _ c.from_residual-in_err-try_parameters.result e c.from_residual-in_err-try_parameters.ensures.1
     (refused_by p c.args.op c.args.side c.args.order w legal is c.args.stream.now a s y (c.in_ok-found.ensures.reads w legal is) at (c.in_ok-found.ensures.found w.op is.there).0 e
     (subst (λ q. IsTried (checks_fail y.cells.items y.roots.items q (drop at p.code)) (Err e)) (sym beside)
-    (subst (λ k. IsTried (checks_fail y.cells.items y.roots.items _ (drop at k)) (Err e)) c.as_slice.ensures.value c.in_err-try_parameters.ensures)))
+    (subst (λ k. IsTried (checks_fail y.cells.items y.roots.items _ (drop at k)) (Err e)) c.as_slice.ensures c.in_err-try_parameters.ensures)))
 
 pub read_pipes-requires-clause-at : goal.read_pipes-requires-clause-at
 read_pipes-requires-clause-at g c =
@@ -55,7 +55,7 @@ read_pipes-requires-clause-at g c =
     let at = c.in_ok-found.found.checks in
     at_pipes p c.args.op c.args.side c.args.order w legal is c.args.stream.now a s y went
     (hold_after p c.args.op c.args.side c.args.order w legal is c.args.stream.now a s y went at (c.in_ok-found.ensures.found o there).0
-    (subst (λ k. checks_fail y.cells.items y.roots.items q (drop at k) ≡ None) c.as_slice.ensures.value c.in_ok-try_parameters.ensures))
+    (subst (λ k. checks_fail y.cells.items y.roots.items q (drop at k) ≡ None) c.as_slice.ensures c.in_ok-try_parameters.ensures))
 
 pub returns-clause-reads : goal.returns-clause-reads
 returns-clause-reads g c w legal is beside =
@@ -71,7 +71,7 @@ returns-clause-reads g c w legal is beside =
     let at = c.in_ok-found.found.checks in
     let held = hold_after p c.args.op c.args.side c.args.order w legal is c.args.stream.now a s y went at (c.in_ok-found.ensures.found w.op is.there).0
     (subst (λ q. checks_fail y.cells.items y.roots.items q (drop at p.code) ≡ None) (sym beside)
-    (subst (λ k. checks_fail y.cells.items y.roots.items _ (drop at k) ≡ None) c.as_slice.ensures.value c.in_ok-try_parameters.ensures)) in
+    (subst (λ k. checks_fail y.cells.items y.roots.items _ (drop at k) ≡ None) c.as_slice.ensures c.in_ok-try_parameters.ensures)) in
     ends_after p c.args.op c.args.side c.args.order w legal is c.args.stream.now a s y went held b z t u
     (record { before = refl; middle = refl; after = refl; ended = refl; log = refl; log_middle = refl; log_now = refl; steps = refl; steps_middle = refl; steps_now = refl })
     c.read_roots.ensures.later refl c.read_pipes.new.stream c.read_pipes.result c.read_pipes.ensures.reads
