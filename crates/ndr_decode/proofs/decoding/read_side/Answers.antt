@@ -38,7 +38,7 @@ returns-in_err-try_parameters-clause-reads g c w legal is beside =
     end_fault w c.args.order [] [] (cells_of c.args.stream.now) a s _ c.from_residual-in_err-try_parameters.result e c.from_residual-in_err-try_parameters.ensures.1
     (refused_by p c.args.op c.args.side c.args.order w legal is c.args.stream.now a s y (c.in_ok-found.ensures.reads w legal is) at (c.in_ok-found.ensures.found w.op is.there).0 e
     (subst (λ q. IsTried (checks_fail y.cells.items y.roots.items q (drop at p.code)) (Err e)) (sym beside)
-    (subst (λ k. IsTried (checks_fail y.cells.items y.roots.items _ (drop at k)) (Err e)) c.as_slice.ensures c.in_err-try_parameters.ensures)))
+    (subst (λ k. IsTried (checks_fail y.cells.items y.roots.items (option_map (λ f. f.now.graph) c.args.given) (drop at k)) (Err e)) c.as_slice.ensures c.in_err-try_parameters.ensures)))
 
 pub read_pipes-requires-clause-at : goal.read_pipes-requires-clause-at
 read_pipes-requires-clause-at g c =
@@ -71,7 +71,7 @@ returns-clause-reads g c w legal is beside =
     let at = c.in_ok-found.found.checks in
     let held = hold_after p c.args.op c.args.side c.args.order w legal is c.args.stream.now a s y went at (c.in_ok-found.ensures.found w.op is.there).0
     (subst (λ q. checks_fail y.cells.items y.roots.items q (drop at p.code) ≡ None) (sym beside)
-    (subst (λ k. checks_fail y.cells.items y.roots.items _ (drop at k) ≡ None) c.as_slice.ensures c.in_ok-try_parameters.ensures)) in
+    (subst (λ k. checks_fail y.cells.items y.roots.items (option_map (λ f. f.now.graph) c.args.given) (drop at k) ≡ None) c.as_slice.ensures c.in_ok-try_parameters.ensures)) in
     ends_after p c.args.op c.args.side c.args.order w legal is c.args.stream.now a s y went held b z t u
     (record { before = refl; middle = refl; after = refl; ended = refl; log = refl; log_middle = refl; log_now = refl; steps = refl; steps_middle = refl; steps_now = refl })
     c.read_roots.ensures.later refl c.read_pipes.new.stream c.read_pipes.result c.read_pipes.ensures.reads
