@@ -23,7 +23,10 @@ pub mod ReferentDone
 pub mod ReferentFails
 pub mod ReferentReads
 pub mod Reported
+pub mod RootForms
+pub mod RootLines
 pub mod RootReads
+pub mod RootTurns
 pub mod SamePurpose
 pub mod Standing
 pub mod Tried

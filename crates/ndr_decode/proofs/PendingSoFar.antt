@@ -1,7 +1,7 @@
 -- The loop over the pending referents: what was read so far.
 -- `x` is what was kept of the stream before the loop, `y` before a turn, `y'` the same without the next of the pending referents, `o` that referent, `z` after it
 -- was read; 0, 1 and 2 number what was seen before the loop, before the turn and after it.
-use Rattle.std.proofs.Common.{◌≡◌, ◌≤◌, ℕ, Bool, List, [], ◌∷◌, ◌++◌, length, map, Option, Result, Ok, Err, refl, sym, ap, ◌∙◌, subst}
+use Rattle.std.proofs.Common.{◌≡◌, ◌≤◌, ℕ, ◌+◌, Bool, List, [], ◌∷◌, ◌++◌, length, Option, Result, Ok, Err, IsErrAnd, refl, sym, ap, ◌∙◌, subst}
 use Rattle.std.specs.List.{AllByRecursion}
 use Rattle.nd_base.specs.declared.octets.Order.{Order}
 use Rattle.nd_base.specs.declared.TheConstants.{STREAM_LIMIT}
@@ -193,3 +193,10 @@ module _ (plan : Plan) (order : Order) (x y : Stream) (l0 l1 : Option (List ℕ)
           then_fault w side order fetched noted (cells_of x) first second both (decoding_seen g0 g1 k0 k1) (decoding_seen g1 g2 k1 k2) (decoding_seen g0 g2 k0 k2) follow g.octets g.items
           (cells_of y) g.took later refl e
           (subst (λ (m : Machine). FaultOf w order (fetched ++ g.octets) (noted ++ g.items) (length m.builder.graph.cells) second (decoding_seen g1 g2 k1 k2) e) keeps.machine fails)
+
+-- what is right of a fault is right of the answer that hands it on
+pub pending_fault : (plan : Plan) (order : Order) (x : Stream) (source : SourceSeen) (t : DecodingSeen) (y : Stream) (r : Result (Unit {0}) DecodeFault) (e : DecodeFault) → IsErrAnd r (λ z. z ≡ e)
+    → PendingReads plan order x source t y (Err e) → PendingReads plan order x source t y r
+pending_fault plan order x source t y (Ok u) e is f w side fetched noted direct s seen ps n table st = absurd is
+pending_fault plan order x source t y (Err z) e is f w side fetched noted direct s seen ps n table st =
+    subst (λ (q : DecodeFault). FaultOf w order fetched noted (cells_of x) source t q) (sym is) (f w side fetched noted direct s seen ps n table st)

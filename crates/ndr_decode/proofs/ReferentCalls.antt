@@ -1,7 +1,7 @@
 -- What reading the next of the pending referents owes and comes to, by the code of a plan.
 -- `o` is the referent as code has it, `x` what was kept before it, `c` its cell, `s1` the stream when its home was open, `s2` after its value, `s3` after its cell
 -- was kept, `s4` after its pointers became pending.
-use Rattle.std.proofs.Common.{◌≡◌, ◌≤◌, ◌<◌, ℕ, ◌+◌, ◌*◌, List, [], ◌∷◌, ◌++◌, length, map, Option, Some, None, Result, Ok, Err, OnOk, IfErr, IsErrAnd, refl, sym, ap, ◌∙◌, subst, arith}
+use Rattle.std.proofs.Common.{◌≡◌, ◌≤◌, ℕ, ◌+◌, ◌*◌, List, ◌∷◌, ◌++◌, length, Some, None, Result, Ok, Err, OnOk, IfErr, IsErrAnd, sym, ap, ◌∙◌, subst, arith}
 use Rattle.nd_base.specs.declared.octets.Order.{Order}
 use Rattle.nd_base.specs.declared.TheConstants.{STREAM_LIMIT}
 use Rattle.nd_base.specs.Over.{SourceSeen}
@@ -11,7 +11,7 @@ use Rattle.nd_value.specs.declared.item.Item.{Item}
 use Rattle.nd_value.specs.declared.value.CellId.{CellId}
 use Rattle.nd_value.specs.Deferral.{Pending}
 use Rattle.nd_value.specs.Setting.{Setting, cell_home}
-use Rattle.nd_flat.specs.Building.{Building, closed, opened}
+use Rattle.nd_flat.specs.Building.{closed, opened}
 use Rattle.nd_grammar.specs.Entry.{EntryAt}
 use Rattle.nd_grammar.specs.LegalSide.{IsLegalSide}
 use Rattle.nd_grammar.specs.StreamReader.{Reading}
@@ -133,7 +133,7 @@ module _ (plan : Plan) (order : Order) (o : Owed) (x : Stream) (c : CellId) (som
       → EndsWhole plan.values order plan.code s1.machine.home (state_of s1.machine) source notes (state_of s2.machine) → (r : Result (Unit {0}) DecodeFault)
       → OnOk r (pending_in s4.wanted.items s4.todo.items ≡ (state_of s3.machine).fresh ++ pending_in s3.wanted.items s3.todo.items) → OnOk r (IsCleared s3.machine s4.machine)
       → KeepsHomes s3 s4 → IfErr r (λ e. e ≡ fault.Memory) → (w : Setting) (side : IsLegalSide w) (fetched : List ℕ) (noted : List Item) (direct : ℕ) (s : Reading) (seen : List EntryAt)
-          (p : Pending) (ps : List Pending) (n : ℕ) → w.table ≡ plan.tie.types → StandsWith w side order fetched noted direct o x s seen p ps n
+      (p : Pending) (ps : List Pending) (n : ℕ) → w.table ≡ plan.tie.types → StandsWith w side order fetched noted direct o x s seen p ps n
       → Reads w side order fetched noted (cells_of x) n source (decoding_of notes) s4 r
   settled {s2} {s3} s4 k kept own keeps out agree source notes ends (Ok u) pending cleared homes memory w side fetched noted direct s seen p ps n table st =
       referent_done w side order fetched noted direct o x s seen p ps n st c some unread source (decoding_of notes) s1 s2 builder opens.cells keeps out

@@ -1,6 +1,6 @@
 -- What a graph is for stays as it is while a home is read.
 -- `b` is what was built before the home, `m` the machine when the home is open and `n` after its value, `d` what is built after the home was kept.
-use Rattle.std.proofs.Common.{◌≡◌, ap, sym, ◌∙◌}
+use Rattle.std.proofs.Common.{◌≡◌, ap, ◌∙◌}
 use Rattle.nd_value.specs.declared.item.Home.{Home}
 use Rattle.nd_value.specs.declared.value.Graph.{Graph}
 use Rattle.nd_flat.specs.Building.{Building, opened}

@@ -160,7 +160,7 @@ not_cut a f m place why e t = go (int_eq a.wanted (first_found a.attr f)) (place
 -- what a call comes to after another one that went on
 module _ (w : Setting) (side : IsLegalSide w) (order : Order) (fetched : List ℕ) (noted : List Item) (n0 : ℕ) (a b c : SourceSeen) (s t u : DecodingSeen) (f : Follows a b c s t u)
     (octets : List ℕ) (xs : List Item) (n1 : ℕ) (took : Took a s n0 octets xs n1) where
-  pub then_went : (x : Stream) (n : ℕ) → WentOn w side order (fetched ++ octets) (noted ++ xs) n1 b t x n → WentOn w side order fetched noted n0 c u x n
+  abbrev pub then_went : (x : Stream) (n : ℕ) → WentOn w side order (fetched ++ octets) (noted ++ xs) n1 b t x n → WentOn w side order fetched noted n0 c u x n
   then_went x n g = record {
     octets = octets ++ g.octets;
     items = xs ++ g.items;

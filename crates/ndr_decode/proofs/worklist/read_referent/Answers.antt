@@ -1,6 +1,7 @@
-use Rattle.std.proofs.Common.{◌≡◌, Ok, Err, ap, sym, ◌∙◌, subst}
+use Rattle.std.proofs.Common.{◌≡◌, Ok, Err, length, ap, ◌∙◌, arith}
 use Rattle.nd_base.specs.Over.{source_seen}
 use Rattle.ndr_state.specs.Notes.{notes_seen}
+use Rattle.ndr_state.specs.Seen.{state_of}
 use Rattle.ndr_decode.specs.Streaming.{cells_of}
 use Rattle.ndr_decode.proofs.HomeComes.{decoding_of}
 use Rattle.ndr_decode.proofs.ReferentCalls.{cut_then, home_fault, reads_fault, safe, same_then, settled, tried_all, tried_then}
@@ -16,8 +17,10 @@ pub read_home-requires : goal.read_home-requires
 read_home-requires g c =
     let i = c.requires.next in
     let o = c.open_cell.ensures in
-    safe c.args.plan.now c.args.order c.args.owed c.args.stream.now c.args.cell c.requires.cell c.requires.unread c.open_cell.new.self o.opens o.builder o.home i.w i.side i.fetched i.noted
-    i.direct i.s i.seen i.p i.ps i.n i.table i.stands
+    record {
+      safe = safe c.args.plan.now c.args.order c.args.owed c.args.stream.now c.args.cell c.requires.cell c.requires.unread c.open_cell.new.self o.opens o.builder o.home i.w i.side i.fetched
+          i.noted i.direct i.s i.seen i.p i.ps i.n i.table i.stands;
+    }
 
 pub returns-in_err-read_home-clause-reads : goal.returns-in_err-read_home-clause-reads
 returns-in_err-read_home-clause-reads g c w side fetched noted direct s seen p ps n table st =
@@ -30,12 +33,15 @@ returns-in_err-read_home-clause-reads g c w side fetched noted direct s seen p p
     let e = c.in_err-read_home.field-0.0 in
     reads_fault w side c.args.order fetched noted (cells_of x) n source (decoding_of notes) _ c.from_residual.result e c.from_residual.ensures.1
     (home_fault c.args.plan.now c.args.order c.args.owed x c.args.cell c.requires.cell c.requires.unread c.open_cell.new.self o.opens o.builder o.home w side fetched noted
-    direct s seen p ps n table st source notes _ e c.in_err-read_home.ensures.ends)
+    direct s seen p ps n table st source notes (state_of m2) e c.in_err-read_home.ensures.ends)
 
-pub end_cell-kept-requires : goal.end_cell-kept-requires
-end_cell-kept-requires g c =
+pub end_cell-requires : goal.end_cell-requires
+end_cell-requires g c =
     let i = c.requires.next in
-    (cell_there i.w i.side c.args.order i.fetched i.noted i.direct c.args.owed c.args.stream.now i.s i.seen i.p i.ps i.n i.stands c.args.cell c.requires.cell c.requires.unread).0
+    record {
+      there =
+          (cell_there i.w i.side c.args.order i.fetched i.noted i.direct c.args.owed c.args.stream.now i.s i.seen i.p i.ps i.n i.stands c.args.cell c.requires.cell c.requires.unread).0;
+    }
 
 pub returns-in_err-kept-clause-reads : goal.returns-in_err-kept-clause-reads
 returns-in_err-kept-clause-reads g c w side fetched noted direct s seen p ps n table st =
@@ -51,7 +57,11 @@ returns-in_err-kept-clause-reads g c w side fetched noted direct s seen p ps n t
     direct s seen p ps n table st source notes m2 c.in_ok-read_home.ensures.ends e c.in_err-kept.ensures.memory)
 
 pub try_all-requires : goal.try_all-requires
-try_all-requires g c = ?
+try_all-requires g c =
+    let e : length c.as_slice.result.now ≡ length c.args.stream.now.wanted.items =
+    ap length (c.as_slice.ensures.value ∙ c.in_ok-kept.ensures.ends.others.wanted ∙ c.open_cell.ensures.kept.wanted) in
+    let l = c.requires.within in
+    omega (arith, e, l)
 
 pub returns-in_err-try_all-clause-reads : goal.returns-in_err-try_all-clause-reads
 returns-in_err-try_all-clause-reads g c w side fetched noted direct s seen p ps n table st =
