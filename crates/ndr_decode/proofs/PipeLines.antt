@@ -1,11 +1,11 @@
 -- The lines of the pipes of a side in a plan, and the code at them.
 -- `n` is the number of the operation `o`, `s` the side, `j` the number of a pipe among the side's pipes.
-use Rattle.std.proofs.Common.{◌≡◌, ◌≤◌, ◌<◌, ℕ, ◌+◌, zero, suc, List, [], ◌∷◌, ◌++◌, length, Option, Some, None, refl, ap, ap₂, sym, ◌∙◌, subst, arith, append_assoc, length-append, map, flat_map, take, drop, drop-drop}
+use Rattle.std.proofs.Common.{◌≡◌, ◌≤◌, ◌<◌, ℕ, ◌+◌, zero, suc, List, [], ◌∷◌, ◌++◌, length, Some, refl, ap, ap₂, sym, ◌∙◌, arith, append_assoc, length-append, map, flat_map, take, drop, drop-drop}
 use denote.Enum.Bare.{sameb}
 use Rattle.std.specs.Prelude.{false, not, slice_get, slice_index_or}
 use Rattle.std.specs.List.{AllByRecursion, enumerate_from}
 use Rattle.std.proofs.Math.Seq.{drop-append-add}
-use Rattle.std.proofs.lemmas.List.{append-nil, length-map}
+use Rattle.std.proofs.lemmas.List.{length-map}
 use Rattle.std.proofs.lemmas.List.FromFn.{length-enumerate_from}
 use Rattle.std.proofs.lemmas.Option.{same_Some, slice_get_read}
 use Rattle.nd_types.specs.declared.types.Operation.{Operation}
@@ -22,7 +22,7 @@ use Rattle.nd_value.specs.Setting.{Setting, root_list}
 use Rattle.nd_value.proofs.Apart.{all_append, all_weaker}
 use Rattle.nd_grammar.proofs.legal.LegalPipes.{all_at}
 use Rattle.nd_grammar.proofs.next.NextStream.{drop_at}
-use Rattle.ndr_code.specs.Code.{code_of, pipe_at, pipe_roots, pipe_run, place_at, place_run, value_roots, whole_at}
+use Rattle.ndr_code.specs.Code.{code_of, pipe_at, pipe_roots, place_at, value_roots}
 use Rattle.ndr_code.specs.Lines.{entries_of, entry_lines, line_at, operation_lines, side_lines}
 use Rattle.ndr_code.specs.declared.instr.Instr.{Instr}
 use Rattle.ndr_code.specs.declared.instr.Instr.TheVariants as op
@@ -86,19 +86,21 @@ module _ (table : Table) (operations : List Operation) where
   from_operation : (k : ℕ) (os : List Operation) (n : ℕ) (o : Operation) → slice_get os n ≡ Some o → FromOperation k os n o
   from_operation k [] n o e = cc
   from_operation k (x ∷ os) zero o e =
-      let z : k ≡ k + 0 = omega arith in
-      (os, ap₂ (λ j y. lines_of (j, y) ++ flat_map lines_of (enumerate_from (j + 1) os)) z (same_Some x o e)
-      ∙ (let q : (k + 0) + 1 ≡ k + 0 + 1 = refl in ap (λ j. lines_of (k + 0, o) ++ flat_map lines_of (enumerate_from j os)) q)
+      let z : k ≡ k + 0 = omega arith in (
+        os,
+        ap₂ (λ j y. lines_of (j, y) ++ flat_map lines_of (enumerate_from (j + 1) os)) z (same_Some x o e)
+            ∙ (let q : (k + 0) + 1 ≡ k + 0 + 1 = refl in ap (λ j. lines_of (k + 0, o) ++ flat_map lines_of (enumerate_from j os)) q),
       )
   from_operation k (x ∷ os) (suc n) o e =
       let later : FromOperation (k + 1) os n o = from_operation (k + 1) os n o e in
       let first : List PlanLine = lines_of (k, x) in
       let others : List PlanLine = flat_map lines_of (enumerate_from (k + 1) os) in
       let many : ℕ = length (flat_map lines_of (take n (enumerate_from (k + 1) os))) in
-      let z : k + 1 + n ≡ k + suc n = omega arith in
-      (later.0,
-      ap (λ m. drop m (first ++ others)) (length-append first (flat_map lines_of (take n (enumerate_from (k + 1) os)))) ∙ drop-append-add first others many ∙ later.1
-      ∙ ap (λ j. lines_of (j, o) ++ flat_map lines_of (enumerate_from (j + 1) later.0)) z)
+      let z : k + 1 + n ≡ k + suc n = omega arith in (
+        later.0,
+        ap (λ m. drop m (first ++ others)) (length-append first (flat_map lines_of (take n (enumerate_from (k + 1) os)))) ∙ drop-append-add first others many ∙ later.1
+            ∙ ap (λ j. lines_of (j, o) ++ flat_map lines_of (enumerate_from (j + 1) later.0)) z,
+      )
 
   -- ## What comes after a side's lines
 
@@ -126,10 +128,14 @@ module _ (table : Table) (operations : List Operation) where
       let own : List PlanLine = side_lines table operations n o way.In in
       let others : List PlanLine = side_lines table operations n o way.Out in
       let more : List PlanLine = flat_map lines_of (enumerate_from (n + 1) after) in
-      let f : drop before (entries_of table operations) ≡ (own ++ others) ++ more = e ∙ ap (λ j. lines_of (j, o) ++ flat_map lines_of (enumerate_from (j + 1) after)) z in
-      (others ++ more, (ap (λ m. drop m (entries_of table operations)) b ∙ f ∙ append_assoc own others more,
-      all_append (IsOther n way.In) others more
-      (all_weaker (IsOf n way.Out) (IsOther n way.In) (λ l h x. apart (sym x.1 ∙ h.1)) others (side_own n o way.Out)) (later_other n way.In after)))
+      let f : drop before (entries_of table operations) ≡ (own ++ others) ++ more = e ∙ ap (λ j. lines_of (j, o) ++ flat_map lines_of (enumerate_from (j + 1) after)) z in (
+        others ++ more,
+        (
+          ap (λ m. drop m (entries_of table operations)) b ∙ f ∙ append_assoc own others more,
+          all_append (IsOther n way.In) others more
+              (all_weaker (IsOf n way.Out) (IsOther n way.In) (λ l h x. apart (sym x.1 ∙ h.1)) others (side_own n o way.Out)) (later_other n way.In after),
+        ),
+      )
   after_side n o is way.Out =
       let (after, e) = from_operation 0 operations n o is in
       let z : 0 + n ≡ n = omega arith in
@@ -137,11 +143,15 @@ module _ (table : Table) (operations : List Operation) where
       let first : List PlanLine = side_lines table operations n o way.In in
       let own : List PlanLine = side_lines table operations n o way.Out in
       let more : List PlanLine = flat_map lines_of (enumerate_from (n + 1) after) in
-      let f : drop before (entries_of table operations) ≡ (first ++ own) ++ more = e ∙ ap (λ j. lines_of (j, o) ++ flat_map lines_of (enumerate_from (j + 1) after)) z in
-      (more, (sym (drop-drop (length first) before (entries_of table operations))
-      ∙ ap (drop (length first)) (f ∙ append_assoc first own more)
-      ∙ (let y : length first ≡ length first + 0 = omega arith in ap (λ m. drop m (first ++ (own ++ more))) y) ∙ drop-append-add first (own ++ more) 0,
-      later_other n way.Out after))
+      let f : drop before (entries_of table operations) ≡ (first ++ own) ++ more = e ∙ ap (λ j. lines_of (j, o) ++ flat_map lines_of (enumerate_from (j + 1) after)) z in (
+        more,
+        (
+          sym (drop-drop (length first) before (entries_of table operations))
+              ∙ ap (drop (length first)) (f ∙ append_assoc first own more)
+              ∙ (let y : length first ≡ length first + 0 = omega arith in ap (λ m. drop m (first ++ (own ++ more))) y) ∙ drop-append-add first (own ++ more) 0,
+          later_other n way.Out after,
+        ),
+      )
 
   many_entries : (n : ℕ) (o : Operation) (s : Side) (at : ℕ → ℕ) (rs : List Root) → length (entry_lines n o s at rs) ≡ length rs
   many_entries n o s at rs = length-map (enumerate_from 0 rs) (λ e. line.Entry n s (root_name o e.1.param) (at e.0)) ∙ length-enumerate_from 0 rs

@@ -1,6 +1,5 @@
-use Rattle.std.proofs.Common.{◌≡◌, ◌≤◌, ◌<◌, ◌+◌, ◌-◌, ◌++◌, zero, suc, Err, Ok, refl, ap, sym, ◌∙◌, subst, arith, min}
+use Rattle.std.proofs.Common.{◌≡◌, ◌<◌, ◌-◌, refl, sym, subst, arith, min}
 use Rattle.nd_base.specs.Over.{source_seen}
-use Rattle.ndr_state.specs.declared.fault.DecodeFault.TheVariants as fault
 use Rattle.ndr_state.specs.Notes.{notes_seen}
 use Rattle.ndr_state.specs.Seen.{state_of}
 use Rattle.ndr_verdict.specs.Verdict.{decoding_seen}
@@ -54,10 +53,10 @@ read_home-requires g c = record {
       let as_many = q.as_many in
       let p = q.in_pipe in
       let a = source_seen g.S.Source.left g.S.Source.ended g.S.Source.faults c.args.source.now c.chunk_count.new.source in
-    let s = decoding_seen c.args.items.now c.chunk_count.new.items (g.L.Ledger.number c.args.steps.now) (g.L.Ledger.number c.chunk_count.new.steps) in
+      let s = decoding_seen c.args.items.now c.chunk_count.new.items (g.L.Ledger.number c.args.steps.now) (g.L.Ledger.number c.chunk_count.new.steps) in
       let x = c.in_ok-count.ensures.reads w fetched noted direct first c.args.number rs roots elem done c.args.machine.now.max_at k p.few p.in_pipe p.is_at in
-    let some : 0 < c.in_ok-count.count = omega (arith, c.if-count-eq0.false) in
-    let is_begun : c.min-begun.result ≡ min c.in_ok-count.count (4294967295 - c.args.so_far) = c.min-begun.ensures in
+      let some : 0 < c.in_ok-count.count = omega (arith, c.if-count-eq0.false) in
+      let is_begun : c.min-begun.result ≡ min c.in_ok-count.count (4294967295 - c.args.so_far) = c.min-begun.ensures in
       chunk_safe c.args.plan.now w legal c.args.order fetched noted direct first c.args.number r rs roots elem c.args.elem of_plan done k c.args.so_far as_many c.args.machine.now p c.chunk_count.new.machine c.in_ok-count.ensures.moved a s c.in_ok-count.count x some c.min-begun.result is_begun c.requires.room c.begin_elements.new.machine c.in_ok-begin_elements.ensures.begins c.in_ok-begin_elements.ensures.builder c.in_ok-begin_elements.ensures.home more xs y reached;
 }
 

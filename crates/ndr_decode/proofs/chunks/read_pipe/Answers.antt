@@ -1,7 +1,6 @@
-use Rattle.std.proofs.Common.{◌≡◌, ◌≤◌, ◌<◌, ◌+◌, ◌++◌, Err, Ok, refl, ap, sym, ◌∙◌, subst, arith, le_refl, le_trans}
+use Rattle.std.proofs.Common.{◌++◌, refl, ap, sym, ◌∙◌, subst, arith, le_refl, le_trans}
 use Rattle.nd_base.specs.Over.{count, source_seen}
 use Rattle.nd_flat.specs.Building.{Building}
-use Rattle.ndr_state.specs.declared.fault.DecodeFault.TheVariants as fault
 use Rattle.ndr_verdict.specs.Verdict.{decoding_seen}
 use Rattle.ndr_decode.specs.Streaming.{FaultOf, Purpose}
 use Rattle.ndr_decode.proofs.PipeLoops.{chunk_due, pipe_begun, pipe_faulty, pipe_memory, turn_ends, turn_fault, turn_goes_on, turn_memory}
@@ -74,11 +73,11 @@ pub loop-chunk-preserved : goal.loop-chunk-preserved
 loop-chunk-preserved g c = (
   λ w legal fetched noted direct first r rs roots k elem of_plan p.
       let a = source_seen g.S.Source.left g.S.Source.ended g.S.Source.faults c.args.source.now c.loop-chunk.source in
-    let s = decoding_seen c.args.items.now c.loop-chunk.items (g.L.Ledger.number c.args.steps.now) (g.L.Ledger.number c.loop-chunk.steps) in
+      let s = decoding_seen c.args.items.now c.loop-chunk.items (g.L.Ledger.number c.args.steps.now) (g.L.Ledger.number c.loop-chunk.steps) in
       let b = source_seen g.S.Source.left g.S.Source.ended g.S.Source.faults c.loop-chunk.source c.read_chunk.new.source in
-    let t = decoding_seen c.loop-chunk.items c.read_chunk.new.items (g.L.Ledger.number c.loop-chunk.steps) (g.L.Ledger.number c.read_chunk.new.steps) in
-    let e = source_seen g.S.Source.left g.S.Source.ended g.S.Source.faults c.args.source.now c.read_chunk.new.source in
-    let u = decoding_seen c.args.items.now c.read_chunk.new.items (g.L.Ledger.number c.args.steps.now) (g.L.Ledger.number c.read_chunk.new.steps) in
+      let t = decoding_seen c.loop-chunk.items c.read_chunk.new.items (g.L.Ledger.number c.loop-chunk.steps) (g.L.Ledger.number c.read_chunk.new.steps) in
+      let e = source_seen g.S.Source.left g.S.Source.ended g.S.Source.faults c.args.source.now c.read_chunk.new.source in
+      let u = decoding_seen c.args.items.now c.read_chunk.new.items (g.L.Ledger.number c.args.steps.now) (g.L.Ledger.number c.read_chunk.new.steps) in
       let x = c.loop-chunk.invariant.0 w legal fetched noted direct first r rs roots k elem of_plan p in
       turn_goes_on c.args.plan.now w legal c.args.order fetched noted direct first c.args.number r rs roots k elem c.args.elem of_plan c.args.machine.now p c.loop-chunk.machine a s c.loop-chunk.so_far x c.read_chunk.new.machine b e t u (record { before = refl; middle = refl; after = refl; ended = refl; log = refl; log_middle = refl; log_now = refl; steps = refl; steps_middle = refl; steps_now = refl }) c.in_ok-count.count (λ z. omega (arith, z, c.if-count-eq0.false)) (c.in_ok-count.ensures.reads w legal (fetched ++ x.octets) (noted ++ x.items) direct first r rs roots elem x.done x.k of_plan x.as_many x.in_pipe),
   (c.in_ok-count.ensures.room, (c.in_ok-count.ensures.same ∙ c.loop-chunk.invariant.1.1.0, le_trans c.loop-chunk.invariant.1.1.1 c.read_chunk.ensures.later)),

@@ -1,4 +1,4 @@
-use Rattle.std.proofs.Common.{◌≡◌, ◌≤◌, ◌<◌, ◌+◌, ◌++◌, ◌^◌, ℕ, List, Some, None, Err, Ok, refl, ap, sym, ◌∙◌, subst, arith, le_refl, le_trans, length}
+use Rattle.std.proofs.Common.{◌≡◌, ◌≤◌, ◌+◌, ◌++◌, refl, ap, ◌∙◌, arith, le_refl, le_trans, length}
 use Rattle.nd_base.specs.Over.{count, source_seen}
 use Rattle.ndr_verdict.specs.Verdict.{decoding_seen}
 use Rattle.ndr_decode.proofs.PipesRead.{ends_faulty, few_numbers, first_number, line_calls, lines_done, next_before, next_fault, next_is, next_read, none_read, number_few, pipe_due, side_done, stream_ends}
@@ -15,9 +15,13 @@ overflow_cast-number g c =
 pub loop-next-init : goal.loop-next-init
 loop-next-init g c = (
   λ w legal fetched noted direct s seen setting st hold.
-      let is : length c.as_slice.result.now ≡ length c.args.stream.now.roots.items = ap length c.as_slice.ensures.value in
-      (0, (none_read c.args.plan.now c.args.op c.args.side c.args.order w legal setting fetched noted direct c.args.stream.now s seen st hold (g.S.Source.left c.args.source.now) (g.S.Source.ended c.args.source.now) (count g.S.Source.faults c.args.source.now c.args.source.now) c.args.items.now (g.L.Ledger.number c.args.steps.now),
-      (omega arith, is ∙ first_number c.args.plan.now c.args.op c.args.side c.args.order w legal setting fetched noted direct c.args.stream.now s seen st hold))),
+      let is : length c.as_slice.result.now ≡ length c.args.stream.now.roots.items = ap length c.as_slice.ensures.value in (
+        0,
+        (
+          none_read c.args.plan.now c.args.op c.args.side c.args.order w legal setting fetched noted direct c.args.stream.now s seen st hold (g.S.Source.left c.args.source.now) (g.S.Source.ended c.args.source.now) (count g.S.Source.faults c.args.source.now c.args.source.now) c.args.items.now (g.L.Ledger.number c.args.steps.now),
+          (omega arith, is ∙ first_number c.args.plan.now c.args.op c.args.side c.args.order w legal setting fetched noted direct c.args.stream.now s seen st hold),
+        ),
+      ),
   (refl, le_refl _),
 )
 
