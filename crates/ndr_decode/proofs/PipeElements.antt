@@ -1,13 +1,12 @@
 -- The elements of a chunk: from the count that was read, through the run of their code, to the next chunk.
 -- `m` is the machine before the chunk, `n` the one after its count, `o` the one at the beginning of its elements, `z` the one at their end; `suc c` is how many
 -- are begun, of `suc c + r`.
-use Rattle.std.proofs.Common.{◌≡◌, ◌≤◌, ◌<◌, ◌^◌, ℕ, ◌+◌, ◌-◌, ◌*◌, zero, suc, List, [], ◌∷◌, ◌++◌, length, map, replicate, Option, Some, None, refl, ap, ap₂, sym, ◌∙◌, subst, arith, length-append, append_assoc}
+use Rattle.std.proofs.Common.{◌≡◌, ◌≤◌, ◌<◌, ◌^◌, ℕ, ◌+◌, ◌-◌, ◌*◌, suc, List, [], ◌∷◌, ◌++◌, length, map, replicate, Some, refl, ap, ap₂, sym, ◌∙◌, subst, arith, length-append}
 use Rattle.std.specs.List.{AllByRecursion}
 use Rattle.std.proofs.lemmas.List.{append-nil, length-replicate}
 use Rattle.nd_base.specs.declared.octets.Order.{Order}
 use Rattle.nd_base.specs.declared.TheConstants.{STREAM_LIMIT}
 use Rattle.nd_base.specs.Over.{SourceSeen}
-use Rattle.nd_types.specs.Number.{AreOctets}
 use Rattle.nd_types.specs.declared.types.TypeDef.TheVariants as def
 use Rattle.nd_types.specs.declared.types.TypeId.{TypeId}
 use Rattle.nd_types.specs.Roots.{Root}
@@ -21,7 +20,7 @@ use Rattle.nd_value.specs.Tree as tree
 use Rattle.nd_value.specs.Tree.{Flat, Referent, Tree, Trees, count, flat, joined, more, node, node_count, none}
 use Rattle.nd_flat.specs.Building.{Building, closed, opened, raised, with_nodes, with_root}
 use Rattle.nd_grammar.specs.LegalSide.{IsLegalSide}
-use Rattle.nd_grammar.specs.Reader.{Names, Progress, Read, ReadAll, is_stopped, read_if, read_in_place, read_list, tree_nodes}
+use Rattle.nd_grammar.specs.Reader.{Names, Progress, Read, is_stopped, read_if, read_in_place, read_list, tree_nodes}
 use Rattle.nd_grammar.proofs.legal.LegalUsable.{Usable, children_usable}
 use Rattle.std.specs.Prelude.{not, ◌&&◌}
 use Rattle.nd_types.specs.Layout.{hoists}
@@ -29,7 +28,6 @@ use Rattle.ndr_code.specs.Code.{place_at}
 use Rattle.ndr_code.specs.declared.plan.Plan.{Plan}
 use Rattle.ndr_reading.specs.Around.{going}
 use Rattle.ndr_reading.proofs.FlatNodes.{count_joined}
-use Rattle.ndr_steps.specs.declared.frame.Frame.{Frame}
 use Rattle.ndr_steps.specs.declared.frame.Frame.TheVariants as frame
 use Rattle.ndr_steps.specs.Chunks.{chunk_read}
 use Rattle.ndr_steps.specs.Good.{Good}
@@ -44,15 +42,14 @@ use Rattle.ndr_state.specs.declared.machine.Machine.{Machine}
 use Rattle.ndr_state.specs.Notes.{NotesSeen}
 use Rattle.ndr_state.specs.Seen.{Outside, outside, state_of}
 use Rattle.ndr_machine.specs.Reaching.{EndsFault, EndsWhole}
-use Rattle.ndr_stream.specs.Calls.{Took}
 use Rattle.ndr_stream.proofs.FineTypes.{usable_fine}
 use Rattle.ndr_pipes.specs.Pipes.{InPipe, OpensChunk, Position, at_chunk, at_elements, kids_of, read_to}
-use Rattle.ndr_pipes.proofs.Elements.{elements_add, elements_begin, elements_come, elements_refused}
+use Rattle.ndr_pipes.proofs.Elements.{elements_add, elements_begin, elements_refused}
 use Rattle.ndr_pipes.proofs.ElementsEnd.{elements_end, not_whole}
 use Rattle.ndr_chunks.specs.Chunks.{HasMoved, IsAt}
 use Rattle.ndr_chunks.specs.Opening.{BeginsElements}
 use Rattle.ndr_kept.specs.Ends.{HomeRan}
-use Rattle.ndr_decode.specs.Piping.{ElementsRead, IsInPipe, IsPipeBy}
+use Rattle.ndr_decode.specs.Piping.{IsInPipe, IsPipeBy}
 use Rattle.ndr_decode.specs.Streaming.{FaultOf, HomeWhole}
 use Rattle.ndr_decode.proofs.AtRoots.{legal_is, planned_is}
 use Rattle.ndr_decode.proofs.HomeComes.{decoding_of, fault_comes, whole_comes}

@@ -1,11 +1,11 @@
 -- The lines of the pipes of a side in a plan, and the code at them.
 -- `n` is the number of the operation `o`, `s` the side, `j` the number of a pipe among the side's pipes.
-use Rattle.std.proofs.Common.{◌≡◌, ◌≤◌, ◌<◌, ℕ, ◌+◌, zero, suc, List, [], ◌∷◌, ◌++◌, length, Option, Some, None, refl, ap, ap₂, sym, ◌∙◌, subst, arith, append_assoc, length-append, map, flat_map, take, drop, drop-drop}
+use Rattle.std.proofs.Common.{◌≡◌, ◌≤◌, ◌<◌, ℕ, ◌+◌, zero, suc, List, [], ◌∷◌, ◌++◌, length, Some, refl, ap, ap₂, sym, ◌∙◌, arith, append_assoc, length-append, map, flat_map, take, drop, drop-drop}
 use denote.Enum.Bare.{sameb}
 use Rattle.std.specs.Prelude.{false, not, slice_get, slice_index_or}
 use Rattle.std.specs.List.{AllByRecursion, enumerate_from}
 use Rattle.std.proofs.Math.Seq.{drop-append-add}
-use Rattle.std.proofs.lemmas.List.{append-nil, length-map}
+use Rattle.std.proofs.lemmas.List.{length-map}
 use Rattle.std.proofs.lemmas.List.FromFn.{length-enumerate_from}
 use Rattle.std.proofs.lemmas.Option.{same_Some, slice_get_read}
 use Rattle.nd_types.specs.declared.types.Operation.{Operation}
@@ -22,7 +22,7 @@ use Rattle.nd_value.specs.Setting.{Setting, root_list}
 use Rattle.nd_value.proofs.Apart.{all_append, all_weaker}
 use Rattle.nd_grammar.proofs.legal.LegalPipes.{all_at}
 use Rattle.nd_grammar.proofs.next.NextStream.{drop_at}
-use Rattle.ndr_code.specs.Code.{code_of, pipe_at, pipe_roots, pipe_run, place_at, place_run, value_roots, whole_at}
+use Rattle.ndr_code.specs.Code.{code_of, pipe_at, pipe_roots, place_at, value_roots}
 use Rattle.ndr_code.specs.Lines.{entries_of, entry_lines, line_at, operation_lines, side_lines}
 use Rattle.ndr_code.specs.declared.instr.Instr.{Instr}
 use Rattle.ndr_code.specs.declared.instr.Instr.TheVariants as op

@@ -1,7 +1,7 @@
 -- The loop over the chunks of a pipe.
 -- `m` is the machine before the pipe, `n` the one so far, `z` the one after the next chunk; `a` and `s` are what was seen so far, `b` and `t` over the next
 -- chunk, `e` and `u` over both.
-use Rattle.std.proofs.Common.{◌≡◌, ◌≤◌, ◌<◌, ℕ, ◌+◌, zero, suc, Bool, List, [], ◌∷◌, ◌++◌, length, Option, None, Result, Ok, Err, IsErrAnd, refl, ap, sym, ◌∙◌, subst, arith, append_assoc}
+use Rattle.std.proofs.Common.{◌≡◌, ◌≤◌, ℕ, ◌+◌, zero, suc, Bool, List, [], ◌∷◌, ◌++◌, length, Option, None, Result, Ok, Err, IsErrAnd, refl, ap, sym, ◌∙◌, subst, arith, append_assoc}
 use Rattle.std.proofs.lemmas.List.{append-nil}
 use Rattle.nd_base.specs.declared.octets.Order.{Order}
 use Rattle.nd_base.specs.Over.{Count, SourceSeen}
@@ -21,7 +21,7 @@ use Rattle.ndr_state.specs.declared.fault.DecodeFault.{DecodeFault}
 use Rattle.ndr_state.specs.declared.fault.DecodeFault.TheVariants as fault
 use Rattle.ndr_state.specs.declared.machine.Machine.{Machine}
 use Rattle.ndr_verdict.specs.Verdict.{DecodingSeen}
-use Rattle.ndr_stream.specs.Calls.{CutOff, Follows, Took}
+use Rattle.ndr_stream.specs.Calls.{Follows, Took}
 use Rattle.ndr_stream.specs.Report.{StreamCut}
 use Rattle.ndr_stream.proofs.Joined.{took_twice}
 use Rattle.ndr_pipes.specs.Pipes.{Position}

@@ -2,7 +2,7 @@
 -- `m` is the machine before, `n` the one after.
 use Rattle.std.proofs.Common.{◌≡◌, ◌≤◌, ℕ, ◌+◌, ◌*◌, zero, suc, List, [], ◌∷◌, ◌++◌, length, map, Option, Some, None, refl, ap, sym, ◌∙◌, subst, arith, length-append}
 use Rattle.std.specs.Prelude.{slice_set}
-use Rattle.std.proofs.lemmas.List.{append-nil, length-map}
+use Rattle.std.proofs.lemmas.List.{append-nil}
 use Rattle.nd_base.specs.declared.octets.Order.{Order}
 use Rattle.nd_base.specs.Over.{SourceSeen}
 use Rattle.nd_types.specs.declared.types.TypeDef.TheVariants as def
@@ -12,7 +12,6 @@ use Rattle.nd_types.specs.Table.{type_at}
 use Rattle.nd_value.specs.declared.item.Home.{Home}
 use Rattle.nd_value.specs.declared.item.Home.TheVariants as home
 use Rattle.nd_value.specs.declared.item.Item.{Item}
-use Rattle.nd_value.specs.declared.value.Graph.{Graph}
 use Rattle.nd_value.specs.Setting.{Setting, cell_at, unread}
 use Rattle.nd_value.specs.Tree as tree
 use Rattle.nd_value.specs.Tree.{Referent, Tree, Trees, count, flat, more, node, none}
@@ -26,7 +25,7 @@ use Rattle.ndr_verdict.specs.Verdict.{DecodingSeen}
 use Rattle.ndr_stream.specs.Calls.{Took}
 use Rattle.ndr_pipes.specs.Pipes.{InPipe, InPipes, Position, at_chunk}
 use Rattle.ndr_pipes.proofs.PipesBegin.{pipe_begins}
-use Rattle.ndr_chunks.specs.Chunks.{CountRead, HasMoved, IsAt}
+use Rattle.ndr_chunks.specs.Chunks.{HasMoved, IsAt}
 use Rattle.ndr_kept.specs.Ends.{HomeRan}
 use Rattle.ndr_kept.proofs.GraphEnds.{root_ends}
 use Rattle.ndr_kept.proofs.Opened.{closed_types}

@@ -1,39 +1,32 @@
 -- A chunk of a pipe, from the call that reads its count to the end of its elements.
 -- `m` is the machine before the chunk, `n` the one after its count, `o` the one at the beginning of its elements, `z` the one at their end; of `many` elements
 -- `begun` are begun. `a` and `s` are what was seen over the call that reads the count, `b` and `t` over the run, `e` and `u` over both.
-use Rattle.std.proofs.Common.{◌≡◌, ◌≤◌, ◌<◌, ◌^◌, ℕ, ◌+◌, ◌-◌, zero, suc, min, List, [], ◌∷◌, ◌++◌, length, map, Option, Result, Ok, Err, IsErrAnd, refl, ap, sym, ◌∙◌, subst, arith, append_assoc}
-use Rattle.std.proofs.lemmas.List.{append-nil}
+use Rattle.std.proofs.Common.{◌≡◌, ◌≤◌, ◌<◌, ◌^◌, ℕ, ◌+◌, ◌-◌, zero, suc, min, List, ◌++◌, length, Result, Ok, IsErrAnd, refl, ap, sym, ◌∙◌, subst, arith, append_assoc}
 use Rattle.nd_base.specs.declared.octets.Order.{Order}
 use Rattle.nd_base.specs.Over.{SourceSeen}
-use Rattle.nd_types.specs.Number.{AreOctets}
 use Rattle.nd_types.specs.declared.types.TypeId.{TypeId}
 use Rattle.nd_types.specs.Roots.{Root}
 use Rattle.nd_value.specs.declared.item.Home.{Home}
 use Rattle.nd_value.specs.declared.item.Home.TheVariants as home
 use Rattle.nd_value.specs.declared.item.Item.{Item}
 use Rattle.nd_value.specs.Setting.{Setting}
-use Rattle.nd_value.specs.Tree.{Referent, Tree, Trees, count}
-use Rattle.nd_flat.specs.Building.{Building, IsPipe, raised, with_nodes}
-use Rattle.nd_grammar.specs.Entry.{EntryAt}
+use Rattle.nd_value.specs.Tree.{Tree, Trees, count}
+use Rattle.nd_flat.specs.Building.{IsPipe, raised, with_nodes}
 use Rattle.nd_grammar.specs.LegalSide.{IsLegalSide}
 use Rattle.nd_grammar.specs.Reader.{Names, Read}
-use Rattle.nd_grammar.specs.StreamReader.{read_stream}
 use Rattle.ndr_code.specs.declared.plan.Plan.{Plan}
 use Rattle.ndr_reading.specs.Around.{going}
-use Rattle.ndr_refs.specs.declared.referents.Known.{Known}
 use Rattle.ndr_runs.specs.Reaching.{IsSafe, Reaches}
 use Rattle.ndr_steps.specs.Chunks.{chunk_read}
-use Rattle.ndr_steps.specs.Good.{Told}
-use Rattle.ndr_steps.specs.Steps.{Place, State}
+use Rattle.ndr_steps.specs.Steps.{State}
 use Rattle.ndr_machine.specs.Reaching.{EndsFault, EndsWhole}
 use Rattle.ndr_state.specs.declared.fault.DecodeFault.{DecodeFault}
 use Rattle.ndr_state.specs.declared.fault.DecodeFault.TheVariants as fault
 use Rattle.ndr_state.specs.declared.machine.Machine.{Machine}
 use Rattle.ndr_state.specs.Notes.{NotesSeen}
 use Rattle.ndr_state.specs.Seen.{outside, state_of}
-use Rattle.ndr_verdict.specs.Verdict.{DecodingSeen, direct_roots}
-use Rattle.ndr_stream.specs.Added.{Goes}
-use Rattle.ndr_stream.specs.Calls.{CutOff, Follows, Took}
+use Rattle.ndr_verdict.specs.Verdict.{DecodingSeen}
+use Rattle.ndr_stream.specs.Calls.{Follows}
 use Rattle.ndr_stream.specs.Report.{StreamCut}
 use Rattle.ndr_stream.proofs.Joined.{took_twice}
 use Rattle.ndr_pipes.specs.Pipes.{InPipe, Position, at_elements, kids_of, read_to}
@@ -41,7 +34,7 @@ use Rattle.ndr_pipes.proofs.Elements.{elements_come}
 use Rattle.ndr_chunks.specs.Chunks.{AfterCount, CountRead, Counts, HasMoved, IsAt}
 use Rattle.ndr_chunks.specs.Chunks as chunks
 use Rattle.ndr_chunks.specs.Opening.{BeginsElements}
-use Rattle.ndr_decode.specs.Piping.{ChunkComes, ElementsRead, IsInPipe, IsPipeBy, PipeRead}
+use Rattle.ndr_decode.specs.Piping.{ChunkComes, ElementsRead, IsInPipe, IsPipeBy}
 use Rattle.ndr_decode.specs.Streaming.{FaultOf, HomeWhole}
 use Rattle.ndr_decode.proofs.HomeComes.{decoding_of}
 use Rattle.ndr_decode.proofs.PipeElements as elements

@@ -10,10 +10,8 @@ use Rattle.nd_base.specs.declared.octets.Order.{Order}
 use Rattle.nd_base.specs.Over.{Count, SourceSeen}
 use Rattle.nd_types.specs.Number.{AreOctets}
 use Rattle.nd_types.specs.declared.types.Side.{Side}
-use Rattle.nd_types.specs.declared.types.TypeDef.TheVariants as def
 use Rattle.nd_types.specs.declared.types.TypeId.{TypeId}
 use Rattle.nd_types.specs.Roots.{Root}
-use Rattle.nd_types.specs.Table.{type_at}
 use Rattle.nd_value.specs.declared.item.Item.{Item}
 use Rattle.nd_value.specs.declared.value.Graph.{Graph}
 use Rattle.nd_value.specs.Deferral.{before_pipes}
@@ -24,7 +22,7 @@ use Rattle.nd_flat.specs.Building.{closed}
 use Rattle.nd_grammar.specs.Entry.{EntryAt}
 use Rattle.nd_grammar.specs.LegalSide.{IsLegalSide}
 use Rattle.nd_grammar.specs.Reader.{Names}
-use Rattle.nd_grammar.specs.StreamReader.{Reading, graph_of, read_stream}
+use Rattle.nd_grammar.specs.StreamReader.{Reading, graph_of}
 use Rattle.nd_grammar.proofs.LegalSides.{laid_out}
 use Rattle.nd_grammar.proofs.next.NextStream.{IsPipeRoot, drop_at}
 use Rattle.nd_grammar.proofs.reader.ReaderStates.{State as IsReading}
@@ -48,13 +46,12 @@ use Rattle.ndr_pipes.proofs.PipesBegin.{pipes_begin, pipes_end}
 use Rattle.ndr_kept.specs.declared.stream.Stream.{Stream}
 use Rattle.ndr_kept.specs.Seen.{between_of}
 use Rattle.ndr_kept.proofs.Opened.{closed_types}
-use Rattle.ndr_decode.specs.Piping.{CallsPipe, ElementsRun, EndComes, IsAtPipe, IsAtPipes, IsBefore, IsPipeBy, IsPipeLine, PipeComes}
+use Rattle.ndr_decode.specs.Piping.{CallsPipe, ElementsRun, EndComes, IsAtPipe, IsBefore, IsPipeBy, IsPipeLine, PipeComes}
 use Rattle.ndr_decode.specs.Streaming.{FaultOf, IsSettingOf, Stands, WasRead, cells_of}
 use Rattle.ndr_decode.proofs.PaidHomes.{paid_between, roots_kept, roots_within}
-use Rattle.ndr_decode.proofs.PipeLines.{HasLine, first_line, no_pipe_line, one_run, pipe_line, pipes}
+use Rattle.ndr_decode.proofs.PipeLines.{HasLine, first_line, no_pipe_line, one_run, pipe_line}
 use Rattle.ndr_decode.proofs.PipeOpens.{closed_roots}
 use Rattle.ndr_decode.proofs.PipeFaults.{faulty}
-use Rattle.ndr_decode.proofs.Placed.{took_by}
 use Rattle.ndr_decode.proofs.Standing.{idle_log, idle_source, then_fault, took_nothing}
 
 -- ## Lists of pipes

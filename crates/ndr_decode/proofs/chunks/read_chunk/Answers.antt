@@ -1,6 +1,5 @@
-use Rattle.std.proofs.Common.{◌≡◌, ◌≤◌, ◌<◌, ◌+◌, ◌-◌, ◌++◌, zero, suc, Err, Ok, refl, ap, sym, ◌∙◌, subst, arith, min}
+use Rattle.std.proofs.Common.{◌≡◌, ◌<◌, ◌-◌, refl, sym, subst, arith, min}
 use Rattle.nd_base.specs.Over.{source_seen}
-use Rattle.ndr_state.specs.declared.fault.DecodeFault.TheVariants as fault
 use Rattle.ndr_state.specs.Notes.{notes_seen}
 use Rattle.ndr_state.specs.Seen.{state_of}
 use Rattle.ndr_verdict.specs.Verdict.{decoding_seen}

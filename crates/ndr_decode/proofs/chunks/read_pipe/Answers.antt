@@ -1,7 +1,6 @@
-use Rattle.std.proofs.Common.{◌≡◌, ◌≤◌, ◌<◌, ◌+◌, ◌++◌, Err, Ok, refl, ap, sym, ◌∙◌, subst, arith, le_refl, le_trans}
+use Rattle.std.proofs.Common.{◌++◌, refl, ap, sym, ◌∙◌, subst, arith, le_refl, le_trans}
 use Rattle.nd_base.specs.Over.{count, source_seen}
 use Rattle.nd_flat.specs.Building.{Building}
-use Rattle.ndr_state.specs.declared.fault.DecodeFault.TheVariants as fault
 use Rattle.ndr_verdict.specs.Verdict.{decoding_seen}
 use Rattle.ndr_decode.specs.Streaming.{FaultOf, Purpose}
 use Rattle.ndr_decode.proofs.PipeLoops.{chunk_due, pipe_begun, pipe_faulty, pipe_memory, turn_ends, turn_fault, turn_goes_on, turn_memory}

@@ -1,4 +1,4 @@
-use Rattle.std.proofs.Common.{◌≡◌, ◌≤◌, ◌<◌, ◌+◌, ◌++◌, ◌^◌, ℕ, List, Some, None, Err, Ok, refl, ap, sym, ◌∙◌, subst, arith, le_refl, le_trans, length}
+use Rattle.std.proofs.Common.{◌≡◌, ◌≤◌, ◌+◌, ◌++◌, refl, ap, ◌∙◌, arith, le_refl, le_trans, length}
 use Rattle.nd_base.specs.Over.{count, source_seen}
 use Rattle.ndr_verdict.specs.Verdict.{decoding_seen}
 use Rattle.ndr_decode.proofs.PipesRead.{ends_faulty, few_numbers, first_number, line_calls, lines_done, next_before, next_fault, next_is, next_read, none_read, number_few, pipe_due, side_done, stream_ends}
