@@ -17,6 +17,9 @@ ghost use Rattle.ndr_state.specs.declared.fault.DecodeFault.TheVariants as fault
 ghost use Rattle.ndr_machine.specs.Notes.{RowNoted};
 ghost use Rattle.ndr_machine.specs.Reaching.{Ends, Turns, Fetches, stream_answer};
 
+use crate::records::{
+    MOST_SLOTS, NO_SLOT, Records, find_slots, note_records, read_records, records_here,
+};
 use crate::rows::{note_row, read_row, row_len};
 use crate::steps::{Want, is_flow, take_flow, take_step, wanted};
 use nd_base::{Ledger, Order, STREAM_LIMIT, Source, Steps};
@@ -84,6 +87,16 @@ fn take_turn<S: Source, L: Ledger>(
     ensures outside { OnOk result (outside machine.new ≡ outside machine.old) }
     ensures later { S.Source.faults source.old ≤ S.Source.faults source.new }
 {
+    if let Instr::Record { members } = instr {
+        let mut slots = [NO_SLOT; MOST_SLOTS];
+        let to = find_slots(machine, code, members, &mut slots);
+        if to != 0 {
+            let records = records_here(machine, &slots[..members as usize], to);
+            if records.count != 0 {
+                return take_records(machine, order, records, intake, source, items, steps);
+            }
+        }
+    }
     if is_flow(machine, instr) {
         let progress = take_flow(machine, instr)?;
         return Ok(progress);
@@ -157,6 +170,25 @@ fn fetch<S: Source>(
 fn are_octets(octets: &[u8])
     ensures { AreOctets octets.now }
 {}
+
+// Elements that are structs of numbers.
+fn take_records<S: Source, L: Ledger>(
+    machine: &mut Machine,
+    order: Order,
+    records: Records<'_>,
+    intake: &mut Intake,
+    source: &mut S,
+    items: &mut ItemLog,
+    steps: &mut Steps<L>,
+) -> Result<Progress, DecodeFault> {
+    let came = fetched(intake.item(source, machine.at, records.len));
+    if let Err(fault) = came {
+        note_records(machine, order, records, intake.octets(), items, steps)?;
+        return Err(fault);
+    }
+    read_records(machine, order, records, intake.octets(), items, steps)?;
+    Ok(Progress::More)
+}
 
 // So many numbers in a row.
 fn take_row<S: Source, L: Ledger>(
