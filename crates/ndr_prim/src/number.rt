@@ -41,9 +41,24 @@ fn read_unsigned(order: Order, from: &[u8]) -> u64
     requires most { length from.now ≤ 8 }
     ensures { result ≡ unsigned order from.now }
 {
-    match order {
-        Order::Big => BigEndian::read_uint(from, from.len()),
-        Order::Little => LittleEndian::read_uint(from, from.len()),
+    match from.len() {
+        1 => u64::from(from[0]),
+        2 => match order {
+            Order::Big => u64::from(BigEndian::read_u16(from)),
+            Order::Little => u64::from(LittleEndian::read_u16(from)),
+        },
+        4 => match order {
+            Order::Big => u64::from(BigEndian::read_u32(from)),
+            Order::Little => u64::from(LittleEndian::read_u32(from)),
+        },
+        8 => match order {
+            Order::Big => BigEndian::read_u64(from),
+            Order::Little => LittleEndian::read_u64(from),
+        },
+        wide => match order {
+            Order::Big => BigEndian::read_uint(from, wide),
+            Order::Little => LittleEndian::read_uint(from, wide),
+        },
     }
 }
 

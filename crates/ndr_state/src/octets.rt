@@ -39,11 +39,16 @@ pub fn gap_before(at: u32, to: u8) -> u32
     ensures is { result ≡ gap at to }
     ensures few { result < 256 }
 {
-    let to = to as u32;
-    if to == 0 {
-        return 0;
+    match to {
+        0 | 1 => 0,
+        2 => (2 - at % 2) % 2,
+        4 => (4 - at % 4) % 4,
+        8 => (8 - at % 8) % 8,
+        _ => {
+            let to = to as u32;
+            (to - at % to) % to
+        }
     }
-    (to - at % to) % to
 }
 
 /// The primitive of a type's number. Takes no memory.
