@@ -35,6 +35,7 @@ pub enum IntakeFault {
 pub struct Intake {
     piece: Vec<u8>,
     held: Vec<u8>,
+    few: usize,
 }
 
 impl Model for Intake {
@@ -57,6 +58,7 @@ impl Intake {
         Ok(Intake {
             piece,
             held: Vec::new(alloc),
+            few: 0,
         })
     }
 
@@ -65,6 +67,9 @@ impl Intake {
     pub fn octets(&self) -> &[u8]
         ensures { result.now ≡ self.now }
     {
+        if self.few != 0 {
+            return &self.piece[..self.few];
+        }
         self.held.as_slice()
     }
 
@@ -81,8 +86,43 @@ impl Intake {
         ensures fault { IfErr result (IsGapFault (source_seen S.Source.left S.Source.ended S.Source.faults source.old source.new) at count self.new) }
         ensures later { S.Source.faults source.old ≤ S.Source.faults source.new }
     {
+        self.fetch(source, at, count)
+    }
+
+    #[inline(always)]
+    fn fetch<S: Source>(&mut self, source: &mut S, at: u32, count: u32) -> Result<(), IntakeFault> {
+        self.few = 0;
+        if count != 0 && count <= PIECE {
+            return self.fetch_few(source, at, count as usize);
+        }
         self.held.clear();
         fetch(source, &mut self.piece, &mut self.held, at, count)
+    }
+
+    #[inline(always)]
+    fn fetch_few<S: Source>(
+        &mut self,
+        source: &mut S,
+        at: u32,
+        count: usize,
+    ) -> Result<(), IntakeFault> {
+        self.held.clear();
+        for _ in 0..count {
+            let few = self.few;
+            let Ok(came) = source.fetch(&mut self.piece[few..count]) else {
+                return Err(IntakeFault::ReadFault);
+            };
+            self.few = few + came;
+            if self.few == count {
+                return Ok(());
+            }
+            if came == 0 {
+                return Err(IntakeFault::Truncated {
+                    place: at + self.few as u32,
+                });
+            }
+        }
+        Ok(())
     }
 
     /// Fetches the octets of a primitive, which begins at a place of the stream, as `gap` does. `TooLong` is answered exactly if they would end
@@ -102,16 +142,16 @@ impl Intake {
         ensures fault { IfErr result (IsItemFault (source_seen S.Source.left S.Source.ended S.Source.faults source.old source.new) at count self.new) }
         ensures later { S.Source.faults source.old ≤ S.Source.faults source.new }
     {
-        self.held.clear();
         if STREAM_LIMIT - at < count {
+            self.held.clear();
+            self.few = 0;
             return Err(IntakeFault::TooLong);
         }
-        fetch(source, &mut self.piece, &mut self.held, at, count)
+        self.fetch(source, at, count)
     }
 }
 
 // Fetches so many octets, piece by piece.
-#[inline(always)]
 fn fetch<S: Source>(
     source: &mut S,
     piece: &mut [u8],

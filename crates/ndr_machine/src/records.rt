@@ -17,7 +17,7 @@ use ndr_code::Instr;
 use ndr_intake::PIECE;
 use ndr_prim::width_of;
 use ndr_state::{DecodeFault, Machine, Phase, gap_before, prim_of, read_value};
-use ndr_steps::Frame;
+use ndr_steps::{First, Frame, Member};
 
 /// A member that is a number: the multiple that its gap goes to, and its primitive.
 #[derive(Clone, Copy, Debug, PartialEq, Eq)]
@@ -150,7 +150,8 @@ fn is_end(code: &[Instr], at: usize) -> bool {
 }
 
 // The number that a call is of, with its gap.
-fn slot_at(code: &[Instr], at: usize) -> Option<Slot> {
+#[inline(always)]
+pub fn slot_at(code: &[Instr], at: usize) -> Option<Slot> {
     let Some(Instr::Call { run }) = code.get(at) else {
         return None;
     };
@@ -369,5 +370,46 @@ fn note_gap_at<L: Ledger>(
         value: 0,
     };
     items.note(item, steps)?;
+    Ok(())
+}
+
+/// A member of a struct that is a number, whose octets have all come.
+#[inline(always)]
+pub fn read_member<L: Ledger>(
+    machine: &mut Machine,
+    order: Order,
+    slot: Slot,
+    octets: &[u8],
+    items: &mut ItemLog,
+    steps: &mut Steps<L>,
+) -> Result<(), DecodeFault> {
+    let wide = width_of(slot.prim);
+    let gap = octets.len() - wide;
+    note_gap_at(machine, 0, gap, items, steps)?;
+    let value = read_value(order, slot.prim, &octets[gap..]);
+    let item = Item {
+        at: machine.at + gap as u32,
+        len: wide as u32,
+        kind: ItemKind::Num,
+        home: machine.home,
+        node: machine.count,
+        value,
+    };
+    items.note(item, steps)?;
+    let member = Member {
+        node: machine.count,
+        pending: machine.fresh.len(),
+    };
+    let Ok(()) = machine.members.push(member) else {
+        return Err(DecodeFault::Memory);
+    };
+    let Ok(()) = machine.firsts.push(First::Number(value)) else {
+        return Err(DecodeFault::Memory);
+    };
+    machine.builder.add(&Seen::Num(value))?;
+    machine.count += 1;
+    machine.at += octets.len() as u32;
+    machine.phase = Phase::Begun;
+    machine.pc += 1;
     Ok(())
 }

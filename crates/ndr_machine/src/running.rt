@@ -18,7 +18,8 @@ ghost use Rattle.ndr_machine.specs.Notes.{RowNoted};
 ghost use Rattle.ndr_machine.specs.Reaching.{Ends, Turns, Fetches, stream_answer};
 
 use crate::records::{
-    MOST_SLOTS, NO_SLOT, Records, find_slots, note_records, read_records, records_here,
+    MOST_SLOTS, NO_SLOT, Records, find_slots, note_records, read_member, read_records,
+    records_here, slot_at,
 };
 use crate::rows::{note_row, read_row, row_len};
 use crate::steps::{Want, is_flow, take_flow, take_step, wanted};
@@ -29,7 +30,8 @@ use nd_value::ItemLog;
 use ndr_code::{EnumLists, Instr};
 use ndr_intake::{Intake, IntakeFault};
 use ndr_prim::width_of;
-use ndr_state::{DecodeFault, Machine, Progress, prim_of};
+use ndr_state::{DecodeFault, Machine, Progress, gap_before, prim_of};
+use ndr_steps::Frame;
 
 /// Reads the value of a home from the instruction at which the machine is. Each state that the code can reach from here must be safe.
 ///
@@ -94,6 +96,19 @@ fn take_turn<S: Source, L: Ledger>(
             let records = records_here(machine, &slots[..members as usize], to);
             if records.count != 0 {
                 return take_records(machine, order, records, intake, source, items, steps);
+            }
+        }
+    }
+    if let Instr::Call { run: _ } = instr {
+        if let Frame::Record { back: _, first: _ } = machine.top {
+            if let Some(slot) = slot_at(code, machine.pc) {
+                let count = gap_before(machine.at, slot.to) + width_of(slot.prim) as u32;
+                let came = fetched(intake.item(source, machine.at, count));
+                if let Err(fault) = came {
+                    return Err(fault);
+                }
+                read_member(machine, order, slot, intake.octets(), items, steps)?;
+                return Ok(Progress::More);
             }
         }
     }
