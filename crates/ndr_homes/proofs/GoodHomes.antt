@@ -27,7 +27,7 @@ use Rattle.nd_value.proofs.Orderly.{pointee_of_cell}
 use Rattle.nd_value.proofs.NodeFacts.{IsFit, fit_node, all_of_list}
 use Rattle.nd_value.proofs.DeferralExists.{direct_is}
 use Rattle.nd_grammar.specs.LegalSide.{IsLegalSide}
-use Rattle.nd_grammar.specs.InPlace.{hoisted, hoisted_max}
+use Rattle.nd_grammar.specs.InPlace.{before_children, hoisted, hoisted_max}
 use Rattle.nd_grammar.specs.Stream.{standing_entries, kids_of}
 use Rattle.nd_grammar.specs.Chosen.{cut_of, cut_within, pipe_cuts}
 use Rattle.nd_grammar.proofs.ChosenRepresents.{w_roots, cell_within, none_inside, dues}
@@ -42,7 +42,7 @@ use Rattle.ndr_pieces.specs.Pieces.{Piece, Gap, four}
 use Rattle.ndr_pieces.specs.Shown.{shown, kinds_pieces, values_pieces, chunks_pieces, pipe_pieces}
 use Rattle.ndr_pieces.specs.Heads.{standings, homes_pieces, pipes_pieces, stream_pieces}
 use Rattle.ndr_pieces.proofs.Showing.{shown_whole}
-use Rattle.ndr_encode.proofs.Fits.{Good, four_good, max_below, values_good, hoisted_good}
+use Rattle.ndr_homes.proofs.Fits.{Good, four_good, max_below, values_good, hoisted_good}
 
 few_of : (vs : List Tree) (i : ℕ) → FewNodes vs → node_count (more (or_unread (slice_get vs i)) none) < 2 ^ 32
 few_of [] i h = omega arith
@@ -153,7 +153,8 @@ module _ (w : Setting) (side : IsLegalSide w) (g : Graph) (c : Conforms w g) whe
   take_good e (suc k) (more (node l ks) ts) p a =
       let one : AllByRecursion Good (values_pieces w.table (e ∷ []) (more (node l ks) none)) =
       values_good w.table side.operations side.legal (none_inside w side g c) g (e ∷ []) (more (node l ks) none) (p, tt) (a.0, a.1, tt) in
-      all_middle (kinds_pieces w.table _) (values_pieces w.table _ ks) (values_pieces w.table (replicate k e) (take_trees k ts)) one (take_good e k ts p a.2)
+      all_middle (kinds_pieces w.table (before_children w.table e (type_at w.table e) l ks)) (values_pieces w.table (child_types (type_at w.table e) l ks) ks)
+      (values_pieces w.table (replicate k e) (take_trees k ts)) one (take_good e k ts p a.2)
     where
       all_middle : (xs ys zs : List Piece) → AllByRecursion Good (xs ++ (ys ++ [])) → AllByRecursion Good zs → AllByRecursion Good (xs ++ (ys ++ zs))
       all_middle xs ys zs a b =

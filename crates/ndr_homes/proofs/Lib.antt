@@ -1,0 +1,5 @@
+pub mod Fits
+pub mod GoodHomes
+pub mod Maxima
+pub mod Encoded
+pub mod HomeTurns
