@@ -1,5 +1,5 @@
 // Instructions of a plan's code: total look-ups.
-ghost use Rattle.std.specs.Prelude.{◌≡◌, ◌<◌, ◌≤◌, ◌&&◌, ◌==◌, List, Option, Some, true, drop, length, slice_get, IfSome, option_map};
+ghost use Rattle.std.specs.Prelude.{◌≡◌, ◌<◌, ◌≤◌, ◌+◌, ◌∷◌, ℕ, List, true, false, drop, length, slice_get, IfSome, option_map, unwrap_or};
 ghost use Rattle.nd_types.specs.Table.{width};
 ghost use Rattle.ndr_code.specs.declared.instr.Instr.{Instr};
 ghost use Rattle.ndr_written.specs.Run.{carrier_of as carrier, target, past_checks as past, num_type, is_ret as ends, row_if, row_at};
@@ -36,22 +36,42 @@ pub(crate) fn carrier_of(of: TypeId) -> Prim
     }
 }
 
+// The address at which an instruction among the arms of a union ends the search for a tag; None where the next one is to be asked.
+fn arm_of(instr: &Instr, tag: i128) -> Option<u32>
+    ensures { (is : List Instr) → target (instr.now ∷ is) tag ≡ unwrap_or result (target is tag) }
+{
+    match instr {
+        Instr::Arm { label, run } => {
+            if *label == tag {
+                return Some(*run);
+            }
+            None
+        }
+        Instr::Other { run } => Some(*run),
+        _ => Some(1),
+    }
+}
+
 // The address of the arm of a tag, among the instructions from an address on.
 pub(crate) fn arm_at(code: &[Instr], from: usize, tag: i128) -> usize
     ensures { result ≡ target (drop from code.now) tag }
 {
     for at in from..code.len() {
-        match code[at] {
-            Instr::Arm { label, run } => {
-                if label == tag {
-                    return run as usize;
-                }
-            }
-            Instr::Other { run } => return run as usize,
-            _ => return 1,
+        if let Some(run) = arm_of(&code[at], tag) {
+            return run as usize;
         }
     }
     1
+}
+
+// Whether an instruction is an agreement.
+fn is_check(instr: &Instr) -> bool
+    ensures { (is : List Instr) (at : ℕ) → past (instr.now ∷ is) at ≡ elim result [ true ↦ past is (at + 1) | false ↦ at ] }
+{
+    match instr {
+        Instr::Check { .. } => true,
+        _ => false,
+    }
 }
 
 // The address of the first instruction that is no agreement, from an address on.
@@ -60,9 +80,8 @@ pub(crate) fn past_checks(code: &[Instr], from: usize) -> usize
     ensures { result ≡ past (drop from code.now) from }
 {
     for at in from..code.len() {
-        match code[at] {
-            Instr::Check { .. } => {}
-            _ => return at,
+        if !is_check(&code[at]) {
+            return at;
         }
     }
     code.len()

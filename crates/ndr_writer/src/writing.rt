@@ -8,7 +8,7 @@ ghost use Rattle.ndr_written.specs.declared.frames.Frame.TheVariants.{Call};
 ghost use Rattle.ndr_written.specs.Run.{Rest, here, later, num_in, tag_in, octets_in, handle_in, past_checks as past, target, back, stepped, run as written_by};
 ghost use Rattle.ndr_writer.specs.Going.{left};
 
-use crate::arrays::{array, chunk, pipe, varying};
+use crate::arrays::{array, next_element, next_of_pipe, pipe, varying};
 use crate::lookups::{arm_at, carrier_of, instr_at, past_checks};
 use crate::nodes::{next_node, number_of, octets_of, tag_of};
 use nd_base::Memory;
@@ -44,38 +44,15 @@ fn go_back<O: Output>(
             *pc = to;
             true
         }
-        Some(Frame::Array { left, run: by, to }) => {
-            if left == 0 {
-                *pc = to;
-            } else {
-                frames.push(Frame::Array {
-                    left: left - 1,
-                    run: by,
-                    to,
-                });
-                *pc = by as usize;
-            }
-            true
-        }
+        Some(Frame::Array { left, run: by, to }) => next_element(left, by, to, pc, frames),
         Some(Frame::Pipe {
             left,
             rest,
             run: by,
             to,
-        }) => {
-            if left == 0 {
-                chunk(run.code, run.chunk, rest, by, to, pc, walk, frames, out);
-            } else {
-                frames.push(Frame::Pipe {
-                    left: left - 1,
-                    rest,
-                    run: by,
-                    to,
-                });
-                *pc = by as usize;
-            }
-            true
-        }
+        }) => next_of_pipe(
+            run.code, run.chunk, left, rest, by, to, pc, walk, frames, out,
+        ),
     }
 }
 
