@@ -25,9 +25,9 @@ impl Stream {
         requires no_home { builder.home ≡ None }
         ensures begins { Begins (between_of result) }
         ensures whole { CanClose result.machine.builder }
+        ensures builder { result.machine.builder ≡ builder }
     {
-        let mut machine = Machine::new(alloc, builder);
-        machine.at = 0;
+        let machine = Machine::new(alloc, builder);
         Stream {
             machine,
             wanted: Vec::new(alloc),

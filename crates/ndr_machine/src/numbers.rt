@@ -16,8 +16,8 @@ use nd_grammar::Reason;
 use nd_types::{Prim, TypeId};
 use nd_value::{ItemKind, ItemLog};
 use ndr_code::EnumLists;
-use ndr_prim::width_of;
-use ndr_state::{DecodeFault, Machine, identifier, read_count, read_value};
+use ndr_prim::{read_context, width_of};
+use ndr_state::{DecodeFault, Machine, read_value};
 
 // `num`
 pub(crate) fn number<L: Ledger>(
@@ -107,8 +107,9 @@ pub(crate) fn context<L: Ledger>(
     ensures outside { OnOk result (outside machine.new ≡ outside machine.old) }
 {
     machine.note(ItemKind::Context, 20, 0, items, steps)?;
-    let attributes = read_count(order, &octets[..4]);
-    let id = identifier(order, &octets[4..]);
+    let mut handle = [0; 20];
+    handle.copy_from_slice(octets);
+    let (attributes, id) = read_context(order, &handle);
     machine.add(&Seen::Context { attributes, id }, None)?;
     machine.pass(20);
     Ok(())

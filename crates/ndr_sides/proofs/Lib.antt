@@ -1,2 +1,2 @@
-mod Parted
+pub mod Parted
 pub mod TriedRoots

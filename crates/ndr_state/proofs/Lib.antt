@@ -1,5 +1,4 @@
 mod Values
-mod Identifiers
 mod Empty
 mod Frames
 pub mod Outside

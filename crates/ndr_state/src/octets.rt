@@ -1,17 +1,15 @@
-// Counts and identifiers in octets.
+// Values and counts in octets.
 ghost use Rattle.std.specs.Prelude.{◌≡◌, ◌<◌, ◌%◌, length};
 ghost use Rattle.nd_types.specs.Number.{unsigned, value_of_octets};
 ghost use Rattle.nd_types.specs.Table.{width};
 ghost use Rattle.nd_flat.specs.FlatForm.{IsKeepableNumber};
 ghost use Rattle.nd_grammar.specs.Entry.{gap};
-ghost use Rattle.nd_grammar.specs.Reader.{identifier as identifier_of};
 ghost use Rattle.ndr_steps.specs.Steps.{prim_of as primitive_of};
 
 use byteorder::{BigEndian, ByteOrder, LittleEndian};
 use nd_base::Order;
 use nd_types::Prim;
 use ndr_prim::read_num;
-use uuid::Uuid;
 
 /// The value that the octets of a primitive hold: a node can keep it. Takes no memory.
 pub fn read_value(order: Order, prim: Prim, octets: &[u8]) -> i128
@@ -30,21 +28,6 @@ pub fn read_count(order: Order, from: &[u8]) -> u32
     match order {
         Order::Big => BigEndian::read_u32(from),
         Order::Little => LittleEndian::read_u32(from),
-    }
-}
-
-/// The identifier of a context handle in 16 octets. Takes no memory.
-pub fn identifier(order: Order, from: &[u8]) -> Uuid
-    requires { length from.now ≡ 16 }
-    ensures { result ≡ identifier_of order from.now from.now }
-{
-    let octets = [
-        from[0], from[1], from[2], from[3], from[4], from[5], from[6], from[7], from[8], from[9],
-        from[10], from[11], from[12], from[13], from[14], from[15],
-    ];
-    match order {
-        Order::Big => Uuid::from_bytes(octets),
-        Order::Little => Uuid::from_bytes_le(octets),
     }
 }
 

@@ -19,6 +19,7 @@ impl Machine {
         ensures builder { result.builder ≡ builder }
         ensures referents { result.referents ≡ [] }
         ensures wanted { result.wanted.items ≡ [] }
+        ensures at { result.at ≡ 0 }
     {
         Machine {
             home: Home::Root(0),

@@ -1,5 +1,4 @@
-use Rattle.std.proofs.Common.{◌≡◌, ◌-◌, ◌∙◌, ◌∷◌, [], ℕ, List, None, ap, sym, pos, take, drop, length, length-drop, arith}
-use Rattle.std.proofs.lemmas.List.{take_all}
+use Rattle.std.proofs.Common.{◌∙◌, ◌∷◌, [], ℕ, List, None, ap, sym, pos, take, drop}
 use Rattle.nd_grammar.specs.Reader.{identifier}
 use Rattle.nd_value.specs.Tree as tree
 use Rattle.nd_value.specs.declared.item.ItemKind.TheVariants as item
@@ -13,11 +12,11 @@ use Rattle.ndr_machine.proofs.numbers.context.Goals as goal
 pub returns-clause-does : goal.returns-clause-does
 returns-clause-does g c =
     let os : List ℕ = c.args.octets.now in
+    let hs : List ℕ = c.copy_from_slice.new.self in
     let s = state_of c.args.machine.now in
-    let rest : take (length os - 4) (drop 4 os) ≡ drop 4 os = take_all (length os - 4) (drop 4 os) (omega (arith, length-drop 4 os)) in
-    ap (λ (a : ℕ). goes (done_after 20 (with_node (tree.Context a (identifier c.args.order os (drop 4 os)), 0) None s))) (sym c.read_count-attributes.ensures)
-    ∙ ap (λ (x : List ℕ). goes (done_after 20 (with_node (tree.Context c.read_count-attributes.result (identifier c.args.order os x), 0) None s))) (sym rest)
-    ∙ ap (λ (i : List ℕ). goes (done_after 20 (with_node (tree.Context c.read_count-attributes.result i, 0) None s))) (sym c.identifier-id.ensures)
+    ap (λ (xs : List ℕ). goes (done_after 20 (with_node (tree.Context (unsigned c.args.order (take 4 xs)) (identifier c.args.order os (drop 4 xs)), 0) None s))) (sym c.copy_from_slice.ensures.after)
+    ∙ ap (λ (a : ℕ). goes (done_after 20 (with_node (tree.Context a (identifier c.args.order os (drop 4 hs)), 0) None s))) (sym c.read_context.ensures.attributes)
+    ∙ ap (λ (i : List ℕ). goes (done_after 20 (with_node (tree.Context c.read_context.result.0 i, 0) None s))) (sym c.read_context.ensures.identifier)
     ∙ ap (λ (q : State). goes (done_after 20 q)) (sym c.in_ok-add.ensures.ok)
     ∙ ap goes (sym c.pass.ensures.is)
 
