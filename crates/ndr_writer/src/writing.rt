@@ -167,16 +167,15 @@ fn call(run: u32, pc: &mut usize, frames: &mut Frames) -> bool
 }
 
 // The number of a pointer.
-fn pointer<O: Output>(run: u32, walk: &mut Walk<'_>, out: &mut O) -> Result<bool, Memory>
+fn pointer<O: Output>(run: u32, walk: &mut Walk<'_>, out: &mut O) -> Result<(), Memory>
     requires { (qs : List Piece) × Able O.can out.old (Name (cell_in (here (flat walk.old)).0) run ∷ qs) }
-    ensures on { IfOk result (λ on. on ≡ true) }
     ensures written { OnOk result ((qs : List Piece) → Moves O.can O.whole out.old out.new (Name (cell_in (here (flat walk.old)).0) run ∷ qs) qs) }
     ensures rest { flat walk.new ≡ later (flat walk.old) }
     ensures fails { IsErr result → O.may_fail ≡ true }
 {
     let node = next_node(walk);
     out.name(node.named_cell(), run)?;
-    Ok(true)
+    Ok(())
 }
 
 // One instruction, where `pc` is the address after it; whether the run goes on.
@@ -213,7 +212,10 @@ fn one<O: Output>(
         Instr::Confvary { run: by } => Ok(varying(run.code, by, pc, walk, frames, out)),
         Instr::Pipe { run: by } => Ok(pipe(by, pc, walk, frames)),
         Instr::Call { run: by } => Ok(call(by, pc, frames)),
-        Instr::Pointer { run: by, .. } => pointer(by, walk, out),
+        Instr::Pointer { run: by, .. } => {
+            pointer(by, walk, out)?;
+            Ok(true)
+        }
         Instr::Arm { .. } => Ok(false),
         Instr::Other { .. } => Ok(false),
         Instr::Noarm => Ok(false),
@@ -240,7 +242,8 @@ fn step<O: Output>(
     match instr_at(run.code, *pc) {
         Some(instr) => {
             *pc = *pc + 1;
-            one(run, instr, pc, walk, frames, out)
+            let on = one(run, instr, pc, walk, frames, out)?;
+            Ok(on)
         }
         None => Ok(false),
     }
