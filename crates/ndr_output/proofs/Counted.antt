@@ -1,5 +1,5 @@
 -- A count stays below its limit.
-use Rattle.std.proofs.Common.{◌≡◌, ℕ, ◌+◌, ◌*◌, ◌<◌, ◌≤◌, ◌^◌, ℤ, Bool, true, false, List, [], ◌∷◌, ◌++◌, length, refl, ap, ap₂, sym, ◌∙◌, subst, arith, append_assoc}
+use Rattle.std.proofs.Common.{◌≡◌, ℕ, ◌+◌, ◌*◌, ◌<◌, ◌≤◌, ◌^◌, ℤ, Bool, true, false, List, [], ◌∷◌, ◌++◌, length, Option, refl, ap, ap₂, sym, ◌∙◌, subst, arith, append_assoc}
 use Rattle.std.specs.Prelude.{◌==◌}
 use Rattle.nd_base.specs.declared.octets.Order.TheVariants.{Little}
 use Rattle.nd_types.specs.declared.types.Primitive.{Primitive}
@@ -9,7 +9,7 @@ use Rattle.ndr_pieces.proofs.Showing.{end_joined}
 use Rattle.std.proofs.Math.Facts.{Fits-of_lt}
 use mir.Val.{Fits}
 use mir.Syntax.{w128}
-use Rattle.ndr_pieces.specs.Pieces.{Piece, Gap, Figure, Raw, four, gap_pieces, number_pieces, row_pieces, piece_size, piece_names, pieces_end, pieces_names}
+use Rattle.ndr_pieces.specs.Pieces.{Piece, Gap, Figure, Name, Raw, four, named_cell, gap_pieces, number_pieces, row_pieces, piece_size, piece_names, pieces_end, pieces_names}
 use Rattle.ndr_output.specs.Outputs.{Whole}
 use Rattle.ndr_output.specs.Counting.{CountCan, count_whole}
 use Rattle.ndr_output.proofs.Rows.{row_end, rest_fits}
@@ -72,12 +72,33 @@ module _ (p : Primitive) (zs : List ℤ) (at end count : ℕ) (names : List (ℕ
       (omega (arith, ends, c.0), rest_fits xs (qs ++ rest) c.1)
 
 -- there is room for a row
-pub count_row : (p : Primitive) (zs : List ℤ) (at count : ℕ) (ps : List Piece) → 0 < count → length zs ≡ count → CountCan at (row_pieces p zs ++ ps)
+pub count_row : (p : Primitive) (zs : List ℤ) (at count : ℕ) (qs rest : List Piece) → 0 < count → length zs ≡ count → CountCan at ((row_pieces p zs ++ qs) ++ rest)
     → at + gap at (width p) + count * width p < 2 ^ 128
-count_row p zs at count ps some many h =
+count_row p zs at count qs rest some many h =
     let any : 0 < length zs = omega (arith, some, many) in
     let xs : List Piece = row_pieces p zs in
-    let g : pieces_end at xs ≤ pieces_end (pieces_end at xs) ps = grows (pieces_end at xs) ps in
-    let j : pieces_end at (xs ++ ps) ≡ pieces_end (pieces_end at xs) ps = end_joined at xs ps in
+    let c : CountCan at (xs ++ (qs ++ rest)) = subst (CountCan at) (append_assoc xs qs rest) h in
+    let g : pieces_end at xs ≤ pieces_end (pieces_end at xs) (qs ++ rest) = grows (pieces_end at xs) (qs ++ rest) in
+    let j : pieces_end at (xs ++ (qs ++ rest)) ≡ pieces_end (pieces_end at xs) (qs ++ rest) = end_joined at xs (qs ++ rest) in
     let e : pieces_end at xs ≡ at + gap at (width p) + count * width p = row_end Little (λ c. c) p at zs any ∙ ap (λ n. at + gap at (width p) + n * width p) many in
-    omega (arith, g, j, e, h.0)
+    omega (arith, g, j, e, c.0)
+
+-- the gap of a row fits, and the row after it
+pub row_gap_fits : (p : Primitive) (zs : List ℤ) (at count g : ℕ) (qs rest : List Piece) → 0 < count → length zs ≡ count → g ≡ gap at (width p)
+    → CountCan at ((row_pieces p zs ++ qs) ++ rest) → Fits w128 (at + g)
+row_gap_fits p zs at count g qs rest some many e h =
+    let all : at + gap at (width p) + count * width p < 2 ^ 128 = count_row p zs at count qs rest some many h in
+    let low : at + g < 2 ^ 128 = omega (arith, all, e) in Fits-of_lt {w = w128} low
+
+pub row_end_fits : (p : Primitive) (zs : List ℤ) (at count g k : ℕ) (qs rest : List Piece) → 0 < count → length zs ≡ count → g ≡ gap at (width p) → k ≡ count * width p
+    → CountCan at ((row_pieces p zs ++ qs) ++ rest) → Fits w128 (at + g + k)
+row_end_fits p zs at count g k qs rest some many e f h =
+    let all : at + gap at (width p) + count * width p < 2 ^ 128 = count_row p zs at count qs rest some many h in
+    let low : at + g + k < 2 ^ 128 = omega (arith, all, e, f) in Fits-of_lt {w = w128} low
+
+-- a pointer was counted, and what it names is kept
+pub name_same : (at run : ℕ) (c : Option ℕ) (old new : List (ℕ × ℕ)) → new ≡ old ++ named_cell c run
+    → (qs rest : List Piece) → count_whole (at + 4) new (qs ++ rest) ≡ count_whole at old ((Name c run ∷ qs) ++ rest)
+name_same at run c old new e qs rest =
+    let W : List (ℕ × ℕ) → Whole = λ ns. record { end = pieces_end (at + 4) (qs ++ rest); octets = []; names = ns; lent = 0; room = 0 } in
+    ap (λ ns. W (ns ++ pieces_names (qs ++ rest))) e ∙ ap W (append_assoc old (named_cell c run) (pieces_names (qs ++ rest)))

@@ -6,6 +6,7 @@ use Rattle.std.proofs.lemmas.Slice.{take-put_mid}
 use Rattle.std.proofs.lemmas.List.{take_all}
 use borrow.Rule.Slice.PartMut.{put_mid}
 use Rattle.nd_base.specs.declared.octets.Order.{Order}
+use Rattle.nd_base.specs.declared.octets.Order.TheVariants.{Little}
 use Rattle.nd_types.specs.declared.types.Primitive.{Primitive}
 use Rattle.nd_types.specs.Table.{width}
 use Rattle.nd_grammar.specs.Entry.{gap}
@@ -86,9 +87,10 @@ all_filled lent to order other num more at os new ps long e =
     let same : ps ++ [] ≡ ps = append-nil ps in
     let at_end : at ≡ pieces_end 0 ps = ap (λ w. w.end) e ∙ ap (pieces_end 0) same in
     let room : length new ≡ length os = ap (λ w. w.room) e in
-    let octets : take at new ++ [] ≡ pieces_octets order num 0 (ps ++ []) = ap (λ w. w.octets) e in
-    (ap (λ w. w.lent) e,
-     sym (take_all at new (omega (arith, at_end, room, long))) ∙ sym (append-nil (take at new)) ∙ octets ∙ ap (pieces_octets order num 0) same)
+    let octets : take at new ++ [] ≡ pieces_octets order num 0 (ps ++ []) = ap (λ w. w.octets) e in (
+      ap (λ w. w.lent) e,
+      sym (take_all at new (omega (arith, at_end, room, long))) ∙ sym (append-nil (take at new)) ∙ octets ∙ ap (pieces_octets order num 0) same,
+    )
 
 -- a row was written: its gap, and then its numbers
 pub row_written : (order : Order) (num : ℕ → ℕ) (p : Primitive) (zs : List ℤ) (at start end count : ℕ) (os mid new : List ℕ) → 0 < count → length zs ≡ count
@@ -97,18 +99,20 @@ pub row_written : (order : Order) (num : ℕ → ℕ) (p : Primitive) (zs : List
     → (end ≡ pieces_end at (row_pieces p zs)) × (take end new ≡ take at os ++ pieces_octets order num at (row_pieces p zs))
 row_written order num p zs at start end count os mid new some many e f g h =
     let any : 0 < length zs = omega (arith, some, many) in
-    let G : List ℕ = replicate {A = ℕ} (gap at (width p)) 0 in
-    (f ∙ ap₂ (λ k n. k + n * width p) e (sym many) ∙ sym (row_end order num p at zs any),
-     h ∙ ap (λ l. l ++ written_all order p zs) g ∙ append_assoc (take at os) G (written_all order p zs) ∙ ap (λ l. take at os ++ l) (sym (row_octets order num p at zs any)))
+    let G : List ℕ = replicate {A = ℕ} (gap at (width p)) 0 in (
+      f ∙ ap₂ (λ k n. k + n * width p) e (sym many) ∙ sym (row_end order num p at zs any),
+      h ∙ ap (λ l. l ++ written_all order p zs) g ∙ append_assoc (take at os) G (written_all order p zs) ∙ ap (λ l. take at os ++ l) (sym (row_octets order num p at zs any)),
+    )
 
 -- there is room for the gap of a row, and for its numbers after it
-pub row_room : (order : Order) (num : ℕ → ℕ) (p : Primitive) (zs : List ℤ) (at count : ℕ) (os : List ℕ) (ps : List Piece) → 0 < count → length zs ≡ count
-    → FillCan at os (row_pieces p zs ++ ps) → at + gap at (width p) + count * width p ≤ length os
-row_room order num p zs at count os ps some many h =
+pub row_room : (p : Primitive) (zs : List ℤ) (at count w : ℕ) (os : List ℕ) (qs rest : List Piece) → 0 < count → length zs ≡ count → w ≡ width p
+    → FillCan at os ((row_pieces p zs ++ qs) ++ rest) → at + gap at w + count * width p ≤ length os
+row_room p zs at count w os qs rest some many wide h =
     let any : 0 < length zs = omega (arith, some, many) in
-    let whole : pieces_end at (row_pieces p zs) ≤ length os = room_all at os (row_pieces p zs) ps h in
-    let e : pieces_end at (row_pieces p zs) ≡ at + gap at (width p) + count * width p =
-        row_end order num p at zs any ∙ ap (λ n. at + gap at (width p) + n * width p) many in
+    let xs : List Piece = row_pieces p zs in
+    let whole : pieces_end at xs ≤ length os = room_all at os xs (qs ++ rest) (subst (FillCan at os) (append_assoc xs qs rest) h) in
+    let e : pieces_end at xs ≡ at + gap at w + count * width p =
+    row_end Little (λ c. c) p at zs any ∙ ap₂ (λ v n. at + gap at v + n * width p) (sym wide) many in
     omega (arith, whole, e)
 
 module _ (lent : ℕ) (order : Order) (num : ℕ → ℕ) (at end : ℕ) (os new : List ℕ) (xs : List Piece) (e : end ≡ pieces_end at xs) (l : length new ≡ length os)

@@ -1,15 +1,17 @@
 -- Numbers side by side: their pieces, and their octets.
-use Rattle.std.proofs.Common.{◌≡◌, ◌≢◌, ◌⊎◌, inl, inr, ℕ, ◌+◌, ◌-◌, ◌*◌, ◌%◌, ◌<◌, ◌≤◌, zero, suc, ℤ, true, List, [], ◌∷◌, ◌++◌, length, take, drop, refl, ap, ap₂, sym, ◌∙◌, subst, arith, append_assoc, append-nil, length-drop, drop-drop}
-use Rattle.std.specs.Prelude.{◌==◌, replicate}
+use Rattle.std.proofs.Common.{◌≡◌, ◌≢◌, ◌⊎◌, inl, inr, ℕ, ◌+◌, ◌-◌, ◌*◌, ◌%◌, ◌<◌, ◌≤◌, zero, suc, ℤ, true, List, [], ◌∷◌, ◌++◌, length, take, drop, false, rules, length-append, refl, ap, ap₂, sym, ◌∙◌, subst, arith, append_assoc, append-nil, length-drop, drop-drop}
+use Rattle.std.specs.Prelude.{◌==◌, ◌^◌, get_or, replicate}
 use Rattle.std.specs.List.{AllByRecursion}
 use Rattle.std.proofs.lemmas.List.{take_all}
 use Rattle.nd_base.specs.declared.octets.Order.{Order}
 use Rattle.nd_base.specs.declared.octets.Order.TheVariants.{Big, Little}
+use Rattle.nd_base.specs.contracts.octets.OrderPartialEq.TheImpl as is-order
+use Rattle.nd_types.specs.contracts.types.PrimitivePartialEq.TheImpl.{eq-value}
 use Rattle.nd_types.specs.declared.types.Primitive.{Primitive}
 use Rattle.nd_types.specs.declared.types.Primitive.TheVariants.{Boolean, Char, Byte, Small, UnsignedSmall, Short, UnsignedShort, Long, UnsignedLong, Hyper, UnsignedHyper}
 use Rattle.nd_types.specs.Table.{width, in_range}
 use Rattle.nd_types.specs.Number.{AreOctets, value_of_octets, written}
-use Rattle.nd_types.proofs.NumberLaws.{write_after_read}
+use Rattle.nd_types.proofs.NumberLaws.{write_after_read, written-length}
 use Rattle.nd_grammar.specs.Entry.{gap}
 use Rattle.nd_flat.specs.FlatForm.{row_values}
 use Rattle.ndr_pieces.specs.Pieces.{Piece, Figure, gap_pieces, number_pieces, row_pieces, pieces_end, pieces_octets}
@@ -40,6 +42,10 @@ octets_dropped (suc n) (x ∷ os) h = octets_dropped n os h.1
 
 left_long : (n w : ℕ) (os : List ℕ) → length os ≡ suc n * w → length (drop w os) ≡ n * w
 left_long n w os e = length-drop w os ∙ (let h : suc n * w ≡ w + n * w = omega arith in omega (arith, e, h))
+
+pub octets_by_index : (os : List ℕ) → ((i : ℕ) → get_or os i 0 < 2 ^ 8) → AreOctets os
+octets_by_index [] h = tt
+octets_by_index (b ∷ os) h = (h 0, octets_by_index os (λ i. h (suc i)))
 
 -- what is written for numbers that were read is what they were read from
 copied : (order : Order) (p : Primitive) → p ≢ Boolean → (n : ℕ) (os : List ℕ) → length os ≡ n * width p → AreOctets os
@@ -87,6 +93,26 @@ single_octets o order of p n os e other one long h =
 pub values_many : (o : Order) (p : Primitive) (n : ℕ) (os : List ℕ) → length (row_values o p n os) ≡ n
 values_many o p zero os = refl
 values_many o p (suc n) os = ap suc (values_many o p n (drop (width p) os))
+
+pub written_many : (order : Order) (p : Primitive) (zs : List ℤ) → length (written_all order p zs) ≡ length zs * width p
+written_many order p [] = omega arith
+written_many order p (z ∷ zs) =
+    let more : suc (length zs) * width p ≡ width p + length zs * width p = omega arith in
+    length-append (written order p z) (written_all order p zs) ∙ ap₂ (λ m n. m + n) (written-length order p z) (written_many order p zs) ∙ sym more
+
+-- octets that are the numbers of a row are as many as these need
+pub written_long : (order o : Order) (p of : Primitive) (n : ℕ) (os : List ℕ) → os ≡ written_all order p (row_values o of n os) → length os ≡ n * width p
+written_long order o p of n os e = ap length e ∙ written_many order p (row_values o of n os) ∙ ap (λ k. k * width p) (values_many o of n os)
+
+-- a primitive that is said to be another, and one that is said to be none
+pub same_primitive : (x y : Primitive) → eq-value.it x y ≡ true → x ≡ y
+same_primitive x y h = search rules
+
+pub other_primitive : (x y : Primitive) → eq-value.it x y ≡ false → x ≢ y
+other_primitive x y h = search rules
+
+pub same_orders : (x y : Order) → is-order.eq-value.it x y ≡ true → x ≡ y
+same_orders x y h = search rules
 
 -- ## Gaps
 
@@ -172,9 +198,46 @@ row_fits p [] rest h = tt
 row_fits p (z ∷ zs) rest h =
     let own : AllByRecursion FitsPiece (number_pieces p z ++ (row_pieces p zs ++ rest)) = subst (AllByRecursion FitsPiece) (append_assoc (number_pieces p z) (row_pieces p zs) rest) h in
     let figure : AllByRecursion FitsPiece (Figure p z ∷ (row_pieces p zs ++ rest)) =
-        fits_after (gap_pieces (width p)) (Figure p z ∷ (row_pieces p zs ++ rest))
-        (subst (AllByRecursion FitsPiece) (append_assoc (gap_pieces (width p)) (Figure p z ∷ []) (row_pieces p zs ++ rest)) own) in
+    fits_after (gap_pieces (width p)) (Figure p z ∷ (row_pieces p zs ++ rest))
+    (subst (AllByRecursion FitsPiece) (append_assoc (gap_pieces (width p)) (Figure p z ∷ []) (row_pieces p zs ++ rest)) own) in
     (figure.0, row_fits p zs rest figure.1)
 
 pub rest_fits : (xs ys : List Piece) → AllByRecursion FitsPiece (xs ++ ys) → AllByRecursion FitsPiece ys
 rest_fits xs ys h = fits_after xs ys h
+
+-- the same with what follows in two parts
+pub row_ranged : (p : Primitive) (zs : List ℤ) (qs rest : List Piece) → AllByRecursion FitsPiece ((row_pieces p zs ++ qs) ++ rest) → AllByRecursion (λ z. in_range p z ≡ true) zs
+row_ranged p zs qs rest h = row_fits p zs (qs ++ rest) (subst (AllByRecursion FitsPiece) (append_assoc (row_pieces p zs) qs rest) h)
+
+-- ## Numbers one by one
+
+-- from octet `from` on, `n` numbers are left, and `m` after the next one
+module _ (o : Order) (of : Primitive) (os : List ℕ) (from next m n : ℕ) (more : n ≡ suc m) (wide : next ≡ from + width of) where
+  one_left : row_values o of n (drop from os) ≡ value_of_octets o of (take (width of) (drop from os)) ∷ row_values o of m (drop next os)
+  one_left =
+      ap (λ k. row_values o of k (drop from os)) more
+      ∙ ap (λ l. value_of_octets o of (take (width of) (drop from os)) ∷ row_values o of m l) (drop-drop (width of) from os ∙ ap (λ k. drop k os) (sym wide))
+
+  -- the next number is in range, and so are those after it
+  pub next_ranged : (p : Primitive) (z : ℤ) → z ≡ value_of_octets o of (take (width of) (drop from os))
+      → AllByRecursion (λ y. in_range p y ≡ true) (row_values o of n (drop from os)) → in_range p z ≡ true
+  next_ranged p z is h =
+      let h2 : AllByRecursion (λ y. in_range p y ≡ true) (value_of_octets o of (take (width of) (drop from os)) ∷ row_values o of m (drop next os)) =
+      subst (AllByRecursion (λ y. in_range p y ≡ true)) one_left h in
+      ap (in_range p) is ∙ h2.0
+
+  pub rest_ranged : (p : Primitive) → AllByRecursion (λ y. in_range p y ≡ true) (row_values o of n (drop from os))
+      → AllByRecursion (λ y. in_range p y ≡ true) (row_values o of m (drop next os))
+  rest_ranged p h =
+      let h2 : AllByRecursion (λ y. in_range p y ≡ true) (value_of_octets o of (take (width of) (drop from os)) ∷ row_values o of m (drop next os)) =
+      subst (AllByRecursion (λ y. in_range p y ≡ true)) one_left h in h2.1
+
+  -- the next number is written, and the others follow
+  pub next_written : (order : Order) (p : Primitive) (z : ℤ) (a b whole : List ℕ) → z ≡ value_of_octets o of (take (width of) (drop from os))
+      → b ≡ a ++ written order p z → a ++ written_all order p (row_values o of n (drop from os)) ≡ whole
+      → b ++ written_all order p (row_values o of m (drop next os)) ≡ whole
+  next_written order p z a b whole is one all =
+      let V : ℤ = value_of_octets o of (take (width of) (drop from os)) in
+      let R : List ℕ = written_all order p (row_values o of m (drop next os)) in
+      ap (λ l. l ++ R) (one ∙ ap (λ y. a ++ written order p y) is) ∙ append_assoc a (written order p V) R
+      ∙ ap (λ zs. a ++ written_all order p zs) (sym one_left) ∙ all

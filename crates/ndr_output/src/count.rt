@@ -28,13 +28,21 @@ pub struct Count {
     pub names: Vec<Named>,
 }
 
-// The length of the gap up to the next multiple.
+// The length of the gap up to the next multiple; of a multiple of a number that alignments have no division is needed.
 fn gap_of(at: u128, to: u8) -> u128
     requires { 0 < to }
     ensures { result ≡ gap at to }
 {
-    let to = u128::from(to);
-    (to - at % to) % to
+    match to {
+        1 => 0,
+        2 => (2 - at % 2) % 2,
+        4 => (4 - at % 4) % 4,
+        8 => (8 - at % 8) % 8,
+        _ => {
+            let to = u128::from(to);
+            (to - at % to) % to
+        }
+    }
 }
 
 // The length of a row after its gap.

@@ -30,8 +30,16 @@ fn gap_at(at: usize, to: u8) -> usize
     requires { 0 < to }
     ensures { result ≡ gap at to }
 {
-    let to = to as usize;
-    (to - at % to) % to
+    match to {
+        1 => 0,
+        2 => (2 - at % 2) % 2,
+        4 => (4 - at % 4) % 4,
+        8 => (8 - at % 8) % 8,
+        _ => {
+            let to = usize::from(to);
+            (to - at % to) % to
+        }
+    }
 }
 
 // Zeros.
@@ -47,17 +55,6 @@ fn write_long(order: Order, value: u32, to: &mut [u8])
     ensures { to.new ≡ spelling order 4 value }
 {
     write_num(order, Prim::UnsignedLong, i128::from(value), to);
-}
-
-// A context handle in 20 octets.
-fn write_handle(order: Order, attributes: u32, id: Uuid, to: &mut [u8])
-    requires { length to.old ≡ 20 }
-    ensures { to.new ≡ context_octets order attributes id }
-{
-    let Some(to) = to.first_chunk_mut::<20>() else {
-        unreachable!()
-    };
-    write_context(order, attributes, id, to);
 }
 
 // The number that is written for a pointer.
@@ -77,7 +74,11 @@ fn write_gap(at: usize, to: u8, out: &mut [u8]) -> usize
     ensures front { take result out.new ≡ take at out.old ++ replicate (gap at to) 0 }
     ensures end { result ≡ at + gap at to }
 {
-    let end = at + gap_at(at, to);
+    let size = gap_at(at, to);
+    if size == 0 {
+        return at;
+    }
+    let end = at + size;
     write_zeros(&mut out[at..end]);
     end
 }
@@ -143,14 +144,15 @@ fn write_text(order: Order, octets: &[u8], at: usize, out: &mut [u8]) -> usize
     write_zero(end, out)
 }
 
-fn write_context_at(order: Order, attributes: u32, id: Uuid, at: usize, out: &mut [u8]) -> usize
+// A context handle.
+fn write_handle(order: Order, attributes: u32, id: Uuid, at: usize, out: &mut [u8]) -> usize
     requires { at + 20 ≤ length out.old }
     ensures front { take result out.new ≡ take at out.old ++ context_octets order attributes id }
     ensures end { result ≡ at + 20 }
 {
-    let end = at + 20;
-    write_handle(order, attributes, id, &mut out[at..end]);
-    end
+    let mut octets = [0; 20];
+    write_context(order, attributes, id, &mut octets);
+    write_raw(&octets, at, out)
 }
 
 impl Output for Fill<'_> {
@@ -185,7 +187,7 @@ impl Output for Fill<'_> {
     }
 
     fn handle(&mut self, attributes: u32, id: Uuid) {
-        self.at = write_context_at(self.order, attributes, id, self.at, self.out);
+        self.at = write_handle(self.order, attributes, id, self.at, self.out);
     }
 
     fn name(&mut self, cell: Option<CellId>, run: u32) -> Result<(), Memory> {
