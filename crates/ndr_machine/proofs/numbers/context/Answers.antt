@@ -15,8 +15,8 @@ returns-clause-does g c =
     let hs : List ℕ = c.copy_from_slice.new.self in
     let s = state_of c.args.machine.now in
     ap (λ (xs : List ℕ). goes (done_after 20 (with_node (tree.Context (unsigned c.args.order (take 4 xs)) (identifier c.args.order os (drop 4 xs)), 0) None s))) (sym c.copy_from_slice.ensures.after)
-    ∙ ap (λ (a : ℕ). goes (done_after 20 (with_node (tree.Context a (identifier c.args.order os (drop 4 hs)), 0) None s))) (sym c.read_context.ensures.attributes)
-    ∙ ap (λ (i : List ℕ). goes (done_after 20 (with_node (tree.Context c.read_context.result.0 i, 0) None s))) (sym c.read_context.ensures.identifier)
+    ∙ ap (λ (a : ℕ). goes (done_after 20 (with_node (tree.Context a (identifier c.args.order os (drop 4 hs)), 0) None s))) (sym c.read_context-attributes.ensures.attributes)
+    ∙ ap (λ (i : List ℕ). goes (done_after 20 (with_node (tree.Context c.read_context-attributes.result.0 i, 0) None s))) (sym c.read_context-attributes.ensures.identifier)
     ∙ ap (λ (q : State). goes (done_after 20 q)) (sym c.in_ok-add.ensures.ok)
     ∙ ap goes (sym c.pass.ensures.is)
 
