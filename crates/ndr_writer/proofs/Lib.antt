@@ -1,2 +1,4 @@
+pub mod Elements
 pub mod Going
-pub mod Numbers
+pub mod Instructions
+pub mod NextNumbers
