@@ -3,3 +3,4 @@ pub mod GoodHomes
 pub mod Maxima
 pub mod Encoded
 pub mod HomeTurns
+pub mod LastMaxima

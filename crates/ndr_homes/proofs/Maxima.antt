@@ -1,7 +1,8 @@
 -- A maximum count is before a home whose run begins with one, and of the others it says nothing.
 use Rattle.std.proofs.Common.{◌≡◌, ℕ, ◌+◌, ◌*◌, ◌^◌, ◌<◌, ◌≤◌, zero, suc, Bool, true, false, List, [], ◌∷◌, ◌++◌, length, map, drop, Option, Some, None, refl, ap, ap₂, sym, ◌∙◌, subst, arith}
 use Rattle.std.specs.List.{AllByRecursion, slice_get, flat_map}
-use Rattle.nd_types.specs.Table.{type_at}
+use Rattle.nd_types.specs.declared.types.TypeDef.{TypeDef}
+use Rattle.nd_types.specs.Table.{Table, type_at}
 use Rattle.nd_types.specs.Layout.{hoists}
 use Rattle.nd_types.specs.Roots.{Root}
 use Rattle.nd_value.specs.declared.value.Graph.{Graph}
@@ -26,7 +27,7 @@ use Rattle.ndr_pieces.specs.Pieces.{Piece}
 use Rattle.ndr_pieces.specs.Shown.{kinds_pieces, values_pieces}
 use Rattle.ndr_pieces.specs.Heads.{standings}
 use Rattle.ndr_written.specs.Run.{run}
-use Rattle.ndr_written.specs.Shaped.{Shaped}
+use Rattle.ndr_written.specs.Shaped.{Form, form_num, form_enum, form_struct, form_array, form_text, form_union, form_pointer, form_context, Shaped}
 use Rattle.ndr_written.proofs.Runs.{home_written}
 use Rattle.ndr_written.proofs.Pipes.{pipe_written}
 use Rattle.ndr_shaped.specs.ShapedPipes.{IsShapedPipe}
@@ -59,6 +60,17 @@ flat_joined : {X Y : Type 0} (f g : X → List Y) (xs : List X) → AllByRecursi
 flat_joined f g [] a = refl
 flat_joined f g (x ∷ xs) a = ap₂ (λ u v. u ++ v) a.0 (flat_joined f g xs a.1)
 
+-- the type of a node that has its form
+form_type : (table : Table) (t : ℕ) (l : Label) (ks : Trees) → Form table t l ks → (d : TypeDef) × (type_at table t ≡ Some d)
+form_type table t l ks (form_num is e) = (_, is)
+form_type table t l ks (form_enum is) = (_, is)
+form_type table t l ks (form_struct is) = (_, is)
+form_type table t l ks (form_array is) = (_, is)
+form_type table t l ks (form_text is) = (_, is)
+form_type table t l ks (form_union a is tag chosen) = (_, is)
+form_type table t l ks (form_pointer is) = (_, is)
+form_type table t l ks (form_context is) = (_, is)
+
 module _ (w : Setting) (side : IsLegalSide w) (g : Graph) (c : Conforms w g) where
   abbrev C : List Instr
   C = code_of w.table side.operations
@@ -89,8 +101,9 @@ module _ (w : Setting) (side : IsLegalSide w) (g : Graph) (c : Conforms w g) whe
         → run C (max_by (slice_get C (whole_at w.table t)) (hoisted_max 0 (more v none))) k STEPS (whole_at w.table t) [] (flat (more v none))
         ≡ run C (hoisted_max 0 (more v none)) k STEPS (whole_at w.table t) [] (flat (more v none))
     same_run t (node l ks) s few true e =
+        let (D, is) = form_type w.table t l ks s.0 in
         let first : slice_get C (whole_at w.table t) ≡ Some op.Hoist =
-        first_at C (whole_at w.table t) op.Hoist (op.Call (place_at w.table t) ∷ op.Ret ∷ []) (hoist_run_at w.table side.operations t e) in
+        first_at C (whole_at w.table t) op.Hoist (op.Call (place_at w.table t) ∷ op.Ret ∷ []) (hoist_run_at w.table side.operations t D is e) in
         ap (λ i. run C (max_by i (hoisted_max 0 (more (node l ks) none))) k STEPS (whole_at w.table t) [] (flat (more (node l ks) none))) first
     same_run t (node l ks) s few false e =
         let M : ℕ = hoisted_max 0 (more (node l ks) none) in

@@ -1,6 +1,6 @@
 -- What is written home by home, where a maximum count is found when its run begins with one.
 -- `code` is a plan's code, `g` a graph, `u` a home with the address of its run, `k` the greatest count of a chunk.
-use Rattle.std.specs.Prelude.{ℕ, List, [], Option, Some, flat_map, map}
+use Rattle.std.specs.Prelude.{ℕ, Bool, true, false, List, [], Option, Some, flat_map, map}
 use Rattle.std.specs.List.{slice_get}
 use Rattle.nd_value.specs.declared.value.Graph.{Graph}
 use Rattle.nd_value.specs.declared.item.Home.{Home}
@@ -21,10 +21,14 @@ turn_pair t = (t.home, t.start)
 abbrev pub turn_pairs : List Turn → List (Home × ℕ)
 turn_pairs ts = map turn_pair ts
 
+-- an instruction that writes a maximum count
+abbrev pub is_hoist : Option Instr → Bool
+is_hoist (Some op.Hoist) = true
+is_hoist i = false
+
 -- a maximum count where a run begins with one, else 0
 abbrev pub max_by : Option Instr → ℕ → ℕ
-max_by (Some op.Hoist) m = m
-max_by i m = 0
+max_by i m = elim (is_hoist i) [ true ↦ m | false ↦ 0 ]
 
 abbrev pub max_of : List Instr → Graph → Home × ℕ → ℕ
 max_of code g u = max_by (slice_get code u.1) (hoisted_max 0 (more (value_at g u.0) none))

@@ -24,7 +24,9 @@ fn fill_from(code: &[Instr], chunk: u32, turns: &[Turn], fit: &Fit, fill: &mut F
     ensures filled { fill.new.out.now ≡ pieces_octets fill.old.order (λ c. get_or fill.old.numbers.now c 0) 0 (written_turns code.now chunk fit.now.graph (turn_pairs turns.now)) }
 {
     let mut frames = Frames::new();
-    let _ = write_turns(code, chunk, turns, fit, &mut frames, fill);
+    let Ok(()) = write_turns(code, chunk, turns, fit, &mut frames, fill) else {
+        unreachable!()
+    };
 }
 
 /// Fills octets with homes in their order, each by its run: gaps of zeros, and for each pointer the number of its cell. `chunk` is the greatest count of a chunk. It takes no

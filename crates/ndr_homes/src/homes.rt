@@ -1,14 +1,13 @@
 // The homes of a graph, each by its run.
-ghost use Rattle.std.specs.Prelude.{◌≡◌, ◌<◌, ◌^◌, [], OnOk, IsErr, length};
-ghost use Rattle.std.specs.List.{AllByRecursion};
-ghost use Rattle.nd_value.specs.Conforms.{HasFewNodes};
-ghost use Rattle.nd_value.specs.Tree.{none, more, flat, node_count};
+ghost use Rattle.std.specs.Prelude.{◌≡◌, true, [], OnOk, IsErr};
+ghost use Rattle.std.specs.List.{AllByRecursion, slice_get};
+ghost use Rattle.nd_value.specs.Tree.{none, more, flat};
 ghost use Rattle.nd_flat.specs.Building.{HasHome};
 ghost use Rattle.ndr_output.specs.Outputs.{Moves, Able};
 ghost use Rattle.ndr_written.specs.Run.{run as written_by};
 ghost use Rattle.ndr_turns.specs.Turned.{STEPS};
 ghost use Rattle.ndr_chosen.specs.Written.{value_at};
-ghost use Rattle.ndr_homes.specs.Turns.{turn_pair, turn_pairs, max_of, written_turns};
+ghost use Rattle.ndr_homes.specs.Turns.{turn_pair, turn_pairs, is_hoist as hoists, max_of, written_turns};
 
 use crate::maximum::maximum_of;
 use crate::turn::Turn;
@@ -48,15 +47,33 @@ pub fn write_home<O: Output>(
     )
 }
 
+// The instruction at an address, if there is one.
+fn instr_at(code: &[Instr], at: usize) -> Option<Instr>
+    ensures { result ≡ slice_get code.now at }
+{
+    code.get(at).copied()
+}
+
+// Whether an instruction writes a maximum count.
+fn is_hoist(instr: &Option<Instr>) -> bool
+    ensures { result ≡ hoists instr.now }
+{
+    match instr {
+        Some(Instr::Hoist) => true,
+        _ => false,
+    }
+}
+
 // The maximum count before a home, where its run begins with one.
 fn max_before(code: &[Instr], turn: Turn, fit: &Fit) -> u32
     requires there { HasHome fit.now.graph turn.home }
     ensures { result ≡ max_of code.now fit.now.graph (turn_pair turn) }
 {
-    match code.get(turn.start as usize) {
-        Some(Instr::Hoist) => maximum_of(&mut fit.walk(turn.home)),
-        _ => 0,
+    let first = instr_at(code, turn.start as usize);
+    if is_hoist(&first) {
+        return maximum_of(&mut fit.walk(turn.home));
     }
+    0
 }
 
 // Writes homes in their order.
