@@ -46,15 +46,12 @@ module _ (f : Fitting) (k : ℕ) (work : WorkSeen) (fit : IsFit f) (x : IsWorkFo
   abbrev C : List Instr
   C = code_of f.interface.types f.interface.operations
 
-  abbrev us : List _
-  us = all_turns W f.interface.operations f.op f.graph x.steps
-
   -- the homes are there
-  pub work_there : AllByRecursion (λ t. HasHome f.graph t.home) work.turns
+  work_there : AllByRecursion (λ t. HasHome f.graph t.home) work.turns
   work_there = there_of f.graph work.turns (subst (AllByRecursion (λ u. HasHome f.graph u.0)) (sym x.turns) (all_there W side f.graph conforms f.op x.steps x.deferral))
 
   -- their pieces have the length of the work
-  pub work_ends : pieces_end 0 (written_turns C work.chunk f.graph (turn_pairs work.turns)) ≡ work.length
+  work_ends : pieces_end 0 (written_turns C work.chunk f.graph (turn_pairs work.turns)) ≡ work.length
   work_ends =
       ap (λ n. pieces_end 0 (written_turns C n f.graph (turn_pairs work.turns))) x.chunk ∙ ap (λ u. pieces_end 0 (written_turns C k f.graph u)) x.turns
       ∙ ap (pieces_end 0) (turns_same W side f.graph conforms (pipes_last W) k f.op x.is_there x.steps x.deferral x.some)
@@ -67,26 +64,38 @@ module _ (f : Fitting) (k : ℕ) (work : WorkSeen) (fit : IsFit f) (x : IsWorkFo
       (subst (λ u. AllByRecursion FitsPiece (written_turns C k f.graph u)) (sym x.turns)
       (turns_fit W side f.graph conforms (pipes_last W) k f.op x.is_there x.steps x.deferral x.some))
 
-  pub work_can : (code : List Instr) → code ≡ C → (out : List ℕ) → length out ≡ work.length → FillCan 0 out (written_turns code work.chunk f.graph (turn_pairs work.turns) ++ [])
-  work_can code same out room =
-      let ps : List Piece = written_turns C work.chunk f.graph (turn_pairs work.turns) in
-      let e : pieces_end 0 ps ≡ work.length = work_ends in
-      subst (λ q. FillCan 0 out (written_turns q work.chunk f.graph (turn_pairs work.turns) ++ [])) (sym same)
-      (subst (FillCan 0 out) (sym (append-nil ps)) (omega (arith, e, room), work_fits))
+  abbrev ps : List Piece
+  ps = written_turns C work.chunk f.graph (turn_pairs work.turns)
 
-  pub work_long : (code : List Instr) → code ≡ C → (out : List ℕ) → length out ≡ work.length → pieces_end 0 (written_turns code work.chunk f.graph (turn_pairs work.turns)) ≡ length out
-  work_long code same out room = ap (λ q. pieces_end 0 (written_turns q work.chunk f.graph (turn_pairs work.turns))) same ∙ work_ends ∙ sym room
+  -- what is written by these is what the work is for
+  module _ (code : List Instr) (same : code ≡ C) (ts : List Turn) (turns_are : ts ≡ work.turns) (n : ℕ) (chunk_is : n ≡ work.chunk) where
+    written_is : written_turns code n f.graph (turn_pairs ts) ≡ ps
+    written_is =
+        ap (λ q. written_turns q n f.graph (turn_pairs ts)) same ∙ ap (λ q. written_turns C n f.graph (turn_pairs q)) turns_are
+        ∙ ap (λ q. written_turns C q f.graph (turn_pairs work.turns)) chunk_is
 
-  -- these are the octets that are chosen
-  pub work_chosen : (code : List Instr) → code ≡ C → (order : Order) (octets : List ℕ)
-      → octets ≡ pieces_octets order (λ c. get_or work.numbers c 0) 0 (written_turns code work.chunk f.graph (turn_pairs work.turns)) → IsChosen f order work.chunk octets
-  work_chosen code same order octets e o there =
-      let num : ℕ → ℕ = λ c. get_or work.numbers c 0 in
-      let is : octets ≡ pieces_octets order num 0 (turns_pieces C k f.graph us) =
-      e ∙ ap (λ q. pieces_octets order num 0 (written_turns q work.chunk f.graph (turn_pairs work.turns))) same
-      ∙ ap (λ n. pieces_octets order num 0 (written_turns C n f.graph (turn_pairs work.turns))) x.chunk
-      ∙ ap (λ u. pieces_octets order num 0 (written_turns C k f.graph u)) x.turns
-      ∙ ap (pieces_octets order num 0) (turns_same W side f.graph conforms (pipes_last W) k f.op x.is_there x.steps x.deferral x.some) in
-      subst (λ q. Chosen (setting f q) order work.chunk f.graph octets) (same_Some _ _ (sym x.is_there ∙ there))
-      (subst (λ n. Chosen W order n f.graph octets) (sym x.chunk)
-      (subst (Chosen W order k f.graph) (sym is) (chosen W side f.graph conforms (pipes_last W) k f.op x.is_there x.steps x.deferral x.some order work.numbers x.numbers)))
+    pub turns_there : AllByRecursion (λ t. HasHome f.graph t.home) ts
+    turns_there = subst (AllByRecursion (λ t. HasHome f.graph t.home)) (sym turns_are) work_there
+
+    pub work_can : (out : List ℕ) → length out ≡ work.length → FillCan 0 out (written_turns code n f.graph (turn_pairs ts) ++ [])
+    work_can out room =
+        let e : pieces_end 0 ps ≡ work.length = work_ends in
+        subst (λ q. FillCan 0 out (q ++ [])) (sym written_is) (subst (FillCan 0 out) (sym (append-nil ps)) (omega (arith, e, room), work_fits))
+
+    pub work_long : (out : List ℕ) → length out ≡ work.length → pieces_end 0 (written_turns code n f.graph (turn_pairs ts)) ≡ length out
+    work_long out room = ap (pieces_end 0) written_is ∙ work_ends ∙ sym room
+
+    -- these are the octets that are chosen
+    pub work_chosen : (order : Order) (numbers octets : List ℕ) → numbers ≡ work.numbers
+        → octets ≡ pieces_octets order (λ c. get_or numbers c 0) 0 (written_turns code n f.graph (turn_pairs ts)) → IsChosen f order work.chunk octets
+    work_chosen order numbers octets numbers_are e o there =
+        let num : ℕ → ℕ = λ c. get_or work.numbers c 0 in
+        let is : octets ≡ pieces_octets order num 0 (turns_pieces C k f.graph (all_turns W f.interface.operations f.op f.graph x.steps)) =
+        e ∙ ap (λ q. pieces_octets order (λ c. get_or q c 0) 0 (written_turns code n f.graph (turn_pairs ts))) numbers_are
+        ∙ ap (pieces_octets order num 0) written_is
+        ∙ ap (λ m. pieces_octets order num 0 (written_turns C m f.graph (turn_pairs work.turns))) x.chunk
+        ∙ ap (λ u. pieces_octets order num 0 (written_turns C k f.graph u)) x.turns
+        ∙ ap (pieces_octets order num 0) (turns_same W side f.graph conforms (pipes_last W) k f.op x.is_there x.steps x.deferral x.some) in
+        subst (λ q. Chosen (setting f q) order work.chunk f.graph octets) (same_Some _ _ (sym x.is_there ∙ there))
+        (subst (λ m. Chosen W order m f.graph octets) (sym x.chunk)
+        (subst (Chosen W order k f.graph) (sym is) (chosen W side f.graph conforms (pipes_last W) k f.op x.is_there x.steps x.deferral x.some order work.numbers x.numbers)))

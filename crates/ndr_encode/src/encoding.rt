@@ -20,13 +20,8 @@ pub fn encode_with(work: &mut Work, plan: &Plan, fit: &Fit, order: Order, out: &
 {
     // A fit's graph conforms.
     let _conforming = fit.flat();
-    fill_turns(
-        plan.code.as_slice(),
-        work.chunk,
-        work.turns.as_slice(),
-        fit,
-        order,
-        work.numbers.as_slice(),
-        out,
-    );
+    let code = plan.code.as_slice();
+    let turns = work.turns.as_slice();
+    let numbers = work.numbers.as_slice();
+    fill_turns(code, work.chunk, turns, fit, order, numbers, out);
 }
