@@ -11,7 +11,7 @@ pub go_back-requires : goal.go_back-requires
 go_back-requires g c = (c.requires.able.0, able_arm g.O.Output.can g.O.Output.whole c.args.run.now.code.now c.args.run.now.max c.args.run.now.chunk _ _ _ _ _ _ _ c.in-Ret.is c.requires.able.3)
 
 pub returns-in-Ret-clause-moved : goal.returns-in-Ret-clause-moved
-returns-in-Ret-clause-moved g c = λ G at e. moves_from g.O.Output.can g.O.Output.whole _ _ _ _ _ (ap (λ j. stepped G c.args.run.now.code.now c.args.run.now.max c.args.run.now.chunk at c.args.frames (flat c.args.walk.now) (Some j)) c.in-Ret.is) (c.go_back.ensures G)
+returns-in-Ret-clause-moved g c = λ G at e. moves_from g.O.Output.can g.O.Output.whole _ _ _ _ _ (ap (λ j. stepped G c.args.run.now.code.now c.args.run.now.max c.args.run.now.chunk at c.args.frames.now (flat c.args.walk.now) (Some j)) c.in-Ret.is) (c.go_back.ensures G)
 
 pub returns-in-Void-clause-moved : goal.returns-in-Void-clause-moved
 returns-in-Void-clause-moved g c = λ G at e. arm g.O.Output.can g.O.Output.whole c.args.run.now.code.now c.args.run.now.max c.args.run.now.chunk G at _ _ _ _ _ _ _ _ _ c.in-Void.is refl (stays g.O.Output.can g.O.Output.whole _ _ _ refl) (same_rest G _ _ _ _ _ _ (e) (refl) (refl))
@@ -68,34 +68,34 @@ pub returns-in-Tag-clause-moved : goal.returns-in-Tag-clause-moved
 returns-in-Tag-clause-moved g c = λ G at e. arm g.O.Output.can g.O.Output.whole c.args.run.now.code.now c.args.run.now.max c.args.run.now.chunk G at _ _ _ _ _ _ _ _ _ c.in-Tag.is c.tag.ensures.on (moves_from g.O.Output.can g.O.Output.whole _ _ _ _ _ (ap (λ p. Figure p (tag_in (here (flat c.args.walk.now)).0) ∷ _) (sym c.carrier_of-in-Tag.ensures)) (c.tag.ensures.written _)) (same_rest G _ _ _ _ _ _ (ap (λ p. target (drop p c.args.run.now.code.now) (tag_in (here (flat c.args.walk.now)).0)) e ∙ sym c.tag.ensures.pc) (refl) (sym c.tag.ensures.rest))
 
 pub array-requires : goal.array-requires
-array-requires g c = (c.requires.able.0, able_from g.O.Output.can g.O.Output.whole _ _ _ (ap (λ p. elements c.requires.able.0 (row_at c.args.run.now.code.now c.in-Fixed.by) (here (flat c.args.walk.now)).1 c.in-Fixed.by p c.args.frames (later (flat c.args.walk.now))) c.requires.able.2) (able_arm g.O.Output.can g.O.Output.whole c.args.run.now.code.now c.args.run.now.max c.args.run.now.chunk _ _ _ _ _ _ _ c.in-Fixed.is c.requires.able.3))
+array-requires g c = (c.requires.able.0, able_from g.O.Output.can g.O.Output.whole _ _ _ (ap (λ p. elements c.requires.able.0 (row_at c.args.run.now.code.now c.in-Fixed.by) (here (flat c.args.walk.now)).1 c.in-Fixed.by p c.args.frames.now (later (flat c.args.walk.now))) c.requires.able.2) (able_arm g.O.Output.can g.O.Output.whole c.args.run.now.code.now c.args.run.now.max c.args.run.now.chunk _ _ _ _ _ _ _ c.in-Fixed.is c.requires.able.3))
 
 pub returns-in-Fixed-clause-moved : goal.returns-in-Fixed-clause-moved
-returns-in-Fixed-clause-moved g c = λ G at e. arm g.O.Output.can g.O.Output.whole c.args.run.now.code.now c.args.run.now.max c.args.run.now.chunk G at _ _ _ _ _ _ _ _ _ c.in-Fixed.is c.array.ensures.on (moves_from g.O.Output.can g.O.Output.whole _ _ _ _ _ (ap (λ p. elements G (row_at c.args.run.now.code.now c.in-Fixed.by) (here (flat c.args.walk.now)).1 c.in-Fixed.by p c.args.frames (later (flat c.args.walk.now))) e) (c.array.ensures.written G)) (refl)
+returns-in-Fixed-clause-moved g c = λ G at e. arm g.O.Output.can g.O.Output.whole c.args.run.now.code.now c.args.run.now.max c.args.run.now.chunk G at _ _ _ _ _ _ _ _ _ c.in-Fixed.is c.array.ensures.on (moves_from g.O.Output.can g.O.Output.whole _ _ _ _ _ (ap (λ p. elements G (row_at c.args.run.now.code.now c.in-Fixed.by) (here (flat c.args.walk.now)).1 c.in-Fixed.by p c.args.frames.now (later (flat c.args.walk.now))) e) (c.array.ensures.written G)) (refl)
 
 pub array-requires-in-Conf : goal.array-requires-in-Conf
-array-requires-in-Conf g c = (c.requires.able.0, able_from g.O.Output.can g.O.Output.whole _ _ _ (ap (λ p. elements c.requires.able.0 (row_at c.args.run.now.code.now c.in-Conf.by) (here (flat c.args.walk.now)).1 c.in-Conf.by p c.args.frames (later (flat c.args.walk.now))) c.requires.able.2) (able_arm g.O.Output.can g.O.Output.whole c.args.run.now.code.now c.args.run.now.max c.args.run.now.chunk _ _ _ _ _ _ _ c.in-Conf.is c.requires.able.3))
+array-requires-in-Conf g c = (c.requires.able.0, able_from g.O.Output.can g.O.Output.whole _ _ _ (ap (λ p. elements c.requires.able.0 (row_at c.args.run.now.code.now c.in-Conf.by) (here (flat c.args.walk.now)).1 c.in-Conf.by p c.args.frames.now (later (flat c.args.walk.now))) c.requires.able.2) (able_arm g.O.Output.can g.O.Output.whole c.args.run.now.code.now c.args.run.now.max c.args.run.now.chunk _ _ _ _ _ _ _ c.in-Conf.is c.requires.able.3))
 
 pub returns-in-Conf-clause-moved : goal.returns-in-Conf-clause-moved
-returns-in-Conf-clause-moved g c = λ G at e. arm g.O.Output.can g.O.Output.whole c.args.run.now.code.now c.args.run.now.max c.args.run.now.chunk G at _ _ _ _ _ _ _ _ _ c.in-Conf.is c.array-in-Conf.ensures.on (moves_from g.O.Output.can g.O.Output.whole _ _ _ _ _ (ap (λ p. elements G (row_at c.args.run.now.code.now c.in-Conf.by) (here (flat c.args.walk.now)).1 c.in-Conf.by p c.args.frames (later (flat c.args.walk.now))) e) (c.array-in-Conf.ensures.written G)) (refl)
+returns-in-Conf-clause-moved g c = λ G at e. arm g.O.Output.can g.O.Output.whole c.args.run.now.code.now c.args.run.now.max c.args.run.now.chunk G at _ _ _ _ _ _ _ _ _ c.in-Conf.is c.array-in-Conf.ensures.on (moves_from g.O.Output.can g.O.Output.whole _ _ _ _ _ (ap (λ p. elements G (row_at c.args.run.now.code.now c.in-Conf.by) (here (flat c.args.walk.now)).1 c.in-Conf.by p c.args.frames.now (later (flat c.args.walk.now))) e) (c.array-in-Conf.ensures.written G)) (refl)
 
 pub varying-requires : goal.varying-requires
-varying-requires g c = (c.requires.able.0, able_from g.O.Output.can g.O.Output.whole _ _ _ (ap (λ p. four (offset_in (here (flat c.args.walk.now)).0) ∷ four (here (flat c.args.walk.now)).1 ∷ elements c.requires.able.0 (row_at c.args.run.now.code.now c.in-Vary.by) (here (flat c.args.walk.now)).1 c.in-Vary.by p c.args.frames (later (flat c.args.walk.now))) c.requires.able.2) (able_arm g.O.Output.can g.O.Output.whole c.args.run.now.code.now c.args.run.now.max c.args.run.now.chunk _ _ _ _ _ _ _ c.in-Vary.is c.requires.able.3))
+varying-requires g c = (c.requires.able.0, able_from g.O.Output.can g.O.Output.whole _ _ _ (ap (λ p. four (offset_in (here (flat c.args.walk.now)).0) ∷ four (here (flat c.args.walk.now)).1 ∷ elements c.requires.able.0 (row_at c.args.run.now.code.now c.in-Vary.by) (here (flat c.args.walk.now)).1 c.in-Vary.by p c.args.frames.now (later (flat c.args.walk.now))) c.requires.able.2) (able_arm g.O.Output.can g.O.Output.whole c.args.run.now.code.now c.args.run.now.max c.args.run.now.chunk _ _ _ _ _ _ _ c.in-Vary.is c.requires.able.3))
 
 pub returns-in-Vary-clause-moved : goal.returns-in-Vary-clause-moved
-returns-in-Vary-clause-moved g c = λ G at e. arm g.O.Output.can g.O.Output.whole c.args.run.now.code.now c.args.run.now.max c.args.run.now.chunk G at _ _ _ _ _ _ _ _ _ c.in-Vary.is c.varying.ensures.on (moves_from g.O.Output.can g.O.Output.whole _ _ _ _ _ (ap (λ p. four (offset_in (here (flat c.args.walk.now)).0) ∷ four (here (flat c.args.walk.now)).1 ∷ elements G (row_at c.args.run.now.code.now c.in-Vary.by) (here (flat c.args.walk.now)).1 c.in-Vary.by p c.args.frames (later (flat c.args.walk.now))) e) (c.varying.ensures.written G)) (refl)
+returns-in-Vary-clause-moved g c = λ G at e. arm g.O.Output.can g.O.Output.whole c.args.run.now.code.now c.args.run.now.max c.args.run.now.chunk G at _ _ _ _ _ _ _ _ _ c.in-Vary.is c.varying.ensures.on (moves_from g.O.Output.can g.O.Output.whole _ _ _ _ _ (ap (λ p. four (offset_in (here (flat c.args.walk.now)).0) ∷ four (here (flat c.args.walk.now)).1 ∷ elements G (row_at c.args.run.now.code.now c.in-Vary.by) (here (flat c.args.walk.now)).1 c.in-Vary.by p c.args.frames.now (later (flat c.args.walk.now))) e) (c.varying.ensures.written G)) (refl)
 
 pub varying-requires-in-Confvary : goal.varying-requires-in-Confvary
-varying-requires-in-Confvary g c = (c.requires.able.0, able_from g.O.Output.can g.O.Output.whole _ _ _ (ap (λ p. four (offset_in (here (flat c.args.walk.now)).0) ∷ four (here (flat c.args.walk.now)).1 ∷ elements c.requires.able.0 (row_at c.args.run.now.code.now c.in-Confvary.by) (here (flat c.args.walk.now)).1 c.in-Confvary.by p c.args.frames (later (flat c.args.walk.now))) c.requires.able.2) (able_arm g.O.Output.can g.O.Output.whole c.args.run.now.code.now c.args.run.now.max c.args.run.now.chunk _ _ _ _ _ _ _ c.in-Confvary.is c.requires.able.3))
+varying-requires-in-Confvary g c = (c.requires.able.0, able_from g.O.Output.can g.O.Output.whole _ _ _ (ap (λ p. four (offset_in (here (flat c.args.walk.now)).0) ∷ four (here (flat c.args.walk.now)).1 ∷ elements c.requires.able.0 (row_at c.args.run.now.code.now c.in-Confvary.by) (here (flat c.args.walk.now)).1 c.in-Confvary.by p c.args.frames.now (later (flat c.args.walk.now))) c.requires.able.2) (able_arm g.O.Output.can g.O.Output.whole c.args.run.now.code.now c.args.run.now.max c.args.run.now.chunk _ _ _ _ _ _ _ c.in-Confvary.is c.requires.able.3))
 
 pub returns-in-Confvary-clause-moved : goal.returns-in-Confvary-clause-moved
-returns-in-Confvary-clause-moved g c = λ G at e. arm g.O.Output.can g.O.Output.whole c.args.run.now.code.now c.args.run.now.max c.args.run.now.chunk G at _ _ _ _ _ _ _ _ _ c.in-Confvary.is c.varying-in-Confvary.ensures.on (moves_from g.O.Output.can g.O.Output.whole _ _ _ _ _ (ap (λ p. four (offset_in (here (flat c.args.walk.now)).0) ∷ four (here (flat c.args.walk.now)).1 ∷ elements G (row_at c.args.run.now.code.now c.in-Confvary.by) (here (flat c.args.walk.now)).1 c.in-Confvary.by p c.args.frames (later (flat c.args.walk.now))) e) (c.varying-in-Confvary.ensures.written G)) (refl)
+returns-in-Confvary-clause-moved g c = λ G at e. arm g.O.Output.can g.O.Output.whole c.args.run.now.code.now c.args.run.now.max c.args.run.now.chunk G at _ _ _ _ _ _ _ _ _ c.in-Confvary.is c.varying-in-Confvary.ensures.on (moves_from g.O.Output.can g.O.Output.whole _ _ _ _ _ (ap (λ p. four (offset_in (here (flat c.args.walk.now)).0) ∷ four (here (flat c.args.walk.now)).1 ∷ elements G (row_at c.args.run.now.code.now c.in-Confvary.by) (here (flat c.args.walk.now)).1 c.in-Confvary.by p c.args.frames.now (later (flat c.args.walk.now))) e) (c.varying-in-Confvary.ensures.written G)) (refl)
 
 pub returns-in-Pipe-clause-moved : goal.returns-in-Pipe-clause-moved
-returns-in-Pipe-clause-moved g c = λ G at e. arm g.O.Output.can g.O.Output.whole c.args.run.now.code.now c.args.run.now.max c.args.run.now.chunk G at _ _ _ _ _ _ _ _ _ c.in-Pipe.is c.pipe.ensures.on (stays g.O.Output.can g.O.Output.whole _ _ _ refl) (same_rest G _ _ _ _ _ _ (sym c.pipe.ensures.pc) (ap (λ p. pushed (frame.Pipe 0 (here (flat c.args.walk.now)).1 c.in-Pipe.by p) c.args.frames) e ∙ sym c.pipe.ensures.frames) (sym c.pipe.ensures.rest))
+returns-in-Pipe-clause-moved g c = λ G at e. arm g.O.Output.can g.O.Output.whole c.args.run.now.code.now c.args.run.now.max c.args.run.now.chunk G at _ _ _ _ _ _ _ _ _ c.in-Pipe.is c.pipe.ensures.on (stays g.O.Output.can g.O.Output.whole _ _ _ refl) (same_rest G _ _ _ _ _ _ (sym c.pipe.ensures.pc) (ap (λ p. pushed (frame.Pipe 0 (here (flat c.args.walk.now)).1 c.in-Pipe.by p) c.args.frames.now) e ∙ sym c.pipe.ensures.frames) (sym c.pipe.ensures.rest))
 
 pub returns-in-Call-clause-moved : goal.returns-in-Call-clause-moved
-returns-in-Call-clause-moved g c = λ G at e. arm g.O.Output.can g.O.Output.whole c.args.run.now.code.now c.args.run.now.max c.args.run.now.chunk G at _ _ _ _ _ _ _ _ _ c.in-Call.is c.call.ensures.on (stays g.O.Output.can g.O.Output.whole _ _ _ refl) (same_rest G _ _ _ _ _ _ (sym c.call.ensures.pc) (ap (λ p. pushed (frame.Call p) c.args.frames) e ∙ sym c.call.ensures.frames) (refl))
+returns-in-Call-clause-moved g c = λ G at e. arm g.O.Output.can g.O.Output.whole c.args.run.now.code.now c.args.run.now.max c.args.run.now.chunk G at _ _ _ _ _ _ _ _ _ c.in-Call.is c.call.ensures.on (stays g.O.Output.can g.O.Output.whole _ _ _ refl) (same_rest G _ _ _ _ _ _ (sym c.call.ensures.pc) (ap (λ p. pushed (frame.Call p) c.args.frames.now) e ∙ sym c.call.ensures.frames) (refl))
 
 pub pointer-requires : goal.pointer-requires
 pointer-requires g c = (_, able_arm g.O.Output.can g.O.Output.whole c.args.run.now.code.now c.args.run.now.max c.args.run.now.chunk _ _ _ _ _ _ _ c.in-Pointer.is c.requires.able.3)
