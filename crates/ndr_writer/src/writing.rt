@@ -45,12 +45,14 @@ fn go_back<O: Output>(
             true
         }
         Some(Frame::Array { left, run: by, to }) => next_element(left, by, to, pc, frames),
-        Some(Frame::Pipe {
-            left,
-            rest,
-            run: by,
-            to,
-        }) => next_of_pipe(
+        Some(
+            Frame::Pipe {
+                left,
+                rest,
+                run: by,
+                to,
+            },
+        ) => next_of_pipe(
             run.code, run.chunk, left, rest, by, to, pc, walk, frames, out,
         ),
     }
