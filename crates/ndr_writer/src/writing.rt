@@ -251,7 +251,8 @@ fn step<O: Output>(
     }
 }
 
-/// Writes what a run of the code writes from an address on over the nodes of a walk, in at most so many steps. It takes no memory apart from that of the output.
+/// Writes what a run of the code writes from an address on over the nodes of a walk, in at most so many steps (C706 sections 14.2 and 14.3). Frames that are there
+/// are taken away first. It takes no memory itself, and fails only where the output is refused memory.
 pub fn write_run<O: Output>(
     run: &Run<'_>,
     start: usize,
