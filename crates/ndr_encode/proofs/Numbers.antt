@@ -88,7 +88,11 @@ next_new n seen (d ∷ ds) c some e h =
 
 pub next_known : (n : ℕ) (seen ds : List ℕ) (c : ℕ) → (0 < number_from n seen ds c) ⊎ (has seen c ≡ true) → next_after n seen (ds ++ c ∷ []) ≡ next_after n seen ds
 next_known n seen [] c (inl h) = absurd (let k : 0 < 0 = h in omega (arith, k))
-next_known n seen [] c (inr h) = ap (λ b. elim b [ true ↦ n | false ↦ n + 1 ]) h
+next_known n seen [] c (inr h) = go (has seen c) h
+  where
+    go : (b : Bool) → b ≡ true → elim b [ true ↦ n | false ↦ n + 1 ] ≡ n
+    go true f = refl
+    go false f = cc
 next_known n seen (d ∷ ds) c h =
     go (has seen d) (eqb c d) refl h (λ k. next_known n seen ds c k) (λ k. next_known (n + 1) (d ∷ seen) ds c k)
   where
