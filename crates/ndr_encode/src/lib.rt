@@ -3,11 +3,8 @@
 
 mod encoding;
 mod making;
-mod maximum;
 mod search;
-mod turn;
 mod work;
 
 pub use encoding::encode_with;
-pub use turn::Turn;
 pub use work::{EncodeFault, Work};

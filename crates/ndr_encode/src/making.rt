@@ -4,7 +4,7 @@ ghost use Rattle.ndr_encode.specs.declared.work.EncodeFault.TheVariants.{TooLong
 ghost use Rattle.ndr_encode.specs.Work.{IsWorkFor, IsTooLong};
 
 use crate::search::Search;
-use crate::turn::Turn;
+use ndr_homes::Turn;
 use crate::work::{EncodeFault, Work};
 use nd_base::{Memory, STREAM_LIMIT};
 use nd_flat::Fit;

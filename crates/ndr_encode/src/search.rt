@@ -1,5 +1,5 @@
 // The homes of a graph in the order of the stream, with the octets that they have.
-use crate::turn::Turn;
+use ndr_homes::Turn;
 use nd_base::Memory;
 use nd_flat::Fit;
 use nd_value::{CellId, Home};

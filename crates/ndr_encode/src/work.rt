@@ -1,7 +1,7 @@
 // What is prepared for the encoding of a graph.
 ghost use Rattle.std.specs.Prelude.{◌≡◌};
 
-use crate::turn::Turn;
+use ndr_homes::Turn;
 use nd_base::Memory;
 use std::marker::Model;
 use thiserror::Error;

@@ -1,0 +1,6 @@
+pub mod Fits
+pub mod GoodHomes
+pub mod Maxima
+pub mod Encoded
+pub mod HomeTurns
+pub mod LastMaxima
