@@ -1,12 +1,11 @@
 -- The homes of a graph that conforms can be counted, and so can its pipes.
 -- `t` is a type's number, `l` a label, `ks` are its children, `v` is a value, `k` the greatest count of a chunk, `x` a value as a whole, `j` a pipe's place among the pipes.
-use Rattle.std.proofs.Common.{◌≡◌, ℕ, ◌+◌, ◌*◌, ◌^◌, ◌<◌, ◌≤◌, zero, suc, ℤ, Bool, true, false, List, [], ◌∷◌, ◌++◌, length, map, drop, Option, Some, None, refl, ap, ap₂, sym, ◌∙◌, subst, arith, append_assoc, length-append, length-drop}
+use Rattle.std.proofs.Common.{◌≡◌, ℕ, ◌+◌, ◌*◌, ◌^◌, ◌<◌, ◌≤◌, zero, suc, ℤ, Bool, true, false, List, [], ◌∷◌, ◌++◌, length, map, drop, Option, Some, None, refl, ap, ap₂, sym, ◌∙◌, subst, arith, append_assoc, length-append}
 use Rattle.std.specs.Prelude.{◌==◌, not, replicate, flat_map}
 use Rattle.std.specs.List.{AllByRecursion, slice_get}
 use Rattle.std.proofs.lemmas.Bool.{and_parts}
 use Rattle.std.proofs.lemmas.Option.{slice_get_within}
 use Rattle.nd_types.specs.declared.types.TypeDef.{TypeDef}
-use Rattle.nd_types.specs.declared.types.TypeId.{TypeId}
 use Rattle.nd_types.specs.declared.types.TypeDef.TheVariants as def
 use Rattle.nd_types.specs.declared.types.Arm.{Arm}
 use Rattle.nd_types.specs.Table.{Table, type_at, width}
@@ -23,7 +22,6 @@ use Rattle.nd_value.specs.Setting.{Setting, root_list, root_at}
 use Rattle.nd_value.specs.Deferral.{Pending, Due, due_referent, Step, Deferral, none_due, at_root, at_null, at_standing, at_referent, Placed_cells, due_roots, before_pipes, Standing, standing_root, standing_cell, due_of, home_pointers}
 use Rattle.nd_value.specs.Conforms.{Conforms}
 use Rattle.nd_value.proofs.Apart.{all_append}
-use Rattle.nd_value.proofs.DeferralBridge.{some_before}
 use Rattle.nd_value.proofs.NodeFacts.{all_of_list}
 use Rattle.nd_grammar.specs.LegalSide.{IsLegalSide}
 use Rattle.nd_grammar.specs.InPlace.{before_children, counts, tag_entries, hoisted, hoisted_max}
@@ -189,10 +187,10 @@ module _ (w : Setting) (side : IsLegalSide w) (g : Graph) (c : Conforms w g) whe
       let K : List Piece = kinds_pieces w.table (hoisted (hoists w.table t) l M) in
       let is : counted_turn C k g (h, W) ≡ H ++ V = ap (λ (u : Tree). run C 0 k STEPS W [] (flat (more u none))) e ∙ by_run w side g c k t l ks s few 0 in
       let full : turn_pieces C k g (h, W) ≡ K ++ V =
-          ap (λ (u : Tree). run C (hoisted_max 0 (more u none)) k STEPS W [] (flat (more u none))) e ∙ by_run w side g c k t l ks s few M in
+      ap (λ (u : Tree). run C (hoisted_max 0 (more u none)) k STEPS W [] (flat (more u none))) e ∙ by_run w side g c k t l ks s few M in
       let good : AllByRecursion Good (H ++ V) =
-          all_append Good H V (hoisted_good w.table side.operations side.legal (none_inside w side g c) g (hoists w.table t) l 0 (omega arith))
-          (values_good w.table side.operations side.legal (none_inside w side g c) g (t ∷ []) (more (node l ks) none) (p, tt) a) in
+      all_append Good H V (hoisted_good w.table side.operations side.legal (none_inside w side g c) g (hoists w.table t) l 0 (omega arith))
+      (values_good w.table side.operations side.legal (none_inside w side g c) g (t ∷ []) (more (node l ks) none) (p, tt) a) in
       let long : length (H ++ V) ≡ length H + length V = length-append H V in
       let h2 : length H ≤ 2 = hoisted_few w.table (hoists w.table t) l 0 in
       let v4 : length V ≤ 4 * node_count (more (node l ks) none) = values_few w.table (t ∷ []) (more (node l ks) none) in
@@ -220,9 +218,10 @@ module _ (w : Setting) (side : IsLegalSide w) (g : Graph) (c : Conforms w g) whe
   names_by : (k : ℕ) (xs : List Standing) → AllByRecursion (λ (x : Standing). Shaped 32 w.table (x.of ∷ []) (more x.val none)) xs → AllByRecursion (λ (x : Standing). value_at g x.home ≡ x.val) xs
       → AllByRecursion (λ u. pieces_names (counted_turn C k g u) ≡ names_of C u.1 (value_at g u.0)) (home_turns w.table xs)
   names_by k [] s e = tt
-  names_by k (x ∷ xs) s e =
-      (named_alike k x.home x.of x.val e.0 s.0 (subst (λ (v : Tree). node_count (more v none) < 2 ^ 32) e.0 (few_at g c.few_nodes x.home)) ∙ sym (ap (names_of C (whole_at w.table x.of)) e.0),
-       names_by k xs s.1 e.1)
+  names_by k (x ∷ xs) s e = (
+    named_alike k x.home x.of x.val e.0 s.0 (subst (λ (v : Tree). node_count (more v none) < 2 ^ 32) e.0 (few_at g c.few_nodes x.home)) ∙ sym (ap (names_of C (whole_at w.table x.of)) e.0),
+    names_by k xs s.1 e.1,
+  )
 
   -- ## Pipes
 
@@ -257,7 +256,7 @@ module _ (w : Setting) (side : IsLegalSide w) (g : Graph) (c : Conforms w g) whe
       let few : node_count (more V none) < 2 ^ 32 = subst (λ (u : Tree). node_count (more u none) < 2 ^ 32) q.shaped.value_is (few_at g c.few_nodes (home.Root (first + j))) in
       let trees : WritableTrees w.table g (r.of ∷ []) (more V none) = subst (λ (u : Tree). WritableTrees w.table g (r.of ∷ []) (more u none)) q.shaped.value_is q.trees in
       let good : AllByRecursion Good X =
-          subst (λ (d : Option TypeDef). AllByRecursion Good (pipe_pieces w.table d cut V)) q.shaped.type_is (one_pipe w side g c k r tree.Pipe ks q.itself trees few) in
+      subst (λ (d : Option TypeDef). AllByRecursion Good (pipe_pieces w.table d cut V)) q.shaped.type_is (one_pipe w side g c k r tree.Pipe ks q.itself trees few) in
       let free : FitsPipes w.table e = (laid_out w side).elements r.of q.shaped.elem q.shaped.type_is in
       let many : length X ≤ 2 + 2 * length cut + 4 * node_count ks = chunks_few w.table e cut ks in
       let cuts : length cut ≤ count ks = cuts_few k (count ks) in

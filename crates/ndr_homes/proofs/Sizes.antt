@@ -1,22 +1,20 @@
 -- How many octets the pieces of values have at most: a piece has at most 2^32, and a node at most four pieces.
 -- `t` is a type's number, `d` what it is, `l` a label, `ks` are its children.
-use Rattle.std.proofs.Common.{◌≡◌, ℕ, ◌+◌, ◌-◌, ◌*◌, ◌^◌, ◌%◌, ◌<◌, ◌≤◌, zero, suc, ℤ, Bool, true, false, ltb, List, [], ◌∷◌, ◌++◌, length, Option, Some, None, refl, arith, length-append}
+use Rattle.std.proofs.Common.{◌≡◌, ℕ, ◌+◌, ◌-◌, ◌*◌, ◌^◌, ◌%◌, ◌≤◌, zero, suc, ℤ, Bool, true, false, ltb, List, [], ◌∷◌, ◌++◌, length, Option, Some, None, refl, arith, length-append}
 use Rattle.std.specs.Prelude.{◌==◌, replicate}
 use Rattle.std.specs.List.{AllByRecursion}
 use Rattle.std.proofs.Math.Nat.{mod-le}
 use Rattle.nd_types.specs.declared.types.TypeDef.{TypeDef}
 use Rattle.nd_types.specs.declared.types.TypeDef.TheVariants as def
-use Rattle.nd_types.specs.declared.types.Primitive.TheVariants.{Short}
 use Rattle.nd_types.specs.declared.types.Arm.{Arm}
 use Rattle.nd_types.specs.Table.{Table, type_at, width}
 use Rattle.nd_types.specs.Layout.{align_of}
 use Rattle.nd_value.specs.Tree as tree
-use Rattle.nd_value.specs.Tree.{Tree, Trees, node, none, more, Label, count, node_count, take_trees, drop_trees}
+use Rattle.nd_value.specs.Tree.{Trees, node, none, more, Label, count, node_count, take_trees, drop_trees}
 use Rattle.nd_value.specs.Nodes.{child_types}
-use Rattle.nd_grammar.specs.Entry.{gap}
 use Rattle.nd_grammar.specs.InPlace.{before_children, counts, tag_entries, hoisted}
 use Rattle.nd_grammar.specs.Chosen.{cut_of, cut_within}
-use Rattle.ndr_pieces.specs.Pieces.{Piece, Gap, Figure, Name, Raw, Handle, four, gap_pieces, piece_size, pieces_end}
+use Rattle.ndr_pieces.specs.Pieces.{Piece, Gap, Figure, Name, Raw, Handle, gap_pieces, piece_size, pieces_end}
 use Rattle.ndr_pieces.specs.Shown.{kinds_pieces, values_pieces, chunks_pieces}
 use Rattle.ndr_homes.proofs.Fits.{Good, width_fits}
 
