@@ -99,8 +99,8 @@ next_known n seen (d ∷ ds) c h =
     go : (a b : Bool) → eqb c d ≡ b → (0 < by_two a b (number_from n seen ds c) n (number_from (n + 1) (d ∷ seen) ds c)) ⊎ (has seen c ≡ true)
         → ((0 < number_from n seen ds c) ⊎ (has seen c ≡ true) → next_after n seen (ds ++ c ∷ []) ≡ next_after n seen ds)
         → ((0 < number_from (n + 1) (d ∷ seen) ds c) ⊎ (has (d ∷ seen) c ≡ true) → next_after (n + 1) (d ∷ seen) (ds ++ c ∷ []) ≡ next_after (n + 1) (d ∷ seen) ds)
-        → elim a [ true ↦ next_after n seen (ds ++ c ∷ []) | false ↦ next_after (n + 1) (d ∷ seen) (ds ++ c ∷ []) ]
-        ≡ elim a [ true ↦ next_after n seen ds | false ↦ next_after (n + 1) (d ∷ seen) ds ]
+        → ◌≡◌ {A = ℕ} (elim a [ true ↦ next_after n seen (ds ++ c ∷ []) | false ↦ next_after (n + 1) (d ∷ seen) (ds ++ c ∷ []) ])
+        (elim a [ true ↦ next_after n seen ds | false ↦ next_after (n + 1) (d ∷ seen) ds ])
     go true b q k f g = f k
     go false true q k f g = g (inr (ap (λ b. cond b true (has seen c)) q))
     go false false q (inl k) f g = g (inl k)

@@ -25,7 +25,7 @@ use Rattle.ndr_homes.proofs.Fits.{Good}
 use Rattle.ndr_homes.proofs.GoodHomes.{stream_good, homes_there}
 use Rattle.ndr_homes.proofs.Maxima.{maxima_same}
 
-fit_of : (ps : List Piece) → AllByRecursion Good ps → AllByRecursion FitsPiece ps
+pub fit_of : (ps : List Piece) → AllByRecursion Good ps → AllByRecursion FitsPiece ps
 fit_of [] a = tt
 fit_of (p ∷ ps) a = (a.0.0, fit_of ps a.1)
 

@@ -44,7 +44,7 @@ IsShort x = Unit {0}
 abbrev pub Good : Piece → Type 0
 Good x = FitsPiece x × IsShort x
 
-width_fits : (p : Primitive) → IsAlignment (width p)
+pub width_fits : (p : Primitive) → IsAlignment (width p)
 width_fits Boolean = (omega arith, omega arith)
 width_fits Char = (omega arith, omega arith)
 width_fits Byte = (omega arith, omega arith)

@@ -49,7 +49,7 @@ few_of [] i h = omega arith
 few_of (v ∷ vs) zero h = h.0
 few_of (v ∷ vs) (suc i) h = few_of vs i h.1
 
-count_few : (ks : Trees) → count ks ≤ node_count ks
+pub count_few : (ks : Trees) → count ks ≤ node_count ks
 count_few none = omega arith
 count_few (more (node l kids) ts) = let a = count_few ts in omega (arith, a)
 
@@ -80,10 +80,10 @@ module _ (w : Setting) (side : IsLegalSide w) (g : Graph) (c : Conforms w g) whe
       subst (λ u. WritableTrees w.table g (t ∷ []) (more u none)) (sym (ap cell_tree e)) (subst (λ u. WritableTrees w.table g (u ∷ []) (more x.val none)) f (w_cells k x e))
 
   -- a home that is there, with a value that can be written
-  record Home_good (x : Standing) : Type 0 where
-    there : HasHome g x.home
-    no_pipe : IsNoPipe w.table x.of
-    trees : WritableTrees w.table g (x.of ∷ []) (more x.val none)
+  pub record Home_good (x : Standing) : Type 0 where
+    pub there : HasHome g x.home
+    pub no_pipe : IsNoPipe w.table x.of
+    pub trees : WritableTrees w.table g (x.of ∷ []) (more x.val none)
 
   root_by : (i t : ℕ) (l : Label) (ks : Trees) → i < length g.roots → WritableTrees w.table g (t ∷ []) (more (node l ks) none) → (o : Option (ℕ × ℕ))
       → direct (type_at w.table t) (node l ks) ≡ o → IsNoPipe w.table (standing_by g i t (node l ks) o).of → Home_good (standing_by g i t (node l ks) o)
@@ -112,10 +112,10 @@ module _ (w : Setting) (side : IsLegalSide w) (g : Graph) (c : Conforms w g) whe
   cell_there p s k e n =
       let (x, ex, et) = s.pointee k e in record { there = cell_within w side g c k x ex; no_pipe = n; trees = cell_typed p.to k x ex et }
 
-  abbrev D : Due → Type 0
+  abbrev pub D : Due → Type 0
   D = DueGood w (none_inside w side g c) g
 
-  steps_good : {done : Placed_cells} {due : List Due} {steps : List Step} → Deferral w g done due steps → AllByRecursion D due → AllByRecursion Home_good (standings w g steps)
+  pub steps_good : {done : Placed_cells} {due : List Due} {steps : List Step} → Deferral w g done due steps → AllByRecursion D due → AllByRecursion Home_good (standings w g steps)
   steps_good none_due a = tt
   steps_good (at_root {i = i} {due = due} f d) a =
       let (r, e, p) = a.0 in
@@ -190,7 +190,7 @@ module _ (w : Setting) (side : IsLegalSide w) (g : Graph) (c : Conforms w g) whe
       go true e r = (h, tt)
       go false e r = let l : k ≤ suc n = ltb-false (suc n) k e in (omega (arith, l, h), r)
 
-  one_pipe : (k : ℕ) (r : Root) (l : Label) (ks : Trees) → IsPipeRoot w.table r → WritableTrees w.table g (r.of ∷ []) (more (node l ks) none)
+  pub one_pipe : (k : ℕ) (r : Root) (l : Label) (ks : Trees) → IsPipeRoot w.table r → WritableTrees w.table g (r.of ∷ []) (more (node l ks) none)
       → node_count (more (node l ks) none) < 2 ^ 32 → AllByRecursion Good (pipe_pieces w.table (type_at w.table r.of) (cut_of k (count ks)) (node l ks))
   one_pipe k r l ks q a b =
       let e : l ≡ tree.Pipe = label_is q.elem l ks (subst (λ d. has_shape d l ks ≡ true) q.type_is a.0.fit.shape) in

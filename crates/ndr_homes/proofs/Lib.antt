@@ -4,3 +4,5 @@ pub mod Maxima
 pub mod Encoded
 pub mod HomeTurns
 pub mod LastMaxima
+pub mod Sizes
+pub mod Counts

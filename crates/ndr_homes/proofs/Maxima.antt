@@ -80,7 +80,7 @@ module _ (w : Setting) (side : IsLegalSide w) (g : Graph) (c : Conforms w g) whe
   value_by i t None = refl
   value_by i t (Some d) = refl
 
-  values_are : (steps : List Step) → AllByRecursion (λ (x : Standing). value_at g x.home ≡ x.val) (standings w g steps)
+  pub values_are : (steps : List Step) → AllByRecursion (λ (x : Standing). value_at g x.home ≡ x.val) (standings w g steps)
   values_are [] = tt
   values_are (root_stands i ∷ steps) =
       (value_by i (root_type (slice_get (root_list w) i)) (direct (type_at w.table (root_type (slice_get (root_list w) i))) (root_at g i)), values_are steps)
@@ -89,7 +89,7 @@ module _ (w : Setting) (side : IsLegalSide w) (g : Graph) (c : Conforms w g) whe
 
   module _ (k : ℕ) where
     -- the pieces of a whole run, by whatever maximum count
-    by_run : (t : ℕ) (l : Label) (ks : Trees) → Shaped 32 w.table (t ∷ []) (more (node l ks) none) → node_count (more (node l ks) none) < 2 ^ 32 → (m : ℕ)
+    pub by_run : (t : ℕ) (l : Label) (ks : Trees) → Shaped 32 w.table (t ∷ []) (more (node l ks) none) → node_count (more (node l ks) none) < 2 ^ 32 → (m : ℕ)
         → run C m k STEPS (whole_at w.table t) [] (flat (more (node l ks) none))
         ≡ kinds_pieces w.table (hoisted (hoists w.table t) l m) ++ values_pieces w.table (t ∷ []) (more (node l ks) none)
     by_run t l ks s few m =
@@ -122,7 +122,7 @@ module _ (w : Setting) (side : IsLegalSide w) (g : Graph) (c : Conforms w g) whe
     homes_same (x ∷ xs) a b = (home_same x a.0 b.0, homes_same xs a.1 b.1)
 
     -- a pipe has none
-    pipe_same : (h : Home) (t at : ℕ) (v : Tree) → IsShapedPipe w.table t v → IsRunAt C at (op.Call (place_at w.table t) ∷ op.Ret ∷ []) → value_at g h ≡ v → 1 ≤ k → (m n : ℕ)
+    pub pipe_same : (h : Home) (t at : ℕ) (v : Tree) → IsShapedPipe w.table t v → IsRunAt C at (op.Call (place_at w.table t) ∷ op.Ret ∷ []) → value_at g h ≡ v → 1 ≤ k → (m n : ℕ)
         → run C m k STEPS at [] (flat (more (value_at g h) none)) ≡ run C n k STEPS at [] (flat (more (value_at g h) none))
     pipe_same h t at v p s e some m n =
         let ks : Trees = p.kids in
