@@ -1,9 +1,10 @@
 -- One home more of a search.
 -- `xs` is what is pending, the next first, `u` is the turn of a home.
-use Rattle.std.proofs.Common.{◌≡◌, inl, inr, ◌⊎◌, ℕ, ◌+◌, ◌*◌, ◌^◌, ◌<◌, ◌≤◌, zero, suc, Bool, true, false, List, [], ◌∷◌, ◌++◌, length, map, Some, refl, ap, ap₂, sym, ◌∙◌, subst, arith, append_assoc, append-nil}
+use Rattle.std.proofs.Common.{◌≡◌, inl, inr, ◌⊎◌, ℕ, ◌+◌, ◌*◌, ◌^◌, ◌<◌, ◌≤◌, zero, suc, Bool, true, false, List, [], ◌∷◌, ◌++◌, length, Option, Some, None, refl, ap, ap₂, sym, ◌∙◌, subst, arith, append_assoc, append-nil}
 use Rattle.std.specs.Prelude.{eqb, cond, get_or, set, reverse, flat_map}
-use Rattle.std.specs.List.{AllByRecursion}
-use Rattle.std.proofs.lemmas.List.{reverse-append, map-append, length-append}
+use Rattle.std.specs.List.{AllByRecursion, slice_get}
+use Rattle.std.proofs.lemmas.Option.{same_Some}
+use Rattle.std.proofs.lemmas.List.{reverse-append, reverse-reverse, length-append}
 use Rattle.std.proofs.lemmas.Grind.{flat_map-append}
 use Rattle.std.proofs.lemmas.Bool.{eqb-true, eqb-false, eq-eqb}
 use Rattle.nd_value.specs.declared.value.Graph.{Graph}
@@ -11,22 +12,26 @@ use Rattle.nd_value.specs.declared.value.CellId.{CellId}
 use Rattle.nd_value.specs.declared.item.Home.{Home}
 use Rattle.nd_value.specs.declared.item.Home.TheVariants as home
 use Rattle.nd_value.specs.Canon.{has}
-use Rattle.nd_value.specs.Setting.{Among, root_at, cell_at, cell_home}
+use Rattle.nd_value.specs.Seen.{cell_number}
+use Rattle.nd_value.specs.Setting.{Among, root_at, or_unread, cell_at, cell_home}
 use Rattle.nd_value.specs.Tree as tree
 use Rattle.nd_value.specs.Tree.{Tree, Trees, node}
 use Rattle.nd_value.proofs.Apart.{all_append, all_left, all_right}
+use Rattle.nd_types.specs.declared.types.TypeId.{TypeId}
 use Rattle.ndr_code.specs.declared.instr.Instr.{Instr}
+use Rattle.ndr_code.specs.declared.instr.Instr.TheVariants as op
 use Rattle.ndr_pieces.specs.Pieces.{Piece, pieces_end, pieces_names}
 use Rattle.ndr_pieces.proofs.Showing.{end_joined}
 use Rattle.ndr_output.specs.declared.count.Named.{Named}
-use Rattle.ndr_output.specs.Counting.{names_of}
+use Rattle.ndr_output.specs.Counting.{names_of, count_whole, CountCan}
+use Rattle.ndr_output.specs.Filling.{FitsPiece}
 use Rattle.ndr_turns.specs.Turned.{Item, root_due, direct_due, cell_due, Turned, none_left, root_turn, direct_turn, cell_turn, cell_stands, cells_due, cells_of, names_of as run_names}
 use Rattle.ndr_chosen.specs.Written.{value_at}
 use Rattle.ndr_homes.specs.declared.turn.Turn.{Turn}
 use Rattle.ndr_homes.specs.Turns.{turn_pair, turn_pairs}
 use Rattle.ndr_homes.specs.Counted.{counted_turn, counted_turns, AreCells, IsCounted}
 use Rattle.ndr_encode.specs.declared.search.Search.{Search}
-use Rattle.ndr_encode.specs.Search.{AreWithin, IsNumbered, unmarked, unplaced, pending_names, Stream, IsSearchable, AreCounted, IsSearched, IsTaken, CanTake, first_cell}
+use Rattle.ndr_encode.specs.Search.{AreWithin, IsNumbered, unmarked, unplaced, pending_names, Stream, IsSearchable, AreCounted, IsSearched, IsTaken, CanTake, first_cell, root_by}
 
 -- ## What is pending
 
@@ -38,14 +43,10 @@ names_joined : (xs ys : List Named) → names_of (xs ++ ys) ≡ names_of xs ++ n
 names_joined [] ys = refl
 names_joined (x ∷ xs) ys = ap (λ u. (x.cell.0, x.run) ∷ u) (names_joined xs ys)
 
-rev_rev : (xs : List Named) → reverse (reverse xs) ≡ xs
-rev_rev [] = refl
-rev_rev (x ∷ xs) = reverse-append (reverse xs) (x ∷ []) ∙ ap (λ u. x ∷ u) (rev_rev xs)
-
 -- what was added is pending before the others
 pub pend_more : (old new added : List Named) → new ≡ old ++ reverse added → pending_names new ≡ names_of added ++ pending_names old
 pend_more old new added e =
-    ap pending_names e ∙ ap names_of (reverse-append old (reverse added)) ∙ names_joined (reverse (reverse added)) (reverse old) ∙ ap (λ u. names_of u ++ pending_names old) (rev_rev added)
+    ap pending_names e ∙ ap names_of (reverse-append old (reverse added)) ∙ names_joined (reverse (reverse added)) (reverse old) ∙ ap (λ u. names_of u ++ pending_names old) (reverse-reverse added)
 
 pub cells_within : (g : Graph) (xs : List (ℕ × ℕ)) → AreCells g xs → AreWithin (length g.cells) (cells_of xs)
 cells_within g [] a = tt
@@ -152,19 +153,21 @@ module _ (code : List Instr) (k : ℕ) (g : Graph) where
 -- ## The next cell
 
 module _ (code : List Instr) (g : Graph) where
+  -- a cell that has its turn is passed over
+  past : (stands : List ℕ) (c a : ℕ) (rest : List Item) (ts : List (Home × ℕ)) (ns : List ℕ) → has stands c ≡ true → Turned code g stands (cell_due c a ∷ rest) ts ns
+      → Turned code g stands rest ts ns
+  past stands c a rest ts ns e (cell_turn _ _ not d) = absurd (not (has_among stands c e))
+  past stands c a rest ts ns e (cell_stands _ _ among d) = d
+
   -- cells that have their turn are passed over
   pub passed_over : (marks : List Bool) (stands : List ℕ) → ((c : ℕ) → get_or marks c false ≡ has stands c) → (xs : List (ℕ × ℕ)) (due : List Item) (ts : List (Home × ℕ)) (ns : List ℕ)
       → Turned code g stands (cells_due xs ++ due) ts ns → Turned code g stands (cells_due (unplaced marks xs) ++ due) ts ns
   passed_over marks stands m [] due ts ns h = h
   passed_over marks stands m (x ∷ xs) due ts ns h = go (get_or marks x.0 false) refl (passed_over marks stands m xs due ts ns)
     where
-      past : (rest : List Item) → get_or marks x.0 false ≡ true → Turned code g stands (cell_due x.0 x.1 ∷ rest) ts ns → Turned code g stands rest ts ns
-      past rest e (cell_turn c a not d) = absurd (not (has_among stands x.0 (sym (m x.0) ∙ e)))
-      past rest e (cell_stands c a among d) = d
-
       go : (b : Bool) → get_or marks x.0 false ≡ b → (Turned code g stands (cells_due xs ++ due) ts ns → Turned code g stands (cells_due (unplaced marks xs) ++ due) ts ns)
           → Turned code g stands (cells_due (elim b [ true ↦ unplaced marks xs | false ↦ x ∷ xs ]) ++ due) ts ns
-      go true e r = r (past (cells_due xs ++ due) e h)
+      go true e r = r (past stands x.0 x.1 (cells_due xs ++ due) ts ns (sym (m x.0) ∙ e) h)
       go false e r = h
 
   -- the first that is left has no turn yet
@@ -363,6 +366,42 @@ module _ (code : List Instr) (k : ℕ) (g : Graph) (x : Stream) (y : IsSearchabl
           empty = names_same ∙ s.counted.empty;
         }
 
+    pub cell_fewer : unmarked mid.placed.items < unmarked old.placed.items
+    cell_fewer =
+        let fewer : suc (unmarked (set old.placed.items c true)) ≡ unmarked old.placed.items = fewer_unmarked old.placed.items c in_room no_mark in
+        let marked : unmarked mid.placed.items ≡ unmarked (set old.placed.items c true) = ap unmarked placed_is in
+        omega (arith, fewer, marked)
+
+  -- nothing that is pending is left to take a turn
+  pub none_left_pending : (due : List Item) (old new : Search) → IsSearched code k g x due old → unplaced old.placed.items (pending_names old.pending.items) ≡ [] → new.pending.items ≡ []
+      → new.turns ≡ old.turns → new.numbers ≡ old.numbers → new.named ≡ old.named → new.placed ≡ old.placed → new.count ≡ old.count → IsSearched code k g x due new
+  none_left_pending due old new s none empty turns_same numbers_same named_same placed_same count_same =
+      let no_names : pending_names new.pending.items ≡ [] = ap pending_names empty in
+      record {
+        rest = s.rest;
+        rest_names = s.rest_names;
+        stands = s.stands;
+        names = s.names;
+        turned =
+            subst (λ l. Turned code g s.stands (cells_due l ++ due) s.rest s.rest_names) (none ∙ sym no_names)
+            (passed_over code g old.placed.items s.stands s.marks (pending_names old.pending.items) due s.rest s.rest_names s.turned);
+        turns = ap (λ ts. turn_pairs ts.items ++ s.rest) turns_same ∙ s.turns;
+        named = s.named;
+        numbers = subst (λ v. IsNumbered (length g.cells) s.names new.numbers.items v) (sym named_same) (subst (λ v. IsNumbered (length g.cells) s.names v.items old.named) (sym numbers_same) s.numbers);
+        marks = λ c. ap (λ bs. get_or bs.items c false) placed_same ∙ s.marks c;
+        pending = subst (AreCells g) (sym no_names) tt;
+        counted =
+            let few = s.counted.few in
+            let a : length new.turns.items ≡ length old.turns.items = ap (λ ts. length ts.items) turns_same in
+            let b : unmarked new.placed.items ≡ unmarked old.placed.items = ap (λ bs. unmarked bs.items) placed_same in
+            record {
+              at = ap (λ q. q.at) count_same ∙ s.counted.at ∙ sym (ap (λ ts. pieces_end 0 (counted_turns code k g (turn_pairs ts.items))) turns_same);
+              few = omega (arith, few, a, b);
+              room = ap (λ bs. length bs.items) placed_same ∙ s.counted.room;
+              empty = ap (λ q. q.names.items) count_same ∙ s.counted.empty;
+            };
+      }
+
   -- a root is ready
   pub root_ready : (i a : ℕ) (due : List Item) (old : Search) → IsSearched code k g x (root_due i a ∷ due) old → old.pending.items ≡ []
       → Ready due (record { home = home.Root i; start = a }) old
@@ -390,10 +429,10 @@ module _ (code : List Instr) (k : ℕ) (g : Graph) (x : Stream) (y : IsSearchabl
 
   -- the referent of a root in its place is ready
   module _ (i a : ℕ) (due : List Item) (old : Search) (s : IsSearched code k g x (direct_due i a ∷ due) old) (none : old.pending.items ≡ []) where
-    no_names : pending_names old.pending.items ≡ []
+    pub no_names : pending_names old.pending.items ≡ []
     no_names = ap pending_names none
 
-    abbrev direct : DirectTurn code g s.stands i a due s.rest s.rest_names
+    abbrev pub direct : DirectTurn code g s.stands i a due s.rest s.rest_names
     direct = direct_next code g s.stands i a due s.rest s.rest_names (subst (λ l. Turned code g s.stands (cells_due l ++ (direct_due i a ∷ due)) s.rest s.rest_names) no_names s.turned)
 
     -- the root names it
@@ -470,7 +509,71 @@ mark_default [] i a l = absurd (omega (arith, l))
 mark_default (b ∷ bs) zero a l = refl
 mark_default (b ∷ bs) (suc i) a l = mark_default bs i a (omega (arith, l))
 
+-- the first that is left has a place for its mark
+pub unplaced_room : (code : List Instr) (g : Graph) (marks : List Bool) (xs ys : List (ℕ × ℕ)) (y : ℕ × ℕ) → length marks ≡ length g.cells + 1 → AreCells g xs → unplaced marks xs ≡ y ∷ ys → y.0 < length marks
+unplaced_room code g marks xs ys y e a h = first_within (length marks) (unplaced marks xs) ys y h (in_marks (length marks) g (unplaced marks xs) e (cells_left code g marks xs a))
+
+-- ## What was counted
+
+pub counted_names : (at end : ℕ) (old new : List Named) (ps : List Piece) → count_whole end (names_of new) [] ≡ count_whole at (names_of old) (ps ++ []) → old ≡ [] → names_of new ≡ pieces_names ps
+counted_names at end old new ps e none =
+    sym (append-nil (names_of new)) ∙ ap (λ w. w.names) e ∙ ap (λ l. names_of l ++ pieces_names (ps ++ [])) none ∙ ap pieces_names (append-nil ps)
+
+pub counted_end : (at end : ℕ) (old new : List Named) (ps : List Piece) → count_whole end (names_of new) [] ≡ count_whole at (names_of old) (ps ++ []) → end ≡ pieces_end at ps
+counted_end at end old new ps e = ap (λ w. w.end) e ∙ ap (pieces_end at) (append-nil ps)
+
+pub can_count : (at : ℕ) (ps : List Piece) → pieces_end at ps ≤ at + 2 ^ 67 → at + 2 ^ 67 < 2 ^ 128 → AllByRecursion FitsPiece ps → CountCan at (ps ++ [])
+can_count at ps short room fits = subst (CountCan at) (sym (append-nil ps)) (omega (arith, short, room), fits)
+
 -- whether there is one turn more
 abbrev pub once_more : Bool → ℕ
 once_more true = 1
 once_more false = 0
+
+-- one turn more, or none
+pub smaller_turn : (more before : Bool) (u v : ℕ) → before ≡ true → (more ≡ true → u < v) → (more ≡ false → u ≤ v) → u + once_more more < v + once_more before
+smaller_turn true true u v e f g = let h = f refl in omega (arith, h)
+smaller_turn false true u v e f g = let h = g refl in omega (arith, h)
+smaller_turn more false u v e f g = cc
+
+-- ## Roots
+
+same_item : (a b : Item) → a ∷ [] ≡ b ∷ [] → a ≡ b
+same_item a b e = ap (λ l. elim l as (λ _. Item) [ [] ↦ a | ◌∷◌ x (xs → h) ↦ x ]) e
+
+pub call_item : (i run : ℕ) (first : Option Instr) (item : Item) → first ≡ Some (op.Call run) → root_by i first ≡ item ∷ [] → item ≡ root_due i run
+call_item i run first item e h = sym (same_item (root_due i run) item (sym (ap (root_by i) e) ∙ h))
+
+pub direct_item : (i run : ℕ) (to : TypeId) (first : Option Instr) (item : Item) → first ≡ Some (op.Direct to run) → root_by i first ≡ item ∷ [] → item ≡ direct_due i run
+direct_item i run to first item e h = sym (same_item (direct_due i run) item (sym (ap (root_by i) e) ∙ h))
+
+-- one cell less has no mark
+pub fewer_turn : (code : List Instr) (g : Graph) (marks new : List Bool) (xs ys : List (ℕ × ℕ)) (y : ℕ × ℕ) → length marks ≡ length g.cells + 1 → AreCells g xs → unplaced marks xs ≡ y ∷ ys
+    → new ≡ set marks y.0 true → unmarked new < unmarked marks
+fewer_turn code g marks new xs ys y e a h is =
+    let fewer : suc (unmarked (set marks y.0 true)) ≡ unmarked marks = fewer_unmarked marks y.0 (unplaced_room code g marks xs ys y e a h) (first_unplaced code g marks xs ys y h) in
+    let same : unmarked new ≡ unmarked (set marks y.0 true) = ap unmarked is in
+    omega (arith, fewer, same)
+
+-- a root that names a cell is there
+named_there : (vs : List Tree) (i c : ℕ) (ks : Trees) → or_unread (slice_get vs i) ≡ node (tree.Ptr (Some c)) ks → i < length vs
+named_there [] i c ks e = cc
+named_there (v ∷ vs) zero c ks e = omega arith
+named_there (v ∷ vs) (suc i) c ks e = let h = named_there vs i c ks e in omega (arith, h)
+
+pub root_there : (g : Graph) (i c : ℕ) (ks : Trees) → root_at g i ≡ node (tree.Ptr (Some c)) ks → i < length g.roots
+root_there g i c ks e = named_there g.roots i c ks e
+
+-- the cell that was found is the one that the root names
+pub cell_found : (o : Option CellId) (cell : CellId) (v : Option ℕ) (c : ℕ) → o ≡ Some cell → cell_number o ≡ v → v ≡ Some c → cell.0 ≡ c
+cell_found o cell v c e h f = same_Some cell.0 c (sym (ap cell_number e) ∙ h ∙ f)
+
+pub none_found : (o : Option CellId) (v : Option ℕ) (c : ℕ) → o ≡ None → cell_number o ≡ v → v ≡ Some c → ⊥
+none_found o v c e h f = let z : None ≡ Some c = sym (ap cell_number e) ∙ h ∙ f in cc
+
+-- there is no other first instruction of a root
+pub no_root : (i : ℕ) (first : Option Instr) (item : Item) → root_by i first ≡ item ∷ [] → ((run : ℕ) → first ≡ Some (op.Call run) → ⊥) → ((to : TypeId) (run : ℕ) → first ≡ Some (op.Direct to run) → ⊥) → ⊥
+no_root i (Some (op.Call run)) item h f g = f run refl
+no_root i (Some (op.Direct to run)) item h f g = g to run refl
+no_root i None item h f g = cc
+no_root i (Some _) item h f g = cc

@@ -153,6 +153,13 @@ fn direct_cell(fit: &Fit, root: u32) -> Option<CellId>
     }
 }
 
+// The instruction at an address, if there is one.
+fn instr_at(code: &[Instr], at: usize) -> Option<Instr>
+    ensures { result ≡ slice_get code.now at }
+{
+    code.get(at).copied()
+}
+
 // A root that is no pipe takes its turn by the first instruction of its run: as it is, or the referent that it names in its place. No referent is pending.
 pub(crate) fn root(
     search: &mut Search,
@@ -165,8 +172,8 @@ pub(crate) fn root(
     requires { CanRoot code.now chunk fit.now.graph root (slice_get code.now at) search.old }
     ensures { OnOk result (RootTaken code.now chunk fit.now.graph root (slice_get code.now at) search.old search.new) }
 {
-    match code[at as usize] {
-        Instr::Call { run } => {
+    match instr_at(code, at as usize) {
+        Some(Instr::Call { run }) => {
             let turn = Turn {
                 home: Home::Root(root),
                 start: run,
@@ -174,7 +181,7 @@ pub(crate) fn root(
             take_turn(search, code, chunk, fit, turn)?;
             Ok(())
         }
-        Instr::Direct { to: _to, run } => {
+        Some(Instr::Direct { to: _to, run }) => {
             let Some(cell) = direct_cell(fit, root) else {
                 unreachable!()
             };
