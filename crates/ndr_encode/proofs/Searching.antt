@@ -17,7 +17,6 @@ use Rattle.nd_value.specs.Setting.{Among, root_at, or_unread, cell_at, cell_home
 use Rattle.nd_value.specs.Tree as tree
 use Rattle.nd_value.specs.Tree.{Tree, Trees, node}
 use Rattle.nd_value.proofs.Apart.{all_append, all_left, all_right}
-use Rattle.nd_types.specs.declared.types.TypeId.{TypeId}
 use Rattle.ndr_code.specs.declared.instr.Instr.{Instr}
 use Rattle.ndr_code.specs.declared.instr.Instr.TheVariants as op
 use Rattle.ndr_pieces.specs.Pieces.{Piece, pieces_end, pieces_names}
@@ -31,7 +30,7 @@ use Rattle.ndr_homes.specs.declared.turn.Turn.{Turn}
 use Rattle.ndr_homes.specs.Turns.{turn_pair, turn_pairs}
 use Rattle.ndr_homes.specs.Counted.{counted_turn, counted_turns, AreCells, IsCounted}
 use Rattle.ndr_encode.specs.declared.search.Search.{Search}
-use Rattle.ndr_encode.specs.Search.{AreWithin, IsNumbered, unmarked, unplaced, pending_names, Stream, IsSearchable, AreCounted, IsSearched, IsTaken, CanTake, first_cell, root_by}
+use Rattle.ndr_encode.specs.Search.{AreWithin, IsNumbered, unmarked, unplaced, pending_names, Stream, IsSearchable, AreCounted, IsSearched, IsTaken, CanTake, first_cell, root_by, called_run, direct_run}
 
 -- ## What is pending
 
@@ -541,11 +540,15 @@ smaller_turn more false u v e f g = cc
 same_item : (a b : Item) → a ∷ [] ≡ b ∷ [] → a ≡ b
 same_item a b e = ap (λ l. elim l as (λ _. Item) [ [] ↦ a | ◌∷◌ x (xs → h) ↦ x ]) e
 
-pub call_item : (i run : ℕ) (first : Option Instr) (item : Item) → first ≡ Some (op.Call run) → root_by i first ≡ item ∷ [] → item ≡ root_due i run
-call_item i run first item e h = sym (same_item (root_due i run) item (sym (ap (root_by i) e) ∙ h))
+pub call_item : (i run : ℕ) (first : Option Instr) (item : Item) → called_run first ≡ Some run → root_by i first ≡ item ∷ [] → item ≡ root_due i run
+call_item i run (Some (op.Call q)) item e h = sym (same_item (root_due i q) item h) ∙ ap (root_due i) (same_Some q run e)
+call_item i run None item e h = cc
+call_item i run (Some _) item e h = cc
 
-pub direct_item : (i run : ℕ) (to : TypeId) (first : Option Instr) (item : Item) → first ≡ Some (op.Direct to run) → root_by i first ≡ item ∷ [] → item ≡ direct_due i run
-direct_item i run to first item e h = sym (same_item (direct_due i run) item (sym (ap (root_by i) e) ∙ h))
+pub direct_item : (i run : ℕ) (first : Option Instr) (item : Item) → direct_run first ≡ Some run → root_by i first ≡ item ∷ [] → item ≡ direct_due i run
+direct_item i run (Some (op.Direct to q)) item e h = sym (same_item (direct_due i q) item h) ∙ ap (direct_due i) (same_Some q run e)
+direct_item i run None item e h = cc
+direct_item i run (Some _) item e h = cc
 
 -- one cell less has no mark
 pub fewer_turn : (code : List Instr) (g : Graph) (marks new : List Bool) (xs ys : List (ℕ × ℕ)) (y : ℕ × ℕ) → length marks ≡ length g.cells + 1 → AreCells g xs → unplaced marks xs ≡ y ∷ ys
@@ -572,8 +575,8 @@ pub none_found : (o : Option CellId) (v : Option ℕ) (c : ℕ) → o ≡ None �
 none_found o v c e h f = let z : None ≡ Some c = sym (ap cell_number e) ∙ h ∙ f in cc
 
 -- there is no other first instruction of a root
-pub no_root : (i : ℕ) (first : Option Instr) (item : Item) → root_by i first ≡ item ∷ [] → ((run : ℕ) → first ≡ Some (op.Call run) → ⊥) → ((to : TypeId) (run : ℕ) → first ≡ Some (op.Direct to run) → ⊥) → ⊥
-no_root i (Some (op.Call run)) item h f g = f run refl
-no_root i (Some (op.Direct to run)) item h f g = g to run refl
+pub no_root : (i : ℕ) (first : Option Instr) (item : Item) → root_by i first ≡ item ∷ [] → called_run first ≡ None → direct_run first ≡ None → ⊥
+no_root i (Some (op.Call run)) item h f g = cc
+no_root i (Some (op.Direct to run)) item h f g = cc
 no_root i None item h f g = cc
 no_root i (Some _) item h f g = cc

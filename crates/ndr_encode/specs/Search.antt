@@ -1,6 +1,6 @@
 -- How far the search for the homes of a graph has come.
 -- `code` is a plan's code, `g` a graph, `k` the greatest count of a chunk, `n` the number of its cells, `c` a cell's number, `s` what is known so far.
-use Rattle.std.specs.Prelude.{◌≡◌, ℕ, ◌+◌, ◌^◌, ◌<◌, ◌≤◌, suc, zero, Bool, true, false, List, [], ◌∷◌, ◌++◌, length, get_or, reverse, replicate, Option, Some}
+use Rattle.std.specs.Prelude.{◌≡◌, ℕ, ◌+◌, ◌^◌, ◌<◌, ◌≤◌, suc, zero, Bool, true, false, List, [], ◌∷◌, ◌++◌, length, get_or, reverse, replicate, Option, Some, None}
 use Rattle.std.specs.List.{AllByRecursion}
 use Rattle.nd_value.specs.declared.value.Graph.{Graph}
 use Rattle.nd_value.specs.declared.item.Home.{Home}
@@ -138,6 +138,28 @@ abbrev pub root_by : ℕ → Option Instr → List Item
 root_by i (Some (op.Call run)) = root_due i run ∷ []
 root_by i (Some (op.Direct to run)) = direct_due i run ∷ []
 root_by i _ = []
+
+-- its run by that instruction
+abbrev pub called_run : Option Instr → Option ℕ
+called_run (Some (op.Call run)) = Some run
+called_run i = None
+
+abbrev pub direct_run : Option Instr → Option ℕ
+direct_run (Some (op.Direct to run)) = Some run
+direct_run i = None
+
+-- an item is next, and nothing is pending
+pub record CanItem (code : List Instr) (k : ℕ) (g : Graph) (item : Item) (s : Search) : Type 0 where
+  pub stream : Stream
+  pub due : List Item
+  pub searchable : IsSearchable code k g stream
+  pub searched : IsSearched code k g stream (item ∷ due) s
+  pub pending : s.pending.items ≡ []
+
+-- it took its turn
+abbrev pub ItemTaken : List Instr → ℕ → Graph → Item → Search → Search → Type 0
+ItemTaken code k g item old new =
+    (x : Stream) (due : List Item) → IsSearchable code k g x → old.pending.items ≡ [] → IsSearched code k g x (item ∷ due) old → IsSearched code k g x due new
 
 -- a root is next, and nothing is pending
 pub record CanRoot (code : List Instr) (k : ℕ) (g : Graph) (i : ℕ) (first : Option Instr) (s : Search) : Type 0 where

@@ -4,8 +4,9 @@ ghost use Rattle.std.specs.List.{AllByRecursion, slice_get};
 ghost use Rattle.nd_value.specs.Seen.{cell_number};
 ghost use Rattle.nd_value.specs.declared.item.Home.TheVariants as home;
 ghost use Rattle.nd_flat.specs.Building.{HasHome};
+ghost use Rattle.ndr_turns.specs.Turned.{root_due, direct_due};
 ghost use Rattle.ndr_chosen.specs.Written.{value_at};
-ghost use Rattle.ndr_encode.specs.Search.{IsFresh, IsTaken, CanTake, CanSearch, StillSearched, CanRoot, RootTaken, unplaced, pending_names, unmarked, first_cell};
+ghost use Rattle.ndr_encode.specs.Search.{IsFresh, IsTaken, CanTake, CanSearch, StillSearched, CanRoot, RootTaken, CanItem, ItemTaken, called_run, direct_run, unplaced, pending_names, unmarked, first_cell};
 
 use crate::numbering::{make_pending, number, number_all};
 use nd_base::Memory;
@@ -160,6 +161,71 @@ fn instr_at(code: &[Instr], at: usize) -> Option<Instr>
     code.get(at).copied()
 }
 
+// The run of a root that is written as it is, by the first instruction of its own run.
+fn called(instr: &Option<Instr>) -> Option<u32>
+    ensures { result ≡ called_run instr.now }
+{
+    match instr {
+        Some(Instr::Call { run }) => Some(*run),
+        _ => None,
+    }
+}
+
+// The run of a root whose referent is written in its place.
+fn directed(instr: &Option<Instr>) -> Option<u32>
+    ensures { result ≡ direct_run instr.now }
+{
+    match instr {
+        Some(Instr::Direct { to: _to, run }) => Some(*run),
+        _ => None,
+    }
+}
+
+// A root takes its turn. No referent is pending.
+fn own_root(
+    search: &mut Search,
+    code: &[Instr],
+    chunk: u32,
+    fit: &Fit,
+    root: u32,
+    run: u32,
+) -> Result<(), Memory>
+    requires { CanItem code.now chunk fit.now.graph (root_due root run) search.old }
+    ensures { OnOk result (ItemTaken code.now chunk fit.now.graph (root_due root run) search.old search.new) }
+{
+    let turn = Turn {
+        home: Home::Root(root),
+        start: run,
+    };
+    take_turn(search, code, chunk, fit, turn)?;
+    Ok(())
+}
+
+// The referent that a root names takes its turn. No referent is pending.
+fn direct_root(
+    search: &mut Search,
+    code: &[Instr],
+    chunk: u32,
+    fit: &Fit,
+    root: u32,
+    run: u32,
+) -> Result<(), Memory>
+    requires { CanItem code.now chunk fit.now.graph (direct_due root run) search.old }
+    ensures { OnOk result (ItemTaken code.now chunk fit.now.graph (direct_due root run) search.old search.new) }
+{
+    let Some(cell) = direct_cell(fit, root) else {
+        unreachable!()
+    };
+    number(cell, &mut search.numbers, &mut search.named);
+    mark(cell, &mut search.placed);
+    let turn = Turn {
+        home: Home::Cell(cell),
+        start: run,
+    };
+    take_turn(search, code, chunk, fit, turn)?;
+    Ok(())
+}
+
 // A root that is no pipe takes its turn by the first instruction of its run: as it is, or the referent that it names in its place. No referent is pending.
 pub(crate) fn root(
     search: &mut Search,
@@ -172,28 +238,14 @@ pub(crate) fn root(
     requires { CanRoot code.now chunk fit.now.graph root (slice_get code.now at) search.old }
     ensures { OnOk result (RootTaken code.now chunk fit.now.graph root (slice_get code.now at) search.old search.new) }
 {
-    match instr_at(code, at as usize) {
-        Some(Instr::Call { run }) => {
-            let turn = Turn {
-                home: Home::Root(root),
-                start: run,
-            };
-            take_turn(search, code, chunk, fit, turn)?;
-            Ok(())
-        }
-        Some(Instr::Direct { to: _to, run }) => {
-            let Some(cell) = direct_cell(fit, root) else {
-                unreachable!()
-            };
-            number(cell, &mut search.numbers, &mut search.named);
-            mark(cell, &mut search.placed);
-            let turn = Turn {
-                home: Home::Cell(cell),
-                start: run,
-            };
-            take_turn(search, code, chunk, fit, turn)?;
-            Ok(())
-        }
-        _ => unreachable!(),
+    let first = instr_at(code, at as usize);
+    if let Some(run) = called(&first) {
+        own_root(search, code, chunk, fit, root, run)?;
+        return Ok(());
     }
+    let Some(direct) = directed(&first) else {
+        unreachable!()
+    };
+    direct_root(search, code, chunk, fit, root, direct)?;
+    Ok(())
 }
