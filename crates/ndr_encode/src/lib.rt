@@ -3,8 +3,10 @@
 
 mod encoding;
 mod making;
+mod numbering;
 mod search;
 mod work;
 
 pub use encoding::encode_with;
+pub use ndr_homes::Turn;
 pub use work::{EncodeFault, Work};

@@ -119,15 +119,17 @@ module _ (w : Setting) (side : IsLegalSide w) (g : Graph) (c : Conforms w g) whe
   steps_good none_due a = tt
   steps_good (at_root {i = i} {due = due} f d) a =
       let (r, e, p) = a.0 in
-      let s : StandsGood w (none_inside w side g c) g (standing_root w g i) = root_good w (none_inside w side g c) g c i r e p in
-      (root_home i r e s.no_pipe,
-       steps_good d (all_append D (due_of w.table (standing_root w g i)) due (standing_due w (none_inside w side g c) g (standing_root w g i) s) a.1))
+      let s : StandsGood w (none_inside w side g c) g (standing_root w g i) = root_good w (none_inside w side g c) g c i r e p in (
+        root_home i r e s.no_pipe,
+        steps_good d (all_append D (due_of w.table (standing_root w g i)) due (standing_due w (none_inside w side g c) g (standing_root w g i) s) a.1),
+      )
   steps_good (at_null e d) a = steps_good d a.1
   steps_good (at_standing k e full h d) a = steps_good d a.1
   steps_good (at_referent {p = p} {due = due} k e n d) a =
-      let s : StandsGood w (none_inside w side g c) g (standing_cell g p k) = pending_cell w (none_inside w side g c) g c p a.0 k e in
-      (cell_there p a.0 k e s.no_pipe,
-       steps_good d (all_append D (due_of w.table (standing_cell g p k)) due (standing_due w (none_inside w side g c) g (standing_cell g p k) s) a.1))
+      let s : StandsGood w (none_inside w side g c) g (standing_cell g p k) = pending_cell w (none_inside w side g c) g c p a.0 k e in (
+        cell_there p a.0 k e s.no_pipe,
+        steps_good d (all_append D (due_of w.table (standing_cell g p k)) due (standing_due w (none_inside w side g c) g (standing_cell g p k) s) a.1),
+      )
 
   one_good : (h : Home) (t : ℕ) (v : Tree) → IsNoPipe w.table t → WritableTrees w.table g (t ∷ []) (more v none) → AllByRecursion Good (shown w.table (standing_entries w.table (record { home = h; of = t; val = v })))
   one_good h t (node l ks) p a =
@@ -165,15 +167,17 @@ module _ (w : Setting) (side : IsLegalSide w) (g : Graph) (c : Conforms w g) whe
   drop_w e (suc k) none a = tt
   drop_w e (suc k) (more (node l ks) ts) a = drop_w e k ts a.2
 
-
   chunks_good : (e : ℕ) (cut : List ℕ) (ts : Trees) → IsNoPipe w.table e → AllByRecursion (λ k. k < 2 ^ 32) cut → WritableTrees w.table g (replicate (count ts) e) ts
       → AllByRecursion Good (chunks_pieces w.table e cut ts)
   chunks_good e [] ts p b a = ((omega arith, omega arith), ((refl, tt), tt))
-  chunks_good e (k ∷ cut) ts p b a =
-      ((omega arith, omega arith),
-       (four_good k b.0,
-        all_append Good (values_pieces w.table (replicate k e) (take_trees k ts)) (chunks_pieces w.table e cut (drop_trees k ts)) (take_good e k ts p a)
-        (chunks_good e cut (drop_trees k ts) p b.1 (drop_w e k ts a))))
+  chunks_good e (k ∷ cut) ts p b a = (
+    (omega arith, omega arith),
+    (
+      four_good k b.0,
+      all_append Good (values_pieces w.table (replicate k e) (take_trees k ts)) (chunks_pieces w.table e cut (drop_trees k ts)) (take_good e k ts p a)
+          (chunks_good e cut (drop_trees k ts) p b.1 (drop_w e k ts a)),
+    ),
+  )
 
   -- chunks have at most all elements
   cut_small : (fuel k n : ℕ) → n < 2 ^ 32 → AllByRecursion (λ k. k < 2 ^ 32) (cut_within fuel k n)

@@ -142,9 +142,10 @@ module _ (w : Setting) (side : IsLegalSide w) (g : Graph) (c : Conforms w g) whe
     pipes_same at first [] j some f = tt
     pipes_same at first (r ∷ rs) j some f =
         let (p, s) = f 0 j r (omega arith) refl in
-        let u : Home × ℕ = (home.Root (first + j), at j) in
-        (pipe_same (home.Root (first + j)) r.of (at j) (root_at g (first + j)) p s refl some (max_of C g u) (hoisted_max 0 (more (value_at g u.0) none)),
-         pipes_same at first rs (suc j) some (λ i a q e z. f (suc i) a q (e ∙ omega arith) z))
+        let u : Home × ℕ = (home.Root (first + j), at j) in (
+          pipe_same (home.Root (first + j)) r.of (at j) (root_at g (first + j)) p s refl some (max_of C g u) (hoisted_max 0 (more (value_at g u.0) none)),
+          pipes_same at first rs (suc j) some (λ i a q e z. f (suc i) a q (e ∙ omega arith) z),
+        )
 
   all_both : {X : Type 0} (P : X → Type 0) (xs ys : List X) → AllByRecursion P xs → AllByRecursion P ys → AllByRecursion P (xs ++ ys)
   all_both P [] ys a b = b

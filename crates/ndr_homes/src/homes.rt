@@ -37,14 +37,7 @@ pub fn write_home<O: Output>(
 {
     let mut walk = fit.walk(turn.home);
     let run = Run { code, max, chunk };
-    write_run(
-        &run,
-        turn.start as usize,
-        u64::MAX,
-        &mut walk,
-        frames,
-        out,
-    )
+    write_run(&run, turn.start as usize, u64::MAX, &mut walk, frames, out)
 }
 
 // The instruction at an address, if there is one.

@@ -34,7 +34,10 @@ fn own_maximum(seen: &Seen<'_>) -> Option<u32>
             offset: _offset,
             count: _count,
         } => Some(*max),
-        Seen::Text { max, octets: _octets } => Some(*max),
+        Seen::Text {
+            max,
+            octets: _octets,
+        } => Some(*max),
         _ => None,
     }
 }
