@@ -1,4 +1,3 @@
 pub mod Elements
 pub mod Going
-pub mod Instructions
 pub mod NextNumbers

@@ -149,7 +149,13 @@ fn chunk_elements<O: Output>(
 }
 
 // The next element of an array, of which so many are left, or what comes after it.
-pub(crate) fn next_element(left: u32, run: u32, to: usize, pc: &mut usize, frames: &mut Frames) -> bool
+pub(crate) fn next_element(
+    left: u32,
+    run: u32,
+    to: usize,
+    pc: &mut usize,
+    frames: &mut Frames,
+) -> bool
     ensures on { result ≡ true }
     ensures next { (G : Rest) (code : List Instr) (k : ℕ) (fs : List Flat) → back G code k (Array left run to ∷ frames.old) fs ≡ G pc.new frames.new fs }
 {

@@ -62,12 +62,7 @@ fn write_some<O: Output>(prim: Prim, most: u32, walk: &mut Walk<'_>, out: &mut O
 }
 
 // So many of the next nodes as numbers, each with its gap. Numbers that are kept side by side are written in one go.
-pub(crate) fn write_numbers<O: Output>(
-    prim: Prim,
-    count: u32,
-    walk: &mut Walk<'_>,
-    out: &mut O,
-)
+pub(crate) fn write_numbers<O: Output>(prim: Prim, count: u32, walk: &mut Walk<'_>, out: &mut O)
     requires { (qs : List Piece) × Able O.can out.old (row_pieces prim (numbers count (flat walk.old)) ++ qs) }
     ensures written { (qs : List Piece) → Moves O.can O.whole out.old out.new (row_pieces prim (numbers count (flat walk.old)) ++ qs) qs }
     ensures rest { flat walk.new ≡ after count (flat walk.old) }

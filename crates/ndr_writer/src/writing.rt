@@ -45,12 +45,14 @@ fn go_back<O: Output>(
             true
         }
         Some(Frame::Array { left, run: by, to }) => next_element(left, by, to, pc, frames),
-        Some(Frame::Pipe {
-            left,
-            rest,
-            run: by,
-            to,
-        }) => next_of_pipe(
+        Some(
+            Frame::Pipe {
+                left,
+                rest,
+                run: by,
+                to,
+            },
+        ) => next_of_pipe(
             run.code, run.chunk, left, rest, by, to, pc, walk, frames, out,
         ),
     }
@@ -249,7 +251,8 @@ fn step<O: Output>(
     }
 }
 
-/// Writes what a run of the code writes from an address on over the nodes of a walk, in at most so many steps. It takes no memory apart from that of the output.
+/// Writes what a run of the code writes from an address on over the nodes of a walk, in at most so many steps (C706 sections 14.2 and 14.3). Frames that are there
+/// are taken away first. It takes no memory itself, and fails only where the output is refused memory.
 pub fn write_run<O: Output>(
     run: &Run<'_>,
     start: usize,

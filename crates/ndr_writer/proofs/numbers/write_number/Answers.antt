@@ -1,4 +1,4 @@
-use Rattle.std.proofs.Common.{◌∷◌, ◌++◌, [], ap, sym, rules, append_assoc}
+use Rattle.std.proofs.Common.{◌∷◌, [], ap, sym, rules, append_assoc}
 use Rattle.std.proofs.lemmas.Int.{to_z-of_z}
 use mir.Val.{SFits}
 use mir.Syntax.{w128}
