@@ -1,2 +1,4 @@
 pub mod Works
 pub mod Numbers
+pub mod Made
+pub mod FirstLine
