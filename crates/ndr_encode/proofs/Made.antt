@@ -1,13 +1,12 @@
 -- What a search for the homes of a fit begins with, and what is found at its end.
 -- `f` is a fit, `x` the stream that is searched, `s` what is known so far, `us` are homes with the addresses of their runs.
-use Rattle.std.proofs.Common.{◌≡◌, ℕ, ◌+◌, ◌-◌, ◌^◌, ◌<◌, ◌≤◌, zero, suc, Bool, true, false, List, [], ◌∷◌, ◌++◌, length, get_or, drop, Some, refl, ap, sym, ◌∙◌, subst, append-nil, length-drop, arith}
+use Rattle.std.proofs.Common.{◌≡◌, ℕ, ◌+◌, ◌-◌, ◌<◌, ◌≤◌, zero, suc, Bool, false, List, [], ◌∷◌, ◌++◌, length, get_or, drop, Some, refl, ap, sym, ◌∙◌, subst, append-nil, length-drop, arith}
 use Rattle.std.specs.Prelude.{replicate, Result, Ok, Err, IfOk}
 use Rattle.std.specs.List.{AllByRecursion, slice_get}
 use Rattle.nd_base.specs.declared.TheConstants.{STREAM_LIMIT}
 use Rattle.nd_types.specs.declared.types.Operation.{Operation}
 use Rattle.nd_value.specs.declared.value.Graph.{Graph}
 use Rattle.nd_value.specs.declared.item.Home.{Home}
-use Rattle.nd_value.specs.Conforms.{Conforms}
 use Rattle.nd_value.specs.Deferral.{Step, Deferral, due_roots, before_pipes}
 use Rattle.nd_value.specs.Fitting.{Fitting, IsFit}
 use Rattle.nd_value.specs.Setting.{Setting, root_list}
@@ -30,10 +29,10 @@ use Rattle.ndr_chosen.specs.Written.{turn_pieces, turns_pieces, pipe_turns, all_
 use Rattle.ndr_chosen.proofs.Written.{ends}
 use Rattle.ndr_homes.specs.Turns.{turn_pairs}
 use Rattle.ndr_homes.specs.Counted.{counted_turn, counted_turns, IsCounted}
-use Rattle.ndr_homes.proofs.Counts.{all_counted, homes_named, pipes_counted, pipes_nameless}
+use Rattle.ndr_homes.proofs.Counts.{all_counted, homes_named, pipes_nameless}
 use Rattle.ndr_encode.specs.declared.search.Search.{Search}
 use Rattle.ndr_encode.specs.Search.{unmarked, pending_names, Stream, IsNumbered, IsSearchable, AreCounted, IsSearched, ArePipes, IsFresh}
-use Rattle.ndr_encode.specs.Making.{stream_of, HasStream, BeginsRoots, BeginsPipes}
+use Rattle.ndr_encode.specs.Making.{stream_of, HasStream}
 use Rattle.ndr_encode.specs.declared.work.EncodeFault.{EncodeFault}
 use Rattle.ndr_encode.specs.Work.{WorkSeen, setting, IsWorkFor, IsTooLong, chosen_length}
 use Rattle.ndr_encode.proofs.Works.{operation_there}
@@ -119,20 +118,20 @@ homes_over code k g x s r p =
 -- ## A fit
 
 module _ (plan : Plan) (f : Fitting) (tied : plan.tie ≡ f.interface) (k : ℕ) (some : 1 ≤ k) where
-  abbrev C : List Instr
+  abbrev pub C : List Instr
   C = code_of f.interface.types f.interface.operations
 
-  same_code : plan.code ≡ C
+  pub same_code : plan.code ≡ C
   same_code = plan.planned.code_is ∙ ap (λ i. code_of i.types i.operations) tied
 
   module _ (fit : IsFit f) where
-    abbrev W : Setting
+    abbrev pub W : Setting
     W = setting f fit.operation
 
-    abbrev side : IsLegalSide W
+    abbrev pub side : IsLegalSide W
     side = record { operations = f.interface.operations; legal = f.interface.legal; operation = operation_there f.interface.operations f.op fit.operation fit.is_there }
 
-    searchable_by : (steps : List Step) → Deferral W f.graph [] (due_roots 0 (before_pipes (root_list W))) steps → IsSearchable C k f.graph (stream_of f fit.operation steps)
+    pub searchable_by : (steps : List Step) → Deferral W f.graph [] (due_roots 0 (before_pipes (root_list W))) steps → IsSearchable C k f.graph (stream_of f fit.operation steps)
     searchable_by steps d =
         let x : Stream = stream_of f fit.operation steps in
         let all : AllByRecursion (IsCounted C k f.graph) (x.homes ++ x.pipes) = all_counted W side f.graph fit.conforms (pipes_last W) k f.op fit.is_there some steps d in
@@ -178,7 +177,7 @@ module _ (plan : Plan) (f : Fitting) (tied : plan.tie ≡ f.interface) (k : ℕ)
         let x : Stream = stream_of f fit.operation has_stream.steps in
         let first : ℕ = before_pipes (root_list W) in
         let t : Turned plan.code f.graph [] (root_items W 0 first) x.homes x.names =
-            subst (λ code. Turned code f.graph [] (root_items W 0 first) x.homes x.names) (sym same_code) (turns_are W side f.graph fit.conforms has_stream.steps has_stream.deferral) in
+        subst (λ code. Turned code f.graph [] (root_items W 0 first) x.homes x.names) (sym same_code) (turns_are W side f.graph fit.conforms has_stream.steps has_stream.deferral) in
         let i : length (root_items W 0 first) ≡ first = items_many W 0 first in
         let p : length x.pipes ≡ length (drop first (root_list W)) = pipes_many (pipe_at f.interface.types f.interface.operations f.op fit.operation f.side) first 0 (length (drop first (root_list W))) in
         let l : length (drop first (root_list W)) ≡ length (root_list W) - first = length-drop first (root_list W) in

@@ -24,8 +24,8 @@ pipes-requires-clause-begins c =
     let f = c.args.fit.now in
     let fit = c.flat.ensures.conforms in
     let begins =
-        begins_roots p f c.requires.tied c.args.chunk c.requires.some fit c.in_ok-search.search c.cell_count.result c.in_ok-search.ensures
-        (c.cell_count.ensures ∙ ap (λ (g : Graph). length g.cells) c.flat.ensures.graph) in
+    begins_roots p f c.requires.tied c.args.chunk c.requires.some fit c.in_ok-search.search c.cell_count.result c.in_ok-search.ensures
+    (c.cell_count.ensures ∙ ap (λ (g : Graph). length g.cells) c.flat.ensures.graph) in
     let taken = c.in_ok-next.ensures.taken (has_stream p f c.requires.tied c.args.chunk c.requires.some fit) c.in_ok-search.ensures.pending begins in
     let line = line_of p f c.requires.tied c.args.chunk c.requires.some fit c.first_line-first.result c.first_line-first.ensures.line in
     let next = next_of p f c.requires.tied c.args.chunk c.requires.some fit c.in_ok-next.next c.in_ok-next.ensures.count in
@@ -43,8 +43,8 @@ returns-clause-made c =
     let fit = c.flat.ensures.conforms in
     let h = has_stream p f c.requires.tied c.args.chunk c.requires.some fit in
     let begins =
-        begins_roots p f c.requires.tied c.args.chunk c.requires.some fit c.in_ok-search.search c.cell_count.result c.in_ok-search.ensures
-        (c.cell_count.ensures ∙ ap (λ (g : Graph). length g.cells) c.flat.ensures.graph) in
+    begins_roots p f c.requires.tied c.args.chunk c.requires.some fit c.in_ok-search.search c.cell_count.result c.in_ok-search.ensures
+    (c.cell_count.ensures ∙ ap (λ (g : Graph). length g.cells) c.flat.ensures.graph) in
     let taken = c.in_ok-next.ensures.taken h c.in_ok-search.ensures.pending begins in
     let over = homes_over p.code c.args.chunk f.graph (stream_of f fit.operation (order p f c.requires.tied c.args.chunk c.requires.some fit).0) c.roots.new.search taken.0 taken.1 in
     work_answer p f c.requires.tied c.args.chunk c.requires.some fit c.pipes.new.search (c.in_ok-pipes.ensures.taken h over) c.finish.result c.finish.ensures.made c.finish.ensures.within
@@ -56,8 +56,8 @@ returns-clause-long c n e =
     let fit = c.flat.ensures.conforms in
     let h = has_stream p f c.requires.tied c.args.chunk c.requires.some fit in
     let begins =
-        begins_roots p f c.requires.tied c.args.chunk c.requires.some fit c.in_ok-search.search c.cell_count.result c.in_ok-search.ensures
-        (c.cell_count.ensures ∙ ap (λ (g : Graph). length g.cells) c.flat.ensures.graph) in
+    begins_roots p f c.requires.tied c.args.chunk c.requires.some fit c.in_ok-search.search c.cell_count.result c.in_ok-search.ensures
+    (c.cell_count.ensures ∙ ap (λ (g : Graph). length g.cells) c.flat.ensures.graph) in
     let taken = c.in_ok-next.ensures.taken h c.in_ok-search.ensures.pending begins in
     let over = homes_over p.code c.args.chunk f.graph (stream_of f fit.operation (order p f c.requires.tied c.args.chunk c.requires.some fit).0) c.roots.new.search taken.0 taken.1 in
     let (same, long) = c.finish.ensures.long n e in
