@@ -88,15 +88,19 @@ next_new n seen (d ∷ ds) c some e h =
 
 pub next_known : (n : ℕ) (seen ds : List ℕ) (c : ℕ) → (0 < number_from n seen ds c) ⊎ (has seen c ≡ true) → next_after n seen (ds ++ c ∷ []) ≡ next_after n seen ds
 next_known n seen [] c (inl h) = absurd (let k : 0 < 0 = h in omega (arith, k))
-next_known n seen [] c (inr h) = ap (λ b. elim b [ true ↦ n | false ↦ n + 1 ]) h
+next_known n seen [] c (inr h) = go (has seen c) h
+  where
+    go : (b : Bool) → b ≡ true → elim b [ true ↦ n | false ↦ n + 1 ] ≡ n
+    go true f = refl
+    go false f = cc
 next_known n seen (d ∷ ds) c h =
     go (has seen d) (eqb c d) refl h (λ k. next_known n seen ds c k) (λ k. next_known (n + 1) (d ∷ seen) ds c k)
   where
     go : (a b : Bool) → eqb c d ≡ b → (0 < by_two a b (number_from n seen ds c) n (number_from (n + 1) (d ∷ seen) ds c)) ⊎ (has seen c ≡ true)
         → ((0 < number_from n seen ds c) ⊎ (has seen c ≡ true) → next_after n seen (ds ++ c ∷ []) ≡ next_after n seen ds)
         → ((0 < number_from (n + 1) (d ∷ seen) ds c) ⊎ (has (d ∷ seen) c ≡ true) → next_after (n + 1) (d ∷ seen) (ds ++ c ∷ []) ≡ next_after (n + 1) (d ∷ seen) ds)
-        → elim a [ true ↦ next_after n seen (ds ++ c ∷ []) | false ↦ next_after (n + 1) (d ∷ seen) (ds ++ c ∷ []) ]
-        ≡ elim a [ true ↦ next_after n seen ds | false ↦ next_after (n + 1) (d ∷ seen) ds ]
+        → ◌≡◌ {A = ℕ} (elim a [ true ↦ next_after n seen (ds ++ c ∷ []) | false ↦ next_after (n + 1) (d ∷ seen) (ds ++ c ∷ []) ])
+        (elim a [ true ↦ next_after n seen ds | false ↦ next_after (n + 1) (d ∷ seen) ds ])
     go true b q k f g = f k
     go false true q k f g = g (inr (ap (λ b. cond b true (has seen c)) q))
     go false false q (inl k) f g = g (inl k)

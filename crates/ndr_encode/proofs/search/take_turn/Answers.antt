@@ -1,0 +1,2 @@
+use Rattle.ndr_encode.proofs.Searching.{pend_more, cells_within, in_marks}
+use Rattle.ndr_encode.proofs.search.take_turn.Goals as goal
