@@ -3,7 +3,7 @@
 use Rattle.std.proofs.Common.{◌≡◌, ℕ, ◌+◌, ◌^◌, ◌<◌, ◌≤◌, zero, suc, ℤ, Bool, true, false, List, [], ◌∷◌, ◌++◌, length, map, Option, Some, None, refl, arith, max}
 use Rattle.std.specs.Prelude.{◌==◌}
 use Rattle.std.specs.List.{AllByRecursion}
-use Rattle.std.proofs.lemmas.Bool.{and_parts, leb-true, ltb-true}
+use Rattle.std.proofs.lemmas.Bool.{and_parts, eqb-true, leb-true, ltb-true}
 use Rattle.nd_types.specs.declared.TheConstants.{NESTING_LIMIT}
 use Rattle.nd_types.specs.declared.types.TypeDef.{TypeDef}
 use Rattle.nd_types.specs.declared.types.TypeDef.TheVariants as def
@@ -36,9 +36,10 @@ use Rattle.ndr_output.specs.Filling.{FitsPiece}
 abbrev pub IsAlignment : ℕ → Type 0
 IsAlignment n = (0 < n) × (n ≤ 8)
 
--- a piece that can be written, with a short gap
+-- a short gap; an identifier of 16 octets
 abbrev pub IsShort : Piece → Type 0
 IsShort (Gap n) = n ≤ 8
+IsShort (Handle attributes id) = length id ≡ 16
 IsShort x = Unit {0}
 
 abbrev pub Good : Piece → Type 0
@@ -168,7 +169,10 @@ module _ (table : Table) (operations : List Operation) (legal : IsLegal table op
       after_gap 4 (four 0 ∷ four (length os + 1) ∷ Raw os ∷ []) four_fits (four_good 0 (omega arith), (four_good (length os + 1) short, ((short, tt), tt)))
   before_good t (Some (def.Union tag own arms default)) (tree.Union v) ks r w m q s = tag_good (type_at table tag.0) arms default v r
   before_good t (Some (def.Pointer k to)) (tree.Ptr c) ks r w m q s = after_gap 4 (piece_of table (Number k to.0 c)) four_fits ((tt, tt), tt)
-  before_good t (Some def.Context) (tree.Context x i) ks r w m q s = after_gap 4 (Handle x i ∷ []) four_fits ((tt, tt), tt)
+  before_good t (Some def.Context) (tree.Context x i) ks r w m q s =
+      let (u, v) = and_parts _ _ m in
+      let (y, z) = and_parts _ _ u in
+      after_gap 4 (Handle x i ∷ []) four_fits ((tt, eqb-true (length i) 16 z), tt)
   before_good t (Some (def.Pipe e)) l ks r w m q s = cc
   before_good t _ _ ks r w m q s = cc
 
