@@ -1,4 +1,6 @@
 pub mod Works
 pub mod Numbers
+pub mod Made
+pub mod FirstLine
 pub mod NamedCells
 pub mod Searching

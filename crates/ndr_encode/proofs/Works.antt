@@ -24,7 +24,7 @@ use Rattle.ndr_homes.specs.Turns.{turn_pair, turn_pairs, written_turns}
 use Rattle.ndr_homes.proofs.Encoded.{all_there, turns_same, turns_fit}
 use Rattle.ndr_encode.specs.Work.{WorkSeen, setting, IsWorkFor, IsChosen, chosen_length}
 
-operation_there : (os : List Operation) (n : ℕ) (o : Operation) → slice_get os n ≡ Some o → Among os o
+pub operation_there : (os : List Operation) (n : ℕ) (o : Operation) → slice_get os n ≡ Some o → Among os o
 operation_there [] n o e = cc
 operation_there (x ∷ os) zero o e = inl (sym (same_Some _ _ e))
 operation_there (x ∷ os) (suc n) o e = inr (operation_there os n o e)

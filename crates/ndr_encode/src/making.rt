@@ -1,5 +1,5 @@
 // Works for graphs.
-ghost use Rattle.std.specs.Prelude.{◌≡◌, ◌≤◌, ◌<◌, ◌+◌, ℕ, Err, Some, OnOk, IfOk, length};
+ghost use Rattle.std.specs.Prelude.{◌≡◌, ◌≤◌, ◌<◌, ◌+◌, ◌^◌, ℕ, Err, Some, OnOk, IfOk, length};
 ghost use Rattle.std.specs.List.{slice_get};
 ghost use Rattle.nd_base.specs.declared.TheConstants.{STREAM_LIMIT};
 ghost use Rattle.nd_types.specs.declared.types.Operation.{Operation};
@@ -33,7 +33,8 @@ fn number_of(side: Side) -> usize
 // The number of the first line of the side of a fit.
 fn first_line(plan: &Plan, fit: &Fit) -> usize
     requires known { fit.now.op < length plan.now.tie.operations }
-    ensures { (o : Operation) → slice_get plan.now.tie.operations fit.now.op ≡ Some o → result ≡ line_at plan.now.tie.types plan.now.tie.operations fit.now.op o fit.now.side }
+    ensures small { result < 2 ^ 32 }
+    ensures line { (o : Operation) → slice_get plan.now.tie.operations fit.now.op ≡ Some o → result ≡ line_at plan.now.tie.types plan.now.tie.operations fit.now.op o fit.now.side }
 {
     plan.sides.as_slice()[fit.op() as usize * 2 + number_of(fit.side())] as usize
 }

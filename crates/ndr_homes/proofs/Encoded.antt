@@ -1,21 +1,19 @@
 -- The homes of a graph in the order of the stream, and its pipes: they are there, and their pieces can be written.
-use Rattle.std.proofs.Common.{◌≡◌, ℕ, ◌+◌, ◌-◌, ◌<◌, ◌≤◌, zero, suc, List, [], ◌∷◌, ◌++◌, length, drop, Some, refl, ap, sym, ◌∙◌, subst, arith, length-drop}
+use Rattle.std.proofs.Common.{◌≡◌, ℕ, ◌+◌, ◌-◌, ◌≤◌, zero, suc, List, [], ◌∷◌, length, drop, Some, sym, subst, arith, length-drop}
 use Rattle.std.specs.List.{AllByRecursion, slice_get}
 use Rattle.nd_types.specs.Table.{Table}
 use Rattle.nd_value.specs.declared.value.Graph.{Graph}
-use Rattle.nd_value.specs.declared.item.Home.{Home}
 use Rattle.nd_value.specs.Setting.{Setting, root_list}
 use Rattle.nd_value.specs.Deferral.{Step, Deferral, due_roots, before_pipes, Standing}
 use Rattle.nd_value.specs.Conforms.{Conforms}
 use Rattle.nd_value.proofs.Apart.{all_append}
 use Rattle.nd_value.proofs.DeferralBridge.{some_before}
 use Rattle.nd_grammar.specs.LegalSide.{IsLegalSide}
-use Rattle.nd_grammar.specs.Chosen.{pipe_cuts}
 use Rattle.nd_flat.specs.Building.{HasHome}
 use Rattle.ndr_code.specs.declared.instr.Instr.{Instr}
 use Rattle.ndr_code.specs.Code.{code_of, pipe_at, pipe_roots}
 use Rattle.ndr_pieces.specs.Pieces.{Piece}
-use Rattle.ndr_pieces.specs.Heads.{standings, stream_pieces}
+use Rattle.ndr_pieces.specs.Heads.{standings}
 use Rattle.ndr_output.specs.Filling.{FitsPiece}
 use Rattle.ndr_turns.specs.Roots.{home_turns}
 use Rattle.ndr_chosen.specs.Written.{turns_pieces, pipe_turns, all_turns}

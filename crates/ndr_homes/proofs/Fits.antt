@@ -1,9 +1,9 @@
 -- The pieces of values can be written as they are, and each is short.
 -- `t` is a type's number, `d` what it is, `l` a label, `ks` are its children, `n` is a number to whose multiple a gap leads.
-use Rattle.std.proofs.Common.{◌≡◌, ℕ, ◌+◌, ◌^◌, ◌<◌, ◌≤◌, zero, suc, ℤ, Bool, true, false, List, [], ◌∷◌, ◌++◌, length, map, Option, Some, None, refl, ap, sym, ◌∙◌, subst, arith, max}
-use Rattle.std.specs.Prelude.{◌==◌, replicate}
+use Rattle.std.proofs.Common.{◌≡◌, ℕ, ◌+◌, ◌^◌, ◌<◌, ◌≤◌, zero, suc, ℤ, Bool, true, false, List, [], ◌∷◌, ◌++◌, length, map, Option, Some, None, refl, arith, max}
+use Rattle.std.specs.Prelude.{◌==◌}
 use Rattle.std.specs.List.{AllByRecursion}
-use Rattle.std.proofs.lemmas.Bool.{and_parts, leb-true, ltb-true}
+use Rattle.std.proofs.lemmas.Bool.{and_parts, eqb-true, leb-true, ltb-true}
 use Rattle.nd_types.specs.declared.TheConstants.{NESTING_LIMIT}
 use Rattle.nd_types.specs.declared.types.TypeDef.{TypeDef}
 use Rattle.nd_types.specs.declared.types.TypeDef.TheVariants as def
@@ -12,23 +12,23 @@ use Rattle.nd_types.specs.declared.types.Field.{Field}
 use Rattle.nd_types.specs.declared.types.Primitive.{Primitive}
 use Rattle.nd_types.specs.declared.types.Primitive.TheVariants.{Boolean, Char, Byte, Small, UnsignedSmall, Short, UnsignedShort, Long, UnsignedLong, Hyper, UnsignedHyper}
 use Rattle.nd_types.specs.declared.types.Operation.{Operation}
-use Rattle.nd_types.specs.Table.{Table, type_at, width, carrier, in_range, fits_octets}
-use Rattle.nd_types.specs.Layout.{hoists, align_of, align_by, align_within, largest, at_least_4, tag_width, arm_types, default_type}
+use Rattle.nd_types.specs.Table.{Table, type_at, width, carrier, fits_octets}
+use Rattle.nd_types.specs.Layout.{align_of, align_by, align_within, largest, at_least_4, tag_width, arm_types, default_type}
 use Rattle.nd_types.specs.Kinds.{is_pipe}
 use Rattle.nd_types.specs.Legal.{IsLegal}
 use Rattle.nd_value.specs.declared.value.Graph.{Graph}
 use Rattle.nd_value.specs.Tree as tree
-use Rattle.nd_value.specs.Tree.{Tree, Trees, node, none, more, Label, count, take_trees, drop_trees}
+use Rattle.nd_value.specs.Tree.{Trees, node, none, more, Label, count}
 use Rattle.nd_value.specs.Nodes.{child_types}
 use Rattle.nd_value.specs.Misfit.{has_shape, has_range, has_machine_values, is_within, is_count}
 use Rattle.nd_value.proofs.Apart.{all_append}
 use Rattle.nd_value.proofs.NodeFacts.{IsFit}
 use Rattle.nd_value.proofs.ValueRanges.{range_fits}
-use Rattle.nd_grammar.specs.Entry.{Kind, Align, Number}
+use Rattle.nd_grammar.specs.Entry.{Number}
 use Rattle.nd_grammar.specs.InPlace.{before_children, counts, tag_entries, hoisted, hoisted_max, own_max}
 use Rattle.nd_grammar.proofs.conforming.GoodEntries.{IsNoPipe, HoldsNoPipe}
-use Rattle.nd_grammar.proofs.written.WritableTrees.{IsWritable, WritableTrees}
-use Rattle.ndr_pieces.specs.Pieces.{Piece, Gap, Figure, Name, Raw, Handle, four, gap_pieces}
+use Rattle.nd_grammar.proofs.written.WritableTrees.{WritableTrees}
+use Rattle.ndr_pieces.specs.Pieces.{Piece, Gap, Figure, Raw, Handle, four, gap_pieces}
 use Rattle.ndr_pieces.specs.Shown.{piece_of, kinds_pieces, values_pieces}
 use Rattle.ndr_output.specs.Filling.{FitsPiece}
 
@@ -36,9 +36,10 @@ use Rattle.ndr_output.specs.Filling.{FitsPiece}
 abbrev pub IsAlignment : ℕ → Type 0
 IsAlignment n = (0 < n) × (n ≤ 8)
 
--- a piece that can be written, with a short gap
+-- a short gap; an identifier of 16 octets
 abbrev pub IsShort : Piece → Type 0
 IsShort (Gap n) = n ≤ 8
+IsShort (Handle attributes id) = length id ≡ 16
 IsShort x = Unit {0}
 
 abbrev pub Good : Piece → Type 0
@@ -168,7 +169,10 @@ module _ (table : Table) (operations : List Operation) (legal : IsLegal table op
       after_gap 4 (four 0 ∷ four (length os + 1) ∷ Raw os ∷ []) four_fits (four_good 0 (omega arith), (four_good (length os + 1) short, ((short, tt), tt)))
   before_good t (Some (def.Union tag own arms default)) (tree.Union v) ks r w m q s = tag_good (type_at table tag.0) arms default v r
   before_good t (Some (def.Pointer k to)) (tree.Ptr c) ks r w m q s = after_gap 4 (piece_of table (Number k to.0 c)) four_fits ((tt, tt), tt)
-  before_good t (Some def.Context) (tree.Context x i) ks r w m q s = after_gap 4 (Handle x i ∷ []) four_fits ((tt, tt), tt)
+  before_good t (Some def.Context) (tree.Context x i) ks r w m q s =
+      let (u, v) = and_parts _ _ m in
+      let (y, z) = and_parts _ _ u in
+      after_gap 4 (Handle x i ∷ []) four_fits ((tt, eqb-true (length i) 16 z), tt)
   before_good t (Some (def.Pipe e)) l ks r w m q s = cc
   before_good t _ _ ks r w m q s = cc
 

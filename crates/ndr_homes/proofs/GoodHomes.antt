@@ -4,8 +4,6 @@ use Rattle.std.specs.Prelude.{replicate}
 use Rattle.std.specs.List.{AllByRecursion, slice_get}
 use Rattle.std.proofs.lemmas.Option.{same_Some, slice_get_within}
 use Rattle.std.proofs.lemmas.Bool.{ltb-false}
-use Rattle.nd_types.specs.declared.types.TypeDef.{TypeDef}
-use Rattle.nd_types.specs.declared.types.TypeId.{TypeId}
 use Rattle.nd_types.specs.declared.types.TypeDef.TheVariants as def
 use Rattle.nd_types.specs.declared.types.Class.TheVariants.{Ref}
 use Rattle.nd_types.specs.Table.{type_at}
@@ -13,7 +11,6 @@ use Rattle.nd_types.specs.Layout.{hoists}
 use Rattle.nd_types.specs.Roots.{Root}
 use Rattle.nd_value.specs.declared.value.Graph.{Graph}
 use Rattle.nd_value.specs.declared.item.Home.{Home}
-use Rattle.nd_value.specs.declared.item.Home.TheVariants as home
 use Rattle.nd_value.specs.Tree as tree
 use Rattle.nd_value.specs.Tree.{Tree, Trees, node, none, more, Label, Referent, count, node_count, take_trees, drop_trees}
 use Rattle.nd_value.specs.Setting.{Setting, root_list, root_at, or_unread, cell_home, cell_at, cell_tree, cell_of_number}
@@ -28,7 +25,7 @@ use Rattle.nd_value.proofs.NodeFacts.{IsFit, fit_node, all_of_list}
 use Rattle.nd_value.proofs.DeferralExists.{direct_is}
 use Rattle.nd_grammar.specs.LegalSide.{IsLegalSide}
 use Rattle.nd_grammar.specs.InPlace.{before_children, hoisted, hoisted_max}
-use Rattle.nd_grammar.specs.Stream.{standing_entries, kids_of}
+use Rattle.nd_grammar.specs.Stream.{standing_entries}
 use Rattle.nd_grammar.specs.Chosen.{cut_of, cut_within, pipe_cuts}
 use Rattle.nd_grammar.proofs.ChosenRepresents.{w_roots, cell_within, none_inside, dues}
 use Rattle.nd_grammar.proofs.LegalSides.{laid_out}
@@ -38,7 +35,7 @@ use Rattle.nd_grammar.proofs.conforming.GoodStream.{PendingGood, StandsGood, Due
 use Rattle.nd_grammar.proofs.conforming.StreamConforming.{pipe_label as label_is}
 use Rattle.nd_grammar.proofs.written.WritableTrees.{IsWritable, WritableTrees, writable_trees}
 use Rattle.nd_flat.specs.Building.{HasHome}
-use Rattle.ndr_pieces.specs.Pieces.{Piece, Gap, four}
+use Rattle.ndr_pieces.specs.Pieces.{Piece}
 use Rattle.ndr_pieces.specs.Shown.{shown, kinds_pieces, values_pieces, chunks_pieces, pipe_pieces}
 use Rattle.ndr_pieces.specs.Heads.{standings, homes_pieces, pipes_pieces, stream_pieces}
 use Rattle.ndr_pieces.proofs.Showing.{shown_whole}

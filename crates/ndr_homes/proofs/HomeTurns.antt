@@ -1,5 +1,5 @@
 -- Homes one after the other.
-use Rattle.std.proofs.Common.{◌≡◌, ℕ, List, [], ◌∷◌, ◌++◌, refl, ap, sym, ◌∙◌, subst, append_assoc}
+use Rattle.std.proofs.Common.{List, [], ◌++◌, ap, sym, ◌∙◌, subst, append_assoc}
 use Rattle.ndr_pieces.specs.Pieces.{Piece}
 use Rattle.ndr_output.specs.Outputs.{Whole, Moves, Able}
 

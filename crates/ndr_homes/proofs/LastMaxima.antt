@@ -1,5 +1,5 @@
 -- The nodes of a value, and its maximum count.
-use Rattle.std.proofs.Common.{◌≡◌, ℕ, ◌+◌, List, ◌++◌, length, refl, arith, length-append}
+use Rattle.std.proofs.Common.{◌≡◌, ◌+◌, ◌++◌, length, refl, arith, length-append}
 use Rattle.nd_value.specs.Tree.{Tree, Trees, node, none, more, node_count, flat}
 use Rattle.nd_grammar.specs.InPlace.{hoisted_max}
 use Rattle.ndr_maximum.specs.LastPart.{last_max}

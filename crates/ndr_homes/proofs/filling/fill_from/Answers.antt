@@ -1,5 +1,4 @@
-use Rattle.std.proofs.Common.{◌≡◌, ℕ, List, [], ◌++◌, get_or, ap, ◌∙◌}
-use Rattle.nd_base.specs.declared.octets.Order.{Order}
+use Rattle.std.proofs.Common.{ℕ, List, [], ◌++◌, get_or, ap, ◌∙◌}
 use Rattle.ndr_pieces.specs.Pieces.{Piece}
 use Rattle.ndr_output.specs.Filling.{fill_whole}
 use Rattle.ndr_output.proofs.Filled.{all_filled}
