@@ -4,3 +4,6 @@ pub mod Made
 pub mod FirstLine
 pub mod NamedCells
 pub mod Searching
+pub mod MadeLines
+pub mod MadeRoots
+pub mod MadePipes

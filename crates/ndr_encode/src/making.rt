@@ -57,8 +57,17 @@ fn roots(
     let mut next = 0;
     for line in first..lines.len() {
         match &lines[line] {
-            PlanLine::Checks { .. } => return Ok(next),
-            PlanLine::Entry { at, .. } => {
+            PlanLine::Checks {
+                op: _,
+                side: _,
+                at: _,
+            } => return Ok(next),
+            PlanLine::Entry {
+                op: _,
+                side: _,
+                name: _,
+                at,
+            } => {
                 root(search, code, chunk, fit, next, *at)?;
                 referents(search, code, chunk, fit)?;
                 next = next + 1;
@@ -85,15 +94,26 @@ fn pipes(
     let lines = plan.entries.as_slice();
     let mut line = first;
     for pipe in next..fit.flat().root_count() as u32 {
-        let PlanLine::Entry { at, .. } = &lines[line] else {
-            unreachable!()
-        };
-        let turn = Turn {
-            home: Home::Root(pipe),
-            start: *at,
-        };
-        take_turn(search, code, chunk, fit, turn)?;
-        line = line + 1;
+        match &lines[line] {
+            PlanLine::Checks {
+                op: _,
+                side: _,
+                at: _,
+            } => unreachable!(),
+            PlanLine::Entry {
+                op: _,
+                side: _,
+                name: _,
+                at,
+            } => {
+                let turn = Turn {
+                    home: Home::Root(pipe),
+                    start: *at,
+                };
+                take_turn(search, code, chunk, fit, turn)?;
+                line = line + 1;
+            }
+        }
     }
     Ok(())
 }
