@@ -132,8 +132,7 @@ module _ (p : Plan) (k : ℕ) (f : Fitting) (tied : p.tie ≡ f.interface) (firs
 
         pub can_search : CanSearch p.code k f.graph mid
         can_search =
-            (stream_of f b.stream.operation b.stream.steps,
-            (root_items (setting f b.stream.operation) (suc i) (root_here b.stream known).others, (b.stream.searchable, searched_mid b.stream known)))
+            (stream_of f b.stream.operation b.stream.steps, root_items (setting f b.stream.operation) (suc i) (root_here b.stream known).others, b.stream.searchable, searched_mid b.stream known)
 
         -- and the referents after it
         pub root_went : (new : Search) → StillSearched p.code k f.graph mid new → new.pending.items ≡ [] → RootsSoFar p k f old (i + 1) new
