@@ -25,7 +25,7 @@ use Rattle.dceidl.specs.Rows.{IsRefusedAt, IsTrailing, AreGiven}
 use Rattle.dceidl.proofs.OneInput.{split_input, take_front}
 use Rattle.dceidl.proofs.Sides.{whole_begins}
 
--- why octets are refused; of memory no more is said
+-- why octets are refused; where memory was wanting no more is said
 abbrev pub IsOctetsCause : Setting → Order → List ℕ → Refusal → Type 0
 IsOctetsCause w order octets Memory = ⊤
 IsOctetsCause w order octets (BadOctets place why) = IsRefusedAt w order octets place why

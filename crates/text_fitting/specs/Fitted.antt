@@ -17,7 +17,7 @@ pub record IsMisfitAt (w : Setting) (g : Graph) (path : List ℕ) (reason : Misf
   pub first : IsFirstMisfit w g (record { home = home; node = node; reason = reason })
   pub path_is : IsPath w g home node path
 
--- why a graph is refused; of memory no more is said
+-- why a graph is refused; where memory was wanting no more is said
 abbrev pub IsValueCause : Setting → Graph → Refusal → Type 0
 IsValueCause w g Memory = ⊤
 IsValueCause w g (BadValue path reason) = IsMisfitAt w g path reason
@@ -29,7 +29,7 @@ pub record IsBadValue (w : Setting) (text path : List ℕ) (reason : MisfitReaso
   pub reads : ReadsAs w text graph
   pub misfit : IsMisfitAt w graph path reason
 
--- why a text is refused; of memory no more is said
+-- why a text is refused; where memory was wanting no more is said
 abbrev pub IsTextCause : Setting → List ℕ → Refusal → Type 0
 IsTextCause w text Memory = ⊤
 IsTextCause w text (BadText line column reason) = IsTextFault w text line column reason
