@@ -154,8 +154,7 @@ fn command_line(alloc: Global, command: Command<'_>, refusal: &Refusal) -> Resul
     ensures { IfOk result (λ l. l ≡ line_of (idl_of (command_of command.entry)) (op_of (command_of command.entry)) refusal.now) }
 {
     match command {
-        Command::Read { of, .. } => line(alloc, of.idl, of.op, refusal),
-        Command::Write { of, .. } => line(alloc, of.idl, of.op, refusal),
+        Command::Values { of, .. } => line(alloc, of.idl, of.op, refusal),
         Command::Compile { idl, .. } => line(alloc, idl, "", refusal),
         Command::Plan { idl, .. } => line(alloc, idl, "", refusal),
         Command::Help => line(alloc, "", "", refusal),
