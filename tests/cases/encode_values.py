@@ -35,7 +35,7 @@ def refused(name, file, operation, notes, *values, side="in", given=None, status
 FIXED = [
     encoded("a struct with a fixed array of two dimensions", GRID, "fx", octets("01 00 0100 0200 0300 0400"),
             "p = @1", "@1 = {t = 1, m = [[1, 2], [3, 4]]}"),
-    encoded("the same in big order", GRID, "fx", octets("01 00 0001 0002 0003 0004"), "p = @1", "@1 = {t = 1, m = [[1, 2], [3, 4]]}", order="big"),
+    encoded("a struct with a fixed array in big order", GRID, "fx", octets("01 00 0001 0002 0003 0004"), "p = @1", "@1 = {t = 1, m = [[1, 2], [3, 4]]}", order="big"),
     encoded("an enumerated type", KINDS, "e", octets("0400"), "k = 4"),
     refused("a value of no enumerator", KINDS, "e", "refused: value at k: Range", "k = 1"),
     encoded("TRUE is 1", interface("void f([in] boolean b);"), "f", octets("01"), "b = 1"),
@@ -46,7 +46,7 @@ FIXED = [
 
 COUNTED = [
     encoded("a conformant array at the end of a struct", SUM, "sum", SUM_OCTETS, "p = @1", "@1 = {n = 2, a = [1, 2]}"),
-    encoded("the same in big order", SUM, "sum", octets("00000002 00000000 0002 000000000000 0000000000000001 0000000000000002"),
+    encoded("a conformant array in big order", SUM, "sum", octets("00000002 00000000 0002 000000000000 0000000000000001 0000000000000002"),
             "p = @1", "@1 = {n = 2, a = [1, 2]}", order="big"),
     encoded("a maximum count before two structs", HOISTED, "g", octets("01000000 09 000000 01000000 0500"),
             "p = @1", "@1 = {t = 9, i = {n = 1, a = [5]}}"),
@@ -143,14 +143,17 @@ LONG = [
 ]
 
 
+# tests/outside/not_chosen.txt names the octets that are not in the form that is written: their pointers have other numbers, their pipes other chunks, their
+# gaps other octets, or TRUE is another octet.
+NOT_CHOSEN = set((FOLDER / "not_chosen.txt").read_text().splitlines())
+
+
 def again(case):
-    """The text that is printed of octets of another program, encoded: what decoding prints of it is that text."""
-    return Case(case.name.replace("outside octets", "outside octets encoded"), ["encode", *case.words[1:], "16777216"], case.files, case.out, case.input)
+    """The text that is printed of octets of another program, encoded, gives these octets."""
+    name = case.name.removeprefix("outside octets: ")
+    return Case(f"outside octets encoded: {name}", ["encode", *case.words[1:], "16777216"], case.files, case.out, case.input)
 
 
-# Octets that are not in the form that is written: pointers with other numbers, or gaps that are not zeros.
-NOT_CHOSEN = {line for line in (FOLDER / "not_chosen.txt").read_text().splitlines() if line}
-
-OUTSIDE = [again(case) for case in outside_cases() if case.status == 0 and case.name not in NOT_CHOSEN]
+OUTSIDE = [again(case) for case in outside_cases() if case.status == 0 and case.name.removeprefix("outside octets: ") not in NOT_CHOSEN]
 
 CASES = FIXED + COUNTED + TEXTS + POINTERS + UNIONS + HANDLES + PIPES + GIVEN + LONG + OUTSIDE

@@ -33,35 +33,35 @@ module _ (f : Fitting) (k : ℕ) (o : Operation) (there : slice_get f.interface.
       subst (λ p. Conforms (setting_beside f.interface p f.side f.given) f.graph) same fit.conforms
 
 -- octets that are too many, on the side of the operation that is there
-long_of : (f : Fitting) (k : ℕ) → IsFit f → 1 ≤ k → (many : ℕ) (t : IsTooLong f k many) → IsLong (setting_beside f.interface t.operation f.side f.given) k f.graph many
-long_of f k fit some many t =
+long_of : (f : Fitting) (k : ℕ) → IsFit f → (many : ℕ) (t : IsTooLong f k many) → IsLong (setting_beside f.interface t.operation f.side f.given) k f.graph many
+long_of f k fit many t =
     let w : Setting = setting_beside f.interface t.operation f.side f.given in
     record {
       chosen = λ order octets c.
-          chosen_length w (legal_side f.interface f.op t.operation f.side f.given t.is_there) f.graph (own_conforms f k t.operation t.is_there fit) order k (omega (arith, some)) octets c
+          chosen_length w (legal_side f.interface f.op t.operation f.side f.given t.is_there) f.graph (own_conforms f k t.operation t.is_there fit) order k octets c
           t.steps t.deferral
           ∙ sym t.long;
       long = t.too_long;
     }
 
-long_own : (f : Fitting) (k : ℕ) (o : Operation) → slice_get f.interface.operations f.op ≡ Some o → IsFit f → 1 ≤ k → (many : ℕ) → IsTooLong f k many
+long_own : (f : Fitting) (k : ℕ) (o : Operation) → slice_get f.interface.operations f.op ≡ Some o → IsFit f → (many : ℕ) → IsTooLong f k many
     → IsLong (setting_beside f.interface o f.side f.given) k f.graph many
-long_own f k o there fit some many t =
-    subst (λ p. IsLong (setting_beside f.interface p f.side f.given) k f.graph many) (same_Some _ _ (sym t.is_there ∙ there)) (long_of f k fit some many t)
+long_own f k o there fit many t =
+    subst (λ p. IsLong (setting_beside f.interface p f.side f.given) k f.graph many) (same_Some _ _ (sym t.is_there ∙ there)) (long_of f k fit many t)
 
-cause_own : (f : Fitting) (k : ℕ) (o : Operation) → slice_get f.interface.operations f.op ≡ Some o → IsFit f → 1 ≤ k → (r : Refusal) → IsUnprepared f k r
+cause_own : (f : Fitting) (k : ℕ) (o : Operation) → slice_get f.interface.operations f.op ≡ Some o → IsFit f → (r : Refusal) → IsUnprepared f k r
     → IsWritingCause (setting_beside f.interface o f.side f.given) k f.graph r
-cause_own f k o there fit some (TooLong many) t = long_own f k o there fit some many t
-cause_own f k o there fit some Memory cause = tt
-cause_own f k o there fit some (Absent file) cause = absurd cause
-cause_own f k o there fit some (FileFailed file) cause = absurd cause
-cause_own f k o there fit some (BadIdl file line column reason) cause = absurd cause
-cause_own f k o there fit some NoOperation cause = absurd cause
-cause_own f k o there fit some ReadFault cause = absurd cause
-cause_own f k o there fit some (BadOctets place why) cause = absurd cause
-cause_own f k o there fit some (BadText line column reason) cause = absurd cause
-cause_own f k o there fit some (BadValue path reason) cause = absurd cause
-cause_own f k o there fit some (BadRequest fault) cause = absurd cause
+cause_own f k o there fit (TooLong many) t = long_own f k o there fit many t
+cause_own f k o there fit Memory cause = tt
+cause_own f k o there fit (Absent file) cause = absurd cause
+cause_own f k o there fit (FileFailed file) cause = absurd cause
+cause_own f k o there fit (BadIdl file line column reason) cause = absurd cause
+cause_own f k o there fit NoOperation cause = absurd cause
+cause_own f k o there fit ReadFault cause = absurd cause
+cause_own f k o there fit (BadOctets place why) cause = absurd cause
+cause_own f k o there fit (BadText line column reason) cause = absurd cause
+cause_own f k o there fit (BadValue path reason) cause = absurd cause
+cause_own f k o there fit (BadRequest fault) cause = absurd cause
 
 -- ## Under the interface of the call
 
@@ -74,6 +74,6 @@ module _ (f : Fitting) (i : Interface) (tied : f.interface ≡ i) (k : ℕ) (o :
   written_is work is order octets chosen many =
       subst (λ (j : Interface). IsWritten (setting_beside j o f.side f.given) order k f.graph octets) tied (written_own f k o there_own work is order octets chosen many)
 
-  pub cause_is : IsFit f → 1 ≤ k → (r : Refusal) → IsUnprepared f k r → IsWritingCause (setting_beside i o f.side f.given) k f.graph r
-  cause_is fit some r cause =
-      subst (λ (j : Interface). IsWritingCause (setting_beside j o f.side f.given) k f.graph r) tied (cause_own f k o there_own fit some r cause)
+  pub cause_is : IsFit f → (r : Refusal) → IsUnprepared f k r → IsWritingCause (setting_beside i o f.side f.given) k f.graph r
+  cause_is fit r cause =
+      subst (λ (j : Interface). IsWritingCause (setting_beside j o f.side f.given) k f.graph r) tied (cause_own f k o there_own fit r cause)

@@ -16,13 +16,14 @@ use Rattle.text_grammar.specs.Tokens.{Token, Word, Cell}
 use Rattle.text_grammar.specs.Readable.{IsReadable}
 use Rattle.text_grammar.specs.Reads.{Lexeme, Cut, End, Bad, ReadsAs, Writing, CanGoOn, IsWhole, GoesOn, IsNameDue, IsReason, IsFirstFault, IsTextFault}
 use Rattle.text_grammar.specs.Paths.{IsPath}
+use Rattle.text_reader.proofs.Nodes.{readable_formed, formed_readable}
 
 module _ (i : Interface) (o : Operation) (s : Side) where
   abbrev W : Option Graph → Setting
   W q = setting_beside i o s q
 
   readable : (p q : Option Graph) (v : Version) (g : Graph) → IsReadable v (W p) g → IsReadable v (W q) g
-  readable p q v g r = record { all_roots = r.all_roots; forms = r.forms; named = r.named }
+  readable p q v g r = let f = readable_formed v (W p) g r in formed_readable v (W q) g f.0 f.1 r.named
 
   pub reads_beside : (p q : Option Graph) (text : List ℕ) (g : Graph) → ReadsAs (W p) text g → ReadsAs (W q) text g
   reads_beside p q text g r = record {
@@ -38,7 +39,7 @@ module _ (i : Interface) (o : Operation) (s : Side) where
   writing p q x = record {
     version = x.version;
     graph = x.graph;
-    readable = record { all_roots = x.readable.all_roots; forms = x.readable.forms; named = x.readable.named };
+    readable = readable p q x.version x.graph x.readable;
   }
 
   can_go_on : (p q : Option Graph) (ts : List Token) → CanGoOn (W p) ts → CanGoOn (W q) ts
