@@ -13,4 +13,11 @@ returns-in_err-work-clause-refused c o there =
     rw (p.1, p.2) (cause_is c.args.fit.now c.args.interface.now c.requires.tied c.args.chunk o there c.flat-conforming.ensures.conforms _ c.in_err-work.ensures.refused)
 
 pub returns-clause-written : goal.returns-clause-written
-returns-clause-written c o there = ?
+returns-clause-written c o there =
+    let a = c.adopt.ensures in
+    let wb = c.deref_mut.ensures.writes_back in
+    let v = c.deref_mut.ensures.value in
+    let l = c.deref_mut.ensures.len in
+    let ch = c.encode_with.ensures.chosen in
+    let it = c.in-Ok.ensures.len in
+    written_is c.args.fit.now c.args.interface.now c.requires.tied c.args.chunk o there c.in_ok-work.work c.in_ok-work.ensures.made c.args.order c.adopt.result ? ?
