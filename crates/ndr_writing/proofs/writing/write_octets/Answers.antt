@@ -1,4 +1,5 @@
-use Rattle.std.proofs.Common.{◌≡◌, ◌∙◌, length, sym, ap, subst}
+use Rattle.std.proofs.Common.{◌≡◌, ◌∙◌, length, sym, ap, subst, arith}
+use Rattle.std.proofs.lemmas.List.{take_at}
 use Rattle.std.proofs.lemmas.Result.{err_from_is_err_and}
 use Rattle.ndr_encode.specs.Work.{IsChosen}
 use Rattle.ndr_writing.proofs.Written.{written_is, cause_is}
@@ -14,10 +15,8 @@ returns-in_err-work-clause-refused c o there =
 
 pub returns-clause-written : goal.returns-clause-written
 returns-clause-written c o there =
-    let a = c.adopt.ensures in
-    let wb = c.deref_mut.ensures.writes_back in
-    let v = c.deref_mut.ensures.value in
-    let l = c.deref_mut.ensures.len in
-    let ch = c.encode_with.ensures.chosen in
-    let it = c.in-Ok.ensures.len in
-    written_is c.args.fit.now c.args.interface.now c.requires.tied c.args.chunk o there c.in_ok-work.work c.in_ok-work.ensures.made c.args.order c.adopt.result ? ?
+    let whole : length c.encode_with.new.out ≡ c.in-Ok.octets.len = omega (arith, c.encode_with.auto.out, c.deref_mut.ensures.len) in
+    let same : c.adopt.result ≡ c.encode_with.new.out = c.adopt.ensures ∙ take_at c.encode_with.new.out _ _ whole in
+    let many : length c.adopt.result ≡ c.in_ok-work.work.length = omega (arith, ap length same, whole, c.in-Ok.ensures.len, c.length.ensures) in
+    written_is c.args.fit.now c.args.interface.now c.requires.tied c.args.chunk o there c.in_ok-work.work c.in_ok-work.ensures.made c.args.order c.adopt.result
+    (subst (λ os. IsChosen c.args.fit.now c.args.order c.in_ok-work.work.chunk os) (sym same) c.encode_with.ensures.chosen) many
