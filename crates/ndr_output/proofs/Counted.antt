@@ -1,5 +1,5 @@
 -- A count stays below its limit.
-use Rattle.std.proofs.Common.{◌≡◌, ℕ, ◌+◌, ◌*◌, ◌<◌, ◌≤◌, ◌^◌, ℤ, Bool, true, false, List, [], ◌∷◌, ◌++◌, length, Option, refl, ap, ap₂, sym, ◌∙◌, subst, arith, append_assoc}
+use Rattle.std.proofs.Common.{◌≡◌, ℕ, ◌+◌, ◌*◌, ◌<◌, ◌≤◌, ◌^◌, ℤ, Bool, true, false, List, [], ◌∷◌, ◌++◌, length, refl, ap, ap₂, sym, ◌∙◌, subst, arith, append_assoc}
 use Rattle.std.specs.Prelude.{◌==◌}
 use Rattle.nd_base.specs.declared.octets.Order.TheVariants.{Little}
 use Rattle.nd_types.specs.declared.types.Primitive.{Primitive}
@@ -9,8 +9,7 @@ use Rattle.ndr_pieces.proofs.Showing.{end_joined}
 use Rattle.std.proofs.Math.Facts.{Fits-of_lt}
 use mir.Val.{Fits}
 use mir.Syntax.{w128}
-use Rattle.ndr_pieces.specs.Pieces.{Piece, Gap, Figure, Name, Raw, four, named_cell, gap_pieces, number_pieces, row_pieces, piece_size, piece_names, pieces_end, pieces_names}
-use Rattle.ndr_output.specs.Outputs.{Whole}
+use Rattle.ndr_pieces.specs.Pieces.{Piece, Gap, Figure, Raw, four, gap_pieces, number_pieces, row_pieces, piece_size, piece_names, pieces_end, pieces_names}
 use Rattle.ndr_output.specs.Counting.{CountCan, count_whole}
 use Rattle.ndr_output.proofs.Rows.{row_end, rest_fits}
 use Rattle.ndr_output.proofs.Filled.{grows}
@@ -95,10 +94,3 @@ pub row_end_fits : (p : Primitive) (zs : List ℤ) (at count g k : ℕ) (qs rest
 row_end_fits p zs at count g k qs rest some many e f h =
     let all : at + gap at (width p) + count * width p < 2 ^ 128 = count_row p zs at count qs rest some many h in
     let low : at + g + k < 2 ^ 128 = omega (arith, all, e, f) in Fits-of_lt {w = w128} low
-
--- a pointer was counted, and what it names is kept
-pub name_same : (at run : ℕ) (c : Option ℕ) (old new : List (ℕ × ℕ)) → new ≡ old ++ named_cell c run
-    → (qs rest : List Piece) → count_whole (at + 4) new (qs ++ rest) ≡ count_whole at old ((Name c run ∷ qs) ++ rest)
-name_same at run c old new e qs rest =
-    let W : List (ℕ × ℕ) → Whole = λ ns. record { end = pieces_end (at + 4) (qs ++ rest); octets = []; names = ns; lent = 0; room = 0 } in
-    ap (λ ns. W (ns ++ pieces_names (qs ++ rest))) e ∙ ap W (append_assoc old (named_cell c run) (pieces_names (qs ++ rest)))

@@ -1,26 +1,16 @@
 -- What one write does to octets that are written from the front on.
-use Rattle.std.proofs.Common.{◌≡◌, ℕ, ◌+◌, ◌-◌, ◌*◌, ◌<◌, ◌≤◌, zero, suc, ℤ, pos, true, List, [], ◌∷◌, ◌++◌, length, Option, Some, None, refl, ap, ap₂, sym, ◌∙◌, subst, take, drop, arith, append_assoc, append-nil}
+use Rattle.std.proofs.Common.{◌≡◌, ℕ, ◌+◌, ◌-◌, ◌*◌, ◌<◌, ◌≤◌, ℤ, List, [], ◌∷◌, ◌++◌, length, ap, ap₂, sym, ◌∙◌, subst, take, arith, append_assoc, append-nil}
 use Rattle.std.specs.Prelude.{replicate}
-use Rattle.std.specs.List.{AllByRecursion}
-use Rattle.std.proofs.lemmas.Slice.{take-put_mid}
 use Rattle.std.proofs.lemmas.List.{take_all}
-use borrow.Rule.Slice.PartMut.{put_mid}
 use Rattle.nd_base.specs.declared.octets.Order.{Order}
 use Rattle.nd_base.specs.declared.octets.Order.TheVariants.{Little}
 use Rattle.nd_types.specs.declared.types.Primitive.{Primitive}
 use Rattle.nd_types.specs.Table.{width}
 use Rattle.nd_grammar.specs.Entry.{gap}
-use Rattle.ndr_pieces.specs.Pieces.{Piece, piece_size, piece_octets, pieces_end, pieces_octets, row_pieces}
+use Rattle.ndr_pieces.specs.Pieces.{Piece, piece_size, pieces_end, pieces_octets, row_pieces}
 use Rattle.ndr_pieces.proofs.Showing.{end_joined, octets_joined}
-use Rattle.ndr_output.specs.Outputs.{Whole, Moves}
 use Rattle.ndr_output.specs.Filling.{fill_whole, FillCan, written_all}
 use Rattle.ndr_output.proofs.Rows.{rest_fits, row_octets, row_end}
-
--- a part was written
-pub front_is : (os new ys : List ℕ) (at end : ℕ) → new ≡ put_mid at (end - at) os ys → end ≡ at + length ys → end ≤ length os → take end new ≡ take at os ++ ys
-front_is os new ys at end e h room =
-    let w : end - at ≡ length ys = omega (arith, h) in
-    ap (take end) (e ∙ ap (λ k. put_mid at k os ys) w) ∙ take-put_mid at (length ys) os ys end (omega (arith, h)) (omega (arith, h, room))
 
 pub grows : (at : ℕ) (xs : List Piece) → at ≤ pieces_end at xs
 grows at [] = omega arith
@@ -29,21 +19,6 @@ grows at (x ∷ xs) = let h : at + piece_size at x ≤ pieces_end (at + piece_si
 -- there is room for the first of pieces
 pub room_for : (at : ℕ) (os : List ℕ) (p : Piece) (ps : List Piece) → FillCan at os (p ∷ ps) → at + piece_size at p ≤ length os
 room_for at os p ps h = let g : at + piece_size at p ≤ pieces_end (at + piece_size at p) ps = grows (at + piece_size at p) ps in omega (arith, g, h.0)
-
--- a piece was written
-pub filled : (lent : ℕ) (order : Order) (num : ℕ → ℕ) (at end : ℕ) (os new : List ℕ) (p : Piece) (ps : List Piece) → end ≡ at + piece_size at p → length new ≡ length os
-    → take end new ≡ take at os ++ piece_octets order num at p → fill_whole lent order num end new ps ≡ fill_whole lent order num at os (p ∷ ps)
-filled lent order num at end os new p ps e l h =
-    let E : ℕ = at + piece_size at p in
-    let P : List ℕ = piece_octets order num at p in
-    ap (λ k. record { end = pieces_end k ps; octets = take end new ++ pieces_octets order num k ps; names = []; lent = lent; room = length new }) e
-    ∙ ap (λ k. record { end = pieces_end E ps; octets = take end new ++ pieces_octets order num E ps; names = []; lent = lent; room = k }) l
-    ∙ ap (λ q. record { end = pieces_end E ps; octets = q ++ pieces_octets order num E ps; names = []; lent = lent; room = length os }) h
-    ∙ ap (λ q. record { end = pieces_end E ps; octets = q; names = []; lent = lent; room = length os }) (append_assoc (take at os) P (pieces_octets order num E ps))
-
-pub still_can : (at end : ℕ) (os new : List ℕ) (p : Piece) (ps : List Piece) → end ≡ at + piece_size at p → length new ≡ length os → FillCan at os (p ∷ ps) → FillCan end new ps
-still_can at end os new p ps e l h =
-    (let g : pieces_end end ps ≡ pieces_end (at + piece_size at p) ps = ap (λ k. pieces_end k ps) e in omega (arith, g, l, h.0), h.1.1)
 
 -- a text was written, part by part
 pub text_is : (a b c d S os : List ℕ) → b ≡ a ++ S → c ≡ b ++ os → d ≡ c ++ 0 ∷ [] → d ≡ a ++ (S ++ (os ++ 0 ∷ []))

@@ -1,8 +1,7 @@
 -- Numbers side by side: their pieces, and their octets.
-use Rattle.std.proofs.Common.{◌≡◌, ◌≢◌, ◌⊎◌, inl, inr, ℕ, ◌+◌, ◌-◌, ◌*◌, ◌%◌, ◌<◌, ◌≤◌, zero, suc, ℤ, true, List, [], ◌∷◌, ◌++◌, length, take, drop, false, rules, length-append, refl, ap, ap₂, sym, ◌∙◌, subst, arith, append_assoc, append-nil, length-drop, drop-drop}
+use Rattle.std.proofs.Common.{◌≡◌, ◌≢◌, ◌⊎◌, inl, inr, ℕ, ◌+◌, ◌-◌, ◌*◌, ◌<◌, zero, suc, ℤ, true, List, [], ◌∷◌, ◌++◌, length, take, drop, false, rules, length-append, refl, ap, ap₂, sym, ◌∙◌, subst, arith, append_assoc, append-nil, length-drop, drop-drop}
 use Rattle.std.specs.Prelude.{◌==◌, ◌^◌, get_or, replicate}
 use Rattle.std.specs.List.{AllByRecursion}
-use Rattle.std.proofs.lemmas.List.{take_all}
 use Rattle.nd_base.specs.declared.octets.Order.{Order}
 use Rattle.nd_base.specs.declared.octets.Order.TheVariants.{Big, Little}
 use Rattle.nd_base.specs.contracts.octets.OrderPartialEq.TheImpl as is-order

@@ -1,12 +1,12 @@
 -- Octets that are written piece by piece.
 -- `order` is the order of the stream, `numbering` has the numbers of cells, `at` is the place up to which `os` is written.
-use Rattle.std.specs.Prelude.{◌≡◌, ℕ, ◌+◌, ◌<◌, ◌≤◌, ◌^◌, ℤ, true, List, [], ◌∷◌, ◌++◌, length, take}
+use Rattle.std.specs.Prelude.{◌≡◌, ℕ, ◌+◌, ◌<◌, ◌≤◌, ◌^◌, ℤ, true, List, [], ◌++◌, length, take}
 use Rattle.std.specs.List.{AllByRecursion, flat_map}
 use Rattle.nd_base.specs.declared.octets.Order.{Order}
 use Rattle.nd_types.specs.declared.types.Primitive.{Primitive}
 use Rattle.nd_types.specs.Table.{in_range}
 use Rattle.nd_types.specs.Number.{written}
-use Rattle.ndr_pieces.specs.Pieces.{Piece, Gap, Figure, Name, Raw, Handle, pieces_end, pieces_octets}
+use Rattle.ndr_pieces.specs.Pieces.{Piece, Gap, Figure, Raw, pieces_end, pieces_octets}
 use Rattle.ndr_output.specs.Outputs.{Whole}
 
 -- a piece can be written as it is

@@ -1,6 +1,6 @@
 // An output that writes octets.
-ghost use Rattle.std.specs.Prelude.{◌≡◌, ◌+◌, ◌<◌, ◌≤◌, ◌^◌, [], ◌∷◌, ◌++◌, length, take, replicate, get_or, IsTrue};
-ghost use Rattle.nd_types.specs.Number.{spelling, written};
+ghost use Rattle.std.specs.Prelude.{◌≡◌, ◌+◌, ◌*◌, pos, ◌<◌, ◌≤◌, ◌^◌, [], ◌∷◌, ◌++◌, length, take, replicate, get_or, IsTrue};
+ghost use Rattle.nd_types.specs.Number.{from_signed, spelling, written};
 ghost use Rattle.nd_types.specs.Table.{width, in_range};
 ghost use Rattle.nd_value.specs.Seen.{cell_number};
 ghost use Rattle.nd_grammar.specs.Entry.{gap};
@@ -9,11 +9,12 @@ ghost use Rattle.ndr_prim.specs.Context.{context_octets};
 
 use crate::output::Output;
 use crate::row::write_row;
+use byteorder::{BigEndian, ByteOrder, LittleEndian};
 use nd_base::{Memory, Order};
 use nd_flat::Row;
 use nd_types::Prim;
 use nd_value::CellId;
-use ndr_prim::{width_of, write_context, write_num};
+use ndr_prim::{width_of, write_context};
 use uuid::Uuid;
 
 /// Octets that are written from the front on, up to the place `at`, in an order, and the numbers of cells by the cell, from 0.
@@ -49,12 +50,62 @@ fn write_zeros(to: &mut [u8])
     to.fill(0);
 }
 
-// An unsigned long in four octets.
-fn write_long(order: Order, value: u32, to: &mut [u8])
+// How many numbers the octets of a primitive can spell.
+fn patterns_of(prim: Prim) -> i128
+    ensures { result ≡ pos (2 ^ (8 * width prim)) }
+{
+    match prim {
+        Prim::Boolean | Prim::Char | Prim::Byte | Prim::Small | Prim::UnsignedSmall => 1 << 8,
+        Prim::Short | Prim::UnsignedShort => 1 << 16,
+        Prim::Long | Prim::UnsignedLong => 1 << 32,
+        Prim::Hyper | Prim::UnsignedHyper => 1 << 64,
+    }
+}
+
+// The unsigned number that the octets of a value spell.
+fn unsigned_of(prim: Prim, value: i128) -> u64
+    requires { IsTrue (in_range prim value) }
+    ensures number { result ≡ from_signed (width prim) value }
+    ensures fits { result < 2 ^ (8 * width prim) }
+{
+    if value < 0 {
+        (value + patterns_of(prim)) as u64
+    } else {
+        value as u64
+    }
+}
+
+// Two octets that spell a number.
+fn spell_two(order: Order, value: u16, to: &mut [u8])
+    requires { length to.old ≡ 2 }
+    ensures { to.new ≡ spelling order 2 value }
+{
+    match order {
+        Order::Big => BigEndian::write_u16(to, value),
+        Order::Little => LittleEndian::write_u16(to, value),
+    }
+}
+
+// Four octets that spell a number.
+fn spell_four(order: Order, value: u32, to: &mut [u8])
     requires { length to.old ≡ 4 }
     ensures { to.new ≡ spelling order 4 value }
 {
-    write_num(order, Prim::UnsignedLong, i128::from(value), to);
+    match order {
+        Order::Big => BigEndian::write_u32(to, value),
+        Order::Little => LittleEndian::write_u32(to, value),
+    }
+}
+
+// Eight octets that spell a number.
+fn spell_eight(order: Order, value: u64, to: &mut [u8])
+    requires { length to.old ≡ 8 }
+    ensures { to.new ≡ spelling order 8 value }
+{
+    match order {
+        Order::Big => BigEndian::write_u64(to, value),
+        Order::Little => LittleEndian::write_u64(to, value),
+    }
 }
 
 // The number that is written for a pointer.
@@ -83,16 +134,50 @@ fn write_gap(at: usize, to: u8, out: &mut [u8]) -> usize
     end
 }
 
+// One octet.
+fn write_one(value: u8, at: usize, out: &mut [u8]) -> usize
+    requires room { at + 1 ≤ length out.old }
+    ensures front { take result out.new ≡ take at out.old ++ value ∷ [] }
+    ensures end { result ≡ at + 1 }
+{
+    out[at] = value;
+    at + 1
+}
+
+// A number in two octets.
+fn write_two(order: Order, value: u16, at: usize, out: &mut [u8]) -> usize
+    requires room { at + 2 ≤ length out.old }
+    ensures front { take result out.new ≡ take at out.old ++ spelling order 2 value }
+    ensures end { result ≡ at + 2 }
+{
+    let end = at + 2;
+    spell_two(order, value, &mut out[at..end]);
+    end
+}
+
+// A number in four octets.
 fn write_four(order: Order, value: u32, at: usize, out: &mut [u8]) -> usize
     requires room { at + 4 ≤ length out.old }
     ensures front { take result out.new ≡ take at out.old ++ spelling order 4 value }
     ensures end { result ≡ at + 4 }
 {
     let end = at + 4;
-    write_long(order, value, &mut out[at..end]);
+    spell_four(order, value, &mut out[at..end]);
     end
 }
 
+// A number in eight octets.
+fn write_eight(order: Order, value: u64, at: usize, out: &mut [u8]) -> usize
+    requires room { at + 8 ≤ length out.old }
+    ensures front { take result out.new ≡ take at out.old ++ spelling order 8 value }
+    ensures end { result ≡ at + 8 }
+{
+    let end = at + 8;
+    spell_eight(order, value, &mut out[at..end]);
+    end
+}
+
+// A number of a primitive, by the width of the primitive.
 pub(crate) fn write_figure(
     order: Order,
     prim: Prim,
@@ -105,9 +190,13 @@ pub(crate) fn write_figure(
     ensures front { take result out.new ≡ take at out.old ++ written order prim value }
     ensures end { result ≡ at + width prim }
 {
-    let end = at + width_of(prim);
-    write_num(order, prim, value, &mut out[at..end]);
-    end
+    let number = unsigned_of(prim, value);
+    match width_of(prim) {
+        1 => write_one(number as u8, at, out),
+        2 => write_two(order, number as u16, at, out),
+        4 => write_four(order, number as u32, at, out),
+        _ => write_eight(order, number, at, out),
+    }
 }
 
 // These octets, as they are.
@@ -121,17 +210,6 @@ pub(crate) fn write_raw(octets: &[u8], at: usize, out: &mut [u8]) -> usize
     end
 }
 
-// A terminator.
-fn write_zero(at: usize, out: &mut [u8]) -> usize
-    requires { at + 1 ≤ length out.old }
-    ensures front { take result out.new ≡ take at out.old ++ 0 ∷ [] }
-    ensures end { result ≡ at + 1 }
-{
-    let end = at + 1;
-    write_zeros(&mut out[at..end]);
-    end
-}
-
 // The octets of a text and its terminator, after their count.
 fn write_text(order: Order, octets: &[u8], at: usize, out: &mut [u8]) -> usize
     requires room { at + 4 + (length octets.now + 1) ≤ length out.old }
@@ -141,7 +219,7 @@ fn write_text(order: Order, octets: &[u8], at: usize, out: &mut [u8]) -> usize
 {
     let start = write_four(order, octets.len() as u32 + 1, at, out);
     let end = write_raw(octets, start, out);
-    write_zero(end, out)
+    write_one(0, end, out)
 }
 
 // A context handle.

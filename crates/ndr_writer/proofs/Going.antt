@@ -1,13 +1,13 @@
 -- What one step of a run does to an output.
-use Rattle.std.proofs.Common.{◌≡◌, ℕ, ◌+◌, ◌-◌, ◌<◌, ◌≤◌, zero, suc, ℤ, Bool, true, false, List, [], ◌∷◌, ◌++◌, length, Option, Some, None, refl, ap, ap₂, sym, ◌∙◌, subst, drop, arith, append_assoc, append-nil}
+use Rattle.std.proofs.Common.{◌≡◌, ℕ, ◌+◌, ◌-◌, ◌<◌, ◌≤◌, suc, Bool, true, false, List, [], ◌++◌, Some, None, ap, sym, ◌∙◌, subst, arith}
 use Rattle.std.specs.List.{slice_get}
 use Rattle.nd_value.specs.Tree.{Flat}
 use Rattle.ndr_code.specs.declared.instr.Instr.{Instr}
-use Rattle.ndr_pieces.specs.Pieces.{Piece, Figure, Name, Raw, four}
+use Rattle.ndr_pieces.specs.Pieces.{Piece}
 use Rattle.ndr_output.specs.Outputs.{Whole, Moves, Able}
 use Rattle.ndr_written.specs.declared.frames.Frame.{Frame}
 use Rattle.ndr_written.specs.Run.{Rest, stepped, run}
-use Rattle.ndr_written.proofs.Steps.{run_step, run_zero, run_none}
+use Rattle.ndr_written.proofs.Steps.{run_zero, run_none}
 use Rattle.ndr_writer.specs.Going.{left}
 
 module _ {S : Type 0} (can : S → List Piece → Type 0) (whole : S → List Piece → Whole) where
@@ -33,10 +33,6 @@ module _ {S : Type 0} (can : S → List Piece → Type 0) (whole : S → List Pi
 
   pub able_on : (old new : S) (ps qs : List Piece) → Moves can whole old new ps qs → Able can old ps → Able can new qs
   able_on old new ps qs m h = record { rest = h.rest; can_follow = m.able h.rest h.can_follow }
-
-  -- what comes first can be written
-  pub able_first : (s : S) (ps us : List Piece) → Able can s (ps ++ us) → (qs : List Piece) × Able can s (ps ++ qs)
-  able_first s ps us h = (us, h)
 
   -- one step: whether the run goes on, and what is left
   module _ (code : List Instr) (m k : ℕ) where

@@ -1,2 +1,3 @@
+pub mod Elements
 pub mod Going
-pub mod Numbers
+pub mod NextNumbers

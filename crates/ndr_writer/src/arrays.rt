@@ -1,11 +1,12 @@
 // Elements of arrays and pipes.
-ghost use Rattle.std.specs.Prelude.{◌≡◌, ◌+◌, ◌-◌, ◌<◌, ◌≤◌, ◌∷◌, List, true, ltb};
-ghost use Rattle.nd_value.specs.Tree.{flat};
+ghost use Rattle.std.specs.Prelude.{◌≡◌, ℕ, ◌≤◌, ◌∷◌, List, true};
+ghost use Rattle.nd_value.specs.Tree.{Flat, flat};
 ghost use Rattle.ndr_pieces.specs.Pieces.{Piece, Gap, four};
 ghost use Rattle.ndr_output.specs.Outputs.{Moves, Able};
 ghost use Rattle.ndr_written.specs.Frames.{pushed};
-ghost use Rattle.ndr_written.specs.declared.frames.Frame.TheVariants.{Pipe};
-ghost use Rattle.ndr_written.specs.Run.{Rest, here, later, offset_in, row_at, elements as elements_written, chunk_count as count_of_chunk, chunk_elements as chunk_written, chunk as chunk_of};
+ghost use Rattle.ndr_written.specs.declared.frames.Frame.TheVariants.{Array, Pipe};
+ghost use Rattle.ndr_code.specs.declared.instr.Instr.{Instr};
+ghost use Rattle.ndr_written.specs.Run.{Rest, here, later, offset_in, row_at, back, elements as elements_written, chunk_count as count_of_chunk, chunk_elements as chunk_written, chunk as chunk_of};
 
 use crate::lookups::row_of;
 use crate::nodes::{count_of, next_node, offset_of};
@@ -127,17 +128,52 @@ fn chunk_elements<O: Output>(
     ensures { (G : Rest) → Moves O.can O.whole out.old out.new (chunk_written G (row_at code.now run) count rest run to frames.old (flat walk.old))
         (G pc.new frames.new (flat walk.new)) }
 {
-    let mut left = count;
-    if let Some(prim) = row_of(code, run) {
-        write_numbers(prim, count, walk, out);
-        left = 0;
-    }
-    frames.push(Frame::Pipe { left, rest, run, to });
     *pc = 1;
+    match row_of(code, run) {
+        Some(prim) => {
+            write_numbers(prim, count, walk, out);
+            frames.push(Frame::Pipe {
+                left: 0,
+                rest,
+                run,
+                to,
+            });
+        }
+        None => frames.push(Frame::Pipe {
+            left: count,
+            rest,
+            run,
+            to,
+        }),
+    }
+}
+
+// The next element of an array, of which so many are left, or what comes after it.
+pub(crate) fn next_element(
+    left: u32,
+    run: u32,
+    to: usize,
+    pc: &mut usize,
+    frames: &mut Frames,
+) -> bool
+    ensures on { result ≡ true }
+    ensures next { (G : Rest) (code : List Instr) (k : ℕ) (fs : List Flat) → back G code k (Array left run to ∷ frames.old) fs ≡ G pc.new frames.new fs }
+{
+    if left == 0 {
+        *pc = to;
+        return true;
+    }
+    frames.push(Frame::Array {
+        left: left - 1,
+        run,
+        to,
+    });
+    *pc = run as usize;
+    true
 }
 
 // The next chunk of a pipe of which so many elements are left, or its last count, 0.
-pub(crate) fn chunk<O: Output>(
+fn chunk<O: Output>(
     code: &[Instr],
     most: u32,
     left: u32,
@@ -161,4 +197,36 @@ pub(crate) fn chunk<O: Output>(
     let count = chunk_count(most, left);
     out.four(count);
     chunk_elements(code, count, left - count, run, to, pc, walk, frames, out);
+}
+
+// The next element of a pipe, of which so many are left in the chunk that is open and so many after it, or what comes after it.
+pub(crate) fn next_of_pipe<O: Output>(
+    code: &[Instr],
+    most: u32,
+    left: u32,
+    rest: u32,
+    run: u32,
+    to: usize,
+    pc: &mut usize,
+    walk: &mut Walk<'_>,
+    frames: &mut Frames,
+    out: &mut O,
+) -> bool
+    requires { (G : Rest) × Able O.can out.old (back G code.now most (Pipe left rest run to ∷ frames.old) (flat walk.old)) }
+    ensures on { result ≡ true }
+    ensures written { (G : Rest) → Moves O.can O.whole out.old out.new (back G code.now most (Pipe left rest run to ∷ frames.old) (flat walk.old))
+        (G pc.new frames.new (flat walk.new)) }
+{
+    if left == 0 {
+        chunk(code, most, rest, run, to, pc, walk, frames, out);
+        return true;
+    }
+    frames.push(Frame::Pipe {
+        left: left - 1,
+        rest,
+        run,
+        to,
+    });
+    *pc = run as usize;
+    true
 }

@@ -1,8 +1,8 @@
 // Instructions of a plan's code: total look-ups.
-ghost use Rattle.std.specs.Prelude.{◌≡◌, ◌<◌, ◌≤◌, ◌&&◌, ◌==◌, List, Option, Some, true, drop, length, slice_get, IfSome, option_map};
-ghost use Rattle.nd_types.specs.Table.{width};
+ghost use Rattle.std.specs.Prelude.{◌≡◌, ◌<◌, ◌≤◌, ◌+◌, ◌∷◌, ℕ, List, true, false, drop, length, slice_get, IfSome, option_map, unwrap_or};
 ghost use Rattle.ndr_code.specs.declared.instr.Instr.{Instr};
-ghost use Rattle.ndr_written.specs.Run.{carrier_of as carrier, target, past_checks as past, num_type, is_ret as ends, row_if, row_at};
+ghost use Rattle.ndr_written.specs.Run.{carrier_of as carrier, target, past_checks as past, num_type, is_ret as ends, row_of as row_from, row_at};
+ghost use Rattle.ndr_code.specs.declared.instr.Instr.TheVariants.{Align};
 
 use nd_types::{Prim, TypeId};
 use ndr_code::Instr;
@@ -36,22 +36,42 @@ pub(crate) fn carrier_of(of: TypeId) -> Prim
     }
 }
 
+// The address at which an instruction among the arms of a union ends the search for a tag; None where the next one is to be asked.
+fn arm_of(instr: &Instr, tag: i128) -> Option<u32>
+    ensures { (is : List Instr) → target (instr.now ∷ is) tag ≡ unwrap_or result (target is tag) }
+{
+    match instr {
+        Instr::Arm { label, run } => {
+            if *label == tag {
+                return Some(*run);
+            }
+            None
+        }
+        Instr::Other { run } => Some(*run),
+        _ => Some(1),
+    }
+}
+
 // The address of the arm of a tag, among the instructions from an address on.
 pub(crate) fn arm_at(code: &[Instr], from: usize, tag: i128) -> usize
     ensures { result ≡ target (drop from code.now) tag }
 {
     for at in from..code.len() {
-        match code[at] {
-            Instr::Arm { label, run } => {
-                if label == tag {
-                    return run as usize;
-                }
-            }
-            Instr::Other { run } => return run as usize,
-            _ => return 1,
+        if let Some(run) = arm_of(&code[at], tag) {
+            return run as usize;
         }
     }
     1
+}
+
+// Whether an instruction is an agreement.
+fn is_check(instr: &Instr) -> bool
+    ensures { (is : List Instr) (at : ℕ) → past (instr.now ∷ is) at ≡ elim result [ true ↦ past is (at + 1) | false ↦ at ] }
+{
+    match instr {
+        Instr::Check { .. } => true,
+        _ => false,
+    }
 }
 
 // The address of the first instruction that is no agreement, from an address on.
@@ -60,9 +80,8 @@ pub(crate) fn past_checks(code: &[Instr], from: usize) -> usize
     ensures { result ≡ past (drop from code.now) from }
 {
     for at in from..code.len() {
-        match code[at] {
-            Instr::Check { .. } => {}
-            _ => return at,
+        if !is_check(&code[at]) {
+            return at;
         }
     }
     code.len()
@@ -89,18 +108,20 @@ fn is_ret(instr: &Option<Instr>) -> bool
 }
 
 // The primitive of a number after a gap to a multiple of so many octets, if the gap is its own and the run ends after it.
-fn row_after(to: u8, of: Option<TypeId>, ends: bool) -> Option<Prim>
-    ensures { result ≡ row_if to (option_map (λ t. t.0) of) ends }
+fn row_after(to: u8, number: &Option<Instr>, end: &Option<Instr>) -> Option<Prim>
+    ensures { result ≡ row_from (Some (Align to)) number.now end.now }
 {
-    let Some(of) = of else {
+    let Some(of) = type_of_number(number) else {
         return None;
     };
-    let prim = carrier_of(of);
-    if ends && to as usize == width_of(prim) {
-        Some(prim)
-    } else {
-        None
+    if !is_ret(end) {
+        return None;
     }
+    let prim = carrier_of(of);
+    if to as usize != width_of(prim) {
+        return None;
+    }
+    Some(prim)
 }
 
 // The primitive whose number the run at an address is, with its gap and nothing else.
@@ -113,8 +134,8 @@ pub(crate) fn row_of(code: &[Instr], run: u32) -> Option<Prim>
     match first {
         Some(Instr::Align { to }) => {
             let third = instr_at(code, at + 2);
-            row_after(to, type_of_number(&second), is_ret(&third))
+            row_after(to, &second, &third)
         }
-        _ => row_after(1, type_of_number(&first), is_ret(&second)),
+        _ => row_after(1, &first, &second),
     }
 }

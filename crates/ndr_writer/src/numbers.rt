@@ -1,7 +1,8 @@
 // Numbers side by side.
 ghost use Rattle.std.specs.Prelude.{◌≡◌, ◌-◌, ◌<◌, ◌≤◌, ◌++◌, List};
 ghost use Rattle.nd_value.specs.Tree.{flat};
-ghost use Rattle.ndr_pieces.specs.Pieces.{Piece, number_pieces, row_pieces};
+ghost use Rattle.ndr_pieces.specs.Pieces.{Piece, gap_pieces, number_pieces, row_pieces};
+ghost use Rattle.nd_types.specs.Table.{width};
 ghost use Rattle.ndr_output.specs.Outputs.{Moves, Able};
 ghost use Rattle.ndr_written.specs.Run.{here, later, num_in, numbers, after};
 
@@ -11,15 +12,24 @@ use nd_types::Prim;
 use ndr_output::Output;
 use ndr_prim::width_of;
 
+// The gap before a number.
+fn write_gap<O: Output>(prim: Prim, out: &mut O)
+    requires { (qs : List Piece) × Able O.can out.old (gap_pieces (width prim) ++ qs) }
+    ensures { (qs : List Piece) → Moves O.can O.whole out.old out.new (gap_pieces (width prim) ++ qs) qs }
+{
+    let to = width_of(prim);
+    if to == 1 {
+        return;
+    }
+    out.gap(to as u8);
+}
+
 // A number with its gap.
 fn write_number<O: Output>(prim: Prim, value: i128, out: &mut O)
     requires { (qs : List Piece) × Able O.can out.old (number_pieces prim value ++ qs) }
     ensures { (qs : List Piece) → Moves O.can O.whole out.old out.new (number_pieces prim value ++ qs) qs }
 {
-    let to = width_of(prim);
-    if to != 1 {
-        out.gap(to as u8);
-    }
+    write_gap(prim, out);
     out.figure(prim, value);
 }
 
@@ -52,12 +62,7 @@ fn write_some<O: Output>(prim: Prim, most: u32, walk: &mut Walk<'_>, out: &mut O
 }
 
 // So many of the next nodes as numbers, each with its gap. Numbers that are kept side by side are written in one go.
-pub(crate) fn write_numbers<O: Output>(
-    prim: Prim,
-    count: u32,
-    walk: &mut Walk<'_>,
-    out: &mut O,
-)
+pub(crate) fn write_numbers<O: Output>(prim: Prim, count: u32, walk: &mut Walk<'_>, out: &mut O)
     requires { (qs : List Piece) × Able O.can out.old (row_pieces prim (numbers count (flat walk.old)) ++ qs) }
     ensures written { (qs : List Piece) → Moves O.can O.whole out.old out.new (row_pieces prim (numbers count (flat walk.old)) ++ qs) qs }
     ensures rest { flat walk.new ≡ after count (flat walk.old) }

@@ -8,7 +8,7 @@ ghost use Rattle.ndr_written.specs.declared.frames.Frame.TheVariants.{Call};
 ghost use Rattle.ndr_written.specs.Run.{Rest, here, later, num_in, tag_in, octets_in, handle_in, past_checks as past, target, back, stepped, run as written_by};
 ghost use Rattle.ndr_writer.specs.Going.{left};
 
-use crate::arrays::{array, chunk, pipe, varying};
+use crate::arrays::{array, next_element, next_of_pipe, pipe, varying};
 use crate::lookups::{arm_at, carrier_of, instr_at, past_checks};
 use crate::nodes::{next_node, number_of, octets_of, tag_of};
 use nd_base::Memory;
@@ -44,38 +44,17 @@ fn go_back<O: Output>(
             *pc = to;
             true
         }
-        Some(Frame::Array { left, run: by, to }) => {
-            if left == 0 {
-                *pc = to;
-            } else {
-                frames.push(Frame::Array {
-                    left: left - 1,
-                    run: by,
-                    to,
-                });
-                *pc = by as usize;
-            }
-            true
-        }
-        Some(Frame::Pipe {
-            left,
-            rest,
-            run: by,
-            to,
-        }) => {
-            if left == 0 {
-                chunk(run.code, run.chunk, rest, by, to, pc, walk, frames, out);
-            } else {
-                frames.push(Frame::Pipe {
-                    left: left - 1,
-                    rest,
-                    run: by,
-                    to,
-                });
-                *pc = by as usize;
-            }
-            true
-        }
+        Some(Frame::Array { left, run: by, to }) => next_element(left, by, to, pc, frames),
+        Some(
+            Frame::Pipe {
+                left,
+                rest,
+                run: by,
+                to,
+            },
+        ) => next_of_pipe(
+            run.code, run.chunk, left, rest, by, to, pc, walk, frames, out,
+        ),
     }
 }
 
@@ -190,16 +169,15 @@ fn call(run: u32, pc: &mut usize, frames: &mut Frames) -> bool
 }
 
 // The number of a pointer.
-fn pointer<O: Output>(run: u32, walk: &mut Walk<'_>, out: &mut O) -> Result<bool, Memory>
+fn pointer<O: Output>(run: u32, walk: &mut Walk<'_>, out: &mut O) -> Result<(), Memory>
     requires { (qs : List Piece) × Able O.can out.old (Name (cell_in (here (flat walk.old)).0) run ∷ qs) }
-    ensures on { IfOk result (λ on. on ≡ true) }
     ensures written { OnOk result ((qs : List Piece) → Moves O.can O.whole out.old out.new (Name (cell_in (here (flat walk.old)).0) run ∷ qs) qs) }
     ensures rest { flat walk.new ≡ later (flat walk.old) }
     ensures fails { IsErr result → O.may_fail ≡ true }
 {
     let node = next_node(walk);
     out.name(node.named_cell(), run)?;
-    Ok(true)
+    Ok(())
 }
 
 // One instruction, where `pc` is the address after it; whether the run goes on.
@@ -236,7 +214,10 @@ fn one<O: Output>(
         Instr::Confvary { run: by } => Ok(varying(run.code, by, pc, walk, frames, out)),
         Instr::Pipe { run: by } => Ok(pipe(by, pc, walk, frames)),
         Instr::Call { run: by } => Ok(call(by, pc, frames)),
-        Instr::Pointer { run: by, .. } => pointer(by, walk, out),
+        Instr::Pointer { run: by, .. } => {
+            pointer(by, walk, out)?;
+            Ok(true)
+        }
         Instr::Arm { .. } => Ok(false),
         Instr::Other { .. } => Ok(false),
         Instr::Noarm => Ok(false),
@@ -263,13 +244,15 @@ fn step<O: Output>(
     match instr_at(run.code, *pc) {
         Some(instr) => {
             *pc = *pc + 1;
-            one(run, instr, pc, walk, frames, out)
+            let on = one(run, instr, pc, walk, frames, out)?;
+            Ok(on)
         }
         None => Ok(false),
     }
 }
 
-/// Writes what a run of the code writes from an address on over the nodes of a walk, in at most so many steps. It takes no memory apart from that of the output.
+/// Writes what a run of the code writes from an address on over the nodes of a walk, in at most so many steps (C706 sections 14.2 and 14.3). Frames that are there
+/// are taken away first. It takes no memory itself, and fails only where the output is refused memory.
 pub fn write_run<O: Output>(
     run: &Run<'_>,
     start: usize,

@@ -1,4 +1,4 @@
-use Rattle.std.proofs.Common.{◌≡◌, ◌≢◌, Bool, true, false, refl, ◌∙◌, sym, ap}
+use Rattle.std.proofs.Common.{◌≡◌, ◌≢◌, Bool, true, false, refl, ◌∙◌, sym}
 use Rattle.std.specs.Prelude.{not}
 use Rattle.nd_types.specs.declared.types.Primitive.TheVariants.{Boolean}
 use Rattle.ndr_output.proofs.Rows.{same_primitive, other_primitive, same_orders, same_order, single_octets}

@@ -1,5 +1,4 @@
-use Rattle.std.proofs.Common.{ap, ◌+◌, ◌∙◌, ◌*◌, ◌≡◌, length, arith}
-use Rattle.nd_types.specs.Table.{width}
+use Rattle.std.proofs.Common.{ap, ◌+◌, ◌∙◌, arith}
 use Rattle.ndr_output.proofs.Rows.{written_long}
 use Rattle.ndr_output.proofs.row.write_row.Goals as goal
 

@@ -1,4 +1,4 @@
-use Rattle.std.proofs.Common.{◌≡◌, ◌-◌, ◌+◌}
+use Rattle.std.proofs.Common.{◌-◌}
 use Rattle.nd_value.specs.Tree.{flat}
 use Rattle.ndr_writer.proofs.Going.{turned, able_turn, over, ended, went}
 use Rattle.ndr_writer.proofs.writing.write_run.Goals as goal

@@ -1,4 +1,3 @@
-use Rattle.std.proofs.Common.{refl}
 use Rattle.ndr_pieces.specs.Pieces.{Figure}
 use Rattle.ndr_output.proofs.Counted.{count_room}
 use Rattle.ndr_output.proofs.count.CountOutput.figure.Goals as goal

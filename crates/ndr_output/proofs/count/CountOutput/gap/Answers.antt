@@ -1,4 +1,3 @@
-use Rattle.std.proofs.Common.{refl}
 use Rattle.ndr_pieces.specs.Pieces.{Gap}
 use Rattle.ndr_output.proofs.Counted.{count_room}
 use Rattle.ndr_output.proofs.count.CountOutput.gap.Goals as goal

@@ -1,4 +1,4 @@
-use Rattle.std.proofs.Common.{◌≡◌, ℕ, ◌+◌, ◌*◌, ℤ, List, length, ap, ap₂, ◌∙◌}
+use Rattle.std.proofs.Common.{◌≡◌, ℕ, ◌+◌, ◌*◌, length, ap, ap₂, ◌∙◌}
 use Rattle.nd_types.specs.Table.{width}
 use Rattle.nd_grammar.specs.Entry.{gap}
 use Rattle.nd_flat.specs.FlatForm.{row_numbers}

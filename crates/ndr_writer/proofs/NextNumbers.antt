@@ -1,5 +1,5 @@
 -- The next nodes as numbers.
-use Rattle.std.proofs.Common.{◌≡◌, ℕ, ◌+◌, ◌-◌, ◌<◌, ◌≤◌, zero, suc, ℤ, List, [], ◌∷◌, ◌++◌, length, refl, ap, ap₂, sym, ◌∙◌, subst, arith, append_assoc}
+use Rattle.std.proofs.Common.{◌≡◌, ℕ, ◌+◌, ◌-◌, ◌<◌, ◌≤◌, zero, suc, ℤ, List, [], ◌∷◌, ◌++◌, length, refl, ap, ap₂, sym, ◌∙◌, arith, append_assoc}
 use Rattle.nd_types.specs.declared.types.Primitive.{Primitive}
 use Rattle.nd_value.specs.Tree.{Flat}
 use Rattle.nd_flat.specs.FlatForm.{num_flats}
@@ -46,7 +46,3 @@ one_first p fs gs (suc most) qs e some =
     let n : suc most - 1 ≡ most = omega arith in
     append_assoc (number_pieces p (num_in (here fs).0)) (row_pieces p (numbers most (later fs))) qs
     ∙ ap₂ (λ l k. number_pieces p (num_in (here fs).0) ++ (row_pieces p (numbers k l) ++ qs)) (sym e) (sym n)
-
-pub after_one : (fs gs : List Flat) (most : ℕ) → gs ≡ later fs → 0 < most → after most fs ≡ after (most - 1) gs
-after_one fs gs zero e some = absurd (omega (arith, some))
-after_one fs gs (suc most) e some = let n : suc most - 1 ≡ most = omega arith in ap₂ (λ k l. after k l) (sym n) (sym e)
