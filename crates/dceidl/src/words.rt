@@ -109,21 +109,17 @@ impl Words {
                     None
                 }
             }
-            [verb, idl, acf, op, side, order, chunk, given, text] => {
-                if verb.as_str() == "encode" && given.as_str() == "given" {
-                    encode_beside_command(
-                        idl.as_str(),
-                        acf.as_str(),
-                        op.as_str(),
-                        side_named(side.as_str()),
-                        order_named(order.as_str()),
-                        chunk_named(chunk.as_str()),
-                        text.as_str(),
-                    )
-                } else {
-                    None
-                }
-            }
+            [verb, idl, acf, op, side, order, chunk, given, text] => longest_command(
+                verb.as_str(),
+                idl.as_str(),
+                acf.as_str(),
+                op.as_str(),
+                side.as_str(),
+                order.as_str(),
+                chunk.as_str(),
+                given.as_str(),
+                text.as_str(),
+            ),
             _ => None,
         }
     }
@@ -281,6 +277,37 @@ fn encode_command<'a>(
             given: None,
         }),
         _ => None,
+    }
+}
+
+// The command that nine words are: `encode` beside a request.
+fn longest_command<'a>(
+    verb: &str,
+    idl: &'a str,
+    acf: &'a str,
+    op: &'a str,
+    side: &str,
+    order: &str,
+    chunk: &str,
+    given: &str,
+    text: &'a str,
+) -> Option<Command<'a>>
+    ensures command { option_map command_of result
+        ≡ command (verb.now ∷ idl.now ∷ acf.now ∷ op.now ∷ side.now ∷ order.now ∷ chunk.now ∷ given.now ∷ text.now ∷ []) }
+    ensures formed { IfSome result IsWellFormed }
+{
+    if verb == "encode" && given == "given" {
+        encode_beside_command(
+            idl,
+            acf,
+            op,
+            side_named(side),
+            order_named(order),
+            chunk_named(chunk),
+            text,
+        )
+    } else {
+        None
     }
 }
 

@@ -5,7 +5,7 @@ use Rattle.dceidl.proofs.encode.encode.Goals as goal
 
 pub returns-in_err-fit-clause-refused : goal.returns-in_err-fit-clause-refused
 returns-in_err-fit-clause-refused c o there =
-    let p = err_from_is_err_and c.from_residual-in_err-fit.result c.from_residual-in_err-fit.ensures.1 in
+    let p = err_from_is_err_and c.from_residual.result c.from_residual.ensures.1 in
     rw (p.1, p.2) (text_cause _ c.args.chunk c.args.text.now _ (c.in_err-fit.ensures.refused o there))
 
 pub returns-clause-done : goal.returns-clause-done

@@ -24,12 +24,12 @@ returns-in-Encode-clause-refused g c o there =
     refused_by _ c.args.task (Encode c.in-Encode.order c.in-Encode.chunk) (setting_beside c.args.ready.now.interface o c.args.ready.now.side (option_map (λ f. f.now.graph) c.args.given)) c.in-Encode.is _
     (c.encode_input.ensures.refused o there)
 
-pub returns-clause-done : goal.returns-clause-done
-returns-clause-done g c o there =
+pub returns-in-Migrate-clause-done : goal.returns-in-Migrate-clause-done
+returns-in-Migrate-clause-done g c o there =
     made_by _ c.args.task (Migrate) (setting_beside c.args.ready.now.interface o c.args.ready.now.side (option_map (λ f. f.now.graph) c.args.given)) c.in-Migrate.is _
     (c.migrate_input.ensures.done o there)
 
-pub returns-clause-refused : goal.returns-clause-refused
-returns-clause-refused g c o there =
+pub returns-in-Migrate-clause-refused : goal.returns-in-Migrate-clause-refused
+returns-in-Migrate-clause-refused g c o there =
     refused_by _ c.args.task (Migrate) (setting_beside c.args.ready.now.interface o c.args.ready.now.side (option_map (λ f. f.now.graph) c.args.given)) c.in-Migrate.is _
     (c.migrate_input.ensures.refused o there)
