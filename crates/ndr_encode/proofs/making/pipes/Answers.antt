@@ -1,4 +1,4 @@
-use Rattle.std.proofs.Common.{◌≡◌, ◌≤◌, ◌<◌, ℕ, ◌+◌, ◌^◌, length, sym, subst, arith}
+use Rattle.std.proofs.Common.{◌≡◌, ◌<◌, ◌+◌, length, sym, subst, arith}
 use Rattle.nd_value.specs.declared.item.Home.TheVariants as home
 use Rattle.ndr_code.specs.declared.lists.PlanLine.TheVariants as line
 use Rattle.ndr_encode.specs.Search.{IsTaken, CanTake}
