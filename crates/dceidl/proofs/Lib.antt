@@ -2,7 +2,6 @@ pub mod Causes
 pub mod Chunks
 pub mod Encodings
 pub mod Requests
-pub mod Roots
 pub mod Rows
 pub mod Sides
 pub mod OneInput
