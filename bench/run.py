@@ -28,7 +28,6 @@ from typing import List, Optional, Sequence
 ROOT = Path(__file__).resolve().parent.parent
 MEGABYTE = 1_000_000
 PARAMETERS = 256
-STREAM_LIMIT = 67_108_864
 FILE_LIMIT = 1_048_576
 TYPE_LIMIT = 4_096
 BASIC_TYPES = 12
@@ -394,20 +393,6 @@ def measure_text(bench: Bench, idl: Path, start: Measured, size: int) -> None:
         tell_ratio(f"encode beside {other.what.split(',')[0]}", of_large.seconds, other.seconds)
 
 
-def measure_octets(bench: Bench, idl: Path, start: Measured) -> None:
-    """Octets up to the limit of a stream, which are read to their end and then refused behind the values."""
-    command = bench.decode(idl, "many", "little")
-    small = bench.write("octets.small", bytes(STREAM_LIMIT // 10))
-    large = bench.write("octets.large", bytes(STREAM_LIMIT))
-    measured = bench.large(
-        [
-            Run("decode, a tenth of the most octets", command, small, 1, b""),
-            Run("decode, the most octets (refused)", command, large, 1, b""),
-        ]
-    )
-    check_growth(bench, "decode", *[tell(one, start, True) for one in measured])
-
-
 def measure_files(bench: Bench, nothing: Path, start: Measured) -> None:
     """Large interface files, and an operation that takes nothing."""
     small = bench.write("small.idl", large_interface(FILE_LIMIT // 10))
@@ -536,7 +521,6 @@ def measure(bench: Bench, size: int) -> None:
     start = measure_calls(bench, idl, nothing, encodes)
     if encodes:
         measure_text(bench, idl, start, size)
-    measure_octets(bench, idl, start)
     measure_files(bench, nothing, start)
     measure_language(bench, start)
     measure_types(bench, start)

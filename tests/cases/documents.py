@@ -125,6 +125,13 @@ def of_listing() -> Case:
     return compiled("docs/LISTING.md: the example", {"t.idl": text}, out=listing.encode())
 
 
+def of_decoding() -> Case:
+    """The stream of docs/DECODING.md: its octets mean its text."""
+    idl, dump, text = blocks("docs/DECODING.md")[:3]
+    stream = bytes.fromhex("".join(line.split(":")[1] for line in dump.splitlines()))
+    return Case("docs/DECODING.md: the stream", ["decode", "t.idl", "-", "put", "in", "little"], {"t.idl": idl.encode()}, stream, text.encode())
+
+
 def of_acf() -> List[str]:
     """The example of an attribute file is the one that the examples have."""
     return [] if (ROOT / "examples" / "letters.acf").read_text() in blocks("docs/ACF.md") else ["the page has another text than examples/letters.acf"]
@@ -216,6 +223,7 @@ CASES = [
     of_listing(),
     *commands("docs/LISTING.md"),
     Check("docs/ACF.md: the example", of_acf),
+    of_decoding(),
     *of_forms(),
     *of_misfits(),
     *of_texts(),

@@ -1,6 +1,6 @@
 -- The next root by its instruction in a plan.
 -- `x` is what is kept of the stream, `run` the run of the root's code, `m` the machine when its home is open.
-use Rattle.std.proofs.Common.{◌≡◌, ◌<◌, ◌≤◌, ℕ, ◌+◌, suc, false, List, [], ◌∷◌, ◌++◌, length, Option, Some, None, refl, sym, ap, ◌∙◌, subst, arith, append-nil}
+use Rattle.std.proofs.Common.{◌≡◌, ◌<◌, ℕ, ◌+◌, suc, false, List, [], ◌∷◌, ◌++◌, length, Option, Some, refl, sym, ap, ◌∙◌, subst, arith, append-nil}
 use Rattle.std.specs.Prelude.{slice_get}
 use Rattle.nd_base.specs.declared.octets.Order.{Order}
 use Rattle.nd_types.specs.declared.types.Class.TheVariants.{Ref, Unique, Full}
@@ -19,11 +19,9 @@ use Rattle.nd_grammar.specs.Entry.{EntryAt}
 use Rattle.nd_grammar.specs.LegalSide.{IsLegalSide}
 use Rattle.nd_grammar.specs.StreamReader.{Reading}
 use Rattle.nd_grammar.proofs.legal.LegalUsable.{Usable, root_usable}
-use Rattle.ndr_code.specs.declared.instr.Instr.{Instr}
 use Rattle.ndr_code.specs.declared.instr.Instr.TheVariants as op
 use Rattle.ndr_code.specs.declared.plan.Plan.{Plan}
 use Rattle.ndr_code.specs.Code.{code_of, root_by, whole_at}
-use Rattle.ndr_code.specs.Lines.{values_of}
 use Rattle.ndr_steps.specs.Spots.{IsFine, IsPlanned}
 use Rattle.ndr_steps.specs.Steps.{State}
 use Rattle.ndr_steps.proofs.PlanRuns.{planned}

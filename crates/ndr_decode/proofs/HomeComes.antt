@@ -1,8 +1,8 @@
 -- What the run of a home's code comes to, in the stream that the home is a part of.
 -- `f0` and `n0` are the octets that were fetched and the items that were noted before the home, `s0` is the state at its beginning, `target` what the plain reader
 -- gives for it; `source` and `notes` are what was seen of the source, the log and the steps over the run.
-use Rattle.std.proofs.Common.{◌≡◌, ◌≤◌, ◌<◌, ◌⊎◌, inl, inr, ℕ, ◌+◌, suc, Bool, true, false, List, [], ◌∷◌, ◌++◌, length, Option, Some, refl, ap, sym, ◌∙◌, subst, append_assoc, arith}
-use Rattle.std.specs.Prelude.{if◌then◌else◌, not, slice_get, Result, Ok, Err}
+use Rattle.std.proofs.Common.{◌≡◌, ◌≤◌, ◌<◌, ◌⊎◌, inl, inr, ℕ, ◌+◌, Bool, true, false, List, [], ◌∷◌, ◌++◌, length, refl, ap, sym, ◌∙◌, subst, append_assoc, arith}
+use Rattle.std.specs.Prelude.{if◌then◌else◌, not}
 use Rattle.std.specs.Io.KnownBytes.{Consumes, IsAtEnd}
 use Rattle.std.proofs.lemmas.List.{append-nil}
 use Rattle.nd_base.specs.declared.octets.Order.{Order}
@@ -19,17 +19,16 @@ use Rattle.nd_value.specs.Setting.{Setting}
 use Rattle.nd_value.proofs.Apart.{all_append}
 use Rattle.nd_grammar.specs.declared.reason.Reason.{Reason}
 use Rattle.nd_grammar.specs.declared.reason.Reason.TheVariants as reason
-use Rattle.nd_grammar.specs.Entry.{EntryAt}
 use Rattle.nd_grammar.specs.FewItems.{is_gap, but_gaps}
 use Rattle.nd_grammar.specs.Items.{items}
 use Rattle.nd_grammar.specs.Reader.{Read}
 use Rattle.ndr_code.specs.declared.instr.Instr.{Instr}
 use Rattle.ndr_code.specs.declared.lists.EnumList.{EnumList}
 use Rattle.ndr_reading.specs.Around.{going, stopped}
-use Rattle.ndr_steps.specs.Good.{Good, Whole, HasOctets, IsCut, IsTooLong}
+use Rattle.ndr_steps.specs.Good.{Good, HasOctets, IsCut}
 use Rattle.ndr_steps.specs.Spots.{IsPlanned}
 use Rattle.ndr_steps.specs.StepItems.{step_items}
-use Rattle.ndr_steps.specs.Steps.{State, refused, whole, wants, step}
+use Rattle.ndr_steps.specs.Steps.{State, refused, wants, step}
 use Rattle.ndr_steps.proofs.Passing.{items_stay}
 use Rattle.ndr_runs.specs.Reaching.{Reaches}
 use Rattle.ndr_runs.specs.Refusals.{IsRefusedHere, IsShort}
@@ -45,7 +44,7 @@ use Rattle.ndr_verdict.specs.Verdict.{DecodingSeen, with_items, direct_roots}
 use Rattle.ndr_stream.specs.Added.{Added}
 use Rattle.ndr_stream.specs.Between.{AreNeeded}
 use Rattle.ndr_stream.specs.Calls.{Took, TookPart, Refused, CutOff, RefusesWith, GoesWith}
-use Rattle.ndr_stream.specs.Report.{AreCells, StreamRefused, StreamCut}
+use Rattle.ndr_stream.specs.Report.{AreCells}
 use Rattle.ndr_stream.proofs.HomeFaults.{home_refused, home_cut}
 use Rattle.ndr_stream.proofs.StateAdds.{state_adds}
 use Rattle.ndr_decode.proofs.WholeStays.{whole_stays}

@@ -1,6 +1,6 @@
 -- The next of the pending referents, where nothing of it is read: it is null, or a full pointer's that was read.
 -- `o` is the referent as code has it, `x` what is kept of the stream, `k` what is kept of its cell.
-use Rattle.std.proofs.Common.{◌≡◌, ℕ, Bool, List, [], ◌∷◌, ◌++◌, length, map, Option, Some, None, Result, Ok, Err, refl, ap, sym, ◌∙◌, subst}
+use Rattle.std.proofs.Common.{◌≡◌, ℕ, Bool, List, ◌∷◌, map, Option, Some, None, Result, Ok, Err, ap, sym, ◌∙◌, subst}
 use Rattle.std.proofs.lemmas.List.{length-map}
 use Rattle.nd_base.specs.declared.octets.Order.{Order}
 use Rattle.nd_base.specs.Over.{Count}
@@ -23,10 +23,10 @@ use Rattle.ndr_state.specs.declared.fault.DecodeFault.TheVariants as fault
 use Rattle.ndr_state.specs.declared.machine.Owed.{Owed}
 use Rattle.ndr_state.specs.Seen.{owed_of}
 use Rattle.ndr_stream.specs.declared.kept.Kept.{Kept}
-use Rattle.ndr_stream.specs.Between.{Agrees, kept_at}
+use Rattle.ndr_stream.specs.Between.{kept_at}
 use Rattle.ndr_stream.proofs.OtherTurns.{passes_null, passes_read, disagrees}
 use Rattle.ndr_kept.specs.declared.stream.Stream.{Stream}
-use Rattle.ndr_decode.specs.Streaming.{Reads, Stands, StandsWith, WentOn, cells_of, with_next}
+use Rattle.ndr_decode.specs.Streaming.{Reads, StandsWith, WentOn, cells_of, with_next}
 use Rattle.ndr_decode.specs.Tried.{AreTried}
 use Rattle.ndr_decode.proofs.Standing.{idle_log, idle_source, not_cut, refused_here, went_nowhere}
 

@@ -5,7 +5,7 @@ use Rattle.nd_base.specs.declared.octets.Order.{Order}
 use Rattle.nd_types.specs.Number.{AreOctets}
 use Rattle.nd_value.specs.declared.item.Home.TheVariants as home
 use Rattle.nd_value.specs.declared.item.Item.{Item}
-use Rattle.nd_value.specs.Deferral.{Pending, before_pipes}
+use Rattle.nd_value.specs.Deferral.{Pending}
 use Rattle.nd_value.specs.Setting.{Setting, root_list}
 use Rattle.nd_value.specs.Tree.{Tree}
 use Rattle.nd_grammar.specs.Entry.{EntryAt}

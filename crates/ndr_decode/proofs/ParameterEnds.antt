@@ -108,14 +108,14 @@ module _ (w : Setting) (side : IsLegalSide w) (order : Order) (fetched : List �
   parameters_hold e =
       subst (TestsPass w order fetched noted direct b s seen) tests
       (run_passes w side order fetched noted direct b s seen pipes ag checks (op.Ret ∷ here.0) (all_are w.side (root_list w) (roots_of w.table way.In w.op) 0 (root_list w)) seen ag.keeps
-          (ap (checks_fail b.read b.roots w.given) (sym run) ∙ e))
+      (ap (checks_fail b.read b.roots w.given) (sym run) ∙ e))
 
   pub parameter_fails : (why : ℕ × Reason) → checks_fail b.read b.roots w.given (drop at code) ≡ Some why → IsRefusedAfter w order fetched noted (length b.cells) direct b.at why
   parameter_fails why e =
       let x : TestsStop w order fetched noted direct b s seen (parameter_tests w s) why =
       subst (λ ms. TestsStop w order fetched noted direct b s seen ms why) tests
       (run_stops w side order fetched noted direct b s seen pipes ag checks (op.Ret ∷ here.0) (all_are w.side (root_list w) (roots_of w.table way.In w.op) 0 (root_list w)) refl seen ag.keeps why
-          (ap (checks_fail b.read b.roots w.given) (sym run) ∙ e)) in
+      (ap (checks_fail b.read b.roots w.given) (sym run) ∙ e)) in
       let told : Told noted direct order fetched (home.Root (length s.roots)) x.after s.names b.cells b.numbers None 0 [] = x.keeps.told (home.Root (length s.roots)) (omega arith) in
       record {
         seen = x.after;

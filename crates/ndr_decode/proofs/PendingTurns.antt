@@ -1,6 +1,6 @@
 -- Turns of the loop over pending referents: the next one is taken, or none is left.
 -- `x` is what is kept of the stream before the turn, `y` the same without the next of the pending referents, `o` that referent.
-use Rattle.std.proofs.Common.{◌≡◌, ◌≤◌, ℕ, List, [], ◌∷◌, ◌++◌, length, map, reverse, Option, refl, sym, ap, ◌∙◌, subst}
+use Rattle.std.proofs.Common.{◌≡◌, ◌≤◌, ℕ, List, [], ◌∷◌, ◌++◌, map, Option, refl, sym, ap, ◌∙◌, subst}
 use Rattle.std.proofs.lemmas.List.{reverse-append}
 use Rattle.nd_base.specs.declared.octets.Order.{Order}
 use Rattle.nd_base.specs.declared.TheConstants.{STREAM_LIMIT}
@@ -8,11 +8,10 @@ use Rattle.nd_types.specs.Table.{Table}
 use Rattle.nd_value.specs.declared.item.Item.{Item}
 use Rattle.nd_value.specs.Deferral.{Pending}
 use Rattle.nd_value.specs.Setting.{Setting}
-use Rattle.nd_flat.specs.Building.{Building, CanClose, closed}
+use Rattle.nd_flat.specs.Building.{CanClose, closed}
 use Rattle.nd_grammar.specs.Entry.{EntryAt}
 use Rattle.nd_grammar.specs.LegalSide.{IsLegalSide}
 use Rattle.nd_grammar.specs.StreamReader.{Reading}
-use Rattle.ndr_refs.specs.declared.referents.Known.{Known}
 use Rattle.ndr_steps.specs.Steps as steps
 use Rattle.ndr_steps.specs.Good.{owed}
 use Rattle.ndr_state.specs.declared.machine.Machine.{Machine}
@@ -37,11 +36,11 @@ pub record KeepsRest (x y : Stream) : Type 0 where
   pub roots : y.roots.items ≡ x.roots.items
   pub cells : y.cells.items ≡ x.cells.items
 
-abbrev kept_by : Machine → List steps.Owed → List KeptRoot → List (Option Kept) → Between
+abbrev pub kept_by : Machine → List steps.Owed → List KeptRoot → List (Option Kept) → Between
 kept_by m os roots read =
     record { at = m.at; pending = os; cells = map (λ c. c.of) m.builder.graph.cells; numbers = m.referents; roots = roots; read = read; graph = closed m.builder }
 
-same_rest : (x y : Stream) → KeepsRest x y → (os : List steps.Owed) → kept_by x.machine os x.roots.items x.cells.items ≡ kept_by y.machine os y.roots.items y.cells.items
+pub same_rest : (x y : Stream) → KeepsRest x y → (os : List steps.Owed) → kept_by x.machine os x.roots.items x.cells.items ≡ kept_by y.machine os y.roots.items y.cells.items
 same_rest x y k os =
     ap (λ (m : Machine). kept_by m os x.roots.items x.cells.items) (sym k.machine)
     ∙ ap (λ (r : List KeptRoot). kept_by y.machine os r x.cells.items) (sym k.roots)

@@ -1,6 +1,6 @@
 -- A root that was read in its place.
 -- `x` is what was kept before it, `s1` when its home was open, `s2` after its value, `s3` after it was kept.
-use Rattle.std.proofs.Common.{◌≡◌, ◌≤◌, ℕ, suc, List, [], ◌∷◌, ◌++◌, length, Option, Some, None, false, ap, sym, ◌∙◌, subst, map, arith}
+use Rattle.std.proofs.Common.{◌≡◌, ℕ, suc, List, [], ◌∷◌, ◌++◌, length, Option, Some, None, false, ap, sym, ◌∙◌, subst, map, arith}
 use Rattle.std.specs.Prelude.{slice_get}
 use Rattle.std.proofs.lemmas.List.{length-map}
 use Rattle.nd_base.specs.declared.octets.Order.{Order}

@@ -1,7 +1,7 @@
 -- The next of the pending referents, which was read and kept: what is kept of the stream then.
 -- `o` is the referent as code has it, `x` what was kept before it, `c` its cell, `s1` the stream when its home was open, `s2` after its value, `s3` after its cell
 -- was kept, `s4` after its pointers became pending.
-use Rattle.std.proofs.Common.{◌≡◌, ◌≤◌, ◌<◌, ℕ, List, [], ◌∷◌, ◌++◌, length, map, Option, Some, None, refl, sym, ap, ◌∙◌, subst, arith}
+use Rattle.std.proofs.Common.{◌≡◌, ◌≤◌, ◌<◌, ℕ, List, [], ◌∷◌, ◌++◌, length, map, Option, Some, None, sym, ap, ◌∙◌, subst, arith}
 use Rattle.std.proofs.lemmas.List.{length-map}
 use Rattle.nd_base.specs.declared.octets.Order.{Order}
 use Rattle.nd_base.specs.Over.{SourceSeen}
@@ -10,16 +10,14 @@ use Rattle.nd_types.specs.Number.{AreOctets}
 use Rattle.nd_value.specs.declared.item.Item.{Item}
 use Rattle.nd_value.specs.declared.value.CellId.{CellId}
 use Rattle.nd_value.specs.declared.value.Graph.{Graph}
-use Rattle.nd_value.specs.Agreement.{Agreement}
 use Rattle.nd_value.specs.Deferral.{Pending}
 use Rattle.nd_value.specs.Seen.{cell_number}
 use Rattle.nd_value.specs.Setting.{Setting, cell_home}
-use Rattle.nd_value.specs.Tree.{Tree, Referent, flat, more, none}
+use Rattle.nd_value.specs.Tree.{Tree}
 use Rattle.nd_value.proofs.Apart.{all_append}
 use Rattle.nd_flat.specs.Building.{Building, CanClose, closed, opened}
 use Rattle.nd_grammar.specs.Entry.{EntryAt}
 use Rattle.nd_grammar.specs.LegalSide.{IsLegalSide}
-use Rattle.nd_grammar.specs.Reader.{Read}
 use Rattle.nd_grammar.specs.StreamReader.{Reading}
 use Rattle.nd_grammar.proofs.reader.ReaderNames.{longer}
 use Rattle.nd_grammar.proofs.reader.ReaderStates.{WholeRead, read_wholly}
@@ -28,13 +26,12 @@ use Rattle.ndr_steps.specs.Steps as steps
 use Rattle.ndr_steps.specs.Steps.{State}
 use Rattle.ndr_state.specs.declared.machine.Machine.{Machine}
 use Rattle.ndr_state.specs.declared.machine.Owed.{Owed}
-use Rattle.ndr_state.specs.Seen.{Outside, outside, owed_of, state_of}
+use Rattle.ndr_state.specs.Seen.{outside, owed_of, state_of}
 use Rattle.ndr_verdict.specs.Verdict.{DecodingSeen}
 use Rattle.ndr_refs.specs.declared.referents.Known.{Known}
 use Rattle.ndr_stream.specs.declared.kept.Kept.{Kept}
 use Rattle.ndr_stream.specs.declared.kept.KeptRoot.{KeptRoot}
-use Rattle.ndr_stream.specs.Between.{Agrees, Between, CellFilled, CellKept, IsKeptHome, cell_read, home_target, kept_at, taken}
-use Rattle.ndr_stream.specs.Calls.{Took}
+use Rattle.ndr_stream.specs.Between.{Agrees, Between, CellFilled, CellKept, IsKeptHome, cell_read, home_target, kept_at}
 use Rattle.ndr_stream.specs.Tests.{AllAgree}
 use Rattle.ndr_stream.proofs.ReferentEnds as law
 use Rattle.ndr_kept.specs.declared.stream.Stream.{Stream}

@@ -1,14 +1,12 @@
 -- The next of the pending referents, whose value was read: memory fails after it, or an agreement of its pointer is refused.
 -- `o` is the referent as code has it, `x` what was kept before it, `c` its cell, `x0` the state at the beginning of its value and `m` the machine at its end, `k` what is kept of it.
-use Rattle.std.proofs.Common.{◌≡◌, ◌≤◌, ◌<◌, ℕ, List, [], ◌∷◌, ◌++◌, length, Option, Some, None, refl, sym, ap, ◌∙◌, subst, arith}
+use Rattle.std.proofs.Common.{◌≡◌, ◌<◌, ℕ, List, [], ◌∷◌, ◌++◌, length, Some, None, sym, ap, ◌∙◌, subst, arith}
 use Rattle.std.proofs.lemmas.List.{append-nil}
 use Rattle.nd_base.specs.declared.octets.Order.{Order}
 use Rattle.nd_base.specs.Over.{SourceSeen}
 use Rattle.nd_types.specs.declared.types.Class.TheVariants.{Full}
-use Rattle.nd_types.specs.Number.{AreOctets}
 use Rattle.nd_value.specs.declared.item.Item.{Item}
 use Rattle.nd_value.specs.declared.value.CellId.{CellId}
-use Rattle.nd_value.specs.Agreement.{Agreement}
 use Rattle.nd_value.specs.Deferral.{Pending}
 use Rattle.nd_value.specs.Seen.{cell_number}
 use Rattle.nd_value.specs.Setting.{Setting, cell_home}
@@ -26,14 +24,14 @@ use Rattle.ndr_state.specs.Seen.{owed_of}
 use Rattle.ndr_verdict.specs.Verdict.{DecodingSeen}
 use Rattle.ndr_stream.specs.declared.kept.Kept.{Kept}
 use Rattle.ndr_stream.specs.Between.{Agrees, IsKeptHome, home_target, kept_at}
-use Rattle.ndr_stream.specs.Calls.{CutOff, Refused, Took, TookPart}
-use Rattle.ndr_stream.specs.Report.{AreCells, IsRefusedAfter, StreamRefused}
+use Rattle.ndr_stream.specs.Calls.{CutOff, Refused, TookPart}
+use Rattle.ndr_stream.specs.Report.{AreCells, IsRefusedAfter}
 use Rattle.ndr_stream.proofs.FewReferences.{few_now}
 use Rattle.ndr_stream.proofs.HomeFaults.{home_cut}
 use Rattle.ndr_stream.proofs.ReferentEnds as law
 use Rattle.ndr_kept.specs.declared.stream.Stream.{Stream}
 use Rattle.ndr_kept.specs.Seen.{between_of}
-use Rattle.ndr_decode.specs.Streaming.{HomeWhole, StandsWith, cells_of, with_next}
+use Rattle.ndr_decode.specs.Streaming.{HomeWhole, StandsWith, with_next}
 use Rattle.ndr_decode.specs.Tried.{IsFirst}
 use Rattle.ndr_decode.proofs.OwedReads.{agreements_are, cell_is, class_is}
 use Rattle.ndr_decode.proofs.Standing.{not_cut}

@@ -1,19 +1,18 @@
 -- The next of the pending referents, where it was not read yet: from what is kept of the stream before its value, through the run of its code, to what is kept
 -- after it and after the agreements of its pointer.
 -- `o` is the referent as code has it, `x` what is kept of the stream, `c` its cell, `x0` the state of the decoder at the beginning of the value and `x1` at its end.
-use Rattle.std.proofs.Common.{◌≡◌, ◌≤◌, ◌<◌, ℕ, zero, suc, List, [], ◌∷◌, ◌++◌, length, map, Option, Some, None, refl, sym, ap, ◌∙◌, subst, arith}
-use Rattle.std.proofs.lemmas.List.{append-nil, length-map}
+use Rattle.std.proofs.Common.{◌≡◌, ◌≤◌, ◌<◌, ℕ, zero, suc, List, [], ◌∷◌, ◌++◌, length, map, Some, None, sym, ap, ◌∙◌, subst, arith}
+use Rattle.std.proofs.lemmas.List.{length-map}
 use Rattle.nd_base.specs.declared.octets.Order.{Order}
 use Rattle.nd_base.specs.declared.TheConstants.{STREAM_LIMIT}
 use Rattle.nd_base.specs.Over.{SourceSeen}
 use Rattle.nd_types.specs.declared.types.Class.TheVariants.{Full}
+use Rattle.nd_types.specs.declared.types.Operation.{Operation}
+use Rattle.nd_types.specs.Legal.{IsLegal}
 use Rattle.nd_types.specs.Number.{AreOctets}
-use Rattle.nd_value.specs.declared.item.Home.{Home}
 use Rattle.nd_value.specs.declared.item.Home.TheVariants as home
 use Rattle.nd_value.specs.declared.item.Item.{Item}
 use Rattle.nd_value.specs.declared.value.CellId.{CellId}
-use Rattle.nd_value.specs.declared.value.Graph.{Graph}
-use Rattle.nd_value.specs.Agreement.{Agreement}
 use Rattle.nd_value.specs.Deferral.{Pending, due_roots, due_referent}
 use Rattle.nd_value.specs.Seen.{cell_number}
 use Rattle.nd_value.specs.Setting.{Setting, cell_home}
@@ -42,9 +41,7 @@ use Rattle.ndr_state.specs.Notes.{NotesSeen}
 use Rattle.ndr_state.specs.declared.fault.DecodeFault.{DecodeFault}
 use Rattle.ndr_state.specs.declared.machine.Owed.{Owed}
 use Rattle.ndr_machine.specs.Reaching.{EndsWhole, EndsFault}
-use Rattle.ndr_stream.specs.declared.kept.Kept.{Kept}
-use Rattle.ndr_stream.specs.Between.{Agrees, Between, CellFilled, CellKept, IsKeptHome, Opens, cell_read, home_target, kept_at, taken}
-use Rattle.ndr_stream.specs.Tests.{AllAgree}
+use Rattle.ndr_stream.specs.Between.{Agrees, Opens, home_target, kept_at}
 use Rattle.ndr_stream.proofs.FewReferences.{few_now}
 use Rattle.ndr_stream.proofs.HomeBegins.{home_begins}
 use Rattle.ndr_stream.proofs.ReferentEnds as law
@@ -52,7 +49,7 @@ use Rattle.ndr_kept.specs.declared.stream.Stream.{Stream}
 use Rattle.ndr_kept.specs.Seen.{between_of}
 use Rattle.ndr_decode.specs.Streaming.{FaultOf, HomeWhole, StandsWith, cells_of, with_next}
 use Rattle.ndr_decode.proofs.HomeComes.{whole_comes, fault_comes, decoding_of}
-use Rattle.ndr_decode.proofs.OwedReads.{agreements_are, cell_is, class_is, due_is}
+use Rattle.ndr_decode.proofs.OwedReads.{cell_is, class_is, due_is}
 
 positive : (cells : List Referent) (c : ℕ) (y : Referent) → cell_in cells c ≡ Some y → 0 < c
 positive cells zero y e = cc
@@ -96,17 +93,16 @@ module _ (w : Setting) (side : IsLegalSide w) (order : Order) (fetched : List �
       let e : length s.names.cells ≡ cells_of x = many in
       (positive s.names.cells c.0 at_it.there.0 at_it.there.1, omega (arith, m, e))
 
-  abbrev code : List Instr
-  code = code_of w.table side.operations
-
   abbrev target : List ℕ → Read
   target = home_target w order (between_of x) seen (cell_home c.0) p.to s.names
 
-  module _ (x0 : State) (opens : Opens (whole_at w.table p.to) (between_of x) (between_of x).cells x0) (values : List EnumList) (planned : IsPlanned code values w.table) where
+  module _ (x0 : State) (opens : Opens (whole_at w.table p.to) (between_of x) (between_of x).cells x0) (values : List EnumList) (operations : List Operation)
+      (legal : IsLegal w.table operations) (code : List Instr) (code_is : code ≡ code_of w.table operations) (planned : IsPlanned code values w.table) where
     pub referent_good : Good order fetched code w.table (cell_home c.0) p.to 32 noted direct target x0
     referent_good =
-        home_begins w.table side.operations side.legal order fetched noted direct (cell_home c.0) seen s.names p.to its_usable (between_of x) ag.keeps.at (between_of x).cells x0 opens
-        (ag.keeps.told (cell_home c.0) (law.free w side order fetched noted direct (with_next o x) s seen p ps n ag c.0 is_cell new))
+        subst (λ k. Good order fetched k w.table (cell_home c.0) p.to 32 noted direct target x0) (sym code_is)
+        (home_begins w.table operations legal order fetched noted direct (cell_home c.0) seen s.names p.to its_usable (between_of x) ag.keeps.at (between_of x).cells x0 opens
+        (ag.keeps.told (cell_home c.0) (law.free w side order fetched noted direct (with_next o x) s seen p ps n ag c.0 is_cell new)))
 
     pub referent_safe : IsFine w.table 32 p.to → length fetched ≤ STREAM_LIMIT → IsPaid x0 → (more : List ℕ) (items : List Item) (y : State)
         → Reaches values order code (cell_home c.0) x0 more items y → IsSafe code y

@@ -1,6 +1,6 @@
 -- The next root, where it is no reference pointer: from what is kept of the stream before its value, through the run of its code, to what is kept after it.
 -- `b` is what is kept, `s` the state of the reader, `x` the state of the decoder at the beginning of the value and `x1` at its end, `k` what is kept of the root.
-use Rattle.std.proofs.Common.{◌≡◌, ◌≤◌, ℕ, suc, false, List, [], ◌++◌, length, Some, refl, sym, ap, ◌∙◌, subst, arith}
+use Rattle.std.proofs.Common.{◌≡◌, ◌≤◌, ℕ, suc, false, List, [], ◌++◌, length, Some, sym, subst, arith}
 use Rattle.std.specs.Prelude.{slice_get}
 use Rattle.nd_base.specs.declared.octets.Order.{Order}
 use Rattle.nd_base.specs.declared.TheConstants.{STREAM_LIMIT}

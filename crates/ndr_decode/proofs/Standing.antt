@@ -1,6 +1,6 @@
 -- What is right where a call reads nothing, and calls one after the other.
 -- `x` is what is kept of the stream, `o` a source's octets, `g` a log, `k` a number of steps.
-use Rattle.std.proofs.Common.{◌≡◌, ◌≤◌, ℕ, ◌+◌, ℤ, Bool, true, false, List, [], ◌∷◌, ◌++◌, length, map, Option, Some, None, Result, Ok, Err, refl, ap, sym, ◌∙◌, subst, append_assoc, arith}
+use Rattle.std.proofs.Common.{◌≡◌, ◌≤◌, ℕ, ℤ, Bool, true, false, List, [], ◌++◌, length, Option, Some, None, refl, ap, sym, ◌∙◌, subst, append_assoc, arith}
 use Rattle.std.specs.Prelude.{if◌then◌else◌, option_map}
 use Rattle.std.specs.Io.KnownBytes.{Consumes}
 use Rattle.std.specs.Ordering.{int_eq}
@@ -20,7 +20,7 @@ use Rattle.nd_grammar.specs.declared.reason.Reason.TheVariants as reason
 use Rattle.nd_grammar.specs.Entry.{EntryAt}
 use Rattle.nd_grammar.specs.LegalSide.{IsLegalSide}
 use Rattle.nd_grammar.specs.StreamReader.{Reading, read_stream}
-use Rattle.ndr_reading.specs.Around.{going, stopped}
+use Rattle.ndr_reading.specs.Around.{stopped}
 use Rattle.ndr_steps.specs.declared.first.First.{First}
 use Rattle.ndr_steps.specs.Good.{Told}
 use Rattle.ndr_steps.specs.Steps.{first_found, place_of, place_in}
@@ -28,13 +28,12 @@ use Rattle.ndr_verdict.specs.Verdict.{DecodingSeen, with_items}
 use Rattle.ndr_stream.specs.Added.{Goes}
 use Rattle.ndr_stream.specs.Between.{Agrees, Between}
 use Rattle.ndr_stream.specs.Calls.{CutOff, Follows, Refused, Took}
-use Rattle.ndr_stream.specs.Report.{AreCells, IsRefusedAfter, StreamCut, StreamRefused}
+use Rattle.ndr_stream.specs.Report.{IsRefusedAfter, StreamCut, StreamRefused}
 use Rattle.ndr_stream.specs.Tests.{disagreement}
 use Rattle.ndr_stream.proofs.FewReferences.{few_now}
 use Rattle.ndr_stream.proofs.Joined.{took_twice, took_then_refused, took_then_cut}
 use Rattle.ndr_stream.proofs.StreamGrows.{stream_goes}
 use Rattle.ndr_kept.specs.declared.stream.Stream.{Stream}
-use Rattle.ndr_kept.specs.Seen.{between_of}
 use Rattle.ndr_state.specs.declared.fault.DecodeFault.{DecodeFault}
 use Rattle.ndr_state.specs.declared.fault.DecodeFault.TheVariants as fault
 use Rattle.ndr_decode.specs.Streaming.{FaultOf, Stands, WentOn, cells_of}
@@ -160,7 +159,7 @@ not_cut a f m place why e t = go (int_eq a.wanted (first_found a.attr f)) (place
 -- what a call comes to after another one that went on
 module _ (w : Setting) (side : IsLegalSide w) (order : Order) (fetched : List ℕ) (noted : List Item) (n0 : ℕ) (a b c : SourceSeen) (s t u : DecodingSeen) (f : Follows a b c s t u)
     (octets : List ℕ) (xs : List Item) (n1 : ℕ) (took : Took a s n0 octets xs n1) where
-  pub then_went : (x : Stream) (n : ℕ) → WentOn w side order (fetched ++ octets) (noted ++ xs) n1 b t x n → WentOn w side order fetched noted n0 c u x n
+  abbrev pub then_went : (x : Stream) (n : ℕ) → WentOn w side order (fetched ++ octets) (noted ++ xs) n1 b t x n → WentOn w side order fetched noted n0 c u x n
   then_went x n g = record {
     octets = octets ++ g.octets;
     items = xs ++ g.items;

@@ -1,10 +1,9 @@
 -- Agreements that are tried one after the other.
 -- `k` is what is kept of a home, `ws` are agreements as code has them.
-use Rattle.std.proofs.Common.{◌≡◌, ◌<◌, ◌≤◌, ℕ, ◌+◌, zero, suc, List, [], ◌∷◌, ◌++◌, length, take, drop, map, Option, Some, None, Result, Ok, Err, IsErrAnd, refl, sym, ap, ◌∙◌, subst, arith}
-use Rattle.std.specs.List.{AllByRecursion, slice_get}
+use Rattle.std.proofs.Common.{◌≡◌, ◌≤◌, ℕ, ◌+◌, zero, suc, List, [], ◌∷◌, ◌++◌, length, take, drop, map, Some, None, Result, Ok, Err, IsErrAnd, refl, sym, ap, ◌∙◌, subst, arith}
+use Rattle.std.specs.List.{slice_get}
 use Rattle.std.proofs.lemmas.List.{map-append}
 use Rattle.nd_value.specs.Agreement.{Agreement}
-use Rattle.nd_grammar.specs.declared.reason.Reason.{Reason}
 use Rattle.ndr_machine.specs.Parts.{IsTried}
 use Rattle.ndr_state.specs.declared.fault.DecodeFault.{DecodeFault}
 use Rattle.ndr_state.specs.declared.fault.DecodeFault.TheVariants as fault
@@ -12,7 +11,7 @@ use Rattle.ndr_state.specs.declared.machine.Wanted.{Wanted}
 use Rattle.ndr_state.specs.Seen.{agreement_of}
 use Rattle.ndr_stream.specs.declared.kept.Kept.{Kept}
 use Rattle.ndr_stream.specs.Tests.{AllAgree, disagreement}
-use Rattle.ndr_decode.specs.Tried.{AreTried, IsFirst}
+use Rattle.ndr_decode.specs.Tried.{AreTried}
 
 all_with : (k : Kept) (ws : List Agreement) (w : Agreement) → AllAgree k ws → disagreement w k.first k.max_at ≡ None → AllAgree k (ws ++ w ∷ [])
 all_with k [] w h e = (e, tt)

@@ -1,19 +1,25 @@
 // Decoding of a side of an operation.
-ghost use Rattle.std.specs.Prelude.{◌≡◌, ℕ, ◌+◌, ◌≤◌, ◌<◌, Some, length, option_map, IfOk, IfErr, IsErrOf};
+ghost use Rattle.std.specs.Prelude.{◌≡◌, ℕ, ◌+◌, ◌≤◌, ◌<◌, [], Some, length, option_map, IfOk, IfErr, IsErrOf, OnOk};
 ghost use Rattle.std.specs.List.{slice_get};
 ghost use Rattle.nd_base.specs.Over.{source_seen, HasRisen, count};
 ghost use Rattle.nd_types.specs.declared.types.Operation.{Operation};
 ghost use Rattle.nd_value.specs.Fitting.{IsFit, setting_beside};
 ghost use Rattle.nd_value.specs.Request.{IsRequestOf};
+ghost use Rattle.nd_value.specs.Setting.{Setting};
 ghost use Rattle.nd_flat.specs.Building.{CanClose, fitting};
+ghost use Rattle.nd_grammar.specs.LegalSide.{IsLegalSide};
 ghost use Rattle.ndr_state.specs.declared.fault.DecodeFault.TheVariants.{ReadFault};
 ghost use Rattle.ndr_verdict.specs.Verdict.{IsDecoded, decoding_seen};
+ghost use Rattle.ndr_stream.specs.Between.{Begins};
+ghost use Rattle.ndr_kept.specs.Seen.{between_of};
 ghost use Rattle.ndr_decode.specs.Decoding.{IsFault};
+ghost use Rattle.ndr_decode.specs.Piping.{EndComes};
+ghost use Rattle.ndr_decode.specs.Streaming.{IsSettingOf, cells_of, purpose_of};
 
 use crate::chunks::read_pipes;
 use crate::roots::read_roots;
 use nd_base::{Ledger, Order, Source, Steps};
-use nd_flat::{Builder, Fit};
+use nd_flat::{Builder, Fit, Given};
 use nd_types::Side;
 use nd_value::ItemLog;
 use ndr_code::Plan;
@@ -77,27 +83,17 @@ pub fn decode<S: Source, L: Ledger>(
     ensures read_fault { IsErrOf result ReadFault → HasRisen (count S.Source.faults source.old source.new) }
     ensures later { S.Source.faults source.old ≤ S.Source.faults source.new }
 {
+    // A request conforms to the inputs of the operation.
+    let _request = Given::beside(given);
     let builder = Builder::begin(alloc, plan.tie.again(), op, side, given);
     let mut stream = Stream::begin(alloc, builder);
     let mut intake = Intake::new(alloc)?;
-    let found = read_roots(
+    read_side(
         plan,
         op,
         side,
         order,
-        &mut stream,
-        &mut intake,
-        source,
-        items,
-        steps,
-    )?;
-    try_parameters(plan.code.as_slice(), found.checks as usize, &stream, given)?;
-    read_pipes(
-        plan,
-        op,
-        side,
-        order,
-        found.line,
+        given,
         &mut stream,
         &mut intake,
         source,
@@ -105,6 +101,37 @@ pub fn decode<S: Source, L: Ledger>(
         steps,
     )?;
     Ok(finish(stream))
+}
+
+// Reads a side from the beginning of its stream to the end: its roots with their referents, the agreements of its parameters, its pipes.
+fn read_side<S: Source, L: Ledger>(
+    plan: &Plan,
+    op: u32,
+    side: Side,
+    order: Order,
+    given: Option<&Fit>,
+    stream: &mut Stream,
+    intake: &mut Intake,
+    source: &mut S,
+    items: &mut ItemLog,
+    steps: &mut Steps<L>,
+) -> Result<(), DecodeFault>
+    requires known { op < length plan.now.tie.operations }
+    requires begins { Begins (between_of stream.old) }
+    requires whole { CanClose stream.old.machine.builder }
+    ensures reads { (w : Setting) → IsLegalSide w → IsSettingOf plan.now op side w → w.given ≡ option_map (λ f. f.now.graph) given.entry
+        → EndComes w order [] [] (cells_of stream.old) (source_seen S.Source.left S.Source.ended S.Source.faults source.old source.new)
+        (decoding_seen items.old items.new (L.number steps.old) (L.number steps.new)) stream.new result }
+    ensures same { OnOk result (purpose_of stream.new ≡ purpose_of stream.old) }
+    ensures later { S.Source.faults source.old ≤ S.Source.faults source.new }
+{
+    let found = read_roots(plan, op, side, order, stream, intake, source, items, steps)?;
+    let checks = found.checks as usize;
+    try_parameters(plan.code.as_slice(), checks, stream, given)?;
+    let line = found.line;
+    read_pipes(
+        plan, op, side, order, line, stream, intake, source, items, steps,
+    )
 }
 
 // The graph as a fit, and the octets that it took.

@@ -6,7 +6,7 @@ ghost use Rattle.nd_types.specs.declared.types.Operation.{Operation};
 ghost use Rattle.nd_types.specs.Roots.{roots_of};
 ghost use Rattle.nd_flat.specs.Building.{CanClose};
 ghost use Rattle.ndr_code.specs.Code.{checks_at, value_roots};
-ghost use Rattle.ndr_code.specs.Lines.{line_at};
+ghost use Rattle.ndr_code.specs.Lines.{line_at, side_number};
 ghost use Rattle.ndr_code.specs.declared.instr.Instr.{Instr};
 ghost use Rattle.ndr_code.specs.declared.instr.Instr.TheVariants as op;
 ghost use Rattle.ndr_verdict.specs.Verdict.{decoding_seen};
@@ -81,11 +81,17 @@ fn first_line(plan: &Plan, op: u32, side: Side) -> usize
     requires known { op < length plan.now.tie.operations }
     ensures { (o : Operation) → slice_get plan.now.tie.operations op ≡ Some o → result ≡ line_at plan.now.tie.types plan.now.tie.operations op o side }
 {
-    let of = match side {
+    plan.sides.as_slice()[op as usize * 2 + number_of(side)] as usize
+}
+
+// The number of a side among those of its operation.
+fn number_of(side: Side) -> usize
+    ensures { result ≡ side_number side }
+{
+    match side {
         Side::In => 0,
         Side::Out => 1,
-    };
-    plan.sides.as_slice()[op as usize * 2 + of] as usize
+    }
 }
 
 // Reads the next root: its value, or the referent of a reference pointer in its place.

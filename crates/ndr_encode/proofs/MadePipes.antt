@@ -1,11 +1,10 @@
 -- The pipes of a side, as a search goes over them.
 -- `p` is a plan, `f` a fit, `k` the greatest count of a chunk, `h` the stream of the fit, `s` what is known so far, `i` the number of the next pipe among all roots.
-use Rattle.std.proofs.Common.{◌≡◌, ℕ, ◌+◌, ◌-◌, ◌^◌, ◌<◌, ◌≤◌, zero, suc, List, [], ◌∷◌, ◌++◌, length, drop, map, Some, None, refl, ap, ap₂, sym, ◌∙◌, subst, arith, append-nil, length-drop, length-append}
+use Rattle.std.proofs.Common.{◌≡◌, ℕ, ◌+◌, ◌-◌, ◌<◌, ◌≤◌, suc, List, [], ◌∷◌, ◌++◌, length, drop, Some, refl, ap, ap₂, sym, ◌∙◌, subst, arith, append-nil, length-drop, length-append}
 use Rattle.std.specs.Prelude.{reverse}
 use Rattle.std.specs.List.{slice_get, AllByRecursion}
 use Rattle.std.proofs.lemmas.List.{reverse-append}
 use Rattle.std.proofs.lemmas.Option.{slice_get_within}
-use Rattle.nd_types.specs.declared.types.Operation.{Operation}
 use Rattle.nd_types.specs.declared.types.Side.{Side}
 use Rattle.nd_value.specs.declared.item.Home.{Home}
 use Rattle.nd_value.specs.declared.item.Home.TheVariants as home
@@ -26,7 +25,7 @@ use Rattle.ndr_homes.specs.declared.turn.Turn.{Turn}
 use Rattle.ndr_homes.specs.Turns.{turn_pair, turn_pairs}
 use Rattle.ndr_homes.specs.Counted.{counted_turn, IsCounted}
 use Rattle.ndr_encode.specs.declared.search.Search.{Search}
-use Rattle.ndr_encode.specs.Search.{IsNumbered, unmarked, pending_names, AreCounted, ArePipes, IsTaken, CanTake}
+use Rattle.ndr_encode.specs.Search.{IsNumbered, unmarked, pending_names, ArePipes, IsTaken, CanTake}
 use Rattle.ndr_encode.specs.Making.{stream_of, HasStream, BeginsPipes, PipesTaken}
 use Rattle.ndr_encode.specs.Work.{setting}
 use Rattle.ndr_encode.proofs.MadeLines.{few_first, pipe_line, pipe_line_is, no_checks_line}

@@ -1,6 +1,6 @@
 -- The roots of a side that are no pipes, as a search goes over them.
 -- `p` is a plan, `f` a fit, `k` the greatest count of a chunk, `h` the stream of the fit, `s` what is known so far, `i` the number of the next root.
-use Rattle.std.proofs.Common.{◌≡◌, ℕ, ◌+◌, ◌^◌, ◌<◌, ◌≤◌, zero, suc, List, [], ◌∷◌, length, Option, Some, None, refl, ap, sym, ◌∙◌, subst, arith}
+use Rattle.std.proofs.Common.{◌≡◌, ℕ, ◌+◌, ◌^◌, ◌<◌, ◌≤◌, suc, List, [], ◌∷◌, length, Option, Some, refl, ap, sym, ◌∙◌, subst, arith}
 use Rattle.std.specs.List.{slice_get}
 use Rattle.std.proofs.lemmas.Option.{same_Some, slice_get_past}
 use Rattle.nd_types.specs.declared.types.Class.TheVariants.{Ref}
@@ -19,7 +19,7 @@ use Rattle.ndr_code.specs.Lines.{line_at}
 use Rattle.ndr_turns.specs.Turned.{Item}
 use Rattle.ndr_turns.specs.Roots.{root_item, root_items}
 use Rattle.ndr_encode.specs.declared.search.Search.{Search}
-use Rattle.ndr_encode.specs.Search.{Stream, IsSearchable, IsSearched, CanSearch, StillSearched, root_by, CanRoot, RootTaken}
+use Rattle.ndr_encode.specs.Search.{IsSearched, CanSearch, StillSearched, root_by, CanRoot, RootTaken}
 use Rattle.ndr_encode.specs.Making.{stream_of, HasStream, BeginsRoots, RootsTaken}
 use Rattle.ndr_encode.specs.Work.{setting}
 use Rattle.ndr_encode.proofs.MadeLines.{HasNextRoot, few_first, line_there, next_root, none_are_left}

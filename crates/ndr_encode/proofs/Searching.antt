@@ -1,7 +1,7 @@
 -- One home more of a search.
 -- `xs` is what is pending, the next first, `u` is the turn of a home.
-use Rattle.std.proofs.Common.{◌≡◌, inl, inr, ◌⊎◌, ℕ, ◌+◌, ◌*◌, ◌^◌, ◌<◌, ◌≤◌, zero, suc, Bool, true, false, List, [], ◌∷◌, ◌++◌, length, Option, Some, None, refl, ap, ap₂, sym, ◌∙◌, subst, arith, append_assoc, append-nil}
-use Rattle.std.specs.Prelude.{eqb, cond, get_or, set, reverse, flat_map}
+use Rattle.std.proofs.Common.{◌≡◌, inl, inr, ℕ, ◌+◌, ◌*◌, ◌^◌, ◌<◌, ◌≤◌, zero, suc, Bool, true, false, List, [], ◌∷◌, ◌++◌, length, Option, Some, None, refl, ap, sym, ◌∙◌, subst, arith, append_assoc, append-nil}
+use Rattle.std.specs.Prelude.{eqb, cond, get_or, set, reverse}
 use Rattle.std.specs.List.{AllByRecursion, slice_get}
 use Rattle.std.proofs.lemmas.Option.{same_Some}
 use Rattle.std.proofs.lemmas.List.{reverse-append, reverse-reverse, length-append}
@@ -24,13 +24,13 @@ use Rattle.ndr_pieces.proofs.Showing.{end_joined}
 use Rattle.ndr_output.specs.declared.count.Named.{Named}
 use Rattle.ndr_output.specs.Counting.{names_of, count_whole, CountCan}
 use Rattle.ndr_output.specs.Filling.{FitsPiece}
-use Rattle.ndr_turns.specs.Turned.{Item, root_due, direct_due, cell_due, Turned, none_left, root_turn, direct_turn, cell_turn, cell_stands, cells_due, cells_of, names_of as run_names}
+use Rattle.ndr_turns.specs.Turned.{Item, root_due, direct_due, cell_due, Turned, root_turn, direct_turn, cell_turn, cell_stands, cells_due, cells_of, names_of as run_names}
 use Rattle.ndr_chosen.specs.Written.{value_at}
 use Rattle.ndr_homes.specs.declared.turn.Turn.{Turn}
 use Rattle.ndr_homes.specs.Turns.{turn_pair, turn_pairs}
 use Rattle.ndr_homes.specs.Counted.{counted_turn, counted_turns, AreCells, IsCounted}
 use Rattle.ndr_encode.specs.declared.search.Search.{Search}
-use Rattle.ndr_encode.specs.Search.{AreWithin, IsNumbered, unmarked, unplaced, pending_names, Stream, IsSearchable, AreCounted, IsSearched, IsTaken, CanTake, first_cell, root_by, called_run, direct_run}
+use Rattle.ndr_encode.specs.Search.{AreWithin, IsNumbered, unmarked, unplaced, pending_names, Stream, IsSearchable, IsSearched, IsTaken, CanTake, first_cell, root_by, called_run, direct_run}
 
 -- ## What is pending
 

@@ -1,9 +1,8 @@
 -- What a work is for: the homes of the stream are there, their pieces can be written, and these are the octets that are chosen.
-use Rattle.std.proofs.Common.{◌≡◌, inl, inr, ℕ, zero, suc, ◌≤◌, List, [], ◌∷◌, ◌++◌, length, get_or, Some, refl, ap, sym, ◌∙◌, subst, append-nil, arith}
+use Rattle.std.proofs.Common.{◌≡◌, inl, inr, ℕ, zero, suc, List, [], ◌∷◌, ◌++◌, length, get_or, Some, ap, sym, ◌∙◌, subst, append-nil, arith}
 use Rattle.std.specs.List.{AllByRecursion, slice_get}
 use Rattle.std.proofs.lemmas.Option.{same_Some}
 use Rattle.nd_base.specs.declared.octets.Order.{Order}
-use Rattle.nd_types.specs.declared.interface.Interface.{Interface}
 use Rattle.nd_types.specs.declared.types.Operation.{Operation}
 use Rattle.nd_value.specs.declared.value.Graph.{Graph}
 use Rattle.nd_value.specs.Conforms.{Conforms}
@@ -20,9 +19,9 @@ use Rattle.ndr_output.specs.Filling.{FitsPiece, FillCan}
 use Rattle.ndr_chosen.specs.Written.{turns_pieces, all_turns}
 use Rattle.ndr_chosen.proofs.Written.{chosen, ends}
 use Rattle.ndr_homes.specs.declared.turn.Turn.{Turn}
-use Rattle.ndr_homes.specs.Turns.{turn_pair, turn_pairs, written_turns}
+use Rattle.ndr_homes.specs.Turns.{turn_pairs, written_turns}
 use Rattle.ndr_homes.proofs.Encoded.{all_there, turns_same, turns_fit}
-use Rattle.ndr_encode.specs.Work.{WorkSeen, setting, IsWorkFor, IsChosen, chosen_length}
+use Rattle.ndr_encode.specs.Work.{WorkSeen, setting, IsWorkFor, IsChosen}
 
 pub operation_there : (os : List Operation) (n : ℕ) (o : Operation) → slice_get os n ≡ Some o → Among os o
 operation_there [] n o e = cc

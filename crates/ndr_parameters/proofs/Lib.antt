@@ -1,3 +1,4 @@
 pub mod Runs
 pub mod Together
 pub mod Numbers
+mod GivenNumbers

@@ -29,7 +29,7 @@ use Rattle.ndr_stream.specs.Between.{Between, Keeps, Agrees}
 use Rattle.ndr_stream.specs.Parameters.{root_number, with_pipes}
 use Rattle.ndr_stream.proofs.Parameters as law
 
-in_its_range : (table : Table) (d : Option TypeDef) (z : ℤ) → has_range fits_octets table d (tree.Num z) ≡ true → IsKeepableNumber z
+pub in_its_range : (table : Table) (d : Option TypeDef) (z : ℤ) → has_range fits_octets table d (tree.Num z) ≡ true → IsKeepableNumber z
 in_its_range table (Some (def.Prim p)) z h = number_keepable p z h
 in_its_range table (Some (def.Enum values)) z h = number_keepable Short z h
 in_its_range table _ z h = (let n : false ≡ true = h in cc)

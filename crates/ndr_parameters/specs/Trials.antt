@@ -14,9 +14,8 @@ use Rattle.ndr_stream.specs.Parameters.{root_number, root_subject}
 use Rattle.ndr_stream.specs.Tests.{disagreement}
 
 -- the numbers that variables are can be kept
-pub record AreKeepable (read : List (Option Kept)) (roots : List KeptRoot) (q : Option Graph) : Type 0 where
+pub record AreKeepable (read : List (Option Kept)) (roots : List KeptRoot) : Type 0 where
   pub here : (v : ℕ) (star : Bool) (z : ℤ) → root_number read star (slice_get roots v) ≡ Some z → IsKeepableNumber z
-  pub given : (v : ℕ) (star : Bool) (z : ℤ) → given_number star v q ≡ Some z → IsKeepableNumber z
 
 -- why an agreement with what is kept of its subject does not hold: nothing, where it does, or where there is no agreement, or no subject
 abbrev pub failing : List Agreement → Option Kept → Option (ℕ × Reason)

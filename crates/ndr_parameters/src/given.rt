@@ -1,10 +1,11 @@
 // Numbers in the graph of a request.
-ghost use Rattle.std.specs.Prelude.{◌≡◌, option_map};
+ghost use Rattle.std.specs.Prelude.{◌≡◌, IfSome, option_map};
 ghost use Rattle.nd_value.specs.Agreement.{number_of};
 ghost use Rattle.nd_value.specs.Seen.{cell_number};
 ghost use Rattle.nd_value.specs.Setting.{cell_at, root_at};
 ghost use Rattle.nd_value.specs.Tree.{Tree, more, none};
 ghost use Rattle.nd_value.specs.Variables.{starred};
+ghost use Rattle.nd_flat.specs.FlatForm.{IsKeepableNumber};
 ghost use Rattle.ndr_sides.specs.Tried.{given_number as number_given};
 ghost use Rattle.ndr_stream.specs.Between.{pointer_cell};
 
@@ -13,12 +14,21 @@ use nd_value::CellId;
 
 // The number that a root of a request is, or with a star that in the cell that it names; none if no request is given.
 pub(crate) fn given_number(given: Option<&Fit>, root: u32, star: bool) -> Option<i128>
-    ensures { result ≡ number_given star root (option_map (λ f. f.now.graph) given.entry) }
+    ensures number { result ≡ number_given star root (option_map (λ f. f.now.graph) given.entry) }
+    ensures keepable { IfSome result IsKeepableNumber }
 {
     match given {
-        Some(fit) => number_in(fit.flat(), root, star),
+        Some(fit) => fit_number(fit, root, star),
         None => None,
     }
+}
+
+// The same in a request.
+fn fit_number(fit: &Fit, root: u32, star: bool) -> Option<i128>
+    ensures number { result ≡ starred fit.now.graph star (root_at fit.now.graph root) }
+    ensures keepable { IfSome result IsKeepableNumber }
+{
+    number_in(fit.flat(), root, star)
 }
 
 // The same in a graph.

@@ -22,7 +22,7 @@ pub fn try_parameters(
     stream: &Stream,
     given: Option<&Fit>,
 ) -> Result<(), DecodeFault>
-    requires numbers { AreKeepable stream.now.cells.items stream.now.roots.items (option_map (λ f. f.now.graph) given) }
+    requires numbers { AreKeepable stream.now.cells.items stream.now.roots.items }
     ensures { IsTried (checks_fail stream.now.cells.items stream.now.roots.items (option_map (λ f. f.now.graph) given.entry) (drop at code.now)) result }
 {
     for pc in at..code.len() {
@@ -58,7 +58,7 @@ fn tries(instr: Instr) -> bool
 
 // Tries the agreement of one instruction.
 fn try_check(instr: Instr, stream: &Stream, given: Option<&Fit>) -> Result<(), DecodeFault>
-    requires numbers { AreKeepable stream.now.cells.items stream.now.roots.items (option_map (λ f. f.now.graph) given) }
+    requires numbers { AreKeepable stream.now.cells.items stream.now.roots.items }
     ensures { IsTried (check_fails stream.now.cells.items stream.now.roots.items (option_map (λ f. f.now.graph) given.entry) instr) result }
 {
     match instr {

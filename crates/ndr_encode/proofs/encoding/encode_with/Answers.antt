@@ -1,7 +1,5 @@
-use Rattle.std.proofs.Common.{rules, ◌≡◌, ℕ, List, ap, sym, ◌∙◌}
-use Rattle.ndr_code.specs.declared.instr.Instr.{Instr}
+use Rattle.std.proofs.Common.{rules, ◌≡◌, ap, ◌∙◌}
 use Rattle.ndr_code.specs.Code.{code_of}
-use Rattle.ndr_homes.specs.declared.turn.Turn.{Turn}
 use Rattle.ndr_encode.proofs.Works.{turns_there, work_can, work_long, work_chosen}
 use Rattle.ndr_encode.proofs.encoding.encode_with.Goals as goal
 

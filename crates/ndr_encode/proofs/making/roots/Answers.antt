@@ -1,7 +1,6 @@
-use Rattle.std.proofs.Common.{◌≡◌, ◌≤◌, ◌<◌, ℕ, ◌+◌, ◌^◌, length, ap, sym, ◌∙◌, subst, arith}
+use Rattle.std.proofs.Common.{◌≡◌, ◌≤◌, ◌<◌, ◌+◌, ◌^◌, length, ap, sym, ◌∙◌, subst, arith}
 use Rattle.std.specs.List.{slice_get}
 use Rattle.std.proofs.Math.Facts.{Fits-of_lt}
-use mir.Val.{Fits}
 use mir.Syntax.{w32}
 use Rattle.nd_types.specs.declared.interface.Interface.{Interface}
 use Rattle.ndr_code.specs.declared.lists.PlanLine.TheVariants as line

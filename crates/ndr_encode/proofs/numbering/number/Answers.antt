@@ -1,4 +1,4 @@
-use Rattle.std.proofs.Common.{rules, refl, ◌≡◌, ◌+◌, ◌<◌, ◌≤◌, ◌^◌, ap, sym, ◌∙◌, get_or, length, arith, subst}
+use Rattle.std.proofs.Common.{rules, refl, ◌≡◌, ◌+◌, ◌<◌, ◌≤◌, ◌^◌, sym, ◌∙◌, get_or, length, arith, subst}
 use Rattle.ndr_encode.proofs.NamedCells.{same_default, positive}
 use Rattle.ndr_encode.proofs.Numbers.{in_numbers, numbered_known, numbered_new, next_fits}
 use Rattle.ndr_encode.proofs.numbering.number.Goals as goal

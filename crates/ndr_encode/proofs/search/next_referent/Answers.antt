@@ -1,4 +1,4 @@
-use Rattle.std.proofs.Common.{◌≡◌, ◌∷◌, ◌<◌, length, refl, ap, sym, ◌∙◌, subst}
+use Rattle.std.proofs.Common.{◌<◌, length, refl, ap, sym, ◌∙◌, subst}
 use Rattle.std.specs.List.{AllByRecursion}
 use Rattle.ndr_encode.specs.Search.{unplaced, pending_names}
 use Rattle.ndr_encode.proofs.Searching.{in_marks, unplaced_room, none_left_pending, ready_can, ready_after, cell_ready, fewer_turn}

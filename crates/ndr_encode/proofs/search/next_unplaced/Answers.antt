@@ -1,4 +1,4 @@
-use Rattle.std.proofs.Common.{rules, ◌≡◌, ℕ, List, [], ◌∷◌, true, false, get_or, length, ap, ◌∙◌}
+use Rattle.std.proofs.Common.{rules, ◌≡◌, [], ◌∷◌, true, false, get_or, length, ap, ◌∙◌}
 use Rattle.ndr_encode.specs.Search.{unplaced, pending_names}
 use Rattle.ndr_encode.proofs.Searching.{pend_popped, skip_one, stop_at, first_within, rest_within}
 use Rattle.ndr_encode.proofs.search.next_unplaced.Goals as goal

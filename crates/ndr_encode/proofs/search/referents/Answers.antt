@@ -1,4 +1,3 @@
-use Rattle.std.proofs.Common.{◌≡◌}
 use Rattle.ndr_encode.specs.Search.{unmarked}
 use Rattle.ndr_encode.proofs.Searching.{smaller_turn}
 use Rattle.ndr_encode.proofs.search.referents.Goals as goal

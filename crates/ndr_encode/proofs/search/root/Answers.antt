@@ -1,4 +1,4 @@
-use Rattle.std.proofs.Common.{◌≡◌, ◌∷◌, ap, sym, ◌∙◌, subst}
+use Rattle.std.proofs.Common.{◌∷◌, ap, sym, ◌∙◌, subst}
 use Rattle.ndr_encode.specs.Search.{IsSearched, called_run, direct_run}
 use Rattle.ndr_encode.proofs.Searching.{call_item, direct_item, no_root}
 use Rattle.ndr_encode.proofs.search.root.Goals as goal

@@ -1,0 +1,202 @@
+-- The loop over the pending referents: what was read so far.
+-- `x` is what was kept of the stream before the loop, `y` before a turn, `y'` the same without the next of the pending referents, `o` that referent, `z` after it
+-- was read; 0, 1 and 2 number what was seen before the loop, before the turn and after it.
+use Rattle.std.proofs.Common.{◌≡◌, ◌≤◌, ℕ, ◌+◌, Bool, List, [], ◌∷◌, ◌++◌, length, Option, Result, Ok, Err, IsErrAnd, refl, sym, ap, ◌∙◌, subst}
+use Rattle.std.specs.List.{AllByRecursion}
+use Rattle.nd_base.specs.declared.octets.Order.{Order}
+use Rattle.nd_base.specs.declared.TheConstants.{STREAM_LIMIT}
+use Rattle.nd_base.specs.Over.{SourceSeen}
+use Rattle.nd_value.specs.declared.item.Item.{Item}
+use Rattle.nd_value.specs.Deferral.{Pending}
+use Rattle.nd_value.specs.Logged.{Logged}
+use Rattle.nd_value.specs.Setting.{Setting}
+use Rattle.nd_value.proofs.Apart.{all_left, all_right}
+use Rattle.nd_flat.specs.Building.{CanClose}
+use Rattle.nd_grammar.specs.Entry.{EntryAt}
+use Rattle.nd_grammar.specs.LegalSide.{IsLegalSide}
+use Rattle.nd_grammar.specs.StreamReader.{Reading}
+use Rattle.ndr_code.specs.declared.plan.Plan.{Plan}
+use Rattle.ndr_state.specs.declared.fault.DecodeFault.{DecodeFault}
+use Rattle.ndr_state.specs.declared.fault.DecodeFault.TheVariants as fault
+use Rattle.ndr_state.specs.declared.machine.Machine.{Machine}
+use Rattle.ndr_state.specs.declared.machine.Owed.{Owed}
+use Rattle.ndr_state.specs.declared.machine.Wanted.{Wanted}
+use Rattle.ndr_steps.specs.Steps as steps
+use Rattle.ndr_verdict.specs.Verdict.{DecodingSeen, decoding_seen}
+use Rattle.ndr_stream.specs.Between.{Agrees, Between}
+use Rattle.ndr_stream.specs.Calls.{Follows, Took}
+use Rattle.ndr_kept.specs.declared.stream.Stream.{Stream}
+use Rattle.ndr_kept.specs.Seen.{between_of, pending_in}
+use Rattle.ndr_decode.specs.Streaming.{FaultOf, IsAtReferent, IsStreaming, PendingReads, ReferentReads, Stands, WentOn, cells_of}
+use Rattle.ndr_decode.proofs.PendingTurns.{HasNext, KeepsRest, kept_by, none_due, same_rest, stands_next}
+use Rattle.ndr_decode.proofs.Placed.{types_length}
+use Rattle.ndr_decode.proofs.Standing.{cut_off_here, then_fault, then_went, went_nowhere}
+
+-- ## The list of those that are pending
+
+module _ (n : ℕ) (old new : List Owed) where
+  abbrev IsSpan : Owed → Type 0
+  IsSpan o = o.from + o.len ≤ n
+
+  -- those that are left have their agreements, and so has the one that was taken
+  pub spans_left : (more : List Owed) → old ≡ new ++ more → AllByRecursion IsSpan old → AllByRecursion IsSpan new
+  spans_left more e a = all_left IsSpan new more (subst (AllByRecursion IsSpan) e a)
+
+  pub span_taken : (o : Owed) → old ≡ new ++ o ∷ [] → AllByRecursion IsSpan old → o.from + o.len ≤ n
+  span_taken o e a = let b : AllByRecursion IsSpan (o ∷ []) = all_right IsSpan new (o ∷ []) (subst (AllByRecursion IsSpan) e a) in b.0
+
+-- ## Calls one after the other
+
+abbrev pub source_by : Option (List ℕ) → Option (List ℕ) → Bool → ℕ → ℕ → SourceSeen
+source_by l l' e f f' = record { left = l; left_now = l'; ended = e; faults = record { before = f; now = f' } }
+
+followed : (l0 l1 l2 : Option (List ℕ)) (e1 e2 : Bool) (f0 f1 f2 : ℕ) (g0 g1 g2 : Logged) (k0 k1 k2 : ℕ)
+    → Follows (source_by l0 l1 e1 f0 f1) (source_by l1 l2 e2 f1 f2) (source_by l0 l2 e2 f0 f2) (decoding_seen g0 g1 k0 k1) (decoding_seen g1 g2 k1 k2) (decoding_seen g0 g2 k0 k2)
+followed l0 l1 l2 e1 e2 f0 f1 f2 g0 g1 g2 k0 k1 k2 = record {
+  before = refl;
+  middle = refl;
+  after = refl;
+  ended = refl;
+  log = refl;
+  log_middle = refl;
+  log_now = refl;
+  steps = refl;
+  steps_middle = refl;
+  steps_now = refl;
+}
+
+-- what was read so far
+abbrev pub SoFar : Plan → Order → Stream → SourceSeen → DecodingSeen → Stream → Type 0
+SoFar plan order x source t y =
+    (w : Setting) (side : IsLegalSide w) (fetched : List ℕ) (noted : List Item) (direct : ℕ) (s : Reading) (seen : List EntryAt) (ps : List Pending) (n : ℕ) → w.table ≡ plan.tie.types
+    → Stands w side order fetched noted direct x s seen ps n → WentOn w side order fetched noted (cells_of x) source t y n
+
+pub so_far_none : (plan : Plan) (order : Order) (x : Stream) (l : Option (List ℕ)) (e : Bool) (f : ℕ) (g : Logged) (k : ℕ) → SoFar plan order x (source_by l l e f f) (decoding_seen g g k k) x
+so_far_none plan order x l e f g k w side fetched noted direct s seen ps n table st =
+    went_nowhere l e (record { before = f; now = f }) g k w side order fetched noted direct x s seen ps n st
+
+module _ (plan : Plan) (order : Order) (x y : Stream) (l0 l1 : Option (List ℕ)) (e1 : Bool) (f0 f1 : ℕ) (g0 g1 : Logged) (k0 k1 : ℕ)
+    (so_far : SoFar plan order x (source_by l0 l1 e1 f0 f1) (decoding_seen g0 g1 k0 k1) y) where
+  -- what is kept is right for some octets
+  pub still_streaming : IsStreaming plan order x → IsStreaming plan order y
+  still_streaming i =
+      let g : WentOn i.w i.side order i.fetched i.noted (cells_of x) (source_by l0 l1 e1 f0 f1) (decoding_seen g0 g1 k0 k1) y i.n =
+      so_far i.w i.side i.fetched i.noted i.direct i.s i.seen i.ps i.n i.table i.stands in
+      record {
+        w = i.w;
+        side = i.side;
+        table = i.table;
+        fetched = i.fetched ++ g.octets;
+        noted = i.noted ++ g.items;
+        direct = g.direct;
+        s = g.s;
+        seen = g.seen;
+        ps = g.ps;
+        n = i.n;
+        stands = g.stands;
+      }
+
+  -- the next of the pending referents is due
+  pub next_due : (y' : Stream) (o : Owed) → KeepsRest y y' → y.todo.items ≡ y'.todo.items ++ o ∷ [] → IsStreaming plan order x → IsAtReferent plan order o y'
+  next_due y' o keeps e i =
+      let now : IsStreaming plan order y = still_streaming i in
+      let next : HasNext now.w now.side order now.fetched now.noted now.direct y now.s now.seen now.n o y' now.ps =
+      stands_next now.w now.side order now.fetched now.noted now.direct y now.s now.seen now.n now.ps now.stands y' keeps o e in
+      record {
+        w = now.w;
+        side = now.side;
+        table = now.table;
+        fetched = now.fetched;
+        noted = now.noted;
+        direct = now.direct;
+        s = now.s;
+        seen = now.seen;
+        p = next.p;
+        ps = next.others;
+        n = now.n;
+        stands = next.stands;
+      }
+
+  -- none is left
+  pub none_left : (y' : Stream) → KeepsRest y y' → y.todo.items ≡ [] → y'.todo.items ≡ [] → (u : Unit {0})
+      → PendingReads plan order x (source_by l0 l1 e1 f0 f1) (decoding_seen g0 g1 k0 k1) y' (Ok u)
+  none_left y' keeps none none' u w side fetched noted direct s seen ps n table st =
+      let g : WentOn w side order fetched noted (cells_of x) (source_by l0 l1 e1 f0 f1) (decoding_seen g0 g1 k0 k1) y n = so_far w side fetched noted direct s seen ps n table st in
+      let pending : pending_in y.wanted.items y.todo.items ≡ pending_in y'.wanted.items y'.todo.items =
+      ap (pending_in y.wanted.items) (none ∙ sym none') ∙ ap (λ (ws : List Wanted). pending_in ws y'.todo.items) (sym keeps.wanted) in
+      let same : between_of y ≡ between_of y' =
+      same_rest y y' keeps (pending_in y.wanted.items y.todo.items) ∙ ap (λ (os : List steps.Owed). kept_by y'.machine os y'.roots.items y'.cells.items) pending in
+      let now : WentOn w side order fetched noted (cells_of x) (source_by l0 l1 e1 f0 f1) (decoding_seen g0 g1 k0 k1) y' n = record {
+        octets = g.octets;
+        items = g.items;
+        direct = g.direct;
+        s = g.s;
+        seen = g.seen;
+        ps = g.ps;
+        stands = record {
+          agrees = subst (λ (b : Between). Agrees w side order (fetched ++ g.octets) (noted ++ g.items) g.direct b g.s g.seen g.ps n) same g.stands.agrees;
+          within = subst (λ (m : Machine). m.at ≤ STREAM_LIMIT) (sym keeps.machine) g.stands.within;
+          whole = subst (λ (m : Machine). CanClose m.builder) (sym keeps.machine) g.stands.whole;
+        };
+        took = subst (λ (m : Machine). Took (source_by l0 l1 e1 f0 f1) (decoding_seen g0 g1 k0 k1) (cells_of x) g.octets g.items (length m.builder.graph.cells)) (sym keeps.machine) g.took;
+      } in
+      (now, none_due w side order (fetched ++ g.octets) (noted ++ g.items) g.direct y g.s g.seen n g.ps g.stands none)
+
+  module _ (later : f0 ≤ f1) where
+    -- memory failed between two turns
+    pub given_up : (z : Stream) → PendingReads plan order x (source_by l0 l1 e1 f0 f1) (decoding_seen g0 g1 k0 k1) z (Err fault.Memory)
+    given_up z w side fetched noted direct s seen ps n table st =
+        let g : WentOn w side order fetched noted (cells_of x) (source_by l0 l1 e1 f0 f1) (decoding_seen g0 g1 k0 k1) y n = so_far w side fetched noted direct s seen ps n table st in
+        let idle : SourceSeen = source_by l1 l1 e1 f1 f1 in
+        let follow : Follows (source_by l0 l1 e1 f0 f1) idle (source_by l0 l1 e1 f0 f1) (decoding_seen g0 g1 k0 k1) (decoding_seen g1 g1 k1 k1) (decoding_seen g0 g1 k0 k1) =
+        followed l0 l1 l1 e1 e1 f0 f1 f1 g0 g1 g1 k0 k1 k1 in
+        then_fault w side order fetched noted (cells_of x) (source_by l0 l1 e1 f0 f1) idle (source_by l0 l1 e1 f0 f1) (decoding_seen g0 g1 k0 k1) (decoding_seen g1 g1 k1 k1)
+        (decoding_seen g0 g1 k0 k1) follow g.octets g.items (cells_of y) g.took later refl fault.Memory
+        (cut_off_here l1 e1 (record { before = f1; now = f1 }) g1 k1 w side order (fetched ++ g.octets) (noted ++ g.items) g.direct (between_of y) g.s g.seen g.ps n (cells_of y)
+        (sym (types_length y.machine.builder)) g.stands.agrees)
+
+    -- ## A turn
+
+    module _ (l2 : Option (List ℕ)) (e2 : Bool) (f2 : ℕ) (g2 : Logged) (k2 : ℕ) where
+      abbrev first : SourceSeen
+      first = source_by l0 l1 e1 f0 f1
+
+      abbrev second : SourceSeen
+      second = source_by l1 l2 e2 f1 f2
+
+      abbrev both : SourceSeen
+      both = source_by l0 l2 e2 f0 f2
+
+      follow : Follows first second both (decoding_seen g0 g1 k0 k1) (decoding_seen g1 g2 k1 k2) (decoding_seen g0 g2 k0 k2)
+      follow = followed l0 l1 l2 e1 e2 f0 f1 f2 g0 g1 g2 k0 k1 k2
+
+      pub so_far_more : {y' : Stream} (z : Stream) (o : Owed) (u : Unit {0}) → ReferentReads plan order o y' second (decoding_seen g1 g2 k1 k2) z (Ok u) → KeepsRest y y'
+          → y.todo.items ≡ y'.todo.items ++ o ∷ [] → SoFar plan order x both (decoding_seen g0 g2 k0 k2) z
+      so_far_more {y'} z o u reads keeps e w side fetched noted direct s seen ps n table st =
+          let g : WentOn w side order fetched noted (cells_of x) first (decoding_seen g0 g1 k0 k1) y n = so_far w side fetched noted direct s seen ps n table st in
+          let next : HasNext w side order (fetched ++ g.octets) (noted ++ g.items) g.direct y g.s g.seen n o y' g.ps =
+          stands_next w side order (fetched ++ g.octets) (noted ++ g.items) g.direct y g.s g.seen n g.ps g.stands y' keeps o e in
+          let went : WentOn w side order (fetched ++ g.octets) (noted ++ g.items) (cells_of y') second (decoding_seen g1 g2 k1 k2) z n =
+          reads w side (fetched ++ g.octets) (noted ++ g.items) g.direct g.s g.seen next.p next.others n table next.stands in
+          then_went w side order fetched noted (cells_of x) first second both (decoding_seen g0 g1 k0 k1) (decoding_seen g1 g2 k1 k2) (decoding_seen g0 g2 k0 k2) follow g.octets g.items
+          (cells_of y) g.took z n
+          (subst (λ (m : Machine). WentOn w side order (fetched ++ g.octets) (noted ++ g.items) (length m.builder.graph.cells) second (decoding_seen g1 g2 k1 k2) z n) keeps.machine went)
+
+      pub fault_then : {y' : Stream} (z : Stream) (o : Owed) (e : DecodeFault) → ReferentReads plan order o y' second (decoding_seen g1 g2 k1 k2) z (Err e) → KeepsRest y y'
+          → y.todo.items ≡ y'.todo.items ++ o ∷ [] → PendingReads plan order x both (decoding_seen g0 g2 k0 k2) z (Err e)
+      fault_then {y'} z o e reads keeps is w side fetched noted direct s seen ps n table st =
+          let g : WentOn w side order fetched noted (cells_of x) first (decoding_seen g0 g1 k0 k1) y n = so_far w side fetched noted direct s seen ps n table st in
+          let next : HasNext w side order (fetched ++ g.octets) (noted ++ g.items) g.direct y g.s g.seen n o y' g.ps =
+          stands_next w side order (fetched ++ g.octets) (noted ++ g.items) g.direct y g.s g.seen n g.ps g.stands y' keeps o is in
+          let fails : FaultOf w order (fetched ++ g.octets) (noted ++ g.items) (cells_of y') second (decoding_seen g1 g2 k1 k2) e =
+          reads w side (fetched ++ g.octets) (noted ++ g.items) g.direct g.s g.seen next.p next.others n table next.stands in
+          then_fault w side order fetched noted (cells_of x) first second both (decoding_seen g0 g1 k0 k1) (decoding_seen g1 g2 k1 k2) (decoding_seen g0 g2 k0 k2) follow g.octets g.items
+          (cells_of y) g.took later refl e
+          (subst (λ (m : Machine). FaultOf w order (fetched ++ g.octets) (noted ++ g.items) (length m.builder.graph.cells) second (decoding_seen g1 g2 k1 k2) e) keeps.machine fails)
+
+-- what is right of a fault is right of the answer that hands it on
+pub pending_fault : (plan : Plan) (order : Order) (x : Stream) (source : SourceSeen) (t : DecodingSeen) (y : Stream) (r : Result (Unit {0}) DecodeFault) (e : DecodeFault) → IsErrAnd r (λ z. z ≡ e)
+    → PendingReads plan order x source t y (Err e) → PendingReads plan order x source t y r
+pending_fault plan order x source t y (Ok u) e is f w side fetched noted direct s seen ps n table st = absurd is
+pending_fault plan order x source t y (Err z) e is f w side fetched noted direct s seen ps n table st =
+    subst (λ (q : DecodeFault). FaultOf w order fetched noted (cells_of x) source t q) (sym is) (f w side fetched noted direct s seen ps n table st)
