@@ -9,7 +9,7 @@ The large ones are a list of 2,000,000 nodes, a ring of 1,000,000 nodes and an a
 also at a tenth of the size. All run with a stack of 8 MB, and what is printed has to be the text of the values. The others have a maximum count, a
 count of a chunk or an actual count of up to FFFFFFFF, and a few octets after it.
 
-The status is 1 if ten times the input takes more than twelve times as long, if a count that claims too much takes 1 MiB more than an honest one, or
+The status is 1 if ten times the input takes more than sixteen times as long, if a count that claims too much takes 1 MiB more than an honest one, or
 if a run ends in another way than it should.
 """
 
@@ -25,7 +25,7 @@ from pathlib import Path
 from typing import Callable, Iterable, Iterator, NamedTuple
 
 ROOT = Path(__file__).resolve().parent.parent
-MOST_GROWTH = 12.0
+MOST_GROWTH = 16.0
 MOST_CLAIMED = 1 << 20  # octets of memory
 STREAM_LIMIT = 67_108_864
 IDL = b"""[uuid(11111111-2222-3333-4444-555555555555), pointer_default(unique)] interface t {
