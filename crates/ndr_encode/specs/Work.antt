@@ -1,40 +1,22 @@
 -- What is prepared for the encoding of a graph: the homes in the order of the stream, each with the address of its run, and the numbers of the cells.
--- `f` is a fit, `o` its operation, `w` its setting, `x` a value as a whole, `k` the greatest count of a chunk.
-use Rattle.std.specs.Prelude.{◌≡◌, ℕ, ◌+◌, ◌≤◌, ◌<◌, suc, zero, List, [], ◌∷◌, ◌++◌, drop, length, map, get_or, Some, refl}
+-- `f` is a fit, `o` its operation, `k` the greatest count of a chunk.
+use Rattle.std.specs.Prelude.{◌≡◌, ℕ, ◌≤◌, ◌<◌, List, [], drop, get_or, Some, refl}
 use Rattle.std.specs.List.{slice_get}
 use Rattle.std.specs.Coded.{Coded, code_by, coded×, coded_list, coded_ℕ}
 use Rattle.nd_base.specs.declared.TheConstants.{STREAM_LIMIT}
+use Rattle.nd_base.specs.declared.octets.Order.{Order}
 use Rattle.nd_types.specs.declared.types.Operation.{Operation}
-use Rattle.nd_types.specs.declared.types.Side.{Side}
-use Rattle.nd_types.specs.Table.{Table}
-use Rattle.nd_types.specs.Roots.{roots_of}
-use Rattle.nd_value.specs.declared.item.Home.{Home}
-use Rattle.nd_value.specs.declared.item.Home.TheVariants as home
 use Rattle.nd_value.specs.Canon.{canonical_number, named_cells}
-use Rattle.nd_value.specs.Deferral.{Step, Deferral, Standing, due_roots, before_pipes}
+use Rattle.nd_value.specs.Deferral.{Step, Deferral, due_roots, before_pipes}
 use Rattle.nd_value.specs.Fitting.{Fitting, setting_beside}
 use Rattle.nd_value.specs.Setting.{Setting, root_list}
 use Rattle.nd_grammar.specs.Entry.{end_of}
 use Rattle.nd_grammar.specs.Stream.{representation}
-use Rattle.nd_base.specs.declared.octets.Order.{Order}
 use Rattle.nd_grammar.specs.Chosen.{pipe_cuts, Chosen}
-use Rattle.ndr_code.specs.Code.{whole_at, pipe_at}
-use Rattle.ndr_pieces.specs.Heads.{standings}
-use Rattle.ndr_encode.specs.declared.turn.Turn.{Turn}
-use Rattle.ndr_encode.specs.contracts.turn.Turn as turns
-
--- a home, with the address of the run that writes it
-abbrev pub turn : Home → ℕ → Turn
-turn h at = record { home = h; start = at }
-
--- a value as a whole is written by the whole run of its type
-abbrev pub home_turn : Table → Standing → Turn
-home_turn table x = turn x.home (whole_at table x.of)
-
--- n pipes, from the i-th of them on, of which the first is the root `first`
-abbrev pub pipe_turns : (ℕ → ℕ) → ℕ → ℕ → ℕ → List Turn
-pipe_turns at first i zero = []
-pipe_turns at first i (suc n) = turn (home.Root (first + i)) (at i) ∷ pipe_turns at first (suc i) n
+use Rattle.ndr_chosen.specs.Written.{all_turns}
+use Rattle.ndr_homes.specs.declared.turn.Turn.{Turn}
+use Rattle.ndr_homes.specs.contracts.turn.Turn as turns
+use Rattle.ndr_homes.specs.Turns.{turn_pairs}
 
 -- what a work is seen as
 pub record WorkSeen : Type 0 where
@@ -52,20 +34,22 @@ work_code =
 abbrev pub setting : Fitting → Operation → Setting
 setting f o = setting_beside f.interface o f.side f.given
 
--- A work for a fit, with chunks of k elements. Its length is that of the octets that are chosen, which does not depend on the order of octets.
+-- how many octets are chosen, which does not depend on the order of octets
+abbrev pub chosen_length : Fitting → Operation → ℕ → List Step → ℕ
+chosen_length f o k steps = end_of 0 (representation (setting f o) f.graph steps (pipe_cuts k (drop (before_pipes (root_list (setting f o))) f.graph.roots)))
+
+-- A work for a fit, with chunks of k elements, at least one: the values as a whole in the order of deferral, then the pipes, each by the run of its type; the cells by their
+-- numbers in the order of the stream; and how many octets are chosen, which are no more than a stream may have.
 pub record IsWorkFor (f : Fitting) (k : ℕ) (work : WorkSeen) : Type 0 where
   pub operation : Operation
   pub is_there : slice_get f.interface.operations f.op ≡ Some operation
   pub steps : List Step
   pub deferral : Deferral (setting f operation) f.graph [] (due_roots 0 (before_pipes (root_list (setting f operation)))) steps
-  pub turns : work.turns
-      ≡ map (home_turn f.interface.types) (standings (setting f operation) f.graph steps)
-      ++ pipe_turns (pipe_at f.interface.types f.interface.operations f.op operation f.side) (before_pipes (root_list (setting f operation))) 0
-        (length (drop (before_pipes (root_list (setting f operation))) (root_list (setting f operation))))
+  pub turns : turn_pairs work.turns ≡ all_turns (setting f operation) f.interface.operations f.op f.graph steps
   pub numbers : (c : ℕ) → get_or work.numbers c 0 ≡ canonical_number (named_cells (setting f operation) f.graph steps) c
+  pub some : 1 ≤ k
   pub chunk : work.chunk ≡ k
-  pub length : work.length
-      ≡ end_of 0 (representation (setting f operation) f.graph steps (pipe_cuts k (drop (before_pipes (root_list (setting f operation))) f.graph.roots)))
+  pub length : work.length ≡ chosen_length f operation k steps
   pub within : work.length ≤ STREAM_LIMIT
 
 -- The octets that are chosen for a fit are so many, in either order, and these are more than a stream may have.
@@ -74,7 +58,7 @@ pub record IsTooLong (f : Fitting) (k n : ℕ) : Type 0 where
   pub is_there : slice_get f.interface.operations f.op ≡ Some operation
   pub steps : List Step
   pub deferral : Deferral (setting f operation) f.graph [] (due_roots 0 (before_pipes (root_list (setting f operation)))) steps
-  pub long : n ≡ end_of 0 (representation (setting f operation) f.graph steps (pipe_cuts k (drop (before_pipes (root_list (setting f operation))) f.graph.roots)))
+  pub long : n ≡ chosen_length f operation k steps
   pub too_long : STREAM_LIMIT < n
 
 -- the octets that are chosen for a fit, with chunks of k elements

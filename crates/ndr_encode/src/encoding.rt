@@ -2,29 +2,11 @@
 ghost use Rattle.std.specs.Prelude.{◌≡◌, ℕ, length};
 ghost use Rattle.ndr_encode.specs.Work.{IsWorkFor, IsChosen};
 
-use crate::maximum::maximum_of;
-use crate::turn::Turn;
 use crate::work::Work;
 use nd_base::Order;
 use nd_flat::Fit;
-use ndr_code::{Instr, Plan};
-use ndr_output::Fill;
-use ndr_writer::{Run, write_run};
-use ndr_written::Frames;
-
-// Writes the homes in their order.
-fn write_turns(code: &[Instr], chunk: u32, turns: &[Turn], fit: &Fit, out: &mut Fill<'_>) {
-    let mut frames = Frames::new();
-    for turn in turns {
-        let max = match code.get(turn.start as usize) {
-            Some(Instr::Hoist) => maximum_of(&mut fit.walk(turn.home)),
-            _ => 0,
-        };
-        let run = Run { code, max, chunk };
-        let mut walk = fit.walk(turn.home);
-        let _ = write_run(&run, turn.start as usize, u64::MAX, &mut walk, &mut frames, out);
-    }
-}
+use ndr_code::Plan;
+use ndr_homes::fill_turns;
 
 /// Writes the octets of a graph in an order of octets: those of its one stream in which gaps are zero, TRUE is 1, the number of each pointer is the number of its cell in the order of the
 /// stream, and each chunk has as many elements as the work says, except the last (C706 chapter 14). The work was made for this plan and this fit, and `out` has its length. It
@@ -36,11 +18,10 @@ pub fn encode_with(work: &mut Work, plan: &Plan, fit: &Fit, order: Order, out: &
     ensures chosen { IsChosen fit.now order work.old.chunk out.new }
     ensures again { work.new ≡ work.old }
 {
-    let mut fill = Fill {
-        order,
-        numbers: work.numbers.as_slice(),
-        out,
-        at: 0,
-    };
-    write_turns(plan.code.as_slice(), work.chunk, work.turns.as_slice(), fit, &mut fill);
+    // A fit's graph conforms.
+    let _conforming = fit.flat();
+    let code = plan.code.as_slice();
+    let turns = work.turns.as_slice();
+    let numbers = work.numbers.as_slice();
+    fill_turns(code, work.chunk, turns, fit, order, numbers, out);
 }

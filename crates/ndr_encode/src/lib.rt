@@ -3,11 +3,10 @@
 
 mod encoding;
 mod making;
-mod maximum;
+mod numbering;
 mod search;
-mod turn;
 mod work;
 
 pub use encoding::encode_with;
-pub use turn::Turn;
+pub use ndr_homes::Turn;
 pub use work::{EncodeFault, Work};

@@ -1,8 +1,8 @@
 // What is prepared for the encoding of a graph.
 ghost use Rattle.std.specs.Prelude.{◌≡◌};
 
-use crate::turn::Turn;
 use nd_base::Memory;
+use ndr_homes::Turn;
 use std::marker::Model;
 use thiserror::Error;
 

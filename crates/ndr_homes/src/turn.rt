@@ -1,4 +1,4 @@
-// The homes of a work.
+// The turns of homes.
 use nd_value::Home;
 
 /// A home, and the address of the run that writes it.

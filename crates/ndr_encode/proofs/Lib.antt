@@ -1,0 +1,9 @@
+pub mod Works
+pub mod Numbers
+pub mod Made
+pub mod FirstLine
+pub mod NamedCells
+pub mod Searching
+pub mod MadeLines
+pub mod MadeRoots
+pub mod MadePipes

@@ -1,0 +1,91 @@
+// The homes of a graph, each by its run.
+ghost use Rattle.std.specs.Prelude.{◌≡◌, true, [], OnOk, IsErr};
+ghost use Rattle.std.specs.List.{AllByRecursion, slice_get};
+ghost use Rattle.nd_value.specs.Tree.{none, more, flat};
+ghost use Rattle.nd_flat.specs.Building.{HasHome};
+ghost use Rattle.ndr_output.specs.Outputs.{Moves, Able};
+ghost use Rattle.ndr_written.specs.Run.{run as written_by};
+ghost use Rattle.ndr_turns.specs.Turned.{STEPS};
+ghost use Rattle.ndr_chosen.specs.Written.{value_at};
+ghost use Rattle.ndr_homes.specs.Turns.{turn_pair, turn_pairs, is_hoist as hoists, max_of, written_turns};
+
+use crate::maximum::maximum_of;
+use crate::turn::Turn;
+use nd_base::Memory;
+use nd_flat::Fit;
+use ndr_code::Instr;
+use ndr_output::Output;
+use ndr_writer::{Run, write_run};
+use ndr_written::Frames;
+
+/// Writes a home by its run, with a maximum count before it where the run begins with one. `chunk` is the greatest count of a chunk. It takes no memory apart from that of
+/// the output.
+pub fn write_home<O: Output>(
+    code: &[Instr],
+    max: u32,
+    chunk: u32,
+    turn: Turn,
+    fit: &Fit,
+    frames: &mut Frames,
+    out: &mut O,
+) -> Result<(), Memory>
+    requires there { HasHome fit.now.graph turn.home }
+    requires able { Able O.can out.old (written_by code.now max chunk STEPS turn.start [] (flat (more (value_at fit.now.graph turn.home) none))) }
+    ensures written { OnOk result (Moves O.can O.whole out.old out.new
+        (written_by code.now max chunk STEPS turn.start [] (flat (more (value_at fit.now.graph turn.home) none))) []) }
+    ensures fails { IsErr result → O.may_fail ≡ true }
+{
+    let mut walk = fit.walk(turn.home);
+    let run = Run { code, max, chunk };
+    write_run(&run, turn.start as usize, u64::MAX, &mut walk, frames, out)
+}
+
+// The instruction at an address, if there is one.
+fn instr_at(code: &[Instr], at: usize) -> Option<Instr>
+    ensures { result ≡ slice_get code.now at }
+{
+    code.get(at).copied()
+}
+
+// Whether an instruction writes a maximum count.
+fn is_hoist(instr: &Option<Instr>) -> bool
+    ensures { result ≡ hoists instr.now }
+{
+    match instr {
+        Some(Instr::Hoist) => true,
+        _ => false,
+    }
+}
+
+// The maximum count before a home, where its run begins with one.
+fn max_before(code: &[Instr], turn: Turn, fit: &Fit) -> u32
+    requires there { HasHome fit.now.graph turn.home }
+    ensures { result ≡ max_of code.now fit.now.graph (turn_pair turn) }
+{
+    let first = instr_at(code, turn.start as usize);
+    if is_hoist(&first) {
+        return maximum_of(&mut fit.walk(turn.home));
+    }
+    0
+}
+
+// Writes homes in their order.
+pub(crate) fn write_turns<O: Output>(
+    code: &[Instr],
+    chunk: u32,
+    turns: &[Turn],
+    fit: &Fit,
+    frames: &mut Frames,
+    out: &mut O,
+) -> Result<(), Memory>
+    requires there { AllByRecursion (λ t. HasHome fit.now.graph t.home) turns.now }
+    requires able { Able O.can out.old (written_turns code.now chunk fit.now.graph (turn_pairs turns.now)) }
+    ensures written { OnOk result (Moves O.can O.whole out.old out.new (written_turns code.now chunk fit.now.graph (turn_pairs turns.now)) []) }
+    ensures fails { IsErr result → O.may_fail ≡ true }
+{
+    for turn in turns {
+        let max = max_before(code, *turn, fit);
+        write_home(code, max, chunk, *turn, fit, frames, out)?;
+    }
+    Ok(())
+}
