@@ -78,7 +78,7 @@ def rules_without_texts() -> List[str]:
     return [f"docs/IDL.md has no text of rule {number}" for number in range(1, RULES + 1) if number not in found | {39}]
 
 
-# The texts of the table of section 13 that are too long for it, or that need other files.
+# The texts of the table of section 12 that are too long for it, or that need other files.
 DEEP = f"const long A = {'(' * 64}1{')' * 64};"
 CHAIN = {f"u{at}.idl": f'[local] interface u {{ import "u{at + 1}.idl"; }}' for at in range(1, 63)}
 LONG = {
@@ -92,11 +92,11 @@ def of_refusals() -> Iterator[Case]:
     """The text for each WHAT."""
     for what, _, text, line in table(IDL, "WHAT", "When", "Such a text", "Its line"):
         kind, texts, told = SPAN.findall(what)[0], SPAN.findall(text), SPAN.findall(line)[0]
-        name = f"docs/IDL.md, section 13, {kind}"
+        name = f"docs/IDL.md, section 12, {kind}"
         files = LONG.get(kind) or {"t.idl": within(texts[0] if texts else "")}
         if kind == "Rule 40":
             yield refused(name, {"t.idl": within(""), "t.acf": texts[-1]}, told, "t.acf")
-        elif kind in ("NoOperation NAME", "NotBuilt NAME"):
+        elif kind == "NoOperation NAME":
             words = ["encode", "t.idl", "-", "f", "in", "little", "1"]
             yield Case(name, words, {file: content.encode() for file, content in files.items()}, notes=lines(f"idl t.idl: {told}"), status=6)
         else:

@@ -3,7 +3,6 @@
 from case import CLOSED, FOLDER, FULL, Case, OneAtATime, Sparse, example, interface, lines, octets
 
 ADD = interface("void add([in] long a, [in] short b, [in] hyper c);")
-UNBUILT = interface("typedef enum { A, B } kind;", "void add([in] kind k);")
 ADD_TEXT = lines("values 1", "op add in", "a = 1", "b = 2", "c = 3")
 ADD_LITTLE = octets("01000000 0200 0000 0300000000000000")
 ADD_BIG = octets("00000001 0002 0000 0000000000000003")
@@ -262,8 +261,6 @@ OUTSIDE = [
     encode("an empty file", b"", "add", ADD_TEXT, notes=lines("idl t.idl:1:1: Syntax"), status=6),
     encode("an octet of no token", ADD + b"#", "add", ADD_TEXT, notes=lines("idl t.idl:5:1: BadOctet"), status=6),
     encode("a banned word", interface("void add([in] float a);"), "add", ADD_TEXT, notes=lines("idl t.idl:3:15: Banned float"), status=6),
-    encode("an operation that is not built", UNBUILT, "add", ADD_TEXT, notes=lines("idl t.idl: NotBuilt add"), status=6),
-    encode("an operation that is not built, closed input", UNBUILT, "add", CLOSED, notes=lines("idl t.idl: NotBuilt add"), status=6),
     encode("an unknown operation", ADD, "sub", ADD_TEXT, notes=lines("idl t.idl: NoOperation sub"), status=6),
     encode("an unknown operation, closed input", ADD, "sub", CLOSED, notes=lines("idl t.idl: NoOperation sub"), status=6),
     Case("encode: a missing file", chunk("1"), {}, ADD_TEXT, notes=lines("absent: t.idl"), status=7),

@@ -1,4 +1,4 @@
-"""Sides of operations: `out`, the eleven primitives, and sides that `encode` does not know yet."""
+"""Sides of operations: `out`, the eleven primitives, and operations that are not there."""
 
 from case import Case, interface, lines, octets
 
@@ -40,14 +40,8 @@ CASES = [
     decode("a typedef of a primitive", ["typedef long n;", "n f([in] n x);"], "f", "in", "little", "05000000", lines("values 2", "op f in", "x = 5")),
     decode("types beside it", [NODE, "void f([in] small x);"], "f", "in", "little", "05", lines("values 2", "op f in", "x = 5")),
     decode("one side is of primitives, the other is not", ["void f([in] small x, [out] long *y);"], "f", "in", "little", "05", lines("values 2", "op f in", "x = 5")),
-    refused("the other side", ["void f([in] small x, [out] long *y);"], "f", "out", "idl t.idl: NotBuilt f"),
-    refused("a pointer", [NODE, "void f([in, ptr] node *p);"], "f", "in", "idl t.idl: NotBuilt f"),
-    refused("an enumerated type", ["typedef enum { A, B } kind;", "void f([in] kind k);"], "f", "in", "idl t.idl: NotBuilt f"),
-    refused("an enumerated result", ["typedef enum { A, B } kind;", "kind f();"], "f", "out", "idl t.idl: NotBuilt f"),
-    refused("a context handle", ["typedef [context_handle] void *c;", "void f([in] c x);"], "f", "in", "idl t.idl: NotBuilt f"),
-    refused("a pipe", ["typedef pipe long p;", "void f([in] p x);"], "f", "in", "idl t.idl: NotBuilt f"),
+    encode("the other side", ["void f([in] small x, [out] long *y);"], "f", "out", "little", lines("values 1", "op f out", "y = @1", "@1 = 7"), "07000000"),
+    encode("an enumerated result", ["typedef enum { A, B } kind;", "kind f();"], "f", "out", "big", lines("values 1", "op f out", "return = 1"), "0001"),
     refused("an operation that is not there comes first", [NODE, "void f([in, ptr] node *p);"], "g", "in", "idl t.idl: NoOperation g"),
     Case("side: another word", ["decode", "t.idl", "-", "f", "inout", "little"], {"t.idl": interface("void f();")}, notes=lines("words refused"), status=2),
-    Case("side: not built before the input", ["encode", "t.idl", "-", "f", "in", "little", "1"], {"t.idl": interface(NODE, "void f([in, ptr] node *p);")},
-         notes=lines("idl t.idl: NotBuilt f"), status=6),
 ]

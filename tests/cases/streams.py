@@ -3,7 +3,6 @@
 from case import CLOSED, FOLDER, FULL, UNREAD, Case, interface, lines, octets
 
 PLAIN = {"t.idl": interface("void f([in] small x);", "void ping();")}
-UNBUILT = {"t.idl": interface("typedef enum { A, B } kind;", "void f([in] kind k);")}
 DECODE = ["decode", "t.idl", "-", "f", "in", "little"]
 ENCODE = ["encode", "t.idl", "-", "f", "in", "little", "1"]
 PING = ["decode", "t.idl", "-", "ping", "in", "little"]
@@ -21,7 +20,7 @@ INPUT = [
          notes=lines("idl t.idl:1:1: Syntax"), status=6),
     Case("streams: closed input, a file with an octet of no token", DECODE, {"t.idl": b" #"}, CLOSED,
          notes=lines("idl t.idl:1:2: BadOctet"), status=6),
-    Case("streams: closed input, an operation that is not built", ENCODE, UNBUILT, CLOSED, notes=lines("idl t.idl: NotBuilt f"), status=6),
+    Case("streams: closed input of encode", ENCODE, PLAIN, CLOSED, notes=lines("read fault"), status=3),
 ]
 
 OUT = [
@@ -48,7 +47,7 @@ NOTES = [
     Case("streams: closed notes, refused words", ["decode"], notes=CLOSED, status=4),
     Case("streams: full notes, missing file", DECODE, {}, ONE, notes=FULL, status=4),
     Case("streams: full notes, empty file", DECODE, {"t.idl": b""}, ONE, notes=FULL, status=4),
-    Case("streams: full notes, an operation that is not built", ENCODE, UNBUILT, ONE, notes=FULL, status=4),
+    Case("streams: full notes, a refused text", ENCODE, PLAIN, ONE, notes=FULL, status=4),
     Case("streams: full notes, closed input", DECODE, PLAIN, CLOSED, notes=FULL, status=4),
     Case("streams: full notes, unknown operation", UNKNOWN, PLAIN, ONE, notes=FULL, status=4),
     Case("streams: all closed", DECODE, PLAIN, CLOSED, out=CLOSED, notes=CLOSED, status=4),

@@ -485,7 +485,6 @@ BEFORE = [
     Case("migrate: another side", ["migrate", "t.idl", "-", "f", "inout"], NUMBER.files, notes=lines("words refused"), status=2),
     Case("migrate: no side", ["migrate", "t.idl", "-", "f"], NUMBER.files, notes=lines("words refused"), status=2),
     Case("migrate: an order", ["migrate", "t.idl", "-", "f", "in", "little"], NUMBER.files, notes=lines("words refused"), status=2),
-    Case("encode: values that are not built are refused before their text", ["encode", "t.idl", "-", "f", "in", "little", "1"], STRUCT.files, b"values 3", notes=lines("idl t.idl: NotBuilt f"), status=6),
 ]
 
 CASES = [*READ, *REFUSED, *FOR_EVERY_REASON, *HEADS, *MISFITS, *WORKED, *BEFORE]

@@ -3,106 +3,222 @@ use Rattle.std.proofs.Common.{◌≡◌, ℕ, List, Option, refl, sym, ◌∙◌
 use Rattle.nd_base.specs.declared.octets.Order.{Order}
 use Rattle.nd_base.specs.Over.{FilesSeen, SourceSeen, SinkSeen, HasRisen, Got}
 use Rattle.nd_value.specs.Setting.{Setting}
+use Rattle.nd_grammar.specs.LegalSide.{IsLegalSide}
 use Rattle.text_grammar.specs.declared.TheConstants.{TEXT_LIMIT}
-use Rattle.dceidl.specs.declared.words.Reading.{Reading}
-use Rattle.dceidl.specs.declared.words.Reading.TheVariants.{Decode}
 use Rattle.dceidl.specs.declared.words.OrderWord.{OrderWord}
-use Rattle.dceidl.specs.declared.words.Writing.{Writing}
-use Rattle.dceidl.specs.declared.words.Values.{Values}
+use Rattle.dceidl.specs.declared.words.Task.{Task}
+use Rattle.dceidl.specs.declared.words.Task.TheVariants.{Decode, Encode, Migrate}
 use Rattle.refusals.specs.declared.refusal.Refusal.{Refusal}
-use Rattle.refusals.specs.declared.refusal.Refusal.TheVariants.{Memory, Absent, FileFailed, BadIdl, NoOperation, NotBuilt, ReadFault, BadOctets, BadText, BadValue, BadRequest}
-use Rattle.dceidl.specs.Causes.{IsMade, IsCause}
+use Rattle.refusals.specs.declared.refusal.Refusal.TheVariants.{Memory, Absent, FileFailed, BadIdl, NoOperation, ReadFault, BadOctets, BadText, BadValue, TooLong, BadRequest}
 use Rattle.refusals.specs.declared.refusal.OctetsFault.TheVariants.{Refused, Trailing}
 use Rattle.refusals.specs.declared.refusal.RequestFault.{RequestFault}
-use Rattle.ndr_printing.specs.Printed.{IsDecoding}
+use Rattle.refusals.specs.Lines.{status_of, line_of}
+use Rattle.ndr_printing.specs.Printed.{IsInputCause}
 use Rattle.text_fitting.specs.Fitted.{IsTextCause}
 use Rattle.text_fitting.proofs.OneText.{good_cause, fault_cause, misfit_cause}
-use Rattle.dceidl.specs.Input.{IsRead, IsReadCause, IsMadeOf, IsWritten, IsWriteCause}
-use Rattle.refusals.specs.Lines.{status_of, line_of}
-use Rattle.dceidl.specs.Rows.{IsSound, IsAccepted, AreAccepted, IsInput, AreGiven, MustBeUnready, MustBeNoRequest, CanBeDone, MustBeRefused, IsCompleted, Refuses}
+use Rattle.dceidl.specs.Causes.{IsMade, IsCause}
+use Rattle.dceidl.specs.Encode.{IsEncoding, IsLongEncoding, IsEncodingCause, IsMigration}
+use Rattle.dceidl.specs.Input.{OfText, IsMadeOf, IsTaskCause, IsInputTextCause, IsInputEncodingCause}
+use Rattle.dceidl.specs.Rows.{IsSound, AreAccepted, IsInput, AreGiven, CanBeMade, MustBeUnready, MustBeNoRequest, MustBeNoOctets, MustBeNoText, MustBeNoEncoding, MustBeNoInput, CanBeDone, MustBeRefused, IsCompleted, Refuses}
 use Rattle.dceidl.specs.Seen.{Seen}
-use Rattle.dceidl.specs.Words.{Command, Subject, Read, Write, Compile, Plan, Help, Version, idl_of, op_of, order_in, values_read, values_written}
-use Rattle.dceidl.proofs.HeldFiles.{compiled_cause, no_idl, no_idl_cause, one_setting, accepted_cause, unready, unready_cause}
+use Rattle.dceidl.specs.Words.{Command, Subject, Values, Compile, Plan, Help, Version, idl_of, op_of, order_in}
+use Rattle.dceidl.proofs.HeldFiles.{compiled_cause, no_idl, no_idl_cause}
 use Rattle.dceidl.proofs.OneInput.{same_octets}
-use Rattle.dceidl.proofs.HeldRequests.{legal_of, legal_all, all_one, all_cause, all_unready, all_unready_cause, no_request, no_request_cause}
+use Rattle.dceidl.proofs.HeldRequests.{legal_all, all_one, all_cause, all_unready, all_unready_cause, no_request, no_request_cause}
 use Rattle.dceidl.proofs.OneReading.{IsOctetsCause, refused_here, trailing_here, decoded_here, decoded_cause, refused_made, refused_cause}
-use Rattle.dceidl.proofs.OneWriting.{fault_made, misfit_made}
+use Rattle.dceidl.proofs.OneWriting.{IsGood, encoded_good, migrated_good, fault_good, misfit_good, encodes_cause, text_cause, long_cause, long_made}
 use Rattle.dceidl.proofs.Rows.{Ended, ended_done, ended_refused, ended_wanting, ended_unwritten, ended_unreported}
 
 -- ## The input, by what its octets come to
 
 -- the octets of the input are known, and no fetch failed: they are refused as they must be
-read_causes : (s : SourceSeen) (how : Reading) (w : Setting) (order : Order) (octets : List ℕ) → AreGiven s octets → (P : Refusal → Type 0) → P Memory
-    → ((r : Refusal) → IsOctetsCause w order octets r → P r) → (r : Refusal) → IsReadCause s how w order r → P r
-read_causes s Decode w order octets input P wanting by Memory cause = wanting
-read_causes s Decode w order octets input P wanting by ReadFault rose = absurd (input.reads rose)
-read_causes s Decode w order octets input P wanting by (BadOctets place (Refused why)) cause = by (BadOctets place (Refused why)) (refused_here s octets input w order place why cause)
-read_causes s Decode w order octets input P wanting by (BadOctets place Trailing) cause = by (BadOctets place Trailing) (trailing_here s octets input w order place cause)
-read_causes s Decode w order octets input P wanting by (Absent other) cause = absurd cause
-read_causes s Decode w order octets input P wanting by (FileFailed other) cause = absurd cause
-read_causes s Decode w order octets input P wanting by (BadIdl file line column reason) cause = absurd cause
-read_causes s Decode w order octets input P wanting by NoOperation cause = absurd cause
-read_causes s Decode w order octets input P wanting by NotBuilt cause = absurd cause
-read_causes s Decode w order octets input P wanting by (BadText line column reason) cause = absurd cause
-read_causes s Decode w order octets input P wanting by (BadValue path reason) cause = absurd cause
-read_causes s Decode w order octets input P wanting by (BadRequest fault) cause = absurd cause
+read_causes : (s : SourceSeen) (w : Setting) (order : Order) (octets : List ℕ) → AreGiven s octets → (P : Refusal → Type 0) → P Memory
+    → ((r : Refusal) → IsOctetsCause w order octets r → P r) → (r : Refusal) → IsInputCause s w order r → P r
+read_causes s w order octets input P wanting by Memory cause = wanting
+read_causes s w order octets input P wanting by ReadFault rose = absurd (input.reads rose)
+read_causes s w order octets input P wanting by (BadOctets place (Refused why)) cause = by (BadOctets place (Refused why)) (refused_here s octets input w order place why cause)
+read_causes s w order octets input P wanting by (BadOctets place Trailing) cause = by (BadOctets place Trailing) (trailing_here s octets input w order place cause)
+read_causes s w order octets input P wanting by (Absent other) cause = absurd cause
+read_causes s w order octets input P wanting by (FileFailed other) cause = absurd cause
+read_causes s w order octets input P wanting by (BadIdl file line column reason) cause = absurd cause
+read_causes s w order octets input P wanting by NoOperation cause = absurd cause
+read_causes s w order octets input P wanting by (BadText line column reason) cause = absurd cause
+read_causes s w order octets input P wanting by (BadValue path reason) cause = absurd cause
+read_causes s w order octets input P wanting by (TooLong many) cause = absurd cause
+read_causes s w order octets input P wanting by (BadRequest fault) cause = absurd cause
 
 -- all octets that are read of the input to its end or past a limit are those that count
-write_causes : (s : SourceSeen) (w : Setting) (text : List ℕ) → IsInput s TEXT_LIMIT text → (P : Refusal → Type 0) → P Memory
-    → ((r : Refusal) → IsTextCause w text r → P r) → (r : Refusal) → IsWriteCause s w r → P r
-write_causes s w text input P wanting by Memory cause = wanting
-write_causes s w text input P wanting by ReadFault rose = absurd (input.reads rose)
-write_causes s w text input P wanting by (Absent other) (others, read, cause) = by (Absent other) (subst (λ l. IsTextCause w l (Absent other)) (same_octets s TEXT_LIMIT text others input read) cause)
-write_causes s w text input P wanting by (FileFailed other) (others, read, cause) = by (FileFailed other) (subst (λ l. IsTextCause w l (FileFailed other)) (same_octets s TEXT_LIMIT text others input read) cause)
-write_causes s w text input P wanting by (BadIdl file line column reason) (others, read, cause) = by (BadIdl file line column reason) (subst (λ l. IsTextCause w l (BadIdl file line column reason)) (same_octets s TEXT_LIMIT text others input read) cause)
-write_causes s w text input P wanting by NoOperation (others, read, cause) = by NoOperation (subst (λ l. IsTextCause w l NoOperation) (same_octets s TEXT_LIMIT text others input read) cause)
-write_causes s w text input P wanting by NotBuilt (others, read, cause) = by NotBuilt (subst (λ l. IsTextCause w l NotBuilt) (same_octets s TEXT_LIMIT text others input read) cause)
-write_causes s w text input P wanting by (BadOctets place why) (others, read, cause) = by (BadOctets place why) (subst (λ l. IsTextCause w l (BadOctets place why)) (same_octets s TEXT_LIMIT text others input read) cause)
-write_causes s w text input P wanting by (BadText line column reason) (others, read, cause) = by (BadText line column reason) (subst (λ l. IsTextCause w l (BadText line column reason)) (same_octets s TEXT_LIMIT text others input read) cause)
-write_causes s w text input P wanting by (BadValue path reason) (others, read, cause) = by (BadValue path reason) (subst (λ l. IsTextCause w l (BadValue path reason)) (same_octets s TEXT_LIMIT text others input read) cause)
-write_causes s w text input P wanting by (BadRequest fault) (others, read, cause) = by (BadRequest fault) (subst (λ l. IsTextCause w l (BadRequest fault)) (same_octets s TEXT_LIMIT text others input read) cause)
+of_text : (s : SourceSeen) (text : List ℕ) → IsInput s TEXT_LIMIT text → (P : List ℕ → Type 0) → OfText s P → P text
+of_text s text input P (others, read, h) = subst P (same_octets s TEXT_LIMIT text others input read) h
 
-decoding_of : (s : SourceSeen) (how : Reading) (w : Setting) (order : Order) (octets made : List ℕ) → AreGiven s octets → IsRead s how w order made → IsDecoding w order octets made
-decoding_of s Decode w order octets made input r = decoded_here s octets input w order made r
+text_causes : (s : SourceSeen) (w : Setting) (text : List ℕ) → IsInput s TEXT_LIMIT text → (P : Refusal → Type 0) → P Memory
+    → ((r : Refusal) → IsTextCause w text r → P r) → (r : Refusal) → IsInputTextCause s w r → P r
+text_causes s w text input P wanting by Memory cause = wanting
+text_causes s w text input P wanting by ReadFault rose = absurd (input.reads rose)
+text_causes s w text input P wanting by (Absent other) cause = by (Absent other) (of_text s text input (λ l. IsTextCause w l (Absent other)) cause)
+text_causes s w text input P wanting by (FileFailed other) cause = by (FileFailed other) (of_text s text input (λ l. IsTextCause w l (FileFailed other)) cause)
+text_causes s w text input P wanting by (BadIdl file line column reason) cause = by (BadIdl file line column reason) (of_text s text input (λ l. IsTextCause w l (BadIdl file line column reason)) cause)
+text_causes s w text input P wanting by NoOperation cause = by NoOperation (of_text s text input (λ l. IsTextCause w l NoOperation) cause)
+text_causes s w text input P wanting by (BadOctets place why) cause = by (BadOctets place why) (of_text s text input (λ l. IsTextCause w l (BadOctets place why)) cause)
+text_causes s w text input P wanting by (BadText line column reason) cause = by (BadText line column reason) (of_text s text input (λ l. IsTextCause w l (BadText line column reason)) cause)
+text_causes s w text input P wanting by (BadValue path reason) cause = by (BadValue path reason) (of_text s text input (λ l. IsTextCause w l (BadValue path reason)) cause)
+text_causes s w text input P wanting by (TooLong many) cause = by (TooLong many) (of_text s text input (λ l. IsTextCause w l (TooLong many)) cause)
+text_causes s w text input P wanting by (BadRequest fault) cause = by (BadRequest fault) (of_text s text input (λ l. IsTextCause w l (BadRequest fault)) cause)
 
-made_of : (s : SourceSeen) (how : Writing) (w : Setting) (text made : List ℕ) → IsInput s TEXT_LIMIT text → IsWritten s how w made → IsMadeOf how w text made
-made_of s how w text made input r = subst (λ l. IsMadeOf how w l made) (same_octets s TEXT_LIMIT text r.text input r.read) r.made_of
+-- the same of a text that is encoded
+encoding_causes : (s : SourceSeen) (w : Setting) (chunk : ℕ) (text : List ℕ) → IsInput s TEXT_LIMIT text → (P : Refusal → Type 0) → P Memory
+    → ((r : Refusal) → IsEncodingCause w chunk text r → P r) → (r : Refusal) → IsInputEncodingCause s w chunk r → P r
+encoding_causes s w chunk text input P wanting by (TooLong many) cause = by (TooLong many) (of_text s text input (λ l. IsLongEncoding w chunk l many) cause)
+encoding_causes s w chunk text input P wanting by Memory cause = wanting
+encoding_causes s w chunk text input P wanting by ReadFault rose = absurd (input.reads rose)
+encoding_causes s w chunk text input P wanting by (Absent other) cause = by (Absent other) (of_text s text input (λ l. IsTextCause w l (Absent other)) cause)
+encoding_causes s w chunk text input P wanting by (FileFailed other) cause = by (FileFailed other) (of_text s text input (λ l. IsTextCause w l (FileFailed other)) cause)
+encoding_causes s w chunk text input P wanting by (BadIdl file line column reason) cause = by (BadIdl file line column reason) (of_text s text input (λ l. IsTextCause w l (BadIdl file line column reason)) cause)
+encoding_causes s w chunk text input P wanting by NoOperation cause = by NoOperation (of_text s text input (λ l. IsTextCause w l NoOperation) cause)
+encoding_causes s w chunk text input P wanting by (BadOctets place why) cause = by (BadOctets place why) (of_text s text input (λ l. IsTextCause w l (BadOctets place why)) cause)
+encoding_causes s w chunk text input P wanting by (BadText line column reason) cause = by (BadText line column reason) (of_text s text input (λ l. IsTextCause w l (BadText line column reason)) cause)
+encoding_causes s w chunk text input P wanting by (BadValue path reason) cause = by (BadValue path reason) (of_text s text input (λ l. IsTextCause w l (BadValue path reason)) cause)
+encoding_causes s w chunk text input P wanting by (BadRequest fault) cause = by (BadRequest fault) (of_text s text input (λ l. IsTextCause w l (BadRequest fault)) cause)
+
+-- ## The input, by what is done
+
+module _ (s : SourceSeen) (w : Setting) (legal : IsLegalSide w) where
+  -- an input of which something can be made is not refused
+  made_cause : (task : Task) → CanBeMade s task w → (r : Refusal) → IsTaskCause s task w r → r ≡ Memory
+  made_cause (Decode order) (octets, g, input, represents, conforms) r cause =
+      read_causes s w (order_in order) octets input (λ p. p ≡ Memory) refl (decoded_cause w legal (order_in order) octets g represents conforms) r cause
+  made_cause (Encode order chunk) (text, g, octets, input, reads, conforms, is) r cause =
+      encoding_causes s w chunk text input (λ p. p ≡ Memory) refl (encodes_cause w legal text chunk g (order_in order) octets reads conforms is) r cause
+  made_cause Migrate (text, g, input, reads, conforms) r cause =
+      text_causes s w text input (λ p. p ≡ Memory) refl (good_cause w legal text g reads conforms) r cause
+
+  -- nothing is made of an input that must be refused, and it is refused in one way
+  abbrev Refuted : Task → Refusal → Type 0
+  Refuted task r = ((made : List ℕ) → IsMadeOf s task w made → ⊥) × ((q : Refusal) → IsTaskCause s task w q → (q ≡ Memory) ⊎ (q ≡ r))
+
+  abbrev Only : Refusal → Refusal → Type 0
+  Only r p = (p ≡ Memory) ⊎ (p ≡ r)
+
+  no_octets : (order : OrderWord) (r : Refusal) → MustBeNoOctets s w (order_in order) r → Refuted (Decode order) r
+  no_octets order (BadOctets place why) (octets, input, refused) = (
+    λ made m. refused_made w legal (order_in order) octets place why refused made (decoded_here s octets input w (order_in order) made m),
+    λ q cause. read_causes s w (order_in order) octets input (Only (BadOctets place why)) (inl refl) (refused_cause w legal (order_in order) octets place why refused) q cause,
+  )
+  no_octets order Memory must = absurd must
+  no_octets order (Absent other) must = absurd must
+  no_octets order (FileFailed other) must = absurd must
+  no_octets order (BadIdl file line column reason) must = absurd must
+  no_octets order NoOperation must = absurd must
+  no_octets order ReadFault must = absurd must
+  no_octets order (BadText line column why) must = absurd must
+  no_octets order (BadValue path why) must = absurd must
+  no_octets order (TooLong many) must = absurd must
+  no_octets order (BadRequest fault) must = absurd must
+
+  -- the text of an input that must be refused
+  pub record IsBadText (r : Refusal) : Type 0 where
+    pub text : List ℕ
+    pub input : IsInput s TEXT_LIMIT text
+    pub bad : IsGood w text → ⊥
+    pub only : (q : Refusal) → IsTextCause w text q → (q ≡ Memory) ⊎ (q ≡ r)
+
+  bad_text : (r : Refusal) → MustBeNoText s w r → IsBadText r
+  bad_text (BadText line column why) (text, input, fault) = record {
+    text = text;
+    input = input;
+    bad = fault_good w legal text line column why fault;
+    only = fault_cause w legal text line column why fault;
+  }
+  bad_text (BadValue path why) (text, g, input, reads, misfit) = record {
+    text = text;
+    input = input;
+    bad = misfit_good w legal text g path why reads misfit;
+    only = misfit_cause w legal text g path why reads misfit;
+  }
+  bad_text Memory must = absurd must
+  bad_text (Absent other) must = absurd must
+  bad_text (FileFailed other) must = absurd must
+  bad_text (BadIdl file line column reason) must = absurd must
+  bad_text NoOperation must = absurd must
+  bad_text ReadFault must = absurd must
+  bad_text (BadOctets place why) must = absurd must
+  bad_text (TooLong many) must = absurd must
+  bad_text (BadRequest fault) must = absurd must
+
+  no_migration : (r : Refusal) → IsBadText r → Refuted Migrate r
+  no_migration r b = (
+    λ made m. b.bad (migrated_good w b.text made (of_text s b.text b.input (λ l. IsMigration w l made) m)),
+    λ q cause. text_causes s w b.text b.input (Only r) (inl refl) b.only q cause,
+  )
+
+  no_encoding : (order : OrderWord) (chunk : ℕ) (r : Refusal) → IsBadText r → Refuted (Encode order chunk) r
+  no_encoding order chunk r b = (
+    λ made m. b.bad (encoded_good w (order_in order) chunk b.text made (of_text s b.text b.input (λ l. IsEncoding w (order_in order) chunk l made) m)),
+    λ q cause. encoding_causes s w chunk b.text b.input (Only r) (inl refl) (text_cause w legal b.text chunk b.bad r b.only) q cause,
+  )
+
+  encoding_refuted : (order : OrderWord) (chunk : ℕ) (r : Refusal) → MustBeNoEncoding s w chunk r → Refuted (Encode order chunk) r
+  encoding_refuted order chunk (TooLong many) (text, g, input, reads, conforms, long) = (
+    λ made m. long_made w legal text chunk g reads conforms many long (order_in order) made (of_text s text input (λ l. IsEncoding w (order_in order) chunk l made) m),
+    λ q cause. encoding_causes s w chunk text input (Only (TooLong many)) (inl refl) (long_cause w legal text chunk g reads conforms many long) q cause,
+  )
+  encoding_refuted order chunk Memory must = absurd must
+  encoding_refuted order chunk (Absent other) must = absurd must
+  encoding_refuted order chunk (FileFailed other) must = absurd must
+  encoding_refuted order chunk (BadIdl file line column reason) must = absurd must
+  encoding_refuted order chunk NoOperation must = absurd must
+  encoding_refuted order chunk ReadFault must = absurd must
+  encoding_refuted order chunk (BadOctets place why) must = absurd must
+  encoding_refuted order chunk (BadText line column why) must = no_encoding order chunk (BadText line column why) (bad_text (BadText line column why) must)
+  encoding_refuted order chunk (BadValue path why) must = no_encoding order chunk (BadValue path why) (bad_text (BadValue path why) must)
+  encoding_refuted order chunk (BadRequest fault) must = absurd must
+
+  input_refuted : (task : Task) (r : Refusal) → MustBeNoInput s task w r → Refuted task r
+  input_refuted (Decode order) r must = no_octets order r must
+  input_refuted (Encode order chunk) r must = encoding_refuted order chunk r must
+  input_refuted Migrate r must = no_migration r (bad_text r must)
 
 module _ (x : Seen) (loads : HasRisen x.files.faults → ⊥) where
-  -- the causes of a command on values, once what it speaks of is accepted
-  of_read : (how : Reading) (of : Subject) (order : OrderWord) (given : Option (List ℕ)) (w : Setting) → AreAccepted (values_read how) x.files of given w → (P : Refusal → Type 0)
-      → P Memory → ((r : Refusal) → IsReadCause x.input how w (order_in order) r → P r) → (r : Refusal) → IsCause x (Read how of order given) r → P r
-  of_read how of order given w a P wanting by r (inl (cause, before)) = subst P (sym (all_cause (values_read how) x.files of loads given w a r cause)) wanting
-  of_read how of order given w a P wanting by r (inr (v, ready, cause)) =
-      by r (subst (λ u. IsReadCause x.input how u (order_in order) r) (all_one (values_read how) x.files of given w v a ready) cause)
+  module _ (task : Task) (of : Subject) (given : Option (List ℕ)) where
+    -- the causes of a command on values, once what it speaks of is accepted
+    of_values : (w : Setting) → AreAccepted x.files of given w → (P : Refusal → Type 0) → P Memory → ((r : Refusal) → IsTaskCause x.input task w r → P r)
+        → (r : Refusal) → IsCause x (Values task of given) r → P r
+    of_values w a P wanting by r (inl (cause, before)) = subst P (sym (all_cause x.files of loads given w a r cause)) wanting
+    of_values w a P wanting by r (inr (v, ready, cause)) = by r (subst (λ u. IsTaskCause x.input task u r) (all_one x.files of given w v a ready) cause)
 
-  of_write : (how : Writing) (of : Subject) (w : Setting) → IsAccepted (values_written how) x.files of w → (P : Refusal → Type 0) → P Memory
-      → ((r : Refusal) → IsWriteCause x.input w r → P r) → (r : Refusal) → IsCause x (Write how of) r → P r
-  of_write how of w a P wanting by r (inl (cause, before)) = subst P (sym (accepted_cause (values_written how) x.files of loads w a r cause)) wanting
-  of_write how of w a P wanting by r (inr (v, ready, cause)) =
-      by r (subst (λ u. IsWriteCause x.input u r) (one_setting (values_written how) x.files of w v a ready) cause)
+    values_made : (w : Setting) → AreAccepted x.files of given w → (made : List ℕ) → IsMade x (Values task of given) made → IsMadeOf x.input task w made
+    values_made w a made (v, ready, m) = subst (λ u. IsMadeOf x.input task u made) (all_one x.files of given w v a ready) m
 
-  read_made : (how : Reading) (of : Subject) (order : OrderWord) (given : Option (List ℕ)) (w : Setting) → AreAccepted (values_read how) x.files of given w → (octets : List ℕ)
-      → AreGiven x.input octets → (made : List ℕ) → IsMade x (Read how of order given) made → IsDecoding w (order_in order) octets made
-  read_made how of order given w a octets input made (v, ready, r) =
-      decoding_of x.input how w (order_in order) octets made input (subst (λ u. IsRead x.input how u (order_in order) made) (all_one (values_read how) x.files of given w v a ready) r)
+    abbrev Settled_values : Refusal → Type 0
+    Settled_values r = ((made : List ℕ) → IsMade x (Values task of given) made → ⊥) × ((q : Refusal) → IsCause x (Values task of given) q → (q ≡ Memory) ⊎ (q ≡ r))
 
-  write_made : (how : Writing) (of : Subject) (w : Setting) → IsAccepted (values_written how) x.files of w → (text : List ℕ) → IsInput x.input TEXT_LIMIT text
-      → (made : List ℕ) → IsMade x (Write how of) made → IsMadeOf how w text made
-  write_made how of w a text input made (v, ready, r) =
-      made_of x.input how w text made input (subst (λ u. IsWritten x.input how u made) (one_setting (values_written how) x.files of w v a ready) r)
+    -- what a command on values speaks of is refused
+    values_unready : (r : Refusal) → MustBeUnready x.files of r → Settled_values r
+    values_unready r must = (λ made m. all_unready x.files of loads given r must m.0 m.1, by)
+      where
+        by : (q : Refusal) → IsCause x (Values task of given) q → (q ≡ Memory) ⊎ (q ≡ r)
+        by q (inl (cause, before)) = all_unready_cause x.files of loads given r must q cause
+        by q (inr (w, ready, cause)) = absurd (all_unready x.files of loads given r must w ready)
+
+    -- the request beside which it judges is refused
+    values_no_request : (why : RequestFault) → MustBeNoRequest x.files of given why → Settled_values (BadRequest why)
+    values_no_request why must = (λ made m. no_request x.files of loads given why must m.0 m.1, by)
+      where
+        by : (q : Refusal) → IsCause x (Values task of given) q → (q ≡ Memory) ⊎ (q ≡ BadRequest why)
+        by q (inl (cause, before)) = no_request_cause x.files of loads given why must q cause
+        by q (inr (w, ready, cause)) = absurd (no_request x.files of loads given why must w ready)
+
+    -- the input is refused
+    values_no_input : (r : Refusal) (w : Setting) → AreAccepted x.files of given w → MustBeNoInput x.input task w r → Settled_values r
+    values_no_input r w a must =
+        let (unmade, only) = input_refuted x.input w (legal_all x.files of given w a) task r must in
+        ((λ made m. unmade made (values_made w a made m)), of_values w a (λ q. (q ≡ Memory) ⊎ (q ≡ r)) (inl refl) only)
 
   -- ## Commands that can be done
 
   pub not_refused : (c : Command) → CanBeDone x c → (r : Refusal) → IsCause x c r → r ≡ Memory
-  not_refused (Read how of order given) (w, octets, g, a, input, represents, conforms) r cause =
-      of_read how of order given w a (λ q. q ≡ Memory) refl
-      (λ q k. read_causes x.input how w (order_in order) octets input (λ p. p ≡ Memory) refl (decoded_cause w (legal_all (values_read how) x.files of given w a) (order_in order) octets g represents conforms) q k)
-      r cause
-  not_refused (Write how of) (w, text, g, a, input, reads, conforms) r cause =
-      of_write how of w a (λ q. q ≡ Memory) refl
-      (λ q k. write_causes x.input w text input (λ p. p ≡ Memory) refl (good_cause w (legal_of (values_written how) x.files of w a) text g reads conforms) q k)
-      r cause
+  not_refused (Values task of given) (w, a, can) r cause =
+      of_values task of given w a (λ q. q ≡ Memory) refl (made_cause x.input w (legal_all x.files of given w a) task can) r cause
   not_refused (Compile idl acf) (text, i, held, means) r cause = compiled_cause x.files idl acf loads text i held means r cause
   not_refused (Plan idl acf) (text, i, held, means) r cause = compiled_cause x.files idl acf loads text i held means r cause
   not_refused Help can r cause = cause
@@ -110,73 +226,21 @@ module _ (x : Seen) (loads : HasRisen x.files.faults → ⊥) where
 
   -- ## Commands that must be refused
 
-  -- what a command on values speaks of is refused
-  read_unready : (how : Reading) (of : Subject) (order : OrderWord) (given : Option (List ℕ)) (r : Refusal) → MustBeUnready (values_read how) x.files of r
-      → ((made : List ℕ) → IsMade x (Read how of order given) made → ⊥) × ((q : Refusal) → IsCause x (Read how of order given) q → (q ≡ Memory) ⊎ (q ≡ r))
-  read_unready how of order given r must = (λ made m. all_unready (values_read how) x.files of loads given r must m.0 m.1, by)
-    where
-      by : (q : Refusal) → IsCause x (Read how of order given) q → (q ≡ Memory) ⊎ (q ≡ r)
-      by q (inl (cause, before)) = all_unready_cause (values_read how) x.files of loads given r must q cause
-      by q (inr (w, ready, cause)) = absurd (all_unready (values_read how) x.files of loads given r must w ready)
-
-  -- the request beside which it judges is refused
-  read_no_request : (how : Reading) (of : Subject) (order : OrderWord) (given : Option (List ℕ)) (why : RequestFault) → MustBeNoRequest (values_read how) x.files of given why
-      → ((made : List ℕ) → IsMade x (Read how of order given) made → ⊥) × ((q : Refusal) → IsCause x (Read how of order given) q → (q ≡ Memory) ⊎ (q ≡ BadRequest why))
-  read_no_request how of order given why must = (λ made m. no_request (values_read how) x.files of loads given why must m.0 m.1, by)
-    where
-      by : (q : Refusal) → IsCause x (Read how of order given) q → (q ≡ Memory) ⊎ (q ≡ BadRequest why)
-      by q (inl (cause, before)) = no_request_cause (values_read how) x.files of loads given why must q cause
-      by q (inr (w, ready, cause)) = absurd (no_request (values_read how) x.files of loads given why must w ready)
-
-  write_unready : (how : Writing) (of : Subject) (r : Refusal) → MustBeUnready (values_written how) x.files of r
-      → ((made : List ℕ) → IsMade x (Write how of) made → ⊥) × ((q : Refusal) → IsCause x (Write how of) q → (q ≡ Memory) ⊎ (q ≡ r))
-  write_unready how of r must = (λ made m. unready (values_written how) x.files of loads r must m.0 m.1, by)
-    where
-      by : (q : Refusal) → IsCause x (Write how of) q → (q ≡ Memory) ⊎ (q ≡ r)
-      by q (inl (cause, before)) = unready_cause (values_written how) x.files of loads r must q cause
-      by q (inr (w, ready, cause)) = absurd (unready (values_written how) x.files of loads r must w ready)
-
   abbrev Settled : Command → Refusal → Type 0
   Settled c r = ((made : List ℕ) → IsMade x c made → ⊥) × ((q : Refusal) → IsCause x c q → (q ≡ Memory) ⊎ (q ≡ r))
 
   pub settled : (c : Command) (r : Refusal) → MustBeRefused x c r → Settled c r
-  settled (Read how of order given) (BadOctets place why) (w, octets, a, input, refused) = (
-    λ made m. refused_made w (legal_all (values_read how) x.files of given w a) (order_in order) octets place why refused made (read_made how of order given w a octets input made m),
-    of_read how of order given w a (λ q. (q ≡ Memory) ⊎ (q ≡ BadOctets place why)) (inl refl)
-        (λ q k. read_causes x.input how w (order_in order) octets input (λ p. (p ≡ Memory) ⊎ (p ≡ BadOctets place why)) (inl refl)
-        (refused_cause w (legal_all (values_read how) x.files of given w a) (order_in order) octets place why refused) q k),
-  )
-  settled (Read how of order given) (BadRequest why) must = read_no_request how of order given why must
-  settled (Read how of order given) Memory must = read_unready how of order given Memory must
-  settled (Read how of order given) (Absent other) must = read_unready how of order given (Absent other) must
-  settled (Read how of order given) (FileFailed other) must = read_unready how of order given (FileFailed other) must
-  settled (Read how of order given) (BadIdl file line column reason) must = read_unready how of order given (BadIdl file line column reason) must
-  settled (Read how of order given) NoOperation must = read_unready how of order given NoOperation must
-  settled (Read how of order given) NotBuilt must = read_unready how of order given NotBuilt must
-  settled (Read how of order given) ReadFault must = read_unready how of order given ReadFault must
-  settled (Read how of order given) (BadText line column reason) must = read_unready how of order given (BadText line column reason) must
-  settled (Read how of order given) (BadValue path reason) must = read_unready how of order given (BadValue path reason) must
-  settled (Write how of) (BadText line column why) (w, text, a, input, fault) = (
-    λ made m. fault_made w (legal_of (values_written how) x.files of w a) text line column why fault how made (write_made how of w a text input made m),
-    of_write how of w a (λ q. (q ≡ Memory) ⊎ (q ≡ BadText line column why)) (inl refl)
-        (λ q k. write_causes x.input w text input (λ p. (p ≡ Memory) ⊎ (p ≡ BadText line column why)) (inl refl)
-        (fault_cause w (legal_of (values_written how) x.files of w a) text line column why fault) q k),
-  )
-  settled (Write how of) (BadValue path why) (w, text, g, a, input, reads, misfit) = (
-    λ made m. misfit_made w (legal_of (values_written how) x.files of w a) text g path why reads misfit how made (write_made how of w a text input made m),
-    of_write how of w a (λ q. (q ≡ Memory) ⊎ (q ≡ BadValue path why)) (inl refl)
-        (λ q k. write_causes x.input w text input (λ p. (p ≡ Memory) ⊎ (p ≡ BadValue path why)) (inl refl)
-        (misfit_cause w (legal_of (values_written how) x.files of w a) text g path why reads misfit) q k),
-  )
-  settled (Write how of) Memory must = write_unready how of Memory must
-  settled (Write how of) (BadRequest why) must = write_unready how of (BadRequest why) must
-  settled (Write how of) (Absent other) must = write_unready how of (Absent other) must
-  settled (Write how of) (FileFailed other) must = write_unready how of (FileFailed other) must
-  settled (Write how of) (BadIdl file line column reason) must = write_unready how of (BadIdl file line column reason) must
-  settled (Write how of) NoOperation must = write_unready how of NoOperation must
-  settled (Write how of) NotBuilt must = write_unready how of NotBuilt must
-  settled (Write how of) ReadFault must = write_unready how of ReadFault must
-  settled (Write how of) (BadOctets place why) must = write_unready how of (BadOctets place why) must
+  settled (Values task of given) NoOperation must = values_unready task of given NoOperation must
+  settled (Values task of given) (BadIdl file line column reason) must = values_unready task of given (BadIdl file line column reason) must
+  settled (Values task of given) (BadRequest why) must = values_no_request task of given why must
+  settled (Values task of given) Memory (w, a, must) = values_no_input task of given Memory w a must
+  settled (Values task of given) (Absent other) (w, a, must) = values_no_input task of given (Absent other) w a must
+  settled (Values task of given) (FileFailed other) (w, a, must) = values_no_input task of given (FileFailed other) w a must
+  settled (Values task of given) ReadFault (w, a, must) = values_no_input task of given ReadFault w a must
+  settled (Values task of given) (BadOctets place why) (w, a, must) = values_no_input task of given (BadOctets place why) w a must
+  settled (Values task of given) (BadText line column why) (w, a, must) = values_no_input task of given (BadText line column why) w a must
+  settled (Values task of given) (BadValue path why) (w, a, must) = values_no_input task of given (BadValue path why) w a must
+  settled (Values task of given) (TooLong many) (w, a, must) = values_no_input task of given (TooLong many) w a must
   settled (Compile idl acf) r must = (λ made m. no_idl x.files idl acf loads r must m.interface m.compiled, no_idl_cause x.files idl acf loads r must)
   settled (Plan idl acf) r must = (λ made m. no_idl x.files idl acf loads r must m.interface m.compiled, no_idl_cause x.files idl acf loads r must)
   settled Help r must = absurd must

@@ -15,11 +15,10 @@ use Rattle.nd_types.specs.Meant.{Meant}
 use Rattle.nd_types.specs.Meant.{meant_by}
 use Rattle.refusals.specs.declared.refusal.IdlReason.{IdlReason}
 use Rattle.refusals.specs.declared.refusal.Refusal.{Refusal}
-use Rattle.refusals.specs.declared.refusal.Refusal.TheVariants.{Memory, Absent, FileFailed, BadIdl, NoOperation, NotBuilt, ReadFault, BadOctets, BadText, BadValue, BadRequest}
+use Rattle.refusals.specs.declared.refusal.Refusal.TheVariants.{Memory, Absent, FileFailed, BadIdl, NoOperation, ReadFault, BadOctets, BadText, BadValue, TooLong, BadRequest}
 use Rattle.dceidl.specs.Words.{Subject}
-use Rattle.dceidl.specs.declared.words.Values.{Values}
 use Rattle.idl_compiler.specs.Idl.{Means, IsIdlFault, IsDueAfter, IsDueFile}
-use Rattle.dceidl.specs.Ready.{IsNamed, is_among, IsReady, IsReadyCause}
+use Rattle.dceidl.specs.Ready.{IsNamed, IsReady, IsReadyCause}
 use Rattle.idl_compiler.specs.Compiled.{IsCompiled, IsIdlCause}
 use Rattle.dceidl.specs.Rows.{IsHeld, IsAccepted, MustBeNoIdl, MustBeUnready}
 use Rattle.idl_compiler.proofs.OneMeaning.{IsBad, means_one, never_both, one_bad, absent_or_means, absent_or_bad}
@@ -95,13 +94,6 @@ unknown_or_named i j op n o e none named =
     let gone : None ≡ Some n = sym none ∙ ap (λ (z : Meant). operation_named z.operations op) e ∙ named.found in
     absurd (cc)
 
-built_or_not : {B : Type 0} (values : Values) (i j : Interface) (op : List ℕ) (side : Side) (n m : ℕ) (o q : Operation) → meant_by i ≡ meant_by j → IsNamed i op n o → IsNamed j op m q
-    → is_among values i.types side o ≡ false → is_among values j.types side q ≡ true → B
-built_or_not values i j op side n m o q e x y unbuilt built =
-    let both : false ≡ true =
-    sym unbuilt ∙ ap (λ (z : Meant). is_among values z.types side o) e ∙ ap (is_among values j.types side) (same_operation i j op n m o q e x y) ∙ built in
-    absurd (cc)
-
 -- ## The files of a command
 
 module _ (f : FilesSeen) (idl : List ℕ) (acf : Option (List ℕ)) (loads : HasRisen f.faults → ⊥) where
@@ -113,7 +105,7 @@ module _ (f : FilesSeen) (idl : List ℕ) (acf : Option (List ℕ)) (loads : Has
   compiled_cause text i held means (BadIdl a b c d) (other, content, x) =
       fault_or_meaning f idl text acf held i (BadIdl a b c d) tt means (fault_here f idl text acf held (BadIdl a b c d) other content x)
   compiled_cause text i held means NoOperation cause = absurd cause
-  compiled_cause text i held means NotBuilt cause = absurd cause
+  compiled_cause text i held means (TooLong many) cause = absurd cause
   compiled_cause text i held means ReadFault cause = absurd cause
   compiled_cause text i held means (BadOctets place why) cause = absurd cause
   compiled_cause text i held means (BadText line column reason) cause = absurd cause
@@ -128,7 +120,7 @@ module _ (f : FilesSeen) (idl : List ℕ) (acf : Option (List ℕ)) (loads : Has
   no_idl (Absent other) must i compiled = absurd must
   no_idl (FileFailed other) must i compiled = absurd must
   no_idl NoOperation must i compiled = absurd must
-  no_idl NotBuilt must i compiled = absurd must
+  no_idl (TooLong many) must i compiled = absurd must
   no_idl ReadFault must i compiled = absurd must
   no_idl (BadOctets place why) must i compiled = absurd must
   no_idl (BadText line column reason) must i compiled = absurd must
@@ -143,7 +135,7 @@ module _ (f : FilesSeen) (idl : List ℕ) (acf : Option (List ℕ)) (loads : Has
   only_bad file line column why (text, held, fault) (Absent name) (rose, due, missing) = absent_fault f idl text acf held name (BadIdl file line column why) tt due missing fault
   only_bad file line column why must (FileFailed name) (rose, due) = absurd (loads rose)
   only_bad file line column why must NoOperation cause = absurd cause
-  only_bad file line column why must NotBuilt cause = absurd cause
+  only_bad file line column why must (TooLong many) cause = absurd cause
   only_bad file line column why must ReadFault cause = absurd cause
   only_bad file line column why must (BadOctets place because) cause = absurd cause
   only_bad file line column why must (BadText row at reason) cause = absurd cause
@@ -156,7 +148,7 @@ module _ (f : FilesSeen) (idl : List ℕ) (acf : Option (List ℕ)) (loads : Has
   no_idl_cause (Absent other) must q cause = absurd must
   no_idl_cause (FileFailed other) must q cause = absurd must
   no_idl_cause NoOperation must q cause = absurd must
-  no_idl_cause NotBuilt must q cause = absurd must
+  no_idl_cause (TooLong many) must q cause = absurd must
   no_idl_cause ReadFault must q cause = absurd must
   no_idl_cause (BadOctets place why) must q cause = absurd must
   no_idl_cause (BadText line column reason) must q cause = absurd must
@@ -165,9 +157,9 @@ module _ (f : FilesSeen) (idl : List ℕ) (acf : Option (List ℕ)) (loads : Has
 
 -- ## What a command on values speaks of
 
-module _ (values : Values) (f : FilesSeen) (of : Subject) where
+module _ (f : FilesSeen) (of : Subject) where
   -- what is accepted is ready in one way
-  pub one_setting : (w v : Setting) → IsAccepted values f of w → IsReady values f of v → v ≡ w
+  pub one_setting : (w v : Setting) → IsAccepted f of w → IsReady f of v → v ≡ w
   one_setting w v a r = r.setting_is ∙ same (ap (λ (z : Meant). z.types) meant) (same_operation r.interface a.interface of.op r.number a.number r.operation a.operation meant r.found.named a.named) ∙ sym a.setting_is
     where
       meant : meant_by r.interface ≡ meant_by a.interface
@@ -179,13 +171,10 @@ module _ (values : Values) (f : FilesSeen) (of : Subject) where
 
   module _ (loads : HasRisen f.faults → ⊥) where
     -- and it is not refused
-    pub accepted_cause : (w : Setting) → IsAccepted values f of w → (r : Refusal) → IsReadyCause values f of r → r ≡ Memory
+    pub accepted_cause : (w : Setting) → IsAccepted f of w → (r : Refusal) → IsReadyCause f of r → r ≡ Memory
     accepted_cause w a NoOperation (j, compiled, none) =
         unknown_or_named j a.interface of.op a.number a.operation
         (one_meaning f of.idl a.file of.acf a.held j a.interface (means_here f of.idl a.file of.acf a.held j compiled) a.means) none a.named
-    accepted_cause w a NotBuilt (j, m, q, compiled, named, unbuilt) =
-        built_or_not values j a.interface of.op of.side m a.number q a.operation
-        (one_meaning f of.idl a.file of.acf a.held j a.interface (means_here f of.idl a.file of.acf a.held j compiled) a.means) named a.named unbuilt a.built
     accepted_cause w a Memory cause = compiled_cause f of.idl of.acf loads a.file a.interface a.held a.means Memory cause
     accepted_cause w a (Absent other) cause = compiled_cause f of.idl of.acf loads a.file a.interface a.held a.means (Absent other) cause
     accepted_cause w a (FileFailed other) cause = compiled_cause f of.idl of.acf loads a.file a.interface a.held a.means (FileFailed other) cause
@@ -194,17 +183,14 @@ module _ (values : Values) (f : FilesSeen) (of : Subject) where
     accepted_cause w a (BadOctets place why) cause = compiled_cause f of.idl of.acf loads a.file a.interface a.held a.means (BadOctets place why) cause
     accepted_cause w a (BadText line column reason) cause = compiled_cause f of.idl of.acf loads a.file a.interface a.held a.means (BadText line column reason) cause
     accepted_cause w a (BadValue path reason) cause = compiled_cause f of.idl of.acf loads a.file a.interface a.held a.means (BadValue path reason) cause
+    accepted_cause w a (TooLong many) cause = compiled_cause f of.idl of.acf loads a.file a.interface a.held a.means (TooLong many) cause
     accepted_cause w a (BadRequest fault) cause = compiled_cause f of.idl of.acf loads a.file a.interface a.held a.means (BadRequest fault) cause
 
     -- what is refused is not ready
-    pub unready : (r : Refusal) → MustBeUnready values f of r → (w : Setting) → IsReady values f of w → ⊥
+    pub unready : (r : Refusal) → MustBeUnready f of r → (w : Setting) → IsReady f of w → ⊥
     unready NoOperation (text, i, held, means, none) w ready =
         unknown_or_named i ready.interface of.op ready.number ready.operation
         (one_meaning f of.idl text of.acf held i ready.interface means (means_here f of.idl text of.acf held ready.interface ready.found.compiled)) none ready.found.named
-    unready NotBuilt (text, i, n, o, held, means, named, unbuilt) w ready =
-        built_or_not values i ready.interface of.op of.side n ready.number o ready.operation
-        (one_meaning f of.idl text of.acf held i ready.interface means (means_here f of.idl text of.acf held ready.interface ready.found.compiled)) named ready.found.named unbuilt
-        ready.found.built
     unready Memory must w ready = no_idl f of.idl of.acf loads Memory must ready.interface ready.found.compiled
     unready (Absent other) must w ready = no_idl f of.idl of.acf loads (Absent other) must ready.interface ready.found.compiled
     unready (FileFailed other) must w ready = no_idl f of.idl of.acf loads (FileFailed other) must ready.interface ready.found.compiled
@@ -213,13 +199,12 @@ module _ (values : Values) (f : FilesSeen) (of : Subject) where
     unready (BadOctets place why) must w ready = no_idl f of.idl of.acf loads (BadOctets place why) must ready.interface ready.found.compiled
     unready (BadText line column reason) must w ready = no_idl f of.idl of.acf loads (BadText line column reason) must ready.interface ready.found.compiled
     unready (BadValue path reason) must w ready = no_idl f of.idl of.acf loads (BadValue path reason) must ready.interface ready.found.compiled
+    unready (TooLong many) must w ready = no_idl f of.idl of.acf loads (TooLong many) must ready.interface ready.found.compiled
     unready (BadRequest fault) must w ready = no_idl f of.idl of.acf loads (BadRequest fault) must ready.interface ready.found.compiled
 
     -- an interface without the operation is refused as that alone
-    only_unknown : MustBeUnready values f of NoOperation → (r : Refusal) → IsReadyCause values f of r → (r ≡ Memory) ⊎ (r ≡ NoOperation)
+    only_unknown : MustBeUnready f of NoOperation → (r : Refusal) → IsReadyCause f of r → (r ≡ Memory) ⊎ (r ≡ NoOperation)
     only_unknown must NoOperation cause = inr refl
-    only_unknown (text, i, held, means, none) NotBuilt (j, n, o, compiled, named, unbuilt) =
-        unknown_or_named i j of.op n o (one_meaning f of.idl text of.acf held i j means (means_here f of.idl text of.acf held j compiled)) none named
     only_unknown (text, i, held, means, none) Memory cause = inl (compiled_cause f of.idl of.acf loads text i held means Memory cause)
     only_unknown (text, i, held, means, none) (Absent other) cause = inl (compiled_cause f of.idl of.acf loads text i held means (Absent other) cause)
     only_unknown (text, i, held, means, none) (FileFailed other) cause = inl (compiled_cause f of.idl of.acf loads text i held means (FileFailed other) cause)
@@ -228,26 +213,11 @@ module _ (values : Values) (f : FilesSeen) (of : Subject) where
     only_unknown (text, i, held, means, none) (BadOctets place why) cause = inl (compiled_cause f of.idl of.acf loads text i held means (BadOctets place why) cause)
     only_unknown (text, i, held, means, none) (BadText line column reason) cause = inl (compiled_cause f of.idl of.acf loads text i held means (BadText line column reason) cause)
     only_unknown (text, i, held, means, none) (BadValue path reason) cause = inl (compiled_cause f of.idl of.acf loads text i held means (BadValue path reason) cause)
+    only_unknown (text, i, held, means, none) (TooLong many) cause = inl (compiled_cause f of.idl of.acf loads text i held means (TooLong many) cause)
     only_unknown (text, i, held, means, none) (BadRequest fault) cause = inl (compiled_cause f of.idl of.acf loads text i held means (BadRequest fault) cause)
 
-    -- an operation with a root that is not a primitive is refused as that alone
-    only_unbuilt : MustBeUnready values f of NotBuilt → (r : Refusal) → IsReadyCause values f of r → (r ≡ Memory) ⊎ (r ≡ NotBuilt)
-    only_unbuilt must NotBuilt cause = inr refl
-    only_unbuilt (text, i, n, o, held, means, named, unbuilt) NoOperation (j, compiled, none) =
-        unknown_or_named j i of.op n o (one_meaning f of.idl text of.acf held j i (means_here f of.idl text of.acf held j compiled) means) none named
-    only_unbuilt (text, i, n, o, held, means, named, unbuilt) Memory cause = inl (compiled_cause f of.idl of.acf loads text i held means Memory cause)
-    only_unbuilt (text, i, n, o, held, means, named, unbuilt) (Absent other) cause = inl (compiled_cause f of.idl of.acf loads text i held means (Absent other) cause)
-    only_unbuilt (text, i, n, o, held, means, named, unbuilt) (FileFailed other) cause = inl (compiled_cause f of.idl of.acf loads text i held means (FileFailed other) cause)
-    only_unbuilt (text, i, n, o, held, means, named, unbuilt) (BadIdl file line column reason) cause = inl (compiled_cause f of.idl of.acf loads text i held means (BadIdl file line column reason) cause)
-    only_unbuilt (text, i, n, o, held, means, named, unbuilt) ReadFault cause = inl (compiled_cause f of.idl of.acf loads text i held means ReadFault cause)
-    only_unbuilt (text, i, n, o, held, means, named, unbuilt) (BadOctets place why) cause = inl (compiled_cause f of.idl of.acf loads text i held means (BadOctets place why) cause)
-    only_unbuilt (text, i, n, o, held, means, named, unbuilt) (BadText line column reason) cause = inl (compiled_cause f of.idl of.acf loads text i held means (BadText line column reason) cause)
-    only_unbuilt (text, i, n, o, held, means, named, unbuilt) (BadValue path reason) cause = inl (compiled_cause f of.idl of.acf loads text i held means (BadValue path reason) cause)
-    only_unbuilt (text, i, n, o, held, means, named, unbuilt) (BadRequest fault) cause = inl (compiled_cause f of.idl of.acf loads text i held means (BadRequest fault) cause)
-
-    only_no_idl : (r : Refusal) → MustBeNoIdl f of.idl of.acf r → (q : Refusal) → IsReadyCause values f of q → (q ≡ Memory) ⊎ (q ≡ r)
+    only_no_idl : (r : Refusal) → MustBeNoIdl f of.idl of.acf r → (q : Refusal) → IsReadyCause f of q → (q ≡ Memory) ⊎ (q ≡ r)
     only_no_idl r must NoOperation (i, compiled, none) = absurd (no_idl f of.idl of.acf loads r must i compiled)
-    only_no_idl r must NotBuilt (i, n, o, compiled, named, unbuilt) = absurd (no_idl f of.idl of.acf loads r must i compiled)
     only_no_idl r must Memory cause = no_idl_cause f of.idl of.acf loads r must Memory cause
     only_no_idl r must (Absent other) cause = no_idl_cause f of.idl of.acf loads r must (Absent other) cause
     only_no_idl r must (FileFailed other) cause = no_idl_cause f of.idl of.acf loads r must (FileFailed other) cause
@@ -256,12 +226,12 @@ module _ (values : Values) (f : FilesSeen) (of : Subject) where
     only_no_idl r must (BadOctets place why) cause = no_idl_cause f of.idl of.acf loads r must (BadOctets place why) cause
     only_no_idl r must (BadText line column reason) cause = no_idl_cause f of.idl of.acf loads r must (BadText line column reason) cause
     only_no_idl r must (BadValue path reason) cause = no_idl_cause f of.idl of.acf loads r must (BadValue path reason) cause
+    only_no_idl r must (TooLong many) cause = no_idl_cause f of.idl of.acf loads r must (TooLong many) cause
     only_no_idl r must (BadRequest fault) cause = no_idl_cause f of.idl of.acf loads r must (BadRequest fault) cause
 
     -- it is refused in one way
-    pub unready_cause : (r : Refusal) → MustBeUnready values f of r → (q : Refusal) → IsReadyCause values f of q → (q ≡ Memory) ⊎ (q ≡ r)
+    pub unready_cause : (r : Refusal) → MustBeUnready f of r → (q : Refusal) → IsReadyCause f of q → (q ≡ Memory) ⊎ (q ≡ r)
     unready_cause NoOperation must q cause = only_unknown must q cause
-    unready_cause NotBuilt must q cause = only_unbuilt must q cause
     unready_cause Memory must q cause = only_no_idl Memory must q cause
     unready_cause (Absent other) must q cause = only_no_idl (Absent other) must q cause
     unready_cause (FileFailed other) must q cause = only_no_idl (FileFailed other) must q cause
@@ -270,4 +240,5 @@ module _ (values : Values) (f : FilesSeen) (of : Subject) where
     unready_cause (BadOctets place why) must q cause = only_no_idl (BadOctets place why) must q cause
     unready_cause (BadText line column reason) must q cause = only_no_idl (BadText line column reason) must q cause
     unready_cause (BadValue path reason) must q cause = only_no_idl (BadValue path reason) must q cause
+    unready_cause (TooLong many) must q cause = only_no_idl (TooLong many) must q cause
     unready_cause (BadRequest fault) must q cause = only_no_idl (BadRequest fault) must q cause

@@ -2,7 +2,6 @@ pub mod Causes
 pub mod Chunks
 pub mod Encodings
 pub mod Requests
-pub mod Roots
 pub mod Rows
 pub mod Sides
 pub mod OneInput
@@ -12,3 +11,4 @@ pub mod RoundTrip
 pub mod HeldFiles
 pub mod HeldRequests
 pub mod Exact
+pub mod NineWords

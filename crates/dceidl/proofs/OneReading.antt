@@ -11,7 +11,7 @@ use Rattle.nd_grammar.specs.Represents.{Represents}
 use Rattle.nd_grammar.proofs.ReaderLaws.{never_both, one_beginning}
 use Rattle.nd_grammar.proofs.OneRefusal.{one_bad}
 use Rattle.refusals.specs.declared.refusal.Refusal.{Refusal}
-use Rattle.refusals.specs.declared.refusal.Refusal.TheVariants.{Memory, Absent, FileFailed, BadIdl, NoOperation, NotBuilt, ReadFault, BadOctets, BadText, BadValue, BadRequest}
+use Rattle.refusals.specs.declared.refusal.Refusal.TheVariants.{Memory, Absent, FileFailed, BadIdl, NoOperation, ReadFault, BadOctets, BadText, BadValue, TooLong, BadRequest}
 use Rattle.refusals.specs.declared.refusal.OctetsFault.{OctetsFault}
 use Rattle.refusals.specs.declared.refusal.OctetsFault.TheVariants as fault
 use Rattle.nd_base.specs.Over.{SourceSeen, HasRisen}
@@ -92,7 +92,7 @@ module _ (w : Setting) (side : IsLegalSide w) (order : Order) (octets : List ℕ
   decoded_cause g represents conforms (FileFailed other) cause = absurd cause
   decoded_cause g represents conforms (BadIdl file line column reason) cause = absurd cause
   decoded_cause g represents conforms NoOperation cause = absurd cause
-  decoded_cause g represents conforms NotBuilt cause = absurd cause
+  decoded_cause g represents conforms (TooLong many) cause = absurd cause
   decoded_cause g represents conforms ReadFault cause = absurd cause
   decoded_cause g represents conforms (BadText line column reason) cause = absurd cause
   decoded_cause g represents conforms (BadValue path reason) cause = absurd cause
@@ -124,7 +124,7 @@ module _ (w : Setting) (side : IsLegalSide w) (order : Order) (octets : List ℕ
   refused_cause place why refused (FileFailed other) cause = absurd cause
   refused_cause place why refused (BadIdl file line column reason) cause = absurd cause
   refused_cause place why refused NoOperation cause = absurd cause
-  refused_cause place why refused NotBuilt cause = absurd cause
+  refused_cause place why refused (TooLong many) cause = absurd cause
   refused_cause place why refused ReadFault cause = absurd cause
   refused_cause place why refused (BadText line column reason) cause = absurd cause
   refused_cause place why refused (BadValue path reason) cause = absurd cause

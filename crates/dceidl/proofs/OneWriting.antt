@@ -1,18 +1,24 @@
--- Something is made of a text exactly if it reads as a graph that conforms.
-use Rattle.std.proofs.Common.{ℕ, List, subst}
+-- Something is made of a text exactly if it reads as a graph that conforms, and it is encoded exactly if no more octets are chosen than a stream may have.
+use Rattle.std.proofs.Common.{◌≡◌, ℕ, List, length, refl, sym, ◌∙◌, ap, subst, inl, inr, ◌⊎◌, arith}
+use Rattle.nd_base.specs.declared.octets.Order.{Order}
+use Rattle.nd_base.specs.declared.octets.Order.TheVariants.{Little}
 use Rattle.nd_value.specs.declared.misfit.MisfitReason.{MisfitReason}
 use Rattle.nd_value.specs.declared.value.Graph.{Graph}
 use Rattle.nd_value.specs.Setting.{Setting}
 use Rattle.nd_value.specs.Conforms.{Conforms}
 use Rattle.nd_value.proofs.Misfits.{misfit_is_no_fit}
 use Rattle.nd_grammar.specs.LegalSide.{IsLegalSide}
+use Rattle.nd_grammar.specs.Chosen.{Chosen}
+use Rattle.nd_grammar.proofs.ChosenRepresents.{chosen_exists, chosen_alone}
+use Rattle.ndr_writing.specs.Written.{IsWritten, IsLong}
 use Rattle.text_grammar.specs.declared.fault.TextReason.{TextReason}
 use Rattle.text_grammar.specs.Reads.{ReadsAs, IsTextFault}
 use Rattle.text_reader.proofs.Stated.{never_both, one_graph}
-use Rattle.dceidl.specs.declared.words.Writing.{Writing}
-use Rattle.dceidl.specs.declared.words.Writing.TheVariants.{Encode, Migrate}
-use Rattle.text_fitting.specs.Fitted.{IsMisfitAt}
-use Rattle.dceidl.specs.Input.{IsMadeOf}
+use Rattle.text_fitting.specs.Fitted.{IsTextCause, IsMisfitAt}
+use Rattle.text_fitting.proofs.OneText.{good_cause, fault_cause, misfit_cause}
+use Rattle.refusals.specs.declared.refusal.Refusal.{Refusal}
+use Rattle.refusals.specs.declared.refusal.Refusal.TheVariants.{Memory, Absent, FileFailed, BadIdl, NoOperation, ReadFault, BadOctets, BadText, BadValue, TooLong, BadRequest}
+use Rattle.dceidl.specs.Encode.{IsEncoding, IsLongEncoding, IsEncodingCause, IsMigration}
 
 -- a text that reads as a graph that conforms
 pub record IsGood (w : Setting) (text : List ℕ) : Type 0 where
@@ -20,21 +26,88 @@ pub record IsGood (w : Setting) (text : List ℕ) : Type 0 where
   pub reads : ReadsAs w text graph
   pub conforms : Conforms w graph
 
--- something is made of such texts alone
-made_good : (w : Setting) (text : List ℕ) (how : Writing) (made : List ℕ) → IsMadeOf how w text made → IsGood w text
-made_good w text (Encode order chunk) made e = record { graph = e.graph; reads = e.reads; conforms = e.conforms }
-made_good w text Migrate made e = record { graph = e.graph; reads = e.reads; conforms = e.conforms }
+-- what was encoded, what is too long to be encoded, and what was migrated is such a text
+pub encoded_good : (w : Setting) (order : Order) (chunk : ℕ) (text made : List ℕ) → IsEncoding w order chunk text made → IsGood w text
+encoded_good w order chunk text made e = record { graph = e.graph; reads = e.reads; conforms = e.conforms }
+
+pub long_good : (w : Setting) (chunk : ℕ) (text : List ℕ) (many : ℕ) → IsLongEncoding w chunk text many → IsGood w text
+long_good w chunk text many e = record { graph = e.graph; reads = e.reads; conforms = e.conforms }
+
+pub migrated_good : (w : Setting) (text made : List ℕ) → IsMigration w text made → IsGood w text
+migrated_good w text made e = record { graph = e.graph; reads = e.reads; conforms = e.conforms }
 
 module _ (w : Setting) (side : IsLegalSide w) (text : List ℕ) where
-  -- of a text with a fault nothing is made
-  pub fault_made : (line column : ℕ) (why : TextReason) → IsTextFault w text line column why → (how : Writing) (made : List ℕ) → IsMadeOf how w text made → ⊥
-  fault_made line column why fault how made m =
-      let good = made_good w text how made m in
-      never_both w text good.graph line column why good.reads fault
+  -- a text with a fault is no such text
+  pub fault_good : (line column : ℕ) (why : TextReason) → IsTextFault w text line column why → IsGood w text → ⊥
+  fault_good line column why fault good = never_both w text good.graph line column why good.reads fault
 
-  -- of a text of values that do not conform nothing is made
-  pub misfit_made : (g : Graph) (path : List ℕ) (why : MisfitReason) → ReadsAs w text g → IsMisfitAt w g path why → (how : Writing) (made : List ℕ)
-      → IsMadeOf how w text made → ⊥
-  misfit_made g path why reads m how made e =
-      let good = made_good w text how made e in
+  -- nor is a text of values that do not conform
+  pub misfit_good : (g : Graph) (path : List ℕ) (why : MisfitReason) → ReadsAs w text g → IsMisfitAt w g path why → IsGood w text → ⊥
+  misfit_good g path why reads m good =
       misfit_is_no_fit w g _ m.first (subst (Conforms w) (one_graph w text good.graph g side good.reads reads) good.conforms)
+
+  module _ (chunk : ℕ) where
+    -- octets that are too many for one order are too many for the other
+    long_or_written : (g : Graph) (order : Order) (octets : List ℕ) (many : ℕ) → IsWritten w order chunk g octets → IsLong w chunk g many → ⊥
+    long_or_written g order octets many is long =
+        let same : length octets ≡ many = long.chosen order octets is.chosen in
+        let within = is.within in
+        let more = long.long in
+        omega (arith, same, within, more)
+
+    one_length : (g : Graph) → Conforms w g → (many other : ℕ) → IsLong w chunk g many → IsLong w chunk g other → other ≡ many
+    one_length g conforms many other x y =
+        let (octets, chosen) = chosen_exists w Little chunk g conforms in
+        sym (y.chosen Little octets chosen) ∙ x.chosen Little octets chosen
+
+    -- a text whose octets are within the limit is not refused
+    pub encodes_cause : (g : Graph) (order : Order) (octets : List ℕ) → ReadsAs w text g → Conforms w g → IsWritten w order chunk g octets → (r : Refusal)
+        → IsEncodingCause w chunk text r → r ≡ Memory
+    encodes_cause g order octets reads conforms is (TooLong many) e =
+        absurd (long_or_written g order octets many is (subst (λ h. IsLong w chunk h many) (one_graph w text e.graph g side e.reads reads) e.long))
+    encodes_cause g order octets reads conforms is Memory cause = refl
+    encodes_cause g order octets reads conforms is (Absent other) cause = absurd cause
+    encodes_cause g order octets reads conforms is (FileFailed other) cause = absurd cause
+    encodes_cause g order octets reads conforms is (BadIdl file line column reason) cause = absurd cause
+    encodes_cause g order octets reads conforms is NoOperation cause = absurd cause
+    encodes_cause g order octets reads conforms is ReadFault cause = absurd cause
+    encodes_cause g order octets reads conforms is (BadOctets place why) cause = absurd cause
+    encodes_cause g order octets reads conforms is (BadText line column why) cause = good_cause w side text g reads conforms (BadText line column why) cause
+    encodes_cause g order octets reads conforms is (BadValue path why) cause = good_cause w side text g reads conforms (BadValue path why) cause
+    encodes_cause g order octets reads conforms is (BadRequest fault) cause = absurd cause
+
+    -- what is refused as a text is refused so if it is to be encoded
+    module _ (bad : IsGood w text → ⊥) (r : Refusal) (by : (q : Refusal) → IsTextCause w text q → (q ≡ Memory) ⊎ (q ≡ r)) where
+      pub text_cause : (q : Refusal) → IsEncodingCause w chunk text q → (q ≡ Memory) ⊎ (q ≡ r)
+      text_cause (TooLong many) e = absurd (bad (long_good w chunk text many e))
+      text_cause Memory cause = inl refl
+      text_cause (Absent other) cause = absurd cause
+      text_cause (FileFailed other) cause = absurd cause
+      text_cause (BadIdl file line column reason) cause = absurd cause
+      text_cause NoOperation cause = absurd cause
+      text_cause ReadFault cause = absurd cause
+      text_cause (BadOctets place why) cause = absurd cause
+      text_cause (BadText line column why) cause = by (BadText line column why) cause
+      text_cause (BadValue path why) cause = by (BadValue path why) cause
+      text_cause (BadRequest fault) cause = absurd cause
+
+    module _ (g : Graph) (reads : ReadsAs w text g) (conforms : Conforms w g) (many : ℕ) (long : IsLong w chunk g many) where
+      -- a text whose octets are too many is refused as that alone
+      pub long_cause : (q : Refusal) → IsEncodingCause w chunk text q → (q ≡ Memory) ⊎ (q ≡ TooLong many)
+      long_cause (TooLong other) e =
+          inr (ap TooLong (one_length g conforms many other long (subst (λ h. IsLong w chunk h other) (one_graph w text e.graph g side e.reads reads) e.long)))
+      long_cause Memory cause = inl refl
+      long_cause (Absent other) cause = absurd cause
+      long_cause (FileFailed other) cause = absurd cause
+      long_cause (BadIdl file line column reason) cause = absurd cause
+      long_cause NoOperation cause = absurd cause
+      long_cause ReadFault cause = absurd cause
+      long_cause (BadOctets place why) cause = absurd cause
+      long_cause (BadText line column why) cause = inl (good_cause w side text g reads conforms (BadText line column why) cause)
+      long_cause (BadValue path why) cause = inl (good_cause w side text g reads conforms (BadValue path why) cause)
+      long_cause (BadRequest fault) cause = absurd cause
+
+      -- and is not encoded
+      pub long_made : (order : Order) (made : List ℕ) → IsEncoding w order chunk text made → ⊥
+      long_made order made e =
+          long_or_written g order made many (subst (λ h. IsWritten w order chunk h made) (one_graph w text e.graph g side e.reads reads) e.written) long

@@ -4,7 +4,6 @@ use Rattle.std.proofs.Common.{◌≡◌, ◌∙◌, ℕ, ◌≤◌, List, [], �
 use Rattle.std.proofs.lemmas.List.{append_cancel_left}
 use Rattle.nd_base.proofs.Rising.{rose_later}
 use Rattle.nd_base.specs.Counts.{Rose}
-use Rattle.nd_base.specs.declared.octets.Order.{Order}
 use Rattle.nd_base.specs.Outside.{IsContent, IsMissing}
 use Rattle.nd_base.specs.Over.{FilesSeen, SourceSeen, HasRisen}
 use Rattle.nd_types.specs.declared.interface.Interface.{Interface}
@@ -12,18 +11,16 @@ use Rattle.nd_types.specs.declared.types.Operation.{Operation}
 use Rattle.nd_value.specs.declared.value.Graph.{Graph}
 use Rattle.nd_value.specs.Setting.{Setting}
 use Rattle.refusals.specs.declared.refusal.Refusal.{Refusal}
-use Rattle.refusals.specs.declared.refusal.Refusal.TheVariants.{Memory, Absent, FileFailed, BadIdl, NoOperation, NotBuilt, ReadFault, BadOctets, BadText, BadValue, BadRequest}
+use Rattle.refusals.specs.declared.refusal.Refusal.TheVariants.{Memory, Absent, FileFailed, BadIdl, NoOperation, ReadFault, BadOctets, BadText, BadValue, TooLong, BadRequest}
 use Rattle.text_fitting.specs.Request.{beside, HoldsRequest, HoldsNoRequest}
 use Rattle.idl_compiler.specs.Asked.{AsksFiles, AreAsked, all_due}
-use Rattle.dceidl.specs.declared.words.OrderWord.{OrderWord}
-use Rattle.dceidl.specs.declared.words.Reading.{Reading}
-use Rattle.dceidl.specs.declared.words.Values.{Values}
+use Rattle.dceidl.specs.declared.words.Task.{Task}
 use Rattle.dceidl.specs.Asked.{AsksRequest}
 use Rattle.dceidl.specs.Causes.{IsMade, IsCause}
-use Rattle.dceidl.specs.Input.{IsRead, IsReadCause, IsReadBeside, IsBesideCause}
+use Rattle.dceidl.specs.Input.{IsMadeOf, IsTaskCause, IsMadeBeside, IsBesideCause}
 use Rattle.dceidl.specs.Ready.{IsFound, IsReady, HasAsked, up_to}
 use Rattle.dceidl.specs.Seen.{seen_over}
-use Rattle.dceidl.specs.Words.{Subject, Read, order_in, values_read}
+use Rattle.dceidl.specs.Words.{Subject, Values}
 
 -- files over one part of a run and then over the next
 abbrev pub both_parts : FilesSeen → FilesSeen → FilesSeen
@@ -44,13 +41,13 @@ pub record Follows (f g : FilesSeen) : Type 0 where
   pub later : f.faults.before ≤ f.faults.now
   pub absences_later : f.absences.before ≤ f.absences.now
 
--- a request was loaded, and then the octets of the input were read beside it
-module _ (f : FilesSeen) (s : SourceSeen) (name : List ℕ) (how : Reading) (w : Setting) (order : Order) (q : Graph) (holds : HoldsRequest f name w q) where
-  pub after_made : (result : Result (List ℕ) Refusal) → IfOk result (IsRead s how (beside w q) order) → IfOk result (IsReadBeside f s name how w order)
+-- a request was loaded, and then something was made of the input beside it
+module _ (f : FilesSeen) (s : SourceSeen) (name : List ℕ) (task : Task) (w : Setting) (q : Graph) (holds : HoldsRequest f name w q) where
+  pub after_made : (result : Result (List ℕ) Refusal) → IfOk result (IsMadeOf s task (beside w q)) → IfOk result (IsMadeBeside f s name task w)
   after_made (Ok made) read = (q, holds, read)
   after_made (Err e) read = tt
 
-  pub after_refused : (result : Result (List ℕ) Refusal) → IfErr result (IsReadCause s how (beside w q) order) → IfErr result (IsBesideCause f s name how w order)
+  pub after_refused : (result : Result (List ℕ) Refusal) → IfErr result (IsTaskCause s task (beside w q)) → IfErr result (IsBesideCause f s name task w)
   after_refused (Ok made) cause = tt
   after_refused (Err e) cause = inr (q, holds, cause)
 
@@ -72,7 +69,7 @@ module _ (f g : FilesSeen) (follows : Follows f g) (name : List ℕ) where
   refused_over w Memory cause = tt
   refused_over w (BadIdl file line column why) cause = absurd cause
   refused_over w NoOperation cause = absurd cause
-  refused_over w NotBuilt cause = absurd cause
+  refused_over w (TooLong many) cause = absurd cause
   refused_over w ReadFault cause = absurd cause
   refused_over w (BadOctets place why) cause = absurd cause
   refused_over w (BadText line column why) cause = absurd cause
@@ -80,9 +77,9 @@ module _ (f g : FilesSeen) (follows : Follows f g) (name : List ℕ) where
 
   module _ (of : Subject) (asked : g.asked_now ≡ g.asked ++ name ∷ []) where
     -- the request is asked for when it is due
-    pub asks_request : (values : Values) (i : Interface) (n : ℕ) (o : Operation) → IsFound values f of i n o
+    pub asks_request : (i : Interface) (n : ℕ) (o : Operation) → IsFound f of i n o
         → AsksFiles f (Some (record { idl = of.idl; acf = of.acf })) → AsksRequest (both_parts f g) of name
-    asks_request values i n o found (names, these, each) =
+    asks_request i n o found (names, these, each) =
         let all = all_due found.compiled.means.state.sources of.acf in
         let same : names ≡ all = append_cancel_left f.asked names all (sym these ∙ found.compiled.all_asked) in
         record {
@@ -101,8 +98,8 @@ module _ (f g : FilesSeen) (follows : Follows f g) (name : List ℕ) where
         }
 
     -- what is ready over the first part has the request asked for over both
-    pub has_asked : (values : Values) (w : Setting) → IsReady values f of w → HasAsked values (both_parts f g) of name w
-    has_asked values w ready = record {
+    pub has_asked : (w : Setting) → IsReady f of w → HasAsked (both_parts f g) of name w
+    has_asked w ready = record {
       earlier = f.asked_now;
       ready = record {
         interface = ready.interface;
@@ -116,33 +113,32 @@ module _ (f g : FilesSeen) (follows : Follows f g) (name : List ℕ) where
             all_asked = ready.found.compiled.all_asked;
           };
           named = ready.found.named;
-          built = ready.found.built;
         };
         setting_is = ready.setting_is;
       };
       asked = asked ∙ ap (λ u. u ++ name ∷ []) follows.asked;
     }
 
-    module _ (s : SourceSeen) (how : Reading) (order : OrderWord) (w : Setting) (ready : IsReady (values_read how) f of w) where
-      pub beside_made : (result : Result (List ℕ) Refusal) → IfOk result (IsReadBeside g s name how w (order_in order))
-          → IfOk result (IsMade (seen_over (both_parts f g) s) (Read how of order (Some name)))
+    module _ (s : SourceSeen) (task : Task) (w : Setting) (ready : IsReady f of w) where
+      pub beside_made : (result : Result (List ℕ) Refusal) → IfOk result (IsMadeBeside g s name task w)
+          → IfOk result (IsMade (seen_over (both_parts f g) s) (Values task of (Some name)))
       beside_made (Ok made) (q, holds, read) = (
         beside w q,
-        record { own = w; has_asked = has_asked (values_read how) w ready; request = q; holds = held_over w q holds; setting_is = refl },
+        record { own = w; has_asked = has_asked w ready; request = q; holds = held_over w q holds; setting_is = refl },
         read,
       )
       beside_made (Err e) is = tt
 
-      beside_cause : (e : Refusal) → IsBesideCause g s name how w (order_in order) e → IsCause (seen_over (both_parts f g) s) (Read how of order (Some name)) e
+      beside_cause : (e : Refusal) → IsBesideCause g s name task w e → IsCause (seen_over (both_parts f g) s) (Values task of (Some name)) e
       beside_cause e (inl (cause, untouched)) =
-          inl (inr (record { own = w; has_asked = has_asked (values_read how) w ready; cause = refused_over w e cause }), untouched)
+          inl (inr (record { own = w; has_asked = has_asked w ready; cause = refused_over w e cause }), untouched)
       beside_cause e (inr (q, holds, cause)) = inr (
         beside w q,
-        record { own = w; has_asked = has_asked (values_read how) w ready; request = q; holds = held_over w q holds; setting_is = refl },
+        record { own = w; has_asked = has_asked w ready; request = q; holds = held_over w q holds; setting_is = refl },
         cause,
       )
 
-      pub beside_refused : (result : Result (List ℕ) Refusal) → IfErr result (IsBesideCause g s name how w (order_in order))
-          → IfErr result (IsCause (seen_over (both_parts f g) s) (Read how of order (Some name)))
+      pub beside_refused : (result : Result (List ℕ) Refusal) → IfErr result (IsBesideCause g s name task w)
+          → IfErr result (IsCause (seen_over (both_parts f g) s) (Values task of (Some name)))
       beside_refused (Ok made) cause = tt
       beside_refused (Err e) cause = beside_cause e cause

@@ -6,19 +6,18 @@ use Rattle.nd_base.specs.Over.{FilesSeen, SinkSeen, HasRisen, Got}
 use Rattle.dceidl.specs.declared.outcome.Outcome.{Outcome}
 use Rattle.dceidl.specs.declared.outcome.Outcome.TheVariants.{Done, Refused, Wanting}
 use Rattle.refusals.specs.declared.refusal.Refusal.{Refusal}
-use Rattle.refusals.specs.declared.refusal.Refusal.TheVariants.{Memory, Absent, FileFailed, BadIdl, NoOperation, NotBuilt, ReadFault, BadOctets, BadText, BadValue, BadRequest}
+use Rattle.refusals.specs.declared.refusal.Refusal.TheVariants.{Memory, Absent, FileFailed, BadIdl, NoOperation, ReadFault, BadOctets, BadText, BadValue, TooLong, BadRequest}
 use Rattle.dceidl.specs.Causes.{IsMade, IsCause, statuses_of}
 use Rattle.refusals.specs.Lines.{status_of, line_of}
 use Rattle.idl_compiler.specs.Compiled.{IsIdlCause}
 use Rattle.dceidl.specs.Asked.{IsRequestDue}
 use Rattle.dceidl.specs.Ready.{HasAsked}
-use Rattle.dceidl.specs.declared.words.Values.{Values}
-use Rattle.dceidl.specs.declared.words.Reading.TheVariants.{Decode}
+use Rattle.dceidl.specs.declared.words.Task.TheVariants.{Decode, Encode, Migrate}
 use Rattle.dceidl.specs.Rows.{IsOneOf, IsDone, IsRefusedWith, ReadsInput, IsDueOf, IsDueRequest, IsDueAndMissing, IsDueAndReported, HasNotFailed}
 use Rattle.dceidl.specs.Run.{HasRun, IsOutcome, IsCommandOutcome, IsDelivered}
 use Rattle.dceidl.specs.Seen.{Seen}
 use Rattle.nd_value.specs.Setting.{Setting}
-use Rattle.dceidl.specs.Words.{Command, Subject, Read, Write, Compile, Plan, Help, Version, command, idl_of, op_of, asks_files, asks_input, values_read}
+use Rattle.dceidl.specs.Words.{Command, Subject, Values, Compile, Plan, Help, Version, command, idl_of, op_of, asks_files, asks_input}
 
 -- a refusal has none of the statuses 0, 2 and 4
 pub not_zero : (r : Refusal) → status_of r ≡ 0 → ⊥
@@ -27,7 +26,7 @@ not_zero (Absent file) e = cc
 not_zero (FileFailed file) e = cc
 not_zero (BadIdl file line column reason) e = cc
 not_zero NoOperation e = cc
-not_zero NotBuilt e = cc
+not_zero (TooLong many) e = cc
 not_zero ReadFault e = cc
 not_zero (BadOctets place why) e = cc
 not_zero (BadText line column reason) e = cc
@@ -97,11 +96,11 @@ of_values status (Absent file) e = inr (inr (inr (inr (inr (inr (inl e))))))
 of_values status (FileFailed file) e = inr (inr (inr (inr (inr (inr (inr (inl e)))))))
 of_values status (BadIdl file line column reason) e = inr (inr (inr (inr (inr (inl e)))))
 of_values status NoOperation e = inr (inr (inr (inr (inr (inl e)))))
-of_values status NotBuilt e = inr (inr (inr (inr (inr (inl e)))))
 of_values status ReadFault e = inr (inr (inl e))
 of_values status (BadOctets place why) e = inr (inl e)
 of_values status (BadText line column reason) e = inr (inl e)
 of_values status (BadValue path reason) e = inr (inl e)
+of_values status (TooLong many) e = inr (inl e)
 of_values status (BadRequest fault) e = inr (inl e)
 
 of_files : (f : FilesSeen) (idl : List ℕ) (acf : Option (List ℕ)) (status : ℕ) (r : Refusal) → IsIdlCause f idl acf r → status ≡ status_of r → OfFiles status
@@ -110,7 +109,7 @@ of_files f idl acf status (Absent file) cause e = inr (inr (inr (inr (inl e))))
 of_files f idl acf status (FileFailed file) cause e = inr (inr (inr (inr (inr (inl e)))))
 of_files f idl acf status (BadIdl file line column reason) cause e = inr (inr (inr (inl e)))
 of_files f idl acf status NoOperation cause e = absurd cause
-of_files f idl acf status NotBuilt cause e = absurd cause
+of_files f idl acf status (TooLong many) cause e = absurd cause
 of_files f idl acf status ReadFault cause e = absurd cause
 of_files f idl acf status (BadOctets place why) cause e = absurd cause
 of_files f idl acf status (BadText line column reason) cause e = absurd cause
@@ -118,32 +117,28 @@ of_files f idl acf status (BadValue path reason) cause e = absurd cause
 of_files f idl acf status (BadRequest fault) cause e = absurd cause
 
 refused_status : (x : Seen) (c : Command) (status : ℕ) (r : Refusal) → IsCause x c r → status ≡ status_of r → IsOneOf (statuses_of c) status
-refused_status x (Read how of order given) status r cause e = of_values status r e
-refused_status x (Write how of) status r cause e = of_values status r e
+refused_status x (Values task of given) status r cause e = of_values status r e
 refused_status x (Compile idl acf) status r cause e = of_files x.files idl acf status r cause e
 refused_status x (Plan idl acf) status r cause e = of_files x.files idl acf status r cause e
 refused_status x Help status r cause e = inr (inr (inl (e ∙ ap status_of cause)))
 refused_status x Version status r cause e = inr (inr (inl (e ∙ ap status_of cause)))
 
 zero_in : (c : Command) (status : ℕ) → status ≡ 0 → IsOneOf (statuses_of c) status
-zero_in (Read how of order given) status e = inl e
-zero_in (Write how of) status e = inl e
+zero_in (Values task of given) status e = inl e
 zero_in (Compile idl acf) status e = inl e
 zero_in (Plan idl acf) status e = inl e
 zero_in Help status e = inl e
 zero_in Version status e = inl e
 
 four_in : (c : Command) (status : ℕ) → status ≡ 4 → IsOneOf (statuses_of c) status
-four_in (Read how of order given) status e = inr (inr (inr (inl e)))
-four_in (Write how of) status e = inr (inr (inr (inl e)))
+four_in (Values task of given) status e = inr (inr (inr (inl e)))
 four_in (Compile idl acf) status e = inr (inl e)
 four_in (Plan idl acf) status e = inr (inl e)
 four_in Help status e = inr (inl e)
 four_in Version status e = inr (inl e)
 
 five_in : (c : Command) (status : ℕ) → status ≡ 5 → IsOneOf (statuses_of c) status
-five_in (Read how of order given) status e = inr (inr (inr (inr (inl e))))
-five_in (Write how of) status e = inr (inr (inr (inr (inl e))))
+five_in (Values task of given) status e = inr (inr (inr (inr (inl e))))
 five_in (Compile idl acf) status e = inr (inr (inl e))
 five_in (Plan idl acf) status e = inr (inr (inl e))
 five_in Help status e = inr (inr (inl e))
@@ -214,7 +209,7 @@ module _ (x : Seen) where
   idl_read idl acf (FileFailed file) cause e = cc
   idl_read idl acf (BadIdl file line column reason) cause e = cc
   idl_read idl acf NoOperation cause e = cc
-  idl_read idl acf NotBuilt cause e = cc
+  idl_read idl acf (TooLong many) cause e = cc
   idl_read idl acf (BadOctets place why) cause e = cc
   idl_read idl acf (BadText line column reason) cause e = cc
   idl_read idl acf (BadValue path reason) cause e = cc
@@ -222,32 +217,22 @@ module _ (x : Seen) where
 
   -- the input is refused only as the input
   read_fault : (c : Command) (r : Refusal) → IsCause x c r → status_of r ≡ 3 → HasRisen x.input.faults × (asks_input c ≡ true)
-  read_fault (Read how of order None) ReadFault (inl (cause, before)) e = absurd cause
-  read_fault (Read how of order (Some name)) ReadFault (inl (inl cause, before)) e = absurd cause
-  read_fault (Read how of order (Some name)) ReadFault (inl (inr u, before)) e = absurd u.cause
-  read_fault (Read Decode of order given) ReadFault (inr (w, ready, rose)) e = (rose, refl)
-  read_fault (Read how of order given) Memory cause e = cc
-  read_fault (Read how of order given) (Absent file) cause e = cc
-  read_fault (Read how of order given) (FileFailed file) cause e = cc
-  read_fault (Read how of order given) (BadIdl file line column reason) cause e = cc
-  read_fault (Read how of order given) NoOperation cause e = cc
-  read_fault (Read how of order given) NotBuilt cause e = cc
-  read_fault (Read how of order given) (BadOctets place why) cause e = cc
-  read_fault (Read how of order given) (BadText line column reason) cause e = cc
-  read_fault (Read how of order given) (BadValue path reason) cause e = cc
-  read_fault (Read how of order given) (BadRequest fault) cause e = cc
-  read_fault (Write how of) ReadFault (inl (cause, before)) e = absurd cause
-  read_fault (Write how of) ReadFault (inr (w, ready, rose)) e = (rose, refl)
-  read_fault (Write how of) Memory cause e = cc
-  read_fault (Write how of) (Absent file) cause e = cc
-  read_fault (Write how of) (FileFailed file) cause e = cc
-  read_fault (Write how of) (BadIdl file line column reason) cause e = cc
-  read_fault (Write how of) NoOperation cause e = cc
-  read_fault (Write how of) NotBuilt cause e = cc
-  read_fault (Write how of) (BadOctets place why) cause e = cc
-  read_fault (Write how of) (BadText line column reason) cause e = cc
-  read_fault (Write how of) (BadValue path reason) cause e = cc
-  read_fault (Write how of) (BadRequest fault) cause e = cc
+  read_fault (Values task of None) ReadFault (inl (cause, before)) e = absurd cause
+  read_fault (Values task of (Some name)) ReadFault (inl (inl cause, before)) e = absurd cause
+  read_fault (Values task of (Some name)) ReadFault (inl (inr u, before)) e = absurd u.cause
+  read_fault (Values (Decode order) of given) ReadFault (inr (w, ready, rose)) e = (rose, refl)
+  read_fault (Values (Encode order chunk) of given) ReadFault (inr (w, ready, rose)) e = (rose, refl)
+  read_fault (Values Migrate of given) ReadFault (inr (w, ready, rose)) e = (rose, refl)
+  read_fault (Values task of given) Memory cause e = cc
+  read_fault (Values task of given) (Absent file) cause e = cc
+  read_fault (Values task of given) (FileFailed file) cause e = cc
+  read_fault (Values task of given) (BadIdl file line column reason) cause e = cc
+  read_fault (Values task of given) NoOperation cause e = cc
+  read_fault (Values task of given) (TooLong many) cause e = cc
+  read_fault (Values task of given) (BadOctets place why) cause e = cc
+  read_fault (Values task of given) (BadText line column reason) cause e = cc
+  read_fault (Values task of given) (BadValue path reason) cause e = cc
+  read_fault (Values task of given) (BadRequest fault) cause e = cc
   read_fault (Compile idl acf) r cause e = absurd (idl_read idl acf r cause e)
   read_fault (Plan idl acf) r cause e = absurd (idl_read idl acf r cause e)
   read_fault Help r cause e = let never : status_of Memory ≡ 3 = sym (ap status_of cause) ∙ e in cc
@@ -261,7 +246,7 @@ module _ (x : Seen) where
   idl_absent idl acf (FileFailed file) cause e = cc
   idl_absent idl acf (BadIdl file line column reason) cause e = cc
   idl_absent idl acf NoOperation cause e = cc
-  idl_absent idl acf NotBuilt cause e = cc
+  idl_absent idl acf (TooLong many) cause e = cc
   idl_absent idl acf ReadFault cause e = cc
   idl_absent idl acf (BadOctets place why) cause e = cc
   idl_absent idl acf (BadText line column reason) cause e = cc
@@ -272,8 +257,8 @@ module _ (x : Seen) where
   IsDueFor c file = IsDueOf x.files.held (asks_files c) file ⊎ IsDueRequest x.files.held c file
 
   -- the request of a file is due once what the command speaks of is ready
-  request_due : (values : Values) (of : Subject) (name : List ℕ) (w : Setting) → HasAsked values x.files of name w → IsRequestDue x.files.held of
-  request_due values of name w h = record {
+  request_due : (of : Subject) (name : List ℕ) (w : Setting) → HasAsked x.files of name w → IsRequestDue x.files.held of
+  request_due of name w h = record {
     file = h.ready.found.compiled.file;
     interface = h.ready.interface;
     number = h.ready.number;
@@ -285,34 +270,24 @@ module _ (x : Seen) where
   -- a file that is absent is due and missing
   absent_is : (c : Command) (r : Refusal) → IsCause x c r → status_of r ≡ 7
       → HasRisen x.files.absences × ((file : List ℕ) × (r ≡ Absent file) × IsDueFor c file × IsMissing x.files.held file)
-  absent_is (Read how of order None) (Absent file) (inl ((rose, due, missing), before)) e = (rose, (file, refl, inl due, missing))
-  absent_is (Read how of order (Some name)) (Absent file) (inl (inl (rose, due, missing), before)) e = (rose, (file, refl, inl due, missing))
-  absent_is (Read how of order (Some name)) (Absent file) (inl (inr u, before)) e =
+  absent_is (Values task of None) (Absent file) (inl ((rose, due, missing), before)) e = (rose, (file, refl, inl due, missing))
+  absent_is (Values task of (Some name)) (Absent file) (inl (inl (rose, due, missing), before)) e = (rose, (file, refl, inl due, missing))
+  absent_is (Values task of (Some name)) (Absent file) (inl (inr u, before)) e =
       let (is, rose, missing) = u.cause in
-      (rose, (file, refl, inr (is, request_due (values_read how) of name u.own u.has_asked), subst (IsMissing x.files.held) (sym is) missing))
-  absent_is (Read Decode of order given) (Absent file) (inr (w, ready, cause)) e = absurd cause
-  absent_is (Read how of order given) Memory cause e = cc
-  absent_is (Read how of order given) (FileFailed file) cause e = cc
-  absent_is (Read how of order given) (BadIdl file line column reason) cause e = cc
-  absent_is (Read how of order given) NoOperation cause e = cc
-  absent_is (Read how of order given) NotBuilt cause e = cc
-  absent_is (Read how of order given) ReadFault cause e = cc
-  absent_is (Read how of order given) (BadOctets place why) cause e = cc
-  absent_is (Read how of order given) (BadText line column reason) cause e = cc
-  absent_is (Read how of order given) (BadValue path reason) cause e = cc
-  absent_is (Read how of order given) (BadRequest fault) cause e = cc
-  absent_is (Write how of) (Absent file) (inl ((rose, due, missing), before)) e = (rose, (file, refl, inl due, missing))
-  absent_is (Write how of) (Absent file) (inr (w, ready, (octets, read, cause))) e = absurd cause
-  absent_is (Write how of) Memory cause e = cc
-  absent_is (Write how of) (FileFailed file) cause e = cc
-  absent_is (Write how of) (BadIdl file line column reason) cause e = cc
-  absent_is (Write how of) NoOperation cause e = cc
-  absent_is (Write how of) NotBuilt cause e = cc
-  absent_is (Write how of) ReadFault cause e = cc
-  absent_is (Write how of) (BadOctets place why) cause e = cc
-  absent_is (Write how of) (BadText line column reason) cause e = cc
-  absent_is (Write how of) (BadValue path reason) cause e = cc
-  absent_is (Write how of) (BadRequest fault) cause e = cc
+      (rose, (file, refl, inr (is, request_due of name u.own u.has_asked), subst (IsMissing x.files.held) (sym is) missing))
+  absent_is (Values (Decode order) of given) (Absent file) (inr (w, ready, cause)) e = absurd cause
+  absent_is (Values (Encode order chunk) of given) (Absent file) (inr (w, ready, (text, read, cause))) e = absurd cause
+  absent_is (Values Migrate of given) (Absent file) (inr (w, ready, (text, read, cause))) e = absurd cause
+  absent_is (Values task of given) Memory cause e = cc
+  absent_is (Values task of given) (FileFailed file) cause e = cc
+  absent_is (Values task of given) (BadIdl file line column reason) cause e = cc
+  absent_is (Values task of given) NoOperation cause e = cc
+  absent_is (Values task of given) (TooLong many) cause e = cc
+  absent_is (Values task of given) ReadFault cause e = cc
+  absent_is (Values task of given) (BadOctets place why) cause e = cc
+  absent_is (Values task of given) (BadText line column reason) cause e = cc
+  absent_is (Values task of given) (BadValue path reason) cause e = cc
+  absent_is (Values task of given) (BadRequest fault) cause e = cc
   absent_is (Compile idl acf) r cause e = let (rose, (file, same, due, missing)) = idl_absent idl acf r cause e in (rose, (file, same, inl due, missing))
   absent_is (Plan idl acf) r cause e = let (rose, (file, same, due, missing)) = idl_absent idl acf r cause e in (rose, (file, same, inl due, missing))
   absent_is Help r cause e = let never : status_of Memory ≡ 7 = sym (ap status_of cause) ∙ e in cc
@@ -326,7 +301,7 @@ module _ (x : Seen) where
   idl_failed idl acf (Absent file) cause e = cc
   idl_failed idl acf (BadIdl file line column reason) cause e = cc
   idl_failed idl acf NoOperation cause e = cc
-  idl_failed idl acf NotBuilt cause e = cc
+  idl_failed idl acf (TooLong many) cause e = cc
   idl_failed idl acf ReadFault cause e = cc
   idl_failed idl acf (BadOctets place why) cause e = cc
   idl_failed idl acf (BadText line column reason) cause e = cc
@@ -336,33 +311,23 @@ module _ (x : Seen) where
   -- a file that was not read is due
   failed_is : (c : Command) (r : Refusal) → IsCause x c r → status_of r ≡ 9
       → HasRisen x.files.faults × ((file : List ℕ) × (r ≡ FileFailed file) × IsDueFor c file)
-  failed_is (Read how of order None) (FileFailed file) (inl ((rose, due), before)) e = (rose, (file, refl, inl due))
-  failed_is (Read how of order (Some name)) (FileFailed file) (inl (inl (rose, due), before)) e = (rose, (file, refl, inl due))
-  failed_is (Read how of order (Some name)) (FileFailed file) (inl (inr u, before)) e =
-      let (is, rose) = u.cause in (rose, (file, refl, inr (is, request_due (values_read how) of name u.own u.has_asked)))
-  failed_is (Read Decode of order given) (FileFailed file) (inr (w, ready, cause)) e = absurd cause
-  failed_is (Read how of order given) Memory cause e = cc
-  failed_is (Read how of order given) (Absent file) cause e = cc
-  failed_is (Read how of order given) (BadIdl file line column reason) cause e = cc
-  failed_is (Read how of order given) NoOperation cause e = cc
-  failed_is (Read how of order given) NotBuilt cause e = cc
-  failed_is (Read how of order given) ReadFault cause e = cc
-  failed_is (Read how of order given) (BadOctets place why) cause e = cc
-  failed_is (Read how of order given) (BadText line column reason) cause e = cc
-  failed_is (Read how of order given) (BadValue path reason) cause e = cc
-  failed_is (Read how of order given) (BadRequest fault) cause e = cc
-  failed_is (Write how of) (FileFailed file) (inl ((rose, due), before)) e = (rose, (file, refl, inl due))
-  failed_is (Write how of) (FileFailed file) (inr (w, ready, (octets, read, cause))) e = absurd cause
-  failed_is (Write how of) Memory cause e = cc
-  failed_is (Write how of) (Absent file) cause e = cc
-  failed_is (Write how of) (BadIdl file line column reason) cause e = cc
-  failed_is (Write how of) NoOperation cause e = cc
-  failed_is (Write how of) NotBuilt cause e = cc
-  failed_is (Write how of) ReadFault cause e = cc
-  failed_is (Write how of) (BadOctets place why) cause e = cc
-  failed_is (Write how of) (BadText line column reason) cause e = cc
-  failed_is (Write how of) (BadValue path reason) cause e = cc
-  failed_is (Write how of) (BadRequest fault) cause e = cc
+  failed_is (Values task of None) (FileFailed file) (inl ((rose, due), before)) e = (rose, (file, refl, inl due))
+  failed_is (Values task of (Some name)) (FileFailed file) (inl (inl (rose, due), before)) e = (rose, (file, refl, inl due))
+  failed_is (Values task of (Some name)) (FileFailed file) (inl (inr u, before)) e =
+      let (is, rose) = u.cause in (rose, (file, refl, inr (is, request_due of name u.own u.has_asked)))
+  failed_is (Values (Decode order) of given) (FileFailed file) (inr (w, ready, cause)) e = absurd cause
+  failed_is (Values (Encode order chunk) of given) (FileFailed file) (inr (w, ready, (text, read, cause))) e = absurd cause
+  failed_is (Values Migrate of given) (FileFailed file) (inr (w, ready, (text, read, cause))) e = absurd cause
+  failed_is (Values task of given) Memory cause e = cc
+  failed_is (Values task of given) (Absent file) cause e = cc
+  failed_is (Values task of given) (BadIdl file line column reason) cause e = cc
+  failed_is (Values task of given) NoOperation cause e = cc
+  failed_is (Values task of given) (TooLong many) cause e = cc
+  failed_is (Values task of given) ReadFault cause e = cc
+  failed_is (Values task of given) (BadOctets place why) cause e = cc
+  failed_is (Values task of given) (BadText line column reason) cause e = cc
+  failed_is (Values task of given) (BadValue path reason) cause e = cc
+  failed_is (Values task of given) (BadRequest fault) cause e = cc
   failed_is (Compile idl acf) r cause e = let (rose, (file, same, due)) = idl_failed idl acf r cause e in (rose, (file, same, inl due))
   failed_is (Plan idl acf) r cause e = let (rose, (file, same, due)) = idl_failed idl acf r cause e in (rose, (file, same, inl due))
   failed_is Help r cause e = let never : status_of Memory ≡ 9 = sym (ap status_of cause) ∙ e in cc
@@ -399,11 +364,11 @@ module _ (x : Seen) (out notes : SinkSeen) (status : ℕ) (nothing : HasNotFaile
   refused_unfailed c (FileFailed file) cause e = absurd (nothing.loads (failed_is x c (FileFailed file) cause refl).0)
   refused_unfailed c (BadIdl file line column reason) cause e = inr (inr (inr (inr (inl e))))
   refused_unfailed c NoOperation cause e = inr (inr (inr (inr (inl e))))
-  refused_unfailed c NotBuilt cause e = inr (inr (inr (inr (inl e))))
   refused_unfailed c ReadFault cause e = absurd (nothing.reads (read_fault x c ReadFault cause refl).0)
   refused_unfailed c (BadOctets place why) cause e = inr (inl e)
   refused_unfailed c (BadText line column reason) cause e = inr (inl e)
   refused_unfailed c (BadValue path reason) cause e = inr (inl e)
+  refused_unfailed c (TooLong many) cause e = inr (inl e)
   refused_unfailed c (BadRequest fault) cause e = inr (inl e)
 
   by_command : (c : Command) → Ended x out notes c status → Unfailed status
@@ -437,7 +402,7 @@ not_two (Absent file) e = cc
 not_two (FileFailed file) e = cc
 not_two (BadIdl file line column reason) e = cc
 not_two NoOperation e = cc
-not_two NotBuilt e = cc
+not_two (TooLong many) e = cc
 not_two ReadFault e = cc
 not_two (BadOctets place why) e = cc
 not_two (BadText line column reason) e = cc
@@ -450,7 +415,7 @@ not_four (Absent file) e = cc
 not_four (FileFailed file) e = cc
 not_four (BadIdl file line column reason) e = cc
 not_four NoOperation e = cc
-not_four NotBuilt e = cc
+not_four (TooLong many) e = cc
 not_four ReadFault e = cc
 not_four (BadOctets place why) e = cc
 not_four (BadText line column reason) e = cc

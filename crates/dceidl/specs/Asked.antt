@@ -5,7 +5,7 @@ use Rattle.nd_base.specs.Over.{FilesSeen, SourceSeen, AreUntouched, IsUntouched}
 use Rattle.nd_types.specs.declared.interface.Interface.{Interface}
 use Rattle.nd_types.specs.Operations.{operation_named}
 use Rattle.dceidl.specs.Seen.{Seen}
-use Rattle.dceidl.specs.Words.{Command, Subject, Read, asks_files, asks_input}
+use Rattle.dceidl.specs.Words.{Command, Subject, Values, asks_files, asks_input}
 use Rattle.idl_compiler.specs.Asked.{AsksFiles, AreAsked, all_due}
 use Rattle.idl_compiler.specs.Idl.{Means}
 
@@ -28,7 +28,7 @@ pub record AsksRequest (f : FilesSeen) (of : Subject) (name : List ℕ) : Type 0
 
 -- the files that a command asks for: those of the interface, and after them the text of a request if one is named
 abbrev pub AsksFilesOf : FilesSeen → Command → Type 0
-AsksFilesOf f (Read how of order (Some name)) = AsksFiles f (Some (record { idl = of.idl; acf = of.acf })) ⊎ AsksRequest f of name
+AsksFilesOf f (Values task of (Some name)) = AsksFiles f (Some (record { idl = of.idl; acf = of.acf })) ⊎ AsksRequest f of name
 AsksFilesOf f c = AsksFiles f (asks_files c)
 
 -- the input is left as it is if a command does not read it

@@ -5,25 +5,25 @@ use Rattle.nd_types.specs.declared.types.Side.TheVariants.{Out}
 use Rattle.dceidl.specs.Words as words
 use Rattle.dceidl.specs.declared.words.Subject.{Subject}
 use Rattle.dceidl.specs.declared.words.Command.{Command}
-use Rattle.dceidl.specs.declared.words.Writing.{Writing}
-use Rattle.dceidl.specs.declared.words.Writing.TheVariants.{Encode, Migrate}
-use Rattle.dceidl.specs.declared.words.Command.TheVariants.{Read, Write, Compile, Plan, Help, Version}
+use Rattle.dceidl.specs.declared.words.Task.{Task}
+use Rattle.dceidl.specs.declared.words.Task.TheVariants.{Decode, Encode, Migrate}
+use Rattle.dceidl.specs.declared.words.Command.TheVariants.{Values, Compile, Plan, Help, Version}
 
 abbrev pub subject_of : Subject → words.Subject
 subject_of of = record { idl = of.idl.now; acf = option_map (λ a. a.now) of.acf; op = of.op.now; side = of.side }
 
 abbrev pub command_of : Command → words.Command
-command_of (Read how of order given) = words.Read how (subject_of of) order (option_map (λ t. t.now) given)
-command_of (Write how of) = words.Write how (subject_of of)
+command_of (Values task of given) = words.Values task (subject_of of) (option_map (λ t. t.now) given)
 command_of (Compile idl acf) = words.Compile idl.now (option_map (λ a. a.now) acf)
 command_of (Plan idl acf) = words.Plan idl.now (option_map (λ a. a.now) acf)
 command_of Help = words.Help
 command_of Version = words.Version
 
 -- a chunk of a pipe has at least one element
-abbrev pub WritesChunks : Writing → Type 0
-WritesChunks (Encode order chunk) = 1 ≤ chunk
-WritesChunks Migrate = ⊤
+abbrev pub HasChunks : Task → Type 0
+HasChunks (Decode order) = ⊤
+HasChunks (Encode order chunk) = 1 ≤ chunk
+HasChunks Migrate = ⊤
 
 -- outputs alone are judged beside a request
 abbrev pub IsJudged : {X : Type 0} → Side → Option X → Type 0
@@ -32,6 +32,5 @@ IsJudged side (Some text) = side ≡ Out
 
 -- what its words say of the parts of a command
 abbrev pub IsWellFormed : Command → Type 0
-IsWellFormed (Read how of order given) = IsJudged of.side given
-IsWellFormed (Write how of) = WritesChunks how
+IsWellFormed (Values task of given) = HasChunks task × IsJudged of.side given
 IsWellFormed _ = ⊤

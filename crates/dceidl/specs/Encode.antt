@@ -4,16 +4,31 @@ use Rattle.nd_base.specs.declared.octets.Order.{Order}
 use Rattle.nd_value.specs.declared.value.Graph.{Graph}
 use Rattle.nd_value.specs.Setting.{Setting}
 use Rattle.nd_value.specs.Conforms.{Conforms}
-use Rattle.nd_grammar.specs.Chosen.{Chosen}
+use Rattle.ndr_writing.specs.Written.{IsWritten, IsLong}
+use Rattle.refusals.specs.declared.refusal.Refusal.{Refusal}
+use Rattle.refusals.specs.declared.refusal.Refusal.TheVariants.{TooLong}
+use Rattle.text_fitting.specs.Fitted.{IsTextCause}
 use Rattle.text_grammar.specs.Printed.{IsText}
 use Rattle.text_grammar.specs.Reads.{ReadsAs}
 
--- The text reads as a graph that conforms, and the octets are those that are chosen for it.
+-- The text reads as a graph that conforms, and the octets are those that are chosen for it, which are no more than a stream may have.
 pub record IsEncoding (w : Setting) (order : Order) (chunk : ℕ) (text octets : List ℕ) : Type 0 where
   pub graph : Graph
   pub reads : ReadsAs w text graph
   pub conforms : Conforms w graph
-  pub chosen : Chosen w order chunk graph octets
+  pub written : IsWritten w order chunk graph octets
+
+-- The text reads as a graph that conforms, and so many octets are chosen for it, which are more than a stream may have.
+pub record IsLongEncoding (w : Setting) (chunk : ℕ) (text : List ℕ) (length : ℕ) : Type 0 where
+  pub graph : Graph
+  pub reads : ReadsAs w text graph
+  pub conforms : Conforms w graph
+  pub long : IsLong w chunk graph length
+
+-- why a text is not encoded; of memory no more is said
+abbrev pub IsEncodingCause : Setting → ℕ → List ℕ → Refusal → Type 0
+IsEncodingCause w chunk text (TooLong length) = IsLongEncoding w chunk text length
+IsEncodingCause w chunk text refusal = IsTextCause w text refusal
 
 -- The text reads as a graph that conforms, and what is made is that graph's text as it is printed.
 pub record IsMigration (w : Setting) (text made : List ℕ) : Type 0 where

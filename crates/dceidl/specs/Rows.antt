@@ -13,6 +13,7 @@ use Rattle.nd_value.specs.Fitting.{setting_of}
 use Rattle.nd_grammar.specs.Represents.{Represents}
 use Rattle.nd_grammar.specs.Prefix.{BeginsWith}
 use Rattle.nd_grammar.specs.Bad.{Bad}
+use Rattle.ndr_writing.specs.Written.{IsWritten, IsLong}
 use Rattle.text_grammar.specs.declared.TheConstants.{TEXT_LIMIT}
 use Rattle.text_grammar.specs.Reads.{ReadsAs, IsTextFault}
 use Rattle.nd_base.specs.Text.{joined}
@@ -22,13 +23,14 @@ use Rattle.text_fitting.specs.Fitted.{IsMisfitAt}
 use Rattle.text_fitting.specs.Request.{beside, IsRequestText, IsRequestFault}
 use Rattle.idl_compiler.specs.Idl.{Means, IsIdlFault, IsDueFile}
 use Rattle.refusals.specs.Lines.{status_of, line_of}
-use Rattle.dceidl.specs.Ready.{IsNamed, is_among}
+use Rattle.dceidl.specs.Ready.{IsNamed}
 use Rattle.dceidl.specs.Seen.{Seen}
-use Rattle.dceidl.specs.Words.{Command, Subject, Read, Write, Compile, Plan, Help, Version, asks_files, asks_input, idl_of, op_of, order_in, values_read, values_written}
+use Rattle.dceidl.specs.Words.{Command, Subject, Values, Compile, Plan, Help, Version, asks_files, asks_input, idl_of, op_of, order_in}
 use Rattle.idl_compiler.specs.Asked.{FileNames}
-use Rattle.dceidl.specs.declared.words.Values.{Values}
+use Rattle.dceidl.specs.declared.words.Task.{Task}
+use Rattle.dceidl.specs.declared.words.Task.TheVariants.{Decode, Encode, Migrate}
 use Rattle.refusals.specs.declared.refusal.Refusal.{Refusal}
-use Rattle.refusals.specs.declared.refusal.Refusal.TheVariants.{BadIdl, NoOperation, NotBuilt, BadOctets, BadText, BadValue, BadRequest}
+use Rattle.refusals.specs.declared.refusal.Refusal.TheVariants.{BadIdl, NoOperation, BadOctets, BadText, BadValue, TooLong, BadRequest}
 use Rattle.refusals.specs.declared.refusal.OctetsFault.{OctetsFault}
 use Rattle.refusals.specs.declared.refusal.OctetsFault.TheVariants.{Refused, Trailing}
 use Rattle.refusals.specs.declared.refusal.RequestFault.{RequestFault}
@@ -67,7 +69,7 @@ IsDueOf held (Some named) name = IsDueFile held named.idl named.acf name
 
 -- the text of a request is due for a command, and this is its name
 abbrev pub IsDueRequest : Option (List ℕ → Option (List ℕ)) → Command → List ℕ → Type 0
-IsDueRequest held (Read how of order (Some text)) name = (name ≡ text) × IsRequestDue held of
+IsDueRequest held (Values task of (Some text)) name = (name ≡ text) × IsRequestDue held of
 IsDueRequest held _ name = ⊥
 
 abbrev pub IsDue : Option Command → Option (List ℕ → Option (List ℕ)) → List ℕ → Type 0
@@ -101,8 +103,8 @@ pub record IsSound (x : Seen) (notes : SinkSeen) : Type 0 where
 abbrev pub IsHeld : FilesSeen → List ℕ → List ℕ → Type 0
 IsHeld f name file = (held : List ℕ → Option (List ℕ)) × (f.held ≡ Some held) × (option_map loaded (held name) ≡ Some file)
 
--- The main file is held, the files mean this interface, it has the operation, the values of its side are among these, and this is its setting.
-pub record IsAccepted (values : Values) (f : FilesSeen) (of : Subject) (w : Setting) : Type 0 where
+-- The main file is held, the files mean this interface, it has the operation, and this is its setting.
+pub record IsAccepted (f : FilesSeen) (of : Subject) (w : Setting) : Type 0 where
   pub file : List ℕ
   pub interface : Interface
   pub number : ℕ
@@ -110,13 +112,12 @@ pub record IsAccepted (values : Values) (f : FilesSeen) (of : Subject) (w : Sett
   pub held : IsHeld f of.idl file
   pub means : Means f.held of.idl file of.acf interface
   pub named : IsNamed interface of.op number operation
-  pub built : is_among values interface.types of.side operation ≡ true
   pub setting_is : w ≡ setting_of interface operation of.side
 
 -- The same beside the request of a file, which is held.
-pub record IsAcceptedBeside (values : Values) (f : FilesSeen) (of : Subject) (name : List ℕ) (w : Setting) : Type 0 where
+pub record IsAcceptedBeside (f : FilesSeen) (of : Subject) (name : List ℕ) (w : Setting) : Type 0 where
   pub own : Setting
-  pub accepted : IsAccepted values f of own
+  pub accepted : IsAccepted f of own
   pub text : List ℕ
   pub held : IsHeld f name text
   pub request : Graph
@@ -124,9 +125,9 @@ pub record IsAcceptedBeside (values : Values) (f : FilesSeen) (of : Subject) (na
   pub setting_is : w ≡ beside own request
 
 -- the same with the request of a file if one is named
-abbrev pub AreAccepted : Values → FilesSeen → Subject → Option (List ℕ) → Setting → Type 0
-AreAccepted values f of None w = IsAccepted values f of w
-AreAccepted values f of (Some name) w = IsAcceptedBeside values f of name w
+abbrev pub AreAccepted : FilesSeen → Subject → Option (List ℕ) → Setting → Type 0
+AreAccepted f of None w = IsAccepted f of w
+AreAccepted f of (Some name) w = IsAcceptedBeside f of name w
 
 -- The octets of the input are known, and are these. No fetch failed.
 pub record AreGiven (s : SourceSeen) (octets : List ℕ) : Type 0 where
@@ -146,14 +147,16 @@ pub record IsTrailing (w : Setting) (order : Order) (octets : List ℕ) (place :
   pub begins : BeginsWith w order octets place graph
   pub follows : place < length octets
 
+-- something is made of the input, unless memory runs out
+abbrev pub CanBeMade : SourceSeen → Task → Setting → Type 0
+CanBeMade s (Decode order) w = (octets : List ℕ) × (g : Graph) × AreGiven s octets × Represents w (order_in order) octets g × Conforms w g
+CanBeMade s (Encode order chunk) w =
+    (text : List ℕ) × (g : Graph) × (octets : List ℕ) × IsInput s TEXT_LIMIT text × ReadsAs w text g × Conforms w g × IsWritten w (order_in order) chunk g octets
+CanBeMade s Migrate w = (text : List ℕ) × (g : Graph) × IsInput s TEXT_LIMIT text × ReadsAs w text g × Conforms w g
+
 -- Where no load fails and notes do not, a command of which this holds is done, unless it runs out of memory or out fails.
 abbrev pub CanBeDone : Seen → Command → Type 0
-CanBeDone x (Read how of order given) =
-    (w : Setting) × (octets : List ℕ) × (g : Graph) × AreAccepted (values_read how) x.files of given w × AreGiven x.input octets
-    × Represents w (order_in order) octets g × Conforms w g
-CanBeDone x (Write how of) =
-    (w : Setting) × (text : List ℕ) × (g : Graph) × IsAccepted (values_written how) x.files of w × IsInput x.input TEXT_LIMIT text × ReadsAs w text g
-    × Conforms w g
+CanBeDone x (Values task of given) = (w : Setting) × AreAccepted x.files of given w × CanBeMade x.input task w
 CanBeDone x (Compile idl acf) = (text : List ℕ) × (i : Interface) × IsHeld x.files idl text × Means x.files.held idl text acf i
 CanBeDone x (Plan idl acf) = (text : List ℕ) × (i : Interface) × IsHeld x.files idl text × Means x.files.held idl text acf i
 CanBeDone x Help = ⊤
@@ -166,13 +169,10 @@ MustBeNoIdl f idl acf (BadIdl file line column why) =
 MustBeNoIdl f idl acf _ = ⊥
 
 -- what a command on values speaks of is refused in this way
-abbrev pub MustBeUnready : Values → FilesSeen → Subject → Refusal → Type 0
-MustBeUnready values f of NoOperation =
+abbrev pub MustBeUnready : FilesSeen → Subject → Refusal → Type 0
+MustBeUnready f of NoOperation =
     (text : List ℕ) × (i : Interface) × IsHeld f of.idl text × Means f.held of.idl text of.acf i × (operation_named i.operations of.op ≡ None)
-MustBeUnready values f of NotBuilt =
-    (text : List ℕ) × (i : Interface) × (n : ℕ) × (o : Operation) × IsHeld f of.idl text × Means f.held of.idl text of.acf i × IsNamed i of.op n o
-    × (is_among values i.types of.side o ≡ false)
-MustBeUnready values f of r = MustBeNoIdl f of.idl of.acf r
+MustBeUnready f of r = MustBeNoIdl f of.idl of.acf r
 
 -- the octets are refused at a place, or the first of them are a stream of a graph that conforms and an octet follows
 abbrev pub IsRefusedAt : Setting → Order → List ℕ → ℕ → OctetsFault → Type 0
@@ -180,24 +180,40 @@ IsRefusedAt w order octets place (Refused reason) = Bad w order octets place rea
 IsRefusedAt w order octets place Trailing = IsTrailing w order octets place
 
 -- the request of a file is refused in this way
-abbrev pub MustBeNoRequest : Values → FilesSeen → Subject → Option (List ℕ) → RequestFault → Type 0
-MustBeNoRequest values f of None why = ⊥
-MustBeNoRequest values f of (Some name) why =
-    (own : Setting) × (text : List ℕ) × IsAccepted values f of own × IsHeld f name text × IsRequestFault own text why
+abbrev pub MustBeNoRequest : FilesSeen → Subject → Option (List ℕ) → RequestFault → Type 0
+MustBeNoRequest f of None why = ⊥
+MustBeNoRequest f of (Some name) why =
+    (own : Setting) × (text : List ℕ) × IsAccepted f of own × IsHeld f name text × IsRequestFault own text why
+
+-- the octets of the input are refused in this way
+abbrev pub MustBeNoOctets : SourceSeen → Setting → Order → Refusal → Type 0
+MustBeNoOctets s w order (BadOctets place why) = (octets : List ℕ) × AreGiven s octets × IsRefusedAt w order octets place why
+MustBeNoOctets s w order _ = ⊥
+
+-- the text of the input is refused in this way
+abbrev pub MustBeNoText : SourceSeen → Setting → Refusal → Type 0
+MustBeNoText s w (BadText line column why) = (text : List ℕ) × IsInput s TEXT_LIMIT text × IsTextFault w text line column why
+MustBeNoText s w (BadValue path why) = (text : List ℕ) × (g : Graph) × IsInput s TEXT_LIMIT text × ReadsAs w text g × IsMisfitAt w g path why
+MustBeNoText s w _ = ⊥
+
+-- the same of a text that is encoded
+abbrev pub MustBeNoEncoding : SourceSeen → Setting → ℕ → Refusal → Type 0
+MustBeNoEncoding s w chunk (TooLong many) =
+    (text : List ℕ) × (g : Graph) × IsInput s TEXT_LIMIT text × ReadsAs w text g × Conforms w g × IsLong w chunk g many
+MustBeNoEncoding s w chunk r = MustBeNoText s w r
+
+-- the input is refused in this way
+abbrev pub MustBeNoInput : SourceSeen → Task → Setting → Refusal → Type 0
+MustBeNoInput s (Decode order) w r = MustBeNoOctets s w (order_in order) r
+MustBeNoInput s (Encode order chunk) w r = MustBeNoEncoding s w chunk r
+MustBeNoInput s Migrate w r = MustBeNoText s w r
 
 -- Where no load fails and notes do not, a command of which this holds is refused in this way, unless it runs out of memory.
 abbrev pub MustBeRefused : Seen → Command → Refusal → Type 0
-MustBeRefused x (Read how of order given) (BadOctets place why) =
-    (w : Setting) × (octets : List ℕ) × AreAccepted (values_read how) x.files of given w × AreGiven x.input octets
-    × IsRefusedAt w (order_in order) octets place why
-MustBeRefused x (Read how of order given) (BadRequest why) = MustBeNoRequest (values_read how) x.files of given why
-MustBeRefused x (Read how of order given) r = MustBeUnready (values_read how) x.files of r
-MustBeRefused x (Write how of) (BadText line column why) =
-    (w : Setting) × (text : List ℕ) × IsAccepted (values_written how) x.files of w × IsInput x.input TEXT_LIMIT text × IsTextFault w text line column why
-MustBeRefused x (Write how of) (BadValue path why) =
-    (w : Setting) × (text : List ℕ) × (g : Graph) × IsAccepted (values_written how) x.files of w × IsInput x.input TEXT_LIMIT text × ReadsAs w text g
-    × IsMisfitAt w g path why
-MustBeRefused x (Write how of) r = MustBeUnready (values_written how) x.files of r
+MustBeRefused x (Values task of given) NoOperation = MustBeUnready x.files of NoOperation
+MustBeRefused x (Values task of given) (BadIdl file line column why) = MustBeUnready x.files of (BadIdl file line column why)
+MustBeRefused x (Values task of given) (BadRequest why) = MustBeNoRequest x.files of given why
+MustBeRefused x (Values task of given) r = (w : Setting) × AreAccepted x.files of given w × MustBeNoInput x.input task w r
 MustBeRefused x (Compile idl acf) r = MustBeNoIdl x.files idl acf r
 MustBeRefused x (Plan idl acf) r = MustBeNoIdl x.files idl acf r
 MustBeRefused x Help r = ⊥

@@ -9,12 +9,8 @@ use Rattle.nd_types.specs.declared.types.Side.TheVariants.{In, Out}
 use Rattle.dceidl.specs.declared.TheConstants.{CHUNK_LIMIT}
 use Rattle.dceidl.specs.declared.words.OrderWord.{OrderWord}
 use Rattle.dceidl.specs.declared.words.OrderWord.TheVariants.{Fixed}
-use Rattle.dceidl.specs.declared.words.Reading.{Reading}
-use Rattle.dceidl.specs.declared.words.Reading.TheVariants.{Decode}
-use Rattle.dceidl.specs.declared.words.Writing.{Writing}
-use Rattle.dceidl.specs.declared.words.Writing.TheVariants.{Encode, Migrate}
-use Rattle.dceidl.specs.declared.words.Values.{Values}
-use Rattle.dceidl.specs.declared.words.Values.TheVariants.{All, Primitives}
+use Rattle.dceidl.specs.declared.words.Task.{Task}
+use Rattle.dceidl.specs.declared.words.Task.TheVariants.{Decode, Encode, Migrate}
 use Rattle.idl_compiler.specs.Asked.{FileNames}
 
 -- what a command on values speaks of: the files, an operation of their interface, and a side of it
@@ -26,10 +22,8 @@ pub record Subject : Type 0 where
 
 -- what the words of a command line ask for
 pub data Command : Type 0 where
-  -- the octets of the input are read; they are judged beside the request of a file, if one is named
-  Read : (how : Reading) (of : Subject) (order : OrderWord) (given : Option (List ℕ)) → Command
-  -- the text of the input is read
-  Write : (how : Writing) (of : Subject) → Command
+  -- the input is read; its values are judged beside the request of a file, if one is named
+  Values : (task : Task) (of : Subject) (given : Option (List ℕ)) → Command
   -- the listing of an interface
   Compile : (idl : List ℕ) (acf : Option (List ℕ)) → Command
   -- the listing of its plan
@@ -41,8 +35,7 @@ pub data Command : Type 0 where
 
 -- the files that it asks for, if it asks for any
 abbrev pub asks_files : Command → Option FileNames
-asks_files (Read how of order given) = Some (record { idl = of.idl; acf = of.acf })
-asks_files (Write how of) = Some (record { idl = of.idl; acf = of.acf })
+asks_files (Values task of given) = Some (record { idl = of.idl; acf = of.acf })
 asks_files (Compile idl acf) = Some (record { idl = idl; acf = acf })
 asks_files (Plan idl acf) = Some (record { idl = idl; acf = acf })
 asks_files Help = None
@@ -50,30 +43,19 @@ asks_files Version = None
 
 -- whether it reads the input
 abbrev pub asks_input : Command → Bool
-asks_input (Read how of order given) = true
-asks_input (Write how of) = true
+asks_input (Values task of given) = true
 asks_input _ = false
 
 -- the file of IDL and the operation that the line of a refusal names
 abbrev pub idl_of : Command → List ℕ
-idl_of (Read how of order given) = of.idl
-idl_of (Write how of) = of.idl
+idl_of (Values task of given) = of.idl
 idl_of (Compile idl acf) = idl
 idl_of (Plan idl acf) = idl
 idl_of _ = []
 
 abbrev pub op_of : Command → List ℕ
-op_of (Read how of order given) = of.op
-op_of (Write how of) = of.op
+op_of (Values task of given) = of.op
 op_of _ = []
-
--- the values that octets are read as, and those of which something is made: octets are made of primitives alone so far
-abbrev pub values_read : Reading → Values
-values_read Decode = All
-
-abbrev pub values_written : Writing → Values
-values_written (Encode order chunk) = Primitives
-values_written Migrate = All
 
 -- the order of octets that a command names
 abbrev pub order_in : OrderWord → Order
@@ -114,26 +96,32 @@ subject idl acf op side = record { idl = idl; acf = acf_of acf; op = op; side = 
 
 -- `decode`, if its words are a side and an order
 abbrev pub decode : List ℕ → List ℕ → List ℕ → Option Side → Option OrderWord → Option Command
-decode idl acf op (Some side) (Some order) = Some (Read Decode (subject idl acf op side) order None)
+decode idl acf op (Some side) (Some order) = Some (Values (Decode order) (subject idl acf op side) None)
 decode idl acf op _ _ = None
 
 -- the same beside the request of a file, if its words are the side of the outputs and an order
 abbrev pub decode_beside : List ℕ → List ℕ → List ℕ → Option Side → Option OrderWord → List ℕ → Option Command
-decode_beside idl acf op (Some Out) (Some order) text = Some (Read Decode (subject idl acf op Out) order (Some text))
+decode_beside idl acf op (Some Out) (Some order) text = Some (Values (Decode order) (subject idl acf op Out) (Some text))
 decode_beside idl acf op _ _ text = None
 
 -- `encode`, if its words are a side, an order and the number of elements of a chunk
 abbrev pub encode : List ℕ → List ℕ → List ℕ → Option Side → Option OrderWord → Option ℕ → Option Command
-encode idl acf op (Some side) (Some order) (Some chunk) = Some (Write (Encode order chunk) (subject idl acf op side))
+encode idl acf op (Some side) (Some order) (Some chunk) = Some (Values (Encode order chunk) (subject idl acf op side) None)
 encode idl acf op _ _ _ = None
+
+-- the same beside the request of a file, if its words are the side of the outputs, an order and the number of elements of a chunk
+abbrev pub encode_beside : List ℕ → List ℕ → List ℕ → Option Side → Option OrderWord → Option ℕ → List ℕ → Option Command
+encode_beside idl acf op (Some Out) (Some order) (Some chunk) text = Some (Values (Encode order chunk) (subject idl acf op Out) (Some text))
+encode_beside idl acf op _ _ _ text = None
 
 -- `migrate`, if its word is a side
 abbrev pub migrate : List ℕ → List ℕ → List ℕ → Option Side → Option Command
-migrate idl acf op (Some side) = Some (Write Migrate (subject idl acf op side))
+migrate idl acf op (Some side) = Some (Values Migrate (subject idl acf op side) None)
 migrate idl acf op None = None
 
 -- The command that words are, if they are one: `compile IDL ACF`, `plan IDL ACF`, `migrate IDL ACF OP SIDE`, `decode IDL ACF OP SIDE ORDER`,
--- `decode IDL ACF OP out ORDER given TEXT`, `encode IDL ACF OP SIDE ORDER CHUNK`, `--help` or `--version`.
+-- `decode IDL ACF OP out ORDER given TEXT`, `encode IDL ACF OP SIDE ORDER CHUNK`, `encode IDL ACF OP out ORDER CHUNK given TEXT`, `--help` or
+-- `--version`.
 abbrev pub command : List (List ℕ) → Option Command
 command (word ∷ []) =
     if is_word word (codes "--help") then Some Help
@@ -149,4 +137,7 @@ command (verb ∷ idl ∷ acf ∷ op ∷ side ∷ order ∷ chunk ∷ []) =
     if is_word verb (codes "encode") then encode idl acf op (side_of side) (order_of order) (chunk_of chunk) else None
 command (verb ∷ idl ∷ acf ∷ op ∷ side ∷ order ∷ given ∷ text ∷ []) =
     if is_word verb (codes "decode") && is_word given (codes "given") then decode_beside idl acf op (side_of side) (order_of order) text else None
+command (verb ∷ idl ∷ acf ∷ op ∷ side ∷ order ∷ chunk ∷ given ∷ text ∷ []) =
+    if is_word verb (codes "encode") && is_word given (codes "given") then encode_beside idl acf op (side_of side) (order_of order) (chunk_of chunk) text
+    else None
 command _ = None

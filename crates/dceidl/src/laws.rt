@@ -5,19 +5,23 @@ ghost use Rattle.nd_base.specs.declared.octets.Order.{Order};
 ghost use Rattle.nd_types.specs.declared.interface.Interface.{Interface};
 ghost use Rattle.nd_types.specs.declared.types.Operation.{Operation};
 ghost use Rattle.nd_types.specs.declared.types.Side.{Side};
-ghost use Rattle.nd_types.specs.Numbers.{has_number_roots};
+ghost use Rattle.nd_value.specs.declared.value.Graph.{Graph};
+ghost use Rattle.nd_value.specs.Same.{Same};
+ghost use Rattle.nd_grammar.specs.Chosen.{Chosen};
 ghost use Rattle.nd_grammar.specs.Represents.{Represents};
-ghost use Rattle.nd_value.specs.Fitting.{setting_of};
+ghost use Rattle.nd_value.specs.Fitting.{setting_beside};
 ghost use Rattle.text_grammar.specs.declared.TheConstants.{TEXT_LIMIT};
 ghost use Rattle.text_grammar.specs.Reads.{ReadsAs};
 ghost use Rattle.text_grammar.specs.Printed.{IsText};
 ghost use Rattle.ndr_printing.specs.Printed.{IsDecoding};
-ghost use Rattle.dceidl.specs.Encode.{IsEncoding};
+ghost use Rattle.dceidl.specs.Encode.{IsEncoding, IsMigration};
 ghost use Rattle.idl_check.specs.AcfRules.{acf_breaches};
 ghost use Rattle.idl_compiler.specs.AcfFile.{AcfFile, IsLoadedAcf};
 ghost use Rattle.idl_compiler.specs.Idl.{Means, IsIdlFault, resolved_world};
 ghost use Rattle.refusals.specs.declared.refusal.IdlReason.{IdlReason};
 ghost use Rattle.refusals.specs.declared.refusal.Refusal.TheVariants as refusal;
+
+use text_laws::laws::same_texts;
 
 /// Where the contents of files are known, a main file means one interface at most with those that it imports, with an attribute configuration file
 /// if one is named, or is refused at one line and column of one file for one reason at most, and never both.
@@ -46,32 +50,47 @@ pub fn attribute_files_change_nothing()
         → Means (Some held) idl text acf i → Means (Some held) idl text other j → i ≡ j }
 {}
 
-/// `decode` undoes `encode` on sides whose roots are primitives: the octets that `encode` writes of a text represent the graph that the text reads
-/// as, and what `decode` of the same order writes of them is the text of that graph. A text that was printed comes back.
+/// `decode` undoes `encode`: the octets that `encode` writes of a text represent the graph that the text reads as; what `decode` of the same order reads
+/// them as is the same graph up to the numbers of its cells; and what it writes is what is printed of that graph, so it is what `migrate` writes of the
+/// text, and a text that was printed comes back.
 pub fn decode_undoes_encode()
-    ensures represents { (i : Interface) (n : ℕ) (o : Operation) (s : Side) (order : Order) (chunk : ℕ) (text octets : List ℕ)
-        → has_number_roots i.types s o ≡ true → slice_get i.operations n ≡ Some o
-        → (e : IsEncoding (setting_of i o s) order chunk text octets)
-        → Represents (setting_of i o s) order octets e.graph }
-    ensures back { (i : Interface) (n : ℕ) (o : Operation) (s : Side) (order : Order) (chunk : ℕ) (text octets made : List ℕ)
-        → has_number_roots i.types s o ≡ true → slice_get i.operations n ≡ Some o
-        → (e : IsEncoding (setting_of i o s) order chunk text octets) → IsDecoding (setting_of i o s) order octets made
-        → IsText (setting_of i o s) e.graph made }
-    ensures printed { (i : Interface) (n : ℕ) (o : Operation) (s : Side) (order : Order) (chunk : ℕ) (text octets made : List ℕ)
-        → has_number_roots i.types s o ≡ true → slice_get i.operations n ≡ Some o
-        → (e : IsEncoding (setting_of i o s) order chunk text octets) → IsDecoding (setting_of i o s) order octets made
-        → IsText (setting_of i o s) e.graph text → made ≡ text }
-{}
+    ensures represents { (i : Interface) (n : ℕ) (o : Operation) (s : Side) (q : Option Graph) (order : Order) (chunk : ℕ) (text octets : List ℕ)
+        → slice_get i.operations n ≡ Some o → 1 ≤ chunk
+        → (e : IsEncoding (setting_beside i o s q) order chunk text octets)
+        → Represents (setting_beside i o s q) order octets e.graph }
+    ensures back { (i : Interface) (n : ℕ) (o : Operation) (s : Side) (q : Option Graph) (order : Order) (chunk : ℕ) (text octets made : List ℕ)
+        → slice_get i.operations n ≡ Some o → 1 ≤ chunk
+        → (e : IsEncoding (setting_beside i o s q) order chunk text octets) → (d : IsDecoding (setting_beside i o s q) order octets made)
+        → Same e.graph d.graph }
+    ensures printed { (i : Interface) (n : ℕ) (o : Operation) (s : Side) (q : Option Graph) (order : Order) (chunk : ℕ) (text octets made other : List ℕ)
+        → slice_get i.operations n ≡ Some o → 1 ≤ chunk
+        → (e : IsEncoding (setting_beside i o s q) order chunk text octets) → IsDecoding (setting_beside i o s q) order octets made
+        → IsText (setting_beside i o s q) e.graph other → made ≡ other }
+    ensures migrated { (i : Interface) (n : ℕ) (o : Operation) (s : Side) (q : Option Graph) (order : Order) (chunk : ℕ) (text octets made other : List ℕ)
+        → slice_get i.operations n ≡ Some o → 1 ≤ chunk
+        → IsEncoding (setting_beside i o s q) order chunk text octets → IsDecoding (setting_beside i o s q) order octets made
+        → IsMigration (setting_beside i o s q) text other → made ≡ other }
+{
+    same_texts();
+}
 
-/// `encode` undoes `decode` on sides whose roots are primitives: a text that `decode` writes, if it is within its limit, reads as the graph that
-/// the octets represent, and what `encode` writes of it in any order represents that graph.
+/// `encode` undoes `decode`: a text that `decode` writes, if it is within its limit, reads as the canonical form of the graph that the octets represent;
+/// and what `encode` writes of it, in any order, is what is chosen for that graph, and represents it. Octets that were chosen come back.
 pub fn encode_undoes_decode()
-    ensures reads { (i : Interface) (n : ℕ) (o : Operation) (s : Side) (order : Order) (octets text : List ℕ)
-        → has_number_roots i.types s o ≡ true → slice_get i.operations n ≡ Some o
-        → (d : IsDecoding (setting_of i o s) order octets text) → length text ≤ TEXT_LIMIT
-        → ReadsAs (setting_of i o s) text d.graph }
-    ensures represents { (i : Interface) (n : ℕ) (o : Operation) (s : Side) (order other : Order) (chunk : ℕ) (octets text made : List ℕ)
-        → has_number_roots i.types s o ≡ true → slice_get i.operations n ≡ Some o
-        → (d : IsDecoding (setting_of i o s) order octets text) → IsEncoding (setting_of i o s) other chunk text made
-        → Represents (setting_of i o s) other made d.graph }
+    ensures reads { (i : Interface) (n : ℕ) (o : Operation) (s : Side) (q : Option Graph) (order : Order) (octets text : List ℕ)
+        → slice_get i.operations n ≡ Some o
+        → (d : IsDecoding (setting_beside i o s q) order octets text) → length text ≤ TEXT_LIMIT
+        → ReadsAs (setting_beside i o s q) text d.is_text.canonical }
+    ensures chosen { (i : Interface) (n : ℕ) (o : Operation) (s : Side) (q : Option Graph) (order other : Order) (chunk : ℕ) (octets text made : List ℕ)
+        → slice_get i.operations n ≡ Some o
+        → (d : IsDecoding (setting_beside i o s q) order octets text) → IsEncoding (setting_beside i o s q) other chunk text made
+        → Chosen (setting_beside i o s q) other chunk d.graph made }
+    ensures represents { (i : Interface) (n : ℕ) (o : Operation) (s : Side) (q : Option Graph) (order other : Order) (chunk : ℕ) (octets text made : List ℕ)
+        → slice_get i.operations n ≡ Some o → 1 ≤ chunk
+        → (d : IsDecoding (setting_beside i o s q) order octets text) → IsEncoding (setting_beside i o s q) other chunk text made
+        → Represents (setting_beside i o s q) other made d.graph }
+    ensures back { (i : Interface) (n : ℕ) (o : Operation) (s : Side) (q : Option Graph) (order : Order) (chunk : ℕ) (octets text made : List ℕ)
+        → slice_get i.operations n ≡ Some o
+        → (d : IsDecoding (setting_beside i o s q) order octets text) → IsEncoding (setting_beside i o s q) order chunk text made
+        → Chosen (setting_beside i o s q) order chunk d.graph octets → made ≡ octets }
 {}

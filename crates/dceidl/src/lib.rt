@@ -25,7 +25,7 @@ pub const HELP: &str = "\
 usage: dceidl compile IDL ACF
        dceidl plan IDL ACF
        dceidl decode IDL ACF OP SIDE ORDER [given TEXT]
-       dceidl encode IDL ACF OP SIDE ORDER CHUNK
+       dceidl encode IDL ACF OP SIDE ORDER CHUNK [given TEXT]
        dceidl migrate IDL ACF OP SIDE
        dceidl --help
        dceidl --version
@@ -38,8 +38,8 @@ plan     checks the same files, and writes the listing of the interface's plan:
 decode   reads the octets of a request (SIDE `in`) or a response (SIDE `out`) in
          NDR (C706, chapter 14), and writes their values as text. With `given`
          a response is checked against the request that it answers.
-encode   reads such a text, and writes the octets of its values; each of them
-         must be of a primitive type.
+encode   reads such a text, and writes the octets of its values. With `given` a
+         response is checked against the request that it answers.
 migrate  reads such a text, in either version, and writes it as `decode` does.
 
 IDL      the path of a file of IDL
@@ -56,12 +56,12 @@ Input is read from standard input, and output is written to standard output. An
 error is one line on standard error. The exit status is
 
 0  success
-1  bad octets, text or values
+1  bad octets, text or values, or too many octets to write
 2  bad command line
 3  input error
 4  output error
 5  out of memory
-6  bad IDL or ACF, unknown operation, or values that cannot be encoded yet
+6  bad IDL or ACF, or unknown operation
 7  IDL, ACF or TEXT not found
 9  IDL, ACF or TEXT not readable
 
@@ -69,6 +69,7 @@ Examples:
 
   dceidl compile examples/shop.idl examples/shop.acf
   dceidl decode examples/add.idl - add in little < examples/add-1-2-3.octets
+  dceidl encode examples/add.idl - add in little 1 < examples/add-1-2-3.text
 ";
 
 /// What `--version` prints.

@@ -8,19 +8,19 @@ ghost use Rattle.nd_value.specs.Fitting.{setting_of, setting_beside};
 ghost use Rattle.nd_value.specs.Request.{IsRequestOf};
 ghost use Rattle.dceidl.specs.Asked.{AsksFor};
 ghost use Rattle.dceidl.specs.Causes.{IsMade, IsCause};
-ghost use Rattle.dceidl.specs.Commands.{command_of, subject_of, IsWellFormed, WritesChunks};
-ghost use Rattle.dceidl.specs.Input.{IsRead, IsReadCause, IsReadBeside, IsBesideCause, IsWritten, IsWriteCause};
-ghost use Rattle.dceidl.specs.Ready.{IsSideOf};
+ghost use Rattle.dceidl.specs.Commands.{command_of, subject_of, IsWellFormed, HasChunks};
+ghost use Rattle.dceidl.specs.Encode.{IsEncoding, IsMigration};
+ghost use Rattle.dceidl.specs.Input.{IsMadeOf, IsTaskCause, IsMadeBeside, IsBesideCause, IsInputEncodingCause, IsInputTextCause, OfText};
 ghost use Rattle.dceidl.specs.Seen.{seen_over};
-ghost use Rattle.dceidl.specs.Words.{Read, Write, order_in, values_written};
+ghost use Rattle.dceidl.specs.Words.{Values};
 
 use crate::encode::{encode, migrate};
 use crate::input::read_input;
 use crate::ready::{Ready, make_ready};
-use crate::words::{Command, OrderWord, Reading, Subject, Writing};
+use crate::words::{Command, Subject, Task};
 use crate::{HELP, VERSION};
 use idl_compiler::{list, list_plan};
-use nd_base::{Files, Octets, Source};
+use nd_base::{Files, Octets, Order, Source};
 use nd_graph::Fit;
 use ndr_printing::print_octets;
 use refusals::Refusal;
@@ -47,19 +47,16 @@ pub(crate) fn perform<F: Files, S: Source>(
         (command_of command.entry)) }
 {
     match command {
-        Command::Read {
-            how,
+        Command::Values {
+            task,
             of,
-            order,
             given: None,
-        } => read_values(alloc, how, of, order, files, input),
-        Command::Read {
-            how,
+        } => perform_alone(alloc, task, of, files, input),
+        Command::Values {
+            task,
             of,
-            order,
             given: Some(name),
-        } => read_beside(alloc, how, of, order, name, files, input),
-        Command::Write { how, of } => write_values(alloc, how, of, files, input),
+        } => perform_beside(alloc, task, of, name, files, input),
         Command::Compile { idl, acf } => list(alloc, idl, acf, files),
         Command::Plan { idl, acf } => list_plan(alloc, idl, acf, files),
         Command::Help => Ok(Octets::copy(alloc, HELP.as_bytes())?),
@@ -67,101 +64,101 @@ pub(crate) fn perform<F: Files, S: Source>(
     }
 }
 
-// Reads the octets of the input, once what the command speaks of is ready.
-fn read_values<F: Files, S: Source>(
+// Does something with values, once what the command speaks of is ready.
+fn perform_alone<F: Files, S: Source>(
     alloc: Global,
-    how: Reading,
+    task: Task,
     of: Subject<'_>,
-    order: OrderWord,
     files: &mut F,
     input: &mut S,
 ) -> Result<Octets, Refusal>
+    requires { HasChunks task }
     ensures asked { AsksFor
         (seen_over (files_seen F.held F.absences F.faults F.asked files.old files.new) (source_seen S.left S.ended S.faults input.old input.new))
-        (Read how (subject_of of.entry) order None) }
+        (Values task (subject_of of.entry) None) }
     ensures done { IfOk result (IsMade
         (seen_over (files_seen F.held F.absences F.faults F.asked files.old files.new) (source_seen S.left S.ended S.faults input.old input.new))
-        (Read how (subject_of of.entry) order None)) }
+        (Values task (subject_of of.entry) None)) }
     ensures refused { IfErr result (IsCause
         (seen_over (files_seen F.held F.absences F.faults F.asked files.old files.new) (source_seen S.left S.ended S.faults input.old input.new))
-        (Read how (subject_of of.entry) order None)) }
+        (Values task (subject_of of.entry) None)) }
 {
-    let ready = make_ready(alloc, of, how.values(), files)?;
-    read_octets(alloc, &ready, how, order, None, input)
+    let ready = make_ready(alloc, of, files)?;
+    perform_task(alloc, &ready, task, None, input)
 }
 
 // The same beside the request of a file.
-fn read_beside<F: Files, S: Source>(
+fn perform_beside<F: Files, S: Source>(
     alloc: Global,
-    how: Reading,
+    task: Task,
     of: Subject<'_>,
-    order: OrderWord,
     name: &str,
     files: &mut F,
     input: &mut S,
 ) -> Result<Octets, Refusal>
-    requires { of.side ≡ Out }
+    requires chunk { HasChunks task }
+    requires outputs { of.side ≡ Out }
     ensures asked { AsksFor
         (seen_over (files_seen F.held F.absences F.faults F.asked files.old files.new) (source_seen S.left S.ended S.faults input.old input.new))
-        (Read how (subject_of of.entry) order (Some name.now)) }
+        (Values task (subject_of of.entry) (Some name.now)) }
     ensures done { IfOk result (IsMade
         (seen_over (files_seen F.held F.absences F.faults F.asked files.old files.new) (source_seen S.left S.ended S.faults input.old input.new))
-        (Read how (subject_of of.entry) order (Some name.now))) }
+        (Values task (subject_of of.entry) (Some name.now))) }
     ensures refused { IfErr result (IsCause
         (seen_over (files_seen F.held F.absences F.faults F.asked files.old files.new) (source_seen S.left S.ended S.faults input.old input.new))
-        (Read how (subject_of of.entry) order (Some name.now))) }
+        (Values task (subject_of of.entry) (Some name.now))) }
 {
-    let ready = make_ready(alloc, of, how.values(), files)?;
-    read_after(alloc, &ready, how, order, name, files, input)
+    let ready = make_ready(alloc, of, files)?;
+    perform_after(alloc, &ready, task, name, files, input)
 }
 
-// Loads the request of a file, and reads the octets of the input beside it.
-fn read_after<F: Files, S: Source>(
+// Loads the request of a file, and does something with values beside it.
+fn perform_after<F: Files, S: Source>(
     alloc: Global,
     ready: &Ready,
-    how: Reading,
-    order: OrderWord,
+    task: Task,
     name: &str,
     files: &mut F,
     input: &mut S,
 ) -> Result<Octets, Refusal>
     requires known { ready.now.number < length ready.now.interface.operations }
     requires outputs { ready.now.side ≡ Out }
+    requires chunk { HasChunks task }
     ensures asked { F.asked files.new ≡ F.asked files.old ++ name.now ∷ [] }
     ensures same { F.held files.new ≡ F.held files.old }
     ensures later { F.faults files.old ≤ F.faults files.new }
     ensures absences_later { F.absences files.old ≤ F.absences files.new }
     ensures done { (o : Operation) → slice_get ready.now.interface.operations ready.now.number ≡ Some o
-        → IfOk result (IsReadBeside (files_seen F.held F.absences F.faults F.asked files.old files.new) (source_seen S.left S.ended S.faults input.old input.new) name.now how
-        (setting_of ready.now.interface o ready.now.side) (order_in order)) }
+        → IfOk result (IsMadeBeside (files_seen F.held F.absences F.faults F.asked files.old files.new) (source_seen S.left S.ended S.faults input.old input.new) name.now task
+        (setting_of ready.now.interface o ready.now.side)) }
     ensures refused { (o : Operation) → slice_get ready.now.interface.operations ready.now.number ≡ Some o
-        → IfErr result (IsBesideCause (files_seen F.held F.absences F.faults F.asked files.old files.new) (source_seen S.left S.ended S.faults input.old input.new) name.now how
-        (setting_of ready.now.interface o ready.now.side) (order_in order)) }
+        → IfErr result (IsBesideCause (files_seen F.held F.absences F.faults F.asked files.old files.new) (source_seen S.left S.ended S.faults input.old input.new) name.now task
+        (setting_of ready.now.interface o ready.now.side)) }
 {
     let request = load_request(alloc, &ready.interface, ready.number, name, files)?;
-    read_octets(alloc, ready, how, order, Some(&request), input)
+    perform_task(alloc, ready, task, Some(&request), input)
 }
 
-// Reads the octets of the input, beside a request if one is given.
-fn read_octets<S: Source>(
+// Does something with the values of the input, beside a request if one is given.
+fn perform_task<S: Source>(
     alloc: Global,
     ready: &Ready,
-    how: Reading,
-    order: OrderWord,
+    task: Task,
     given: Option<&Fit>,
     input: &mut S,
 ) -> Result<Octets, Refusal>
     requires known { ready.now.number < length ready.now.interface.operations }
     requires request { IsRequestOf ready.now.interface ready.now.number ready.now.side (option_map (λ f. f.now) given) }
+    requires chunk { HasChunks task }
     ensures done { (o : Operation) → slice_get ready.now.interface.operations ready.now.number ≡ Some o
-        → IfOk result (IsRead (source_seen S.left S.ended S.faults input.old input.new) how
-        (setting_beside ready.now.interface o ready.now.side (option_map (λ f. f.now.graph) given.entry)) (order_in order)) }
+        → IfOk result (IsMadeOf (source_seen S.left S.ended S.faults input.old input.new) task
+        (setting_beside ready.now.interface o ready.now.side (option_map (λ f. f.now.graph) given.entry))) }
     ensures refused { (o : Operation) → slice_get ready.now.interface.operations ready.now.number ≡ Some o
-        → IfErr result (IsReadCause (source_seen S.left S.ended S.faults input.old input.new) how
-        (setting_beside ready.now.interface o ready.now.side (option_map (λ f. f.now.graph) given.entry)) (order_in order)) }
+        → IfErr result (IsTaskCause (source_seen S.left S.ended S.faults input.old input.new) task
+        (setting_beside ready.now.interface o ready.now.side (option_map (λ f. f.now.graph) given.entry))) }
 {
-    match how {
-        Reading::Decode => print_octets(
+    match task {
+        Task::Decode { order } => print_octets(
             alloc,
             &ready.interface,
             ready.number,
@@ -170,56 +167,52 @@ fn read_octets<S: Source>(
             order.order(),
             input,
         ),
+        Task::Encode { order, chunk } => {
+            encode_input(alloc, ready, given, order.order(), chunk, input)
+        }
+        Task::Migrate => migrate_input(alloc, ready, given, input),
     }
 }
 
-// Reads the text of the input, once what the command speaks of is ready.
-fn write_values<F: Files, S: Source>(
-    alloc: Global,
-    how: Writing,
-    of: Subject<'_>,
-    files: &mut F,
-    input: &mut S,
-) -> Result<Octets, Refusal>
-    requires { WritesChunks how }
-    ensures asked { AsksFor
-        (seen_over (files_seen F.held F.absences F.faults F.asked files.old files.new) (source_seen S.left S.ended S.faults input.old input.new))
-        (Write how (subject_of of.entry)) }
-    ensures done { IfOk result (IsMade
-        (seen_over (files_seen F.held F.absences F.faults F.asked files.old files.new) (source_seen S.left S.ended S.faults input.old input.new))
-        (Write how (subject_of of.entry))) }
-    ensures refused { IfErr result (IsCause
-        (seen_over (files_seen F.held F.absences F.faults F.asked files.old files.new) (source_seen S.left S.ended S.faults input.old input.new))
-        (Write how (subject_of of.entry))) }
-{
-    let ready = make_ready(alloc, of, how.values(), files)?;
-    write_input(alloc, &ready, how, input)
-}
-
-// Reads the text of the input.
-fn write_input<S: Source>(
+// Encodes the text of the input.
+fn encode_input<S: Source>(
     alloc: Global,
     ready: &Ready,
-    how: Writing,
+    given: Option<&Fit>,
+    order: Order,
+    chunk: u32,
     input: &mut S,
 ) -> Result<Octets, Refusal>
-    requires built { IsSideOf (values_written how) ready.now.interface.types ready.now.interface.operations ready.now.number ready.now.side }
     requires known { ready.now.number < length ready.now.interface.operations }
-    requires chunk { WritesChunks how }
+    requires request { IsRequestOf ready.now.interface ready.now.number ready.now.side (option_map (λ f. f.now) given) }
+    requires chunk { 1 ≤ chunk }
     ensures done { (o : Operation) → slice_get ready.now.interface.operations ready.now.number ≡ Some o
-        → IfOk result (IsWritten (source_seen S.left S.ended S.faults input.old input.new) how (setting_of ready.now.interface o ready.now.side)) }
+        → IfOk result (λ made. OfText (source_seen S.left S.ended S.faults input.old input.new) (λ text. IsEncoding
+        (setting_beside ready.now.interface o ready.now.side (option_map (λ f. f.now.graph) given.entry)) order chunk text made)) }
     ensures refused { (o : Operation) → slice_get ready.now.interface.operations ready.now.number ≡ Some o
-        → IfErr result (IsWriteCause (source_seen S.left S.ended S.faults input.old input.new) (setting_of ready.now.interface o ready.now.side)) }
+        → IfErr result (IsInputEncodingCause (source_seen S.left S.ended S.faults input.old input.new)
+        (setting_beside ready.now.interface o ready.now.side (option_map (λ f. f.now.graph) given.entry)) chunk) }
 {
     let text = read_input(alloc, input, TEXT_LIMIT)?;
-    match how {
-        Writing::Encode { order, chunk } => encode(
-            alloc,
-            ready,
-            order.order(),
-            chunk,
-            text.as_slice(),
-        ),
-        Writing::Migrate => migrate(alloc, ready, text.as_slice()),
-    }
+    encode(alloc, ready, given, order, chunk, text.as_slice())
+}
+
+// Prints the values of the text of the input.
+fn migrate_input<S: Source>(
+    alloc: Global,
+    ready: &Ready,
+    given: Option<&Fit>,
+    input: &mut S,
+) -> Result<Octets, Refusal>
+    requires known { ready.now.number < length ready.now.interface.operations }
+    requires request { IsRequestOf ready.now.interface ready.now.number ready.now.side (option_map (λ f. f.now) given) }
+    ensures done { (o : Operation) → slice_get ready.now.interface.operations ready.now.number ≡ Some o
+        → IfOk result (λ made. OfText (source_seen S.left S.ended S.faults input.old input.new) (λ text. IsMigration
+        (setting_beside ready.now.interface o ready.now.side (option_map (λ f. f.now.graph) given.entry)) text made)) }
+    ensures refused { (o : Operation) → slice_get ready.now.interface.operations ready.now.number ≡ Some o
+        → IfErr result (IsInputTextCause (source_seen S.left S.ended S.faults input.old input.new)
+        (setting_beside ready.now.interface o ready.now.side (option_map (λ f. f.now.graph) given.entry))) }
+{
+    let text = read_input(alloc, input, TEXT_LIMIT)?;
+    migrate(alloc, ready, given, text.as_slice())
 }

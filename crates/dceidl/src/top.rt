@@ -36,10 +36,10 @@ pub(crate) const OUT_OF_MEMORY: Status = 5;
 ///
 /// `--help` and `--version` write their text to `out`. The other commands load the interface file, the files that it imports, and then
 /// the attribute configuration file if one is named (C706, chapter 4), and check the rules of the language. `compile` writes the
-/// listing of the interface to `out`, `plan` that of its plan. `decode`, `encode` and `migrate` read the input to its end, or to one octet past
-/// their limit: [`STREAM_LIMIT`](nd_base::STREAM_LIMIT) octets of a stream, [`TEXT_LIMIT`](value_text::TEXT_LIMIT) octets of a text.
-/// `decode` writes the values of one side of the operation as text to `out`: its `[in]` parameters, or its `[out]` parameters and its
-/// result (C706, chapter 14). `encode` reads such a text and writes the octets of its values, and `migrate` writes it as it is printed.
+/// listing of the interface to `out`, `plan` that of its plan. `decode` writes the values of one side of the operation as text to `out`: its `[in]`
+/// parameters, or its `[out]` parameters and its result (C706, chapter 14); it asks for no octet past the values but one. `encode` and `migrate`
+/// read such a text to its end, or to one octet past its limit, [`TEXT_LIMIT`](value_text::TEXT_LIMIT) octets. `encode` writes the octets of its
+/// values, at most [`STREAM_LIMIT`](nd_base::STREAM_LIMIT), and `migrate` writes it as it is printed.
 ///
 /// Nothing is requested before it is needed, and no file more than once: no file for an invalid command line, `--help` or
 /// `--version`, an import when its declaration is reached, the attribute configuration file when all names are resolved (it is loaded
@@ -154,8 +154,7 @@ fn command_line(alloc: Global, command: Command<'_>, refusal: &Refusal) -> Resul
     ensures { IfOk result (λ l. l ≡ line_of (idl_of (command_of command.entry)) (op_of (command_of command.entry)) refusal.now) }
 {
     match command {
-        Command::Read { of, .. } => line(alloc, of.idl, of.op, refusal),
-        Command::Write { of, .. } => line(alloc, of.idl, of.op, refusal),
+        Command::Values { of, .. } => line(alloc, of.idl, of.op, refusal),
         Command::Compile { idl, .. } => line(alloc, idl, "", refusal),
         Command::Plan { idl, .. } => line(alloc, idl, "", refusal),
         Command::Help => line(alloc, "", "", refusal),

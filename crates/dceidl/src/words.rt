@@ -1,6 +1,6 @@
 // The words of a command line, and the command that they are.
 ghost use Rattle.std.specs.Prelude.{◌≡◌, ◌≤◌, [], ◌∷◌, ◌++◌, OnOk, OnErr, IfSome, option_map};
-ghost use Rattle.dceidl.specs.Words.{command, acf_of, order_in, values_read, values_written, order_of, side_of, chunk_of, chunk_by, decode as decode_of, decode_beside as decode_beside_of, encode as encode_of, migrate as migrate_of, subject as subject_by};
+ghost use Rattle.dceidl.specs.Words.{command, acf_of, order_in, order_of, side_of, chunk_of, chunk_by, decode as decode_of, decode_beside as decode_beside_of, encode as encode_of, encode_beside as encode_beside_of, migrate as migrate_of, subject as subject_by};
 ghost use Rattle.dceidl.specs.Commands.{command_of, subject_of, IsWellFormed};
 
 use crate::CHUNK_LIMIT;
@@ -109,57 +109,31 @@ impl Words {
                     None
                 }
             }
+            [verb, idl, acf, op, side, order, chunk, given, text] => longest_command(
+                verb.as_str(),
+                idl.as_str(),
+                acf.as_str(),
+                op.as_str(),
+                side.as_str(),
+                order.as_str(),
+                chunk.as_str(),
+                given.as_str(),
+                text.as_str(),
+            ),
             _ => None,
         }
     }
 }
 
-// How the octets of the input are read.
+// What is done with values.
 #[derive(Clone, Copy, Debug, PartialEq, Eq)]
-pub(crate) enum Reading {
-    // Their values are written as text.
-    Decode,
-}
-
-impl Reading {
-    // The values that octets are read as.
-    pub(crate) fn values(self) -> Values
-        ensures { result ≡ values_read self }
-    {
-        match self {
-            Reading::Decode => Values::All,
-        }
-    }
-}
-
-// What is made of the text of the input.
-#[derive(Clone, Copy, Debug, PartialEq, Eq)]
-pub(crate) enum Writing {
-    // The octets of its values.
+pub(crate) enum Task {
+    // The octets of the input are read, and the text of their values is written.
+    Decode { order: OrderWord },
+    // The text of the input is read, and the octets of its values are written.
     Encode { order: OrderWord, chunk: u32 },
-    // The text that is printed of them.
+    // The text of the input is read, and the text that is printed of its values is written.
     Migrate,
-}
-
-impl Writing {
-    // The values of which something is made.
-    pub(crate) fn values(self) -> Values
-        ensures { result ≡ values_written self }
-    {
-        match self {
-            Writing::Encode { .. } => Values::Primitives,
-            Writing::Migrate => Values::All,
-        }
-    }
-}
-
-// The values of a side that a command can do something with.
-#[derive(Clone, Copy, Debug, PartialEq, Eq)]
-pub(crate) enum Values {
-    // Those of every type.
-    All,
-    // Those of sides whose roots are primitives. The octets of no others are built yet.
-    Primitives,
 }
 
 // The order of octets that a command names.
@@ -190,16 +164,11 @@ pub(crate) struct Subject<'a> {
 // What a command line asks for.
 #[derive(Clone, Copy)]
 pub(crate) enum Command<'a> {
-    Read {
-        how: Reading,
+    Values {
+        task: Task,
         of: Subject<'a>,
-        order: OrderWord,
         // The file of the request beside which a response is judged, if one is named.
         given: Option<&'a str>,
-    },
-    Write {
-        how: Writing,
-        of: Subject<'a>,
     },
     Compile {
         idl: &'a str,
@@ -257,10 +226,9 @@ fn decode_command<'a>(
     ensures formed { IfSome result IsWellFormed }
 {
     match (side, order) {
-        (Some(side), Some(order)) => Some(Command::Read {
-            how: Reading::Decode,
+        (Some(side), Some(order)) => Some(Command::Values {
+            task: Task::Decode { order },
             of: subject_named(idl, acf, op, side),
-            order,
             given: None,
         }),
         _ => None,
@@ -280,10 +248,9 @@ fn decode_beside_command<'a>(
     ensures formed { IfSome result IsWellFormed }
 {
     match (side, order) {
-        (Some(Side::Out), Some(order)) => Some(Command::Read {
-            how: Reading::Decode,
+        (Some(Side::Out), Some(order)) => Some(Command::Values {
+            task: Task::Decode { order },
             of: subject_named(idl, acf, op, Side::Out),
-            order,
             given: Some(text),
         }),
         _ => None,
@@ -304,9 +271,65 @@ fn encode_command<'a>(
     ensures formed { IfSome result IsWellFormed }
 {
     match (side, order, chunk) {
-        (Some(side), Some(order), Some(chunk)) => Some(Command::Write {
-            how: Writing::Encode { order, chunk },
+        (Some(side), Some(order), Some(chunk)) => Some(Command::Values {
+            task: Task::Encode { order, chunk },
             of: subject_named(idl, acf, op, side),
+            given: None,
+        }),
+        _ => None,
+    }
+}
+
+// The command that nine words are: `encode` beside a request.
+fn longest_command<'a>(
+    verb: &str,
+    idl: &'a str,
+    acf: &'a str,
+    op: &'a str,
+    side: &str,
+    order: &str,
+    chunk: &str,
+    given: &str,
+    text: &'a str,
+) -> Option<Command<'a>>
+    ensures command { option_map command_of result
+        ≡ command (verb.now ∷ idl.now ∷ acf.now ∷ op.now ∷ side.now ∷ order.now ∷ chunk.now ∷ given.now ∷ text.now ∷ []) }
+    ensures formed { IfSome result IsWellFormed }
+{
+    if verb == "encode" && given == "given" {
+        encode_beside_command(
+            idl,
+            acf,
+            op,
+            side_named(side),
+            order_named(order),
+            chunk_named(chunk),
+            text,
+        )
+    } else {
+        None
+    }
+}
+
+// `encode` beside a request, if its words are the side of the outputs, an order and the number of elements of a chunk.
+fn encode_beside_command<'a>(
+    idl: &'a str,
+    acf: &'a str,
+    op: &'a str,
+    side: Option<Side>,
+    order: Option<OrderWord>,
+    chunk: Option<u32>,
+    text: &'a str,
+) -> Option<Command<'a>>
+    requires { IfSome chunk (λ n. 1 ≤ n) }
+    ensures command { option_map command_of result ≡ encode_beside_of idl.now acf.now op.now side order chunk text.now }
+    ensures formed { IfSome result IsWellFormed }
+{
+    match (side, order, chunk) {
+        (Some(Side::Out), Some(order), Some(chunk)) => Some(Command::Values {
+            task: Task::Encode { order, chunk },
+            of: subject_named(idl, acf, op, Side::Out),
+            given: Some(text),
         }),
         _ => None,
     }
@@ -323,9 +346,10 @@ fn migrate_command<'a>(
     ensures formed { IfSome result IsWellFormed }
 {
     match side {
-        Some(side) => Some(Command::Write {
-            how: Writing::Migrate,
+        Some(side) => Some(Command::Values {
+            task: Task::Migrate,
             of: subject_named(idl, acf, op, side),
+            given: None,
         }),
         None => None,
     }

@@ -20,7 +20,7 @@ use Rattle.refusals.specs.declared.refusal.Refusal.TheVariants.{Memory}
 use Rattle.idl_compiler.specs.Idl.{main_file, IsMainFault, IsNameFault, IsDueImport, by_names, reported_fault, name_in, IsDueAfter, IsIdlFault}
 use Rattle.idl_lexer.specs.declared.tokens.LexFault.TheVariants as lexical
 use Rattle.nd_base.specs.Outside.{IsContent, IsMissing}
-use Rattle.refusals.specs.declared.refusal.Refusal.TheVariants.{Absent, FileFailed, BadIdl, NoOperation, NotBuilt, ReadFault, BadOctets, BadText, BadValue, BadRequest}
+use Rattle.refusals.specs.declared.refusal.Refusal.TheVariants.{Absent, FileFailed, BadIdl, NoOperation, ReadFault, BadOctets, BadText, BadValue, TooLong, BadRequest}
 use Rattle.nd_base.proofs.Rising.{rose_later}
 use Rattle.nd_base.specs.Counts.{Rose}
 use Rattle.nd_base.specs.Over.{FilesSeen, HasRisen}
@@ -163,7 +163,7 @@ after f g idl text acf (FileFailed file) same low now low' now' (rose, due) = (
 )
 after f g idl text acf (BadIdl file line column why) same low now low' now' cause = subst (λ h. IsIdlFault h idl text acf (BadIdl file line column why)) same cause
 after f g idl text acf NoOperation same low now low' now' cause = absurd cause
-after f g idl text acf NotBuilt same low now low' now' cause = absurd cause
+after f g idl text acf (TooLong many) same low now low' now' cause = absurd cause
 after f g idl text acf ReadFault same low now low' now' cause = absurd cause
 after f g idl text acf (BadOctets place why) same low now low' now' cause = absurd cause
 after f g idl text acf (BadText line column why) same low now low' now' cause = absurd cause
@@ -177,7 +177,7 @@ loaded_cause f idl text acf (Absent file) content (rose, due, missing) = (rose, 
 loaded_cause f idl text acf (FileFailed file) content (rose, due) = (rose, inr (text, content, due))
 loaded_cause f idl text acf (BadIdl file line column why) content cause = (text, content, cause)
 loaded_cause f idl text acf NoOperation content cause = absurd cause
-loaded_cause f idl text acf NotBuilt content cause = absurd cause
+loaded_cause f idl text acf (TooLong many) content cause = absurd cause
 loaded_cause f idl text acf ReadFault content cause = absurd cause
 loaded_cause f idl text acf (BadOctets place why) content cause = absurd cause
 loaded_cause f idl text acf (BadText line column why) content cause = absurd cause
@@ -197,7 +197,7 @@ main_not_loaded f idl acf (Absent file) (same, rose, missing) = (rose, inl same,
 main_not_loaded f idl acf (FileFailed file) (same, rose) = (rose, inl same)
 main_not_loaded f idl acf (BadIdl file line column why) cause = absurd cause
 main_not_loaded f idl acf NoOperation cause = absurd cause
-main_not_loaded f idl acf NotBuilt cause = absurd cause
+main_not_loaded f idl acf (TooLong many) cause = absurd cause
 main_not_loaded f idl acf ReadFault cause = absurd cause
 main_not_loaded f idl acf (BadOctets place why) cause = absurd cause
 main_not_loaded f idl acf (BadText line column why) cause = absurd cause

@@ -23,7 +23,7 @@ use Rattle.nd_base.specs.Text.{position_of}
 use Rattle.refusals.specs.declared.refusal.IdlReason.{IdlReason}
 use Rattle.refusals.specs.declared.refusal.IdlReason.TheVariants as reason
 use Rattle.refusals.specs.declared.refusal.Refusal.{Refusal}
-use Rattle.refusals.specs.declared.refusal.Refusal.TheVariants.{Memory, Absent, FileFailed, BadIdl, NoOperation, NotBuilt, ReadFault, BadOctets, BadText, BadValue, BadRequest}
+use Rattle.refusals.specs.declared.refusal.Refusal.TheVariants.{Memory, Absent, FileFailed, BadIdl, NoOperation, ReadFault, BadOctets, BadText, BadValue, TooLong, BadRequest}
 use Rattle.idl_compiler.specs.AcfFile.{AcfFile, IsBeside, tree_beside}
 use Rattle.nd_base.specs.Over.{FilesSeen}
 use Rattle.idl_compiler.specs.Idl.{AreResolved, Means, resolved_world, IsBroken, by_acf, by_rules, reported_by, reported_rule, reported_beside, word_at, IsAcfFault}
@@ -117,7 +117,7 @@ module _ (f : FilesSeen) (idl text : List ℕ) (state : State) (resolved : AreRe
   acf_refused name (BadIdl file line column why) (body, content, (at, fault, is)) =
       by_acf name body at why (record { state = state; resolved = resolved; named = refl; loaded = content; fault = fault }) is
   acf_refused name NoOperation cause = absurd cause
-  acf_refused name NotBuilt cause = absurd cause
+  acf_refused name (TooLong many) cause = absurd cause
   acf_refused name ReadFault cause = absurd cause
   acf_refused name (BadOctets place why) cause = absurd cause
   acf_refused name (BadText line column why) cause = absurd cause
@@ -135,7 +135,7 @@ acf_unread f name text (BadIdl file line column why) content cause = (text, cont
 acf_unread f name text (Absent file) content cause = absurd cause
 acf_unread f name text (FileFailed file) content cause = absurd cause
 acf_unread f name text NoOperation content cause = absurd cause
-acf_unread f name text NotBuilt content cause = absurd cause
+acf_unread f name text (TooLong many) content cause = absurd cause
 acf_unread f name text ReadFault content cause = absurd cause
 acf_unread f name text (BadOctets place why) content cause = absurd cause
 acf_unread f name text (BadText line column why) content cause = absurd cause
@@ -149,7 +149,7 @@ acf_unloaded f name (Absent file) cause = cause
 acf_unloaded f name (FileFailed file) cause = cause
 acf_unloaded f name (BadIdl file line column why) cause = absurd cause
 acf_unloaded f name NoOperation cause = absurd cause
-acf_unloaded f name NotBuilt cause = absurd cause
+acf_unloaded f name (TooLong many) cause = absurd cause
 acf_unloaded f name ReadFault cause = absurd cause
 acf_unloaded f name (BadOctets place why) cause = absurd cause
 acf_unloaded f name (BadText line column why) cause = absurd cause

@@ -13,7 +13,7 @@ use Rattle.text_grammar.specs.declared.fault.TextReason.{TextReason}
 use Rattle.text_grammar.specs.declared.fault.TextReason.TheVariants as text
 use Rattle.nd_base.specs.Text.{joined}
 use Rattle.refusals.specs.declared.refusal.Refusal.{Refusal}
-use Rattle.refusals.specs.declared.refusal.Refusal.TheVariants.{Memory, Absent, FileFailed, BadIdl, NoOperation, NotBuilt, ReadFault, BadOctets, BadText, BadValue, BadRequest}
+use Rattle.refusals.specs.declared.refusal.Refusal.TheVariants.{Memory, Absent, FileFailed, BadIdl, NoOperation, ReadFault, BadOctets, BadText, BadValue, TooLong, BadRequest}
 use Rattle.refusals.specs.declared.refusal.IdlReason.{IdlReason}
 use Rattle.refusals.specs.declared.refusal.IdlReason.TheVariants as idl_reason
 use Rattle.refusals.specs.declared.refusal.OctetsFault.{OctetsFault}
@@ -26,12 +26,12 @@ abbrev pub status_of : Refusal → ℕ
 status_of (BadOctets place why) = 1
 status_of (BadText line column reason) = 1
 status_of (BadValue path reason) = 1
+status_of (TooLong length) = 1
 status_of (BadRequest fault) = 1
 status_of ReadFault = 3
 status_of Memory = 5
 status_of (BadIdl file line column reason) = 6
 status_of NoOperation = 6
-status_of NotBuilt = 6
 status_of (Absent file) = 7
 status_of (FileFailed file) = 9
 
@@ -136,12 +136,12 @@ abbrev pub line_of : List ℕ → List ℕ → Refusal → List ℕ
 line_of idl op (BadOctets place why) = joined (codes "refused: octets at " ∷ decimal place ∷ codes ": " ∷ fault_text why ∷ codes "\n" ∷ [])
 line_of idl op (BadText line column reason) = text_line (codes "refused: text ") line column reason
 line_of idl op (BadValue path reason) = value_line (codes "refused: value at ") path reason
+line_of idl op (TooLong length) = joined (codes "refused: TooLong " ∷ decimal length ∷ codes "\n" ∷ [])
 line_of idl op (BadRequest fault) = request_line fault
 line_of idl op ReadFault = codes "read fault\n"
 line_of idl op Memory = codes "want of memory\n"
 line_of idl op (BadIdl file line column reason) =
     joined (codes "idl " ∷ file ∷ codes ":" ∷ decimal line ∷ codes ":" ∷ decimal column ∷ codes ": " ∷ idl_reason_text reason ∷ codes "\n" ∷ [])
 line_of idl op NoOperation = joined (codes "idl " ∷ idl ∷ codes ": NoOperation " ∷ op ∷ codes "\n" ∷ [])
-line_of idl op NotBuilt = joined (codes "idl " ∷ idl ∷ codes ": NotBuilt " ∷ op ∷ codes "\n" ∷ [])
 line_of idl op (Absent file) = joined (codes "absent: " ∷ file ∷ codes "\n" ∷ [])
 line_of idl op (FileFailed file) = joined (codes "file fault: " ∷ file ∷ codes "\n" ∷ [])

@@ -19,12 +19,12 @@ use text_grammar::TextReason;
 /// | Status | Meaning |
 /// |---|---|
 /// | 0 | success |
-/// | 1 | the octets, the text or the values of the input are refused, or the request beside which a response is judged |
+/// | 1 | the octets, the text or the values of the input are refused, or the request beside which a response is judged, or the octets would be too many |
 /// | 2 | the command line is not valid |
 /// | 3 | the input failed |
 /// | 4 | standard output or standard error failed; this status replaces any other |
 /// | 5 | out of memory |
-/// | 6 | an interface file or the attribute configuration file is refused, or the interface has no operation of that name, or its values are not built yet |
+/// | 6 | an interface file or the attribute configuration file is refused, or the interface has no operation of that name |
 /// | 7 | the interface file, an imported file, the attribute configuration file or the text of a request does not exist |
 /// | 9 | the interface file, an imported file, the attribute configuration file or the text of a request could not be read |
 ///
@@ -39,11 +39,12 @@ pub fn status(refusal: &Refusal) -> Status
         Refusal::Memory => 5,
         Refusal::Absent { .. } => 7,
         Refusal::FileFailed { .. } => 9,
-        Refusal::BadIdl { .. } | Refusal::NoOperation | Refusal::NotBuilt => 6,
+        Refusal::BadIdl { .. } | Refusal::NoOperation => 6,
         Refusal::ReadFault => 3,
         Refusal::BadOctets { .. }
         | Refusal::BadText { .. }
         | Refusal::BadValue { .. }
+        | Refusal::TooLong { .. }
         | Refusal::BadRequest(_) => 1,
     }
 }
@@ -67,8 +68,7 @@ pub fn line(alloc: Global, idl: &str, op: &str, refusal: &Refusal) -> Result<Oct
             column,
             reason,
         } => idl_line(alloc, file.as_slice(), *line, *column, reason),
-        Refusal::NoOperation => operation_line(alloc, idl, b": NoOperation ", op),
-        Refusal::NotBuilt => operation_line(alloc, idl, b": NotBuilt ", op),
+        Refusal::NoOperation => operation_line(alloc, idl, op),
         Refusal::ReadFault => Octets::copy(alloc, b"read fault\n"),
         Refusal::BadOctets { place, why } => octets_line(alloc, *place, *why),
         Refusal::BadText {
@@ -79,6 +79,7 @@ pub fn line(alloc: Global, idl: &str, op: &str, refusal: &Refusal) -> Result<Oct
         Refusal::BadValue { path, reason } => {
             value_line(alloc, b"refused: value at ", path.as_slice(), *reason)
         }
+        Refusal::TooLong { length } => length_line(alloc, *length),
         Refusal::BadRequest(fault) => request_line(alloc, fault),
     }
 }
@@ -104,11 +105,29 @@ fn request_line(alloc: Global, fault: &RequestFault) -> Result<Octets, Memory>
     }
 }
 
-// An operation that is refused.
-fn operation_line(alloc: Global, idl: &str, why: &[u8], op: &str) -> Result<Octets, Memory>
-    ensures { IfOk result (λ told. told ≡ joined (codes "idl " ∷ idl.now ∷ why.now ∷ op.now ∷ codes "\n" ∷ [])) }
+// An operation that there is not.
+fn operation_line(alloc: Global, idl: &str, op: &str) -> Result<Octets, Memory>
+    ensures { IfOk result (λ told. told ≡ line_of idl.now op.now Refusal.NoOperation) }
 {
-    join(alloc, &[b"idl ", idl.as_bytes(), why, op.as_bytes(), b"\n"])
+    join(
+        alloc,
+        &[
+            b"idl ",
+            idl.as_bytes(),
+            b": NoOperation ",
+            op.as_bytes(),
+            b"\n",
+        ],
+    )
+}
+
+// Octets that would be too many.
+fn length_line(alloc: Global, length: u128) -> Result<Octets, Memory>
+    ensures { IfOk result (λ line. line ≡ line_of [] [] (Refusal.TooLong length)) }
+{
+    let mut digits = Buffer::new();
+    let length = digits.format(length).as_bytes();
+    join(alloc, &[b"refused: TooLong ", length, b"\n"])
 }
 
 // A file that is refused at a line and column.

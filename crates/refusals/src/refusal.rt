@@ -98,9 +98,6 @@ pub enum Refusal {
     /// The interface has no operation of the name.
     #[error("no such operation")]
     NoOperation,
-    /// The operation has values of a type that is not built yet.
-    #[error("not built yet")]
-    NotBuilt,
     /// The input failed.
     #[error("read failed")]
     ReadFault,
@@ -123,6 +120,11 @@ pub enum Refusal {
     BadValue {
         path: Octets,
         reason: MisfitReason,
+    },
+    /// The octets of the values would be more than a stream may have: so many.
+    #[error("the stream would have {length} octets")]
+    TooLong {
+        length: u128,
     },
     /// The request beside which a response is to be judged is refused.
     #[error("request refused: {0}")]

@@ -1,4 +1,5 @@
 pub mod Paths
+pub mod Beside
 pub mod Fitted
 pub mod OneText
 pub mod Requests

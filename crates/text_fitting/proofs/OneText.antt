@@ -14,7 +14,7 @@ use Rattle.text_grammar.specs.Paths.{IsPath}
 use Rattle.text_grammar.specs.Reads.{ReadsAs, IsTextFault}
 use Rattle.text_reader.proofs.Stated.{never_both, one_graph, one_fault}
 use Rattle.refusals.specs.declared.refusal.Refusal.{Refusal}
-use Rattle.refusals.specs.declared.refusal.Refusal.TheVariants.{Memory, Absent, FileFailed, BadIdl, NoOperation, NotBuilt, ReadFault, BadOctets, BadText, BadValue, BadRequest}
+use Rattle.refusals.specs.declared.refusal.Refusal.TheVariants.{Memory, Absent, FileFailed, BadIdl, NoOperation, ReadFault, BadOctets, BadText, BadValue, TooLong, BadRequest}
 use Rattle.refusals.specs.declared.refusal.RequestFault.{RequestFault}
 use Rattle.refusals.specs.declared.refusal.RequestFault.TheVariants.{Text, Value}
 use Rattle.text_fitting.specs.Fitted.{IsTextCause, IsMisfitAt}
@@ -32,7 +32,7 @@ module _ (w : Setting) (side : IsLegalSide w) (text : List ℕ) where
   good_cause g reads conforms (FileFailed other) cause = absurd cause
   good_cause g reads conforms (BadIdl file line column reason) cause = absurd cause
   good_cause g reads conforms NoOperation cause = absurd cause
-  good_cause g reads conforms NotBuilt cause = absurd cause
+  good_cause g reads conforms (TooLong many) cause = absurd cause
   good_cause g reads conforms ReadFault cause = absurd cause
   good_cause g reads conforms (BadRequest other) cause = absurd cause
   good_cause g reads conforms (BadOctets place why) cause = absurd cause
@@ -49,7 +49,7 @@ module _ (w : Setting) (side : IsLegalSide w) (text : List ℕ) where
   fault_cause line column why fault (FileFailed other) cause = absurd cause
   fault_cause line column why fault (BadIdl file row at reason) cause = absurd cause
   fault_cause line column why fault NoOperation cause = absurd cause
-  fault_cause line column why fault NotBuilt cause = absurd cause
+  fault_cause line column why fault (TooLong many) cause = absurd cause
   fault_cause line column why fault ReadFault cause = absurd cause
   fault_cause line column why fault (BadRequest other) cause = absurd cause
   fault_cause line column why fault (BadOctets place because) cause = absurd cause
@@ -71,7 +71,7 @@ module _ (w : Setting) (side : IsLegalSide w) (text : List ℕ) where
   misfit_cause g path why reads m (FileFailed other) cause = absurd cause
   misfit_cause g path why reads m (BadIdl file line column reason) cause = absurd cause
   misfit_cause g path why reads m NoOperation cause = absurd cause
-  misfit_cause g path why reads m NotBuilt cause = absurd cause
+  misfit_cause g path why reads m (TooLong many) cause = absurd cause
   misfit_cause g path why reads m ReadFault cause = absurd cause
   misfit_cause g path why reads m (BadRequest other) cause = absurd cause
   misfit_cause g path why reads m (BadOctets place because) cause = absurd cause

@@ -5,7 +5,7 @@ use Rattle.nd_base.specs.Over.{FilesSeen}
 use Rattle.nd_value.specs.Setting.{Setting}
 use Rattle.nd_value.specs.Fitting.{Fitting}
 use Rattle.refusals.specs.declared.refusal.Refusal.{Refusal}
-use Rattle.refusals.specs.declared.refusal.Refusal.TheVariants.{Memory, Absent, FileFailed, BadIdl, NoOperation, NotBuilt, ReadFault, BadOctets, BadText, BadValue, BadRequest}
+use Rattle.refusals.specs.declared.refusal.Refusal.TheVariants.{Memory, Absent, FileFailed, BadIdl, NoOperation, ReadFault, BadOctets, BadText, BadValue, TooLong, BadRequest}
 use Rattle.text_fitting.specs.Request.{IsRequestText, IsTextRefusal, HoldsRequest, HoldsNoRequest}
 
 module _ (f : FilesSeen) (name : List ℕ) (w : Setting) where
@@ -17,7 +17,7 @@ module _ (f : FilesSeen) (name : List ℕ) (w : Setting) where
     unread (FileFailed file) cause = absurd cause
     unread (BadIdl file line column why) cause = absurd cause
     unread NoOperation cause = absurd cause
-    unread NotBuilt cause = absurd cause
+    unread (TooLong many) cause = absurd cause
     unread ReadFault cause = absurd cause
     unread (BadOctets place why) cause = absurd cause
     unread (BadText line column why) cause = absurd cause

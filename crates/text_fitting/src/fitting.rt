@@ -1,10 +1,12 @@
 // A text is read, and its values are fitted to the operation.
-ghost use Rattle.std.specs.Prelude.{◌≡◌, ℕ, ◌<◌, ◌^◌, List, length, Some, None, IfOk, IfErr};
+ghost use Rattle.std.specs.Prelude.{◌≡◌, ℕ, ◌<◌, ◌^◌, List, length, Some, Option, option_map, IfOk, IfErr};
 ghost use Rattle.std.specs.List.{slice_get};
 ghost use Rattle.nd_types.specs.declared.types.Operation.{Operation};
+ghost use Rattle.nd_value.specs.declared.value.Graph.{Graph as GraphValue};
 ghost use Rattle.nd_value.specs.Conforms.{HasFewNodes};
 ghost use Rattle.nd_value.specs.FirstMisfit.{IsMisfit};
-ghost use Rattle.nd_value.specs.Fitting.{setting_of};
+ghost use Rattle.nd_value.specs.Fitting.{setting_beside};
+ghost use Rattle.nd_value.specs.Request.{IsRequestOf};
 ghost use Rattle.nd_value.specs.Setting.{Setting};
 ghost use Rattle.text_grammar.specs.Reads.{ReadsAs, IsFault};
 ghost use Rattle.text_fitting.specs.Fitted.{IsTextCause, IsValueCause};
@@ -15,7 +17,8 @@ use refusals::Refusal;
 use std::alloc::Global;
 use value_text::{TextFault, path, read_text};
 
-/// The graph that a text of values is read as, if it conforms to a side of an operation. `op` must be the number of an operation of the interface.
+/// The graph that a text of values is read as, if it conforms to a side of an operation. `op` must be the number of an operation of the interface. A
+/// request that is given must be one of that operation, and then the side is that of its outputs: the values are judged beside it.
 ///
 /// # Errors
 /// BadText, the first place at which the text goes on as no text of the side; BadValue, the path of the first misfit of the graph that the text is
@@ -27,20 +30,22 @@ pub fn fit_text(
     interface: &Interface,
     op: u32,
     side: Side,
+    given: Option<&Fit>,
     text: &[u8],
 ) -> Result<Fit, Refusal>
     requires known { op < length interface.now.operations }
+    requires request { IsRequestOf interface.now op side (option_map (λ f. f.now) given) }
     ensures tied { IfOk result (λ f. f.interface ≡ interface.now) }
     ensures number { IfOk result (λ f. f.op ≡ op) }
     ensures side { IfOk result (λ f. f.side ≡ side) }
-    ensures beside { IfOk result (λ f. f.given ≡ None) }
+    ensures beside { IfOk result (λ f. f.given ≡ option_map (λ f. f.now.graph) given.entry) }
     ensures read { (o : Operation) → slice_get interface.now.operations op ≡ Some o
-        → IfOk result (λ f. ReadsAs (setting_of interface.now o side) text.now f.graph) }
+        → IfOk result (λ f. ReadsAs (setting_beside interface.now o side (option_map (λ f. f.now.graph) given.entry)) text.now f.graph) }
     ensures refused { (o : Operation) → slice_get interface.now.operations op ≡ Some o
-        → IfErr result (IsTextCause (setting_of interface.now o side) text.now) }
+        → IfErr result (IsTextCause (setting_beside interface.now o side (option_map (λ f. f.now.graph) given.entry)) text.now) }
 {
     match read_text(alloc, interface, op, side, text) {
-        Ok(graph) => fit_graph(alloc, interface, op, side, graph),
+        Ok(graph) => fit_graph(alloc, interface, op, side, given, graph),
         Err(fault) => Err(text_refused(fault)),
     }
 }
@@ -69,22 +74,24 @@ fn fit_graph(
     interface: &Interface,
     op: u32,
     side: Side,
+    given: Option<&Fit>,
     graph: Graph,
 ) -> Result<Fit, Refusal>
     requires known { op < length interface.now.operations }
     requires few_cells { length graph.cells < 2 ^ 32 }
     requires few_nodes { HasFewNodes graph }
+    requires request { IsRequestOf interface.now op side (option_map (λ f. f.now) given) }
     ensures fits { IfOk result (λ f. f ≡ record {
       graph = graph;
       op = op;
       side = side;
       interface = interface.now;
-      given = None;
+      given = option_map (λ f. f.now.graph) given.entry;
     }) }
     ensures refused { (o : Operation) → slice_get interface.now.operations op ≡ Some o
-        → IfErr result (IsValueCause (setting_of interface.now o side) graph) }
+        → IfErr result (IsValueCause (setting_beside interface.now o side (option_map (λ f. f.now.graph) given.entry)) graph) }
 {
-    match fit(alloc, interface, op, side, None, graph) {
+    match fit(alloc, interface, op, side, given, graph) {
         Ok(fit) => Ok(fit),
         Err((misfit, graph)) => Err(value_refused(alloc, interface, op, side, &graph, misfit)),
     }
@@ -100,9 +107,9 @@ fn value_refused(
     misfit: Misfit,
 ) -> Refusal
     requires known { op < length interface.now.operations }
-    ensures { (o : Operation) → slice_get interface.now.operations op ≡ Some o
-        → IsMisfit (setting_of interface.now o side) graph.now misfit
-        → IsValueCause (setting_of interface.now o side) graph.now result }
+    ensures { (o : Operation) (q : Option GraphValue) → slice_get interface.now.operations op ≡ Some o
+        → IsMisfit (setting_beside interface.now o side q) graph.now misfit
+        → IsValueCause (setting_beside interface.now o side q) graph.now result }
 {
     match misfit {
         Misfit::Memory => Refusal::Memory,

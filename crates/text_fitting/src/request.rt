@@ -67,7 +67,7 @@ fn fit_request(alloc: Global, interface: &Interface, op: u32, text: &[u8]) -> Re
             reason: TextReason::TooLong,
         }));
     }
-    match fit_text(alloc, interface, op, Side::In, text) {
+    match fit_text(alloc, interface, op, Side::In, None, text) {
         Ok(fit) => {
             // A fit's graph conforms.
             let _conforming = fit.flat();

@@ -1,16 +1,20 @@
-use Rattle.nd_value.specs.Fitting.{setting_of}
-use Rattle.nd_grammar.proofs.PlainSides.{number_side_plain}
-use Rattle.dceidl.proofs.RoundTrip.{represented, given_back, same_text}
+use Rattle.nd_value.specs.Fitting.{setting_beside}
+use Rattle.dceidl.proofs.Sides.{legal_side_beside}
+use Rattle.dceidl.proofs.RoundTrip.{represented, same_graph, same_text, same_migration}
 use Rattle.dceidl.proofs.laws.decode_undoes_encode.Goals as goal
 
 pub returns-clause-represents : goal.returns-clause-represents
-returns-clause-represents c i n o s order chunk text octets numbers there e =
-    represented (setting_of i o s) order _ (number_side_plain i n o s numbers there) chunk text octets e
+returns-clause-represents c i n o s q order chunk text octets there some e =
+    represented (setting_beside i o s q) (legal_side_beside i n o s q there) order chunk text octets e some
 
 pub returns-clause-back : goal.returns-clause-back
-returns-clause-back c i n o s order chunk text octets made numbers there e d =
-    given_back (setting_of i o s) order _ (number_side_plain i n o s numbers there) chunk text octets e made d
+returns-clause-back c i n o s q order chunk text octets made there some e d =
+    same_graph (setting_beside i o s q) (legal_side_beside i n o s q there) order chunk text octets e some made d
 
 pub returns-clause-printed : goal.returns-clause-printed
-returns-clause-printed c i n o s order chunk text octets made numbers there e d printed =
-    same_text (setting_of i o s) order _ (number_side_plain i n o s numbers there) chunk text octets e made d printed
+returns-clause-printed c i n o s q order chunk text octets made other there some e d printed =
+    same_text (setting_beside i o s q) (legal_side_beside i n o s q there) order chunk text octets e c.same_texts.ensures some made other d printed
+
+pub returns-clause-migrated : goal.returns-clause-migrated
+returns-clause-migrated c i n o s q order chunk text octets made other there some e d m =
+    same_migration (setting_beside i o s q) (legal_side_beside i n o s q there) order chunk text octets e c.same_texts.ensures some made other d m

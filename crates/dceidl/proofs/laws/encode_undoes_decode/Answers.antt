@@ -1,13 +1,20 @@
-use Rattle.nd_value.specs.Fitting.{setting_of}
-use Rattle.nd_grammar.proofs.PlainSides.{number_side_plain}
-use Rattle.dceidl.proofs.Sides.{legal_side_of}
-use Rattle.dceidl.proofs.RoundTrip.{reads_back, represented_again}
+use Rattle.nd_value.specs.Fitting.{setting_beside}
+use Rattle.dceidl.proofs.Sides.{legal_side_beside}
+use Rattle.dceidl.proofs.RoundTrip.{reads_back, chosen_again, represented_again, octets_back}
 use Rattle.dceidl.proofs.laws.encode_undoes_decode.Goals as goal
 
 pub returns-clause-reads : goal.returns-clause-reads
-returns-clause-reads c i n o s order octets text numbers there d short =
-    reads_back (setting_of i o s) order _ (number_side_plain i n o s numbers there) (legal_side_of i n o s there) octets text d short
+returns-clause-reads c i n o s q order octets text there d short =
+    reads_back (setting_beside i o s q) (legal_side_beside i n o s q there) order octets text d short
+
+pub returns-clause-chosen : goal.returns-clause-chosen
+returns-clause-chosen c i n o s q order other chunk octets text made there d e =
+    chosen_again (setting_beside i o s q) (legal_side_beside i n o s q there) order octets text d other chunk made e
 
 pub returns-clause-represents : goal.returns-clause-represents
-returns-clause-represents c i n o s order other chunk octets text made numbers there d e =
-    represented_again (setting_of i o s) order _ (number_side_plain i n o s numbers there) (legal_side_of i n o s there) octets text d other chunk made e
+returns-clause-represents c i n o s q order other chunk octets text made there some d e =
+    represented_again (setting_beside i o s q) (legal_side_beside i n o s q there) order octets text d other chunk made e some
+
+pub returns-clause-back : goal.returns-clause-back
+returns-clause-back c i n o s q order chunk octets text made there d e chosen =
+    octets_back (setting_beside i o s q) (legal_side_beside i n o s q there) order octets text d chunk made e chosen

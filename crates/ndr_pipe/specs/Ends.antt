@@ -1,0 +1,30 @@
+-- Lists of ends: one of them is called, and the others stay as they are.
+use Rattle.std.specs.Prelude.{◌≡◌, ℕ, suc, zero, false, List, [], ◌∷◌, Some, Result, MatchResult, slice_set}
+use Rattle.std.specs.List.{slice_get}
+use Rattle.ndr_pipe.specs.End.{EndSeen, with_octets, ended, HasFailed}
+
+-- there is an end of this number, and it is not finished
+abbrev pub IsOpenAt : List EndSeen → ℕ → Type 0
+IsOpenAt ends at = (e : EndSeen) × (slice_get ends at ≡ Some e) × (e.finished ≡ false)
+
+-- the list with one end changed
+abbrev pub change_at : ℕ → (EndSeen → EndSeen) → List EndSeen → List EndSeen
+change_at i f [] = []
+change_at zero f (e ∷ es) = f e ∷ es
+change_at (suc i) f (e ∷ es) = e ∷ change_at i f es
+
+-- One end failed at what it was given, and the others are as before.
+pub record FailsAt (before now : List EndSeen) (at : ℕ) (octets : List ℕ) : Type 0 where
+  pub was : EndSeen
+  pub is : EndSeen
+  pub there : slice_get before at ≡ Some was
+  pub failed : HasFailed was is octets
+  pub set : now ≡ slice_set before at is
+
+-- a line was given to one end, and the others are as before
+abbrev pub TakesAt : {E : Type 0} → List EndSeen → List EndSeen → ℕ → List ℕ → Result Unit E → Type 0
+TakesAt before now at line result = MatchResult result (λ _. now ≡ change_at at (with_octets line) before) (λ _. FailsAt before now at line)
+
+-- one end was finished, and the others are as before
+abbrev pub FinishesAt : {E : Type 0} → List EndSeen → List EndSeen → ℕ → Result Unit E → Type 0
+FinishesAt before now at result = MatchResult result (λ _. now ≡ change_at at ended before) (λ _. FailsAt before now at [])

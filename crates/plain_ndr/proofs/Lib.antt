@@ -1,6 +1,0 @@
-pub mod Encoded
-pub mod Filled
-pub mod Mapped
-pub mod Roots
-pub mod Sides
-pub mod Steps
