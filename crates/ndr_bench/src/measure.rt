@@ -12,6 +12,7 @@ use std::io;
 use std::time::{Duration, Instant};
 
 // The least times of several rounds.
+#[derive(Drop)]
 struct Least {
     copy: Duration,
     decode: Duration,
