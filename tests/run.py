@@ -28,6 +28,7 @@ from pathlib import Path
 from typing import BinaryIO, List, Optional, Sequence, Union
 
 sys.dont_write_bytecode = True
+sys.path.append(str(Path(__file__).resolve().parent / "cases"))  # files of cases may take cases of each other
 
 from case import ROOT, Begins, Case, Check, Command, Folder, LinkTo, OneAtATime, Sparse, Stream, Unreadable, printable
 

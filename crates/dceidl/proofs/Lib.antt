@@ -11,3 +11,4 @@ pub mod RoundTrip
 pub mod HeldFiles
 pub mod HeldRequests
 pub mod Exact
+pub mod NineWords

@@ -1,33 +1,6 @@
-use crate::{EndFailed, FileEnd, MemEnd, PipeEnd, PipeEnds};
+use crate::{EndFailed, FileEnd, MemEnd, PipeEnd};
 use std::fs;
-use std::process::Abort;
 use std::test::Fail;
-
-fn took(rt: &impl Abort, ends: &PipeEnds, at: usize, octets: &[u8], finished: bool) {
-    match ends.get(at) {
-        Some(end) => {
-            assert!(rt; end.shown() == Some(octets));
-            assert!(rt; end.finished() == finished);
-        }
-        None => assert!(rt; false),
-    }
-}
-
-#[test]
-fn boxed_ends_take_lines(rt: HostRuntime) -> Result<(), Fail> {
-    let mut ends = PipeEnds::new(rt.alloc());
-    let first: Box<dyn PipeEnd> = Box::new(rt.alloc(), MemEnd::new(rt.alloc(), 10, &[])?)?;
-    let second: Box<dyn PipeEnd> = Box::new(rt.alloc(), MemEnd::new(rt.alloc(), 3, &[])?)?;
-    assert!(rt; ends.push(first).is_ok());
-    assert!(rt; ends.push(second).is_ok());
-    assert_eq!(rt; ends.len(), 2);
-    assert_eq!(rt; ends.take(0, b"1\n"), Ok(()));
-    assert_eq!(rt; ends.finish(0), Ok(()));
-    assert_eq!(rt; ends.take(1, b"1000\n"), Err(EndFailed));
-    took(&rt, &ends, 0, b"1\n", true);
-    took(&rt, &ends, 1, b"100", true);
-    Ok(())
-}
 
 #[test]
 fn ends_fail_at_listed_calls(rt: HostRuntime) -> Result<(), Fail> {

@@ -1,0 +1,141 @@
+#!/usr/bin/env python3
+"""Measures `decode` by the program crates/decode_bench: nanoseconds an item and the time beside a copy of the octets, for five works at two sizes, and peak memory beyond that of
+an empty run where the octets come straight from the input.
+
+    bench/decode.py                 builds the program if it is not there, and measures it
+    bench/decode.py --program PATH  measures another program
+    bench/decode.py --runs N        the least time of so many decodings (default 5)
+    bench/decode.py --octets DIR    writes the octets of the works to files of this folder and ends
+
+The works are a conformant array of 1,000,000 longs, one of 500,000 structs of a byte, a hyper and a short, 200,000 unique pointers to strings of 12 octets, 16,777,208 bytes,
+and a list of 100,000 nodes over unique pointers. They are those of `samba_bench.c`, a program that measures Samba's libndr, so figures of one sitting can be compared.
+
+The status is 1 if ten times the items take more than twelve times as long, if a work takes more memory than its limit, or if a run fails.
+"""
+
+import argparse
+import os
+import re
+import struct
+import subprocess
+import sys
+import tempfile
+
+ROOT = os.path.dirname(os.path.dirname(os.path.abspath(__file__)))
+CRATE = os.path.join(ROOT, "crates", "decode_bench")
+PROGRAM = os.path.join(CRATE, "out", "decode_bench")
+MOST_GROWTH = 12.0
+IDL = """[uuid(5c8a1f10-7b0e-4d3a-9a52-0c1de0000005), version(1.0), pointer_default(unique)]
+interface bn {
+  typedef struct { byte t; hyper h; short s; } rec;
+  typedef struct lnode { long v; [unique] struct lnode *next; } lnode;
+  typedef struct { [unique, string] char *s; } str;
+  void longs([in] unsigned long n, [in, size_is(n)] long a[*]);
+  void recs([in] unsigned long n, [in, size_is(n)] rec a[*]);
+  void strs([in] unsigned long n, [in, size_is(n)] str a[*]);
+  void octs([in] unsigned long n, [in, size_is(n)] byte d[*]);
+  void chain([in, unique] lnode *p);
+}
+"""
+
+
+def longs(count):
+    return struct.pack(f"<II{count}i", count, count, *range(count))
+
+
+def recs(count):
+    """Structs of 24 octets, of which the last has no gap after it. The first is on a multiple of 8."""
+    octets = bytearray(struct.pack("<II", count, count))
+    for k in range(count):
+        octets += struct.pack("<B7xqh6x", k & 255, k, (k + 32768) % 65536 - 32768)
+    return bytes(octets[:-6])
+
+
+def strs(count):
+    """Pointers, then their strings: a maximum count, an offset, an actual count and the octets, each on a multiple of 4."""
+    octets = bytearray(struct.pack("<II", count, count))
+    octets += struct.pack(f"<{count}I", *range(1, count + 1))
+    for k in range(count):
+        text = b"name%07u\0" % k
+        octets += b"\0" * (-len(octets) % 4) + struct.pack("<III", len(text), 0, len(text)) + text
+    return bytes(octets)
+
+
+def octs(count):
+    return struct.pack("<II", count, count) + b"\7" * count
+
+
+def chain(count):
+    octets = bytearray(struct.pack("<I", 1))
+    for k in range(count):
+        octets += struct.pack("<iI", k, k + 2 if k + 1 < count else 0)
+    return bytes(octets)
+
+
+# each work with its operation, its items, and the most octets of memory that an item may take
+WORKS = [
+    ("longs", longs, 0, 1_000_000, 6.0),
+    ("recs", recs, 1, 500_000, None),
+    ("strs", strs, 2, 200_000, None),
+    ("octs", octs, 3, 16_777_208, 2.5),
+    ("chain", chain, 4, 100_000, None),
+]
+
+
+def built():
+    if not os.path.exists(PROGRAM):
+        subprocess.run(["rt", "run"], cwd=CRATE, check=True, stdout=subprocess.DEVNULL)
+
+
+def run(program, folder, op, rounds, octets):
+    """The line of a run, and its peak memory in octets."""
+    path = os.path.join(folder, "octets")
+    with open(path, "wb") as file:
+        file.write(octets)
+    with open(path, "rb") as file:
+        child = subprocess.Popen([program, "bn.idl", str(op), str(rounds)], cwd=folder, stdin=file, stdout=subprocess.PIPE, text=True)
+        line = child.stdout.read()
+        _, status, usage = os.wait4(child.pid, 0)
+    child.returncode = os.waitstatus_to_exitcode(status)
+    if child.returncode != 0:
+        raise SystemExit(f"operation {op}: status {child.returncode}")
+    return line, usage.ru_maxrss * 1024
+
+
+def times(line):
+    spent, copy = re.search(r"octets, (\d+) ns, a copy (\d+) ns", line).groups()
+    return int(spent), int(copy)
+
+
+def main():
+    parser = argparse.ArgumentParser()
+    parser.add_argument("--program", default=PROGRAM)
+    parser.add_argument("--runs", type=int, default=5)
+    parser.add_argument("--octets")
+    words = parser.parse_args()
+    if words.octets:
+        for name, make, _, items, _ in WORKS:
+            with open(os.path.join(words.octets, name), "wb") as file:
+                file.write(make(items))
+        return 0
+    if words.program == PROGRAM:
+        built()
+    status = 0
+    with tempfile.TemporaryDirectory() as folder:
+        with open(os.path.join(folder, "bn.idl"), "w") as file:
+            file.write(IDL)
+        for name, make, op, items, most in WORKS:
+            small, _ = times(run(words.program, folder, op, words.runs, make(items // 10))[0])
+            large, copy = times(run(words.program, folder, op, words.runs, make(items))[0])
+            _, empty = run(words.program, folder, op, 0, make(1))
+            _, peak = run(words.program, folder, op, 0, make(items))
+            growth, memory = large / small, (peak - empty) / items
+            bad = growth > MOST_GROWTH or (most is not None and memory > most)
+            status = 1 if bad else status
+            print(f"{name}: {items} items, {large / items:.2f} ns an item, {large / copy:.1f} times a copy of the octets, grows {growth:.1f} times from a tenth, ", end="")
+            print(f"{memory:.1f} octets of memory an item{' TOO MUCH' if bad else ''}", flush=True)
+    return status
+
+
+if __name__ == "__main__":
+    sys.exit(main())
