@@ -50,25 +50,25 @@ use Rattle.ndr_chunks.specs.Fetched.{CountBad, CountCame, GapBad, GapCame}
 abbrev kept_in : Bool → List Item → Logged
 kept_in b xs = record { keeps = b; items = xs }
 
-none_noted : (g : Logged) → g ≡ with_items [] g
+pub none_noted : (g : Logged) → g ≡ with_items [] g
 none_noted g = go g.keeps
   where
     go : (b : Bool) → kept_in b g.items ≡ kept_in b (if b then g.items ++ [] else g.items)
     go true = ap (kept_in true) (sym (append-nil g.items))
     go false = refl
 
-one_noted : (x : Item) (g : Logged) → noted_in x g ≡ with_items (x ∷ []) g
+pub one_noted : (x : Item) (g : Logged) → noted_in x g ≡ with_items (x ∷ []) g
 one_noted x g = go g.keeps
   where
     go : (b : Bool) → noted_in x (kept_in b g.items) ≡ kept_in b (if b then g.items ++ x ∷ [] else g.items)
     go true = refl
     go false = refl
 
-gap_noted : (h : Home) (at : ℕ) (os : List ℕ) (g : Logged) → all_noted (gap_items h at os) g ≡ with_items (gap_items h at os) g
+pub gap_noted : (h : Home) (at : ℕ) (os : List ℕ) (g : Logged) → all_noted (gap_items h at os) g ≡ with_items (gap_items h at os) g
 gap_noted h at [] g = none_noted g
 gap_noted h at (o ∷ os) g = one_noted (item_here h at item.Gap (length (o ∷ os)) (pos 0) 0) g
 
-gap_counts : (h : Home) (at : ℕ) (os : List ℕ) → length (but_gaps (gap_items h at os)) ≡ 0
+pub gap_counts : (h : Home) (at : ℕ) (os : List ℕ) → length (but_gaps (gap_items h at os)) ≡ 0
 gap_counts h at [] = refl
 gap_counts h at (o ∷ os) = refl
 

@@ -1,3 +1,4 @@
 mod Opening
 mod Counting
 mod Twice
+mod Alone

@@ -1,3 +1,4 @@
 pub mod Fetched
 pub mod Chunks
 pub mod Opening
+pub mod Counted

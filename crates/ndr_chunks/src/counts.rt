@@ -11,6 +11,7 @@ ghost use Rattle.nd_grammar.specs.Reader.{Names};
 ghost use Rattle.ndr_pipes.specs.Pipes.{InPipe, Position, at_chunk, at_count};
 ghost use Rattle.ndr_verdict.specs.Verdict.{decoding_seen, direct_roots};
 ghost use Rattle.ndr_chunks.specs.Chunks.{Counts, Gaps, HasMoved, IsAt};
+ghost use Rattle.ndr_chunks.specs.Counted.{ChunkTold, CountTold, GapTold};
 
 use crate::fetching::{fetch_count, fetch_gap};
 use nd_base::{Ledger, Order, Source, Steps};
@@ -33,6 +34,7 @@ pub fn chunk_count<S: Source, L: Ledger>(
         → direct ≤ length (direct_roots w) → InPipe w order fetched noted direct first i rs roots elem done max_at 4 (at_chunk w order i elem done k) k → IsAt i k machine.old
         → Counts w order fetched noted direct first i rs roots elem done max_at machine.old.cells (source_seen S.Source.left S.Source.ended S.Source.faults source.old source.new)
         (decoding_seen items.old items.new (L.number steps.old) (L.number steps.new)) machine.new result }
+    ensures alone { ChunkTold order machine.old machine.new (source_seen S.Source.left S.Source.ended S.Source.faults source.old source.new) (decoding_seen items.old items.new (L.number steps.old) (L.number steps.new)) result }
     ensures moved { OnOk result (HasMoved machine.old machine.new) }
     ensures later { S.Source.faults source.old ≤ S.Source.faults source.new }
 {
@@ -54,6 +56,7 @@ fn pass_gap<S: Source, L: Ledger>(
         → direct ≤ length (direct_roots w) → InPipe w order fetched noted direct first i rs roots elem done max_at 4 (at_chunk w order i elem done k) k → IsAt i k machine.old
         → Gaps w order fetched noted direct first i rs roots elem done max_at machine.old.cells (source_seen S.Source.left S.Source.ended S.Source.faults source.old source.new)
         (decoding_seen items.old items.new (L.number steps.old) (L.number steps.new)) machine.new result }
+    ensures alone { GapTold machine.old machine.new (source_seen S.Source.left S.Source.ended S.Source.faults source.old source.new) (decoding_seen items.old items.new (L.number steps.old) (L.number steps.new)) result }
     ensures moved { OnOk result (HasMoved machine.old machine.new) }
     ensures within { OnOk result (machine.new.at ≤ STREAM_LIMIT) }
     ensures later { S.Source.faults source.old ≤ S.Source.faults source.new }
@@ -78,6 +81,7 @@ fn pass_count<S: Source, L: Ledger>(
         → direct ≤ length (direct_roots w) → InPipe w order fetched noted direct first i rs roots elem done max_at 4 (at_count w order i elem done k) k → IsAt i k machine.old
         → Counts w order fetched noted direct first i rs roots elem done max_at machine.old.cells (source_seen S.Source.left S.Source.ended S.Source.faults source.old source.new)
         (decoding_seen items.old items.new (L.number steps.old) (L.number steps.new)) machine.new result }
+    ensures alone { CountTold order machine.old machine.new (source_seen S.Source.left S.Source.ended S.Source.faults source.old source.new) (decoding_seen items.old items.new (L.number steps.old) (L.number steps.new)) result }
     ensures moved { OnOk result (HasMoved machine.old machine.new) }
     ensures later { S.Source.faults source.old ≤ S.Source.faults source.new }
 {

@@ -52,8 +52,8 @@ pub struct Decoded {
 /// where that item would begin, at a failed agreement with the last item before it. `ReadFault` is answered only if the source's count of faults
 /// rose, or is at the greatest value of a `u64`.
 ///
-/// A log that keeps items gets each item as soon as it is whole and not refused. `steps` counts each of these but the gaps, and each cell as it
-/// gets its number: never more than the octets fetched and the roots, whatever counts the octets state.
+/// A log that keeps items gets each item as soon as it is whole and not refused. At `Ok` `steps` has risen by one for each of these except the gaps,
+/// and for each cell; at a fault by no more than that, and never by more than the octets fetched and the roots, whatever counts the octets state.
 ///
 /// Each fetch asks only for what the gap or primitive that is due still lacks. The time is linear in the octets fetched. It takes memory for what
 /// was read, never for what a count claims; after `Memory` the source, the log and the steps are as after some item.
