@@ -28,11 +28,11 @@ pub count_trees : (vs : List Tree) → count (trees vs) ≡ length vs
 count_trees [] = refl
 count_trees (v ∷ vs) = ap (λ n. suc n) (count_trees vs)
 
-take_first : (us vs : List Tree) → take_trees (length us) (trees (us ++ vs)) ≡ trees us
+pub take_first : (us vs : List Tree) → take_trees (length us) (trees (us ++ vs)) ≡ trees us
 take_first [] vs = refl
 take_first (u ∷ us) vs = ap (more u) (take_first us vs)
 
-drop_first : (us vs : List Tree) → drop_trees (length us) (trees (us ++ vs)) ≡ trees vs
+pub drop_first : (us vs : List Tree) → drop_trees (length us) (trees (us ++ vs)) ≡ trees vs
 drop_first [] vs = refl
 drop_first (u ∷ us) vs = drop_first us vs
 
@@ -93,7 +93,7 @@ module _ (w : Setting) (side : IsLegalSide w) (order : Order) where
       → Joins s vs (pipes_of vs ps) (parts_entries w s ps)
 
   -- after a chunk of elements the pipe goes on
-  on : (s : Spot) (vs : List Tree) (n : ℕ) (u : Tree) (us : List Tree) (pipes_now : List Tree) (entries_now : List Entry)
+  pub on : (s : Spot) (vs : List Tree) (n : ℕ) (u : Tree) (us : List Tree) (pipes_now : List Tree) (entries_now : List Entry)
       → Joins (spot_after s n (u ∷ us)) (vs ++ u ∷ us) pipes_now entries_now
       → Joins s vs pipes_now (part_entries w s (length (u ∷ us)) (u ∷ us) ++ entries_now)
   on s vs n u us pipes_now entries_now j =
@@ -119,6 +119,24 @@ module _ (w : Setting) (side : IsLegalSide w) (order : Order) where
         as_many = j.as_many;
       }
 
+  -- after the end of a pipe the next one begins
+  pub ended : (s : Spot) (vs : List Tree) (n : ℕ) (pipes_now : List Tree) (entries_now : List Entry) → Joins (spot_after s n []) [] pipes_now entries_now
+      → before_pipes (root_list w) ≤ s.root → Joins s vs (node tree.Pipe (trees vs) ∷ pipes_now) (part_entries w s 0 [] ++ entries_now)
+  ended s vs n pipes_now entries_now j low =
+      let E : List Entry = entries (home.Root s.root) 0 (Align 4 ∷ Chunk 0 ∷ []) in
+      let h : s.root + 1 < length (root_list w) = omega (arith, j.as_many) in
+      record {
+        elements = [];
+        cut = [];
+        pipes = node tree.Pipe (trees j.elements) ∷ j.pipes;
+        cuts = j.cut ∷ j.cuts;
+        pipes_are = ap₂ (λ x y. node tree.Pipe (trees x) ∷ y) (sym (append-nil vs)) j.pipes_are;
+        entries_are = ap (λ u. E ++ u) (j.entries_are ∙ sym (pipes_open (s.root + 1) (omega (arith, low)) h (trees j.elements) j.pipes j.cut j.cuts));
+        is_cut = (refl, tt);
+        all_cut = (subst (λ m. Cuts m j.cut) (sym (count_trees j.elements)) j.is_cut, j.all_cut);
+        as_many = omega (arith, j.as_many);
+      }
+
   -- after the end of a pipe the next one begins, or there is none
   at_end : (s : Spot) (vs : List Tree) (n : ℕ) (ps : List Part) → Rest ps → AreParts w order (spot_after s n []) ps
       → length (root_list w) ≤ (after_all (spot_after s n []) ps).root → before_pipes (root_list w) ≤ s.root → s.root < length (root_list w)
@@ -126,20 +144,7 @@ module _ (w : Setting) (side : IsLegalSide w) (order : Order) where
   at_end s vs n ps rest a e low high = go (le_or (s.root + 1) (length (root_list w)))
     where
       next : s.root + 1 < length (root_list w) → Joins s vs (node tree.Pipe (trees vs) ∷ pipes_of [] ps) (part_entries w s 0 [] ++ parts_entries w (spot_after s n []) ps)
-      next h =
-          let j : Joins (spot_after s n []) [] (pipes_of [] ps) (parts_entries w (spot_after s n []) ps) = rest (spot_after s n []) [] a e (omega (arith, low)) h in
-          let E : List Entry = entries (home.Root s.root) 0 (Align 4 ∷ Chunk 0 ∷ []) in
-          record {
-            elements = [];
-            cut = [];
-            pipes = node tree.Pipe (trees j.elements) ∷ j.pipes;
-            cuts = j.cut ∷ j.cuts;
-            pipes_are = ap₂ (λ x y. node tree.Pipe (trees x) ∷ y) (sym (append-nil vs)) j.pipes_are;
-            entries_are = ap (λ u. E ++ u) (j.entries_are ∙ sym (pipes_open (s.root + 1) (omega (arith, low)) h (trees j.elements) j.pipes j.cut j.cuts));
-            is_cut = (refl, tt);
-            all_cut = (subst (λ m. Cuts m j.cut) (sym (count_trees j.elements)) j.is_cut, j.all_cut);
-            as_many = omega (arith, j.as_many);
-          }
+      next h = ended s vs n (pipes_of [] ps) (parts_entries w (spot_after s n []) ps) (rest (spot_after s n []) [] a e (omega (arith, low)) h) low
 
       last : (qs : List Part) → qs ≡ ps → length (root_list w) ≤ s.root + 1 → Joins s vs (node tree.Pipe (trees vs) ∷ pipes_of [] qs) (part_entries w s 0 [] ++ parts_entries w (spot_after s n []) qs)
       last [] q h =

@@ -30,7 +30,8 @@ use Rattle.nd_grammar.proofs.reader.ReaderReached.{Keeps, still_reached}
 use Rattle.nd_grammar.proofs.reader.ReaderStream.{root_parts}
 use Rattle.ndr_parts.specs.Parts.{AreParts, AreReadTo, IsElement, Part, Spot, after_all, elem_at, elem_by, first_spot, pipes_by, pipes_of, spot_after, with_pipes}
 use Rattle.ndr_parts.proofs.Elements.{Alone, IsAlone, element_alone, in_pipe, same_agrees, same_misfit}
-use Rattle.ndr_parts.proofs.Streams.{Same, same}
+use Rattle.ndr_parts.proofs.Chunks.{parts_entries}
+use Rattle.ndr_parts.proofs.Streams.{AreJoined, Same, all_joined, pipe_tops, same}
 
 -- ## The pipes that chunks make
 
@@ -122,7 +123,7 @@ pipe_alone w i r p e v g =
     subst (λ v. AllByRecursion (Alone w.table) (governed_nodes w.table r.of [] v)) (sym g.is)
     (own, subst (λ d. AllByRecursion (Alone w.table) (nodes d)) (sym p.type_is) kids)
 
-module _ (w : Setting) (side : IsLegalSide w) (order : Order) where
+module _ (w : Setting) where
   abbrev AloneAt : HomeNode → Type 0
   AloneAt x = Alone w.table x.typed
 
@@ -145,26 +146,26 @@ module _ (w : Setting) (side : IsLegalSide w) (order : Order) where
       (pipes_alone k (i + 1) rs vs a.1 (λ j q f. ap (slice_get (root_list w)) (omega arith) ∙ e (suc j) q f) g.1)
 
   -- pipes have no pointers
-  no_root_pointers : (i : ℕ) (rs : List Root) (vs : List Tree) → AllByRecursion (IsPipeRoot w.table) rs → root_pointers w.table i rs vs ≡ []
-  no_root_pointers i [] vs a = refl
-  no_root_pointers i (r ∷ rs) [] a = refl
-  no_root_pointers i (r ∷ rs) (v ∷ vs) a =
-      ap₂ (λ x y. x ++ y) (pipe_pointers w.table (home.Root i) r.of a.0.elem v a.0.type_is ((laid_out w side).elements r.of a.0.elem a.0.type_is)) (no_root_pointers (i + 1) rs vs a.1)
+  no_root_pointers : IsLegalSide w → (i : ℕ) (rs : List Root) (vs : List Tree) → AllByRecursion (IsPipeRoot w.table) rs → root_pointers w.table i rs vs ≡ []
+  no_root_pointers side i [] vs a = refl
+  no_root_pointers side i (r ∷ rs) [] a = refl
+  no_root_pointers side i (r ∷ rs) (v ∷ vs) a =
+      ap₂ (λ x y. x ++ y) (pipe_pointers w.table (home.Root i) r.of a.0.elem v a.0.type_is ((laid_out w side).elements r.of a.0.elem a.0.type_is)) (no_root_pointers side (i + 1) rs vs a.1)
 
   few_pipes : (i : ℕ) (vs : List Tree) → GoodPipes w i vs → FewNodes vs
   few_pipes i [] g = tt
   few_pipes i (v ∷ vs) g = (subst (λ v. node_count (more v none) < 2 ^ 32) (sym g.0.is) (omega (arith, g.0.few)), few_pipes (i + 1) vs g.1)
 
-machine_list : (table : Table) (xs : List HomeNode) → AllByRecursion (λ (x : HomeNode). has_machine_values x.typed.label ≡ true) xs → list_all (λ x. has_machine_values x.typed.label) xs ≡ true
+pub machine_list : (table : Table) (xs : List HomeNode) → AllByRecursion (λ (x : HomeNode). has_machine_values x.typed.label ≡ true) xs → list_all (λ x. has_machine_values x.typed.label) xs ≡ true
 machine_list table [] a = refl
 machine_list table (x ∷ xs) a = and_from (has_machine_values x.typed.label) (list_all (λ x. has_machine_values x.typed.label) xs) a.0 (machine_list table xs a.1)
 
-machine_each : (xs : List HomeNode) → list_all (λ x. has_machine_values x.typed.label) xs ≡ true → AllByRecursion (λ (x : HomeNode). has_machine_values x.typed.label ≡ true) xs
+pub machine_each : (xs : List HomeNode) → list_all (λ x. has_machine_values x.typed.label) xs ≡ true → AllByRecursion (λ (x : HomeNode). has_machine_values x.typed.label ≡ true) xs
 machine_each [] e = tt
 machine_each (x ∷ xs) e = let (p, q) = and_parts (has_machine_values x.typed.label) (list_all (λ x. has_machine_values x.typed.label) xs) e in (p, machine_each xs q)
 
-module _ (w : Setting) (side : IsLegalSide w) (order : Order) (head : List ℕ) (g : Graph) (parts : List Part) (it : AreReadTo w order head g parts)
-    (all : length (root_list w) ≤ (after_all (first_spot w head) parts).root) where
+-- the nodes and the pointers of a graph with other pipes
+module _ (w : Setting) (side : IsLegalSide w) (g : Graph) (pipes : List Tree) (s : Same w g (with_pipes w g pipes)) where
   abbrev n : ℕ
   n = before_pipes (root_list w)
 
@@ -177,22 +178,10 @@ module _ (w : Setting) (side : IsLegalSide w) (order : Order) (head : List ℕ) 
   abbrev P : List Tree
   P = drop n g.roots
 
-  abbrev pipes : List Tree
-  pipes = pipes_of [] parts
-
   abbrev G : Graph
   G = with_pipes w g pipes
 
-  good : GoodPipes w n pipes
-  good = good_pipes w order parts (first_spot w head) [] it.are_parts (record { good = tt; nodes = refl; few = omega arith })
-
-  s : Same w g G
-  s = (same w side order head g parts it all).0
-
-  as_many : n + length pipes ≡ length rl
-  as_many = (same w side order head g parts it all).1
-
-  same_cell : (c : ℕ) → cell_of_number g c ≡ cell_of_number G c
+  pub same_cell : (c : ℕ) → cell_of_number g c ≡ cell_of_number G c
   same_cell zero = refl
   same_cell (suc i) = refl
 
@@ -202,11 +191,11 @@ module _ (w : Setting) (side : IsLegalSide w) (order : Order) (head : List ℕ) 
   there : (j : ℕ) (r : Root) → slice_get (drop (length U) rl) j ≡ Some r → slice_get rl (0 + length U + j) ≡ Some r
   there j r e = let z : 0 + length U + j ≡ length U + j = omega arith in ap (slice_get rl) z ∙ sym (drop_at (length U) rl j) ∙ e
 
-  good' : GoodPipes w (0 + length U) pipes
-  good' = let z : n ≡ 0 + length U = omega (arith, s.first_roots) in subst (λ k. GoodPipes w k pipes) z good
-
-  -- what is true of each node of the graph that is kept, and of each node that names no cell, is true of each node
-  each : (Q R : HomeNode → Type 0) → ((x : HomeNode) → Q x → R x) → ((x : HomeNode) → Alone w.table x.typed → R x) → AllByRecursion Q (all_nodes w g) → AllByRecursion R (all_nodes w G)
+  -- What is true of each node of the graph that is kept, and of each node of the pipes, is true of each node.
+  pub each : (Q R : HomeNode → Type 0) → ((x : HomeNode) → Q x → R x)
+      → ((i : ℕ) (rs : List Root) → i ≡ n → AllByRecursion (IsPipeRoot w.table) rs → ((j : ℕ) (r : Root) → slice_get rs j ≡ Some r → slice_get (root_list w) (i + j) ≡ Some r)
+      → AllByRecursion R (root_nodes w G i rs pipes))
+      → AllByRecursion Q (all_nodes w g) → AllByRecursion R (all_nodes w G)
   each Q R f k a =
       let N : List HomeNode = root_nodes w g 0 rl g.roots in
       let C : List HomeNode = cell_nodes w.table 1 g.cells in
@@ -215,42 +204,71 @@ module _ (w : Setting) (side : IsLegalSide w) (order : Order) (head : List ℕ) 
       let cells : AllByRecursion R C = all_weaker Q R f C (all_right Q N C a) in
       let heads : AllByRecursion R X = all_weaker Q R f X (all_left Q X (Y g P)
       (subst (AllByRecursion Q) (ap (root_nodes w g 0 rl) (sym s.roots_are) ∙ node_parts w g 0 rl U P) (all_left Q N C a))) in
-      let pipes_ok : AllByRecursion R (Y G pipes) = all_weaker (AloneAt w side order) R k (Y G pipes) (pipes_alone w side order G (0 + length U) (drop (length U) rl) pipes pipe_roots there good') in
+      let pipes_ok : AllByRecursion R (Y G pipes) = k (0 + length U) (drop (length U) rl) (omega (arith, s.first_roots)) pipe_roots there in
       all_append R (root_nodes w G 0 rl (U ++ pipes)) C
       (subst (AllByRecursion R) (sym (node_parts w G 0 rl U pipes))
       (all_append R (root_nodes w G 0 rl U) (Y G pipes) (subst (AllByRecursion R) (same_nodes w g G s.agreements 0 rl U) heads) pipes_ok)) cells
 
   bare : (vs : List Tree) → root_pointers w.table 0 rl (U ++ vs) ≡ root_pointers w.table 0 rl U
   bare vs =
-      root_parts w.table 0 rl U vs ∙ ap (λ u. root_pointers w.table 0 rl U ++ u) (no_root_pointers w side order (0 + length U) (drop (length U) rl) vs pipe_roots)
+      root_parts w.table 0 rl U vs ∙ ap (λ u. root_pointers w.table 0 rl U ++ u) (no_root_pointers w side (0 + length U) (drop (length U) rl) vs pipe_roots)
       ∙ append-nil (root_pointers w.table 0 rl U)
 
-  pointers : root_pointers w.table 0 rl g.roots ≡ root_pointers w.table 0 rl (U ++ pipes)
+  pub pointers : root_pointers w.table 0 rl g.roots ≡ root_pointers w.table 0 rl (U ++ pipes)
   pointers = ap (root_pointers w.table 0 rl) (sym s.roots_are) ∙ bare P ∙ sym (bare pipes)
 
-  keeps : Keeps w g G
-  keeps = record {
+  pub kept : Keeps w g G
+  kept = record {
     roots = λ p m. subst (λ u. Among u p) pointers m;
     cells = λ b x e p m. (x, sym (same_cell b) ∙ e, m);
   }
 
-  pub conforming : Conforms w G
-  conforming = record {
-    all_roots = length-append U pipes ∙ ap (λ k. k + length pipes) s.first_roots ∙ as_many;
-    machine_values = machine_list w.table (all_nodes w G)
-        (each (λ x. has_machine_values x.typed.label ≡ true) (λ x. has_machine_values x.typed.label ≡ true) (λ x e. e) (λ x a. a.machine_values)
-        (machine_each (all_nodes w g) it.conforms.machine_values));
-    local = each (λ x. misfit_of w.table g x.typed ≡ None) (λ x. misfit_of w.table G x.typed ≡ None)
-        (λ x e. sym (same_misfit g G same_cell refl w.table x.typed) ∙ e) (λ x a. a.fits G) it.conforms.local;
-    unshared = subst (λ u. AllEarlier ShareOnlyIfFull (u ++ cell_pointers w.table 1 g.cells)) pointers it.conforms.unshared;
-    reached = λ c a b. still_reached w g G keeps (it.conforms.reached c a b);
-    agreed = each (λ x. AgreesAt g x.typed) (λ x. AgreesAt G x.typed) (λ x a. same_agrees g G same_cell refl x.typed a) (λ x a. a.agrees G x.typed.node) it.conforms.agreed;
-    few_cells = it.conforms.few_cells;
-    few_nodes =
-        (let F : Tree → Type 0 = λ t. node_count (more t none) < 2 ^ 32 in
-        let C : List Tree = map (λ c. c.val) g.cells in
-        let roots : AllByRecursion F g.roots = all_left F g.roots C it.conforms.few_nodes in
-        all_append F (U ++ pipes) C
-        (all_append F U pipes (all_left F U P (subst (AllByRecursion F) (sym s.roots_are) roots)) (few_pipes w side order n pipes good))
-        (all_right F g.roots C it.conforms.few_nodes));
-  }
+-- The graph with pipes whose elements conform.
+module _ (w : Setting) (side : IsLegalSide w) (order : Order) (head : List ℕ) (g : Graph) (parts : List Part) (it : AreReadTo w order head g parts)
+    (all : length (root_list w) ≤ (after_all (first_spot w head) parts).root) where
+  abbrev made : List Tree
+  made = pipes_of [] parts
+
+  abbrev H : Graph
+  H = with_pipes w g made
+
+  good : GoodPipes w (before_pipes (root_list w)) made
+  good = good_pipes w order parts (first_spot w head) [] it.are_parts (record { good = tt; nodes = refl; few = omega arith })
+
+  j : AreJoined w made (parts_entries w (first_spot w head) parts)
+  j = all_joined w side order head parts it.are_parts all
+
+  s : Same w g H
+  s = same w side order head g it.is_head it.empty it.conforms made (pipe_tops parts []) (parts_entries w (first_spot w head) parts) j
+
+  -- what is true of each node of the graph that is kept, and of each node that names no cell, is true of each node
+  all_nodes_are : (Q R : HomeNode → Type 0) → ((x : HomeNode) → Q x → R x) → ((x : HomeNode) → Alone w.table x.typed → R x) → AllByRecursion Q (all_nodes w g)
+      → AllByRecursion R (all_nodes w H)
+  all_nodes_are Q R f k a =
+      each w side g made s Q R f (λ i rs e pipe_roots there.
+      all_weaker (AloneAt w) R k (root_nodes w H i rs made) (pipes_alone w H i rs made pipe_roots there (subst (λ u. GoodPipes w u made) (sym e) good))) a
+
+  pub conforming : Conforms w H
+  conforming =
+      let U : List Tree = take (before_pipes (root_list w)) g.roots in
+      let P : List Tree = drop (before_pipes (root_list w)) g.roots in
+      record {
+        all_roots = length-append U made ∙ ap (λ k. k + length made) s.first_roots ∙ j.as_many;
+        machine_values = machine_list w.table (all_nodes w H)
+            (all_nodes_are (λ x. has_machine_values x.typed.label ≡ true) (λ x. has_machine_values x.typed.label ≡ true) (λ x e. e) (λ x a. a.machine_values)
+            (machine_each (all_nodes w g) it.conforms.machine_values));
+        local = all_nodes_are (λ x. misfit_of w.table g x.typed ≡ None) (λ x. misfit_of w.table H x.typed ≡ None)
+            (λ x e. sym (same_misfit g H (same_cell w side g made s) refl w.table x.typed) ∙ e) (λ x a. a.fits H) it.conforms.local;
+        unshared = subst (λ u. AllEarlier ShareOnlyIfFull (u ++ cell_pointers w.table 1 g.cells)) (pointers w side g made s) it.conforms.unshared;
+        reached = λ c a b. still_reached w g H (kept w side g made s) (it.conforms.reached c a b);
+        agreed = all_nodes_are (λ x. AgreesAt g x.typed) (λ x. AgreesAt H x.typed) (λ x a. same_agrees g H (same_cell w side g made s) refl x.typed a)
+            (λ x a. a.agrees H x.typed.node) it.conforms.agreed;
+        few_cells = it.conforms.few_cells;
+        few_nodes =
+            (let F : Tree → Type 0 = λ t. node_count (more t none) < 2 ^ 32 in
+            let C : List Tree = map (λ c. c.val) g.cells in
+            let roots : AllByRecursion F g.roots = all_left F g.roots C it.conforms.few_nodes in
+            all_append F (U ++ made) C
+            (all_append F U made (all_left F U P (subst (AllByRecursion F) (sym s.roots_are) roots)) (few_pipes w (before_pipes (root_list w)) made good))
+            (all_right F g.roots C it.conforms.few_nodes));
+      }

@@ -26,7 +26,7 @@ if_true : (b : Bool) (r : MisfitReason) (o : Option MisfitReason) → unless b r
 if_true true r o e = (refl, e)
 if_true false r o e = cc
 
-abbrev NamesNone : Label → Type 0
+abbrev pub NamesNone : Label → Type 0
 NamesNone l = (c : ℕ) → l ≡ tree.Ptr (Some c) → ⊥
 
 not_there : (c : ℕ) → names_cell no_graph (tree.Ptr (Some c)) ≡ true → ⊥
@@ -36,14 +36,17 @@ not_there (suc c) e =
     let z : suc c ≤ 0 = leb-true (suc c) 0 q in
     absurd (omega (arith, z))
 
+pub names_none_by : (l : Label) → names_cell no_graph l ≡ true → NamesNone l
+names_none_by l m c k = not_there c (subst (λ l. names_cell no_graph l ≡ true) k m)
+
 names_none : (table : Table) (x : TypedNode) → misfit_of table no_graph x ≡ None → NamesNone x.label
-names_none table x e c k =
+names_none table x e =
     let d : Option TypeDef = type_at table x.of in
     let (a, ea) = if_true (has_shape d x.label x.kids) misfit.Shape _ e in
     let (b, eb) = if_true (has_range is_value table d x.label) misfit.Range _ ea in
     let (n, en) = if_true (is_no_null_ref d x.label) misfit.NullRef _ eb in
     let (m, em) = if_true (names_cell no_graph x.label) misfit.NoCell _ en in
-    not_there c (subst (λ l. names_cell no_graph l ≡ true) k m)
+    names_none_by x.label m
 
 abbrev misfit_with : Table → Option TypeDef → Label → Trees → Bool → Bool → Option MisfitReason
 misfit_with table d l ks x y =
@@ -57,11 +60,11 @@ misfit_with table d l ks x y =
     (unless (has_arm d l) misfit.NoArm None)))))))
 
 -- a node that names no cell is judged alike in all graphs
-cell_alike : (g h : Graph) (l : Label) → NamesNone l → names_cell g l ≡ names_cell h l
+pub cell_alike : (g h : Graph) (l : Label) → NamesNone l → names_cell g l ≡ names_cell h l
 cell_alike g h (tree.Ptr (Some c)) e = absurd (e c refl)
 cell_alike g h _ e = refl
 
-pointee_alike : (g h : Graph) (d : Option TypeDef) (l : Label) → NamesNone l → names_pointee g d l ≡ names_pointee h d l
+pub pointee_alike : (g h : Graph) (d : Option TypeDef) (l : Label) → NamesNone l → names_pointee g d l ≡ names_pointee h d l
 pointee_alike g h (Some (def.Pointer k to)) (tree.Ptr (Some c)) e = absurd (e c refl)
 pointee_alike g h _ _ e = refl
 
@@ -80,11 +83,11 @@ alone_agrees g h x e a = subst (AllByRecursion (λ t. AllByRecursion (IsAgreed t
 -- ## Nodes in a graph with the same cells
 
 module _ (g h : Graph) (same : (c : ℕ) → cell_of_number g c ≡ cell_of_number h c) (as_many : length g.cells ≡ length h.cells) where
-  cell_same : (l : Label) → names_cell g l ≡ names_cell h l
+  pub cell_same : (l : Label) → names_cell g l ≡ names_cell h l
   cell_same (tree.Ptr (Some c)) = ap (λ n. not (eqb c 0) && leb c n) as_many
   cell_same _ = refl
 
-  pointee_same : (d : Option TypeDef) (l : Label) → names_pointee g d l ≡ names_pointee h d l
+  pub pointee_same : (d : Option TypeDef) (l : Label) → names_pointee g d l ≡ names_pointee h d l
   pointee_same (Some (def.Pointer k to)) (tree.Ptr (Some c)) = ap (λ o. has_type o to.0) (same c)
   pointee_same _ _ = refl
 

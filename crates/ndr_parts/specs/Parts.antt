@@ -138,7 +138,6 @@ pub record IsPartThrough (w : Setting) (order : Order) (s : Spot) (octets : List
   pub elements : List Tree
   pub partial : AllByRecursion (λ v. list_all (is_partial_node w.table no_graph) (home_nodes w.table (elem_at w s.root) v) ≡ true) elements
   pub machine_values : AllByRecursion (λ v. list_all (λ x. has_machine_values x.label) (home_nodes w.table (elem_at w s.root) v) ≡ true) elements
-  pub few_nodes : s.node + node_count (trees elements) < 2 ^ 32
   pub later : List EntryAt
   pub split : end_to_end s.place (part_entries w s (length elements) elements) ≡ earlier ++ later
   pub rendered : (before : List ℕ) (numbering : ℕ → ℕ) → length before ≡ s.place → AllByRecursion (IsRendered order numbering (before ++ octets)) earlier

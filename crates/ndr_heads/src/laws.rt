@@ -1,0 +1,17 @@
+//! The laws, each the contract of a function that does nothing.
+ghost use Rattle.std.specs.Prelude.{◌≡◌, ℕ, List, None, length};
+ghost use Rattle.nd_base.specs.declared.octets.Order.{Order};
+ghost use Rattle.nd_types.specs.Number.{AreOctets};
+ghost use Rattle.nd_value.specs.Setting.{Setting};
+ghost use Rattle.nd_grammar.specs.LegalSide.{IsLegalSide};
+ghost use Rattle.ndr_heads.specs.Heads.{HeadRead, head_graph, head_tested};
+
+use ndr_verdict::laws::canonical_graph;
+
+/// Octets that the plain reader reads to their end before the pipes, without a stop, are the head of a stream of the graph that it finds.
+pub fn heads_are_read()
+    ensures { (w : Setting) → IsLegalSide w → (order : Order) (octets : List ℕ) → AreOctets octets → (head_tested w order octets).stop ≡ None → (head_tested w order octets).at ≡ length octets
+        → HeadRead w order octets (head_graph w order octets) (head_tested w order octets).seen }
+{
+    canonical_graph();
+}

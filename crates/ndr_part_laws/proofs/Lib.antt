@@ -1,0 +1,10 @@
+pub mod Begun
+pub mod Stopped
+pub mod Partial
+pub mod Homes
+pub mod Before
+pub mod Bare
+pub mod Front
+pub mod Through
+pub mod Alone
+pub mod Noted

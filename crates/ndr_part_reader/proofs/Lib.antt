@@ -1,0 +1,14 @@
+pub mod Decoding
+pub mod Elements
+pub mod Elsewhere
+pub mod Fewer
+pub mod Found
+pub mod Header
+pub mod Headers
+pub mod Known
+pub mod Meeting
+pub mod Refusals
+pub mod Refused
+pub mod Renumbered
+pub mod Through
+pub mod Wholes

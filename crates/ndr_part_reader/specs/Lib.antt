@@ -1,0 +1,2 @@
+pub mod PartReader
+pub mod Outcomes
