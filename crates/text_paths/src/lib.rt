@@ -5,4 +5,4 @@ mod paths;
 #[cfg(test)]
 mod tests;
 
-pub use paths::path;
+pub use paths::{path, root_at};

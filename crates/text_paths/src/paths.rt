@@ -150,8 +150,8 @@ fn root_value_at(graph: &Graph, at: u32) -> Option<&Val>
     graph.roots.get(at as usize)
 }
 
-/// A root of a side by its place.
-fn root_at(interface: &Interface, op: u32, side: Side, at: u32) -> Option<RootDef<'_>>
+/// A root of a side of an operation by its place, from 0. `op` must be the number of an operation. Takes no memory.
+pub fn root_at(interface: &Interface, op: u32, side: Side, at: u32) -> Option<RootDef<'_>>
     requires { op < length interface.now.operations }
     ensures { (o : Operation) → slice_get interface.now.operations op ≡ Some o
         → option_map root_value result ≡ slice_get (named_roots interface.now.types side o) at }

@@ -10,8 +10,8 @@ use nd_base::text::hex_digit;
 use nd_base::{Memory, Octets};
 use uuid::Uuid;
 
-/// A number in base 10.
-pub(crate) fn append_number(text: &mut Octets, value: i128) -> Result<(), Memory>
+/// Adds a number in base 10 to a text. It takes memory for its digits; out of memory is the only error.
+pub fn append_number(text: &mut Octets, value: i128) -> Result<(), Memory>
     ensures { OnOk result (text.new ≡ text.old ++ signed_decimal value) }
 {
     let mut buffer = Buffer::new();

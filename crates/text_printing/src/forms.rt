@@ -99,8 +99,9 @@ pub(crate) fn append_pointer(text: &mut Octets, cell: Option<CellId>) -> Result<
     }
 }
 
-/// A context handle.
-pub(crate) fn append_context(text: &mut Octets, attributes: u32, id: &Uuid) -> Result<(), Memory>
+/// Adds a context handle to a text: `ctx(`, its attributes in base 10, a comma, its UUID, `)`. It takes memory for the text alone; out of
+/// memory is the only error, and then a part may have been added.
+pub fn append_context(text: &mut Octets, attributes: u32, id: &Uuid) -> Result<(), Memory>
     ensures { OnOk result (text.new ≡ text.old ++ context_text attributes id.now) }
 {
     text.append(b"ctx(")?;

@@ -66,8 +66,26 @@ pub fn print_value(
     ensures { IfOk result (λ text. text ≡ value_text version.Two interface.now.types of.0 (tree_of val.now)) }
 {
     let mut text = Octets::new(alloc);
-    append_value(&mut text, &interface.types, of, val)?;
+    append_value_text(&mut text, interface, of, val)?;
     Ok(text)
+}
+
+/// Adds the text of one value of a type to a text: so the texts of many values can be put into one. What holds of `print_value` holds of
+/// it: the value must break no rule by itself, and no line feed is added.
+///
+/// It takes memory for the text alone; out of memory is the only error, and then a part of the value's text may have been added. Calls
+/// nest as deep as the value does.
+pub fn append_value_text(
+    text: &mut Octets,
+    interface: &Interface,
+    of: TypeId,
+    val: &Val,
+) -> Result<(), Memory>
+    requires { IsSound interface.now.types of.0 (tree_of val.now) }
+    ensures { OnOk result (text.new ≡ text.old ++ value_text version.Two interface.now.types of.0 (tree_of val.now)) }
+{
+    append_value(text, &interface.types, of, val)?;
+    Ok(())
 }
 
 /// `values 2`, and the operation with its side.

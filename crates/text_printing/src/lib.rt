@@ -10,5 +10,7 @@ mod tests;
 mod values;
 mod walked;
 
-pub use graphs::{print, print_value};
-pub use quoting::quoted;
+pub use digits::append_number;
+pub use forms::append_context;
+pub use graphs::{append_value_text, print, print_value};
+pub use quoting::{append_quoted, quoted};

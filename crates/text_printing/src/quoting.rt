@@ -18,8 +18,9 @@ pub fn quoted(alloc: Global, octets: &[u8]) -> Result<Octets, Memory>
     Ok(text)
 }
 
-/// The same after a text.
-pub(crate) fn append_quoted(text: &mut Octets, octets: &[u8]) -> Result<(), Memory>
+/// Adds the same to a text. It takes memory for the text alone; out of memory is the only error, and then a part of the string may have
+/// been added.
+pub fn append_quoted(text: &mut Octets, octets: &[u8]) -> Result<(), Memory>
     ensures { OnOk result (text.new ≡ text.old ++ quoted_text octets.now) }
 {
     text.append(b"\"")?;

@@ -1,0 +1,5 @@
+pub mod HomeNodes
+pub mod LevelPaths
+pub mod Lines
+pub mod Places
+pub mod Walks
