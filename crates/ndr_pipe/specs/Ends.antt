@@ -1,7 +1,9 @@
 -- Lists of ends: one of them is called, and the others stay as they are.
 use Rattle.std.specs.Prelude.{◌≡◌, ℕ, suc, zero, false, List, [], ◌∷◌, Some, Result, MatchResult, slice_set}
 use Rattle.std.specs.List.{slice_get}
+use Rattle.ndr_pipe.specs.declared.ends.Ends.{Ends}
 use Rattle.ndr_pipe.specs.End.{EndSeen, with_octets, ended, HasFailed}
+use Rattle.ndr_pipe.specs.Seen.{ends_seen}
 
 -- there is an end of this number, and it is not finished
 abbrev pub IsOpenAt : List EndSeen → ℕ → Type 0
@@ -28,3 +30,20 @@ TakesAt before now at line result = MatchResult result (λ _. now ≡ change_at 
 -- one end was finished, and the others are as before
 abbrev pub FinishesAt : {E : Type 0} → List EndSeen → List EndSeen → ℕ → Result Unit E → Type 0
 FinishesAt before now at result = MatchResult result (λ _. now ≡ change_at at ended before) (λ _. FailsAt before now at [])
+
+-- ends over a call
+pub record EndsSeen : Type 0 where
+  pub before : List EndSeen
+  pub now : List EndSeen
+
+abbrev pub ends_over : {E : Type 0} → (E → EndSeen) → Ends E → Ends E → EndsSeen
+ends_over seen before now = record { before = ends_seen seen before; now = ends_seen seen now }
+
+-- nothing was given to any end, and none failed
+abbrev pub AreAsBefore : EndsSeen → Type 0
+AreAsBefore e = e.now ≡ e.before
+
+-- no end is finished
+abbrev pub AreOpen : List EndSeen → Type 0
+AreOpen [] = Unit {0}
+AreOpen (e ∷ es) = (e.finished ≡ false) × AreOpen es

@@ -1,0 +1,5 @@
+//! Tests of draining on worked octets.
+#![tactic(auto)]
+
+#[cfg(test)]
+mod tests;

@@ -1,0 +1,9 @@
+mod Begun
+mod Drains
+mod ElementTypes
+mod Giving
+mod Pipes
+mod Rest
+mod Steps
+mod UnderWay
+mod Whole

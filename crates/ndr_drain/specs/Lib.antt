@@ -1,0 +1,5 @@
+pub mod Lines
+pub mod Given
+pub mod Drained
+pub mod Turns
+pub mod Faults
