@@ -20,7 +20,7 @@ use Rattle.refusals.specs.declared.refusal.Refusal.TheVariants.{Memory}
 use Rattle.idl_compiler.specs.Idl.{main_file, IsMainFault, IsNameFault, IsDueImport, by_names, reported_fault, name_in, IsDueAfter, IsIdlFault}
 use Rattle.idl_lexer.specs.declared.tokens.LexFault.TheVariants as lexical
 use Rattle.nd_base.specs.Outside.{IsContent, IsMissing}
-use Rattle.refusals.specs.declared.refusal.Refusal.TheVariants.{Absent, FileFailed, BadIdl, NoOperation, ReadFault, BadOctets, BadText, BadValue, TooLong, BadRequest}
+use Rattle.refusals.specs.declared.refusal.Refusal.TheVariants.{Absent, FileFailed, BadIdl, NoOperation, ReadFault, BadOctets, BadText, BadValue, TooLong, BadRequest, BadLabel, ShortLabel, TooFewEnds, EndFailed}
 use Rattle.nd_base.proofs.Rising.{rose_later}
 use Rattle.nd_base.specs.Counts.{Rose}
 use Rattle.nd_base.specs.Over.{FilesSeen, HasRisen}
@@ -169,6 +169,10 @@ after f g idl text acf (BadOctets place why) same low now low' now' cause = absu
 after f g idl text acf (BadText line column why) same low now low' now' cause = absurd cause
 after f g idl text acf (BadValue path why) same low now low' now' cause = absurd cause
 after f g idl text acf (BadRequest fault) same low now low' now' cause = absurd cause
+after f g idl text acf (BadLabel fault) same low now low' now' cause = absurd cause
+after f g idl text acf ShortLabel same low now low' now' cause = absurd cause
+after f g idl text acf (TooFewEnds wanted found) same low now low' now' cause = absurd cause
+after f g idl text acf (EndFailed which) same low now low' now' cause = absurd cause
 
 -- why a main file that was loaded means nothing is why the files do
 loaded_cause : (f : FilesSeen) (idl text : List ℕ) (acf : Option (List ℕ)) (r : Refusal) → IsContent f.held idl text → IsTextCause f idl text acf r → IsIdlCause f idl acf r
@@ -183,6 +187,10 @@ loaded_cause f idl text acf (BadOctets place why) content cause = absurd cause
 loaded_cause f idl text acf (BadText line column why) content cause = absurd cause
 loaded_cause f idl text acf (BadValue path why) content cause = absurd cause
 loaded_cause f idl text acf (BadRequest fault) content cause = absurd cause
+loaded_cause f idl text acf (BadLabel fault) content cause = absurd cause
+loaded_cause f idl text acf ShortLabel content cause = absurd cause
+loaded_cause f idl text acf (TooFewEnds wanted found) content cause = absurd cause
+loaded_cause f idl text acf (EndFailed which) content cause = absurd cause
 
 -- what came after the load of the main file
 pub after_load : (f g : FilesSeen) (idl text : List ℕ) (acf : Option (List ℕ)) (r : Refusal) → IsContent f.held idl text → g.held ≡ f.held
@@ -203,6 +211,10 @@ main_not_loaded f idl acf (BadOctets place why) cause = absurd cause
 main_not_loaded f idl acf (BadText line column why) cause = absurd cause
 main_not_loaded f idl acf (BadValue path why) cause = absurd cause
 main_not_loaded f idl acf (BadRequest fault) cause = absurd cause
+main_not_loaded f idl acf (BadLabel fault) cause = absurd cause
+main_not_loaded f idl acf ShortLabel cause = absurd cause
+main_not_loaded f idl acf (TooFewEnds wanted found) cause = absurd cause
+main_not_loaded f idl acf (EndFailed which) cause = absurd cause
 
 -- ## Names asked for
 

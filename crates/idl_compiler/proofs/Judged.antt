@@ -23,7 +23,7 @@ use Rattle.nd_base.specs.Text.{position_of}
 use Rattle.refusals.specs.declared.refusal.IdlReason.{IdlReason}
 use Rattle.refusals.specs.declared.refusal.IdlReason.TheVariants as reason
 use Rattle.refusals.specs.declared.refusal.Refusal.{Refusal}
-use Rattle.refusals.specs.declared.refusal.Refusal.TheVariants.{Memory, Absent, FileFailed, BadIdl, NoOperation, ReadFault, BadOctets, BadText, BadValue, TooLong, BadRequest}
+use Rattle.refusals.specs.declared.refusal.Refusal.TheVariants.{Memory, Absent, FileFailed, BadIdl, NoOperation, ReadFault, BadOctets, BadText, BadValue, TooLong, BadRequest, BadLabel, ShortLabel, TooFewEnds, EndFailed}
 use Rattle.idl_compiler.specs.AcfFile.{AcfFile, IsBeside, tree_beside}
 use Rattle.nd_base.specs.Over.{FilesSeen}
 use Rattle.idl_compiler.specs.Idl.{AreResolved, Means, resolved_world, IsBroken, by_acf, by_rules, reported_by, reported_rule, reported_beside, word_at, IsAcfFault}
@@ -123,6 +123,10 @@ module _ (f : FilesSeen) (idl text : List ℕ) (state : State) (resolved : AreRe
   acf_refused name (BadText line column why) cause = absurd cause
   acf_refused name (BadValue path why) cause = absurd cause
   acf_refused name (BadRequest fault) cause = absurd cause
+  acf_refused name (BadLabel fault) cause = absurd cause
+  acf_refused name ShortLabel cause = absurd cause
+  acf_refused name (TooFewEnds wanted found) cause = absurd cause
+  acf_refused name (EndFailed which) cause = absurd cause
 
   pub beside_refused : (acf : Option (List ℕ)) (r : Refusal) → IsBesideCause f acf r → IsTextCause f idl text acf r
   beside_refused None r cause = absurd cause
@@ -141,6 +145,10 @@ acf_unread f name text (BadOctets place why) content cause = absurd cause
 acf_unread f name text (BadText line column why) content cause = absurd cause
 acf_unread f name text (BadValue path why) content cause = absurd cause
 acf_unread f name text (BadRequest fault) content cause = absurd cause
+acf_unread f name text (BadLabel fault) content cause = absurd cause
+acf_unread f name text ShortLabel content cause = absurd cause
+acf_unread f name text (TooFewEnds wanted found) content cause = absurd cause
+acf_unread f name text (EndFailed which) content cause = absurd cause
 
 -- nor one that is not loaded
 pub acf_unloaded : (f : FilesSeen) (name : List ℕ) (r : Refusal) → IsLoadCause f name r → IsAcfCause f name r
@@ -155,3 +163,7 @@ acf_unloaded f name (BadOctets place why) cause = absurd cause
 acf_unloaded f name (BadText line column why) cause = absurd cause
 acf_unloaded f name (BadValue path why) cause = absurd cause
 acf_unloaded f name (BadRequest fault) cause = absurd cause
+acf_unloaded f name (BadLabel fault) cause = absurd cause
+acf_unloaded f name ShortLabel cause = absurd cause
+acf_unloaded f name (TooFewEnds wanted found) cause = absurd cause
+acf_unloaded f name (EndFailed which) cause = absurd cause

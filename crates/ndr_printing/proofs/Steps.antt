@@ -20,7 +20,7 @@ use Rattle.ndr_state.specs.declared.fault.DecodeFault.{DecodeFault}
 use Rattle.ndr_state.specs.declared.fault.DecodeFault.TheVariants as fault
 use Rattle.text_grammar.specs.Printed.{IsText}
 use Rattle.refusals.specs.declared.refusal.Refusal.{Refusal}
-use Rattle.refusals.specs.declared.refusal.Refusal.TheVariants.{Memory, Absent, FileFailed, BadIdl, NoOperation, ReadFault, BadOctets, BadText, BadValue, TooLong, BadRequest}
+use Rattle.refusals.specs.declared.refusal.Refusal.TheVariants.{Memory, Absent, FileFailed, BadIdl, NoOperation, ReadFault, BadOctets, BadText, BadValue, TooLong, BadRequest, BadLabel, ShortLabel, TooFewEnds, EndFailed}
 use Rattle.refusals.specs.declared.refusal.OctetsFault.TheVariants as octets_fault
 use Rattle.ndr_printing.specs.Printed.{IsPrinted, IsInputCause, IsRefusedInput}
 use Rattle.ndr_printing.specs.Taken.{IsTaken, IsEnd, IsNoEnd}
@@ -110,3 +110,7 @@ module _ (s t : SourceSeen) (w : Setting) (order : Order) (taken : ℕ) (g : Gra
   no_end later same (BadText line column why) never = absurd never
   no_end later same (BadValue path why) never = absurd never
   no_end later same (BadRequest why) never = absurd never
+  no_end later same (BadLabel fault) never = absurd never
+  no_end later same ShortLabel never = absurd never
+  no_end later same (TooFewEnds wanted found) never = absurd never
+  no_end later same (EndFailed which) never = absurd never

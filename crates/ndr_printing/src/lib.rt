@@ -3,4 +3,4 @@
 
 mod printing;
 
-pub use printing::print_octets;
+pub use printing::{end, print_octets};

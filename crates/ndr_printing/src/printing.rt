@@ -89,8 +89,11 @@ fn decode<S: Source>(
     }
 }
 
-// The end of a source, after so many octets.
-fn end<S: Source>(input: &mut S, taken: u32) -> Result<(), Refusal>
+/// The end of a source, after so many octets. It takes no memory.
+///
+/// # Errors
+/// BadOctets at the place after them, where an octet follows: then it was taken. ReadFault, where the source failed.
+pub fn end<S: Source>(input: &mut S, taken: u32) -> Result<(), Refusal>
     ensures ended { IfOk result (λ _. IsEnd (source_seen S.left S.ended S.faults input.old input.new)) }
     ensures refused { IfErr result (IsNoEnd (source_seen S.left S.ended S.faults input.old input.new) taken) }
 {

@@ -12,7 +12,7 @@ use Rattle.nd_value.specs.Setting.{Setting}
 use Rattle.nd_grammar.specs.Chosen.{Chosen}
 use Rattle.ndr_encode.specs.Work.{WorkSeen, IsWorkFor, IsTooLong, IsChosen}
 use Rattle.refusals.specs.declared.refusal.Refusal.{Refusal}
-use Rattle.refusals.specs.declared.refusal.Refusal.TheVariants.{Memory, Absent, FileFailed, BadIdl, NoOperation, ReadFault, BadOctets, BadText, BadValue, TooLong, BadRequest}
+use Rattle.refusals.specs.declared.refusal.Refusal.TheVariants.{Memory, Absent, FileFailed, BadIdl, NoOperation, ReadFault, BadOctets, BadText, BadValue, TooLong, BadRequest, BadLabel, ShortLabel, TooFewEnds, EndFailed}
 use Rattle.ndr_writing.specs.Written.{IsWritten, IsLong, IsWritingCause}
 use Rattle.ndr_writing.specs.Prepared.{IsUnprepared}
 use Rattle.ndr_writing.proofs.Lengths.{chosen_length, legal_side}
@@ -62,6 +62,10 @@ cause_own f k o there fit (BadOctets place why) cause = absurd cause
 cause_own f k o there fit (BadText line column reason) cause = absurd cause
 cause_own f k o there fit (BadValue path reason) cause = absurd cause
 cause_own f k o there fit (BadRequest fault) cause = absurd cause
+cause_own f k o there fit (BadLabel fault) cause = absurd cause
+cause_own f k o there fit ShortLabel cause = absurd cause
+cause_own f k o there fit (TooFewEnds wanted found) cause = absurd cause
+cause_own f k o there fit (EndFailed which) cause = absurd cause
 
 -- ## Under the interface of the call
 

@@ -9,11 +9,13 @@ use Rattle.nd_value.specs.declared.misfit.MisfitReason.{MisfitReason}
 use Rattle.nd_value.specs.declared.misfit.MisfitReason.TheVariants as misfit
 use Rattle.nd_grammar.specs.declared.reason.Reason.{Reason}
 use Rattle.nd_grammar.specs.declared.reason.Reason.TheVariants as reason
+use Rattle.ndr_prim.specs.declared.label.LabelFault.{LabelFault}
+use Rattle.ndr_prim.specs.declared.label.LabelFault.TheVariants as label_fault
 use Rattle.text_grammar.specs.declared.fault.TextReason.{TextReason}
 use Rattle.text_grammar.specs.declared.fault.TextReason.TheVariants as text
 use Rattle.nd_base.specs.Text.{joined}
 use Rattle.refusals.specs.declared.refusal.Refusal.{Refusal}
-use Rattle.refusals.specs.declared.refusal.Refusal.TheVariants.{Memory, Absent, FileFailed, BadIdl, NoOperation, ReadFault, BadOctets, BadText, BadValue, TooLong, BadRequest}
+use Rattle.refusals.specs.declared.refusal.Refusal.TheVariants.{Memory, Absent, FileFailed, BadIdl, NoOperation, ReadFault, BadOctets, BadText, BadValue, TooLong, BadRequest, BadLabel, ShortLabel, TooFewEnds, EndFailed}
 use Rattle.refusals.specs.declared.refusal.IdlReason.{IdlReason}
 use Rattle.refusals.specs.declared.refusal.IdlReason.TheVariants as idl_reason
 use Rattle.refusals.specs.declared.refusal.OctetsFault.{OctetsFault}
@@ -28,11 +30,15 @@ status_of (BadText line column reason) = 1
 status_of (BadValue path reason) = 1
 status_of (TooLong length) = 1
 status_of (BadRequest fault) = 1
+status_of (BadLabel fault) = 1
+status_of ShortLabel = 1
+status_of (TooFewEnds wanted found) = 1
 status_of ReadFault = 3
 status_of Memory = 5
 status_of (BadIdl file line column reason) = 6
 status_of NoOperation = 6
 status_of (Absent file) = 7
+status_of (EndFailed which) = 8
 status_of (FileFailed file) = 9
 
 -- the name of a reason why a text of IDL cannot be cut into tokens
@@ -76,6 +82,12 @@ reason_name reason.TextZero = codes "TextZero"
 reason_name reason.NoArm = codes "NoArm"
 reason_name reason.OtherType = codes "OtherType"
 reason_name (reason.Disagrees wanted found) = codes "Disagrees"
+
+-- the name of a reason why a format label is refused
+abbrev pub label_fault_name : LabelFault → List ℕ
+label_fault_name label_fault.BadOrder = codes "BadOrder"
+label_fault_name label_fault.Ebcdic = codes "Ebcdic"
+label_fault_name label_fault.BadCharset = codes "BadCharset"
 
 -- the name of a reason why a text is refused
 abbrev pub text_reason_name : TextReason → List ℕ
@@ -138,6 +150,10 @@ line_of idl op (BadText line column reason) = text_line (codes "refused: text ")
 line_of idl op (BadValue path reason) = value_line (codes "refused: value at ") path reason
 line_of idl op (TooLong length) = joined (codes "refused: TooLong " ∷ decimal length ∷ codes "\n" ∷ [])
 line_of idl op (BadRequest fault) = request_line fault
+line_of idl op (BadLabel fault) = joined (codes "refused: label: " ∷ label_fault_name fault ∷ codes "\n" ∷ [])
+line_of idl op ShortLabel = codes "refused: label: Truncated\n"
+line_of idl op (TooFewEnds wanted found) = joined (codes "refused: TooFewEnds wanted " ∷ decimal wanted ∷ codes " found " ∷ decimal found ∷ codes "\n" ∷ [])
+line_of idl op (EndFailed which) = joined (codes "pipe end " ∷ decimal which ∷ codes " failed\n" ∷ [])
 line_of idl op ReadFault = codes "read fault\n"
 line_of idl op Memory = codes "want of memory\n"
 line_of idl op (BadIdl file line column reason) =

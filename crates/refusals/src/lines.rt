@@ -1,7 +1,7 @@
 // The status and the line of each refusal.
 ghost use Rattle.std.specs.Prelude.{◌≡◌, [], ◌∷◌, codes, IfOk};
 ghost use Rattle.nd_base.specs.Text.{joined};
-ghost use Rattle.refusals.specs.Lines.{status_of, line_of, text_line as line_of_text, value_line as line_of_value, request_line as line_of_request, idl_reason_text, lex_kind_name as name_of_lex_kind, const_fault_name as name_of_const_fault, fault_text, reason_text, misfit_text, disagreement as disagreement_text, reason_name as name_of_reason, misfit_name as name_of_misfit, text_reason_name as name_of_text_reason};
+ghost use Rattle.refusals.specs.Lines.{status_of, line_of, text_line as line_of_text, value_line as line_of_value, request_line as line_of_request, idl_reason_text, lex_kind_name as name_of_lex_kind, const_fault_name as name_of_const_fault, fault_text, reason_text, misfit_text, label_fault_name as name_of_label_fault, disagreement as disagreement_text, reason_name as name_of_reason, misfit_name as name_of_misfit, text_reason_name as name_of_text_reason};
 
 use crate::refusal::{IdlReason, OctetsFault, Refusal, RequestFault};
 use idl_lexer::LexKind;
@@ -11,6 +11,7 @@ use nd_base::text::join;
 use nd_base::{Memory, Octets};
 use nd_grammar::Reason;
 use nd_value::MisfitReason;
+use ndr_prim::LabelFault;
 use std::alloc::Global;
 use text_grammar::TextReason;
 
@@ -19,16 +20,15 @@ use text_grammar::TextReason;
 /// | Status | Meaning |
 /// |---|---|
 /// | 0 | success |
-/// | 1 | the octets, the text or the values of the input are refused, or the request beside which a response is judged, or the octets would be too many |
+/// | 1 | the label, the octets, the text or the values of the input are refused, or the request beside which a response is judged, or the octets would be too many, or there are fewer pipe ends than pipes |
 /// | 2 | the command line is not valid |
 /// | 3 | the input failed |
 /// | 4 | standard output or standard error failed; this status replaces any other |
 /// | 5 | out of memory |
 /// | 6 | an interface file or the attribute configuration file is refused, or the interface has no operation of that name |
 /// | 7 | the interface file, an imported file, the attribute configuration file or the text of a request does not exist |
+/// | 8 | a pipe end failed |
 /// | 9 | the interface file, an imported file, the attribute configuration file or the text of a request could not be read |
-///
-/// No run ends with status 8.
 pub type Status = u8;
 
 /// The exit status of a run that is refused in this way.
@@ -45,7 +45,11 @@ pub fn status(refusal: &Refusal) -> Status
         | Refusal::BadText { .. }
         | Refusal::BadValue { .. }
         | Refusal::TooLong { .. }
-        | Refusal::BadRequest(_) => 1,
+        | Refusal::BadRequest(_)
+        | Refusal::BadLabel(_)
+        | Refusal::ShortLabel
+        | Refusal::TooFewEnds { .. } => 1,
+        Refusal::EndFailed { .. } => 8,
     }
 }
 
@@ -81,7 +85,67 @@ pub fn line(alloc: Global, idl: &str, op: &str, refusal: &Refusal) -> Result<Oct
         }
         Refusal::TooLong { length } => length_line(alloc, *length),
         Refusal::BadRequest(fault) => request_line(alloc, fault),
+        Refusal::BadLabel(fault) => label_line(alloc, *fault),
+        Refusal::ShortLabel => Octets::copy(alloc, b"refused: label: Truncated\n"),
+        Refusal::TooFewEnds { wanted, found } => ends_line(alloc, *wanted, *found),
+        Refusal::EndFailed { which } => end_line(alloc, *which),
     }
+}
+
+// A format label that is refused.
+fn label_line(alloc: Global, fault: LabelFault) -> Result<Octets, Memory>
+    ensures { IfOk result (λ line. line ≡ line_of [] [] (Refusal.BadLabel fault)) }
+{
+    join(
+        alloc,
+        &[
+            b"refused: label: ",
+            label_fault_name(fault).as_bytes(),
+            b"\n",
+        ],
+    )
+}
+
+// The name of a reason why a format label is refused.
+fn label_fault_name(fault: LabelFault) -> &'static str
+    ensures { result.now ≡ name_of_label_fault fault }
+{
+    match fault {
+        LabelFault::BadOrder => "BadOrder",
+        LabelFault::Ebcdic => "Ebcdic",
+        LabelFault::BadCharset => "BadCharset",
+    }
+}
+
+// More pipes than ends.
+fn ends_line(alloc: Global, wanted: u32, found: u32) -> Result<Octets, Memory>
+    ensures { IfOk result (λ line. line ≡ line_of [] [] (Refusal.TooFewEnds wanted found)) }
+{
+    let mut wanted_digits = Buffer::new();
+    let wanted = wanted_digits.format(wanted).as_bytes();
+    let mut found_digits = Buffer::new();
+    let found = found_digits.format(found).as_bytes();
+    join(
+        alloc,
+        &[
+            b"refused: TooFewEnds wanted ",
+            wanted,
+            b" found ",
+            found,
+            b"\n",
+        ],
+    )
+}
+
+// A pipe end that failed.
+fn end_line(alloc: Global, which: u32) -> Result<Octets, Memory>
+    ensures { IfOk result (λ line. line ≡ line_of [] [] (Refusal.EndFailed which)) }
+{
+    let mut digits = Buffer::new();
+    join(
+        alloc,
+        &[b"pipe end ", digits.format(which).as_bytes(), b" failed\n"],
+    )
 }
 
 // A request that is refused.

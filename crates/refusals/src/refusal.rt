@@ -4,6 +4,7 @@ use idl_names::ConstFault;
 use nd_base::{Memory, Octets};
 use nd_grammar::Reason;
 use nd_value::MisfitReason;
+use ndr_prim::LabelFault;
 use text_grammar::TextReason;
 use thiserror::Error;
 
@@ -129,6 +130,23 @@ pub enum Refusal {
     /// The request beside which a response is to be judged is refused.
     #[error("request refused: {0}")]
     BadRequest(RequestFault),
+    /// The format label before the octets is refused.
+    #[error("label refused: {0}")]
+    BadLabel(LabelFault),
+    /// The input has fewer than the four octets of a format label.
+    #[error("label cut short")]
+    ShortLabel,
+    /// The side of the operation has so many pipes, and there are fewer ends.
+    #[error("{wanted} pipe ends wanted, {found} found")]
+    TooFewEnds {
+        wanted: u32,
+        found: u32,
+    },
+    /// The end of the pipe of this number, from 0, failed.
+    #[error("pipe end {which} failed")]
+    EndFailed {
+        which: u32,
+    },
 }
 
 impl From<Memory> for Refusal {

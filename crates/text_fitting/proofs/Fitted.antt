@@ -15,7 +15,7 @@ use Rattle.text_grammar.specs.declared.fault.TextFault.{TextFault}
 use Rattle.text_grammar.specs.declared.fault.TextFault.TheVariants as fault
 use Rattle.text_grammar.specs.Reads.{ReadsAs, IsFault}
 use Rattle.refusals.specs.declared.refusal.Refusal.{Refusal}
-use Rattle.refusals.specs.declared.refusal.Refusal.TheVariants.{Memory, Absent, FileFailed, BadIdl, NoOperation, ReadFault, BadOctets, BadText, BadValue, TooLong, BadRequest}
+use Rattle.refusals.specs.declared.refusal.Refusal.TheVariants.{Memory, Absent, FileFailed, BadIdl, NoOperation, ReadFault, BadOctets, BadText, BadValue, TooLong, BadRequest, BadLabel, ShortLabel, TooFewEnds, EndFailed}
 use Rattle.text_fitting.specs.Fitted.{IsTextCause, IsValueCause, IsMisfitAt}
 use Rattle.text_fitting.proofs.Beside.{reads_beside, fault_beside, path_beside}
 use Rattle.text_fitting.proofs.Paths.{misfit_path}
@@ -36,6 +36,10 @@ module _ (w : Setting) (text : List ℕ) (g : Graph) (reads : ReadsAs w text g) 
   text_cause (TooLong many) cause = absurd cause
   text_cause ReadFault cause = absurd cause
   text_cause (BadRequest fault) cause = absurd cause
+  text_cause (BadLabel fault) cause = absurd cause
+  text_cause ShortLabel cause = absurd cause
+  text_cause (TooFewEnds wanted found) cause = absurd cause
+  text_cause (EndFailed which) cause = absurd cause
 
   pub text_refused : (result : Result Fitting Refusal) → IfErr result (IsValueCause w g) → IfErr result (IsTextCause w text)
   text_refused (Ok f) cause = tt

@@ -14,7 +14,7 @@ use Rattle.text_grammar.specs.Paths.{IsPath}
 use Rattle.text_grammar.specs.Reads.{ReadsAs, IsTextFault}
 use Rattle.text_reader.proofs.Stated.{never_both, one_graph, one_fault}
 use Rattle.refusals.specs.declared.refusal.Refusal.{Refusal}
-use Rattle.refusals.specs.declared.refusal.Refusal.TheVariants.{Memory, Absent, FileFailed, BadIdl, NoOperation, ReadFault, BadOctets, BadText, BadValue, TooLong, BadRequest}
+use Rattle.refusals.specs.declared.refusal.Refusal.TheVariants.{Memory, Absent, FileFailed, BadIdl, NoOperation, ReadFault, BadOctets, BadText, BadValue, TooLong, BadRequest, BadLabel, ShortLabel, TooFewEnds, EndFailed}
 use Rattle.refusals.specs.declared.refusal.RequestFault.{RequestFault}
 use Rattle.refusals.specs.declared.refusal.RequestFault.TheVariants.{Text, Value}
 use Rattle.text_fitting.specs.Fitted.{IsTextCause, IsMisfitAt}
@@ -35,6 +35,10 @@ module _ (w : Setting) (side : IsLegalSide w) (text : List ℕ) where
   good_cause g reads conforms (TooLong many) cause = absurd cause
   good_cause g reads conforms ReadFault cause = absurd cause
   good_cause g reads conforms (BadRequest other) cause = absurd cause
+  good_cause g reads conforms (BadLabel fault) cause = absurd cause
+  good_cause g reads conforms ShortLabel cause = absurd cause
+  good_cause g reads conforms (TooFewEnds wanted found) cause = absurd cause
+  good_cause g reads conforms (EndFailed which) cause = absurd cause
   good_cause g reads conforms (BadOctets place why) cause = absurd cause
 
   -- a text with a fault is refused there
@@ -52,6 +56,10 @@ module _ (w : Setting) (side : IsLegalSide w) (text : List ℕ) where
   fault_cause line column why fault (TooLong many) cause = absurd cause
   fault_cause line column why fault ReadFault cause = absurd cause
   fault_cause line column why fault (BadRequest other) cause = absurd cause
+  fault_cause line column why fault (BadLabel other) cause = absurd cause
+  fault_cause line column why fault ShortLabel cause = absurd cause
+  fault_cause line column why fault (TooFewEnds wanted found) cause = absurd cause
+  fault_cause line column why fault (EndFailed which) cause = absurd cause
   fault_cause line column why fault (BadOctets place because) cause = absurd cause
 
   one_place : (g : Graph) (path other : List ℕ) (why because : MisfitReason) → IsMisfitAt w g path why → IsMisfitAt w g other because → BadValue other because ≡ BadValue path why
@@ -74,6 +82,10 @@ module _ (w : Setting) (side : IsLegalSide w) (text : List ℕ) where
   misfit_cause g path why reads m (TooLong many) cause = absurd cause
   misfit_cause g path why reads m ReadFault cause = absurd cause
   misfit_cause g path why reads m (BadRequest other) cause = absurd cause
+  misfit_cause g path why reads m (BadLabel fault) cause = absurd cause
+  misfit_cause g path why reads m ShortLabel cause = absurd cause
+  misfit_cause g path why reads m (TooFewEnds wanted found) cause = absurd cause
+  misfit_cause g path why reads m (EndFailed which) cause = absurd cause
   misfit_cause g path why reads m (BadOctets place because) cause = absurd cause
 
 -- ## The text of a request

@@ -5,7 +5,7 @@ use Rattle.nd_base.specs.Over.{FilesSeen}
 use Rattle.nd_value.specs.Setting.{Setting}
 use Rattle.nd_value.specs.Fitting.{Fitting}
 use Rattle.refusals.specs.declared.refusal.Refusal.{Refusal}
-use Rattle.refusals.specs.declared.refusal.Refusal.TheVariants.{Memory, Absent, FileFailed, BadIdl, NoOperation, ReadFault, BadOctets, BadText, BadValue, TooLong, BadRequest}
+use Rattle.refusals.specs.declared.refusal.Refusal.TheVariants.{Memory, Absent, FileFailed, BadIdl, NoOperation, ReadFault, BadOctets, BadText, BadValue, TooLong, BadRequest, BadLabel, ShortLabel, TooFewEnds, EndFailed}
 use Rattle.text_fitting.specs.Request.{IsRequestText, IsTextRefusal, HoldsRequest, HoldsNoRequest}
 
 module _ (f : FilesSeen) (name : List ℕ) (w : Setting) where
@@ -22,6 +22,10 @@ module _ (f : FilesSeen) (name : List ℕ) (w : Setting) where
     unread (BadOctets place why) cause = absurd cause
     unread (BadText line column why) cause = absurd cause
     unread (BadValue path why) cause = absurd cause
+    unread (BadLabel fault) cause = absurd cause
+    unread ShortLabel cause = absurd cause
+    unread (TooFewEnds wanted found) cause = absurd cause
+    unread (EndFailed which) cause = absurd cause
 
     pub text_refused : (result : Result Fitting Refusal) → IfErr result (IsTextRefusal w text) → IfErr result (HoldsNoRequest f name w)
     text_refused (Ok fit) cause = tt
