@@ -1,0 +1,4 @@
+pub mod Decodes
+pub mod Fits
+pub mod Lines
+pub mod Values
