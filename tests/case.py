@@ -7,7 +7,7 @@ import re
 from dataclasses import dataclass, field
 from enum import Enum
 from pathlib import Path
-from typing import Callable, List, Mapping, Sequence, Tuple, Union
+from typing import Callable, List, Mapping, Optional, Sequence, Tuple, Union
 
 ROOT = Path(__file__).resolve().parent.parent
 
@@ -86,6 +86,8 @@ class Case:
     out: Union[bytes, Begins, Stream] = b""
     notes: Union[bytes, Stream] = b""
     status: int = 0
+    ends: Mapping[str, bytes] = field(default_factory=dict)
+    left: Optional[bytes] = None
 
 
 @dataclass(frozen=True)

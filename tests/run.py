@@ -23,9 +23,9 @@ import termios
 import threading
 import time
 from array import array
-from dataclasses import dataclass
+from dataclasses import dataclass, replace
 from pathlib import Path
-from typing import BinaryIO, List, Optional, Sequence, Union
+from typing import BinaryIO, List, Mapping, Optional, Sequence, Union
 
 sys.dont_write_bytecode = True
 sys.path.append(str(Path(__file__).resolve().parent / "cases"))  # files of cases may take cases of each other
@@ -44,6 +44,8 @@ class Ran:
     status: Union[int, str]
     out: bytes
     notes: bytes
+    ends: Mapping[str, bytes]
+    left: Optional[bytes] = None
 
 
 # ----------------------------------------------------------------------------------------------------------------------
@@ -131,6 +133,9 @@ def input_of(case: Case, spare: str) -> int:
         with open(spare, "wb") as file:
             write_equal(file, case.input)
         return os.open(spare, os.O_RDONLY)
+    if case.left is not None:
+        Path(spare).write_bytes(case.input)
+        return os.open(spare, os.O_RDONLY)
     return subprocess.DEVNULL if isinstance(case.input, Stream) else subprocess.PIPE
 
 
@@ -143,9 +148,15 @@ def output_of(wanted: Union[bytes, Begins, Stream]) -> int:
     return writer
 
 
-def finish(child: subprocess.Popen, case: Case) -> Ran:
+def ends_of(folder: str, case: Case) -> Mapping[str, bytes]:
+    """The ends of pipes that are files after a run, each with its content; of those that were there before it only what the case names."""
+    names = [name for name in sorted(os.listdir(folder)) if name.startswith("pipe") and (name not in case.files or name in case.ends)]
+    return {name: Path(folder, name).read_bytes() for name in names}
+
+
+def finish(child: subprocess.Popen, case: Case, folder: str) -> Ran:
     """Gives a run its input, and waits for its end."""
-    octets = case.input if isinstance(case.input, bytes) else None
+    octets = case.input if isinstance(case.input, bytes) and case.left is None else None
     if isinstance(case.input, OneAtATime):
         pipe = os.dup(child.stdin.fileno())
         child.stdin.close()
@@ -156,8 +167,8 @@ def finish(child: subprocess.Popen, case: Case) -> Ran:
     except subprocess.TimeoutExpired:
         child.kill()
         out, notes = child.communicate()
-        return Ran(f"none after {SECONDS} seconds", out or b"", notes or b"")
-    return Ran(child.returncode, out or b"", notes or b"")
+        return Ran(f"none after {SECONDS} seconds", out or b"", notes or b"", {})
+    return Ran(child.returncode, out or b"", notes or b"", ends_of(folder, case))
 
 
 def run(program: str, case: Case) -> Ran:
@@ -169,10 +180,14 @@ def run(program: str, case: Case) -> Ran:
         streams = [input_of(case, os.path.join(place, "input")), output_of(case.out), output_of(case.notes)]
         command = ["/bin/sh", "-c", f'exec "$0" "$@" {redirected(case)}', program, *case.words]
         child = subprocess.Popen(command, cwd=folder, stdin=streams[0], stdout=streams[1], stderr=streams[2])
-        for stream in streams:
+        for stream in streams[1:]:
             if stream >= 0:
                 os.close(stream)
-        return finish(child, case)
+        ran = finish(child, case, folder)
+        if streams[0] < 0:
+            return ran
+        with os.fdopen(streams[0], "rb") as file:
+            return ran if case.left is None else replace(ran, left=file.read())
 
 
 def run_command(program: str, case: Command) -> bytes:
@@ -214,6 +229,13 @@ def difference(what: str, wanted: Union[bytes, Begins, Stream], found: bytes) ->
     return [line for want, have in pairs for line in (f"  {what}: {word} {want}", f"  {what}: found  {have}")]
 
 
+def ends_differ(wanted: Mapping[str, bytes], found: Mapping[str, bytes]) -> List[str]:
+    """What is wrong with the ends of pipes."""
+    wrong = [f"  {name}: not there" for name in wanted if name not in found]
+    wrong += [f"  {name}: there" for name in found if name not in wanted]
+    return wrong + [line for name in wanted if name in found for line in difference(name, wanted[name], found[name])]
+
+
 def faults(program: str, case: AnyCase) -> List[str]:
     """What is wrong, a line each."""
     if isinstance(case, Check):
@@ -223,6 +245,9 @@ def faults(program: str, case: AnyCase) -> List[str]:
     ran = run(program, case)
     found = [] if ran.status == case.status else [f"  status: wanted {case.status}, found {ran.status}"]
     found += difference("out", case.out, ran.out) + difference("notes", case.notes, ran.notes)
+    found += ends_differ(case.ends, ran.ends)
+    if case.left is not None:
+        found += difference("left", case.left, ran.left or b"")
     return found and ["  words: " + " ".join(printable(word) for word in case.words)] + found
 
 

@@ -1,6 +1,6 @@
 """The words of the command line: the commands that are there, and words that are none."""
 
-from case import CLOSED, Begins, Case, interface, lines, octets
+from case import CLOSED, Begins, Case, Command, interface, lines, octets
 
 PLAIN = interface("void f([in] small x);")
 DECODE = ["decode", "t.idl", "-", "f", "in", "little"]
@@ -20,6 +20,10 @@ CASES = [
     Case("words: decode", DECODE, {"t.idl": PLAIN}, octets("01"), lines("values 2", "op f in", "x = 1")),
     Case("words: --help", ["--help"], out=Begins(b"usage: dceidl compile IDL ACF\n")),
     Case("words: --help reads no input", ["--help"], input=CLOSED, out=Begins(b"usage: dceidl")),
+    Command("words: --help names each command", "bin/dceidl --help | grep -E '^(usage:|      ) dceidl ' | sed 's/.*dceidl //; s/ .*//'",
+            lines("compile", "plan", "decode", "explain", "drain", "encode", "migrate", "sample", "--help", "--version")),
+    Command("words: --help names each status", "bin/dceidl --help | sed -n 's/^\\([0-9]\\)  .*/\\1/p'", lines(*"0123456789")),
+    Command("words: --help has lines of 80 columns", "bin/dceidl --help | awk 'length > 80'", b""),
     Case("words: --version", ["--version"], out=lines("dceidl 0.1.0")),
     Case("words: --version reads no input", ["--version"], input=CLOSED, out=lines("dceidl 0.1.0")),
     refused("an empty word", ""),

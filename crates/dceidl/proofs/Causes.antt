@@ -1,7 +1,6 @@
 -- What the commands on values answer, from what their steps answer.
-use Rattle.std.proofs.Common.{◌≡◌, ◌∙◌, ℕ, zero, suc, ◌<◌, ◌≤◌, true, List, [], ◌∷◌, length, Option, Some, None, Result, Ok, Err, IfOk, IfErr, refl, sym, ap, subst, inr, take, arith}
+use Rattle.std.proofs.Common.{◌≡◌, ◌∙◌, ℕ, zero, suc, ◌<◌, ◌≤◌, true, false, Bool, List, [], ◌∷◌, length, Option, Some, None, Result, Ok, Err, IfOk, IfErr, refl, sym, ap, subst, inr, take, arith}
 use Rattle.std.specs.List.{slice_get}
-use Rattle.nd_base.specs.declared.octets.Order.{Order}
 use Rattle.nd_types.specs.declared.interface.Interface.{Interface}
 use Rattle.nd_types.specs.declared.types.Operation.{Operation}
 use Rattle.nd_types.specs.Operations.{operation_named}
@@ -9,18 +8,19 @@ use Rattle.nd_value.specs.Setting.{Setting}
 use Rattle.nd_types.specs.declared.types.Side.{Side}
 use Rattle.nd_value.specs.Fitting.{setting_of}
 use Rattle.dceidl.specs.declared.ready.Ready.{Ready}
-use Rattle.dceidl.specs.declared.words.OrderWord.{OrderWord}
-use Rattle.dceidl.specs.declared.words.Task.{Task}
-use Rattle.dceidl.specs.declared.words.Task.TheVariants.{Decode, Encode, Migrate}
+use Rattle.ndr_pipe.specs.End.{EndSeen}
+use Rattle.ndr_pipe.specs.Ends.{EndsSeen}
+use Rattle.dceidl.specs.Asked.{AsksEnds}
+use Rattle.dceidl_words.specs.declared.command.OrderWord.{OrderWord}
+use Rattle.dceidl_words.specs.declared.command.Task.{Task}
 use Rattle.dceidl.specs.Seen.{Seen}
-use Rattle.dceidl.specs.Words.{Subject, Values, order_in}
+use Rattle.dceidl_words.specs.Words.{Subject, Values}
 use Rattle.dceidl.specs.Causes.{IsMade, IsCause}
 use Rattle.text_grammar.specs.declared.TheConstants.{TEXT_LIMIT}
 use Rattle.text_fitting.specs.Fitted.{IsTextCause}
-use Rattle.dceidl.specs.Encode.{IsEncoding, IsEncodingCause, IsMigration}
-use Rattle.ndr_printing.specs.Printed.{IsPrinted, IsInputCause}
+use Rattle.dceidl.specs.Encode.{IsLabelledEncoding, IsEncodingCause, IsMigration}
 use Rattle.refusals.specs.declared.refusal.Refusal.{Refusal}
-use Rattle.refusals.specs.declared.refusal.Refusal.TheVariants.{Memory, Absent, FileFailed, BadIdl, NoOperation, ReadFault, BadOctets, BadText, BadValue, TooLong, BadRequest}
+use Rattle.refusals.specs.declared.refusal.Refusal.TheVariants.{Memory, Absent, FileFailed, BadIdl, NoOperation, ReadFault, BadOctets, BadText, BadValue, TooLong, BadRequest, BadLabel, ShortLabel, TooFewEnds, EndFailed}
 use Rattle.nd_base.specs.Over.{FilesSeen, SourceSeen}
 use Rattle.dceidl.specs.Ready.{IsFound, IsReady, IsReadyCause, IsNotFound}
 use Rattle.idl_compiler.specs.Compiled.{IsCompiled, IsIdlCause}
@@ -59,6 +59,10 @@ not_found f of i compiled (BadOctets place why) cause = absurd cause
 not_found f of i compiled (BadText line column reason) cause = absurd cause
 not_found f of i compiled (BadValue path reason) cause = absurd cause
 not_found f of i compiled (BadRequest fault) cause = absurd cause
+not_found f of i compiled (BadLabel fault) cause = absurd cause
+not_found f of i compiled ShortLabel cause = absurd cause
+not_found f of i compiled (TooFewEnds wanted found) cause = absurd cause
+not_found f of i compiled (EndFailed which) cause = absurd cause
 
 -- an operation that is not found is the cause
 pub find_refused : (f : FilesSeen) (of : Subject) (i : Interface) → IsCompiled f of.idl of.acf i → (result : Result Ready Refusal)
@@ -79,6 +83,10 @@ idl_refused f of (BadOctets place why) cause = absurd cause
 idl_refused f of (BadText line column reason) cause = absurd cause
 idl_refused f of (BadValue path reason) cause = absurd cause
 idl_refused f of (BadRequest fault) cause = absurd cause
+idl_refused f of (BadLabel fault) cause = absurd cause
+idl_refused f of ShortLabel cause = absurd cause
+idl_refused f of (TooFewEnds wanted found) cause = absurd cause
+idl_refused f of (EndFailed which) cause = absurd cause
 
 pub take_whole : (n : ℕ) (xs : List ℕ) → length xs ≤ n → take n xs ≡ xs
 take_whole zero [] h = refl
@@ -101,6 +109,10 @@ module _ (s : SourceSeen) (w : Setting) (text : List ℕ) (read : AreRead s TEXT
   text_cause (BadValue path reason) cause = (text, read, cause)
   text_cause (TooLong many) cause = (text, read, cause)
   text_cause (BadRequest fault) cause = (text, read, cause)
+  text_cause (BadLabel fault) cause = (text, read, cause)
+  text_cause ShortLabel cause = (text, read, cause)
+  text_cause (TooFewEnds wanted found) cause = (text, read, cause)
+  text_cause (EndFailed which) cause = (text, read, cause)
 
   encoding_cause : (chunk : ℕ) (e : Refusal) → IsEncodingCause w chunk text e → IsInputEncodingCause s w chunk e
   encoding_cause chunk (TooLong many) cause = (text, read, cause)
@@ -114,6 +126,10 @@ module _ (s : SourceSeen) (w : Setting) (text : List ℕ) (read : AreRead s TEXT
   encoding_cause chunk (BadText line column reason) cause = (text, read, cause)
   encoding_cause chunk (BadValue path reason) cause = (text, read, cause)
   encoding_cause chunk (BadRequest fault) cause = (text, read, cause)
+  encoding_cause chunk (BadLabel fault) cause = (text, read, cause)
+  encoding_cause chunk ShortLabel cause = (text, read, cause)
+  encoding_cause chunk (TooFewEnds wanted found) cause = (text, read, cause)
+  encoding_cause chunk (EndFailed which) cause = (text, read, cause)
 
   pub text_refused : (result : Result (List ℕ) Refusal) → IfErr result (IsTextCause w text) → IfErr result (IsInputTextCause s w)
   text_refused (Ok made) cause = tt
@@ -123,8 +139,8 @@ module _ (s : SourceSeen) (w : Setting) (text : List ℕ) (read : AreRead s TEXT
   encoding_refused chunk (Ok made) cause = tt
   encoding_refused chunk (Err e) cause = encoding_cause chunk e cause
 
-  pub encoded : (order : Order) (chunk : ℕ) (result : Result (List ℕ) Refusal) → IfOk result (IsEncoding w order chunk text)
-      → IfOk result (λ made. OfText s (λ t. IsEncoding w order chunk t made))
+  pub encoded : (order : OrderWord) (chunk : ℕ) (result : Result (List ℕ) Refusal) → IfOk result (IsLabelledEncoding w order chunk text)
+      → IfOk result (λ made. OfText s (λ t. IsLabelledEncoding w order chunk t made))
   encoded order chunk (Ok made) e = (text, read, e)
   encoded order chunk (Err e) h = tt
 
@@ -132,28 +148,19 @@ module _ (s : SourceSeen) (w : Setting) (text : List ℕ) (read : AreRead s TEXT
   migrated (Ok made) m = (text, read, m)
   migrated (Err e) h = tt
 
--- the order of a command is the order that it names
-pub printed_in : (s : SourceSeen) (w : Setting) (order : OrderWord) (own : Order) → own ≡ order_in order → (result : Result (List ℕ) Refusal) → IfOk result (IsPrinted s w own)
-    → IfOk result (IsPrinted s w (order_in order))
-printed_in s w order own same (Ok made) printed = subst (λ o. IsPrinted s w o made) same printed
-printed_in s w order own same (Err e) h = tt
-
-pub refused_in : (s : SourceSeen) (w : Setting) (order : OrderWord) (own : Order) → own ≡ order_in order → (result : Result (List ℕ) Refusal) → IfErr result (IsInputCause s w own)
-    → IfErr result (IsInputCause s w (order_in order))
-refused_in s w order own same (Ok made) h = tt
-refused_in s w order own same (Err e) cause = subst (λ o. IsInputCause s w o e) same cause
-
-pub encoded_in : (s : SourceSeen) (w : Setting) (order : OrderWord) (own : Order) (chunk : ℕ) → own ≡ order_in order → (result : Result (List ℕ) Refusal)
-    → IfOk result (λ made. OfText s (λ t. IsEncoding w own chunk t made)) → IfOk result (λ made. OfText s (λ t. IsEncoding w (order_in order) chunk t made))
-encoded_in s w order own chunk same (Ok made) h = subst (λ o. OfText s (λ t. IsEncoding w o chunk t made)) same h
-encoded_in s w order own chunk same (Err e) h = tt
+-- ends that were not called are left as they are
+pub uncalled : (ends : List EndSeen) (t : Bool) → AsksEnds (record { before = ends; now = ends }) t
+uncalled ends true = tt
+uncalled ends false = refl
 
 -- the task of the code
-pub made_by : (s : SourceSeen) (task own : Task) (w : Setting) → task ≡ own → (result : Result (List ℕ) Refusal) → IfOk result (IsMadeOf s own w) → IfOk result (IsMadeOf s task w)
-made_by s task own w is result h = subst (λ t. IfOk result (IsMadeOf s t w)) (sym is) h
+pub made_by : (s : SourceSeen) (e : EndsSeen) (task own : Task) (w : Setting) → task ≡ own → (result : Result (List ℕ) Refusal) → IfOk result (IsMadeOf s e own w)
+    → IfOk result (IsMadeOf s e task w)
+made_by s e task own w is result h = subst (λ t. IfOk result (IsMadeOf s e t w)) (sym is) h
 
-pub refused_by : (s : SourceSeen) (task own : Task) (w : Setting) → task ≡ own → (result : Result (List ℕ) Refusal) → IfErr result (IsTaskCause s own w) → IfErr result (IsTaskCause s task w)
-refused_by s task own w is result h = subst (λ t. IfErr result (IsTaskCause s t w)) (sym is) h
+pub refused_by : (s : SourceSeen) (e : EndsSeen) (task own : Task) (w : Setting) → task ≡ own → (result : Result (List ℕ) Refusal) → IfErr result (IsTaskCause s e own w)
+    → IfErr result (IsTaskCause s e task w)
+refused_by s e task own w is result h = subst (λ t. IfErr result (IsTaskCause s e t w)) (sym is) h
 
 -- ## What a command on values answers
 
@@ -162,10 +169,10 @@ pub ready_is : (f : FilesSeen) (of : Subject) (i : Interface) (n : ℕ) (o : Ope
 ready_is f of i n o side found same = record { interface = i; number = n; operation = o; found = found; setting_is = ap (setting_of i o) same }
 
 module _ (x : Seen) (of : Subject) (w : Setting) (task : Task) (ready : IsReady x.files of w) where
-  pub values_made : (result : Result (List ℕ) Refusal) → IfOk result (IsMadeOf x.input task w) → IfOk result (IsMade x (Values task of None))
+  pub values_made : (result : Result (List ℕ) Refusal) → IfOk result (IsMadeOf x.input x.ends task w) → IfOk result (IsMade x (Values task of None))
   values_made (Ok made) is = (w, ready, is)
   values_made (Err e) is = tt
 
-  pub values_refused : (result : Result (List ℕ) Refusal) → IfErr result (IsTaskCause x.input task w) → IfErr result (IsCause x (Values task of None))
+  pub values_refused : (result : Result (List ℕ) Refusal) → IfErr result (IsTaskCause x.input x.ends task w) → IfErr result (IsCause x (Values task of None))
   values_refused (Ok made) cause = tt
   values_refused (Err e) cause = inr (w, ready, cause)

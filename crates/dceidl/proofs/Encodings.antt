@@ -15,7 +15,7 @@ use Rattle.text_fitting.specs.Fitted.{IsTextCause}
 use Rattle.text_grammar.specs.Printed.{IsText}
 use Rattle.text_grammar.specs.Reads.{ReadsAs}
 use Rattle.refusals.specs.declared.refusal.Refusal.{Refusal}
-use Rattle.refusals.specs.declared.refusal.Refusal.TheVariants.{Memory, Absent, FileFailed, BadIdl, NoOperation, ReadFault, BadOctets, BadText, BadValue, TooLong, BadRequest}
+use Rattle.refusals.specs.declared.refusal.Refusal.TheVariants.{Memory, Absent, FileFailed, BadIdl, NoOperation, ReadFault, BadOctets, BadText, BadValue, TooLong, BadRequest, BadLabel, ShortLabel, TooFewEnds, EndFailed}
 use Rattle.dceidl.specs.Encode.{IsEncoding, IsEncodingCause, IsMigration}
 
 -- why a text is refused is why it is not encoded
@@ -31,6 +31,10 @@ text_cause w chunk text (BadText line column reason) cause = cause
 text_cause w chunk text (BadValue path reason) cause = cause
 text_cause w chunk text (TooLong many) cause = absurd cause
 text_cause w chunk text (BadRequest fault) cause = cause
+text_cause w chunk text (BadLabel fault) cause = cause
+text_cause w chunk text ShortLabel cause = cause
+text_cause w chunk text (TooFewEnds wanted found) cause = cause
+text_cause w chunk text (EndFailed which) cause = cause
 
 -- ## A fit of an operation's side
 
@@ -80,6 +84,10 @@ module _ (f : Fitting) (i : Interface) (n : ℕ) (s : Side) (q : Option Graph) (
   cause_of chunk text reads fit (BadText line column reason) cause = absurd cause
   cause_of chunk text reads fit (BadValue path reason) cause = absurd cause
   cause_of chunk text reads fit (BadRequest fault) cause = absurd cause
+  cause_of chunk text reads fit (BadLabel fault) cause = absurd cause
+  cause_of chunk text reads fit ShortLabel cause = absurd cause
+  cause_of chunk text reads fit (TooFewEnds wanted found) cause = absurd cause
+  cause_of chunk text reads fit (EndFailed which) cause = absurd cause
 
   pub encoding_cause : (chunk : ℕ) (text : List ℕ) → ReadsAs (setting_beside i o s q) text f.graph → IsFit f → (e : Refusal)
       → IsWritingCause (setting_beside i o f.side f.given) chunk f.graph e → IsEncodingCause (setting_beside i o s q) chunk text e

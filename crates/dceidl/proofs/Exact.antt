@@ -1,32 +1,44 @@
 -- Which outcome a command has where no load fails and notes do not.
-use Rattle.std.proofs.Common.{◌≡◌, ℕ, List, Option, refl, sym, ◌∙◌, ap, subst, inl, inr, ◌⊎◌}
+use Rattle.std.proofs.Common.{◌≡◌, ℕ, ◌<◌, List, length, Option, refl, sym, ◌∙◌, ap, subst, inl, inr, ◌⊎◌}
 use Rattle.nd_base.specs.declared.octets.Order.{Order}
 use Rattle.nd_base.specs.Over.{FilesSeen, SourceSeen, SinkSeen, HasRisen, Got}
 use Rattle.nd_value.specs.Setting.{Setting}
 use Rattle.nd_grammar.specs.LegalSide.{IsLegalSide}
 use Rattle.text_grammar.specs.declared.TheConstants.{TEXT_LIMIT}
-use Rattle.dceidl.specs.declared.words.OrderWord.{OrderWord}
-use Rattle.dceidl.specs.declared.words.Task.{Task}
-use Rattle.dceidl.specs.declared.words.Task.TheVariants.{Decode, Encode, Migrate}
+use Rattle.ndr_pipe.specs.Ends.{EndsSeen}
+use Rattle.dceidl_words.specs.declared.command.Reading.{Reading}
+use Rattle.dceidl_words.specs.declared.command.Reading.TheVariants.{Decode, Explain, Drain}
+use Rattle.dceidl_words.specs.declared.command.OrderWord.{OrderWord}
+use Rattle.dceidl_words.specs.declared.command.OrderWord.TheVariants.{Fixed, Label}
+use Rattle.dceidl_words.specs.declared.command.Task.{Task}
+use Rattle.dceidl_words.specs.declared.command.Task.TheVariants.{Read, Encode, Migrate}
+use Rattle.refusals.specs.declared.refusal.OctetsFault.{OctetsFault}
 use Rattle.refusals.specs.declared.refusal.Refusal.{Refusal}
-use Rattle.refusals.specs.declared.refusal.Refusal.TheVariants.{Memory, Absent, FileFailed, BadIdl, NoOperation, ReadFault, BadOctets, BadText, BadValue, TooLong, BadRequest}
+use Rattle.refusals.specs.declared.refusal.Refusal.TheVariants.{Memory, Absent, FileFailed, BadIdl, NoOperation, ReadFault, BadOctets, BadText, BadValue, TooLong, BadRequest, BadLabel, ShortLabel, TooFewEnds, EndFailed}
 use Rattle.refusals.specs.declared.refusal.OctetsFault.TheVariants.{Refused, Trailing}
 use Rattle.refusals.specs.declared.refusal.RequestFault.{RequestFault}
 use Rattle.refusals.specs.Lines.{status_of, line_of}
-use Rattle.ndr_printing.specs.Printed.{IsInputCause}
+use Rattle.nd_grammar.specs.Represents.{Represents}
+use Rattle.ndr_drain.specs.Given.{pipe_count}
+use Rattle.ndr_draining.specs.Printed as draining
+use Rattle.ndr_draining.specs.Printed.{IsDrainRefusal}
+use Rattle.ndr_explaining.specs.Explanations.{IsExplained}
+use Rattle.ndr_printing.specs.Printed.{IsPrinted, IsInputCause}
 use Rattle.text_fitting.specs.Fitted.{IsTextCause}
 use Rattle.text_fitting.proofs.OneText.{good_cause, fault_cause, misfit_cause}
 use Rattle.dceidl.specs.Causes.{IsMade, IsCause}
-use Rattle.dceidl.specs.Encode.{IsEncoding, IsLongEncoding, IsEncodingCause, IsMigration}
+use Rattle.dceidl.specs.Encode.{IsLabelledEncoding, IsLongEncoding, IsEncodingCause, IsMigration}
 use Rattle.dceidl.specs.Input.{OfText, IsMadeOf, IsTaskCause, IsInputTextCause, IsInputEncodingCause}
-use Rattle.dceidl.specs.Rows.{IsSound, AreAccepted, IsInput, AreGiven, CanBeMade, MustBeUnready, MustBeNoRequest, MustBeNoOctets, MustBeNoText, MustBeNoEncoding, MustBeNoInput, CanBeDone, MustBeRefused, IsCompleted, Refuses}
+use Rattle.dceidl.specs.Rows.{IsSound, AreAccepted, IsInput, AreGiven, AreGivenIn, IsRefusedAt, HasEnds, CanBeMade, MustBeUnready, MustBeNoRequest, MustBeNoLabel, MustBeNoOctets, MustBeNoText, MustBeNoEncoding, MustBeNoInput, CanBeDone, MustBeRefused, IsCompleted, Refuses}
 use Rattle.dceidl.specs.Seen.{Seen}
-use Rattle.dceidl.specs.Words.{Command, Subject, Values, Compile, Plan, Help, Version, idl_of, op_of, order_in}
+use Rattle.dceidl_words.specs.Words.{Command, Subject, Values, Compile, Plan, Sample, Help, Version, idl_of, op_of, order_in}
 use Rattle.dceidl.proofs.HeldFiles.{compiled_cause, no_idl, no_idl_cause}
 use Rattle.dceidl.proofs.OneInput.{same_octets}
+use Rattle.dceidl.proofs.Labels.{given_after, one_order, never_unopened, bad_opened, bad_cause, short_opened, short_cause}
 use Rattle.dceidl.proofs.HeldRequests.{legal_all, all_one, all_cause, all_unready, all_unready_cause, no_request, no_request_cause}
-use Rattle.dceidl.proofs.OneReading.{IsOctetsCause, refused_here, trailing_here, decoded_here, decoded_cause, refused_made, refused_cause}
-use Rattle.dceidl.proofs.OneWriting.{IsGood, encoded_good, migrated_good, fault_good, misfit_good, encodes_cause, text_cause, long_cause, long_made}
+use Rattle.dceidl.proofs.OneReading.{IsOctetsCause, refused_here, trailing_here, whole_here, decoded_cause, refused_value, refused_cause}
+use Rattle.dceidl.proofs.Drains.{drain_causes, few_made, few_cause}
+use Rattle.dceidl.proofs.OneWriting.{IsGood, migrated_good, fault_good, misfit_good, encodes_cause, text_cause, long_cause, labelled_good, long_labelled}
 use Rattle.dceidl.proofs.Rows.{Ended, ended_done, ended_refused, ended_wanting, ended_unwritten, ended_unreported}
 
 -- ## The input, by what its octets come to
@@ -46,6 +58,10 @@ read_causes s w order octets input P wanting by (BadText line column reason) cau
 read_causes s w order octets input P wanting by (BadValue path reason) cause = absurd cause
 read_causes s w order octets input P wanting by (TooLong many) cause = absurd cause
 read_causes s w order octets input P wanting by (BadRequest fault) cause = absurd cause
+read_causes s w order octets input P wanting by (BadLabel fault) cause = absurd cause
+read_causes s w order octets input P wanting by ShortLabel cause = absurd cause
+read_causes s w order octets input P wanting by (TooFewEnds wanted found) cause = absurd cause
+read_causes s w order octets input P wanting by (EndFailed which) cause = absurd cause
 
 -- all octets that are read of the input to its end or past a limit are those that count
 of_text : (s : SourceSeen) (text : List ℕ) → IsInput s TEXT_LIMIT text → (P : List ℕ → Type 0) → OfText s P → P text
@@ -64,6 +80,10 @@ text_causes s w text input P wanting by (BadText line column reason) cause = by 
 text_causes s w text input P wanting by (BadValue path reason) cause = by (BadValue path reason) (of_text s text input (λ l. IsTextCause w l (BadValue path reason)) cause)
 text_causes s w text input P wanting by (TooLong many) cause = by (TooLong many) (of_text s text input (λ l. IsTextCause w l (TooLong many)) cause)
 text_causes s w text input P wanting by (BadRequest fault) cause = by (BadRequest fault) (of_text s text input (λ l. IsTextCause w l (BadRequest fault)) cause)
+text_causes s w text input P wanting by (BadLabel fault) cause = by (BadLabel fault) (of_text s text input (λ l. IsTextCause w l (BadLabel fault)) cause)
+text_causes s w text input P wanting by ShortLabel cause = by ShortLabel (of_text s text input (λ l. IsTextCause w l ShortLabel) cause)
+text_causes s w text input P wanting by (TooFewEnds wanted found) cause = by (TooFewEnds wanted found) (of_text s text input (λ l. IsTextCause w l (TooFewEnds wanted found)) cause)
+text_causes s w text input P wanting by (EndFailed which) cause = by (EndFailed which) (of_text s text input (λ l. IsTextCause w l (EndFailed which)) cause)
 
 -- the same of a text that is encoded
 encoding_causes : (s : SourceSeen) (w : Setting) (chunk : ℕ) (text : List ℕ) → IsInput s TEXT_LIMIT text → (P : Refusal → Type 0) → P Memory
@@ -79,14 +99,26 @@ encoding_causes s w chunk text input P wanting by (BadOctets place why) cause = 
 encoding_causes s w chunk text input P wanting by (BadText line column reason) cause = by (BadText line column reason) (of_text s text input (λ l. IsTextCause w l (BadText line column reason)) cause)
 encoding_causes s w chunk text input P wanting by (BadValue path reason) cause = by (BadValue path reason) (of_text s text input (λ l. IsTextCause w l (BadValue path reason)) cause)
 encoding_causes s w chunk text input P wanting by (BadRequest fault) cause = by (BadRequest fault) (of_text s text input (λ l. IsTextCause w l (BadRequest fault)) cause)
+encoding_causes s w chunk text input P wanting by (BadLabel fault) cause = by (BadLabel fault) (of_text s text input (λ l. IsTextCause w l (BadLabel fault)) cause)
+encoding_causes s w chunk text input P wanting by ShortLabel cause = by ShortLabel (of_text s text input (λ l. IsTextCause w l ShortLabel) cause)
+encoding_causes s w chunk text input P wanting by (TooFewEnds wanted found) cause = by (TooFewEnds wanted found) (of_text s text input (λ l. IsTextCause w l (TooFewEnds wanted found)) cause)
+encoding_causes s w chunk text input P wanting by (EndFailed which) cause = by (EndFailed which) (of_text s text input (λ l. IsTextCause w l (EndFailed which)) cause)
 
 -- ## The input, by what is done
 
-module _ (s : SourceSeen) (w : Setting) (legal : IsLegalSide w) where
+module _ (s : SourceSeen) (e : EndsSeen) (w : Setting) (legal : IsLegalSide w) where
   -- an input of which something can be made is not refused
-  made_cause : (task : Task) → CanBeMade s task w → (r : Refusal) → IsTaskCause s task w r → r ≡ Memory
-  made_cause (Decode order) (octets, g, input, represents, conforms) r cause =
-      read_causes s w (order_in order) octets input (λ p. p ≡ Memory) refl (decoded_cause w legal (order_in order) octets g represents conforms) r cause
+  made_cause : (task : Task) → CanBeMade s e task w → (r : Refusal) → IsTaskCause s e task w r → r ≡ Memory
+  made_cause (Read how word) (order, octets, g, given, represents, conforms, ends) r (inl (cause, kept)) = absurd (never_unopened s order octets word given r cause)
+  made_cause (Read Decode word) (order, octets, g, given, represents, conforms, ends) r (inr (rest, other, opened, cause)) =
+      read_causes rest w order octets (given_after s order octets word given rest other opened) (λ p. p ≡ Memory) refl
+      (decoded_cause w legal order octets g represents conforms) r (subst (λ o. IsInputCause rest w o r) (one_order s order octets word given rest other opened) cause)
+  made_cause (Read Explain word) (order, octets, g, given, represents, conforms, ends) r (inr (rest, other, opened, cause)) =
+      read_causes rest w order octets (given_after s order octets word given rest other opened) (λ p. p ≡ Memory) refl
+      (decoded_cause w legal order octets g represents conforms) r (subst (λ o. IsInputCause rest w o r) (one_order s order octets word given rest other opened) cause)
+  made_cause (Read Drain word) (order, octets, g, given, represents, conforms, ends) r (inr (rest, other, opened, cause)) =
+      drain_causes rest e w order octets (given_after s order octets word given rest other opened) ends (λ p. p ≡ Memory) refl
+      (decoded_cause w legal order octets g represents conforms) r (subst (λ o. IsDrainRefusal rest e w o r) (one_order s order octets word given rest other opened) cause)
   made_cause (Encode order chunk) (text, g, octets, input, reads, conforms, is) r cause =
       encoding_causes s w chunk text input (λ p. p ≡ Memory) refl (encodes_cause w legal text chunk g (order_in order) octets reads conforms is) r cause
   made_cause Migrate (text, g, input, reads, conforms) r cause =
@@ -94,26 +126,108 @@ module _ (s : SourceSeen) (w : Setting) (legal : IsLegalSide w) where
 
   -- nothing is made of an input that must be refused, and it is refused in one way
   abbrev Refuted : Task → Refusal → Type 0
-  Refuted task r = ((made : List ℕ) → IsMadeOf s task w made → ⊥) × ((q : Refusal) → IsTaskCause s task w q → (q ≡ Memory) ⊎ (q ≡ r))
+  Refuted task r = ((made : List ℕ) → IsMadeOf s e task w made → ⊥) × ((q : Refusal) → IsTaskCause s e task w q → (q ≡ Memory) ⊎ (q ≡ r))
 
   abbrev Only : Refusal → Refusal → Type 0
   Only r p = (p ≡ Memory) ⊎ (p ≡ r)
 
-  no_octets : (order : OrderWord) (r : Refusal) → MustBeNoOctets s w (order_in order) r → Refuted (Decode order) r
-  no_octets order (BadOctets place why) (octets, input, refused) = (
-    λ made m. refused_made w legal (order_in order) octets place why refused made (decoded_here s octets input w (order_in order) made m),
-    λ q cause. read_causes s w (order_in order) octets input (Only (BadOctets place why)) (inl refl) (refused_cause w legal (order_in order) octets place why refused) q cause,
+  -- a label that must be refused
+  no_label : (how : Reading) (word : OrderWord) (r : Refusal) → MustBeNoLabel s word r → Refuted (Read how word) r
+  no_label how (Fixed named) r must = absurd must
+  no_label how Label (BadLabel why) (label, octets, given, four, bad) = (
+    (λ made m. bad_opened s label octets given four why bad m.0 m.1 m.2),
+    by,
   )
-  no_octets order Memory must = absurd must
-  no_octets order (Absent other) must = absurd must
-  no_octets order (FileFailed other) must = absurd must
-  no_octets order (BadIdl file line column reason) must = absurd must
-  no_octets order NoOperation must = absurd must
-  no_octets order ReadFault must = absurd must
-  no_octets order (BadText line column why) must = absurd must
-  no_octets order (BadValue path why) must = absurd must
-  no_octets order (TooLong many) must = absurd must
-  no_octets order (BadRequest fault) must = absurd must
+    where
+      by : (q : Refusal) → IsTaskCause s e (Read how Label) w q → Only (BadLabel why) q
+      by q (inl (cause, kept)) = inr (bad_cause s label octets given four why bad q cause)
+      by q (inr (rest, order, opened, cause)) = absurd (bad_opened s label octets given four why bad rest order opened)
+  no_label how Label ShortLabel (octets, given, few) = (
+    (λ made m. short_opened s octets given few m.0 m.1 m.2),
+    by,
+  )
+    where
+      by : (q : Refusal) → IsTaskCause s e (Read how Label) w q → Only ShortLabel q
+      by q (inl (cause, kept)) = inr (short_cause s octets given few q cause)
+      by q (inr (rest, order, opened, cause)) = absurd (short_opened s octets given few rest order opened)
+  no_label how Label Memory must = absurd must
+  no_label how Label (Absent other) must = absurd must
+  no_label how Label (FileFailed other) must = absurd must
+  no_label how Label (BadIdl file line column reason) must = absurd must
+  no_label how Label NoOperation must = absurd must
+  no_label how Label ReadFault must = absurd must
+  no_label how Label (BadOctets place why) must = absurd must
+  no_label how Label (BadText line column why) must = absurd must
+  no_label how Label (BadValue path why) must = absurd must
+  no_label how Label (TooLong many) must = absurd must
+  no_label how Label (BadRequest fault) must = absurd must
+  no_label how Label (TooFewEnds wanted found) must = absurd must
+  no_label how Label (EndFailed which) must = absurd must
+
+  -- octets that must be refused
+  module _ (word : OrderWord) (place : ℕ) (why : OctetsFault) (order : Order) (octets : List ℕ) (given : AreGivenIn s word order octets)
+      (refused : IsRefusedAt w order octets place why) where
+    unmade : (how : Reading) (made : List ℕ) → IsMadeOf s e (Read how word) w made → ⊥
+    unmade Decode made (rest, other, opened, m) =
+        let p = subst (λ o. IsPrinted rest w o made) (one_order s order octets word given rest other opened) m in
+        let input = given_after s order octets word given rest other opened in
+        refused_value w legal order octets place why refused p.decoding.graph
+        (whole_here rest octets input w order (λ os. Represents w order os p.decoding.graph) p.octets p.whole p.decoding.represents) p.decoding.conforms
+    unmade Explain made (rest, other, opened, m) =
+        let p = subst (λ o. IsExplained rest w o made) (one_order s order octets word given rest other opened) m in
+        let input = given_after s order octets word given rest other opened in
+        refused_value w legal order octets place why refused p.explanation.graph
+        (whole_here rest octets input w order (λ os. Represents w order os p.explanation.graph) p.octets p.whole p.explanation.represents) p.explanation.conforms
+    unmade Drain made (rest, other, opened, m) =
+        let p = subst (λ o. draining.IsPrinted rest e w o made) (one_order s order octets word given rest other opened) m in
+        let input = given_after s order octets word given rest other opened in
+        refused_value w legal order octets place why refused p.graph
+        (whole_here rest octets input w order (λ os. Represents w order os p.graph) p.octets p.whole p.pipes.represents) p.pipes.conforms
+
+    only_refused : (how : Reading) → HasEnds how w e → (q : Refusal) → IsTaskCause s e (Read how word) w q → Only (BadOctets place why) q
+    only_refused how ends q (inl (cause, kept)) = absurd (never_unopened s order octets word given q cause)
+    only_refused Decode ends q (inr (rest, other, opened, cause)) =
+        read_causes rest w order octets (given_after s order octets word given rest other opened) (Only (BadOctets place why)) (inl refl)
+        (refused_cause w legal order octets place why refused) q (subst (λ o. IsInputCause rest w o q) (one_order s order octets word given rest other opened) cause)
+    only_refused Explain ends q (inr (rest, other, opened, cause)) =
+        read_causes rest w order octets (given_after s order octets word given rest other opened) (Only (BadOctets place why)) (inl refl)
+        (refused_cause w legal order octets place why refused) q (subst (λ o. IsInputCause rest w o q) (one_order s order octets word given rest other opened) cause)
+    only_refused Drain ends q (inr (rest, other, opened, cause)) =
+        drain_causes rest e w order octets (given_after s order octets word given rest other opened) ends (Only (BadOctets place why)) (inl refl)
+        (refused_cause w legal order octets place why refused) q (subst (λ o. IsDrainRefusal rest e w o q) (one_order s order octets word given rest other opened) cause)
+
+  -- too few ends
+  module _ (word : OrderWord) (wanted found : ℕ) (order : Order) (octets : List ℕ) (given : AreGivenIn s word order octets) (wanted_is : wanted ≡ pipe_count w)
+      (found_is : found ≡ length e.before) (less : found < wanted) where
+    too_few : Refuted (Read Drain word) (TooFewEnds wanted found)
+    too_few = (unmade_few, only_few)
+      where
+        unmade_few : (made : List ℕ) → IsMadeOf s e (Read Drain word) w made → ⊥
+        unmade_few made (rest, other, opened, m) = few_made rest e w other wanted found wanted_is found_is less made m
+
+        only_few : (q : Refusal) → IsTaskCause s e (Read Drain word) w q → Only (TooFewEnds wanted found) q
+        only_few q (inl (cause, kept)) = absurd (never_unopened s order octets word given q cause)
+        only_few q (inr (rest, other, opened, cause)) = few_cause rest e w other wanted found wanted_is found_is less q cause
+
+  no_octets : (how : Reading) (word : OrderWord) (r : Refusal) → MustBeNoOctets s e how word w r → Refuted (Read how word) r
+  no_octets how word (BadOctets place why) (order, octets, given, ends, refused) =
+      (unmade word place why order octets given refused how, only_refused word place why order octets given refused how ends)
+  no_octets how word (BadLabel why) must = no_label how word (BadLabel why) must
+  no_octets how word ShortLabel must = no_label how word ShortLabel must
+  no_octets how word Memory must = absurd must
+  no_octets how word (Absent other) must = absurd must
+  no_octets how word (FileFailed other) must = absurd must
+  no_octets how word (BadIdl file line column reason) must = absurd must
+  no_octets how word NoOperation must = absurd must
+  no_octets how word ReadFault must = absurd must
+  no_octets how word (BadText line column why) must = absurd must
+  no_octets how word (BadValue path why) must = absurd must
+  no_octets how word (TooLong many) must = absurd must
+  no_octets how word (BadRequest fault) must = absurd must
+  no_octets Drain word (TooFewEnds wanted found) (order, octets, given, wanted_is, found_is, less) = too_few word wanted found order octets given wanted_is found_is less
+  no_octets Decode word (TooFewEnds wanted found) must = absurd must
+  no_octets Explain word (TooFewEnds wanted found) must = absurd must
+  no_octets how word (EndFailed which) must = absurd must
 
   -- the text of an input that must be refused
   pub record IsBadText (r : Refusal) : Type 0 where
@@ -144,6 +258,10 @@ module _ (s : SourceSeen) (w : Setting) (legal : IsLegalSide w) where
   bad_text (BadOctets place why) must = absurd must
   bad_text (TooLong many) must = absurd must
   bad_text (BadRequest fault) must = absurd must
+  bad_text (BadLabel fault) must = absurd must
+  bad_text ShortLabel must = absurd must
+  bad_text (TooFewEnds wanted found) must = absurd must
+  bad_text (EndFailed which) must = absurd must
 
   no_migration : (r : Refusal) → IsBadText r → Refuted Migrate r
   no_migration r b = (
@@ -153,13 +271,13 @@ module _ (s : SourceSeen) (w : Setting) (legal : IsLegalSide w) where
 
   no_encoding : (order : OrderWord) (chunk : ℕ) (r : Refusal) → IsBadText r → Refuted (Encode order chunk) r
   no_encoding order chunk r b = (
-    λ made m. b.bad (encoded_good w (order_in order) chunk b.text made (of_text s b.text b.input (λ l. IsEncoding w (order_in order) chunk l made) m)),
+    λ made m. b.bad (labelled_good w order chunk b.text made (of_text s b.text b.input (λ l. IsLabelledEncoding w order chunk l made) m)),
     λ q cause. encoding_causes s w chunk b.text b.input (Only r) (inl refl) (text_cause w legal b.text chunk b.bad r b.only) q cause,
   )
 
   encoding_refuted : (order : OrderWord) (chunk : ℕ) (r : Refusal) → MustBeNoEncoding s w chunk r → Refuted (Encode order chunk) r
   encoding_refuted order chunk (TooLong many) (text, g, input, reads, conforms, long) = (
-    λ made m. long_made w legal text chunk g reads conforms many long (order_in order) made (of_text s text input (λ l. IsEncoding w (order_in order) chunk l made) m),
+    λ made m. long_labelled w legal text chunk g reads conforms many long order made (of_text s text input (λ l. IsLabelledEncoding w order chunk l made) m),
     λ q cause. encoding_causes s w chunk text input (Only (TooLong many)) (inl refl) (long_cause w legal text chunk g reads conforms many long) q cause,
   )
   encoding_refuted order chunk Memory must = absurd must
@@ -172,22 +290,26 @@ module _ (s : SourceSeen) (w : Setting) (legal : IsLegalSide w) where
   encoding_refuted order chunk (BadText line column why) must = no_encoding order chunk (BadText line column why) (bad_text (BadText line column why) must)
   encoding_refuted order chunk (BadValue path why) must = no_encoding order chunk (BadValue path why) (bad_text (BadValue path why) must)
   encoding_refuted order chunk (BadRequest fault) must = absurd must
+  encoding_refuted order chunk (BadLabel fault) must = absurd must
+  encoding_refuted order chunk ShortLabel must = absurd must
+  encoding_refuted order chunk (TooFewEnds wanted found) must = absurd must
+  encoding_refuted order chunk (EndFailed which) must = absurd must
 
-  input_refuted : (task : Task) (r : Refusal) → MustBeNoInput s task w r → Refuted task r
-  input_refuted (Decode order) r must = no_octets order r must
+  input_refuted : (task : Task) (r : Refusal) → MustBeNoInput s e task w r → Refuted task r
+  input_refuted (Read how word) r must = no_octets how word r must
   input_refuted (Encode order chunk) r must = encoding_refuted order chunk r must
   input_refuted Migrate r must = no_migration r (bad_text r must)
 
 module _ (x : Seen) (loads : HasRisen x.files.faults → ⊥) where
   module _ (task : Task) (of : Subject) (given : Option (List ℕ)) where
     -- the causes of a command on values, once what it speaks of is accepted
-    of_values : (w : Setting) → AreAccepted x.files of given w → (P : Refusal → Type 0) → P Memory → ((r : Refusal) → IsTaskCause x.input task w r → P r)
+    of_values : (w : Setting) → AreAccepted x.files of given w → (P : Refusal → Type 0) → P Memory → ((r : Refusal) → IsTaskCause x.input x.ends task w r → P r)
         → (r : Refusal) → IsCause x (Values task of given) r → P r
-    of_values w a P wanting by r (inl (cause, before)) = subst P (sym (all_cause x.files of loads given w a r cause)) wanting
-    of_values w a P wanting by r (inr (v, ready, cause)) = by r (subst (λ u. IsTaskCause x.input task u r) (all_one x.files of given w v a ready) cause)
+    of_values w a P wanting by r (inl (cause, before, kept)) = subst P (sym (all_cause x.files of loads given w a r cause)) wanting
+    of_values w a P wanting by r (inr (v, ready, cause)) = by r (subst (λ u. IsTaskCause x.input x.ends task u r) (all_one x.files of given w v a ready) cause)
 
-    values_made : (w : Setting) → AreAccepted x.files of given w → (made : List ℕ) → IsMade x (Values task of given) made → IsMadeOf x.input task w made
-    values_made w a made (v, ready, m) = subst (λ u. IsMadeOf x.input task u made) (all_one x.files of given w v a ready) m
+    values_made : (w : Setting) → AreAccepted x.files of given w → (made : List ℕ) → IsMade x (Values task of given) made → IsMadeOf x.input x.ends task w made
+    values_made w a made (v, ready, m) = subst (λ u. IsMadeOf x.input x.ends task u made) (all_one x.files of given w v a ready) m
 
     abbrev Settled_values : Refusal → Type 0
     Settled_values r = ((made : List ℕ) → IsMade x (Values task of given) made → ⊥) × ((q : Refusal) → IsCause x (Values task of given) q → (q ≡ Memory) ⊎ (q ≡ r))
@@ -197,7 +319,7 @@ module _ (x : Seen) (loads : HasRisen x.files.faults → ⊥) where
     values_unready r must = (λ made m. all_unready x.files of loads given r must m.0 m.1, by)
       where
         by : (q : Refusal) → IsCause x (Values task of given) q → (q ≡ Memory) ⊎ (q ≡ r)
-        by q (inl (cause, before)) = all_unready_cause x.files of loads given r must q cause
+        by q (inl (cause, before, kept)) = all_unready_cause x.files of loads given r must q cause
         by q (inr (w, ready, cause)) = absurd (all_unready x.files of loads given r must w ready)
 
     -- the request beside which it judges is refused
@@ -205,22 +327,23 @@ module _ (x : Seen) (loads : HasRisen x.files.faults → ⊥) where
     values_no_request why must = (λ made m. no_request x.files of loads given why must m.0 m.1, by)
       where
         by : (q : Refusal) → IsCause x (Values task of given) q → (q ≡ Memory) ⊎ (q ≡ BadRequest why)
-        by q (inl (cause, before)) = no_request_cause x.files of loads given why must q cause
+        by q (inl (cause, before, kept)) = no_request_cause x.files of loads given why must q cause
         by q (inr (w, ready, cause)) = absurd (no_request x.files of loads given why must w ready)
 
     -- the input is refused
-    values_no_input : (r : Refusal) (w : Setting) → AreAccepted x.files of given w → MustBeNoInput x.input task w r → Settled_values r
+    values_no_input : (r : Refusal) (w : Setting) → AreAccepted x.files of given w → MustBeNoInput x.input x.ends task w r → Settled_values r
     values_no_input r w a must =
-        let (unmade, only) = input_refuted x.input w (legal_all x.files of given w a) task r must in
+        let (unmade, only) = input_refuted x.input x.ends w (legal_all x.files of given w a) task r must in
         ((λ made m. unmade made (values_made w a made m)), of_values w a (λ q. (q ≡ Memory) ⊎ (q ≡ r)) (inl refl) only)
 
   -- ## Commands that can be done
 
   pub not_refused : (c : Command) → CanBeDone x c → (r : Refusal) → IsCause x c r → r ≡ Memory
   not_refused (Values task of given) (w, a, can) r cause =
-      of_values task of given w a (λ q. q ≡ Memory) refl (made_cause x.input w (legal_all x.files of given w a) task can) r cause
+      of_values task of given w a (λ q. q ≡ Memory) refl (made_cause x.input x.ends w (legal_all x.files of given w a) task can) r cause
   not_refused (Compile idl acf) (text, i, held, means) r cause = compiled_cause x.files idl acf loads text i held means r cause
   not_refused (Plan idl acf) (text, i, held, means) r cause = compiled_cause x.files idl acf loads text i held means r cause
+  not_refused (Sample seed count) can r cause = cause
   not_refused Help can r cause = cause
   not_refused Version can r cause = cause
 
@@ -241,8 +364,13 @@ module _ (x : Seen) (loads : HasRisen x.files.faults → ⊥) where
   settled (Values task of given) (BadText line column why) (w, a, must) = values_no_input task of given (BadText line column why) w a must
   settled (Values task of given) (BadValue path why) (w, a, must) = values_no_input task of given (BadValue path why) w a must
   settled (Values task of given) (TooLong many) (w, a, must) = values_no_input task of given (TooLong many) w a must
+  settled (Values task of given) (BadLabel why) (w, a, must) = values_no_input task of given (BadLabel why) w a must
+  settled (Values task of given) ShortLabel (w, a, must) = values_no_input task of given ShortLabel w a must
+  settled (Values task of given) (TooFewEnds wanted found) (w, a, must) = values_no_input task of given (TooFewEnds wanted found) w a must
+  settled (Values task of given) (EndFailed which) (w, a, must) = values_no_input task of given (EndFailed which) w a must
   settled (Compile idl acf) r must = (λ made m. no_idl x.files idl acf loads r must m.interface m.compiled, no_idl_cause x.files idl acf loads r must)
   settled (Plan idl acf) r must = (λ made m. no_idl x.files idl acf loads r must m.interface m.compiled, no_idl_cause x.files idl acf loads r must)
+  settled (Sample seed count) r must = absurd must
   settled Help r must = absurd must
   settled Version r must = absurd must
 

@@ -15,8 +15,8 @@ use Rattle.nd_types.specs.Meant.{Meant}
 use Rattle.nd_types.specs.Meant.{meant_by}
 use Rattle.refusals.specs.declared.refusal.IdlReason.{IdlReason}
 use Rattle.refusals.specs.declared.refusal.Refusal.{Refusal}
-use Rattle.refusals.specs.declared.refusal.Refusal.TheVariants.{Memory, Absent, FileFailed, BadIdl, NoOperation, ReadFault, BadOctets, BadText, BadValue, TooLong, BadRequest}
-use Rattle.dceidl.specs.Words.{Subject}
+use Rattle.refusals.specs.declared.refusal.Refusal.TheVariants.{Memory, Absent, FileFailed, BadIdl, NoOperation, ReadFault, BadOctets, BadText, BadValue, TooLong, BadRequest, BadLabel, ShortLabel, TooFewEnds, EndFailed}
+use Rattle.dceidl_words.specs.Words.{Subject}
 use Rattle.idl_compiler.specs.Idl.{Means, IsIdlFault, IsDueAfter, IsDueFile}
 use Rattle.dceidl.specs.Ready.{IsNamed, IsReady, IsReadyCause}
 use Rattle.idl_compiler.specs.Compiled.{IsCompiled, IsIdlCause}
@@ -111,6 +111,10 @@ module _ (f : FilesSeen) (idl : List ℕ) (acf : Option (List ℕ)) (loads : Has
   compiled_cause text i held means (BadText line column reason) cause = absurd cause
   compiled_cause text i held means (BadValue path reason) cause = absurd cause
   compiled_cause text i held means (BadRequest fault) cause = absurd cause
+  compiled_cause text i held means (BadLabel fault) cause = absurd cause
+  compiled_cause text i held means ShortLabel cause = absurd cause
+  compiled_cause text i held means (TooFewEnds wanted found) cause = absurd cause
+  compiled_cause text i held means (EndFailed which) cause = absurd cause
 
   -- files that are refused mean no interface, and are refused in one way
   pub no_idl : (r : Refusal) → MustBeNoIdl f idl acf r → (i : Interface) → IsCompiled f idl acf i → ⊥
@@ -126,6 +130,10 @@ module _ (f : FilesSeen) (idl : List ℕ) (acf : Option (List ℕ)) (loads : Has
   no_idl (BadText line column reason) must i compiled = absurd must
   no_idl (BadValue path reason) must i compiled = absurd must
   no_idl (BadRequest fault) must i compiled = absurd must
+  no_idl (BadLabel fault) must i compiled = absurd must
+  no_idl ShortLabel must i compiled = absurd must
+  no_idl (TooFewEnds wanted found) must i compiled = absurd must
+  no_idl (EndFailed which) must i compiled = absurd must
 
   only_bad : (file : List ℕ) (line column : ℕ) (why : IdlReason) → MustBeNoIdl f idl acf (BadIdl file line column why) → (r : Refusal) → IsIdlCause f idl acf r
       → (r ≡ Memory) ⊎ (r ≡ BadIdl file line column why)
@@ -141,6 +149,10 @@ module _ (f : FilesSeen) (idl : List ℕ) (acf : Option (List ℕ)) (loads : Has
   only_bad file line column why must (BadText row at reason) cause = absurd cause
   only_bad file line column why must (BadValue path reason) cause = absurd cause
   only_bad file line column why must (BadRequest fault) cause = absurd cause
+  only_bad file line column why must (BadLabel fault) cause = absurd cause
+  only_bad file line column why must ShortLabel cause = absurd cause
+  only_bad file line column why must (TooFewEnds wanted found) cause = absurd cause
+  only_bad file line column why must (EndFailed which) cause = absurd cause
 
   pub no_idl_cause : (r : Refusal) → MustBeNoIdl f idl acf r → (q : Refusal) → IsIdlCause f idl acf q → (q ≡ Memory) ⊎ (q ≡ r)
   no_idl_cause (BadIdl a b c d) must q cause = only_bad a b c d must q cause
@@ -154,6 +166,10 @@ module _ (f : FilesSeen) (idl : List ℕ) (acf : Option (List ℕ)) (loads : Has
   no_idl_cause (BadText line column reason) must q cause = absurd must
   no_idl_cause (BadValue path reason) must q cause = absurd must
   no_idl_cause (BadRequest fault) must q cause = absurd must
+  no_idl_cause (BadLabel fault) must q cause = absurd must
+  no_idl_cause ShortLabel must q cause = absurd must
+  no_idl_cause (TooFewEnds wanted found) must q cause = absurd must
+  no_idl_cause (EndFailed which) must q cause = absurd must
 
 -- ## What a command on values speaks of
 
@@ -185,6 +201,10 @@ module _ (f : FilesSeen) (of : Subject) where
     accepted_cause w a (BadValue path reason) cause = compiled_cause f of.idl of.acf loads a.file a.interface a.held a.means (BadValue path reason) cause
     accepted_cause w a (TooLong many) cause = compiled_cause f of.idl of.acf loads a.file a.interface a.held a.means (TooLong many) cause
     accepted_cause w a (BadRequest fault) cause = compiled_cause f of.idl of.acf loads a.file a.interface a.held a.means (BadRequest fault) cause
+    accepted_cause w a (BadLabel fault) cause = compiled_cause f of.idl of.acf loads a.file a.interface a.held a.means (BadLabel fault) cause
+    accepted_cause w a ShortLabel cause = compiled_cause f of.idl of.acf loads a.file a.interface a.held a.means ShortLabel cause
+    accepted_cause w a (TooFewEnds wanted found) cause = compiled_cause f of.idl of.acf loads a.file a.interface a.held a.means (TooFewEnds wanted found) cause
+    accepted_cause w a (EndFailed which) cause = compiled_cause f of.idl of.acf loads a.file a.interface a.held a.means (EndFailed which) cause
 
     -- what is refused is not ready
     pub unready : (r : Refusal) → MustBeUnready f of r → (w : Setting) → IsReady f of w → ⊥
@@ -201,6 +221,10 @@ module _ (f : FilesSeen) (of : Subject) where
     unready (BadValue path reason) must w ready = no_idl f of.idl of.acf loads (BadValue path reason) must ready.interface ready.found.compiled
     unready (TooLong many) must w ready = no_idl f of.idl of.acf loads (TooLong many) must ready.interface ready.found.compiled
     unready (BadRequest fault) must w ready = no_idl f of.idl of.acf loads (BadRequest fault) must ready.interface ready.found.compiled
+    unready (BadLabel fault) must w ready = no_idl f of.idl of.acf loads (BadLabel fault) must ready.interface ready.found.compiled
+    unready ShortLabel must w ready = no_idl f of.idl of.acf loads ShortLabel must ready.interface ready.found.compiled
+    unready (TooFewEnds wanted found) must w ready = no_idl f of.idl of.acf loads (TooFewEnds wanted found) must ready.interface ready.found.compiled
+    unready (EndFailed which) must w ready = no_idl f of.idl of.acf loads (EndFailed which) must ready.interface ready.found.compiled
 
     -- an interface without the operation is refused as that alone
     only_unknown : MustBeUnready f of NoOperation → (r : Refusal) → IsReadyCause f of r → (r ≡ Memory) ⊎ (r ≡ NoOperation)
@@ -215,6 +239,10 @@ module _ (f : FilesSeen) (of : Subject) where
     only_unknown (text, i, held, means, none) (BadValue path reason) cause = inl (compiled_cause f of.idl of.acf loads text i held means (BadValue path reason) cause)
     only_unknown (text, i, held, means, none) (TooLong many) cause = inl (compiled_cause f of.idl of.acf loads text i held means (TooLong many) cause)
     only_unknown (text, i, held, means, none) (BadRequest fault) cause = inl (compiled_cause f of.idl of.acf loads text i held means (BadRequest fault) cause)
+    only_unknown (text, i, held, means, none) (BadLabel fault) cause = inl (compiled_cause f of.idl of.acf loads text i held means (BadLabel fault) cause)
+    only_unknown (text, i, held, means, none) ShortLabel cause = inl (compiled_cause f of.idl of.acf loads text i held means ShortLabel cause)
+    only_unknown (text, i, held, means, none) (TooFewEnds wanted found) cause = inl (compiled_cause f of.idl of.acf loads text i held means (TooFewEnds wanted found) cause)
+    only_unknown (text, i, held, means, none) (EndFailed which) cause = inl (compiled_cause f of.idl of.acf loads text i held means (EndFailed which) cause)
 
     only_no_idl : (r : Refusal) → MustBeNoIdl f of.idl of.acf r → (q : Refusal) → IsReadyCause f of q → (q ≡ Memory) ⊎ (q ≡ r)
     only_no_idl r must NoOperation (i, compiled, none) = absurd (no_idl f of.idl of.acf loads r must i compiled)
@@ -228,6 +256,10 @@ module _ (f : FilesSeen) (of : Subject) where
     only_no_idl r must (BadValue path reason) cause = no_idl_cause f of.idl of.acf loads r must (BadValue path reason) cause
     only_no_idl r must (TooLong many) cause = no_idl_cause f of.idl of.acf loads r must (TooLong many) cause
     only_no_idl r must (BadRequest fault) cause = no_idl_cause f of.idl of.acf loads r must (BadRequest fault) cause
+    only_no_idl r must (BadLabel fault) cause = no_idl_cause f of.idl of.acf loads r must (BadLabel fault) cause
+    only_no_idl r must ShortLabel cause = no_idl_cause f of.idl of.acf loads r must ShortLabel cause
+    only_no_idl r must (TooFewEnds wanted found) cause = no_idl_cause f of.idl of.acf loads r must (TooFewEnds wanted found) cause
+    only_no_idl r must (EndFailed which) cause = no_idl_cause f of.idl of.acf loads r must (EndFailed which) cause
 
     -- it is refused in one way
     pub unready_cause : (r : Refusal) → MustBeUnready f of r → (q : Refusal) → IsReadyCause f of q → (q ≡ Memory) ⊎ (q ≡ r)
@@ -242,3 +274,7 @@ module _ (f : FilesSeen) (of : Subject) where
     unready_cause (BadValue path reason) must q cause = only_no_idl (BadValue path reason) must q cause
     unready_cause (TooLong many) must q cause = only_no_idl (TooLong many) must q cause
     unready_cause (BadRequest fault) must q cause = only_no_idl (BadRequest fault) must q cause
+    unready_cause (BadLabel fault) must q cause = only_no_idl (BadLabel fault) must q cause
+    unready_cause ShortLabel must q cause = only_no_idl ShortLabel must q cause
+    unready_cause (TooFewEnds wanted found) must q cause = only_no_idl (TooFewEnds wanted found) must q cause
+    unready_cause (EndFailed which) must q cause = only_no_idl (EndFailed which) must q cause

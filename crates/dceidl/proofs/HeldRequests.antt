@@ -6,13 +6,13 @@ use Rattle.nd_value.specs.declared.value.Graph.{Graph}
 use Rattle.nd_value.specs.Setting.{Setting}
 use Rattle.nd_grammar.specs.LegalSide.{IsLegalSide}
 use Rattle.refusals.specs.declared.refusal.Refusal.{Refusal}
-use Rattle.refusals.specs.declared.refusal.Refusal.TheVariants.{Memory, Absent, FileFailed, BadIdl, NoOperation, ReadFault, BadOctets, BadText, BadValue, TooLong, BadRequest}
+use Rattle.refusals.specs.declared.refusal.Refusal.TheVariants.{Memory, Absent, FileFailed, BadIdl, NoOperation, ReadFault, BadOctets, BadText, BadValue, TooLong, BadRequest, BadLabel, ShortLabel, TooFewEnds, EndFailed}
 use Rattle.refusals.specs.declared.refusal.RequestFault.{RequestFault}
 use Rattle.text_fitting.specs.Request.{inputs, beside, IsRequestText, IsRequestFault, HoldsRequest, HoldsNoRequest}
 use Rattle.text_fitting.proofs.OneText.{request_or_fault, one_request, one_request_fault}
 use Rattle.dceidl.specs.Ready.{IsReady, IsReadyCause, IsReadyBeside, IsUnreadyBeside, IsAllReady, IsUnready, HasAsked, up_to}
 use Rattle.dceidl.specs.Rows.{IsHeld, IsAccepted, IsAcceptedBeside, AreAccepted, MustBeUnready, MustBeNoRequest}
-use Rattle.dceidl.specs.Words.{Subject}
+use Rattle.dceidl_words.specs.Words.{Subject}
 use Rattle.dceidl.proofs.HeldFiles.{held_only, held_there, one_setting, accepted_cause, unready, unready_cause}
 use Rattle.dceidl.proofs.Sides.{legal_side_of}
 
@@ -56,6 +56,10 @@ module _ (f : FilesSeen) (of : Subject) (asked : List (List ℕ)) where
   must_up_to (BadValue path why) must = absurd must
   must_up_to (TooLong many) must = absurd must
   must_up_to (BadRequest why) must = absurd must
+  must_up_to (BadLabel fault) must = absurd must
+  must_up_to ShortLabel must = absurd must
+  must_up_to (TooFewEnds wanted found) must = absurd must
+  must_up_to (EndFailed which) must = absurd must
 
 module _ (f : FilesSeen) (of : Subject) (name : List ℕ) where
   -- what has the request asked for is ready in one way
@@ -92,6 +96,10 @@ module _ (f : FilesSeen) (of : Subject) (name : List ℕ) where
     held_cause w own a same (BadOctets place why) cause = absurd cause
     held_cause w own a same (BadText line column why) cause = absurd cause
     held_cause w own a same (BadValue path why) cause = absurd cause
+    held_cause w own a same (BadLabel _) cause = absurd cause
+    held_cause w own a same ShortLabel cause = absurd cause
+    held_cause w own a same (TooFewEnds _ _) cause = absurd cause
+    held_cause w own a same (EndFailed _) cause = absurd cause
 
     -- a request that is held and refused is refused in this way alone
     fault_cause : (own w : Setting) (text : List ℕ) (why : RequestFault) → IsAccepted f of own → IsHeld f name text → IsRequestFault own text why → w ≡ own
@@ -110,6 +118,10 @@ module _ (f : FilesSeen) (of : Subject) (name : List ℕ) where
     fault_cause own w text why a held fault same (BadOctets place because) cause = absurd cause
     fault_cause own w text why a held fault same (BadText line column because) cause = absurd cause
     fault_cause own w text why a held fault same (BadValue path because) cause = absurd cause
+    fault_cause own w text why a held fault same (BadLabel _) cause = absurd cause
+    fault_cause own w text why a held fault same ShortLabel cause = absurd cause
+    fault_cause own w text why a held fault same (TooFewEnds _ _) cause = absurd cause
+    fault_cause own w text why a held fault same (EndFailed _) cause = absurd cause
 
 -- ## With a request or without one
 

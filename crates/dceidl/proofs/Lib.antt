@@ -1,14 +1,14 @@
 pub mod Causes
-pub mod Chunks
 pub mod Encodings
 pub mod Requests
 pub mod Rows
 pub mod Sides
 pub mod OneInput
+pub mod Labels
 pub mod OneReading
+pub mod Drains
 pub mod OneWriting
 pub mod RoundTrip
 pub mod HeldFiles
 pub mod HeldRequests
 pub mod Exact
-pub mod NineWords

@@ -36,7 +36,7 @@ module _ (s : SourceSeen) (limit : ℕ) (octets others : List ℕ) (input : IsIn
   same_octets = by_left s.left s.left_now input.left read.taken read.none_left
 
 -- octets that were taken are the first of those of the input
-split_by : (left now : Option (List ℕ)) (octets taken : List ℕ) → left ≡ Some octets → Consumes left now taken
+pub split_by : (left now : Option (List ℕ)) (octets taken : List ℕ) → left ≡ Some octets → Consumes left now taken
     → (rest : List ℕ) × (now ≡ Some rest) × (octets ≡ taken ++ rest)
 split_by None now octets taken e c = cc
 split_by (Some xs) None octets taken e c = absurd c

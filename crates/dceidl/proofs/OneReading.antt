@@ -11,7 +11,7 @@ use Rattle.nd_grammar.specs.Represents.{Represents}
 use Rattle.nd_grammar.proofs.ReaderLaws.{never_both, one_beginning}
 use Rattle.nd_grammar.proofs.OneRefusal.{one_bad}
 use Rattle.refusals.specs.declared.refusal.Refusal.{Refusal}
-use Rattle.refusals.specs.declared.refusal.Refusal.TheVariants.{Memory, Absent, FileFailed, BadIdl, NoOperation, ReadFault, BadOctets, BadText, BadValue, TooLong, BadRequest}
+use Rattle.refusals.specs.declared.refusal.Refusal.TheVariants.{Memory, Absent, FileFailed, BadIdl, NoOperation, ReadFault, BadOctets, BadText, BadValue, TooLong, BadRequest, BadLabel, ShortLabel, TooFewEnds, EndFailed}
 use Rattle.refusals.specs.declared.refusal.OctetsFault.{OctetsFault}
 use Rattle.refusals.specs.declared.refusal.OctetsFault.TheVariants as fault
 use Rattle.nd_base.specs.Over.{SourceSeen, HasRisen}
@@ -20,7 +20,7 @@ use Rattle.nd_grammar.specs.declared.reason.Reason.TheVariants as reason
 use Rattle.nd_grammar.specs.Bad.{Bad}
 use Rattle.ndr_verdict.specs.Verdict.{MayFollow}
 use Rattle.std.specs.Io.KnownBytes.{IsAtEnd}
-use Rattle.ndr_printing.specs.Printed.{IsDecoding, IsPrinted, IsRefusedInput, IsTrailedInput}
+use Rattle.ndr_printing.specs.Printed.{IsWhole, IsRefusedInput, IsTrailedInput}
 use Rattle.dceidl.specs.Rows.{IsRefusedAt, IsTrailing, AreGiven}
 use Rattle.dceidl.proofs.OneInput.{split_input, take_front}
 use Rattle.dceidl.proofs.Sides.{whole_begins}
@@ -70,12 +70,12 @@ module _ (s : SourceSeen) (octets : List ℕ) (input : AreGiven s octets) (w : S
         follows = omega (arith, many, r.place_is);
       }
 
-  -- all octets of the input were decoded
-  pub decoded_here : (made : List ℕ) → IsPrinted s w order made → IsDecoding w order octets made
-  decoded_here made r =
-      let (rest, now, whole) = split_input s octets r.octets input r.whole.taken in
-      let none : rest ≡ [] = subst IsAtEnd now r.whole.none_left in
-      subst (λ l. IsDecoding w order l made) (sym (whole ∙ ap (λ u. r.octets ++ u) none ∙ append-nil r.octets)) r.decoding
+  -- all octets of the input were read
+  pub whole_here : (P : List ℕ → Type 0) (own : List ℕ) → IsWhole s own → P own → P octets
+  whole_here P own whole p =
+      let (rest, now, all) = split_input s octets own input whole.taken in
+      let none : rest ≡ [] = subst IsAtEnd now whole.none_left in
+      subst P (sym (all ∙ ap (λ u. own ++ u) none ∙ append-nil own)) p
 
 -- ## Octets
 
@@ -97,13 +97,17 @@ module _ (w : Setting) (side : IsLegalSide w) (order : Order) (octets : List ℕ
   decoded_cause g represents conforms (BadText line column reason) cause = absurd cause
   decoded_cause g represents conforms (BadValue path reason) cause = absurd cause
   decoded_cause g represents conforms (BadRequest fault) cause = absurd cause
+  decoded_cause g represents conforms (BadLabel fault) cause = absurd cause
+  decoded_cause g represents conforms ShortLabel cause = absurd cause
+  decoded_cause g represents conforms (TooFewEnds wanted found) cause = absurd cause
+  decoded_cause g represents conforms (EndFailed which) cause = absurd cause
 
-  -- octets that are refused are not decoded
-  pub refused_made : (place : ℕ) (why : OctetsFault) → IsRefusedAt w order octets place why → (made : List ℕ) → IsDecoding w order octets made → ⊥
-  refused_made place (fault.Refused reason) bad made d =
-      never_both w side order octets (length octets) d.graph place reason (whole_begins w order octets d.graph d.represents d.conforms) bad
-  refused_made place fault.Trailing trailing made d =
-      let same = (one_beginning w side order octets place (length octets) trailing.graph d.graph trailing.begins (whole_begins w order octets d.graph d.represents d.conforms)).0 in
+  -- octets that are refused represent no graph that conforms
+  pub refused_value : (place : ℕ) (why : OctetsFault) → IsRefusedAt w order octets place why → (g : Graph) → Represents w order octets g → Conforms w g → ⊥
+  refused_value place (fault.Refused reason) bad g represents conforms =
+      never_both w side order octets (length octets) g place reason (whole_begins w order octets g represents conforms) bad
+  refused_value place fault.Trailing trailing g represents conforms =
+      let same = (one_beginning w side order octets place (length octets) trailing.graph g trailing.begins (whole_begins w order octets g represents conforms)).0 in
       omega (arith, same, trailing.follows)
 
   -- and they are refused at one place for one reason
@@ -129,3 +133,7 @@ module _ (w : Setting) (side : IsLegalSide w) (order : Order) (octets : List ℕ
   refused_cause place why refused (BadText line column reason) cause = absurd cause
   refused_cause place why refused (BadValue path reason) cause = absurd cause
   refused_cause place why refused (BadRequest fault) cause = absurd cause
+  refused_cause place why refused (BadLabel fault) cause = absurd cause
+  refused_cause place why refused ShortLabel cause = absurd cause
+  refused_cause place why refused (TooFewEnds wanted found) cause = absurd cause
+  refused_cause place why refused (EndFailed which) cause = absurd cause

@@ -17,8 +17,10 @@ use Rattle.text_reader.proofs.Stated.{never_both, one_graph}
 use Rattle.text_fitting.specs.Fitted.{IsTextCause, IsMisfitAt}
 use Rattle.text_fitting.proofs.OneText.{good_cause, fault_cause, misfit_cause}
 use Rattle.refusals.specs.declared.refusal.Refusal.{Refusal}
-use Rattle.refusals.specs.declared.refusal.Refusal.TheVariants.{Memory, Absent, FileFailed, BadIdl, NoOperation, ReadFault, BadOctets, BadText, BadValue, TooLong, BadRequest}
-use Rattle.dceidl.specs.Encode.{IsEncoding, IsLongEncoding, IsEncodingCause, IsMigration}
+use Rattle.refusals.specs.declared.refusal.Refusal.TheVariants.{Memory, Absent, FileFailed, BadIdl, NoOperation, ReadFault, BadOctets, BadText, BadValue, TooLong, BadRequest, BadLabel, ShortLabel, TooFewEnds, EndFailed}
+use Rattle.dceidl_words.specs.Words.{order_in}
+use Rattle.dceidl_words.specs.declared.command.OrderWord.{OrderWord}
+use Rattle.dceidl.specs.Encode.{IsEncoding, IsLabelledEncoding, IsLongEncoding, IsEncodingCause, IsMigration}
 
 -- a text that reads as a graph that conforms
 pub record IsGood (w : Setting) (text : List ℕ) : Type 0 where
@@ -29,6 +31,9 @@ pub record IsGood (w : Setting) (text : List ℕ) : Type 0 where
 -- what was encoded, what is too long to be encoded, and what was migrated is such a text
 pub encoded_good : (w : Setting) (order : Order) (chunk : ℕ) (text made : List ℕ) → IsEncoding w order chunk text made → IsGood w text
 encoded_good w order chunk text made e = record { graph = e.graph; reads = e.reads; conforms = e.conforms }
+
+pub labelled_good : (w : Setting) (word : OrderWord) (chunk : ℕ) (text made : List ℕ) → IsLabelledEncoding w word chunk text made → IsGood w text
+labelled_good w word chunk text made e = encoded_good w (order_in word) chunk text e.octets e.encoding
 
 pub long_good : (w : Setting) (chunk : ℕ) (text : List ℕ) (many : ℕ) → IsLongEncoding w chunk text many → IsGood w text
 long_good w chunk text many e = record { graph = e.graph; reads = e.reads; conforms = e.conforms }
@@ -75,6 +80,10 @@ module _ (w : Setting) (side : IsLegalSide w) (text : List ℕ) where
     encodes_cause g order octets reads conforms is (BadText line column why) cause = good_cause w side text g reads conforms (BadText line column why) cause
     encodes_cause g order octets reads conforms is (BadValue path why) cause = good_cause w side text g reads conforms (BadValue path why) cause
     encodes_cause g order octets reads conforms is (BadRequest fault) cause = absurd cause
+    encodes_cause g order octets reads conforms is (BadLabel fault) cause = absurd cause
+    encodes_cause g order octets reads conforms is ShortLabel cause = absurd cause
+    encodes_cause g order octets reads conforms is (TooFewEnds wanted found) cause = absurd cause
+    encodes_cause g order octets reads conforms is (EndFailed which) cause = absurd cause
 
     -- what is refused as a text is refused so if it is to be encoded
     module _ (bad : IsGood w text → ⊥) (r : Refusal) (by : (q : Refusal) → IsTextCause w text q → (q ≡ Memory) ⊎ (q ≡ r)) where
@@ -90,6 +99,10 @@ module _ (w : Setting) (side : IsLegalSide w) (text : List ℕ) where
       text_cause (BadText line column why) cause = by (BadText line column why) cause
       text_cause (BadValue path why) cause = by (BadValue path why) cause
       text_cause (BadRequest fault) cause = absurd cause
+      text_cause (BadLabel fault) cause = absurd cause
+      text_cause ShortLabel cause = absurd cause
+      text_cause (TooFewEnds wanted found) cause = absurd cause
+      text_cause (EndFailed which) cause = absurd cause
 
     module _ (g : Graph) (reads : ReadsAs w text g) (conforms : Conforms w g) (many : ℕ) (long : IsLong w chunk g many) where
       -- a text whose octets are too many is refused as that alone
@@ -106,8 +119,15 @@ module _ (w : Setting) (side : IsLegalSide w) (text : List ℕ) where
       long_cause (BadText line column why) cause = inl (good_cause w side text g reads conforms (BadText line column why) cause)
       long_cause (BadValue path why) cause = inl (good_cause w side text g reads conforms (BadValue path why) cause)
       long_cause (BadRequest fault) cause = absurd cause
+      long_cause (BadLabel fault) cause = absurd cause
+      long_cause ShortLabel cause = absurd cause
+      long_cause (TooFewEnds wanted found) cause = absurd cause
+      long_cause (EndFailed which) cause = absurd cause
 
       -- and is not encoded
-      pub long_made : (order : Order) (made : List ℕ) → IsEncoding w order chunk text made → ⊥
+      long_made : (order : Order) (made : List ℕ) → IsEncoding w order chunk text made → ⊥
       long_made order made e =
           long_or_written g order made many (subst (λ h. IsWritten w order chunk h made) (one_graph w text e.graph g side e.reads reads) e.written) long
+
+      pub long_labelled : (word : OrderWord) (made : List ℕ) → IsLabelledEncoding w word chunk text made → ⊥
+      long_labelled word made e = long_made (order_in word) e.octets e.encoding

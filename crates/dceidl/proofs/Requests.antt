@@ -11,16 +11,17 @@ use Rattle.nd_types.specs.declared.types.Operation.{Operation}
 use Rattle.nd_value.specs.declared.value.Graph.{Graph}
 use Rattle.nd_value.specs.Setting.{Setting}
 use Rattle.refusals.specs.declared.refusal.Refusal.{Refusal}
-use Rattle.refusals.specs.declared.refusal.Refusal.TheVariants.{Memory, Absent, FileFailed, BadIdl, NoOperation, ReadFault, BadOctets, BadText, BadValue, TooLong, BadRequest}
+use Rattle.refusals.specs.declared.refusal.Refusal.TheVariants.{Memory, Absent, FileFailed, BadIdl, NoOperation, ReadFault, BadOctets, BadText, BadValue, TooLong, BadRequest, BadLabel, ShortLabel, TooFewEnds, EndFailed}
 use Rattle.text_fitting.specs.Request.{beside, HoldsRequest, HoldsNoRequest}
 use Rattle.idl_compiler.specs.Asked.{AsksFiles, AreAsked, all_due}
-use Rattle.dceidl.specs.declared.words.Task.{Task}
+use Rattle.ndr_pipe.specs.Ends.{EndsSeen}
+use Rattle.dceidl_words.specs.declared.command.Task.{Task}
 use Rattle.dceidl.specs.Asked.{AsksRequest}
 use Rattle.dceidl.specs.Causes.{IsMade, IsCause}
 use Rattle.dceidl.specs.Input.{IsMadeOf, IsTaskCause, IsMadeBeside, IsBesideCause}
 use Rattle.dceidl.specs.Ready.{IsFound, IsReady, HasAsked, up_to}
 use Rattle.dceidl.specs.Seen.{seen_over}
-use Rattle.dceidl.specs.Words.{Subject, Values}
+use Rattle.dceidl_words.specs.Words.{Subject, Values}
 
 -- files over one part of a run and then over the next
 abbrev pub both_parts : FilesSeen → FilesSeen → FilesSeen
@@ -42,14 +43,14 @@ pub record Follows (f g : FilesSeen) : Type 0 where
   pub absences_later : f.absences.before ≤ f.absences.now
 
 -- a request was loaded, and then something was made of the input beside it
-module _ (f : FilesSeen) (s : SourceSeen) (name : List ℕ) (task : Task) (w : Setting) (q : Graph) (holds : HoldsRequest f name w q) where
-  pub after_made : (result : Result (List ℕ) Refusal) → IfOk result (IsMadeOf s task (beside w q)) → IfOk result (IsMadeBeside f s name task w)
+module _ (f : FilesSeen) (s : SourceSeen) (e : EndsSeen) (name : List ℕ) (task : Task) (w : Setting) (q : Graph) (holds : HoldsRequest f name w q) where
+  pub after_made : (result : Result (List ℕ) Refusal) → IfOk result (IsMadeOf s e task (beside w q)) → IfOk result (IsMadeBeside f s e name task w)
   after_made (Ok made) read = (q, holds, read)
-  after_made (Err e) read = tt
+  after_made (Err r) read = tt
 
-  pub after_refused : (result : Result (List ℕ) Refusal) → IfErr result (IsTaskCause s task (beside w q)) → IfErr result (IsBesideCause f s name task w)
+  pub after_refused : (result : Result (List ℕ) Refusal) → IfErr result (IsTaskCause s e task (beside w q)) → IfErr result (IsBesideCause f s e name task w)
   after_refused (Ok made) cause = tt
-  after_refused (Err e) cause = inr (q, holds, cause)
+  after_refused (Err r) cause = inr (q, holds, cause)
 
 module _ (f g : FilesSeen) (follows : Follows f g) (name : List ℕ) where
   -- a request is held over both parts
@@ -74,6 +75,10 @@ module _ (f g : FilesSeen) (follows : Follows f g) (name : List ℕ) where
   refused_over w (BadOctets place why) cause = absurd cause
   refused_over w (BadText line column why) cause = absurd cause
   refused_over w (BadValue path why) cause = absurd cause
+  refused_over w (BadLabel fault) cause = absurd cause
+  refused_over w ShortLabel cause = absurd cause
+  refused_over w (TooFewEnds wanted found) cause = absurd cause
+  refused_over w (EndFailed which) cause = absurd cause
 
   module _ (of : Subject) (asked : g.asked_now ≡ g.asked ++ name ∷ []) where
     -- the request is asked for when it is due
@@ -119,26 +124,26 @@ module _ (f g : FilesSeen) (follows : Follows f g) (name : List ℕ) where
       asked = asked ∙ ap (λ u. u ++ name ∷ []) follows.asked;
     }
 
-    module _ (s : SourceSeen) (task : Task) (w : Setting) (ready : IsReady f of w) where
-      pub beside_made : (result : Result (List ℕ) Refusal) → IfOk result (IsMadeBeside g s name task w)
-          → IfOk result (IsMade (seen_over (both_parts f g) s) (Values task of (Some name)))
+    module _ (s : SourceSeen) (e : EndsSeen) (task : Task) (w : Setting) (ready : IsReady f of w) where
+      pub beside_made : (result : Result (List ℕ) Refusal) → IfOk result (IsMadeBeside g s e name task w)
+          → IfOk result (IsMade (seen_over (both_parts f g) s e) (Values task of (Some name)))
       beside_made (Ok made) (q, holds, read) = (
         beside w q,
         record { own = w; has_asked = has_asked w ready; request = q; holds = held_over w q holds; setting_is = refl },
         read,
       )
-      beside_made (Err e) is = tt
+      beside_made (Err r) is = tt
 
-      beside_cause : (e : Refusal) → IsBesideCause g s name task w e → IsCause (seen_over (both_parts f g) s) (Values task of (Some name)) e
-      beside_cause e (inl (cause, untouched)) =
-          inl (inr (record { own = w; has_asked = has_asked w ready; cause = refused_over w e cause }), untouched)
-      beside_cause e (inr (q, holds, cause)) = inr (
+      beside_cause : (r : Refusal) → IsBesideCause g s e name task w r → IsCause (seen_over (both_parts f g) s e) (Values task of (Some name)) r
+      beside_cause r (inl (cause, untouched, kept)) =
+          inl (inr (record { own = w; has_asked = has_asked w ready; cause = refused_over w r cause }), untouched, kept)
+      beside_cause r (inr (q, holds, cause)) = inr (
         beside w q,
         record { own = w; has_asked = has_asked w ready; request = q; holds = held_over w q holds; setting_is = refl },
         cause,
       )
 
-      pub beside_refused : (result : Result (List ℕ) Refusal) → IfErr result (IsBesideCause g s name task w)
-          → IfErr result (IsCause (seen_over (both_parts f g) s) (Values task of (Some name)))
+      pub beside_refused : (result : Result (List ℕ) Refusal) → IfErr result (IsBesideCause g s e name task w)
+          → IfErr result (IsCause (seen_over (both_parts f g) s e) (Values task of (Some name)))
       beside_refused (Ok made) cause = tt
-      beside_refused (Err e) cause = beside_cause e cause
+      beside_refused (Err r) cause = beside_cause r cause

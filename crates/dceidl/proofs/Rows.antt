@@ -1,23 +1,34 @@
 -- The rows of a run follow from the whole of it: each goes by the way in which the run ended.
 use Rattle.std.proofs.Common.{◌≡◌, ◌∙◌, ℕ, List, [], ◌∷◌, Option, Some, None, refl, sym, ap, subst, inl, inr, ◌⊎◌}
-use Rattle.std.specs.Prelude.{◌≢◌, true, codes}
+use Rattle.std.specs.Prelude.{◌≢◌, Bool, true, false, codes}
 use Rattle.nd_base.specs.Outside.{IsMissing}
-use Rattle.nd_base.specs.Over.{FilesSeen, SinkSeen, HasRisen, Got}
+use Rattle.nd_base.specs.Over.{FilesSeen, SourceSeen, SinkSeen, HasRisen, Got}
 use Rattle.dceidl.specs.declared.outcome.Outcome.{Outcome}
 use Rattle.dceidl.specs.declared.outcome.Outcome.TheVariants.{Done, Refused, Wanting}
 use Rattle.refusals.specs.declared.refusal.Refusal.{Refusal}
-use Rattle.refusals.specs.declared.refusal.Refusal.TheVariants.{Memory, Absent, FileFailed, BadIdl, NoOperation, ReadFault, BadOctets, BadText, BadValue, TooLong, BadRequest}
-use Rattle.dceidl.specs.Causes.{IsMade, IsCause, statuses_of}
+use Rattle.refusals.specs.declared.refusal.Refusal.TheVariants.{Memory, Absent, FileFailed, BadIdl, NoOperation, ReadFault, BadOctets, BadText, BadValue, TooLong, BadRequest, BadLabel, ShortLabel, TooFewEnds, EndFailed}
+use Rattle.dceidl.specs.Causes.{IsMade, IsCause, statuses_of, values_statuses}
 use Rattle.refusals.specs.Lines.{status_of, line_of}
 use Rattle.idl_compiler.specs.Compiled.{IsIdlCause}
-use Rattle.dceidl.specs.Asked.{IsRequestDue}
+use Rattle.dceidl.specs.Asked.{IsRequestDue, asks_files, asks_input, drains}
+use Rattle.dceidl.proofs.Drains.{refused_rose}
+use Rattle.nd_base.specs.Counts.{Rose}
+use Rattle.nd_base.proofs.Rising.{rose_later}
+use Rattle.dceidl.specs.Input.{IsOpened, IsTaskCause}
 use Rattle.dceidl.specs.Ready.{HasAsked}
-use Rattle.dceidl.specs.declared.words.Task.TheVariants.{Decode, Encode, Migrate}
-use Rattle.dceidl.specs.Rows.{IsOneOf, IsDone, IsRefusedWith, ReadsInput, IsDueOf, IsDueRequest, IsDueAndMissing, IsDueAndReported, HasNotFailed}
+use Rattle.ndr_pipe.specs.Ends.{EndsSeen}
+use Rattle.nd_base.specs.declared.octets.Order.{Order}
+use Rattle.dceidl_words.specs.declared.command.Reading.{Reading}
+use Rattle.dceidl_words.specs.declared.command.Reading.TheVariants.{Decode, Explain, Drain}
+use Rattle.dceidl_words.specs.declared.command.OrderWord.{OrderWord}
+use Rattle.dceidl_words.specs.declared.command.OrderWord.TheVariants.{Fixed, Label}
+use Rattle.dceidl_words.specs.declared.command.Task.{Task}
+use Rattle.dceidl_words.specs.declared.command.Task.TheVariants.{Read, Encode, Migrate}
+use Rattle.dceidl.specs.Rows.{IsOneOf, IsDone, IsRefusedWith, ReadsInput, IsDueOf, IsDueRequest, IsDueAndMissing, IsDueAndReported, EndRose, IsEndReported, HasNotFailed}
 use Rattle.dceidl.specs.Run.{HasRun, IsOutcome, IsCommandOutcome, IsDelivered}
 use Rattle.dceidl.specs.Seen.{Seen}
 use Rattle.nd_value.specs.Setting.{Setting}
-use Rattle.dceidl.specs.Words.{Command, Subject, Values, Compile, Plan, Help, Version, command, idl_of, op_of, asks_files, asks_input}
+use Rattle.dceidl_words.specs.Words.{Command, Subject, Values, Compile, Plan, Sample, Help, Version, command, idl_of, op_of}
 
 -- a refusal has none of the statuses 0, 2 and 4
 pub not_zero : (r : Refusal) → status_of r ≡ 0 → ⊥
@@ -32,6 +43,10 @@ not_zero (BadOctets place why) e = cc
 not_zero (BadText line column reason) e = cc
 not_zero (BadValue path reason) e = cc
 not_zero (BadRequest fault) e = cc
+not_zero (BadLabel fault) e = cc
+not_zero ShortLabel e = cc
+not_zero (TooFewEnds wanted found) e = cc
+not_zero (EndFailed which) e = cc
 
 -- How a run of a command ends: done, refused, out of memory, or with a fault of out or notes in place of its own status.
 pub data Ended (x : Seen) (out notes : SinkSeen) (c : Command) (status : ℕ) : Type 0 where
@@ -84,24 +99,53 @@ module _ (x : Seen) (out notes : SinkSeen) (c : Command) (status : ℕ) where
 
 -- ## Statuses
 
-abbrev OfValues : ℕ → Type 0
-OfValues = IsOneOf (0 ∷ 1 ∷ 3 ∷ 4 ∷ 5 ∷ 6 ∷ 7 ∷ 9 ∷ [])
-
 abbrev OfFiles : ℕ → Type 0
 OfFiles = IsOneOf (0 ∷ 4 ∷ 5 ∷ 6 ∷ 7 ∷ 9 ∷ [])
 
-of_values : (status : ℕ) (r : Refusal) → status ≡ status_of r → OfValues status
-of_values status Memory e = inr (inr (inr (inr (inl e))))
-of_values status (Absent file) e = inr (inr (inr (inr (inr (inr (inl e))))))
-of_values status (FileFailed file) e = inr (inr (inr (inr (inr (inr (inr (inl e)))))))
-of_values status (BadIdl file line column reason) e = inr (inr (inr (inr (inr (inl e)))))
-of_values status NoOperation e = inr (inr (inr (inr (inr (inl e)))))
-of_values status ReadFault e = inr (inr (inl e))
-of_values status (BadOctets place why) e = inr (inl e)
-of_values status (BadText line column reason) e = inr (inl e)
-of_values status (BadValue path reason) e = inr (inl e)
-of_values status (TooLong many) e = inr (inl e)
-of_values status (BadRequest fault) e = inr (inl e)
+-- an end fails only if a command drains
+of_values : (t : Bool) (status : ℕ) (r : Refusal) → ((which : ℕ) → r ≡ EndFailed which → t ≡ true) → status ≡ status_of r → IsOneOf (values_statuses t) status
+of_values true status Memory ends e = inr (inr (inr (inr (inl e))))
+of_values false status Memory ends e = inr (inr (inr (inr (inl e))))
+of_values true status (Absent file) ends e = inr (inr (inr (inr (inr (inr (inl e))))))
+of_values false status (Absent file) ends e = inr (inr (inr (inr (inr (inr (inl e))))))
+of_values true status (FileFailed file) ends e = inr (inr (inr (inr (inr (inr (inr (inr (inl e))))))))
+of_values false status (FileFailed file) ends e = inr (inr (inr (inr (inr (inr (inr (inl e)))))))
+of_values true status (BadIdl file line column reason) ends e = inr (inr (inr (inr (inr (inl e)))))
+of_values false status (BadIdl file line column reason) ends e = inr (inr (inr (inr (inr (inl e)))))
+of_values true status NoOperation ends e = inr (inr (inr (inr (inr (inl e)))))
+of_values false status NoOperation ends e = inr (inr (inr (inr (inr (inl e)))))
+of_values true status ReadFault ends e = inr (inr (inl e))
+of_values false status ReadFault ends e = inr (inr (inl e))
+of_values true status (BadOctets place why) ends e = inr (inl e)
+of_values false status (BadOctets place why) ends e = inr (inl e)
+of_values true status (BadText line column reason) ends e = inr (inl e)
+of_values false status (BadText line column reason) ends e = inr (inl e)
+of_values true status (BadValue path reason) ends e = inr (inl e)
+of_values false status (BadValue path reason) ends e = inr (inl e)
+of_values true status (TooLong many) ends e = inr (inl e)
+of_values false status (TooLong many) ends e = inr (inl e)
+of_values true status (BadRequest fault) ends e = inr (inl e)
+of_values false status (BadRequest fault) ends e = inr (inl e)
+of_values true status (BadLabel fault) ends e = inr (inl e)
+of_values false status (BadLabel fault) ends e = inr (inl e)
+of_values true status ShortLabel ends e = inr (inl e)
+of_values false status ShortLabel ends e = inr (inl e)
+of_values true status (TooFewEnds wanted found) ends e = inr (inl e)
+of_values false status (TooFewEnds wanted found) ends e = inr (inl e)
+of_values true status (EndFailed which) ends e = inr (inr (inr (inr (inr (inr (inr (inl e)))))))
+of_values false status (EndFailed which) ends e = let never = ends which refl in cc
+
+zero_of_values : (t : Bool) (status : ℕ) → status ≡ 0 → IsOneOf (values_statuses t) status
+zero_of_values true status e = inl e
+zero_of_values false status e = inl e
+
+four_of_values : (t : Bool) (status : ℕ) → status ≡ 4 → IsOneOf (values_statuses t) status
+four_of_values true status e = inr (inr (inr (inl e)))
+four_of_values false status e = inr (inr (inr (inl e)))
+
+five_of_values : (t : Bool) (status : ℕ) → status ≡ 5 → IsOneOf (values_statuses t) status
+five_of_values true status e = inr (inr (inr (inr (inl e))))
+five_of_values false status e = inr (inr (inr (inr (inl e))))
 
 of_files : (f : FilesSeen) (idl : List ℕ) (acf : Option (List ℕ)) (status : ℕ) (r : Refusal) → IsIdlCause f idl acf r → status ≡ status_of r → OfFiles status
 of_files f idl acf status Memory cause e = inr (inr (inl e))
@@ -115,32 +159,56 @@ of_files f idl acf status (BadOctets place why) cause e = absurd cause
 of_files f idl acf status (BadText line column reason) cause e = absurd cause
 of_files f idl acf status (BadValue path reason) cause e = absurd cause
 of_files f idl acf status (BadRequest fault) cause e = absurd cause
+of_files f idl acf status (BadLabel fault) cause e = absurd cause
+of_files f idl acf status ShortLabel cause e = absurd cause
+of_files f idl acf status (TooFewEnds wanted found) cause e = absurd cause
+of_files f idl acf status (EndFailed which) cause e = absurd cause
+
+-- an end fails only if a command drains
+ends_drain : (x : Seen) (task : Task) (of : Subject) (given : Option (List ℕ)) (which : ℕ) → IsCause x (Values task of given) (EndFailed which) → drains task ≡ true
+ends_drain x task of None which (inl (cause, before, kept)) = absurd cause
+ends_drain x task of (Some name) which (inl (inl cause, before, kept)) = absurd cause
+ends_drain x task of (Some name) which (inl (inr u, before, kept)) = absurd u.cause
+ends_drain x (Read Drain word) of given which (inr q) = refl
+ends_drain x (Read Decode (Fixed order)) of given which (inr (w, ready, inl (cause, kept))) = absurd cause
+ends_drain x (Read Decode Label) of given which (inr (w, ready, inl (cause, kept))) = absurd cause
+ends_drain x (Read Decode word) of given which (inr (w, ready, inr (rest, order, opened, cause))) = absurd cause
+ends_drain x (Read Explain (Fixed order)) of given which (inr (w, ready, inl (cause, kept))) = absurd cause
+ends_drain x (Read Explain Label) of given which (inr (w, ready, inl (cause, kept))) = absurd cause
+ends_drain x (Read Explain word) of given which (inr (w, ready, inr (rest, order, opened, cause))) = absurd cause
+ends_drain x (Encode word chunk) of given which (inr (w, ready, (text, read, cause))) = absurd cause
+ends_drain x Migrate of given which (inr (w, ready, (text, read, cause))) = absurd cause
 
 refused_status : (x : Seen) (c : Command) (status : ℕ) (r : Refusal) → IsCause x c r → status ≡ status_of r → IsOneOf (statuses_of c) status
-refused_status x (Values task of given) status r cause e = of_values status r e
+refused_status x (Values task of given) status r cause e =
+    of_values (drains task) status r (λ which same. ends_drain x task of given which (subst (IsCause x (Values task of given)) same cause)) e
 refused_status x (Compile idl acf) status r cause e = of_files x.files idl acf status r cause e
 refused_status x (Plan idl acf) status r cause e = of_files x.files idl acf status r cause e
+refused_status x (Sample seed count) status r cause e = inr (inr (inl (e ∙ ap status_of cause)))
 refused_status x Help status r cause e = inr (inr (inl (e ∙ ap status_of cause)))
 refused_status x Version status r cause e = inr (inr (inl (e ∙ ap status_of cause)))
 
 zero_in : (c : Command) (status : ℕ) → status ≡ 0 → IsOneOf (statuses_of c) status
-zero_in (Values task of given) status e = inl e
+zero_in (Values task of given) status e = zero_of_values (drains task) status e
 zero_in (Compile idl acf) status e = inl e
 zero_in (Plan idl acf) status e = inl e
+zero_in (Sample seed count) status e = inl e
 zero_in Help status e = inl e
 zero_in Version status e = inl e
 
 four_in : (c : Command) (status : ℕ) → status ≡ 4 → IsOneOf (statuses_of c) status
-four_in (Values task of given) status e = inr (inr (inr (inl e)))
+four_in (Values task of given) status e = four_of_values (drains task) status e
 four_in (Compile idl acf) status e = inr (inl e)
 four_in (Plan idl acf) status e = inr (inl e)
+four_in (Sample seed count) status e = inr (inl e)
 four_in Help status e = inr (inl e)
 four_in Version status e = inr (inl e)
 
 five_in : (c : Command) (status : ℕ) → status ≡ 5 → IsOneOf (statuses_of c) status
-five_in (Values task of given) status e = inr (inr (inr (inr (inl e))))
+five_in (Values task of given) status e = five_of_values (drains task) status e
 five_in (Compile idl acf) status e = inr (inr (inl e))
 five_in (Plan idl acf) status e = inr (inr (inl e))
+five_in (Sample seed count) status e = inr (inr (inl e))
 five_in Help status e = inr (inr (inl e))
 five_in Version status e = inr (inr (inl e))
 
@@ -214,14 +282,30 @@ module _ (x : Seen) where
   idl_read idl acf (BadText line column reason) cause e = cc
   idl_read idl acf (BadValue path reason) cause e = cc
   idl_read idl acf (BadRequest fault) cause e = cc
+  idl_read idl acf (BadLabel fault) cause e = cc
+  idl_read idl acf ShortLabel cause e = cc
+  idl_read idl acf (TooFewEnds wanted found) cause e = cc
+  idl_read idl acf (EndFailed which) cause e = cc
+
+  opened_failed : (s rest : SourceSeen) (word : OrderWord) (order : Order) → IsOpened word s rest order → HasRisen rest.faults → HasRisen s.faults
+  opened_failed s rest (Fixed named) order (same, is) rose = subst (λ r. HasRisen r.faults) same rose
+  opened_failed s rest Label order o rose =
+      rose_later s.faults.before rest.faults.before s.faults.now o.later (subst (λ k. Rose rest.faults.before k) o.faults rose)
+
+  octets_failed : (s : SourceSeen) (ends : EndsSeen) (how : Reading) (word : OrderWord) (w : Setting) → IsTaskCause s ends (Read how word) w ReadFault → HasRisen s.faults
+  octets_failed s ends how (Fixed named) w (inl (cause, kept)) = absurd cause
+  octets_failed s ends how Label w (inl (rose, kept)) = rose
+  octets_failed s ends Decode word w (inr (rest, order, opened, rose)) = opened_failed s rest word order opened rose
+  octets_failed s ends Explain word w (inr (rest, order, opened, rose)) = opened_failed s rest word order opened rose
+  octets_failed s ends Drain word w (inr (rest, order, opened, (rose, enough, cause))) = opened_failed s rest word order opened rose
 
   -- the input is refused only as the input
   read_fault : (c : Command) (r : Refusal) → IsCause x c r → status_of r ≡ 3 → HasRisen x.input.faults × (asks_input c ≡ true)
-  read_fault (Values task of None) ReadFault (inl (cause, before)) e = absurd cause
-  read_fault (Values task of (Some name)) ReadFault (inl (inl cause, before)) e = absurd cause
-  read_fault (Values task of (Some name)) ReadFault (inl (inr u, before)) e = absurd u.cause
-  read_fault (Values (Decode order) of given) ReadFault (inr (w, ready, rose)) e = (rose, refl)
-  read_fault (Values (Encode order chunk) of given) ReadFault (inr (w, ready, rose)) e = (rose, refl)
+  read_fault (Values task of None) ReadFault (inl (cause, before, kept)) e = absurd cause
+  read_fault (Values task of (Some name)) ReadFault (inl (inl cause, before, kept)) e = absurd cause
+  read_fault (Values task of (Some name)) ReadFault (inl (inr u, before, kept)) e = absurd u.cause
+  read_fault (Values (Read how word) of given) ReadFault (inr (w, ready, cause)) e = (octets_failed x.input x.ends how word w cause, refl)
+  read_fault (Values (Encode word chunk) of given) ReadFault (inr (w, ready, rose)) e = (rose, refl)
   read_fault (Values Migrate of given) ReadFault (inr (w, ready, rose)) e = (rose, refl)
   read_fault (Values task of given) Memory cause e = cc
   read_fault (Values task of given) (Absent file) cause e = cc
@@ -233,8 +317,13 @@ module _ (x : Seen) where
   read_fault (Values task of given) (BadText line column reason) cause e = cc
   read_fault (Values task of given) (BadValue path reason) cause e = cc
   read_fault (Values task of given) (BadRequest fault) cause e = cc
+  read_fault (Values task of given) (BadLabel fault) cause e = cc
+  read_fault (Values task of given) ShortLabel cause e = cc
+  read_fault (Values task of given) (TooFewEnds wanted found) cause e = cc
+  read_fault (Values task of given) (EndFailed which) cause e = cc
   read_fault (Compile idl acf) r cause e = absurd (idl_read idl acf r cause e)
   read_fault (Plan idl acf) r cause e = absurd (idl_read idl acf r cause e)
+  read_fault (Sample seed count) r cause e = let never : status_of Memory ≡ 3 = sym (ap status_of cause) ∙ e in cc
   read_fault Help r cause e = let never : status_of Memory ≡ 3 = sym (ap status_of cause) ∙ e in cc
   read_fault Version r cause e = let never : status_of Memory ≡ 3 = sym (ap status_of cause) ∙ e in cc
 
@@ -252,6 +341,10 @@ module _ (x : Seen) where
   idl_absent idl acf (BadText line column reason) cause e = cc
   idl_absent idl acf (BadValue path reason) cause e = cc
   idl_absent idl acf (BadRequest fault) cause e = cc
+  idl_absent idl acf (BadLabel fault) cause e = cc
+  idl_absent idl acf ShortLabel cause e = cc
+  idl_absent idl acf (TooFewEnds wanted found) cause e = cc
+  idl_absent idl acf (EndFailed which) cause e = cc
 
   abbrev IsDueFor : Command → List ℕ → Type 0
   IsDueFor c file = IsDueOf x.files.held (asks_files c) file ⊎ IsDueRequest x.files.held c file
@@ -270,13 +363,21 @@ module _ (x : Seen) where
   -- a file that is absent is due and missing
   absent_is : (c : Command) (r : Refusal) → IsCause x c r → status_of r ≡ 7
       → HasRisen x.files.absences × ((file : List ℕ) × (r ≡ Absent file) × IsDueFor c file × IsMissing x.files.held file)
-  absent_is (Values task of None) (Absent file) (inl ((rose, due, missing), before)) e = (rose, (file, refl, inl due, missing))
-  absent_is (Values task of (Some name)) (Absent file) (inl (inl (rose, due, missing), before)) e = (rose, (file, refl, inl due, missing))
-  absent_is (Values task of (Some name)) (Absent file) (inl (inr u, before)) e =
+  absent_is (Values task of None) (Absent file) (inl ((rose, due, missing), before, kept)) e = (rose, (file, refl, inl due, missing))
+  absent_is (Values task of (Some name)) (Absent file) (inl (inl (rose, due, missing), before, kept)) e = (rose, (file, refl, inl due, missing))
+  absent_is (Values task of (Some name)) (Absent file) (inl (inr u, before, kept)) e =
       let (is, rose, missing) = u.cause in
       (rose, (file, refl, inr (is, request_due of name u.own u.has_asked), subst (IsMissing x.files.held) (sym is) missing))
-  absent_is (Values (Decode order) of given) (Absent file) (inr (w, ready, cause)) e = absurd cause
-  absent_is (Values (Encode order chunk) of given) (Absent file) (inr (w, ready, (text, read, cause))) e = absurd cause
+  absent_is (Values (Read Decode (Fixed order)) of given) (Absent file) (inr (w, ready, inl (cause, kept))) e = absurd cause
+  absent_is (Values (Read Explain (Fixed order)) of given) (Absent file) (inr (w, ready, inl (cause, kept))) e = absurd cause
+  absent_is (Values (Read Drain (Fixed order)) of given) (Absent file) (inr (w, ready, inl (cause, kept))) e = absurd cause
+  absent_is (Values (Read Decode Label) of given) (Absent file) (inr (w, ready, inl (cause, kept))) e = absurd cause
+  absent_is (Values (Read Explain Label) of given) (Absent file) (inr (w, ready, inl (cause, kept))) e = absurd cause
+  absent_is (Values (Read Drain Label) of given) (Absent file) (inr (w, ready, inl (cause, kept))) e = absurd cause
+  absent_is (Values (Read Decode word) of given) (Absent file) (inr (w, ready, inr (rest, order, opened, cause))) e = absurd cause
+  absent_is (Values (Read Explain word) of given) (Absent file) (inr (w, ready, inr (rest, order, opened, cause))) e = absurd cause
+  absent_is (Values (Read Drain word) of given) (Absent file) (inr (w, ready, inr (rest, order, opened, cause))) e = absurd cause
+  absent_is (Values (Encode word chunk) of given) (Absent file) (inr (w, ready, (text, read, cause))) e = absurd cause
   absent_is (Values Migrate of given) (Absent file) (inr (w, ready, (text, read, cause))) e = absurd cause
   absent_is (Values task of given) Memory cause e = cc
   absent_is (Values task of given) (FileFailed file) cause e = cc
@@ -288,8 +389,13 @@ module _ (x : Seen) where
   absent_is (Values task of given) (BadText line column reason) cause e = cc
   absent_is (Values task of given) (BadValue path reason) cause e = cc
   absent_is (Values task of given) (BadRequest fault) cause e = cc
+  absent_is (Values task of given) (BadLabel fault) cause e = cc
+  absent_is (Values task of given) ShortLabel cause e = cc
+  absent_is (Values task of given) (TooFewEnds wanted found) cause e = cc
+  absent_is (Values task of given) (EndFailed which) cause e = cc
   absent_is (Compile idl acf) r cause e = let (rose, (file, same, due, missing)) = idl_absent idl acf r cause e in (rose, (file, same, inl due, missing))
   absent_is (Plan idl acf) r cause e = let (rose, (file, same, due, missing)) = idl_absent idl acf r cause e in (rose, (file, same, inl due, missing))
+  absent_is (Sample seed count) r cause e = let never : status_of Memory ≡ 7 = sym (ap status_of cause) ∙ e in cc
   absent_is Help r cause e = let never : status_of Memory ≡ 7 = sym (ap status_of cause) ∙ e in cc
   absent_is Version r cause e = let never : status_of Memory ≡ 7 = sym (ap status_of cause) ∙ e in cc
 
@@ -307,16 +413,28 @@ module _ (x : Seen) where
   idl_failed idl acf (BadText line column reason) cause e = cc
   idl_failed idl acf (BadValue path reason) cause e = cc
   idl_failed idl acf (BadRequest fault) cause e = cc
+  idl_failed idl acf (BadLabel fault) cause e = cc
+  idl_failed idl acf ShortLabel cause e = cc
+  idl_failed idl acf (TooFewEnds wanted found) cause e = cc
+  idl_failed idl acf (EndFailed which) cause e = cc
 
   -- a file that was not read is due
   failed_is : (c : Command) (r : Refusal) → IsCause x c r → status_of r ≡ 9
       → HasRisen x.files.faults × ((file : List ℕ) × (r ≡ FileFailed file) × IsDueFor c file)
-  failed_is (Values task of None) (FileFailed file) (inl ((rose, due), before)) e = (rose, (file, refl, inl due))
-  failed_is (Values task of (Some name)) (FileFailed file) (inl (inl (rose, due), before)) e = (rose, (file, refl, inl due))
-  failed_is (Values task of (Some name)) (FileFailed file) (inl (inr u, before)) e =
+  failed_is (Values task of None) (FileFailed file) (inl ((rose, due), before, kept)) e = (rose, (file, refl, inl due))
+  failed_is (Values task of (Some name)) (FileFailed file) (inl (inl (rose, due), before, kept)) e = (rose, (file, refl, inl due))
+  failed_is (Values task of (Some name)) (FileFailed file) (inl (inr u, before, kept)) e =
       let (is, rose) = u.cause in (rose, (file, refl, inr (is, request_due of name u.own u.has_asked)))
-  failed_is (Values (Decode order) of given) (FileFailed file) (inr (w, ready, cause)) e = absurd cause
-  failed_is (Values (Encode order chunk) of given) (FileFailed file) (inr (w, ready, (text, read, cause))) e = absurd cause
+  failed_is (Values (Read Decode (Fixed order)) of given) (FileFailed file) (inr (w, ready, inl (cause, kept))) e = absurd cause
+  failed_is (Values (Read Explain (Fixed order)) of given) (FileFailed file) (inr (w, ready, inl (cause, kept))) e = absurd cause
+  failed_is (Values (Read Drain (Fixed order)) of given) (FileFailed file) (inr (w, ready, inl (cause, kept))) e = absurd cause
+  failed_is (Values (Read Decode Label) of given) (FileFailed file) (inr (w, ready, inl (cause, kept))) e = absurd cause
+  failed_is (Values (Read Explain Label) of given) (FileFailed file) (inr (w, ready, inl (cause, kept))) e = absurd cause
+  failed_is (Values (Read Drain Label) of given) (FileFailed file) (inr (w, ready, inl (cause, kept))) e = absurd cause
+  failed_is (Values (Read Decode word) of given) (FileFailed file) (inr (w, ready, inr (rest, order, opened, cause))) e = absurd cause
+  failed_is (Values (Read Explain word) of given) (FileFailed file) (inr (w, ready, inr (rest, order, opened, cause))) e = absurd cause
+  failed_is (Values (Read Drain word) of given) (FileFailed file) (inr (w, ready, inr (rest, order, opened, cause))) e = absurd cause
+  failed_is (Values (Encode word chunk) of given) (FileFailed file) (inr (w, ready, (text, read, cause))) e = absurd cause
   failed_is (Values Migrate of given) (FileFailed file) (inr (w, ready, (text, read, cause))) e = absurd cause
   failed_is (Values task of given) Memory cause e = cc
   failed_is (Values task of given) (Absent file) cause e = cc
@@ -328,8 +446,13 @@ module _ (x : Seen) where
   failed_is (Values task of given) (BadText line column reason) cause e = cc
   failed_is (Values task of given) (BadValue path reason) cause e = cc
   failed_is (Values task of given) (BadRequest fault) cause e = cc
+  failed_is (Values task of given) (BadLabel fault) cause e = cc
+  failed_is (Values task of given) ShortLabel cause e = cc
+  failed_is (Values task of given) (TooFewEnds wanted found) cause e = cc
+  failed_is (Values task of given) (EndFailed which) cause e = cc
   failed_is (Compile idl acf) r cause e = let (rose, (file, same, due)) = idl_failed idl acf r cause e in (rose, (file, same, inl due))
   failed_is (Plan idl acf) r cause e = let (rose, (file, same, due)) = idl_failed idl acf r cause e in (rose, (file, same, inl due))
+  failed_is (Sample seed count) r cause e = let never : status_of Memory ≡ 9 = sym (ap status_of cause) ∙ e in cc
   failed_is Help r cause e = let never : status_of Memory ≡ 9 = sym (ap status_of cause) ∙ e in cc
   failed_is Version r cause e = let never : status_of Memory ≡ 9 = sym (ap status_of cause) ∙ e in cc
 
@@ -352,6 +475,68 @@ module _ (x : Seen) where
         let (rose, (name, same, due)) = failed_is r.command_is r.refusal r.cause (r.own ∙ e) in
         (rose, subst (λ c. IsDueAndReported c x.files.held notes) (sym r.is) (name, due, subst (λ q. Got notes (line_of (idl_of r.command_is) (op_of r.command_is) q)) same r.line))
 
+-- ## Ends that failed
+
+one_is_no_eight : ◌≡◌ {A = ℕ} 1 8 → ⊥
+one_is_no_eight e = cc
+
+three_is_no_eight : ◌≡◌ {A = ℕ} 3 8 → ⊥
+three_is_no_eight e = cc
+
+five_is_no_eight : ◌≡◌ {A = ℕ} 5 8 → ⊥
+five_is_no_eight e = cc
+
+six_is_no_eight : ◌≡◌ {A = ℕ} 6 8 → ⊥
+six_is_no_eight e = cc
+
+seven_is_no_eight : ◌≡◌ {A = ℕ} 7 8 → ⊥
+seven_is_no_eight e = cc
+
+nine_is_no_eight : ◌≡◌ {A = ℕ} 9 8 → ⊥
+nine_is_no_eight e = cc
+
+module _ (x : Seen) where
+  end_failed : (c : Command) (which : ℕ) → IsCause x c (EndFailed which) → EndRose x.ends which
+  end_failed (Values task of None) which (inl (cause, before, kept)) = absurd cause
+  end_failed (Values task of (Some name)) which (inl (inl cause, before, kept)) = absurd cause
+  end_failed (Values task of (Some name)) which (inl (inr u, before, kept)) = absurd u.cause
+  end_failed (Values (Read how (Fixed order)) of given) which (inr (w, ready, inl (cause, kept))) = absurd cause
+  end_failed (Values (Read how Label) of given) which (inr (w, ready, inl (cause, kept))) = absurd cause
+  end_failed (Values (Read Decode word) of given) which (inr (w, ready, inr (rest, order, opened, cause))) = absurd cause
+  end_failed (Values (Read Explain word) of given) which (inr (w, ready, inr (rest, order, opened, cause))) = absurd cause
+  end_failed (Values (Read Drain word) of given) which (inr (w, ready, inr (rest, order, opened, cause))) = refused_rose rest x.ends w order which cause
+  end_failed (Values (Encode word chunk) of given) which (inr (w, ready, (text, read, cause))) = absurd cause
+  end_failed (Values Migrate of given) which (inr (w, ready, (text, read, cause))) = absurd cause
+  end_failed (Compile idl acf) which cause = absurd cause
+  end_failed (Plan idl acf) which cause = absurd cause
+  end_failed (Sample seed count) which cause = let never : status_of (EndFailed which) ≡ status_of Memory = ap status_of cause in cc
+  end_failed Help which cause = let never : status_of (EndFailed which) ≡ status_of Memory = ap status_of cause in cc
+  end_failed Version which cause = let never : status_of (EndFailed which) ≡ status_of Memory = ap status_of cause in cc
+
+  -- status 8 is an end that failed
+  ended_by : (c : Command) (r : Refusal) → IsCause x c r → status_of r ≡ 8 → (which : ℕ) × (r ≡ EndFailed which) × EndRose x.ends which
+  ended_by c (EndFailed which) cause e = (which, refl, end_failed c which cause)
+  ended_by c Memory cause e = absurd (five_is_no_eight e)
+  ended_by c (Absent file) cause e = absurd (seven_is_no_eight e)
+  ended_by c (FileFailed file) cause e = absurd (nine_is_no_eight e)
+  ended_by c (BadIdl file line column reason) cause e = absurd (six_is_no_eight e)
+  ended_by c NoOperation cause e = absurd (six_is_no_eight e)
+  ended_by c ReadFault cause e = absurd (three_is_no_eight e)
+  ended_by c (BadOctets place why) cause e = absurd (one_is_no_eight e)
+  ended_by c (BadText line column reason) cause e = absurd (one_is_no_eight e)
+  ended_by c (BadValue path reason) cause e = absurd (one_is_no_eight e)
+  ended_by c (TooLong many) cause e = absurd (one_is_no_eight e)
+  ended_by c (BadRequest fault) cause e = absurd (one_is_no_eight e)
+  ended_by c (BadLabel fault) cause e = absurd (one_is_no_eight e)
+  ended_by c ShortLabel cause e = absurd (one_is_no_eight e)
+  ended_by c (TooFewEnds wanted found) cause e = absurd (one_is_no_eight e)
+
+  pub end : (out notes : SinkSeen) (status : ℕ) (words : List (List ℕ)) → HasRun words x out notes status → status ≡ 8 → IsEndReported x.ends notes
+  end out notes status words run e =
+      let r = of_refusal x out notes status words run 8 e ((λ h. cc), (λ h. cc), (λ h. cc), (λ h. cc)) in
+      let (which, same, rose) = ended_by r.command_is r.refusal r.cause (r.own ∙ e) in
+      (which, rose, subst (λ q. Got notes (line_of (idl_of r.command_is) (op_of r.command_is) q)) same r.line)
+
 -- ## Where no count rose
 
 abbrev Unfailed : ℕ → Type 0
@@ -370,6 +555,10 @@ module _ (x : Seen) (out notes : SinkSeen) (status : ℕ) (nothing : HasNotFaile
   refused_unfailed c (BadValue path reason) cause e = inr (inl e)
   refused_unfailed c (TooLong many) cause e = inr (inl e)
   refused_unfailed c (BadRequest fault) cause e = inr (inl e)
+  refused_unfailed c (BadLabel fault) cause e = inr (inl e)
+  refused_unfailed c ShortLabel cause e = inr (inl e)
+  refused_unfailed c (TooFewEnds wanted found) cause e = inr (inl e)
+  refused_unfailed c (EndFailed which) cause e = absurd (nothing.ends which (end_failed x c which cause))
 
   by_command : (c : Command) → Ended x out notes c status → Unfailed status
   by_command c (ended_done is d) = inl is
@@ -408,6 +597,10 @@ not_two (BadOctets place why) e = cc
 not_two (BadText line column reason) e = cc
 not_two (BadValue path reason) e = cc
 not_two (BadRequest fault) e = cc
+not_two (BadLabel fault) e = cc
+not_two ShortLabel e = cc
+not_two (TooFewEnds wanted found) e = cc
+not_two (EndFailed which) e = cc
 
 not_four : (r : Refusal) → status_of r ≡ 4 → ⊥
 not_four Memory e = cc
@@ -421,6 +614,10 @@ not_four (BadOctets place why) e = cc
 not_four (BadText line column reason) e = cc
 not_four (BadValue path reason) e = cc
 not_four (BadRequest fault) e = cc
+not_four (BadLabel fault) e = cc
+not_four ShortLabel e = cc
+not_four (TooFewEnds wanted found) e = cc
+not_four (EndFailed which) e = cc
 
 apart : (n a b : ℕ) → n ≡ a → n ≡ b → (a ≡ b → ⊥) → ⊥
 apart n a b x y unlike = unlike (sym x ∙ y)
@@ -497,3 +694,22 @@ module _ (x : Seen) (out notes : SinkSeen) (status : ℕ) (words : List (List �
       by : (o : Option Command) → command words ≡ o → notes.written_now ≡ notes.written
       by None is = by_idle (idle x out notes status words is run)
       by (Some c) is = by_end c (ended x out notes c status words is run)
+
+  -- words that are no command end with one of these statuses
+  pub no_command_status : command words ≡ None → IsOneOf (2 ∷ 4 ∷ 5 ∷ []) status
+  no_command_status none = by (idle x out notes status words none run)
+    where
+      by : Idle status → IsOneOf (2 ∷ 4 ∷ 5 ∷ []) status
+      by (idle_two h) = inl h
+      by (idle_four h) = inr (inl h)
+      by (idle_five h) = inr (inr (inl h))
+
+  -- nothing is given with another status than 0 and 4
+  pub nothing_given : status ≢ 0 → status ≢ 4 → out.written_now ≡ out.written
+  nothing_given zero four = by run.outcome run.delivered
+    where
+      by : (outcome : Outcome) → IsDelivered out notes outcome status → out.written_now ≡ out.written
+      by (Done made) (inl (is, given, quiet)) = absurd (zero is)
+      by (Done made) (inr (is, rose, some, warned)) = absurd (four is)
+      by (Refused own line) (before, told) = before.written
+      by Wanting (before, told) = before.written

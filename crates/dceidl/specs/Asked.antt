@@ -1,13 +1,43 @@
--- What a run may ask for: files only when they are due, and each once; and the input only if the command reads it.
+-- What a run may ask for: files only when they are due, and each once; the input only if the command reads it; and the ends of pipes only if it drains.
 use Rattle.std.specs.Prelude.{◌≡◌, ◌⊎◌, ℕ, Bool, true, false, List, [], ◌∷◌, ◌++◌, Option, None, Some, ⊤}
 use Rattle.nd_base.specs.Outside.{IsContent}
 use Rattle.nd_base.specs.Over.{FilesSeen, SourceSeen, AreUntouched, IsUntouched}
 use Rattle.nd_types.specs.declared.interface.Interface.{Interface}
 use Rattle.nd_types.specs.Operations.{operation_named}
 use Rattle.dceidl.specs.Seen.{Seen}
-use Rattle.dceidl.specs.Words.{Command, Subject, Values, asks_files, asks_input}
-use Rattle.idl_compiler.specs.Asked.{AsksFiles, AreAsked, all_due}
+use Rattle.dceidl_words.specs.Words.{Command, Subject, Values, Compile, Plan, Sample, Help, Version}
+use Rattle.dceidl_words.specs.declared.command.Reading.TheVariants.{Decode, Explain, Drain}
+use Rattle.dceidl_words.specs.declared.command.Task.{Task}
+use Rattle.dceidl_words.specs.declared.command.Task.TheVariants.{Read, Encode, Migrate}
+use Rattle.idl_compiler.specs.Asked.{AsksFiles, FileNames, AreAsked, all_due}
+use Rattle.ndr_pipe.specs.Ends.{EndsSeen, AreAsBefore}
 use Rattle.idl_compiler.specs.Idl.{Means}
+
+-- the files that a command asks for, if it asks for any
+abbrev pub asks_files : Command → Option FileNames
+asks_files (Values task of given) = Some (record { idl = of.idl; acf = of.acf })
+asks_files (Compile idl acf) = Some (record { idl = idl; acf = acf })
+asks_files (Plan idl acf) = Some (record { idl = idl; acf = acf })
+asks_files (Sample seed count) = None
+asks_files Help = None
+asks_files Version = None
+
+-- whether it reads the input
+abbrev pub asks_input : Command → Bool
+asks_input (Values task of given) = true
+asks_input _ = false
+
+-- whether a task gives elements to the ends of pipes
+abbrev pub drains : Task → Bool
+drains (Read Decode order) = false
+drains (Read Explain order) = false
+drains (Read Drain order) = true
+drains (Encode order chunk) = false
+drains Migrate = false
+
+abbrev pub asks_ends : Command → Bool
+asks_ends (Values task of given) = drains task
+asks_ends _ = false
 
 -- The text of a request is due: the files mean an interface that has the operation.
 pub record IsRequestDue (held : Option (List ℕ → Option (List ℕ))) (of : Subject) : Type 0 where
@@ -36,15 +66,22 @@ abbrev pub AsksInput : SourceSeen → Bool → Type 0
 AsksInput s true = ⊤
 AsksInput s false = IsUntouched s
 
+-- the ends are left as they are if a command does not drain
+abbrev pub AsksEnds : EndsSeen → Bool → Type 0
+AsksEnds e true = ⊤
+AsksEnds e false = AreAsBefore e
+
 -- what a command asks for
 pub record AsksFor (x : Seen) (c : Command) : Type 0 where
   pub files : AsksFilesOf x.files c
   pub input : AsksInput x.input (asks_input c)
+  pub ends : AsksEnds x.ends (asks_ends c)
 
 -- nothing is asked for
 pub record AsksNothing (x : Seen) : Type 0 where
   pub files : AreUntouched x.files
   pub input : IsUntouched x.input
+  pub ends : AreAsBefore x.ends
 
 -- what the words of a command line ask for; None is words that are no command
 abbrev pub Asks : Seen → Option Command → Type 0

@@ -1,38 +1,50 @@
 -- What each command makes, and why it is refused: a line for each command in each of these tables.
-use Rattle.std.specs.Prelude.{◌≡◌, ◌⊎◌, ℕ, List, [], ◌∷◌}
+use Rattle.std.specs.Prelude.{◌≡◌, ◌⊎◌, ℕ, Bool, true, false, List, [], ◌∷◌}
 use Rattle.nd_base.specs.Over.{IsUntouched}
 use Rattle.nd_value.specs.Setting.{Setting}
+use Rattle.ndr_pipe.specs.Ends.{AreAsBefore}
+use Rattle.dceidl.specs.Asked.{drains}
 use Rattle.dceidl.specs.Input.{IsMadeOf, IsTaskCause}
 use Rattle.idl_compiler.specs.Compiled.{IsListed, IsPlanned, IsIdlCause}
 use Rattle.dceidl.specs.Ready.{IsAllReady, IsUnready}
 use Rattle.dceidl.specs.Seen.{Seen}
-use Rattle.dceidl.specs.Words.{Command, Values, Compile, Plan, Help, Version}
+use Rattle.dceidl_words.specs.Words.{Command, Values, Compile, Plan, Sample, Help, Version}
+use Rattle.ndr_sample.specs.Summary.{sample_lines}
 use Rattle.refusals.specs.declared.refusal.Refusal.{Refusal}
 use Rattle.refusals.specs.declared.refusal.Refusal.TheVariants.{Memory}
 use Rattle.dceidl.specs.declared.TheConstants.{HELP, VERSION}
 
 -- a command makes this text
 abbrev pub IsMade : Seen → Command → List ℕ → Type 0
-IsMade x (Values task of given) made = (w : Setting) × IsAllReady x.files of given w × IsMadeOf x.input task w made
+IsMade x (Values task of given) made = (w : Setting) × IsAllReady x.files of given w × IsMadeOf x.input x.ends task w made
 IsMade x (Compile idl acf) made = IsListed x.files idl acf made
 IsMade x (Plan idl acf) made = IsPlanned x.files idl acf made
+IsMade x (Sample seed count) made = made ≡ sample_lines seed count
 IsMade x Help made = made ≡ HELP.now
 IsMade x Version made = made ≡ VERSION.now
 
--- Why a command is refused, or runs out of memory: a later stage is refused only after the earlier ones, and the input is not touched before what the
--- command speaks of is ready.
+-- Why a command is refused, or runs out of memory: a later stage is refused only after the earlier ones, and neither the input nor an end is touched
+-- before what the command speaks of is ready.
 abbrev pub IsCause : Seen → Command → Refusal → Type 0
 IsCause x (Values task of given) r =
-    (IsUnready x.files of given r × IsUntouched x.input) ⊎ ((w : Setting) × IsAllReady x.files of given w × IsTaskCause x.input task w r)
+    (IsUnready x.files of given r × IsUntouched x.input × AreAsBefore x.ends)
+    ⊎ ((w : Setting) × IsAllReady x.files of given w × IsTaskCause x.input x.ends task w r)
 IsCause x (Compile idl acf) r = IsIdlCause x.files idl acf r
 IsCause x (Plan idl acf) r = IsIdlCause x.files idl acf r
+IsCause x (Sample seed count) r = r ≡ Memory
 IsCause x Help r = r ≡ Memory
 IsCause x Version r = r ≡ Memory
 
+-- the statuses with which a command on values can end, and which drains if this is true
+abbrev pub values_statuses : Bool → List ℕ
+values_statuses true = 0 ∷ 1 ∷ 3 ∷ 4 ∷ 5 ∷ 6 ∷ 7 ∷ 8 ∷ 9 ∷ []
+values_statuses false = 0 ∷ 1 ∷ 3 ∷ 4 ∷ 5 ∷ 6 ∷ 7 ∷ 9 ∷ []
+
 -- the statuses with which a command can end
 abbrev pub statuses_of : Command → List ℕ
-statuses_of (Values task of given) = 0 ∷ 1 ∷ 3 ∷ 4 ∷ 5 ∷ 6 ∷ 7 ∷ 9 ∷ []
+statuses_of (Values task of given) = values_statuses (drains task)
 statuses_of (Compile idl acf) = 0 ∷ 4 ∷ 5 ∷ 6 ∷ 7 ∷ 9 ∷ []
 statuses_of (Plan idl acf) = 0 ∷ 4 ∷ 5 ∷ 6 ∷ 7 ∷ 9 ∷ []
+statuses_of (Sample seed count) = 0 ∷ 4 ∷ 5 ∷ []
 statuses_of Help = 0 ∷ 4 ∷ 5 ∷ []
 statuses_of Version = 0 ∷ 4 ∷ 5 ∷ []

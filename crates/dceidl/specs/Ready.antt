@@ -9,7 +9,7 @@ use Rattle.nd_types.specs.Operations.{operation_named}
 use Rattle.nd_value.specs.declared.value.Graph.{Graph}
 use Rattle.nd_value.specs.Fitting.{setting_of}
 use Rattle.nd_value.specs.Setting.{Setting}
-use Rattle.dceidl.specs.Words.{Subject}
+use Rattle.dceidl_words.specs.Words.{Subject}
 use Rattle.refusals.specs.declared.refusal.Refusal.{Refusal}
 use Rattle.refusals.specs.declared.refusal.Refusal.TheVariants.{NoOperation}
 use Rattle.text_fitting.specs.Request.{beside, HoldsRequest, HoldsNoRequest}

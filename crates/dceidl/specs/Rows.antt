@@ -1,5 +1,6 @@
 -- The rows of a run, each for all commands at once: what a status says by itself, and what comes where nothing fails.
-use Rattle.std.specs.Prelude.{◌≡◌, ◌⊎◌, ℕ, ◌+◌, ◌<◌, length, true, false, List, [], ◌∷◌, codes, take, option_map, Option, None, Some, ⊤}
+use Rattle.std.specs.Prelude.{◌≡◌, ◌⊎◌, ℕ, ◌+◌, ◌<◌, ◌++◌, Err, length, true, false, List, [], ◌∷◌, codes, decimal, take, option_map, Option, None, Some, ⊤}
+use Rattle.std.specs.List.{slice_get}
 use Rattle.nd_base.specs.declared.octets.Order.{Order}
 use Rattle.nd_base.specs.Outside.{IsMissing, loaded}
 use Rattle.nd_base.specs.Over.{FilesSeen, SourceSeen, SinkSeen, HasRisen, Got, IsAsBefore}
@@ -18,19 +19,30 @@ use Rattle.text_grammar.specs.declared.TheConstants.{TEXT_LIMIT}
 use Rattle.text_grammar.specs.Reads.{ReadsAs, IsTextFault}
 use Rattle.nd_base.specs.Text.{joined}
 use Rattle.dceidl.specs.Causes.{IsMade, IsCause}
-use Rattle.dceidl.specs.Asked.{IsRequestDue}
+use Rattle.dceidl.specs.Asked.{IsRequestDue, asks_files, asks_input}
+use Rattle.dceidl.specs.Input.{IsLabel}
 use Rattle.text_fitting.specs.Fitted.{IsMisfitAt}
 use Rattle.text_fitting.specs.Request.{beside, IsRequestText, IsRequestFault}
 use Rattle.idl_compiler.specs.Idl.{Means, IsIdlFault, IsDueFile}
 use Rattle.refusals.specs.Lines.{status_of, line_of}
 use Rattle.dceidl.specs.Ready.{IsNamed}
 use Rattle.dceidl.specs.Seen.{Seen}
-use Rattle.dceidl.specs.Words.{Command, Subject, Values, Compile, Plan, Help, Version, asks_files, asks_input, idl_of, op_of, order_in}
+use Rattle.dceidl_words.specs.Words.{Command, Subject, Values, Compile, Plan, Sample, Help, Version, idl_of, op_of, order_in}
 use Rattle.idl_compiler.specs.Asked.{FileNames}
-use Rattle.dceidl.specs.declared.words.Task.{Task}
-use Rattle.dceidl.specs.declared.words.Task.TheVariants.{Decode, Encode, Migrate}
+use Rattle.ndr_prim.specs.Label.{order_of_label}
+use Rattle.nd_base.specs.Counts.{Rose}
+use Rattle.ndr_drain.specs.Given.{pipe_count}
+use Rattle.ndr_draining.specs.Printed.{AreEnough}
+use Rattle.ndr_pipe.specs.End.{EndSeen}
+use Rattle.ndr_pipe.specs.Ends.{EndsSeen}
+use Rattle.dceidl_words.specs.declared.command.Reading.{Reading}
+use Rattle.dceidl_words.specs.declared.command.Reading.TheVariants.{Decode, Explain, Drain}
+use Rattle.dceidl_words.specs.declared.command.OrderWord.{OrderWord}
+use Rattle.dceidl_words.specs.declared.command.OrderWord.TheVariants.{Fixed, Label}
+use Rattle.dceidl_words.specs.declared.command.Task.{Task}
+use Rattle.dceidl_words.specs.declared.command.Task.TheVariants.{Read, Encode, Migrate}
 use Rattle.refusals.specs.declared.refusal.Refusal.{Refusal}
-use Rattle.refusals.specs.declared.refusal.Refusal.TheVariants.{BadIdl, NoOperation, BadOctets, BadText, BadValue, TooLong, BadRequest}
+use Rattle.refusals.specs.declared.refusal.Refusal.TheVariants.{BadIdl, NoOperation, BadOctets, BadText, BadValue, TooLong, BadRequest, BadLabel, ShortLabel, TooFewEnds}
 use Rattle.refusals.specs.declared.refusal.OctetsFault.{OctetsFault}
 use Rattle.refusals.specs.declared.refusal.OctetsFault.TheVariants.{Refused, Trailing}
 use Rattle.refusals.specs.declared.refusal.RequestFault.{RequestFault}
@@ -84,6 +96,18 @@ IsDueAndMissing command held notes = (name : List ℕ) × IsDue command held nam
 abbrev pub IsDueAndReported : Option Command → Option (List ℕ → Option (List ℕ)) → SinkSeen → Type 0
 IsDueAndReported command held notes = (name : List ℕ) × IsDue command held name × Got notes (joined (codes "file fault: " ∷ name ∷ codes "\n" ∷ []))
 
+-- the count of faults of the end of this number rose
+pub record EndRose (e : EndsSeen) (which : ℕ) : Type 0 where
+  pub was : EndSeen
+  pub is : EndSeen
+  pub there : slice_get e.before which ≡ Some was
+  pub now : slice_get e.now which ≡ Some is
+  pub risen : Rose was.faults is.faults
+
+-- the end of a line failed
+abbrev pub IsEndReported : EndsSeen → SinkSeen → Type 0
+IsEndReported e notes = (which : ℕ) × EndRose e which × Got notes (joined (codes "pipe end " ∷ decimal which ∷ codes " failed\n" ∷ []))
+
 -- ## Where nothing fails
 
 -- no count rose
@@ -91,6 +115,7 @@ pub record HasNotFailed (x : Seen) (out notes : SinkSeen) : Type 0 where
   pub found : HasRisen x.files.absences → ⊥
   pub loads : HasRisen x.files.faults → ⊥
   pub reads : HasRisen x.input.faults → ⊥
+  pub ends : (which : ℕ) → EndRose x.ends which → ⊥
   pub writes : HasRisen out.faults → ⊥
   pub reports : HasRisen notes.faults → ⊥
 
@@ -147,18 +172,37 @@ pub record IsTrailing (w : Setting) (order : Order) (octets : List ℕ) (place :
   pub begins : BeginsWith w order octets place graph
   pub follows : place < length octets
 
+-- The octets of the input are known: a label of this order if the command asks for one, and these octets after it. No fetch failed.
+pub record AreGivenIn (s : SourceSeen) (word : OrderWord) (order : Order) (octets : List ℕ) : Type 0 where
+  pub label : List ℕ
+  pub is_label : IsLabel word label order
+  pub given : AreGiven s (label ++ octets)
+
+-- There are enough ends for the pipes of a side, and none failed.
+pub record AreSound (w : Setting) (e : EndsSeen) : Type 0 where
+  pub enough : AreEnough w e
+  pub ends : (which : ℕ) → EndRose e which → ⊥
+
+-- a command that drains has enough ends, and none failed
+abbrev pub HasEnds : Reading → Setting → EndsSeen → Type 0
+HasEnds Decode w e = ⊤
+HasEnds Explain w e = ⊤
+HasEnds Drain w e = AreSound w e
+
 -- something is made of the input, unless memory runs out
-abbrev pub CanBeMade : SourceSeen → Task → Setting → Type 0
-CanBeMade s (Decode order) w = (octets : List ℕ) × (g : Graph) × AreGiven s octets × Represents w (order_in order) octets g × Conforms w g
-CanBeMade s (Encode order chunk) w =
-    (text : List ℕ) × (g : Graph) × (octets : List ℕ) × IsInput s TEXT_LIMIT text × ReadsAs w text g × Conforms w g × IsWritten w (order_in order) chunk g octets
-CanBeMade s Migrate w = (text : List ℕ) × (g : Graph) × IsInput s TEXT_LIMIT text × ReadsAs w text g × Conforms w g
+abbrev pub CanBeMade : SourceSeen → EndsSeen → Task → Setting → Type 0
+CanBeMade s e (Read how word) w =
+    (order : Order) × (octets : List ℕ) × (g : Graph) × AreGivenIn s word order octets × Represents w order octets g × Conforms w g × HasEnds how w e
+CanBeMade s e (Encode word chunk) w =
+    (text : List ℕ) × (g : Graph) × (octets : List ℕ) × IsInput s TEXT_LIMIT text × ReadsAs w text g × Conforms w g × IsWritten w (order_in word) chunk g octets
+CanBeMade s e Migrate w = (text : List ℕ) × (g : Graph) × IsInput s TEXT_LIMIT text × ReadsAs w text g × Conforms w g
 
 -- Where no load fails and notes do not, a command of which this holds is done, unless it runs out of memory or out fails.
 abbrev pub CanBeDone : Seen → Command → Type 0
-CanBeDone x (Values task of given) = (w : Setting) × AreAccepted x.files of given w × CanBeMade x.input task w
+CanBeDone x (Values task of given) = (w : Setting) × AreAccepted x.files of given w × CanBeMade x.input x.ends task w
 CanBeDone x (Compile idl acf) = (text : List ℕ) × (i : Interface) × IsHeld x.files idl text × Means x.files.held idl text acf i
 CanBeDone x (Plan idl acf) = (text : List ℕ) × (i : Interface) × IsHeld x.files idl text × Means x.files.held idl text acf i
+CanBeDone x (Sample seed count) = ⊤
 CanBeDone x Help = ⊤
 CanBeDone x Version = ⊤
 
@@ -185,10 +229,22 @@ MustBeNoRequest f of None why = ⊥
 MustBeNoRequest f of (Some name) why =
     (own : Setting) × (text : List ℕ) × IsAccepted f of own × IsHeld f name text × IsRequestFault own text why
 
--- the octets of the input are refused in this way
-abbrev pub MustBeNoOctets : SourceSeen → Setting → Order → Refusal → Type 0
-MustBeNoOctets s w order (BadOctets place why) = (octets : List ℕ) × AreGiven s octets × IsRefusedAt w order octets place why
-MustBeNoOctets s w order _ = ⊥
+-- the label of the input is refused in this way
+abbrev pub MustBeNoLabel : SourceSeen → OrderWord → Refusal → Type 0
+MustBeNoLabel s Label (BadLabel why) =
+    (label : List ℕ) × (octets : List ℕ) × AreGiven s (label ++ octets) × (length label ≡ 4) × (order_of_label label ≡ Err why)
+MustBeNoLabel s Label ShortLabel = (octets : List ℕ) × AreGiven s octets × (length octets < 4)
+MustBeNoLabel s _ _ = ⊥
+
+-- the octets of the input are refused in this way, or their label is, or there are too few ends for its pipes
+abbrev pub MustBeNoOctets : SourceSeen → EndsSeen → Reading → OrderWord → Setting → Refusal → Type 0
+MustBeNoOctets s e how word w (BadLabel why) = MustBeNoLabel s word (BadLabel why)
+MustBeNoOctets s e how word w ShortLabel = MustBeNoLabel s word ShortLabel
+MustBeNoOctets s e how word w (BadOctets place why) =
+    (order : Order) × (octets : List ℕ) × AreGivenIn s word order octets × HasEnds how w e × IsRefusedAt w order octets place why
+MustBeNoOctets s e Drain word w (TooFewEnds wanted found) =
+    (order : Order) × (octets : List ℕ) × AreGivenIn s word order octets × (wanted ≡ pipe_count w) × (found ≡ length e.before) × (found < wanted)
+MustBeNoOctets s e how word w _ = ⊥
 
 -- the text of the input is refused in this way
 abbrev pub MustBeNoText : SourceSeen → Setting → Refusal → Type 0
@@ -203,19 +259,20 @@ MustBeNoEncoding s w chunk (TooLong many) =
 MustBeNoEncoding s w chunk r = MustBeNoText s w r
 
 -- the input is refused in this way
-abbrev pub MustBeNoInput : SourceSeen → Task → Setting → Refusal → Type 0
-MustBeNoInput s (Decode order) w r = MustBeNoOctets s w (order_in order) r
-MustBeNoInput s (Encode order chunk) w r = MustBeNoEncoding s w chunk r
-MustBeNoInput s Migrate w r = MustBeNoText s w r
+abbrev pub MustBeNoInput : SourceSeen → EndsSeen → Task → Setting → Refusal → Type 0
+MustBeNoInput s e (Read how word) w r = MustBeNoOctets s e how word w r
+MustBeNoInput s e (Encode word chunk) w r = MustBeNoEncoding s w chunk r
+MustBeNoInput s e Migrate w r = MustBeNoText s w r
 
 -- Where no load fails and notes do not, a command of which this holds is refused in this way, unless it runs out of memory.
 abbrev pub MustBeRefused : Seen → Command → Refusal → Type 0
 MustBeRefused x (Values task of given) NoOperation = MustBeUnready x.files of NoOperation
 MustBeRefused x (Values task of given) (BadIdl file line column why) = MustBeUnready x.files of (BadIdl file line column why)
 MustBeRefused x (Values task of given) (BadRequest why) = MustBeNoRequest x.files of given why
-MustBeRefused x (Values task of given) r = (w : Setting) × AreAccepted x.files of given w × MustBeNoInput x.input task w r
+MustBeRefused x (Values task of given) r = (w : Setting) × AreAccepted x.files of given w × MustBeNoInput x.input x.ends task w r
 MustBeRefused x (Compile idl acf) r = MustBeNoIdl x.files idl acf r
 MustBeRefused x (Plan idl acf) r = MustBeNoIdl x.files idl acf r
+MustBeRefused x (Sample seed count) r = ⊥
 MustBeRefused x Help r = ⊥
 MustBeRefused x Version r = ⊥
 

@@ -1,5 +1,5 @@
 //! Laws of what commands answer, each the contract of a function that does nothing.
-ghost use Rattle.std.specs.Prelude.{◌≡◌, ◌≤◌, ℕ, true, List, [], length, Option, None, Some};
+ghost use Rattle.std.specs.Prelude.{◌≡◌, ◌≤◌, ℕ, true, List, [], length, Option, None, Some, Ok};
 ghost use Rattle.std.specs.List.{slice_get};
 ghost use Rattle.nd_base.specs.declared.octets.Order.{Order};
 ghost use Rattle.nd_types.specs.declared.interface.Interface.{Interface};
@@ -14,7 +14,10 @@ ghost use Rattle.text_grammar.specs.declared.TheConstants.{TEXT_LIMIT};
 ghost use Rattle.text_grammar.specs.Reads.{ReadsAs};
 ghost use Rattle.text_grammar.specs.Printed.{IsText};
 ghost use Rattle.ndr_printing.specs.Printed.{IsDecoding};
-ghost use Rattle.dceidl.specs.Encode.{IsEncoding, IsMigration};
+ghost use Rattle.ndr_prim.specs.Label.{order_of_label};
+ghost use Rattle.dceidl_words.specs.Words.{order_in};
+ghost use Rattle.dceidl_words.specs.declared.command.OrderWord.TheVariants.{Label};
+ghost use Rattle.dceidl.specs.Encode.{IsEncoding, IsMigration, label_for};
 ghost use Rattle.idl_check.specs.AcfRules.{acf_breaches};
 ghost use Rattle.idl_compiler.specs.AcfFile.{AcfFile, IsLoadedAcf};
 ghost use Rattle.idl_compiler.specs.Idl.{Means, IsIdlFault, resolved_world};
@@ -93,4 +96,9 @@ pub fn encode_undoes_decode()
         → slice_get i.operations n ≡ Some o
         → (d : IsDecoding (setting_beside i o s q) order octets text) → IsEncoding (setting_beside i o s q) order chunk text made
         → Chosen (setting_beside i o s q) order chunk d.graph octets → made ≡ octets }
+{}
+
+/// The format label that `encode` writes before octets states the order of these octets (C706, section 14.1).
+pub fn written_label()
+    ensures { order_of_label (label_for Label) ≡ Ok (order_in Label) }
 {}

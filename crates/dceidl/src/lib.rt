@@ -6,27 +6,27 @@ mod input;
 pub mod laws;
 mod outcome;
 mod perform;
+mod reading;
 mod ready;
 #[cfg(test)]
 mod tests;
 mod top;
-mod words;
 
+pub use dceidl_words::{CHUNK_LIMIT, Words};
 pub use outcome::Outcome;
 pub use refusals::{IdlReason, OctetsFault, Refusal, Status};
 pub use top::run;
-pub use words::Words;
-
-/// The most elements that a chunk of a pipe may be asked to have.
-pub const CHUNK_LIMIT: u32 = 16_777_216;
 
 /// What `--help` prints.
 pub const HELP: &str = "\
 usage: dceidl compile IDL ACF
        dceidl plan IDL ACF
        dceidl decode IDL ACF OP SIDE ORDER [given TEXT]
+       dceidl explain IDL ACF OP SIDE ORDER [given TEXT]
+       dceidl drain IDL ACF OP SIDE ORDER [given TEXT]
        dceidl encode IDL ACF OP SIDE ORDER CHUNK [given TEXT]
        dceidl migrate IDL ACF OP SIDE
+       dceidl sample SEED COUNT
        dceidl --help
        dceidl --version
 
@@ -38,31 +38,43 @@ plan     checks the same files, and writes the listing of the interface's plan:
 decode   reads the octets of a request (SIDE `in`) or a response (SIDE `out`) in
          NDR (C706, chapter 14), and writes their values as text. With `given`
          a response is checked against the request that it answers.
+explain  reads the same octets, and writes a line for each item: its place, its
+         length, what it is, where it is in the values, and its value.
+drain    reads the same octets, and writes the elements of their pipes to the
+         files pipe0.out to pipe7.out of the current folder, a line each. The
+         text of the values is written with empty pipes.
 encode   reads such a text, and writes the octets of its values. With `given` a
          response is checked against the request that it answers.
 migrate  reads such a text, in either version, and writes it as `decode` does.
+sample   makes a graph of COUNT cells from SEED, encodes and decodes it, and
+         writes a summary. Without words it is `sample 1 2`.
 
 IDL      the path of a file of IDL
 ACF      the path of an attribute configuration file, or `-` for none
 OP       the name of an operation
 SIDE     `in` for the [in] parameters, `out` for the [out] parameters and the
          result
-ORDER    the byte order: `little` or `big`
+ORDER    the byte order: `little`, `big`, or `label` if the first four octets
+         are a format label, which states it; `encode` then writes a label of
+         little-endian octets
 TEXT     the path of the text of a request; with SIDE `out` only
 CHUNK    the number of elements in a chunk of a pipe, 1 to 16777216; it has no
          effect unless the operation has pipes
+SEED     a number, 0 to 4294967295
+COUNT    a number, 1 to 1000000
 
 Input is read from standard input, and output is written to standard output. An
 error is one line on standard error. The exit status is
 
 0  success
-1  bad octets, text or values, or too many octets to write
+1  bad octets, text or values, or too many octets to write or pipes to drain
 2  bad command line
 3  input error
 4  output error
 5  out of memory
 6  bad IDL or ACF, or unknown operation
 7  IDL, ACF or TEXT not found
+8  an error of a file to which a pipe is drained
 9  IDL, ACF or TEXT not readable
 
 Examples:

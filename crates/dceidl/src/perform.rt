@@ -6,44 +6,50 @@ ghost use Rattle.nd_types.specs.declared.types.Operation.{Operation};
 ghost use Rattle.nd_types.specs.declared.types.Side.TheVariants.{Out};
 ghost use Rattle.nd_value.specs.Fitting.{setting_of, setting_beside};
 ghost use Rattle.nd_value.specs.Request.{IsRequestOf};
-ghost use Rattle.dceidl.specs.Asked.{AsksFor};
+ghost use Rattle.ndr_pipe.specs.Ends.{AreOpen, ends_over};
+ghost use Rattle.ndr_pipe.specs.Seen.{ends_seen};
+ghost use Rattle.dceidl.specs.Asked.{AsksFor, AsksEnds, drains};
 ghost use Rattle.dceidl.specs.Causes.{IsMade, IsCause};
-ghost use Rattle.dceidl.specs.Commands.{command_of, subject_of, IsWellFormed, HasChunks};
-ghost use Rattle.dceidl.specs.Encode.{IsEncoding, IsMigration};
+ghost use Rattle.dceidl_words.specs.Commands.{command_of, subject_of, IsWellFormed, HasChunks};
+ghost use Rattle.dceidl.specs.Encode.{IsLabelledEncoding, IsMigration};
 ghost use Rattle.dceidl.specs.Input.{IsMadeOf, IsTaskCause, IsMadeBeside, IsBesideCause, IsInputEncodingCause, IsInputTextCause, OfText};
 ghost use Rattle.dceidl.specs.Seen.{seen_over};
-ghost use Rattle.dceidl.specs.Words.{Values};
+ghost use Rattle.dceidl_words.specs.Words.{Values};
 
 use crate::encode::{encode, migrate};
 use crate::input::read_input;
+use crate::reading::read_octets;
 use crate::ready::{Ready, make_ready};
-use crate::words::{Command, Subject, Task};
 use crate::{HELP, VERSION};
+use dceidl_words::{Command, OrderWord, Subject, Task};
 use idl_compiler::{list, list_plan};
-use nd_base::{Files, Octets, Order, Source};
+use nd_base::{Files, Octets, Source};
 use nd_graph::Fit;
-use ndr_printing::print_octets;
+use ndr_pipe::{Ends, PipeEnd};
+use ndr_sample::sample;
 use refusals::Refusal;
 use std::alloc::Global;
 use text_fitting::load_request;
 use value_text::TEXT_LIMIT;
 
 // Does a command.
-pub(crate) fn perform<F: Files, S: Source>(
+pub(crate) fn perform<F: Files, S: Source, E: PipeEnd>(
     alloc: Global,
     command: Command<'_>,
     files: &mut F,
     input: &mut S,
+    ends: &mut Ends<E>,
 ) -> Result<Octets, Refusal>
-    requires { IsWellFormed command }
+    requires open { AreOpen (ends_seen E.seen ends.old) }
+    requires formed { IsWellFormed command }
     ensures asked { AsksFor
-        (seen_over (files_seen F.held F.absences F.faults F.asked files.old files.new) (source_seen S.left S.ended S.faults input.old input.new))
+        (seen_over (files_seen F.held F.absences F.faults F.asked files.old files.new) (source_seen S.left S.ended S.faults input.old input.new) (ends_over E.seen ends.old ends.new))
         (command_of command.entry) }
     ensures done { IfOk result (IsMade
-        (seen_over (files_seen F.held F.absences F.faults F.asked files.old files.new) (source_seen S.left S.ended S.faults input.old input.new))
+        (seen_over (files_seen F.held F.absences F.faults F.asked files.old files.new) (source_seen S.left S.ended S.faults input.old input.new) (ends_over E.seen ends.old ends.new))
         (command_of command.entry)) }
     ensures refused { IfErr result (IsCause
-        (seen_over (files_seen F.held F.absences F.faults F.asked files.old files.new) (source_seen S.left S.ended S.faults input.old input.new))
+        (seen_over (files_seen F.held F.absences F.faults F.asked files.old files.new) (source_seen S.left S.ended S.faults input.old input.new) (ends_over E.seen ends.old ends.new))
         (command_of command.entry)) }
 {
     match command {
@@ -51,76 +57,83 @@ pub(crate) fn perform<F: Files, S: Source>(
             task,
             of,
             given: None,
-        } => perform_alone(alloc, task, of, files, input),
+        } => perform_alone(alloc, task, of, files, input, ends),
         Command::Values {
             task,
             of,
             given: Some(name),
-        } => perform_beside(alloc, task, of, name, files, input),
+        } => perform_beside(alloc, task, of, name, files, input, ends),
         Command::Compile { idl, acf } => list(alloc, idl, acf, files),
         Command::Plan { idl, acf } => list_plan(alloc, idl, acf, files),
+        Command::Sample { seed, count } => Ok(sample(alloc, seed, count)?),
         Command::Help => Ok(Octets::copy(alloc, HELP.as_bytes())?),
         Command::Version => Ok(Octets::copy(alloc, VERSION.as_bytes())?),
     }
 }
 
 // Does something with values, once what the command speaks of is ready.
-fn perform_alone<F: Files, S: Source>(
+fn perform_alone<F: Files, S: Source, E: PipeEnd>(
     alloc: Global,
     task: Task,
     of: Subject<'_>,
     files: &mut F,
     input: &mut S,
+    ends: &mut Ends<E>,
 ) -> Result<Octets, Refusal>
-    requires { HasChunks task }
+    requires open { AreOpen (ends_seen E.seen ends.old) }
+    requires chunk { HasChunks task }
     ensures asked { AsksFor
-        (seen_over (files_seen F.held F.absences F.faults F.asked files.old files.new) (source_seen S.left S.ended S.faults input.old input.new))
+        (seen_over (files_seen F.held F.absences F.faults F.asked files.old files.new) (source_seen S.left S.ended S.faults input.old input.new) (ends_over E.seen ends.old ends.new))
         (Values task (subject_of of.entry) None) }
     ensures done { IfOk result (IsMade
-        (seen_over (files_seen F.held F.absences F.faults F.asked files.old files.new) (source_seen S.left S.ended S.faults input.old input.new))
+        (seen_over (files_seen F.held F.absences F.faults F.asked files.old files.new) (source_seen S.left S.ended S.faults input.old input.new) (ends_over E.seen ends.old ends.new))
         (Values task (subject_of of.entry) None)) }
     ensures refused { IfErr result (IsCause
-        (seen_over (files_seen F.held F.absences F.faults F.asked files.old files.new) (source_seen S.left S.ended S.faults input.old input.new))
+        (seen_over (files_seen F.held F.absences F.faults F.asked files.old files.new) (source_seen S.left S.ended S.faults input.old input.new) (ends_over E.seen ends.old ends.new))
         (Values task (subject_of of.entry) None)) }
 {
     let ready = make_ready(alloc, of, files)?;
-    perform_task(alloc, &ready, task, None, input)
+    perform_task(alloc, &ready, task, None, input, ends)
 }
 
 // The same beside the request of a file.
-fn perform_beside<F: Files, S: Source>(
+fn perform_beside<F: Files, S: Source, E: PipeEnd>(
     alloc: Global,
     task: Task,
     of: Subject<'_>,
     name: &str,
     files: &mut F,
     input: &mut S,
+    ends: &mut Ends<E>,
 ) -> Result<Octets, Refusal>
+    requires open { AreOpen (ends_seen E.seen ends.old) }
     requires chunk { HasChunks task }
     requires outputs { of.side ≡ Out }
     ensures asked { AsksFor
-        (seen_over (files_seen F.held F.absences F.faults F.asked files.old files.new) (source_seen S.left S.ended S.faults input.old input.new))
+        (seen_over (files_seen F.held F.absences F.faults F.asked files.old files.new) (source_seen S.left S.ended S.faults input.old input.new) (ends_over E.seen ends.old ends.new))
         (Values task (subject_of of.entry) (Some name.now)) }
     ensures done { IfOk result (IsMade
-        (seen_over (files_seen F.held F.absences F.faults F.asked files.old files.new) (source_seen S.left S.ended S.faults input.old input.new))
+        (seen_over (files_seen F.held F.absences F.faults F.asked files.old files.new) (source_seen S.left S.ended S.faults input.old input.new) (ends_over E.seen ends.old ends.new))
         (Values task (subject_of of.entry) (Some name.now))) }
     ensures refused { IfErr result (IsCause
-        (seen_over (files_seen F.held F.absences F.faults F.asked files.old files.new) (source_seen S.left S.ended S.faults input.old input.new))
+        (seen_over (files_seen F.held F.absences F.faults F.asked files.old files.new) (source_seen S.left S.ended S.faults input.old input.new) (ends_over E.seen ends.old ends.new))
         (Values task (subject_of of.entry) (Some name.now))) }
 {
     let ready = make_ready(alloc, of, files)?;
-    perform_after(alloc, &ready, task, name, files, input)
+    perform_after(alloc, &ready, task, name, files, input, ends)
 }
 
 // Loads the request of a file, and does something with values beside it.
-fn perform_after<F: Files, S: Source>(
+fn perform_after<F: Files, S: Source, E: PipeEnd>(
     alloc: Global,
     ready: &Ready,
     task: Task,
     name: &str,
     files: &mut F,
     input: &mut S,
+    ends: &mut Ends<E>,
 ) -> Result<Octets, Refusal>
+    requires open { AreOpen (ends_seen E.seen ends.old) }
     requires known { ready.now.number < length ready.now.interface.operations }
     requires outputs { ready.now.side ≡ Out }
     requires chunk { HasChunks task }
@@ -128,48 +141,42 @@ fn perform_after<F: Files, S: Source>(
     ensures same { F.held files.new ≡ F.held files.old }
     ensures later { F.faults files.old ≤ F.faults files.new }
     ensures absences_later { F.absences files.old ≤ F.absences files.new }
+    ensures ends { AsksEnds (ends_over E.seen ends.old ends.new) (drains task) }
     ensures done { (o : Operation) → slice_get ready.now.interface.operations ready.now.number ≡ Some o
-        → IfOk result (IsMadeBeside (files_seen F.held F.absences F.faults F.asked files.old files.new) (source_seen S.left S.ended S.faults input.old input.new) name.now task
+        → IfOk result (IsMadeBeside (files_seen F.held F.absences F.faults F.asked files.old files.new) (source_seen S.left S.ended S.faults input.old input.new) (ends_over E.seen ends.old ends.new) name.now task
         (setting_of ready.now.interface o ready.now.side)) }
     ensures refused { (o : Operation) → slice_get ready.now.interface.operations ready.now.number ≡ Some o
-        → IfErr result (IsBesideCause (files_seen F.held F.absences F.faults F.asked files.old files.new) (source_seen S.left S.ended S.faults input.old input.new) name.now task
+        → IfErr result (IsBesideCause (files_seen F.held F.absences F.faults F.asked files.old files.new) (source_seen S.left S.ended S.faults input.old input.new) (ends_over E.seen ends.old ends.new) name.now task
         (setting_of ready.now.interface o ready.now.side)) }
 {
     let request = load_request(alloc, &ready.interface, ready.number, name, files)?;
-    perform_task(alloc, ready, task, Some(&request), input)
+    perform_task(alloc, ready, task, Some(&request), input, ends)
 }
 
 // Does something with the values of the input, beside a request if one is given.
-fn perform_task<S: Source>(
+fn perform_task<S: Source, E: PipeEnd>(
     alloc: Global,
     ready: &Ready,
     task: Task,
     given: Option<&Fit>,
     input: &mut S,
+    ends: &mut Ends<E>,
 ) -> Result<Octets, Refusal>
+    requires open { AreOpen (ends_seen E.seen ends.old) }
     requires known { ready.now.number < length ready.now.interface.operations }
     requires request { IsRequestOf ready.now.interface ready.now.number ready.now.side (option_map (λ f. f.now) given) }
     requires chunk { HasChunks task }
+    ensures ends { AsksEnds (ends_over E.seen ends.old ends.new) (drains task) }
     ensures done { (o : Operation) → slice_get ready.now.interface.operations ready.now.number ≡ Some o
-        → IfOk result (IsMadeOf (source_seen S.left S.ended S.faults input.old input.new) task
+        → IfOk result (IsMadeOf (source_seen S.left S.ended S.faults input.old input.new) (ends_over E.seen ends.old ends.new) task
         (setting_beside ready.now.interface o ready.now.side (option_map (λ f. f.now.graph) given.entry))) }
     ensures refused { (o : Operation) → slice_get ready.now.interface.operations ready.now.number ≡ Some o
-        → IfErr result (IsTaskCause (source_seen S.left S.ended S.faults input.old input.new) task
+        → IfErr result (IsTaskCause (source_seen S.left S.ended S.faults input.old input.new) (ends_over E.seen ends.old ends.new) task
         (setting_beside ready.now.interface o ready.now.side (option_map (λ f. f.now.graph) given.entry))) }
 {
     match task {
-        Task::Decode { order } => print_octets(
-            alloc,
-            &ready.interface,
-            ready.number,
-            ready.side,
-            given,
-            order.order(),
-            input,
-        ),
-        Task::Encode { order, chunk } => {
-            encode_input(alloc, ready, given, order.order(), chunk, input)
-        }
+        Task::Read { how, order } => read_octets(alloc, ready, how, order, given, input, ends),
+        Task::Encode { order, chunk } => encode_input(alloc, ready, given, order, chunk, input),
         Task::Migrate => migrate_input(alloc, ready, given, input),
     }
 }
@@ -179,7 +186,7 @@ fn encode_input<S: Source>(
     alloc: Global,
     ready: &Ready,
     given: Option<&Fit>,
-    order: Order,
+    order: OrderWord,
     chunk: u32,
     input: &mut S,
 ) -> Result<Octets, Refusal>
@@ -187,7 +194,7 @@ fn encode_input<S: Source>(
     requires request { IsRequestOf ready.now.interface ready.now.number ready.now.side (option_map (λ f. f.now) given) }
     requires chunk { 1 ≤ chunk }
     ensures done { (o : Operation) → slice_get ready.now.interface.operations ready.now.number ≡ Some o
-        → IfOk result (λ made. OfText (source_seen S.left S.ended S.faults input.old input.new) (λ text. IsEncoding
+        → IfOk result (λ made. OfText (source_seen S.left S.ended S.faults input.old input.new) (λ text. IsLabelledEncoding
         (setting_beside ready.now.interface o ready.now.side (option_map (λ f. f.now.graph) given.entry)) order chunk text made)) }
     ensures refused { (o : Operation) → slice_get ready.now.interface.operations ready.now.number ≡ Some o
         → IfErr result (IsInputEncodingCause (source_seen S.left S.ended S.faults input.old input.new)

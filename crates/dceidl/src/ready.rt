@@ -4,10 +4,10 @@ ghost use Rattle.nd_types.specs.declared.types.Operation.{Operation};
 ghost use Rattle.nd_types.specs.Operations.{operation_named};
 ghost use Rattle.nd_base.specs.Over.{files_seen};
 ghost use Rattle.idl_compiler.specs.Asked.{AsksFiles};
-ghost use Rattle.dceidl.specs.Commands.{subject_of};
+ghost use Rattle.dceidl_words.specs.Commands.{subject_of};
 ghost use Rattle.dceidl.specs.Ready.{IsFound, IsReadyCause, IsNotFound};
 
-use crate::words::Subject;
+use dceidl_words::Subject;
 use idl_compiler::compile;
 use nd_base::Files;
 use nd_types::{Interface, Side};

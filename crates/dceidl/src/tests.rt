@@ -1,6 +1,7 @@
 // Runs over files, an input and outputs in memory: each command once, and runs in which a load, a fetch or a put fails.
 use crate::{HELP, Status, VERSION, Words, run};
 use nd_base::{MemFiles, MemSink, MemSource, Memory};
+use ndr_pipe::PipeEnds;
 use std::alloc::Global;
 use std::process::Abort;
 
@@ -88,10 +89,27 @@ const LISTED: Case = Case {
     ..DECODED
 };
 
-// Words that are no command.
-const NO_COMMAND: Case = Case {
+// The items of the values 1, 2 and 3 of `add`.
+const EXPLAINED: Case = Case {
+    name: "explain",
+    words: &["explain", "add.idl", "-", "add", "in", "little"],
+    out: b"0 4 num a 1\n4 2 num b 2\n6 2 gap\n8 8 num c 3\n",
+    ..DECODED
+};
+
+// The summary of the sample.
+const SAMPLED: Case = Case {
     name: "no words",
     words: &[],
+    input: b"",
+    out: b"cells 2\noctets 28\nsum 178\nsame yes\n",
+    ..DECODED
+};
+
+// Words that are no command.
+const NO_COMMAND: Case = Case {
+    name: "no command",
+    words: &["none"],
     status: 2,
     out: b"",
     notes: "words refused\n",
@@ -118,7 +136,10 @@ fn run_case(alloc: Global, case: &Case) -> Result<Ran, Memory> {
     let mut input = MemSource::new(alloc, case.input, piece, case.failing_fetches)?;
     let mut out = MemSink::new(alloc, case.room, case.failing_puts)?;
     let mut notes = MemSink::new(alloc, case.room, case.failing_notes)?;
-    let status = run(alloc, &words, &mut files, &mut input, &mut out, &mut notes);
+    let mut ends = PipeEnds::new(alloc);
+    let status = run(
+        alloc, &words, &mut files, &mut input, &mut out, &mut notes, &mut ends,
+    );
     Ok(Ran { status, out, notes })
 }
 
@@ -144,6 +165,25 @@ fn commands_are_done(rt: HostRuntime) {
         ENCODED,
         MIGRATED,
         LISTED,
+        EXPLAINED,
+        Case {
+            name: "drain",
+            words: &["drain", "add.idl", "-", "add", "in", "little"],
+            ..DECODED
+        },
+        Case {
+            name: "label",
+            words: &["decode", "add.idl", "-", "add", "in", "label"],
+            input: b"\x10\0\0\0\x01\0\0\0\x02\0AA\x03\0\0\0\0\0\0\0",
+            ..DECODED
+        },
+        Case {
+            name: "encode with a label",
+            words: &["encode", "add.idl", "-", "add", "in", "label", "1"],
+            out: b"\x10\0\0\0\x01\0\0\0\x02\0\0\0\x03\0\0\0\0\0\0\0",
+            ..ENCODED
+        },
+        SAMPLED,
         NO_COMMAND,
         Case {
             name: "help",

@@ -4,19 +4,22 @@ ghost use Rattle.std.specs.Io.KnownBytes.{Appends};
 ghost use Rattle.nd_base.specs.Counts.{Rose};
 ghost use Rattle.nd_base.specs.Over.{files_seen, source_seen, sink_seen};
 ghost use Rattle.refusals.specs.declared.refusal.Refusal.{Refusal as Why};
+ghost use Rattle.ndr_pipe.specs.Ends.{AreOpen, ends_over};
+ghost use Rattle.ndr_pipe.specs.Seen.{ends_seen};
 ghost use Rattle.dceidl.specs.Asked.{Asks};
 ghost use Rattle.dceidl.specs.Causes.{statuses_of};
-ghost use Rattle.dceidl.specs.Commands.{command_of};
+ghost use Rattle.dceidl_words.specs.Commands.{command_of};
 ghost use Rattle.refusals.specs.Lines.{status_of, line_of};
-ghost use Rattle.dceidl.specs.Rows.{IsOneOf, IsDone, IsRefusedWith, ReadsInput, IsDueAndMissing, IsDueAndReported, HasNotFailed, IsSound, CanBeDone, MustBeRefused, IsCompleted, Refuses};
+ghost use Rattle.dceidl.specs.Rows.{IsOneOf, IsDone, IsRefusedWith, ReadsInput, IsDueAndMissing, IsDueAndReported, IsEndReported, HasNotFailed, IsSound, CanBeDone, MustBeRefused, IsCompleted, Refuses};
 ghost use Rattle.dceidl.specs.Run.{IsOutcome, IsDelivered, HasRun, IsReported};
 ghost use Rattle.dceidl.specs.Seen.{seen_over};
-ghost use Rattle.dceidl.specs.Words.{Command as Wanted, command, idl_of, op_of};
+ghost use Rattle.dceidl_words.specs.Words.{Command as Wanted, command, idl_of, op_of};
 
 use crate::outcome::Outcome;
 use crate::perform::perform;
-use crate::words::{Command, Words};
+use dceidl_words::{Command, Words};
 use nd_base::{Files, Memory, Octets, Sink, Source};
+use ndr_pipe::{Ends, PipeEnd, PipeEnds};
 use refusals::{Refusal, Status, line, status};
 use std::alloc::Global;
 
@@ -34,12 +37,14 @@ pub(crate) const OUT_OF_MEMORY: Status = 5;
 
 /// Runs a command line and returns the exit status.
 ///
-/// `--help` and `--version` write their text to `out`. The other commands load the interface file, the files that it imports, and then
-/// the attribute configuration file if one is named (C706, chapter 4), and check the rules of the language. `compile` writes the
-/// listing of the interface to `out`, `plan` that of its plan. `decode` writes the values of one side of the operation as text to `out`: its `[in]`
-/// parameters, or its `[out]` parameters and its result (C706, chapter 14); it asks for no octet past the values but one. `encode` and `migrate`
+/// `--help` and `--version` write their text to `out`, and `sample` the summary of a sample, as no words do. The other commands load the interface file,
+/// the files that it imports, and then the attribute configuration file if one is named (C706, chapter 4), and check the rules of the language. `compile`
+/// writes the listing of the interface to `out`, `plan` that of its plan. `decode` writes the values of one side of the operation as text to `out`: its `[in]`
+/// parameters, or its `[out]` parameters and its result (C706, chapter 14); it asks for no octet past the values but one. `explain` writes a line for
+/// each item of the same octets. `drain` gives the elements of their pipes to `ends`, the i-th pipe to the i-th end, and writes the text of the values with
+/// empty pipes. With ORDER `label` four octets, a format label (C706, section 14.1), are before the octets and state their order. `encode` and `migrate`
 /// read such a text to its end, or to one octet past its limit, [`TEXT_LIMIT`](value_text::TEXT_LIMIT) octets. `encode` writes the octets of its
-/// values, at most [`STREAM_LIMIT`](nd_base::STREAM_LIMIT), and `migrate` writes it as it is printed.
+/// values, at most [`STREAM_LIMIT`](nd_base::STREAM_LIMIT), after a label if one is asked for, and `migrate` writes it as it is printed.
 ///
 /// Nothing is requested before it is needed, and no file more than once: no file for an invalid command line, `--help` or
 /// `--version`, an import when its declaration is reached, the attribute configuration file when all names are resolved (it is loaded
@@ -50,6 +55,9 @@ pub(crate) const OUT_OF_MEMORY: Status = 5;
 /// there are several reasons, the first in the order of work is reported. If `out` fails, it may have received a prefix of the text, a
 /// line on `notes` says so, and the status is 4; if `notes` fails, the status is 4 too.
 ///
+/// No end may be finished before. Only `drain` calls ends, once the label is read and there are enough of them: each chunk's lines are given once the chunk
+/// is read, and an end is finished where its pipe ends. If an end fails, the status is 8.
+///
 /// Memory is taken for the files and their declarations, for the input with a buffer of 65,536 octets while it is read, for the
 /// values, and for the text or the line. All of it is released before `run` returns.
 pub fn run<F: Files, S: Source, K: Sink, N: Sink>(
@@ -59,14 +67,16 @@ pub fn run<F: Files, S: Source, K: Sink, N: Sink>(
     input: &mut S,
     out: &mut K,
     notes: &mut N,
+    ends: &mut PipeEnds,
 ) -> Status
+    requires open { AreOpen (ends_seen seen ends.old) }
     ensures whole { HasRun words.now
-        (seen_over (files_seen F.held F.absences F.faults F.asked files.old files.new) (source_seen S.left S.ended S.faults input.old input.new))
+        (seen_over (files_seen F.held F.absences F.faults F.asked files.old files.new) (source_seen S.left S.ended S.faults input.old input.new) (ends_over seen ends.old ends.new))
         (sink_seen K.written K.faults out.old out.new)
         (sink_seen N.written N.faults notes.old notes.new) result }
     // What a run asks for: files only when they are due and each once (an attribute file that is a file of IDL too is loaded again), the input only
     // if the command reads it.
-    ensures asked { Asks (seen_over (files_seen F.held F.absences F.faults F.asked files.old files.new) (source_seen S.left S.ended S.faults input.old input.new)) (command words.now) }
+    ensures asked { Asks (seen_over (files_seen F.held F.absences F.faults F.asked files.old files.new) (source_seen S.left S.ended S.faults input.old input.new) (ends_over seen ends.old ends.new)) (command words.now) }
     // What each status says.
     ensures statuses { (c : Wanted) → command words.now ≡ Some c → IsOneOf (statuses_of c) result }
     ensures words { result ≡ 2 → command words.now ≡ None }
@@ -78,48 +88,70 @@ pub fn run<F: Files, S: Source, K: Sink, N: Sink>(
         × IsDueAndMissing (command words.now) (F.held files.old) (sink_seen N.written N.faults notes.old notes.new) }
     ensures file { result ≡ 9 → Rose (F.faults files.old) (F.faults files.new)
         × IsDueAndReported (command words.now) (F.held files.old) (sink_seen N.written N.faults notes.old notes.new) }
+    ensures end { result ≡ 8 → IsEndReported (ends_over seen ends.old ends.new) (sink_seen N.written N.faults notes.old notes.new) }
     ensures quiet { result ≡ 0 → N.written notes.new ≡ N.written notes.old }
     ensures nothing_given { result ≢ 0 → result ≢ 4 → K.written out.new ≡ K.written out.old }
     ensures unfailed { HasNotFailed
-        (seen_over (files_seen F.held F.absences F.faults F.asked files.old files.new) (source_seen S.left S.ended S.faults input.old input.new))
+        (seen_over (files_seen F.held F.absences F.faults F.asked files.old files.new) (source_seen S.left S.ended S.faults input.old input.new) (ends_over seen ends.old ends.new))
         (sink_seen K.written K.faults out.old out.new)
         (sink_seen N.written N.faults notes.old notes.new) → IsOneOf (0 ∷ 1 ∷ 2 ∷ 5 ∷ 6 ∷ []) result }
     // What a command comes to: it is done, or it is refused for a cause, under its status and with its line.
     ensures done { (c : Wanted) → command words.now ≡ Some c → result ≡ 0 → IsDone
-        (seen_over (files_seen F.held F.absences F.faults F.asked files.old files.new) (source_seen S.left S.ended S.faults input.old input.new))
+        (seen_over (files_seen F.held F.absences F.faults F.asked files.old files.new) (source_seen S.left S.ended S.faults input.old input.new) (ends_over seen ends.old ends.new))
         (sink_seen K.written K.faults out.old out.new)
         (sink_seen N.written N.faults notes.old notes.new) c }
     ensures refused { (c : Wanted) → command words.now ≡ Some c → result ≢ 0 → result ≢ 4 → result ≢ 5 → IsRefusedWith
-        (seen_over (files_seen F.held F.absences F.faults F.asked files.old files.new) (source_seen S.left S.ended S.faults input.old input.new))
+        (seen_over (files_seen F.held F.absences F.faults F.asked files.old files.new) (source_seen S.left S.ended S.faults input.old input.new) (ends_over seen ends.old ends.new))
         (sink_seen K.written K.faults out.old out.new)
         (sink_seen N.written N.faults notes.old notes.new) c result }
     // Which of these comes, where no load fails and notes do not.
     ensures complete { (c : Wanted) → command words.now ≡ Some c
-        → IsSound (seen_over (files_seen F.held F.absences F.faults F.asked files.old files.new) (source_seen S.left S.ended S.faults input.old input.new)) (sink_seen N.written N.faults notes.old notes.new)
-        → CanBeDone (seen_over (files_seen F.held F.absences F.faults F.asked files.old files.new) (source_seen S.left S.ended S.faults input.old input.new)) c
+        → IsSound (seen_over (files_seen F.held F.absences F.faults F.asked files.old files.new) (source_seen S.left S.ended S.faults input.old input.new) (ends_over seen ends.old ends.new)) (sink_seen N.written N.faults notes.old notes.new)
+        → CanBeDone (seen_over (files_seen F.held F.absences F.faults F.asked files.old files.new) (source_seen S.left S.ended S.faults input.old input.new) (ends_over seen ends.old ends.new)) c
         → IsCompleted (sink_seen K.written K.faults out.old out.new) result }
     ensures exactly { (c : Wanted) (r : Why) → command words.now ≡ Some c
-        → IsSound (seen_over (files_seen F.held F.absences F.faults F.asked files.old files.new) (source_seen S.left S.ended S.faults input.old input.new)) (sink_seen N.written N.faults notes.old notes.new)
-        → MustBeRefused (seen_over (files_seen F.held F.absences F.faults F.asked files.old files.new) (source_seen S.left S.ended S.faults input.old input.new)) c r
+        → IsSound (seen_over (files_seen F.held F.absences F.faults F.asked files.old files.new) (source_seen S.left S.ended S.faults input.old input.new) (ends_over seen ends.old ends.new)) (sink_seen N.written N.faults notes.old notes.new)
+        → MustBeRefused (seen_over (files_seen F.held F.absences F.faults F.asked files.old files.new) (source_seen S.left S.ended S.faults input.old input.new) (ends_over seen ends.old ends.new)) c r
         → Refuses c (sink_seen N.written N.faults notes.old notes.new) result r }
 {
-    let outcome = answer(alloc, words, files, input);
-    deliver(&outcome, out, notes)
+    run_over(alloc, words, files, input, out, notes, ends)
 }
 
-// What the words come to.
-fn answer<F: Files, S: Source>(
+// The same over ends of any type.
+fn run_over<F: Files, S: Source, K: Sink, N: Sink, E: PipeEnd>(
     alloc: Global,
     words: &Words,
     files: &mut F,
     input: &mut S,
+    out: &mut K,
+    notes: &mut N,
+    ends: &mut Ends<E>,
+) -> Status
+    requires open { AreOpen (ends_seen E.seen ends.old) }
+    ensures { HasRun words.now
+        (seen_over (files_seen F.held F.absences F.faults F.asked files.old files.new) (source_seen S.left S.ended S.faults input.old input.new) (ends_over E.seen ends.old ends.new))
+        (sink_seen K.written K.faults out.old out.new)
+        (sink_seen N.written N.faults notes.old notes.new) result }
+{
+    let outcome = answer(alloc, words, files, input, ends);
+    deliver(&outcome, out, notes)
+}
+
+// What the words come to.
+fn answer<F: Files, S: Source, E: PipeEnd>(
+    alloc: Global,
+    words: &Words,
+    files: &mut F,
+    input: &mut S,
+    ends: &mut Ends<E>,
 ) -> Outcome
-    ensures asked { Asks (seen_over (files_seen F.held F.absences F.faults F.asked files.old files.new) (source_seen S.left S.ended S.faults input.old input.new)) (command words.now) }
-    ensures outcome { IsOutcome (seen_over (files_seen F.held F.absences F.faults F.asked files.old files.new) (source_seen S.left S.ended S.faults input.old input.new)) (command words.now) result }
+    requires open { AreOpen (ends_seen E.seen ends.old) }
+    ensures asked { Asks (seen_over (files_seen F.held F.absences F.faults F.asked files.old files.new) (source_seen S.left S.ended S.faults input.old input.new) (ends_over E.seen ends.old ends.new)) (command words.now) }
+    ensures outcome { IsOutcome (seen_over (files_seen F.held F.absences F.faults F.asked files.old files.new) (source_seen S.left S.ended S.faults input.old input.new) (ends_over E.seen ends.old ends.new)) (command words.now) result }
 {
     match words.command() {
         None => refused(alloc, WORDS_REFUSED, b"words refused\n"),
-        Some(command) => match perform(alloc, command, files, input) {
+        Some(command) => match perform(alloc, command, files, input, ends) {
             Ok(made) => Outcome::Done(made),
             Err(refusal) => refused_command(alloc, command, &refusal),
         },
@@ -157,6 +189,7 @@ fn command_line(alloc: Global, command: Command<'_>, refusal: &Refusal) -> Resul
         Command::Values { of, .. } => line(alloc, of.idl, of.op, refusal),
         Command::Compile { idl, .. } => line(alloc, idl, "", refusal),
         Command::Plan { idl, .. } => line(alloc, idl, "", refusal),
+        Command::Sample { .. } => line(alloc, "", "", refusal),
         Command::Help => line(alloc, "", "", refusal),
         Command::Version => line(alloc, "", "", refusal),
     }

@@ -1,33 +1,81 @@
-//! The program `dceidl`: the words of its command line are done over the standard streams and the files of the current folder.
+//! The program `dceidl`: the words of its command line are done over the standard streams, the files of the current folder and eight ends of pipes.
 #![tactic(auto)]
+
+ghost use Rattle.std.specs.Prelude.{◌≡◌, false, IfOk};
+ghost use Rattle.ndr_pipe.specs.Ends.{AreOpen};
+ghost use Rattle.ndr_pipe.specs.Seen.{ends_seen};
 
 use dceidl::{Status, Words, run};
 use nd_base::{FolderFiles, InputSource, Memory, OutputSink};
+use ndr_pipe::{FileEnd, PipeEnd, PipeEnds};
 use std::env;
 use std::io::ErrorKind;
 use std::process::ExitCode;
 
 fn main(rt: HostRuntime) -> ExitCode {
-    ExitCode::from(start(&rt))
+    match start(rt) {
+        Ok(status) => ExitCode::from(status),
+        Err(Memory) => ExitCode::from(5),
+    }
 }
 
-// A run over the real streams and files. Where there is no memory for the words the status is 5.
-fn start(rt: &HostRuntime) -> Status {
-    let Ok(words) = words_of(rt) else {
-        return 5;
-    };
+// A run over the real streams and files, and over eight ends, which are files of the current folder. The boxes are made here: no function may make
+// them and hand them out.
+fn start(rt: HostRuntime) -> Result<Status, Memory> {
+    let mut ends = PipeEnds::new(rt.alloc());
+    add(&mut ends, file_end(rt, "pipe0.out")?)?;
+    add(&mut ends, file_end(rt, "pipe1.out")?)?;
+    add(&mut ends, file_end(rt, "pipe2.out")?)?;
+    add(&mut ends, file_end(rt, "pipe3.out")?)?;
+    add(&mut ends, file_end(rt, "pipe4.out")?)?;
+    add(&mut ends, file_end(rt, "pipe5.out")?)?;
+    add(&mut ends, file_end(rt, "pipe6.out")?)?;
+    add(&mut ends, file_end(rt, "pipe7.out")?)?;
+    run_over(&rt, &mut ends)
+}
+
+// A run over the real streams and files.
+fn run_over(rt: &HostRuntime, ends: &mut PipeEnds) -> Result<Status, Memory>
+    requires { AreOpen (ends_seen seen ends.old) }
+{
+    let words = words_of(rt)?;
     let mut files = FolderFiles::new(rt);
     let mut input = InputSource::new(rt.stdin());
     let mut out = OutputSink::new(rt.stdout());
     let mut notes = OutputSink::new(rt.stderr());
-    run(
+    Ok(run(
         rt.alloc(),
         &words,
         &mut files,
         &mut input,
         &mut out,
         &mut notes,
-    )
+        ends,
+    ))
+}
+
+// An end that is the file of this name. The file is made at the end's first call.
+fn file_end(rt: HostRuntime, name: &str) -> Result<Box<FileEnd<HostRuntime>>, Memory>
+    ensures { IfOk result (λ b. (⟦<FileEnd<HostRuntime> as PipeEnd>⟧.seen b.value).finished ≡ false) }
+{
+    let name = String::from_str(rt.alloc(), name)?;
+    match Box::new(rt.alloc(), FileEnd::new(rt, name)) {
+        Ok(end) => Ok(end),
+        Err(_) => Err(Memory),
+    }
+}
+
+// One more end that is not finished.
+#[tactic(auto, using(crate::proofs::Open::all_open))]
+fn add(ends: &mut PipeEnds, end: Box<dyn PipeEnd>) -> Result<(), Memory>
+    requires all { AreOpen (ends_seen seen ends.old) }
+    requires one { (seen end).finished ≡ false }
+    ensures { IfOk result (λ _. AreOpen (ends_seen seen ends.new)) }
+{
+    match ends.push(end) {
+        Ok(()) => Ok(()),
+        Err((memory, _)) => Err(memory),
+    }
 }
 
 // The words of the command line. Where one of them is no text they are one empty word, which is no command.

@@ -2,12 +2,13 @@
 use Rattle.std.specs.Prelude.{◌≡◌, ◌≤◌, Option, None, Some, option_map, ⊤}
 use Rattle.nd_types.specs.declared.types.Side.{Side}
 use Rattle.nd_types.specs.declared.types.Side.TheVariants.{Out}
-use Rattle.dceidl.specs.Words as words
-use Rattle.dceidl.specs.declared.words.Subject.{Subject}
-use Rattle.dceidl.specs.declared.words.Command.{Command}
-use Rattle.dceidl.specs.declared.words.Task.{Task}
-use Rattle.dceidl.specs.declared.words.Task.TheVariants.{Decode, Encode, Migrate}
-use Rattle.dceidl.specs.declared.words.Command.TheVariants.{Values, Compile, Plan, Help, Version}
+use Rattle.dceidl_words.specs.Words as words
+use Rattle.dceidl_words.specs.declared.TheConstants.{COUNT_LIMIT}
+use Rattle.dceidl_words.specs.declared.command.Subject.{Subject}
+use Rattle.dceidl_words.specs.declared.command.Command.{Command}
+use Rattle.dceidl_words.specs.declared.command.Task.{Task}
+use Rattle.dceidl_words.specs.declared.command.Task.TheVariants.{Read, Encode, Migrate}
+use Rattle.dceidl_words.specs.declared.command.Command.TheVariants.{Values, Compile, Plan, Sample, Help, Version}
 
 abbrev pub subject_of : Subject → words.Subject
 subject_of of = record { idl = of.idl.now; acf = option_map (λ a. a.now) of.acf; op = of.op.now; side = of.side }
@@ -16,12 +17,13 @@ abbrev pub command_of : Command → words.Command
 command_of (Values task of given) = words.Values task (subject_of of) (option_map (λ t. t.now) given)
 command_of (Compile idl acf) = words.Compile idl.now (option_map (λ a. a.now) acf)
 command_of (Plan idl acf) = words.Plan idl.now (option_map (λ a. a.now) acf)
+command_of (Sample seed count) = words.Sample seed count
 command_of Help = words.Help
 command_of Version = words.Version
 
 -- a chunk of a pipe has at least one element
 abbrev pub HasChunks : Task → Type 0
-HasChunks (Decode order) = ⊤
+HasChunks (Read how order) = ⊤
 HasChunks (Encode order chunk) = 1 ≤ chunk
 HasChunks Migrate = ⊤
 
@@ -33,4 +35,5 @@ IsJudged side (Some text) = side ≡ Out
 -- what its words say of the parts of a command
 abbrev pub IsWellFormed : Command → Type 0
 IsWellFormed (Values task of given) = HasChunks task × IsJudged of.side given
+IsWellFormed (Sample seed count) = (1 ≤ count) × (count ≤ COUNT_LIMIT)
 IsWellFormed _ = ⊤

@@ -1,4 +1,4 @@
--- The commands that the words of a command line are, and what each of them asks for.
+-- The commands that the words of a command line are.
 use Rattle.std.specs.Prelude.{ℕ, Bool, true, false, ◌&&◌, nat_le, List, [], ◌∷◌, Option, None, Some, if◌then◌else◌, nat_eq, codes, decimal}
 use Rattle.std.specs.Cmp.Lexicographic.{pointwise}
 use Rattle.std.specs.Str.Parse.{digits_value}
@@ -6,12 +6,13 @@ use Rattle.nd_base.specs.declared.octets.Order.{Order}
 use Rattle.nd_base.specs.declared.octets.Order.TheVariants.{Little, Big}
 use Rattle.nd_types.specs.declared.types.Side.{Side}
 use Rattle.nd_types.specs.declared.types.Side.TheVariants.{In, Out}
-use Rattle.dceidl.specs.declared.TheConstants.{CHUNK_LIMIT}
-use Rattle.dceidl.specs.declared.words.OrderWord.{OrderWord}
-use Rattle.dceidl.specs.declared.words.OrderWord.TheVariants.{Fixed}
-use Rattle.dceidl.specs.declared.words.Task.{Task}
-use Rattle.dceidl.specs.declared.words.Task.TheVariants.{Decode, Encode, Migrate}
-use Rattle.idl_compiler.specs.Asked.{FileNames}
+use Rattle.dceidl_words.specs.declared.TheConstants.{CHUNK_LIMIT, COUNT_LIMIT}
+use Rattle.dceidl_words.specs.declared.command.Reading.{Reading}
+use Rattle.dceidl_words.specs.declared.command.Reading.TheVariants.{Decode, Explain, Drain}
+use Rattle.dceidl_words.specs.declared.command.OrderWord.{OrderWord}
+use Rattle.dceidl_words.specs.declared.command.OrderWord.TheVariants.{Fixed, Label}
+use Rattle.dceidl_words.specs.declared.command.Task.{Task}
+use Rattle.dceidl_words.specs.declared.command.Task.TheVariants.{Read, Encode, Migrate}
 
 -- what a command on values speaks of: the files, an operation of their interface, and a side of it
 pub record Subject : Type 0 where
@@ -28,23 +29,10 @@ pub data Command : Type 0 where
   Compile : (idl : List ℕ) (acf : Option (List ℕ)) → Command
   -- the listing of its plan
   Plan : (idl : List ℕ) (acf : Option (List ℕ)) → Command
+  -- a graph of so many cells, made from a seed, is encoded and decoded
+  Sample : (seed count : ℕ) → Command
   Help : Command
   Version : Command
-
--- ## What a command asks for
-
--- the files that it asks for, if it asks for any
-abbrev pub asks_files : Command → Option FileNames
-asks_files (Values task of given) = Some (record { idl = of.idl; acf = of.acf })
-asks_files (Compile idl acf) = Some (record { idl = idl; acf = acf })
-asks_files (Plan idl acf) = Some (record { idl = idl; acf = acf })
-asks_files Help = None
-asks_files Version = None
-
--- whether it reads the input
-abbrev pub asks_input : Command → Bool
-asks_input (Values task of given) = true
-asks_input _ = false
 
 -- the file of IDL and the operation that the line of a refusal names
 abbrev pub idl_of : Command → List ℕ
@@ -57,9 +45,10 @@ abbrev pub op_of : Command → List ℕ
 op_of (Values task of given) = of.op
 op_of _ = []
 
--- the order of octets that a command names
+-- the order in which octets are written: after a format label it is little endian
 abbrev pub order_in : OrderWord → Order
 order_in (Fixed order) = order
+order_in Label = Little
 
 -- ## Words
 
@@ -75,7 +64,15 @@ acf_of word = if is_word word (codes "-") then None else Some word
 abbrev pub order_of : List ℕ → Option OrderWord
 order_of word =
     if is_word word (codes "little") then Some (Fixed Little)
-    else if is_word word (codes "big") then Some (Fixed Big) else None
+    else if is_word word (codes "big") then Some (Fixed Big)
+    else if is_word word (codes "label") then Some Label else None
+
+-- the way of reading octets that a word names
+abbrev pub reading_of : List ℕ → Option Reading
+reading_of word =
+    if is_word word (codes "decode") then Some Decode
+    else if is_word word (codes "explain") then Some Explain
+    else if is_word word (codes "drain") then Some Drain else None
 
 -- the side that a word names
 abbrev pub side_of : List ℕ → Option Side
@@ -83,26 +80,37 @@ side_of word =
     if is_word word (codes "in") then Some In
     else if is_word word (codes "out") then Some Out else None
 
--- the number of elements of a chunk whose digits are this word, if it is within its limit
-abbrev pub chunk_by : List ℕ → ℕ → Option ℕ
-chunk_by word n = if is_word word (decimal n) && nat_le 1 n && nat_le n CHUNK_LIMIT then Some n else None
+-- the number whose digits are this word, if it is within its limits
+abbrev pub number_by : ℕ → ℕ → List ℕ → ℕ → Option ℕ
+number_by least most word n = if is_word word (decimal n) && nat_le least n && nat_le n most then Some n else None
 
--- the number of elements of a chunk that a word names, in decimal digits without a sign or a leading zero
+-- the number that a word names, in decimal digits without a sign or a leading zero
+abbrev pub number_of : ℕ → ℕ → List ℕ → Option ℕ
+number_of least most word = number_by least most word (digits_value 10 word)
+
+-- the number of elements of a chunk that a word names
 abbrev pub chunk_of : List ℕ → Option ℕ
-chunk_of word = chunk_by word (digits_value 10 word)
+chunk_of word = number_of 1 CHUNK_LIMIT word
+
+-- the seed of a sample, and its number of cells
+abbrev pub seed_of : List ℕ → Option ℕ
+seed_of word = number_of 0 4294967295 word
+
+abbrev pub count_of : List ℕ → Option ℕ
+count_of word = number_of 1 COUNT_LIMIT word
 
 abbrev pub subject : List ℕ → List ℕ → List ℕ → Side → Subject
 subject idl acf op side = record { idl = idl; acf = acf_of acf; op = op; side = side }
 
--- `decode`, if its words are a side and an order
-abbrev pub decode : List ℕ → List ℕ → List ℕ → Option Side → Option OrderWord → Option Command
-decode idl acf op (Some side) (Some order) = Some (Values (Decode order) (subject idl acf op side) None)
-decode idl acf op _ _ = None
+-- a command that reads octets, if its words are a way of reading, a side and an order
+abbrev pub read : Option Reading → List ℕ → List ℕ → List ℕ → Option Side → Option OrderWord → Option Command
+read (Some how) idl acf op (Some side) (Some order) = Some (Values (Read how order) (subject idl acf op side) None)
+read how idl acf op side order = None
 
--- the same beside the request of a file, if its words are the side of the outputs and an order
-abbrev pub decode_beside : List ℕ → List ℕ → List ℕ → Option Side → Option OrderWord → List ℕ → Option Command
-decode_beside idl acf op (Some Out) (Some order) text = Some (Values (Decode order) (subject idl acf op Out) (Some text))
-decode_beside idl acf op _ _ text = None
+-- the same beside the request of a file, if its words are a way of reading, the side of the outputs and an order
+abbrev pub read_beside : Option Reading → List ℕ → List ℕ → List ℕ → Option Side → Option OrderWord → List ℕ → Option Command
+read_beside (Some how) idl acf op (Some Out) (Some order) text = Some (Values (Read how order) (subject idl acf op Out) (Some text))
+read_beside how idl acf op side order text = None
 
 -- `encode`, if its words are a side, an order and the number of elements of a chunk
 abbrev pub encode : List ℕ → List ℕ → List ℕ → Option Side → Option OrderWord → Option ℕ → Option Command
@@ -119,24 +127,34 @@ abbrev pub migrate : List ℕ → List ℕ → List ℕ → Option Side → Opti
 migrate idl acf op (Some side) = Some (Values Migrate (subject idl acf op side) None)
 migrate idl acf op None = None
 
--- The command that words are, if they are one: `compile IDL ACF`, `plan IDL ACF`, `migrate IDL ACF OP SIDE`, `decode IDL ACF OP SIDE ORDER`,
--- `decode IDL ACF OP out ORDER given TEXT`, `encode IDL ACF OP SIDE ORDER CHUNK`, `encode IDL ACF OP out ORDER CHUNK given TEXT`, `--help` or
--- `--version`.
+-- `compile` or `plan`
+abbrev pub listing : List ℕ → List ℕ → List ℕ → Option Command
+listing verb idl acf =
+    if is_word verb (codes "compile") then Some (Compile idl (acf_of acf))
+    else if is_word verb (codes "plan") then Some (Plan idl (acf_of acf)) else None
+
+-- `sample`, if its words are a seed and a count
+abbrev pub sample : Option ℕ → Option ℕ → Option Command
+sample (Some seed) (Some count) = Some (Sample seed count)
+sample _ _ = None
+
+-- The command that words are, if they are one: `compile IDL ACF`, `plan IDL ACF`, `sample SEED COUNT`, `migrate IDL ACF OP SIDE`,
+-- `decode IDL ACF OP SIDE ORDER`, `decode IDL ACF OP out ORDER given TEXT`, the same of `explain` and `drain`, `encode IDL ACF OP SIDE ORDER CHUNK`,
+-- `encode IDL ACF OP out ORDER CHUNK given TEXT`, `--help` or `--version`. No words are `sample 1 2`.
 abbrev pub command : List (List ℕ) → Option Command
+command [] = Some (Sample 1 2)
 command (word ∷ []) =
     if is_word word (codes "--help") then Some Help
     else if is_word word (codes "--version") then Some Version else None
-command (verb ∷ idl ∷ acf ∷ []) =
-    if is_word verb (codes "compile") then Some (Compile idl (acf_of acf))
-    else if is_word verb (codes "plan") then Some (Plan idl (acf_of acf)) else None
+command (verb ∷ first ∷ second ∷ []) =
+    if is_word verb (codes "sample") then sample (seed_of first) (count_of second) else listing verb first second
 command (verb ∷ idl ∷ acf ∷ op ∷ side ∷ []) =
     if is_word verb (codes "migrate") then migrate idl acf op (side_of side) else None
-command (verb ∷ idl ∷ acf ∷ op ∷ side ∷ order ∷ []) =
-    if is_word verb (codes "decode") then decode idl acf op (side_of side) (order_of order) else None
+command (how ∷ idl ∷ acf ∷ op ∷ side ∷ order ∷ []) = read (reading_of how) idl acf op (side_of side) (order_of order)
 command (verb ∷ idl ∷ acf ∷ op ∷ side ∷ order ∷ chunk ∷ []) =
     if is_word verb (codes "encode") then encode idl acf op (side_of side) (order_of order) (chunk_of chunk) else None
-command (verb ∷ idl ∷ acf ∷ op ∷ side ∷ order ∷ given ∷ text ∷ []) =
-    if is_word verb (codes "decode") && is_word given (codes "given") then decode_beside idl acf op (side_of side) (order_of order) text else None
+command (how ∷ idl ∷ acf ∷ op ∷ side ∷ order ∷ given ∷ text ∷ []) =
+    if is_word given (codes "given") then read_beside (reading_of how) idl acf op (side_of side) (order_of order) text else None
 command (verb ∷ idl ∷ acf ∷ op ∷ side ∷ order ∷ chunk ∷ given ∷ text ∷ []) =
     if is_word verb (codes "encode") && is_word given (codes "given") then encode_beside idl acf op (side_of side) (order_of order) (chunk_of chunk) text
     else None
