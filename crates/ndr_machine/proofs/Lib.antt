@@ -22,3 +22,4 @@ mod Reserving
 mod OneTurn
 mod RowTaken
 mod Handing
+mod Flowing

@@ -15,12 +15,14 @@ use Rattle.nd_value.specs.Tree as tree
 use Rattle.nd_value.specs.Tree.{Flat}
 use Rattle.nd_grammar.specs.declared.reason.Reason.{Reason}
 use Rattle.nd_grammar.specs.declared.reason.Reason.TheVariants as reason
+use Rattle.nd_grammar.specs.Entry.{gap}
 use Rattle.nd_grammar.specs.Reader.{identifier}
 use Rattle.ndr_code.specs.declared.instr.Instr.{Instr}
 use Rattle.ndr_code.specs.declared.lists.EnumList.{EnumList}
 use Rattle.nd_value.specs.declared.item.Home.{Home}
 use Rattle.ndr_steps.specs.StepItems.{step_items}
-use Rattle.ndr_state.specs.Seen.{Does}
+use Rattle.ndr_state.specs.declared.fault.Progress.{Progress}
+use Rattle.ndr_state.specs.Seen.{Comes, Does}
 use Rattle.ndr_state.specs.Notes.{Noted, NotesSeen}
 use Rattle.ndr_code.specs.declared.instr.Instr.TheVariants as op
 use Rattle.ndr_refs.specs.Known.{known}
@@ -53,6 +55,15 @@ reads (op.Tag of) = true
 reads (op.Pointer class to run) = true
 reads op.Context = true
 reads _ = false
+
+-- whether a step at a place reads and notes nothing: it begins or ends a struct or a run, or is a gap that is empty
+abbrev pub flows : Instr → ℕ → Bool
+flows op.Ret at = true
+flows (op.Record n) at = true
+flows op.Close at = true
+flows (op.Call run) at = true
+flows (op.Align n) at = eqb (gap at n) 0
+flows _ at = false
 
 abbrev pub actual_read : ℕ → ℕ → ℕ → ℕ → State → Outcome
 actual_read o c limit run s =
@@ -136,6 +147,10 @@ context_read order os s =
 -- what an instruction that reads nothing does, whatever the octets, their order and the values of enumerated types
 abbrev pub Acts : Instr → State → Result (Unit {0}) DecodeFault → State → Type 0
 Acts i s r t = (values : List EnumList) (order : Order) (os : List ℕ) → Does (step values order os i s) r t
+
+-- what a step that reads and notes nothing comes to
+abbrev pub FlowComes : Instr → State → Progress → State → Type 0
+FlowComes i s p t = (values : List EnumList) (order : Order) → Comes (step values order [] i s) (Ok p) t
 
 -- what it notes
 abbrev pub ActNoted : Home → Instr → State → NotesSeen → Result (Unit {0}) DecodeFault → Type 0

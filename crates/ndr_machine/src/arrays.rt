@@ -206,6 +206,7 @@ fn maximum<L: Ledger>(
 }
 
 // `align`
+#[inline(always)]
 pub(crate) fn align<L: Ledger>(
     machine: &mut Machine,
     octets: &[u8],

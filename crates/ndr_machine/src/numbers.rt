@@ -20,6 +20,7 @@ use ndr_prim::{read_context, width_of};
 use ndr_state::{DecodeFault, Machine, read_value};
 
 // `num`
+#[inline(always)]
 pub(crate) fn number<L: Ledger>(
     machine: &mut Machine,
     order: Order,
@@ -69,6 +70,7 @@ pub(crate) fn enumerated<L: Ledger>(
 }
 
 // A number of so many octets that is not refused.
+#[inline(always)]
 fn leaf<L: Ledger>(
     machine: &mut Machine,
     len: u32,

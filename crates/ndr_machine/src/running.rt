@@ -18,7 +18,7 @@ ghost use Rattle.ndr_machine.specs.Notes.{RowNoted};
 ghost use Rattle.ndr_machine.specs.Reaching.{Ends, Turns, Fetches, stream_answer};
 
 use crate::rows::{note_row, read_row, row_len};
-use crate::steps::{Want, take_step, wanted};
+use crate::steps::{Want, is_flow, take_flow, take_step, wanted};
 use nd_base::{Ledger, Order, STREAM_LIMIT, Source, Steps};
 use nd_grammar::Reason;
 use nd_types::{Prim, TypeId};
@@ -65,6 +65,7 @@ pub fn run<S: Source, L: Ledger>(
 }
 
 // One step; a row of numbers where there is one.
+#[inline(always)]
 fn take_turn<S: Source, L: Ledger>(
     machine: &mut Machine,
     order: Order,
@@ -83,6 +84,10 @@ fn take_turn<S: Source, L: Ledger>(
     ensures outside { OnOk result (outside machine.new ≡ outside machine.old) }
     ensures later { S.Source.faults source.old ≤ S.Source.faults source.new }
 {
+    if is_flow(machine, instr) {
+        let progress = take_flow(machine, instr)?;
+        return Ok(progress);
+    }
     let Instr::Num { of } = instr else {
         return take_one(
             machine, order, code, instr, values, intake, source, items, steps,
@@ -100,6 +105,7 @@ fn take_turn<S: Source, L: Ledger>(
 }
 
 // One step.
+#[inline(always)]
 fn take_one<S: Source, L: Ledger>(
     machine: &mut Machine,
     order: Order,
@@ -125,6 +131,7 @@ fn take_one<S: Source, L: Ledger>(
 }
 
 // Fetches the octets that a step wants.
+#[inline(always)]
 fn fetch<S: Source>(
     machine: &Machine,
     instr: Instr,
@@ -146,6 +153,7 @@ fn fetch<S: Source>(
 }
 
 // Octets are numbers below 256.
+#[inline(always)]
 fn are_octets(octets: &[u8])
     ensures { AreOctets octets.now }
 {}
@@ -217,6 +225,7 @@ fn note_whole<L: Ledger>(
 }
 
 /// What a fault of the intake says of a stream. Takes no memory.
+#[inline(always)]
 pub fn fetched(answer: Result<(), IntakeFault>) -> Result<(), DecodeFault>
     ensures { result ≡ stream_answer answer }
 {

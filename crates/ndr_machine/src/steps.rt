@@ -1,10 +1,10 @@
 // What each instruction does.
-ghost use Rattle.std.specs.Prelude.{◌≡◌, ◌≢◌, ◌<◌, ◌+◌, ◌^◌, true, false, [], length, OnOk};
+ghost use Rattle.std.specs.Prelude.{◌≡◌, ◌≢◌, ◌<◌, ◌+◌, ◌^◌, true, false, [], length, OnOk, IfOk};
 ghost use Rattle.ndr_code.specs.declared.instr.Instr.TheVariants as op;
 ghost use Rattle.ndr_steps.specs.Steps.{IsInner, step, wants, text_want, hoist_want, limit_of};
 ghost use Rattle.ndr_state.specs.Seen.{state_of, phase_of, Comes, Does, outside};
 ghost use Rattle.ndr_machine.specs.Wanting.{Wants, IsFewGap};
-ghost use Rattle.ndr_machine.specs.Parts.{HasWanted, arm_tried, reads, Acts, ActNoted};
+ghost use Rattle.ndr_machine.specs.Parts.{HasWanted, arm_tried, reads, flows, Acts, ActNoted, FlowComes};
 ghost use Rattle.ndr_steps.specs.StepItems.{arm_items, step_items};
 ghost use Rattle.ndr_state.specs.Notes.{Noted, notes_seen};
 
@@ -15,7 +15,7 @@ use crate::numbers::{context, enumerated, number};
 use crate::pointers::{To, pointer};
 use crate::texts::text;
 use crate::unions::{arm, tag};
-use nd_base::{Ledger, Order, Steps};
+use nd_base::{Ledger, Memory, Order, Steps};
 use nd_grammar::Reason;
 use nd_value::ItemLog;
 use ndr_code::{EnumLists, Instr};
@@ -30,6 +30,7 @@ pub enum Want {
 }
 
 /// The octets that an instruction wants next. Takes no memory.
+#[inline(always)]
 pub fn wanted(machine: &Machine, instr: Instr, values: &EnumLists) -> Want
     requires inner { IsInner instr }
     ensures wants { Wants (wants values.now instr (state_of machine.now)) result }
@@ -102,9 +103,59 @@ fn hoist_wanted(machine: &Machine) -> Want
     }
 }
 
+/// Whether the step reads and notes nothing: it begins or ends a struct or a run, or is a gap that is empty. Takes no memory.
+#[inline(always)]
+pub fn is_flow(machine: &Machine, instr: Instr) -> bool
+    ensures { result ≡ flows instr machine.now.at }
+{
+    match instr {
+        Instr::Ret | Instr::Record { members: _ } | Instr::Close | Instr::Call { run: _ } => true,
+        Instr::Align { to } => gap_before(machine.at, to) == 0,
+        _ => false,
+    }
+}
+
+/// What such a step does. It takes memory at the beginning of a struct and of a member, and out of memory is the only refusal; then nothing is known of the
+/// machine.
+#[inline(always)]
+pub fn take_flow(machine: &mut Machine, instr: Instr) -> Result<Progress, Memory>
+    requires flow { flows instr machine.old.at ≡ true }
+    requires code { machine.old.pc < 2 ^ 32 }
+    requires fits { machine.old.at + 8 < 2 ^ 32 }
+    requires few { machine.old.count + 1 < 2 ^ 32 }
+    ensures does { IfOk result (λ p. FlowComes instr (state_of machine.old) p (state_of machine.new)) }
+    ensures outside { OnOk result (outside machine.new ≡ outside machine.old) }
+{
+    match instr {
+        Instr::Ret => Ok(machine.ret()),
+        Instr::Call { run } => {
+            let Ok(()) = machine.call(run) else {
+                return Err(Memory);
+            };
+            Ok(Progress::More)
+        }
+        Instr::Record { members } => {
+            let Ok(()) = machine.record(members) else {
+                return Err(Memory);
+            };
+            Ok(Progress::More)
+        }
+        Instr::Close => {
+            machine.close();
+            Ok(Progress::More)
+        }
+        Instr::Align { to: _ } => {
+            machine.pass(0);
+            Ok(Progress::More)
+        }
+        _ => unreachable!(),
+    }
+}
+
 /// What an instruction of a home's value does with the octets that it wanted, all fetched. The item that they are is noted, if they are not
 /// refused; each item but a gap, and each cell that gets its number, is counted as a step. It takes memory for what was read; after `Memory` nothing
 /// is known of the machine.
+#[inline(always)]
 pub fn take_step<L: Ledger>(
     machine: &mut Machine,
     order: Order,
@@ -132,6 +183,7 @@ pub fn take_step<L: Ledger>(
 }
 
 // An instruction after which there is more.
+#[inline(always)]
 fn go_on<L: Ledger>(
     machine: &mut Machine,
     order: Order,
@@ -160,6 +212,7 @@ fn go_on<L: Ledger>(
 }
 
 // Whether an instruction reads octets.
+#[inline(always)]
 fn reads_octets(instr: Instr) -> bool
     ensures { result ≡ reads instr }
 {
@@ -183,6 +236,7 @@ fn reads_octets(instr: Instr) -> bool
 }
 
 // An instruction that reads octets.
+#[inline(always)]
 fn read_item<L: Ledger>(
     machine: &mut Machine,
     order: Order,
