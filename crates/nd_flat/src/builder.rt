@@ -137,6 +137,7 @@ impl Builder {
 
     /// Adds the next node of the open home. A number or tag must be from -2^64 to 2^64 - 1, and a text have fewer than 2^32 octets. It
     /// takes memory; out of memory is the only refusal.
+    #[inline(always)]
     pub fn add(&mut self, node: &Seen<'_>) -> Result<(), Memory>
         requires { IsKeepable (flat_seen node.now).0 }
         ensures ok { OnOk result (self.new ≡ with_node (flat_seen node.now) self.old) }

@@ -119,6 +119,7 @@ pub(crate) fn first_seen<'a>(node: &Node, octets: &'a [u8]) -> Seen<'a>
 }
 
 // A node as it is kept. The octets of a text are appended to those that are kept; where memory is refused nothing changes.
+#[inline(always)]
 pub(crate) fn kept_node(octets: &mut Octets, node: &Seen<'_>) -> Result<Node, Memory>
     requires small { IsKeepable (flat_seen node.now).0 }
     ensures octets { OnOk result (octets.new ≡ octets.old ++ text_of (flat_seen node.now).0) }
@@ -145,6 +146,7 @@ pub(crate) fn kept_node(octets: &mut Octets, node: &Seen<'_>) -> Result<Node, Me
     }
 }
 
+#[inline(always)]
 fn kept_pointer(cell: Option<CellId>) -> Node
     ensures within { (os : List ℕ) → HasOctets os result }
     ensures node { (os : List ℕ) → seen_nodes os result ≡ (tree.Ptr (cell_number cell), 0) ∷ [] }
@@ -155,6 +157,7 @@ fn kept_pointer(cell: Option<CellId>) -> Node
     }
 }
 
+#[inline(always)]
 fn kept_number(number: i128) -> Node
     requires small { IsKeepableNumber number }
     ensures within { (os : List ℕ) → HasOctets os result }

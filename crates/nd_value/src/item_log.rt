@@ -44,6 +44,7 @@ impl ItemLog {
 
     /// Notes the next item: a log that keeps items has it as its last, and each item but a gap is counted as one step. Want of
     /// memory is the only refusal; then neither the log nor the count has changed.
+    #[inline(always)]
     pub fn note<L: Ledger>(&mut self, item: Item, steps: &mut Steps<L>) -> Result<(), Memory>
         ensures ok { OnOk result (self.new ≡ noted item self.old) }
         ensures ticks { OnOk result (L.number steps.new ≡ L.number steps.old + ticks_of item.kind) }
@@ -78,6 +79,7 @@ impl ItemLog {
 }
 
 // Appends an item, where items are kept.
+#[inline(always)]
 fn keep(items: &mut Option<Vec<Item>>, item: Item) -> Result<(), Memory>
     ensures ok { OnOk result (log_seen items.new ≡ noted item (log_seen items.old)) }
     ensures err { OnErr result (log_seen items.new ≡ log_seen items.old) }
@@ -92,6 +94,7 @@ fn keep(items: &mut Option<Vec<Item>>, item: Item) -> Result<(), Memory>
 }
 
 // Counts an item, unless it is a gap.
+#[inline(always)]
 fn count<L: Ledger>(kind: ItemKind, steps: &mut Steps<L>)
     ensures { L.number steps.new ≡ L.number steps.old + ticks_of kind }
 {

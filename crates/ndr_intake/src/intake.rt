@@ -61,6 +61,7 @@ impl Intake {
     }
 
     /// The octets that it holds. Takes no memory.
+    #[inline(always)]
     pub fn octets(&self) -> &[u8]
         ensures { result.now ≡ self.now }
     {
@@ -72,6 +73,7 @@ impl Intake {
     /// No octet more is asked for than the gap has. At `Ok` all of them are held; else those that came, fewer than wanted. `Truncated` is answered only
     /// if the source has ended and has nothing left, `ReadFault` only if its count of faults rose, `Memory` only if there was none; then too nothing that
     /// was fetched is lost. It takes memory for the octets, a piece at a time, before each piece is fetched.
+    #[inline(always)]
     pub fn gap<S: Source>(&mut self, source: &mut S, at: u32, count: u32) -> Result<(), IntakeFault>
         requires small { at + count < 2 ^ 32 }
         ensures octets { Consumes (S.Source.left source.old) (S.Source.left source.new) self.new }
@@ -85,6 +87,7 @@ impl Intake {
 
     /// Fetches the octets of a primitive, which begins at a place of the stream, as `gap` does. `TooLong` is answered exactly if they would end
     /// past the limit of a stream, and before anything is fetched.
+    #[inline(always)]
     pub fn item<S: Source>(
         &mut self,
         source: &mut S,
@@ -108,6 +111,7 @@ impl Intake {
 }
 
 // Fetches so many octets, piece by piece.
+#[inline(always)]
 fn fetch<S: Source>(
     source: &mut S,
     piece: &mut [u8],
@@ -139,6 +143,7 @@ fn fetch<S: Source>(
 
 // Fetches some octets more, a piece and so many at most: none only if the source has ended.
 #[tactic(auto, using(crate::proofs::Taken::more_taken))]
+#[inline(always)]
 fn fetch_some<S: Source>(
     source: &mut S,
     piece: &mut [u8],

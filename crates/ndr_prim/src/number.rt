@@ -8,6 +8,7 @@ use nd_base::Order;
 use nd_types::Prim;
 
 /// How many octets a primitive has (C706 section 14.2). Takes no memory.
+#[inline(always)]
 pub fn width_of(prim: Prim) -> usize
     ensures value { result ≡ width prim }
     ensures some { 1 ≤ result }
@@ -34,6 +35,7 @@ fn patterns_of(prim: Prim) -> i128
 }
 
 /// The unsigned number that octets spell.
+#[inline(always)]
 fn read_unsigned(order: Order, from: &[u8]) -> u64
     requires some { 1 ≤ length from.now }
     requires most { length from.now ≤ 8 }
@@ -87,6 +89,7 @@ fn unsigned_of(prim: Prim, value: i128) -> u64
 
 /// The value that the octets of a primitive hold (C706 section 14.2): a signed one in two's complement, and any octet
 /// but zero as the boolean 1. The octets must be as many as the primitive has. Takes no memory.
+#[inline(always)]
 pub fn read_num(order: Order, prim: Prim, from: &[u8]) -> i128
     requires { length from.now ≡ width prim }
     ensures { result ≡ value_of_octets order prim from.now }

@@ -10,6 +10,7 @@ use ndr_steps::{Frame, Member};
 
 impl Machine {
     /// Goes past octets to the next instruction. Takes no memory.
+    #[inline(always)]
     pub fn pass(&mut self, len: u32)
         requires code { self.old.pc < 2 ^ 32 }
         requires few { self.old.at + len < 2 ^ 32 }
@@ -23,6 +24,7 @@ impl Machine {
     }
 
     /// Goes to an instruction. Takes no memory.
+    #[inline(always)]
     pub fn jump(&mut self, to: usize)
         ensures is { state_of self.new ≡ jumped to (state_of self.old) }
         ensures count { self.new.count ≡ self.old.count }
@@ -33,6 +35,7 @@ impl Machine {
     }
 
     /// Goes to the next instruction. Takes no memory.
+    #[inline(always)]
     pub fn skip(&mut self)
         requires code { self.old.pc < 2 ^ 32 }
         ensures is { state_of self.new ≡ next (state_of self.old) }
@@ -43,6 +46,7 @@ impl Machine {
     }
 
     /// Opens a frame around the value that is read next, which takes memory. Out of memory is the only refusal.
+    #[inline(always)]
     pub fn push(&mut self, frame: Frame) -> Result<(), DecodeFault>
         ensures ok { OnOk result (state_of self.new ≡ pushed frame (state_of self.old)) }
         ensures count { self.new.count ≡ self.old.count }
@@ -58,6 +62,7 @@ impl Machine {
     }
 
     /// Closes the innermost frame. Takes no memory.
+    #[inline(always)]
     pub fn pop(&mut self)
         ensures is { state_of self.new ≡ popped (state_of self.old) }
         ensures count { self.new.count ≡ self.old.count }
@@ -71,6 +76,7 @@ impl Machine {
 
     /// The instruction `record`: a struct of so many members begins. It takes memory, and out of memory is the only refusal; then nothing is known of
     /// the machine.
+    #[inline(always)]
     pub fn record(&mut self, members: u32) -> Result<(), DecodeFault>
         requires code { self.old.pc < 2 ^ 32 }
         requires few { self.old.count + 1 < 2 ^ 32 }
@@ -86,6 +92,7 @@ impl Machine {
 
     /// The instruction `call`: in a struct a run is that of the next member, else it takes the place of the one that is followed. It takes memory for a
     /// member, and out of memory is the only refusal; then nothing is known of the machine.
+    #[inline(always)]
     pub fn call(&mut self, run: u32) -> Result<(), DecodeFault>
         requires code { self.old.pc < 2 ^ 32 }
         ensures does { Does (goes (call_from self.old.top run (state_of self.old))) result (state_of self.new) }
@@ -106,6 +113,7 @@ impl Machine {
     }
 
     // A call of the next member of the struct whose members begin at `first`.
+    #[inline(always)]
     fn call_member(&mut self, first: usize, run: u32) -> Result<(), DecodeFault>
         requires code { self.old.pc < 2 ^ 32 }
         ensures does { Does (goes (member_called first run (state_of self.old))) result (state_of self.new) }
@@ -127,6 +135,7 @@ impl Machine {
     }
 
     /// The instruction `close`: a struct ends. Takes no memory.
+    #[inline(always)]
     pub fn close(&mut self)
         requires code { self.old.pc < 2 ^ 32 }
         ensures is { state_of self.new ≡ close_of self.old.top (state_of self.old) }
@@ -156,6 +165,7 @@ impl Machine {
     }
 
     // The end of what is no struct.
+    #[inline(always)]
     fn close_other(&mut self)
         requires code { self.old.pc < 2 ^ 32 }
         ensures is { state_of self.new ≡ next (popped (state_of self.old)) }
@@ -166,6 +176,7 @@ impl Machine {
     }
 
     /// The instruction `ret`: a value ends, and what is around it goes on. Takes no memory.
+    #[inline(always)]
     pub fn ret(&mut self) -> Progress
         ensures does { Comes (back_to self.old.top (state_of self.old)) (Ok result) (state_of self.new) }
         ensures outside { outside self.new ≡ outside self.old }
@@ -184,6 +195,7 @@ impl Machine {
     }
 
     // The next of the elements of which so many are left, or what comes after them.
+    #[inline(always)]
     fn next_element(&mut self, left: u32, run: u32, back: usize)
         ensures is { goes (state_of self.new) ≡ back_to (elements_frame left run back) (state_of self.old) }
         ensures outside { outside self.new ≡ outside self.old }

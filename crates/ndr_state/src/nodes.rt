@@ -12,6 +12,7 @@ use ndr_steps::{First, Frame};
 impl Machine {
     /// Adds a node. `place` is where its actual count or its tag is in the stream, if it has one. A number or tag must be from -2^64 to 2^64 - 1, and a
     /// text have fewer than 2^32 octets with its terminator. It takes memory, and out of memory is the only refusal; then nothing is known of the machine.
+    #[inline(always)]
     pub fn add(&mut self, node: &Seen<'_>, place: Option<u32>) -> Result<(), DecodeFault>
         requires keepable { IsKeepable (flat_seen node.now).0 }
         requires short { length (text_of (flat_seen node.now).0) + 1 < 2 ^ 32 }
@@ -28,6 +29,7 @@ impl Machine {
     }
 
     // Keeps what agreements find in the node that was added, if it is the first of the home or of a member.
+    #[inline(always)]
     fn keep_first(&mut self, first: First) -> Result<(), DecodeFault>
         requires small { IsSmall first }
         ensures ok { OnOk result (state_of self.new ≡ kept first (state_of self.old)) }
@@ -50,6 +52,7 @@ impl Machine {
     }
 
     // Keeps what agreements find in the first node of a member.
+    #[inline(always)]
     fn push_first(&mut self, first: First) -> Result<(), DecodeFault>
         requires small { IsSmall first }
         ensures ok { OnOk result (state_of self.new ≡ with_members (state_of self.old).members ((state_of self.old).firsts ++ first ∷ []) (state_of self.old)) }
@@ -70,6 +73,7 @@ ghost use Rattle.ndr_state.specs.Parts.{kept};
 ghost use Rattle.ndr_state.specs.Small.{IsSmall};
 
 // What agreements find in a node.
+#[inline(always)]
 fn first_seen(node: &Seen<'_>, place: Option<u32>) -> First
     requires keepable { IsKeepable (flat_seen node.now).0 }
     requires short { length (text_of (flat_seen node.now).0) + 1 < 2 ^ 32 }

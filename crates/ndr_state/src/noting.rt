@@ -13,6 +13,7 @@ use nd_value::{Item, ItemKind, ItemLog};
 impl Machine {
     /// Notes an item of the node that comes next, at the place where the machine is. It takes memory, if the log keeps items; then neither the log nor
     /// the count has changed. Out of memory is the only refusal.
+    #[inline(always)]
     pub fn note<L: Ledger>(
         &self,
         kind: ItemKind,
@@ -40,6 +41,7 @@ impl Machine {
     }
 
     /// Notes the gap of these octets as `note` does, as an item of the home as a whole; an empty gap is no item. A gap has fewer than 2^32 octets.
+    #[inline(always)]
     pub fn note_gap<L: Ledger>(
         &self,
         octets: &[u8],

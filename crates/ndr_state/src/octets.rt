@@ -12,6 +12,7 @@ use nd_types::Prim;
 use ndr_prim::read_num;
 
 /// The value that the octets of a primitive hold: a node can keep it. Takes no memory.
+#[inline(always)]
 pub fn read_value(order: Order, prim: Prim, octets: &[u8]) -> i128
     requires wide { length octets.now ≡ width prim }
     ensures value { result ≡ value_of_octets order prim octets.now }
@@ -21,6 +22,7 @@ pub fn read_value(order: Order, prim: Prim, octets: &[u8]) -> i128
 }
 
 /// The unsigned number in four octets. Takes no memory.
+#[inline(always)]
 pub fn read_count(order: Order, from: &[u8]) -> u32
     requires { length from.now ≡ 4 }
     ensures { result ≡ unsigned order from.now }
@@ -32,6 +34,7 @@ pub fn read_count(order: Order, from: &[u8]) -> u32
 }
 
 /// How many octets a gap to the next multiple of a number has: none where the number is 0, which is the alignment of no type. Takes no memory.
+#[inline(always)]
 pub fn gap_before(at: u32, to: u8) -> u32
     ensures is { result ≡ gap at to }
     ensures few { result < 256 }
@@ -44,6 +47,7 @@ pub fn gap_before(at: u32, to: u8) -> u32
 }
 
 /// The primitive of a type's number. Takes no memory.
+#[inline(always)]
 pub fn prim_of(of: u32) -> Prim
     ensures { result ≡ primitive_of of }
 {
