@@ -1,4 +1,5 @@
 pub mod RowSteps
+pub mod RecordSteps
 pub mod Joining
 pub mod GoodRuns
 pub mod PaidSteps

@@ -28,6 +28,8 @@ ghost use Rattle.ndr_runs.specs.Paid.{IsPaid};
 ghost use Rattle.ndr_runs.specs.Reaching.{IsSafe, Reaches};
 ghost use Rattle.ndr_runs.specs.Refusals.{IsRefusedHere, IsShort};
 ghost use Rattle.ndr_runs.specs.Rows.{IsInRow, row_read, row_passed, row_items};
+ghost use Rattle.ndr_runs.specs.Records.{Slot, IsRecordRun, records_len, record_flats, record_items, records_read};
+ghost use Rattle.ndr_steps.specs.declared.frame.Frame.TheVariants.{Elements};
 
 /// A row of numbers is so many steps: at the `num` of an array's element, where so many more elements are left and none of them has a gap, the state after
 /// the row is reached by steps, over the octets of the row, and their items are those of its numbers.
@@ -44,6 +46,16 @@ pub fn rows_go_on()
         → Reaches values order code h s0 fetched noted s → slice_get code s.pc ≡ Some (Num of) → prim_of of.0 ≡ p → IsInRow code (suc n) s.pc p s.top
         → AreOctets os → length os ≡ suc n * width p → s.at % width p ≡ 0 → s.at + length os ≤ STREAM_LIMIT
         → Reaches values order code h s0 (fetched ++ os) (noted ++ row_items order p h s.at (length s.nodes) (suc n) os) (row_passed order p (suc n) os s) }
+{}
+
+/// Elements of an array that are structs of numbers are so many steps, from the `record` of the first to the `close` of the last: the state after them is
+/// reached by steps, over the octets of their numbers and of the gaps before these, and their items are those of the gaps and numbers.
+pub fn records_are_steps()
+    ensures { (values : List EnumList) (order : Order) (code : List Instr) (h : Home) (s0 : State) (n more run back to : ℕ) (fs : List Slot) (s : State) (fetched os : List ℕ) (noted : List Item)
+        → Reaches values order code h s0 fetched noted s → s.top ≡ Elements (n + more) run back → IsRecordRun code run s.pc to fs → length s.firsts ≡ length s.members
+        → AreOctets os → length os ≡ records_len s.at to fs n → s.at + length os ≤ STREAM_LIMIT
+        → Reaches values order code h s0 (fetched ++ os) (noted ++ record_items order h s.at (length s.nodes) to fs n os)
+        (records_read (s.pc + 1 + length fs + 1) (s.at + length os) (record_flats order s.at to fs n os) (Elements more run back) s) }
 {}
 
 /// From a state that means something to the plain reader each state that is reached does, after the octets and the items of its steps. What pays for the
