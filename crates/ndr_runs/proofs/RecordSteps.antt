@@ -1,6 +1,6 @@
 -- A struct of numbers by its steps: its `record`, of each member the call, the gap, the number and the `ret`, and its `close`.
 -- `b` is the state before, `base` where its members begin, `ms` are the members so far and `xs` what is kept of them.
-use Rattle.std.proofs.Common.{◌≡◌, ◌≤◌, ◌×◌, ◌⊎◌, inl, inr, ℕ, ◌+◌, zero, suc, List, [], ◌∷◌, ◌++◌, length, Option, Some, None, refl, ap, ap₂, sym, ◌∙◌, subst, arith, append_assoc, length-append}
+use Rattle.std.proofs.Common.{◌≡◌, ◌≤◌, ◌⊎◌, inl, inr, ℕ, ◌+◌, zero, suc, List, [], ◌∷◌, ◌++◌, length, Option, Some, None, refl, ap, ap₂, sym, ◌∙◌, subst, arith, append_assoc, length-append}
 use Rattle.std.specs.Prelude.{ℤ, take, drop, slice_get}
 use Rattle.std.proofs.lemmas.List.{append-nil}
 use Rattle.nd_base.specs.declared.octets.Order.{Order}
@@ -97,15 +97,15 @@ module _ (values : List EnumList) (order : Order) (code : List Instr) (h : Home)
     run_comes : (run at back : ℕ) (nodes : List Flat) (ms : List Member) (xs : List First) (f : Slot) (fetched gs os : List ℕ) (noted : List Item)
         → Comes fetched noted (within run at back nodes ms xs) → IsSlotRun code run f → AreOctets gs → AreOctets os → length gs ≡ gap at f.to → length os ≡ width f.prim
         → at + gap at f.to + width f.prim ≤ STREAM_LIMIT
-        → Comes (fetched ++ gs ++ os) (noted ++ gap_items h at gs ++ item_here h (at + gap at f.to) item.Num (width f.prim) (value_of_octets order f.prim os) (length nodes) ∷ [])
+        → Comes (fetched ++ (gs ++ os)) (noted ++ (gap_items h at gs ++ item_here h (at + gap at f.to) item.Num (width f.prim) (value_of_octets order f.prim os) (length nodes) ∷ []))
         (within back (at + gap at f.to + width f.prim) back (nodes ++ (tree.Num (value_of_octets order f.prim os), 0) ∷ []) ms (xs ++ first.Number (value_of_octets order f.prim os) ∷ []))
     run_comes run at back nodes ms xs f fetched gs os noted r (inl (one, number)) gap_octets octets gap_size size short =
         let none : gap at f.to ≡ 0 = let z : gap at 1 ≡ 0 = omega arith in ap (gap at) one ∙ z in
         let empty : gs ≡ [] = no_octets_at gs (gap_size ∙ none) in
         let place : at ≡ at + gap at f.to = omega (arith, none) in
         let z : ℤ = value_of_octets order f.prim os in
-        same (ap (λ l. fetched ++ l ++ os) (sym empty))
-        (ap₂ (λ l k. noted ++ gap_items h at l ++ item_here h k item.Num (width f.prim) z (length nodes) ∷ []) (sym empty) place)
+        same (ap (λ l. fetched ++ (l ++ os)) (sym empty))
+        (ap₂ (λ l k. noted ++ (gap_items h at l ++ item_here h k item.Num (width f.prim) z (length nodes) ∷ [])) (sym empty) place)
         (ap (λ k. within back (k + width f.prim) back (nodes ++ (tree.Num z, 0) ∷ []) ms (xs ++ first.Number z ∷ [])) place)
         (number_comes run at back nodes ms xs f.prim fetched os noted r number octets size (subst (λ k. k + width f.prim ≤ STREAM_LIMIT) (sym place) short))
     run_comes run at back nodes ms xs f fetched gs os noted r (inr (aligned, number)) gap_octets octets gap_size size short =
@@ -167,16 +167,16 @@ module _ (values : List EnumList) (order : Order) (code : List Instr) (h : Home)
         let read =
         run_comes run at (pc + 1) nodes (ms ++ m ∷ []) xs f fetched gs here noted called is_run (take_octets (gap at f.to) os octets)
         (take_octets (width f.prim) left (drop_octets (gap at f.to) os octets)) gap_size here_size (omega (arith, left_size, rest_size, short)) in
-        let others : Members (pc + 1) (at + gap at f.to + width f.prim) (nodes ++ x ∷ []) (ms ++ m ∷ []) (xs ++ first.Number z ∷ []) fs (fetched ++ gs ++ here) rest (noted ++ gap_items h at gs ++ one ∷ []) =
-        members_come fs (pc + 1) (at + gap at f.to + width f.prim) (pc + 1) (nodes ++ x ∷ []) (ms ++ m ∷ []) (xs ++ first.Number z ∷ []) (fetched ++ gs ++ here) rest
-        (noted ++ gap_items h at gs ++ one ∷ []) read slots (drop_octets (width f.prim) left (drop_octets (gap at f.to) os octets)) whole_rest (omega (arith, left_size, rest_size, short)) in
+        let others : Members (pc + 1) (at + gap at f.to + width f.prim) (nodes ++ x ∷ []) (ms ++ m ∷ []) (xs ++ first.Number z ∷ []) fs (fetched ++ (gs ++ here)) rest (noted ++ (gap_items h at gs ++ one ∷ [])) =
+        members_come fs (pc + 1) (at + gap at f.to + width f.prim) (pc + 1) (nodes ++ x ∷ []) (ms ++ m ∷ []) (xs ++ first.Number z ∷ []) (fetched ++ (gs ++ here)) rest
+        (noted ++ (gap_items h at gs ++ one ∷ [])) read slots (drop_octets (width f.prim) left (drop_octets (gap at f.to) os octets)) whole_rest (omega (arith, left_size, rest_size, short)) in
         let more_items : List Item = slot_items order h (at + gap at f.to + width f.prim) (length nodes + 1) fs rest in
         let more_nodes : length (nodes ++ x ∷ []) ≡ length nodes + 1 = length-append nodes (x ∷ []) in
-        let octets_are : (fetched ++ gs ++ here) ++ rest ≡ fetched ++ os =
+        let octets_are : (fetched ++ (gs ++ here)) ++ rest ≡ fetched ++ os =
         append_assoc fetched (gs ++ here) rest ∙ ap (λ l. fetched ++ l) (append_assoc gs here rest ∙ ap (λ l. gs ++ l) (taken_and_left (width f.prim) left) ∙ taken_and_left (gap at f.to) os) in
-        let items_are : (noted ++ gap_items h at gs ++ one ∷ []) ++ slot_items order h (at + gap at f.to + width f.prim) (length (nodes ++ x ∷ [])) fs rest
-        ≡ noted ++ gap_items h at gs ++ one ∷ more_items =
-        ap (λ k. (noted ++ gap_items h at gs ++ one ∷ []) ++ slot_items order h (at + gap at f.to + width f.prim) k fs rest) more_nodes
+        let items_are : (noted ++ (gap_items h at gs ++ one ∷ [])) ++ slot_items order h (at + gap at f.to + width f.prim) (length (nodes ++ x ∷ [])) fs rest
+        ≡ noted ++ (gap_items h at gs ++ one ∷ more_items) =
+        ap (λ k. (noted ++ (gap_items h at gs ++ one ∷ [])) ++ slot_items order h (at + gap at f.to + width f.prim) k fs rest) more_nodes
         ∙ append_assoc noted (gap_items h at gs ++ one ∷ []) more_items ∙ ap (λ l. noted ++ l) (append_assoc (gap_items h at gs) (one ∷ []) more_items) in
         let pc_is : pc + 1 + length fs ≡ pc + length (f ∷ fs) = omega arith in
         let at_is : at + gap at f.to + width f.prim + length rest ≡ at + length os = omega (arith, left_size, rest_size) in
@@ -341,7 +341,7 @@ module _ (values : List EnumList) (order : Order) (code : List Instr) (h : Home)
       ∙ ap (λ l. fetched ++ l) (ap (λ l. here ++ l) (taken_and_left (gap end to) left) ∙ taken_and_left (slots_len s.at fs) os) in
       let last_items : List Item = record_items order h (end + gap end to) (length s.nodes + 1 + length fs) to fs n rest in
       let items_are : ((noted ++ first_items) ++ gap_items h end gs) ++ record_items order h (end + gap end to) (length (s.nodes ++ xs)) to fs n rest
-      ≡ noted ++ first_items ++ gap_items h end gs ++ last_items =
+      ≡ noted ++ (first_items ++ (gap_items h end gs ++ last_items)) =
       ap (λ k. ((noted ++ first_items) ++ gap_items h end gs) ++ record_items order h (end + gap end to) k to fs n rest) nodes_is
       ∙ append_assoc (noted ++ first_items) (gap_items h end gs) last_items ∙ append_assoc noted first_items (gap_items h end gs ++ last_items) in
       let at_is : (end + gap end to) + length rest ≡ s.at + length os = omega (arith, rest_size, left_size) in

@@ -30,19 +30,19 @@ use Rattle.ndr_runs.specs.Rows.{with_row, with_fewer, row_read, row_passed, row_
 
 -- ## Octets
 
-length_taken : (n : ℕ) (os : List ℕ) → n ≤ length os → length (take n os) ≡ n
+pub length_taken : (n : ℕ) (os : List ℕ) → n ≤ length os → length (take n os) ≡ n
 length_taken zero [] e = refl
 length_taken zero (o ∷ os) e = refl
 length_taken (suc n) [] e = absurd (omega (arith, e))
 length_taken (suc n) (o ∷ os) e = ap suc (length_taken n os (omega (arith, e)))
 
-length_left : (n : ℕ) (os : List ℕ) → n ≤ length os → n + length (drop n os) ≡ length os
+pub length_left : (n : ℕ) (os : List ℕ) → n ≤ length os → n + length (drop n os) ≡ length os
 length_left zero [] e = refl
 length_left zero (o ∷ os) e = omega arith
 length_left (suc n) [] e = absurd (omega (arith, e))
 length_left (suc n) (o ∷ os) e = let h : n + length (drop n os) ≡ length os = length_left n os (omega (arith, e)) in omega (arith, h)
 
-taken_and_left : (n : ℕ) (os : List ℕ) → take n os ++ drop n os ≡ os
+pub taken_and_left : (n : ℕ) (os : List ℕ) → take n os ++ drop n os ≡ os
 taken_and_left zero [] = refl
 taken_and_left zero (o ∷ os) = refl
 taken_and_left (suc n) [] = refl

@@ -1,6 +1,6 @@
 -- Structs of numbers, read in one go.
 -- `code` is that of a plan, `pc` an address, `at` a place, `node` how many nodes came before, `fs` are the members of a struct, `os` octets.
-use Rattle.std.specs.Prelude.{◌≡◌, ◌≤◌, ◌×◌, ◌⊎◌, ℕ, ◌+◌, zero, suc, List, [], ◌∷◌, ◌++◌, length, take, drop, slice_get, Option, Some}
+use Rattle.std.specs.Prelude.{◌≡◌, ◌≤◌, ◌⊎◌, ℕ, ◌+◌, zero, suc, List, [], ◌∷◌, ◌++◌, length, take, drop, slice_get, Option, Some}
 use Rattle.nd_base.specs.declared.octets.Order.{Order}
 use Rattle.nd_types.specs.declared.types.Primitive.{Primitive}
 use Rattle.nd_types.specs.declared.types.TypeId.{TypeId}
@@ -109,8 +109,8 @@ abbrev pub record_items : Order → Home → ℕ → ℕ → ℕ → List Slot �
 record_items order h at node to fs zero os = slot_items order h at (node + 1) fs os
 record_items order h at node to fs (suc n) os =
     slot_items order h at (node + 1) fs (take (slots_len at fs) os)
-    ++ gap_items h (at + slots_len at fs) (take (gap (at + slots_len at fs) to) (drop (slots_len at fs) os))
-    ++ record_items order h (next_place at to fs) (node + 1 + length fs) to fs n (after_record at to fs os)
+    ++ (gap_items h (at + slots_len at fs) (take (gap (at + slots_len at fs) to) (drop (slots_len at fs) os))
+    ++ record_items order h (next_place at to fs) (node + 1 + length fs) to fs n (after_record at to fs os))
 
 -- ## The state
 
