@@ -8,9 +8,6 @@ use Rattle.ndr_machine.proofs.Taking.{address_fits, count_fits}
 use Rattle.ndr_machine.proofs.Flowing.{flow_stopped, flow_taken}
 use Rattle.ndr_machine.proofs.running.take_turn.Goals as goal
 
-pub take_flow-requires-clause-code : goal.take_flow-requires-clause-code
-take_flow-requires-clause-code g c = address_fits c.args.code.now c.args.machine.now.pc c.args.instr c.requires.here c.requires.short
-
 pub take_flow-requires-clause-few : goal.take_flow-requires-clause-few
 take_flow-requires-clause-few g c =
     let m = c.args.machine.now in
@@ -34,3 +31,6 @@ returns-then-is_flow-clause-turns g c =
     flow_taken c.args.values.now c.args.order c.args.code.now m.home m (source_seen g.S.Source.left g.S.Source.ended g.S.Source.faults c.args.source.now c.args.source.now) c.args.instr
     c.requires.here (Consumes-nil (g.S.Source.left c.args.source.now)) c.args.items.now (g.L.Ledger.number c.args.steps.now) c.take_flow.new.machine
     c.in_ok-progress.progress c.if-is_flow.true c.requires.safe c.in_ok-progress.ensures.does
+
+pub row_len-count-requires : goal.row_len-count-requires
+row_len-count-requires g c = record { code = address_fits c.args.code.now c.args.machine.now.pc c.args.instr c.requires.here c.requires.short }
