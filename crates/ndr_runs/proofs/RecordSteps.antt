@@ -1,7 +1,8 @@
 -- A struct of numbers by its steps: its `record`, of each member the call, the gap, the number and the `ret`, and its `close`.
 -- `b` is the state before, `base` where its members begin, `ms` are the members so far and `xs` what is kept of them.
-use Rattle.std.proofs.Common.{◌≡◌, ◌≤◌, ◌⊎◌, inl, inr, ℕ, ◌+◌, zero, suc, List, [], ◌∷◌, ◌++◌, length, Option, Some, None, refl, ap, ap₂, sym, ◌∙◌, subst, arith, append_assoc, length-append}
-use Rattle.std.specs.Prelude.{ℤ, take, drop, slice_get}
+use Rattle.std.proofs.Common.{◌≡◌, ◌≤◌, ◌<◌, ◌⊎◌, inl, inr, ℕ, ◌+◌, zero, suc, List, [], ◌∷◌, ◌++◌, length, Option, Some, None, refl, ap, ap₂, sym, ◌∙◌, subst, arith, append_assoc, length-append}
+use Rattle.std.specs.Prelude.{ℤ, Bool, true, false, ltb, if◌then◌else◌, take, drop, slice_get}
+use Rattle.std.proofs.lemmas.Bool.{ltb-true, ltb-false, le-ltb}
 use Rattle.std.proofs.lemmas.List.{append-nil}
 use Rattle.nd_base.specs.declared.octets.Order.{Order}
 use Rattle.nd_base.specs.declared.TheConstants.{STREAM_LIMIT}
@@ -27,7 +28,7 @@ use Rattle.ndr_steps.specs.declared.frame.Frame.TheVariants as frame
 use Rattle.ndr_steps.specs.Steps.{State, begun, goes, number_step, prim_of, own_by, firsts_by, first_of}
 use Rattle.ndr_steps.specs.StepItems.{gap_items, item_here, step_items}
 use Rattle.ndr_runs.specs.Reaching.{Reaches, begins, steps_to}
-use Rattle.ndr_runs.specs.Records.{Slot, IsNumberAt, IsSlotRun, AreSlots, IsNumberRecord, IsAmongElements, slots_len, slot_octets, after_slot, slot_flats, slot_items, record_read, records_read, IsRecordRun, next_place, after_record, records_len, record_flats, record_items}
+use Rattle.ndr_runs.specs.Records.{Slot, IsNumberAt, IsSlotRun, AreSlots, IsNumberRecord, IsAmongElements, slots_len, slot_octets, after_slot, slot_flats, slot_items, record_read, records_read, IsRecordRun, next_place, after_record, records_len, record_flats, record_items, EndsWithin, slots_came, records_came}
 use Rattle.ndr_runs.proofs.RowSteps.{length_taken, length_left, taken_and_left}
 
 no_octets_at : (os : List ℕ) → length os ≡ 0 → os ≡ []
@@ -42,6 +43,13 @@ front_taken zero (x ∷ xs) ys e = absurd (omega (arith, e))
 front_taken (suc n) [] ys e = absurd (omega (arith, e))
 front_taken (suc n) (x ∷ xs) ys e = ap (λ l. x ∷ l) (front_taken n xs ys (omega (arith, e)))
 
+-- the whole of a list that is no longer
+all_in : (n : ℕ) (os : List ℕ) → length os ≤ n → take n os ≡ os
+all_in zero [] e = refl
+all_in zero (o ∷ os) e = absurd (omega (arith, e))
+all_in (suc n) [] e = refl
+all_in (suc n) (o ∷ os) e = ap (λ l. o ∷ l) (all_in n os (omega (arith, e)))
+
 as_many_in : (order : Order) (fs : List Slot) (at : ℕ) (os : List ℕ) → length (slot_flats order at fs os) ≡ length fs
 as_many_in order [] at os = refl
 as_many_in order (f ∷ fs) at os = ap suc (as_many_in order fs (at + gap at f.to + width f.prim) (after_slot at f os))
@@ -52,6 +60,28 @@ module _ (values : List EnumList) (order : Order) (code : List Instr) (h : Home)
 
   same : {a b : List ℕ} {c d : List Item} {x y : State} → a ≡ b → c ≡ d → x ≡ y → Comes a c x → Comes b d y
   same {a = a} {b = b} {c = c} {d = d} {x = x} {y = y} e f g r = subst (λ z. Comes b d z) g (subst (λ z. Comes b z x) f (subst (λ z. Comes z c x) e r))
+
+  abbrev Cut : ℕ → List ℕ → List ℕ → List ℕ → List Item → List Item → Type 0
+  Cut at cells fetched os noted items = EndsWithin values order code h s0 at cells fetched os noted items
+
+  -- the octets `gs` were taken before, with the items `mine`
+  cut_after : (at place : ℕ) (cells fetched gs left os : List ℕ) (noted mine more items : List Item) → Cut place cells (fetched ++ gs) left (noted ++ mine) more
+      → gs ++ left ≡ os → mine ++ more ≡ items → place ≡ at + length gs → Cut at cells fetched os noted items
+  cut_after at place cells fetched gs left os noted mine more items c e f place_is =
+      let sizes : length os ≡ length gs + length left = ap length (sym e) ∙ length-append gs left in
+      let p : c.last.at + length c.rest ≡ place + length left = c.place in
+      record {
+        taken = c.taken;
+        rest = c.rest;
+        last = c.last;
+        i = c.i;
+        octets = c.octets ∙ append_assoc fetched gs left ∙ ap (λ l. fetched ++ l) e;
+        reached = same refl (append_assoc noted mine more ∙ ap (λ l. noted ++ l) f) refl c.reached;
+        there = c.there;
+        cut = c.cut;
+        place = omega (arith, sizes, p, place_is);
+        same_cells = c.same_cells;
+      }
 
   module _ (b : State) (base : ℕ) (stack : List Frame) where
     -- within a struct: at this address and place, coming back to `back`
@@ -194,6 +224,127 @@ module _ (values : List EnumList) (order : Order) (code : List Instr) (h : Home)
               ∙ ap (λ l. within (pc + length (f ∷ fs)) (at + length os) others.back (nodes ++ slot_flats order at (f ∷ fs) os) (ms ++ m ∷ others.more_members) l)
               (append_assoc xs (first.Number z ∷ []) others.more_firsts)) others.reached;
         }
+
+    -- the octets end within a member's gap
+    gap_cut : (run at back : ℕ) (nodes : List Flat) (ms : List Member) (xs : List First) (f : Slot) (fetched os : List ℕ) (noted : List Item)
+        → Comes fetched noted (within run at back nodes ms xs) → IsSlotRun code run f → length os < gap at f.to → Cut at b.cells fetched os noted []
+    gap_cut run at back nodes ms xs f fetched os noted r (inl (one, number)) few =
+        let none : gap at f.to ≡ 0 = let z : gap at 1 ≡ 0 = omega arith in ap (gap at) one ∙ z in
+        absurd (omega (arith, few, none))
+    gap_cut run at back nodes ms xs f fetched os noted r (inr (aligned, number)) few =
+        record {
+          taken = fetched;
+          rest = os;
+          last = within run at back nodes ms xs;
+          i = op.Align f.to;
+          octets = refl;
+          reached = same refl (sym (append-nil noted)) refl r;
+          there = aligned;
+          cut = few;
+          place = refl;
+          same_cells = refl;
+        }
+
+    -- they end within a number
+    number_cut : (pc at back : ℕ) (nodes : List Flat) (ms : List Member) (xs : List First) (p : Primitive) (fetched os : List ℕ) (noted : List Item)
+        → Comes fetched noted (within pc at back nodes ms xs) → IsNumberAt code pc p → length os < width p → at + width p ≤ STREAM_LIMIT → Cut at b.cells fetched os noted []
+    number_cut pc at back nodes ms xs p fetched os noted r (of, (at_pc, (is, ends))) few short =
+        record {
+          taken = fetched;
+          rest = os;
+          last = within pc at back nodes ms xs;
+          i = op.Num of;
+          octets = refl;
+          reached = same refl (sym (append-nil noted)) refl r;
+          there = at_pc;
+          cut = (subst (λ q. length os < width q) (sym is) few, subst (λ q. at + width q ≤ STREAM_LIMIT) (sym is) short);
+          place = refl;
+          same_cells = refl;
+        }
+
+    -- they end within the number of a member, after its gap
+    run_cut : (run at back : ℕ) (nodes : List Flat) (ms : List Member) (xs : List First) (f : Slot) (fetched gs left : List ℕ) (noted : List Item)
+        → Comes fetched noted (within run at back nodes ms xs) → IsSlotRun code run f → AreOctets gs → length gs ≡ gap at f.to → length left < width f.prim
+        → at + gap at f.to + width f.prim ≤ STREAM_LIMIT → Cut at b.cells fetched (gs ++ left) noted (gap_items h at gs)
+    run_cut run at back nodes ms xs f fetched gs left noted r (inl (one, number)) octets size few short =
+        let none : gap at f.to ≡ 0 = let z : gap at 1 ≡ 0 = omega arith in ap (gap at) one ∙ z in
+        let empty : gs ≡ [] = no_octets_at gs (size ∙ none) in
+        subst (λ l. Cut at b.cells fetched (l ++ left) noted (gap_items h at l)) (sym empty)
+        (number_cut run at back nodes ms xs f.prim fetched left noted r number few (omega (arith, none, short)))
+    run_cut run at back nodes ms xs f fetched gs left noted r (inr (aligned, number)) octets size few short =
+        let s : State = within run at back nodes ms xs in
+        let n : State = within (run + 1) (at + gap at f.to) back nodes ms xs in
+        let passed : Comes (fetched ++ gs) (noted ++ gap_items h at gs) n =
+        same refl refl (ap (λ k. within (run + 1) (at + k) back nodes ms xs) size)
+        (steps_to fetched gs noted s (within (run + 1) (at + length gs) back nodes ms xs) (op.Align f.to) r aligned size octets refl) in
+        cut_after at (at + gap at f.to) b.cells fetched gs left (gs ++ left) noted (gap_items h at gs) [] (gap_items h at gs)
+        (number_cut (run + 1) (at + gap at f.to) back nodes ms xs f.prim (fetched ++ gs) left (noted ++ gap_items h at gs) passed number few short)
+        refl (append-nil (gap_items h at gs)) (ap (λ k. at + k) (sym size))
+
+    -- a member within which the octets end, or after which others do
+    member_cut : (run at back : ℕ) (nodes : List Flat) (ms : List Member) (xs : List First) (f : Slot) (fetched os : List ℕ) (noted more : List Item)
+        → Comes fetched noted (within run at back nodes ms xs) → IsSlotRun code run f → AreOctets os → at + gap at f.to + width f.prim ≤ STREAM_LIMIT
+        → (gap at f.to + width f.prim ≤ length os → Cut at b.cells fetched os noted (gap_items h at (take (gap at f.to) os) ++ more))
+        → (d e : Bool) → ltb (length os) (gap at f.to) ≡ d → ltb (length os) (gap at f.to + width f.prim) ≡ e
+        → Cut at b.cells fetched os noted (if d then [] else gap_items h at (take (gap at f.to) os) ++ (if e then [] else more))
+    member_cut run at back nodes ms xs f fetched os noted more r is octets short others true e no_gap no_number =
+        gap_cut run at back nodes ms xs f fetched os noted r is (ltb-true (length os) (gap at f.to) no_gap)
+    member_cut run at back nodes ms xs f fetched os noted more r is octets short others false true a_gap no_number =
+        let gs : List ℕ = take (gap at f.to) os in
+        let left : List ℕ = drop (gap at f.to) os in
+        let enough : gap at f.to ≤ length os = ltb-false (length os) (gap at f.to) a_gap in
+        let few : length os < gap at f.to + width f.prim = ltb-true (length os) (gap at f.to + width f.prim) no_number in
+        let left_size : gap at f.to + length left ≡ length os = length_left (gap at f.to) os enough in
+        let it : Cut at b.cells fetched (gs ++ left) noted (gap_items h at gs) =
+        run_cut run at back nodes ms xs f fetched gs left noted r is (take_octets (gap at f.to) os octets) (length_taken (gap at f.to) os enough) (omega (arith, few, left_size)) short in
+        subst (λ l. Cut at b.cells fetched os noted l) (sym (append-nil (gap_items h at gs)))
+        (subst (λ l. Cut at b.cells fetched l noted (gap_items h at gs)) (taken_and_left (gap at f.to) os) it)
+    member_cut run at back nodes ms xs f fetched os noted more r is octets short others false false a_gap a_number =
+        others (ltb-false (length os) (gap at f.to + width f.prim) a_number)
+
+    members_cut : (fs : List Slot) (pc at back : ℕ) (nodes : List Flat) (ms : List Member) (xs : List First) (fetched os : List ℕ) (noted : List Item)
+        → Comes fetched noted (within pc at back nodes ms xs) → AreSlots code pc fs → AreOctets os → length os < slots_len at fs → at + slots_len at fs ≤ STREAM_LIMIT
+        → Cut at b.cells fetched os noted (slots_came order h at (length nodes) fs os)
+    members_cut [] pc at back nodes ms xs fetched os noted r slots octets few short = absurd (omega (arith, few))
+    members_cut (f ∷ fs) pc at back nodes ms xs fetched os noted r ((run, (calls, is_run)), slots) octets few short =
+        let gs : List ℕ = take (gap at f.to) os in
+        let left : List ℕ = drop (gap at f.to) os in
+        let here : List ℕ = take (width f.prim) left in
+        let rest : List ℕ = drop (width f.prim) left in
+        let after : ℕ = slots_len (at + gap at f.to + width f.prim) fs in
+        let fewer : length os < gap at f.to + (width f.prim + after) = few in
+        let shorter : at + (gap at f.to + (width f.prim + after)) ≤ STREAM_LIMIT = short in
+        let z : ℤ = value_of_octets order f.prim here in
+        let m : Member = record { node = length nodes; pending = length b.fresh } in
+        let x : Flat = (tree.Num z, 0) in
+        let one : Item = item_here h (at + gap at f.to) item.Num (width f.prim) z (length nodes) in
+        let more_items : List Item = slots_came order h (at + gap at f.to + width f.prim) (length nodes + 1) fs rest in
+        let more_nodes : length (nodes ++ x ∷ []) ≡ length nodes + 1 = length-append nodes (x ∷ []) in
+        let called : Comes fetched noted (within run at (pc + 1) nodes (ms ++ m ∷ []) xs) =
+        same (append-nil fetched) (append-nil noted) refl
+        (steps_to fetched [] noted (within pc at back nodes ms xs) (within run at (pc + 1) nodes (ms ++ m ∷ []) xs) (op.Call run) r calls refl tt refl) in
+        let others : gap at f.to + width f.prim ≤ length os → Cut at b.cells fetched os noted (gap_items h at gs ++ (one ∷ more_items)) =
+        λ enough.
+        let gap_size : length gs ≡ gap at f.to = length_taken (gap at f.to) os (omega (arith, enough)) in
+        let left_size : gap at f.to + length left ≡ length os = length_left (gap at f.to) os (omega (arith, enough)) in
+        let many : width f.prim ≤ length left = omega (arith, left_size, enough) in
+        let here_size : length here ≡ width f.prim = length_taken (width f.prim) left many in
+        let rest_size : width f.prim + length rest ≡ length left = length_left (width f.prim) left many in
+        let both : length (gs ++ here) ≡ length gs + length here = length-append gs here in
+        let read =
+        run_comes run at (pc + 1) nodes (ms ++ m ∷ []) xs f fetched gs here noted called is_run (take_octets (gap at f.to) os octets)
+        (take_octets (width f.prim) left (drop_octets (gap at f.to) os octets)) gap_size here_size (omega (arith, shorter)) in
+        let next : Cut (at + gap at f.to + width f.prim) b.cells (fetched ++ (gs ++ here)) rest (noted ++ (gap_items h at gs ++ one ∷ []))
+        (slots_came order h (at + gap at f.to + width f.prim) (length (nodes ++ x ∷ [])) fs rest) =
+        members_cut fs (pc + 1) (at + gap at f.to + width f.prim) (pc + 1) (nodes ++ x ∷ []) (ms ++ m ∷ []) (xs ++ first.Number z ∷ []) (fetched ++ (gs ++ here)) rest
+        (noted ++ (gap_items h at gs ++ one ∷ [])) read slots (drop_octets (width f.prim) left (drop_octets (gap at f.to) os octets)) (omega (arith, rest_size, left_size, fewer)) (omega (arith, shorter)) in
+        cut_after at (at + gap at f.to + width f.prim) b.cells fetched (gs ++ here) rest os noted (gap_items h at gs ++ one ∷ [])
+        (slots_came order h (at + gap at f.to + width f.prim) (length (nodes ++ x ∷ [])) fs rest) (gap_items h at gs ++ (one ∷ more_items)) next
+        (append_assoc gs here rest ∙ ap (λ l. gs ++ l) (taken_and_left (width f.prim) left) ∙ taken_and_left (gap at f.to) os)
+        (ap (λ k. (gap_items h at gs ++ one ∷ []) ++ slots_came order h (at + gap at f.to + width f.prim) k fs rest) more_nodes ∙ append_assoc (gap_items h at gs) (one ∷ []) more_items)
+        (omega (arith, both, gap_size, here_size)) in
+        member_cut run at (pc + 1) nodes (ms ++ m ∷ []) xs f fetched os noted (one ∷ more_items) called is_run octets (omega (arith, shorter)) others
+        (ltb (length os) (gap at f.to)) (ltb (length os) (gap at f.to + width f.prim)) refl refl
 
   -- a struct begins
   abbrev recorded : ℕ → State → Frame → State
@@ -348,3 +499,145 @@ module _ (values : List EnumList) (order : Order) (code : List Instr) (h : Home)
       same octets_are items_are
       (ap₂ (λ k l. closed (s.pc + 1 + length fs + 1) k l s.members s.firsts (framed s (frame.Elements more run back))) at_is
       (append_assoc s.nodes xs (record_flats order (end + gap end to) to fs n rest))) three
+
+  -- ## Octets that end before the last element does
+
+  record_cut : (fs : List Slot) (s : State) (fetched os : List ℕ) (noted : List Item) → Comes fetched noted s → IsNumberRecord code s.pc fs → IsAmongElements s.top
+      → AreOctets os → length os < slots_len s.at fs → s.at + slots_len s.at fs ≤ STREAM_LIMIT
+      → Cut s.at s.cells fetched os noted (slots_came order h s.at (length s.nodes + 1) fs os)
+  record_cut fs s fetched os noted r is among octets few short =
+      let nodes : List Flat = s.nodes ++ (tree.Rec, length fs) ∷ [] in
+      let more_nodes : length nodes ≡ length s.nodes + 1 = length-append s.nodes ((tree.Rec, length fs) ∷ []) in
+      let opened : Comes fetched noted (within s (length s.members) (s.top ∷ s.stack) (s.pc + 1) s.at 0 nodes s.members s.firsts) =
+      same (append-nil fetched) (append-nil noted) (begun_within (length fs) s s.top refl among)
+      (steps_to fetched [] noted s (recorded (length fs) s s.top) (op.Record (length fs)) r is.opens refl tt refl) in
+      subst (λ k. Cut s.at s.cells fetched os noted (slots_came order h s.at k fs os)) more_nodes
+      (members_cut s (length s.members) (s.top ∷ s.stack) fs (s.pc + 1) s.at 0 nodes s.members s.firsts fetched os noted opened is.slots octets few short)
+
+  -- where all octets of a struct have come its items are the same
+  slots_whole : (fs : List Slot) (at node : ℕ) (os : List ℕ) → length os ≡ slots_len at fs → slots_came order h at node fs os ≡ slot_items order h at node fs os
+  slots_whole [] at node os size = refl
+  slots_whole (f ∷ fs) at node os size =
+      let left : List ℕ = drop (gap at f.to) os in
+      let rest : List ℕ = drop (width f.prim) left in
+      let after : ℕ = slots_len (at + gap at f.to + width f.prim) fs in
+      let sum : length os ≡ gap at f.to + (width f.prim + after) = size in
+      let left_size : gap at f.to + length left ≡ length os = length_left (gap at f.to) os (omega (arith, sum)) in
+      let rest_size : width f.prim + length rest ≡ length left = length_left (width f.prim) left (omega (arith, left_size, sum)) in
+      let one : Item = item_here h (at + gap at f.to) item.Num (width f.prim) (value_of_octets order f.prim (slot_octets at f os)) node in
+      let more : List Item = slots_came order h (at + gap at f.to + width f.prim) (node + 1) fs rest in
+      let a_gap : ltb (length os) (gap at f.to) ≡ false = le-ltb (length os) (gap at f.to) (omega (arith, sum)) in
+      let a_number : ltb (length os) (gap at f.to + width f.prim) ≡ false = le-ltb (length os) (gap at f.to + width f.prim) (omega (arith, sum)) in
+      ap₂ (λ (d e : Bool). if d then [] else gap_items h at (take (gap at f.to) os) ++ (if e then [] else one ∷ more)) a_gap a_number
+      ∙ ap (λ l. gap_items h at (take (gap at f.to) os) ++ one ∷ l) (slots_whole fs (at + gap at f.to + width f.prim) (node + 1) rest (omega (arith, sum, left_size, rest_size)))
+
+  -- they end within the gap before the next element
+  next_cut : (pc at to left run back : ℕ) (fs : List Slot) (xs : List Flat) (s : State) (fetched os : List ℕ) (noted : List Item)
+      → Comes fetched noted (records_read (pc + 1 + length fs + 1) at xs (frame.Elements (suc left) run back) s) → IsRecordRun code run pc to fs
+      → length os < gap at to → Cut at s.cells fetched os noted []
+  next_cut pc at to left run back fs xs s fetched os noted r is few = by_run is.run_begins
+    where
+      by_run : ((run ≡ pc) × (to ≡ 1)) ⊎ ((run + 1 ≡ pc) × (slice_get code run ≡ Some (op.Align to))) → Cut at s.cells fetched os noted []
+      by_run (inl (here, one)) =
+          let none : gap at to ≡ 0 = let z : gap at 1 ≡ 0 = omega arith in ap (gap at) one ∙ z in
+          absurd (omega (arith, few, none))
+      by_run (inr (here, aligned)) =
+          record {
+            taken = fetched;
+            rest = os;
+            last = records_read run at xs (frame.Elements left run back) s;
+            i = op.Align to;
+            octets = refl;
+            reached = same (append-nil fetched) refl refl
+                (steps_to fetched [] noted (records_read (pc + 1 + length fs + 1) at xs (frame.Elements (suc left) run back) s) (records_read run at xs (frame.Elements left run back) s) op.Ret r is.run_ends
+                refl tt refl);
+            there = aligned;
+            cut = few;
+            place = refl;
+            same_cells = refl;
+          }
+
+  -- an element within which the octets end, or after which others do
+  element_cut : (left to run back : ℕ) (fs : List Slot) (s : State) (fetched os : List ℕ) (noted more : List Item) → Comes fetched noted s → s.top ≡ frame.Elements (suc left) run back
+      → IsRecordRun code run s.pc to fs → length s.firsts ≡ length s.members → AreOctets os → s.at + slots_len s.at fs ≤ STREAM_LIMIT
+      → (slots_len s.at fs + gap (s.at + slots_len s.at fs) to ≤ length os
+      → Cut s.at s.cells fetched os noted (slots_came order h s.at (length s.nodes + 1) fs (take (slots_len s.at fs) os) ++ more))
+      → (d e : Bool) → ltb (length os) (slots_len s.at fs) ≡ d → ltb (length os) (slots_len s.at fs + gap (s.at + slots_len s.at fs) to) ≡ e
+      → Cut s.at s.cells fetched os noted (slots_came order h s.at (length s.nodes + 1) fs (take (slots_len s.at fs) os) ++ (if e then [] else more))
+  element_cut left to run back fs s fetched os noted more r top is level octets short others true true no_struct no_gap =
+      let few : length os < slots_len s.at fs = ltb-true (length os) (slots_len s.at fs) no_struct in
+      let all : take (slots_len s.at fs) os ≡ os = all_in (slots_len s.at fs) os (omega (arith, few)) in
+      subst (λ l. Cut s.at s.cells fetched os noted l)
+      (ap (λ l. slots_came order h s.at (length s.nodes + 1) fs l) (sym all) ∙ sym (append-nil (slots_came order h s.at (length s.nodes + 1) fs (take (slots_len s.at fs) os))))
+      (record_cut fs s fetched os noted r is.own (subst IsAmongElements (sym top) tt) octets few short)
+  element_cut left to run back fs s fetched os noted more r top is level octets short others true false no_struct a_gap =
+      let few : length os < slots_len s.at fs = ltb-true (length os) (slots_len s.at fs) no_struct in
+      let enough : slots_len s.at fs + gap (s.at + slots_len s.at fs) to ≤ length os = ltb-false (length os) (slots_len s.at fs + gap (s.at + slots_len s.at fs) to) a_gap in
+      absurd (omega (arith, few, enough))
+  element_cut left to run back fs s fetched os noted more r top is level octets short others false true a_struct no_gap =
+      let end : ℕ = s.at + slots_len s.at fs in
+      let here : List ℕ = take (slots_len s.at fs) os in
+      let rest : List ℕ = drop (slots_len s.at fs) os in
+      let enough : slots_len s.at fs ≤ length os = ltb-false (length os) (slots_len s.at fs) a_struct in
+      let few : length os < slots_len s.at fs + gap end to = ltb-true (length os) (slots_len s.at fs + gap end to) no_gap in
+      let here_size : length here ≡ slots_len s.at fs = length_taken (slots_len s.at fs) os enough in
+      let rest_size : slots_len s.at fs + length rest ≡ length os = length_left (slots_len s.at fs) os enough in
+      let xs : List Flat = (tree.Rec, length fs) ∷ slot_flats order s.at fs here in
+      let first_items : List Item = slot_items order h s.at (length s.nodes + 1) fs here in
+      let one : Comes (fetched ++ here) (noted ++ first_items) (records_read (s.pc + 1 + length fs + 1) end xs (frame.Elements (suc left) run back) s) =
+      same refl refl (ap₂ (λ t k. records_read (s.pc + 1 + length fs + 1) (s.at + k) xs t s) top here_size)
+      (record_comes fs s fetched here noted r is.own (subst IsAmongElements (sym top) tt) level (take_octets (slots_len s.at fs) os octets) here_size (omega (arith, here_size, short))) in
+      cut_after s.at end s.cells fetched here rest os noted first_items [] (slots_came order h s.at (length s.nodes + 1) fs here ++ [])
+      (next_cut s.pc end to left run back fs xs s (fetched ++ here) rest (noted ++ first_items) one is (omega (arith, few, rest_size)))
+      (taken_and_left (slots_len s.at fs) os) (ap (λ l. l ++ []) (sym (slots_whole fs s.at (length s.nodes + 1) here here_size))) (ap (λ k. s.at + k) (sym here_size))
+  element_cut left to run back fs s fetched os noted more r top is level octets short others false false a_struct a_gap =
+      others (ltb-false (length os) (slots_len s.at fs + gap (s.at + slots_len s.at fs) to) a_gap)
+
+  -- elements, of which `n` come after the first and `more` are left then
+  pub records_cut : (n more run back to : ℕ) (fs : List Slot) (s : State) (fetched os : List ℕ) (noted : List Item) → Comes fetched noted s → s.top ≡ frame.Elements (n + more) run back
+      → IsRecordRun code run s.pc to fs → length s.firsts ≡ length s.members → AreOctets os → length os < records_len s.at to fs n → s.at + records_len s.at to fs n ≤ STREAM_LIMIT
+      → Cut s.at s.cells fetched os noted (records_came order h s.at (length s.nodes) to fs n os)
+  records_cut zero more run back to fs s fetched os noted r top is level octets few short =
+      record_cut fs s fetched os noted r is.own (subst IsAmongElements (sym top) tt) octets few short
+  records_cut (suc n) more run back to fs s fetched os noted r top is level octets few short =
+      let end : ℕ = s.at + slots_len s.at fs in
+      let here : List ℕ = take (slots_len s.at fs) os in
+      let left : List ℕ = drop (slots_len s.at fs) os in
+      let gs : List ℕ = take (gap end to) left in
+      let rest : List ℕ = drop (gap end to) left in
+      let fewer : length os < slots_len s.at fs + (gap end to + records_len (end + gap end to) to fs n) = few in
+      let shorter : s.at + (slots_len s.at fs + (gap end to + records_len (end + gap end to) to fs n)) ≤ STREAM_LIMIT = short in
+      let left_is : suc n + more ≡ suc (n + more) = omega arith in
+      let top_is : s.top ≡ frame.Elements (suc (n + more)) run back = top ∙ ap (λ k. frame.Elements k run back) left_is in
+      let xs : List Flat = (tree.Rec, length fs) ∷ slot_flats order s.at fs here in
+      let first_items : List Item = slot_items order h s.at (length s.nodes + 1) fs here in
+      let came : List Item = slots_came order h s.at (length s.nodes + 1) fs here in
+      let last_items : List Item = records_came order h (end + gap end to) (length s.nodes + 1 + length fs) to fs n rest in
+      let others : slots_len s.at fs + gap end to ≤ length os → Cut s.at s.cells fetched os noted (came ++ (gap_items h end gs ++ last_items)) =
+      λ enough.
+      let here_size : length here ≡ slots_len s.at fs = length_taken (slots_len s.at fs) os (omega (arith, enough)) in
+      let left_size : slots_len s.at fs + length left ≡ length os = length_left (slots_len s.at fs) os (omega (arith, enough)) in
+      let many : gap end to ≤ length left = omega (arith, left_size, enough) in
+      let gap_size : length gs ≡ gap end to = length_taken (gap end to) left many in
+      let rest_size : gap end to + length rest ≡ length left = length_left (gap end to) left many in
+      let both : length (here ++ gs) ≡ length here + length gs = length-append here gs in
+      let one : Comes (fetched ++ here) (noted ++ first_items) (records_read (s.pc + 1 + length fs + 1) end xs (frame.Elements (suc (n + more)) run back) s) =
+      same refl refl (ap₂ (λ t k. records_read (s.pc + 1 + length fs + 1) (s.at + k) xs t s) top_is here_size)
+      (record_comes fs s fetched here noted r is.own (subst IsAmongElements (sym top_is) tt) level (take_octets (slots_len s.at fs) os octets) here_size (omega (arith, here_size, shorter))) in
+      let s1 : State = records_read s.pc (end + gap end to) xs (frame.Elements (n + more) run back) s in
+      let two : Comes (fetched ++ (here ++ gs)) (noted ++ (first_items ++ gap_items h end gs)) s1 =
+      same (append_assoc fetched here gs) (append_assoc noted first_items (gap_items h end gs)) refl
+      (next_comes s.pc end to (n + more) run back fs xs s (fetched ++ here) gs (noted ++ first_items) one is (take_octets (gap end to) left (drop_octets (slots_len s.at fs) os octets)) gap_size) in
+      let nodes_is : length (s.nodes ++ xs) ≡ length s.nodes + 1 + length fs = length-append s.nodes xs ∙ flats_length (length s.nodes) fs s.at here in
+      let three : Cut (end + gap end to) s.cells (fetched ++ (here ++ gs)) rest (noted ++ (first_items ++ gap_items h end gs))
+      (records_came order h (end + gap end to) (length (s.nodes ++ xs)) to fs n rest) =
+      records_cut n more run back to fs s1 (fetched ++ (here ++ gs)) rest (noted ++ (first_items ++ gap_items h end gs)) two refl is level
+      (drop_octets (gap end to) left (drop_octets (slots_len s.at fs) os octets)) (omega (arith, fewer, rest_size, left_size)) (omega (arith, shorter)) in
+      cut_after s.at (end + gap end to) s.cells fetched (here ++ gs) rest os noted (first_items ++ gap_items h end gs)
+      (records_came order h (end + gap end to) (length (s.nodes ++ xs)) to fs n rest) (came ++ (gap_items h end gs ++ last_items)) three
+      (append_assoc here gs rest ∙ ap (λ l. here ++ l) (taken_and_left (gap end to) left) ∙ taken_and_left (slots_len s.at fs) os)
+      (ap₂ (λ l k. (l ++ gap_items h end gs) ++ records_came order h (end + gap end to) k to fs n rest) (sym (slots_whole fs s.at (length s.nodes + 1) here here_size)) nodes_is
+      ∙ append_assoc came (gap_items h end gs) last_items)
+      (omega (arith, both, here_size, gap_size)) in
+      element_cut (n + more) to run back fs s fetched os noted (gap_items h end gs ++ last_items) r top_is is level octets (omega (arith, shorter)) others
+      (ltb (length os) (slots_len s.at fs)) (ltb (length os) (slots_len s.at fs + gap end to)) refl refl

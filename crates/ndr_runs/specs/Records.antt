@@ -1,6 +1,6 @@
 -- Structs of numbers, read in one go.
 -- `code` is that of a plan, `pc` an address, `at` a place, `node` how many nodes came before, `fs` are the members of a struct, `os` octets.
-use Rattle.std.specs.Prelude.{◌≡◌, ◌≤◌, ◌⊎◌, ℕ, ◌+◌, zero, suc, List, [], ◌∷◌, ◌++◌, length, take, drop, slice_get, Option, Some}
+use Rattle.std.specs.Prelude.{◌≡◌, ◌≤◌, ◌⊎◌, ℕ, ◌+◌, zero, suc, ltb, if◌then◌else◌, List, [], ◌∷◌, ◌++◌, length, take, drop, slice_get, Option, Some}
 use Rattle.nd_base.specs.declared.octets.Order.{Order}
 use Rattle.nd_types.specs.declared.types.Primitive.{Primitive}
 use Rattle.nd_types.specs.declared.types.TypeId.{TypeId}
@@ -14,10 +14,13 @@ use Rattle.nd_value.specs.Tree.{Flat}
 use Rattle.nd_grammar.specs.Entry.{gap}
 use Rattle.ndr_code.specs.declared.instr.Instr.{Instr}
 use Rattle.ndr_code.specs.declared.instr.Instr.TheVariants as op
+use Rattle.ndr_code.specs.declared.lists.EnumList.{EnumList}
 use Rattle.ndr_steps.specs.declared.frame.Frame.{Frame}
 use Rattle.ndr_steps.specs.declared.frame.Frame.TheVariants as frame
-use Rattle.ndr_steps.specs.Steps.{State, begun, prim_of}
+use Rattle.ndr_steps.specs.Steps.{State, begun, prim_of, wants}
 use Rattle.ndr_steps.specs.StepItems.{gap_items, item_here}
+use Rattle.ndr_steps.specs.Good.{IsCut}
+use Rattle.ndr_runs.specs.Reaching.{Reaches}
 
 -- a member that is a number: the multiple that its gap goes to, and its primitive
 pub record Slot : Type 0 where
@@ -143,3 +146,38 @@ records_read pc at xs top s = record {
 -- after a struct of numbers that is an element of an array, past its `close`
 abbrev pub record_read : Order → List Slot → List ℕ → State → State
 record_read order fs os s = records_read (s.pc + 1 + length fs + 1) (s.at + length os) ((tree.Rec, length fs) ∷ slot_flats order s.at fs os) s.top s
+
+-- ## Octets that end before the last element does
+
+-- the items of the gaps and numbers of a struct, as far as their octets have come
+abbrev pub slots_came : Order → Home → ℕ → ℕ → List Slot → List ℕ → List Item
+slots_came order h at node [] os = []
+slots_came order h at node (f ∷ fs) os =
+    if ltb (length os) (gap at f.to) then []
+    else gap_items h at (take (gap at f.to) os)
+    ++ (if ltb (length os) (gap at f.to + width f.prim) then []
+    else item_here h (at + gap at f.to) item.Num (width f.prim) (value_of_octets order f.prim (slot_octets at f os)) node
+    ∷ slots_came order h (at + gap at f.to + width f.prim) (node + 1) fs (after_slot at f os))
+
+-- the same of elements
+abbrev pub records_came : Order → Home → ℕ → ℕ → ℕ → List Slot → ℕ → List ℕ → List Item
+records_came order h at node to fs zero os = slots_came order h at (node + 1) fs os
+records_came order h at node to fs (suc n) os =
+    slots_came order h at (node + 1) fs (take (slots_len at fs) os)
+    ++ (if ltb (length os) (slots_len at fs + gap (at + slots_len at fs) to) then []
+    else gap_items h (at + slots_len at fs) (take (gap (at + slots_len at fs) to) (drop (slots_len at fs) os))
+    ++ records_came order h (next_place at to fs) (node + 1 + length fs) to fs n (after_record at to fs os))
+
+-- Octets from a place on that end within a step: those before it are taken by steps, with these items and no new cell, and those that are left are fewer than
+-- it wants.
+pub record EndsWithin (values : List EnumList) (order : Order) (code : List Instr) (h : Home) (s0 : State) (at : ℕ) (cells : List ℕ) (fetched os : List ℕ) (noted items : List Item) : Type 0 where
+  pub taken : List ℕ
+  pub rest : List ℕ
+  pub last : State
+  pub i : Instr
+  pub octets : taken ++ rest ≡ fetched ++ os
+  pub reached : Reaches values order code h s0 taken (noted ++ items) last
+  pub there : slice_get code last.pc ≡ Some i
+  pub cut : IsCut (wants values i last) rest last.at
+  pub place : last.at + length rest ≡ at + length os
+  pub same_cells : last.cells ≡ cells

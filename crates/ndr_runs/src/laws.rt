@@ -1,5 +1,5 @@
 //! Laws of runs, each the contract of a function that does nothing.
-ghost use Rattle.std.specs.Prelude.{◌≡◌, ◌≤◌, ◌⊎◌, ◌*◌, ◌+◌, ◌%◌, ℕ, suc, List, [], ◌∷◌, ◌++◌, length, replicate, slice_get, Some};
+ghost use Rattle.std.specs.Prelude.{◌≡◌, ◌≤◌, ◌<◌, ◌⊎◌, ◌*◌, ◌+◌, ◌%◌, ℕ, suc, List, [], ◌∷◌, ◌++◌, length, replicate, slice_get, Some};
 ghost use Rattle.nd_base.specs.declared.octets.Order.{Order};
 ghost use Rattle.nd_base.specs.declared.TheConstants.{STREAM_LIMIT};
 ghost use Rattle.nd_types.specs.declared.types.Primitive.{Primitive};
@@ -28,7 +28,7 @@ ghost use Rattle.ndr_runs.specs.Paid.{IsPaid};
 ghost use Rattle.ndr_runs.specs.Reaching.{IsSafe, Reaches};
 ghost use Rattle.ndr_runs.specs.Refusals.{IsRefusedHere, IsShort};
 ghost use Rattle.ndr_runs.specs.Rows.{IsInRow, row_read, row_passed, row_items};
-ghost use Rattle.ndr_runs.specs.Records.{Slot, IsRecordRun, records_len, record_flats, record_items, records_read};
+ghost use Rattle.ndr_runs.specs.Records.{EndsWithin, Slot, IsRecordRun, records_came, records_len, record_flats, record_items, records_read};
 ghost use Rattle.ndr_steps.specs.declared.frame.Frame.TheVariants.{Elements};
 
 /// A row of numbers is so many steps: at the `num` of an array's element, where so many more elements are left and none of them has a gap, the state after
@@ -56,6 +56,15 @@ pub fn records_are_steps()
         → AreOctets os → length os ≡ records_len s.at to fs n → s.at + length os ≤ STREAM_LIMIT
         → Reaches values order code h s0 (fetched ++ os) (noted ++ record_items order h s.at (length s.nodes) to fs n os)
         (records_read (s.pc + 1 + length fs + 1) (s.at + length os) (record_flats order s.at to fs n os) (Elements more run back) s) }
+{}
+
+/// Where the octets end before the last of such elements does, they end within the gap or the number of one: what came before is so many steps, with the
+/// items of the gaps and numbers whose octets have come.
+pub fn records_are_cut()
+    ensures { (values : List EnumList) (order : Order) (code : List Instr) (h : Home) (s0 : State) (n more run back to : ℕ) (fs : List Slot) (s : State) (fetched os : List ℕ) (noted : List Item)
+        → Reaches values order code h s0 fetched noted s → s.top ≡ Elements (n + more) run back → IsRecordRun code run s.pc to fs → length s.firsts ≡ length s.members
+        → AreOctets os → length os < records_len s.at to fs n → s.at + records_len s.at to fs n ≤ STREAM_LIMIT
+        → EndsWithin values order code h s0 s.at s.cells fetched os noted (records_came order h s.at (length s.nodes) to fs n os) }
 {}
 
 /// From a state that means something to the plain reader each state that is reached does, after the octets and the items of its steps. What pays for the
