@@ -1,4 +1,4 @@
-use Rattle.std.proofs.Common.{◌≤◌, [], arith}
+use Rattle.std.proofs.Common.{◌≤◌, [], ◌∙◌, arith, sym}
 use Rattle.std.proofs.KnownBytes.{Consumes-nil}
 use Rattle.nd_base.specs.declared.TheConstants.{STREAM_LIMIT}
 use Rattle.nd_base.specs.Over.{source_seen}
@@ -30,7 +30,7 @@ returns-then-is_flow-clause-turns g c =
     let m = c.args.machine.now in
     flow_taken c.args.values.now c.args.order c.args.code.now m.home m (source_seen g.S.Source.left g.S.Source.ended g.S.Source.faults c.args.source.now c.args.source.now) c.args.instr
     c.requires.here (Consumes-nil (g.S.Source.left c.args.source.now)) c.args.items.now (g.L.Ledger.number c.args.steps.now) c.take_flow.new.machine
-    c.in_ok-progress.progress c.if-is_flow.true c.requires.safe c.in_ok-progress.ensures.does
+    c.in_ok-progress.progress (sym c.is_flow.ensures ∙ c.if-is_flow.true) c.requires.safe c.in_ok-progress.ensures.does
 
 pub row_len-count-requires : goal.row_len-count-requires
 row_len-count-requires g c = record { code = address_fits c.args.code.now c.args.machine.now.pc c.args.instr c.requires.here c.requires.short }
