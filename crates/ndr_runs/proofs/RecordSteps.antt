@@ -641,3 +641,23 @@ module _ (values : List EnumList) (order : Order) (code : List Instr) (h : Home)
       (omega (arith, both, here_size, gap_size)) in
       element_cut (n + more) to run back fs s fetched os noted (gap_items h end gs ++ last_items) r top_is is level octets (omega (arith, shorter)) others
       (ltb (length os) (slots_len s.at fs)) (ltb (length os) (slots_len s.at fs + gap end to)) refl refl
+
+  -- where all octets of the elements have come their items are the same
+  pub records_whole : (n at node to : ℕ) (fs : List Slot) (os : List ℕ) → length os ≡ records_len at to fs n
+      → records_came order h at node to fs n os ≡ record_items order h at node to fs n os
+  records_whole zero at node to fs os size = slots_whole fs at (node + 1) os size
+  records_whole (suc n) at node to fs os size =
+      let end : ℕ = at + slots_len at fs in
+      let here : List ℕ = take (slots_len at fs) os in
+      let left : List ℕ = drop (slots_len at fs) os in
+      let gs : List ℕ = take (gap end to) left in
+      let rest : List ℕ = drop (gap end to) left in
+      let sum : length os ≡ slots_len at fs + (gap end to + records_len (end + gap end to) to fs n) = size in
+      let here_size : length here ≡ slots_len at fs = length_taken (slots_len at fs) os (omega (arith, sum)) in
+      let left_size : slots_len at fs + length left ≡ length os = length_left (slots_len at fs) os (omega (arith, sum)) in
+      let rest_size : gap end to + length rest ≡ length left = length_left (gap end to) left (omega (arith, left_size, sum)) in
+      let a_gap : ltb (length os) (slots_len at fs + gap end to) ≡ false = le-ltb (length os) (slots_len at fs + gap end to) (omega (arith, sum)) in
+      let last : List Item = records_came order h (end + gap end to) (node + 1 + length fs) to fs n rest in
+      ap (λ (e : Bool). slots_came order h at (node + 1) fs here ++ (if e then [] else gap_items h end gs ++ last)) a_gap
+      ∙ ap₂ (λ k l. k ++ (gap_items h end gs ++ l)) (slots_whole fs at (node + 1) here here_size)
+      (records_whole n (end + gap end to) (node + 1 + length fs) to fs rest (omega (arith, rest_size, left_size, sum)))
