@@ -210,7 +210,7 @@ module _ (plan : Plan) (w : Setting) (legal : IsLegalSide w) (order : Order) (fe
       is_short =
           let (e, (has, (is, logged))) = ends in
           let same : (state_of z) ≡ e.s = whole_is plan.values order e.os e.i e.s (state_of z) is in
-          let few : length e.s.nodes + 4096 < 2 ^ 32 = (safe_here e.fetched e.noted e.s e.reached).few_nodes in
+          let few : length e.s.nodes + 8192 < 2 ^ 32 = (safe_here e.fetched e.noted e.s e.reached).few_nodes in
           let many : length (state_of z).nodes ≡ length e.s.nodes = ap (λ (x : State). length x.nodes) same in
           let l : count (kids_of read.is.v) < 2 ^ 32 - 1 = not_whole read.is.v (kids_of read.is.v) (state_of z).nodes is_pipe read.is.nodes (omega (arith, few, many)) in
           omega (arith, l, its_count)

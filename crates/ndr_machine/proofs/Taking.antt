@@ -30,7 +30,7 @@ address_fits code pc i there short = let below : pc < length code = slice_get_wi
 
 pub count_fits : (code : List Instr) (m : Machine) → IsSafe code (state_of m) → m.count + 4096 < 2 ^ 32
 count_fits code m safe =
-    let few : length m.builder.nodes + 4096 < 2 ^ 32 = safe.few_nodes in
+    let few : length m.builder.nodes + 8192 < 2 ^ 32 = safe.few_nodes in
     let counted : m.count ≡ length m.builder.nodes = m.counted in
     omega (arith, few, counted)
 

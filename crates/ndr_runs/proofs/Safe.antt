@@ -75,7 +75,7 @@ whole_made w side order h own fine p names octets all =
 -- ## Safety
 
 -- few nodes, by their octets
-few_enough : (n p at k limit : ℕ) → n ≤ 32 * p + 33 * suc k → p ≤ at → at ≤ STREAM_LIMIT → k ≤ limit → limit ≤ 33 → n + 4096 < 2 ^ 32
+few_enough : (n p at k limit : ℕ) → n ≤ 32 * p + 33 * suc k → p ≤ at → at ≤ STREAM_LIMIT → k ≤ limit → limit ≤ 33 → n + 8192 < 2 ^ 32
 few_enough n p at k limit a b c d e = omega (arith, a, b, c, d, e)
 
 few_cells : (n at : ℕ) → 4 * n ≤ at + 4096 → at ≤ STREAM_LIMIT → n + 1 < 2 ^ 32

@@ -26,5 +26,5 @@ pub record IsSafe (code : List Instr) (s : State) : Type 0 where
   pub there : slice_get code s.pc ≡ Some i
   pub inner : IsInner i
   pub within : s.at ≤ STREAM_LIMIT
-  pub few_nodes : length s.nodes + 4096 < 2 ^ 32
+  pub few_nodes : length s.nodes + 8192 < 2 ^ 32
   pub few_cells : length s.cells + 1 < 2 ^ 32
