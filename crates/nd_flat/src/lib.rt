@@ -20,5 +20,6 @@ pub use fit::Fit;
 pub use flat::FlatGraph;
 pub use given::Given;
 pub use node::Seen;
+pub use rebuilt::values;
 pub use row::Row;
 pub use walk::Walk;

@@ -110,9 +110,9 @@ fn by_form(alloc: Global, seen: &Seen<'_>, walk: &mut Walk<'_>) -> Result<Val, M
     }
 }
 
-// So many of the next values.
+/// So many of the next values of a walk, made anew. As many must be left. It takes memory for them; out of memory is the only refusal.
 #[cycle(rebuilt)]
-fn values(alloc: Global, number: u32, walk: &mut Walk<'_>) -> Result<Vals, Memory>
+pub fn values(alloc: Global, number: u32, walk: &mut Walk<'_>) -> Result<Vals, Memory>
     requires some { number ≤ count walk.old }
     ensures rest { OnOk result (walk.new ≡ drop_trees number walk.old) }
     ensures values { IfOk result (λ vs. trees vs ≡ take_trees number walk.old) }

@@ -42,6 +42,17 @@ impl ItemLog {
         ItemLog { items: None }
     }
 
+    /// An empty log that keeps items exactly if this one does. It allocates nothing.
+    pub fn like(&self, alloc: Global) -> ItemLog
+        ensures keeps { result.keeps ≡ self.now.keeps }
+        ensures empty { result.items ≡ [] }
+    {
+        match &self.items {
+            Some(_) => ItemLog::keeping(alloc),
+            None => ItemLog::quiet(),
+        }
+    }
+
     /// Notes the next item: a log that keeps items has it as its last, and each item but a gap is counted as one step. Want of
     /// memory is the only refusal; then neither the log nor the count has changed.
     #[inline(always)]
