@@ -64,7 +64,7 @@ pub(crate) fn read_pipes<S: Source, L: Ledger>(
 }
 
 // The run of the elements of the pipe that a line is of; nothing where it is of no pipe of the side.
-fn elements_run(plan: &Plan, op: u32, side: Side, line: usize) -> Option<u32>
+pub fn elements_run(plan: &Plan, op: u32, side: Side, line: usize) -> Option<u32>
     requires there { line < length plan.now.entries }
     requires pipe { (name : List ℕ) (at : ℕ) → slice_get plan.now.entries line ≡ Some (plan_line.Entry op side name at) → (elem : ℕ) × CallsPipe plan.now.code at elem }
     ensures { ElementsRun plan.now op side line result }

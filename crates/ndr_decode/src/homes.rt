@@ -16,7 +16,7 @@ use ndr_machine::run;
 use ndr_state::{DecodeFault, Machine};
 
 // Reads the value of the home that was opened, by the code of a plan.
-pub(crate) fn read_home<S: Source, L: Ledger>(
+pub fn read_home<S: Source, L: Ledger>(
     plan: &Plan,
     order: Order,
     machine: &mut Machine,

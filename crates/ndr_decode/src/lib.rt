@@ -7,5 +7,8 @@ mod homes;
 mod roots;
 mod worklist;
 
+pub use chunks::elements_run;
 pub use decoding::{Decoded, decode};
+pub use homes::read_home;
+pub use roots::{Found, first_line, read_roots};
 pub use ndr_state::DecodeFault;

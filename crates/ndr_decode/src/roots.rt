@@ -26,13 +26,13 @@ use ndr_state::DecodeFault;
 
 // Where the run of the agreements is, and the number of the line after it.
 #[derive(Clone, Copy, Debug, PartialEq, Eq)]
-pub(crate) struct Found {
-    pub(crate) checks: u32,
-    pub(crate) line: usize,
+pub struct Found {
+    pub checks: u32,
+    pub line: usize,
 }
 
 // Reads the roots of a side that are no pipes, each with the referents that it makes due.
-pub(crate) fn read_roots<S: Source, L: Ledger>(
+pub fn read_roots<S: Source, L: Ledger>(
     plan: &Plan,
     op: u32,
     side: Side,
@@ -77,7 +77,7 @@ pub(crate) fn read_roots<S: Source, L: Ledger>(
 }
 
 // The number of the first line of a side.
-fn first_line(plan: &Plan, op: u32, side: Side) -> usize
+pub fn first_line(plan: &Plan, op: u32, side: Side) -> usize
     requires known { op < length plan.now.tie.operations }
     ensures { (o : Operation) → slice_get plan.now.tie.operations op ≡ Some o → result ≡ line_at plan.now.tie.types plan.now.tie.operations op o side }
 {
