@@ -5,13 +5,14 @@ ghost use Rattle.nd_value.specs.Tree.{Tree, Referent};
 ghost use Rattle.nd_value.specs.declared.item.Home.TheVariants as home;
 ghost use Rattle.nd_flat.specs.FlatForm.{flat_seen, seen_nodes, num_flats, row_numbers, HasOctets, IsKeepable, IsRow, text_of};
 ghost use Rattle.nd_flat.specs.Building.{CanClose, HasNoUnread, IsPipe, closed, opened, with_root, with_cell, with_node, with_nodes, with_numbers, with_graph, raised, fitting, start};
+ghost use Rattle.nd_flat.specs.Records.{IsRecords, all_records};
 ghost use Rattle.nd_value.specs.Fitting.{IsFit};
 ghost use Rattle.nd_value.specs.Request.{IsRequestOf};
 
 use crate::flat::{CellSpan, FlatGraph, Span};
 use crate::given::Given;
-use crate::node::{Node, kept_node, kept_row};
-use crate::{Fit, Row, Seen};
+use crate::node::{Node, kept_node, kept_records, kept_row};
+use crate::{Fit, Records, Row, Seen};
 use nd_base::{Ledger, Memory, Octets, Steps};
 use nd_types::{Side, Tie, TypeId};
 use nd_value::CellId;
@@ -159,6 +160,21 @@ impl Builder {
         ensures err { OnErr result (self.new ≡ self.old) }
     {
         let kept = kept_row(&mut self.octets, row)?;
+        let Ok(()) = self.nodes.push(kept) else {
+            return Err(Memory);
+        };
+        Ok(())
+    }
+
+    /// Adds structs of numbers of the open home as its next nodes, which are kept side by side as they are. There must be one at least. It takes
+    /// memory for the octets and one node; out of memory is the only refusal.
+    pub fn records(&mut self, records: &Records<'_>) -> Result<(), Memory>
+        requires whole { IsRecords records.now }
+        requires some { 0 < records.now.count }
+        ensures ok { OnOk result (self.new ≡ with_nodes (self.old.nodes ++ all_records records.now) self.old) }
+        ensures err { OnErr result (self.new ≡ self.old) }
+    {
+        let kept = kept_records(&mut self.octets, records)?;
         let Ok(()) = self.nodes.push(kept) else {
             return Err(Memory);
         };

@@ -25,8 +25,8 @@ pub struct CellSpan {
     pub span: Span,
 }
 
-/// A graph whose values are kept as lists of nodes, and its texts and rows of numbers as octets. Contracts see it as roots and
-/// cells. A node takes 24 octets, and a row of numbers one node and its octets.
+/// A graph whose values are kept as lists of nodes, and its texts, rows of numbers and structs of numbers as octets. Contracts see it as roots and
+/// cells. A node takes 24 octets, and a row of numbers, or structs of numbers side by side, one node and their octets.
 #[derive(Drop)]
 pub struct FlatGraph {
     pub(crate) nodes: Vec<Node>,
