@@ -121,7 +121,7 @@ ends_after at [] = omega arith
 ends_after at (p ∷ ps) = past at (gap at (width p)) (width p) (end_from (place at p + width p) ps) (ends_after (place at p + width p) ps)
 
 -- octets after those of the members change nothing
-member_grow : (o : Order) (at : ℕ) (ps : List Primitive) (xs ys : List ℕ) → end_from at ps ≤ length xs → member_flats o at ps (xs ++ ys) ≡ member_flats o at ps xs
+pub member_grow : (o : Order) (at : ℕ) (ps : List Primitive) (xs ys : List ℕ) → end_from at ps ≤ length xs → member_flats o at ps (xs ++ ys) ≡ member_flats o at ps xs
 member_grow o at [] xs ys h = refl
 member_grow o at (p ∷ ps) xs ys h =
     let there : place at p + width p ≤ length xs = chain (place at p + width p) (end_from (place at p + width p) ps) (length xs) (ends_after (place at p + width p) ps) h in
@@ -257,6 +257,10 @@ has_grown os ys k h = record {
   there = longer (k.from + records_len (members_of k.members) k.count) (length os) (length ys) (length (os ++ ys)) h.there (length-append os ys);
   some = h.some;
 }
+
+-- the structs of a node
+pub kept_same : (os : List ℕ) (k : KeptRecords) → HasOctets os (kept.Records k.order k.members k.count k.from) → HasRecords os k
+kept_same os k h = record { members = h.members; there = h.there; some = h.some }
 
 -- octets that are put after others are structs there
 pub kept_there : (os : List ℕ) (r : Records) (from : ℕ) → from ≡ length os → IsRecords r → 0 < r.count

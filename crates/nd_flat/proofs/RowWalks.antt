@@ -16,7 +16,7 @@ use Rattle.nd_flat.proofs.Forests.{forest-rest-of, flat-joined, take-joined, dro
 use Rattle.nd_flat.specs.Building.{Building, with_nodes, with_numbers}
 use Rattle.nd_flat.specs.Built.{Adds}
 use Rattle.nd_flat.proofs.RowLaws.{kept_row_parts, rest_there, no_row_there}
-use Rattle.nd_flat.proofs.RecordLaws.{nothing_left, over_left, after_there, begun_there, some_there, some_nodes, no_records_there}
+use Rattle.nd_flat.proofs.RecordLaws.{kept_same, nothing_left, over_left, after_there, begun_there, some_there, some_nodes, no_records_there}
 
 -- nodes were taken, and the walk is after them
 pub record Takes (os : List ℕ) (r : KeptRow) (t : RecordsLeft) (ns : List Node) (fs : List Flat) (r' : KeptRow) (t' : RecordsLeft) (ns' : List Node) : Type 0 where
@@ -95,14 +95,14 @@ pub takes_records : (os : List ℕ) (r : KeptRow) (t : RecordsLeft) (xs : List N
 takes_records os r t xs x ns k n t' fs e o s y some most p v w =
     let texts : HaveOctets os (kept.Records k.order k.members k.count k.from ∷ ns) = subst (HaveOctets os) (s ∙ ap (λ m. m ∷ ns) y) w.texts in
     let all : left_flats os r t xs ≡ kept_flats os k ++ flats os ns = all_left os r t xs x ns e o s ∙ ap (λ m. seen_nodes os m ++ flats os ns) y in
-    takes_kept os r t xs ns k n t' fs e all texts.1 texts.0 some most p v w
+    takes_kept os r t xs ns k n t' fs e all texts.1 (kept_same os k texts.0) some most p v w
 
 -- the structs of the next node are there
 pub next_kept : (os : List ℕ) (xs : List Node) (x : Node) (ns : List Node) (k : KeptRecords) → xs ≡ x ∷ ns → x ≡ kept.Records k.order k.members k.count k.from
     → HaveOctets os xs → HasRecords os k
 next_kept os xs x ns k s y h =
     let texts : HaveOctets os (kept.Records k.order k.members k.count k.from ∷ ns) = subst (HaveOctets os) (s ∙ ap (λ m. m ∷ ns) y) h in
-    texts.0
+    kept_same os k texts.0
 
 -- what the next node says first
 pub takes_node : (os : List ℕ) (r : KeptRow) (t : RecordsLeft) (xs : List Node) (n : Node) (ns : List Node) (f : Flat) (r' : KeptRow) (t' : RecordsLeft)
@@ -127,7 +127,7 @@ enters_row os r t n row e f h o =
 pub enters_records : (os : List ℕ) (r : KeptRow) (t : RecordsLeft) (n : Node) (k : KeptRecords) → n ≡ kept.Records k.order k.members k.count k.from → t ≡ first_begun k
     → HasOctets os n → r.count ≡ 0 → HasLeft os t × (row_flats os r ++ records_left os t ≡ after_first os n)
 enters_records os r t n k e f h z =
-    let there : HasRecords os k = subst (HasOctets os) e h in
+    let there : HasRecords os k = kept_same os k (subst (HasOctets os) e h) in
     (subst (HasLeft os) (sym f) (begun_there os k there),
       ap₂ (λ a b. a ++ records_left os b) (no_row_left os r z) f ∙ ap (after_first os) (sym e))
 
