@@ -2,3 +2,4 @@ pub mod Parts
 pub mod Wanting
 pub mod Notes
 pub mod Reaching
+pub mod Records

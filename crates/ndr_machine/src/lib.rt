@@ -7,6 +7,7 @@ mod checks;
 mod enumerators;
 mod numbers;
 mod pointers;
+mod records;
 mod rows;
 mod running;
 mod steps;

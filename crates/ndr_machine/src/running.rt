@@ -14,9 +14,12 @@ ghost use Rattle.ndr_state.specs.Notes.{notes_seen};
 ghost use Rattle.ndr_runs.specs.Reaching.{Reaches, IsSafe};
 ghost use Rattle.ndr_runs.specs.Rows.{IsInRow};
 ghost use Rattle.ndr_state.specs.declared.fault.DecodeFault.TheVariants as fault;
+ghost use Rattle.nd_flat.specs.Records.{IsMembers, members_of};
 ghost use Rattle.ndr_machine.specs.Notes.{RowNoted};
+ghost use Rattle.ndr_machine.specs.Records.{AreElements};
 ghost use Rattle.ndr_machine.specs.Reaching.{Ends, Turns, Fetches, stream_answer};
 
+use crate::records::{Elements, elements_here, note_elements, read_elements};
 use crate::rows::{note_row, read_row, row_len};
 use crate::steps::{Want, is_flow, take_flow, take_step, wanted};
 use nd_base::{Ledger, Order, STREAM_LIMIT, Source, Steps};
@@ -84,6 +87,13 @@ fn take_turn<S: Source, L: Ledger>(
     ensures outside { OnOk result (outside machine.new ≡ outside machine.old) }
     ensures later { S.Source.faults source.old ≤ S.Source.faults source.new }
 {
+    if let Instr::Record { members } = instr {
+        if let Some(elements) = elements_here(machine, code, members) {
+            return take_elements(
+                machine, order, code, values, &elements, intake, source, items, steps,
+            );
+        }
+    }
     if is_flow(machine, instr) {
         let progress = take_flow(machine, instr)?;
         return Ok(progress);
@@ -157,6 +167,36 @@ fn fetch<S: Source>(
 fn are_octets(octets: &[u8])
     ensures { AreOctets octets.now }
 {}
+
+// So many elements that are structs of numbers.
+fn take_elements<S: Source, L: Ledger>(
+    machine: &mut Machine,
+    order: Order,
+    code: &[Instr],
+    values: &EnumLists,
+    elements: &Elements,
+    intake: &mut Intake,
+    source: &mut S,
+    items: &mut ItemLog,
+    steps: &mut Steps<L>,
+) -> Result<Progress, DecodeFault>
+    requires whole { IsMembers elements.now.members }
+    requires elements { AreElements code.now (state_of machine.old) (members_of elements.now.members) elements.now.count elements.now.len }
+    requires short { length code.now < 2 ^ 32 }
+    requires safe { (fetched : List ℕ) (noted : List Item) (s : State) → Reaches values.now order code.now machine.old.home (state_of machine.old) fetched noted s → IsSafe code.now s }
+    ensures turns { Turns values.now order code.now machine.old.home (state_of machine.old) (source_seen S.Source.left S.Source.ended S.Source.faults source.old source.new) (notes_seen items.old items.new (L.number steps.old) (L.number steps.new) machine.old.cells machine.new.cells) (state_of machine.new) result }
+    ensures outside { OnOk result (outside machine.new ≡ outside machine.old) }
+    ensures later { S.Source.faults source.old ≤ S.Source.faults source.new }
+{
+    let came = fetched(intake.item(source, machine.at, elements.len));
+    are_octets(intake.octets());
+    if let Err(fault) = came {
+        note_elements(machine, order, elements, intake.octets(), items, steps)?;
+        return Err(fault);
+    }
+    read_elements(machine, order, elements, intake.octets(), items, steps)?;
+    Ok(Progress::More)
+}
 
 // So many numbers in a row.
 fn take_row<S: Source, L: Ledger>(
