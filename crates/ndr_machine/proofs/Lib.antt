@@ -23,3 +23,5 @@ mod OneTurn
 mod RowTaken
 mod Handing
 mod Flowing
+mod Packed
+mod Slots

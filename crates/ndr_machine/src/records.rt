@@ -1,24 +1,21 @@
 // Structs of numbers that are elements of an array, fetched and built in one go.
-ghost use Rattle.std.specs.Prelude.{◌≡◌, ◌⊎◌, true, ◌<◌, ◌≤◌, ◌+◌, ◌-◌, ◌*◌, ◌^◌, [], ◌++◌, length, Some, slice_get, OnOk, IfSome, IfErr};
+ghost use Rattle.std.specs.Prelude.{◌≡◌, ◌⊎◌, true, ◌<◌, ◌≤◌, ◌+◌, ◌-◌, ◌*◌, ◌^◌, [], ◌++◌, length, Some, slice_get, OnOk, OnErr, IfSome};
 ghost use Rattle.nd_types.specs.Table.{width};
 ghost use Rattle.nd_flat.specs.Records.{IsMembers, members_of, records_flats, records_len};
 ghost use Rattle.ndr_code.specs.declared.instr.Instr.TheVariants as op;
 ghost use Rattle.ndr_steps.specs.Steps.{goes, prim_of as primitive_of};
 ghost use Rattle.ndr_runs.specs.Rows.{HasLeft, with_fewer};
 ghost use Rattle.ndr_runs.specs.Records.{AreSlots, CallsSlot, IsNumberAt, records_read};
-ghost use Rattle.ndr_state.specs.declared.fault.DecodeFault.TheVariants as fault;
-ghost use Rattle.ndr_state.specs.Notes.{notes_seen};
 ghost use Rattle.ndr_state.specs.Seen.{Does, outside, state_of};
-ghost use Rattle.ndr_machine.specs.Records.{AreElements, ElementsNoted, slot_of, slots_of};
+ghost use Rattle.ndr_machine.specs.Records.{AreElements, count_within, numbers_within, slot_of, slots_of};
 
 use nd_base::{Ledger, Order, STREAM_LIMIT, Steps};
 use nd_flat::{MOST_MEMBERS, Members, Records};
 use nd_types::Prim;
-use nd_value::{Item, ItemKind, ItemLog};
 use ndr_code::Instr;
 use ndr_intake::PIECE;
 use ndr_prim::width_of;
-use ndr_state::{DecodeFault, Machine, Phase, gap_before, prim_of, read_value};
+use ndr_state::{DecodeFault, Machine, Phase, prim_of};
 use ndr_steps::Frame;
 
 /// Elements of an array that are structs of numbers: so many of them, with so many octets.
@@ -138,20 +135,18 @@ fn is_run(code: &[Instr], run: usize, pc: usize, to: u32) -> bool
     }
 }
 
-/// Elements whose octets have all come. Their gaps and numbers are noted, and each is counted as one. It takes memory; after `Memory` nothing is known
-/// of the machine.
+/// Elements whose octets have all come. Each of their numbers is counted as one; nothing is noted. It takes memory; after `Memory` nothing was counted, and
+/// nothing is known of the machine.
 pub fn read_elements<L: Ledger>(
     machine: &mut Machine,
     order: Order,
     elements: &Elements,
     octets: &[u8],
-    items: &mut ItemLog,
     steps: &mut Steps<L>,
 ) -> Result<(), DecodeFault>
     requires whole { IsMembers elements.now.members }
     requires some { 0 < elements.now.count }
     requires wide { length octets.now ≡ records_len (members_of elements.now.members) elements.now.count }
-    requires len { elements.now.len ≡ length octets.now }
     requires left { HasLeft (elements.now.count - 1) machine.old.top }
     requires code { machine.old.pc < 2 ^ 32 }
     requires fits { machine.old.at + length octets.now < 2 ^ 32 }
@@ -159,11 +154,10 @@ pub fn read_elements<L: Ledger>(
     ensures does { Does (goes (records_read (machine.old.pc + 2 + elements.now.members.len) (machine.old.at + length octets.now)
         (records_flats order (members_of elements.now.members) elements.now.count octets.now)
         (with_fewer (elements.now.count - 1) machine.old.top) (state_of machine.old))) result (state_of machine.new) }
-    ensures noted { ElementsNoted order machine.old.home machine.old.at machine.old.count (members_of elements.now.members) elements.now.count octets.now
-        (notes_seen items.old items.new (L.number steps.old) (L.number steps.new) machine.old.cells machine.new.cells) result }
+    ensures ticks { OnOk result (L.number steps.new ≡ L.number steps.old + elements.now.count * elements.now.members.len) }
+    ensures idle { OnErr result (steps.new ≡ steps.old) }
     ensures outside { OnOk result (outside machine.new ≡ outside machine.old) }
 {
-    note_elements(machine, order, elements, octets, items, steps)?;
     let records = Records {
         order,
         members: elements.members,
@@ -176,6 +170,7 @@ pub fn read_elements<L: Ledger>(
     machine.phase = Phase::Begun;
     machine.pc = machine.pc + 2 + elements.members.len as usize;
     machine.top = fewer_left(elements.count - 1, machine.top);
+    count_more(elements.count * u32::from(elements.members.len), steps);
     Ok(())
 }
 
@@ -194,48 +189,37 @@ fn fewer_left(fewer: u32, top: Frame) -> Frame
     }
 }
 
-/// Notes the gaps and numbers of elements as far as their octets have come, and counts each number as one.
-pub fn note_elements<L: Ledger>(
-    machine: &Machine,
-    order: Order,
-    elements: &Elements,
-    octets: &[u8],
-    items: &mut ItemLog,
-    steps: &mut Steps<L>,
-) -> Result<(), DecodeFault>
+/// Counts the numbers of elements that are whole within so many octets, which are fewer than the elements have.
+pub fn count_whole<L: Ledger>(elements: &Elements, octets: usize, steps: &mut Steps<L>)
     requires whole { IsMembers elements.now.members }
-    requires some { 0 < elements.now.count }
-    requires few_octets { length octets.now ≤ elements.now.len }
-    requires len { elements.now.len ≡ records_len (members_of elements.now.members) elements.now.count }
-    requires fits { machine.now.at + length octets.now < 2 ^ 32 }
-    requires few { machine.now.count + elements.now.count * (1 + elements.now.members.len) < 2 ^ 32 }
-    ensures noted { ElementsNoted order machine.now.home machine.now.at machine.now.count (members_of elements.now.members) elements.now.count octets.now
-        (notes_seen items.old items.new (L.number steps.old) (L.number steps.new) machine.now.cells machine.now.cells) result }
-    ensures memory { IfErr result (λ e. e ≡ fault.Memory) }
+    requires few { elements.now.count * elements.now.members.len < 2 ^ 32 }
+    ensures { L.number steps.new ≡ L.number steps.old + numbers_within (members_of elements.now.members) elements.now.count octets }
 {
-    let kept = items.len();
-    let mut from = note_members(machine, order, elements, octets, 0, 0, items, steps)?;
-    if items.len() == kept && octets.len() == elements.len as usize {
-        count_more(
-            (elements.count - 1) * u32::from(elements.members.len),
-            steps,
-        );
-        return Ok(());
+    let stride = elements.members.stride();
+    let mut left = octets;
+    for _element in 0..elements.count {
+        let here = members_within(elements.members.prims(), left);
+        count_more(here, steps);
+        left = left.saturating_sub(stride);
     }
-    let to = elements.members.widest() as u8;
-    for i in 1..elements.count {
-        if from == octets.len() {
-            return Ok(());
+}
+
+// How many members of a struct end within so many octets.
+fn members_within(prims: &[Prim], octets: usize) -> u32
+    requires { length prims.now < 2 ^ 8 }
+    ensures { result ≡ count_within 0 prims.now octets }
+{
+    let mut end = 0;
+    let mut count = 0;
+    for prim in prims {
+        let wide = width_of(*prim);
+        end = end + (wide - end % wide) % wide + wide;
+        if octets < end {
+            return count;
         }
-        let gap = gap_before(machine.at + from as u32, to) as usize;
-        if octets.len() - from < gap {
-            return Ok(());
-        }
-        note_gap(machine, from, gap, items, steps)?;
-        from += gap;
-        from = note_members(machine, order, elements, octets, from, i, items, steps)?;
+        count += 1;
     }
-    Ok(())
+    count
 }
 
 // Counts so many steps.
@@ -245,68 +229,4 @@ fn count_more<L: Ledger>(more: u32, steps: &mut Steps<L>)
     for _ in 0..more {
         steps.tick();
     }
-}
-
-// Notes the gaps and numbers of one element, which begins so many octets after the place where the machine is, as far as its octets have come. It
-// answers where they end, or where all octets do.
-fn note_members<L: Ledger>(
-    machine: &Machine,
-    order: Order,
-    elements: &Elements,
-    octets: &[u8],
-    start: usize,
-    number: u32,
-    items: &mut ItemLog,
-    steps: &mut Steps<L>,
-) -> Result<usize, DecodeFault> {
-    let mut from = start;
-    let prims = elements.members.prims();
-    let node = machine.count + number * (1 + prims.len() as u32) + 1;
-    for k in 0..prims.len() {
-        let prim = prims[k];
-        let wide = width_of(prim);
-        let gap = gap_before(machine.at + from as u32, wide as u8) as usize;
-        if octets.len() - from < gap {
-            return Ok(octets.len());
-        }
-        note_gap(machine, from, gap, items, steps)?;
-        from += gap;
-        if octets.len() - from < wide {
-            return Ok(octets.len());
-        }
-        let item = Item {
-            at: machine.at + from as u32,
-            len: wide as u32,
-            kind: ItemKind::Num,
-            home: machine.home,
-            node: node + k as u32,
-            value: read_value(order, prim, &octets[from..from + wide]),
-        };
-        items.note(item, steps)?;
-        from += wide;
-    }
-    Ok(from)
-}
-
-// Notes a gap that begins so many octets after the place where the machine is; an empty one is no item.
-fn note_gap<L: Ledger>(
-    machine: &Machine,
-    from: usize,
-    gap: usize,
-    items: &mut ItemLog,
-    steps: &mut Steps<L>,
-) -> Result<(), DecodeFault> {
-    if gap == 0 {
-        return Ok(());
-    }
-    let item = Item {
-        at: machine.at + from as u32,
-        len: gap as u32,
-        kind: ItemKind::Gap,
-        home: machine.home,
-        node: 0,
-        value: 0,
-    };
-    items.note(item, steps)?;
-    Ok(())
 }

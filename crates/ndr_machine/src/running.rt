@@ -1,5 +1,5 @@
 // The value of a home, from its first octet to its last.
-ghost use Rattle.std.specs.Prelude.{◌≡◌, ◌<◌, ◌≤◌, ◌^◌, ◌%◌, ◌*◌, ◌/◌, ◌+◌, ◌-◌, ℕ, List, Some, length, take, slice_get, OnOk, IfOk, IfErr};
+ghost use Rattle.std.specs.Prelude.{◌≡◌, ◌<◌, ◌≤◌, ◌^◌, ◌%◌, ◌*◌, ◌/◌, ◌+◌, ◌-◌, ℕ, List, Some, false, length, take, slice_get, OnOk, IfOk, IfErr, IfSome};
 ghost use Rattle.std.specs.Io.KnownBytes.{Consumes};
 ghost use Rattle.nd_base.specs.Over.{source_seen};
 ghost use Rattle.nd_base.specs.declared.TheConstants.{STREAM_LIMIT};
@@ -19,7 +19,7 @@ ghost use Rattle.ndr_machine.specs.Notes.{RowNoted};
 ghost use Rattle.ndr_machine.specs.Records.{AreElements};
 ghost use Rattle.ndr_machine.specs.Reaching.{Ends, Turns, Fetches, stream_answer};
 
-use crate::records::{Elements, elements_here, note_elements, read_elements};
+use crate::records::{Elements, count_whole, elements_here, read_elements};
 use crate::rows::{note_row, read_row, row_len};
 use crate::steps::{Want, is_flow, take_flow, take_step, wanted};
 use nd_base::{Ledger, Order, STREAM_LIMIT, Source, Steps};
@@ -87,12 +87,10 @@ fn take_turn<S: Source, L: Ledger>(
     ensures outside { OnOk result (outside machine.new ≡ outside machine.old) }
     ensures later { S.Source.faults source.old ≤ S.Source.faults source.new }
 {
-    if let Instr::Record { members } = instr {
-        if let Some(elements) = elements_here(machine, code, members) {
-            return take_elements(
-                machine, order, code, values, &elements, intake, source, items, steps,
-            );
-        }
+    if let Some(elements) = structs_here(machine, code, instr, items) {
+        return take_elements(
+            machine, order, code, values, &elements, intake, source, items, steps,
+        );
     }
     if is_flow(machine, instr) {
         let progress = take_flow(machine, instr)?;
@@ -168,7 +166,25 @@ fn are_octets(octets: &[u8])
     ensures { AreOctets octets.now }
 {}
 
-// So many elements that are structs of numbers.
+// The structs of numbers that may be read in one go at an instruction: none where items are kept, as each number is one.
+#[inline(always)]
+fn structs_here(machine: &Machine, code: &[Instr], instr: Instr, items: &ItemLog) -> Option<Elements>
+    requires here { slice_get code.now machine.now.pc ≡ Some instr }
+    requires code { machine.now.pc < 2 ^ 32 }
+    ensures quiet { IfSome result (λ _. items.now.keeps ≡ false) }
+    ensures whole { IfSome result (λ e. IsMembers e.members) }
+    ensures elements { IfSome result (λ e. AreElements code.now (state_of machine.now) (members_of e.members) e.count e.len) }
+{
+    let Instr::Record { members } = instr else {
+        return None;
+    };
+    if items.keeps() {
+        return None;
+    }
+    elements_here(machine, code, members)
+}
+
+// So many elements that are structs of numbers, where no items are kept.
 fn take_elements<S: Source, L: Ledger>(
     machine: &mut Machine,
     order: Order,
@@ -181,6 +197,7 @@ fn take_elements<S: Source, L: Ledger>(
     steps: &mut Steps<L>,
 ) -> Result<Progress, DecodeFault>
     requires whole { IsMembers elements.now.members }
+    requires quiet { items.old.keeps ≡ false }
     requires elements { AreElements code.now (state_of machine.old) (members_of elements.now.members) elements.now.count elements.now.len }
     requires short { length code.now < 2 ^ 32 }
     requires safe { (fetched : List ℕ) (noted : List Item) (s : State) → Reaches values.now order code.now machine.old.home (state_of machine.old) fetched noted s → IsSafe code.now s }
@@ -191,10 +208,10 @@ fn take_elements<S: Source, L: Ledger>(
     let came = fetched(intake.item(source, machine.at, elements.len));
     are_octets(intake.octets());
     if let Err(fault) = came {
-        note_elements(machine, order, elements, intake.octets(), items, steps)?;
+        count_whole(elements, intake.octets().len(), steps);
         return Err(fault);
     }
-    read_elements(machine, order, elements, intake.octets(), items, steps)?;
+    read_elements(machine, order, elements, intake.octets(), steps)?;
     Ok(Progress::More)
 }
 
