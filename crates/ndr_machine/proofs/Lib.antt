@@ -25,3 +25,4 @@ mod Handing
 mod Flowing
 mod Packed
 mod Slots
+mod Ticks

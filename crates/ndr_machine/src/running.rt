@@ -168,7 +168,12 @@ fn are_octets(octets: &[u8])
 
 // The structs of numbers that may be read in one go at an instruction: none where items are kept, as each number is one.
 #[inline(always)]
-fn structs_here(machine: &Machine, code: &[Instr], instr: Instr, items: &ItemLog) -> Option<Elements>
+fn structs_here(
+    machine: &Machine,
+    code: &[Instr],
+    instr: Instr,
+    items: &ItemLog,
+) -> Option<Elements>
     requires here { slice_get code.now machine.now.pc ≡ Some instr }
     requires code { machine.now.pc < 2 ^ 32 }
     ensures quiet { IfSome result (λ _. items.now.keeps ≡ false) }
