@@ -456,17 +456,19 @@ next_there os r h some = stride_fits r.from (length os) r.count (stride (members
 -- past the node of the next struct
 pub begun_left : (os : List ℕ) (r : RecordsLeft) → HasLeft os r → r.members.len ≤ r.next → 0 < r.count
     → (HasLeft os (next_begun r)) × (records_left os r ≡ (tree.Rec, r.members.len) ∷ records_left os (next_begun r))
-begun_left os r h over some =
-    (begun_there os (after_this r) (after_there os r h some),
-      over_left os r over ∙ kept_first os (after_this r) some
-      ∙ ap (λ n. (tree.Rec, n) ∷ records_left os (next_begun r)) (front_length r.members.len r.members.prims h.members))
+begun_left os r h over some = (
+  begun_there os (after_this r) (after_there os r h some),
+  over_left os r over ∙ kept_first os (after_this r) some
+      ∙ ap (λ n. (tree.Rec, n) ∷ records_left os (next_begun r)) (front_length r.members.len r.members.prims h.members),
+)
 
 -- the next node is a number
 pub number_seen : (os : List ℕ) (old new : RecordsLeft) (z : ℤ) → HasLeft os old → old.next < old.members.len → new ≡ member_passed old → z ≡ next_value os old
     → (HasLeft os new) × ((tree.Num z, 0) ∷ records_left os new ≡ records_left os old)
-number_seen os old new z h l e v =
-    (subst (HasLeft os) (sym e) (passed_there os old h l),
-      ap₂ (λ y r. (tree.Num y, 0) ∷ records_left os r) v e ∙ sym (passed_nodes os old h l))
+number_seen os old new z h l e v = (
+  subst (HasLeft os) (sym e) (passed_there os old h l),
+  ap₂ (λ y r. (tree.Num y, 0) ∷ records_left os r) v e ∙ sym (passed_nodes os old h l),
+)
 
 -- the next node is that of a struct
 pub struct_seen : (os : List ℕ) (old new : RecordsLeft) → HasLeft os old → old.members.len ≤ old.next → 0 < old.count → new ≡ next_begun old

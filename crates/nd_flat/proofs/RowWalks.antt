@@ -120,16 +120,18 @@ pub enters_row : (os : List ℕ) (r : KeptRow) (t : RecordsLeft) (n : Node) (row
     → HasRow os r × (row_flats os r ++ records_left os t ≡ after_first os n)
 enters_row os r t n row e f h o =
     let there : HasRow os row × (0 < row.count) = subst (HasOctets os) e h in
-    let some : 0 < row.count = there.1 in
-    (subst (HasRow os) (sym f) (rest_there os row 1 (omega (arith, some)) there.0),
-      ap₂ (λ a b. row_flats os a ++ b) f (nothing_left os t o) ∙ append-nil (row_flats os (without_first 1 row)) ∙ ap (after_first os) (sym e))
+    let some : 0 < row.count = there.1 in (
+      subst (HasRow os) (sym f) (rest_there os row 1 (omega (arith, some)) there.0),
+      ap₂ (λ a b. row_flats os a ++ b) f (nothing_left os t o) ∙ append-nil (row_flats os (without_first 1 row)) ∙ ap (after_first os) (sym e),
+    )
 
 pub enters_records : (os : List ℕ) (r : KeptRow) (t : RecordsLeft) (n : Node) (k : KeptRecords) → n ≡ kept.Records k.order k.members k.count k.from → t ≡ first_begun k
     → HasOctets os n → r.count ≡ 0 → HasLeft os t × (row_flats os r ++ records_left os t ≡ after_first os n)
 enters_records os r t n k e f h z =
-    let there : HasRecords os k = kept_same os k (subst (HasOctets os) e h) in
-    (subst (HasLeft os) (sym f) (begun_there os k there),
-      ap₂ (λ a b. a ++ records_left os b) (no_row_left os r z) f ∙ ap (after_first os) (sym e))
+    let there : HasRecords os k = kept_same os k (subst (HasOctets os) e h) in (
+      subst (HasLeft os) (sym f) (begun_there os k there),
+      ap₂ (λ a b. a ++ records_left os b) (no_row_left os r z) f ∙ ap (after_first os) (sym e),
+    )
 
 pub enters_none : (os : List ℕ) (r : KeptRow) (t : RecordsLeft) → r.count ≡ 0 → IsOver t → row_flats os r ++ records_left os t ≡ []
 enters_none os r t z o = ap₂ (λ a b. a ++ b) (no_row_left os r z) (nothing_left os t o)

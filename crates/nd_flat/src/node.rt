@@ -53,13 +53,30 @@ pub enum Node {
     // -1 minus this
     Negative(u64),
     Rec(u32),
-    Arr { max: u32, offset: u32, count: u32 },
-    Text { max: u32, len: u32, from: usize },
-    Tag { tag: u64, armed: bool },
-    NegativeTag { tag: u64, armed: bool },
+    Arr {
+        max: u32,
+        offset: u32,
+        count: u32,
+    },
+    Text {
+        max: u32,
+        len: u32,
+        from: usize,
+    },
+    Tag {
+        tag: u64,
+        armed: bool,
+    },
+    NegativeTag {
+        tag: u64,
+        armed: bool,
+    },
     Null,
     Ptr(CellId),
-    Context { attributes: u32, id: Uuid },
+    Context {
+        attributes: u32,
+        id: Uuid,
+    },
     Pipe(u32),
     // so many number nodes as the row has numbers
     Row(KeptRow),
