@@ -217,7 +217,9 @@ pub(crate) fn next_seen<'a>(records: &mut RecordsLeft, octets: &'a [u8]) -> Seen
     ensures there { HasLeft octets.now records.new }
     ensures next { flat_seen result ∷ records_left octets.now records.new ≡ records_left octets.now records.old }
 {
-    if records.next < records.members.len {
+    let next = records.next;
+    let len = records.members.len;
+    if next < len {
         let number = next_number(records, octets);
         pass_member(records, octets);
         return Seen::Num(number);
