@@ -382,8 +382,14 @@ some_taken os k n to some e h =
     records_taken k.order ps n (to - k.from) (drop k.from os) (part_len to k.from a (records_len ps n) e (len_of ps n some))
     (part_room to k.from a (length os) (length (drop k.from os)) e h (length-drop k.from os))
 
-pub some_len : (ps : List Primitive) (n from to len : ℕ) → 0 < n → to ≡ from + ((n - 1) * stride ps + end_from 0 ps) → len ≡ to - from → len ≡ records_len ps n
-some_len ps n from to len some e g = g ∙ part_len to from ((n - 1) * stride ps + end_from 0 ps) (records_len ps n) e (len_of ps n some)
+-- and have as many
+pub some_wide : (os : List ℕ) (k : KeptRecords) (n to : ℕ) → 0 < n → to ≡ k.from + ((n - 1) * stride (members_of k.members) + end_from 0 (members_of k.members)) → to ≤ length os
+    → length (take (to - k.from) (drop k.from os)) ≡ records_len (members_of k.members) n
+some_wide os k n to some e h =
+    let ps : List Primitive = members_of k.members in
+    let a : ℕ = (n - 1) * stride ps + end_from 0 ps in
+    front_length (to - k.from) (drop k.from os) (part_room to k.from a (length os) (length (drop k.from os)) e h (length-drop k.from os))
+    ∙ part_len to k.from a (records_len ps n) e (len_of ps n some)
 
 -- ## What is left of structs
 
@@ -453,20 +459,31 @@ stride_fits f l c s e a h = let m = one_and_rest c s a in omega (arith, h, m)
 pub next_there : (os : List ℕ) (r : RecordsLeft) → HasLeft os r → 0 < r.count → r.from + stride (members_of r.members) ≤ length os
 next_there os r h some = stride_fits r.from (length os) r.count (stride (members_of r.members)) (end_from 0 (members_of r.members)) some h.there
 
+-- the octets of the next number, as code takes them
+pub number_cut : (os : List ℕ) (r : RecordsLeft) (p : Primitive) (b from w to : ℕ) → p ≡ next_prim r → b ≡ place r.at p → from ≡ r.from + b → w ≡ width p → to ≡ from + w
+    → value_of_octets r.order p (take (to - from) (drop from os)) ≡ next_value os r
+number_cut os r p b from w to pe be fe we te =
+    let k : to - from ≡ width p = omega (arith, te, we) in
+    let f : from ≡ r.from + place r.at p = fe ∙ ap (λ i. r.from + i) be in
+    ap₂ (λ i j. value_of_octets r.order p (take i (drop j os))) k f
+    ∙ ap (λ q. value_of_octets r.order q (take (width q) (drop (r.from + place r.at q) os))) pe
+
 -- past the node of the next struct
 pub begun_left : (os : List ℕ) (r : RecordsLeft) → HasLeft os r → r.members.len ≤ r.next → 0 < r.count
     → (HasLeft os (next_begun r)) × (records_left os r ≡ (tree.Rec, r.members.len) ∷ records_left os (next_begun r))
-begun_left os r h over some =
-    (begun_there os (after_this r) (after_there os r h some),
-      over_left os r over ∙ kept_first os (after_this r) some
-      ∙ ap (λ n. (tree.Rec, n) ∷ records_left os (next_begun r)) (front_length r.members.len r.members.prims h.members))
+begun_left os r h over some = (
+  begun_there os (after_this r) (after_there os r h some),
+  over_left os r over ∙ kept_first os (after_this r) some
+      ∙ ap (λ n. (tree.Rec, n) ∷ records_left os (next_begun r)) (front_length r.members.len r.members.prims h.members),
+)
 
 -- the next node is a number
 pub number_seen : (os : List ℕ) (old new : RecordsLeft) (z : ℤ) → HasLeft os old → old.next < old.members.len → new ≡ member_passed old → z ≡ next_value os old
     → (HasLeft os new) × ((tree.Num z, 0) ∷ records_left os new ≡ records_left os old)
-number_seen os old new z h l e v =
-    (subst (HasLeft os) (sym e) (passed_there os old h l),
-      ap₂ (λ y r. (tree.Num y, 0) ∷ records_left os r) v e ∙ sym (passed_nodes os old h l))
+number_seen os old new z h l e v = (
+  subst (HasLeft os) (sym e) (passed_there os old h l),
+  ap₂ (λ y r. (tree.Num y, 0) ∷ records_left os r) v e ∙ sym (passed_nodes os old h l),
+)
 
 -- the next node is that of a struct
 pub struct_seen : (os : List ℕ) (old new : RecordsLeft) → HasLeft os old → old.members.len ≤ old.next → 0 < old.count → new ≡ next_begun old

@@ -39,7 +39,7 @@ takes_left os r t ns k r' zs le e n w =
     (ap (λ fs. fs ++ (records_left os t ++ flats os ns)) cut ∙ append_assoc (num_flats zs) (row_flats os r') (records_left os t ++ flats os ns))
     w.texts there w.records w
 
-no_row_left : (os : List ℕ) (r : KeptRow) → r.count ≡ 0 → row_flats os r ≡ []
+pub no_row_left : (os : List ℕ) (r : KeptRow) → r.count ≡ 0 → row_flats os r ≡ []
 no_row_left os r e = ap (λ k. num_flats (row_values r.order r.of k (drop r.from os))) e
 
 -- in no row, and in no structs
@@ -115,24 +115,27 @@ takes_node os r t xs n ns f r' t' e o x s l h g w =
     ∙ ap (λ fs. f ∷ fs) (append_assoc (row_flats os r') (records_left os t') (flats os ns)))
     texts.1 h g w
 
--- a walk goes into a node: into its row, into its structs, or into neither
-pub enters_row : (os : List ℕ) (r : KeptRow) (t : RecordsLeft) (n : Node) (row : KeptRow) → n ≡ kept.Row row → r ≡ without_first 1 row → HasOctets os n → IsOver t
+-- a walk goes into a row, or into structs
+pub enters_row : (os : List ℕ) (r : KeptRow) (t : RecordsLeft) (n : Node) (row : KeptRow) → n ≡ kept.Row row → r ≡ without_first 1 row → HasOctets os n → records_left os t ≡ []
     → HasRow os r × (row_flats os r ++ records_left os t ≡ after_first os n)
 enters_row os r t n row e f h o =
     let there : HasRow os row × (0 < row.count) = subst (HasOctets os) e h in
-    let some : 0 < row.count = there.1 in
-    (subst (HasRow os) (sym f) (rest_there os row 1 (omega (arith, some)) there.0),
-      ap₂ (λ a b. row_flats os a ++ b) f (nothing_left os t o) ∙ append-nil (row_flats os (without_first 1 row)) ∙ ap (after_first os) (sym e))
+    let some : 0 < row.count = there.1 in (
+      subst (HasRow os) (sym f) (rest_there os row 1 (omega (arith, some)) there.0),
+      ap₂ (λ a b. row_flats os a ++ b) f o ∙ append-nil (row_flats os (without_first 1 row)) ∙ ap (after_first os) (sym e),
+    )
 
 pub enters_records : (os : List ℕ) (r : KeptRow) (t : RecordsLeft) (n : Node) (k : KeptRecords) → n ≡ kept.Records k.order k.members k.count k.from → t ≡ first_begun k
-    → HasOctets os n → r.count ≡ 0 → HasLeft os t × (row_flats os r ++ records_left os t ≡ after_first os n)
+    → HasOctets os n → row_flats os r ≡ [] → HasLeft os t × (row_flats os r ++ records_left os t ≡ after_first os n)
 enters_records os r t n k e f h z =
-    let there : HasRecords os k = kept_same os k (subst (HasOctets os) e h) in
-    (subst (HasLeft os) (sym f) (begun_there os k there),
-      ap₂ (λ a b. a ++ records_left os b) (no_row_left os r z) f ∙ ap (after_first os) (sym e))
+    let there : HasRecords os k = kept_same os k (subst (HasOctets os) e h) in (
+      subst (HasLeft os) (sym f) (begun_there os k there),
+      ap₂ (λ a b. a ++ records_left os b) z f ∙ ap (after_first os) (sym e),
+    )
 
-pub enters_none : (os : List ℕ) (r : KeptRow) (t : RecordsLeft) → r.count ≡ 0 → IsOver t → row_flats os r ++ records_left os t ≡ []
-enters_none os r t z o = ap₂ (λ a b. a ++ b) (no_row_left os r z) (nothing_left os t o)
+-- there are some of them
+pub some_kept : (os : List ℕ) (n : Node) (k : KeptRecords) → n ≡ kept.Records k.order k.members k.count k.from → HasOctets os n → 0 < k.count
+some_kept os n k e h = (kept_same os k (subst (HasOctets os) e h)).some
 
 -- Numbers that were taken are the first trees, and what is left is the others.
 nums_flat : (zs : List ℤ) → flat (num_trees zs) ≡ num_flats zs

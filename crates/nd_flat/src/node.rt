@@ -3,7 +3,7 @@ ghost use Rattle.std.specs.Prelude.{◌≡◌, ℕ, List, [], ◌∷◌, ◌++�
 ghost use Rattle.nd_value.specs.Tree as tree;
 ghost use Rattle.nd_value.specs.Seen.{cell_number};
 ghost use Rattle.nd_flat.specs.FlatForm.{seen_nodes, flat_seen, HasOctets, HasRow, after_first, row_flats, IsKeepable, IsKeepableNumber, text_of, armed_count, num_flats, row_numbers, IsRow};
-ghost use Rattle.nd_flat.specs.Records.{IsOver, HasLeft, IsRecords, records_left, all_records};
+ghost use Rattle.nd_flat.specs.Records.{HasLeft, IsRecords, records_left, all_records};
 
 use crate::records::{KeptRecords, RecordsLeft, begun};
 use crate::row::{KeptRow, first_number, without_first};
@@ -53,13 +53,30 @@ pub enum Node {
     // -1 minus this
     Negative(u64),
     Rec(u32),
-    Arr { max: u32, offset: u32, count: u32 },
-    Text { max: u32, len: u32, from: usize },
-    Tag { tag: u64, armed: bool },
-    NegativeTag { tag: u64, armed: bool },
+    Arr {
+        max: u32,
+        offset: u32,
+        count: u32,
+    },
+    Text {
+        max: u32,
+        len: u32,
+        from: usize,
+    },
+    Tag {
+        tag: u64,
+        armed: bool,
+    },
+    NegativeTag {
+        tag: u64,
+        armed: bool,
+    },
     Null,
     Ptr(CellId),
-    Context { attributes: u32, id: Uuid },
+    Context {
+        attributes: u32,
+        id: Uuid,
+    },
     Pipe(u32),
     // so many number nodes as the row has numbers
     Row(KeptRow),
@@ -81,27 +98,31 @@ const _: () = prove!(NODE_SIZE == 24);
 pub(crate) fn enter(left: &mut KeptRow, records: &mut RecordsLeft, node: &Node, octets: &[u8])
     requires within { HasOctets octets.now node.now }
     requires row { HasRow octets.now left.old }
-    requires no_row { left.old.count ≡ 0 }
+    requires no_row { row_flats octets.now left.old ≡ [] }
     requires records { HasLeft octets.now records.old }
-    requires no_records { IsOver records.old }
+    requires no_records { records_left octets.now records.old ≡ [] }
     ensures row { HasRow octets.now left.new }
     ensures records { HasLeft octets.now records.new }
     ensures nodes { row_flats octets.now left.new ++ records_left octets.now records.new ≡ after_first octets.now node.now }
 {
     match node {
-        Node::Row(row) => *left = without_first(*row, 1, octets),
+        Node::Row(row) => {
+            let rest = without_first(*row, 1, octets);
+            *left = rest;
+        }
         Node::Records {
             order,
             members,
             count,
             from,
         } => {
-            *records = begun(KeptRecords {
+            let rest = begun(KeptRecords {
                 order: *order,
                 members: *members,
                 count: *count,
                 from: *from,
             });
+            *records = rest;
         }
         _ => {}
     }

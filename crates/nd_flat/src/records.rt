@@ -217,13 +217,25 @@ pub(crate) fn next_seen<'a>(records: &mut RecordsLeft, octets: &'a [u8]) -> Seen
     ensures there { HasLeft octets.now records.new }
     ensures next { flat_seen result ∷ records_left octets.now records.new ≡ records_left octets.now records.old }
 {
-    if records.next < records.members.len {
+    let next = records.next;
+    let len = records.members.len;
+    if next < len {
         let number = next_number(records, octets);
         pass_member(records, octets);
         return Seen::Num(number);
     }
     begin_next(records, octets);
     Seen::Rec(u32::from(records.members.len))
+}
+
+// The next member.
+#[inline(always)]
+fn next_of(records: &RecordsLeft) -> Prim
+    requires whole { IsMembers records.now.members }
+    requires some { records.now.next < records.now.members.len }
+    ensures { result ≡ next_prim records.now }
+{
+    records.members.prims[records.next as usize]
 }
 
 // The number of the next member.
@@ -234,7 +246,7 @@ fn next_number(records: &RecordsLeft, octets: &[u8]) -> i128
     requires there { records.now.from + (place records.now.at (next_prim records.now) + width (next_prim records.now)) ≤ length octets.now }
     ensures { result ≡ next_value octets.now records.now }
 {
-    let prim = records.members.prims[records.next as usize];
+    let prim = next_of(records);
     let from = records.from + place_of(records.at, prim);
     let to = from + width_of(prim);
     read_num(records.order, prim, &octets[from..to])
@@ -248,7 +260,7 @@ fn pass_member(records: &mut RecordsLeft, octets: &[u8])
     requires there { records.old.from + (place records.old.at (next_prim records.old) + width (next_prim records.old)) ≤ length octets.now }
     ensures { records.new ≡ member_passed records.old }
 {
-    let prim = records.members.prims[records.next as usize];
+    let prim = next_of(records);
     let at = place_of(records.at, prim);
     records.at = at + width_of(prim);
     records.next += 1;

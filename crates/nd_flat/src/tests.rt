@@ -181,7 +181,16 @@ fn structs_are_given(rt: HostRuntime) -> Result<(), Fail> {
     let graph = structs(rt.alloc(), interface.tie())?;
     let mut walk = graph.walk(Home::Root(0));
     assert!(rt; walk.records(9).is_none());
-    assert!(rt; matches!(walk.step(), Some(Seen::Arr { max: 3, offset: 0, count: 3 })));
+    assert!(rt;
+        matches!(
+            walk.step(),
+            Some(Seen::Arr {
+                max: 3,
+                offset: 0,
+                count: 3
+            })
+        )
+    );
     assert!(rt; matches!(walk.step(), Some(Seen::Rec(3))));
     assert!(rt; walk.records(9).is_none());
     assert!(rt; matches!(walk.step(), Some(Seen::Num(1))));

@@ -4,7 +4,8 @@ use mir.Val.{SFits}
 use mir.Syntax.{w128}
 use Rattle.nd_value.specs.Tree.{flat, unflat}
 use Rattle.nd_flat.specs.FlatForm.{flat_seen, left_flats, num_flat, row_values}
-use Rattle.nd_flat.proofs.RowWalks.{takes_left, takes_node, takes_within}
+use Rattle.nd_flat.proofs.RecordLaws.{nothing_left}
+use Rattle.nd_flat.proofs.RowWalks.{takes_left, takes_node, takes_within, no_row_left}
 use Rattle.nd_flat.proofs.walk.Walk.step.Goals as goal
 
 pub invariant_of-self : goal.invariant_of-self
@@ -37,6 +38,15 @@ returns-then-has_more-clause-some c =
     let empty : s.left.count ≡ 0 = let h = c.if-left-gt0.false in omega (arith, h) in
     let g = takes_within s.octets.now s.left s.records s.nodes.now (flat_seen c.next_seen.result) c.next_seen.new.records empty c.next_seen.ensures.next c.next_seen.ensures.there c.self.invariant in
     ap flat (sym c.self.view_is) ∙ g.nodes
+
+pub enter-requires-clause-no_row : goal.enter-requires-clause-no_row
+enter-requires-clause-no_row c =
+    let s = c.self.inside in
+    let empty : s.left.count ≡ 0 = let h = c.if-left-gt0.false in omega (arith, h) in
+    no_row_left s.octets.now s.left empty
+
+pub enter-requires-clause-no_records : goal.enter-requires-clause-no_records
+enter-requires-clause-no_records c = nothing_left c.self.inside.octets.now c.self.inside.records (c.has_more.ensures.over c.if-has_more.false)
 
 pub invariant_of-self-3 : goal.invariant_of-self-3
 invariant_of-self-3 c =
