@@ -21,10 +21,10 @@ use Rattle.ndr_machine.specs.Records.{slot_of, slots_of}
 -- ## Multiples
 
 -- 1, 2, 4 or 8
-abbrev IsWide : ℕ → Type 0
+abbrev pub IsWide : ℕ → Type 0
 IsWide w = (w ≡ 1) ⊎ ((w ≡ 2) ⊎ ((w ≡ 4) ⊎ (w ≡ 8)))
 
-wide : (p : Primitive) → IsWide (width p)
+pub wide : (p : Primitive) → IsWide (width p)
 wide Boolean = inl refl
 wide Char = inl refl
 wide Byte = inl refl
@@ -70,7 +70,7 @@ lesser_multiple a w v (inr (inr (inr e))) (inr (inr (inl f))) l h = absurd (omeg
 lesser_multiple a w v (inr (inr (inr e))) (inr (inr (inr f))) l h = subst (λ k. a % k ≡ 0) (f ∙ sym e) h
 
 -- a gap is the same at places that are a multiple apart
-same_gap : (a x w : ℕ) → IsWide w → a % w ≡ 0 → gap (a + x) w ≡ gap x w
+pub same_gap : (a x w : ℕ) → IsWide w → a % w ≡ 0 → gap (a + x) w ≡ gap x w
 same_gap a x w (inl e) h = subst (λ k. gap (a + x) k ≡ gap x k) (sym e) (omega arith)
 same_gap a x w (inr (inl e)) h = subst (λ k. gap (a + x) k ≡ gap x k) (sym e) (let g : a % 2 ≡ 0 = subst (λ k. a % k ≡ 0) e h in omega (arith, g))
 same_gap a x w (inr (inr (inl e))) h = subst (λ k. gap (a + x) k ≡ gap x k) (sym e) (let g : a % 4 ≡ 0 = subst (λ k. a % k ≡ 0) e h in omega (arith, g))
@@ -86,7 +86,7 @@ gap_ends a x w (inr (inr (inr e))) h = subst (λ k. (a + (x + gap x k)) % k ≡ 
 -- ## Members
 
 -- each width goes into a place
-abbrev AreMultiples : ℕ → List Primitive → Type 0
+abbrev pub AreMultiples : ℕ → List Primitive → Type 0
 AreMultiples a [] = Unit {0}
 AreMultiples a (p ∷ ps) = (a % width p ≡ 0) × AreMultiples a ps
 
@@ -99,7 +99,7 @@ multiples_from a w v (p ∷ ps) g l h =
 pub multiples : (a : ℕ) (ps : List Primitive) → a % widest_from 1 ps ≡ 0 → AreMultiples a ps
 multiples a ps h = multiples_from a 1 (widest_from 1 ps) ps (widest_wide 1 ps (inl refl)) (omega arith) h
 
-sum_on : (a x g w : ℕ) → a + x + g + w ≡ a + (x + g + w)
+pub sum_on : (a x g w : ℕ) → a + x + g + w ≡ a + (x + g + w)
 sum_on a x g w = omega arith
 
 len_on : (g w s x e : ℕ) → s + (x + g + w) ≡ e → g + (w + s) + x ≡ e
