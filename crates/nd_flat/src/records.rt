@@ -25,6 +25,7 @@ impl Members {
     pub fn none() -> Members
         ensures members { members_of result ≡ [] }
         ensures whole { IsMembers result }
+        ensures len { result.len ≡ 0 }
     {
         Members {
             len: 0,
