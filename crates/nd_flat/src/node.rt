@@ -170,7 +170,7 @@ pub(crate) fn first_seen<'a>(node: &Node, octets: &'a [u8]) -> Seen<'a>
             members,
             count: _count,
             from: _from,
-        } => Seen::Rec(u32::from(members.len)),
+        } => Seen::Rec(members.len as u32),
     }
 }
 

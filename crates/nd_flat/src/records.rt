@@ -226,7 +226,7 @@ pub(crate) fn next_seen<'a>(records: &mut RecordsLeft, octets: &'a [u8]) -> Seen
         return Seen::Num(number);
     }
     begin_next(records, octets);
-    Seen::Rec(u32::from(records.members.len))
+    Seen::Rec(records.members.len as u32)
 }
 
 // The next member.

@@ -13,7 +13,7 @@ returns-in-Row-clause-nodes c =
 pub begun-rest-requires : goal.begun-rest-requires
 begun-rest-requires c =
     let k : KeptRecords = record { order = c.in-Records.order; members = c.in-Records.members; count = c.in-Records.count; from = c.in-Records.from } in
-    some_kept c.args.octets.now c.args.node.now k c.in-Records.is c.requires.within
+    record { some = some_kept c.args.octets.now c.args.node.now k c.in-Records.is c.requires.within }
 
 pub returns-in-Records-clause-records : goal.returns-in-Records-clause-records
 returns-in-Records-clause-records c =

@@ -29,6 +29,15 @@ left_after-self-inside-requires-clause-there c =
     some_end s.octets.now c.structs_after-next.result c.least-some.result
     (subst (HasRecords s.octets.now) (sym c.structs_after-next.ensures) (after_there s.octets.now s.records c.self.invariant.records within)) some c.least-some.ensures.first
 
+pub first_records-requires-clause-there : goal.first_records-requires-clause-there
+first_records-requires-clause-there c =
+    let s = c.self.inside in
+    let within : 0 < s.records.count = let h = c.if-within-gt0.true in omega (arith, h) in
+    let count : 0 < c.structs_after-next.result.count = let e = ap (λ (k : KeptRecords). k.count) c.structs_after-next.ensures in omega (arith, within, e) in
+    let some = c.least-some.ensures.some count (let h = c.if-most-eq0.false in omega (arith, h)) in
+    some_end s.octets.now c.structs_after-next.result c.least-some.result
+    (subst (HasRecords s.octets.now) (sym c.structs_after-next.ensures) (after_there s.octets.now s.records c.self.invariant.records within)) some c.least-some.ensures.first
+
 pub invariant_of-self : goal.invariant_of-self
 invariant_of-self c =
     let s = c.self.inside in
@@ -53,8 +62,16 @@ returns-then-within-gt0-clause-some c =
 
 -- ## The structs of the next node
 
-pub left_after-self-inside-2-requires-clause-there : goal.left_after-self-inside-2-requires-clause-there
-left_after-self-inside-2-requires-clause-there c =
+pub left_after-self-inside-requires-2-clause-there : goal.left_after-self-inside-requires-2-clause-there
+left_after-self-inside-requires-2-clause-there c =
+    let s = c.self.inside in
+    let k : KeptRecords = record { order = c.in-Records.order; members = c.in-Records.members; count = c.in-Records.count; from = c.in-Records.from } in
+    let there = next_kept s.octets.now s.nodes.now c.in_ok-first.first.now c.in_ok-first.rest.now k c.in_ok-first.ensures.cases.0 c.in-Records.is c.self.invariant.texts in
+    let some = c.least-some-2.ensures.some there.some (let h = c.if-most-eq0.false in omega (arith, h)) in
+    some_end s.octets.now k c.least-some-2.result there some c.least-some-2.ensures.first
+
+pub first_records-requires-2-clause-there : goal.first_records-requires-2-clause-there
+first_records-requires-2-clause-there c =
     let s = c.self.inside in
     let k : KeptRecords = record { order = c.in-Records.order; members = c.in-Records.members; count = c.in-Records.count; from = c.in-Records.from } in
     let there = next_kept s.octets.now s.nodes.now c.in_ok-first.first.now c.in_ok-first.rest.now k c.in_ok-first.ensures.cases.0 c.in-Records.is c.self.invariant.texts in

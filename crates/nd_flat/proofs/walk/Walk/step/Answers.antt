@@ -25,8 +25,8 @@ returns-then-left-gt0-clause-some c =
     ap flat (sym c.self.view_is) ∙ g.nodes
     ∙ ap (λ y. num_flat y ∷ flat (unflat (left_flats s.octets.now c.without_first-self-inside.result s.records s.nodes.now))) (sym (to_z-of_z w128 z fits))
 
-pub invariant_of-self-2 : goal.invariant_of-self-2
-invariant_of-self-2 c =
+pub invariant_of-self-then-has_more : goal.invariant_of-self-then-has_more
+invariant_of-self-then-has_more c =
     let s = c.self.inside in
     let empty : s.left.count ≡ 0 = let h = c.if-left-gt0.false in omega (arith, h) in
     let g = takes_within s.octets.now s.left s.records s.nodes.now (flat_seen c.next_seen.result) c.next_seen.new.records empty c.next_seen.ensures.next c.next_seen.ensures.there c.self.invariant in
@@ -48,8 +48,8 @@ enter-requires-clause-no_row c =
 pub enter-requires-clause-no_records : goal.enter-requires-clause-no_records
 enter-requires-clause-no_records c = nothing_left c.self.inside.octets.now c.self.inside.records (c.has_more.ensures.over c.if-has_more.false)
 
-pub invariant_of-self-3 : goal.invariant_of-self-3
-invariant_of-self-3 c =
+pub invariant_of-self-2 : goal.invariant_of-self-2
+invariant_of-self-2 c =
     let s = c.self.inside in
     let empty : s.left.count ≡ 0 = let h = c.if-left-gt0.false in omega (arith, h) in
     let over = c.has_more.ensures.over c.if-has_more.false in
