@@ -1,0 +1,9 @@
+//! Tests of the public calls of graphs on worked rows: which graphs fit, which misfit is the first, `canonical`, `same`.
+#![tactic(auto)]
+
+#[cfg(test)]
+mod graphs;
+#[cfg(test)]
+mod interface;
+#[cfg(test)]
+mod tests;

@@ -1,0 +1,26 @@
+import sys,os,hashlib
+R,crate=sys.argv[1:3]
+deps={};order=[]
+for l in open(R+'/crates.txt'):
+    if ':' in l:
+        n,d=l.rstrip('\n').split(':'); deps[n]=d.split(); order.append(n)
+done=[]
+def visit(c):
+    if c in done: return
+    for d in deps.get(c,()):
+        if d in deps: visit(d)
+    done.append(c)
+visit(crate)
+def text(r,c):
+    h=hashlib.sha1(); p=f'{r}/crates/{c}'
+    for sub in ('src','specs','proofs'):
+        for d,ds,f in sorted(os.walk(f'{p}/{sub}')):
+            for n in sorted(f):
+                if n=='tests.rt': continue
+                h.update((os.path.relpath(os.path.join(d,n),p)).encode()); h.update(open(os.path.join(d,n),'rb').read())
+    return h.hexdigest()
+H={}
+for c in done: H[c]=hashlib.sha1((text(R,c)+''.join(H[d] for d in deps[c] if d in deps)).encode()).hexdigest()[:16]
+for c in done:
+    if c.startswith('ndr_'): print(c,H[c],os.path.isdir(f'/work/c/rl/{H[c]}/{c}.rlib'))
+print(H[crate])
