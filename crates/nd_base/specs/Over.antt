@@ -1,4 +1,4 @@
--- What files, sources and sinks show over a call: what they told before and after it, and their counts.
+-- What files, sources and sinks show over a call: what they showed before and after it, and their counts.
 use Rattle.std.specs.Prelude.{◌≡◌, ℕ, Bool, List, Option, ◌++◌}
 use Rattle.std.specs.Io.KnownBytes.{Appends}
 use Rattle.nd_base.specs.Counts.{Rose}

@@ -39,7 +39,7 @@ impl Ledger for Uncounted {
     }
 }
 
-/// Keeps the number, and tells it up to the greatest value of a `u64`.
+/// Keeps the number, and reports it up to the greatest value of a `u64`.
 #[derive(Drop)]
 pub struct Counted {
     number: GhostNumber,

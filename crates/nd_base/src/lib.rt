@@ -1,5 +1,5 @@
-//! Octets and names, and the traits of what stands outside: sources, sinks and files. Each of these is known
-//! by what it tells of itself, and by counts of its faults. Running out of memory is an answer of each call that takes
+//! Octets and names, and the traits of what is outside: sources, sinks and files. Each of these is known
+//! by what it shows of itself, and by counts of its faults. Running out of memory is an answer of each call that takes
 //! memory, and has no cause that a contract could name.
 #![tactic(auto)]
 
@@ -13,6 +13,7 @@ mod octets;
 mod outside;
 mod pieces;
 mod plain;
+mod pushing;
 mod real;
 #[cfg(test)]
 mod tests;
@@ -24,6 +25,7 @@ pub use memory::{MemSink, MemSource};
 pub use octets::{Memory, Name, Octets, Order, Place};
 pub use outside::{FileFault, Files, ReadFailed, Sink, Source, WriteFailed};
 pub use plain::{PlainSink, PlainSource};
+pub use pushing::push;
 pub use real::{FolderFiles, InputSource, OutputSink};
 
 /// The greatest number of octets of a file that is loaded by its name. Of a longer one `load` gives this many

@@ -38,9 +38,25 @@ impl Source for PlainSource {
         self.at += count;
         Ok(count)
     }
+
+    #[inline(always)]
+    fn fill(&mut self, buf: &mut [u8]) -> bool {
+        let octets = &self.octets.as_slice()[self.at..];
+        if octets.len() < buf.len() {
+            return false;
+        }
+        buf.copy_from_slice(&octets[..buf.len()]);
+        self.at += buf.len();
+        true
+    }
+
+    #[inline(always)]
+    fn ahead(&self) -> usize {
+        self.octets.as_slice().len() - self.at
+    }
 }
 
-/// A sink that keeps nothing, tells nothing and never fails. Its count of faults is always 0.
+/// A sink that keeps nothing, shows nothing and never fails. Its count of faults is always 0.
 #[derive(Clone, Copy, Debug)]
 pub struct PlainSink;
 

@@ -21,7 +21,7 @@ pub enum Reason {
     TextZero,
     /// A tag selects no arm, and there is no default.
     NoArm,
-    /// A full pointer's number stands already for a referent of another type.
+    /// A full pointer's number already names a referent of another type.
     OtherType,
     /// An attribute states another number than was found.
     Disagrees { wanted: i128, found: i128 },

@@ -11,7 +11,7 @@ use nd_base::Name;
 /// keep every rule of the language that can be read off them, and its names are identifiers.
 #[derive(Drop)]
 pub struct Interface {
-    /// The name that stands after `interface`.
+    /// The name after `interface`.
     pub name: Name,
     /// The UUID, where one is written: the number whose most significant octet is written first.
     pub uuid: Option<u128>,

@@ -32,7 +32,7 @@ impl Numbers {
         }
     }
 
-    /// Appends an item, which may take memory. Where that is wanting the item is handed back, and nothing has changed.
+    /// Appends an item, which may take memory. Out of memory the item is handed back, and nothing has changed.
     pub fn push(&mut self, item: i128) -> Result<(), (Memory, i128)>
         ensures ok { OnOk result (self.new ≡ self.old ++ item ∷ []) }
         ensures err { OnErr result (self.new ≡ self.old) }
@@ -85,7 +85,7 @@ impl AttrVars {
         }
     }
 
-    /// Appends an item, which may take memory. Where that is wanting the item is handed back, and nothing has changed.
+    /// Appends an item, which may take memory. Out of memory the item is handed back, and nothing has changed.
     pub fn push(&mut self, item: AttrVar) -> Result<(), (Memory, AttrVar)>
         ensures ok { OnOk result (self.new ≡ self.old ++ item ∷ []) }
         ensures err { OnErr result (self.new ≡ self.old) }
@@ -138,7 +138,7 @@ impl Fields {
         }
     }
 
-    /// Appends an item, which may take memory. Where that is wanting the item is handed back, and nothing has changed.
+    /// Appends an item, which may take memory. Out of memory the item is handed back, and nothing has changed.
     pub fn push(&mut self, item: Field) -> Result<(), (Memory, Field)>
         ensures ok { OnOk result (self.new ≡ self.old ++ item ∷ []) }
         ensures err { OnErr result (self.new ≡ self.old) }
@@ -198,7 +198,7 @@ impl Arms {
         }
     }
 
-    /// Appends an item, which may take memory. Where that is wanting the item is handed back, and nothing has changed.
+    /// Appends an item, which may take memory. Out of memory the item is handed back, and nothing has changed.
     pub fn push(&mut self, item: Arm) -> Result<(), (Memory, Arm)>
         ensures ok { OnOk result (self.new ≡ self.old ++ item ∷ []) }
         ensures err { OnErr result (self.new ≡ self.old) }
@@ -258,7 +258,7 @@ impl Params {
         }
     }
 
-    /// Appends an item, which may take memory. Where that is wanting the item is handed back, and nothing has changed.
+    /// Appends an item, which may take memory. Out of memory the item is handed back, and nothing has changed.
     pub fn push(&mut self, item: Param) -> Result<(), (Memory, Param)>
         ensures ok { OnOk result (self.new ≡ self.old ++ item ∷ []) }
         ensures err { OnErr result (self.new ≡ self.old) }
@@ -344,7 +344,7 @@ impl Types {
         }
     }
 
-    /// Appends an item, which may take memory. Where that is wanting the item is handed back, and nothing has changed.
+    /// Appends an item, which may take memory. Out of memory the item is handed back, and nothing has changed.
     pub fn push(&mut self, item: TypeDef) -> Result<(), (Memory, TypeDef)>
         ensures ok { OnOk result (self.new ≡ self.old ++ item ∷ []) }
         ensures err { OnErr result (self.new ≡ self.old) }
@@ -404,7 +404,7 @@ impl Operations {
         }
     }
 
-    /// Appends an item, which may take memory. Where that is wanting the item is handed back, and nothing has changed.
+    /// Appends an item, which may take memory. Out of memory the item is handed back, and nothing has changed.
     pub fn push(&mut self, item: Operation) -> Result<(), (Memory, Operation)>
         ensures ok { OnOk result (self.new ≡ self.old ++ item ∷ []) }
         ensures err { OnErr result (self.new ≡ self.old) }

@@ -49,7 +49,7 @@ pub enum Class {
 }
 
 /// A field attribute that ties a count, an offset or a tag to a variable (C706, 4.2.18), in the order in which
-/// the attributes of one field stand and are checked.
+/// the attributes of one field are listed and checked.
 #[derive(Clone, Copy, Debug, PartialEq, Eq)]
 pub enum Attr {
     /// size_is: the maximum count.

@@ -1,7 +1,7 @@
 // Places in a graph, and the items of a stream.
 use crate::CellId;
 
-/// Where a value stands as a whole: as a root, by its index from 0, or as the referent of pointers.
+/// Where a value is as a whole: as a root, by its index from 0, or as the referent of pointers.
 #[derive(Clone, Copy, Debug, PartialEq, Eq)]
 pub enum Home {
     Root(u32),

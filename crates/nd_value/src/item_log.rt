@@ -67,6 +67,17 @@ impl ItemLog {
         Ok(())
     }
 
+    /// Whether it keeps items. Takes no memory.
+    #[inline(always)]
+    pub fn keeps(&self) -> bool
+        ensures { result ≡ self.now.keeps }
+    {
+        match &self.items {
+            Some(_) => true,
+            None => false,
+        }
+    }
+
     /// The number of items that it keeps. Takes no memory.
     pub fn len(&self) -> usize
         ensures { result ≡ length self.now.items }

@@ -34,7 +34,7 @@ pub enum MisfitReason {
 /// Why a graph is no fit.
 #[derive(Clone, Copy, Debug, PartialEq, Eq, Error)]
 pub enum Misfit {
-    /// Memory was wanting.
+    /// Out of memory.
     #[error("out of memory")]
     Memory,
     /// The graph does not conform, and this is its first misfit: the home and its node, counted depth first from 0, and why.

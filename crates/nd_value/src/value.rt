@@ -127,7 +127,7 @@ impl Vals {
         }
     }
 
-    /// Appends a value, which may take memory. Where that is wanting the value is handed back, and nothing has changed.
+    /// Appends a value, which may take memory. Out of memory the value is handed back, and nothing has changed.
     pub fn push(&mut self, val: Val) -> Result<(), (Memory, Val)>
         ensures ok { OnOk result (self.new ≡ self.old ++ tree_of val ∷ []) }
         ensures err { OnErr result (self.new ≡ self.old) }
@@ -192,7 +192,7 @@ impl Cells {
         }
     }
 
-    /// Appends a cell, which may take memory. Where that is wanting the cell is handed back, and nothing has changed.
+    /// Appends a cell, which may take memory. Out of memory the cell is handed back, and nothing has changed.
     pub fn push(&mut self, cell: Cell) -> Result<(), (Memory, Cell)>
         ensures ok { OnOk result (self.new ≡ self.old ++ cell_of cell ∷ []) }
         ensures err { OnErr result (self.new ≡ self.old) }

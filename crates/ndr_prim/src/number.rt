@@ -34,9 +34,59 @@ fn patterns_of(prim: Prim) -> i128
     }
 }
 
-/// The unsigned number that octets spell.
+/// The unsigned number that octets spell. Those of most primitives are read at once.
 #[inline(always)]
 fn read_unsigned(order: Order, from: &[u8]) -> u64
+    requires some { 1 ≤ length from.now }
+    requires most { length from.now ≤ 8 }
+    ensures { result ≡ unsigned order from.now }
+{
+    match from.len() {
+        2 => u64::from(read_two(order, from)),
+        4 => u64::from(read_four(order, from)),
+        8 => read_eight(order, from),
+        _ => read_any(order, from),
+    }
+}
+
+/// The unsigned number that two octets spell.
+#[inline(always)]
+fn read_two(order: Order, from: &[u8]) -> u16
+    requires { length from.now ≡ 2 }
+    ensures { result ≡ unsigned order from.now }
+{
+    match order {
+        Order::Big => BigEndian::read_u16(from),
+        Order::Little => LittleEndian::read_u16(from),
+    }
+}
+
+/// The unsigned number that four octets spell.
+#[inline(always)]
+fn read_four(order: Order, from: &[u8]) -> u32
+    requires { length from.now ≡ 4 }
+    ensures { result ≡ unsigned order from.now }
+{
+    match order {
+        Order::Big => BigEndian::read_u32(from),
+        Order::Little => LittleEndian::read_u32(from),
+    }
+}
+
+/// The unsigned number that eight octets spell.
+#[inline(always)]
+fn read_eight(order: Order, from: &[u8]) -> u64
+    requires { length from.now ≡ 8 }
+    ensures { result ≡ unsigned order from.now }
+{
+    match order {
+        Order::Big => BigEndian::read_u64(from),
+        Order::Little => LittleEndian::read_u64(from),
+    }
+}
+
+/// The unsigned number that octets spell, however many they are.
+fn read_any(order: Order, from: &[u8]) -> u64
     requires some { 1 ≤ length from.now }
     requires most { length from.now ≤ 8 }
     ensures { result ≡ unsigned order from.now }

@@ -1,7 +1,7 @@
 use Rattle.std.proofs.Common.{ap, refl, sym, ◌∙◌}
 use Rattle.nd_types.specs.Number.{unsigned}
 use Rattle.ndr_prim.proofs.Octets.{big_number-whole, little_number-whole}
-use Rattle.ndr_prim.proofs.number.read_unsigned.Goals as goal
+use Rattle.ndr_prim.proofs.number.read_any.Goals as goal
 
 pub returns-in-Big : goal.returns-in-Big
 returns-in-Big c =
