@@ -12,6 +12,7 @@ use Rattle.nd_flat.specs.Forest.{tree_in, IsWhole}
 use Rattle.nd_flat.specs.FlatForm.{seen_nodes, flats, HasOctets, HaveOctets}
 use Rattle.nd_types.specs.Table.{width}
 use Rattle.nd_flat.proofs.RowLaws.{kept_row_grow}
+use Rattle.nd_flat.proofs.RecordLaws.{kept_records_grow, has_grown}
 use Rattle.nd_flat.specs.Store.{span_flats, span_tree, span_cell, IsSound}
 
 take2 : {A : Type 0} (len b : ℕ) (ns : List A) → len ≤ b → take len (take b ns) ≡ take len ns
@@ -68,6 +69,7 @@ text_grow os ps (kept.Ptr c) h = tt
 text_grow os ps (kept.Context a id) h = tt
 text_grow os ps (kept.Pipe k) h = tt
 text_grow os ps (kept.Row r) h = (let t : r.from + r.count * width r.of ≤ length os = h.0 in omega (arith, t, length-append os ps), h.1)
+text_grow os ps (kept.Records o m n from) h = has_grown os ps (record { order = o; members = m; count = n; from = from }) h
 
 piece_grow : (os ps : List ℕ) (len from : ℕ) → from + len ≤ length os → take len (drop from (os ++ ps)) ≡ take len (drop from os)
 piece_grow os ps len from h =
@@ -88,6 +90,7 @@ seen_grow os ps (kept.Ptr c) h = refl
 seen_grow os ps (kept.Context a id) h = refl
 seen_grow os ps (kept.Pipe k) h = refl
 seen_grow os ps (kept.Row r) h = kept_row_grow os ps r h.0
+seen_grow os ps (kept.Records o m n from) h = kept_records_grow os ps (record { order = o; members = m; count = n; from = from }) h
 
 pub map_grow : (os ps : List ℕ) (ns : List Node) → HaveOctets os ns → flats (os ++ ps) ns ≡ flats os ns
 map_grow os ps [] h = refl

@@ -13,15 +13,18 @@ use Rattle.nd_flat.specs.declared.flat.CellSpan.{CellSpan}
 use Rattle.nd_flat.specs.FlatForm.{flats, HasOctets, WalkParts, no_row}
 use Rattle.nd_flat.specs.Building.{HasHome, home_tree, referent_type}
 use Rattle.nd_flat.specs.Store.{span_nodes, span_flats, span_tree, span_cell, seen_graph, IsHome, IsKept, HasSpan, chosen_span, no_span, no_cell}
+use Rattle.nd_flat.specs.Records.{no_records}
 use Rattle.nd_flat.proofs.RowLaws.{no_row_there}
+use Rattle.nd_flat.proofs.RecordLaws.{no_records_there}
 use Rattle.nd_flat.proofs.Forests.{whole-forest, whole-is-forest}
 use Rattle.nd_flat.proofs.Frames.{all_take, all_drop, all_get, get_map}
 
 module _ (os : List ℕ) (ns : List Node) where
-  home_walk : (s : Span) → AllByRecursion (HasOctets os) ns → IsHome os ns s → WalkParts os no_row (span_nodes ns s)
+  home_walk : (s : Span) → AllByRecursion (HasOctets os) ns → IsHome os ns s → WalkParts os no_row no_records (span_nodes ns s)
   home_walk s t h = record {
     texts = all_take (HasOctets os) s.len (drop s.from ns) (all_drop (HasOctets os) s.from ns t);
     row = no_row_there os;
+    records = no_records_there os;
     forest = whole-is-forest (span_flats os ns s) h.whole;
   }
 
@@ -44,7 +47,7 @@ module _ (os : List ℕ) (ns : List Node) where
   chosen_tree rs cs (home.Cell c) l = sym (cell_tree_at rs cs c.0 l.0 l.1)
 
   -- what a walk goes over, and what it is seen as
-  pub walk_parts : (rs : List Span) (cs : List CellSpan) (h : Home) → IsKept os ns rs cs → HasSpan rs cs h → WalkParts os no_row (span_nodes ns (chosen_span rs cs h))
+  pub walk_parts : (rs : List Span) (cs : List CellSpan) (h : Home) → IsKept os ns rs cs → HasSpan rs cs h → WalkParts os no_row no_records (span_nodes ns (chosen_span rs cs h))
   walk_parts rs cs h k l = home_walk (chosen_span rs cs h) k.texts (chosen rs cs h k l)
 
   pub walk_seen : (rs : List Span) (cs : List CellSpan) (h : Home) → IsKept os ns rs cs → HasSpan rs cs h

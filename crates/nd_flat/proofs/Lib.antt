@@ -5,6 +5,7 @@ pub mod Raising
 pub mod Kept
 pub mod NoUnread
 pub mod RowLaws
+pub mod RecordLaws
 pub mod RowWalks
 pub mod NamedCells
 pub mod Homes

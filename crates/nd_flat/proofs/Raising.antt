@@ -13,6 +13,7 @@ use Rattle.nd_flat.specs.FlatForm.{seen_nodes, flats, HasOctets, HaveOctets}
 use Rattle.nd_flat.specs.Building.{Building, with_nodes, raised, IsPipe}
 use Rattle.nd_flat.specs.Store.{seen_graph, seen_builder, home_of, IsSound, IsBuilt, set_span, raised_at, raised_node, IsPipeAt, IsPipeNode}
 use Rattle.nd_flat.proofs.RowLaws.{kept_row_first}
+use Rattle.nd_flat.proofs.RecordLaws.{kept_first}
 use Rattle.nd_flat.proofs.Frames.{all_as, Keeps, keeps_front, kept_roots, kept_cells, kept_sound}
 
 pub set_span_is : (cs : List CellSpan) (i : ℕ) (s : Span) (d : CellSpan) → i < length cs
@@ -51,6 +52,8 @@ pipe_node os k (kept.Ptr c) fs t h = let e = h.0 in cc
 pipe_node os k (kept.Context a id) fs t h = let e = h.0 in cc
 pipe_node os k (kept.Pipe n) fs t h = h.1
 pipe_node os k (kept.Row r) fs t h = let g = subst (λ xs. IsPipe k (xs ++ fs)) (kept_row_first os r t.1) h in let e = g.0 in cc
+pipe_node os k (kept.Records o m n from) fs t h =
+    let g = subst (λ xs. IsPipe k (xs ++ fs)) (kept_first os (record { order = o; members = m; count = n; from = from }) t.some) h in let e = g.0 in cc
 
 pub pipe_at : (os : List ℕ) (k : ℕ) (ns : List Node) → HaveOctets os ns → IsPipe k (flats os ns) → IsPipeAt k ns
 pipe_at os k [] t h = h

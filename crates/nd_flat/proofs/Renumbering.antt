@@ -10,6 +10,11 @@ use Rattle.nd_value.specs.Tree.{Tree, Trees, Label, Flat, Referent, node, none, 
 use Rattle.nd_value.specs.Names.{AreThere}
 use Rattle.nd_value.specs.Same.{renumbered, renumbered_label}
 use Rattle.nd_value.specs.Setting.{cell_tree, cell_of_number}
+use Rattle.nd_base.specs.declared.octets.Order.{Order}
+use Rattle.nd_types.specs.declared.types.Primitive.{Primitive}
+use Rattle.nd_types.specs.Table.{width}
+use Rattle.nd_types.specs.Number.{value_of_octets}
+use Rattle.nd_flat.specs.Records.{place, stride, member_flats, records_flats, members_of}
 use Rattle.nd_flat.specs.declared.node.Node.{Node}
 use Rattle.nd_flat.specs.declared.node.Node.TheVariants as kept
 use Rattle.nd_flat.specs.declared.flat.Span.{Span}
@@ -75,6 +80,18 @@ module _ (m : ℕ → ℕ) where
   numbers_still [] = refl
   numbers_still (z ∷ zs) = ap (λ fs. (tree.Num z, 0) ∷ fs) (numbers_still zs)
 
+  members_still : (o : Order) (at : ℕ) (ps : List Primitive) (xs : List ℕ) → member_flats o at ps xs ≡ map renumbered_flat (member_flats o at ps xs)
+  members_still o at [] xs = refl
+  members_still o at (p ∷ ps) xs =
+      ap (λ fs. (tree.Num (value_of_octets o p (take (width p) (drop (place at p) xs))), 0) ∷ fs) (members_still o (place at p + width p) ps xs)
+
+  records_still : (o : Order) (ps : List Primitive) (n : ℕ) (xs : List ℕ) → records_flats o ps n xs ≡ map renumbered_flat (records_flats o ps n xs)
+  records_still o ps zero xs = refl
+  records_still o ps (suc n) xs =
+      ap (λ fs. (tree.Rec, length ps) ∷ fs)
+      (ap₂ (λ a b. a ++ b) (members_still o 0 ps xs) (records_still o ps n (drop (stride ps) xs))
+      ∙ sym (map-append renumbered_flat (member_flats o 0 ps xs) (records_flats o ps n (drop (stride ps) xs))))
+
 take_map : {A B : Type 0} (f : A → B) (k : ℕ) (xs : List A) → take k (map f xs) ≡ map f (take k xs)
 take_map f zero xs = refl
 take_map f (suc k) [] = refl
@@ -104,6 +121,7 @@ module _ (numbers os : List ℕ) where
   node_seen (kept.Context attributes id) = refl
   node_seen (kept.Pipe k) = refl
   node_seen (kept.Row r) = numbers_still m _
+  node_seen (kept.Records o ms n from) = records_still m o (members_of ms) n (drop from os)
 
   nodes_seen : (ns : List Node) → flats os (map (renumbered_node numbers) ns) ≡ map (renumbered_flat m) (flats os ns)
   nodes_seen [] = refl
@@ -122,6 +140,7 @@ module _ (numbers os : List ℕ) where
   node_texts (kept.Context attributes id) h = tt
   node_texts (kept.Pipe k) h = tt
   node_texts (kept.Row r) h = h
+  node_texts (kept.Records o ms n from) h = h
 
   texts : (ns : List Node) → HaveOctets os ns → HaveOctets os (map (renumbered_node numbers) ns)
   texts [] h = tt

@@ -13,6 +13,8 @@ use Rattle.nd_types.specs.Table.{width}
 use Rattle.nd_types.specs.Number.{value_of_octets}
 use Rattle.nd_flat.specs.declared.row.KeptRow.{KeptRow}
 use Rattle.nd_flat.specs.declared.row.Row.{Row}
+use Rattle.nd_flat.specs.declared.records.RecordsLeft.{RecordsLeft}
+use Rattle.nd_flat.specs.Records.{HasRecords, HasLeft, kept_flats, records_left, first_begun}
 use Rattle.nd_flat.specs.declared.node.Node.{Node}
 use Rattle.nd_flat.specs.declared.node.Node.TheVariants as kept
 use Rattle.nd_flat.specs.declared.node.Seen.{Seen}
@@ -77,7 +79,8 @@ without_first k r = record { order = r.order; of = r.of; count = r.count - k; fr
 abbrev pub no_row : KeptRow
 no_row = record { order = Little; of = Byte; count = 0; from = 0 }
 
--- The same as it is kept: one node, except a row, which is as many as it has numbers.
+-- The same as it is kept: one node, except a row, which is as many as it has numbers, and structs of numbers, which are one each and one for each of their
+-- members.
 abbrev pub seen_nodes : List ℕ → Node → List Flat
 seen_nodes os (kept.Num n) = (tree.Num (pos n), 0) ∷ []
 seen_nodes os (kept.Negative n) = (tree.Num (negsuc n), 0) ∷ []
@@ -91,35 +94,39 @@ seen_nodes os (kept.Ptr cell) = (tree.Ptr (Some cell.0), 0) ∷ []
 seen_nodes os (kept.Context attributes id) = (tree.Context attributes id, 0) ∷ []
 seen_nodes os (kept.Pipe k) = (tree.Pipe, k) ∷ []
 seen_nodes os (kept.Row r) = row_flats os r
+seen_nodes os (kept.Records o m n from) = kept_flats os (record { order = o; members = m; count = n; from = from })
 
--- what is left of a node after its first number
-abbrev pub left_of : Node → KeptRow
-left_of (kept.Row r) = without_first 1 r
-left_of _ = no_row
+-- what is left of a node after the first that it is seen as
+abbrev pub after_first : List ℕ → Node → List Flat
+after_first os (kept.Row r) = row_flats os (without_first 1 r)
+after_first os (kept.Records o m n from) = records_left os (first_begun (record { order = o; members = m; count = n; from = from }))
+after_first os _ = []
 
 -- all nodes
 abbrev pub flats : List ℕ → List Node → List Flat
 flats os [] = []
 flats os (n ∷ ns) = seen_nodes os n ++ flats os ns
 
--- the octets of a text, or of a row of some numbers, are there
+-- the octets of a text, of a row of some numbers, or of some structs, are there
 abbrev pub HasOctets : List ℕ → Node → Type 0
 HasOctets os (kept.Text max len from) = from + len ≤ length os
 HasOctets os (kept.Row r) = HasRow os r × (0 < r.count)
+HasOctets os (kept.Records o m n from) = HasRecords os (record { order = o; members = m; count = n; from = from })
 HasOctets os _ = Unit {0}
 
 abbrev pub HaveOctets : List ℕ → List Node → Type 0
 HaveOctets os ns = AllByRecursion (HasOctets os) ns
 
--- what is left of a walk: the rest of the row in which it is, and the nodes after
-abbrev pub left_flats : List ℕ → KeptRow → List Node → List Flat
-left_flats os r ns = row_flats os r ++ flats os ns
+-- what is left of a walk: the rest of the row in which it is, that of the structs in which it is, and the nodes after
+abbrev pub left_flats : List ℕ → KeptRow → RecordsLeft → List Node → List Flat
+left_flats os r t ns = row_flats os r ++ (records_left os t ++ flats os ns)
 
--- what a walk goes over: whole values, and the octets of their texts and rows
-pub record WalkParts (os : List ℕ) (r : KeptRow) (ns : List Node) : Type 0 where
+-- what a walk goes over: whole values, and the octets of their texts, rows and structs
+pub record WalkParts (os : List ℕ) (r : KeptRow) (t : RecordsLeft) (ns : List Node) : Type 0 where
   pub texts : HaveOctets os ns
   pub row : HasRow os r
-  pub forest : IsForest (left_flats os r ns)
+  pub records : HasLeft os t
+  pub forest : IsForest (left_flats os r t ns)
 
 -- a number that a node can keep: from -2^64 to 2^64 - 1
 abbrev pub IsKeepableNumber : ℤ → Type 0

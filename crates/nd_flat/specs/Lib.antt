@@ -1,4 +1,5 @@
 pub mod Forest
+pub mod Records
 pub mod FlatForm
 pub mod Building
 pub mod Store

@@ -5,14 +5,15 @@ ghost use Rattle.nd_value.specs.Tree.{Tree, Referent};
 ghost use Rattle.nd_value.specs.declared.item.Home.TheVariants as home;
 ghost use Rattle.nd_flat.specs.FlatForm.{flat_seen, seen_nodes, num_flats, row_numbers, HasOctets, IsKeepable, IsRow, text_of};
 ghost use Rattle.nd_flat.specs.Building.{CanClose, HasNoUnread, IsPipe, closed, opened, with_root, with_cell, with_node, with_nodes, with_numbers, with_graph, raised, fitting, start};
+ghost use Rattle.nd_flat.specs.Records.{IsRecords, all_records};
 ghost use Rattle.nd_value.specs.Fitting.{IsFit};
 ghost use Rattle.nd_value.specs.Request.{IsRequestOf};
 
 use crate::flat::{CellSpan, FlatGraph, Span};
 use crate::given::Given;
-use crate::node::{Node, kept_node, kept_row};
-use crate::{Fit, Row, Seen};
-use nd_base::{Ledger, Memory, Octets, Steps};
+use crate::node::{Node, kept_node, kept_records, kept_row};
+use crate::{Fit, Records, Row, Seen};
+use nd_base::{Ledger, Memory, Octets, Steps, push};
 use nd_types::{Side, Tie, TypeId};
 use nd_value::CellId;
 use std::alloc::Global;
@@ -103,6 +104,7 @@ impl Builder {
 
     /// Gives the next cell its number, from 1, and counts one step. The cell is of this type, and is not built yet. The home that is
     /// open stays open. It takes memory; out of memory is the only refusal, and counts nothing.
+    #[inline(always)]
     pub fn reserve<L: Ledger>(&mut self, of: TypeId, steps: &mut Steps<L>) -> Result<CellId, Memory>
         requires few { length self.old.graph.cells < 2 ^ 32 - 1 }
         ensures cell { IfOk result (λ c. c.0 ≡ length self.old.graph.cells + 1) }
@@ -112,7 +114,7 @@ impl Builder {
         ensures idle { OnErr result (steps.new ≡ steps.old) }
     {
         let cell = CellId(self.cells.len() as u32 + 1);
-        let Ok(()) = self.cells.push(CellSpan { of, span: EMPTY }) else {
+        let Ok(()) = push(&mut self.cells, CellSpan { of, span: EMPTY }) else {
             return Err(Memory);
         };
         steps.tick();
@@ -120,6 +122,7 @@ impl Builder {
     }
 
     /// Opens a cell that has its number; what it held before is gone. The home that was open must be whole. Takes no memory.
+    #[inline(always)]
     pub fn fill(&mut self, cell: CellId)
         requires whole { CanClose self.old }
         requires there { (0 < cell.0) × (cell.0 ≤ length self.old.graph.cells) }
@@ -144,7 +147,7 @@ impl Builder {
         ensures err { OnErr result (self.new ≡ self.old) }
     {
         let kept = kept_node(&mut self.octets, node)?;
-        let Ok(()) = self.nodes.push(kept) else {
+        let Ok(()) = push(&mut self.nodes, kept) else {
             return Err(Memory);
         };
         Ok(())
@@ -163,6 +166,37 @@ impl Builder {
             return Err(Memory);
         };
         Ok(())
+    }
+
+    /// Adds structs of numbers of the open home as its next nodes, which are kept side by side as they are. There must be one at least. It takes
+    /// memory for the octets and one node; out of memory is the only refusal.
+    pub fn records(&mut self, records: &Records<'_>) -> Result<(), Memory>
+        requires whole { IsRecords records.now }
+        requires some { 0 < records.now.count }
+        ensures ok { OnOk result (self.new ≡ with_nodes (self.old.nodes ++ all_records records.now) self.old) }
+        ensures err { OnErr result (self.new ≡ self.old) }
+    {
+        let kept = kept_records(&mut self.octets, records)?;
+        let Ok(()) = self.nodes.push(kept) else {
+            return Err(Memory);
+        };
+        Ok(())
+    }
+
+    /// Makes room for so many nodes and cells more, where memory has it, so that the lists need not be moved as they grow. It is no promise: what is added
+    /// later may find no memory.
+    pub fn make_room(&mut self, nodes: usize, cells: usize)
+        ensures { self.new ≡ self.old }
+    {
+        let _nodes = self.nodes.reserve_exact(nodes);
+        let _cells = self.cells.reserve_exact(cells);
+    }
+
+    /// Makes room for so many octets of texts, rows of numbers and structs more, in the same way.
+    pub fn make_room_for_octets(&mut self, octets: usize)
+        ensures { self.new ≡ self.old }
+    {
+        self.octets.make_room(octets);
     }
 
     /// Raises the number of elements of the pipe that is the open home: so many more are to be added. The sum must be below 2^32.
@@ -246,6 +280,7 @@ const EMPTY: Span = Span { from: 0, len: 0 };
 ghost use Rattle.nd_flat.specs.Store.{IsPlace, closed_roots, closed_cells, IsPipeAt, raised_at};
 
 // Notes the span of the home that was open.
+#[inline(always)]
 fn close(home: OpenHome, span: Span, roots: &mut Vec<Span>, cells: &mut Vec<CellSpan>)
     requires { IsPlace roots.old.items cells.old.items home }
     ensures roots { roots.new.items ≡ closed_roots home span roots.old.items }

@@ -75,6 +75,7 @@ impl Fit {
     }
 
     /// A walk over the nodes of a root or a cell that is there, depth first. Takes no memory.
+    #[inline(always)]
     pub fn walk(&self, home: Home) -> Walk<'_>
         requires there { HasHome self.now.graph home }
         ensures walk { result ≡ more (home_tree self.now.graph home) none }

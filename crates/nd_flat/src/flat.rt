@@ -25,8 +25,8 @@ pub struct CellSpan {
     pub span: Span,
 }
 
-/// A graph whose values are kept as lists of nodes, and its texts and rows of numbers as octets. Contracts see it as roots and
-/// cells. A node takes 24 octets, and a row of numbers one node and its octets.
+/// A graph whose values are kept as lists of nodes, and its texts, rows of numbers and structs of numbers as octets. Contracts see it as roots and
+/// cells. A node takes 24 octets, and a row of numbers, or structs of numbers side by side, one node and their octets.
 #[derive(Drop)]
 pub struct FlatGraph {
     pub(crate) nodes: Vec<Node>,
@@ -69,6 +69,7 @@ impl FlatGraph {
     }
 
     /// A walk over the nodes of a root or a cell that is there, depth first. Takes no memory.
+    #[inline(always)]
     pub fn walk(&self, home: Home) -> Walk<'_>
         requires { HasHome self.now home }
         ensures { result ≡ more (home_tree self.now home) none }
@@ -154,6 +155,7 @@ fn type_in(cells: &[CellSpan], at: usize) -> TypeId
 }
 
 // The span of a root or a cell.
+#[inline(always)]
 fn span_of(roots: &[Span], cells: &[CellSpan], home: Home) -> Span
     requires { HasSpan roots.now cells.now home }
     ensures { result ≡ chosen_span roots.now cells.now home }

@@ -9,6 +9,7 @@ mod given;
 pub mod laws;
 mod node;
 mod rebuilt;
+mod records;
 mod renumbered;
 mod row;
 #[cfg(test)]
@@ -21,5 +22,6 @@ pub use flat::FlatGraph;
 pub use given::Given;
 pub use node::Seen;
 pub use rebuilt::values;
+pub use records::{MOST_MEMBERS, Members, Records};
 pub use row::Row;
 pub use walk::Walk;

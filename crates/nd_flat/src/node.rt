@@ -2,11 +2,13 @@
 ghost use Rattle.std.specs.Prelude.{◌≡◌, ℕ, List, [], ◌∷◌, ◌++◌, ◌<◌, ◌≤◌, ◌*◌, ◌^◌, length, OnOk, OnErr, IfOk};
 ghost use Rattle.nd_value.specs.Tree as tree;
 ghost use Rattle.nd_value.specs.Seen.{cell_number};
-ghost use Rattle.nd_flat.specs.FlatForm.{seen_nodes, flat_seen, HasOctets, left_of as rest_of, row_flats, IsKeepable, IsKeepableNumber, text_of, armed_count, num_flats, row_numbers, IsRow};
+ghost use Rattle.nd_flat.specs.FlatForm.{seen_nodes, flat_seen, HasOctets, HasRow, after_first, row_flats, IsKeepable, IsKeepableNumber, text_of, armed_count, num_flats, row_numbers, IsRow};
+ghost use Rattle.nd_flat.specs.Records.{HasLeft, IsRecords, records_left, all_records};
 
-use crate::Row;
-use crate::row::{KeptRow, empty_row, first_number, without_first};
-use nd_base::{Memory, Octets};
+use crate::records::{KeptRecords, RecordsLeft, begun};
+use crate::row::{KeptRow, first_number, without_first};
+use crate::{Members, Records, Row};
+use nd_base::{Memory, Octets, Order};
 use nd_value::CellId;
 use uuid::Uuid;
 
@@ -51,37 +53,86 @@ pub enum Node {
     // -1 minus this
     Negative(u64),
     Rec(u32),
-    Arr { max: u32, offset: u32, count: u32 },
-    Text { max: u32, len: u32, from: usize },
-    Tag { tag: u64, armed: bool },
-    NegativeTag { tag: u64, armed: bool },
+    Arr {
+        max: u32,
+        offset: u32,
+        count: u32,
+    },
+    Text {
+        max: u32,
+        len: u32,
+        from: usize,
+    },
+    Tag {
+        tag: u64,
+        armed: bool,
+    },
+    NegativeTag {
+        tag: u64,
+        armed: bool,
+    },
     Null,
     Ptr(CellId),
-    Context { attributes: u32, id: Uuid },
+    Context {
+        attributes: u32,
+        id: Uuid,
+    },
     Pipe(u32),
     // so many number nodes as the row has numbers
     Row(KeptRow),
+    // for each of so many structs a node of its own and one for each member; their octets begin at `from`
+    Records {
+        order: Order,
+        members: Members,
+        count: u32,
+        from: usize,
+    },
 }
 
 const NODE_SIZE: usize = size_of::<Node>();
 
 const _: () = prove!(NODE_SIZE == 24);
 
-// What is left of a node after the first that it is seen as: of a row the other numbers.
-pub(crate) fn left_of(node: &Node, octets: &[u8]) -> KeptRow
+// A walk that is in no row and in no structs goes into a node, past the first that it is seen as.
+#[inline(always)]
+pub(crate) fn enter(left: &mut KeptRow, records: &mut RecordsLeft, node: &Node, octets: &[u8])
     requires within { HasOctets octets.now node.now }
-    ensures { result ≡ rest_of node.now }
+    requires row { HasRow octets.now left.old }
+    requires no_row { row_flats octets.now left.old ≡ [] }
+    requires records { HasLeft octets.now records.old }
+    requires no_records { records_left octets.now records.old ≡ [] }
+    ensures row { HasRow octets.now left.new }
+    ensures records { HasLeft octets.now records.new }
+    ensures nodes { row_flats octets.now left.new ++ records_left octets.now records.new ≡ after_first octets.now node.now }
 {
     match node {
-        Node::Row(row) => without_first(*row, 1, octets),
-        _ => empty_row(),
+        Node::Row(row) => {
+            let rest = without_first(*row, 1, octets);
+            *left = rest;
+        }
+        Node::Records {
+            order,
+            members,
+            count,
+            from,
+        } => {
+            let rest = begun(KeptRecords {
+                order: *order,
+                members: *members,
+                count: *count,
+                from: *from,
+            });
+            *records = rest;
+        }
+        _ => {}
     }
 }
 
-// A node as callers see it: of a row its first number.
+// A node as callers see it: of a row its first number, of structs the first.
+#[inline(always)]
 pub(crate) fn first_seen<'a>(node: &Node, octets: &'a [u8]) -> Seen<'a>
     requires within { HasOctets octets.now node.now }
-    ensures { flat_seen result ∷ row_flats octets.now (rest_of node.now) ≡ seen_nodes octets.now node.now }
+    ensures { flat_seen result ∷ after_first octets.now node.now ≡ seen_nodes octets.now node.now }
 {
     match node {
         Node::Num(number) => Seen::Num(i128::from(*number)),
@@ -115,6 +166,12 @@ pub(crate) fn first_seen<'a>(node: &Node, octets: &'a [u8]) -> Seen<'a>
         },
         Node::Pipe(count) => Seen::Pipe(*count),
         Node::Row(row) => Seen::Num(first_number(*row, octets)),
+        Node::Records {
+            order: _order,
+            members,
+            count: _count,
+            from: _from,
+        } => Seen::Rec(members.len as u32),
     }
 }
 
@@ -221,4 +278,23 @@ pub(crate) fn kept_row(octets: &mut Octets, row: &Row<'_>) -> Result<Node, Memor
         count: row.count,
         from,
     }))
+}
+
+// Structs of numbers as they are kept: their octets are appended to those that are kept; where memory is refused nothing changes.
+pub(crate) fn kept_records(octets: &mut Octets, records: &Records<'_>) -> Result<Node, Memory>
+    requires whole { IsRecords records.now }
+    requires some { 0 < records.now.count }
+    ensures octets { OnOk result (octets.new ≡ octets.old ++ records.now.octets.now) }
+    ensures within { IfOk result (λ n. HasOctets octets.new n) }
+    ensures node { IfOk result (λ n. seen_nodes octets.new n ≡ all_records records.now) }
+    ensures err { OnErr result (octets.new ≡ octets.old) }
+{
+    let from = octets.as_slice().len();
+    octets.append(records.octets)?;
+    Ok(Node::Records {
+        order: records.order,
+        members: records.members,
+        count: records.count,
+        from,
+    })
 }

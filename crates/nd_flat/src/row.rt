@@ -28,6 +28,7 @@ pub struct KeptRow {
 }
 
 // A row without numbers.
+#[inline(always)]
 pub(crate) fn empty_row() -> KeptRow
     ensures { result ≡ no_row }
 {
@@ -40,6 +41,7 @@ pub(crate) fn empty_row() -> KeptRow
 }
 
 // The number of octets that so many numbers of a row have.
+#[inline(always)]
 fn octets_of(row: KeptRow, some: u32) -> usize
     requires some { some ≤ row.count }
     ensures { result ≡ some * width row.of }
@@ -48,6 +50,7 @@ fn octets_of(row: KeptRow, some: u32) -> usize
 }
 
 // A row without so many of its first numbers.
+#[inline(always)]
 pub(crate) fn without_first(row: KeptRow, some: u32, octets: &[u8]) -> KeptRow
     requires there { HasRow octets.now row }
     requires some { some ≤ row.count }
@@ -63,6 +66,7 @@ pub(crate) fn without_first(row: KeptRow, some: u32, octets: &[u8]) -> KeptRow
 }
 
 // The first number of a row that has one.
+#[inline(always)]
 pub(crate) fn first_number(row: KeptRow, octets: &[u8]) -> i128
     requires there { HasRow octets.now row }
     requires some { 0 < row.count }

@@ -4,7 +4,7 @@ ghost use Rattle.nd_types.specs.Kinds.{basic_types};
 ghost use Rattle.nd_types.specs.Plain.{plain_param};
 ghost use Rattle.nd_value.specs.WorkedFit.{add_params, add, one_two_three};
 
-use crate::{Builder, Fit, FlatGraph, Row, Seen};
+use crate::{Builder, Fit, FlatGraph, Members, Records, Row, Seen};
 use nd_base::{Counted, Memory, Name, Order, Steps};
 use nd_types::{
     AttrVars, Field, Interface, Operation, Operations, Param, Params, Prim, Side, Tie, TypeId,
@@ -148,5 +148,60 @@ fn rows_are_given(rt: HostRuntime) -> Result<(), Fail> {
     let mut walk = graph.walk(Home::Cell(CellId(1)));
     assert!(rt; matches!(walk.step(), Some(Seen::Num(7))));
     assert_eq!(rt; graph.cell_type(0), TypeId(7));
+    Ok(())
+}
+
+// An array of three structs of a byte, a hyper and a short, little-endian, with gaps; it conforms to no operation.
+fn structs(alloc: Global, tie: Tie) -> Result<FlatGraph, Memory>
+    ensures roots { IfOk result (λ g. length g.roots ≡ 1) }
+{
+    let members = Members::none()
+        .with(Prim::Byte)
+        .with(Prim::Hyper)
+        .with(Prim::Short);
+    let mut builder = Builder::begin(alloc, tie, 0, Side::In, None);
+    builder.root()?;
+    builder.add(&Seen::Arr {
+        max: 3,
+        offset: 0,
+        count: 3,
+    })?;
+    builder.records(&Records {
+        order: Order::Little,
+        members,
+        count: 3,
+        octets: b"\x01.......\x02\x00\x00\x00\x00\x00\x00\x00\x03\x00......\x04.......\x05\x00\x00\x00\x00\x00\x00\x00\x06\x00......\x07.......\x08\x00\x00\x00\x00\x00\x00\x00\x09\x00",
+    })?;
+    Ok(builder.into_graph())
+}
+
+#[test]
+fn structs_are_given(rt: HostRuntime) -> Result<(), Fail> {
+    let interface = interface(rt.alloc())?;
+    let graph = structs(rt.alloc(), interface.tie())?;
+    let mut walk = graph.walk(Home::Root(0));
+    assert!(rt; walk.records(9).is_none());
+    assert!(rt;
+        matches!(
+            walk.step(),
+            Some(Seen::Arr {
+                max: 3,
+                offset: 0,
+                count: 3
+            })
+        )
+    );
+    assert!(rt; matches!(walk.step(), Some(Seen::Rec(3))));
+    assert!(rt; walk.records(9).is_none());
+    assert!(rt; matches!(walk.step(), Some(Seen::Num(1))));
+    assert!(rt; matches!(walk.step(), Some(Seen::Num(2))));
+    assert!(rt; matches!(walk.step(), Some(Seen::Num(3))));
+    let records = walk.records(1).ok_or("records")?;
+    assert!(rt; records.count == 1 && records.octets.len() == 18);
+    assert!(rt; matches!(walk.step(), Some(Seen::Rec(3))));
+    assert!(rt; matches!(walk.step(), Some(Seen::Num(7))));
+    assert!(rt; matches!(walk.step(), Some(Seen::Num(8))));
+    assert!(rt; matches!(walk.step(), Some(Seen::Num(9))));
+    assert!(rt; walk.step().is_none());
     Ok(())
 }
