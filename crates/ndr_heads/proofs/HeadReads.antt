@@ -1,13 +1,15 @@
 -- The head that the reader reads: its graph with pipes that have no elements conforms, is its own canonical form, and the octets are its head.
 -- `w` is a setting, `octets` are those of the head, which the reader reads to their end.
-use Rattle.std.proofs.Common.{◌≡◌, ℕ, ◌+◌, ◌<◌, ◌≤◌, zero, suc, true, List, [], ◌∷◌, ◌++◌, length, None, refl, ap, ap₂, sym, ◌∙◌, inl, inr, arith, subst, replicate, drop, append_assoc, length-append}
+use Rattle.std.proofs.Common.{◌≡◌, ℕ, ◌+◌, ◌<◌, ◌≤◌, zero, suc, true, List, [], ◌∷◌, ◌++◌, length, Option, Some, None, refl, ap, ap₂, sym, ◌∙◌, inl, inr, arith, subst, replicate, drop, append_assoc, length-append}
 use Rattle.std.specs.Prelude.{map, flat_map}
 use Rattle.std.specs.List.{AllByRecursion, slice_get, list_all}
 use Rattle.std.proofs.lemmas.List.{append-nil, length-replicate}
 use Rattle.std.proofs.lemmas.Bool.{and_from}
 use Rattle.nd_base.specs.declared.octets.Order.{Order}
 use Rattle.nd_base.specs.declared.TheConstants.{STREAM_LIMIT}
-use Rattle.nd_types.specs.Table.{Table}
+use Rattle.nd_types.specs.declared.types.TypeDef.{TypeDef}
+use Rattle.nd_types.specs.declared.types.TypeDef.TheVariants as def
+use Rattle.nd_types.specs.Table.{Table, type_at}
 use Rattle.nd_types.specs.Roots.{Root}
 use Rattle.nd_types.specs.Number.{AreOctets}
 use Rattle.nd_value.specs.declared.value.Graph.{Graph}
@@ -26,8 +28,10 @@ use Rattle.nd_value.proofs.Apart.{all_append, all_left, all_right, all_weaker}
 use Rattle.nd_value.proofs.NodeFacts.{sound_partial}
 use Rattle.nd_grammar.specs.LegalSide.{IsLegalSide}
 use Rattle.nd_grammar.specs.Entry.{Kind, Entry, EntryAt, Align, Test, end_of, end_to_end, full_cells, size_at}
+use Rattle.nd_grammar.specs.declared.reason.Reason.{Reason}
+use Rattle.nd_grammar.specs.Refusal.{Accepts}
 use Rattle.nd_grammar.specs.Represents.{IsNumbering, IsRendered}
-use Rattle.nd_grammar.specs.Stream.{Stream, step_entries, root_tests, pipes_entries, AllCut, representation, head_entries}
+use Rattle.nd_grammar.specs.Stream.{Stream, step_entries, root_tests, pipe_entries, pipes_entries, AllCut, representation, head_entries}
 use Rattle.nd_grammar.specs.Tested.{IsReadAt}
 use Rattle.nd_grammar.specs.Reader.{Progress}
 use Rattle.nd_grammar.specs.StreamReader.{Reading, graph_of, read_start, read_stream}
@@ -50,9 +54,10 @@ use Rattle.nd_grammar.proofs.reader.ReaderStream as stream
 use Rattle.nd_grammar.proofs.reader.ReaderTests.{Top, SameTop, root_tests_are, tests_follow, tests_fine, tests_same}
 use Rattle.nd_grammar.proofs.reader.ReaderTurns.{More, Settled}
 use Rattle.nd_grammar.proofs.reader.ReaderVerdict.{AllTaken, all_taken, start}
-use Rattle.ndr_parts.specs.Parts.{HasEmptyPipes, IsHead, empty_pipe, with_pipes}
-use Rattle.ndr_parts.proofs.Spelt.{ends_append}
-use Rattle.ndr_heads.specs.Heads.{HeadRead}
+use Rattle.ndr_verdict.proofs.ReadThrough.{Gone, gone}
+use Rattle.ndr_parts.specs.Parts.{BadHead, HasEmptyPipes, IsHead, empty_pipe, with_pipes}
+use Rattle.ndr_parts.proofs.Spelt.{ends_append, full_append}
+use Rattle.ndr_heads.specs.Heads.{HeadRead, HeadThrough}
 use Rattle.ndr_heads.proofs.Canonical.{canonical_pipes, empty_still, take_first}
 use Rattle.ndr_heads.proofs.HeadConforming as conforming
 
@@ -127,6 +132,36 @@ all_empty (suc n) = (inr (none, refl), all_empty n)
 are_empty : (n : ℕ) → AllByRecursion (λ v. v ≡ empty_pipe) (replicate n empty_pipe)
 are_empty zero = tt
 are_empty (suc n) = (refl, are_empty n)
+
+-- pipes have no full pointers
+no_number : (table : Table) (h : Home) (d : Option TypeDef) → full_cells (pipe_entries table h d [] empty_pipe) ≡ []
+no_number table h (Some (def.Prim p)) = refl
+no_number table h (Some (def.Enum values)) = refl
+no_number table h (Some (def.Struct members)) = refl
+no_number table h (Some (def.Array elem bound varying)) = refl
+no_number table h (Some (def.Text elem bound)) = refl
+no_number table h (Some (def.Union tag enc arms default)) = refl
+no_number table h (Some (def.Pointer class to)) = refl
+no_number table h (Some def.Context) = refl
+no_number table h (Some (def.Pipe elem)) = refl
+no_number table h None = refl
+
+no_numbers : (table : Table) (i : ℕ) (rs : List Root) (k m : ℕ) → full_cells (pipes_entries table i rs (replicate k empty_pipe) (replicate m [])) ≡ []
+no_numbers table i [] k m = refl
+no_numbers table i (r ∷ rs) zero m = refl
+no_numbers table i (r ∷ rs) (suc k) zero = refl
+no_numbers table i (r ∷ rs) (suc k) (suc m) =
+    let first : List Entry = pipe_entries table (home.Root i) (type_at table r.of) [] empty_pipe in
+    let others : List Entry = pipes_entries table (i + 1) rs (replicate k empty_pipe) (replicate m []) in
+    full_append first others ∙ ap₂ (λ u v. u ++ v) (no_number table (home.Root i) (type_at table r.of)) (no_numbers table (i + 1) rs k m)
+
+as_many_ends : (at : ℕ) (ms : List Entry) → length (end_to_end at ms) ≡ length ms
+as_many_ends at [] = refl
+as_many_ends at (m ∷ ms) = ap suc (as_many_ends (at + size_at at m.kind) ms)
+
+accepts_first : (order : Order) (octets : List ℕ) (seen xs ys : List EntryAt) → Accepts order octets seen (xs ++ ys) → Accepts order octets seen xs
+accepts_first order octets seen [] ys a = tt
+accepts_first order octets seen (x ∷ xs) ys a = (a.0, accepts_first order octets (seen ++ x ∷ []) xs ys a.1)
 
 no_cuts : ℕ → List (List ℕ)
 no_cuts n = replicate n []
@@ -312,7 +347,7 @@ module _ (w : Setting) (side : IsLegalSide w) (order : Order) (octets : List ℕ
   abbrev whole : List Entry
   whole = representation w K steps cuts
 
-  is_stream : Stream w K whole
+  abbrev is_stream : Stream w K whole
   is_stream = record {
     steps = steps;
     cuts = cuts;
@@ -320,6 +355,75 @@ module _ (w : Setting) (side : IsLegalSide w) (order : Order) (octets : List ℕ
     all_cut = subst (λ v. AllCut v cuts) (sym pipes_at) (all_cut (length (drop n rl)));
     is_representation = refl;
   }
+
+  -- ## Its entries that the reader passes
+
+  abbrev pipes_after : List Entry
+  pipes_after = pipes_entries w.table (before_pipes (root_list w)) (drop (before_pipes (root_list w)) (root_list w)) (drop (before_pipes (root_list w)) K.roots) cuts
+
+  bare : full_cells pipes_after ≡ []
+  bare =
+      ap (λ vs. full_cells (pipes_entries w.table n (drop n rl) vs cuts)) pipes_at
+      ∙ no_numbers w.table n (drop n rl) (length (drop n rl)) (length (drop n rl))
+
+  numbered_all : IsNumbering numbering (full_cells whole)
+  numbered_all =
+      subst (IsNumbering numbering) (sym (full_append ms pipes_after ∙ ap (λ u. full_cells ms ++ u) bare ∙ append-nil (full_cells ms))) numbered
+
+  went : Gone order octets numbering start ms tested
+  went = gone order octets numbering ms start tested refl goes_over
+
+  pub through_head : (earlier later : List EntryAt) → tested.seen ≡ earlier ++ later → HeadThrough w order octets earlier
+  through_head earlier later e =
+      let same : went.earlier ≡ earlier ++ later = sym went.seen ∙ e in
+      let split : end_to_end 0 ms ≡ earlier ++ (later ++ went.later) = went.split ∙ ap (λ u. u ++ went.later) same ∙ append_assoc earlier later went.later in
+      let after : List EntryAt = end_to_end (end_of 0 ms) pipes_after in
+      let as_many : length (end_to_end 0 ms) ≡ length ms = as_many_ends 0 ms in
+      let parts : length (end_to_end 0 ms) ≡ length earlier + length (later ++ went.later) = ap length split ∙ length-append earlier (later ++ went.later) in
+      record {
+        through = record {
+          partial = K;
+          is_partial = is_partial;
+          entries = whole;
+          stream = is_stream;
+          later = (later ++ went.later) ++ after;
+          split = ends_append 0 ms pipes_after ∙ ap (λ u. u ++ after) split ∙ append_assoc earlier (later ++ went.later) after;
+          numbering = numbering;
+          is_numbering = numbered_all;
+          rendered = all_left (IsRendered order numbering octets) earlier later (subst (AllByRecursion (IsRendered order numbering octets)) same went.rendered);
+          accepted = accepts_first order octets [] earlier later (subst (Accepts order octets []) same went.accepted);
+        };
+        in_head = omega (arith, as_many, parts);
+      }
+
+  -- one that it refuses
+  pub bad_head : (place : ℕ) (why : Reason) → tested.stop ≡ Some (place, why) → (b : BadHead w order octets place why) × (b.bad.earlier ≡ tested.seen)
+  bad_head place why stop =
+      let (there, rest, is, at, refused) = went.stopped (place, why) stop in
+      let split : end_to_end 0 ms ≡ went.earlier ++ there ∷ rest = went.split ∙ ap (λ u. went.earlier ++ u) is in
+      let after : List EntryAt = end_to_end (end_of 0 ms) pipes_after in
+      let as_many : length (end_to_end 0 ms) ≡ length ms = as_many_ends 0 ms in
+      let parts : length (end_to_end 0 ms) ≡ length went.earlier + length (there ∷ rest) = ap length split ∙ length-append went.earlier (there ∷ rest) in (
+        record {
+          bad = record {
+            partial = K;
+            is_partial = is_partial;
+            entries = whole;
+            stream = is_stream;
+            earlier = went.earlier;
+            here = there;
+            later = rest ++ after;
+            split = ends_append 0 ms pipes_after ∙ ap (λ u. u ++ after) split ∙ append_assoc went.earlier (there ∷ rest) after;
+            numbering = numbering;
+            is_numbering = numbered_all;
+            rendered = went.rendered;
+            accepted = went.accepted;
+            refused = refused;
+          };
+          in_head = omega (arith, as_many, parts);
+        },
+        sym went.seen,
+      )
 
   module _ (not_stopped : tested.stop ≡ None) (to_end : tested.at ≡ length octets)
       (own_canon : IsCanon w (read_stream w order octets).graph (read_stream w order octets).graph) where

@@ -1,6 +1,6 @@
 -- The head of a stream, as the plain reader reads it.
 -- `w` is a setting, `octets` are those of the head.
-use Rattle.std.specs.Prelude.{◌≡◌, ℕ, ◌+◌, List, ◌++◌, drop, length, replicate}
+use Rattle.std.specs.Prelude.{◌≡◌, ◌≤◌, ℕ, ◌+◌, List, ◌++◌, drop, length, replicate}
 use Rattle.nd_base.specs.declared.octets.Order.{Order}
 use Rattle.nd_value.specs.declared.value.Graph.{Graph}
 use Rattle.nd_value.specs.Canon.{IsCanon}
@@ -12,6 +12,7 @@ use Rattle.nd_grammar.specs.Entry.{EntryAt, end_to_end}
 use Rattle.nd_grammar.specs.Reader.{Progress, pass_all}
 use Rattle.nd_grammar.specs.Stream.{head_entries, root_tests}
 use Rattle.nd_grammar.specs.StreamReader.{Reading, graph_of, read_due, read_start}
+use Rattle.ndr_verdict.specs.Verdict.{IsReadThrough}
 use Rattle.ndr_parts.specs.Parts.{HasEmptyPipes, IsHead, empty_pipe}
 
 -- the roots that are no pipes, with their referents
@@ -38,3 +39,8 @@ pub record HeadRead (w : Setting) (order : Order) (octets : List ℕ) (g : Graph
   pub conforms : Conforms w g
   pub canonical : IsCanon w g g
   pub entries : end_to_end 0 (head_entries w g is_head.steps) ≡ seen
+
+-- Octets are read through the first entries of a stream, all of which come before its pipes.
+pub record HeadThrough (w : Setting) (order : Order) (octets : List ℕ) (earlier : List EntryAt) : Type 0 where
+  pub through : IsReadThrough w order octets earlier
+  pub in_head : length earlier ≤ length (head_entries w through.partial through.stream.steps)

@@ -1,10 +1,13 @@
 //! The laws, each the contract of a function that does nothing.
-ghost use Rattle.std.specs.Prelude.{◌≡◌, ℕ, List, None, length};
+ghost use Rattle.std.specs.Prelude.{◌≡◌, ◌++◌, ℕ, List, Some, None, length};
 ghost use Rattle.nd_base.specs.declared.octets.Order.{Order};
 ghost use Rattle.nd_types.specs.Number.{AreOctets};
 ghost use Rattle.nd_value.specs.Setting.{Setting};
+ghost use Rattle.nd_grammar.specs.declared.reason.Reason.{Reason};
+ghost use Rattle.nd_grammar.specs.Entry.{EntryAt};
 ghost use Rattle.nd_grammar.specs.LegalSide.{IsLegalSide};
-ghost use Rattle.ndr_heads.specs.Heads.{HeadRead, head_graph, head_tested};
+ghost use Rattle.ndr_parts.specs.Parts.{BadHead};
+ghost use Rattle.ndr_heads.specs.Heads.{HeadRead, HeadThrough, head_graph, head_tested};
 
 use ndr_verdict::laws::canonical_graph;
 
@@ -15,3 +18,12 @@ pub fn heads_are_read()
 {
     canonical_graph();
 }
+
+/// Octets that the plain reader refuses before the pipes are refused in the head of a stream, after the entries that it passes. The first of those that it passes
+/// before the pipes are the first of a head.
+pub fn heads_are_refused()
+    ensures refused { (w : Setting) → IsLegalSide w → (order : Order) (octets : List ℕ) → AreOctets octets → (place : ℕ) (why : Reason) → (head_tested w order octets).stop ≡ Some (place, why)
+        → (b : BadHead w order octets place why) × (b.bad.earlier ≡ (head_tested w order octets).seen) }
+    ensures passed { (w : Setting) → IsLegalSide w → (order : Order) (octets : List ℕ) → AreOctets octets → (earlier later : List EntryAt) → (head_tested w order octets).seen ≡ earlier ++ later
+        → HeadThrough w order octets earlier }
+{}

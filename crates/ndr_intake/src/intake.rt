@@ -1,5 +1,5 @@
 // Octets that are fetched as they are wanted.
-ghost use Rattle.std.specs.Prelude.{◌≡◌, ℕ, ◌+◌, ◌<◌, ◌≤◌, ◌^◌, [], length, true, Option, List, IfOk, IfErr, OnErr, IsErrOf};
+ghost use Rattle.std.specs.Prelude.{◌≡◌, ℕ, ◌+◌, ◌<◌, ◌≤◌, ◌^◌, [], length, true, false, Option, List, IfOk, IfErr, OnErr, IsErrOf};
 ghost use Rattle.std.specs.Io.KnownBytes.{Consumes, IsAtEnd};
 ghost use Rattle.nd_base.specs.Over.{source_seen};
 ghost use Rattle.nd_base.specs.declared.TheConstants.{STREAM_LIMIT};
@@ -38,7 +38,7 @@ pub struct Intake {
 }
 
 impl Model for Intake {
-    ghost use Rattle.std.specs.Prelude.{List, ℕ, ◌≡◌, length};
+    ghost use Rattle.std.specs.Prelude.{true, false, OnErr, List, ℕ, ◌≡◌, length};
     ghost use Rattle.ndr_intake.specs.declared.TheConstants.{PIECE};
 
     ghost Value = { List ℕ };
@@ -108,6 +108,22 @@ impl Intake {
         }
         fetch(source, &mut self.piece, &mut self.held, at, count)
     }
+
+    /// Fetches so many octets, a piece at most, if the source has them at hand, and says whether it did. Else, and at `Memory`, nothing is taken. What was
+    /// held before is gone; if the octets came, they are held. It takes memory for the octets before they are taken.
+    #[inline(always)]
+    pub fn at_hand<S: Source>(&mut self, source: &mut S, count: u32) -> Result<bool, Memory>
+        requires small { count ≤ PIECE }
+        ensures octets { IfOk result (λ came. came ≡ true → Consumes (S.Source.left source.old) (S.Source.left source.new) self.new) }
+        ensures all { IfOk result (λ came. came ≡ true → length self.new ≡ count) }
+        ensures nothing { IfOk result (λ came. came ≡ false → S.Source.left source.new ≡ S.Source.left source.old) }
+        ensures ended { IfOk result (λ came. came ≡ false → S.Source.ended source.new ≡ S.Source.ended source.old) }
+        ensures memory { OnErr result (source.new ≡ source.old) }
+        ensures faults { S.Source.faults source.new ≡ S.Source.faults source.old }
+    {
+        self.held.clear();
+        take_at_hand(source, &mut self.piece, &mut self.held, count as usize)
+    }
 }
 
 // Fetches so many octets, piece by piece.
@@ -172,4 +188,32 @@ fn fetch_some<S: Source>(
         unreachable!();
     };
     Ok(came as u32)
+}
+
+// So many octets, if the source has them at hand.
+#[inline(always)]
+fn take_at_hand<S: Source>(
+    source: &mut S,
+    piece: &mut [u8],
+    held: &mut Vec<u8>,
+    count: usize,
+) -> Result<bool, Memory>
+    requires none { held.old.items ≡ [] }
+    requires room { count ≤ length piece.old }
+    ensures octets { IfOk result (λ came. came ≡ true → Consumes (S.Source.left source.old) (S.Source.left source.new) held.new.items) }
+    ensures all { IfOk result (λ came. came ≡ true → length held.new.items ≡ count) }
+    ensures nothing { IfOk result (λ came. came ≡ false → S.Source.left source.new ≡ S.Source.left source.old) }
+    ensures ended { IfOk result (λ came. came ≡ false → S.Source.ended source.new ≡ S.Source.ended source.old) }
+    ensures memory { OnErr result (source.new ≡ source.old) }
+    ensures faults { S.Source.faults source.new ≡ S.Source.faults source.old }
+    ensures wide { length piece.new ≡ length piece.old }
+{
+    held.reserve(count)?;
+    if !source.fill(&mut piece[..count]) {
+        return Ok(false);
+    }
+    let Ok(()) = held.extend_from_slice(&piece[..count]) else {
+        unreachable!();
+    };
+    Ok(true)
 }

@@ -13,7 +13,7 @@ use Rattle.nd_grammar.specs.StreamReader.{ReadPipe, read_chunks, read_pipes, rea
 use Rattle.ndr_reading.specs.Around.{going, stopped}
 use Rattle.ndr_stream.specs.Added.{Added, Goes}
 use Rattle.ndr_stream.proofs.Growing.{pass_adds, list_adds, in_place_adds}
-use Rattle.ndr_stream.proofs.HeadEnds.{pipes_stay}
+use Rattle.ndr_stream.proofs.Heads.{pipes_stay}
 use Rattle.ndr_stream.proofs.StreamGrows.{goes_by, goes_nowhere, goes_twice, pipes_go}
 use Rattle.ndr_pipes.specs.Reading.{Reads, chosen, count_then, elements_then, of_pipe}
 

@@ -34,16 +34,18 @@ use Rattle.ndr_steps.specs.declared.first.First.TheVariants as first
 use Rattle.ndr_steps.specs.Good.{Told, Whole}
 use Rattle.ndr_steps.specs.Steps.{State}
 use Rattle.ndr_verdict.specs.Verdict.{is_direct}
-use Rattle.ndr_worklist.proofs.Turns.{turns, refused}
+use Rattle.ndr_worklist.proofs.Turns.{turns}
+use Rattle.ndr_stream.specs.Parameters.{head_read}
 use Rattle.ndr_stream.specs.Between.{AreNeeded, Between, Keeps, Agrees, IsKeptOf, IsKeptHome, CellKept, CellFilled, cell_read}
 use Rattle.ndr_stream.specs.declared.kept.Kept.{Kept}
 use Rattle.ndr_stream.specs.declared.kept.KeptRoot.{KeptRoot}
+use Rattle.ndr_stream.proofs.Heads.{next_refused, stream_stays}
 use Rattle.ndr_stream.proofs.CellEnds.{keeps_cell}
 use Rattle.ndr_stream.proofs.Due.{same_octets, root_state}
 use Rattle.ndr_stream.proofs.Homes.{told_then, roots_then}
 use Rattle.ndr_stream.proofs.Needing.{NeededAfter, needed_more}
 use Rattle.ndr_stream.proofs.Others.{root_more}
-use Rattle.ndr_stream.proofs.StreamGrows.{next_then_stream}
+use Rattle.ndr_stream.proofs.StreamGrows.{next_then_head}
 use Rattle.ndr_stream.specs.Added.{Goes}
 use Rattle.ndr_stream.proofs.References.{one_if, count_more}
 
@@ -113,17 +115,17 @@ module _ (w : Setting) (side : IsLegalSide w) (order : Order) (fetched : List �
   next_is : (octets : List ℕ) → read_next w order octets s.due s ≡ with_read (target octets)
   next_is octets = ap (λ u. read_next w order octets u s) due_is ∙ first_is octets
 
-  -- where the referent is refused, so is the stream
+  -- where the referent is refused, so is the head
   pub direct_refused : (more : List ℕ) → AreOctets more → (at : ℕ) (seen' : List EntryAt) (why : ℕ × Reason) → (target (fetched ++ more)).progress ≡ stopped at seen' why
-      → (read_stream w order (fetched ++ more)).progress ≡ stopped at seen' why
+      → head_read w order (fetched ++ more) ≡ stopped at seen' why
   direct_refused more a at seen' why e =
-      refused w side order fetched ag.octets s (due_root i) later_due ag.reached due_is more a at seen' why (ap (λ (u : Reading). u.progress) (next_is (fetched ++ more)) ∙ e)
+      next_refused w side order fetched ag.octets s (due_root i) later_due ag.reached due_is more a at seen' why (ap (λ (u : Reading). u.progress) (next_is (fetched ++ more)) ∙ e)
 
-  -- what is passed of the referent is passed of the stream
-  pub direct_goes : (added : List ℕ) → AreOctets added → Goes (target (fetched ++ added)).progress (read_stream w order (fetched ++ added)).progress
+  -- what is passed of the referent is passed of the head
+  pub direct_goes : (added : List ℕ) → AreOctets added → Goes (target (fetched ++ added)).progress (head_read w order (fetched ++ added))
   direct_goes added a =
-      subst (λ (u : Reading). Goes u.progress (read_stream w order (fetched ++ added)).progress) (next_is (fetched ++ added))
-      (next_then_stream w side order fetched ag.octets s (due_root i) later_due due_is ag.reached added a)
+      subst (λ (u : Reading). Goes u.progress (head_read w order (fetched ++ added))) (next_is (fetched ++ added))
+      (next_then_head w side order fetched ag.octets s (due_root i) later_due due_is ag.reached added a)
 
   module _ (more : List ℕ) (all_more : AreOctets more) (noted' : List Item) (x : State) (is : Whole order (fetched ++ more) w.table (cell_home (length s.names.cells + 1)) to.0 noted' (direct + 1) target x)
       (needs : AreNeeded target fetched more) where
@@ -188,7 +190,8 @@ module _ (w : Setting) (side : IsLegalSide w) (order : Order) (fetched : List �
     needed_then part last e =
         let (at, seen', stop) = needs part last e in
         let a : AreOctets part = all_left (λ b. b < 256) part (last ∷ []) (subst AreOctets e all_more) in
-        ap (λ (u : Progress). u.stop) (direct_refused part a at seen' (length (fetched ++ part), reason.Truncated) stop)
+        ap (λ (u : Progress). u.stop)
+        (stream_stays w order (fetched ++ part) at seen' (length (fetched ++ part), reason.Truncated) (direct_refused part a at seen' (length (fetched ++ part), reason.Truncated) stop))
 
     -- the root itself is a pointer, of which nothing is in the stream
     own_root : (k : KeptRoot) → k.own ≡ record { first = first.Pointer; max_at = None } → IsKeptOf is.seen (home.Root i) its_tree k.own

@@ -1,4 +1,5 @@
 -- A home that is refused or cut off, in the stream.
+-- `x` is what is read of the stream.
 use Rattle.std.proofs.Common.{◌≡◌, ◌<◌, ℕ, List, [], ◌∷◌, ◌++◌, length, ap, ◌∙◌, subst, append_assoc}
 use Rattle.nd_base.specs.declared.octets.Order.{Order}
 use Rattle.nd_types.specs.Number.{AreOctets}
@@ -10,27 +11,28 @@ use Rattle.nd_grammar.specs.declared.reason.Reason.TheVariants as reason
 use Rattle.nd_grammar.specs.Entry.{EntryAt}
 use Rattle.nd_grammar.specs.Items.{items}
 use Rattle.nd_grammar.specs.Reader.{Progress, Read}
-use Rattle.nd_grammar.specs.StreamReader.{read_stream}
 use Rattle.ndr_reading.specs.Around.{stopped}
 use Rattle.ndr_verdict.specs.Needed.{IsNeeded}
 use Rattle.ndr_stream.specs.Added.{Goes}
 use Rattle.ndr_stream.specs.Between.{AreNeeded}
 use Rattle.ndr_stream.specs.Calls.{RefusesWith, GoesWith}
-use Rattle.ndr_stream.specs.Report.{AreCells, StreamRefused, StreamCut}
+use Rattle.ndr_stream.specs.Report.{AreCells, Extent, StreamRefused, StreamCut, read_over}
+use Rattle.ndr_stream.proofs.Heads.{over_stream}
 use Rattle.ndr_stream.proofs.Needing.{NeededAfter, needed_more}
 
-module _ (w : Setting) (order : Order) (fetched : List ℕ) (all : AreOctets fetched) (needed : IsNeeded w order fetched) (target : List ℕ → Read) (added : List ℕ) (all_added : AreOctets added) where
+module _ (x : Extent) (w : Setting) (order : Order) (fetched : List ℕ) (all : AreOctets fetched) (needed : IsNeeded w order fetched) (target : List ℕ → Read) (added : List ℕ) (all_added : AreOctets added) where
   octets : AreOctets (fetched ++ added)
   octets = all_append (λ b. b < 256) fetched added all all_added
 
-  needed_after : RefusesWith w order fetched target → AreNeeded target fetched added → NeededAfter w order fetched added
+  needed_after : RefusesWith x w order fetched target → AreNeeded target fetched added → NeededAfter w order fetched added
   needed_after refuses needs part last e =
       let (at, seen, stop) = needs part last e in
       let a : AreOctets part = all_left (λ b. b < 256) part (last ∷ []) (subst AreOctets e all_added) in
-      ap (λ (u : Progress). u.stop) (refuses part a at seen (length (fetched ++ part), reason.Truncated) stop)
+      ap (λ (u : Progress). u.stop)
+      (over_stream w order (fetched ++ part) x at seen (length (fetched ++ part), reason.Truncated) (refuses part a at seen (length (fetched ++ part), reason.Truncated) stop))
 
-  pub home_refused : RefusesWith w order fetched target → AreNeeded target fetched added → (noted : List Item) (n place : ℕ) (why : Reason) (at : ℕ) (seen : List EntryAt)
-      → (target (fetched ++ added)).progress ≡ stopped at seen (place, why) → items order (fetched ++ added) seen ≡ noted → AreCells w seen n → StreamRefused w order (fetched ++ added) noted n place why
+  pub home_refused : RefusesWith x w order fetched target → AreNeeded target fetched added → (noted : List Item) (n place : ℕ) (why : Reason) (at : ℕ) (seen : List EntryAt)
+      → (target (fetched ++ added)).progress ≡ stopped at seen (place, why) → items order (fetched ++ added) seen ≡ noted → AreCells w seen n → StreamRefused x w order (fetched ++ added) noted n place why
   home_refused refuses needs noted n place why at seen stop e cells = record {
     octets = octets;
     at = at;
@@ -41,10 +43,10 @@ module _ (w : Setting) (order : Order) (fetched : List ℕ) (all : AreOctets fet
     cells = cells;
   }
 
-  pub home_cut : GoesWith w order fetched target → (noted : List Item) (n : ℕ) (seen after : List EntryAt) → (target (fetched ++ added)).progress.seen ≡ seen ++ after
-      → items order (fetched ++ added) seen ≡ noted → AreCells w seen n → StreamCut w order (fetched ++ added) noted n
+  pub home_cut : GoesWith x w order fetched target → (noted : List Item) (n : ℕ) (seen after : List EntryAt) → (target (fetched ++ added)).progress.seen ≡ seen ++ after
+      → items order (fetched ++ added) seen ≡ noted → AreCells w seen n → StreamCut x w order (fetched ++ added) noted n
   home_cut goes noted n seen after e f cells =
-      let g : Goes (target (fetched ++ added)).progress (read_stream w order (fetched ++ added)).progress = goes added all_added in
+      let g : Goes (target (fetched ++ added)).progress (read_over x w order (fetched ++ added)) = goes added all_added in
       record {
         octets = octets;
         seen = seen;

@@ -1,4 +1,5 @@
 -- Calls one after the other.
+-- `x` is what is read of the stream.
 use Rattle.std.proofs.Common.{◌≡◌, ℕ, ◌+◌, Bool, true, false, List, [], ◌∷◌, ◌++◌, length, refl, ap, sym, ◌∙◌, subst, append_assoc, arith}
 use Rattle.std.specs.Prelude.{cond, not, if◌then◌else◌}
 use Rattle.std.specs.Io.KnownBytes.{Consumes, IsAtEnd}
@@ -9,10 +10,11 @@ use Rattle.nd_value.specs.declared.item.Item.{Item}
 use Rattle.nd_value.specs.Logged.{Logged}
 use Rattle.nd_value.specs.Setting.{Setting}
 use Rattle.nd_grammar.specs.declared.reason.Reason.{Reason}
+use Rattle.nd_grammar.specs.declared.reason.Reason.TheVariants as reason
 use Rattle.nd_grammar.specs.FewItems.{is_gap, but_gaps}
 use Rattle.ndr_verdict.specs.Verdict.{DecodingSeen, HasNoted, with_items}
-use Rattle.ndr_stream.specs.Calls.{Follows, Took, TookPart, Refused, CutOff}
-use Rattle.ndr_stream.specs.Report.{StreamRefused, StreamCut}
+use Rattle.ndr_stream.specs.Calls.{Follows, Took, TookPart, Refused, Unread, CutOff}
+use Rattle.ndr_stream.specs.Report.{Extent, StreamRefused, StreamCut}
 
 gaps_apart : (xs ys : List Item) → length (but_gaps (xs ++ ys)) ≡ length (but_gaps xs) + length (but_gaps ys)
 gaps_apart [] ys = omega arith
@@ -62,25 +64,35 @@ module _ (a b c : SourceSeen) (s t u : DecodingSeen) (f : Follows a b c s t u) w
       let m = f.steps_now in
       record { left = taken_twice os ps x.left y.left; logged = logged_twice xs ys x.logged y.logged; steps = omega (arith, i, j, g, k, l, m) }
 
-  module _ (w : Setting) (order : Order) (fetched : List ℕ) (noted : List Item) (n n' : ℕ) (os : List ℕ) (xs : List Item) (took : Took a s n os xs n') where
-    pub took_then_refused : (place : ℕ) (why : Reason) → Refused w order (fetched ++ os) (noted ++ xs) n' b t place why → Refused w order fetched noted n c u place why
+  module _ (x : Extent) (w : Setting) (order : Order) (fetched : List ℕ) (noted : List Item) (n n' : ℕ) (os : List ℕ) (xs : List Item) (took : Took a s n os xs n') where
+    pub took_then_refused : (place : ℕ) (why : Reason) → Refused x w order (fetched ++ os) (noted ++ xs) n' b t place why → Refused x w order fetched noted n c u place why
     took_then_refused place why r = record {
       octets = os ++ r.octets;
       items = xs ++ r.items;
       n' = r.n';
-      refused = subst (λ z. StreamRefused w order z (noted ++ (xs ++ r.items)) r.n' place why) (append_assoc fetched os r.octets)
-          (subst (λ z. StreamRefused w order ((fetched ++ os) ++ r.octets) z r.n' place why) (append_assoc noted xs r.items) r.refused);
+      refused = subst (λ z. StreamRefused x w order z (noted ++ (xs ++ r.items)) r.n' place why) (append_assoc fetched os r.octets)
+          (subst (λ z. StreamRefused x w order ((fetched ++ os) ++ r.octets) z r.n' place why) (append_assoc noted xs r.items) r.refused);
       took = took_part n n' r.n' os r.octets xs r.items took r.took;
       ended = λ e. f.ended ∙ r.ended e;
       none_left = λ e. subst IsAtEnd (sym f.after) (r.none_left e);
     }
 
-    pub took_then_cut : CutOff w order (fetched ++ os) (noted ++ xs) n' b t → CutOff w order fetched noted n c u
+    pub took_then_unread : Unread x w order (fetched ++ os) (noted ++ xs) n' b t → Unread x w order fetched noted n c u
+    took_then_unread r = record {
+      octets = os ++ r.octets;
+      items = xs ++ r.items;
+      n' = r.n';
+      short = subst (λ z. StreamRefused x w order z (noted ++ (xs ++ r.items)) r.n' (length z) reason.Truncated) (append_assoc fetched os r.octets)
+          (subst (λ z. StreamRefused x w order ((fetched ++ os) ++ r.octets) z r.n' (length ((fetched ++ os) ++ r.octets)) reason.Truncated) (append_assoc noted xs r.items) r.short);
+      took = took_part n n' r.n' os r.octets xs r.items took r.took;
+    }
+
+    pub took_then_cut : CutOff x w order (fetched ++ os) (noted ++ xs) n' b t → CutOff x w order fetched noted n c u
     took_then_cut r = record {
       octets = os ++ r.octets;
       items = xs ++ r.items;
       n' = r.n';
-      cut = subst (λ z. StreamCut w order z (noted ++ (xs ++ r.items)) r.n') (append_assoc fetched os r.octets)
-          (subst (λ z. StreamCut w order ((fetched ++ os) ++ r.octets) z r.n') (append_assoc noted xs r.items) r.cut);
+      cut = subst (λ z. StreamCut x w order z (noted ++ (xs ++ r.items)) r.n') (append_assoc fetched os r.octets)
+          (subst (λ z. StreamCut x w order ((fetched ++ os) ++ r.octets) z r.n') (append_assoc noted xs r.items) r.cut);
       took = took_part n n' r.n' os r.octets xs r.items took r.took;
     }

@@ -1,6 +1,7 @@
 pub mod Growing
 pub mod StateAdds
 pub mod StreamGrows
+pub mod Heads
 pub mod FineTypes
 pub mod Others
 pub mod Needing

@@ -21,12 +21,14 @@ use Rattle.nd_grammar.specs.Reader.{Progress, pass_all}
 use Rattle.nd_grammar.specs.StreamReader.{Reading, graph_of, stands_among, stood, read_referent, read_pending, read_first, read_next, read_stream}
 use Rattle.ndr_reading.specs.Around.{going, stopped}
 use Rattle.ndr_worklist.specs.Reached.{Reached}
-use Rattle.ndr_worklist.proofs.Turns.{turns, refused}
+use Rattle.ndr_worklist.proofs.Turns.{turns}
+use Rattle.ndr_stream.specs.Parameters.{head_read}
 use Rattle.ndr_stream.specs.Between.{Between, Keeps, Agrees, IsKeptOf, kept_at}
 use Rattle.ndr_stream.specs.Between.{taken}
 use Rattle.ndr_stream.specs.Report.{IsRefusedAfter}
 use Rattle.ndr_stream.specs.Tests.{disagreement, AllAgree, all_at}
 use Rattle.ndr_stream.specs.declared.kept.Kept.{Kept}
+use Rattle.ndr_stream.proofs.Heads.{next_refused}
 use Rattle.ndr_stream.proofs.Due.{pending_state}
 use Rattle.ndr_stream.proofs.ReferentEnds.{among_placed}
 use Rattle.ndr_stream.proofs.Taken.{kept_taken}
@@ -123,9 +125,9 @@ module _ (w : Setting) (side : IsLegalSide w) (order : Order) (fetched : List �
     -- one of them does not
     pub stood_refused : (ws : List Agreement) (a : Agreement) (others : List Agreement) (why : ℕ × Reason) → p.agreements ≡ ws ++ a ∷ others → AllAgree k ws
         → disagreement a k.first k.max_at ≡ Some why → (later : List ℕ) → AreOctets later
-        → (read_stream w order (fetched ++ later)).progress ≡ stopped b.at (seen ++ all_at b.at (tests (cell_home c) 0 its_tree ws)) why
+        → head_read w order (fetched ++ later) ≡ stopped b.at (seen ++ all_at b.at (tests (cell_home c) 0 its_tree ws)) why
     stood_refused ws a others why split agree e later al =
-        refused w side order fetched ag.octets s (due_referent p) later_due ag.reached due_is later al b.at (seen ++ all_at b.at (tests (cell_home c) 0 its_tree ws)) why
+        next_refused w side order fetched ag.octets s (due_referent p) later_due ag.reached due_is later al b.at (seen ++ all_at b.at (tests (cell_home c) 0 its_tree ws)) why
         (ap (λ u. (read_next w order (fetched ++ later) u s).progress) due_is
         ∙ ap (λ (u : Reading). u.progress) (first_is (fetched ++ later))
         ∙ ap (λ u. pass_all order (fetched ++ later) (tests (cell_home c) 0 its_tree u) (going b.at seen)) split

@@ -30,17 +30,19 @@ use Rattle.ndr_reading.specs.Around.{going, stopped}
 use Rattle.ndr_reading.proofs.Continuing.{all_stay}
 use Rattle.ndr_steps.specs.Good.{Told, Whole}
 use Rattle.ndr_steps.specs.Steps.{State}
-use Rattle.ndr_worklist.proofs.Turns.{turns, refused}
+use Rattle.ndr_worklist.proofs.Turns.{turns}
+use Rattle.ndr_stream.specs.Parameters.{head_read}
 use Rattle.ndr_stream.specs.Between.{AreNeeded, Between, Keeps, Agrees, IsKeptOf, IsKeptHome, CellKept, CellFilled, cell_read, kept_at}
 use Rattle.ndr_stream.specs.Between.{taken}
 use Rattle.ndr_stream.specs.Report.{IsRefusedAfter}
 use Rattle.ndr_stream.specs.Tests.{disagreement, AllAgree, all_at}
 use Rattle.ndr_stream.specs.declared.kept.Kept.{Kept}
+use Rattle.ndr_stream.proofs.Heads.{next_refused, stream_stays}
 use Rattle.ndr_stream.proofs.CellEnds.{keeps_cell}
 use Rattle.ndr_stream.proofs.Due.{same_octets, pending_state}
 use Rattle.ndr_stream.proofs.Homes.{own_then, roots_then}
 use Rattle.ndr_stream.proofs.Needing.{NeededAfter, needed_more}
-use Rattle.ndr_stream.proofs.StreamGrows.{all_go, goes_twice, next_then_stream}
+use Rattle.ndr_stream.proofs.StreamGrows.{all_go, goes_twice, next_then_head}
 use Rattle.ndr_stream.specs.Added.{Goes}
 use Rattle.ndr_stream.proofs.Taken.{kept_taken}
 use Rattle.ndr_stream.proofs.Tested.{tests_pass, tests_stop, told_tests, keeps_tests}
@@ -116,24 +118,24 @@ module _ (w : Setting) (side : IsLegalSide w) (order : Order) (fetched : List �
     next_is : (octets : List ℕ) → read_next w order octets s.due s ≡ with_read octets (target octets)
     next_is octets = ap (λ u. read_next w order octets u s) due_is ∙ first_is octets
 
-    -- where the referent is refused, so is the stream
+    -- where the referent is refused, so is the head
     pub referent_refused : (more : List ℕ) → AreOctets more → (at : ℕ) (seen' : List EntryAt) (why : ℕ × Reason) → (target (fetched ++ more)).progress ≡ stopped at seen' why
-        → (read_stream w order (fetched ++ more)).progress ≡ stopped at seen' why
+        → head_read w order (fetched ++ more) ≡ stopped at seen' why
     referent_refused more a at seen' why e =
         let octets : List ℕ = fetched ++ more in
         let ms : List Entry = tests (cell_home c) 0 (target octets).tree p.agreements in
-        refused w side order fetched ag.octets s (due_referent p) later_due ag.reached due_is more a at seen' why
+        next_refused w side order fetched ag.octets s (due_referent p) later_due ag.reached due_is more a at seen' why
         (ap (λ (u : Reading). u.progress) (next_is octets) ∙ ap (pass_all order octets ms) e ∙ all_stay order octets ms at seen' why)
 
-    -- what is passed of the referent is passed of the stream
-    pub referent_goes : (added : List ℕ) → AreOctets added → Goes (target (fetched ++ added)).progress (read_stream w order (fetched ++ added)).progress
+    -- what is passed of the referent is passed of the head
+    pub referent_goes : (added : List ℕ) → AreOctets added → Goes (target (fetched ++ added)).progress (head_read w order (fetched ++ added))
     referent_goes added a =
         let octets : List ℕ = fetched ++ added in
         let ms : List Entry = tests (cell_home c) 0 (target octets).tree p.agreements in
-        goes_twice (target octets).progress (pass_all order octets ms (target octets).progress) (read_stream w order octets).progress
+        goes_twice (target octets).progress (pass_all order octets ms (target octets).progress) (head_read w order octets)
         (all_go order octets ms (target octets).progress)
-        (subst (λ (u : Reading). Goes u.progress (read_stream w order octets).progress) (next_is octets)
-        (next_then_stream w side order fetched ag.octets s (due_referent p) later_due due_is ag.reached added a))
+        (subst (λ (u : Reading). Goes u.progress (head_read w order octets)) (next_is octets)
+        (next_then_head w side order fetched ag.octets s (due_referent p) later_due due_is ag.reached added a))
 
     module _ (more : List ℕ) (all_more : AreOctets more) (noted' : List Item) (x : State) (is : Whole order (fetched ++ more) w.table (cell_home c) p.to noted' direct target x)
         (needs : AreNeeded target fetched more) where
@@ -182,7 +184,8 @@ module _ (w : Setting) (side : IsLegalSide w) (order : Order) (fetched : List �
       needed_then part last e =
           let (at, seen', stop) = needs part last e in
           let a : AreOctets part = all_left (λ b. b < 256) part (last ∷ []) (subst AreOctets e all_more) in
-          ap (λ (u : Progress). u.stop) (referent_refused part a at seen' (length (fetched ++ part), reason.Truncated) stop)
+          ap (λ (u : Progress). u.stop)
+          (stream_stays w order (fetched ++ part) at seen' (length (fetched ++ part), reason.Truncated) (referent_refused part a at seen' (length (fetched ++ part), reason.Truncated) stop))
 
       pub needed_so : NeededAfter w order fetched more
       needed_so = needed_then
@@ -204,7 +207,7 @@ module _ (w : Setting) (side : IsLegalSide w) (order : Order) (fetched : List �
         -- one of the agreements is refused
         pub agreement_refused : (ws : List Agreement) (a : Agreement) (others : List Agreement) (why : ℕ × Reason) → p.agreements ≡ ws ++ a ∷ others → AllAgree k ws
             → disagreement a k.first k.max_at ≡ Some why → (later : List ℕ) → AreOctets later
-            → (read_stream w order ((fetched ++ more) ++ later)).progress ≡ stopped x.at (is.seen ++ all_at x.at (tests (cell_home c) 0 is.v ws)) why
+            → head_read w order ((fetched ++ more) ++ later) ≡ stopped x.at (is.seen ++ all_at x.at (tests (cell_home c) 0 is.v ws)) why
         agreement_refused ws a others why split agree e later al =
             let O : List ℕ = fetched ++ (more ++ later) in
             let same : (fetched ++ more) ++ later ≡ O = append_assoc fetched more later in
@@ -213,8 +216,8 @@ module _ (w : Setting) (side : IsLegalSide w) (order : Order) (fetched : List �
             ap (λ (u : Reading). u.progress) (next_then later)
             ∙ ap (λ u. pass_all order ((fetched ++ more) ++ later) (tests (cell_home c) 0 is.v u) (going x.at is.seen)) split
             ∙ tests_stop order (fetched ++ more) w.table (cell_home c) x.at is.reached is.v k ws a others why is.seen kept_it agree e later in
-            subst (λ u. (read_stream w order u).progress ≡ stopped x.at so why) (sym same)
-            (refused w side order fetched ag.octets s (due_referent p) later_due ag.reached due_is (more ++ later) (all_append (λ b. b < 256) more later all_more al) x.at so why
+            subst (λ u. head_read w order u ≡ stopped x.at so why) (sym same)
+            (next_refused w side order fetched ag.octets s (due_referent p) later_due ag.reached due_is (more ++ later) (all_append (λ b. b < 256) more later all_more al) x.at so why
             (subst (λ u. (read_next w order u s.due s).progress ≡ stopped x.at so why) same stop))
 
         pub disagrees : (ws : List Agreement) (a : Agreement) (others : List Agreement) (why : ℕ × Reason) → p.agreements ≡ ws ++ a ∷ others → AllAgree k ws

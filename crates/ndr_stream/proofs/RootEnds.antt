@@ -28,16 +28,18 @@ use Rattle.ndr_reading.specs.Around.{going, stopped}
 use Rattle.ndr_steps.specs.Good.{Whole, owed}
 use Rattle.ndr_steps.specs.Steps.{State}
 use Rattle.ndr_verdict.specs.Verdict.{is_direct}
-use Rattle.ndr_worklist.proofs.Turns.{turns, refused}
+use Rattle.ndr_worklist.proofs.Turns.{turns}
+use Rattle.ndr_stream.specs.Parameters.{head_read}
 use Rattle.ndr_stream.specs.Between.{AreNeeded, Between, Agrees, IsUnread, IsKeptOf, IsKeptRoot, RootAdded, named_by, root_read}
 use Rattle.ndr_stream.specs.declared.kept.KeptRoot.{KeptRoot}
+use Rattle.ndr_stream.proofs.Heads.{next_refused, stream_stays}
 use Rattle.ndr_stream.proofs.Due.{same_octets, in_its_place, root_state}
 use Rattle.ndr_stream.proofs.Graphs.{values_stay, graph_is, value_at}
 use Rattle.ndr_stream.proofs.Homes.{told_then, roots_then, cell_then, own_then}
 use Rattle.ndr_stream.proofs.KeptRoots.{cell_named}
 use Rattle.ndr_stream.proofs.Needing.{NeededAfter, needed_more}
 use Rattle.ndr_stream.proofs.Others.{root_more}
-use Rattle.ndr_stream.proofs.StreamGrows.{next_then_stream}
+use Rattle.ndr_stream.proofs.StreamGrows.{next_then_head}
 use Rattle.ndr_stream.specs.Added.{Goes}
 use Rattle.ndr_stream.proofs.References.{one_if, count_more}
 
@@ -80,17 +82,17 @@ module _ (w : Setting) (side : IsLegalSide w) (order : Order) (fetched : List �
   next_is : (octets : List ℕ) → read_next w order octets s.due s ≡ with_read (target octets)
   next_is octets = ap (λ u. read_next w order octets u s) due_is ∙ first_is octets
 
-  -- where the root is refused, so is the stream
+  -- where the root is refused, so is the head
   pub root_refused : (more : List ℕ) → AreOctets more → (at : ℕ) (seen' : List EntryAt) (why : ℕ × Reason) → (target (fetched ++ more)).progress ≡ stopped at seen' why
-      → (read_stream w order (fetched ++ more)).progress ≡ stopped at seen' why
+      → head_read w order (fetched ++ more) ≡ stopped at seen' why
   root_refused more a at seen' why e =
-      refused w side order fetched ag.octets s (due_root i) later_due ag.reached due_is more a at seen' why (ap (λ (u : Reading). u.progress) (next_is (fetched ++ more)) ∙ e)
+      next_refused w side order fetched ag.octets s (due_root i) later_due ag.reached due_is more a at seen' why (ap (λ (u : Reading). u.progress) (next_is (fetched ++ more)) ∙ e)
 
-  -- what is passed of the root is passed of the stream
-  pub root_goes : (added : List ℕ) → AreOctets added → Goes (target (fetched ++ added)).progress (read_stream w order (fetched ++ added)).progress
+  -- what is passed of the root is passed of the head
+  pub root_goes : (added : List ℕ) → AreOctets added → Goes (target (fetched ++ added)).progress (head_read w order (fetched ++ added))
   root_goes added a =
-      subst (λ (u : Reading). Goes u.progress (read_stream w order (fetched ++ added)).progress) (next_is (fetched ++ added))
-      (next_then_stream w side order fetched ag.octets s (due_root i) later_due due_is ag.reached added a)
+      subst (λ (u : Reading). Goes u.progress (head_read w order (fetched ++ added))) (next_is (fetched ++ added))
+      (next_then_head w side order fetched ag.octets s (due_root i) later_due due_is ag.reached added a)
 
   module _ (more : List ℕ) (all_more : AreOctets more) (noted' : List Item) (x : State) (is : Whole order (fetched ++ more) w.table (home.Root (length s.roots)) r.of noted' direct target x)
       (needs : AreNeeded target fetched more) where
@@ -174,7 +176,8 @@ module _ (w : Setting) (side : IsLegalSide w) (order : Order) (fetched : List �
     needed_then part last e =
         let (at, seen', stop) = needs part last e in
         let a : AreOctets part = all_left (λ b. b < 256) part (last ∷ []) (subst AreOctets e all_more) in
-        ap (λ (u : Progress). u.stop) (root_refused part a at seen' (length (fetched ++ part), reason.Truncated) stop)
+        ap (λ (u : Progress). u.stop)
+        (stream_stays w order (fetched ++ part) at seen' (length (fetched ++ part), reason.Truncated) (root_refused part a at seen' (length (fetched ++ part), reason.Truncated) stop))
 
     pub root_ends : (g : Graph) → RootAdded is.v x.cells b.graph g → (k : KeptRoot) → IsKeptRoot x k
         → Agrees w side order (fetched ++ more) noted' direct (root_read b x k g) after is.seen new n

@@ -27,6 +27,7 @@ use Rattle.nd_grammar.specs.StreamReader.{Reading, ReadPipe, ReadPipes, graph_of
 use Rattle.nd_grammar.proofs.reader.ReaderStream as stream
 use Rattle.ndr_worklist.specs.Reached.{head, Comes, Reached}
 use Rattle.ndr_stream.specs.Added.{Added, Goes}
+use Rattle.ndr_stream.specs.Parameters.{head_read, parameter_tests}
 use Rattle.ndr_stream.proofs.Growing.{whole_adds, in_place_adds, list_adds}
 
 pub goes_nowhere : (p : Progress) → Goes p p
@@ -137,32 +138,31 @@ module _ (w : Setting) (order : Order) (octets : List ℕ) where
       let others : ReadPipes = read_pipes w order octets (i + 1) rs first.progress first.names in
       goes_twice p first.progress others.progress (pipe_goes (type_at w.table r.of) (is_stopped p.stop) i p s) (pipes_go (i + 1) rs first.progress first.names)
 
-  -- from some of the roots and referents on
-  after_head : (s : Reading) (k : ℕ) → head w order octets ≡ read_due w order octets k s → Goes s.progress (read_stream w order octets).progress
-  after_head s k e =
-      let n : ℕ = before_pipes (root_list w) in
+  -- from some of the roots and referents on, up to the pipes
+  before_the_pipes : (s : Reading) (k : ℕ) → head w order octets ≡ read_due w order octets k s → Goes s.progress (head_read w order octets)
+  before_the_pipes s k e =
       let h : Reading = head w order octets in
-      let roots : List Tree = h.roots ++ replicate (length (drop n (root_list w))) unread in
-      let ms : List Entry = root_tests w (graph_of roots h.names) 0 (root_list w) roots in
-      let tested : Progress = pass_all order octets ms h.progress in
-      let pipes : ReadPipes = read_pipes w order octets n (drop n (root_list w)) tested h.names in
-      goes_twice s.progress h.progress pipes.progress (subst (λ (u : Reading). Goes s.progress u.progress) (sym e) (due_goes k s))
-      (goes_twice h.progress tested pipes.progress (all_go order octets ms h.progress) (pipes_go n (drop n (root_list w)) tested h.names))
+      goes_twice s.progress h.progress (head_read w order octets) (subst (λ (u : Reading). Goes s.progress u.progress) (sym e) (due_goes k s))
+      (all_go order octets (parameter_tests w h) h.progress)
+
+  -- and over the pipes
+  pub head_then_stream : Goes (head_read w order octets) (read_stream w order octets).progress
+  head_then_stream = pipes_go (before_pipes (root_list w)) (drop (before_pipes (root_list w)) (root_list w)) (head_read w order octets) (head w order octets).names
 
 -- from a state that is reached
-pub stream_goes : (w : Setting) (order : Order) (fetched : List ℕ) (s : Reading) → Reached w order fetched s → (later : List ℕ) → AreOctets later
-    → Goes s.progress (read_stream w order (fetched ++ later)).progress
-stream_goes w order fetched s r later a = let (k, e) = r.comes later a in after_head w order (fetched ++ later) s k e
+pub head_goes : (w : Setting) (order : Order) (fetched : List ℕ) (s : Reading) → Reached w order fetched s → (later : List ℕ) → AreOctets later
+    → Goes s.progress (head_read w order (fetched ++ later))
+head_goes w order fetched s r later a = let (k, e) = r.comes later a in before_the_pipes w order (fetched ++ later) s k e
 
 -- from what comes next there
-pub next_then_stream : (w : Setting) → IsLegalSide w → (order : Order) (fetched : List ℕ) → AreOctets fetched → (s : Reading) (d : Due) (ds : List Due) → s.due ≡ d ∷ ds → Reached w order fetched s
-    → (later : List ℕ) → AreOctets later → Goes (read_next w order (fetched ++ later) s.due s).progress (read_stream w order (fetched ++ later)).progress
-next_then_stream w side order fetched all s d ds e r later a =
+pub next_then_head : (w : Setting) → IsLegalSide w → (order : Order) (fetched : List ℕ) → AreOctets fetched → (s : Reading) (d : Due) (ds : List Due) → s.due ≡ d ∷ ds → Reached w order fetched s
+    → (later : List ℕ) → AreOctets later → Goes (read_next w order (fetched ++ later) s.due s).progress (head_read w order (fetched ++ later))
+next_then_head w side order fetched all s d ds e r later a =
     go (r.comes later a) (all_append (λ b. b < 256) fetched later all a)
   where
-    go : Comes w order (fetched ++ later) s → AreOctets (fetched ++ later) → Goes (read_next w order (fetched ++ later) s.due s).progress (read_stream w order (fetched ++ later)).progress
+    go : Comes w order (fetched ++ later) s → AreOctets (fetched ++ later) → Goes (read_next w order (fetched ++ later) s.due s).progress (head_read w order (fetched ++ later))
     go (zero, h) whole =
         let f : s.due ≡ [] = ap (λ u. u.due) (sym h) ∙ (stream.head w side order (fetched ++ later) whole).due_none in
         let g : d ∷ ds ≡ [] = sym e ∙ f in
         cc
-    go (suc k, h) whole = after_head w order (fetched ++ later) (read_next w order (fetched ++ later) s.due s) k h
+    go (suc k, h) whole = before_the_pipes w order (fetched ++ later) (read_next w order (fetched ++ later) s.due s) k h

@@ -1,6 +1,6 @@
 -- What a call of a decoder comes to, over its source and its log.
--- `source` and `t` are what was seen of the source, and of the log and the steps, over the call; `fetched`, `noted` and `n` are the octets, the items and the
--- cells before it.
+-- `x` is what is read of a stream, `source` and `t` are what was seen of the source, and of the log and the steps, over the call; `fetched`, `noted` and `n`
+-- are the octets, the items and the cells before it.
 use Rattle.std.specs.Prelude.{◌≡◌, ◌≤◌, ℕ, ◌+◌, true, List, ◌++◌, length}
 use Rattle.std.specs.Io.KnownBytes.{Consumes, IsAtEnd}
 use Rattle.nd_base.specs.declared.octets.Order.{Order}
@@ -13,11 +13,10 @@ use Rattle.nd_grammar.specs.declared.reason.Reason.TheVariants as reason
 use Rattle.nd_grammar.specs.Entry.{EntryAt}
 use Rattle.nd_grammar.specs.FewItems.{but_gaps}
 use Rattle.nd_grammar.specs.Reader.{Read}
-use Rattle.nd_grammar.specs.StreamReader.{read_stream}
 use Rattle.ndr_reading.specs.Around.{stopped}
 use Rattle.ndr_verdict.specs.Verdict.{DecodingSeen, HasNoted}
 use Rattle.ndr_stream.specs.Added.{Goes}
-use Rattle.ndr_stream.specs.Report.{StreamRefused, StreamCut}
+use Rattle.ndr_stream.specs.Report.{Extent, StreamRefused, StreamCut, read_over}
 
 -- So many octets were taken from the source, and these items were noted. Each of them but the gaps was counted, and each cell that got its number: `n'` are
 -- there then.
@@ -45,32 +44,40 @@ pub record Follows (a b c : SourceSeen) (s t u : DecodingSeen) : Type 0 where
   pub steps_middle : s.steps_now ≡ t.steps
   pub steps_now : u.steps_now ≡ t.steps_now
 
--- The stream is refused at a place and for a reason; where its octets are cut short, the source has ended.
-pub record Refused (w : Setting) (order : Order) (fetched : List ℕ) (noted : List Item) (n : ℕ) (source : SourceSeen) (t : DecodingSeen) (place : ℕ) (why : Reason) : Type 0 where
+-- It is refused at a place and for a reason; where its octets are cut short, the source has ended.
+pub record Refused (x : Extent) (w : Setting) (order : Order) (fetched : List ℕ) (noted : List Item) (n : ℕ) (source : SourceSeen) (t : DecodingSeen) (place : ℕ) (why : Reason) : Type 0 where
   pub octets : List ℕ
   pub items : List Item
   pub n' : ℕ
-  pub refused : StreamRefused w order (fetched ++ octets) (noted ++ items) n' place why
+  pub refused : StreamRefused x w order (fetched ++ octets) (noted ++ items) n' place why
   pub took : TookPart source t n octets items n'
   pub ended : why ≡ reason.Truncated → source.ended ≡ true
   pub none_left : why ≡ reason.Truncated → IsAtEnd source.left_now
 
--- Reading was cut off.
-pub record CutOff (w : Setting) (order : Order) (fetched : List ℕ) (noted : List Item) (n : ℕ) (source : SourceSeen) (t : DecodingSeen) : Type 0 where
+-- The source failed before the octets of the next entry had come: those fetched are cut short where they end.
+pub record Unread (x : Extent) (w : Setting) (order : Order) (fetched : List ℕ) (noted : List Item) (n : ℕ) (source : SourceSeen) (t : DecodingSeen) : Type 0 where
   pub octets : List ℕ
   pub items : List Item
   pub n' : ℕ
-  pub cut : StreamCut w order (fetched ++ octets) (noted ++ items) n'
+  pub short : StreamRefused x w order (fetched ++ octets) (noted ++ items) n' (length (fetched ++ octets)) reason.Truncated
+  pub took : TookPart source t n octets items n'
+
+-- Reading was cut off.
+pub record CutOff (x : Extent) (w : Setting) (order : Order) (fetched : List ℕ) (noted : List Item) (n : ℕ) (source : SourceSeen) (t : DecodingSeen) : Type 0 where
+  pub octets : List ℕ
+  pub items : List Item
+  pub n' : ℕ
+  pub cut : StreamCut x w order (fetched ++ octets) (noted ++ items) n'
   pub took : TookPart source t n octets items n'
 
 -- ## A home
 
--- Where the reader refuses a home, it refuses the stream.
-abbrev pub RefusesWith : Setting → Order → List ℕ → (List ℕ → Read) → Type 0
-RefusesWith w order fetched target =
+-- Where the reader refuses a home, it refuses the stream, or its head.
+abbrev pub RefusesWith : Extent → Setting → Order → List ℕ → (List ℕ → Read) → Type 0
+RefusesWith x w order fetched target =
     (part : List ℕ) → AreOctets part → (at : ℕ) (seen : List EntryAt) (why : ℕ × Reason) → (target (fetched ++ part)).progress ≡ stopped at seen why
-    → (read_stream w order (fetched ++ part)).progress ≡ stopped at seen why
+    → read_over x w order (fetched ++ part) ≡ stopped at seen why
 
--- What it passes of a home it passes of the stream.
-abbrev pub GoesWith : Setting → Order → List ℕ → (List ℕ → Read) → Type 0
-GoesWith w order fetched target = (part : List ℕ) → AreOctets part → Goes (target (fetched ++ part)).progress (read_stream w order (fetched ++ part)).progress
+-- What it passes of a home it passes of the stream, or of its head.
+abbrev pub GoesWith : Extent → Setting → Order → List ℕ → (List ℕ → Read) → Type 0
+GoesWith x w order fetched target = (part : List ℕ) → AreOctets part → Goes (target (fetched ++ part)).progress (read_over x w order (fetched ++ part))

@@ -14,6 +14,7 @@ use Rattle.nd_grammar.specs.Reader.{Progress, pass_all}
 use Rattle.nd_grammar.specs.StreamReader.{Reading, Found, ReadPipes, graph_of, read_pipes}
 use Rattle.ndr_reading.specs.Around.{going, stopped}
 use Rattle.ndr_steps.specs.Steps.{first_number, is_owing}
+use Rattle.ndr_worklist.specs.Reached.{head}
 use Rattle.ndr_stream.specs.declared.kept.Kept.{Kept}
 use Rattle.ndr_stream.specs.declared.kept.KeptRoot.{KeptRoot}
 use Rattle.ndr_stream.specs.Between.{Between, Keeps, kept_at}
@@ -60,6 +61,10 @@ abbrev pub parameter_tests : Setting → Reading → List Entry
 parameter_tests w s =
     let g : Graph = with_pipes s (length (drop (before_pipes (root_list w)) (root_list w))) in
     root_tests w g 0 (root_list w) g.roots
+
+-- how far the reader comes before the pipes: over the roots that are no pipes, their referents, and the agreements of the parameters
+abbrev pub head_read : Setting → Order → List ℕ → Progress
+head_read w order octets = let s : Reading = head w order octets in pass_all order octets (parameter_tests w s) s.progress
 
 -- what the reader finds of the pipes, after these roots
 abbrev pub pipes_from : Setting → Order → List ℕ → Reading → Progress → Found

@@ -44,11 +44,18 @@ over w order fetched s r e later a =
     let (k, h) = r.comes later a in
     ap (stream_after w order (fetched ++ later)) (h ∙ due_over w order (fetched ++ later) k s e)
 
+-- where the next of it is refused, so is the head
+pub head_refused : (w : Setting) → IsLegalSide w → (order : Order) (fetched : List ℕ) → AreOctets fetched → (s : Reading) (d : Due) (ds : List Due)
+    → Reached w order fetched s → s.due ≡ d ∷ ds → (later : List ℕ) → AreOctets later → (at : ℕ) (seen : List EntryAt) (why : ℕ × Reason)
+    → (read_next w order (fetched ++ later) s.due s).progress ≡ stopped at seen why → (head w order (fetched ++ later)).progress ≡ stopped at seen why
+head_refused w side order fetched all s d ds r e later a at seen why f =
+    let octets : List ℕ = fetched ++ later in
+    let whole : AreOctets octets = all_append (λ b. b < 256) fetched later all a in
+    let (k, h) = one_more w side order octets whole s d ds e (r.comes later a) in
+    ap (λ u. u.progress) h ∙ due_stays w order octets at seen why k (read_next w order octets s.due s) f
+
 pub refused : (w : Setting) → IsLegalSide w → (order : Order) (fetched : List ℕ) → AreOctets fetched → (s : Reading) (d : Due) (ds : List Due)
     → Reached w order fetched s → s.due ≡ d ∷ ds → (later : List ℕ) → AreOctets later → (at : ℕ) (seen : List EntryAt) (why : ℕ × Reason)
     → (read_next w order (fetched ++ later) s.due s).progress ≡ stopped at seen why → (read_stream w order (fetched ++ later)).progress ≡ stopped at seen why
 refused w side order fetched all s d ds r e later a at seen why f =
-    let octets : List ℕ = fetched ++ later in
-    let whole : AreOctets octets = all_append (λ b. b < 256) fetched later all a in
-    let (k, h) = one_more w side order octets whole s d ds e (r.comes later a) in
-    stream_stays w order octets at seen why (ap (λ u. u.progress) h ∙ due_stays w order octets at seen why k (read_next w order octets s.due s) f)
+    stream_stays w order (fetched ++ later) at seen why (head_refused w side order fetched all s d ds r e later a at seen why f)

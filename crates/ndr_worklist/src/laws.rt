@@ -9,7 +9,7 @@ ghost use Rattle.nd_grammar.specs.Entry.{EntryAt};
 ghost use Rattle.nd_grammar.specs.LegalSide.{IsLegalSide};
 ghost use Rattle.nd_grammar.specs.StreamReader.{Reading, read_next, read_start, read_stream};
 ghost use Rattle.ndr_reading.specs.Around.{stopped};
-ghost use Rattle.ndr_worklist.specs.Reached.{Reached, stream_after};
+ghost use Rattle.ndr_worklist.specs.Reached.{Reached, head, stream_after};
 
 /// At the beginning nothing was fetched, and all roots that are no pipes are due. Where something is due, the next of it is read with some octets more:
 /// if the reader comes to one state by it whatever follows, that state is reached.
@@ -21,10 +21,13 @@ pub fn worklist_turns()
 {}
 
 /// Where nothing is due any more, the roots and referents are as they are then, and the agreements of parameters and the pipes come next. Where the next of
-/// what is due is refused, the stream is refused for that.
+/// what is due is refused, what comes before the pipes is refused for that, and so is the stream.
 pub fn worklist_ends()
     ensures over { (w : Setting) (order : Order) (fetched : List ℕ) (s : Reading) → Reached w order fetched s → s.due ≡ []
         → (later : List ℕ) → AreOctets later → read_stream w order (fetched ++ later) ≡ stream_after w order (fetched ++ later) s }
+    ensures in_head { (w : Setting) → IsLegalSide w → (order : Order) (fetched : List ℕ) → AreOctets fetched → (s : Reading) (d : Due) (ds : List Due)
+        → Reached w order fetched s → s.due ≡ d ∷ ds → (later : List ℕ) → AreOctets later → (at : ℕ) (seen : List EntryAt) (why : ℕ × Reason)
+        → (read_next w order (fetched ++ later) s.due s).progress ≡ stopped at seen why → (head w order (fetched ++ later)).progress ≡ stopped at seen why }
     ensures refused { (w : Setting) → IsLegalSide w → (order : Order) (fetched : List ℕ) → AreOctets fetched → (s : Reading) (d : Due) (ds : List Due)
         → Reached w order fetched s → s.due ≡ d ∷ ds → (later : List ℕ) → AreOctets later → (at : ℕ) (seen : List EntryAt) (why : ℕ × Reason)
         → (read_next w order (fetched ++ later) s.due s).progress ≡ stopped at seen why → (read_stream w order (fetched ++ later)).progress ≡ stopped at seen why }

@@ -4,6 +4,7 @@ use Rattle.ndr_stream.proofs.laws.calls_are_joined.Goals as goal
 pub returns : goal.returns
 returns f = record {
   took = λ a b c s t u g n m k os ps xs ys x y. law.took_twice a b c s t u g n m k os ps xs ys x y;
-  refused = λ a b c s t u g w order fetched noted n m os xs x place why r. law.took_then_refused a b c s t u g w order fetched noted n m os xs x place why r;
-  cut_off = λ a b c s t u g w order fetched noted n m os xs x r. law.took_then_cut a b c s t u g w order fetched noted n m os xs x r;
+  refused = λ a b c s t u g e w order fetched noted n m os xs x place why r. law.took_then_refused a b c s t u g e w order fetched noted n m os xs x place why r;
+  unread = λ a b c s t u g e w order fetched noted n m os xs x r. law.took_then_unread a b c s t u g e w order fetched noted n m os xs x r;
+  cut_off = λ a b c s t u g e w order fetched noted n m os xs x r. law.took_then_cut a b c s t u g e w order fetched noted n m os xs x r;
 }
