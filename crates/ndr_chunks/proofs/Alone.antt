@@ -89,7 +89,8 @@ module _ (order : Order) (a b c : SourceSeen) (s t u : DecodingSeen) (f : Follow
         bad reason.NoArm y = y
         bad reason.OtherType y = y
         bad (reason.Disagrees wanted found) y = y
-    came_later at os fault.ReadFault x = subst (λ z. Rose c.faults.before z) (sym same_faults) (rose_later c.faults.before b.faults.before b.faults.now low x)
+    came_later at os fault.ReadFault (near, less, risen) =
+        (near, less, subst (λ z. Rose c.faults.before z) (sym same_faults) (rose_later c.faults.before b.faults.before b.faults.now low risen))
     came_later at os fault.Memory x = x
 
     module _ (g : GapPassed m n a s) (home : n.home ≡ m.home) where

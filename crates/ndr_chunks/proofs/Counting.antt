@@ -33,8 +33,8 @@ use Rattle.ndr_state.specs.declared.machine.Machine.{Machine}
 use Rattle.ndr_steps.specs.StepItems.{gap_items, item_here}
 use Rattle.ndr_steps.proofs.Passing.{items_stay}
 use Rattle.ndr_stream.specs.Added.{Goes}
-use Rattle.ndr_stream.specs.Calls.{TookPart, Refused, CutOff}
-use Rattle.ndr_stream.specs.Report.{AreCells, StreamRefused, StreamCut}
+use Rattle.ndr_stream.specs.Calls.{TookPart, Refused, CutOff, Unread}
+use Rattle.ndr_stream.specs.Report.{AreCells, StreamRefused, StreamCut, the_stream}
 use Rattle.ndr_stream.proofs.Needing.{NeededAfter, needed_more}
 use Rattle.ndr_verdict.specs.Needed.{IsNeeded}
 use Rattle.ndr_verdict.proofs.CellsSeen.{CellsSeen}
@@ -112,34 +112,59 @@ module _ (w : Setting) (order : Order) (fetched : List ℕ) (noted : List Item) 
     none_taken : TookPart source t m.cells os [] m.cells
     none_taken = record { left = left; logged = log ∙ none_noted t.log; steps = omega (arith, steps) }
 
-    cut_here : ((later : List ℕ) → AreOctets later → Goes (going k.at k.seen) (read_stream w order (fetched ++ later)).progress) → CutOff w order fetched noted m.cells source t
+    cut_here : ((later : List ℕ) → AreOctets later → Goes (going k.at k.seen) (read_stream w order (fetched ++ later)).progress) → CutOff the_stream w order fetched noted m.cells source t
     cut_here adds =
         let g : Goes (going k.at k.seen) (read_stream w order (fetched ++ os)).progress = adds os all in
-        let c : StreamCut w order (fetched ++ os) (noted ++ []) m.cells = record { octets = both; seen = k.seen; after = g.added; passed = g.seen; items_are = items_are; cells = cells } in
+        let c : StreamCut the_stream w order (fetched ++ os) (noted ++ []) m.cells = record { octets = both; seen = k.seen; after = g.added; passed = g.seen; items_are = items_are; cells = cells } in
         record { octets = os; items = []; n' = m.cells; cut = c; took = none_taken }
 
     refused_here : (place : ℕ) (why : Reason) → (read_stream w order (fetched ++ os)).progress ≡ stopped k.at k.seen (place, why) → IsNeeded w order (fetched ++ os)
-        → (why ≡ reason.Truncated → source.ended ≡ true) → (why ≡ reason.Truncated → IsAtEnd source.left_now) → Refused w order fetched noted m.cells source t place why
+        → (why ≡ reason.Truncated → source.ended ≡ true) → (why ≡ reason.Truncated → IsAtEnd source.left_now) → Refused the_stream w order fetched noted m.cells source t place why
     refused_here place why stop needed ended at_end =
-        let c : StreamRefused w order (fetched ++ os) (noted ++ []) m.cells place why =
+        let c : StreamRefused the_stream w order (fetched ++ os) (noted ++ []) m.cells place why =
         record { octets = both; at = k.at; seen = k.seen; stops = stop; items_are = items_are; needed = needed; cells = cells } in
         record { octets = os; items = []; n' = m.cells; refused = c; took = none_taken; ended = ended; none_left = at_end }
 
     -- octets that are cut short, as all first parts of them
-    short_here : (place : ℕ) → ((part : List ℕ) → AreOctets part → length part ≤ length os → (read_stream w order (fetched ++ part)).progress ≡ stopped k.at k.seen (length (fetched ++ part), reason.Truncated))
-        → place ≡ m.at + length os → source.ended ≡ true → IsAtEnd source.left_now → Refused w order fetched noted m.cells source t place reason.Truncated
-    short_here place cuts there ended at_end =
+    abbrev AreCut : Type 0
+    AreCut = (part : List ℕ) → AreOctets part → length part ≤ length os → (read_stream w order (fetched ++ part)).progress ≡ stopped k.at k.seen (length (fetched ++ part), reason.Truncated)
+
+    short_so : AreCut → StreamRefused the_stream w order (fetched ++ os) (noted ++ []) m.cells (length (fetched ++ os)) reason.Truncated
+    short_so cuts =
         let needed : NeededAfter w order fetched os =
         λ part last e.
         let l : length os ≡ length part + 1 = ap length e ∙ length-append part (last ∷ []) in
         ap (λ (u : Progress). u.stop) (cuts part (all_left (λ b. b < 256) part (last ∷ []) (subst AreOctets e all)) (omega (arith, l))) in
+        record {
+          octets = both;
+          at = k.at;
+          seen = k.seen;
+          stops = cuts os all (omega arith);
+          items_are = items_are;
+          needed = needed_more w order fetched os p.stands.needed needed;
+          cells = cells;
+        }
+
+    -- the source has ended there
+    short_here : (place : ℕ) → AreCut → place ≡ m.at + length os → source.ended ≡ true → IsAtEnd source.left_now → Refused the_stream w order fetched noted m.cells source t place reason.Truncated
+    short_here place cuts there ended at_end =
         let size : length (fetched ++ os) ≡ length fetched + length os = length-append fetched os in
         let reached : length fetched ≡ k.at = p.stands.reached in
         let at : m.at ≡ k.at = here.at in
         let same : length (fetched ++ os) ≡ place = omega (arith, size, reached, at, there) in
-        let stop : (read_stream w order (fetched ++ os)).progress ≡ stopped k.at k.seen (place, reason.Truncated) =
-        subst (λ z. (read_stream w order (fetched ++ os)).progress ≡ stopped k.at k.seen (z, reason.Truncated)) same (cuts os all (omega arith)) in
-        refused_here place reason.Truncated stop (needed_more w order fetched os p.stands.needed needed) (λ u. ended) (λ u. at_end)
+        record {
+          octets = os;
+          items = [];
+          n' = m.cells;
+          refused = subst (λ z. StreamRefused the_stream w order (fetched ++ os) (noted ++ []) m.cells z reason.Truncated) same (short_so cuts);
+          took = none_taken;
+          ended = λ u. ended;
+          none_left = λ u. at_end;
+        }
+
+    -- it failed there
+    unread_here : AreCut → Unread the_stream w order fetched noted m.cells source t
+    unread_here cuts = record { octets = os; items = []; n' = m.cells; short = short_so cuts; took = none_taken }
 
   -- ## The gap
 
@@ -147,15 +172,19 @@ module _ (w : Setting) (order : Order) (fetched : List ℕ) (noted : List Item) 
     abbrev rest_of_chunk : Rest
     rest_of_chunk = at_chunk w order i elem done k
 
-    pub gap_memory : t.log_now ≡ t.log → t.steps_now ≡ t.steps → CutOff w order fetched noted m.cells source t
+    pub gap_memory : t.log_now ≡ t.log → t.steps_now ≡ t.steps → CutOff the_stream w order fetched noted m.cells source t
     gap_memory log steps =
         cut_here 4 rest_of_chunk p os all left log steps (λ later a. chunk_goes w order fetched noted direct first i rs roots elem done max_at k p later a)
 
-    gap_bad : t.log_now ≡ t.log → t.steps_now ≡ t.steps → (place : ℕ) (why : Reason) → GapBad m.at source os place why → Refused w order fetched noted m.cells source t place why
-    gap_bad log steps place reason.Truncated (less, there, ended, at_end) =
+    gap_cuts : length os < gap m.at 4 → (part : List ℕ) → AreOctets part → length part ≤ length os
+        → (read_stream w order (fetched ++ part)).progress ≡ stopped k.at k.seen (length (fetched ++ part), reason.Truncated)
+    gap_cuts less part a l =
         let fewer : length os < gap k.at 4 = subst (λ z. length os < gap z 4) here.at less in
-        short_here 4 rest_of_chunk p os all left log steps place
-        (λ part a l. gap_cut w order fetched noted direct first i rs roots elem done max_at k p part a (omega (arith, l, fewer))) there ended at_end
+        gap_cut w order fetched noted direct first i rs roots elem done max_at k p part a (omega (arith, l, fewer))
+
+    gap_bad : t.log_now ≡ t.log → t.steps_now ≡ t.steps → (place : ℕ) (why : Reason) → GapBad m.at source os place why → Refused the_stream w order fetched noted m.cells source t place why
+    gap_bad log steps place reason.Truncated (less, there, ended, at_end) =
+        short_here 4 rest_of_chunk p os all left log steps place (gap_cuts less) there ended at_end
     gap_bad log steps place reason.TooLong x = absurd x
     gap_bad log steps place reason.EnumValue x = absurd x
     gap_bad log steps place reason.PastBound x = absurd x
@@ -169,7 +198,7 @@ module _ (w : Setting) (order : Order) (fetched : List ℕ) (noted : List Item) 
 
     pub gap_fault : t.log_now ≡ t.log → t.steps_now ≡ t.steps → (e : DecodeFault) → GapCame m.at source os (Err e) → FaultOf w order fetched noted m.cells source t e
     gap_fault log steps (fault.Bad place why) x = gap_bad log steps place why x
-    gap_fault log steps fault.ReadFault x = (gap_memory log steps, x)
+    gap_fault log steps fault.ReadFault (less, risen) = (unread_here 4 rest_of_chunk p os all left log steps (gap_cuts less), risen)
     gap_fault log steps fault.Memory x = gap_memory log steps
 
     pub gap_stops : t.log_now ≡ t.log → t.steps_now ≡ t.steps → (e : DecodeFault) → GapCame m.at source os (Err e) → (n : Machine) (r : Result (Unit {0}) DecodeFault) → IsErrAnd r (λ y. y ≡ e)
@@ -208,23 +237,26 @@ module _ (w : Setting) (order : Order) (fetched : List ℕ) (noted : List Item) 
     abbrev rest_of_count : Rest
     rest_of_count = at_count w order i elem done k
 
-    pub count_memory : t.log_now ≡ t.log → t.steps_now ≡ t.steps → CutOff w order fetched noted m.cells source t
+    pub count_memory : t.log_now ≡ t.log → t.steps_now ≡ t.steps → CutOff the_stream w order fetched noted m.cells source t
     count_memory log steps =
         cut_here 4 rest_of_count p os all left log steps (λ later a. count_adds w order fetched noted direct first i rs roots elem done max_at k p later a)
 
-    count_bad : t.log_now ≡ t.log → t.steps_now ≡ t.steps → (place : ℕ) (why : Reason) → CountBad m.at source os place why → Refused w order fetched noted m.cells source t place why
+    count_cuts : m.at + 4 ≤ STREAM_LIMIT → length os < 4 → (part : List ℕ) → AreOctets part → length part ≤ length os
+        → (read_stream w order (fetched ++ part)).progress ≡ stopped k.at k.seen (length (fetched ++ part), reason.Truncated)
+    count_cuts short less part a l =
+        count_cut w order fetched noted direct first i rs roots elem done max_at k p part a (omega (arith, l, less)) (subst (λ z. z + 4 ≤ STREAM_LIMIT) here.at short)
+
+    count_bad : t.log_now ≡ t.log → t.steps_now ≡ t.steps → (place : ℕ) (why : Reason) → CountBad m.at source os place why → Refused the_stream w order fetched noted m.cells source t place why
     count_bad log steps place reason.TooLong (long, none, there) =
         let past : STREAM_LIMIT < k.at + 4 = subst (λ z. STREAM_LIMIT < z + 4) here.at long in
         let stop : (read_stream w order (fetched ++ os)).progress ≡ stopped k.at k.seen (STREAM_LIMIT, reason.TooLong) =
         count_long w order fetched noted direct first i rs roots elem done max_at k p past os all in
         let same : fetched ≡ fetched ++ os = sym (ap (λ z. fetched ++ z) none ∙ append-nil fetched) in
-        subst (λ z. Refused w order fetched noted m.cells source t z reason.TooLong) (sym there)
+        subst (λ z. Refused the_stream w order fetched noted m.cells source t z reason.TooLong) (sym there)
         (refused_here 4 rest_of_count p os all left log steps STREAM_LIMIT reason.TooLong stop (subst (λ z. IsNeeded w order z) same p.stands.needed)
         (λ u. absurd (subst IsNotCut u tt)) (λ u. absurd (subst IsNotCut u tt)))
     count_bad log steps place reason.Truncated (short, (less, there, ended, at_end)) =
-        let near : k.at + 4 ≤ STREAM_LIMIT = subst (λ z. z + 4 ≤ STREAM_LIMIT) here.at short in
-        short_here 4 rest_of_count p os all left log steps place
-        (λ part a l. count_cut w order fetched noted direct first i rs roots elem done max_at k p part a (omega (arith, l, less)) near) there ended at_end
+        short_here 4 rest_of_count p os all left log steps place (count_cuts short less) there ended at_end
     count_bad log steps place reason.EnumValue x = absurd x
     count_bad log steps place reason.PastBound x = absurd x
     count_bad log steps place reason.TextOffset x = absurd x
@@ -237,7 +269,7 @@ module _ (w : Setting) (order : Order) (fetched : List ℕ) (noted : List Item) 
 
     pub count_fault : t.log_now ≡ t.log → t.steps_now ≡ t.steps → (e : DecodeFault) → CountCame m.at source os (Err e) → FaultOf w order fetched noted m.cells source t e
     count_fault log steps (fault.Bad place why) x = count_bad log steps place why x
-    count_fault log steps fault.ReadFault x = (count_memory log steps, x)
+    count_fault log steps fault.ReadFault (short, less, risen) = (unread_here 4 rest_of_count p os all left log steps (count_cuts short less), risen)
     count_fault log steps fault.Memory x = count_memory log steps
 
     pub count_stops : t.log_now ≡ t.log → t.steps_now ≡ t.steps → (e : DecodeFault) → CountCame m.at source os (Err e) → (n : Machine) (r : Result ℕ DecodeFault) → IsErrAnd r (λ y. y ≡ e)

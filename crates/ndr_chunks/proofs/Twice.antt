@@ -15,7 +15,8 @@ use Rattle.ndr_state.specs.declared.fault.DecodeFault.{DecodeFault}
 use Rattle.ndr_state.specs.declared.fault.DecodeFault.TheVariants as fault
 use Rattle.ndr_state.specs.declared.machine.Machine.{Machine}
 use Rattle.ndr_stream.specs.Calls.{Follows}
-use Rattle.ndr_stream.proofs.Joined.{took_twice, took_then_refused, took_then_cut}
+use Rattle.ndr_stream.specs.Report.{the_stream}
+use Rattle.ndr_stream.proofs.Joined.{took_twice, took_then_refused, took_then_unread, took_then_cut}
 use Rattle.ndr_verdict.specs.Verdict.{DecodingSeen}
 use Rattle.ndr_pipes.specs.Pipes.{Position}
 use Rattle.ndr_chunks.specs.Chunks.{AfterCount, Counts, FaultOf, GapRead, HasMoved}
@@ -52,9 +53,9 @@ module _ (w : Setting) (order : Order) (fetched : List ℕ) (noted : List Item) 
     is_at = x.is_at;
     took = took_twice a b c s t u f cells cells cells g.octets x.octets g.items x.items g.took x.took;
   }
-  counted_then low same g (Err (fault.Bad place why)) x = took_then_refused a b c s t u f w order fetched noted cells cells g.octets g.items g.took place why x
-  counted_then low same g (Err fault.ReadFault) x = (took_then_cut a b c s t u f w order fetched noted cells cells g.octets g.items g.took x.0, subst (λ z. Rose c.faults.before z) (sym same) (rose_later c.faults.before b.faults.before b.faults.now low x.1))
-  counted_then low same g (Err fault.Memory) x = took_then_cut a b c s t u f w order fetched noted cells cells g.octets g.items g.took x
+  counted_then low same g (Err (fault.Bad place why)) x = took_then_refused a b c s t u f the_stream w order fetched noted cells cells g.octets g.items g.took place why x
+  counted_then low same g (Err fault.ReadFault) x = (took_then_unread a b c s t u f the_stream w order fetched noted cells cells g.octets g.items g.took x.0, subst (λ z. Rose c.faults.before z) (sym same) (rose_later c.faults.before b.faults.before b.faults.now low x.1))
+  counted_then low same g (Err fault.Memory) x = took_then_cut a b c s t u f the_stream w order fetched noted cells cells g.octets g.items g.took x
 
   pub stopped_first : (e : DecodeFault) → FaultOf w order fetched noted cells c u e → (r : Result ℕ DecodeFault) → IsErrAnd r (λ y. y ≡ e)
       → Counts w order fetched noted direct first i rs roots elem done max_at cells c u n r

@@ -18,14 +18,15 @@ use Rattle.ndr_state.specs.declared.fault.DecodeFault.{DecodeFault}
 use Rattle.ndr_state.specs.declared.fault.DecodeFault.TheVariants as fault
 use Rattle.ndr_state.specs.declared.machine.Machine.{Machine}
 use Rattle.ndr_verdict.specs.Verdict.{DecodingSeen}
-use Rattle.ndr_stream.specs.Calls.{Took, Refused, CutOff}
+use Rattle.ndr_stream.specs.Calls.{Took, Refused, Unread, CutOff}
+use Rattle.ndr_stream.specs.Report.{the_stream}
 use Rattle.ndr_pipes.specs.Pipes.{InPipe, InPipes, Position, at_count, at_elements}
 
--- a refusal is that of the stream; where the source or memory failed, reading was cut off
+-- a refusal is that of the stream; where the source failed, the octets are cut short where they end; where memory failed, reading was cut off
 abbrev pub FaultOf : Setting → Order → List ℕ → List Item → ℕ → SourceSeen → DecodingSeen → DecodeFault → Type 0
-FaultOf w order fetched noted cells source t (fault.Bad place why) = Refused w order fetched noted cells source t place why
-FaultOf w order fetched noted cells source t fault.ReadFault = CutOff w order fetched noted cells source t × HasRisen source.faults
-FaultOf w order fetched noted cells source t fault.Memory = CutOff w order fetched noted cells source t
+FaultOf w order fetched noted cells source t (fault.Bad place why) = Refused the_stream w order fetched noted cells source t place why
+FaultOf w order fetched noted cells source t fault.ReadFault = Unread the_stream w order fetched noted cells source t × HasRisen source.faults
+FaultOf w order fetched noted cells source t fault.Memory = CutOff the_stream w order fetched noted cells source t
 
 -- the machine of a pipe is at a position
 pub record IsAt (i : ℕ) (k : Position) (m : Machine) : Type 0 where

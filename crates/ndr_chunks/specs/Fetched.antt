@@ -31,7 +31,7 @@ GapBad at s os place why = ⊥
 abbrev pub GapCame : ℕ → SourceSeen → List ℕ → Result (Unit {0}) DecodeFault → Type 0
 GapCame at s os (Ok u) = length os ≡ gap at 4
 GapCame at s os (Err (fault.Bad place why)) = GapBad at s os place why
-GapCame at s os (Err fault.ReadFault) = HasRisen s.faults
+GapCame at s os (Err fault.ReadFault) = (length os < gap at 4) × HasRisen s.faults
 GapCame at s os (Err fault.Memory) = Unit {0}
 
 abbrev pub CountBad : ℕ → SourceSeen → List ℕ → ℕ → Reason → Type 0
@@ -42,5 +42,5 @@ CountBad at s os place why = ⊥
 abbrev pub CountCame : ℕ → SourceSeen → List ℕ → Result (Unit {0}) DecodeFault → Type 0
 CountCame at s os (Ok u) = (length os ≡ 4) × (at + 4 ≤ STREAM_LIMIT)
 CountCame at s os (Err (fault.Bad place why)) = CountBad at s os place why
-CountCame at s os (Err fault.ReadFault) = HasRisen s.faults
+CountCame at s os (Err fault.ReadFault) = (at + 4 ≤ STREAM_LIMIT) × (length os < 4) × HasRisen s.faults
 CountCame at s os (Err fault.Memory) = Unit {0}

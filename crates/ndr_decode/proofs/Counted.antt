@@ -8,7 +8,8 @@ use Rattle.nd_value.specs.Setting.{Setting}
 use Rattle.ndr_state.specs.declared.fault.DecodeFault.{DecodeFault}
 use Rattle.ndr_state.specs.declared.fault.DecodeFault.TheVariants as fault
 use Rattle.ndr_verdict.specs.Verdict.{DecodingSeen}
-use Rattle.ndr_stream.specs.Calls.{CutOff, TookPart}
+use Rattle.ndr_stream.specs.Calls.{CutOff, TookPart, Unread}
+use Rattle.ndr_stream.specs.Report.{the_head}
 use Rattle.ndr_decode.specs.Streaming.{FaultOf}
 
 -- the same log, with so many steps counted before
@@ -19,10 +20,13 @@ module _ (w : Setting) (order : Order) (fetched : List ℕ) (noted : List Item) 
   part_counted : (octets : List ℕ) (items : List Item) (n' : ℕ) → TookPart source t (n + 1) octets items n' → TookPart source (with_steps k t) n octets items n'
   part_counted octets items n' p = let a = p.steps in record { left = p.left; logged = p.logged; steps = omega (arith, a, one) }
 
-  cut_counted : CutOff w order fetched noted (n + 1) source t → CutOff w order fetched noted n source (with_steps k t)
+  cut_counted : CutOff the_head w order fetched noted (n + 1) source t → CutOff the_head w order fetched noted n source (with_steps k t)
   cut_counted x = record { octets = x.octets; items = x.items; n' = x.n'; cut = x.cut; took = part_counted x.octets x.items x.n' x.took }
 
-  pub fault_counted : (e : DecodeFault) → FaultOf w order fetched noted (n + 1) source t e → FaultOf w order fetched noted n source (with_steps k t) e
+  unread_counted : Unread the_head w order fetched noted (n + 1) source t → Unread the_head w order fetched noted n source (with_steps k t)
+  unread_counted x = record { octets = x.octets; items = x.items; n' = x.n'; short = x.short; took = part_counted x.octets x.items x.n' x.took }
+
+  pub fault_counted : (e : DecodeFault) → FaultOf the_head w order fetched noted (n + 1) source t e → FaultOf the_head w order fetched noted n source (with_steps k t) e
   fault_counted (fault.Bad place why) x = record {
     octets = x.octets;
     items = x.items;
@@ -32,5 +36,5 @@ module _ (w : Setting) (order : Order) (fetched : List ℕ) (noted : List Item) 
     ended = x.ended;
     none_left = x.none_left;
   }
-  fault_counted fault.ReadFault x = (cut_counted x.0, x.1)
+  fault_counted fault.ReadFault x = (unread_counted x.0, x.1)
   fault_counted fault.Memory x = cut_counted x

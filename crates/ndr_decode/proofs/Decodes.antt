@@ -30,12 +30,14 @@ use Rattle.ndr_stream.proofs.StreamBegins.{stream_begins}
 use Rattle.ndr_verdict.specs.Verdict.{DecodingSeen, IsDecoded}
 use Rattle.ndr_kept.specs.declared.stream.Stream.{Stream}
 use Rattle.ndr_kept.specs.Seen.{between_of}
+use Rattle.ndr_stream.specs.Report.{the_stream}
 use Rattle.ndr_decode.specs.declared.decoding.Decoded.{Decoded}
 use Rattle.ndr_decode.specs.Decoding.{IsFault}
 use Rattle.ndr_decode.specs.Piping.{EndComes}
 use Rattle.ndr_decode.specs.Streaming.{FaultOf, IsSettingOf, Purpose, WasRead, cells_of, purpose_of}
-use Rattle.ndr_decode.proofs.EndsWell.{decoded_told}
-use Rattle.ndr_decode.proofs.Reported.{fault_told}
+use Rattle.ndr_decode.proofs.Handed.{stream_fault}
+use Rattle.ndr_decode.proofs.EndsWell.{decoded_reported}
+use Rattle.ndr_decode.proofs.Reported.{fault_reported}
 use Rattle.ndr_decode.proofs.Standing.{cut_off_here, idle_log, idle_source}
 
 -- what a graph is built for, by a plan
@@ -92,8 +94,8 @@ same_fault (Ok a) e k is h = absurd is
 same_fault (Err j) e k is h = (let x : j ≡ k = cc in sym is ∙ x)
 
 -- a fault of the source has its cause
-pub source_failed : (w : Setting) (order : Order) (n : ℕ) (c : SourceSeen) (u : DecodingSeen) (e : DecodeFault) → e ≡ fault.ReadFault → FaultOf w order [] [] n c u e → HasRisen c.faults
-source_failed w order n c u e is x = (subst (λ (k : DecodeFault). FaultOf w order [] [] n c u k) is x).1
+pub source_failed : (w : Setting) (order : Order) (n : ℕ) (c : SourceSeen) (u : DecodingSeen) (e : DecodeFault) → e ≡ fault.ReadFault → FaultOf the_stream w order [] [] n c u e → HasRisen c.faults
+source_failed w order n c u e is x = (subst (λ (k : DecodeFault). FaultOf the_stream w order [] [] n c u k) is x).1
 
 -- ## A call
 
@@ -123,15 +125,16 @@ module _ (plan : Plan) (number : ℕ) (way : Side) (q : Option Graph) (o : Opera
     -- where memory is refused before anything is read
     pub nothing_read : (left : Option (List ℕ)) (ended : Bool) (faults : Count) (log : Logged) (steps : ℕ) → IsFault w order (idle_source left ended faults) fault.Memory (idle_log log steps)
     nothing_read left ended faults log steps =
-        fault_told w legal order (idle_source left ended faults) (idle_log log steps) fault.Memory
+        fault_reported w legal order (idle_source left ended faults) (idle_log log steps) fault.Memory
+        (stream_fault w order [] [] 0 (idle_source left ended faults) (idle_log log steps) fault.Memory
         (cut_off_here left ended faults log steps w legal order [] [] 0 (between_of x) (read_start w order []) [] [] (before_pipes (root_list w)) 0 (sym (ap length begins.cells))
-        (stream_begins w legal order (between_of x) begins))
+        (stream_begins w legal order (between_of x) begins)))
 
     pub side_fails : (c : SourceSeen) (u : DecodingSeen) (z : Stream) (e : DecodeFault) → EndComes w order [] [] (cells_of x) c u z (Err e) → IsFault w order c e u
-    side_fails c u z e r = fault_told w legal order c u e (subst (λ n. FaultOf w order [] [] n c u e) no_cells r)
+    side_fails c u z e r = fault_reported w legal order c u e (subst (λ n. FaultOf the_stream w order [] [] n c u e) no_cells r)
 
     pub side_ends : (c : SourceSeen) (u : DecodingSeen) (z : Stream) → WasRead w order [] [] (cells_of x) c u z → IsDecoded w order c z.machine.at (closed z.machine.builder) u
-    side_ends c u z r = decoded_told w legal order c u z (subst (λ n. WasRead w order [] [] n c u z) no_cells r)
+    side_ends c u z r = decoded_reported w legal order c u z (subst (λ n. WasRead w order [] [] n c u z) no_cells r)
 
     pub decoded_as : (c : SourceSeen) (u : DecodingSeen) (z : Stream) (count : ℕ) (f : Fitting) → f ≡ fitting z.machine.builder → count ≡ z.machine.at → WasRead w order [] [] (cells_of x) c u z
         → IsDecoded w order c count f.graph u

@@ -45,6 +45,7 @@ use Rattle.ndr_stream.proofs.Cells.{told_reference}
 use Rattle.ndr_stream.proofs.FewReferences.{few_next}
 use Rattle.ndr_stream.proofs.HomeBegins.{home_begins}
 use Rattle.ndr_stream.proofs.DirectEnds.{its_usable, free, direct_refused, direct_goes, direct_ends, after, made}
+use Rattle.ndr_stream.specs.Report.{the_head}
 use Rattle.ndr_decode.specs.Streaming.{FaultOf, HomeWhole}
 use Rattle.ndr_decode.proofs.HomeComes.{whole_comes, fault_comes, decoding_of}
 
@@ -76,9 +77,9 @@ module _ (w : Setting) (side : IsLegalSide w) (order : Order) (fetched : List �
 
   -- a fault within the value is one of the stream
   pub direct_fault : (source : SourceSeen) (notes : NotesSeen) (x1 : State) (e : DecodeFault) → EndsFault values order code here x source notes x1 e
-      → FaultOf w order fetched noted (length x.cells) source (decoding_of notes) e
+      → FaultOf the_head w order fetched noted (length x.cells) source (decoding_of notes) e
   direct_fault source notes x1 e ends =
-      fault_comes values order code w.table here to.0 32 (direct + 1) target planned fetched noted x direct_good source notes w agrees.octets agrees.needed
+      fault_comes values order code w.table here to.0 32 (direct + 1) target planned fetched noted x direct_good source notes the_head w agrees.octets agrees.needed
       (λ part all at so why stop. direct_refused w side order fetched noted direct b s seen n agrees r there to refers part all at so why stop)
       (λ part all. direct_goes w side order fetched noted direct b s seen n agrees r there to refers part all)
       (few_next w side order fetched noted direct b s seen [] (suc n) agrees r there (ap is_direct refers)) x1 e ends

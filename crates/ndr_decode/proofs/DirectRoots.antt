@@ -28,7 +28,7 @@ use Rattle.nd_flat.specs.Building.{Building, CanClose, closed, opened}
 use Rattle.nd_grammar.specs.Entry.{EntryAt}
 use Rattle.nd_grammar.specs.LegalSide.{IsLegalSide}
 use Rattle.nd_grammar.specs.Reader.{Names, Read, with_cell}
-use Rattle.nd_grammar.specs.StreamReader.{Reading, read_stream}
+use Rattle.nd_grammar.specs.StreamReader.{Reading}
 use Rattle.nd_grammar.proofs.reader.ReaderNames.{Extends, longer}
 use Rattle.nd_grammar.proofs.reader.ReaderStates.{WholeRead, read_wholly}
 use Rattle.ndr_code.specs.declared.instr.Instr.TheVariants as op
@@ -50,14 +50,15 @@ use Rattle.ndr_stream.specs.declared.kept.KeptRoot.{KeptRoot}
 use Rattle.ndr_stream.specs.Added.{Goes}
 use Rattle.ndr_stream.specs.Between.{Agrees, Between, CellFilled, CellKept, Opens, cell_read, home_target, with_pointer}
 use Rattle.ndr_stream.specs.Calls.{CutOff, Took, TookPart}
-use Rattle.ndr_stream.specs.Report.{AreCells, StreamCut}
+use Rattle.ndr_stream.specs.Parameters.{head_read}
+use Rattle.ndr_stream.specs.Report.{AreCells, StreamCut, the_head}
 use Rattle.ndr_stream.proofs.Cells.{told_reference}
 use Rattle.ndr_stream.proofs.DirectEnds.{its_usable, direct_goes}
 use Rattle.ndr_stream.proofs.DirectEnds as law
 use Rattle.ndr_stream.proofs.FewReferences.{few_next}
 use Rattle.ndr_stream.proofs.Graphs.{values_stay}
 use Rattle.ndr_stream.proofs.HomeFaults.{home_cut}
-use Rattle.ndr_stream.proofs.StreamGrows.{stream_goes}
+use Rattle.ndr_stream.proofs.StreamGrows.{head_goes}
 use Rattle.ndr_kept.specs.Ends.{HomeRan, with_reference}
 use Rattle.ndr_kept.specs.Seen.{KeepsAll, ReferenceEnds, between_of}
 use Rattle.ndr_kept.specs.declared.stream.Stream.{Stream}
@@ -118,11 +119,11 @@ module _ (plan : Plan) (order : Order) (to : TypeId) (run : ℕ) (x : Stream) (w
   one_more = length-append (between_of x).cells (to.0 ∷ []) ∙ ap (λ (k : ℕ). k + 1) (types_length x.machine.builder)
 
   -- the cell has its number, and nothing of its value was read
-  cut_begun : StreamCut w order fetched noted (length ((between_of x).cells ++ to.0 ∷ []))
+  cut_begun : StreamCut the_head w order fetched noted (length ((between_of x).cells ++ to.0 ∷ []))
   cut_begun =
       let b : Between = between_of x in
       let h : Home = home.Root (length s.roots) in
-      let grows : Goes s.progress (read_stream w order (fetched ++ [])).progress = stream_goes w order fetched s st.agrees.reached [] tt in
+      let grows : Goes s.progress (head_read w order (fetched ++ [])) = head_goes w order fetched s st.agrees.reached [] tt in
       let told : Told noted (direct + 1) order fetched (home.Root (length s.roots)) seen (with_cell to.0 s.names) ((between_of x).cells ++ to.0 ∷ []) (between_of x).numbers None 0 [] =
       told_reference order fetched h seen s.names b.cells b.numbers None 0 [] to.0 (st.agrees.keeps.told h (omega arith)) in
       let cells : AreCells w seen (length ((between_of x).cells ++ to.0 ∷ [])) = record { d = direct + 1; named = told.cells_named.named; few = few } in
@@ -130,7 +131,7 @@ module _ (plan : Plan) (order : Order) (to : TypeId) (run : ℕ) (x : Stream) (w
         octets = st.agrees.octets;
         seen = seen;
         after = grows.added;
-        passed = subst (λ (f : List ℕ). (read_stream w order f).progress.seen ≡ seen ++ grows.added) (append-nil fetched)
+        passed = subst (λ (f : List ℕ). (head_read w order f).seen ≡ seen ++ grows.added) (append-nil fetched)
             (grows.seen ∙ ap (λ q. q.seen ++ grows.added) st.agrees.progress);
         items_are = told.noted_are;
         cells = cells;
@@ -152,8 +153,8 @@ module _ (plan : Plan) (order : Order) (to : TypeId) (run : ℕ) (x : Stream) (w
         octets = [];
         items = [];
         n' = length ((between_of x).cells ++ to.0 ∷ []);
-        cut = subst (λ (f : List ℕ). StreamCut w order f (noted ++ []) (length ((between_of x).cells ++ to.0 ∷ []))) (sym (append-nil fetched))
-            (subst (λ (i : List Item). StreamCut w order fetched i (length ((between_of x).cells ++ to.0 ∷ []))) (sym (append-nil noted)) cut_begun);
+        cut = subst (λ (f : List ℕ). StreamCut the_head w order f (noted ++ []) (length ((between_of x).cells ++ to.0 ∷ []))) (sym (append-nil fetched))
+            (subst (λ (i : List Item). StreamCut the_head w order fetched i (length ((between_of x).cells ++ to.0 ∷ []))) (sym (append-nil noted)) cut_begun);
         took = part;
       }))
 
@@ -199,7 +200,7 @@ module _ (plan : Plan) (order : Order) (to : TypeId) (run : ℕ) (x : Stream) (w
     direct_stops source notes k x1 y e result one ends is =
         reads_fault w side order fetched noted (cells_of x) n source (with_steps k (decoding_of notes)) y result e is
         (fault_counted w order fetched noted source (decoding_of notes) k (cells_of x) one e
-        (subst (λ (m : ℕ). FaultOf w order fetched noted m source (decoding_of notes) e) so_many
+        (subst (λ (m : ℕ). FaultOf the_head w order fetched noted m source (decoding_of notes) e) so_many
         (direct_fault w side order fetched noted direct (between_of x) s seen n st.agrees r there to refers (state_of s1.machine) at_whole plan.values plan.tie.operations
         (legal_is plan w table) plan.code (code_is plan w table) (planned_is plan w table) source notes x1 e
         (subst (λ (h : Home). EndsFault plan.values order plan.code h (state_of s1.machine) source notes x1 e) at_home ends))))
@@ -217,7 +218,7 @@ module _ (plan : Plan) (order : Order) (to : TypeId) (run : ℕ) (x : Stream) (w
       part = let a = hw.took.steps in let b = so_many in record { left = hw.took.left; logged = hw.took.logged; steps = omega (arith, a, b, one) }
 
       -- memory fails after its value
-      direct_cut : CutOff w order fetched noted (cells_of x) source (with_steps k t)
+      direct_cut : CutOff the_head w order fetched noted (cells_of x) source (with_steps k t)
       direct_cut =
           let passed : (target (fetched ++ hw.octets)).progress.seen ≡ hw.is.seen ++ [] =
           subst (λ (f : List ℕ). (target f).progress.seen ≡ hw.is.seen ++ []) (append-nil (fetched ++ hw.octets))
@@ -227,7 +228,7 @@ module _ (plan : Plan) (order : Order) (to : TypeId) (run : ℕ) (x : Stream) (w
             octets = hw.octets;
             items = hw.items;
             n' = length (state_of s2.machine).cells;
-            cut = home_cut w order fetched st.agrees.octets st.agrees.needed target hw.octets hw.all
+            cut = home_cut the_head w order fetched st.agrees.octets st.agrees.needed target hw.octets hw.all
                 (λ part all. direct_goes w side order fetched noted direct (between_of x) s seen n st.agrees r there to refers part all)
                 (noted ++ hw.items) (length (state_of s2.machine).cells) hw.is.seen [] passed hw.is.told.noted_are cells;
             took = part;

@@ -19,8 +19,8 @@ use Rattle.ndr_kept.specs.declared.stream.Stream.{Stream}
 use Rattle.ndr_kept.proofs.Opened.{closed_length}
 use Rattle.ndr_decode.specs.Streaming.{WasRead, WentOn, cells_of}
 
-pub decoded_told : (w : Setting) → IsLegalSide w → (order : Order) (source : SourceSeen) (t : DecodingSeen) (x : Stream) → WasRead w order [] [] 0 source t x → IsDecoded w order source x.machine.at (closed x.machine.builder) t
-decoded_told w legal order source t x r =
+pub decoded_reported : (w : Setting) → IsLegalSide w → (order : Order) (source : SourceSeen) (t : DecodingSeen) (x : Stream) → WasRead w order [] [] 0 source t x → IsDecoded w order source x.machine.at (closed x.machine.builder) t
+decoded_reported w legal order source t x r =
     let steps = r.took.steps in
     let many = closed_length x.machine.builder in
     law.decoded_report w legal order source t r.octets r.all r.seen r.items (closed x.machine.builder) x.machine.at (r.progress ∙ ap (λ k. going k r.seen) (sym r.at)) r.graph r.noted_are r.took.left r.at r.took.logged

@@ -1,10 +1,11 @@
 -- What the run of a home's code comes to, in the stream that the home is a part of.
--- `f0` and `n0` are the octets that were fetched and the items that were noted before the home, `s0` is the state at its beginning, `target` what the plain reader
+-- `reach` is what is read of the stream, `f0` and `n0` are the octets that were fetched and the items that were noted before the home, `s0` is the state at its beginning, `target` what the plain reader
 -- gives for it; `source` and `notes` are what was seen of the source, the log and the steps over the run.
 use Rattle.std.proofs.Common.{◌≡◌, ◌≤◌, ◌<◌, ◌⊎◌, inl, inr, ℕ, ◌+◌, Bool, true, false, List, [], ◌∷◌, ◌++◌, length, refl, ap, sym, ◌∙◌, subst, append_assoc, arith}
 use Rattle.std.specs.Prelude.{if◌then◌else◌, not}
 use Rattle.std.specs.Io.KnownBytes.{Consumes, IsAtEnd}
 use Rattle.std.proofs.lemmas.List.{append-nil}
+use Rattle.std.proofs.lemmas.Option.{same_Some}
 use Rattle.nd_base.specs.declared.octets.Order.{Order}
 use Rattle.nd_base.specs.declared.TheConstants.{STREAM_LIMIT}
 use Rattle.nd_base.specs.Over.{SourceSeen}
@@ -21,7 +22,7 @@ use Rattle.nd_grammar.specs.declared.reason.Reason.{Reason}
 use Rattle.nd_grammar.specs.declared.reason.Reason.TheVariants as reason
 use Rattle.nd_grammar.specs.FewItems.{is_gap, but_gaps}
 use Rattle.nd_grammar.specs.Items.{items}
-use Rattle.nd_grammar.specs.Reader.{Read}
+use Rattle.nd_grammar.specs.Reader.{Progress, Read}
 use Rattle.ndr_code.specs.declared.instr.Instr.{Instr}
 use Rattle.ndr_code.specs.declared.lists.EnumList.{EnumList}
 use Rattle.ndr_reading.specs.Around.{going, stopped}
@@ -29,6 +30,7 @@ use Rattle.ndr_steps.specs.Good.{Good, HasOctets, IsCut}
 use Rattle.ndr_steps.specs.Spots.{IsPlanned}
 use Rattle.ndr_steps.specs.StepItems.{step_items}
 use Rattle.ndr_steps.specs.Steps.{State, refused, wants, step}
+use Rattle.ndr_steps.proofs.Lacking.{cut_right}
 use Rattle.ndr_steps.proofs.Passing.{items_stay}
 use Rattle.ndr_runs.specs.Reaching.{Reaches}
 use Rattle.ndr_runs.specs.Refusals.{IsRefusedHere, IsShort}
@@ -38,13 +40,13 @@ use Rattle.ndr_runs.proofs.Joining.{over_octets}
 use Rattle.ndr_state.specs.Notes.{NotesSeen, all_noted, ticks}
 use Rattle.ndr_state.specs.declared.fault.DecodeFault.{DecodeFault}
 use Rattle.ndr_state.specs.declared.fault.DecodeFault.TheVariants as fault
-use Rattle.ndr_machine.specs.Reaching.{IsLogged, IsLoggedPart, End, EndsWhole, EndsBad, EndsCutOff, EndsFault}
+use Rattle.ndr_machine.specs.Reaching.{IsLogged, IsLoggedPart, End, EndsWhole, EndsBad, EndsUnread, EndsCutOff, EndsFault}
 use Rattle.ndr_verdict.specs.Needed.{IsNeeded}
 use Rattle.ndr_verdict.specs.Verdict.{DecodingSeen, with_items, direct_roots}
 use Rattle.ndr_stream.specs.Added.{Added}
 use Rattle.ndr_stream.specs.Between.{AreNeeded}
-use Rattle.ndr_stream.specs.Calls.{Took, TookPart, Refused, CutOff, RefusesWith, GoesWith}
-use Rattle.ndr_stream.specs.Report.{AreCells}
+use Rattle.ndr_stream.specs.Calls.{Took, TookPart, Refused, Unread, CutOff, RefusesWith, GoesWith}
+use Rattle.ndr_stream.specs.Report.{AreCells, Extent, StreamRefused}
 use Rattle.ndr_stream.proofs.HomeFaults.{home_refused, home_cut}
 use Rattle.ndr_stream.proofs.StateAdds.{state_adds}
 use Rattle.ndr_decode.proofs.WholeStays.{whole_stays}
@@ -136,27 +138,48 @@ module _ (values : List EnumList) (order : Order) (code : List Instr) (table : T
     took = took_all source notes s0 s1 (octets_of e) (e.noted ++ step_items order h e.os e.i e.s) e.left logged;
   }
 
+  -- octets that are cut short end where they are refused
+  pub cut_place : (e : Comes) → IsCut (wants values e.i e.s) e.os e.s.at → e.s.at + length e.os ≡ length (f0 ++ octets_of e)
+  cut_place e cut =
+      let fetched : List ℕ = f0 ++ octets_of e in
+      let g : Good order (f0 ++ e.fetched) code table h own limit (n0 ++ e.noted) direct target e.s = along values order code table h own limit direct target planned f0 n0 s0 g0 e.reached in
+      let x : IsRefusedHere order (f0 ++ octets_of e) (n0 ++ e.noted) (length e.s.cells) direct target (e.s.at + length e.os) reason.Truncated =
+      cut_end values order code table h own limit direct target planned f0 n0 s0 g0 e.fetched e.noted e.s e.reached e.i e.there e.os cut in
+      let there : (target fetched).progress ≡ stopped x.at x.seen (e.s.at + length e.os, reason.Truncated) =
+      subst (λ k. (target k).progress ≡ stopped x.at x.seen (e.s.at + length e.os, reason.Truncated)) (append-nil fetched) (x.stops [] (λ u. refl)) in
+      let at_end : (target fetched).progress ≡ stopped e.s.at g.seen (length fetched, reason.Truncated) =
+      subst (λ k. (target k).progress ≡ stopped e.s.at g.seen (length k, reason.Truncated)) (append_assoc f0 e.fetched e.os)
+      (cut_right order (f0 ++ e.fetched) code values table h own limit (n0 ++ e.noted) direct target planned e.s g e.i e.there e.os cut) in
+      ap (λ (r : ℕ × Reason). r.0) (same_Some _ _ (ap (λ (p : Progress). p.stop) (sym there ∙ at_end)))
+
   -- ## Faults
 
-  module _ (w : Setting) (all : AreOctets f0) (needed : IsNeeded w order f0) (refuses : RefusesWith w order f0 target) (goes : GoesWith w order f0 target) (few : direct ≤ length (direct_roots w)) where
+  module _ (reach : Extent) (w : Setting) (all : AreOctets f0) (needed : IsNeeded w order f0) (refuses : RefusesWith reach w order f0 target) (goes : GoesWith reach w order f0 target) (few : direct ≤ length (direct_roots w)) where
     abbrev IsRefusedIn : ℕ → Reason → Type 0
-    IsRefusedIn place why = Refused w order f0 n0 (length s0.cells) source (decoding_of notes) place why
+    IsRefusedIn place why = Refused reach w order f0 n0 (length s0.cells) source (decoding_of notes) place why
 
-    refused_of : (e : Comes) (place : ℕ) (why : Reason) → IsRefusedHere order (f0 ++ octets_of e) (n0 ++ e.noted) (length e.s.cells) direct target place why → AreNeeded target f0 (octets_of e)
-        → IsLogged e.noted s0 e.s notes → (why ≡ reason.Truncated → source.ended ≡ true) → (why ≡ reason.Truncated → IsAtEnd source.left_now) → IsRefusedIn place why
-    refused_of e place why x needs logged ended at_end =
+    stream_refused : (e : Comes) (place : ℕ) (why : Reason) → IsRefusedHere order (f0 ++ octets_of e) (n0 ++ e.noted) (length e.s.cells) direct target place why → AreNeeded target f0 (octets_of e)
+        → StreamRefused reach w order (f0 ++ octets_of e) (n0 ++ e.noted) (length e.s.cells) place why
+    stream_refused e place why x needs =
         let stop : (target (f0 ++ octets_of e)).progress ≡ stopped x.at x.seen (place, why) =
         subst (λ k. (target k).progress ≡ stopped x.at x.seen (place, why)) (append-nil (f0 ++ octets_of e)) (x.stops [] (λ u. refl)) in
         let cells : AreCells w x.seen (length e.s.cells) = record { d = direct; named = x.cells_named; few = few } in
-        record {
-          octets = octets_of e;
-          items = e.noted;
-          n' = length e.s.cells;
-          refused = home_refused w order f0 all needed target (octets_of e) (all_of e) refuses needs (n0 ++ e.noted) (length e.s.cells) place why x.at x.seen stop x.items_are cells;
-          took = took_some source notes s0 e.s (octets_of e) e.noted e.left (all_is_part notes s0 e.s e.noted logged);
-          ended = ended;
-          none_left = at_end;
-        }
+        home_refused reach w order f0 all needed target (octets_of e) (all_of e) refuses needs (n0 ++ e.noted) (length e.s.cells) place why x.at x.seen stop x.items_are cells
+
+    taken_of : (e : Comes) → IsLogged e.noted s0 e.s notes → TookPart source (decoding_of notes) (length s0.cells) (octets_of e) e.noted (length e.s.cells)
+    taken_of e logged = took_some source notes s0 e.s (octets_of e) e.noted e.left (all_is_part notes s0 e.s e.noted logged)
+
+    refused_of : (e : Comes) (place : ℕ) (why : Reason) → IsRefusedHere order (f0 ++ octets_of e) (n0 ++ e.noted) (length e.s.cells) direct target place why → AreNeeded target f0 (octets_of e)
+        → IsLogged e.noted s0 e.s notes → (why ≡ reason.Truncated → source.ended ≡ true) → (why ≡ reason.Truncated → IsAtEnd source.left_now) → IsRefusedIn place why
+    refused_of e place why x needs logged ended at_end = record {
+      octets = octets_of e;
+      items = e.noted;
+      n' = length e.s.cells;
+      refused = stream_refused e place why x needs;
+      took = taken_of e logged;
+      ended = ended;
+      none_left = at_end;
+    }
 
     -- the last step is refused
     abbrev StepIsRefused : ℕ → Reason → Type 0
@@ -190,7 +213,21 @@ module _ (values : List EnumList) (order : Order) (code : List Instr) (table : T
     bad_comes s1 place reason.OtherType x = step_refused place reason.OtherType tt x
     bad_comes s1 place (reason.Disagrees wanted found) x = step_refused place (reason.Disagrees wanted found) tt x
 
-    pub cut_comes : (s1 : State) → EndsCutOff values order code h s0 source notes s1 → CutOff w order f0 n0 (length s0.cells) source (decoding_of notes)
+    -- the source failed before all octets of a step came
+    unread_comes : (s1 : State) → EndsUnread values order code h s0 source notes s1 → Unread reach w order f0 n0 (length s0.cells) source (decoding_of notes)
+    unread_comes s1 (e, (cut, logged)) =
+        let x : IsRefusedHere order (f0 ++ octets_of e) (n0 ++ e.noted) (length e.s.cells) direct target (e.s.at + length e.os) reason.Truncated =
+        cut_end values order code table h own limit direct target planned f0 n0 s0 g0 e.fetched e.noted e.s e.reached e.i e.there e.os cut in
+        record {
+          octets = octets_of e;
+          items = e.noted;
+          n' = length e.s.cells;
+          short = subst (λ k. StreamRefused reach w order (f0 ++ octets_of e) (n0 ++ e.noted) (length e.s.cells) k reason.Truncated) (cut_place e cut)
+              (stream_refused e (e.s.at + length e.os) reason.Truncated x (needed_of e (inr cut)));
+          took = taken_of e logged;
+        }
+
+    pub cut_comes : (s1 : State) → EndsCutOff values order code h s0 source notes s1 → CutOff reach w order f0 n0 (length s0.cells) source (decoding_of notes)
     cut_comes s1 (e, logged) =
         let g : Good order (f0 ++ e.fetched) code table h own limit (n0 ++ e.noted) direct target e.s = along values order code table h own limit direct target planned f0 n0 s0 g0 e.reached in
         let more : Added h (going e.s.at g.seen) (target ((f0 ++ e.fetched) ++ e.os)).progress = state_adds order (f0 ++ e.fetched) code table h own limit (n0 ++ e.noted) direct target e.s g e.os in
@@ -203,11 +240,11 @@ module _ (values : List EnumList) (order : Order) (code : List Instr) (table : T
           octets = octets_of e;
           items = e.noted;
           n' = length e.s.cells;
-          cut = home_cut w order f0 all needed target (octets_of e) (all_of e) goes (n0 ++ e.noted) (length e.s.cells) g.seen more.added passed items_are cells;
+          cut = home_cut reach w order f0 all needed target (octets_of e) (all_of e) goes (n0 ++ e.noted) (length e.s.cells) g.seen more.added passed items_are cells;
           took = took_some source notes s0 e.s (octets_of e) e.noted e.left logged;
         }
 
-    pub fault_comes : (s1 : State) (x : DecodeFault) → EndsFault values order code h s0 source notes s1 x → FaultOf w order f0 n0 (length s0.cells) source (decoding_of notes) x
+    pub fault_comes : (s1 : State) (x : DecodeFault) → EndsFault values order code h s0 source notes s1 x → FaultOf reach w order f0 n0 (length s0.cells) source (decoding_of notes) x
     fault_comes s1 (fault.Bad place why) x = bad_comes s1 place why x
-    fault_comes s1 fault.ReadFault (x, risen) = (cut_comes s1 x, risen)
+    fault_comes s1 fault.ReadFault (x, risen) = (unread_comes s1 x, risen)
     fault_comes s1 fault.Memory x = cut_comes s1 x

@@ -27,6 +27,7 @@ use Rattle.ndr_stream.specs.Between.{Agrees, Between}
 use Rattle.ndr_stream.specs.Calls.{Follows, Took}
 use Rattle.ndr_kept.specs.declared.stream.Stream.{Stream}
 use Rattle.ndr_kept.specs.Seen.{between_of, pending_in}
+use Rattle.ndr_stream.specs.Report.{the_head}
 use Rattle.ndr_decode.specs.Streaming.{FaultOf, IsAtReferent, IsStreaming, PendingReads, ReferentReads, Stands, WentOn, cells_of}
 use Rattle.ndr_decode.proofs.PendingTurns.{HasNext, KeepsRest, kept_by, none_due, same_rest, stands_next}
 use Rattle.ndr_decode.proofs.Placed.{types_length}
@@ -151,7 +152,7 @@ module _ (plan : Plan) (order : Order) (x y : Stream) (l0 l1 : Option (List ℕ)
         let follow : Follows (source_by l0 l1 e1 f0 f1) idle (source_by l0 l1 e1 f0 f1) (decoding_seen g0 g1 k0 k1) (decoding_seen g1 g1 k1 k1) (decoding_seen g0 g1 k0 k1) =
         followed l0 l1 l1 e1 e1 f0 f1 f1 g0 g1 g1 k0 k1 k1 in
         then_fault w side order fetched noted (cells_of x) (source_by l0 l1 e1 f0 f1) idle (source_by l0 l1 e1 f0 f1) (decoding_seen g0 g1 k0 k1) (decoding_seen g1 g1 k1 k1)
-        (decoding_seen g0 g1 k0 k1) follow g.octets g.items (cells_of y) g.took later refl fault.Memory
+        (decoding_seen g0 g1 k0 k1) follow g.octets g.items (cells_of y) g.took the_head later refl fault.Memory
         (cut_off_here l1 e1 (record { before = f1; now = f1 }) g1 k1 w side order (fetched ++ g.octets) (noted ++ g.items) g.direct (between_of y) g.s g.seen g.ps n (cells_of y)
         (sym (types_length y.machine.builder)) g.stands.agrees)
 
@@ -188,15 +189,15 @@ module _ (plan : Plan) (order : Order) (x y : Stream) (l0 l1 : Option (List ℕ)
           let g : WentOn w side order fetched noted (cells_of x) first (decoding_seen g0 g1 k0 k1) y n = so_far w side fetched noted direct s seen ps n table st in
           let next : HasNext w side order (fetched ++ g.octets) (noted ++ g.items) g.direct y g.s g.seen n o y' g.ps =
           stands_next w side order (fetched ++ g.octets) (noted ++ g.items) g.direct y g.s g.seen n g.ps g.stands y' keeps o is in
-          let fails : FaultOf w order (fetched ++ g.octets) (noted ++ g.items) (cells_of y') second (decoding_seen g1 g2 k1 k2) e =
+          let fails : FaultOf the_head w order (fetched ++ g.octets) (noted ++ g.items) (cells_of y') second (decoding_seen g1 g2 k1 k2) e =
           reads w side (fetched ++ g.octets) (noted ++ g.items) g.direct g.s g.seen next.p next.others n table next.stands in
           then_fault w side order fetched noted (cells_of x) first second both (decoding_seen g0 g1 k0 k1) (decoding_seen g1 g2 k1 k2) (decoding_seen g0 g2 k0 k2) follow g.octets g.items
-          (cells_of y) g.took later refl e
-          (subst (λ (m : Machine). FaultOf w order (fetched ++ g.octets) (noted ++ g.items) (length m.builder.graph.cells) second (decoding_seen g1 g2 k1 k2) e) keeps.machine fails)
+          (cells_of y) g.took the_head later refl e
+          (subst (λ (m : Machine). FaultOf the_head w order (fetched ++ g.octets) (noted ++ g.items) (length m.builder.graph.cells) second (decoding_seen g1 g2 k1 k2) e) keeps.machine fails)
 
 -- what is right of a fault is right of the answer that hands it on
 pub pending_fault : (plan : Plan) (order : Order) (x : Stream) (source : SourceSeen) (t : DecodingSeen) (y : Stream) (r : Result (Unit {0}) DecodeFault) (e : DecodeFault) → IsErrAnd r (λ z. z ≡ e)
     → PendingReads plan order x source t y (Err e) → PendingReads plan order x source t y r
 pending_fault plan order x source t y (Ok u) e is f w side fetched noted direct s seen ps n table st = absurd is
 pending_fault plan order x source t y (Err z) e is f w side fetched noted direct s seen ps n table st =
-    subst (λ (q : DecodeFault). FaultOf w order fetched noted (cells_of x) source t q) (sym is) (f w side fetched noted direct s seen ps n table st)
+    subst (λ (q : DecodeFault). FaultOf the_head w order fetched noted (cells_of x) source t q) (sym is) (f w side fetched noted direct s seen ps n table st)

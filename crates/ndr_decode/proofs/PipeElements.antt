@@ -49,6 +49,7 @@ use Rattle.ndr_pipes.proofs.ElementsEnd.{elements_end, not_whole}
 use Rattle.ndr_chunks.specs.Chunks.{HasMoved, IsAt}
 use Rattle.ndr_chunks.specs.Opening.{BeginsElements}
 use Rattle.ndr_kept.specs.Ends.{HomeRan}
+use Rattle.ndr_stream.specs.Report.{the_stream}
 use Rattle.ndr_decode.specs.Piping.{IsInPipe, IsPipeBy}
 use Rattle.ndr_decode.specs.Streaming.{FaultOf, HomeWhole}
 use Rattle.ndr_decode.proofs.AtRoots.{legal_is, planned_is}
@@ -166,9 +167,9 @@ module _ (plan : Plan) (w : Setting) (legal : IsLegalSide w) (order : Order) (fe
 
     -- a fault within them is one of the stream
     pub elements_fault : (source : SourceSeen) (notes : NotesSeen) (s1 : State) (e : DecodeFault) → EndsFault plan.values order plan.code o.home (state_of o) source notes s1 e
-        → FaultOf w order f0 n0 (length (state_of o).cells) source (decoding_of notes) e
+        → FaultOf the_stream w order f0 n0 (length (state_of o).cells) source (decoding_of notes) e
     elements_fault source notes s1 e ends =
-        fault_comes plan.values order plan.code w.table h pipe 33 direct target planned f0 n0 (state_of o) elements_good source notes w after.stands.octets after.stands.needed
+        fault_comes plan.values order plan.code w.table h pipe 33 direct target planned f0 n0 (state_of o) elements_good source notes the_stream w after.stands.octets after.stands.needed
         (λ part a at seen why stop. elements_refused w legal order f0 n0 direct first i rs roots pipe elem done m.max_at c r all k parts of_plan.there after part a at seen why stop)
         (λ part a. elements_add w legal order f0 n0 direct first i rs roots pipe elem done m.max_at c r all k parts of_plan.there after part a)
         p.few s1 e (subst (λ u. EndsFault plan.values order plan.code u (state_of o) source notes s1 e) at_root ends)

@@ -18,7 +18,7 @@ use Rattle.ndr_state.specs.declared.fault.DecodeFault.{DecodeFault}
 use Rattle.ndr_verdict.specs.Verdict.{DecodingSeen, direct_roots}
 use Rattle.ndr_stream.specs.Added.{Goes}
 use Rattle.ndr_stream.specs.Calls.{CutOff, Took}
-use Rattle.ndr_stream.specs.Report.{StreamCut}
+use Rattle.ndr_stream.specs.Report.{StreamCut, the_stream}
 
 pub faulty : {T : Type 0} (r : Result T DecodeFault) (e : DecodeFault) → IsErrAnd r (λ y. y ≡ e) → Err e ≡ r
 faulty (Ok t) e h = absurd h
@@ -29,7 +29,7 @@ faulty (Err y) e h = ap Err (sym h)
 -- memory fails where reading goes on after these entries
 pub cut_at : (w : Setting) (order : Order) (fetched : List ℕ) (noted : List Item) (direct : ℕ) (h : Home) (seen : List EntryAt) (names : Names) (cells : List ℕ) (numbers : List (ℕ × Known)) (max_at : Option ℕ) (n : ℕ) (half : List Place) (at : ℕ)
     → AreOctets fetched → direct ≤ length (direct_roots w) → Told noted direct order fetched h seen names cells numbers max_at n half
-    → ((later : List ℕ) → AreOctets later → Goes (going at seen) (read_stream w order (fetched ++ later)).progress) → StreamCut w order fetched noted (length cells)
+    → ((later : List ℕ) → AreOctets later → Goes (going at seen) (read_stream w order (fetched ++ later)).progress) → StreamCut the_stream w order fetched noted (length cells)
 cut_at w order fetched noted direct h seen names cells numbers max_at n half at octets few told goes =
     let more : Goes (going at seen) (read_stream w order (fetched ++ [])).progress = goes [] tt in
     record {
@@ -43,7 +43,7 @@ cut_at w order fetched noted direct h seen names cells numbers max_at n half at 
 
 -- after so many octets
 pub cut_after : (w : Setting) (order : Order) (fetched : List ℕ) (noted : List Item) (n n' : ℕ) (source : SourceSeen) (t : DecodingSeen) (octets : List ℕ) (items : List Item) → Took source t n octets items n'
-    → StreamCut w order (fetched ++ octets) (noted ++ items) n' → CutOff w order fetched noted n source t
+    → StreamCut the_stream w order (fetched ++ octets) (noted ++ items) n' → CutOff the_stream w order fetched noted n source t
 cut_after w order fetched noted n n' source t octets items took cut =
     let steps = took.steps in
     record { octets = octets; items = items; n' = n'; cut = cut; took = record { left = took.left; logged = took.logged; steps = omega (arith, steps) } }

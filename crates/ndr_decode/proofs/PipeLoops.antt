@@ -22,7 +22,7 @@ use Rattle.ndr_state.specs.declared.fault.DecodeFault.TheVariants as fault
 use Rattle.ndr_state.specs.declared.machine.Machine.{Machine}
 use Rattle.ndr_verdict.specs.Verdict.{DecodingSeen}
 use Rattle.ndr_stream.specs.Calls.{Follows, Took}
-use Rattle.ndr_stream.specs.Report.{StreamCut}
+use Rattle.ndr_stream.specs.Report.{StreamCut, the_stream}
 use Rattle.ndr_stream.proofs.Joined.{took_twice}
 use Rattle.ndr_pipes.specs.Pipes.{Position}
 use Rattle.ndr_pipes.proofs.PipeEntries.{chunk_goes}
@@ -67,17 +67,17 @@ module _ (plan : Plan) (w : Setting) (legal : IsLegalSide w) (order : Order) (fe
   -- ## The beginning
 
   -- memory fails before it
-  pub pipe_memory : (o : Option (List ℕ)) (ended : Bool) (faults : Count) (g : Logged) (steps : ℕ) → FaultOf w order fetched noted m.cells (idle_source o ended faults) (idle_log g steps) fault.Memory
+  pub pipe_memory : (o : Option (List ℕ)) (ended : Bool) (faults : Count) (g : Logged) (steps : ℕ) → FaultOf the_stream w order fetched noted m.cells (idle_source o ended faults) (idle_log g steps) fault.Memory
   pipe_memory o ended faults g steps =
       let many : length k.cells ≡ m.cells = ap length (sym p.cells) ∙ sym (cells_many m) in
       let told = p.in_pipes.stands.told i (omega arith) in
-      let cut : StreamCut w order fetched noted m.cells =
-      subst (StreamCut w order fetched noted) many
+      let cut : StreamCut the_stream w order fetched noted m.cells =
+      subst (StreamCut the_stream w order fetched noted) many
       (cut_at w order fetched noted direct (home.Root i) k.seen k.names k.cells k.numbers _ _ _ k.at p.in_pipes.stands.octets p.few told
       (λ later all. pipes_add w order fetched noted direct first i (r ∷ rs) roots k p.in_pipes later all)) in
       cut_after w order fetched noted m.cells m.cells (idle_source o ended faults) (idle_log g steps) [] [] (took_nothing o ended faults g steps m.cells)
-      (subst (λ (f : List ℕ). StreamCut w order f (noted ++ []) m.cells) (sym (append-nil fetched))
-      (subst (λ (j : List Item). StreamCut w order fetched j m.cells) (sym (append-nil noted)) cut))
+      (subst (λ (f : List ℕ). StreamCut the_stream w order f (noted ++ []) m.cells) (sym (append-nil fetched))
+      (subst (λ (j : List Item). StreamCut the_stream w order fetched j m.cells) (sym (append-nil noted)) cut))
 
   pub pipe_begun : (n : Machine) → n.builder ≡ with_nodes ((tree.Pipe, 0) ∷ []) (opened (home.Root i) (with_root (closed m.builder)) m.builder) → n.home ≡ home.Root i → n.at ≡ m.at → n.max_at ≡ None
       → n.referents ≡ m.referents → (o : Option (List ℕ)) (ended : Bool) (faults : Count) (g : Logged) (steps : ℕ)
@@ -101,12 +101,12 @@ module _ (plan : Plan) (w : Setting) (legal : IsLegalSide w) (order : Order) (fe
 
   module _ (n : Machine) (a : SourceSeen) (s : DecodingSeen) (so_far : ℕ) (x : ElementsRead w order fetched noted direct first i rs roots elem m.cells a s n so_far) where
     -- memory fails between two chunks
-    pub turn_memory : FaultOf w order fetched noted m.cells a s fault.Memory
+    pub turn_memory : FaultOf the_stream w order fetched noted m.cells a s fault.Memory
     turn_memory =
         let q = x.in_pipe in
         let many : length x.k.cells ≡ n.cells = ap length (sym q.is_at.cells) ∙ sym (cells_many n) in
         cut_after w order fetched noted m.cells n.cells a s x.octets x.items x.took
-        (subst (StreamCut w order (fetched ++ x.octets) (noted ++ x.items)) many
+        (subst (StreamCut the_stream w order (fetched ++ x.octets) (noted ++ x.items)) many
         (cut_at w order (fetched ++ x.octets) (noted ++ x.items) direct (home.Root i) x.k.seen x.k.names x.k.cells x.k.numbers _ _ _ x.k.at q.in_pipe.stands.octets q.few q.in_pipe.told
         (λ later all. chunk_goes w order (fetched ++ x.octets) (noted ++ x.items) direct first i rs roots elem x.done n.max_at x.k q.in_pipe later all)))
 
@@ -114,8 +114,8 @@ module _ (plan : Plan) (w : Setting) (legal : IsLegalSide w) (order : Order) (fe
       abbrev Comes : Result ℕ DecodeFault → Type 0
       Comes result = ChunkComes w order (fetched ++ x.octets) (noted ++ x.items) direct first i rs roots elem so_far n.cells b t z result
 
-      pub turn_fault : e.faults.before ≤ b.faults.before → e.faults.now ≡ b.faults.now → (d : DecodeFault) → Comes (Err d) → FaultOf w order fetched noted m.cells e u d
-      turn_fault low same d y = then_fault w legal order fetched noted m.cells a b e s t u f x.octets x.items n.cells x.took low same d y
+      pub turn_fault : e.faults.before ≤ b.faults.before → e.faults.now ≡ b.faults.now → (d : DecodeFault) → Comes (Err d) → FaultOf the_stream w order fetched noted m.cells e u d
+      turn_fault low same d y = then_fault w legal order fetched noted m.cells a b e s t u f x.octets x.items n.cells x.took the_stream low same d y
 
       -- the pipe has ended
       pub turn_ends : (count : ℕ) → count ≡ 0 → Comes (Ok count) → PipeRead w order fetched noted direct first i rs roots m.cells e u z
@@ -146,6 +146,6 @@ module _ (plan : Plan) (w : Setting) (legal : IsLegalSide w) (order : Order) (fe
       }
 
   -- a fault comes
-  pub pipe_faulty : (source : SourceSeen) (t : DecodingSeen) (z : Machine) (d : DecodeFault) → FaultOf w order fetched noted m.cells source t d → (result : Result (Unit {0}) DecodeFault) → IsErrAnd result (λ y. y ≡ d)
+  pub pipe_faulty : (source : SourceSeen) (t : DecodingSeen) (z : Machine) (d : DecodeFault) → FaultOf the_stream w order fetched noted m.cells source t d → (result : Result (Unit {0}) DecodeFault) → IsErrAnd result (λ y. y ≡ d)
       → PipeComes w order fetched noted direct first i rs roots m.cells source t z result
   pipe_faulty source t z d f result is = subst (PipeComes w order fetched noted direct first i rs roots m.cells source t z) (faulty result d is) f

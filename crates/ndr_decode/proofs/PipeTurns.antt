@@ -27,7 +27,7 @@ use Rattle.ndr_state.specs.Notes.{NotesSeen}
 use Rattle.ndr_state.specs.Seen.{outside, state_of}
 use Rattle.ndr_verdict.specs.Verdict.{DecodingSeen}
 use Rattle.ndr_stream.specs.Calls.{Follows}
-use Rattle.ndr_stream.specs.Report.{StreamCut}
+use Rattle.ndr_stream.specs.Report.{StreamCut, the_stream}
 use Rattle.ndr_stream.proofs.Joined.{took_twice}
 use Rattle.ndr_pipes.specs.Pipes.{InPipe, Position, at_elements, kids_of, read_to}
 use Rattle.ndr_pipes.proofs.Elements.{elements_come}
@@ -45,7 +45,7 @@ use Rattle.ndr_decode.proofs.Standing.{then_fault}
 
 -- ## Faults of the count
 
-pub count_fault : (w : Setting) (order : Order) (fetched : List ℕ) (noted : List Item) (n : ℕ) (source : SourceSeen) (t : DecodingSeen) (e : DecodeFault) → chunks.FaultOf w order fetched noted n source t e → FaultOf w order fetched noted n source t e
+pub count_fault : (w : Setting) (order : Order) (fetched : List ℕ) (noted : List Item) (n : ℕ) (source : SourceSeen) (t : DecodingSeen) (e : DecodeFault) → chunks.FaultOf w order fetched noted n source t e → FaultOf the_stream w order fetched noted n source t e
 count_fault w order fetched noted n source t (fault.Bad place why) x = x
 count_fault w order fetched noted n source t fault.ReadFault x = x
 count_fault w order fetched noted n source t fault.Memory x = x
@@ -53,7 +53,7 @@ count_fault w order fetched noted n source t fault.Memory x = x
 module _ (plan : Plan) (w : Setting) (legal : IsLegalSide w) (order : Order) (fetched : List ℕ) (noted : List Item) (direct : ℕ) (first : Names) (i : ℕ) (r : Root) (rs : List Root) (roots : List Tree) (elem : TypeId) (run : ℕ)
     (of_plan : IsPipeBy plan w r.of elem run) (done : Trees) (k0 : Position) (so_far : ℕ) (as_many : count done ≡ so_far) (m : Machine) (p : IsInPipe w order fetched noted direct first i rs roots elem done k0 m) where
   -- a fault comes
-  pub chunk_faulty : (source : SourceSeen) (t : DecodingSeen) (x : Machine) (e : DecodeFault) → FaultOf w order fetched noted m.cells source t e → (result : Result ℕ DecodeFault) → IsErrAnd result (λ y. y ≡ e)
+  pub chunk_faulty : (source : SourceSeen) (t : DecodingSeen) (x : Machine) (e : DecodeFault) → FaultOf the_stream w order fetched noted m.cells source t e → (result : Result ℕ DecodeFault) → IsErrAnd result (λ y. y ≡ e)
       → ChunkComes w order fetched noted direct first i rs roots elem so_far m.cells source t x result
   chunk_faulty source t x e f result is = subst (ChunkComes w order fetched noted direct first i rs roots elem so_far m.cells source t x) (faulty result e is) f
 
@@ -90,10 +90,10 @@ module _ (plan : Plan) (w : Setting) (legal : IsLegalSide w) (order : Order) (fe
       cells_here = ap length (sym x.is_at.cells) ∙ sym (cells_many n) ∙ moved_cells w order fetched noted direct first i rs roots elem done k0 m n p moved
 
       -- memory fails before they are begun
-      pub begun_fault : FaultOf w order fetched noted m.cells a s fault.Memory
+      pub begun_fault : FaultOf the_stream w order fetched noted m.cells a s fault.Memory
       begun_fault =
           cut_after w order fetched noted m.cells m.cells a s x.octets x.items x.took
-          (subst (StreamCut w order (fetched ++ x.octets) (noted ++ x.items)) cells_here
+          (subst (StreamCut the_stream w order (fetched ++ x.octets) (noted ++ x.items)) cells_here
           (cut_at w order (fetched ++ x.octets) (noted ++ x.items) direct _ x.k.seen x.k.names x.k.cells x.k.numbers _ _ _ x.k.at after.stands.octets p.few after.told
           (λ later all. elements_come w legal order (fetched ++ x.octets) (noted ++ x.items) direct first i rs roots r.of elem done m.max_at (begun - 1) (many - begun) (suc (many - 1)) x.k parts of_plan.there after later all)))
 
@@ -110,10 +110,10 @@ module _ (plan : Plan) (w : Setting) (legal : IsLegalSide w) (order : Order) (fe
         module _ (b : SourceSeen) (notes : NotesSeen) (e : SourceSeen) (u : DecodingSeen) (f : Follows a b e s (decoding_of notes) u) where
           -- a fault within them
           pub chunk_fault : e.faults.before ≤ b.faults.before → e.faults.now ≡ b.faults.now → (s1 : State) (d : DecodeFault) → EndsFault plan.values order plan.code o.home (state_of o) b notes s1 d
-              → FaultOf w order fetched noted m.cells e u d
+              → FaultOf the_stream w order fetched noted m.cells e u d
           chunk_fault low same s1 d ends =
-              then_fault w legal order fetched noted m.cells a b e s (decoding_of notes) u f x.octets x.items m.cells x.took low same d
-              (subst (λ j. FaultOf w order (fetched ++ x.octets) (noted ++ x.items) j b (decoding_of notes) d) o_cells
+              then_fault w legal order fetched noted m.cells a b e s (decoding_of notes) u f x.octets x.items m.cells x.took the_stream low same d
+              (subst (λ j. FaultOf the_stream w order (fetched ++ x.octets) (noted ++ x.items) j b (decoding_of notes) d) o_cells
               (elements.elements_fault plan w legal order fetched noted direct first i r.of rs roots elem run of_plan done k0 m n p moved x.octets x.items x.k (begun - 1) (many - begun) (suc (many - 1)) parts after x.is_at
               o (begun - 1) begun refl one_more begins built at_home b notes s1 d ends))
 

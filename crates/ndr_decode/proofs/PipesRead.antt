@@ -46,6 +46,7 @@ use Rattle.ndr_pipes.proofs.PipesBegin.{pipes_begin, pipes_end}
 use Rattle.ndr_kept.specs.declared.stream.Stream.{Stream}
 use Rattle.ndr_kept.specs.Seen.{between_of}
 use Rattle.ndr_kept.proofs.Opened.{closed_types}
+use Rattle.ndr_stream.specs.Report.{the_stream}
 use Rattle.ndr_decode.specs.Piping.{CallsPipe, ElementsRun, EndComes, IsAtPipe, IsBefore, IsPipeBy, IsPipeLine, PipeComes}
 use Rattle.ndr_decode.specs.Streaming.{FaultOf, IsSettingOf, Stands, WasRead, cells_of}
 use Rattle.ndr_decode.proofs.PaidHomes.{paid_between, roots_kept, roots_within}
@@ -341,8 +342,8 @@ module _ (plan : Plan) (n : ℕ) (side : Side) (order : Order) (w : Setting) (le
         abbrev Comes : Result (Unit {0}) DecodeFault → Type 0
         Comes result = PipeComes w order f0 n0 direct s.names number q.rest p.roots y.machine.cells b t z result
 
-        pub next_fault : e.faults.before ≤ b.faults.before → e.faults.now ≡ b.faults.now → (v : DecodeFault) → Comes (Err v) → FaultOf w order fetched noted (cells_of x) e u v
-        next_fault low same v c = then_fault w legal order fetched noted (cells_of x) a b e d t u f p.octets p.items y.machine.cells p.took low same v c
+        pub next_fault : e.faults.before ≤ b.faults.before → e.faults.now ≡ b.faults.now → (v : DecodeFault) → Comes (Err v) → FaultOf the_stream w order fetched noted (cells_of x) e u v
+        next_fault low same v c = then_fault w legal order fetched noted (cells_of x) a b e d t u f p.octets p.items y.machine.cells p.took the_stream low same v c
 
         pub next_read : (j : Unit {0}) → Comes (Ok j) → PipesRead w order fetched noted direct s.names (cells_of x) e u z (passed + 1) × (number + 1 ≡ length z.builder.graph.roots)
         next_read j c = (
@@ -364,6 +365,6 @@ module _ (plan : Plan) (n : ℕ) (side : Side) (order : Order) (w : Setting) (le
         )
 
   -- a fault comes
-  pub ends_faulty : (source : SourceSeen) (t : DecodingSeen) (y : Stream) (v : DecodeFault) → FaultOf w order fetched noted (cells_of x) source t v → (result : Result (Unit {0}) DecodeFault) → IsErrAnd result (λ e. e ≡ v)
+  pub ends_faulty : (source : SourceSeen) (t : DecodingSeen) (y : Stream) (v : DecodeFault) → FaultOf the_stream w order fetched noted (cells_of x) source t v → (result : Result (Unit {0}) DecodeFault) → IsErrAnd result (λ e. e ≡ v)
       → EndComes w order fetched noted (cells_of x) source t y result
   ends_faulty source t y v f result is = subst (EndComes w order fetched noted (cells_of x) source t y) (faulty result v is) f

@@ -31,7 +31,7 @@ use Rattle.ndr_state.specs.declared.fault.DecodeFault.TheVariants as fault
 use Rattle.ndr_steps.specs.Steps.{State}
 use Rattle.ndr_stream.specs.Between.{Opens, home_target}
 use Rattle.ndr_stream.specs.Calls.{CutOff, TookPart}
-use Rattle.ndr_stream.specs.Report.{AreCells}
+use Rattle.ndr_stream.specs.Report.{AreCells, the_head}
 use Rattle.ndr_stream.proofs.FewReferences.{few_now}
 use Rattle.ndr_stream.proofs.HomeFaults.{home_cut}
 use Rattle.ndr_stream.proofs.RootEnds.{root_goes}
@@ -101,7 +101,7 @@ module _ (plan : Plan) (order : Order) (run : ℕ) (x : Stream) (w : Setting) (s
         → Reads w side order fetched noted (cells_of x) n source (decoding_of notes) y result
     placed_fault source notes x1 y e result ends is =
         reads_fault w side order fetched noted (cells_of x) n source (decoding_of notes) y result e is
-        (subst (λ (k : ℕ). FaultOf w order fetched noted k source (decoding_of notes) e) so_many
+        (subst (λ (k : ℕ). FaultOf the_head w order fetched noted k source (decoding_of notes) e) so_many
         (root_fault w side order fetched noted direct (between_of x) s seen n st.agrees r there plain (usable_is plan w table side order fetched noted direct x s seen n st r there)
         (state_of s1.machine) at_whole plan.values plan.tie.operations (legal_is plan w table) plan.code (code_is plan w table) (planned_is plan w table) source notes x1 e
         (subst (λ (h : Home). EndsFault plan.values order plan.code h (state_of s1.machine) source notes x1 e) at_home ends)))
@@ -119,7 +119,7 @@ module _ (plan : Plan) (order : Order) (run : ℕ) (x : Stream) (w : Setting) (s
       part = let k = hw.took.steps in record { left = hw.took.left; logged = hw.took.logged; steps = omega (arith, k) }
 
       -- memory fails after its value
-      placed_cut : CutOff w order fetched noted (cells_of x) source t
+      placed_cut : CutOff the_head w order fetched noted (cells_of x) source t
       placed_cut =
           let passed : (target (fetched ++ hw.octets)).progress.seen ≡ hw.is.seen ++ [] =
           subst (λ (f : List ℕ). (target f).progress.seen ≡ hw.is.seen ++ []) (append-nil (fetched ++ hw.octets))
@@ -133,7 +133,7 @@ module _ (plan : Plan) (order : Order) (run : ℕ) (x : Stream) (w : Setting) (s
             octets = hw.octets;
             items = hw.items;
             n' = length x1.cells;
-            cut = home_cut w order fetched st.agrees.octets st.agrees.needed target hw.octets hw.all
+            cut = home_cut the_head w order fetched st.agrees.octets st.agrees.needed target hw.octets hw.all
                 (λ part all. root_goes w side order fetched noted direct (between_of x) s seen n st.agrees r there plain part all)
                 (noted ++ hw.items) (length x1.cells) hw.is.seen [] passed hw.is.told.noted_are cells;
             took = subst (λ (k : ℕ). TookPart source t k hw.octets hw.items (length x1.cells)) so_many part;

@@ -1,7 +1,7 @@
 -- What reading the next of the pending referents owes and comes to, by the code of a plan.
 -- `o` is the referent as code has it, `x` what was kept before it, `c` its cell, `s1` the stream when its home was open, `s2` after its value, `s3` after its cell
 -- was kept, `s4` after its pointers became pending.
-use Rattle.std.proofs.Common.{◌≡◌, ◌≤◌, ℕ, ◌+◌, ◌*◌, List, ◌∷◌, ◌++◌, length, Some, None, Result, Ok, Err, OnOk, IfErr, sym, ap, ◌∙◌, subst, arith}
+use Rattle.std.proofs.Common.{◌≡◌, ◌≤◌, ℕ, ◌+◌, ◌*◌, List, ◌∷◌, ◌++◌, length, map, take, drop, Some, None, Result, Ok, Err, OnOk, IfErr, sym, ap, ◌∙◌, subst, arith}
 use Rattle.nd_base.specs.declared.octets.Order.{Order}
 use Rattle.nd_base.specs.declared.TheConstants.{STREAM_LIMIT}
 use Rattle.nd_base.specs.Over.{SourceSeen}
@@ -26,7 +26,7 @@ use Rattle.ndr_state.specs.declared.fault.DecodeFault.TheVariants as fault
 use Rattle.ndr_state.specs.declared.machine.Machine.{Machine}
 use Rattle.ndr_state.specs.declared.machine.Owed.{Owed}
 use Rattle.ndr_state.specs.declared.machine.Wanted.{Wanted}
-use Rattle.ndr_state.specs.Seen.{outside, owed_of, state_of}
+use Rattle.ndr_state.specs.Seen.{agreement_of, outside, owed_of, state_of}
 use Rattle.ndr_steps.specs.Steps.{State}
 use Rattle.ndr_machine.specs.Reaching.{EndsFault, EndsWhole}
 use Rattle.ndr_stream.specs.declared.kept.Kept.{Kept}
@@ -35,6 +35,7 @@ use Rattle.ndr_stream.specs.Tests.{AllAgree}
 use Rattle.ndr_stream.proofs.FineTypes.{usable_fine}
 use Rattle.ndr_kept.specs.declared.stream.Stream.{Stream}
 use Rattle.ndr_kept.specs.Seen.{CellEnds, HasOwn, IsCleared, KeepsAll, KeepsHomes, between_of, pending_in}
+use Rattle.ndr_stream.specs.Report.{the_head}
 use Rattle.ndr_decode.specs.Streaming.{FaultOf, HomeWhole, Reads, StandsWith, cells_of, purpose_of, with_next}
 use Rattle.ndr_decode.specs.Tried.{AreTried}
 use Rattle.ndr_decode.proofs.AtRoots.{code_is, legal_is, planned_is}
@@ -45,6 +46,10 @@ use Rattle.ndr_decode.proofs.ReferentDone.{referent_done}
 use Rattle.ndr_decode.proofs.ReferentFails.{referent_cut, referent_disagrees}
 use Rattle.ndr_decode.proofs.ReferentReads.{its_usable, referent_fault, referent_safe, referent_whole, run_is}
 use Rattle.ndr_decode.proofs.SamePurpose.{same_purpose}
+
+-- a pointer without agreements has none that is refused
+pub none_refused : (k : Kept) (ws : List Wanted) (o : Owed) → o.len ≡ 0 → AllAgree k (owed_of ws o).agreements
+none_refused k ws o z = subst (λ (n : ℕ). AllAgree k (map agreement_of (take n (drop o.from ws)))) (sym z) tt
 
 module _ (plan : Plan) (order : Order) (o : Owed) (x : Stream) (c : CellId) (some : o.cell ≡ Some c) (unread : o.class ≡ Full → kept_at x.cells.items c.0 ≡ None) (s1 : Stream)
     (opens : Opens o.run (between_of x) (between_of x).cells (state_of s1.machine)) (builder : s1.machine.builder ≡ opened (cell_home c.0) (closed x.machine.builder) x.machine.builder)
@@ -84,9 +89,9 @@ module _ (plan : Plan) (order : Order) (o : Owed) (x : Stream) (c : CellId) (som
     module _ (source : SourceSeen) (notes : NotesSeen) where
       -- a fault within the value
       pub home_fault : (x1 : State) (e : DecodeFault) → EndsFault plan.values order plan.code s1.machine.home x0 source notes x1 e
-          → FaultOf w order fetched noted (cells_of x) source (decoding_of notes) e
+          → FaultOf the_head w order fetched noted (cells_of x) source (decoding_of notes) e
       home_fault x1 e ends =
-          subst (λ (k : ℕ). FaultOf w order fetched noted k source (decoding_of notes) e) many
+          subst (λ (k : ℕ). FaultOf the_head w order fetched noted k source (decoding_of notes) e) many
           (referent_fault w side order fetched noted direct o x s seen p ps n st c some unread x0 at_whole plan.values plan.tie.operations (legal_is plan w table) plan.code (code_is plan w table)
           (planned_is plan w table) source notes x1 e (subst (λ (h : Home). EndsFault plan.values order plan.code h x0 source notes x1 e) here ends))
 
@@ -99,17 +104,17 @@ module _ (plan : Plan) (order : Order) (o : Owed) (x : Stream) (c : CellId) (som
             (subst (λ (h : Home). EndsWhole plan.values order plan.code h x0 source notes (state_of m)) here ends)
 
         -- memory fails after the value
-        pub cut_then : (e : DecodeFault) → e ≡ fault.Memory → FaultOf w order fetched noted (cells_of x) source (decoding_of notes) e
+        pub cut_then : (e : DecodeFault) → e ≡ fault.Memory → FaultOf the_head w order fetched noted (cells_of x) source (decoding_of notes) e
         cut_then e is =
-            subst (λ (z : DecodeFault). FaultOf w order fetched noted (cells_of x) source (decoding_of notes) z) (sym is)
-            (subst (λ (k : ℕ). FaultOf w order fetched noted k source (decoding_of notes) fault.Memory) many
+            subst (λ (z : DecodeFault). FaultOf the_head w order fetched noted (cells_of x) source (decoding_of notes) z) (sym is)
+            (subst (λ (k : ℕ). FaultOf the_head w order fetched noted k source (decoding_of notes) fault.Memory) many
             (referent_cut w side order fetched noted direct o x s seen p ps n st c some unread source (decoding_of notes) (length x0.cells) (state_of m) is_whole))
 
         -- an agreement is refused
         pub tried_then : (k : Kept) → HasOwn m k → (e : DecodeFault) → AreTried (owed_of x.wanted.items o).agreements k (Err e)
-            → FaultOf w order fetched noted (cells_of x) source (decoding_of notes) e
+            → FaultOf the_head w order fetched noted (cells_of x) source (decoding_of notes) e
         tried_then k own (fault.Bad place why) t =
-            subst (λ (j : ℕ). FaultOf w order fetched noted j source (decoding_of notes) (fault.Bad place why)) many
+            subst (λ (j : ℕ). FaultOf the_head w order fetched noted j source (decoding_of notes) (fault.Bad place why)) many
             (referent_disagrees w side order fetched noted direct o x s seen p ps n st c some unread source (decoding_of notes) (length x0.cells) (state_of m) is_whole k
             (kept_of m k is_whole.is.first.0 is_whole.is.first.1 own) place why t)
         tried_then k own fault.ReadFault t = absurd t

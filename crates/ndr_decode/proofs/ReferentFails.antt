@@ -16,7 +16,7 @@ use Rattle.nd_grammar.specs.declared.reason.Reason.TheVariants as reason
 use Rattle.nd_grammar.specs.Entry.{EntryAt}
 use Rattle.nd_grammar.specs.LegalSide.{IsLegalSide}
 use Rattle.nd_grammar.specs.Reader.{Read}
-use Rattle.nd_grammar.specs.StreamReader.{Reading, read_stream}
+use Rattle.nd_grammar.specs.StreamReader.{Reading}
 use Rattle.ndr_reading.specs.Around.{stopped}
 use Rattle.ndr_steps.specs.Steps.{State}
 use Rattle.ndr_state.specs.declared.machine.Owed.{Owed}
@@ -25,7 +25,8 @@ use Rattle.ndr_verdict.specs.Verdict.{DecodingSeen}
 use Rattle.ndr_stream.specs.declared.kept.Kept.{Kept}
 use Rattle.ndr_stream.specs.Between.{Agrees, IsKeptHome, home_target, kept_at}
 use Rattle.ndr_stream.specs.Calls.{CutOff, Refused, TookPart}
-use Rattle.ndr_stream.specs.Report.{AreCells, IsRefusedAfter}
+use Rattle.ndr_stream.specs.Parameters.{head_read}
+use Rattle.ndr_stream.specs.Report.{AreCells, IsRefusedAfter, the_head}
 use Rattle.ndr_stream.proofs.FewReferences.{few_now}
 use Rattle.ndr_stream.proofs.HomeFaults.{home_cut}
 use Rattle.ndr_stream.proofs.ReferentEnds as law
@@ -55,7 +56,7 @@ module _ (w : Setting) (side : IsLegalSide w) (order : Order) (fetched : List �
   part : TookPart source t n0 hw.octets hw.items (length x1.cells)
   part = let k = hw.took.steps in record { left = hw.took.left; logged = hw.took.logged; steps = omega (arith, k) }
 
-  pub referent_cut : CutOff w order fetched noted n0 source t
+  pub referent_cut : CutOff the_head w order fetched noted n0 source t
   referent_cut =
       let passed : (target (fetched ++ hw.octets)).progress.seen ≡ hw.is.seen ++ [] =
       subst (λ (f : List ℕ). (target f).progress.seen ≡ hw.is.seen ++ []) (append-nil (fetched ++ hw.octets))
@@ -69,14 +70,14 @@ module _ (w : Setting) (side : IsLegalSide w) (order : Order) (fetched : List �
         octets = hw.octets;
         items = hw.items;
         n' = length x1.cells;
-        cut = home_cut w order fetched ag.octets ag.needed target hw.octets hw.all
+        cut = home_cut the_head w order fetched ag.octets ag.needed target hw.octets hw.all
             (λ part all. law.referent_goes w side order fetched noted direct (with_next o x) s seen p ps n ag c.0 is_cell new part all)
             (noted ++ hw.items) (length x1.cells) hw.is.seen [] passed hw.is.told.noted_are cells;
         took = part;
       }
 
   pub referent_disagrees : (k : Kept) → IsKeptHome x1 k → (place : ℕ) (why : Reason) → IsFirst (owed_of x.wanted.items o).agreements k place why
-      → Refused w order fetched noted n0 source t place why
+      → Refused the_head w order fetched noted n0 source t place why
   referent_disagrees k own place why first =
       let after : IsRefusedAfter w order (fetched ++ hw.octets) (noted ++ hw.items) (length x1.cells) direct x1.at (place, why) =
       law.disagrees w side order fetched noted direct (with_next o x) s seen p ps n ag c.0 is_cell new hw.octets hw.all (noted ++ hw.items) x1 hw.is hw.needed k own
@@ -90,7 +91,7 @@ module _ (w : Setting) (side : IsLegalSide w) (order : Order) (fetched : List �
           octets = all_append (λ b. b < 256) fetched hw.octets ag.octets hw.all;
           at = x1.at;
           seen = after.seen;
-          stops = subst (λ (f : List ℕ). (read_stream w order f).progress ≡ stopped x1.at after.seen (place, why)) (append-nil (fetched ++ hw.octets)) (after.stops [] tt);
+          stops = subst (λ (f : List ℕ). head_read w order f ≡ stopped x1.at after.seen (place, why)) (append-nil (fetched ++ hw.octets)) (after.stops [] tt);
           items_are = after.items_are;
           needed = after.needed;
           cells = record { d = direct; named = after.cells_named; few = few_now w side order fetched noted direct (with_next o x) s seen (p ∷ ps) n ag };

@@ -47,6 +47,7 @@ use Rattle.ndr_stream.proofs.HomeBegins.{home_begins}
 use Rattle.ndr_stream.proofs.ReferentEnds as law
 use Rattle.ndr_kept.specs.declared.stream.Stream.{Stream}
 use Rattle.ndr_kept.specs.Seen.{between_of}
+use Rattle.ndr_stream.specs.Report.{the_head}
 use Rattle.ndr_decode.specs.Streaming.{FaultOf, HomeWhole, StandsWith, cells_of, with_next}
 use Rattle.ndr_decode.proofs.HomeComes.{whole_comes, fault_comes, decoding_of}
 use Rattle.ndr_decode.proofs.OwedReads.{cell_is, class_is, due_is}
@@ -111,9 +112,9 @@ module _ (w : Setting) (side : IsLegalSide w) (order : Order) (fetched : List �
 
     -- a fault within the value is one of the stream
     pub referent_fault : (source : SourceSeen) (notes : NotesSeen) (x1 : State) (e : DecodeFault) → EndsFault values order code (cell_home c.0) x0 source notes x1 e
-        → FaultOf w order fetched noted (length x0.cells) source (decoding_of notes) e
+        → FaultOf the_head w order fetched noted (length x0.cells) source (decoding_of notes) e
     referent_fault source notes x1 e ends =
-        fault_comes values order code w.table (cell_home c.0) p.to 32 direct target planned fetched noted x0 referent_good source notes w ag.octets ag.needed
+        fault_comes values order code w.table (cell_home c.0) p.to 32 direct target planned fetched noted x0 referent_good source notes the_head w ag.octets ag.needed
         (λ part all at so why stop. law.referent_refused w side order fetched noted direct (with_next o x) s seen p ps n ag c.0 is_cell new part all at so why stop)
         (λ part all. law.referent_goes w side order fetched noted direct (with_next o x) s seen p ps n ag c.0 is_cell new part all)
         (few_now w side order fetched noted direct (with_next o x) s seen (p ∷ ps) n ag) x1 e ends

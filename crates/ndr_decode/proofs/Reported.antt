@@ -10,19 +10,20 @@ use Rattle.ndr_state.specs.declared.fault.DecodeFault.{DecodeFault}
 use Rattle.ndr_state.specs.declared.fault.DecodeFault.TheVariants as fault
 use Rattle.ndr_verdict.specs.Verdict.{DecodingSeen, IsCutOff}
 use Rattle.ndr_stream.specs.Calls.{CutOff, TookPart}
-use Rattle.ndr_stream.specs.Report.{IsReported}
+use Rattle.ndr_stream.specs.Report.{IsReported, the_stream}
 use Rattle.ndr_stream.proofs.Reports as law
 use Rattle.ndr_decode.specs.Decoding.{IsFault}
 use Rattle.ndr_decode.specs.Streaming.{FaultOf}
 
-reported_of : (source : SourceSeen) (t : DecodingSeen) (octets : List ℕ) (items : List Item) (n : ℕ) → TookPart source t 0 octets items n → IsReported items n t
+pub reported_of : (source : SourceSeen) (t : DecodingSeen) (octets : List ℕ) (items : List Item) (n : ℕ) → TookPart source t 0 octets items n → IsReported items n t
 reported_of source t octets items n p = let e = p.steps in record { logged = p.logged; steps = omega (arith, e) }
 
-cut_told : (w : Setting) → IsLegalSide w → (order : Order) (source : SourceSeen) (t : DecodingSeen) → CutOff w order [] [] 0 source t → IsCutOff w order source t
-cut_told w legal order source t x = law.cut_report w legal order source t x.octets x.items x.n' x.cut (reported_of source t x.octets x.items x.n' x.took) x.took.left
+cut_reported : (w : Setting) → IsLegalSide w → (order : Order) (source : SourceSeen) (t : DecodingSeen) → CutOff the_stream w order [] [] 0 source t → IsCutOff w order source t
+cut_reported w legal order source t x = law.cut_report w legal order source t x.octets x.items x.n' x.cut (reported_of source t x.octets x.items x.n' x.took) x.took.left
 
-pub fault_told : (w : Setting) → IsLegalSide w → (order : Order) (source : SourceSeen) (t : DecodingSeen) (e : DecodeFault) → FaultOf w order [] [] 0 source t e → IsFault w order source e t
-fault_told w legal order source t (fault.Bad place why) x =
+pub fault_reported : (w : Setting) → IsLegalSide w → (order : Order) (source : SourceSeen) (t : DecodingSeen) (e : DecodeFault) → FaultOf the_stream w order [] [] 0 source t e → IsFault w order source e t
+fault_reported w legal order source t (fault.Bad place why) x =
     law.refused_report w legal order source t x.octets x.items x.n' place why x.refused (reported_of source t x.octets x.items x.n' x.took) x.took.left x.ended x.none_left
-fault_told w legal order source t fault.ReadFault x = cut_told w legal order source t x.0
-fault_told w legal order source t fault.Memory x = cut_told w legal order source t x
+fault_reported w legal order source t fault.ReadFault (x, risen) =
+    law.unread_report w legal order source t x.octets x.items x.n' x.short (reported_of source t x.octets x.items x.n' x.took) x.took.left
+fault_reported w legal order source t fault.Memory x = cut_reported w legal order source t x

@@ -38,6 +38,7 @@ use Rattle.ndr_stream.specs.Between.{Between, Agrees, Opens, IsKeptRoot, RootAdd
 use Rattle.ndr_stream.proofs.FewReferences.{few_now}
 use Rattle.ndr_stream.proofs.HomeBegins.{home_begins}
 use Rattle.ndr_stream.proofs.RootEnds.{root_refused, root_goes, root_ends, after, new}
+use Rattle.ndr_stream.specs.Report.{the_head}
 use Rattle.ndr_decode.specs.Streaming.{FaultOf, HomeWhole}
 use Rattle.ndr_decode.proofs.HomeComes.{whole_comes, fault_comes, decoding_of}
 
@@ -64,9 +65,9 @@ module _ (w : Setting) (side : IsLegalSide w) (order : Order) (fetched : List �
 
   -- a fault within the value is one of the stream
   pub root_fault : (source : SourceSeen) (notes : NotesSeen) (x1 : State) (e : DecodeFault) → EndsFault values order code here x source notes x1 e
-      → FaultOf w order fetched noted (length x.cells) source (decoding_of notes) e
+      → FaultOf the_head w order fetched noted (length x.cells) source (decoding_of notes) e
   root_fault source notes x1 e ends =
-      fault_comes values order code w.table here r.of 32 direct target planned fetched noted x root_good source notes w agrees.octets agrees.needed
+      fault_comes values order code w.table here r.of 32 direct target planned fetched noted x root_good source notes the_head w agrees.octets agrees.needed
       (λ part all at so why stop. root_refused w side order fetched noted direct b s seen n agrees r there plain part all at so why stop)
       (λ part all. root_goes w side order fetched noted direct b s seen n agrees r there plain part all)
       (few_now w side order fetched noted direct b s seen [] (suc n) agrees) x1 e ends

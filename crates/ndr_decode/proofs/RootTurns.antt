@@ -33,6 +33,7 @@ use Rattle.ndr_stream.specs.Calls.{Follows}
 use Rattle.ndr_stream.proofs.StreamBegins.{stream_begins}
 use Rattle.ndr_kept.specs.declared.stream.Stream.{Stream}
 use Rattle.ndr_kept.specs.Seen.{between_of}
+use Rattle.ndr_stream.specs.Report.{the_head}
 use Rattle.ndr_decode.specs.declared.roots.Found.{Found}
 use Rattle.ndr_decode.specs.Streaming.{FaultOf, IsAtRoot, IsSettingOf, IsStreaming, PendingReads, RootReads, RootsRead, Stands, WentOn, WentThrough, cells_of}
 use Rattle.ndr_decode.proofs.RootLines.{HasNextRoot, begin_of, line_there, many_values, next_root, none_left}
@@ -110,9 +111,9 @@ follows left ended faults x y z f g h k l m = record {
 
 -- a fault that is handed on
 pub handed_on : (plan : Plan) (op : ℕ) (side : Side) (order : Order) (x : Stream) (source : SourceSeen) (t : DecodingSeen) (y : Stream) (r : Result Found DecodeFault) (e : DecodeFault) → IsErrAnd r (λ d. d ≡ e)
-    → ((w : Setting) → IsLegalSide w → IsSettingOf plan op side w → FaultOf w order [] [] (cells_of x) source t e) → RootsRead plan order op side x source t y r
+    → ((w : Setting) → IsLegalSide w → IsSettingOf plan op side w → FaultOf the_head w order [] [] (cells_of x) source t e) → RootsRead plan order op side x source t y r
 handed_on plan op side order x source t y (Ok f) e is h = absurd is
-handed_on plan op side order x source t y (Err d) e is h = λ w legal set. subst (λ (k : DecodeFault). FaultOf w order [] [] (cells_of x) source t k) (sym is) (h w legal set)
+handed_on plan op side order x source t y (Err d) e is h = λ w legal set. subst (λ (k : DecodeFault). FaultOf the_head w order [] [] (cells_of x) source t k) (sym is) (h w legal set)
 
 module _ (plan : Plan) (op : ℕ) (side : Side) (order : Order) where
   -- at the beginning
@@ -264,12 +265,12 @@ module _ (plan : Plan) (op : ℕ) (side : Side) (order : Order) where
 
       pub root_faulty : c.faults.before ≤ b.faults.before → c.faults.now ≡ b.faults.now → (e : DecodeFault)
           → ((j : Instr) → slice_get plan.code at ≡ Some j → RootReads plan order j y b t z (Err e))
-          → (w : Setting) → IsLegalSide w → IsSettingOf plan op side w → FaultOf w order [] [] cells c u e
+          → (w : Setting) → IsLegalSide w → IsSettingOf plan op side w → FaultOf the_head w order [] [] cells c u e
       root_faulty low same e reads w legal set =
           let r = rests w legal set in
           let h = root_here cells a s y number w legal set r m sd name at is in
           let g = r.to.went in
-          then_fault w legal order [] [] cells a b c s t u f g.octets g.items (cells_of y) g.took low same e
+          then_fault w legal order [] [] cells a b c s t u f g.octets g.items (cells_of y) g.took the_head low same e
           (reads (root_by w.table h.r.of (type_at w.table h.r.of)) h.instr w legal g.octets g.items g.direct g.s g.seen h.others set.table (root_stands cells a s y number w legal set r at h) h.r h.there refl)
 
     module _ (goes : AllWent plan op side order cells a s y number) where
@@ -288,9 +289,9 @@ module _ (plan : Plan) (op : ℕ) (side : Side) (order : Order) where
           }
 
       pub pending_faulty : c.faults.before ≤ b.faults.before → c.faults.now ≡ b.faults.now → (e : DecodeFault) → PendingReads plan order y b t z (Err e)
-          → (w : Setting) → IsLegalSide w → IsSettingOf plan op side w → FaultOf w order [] [] cells c u e
+          → (w : Setting) → IsLegalSide w → IsSettingOf plan op side w → FaultOf the_head w order [] [] cells c u e
       pending_faulty low same e reads w legal set =
           let r = goes w legal set in
           let g = r.went in
-          then_fault w legal order [] [] cells a b c s t u f g.octets g.items (cells_of y) g.took low same e
+          then_fault w legal order [] [] cells a b c s t u f g.octets g.items (cells_of y) g.took the_head low same e
           (reads w legal g.octets g.items g.direct g.s g.seen g.ps r.left set.table g.stands)

@@ -16,7 +16,6 @@ use Rattle.nd_value.specs.Setting.{Setting}
 use Rattle.nd_grammar.specs.declared.reason.Reason.{Reason}
 use Rattle.nd_grammar.specs.declared.reason.Reason.TheVariants as reason
 use Rattle.nd_grammar.specs.LegalSide.{IsLegalSide}
-use Rattle.nd_grammar.specs.StreamReader.{Reading}
 use Rattle.ndr_code.specs.Code.{checks_at, checks_run, code_of}
 use Rattle.ndr_code.specs.Runs.{IsRunAt}
 use Rattle.ndr_code.specs.declared.instr.Instr.{Instr}
@@ -37,6 +36,7 @@ use Rattle.ndr_stream.specs.Tests.{disagreement}
 use Rattle.ndr_verdict.specs.Verdict.{DecodingSeen}
 use Rattle.ndr_kept.specs.declared.stream.Stream.{Stream}
 use Rattle.ndr_kept.specs.Seen.{between_of}
+use Rattle.ndr_stream.specs.Report.{the_head, the_stream}
 use Rattle.ndr_decode.specs.declared.roots.Found.{Found}
 use Rattle.ndr_decode.specs.Piping.{EndComes, IsAtPipes, StreamEnds}
 use Rattle.ndr_decode.specs.Streaming.{FaultOf, IsSettingOf, RootsRead, Stands, WentOn, WentThrough, cells_of}
@@ -48,9 +48,9 @@ use Rattle.ndr_decode.proofs.Standing.{idle_log, idle_source, not_cut, refused_h
 -- ## A fault that is handed on
 
 pub end_fault : (w : Setting) (order : Order) (fetched : List ℕ) (noted : List Item) (cells : ℕ) (source : SourceSeen) (t : DecodingSeen) (z : Stream) (r : Result (Unit {0}) DecodeFault) (e : DecodeFault)
-    → IsErrAnd r (λ k. k ≡ e) → FaultOf w order fetched noted cells source t e → EndComes w order fetched noted cells source t z r
+    → IsErrAnd r (λ k. k ≡ e) → FaultOf the_stream w order fetched noted cells source t e → EndComes w order fetched noted cells source t z r
 end_fault w order fetched noted cells source t z (Ok u) e is x = absurd is
-end_fault w order fetched noted cells source t z (Err k) e is x = subst (FaultOf w order fetched noted cells source t) (sym is) x
+end_fault w order fetched noted cells source t z (Err k) e is x = subst (FaultOf the_stream w order fetched noted cells source t) (sym is) x
 
 -- ## No agreement is refused for octets that do not come
 
@@ -115,7 +115,7 @@ module _ (plan : Plan) (number : ℕ) (way : Side) (order : Order) (w : Setting)
 
       -- an agreement of a parameter is refused
       pub refused_after : (place : ℕ) (why : Reason) → checks_fail y.cells.items y.roots.items w.given (drop at plan.code) ≡ Some (place, why)
-          → FaultOf w order [] [] (cells_of x) a s (fault.Bad place why)
+          → FaultOf the_head w order [] [] (cells_of x) a s (fault.Bad place why)
       refused_after place why e =
           let ag = stands_after.agrees in
           let follows : Follows a (idle_source a.left_now a.ended a.faults) a s (idle_log s.log_now s.steps_now) s = record {
@@ -132,7 +132,7 @@ module _ (plan : Plan) (number : ℕ) (way : Side) (order : Order) (w : Setting)
           } in
           let none : a.faults.before ≤ a.faults.before = omega arith in
           then_fault w legal order [] [] (cells_of x) a (idle_source a.left_now a.ended a.faults) a s (idle_log s.log_now s.steps_now) s follows went.0.octets went.0.items (cells_of y) went.0.took
-          none refl (fault.Bad place why)
+          the_head none refl (fault.Bad place why)
           (refused_here a.left_now a.ended a.faults s.log_now s.steps_now w legal order went.0.octets went.0.items went.0.direct (between_of y) went.0.s went.0.seen [] 0 (cells_of y) y.machine.at place why
           (cells_are y) ag (never_cut y.cells.items y.roots.items w.given place why (drop at plan.code) e)
           (parameter_fails w legal order went.0.octets went.0.items went.0.direct (between_of y) went.0.s went.0.seen ag plan.code at (checks_here at here) (place, why) e))
@@ -140,7 +140,7 @@ module _ (plan : Plan) (number : ℕ) (way : Side) (order : Order) (w : Setting)
           cells_are : (y : Stream) → cells_of y ≡ length (between_of y).cells
           cells_are y = sym (types_length y.machine.builder)
 
-      pub refused_by : (e : DecodeFault) → IsTried (checks_fail y.cells.items y.roots.items w.given (drop at plan.code)) (Err e) → FaultOf w order [] [] (cells_of x) a s e
+      pub refused_by : (e : DecodeFault) → IsTried (checks_fail y.cells.items y.roots.items w.given (drop at plan.code)) (Err e) → FaultOf the_head w order [] [] (cells_of x) a s e
       refused_by (fault.Bad place why) h = refused_after place why h
       refused_by fault.ReadFault h = absurd h
       refused_by fault.Memory h = absurd h
@@ -152,7 +152,7 @@ module _ (plan : Plan) (number : ℕ) (way : Side) (order : Order) (w : Setting)
     ends_after held b c t u f low same z (Ok o) r =
         read_after w legal order [] [] (cells_of x) a b c s t u f y 0 went.0 z (r w legal went.0.octets went.0.items went.0.direct went.0.s went.0.seen is stands_after held)
     ends_after held b c t u f low same z (Err e) r =
-        then_fault w legal order [] [] (cells_of x) a b c s t u f went.0.octets went.0.items (cells_of y) went.0.took low same e
+        then_fault w legal order [] [] (cells_of x) a b c s t u f went.0.octets went.0.items (cells_of y) went.0.took the_stream low same e
         (r w legal went.0.octets went.0.items went.0.direct went.0.s went.0.seen is stands_after held)
 
     pub at_pipes : TestsPass w order g.octets g.items g.direct (between_of y) g.s g.seen (parameter_tests w g.s) → IsAtPipes plan number way order y

@@ -19,7 +19,7 @@ use Rattle.nd_grammar.specs.declared.reason.Reason.{Reason}
 use Rattle.nd_grammar.specs.declared.reason.Reason.TheVariants as reason
 use Rattle.nd_grammar.specs.Entry.{EntryAt}
 use Rattle.nd_grammar.specs.LegalSide.{IsLegalSide}
-use Rattle.nd_grammar.specs.StreamReader.{Reading, read_stream}
+use Rattle.nd_grammar.specs.StreamReader.{Reading}
 use Rattle.ndr_reading.specs.Around.{stopped}
 use Rattle.ndr_steps.specs.declared.first.First.{First}
 use Rattle.ndr_steps.specs.Good.{Told}
@@ -28,11 +28,12 @@ use Rattle.ndr_verdict.specs.Verdict.{DecodingSeen, with_items}
 use Rattle.ndr_stream.specs.Added.{Goes}
 use Rattle.ndr_stream.specs.Between.{Agrees, Between}
 use Rattle.ndr_stream.specs.Calls.{CutOff, Follows, Refused, Took}
-use Rattle.ndr_stream.specs.Report.{IsRefusedAfter, StreamCut, StreamRefused}
+use Rattle.ndr_stream.specs.Parameters.{head_read}
+use Rattle.ndr_stream.specs.Report.{IsRefusedAfter, StreamCut, StreamRefused, the_head, Extent}
 use Rattle.ndr_stream.specs.Tests.{disagreement}
 use Rattle.ndr_stream.proofs.FewReferences.{few_now}
-use Rattle.ndr_stream.proofs.Joined.{took_twice, took_then_refused, took_then_cut}
-use Rattle.ndr_stream.proofs.StreamGrows.{stream_goes}
+use Rattle.ndr_stream.proofs.Joined.{took_twice, took_then_refused, took_then_unread, took_then_cut}
+use Rattle.ndr_stream.proofs.StreamGrows.{head_goes}
 use Rattle.ndr_kept.specs.declared.stream.Stream.{Stream}
 use Rattle.ndr_state.specs.declared.fault.DecodeFault.{DecodeFault}
 use Rattle.ndr_state.specs.declared.fault.DecodeFault.TheVariants as fault
@@ -86,29 +87,29 @@ module _ (o : Option (List ℕ)) (ended : Bool) (faults : Count) (g : Logged) (k
 
     -- memory fails between two homes
     pub cut_here : (b : Between) (s : Reading) (seen : List EntryAt) (ps : List Pending) (n : ℕ) → Agrees w side order fetched noted direct b s seen ps n
-        → StreamCut w order fetched noted (length b.cells)
+        → StreamCut the_head w order fetched noted (length b.cells)
     cut_here b s seen ps n ag =
-        let more : Goes s.progress (read_stream w order (fetched ++ [])).progress = stream_goes w order fetched s ag.reached [] tt in
+        let more : Goes s.progress (head_read w order (fetched ++ [])) = head_goes w order fetched s ag.reached [] tt in
         let told = cells_are b s seen ps n ag in
         record {
           octets = ag.octets;
           seen = seen;
           after = more.added;
-          passed = subst (λ (f : List ℕ). (read_stream w order f).progress.seen ≡ seen ++ more.added) (append-nil fetched)
+          passed = subst (λ (f : List ℕ). (head_read w order f).seen ≡ seen ++ more.added) (append-nil fetched)
               (more.seen ∙ ap (λ q. q.seen ++ more.added) ag.progress);
           items_are = told.noted_are;
           cells = record { d = direct; named = told.cells_named.named; few = few_now w side order fetched noted direct b s seen ps n ag };
         }
 
     pub cut_off_here : (b : Between) (s : Reading) (seen : List EntryAt) (ps : List Pending) (n m : ℕ) → m ≡ length b.cells → Agrees w side order fetched noted direct b s seen ps n
-        → CutOff w order fetched noted m (idle_source o ended faults) (idle_log g k)
+        → CutOff the_head w order fetched noted m (idle_source o ended faults) (idle_log g k)
     cut_off_here b s seen ps n m e ag = record {
       octets = [];
       items = [];
       n' = m;
-      cut = subst (λ (f : List ℕ). StreamCut w order f (noted ++ []) m) (sym (append-nil fetched))
-          (subst (λ (i : List Item). StreamCut w order fetched i m) (sym (append-nil noted))
-          (subst (StreamCut w order fetched noted) (sym e) (cut_here b s seen ps n ag)));
+      cut = subst (λ (f : List ℕ). StreamCut the_head w order f (noted ++ []) m) (sym (append-nil fetched))
+          (subst (λ (i : List Item). StreamCut the_head w order fetched i m) (sym (append-nil noted))
+          (subst (StreamCut the_head w order fetched noted) (sym e) (cut_here b s seen ps n ag)));
       took = record { left = none_consumed o; logged = none_noted g; steps = omega arith };
     }
 
@@ -116,13 +117,13 @@ module _ (o : Option (List ℕ)) (ended : Bool) (faults : Count) (g : Logged) (k
 
     pub refused_here : (b : Between) (s : Reading) (seen : List EntryAt) (ps : List Pending) (n m at place : ℕ) (why : Reason) → m ≡ length b.cells → Agrees w side order fetched noted direct b s seen ps n
         → (why ≡ reason.Truncated → ⊥) → IsRefusedAfter w order fetched noted (length b.cells) direct at (place, why)
-        → Refused w order fetched noted m (idle_source o ended faults) (idle_log g k) place why
+        → Refused the_head w order fetched noted m (idle_source o ended faults) (idle_log g k) place why
     refused_here b s seen ps n m at place why e ag other r =
-        let is : StreamRefused w order fetched noted (length b.cells) place why = record {
+        let is : StreamRefused the_head w order fetched noted (length b.cells) place why = record {
           octets = ag.octets;
           at = at;
           seen = r.seen;
-          stops = subst (λ (f : List ℕ). (read_stream w order f).progress ≡ stopped at r.seen (place, why)) (append-nil fetched) (r.stops [] tt);
+          stops = subst (λ (f : List ℕ). head_read w order f ≡ stopped at r.seen (place, why)) (append-nil fetched) (r.stops [] tt);
           items_are = r.items_are;
           needed = r.needed;
           cells = record { d = direct; named = r.cells_named; few = few_now w side order fetched noted direct b s seen ps n ag };
@@ -131,9 +132,9 @@ module _ (o : Option (List ℕ)) (ended : Bool) (faults : Count) (g : Logged) (k
           octets = [];
           items = [];
           n' = m;
-          refused = subst (λ (f : List ℕ). StreamRefused w order f (noted ++ []) m place why) (sym (append-nil fetched))
-              (subst (λ (i : List Item). StreamRefused w order fetched i m place why) (sym (append-nil noted))
-              (subst (λ (c : ℕ). StreamRefused w order fetched noted c place why) (sym e) is));
+          refused = subst (λ (f : List ℕ). StreamRefused the_head w order f (noted ++ []) m place why) (sym (append-nil fetched))
+              (subst (λ (i : List Item). StreamRefused the_head w order fetched i m place why) (sym (append-nil noted))
+              (subst (λ (c : ℕ). StreamRefused the_head w order fetched noted c place why) (sym e) is));
           took = record { left = none_consumed o; logged = none_noted g; steps = omega arith };
           ended = λ t. absurd (other t);
           none_left = λ t. absurd (other t);
@@ -173,10 +174,10 @@ module _ (w : Setting) (side : IsLegalSide w) (order : Order) (fetched : List �
   }
 
   -- a fault, where the source's count of faults had not fallen before
-  pub then_fault : c.faults.before ≤ b.faults.before → c.faults.now ≡ b.faults.now → (e : DecodeFault) → FaultOf w order (fetched ++ octets) (noted ++ xs) n1 b t e → FaultOf w order fetched noted n0 c u e
-  then_fault l m (fault.Bad place why) x = took_then_refused a b c s t u f w order fetched noted n0 n1 octets xs took place why x
-  then_fault l m fault.ReadFault x = (took_then_cut a b c s t u f w order fetched noted n0 n1 octets xs took x.0, rose c.faults.before b.faults.before b.faults.now c.faults.now l m x.1)
+  pub then_fault : (reach : Extent) → c.faults.before ≤ b.faults.before → c.faults.now ≡ b.faults.now → (e : DecodeFault) → FaultOf reach w order (fetched ++ octets) (noted ++ xs) n1 b t e → FaultOf reach w order fetched noted n0 c u e
+  then_fault reach l m (fault.Bad place why) x = took_then_refused a b c s t u f reach w order fetched noted n0 n1 octets xs took place why x
+  then_fault reach l m fault.ReadFault x = (took_then_unread a b c s t u f reach w order fetched noted n0 n1 octets xs took x.0, rose c.faults.before b.faults.before b.faults.now c.faults.now l m x.1)
     where
       rose : (p q r r' : ℕ) → p ≤ q → r' ≡ r → Rose q r → Rose p r'
       rose p q r r' l m x = subst (λ k. Rose p k) (sym m) (omega (arith, l, x))
-  then_fault l m fault.Memory x = took_then_cut a b c s t u f w order fetched noted n0 n1 octets xs took x
+  then_fault reach l m fault.Memory x = took_then_cut a b c s t u f reach w order fetched noted n0 n1 octets xs took x

@@ -5,8 +5,9 @@ use Rattle.nd_value.specs.Setting.{Setting}
 use Rattle.ndr_state.specs.declared.fault.DecodeFault.{DecodeFault}
 use Rattle.ndr_state.specs.declared.fault.DecodeFault.TheVariants as fault
 use Rattle.ndr_verdict.specs.Verdict.{DecodingSeen, IsRefused, IsCutOff}
+use Rattle.ndr_stream.specs.Report.{IsUnread}
 
 abbrev pub IsFault : Setting → Order → SourceSeen → DecodeFault → DecodingSeen → Type 0
 IsFault w order s (fault.Bad place why) t = IsRefused w order s place why t
-IsFault w order s fault.ReadFault t = IsCutOff w order s t
+IsFault w order s fault.ReadFault t = IsUnread w order s t
 IsFault w order s fault.Memory t = IsCutOff w order s t

@@ -39,6 +39,7 @@ use Rattle.ndr_chunks.specs.Chunks.{IsAt}
 use Rattle.ndr_kept.specs.declared.stream.Stream.{Stream}
 use Rattle.ndr_kept.specs.Ends.{HomeRan}
 use Rattle.ndr_kept.specs.Seen.{between_of}
+use Rattle.ndr_stream.specs.Report.{the_stream}
 use Rattle.ndr_decode.specs.Streaming.{FaultOf, IsSettingOf, Purpose, Stands, WasRead, cells_of}
 
 -- what the graph is for
@@ -98,7 +99,7 @@ pub record PipeRead (w : Setting) (order : Order) (fetched : List ℕ) (noted : 
 
 abbrev pub PipeComes : Setting → Order → List ℕ → List Item → ℕ → Names → ℕ → List Root → List Tree → ℕ → SourceSeen → DecodingSeen → Machine → Result (Unit {0}) DecodeFault → Type 0
 PipeComes w order fetched noted direct first i rs roots cells source t m (Ok u) = PipeRead w order fetched noted direct first i rs roots cells source t m
-PipeComes w order fetched noted direct first i rs roots cells source t m (Err e) = FaultOf w order fetched noted cells source t e
+PipeComes w order fetched noted direct first i rs roots cells source t m (Err e) = FaultOf the_stream w order fetched noted cells source t e
 
 -- the next pipe, whose elements have the run at an address
 abbrev pub PipeReads : Plan → Order → ℕ → ℕ → Machine → SourceSeen → DecodingSeen → Machine → Result (Unit {0}) DecodeFault → Type 0
@@ -151,7 +152,7 @@ pub record ElementsRead (w : Setting) (order : Order) (fetched : List ℕ) (note
 abbrev pub ChunkComes : Setting → Order → List ℕ → List Item → ℕ → Names → ℕ → List Root → List Tree → TypeId → ℕ → ℕ → SourceSeen → DecodingSeen → Machine → Result ℕ DecodeFault → Type 0
 ChunkComes w order fetched noted direct first i rs roots elem so_far cells source t m (Ok zero) = PipeRead w order fetched noted direct first i rs roots cells source t m
 ChunkComes w order fetched noted direct first i rs roots elem so_far cells source t m (Ok (suc c)) = ElementsRead w order fetched noted direct first i rs roots elem cells source t m (so_far + suc c)
-ChunkComes w order fetched noted direct first i rs roots elem so_far cells source t m (Err e) = FaultOf w order fetched noted cells source t e
+ChunkComes w order fetched noted direct first i rs roots elem so_far cells source t m (Err e) = FaultOf the_stream w order fetched noted cells source t e
 
 -- the next chunk
 abbrev pub ChunkReads : Plan → Order → ℕ → ℕ → ℕ → Machine → SourceSeen → DecodingSeen → Machine → Result ℕ DecodeFault → Type 0
@@ -196,7 +197,7 @@ pub record IsAtPipes (plan : Plan) (o : ℕ) (side : Side) (order : Order) (x : 
 -- the stream was read to its end, or a fault came
 abbrev pub EndComes : Setting → Order → List ℕ → List Item → ℕ → SourceSeen → DecodingSeen → Stream → Result (Unit {0}) DecodeFault → Type 0
 EndComes w order fetched noted cells source t y (Ok u) = WasRead w order fetched noted cells source t y
-EndComes w order fetched noted cells source t y (Err e) = FaultOf w order fetched noted cells source t e
+EndComes w order fetched noted cells source t y (Err e) = FaultOf the_stream w order fetched noted cells source t e
 
 -- all pipes of a side
 abbrev pub StreamEnds : Plan → ℕ → Side → Order → Stream → SourceSeen → DecodingSeen → Stream → Result (Unit {0}) DecodeFault → Type 0

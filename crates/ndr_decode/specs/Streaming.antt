@@ -1,5 +1,5 @@
 -- What a call of the decoder comes to, over the roots and referents of a stream.
--- `plan` is a plan, `w` a setting of its interface, `fetched` are the octets that were fetched and `noted` the items that were noted before the call, `x` is what
+-- `reach` is what is read of a stream, `plan` is a plan, `w` a setting of its interface, `fetched` are the octets that were fetched and `noted` the items that were noted before the call, `x` is what
 -- is kept of the stream after it, `source` and `t` are what was seen of the source, the log and the steps over it, `n` is how many cells there were.
 use Rattle.std.specs.Prelude.{◌≡◌, ◌≤◌, ℕ, suc, List, [], ◌∷◌, ◌++◌, length, Option, Some, Result, Ok, Err}
 use Rattle.std.specs.List.{slice_get}
@@ -33,7 +33,8 @@ use Rattle.ndr_steps.specs.Good.{Whole}
 use Rattle.ndr_steps.specs.Steps.{State}
 use Rattle.ndr_verdict.specs.Verdict.{DecodingSeen}
 use Rattle.ndr_stream.specs.Between.{Agrees, AreNeeded, Between}
-use Rattle.ndr_stream.specs.Calls.{Took, Refused, CutOff}
+use Rattle.ndr_stream.specs.Calls.{Took, Refused, CutOff, Unread}
+use Rattle.ndr_stream.specs.Report.{Extent, the_head}
 use Rattle.ndr_kept.specs.declared.stream.Stream.{Stream}
 use Rattle.ndr_kept.specs.Seen.{between_of}
 use Rattle.ndr_decode.specs.declared.roots.Found.{Found}
@@ -152,16 +153,16 @@ pub record WasRead (w : Setting) (order : Order) (fetched : List ℕ) (noted : L
   pub whole : CanClose x.machine.builder
   pub took : Took source t cells octets items (cells_of x)
 
--- a refusal is that of the stream; where the source or memory failed, reading was cut off
-abbrev pub FaultOf : Setting → Order → List ℕ → List Item → ℕ → SourceSeen → DecodingSeen → DecodeFault → Type 0
-FaultOf w order fetched noted cells source t (fault.Bad place why) = Refused w order fetched noted cells source t place why
-FaultOf w order fetched noted cells source t fault.ReadFault = CutOff w order fetched noted cells source t × HasRisen source.faults
-FaultOf w order fetched noted cells source t fault.Memory = CutOff w order fetched noted cells source t
+-- a refusal is that of the stream, or of its head; where the source failed, the octets are cut short where they end; where memory failed, reading was cut off
+abbrev pub FaultOf : Extent → Setting → Order → List ℕ → List Item → ℕ → SourceSeen → DecodingSeen → DecodeFault → Type 0
+FaultOf reach w order fetched noted cells source t (fault.Bad place why) = Refused reach w order fetched noted cells source t place why
+FaultOf reach w order fetched noted cells source t fault.ReadFault = Unread reach w order fetched noted cells source t × HasRisen source.faults
+FaultOf reach w order fetched noted cells source t fault.Memory = CutOff reach w order fetched noted cells source t
 
 -- a root, or a referent, and its agreements
 abbrev pub Reads : (w : Setting) → IsLegalSide w → Order → List ℕ → List Item → ℕ → ℕ → SourceSeen → DecodingSeen → Stream → Result (Unit {0}) DecodeFault → Type 0
 Reads w side order fetched noted cells n source t x (Ok u) = WentOn w side order fetched noted cells source t x n
-Reads w side order fetched noted cells n source t x (Err e) = FaultOf w order fetched noted cells source t e
+Reads w side order fetched noted cells n source t x (Err e) = FaultOf the_head w order fetched noted cells source t e
 
 -- It went on until nothing was pending.
 abbrev pub WentThrough : (w : Setting) → IsLegalSide w → Order → List ℕ → List Item → ℕ → SourceSeen → DecodingSeen → Stream → ℕ → Type 0
@@ -170,7 +171,7 @@ WentThrough w side order fetched noted cells source t x n = (g : WentOn w side o
 -- all that is pending
 abbrev pub ReadsAll : (w : Setting) → IsLegalSide w → Order → List ℕ → List Item → ℕ → ℕ → SourceSeen → DecodingSeen → Stream → Result (Unit {0}) DecodeFault → Type 0
 ReadsAll w side order fetched noted cells n source t x (Ok u) = WentThrough w side order fetched noted cells source t x n
-ReadsAll w side order fetched noted cells n source t x (Err e) = FaultOf w order fetched noted cells source t e
+ReadsAll w side order fetched noted cells n source t x (Err e) = FaultOf the_head w order fetched noted cells source t e
 
 -- ## What each reads
 -- `x` is what is kept before the call, `y` what is kept after it, `result` its answer.
@@ -203,4 +204,4 @@ pub record IsSettingOf (plan : Plan) (op : ℕ) (side : Side) (w : Setting) : Ty
 -- all roots that are no pipes
 abbrev pub RootsRead : Plan → Order → ℕ → Side → Stream → SourceSeen → DecodingSeen → Stream → Result Found DecodeFault → Type 0
 RootsRead plan order op side x source t y (Ok f) = (w : Setting) (legal : IsLegalSide w) → IsSettingOf plan op side w → WentThrough w legal order [] [] (cells_of x) source t y 0
-RootsRead plan order op side x source t y (Err e) = (w : Setting) → IsLegalSide w → IsSettingOf plan op side w → FaultOf w order [] [] (cells_of x) source t e
+RootsRead plan order op side x source t y (Err e) = (w : Setting) → IsLegalSide w → IsSettingOf plan op side w → FaultOf the_head w order [] [] (cells_of x) source t e

@@ -50,13 +50,14 @@ pub struct Decoded {
 /// At `Bad` the octets are refused at the first faulty place, for the one reason that applies there; no octets that begin with those fetched
 /// represent a conforming graph, except at `Truncated`, where the source has ended. The octets fetched end with the item that is refused; at `TooLong`
 /// where that item would begin, at a failed agreement with the last item before it. `ReadFault` is answered only if the source's count of faults
-/// rose, or is at the greatest value of a `u64`.
+/// rose, or is at the greatest value of a `u64`; then the octets fetched are cut short where they end, as the next item lacks some of its own.
 ///
 /// A log that keeps items gets each item as soon as it is whole and not refused. At `Ok` `steps` has risen by one for each of these except the gaps,
 /// and for each cell; at a fault by no more than that, and never by more than the octets fetched and the roots, whatever counts the octets state.
 ///
-/// Each fetch asks only for what the gap or primitive that is due still lacks. The time is linear in the octets fetched. It takes memory for what
-/// was read, never for what a count claims; after `Memory` the source, the log and the steps are as after some item.
+/// Octets are asked for only once the value must have them. The time is linear in the octets fetched. It takes memory for what was read, never for
+/// what a count claims; after `Memory` the log is as after some item, `steps` has risen by at most what was read, and a few octets more may have been
+/// taken.
 pub fn decode<S: Source, L: Ledger>(
     alloc: Global,
     plan: &Plan,

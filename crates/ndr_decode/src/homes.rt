@@ -16,6 +16,7 @@ use ndr_machine::run;
 use ndr_state::{DecodeFault, Machine};
 
 // Reads the value of the home that was opened, by the code of a plan.
+#[inline(always)]
 pub fn read_home<S: Source, L: Ledger>(
     plan: &Plan,
     order: Order,

@@ -46,6 +46,7 @@ pub(crate) fn read_pending<S: Source, L: Ledger>(
 }
 
 // The referent of a pointer that was taken from those that are pending, if it was not read yet, and the pointer's agreements. A null pointer has none.
+#[inline(always)]
 fn read_owed<S: Source, L: Ledger>(
     plan: &Plan,
     order: Order,
@@ -77,6 +78,7 @@ fn read_owed<S: Source, L: Ledger>(
 }
 
 // The referent of a pointer, which was not read yet, and the pointer's agreements.
+#[inline(always)]
 fn read_referent<S: Source, L: Ledger>(
     plan: &Plan,
     order: Order,
@@ -107,16 +109,26 @@ fn read_referent<S: Source, L: Ledger>(
         items,
         steps,
     )?;
+    if owed.len == 0 {
+        stream.pass_cell(cell)?;
+        stream.settle_ahead(source.ahead())?;
+        return Ok(());
+    }
     let kept = stream.end_cell(cell)?;
     try_all(stream.wanted.as_slice(), owed, kept)?;
-    stream.settle()
+    stream.settle()?;
+    Ok(())
 }
 
 // Tries the agreements of a pointer in its referent.
+#[inline(always)]
 fn try_all(wanted: &[Wanted], owed: Owed, kept: Kept) -> Result<(), DecodeFault>
     requires within { owed.from + owed.len ≤ length wanted.now }
     ensures { AreTried (owed_of wanted.now owed).agreements kept result }
 {
+    if owed.len == 0 {
+        return Ok(());
+    }
     try_each(&wanted[owed.from..owed.from + owed.len], kept)
 }
 

@@ -145,3 +145,38 @@ deferred_turn us fresh p q r at o l there e f =
 -- all are
 pub deferred_end : (us : List Wanted) (fresh : List code.Owed) (p r : List Owed) (at : ℕ) → length fresh ≤ at → p ≡ map (owed_of us) (drop (length fresh - at) fresh) ++ r → p ≡ map (owed_of us) fresh ++ r
 deferred_end us fresh p r at l e = let z : length fresh - at ≡ 0 = omega (arith, l) in e ∙ ap (λ n. map (owed_of us) (drop n fresh) ++ r) z
+
+-- ## A home of one pointer at most, which has no agreements
+
+-- a pointer without agreements is the same beside any
+none_owed : (ws us : List Wanted) (o : code.Owed) → o.len ≡ 0 → owed_of ws o ≡ owed_of us o
+none_owed ws us o z =
+    ap (λ ags. with_agreements o (map agreement_of ags)) (ap (λ n. take n (drop o.from ws)) z)
+    ∙ sym (ap (λ ags. with_agreements o (map agreement_of ags)) (ap (λ n. take n (drop o.from us)) z))
+
+none_but_last : {X : Type 0} (xs : List X) (x : X) → length (xs ++ x ∷ []) < 2 → xs ≡ []
+none_but_last [] x l = refl
+none_but_last (y ∷ ys) x l = let e = length-append ys (x ∷ []) in absurd (omega (arith, l, e))
+
+module _ (ws us : List Wanted) (fresh fresh' todo todo' : List code.Owed) (o : code.Owed) (few : length fresh < 2) (none : us ≡ [])
+    (within : AllByRecursion (λ (p : code.Owed). p.from + p.len ≤ length us) fresh) (taken : fresh ≡ fresh' ++ o ∷ []) (put : todo' ≡ todo ++ o ∷ []) where
+  pub none_after : fresh' ≡ []
+  none_after = none_but_last fresh' o (subst (λ os. length os < 2) taken few)
+
+  alone : fresh ≡ o ∷ []
+  alone = taken ∙ ap (λ os. os ++ o ∷ []) none_after
+
+  no_agreements : o.from + o.len ≤ 0
+  no_agreements = let a = subst (AllByRecursion (λ (p : code.Owed). p.from + p.len ≤ length us)) alone within in subst (λ vs. o.from + o.len ≤ length vs) none a.0
+
+  pub one_pending : pending_in ws todo' ≡ map (owed_of us) fresh ++ pending_in ws todo
+  one_pending =
+      ap (pending_in ws) put
+      ∙ ap (map (owed_of ws)) (reverse-append todo (o ∷ []))
+      ∙ ap (λ u. u ∷ pending_in ws todo) (none_owed ws us o (omega (arith, no_agreements)))
+      ∙ sym (ap (λ os. map (owed_of us) os ++ pending_in ws todo) alone)
+
+  pub one_within : AllByRecursion (λ (p : code.Owed). p.from + p.len ≤ length ws) todo → AllByRecursion (λ (p : code.Owed). p.from + p.len ≤ length ws) todo'
+  one_within a =
+      let l : o.from + o.len ≤ length ws = omega (arith, no_agreements) in
+      subst (AllByRecursion (λ (p : code.Owed). p.from + p.len ≤ length ws)) (sym put) (all_in (λ (p : code.Owed). p.from + p.len ≤ length ws) todo (o ∷ []) a (l, tt))

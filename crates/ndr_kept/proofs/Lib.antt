@@ -1,5 +1,5 @@
 pub mod GraphEnds
 pub mod Deferred
 pub mod Opened
-pub mod KeptCells
+pub mod CellsKept
 pub mod Begun

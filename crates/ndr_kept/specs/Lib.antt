@@ -1,2 +1,4 @@
+pub mod Cells
+pub mod Entries
 pub mod Seen
 pub mod Ends

@@ -66,6 +66,14 @@ pub record IsCleared (m n : Machine) : Type 0 where
   pub referents : n.referents ≡ m.referents
   pub none_fresh : n.fresh.items ≡ []
 
+-- the machine has more room, and else is as it was
+pub record IsSame (m n : Machine) : Type 0 where
+  pub at : n.at ≡ m.at
+  pub builder : n.builder ≡ m.builder
+  pub referents : n.referents ≡ m.referents
+  pub fresh : n.fresh.items ≡ m.fresh.items
+  pub wanted : n.wanted.items ≡ m.wanted.items
+
 -- A root was kept, and its pointers are pending.
 pub record RootEnds (x y : Stream) : Type 0 where
   pub k : KeptRoot
@@ -78,6 +86,12 @@ pub record RootEnds (x y : Stream) : Type 0 where
 pub record CellEnds (c : ℕ) (k : Kept) (x y : Stream) : Type 0 where
   pub kept : CellKept c k x.cells.items y.cells.items
   pub others : KeepsOthers x y
+
+-- The same, whatever is kept of it.
+pub record CellPassed (c : ℕ) (x y : Stream) : Type 0 where
+  pub k : Kept
+  pub own : HasOwn x.machine k
+  pub ends : CellEnds c k x y
 
 -- A root that is a reference pointer was kept, and its referent, whose pointers are pending.
 pub record ReferenceEnds (cell : CellId) (x y : Stream) : Type 0 where

@@ -1,10 +1,12 @@
 // Where homes end.
 ghost use Rattle.std.specs.Prelude.{◌≡◌, ◌<◌, OnOk, IfOk, IfErr};
 ghost use Rattle.ndr_state.specs.declared.fault.DecodeFault.TheVariants as fault;
-ghost use Rattle.ndr_kept.specs.Seen.{CellEnds, HasOwn, ReferenceEnds, RootEnds};
+ghost use Rattle.ndr_kept.specs.Entries.{plain};
+ghost use Rattle.ndr_kept.specs.Seen.{CellEnds, CellPassed, HasOwn, ReferenceEnds, RootEnds};
 
 use crate::Stream;
-use crate::looking::{kept_home, named_cell};
+use crate::looking::{is_plain_home, kept_home, named_cell};
+use nd_base::Memory;
 use nd_value::CellId;
 use ndr_state::DecodeFault;
 use ndr_steps::First;
@@ -21,7 +23,8 @@ impl Stream {
         let Ok(()) = self.roots.push(KeptRoot { own, cell }) else {
             return Err(DecodeFault::Memory);
         };
-        self.settle()
+        self.settle()?;
+        Ok(())
     }
 
     /// Keeps the cell whose value was read, and gives what is kept of it. Its pointers are not pending yet. It takes memory, and out of memory is the only
@@ -35,6 +38,40 @@ impl Stream {
         let kept = kept_home(&self.machine);
         self.keep_cell(cell, kept)?;
         Ok(kept)
+    }
+
+    /// Keeps the cell whose value was read, as `end_cell` does, where nobody asks at once what is kept of it.
+    #[inline(always)]
+    pub fn pass_cell(&mut self, cell: CellId) -> Result<(), Memory>
+        requires there { 0 < cell.0 }
+        ensures ends { OnOk result (CellPassed cell.0 self.old self.new) }
+    {
+        if is_plain_home(&self.machine) {
+            return self.pass_plain(cell);
+        }
+        self.pass_other(cell)
+    }
+
+    // The same where nothing of the cell has to be listed.
+    #[inline(always)]
+    fn pass_plain(&mut self, cell: CellId) -> Result<(), Memory>
+        requires there { 0 < cell.0 }
+        requires is_plain { HasOwn self.old.machine plain }
+        ensures ends { OnOk result (CellPassed cell.0 self.old self.new) }
+    {
+        self.cells.keep_plain(cell)?;
+        Ok(())
+    }
+
+    // The same where something of it may have to be.
+    #[inline(never)]
+    fn pass_other(&mut self, cell: CellId) -> Result<(), Memory>
+        requires there { 0 < cell.0 }
+        ensures ends { OnOk result (CellPassed cell.0 self.old self.new) }
+    {
+        let kept = kept_home(&self.machine);
+        self.keep_cell(cell, kept)?;
+        Ok(())
     }
 
     /// Keeps the root that is a reference pointer, and its referent, whose value was read; its pointers become pending. It takes memory, and out of memory is
@@ -53,7 +90,8 @@ impl Stream {
         let Ok(()) = self.roots.push(root) else {
             return Err(DecodeFault::Memory);
         };
-        self.settle()
+        self.settle()?;
+        Ok(())
     }
 }
 

@@ -2,12 +2,15 @@
 //! need of the roots and cells that were read.
 #![tactic(auto)]
 
+mod cells;
 mod ending;
 pub mod laws;
 mod looking;
 mod opening;
 mod parameters;
 mod pending;
+mod room;
 mod stream;
 
+pub use cells::KeptCells;
 pub use stream::Stream;

@@ -9,7 +9,7 @@ ghost use Rattle.ndr_stream.specs.Between.{Begins, Opens};
 ghost use Rattle.ndr_kept.specs.Ends.{with_reference};
 ghost use Rattle.ndr_kept.specs.Seen.{between_of, KeepsAll};
 
-use crate::Stream;
+use crate::{KeptCells, Stream};
 use nd_base::{Ledger, Steps};
 use nd_flat::{Builder, Seen};
 use nd_types::TypeId;
@@ -33,7 +33,7 @@ impl Stream {
             wanted: Vec::new(alloc),
             todo: Vec::new(alloc),
             roots: Vec::new(alloc),
-            cells: Vec::new(alloc),
+            cells: KeptCells::new(alloc),
         }
     }
 
@@ -54,6 +54,7 @@ impl Stream {
     }
 
     /// Opens a cell that has its number, whose value begins at a run. Takes no memory.
+    #[inline(always)]
     pub fn open_cell(&mut self, cell: CellId, run: u32)
         requires whole { CanClose self.old.machine.builder }
         requires there { (0 < cell.0) × (cell.0 ≤ length self.old.machine.builder.graph.cells) }
@@ -105,6 +106,7 @@ fn add_root(machine: &mut Machine) -> Result<(), DecodeFault>
 }
 
 // Opens a cell.
+#[inline(always)]
 fn fill(machine: &mut Machine, cell: CellId)
     requires whole { CanClose machine.old.builder }
     requires there { (0 < cell.0) × (cell.0 ≤ length machine.old.builder.graph.cells) }

@@ -1,28 +1,107 @@
 // Pending referents.
-ghost use Rattle.std.specs.Prelude.{◌≡◌, ◌≤◌, ◌+◌, ◌++◌, ◌∷◌, length, OnOk, IfErr};
+ghost use Rattle.std.specs.Prelude.{◌≡◌, ◌≤◌, ◌<◌, ◌+◌, ◌++◌, ◌∷◌, [], length, reverse, OnOk};
 ghost use Rattle.ndr_state.specs.Seen.{owed_of, state_of};
-ghost use Rattle.ndr_state.specs.declared.fault.DecodeFault.TheVariants as fault;
 ghost use Rattle.ndr_kept.specs.Seen.{AreSpans, IsCleared, KeepsHomes, pending_in};
 
 use crate::Stream;
-use ndr_state::{DecodeFault, Machine, Owed, Wanted};
+use crate::room::make_room;
+use nd_base::{Memory, push};
+use ndr_state::{Machine, Owed, Wanted};
+use std::mem;
 
 impl Stream {
     /// The pointers of the home that was read become pending, before the others: the first of them is the next. It takes memory, and out of memory is the
     /// only refusal.
-    pub fn settle(&mut self) -> Result<(), DecodeFault>
+    #[inline(always)]
+    pub fn settle(&mut self) -> Result<(), Memory>
         ensures pending { OnOk result (pending_in self.new.wanted.items self.new.todo.items ≡ (state_of self.old.machine).fresh ++ pending_in self.old.wanted.items self.old.todo.items) }
         ensures cleared { OnOk result (IsCleared self.old.machine self.new.machine) }
         ensures homes { KeepsHomes self.old self.new }
-        ensures memory { IfErr result (λ e. e ≡ fault.Memory) }
     {
+        if self.machine.fresh.as_slice().len() < 2 && self.machine.wanted.as_slice().len() == 0 {
+            return self.settle_one();
+        }
+        self.settle_all()
+    }
+
+    /// Does what `settle` does. Where the list of what is kept of cells is full, it first makes room for what so many octets at hand will give, if memory has it.
+    #[inline(always)]
+    pub fn settle_ahead(&mut self, ahead: usize) -> Result<(), Memory>
+        ensures pending { OnOk result (pending_in self.new.wanted.items self.new.todo.items ≡ (state_of self.old.machine).fresh ++ pending_in self.old.wanted.items self.old.todo.items) }
+        ensures cleared { OnOk result (IsCleared self.old.machine self.new.machine) }
+        ensures homes { KeepsHomes self.old self.new }
+    {
+        if self.cells.is_full() {
+            return self.settle_with_room(ahead);
+        }
+        self.settle()
+    }
+
+    // The same where that list is full.
+    #[cold]
+    #[inline(never)]
+    fn settle_with_room(&mut self, ahead: usize) -> Result<(), Memory>
+        ensures pending { OnOk result (pending_in self.new.wanted.items self.new.todo.items ≡ (state_of self.old.machine).fresh ++ pending_in self.old.wanted.items self.old.todo.items) }
+        ensures cleared { OnOk result (IsCleared self.old.machine self.new.machine) }
+        ensures homes { KeepsHomes self.old self.new }
+    {
+        make_room(&mut self.machine, &mut self.cells, ahead);
+        self.settle()?;
+        Ok(())
+    }
+
+    // The pointer of a home that has one at most, and no agreements, becomes the next of the pending referents.
+    #[inline(always)]
+    fn settle_one(&mut self) -> Result<(), Memory>
+        requires few { length self.old.machine.fresh.items < 2 }
+        requires none { self.old.machine.wanted.items ≡ [] }
+        ensures pending { OnOk result (pending_in self.new.wanted.items self.new.todo.items ≡ (state_of self.old.machine).fresh ++ pending_in self.old.wanted.items self.old.todo.items) }
+        ensures cleared { OnOk result (IsCleared self.old.machine self.new.machine) }
+        ensures homes { KeepsHomes self.old self.new }
+    {
+        let Some(owed) = self.machine.fresh.pop() else {
+            return Ok(());
+        };
+        push(&mut self.todo, owed)?;
+        Ok(())
+    }
+
+    // The pointers of any home become pending.
+    #[inline(never)]
+    fn settle_all(&mut self) -> Result<(), Memory>
+        ensures pending { OnOk result (pending_in self.new.wanted.items self.new.todo.items ≡ (state_of self.old.machine).fresh ++ pending_in self.old.wanted.items self.old.todo.items) }
+        ensures cleared { OnOk result (IsCleared self.old.machine self.new.machine) }
+        ensures homes { KeepsHomes self.old self.new }
+    {
+        if self.todo.as_slice().len() == 0 {
+            self.hand_over();
+            return Ok(());
+        }
         defer_all(&mut self.wanted, &mut self.todo, &self.machine)?;
         forget(&mut self.machine);
         Ok(())
     }
+
+    // Where nothing is pending, the pointers of the home are all that is: their lists are handed over.
+    #[inline(always)]
+    fn hand_over(&mut self)
+        requires none { self.old.todo.items ≡ [] }
+        ensures pending { pending_in self.new.wanted.items self.new.todo.items ≡ (state_of self.old.machine).fresh }
+        ensures cleared { IsCleared self.old.machine self.new.machine }
+        ensures homes { KeepsHomes self.old self.new }
+    {
+        take_over(
+            &mut self.wanted,
+            &mut self.todo,
+            &mut self.machine.wanted,
+            &mut self.machine.fresh,
+        );
+        forget(&mut self.machine);
+    }
 }
 
 // The pointers of the home are forgotten.
+#[inline(always)]
 fn forget(machine: &mut Machine)
     ensures { IsCleared machine.old machine.new }
 {
@@ -30,16 +109,32 @@ fn forget(machine: &mut Machine)
     machine.wanted.clear();
 }
 
+// The list of the pointers of a home, turned round, and that of their agreements change places with those of what is pending.
+#[inline(always)]
+fn take_over(
+    wanted: &mut Vec<Wanted>,
+    todo: &mut Vec<Owed>,
+    from: &mut Vec<Wanted>,
+    fresh: &mut Vec<Owed>,
+)
+    ensures wanted { wanted.new.items ≡ from.old.items }
+    ensures todo { todo.new.items ≡ reverse fresh.old.items }
+    ensures fresh { fresh.new.items ≡ todo.old.items }
+{
+    mem::swap(wanted, from);
+    mem::swap(todo, fresh);
+    todo.reverse();
+}
+
 // The pointers of a home become pending, the last first.
 fn defer_all(
     wanted: &mut Vec<Wanted>,
     todo: &mut Vec<Owed>,
     machine: &Machine,
-) -> Result<(), DecodeFault>
+) -> Result<(), Memory>
     requires spans { AreSpans wanted.old.items todo.old.items }
     ensures pending { OnOk result (pending_in wanted.new.items todo.new.items ≡ (state_of machine.now).fresh ++ pending_in wanted.old.items todo.old.items) }
     ensures still { AreSpans wanted.new.items todo.new.items }
-    ensures memory { IfErr result (λ e. e ≡ fault.Memory) }
 {
     let count = machine.fresh.as_slice().len();
     for at in 0..count {
@@ -55,16 +150,15 @@ fn defer(
     todo: &mut Vec<Owed>,
     from: &[Wanted],
     owed: Owed,
-) -> Result<(), DecodeFault>
+) -> Result<(), Memory>
     requires spans { AreSpans wanted.old.items todo.old.items }
     requires within { owed.from + owed.len ≤ length from.now }
     ensures pending { OnOk result (pending_in wanted.new.items todo.new.items ≡ owed_of from.now owed ∷ pending_in wanted.old.items todo.old.items) }
     ensures still { AreSpans wanted.new.items todo.new.items }
-    ensures memory { IfErr result (λ e. e ≡ fault.Memory) }
 {
     let start = wanted.as_slice().len();
     let Ok(()) = wanted.extend_from_slice(&from[owed.from..owed.from + owed.len]) else {
-        return Err(DecodeFault::Memory);
+        return Err(Memory);
     };
     let next = Owed {
         class: owed.class,
@@ -75,7 +169,7 @@ fn defer(
         len: owed.len,
     };
     let Ok(()) = todo.push(next) else {
-        return Err(DecodeFault::Memory);
+        return Err(Memory);
     };
     Ok(())
 }

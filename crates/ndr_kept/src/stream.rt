@@ -3,8 +3,9 @@ ghost use Rattle.std.specs.Prelude.{◌≤◌, ◌+◌, length};
 ghost use Rattle.std.specs.List.{AllByRecursion};
 ghost use Rattle.ndr_state.specs.Small.{AreWithin-prop};
 
+use crate::KeptCells;
 use ndr_state::{Machine, Owed, Wanted};
-use ndr_stream::{Kept, KeptRoot};
+use ndr_stream::KeptRoot;
 
 /// What is kept of a stream that is being decoded.
 #[derive(Drop)]
@@ -19,5 +20,5 @@ pub struct Stream {
     /// What is kept of the roots that were read.
     pub roots: Vec<KeptRoot>,
     /// What is kept of the cells that were read, by their numbers less one.
-    pub cells: Vec<Option<Kept>>,
+    pub cells: KeptCells,
 }

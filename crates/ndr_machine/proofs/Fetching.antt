@@ -42,7 +42,7 @@ pub gap_fetched : (w : Want) (n at : ℕ) (s : SourceSeen) (os : List ℕ) (r : 
     → IfErr r (IsGapFault s at n os) → Fetches w at s os (stream_answer r)
 gap_fetched w n at s os (Ok u) e all fault = gap_came w n at os e all
 gap_fetched w n at s os (Err intake.Memory) e all fault = tt
-gap_fetched w n at s os (Err intake.ReadFault) e all fault = fault.why
+gap_fetched w n at s os (Err intake.ReadFault) e all fault = (gap_cut w n at os e fault.fewer, fault.why)
 gap_fetched w n at s os (Err intake.TooLong) e all fault = absurd fault.why
 gap_fetched w n at s os (Err (intake.Truncated place)) e all fault =
     (gap_cut w n at os e fault.fewer, (fault.why.there, (fault.why.ended, fault.why.none_left)))
@@ -75,25 +75,34 @@ item_long (item_of m) n at s os e fault =
     let past : STREAM_LIMIT < at + n = fault.past in
     (omega (arith, z, past), (fault.none, refl))
 
--- a source that has ended did so within the limit
-ended_within : (n at place : ℕ) → (r : Result (Unit {0}) IntakeFault) → r ≡ Err (intake.Truncated place) → (STREAM_LIMIT < at + n → IsErrOf r intake.TooLong) → at + n ≤ STREAM_LIMIT
-ended_within n at place r is long = by_test (cases_lt STREAM_LIMIT (at + n))
+-- a source that has ended or failed did so within the limit
+ended_within : (n at : ℕ) → (r : Result (Unit {0}) IntakeFault) → (IsErrOf r intake.TooLong → ⊥) → (STREAM_LIMIT < at + n → IsErrOf r intake.TooLong) → at + n ≤ STREAM_LIMIT
+ended_within n at r other long = by_test (cases_lt STREAM_LIMIT (at + n))
   where
-    other : (a : Result (Unit {0}) IntakeFault) → a ≡ Err (intake.Truncated place) → a ≡ Err intake.TooLong → ⊥
-    other a e f = cc
-
     by_test : (STREAM_LIMIT < at + n) ⊎ (at + n ≤ STREAM_LIMIT) → at + n ≤ STREAM_LIMIT
-    by_test (inl past) = absurd (other r is (long past))
+    by_test (inl past) = absurd (other (long past))
     by_test (inr within) = within
+
+abbrev truncated : ℕ → Result (Unit {0}) IntakeFault
+truncated place = Err (intake.Truncated place)
+
+abbrev failed : Result (Unit {0}) IntakeFault
+failed = Err intake.ReadFault
+
+is_truncated : (place : ℕ) → IsErrOf (truncated place) intake.TooLong → ⊥
+is_truncated place e = cc
+
+is_failed : IsErrOf failed intake.TooLong → ⊥
+is_failed e = cc
 
 pub item_fetched : (w : Want) (n at : ℕ) (s : SourceSeen) (os : List ℕ) (r : Result (Unit {0}) IntakeFault) → Wants w (want.Item n) → IfOk r (λ _. length os ≡ n)
     → IfOk r (λ _. at + n ≤ STREAM_LIMIT) → (STREAM_LIMIT < at + n → IsErrOf r intake.TooLong) → IfErr r (IsItemFault s at n os) → Fetches w at s os (stream_answer r)
 item_fetched w n at s os (Ok u) e all within long fault = item_came w n at os e all within
 item_fetched w n at s os (Err intake.Memory) e all within long fault = tt
-item_fetched w n at s os (Err intake.ReadFault) e all within long fault = fault.why
+item_fetched w n at s os (Err intake.ReadFault) e all within long fault = (item_cut w n at os e fault.fewer (ended_within n at failed is_failed long), fault.why)
 item_fetched w n at s os (Err intake.TooLong) e all within long fault = item_long w n at s os e fault
 item_fetched w n at s os (Err (intake.Truncated place)) e all within long fault =
-    (item_cut w n at os e fault.fewer (ended_within n at place (Err (intake.Truncated place)) refl long), (fault.why.there, (fault.why.ended, fault.why.none_left)))
+    (item_cut w n at os e fault.fewer (ended_within n at (truncated place) (is_truncated place) long), (fault.why.there, (fault.why.ended, fault.why.none_left)))
 
 -- ## Places
 

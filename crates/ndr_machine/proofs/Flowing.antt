@@ -1,6 +1,6 @@
 -- Steps that read and note nothing: what a turn comes to.
 -- `m` is the machine before, `m1` the one after, `s` the state before.
-use Rattle.std.proofs.Common.{◌≡◌, ℕ, true, false, List, [], length, Some, Result, Ok, Err, IsErrAnd, refl, sym, subst}
+use Rattle.std.proofs.Common.{◌≡◌, ℕ, true, false, List, [], length, Some, Result, Ok, Err, IsErrAnd, refl, sym, ap, subst}
 use Rattle.std.specs.Prelude.{eqb, slice_get}
 use Rattle.std.proofs.lemmas.Bool.{eqb-true}
 use Rattle.std.specs.Io.KnownBytes.{Consumes}
@@ -13,12 +13,14 @@ use Rattle.nd_grammar.specs.Entry.{gap}
 use Rattle.ndr_code.specs.declared.instr.Instr.{Instr}
 use Rattle.ndr_code.specs.declared.instr.Instr.TheVariants as op
 use Rattle.ndr_code.specs.declared.lists.EnumList.{EnumList}
-use Rattle.ndr_steps.specs.Steps.{State, wants, step}
+use Rattle.ndr_steps.specs.declared.frame.Frame.TheVariants as frame
+use Rattle.ndr_steps.specs.Steps.{State, back_to, wants, step}
 use Rattle.ndr_steps.specs.StepItems.{step_items}
 use Rattle.ndr_steps.specs.Good.{HasOctets}
 use Rattle.ndr_state.specs.declared.fault.DecodeFault.{DecodeFault}
 use Rattle.ndr_state.specs.declared.fault.DecodeFault.TheVariants as fault
 use Rattle.ndr_state.specs.declared.fault.Progress.{Progress}
+use Rattle.ndr_state.specs.declared.fault.Progress.TheVariants as progress
 use Rattle.ndr_state.specs.declared.machine.Machine.{Machine}
 use Rattle.ndr_state.specs.Seen.{state_of, Comes}
 use Rattle.ndr_state.specs.Notes.{notes_seen, Noted}
@@ -71,3 +73,7 @@ module _ (values : List EnumList) (order : Order) (code : List Instr) (h : Home)
   pub flow_stopped : (r : Result Progress DecodeFault) → IsErrAnd r (λ y. y ≡ fault.Memory)
       → Turns values order code h (state_of m) source (notes_seen log log steps steps m.cells m1.cells) (state_of m1) r
   flow_stopped r err = one_stopped values order code h m source i [] there tt left log steps m1 fault.Memory r tt err
+
+-- the end of a home's value
+pub home_over : (s : State) → s.top ≡ frame.Home → FlowComes op.Ret s progress.Whole s
+home_over s e values order = ap (λ t. back_to t s) e

@@ -1,5 +1,4 @@
 mod Agreements
-mod Zeros
 mod Searches
 mod Pending
 mod Outcomes
@@ -13,6 +12,7 @@ mod Fetching
 mod Turning
 mod RowTurns
 mod Looping
+mod Leaping
 mod Wanted
 mod Owing
 mod Tagged

@@ -1,6 +1,6 @@
 -- The loop over turns: what it keeps, and what it comes to.
 -- `h` is the home at the beginning, `h1` the one before a turn, which is the same; `m` is what came before the turn, `r` what the turn answers.
-use Rattle.std.proofs.Common.{◌≡◌, ◌<◌, ◌≤◌, ℕ, List, ◌++◌, length, Option, Some, Result, Ok, Err, refl, sym, subst}
+use Rattle.std.proofs.Common.{◌≡◌, ◌<◌, ◌≤◌, ℕ, List, ◌++◌, length, Option, Some, Result, Ok, Err, OnOk, refl, sym, ◌∙◌, subst}
 use Rattle.std.specs.Prelude.{slice_get, Bool}
 use Rattle.nd_base.specs.declared.octets.Order.{Order}
 use Rattle.nd_base.specs.Over.{SourceSeen}
@@ -16,12 +16,18 @@ use Rattle.ndr_state.specs.declared.fault.DecodeFault.{DecodeFault}
 use Rattle.ndr_state.specs.declared.fault.Progress.{Progress}
 use Rattle.ndr_state.specs.declared.fault.Progress.TheVariants as progress
 use Rattle.ndr_state.specs.Notes.{NotesSeen, notes_seen}
+use Rattle.ndr_state.specs.Seen.{Outside}
 use Rattle.ndr_machine.specs.Reaching.{Moves, EndsWhole, EndsFault, Turns, Ends}
 use Rattle.ndr_machine.proofs.Moving.{source, moves_on, whole_on, fault_on}
 
 -- every state that is reached is safe
 abbrev pub AllSafe : List EnumList → Order → List Instr → Home → State → Type 0
 AllSafe values order code h s0 = (fetched : List ℕ) (noted : List Item) (s : State) → Reaches values order code h s0 fetched noted s → IsSafe code s
+
+-- what is outside stays, if there is an answer
+pub stays_on : {T E : Type 0} (r : Result T E) (x y z : Outside) → OnOk r (x ≡ y) → y ≡ z → OnOk r (x ≡ z)
+stays_on (Ok t) x y z e f = e ∙ f
+stays_on (Err e) x y z _ _ = tt
 
 -- and from where the turn begins
 pub still_safe : {values : List EnumList} {order : Order} {code : List Instr} {h h1 : Home} {src : SourceSeen} {n : NotesSeen} {s0 s1 : State} → Moves values order code h s0 src n s1 → h1 ≡ h

@@ -25,7 +25,7 @@ use Rattle.ndr_state.specs.declared.fault.DecodeFault.TheVariants as fault
 use Rattle.ndr_state.specs.declared.fault.Progress.{Progress}
 use Rattle.ndr_state.specs.declared.fault.Progress.TheVariants as progress
 use Rattle.ndr_state.specs.Notes.{NotesSeen, notes_seen, all_noted, ticks}
-use Rattle.ndr_machine.specs.Reaching.{IsLogged, IsLoggedPart, Moves, End, EndsWhole, EndsBad, EndsCutOff, EndsFault, Turns, Ends}
+use Rattle.ndr_machine.specs.Reaching.{IsLogged, IsLoggedPart, Moves, End, EndsWhole, EndsBad, EndsUnread, EndsCutOff, EndsFault, Turns, Ends}
 
 -- ## Items
 
@@ -115,6 +115,10 @@ module _ (values : List EnumList) (order : Order) (code : List Instr) (h : Home)
   bad_on s0 s1 s2 m place _ w =
       (end_on s0 s1 m w.0, (w.1.0, (w.1.1.0, logged_on m.noted w.0.noted s0 s1 w.0.s m.logged w.1.1.1)))
 
+  unread_on : (s0 s1 s2 : State) → Moved s0 s1 → EndsUnread values order code h s1 (source l1 l2 e2 f1 f2) later_notes s2
+      → EndsUnread values order code h s0 (source l0 l2 e2 f0 f2) all_notes s2
+  unread_on s0 s1 s2 m w = (end_on s0 s1 m w.0, (w.1.0, logged_on m.noted w.0.noted s0 s1 w.0.s m.logged w.1.1))
+
   cut_on : (s0 s1 s2 : State) → Moved s0 s1 → EndsCutOff values order code h s1 (source l1 l2 e2 f1 f2) later_notes s2
       → EndsCutOff values order code h s0 (source l0 l2 e2 f0 f2) all_notes s2
   cut_on s0 s1 s2 m w = (end_on s0 s1 m w.0, part_on m.noted w.0.noted s0 s1 w.0.s m.logged w.1)
@@ -122,7 +126,7 @@ module _ (values : List EnumList) (order : Order) (code : List Instr) (h : Home)
   pub fault_on : (s0 s1 s2 : State) → Moved s0 s1 → f0 ≤ f1 → (e : DecodeFault) → EndsFault values order code h s1 (source l1 l2 e2 f1 f2) later_notes s2 e
       → EndsFault values order code h s0 (source l0 l2 e2 f0 f2) all_notes s2 e
   fault_on s0 s1 s2 m later (fault.Bad place why) w = bad_on s0 s1 s2 m place why w
-  fault_on s0 s1 s2 m later fault.ReadFault w = (cut_on s0 s1 s2 m w.0, rose_later f0 f1 f2 later w.1)
+  fault_on s0 s1 s2 m later fault.ReadFault w = (unread_on s0 s1 s2 m w.0, rose_later f0 f1 f2 later w.1)
   fault_on s0 s1 s2 m later fault.Memory w = cut_on s0 s1 s2 m w
 
 -- ## The beginning of a run, and where it is given up

@@ -1,7 +1,6 @@
 -- Pointers: the node, the pending referent, and a cell that gets its number.
 -- `s` is a state, `ws` are agreements, `os` pending referents, `b` is what was built.
-use Rattle.std.proofs.Common.{◌≡◌, ◌≤◌, ◌<◌, ℕ, ◌+◌, Bool, true, false, List, [], ◌∷◌, ◌++◌, length, take, drop, map, Option, Some, None, refl, sym, ap, ◌∙◌, subst, arith, length-append}
-use Rattle.std.specs.Prelude.{if◌then◌else◌}
+use Rattle.std.proofs.Common.{◌≡◌, ◌≤◌, ◌<◌, ℕ, ◌+◌, Bool, true, false, List, [], ◌∷◌, ◌++◌, length, take, drop, map, Option, Some, None, Result, Ok, Err, OnOk, OnErr, refl, sym, ap, ◌∙◌, subst, arith, length-append}
 use Rattle.std.specs.List.{AllByRecursion}
 use Rattle.std.proofs.lemmas.List.{map-append}
 use Rattle.nd_types.specs.declared.types.Class.{Class}
@@ -65,11 +64,11 @@ spans_more ws os new class to run cell e h =
     joined [] h = (omega arith, tt)
     joined (o ∷ os) h = (h.0, joined os h.1)
 
-pub spans_pushed : (ws : List Wanted) (os new : List Owed) (class : Class) (to : TypeId) (run : ℕ) (cell : Option CellId) (b : Bool)
-    → new ≡ (if b then os ++ new_owed class to run cell ∷ [] else os)
+pub spans_pushed : {T E : Type 0} (ws : List Wanted) (os new : List Owed) (class : Class) (to : TypeId) (run : ℕ) (cell : Option CellId) (r : Result T E)
+    → OnOk r (new ≡ os ++ new_owed class to run cell ∷ []) → OnErr r (new ≡ os)
     → AllByRecursion (λ (o : Owed). o.from + o.len ≤ length ws) os → AllByRecursion (λ (o : Owed). o.from + o.len ≤ length ws) new
-spans_pushed ws os new class to run cell true e h = spans_more ws os new class to run cell e h
-spans_pushed ws os new class to run cell false e h = subst (AllByRecursion (λ (o : Owed). o.from + o.len ≤ length ws)) (sym e) h
+spans_pushed ws os new class to run cell (Ok t) ok err h = spans_more ws os new class to run cell ok h
+spans_pushed ws os new class to run cell (Err e) ok err h = subst (AllByRecursion (λ (o : Owed). o.from + o.len ≤ length ws)) (sym err) h
 
 -- ## A cell that gets its number
 

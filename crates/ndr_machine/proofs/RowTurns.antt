@@ -254,21 +254,24 @@ module _ (values : List EnumList) (order : Order) (code : List Instr) (h : Home)
       cut_off : EndsCutOff values order code h s0 source n s1
       cut_off = let counted : n.steps_now + length s0.cells ≡ n.steps + ticks (row_noted m front) + length (due m front).cells = logged.1 in (stopped, (log, omega (arith, counted)))
 
-      pub row_stopped : length os < count * width p → length os - m * width p < width p → m * width p + width p ≤ count * width p → (e : DecodeFault)
-          → Fetches (item_of (count * width p)) s0.at source os (Err e) → EndsFault values order code h s0 source n s1 e
-      row_stopped fewer rest next (fault.Bad place reason.TooLong) f = let past : STREAM_LIMIT < s0.at + count * width p = f.0 in absurd (omega (arith, past, within))
-      row_stopped fewer rest next (fault.Bad place reason.Truncated) f =
+      -- so the next number is cut short
+      cut_short : length os - m * width p < width p → m * width p + width p ≤ count * width p → IsCut (wants values stopped.i stopped.s) stopped.os stopped.s.at
+      cut_short rest next =
           let w_is : width (prim_of of.0) ≡ width p = ap width is in
           let left_size : length (drop (m * width p) os) ≡ length os - m * width p = length-drop (m * width p) os in
           let at_is : (due m front).at ≡ s0.at + length front = due_at m front size in
           let front_size : length front ≡ m * width p = size in
-          let place_is : place ≡ s0.at + length os = f.1.0 in (
-            stopped,
-            (
-              (omega (arith, w_is, left_size, rest), omega (arith, w_is, at_is, front_size, next, within)),
-              (omega (arith, place_is, at_is, front_size, left_size, fit), (f.1.1.0, (f.1.1.1, logged))),
-            ),
-          )
+          (omega (arith, w_is, left_size, rest), omega (arith, w_is, at_is, front_size, next, within))
+
+      pub row_stopped : length os < count * width p → length os - m * width p < width p → m * width p + width p ≤ count * width p → (e : DecodeFault)
+          → Fetches (item_of (count * width p)) s0.at source os (Err e) → EndsFault values order code h s0 source n s1 e
+      row_stopped fewer rest next (fault.Bad place reason.TooLong) f = let past : STREAM_LIMIT < s0.at + count * width p = f.0 in absurd (omega (arith, past, within))
+      row_stopped fewer rest next (fault.Bad place reason.Truncated) f =
+          let left_size : length (drop (m * width p) os) ≡ length os - m * width p = length-drop (m * width p) os in
+          let at_is : (due m front).at ≡ s0.at + length front = due_at m front size in
+          let front_size : length front ≡ m * width p = size in
+          let place_is : place ≡ s0.at + length os = f.1.0 in
+          (stopped, (cut_short rest next, (omega (arith, place_is, at_is, front_size, left_size, fit), (f.1.1.0, (f.1.1.1, logged)))))
       row_stopped fewer rest next (fault.Bad place _) f = absurd f
-      row_stopped fewer rest next fault.ReadFault f = (cut_off, f)
+      row_stopped fewer rest next fault.ReadFault f = ((stopped, (cut_short rest next, logged)), f.1)
       row_stopped fewer rest next fault.Memory f = cut_off

@@ -15,7 +15,6 @@ use Rattle.nd_grammar.specs.Refusal.{is_enumerator as is_one_of}
 use Rattle.ndr_code.specs.declared.lists.EnumList.{EnumList}
 use Rattle.ndr_code.specs.Lines.{enumerators}
 use Rattle.ndr_steps.specs.Steps.{form_by, prim_of}
-use Rattle.ndr_machine.specs.Parts.{first_zero}
 
 -- ## Lists from a place on
 
@@ -82,14 +81,3 @@ module _ (z : ℤ) where
   pub any_next : (vs : List ℤ) (i : ℕ) (v : ℤ) → slice_get vs i ≡ Some v → int_eq z v ≡ false
       → list_any (int_eq z) (drop i vs) ≡ list_any (int_eq z) (drop (i + 1) vs)
   any_next vs i v e h = ap (list_any (int_eq z)) (drop-get vs i v e) ∙ ap (λ b. b || list_any (int_eq z) (drop (i + 1) vs)) h
-
--- ## The first zero
-
-pub zero_here : (os : List ℕ) (i b : ℕ) → slice_get os i ≡ Some b → eqb b 0 ≡ true → first_zero (drop i os) ≡ 0
-zero_here os i b there h = ap first_zero (drop-get os i b there) ∙ ap (λ (t : Bool). if t then 0 else first_zero (drop (i + 1) os) + 1) h
-
-pub zero_next : (os : List ℕ) (i b : ℕ) → slice_get os i ≡ Some b → eqb b 0 ≡ false → first_zero (drop i os) ≡ first_zero (drop (i + 1) os) + 1
-zero_next os i b there h = ap first_zero (drop-get os i b there) ∙ ap (λ (t : Bool). if t then 0 else first_zero (drop (i + 1) os) + 1) h
-
-pub zero_none : (os : List ℕ) (i : ℕ) → length os ≤ i → first_zero (drop i os) ≡ 0
-zero_none os i h = ap first_zero (drop-past os i h)

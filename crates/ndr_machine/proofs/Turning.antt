@@ -45,7 +45,7 @@ module _ (values : List EnumList) (order : Order) (code : List Instr) (h : Home)
   not_fetched (fault.Bad place reason.Truncated) there octets left f same idle =
       (here there octets left, (f.0, (f.1.0, (f.1.1.0, (f.1.1.1, nothing_logged same idle)))))
   not_fetched (fault.Bad place _) there octets left f same idle = absurd f
-  not_fetched fault.ReadFault there octets left f same idle = ((here there octets left, nothing_counted same (omega (arith, idle))), f)
+  not_fetched fault.ReadFault there octets left f same idle = ((here there octets left, (f.0, nothing_logged same idle)), f.1)
   not_fetched fault.Memory there octets left f same idle = (here there octets left, nothing_counted same (omega (arith, idle)))
 
   -- where they came

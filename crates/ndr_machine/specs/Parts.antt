@@ -88,11 +88,6 @@ abbrev pub TextWanted : Phase → ℕ → Type 0
 TextWanted (count_read c) n = n ≡ c + 1
 TextWanted _ n = n ≡ 4
 
--- the first zero among octets is at this place; their number where none is
-abbrev pub first_zero : List ℕ → ℕ
-first_zero [] = 0
-first_zero (b ∷ bs) = if eqb b 0 then 0 else first_zero bs + 1
-
 -- ## Agreements
 
 -- the place of an actual count, and of a tag

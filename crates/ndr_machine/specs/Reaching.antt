@@ -31,7 +31,7 @@ use Rattle.ndr_state.specs.Notes.{NotesSeen, all_noted, ticks}
 abbrev pub IsLogged : List Item → State → State → NotesSeen → Type 0
 IsLogged noted s0 s n = (n.log_now ≡ all_noted noted n.log) × (n.steps_now + length s0.cells ≡ n.steps + ticks noted + length s.cells)
 
--- the same where memory or the source failed: fewer may be counted
+-- the same where memory failed: fewer may be counted
 abbrev pub IsLoggedPart : List Item → State → State → NotesSeen → Type 0
 IsLoggedPart noted s0 s n = (n.log_now ≡ all_noted noted n.log) × (n.steps_now + length s0.cells ≤ n.steps + ticks noted + length s.cells)
 
@@ -73,13 +73,17 @@ module _ (values : List EnumList) (order : Order) (code : List Instr) (h : Home)
       (e : End values order code h s0 source)
       × (HasOctets (wants values e.i e.s) e.os e.s.at × ((step values order e.os e.i e.s ≡ refused place why) × IsLogged e.noted s0 e.s notes))
 
-  -- at a failure of the source or of memory it has come through some steps
+  -- where the source failed, the octets of the next step are not all there
+  abbrev pub EndsUnread : Type 0
+  EndsUnread = (e : End values order code h s0 source) × (IsCut (wants values e.i e.s) e.os e.s.at × IsLogged e.noted s0 e.s notes)
+
+  -- where memory failed, it has come through some steps
   abbrev pub EndsCutOff : Type 0
   EndsCutOff = (e : End values order code h s0 source) × IsLoggedPart e.noted s0 e.s notes
 
   abbrev pub EndsFault : DecodeFault → Type 0
   EndsFault (fault.Bad place why) = EndsBad place why
-  EndsFault fault.ReadFault = EndsCutOff × HasRisen source.faults
+  EndsFault fault.ReadFault = EndsUnread × HasRisen source.faults
   EndsFault fault.Memory = EndsCutOff
 
   -- what one turn comes to, which is a step, or the steps of a row of numbers
@@ -104,7 +108,7 @@ stream_answer (Err (intake.Truncated place)) = Err (fault.Bad place reason.Trunc
 -- ## Octets of one step
 
 -- What fetching the octets that a step wants at a place comes to, where `os` are those that came: they would end past the limit of a stream, or the source
--- has ended before the last of them.
+-- has ended, or failed, before the last of them.
 abbrev pub FetchesBad : Want → ℕ → SourceSeen → List ℕ → ℕ → Reason → Type 0
 FetchesBad w at source os place reason.TooLong = IsTooLong w at × ((os ≡ []) × (place ≡ STREAM_LIMIT))
 FetchesBad w at source os place reason.Truncated = IsCut w os at × ((place ≡ at + length os) × ((source.ended ≡ true) × IsAtEnd source.left_now))
@@ -113,5 +117,5 @@ FetchesBad w at source os place why = ⊥
 abbrev pub Fetches : Want → ℕ → SourceSeen → List ℕ → Result (Unit {0}) DecodeFault → Type 0
 Fetches w at source os (Ok u) = HasOctets w os at
 Fetches w at source os (Err (fault.Bad place why)) = FetchesBad w at source os place why
-Fetches w at source os (Err fault.ReadFault) = HasRisen source.faults
+Fetches w at source os (Err fault.ReadFault) = IsCut w os at × HasRisen source.faults
 Fetches w at source os (Err fault.Memory) = Unit {0}

@@ -1,8 +1,10 @@
 // Runs of numbers of one primitive, fetched and built in one go.
-ghost use Rattle.std.specs.Prelude.{◌≡◌, ◌<◌, ◌≤◌, ◌+◌, ◌-◌, ◌*◌, ◌%◌, ◌^◌, length, true, Some, slice_get, IfErr, OnOk};
+ghost use Rattle.std.specs.Prelude.{◌≡◌, ◌<◌, ◌≤◌, ◌+◌, ◌-◌, ◌*◌, ◌%◌, ◌^◌, length, true, Some, slice_get, IfErr, OnOk, OnErr};
 ghost use Rattle.nd_types.specs.Table.{width};
 ghost use Rattle.nd_base.specs.declared.TheConstants.{STREAM_LIMIT};
 ghost use Rattle.ndr_intake.specs.declared.TheConstants.{PIECE};
+ghost use Rattle.nd_flat.specs.Building.{with_numbers};
+ghost use Rattle.nd_flat.specs.FlatForm.{IsRow, row_numbers};
 ghost use Rattle.ndr_code.specs.declared.instr.Instr.TheVariants as op;
 ghost use Rattle.ndr_steps.specs.Steps.{goes};
 ghost use Rattle.ndr_state.specs.declared.fault.DecodeFault.TheVariants as fault;
@@ -11,8 +13,8 @@ ghost use Rattle.ndr_runs.specs.Rows.{row_read, HasLeft, with_fewer, IsNumberRun
 ghost use Rattle.ndr_state.specs.Notes.{notes_seen};
 ghost use Rattle.ndr_machine.specs.Notes.{RowNoted};
 
-use nd_base::{Ledger, Order, STREAM_LIMIT, Steps};
-use nd_flat::Row;
+use nd_base::{Ledger, Memory, Order, STREAM_LIMIT, Steps};
+use nd_flat::{Builder, Row};
 use nd_types::{Prim, TypeId};
 use nd_value::{ItemKind, ItemLog};
 use ndr_code::Instr;
@@ -43,13 +45,14 @@ pub fn row_len(machine: &Machine, code: &[Instr], prim: Prim) -> u32
 }
 
 /// So many numbers in a row, more than one, as `row_len` says. Each is noted and counted as one. It takes memory; after `Memory` nothing is known
-/// of the machine.
+/// of the machine. `ahead` is how many octets more are at hand: those of the same array are given room at once.
 pub fn read_row<L: Ledger>(
     machine: &mut Machine,
     order: Order,
     octets: &[u8],
     prim: Prim,
     count: u32,
+    ahead: usize,
     items: &mut ItemLog,
     steps: &mut Steps<L>,
 ) -> Result<(), DecodeFault>
@@ -70,11 +73,46 @@ pub fn read_row<L: Ledger>(
         count,
         octets,
     };
-    machine.builder.row(&row)?;
+    let room = room_for(machine, count, prim, ahead);
+    add_row(&mut machine.builder, &row, room)?;
     machine.count += count;
     machine.top = fewer_left(count - 1, machine.top);
     machine.pass(octets.len() as u32);
     Ok(())
+}
+
+// How many octets of the elements after so many may be given room: those that are at hand, unless the place in the stream shows that as many octets were kept
+// already. So the list grows by half at least where it is moved, and the time stays linear.
+fn room_for(machine: &Machine, count: u32, prim: Prim, ahead: usize) -> usize
+    requires { 0 < count }
+{
+    let Frame::Elements {
+        left,
+        run: _,
+        back: _,
+    } = machine.top
+    else {
+        return 0;
+    };
+    let more = left.saturating_sub(count - 1) as usize;
+    let room = more.saturating_mul(width_of(prim)).min(ahead);
+    if room < machine.at as usize {
+        return 0;
+    }
+    room
+}
+
+// A row, and room for so many octets after it.
+fn add_row(builder: &mut Builder, row: &Row<'_>, room: usize) -> Result<(), Memory>
+    requires whole { IsRow row.now }
+    requires some { 0 < row.now.count }
+    ensures ok { OnOk result (builder.new ≡ with_numbers (row_numbers row.now) builder.old) }
+    ensures err { OnErr result (builder.new ≡ builder.old) }
+{
+    if room > 0 {
+        builder.make_room_for_octets(room.saturating_add(row.octets.len()));
+    }
+    builder.row(row)
 }
 
 /// Notes so many numbers in a row.

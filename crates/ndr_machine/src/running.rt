@@ -1,5 +1,5 @@
 // The value of a home, from its first octet to its last.
-ghost use Rattle.std.specs.Prelude.{◌≡◌, ◌<◌, ◌≤◌, ◌^◌, ◌%◌, ◌*◌, ◌/◌, ◌+◌, ◌-◌, ℕ, List, Some, length, take, slice_get, OnOk, IfOk, IfErr};
+ghost use Rattle.std.specs.Prelude.{◌≡◌, ◌<◌, ◌≤◌, ◌^◌, ◌%◌, ◌*◌, ◌/◌, ◌+◌, ◌-◌, ℕ, true, false, List, Some, length, take, slice_get, OnOk, OnErr, IfOk, IfErr};
 ghost use Rattle.std.specs.Io.KnownBytes.{Consumes};
 ghost use Rattle.nd_base.specs.Over.{source_seen};
 ghost use Rattle.nd_base.specs.declared.TheConstants.{STREAM_LIMIT};
@@ -9,32 +9,182 @@ ghost use Rattle.nd_value.specs.declared.item.Item.{Item};
 ghost use Rattle.ndr_intake.specs.declared.TheConstants.{PIECE};
 ghost use Rattle.ndr_code.specs.declared.instr.Instr.TheVariants as op;
 ghost use Rattle.ndr_steps.specs.Steps.{State, IsInner, prim_of, wants};
+ghost use Rattle.ndr_steps.specs.declared.frame.Frame.TheVariants as frame;
 ghost use Rattle.ndr_state.specs.Seen.{state_of, outside};
 ghost use Rattle.ndr_state.specs.Notes.{notes_seen};
 ghost use Rattle.ndr_runs.specs.Reaching.{Reaches, IsSafe};
 ghost use Rattle.ndr_runs.specs.Rows.{IsInRow};
+ghost use Rattle.ndr_leaps.specs.Leaps.{Leaps};
 ghost use Rattle.ndr_state.specs.declared.fault.DecodeFault.TheVariants as fault;
 ghost use Rattle.ndr_machine.specs.Notes.{RowNoted};
+ghost use Rattle.ndr_machine.specs.Parts.{flows};
 ghost use Rattle.ndr_machine.specs.Reaching.{Ends, Turns, Fetches, stream_answer};
 
 use crate::rows::{note_row, read_row, row_len};
-use crate::steps::{Want, is_flow, take_flow, take_step, wanted};
+use crate::steps::{Want, is_flow, is_quick, take_flow, take_step, wanted};
 use nd_base::{Ledger, Order, STREAM_LIMIT, Source, Steps};
 use nd_grammar::Reason;
 use nd_types::{Prim, TypeId};
 use nd_value::ItemLog;
 use ndr_code::{EnumLists, Instr};
 use ndr_intake::{Intake, IntakeFault};
+use ndr_leaps::{gap_to, leap};
 use ndr_prim::width_of;
 use ndr_state::{DecodeFault, Machine, Progress, prim_of};
+use ndr_steps::Frame;
 
 /// Reads the value of a home from the instruction at which the machine is. Each state that the code can reach from here must be safe.
 ///
 /// At `Ok` the steps of the code have come to the end of the value. At `Bad` the last of them is refused by its octets, or its octets end past the limit
-/// of a stream, or the source has ended before the last of them. `ReadFault` is answered only if the source's count of faults rose. In each case the
-/// octets of the steps, and of those alone, were taken from the source. A row of numbers is fetched and built in one go. It takes memory for what was
-/// read; the time is linear in the steps.
+/// of a stream, or the source has ended before the last of them. `ReadFault` is answered only if the source's count of faults rose, and before the last
+/// octet of a step came. In each case the octets of the steps, and of those alone, were taken from the source. A row of numbers is fetched and built in
+/// one go. It takes memory for what was read; the time is linear in the steps.
+#[inline(always)]
 pub fn run<S: Source, L: Ledger>(
+    order: Order,
+    code: &[Instr],
+    values: &EnumLists,
+    machine: &mut Machine,
+    intake: &mut Intake,
+    source: &mut S,
+    items: &mut ItemLog,
+    steps: &mut Steps<L>,
+) -> Result<(), DecodeFault>
+    requires short { length code.now < 2 ^ 32 }
+    requires safe { (fetched : List ℕ) (noted : List Item) (s : State) → Reaches values.now order code.now machine.old.home (state_of machine.old) fetched noted s → IsSafe code.now s }
+    ensures ends { Ends values.now order code.now machine.old.home (state_of machine.old) (source_seen S.Source.left S.Source.ended S.Source.faults source.old source.new) (notes_seen items.old items.new (L.number steps.old) (L.number steps.new) machine.old.cells machine.new.cells) (state_of machine.new) result }
+    ensures outside { OnOk result (outside machine.new ≡ outside machine.old) }
+    ensures later { S.Source.faults source.old ≤ S.Source.faults source.new }
+{
+    let instr = code[machine.pc];
+    match take_lead(
+        machine, order, code, instr, values, intake, source, items, steps,
+    ) {
+        Ok(Progress::More) => run_first(order, code, values, machine, intake, source, items, steps),
+        Ok(Progress::Whole) => Ok(()),
+        Err(fault) => Err(fault),
+    }
+}
+
+// The gap before a home's value, if it is empty.
+#[inline(always)]
+fn take_lead<S: Source, L: Ledger>(
+    machine: &mut Machine,
+    order: Order,
+    code: &[Instr],
+    instr: Instr,
+    values: &EnumLists,
+    intake: &mut Intake,
+    source: &mut S,
+    items: &mut ItemLog,
+    steps: &mut Steps<L>,
+) -> Result<Progress, DecodeFault>
+    requires short { length code.now < 2 ^ 32 }
+    requires here { slice_get code.now machine.old.pc ≡ Some instr }
+    requires safe { (fetched : List ℕ) (noted : List Item) (s : State) → Reaches values.now order code.now machine.old.home (state_of machine.old) fetched noted s → IsSafe code.now s }
+    ensures turns { Turns values.now order code.now machine.old.home (state_of machine.old) (source_seen S.Source.left S.Source.ended S.Source.faults source.old source.new) (notes_seen items.old items.new (L.number steps.old) (L.number steps.new) machine.old.cells machine.new.cells) (state_of machine.new) result }
+    ensures outside { OnOk result (outside machine.new ≡ outside machine.old) }
+    ensures later { S.Source.faults source.old ≤ S.Source.faults source.new }
+{
+    if is_empty_gap(machine, instr) {
+        return take_quick(
+            machine, order, code, instr, values, intake, source, items, steps,
+        );
+    }
+    Ok(Progress::More)
+}
+
+// Whether the instruction is a gap that is empty.
+#[inline(always)]
+fn is_empty_gap(machine: &Machine, instr: Instr) -> bool
+    ensures { result ≡ true → flows instr machine.now.at ≡ true }
+{
+    match instr {
+        Instr::Align { to } => gap_to(machine.at, to) == 0,
+        _ => false,
+    }
+}
+
+// The value of a home after such a gap.
+#[inline(always)]
+fn run_first<S: Source, L: Ledger>(
+    order: Order,
+    code: &[Instr],
+    values: &EnumLists,
+    machine: &mut Machine,
+    intake: &mut Intake,
+    source: &mut S,
+    items: &mut ItemLog,
+    steps: &mut Steps<L>,
+) -> Result<(), DecodeFault>
+    requires short { length code.now < 2 ^ 32 }
+    requires safe { (fetched : List ℕ) (noted : List Item) (s : State) → Reaches values.now order code.now machine.old.home (state_of machine.old) fetched noted s → IsSafe code.now s }
+    ensures ends { Ends values.now order code.now machine.old.home (state_of machine.old) (source_seen S.Source.left S.Source.ended S.Source.faults source.old source.new) (notes_seen items.old items.new (L.number steps.old) (L.number steps.new) machine.old.cells machine.new.cells) (state_of machine.new) result }
+    ensures outside { OnOk result (outside machine.new ≡ outside machine.old) }
+    ensures later { S.Source.faults source.old ≤ S.Source.faults source.new }
+{
+    let instr = code[machine.pc];
+    match take_first(
+        machine, order, code, instr, values, intake, source, items, steps,
+    ) {
+        Ok(Progress::More) => run_on(order, code, values, machine, intake, source, items, steps),
+        Ok(Progress::Whole) => Ok(()),
+        Err(fault) => Err(fault),
+    }
+}
+
+// The steps at a home's beginning that are taken in one go, where there are such. They are all of most homes.
+#[inline(always)]
+fn take_first<S: Source, L: Ledger>(
+    machine: &mut Machine,
+    order: Order,
+    code: &[Instr],
+    instr: Instr,
+    values: &EnumLists,
+    intake: &mut Intake,
+    source: &mut S,
+    items: &mut ItemLog,
+    steps: &mut Steps<L>,
+) -> Result<Progress, DecodeFault>
+    requires short { length code.now < 2 ^ 32 }
+    requires here { slice_get code.now machine.old.pc ≡ Some instr }
+    requires safe { (fetched : List ℕ) (noted : List Item) (s : State) → Reaches values.now order code.now machine.old.home (state_of machine.old) fetched noted s → IsSafe code.now s }
+    ensures turns { Turns values.now order code.now machine.old.home (state_of machine.old) (source_seen S.Source.left S.Source.ended S.Source.faults source.old source.new) (notes_seen items.old items.new (L.number steps.old) (L.number steps.new) machine.old.cells machine.new.cells) (state_of machine.new) result }
+    ensures outside { OnOk result (outside machine.new ≡ outside machine.old) }
+    ensures later { S.Source.faults source.old ≤ S.Source.faults source.new }
+{
+    let leapt = try_leap(
+        machine, order, code, instr, values, intake, source, items, steps,
+    )?;
+    if !leapt {
+        return Ok(Progress::More);
+    }
+    if is_over(machine, code) {
+        return Ok(Progress::Whole);
+    }
+    Ok(Progress::More)
+}
+
+// Whether the machine is at the end of the value of its home.
+#[inline(always)]
+fn is_over(machine: &Machine, code: &[Instr]) -> bool
+    ensures ends { result ≡ true → slice_get code.now machine.now.pc ≡ Some op.Ret }
+    ensures home { result ≡ true → machine.now.top ≡ frame.Home }
+{
+    match machine.top {
+        Frame::Home => matches!(code.get(machine.pc), Some(Instr::Ret)),
+        Frame::Record { back: _, first: _ }
+        | Frame::Elements {
+            left: _,
+            run: _,
+            back: _,
+        } => false,
+    }
+}
+
+// Reads the value of a home turn by turn, as `run` does.
+#[inline(never)]
+fn run_on<S: Source, L: Ledger>(
     order: Order,
     code: &[Instr],
     values: &EnumLists,
@@ -64,9 +214,123 @@ pub fn run<S: Source, L: Ledger>(
     Err(DecodeFault::Memory)
 }
 
-// One step; a row of numbers where there is one.
+// The end of a run or an empty gap; steps that are taken in one go, where there are such; else one step, or a row of numbers.
 #[inline(always)]
 fn take_turn<S: Source, L: Ledger>(
+    machine: &mut Machine,
+    order: Order,
+    code: &[Instr],
+    instr: Instr,
+    values: &EnumLists,
+    intake: &mut Intake,
+    source: &mut S,
+    items: &mut ItemLog,
+    steps: &mut Steps<L>,
+) -> Result<Progress, DecodeFault>
+    requires short { length code.now < 2 ^ 32 }
+    requires here { slice_get code.now machine.old.pc ≡ Some instr }
+    requires safe { (fetched : List ℕ) (noted : List Item) (s : State) → Reaches values.now order code.now machine.old.home (state_of machine.old) fetched noted s → IsSafe code.now s }
+    ensures turns { Turns values.now order code.now machine.old.home (state_of machine.old) (source_seen S.Source.left S.Source.ended S.Source.faults source.old source.new) (notes_seen items.old items.new (L.number steps.old) (L.number steps.new) machine.old.cells machine.new.cells) (state_of machine.new) result }
+    ensures outside { OnOk result (outside machine.new ≡ outside machine.old) }
+    ensures later { S.Source.faults source.old ≤ S.Source.faults source.new }
+{
+    if is_quick(machine, instr) {
+        return take_quick(
+            machine, order, code, instr, values, intake, source, items, steps,
+        );
+    }
+    take_some(
+        machine, order, code, instr, values, intake, source, items, steps,
+    )
+}
+
+// A step that reads and notes nothing.
+#[inline(always)]
+fn take_quick<S: Source, L: Ledger>(
+    machine: &mut Machine,
+    order: Order,
+    code: &[Instr],
+    instr: Instr,
+    values: &EnumLists,
+    intake: &mut Intake,
+    source: &mut S,
+    items: &mut ItemLog,
+    steps: &mut Steps<L>,
+) -> Result<Progress, DecodeFault>
+    requires short { length code.now < 2 ^ 32 }
+    requires here { slice_get code.now machine.old.pc ≡ Some instr }
+    requires safe { (fetched : List ℕ) (noted : List Item) (s : State) → Reaches values.now order code.now machine.old.home (state_of machine.old) fetched noted s → IsSafe code.now s }
+    requires flow { flows instr machine.old.at ≡ true }
+    ensures turns { Turns values.now order code.now machine.old.home (state_of machine.old) (source_seen S.Source.left S.Source.ended S.Source.faults source.old source.new) (notes_seen items.old items.new (L.number steps.old) (L.number steps.new) machine.old.cells machine.new.cells) (state_of machine.new) result }
+    ensures outside { OnOk result (outside machine.new ≡ outside machine.old) }
+    ensures later { S.Source.faults source.old ≤ S.Source.faults source.new }
+{
+    let progress = take_flow(machine, instr)?;
+    Ok(progress)
+}
+
+// Steps that are taken in one go, where there are such; else one step, or a row of numbers.
+#[inline(always)]
+fn take_some<S: Source, L: Ledger>(
+    machine: &mut Machine,
+    order: Order,
+    code: &[Instr],
+    instr: Instr,
+    values: &EnumLists,
+    intake: &mut Intake,
+    source: &mut S,
+    items: &mut ItemLog,
+    steps: &mut Steps<L>,
+) -> Result<Progress, DecodeFault>
+    requires short { length code.now < 2 ^ 32 }
+    requires here { slice_get code.now machine.old.pc ≡ Some instr }
+    requires safe { (fetched : List ℕ) (noted : List Item) (s : State) → Reaches values.now order code.now machine.old.home (state_of machine.old) fetched noted s → IsSafe code.now s }
+    ensures turns { Turns values.now order code.now machine.old.home (state_of machine.old) (source_seen S.Source.left S.Source.ended S.Source.faults source.old source.new) (notes_seen items.old items.new (L.number steps.old) (L.number steps.new) machine.old.cells machine.new.cells) (state_of machine.new) result }
+    ensures outside { OnOk result (outside machine.new ≡ outside machine.old) }
+    ensures later { S.Source.faults source.old ≤ S.Source.faults source.new }
+{
+    let leapt = try_leap(
+        machine, order, code, instr, values, intake, source, items, steps,
+    )?;
+    if leapt {
+        return Ok(Progress::More);
+    }
+    take_next(
+        machine, order, code, instr, values, intake, source, items, steps,
+    )
+}
+
+// Takes steps in one go, if the log keeps nothing and there are such steps, and says whether it did.
+#[inline(always)]
+fn try_leap<S: Source, L: Ledger>(
+    machine: &mut Machine,
+    order: Order,
+    code: &[Instr],
+    instr: Instr,
+    values: &EnumLists,
+    intake: &mut Intake,
+    source: &mut S,
+    items: &ItemLog,
+    steps: &mut Steps<L>,
+) -> Result<bool, DecodeFault>
+    requires short { length code.now < 2 ^ 32 }
+    requires here { slice_get code.now machine.old.pc ≡ Some instr }
+    requires safe { (fetched : List ℕ) (noted : List Item) (s : State) → Reaches values.now order code.now machine.old.home (state_of machine.old) fetched noted s → IsSafe code.now s }
+    ensures leaps { Leaps values.now order code.now machine.old.home (state_of machine.old) (source_seen S.Source.left S.Source.ended S.Source.faults source.old source.new) (L.number steps.old) (L.number steps.new) (state_of machine.new) result }
+    ensures quiet { IfOk result (λ leapt. leapt ≡ true → items.now.keeps ≡ false) }
+    ensures fault { OnErr result (items.now.keeps ≡ false) }
+    ensures outside { OnOk result (outside machine.new ≡ outside machine.old) }
+    ensures later { S.Source.faults source.old ≤ S.Source.faults source.new }
+{
+    if items.keeps() {
+        return Ok(false);
+    }
+    leap(machine, order, code, instr, values, intake, source, steps)
+}
+
+// One step; a row of numbers where there is one.
+#[inline(never)]
+fn take_next<S: Source, L: Ledger>(
     machine: &mut Machine,
     order: Order,
     code: &[Instr],
@@ -190,7 +454,17 @@ fn take_row<S: Source, L: Ledger>(
         note_whole(machine, order, intake.octets(), prim, items, steps)?;
         return Err(fault);
     }
-    read_row(machine, order, intake.octets(), prim, count, items, steps)?;
+    let ahead = source.ahead();
+    read_row(
+        machine,
+        order,
+        intake.octets(),
+        prim,
+        count,
+        ahead,
+        items,
+        steps,
+    )?;
     Ok(Progress::More)
 }
 

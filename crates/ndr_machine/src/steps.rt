@@ -19,6 +19,7 @@ use nd_base::{Ledger, Memory, Order, Steps};
 use nd_grammar::Reason;
 use nd_value::ItemLog;
 use ndr_code::{EnumLists, Instr};
+use ndr_leaps::gap_to;
 use ndr_prim::width_of;
 use ndr_state::{DecodeFault, Machine, Phase, Progress, gap_before, prim_of};
 
@@ -37,7 +38,7 @@ pub fn wanted(machine: &Machine, instr: Instr, values: &EnumLists) -> Want
     ensures few { IsFewGap result }
 {
     match instr {
-        Instr::Align { to } => Want::Gap(gap_before(machine.at, to)),
+        Instr::Align { to } => Want::Gap(gap_to(machine.at, to)),
         Instr::Num { of } => Want::Item(width_of(prim_of(of.0)) as u32),
         Instr::Enum { of: _ } => Want::Item(2),
         Instr::Vary { bound: _, run: _ } => Want::Item(4),
@@ -110,7 +111,19 @@ pub fn is_flow(machine: &Machine, instr: Instr) -> bool
 {
     match instr {
         Instr::Ret | Instr::Record { members: _ } | Instr::Close | Instr::Call { run: _ } => true,
-        Instr::Align { to } => gap_before(machine.at, to) == 0,
+        Instr::Align { to } => gap_to(machine.at, to) == 0,
+        _ => false,
+    }
+}
+
+/// Whether the step is one of those that are taken first: it ends a run, or is a gap that is empty. Takes no memory.
+#[inline(always)]
+pub fn is_quick(machine: &Machine, instr: Instr) -> bool
+    ensures { result ≡ true → flows instr machine.now.at ≡ true }
+{
+    match instr {
+        Instr::Ret => true,
+        Instr::Align { to } => gap_to(machine.at, to) == 0,
         _ => false,
     }
 }

@@ -12,6 +12,7 @@ use nd_base::{Ledger, Order, Steps};
 use nd_flat::Seen;
 use nd_grammar::Reason;
 use nd_value::{ItemKind, ItemLog};
+use ndr_leaps::refused_text;
 use ndr_state::{DecodeFault, Machine, Phase, read_count};
 
 // `text`: the offset, the actual count, and then the octets
@@ -137,37 +138,3 @@ fn text_octets<L: Ledger>(
 }
 
 ghost use Rattle.ndr_machine.specs.Parts.{text_offset_read, text_count_read, TextWanted};
-
-// Where the octets of a string with the terminator are refused: at the first zero before the last octet, or at a last octet that is not zero.
-fn refused_text(at: u32, octets: &[u8]) -> Option<(u32, Reason)>
-    requires some { 0 < length octets.now }
-    requires fits { at + length octets.now < 2 ^ 32 }
-    ensures { result ≡ text_refusal at octets.now }
-{
-    let last = octets.len() - 1;
-    let zero = find_zero(octets);
-    if zero < last {
-        return Some((at + zero as u32, Reason::TextZero));
-    }
-    if zero > last {
-        return Some((at + last as u32, Reason::TextUnended));
-    }
-    None
-}
-
-// The place of the first zero octet, or the number of octets.
-fn find_zero(octets: &[u8]) -> usize
-    ensures is { result ≡ first_zero octets.now }
-{
-    for at in 0..octets.len() {
-        let Some(octet) = octets.get(at) else {
-            unreachable!()
-        };
-        if *octet == 0 {
-            return at;
-        }
-    }
-    octets.len()
-}
-
-ghost use Rattle.ndr_machine.specs.Parts.{first_zero};

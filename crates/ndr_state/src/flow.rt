@@ -5,6 +5,7 @@ ghost use Rattle.ndr_state.specs.Seen.{state_of, outside, Does, Comes};
 ghost use Rattle.ndr_state.specs.declared.fault.DecodeFault.TheVariants as fault;
 
 use crate::{DecodeFault, Machine, Phase, Progress};
+use nd_base::push;
 use nd_flat::Seen;
 use ndr_steps::{Frame, Member};
 
@@ -54,7 +55,7 @@ impl Machine {
         ensures memory { IfErr result (λ e. e ≡ fault.Memory) }
     {
         let top = self.top;
-        let Ok(()) = self.stack.push(top) else {
+        let Ok(()) = push(&mut self.stack, top) else {
             return Err(DecodeFault::Memory);
         };
         self.top = frame;
@@ -123,7 +124,7 @@ impl Machine {
             node: self.count,
             pending: self.fresh.len(),
         };
-        let Ok(()) = self.members.push(member) else {
+        let Ok(()) = push(&mut self.members, member) else {
             return Err(DecodeFault::Memory);
         };
         self.top = Frame::Record {

@@ -6,6 +6,7 @@ ghost use Rattle.ndr_state.specs.Seen.{state_of, outside};
 ghost use Rattle.ndr_state.specs.declared.fault.DecodeFault.TheVariants as fault;
 
 use crate::{DecodeFault, Machine};
+use nd_base::{Memory, push};
 use nd_flat::Seen;
 use ndr_steps::{First, Frame};
 
@@ -22,6 +23,20 @@ impl Machine {
         ensures outside { OnOk result (outside self.new ≡ outside self.old) }
         ensures memory { IfErr result (λ e. e ≡ fault.Memory) }
     {
+        self.add_node(node, place)?;
+        Ok(())
+    }
+
+    /// The same for callers that know no other fault.
+    #[inline(always)]
+    pub fn add_node(&mut self, node: &Seen<'_>, place: Option<u32>) -> Result<(), Memory>
+        requires keepable { IsKeepable (flat_seen node.now).0 }
+        requires short { length (text_of (flat_seen node.now).0) + 1 < 2 ^ 32 }
+        requires few { self.old.count + 1 < 2 ^ 32 }
+        ensures ok { OnOk result (state_of self.new ≡ with_node (flat_seen node.now) place (state_of self.old)) }
+        ensures count { OnOk result (self.new.count ≡ self.old.count + 1) }
+        ensures outside { OnOk result (outside self.new ≡ outside self.old) }
+    {
         let first = first_seen(node, place);
         self.builder.add(node)?;
         self.count += 1;
@@ -30,12 +45,11 @@ impl Machine {
 
     // Keeps what agreements find in the node that was added, if it is the first of the home or of a member.
     #[inline(always)]
-    fn keep_first(&mut self, first: First) -> Result<(), DecodeFault>
+    fn keep_first(&mut self, first: First) -> Result<(), Memory>
         requires small { IsSmall first }
         ensures ok { OnOk result (state_of self.new ≡ kept first (state_of self.old)) }
         ensures count { self.new.count ≡ self.old.count }
         ensures outside { OnOk result (outside self.new ≡ outside self.old) }
-        ensures memory { IfErr result (λ e. e ≡ fault.Memory) }
     {
         match self.top {
             Frame::Home => {
@@ -53,16 +67,15 @@ impl Machine {
 
     // Keeps what agreements find in the first node of a member.
     #[inline(always)]
-    fn push_first(&mut self, first: First) -> Result<(), DecodeFault>
+    fn push_first(&mut self, first: First) -> Result<(), Memory>
         requires small { IsSmall first }
         ensures ok { OnOk result (state_of self.new ≡ with_members (state_of self.old).members ((state_of self.old).firsts ++ first ∷ []) (state_of self.old)) }
         ensures count { self.new.count ≡ self.old.count }
         ensures top { self.new.top ≡ self.old.top }
         ensures outside { OnOk result (outside self.new ≡ outside self.old) }
-        ensures memory { IfErr result (λ e. e ≡ fault.Memory) }
     {
-        let Ok(()) = self.firsts.push(first) else {
-            return Err(DecodeFault::Memory);
+        let Ok(()) = push(&mut self.firsts, first) else {
+            return Err(Memory);
         };
         Ok(())
     }

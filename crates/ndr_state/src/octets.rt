@@ -1,6 +1,7 @@
 // Values and counts in octets.
 ghost use Rattle.std.specs.Prelude.{◌≡◌, ◌<◌, ◌%◌, length};
-ghost use Rattle.nd_types.specs.Number.{unsigned, value_of_octets};
+ghost use Rattle.nd_types.specs.Number.{as_signed, unsigned, value_of_octets};
+ghost use Rattle.nd_types.specs.declared.types.Primitive.TheVariants.{Long};
 ghost use Rattle.nd_types.specs.Table.{width};
 ghost use Rattle.nd_flat.specs.FlatForm.{IsKeepableNumber};
 ghost use Rattle.nd_grammar.specs.Entry.{gap};
@@ -18,7 +19,41 @@ pub fn read_value(order: Order, prim: Prim, octets: &[u8]) -> i128
     ensures value { result ≡ value_of_octets order prim octets.now }
     ensures keepable { IsKeepableNumber result }
 {
-    read_num(order, prim, octets)
+    read_number(order, prim, octets)
+}
+
+// The same, whether a node can keep it or not.
+#[inline(always)]
+fn read_number(order: Order, prim: Prim, octets: &[u8]) -> i128
+    requires { length octets.now ≡ width prim }
+    ensures { result ≡ value_of_octets order prim octets.now }
+{
+    match prim {
+        Prim::Long => read_long(order, octets),
+        _ => read_num(order, prim, octets),
+    }
+}
+
+// The number that the four octets of a long hold: most numbers are longs.
+#[inline(always)]
+fn read_long(order: Order, octets: &[u8]) -> i128
+    requires { length octets.now ≡ 4 }
+    ensures { result ≡ value_of_octets order Long octets.now }
+{
+    signed_long(read_count(order, octets))
+}
+
+// The number that is spelt as an unsigned one of four octets, in two's complement.
+#[inline(always)]
+fn signed_long(number: u32) -> i128
+    ensures { result ≡ as_signed 4 number }
+{
+    let number = i128::from(number);
+    if number < 1 << 31 {
+        number
+    } else {
+        number - (1 << 32)
+    }
 }
 
 /// The unsigned number in four octets. Takes no memory.

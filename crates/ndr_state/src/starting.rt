@@ -45,6 +45,7 @@ impl Machine {
     }
 
     /// The home that was just opened begins at a run. Takes no memory.
+    #[inline(always)]
     pub fn start(&mut self, home: Home, run: u32)
         requires none { self.old.builder.nodes ≡ [] }
         ensures is { state_of self.new ≡ started run (state_of self.old) }

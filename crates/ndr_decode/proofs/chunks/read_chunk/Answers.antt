@@ -3,6 +3,7 @@ use Rattle.nd_base.specs.Over.{source_seen}
 use Rattle.ndr_state.specs.Notes.{notes_seen}
 use Rattle.ndr_state.specs.Seen.{state_of}
 use Rattle.ndr_verdict.specs.Verdict.{decoding_seen}
+use Rattle.ndr_stream.specs.Report.{the_stream}
 use Rattle.ndr_decode.specs.Streaming.{FaultOf}
 use Rattle.ndr_decode.proofs.PipeTurns.{begun_fault, chunk_fault, chunk_faulty, chunk_none, chunk_room, chunk_safe, chunk_some, count_fault}
 use Rattle.ndr_decode.proofs.chunks.read_chunk.Goals as goal
@@ -30,7 +31,7 @@ returns-in_err-begin_elements-clause-reads g c w legal fetched noted direct firs
     let some : 0 < c.in_ok-count.count = omega (arith, c.if-count-eq0.false) in
     let is_begun : c.min-begun.result ≡ min c.in_ok-count.count (4294967295 - c.args.so_far) = c.min-begun.ensures in
     chunk_faulty c.args.plan.now w legal c.args.order fetched noted direct first c.args.number r rs roots elem c.args.elem of_plan done k c.args.so_far as_many c.args.machine.now p a s c.begin_elements.new.machine c.in_err-begin_elements.field-0.0
-    (subst (FaultOf w c.args.order fetched noted c.args.machine.now.cells a s) (sym c.in_err-begin_elements.ensures.memory) (begun_fault c.args.plan.now w legal c.args.order fetched noted direct first c.args.number r rs roots elem c.args.elem of_plan done k c.args.so_far as_many c.args.machine.now p c.chunk_count.new.machine c.in_ok-count.ensures.moved a s c.in_ok-count.count x some c.min-begun.result is_begun c.requires.room))
+    (subst (FaultOf the_stream w c.args.order fetched noted c.args.machine.now.cells a s) (sym c.in_err-begin_elements.ensures.memory) (begun_fault c.args.plan.now w legal c.args.order fetched noted direct first c.args.number r rs roots elem c.args.elem of_plan done k c.args.so_far as_many c.args.machine.now p c.chunk_count.new.machine c.in_ok-count.ensures.moved a s c.in_ok-count.count x some c.min-begun.result is_begun c.requires.room))
     c.from_residual-in_err-begin_elements.result c.from_residual-in_err-begin_elements.ensures.1
 
 pub read_home-requires : goal.read_home-requires

@@ -2,6 +2,7 @@ use Rattle.std.proofs.Common.{◌++◌, refl, ap, sym, ◌∙◌, subst, arith, 
 use Rattle.nd_base.specs.Over.{count, source_seen}
 use Rattle.nd_flat.specs.Building.{Building}
 use Rattle.ndr_verdict.specs.Verdict.{decoding_seen}
+use Rattle.ndr_stream.specs.Report.{the_stream}
 use Rattle.ndr_decode.specs.Streaming.{FaultOf, Purpose}
 use Rattle.ndr_decode.proofs.PipeLoops.{chunk_due, pipe_begun, pipe_faulty, pipe_memory, turn_ends, turn_fault, turn_goes_on, turn_memory}
 use Rattle.ndr_decode.proofs.chunks.read_pipe.Goals as goal
@@ -14,7 +15,7 @@ returns-in_err-open_pipe-clause-reads g c w legal fetched noted direct first r r
     let a = source_seen g.S.Source.left g.S.Source.ended g.S.Source.faults c.args.source.now c.args.source.now in
     let s = decoding_seen c.args.items.now c.args.items.now (g.L.Ledger.number c.args.steps.now) (g.L.Ledger.number c.args.steps.now) in
     pipe_faulty c.args.plan.now w legal c.args.order fetched noted direct first c.args.number r rs roots k elem c.args.elem of_plan c.args.machine.now p a s c.open_pipe.new.machine c.in_err-open_pipe.field-0.0
-    (subst (FaultOf w c.args.order fetched noted c.args.machine.now.cells a s) (sym c.in_err-open_pipe.ensures.memory)
+    (subst (FaultOf the_stream w c.args.order fetched noted c.args.machine.now.cells a s) (sym c.in_err-open_pipe.ensures.memory)
     (pipe_memory c.args.plan.now w legal c.args.order fetched noted direct first c.args.number r rs roots k elem c.args.elem of_plan c.args.machine.now p (g.S.Source.left c.args.source.now) (g.S.Source.ended c.args.source.now) (count g.S.Source.faults c.args.source.now c.args.source.now) c.args.items.now (g.L.Ledger.number c.args.steps.now)))
     c.from_residual.result c.from_residual.ensures.1
 

@@ -7,6 +7,7 @@ use Rattle.ndr_parameters.specs.Trials.{checks_fail}
 use Rattle.ndr_verdict.specs.Verdict.{decoding_seen}
 use Rattle.ndr_decode.specs.Streaming.{cells_of}
 use Rattle.ndr_decode.proofs.Decodes as call
+use Rattle.ndr_decode.proofs.Handed.{stream_fault}
 use Rattle.ndr_decode.proofs.SideReads.{at_pipes, end_fault, ends_after, hold_after, numbers_keepable, refused_by}
 use Rattle.ndr_decode.proofs.decoding.read_side.Goals as goal
 
@@ -14,7 +15,8 @@ pub returns-in_err-found-clause-reads : goal.returns-in_err-found-clause-reads
 returns-in_err-found-clause-reads g c w legal is beside =
     let a = source_seen g.S.Source.left g.S.Source.ended g.S.Source.faults c.args.source.now c.read_roots.new.source in
     let s = decoding_seen c.args.items.now c.read_roots.new.items (g.L.Ledger.number c.args.steps.now) (g.L.Ledger.number c.read_roots.new.steps) in
-    end_fault w c.args.order [] [] (cells_of c.args.stream.now) a s _ c.from_residual.result c.in_err-found.field-0.0 c.from_residual.ensures.1 (c.in_err-found.ensures.reads w legal is)
+    end_fault w c.args.order [] [] (cells_of c.args.stream.now) a s _ c.from_residual.result c.in_err-found.field-0.0 c.from_residual.ensures.1
+    (stream_fault w c.args.order [] [] (cells_of c.args.stream.now) a s c.in_err-found.field-0.0 (c.in_err-found.ensures.reads w legal is))
 
 pub try_parameters-requires : goal.try_parameters-requires
 try_parameters-requires g c =
@@ -36,9 +38,10 @@ returns-in_err-try_parameters-clause-reads g c w legal is beside =
     let at = c.in_ok-found.found.checks in
     let e = c.in_err-try_parameters.field-0.0 in
     end_fault w c.args.order [] [] (cells_of c.args.stream.now) a s _ c.from_residual-in_err-try_parameters.result e c.from_residual-in_err-try_parameters.ensures.1
+    (stream_fault w c.args.order [] [] (cells_of c.args.stream.now) a s e
     (refused_by p c.args.op c.args.side c.args.order w legal is c.args.stream.now a s y (c.in_ok-found.ensures.reads w legal is) at (c.in_ok-found.ensures.found w.op is.there).0 e
     (subst (λ q. IsTried (checks_fail y.cells.items y.roots.items q (drop at p.code)) (Err e)) (sym beside)
-    (subst (λ k. IsTried (checks_fail y.cells.items y.roots.items (option_map (λ f. f.now.graph) c.args.given) (drop at k)) (Err e)) c.as_slice.ensures c.in_err-try_parameters.ensures)))
+    (subst (λ k. IsTried (checks_fail y.cells.items y.roots.items (option_map (λ f. f.now.graph) c.args.given) (drop at k)) (Err e)) c.as_slice.ensures c.in_err-try_parameters.ensures))))
 
 pub read_pipes-requires-clause-at : goal.read_pipes-requires-clause-at
 read_pipes-requires-clause-at g c =

@@ -1,5 +1,4 @@
 use Rattle.std.proofs.Common.{ap, refl, sym, ◌∙◌}
-use Rattle.std.specs.Prelude.{is_ok}
 use Rattle.ndr_steps.specs.Steps.{goes}
 use Rattle.ndr_state.specs.Seen.{state_of}
 use Rattle.ndr_machine.proofs.Owing.{owing_is, spans_pushed}
@@ -8,8 +7,8 @@ use Rattle.ndr_machine.proofs.pointers.owe.Goals as goal
 pub returns-clause-does : goal.returns-clause-does
 returns-clause-does c =
     let m = c.add.new.self in
-    ap goes (owing_is (state_of c.args.machine.now) (state_of m) m.wanted.items m.fresh.items c.push.new.self.items c.args.to.class c.args.to.to c.args.to.run c.args.cell
-    c.in_ok-add.ensures.ok refl c.in-Ok.ensures.items)
+    ap goes (owing_is (state_of c.args.machine.now) (state_of m) m.wanted.items m.fresh.items c.push.new.list.items c.args.to.class c.args.to.to c.args.to.run c.args.cell
+    c.in_ok-add.ensures.ok refl c.in-Ok.ensures.ok)
 
 pub invariant_of-machine : goal.invariant_of-machine
 invariant_of-machine c =
@@ -17,7 +16,7 @@ invariant_of-machine c =
     record {
       keepable = m.keepable;
       small = m.small;
-      spans = spans_pushed m.wanted.items m.fresh.items c.push.new.self.items c.args.to.class c.args.to.to c.args.to.run c.args.cell (is_ok c.push.result) c.push.ensures.items m.spans;
+      spans = spans_pushed m.wanted.items m.fresh.items c.push.new.list.items c.args.to.class c.args.to.to c.args.to.run c.args.cell c.push.result c.push.ensures.ok c.push.ensures.err m.spans;
       counted = m.counted;
       numbered = m.numbered;
     }

@@ -9,6 +9,6 @@ invariant_of-machine-2 g c =
       keepable = m.keepable;
       small = m.small;
       spans = m.spans;
-      counted = row_nodes m c.row.new.self c.args.order c.args.prim n c.args.octets.now c.in_ok-row.ensures.ok;
-      numbered = row_cells m c.row.new.self c.args.order c.args.prim n c.args.octets.now c.in_ok-row.ensures.ok;
+      counted = row_nodes m c.add_row.new.builder c.args.order c.args.prim n c.args.octets.now c.in_ok-add_row.ensures.ok;
+      numbered = row_cells m c.add_row.new.builder c.args.order c.args.prim n c.args.octets.now c.in_ok-add_row.ensures.ok;
     }

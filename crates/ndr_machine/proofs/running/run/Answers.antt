@@ -1,55 +1,85 @@
-use Rattle.std.proofs.Common.{◌≡◌, ℕ, List, OnOk, Ok, refl, sym, ap, ◌∙◌, subst, le_refl, le_trans}
-use Rattle.std.proofs.KnownBytes.{Consumes-nil}
+use Rattle.std.proofs.Common.{◌≡◌, ◌<◌, [], Ok, OnOk, ap, length, ◌∙◌, subst, le_trans, rules}
+use Rattle.std.proofs.lemmas.Option.{slice_get-get_or, slice_get_within}
+use Rattle.nd_base.specs.Over.{source_seen}
+use Rattle.ndr_code.specs.declared.instr.Instr.TheVariants as op
+use Rattle.ndr_runs.specs.Reaching.{IsSafe, begins}
 use Rattle.ndr_state.specs.declared.fault.Progress.TheVariants as progress
+use Rattle.ndr_state.specs.Notes.{notes_seen}
 use Rattle.ndr_state.specs.Seen.{state_of, outside}
-use Rattle.ndr_machine.proofs.Moving.{moves_none, given_up}
-use Rattle.ndr_machine.proofs.Looping.{still_safe, goes_on, ends_whole, ends_faulty}
+use Rattle.ndr_machine.specs.Reaching.{Moves, Turns}
+use Rattle.ndr_machine.proofs.Leaping.{ends_after}
+use Rattle.ndr_machine.proofs.Looping.{stays_on, still_safe}
 use Rattle.ndr_machine.proofs.running.run.Goals as goal
 
-pub loop-turn-init : goal.loop-turn-init
-loop-turn-init g c = (
-  moves_none c.args.values.now c.args.order c.args.code.now c.args.machine.now.home (state_of c.args.machine.now) (g.S.Source.left c.args.source.now)
-      (g.S.Source.ended c.args.source.now) (g.S.Source.faults c.args.source.now) c.args.items.now (g.L.Ledger.number c.args.steps.now) c.args.machine.now.cells
-      (Consumes-nil (g.S.Source.left c.args.source.now)),
-  (refl, le_refl _),
-)
+pub bounds-code-machine : goal.bounds-code-machine
+bounds-code-machine g c =
+    let safe : IsSafe c.args.code.now (state_of c.args.machine.now) = c.requires.safe [] [] (state_of c.args.machine.now) begins in
+    slice_get_within c.args.code.now c.args.machine.now.pc safe.i safe.there
 
-pub take_turn-requires-clause-safe : goal.take_turn-requires-clause-safe
-take_turn-requires-clause-safe g c = still_safe c.loop-turn.invariant.0 (ap (λ u. u.home) c.loop-turn.invariant.1.0) c.requires.safe
+pub offset_bounds-code-machine : goal.offset_bounds-code-machine
+offset_bounds-code-machine g c =
+    let safe : IsSafe c.args.code.now (state_of c.args.machine.now) = c.requires.safe [] [] (state_of c.args.machine.now) begins in
+    let within : c.args.machine.now.pc < length c.args.code.now = slice_get_within c.args.code.now c.args.machine.now.pc safe.i safe.there in
+    search rules
 
-pub loop-turn-preserved : goal.loop-turn-preserved
-loop-turn-preserved g c =
-    let more : c.take_turn.result ≡ Ok progress.More = c.in-Ok-More.is ∙ ap Ok c.in-Ok-More.field-0-is in
-    let stays : outside c.take_turn.new.machine ≡ outside c.loop-turn.machine =
-    subst (λ r. OnOk r (outside c.take_turn.new.machine ≡ outside c.loop-turn.machine)) more c.take_turn.ensures.outside in (
-      goes_on c.loop-turn.invariant.0 (ap (λ u. u.home) c.loop-turn.invariant.1.0) (g.S.Source.left c.take_turn.new.source) (g.S.Source.ended c.take_turn.new.source) (g.S.Source.faults c.take_turn.new.source)
-          c.take_turn.new.items (g.L.Ledger.number c.take_turn.new.steps) c.take_turn.new.machine.cells (state_of c.take_turn.new.machine) c.take_turn.result more c.take_turn.ensures.turns,
-      (stays ∙ c.loop-turn.invariant.1.0, le_trans c.loop-turn.invariant.1.1 c.take_turn.ensures.later),
-    )
+pub take_lead-requires-clause-here : goal.take_lead-requires-clause-here
+take_lead-requires-clause-here g c =
+    let safe : IsSafe c.args.code.now (state_of c.args.machine.now) = c.requires.safe [] [] (state_of c.args.machine.now) begins in
+    slice_get-get_or c.args.code.now c.args.machine.now.pc op.Void (slice_get_within c.args.code.now c.args.machine.now.pc safe.i safe.there)
+
+pub run_first-requires-clause-safe : goal.run_first-requires-clause-safe
+run_first-requires-clause-safe g c =
+    let m = c.args.machine.now in
+    let n = c.take_lead.new.machine in
+    let more : c.take_lead.result ≡ Ok progress.More = c.in-Ok-More.is ∙ ap Ok c.in-Ok-More.field-0-is in
+    let source = source_seen g.S.Source.left g.S.Source.ended g.S.Source.faults c.args.source.now c.take_lead.new.source in
+    let notes = notes_seen c.args.items.now c.take_lead.new.items (g.L.Ledger.number c.args.steps.now) (g.L.Ledger.number c.take_lead.new.steps) m.cells n.cells in
+    let moves : Moves c.args.values.now c.args.order c.args.code.now m.home (state_of m) source notes (state_of n) =
+    subst (λ r. Turns c.args.values.now c.args.order c.args.code.now m.home (state_of m) source notes (state_of n) r) more c.take_lead.ensures.turns in
+    let stays : outside n ≡ outside m = subst (λ r. OnOk r (outside n ≡ outside m)) more c.take_lead.ensures.outside in
+    still_safe moves (ap (λ u. u.home) stays) c.requires.safe
+
+pub returns-in-Ok-More : goal.returns-in-Ok-More
+returns-in-Ok-More g c =
+    let m = c.args.machine.now in
+    let n = c.take_lead.new.machine in
+    let more : c.take_lead.result ≡ Ok progress.More = c.in-Ok-More.is ∙ ap Ok c.in-Ok-More.field-0-is in
+    let source = source_seen g.S.Source.left g.S.Source.ended g.S.Source.faults c.args.source.now c.take_lead.new.source in
+    let notes = notes_seen c.args.items.now c.take_lead.new.items (g.L.Ledger.number c.args.steps.now) (g.L.Ledger.number c.take_lead.new.steps) m.cells n.cells in
+    let moves : Moves c.args.values.now c.args.order c.args.code.now m.home (state_of m) source notes (state_of n) =
+    subst (λ r. Turns c.args.values.now c.args.order c.args.code.now m.home (state_of m) source notes (state_of n) r) more c.take_lead.ensures.turns in
+    let stays : outside n ≡ outside m = subst (λ r. OnOk r (outside n ≡ outside m)) more c.take_lead.ensures.outside in
+    record {
+      ends = ends_after c.args.values.now c.args.order c.args.code.now m.home (g.S.Source.left c.args.source.now) (g.S.Source.left c.take_lead.new.source) (g.S.Source.left c.run_first.new.source)
+          (g.S.Source.ended c.take_lead.new.source) (g.S.Source.ended c.run_first.new.source) (g.S.Source.faults c.args.source.now) (g.S.Source.faults c.take_lead.new.source)
+          (g.S.Source.faults c.run_first.new.source) c.args.items.now c.take_lead.new.items c.run_first.new.items (g.L.Ledger.number c.args.steps.now) (g.L.Ledger.number c.take_lead.new.steps)
+          (g.L.Ledger.number c.run_first.new.steps) m.cells n.cells c.run_first.new.machine.cells (state_of m) (state_of n) (state_of c.run_first.new.machine) n.home
+          (ap (λ u. u.home) stays) moves c.take_lead.ensures.later c.run_first.result c.run_first.ensures.ends;
+      outside = stays_on c.run_first.result (outside c.run_first.new.machine) (outside n) (outside m) c.run_first.ensures.outside stays;
+      later = le_trans c.take_lead.ensures.later c.run_first.ensures.later;
+    }
 
 pub returns-in-Ok-Whole : goal.returns-in-Ok-Whole
 returns-in-Ok-Whole g c =
-    let whole : c.take_turn.result ≡ Ok progress.Whole = c.in-Ok-Whole.is ∙ ap Ok c.in-Ok-Whole.field-0-is in
-    let stays : outside c.take_turn.new.machine ≡ outside c.loop-turn.machine =
-    subst (λ r. OnOk r (outside c.take_turn.new.machine ≡ outside c.loop-turn.machine)) whole c.take_turn.ensures.outside in
+    let m = c.args.machine.now in
+    let n = c.take_lead.new.machine in
+    let whole : c.take_lead.result ≡ Ok progress.Whole = c.in-Ok-Whole.is ∙ ap Ok c.in-Ok-Whole.field-0-is in
+    let source = source_seen g.S.Source.left g.S.Source.ended g.S.Source.faults c.args.source.now c.take_lead.new.source in
+    let notes = notes_seen c.args.items.now c.take_lead.new.items (g.L.Ledger.number c.args.steps.now) (g.L.Ledger.number c.take_lead.new.steps) m.cells n.cells in
     record {
-      ends = ends_whole c.loop-turn.invariant.0 (ap (λ u. u.home) c.loop-turn.invariant.1.0) (g.S.Source.left c.take_turn.new.source) (g.S.Source.ended c.take_turn.new.source) (g.S.Source.faults c.take_turn.new.source)
-          c.take_turn.new.items (g.L.Ledger.number c.take_turn.new.steps) c.take_turn.new.machine.cells (state_of c.take_turn.new.machine) c.take_turn.result whole c.take_turn.ensures.turns;
-      outside = stays ∙ c.loop-turn.invariant.1.0;
-      later = le_trans c.loop-turn.invariant.1.1 c.take_turn.ensures.later;
+      ends = subst (λ r. Turns c.args.values.now c.args.order c.args.code.now m.home (state_of m) source notes (state_of n) r) whole c.take_lead.ensures.turns;
+      outside = subst (λ r. OnOk r (outside n ≡ outside m)) whole c.take_lead.ensures.outside;
+      later = c.take_lead.ensures.later;
     }
 
 pub returns-in-Err : goal.returns-in-Err
-returns-in-Err g c = record {
-  ends = ends_faulty c.loop-turn.invariant.0 (ap (λ u. u.home) c.loop-turn.invariant.1.0) (g.S.Source.left c.take_turn.new.source) (g.S.Source.ended c.take_turn.new.source) (g.S.Source.faults c.take_turn.new.source)
-      c.take_turn.new.items (g.L.Ledger.number c.take_turn.new.steps) c.take_turn.new.machine.cells (state_of c.take_turn.new.machine) c.loop-turn.invariant.1.1 c.take_turn.result c.in-Err.fault c.in-Err.is c.take_turn.ensures.turns;
-  outside = tt;
-  later = le_trans c.loop-turn.invariant.1.1 c.take_turn.ensures.later;
-}
-
-pub returns : goal.returns
-returns g c = record {
-  ends = given_up c.args.values.now c.args.order c.args.code.now c.args.machine.now.home (state_of c.args.machine.now) (state_of c.loop-turn.machine) _ _ c.loop-turn.invariant.0 c.requires.safe;
-  outside = tt;
-  later = c.loop-turn.invariant.1.1;
-}
+returns-in-Err g c =
+    let m = c.args.machine.now in
+    let n = c.take_lead.new.machine in
+    let source = source_seen g.S.Source.left g.S.Source.ended g.S.Source.faults c.args.source.now c.take_lead.new.source in
+    let notes = notes_seen c.args.items.now c.take_lead.new.items (g.L.Ledger.number c.args.steps.now) (g.L.Ledger.number c.take_lead.new.steps) m.cells n.cells in
+    record {
+      ends = subst (λ r. Turns c.args.values.now c.args.order c.args.code.now m.home (state_of m) source notes (state_of n) r) c.in-Err.is c.take_lead.ensures.turns;
+      outside = tt;
+      later = c.take_lead.ensures.later;
+    }

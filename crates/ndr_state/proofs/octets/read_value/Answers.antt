@@ -7,5 +7,5 @@ use Rattle.ndr_state.proofs.octets.read_value.Goals as goal
 
 pub returns-clause-keepable : goal.returns-clause-keepable
 returns-clause-keepable c =
-    let fits : SFits w128 c.read_num.result = search rules in
-    value_keepable c.args.order c.args.prim c.args.octets.now _ c.requires.wide (λ k. omega (arith, c.type_inv.octets k)) (to_z-of_z w128 c.read_num.result fits ∙ c.read_num.ensures)
+    let fits : SFits w128 c.read_number.result = search rules in
+    value_keepable c.args.order c.args.prim c.args.octets.now _ c.requires.wide (λ k. omega (arith, c.type_inv.octets k)) (to_z-of_z w128 c.read_number.result fits ∙ c.read_number.ensures)

@@ -12,7 +12,7 @@ returns-clause-begins c = record {
   cells = ap (λ (b : Building). map (λ x. x.of) b.graph.cells) c.new-machine.ensures.builder ∙ ap (λ (g : Graph). map (λ x. x.of) g.cells) c.requires.empty;
   numbers = c.new-machine.ensures.referents;
   roots = c.new-3.ensures.items;
-  read = c.new-4.ensures.items;
+  read = c.new-4.ensures;
   graph = ap closed c.new-machine.ensures.builder ∙ closed_none c.args.builder c.requires.no_home ∙ c.requires.empty;
 }
 

@@ -1,0 +1,27 @@
+// Room for what is read.
+ghost use Rattle.std.specs.Prelude.{◌≡◌};
+ghost use Rattle.ndr_kept.specs.Seen.{IsSame};
+
+use crate::KeptCells;
+use ndr_state::Machine;
+
+// Makes room for the cells that so many octets at hand will give, if they go on as those that were read, but for at most eight times as many as were read; and for
+// those that have their numbers and were not read. Of nodes there is room for as many in each as the home has that was read last, but for at most sixteen, and for
+// at most one for each octet. So the lists are moved less often as they grow, and no count that the octets claim takes room.
+#[cold]
+#[inline(never)]
+pub(crate) fn make_room(machine: &mut Machine, cells: &mut KeptCells, ahead: usize)
+    ensures machine { IsSame machine.old machine.new }
+    ensures cells { cells.new ≡ cells.old }
+{
+    let read = cells.len().max(1);
+    let wide = (machine.at as usize / read).max(1);
+    let coming = (ahead / wide).min(read.saturating_mul(8));
+    let unread = (machine.cells as usize).saturating_sub(read);
+    let more = coming.saturating_add(unread);
+    let nodes = more
+        .saturating_mul((machine.count as usize).min(16))
+        .min(ahead);
+    machine.builder.make_room(nodes, more);
+    cells.make_room(more);
+}

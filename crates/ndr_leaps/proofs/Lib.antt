@@ -1,0 +1,12 @@
+mod Packed
+mod Slots
+mod SlotTicks
+mod PieceNodes
+mod ElementsTaken
+mod FirstZeros
+mod Going
+mod TextSteps
+mod StringSteps
+mod StructSteps
+mod StructReading
+mod Owing

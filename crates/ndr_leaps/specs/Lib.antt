@@ -1,0 +1,4 @@
+pub mod Leaps
+pub mod Elements
+pub mod Strings
+pub mod Structs

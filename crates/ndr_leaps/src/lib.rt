@@ -1,0 +1,17 @@
+//! Steps of a home's value that are taken in one go, where their octets are at hand and no items are kept.
+#![tactic(auto)]
+
+mod elements;
+mod fields;
+mod forms;
+mod leaping;
+mod members;
+mod octets;
+mod records;
+mod strings;
+mod structs;
+mod zeros;
+
+pub use fields::gap_to;
+pub use leaping::leap;
+pub use zeros::refused_text;
