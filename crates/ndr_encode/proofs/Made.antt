@@ -95,6 +95,7 @@ fresh_search code k g x due s n f same t few = record {
         let p0 : unmarked s.placed.items ≡ n + 1 = ap unmarked f.placed ∙ all_unmarked (n + 1) in omega (arith, t0, p0, same, few));
     room = ap length f.placed ∙ blanks {X = Bool} false (n + 1) ∙ ap (λ m. m + 1) same;
     empty = f.names;
+    known = f.known code;
   };
 }
 

@@ -188,6 +188,7 @@ module _ (p : Plan) (k : ℕ) (f : Fitting) where
                     room_left p.code k f.graph (turn_pairs s.turns.items) (turn_pair turn ∷ rest b.stream known) (x.homes ++ x.pipes) s.turns.items s.count.at refl a.turns
                     (all_append (IsCounted p.code k f.graph) x.homes x.pipes b.stream.searchable.homes b.stream.searchable.pipes) a.counted.at (omega (arith, few, c, d));
                 empty = a.counted.empty;
+                known = a.counted.known;
                 names = x.names;
                 numbers = a.numbers;
               }
@@ -220,6 +221,7 @@ module _ (p : Plan) (k : ℕ) (f : Fitting) where
                   few = omega (arith, one_more, same_marks, few);
                   room = ap length t.placed ∙ a.counted.room;
                   empty = t.empty;
+                  known = t.known;
                 };
               } in
               record {

@@ -1,6 +1,7 @@
 -- Cells that are numbered one after the other.
-use Rattle.std.proofs.Common.{◌≡◌, ℕ, ◌+◌, ◌<◌, ◌≤◌, zero, suc, List, [], ◌∷◌, ◌++◌, length, refl, ap, sym, ◌∙◌, subst, arith, take, get_or, append_assoc}
-use Rattle.std.specs.Prelude.{slice_index_or}
+use Rattle.std.proofs.Common.{◌≡◌, ℕ, ◌+◌, ◌<◌, ◌≤◌, zero, suc, List, [], ◌∷◌, ◌++◌, length, refl, ap, sym, ◌∙◌, subst, arith, take, get_or, append_assoc, Option, Some, None}
+use Rattle.std.specs.Prelude.{slice_index_or, IfSome, option_to_list}
+use Rattle.std.proofs.lemmas.List.{length-append}
 use Rattle.ndr_output.specs.declared.count.Named.{Named}
 use Rattle.ndr_output.specs.Counting.{names_of}
 use Rattle.ndr_turns.specs.Turned.{cells_of}
@@ -34,3 +35,18 @@ pub numbered_more : (n : ℕ) (names : List ℕ) (ds : List Named) (i : ℕ) (d 
 numbered_more n names ds i d numbers named l x =
     subst (λ u. IsNumbered n u numbers named)
     (append_assoc names (cells_of (names_of (take i ds))) ((slice_index_or ds i d).cell.0 ∷ []) ∙ ap (λ u. names ++ u) (sym (take_more ds i d l))) x
+
+-- the only name, taken away
+pub popped_alone : (old new : List Named) (r : Option Named) → length old ≡ 1 → old ≡ new ++ option_to_list r → IfSome r (λ d. old ≡ d ∷ [])
+popped_alone old new None one e = tt
+popped_alone old [] (Some d) one e = e
+popped_alone old (x ∷ xs) (Some d) one e =
+    let long : length old ≡ suc (length (xs ++ d ∷ [])) = ap length e in
+    let more : length (xs ++ d ∷ []) ≡ length xs + 1 = length-append xs (d ∷ []) in absurd (omega (arith, one, long, more))
+
+pub popped_empty : (old new : List Named) (r : Option Named) → length old ≡ 1 → old ≡ new ++ option_to_list r → IfSome r (λ d. new ≡ [])
+popped_empty old new None one e = tt
+popped_empty old [] (Some d) one e = refl
+popped_empty old (x ∷ xs) (Some d) one e =
+    let long : length old ≡ suc (length (xs ++ d ∷ [])) = ap length e in
+    let more : length (xs ++ d ∷ []) ≡ length xs + 1 = length-append xs (d ∷ []) in absurd (omega (arith, one, long, more))

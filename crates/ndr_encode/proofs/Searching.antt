@@ -30,6 +30,7 @@ use Rattle.ndr_homes.specs.declared.turn.Turn.{Turn}
 use Rattle.ndr_homes.specs.Turns.{turn_pair, turn_pairs}
 use Rattle.ndr_homes.specs.Counted.{counted_turn, counted_turns, AreCells, IsCounted}
 use Rattle.ndr_encode.specs.declared.search.Search.{Search}
+use Rattle.ndr_structs.specs.Structs.{AreKnown}
 use Rattle.ndr_encode.specs.Search.{AreWithin, IsNumbered, unmarked, unplaced, pending_names, Stream, IsSearchable, IsSearched, IsTaken, CanTake, first_cell, root_by, called_run, direct_run}
 
 -- ## What is pending
@@ -260,6 +261,7 @@ module _ (code : List Instr) (k : ℕ) (g : Graph) (x : Stream) (y : IsSearchabl
     pub few : suc (length s.turns.items) + unmarked s.placed.items + (length due + length x.pipes) ≤ length g.roots + length g.cells + 1
     pub room : length s.placed.items ≡ length g.cells + 1
     pub empty : s.count.names.items ≡ []
+    pub known : AreKnown code s.known
 
   module _ (due : List Item) (u : Turn) (s : Search) (r : Ready due u s) where
     its_count : IsCounted code k g (turn_pair u)
@@ -281,6 +283,7 @@ module _ (code : List Instr) (k : ℕ) (g : Graph) (x : Stream) (y : IsSearchabl
           counted = its_count;
           room = room_left code k g (turn_pairs s.turns.items) (turn_pair u ∷ r.later) x.homes s.turns.items s.count.at refl r.turns y.homes r.at (omega (arith, a, b, d));
           empty = r.empty;
+          known = r.known;
           names = r.names;
           numbers = r.numbers;
         }
@@ -312,6 +315,7 @@ module _ (code : List Instr) (k : ℕ) (g : Graph) (x : Stream) (y : IsSearchabl
             few = omega (arith, one_more, unmarked_same, a);
             room = ap length t.placed ∙ r.room;
             empty = t.empty;
+            known = t.known;
           };
         }
 
@@ -320,7 +324,7 @@ module _ (code : List Instr) (k : ℕ) (g : Graph) (x : Stream) (y : IsSearchabl
       (left : unplaced old.placed.items (pending_names old.pending.items) ≡ (d.cell.0, d.run) ∷ pending_names mid.pending.items)
       (placed_is : mid.placed.items ≡ set old.placed.items d.cell.0 true) (turns_same : mid.turns.items ≡ old.turns.items)
       (numbers_same : mid.numbers.items ≡ old.numbers.items) (named_same : mid.named ≡ old.named) (at_same : mid.count.at ≡ old.count.at)
-      (names_same : mid.count.names.items ≡ old.count.names.items) where
+      (names_same : mid.count.names.items ≡ old.count.names.items) (known : AreKnown code mid.known) where
     abbrev c : ℕ
     c = d.cell.0
 
@@ -363,6 +367,7 @@ module _ (code : List Instr) (k : ℕ) (g : Graph) (x : Stream) (y : IsSearchabl
           few = omega (arith, fewer, marked, l, a);
           room = ap length placed_is ∙ set_room old.placed.items c ∙ s.counted.room;
           empty = names_same ∙ s.counted.empty;
+          known = known;
         }
 
     pub cell_fewer : unmarked mid.placed.items < unmarked old.placed.items
@@ -373,8 +378,8 @@ module _ (code : List Instr) (k : ℕ) (g : Graph) (x : Stream) (y : IsSearchabl
 
   -- nothing that is pending is left to take a turn
   pub none_left_pending : (due : List Item) (old new : Search) → IsSearched code k g x due old → unplaced old.placed.items (pending_names old.pending.items) ≡ [] → new.pending.items ≡ []
-      → new.turns ≡ old.turns → new.numbers ≡ old.numbers → new.named ≡ old.named → new.placed ≡ old.placed → new.count ≡ old.count → IsSearched code k g x due new
-  none_left_pending due old new s none empty turns_same numbers_same named_same placed_same count_same =
+      → new.turns ≡ old.turns → new.numbers ≡ old.numbers → new.named ≡ old.named → new.placed ≡ old.placed → new.count ≡ old.count → AreKnown code new.known → IsSearched code k g x due new
+  none_left_pending due old new s none empty turns_same numbers_same named_same placed_same count_same known =
       let no_names : pending_names new.pending.items ≡ [] = ap pending_names empty in
       record {
         rest = s.rest;
@@ -398,6 +403,7 @@ module _ (code : List Instr) (k : ℕ) (g : Graph) (x : Stream) (y : IsSearchabl
               few = omega (arith, few, a, b);
               room = ap (λ bs. length bs.items) placed_same ∙ s.counted.room;
               empty = ap (λ q. q.names.items) count_same ∙ s.counted.empty;
+              known = known;
             };
       }
 
@@ -424,6 +430,7 @@ module _ (code : List Instr) (k : ℕ) (g : Graph) (x : Stream) (y : IsSearchabl
         few = omega (arith, b);
         room = s.counted.room;
         empty = s.counted.empty;
+        known = s.counted.known;
       }
 
   -- the referent of a root in its place is ready
@@ -448,10 +455,10 @@ module _ (code : List Instr) (k : ℕ) (g : Graph) (x : Stream) (y : IsSearchabl
     direct_within = (all_right (IsCounted code k g) (turn_pairs old.turns.items) (D ∷ direct.later) (subst (AllByRecursion (IsCounted code k g)) (sym direct_here) y.homes)).0.there
 
     pub direct_ready : (mid : Search) (cell : CellId) → cell.0 ≡ direct.cell → mid.placed.items ≡ set old.placed.items cell.0 true → mid.turns.items ≡ old.turns.items → mid.pending.items ≡ old.pending.items
-        → mid.count.at ≡ old.count.at → mid.count.names.items ≡ old.count.names.items
+        → mid.count.at ≡ old.count.at → mid.count.names.items ≡ old.count.names.items → AreKnown code mid.known
         → ((names : List ℕ) → IsNumbered (length g.cells) names old.numbers.items old.named → IsNumbered (length g.cells) (names ++ cell.0 ∷ []) mid.numbers.items mid.named)
         → Ready due (record { home = home.Cell cell; start = a }) mid
-    direct_ready mid cell is placed_is turns_same pending_same at_same names_same numbers =
+    direct_ready mid cell is placed_is turns_same pending_same at_same names_same known numbers =
         let c : ℕ = cell.0 in
         let room : length old.placed.items ≡ length g.cells + 1 = s.counted.room in
         let within = direct_within.1 in
@@ -484,6 +491,7 @@ module _ (code : List Instr) (k : ℕ) (g : Graph) (x : Stream) (y : IsSearchabl
           few = omega (arith, fewer, marked, l, b);
           room = ap length placed_is ∙ set_room old.placed.items c ∙ room;
           empty = names_same ∙ s.counted.empty;
+          known = known;
         }
 
 -- ## A search for the next cell

@@ -11,6 +11,7 @@ use Rattle.ndr_code.specs.declared.instr.Instr.TheVariants as op
 use Rattle.ndr_pieces.specs.Pieces.{pieces_end, pieces_names}
 use Rattle.ndr_output.specs.declared.count.Named.{Named}
 use Rattle.ndr_output.specs.Counting.{names_of}
+use Rattle.ndr_structs.specs.Structs.{AreKnown}
 use Rattle.ndr_turns.specs.Turned.{Item, root_due, direct_due, Turned, cells_due, cells_of, names_of as run_names}
 use Rattle.ndr_chosen.specs.Written.{value_at}
 use Rattle.ndr_homes.specs.declared.turn.Turn.{Turn}
@@ -64,12 +65,13 @@ pub record IsSearchable (code : List Instr) (k : ℕ) (g : Graph) (x : Stream) :
   pub pipes : AllByRecursion (IsCounted code k g) x.pipes
   pub no_names : AllByRecursion (λ u. pieces_names (counted_turn code k g u) ≡ []) x.pipes
 
--- what is counted so far
+-- what is counted so far, and what is known of runs
 pub record AreCounted (code : List Instr) (k : ℕ) (g : Graph) (left : ℕ) (s : Search) : Type 0 where
   pub at : s.count.at ≡ pieces_end 0 (counted_turns code k g (turn_pairs s.turns.items))
   pub few : length s.turns.items + unmarked s.placed.items + left ≤ length g.roots + length g.cells + 1
   pub room : length s.placed.items ≡ length g.cells + 1
   pub empty : s.count.names.items ≡ []
+  pub known : AreKnown code s.known
 
 -- Some homes have had their turn, and the others have theirs by what is pending and then due.
 pub record IsSearched (code : List Instr) (k : ℕ) (g : Graph) (x : Stream) (due : List Item) (s : Search) : Type 0 where
@@ -98,6 +100,7 @@ pub record IsTaken (code : List Instr) (k : ℕ) (g : Graph) (turn : Turn) (old 
   pub placed : new.placed.items ≡ old.placed.items
   pub at : new.count.at ≡ pieces_end old.count.at (counted_turn code k g (turn_pair turn))
   pub empty : new.count.names.items ≡ []
+  pub known : AreKnown code new.known
   pub pending : pending_names new.pending.items ≡ pieces_names (counted_turn code k g (turn_pair turn)) ++ pending_names old.pending.items
   pub numbers : (names : List ℕ) → IsNumbered (length g.cells) names old.numbers.items old.named
       → IsNumbered (length g.cells) (names ++ cells_of (pieces_names (counted_turn code k g (turn_pair turn)))) new.numbers.items new.named
@@ -108,6 +111,7 @@ pub record CanTake (code : List Instr) (k : ℕ) (g : Graph) (turn : Turn) (s : 
   pub counted : IsCounted code k g (turn_pair turn)
   pub room : s.count.at + 2 ^ 67 < 2 ^ 128
   pub empty : s.count.names.items ≡ []
+  pub known : AreKnown code s.known
   pub names : List ℕ
   pub numbers : IsNumbered (length g.cells) names s.numbers.items s.named
 
@@ -120,6 +124,7 @@ pub record IsFresh (n : ℕ) (s : Search) : Type 0 where
   pub pending : s.pending.items ≡ []
   pub at : s.count.at ≡ 0
   pub names : s.count.names.items ≡ []
+  pub known : (code : List Instr) → AreKnown code s.known
 
 -- a search for some stream has come so far, and some items are due
 abbrev pub CanSearch : List Instr → ℕ → Graph → Search → Type 0

@@ -146,7 +146,8 @@ impl Work {
         ensures made { IfOk result (λ work. IsWorkFor fit.now chunk work) }
         ensures long { (n : ℕ) → result ≡ Err (TooLong n) → IsTooLong fit.now chunk n }
     {
-        let mut search = begin(alloc, fit.flat().cell_count())?;
+        let flat = fit.flat();
+        let mut search = begin(alloc, flat.cell_count(), flat.root_count())?;
         let first = first_line(plan, fit);
         let next = roots(&mut search, plan, chunk, fit, first)?;
         pipes(

@@ -8,13 +8,14 @@ ghost use Rattle.ndr_turns.specs.Turned.{root_due, direct_due};
 ghost use Rattle.ndr_chosen.specs.Written.{value_at};
 ghost use Rattle.ndr_encode.specs.Search.{IsFresh, IsTaken, CanTake, CanSearch, StillSearched, CanRoot, RootTaken, CanItem, ItemTaken, called_run, direct_run, unplaced, pending_names, unmarked, first_cell};
 
-use crate::numbering::{make_pending, number, number_all};
-use nd_base::Memory;
+use crate::numbering::{number, settle};
+use nd_base::{Memory, push};
 use nd_flat::Fit;
 use nd_value::{CellId, Home};
 use ndr_code::Instr;
 use ndr_homes::{Turn, write_home};
 use ndr_output::{Count, Named};
+use ndr_structs::Known;
 use ndr_written::Frames;
 use std::alloc::Global;
 
@@ -27,21 +28,23 @@ pub(crate) struct Search {
     pub(crate) named: u32,
     pub(crate) placed: Vec<bool>,
     pub(crate) pending: Vec<Named>,
+    pub(crate) known: Known,
     pub(crate) frames: Frames,
     pub(crate) count: Count,
 }
 
 // No home has its turn, and no cell is named.
-pub(crate) fn begin(alloc: Global, cells: usize) -> Result<Search, Memory>
+pub(crate) fn begin(alloc: Global, cells: usize, roots: usize) -> Result<Search, Memory>
     requires { cells < 2 ^ 32 }
     ensures { IfOk result (λ s. IsFresh cells s) }
 {
     Ok(Search {
-        turns: Vec::new(alloc),
+        turns: Vec::with_capacity(alloc, cells.saturating_add(roots))?,
         numbers: vec![in alloc; 0; cells + 1]?,
         named: 0,
         placed: vec![in alloc; false; cells + 1]?,
         pending: Vec::new(alloc),
+        known: Known::new(),
         frames: Frames::new(),
         count: Count {
             at: 0,
@@ -51,6 +54,7 @@ pub(crate) fn begin(alloc: Global, cells: usize) -> Result<Search, Memory>
 }
 
 // A home takes its turn: its octets are counted, the cells that its pointers name have their numbers, and are pending before the others.
+#[inline(always)]
 pub(crate) fn take_turn(
     search: &mut Search,
     code: &[Instr],
@@ -61,7 +65,7 @@ pub(crate) fn take_turn(
     requires { CanTake code.now chunk fit.now.graph turn search.old }
     ensures { OnOk result (IsTaken code.now chunk fit.now.graph turn search.old search.new) }
 {
-    let Ok(()) = search.turns.push(turn) else {
+    let Ok(()) = push(&mut search.turns, turn) else {
         return Err(Memory);
     };
     write_home(
@@ -70,19 +74,21 @@ pub(crate) fn take_turn(
         chunk,
         turn,
         fit,
+        &mut search.known,
         &mut search.frames,
         &mut search.count,
     )?;
-    number_all(
-        search.count.names.as_slice(),
+    settle(
+        &mut search.count.names,
         &mut search.numbers,
         &mut search.named,
-    );
-    make_pending(&mut search.count.names, &mut search.pending)?;
+        &mut search.pending,
+    )?;
     Ok(())
 }
 
 // A cell has its turn.
+#[inline(always)]
 fn mark(cell: CellId, placed: &mut Vec<bool>)
     requires { cell.0 < length placed.old.items }
     ensures { placed.new.items ≡ set placed.old.items cell.0 true }
@@ -91,6 +97,7 @@ fn mark(cell: CellId, placed: &mut Vec<bool>)
 }
 
 // Takes pending referents up to the first that has no turn yet, if there is one.
+#[inline(always)]
 fn next_unplaced(placed: &[bool], pending: &mut Vec<Named>) -> Option<Named>
     requires { AllByRecursion (λ x. x.0 < length placed.now) (pending_names pending.old.items) }
     ensures some { IfSome result (λ d. unplaced placed.now (pending_names pending.old.items) ≡ (d.cell.0, d.run) ∷ pending_names pending.new.items) }
@@ -106,6 +113,7 @@ fn next_unplaced(placed: &[bool], pending: &mut Vec<Named>) -> Option<Named>
 }
 
 // The next pending referent that has no turn yet takes its turn; whether there was one.
+#[inline(always)]
 fn next_referent(search: &mut Search, code: &[Instr], chunk: u32, fit: &Fit) -> Result<bool, Memory>
     requires { CanSearch code.now chunk fit.now.graph search.old }
     ensures searched { OnOk result (StillSearched code.now chunk fit.now.graph search.old search.new) }

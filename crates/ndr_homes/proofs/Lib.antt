@@ -6,3 +6,4 @@ pub mod HomeTurns
 pub mod LastMaxima
 pub mod Sizes
 pub mod Counts
+pub mod Standing

@@ -12,6 +12,7 @@ use nd_base::Order;
 use nd_flat::Fit;
 use ndr_code::Instr;
 use ndr_output::Fill;
+use ndr_structs::Known;
 use ndr_written::Frames;
 
 // Fills lent octets from their front on.
@@ -24,7 +25,8 @@ fn fill_from(code: &[Instr], chunk: u32, turns: &[Turn], fit: &Fit, fill: &mut F
     ensures filled { fill.new.out.now ≡ pieces_octets fill.old.order (λ c. get_or fill.old.numbers.now c 0) 0 (written_turns code.now chunk fit.now.graph (turn_pairs turns.now)) }
 {
     let mut frames = Frames::new();
-    let Ok(()) = write_turns(code, chunk, turns, fit, &mut frames, fill) else {
+    let mut known = Known::new();
+    let Ok(()) = write_turns(code, chunk, turns, fit, &mut known, &mut frames, fill) else {
         unreachable!()
     };
 }

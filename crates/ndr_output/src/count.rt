@@ -7,7 +7,7 @@ ghost use Rattle.nd_types.specs.Table.{width};
 ghost use Rattle.nd_grammar.specs.Entry.{gap};
 
 use crate::output::Output;
-use nd_base::Memory;
+use nd_base::{Memory, push};
 use nd_flat::Row;
 use nd_types::Prim;
 use nd_value::CellId;
@@ -29,6 +29,7 @@ pub struct Count {
 }
 
 // The length of the gap up to the next multiple; of a multiple of a number that alignments have no division is needed.
+#[inline(always)]
 fn gap_of(at: u128, to: u8) -> u128
     requires { 0 < to }
     ensures { result ≡ gap at to }
@@ -53,13 +54,14 @@ fn row_length(prim: Prim, count: u32) -> u128
 }
 
 // What a pointer names, after what others named.
+#[inline(always)]
 fn keep(names: &mut Vec<Named>, cell: Option<CellId>, run: u32) -> Result<(), Memory>
     ensures { OnOk result (names_of names.new.items ≡ names_of names.old.items ++ named_cell (cell_number cell) run) }
 {
     let Some(cell) = cell else {
         return Ok(());
     };
-    let Ok(()) = names.push(Named { cell, run }) else {
+    let Ok(()) = push(names, Named { cell, run }) else {
         return Err(Memory);
     };
     Ok(())
@@ -75,15 +77,22 @@ impl Output for Count {
 
     ghost may_fail = { true };
 
+    #[inline(always)]
     fn gap(&mut self, to: u8) {
-        self.at = self.at + gap_of(self.at, to);
+        let size = gap_of(self.at, to);
+        if size == 0 {
+            return;
+        }
+        self.at = self.at + size;
     }
 
+    #[inline(always)]
     fn figure(&mut self, prim: Prim, value: i128) {
         let _ = value;
         self.at = self.at + width_of(prim) as u128;
     }
 
+    #[inline(always)]
     fn four(&mut self, value: u32) {
         let _ = value;
         self.at = self.at + 4;
@@ -104,6 +113,7 @@ impl Output for Count {
         self.at = self.at + 20;
     }
 
+    #[inline(always)]
     fn name(&mut self, cell: Option<CellId>, run: u32) -> Result<(), Memory> {
         keep(&mut self.names, cell, run)?;
         self.at = self.at + 4;

@@ -27,6 +27,7 @@ pub struct Fill<'a> {
 }
 
 // The length of the gap up to the next multiple.
+#[inline(always)]
 fn gap_at(at: usize, to: u8) -> usize
     requires { 0 < to }
     ensures { result ≡ gap at to }
@@ -63,6 +64,7 @@ fn patterns_of(prim: Prim) -> i128
 }
 
 // The unsigned number that the octets of a value spell.
+#[inline(always)]
 fn unsigned_of(prim: Prim, value: i128) -> u64
     requires { IsTrue (in_range prim value) }
     ensures number { result ≡ from_signed (width prim) value }
@@ -76,6 +78,7 @@ fn unsigned_of(prim: Prim, value: i128) -> u64
 }
 
 // Two octets that spell a number.
+#[inline(always)]
 fn spell_two(order: Order, value: u16, to: &mut [u8])
     requires { length to.old ≡ 2 }
     ensures { to.new ≡ spelling order 2 value }
@@ -87,6 +90,7 @@ fn spell_two(order: Order, value: u16, to: &mut [u8])
 }
 
 // Four octets that spell a number.
+#[inline(always)]
 fn spell_four(order: Order, value: u32, to: &mut [u8])
     requires { length to.old ≡ 4 }
     ensures { to.new ≡ spelling order 4 value }
@@ -98,6 +102,7 @@ fn spell_four(order: Order, value: u32, to: &mut [u8])
 }
 
 // Eight octets that spell a number.
+#[inline(always)]
 fn spell_eight(order: Order, value: u64, to: &mut [u8])
     requires { length to.old ≡ 8 }
     ensures { to.new ≡ spelling order 8 value }
@@ -109,6 +114,7 @@ fn spell_eight(order: Order, value: u64, to: &mut [u8])
 }
 
 // The number that is written for a pointer.
+#[inline(always)]
 fn number_of(numbers: &[u32], cell: Option<CellId>) -> u32
     ensures { result ≡ number_of_cell (λ c. get_or numbers.now c 0) (cell_number cell) }
 {
@@ -119,6 +125,7 @@ fn number_of(numbers: &[u32], cell: Option<CellId>) -> u32
 }
 
 // Zeros up to the next multiple, from a place on. It gives the place after them, as the functions below do.
+#[inline(always)]
 fn write_gap(at: usize, to: u8, out: &mut [u8]) -> usize
     requires some { 0 < to }
     requires room { at + gap at to ≤ length out.old }
@@ -135,6 +142,7 @@ fn write_gap(at: usize, to: u8, out: &mut [u8]) -> usize
 }
 
 // One octet.
+#[inline(always)]
 fn write_one(value: u8, at: usize, out: &mut [u8]) -> usize
     requires room { at + 1 ≤ length out.old }
     ensures front { take result out.new ≡ take at out.old ++ value ∷ [] }
@@ -145,6 +153,7 @@ fn write_one(value: u8, at: usize, out: &mut [u8]) -> usize
 }
 
 // A number in two octets.
+#[inline(always)]
 fn write_two(order: Order, value: u16, at: usize, out: &mut [u8]) -> usize
     requires room { at + 2 ≤ length out.old }
     ensures front { take result out.new ≡ take at out.old ++ spelling order 2 value }
@@ -156,6 +165,7 @@ fn write_two(order: Order, value: u16, at: usize, out: &mut [u8]) -> usize
 }
 
 // A number in four octets.
+#[inline(always)]
 fn write_four(order: Order, value: u32, at: usize, out: &mut [u8]) -> usize
     requires room { at + 4 ≤ length out.old }
     ensures front { take result out.new ≡ take at out.old ++ spelling order 4 value }
@@ -167,6 +177,7 @@ fn write_four(order: Order, value: u32, at: usize, out: &mut [u8]) -> usize
 }
 
 // A number in eight octets.
+#[inline(always)]
 fn write_eight(order: Order, value: u64, at: usize, out: &mut [u8]) -> usize
     requires room { at + 8 ≤ length out.old }
     ensures front { take result out.new ≡ take at out.old ++ spelling order 8 value }
@@ -178,6 +189,7 @@ fn write_eight(order: Order, value: u64, at: usize, out: &mut [u8]) -> usize
 }
 
 // A number of a primitive, by the width of the primitive.
+#[inline(always)]
 pub(crate) fn write_figure(
     order: Order,
     prim: Prim,
@@ -243,14 +255,17 @@ impl Output for Fill<'_> {
 
     ghost may_fail = { false };
 
+    #[inline(always)]
     fn gap(&mut self, to: u8) {
         self.at = write_gap(self.at, to, self.out);
     }
 
+    #[inline(always)]
     fn figure(&mut self, prim: Prim, value: i128) {
         self.at = write_figure(self.order, prim, value, self.at, self.out);
     }
 
+    #[inline(always)]
     fn four(&mut self, value: u32) {
         self.at = write_four(self.order, value, self.at, self.out);
     }
@@ -268,6 +283,7 @@ impl Output for Fill<'_> {
         self.at = write_handle(self.order, attributes, id, self.at, self.out);
     }
 
+    #[inline(always)]
     fn name(&mut self, cell: Option<CellId>, run: u32) -> Result<(), Memory> {
         let _ = run;
         self.at = write_four(self.order, number_of(self.numbers, cell), self.at, self.out);

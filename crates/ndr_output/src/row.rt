@@ -1,5 +1,5 @@
 // Numbers side by side in octets (C706 section 14.2).
-ghost use Rattle.std.specs.Prelude.{◌≡◌, ◌≢◌, ◌+◌, ◌*◌, ◌<◌, ◌≤◌, ◌++◌, true, length, take};
+ghost use Rattle.std.specs.Prelude.{◌≡◌, ◌+◌, ◌*◌, ◌<◌, ◌≤◌, ◌++◌, true, length, take};
 ghost use Rattle.std.specs.List.{AllByRecursion};
 ghost use Rattle.nd_types.specs.declared.types.Primitive.TheVariants.{Boolean};
 ghost use Rattle.nd_types.specs.Table.{width, in_range};

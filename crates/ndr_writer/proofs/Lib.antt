@@ -1,3 +1,4 @@
 pub mod Elements
 pub mod Going
 pub mod NextNumbers
+pub mod NextMembers

@@ -1,10 +1,19 @@
 -- The next nodes as numbers.
-use Rattle.std.proofs.Common.{◌≡◌, ℕ, ◌+◌, ◌-◌, ◌<◌, ◌≤◌, zero, suc, ℤ, List, [], ◌∷◌, ◌++◌, length, refl, ap, ap₂, sym, ◌∙◌, arith, append_assoc}
+use Rattle.std.proofs.Common.{◌≡◌, ℕ, ◌+◌, ◌-◌, ◌<◌, ◌≤◌, zero, suc, ℤ, true, false, List, [], ◌∷◌, ◌++◌, length, refl, ap, ap₂, sym, ◌∙◌, arith, append_assoc}
+use Rattle.std.specs.Prelude.{◌==◌}
+use Rattle.std.proofs.lemmas.Bool.{ne_eqb}
 use Rattle.nd_types.specs.declared.types.Primitive.{Primitive}
+use Rattle.nd_types.specs.Table.{width}
 use Rattle.nd_value.specs.Tree.{Flat}
 use Rattle.nd_flat.specs.FlatForm.{num_flats}
-use Rattle.ndr_pieces.specs.Pieces.{Piece, number_pieces, row_pieces}
+use Rattle.ndr_pieces.specs.Pieces.{Piece, Gap, Figure, gap_pieces, number_pieces, row_pieces}
 use Rattle.ndr_written.specs.Run.{here, later, num_in, numbers, after}
+
+-- a number of more than one octet
+pub number_after : (to : ℕ) (p : Primitive) (z : ℤ) (qs : List Piece) → to ≡ width p → 1 < to → number_pieces p z ++ qs ≡ Gap to ∷ Figure p z ∷ qs
+number_after to p z qs e some =
+    let other : (to == 1) ≡ false = ne_eqb to 1 (λ one. absurd (omega (arith, some, one))) in
+    ap (λ n. (gap_pieces n ++ Figure p z ∷ []) ++ qs) (sym e) ∙ ap (λ b. ((elim b as (λ _. List Piece) [ true ↦ [] | false ↦ Gap to ∷ [] ]) ++ Figure p z ∷ []) ++ qs) other
 
 -- numbers that come next, and the nodes after them
 pub numbers_of_row : (zs : List ℤ) (gs : List Flat) (n : ℕ) → numbers (length zs + n) (num_flats zs ++ gs) ≡ zs ++ numbers n gs

@@ -1,7 +1,7 @@
 // Elements of arrays and pipes.
 ghost use Rattle.std.specs.Prelude.{◌≡◌, ℕ, ◌≤◌, ◌∷◌, List, true};
 ghost use Rattle.nd_value.specs.Tree.{Flat, flat};
-ghost use Rattle.ndr_pieces.specs.Pieces.{Piece, Gap, four};
+ghost use Rattle.ndr_pieces.specs.Pieces.{four};
 ghost use Rattle.ndr_output.specs.Outputs.{Moves, Able};
 ghost use Rattle.ndr_written.specs.Frames.{pushed};
 ghost use Rattle.ndr_written.specs.declared.frames.Frame.TheVariants.{Array, Pipe};

@@ -5,6 +5,8 @@ mod arrays;
 mod lookups;
 mod nodes;
 mod numbers;
+mod structs;
 mod writing;
 
+pub use structs::write_struct;
 pub use writing::{Run, write_run};

@@ -1,40 +1,13 @@
 // Instructions of a plan's code: total look-ups.
-ghost use Rattle.std.specs.Prelude.{◌≡◌, ◌<◌, ◌≤◌, ◌+◌, ◌∷◌, ℕ, List, true, false, drop, length, slice_get, IfSome, option_map, unwrap_or};
+ghost use Rattle.std.specs.Prelude.{◌≡◌, ◌<◌, ◌+◌, ◌∷◌, List, true, false, drop, option_map, unwrap_or};
 ghost use Rattle.ndr_code.specs.declared.instr.Instr.{Instr};
-ghost use Rattle.ndr_written.specs.Run.{carrier_of as carrier, target, past_checks as past, num_type, is_ret as ends, row_of as row_from, row_at};
+ghost use Rattle.ndr_written.specs.Run.{target, num_type, is_ret as ends, row_of as row_from, row_at};
 ghost use Rattle.ndr_code.specs.declared.instr.Instr.TheVariants.{Align};
 
 use nd_types::{Prim, TypeId};
 use ndr_code::Instr;
 use ndr_prim::width_of;
-
-// The instruction at an address, if there is one.
-pub(crate) fn instr_at(code: &[Instr], at: usize) -> Option<Instr>
-    ensures value { result ≡ slice_get code.now at }
-    ensures below { IfSome result (λ i. at < length code.now) }
-{
-    code.get(at).copied()
-}
-
-// The primitive in whose octets a number of a type is.
-pub(crate) fn carrier_of(of: TypeId) -> Prim
-    ensures { result ≡ carrier of.0 }
-{
-    match of.0 {
-        0 => Prim::Boolean,
-        1 => Prim::Char,
-        2 => Prim::Byte,
-        3 => Prim::Small,
-        4 => Prim::UnsignedSmall,
-        5 => Prim::Short,
-        6 => Prim::UnsignedShort,
-        7 => Prim::Long,
-        8 => Prim::UnsignedLong,
-        9 => Prim::Hyper,
-        10 => Prim::UnsignedHyper,
-        _ => Prim::Short,
-    }
-}
+use ndr_structs::{carrier_of, instr_at};
 
 // The address at which an instruction among the arms of a union ends the search for a tag; None where the next one is to be asked.
 fn arm_of(instr: &Instr, tag: i128) -> Option<u32>
@@ -62,29 +35,6 @@ pub(crate) fn arm_at(code: &[Instr], from: usize, tag: i128) -> usize
         }
     }
     1
-}
-
-// Whether an instruction is an agreement.
-fn is_check(instr: &Instr) -> bool
-    ensures { (is : List Instr) (at : ℕ) → past (instr.now ∷ is) at ≡ elim result [ true ↦ past is (at + 1) | false ↦ at ] }
-{
-    match instr {
-        Instr::Check { .. } => true,
-        _ => false,
-    }
-}
-
-// The address of the first instruction that is no agreement, from an address on.
-pub(crate) fn past_checks(code: &[Instr], from: usize) -> usize
-    requires { from ≤ length code.now }
-    ensures { result ≡ past (drop from code.now) from }
-{
-    for at in from..code.len() {
-        if !is_check(&code[at]) {
-            return at;
-        }
-    }
-    code.len()
 }
 
 // The type of a number.

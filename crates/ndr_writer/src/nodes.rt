@@ -1,12 +1,15 @@
 // The next nodes of a home, and what they say: total look-ups.
-ghost use Rattle.std.specs.Prelude.{◌≡◌};
-ghost use Rattle.nd_value.specs.Tree.{flat};
+ghost use Rattle.std.specs.Prelude.{◌≡◌, pos, None};
+ghost use Rattle.nd_value.specs.Seen.{cell_number};
+ghost use Rattle.nd_value.specs.Tree.{cell_in, flat};
 ghost use Rattle.nd_flat.specs.FlatForm.{flat_seen};
 ghost use Rattle.ndr_written.specs.Run.{here, later, num_in, tag_in, offset_in, octets_in};
 
 use nd_flat::{Seen, Walk};
+use nd_value::CellId;
 
 // The next node; the number 0 where there is none.
+#[inline(always)]
 pub(crate) fn next_node<'a>(walk: &mut Walk<'a>) -> Seen<'a>
     ensures node { flat_seen result ≡ here (flat walk.old) }
     ensures rest { flat walk.new ≡ later (flat walk.old) }
@@ -17,13 +20,45 @@ pub(crate) fn next_node<'a>(walk: &mut Walk<'a>) -> Seen<'a>
     }
 }
 
-// The number that a node is, or 0.
-pub(crate) fn number_of(seen: &Seen<'_>) -> i128
-    ensures { result ≡ num_in (flat_seen seen.now).0 }
+// What a node that is no number is taken for. It is a call so that numbers are not chosen by a test of their node.
+#[cold]
+#[inline(never)]
+fn no_number() -> i128
+    ensures { result ≡ pos 0 }
 {
-    match seen {
-        Seen::Num(value) => *value,
-        _ => 0,
+    0
+}
+
+// The same of a node that is no pointer.
+#[cold]
+#[inline(never)]
+fn no_cell() -> Option<CellId>
+    ensures { cell_number result ≡ None }
+{
+    None
+}
+
+// The next node as a number; 0 where it is none.
+#[inline(always)]
+pub(crate) fn next_number(walk: &mut Walk<'_>) -> i128
+    ensures number { result ≡ num_in (here (flat walk.old)).0 }
+    ensures rest { flat walk.new ≡ later (flat walk.old) }
+{
+    match next_node(walk) {
+        Seen::Num(value) => value,
+        _ => no_number(),
+    }
+}
+
+// The cell that the next node names, if it is a pointer that is not null.
+#[inline(always)]
+pub(crate) fn next_cell(walk: &mut Walk<'_>) -> Option<CellId>
+    ensures cell { cell_number result ≡ cell_in (here (flat walk.old)).0 }
+    ensures rest { flat walk.new ≡ later (flat walk.old) }
+{
+    match next_node(walk) {
+        Seen::Ptr(cell) => cell,
+        _ => no_cell(),
     }
 }
 

@@ -1,45 +1,61 @@
 // Numbers side by side.
 ghost use Rattle.std.specs.Prelude.{◌≡◌, ◌-◌, ◌<◌, ◌≤◌, ◌++◌, List};
 ghost use Rattle.nd_value.specs.Tree.{flat};
-ghost use Rattle.ndr_pieces.specs.Pieces.{Piece, gap_pieces, number_pieces, row_pieces};
+ghost use Rattle.ndr_pieces.specs.Pieces.{Piece, number_pieces, row_pieces};
 ghost use Rattle.nd_types.specs.Table.{width};
 ghost use Rattle.ndr_output.specs.Outputs.{Moves, Able};
 ghost use Rattle.ndr_written.specs.Run.{here, later, num_in, numbers, after};
 
-use crate::nodes::{next_node, number_of};
+use crate::nodes::next_number;
 use nd_flat::Walk;
 use nd_types::Prim;
 use ndr_output::Output;
 use ndr_prim::width_of;
 
-// The gap before a number.
-fn write_gap<O: Output>(prim: Prim, out: &mut O)
-    requires { (qs : List Piece) × Able O.can out.old (gap_pieces (width prim) ++ qs) }
-    ensures { (qs : List Piece) → Moves O.can O.whole out.old out.new (gap_pieces (width prim) ++ qs) qs }
+// A number with its gap, which leads to a multiple of so many octets.
+#[inline(always)]
+fn write_after<O: Output>(to: u8, prim: Prim, value: i128, out: &mut O)
+    requires wide { to ≡ width prim }
+    requires some { 1 < to }
+    requires able { (qs : List Piece) × Able O.can out.old (number_pieces prim value ++ qs) }
+    ensures { (qs : List Piece) → Moves O.can O.whole out.old out.new (number_pieces prim value ++ qs) qs }
 {
-    let to = width_of(prim);
-    if to == 1 {
-        return;
-    }
-    out.gap(to as u8);
+    out.gap(to);
+    out.figure(prim, value);
 }
 
-// A number with its gap.
+// A number of one octet, which has no gap.
+#[inline(always)]
+fn write_octet<O: Output>(prim: Prim, value: i128, out: &mut O)
+    requires wide { width prim ≡ 1 }
+    requires able { (qs : List Piece) × Able O.can out.old (number_pieces prim value ++ qs) }
+    ensures { (qs : List Piece) → Moves O.can O.whole out.old out.new (number_pieces prim value ++ qs) qs }
+{
+    out.figure(prim, value);
+}
+
+// A number with its gap. The widths are told apart first, so that each has code of its own.
+#[inline(always)]
 fn write_number<O: Output>(prim: Prim, value: i128, out: &mut O)
     requires { (qs : List Piece) × Able O.can out.old (number_pieces prim value ++ qs) }
     ensures { (qs : List Piece) → Moves O.can O.whole out.old out.new (number_pieces prim value ++ qs) qs }
 {
-    write_gap(prim, out);
-    out.figure(prim, value);
+    match width_of(prim) {
+        1 => write_octet(prim, value, out),
+        2 => write_after(2, prim, value, out),
+        4 => write_after(4, prim, value, out),
+        wide => write_after(wide as u8, prim, value, out),
+    }
 }
 
 // The next node as a number with its gap.
-fn write_one<O: Output>(prim: Prim, walk: &mut Walk<'_>, out: &mut O)
+#[inline(always)]
+pub(crate) fn write_one<O: Output>(prim: Prim, walk: &mut Walk<'_>, out: &mut O)
     requires { (qs : List Piece) × Able O.can out.old (number_pieces prim (num_in (here (flat walk.old)).0) ++ qs) }
     ensures written { (qs : List Piece) → Moves O.can O.whole out.old out.new (number_pieces prim (num_in (here (flat walk.old)).0) ++ qs) qs }
     ensures rest { flat walk.new ≡ later (flat walk.old) }
 {
-    let value = number_of(&next_node(walk));
+    let value = next_number(walk);
     write_number(prim, value, out);
 }
 

@@ -9,13 +9,14 @@ ghost use Rattle.ndr_written.specs.Run.{Rest, here, later, num_in, tag_in, octet
 ghost use Rattle.ndr_writer.specs.Going.{left};
 
 use crate::arrays::{array, next_element, next_of_pipe, pipe, varying};
-use crate::lookups::{arm_at, carrier_of, instr_at, past_checks};
-use crate::nodes::{next_node, number_of, octets_of, tag_of};
+use crate::lookups::arm_at;
+use crate::nodes::{next_cell, next_node, next_number, octets_of, tag_of};
 use nd_base::Memory;
 use nd_flat::{Seen, Walk};
 use nd_types::Prim;
 use ndr_code::Instr;
 use ndr_output::Output;
+use ndr_structs::{carrier_of, instr_at, past_checks};
 use ndr_written::{Frame, Frames};
 
 /// What a run is written by: the code of a plan, the maximum count before the home, and the greatest count of a chunk.
@@ -93,7 +94,7 @@ fn number<O: Output>(prim: Prim, walk: &mut Walk<'_>, out: &mut O) -> bool
     ensures written { (qs : List Piece) → Moves O.can O.whole out.old out.new (Figure prim (num_in (here (flat walk.old)).0) ∷ qs) qs }
     ensures rest { flat walk.new ≡ later (flat walk.old) }
 {
-    let value = number_of(&next_node(walk));
+    let value = next_number(walk);
     out.figure(prim, value);
     true
 }
@@ -169,14 +170,15 @@ fn call(run: u32, pc: &mut usize, frames: &mut Frames) -> bool
 }
 
 // The number of a pointer.
-fn pointer<O: Output>(run: u32, walk: &mut Walk<'_>, out: &mut O) -> Result<(), Memory>
+#[inline(always)]
+pub(crate) fn pointer<O: Output>(run: u32, walk: &mut Walk<'_>, out: &mut O) -> Result<(), Memory>
     requires { (qs : List Piece) × Able O.can out.old (Name (cell_in (here (flat walk.old)).0) run ∷ qs) }
     ensures written { OnOk result ((qs : List Piece) → Moves O.can O.whole out.old out.new (Name (cell_in (here (flat walk.old)).0) run ∷ qs) qs) }
     ensures rest { flat walk.new ≡ later (flat walk.old) }
     ensures fails { IsErr result → O.may_fail ≡ true }
 {
-    let node = next_node(walk);
-    out.name(node.named_cell(), run)?;
+    let cell = next_cell(walk);
+    out.name(cell, run)?;
     Ok(())
 }
 

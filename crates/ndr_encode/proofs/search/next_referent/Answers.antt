@@ -15,7 +15,7 @@ pub returns-in_default-clause-searched : goal.returns-in_default-clause-searched
 returns-in_default-clause-searched c x due y s =
     let old = c.args.search.now in
     none_left_pending c.args.code.now c.args.chunk c.args.fit.now.graph x y due old _ s
-    (ap (λ bs. unplaced bs (pending_names old.pending.items)) (sym c.as_slice.ensures.value) ∙ c.in_default.ensures.none) c.in_default.ensures.over refl refl refl refl refl
+    (ap (λ bs. unplaced bs (pending_names old.pending.items)) (sym c.as_slice.ensures.value) ∙ c.in_default.ensures.none) c.in_default.ensures.over refl refl refl refl refl s.counted.known
 
 pub mark-requires : goal.mark-requires
 mark-requires c =
@@ -31,14 +31,14 @@ take_turn-requires c =
     let old = c.args.search.now in
     ready_can c.args.code.now c.args.chunk c.args.fit.now.graph x y due _ _
     (cell_ready c.args.code.now c.args.chunk c.args.fit.now.graph x y due old _ s c.in-Some.named
-    (ap (λ bs. unplaced bs (pending_names old.pending.items)) (sym c.as_slice.ensures.value) ∙ c.in-Some.ensures.some) c.mark.ensures refl refl refl refl refl)
+    (ap (λ bs. unplaced bs (pending_names old.pending.items)) (sym c.as_slice.ensures.value) ∙ c.in-Some.ensures.some) c.mark.ensures refl refl refl refl refl s.counted.known)
 
 pub returns-clause-searched : goal.returns-clause-searched
 returns-clause-searched c x due y s =
     let old = c.args.search.now in
     ready_after c.args.code.now c.args.chunk c.args.fit.now.graph x y due _ _
     (cell_ready c.args.code.now c.args.chunk c.args.fit.now.graph x y due old _ s c.in-Some.named
-    (ap (λ bs. unplaced bs (pending_names old.pending.items)) (sym c.as_slice.ensures.value) ∙ c.in-Some.ensures.some) c.mark.ensures refl refl refl refl refl)
+    (ap (λ bs. unplaced bs (pending_names old.pending.items)) (sym c.as_slice.ensures.value) ∙ c.in-Some.ensures.some) c.mark.ensures refl refl refl refl refl s.counted.known)
     _ c.in_ok-take_turn.ensures
 
 pub returns-clause-more : goal.returns-clause-more

@@ -17,15 +17,14 @@ write_home-requires-clause-able c =
     let ps : List Piece = counted_turn c.args.code.now c.args.chunk c.args.fit.now.graph (turn_pair c.args.turn) in
     record { rest = []; can_follow = can_count at ps (c.requires.counted.short at) c.requires.room c.requires.counted.fits }
 
-pub number_all-requires : goal.number_all-requires
-number_all-requires c =
+pub settle-requires : goal.settle-requires
+settle-requires c =
     let g = c.args.fit.now.graph in
     let ps : List Piece = counted_turn c.args.code.now c.args.chunk g (turn_pair c.args.turn) in
     let old = c.args.search.now.count in
     let new = c.write_home.new.out in
-    let named : names_of c.as_slice.result.now ≡ pieces_names ps =
-    ap names_of c.as_slice.ensures.value ∙ counted_names old.at new.at old.names.items new.names.items ps (c.in_ok-write_home.ensures.written.same []) c.requires.empty in
-    (length g.cells, c.requires.names, c.requires.few_cells, subst (λ l. AreWithin (length g.cells) (cells_of l)) (sym named) (cells_within g (pieces_names ps) c.requires.counted.cells), c.requires.numbers)
+    let here : names_of new.names.items ≡ pieces_names ps = counted_names old.at new.at old.names.items new.names.items ps (c.in_ok-write_home.ensures.written.same []) c.requires.empty in
+    (length g.cells, c.requires.names, c.requires.few_cells, subst (λ l. AreWithin (length g.cells) (cells_of l)) (sym here) (cells_within g (pieces_names ps) c.requires.counted.cells), c.requires.numbers)
 
 pub returns : goal.returns
 returns c =
@@ -34,16 +33,17 @@ returns c =
     let old = c.args.search.now.count in
     let new = c.write_home.new.out in
     let here : names_of new.names.items ≡ pieces_names ps = counted_names old.at new.at old.names.items new.names.items ps (c.in_ok-write_home.ensures.written.same []) c.requires.empty in
-    let named : names_of c.as_slice.result.now ≡ pieces_names ps = ap names_of c.as_slice.ensures.value ∙ here in
-    let within : AreWithin (length g.cells) (cells_of (names_of c.as_slice.result.now)) =
-    subst (λ l. AreWithin (length g.cells) (cells_of l)) (sym named) (cells_within g (pieces_names ps) c.requires.counted.cells) in
+    let within : AreWithin (length g.cells) (cells_of (names_of new.names.items)) =
+    subst (λ l. AreWithin (length g.cells) (cells_of l)) (sym here) (cells_within g (pieces_names ps) c.requires.counted.cells) in
     record {
-      turns = c.in-Ok.ensures.items;
+      turns = c.in-Ok.ensures.ok;
       placed = refl;
       at = counted_end old.at new.at old.names.items new.names.items ps (c.in_ok-write_home.ensures.written.same []);
-      empty = c.in_ok-make_pending.ensures.names;
+      empty = c.in_ok-settle.ensures.names;
+      known = c.in_ok-write_home.ensures.known;
       pending =
-          pend_more c.args.search.now.pending.items c.make_pending.new.pending.items new.names.items c.in_ok-make_pending.ensures.pending
+          pend_more c.args.search.now.pending.items c.settle.new.pending.items new.names.items c.in_ok-settle.ensures.pending
           ∙ ap (λ l. l ++ pending_names c.args.search.now.pending.items) here;
-      numbers = λ names x. subst (λ l. IsNumbered (length g.cells) (names ++ cells_of l) c.number_all.new.numbers.items c.number_all.new.named) named (c.number_all.ensures (length g.cells) names within x);
+      numbers = λ names x. subst (λ l. IsNumbered (length g.cells) (names ++ cells_of l) c.settle.new.numbers.items c.settle.new.named) here
+          (c.in_ok-settle.ensures.numbers (length g.cells) names within x);
     }

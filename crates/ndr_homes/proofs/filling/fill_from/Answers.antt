@@ -14,3 +14,6 @@ returns-clause-filled c =
     let more : ℕ → ℕ = λ b. get_or new.numbers.now b 0 in
     (all_filled old.out.ghost_name new.out.ghost_name old.order new.order num more new.at old.out.now new.out.now ps c.requires.long
     (c.in-Ok.ensures.written.same [] ∙ ap (λ k. fill_whole old.out.ghost_name old.order num k old.out.now (ps ++ [])) c.requires.front)).1
+
+pub write_turns-requires-clause-known : goal.write_turns-requires-clause-known
+write_turns-requires-clause-known c = c.new-known.ensures c.args.code.now

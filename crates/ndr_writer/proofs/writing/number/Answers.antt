@@ -3,13 +3,12 @@ use Rattle.std.proofs.lemmas.Int.{to_z-of_z}
 use mir.Val.{SFits}
 use mir.Syntax.{w128}
 use Rattle.ndr_pieces.specs.Pieces.{Figure}
-use Rattle.ndr_written.specs.Run.{num_in}
 use Rattle.ndr_writer.proofs.Going.{moves_from}
 use Rattle.ndr_writer.proofs.writing.number.Goals as goal
 
 pub returns-clause-written : goal.returns-clause-written
 returns-clause-written g c = λ qs.
-    let fits : SFits w128 c.number_of-value.result = search rules in
+    let fits : SFits w128 c.next_number-value.result = search rules in
     moves_from g.O.Output.can g.O.Output.whole _ _ _ _ _
-    (ap (λ z. Figure c.args.prim z ∷ qs) (sym (to_z-of_z w128 c.number_of-value.result fits ∙ c.number_of-value.ensures ∙ ap (λ f. num_in f.0) c.next_node.ensures.node)))
+    (ap (λ z. Figure c.args.prim z ∷ qs) (sym (to_z-of_z w128 c.next_number-value.result fits ∙ c.next_number-value.ensures.number)))
     (c.figure.ensures qs)
