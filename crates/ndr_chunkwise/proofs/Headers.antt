@@ -23,7 +23,7 @@ use Rattle.ndr_state.specs.declared.fault.DecodeFault.{DecodeFault}
 use Rattle.ndr_state.specs.declared.fault.DecodeFault.TheVariants as fault
 use Rattle.ndr_state.specs.declared.machine.Machine.{Machine}
 use Rattle.ndr_steps.specs.StepItems.{gap_items, item_here}
-use Rattle.ndr_verdict.specs.Verdict.{DecodingSeen, HasNoted, with_items}
+use Rattle.ndr_verdict.specs.Verdict.{DecodingSeen, HasNoted}
 use Rattle.ndr_chunks.specs.Chunks.{HasMoved}
 use Rattle.ndr_chunks.specs.Counted.{ChunkCounted, ChunkStopped, GapStopped, UncountedChunk, count_item_at, in_the_count, in_the_gap}
 use Rattle.ndr_chunks.specs.Fetched.{CountBad, CountCame, GapBad, GapCame}
@@ -98,7 +98,9 @@ module _ (w : Setting) (legal : IsLegalSide w) (order : Order) (spot : Spot) (pi
 
     gap_fault : (e : DecodeFault) → GapCame m.at s os (Err e) → FillsNot w order spot s t e
     gap_fault (fault.Bad place why) x = gap_bad place why x
-    gap_fault fault.ReadFault x = (x, gap_part)
+    gap_fault fault.ReadFault (less, risen) =
+        let fewer : length os < gap spot.place 4 = subst (λ z. length os < gap z 4) o.at less in
+        (risen, record { octets = os; noted = []; short = gap_refused w legal order spot pipe os all fewer; took = took_gap })
     gap_fault fault.Memory x = gap_part
 
   -- ## The count
@@ -168,7 +170,16 @@ module _ (w : Setting) (legal : IsLegalSide w) (order : Order) (spot : Spot) (pi
 
       count_fault : (e : DecodeFault) → CountCame (m.at + length g) s os (Err e) → FillsNot w order spot s t e
       count_fault (fault.Bad place why) x = count_bad place why x
-      count_fault fault.ReadFault x = (x, count_part)
+      count_fault fault.ReadFault (short, less, risen) =
+          let near : after_count spot ≤ STREAM_LIMIT = subst (λ z. z ≤ STREAM_LIMIT) there short in (
+            risen,
+            record {
+              octets = g ++ os;
+              noted = gap_items (pipe_home spot) spot.place g;
+              short = count_refused w legal order spot pipe g os of_gap size_is of_count less near;
+              took = took_count;
+            },
+          )
       count_fault fault.Memory x = count_part
 
   -- the gap or the count did not come, or was not noted

@@ -57,13 +57,13 @@ use Rattle.ndr_chunks.specs.Opening.{BeginsElements}
 use Rattle.ndr_decode.specs.Piping.{IsPipeBy}
 use Rattle.ndr_decode.specs.Streaming.{HomeWhole}
 use Rattle.ndr_decode.proofs.AtRoots.{planned_is}
-use Rattle.ndr_decode.proofs.HomeComes.{decoding_of, noted_as, ticks_are, whole_comes}
+use Rattle.ndr_decode.proofs.HomeComes.{cut_place, decoding_of, noted_as, ticks_are, whole_comes}
 use Rattle.ndr_decode.proofs.PipeElements.{elements_fine}
 use Rattle.ndr_parts.specs.Parts.{Spot}
 use Rattle.ndr_part_reader.specs.PartReader.{IsAtPipe, after_count, before_place, header_items, part_target, pipe_home, to_elements, type_of_root}
 use Rattle.ndr_part_reader.specs.Outcomes.{OpensPart, PartCut, PartRefused, PartWhole}
 use Rattle.ndr_part_reader.proofs.Meeting.{elements_begin, elements_cut, elements_pipe, elements_refused, elements_safe, elements_whole}
-use Rattle.ndr_chunkwise.specs.Chunks.{FilledBad, FilledPart, FilledWhole, FillsNot, HasElements, IsOpened, TookOctets}
+use Rattle.ndr_chunkwise.specs.Chunks.{FilledBad, FilledPart, FilledUnread, FilledWhole, FillsNot, HasElements, IsOpened, TookOctets}
 use Rattle.ndr_chunkwise.proofs.Headers.{counted_at, counted_near, gap_is, header_noted, header_stepped, none_noted, not_cut, of_count_all, of_gap_all, took_header}
 
 -- a count that is not 0
@@ -308,6 +308,27 @@ module _ (plan : Plan) (w : Setting) (legal : IsLegalSide w) (order : Order) (sp
             none_left = λ u. subst IsAtEnd (sym f.after) (at_end u);
           }
 
+      -- the source failed before all octets of a step came
+      unread_of : (e : Comes) → IsCut (wants plan.values e.i e.s) e.os e.s.at → IsLogged e.noted (state_of o) e.s notes → FilledUnread w order spot s t
+      unread_of e cut (log, steps) =
+          let octets : List ℕ = (c.gap_octets ++ c.count_octets) ++ (e.fetched ++ e.os) in
+          let (part, clear) =
+          elements_refused w legal order spot pipe elem by_plan.there c.gap_octets c.count_octets gall gsize oall c.size near k (c.value ∙ some) (e.fetched ++ e.os) (all_of e) e.noted (length e.s.cells)
+          (e.s.at + length e.os) reason.Truncated
+          (cut_end plan.values order plan.code w.table h own 33 0 target planned f0 n0 (state_of o) g0 e.fetched e.noted e.s e.reached e.i e.there e.os cut) (needed_of e (inr cut)) in
+          let place : e.s.at + length e.os ≡ length (f0 ++ (e.fetched ++ e.os)) = cut_place plan.values order plan.code w.table h own 33 0 target planned f0 n0 (state_of o) g0 b notes e cut in
+          let x : length (f0 ++ (e.fetched ++ e.os)) ≡ length f0 + length (e.fetched ++ e.os) = length-append f0 (e.fetched ++ e.os) in
+          let y : length f0 ≡ length (before_place spot) + length (c.gap_octets ++ c.count_octets) = length-append (before_place spot) (c.gap_octets ++ c.count_octets) in
+          let z : length (before_place spot) ≡ spot.place = length-replicate spot.place 0 in
+          let j : length octets ≡ length (c.gap_octets ++ c.count_octets) + length (e.fetched ++ e.os) = length-append (c.gap_octets ++ c.count_octets) (e.fetched ++ e.os) in
+          let at_end : e.s.at + length e.os ≡ spot.place + length octets = omega (arith, place, x, y, z, j) in
+          record {
+            octets = octets;
+            noted = n0 ++ e.noted;
+            short = subst (λ q. PartRefused w order spot octets (n0 ++ e.noted) q reason.Truncated) at_end part;
+            took = took_of e clear (log, omega (arith, steps));
+          }
+
       abbrev IsOther : Reason → Type 0
       IsOther reason.Truncated = ⊥
       IsOther why = Unit {0}
@@ -345,7 +366,8 @@ module _ (plan : Plan) (w : Setting) (legal : IsLegalSide w) (order : Order) (sp
 
       fault_here : s.faults.now ≡ b.faults.now → s.faults.before ≤ b.faults.before → (s1 : State) (e : DecodeFault) → EndsFault plan.values order plan.code h (state_of o) b notes s1 e → FillsNot w order spot s t e
       fault_here same low s1 (fault.Bad place why) x = bad_comes s1 place why x
-      fault_here same low s1 fault.ReadFault ((e, logged), risen) = (subst (λ z. Rose s.faults.before z) (sym same) (rose_later s.faults.before b.faults.before b.faults.now low risen), part_of e logged)
+      fault_here same low s1 fault.ReadFault ((e, (cut, logged)), risen) =
+          (subst (λ z. Rose s.faults.before z) (sym same) (rose_later s.faults.before b.faults.before b.faults.now low risen), unread_of e cut logged)
       fault_here same low s1 fault.Memory (e, logged) = part_of e logged
 
       pub fault_comes : s.faults.now ≡ b.faults.now → s.faults.before ≤ b.faults.before → (s1 : State) (e : DecodeFault) → EndsFault plan.values order plan.code o.home (state_of o) b notes s1 e → FillsNot w order spot s t e

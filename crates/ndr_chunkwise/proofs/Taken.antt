@@ -24,8 +24,8 @@ use Rattle.ndr_parts.specs.Parts.{Spot, part_items}
 use Rattle.ndr_part_reader.specs.PartReader.{moved_item, moved_items}
 use Rattle.ndr_part_reader.specs.Outcomes.{PartCut}
 use Rattle.ndr_part_reader.proofs.Meeting.{fewer}
-use Rattle.ndr_chunkwise.specs.Calls.{IsChunkCounted, IsChunkCut, IsChunkFault, IsChunkRefused}
-use Rattle.ndr_chunkwise.specs.Chunks.{Fills, FillsNot, FilledBad, FilledPart, FilledWhole, TakenWhole, Takes, TookOctets}
+use Rattle.ndr_chunkwise.specs.Calls.{IsChunkCounted, IsChunkCut, IsChunkFault, IsChunkRefused, IsChunkUnread}
+use Rattle.ndr_chunkwise.specs.Chunks.{Fills, FillsNot, FilledBad, FilledPart, FilledUnread, FilledWhole, TakenWhole, Takes, TookOctets}
 use Rattle.ndr_chunkwise.specs.Handing.{AreNotedPart, HandsOn}
 
 -- ## Items that are moved
@@ -108,6 +108,14 @@ module _ (w : Setting) (order : Order) (spot : Spot) (s : SourceSeen) (t : Decod
     stays = x.refused.stays;
   }
 
+  unread_counted : (d : DecodingSeen) (x : FilledUnread w order spot s d) → HasNoted (moved_items spot x.noted) t → t.steps_now ≤ t.steps + length (but_gaps x.noted) → IsChunkUnread w order spot s t
+  unread_counted d x log steps = record {
+    fetched = x.octets;
+    left = x.took.left;
+    short = x.short.bad;
+    counted = counted_of x.octets x.noted x.short.bad.earlier x.short.items_are x.short.few log steps;
+  }
+
   whole_counted : (d : DecodingSeen) (m : Machine) (count : ℕ) (x : FilledWhole w order spot s d m count) → HasNoted (moved_items spot x.noted) t → t.steps_now ≡ t.steps + length (but_gaps x.noted)
       → TakenWhole w order spot s t m count
   whole_counted d m count x log steps = record {
@@ -135,7 +143,12 @@ part_of w order spot s d m (Err (fault.Bad place why)) x = record {
   cut = record { earlier = x.refused.bad.earlier; through = x.refused.bad.through; items_are = x.refused.items_are; few = x.refused.few };
   took = x.took;
 }
-part_of w order spot s d m (Err fault.ReadFault) (risen, x) = x
+part_of w order spot s d m (Err fault.ReadFault) (risen, x) = record {
+  octets = x.octets;
+  noted = x.noted;
+  cut = record { earlier = x.short.bad.earlier; through = x.short.bad.through; items_are = x.short.items_are; few = x.short.few };
+  took = x.took;
+}
 part_of w order spot s d m (Err fault.Memory) x = x
 
 module _ (w : Setting) (order : Order) (spot : Spot) (s : SourceSeen) (own kept g h : Logged) (from to steps : ℕ) (before : ℕ) (is_before : spot.node - 1 ≡ before) (keeps : own.keeps ≡ g.keeps) (empty : own.items ≡ [])
@@ -171,7 +184,7 @@ module _ (w : Setting) (order : Order) (spot : Spot) (s : SourceSeen) (own kept 
         go (Err (fault.Bad place why)) x =
             bad_counted w order spot s (decoding_seen g h steps after) place why (decoding_seen own kept from to) x (log_of_all x.noted x.took.logged) (few_steps x.noted x.took.steps)
         go (Err fault.ReadFault) (risen, x) =
-            (risen, cut_counted w order spot s (decoding_seen g h steps after) x.octets x.noted x.cut x.took.left (log_of_all x.noted x.took.logged) (few_steps x.noted x.took.steps))
+            (risen, unread_counted w order spot s (decoding_seen g h steps after) (decoding_seen own kept from to) x (log_of_all x.noted x.took.logged) (few_steps x.noted x.took.steps))
         go (Err fault.Memory) x =
             cut_counted w order spot s (decoding_seen g h steps after) x.octets x.noted x.cut x.took.left (log_of_all x.noted x.took.logged) (few_steps x.noted x.took.steps)
 

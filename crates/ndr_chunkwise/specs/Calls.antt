@@ -22,7 +22,8 @@ use Rattle.nd_grammar.specs.Stream.{head_entries}
 use Rattle.ndr_state.specs.declared.fault.DecodeFault.{DecodeFault}
 use Rattle.ndr_state.specs.declared.fault.DecodeFault.TheVariants as fault
 use Rattle.ndr_verdict.specs.Verdict.{DecodingSeen, HasNoted, IsCounted, IsCutOff, IsRefused, MayFollow, fetched_to}
-use Rattle.ndr_parts.specs.Parts.{AreReadTo, BadPart, IsPart, IsPartThrough, Part, Spot, after, first_spot, part_items}
+use Rattle.ndr_stream.specs.Report.{IsUnread}
+use Rattle.ndr_parts.specs.Parts.{AreReadTo, BadHead, BadPart, IsPart, IsPartThrough, Part, Spot, after, first_spot, part_items}
 use Rattle.ndr_chunkwise.specs.declared.intake.Phase.TheVariants.{Begun, Reading, Failed}
 use Rattle.ndr_chunkwise.specs.Seen.{IntakeSeen, moved_to}
 
@@ -58,18 +59,31 @@ pub record HasHead (w : Setting) (s : SourceSeen) (t : DecodingSeen) (i now : In
   -- so they are no more than the octets and the roots
   pub counted : IsCounted w i.order octets (end_to_end 0 (head_entries w now.graph read.is_head.steps)) t
 
--- The octets are refused, as `decode` refuses them: whatever follows them they are refused for the same.
+-- The octets are refused, as `decode` refuses them, whatever follows them. They are refused in the head: the refused entry comes before the pipes, and so do all that
+-- were read.
 pub record IsHeadRefused (w : Setting) (order : Order) (s : SourceSeen) (place : ℕ) (why : Reason) (t : DecodingSeen) : Type 0 where
   pub refused : IsRefused w order s place why t
+  pub in_head : BadHead w order refused.fetched place why
+  -- after the same entries
+  pub as_far : in_head.bad.earlier ≡ refused.bad.earlier
 
--- Reading was cut off: the octets that were fetched were read through some entries, which were logged and counted.
+-- The source failed, and the octets that were fetched are cut short where they end, in the head: the entry that lacks octets comes before the pipes, and so do all
+-- that were read.
+pub record IsHeadUnread (w : Setting) (order : Order) (s : SourceSeen) (t : DecodingSeen) : Type 0 where
+  pub unread : IsUnread w order s t
+  pub in_head : BadHead w order unread.cut.fetched (length unread.cut.fetched) reason.Truncated
+  -- after the same entries
+  pub as_far : in_head.bad.earlier ≡ unread.cut.earlier
+
+-- Reading was cut off: the octets that were fetched were read through some entries, which were logged and counted. All of them come before the pipes.
 pub record IsHeadCut (w : Setting) (order : Order) (s : SourceSeen) (t : DecodingSeen) : Type 0 where
   pub cut : IsCutOff w order s t
+  pub in_head : length cut.earlier ≤ length (head_entries w cut.read.partial cut.read.stream.steps)
 
 -- why the head was not read
 abbrev pub IsHeadCause : Setting → Order → SourceSeen → DecodingSeen → DecodeFault → Type 0
 IsHeadCause w order s t (fault.Bad place why) = IsHeadRefused w order s place why t
-IsHeadCause w order s t fault.ReadFault = HasRisen s.faults × IsHeadCut w order s t
+IsHeadCause w order s t fault.ReadFault = HasRisen s.faults × IsHeadUnread w order s t
 IsHeadCause w order s t fault.Memory = IsHeadCut w order s t
 
 -- ## A chunk
@@ -111,6 +125,14 @@ pub record IsChunkRefused (w : Setting) (order : Order) (spot : Spot) (s : Sourc
   pub counted : IsChunkCounted order spot.place fetched bad.earlier t
   pub stays : (more : List ℕ) → MayFollow why more → BadPart w order spot (fetched ++ more) place why
 
+-- The source failed, and the octets that were fetched are cut short where they end: the next entry of the chunk lacks some of its own, so the chunk is not whole.
+-- The entries before it were read, were logged and are counted.
+pub record IsChunkUnread (w : Setting) (order : Order) (spot : Spot) (s : SourceSeen) (t : DecodingSeen) : Type 0 where
+  pub fetched : List ℕ
+  pub left : Consumes s.left s.left_now fetched
+  pub short : BadPart w order spot fetched (spot.place + length fetched) reason.Truncated
+  pub counted : IsChunkCounted order spot.place fetched short.earlier t
+
 -- Reading was cut off: the octets that were fetched were read through some entries of the chunk, which were logged and counted.
 pub record IsChunkCut (w : Setting) (order : Order) (spot : Spot) (s : SourceSeen) (t : DecodingSeen) : Type 0 where
   pub fetched : List ℕ
@@ -122,7 +144,7 @@ pub record IsChunkCut (w : Setting) (order : Order) (spot : Spot) (s : SourceSee
 -- why a chunk was not read
 abbrev pub IsChunkFault : Setting → Order → Spot → SourceSeen → DecodingSeen → DecodeFault → Type 0
 IsChunkFault w order spot s t (fault.Bad place why) = IsChunkRefused w order spot s place why t
-IsChunkFault w order spot s t fault.ReadFault = HasRisen s.faults × IsChunkCut w order spot s t
+IsChunkFault w order spot s t fault.ReadFault = HasRisen s.faults × IsChunkUnread w order spot s t
 IsChunkFault w order spot s t fault.Memory = IsChunkCut w order spot s t
 
 -- the same at the intake's spot

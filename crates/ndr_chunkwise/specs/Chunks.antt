@@ -82,6 +82,13 @@ pub record FilledBad (w : Setting) (order : Order) (spot : Spot) (s : SourceSeen
   pub ended : why ≡ reason.Truncated → s.ended ≡ true
   pub none_left : why ≡ reason.Truncated → IsAtEnd s.left_now
 
+-- the source failed, and the octets are cut short where they end
+pub record FilledUnread (w : Setting) (order : Order) (spot : Spot) (s : SourceSeen) (t : DecodingSeen) : Type 0 where
+  pub octets : List ℕ
+  pub noted : List Item
+  pub short : PartRefused w order spot octets noted (spot.place + length octets) reason.Truncated
+  pub took : TookOctets s t octets noted
+
 -- reading was cut off
 pub record FilledPart (w : Setting) (order : Order) (spot : Spot) (s : SourceSeen) (t : DecodingSeen) : Type 0 where
   pub octets : List ℕ
@@ -91,7 +98,7 @@ pub record FilledPart (w : Setting) (order : Order) (spot : Spot) (s : SourceSee
 
 abbrev pub FillsNot : Setting → Order → Spot → SourceSeen → DecodingSeen → DecodeFault → Type 0
 FillsNot w order spot s t (fault.Bad place why) = FilledBad w order spot s t place why
-FillsNot w order spot s t fault.ReadFault = HasRisen s.faults × FilledPart w order spot s t
+FillsNot w order spot s t fault.ReadFault = HasRisen s.faults × FilledUnread w order spot s t
 FillsNot w order spot s t fault.Memory = FilledPart w order spot s t
 
 abbrev pub Fills : Setting → Order → Spot → SourceSeen → DecodingSeen → Machine → Result ℕ DecodeFault → Type 0

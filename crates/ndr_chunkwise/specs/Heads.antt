@@ -14,6 +14,7 @@ use Rattle.ndr_state.specs.declared.fault.DecodeFault.{DecodeFault}
 use Rattle.ndr_verdict.specs.Verdict.{DecodingSeen}
 use Rattle.ndr_stream.specs.Calls.{Took}
 use Rattle.ndr_stream.specs.Parameters.{TestsPass, parameter_tests}
+use Rattle.ndr_stream.specs.Report.{the_head}
 use Rattle.ndr_kept.specs.declared.stream.Stream.{Stream}
 use Rattle.ndr_kept.specs.Seen.{between_of}
 use Rattle.ndr_decode.specs.Streaming.{FaultOf, Purpose, Stands, cells_of}
@@ -32,7 +33,7 @@ pub record ReadTo (w : Setting) (legal : IsLegalSide w) (order : Order) (n : ℕ
 
 abbrev pub HeadReads : (w : Setting) → IsLegalSide w → Order → ℕ → SourceSeen → DecodingSeen → Stream → Result (Unit {0}) DecodeFault → Type 0
 HeadReads w legal order n source t x (Ok u) = ReadTo w legal order n source t x
-HeadReads w legal order n source t x (Err e) = FaultOf w order [] [] n source t e
+HeadReads w legal order n source t x (Err e) = FaultOf the_head w order [] [] n source t e
 
 -- a graph with so many pipes more, which have no elements
 abbrev pub with_empty : ℕ → Graph → Graph

@@ -25,7 +25,7 @@ use nd_types::Side;
 use nd_value::ItemLog;
 use ndr_code::Plan;
 use ndr_decode::read_roots;
-use ndr_heads::laws::heads_are_read;
+use ndr_heads::laws::{heads_are_read, heads_are_refused};
 use ndr_intake::Intake as Buffer;
 use ndr_kept::Stream;
 use ndr_parameters::try_parameters;
@@ -56,6 +56,7 @@ pub(crate) fn read_head<S: Source, L: Ledger>(
     // A request conforms to the inputs of the operation, and what is read of a head is right.
     let _request = Given::beside(given);
     heads_are_read();
+    heads_are_refused();
     let plan = intake.plan;
     let builder = Builder::begin(
         intake.alloc,

@@ -81,11 +81,12 @@ impl<'p> Intake<'p> {
     /// At `Ok` the octets taken are the head of a stream of the graph that is kept, which conforms, has no elements in its pipes, and is in its canonical form. The
     /// log and the steps are as `decode` leaves them after the head.
     ///
-    /// At `Bad` the octets are refused in the head, at the first faulty place, for the one reason that applies there, as `decode` refuses them. `ReadFault` is
-    /// answered only if the source's count of faults rose, or is at the greatest value of a `u64`. After a fault the intake has failed, and no call but
-    /// `pipes_left` and `failed` may come.
+    /// At `Bad` the octets are refused in the head, at the first faulty place, for the one reason that applies there, as `decode` refuses them: the refused item, or
+    /// agreement, comes before the pipes. `ReadFault` is answered only if the source's count of faults rose, or is at the greatest value of a `u64`; then the next item
+    /// of the head lacks octets. Whatever the fault, only items before the pipes were read. After a fault the intake has failed, and no call but `pipes_left` and
+    /// `failed` may come.
     ///
-    /// Each fetch asks only for what the gap or primitive that is due still lacks. The time is linear in the octets fetched. It takes memory for what was read,
+    /// Octets are asked for only once the value must have them. The time is linear in the octets fetched. It takes memory for what was read,
     /// never for what a count claims.
     pub fn head<S: Source, L: Ledger>(
         &mut self,
@@ -126,9 +127,10 @@ impl<'p> Intake<'p> {
     /// chunk's items, the nodes of its elements after those of the chunks before; each item but the gaps is a step.
     ///
     /// At `Bad` the octets are refused in the chunk, at the first faulty place, for the one reason that applies there. `ReadFault` is answered only if the source's
-    /// count of faults rose, or is at the greatest value of a `u64`. After a fault the intake has failed, and no call but `pipes_left` and `failed` may come.
+    /// count of faults rose, or is at the greatest value of a `u64`; then the chunk is not whole, as its next item lacks octets. After a fault the intake has failed,
+    /// and no call but `pipes_left` and `failed` may come.
     ///
-    /// Each fetch asks only for what the gap or primitive that is due still lacks. The time is linear in the octets fetched. It takes memory for the chunk, never
+    /// Octets are asked for only once the value must have them. The time is linear in the octets fetched. It takes memory for the chunk, never
     /// for what a count claims.
     pub fn chunk<S: Source, L: Ledger>(
         &mut self,

@@ -108,6 +108,6 @@ module _ (i tie : Interface) (n : ℕ) (side : Side) (order : Order) (q : Option
 pub no_memory : (i : Interface) (n : ℕ) (o : Operation) (side : Side) (order : Order) (q : Option Graph) (l : Option (List ℕ)) (e : Bool) (f : ℕ) (ends : List EndSeen) (g : Logged) (m : ℕ)
     → slice_get i.operations n ≡ Some o → IsCutInHead (setting_beside i o side q) order (over l l e f f) (ends_to ends ends) (decoding_seen g g m m)
 no_memory i n o side order q l e f ends g m there = record {
-  cut = record { cut = nothing_read (setting_beside i o side q) (legal_side i n o side q there) order l e f g m };
+  cut = record { cut = nothing_read (setting_beside i o side q) (legal_side i n o side q there) order l e f g m; in_head = omega arith };
   none_given = refl;
 }

@@ -132,6 +132,10 @@ cut_at before now later at octets piece rest give.End w h = go (slice_get before
           set = h.set ∙ ap (λ l. slice_set l at h.is) w.given ∙ set_over at (with_octets w.done) h.is before;
         }
 
+-- what is left is nothing, and the end fails where nothing is given
+pub failed_at_end : (before now later : List EndSeen) (at : ℕ) (octets : List ℕ) → IsPartWay before now at octets [] → FailsAt now later at [] → AreCut before later at octets give.End
+failed_at_end before now later at octets w h = cut_at before now later at octets [] [] give.End w h
+
 -- ## Line by line
 
 none_tree : {x : Tree} → None ≡ Some x → ⊥
@@ -171,6 +175,17 @@ pub handed_on : (before later : List EndSeen) (at : ℕ) (octets : List ℕ) (r 
     → AreCut before later at octets fault → AreGiven before later at octets r
 handed_on before later at octets (Ok u) fault e h = absurd e
 handed_on before later at octets (Err x) fault e h = let P : GiveFault → Type 0 = λ y. AreCut before later at octets y in subst P (sym e) h
+
+nothing_after : (table : Table) (t : ℕ) (vs : List Tree) (n : ℕ) → n ≡ length vs → lines table t (drop n vs) ≡ []
+nothing_after table t [] zero e = refl
+nothing_after table t [] (suc n) e = refl
+nothing_after table t (v ∷ vs) zero e = absurd (omega (arith, e))
+nothing_after table t (v ∷ vs) (suc n) e = nothing_after table t vs n (omega (arith, e))
+
+-- after the last line nothing is left
+pub no_line_due : (table : Table) (t : ℕ) (vs : List Tree) (n : ℕ) (before now : List EndSeen) (at : ℕ) (octets : List ℕ)
+    → IsPartWay before now at octets (lines table t (drop n vs)) → n ≡ length vs → IsPartWay before now at octets []
+no_line_due table t vs n before now at octets w e = let P : List ℕ → Type 0 = λ l. IsPartWay before now at octets l in subst P (nothing_after table t vs n e) w
 
 -- an item within a list is there
 pub is_there : (vs : List Tree) (i n : ℕ) → i < n → n ≡ length vs → slice_get vs i ≡ None → ⊥

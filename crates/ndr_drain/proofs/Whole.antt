@@ -13,6 +13,7 @@ use Rattle.nd_value.specs.Logged.{Logged}
 use Rattle.nd_value.specs.Setting.{Setting, root_list}
 use Rattle.nd_value.specs.Tree.{Tree}
 use Rattle.nd_grammar.specs.declared.reason.Reason.{Reason}
+use Rattle.nd_grammar.specs.declared.reason.Reason.TheVariants as reason
 use Rattle.nd_grammar.specs.Bad.{Bad}
 use Rattle.nd_grammar.specs.Entry.{EntryAt, end_to_end}
 use Rattle.nd_grammar.specs.FewItems.{but_gaps}
@@ -33,9 +34,9 @@ use Rattle.ndr_part_laws.proofs.Noted.{items_of_all, items_through, named_more}
 use Rattle.ndr_part_laws.proofs.Stopped.{place_after, refused_chunk, read_through_chunk, read_through_parts}
 use Rattle.ndr_pipe.specs.End.{EndSeen, with_octets}
 use Rattle.ndr_pipe.specs.Ends.{FailsAt, change_at}
-use Rattle.ndr_chunkwise.specs.Calls.{HasChunk, HasHead, IsChunkCounted, IsChunkCut, IsChunkRefused, IsHeadCause}
+use Rattle.ndr_chunkwise.specs.Calls.{HasChunk, HasHead, IsChunkCounted, IsChunkCut, IsChunkRefused, IsChunkUnread, IsHeadCause}
 use Rattle.ndr_chunkwise.specs.Seen.{IntakeSeen, moved_to}
-use Rattle.ndr_drain.specs.Drained.{IsChunkRead, IsCutInChunk, IsDrainCause, IsDrained, IsRefusedInChunk}
+use Rattle.ndr_drain.specs.Drained.{IsChunkRead, IsCutInChunk, IsDrainCause, IsDrained, IsRefusedInChunk, IsUnreadInChunk}
 use Rattle.ndr_drain.specs.Faults.{fault_of}
 use Rattle.ndr_drain.specs.Given.{chunk_lines, end_of_root, ends_after, pipe_count}
 use Rattle.ndr_drain.specs.Turns.{IsCutAtChunk, IsReadToEnd, StopsUnderWay}
@@ -240,6 +241,39 @@ module _ (w : Setting) (legal : IsLegalSide w) (b first : IntakeSeen) (l0 l1 l2 
           in_chunk = c.read;
         }
 
+    -- the source failed in the next chunk
+    unread_in_chunk : IsChunkUnread w b.order spot (over left l2 e2 from f2) (decoding_seen log g2 steps n2) → last ≡ ends_after w (first_spot w h.octets) parts ends
+        → IsUnreadInChunk w b.order (over l0 l2 e2 f0 f2) (ends_to ends last) (decoding_seen g0 g2 n0 n2)
+    unread_in_chunk c given =
+        let X : List ℕ = all_octets parts ++ c.fetched in
+        let E : List EntryAt = entries_of parts ++ c.short.earlier in
+        let law = refused_chunk w legal b.order h.octets first.graph parts it c.fetched (spot.place + length c.fetched) reason.Truncated c.short in
+        let through : IsReadThrough w b.order X E = read_through_chunk w legal b.order h.octets first.graph parts it c.fetched c.short.earlier c.short.through in
+        let l : length X ≡ length (all_octets parts) + length c.fetched = length-append (all_octets parts) c.fetched in
+        let q : spot.place + length c.fetched ≡ length X = ap (λ n. n + length c.fetched) placed ∙ sym l in
+        let B : ℕ → Type 0 = λ n. (k : Bad w b.order X n reason.Truncated) × (k.earlier ≡ E) in
+        let bad : B (length X) = subst B q (law.0, law.2) in
+        record {
+          unread = record {
+            cut = record {
+              fetched = X;
+              left = Consumes-trans l0 left l2 (all_octets parts) c.fetched (Consumes-trans l0 l1 left h.octets (octets_of parts) h.left consumed) c.left;
+              earlier = E;
+              read = through;
+              logged = next_logged c.fetched c.short.earlier c.counted;
+              counted = next_counted c.fetched c.short.earlier through c.counted;
+            };
+            short = bad.0;
+            as_far = bad.1;
+          };
+          whole = all_octets parts;
+          spot = spot;
+          given = record { head = h.octets; graph = first.graph; parts = parts; read = it; octets_are = refl; reached = refl; given = given };
+          rest = c.fetched;
+          fetched_are = refl;
+          in_chunk = c.short;
+        }
+
     -- octets are refused in the next chunk
     refused_in_chunk : (place : ℕ) (why : Reason) → IsChunkRefused w b.order spot (over left l2 e2 from f2) place why (decoding_seen log g2 steps n2)
         → last ≡ ends_after w (first_spot w h.octets) parts ends → IsRefusedInChunk w b.order (over l0 l2 e2 f0 f2) (ends_to ends last) (decoding_seen g0 g2 n0 n2) place why
@@ -371,10 +405,10 @@ module _ (w : Setting) (legal : IsLegalSide w) (b first : IntakeSeen) (l0 l1 l2 
                 given = c.given ∙ ap (λ s. L s c.elements) d.passed.reached;
               }))
       at_spot fault.ReadFault d =
-          let S : Spot → Type 0 = λ s. IsChunkCut w b.order s (over d.left l2 e2 d.faults f2) (decoding_seen d.log g2 d.steps n2) in
+          let S : Spot → Type 0 = λ s. IsChunkUnread w b.order s (over d.left l2 e2 d.faults f2) (decoding_seen d.log g2 d.steps n2) in
           let m : f1 ≤ d.faults = d.no_fewer in (
             rose_earlier f0 d.faults f2 (omega (arith, m, no_fewer)) d.cause.0,
-            inr (cut_in_chunk d.parts d.passed.read d.left d.consumed d.log d.steps (d.noted.logged, d.noted.stepped) d.faults (subst S d.passed.reached d.cause.1) (d.cause.2 ∙ d.passed.given)),
+            inr (unread_in_chunk d.parts d.passed.read d.left d.consumed d.log d.steps (d.noted.logged, d.noted.stepped) d.faults (subst S d.passed.reached d.cause.1) (d.cause.2 ∙ d.passed.given)),
           )
       at_spot (fault.Bad place why) d =
           let S : Spot → Type 0 = λ s. IsChunkRefused w b.order s (over d.left l2 e2 d.faults f2) place why (decoding_seen d.log g2 d.steps n2) in
@@ -395,7 +429,7 @@ module _ (w : Setting) (legal : IsLegalSide w) (b first : IntakeSeen) (l0 l1 l2 
 -- ## The head
 
 -- Nothing was read.
-pub nothing_read : (w : Setting) → IsLegalSide w → (order : Order) (l : Option (List ℕ)) (e : Bool) (f : ℕ) (g : Logged) (n : ℕ) → IsCutOff w order (over l l e f f) (decoding_seen g g n n)
+abbrev pub nothing_read : (w : Setting) → IsLegalSide w → (order : Order) (l : Option (List ℕ)) (e : Bool) (f : ℕ) (g : Logged) (n : ℕ) → IsCutOff w order (over l l e f f) (decoding_seen g g n n)
 nothing_read w legal order l e f g n = record {
   fetched = [];
   left = Consumes-refl l;
@@ -412,5 +446,5 @@ not_begun w order s t ends f r e h = let P : DrainFault → Type 0 = λ x. IsDra
   where
     go : (f : DecodeFault) → IsHeadCause w order s t f → IsDrainCause w order s (ends_to ends ends) t (fault_of f)
     go decode.Memory h = inl (record { cut = h; none_given = refl })
-    go decode.ReadFault h = (h.0, inl (record { cut = h.1; none_given = refl }))
+    go decode.ReadFault h = (h.0, inl (record { unread = h.1; none_given = refl }))
     go (decode.Bad place why) h = inl (record { refused = h; none_given = refl })

@@ -1,18 +1,20 @@
 -- What draining a stream comes to: the graph that is kept, and what the ends got; and where it stops.
 -- `w` is a setting, `s` the source over the call, `e` the ends over it, `t` the log of items and the count of steps over it.
-use Rattle.std.specs.Prelude.{◌≡◌, ◌<◌, ◌⊎◌, ℕ, List, ◌++◌, length, take, drop}
+use Rattle.std.specs.Prelude.{◌≡◌, ◌<◌, ◌⊎◌, ℕ, ◌+◌, List, ◌++◌, length, take, drop}
 use Rattle.nd_base.specs.declared.octets.Order.{Order}
 use Rattle.nd_base.specs.Over.{SourceSeen, HasRisen, IsUntouched}
 use Rattle.nd_value.specs.declared.value.Graph.{Graph}
 use Rattle.nd_value.specs.Setting.{Setting, root_list}
 use Rattle.nd_value.specs.Deferral.{before_pipes}
 use Rattle.nd_grammar.specs.declared.reason.Reason.{Reason}
+use Rattle.nd_grammar.specs.declared.reason.Reason.TheVariants as reason
 use Rattle.nd_grammar.specs.Entry.{EntryAt}
 use Rattle.ndr_verdict.specs.Verdict.{DecodingSeen, IsCutOff, IsDecoded, IsRefused}
+use Rattle.ndr_stream.specs.Report.{IsUnread}
 use Rattle.ndr_parts.specs.Parts.{AreReadTo, BadPart, IsPart, IsPartThrough, Part, Spot, after_all, first_spot, octets_of, without_pipes}
 use Rattle.ndr_pipe.specs.End.{EndSeen, with_octets}
 use Rattle.ndr_pipe.specs.Ends.{EndsSeen, AreAsBefore, FailsAt, change_at}
-use Rattle.ndr_chunkwise.specs.Calls.{IsHeadCut, IsHeadRefused}
+use Rattle.ndr_chunkwise.specs.Calls.{IsHeadCut, IsHeadRefused, IsHeadUnread}
 use Rattle.ndr_drain.specs.Given.{chunk_lines, end_of_root, ends_after, given_pipes, pipe_count}
 use Rattle.ndr_drain.specs.declared.fault.DrainFault.{DrainFault}
 use Rattle.ndr_drain.specs.declared.fault.DrainFault.TheVariants.{Memory, ReadFault, Bad, EndFailed, TooFewEnds}
@@ -56,7 +58,7 @@ pub record IsRefusedInChunk (w : Setting) (order : Order) (s : SourceSeen) (e : 
   pub fetched_are : refused.fetched ≡ whole ++ rest
   pub in_chunk : BadPart w order spot rest place why
 
--- ## Reading that was cut off
+-- ## Memory ran out, and reading was cut off
 
 -- In the head, before anything was given.
 pub record IsCutInHead (w : Setting) (order : Order) (s : SourceSeen) (e : EndsSeen) (t : DecodingSeen) : Type 0 where
@@ -73,6 +75,23 @@ pub record IsCutInChunk (w : Setting) (order : Order) (s : SourceSeen) (e : Ends
   pub fetched_are : cut.fetched ≡ whole ++ rest
   pub earlier : List EntryAt
   pub in_chunk : IsPartThrough w order spot rest earlier
+
+-- ## The source failed
+
+-- In the head, before anything was given: its next entry lacks octets.
+pub record IsUnreadInHead (w : Setting) (order : Order) (s : SourceSeen) (e : EndsSeen) (t : DecodingSeen) : Type 0 where
+  pub unread : IsHeadUnread w order s t
+  pub none_given : AreAsBefore e
+
+-- In a chunk, after exactly the chunks before it were given. That chunk is not whole: its next entry lacks octets.
+pub record IsUnreadInChunk (w : Setting) (order : Order) (s : SourceSeen) (e : EndsSeen) (t : DecodingSeen) : Type 0 where
+  pub unread : IsUnread w order s t
+  pub whole : List ℕ
+  pub spot : Spot
+  pub given : IsGivenTo w order whole spot e.before e.now
+  pub rest : List ℕ
+  pub fetched_are : unread.cut.fetched ≡ whole ++ rest
+  pub in_chunk : BadPart w order spot rest (spot.place + length rest) reason.Truncated
 
 -- ## Chunks that were read and not given whole
 
@@ -116,7 +135,7 @@ pub record AreTooFew (w : Setting) (s : SourceSeen) (e : EndsSeen) (t : Decoding
 
 abbrev pub IsDrainCause : Setting → Order → SourceSeen → EndsSeen → DecodingSeen → DrainFault → Type 0
 IsDrainCause w order s e t Memory = IsCutInHead w order s e t ⊎ (IsCutInChunk w order s e t ⊎ IsCutInLines w order s e t)
-IsDrainCause w order s e t ReadFault = HasRisen s.faults × (IsCutInHead w order s e t ⊎ IsCutInChunk w order s e t)
+IsDrainCause w order s e t ReadFault = HasRisen s.faults × (IsUnreadInHead w order s e t ⊎ IsUnreadInChunk w order s e t)
 IsDrainCause w order s e t (Bad place why) = IsRefusedInHead w order s e t place why ⊎ IsRefusedInChunk w order s e t place why
 IsDrainCause w order s e t (EndFailed which) = HasEndFailed w order s e t which
 IsDrainCause w order s e t (TooFewEnds wanted found) = AreTooFew w s e t wanted found

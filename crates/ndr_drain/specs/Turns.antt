@@ -17,7 +17,7 @@ use Rattle.ndr_parts.specs.Parts.{AreParts, Part, Spot, after_all, elem_at, octe
 use Rattle.ndr_part_laws.specs.Entries.{parts_items}
 use Rattle.ndr_pipe.specs.End.{EndSeen, with_octets}
 use Rattle.ndr_pipe.specs.Ends.{EndsSeen, AreAsBefore, FailsAt, IsOpenAt, change_at}
-use Rattle.ndr_chunkwise.specs.Calls.{HasChunk, IsChunkCut, IsChunkRefused}
+use Rattle.ndr_chunkwise.specs.Calls.{HasChunk, IsChunkCut, IsChunkRefused, IsChunkUnread}
 use Rattle.ndr_chunkwise.specs.Seen.{IntakeSeen, moved_to, setting_in}
 use Rattle.ndr_drain.specs.Given.{chunk_lines, end_after, end_of_root, ends_after, pipe_count}
 use Rattle.ndr_drain.specs.declared.fault.GiveFault.{GiveFault}
@@ -80,7 +80,7 @@ pub record FailsAtChunk (w : Setting) (i : IntakeSeen) (s : SourceSeen) (e : End
 -- why a chunk was not read, or not given
 abbrev pub IsStepCause : Setting → IntakeSeen → SourceSeen → EndsSeen → DecodingSeen → DrainFault → Type 0
 IsStepCause w i s e t Memory = (IsChunkCut w i.order i.spot s t × AreAsBefore e) ⊎ IsCutAtChunk w i s e t
-IsStepCause w i s e t ReadFault = HasRisen s.faults × IsChunkCut w i.order i.spot s t × AreAsBefore e
+IsStepCause w i s e t ReadFault = HasRisen s.faults × IsChunkUnread w i.order i.spot s t × AreAsBefore e
 IsStepCause w i s e t (Bad place why) = IsChunkRefused w i.order i.spot s place why t × AreAsBefore e
 IsStepCause w i s e t (EndFailed which) = FailsAtChunk w i s e t which
 IsStepCause w i s e t (TooFewEnds wanted found) = ⊥

@@ -50,8 +50,9 @@ pub struct Drained {
 /// its pipes empty. Each end took the lines of its pipe and is finished; an end without a pipe is as before.
 ///
 /// # Errors
-/// `TooFewEnds` exactly where the side has more pipes than there are ends, before anything is fetched or given. `Bad` and `ReadFault` as of `decode`:
-/// then each end took exactly the lines of the whole chunks before, and is finished if the end of its pipe was read. `EndFailed` names the end of the
+/// `TooFewEnds` exactly where the side has more pipes than there are ends, before anything is fetched or given. `Bad` and `ReadFault` as of `decode`: before the
+/// pipes, where nothing was given; or in a chunk, which is not whole: then each end took exactly the lines of the chunks before it, and is finished if the end of its
+/// pipe was read. `EndFailed` names the end of the
 /// pipe that was read, whose count of faults rose; it took the lines of the whole chunks before, and then a prefix of those of the chunk with which the octets fetched end;
 /// the ends before it are finished, and those after it are as before. After `Memory` the end of the pipe that was read took besides whole chunks at most a prefix of the lines of
 /// the next, and is not finished. At every answer but `EndFailed` the counts of faults of all ends are as before, then those of the others.
@@ -59,7 +60,7 @@ pub struct Drained {
 /// A log that keeps items gets those of the pipes too. `steps` counts each item but the gaps, and each cell of what is kept: never more than the octets fetched and the
 /// roots.
 ///
-/// Each fetch asks only for what the gap or primitive that is due still lacks. The time is linear in the octets fetched and the lines. It takes memory for what is kept, and for one
+/// Octets are asked for only once the value must have them. The time is linear in the octets fetched and the lines. It takes memory for what is kept, and for one
 /// chunk and one line at a time.
 pub fn drain<S: Source, L: Ledger>(
     alloc: Global,

@@ -40,7 +40,7 @@ pub(crate) fn give_line<E: PipeEnd>(
     }
 }
 
-// Gives the lines of elements to an end, one after the other.
+// Gives the lines of elements to an end, one after the other. After the last of them the end is flushed.
 pub(crate) fn give_lines<E: PipeEnd>(
     alloc: Global,
     interface: &Interface,
@@ -59,5 +59,8 @@ pub(crate) fn give_lines<E: PipeEnd>(
         };
         give_line(alloc, interface, of, val, which, ends)?;
     }
-    Ok(())
+    match ends.flush(which) {
+        Ok(()) => Ok(()),
+        Err(_) => Err(GiveFault::End),
+    }
 }

@@ -6,7 +6,5 @@ mod explaining;
 mod levels;
 mod located;
 mod names;
-#[cfg(test)]
-mod tests;
 
 pub use explaining::explain;

@@ -29,6 +29,10 @@ pub record HasFailed (before now : EndSeen) (octets : List ℕ) : Type 0 where
 abbrev pub HasTaken : {E : Type 0} → EndSeen → EndSeen → List ℕ → Result Unit E → Type 0
 HasTaken before now line result = MatchResult result (λ _. now ≡ with_octets line before) (λ _. HasFailed before now line)
 
+-- an end wrote what it held back and shows what it did before, or it failed
+abbrev pub HasFlushed : {E : Type 0} → EndSeen → EndSeen → Result Unit E → Type 0
+HasFlushed before now result = MatchResult result (λ _. now ≡ before) (λ _. HasFailed before now [])
+
 -- an end was finished and is else as before, or it failed
 abbrev pub HasFinished : {E : Type 0} → EndSeen → EndSeen → Result Unit E → Type 0
 HasFinished before now result = MatchResult result (λ _. now ≡ ended before) (λ _. HasFailed before now [])

@@ -27,6 +27,10 @@ pub record FailsAt (before now : List EndSeen) (at : ℕ) (octets : List ℕ) : 
 abbrev pub TakesAt : {E : Type 0} → List EndSeen → List EndSeen → ℕ → List ℕ → Result Unit E → Type 0
 TakesAt before now at line result = MatchResult result (λ _. now ≡ change_at at (with_octets line) before) (λ _. FailsAt before now at line)
 
+-- one end wrote what it held back, and all are as before
+abbrev pub FlushesAt : {E : Type 0} → List EndSeen → List EndSeen → ℕ → Result Unit E → Type 0
+FlushesAt before now at result = MatchResult result (λ _. now ≡ before) (λ _. FailsAt before now at [])
+
 -- one end was finished, and the others are as before
 abbrev pub FinishesAt : {E : Type 0} → List EndSeen → List EndSeen → ℕ → Result Unit E → Type 0
 FinishesAt before now at result = MatchResult result (λ _. now ≡ change_at at ended before) (λ _. FailsAt before now at [])

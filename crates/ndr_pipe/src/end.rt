@@ -1,6 +1,6 @@
 // What the end of a pipe is: where the lines of a pipe go.
 ghost use Rattle.std.specs.Prelude.{◌≡◌, false, IfSome, IfNone, Some, None};
-ghost use Rattle.ndr_pipe.specs.End.{EndSeen, HasTaken, HasFinished};
+ghost use Rattle.ndr_pipe.specs.End.{EndSeen, HasTaken, HasFlushed, HasFinished};
 
 use thiserror::Error;
 
@@ -21,7 +21,16 @@ pub trait PipeEnd: Drop {
         requires { (seen self.old).finished ≡ false }
         ensures { HasTaken (seen self.old) (seen self.new) line.now result };
 
-    /// Finishes the end, and appends nothing. `EndFailed` comes only where the count of faults rose; the end is finished then too. The end must not
+    /// Writes the lines that the end took and holds back. An end that holds nothing back does nothing, and that is what this does if an end does not say
+    /// otherwise. `EndFailed` comes only where the count of faults rose, and then the end is finished. The end must not be finished before.
+    fn flush(&mut self) -> Result<(), EndFailed>
+        requires { (seen self.old).finished ≡ false }
+        ensures { HasFlushed (seen self.old) (seen self.new) result }
+    {
+        Ok(())
+    }
+
+    /// Writes what the end holds back, finishes it, and appends nothing. `EndFailed` comes only where the count of faults rose; the end is finished then too. The end must not
     /// be finished before.
     fn finish(&mut self) -> Result<(), EndFailed>
         requires { (seen self.old).finished ≡ false }

@@ -1,7 +1,7 @@
 // A list of ends. Contracts see what each of them shows.
 ghost use Rattle.std.specs.Prelude.{◌≡◌, ◌++◌, [], ◌∷◌, length, OnOk, OnErr, IfErr, IfSome, IfNone, Some, None};
 ghost use Rattle.std.specs.List.{slice_get};
-ghost use Rattle.ndr_pipe.specs.Ends.{IsOpenAt, TakesAt, FinishesAt};
+ghost use Rattle.ndr_pipe.specs.Ends.{IsOpenAt, TakesAt, FlushesAt, FinishesAt};
 
 use crate::{EndFailed, PipeEnd};
 use nd_base::Memory;
@@ -62,6 +62,15 @@ impl<E: PipeEnd> Ends<E> {
         ensures { TakesAt (ends_seen E.seen self.old) (ends_seen E.seen self.new) at line.now result }
     {
         self.items[at].take(line)
+    }
+
+    /// Writes the lines that one end took and holds back, and leaves the others as they are. `EndFailed` comes only where the count of that end's faults rose. There
+    /// must be an end of this number, and it must not be finished. Takes no memory but what the end takes.
+    pub fn flush(&mut self, at: usize) -> Result<(), EndFailed>
+        requires { IsOpenAt (ends_seen E.seen self.old) at }
+        ensures { FlushesAt (ends_seen E.seen self.old) (ends_seen E.seen self.new) at result }
+    {
+        self.items[at].flush()
     }
 
     /// Finishes one end, and leaves the others as they are. `EndFailed` comes only where the count of that end's faults rose. There must be an end of

@@ -1,54 +1,93 @@
 // An end that is a file. What the operating system does is trusted: the file shows nothing.
-ghost use Rattle.std.specs.Prelude.{◌≡◌, false, None};
+ghost use Rattle.std.specs.Prelude.{◌≡◌, ◌≤◌, false, true, None, IfOk};
+ghost use Rattle.nd_base.specs.Counts.{Rose};
 
 use crate::{EndFailed, PipeEnd};
-use nd_base::{OutputSink, Sink};
-use std::{fs, rt};
+use nd_base::Memory;
+use std::alloc::Global;
+use std::io::{BufWriter, Write};
+use std::{fs, io, rt};
 
-/// An end that writes to a file. The file is made, or emptied, at the first call of `take` or `finish`, so no file is made for an end that is never
-/// called. It shows nothing but whether it is finished. A call fails if the file cannot be made or written.
+// How many octets of lines are written at once.
+const HELD: usize = 65_536;
+
+// A file that is made, or emptied, when it is first written or flushed.
 #[derive(Drop)]
-pub struct FileEnd<R: rt::Files + Copy> {
+struct LateFile<R: rt::Files + Copy> {
     rt: R,
     name: String,
-    sink: Option<OutputSink<R::File>>,
+    file: Option<R::File>,
+}
+
+impl<R: rt::Files + Copy> LateFile<R> {
+    // Makes the file, or empties it, if this was not done yet.
+    fn make(&mut self) -> io::Result<()> {
+        if self.file.is_none() {
+            self.file = Some(fs::create(&self.rt, self.name.as_str())?);
+        }
+        Ok(())
+    }
+}
+
+impl<R: rt::Files + Copy> Write for LateFile<R> {
+    fn write(&mut self, buf: &[u8]) -> io::Result<usize> {
+        self.make()?;
+        match &mut self.file {
+            Some(file) => file.write(buf),
+            None => Ok(0),
+        }
+    }
+
+    fn flush(&mut self) -> io::Result<()> {
+        self.make()?;
+        match &mut self.file {
+            Some(file) => file.flush(),
+            None => Ok(()),
+        }
+    }
+}
+
+/// An end that writes to a file. It holds up to 64 KiB of lines back, and writes them when there is no more room for the next line, when it is flushed or
+/// finished, and when it is dropped; it cannot report that this last write failed. The file is made, or emptied, when something is first written, flushed or
+/// finished, so no file is made for an end that is never called. It shows nothing but whether it is finished. A call fails if the file cannot be made or written.
+#[derive(Drop)]
+pub struct FileEnd<R: rt::Files + Copy> {
+    writer: BufWriter<LateFile<R>>,
     faults: u64,
     finished: bool,
 }
 
 impl<R: rt::Files + Copy> FileEnd<R> {
-    /// An end that writes to the file of this name, a path from the current folder. Takes no memory, and makes no file yet.
-    pub fn new(rt: R, name: String) -> Self
-        ensures finished { (⟦<FileEnd<R> as PipeEnd>⟧.seen result).finished ≡ false }
-        ensures faults { (⟦<FileEnd<R> as PipeEnd>⟧.seen result).faults ≡ 0 }
+    /// An end that writes to the file of this name, a path from the current folder. Makes no file yet. Takes memory for the lines that are held back; running out of
+    /// memory is the only refusal.
+    pub fn new(alloc: Global, rt: R, name: String) -> Result<Self, Memory>
+        ensures finished { IfOk result (λ e. (⟦<FileEnd<R> as PipeEnd>⟧.seen e).finished ≡ false) }
+        ensures faults { IfOk result (λ e. (⟦<FileEnd<R> as PipeEnd>⟧.seen e).faults ≡ 0) }
     {
-        FileEnd {
+        let file = LateFile {
             rt,
             name,
-            sink: None,
-            faults: 0,
-            finished: false,
+            file: None,
+        };
+        match BufWriter::with_capacity(alloc, HELD, file) {
+            Ok(writer) => Ok(FileEnd {
+                writer,
+                faults: 0,
+                finished: false,
+            }),
+            Err(_) => Err(Memory),
         }
     }
 
-    // Writes a piece to the file, which is made first if this is the first call.
-    fn write(&mut self, piece: &[u8]) -> Result<(), EndFailed>
-        ensures finished { self.new.finished ≡ self.old.finished }
-        ensures faults { self.new.faults ≡ self.old.faults }
+    // A call failed: this is counted, and the end is finished.
+    fn fail(&mut self) -> EndFailed
+        ensures finished { self.new.finished ≡ true }
+        ensures risen { Rose self.old.faults self.new.faults }
+        ensures later { self.old.faults ≤ self.new.faults }
     {
-        if self.sink.is_none() {
-            match fs::create(&self.rt, self.name.as_str()) {
-                Ok(file) => self.sink = Some(OutputSink::new(file)),
-                Err(_) => return Err(EndFailed),
-            }
-        }
-        let Some(sink) = &mut self.sink else {
-            return Err(EndFailed);
-        };
-        match sink.put(piece) {
-            Ok(()) => Ok(()),
-            Err(_) => Err(EndFailed),
-        }
+        self.finished = true;
+        self.faults = self.faults.saturating_add(1);
+        EndFailed
     }
 }
 
@@ -58,21 +97,27 @@ impl<R: rt::Files + Copy> PipeEnd for FileEnd<R> {
     ghost seen = { λ e. record { taken = None; finished = e.finished; faults = e.faults } };
 
     fn take(&mut self, line: &[u8]) -> Result<(), EndFailed> {
-        let result = self.write(line);
-        if result.is_err() {
-            self.finished = true;
-            self.faults = self.faults.saturating_add(1);
+        match self.writer.write_all(line) {
+            Ok(()) => Ok(()),
+            Err(_) => Err(self.fail()),
         }
-        result
+    }
+
+    fn flush(&mut self) -> Result<(), EndFailed> {
+        match self.writer.flush() {
+            Ok(()) => Ok(()),
+            Err(_) => Err(self.fail()),
+        }
     }
 
     fn finish(&mut self) -> Result<(), EndFailed> {
-        self.finished = true;
-        let result = self.write(b"");
-        if result.is_err() {
-            self.faults = self.faults.saturating_add(1);
+        match self.writer.flush() {
+            Ok(()) => {
+                self.finished = true;
+                Ok(())
+            }
+            Err(_) => Err(self.fail()),
         }
-        result
     }
 
     fn shown(&self) -> Option<&[u8]> {

@@ -14,8 +14,11 @@ fn ends_fail_at_listed_calls(rt: HostRuntime) -> Result<(), Fail> {
 #[test]
 fn files_take_lines(rt: HostRuntime) -> Result<(), Fail> {
     let name = String::from_str(rt.alloc(), "ndr_pipe_file_end.tmp")?;
-    let mut end = FileEnd::new(rt, name);
+    let mut end = FileEnd::new(rt.alloc(), rt, name)?;
     assert_eq!(rt; end.take(b"1\n"), Ok(()));
+    assert_eq!(rt; end.flush(), Ok(()));
+    let octets = fs::read(&rt, "ndr_pipe_file_end.tmp")?;
+    assert_eq!(rt; octets.as_slice(), b"1\n".as_slice());
     assert_eq!(rt; end.take(b"2\n"), Ok(()));
     assert_eq!(rt; end.finish(), Ok(()));
     assert!(rt; end.shown() == None);

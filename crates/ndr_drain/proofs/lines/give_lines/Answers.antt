@@ -1,7 +1,8 @@
+use Rattle.std.proofs.Common.{arith}
 use Rattle.nd_value.specs.Seen.{tree_of}
 use Rattle.ndr_pipe.specs.Seen.{ends_seen}
 use Rattle.ndr_drain.specs.Lines.{lines}
-use Rattle.ndr_drain.proofs.Giving.{at_start, line_given, line_cut, handed_on, is_there}
+use Rattle.ndr_drain.proofs.Giving.{at_start, line_given, line_cut, no_line_due, failed_at_end, handed_on, is_there}
 use Rattle.ndr_drain.proofs.lines.give_lines.Goals as goal
 
 pub loop-at-init : goal.loop-at-init
@@ -27,3 +28,13 @@ loop-at-preserved g c =
     line_given table c.args.of.0 c.args.vals.now c.loop-at.at (tree_of c.in-Some.val.now) (ends_seen g.E.PipeEnd.seen c.args.ends.now)
     (ends_seen g.E.PipeEnd.seen c.loop-at.ends) (ends_seen g.E.PipeEnd.seen c.give_line.new.ends) c.args.which (lines table c.args.of.0 c.args.vals.now)
     c.loop-at.invariant c.in-Some.ensures.some c.in_ok-give_line.ensures
+
+pub returns-in-Err : goal.returns-in-Err
+returns-in-Err g c =
+    let before = ends_seen g.E.PipeEnd.seen c.args.ends.now in
+    let given = ends_seen g.E.PipeEnd.seen c.loop-at.ends in
+    let octets = lines c.args.interface.now.types c.args.of.0 c.args.vals.now in
+    failed_at_end before given (ends_seen g.E.PipeEnd.seen c.flush.new.self) c.args.which octets
+    (no_line_due c.args.interface.now.types c.args.of.0 c.args.vals.now c.loop-at.at before given c.args.which octets c.loop-at.invariant
+    (omega (arith, c.loop-at-test.false, c.loop-at.auto.at-end, c.len-at-end.ensures)))
+    c.in-Err.ensures
