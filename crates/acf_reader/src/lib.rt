@@ -10,8 +10,6 @@ mod body;
 pub mod laws;
 mod lexemes;
 mod reading;
-#[cfg(test)]
-mod tests;
 mod tree;
 mod words;
 

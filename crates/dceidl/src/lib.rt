@@ -8,8 +8,6 @@ mod outcome;
 mod perform;
 mod reading;
 mod ready;
-#[cfg(test)]
-mod tests;
 mod top;
 
 pub use dceidl_words::{CHUNK_LIMIT, Words};

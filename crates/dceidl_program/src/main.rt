@@ -54,12 +54,13 @@ fn run_over(rt: &HostRuntime, ends: &mut PipeEnds) -> Result<Status, Memory>
     ))
 }
 
-// An end that is the file of this name. The file is made at the end's first call.
+// An end that is the file of this name. The file is made when the end first writes to it.
 fn file_end(rt: HostRuntime, name: &str) -> Result<Box<FileEnd<HostRuntime>>, Memory>
     ensures { IfOk result (λ b. (⟦<FileEnd<HostRuntime> as PipeEnd>⟧.seen b.value).finished ≡ false) }
 {
     let name = String::from_str(rt.alloc(), name)?;
-    match Box::new(rt.alloc(), FileEnd::new(rt, name)) {
+    let end = FileEnd::new(rt.alloc(), rt, name)?;
+    match Box::new(rt.alloc(), end) {
         Ok(end) => Ok(end),
         Err(_) => Err(Memory),
     }

@@ -4,12 +4,8 @@
 mod acf_names;
 mod acf_places;
 mod acf_rule;
-#[cfg(test)]
-mod acf_tests;
 mod checking;
 pub mod laws;
-#[cfg(test)]
-mod listing_tests;
 
 pub use acf_rule::ACF_FILE;
 pub use checking::check;

@@ -10,8 +10,6 @@ mod declarators;
 mod expressions;
 mod files;
 pub mod laws;
-#[cfg(test)]
-mod tests;
 mod types;
 mod words;
 

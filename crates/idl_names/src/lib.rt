@@ -4,8 +4,6 @@
 mod declarations;
 mod expression;
 mod fault;
-#[cfg(test)]
-mod import_tests;
 mod known;
 pub mod laws;
 mod loading;
@@ -18,8 +16,6 @@ mod sources;
 mod strings;
 mod table;
 mod tag;
-#[cfg(test)]
-mod tests;
 mod types;
 mod walk;
 mod whole;

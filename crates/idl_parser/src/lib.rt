@@ -4,8 +4,6 @@
 mod file;
 mod parameters;
 mod parsing;
-#[cfg(test)]
-mod tests;
 mod types;
 
 pub use idl_tokens::SyntaxFault;

@@ -5,8 +5,6 @@ mod array_rules;
 mod asked;
 mod checking;
 mod declaration_rules;
-#[cfg(test)]
-mod interface_tests;
 pub mod laws;
 mod pointer_rules;
 mod type_rules;

@@ -1,3 +1,2 @@
 pub mod HomePaths
 pub mod Nodes
-pub mod Worked

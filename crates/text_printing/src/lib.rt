@@ -5,8 +5,6 @@ mod digits;
 mod forms;
 mod graphs;
 mod quoting;
-#[cfg(test)]
-mod tests;
 mod values;
 mod walked;
 

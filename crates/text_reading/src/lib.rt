@@ -5,8 +5,6 @@ mod grammar;
 mod identifiers;
 mod names;
 mod parts;
-#[cfg(test)]
-mod tests;
 mod texts;
 mod values;
 

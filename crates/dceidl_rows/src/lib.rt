@@ -1,0 +1,5 @@
+//! Tests of the public call of the program on worked command lines, each command once.
+#![tactic(auto)]
+
+#[cfg(test)]
+mod tests;

@@ -1,0 +1,65 @@
+// What expressions come to, by examples.
+use idl_grammar::{Export, Expr, Init, Tree};
+use idl_lexer::lex;
+use idl_names::{Meaning, Names, evaluate, value, value_of};
+use idl_parser::parse;
+use nd_base::Octets;
+use std::alloc::Global;
+use std::test::Fail;
+
+/// What is before an expression.
+const FRONT: &[u8] = b"[local] interface t { const long A = ";
+
+/// Names that begin with `N` are 7, with `M` 2^64; with `T` they are types. No others are known.
+struct Example;
+
+impl Names for Example {
+    ghost use Rattle.std.specs.Prelude.{eqb, cond, slice_index, Some, None, pos, ◌^◌};
+    ghost use Rattle.idl_names.specs.declared.meaning.Meaning.TheVariants as meaning;
+
+    ghost meanings = { λ _ name. cond (eqb (slice_index name 0) 78) (Some (meaning.Number (pos 7)))
+        (cond (eqb (slice_index name 0) 77) (Some (meaning.Number (pos (2 ^ 64)))) (cond (eqb (slice_index name 0) 84) (Some meaning.Type) None)) };
+
+    ghost more = { λ _. 1 };
+
+    fn meaning(&self, name: &[u8]) -> Option<Meaning> {
+        match name.first() {
+            Some(b'N') => Some(Meaning::Number(7)),
+            Some(b'M') => Some(Meaning::Number(1 << 64)),
+            Some(b'T') => Some(Meaning::Type),
+            _ => None,
+        }
+    }
+}
+
+fn tree_of(alloc: Global, expression: &[u8]) -> Result<Tree, Fail> {
+    let mut text = Octets::copy(alloc, FRONT)?;
+    text.append(expression)?;
+    text.append(b"; }")?;
+    let tokens = lex(alloc, text.as_slice())?;
+    Ok(parse(alloc, &tokens)?)
+}
+
+fn expression_of(tree: &Tree) -> Option<&Expr> {
+    match tree.exports.first() {
+        Some(
+            Export::Const {
+                value: Init::Value(expression),
+                ..
+            },
+        ) => Some(expression),
+        _ => None,
+    }
+}
+
+#[test]
+fn expressions_have_values(rt: HostRuntime) -> Result<(), Fail> {
+    let tree = tree_of(rt.alloc(), b"1 ? (N - 10) / 2 * 2 + 'a' : M")?;
+    let Some(expression) = expression_of(&tree) else {
+        return Err(Fail::new("no expression"));
+    };
+    assert_eq!(rt; value(&Example, expression), Ok(95));
+    assert_eq!(rt; value_of(&Example, expression), Ok(95));
+    assert_eq!(rt; evaluate(&Example, expression), Ok(95));
+    Ok(())
+}

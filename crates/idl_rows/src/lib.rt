@@ -1,0 +1,19 @@
+//! Tests of the public calls of the front end on worked files: what a parser, the names, the rules and a listing make of them.
+#![tactic(auto)]
+
+#[cfg(test)]
+mod attribute_files;
+#[cfg(test)]
+mod checking;
+#[cfg(test)]
+mod directory;
+#[cfg(test)]
+mod expressions;
+#[cfg(test)]
+mod imports;
+#[cfg(test)]
+mod integers;
+#[cfg(test)]
+mod listing;
+#[cfg(test)]
+mod parsing;
