@@ -5,10 +5,14 @@ memory of decoding beyond that of an empty run, where the octets come straight f
     bench/ndr.py                 builds the program if it is not there, and measures it
     bench/ndr.py --program PATH  measures another program
     bench/ndr.py --runs N        the least time of so many rounds (default 5)
+    bench/ndr.py --libndr PATH   runs this program too, which measures Samba's libndr on the same works, and says how many times as long ours takes
     bench/ndr.py --octets DIR    writes the octets of the works to files of this folder and ends
 
 The works are a conformant array of 1,000,000 longs, one of 500,000 structs of a byte, a hyper and a short, 200,000 unique pointers to strings of 12 octets, 16,777,208 bytes,
 and a list of 100,000 nodes over unique pointers.
+
+The lines of the program that measures libndr begin with its name, the work (longs, recs, strs, octs or chain) and `decode` or `encode`, and each has its nanoseconds an item as
+`12.34 ns/item`.
 
 It needs the program `time`. The status is 1 if twice the items take more than three times as long, if a work takes more memory than its limit, or if a run fails.
 """
@@ -105,10 +109,25 @@ def times(line):
     return [int(ns) for ns in re.search(r"copy (\d+) ns, decode (\d+) ns, prepare (\d+) ns, encode (\d+) ns", line).groups()]
 
 
+def of_libndr(program):
+    """What libndr takes: nanoseconds an item by the work and `decode` or `encode`."""
+    told = subprocess.run([program], check=True, stdout=subprocess.PIPE, text=True).stdout
+    found = re.findall(r"^\S+ +(\w+) +(decode|encode) .*?([0-9.]+) ns/item", told, flags=re.MULTILINE)
+    return {(name, side): float(ns) for name, side, ns in found}
+
+
+def beside(name, items, decode, prepare, encode, theirs):
+    """What libndr takes for a work, and how many times as long ours takes."""
+    ours = [("decode", "decode", decode), ("encode_with", "encode", encode), ("prepare and encode_with", "encode", prepare + encode)]
+    told = [f"{what} {ns / items / theirs[name, side]:.2f} times its {side} of {theirs[name, side]:.2f}" for what, side, ns in ours if (name, side) in theirs]
+    return ", ".join(told) or "libndr has no such work"
+
+
 def main():
-    parser = argparse.ArgumentParser()
+    parser = argparse.ArgumentParser(description=__doc__, formatter_class=argparse.RawDescriptionHelpFormatter)
     parser.add_argument("--program", default=PROGRAM)
     parser.add_argument("--runs", type=int, default=5)
+    parser.add_argument("--libndr")
     parser.add_argument("--octets")
     words = parser.parse_args()
     if words.octets:
@@ -119,6 +138,7 @@ def main():
     if words.program == PROGRAM:
         built()
     status = 0
+    theirs = of_libndr(words.libndr) if words.libndr else {}
     with tempfile.TemporaryDirectory() as folder:
         with open(os.path.join(folder, "bn.idl"), "w") as file:
             file.write(IDL)
@@ -133,6 +153,8 @@ def main():
             status = 1 if bad else status
             print(f"{name}: {items} items; ns an item: copy {copy / items:.2f}, decode {decode / items:.2f}, prepare {prepare / items:.2f}, encode {encode / items:.2f}; ", end="")
             print(f"grows {growth:.1f} times from a half; {memory:.1f} octets of memory an item{' TOO MUCH' if bad else ''}", flush=True)
+            if words.libndr:
+                print(f"  beside libndr: {beside(name, items, decode, prepare, encode, theirs)}", flush=True)
     return status
 
 

@@ -14,8 +14,8 @@ A pipe of longs and one of structs are drained, whose chunks of 4,096 elements f
 at a tenth of the size. An array of 16 MiB is explained, and one of a tenth of it. An array is decoded after a format label, and without one.
 
 The status is 1 if ten times the input takes more than sixteen times as long, if a count that claims too much takes 1 MiB more than an honest one, if
-draining ten times the input takes 1 MiB more or draining takes more than four times as long in the program as decoding (the system's calls apart, of
-which there is one for each line), if a format label takes more than a quarter more, or if a run ends in another way than it should.
+draining ten times the input takes 1 MiB more or draining takes more than four times as long as decoding, if a format label takes more than a quarter more, or
+if a run ends in another way than it should.
 """
 
 from __future__ import annotations
@@ -199,15 +199,10 @@ with open(sys.argv[1], "w") as note:
 
 class Ran(NamedTuple):
     status: int
-    own: float  # seconds in the program
-    system: float  # seconds in the system
+    seconds: float  # of a processor, in the program and in the system
     peak: int
     out: Path
     notes: bytes
-
-    @property
-    def seconds(self) -> float:
-        return self.own + self.system
 
 
 class Bench:
@@ -227,7 +222,7 @@ class Bench:
             watch = [sys.executable, "-c", WATCH, str(note), *command]
             ran = subprocess.run(watch, stdin=source, stdout=sink, stderr=subprocess.PIPE, cwd=self.folder, check=True)
         status, own, system, peak = note.read_text().split()
-        return Ran(int(status), float(own), float(system), int(peak), out, ran.stderr)
+        return Ran(int(status), float(own) + float(system), int(peak), out, ran.stderr)
 
     def large(self, of: Large, count: int) -> float:
         """The seconds of a large stream, in the program and in the system: other work on the machine is not in them."""
@@ -271,9 +266,9 @@ class Bench:
         small, large = (self.drain(of, max(1, of.count // part // share)) for share in (10, 1))
         count = of.count // part
         decoded = self.measure(f"decode of {count:,} {of.name}", of.array, array(of, count), array_text(of, count))
-        beside, all_beside = large.own / max(decoded.own, 1e-6), large.seconds / max(decoded.seconds, 1e-6)
+        beside = large.seconds / max(decoded.seconds, 1e-6)
         print(f"{of.name}: ten times the input takes {large.seconds / max(small.seconds, 1e-6):.1f} times as long and {(large.peak - small.peak) / 1024:.0f} KiB more; "
-              f"draining takes {beside:.1f} times as long as decoding in the program, {all_beside:.1f} times with the system's calls", flush=True)
+              f"draining takes {beside:.1f} times as long as decoding", flush=True)
         if large.seconds > MOST_GROWTH * max(small.seconds, 1e-6):
             self.fail("the time grows more than the input")
         if large.peak - small.peak > MOST_DRAINED:

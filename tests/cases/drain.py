@@ -1,9 +1,12 @@
 """The command `drain`: the elements of pipes go to the ends, which are the files pipe0.out to pipe7.out."""
 
+import struct
+
 from case import CLOSED, Case, Folder, LinkTo, OneAtATime, interface, lines, octets
 
 FEED = interface("typedef pipe long lp;", "void feed([in] lp d);", "void ping();", "void two([in] long n, [in] lp a, [in] lp b);")
 ONE_TO_THREE = octets("02000000 01000000 02000000 01000000 03000000 00000000")
+MANY = range(20_000)  # numbers of one chunk, whose lines take more than an end holds back
 FED = lines("values 2", "op feed in", "d = []")
 
 
@@ -31,6 +34,8 @@ CASES = [
     Case("drain: cut in a chunk", words(), {"t.idl": FEED}, ONE_TO_THREE[:10], notes=lines("refused: octets at 10: Truncated"), status=1),
     Case("drain: cut before the last count", words(), {"t.idl": FEED}, ONE_TO_THREE[:20], notes=lines("refused: octets at 20: Truncated"),
          status=1, ends={"pipe0.out": lines("1", "2", "3")}),
+    Case("drain: a long chunk, and a cut after it", words(), {"t.idl": FEED}, struct.pack("<20001i", len(MANY), *MANY) + octets("02000000 07000000 08"),
+         notes=lines("refused: octets at 80013: Truncated"), status=1, ends={"pipe0.out": lines(*map(str, MANY))}),
     Case("drain: an empty pipe", words(), {"t.idl": FEED}, octets("00000000"), FED, ends={"pipe0.out": b""}),
     Case("drain: an octet follows the pipe", words(), {"t.idl": FEED}, ONE_TO_THREE + octets("01 02"),
          notes=lines("refused: octets at 24: Trailing"), status=1, ends={"pipe0.out": lines("1", "2", "3")}, left=octets("02")),
@@ -72,6 +77,7 @@ CASES = [
              "{a = 1, b = 1}", "{a = 2, b = 0}"),
     elements("bytes are numbers", "typedef byte e", "02000000 AB CD 0000 00000000", "171", "205", text='d = x""'),
     elements("fixed arrays", "typedef long e[2]", "01000000 01000000 02000000 00000000", "[1, 2]"),
+    elements("a line longer than an end holds back", "typedef struct { byte x[40000]; } e", "01000000" + "5A" * 40_000 + "00000000", f'{{x = x"{"5a" * 40_000}"}}'),
     elements("arrays of bytes", "typedef struct { byte x[3]; } e", "01000000 010203 00 00000000", '{x = x"010203"}'),
     Case("drain: other commands call no end", ["decode", *words()[1:]], {"t.idl": FEED}, ONE_TO_THREE, lines("values 2", "op feed in", "d = [1, 2, 3]")),
 ]
