@@ -1,5 +1,5 @@
 // A stream is explained with ample memory.
-use crate::worked::{fit, interface};
+use crate::fits::{fit, interface};
 use nd_base::{Steps, Uncounted};
 use nd_value::{Home, Item, ItemKind, ItemLog};
 use ndr_explain::explain;

@@ -4,10 +4,10 @@
 #[cfg(test)]
 mod explaining;
 #[cfg(test)]
+mod fits;
+#[cfg(test)]
 mod paths;
 #[cfg(test)]
 mod printing;
 #[cfg(test)]
 mod reading;
-#[cfg(test)]
-mod worked;

@@ -1,5 +1,5 @@
 // Values are printed with ample memory.
-use crate::worked::{fit, interface};
+use crate::fits::{fit, interface};
 use nd_types::TypeId;
 use nd_value::Val;
 use std::test::Fail;

@@ -1,7 +1,7 @@
 // Texts are read with ample memory, one of each version, and one is refused.
 ghost use Rattle.std.specs.Prelude.{◌<◌, length};
 
-use crate::worked::interface;
+use crate::fits::interface;
 use nd_types::{Interface, Side};
 use nd_value::{Graph, Val};
 use std::alloc::Global;
