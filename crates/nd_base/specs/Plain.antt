@@ -2,6 +2,10 @@
 use Rattle.std.specs.Prelude.{ℕ, Bool, List, length, drop, nat_le}
 use Rattle.nd_base.specs.declared.plain.PlainSource.{PlainSource}
 
+-- the octets that it was made of
+abbrev pub plain_octets : PlainSource → List ℕ
+plain_octets s = s.octets
+
 -- the octets that are left
 abbrev pub plain_left : PlainSource → List ℕ
 plain_left s = drop s.at s.octets

@@ -13,13 +13,21 @@ pub struct PlainSource {
 }
 
 impl PlainSource {
-    ghost use Rattle.nd_base.specs.Plain.{plain_left};
+    ghost use Rattle.nd_base.specs.Plain.{plain_left, plain_octets};
 
     /// A source of these octets. Takes no memory.
     pub fn new(octets: Octets) -> PlainSource
-        ensures { plain_left result ≡ octets }
+        ensures left { plain_left result ≡ octets }
+        ensures octets { plain_octets result ≡ octets }
     {
         PlainSource { octets, at: 0 }
+    }
+
+    /// Gives back the octets that it was made of, with those that were fetched, so that they can be read again without a copy. Takes no memory.
+    pub fn into_octets(self) -> Octets
+        ensures { result ≡ plain_octets self }
+    {
+        self.octets
     }
 }
 

@@ -1,5 +1,5 @@
 // Lists that grow by one item.
-ghost use Rattle.std.specs.Prelude.{◌≡◌, [], ◌∷◌, ◌++◌, OnOk, OnErr};
+ghost use Rattle.std.specs.Prelude.{◌≡◌, ◌<◌, [], ◌∷◌, ◌++◌, OnOk, OnErr, vec_len, vec_capacity};
 
 use crate::Memory;
 
@@ -9,22 +9,21 @@ pub fn push<T: Drop>(list: &mut Vec<T>, item: T) -> Result<(), Memory>
     ensures ok { OnOk result (list.new.items ≡ list.old.items ++ item ∷ []) }
     ensures err { OnErr result (list.new.items ≡ list.old.items) }
 {
-    if list.len() < list.capacity() {
-        list.push_reserved(item);
-        return Ok(());
+    if list.len() == list.capacity() {
+        make_room(list)?;
     }
-    push_more(list, item)
+    list.push_reserved(item);
+    Ok(())
 }
 
-// The same where the list may have to be moved.
+// Moves the list to where it has room for an item more, at the least.
 #[cold]
 #[inline(never)]
-fn push_more<T: Drop>(list: &mut Vec<T>, item: T) -> Result<(), Memory>
-    ensures ok { OnOk result (list.new.items ≡ list.old.items ++ item ∷ []) }
-    ensures err { OnErr result (list.new.items ≡ list.old.items) }
+fn make_room<T: Drop>(list: &mut Vec<T>) -> Result<(), Memory>
+    ensures same { list.new.items ≡ list.old.items }
+    ensures len { vec_len list.new ≡ vec_len list.old }
+    ensures ok { OnOk result (vec_len list.old < vec_capacity list.new) }
 {
-    match list.push(item) {
-        Ok(()) => Ok(()),
-        Err(_) => Err(Memory),
-    }
+    list.reserve(1)?;
+    Ok(())
 }

@@ -67,6 +67,7 @@ fn plain_objects_never_fail(rt: HostRuntime) -> Result<(), Fail> {
     assert_eq!(rt; source.fetch(&mut buf), Ok(1));
     assert_eq!(rt; buf, *b"cb");
     assert_eq!(rt; source.fetch(&mut buf), Ok(0));
+    assert_eq!(rt; source.into_octets().as_slice(), b"abc".as_slice());
     assert_eq!(rt; PlainSink::new().put(b"abc"), Ok(()));
     Ok(())
 }
